@@ -1,0 +1,5 @@
+pub mod CountLaws
+pub mod DivideLaws
+pub mod DotLaws
+pub mod OrderLaws
+pub mod Ring

@@ -1,0 +1,4 @@
+pub mod Count
+pub mod Divide
+pub mod Dot
+pub mod Order
