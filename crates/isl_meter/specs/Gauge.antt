@@ -1,0 +1,60 @@
+-- What a meter shows, and what calls with a meter do to it.
+use Rattle.std.specs.Prelude.{◌≡◌, ℕ, ◌+◌, ◌-◌, ◌^◌, ◌<◌, ◌≤◌, ℤ, pos, unsigned_abs, Result, MatchResult}
+use Rattle.isl_math.specs.Count.{risen, Rose}
+use Rattle.isl_meter.specs.declared.Cut.{Cut}
+use Rattle.isl_meter.specs.declared.Cut.TheVariants.{Overflow, Budget, NoMemory}
+
+-- the limit's number of bits; the budget, and the units that are used of it; how often a number passed the limit, and how often a unit was refused
+pub record Gauge : Type 0 where
+  pub bits : ℕ
+  pub budget : ℕ
+  pub units : ℕ
+  pub overflows : ℕ
+  pub spents : ℕ
+
+-- ---- the limit
+-- the greatest magnitude
+abbrev pub limit_of : Gauge → ℤ
+limit_of g = pos (2 ^ g.bits - 1)
+
+-- the magnitude of z is at most the limit
+abbrev pub IsWithin : Gauge → ℤ → Type 0
+IsWithin g z = unsigned_abs z < 2 ^ g.bits
+
+-- ---- one step
+-- the meter after an overflow, which it counts
+abbrev pub overflown : Gauge → Gauge
+overflown g = record g { overflows = risen g.overflows }
+
+-- the meter after a unit that was refused, which it counts
+abbrev pub spent_out : Gauge → Gauge
+spent_out g = record g { spents = risen g.spents }
+
+-- r is the exact value z where that is within the limit, and the meter is as it was; else r is an error, which is counted
+abbrev pub IsMeasured : {E : Type 0} → Gauge → Gauge → ℤ → Result ℤ E → Type 0
+IsMeasured old new z r = MatchResult r (λ v. (v ≡ z) × IsWithin old v × (new ≡ old)) (λ _. ¬ IsWithin old z × (new ≡ overflown old))
+
+-- ---- from one moment to a later one
+-- the limit and the budget are as they were, and no count fell
+pub record IsKept (old new : Gauge) : Type 0 where
+  pub bits : new.bits ≡ old.bits
+  pub budget : new.budget ≡ old.budget
+  pub units : old.units ≤ new.units
+  pub overflows : old.overflows ≤ new.overflows
+  pub spents : old.spents ≤ new.spents
+
+-- units were used, and nothing else happened
+pub record IsCharged (old new : Gauge) : Type 0 where
+  pub same : new ≡ record old { units = new.units }
+  pub units : old.units ≤ new.units
+
+-- why work was cut: a number passed the limit, and that was counted; the units reached the budget, and a refusal was counted; want of memory leaves no mark
+abbrev pub HasCause : Gauge → Gauge → Cut → Type 0
+HasCause old new Overflow = Rose old.overflows new.overflows
+HasCause old new Budget = (new.budget ≤ new.units) × Rose old.spents new.spents
+HasCause old new NoMemory = Unit {0}
+
+-- the meter was kept, and the cut has its cause
+pub record IsCutBy (old new : Gauge) (cut : Cut) : Type 0 where
+  pub kept : IsKept old new
+  pub cause : HasCause old new cut
