@@ -16,8 +16,9 @@ place_in_push [] [] b x behind e = inr (refl, cc)
 place_in_push [] (y ∷ front) b x behind e = absurd (no_front front behind x cc)
 place_in_push (p ∷ part) [] b x behind e = inl (record { between = part; split = cc })
 place_in_push (p ∷ part) (y ∷ front) b x behind e = elim (place_in_push part front b x behind cc) [
-    inl earlier ↦ inl (record { between = earlier.between; split = let split = earlier.split in cc })
-    | inr same ↦ inr (let front_is = same.0 in cc, same.1) ]
+  | inl earlier ↦ inl (record { between = earlier.between; split = let split = earlier.split in cc })
+  | inr same ↦ inr (let front_is = same.0 in cc, same.1)
+]
 
 module _ (P : Bytes → ℕ → Type 0) where
   pub each_nil : EachByte P []
@@ -25,8 +26,9 @@ module _ (P : Bytes → ℕ → Type 0) where
 
   pub each_push : (part : Bytes) (b : ℕ) → EachByte P part → P part b → EachByte P (part ++ b ∷ [])
   each_push part b each last front x behind e = elim (place_in_push part front b x behind e) [
-      inl earlier ↦ each front x earlier.between earlier.split
-      | inr same ↦ subst (λ (y : ℕ). P front y) (sym same.1) (subst (λ (l : Bytes). P l b) (sym same.0) last) ]
+    | inl earlier ↦ each front x earlier.between earlier.split
+    | inr same ↦ subst (λ (y : ℕ). P front y) (sym same.1) (subst (λ (l : Bytes). P l b) (sym same.0) last)
+  ]
 
   pub each_front : (part : Bytes) (b : ℕ) → EachByte P (part ++ b ∷ []) → EachByte P part
   each_front part b each front x behind e = each front x (behind ++ b ∷ []) (ap (λ (l : Bytes). l ++ b ∷ []) e ∙ append_assoc front (x ∷ behind) (b ∷ []))

@@ -28,7 +28,9 @@ module _ (known : Known) (part : Bytes) (b : ℕ) (at_part : IsAt known part) (c
   unfolding place_made
   at_push = record {
     place = place-next;
-    blank = (λ all. let both = and_parts known.blank _ (sym blank_is ∙ all) in
-        blank_push part b (at_part.blank.0 both.0) (ap (λ (q : Bool). q || is_blank b) (sym same) ∙ both.1),
-      λ all. blank_is ∙ and_from known.blank _ (at_part.blank.1 (blank_front part b all)) (ap (λ (q : Bool). q || is_blank b) same ∙ blank_last part b all));
+    blank = (
+      λ all. let both = and_parts known.blank _ (sym blank_is ∙ all) in
+          blank_push part b (at_part.blank.0 both.0) (ap (λ (q : Bool). q || is_blank b) (sym same) ∙ both.1),
+      λ all. blank_is ∙ and_from known.blank _ (at_part.blank.1 (blank_front part b all)) (ap (λ (q : Bool). q || is_blank b) same ∙ blank_last part b all),
+    );
   }

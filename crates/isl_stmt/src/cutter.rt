@@ -1,6 +1,6 @@
 // Where the statements of a script end.
-ghost use Rattle.std.specs.Prelude.{◌≡◌, ℕ, ◌-◌, ◌^◌, ◌<◌, ◌↔◌, List, [], ◌∷◌, ◌++◌, drop, IsTrue, true, false, MatchBool};
-ghost use Rattle.isl_stmt.specs.Script.{is_blank as is_blank_byte, ends, IsBlank, IsCut, statements, rest_of, readable};
+ghost use Rattle.std.specs.Prelude.{◌≡◌, ℕ, ◌-◌, ◌^◌, ◌<◌, ◌↔◌, List, [], ◌∷◌, ◌++◌, IsTrue, MatchBool};
+ghost use Rattle.isl_stmt.specs.Script.{is_blank as is_blank_byte, ends, IsBlank};
 ghost use Rattle.isl_stmt.specs.Cutter.{IsAt};
 
 use std::marker::Model;
@@ -18,9 +18,16 @@ impl Model for Cutter {
 
     ghost Value = { Known };
 
-    ghost view = { λ c. record { place = record { in_comment = c.in_comment; depth = c.depth }; blank = c.blank } };
+    ghost view = { λ c. record {
+      place = record { in_comment = c.in_comment; depth = c.depth };
+      blank = c.blank;
+    } };
 
-    ghost inverse = { λ k. record { in_comment = k.place.in_comment; depth = k.place.depth; blank = k.blank } };
+    ghost inverse = { λ k. record {
+      in_comment = k.place.in_comment;
+      depth = k.place.depth;
+      blank = k.blank;
+    } };
 }
 
 impl Cutter {
@@ -35,11 +42,13 @@ impl Cutter {
         }
     }
 
-    /// Takes the next byte of the script, and says whether it is a `;` that ends a statement.
+    /// Takes the next byte of the script, and says whether it is a `;` that ends a statement. No more than
+    /// 2^32 - 1 brackets may be open at once.
     pub fn push(&mut self, byte: u8) -> bool
         requires { self.old.place.depth < 2 ^ 32 - 1 }
         ensures ends { (part : List ℕ) → IsAt self.old part → (result ≡ ends part byte) }
-        ensures part { (part : List ℕ) → IsAt self.old part → MatchBool result (IsAt self.new []) (IsAt self.new (part ++ byte ∷ [])) }
+        ensures part { (part : List ℕ) → IsAt self.old part
+            → MatchBool result (IsAt self.new []) (IsAt self.new (part ++ byte ∷ [])) }
     {
         self.in_comment = byte != b'\n' && (self.in_comment || byte == b'#');
         if self.in_comment {
@@ -70,24 +79,4 @@ fn is_blank(byte: u8) -> bool
     ensures { result ≡ is_blank_byte byte }
 {
     matches!(byte, b' ' | b'\t' | b'\r' | b'\n')
-}
-
-/// How scripts are cut, for every script: in one way, which does not depend on the pieces that its bytes arrive in.
-pub fn scripts_are_cut()
-    ensures cut { (script : List ℕ) → IsCut script (statements script) (rest_of script) }
-    ensures once { (script rest : List ℕ) (parts : List (List ℕ)) → IsCut script parts rest → (parts ≡ statements script) × (rest ≡ rest_of script) }
-
-    // Two pieces of a script, one after the other.
-    ensures later_statements { (xs ys : List ℕ) → statements (xs ++ ys) ≡ statements xs ++ statements (rest_of xs ++ ys) }
-    ensures later_rest { (xs ys : List ℕ) → rest_of (xs ++ ys) ≡ rest_of (rest_of xs ++ ys) }
-
-    // One more byte.
-    ensures ended { (script : List ℕ) (b : ℕ) → ends (rest_of script) b ≡ true
-        → (statements (script ++ b ∷ []) ≡ statements script ++ rest_of script ∷ []) × (rest_of (script ++ b ∷ []) ≡ []) }
-    ensures held { (script : List ℕ) (b : ℕ) → ends (rest_of script) b ≡ false
-        → (statements (script ++ b ∷ []) ≡ statements script) × (rest_of (script ++ b ∷ []) ≡ rest_of script ++ b ∷ []) }
-
-    // The bytes of a script behind the first 2^30 belong to no statement and not to the rest.
-    ensures readable { (script : List ℕ) → script ≡ readable script ++ drop (2 ^ 30) script }
-{
 }

@@ -2,5 +2,9 @@
 #![tactic(auto)]
 
 mod cutter;
+mod script;
+#[cfg(test)]
+mod tests;
 
-pub use cutter::{Cutter, scripts_are_cut};
+pub use cutter::Cutter;
+pub use script::scripts_are_cut;
