@@ -1,0 +1,4 @@
+pub mod Name
+pub mod Form
+pub mod Shape
+pub mod Names
