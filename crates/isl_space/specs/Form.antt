@@ -1,10 +1,10 @@
--- What the elements of a value look like, by content. (isl manual, spaces and tuples)
+-- What a tuple of coordinates looks like, by content. (isl manual, on spaces and nested tuples)
 use Rattle.std.specs.Prelude.{ℕ, ◌+◌, ◌<◌, ◌≤◌, ◌⊎◌, List, [], ◌∷◌, ◌++◌, Option, Some, None, IfSome, codes}
 use Rattle.std.specs.Fmt.{decimal}
 use Rattle.isl_space.specs.declared.limits.TheConstants.{MAX_COORDINATES, MAX_LEAVES}
 use Rattle.isl_space.specs.Name.{Name, IsLiteralName}
 
--- a leaf with an optional name and so many coordinates, or a pair of forms
+-- a leaf, which has so many coordinates and may have a name, or a pair of forms
 pub data Form : Type 0 where
   leaf : Option Name → ℕ → Form
   pair : Form → Form → Form
@@ -34,15 +34,16 @@ abbrev pub IsNamed : Form → Type 0
 IsNamed (leaf name width) = IfSome name IsLiteralName
 IsNamed (pair left right) = IsNamed left × IsNamed right
 
--- so many coordinates and leaves are within the limits of a space
-pub record IsNarrow (width leaves : ℕ) : Type 0 where
-  pub coordinates : width ≤ MAX_COORDINATES
-  pub leaves_fit : leaves ≤ MAX_LEAVES
+-- no more coordinates and leaves than a space may have
+pub record IsNarrow (form : Form) : Type 0 where
+  pub coordinates : width_of form ≤ MAX_COORDINATES
+  pub leaves : leaves_of form ≤ MAX_LEAVES
 
--- so many coordinates or leaves are more than a space may have
-abbrev pub IsTooWide : ℕ → ℕ → Type 0
-IsTooWide width leaves = (MAX_COORDINATES < width) ⊎ (MAX_LEAVES < leaves)
+-- more coordinates or more leaves than a space may have
+abbrev pub IsTooWide : Form → Type 0
+IsTooWide form = (MAX_COORDINATES < width_of form) ⊎ (MAX_LEAVES < leaves_of form)
 
+-- a form that a value may have
 pub record IsWellFormed (form : Form) : Type 0 where
   pub named : IsNamed form
-  pub narrow : IsNarrow (width_of form) (leaves_of form)
+  pub narrow : IsNarrow form

@@ -40,7 +40,7 @@ impl Shape {
         requires right { IsNamed (form_of right.value) }
         ensures made { IfOk result (λ shape. form_of shape.value ≡ pair (form_of left.value) (form_of right.value)) }
         ensures well_formed { IfOk result (λ shape. IsWellFormed (form_of shape.value)) }
-        ensures too_wide { result ≡ Err SpaceFault.TooWide → IsTooWide (width_of (pair (form_of left.value) (form_of right.value))) (leaves_of (pair (form_of left.value) (form_of right.value))) }
+        ensures too_wide { result ≡ Err SpaceFault.TooWide → IsTooWide (pair (form_of left.value) (form_of right.value)) }
     {
         if are_too_wide(&left, &right) {
             return Err(SpaceFault::TooWide);
@@ -103,6 +103,13 @@ impl Shape {
         }
     }
 
+    // Whether it has more coordinates or leaves than a space may have.
+    pub(crate) fn is_too_wide(&self) -> bool
+        ensures { IsTrue result ↔ IsTooWide (form_of self.now) }
+    {
+        self.capped_width() > MAX_COORDINATES || self.capped_leaves() > MAX_LEAVES
+    }
+
     // The number of coordinates, or `u32::MAX` where it is greater.
     fn capped_width(&self) -> u32
         ensures { result ≡ min (width_of (form_of self.now)) u32.MAX }
@@ -126,7 +133,7 @@ impl Shape {
 
 // Whether the two together have more coordinates or leaves than a space may have.
 pub(crate) fn are_too_wide(a: &Shape, b: &Shape) -> bool
-    ensures { IsTrue result ↔ IsTooWide (width_of (pair (form_of a.now) (form_of b.now))) (leaves_of (pair (form_of a.now) (form_of b.now))) }
+    ensures { IsTrue result ↔ IsTooWide (pair (form_of a.now) (form_of b.now)) }
 {
     a.capped_width().saturating_add(b.capped_width()) > MAX_COORDINATES
         || a.capped_leaves().saturating_add(b.capped_leaves()) > MAX_LEAVES
