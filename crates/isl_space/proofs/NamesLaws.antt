@@ -1,5 +1,5 @@
 -- Lists of distinct names.
-use Rattle.std.proofs.Common.{◌≡◌, ◌≢◌, ◌<◌, ◌≤◌, ◌+◌, ◌-◌, ◌∙◌, ◌⊎◌, inl, inr, ℕ, suc, zero, Bool, true, false, not, ◌||◌, List, [], ◌∷◌, ◌++◌, Option, Some, None, All, AllPairs, Contains, if◌then◌else◌, length, get_or, take, drop, filter, slice_get, slice_index, arith, ap, sym, subst, refl, append_assoc, length-append}
+use Rattle.std.proofs.Common.{◌≡◌, ◌≢◌, ◌<◌, ◌≤◌, ◌+◌, ◌-◌, ◌∙◌, ◌⊎◌, inl, inr, ℕ, suc, zero, Bool, true, false, not, ◌||◌, List, [], ◌∷◌, ◌++◌, Option, Some, None, All, AllPairs, Contains, MatchOption, is_some, position, if◌then◌else◌, length, get_or, take, drop, filter, slice_get, slice_index, arith, ap, sym, subst, refl, append_assoc, length-append}
 use Rattle.std.specs.Str.{bytes_eq}
 use Rattle.std.proofs.Math.Bool.{or-false}
 use Rattle.std.proofs.lemmas.Bool.{false_from_ne_true, false≢true, cases_Bool, cases_lt, not-true}
@@ -7,6 +7,7 @@ use Rattle.std.proofs.lemmas.List.{append-nil, get_or_append_left, get_or-append
 use Rattle.std.proofs.lemmas.List.Elements.{All-weaker, All-append, All-filter, All-contains_itself, Contains-append_left, Contains-append_right, Contains-append_cases, Contains-get_or, filter-append, filter_passes, All-contains}
 use Rattle.std.proofs.lemmas.List.Folds.{list_any_none, list_any_at, Any-from_list_any, list_any-append}
 use Rattle.std.proofs.lemmas.List.Kept.{AllPairs-filter}
+use Rattle.std.proofs.lemmas.List.Quantifiers.{position-Some}
 use Rattle.std.proofs.lemmas.Slice.Eq.{bytes_eq-Decides}
 use Rattle.std.proofs.lemmas.Option.{slice_get-get_or}
 use Rattle.indexmap.specs.IndexSet.{insert_key}
@@ -145,6 +146,13 @@ join_next before others now next places pushed i m n k at distinct within is cop
     let here : n ≡ get_or others i n = copy ∙ (is ∙ get_or_default others i m n within) in
     rw (take_next others i n within here, pushes)
     (join_push before (take i others) now next places n k at (absent_in_front others i n distinct within here) joins inserts found same)
+
+-- where a look-up of a name finds it, and that one that finds nothing had nothing to find
+pub found_there : (names : List Name) (n : Name) (place : Option ℕ) → place ≡ position (bytes_eq n) names → is_some place ≡ is_among names n → MatchOption place (¬ (Contains names n)) (λ at. slice_get names at ≡ Some n)
+found_there names n None is found = λ here. false≢true (found ∙ list_any_at (bytes_eq n) names here.0 n here.1 ((bytes_eq-Decides n _).1 (sym here.2)))
+found_there names n (Some at) is found =
+    let there = position-Some (bytes_eq n) names at n (sym is) in
+    slice_get-get_or names at n there.0 ∙ ap (λ m. Some m) (sym ((bytes_eq-Decides n _).0 there.1))
 
 -- names of which none is among the first ones may stand behind them
 distinct_append : (names more : List Name) → AreDistinct names → AreDistinct more → All (λ n. is_among names n ≡ false) more → AreDistinct (names ++ more)

@@ -83,6 +83,7 @@ impl Params {
     }
 
     /// The place of a name, if it is there.
+    #[tactic(auto, using(crate::proofs::NamesLaws::found_there))]
     pub fn position(&self, name: &Name) -> Option<usize>
         ensures place { result ≡ position (bytes_eq name.now) self.now }
         ensures there { MatchOption result (¬ (Contains self.now name.now)) (λ at. slice_get self.now at ≡ Some name.now) }
