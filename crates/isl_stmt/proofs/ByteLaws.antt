@@ -1,5 +1,5 @@
 -- Each byte of a part, with what stands before it, as the part grows by a byte at its end.
-use Rattle.std.proofs.Common.{◌≡◌, ℕ, List, [], ◌∷◌, ◌++◌, ◌⊎◌, inl, inr, refl, sym, ap, ◌∙◌, subst, append_assoc}
+use Rattle.std.proofs.Common.{◌≡◌, ℕ, [], ◌∷◌, ◌++◌, ◌⊎◌, inl, inr, refl, sym, ap, ◌∙◌, subst, append_assoc}
 use Rattle.isl_stmt.specs.Script.{Bytes, EachByte}
 
 no_front : (front behind : Bytes) (b : ℕ) → [] ≡ front ++ b ∷ behind → ⊥

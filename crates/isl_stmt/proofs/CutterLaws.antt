@@ -1,9 +1,9 @@
 -- What a cutter knows as its part grows.
-use Rattle.std.proofs.Common.{◌≡◌, ℕ, Bool, true, false, ◌&&◌, ◌||◌, if◌then◌else◌, List, [], ◌∷◌, ◌++◌, refl, sym, ap, ◌∙◌}
+use Rattle.std.proofs.Common.{◌≤◌, length, arith, ◌≡◌, ℕ, Bool, true, false, ◌&&◌, ◌||◌, if◌then◌else◌, [], ◌∷◌, ◌++◌, refl, sym, ap, ◌∙◌}
 use Rattle.std.proofs.lemmas.Bool.{and_parts, and_from}
 use Rattle.isl_stmt.specs.Script.{Bytes, Place, place_of, place_after, depth_after, is_blank, is_commented_after, is_commented}
 use Rattle.isl_stmt.specs.Cutter.{Known, IsAt}
-use Rattle.isl_stmt.proofs.ScriptLaws.{place-nil, place-push, blank_nil, blank_push, blank_front, blank_last}
+use Rattle.isl_stmt.proofs.ScriptLaws.{place-nil, place-push, blank_nil, blank_push, blank_front, blank_last, depth-le-length}
 
 pub at_start : IsAt (record { place = record { in_comment = false; depth = 0 }; blank = true }) []
 at_start = record { place = sym place-nil; blank = (λ _. blank_nil, λ _. refl) }
@@ -34,3 +34,7 @@ module _ (known : Known) (part : Bytes) (b : ℕ) (at_part : IsAt known part) (c
       λ all. blank_is ∙ and_from known.blank _ (at_part.blank.1 (blank_front part b all)) (ap (λ (q : Bool). q || is_blank b) same ∙ blank_last part b all),
     );
   }
+
+-- a cutter counts no more open brackets than its part has bytes
+pub at-depth-le : (known : Known) (part : Bytes) → IsAt known part → known.place.depth ≤ length part
+at-depth-le known part at_part = omega (arith, depth-le-length part, ap (λ (p : Place). p.depth) at_part.place)

@@ -1,11 +1,11 @@
 -- How scripts are cut: whole, one piece after another, and one byte after another.
-use Rattle.std.proofs.Common.{◌≡◌, ℕ, ◌+◌, ◌-◌, ◌≤◌, Bool, true, false, not, ◌&&◌, ◌||◌, if◌then◌else◌, ◌==◌, IsTrue, ◌↔◌, List, [], ◌∷◌, ◌++◌, length, fold, refl, sym, ap, ◌∙◌, subst, inl, inr, ⊎_elim, append_assoc, arith}
+use Rattle.std.proofs.Common.{◌≡◌, ℕ, ◌+◌, ◌≤◌, true, false, ◌||◌, ◌==◌, IsTrue, List, [], ◌∷◌, ◌++◌, length, fold, refl, sym, ap, ◌∙◌, subst, inl, inr, append_assoc, arith}
 use Rattle.std.specs.Prelude.{All}
-use Rattle.std.proofs.lemmas.Bool.{cases_Bool, cond-true, cond-false, and_parts, eqb-true, and_from}
+use Rattle.std.proofs.lemmas.Bool.{cases_Bool, cond-true, cond-false, and_parts, eqb-true}
 use Rattle.std.proofs.lemmas.List.{append-nil, length-append}
 use Rattle.std.proofs.lemmas.List.Sums.{fold_push}
 use Rattle.std.proofs.lemmas.List.Elements.{All-nil, All-cons, All-head, All-tail}
-use Rattle.isl_stmt.specs.Script.{Bytes, is_blank, opens, closes, is_commented_after, depth_after, Place, place_after, place_of, is_commented, ends, IsOpen, IsBlank, IsStatement, with_ends, IsCut, statements_from, rest_from, statements, rest_of}
+use Rattle.isl_stmt.specs.Script.{Bytes, is_blank, depth_after, Place, place_after, place_of, is_commented, ends, IsOpen, IsBlank, IsStatement, with_ends, IsCut, statements_from, rest_from, statements, rest_of}
 use Rattle.isl_stmt.proofs.ByteLaws.{each_nil, each_push, each_front, each_last}
 
 -- ---- the place behind a part
@@ -159,6 +159,16 @@ statements-hold bytes b held = statements_from-append [] bytes (b ∷ [])
 
 pub rest-hold : (bytes : Bytes) (b : ℕ) → ends (rest_of bytes) b ≡ false → rest_of (bytes ++ b ∷ []) ≡ rest_of bytes ++ b ∷ []
 rest-hold bytes b held = rest_from-append [] bytes (b ∷ []) ∙ rest-held (rest_of bytes) b [] held ∙ rest-none (rest_of bytes ++ b ∷ [])
+
+-- the same behind an open part
+pub statements-end_open : (part : Bytes) (b : ℕ) → IsOpen part → ends part b ≡ true → statements (part ++ b ∷ []) ≡ part ∷ []
+statements-end_open part b is_open ended =
+    statements-end part b (ap (λ (l : Bytes). ends l b) (rest-open part is_open) ∙ ended)
+    ∙ ap (λ (l : List Bytes). l ++ rest_of part ∷ []) (statements-open part is_open)
+    ∙ ap (λ (l : Bytes). l ∷ []) (rest-open part is_open)
+
+pub rest-end_open : (part : Bytes) (b : ℕ) → IsOpen part → ends part b ≡ true → rest_of (part ++ b ∷ []) ≡ []
+rest-end_open part b is_open ended = rest-end part b (ap (λ (l : Bytes). ends l b) (rest-open part is_open) ∙ ended)
 
 -- ---- the whole script
 

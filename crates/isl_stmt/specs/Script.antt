@@ -1,7 +1,7 @@
 -- A script is a list of statements: the parts before each `;` outside of comments and brackets (the iscc chapter of the
 -- barvinok manual; that brackets of all kinds are counted as one, and that a closing one too many is passed over, is a
 -- rule of this project). What follows the last of them is the rest.
-use Rattle.std.specs.Prelude.{◌≡◌, ℕ, ◌+◌, ◌-◌, ◌^◌, Bool, true, false, IsTrue, not, ◌&&◌, ◌||◌, if◌then◌else◌, ◌==◌, List, [], ◌∷◌, ◌++◌, All, fold, take}
+use Rattle.std.specs.Prelude.{◌≡◌, ℕ, ◌+◌, ◌-◌, ◌^◌, Bool, false, IsTrue, not, ◌&&◌, ◌||◌, if◌then◌else◌, ◌==◌, List, [], ◌∷◌, ◌++◌, All, fold, take}
 
 abbrev pub Bytes : Type 0
 Bytes = List ℕ
@@ -61,7 +61,7 @@ pub record IsOpen (part : Bytes) : Type 0 where
 pub record IsBlank (part : Bytes) : Type 0 where
   pub each : EachByte (λ front b. IsTrue (is_commented front b || is_blank b)) part
 
--- a part that the first `;` which follows it ends
+-- a part in which no statement ends, and which a `;` right behind it ends
 pub record IsStatement (part : Bytes) : Type 0 where
   pub open_part : IsOpen part
   pub ended : IsTrue (ends part 59)

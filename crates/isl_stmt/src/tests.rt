@@ -11,6 +11,7 @@ fn scripts_end_where_they_should(rt: HostRuntime) {
         ("a;b", 1, false),
         ("{ };{ };{ };", 3, true),
         ("# a ; here", 0, true),
+        ("# a # ; here", 0, true),
         ("# a ; here\n;", 1, true),
         ("a # b", 0, false),
         ("{ [i] : i = 0; [i] : i = 1 } # a ; here\n;", 1, true),

@@ -1,7 +1,7 @@
-use Rattle.std.proofs.Common.{ℕ, ◌+◌, ◌≤◌, Bool, true, false, MatchBool, List, [], ◌∷◌, ◌++◌, length, length-append, ap, arith}
-use Rattle.isl_stmt.specs.Script.{Bytes, Place}
+use Rattle.std.proofs.Common.{ℕ, ◌+◌, ◌≤◌, Bool, true, false, MatchBool, [], ◌∷◌, ◌++◌, length, length-append, arith}
+use Rattle.isl_stmt.specs.Script.{Bytes}
 use Rattle.isl_stmt.specs.Cutter.{Known, IsAt}
-use Rattle.isl_stmt.proofs.ScriptLaws.{depth-le-length}
+use Rattle.isl_stmt.proofs.CutterLaws.{at-depth-le}
 use Rattle.isl_stmt.proofs.tests.scripts_end_where_they_should.Goals as goal
 
 -- after one more byte the part is at most a byte longer
@@ -13,7 +13,7 @@ after_push false known part b n at_part short = (part ++ b ∷ [], at_part, omeg
 pub push-requires : goal.push-requires
 push-requires g c =
     let last = c.loop-byte.invariant.2 in
-    omega (arith, depth-le-length last.0, ap (λ (p : Place). p.depth) last.1.place, last.2, c.loop-byte.invariant.1)
+    omega (arith, at-depth-le c.loop-byte.cutter last.0 last.1, last.2, c.loop-byte.invariant.1)
 
 pub loop-byte-preserved : goal.loop-byte-preserved
 loop-byte-preserved g c =
