@@ -79,7 +79,7 @@ identifies : (name : Name) → Reads name → IsIdentifier name
 identifies name r =
     let all = r.middle ++ replicate r.primes 39 in
     let primes : list_all is_prime (drop (prefix_len goes_on_name (r.first ∷ all)) (r.first ∷ all)) ≡ true =
-        ap (λ l. list_all is_prime l) (passed r.first all (begins_goes_on r.first r.begins)) ∙ tested r.middle r.primes r.goes_on in
+    ap (λ l. list_all is_prime l) (passed r.first all (begins_goes_on r.first r.begins)) ∙ tested r.middle r.primes r.goes_on in
     subst (λ (l : Name). IsIdentifier l) (sym r.is) (and_from _ _ r.begins primes)
 
 pub identifier_reads : (name : Name) → IsIdentifier name ↔ Reads name
