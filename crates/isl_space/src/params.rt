@@ -67,12 +67,12 @@ impl Params {
         ensures well_formed { IfOk result (λ aligned. IsParameterList aligned.0) }
         ensures too_wide { result ≡ Err SpaceFault.TooWide → most_parameters < length (joined self.now other.now) }
     {
-        let mut names = copied(alloc, self.names.as_slice())?;
-        let places = join(alloc, &mut names, other.names.as_slice())?;
-        if names.len() > MAX_PARAMETERS {
+        let mut joined = copied(alloc, self.names.as_slice())?;
+        let places = join(alloc, &mut joined, other.names.as_slice())?;
+        if joined.len() > MAX_PARAMETERS {
             return Err(SpaceFault::TooWide);
         }
-        Ok((Params { names }, places))
+        Ok((Params { names: joined }, places))
     }
 
     /// The number of names.
