@@ -11,7 +11,7 @@ use Rattle.std.proofs.lemmas.List.Quantifiers.{position-Some}
 use Rattle.std.proofs.lemmas.Slice.Eq.{bytes_eq-Decides}
 use Rattle.std.proofs.lemmas.Option.{slice_get-get_or}
 use Rattle.indexmap.specs.IndexSet.{insert_key}
-use Rattle.isl_space.specs.declared.limits.TheConstants.{MAX_PARAMETERS}
+use Rattle.isl_space.specs.Limits.{most_parameters}
 use Rattle.isl_space.specs.Name.{Name, IsLiteralName}
 use Rattle.isl_space.specs.Names.{AreDistinct, IsParameterList, ArePlaces, Joins, is_among, joined}
 
@@ -117,7 +117,7 @@ places_longer all more others places are = record {
 -- a place more, of a name more
 places_push : (all others : List Name) (n : Name) (places : List ℕ) (at : ℕ) → ArePlaces all others places → slice_get all at ≡ Some n → ArePlaces all (others ++ n ∷ []) (places ++ at ∷ [])
 places_push all others n places at are is = record {
-  count = rw (length-append, length-append) (ap (λ k. k + 1) are.count);
+  count = rw (length-append places (at ∷ []), length-append others (n ∷ [])) (ap (λ k. k + 1) are.count);
   at = λ i within. by_place i (cases_lt i (length others)) within;
 }
   where
@@ -217,7 +217,7 @@ joins names others all first second is = record {
         Contains-append_right names _ n (filter_keeps (λ m. not (is_among names m)) others here.0 n here.1 here.2 (ap not new))
 
 -- a joined list that is not too long may be declared
-pub joined_parameters : (names others all : List Name) → IsParameterList names → IsParameterList others → all ≡ joined names others → length all ≤ MAX_PARAMETERS → IsParameterList all
+pub joined_parameters : (names others all : List Name) → IsParameterList names → IsParameterList others → all ≡ joined names others → length all ≤ most_parameters → IsParameterList all
 joined_parameters names others all first second is few = record {
   distinct = subst AreDistinct (sym is) (joined_distinct names others first.distinct second.distinct);
   named = subst (λ (l : List Name). All IsLiteralName l) (sym is) (All-append IsLiteralName names _ first.named (All-filter _ IsLiteralName others second.named));

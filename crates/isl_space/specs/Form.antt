@@ -1,7 +1,7 @@
 -- What a tuple of coordinates looks like, by content. (isl manual, on spaces and nested tuples)
 use Rattle.std.specs.Prelude.{ℕ, ◌+◌, ◌<◌, ◌≤◌, ◌⊎◌, List, [], ◌∷◌, ◌++◌, Option, Some, None, IfSome, codes}
 use Rattle.std.specs.Fmt.{decimal}
-use Rattle.isl_space.specs.declared.limits.TheConstants.{MAX_COORDINATES, MAX_LEAVES}
+use Rattle.isl_space.specs.Limits.{most_coordinates, most_leaves}
 use Rattle.isl_space.specs.Name.{Name, IsLiteralName}
 
 -- a leaf, which has so many coordinates and may have a name, or a pair of forms
@@ -36,12 +36,12 @@ IsNamed (pair left right) = IsNamed left × IsNamed right
 
 -- no more coordinates and leaves than a space may have
 pub record IsNarrow (form : Form) : Type 0 where
-  pub coordinates : width_of form ≤ MAX_COORDINATES
-  pub leaves : leaves_of form ≤ MAX_LEAVES
+  pub coordinates : width_of form ≤ most_coordinates
+  pub leaves : leaves_of form ≤ most_leaves
 
 -- more coordinates or more leaves than a space may have
 abbrev pub IsTooWide : Form → Type 0
-IsTooWide form = (MAX_COORDINATES < width_of form) ⊎ (MAX_LEAVES < leaves_of form)
+IsTooWide form = (most_coordinates < width_of form) ⊎ (most_leaves < leaves_of form)
 
 -- a form that a value may have
 pub record IsWellFormed (form : Form) : Type 0 where

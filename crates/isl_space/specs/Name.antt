@@ -1,4 +1,4 @@
--- Names of the notation, seen as their bytes. (isl manual, the notation of sets and relations)
+-- Names of the notation, seen as their bytes. (isl manual, on the notation of sets and relations)
 use Rattle.std.specs.Prelude.{ℕ, Bool, not, ◌==◌, ◌&&◌, ◌||◌, List, [], ◌∷◌, drop, slice_index, IsTrue, codes}
 use Rattle.std.specs.Char.{is_ascii_alphabetic, is_ascii_alphanumeric}
 use Rattle.std.specs.List.{list_all, list_any, prefix_len}
@@ -19,9 +19,12 @@ goes_on_name b = is_ascii_alphanumeric b || b == 95
 abbrev pub is_prime : ℕ → Bool
 is_prime b = b == 39
 
--- it begins with a letter or `_`, and what comes after its letters, digits and `_` is nothing but `'`
+-- it begins with a letter or `_`, and what comes after its first letters, digits and `_` is nothing but `'`
 abbrev pub is_identifier : Name → Bool
-is_identifier z = begins_name (slice_index z 0) && list_all is_prime (drop (prefix_len goes_on_name z) z)
+is_identifier name = begins_name (slice_index name 0) && list_all is_prime (drop (prefix_len goes_on_name name) name)
+
+abbrev pub IsIdentifier : Name → Type 0
+IsIdentifier name = IsTrue (is_identifier name)
 
 -- the words that have a meaning of their own inside a literal
 abbrev pub reserved_words : List Name
@@ -30,8 +33,8 @@ reserved_words =
     ∷ codes "mod" ∷ codes "floor" ∷ codes "ceil" ∷ codes "floord" ∷ codes "ceild" ∷ []
 
 abbrev pub is_reserved : Name → Bool
-is_reserved z = list_any (bytes_eq z) reserved_words
+is_reserved name = list_any (bytes_eq name) reserved_words
 
 -- the name may stand inside a literal: it is an identifier and no reserved word
 abbrev pub IsLiteralName : Name → Type 0
-IsLiteralName z = IsTrue (is_identifier z && not (is_reserved z))
+IsLiteralName name = IsTrue (is_identifier name && not (is_reserved name))

@@ -2,7 +2,7 @@
 use Rattle.std.specs.Prelude.{◌≡◌, ◌≢◌, ◌≤◌, ◌<◌, ◌⊎◌, ℕ, Bool, not, List, ◌++◌, All, AllPairs, Contains, length, take, filter, slice_get, slice_index}
 use Rattle.std.specs.List.{list_any}
 use Rattle.std.specs.Str.{bytes_eq}
-use Rattle.isl_space.specs.declared.limits.TheConstants.{MAX_PARAMETERS}
+use Rattle.isl_space.specs.Limits.{most_parameters}
 use Rattle.isl_space.specs.Name.{Name, IsLiteralName}
 
 -- no two of the names are equal
@@ -13,7 +13,7 @@ AreDistinct names = AllPairs (λ a b. a ≢ b) names
 pub record IsParameterList (names : List Name) : Type 0 where
   pub distinct : AreDistinct names
   pub named : All IsLiteralName names
-  pub few : length names ≤ MAX_PARAMETERS
+  pub few : length names ≤ most_parameters
 
 -- whether the name is one of these
 abbrev pub is_among : List Name → Name → Bool

@@ -1,6 +1,6 @@
 -- Where the elements of a set or of a map lie, by content. (isl manual, on spaces)
 use Rattle.std.specs.Prelude.{ℕ, ◌+◌, ◌<◌, ◌≤◌, ◌⊎◌, List, ◌++◌, codes}
-use Rattle.isl_space.specs.declared.limits.TheConstants.{MAX_COORDINATES, MAX_LEAVES}
+use Rattle.isl_space.specs.Limits.{most_coordinates, most_leaves}
 use Rattle.isl_space.specs.Form.{Form, width_of, leaves_of, text_of, IsNamed}
 
 -- a set's elements have one form, a map's two: one for what it maps from, one for what it maps to
@@ -30,12 +30,12 @@ IsNamedSpace (map_of from to) = IsNamed from × IsNamed to
 
 -- no more coordinates and leaves than a space may have
 pub record IsNarrowSpace (space : SpaceForm) : Type 0 where
-  pub coordinates : coordinates_of space ≤ MAX_COORDINATES
-  pub leaves : space_leaves_of space ≤ MAX_LEAVES
+  pub coordinates : coordinates_of space ≤ most_coordinates
+  pub leaves : space_leaves_of space ≤ most_leaves
 
 -- more coordinates or more leaves than a space may have
 abbrev pub IsTooWideSpace : SpaceForm → Type 0
-IsTooWideSpace space = (MAX_COORDINATES < coordinates_of space) ⊎ (MAX_LEAVES < space_leaves_of space)
+IsTooWideSpace space = (most_coordinates < coordinates_of space) ⊎ (most_leaves < space_leaves_of space)
 
 -- a space that a value may have
 pub record IsWellFormedSpace (space : SpaceForm) : Type 0 where

@@ -13,3 +13,6 @@ pub use name::Name;
 pub use params::Params;
 pub use shape::Shape;
 pub use space::Space;
+
+#[cfg(test)]
+mod tests;

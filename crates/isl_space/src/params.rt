@@ -2,6 +2,7 @@
 
 ghost use Rattle.std.specs.Prelude.{◌≡◌, ◌<◌, ◌≤◌, All, Contains, IfOk, MatchOption, OnOk, length, position, slice_get};
 ghost use Rattle.std.specs.Str.{bytes_eq};
+ghost use Rattle.isl_space.specs.Limits.{most_parameters};
 ghost use Rattle.isl_space.specs.Name.{IsLiteralName};
 ghost use Rattle.isl_space.specs.Names.{joined, AreDistinct, ArePlaces, Joins, IsParameterList};
 
@@ -37,7 +38,7 @@ impl Params {
         requires named { All IsLiteralName names.items }
         ensures made { IfOk result (λ params. params ≡ names.items) }
         ensures well_formed { IfOk result IsParameterList }
-        ensures too_wide { result ≡ Err SpaceFault.TooWide → MAX_PARAMETERS < length names.items }
+        ensures too_wide { result ≡ Err SpaceFault.TooWide → most_parameters < length names.items }
     {
         if names.len() > MAX_PARAMETERS {
             return Err(SpaceFault::TooWide);
@@ -64,14 +65,14 @@ impl Params {
         ensures places { IfOk result (λ aligned. ArePlaces aligned.0 other.now aligned.1.items) }
         ensures joins { IfOk result (λ aligned. Joins self.now other.now aligned.0) }
         ensures well_formed { IfOk result (λ aligned. IsParameterList aligned.0) }
-        ensures too_wide { result ≡ Err SpaceFault.TooWide → MAX_PARAMETERS < length (joined self.now other.now) }
+        ensures too_wide { result ≡ Err SpaceFault.TooWide → most_parameters < length (joined self.now other.now) }
     {
-        let mut names = copied(alloc, self.names.as_slice())?;
-        let places = join(alloc, &mut names, other.names.as_slice())?;
-        if names.len() > MAX_PARAMETERS {
+        let mut joined = copied(alloc, self.names.as_slice())?;
+        let places = join(alloc, &mut joined, other.names.as_slice())?;
+        if joined.len() > MAX_PARAMETERS {
             return Err(SpaceFault::TooWide);
         }
-        Ok((Params { names }, places))
+        Ok((Params { names: joined }, places))
     }
 
     /// The number of names.

@@ -1,6 +1,7 @@
 //! Shapes of elements.
 
 ghost use Rattle.std.specs.Prelude.{◌≡◌, ◌↔◌, ◌<◌, ◌^◌, ◌++◌, min, string_bytes, IsTrue, IfOk, IfErr, IfSome, OnOk};
+ghost use Rattle.isl_space.specs.Limits.{most_coordinates};
 ghost use Rattle.isl_space.specs.Name.{IsLiteralName};
 ghost use Rattle.isl_space.specs.Form.{width_of, leaves_of, text_of, IsNamed, IsTooWide, IsWellFormed, leaf, pair};
 ghost use Rattle.isl_space.specs.Shape.{form_of};
@@ -26,7 +27,7 @@ impl Shape {
         requires { IfSome name IsLiteralName }
         ensures made { IfOk result (λ shape. form_of shape.value ≡ leaf name width) }
         ensures well_formed { IfOk result (λ shape. IsWellFormed (form_of shape.value)) }
-        ensures too_wide { result ≡ Err SpaceFault.TooWide → MAX_COORDINATES < width }
+        ensures too_wide { result ≡ Err SpaceFault.TooWide → most_coordinates < width }
     {
         if width > MAX_COORDINATES {
             return Err(SpaceFault::TooWide);
