@@ -1,5 +1,5 @@
 -- Forms and spaces within the limits, and what their parts are.
-use Rattle.std.proofs.Common.{◌≡◌, ◌<◌, ◌≤◌, ◌+◌, ◌⊎◌, inl, inr, ℕ, arith}
+use Rattle.std.proofs.Common.{◌<◌, ◌≤◌, ◌⊎◌, inl, inr, arith}
 use Rattle.std.proofs.lemmas.Bool.{cases_lt}
 use Rattle.isl_space.specs.Limits.{most_coordinates, most_leaves}
 use Rattle.isl_space.specs.Form.{Form, pair, width_of, leaves_of, IsNarrow, IsTooWide, IsWellFormed}

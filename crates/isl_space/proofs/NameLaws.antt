@@ -1,9 +1,9 @@
 -- What an identifier is, in plain words.
-use Rattle.std.proofs.Common.{◌≡◌, ◌∙◌, ℕ, suc, zero, ◌+◌, Bool, true, false, ◌&&◌, ◌||◌, ◌==◌, List, [], ◌∷◌, ◌++◌, All, length, replicate, drop, arith, ap, sym, refl, subst, IsTrue, ◌↔◌, ◌⊎◌, inl, inr}
+use Rattle.std.proofs.Common.{◌≡◌, ◌∙◌, ℕ, suc, zero, ◌+◌, true, false, [], ◌∷◌, ◌++◌, length, replicate, drop, arith, ap, sym, refl, subst, IsTrue, ◌↔◌, ◌⊎◌, inl, inr}
 use Rattle.std.specs.List.{list_all, prefix_len, AllPass}
-use Rattle.std.proofs.lemmas.Bool.{and_parts, and_from, or_cases, or_left, or_right, cases_Bool, eqb-true, false≢true}
+use Rattle.std.proofs.lemmas.Bool.{and_parts, and_from, cases_Bool, eqb-true, false≢true}
 use Rattle.std.proofs.lemmas.List.Elements.{All-nil, All-cons, All-head, All-tail}
-use Rattle.isl_space.specs.Name.{Name, begins_name, goes_on_name, is_prime, is_identifier, IsIdentifier}
+use Rattle.isl_space.specs.Name.{Name, begins_name, goes_on_name, is_prime, IsIdentifier}
 
 -- a letter or `_`, then letters, digits and `_`, then any number of `'`
 pub record Reads (name : Name) : Type 0 where

@@ -1,10 +1,10 @@
 -- Lists of distinct names.
-use Rattle.std.proofs.Common.{◌≡◌, ◌≢◌, ◌<◌, ◌≤◌, ◌+◌, ◌-◌, ◌∙◌, ◌⊎◌, inl, inr, ℕ, suc, zero, Bool, true, false, not, ◌||◌, List, [], ◌∷◌, ◌++◌, Option, Some, None, All, AllPairs, Contains, MatchOption, is_some, position, if◌then◌else◌, length, get_or, take, drop, filter, slice_get, slice_index, arith, ap, sym, subst, refl, append_assoc, length-append}
+use Rattle.std.proofs.Common.{◌≡◌, ◌≢◌, ◌<◌, ◌≤◌, ◌+◌, ◌-◌, ◌∙◌, ◌⊎◌, inl, inr, ℕ, suc, zero, Bool, true, false, not, ◌||◌, List, [], ◌∷◌, ◌++◌, Option, Some, None, All, Contains, MatchOption, is_some, position, if◌then◌else◌, length, get_or, take, drop, filter, slice_get, slice_index, arith, ap, sym, subst, refl, append_assoc, length-append}
 use Rattle.std.specs.Str.{bytes_eq}
 use Rattle.std.proofs.Math.Bool.{or-false}
 use Rattle.std.proofs.lemmas.Bool.{false_from_ne_true, false≢true, cases_Bool, cases_lt, not-true}
 use Rattle.std.proofs.lemmas.List.{append-nil, get_or_append_left, get_or-append_right, get_or_at, take_at, take_more, drop_more, take-append-drop, get_or_default}
-use Rattle.std.proofs.lemmas.List.Elements.{All-weaker, All-append, All-filter, All-contains_itself, Contains-append_left, Contains-append_right, Contains-append_cases, Contains-get_or, filter-append, filter_passes, All-contains}
+use Rattle.std.proofs.lemmas.List.Elements.{All-weaker, All-head, All-tail, All-append, All-filter, All-contains_itself, Contains-append_left, Contains-append_right, Contains-get_or, filter-append, filter_passes}
 use Rattle.std.proofs.lemmas.List.Folds.{list_any_none, list_any_at, Any-from_list_any, list_any-append}
 use Rattle.std.proofs.lemmas.List.Kept.{AllPairs-filter}
 use Rattle.std.proofs.lemmas.List.Quantifiers.{position-Some}
@@ -215,6 +215,27 @@ joins names others all first second is = record {
     there n here (inl old) = Contains-append_left names _ n (Contains-is_among names n old)
     there n here (inr new) =
         Contains-append_right names _ n (filter_keeps (λ m. not (is_among names m)) others here.0 n here.1 here.2 (ap not new))
+
+-- where the second list has nothing new, the first stays as it is
+pub joined-nothing_new : (names others : List Name) → All (λ n. is_among names n ≡ true) others → joined names others ≡ names
+joined-nothing_new names others old = ap (λ l. names ++ l) (none others old) ∙ append-nil names
+  where
+    none : (more : List Name) → All (λ n. is_among names n ≡ true) more → filter (λ n. not (is_among names n)) more ≡ []
+    none [] all = refl
+    none (n ∷ more) all =
+        let here : is_among names n ≡ true = All-head (λ m. is_among names m ≡ true) n more all in
+        rw here (none more (All-tail (λ m. is_among names m ≡ true) n more all))
+
+pub joined-nil : (names : List Name) → joined names [] ≡ names
+joined-nil names = append-nil names
+
+pub nil-joined : (names : List Name) → joined [] names ≡ names
+nil-joined [] = refl
+nil-joined (n ∷ names) = ap (λ l. n ∷ l) (nil-joined names)
+
+pub joined-self : (names : List Name) → joined names names ≡ names
+joined-self names =
+    joined-nothing_new names names (λ i d within. list_any_at (bytes_eq (get_or names i d)) names i d within ((bytes_eq-Decides (get_or names i d) (get_or names i d)).1 refl))
 
 -- a joined list that is not too long may be declared
 pub joined_parameters : (names others all : List Name) → IsParameterList names → IsParameterList others → all ≡ joined names others → length all ≤ most_parameters → IsParameterList all

@@ -1,5 +1,5 @@
 -- The places that the names of one list have in another.
-use Rattle.std.proofs.Common.{◌≡◌, ◌≢◌, ◌<◌, ◌∙◌, ℕ, List, [], Some, length, get_or, slice_get, slice_index, arith, ap, sym, refl}
+use Rattle.std.proofs.Common.{◌≢◌, ◌<◌, ◌∙◌, ℕ, List, [], length, slice_get, slice_index, arith, ap, sym}
 use Rattle.std.proofs.lemmas.Option.{slice_get-get_or, slice_get_within, same_Some}
 use Rattle.isl_space.specs.Name.{Name}
 use Rattle.isl_space.specs.Names.{AreDistinct, ArePlaces}

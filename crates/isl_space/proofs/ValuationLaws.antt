@@ -1,11 +1,11 @@
 -- The numbers of names at a valuation.
-use Rattle.std.proofs.Common.{◌≡◌, ◌≢◌, ◌<◌, ◌≤◌, ◌+◌, ◌∙◌, ℕ, suc, zero, ℤ, pos, Bool, true, false, List, [], ◌∷◌, ◌++◌, Option, Some, All, length, get_or, take, map, filter, not, if◌then◌else◌, slice_get, slice_index, arith, ap, sym, subst, refl, length-append}
+use Rattle.std.proofs.Common.{◌≡◌, ◌≢◌, ◌<◌, ◌∙◌, ℕ, suc, zero, ℤ, pos, true, false, List, [], ◌∷◌, Some, All, length, get_or, take, filter, not, slice_get, slice_index, arith, ap, sym, refl}
 use Rattle.std.specs.List.{zip}
 use Rattle.std.specs.Str.{bytes_eq}
 use Rattle.std.proofs.lemmas.Bool.{false_from_ne_true}
 use Rattle.std.proofs.lemmas.List.{map-append, length-map, take_at}
 use Rattle.std.proofs.lemmas.List.Elements.{All-head, All-tail}
-use Rattle.std.proofs.lemmas.Option.{slice_get-get_or, slice_get_within, get_or_from_slice_get, same_Some}
+use Rattle.std.proofs.lemmas.Option.{slice_get-get_or, same_Some}
 use Rattle.std.proofs.lemmas.Slice.Eq.{bytes_eq-Decides}
 use Rattle.isl_space.specs.Name.{Name}
 use Rattle.isl_space.specs.Names.{AreDistinct, ArePlaces, joined, is_among}

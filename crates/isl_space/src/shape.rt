@@ -1,6 +1,6 @@
 //! Shapes of elements.
 
-ghost use Rattle.std.specs.Prelude.{◌≡◌, ◌↔◌, ◌<◌, ◌^◌, ◌++◌, min, string_bytes, IsTrue, IfOk, IfErr, IfSome, OnOk};
+ghost use Rattle.std.specs.Prelude.{◌≡◌, ◌↔◌, ◌<◌, ◌^◌, ◌++◌, min, string_bytes, IsTrue, IfOk, IfSome, OnOk};
 ghost use Rattle.isl_space.specs.Limits.{most_coordinates};
 ghost use Rattle.isl_space.specs.Name.{IsLiteralName};
 ghost use Rattle.isl_space.specs.Form.{width_of, leaves_of, text_of, IsNamed, IsTooWide, IsWellFormed, leaf, pair};

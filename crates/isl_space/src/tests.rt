@@ -1,4 +1,4 @@
-ghost use Rattle.std.specs.Prelude.{◌≡◌, ◌≢◌, IfOk};
+ghost use Rattle.std.specs.Prelude.{◌≢◌, IfOk};
 ghost use Rattle.isl_space.specs.Name.{IsLiteralName};
 ghost use Rattle.isl_space.specs.Form.{IsWellFormed};
 ghost use Rattle.isl_space.specs.Shape.{form_of};
