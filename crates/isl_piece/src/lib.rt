@@ -1,0 +1,12 @@
+//! Conjunctions of linear constraints over integer columns, in one normal form.
+#![tactic(auto)]
+
+mod coefficients;
+mod constraint;
+mod conjunction;
+mod list;
+
+pub use coefficients::Coefs;
+pub use conjunction::System;
+pub use constraint::{Row, RowKind};
+pub use list::Rows;
