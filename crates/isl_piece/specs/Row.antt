@@ -1,12 +1,11 @@
--- What a row and a system say of a point.
-use Rattle.std.specs.Prelude.{◌≡◌, ℕ, ℤ, pos, ◌+ℤ◌, ◌≤ℤ◌, ◌<ℤ◌, List, All, length}
+-- What a row says of a point.
+use Rattle.std.specs.Prelude.{◌≡◌, ℕ, ◌+◌, ◌<◌, ◌⊎◌, ℤ, pos, ◌+ℤ◌, ◌*ℤ◌, ◌≤ℤ◌, ◌<ℤ◌, List, All, length, take, slice_index_or}
 use Rattle.isl_math.specs.Divide as divide
 use Rattle.isl_math.specs.Dot.{dot}
 use Rattle.isl_meter.specs.Gauge.{Gauge, IsWithin}
 use Rattle.isl_piece.specs.declared.constraint.RowKind.{RowKind}
 use Rattle.isl_piece.specs.declared.constraint.RowKind.TheVariants.{Zero, AtLeast, Divides, NotDivides}
 use Rattle.isl_piece.specs.declared.constraint.Row.{Row}
-use Rattle.isl_piece.specs.declared.conjunction.System.{System}
 
 -- what a kind asks of the number z: to be 0, to be at least 0, to be divisible by k, not to be
 abbrev pub HoldsValue : RowKind → ℤ → ℤ → Type 0
@@ -23,30 +22,30 @@ value_at r xs = dot r.coefs xs +ℤ r.constant
 abbrev pub HoldsRow : Row → List ℤ → Type 0
 HoldsRow r xs = HoldsValue r.kind r.k (value_at r xs)
 
--- each of the rows holds at a point
-abbrev pub HoldRows : List Row → List ℤ → Type 0
-HoldRows rows xs = All (λ r. HoldsRow r xs) rows
+-- the divisor of each kind: 1 where none is asked for
+abbrev pub HasDivisor : RowKind → ℤ → Type 0
+HasDivisor Zero k = k ≡ pos 1
+HasDivisor AtLeast k = k ≡ pos 1
+HasDivisor Divides k = pos 0 <ℤ k
+HasDivisor NotDivides k = pos 0 <ℤ k
 
--- the system holds at a point
-abbrev pub HoldsSystem : System → List ℤ → Type 0
-HoldsSystem s xs = HoldRows s.rows xs
-
--- a row of the kind asks for no divisor
-abbrev pub IsLinear : RowKind → Type 0
-IsLinear Zero = Unit {0}
-IsLinear AtLeast = Unit {0}
-IsLinear Divides = ⊥
-IsLinear NotDivides = ⊥
-
--- a row over so many columns, with each number within the limit; k is at least 1, and 1 where no divisor is asked for
-pub record IsRowWithin (g : Gauge) (columns : ℕ) (r : Row) : Type 0 where
+-- the row has as many coefficients as columns, and a divisor of its kind
+pub record IsWellFormed (columns : ℕ) (r : Row) : Type 0 where
   pub width : length r.coefs ≡ columns
+  pub divisor : HasDivisor r.kind r.k
+
+-- each number of the row is within the limit
+pub record IsRowWithin (g : Gauge) (r : Row) : Type 0 where
   pub coefs : All (IsWithin g) r.coefs
   pub constant : IsWithin g r.constant
-  pub divisor : IsWithin g r.k
-  pub positive : pos 0 <ℤ r.k
-  pub plain : IsLinear r.kind → r.k ≡ pos 1
+  pub k : IsWithin g r.k
 
--- each row is one over the system's columns, within the limit
-abbrev pub IsSystemWithin : Gauge → System → Type 0
-IsSystemWithin g s = All (IsRowWithin g s.columns) s.rows
+-- the coefficient at a column
+abbrev pub coef_at : Row → ℕ → ℤ
+coef_at r column = slice_index_or r.coefs column (pos 0)
+
+-- a product of the form at a point, or the sum of the first products, or the whole sum passes the limit
+abbrev pub FormPassesLimit : Gauge → Row → List ℤ → Type 0
+FormPassesLimit g r xs =
+    ((i : ℕ) × (i < length r.coefs) × ((¬ IsWithin g (coef_at r i *ℤ slice_index_or xs i (pos 0))) ⊎ (¬ IsWithin g (dot (take (i + 1) r.coefs) (take (i + 1) xs)))))
+    ⊎ (¬ IsWithin g (value_at r xs))

@@ -7,6 +7,6 @@ mod conjunction;
 mod list;
 
 pub use coefficients::Coefs;
-pub use conjunction::System;
+pub use conjunction::{System, meet};
 pub use constraint::{Row, RowKind};
 pub use list::Rows;
