@@ -1,7 +1,8 @@
 //! Rows: linear forms and what is asked of them.
 
-ghost use Rattle.std.specs.Prelude.{◌≡◌, ◌↔◌, length, IsTrue, IfOk, MatchResult};
-ghost use Rattle.isl_meter.specs.Gauge.{overflown};
+ghost use Rattle.std.specs.Prelude.{◌≡◌, ◌↔◌, ◌<ℤ◌, pos, length, IsTrue, IfOk, MatchResult};
+ghost use Rattle.isl_math.specs.Divide.{Divides};
+ghost use Rattle.isl_meter.specs.Gauge.{overflown, IsWithin};
 
 use crate::Coefs;
 use isl_meter::{Int, Meter, Overflow};
@@ -62,4 +63,51 @@ impl Row {
             k: self.k,
         })
     }
+}
+
+impl Row {
+    ghost use Rattle.isl_piece.specs.Row.{HoldsRow, IsWellFormed, IsRowWithin, FormPassesLimit, value_at};
+
+    /// The number that the form has at the point: the sum of the products, in order, and the constant.
+    #[tactic(auto, using(std::proofs::lemmas::Grind::common_steps, crate::proofs::RowLemmas::value_steps))]
+    fn value_at(&self, point: &[i128], meter: &mut Meter) -> Result<Int, Overflow>
+        requires { length self.now.coefs ≡ length point.now }
+        ensures { MatchResult result
+            (λ value. (value ≡ value_at self.now point.now) × IsWithin meter.old value × (meter.new ≡ meter.old))
+            (λ _. FormPassesLimit meter.old self.now point.now × (meter.new ≡ overflown meter.old)) }
+    {
+        let coefs = self.coefs.as_slice();
+        let mut sum = Int::ZERO;
+        for i in 0..coefs.len() {
+            let product = coefs[i].mul(Int::new(point[i]), meter)?;
+            sum = sum.add(product, meter)?;
+        }
+        sum.add(self.offset(), meter)
+    }
+
+    /// Whether the row holds at the point. Takes no memory and uses no unit.
+    pub fn holds_at(&self, point: &[i128], meter: &mut Meter) -> Result<bool, Overflow>
+        requires row { IsWellFormed (length point.now) self.now }
+        requires within { IsRowWithin meter.old self.now }
+        ensures { MatchResult result
+            (λ holds. (IsTrue holds ↔ HoldsRow self.now point.now) × (meter.new ≡ meter.old))
+            (λ _. FormPassesLimit meter.old self.now point.now × (meter.new ≡ overflown meter.old)) }
+    {
+        let value = self.value_at(point, meter)?;
+        Ok(match self.kind {
+            RowKind::Zero => value.is_zero(),
+            RowKind::AtLeast => !value.is_negative(),
+            RowKind::Divides => is_multiple(value, self.modulus(), meter),
+            RowKind::NotDivides => !is_multiple(value, self.modulus(), meter),
+        })
+    }
+}
+
+/// Whether `k` divides the number.
+pub(crate) fn is_multiple(number: Int, k: Int, meter: &Meter) -> bool
+    requires within { IsWithin meter.now k }
+    requires divisor { pos 0 <ℤ k }
+    ensures { IsTrue result ↔ Divides k number }
+{
+    number.modulo(k, meter).is_zero()
 }
