@@ -1,1 +1,5 @@
+pub mod ContentLaws
+pub mod NormalCases
+pub mod NumberLaws
+pub mod PointLaws
 pub mod RowLemmas

@@ -1,2 +1,4 @@
+pub mod Normal
+pub mod Numbers
 pub mod Row
 pub mod System

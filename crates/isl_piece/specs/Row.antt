@@ -1,5 +1,5 @@
 -- What a row says of a point.
-use Rattle.std.specs.Prelude.{◌≡◌, ℕ, ◌+◌, ◌<◌, ◌⊎◌, ℤ, pos, ◌+ℤ◌, ◌*ℤ◌, ◌≤ℤ◌, ◌<ℤ◌, List, All, length, take, slice_index_or}
+use Rattle.std.specs.Prelude.{◌≡◌, ℕ, ◌+◌, ◌<◌, ◌≤◌, ◌⊎◌, ℤ, pos, ◌+ℤ◌, ◌*ℤ◌, ◌≤ℤ◌, ◌<ℤ◌, List, All, length, take, slice_index_or, unsigned_abs}
 use Rattle.isl_math.specs.Divide as divide
 use Rattle.isl_math.specs.Dot.{dot}
 use Rattle.isl_meter.specs.Gauge.{Gauge, IsWithin}
@@ -39,6 +39,12 @@ pub record IsRowWithin (g : Gauge) (r : Row) : Type 0 where
   pub coefs : All (IsWithin g) r.coefs
   pub constant : IsWithin g r.constant
   pub k : IsWithin g r.k
+
+-- the magnitude of each number of the row is at most b
+pub record IsRowUpTo (b : ℕ) (r : Row) : Type 0 where
+  pub coefs : All (λ c. unsigned_abs c ≤ b) r.coefs
+  pub constant : unsigned_abs r.constant ≤ b
+  pub k : unsigned_abs r.k ≤ b
 
 -- the coefficient at a column
 abbrev pub coef_at : Row → ℕ → ℤ

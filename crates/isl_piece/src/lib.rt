@@ -5,8 +5,10 @@ mod coefficients;
 mod constraint;
 mod conjunction;
 mod list;
+mod normal;
 
 pub use coefficients::Coefs;
 pub use conjunction::{System, meet};
 pub use constraint::{Row, RowKind};
 pub use list::Rows;
+pub use normal::Verdict;
