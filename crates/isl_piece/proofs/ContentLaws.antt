@@ -37,7 +37,7 @@ common_times g d (x ∷ xs) p h k =
     (Divides-same (g *ℤ d) (g *ℤ floor_div x g) x (exact g x p (All-head (Divides g) x xs h)) (Divides-times g d (floor_div x g) (All-head (Divides d) (floor_div x g) (divided g xs) k)))
     (common_times g d xs p (All-tail (Divides g) x xs h) (All-tail (Divides d) (floor_div x g) (divided g xs) k))
 
-all_by_one : (xs : List ℤ) → All (Divides (pos 1)) xs
+pub all_by_one : (xs : List ℤ) → All (Divides (pos 1)) xs
 all_by_one [] = All-nil (Divides (pos 1))
 all_by_one (x ∷ xs) = All-cons (Divides (pos 1)) x xs (one-Divides x) (all_by_one xs)
 
@@ -95,7 +95,7 @@ Divides-remainder d k z p h g =
     let s = floor_split z k p in
     Divides-same d (z -ℤ k *ℤ floor_div z k) (floor_mod z k) (omega (arith, linear)) (Divides-minus d z (k *ℤ floor_div z k) g (Divides-*ℤ d k (floor_div z k) h))
 
-common_opposite : (d k : ℤ) (xs : List ℤ) → pos 0 <ℤ k → Divides d k → All (Divides d) xs → All (Divides d) (opposite k xs)
+pub common_opposite : (d k : ℤ) (xs : List ℤ) → pos 0 <ℤ k → Divides d k → All (Divides d) xs → All (Divides d) (opposite k xs)
 common_opposite d k [] p h g = All-nil (Divides d)
 common_opposite d k (x ∷ xs) p h g =
     All-cons (Divides d) (floor_mod (neg_ℤ x) k) (opposite k xs) (Divides-remainder d k (neg_ℤ x) p h (Divides-neg_ℤ d x (All-head (Divides d) x xs g))) (common_opposite d k xs p h (All-tail (Divides d) x xs g))

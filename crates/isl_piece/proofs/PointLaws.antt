@@ -19,7 +19,7 @@ use Rattle.isl_piece.specs.declared.normal.Verdict.{Verdict}
 use Rattle.isl_piece.specs.declared.normal.Verdict.TheVariants.{Always, Never, Kept}
 use Rattle.isl_piece.specs.Numbers.{divided, reduced, opposite, lead}
 use Rattle.isl_piece.specs.Row.{HoldsValue, HoldsRow, HasDivisor, value_at}
-use Rattle.isl_piece.specs.Normal.{normal_zero, normal_at_least, normal_divides, normal_row, denied, upright, bound, congruence, lesser, opposite_row}
+use Rattle.isl_piece.specs.Normal.{normal_zero, normal_at_least, normal_divides, normal_form, normal_row, denied, upright, bound, congruence, lesser, opposite_row}
 use Rattle.isl_piece.proofs.NumberLaws.{exact, Divides-dot, dot-divided, dot-reduced, dot-opposite, Divides-times, Divides-cancel, positive-divided}
 use Rattle.isl_piece.proofs.ContentLaws.{content-divided, lead_not_zero, sign_not_zero}
 use Rattle.isl_piece.proofs.NormalCases.{content_positive, common_part, common_part-positive, divided_congruence, divides_cases, normal_zero_by, normal_at_least_by, normal_divides_by, lesser_by}
@@ -165,7 +165,26 @@ normal_divides_holds cs c k xs p = normal_divides_by (λ v. HoldsVerdict v xs �
     by_one {z = z} e = rw e (one-Divides z)
 
 -- ---- a form that k does not divide
-pub denied_holds : (v : Verdict) (k : ℤ) (xs : List ℤ) → ((r : Row) → v ≡ Kept r → r.kind ≡ Divides) → HoldsVerdict (denied v) xs ↔ (¬ HoldsVerdict v xs)
-denied_holds Always k xs h = ((λ f. absurd f), (λ n. n tt))
-denied_holds Never k xs h = ((λ _ f. f), (λ _. tt))
-denied_holds (Kept r) k xs h = rw (h r refl) ((λ n. n), (λ n. n))
+pub denied_holds : (v : Verdict) (xs : List ℤ) → ((r : Row) → v ≡ Kept r → r.kind ≡ Divides) → HoldsVerdict (denied v) xs ↔ (¬ HoldsVerdict v xs)
+denied_holds Always xs h = ((λ f. absurd f), (λ n. n tt))
+denied_holds Never xs h = ((λ _ f. f), (λ _. tt))
+denied_holds (Kept r) xs h = rw (h r refl) ((λ n. n), (λ n. n))
+
+pub normal_divides-kind : (cs : List ℤ) (c k : ℤ) → pos 0 <ℤ k → (r : Row) → normal_divides cs c k ≡ Kept r → r.kind ≡ Divides
+normal_divides-kind cs c k p = normal_divides_by (λ v. (r : Row) → v ≡ Kept r → r.kind ≡ Divides) cs c k p
+    (λ n r e. cc)
+    (λ d f r e. cc)
+    (λ d n r e. lesser_by (λ s. s ≡ r → r.kind ≡ Divides) (divided_congruence cs c k) (λ f. sym (ap (λ (s : Row). s.kind) f)) (λ f. sym (ap (λ (s : Row). s.kind) f)) (cc))
+
+-- ---- any row
+normal_form_holds : (kind : RowKind) (cs : List ℤ) (c k : ℤ) (xs : List ℤ) → HasDivisor kind k → HoldsVerdict (normal_form kind cs c k) xs ↔ HoldsValue kind k (dot cs xs +ℤ c)
+normal_form_holds Zero cs c k xs h = normal_zero_holds cs c xs
+normal_form_holds AtLeast cs c k xs h = normal_at_least_holds cs c xs
+normal_form_holds Divides cs c k xs h = normal_divides_holds cs c k xs h
+normal_form_holds NotDivides cs c k xs h =
+    let e = normal_divides_holds cs c k xs h in
+    both_ways (denied_holds (normal_divides cs c k) xs (normal_divides-kind cs c k h)) ((λ n d. n (e.1 d)), (λ n d. n (e.0 d)))
+
+-- a row and its normal form hold at the same points
+pub normal_row_holds : (r : Row) (xs : List ℤ) → HasDivisor r.kind r.k → HoldsVerdict (normal_row r) xs ↔ HoldsRow r xs
+normal_row_holds r xs h = normal_form_holds r.kind r.coefs r.constant r.k xs h
