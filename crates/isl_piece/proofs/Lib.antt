@@ -5,3 +5,5 @@ pub mod PointLaws
 pub mod RowLemmas
 pub mod ShapeLaws
 pub mod SettledLaws
+pub mod MergeLaws
+pub mod NormalLaws

@@ -1,5 +1,5 @@
 -- The normal form of rows, in which values are kept and printed.
-use Rattle.std.specs.Prelude.{Bool, true, false, ◌&&◌, ◌||◌, if◌then◌else◌, Option, Some, None, option_map, ℤ, pos, neg_ℤ, ◌*ℤ◌, int_lt, List, [], ◌∷◌, ◌++◌, map, fold}
+use Rattle.std.specs.Prelude.{◌≡◌, ◌≢◌, All, AllPairs, Bool, true, false, ◌&&◌, ◌||◌, if◌then◌else◌, Option, Some, None, option_map, ℤ, pos, neg_ℤ, ◌*ℤ◌, int_lt, List, [], ◌∷◌, ◌++◌, map, fold}
 use Rattle.std.specs.Int.{int_min}
 use Rattle.std.specs.Ordering.{int_eq, int_cmp, is_lt}
 use Rattle.std.specs.Cmp.Lexicographic.{pointwise, slice_cmp}
@@ -101,12 +101,14 @@ same_kind _ _ = false
 abbrev pub same_bound : Row → Row → Bool
 same_bound a b = same_kind a.kind b.kind && pointwise int_eq a.coefs b.coefs && int_eq a.k b.k && (same_kind a.kind AtLeast || int_eq a.constant b.constant)
 
--- rows and one more: of rows with the same bound one stays, in the first one's place, with the least constant
+-- the first of two rows with the same bound, with the lesser constant
+abbrev pub tighter : Row → Row → Row
+tighter a b = record { kind = a.kind; coefs = a.coefs; constant = int_min a.constant b.constant; k = a.k }
+
+-- rows and one more: of rows with the same bound one stays, in the place of the first
 abbrev pub with_row : List Row → Row → List Row
 with_row [] r = r ∷ []
-with_row (a ∷ rows) r =
-    if same_bound a r then record { kind = a.kind; coefs = a.coefs; constant = int_min a.constant r.constant; k = a.k } ∷ rows
-    else a ∷ with_row rows r
+with_row (a ∷ rows) r = if same_bound a r then tighter a r ∷ rows else a ∷ with_row rows r
 
 -- rows with each bound once
 abbrev pub merged : List Row → List Row
@@ -119,3 +121,11 @@ normal_rows rows = option_map merged (kept_rows (map normal_row rows))
 -- a system with its normal rows
 abbrev pub normal_system : System → Option System
 normal_system s = option_map (λ rows. record { columns = s.columns; rows = rows }) (normal_rows s.rows)
+
+-- ---- what normal rows are
+-- each row is its own normal row; no two are equal, and no two bound the same form from below; so the rows are their own normal rows
+pub record IsNormal (rows : List Row) : Type 0 where
+  pub settled : All (λ r. normal_row r ≡ Kept r) rows
+  pub distinct : AllPairs (λ a b. a ≢ b) rows
+  pub undominated : AllPairs (λ a b. a.kind ≡ AtLeast → b.kind ≡ AtLeast → a.coefs ≢ b.coefs) rows
+  pub itself : normal_rows rows ≡ Some rows
