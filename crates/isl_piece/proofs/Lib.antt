@@ -7,3 +7,5 @@ pub mod ShapeLaws
 pub mod SettledLaws
 pub mod MergeLaws
 pub mod NormalLaws
+pub mod NumberSteps
+pub mod NormalSteps

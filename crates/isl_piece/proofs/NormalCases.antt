@@ -78,10 +78,10 @@ normal_zero_by P cs c always never apart kept = elim (zero_cases (content cs)) [
 ]
 
 -- ---- a form that is at least 0
-int_lt-true : (x y : ℤ) → x <ℤ y → int_lt x y ≡ true
+pub int_lt-true : (x y : ℤ) → x <ℤ y → int_lt x y ≡ true
 int_lt-true x y h = grind (arith, ints)
 
-int_lt-false : (x y : ℤ) → y ≤ℤ x → int_lt x y ≡ false
+pub int_lt-false : (x y : ℤ) → y ≤ℤ x → int_lt x y ≡ false
 int_lt-false x y h = grind (arith, ints)
 
 pub normal_at_least-never : (cs : List ℤ) (c : ℤ) → content cs ≡ pos 0 → c <ℤ pos 0 → normal_at_least cs c ≡ Never

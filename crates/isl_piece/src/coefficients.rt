@@ -1,9 +1,13 @@
 //! The coefficients of a row.
 
-ghost use Rattle.std.specs.Prelude.{◌≡◌, ◌<◌, pos, [], ◌∷◌, ◌++◌, length, replicate, IsTrue, ◌↔◌, IfOk, OnOk, OnErr, slice_index_or, slice_set};
+ghost use Rattle.std.specs.Prelude.{◌≡◌, ◌<◌, ◌<ℤ◌, All, pos, negsuc, [], ◌∷◌, ◌++◌, length, replicate, IsTrue, ◌↔◌, IfOk, OnOk, OnErr, slice_index_or, slice_set};
 ghost use Rattle.std.specs.List.{remove};
+ghost use Rattle.isl_math.specs.Dot.{scaled};
+ghost use Rattle.isl_meter.specs.Gauge.{IsWithin};
+ghost use Rattle.isl_piece.specs.Numbers.{divided, reduced, opposite};
 
-use isl_meter::Int;
+use crate::numbers;
+use isl_meter::{Int, Meter};
 use smallvec::SmallVec;
 use std::alloc::{AllocError, AllocFailed, Global};
 use std::marker::Model;
@@ -98,5 +102,37 @@ impl Coefs {
         ensures rest { self.new ≡ remove self.old column }
     {
         self.items.remove(column)
+    }
+
+    pub(crate) fn divide(&mut self, g: Int, meter: &Meter)
+        requires within { All (IsWithin meter.now) self.old }
+        requires divisor { pos 0 <ℤ g }
+        ensures { self.new ≡ divided g self.old }
+    {
+        numbers::divide(self.items.as_mut_slice(), g, meter);
+    }
+
+    pub(crate) fn reduce(&mut self, k: Int, meter: &Meter)
+        requires within { IsWithin meter.now k }
+        requires divisor { pos 0 <ℤ k }
+        ensures { self.new ≡ reduced k self.old }
+    {
+        numbers::reduce(self.items.as_mut_slice(), k, meter);
+    }
+
+    pub(crate) fn oppose(&mut self, k: Int, meter: &Meter)
+        requires numbers_within { All (IsWithin meter.now) self.old }
+        requires within { IsWithin meter.now k }
+        requires divisor { pos 0 <ℤ k }
+        ensures { self.new ≡ opposite k self.old }
+    {
+        numbers::oppose(self.items.as_mut_slice(), k, meter);
+    }
+
+    pub(crate) fn negate(&mut self, meter: &Meter)
+        requires { All (IsWithin meter.now) self.old }
+        ensures { self.new ≡ scaled (negsuc 0) self.old }
+    {
+        numbers::negate(self.items.as_mut_slice(), meter);
     }
 }

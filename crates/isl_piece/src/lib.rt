@@ -6,6 +6,7 @@ mod constraint;
 mod conjunction;
 mod list;
 mod normal;
+mod numbers;
 
 pub use coefficients::Coefs;
 pub use conjunction::{System, meet};
