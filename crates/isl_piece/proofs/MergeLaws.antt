@@ -1,5 +1,5 @@
 -- Rows of which each bound stays once.
-use Rattle.std.proofs.Common.{◌≡◌, ◌≢◌, ◌↔◌, ◌⊎◌, inl, inr, refl, sym, ap, ◌∙◌, arith, ℕ, zero, suc, ◌<◌, ℤ, pos, ◌+ℤ◌, ◌≤ℤ◌, ◌<ℤ◌, List, [], ◌∷◌, ◌++◌, length, get_or, append_assoc, append-nil, Bool, true, false, cond, ◌&&◌, ◌||◌, fold, Option, Some, None, subst, int_lt}
+use Rattle.std.proofs.Common.{◌≡◌, ◌≢◌, ◌↔◌, ◌⊎◌, inl, inr, refl, sym, ap, ◌∙◌, arith, ℕ, zero, suc, ◌<◌, ℤ, pos, ◌+ℤ◌, ◌≤ℤ◌, ◌<ℤ◌, List, [], ◌∷◌, ◌++◌, length, get_or, set, take, append_assoc, append-nil, Bool, true, false, cond, ◌&&◌, ◌||◌, fold, Option, Some, None, subst, int_lt}
 use Rattle.std.specs.List.{All, AllPairs}
 use Rattle.std.specs.Int.{int_min}
 use Rattle.std.specs.Ordering.{int_eq}
@@ -8,6 +8,7 @@ use Rattle.std.proofs.lemmas.Bool.{cases_Bool, cond-true, cond-false, and_parts,
 use Rattle.std.proofs.lemmas.Bool.Decides.{Decides-int_eq}
 use Rattle.std.proofs.lemmas.Slice.Eq.{slice_eq-Decides}
 use Rattle.std.proofs.lemmas.Int.{clamps}
+use Rattle.std.proofs.lemmas.List.{get_or_read}
 use Rattle.std.proofs.lemmas.List.Elements.{All-nil, All-cons, All-head, All-tail, All-weaker}
 use Rattle.isl_math.specs.Dot.{dot}
 use Rattle.isl_math.proofs.Ring.{linear}
@@ -158,6 +159,19 @@ with_row_apart (a ∷ rows) r h = elim (cases_Bool (same_bound a r)) [
 pub with_row_new : (rows : List Row) (r : Row) → All (λ a. same_bound a r ≡ false) rows → with_row rows r ≡ rows ++ r ∷ []
 with_row_new [] r h = refl
 with_row_new (a ∷ rows) r h = with_row-later a rows r (All-head (λ b. same_bound b r ≡ false) a rows h) ∙ ap (λ s. a ∷ s) (with_row_new rows r (All-tail (λ b. same_bound b r ≡ false) a rows h))
+
+-- a row with a bound that is there changes the first row that has it
+pub with_row_at : (rows : List Row) (i : ℕ) (r d : Row) → i < length rows → All (λ a. same_bound a r ≡ false) (take i rows) → same_bound (get_or rows i d) r ≡ true → with_row rows r ≡ set rows i (tighter (get_or rows i d) r)
+with_row_at [] i r d l h t = absurd (omega arith)
+with_row_at (a ∷ rows) zero r d l h t = with_row-here a rows r t
+with_row_at (a ∷ rows) (suc i) r d l h t =
+    with_row-later a rows r (All-head (λ b. same_bound b r ≡ false) a (take i rows) h)
+    ∙ ap (λ s. a ∷ s) (with_row_at rows i r d (omega arith) (All-tail (λ b. same_bound b r ≡ false) a (take i rows) h) t)
+
+pub with_row_found : (rows old : List Row) (i : ℕ) (a b new r : Row) → rows ≡ old → i < length rows → a ≡ get_or rows i a → b ≡ get_or rows i b → All (λ x. same_bound x r ≡ false) (take i rows) → same_bound a r ≡ true → new ≡ tighter b r → set rows i new ≡ with_row old r
+with_row_found rows old i a b new r same l is also h t e =
+    let first : a ≡ get_or rows i b = get_or_read rows i a l is b in
+    sym (ap (λ xs. with_row xs r) (sym same) ∙ with_row_at rows i r b l h (ap (λ (x : Row). same_bound x r) (sym first) ∙ t) ∙ ap (λ (x : Row). set rows i (tighter x r)) (sym also) ∙ ap (set rows i) (sym e))
 
 -- ---- many rows
 pub fold_all : (P : Row → Type 0) (kept rows : List Row) → All P kept → All P rows → All P (fold with_row kept rows)

@@ -14,8 +14,7 @@ use Rattle.isl_math.proofs.DivideLaws.{Divides-from_mod, mod-from_Divides}
 use Rattle.isl_math.proofs.GcdLaws.{IsContentOf-content}
 use Rattle.isl_piece.specs.declared.constraint.RowKind.TheVariants.{Zero, AtLeast, Divides as KindDivides, NotDivides}
 use Rattle.isl_piece.specs.declared.constraint.Row.{Row}
-use Rattle.isl_piece.specs.declared.normal.Verdict.{Verdict}
-use Rattle.isl_piece.specs.declared.normal.Verdict.TheVariants.{Always, Never, Kept}
+use Rattle.isl_piece.specs.Normal.{Verdict, Always, Never, Kept}
 use Rattle.isl_piece.specs.Numbers.{divided, reduced, opposite, lead, is_multiple}
 use Rattle.isl_piece.specs.Normal.{normal_zero, normal_at_least, normal_divides, upright, bound, congruence, lesser, opposite_row, numbers_of}
 use Rattle.isl_piece.proofs.ContentLaws.{int_eq-true, int_eq-false, zero_cases}

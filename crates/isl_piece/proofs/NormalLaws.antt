@@ -6,8 +6,7 @@ use Rattle.isl_meter.specs.Gauge.{Gauge, IsWithin}
 use Rattle.isl_piece.specs.declared.constraint.RowKind.{RowKind}
 use Rattle.isl_piece.specs.declared.constraint.RowKind.TheVariants.{Zero, AtLeast, Divides, NotDivides}
 use Rattle.isl_piece.specs.declared.constraint.Row.{Row}
-use Rattle.isl_piece.specs.declared.normal.Verdict.{Verdict}
-use Rattle.isl_piece.specs.declared.normal.Verdict.TheVariants.{Always, Never, Kept}
+use Rattle.isl_piece.specs.Normal.{Verdict, Always, Never, Kept}
 use Rattle.isl_piece.specs.Row.{HoldsRow, HasDivisor, IsWellFormed, IsRowWithin, IsRowUpTo}
 use Rattle.isl_piece.specs.System.{HoldRows}
 use Rattle.isl_piece.specs.Normal.{normal_row, kept_rows, same_kind, same_bound, with_row, merged, normal_rows, IsNormal}

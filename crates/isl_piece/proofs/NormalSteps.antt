@@ -1,5 +1,5 @@
 -- What the code that makes a row normal wants, for `using`.
-use Rattle.std.proofs.Common.{◌≡◌, ◌≢◌, ◌⊎◌, inl, inr, refl, sym, ap, ◌∙◌, arith, ℕ, zero, suc, ◌<◌, ◌≤◌, ◌^◌, ◌-◌, ℤ, pos, negsuc, neg_ℤ, ◌*ℤ◌, ◌≤ℤ◌, ◌<ℤ◌, List, [], ◌∷◌, ◌++◌, unsigned_abs, pow_pos, subst, int_lt, length, get_or, drop, drop-cons, add-one, ◌+◌}
+use Rattle.std.proofs.Common.{◌≡◌, ◌≢◌, ◌⊎◌, inl, inr, refl, sym, ap, ◌∙◌, arith, ℕ, zero, suc, ◌<◌, ◌≤◌, ◌^◌, ◌-◌, ℤ, pos, negsuc, neg_ℤ, ◌*ℤ◌, ◌≤ℤ◌, ◌<ℤ◌, List, [], ◌∷◌, ◌++◌, unsigned_abs, pow_pos, subst, Bool, true, false, cond, int_lt, length, get_or, drop, drop-cons, add-one, ◌+◌}
 use Rattle.std.specs.List.{All}
 use Rattle.std.specs.Cmp.{int_ranked}
 use Rattle.std.specs.Cmp.Lexicographic.{slice_cmp}
@@ -18,11 +18,13 @@ use Rattle.isl_math.proofs.DivideLaws.{Divides-zero}
 use Rattle.isl_math.proofs.GcdLaws.{IsContentOf-content}
 use Rattle.isl_meter.specs.Gauge.{Gauge, IsWithin}
 use Rattle.isl_piece.specs.declared.constraint.RowKind.TheVariants.{Zero, AtLeast, Divides as KindDivides, NotDivides}
+use Rattle.isl_piece.specs.declared.constraint.RowKind.{RowKind}
 use Rattle.isl_piece.specs.declared.constraint.Row.{Row}
-use Rattle.isl_piece.specs.declared.normal.Verdict.TheVariants.{Always, Never, Kept}
+use Rattle.isl_piece.specs.Row.{IsRowWithin}
+use Rattle.isl_piece.specs.Normal.{Always, Never, Kept}
 use Rattle.isl_piece.specs.Numbers.{divided, reduced, opposite, lead}
-use Rattle.isl_piece.specs.Normal.{normal_zero, normal_at_least, normal_divides, upright, bound, congruence, lesser}
-use Rattle.isl_piece.proofs.NumberLaws.{positive-divided, IsUpTo, IsUpTo-divided, IsUpTo-reduced, IsUpTo-opposite}
+use Rattle.isl_piece.specs.Normal.{normal_zero, normal_at_least, normal_divides, upright, bound, congruence, lesser, opposite_row, numbers_of}
+use Rattle.isl_piece.proofs.NumberLaws.{abs-quotient, abs-remainder, positive-divided, IsUpTo, IsUpTo-divided, IsUpTo-reduced, IsUpTo-opposite}
 use Rattle.isl_piece.proofs.ContentLaws.{zero_cases, content_is, content-divided, lead_not_zero, scaled_one, sign_of_positive}
 use Rattle.isl_piece.proofs.NormalCases.{common_part, divided_congruence, normal_zero-always, normal_zero-never, normal_zero-apart, normal_zero-kept, normal_at_least-always, normal_at_least-never, normal_at_least-kept, normal_divides-always, normal_divides-never, normal_divides-kept, content_positive, int_lt-true, int_lt-false}
 
@@ -68,9 +70,40 @@ lead-divided cs n = lead_not_zero (divided (content cs) cs) (λ e. let f = conte
     not_both : (z : ℤ) → z ≡ pos 1 → z ≡ pos 0 → ⊥
     not_both z e f = omega (arith, linear)
 
-pub ruleset upright_steps = (upright-negative, upright-positive)
-pub ruleset zero_steps = (normal_zero-always, normal_zero-never, normal_zero-apart, normal_zero-kept, lead-divided, above_zero, All-IsWithin-divided)
-pub ruleset bound_steps = (normal_at_least-always, normal_at_least-never, normal_at_least-kept, above_zero)
+pub row_is : (r : Row) (kind : RowKind) (cs : List ℤ) (c k : ℤ) → r.kind ≡ kind → r.coefs ≡ cs → r.constant ≡ c → r.k ≡ k → r ≡ (let s : Row = record { kind = kind; coefs = cs; constant = c; k = k } in s)
+row_is r kind cs c k e f g h = by r.kind r.coefs r.constant r.k e f g h
+  where
+    by : (kind' : RowKind) (cs' : List ℤ) (c' k' : ℤ) → kind' ≡ kind → cs' ≡ cs → c' ≡ c → k' ≡ k → (let s : Row = record { kind = kind'; coefs = cs'; constant = c'; k = k' } in s) ≡ (let s : Row = record { kind = kind; coefs = cs; constant = c; k = k } in s)
+    by kind' cs' c' k' e f g h = cc
+
+-- a row stays as it is where its first number is positive already
+pub upright_stays : (r : Row) → r.kind ≡ Zero → r.k ≡ pos 1 → lead r.coefs ≢ pos 0 → ¬ (lead r.coefs <ℤ pos 0) → r ≡ upright r.coefs r.constant
+upright_stays r is one n h = row_is r Zero r.coefs r.constant (pos 1) is refl refl one ∙ sym (upright-positive r.coefs r.constant n h)
+
+pub zero_kept : (cs : List ℤ) (c g : ℤ) (row : Row) → g ≡ content cs → g ≢ pos 0 → Divides g c → row ≡ upright (divided g cs) (floor_div c g) → normal_zero cs c ≡ Kept row
+zero_kept cs c g row e n d is = normal_zero-kept cs c (λ z. n (e ∙ z)) (rw e at d) ∙ ap (λ x. Kept (upright (divided x cs) (floor_div c x))) (sym e) ∙ ap Kept (sym is)
+
+pub at_least_kept : (cs : List ℤ) (c g : ℤ) (row : Row) → g ≡ content cs → g ≢ pos 0 → row.kind ≡ AtLeast → row.coefs ≡ divided g cs → row.constant ≡ floor_div c g → row.k ≡ pos 1 → normal_at_least cs c ≡ Kept row
+at_least_kept cs c g row e n is f h one = normal_at_least-kept cs c (λ z. n (e ∙ z)) ∙ ap (λ x. Kept (bound (divided x cs) (floor_div c x))) (sym e) ∙ ap Kept (sym (row_is row AtLeast (divided g cs) (floor_div c g) (pos 1) is f h one))
+
+pub ruleset upright_steps = (upright-negative, upright_stays)
+pub ruleset zero_steps = (normal_zero-always, normal_zero-never, normal_zero-apart, lead-divided, above_zero)
+pub ruleset bound_steps = (normal_at_least-always, normal_at_least-never, above_zero)
+
+-- ---- a row within the limit
+pub IsWithin-floor_div : (m : Gauge) (g z : ℤ) → pos 0 <ℤ g → IsWithin m z → IsWithin m (floor_div z g)
+IsWithin-floor_div m g z p h = up_to_within m (floor_div z g) (abs-quotient (2 ^ m.bits - 1) g z p (within_up_to m z h))
+
+pub IsWithin-floor_mod : (m : Gauge) (k z : ℤ) → pos 0 <ℤ k → IsWithin m k → IsWithin m (floor_mod z k)
+IsWithin-floor_mod m k z p h = up_to_within m (floor_mod z k) (abs-remainder (2 ^ m.bits - 1) k z p (within_up_to m k h))
+
+pub IsRowWithin-divided : (m : Gauge) (r new : Row) (g : ℤ) → pos 0 <ℤ g → IsRowWithin m r → new ≡ record r { coefs = divided g r.coefs; constant = floor_div r.constant g } → IsRowWithin m new
+IsRowWithin-divided m r new g p h e = rw e (record { coefs = All-IsWithin-divided m g r.coefs p h.coefs; constant = IsWithin-floor_div m g r.constant p h.constant; k = h.k })
+
+pub IsRowWithin-reduced : (m : Gauge) (r new : Row) → pos 0 <ℤ r.k → IsRowWithin m r → new ≡ record r { coefs = reduced r.k r.coefs; constant = floor_mod r.constant r.k } → IsRowWithin m new
+IsRowWithin-reduced m r new p h e = rw e (record { coefs = All-IsWithin-reduced m r.k r.coefs p h.k; constant = IsWithin-floor_mod m r.k r.constant p h.k; k = h.k })
+
+pub ruleset row_steps = (IsRowWithin-divided, IsRowWithin-reduced)
 
 -- ---- the lesser of a congruence and its opposite
 -- how the opposite of the numbers, and of the constant after them, compares with them
@@ -129,24 +162,34 @@ divisor_positive g k p h d = elim (zero_cases g) [
   | inr n ↦ omega (arith, linear)
 ]
 
-pub divides_never : (cs : List ℤ) (c k : ℤ) (ds : List ℤ) (r g : ℤ) → pos 0 <ℤ k → ds ≡ reduced k cs → r ≡ floor_mod c k → g ≡ content (k ∷ ds) → ¬ Divides g r → Never ≡ normal_divides cs c k
+pub divides_never : (cs : List ℤ) (c k : ℤ) (ds : List ℤ) (r g : ℤ) → pos 0 <ℤ k → ds ≡ reduced k cs → r ≡ floor_mod c k → g ≡ content (k ∷ ds) → ¬ Divides g r → normal_divides cs c k ≡ Never
 divides_never cs c k ds r g p e f h n =
     let part : g ≡ common_part cs k = h ∙ ap (λ xs. content (k ∷ xs)) e in
-    sym (normal_divides-never cs c k p (λ d. n (rw (part, f) d)))
+    normal_divides-never cs c k p (λ d. n (rw (part, f) d))
 
-pub divides_always : (cs : List ℤ) (c k : ℤ) (ds : List ℤ) (r g q : ℤ) → pos 0 <ℤ k → ds ≡ reduced k cs → r ≡ floor_mod c k → g ≡ content (k ∷ ds) → Divides g r → q ≡ floor_div k g → q ≡ pos 1 → Always ≡ normal_divides cs c k
+pub divides_always : (cs : List ℤ) (c k : ℤ) (ds : List ℤ) (r g q : ℤ) → pos 0 <ℤ k → ds ≡ reduced k cs → r ≡ floor_mod c k → g ≡ content (k ∷ ds) → Divides g r → q ≡ floor_div k g → q ≡ pos 1 → normal_divides cs c k ≡ Always
 divides_always cs c k ds r g q p e f h d i one =
     let part : g ≡ common_part cs k = h ∙ ap (λ xs. content (k ∷ xs)) e in
-    sym (normal_divides-always cs c k p (rw (part, f) at d) (ap (λ x. floor_div k x) (sym part) ∙ sym i ∙ one))
+    normal_divides-always cs c k p (rw (part, f) at d) (ap (λ x. floor_div k x) (sym part) ∙ sym i ∙ one)
 
 pub divides_kept : (cs : List ℤ) (c k : ℤ) (ds : List ℤ) (r g q : ℤ) (row : Row) → pos 0 <ℤ k → ds ≡ reduced k cs → r ≡ floor_mod c k → g ≡ content (k ∷ ds) → Divides g r → q ≡ floor_div k g → q ≢ pos 1
-    → row ≡ lesser (congruence (divided g ds) (floor_div r g) q) → Kept row ≡ normal_divides cs c k
+    → row ≡ lesser (congruence (divided g ds) (floor_div r g) q) → normal_divides cs c k ≡ Kept row
 divides_kept cs c k ds r g q row p e f h d i n is =
     let part : g ≡ common_part cs k = h ∙ ap (λ xs. content (k ∷ xs)) e in
     let same : congruence (divided g ds) (floor_div r g) q ≡ divided_congruence cs c k = rw (i, e, f, part) refl in
-    sym (normal_divides-kept cs c k p (rw (part, f) at d) (λ one. n (i ∙ ap (λ x. floor_div k x) part ∙ one)) ∙ ap (λ s. Kept (lesser s)) (sym same) ∙ ap Kept (sym is))
+    normal_divides-kept cs c k p (rw (part, f) at d) (λ one. n (i ∙ ap (λ x. floor_div k x) part ∙ one)) ∙ ap (λ s. Kept (lesser s)) (sym same) ∙ ap Kept (sym is)
 
-pub zero_kept : (cs : List ℤ) (c g : ℤ) (row : Row) → g ≡ content cs → g ≢ pos 0 → Divides g c → row ≡ upright (divided g cs) (floor_div c g) → Kept row ≡ normal_zero cs c
-zero_kept cs c g row e n d is = sym (normal_zero-kept cs c (λ z. n (e ∙ z)) (rw e at d) ∙ ap (λ x. Kept (upright (divided x cs) (floor_div c x))) (sym e) ∙ ap Kept (sym is))
+-- the choice does not look at the kind
+pub lesser-kind : (r : Row) (kind : RowKind) → record (lesser r) { kind = kind } ≡ lesser (record r { kind = kind })
+lesser-kind r kind = by (is_lt (slice_cmp int_cmp (numbers_of (opposite_row r)) (numbers_of r)))
+  where
+    by : (t : Bool) → record (cond t (opposite_row r) r) { kind = kind } ≡ cond t (opposite_row (record r { kind = kind })) (record r { kind = kind })
+    by true = refl
+    by false = refl
+
+-- the row that was kept, of either kind
+pub lesser_congruence : (row r : Row) (cs : List ℤ) (c k : ℤ) → row ≡ lesser r → r.coefs ≡ cs → r.constant ≡ c → r.k ≡ k → record row { kind = KindDivides } ≡ lesser (congruence cs c k)
+lesser_congruence row r cs c k e f g h =
+    ap (λ (s : Row). record s { kind = KindDivides }) e ∙ lesser-kind r KindDivides ∙ ap lesser (row_is (record r { kind = KindDivides }) KindDivides cs c k refl f g h)
 
 pub ruleset congruence_steps = (divisor_positive, positive-divided, All-IsWithin-reduced, All-IsWithin-divided)

@@ -19,8 +19,7 @@ use Rattle.isl_math.proofs.GcdLaws.{IsContentOf-content}
 use Rattle.isl_piece.specs.declared.constraint.RowKind.{RowKind}
 use Rattle.isl_piece.specs.declared.constraint.RowKind.TheVariants.{Zero, AtLeast, Divides, NotDivides}
 use Rattle.isl_piece.specs.declared.constraint.Row.{Row}
-use Rattle.isl_piece.specs.declared.normal.Verdict.{Verdict}
-use Rattle.isl_piece.specs.declared.normal.Verdict.TheVariants.{Always, Never, Kept}
+use Rattle.isl_piece.specs.Normal.{Verdict, Always, Never, Kept}
 use Rattle.isl_piece.specs.Numbers.{divided, reduced, opposite, lead}
 use Rattle.isl_piece.specs.Row.{HasDivisor}
 use Rattle.isl_piece.specs.Normal.{normal_zero, normal_at_least, normal_divides, normal_form, normal_row, denied, upright, bound, congruence, lesser, opposite_row, numbers_of}

@@ -1,4 +1,5 @@
 pub mod Normal
 pub mod Numbers
+pub mod Outcome
 pub mod Row
 pub mod System

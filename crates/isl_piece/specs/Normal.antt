@@ -12,10 +12,14 @@ use Rattle.isl_piece.specs.declared.constraint.RowKind.{RowKind}
 use Rattle.isl_piece.specs.declared.constraint.RowKind.TheVariants.{Zero, AtLeast, Divides, NotDivides}
 use Rattle.isl_piece.specs.declared.constraint.Row.{Row}
 use Rattle.isl_piece.specs.declared.conjunction.System.{System}
-use Rattle.isl_piece.specs.declared.normal.Verdict.{Verdict}
-use Rattle.isl_piece.specs.declared.normal.Verdict.TheVariants.{Always, Never, Kept}
 
 -- ---- one row
+-- what is left of a row: it holds at every point, at none, or where the kept row does
+pub data Verdict : Type 0 where
+  Always : Verdict
+  Never : Verdict
+  Kept : Row → Verdict
+
 -- a form that is 0, with its first number that is not 0 made positive
 abbrev pub upright : List ℤ → ℤ → Row
 upright cs c = let sign = sign_of (lead cs) in record { kind = Zero; coefs = scaled sign cs; constant = sign *ℤ c; k = pos 1 }

@@ -53,6 +53,18 @@ impl Row {
         Int::new(self.k)
     }
 
+    pub fn set_offset(&mut self, constant: Int)
+        ensures { self.new ≡ record self.old { constant = constant } }
+    {
+        self.constant = constant.get();
+    }
+
+    pub fn set_modulus(&mut self, k: Int)
+        ensures { self.new ≡ record self.old { k = k } }
+    {
+        self.k = k.get();
+    }
+
     pub fn copy(&self, alloc: Global) -> Result<Self, AllocError>
         ensures { IfOk result (λ row. row ≡ self.now) }
     {

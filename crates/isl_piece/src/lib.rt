@@ -7,9 +7,9 @@ mod conjunction;
 mod list;
 mod normal;
 mod numbers;
+mod reduction;
 
 pub use coefficients::Coefs;
 pub use conjunction::{System, meet};
 pub use constraint::{Row, RowKind};
 pub use list::Rows;
-pub use normal::Verdict;
