@@ -9,3 +9,4 @@ pub mod MergeLaws
 pub mod NormalLaws
 pub mod NumberSteps
 pub mod NormalSteps
+pub mod PlaceLaws

@@ -168,10 +168,8 @@ with_row_at (a ∷ rows) (suc i) r d l h t =
     with_row-later a rows r (All-head (λ b. same_bound b r ≡ false) a (take i rows) h)
     ∙ ap (λ s. a ∷ s) (with_row_at rows i r d (omega arith) (All-tail (λ b. same_bound b r ≡ false) a (take i rows) h) t)
 
-pub with_row_found : (rows old : List Row) (i : ℕ) (a b new r : Row) → rows ≡ old → i < length rows → a ≡ get_or rows i a → b ≡ get_or rows i b → All (λ x. same_bound x r ≡ false) (take i rows) → same_bound a r ≡ true → new ≡ tighter b r → set rows i new ≡ with_row old r
-with_row_found rows old i a b new r same l is also h t e =
-    let first : a ≡ get_or rows i b = get_or_read rows i a l is b in
-    sym (ap (λ xs. with_row xs r) (sym same) ∙ with_row_at rows i r b l h (ap (λ (x : Row). same_bound x r) (sym first) ∙ t) ∙ ap (λ (x : Row). set rows i (tighter x r)) (sym also) ∙ ap (set rows i) (sym e))
+pub with_row_place : (rows : List Row) (i : ℕ) (a r : Row) → i < length rows → a ≡ get_or rows i a → All (λ x. same_bound x r ≡ false) (take i rows) → same_bound a r ≡ true → with_row rows r ≡ set rows i (tighter (get_or rows i r) r)
+with_row_place rows i a r l is h t = with_row_at rows i r r l h (ap (λ (x : Row). same_bound x r) (sym (get_or_read rows i a l is r)) ∙ t)
 
 -- ---- many rows
 pub fold_all : (P : Row → Type 0) (kept rows : List Row) → All P kept → All P rows → All P (fold with_row kept rows)

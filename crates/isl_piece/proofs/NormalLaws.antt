@@ -162,3 +162,32 @@ normal_rows_up_to b rows d h = normal_rows_all (IsFitRow b) (IsRowUpTo b) (λ r 
   where
     both : (rows : List Row) → All (λ r. HasDivisor r.kind r.k) rows → All (IsRowUpTo b) rows → All (IsFitRow b) rows
     both rows d h k e l = record { divisor = d k e l; up_to = h k e l }
+
+-- ---- row by row
+-- the normal rows, where some are kept already and the rest is still to come
+pub normal_from : List Row → List Row → Option (List Row)
+normal_from kept rest = option_map (λ rows. fold with_row kept rows) (kept_rows (map normal_row rest))
+
+pub normal_from_none : (rows : List Row) → normal_from [] rows ≡ normal_rows rows
+unfolding normal_from
+normal_from_none rows = refl
+
+pub normal_from_all : (kept rest : List Row) → rest ≡ [] → normal_from kept rest ≡ Some kept
+unfolding normal_from
+normal_from_all kept rest e = rw e refl
+
+pub normal_from_always : (kept : List Row) (r : Row) (rest : List Row) → normal_row r ≡ Always → normal_from kept (r ∷ rest) ≡ normal_from kept rest
+unfolding normal_from
+normal_from_always kept r rest e = ap (λ v. option_map (λ rows. fold with_row kept rows) (kept_rows (v ∷ map normal_row rest))) e
+
+pub normal_from_never : (kept : List Row) (r : Row) (rest : List Row) → normal_row r ≡ Never → normal_from kept (r ∷ rest) ≡ None
+unfolding normal_from
+normal_from_never kept r rest e = ap (λ v. option_map (λ rows. fold with_row kept rows) (kept_rows (v ∷ map normal_row rest))) e
+
+pub normal_from_kept : (kept : List Row) (r : Row) (rest : List Row) (s : Row) → normal_row r ≡ Kept s → normal_from kept (r ∷ rest) ≡ normal_from (with_row kept s) rest
+unfolding normal_from
+normal_from_kept kept r rest s e = ap (λ v. option_map (λ rows. fold with_row kept rows) (kept_rows (v ∷ map normal_row rest))) e ∙ by (kept_rows (map normal_row rest))
+  where
+    by : (o : Option (List Row)) → option_map (λ rows. fold with_row kept rows) (option_map (λ rows. s ∷ rows) o) ≡ option_map (λ rows. fold with_row (with_row kept s) rows) o
+    by None = refl
+    by (Some rows) = refl

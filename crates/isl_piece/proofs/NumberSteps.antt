@@ -56,8 +56,8 @@ negated-take_more xs i h = rw add-one (by xs i h)
 
 pub ruleset steps = (divided-take_more, reduced-take_more, opposite-take_more, negated-take_more, negated_is, get_or_read)
 
--- a number that is read from the rest, which is as it was
-pub holds_unchanged : (P : ℤ → Type 0) (xs ys : List ℤ) (i : ℕ) (x : ℤ) → i < length xs → length xs ≡ length ys → All P ys → drop i xs ≡ drop i ys → x ≡ get_or xs i x → P x
+-- an element that is read from the rest, which is as it was
+pub holds_unchanged : {X : Type 0} (P : X → Type 0) (xs ys : List X) (i : ℕ) (x : X) → i < length xs → length xs ≡ length ys → All P ys → drop i xs ≡ drop i ys → x ≡ get_or xs i x → P x
 holds_unchanged P xs ys i x h l all e is =
     let j : i < length ys = omega arith in
     let same : get_or xs i x ≡ get_or ys i x = grind (arith, common_steps) in
