@@ -10,3 +10,4 @@ pub mod NormalLaws
 pub mod NumberSteps
 pub mod NormalSteps
 pub mod PlaceLaws
+pub mod SystemLaws

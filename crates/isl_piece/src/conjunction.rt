@@ -1,8 +1,12 @@
 //! Systems: the points at which each row of a list holds.
 
-ghost use Rattle.std.specs.Prelude.{◌≡◌, [], IfOk, ◌++◌};
+ghost use Rattle.std.specs.Prelude.{◌≡◌, ◌↔◌, ℕ, ℤ, List, [], ◌++◌, All, Any, IfOk, IfSome, IsNone, MatchOption};
+ghost use Rattle.isl_piece.specs.Normal.{Never, normal_row, normal_system, IsNormal};
+ghost use Rattle.isl_piece.specs.Row.{IsRowUpTo};
+ghost use Rattle.isl_piece.specs.System.{HoldsSystem, IsSystemWithin};
 
 use crate::Rows;
+use isl_meter::Meter;
 use std::alloc::{AllocError, Global};
 
 /// The points with `columns` coordinates at which each row holds.
@@ -41,4 +45,30 @@ pub fn meet(alloc: Global, a: &System, b: &System) -> Result<System, AllocError>
     let mut system = a.copy(alloc)?;
     system.rows.append(alloc, &b.rows)?;
     Ok(system)
+}
+
+/// The system with its normal rows: each row divided as far as it goes, rows that hold everywhere left out, and each bound
+/// once, with the least constant, in the place of the first. `None` where one of the rows holds nowhere. The rows are made
+/// normal where they lie, so that no memory is taken.
+pub fn normalise(
+    _alloc: Global,
+    mut system: System,
+    meter: &mut Meter,
+) -> Result<Option<System>, AllocError>
+    requires { IsSystemWithin meter.old system }
+    ensures exact { IfOk result (λ normal. normal ≡ normal_system system) }
+    ensures none { IfOk result (λ normal. IsNone normal ↔ Any (λ r. normal_row r ≡ Never) system.rows) }
+    ensures points { IfOk result (λ normal. (point : List ℤ) → MatchOption normal
+        (¬ HoldsSystem system point) (λ kept. HoldsSystem kept point ↔ HoldsSystem system point)) }
+    ensures normal { IfOk result (λ normal. IfSome normal (λ kept. IsNormal kept.rows)) }
+    ensures within { IfOk result (λ normal. IfSome normal (IsSystemWithin meter.old)) }
+    ensures magnitudes { (b : ℕ) → All (IsRowUpTo b) system.rows
+        → IfOk result (λ normal. IfSome normal (λ kept. All (IsRowUpTo b) kept.rows)) }
+    ensures meter { meter.new ≡ meter.old }
+{
+    if system.rows.normalise(meter) {
+        Ok(Some(system))
+    } else {
+        Ok(None)
+    }
 }

@@ -10,6 +10,6 @@ mod numbers;
 mod reduction;
 
 pub use coefficients::Coefs;
-pub use conjunction::{System, meet};
+pub use conjunction::{System, meet, normalise};
 pub use constraint::{Row, RowKind};
 pub use list::Rows;

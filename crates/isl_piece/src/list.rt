@@ -1,8 +1,10 @@
 //! Lists of rows.
 
-ghost use Rattle.std.specs.Prelude.{◌≡◌, ◌↔◌, ◌<◌, [], ◌∷◌, ◌++◌, length, IsTrue, IfOk, IfErr, OnOk, slice_index_or};
+ghost use Rattle.std.specs.Prelude.{false, All, ◌≡◌, ◌↔◌, ◌<◌, [], ◌∷◌, ◌++◌, length, IsTrue, IfOk, IfErr, OnOk, slice_index_or};
 
 use crate::Row;
+use crate::normal::normalise_rows;
+use isl_meter::Meter;
 use std::alloc::{AllocError, AllocFailed, Global};
 use std::marker::Model;
 
@@ -83,5 +85,24 @@ impl Rows {
         let mut rows = Rows::new(alloc);
         rows.append(alloc, self)?;
         Ok(rows)
+    }
+}
+
+impl Rows {
+    ghost use Rattle.isl_piece.specs.Row.{HasDivisor, IsRowWithin};
+    ghost use Rattle.isl_piece.specs.Normal.{normal_rows};
+
+    /// Makes the rows normal; false where one of them holds at no point.
+    pub(crate) fn normalise(&mut self, meter: &Meter) -> bool
+        requires divisors { All (λ r. HasDivisor r.kind r.k) self.old }
+        requires within { All (IsRowWithin meter.now) self.old }
+        ensures kept { IsTrue result → normal_rows self.old ≡ Some self.new }
+        ensures none { result ≡ false → normal_rows self.old ≡ None }
+    {
+        if let Some(kept) = normalise_rows(self.items.as_mut_slice(), meter) {
+            self.items.truncate(kept);
+            return true;
+        }
+        false
     }
 }
