@@ -11,3 +11,4 @@ pub mod NumberSteps
 pub mod NormalSteps
 pub mod PlaceLaws
 pub mod SystemLaws
+pub mod NegationLaws
