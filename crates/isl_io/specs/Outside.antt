@@ -1,8 +1,8 @@
 -- What is seen of the sources and sinks of this crate. A source or a sink over memory is seen whole.
 use Rattle.std.specs.Prelude.{ℕ, ◌-◌, List, length}
 
--- the bytes that a source in memory has left, the most that it gives at once, the numbers of the calls that fail,
--- how many calls there were, and how many of them failed
+-- the bytes that a source in memory has left, the most that it gives at once, the numbers of the calls that
+-- fail, how many calls there were, and how many of them failed
 pub record Feed : Type 0 where
   pub left : List ℕ
   pub most : ℕ
@@ -10,8 +10,8 @@ pub record Feed : Type 0 where
   pub calls : ℕ
   pub faults : ℕ
 
--- the bytes that were written to a sink in memory, how many it has room for in all, the most that it takes at once,
--- the numbers of the calls that fail, how many calls there were, and how many of them failed
+-- the bytes that were written to a sink in memory, how many it has room for in all, the most that it takes at
+-- once, the numbers of the calls that fail, how many calls there were, and how many of them failed
 pub record Store : Type 0 where
   pub written : List ℕ
   pub room : ℕ

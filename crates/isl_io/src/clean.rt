@@ -45,7 +45,8 @@ impl Source for CleanSource {
     fn read(&mut self, buf: &mut [u8]) -> Result<usize, Failed>
         requires { 0 < length buf.old }
         ensures bytes { ReadConsumes (Some self.old.left) (Some self.new.left) result buf.new }
-        ensures count { result ≡ Ok (min self.old.most (min (length buf.old) (length self.old.left))) }
+        ensures count { result
+            ≡ Ok (min self.old.most (min (length buf.old) (length self.old.left))) }
         ensures given { IfOk result (λ n. buf.new ≡ take n self.old.left ++ drop n buf.old) }
         ensures taken { IfOk result (λ n. self.new ≡ record self.old { left = drop n self.old.left }) }
     {

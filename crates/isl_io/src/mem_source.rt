@@ -23,7 +23,13 @@ impl Model for MemSource {
 
     ghost Value = { Feed };
 
-    ghost view = { λ s. record { left = s.left; most = s.most; fails = s.fails.items; calls = s.calls; faults = s.faults } };
+    ghost view = { λ s. record {
+      left = s.left;
+      most = s.most;
+      fails = s.fails.items;
+      calls = s.calls;
+      faults = s.faults;
+    } };
 
     ghost invariant = { λ s. 0 < s.most };
 }
@@ -33,7 +39,13 @@ impl MemSource {
     /// numbers are in `fails` fail; the number stands still at its last value.
     pub fn new(bytes: Vec<u8>, most: usize, fails: Vec<u64>) -> MemSource
         requires { 0 < most }
-        ensures { result ≡ record { left = bytes.items; most = most; fails = fails.items; calls = 0; faults = 0 } }
+        ensures { result ≡ record {
+          left = bytes.items;
+          most = most;
+          fails = fails.items;
+          calls = 0;
+          faults = 0;
+        } }
     {
         MemSource {
             left: Unread::new(bytes),
@@ -57,10 +69,13 @@ impl Source for MemSource {
 
         // The listed calls fail and no others.
         ensures fails { IsErr result ↔ Contains self.old.fails self.old.calls }
-        ensures count { IfOk result (λ n. n ≡ min self.old.most (min (length buf.old) (length self.old.left))) }
+        ensures count { IfOk result (λ n. n
+            ≡ min self.old.most (min (length buf.old) (length self.old.left))) }
         ensures given { IfOk result (λ n. buf.new ≡ take n self.old.left ++ drop n buf.old) }
-        ensures taken { IfOk result (λ n. self.new ≡ record self.old { left = drop n self.old.left; calls = risen self.old.calls }) }
-        ensures failed { OnErr result (self.new ≡ record self.old { calls = risen self.old.calls; faults = risen self.old.faults }) }
+        ensures taken { IfOk result (λ n. self.new
+            ≡ record self.old { left = drop n self.old.left; calls = risen self.old.calls }) }
+        ensures failed { OnErr result (self.new
+            ≡ record self.old { calls = risen self.old.calls; faults = risen self.old.faults }) }
         ensures untouched { OnErr result (buf.new ≡ buf.old) }
     {
         let call = self.calls;

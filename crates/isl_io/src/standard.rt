@@ -40,7 +40,9 @@ impl<R: Read> Source for StdSource<R> {
         ensures fits { IfOk result (λ n. n ≤ length buf.new) }
         ensures passed_on { ReadConsumes (R.remaining self.old.inner) (R.remaining self.new.inner) result buf.new }
         ensures no_fewer_faults { self.old.faults ≤ self.new.faults }
-        ensures counted { MatchResult result (λ _. self.new.faults ≡ self.old.faults) (λ _. self.new.faults ≡ risen self.old.faults) }
+        ensures counted { MatchResult result
+            (λ _. self.new.faults ≡ self.old.faults)
+            (λ _. self.new.faults ≡ risen self.old.faults) }
     {
         match self.reader.read(buf) {
             Ok(n) => Ok(n),
@@ -84,10 +86,14 @@ impl<W: Write> Sink for StdSink<W> {
     fn write(&mut self, piece: &[u8]) -> Result<usize, Failed>
         requires { 0 < length piece.now }
         ensures fits { IfOk result (λ n. (0 < n) × (n ≤ length piece.now)) }
-        ensures passed_on { IfOk result (λ n. Appends (W.contents self.old.inner) (W.contents self.new.inner) (take n piece.now)) }
-        ensures passed_on_in_part { OnErr result ((n : ℕ) × Appends (W.contents self.old.inner) (W.contents self.new.inner) (take n piece.now)) }
+        ensures passed_on { IfOk result (λ n.
+            Appends (W.contents self.old.inner) (W.contents self.new.inner) (take n piece.now)) }
+        ensures passed_on_in_part { OnErr result ((n : ℕ)
+            × Appends (W.contents self.old.inner) (W.contents self.new.inner) (take n piece.now)) }
         ensures no_fewer_faults { self.old.faults ≤ self.new.faults }
-        ensures counted { MatchResult result (λ _. self.new.faults ≡ self.old.faults) (λ _. self.new.faults ≡ risen self.old.faults) }
+        ensures counted { MatchResult result
+            (λ _. self.new.faults ≡ self.old.faults)
+            (λ _. self.new.faults ≡ risen self.old.faults) }
     {
         let taken = match self.writer.write(piece) {
             Ok(n) => n,

@@ -47,8 +47,8 @@ fn sinks_take_pieces(rt: HostRuntime) -> Result<(), Fail> {
     Ok(())
 }
 
-// A stream that gives or takes a number of bytes at each call, or fails where there is none, and that may fail
-// to flush what it took.
+// A stream that gives or takes a number of bytes at each call, or fails where there is none, and that may
+// fail to flush what it took.
 #[derive(Drop)]
 struct Stream {
     moves: Option<usize>,

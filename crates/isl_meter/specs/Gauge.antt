@@ -1,10 +1,11 @@
 -- What a meter shows, and what calls with a meter do to it.
-use Rattle.std.specs.Prelude.{◌≡◌, ℕ, ◌+◌, ◌-◌, ◌^◌, ◌<◌, ◌≤◌, ℤ, pos, unsigned_abs, Result, MatchResult}
+use Rattle.std.specs.Prelude.{◌≡◌, ℕ, ◌-◌, ◌^◌, ◌<◌, ◌≤◌, ℤ, pos, unsigned_abs, Result, MatchResult}
 use Rattle.isl_math.specs.Count.{risen, Rose}
 use Rattle.isl_meter.specs.declared.Cut.{Cut}
 use Rattle.isl_meter.specs.declared.Cut.TheVariants.{Overflow, Budget, NoMemory}
 
--- the limit's number of bits; the budget, and the units that are used of it; how often a number passed the limit, and how often a unit was refused
+-- the number of bits of the limit; the budget of units, and how many are used of it, as isl's bound
+-- on operations counts them; how often a number passed the limit; how often a unit was refused
 pub record Gauge : Type 0 where
   pub bits : ℕ
   pub budget : ℕ
@@ -30,7 +31,8 @@ overflown g = record g { overflows = risen g.overflows }
 abbrev pub spent_out : Gauge → Gauge
 spent_out g = record g { spents = risen g.spents }
 
--- r is the exact value z where that is within the limit, and the meter is as it was; else r is an error, which is counted
+-- r is the exact value z where that is within the limit, and the meter is as it was;
+-- else r is an error, which is counted
 abbrev pub IsMeasured : {E : Type 0} → Gauge → Gauge → ℤ → Result ℤ E → Type 0
 IsMeasured old new z r = MatchResult r (λ v. (v ≡ z) × IsWithin old v × (new ≡ old)) (λ _. ¬ IsWithin old z × (new ≡ overflown old))
 
@@ -48,7 +50,8 @@ pub record IsCharged (old new : Gauge) : Type 0 where
   pub same : new ≡ record old { units = new.units }
   pub units : old.units ≤ new.units
 
--- why work was cut: a number passed the limit, and that was counted; the units reached the budget, and a refusal was counted; want of memory leaves no mark
+-- why work was cut: a number passed the limit; or the units reached the budget, and one more was
+-- refused; want of memory leaves no mark on a meter
 abbrev pub HasCause : Gauge → Gauge → Cut → Type 0
 HasCause old new Overflow = Rose old.overflows new.overflows
 HasCause old new Budget = (new.budget ≤ new.units) × Rose old.spents new.spents

@@ -8,7 +8,7 @@ ghost use Rattle.isl_math.specs.Divide.{floor_div, floor_mod, IsFloor, IsGcdOf, 
 use crate::{Meter, Overflow};
 use std::marker::Model;
 
-/// An integer of 128 bits.
+/// An integer of 128 bits, which clauses see as a mathematical one.
 #[derive(Clone, Copy, Debug, PartialEq, Eq, PartialOrd, Ord, Hash, Default)]
 pub struct Int {
     value: i128,

@@ -1,4 +1,4 @@
-use Rattle.std.proofs.Common.{arith, to_z-of_z, FitsSigned}
+use Rattle.std.proofs.Common.{to_z-of_z, FitsSigned}
 use Rattle.std.specs.Int.{w128}
 use Rattle.isl_math.proofs.DivideLaws.{IsFloor-from_floor_div}
 use Rattle.isl_meter.proofs.Meter.floor_div.Goals as goal

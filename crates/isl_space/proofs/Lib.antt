@@ -1,0 +1,5 @@
+pub mod FormLaws
+pub mod NameLaws
+pub mod NamesLaws
+pub mod PlacesLaws
+pub mod ValuationLaws

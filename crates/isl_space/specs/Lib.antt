@@ -1,0 +1,10 @@
+pub mod Limits
+pub mod Name
+pub mod Names
+pub mod Form
+pub mod SpaceForm
+pub mod FormCode
+pub mod Valuation
+pub mod Element
+pub mod Shape
+pub mod Space
