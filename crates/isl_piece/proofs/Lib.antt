@@ -12,3 +12,4 @@ pub mod NormalSteps
 pub mod PlaceLaws
 pub mod SystemLaws
 pub mod NegationLaws
+pub mod WitnessLaws

@@ -13,6 +13,7 @@ use Rattle.isl_piece.specs.Normal.{normal_row, kept_rows, same_kind, same_bound,
 use Rattle.isl_piece.proofs.PointLaws.{HoldsVerdict, normal_row_holds}
 use Rattle.isl_piece.proofs.ShapeLaws.{IfKept, IfKept-weaker, normal_row_well_formed, normal_row_up_to}
 use Rattle.isl_piece.proofs.SettledLaws.{normal_row_settled}
+use Rattle.isl_piece.proofs.WitnessLaws.{IsContingent-settled}
 use Rattle.isl_piece.proofs.MergeLaws.{SameBound, same_bound-from, with_row_all, fold_all, fold_holds, fold_apart, merged_itself, AreApart}
 
 -- ---- the rows that verdicts keep
@@ -123,6 +124,7 @@ undominated a b p q f s t e =
 pub IsNormal-from : (rows : List Row) → All (λ r. normal_row r ≡ Kept r) rows → All (λ r. HasDivisor r.kind r.k) rows → AreApart rows → IsNormal rows
 IsNormal-from rows s d h = record {
   settled = s;
+  contingent = λ k e l. IsContingent-settled (get_or rows k e) (d k e l) (s k e l);
   distinct = at_pairs (λ a b. a ≢ b) differ rows h;
   undominated = at_pairs_with (λ r. HasDivisor r.kind r.k) (λ a b. a.kind ≡ AtLeast → b.kind ≡ AtLeast → a.coefs ≢ b.coefs) undominated rows d h;
   itself = ap (option_map merged) (kept_rows_itself rows s) ∙ ap Some (merged_itself rows h);

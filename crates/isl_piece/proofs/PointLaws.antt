@@ -113,7 +113,7 @@ turned : {P Q : Type 0} → P ↔ Q → Q ↔ P
 turned f = (f.1, f.0)
 
 -- the reduced form
-reduced_divides : (cs : List ℤ) (c k : ℤ) (xs : List ℤ) → pos 0 <ℤ k → divide.Divides k (dot (reduced k cs) xs +ℤ floor_mod c k) ↔ divide.Divides k (dot cs xs +ℤ c)
+pub reduced_divides : (cs : List ℤ) (c k : ℤ) (xs : List ℤ) → pos 0 <ℤ k → divide.Divides k (dot (reduced k cs) xs +ℤ floor_mod c k) ↔ divide.Divides k (dot cs xs +ℤ c)
 reduced_divides cs c k xs p = turned (congruent_divides k (dot cs xs +ℤ c) (dot (reduced k cs) xs +ℤ floor_mod c k) (IsCongruent-+ℤ k (dot cs xs) (dot (reduced k cs) xs) c (floor_mod c k) (dot-reduced k cs xs p) (IsCongruent-floor_mod k c p)))
 
 -- the opposite form

@@ -8,6 +8,7 @@ use Rattle.isl_piece.specs.declared.conjunction.System.{System}
 use Rattle.isl_piece.specs.Normal.{Verdict, Always, Never, Kept, normal_row, kept_rows, merged, normal_rows, normal_system, IsNormal}
 use Rattle.isl_piece.specs.Row.{HoldsRow, HasDivisor, IsWellFormed, IsRowWithin, IsRowUpTo}
 use Rattle.isl_piece.specs.System.{HoldsSystem, IsSystemWithin}
+use Rattle.isl_piece.proofs.WitnessLaws.{never_exactly}
 use Rattle.isl_piece.proofs.NormalLaws.{normal_rows_hold, normal_rows_normal, normal_rows_well_formed, normal_rows_up_to}
 
 divisors : (s : System) (g : Gauge) → IsSystemWithin g s → All (λ r. HasDivisor r.kind r.k) s.rows
@@ -98,13 +99,29 @@ kept_rows_none (r ∷ rows) = by (kept_rows_none rows) (normal_row r) refl
       (λ a. elim (never_cases r rows a) [ inl f ↦ absurd (let g = sym e ∙ f in cc) | inr m ↦ (ends (kept_rows (map normal_row rows)) s).1 (rest.1 m) ]),
     )
 
--- there are no normal rows exactly where one of the rows never holds
-pub normal_system_none : (s : System) → IsNone (normal_system s) ↔ HasNever s.rows
-normal_system_none s = by (kept_rows (map normal_row s.rows)) (kept_rows_none s.rows)
+-- one of the rows holds at no point
+abbrev pub HasImpossible : List Row → Type 0
+HasImpossible rows = Any (λ r. (xs : List ℤ) → ¬ HoldsRow r xs) rows
+
+impossible : (rows : List Row) → All (λ r. HasDivisor r.kind r.k) rows → HasNever rows ↔ HasImpossible rows
+impossible rows d = (
+  (λ a. (a.0, a.1, a.2, a.3, (never_exactly a.1 (divisor_of a.0 a.1 a.2 a.3)).0 a.4)),
+  (λ a. (a.0, a.1, a.2, a.3, (never_exactly a.1 (divisor_of a.0 a.1 a.2 a.3)).1 a.4)),
+)
+  where
+    divisor_of : (k : ℕ) (x : Row) → k < length rows → get_or rows k x ≡ x → HasDivisor x.kind x.k
+    divisor_of k x l is = rw is at (d k x l)
+
+no_normal_system : (s : System) → IsNone (normal_system s) ↔ HasNever s.rows
+no_normal_system s = by (kept_rows (map normal_row s.rows)) (kept_rows_none s.rows)
   where
     by : (o : Option (List Row)) → IsNone o ↔ HasNever s.rows → IsNone (option_map (λ rows. let t : System = record { columns = s.columns; rows = rows } in t) (option_map merged o)) ↔ HasNever s.rows
     by None h = h
     by (Some rows) h = h
+
+-- there are no normal rows exactly where one of the rows holds at no point
+pub normal_system_none : (s : System) (g : Gauge) → IsSystemWithin g s → IsNone (normal_system s) ↔ HasImpossible s.rows
+normal_system_none s g h = let f = no_normal_system s in let i = impossible s.rows (divisors s g h) in ((λ n. i.0 (f.0 n)), (λ a. f.1 (i.1 a)))
 
 -- ---- what was found
 pub normal_system-Some : (s : System) (rows : List Row) → normal_rows s.rows ≡ Some rows → normal_system s ≡ Some (record { columns = s.columns; rows = rows })
@@ -115,8 +132,8 @@ normal_system-None s e = ap (option_map (λ xs. let t : System = record { column
 
 module _ (s : System) (g : Gauge) (h : IsSystemWithin g s) where
   module _ (kept : System) (e : normal_system s ≡ Some kept) where
-    pub found_none : IsNone (Some kept) ↔ HasNever s.rows
-    found_none = subst (λ (o : Option System). IsNone o ↔ HasNever s.rows) e (normal_system_none s)
+    pub found_none : IsNone (Some kept) ↔ HasImpossible s.rows
+    found_none = subst (λ (o : Option System). IsNone o ↔ HasImpossible s.rows) e (normal_system_none s g h)
 
     pub found_points : (xs : List ℤ) → HoldsSystem kept xs ↔ HoldsSystem s xs
     found_points xs = subst (λ (o : Option System). MatchOption o (¬ HoldsSystem s xs) (λ t. HoldsSystem t xs ↔ HoldsSystem s xs)) e (normal_system_points s g h xs)
@@ -131,8 +148,8 @@ module _ (s : System) (g : Gauge) (h : IsSystemWithin g s) where
     found_up_to b u = subst (λ (o : Option System). IfSome o (λ t. All (IsRowUpTo b) t.rows)) e (normal_system_up_to s g b h u)
 
   module _ (e : normal_system s ≡ None) where
-    pub missing_none : (let o : Option System = None in IsNone o) ↔ HasNever s.rows
-    missing_none = subst (λ (o : Option System). IsNone o ↔ HasNever s.rows) e (normal_system_none s)
+    pub missing_none : (let o : Option System = None in IsNone o) ↔ HasImpossible s.rows
+    missing_none = subst (λ (o : Option System). IsNone o ↔ HasImpossible s.rows) e (normal_system_none s g h)
 
     pub missing_points : (xs : List ℤ) → ¬ HoldsSystem s xs
     missing_points xs = subst (λ (o : Option System). MatchOption o (¬ HoldsSystem s xs) (λ t. HoldsSystem t xs ↔ HoldsSystem s xs)) e (normal_system_points s g h xs)

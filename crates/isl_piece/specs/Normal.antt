@@ -7,6 +7,7 @@ use Rattle.isl_math.specs.Divide.{floor_div, floor_mod}
 use Rattle.isl_math.specs.Dot.{scaled}
 use Rattle.isl_math.specs.Gcd.{content}
 use Rattle.isl_math.specs.Order.{sign_of}
+use Rattle.isl_piece.specs.Row.{IsContingent}
 use Rattle.isl_piece.specs.Numbers.{divided, reduced, opposite, lead, is_multiple}
 use Rattle.isl_piece.specs.declared.constraint.RowKind.{RowKind}
 use Rattle.isl_piece.specs.declared.constraint.RowKind.TheVariants.{Zero, AtLeast, Divides, NotDivides}
@@ -127,9 +128,11 @@ abbrev pub normal_system : System → Option System
 normal_system s = option_map (λ rows. record { columns = s.columns; rows = rows }) (normal_rows s.rows)
 
 -- ---- what normal rows are
--- each row is its own normal row; no two are equal, and no two bound the same form from below; so the rows are their own normal rows
+-- each row is its own normal row, and holds at some point, but not at all; no two are equal, and no two bound the same form
+-- from below; so the rows are their own normal rows
 pub record IsNormal (rows : List Row) : Type 0 where
   pub settled : All (λ r. normal_row r ≡ Kept r) rows
+  pub contingent : All IsContingent rows
   pub distinct : AllPairs (λ a b. a ≢ b) rows
   pub undominated : AllPairs (λ a b. a.kind ≡ AtLeast → b.kind ≡ AtLeast → a.coefs ≢ b.coefs) rows
   pub itself : normal_rows rows ≡ Some rows

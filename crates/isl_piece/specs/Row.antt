@@ -22,6 +22,11 @@ value_at r xs = dot r.coefs xs +ℤ r.constant
 abbrev pub HoldsRow : Row → List ℤ → Type 0
 HoldsRow r xs = HoldsValue r.kind r.k (value_at r xs)
 
+-- the row holds at some point, and fails at some
+pub record IsContingent (r : Row) : Type 0 where
+  pub possible : ¬ ((xs : List ℤ) → ¬ HoldsRow r xs)
+  pub refutable : ¬ ((xs : List ℤ) → HoldsRow r xs)
+
 -- the divisor of each kind: 1 where none is asked for
 abbrev pub HasDivisor : RowKind → ℤ → Type 0
 HasDivisor Zero k = k ≡ pos 1

@@ -1,8 +1,8 @@
 //! Systems: the points at which each row of a list holds.
 
 ghost use Rattle.std.specs.Prelude.{◌≡◌, ◌↔◌, ℕ, ℤ, List, [], ◌++◌, All, Any, IfOk, IfSome, IsNone, MatchOption};
-ghost use Rattle.isl_piece.specs.Normal.{Never, normal_row, normal_system, IsNormal};
-ghost use Rattle.isl_piece.specs.Row.{IsRowUpTo};
+ghost use Rattle.isl_piece.specs.Normal.{normal_system, IsNormal};
+ghost use Rattle.isl_piece.specs.Row.{HoldsRow, IsRowUpTo};
 ghost use Rattle.isl_piece.specs.System.{HoldsSystem, IsSystemWithin};
 
 use crate::Rows;
@@ -57,7 +57,7 @@ pub fn normalise(
 ) -> Result<Option<System>, AllocError>
     requires { IsSystemWithin meter.old system }
     ensures exact { IfOk result (λ normal. normal ≡ normal_system system) }
-    ensures none { IfOk result (λ normal. IsNone normal ↔ Any (λ r. normal_row r ≡ Never) system.rows) }
+    ensures none { IfOk result (λ normal. IsNone normal ↔ Any (λ r. (point : List ℤ) → ¬ HoldsRow r point) system.rows) }
     ensures points { IfOk result (λ normal. (point : List ℤ) → MatchOption normal
         (¬ HoldsSystem system point) (λ kept. HoldsSystem kept point ↔ HoldsSystem system point)) }
     ensures normal { IfOk result (λ normal. IfSome normal (λ kept. IsNormal kept.rows)) }
