@@ -1,5 +1,6 @@
 pub mod CountLaws
 pub mod DivideLaws
 pub mod DotLaws
+pub mod GcdLaws
 pub mod OrderLaws
 pub mod Ring

@@ -1,4 +1,5 @@
 pub mod Count
 pub mod Divide
 pub mod Dot
+pub mod Gcd
 pub mod Order

@@ -1,0 +1,15 @@
+pub mod ContentLaws
+pub mod NormalCases
+pub mod NumberLaws
+pub mod PointLaws
+pub mod RowLemmas
+pub mod ShapeLaws
+pub mod SettledLaws
+pub mod MergeLaws
+pub mod NormalLaws
+pub mod NumberSteps
+pub mod NormalSteps
+pub mod PlaceLaws
+pub mod SystemLaws
+pub mod NegationLaws
+pub mod WitnessLaws

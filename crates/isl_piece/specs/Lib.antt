@@ -1,0 +1,6 @@
+pub mod Negation
+pub mod Normal
+pub mod Numbers
+pub mod Outcome
+pub mod Row
+pub mod System
