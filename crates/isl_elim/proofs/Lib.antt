@@ -1,2 +1,3 @@
 pub mod Congruence
 pub mod Equality
+pub mod Shadow
