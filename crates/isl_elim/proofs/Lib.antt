@@ -1,3 +1,5 @@
 pub mod Congruence
 pub mod Equality
+pub mod Lists
+pub mod Neighbour
 pub mod Shadow

@@ -6,6 +6,7 @@ use Rattle.std.proofs.lemmas.List.Elements.{All-nil, All-cons, All-head, All-tai
 use Rattle.isl_math.specs.Divide.{floor_div}
 use Rattle.isl_math.proofs.Ring.{expand, linear}
 use Rattle.isl_math.proofs.OrderLaws.{*ℤ-≤ℤ, <ℤ-from_*ℤ, ≤ℤ-from_*ℤ, cases_ℤ, at_most_or_above, not_negative-*ℤ}
+use Rattle.isl_elim.proofs.Lists.{Contains-later}
 use Rattle.isl_math.proofs.DivideLaws.{at_most_floor, floor_split, floor_mod_bounds}
 
 -- a bound on x at a point of the other columns: `rest` is the value of what stands beside x
@@ -102,9 +103,6 @@ lower_holds_on x y l p h m = let t = *ℤ-≤ℤ l.factor x y (omega (arith, lin
 -- where y is not above x, it meets an upper bound that x meets
 pub upper_holds_on : (x y : ℤ) (u : Bound) → IsProper u → y ≤ℤ x → MeetsUpper x u → MeetsUpper y u
 upper_holds_on x y u p h m = let t = *ℤ-≤ℤ u.factor y x (omega (arith, linear)) h in omega (arith, linear)
-
-Contains-later : {X : Type 0} (y : X) (xs : List X) (x : X) → Contains xs x → Contains (y ∷ xs) x
-Contains-later y xs x c = (suc c.0, (let h = c.1 in omega arith), c.2)
 
 -- x is the least that meets all the lower bounds, and no lesser number meets `bound`, which is one of them
 pub record LowerEnd (lowers : List Bound) : Type 0 where
