@@ -3,3 +3,4 @@ pub mod Equality
 pub mod Lists
 pub mod Neighbour
 pub mod Shadow
+pub mod Splinters
