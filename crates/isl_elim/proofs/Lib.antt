@@ -1,3 +1,4 @@
+pub mod ColumnLemmas
 pub mod CombineLemmas
 pub mod Congruence
 pub mod Equality
