@@ -9,11 +9,11 @@ use Rattle.isl_math.specs.Dot.{dot}
 use Rattle.isl_math.proofs.Ring.{expand, linear}
 use Rattle.isl_math.proofs.ColumnLaws.{dot-insert}
 use Rattle.isl_math.proofs.DivideLaws.{Divides-minus, Divides-+ℤ, Divides-*ℤ, Divides-same}
-use Rattle.isl_piece.specs.declared.RowKind.{RowKind}
-use Rattle.isl_piece.specs.declared.RowKind.TheVariants.{Zero, AtLeast, Divides, NotDivides}
-use Rattle.isl_piece.specs.declared.Row.{Row}
-use Rattle.isl_piece.specs.declared.System.{System}
-use Rattle.isl_piece.specs.System.{HoldsAt, IsSystemWithin}
+use Rattle.isl_piece.specs.declared.constraint.RowKind.{RowKind}
+use Rattle.isl_piece.specs.declared.constraint.RowKind.TheVariants.{Zero, AtLeast, Divides, NotDivides}
+use Rattle.isl_piece.specs.declared.constraint.Row.{Row}
+use Rattle.isl_piece.specs.declared.conjunction.System.{System}
+use Rattle.isl_piece.specs.System.{HoldsSystem, IsSystemWithin}
 use Rattle.isl_piece.specs.Row.{HoldsValue, HoldsRow, value_at, coef_at, IsWellFormed, IsRowWithin}
 use Rattle.isl_meter.specs.Gauge.{Gauge, IsWithin}
 use Rattle.isl_elim.specs.Column.{rest_at, IsFreeKind, IsFree, HoldAt, dropped, IsSystemOf}
@@ -120,7 +120,7 @@ pub short_within : (g : Gauge) (columns col : ℕ) (rows short : List Row) → c
 short_within g columns col rows short h w i e = let d = rows_dropped g columns col rows h w i in rw e (record { rows = d.0; within = d.1 })
 
 pub settled_is : (g : Gauge) (columns col : ℕ) (rows short : List Row) (o : Option System) → col < columns → All (IsWellFormed columns) rows → All (IsFree col) rows → short ≡ map (λ r. dropped r col) rows
-    → MatchOption o ((xs : List ℤ) → ¬ HoldsAt (system_of (columns - 1) short) xs) (λ s. (s.columns ≡ columns - 1) × IsSystemWithin g s × ((xs : List ℤ) → HoldsAt s xs ↔ HoldsAt (system_of (columns - 1) short) xs))
+    → MatchOption o ((xs : List ℤ) → ¬ HoldsSystem (system_of (columns - 1) short) xs) (λ s. (s.columns ≡ columns - 1) × IsSystemWithin g s × ((xs : List ℤ) → HoldsSystem s xs ↔ HoldsSystem (system_of (columns - 1) short) xs))
     → IsSystemOf g (columns - 1) (λ point. HoldAt rows col point (pos 0)) o
 settled_is g columns col rows short None h w f e m = λ point n a. m point (rw e ((hold_dropped columns col rows point (pos 0) h n w f).1 a))
 settled_is g columns col rows short (Some s) h w f e m = (

@@ -1,10 +1,6 @@
 -- What a combination of rows says.
-use Rattle.std.proofs.Common.{to_z-of_z}
 use Rattle.std.proofs.lemmas.List.Elements.{All-push}
 use Rattle.isl_math.proofs.ColumnLaws.{weighted_sum-take_more}
 
 -- what the loop over the coefficients wants
 pub ruleset weighted_steps = (weighted_sum-take_more, All-push)
-
--- numbers that went through an `i128`
-pub ruleset casts = (to_z-of_z)

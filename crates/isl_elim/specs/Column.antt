@@ -4,12 +4,12 @@ use Rattle.std.specs.List.{insert, remove}
 use Rattle.isl_math.specs.Divide as divide
 use Rattle.isl_math.specs.Dot.{dot}
 use Rattle.isl_meter.specs.Gauge.{Gauge}
-use Rattle.isl_piece.specs.declared.RowKind.{RowKind}
-use Rattle.isl_piece.specs.declared.RowKind.TheVariants.{Zero, AtLeast, Divides, NotDivides}
-use Rattle.isl_piece.specs.declared.Row.{Row}
-use Rattle.isl_piece.specs.declared.System.{System}
+use Rattle.isl_piece.specs.declared.constraint.RowKind.{RowKind}
+use Rattle.isl_piece.specs.declared.constraint.RowKind.TheVariants.{Zero, AtLeast, Divides, NotDivides}
+use Rattle.isl_piece.specs.declared.constraint.Row.{Row}
+use Rattle.isl_piece.specs.declared.conjunction.System.{System}
 use Rattle.isl_piece.specs.Row.{HoldsRow, coef_at}
-use Rattle.isl_piece.specs.System.{HoldsAt, IsSystemWithin}
+use Rattle.isl_piece.specs.System.{HoldsSystem, IsSystemWithin}
 
 -- what stands beside the column: the row's value at a point of the other columns, without the column's part
 abbrev pub rest_at : Row → ℕ → List ℤ → ℤ
@@ -39,4 +39,4 @@ abbrev pub IsSystemOf : Gauge → ℕ → (List ℤ → Type 0) → Option Syste
 IsSystemOf g columns P answer =
     MatchOption answer
     ((point : List ℤ) → length point ≡ columns → ¬ P point)
-    (λ s. (s.columns ≡ columns) × IsSystemWithin g s × ((point : List ℤ) → length point ≡ columns → HoldsAt s point ↔ P point))
+    (λ s. (s.columns ≡ columns) × IsSystemWithin g s × ((point : List ℤ) → length point ≡ columns → HoldsSystem s point ↔ P point))

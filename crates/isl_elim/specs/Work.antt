@@ -1,7 +1,6 @@
 -- How many units a call used.
 use Rattle.std.specs.Prelude.{ℕ, ◌+◌, ◌≤◌}
-use Rattle.isl_meter.specs.Gauge.{Gauge}
-use Rattle.isl_meter.specs.Cut.{IsCharged, IsCutBy}
+use Rattle.isl_meter.specs.Gauge.{Gauge, IsCharged, IsCutBy}
 use Rattle.isl_meter.specs.declared.Cut.{Cut}
 
 -- only units were used, at most n

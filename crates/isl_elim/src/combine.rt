@@ -7,7 +7,6 @@ ghost use Rattle.isl_piece.specs.Row.{IsRowWithin};
 ghost use Rattle.isl_elim.specs.Work.{IsCutUpTo};
 ghost use Rattle.isl_elim.specs.Combine.{combination, scaled_divisor};
 
-use crate::rows::{constant, divisor, row_of};
 use isl_meter::{Cut, Int, Meter, Overflow};
 use isl_piece::{Coefs, Row, RowKind};
 use std::alloc::Global;
@@ -49,8 +48,8 @@ fn divisor_of(row: &Row, m: Int, meter: &mut Meter) -> Result<Int, Overflow>
         (λ _. IsCutUpTo 0 meter.old meter.new Cut.Overflow) }
 {
     match row.kind {
-        RowKind::Zero | RowKind::AtLeast => Ok(divisor(row)),
-        RowKind::Divides | RowKind::NotDivides => m.mul(divisor(row), meter),
+        RowKind::Zero | RowKind::AtLeast => Ok(row.modulus()),
+        RowKind::Divides | RowKind::NotDivides => m.mul(row.modulus(), meter),
     }
 }
 
@@ -73,9 +72,9 @@ pub(crate) fn combined(
         (λ cut. IsCutUpTo 0 meter.old meter.new cut) }
 {
     let coefs = weighted(alloc, m, row.coefs.as_slice(), n, other.coefs.as_slice(), meter)?;
-    let x = m.mul(constant(row), meter)?;
-    let y = n.mul(constant(other), meter)?;
+    let x = m.mul(row.offset(), meter)?;
+    let y = n.mul(other.offset(), meter)?;
     let sum = x.add(y, meter)?;
     let k = divisor_of(row, m, meter)?;
-    Ok(row_of(row.kind, coefs, sum, k))
+    Ok(Row::new(row.kind, coefs, sum, k))
 }

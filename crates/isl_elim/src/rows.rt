@@ -1,4 +1,4 @@
-// Rows, with their numbers as `Int`.
+// Rows without a column.
 
 ghost use Rattle.std.specs.Prelude.{◌≡◌, ◌-◌, ◌<◌, pos, length, All, IfOk, OnErr, MatchResult, map};
 ghost use Rattle.std.specs.List.{remove};
@@ -7,27 +7,8 @@ ghost use Rattle.isl_elim.specs.Work.{IsCutUpTo};
 ghost use Rattle.isl_elim.specs.Column.{dropped, IsFree, IsSystemOf, HoldAt};
 
 use isl_meter::{Cut, Int, Meter};
-use isl_piece::{Coefs, Row, RowKind, Rows, System};
+use isl_piece::{Coefs, Row, Rows, System};
 use std::alloc::{AllocError, AllocFailed, Global};
-
-pub(crate) fn constant(row: &Row) -> Int
-    ensures { result ≡ row.now.constant }
-{
-    Int::new(row.constant)
-}
-
-pub(crate) fn divisor(row: &Row) -> Int
-    ensures { result ≡ row.now.k }
-{
-    Int::new(row.k)
-}
-
-#[tactic(auto, using(std::proofs::lemmas::Grind::common_steps, crate::proofs::CombineLemmas::casts))]
-pub(crate) fn row_of(kind: RowKind, coefs: Coefs, constant: Int, k: Int) -> Row
-    ensures { result ≡ record { kind = kind; coefs = coefs; constant = constant; k = k } }
-{
-    Row { kind, coefs, constant: constant.get(), k: k.get() }
-}
 
 // The numbers but for the one at `col`.
 #[tactic(auto, using(std::proofs::lemmas::Grind::common_steps, crate::proofs::ColumnLemmas::removals))]
