@@ -1,10 +1,10 @@
 pub mod ColumnLemmas
 pub mod CombineLemmas
-pub mod Congruence
-pub mod Equality
+pub mod CongruenceLemmas
+pub mod EqualityLemmas
 pub mod Lists
 pub mod Magnitudes
-pub mod Neighbour
+pub mod NeighbourLemmas
 pub mod Pairs
-pub mod Shadow
+pub mod ShadowLemmas
 pub mod Splinters

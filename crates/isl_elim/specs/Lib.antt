@@ -1,3 +1,4 @@
 pub mod Column
 pub mod Combine
+pub mod Equality
 pub mod Work

@@ -3,4 +3,5 @@
 #![tactic(auto)]
 
 mod combine;
+mod equality;
 mod rows;
