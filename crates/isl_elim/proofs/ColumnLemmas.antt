@@ -128,3 +128,7 @@ settled_is g columns col rows short (Some s) h w f e m = (
   m.1,
   (λ point n. ((λ a. (hold_dropped columns col rows point (pos 0) h n w f).0 (rw e at ((m.2 point).0 a))), (λ a. (m.2 point).1 (rw e ((hold_dropped columns col rows point (pos 0) h n w f).1 a))))),
 )
+
+-- rows that are free of the column hold at any x there or at none
+pub hold_anywhere : (columns col : ℕ) (rows : List Row) (point : List ℤ) (x y : ℤ) → col < columns → length point ≡ columns - 1 → All (IsWellFormed columns) rows → All (IsFree col) rows → HoldAt rows col point x → HoldAt rows col point y
+hold_anywhere columns col rows point x y h n w f a = λ i d l. free_anywhere (get_or rows i d) col point x y (let e = (w i d l).width in omega arith) (omega arith) (f i d l) (a i d l)

@@ -2,6 +2,7 @@ pub mod ColumnLemmas
 pub mod CombineLemmas
 pub mod CongruenceLemmas
 pub mod EqualityLemmas
+pub mod ImageLemmas
 pub mod Lists
 pub mod Magnitudes
 pub mod NeighbourLemmas

@@ -1,7 +1,7 @@
 -- All elements of a list, or some of them.
-use Rattle.std.proofs.Common.{◌≡◌, ◌⊎◌, inl, inr, ℕ, zero, suc, ◌<◌, refl, arith, List, [], ◌∷◌, length, get_or}
-use Rattle.std.specs.List.{All, Any, Contains}
-use Rattle.std.proofs.lemmas.List.Elements.{All-nil, All-cons}
+use Rattle.std.proofs.Common.{◌≡◌, ◌⊎◌, inl, inr, ℕ, zero, suc, ◌+◌, ◌<◌, refl, arith, List, [], ◌∷◌, ◌++◌, length, get_or, take}
+use Rattle.std.specs.List.{All, AllZip, Any, Contains}
+use Rattle.std.proofs.lemmas.List.Elements.{All-nil, All-cons, All-head, All-tail}
 
 pub Contains-later : {X : Type 0} (y : X) (xs : List X) (x : X) → Contains xs x → Contains (y ∷ xs) x
 Contains-later y xs x c = (suc c.0, (let h = c.1 in omega arith), c.2)
@@ -32,3 +32,38 @@ all_or_any P Q (x ∷ xs) h = elim (h 0 x (omega arith)) [
     | inr q ↦ inr (Any-later Q x xs q)
   ]
 ]
+
+-- ---- joined lists
+pub All-parts : {X : Type 0} (P : X → Type 0) (xs ys : List X) → All P (xs ++ ys) → All P xs × All P ys
+All-parts P [] ys h = (All-nil P, h)
+All-parts P (x ∷ xs) ys h = let rest = All-parts P xs ys (All-tail P x (xs ++ ys) h) in (All-cons P x xs (All-head P x (xs ++ ys) h) rest.0, rest.1)
+
+pub All-last : {X : Type 0} (P : X → Type 0) (xs : List X) (y : X) → All P (xs ++ y ∷ []) → All P xs × P y
+All-last P xs y h = let rest = All-parts P xs (y ∷ []) h in (rest.0, All-head P y [] rest.1)
+
+-- ---- two lists at once
+pub All-zipped : {A B : Type 0} (R : A → B → Type 0) (P : A → Type 0) (Q : B → Type 0) → ((a : A) (b : B) → R a b → P a → Q b) → (xs : List A) (ys : List B) → AllZip R xs ys → All P xs → All Q ys
+All-zipped R P Q f [] [] z h = All-nil Q
+All-zipped R P Q f [] (y ∷ ys) z h = absurd z
+All-zipped R P Q f (x ∷ xs) [] z h = absurd z
+All-zipped R P Q f (x ∷ xs) (y ∷ ys) z h = All-cons Q y ys (f x y z.0 (All-head P x xs h)) (All-zipped R P Q f xs ys z.1 (All-tail P x xs h))
+
+pub All-zipped_back : {A B : Type 0} (R : A → B → Type 0) (P : A → Type 0) (Q : B → Type 0) → ((a : A) (b : B) → R a b → Q b → P a) → (xs : List A) (ys : List B) → AllZip R xs ys → All Q ys → All P xs
+All-zipped_back R P Q f [] [] z h = All-nil P
+All-zipped_back R P Q f [] (y ∷ ys) z h = absurd z
+All-zipped_back R P Q f (x ∷ xs) [] z h = absurd z
+All-zipped_back R P Q f (x ∷ xs) (y ∷ ys) z h = All-cons P x xs (f x y z.0 (All-head Q y ys h)) (All-zipped_back R P Q f xs ys z.1 (All-tail Q y ys h))
+
+-- the relation with a fact of the first list beside it
+pub AllZip-with : {A B : Type 0} (R : A → B → Type 0) (P : A → Type 0) (xs : List A) (ys : List B) → AllZip R xs ys → All P xs → AllZip (λ a b. R a b × P a) xs ys
+AllZip-with R P [] [] z h = z
+AllZip-with R P [] (y ∷ ys) z h = absurd z
+AllZip-with R P (x ∷ xs) [] z h = absurd z
+AllZip-with R P (x ∷ xs) (y ∷ ys) z h = ((z.0, All-head P x xs h), AllZip-with R P xs ys z.1 (All-tail P x xs h))
+
+-- two lists that are zipped, each with one element more
+pub AllZip-more : {A B : Type 0} (R : A → B → Type 0) (xs : List A) (ys : List B) (x : A) (y : B) → AllZip R xs ys → R x y → AllZip R (xs ++ x ∷ []) (ys ++ y ∷ [])
+AllZip-more R [] [] x y z r = (r, z)
+AllZip-more R [] (b ∷ ys) x y z r = absurd z
+AllZip-more R (a ∷ xs) [] x y z r = absurd z
+AllZip-more R (a ∷ xs) (b ∷ ys) x y z r = (z.0, AllZip-more R xs ys x y z.1 r)

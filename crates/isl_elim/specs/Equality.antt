@@ -1,6 +1,8 @@
 -- Rows from which an equality takes a column out.
 use Rattle.std.specs.Prelude.{◌≡◌, ℕ, ◌≤◌, ℤ, pos, ◌+ℤ◌, ◌*ℤ◌, ◌<ℤ◌, List, unsigned_abs}
 use Rattle.std.specs.List.{insert}
+use Rattle.isl_math.specs.Order.{abs_of}
+use Rattle.isl_piece.specs.declared.constraint.RowKind.TheVariants.{Divides}
 use Rattle.isl_piece.specs.declared.constraint.Row.{Row}
 use Rattle.isl_piece.specs.Row.{value_at, coef_at}
 use Rattle.isl_elim.specs.Column.{HoldAt}
@@ -23,3 +25,7 @@ pub record IsImage (fixed : Row) (col : ℕ) (row image : Row) : Type 0 where
 -- some x at the column makes `fixed` 0 and all rows hold
 abbrev pub IsSolvedBy : List Row → Row → ℕ → List ℤ → Type 0
 IsSolvedBy rows fixed col point = (x : ℤ) × (value_at fixed (insert point col x) ≡ pos 0) × HoldAt rows col point x
+
+-- the row that says that some whole number at the column makes `fixed` 0: the coefficient divides what stands beside it
+abbrev pub solvable : Row → ℕ → Row
+solvable fixed col = record { kind = Divides; coefs = fixed.coefs; constant = fixed.constant; k = abs_of (coef_at fixed col) }
