@@ -8,4 +8,5 @@ pub mod Magnitudes
 pub mod NeighbourLemmas
 pub mod Pairs
 pub mod ShadowLemmas
+pub mod SideLemmas
 pub mod Splinters

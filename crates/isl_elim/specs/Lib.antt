@@ -1,4 +1,5 @@
 pub mod Column
 pub mod Combine
 pub mod Equality
+pub mod Sides
 pub mod Work

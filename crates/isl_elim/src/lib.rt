@@ -5,3 +5,4 @@
 mod combine;
 mod equality;
 mod rows;
+mod sides;
