@@ -1,10 +1,10 @@
 -- What the side of a row says of it.
-use Rattle.std.proofs.Common.{◌≡◌, ◌≢◌, refl, arith, zero, suc, ℤ, pos, negsuc, ◌<ℤ◌}
+use Rattle.std.proofs.Common.{◌≡◌, ◌≢◌, ◌↔◌, Bool, true, false, IsTrue, refl, arith, zero, suc, ℤ, pos, negsuc, ◌<ℤ◌}
 use Rattle.isl_math.proofs.Ring.{linear}
 use Rattle.isl_math.specs.Divide.{floor_mod}
 use Rattle.isl_piece.specs.declared.constraint.RowKind.{RowKind}
 use Rattle.isl_piece.specs.declared.constraint.RowKind.TheVariants as kind
-use Rattle.isl_elim.specs.Sides.{side_of_kind, by_sign, unless_multiple}
+use Rattle.isl_elim.specs.Sides.{side_of_kind, by_sign, unless_multiple, is_same}
 use Rattle.isl_elim.specs.declared.sides.Side.{Side}
 use Rattle.isl_elim.specs.declared.sides.Side.TheVariants.{Lower, Upper, Divides, Apart, Free}
 
@@ -33,3 +33,10 @@ unless_not_zero side (pos (suc z)) n = refl
 unless_not_zero side (negsuc z) n = refl
 
 pub ruleset multiple_cases = (unless_zero, unless_not_zero)
+
+pub same_true : (a : Side) → is_same a a ≡ true
+same_true Lower = refl
+same_true Upper = refl
+same_true Divides = refl
+same_true Apart = refl
+same_true Free = refl
