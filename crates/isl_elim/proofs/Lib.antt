@@ -7,6 +7,7 @@ pub mod Lists
 pub mod Magnitudes
 pub mod NeighbourLemmas
 pub mod Pairs
+pub mod ReduceLemmas
 pub mod ShadowLemmas
 pub mod SideLemmas
 pub mod Splinters

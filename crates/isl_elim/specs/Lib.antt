@@ -1,5 +1,6 @@
 pub mod Column
 pub mod Combine
+pub mod Congruence
 pub mod Equality
 pub mod Sides
 pub mod Work

@@ -3,6 +3,7 @@
 #![tactic(auto)]
 
 mod combine;
+mod congruence;
 mod equality;
 mod rows;
 mod sides;

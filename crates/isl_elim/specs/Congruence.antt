@@ -1,0 +1,15 @@
+-- Congruences on one column, made one.
+use Rattle.std.specs.Prelude.{◌≡◌, ◌↔◌, ℕ, ℤ, pos, ◌<ℤ◌, List, All}
+use Rattle.isl_math.specs.Divide.{floor_mod}
+use Rattle.isl_piece.specs.Numbers.{reduced}
+use Rattle.isl_piece.specs.declared.constraint.RowKind.TheVariants.{Divides}
+use Rattle.isl_piece.specs.declared.constraint.Row.{Row}
+use Rattle.isl_piece.specs.Row.{HoldsRow, coef_at}
+
+-- a congruence with each number's remainder by its divisor in the number's place
+abbrev pub reduced_row : Row → Row
+reduced_row r = record { kind = r.kind; coefs = reduced r.k r.coefs; constant = floor_mod r.constant r.k; k = r.k }
+
+-- two congruences hold together exactly where two others do
+abbrev pub SayTheSame : Row → Row → Row → Row → Type 0
+SayTheSame p q r s = (xs : List ℤ) → (HoldsRow p xs × HoldsRow q xs) ↔ (HoldsRow r xs × HoldsRow s xs)
