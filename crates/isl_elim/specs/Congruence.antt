@@ -1,5 +1,5 @@
 -- Congruences on one column, made one.
-use Rattle.std.specs.Prelude.{◌≡◌, ◌↔◌, ℕ, ℤ, pos, ◌<ℤ◌, List, All}
+use Rattle.std.specs.Prelude.{◌≡◌, ◌↔◌, ℕ, ℤ, pos, ◌≤ℤ◌, ◌<ℤ◌, List, All, length}
 use Rattle.isl_math.specs.Divide.{floor_mod}
 use Rattle.isl_piece.specs.Numbers.{reduced}
 use Rattle.isl_piece.specs.declared.constraint.RowKind.TheVariants.{Divides}
@@ -9,6 +9,19 @@ use Rattle.isl_piece.specs.Row.{HoldsRow, coef_at}
 -- a congruence with each number's remainder by its divisor in the number's place
 abbrev pub reduced_row : Row → Row
 reduced_row r = record { kind = r.kind; coefs = reduced r.k r.coefs; constant = floor_mod r.constant r.k; k = r.k }
+
+-- from 0 to k - 1
+pub record IsRemainder (k x : ℤ) : Type 0 where
+  pub not_negative : pos 0 ≤ℤ x
+  pub small : x <ℤ k
+
+-- a congruence over so many columns with the divisor k, whose numbers are remainders by it
+pub record IsReducedCongruence (columns : ℕ) (k : ℤ) (r : Row) : Type 0 where
+  pub kind : r.kind ≡ Divides
+  pub divisor : r.k ≡ k
+  pub width : length r.coefs ≡ columns
+  pub coefs : All (IsRemainder k) r.coefs
+  pub constant : IsRemainder k r.constant
 
 -- two congruences hold together exactly where two others do
 abbrev pub SayTheSame : Row → Row → Row → Row → Type 0

@@ -1,12 +1,14 @@
 // Congruences on one column: several are made one, and that one is a substitution.
 
-ghost use Rattle.std.specs.Prelude.{◌≡◌, ◌<ℤ◌, pos, All, IfOk, IfErr, length};
+ghost use Rattle.std.specs.Prelude.{◌≡◌, ◌<◌, ◌<ℤ◌, ℤ, pos, All, IfOk, MatchResult, length};
 ghost use Rattle.isl_meter.specs.Gauge.{IsWithin};
 ghost use Rattle.isl_piece.specs.Numbers.{reduced};
-ghost use Rattle.isl_piece.specs.Row.{IsRowWithin};
-ghost use Rattle.isl_elim.specs.Congruence.{reduced_row};
+ghost use Rattle.isl_piece.specs.Row.{IsRowWithin, coef_at};
+ghost use Rattle.isl_elim.specs.Congruence.{reduced_row, IsReducedCongruence, SayTheSame};
+ghost use Rattle.isl_elim.specs.Work.{IsCutUpTo};
 
-use isl_meter::{Int, Meter};
+use crate::combine::combined;
+use isl_meter::{Cut, Int, Meter};
 use isl_piece::{Coefs, Row};
 use std::alloc::{AllocFailed, Global};
 
@@ -38,4 +40,29 @@ fn reduced_copy(alloc: Global, row: &Row, meter: &Meter) -> Result<Row, AllocFai
     let k = row.modulus();
     let coefs = remainders(alloc, row.coefs.as_slice(), k, meter)?;
     Ok(Row::new(row.kind, coefs, row.offset().modulo(k, meter), k))
+}
+
+// The remainder of one congruence by another, of the same divisor, at the column.
+fn remainder(
+    alloc: Global,
+    p: &Row,
+    q: &Row,
+    columns: usize,
+    col: usize,
+    meter: &mut Meter,
+) -> Result<Row, Cut>
+    requires p_reduced { IsReducedCongruence columns p.now.k p.now }
+    requires q_reduced { IsReducedCongruence columns p.now.k q.now }
+    requires within { IsWithin meter.old p.now.k }
+    requires positive { pos 0 <ℤ p.now.k }
+    requires col_in { col < columns }
+    requires occurs { pos 0 <ℤ coef_at q.now col }
+    ensures { MatchResult result
+        (λ rest. IsReducedCongruence columns p.now.k rest × SayTheSame p.now q.now q.now rest
+        × (coef_at rest col <ℤ coef_at q.now col) × (meter.new ≡ meter.old))
+        (λ cut. IsCutUpTo 0 meter.old meter.new cut) }
+{
+    let times = p.coefs.get(col).floor_div(q.coefs.get(col), meter);
+    let rest = combined(alloc, Int::ONE, p, times.neg(meter), q, meter)?;
+    Ok(reduced_copy(alloc, &rest, meter)?)
 }
