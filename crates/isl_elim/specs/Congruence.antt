@@ -26,3 +26,10 @@ pub record IsReducedCongruence (columns : ℕ) (k : ℤ) (r : Row) : Type 0 wher
 -- two congruences hold together exactly where two others do
 abbrev pub SayTheSame : Row → Row → Row → Row → Type 0
 SayTheSame p q r s = (xs : List ℤ) → (HoldsRow p xs × HoldsRow q xs) ↔ (HoldsRow r xs × HoldsRow s xs)
+
+-- two congruences made into others that say the same, of which only the first depends on the column
+pub record AreMerged (columns col : ℕ) (k : ℤ) (p q first second : Row) : Type 0 where
+  pub first_reduced : IsReducedCongruence columns k first
+  pub second_reduced : IsReducedCongruence columns k second
+  pub gone : coef_at second col ≡ pos 0
+  pub same : SayTheSame p q first second

@@ -4,7 +4,7 @@ ghost use Rattle.std.specs.Prelude.{◌≡◌, ◌<◌, ◌<ℤ◌, ℤ, pos, Al
 ghost use Rattle.isl_meter.specs.Gauge.{IsWithin};
 ghost use Rattle.isl_piece.specs.Numbers.{reduced};
 ghost use Rattle.isl_piece.specs.Row.{IsRowWithin, coef_at};
-ghost use Rattle.isl_elim.specs.Congruence.{reduced_row, IsReducedCongruence, SayTheSame};
+ghost use Rattle.isl_elim.specs.Congruence.{reduced_row, IsReducedCongruence, SayTheSame, AreMerged};
 ghost use Rattle.isl_elim.specs.Work.{IsCutUpTo};
 
 use crate::combine::combined;
@@ -65,4 +65,33 @@ fn remainder(
     let times = p.coefs.get(col).floor_div(q.coefs.get(col), meter);
     let rest = combined(alloc, Int::ONE, p, times.neg(meter), q, meter)?;
     Ok(reduced_copy(alloc, &rest, meter)?)
+}
+
+// Two congruences of one divisor, so that only the first depends on the column: Euclid's algorithm on their
+// coefficients.
+fn merged_pair(
+    alloc: Global,
+    p: Row,
+    q: Row,
+    columns: usize,
+    col: usize,
+    meter: &mut Meter,
+) -> Result<(Row, Row), Cut>
+    requires p_reduced { IsReducedCongruence columns p.k p }
+    requires q_reduced { IsReducedCongruence columns p.k q }
+    requires within { IsWithin meter.old p.k }
+    requires positive { pos 0 <ℤ p.k }
+    requires col_in { col < columns }
+    ensures { MatchResult result
+        (λ pair. AreMerged columns col p.k p q pair.0 pair.1 × (meter.new ≡ meter.old))
+        (λ cut. IsCutUpTo 0 meter.old meter.new cut) }
+{
+    let mut first = p;
+    let mut second = q;
+    'steps: while !second.coefs.get(col).is_zero() {
+        let rest = remainder(alloc, &first, &second, columns, col, meter)?;
+        first = second;
+        second = rest;
+    }
+    Ok((first, second))
 }
