@@ -6,18 +6,20 @@ use Rattle.isl_math.specs.Divide as divide
 use Rattle.isl_math.specs.Divide.{floor_div, floor_mod, IsCongruent}
 use Rattle.isl_math.specs.Dot.{dot}
 use Rattle.isl_math.proofs.Ring.{expand, linear}
-use Rattle.isl_math.proofs.DivideLaws.{floor_split, floor_mod_bounds, floor_unique, IsCongruent-+ℤ, IsCongruent-floor_mod, Divides-same}
+use Rattle.isl_math.proofs.DivideLaws.{floor_split, floor_mod_bounds, floor_unique, IsCongruent-+ℤ, IsCongruent-floor_mod, IsCongruent_sym, Divides-same, Divides-minus}
+use Rattle.isl_math.proofs.OrderLaws.{positive-*ℤ}
 use Rattle.isl_math.proofs.ColumnLaws.{length-weighted_sum}
 use Rattle.isl_piece.specs.Numbers.{reduced}
 use Rattle.isl_piece.specs.declared.constraint.RowKind.{RowKind}
 use Rattle.isl_piece.specs.declared.constraint.RowKind.TheVariants.{Zero, AtLeast, Divides, NotDivides}
 use Rattle.isl_piece.specs.declared.constraint.Row.{Row}
-use Rattle.isl_piece.specs.Row.{HoldsRow, HoldsValue, value_at, coef_at}
+use Rattle.isl_piece.specs.Row.{HoldsRow, HoldsValue, value_at, coef_at, HasDivisor, IsWellFormed}
 use Rattle.isl_piece.proofs.NumberLaws.{length-reduced, dot-reduced}
 use Rattle.isl_elim.specs.Combine.{combination, scaled_divisor}
-use Rattle.isl_elim.specs.Congruence.{reduced_row, IsRemainder, IsReducedCongruence, SayTheSame}
+use Rattle.isl_elim.specs.Congruence.{reduced_row, IsRemainder, IsReducedCongruence, SayTheSame, IsScaledTo}
 use Rattle.isl_elim.proofs.CombineLemmas.{value_at-combination, coef_at-combination}
 use Rattle.isl_elim.proofs.CongruenceLemmas.{merge_step}
+use Rattle.isl_elim.proofs.EqualityLemmas.{Divides_scaled}
 
 -- one number more, for a loop
 pub reduced-take_more : (k : ℤ) (xs : List ℤ) (i : ℕ) → i < length xs → reduced k (take (i + 1) xs) ≡ reduced k (take i xs) ++ floor_mod (get_or xs i (pos 0)) k ∷ []
@@ -43,6 +45,10 @@ remainders_are k [] p = All-nil (IsRemainder k)
 remainders_are k (x ∷ xs) p = All-cons (IsRemainder k) (floor_mod x k) (reduced k xs) (remainder_is k x p) (remainders_are k xs p)
 
 -- ---- one congruence
+-- congruent numbers are divisible at once
+pub Divides-congruent : (k a b : ℤ) → IsCongruent k a b → divide.Divides k a → divide.Divides k b
+Divides-congruent k a b h d = Divides-same k (a -ℤ (a -ℤ b)) b (omega (arith, linear)) (Divides-minus k a (a -ℤ b) d h)
+
 -- a congruence holds where its divisor divides its value
 pub holds_congruence : (r : Row) (k : ℤ) (xs : List ℤ) → r.kind ≡ Divides → r.k ≡ k → HoldsRow r xs ↔ divide.Divides k (value_at r xs)
 holds_congruence r k xs is e = by r.kind r.k (value_at r xs) is e
@@ -123,3 +129,45 @@ remainder_row columns col k t p q rest small hp hq above l c e f g =
         let once = (floor_unique (floor_mod p q) k (pos 0) (floor_mod p q) (omega (arith, linear)) b.0 (omega (arith, linear))).1 in
         let s_is : s ≡ floor_mod (floor_mod p q) k = h ∙ ap (λ w. floor_mod w j) left ∙ ap (λ w. floor_mod (floor_mod p q) w) g in
         omega (arith, linear)
+
+-- ---- a multiple of a congruence
+pub divisor_positive : (kind : RowKind) (k : ℤ) → HasDivisor kind k → pos 0 <ℤ k
+divisor_positive Zero k e = omega (arith, linear)
+divisor_positive AtLeast k e = omega (arith, linear)
+divisor_positive Divides k p = p
+divisor_positive NotDivides k p = p
+
+divisor_times : (kind : RowKind) (m k : ℤ) → kind ≡ Divides → scaled_divisor kind m k ≡ m *ℤ k
+divisor_times kind m k e = rw e refl
+
+pub scaled_positive : (columns : ℕ) (m : ℤ) (r scaled : Row) → pos 0 <ℤ m → r.kind ≡ Divides → IsWellFormed columns r → scaled ≡ combination m r (pos 0) r → pos 0 <ℤ scaled.k
+scaled_positive columns m r scaled p is w e = rw (ap (λ (s : Row). s.k) e ∙ divisor_times r.kind m r.k is) (positive-*ℤ m r.k p (divisor_positive r.kind r.k w.divisor))
+
+pub scaled_row : (columns : ℕ) (m : ℤ) (r scaled small : Row) → pos 0 <ℤ m → r.kind ≡ Divides → IsWellFormed columns r → scaled ≡ combination m r (pos 0) r → small ≡ reduced_row scaled → IsScaledTo columns (m *ℤ r.k) r small
+scaled_row columns m r scaled small p is w e f =
+    let kind : scaled.kind ≡ Divides = ap (λ (s : Row). s.kind) e ∙ is in
+    let divisor : scaled.k ≡ m *ℤ r.k = ap (λ (s : Row). s.k) e ∙ divisor_times r.kind m r.k is in
+    let wide : length scaled.coefs ≡ columns = ap (λ (s : Row). length s.coefs) e ∙ length-weighted_sum m r.coefs (pos 0) r.coefs refl ∙ w.width in
+    let positive = scaled_positive columns m r scaled p is w e in
+    let small_kind : small.kind ≡ Divides = ap (λ (s : Row). s.kind) f ∙ kind in
+    let small_divisor : small.k ≡ m *ℤ r.k = ap (λ (s : Row). s.k) f ∙ divisor in
+    record {
+      is_reduced = rw f (at_divisor (reduced_row scaled) scaled.k divisor (reduced_is columns scaled kind positive wide));
+      same = λ xs.
+          let value : value_at scaled xs ≡ m *ℤ value_at r xs = ap (λ (s : Row). value_at s xs) e ∙ value_at-combination m r (pos 0) r xs refl ∙ alone (m *ℤ value_at r xs) (value_at r xs) in
+          let left : value_at (reduced_row scaled) xs ≡ value_at small xs = ap (λ (s : Row). value_at s xs) (sym f) in
+          let congruent = near scaled.k (m *ℤ r.k) (value_at scaled xs) (m *ℤ value_at r xs) (value_at (reduced_row scaled) xs) (value_at small xs) divisor value left (value_reduced scaled xs positive) in
+          let scaling = Divides_scaled m r.k (value_at r xs) p in
+          let of_r = holds_congruence r r.k xs is refl in
+          let of_small = holds_congruence small (m *ℤ r.k) xs small_kind small_divisor in (
+            (λ h. of_r.1 (scaling.0 (Divides-congruent (m *ℤ r.k) (value_at small xs) (m *ℤ value_at r xs) (IsCongruent_sym (m *ℤ r.k) (m *ℤ value_at r xs) (value_at small xs) congruent) (of_small.0 h)))),
+            (λ h. of_small.1 (Divides-congruent (m *ℤ r.k) (m *ℤ value_at r xs) (value_at small xs) congruent (scaling.1 (of_r.0 h)))),
+          );
+    }
+  where
+    at_divisor : (s : Row) (j : ℤ) → j ≡ m *ℤ r.k → IsReducedCongruence columns j s → IsReducedCongruence columns (m *ℤ r.k) s
+    at_divisor s j d h = rw d at h
+    alone : (a b : ℤ) → a +ℤ pos 0 *ℤ b ≡ a
+    alone a b = omega (arith, linear)
+    near : (j k v w r s : ℤ) → j ≡ k → v ≡ w → r ≡ s → IsCongruent j v r → IsCongruent k w s
+    near j k v w r s d e f h = rw d at (Divides-same j (v -ℤ r) (w -ℤ s) (omega (arith, linear)) h)

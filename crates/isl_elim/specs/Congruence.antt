@@ -1,10 +1,13 @@
 -- Congruences on one column, made one.
-use Rattle.std.specs.Prelude.{◌≡◌, ◌↔◌, ℕ, ℤ, pos, ◌≤ℤ◌, ◌<ℤ◌, List, All, length}
+use Rattle.std.specs.Prelude.{◌≡◌, ◌↔◌, ℕ, ℤ, pos, ◌*ℤ◌, ◌≤ℤ◌, ◌<ℤ◌, List, [], ◌∷◌, All, length}
 use Rattle.isl_math.specs.Divide.{floor_mod}
 use Rattle.isl_piece.specs.Numbers.{reduced}
 use Rattle.isl_piece.specs.declared.constraint.RowKind.TheVariants.{Divides}
 use Rattle.isl_piece.specs.declared.constraint.Row.{Row}
-use Rattle.isl_piece.specs.Row.{HoldsRow, coef_at}
+use Rattle.isl_meter.specs.Gauge.{Gauge}
+use Rattle.isl_piece.specs.Row.{HoldsRow, IsWellFormed, IsRowWithin, coef_at}
+use Rattle.isl_piece.specs.System.{HoldRows}
+use Rattle.isl_elim.specs.Column.{IsFree}
 
 -- a congruence with each number's remainder by its divisor in the number's place
 abbrev pub reduced_row : Row → Row
@@ -33,3 +36,24 @@ pub record AreMerged (columns col : ℕ) (k : ℤ) (p q first second : Row) : Ty
   pub second_reduced : IsReducedCongruence columns k second
   pub gone : coef_at second col ≡ pos 0
   pub same : SayTheSame p q first second
+
+-- the product of the rows' divisors
+abbrev pub product_of_divisors : List Row → ℤ
+product_of_divisors [] = pos 1
+product_of_divisors (r ∷ rows) = r.k *ℤ product_of_divisors rows
+
+-- a congruence says the same as another, with its numbers remainders by k
+pub record IsScaledTo (columns : ℕ) (k : ℤ) (r scaled : Row) : Type 0 where
+  pub is_reduced : IsReducedCongruence columns k scaled
+  pub same : (xs : List ℤ) → HoldsRow scaled xs ↔ HoldsRow r xs
+
+-- congruences made into one and others that do not depend on the column
+pub record AreMergedTo (g : Gauge) (columns col : ℕ) (rows : List Row) (one : Row) (others : List Row) : Type 0 where
+  pub is_reduced : IsReducedCongruence columns one.k one
+  pub positive : pos 0 <ℤ one.k
+  pub within : IsRowWithin g one
+  pub small : one.k ≤ℤ product_of_divisors rows
+  pub well_formed : All (IsWellFormed columns) others
+  pub others_within : All (IsRowWithin g) others
+  pub free : All (IsFree col) others
+  pub same : (xs : List ℤ) → HoldRows rows xs ↔ (HoldsRow one xs × HoldRows others xs)

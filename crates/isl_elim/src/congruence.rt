@@ -1,15 +1,16 @@
 // Congruences on one column: several are made one, and that one is a substitution.
 
-ghost use Rattle.std.specs.Prelude.{◌≡◌, ◌<◌, ◌<ℤ◌, ℤ, pos, All, IfOk, MatchResult, length};
+ghost use Rattle.std.specs.Prelude.{◌≡◌, ◌<◌, ◌*ℤ◌, ◌≤ℤ◌, ◌<ℤ◌, ℤ, pos, All, IfOk, MatchResult, length};
 ghost use Rattle.isl_meter.specs.Gauge.{IsWithin};
 ghost use Rattle.isl_piece.specs.Numbers.{reduced};
-ghost use Rattle.isl_piece.specs.Row.{IsRowWithin, coef_at};
-ghost use Rattle.isl_elim.specs.Congruence.{reduced_row, IsReducedCongruence, SayTheSame, AreMerged};
+ghost use Rattle.isl_piece.specs.Row.{IsWellFormed, IsRowWithin, coef_at};
+ghost use Rattle.isl_piece.specs.declared.constraint.RowKind.TheVariants.{Divides};
+ghost use Rattle.isl_elim.specs.Congruence.{reduced_row, IsReducedCongruence, SayTheSame, AreMerged, IsScaledTo, AreMergedTo};
 ghost use Rattle.isl_elim.specs.Work.{IsCutUpTo};
 
 use crate::combine::combined;
 use isl_meter::{Cut, Int, Meter};
-use isl_piece::{Coefs, Row};
+use isl_piece::{Coefs, Row, Rows};
 use std::alloc::{AllocFailed, Global};
 
 // The remainders of the numbers by `k`.
@@ -94,4 +95,19 @@ fn merged_pair(
         second = rest;
     }
     Ok((first, second))
+}
+
+// `m` times a congruence, with its numbers reduced.
+fn scaled_copy(alloc: Global, m: Int, row: &Row, columns: usize, meter: &mut Meter) -> Result<Row, Cut>
+    requires m_within { IsWithin meter.old m }
+    requires m_positive { pos 0 <ℤ m }
+    requires kind { row.now.kind ≡ Divides }
+    requires well_formed { IsWellFormed columns row.now }
+    requires within { IsRowWithin meter.old row.now }
+    ensures { MatchResult result
+        (λ scaled. IsScaledTo columns (m *ℤ row.now.k) row.now scaled × IsRowWithin meter.old scaled × (meter.new ≡ meter.old))
+        (λ cut. IsCutUpTo 0 meter.old meter.new cut) }
+{
+    let scaled = combined(alloc, m, row, Int::ZERO, row, meter)?;
+    Ok(reduced_copy(alloc, &scaled, meter)?)
 }
