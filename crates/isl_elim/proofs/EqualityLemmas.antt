@@ -28,7 +28,7 @@ column_cancels d m n e a p q =
     simp expand (omega (arith, linear))
 
 -- ---- what a row asks of its value, it asks of a positive multiple of the value too
-positive_not_zero : (m : ℤ) → pos 0 <ℤ m → m ≢ pos 0
+pub positive_not_zero : (m : ℤ) → pos 0 <ℤ m → m ≢ pos 0
 positive_not_zero m p = omega (arith, linear)
 
 pub zero_scaled : (m v : ℤ) → pos 0 <ℤ m → (m *ℤ v ≡ pos 0) ↔ (v ≡ pos 0)
@@ -48,7 +48,7 @@ Divides_scaled m k v p = (
 pub exact_quotient : (d z : ℤ) → pos 0 <ℤ d → Divides d z → d *ℤ floor_div z d ≡ z
 exact_quotient d z p h = let s = floor_split z d p in let m = mod-from_Divides d z p h in omega (arith, linear)
 
-gcd_positive : (p o d : ℤ) → p ≢ pos 0 → IsGcdOf p o d → pos 0 <ℤ d
+pub gcd_positive : (p o d : ℤ) → p ≢ pos 0 → IsGcdOf p o d → pos 0 <ℤ d
 gcd_positive p o d n g = elim (cases_ℤ (pos 0) d) [
   | inl l ↦ l
   | inr r ↦ elim r [

@@ -3,23 +3,25 @@ use Rattle.std.proofs.Common.{◌≡◌, ◌↔◌, ◌∙◌, refl, sym, ap, �
 use Rattle.std.specs.List.{All}
 use Rattle.std.proofs.lemmas.List.Elements.{All-push, All-nil, All-cons}
 use Rattle.isl_math.specs.Divide as divide
-use Rattle.isl_math.specs.Divide.{floor_div, floor_mod, IsCongruent}
+use Rattle.isl_math.specs.Divide.{floor_div, floor_mod, IsCongruent, IsGcdOf}
 use Rattle.isl_math.specs.Dot.{dot}
 use Rattle.isl_math.proofs.Ring.{expand, linear}
 use Rattle.isl_math.proofs.DivideLaws.{floor_split, floor_mod_bounds, floor_unique, IsCongruent-+ℤ, IsCongruent-floor_mod, IsCongruent_sym, Divides-same, Divides-minus}
-use Rattle.isl_math.proofs.OrderLaws.{positive-*ℤ}
+use Rattle.isl_math.proofs.OrderLaws.{positive-*ℤ, *ℤ-≤ℤ, <ℤ-from_*ℤ, ≡-from_*ℤ}
 use Rattle.isl_math.proofs.ColumnLaws.{length-weighted_sum}
+use Rattle.isl_meter.specs.Gauge.{Gauge, IsWithin}
 use Rattle.isl_piece.specs.Numbers.{reduced}
 use Rattle.isl_piece.specs.declared.constraint.RowKind.{RowKind}
 use Rattle.isl_piece.specs.declared.constraint.RowKind.TheVariants.{Zero, AtLeast, Divides, NotDivides}
 use Rattle.isl_piece.specs.declared.constraint.Row.{Row}
-use Rattle.isl_piece.specs.Row.{HoldsRow, HoldsValue, value_at, coef_at, HasDivisor, IsWellFormed}
+use Rattle.isl_piece.specs.Row.{HoldsRow, HoldsValue, value_at, coef_at, HasDivisor, IsWellFormed, IsRowWithin}
 use Rattle.isl_piece.proofs.NumberLaws.{length-reduced, dot-reduced}
 use Rattle.isl_elim.specs.Combine.{combination, scaled_divisor}
-use Rattle.isl_elim.specs.Congruence.{reduced_row, IsRemainder, IsReducedCongruence, SayTheSame, IsScaledTo}
+use Rattle.isl_elim.specs.Congruence.{reduced_row, IsRemainder, IsReducedCongruence, SayTheSame, IsScaledTo, AreMerged, AreJoined}
 use Rattle.isl_elim.proofs.CombineLemmas.{value_at-combination, coef_at-combination}
 use Rattle.isl_elim.proofs.CongruenceLemmas.{merge_step}
-use Rattle.isl_elim.proofs.EqualityLemmas.{Divides_scaled}
+use Rattle.isl_elim.proofs.EqualityLemmas.{Divides_scaled, exact_quotient, gcd_positive, positive_not_zero}
+use Rattle.isl_elim.proofs.ImageLemmas.{free_of_zero}
 
 -- one number more, for a loop
 pub reduced-take_more : (k : ℤ) (xs : List ℤ) (i : ℕ) → i < length xs → reduced k (take (i + 1) xs) ≡ reduced k (take i xs) ++ floor_mod (get_or xs i (pos 0)) k ∷ []
@@ -171,3 +173,70 @@ scaled_row columns m r scaled small p is w e f =
     alone a b = omega (arith, linear)
     near : (j k v w r s : ℤ) → j ≡ k → v ≡ w → r ≡ s → IsCongruent j v r → IsCongruent k w s
     near j k v w r s d e f h = rw d at (Divides-same j (v -ℤ r) (w -ℤ s) (omega (arith, linear)) h)
+
+-- ---- two congruences of different divisors
+-- what each is multiplied by, so that both have the least common multiple
+pub record CommonParts (j k g m n : ℤ) : Type 0 where
+  pub positive : pos 0 <ℤ g
+  pub m_positive : pos 0 <ℤ m
+  pub n_positive : pos 0 <ℤ n
+  pub same : m *ℤ j ≡ n *ℤ k
+  pub small : (m *ℤ j) ≤ℤ (j *ℤ k)
+
+pub common_parts : (j k g m n : ℤ) → pos 0 <ℤ j → pos 0 <ℤ k → IsGcdOf j k g → m ≡ floor_div k g → n ≡ floor_div j g → CommonParts j k g m n
+common_parts j k g m n p q h e f =
+    let above = gcd_positive j k g (positive_not_zero j p) h in
+    let k_is : g *ℤ m ≡ k = ap (λ w. g *ℤ w) e ∙ exact_quotient g k above h.second in
+    let j_is : g *ℤ n ≡ j = ap (λ w. g *ℤ w) f ∙ exact_quotient g j above h.first in
+    record {
+      positive = above;
+      m_positive = <ℤ-from_*ℤ g (pos 0) m (omega (arith, linear)) (omega (arith, linear));
+      n_positive = <ℤ-from_*ℤ g (pos 0) n (omega (arith, linear)) (omega (arith, linear));
+      same = ≡-from_*ℤ g (m *ℤ j) (n *ℤ k) (positive_not_zero g above) (crossed g m n j k k_is j_is);
+      small = least g m j k above (<ℤ-from_*ℤ g (pos 0) m (omega (arith, linear)) (omega (arith, linear))) p k_is;
+    }
+  where
+    crossed : (g m n j k : ℤ) → g *ℤ m ≡ k → g *ℤ n ≡ j → g *ℤ (m *ℤ j) ≡ g *ℤ (n *ℤ k)
+    crossed g m n j k a b =
+        let a' = simp expand at (ap (λ w. j *ℤ w) a) in
+        let b' = simp expand at (ap (λ w. k *ℤ w) b) in
+        simp expand (omega (arith, linear))
+    least : (g m j k : ℤ) → pos 0 <ℤ g → pos 0 <ℤ m → pos 0 <ℤ j → g *ℤ m ≡ k → (m *ℤ j) ≤ℤ (j *ℤ k)
+    least g m j k p q r a =
+        let one = simp expand at (*ℤ-≤ℤ (m *ℤ j) (pos 1) g (let t = positive-*ℤ m j q r in omega (arith, linear)) (omega (arith, linear))) in
+        let a' = simp expand at (ap (λ w. j *ℤ w) a) in
+        simp expand (omega (arith, linear))
+
+pub reduced_at : (columns : ℕ) (j k : ℤ) (r : Row) → j ≡ k → IsReducedCongruence columns j r → IsReducedCongruence columns k r
+reduced_at columns j k r e h = rw e at h
+
+pub reduced_well_formed : (columns : ℕ) (k : ℤ) (r : Row) → pos 0 <ℤ k → IsReducedCongruence columns k r → IsWellFormed columns r
+reduced_well_formed columns k r p h = record { width = h.width; divisor = divides_divisor r.kind r.k h.kind (rw h.divisor p) }
+  where
+    divides_divisor : (kind : RowKind) (k : ℤ) → kind ≡ Divides → pos 0 <ℤ k → HasDivisor kind k
+    divides_divisor kind k e p = rw e p
+
+pub joined_is : (columns col : ℕ) (m n : ℤ) (p q first second one other : Row) → pos 0 <ℤ first.k → m *ℤ p.k ≡ n *ℤ q.k → (m *ℤ p.k) ≤ℤ (p.k *ℤ q.k) → IsScaledTo columns (m *ℤ p.k) p first → IsScaledTo columns (n *ℤ q.k) q second
+    → AreMerged columns col first.k first second one other → AreJoined columns col p q one other
+joined_is columns col m n p q first second one other above e small hp hq a = record {
+  is_reduced = reduced_at columns first.k one.k one (sym a.first_reduced.divisor) a.first_reduced;
+  positive = rw a.first_reduced.divisor above;
+  small = rw (a.first_reduced.divisor ∙ hp.is_reduced.divisor) small;
+  well_formed = reduced_well_formed columns first.k other above a.second_reduced;
+  free = free_of_zero other.kind other.k (coef_at other col) a.gone;
+  same = λ xs. (
+    (λ h. (a.same xs).0 ((hp.same xs).1 h.0, (hq.same xs).1 h.1)),
+    (λ h. let back = (a.same xs).1 h in ((hp.same xs).0 back.0, (hq.same xs).0 back.1)),
+  );
+}
+
+-- remainders by a divisor within the limit are within it
+pub reduced_within : (g : Gauge) (columns : ℕ) (k : ℤ) (r : Row) → IsWithin g k → IsReducedCongruence columns k r → IsRowWithin g r
+reduced_within g columns k r w h = record {
+  coefs = λ i d l. let x = h.coefs i d l in by (get_or r.coefs i d) x.not_negative x.small;
+  constant = by r.constant h.constant.not_negative h.constant.small;
+  k = rw h.divisor w;
+}
+  where
+    by : (z : ℤ) → pos 0 ≤ℤ z → z <ℤ k → IsWithin g z
+    by z p q = omega (arith, linear)

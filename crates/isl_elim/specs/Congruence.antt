@@ -47,6 +47,15 @@ pub record IsScaledTo (columns : ℕ) (k : ℤ) (r scaled : Row) : Type 0 where
   pub is_reduced : IsReducedCongruence columns k scaled
   pub same : (xs : List ℤ) → HoldsRow scaled xs ↔ HoldsRow r xs
 
+-- a congruence and one more made into one and another, which does not depend on the column
+pub record AreJoined (columns col : ℕ) (p q one other : Row) : Type 0 where
+  pub is_reduced : IsReducedCongruence columns one.k one
+  pub positive : pos 0 <ℤ one.k
+  pub small : one.k ≤ℤ (p.k *ℤ q.k)
+  pub well_formed : IsWellFormed columns other
+  pub free : IsFree col other
+  pub same : SayTheSame p q one other
+
 -- congruences made into one and others that do not depend on the column
 pub record AreMergedTo (g : Gauge) (columns col : ℕ) (rows : List Row) (one : Row) (others : List Row) : Type 0 where
   pub is_reduced : IsReducedCongruence columns one.k one

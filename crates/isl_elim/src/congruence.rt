@@ -5,7 +5,7 @@ ghost use Rattle.isl_meter.specs.Gauge.{IsWithin};
 ghost use Rattle.isl_piece.specs.Numbers.{reduced};
 ghost use Rattle.isl_piece.specs.Row.{IsWellFormed, IsRowWithin, coef_at};
 ghost use Rattle.isl_piece.specs.declared.constraint.RowKind.TheVariants.{Divides};
-ghost use Rattle.isl_elim.specs.Congruence.{reduced_row, IsReducedCongruence, SayTheSame, AreMerged, IsScaledTo, AreMergedTo};
+ghost use Rattle.isl_elim.specs.Congruence.{reduced_row, IsReducedCongruence, SayTheSame, AreMerged, IsScaledTo, AreJoined, AreMergedTo};
 ghost use Rattle.isl_elim.specs.Work.{IsCutUpTo};
 
 use crate::combine::combined;
@@ -110,4 +110,34 @@ fn scaled_copy(alloc: Global, m: Int, row: &Row, columns: usize, meter: &mut Met
 {
     let scaled = combined(alloc, m, row, Int::ZERO, row, meter)?;
     Ok(reduced_copy(alloc, &scaled, meter)?)
+}
+
+// Two congruences as one, and what they say of the other columns.
+fn joined(
+    alloc: Global,
+    p: &Row,
+    q: &Row,
+    columns: usize,
+    col: usize,
+    meter: &mut Meter,
+) -> Result<(Row, Row), Cut>
+    requires p_kind { p.now.kind ≡ Divides }
+    requires q_kind { q.now.kind ≡ Divides }
+    requires p_formed { IsWellFormed columns p.now }
+    requires q_formed { IsWellFormed columns q.now }
+    requires p_within { IsRowWithin meter.old p.now }
+    requires q_within { IsRowWithin meter.old q.now }
+    requires col_in { col < columns }
+    ensures { MatchResult result
+        (λ pair. AreJoined columns col p.now q.now pair.0 pair.1
+        × IsRowWithin meter.old pair.0 × IsRowWithin meter.old pair.1 × (meter.new ≡ meter.old))
+        (λ cut. IsCutUpTo 0 meter.old meter.new cut) }
+{
+    let common = p.modulus().gcd(q.modulus(), meter);
+    let m = q.modulus().floor_div(common, meter);
+    let n = p.modulus().floor_div(common, meter);
+    let first = scaled_copy(alloc, m, p, columns, meter)?;
+    let second = scaled_copy(alloc, n, q, columns, meter)?;
+    let pair = merged_pair(alloc, first, second, columns, col, meter)?;
+    Ok(pair)
 }
