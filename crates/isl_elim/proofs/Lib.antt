@@ -4,6 +4,7 @@ pub mod CongruenceLemmas
 pub mod EqualityLemmas
 pub mod ImageLemmas
 pub mod Lists
+pub mod MergeLemmas
 pub mod Magnitudes
 pub mod NeighbourLemmas
 pub mod Pairs

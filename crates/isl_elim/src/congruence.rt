@@ -141,3 +141,30 @@ fn joined(
     let pair = merged_pair(alloc, first, second, columns, col, meter)?;
     Ok(pair)
 }
+
+// Congruences that depend on the column as one, and what they say of the other columns.
+fn merged(
+    alloc: Global,
+    rows: &[Row],
+    columns: usize,
+    col: usize,
+    meter: &mut Meter,
+) -> Result<(Row, Rows), Cut>
+    requires some { 0 < length rows.now }
+    requires kinds { All (λ r. r.kind ≡ Divides) rows.now }
+    requires well_formed { All (IsWellFormed columns) rows.now }
+    requires within { All (IsRowWithin meter.old) rows.now }
+    requires col_in { col < columns }
+    ensures { MatchResult result
+        (λ pair. AreMergedTo meter.old columns col rows.now pair.0 pair.1 × (meter.new ≡ meter.old))
+        (λ cut. IsCutUpTo 0 meter.old meter.new cut) }
+{
+    let mut one = reduced_copy(alloc, &rows[0], meter)?;
+    let mut others = Rows::new(alloc);
+    for i in 1..rows.len() {
+        let (next, other) = joined(alloc, &one, &rows[i], columns, col, meter)?;
+        others.push(other)?;
+        one = next;
+    }
+    Ok((one, others))
+}
