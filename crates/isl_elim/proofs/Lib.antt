@@ -12,3 +12,4 @@ pub mod ReduceLemmas
 pub mod ShadowLemmas
 pub mod SideLemmas
 pub mod Splinters
+pub mod SubstitutionLemmas

@@ -3,4 +3,5 @@ pub mod Combine
 pub mod Congruence
 pub mod Equality
 pub mod Sides
+pub mod Substitution
 pub mod Work

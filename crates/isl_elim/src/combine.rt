@@ -13,7 +13,7 @@ use std::alloc::Global;
 
 // `m` times each number of `left` plus `n` times that of `right`.
 #[tactic(auto, using(std::proofs::lemmas::Grind::common_steps, crate::proofs::CombineLemmas::weighted_steps))]
-fn weighted(
+pub(crate) fn weighted(
     alloc: Global,
     m: Int,
     left: &[Int],

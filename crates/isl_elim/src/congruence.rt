@@ -15,7 +15,7 @@ use std::alloc::{AllocFailed, Global};
 
 // The remainders of the numbers by `k`.
 #[tactic(auto, using(std::proofs::lemmas::Grind::common_steps, crate::proofs::ReduceLemmas::reduce_steps))]
-fn remainders(
+pub(crate) fn remainders(
     alloc: Global,
     numbers: &[Int],
     k: Int,

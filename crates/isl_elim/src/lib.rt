@@ -7,3 +7,4 @@ mod congruence;
 mod equality;
 mod rows;
 mod sides;
+mod substitution;

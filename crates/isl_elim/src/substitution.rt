@@ -1,0 +1,55 @@
+// A congruence as a substitution for its column.
+
+ghost use Rattle.std.specs.Prelude.{◌≡◌, ◌<◌, ◌<ℤ◌, pos, All, length, MatchResult};
+ghost use Rattle.isl_meter.specs.Gauge.{IsWithin};
+ghost use Rattle.isl_piece.specs.Row.{IsRowWithin, IsWellFormed, coef_at};
+ghost use Rattle.isl_elim.specs.Congruence.{IsReducedCongruence};
+ghost use Rattle.isl_elim.specs.Substitution.{AreProgressionParts, offsets_of, IsProgressionOf, substituted};
+ghost use Rattle.isl_elim.specs.Work.{IsCutUpTo};
+
+use crate::combine::{combined, weighted};
+use crate::congruence::remainders;
+use isl_meter::{Cut, Int, Meter};
+use isl_piece::{Row, RowKind};
+use std::alloc::Global;
+
+/// The numbers that a congruence allows at a column: `scale` times each of them is the congruence's
+/// divisor times any whole number, and what `offsets` has beside the column.
+#[derive(Drop)]
+pub(crate) struct Substitution {
+    pub scale: Int,
+    pub offsets: Row,
+}
+
+// The scale of the progression of a coefficient and a divisor, and what to multiply offsets by.
+fn parts(coef: Int, k: Int, meter: &Meter) -> (Int, Int)
+    requires coef_within { IsWithin meter.now coef }
+    requires within { IsWithin meter.now k }
+    requires divisor { pos 0 <ℤ k }
+    ensures are { AreProgressionParts coef k result.0 result.1 }
+    ensures scale_within { IsWithin meter.now result.0 }
+    ensures factor_within { IsWithin meter.now result.1 }
+{
+    let scale = coef.gcd(k, meter);
+    let m = k.floor_div(scale, meter);
+    let n = coef.floor_div(scale, meter);
+    let factor = n.inverse(m, meter);
+    (scale, factor.neg(meter))
+}
+
+// `factor` times a congruence's numbers, each reduced by its divisor.
+fn offsets(alloc: Global, factor: Int, one: &Row, meter: &mut Meter) -> Result<Row, Cut>
+    requires factor_within { IsWithin meter.old factor }
+    requires within { IsRowWithin meter.old one.now }
+    requires divisor { pos 0 <ℤ one.now.k }
+    ensures { MatchResult result
+        (λ row. (row ≡ offsets_of factor one.now) × IsRowWithin meter.old row × (meter.new ≡ meter.old))
+        (λ cut. IsCutUpTo 0 meter.old meter.new cut) }
+{
+    let k = one.modulus();
+    let numbers = one.coefs.as_slice();
+    let coefs = weighted(alloc, factor, numbers, Int::ZERO, numbers, meter)?;
+    let small = remainders(alloc, coefs.as_slice(), k, meter)?;
+    let constant = factor.mul(one.offset(), meter)?.modulo(k, meter);
+    Ok(Row::new(RowKind::Zero, small, constant, Int::ONE))
+}
