@@ -3,7 +3,7 @@
 ghost use Rattle.std.specs.Prelude.{◌≡◌, ◌<◌, ◌<ℤ◌, pos, All, length, MatchResult};
 ghost use Rattle.isl_meter.specs.Gauge.{IsWithin};
 ghost use Rattle.isl_piece.specs.Row.{IsRowWithin, IsWellFormed, coef_at};
-ghost use Rattle.isl_elim.specs.Congruence.{IsReducedCongruence};
+ghost use Rattle.isl_piece.specs.declared.constraint.RowKind.TheVariants.{Divides};
 ghost use Rattle.isl_elim.specs.Substitution.{AreProgressionParts, offsets_of, IsProgressionOf, substituted};
 ghost use Rattle.isl_elim.specs.Work.{IsCutUpTo};
 
@@ -52,4 +52,30 @@ fn offsets(alloc: Global, factor: Int, one: &Row, meter: &mut Meter) -> Result<R
     let small = remainders(alloc, coefs.as_slice(), k, meter)?;
     let constant = factor.mul(one.offset(), meter)?.modulo(k, meter);
     Ok(Row::new(RowKind::Zero, small, constant, Int::ONE))
+}
+
+impl Substitution {
+    /// The numbers that the congruence allows.
+    pub fn of(
+        alloc: Global,
+        one: &Row,
+        columns: usize,
+        col: usize,
+        meter: &mut Meter,
+    ) -> Result<Self, Cut>
+        requires kind { one.now.kind ≡ Divides }
+        requires well_formed { IsWellFormed columns one.now }
+        requires within { IsRowWithin meter.old one.now }
+        requires col_in { col < columns }
+        ensures { MatchResult result
+            (λ s. IsProgressionOf columns col one.now s.scale s.offsets × IsWithin meter.old s.scale × IsRowWithin meter.old s.offsets
+            × (meter.new ≡ meter.old))
+            (λ cut. IsCutUpTo 0 meter.old meter.new cut) }
+    {
+        let k = one.modulus();
+        let (scale, factor) = parts(one.coefs.get(col), k, meter);
+        let mut row = offsets(alloc, factor, one, meter)?;
+        row.coefs.set(col, k.sub(scale, meter)?);
+        Ok(Substitution { scale, offsets: row })
+    }
 }
