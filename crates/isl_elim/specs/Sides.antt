@@ -1,11 +1,13 @@
 -- What each row of a system says of one column.
-use Rattle.std.specs.Prelude.{◌≡◌, ℕ, zero, suc, Bool, true, false, ℤ, pos, negsuc, List, filter}
+use Rattle.std.specs.Prelude.{◌≡◌, ℕ, zero, suc, Bool, true, false, ℤ, pos, negsuc, ◌<ℤ◌, List, All, filter}
+use Rattle.isl_math.specs.Divide as divide
 use Rattle.isl_math.specs.Divide.{floor_mod}
+use Rattle.isl_meter.specs.Gauge.{Gauge}
 use Rattle.isl_piece.specs.declared.constraint.RowKind.{RowKind}
 use Rattle.isl_piece.specs.declared.constraint.RowKind.TheVariants as kind
 use Rattle.isl_piece.specs.declared.constraint.Row.{Row}
-use Rattle.isl_piece.specs.Row.{coef_at}
-use Rattle.isl_elim.specs.Column.{HoldAt}
+use Rattle.isl_piece.specs.Row.{coef_at, IsWellFormed, IsRowWithin}
+use Rattle.isl_elim.specs.Column.{HoldAt, IsFree}
 use Rattle.isl_elim.specs.declared.sides.Side.{Side}
 use Rattle.isl_elim.specs.declared.sides.Side.TheVariants.{Lower, Upper, Divides, Apart, Free}
 use Rattle.isl_elim.specs.declared.sides.Sides.{Sides}
@@ -51,3 +53,47 @@ pub record AreSidesOf (rows : List Row) (col : ℕ) (sides : Sides) : Type 0 whe
   pub divides : sides.divides ≡ on_side Divides col rows
   pub apart : sides.apart ≡ on_side Apart col rows
   pub free : sides.free ≡ on_side Free col rows
+
+-- ---- what the rows of each side are
+-- a row over the columns, within the limit
+pub record IsProper (g : Gauge) (columns : ℕ) (r : Row) : Type 0 where
+  pub formed : IsWellFormed columns r
+  pub within : IsRowWithin g r
+
+pub record IsLower (g : Gauge) (columns col : ℕ) (r : Row) : Type 0 where
+  pub proper : IsProper g columns r
+  pub kind : r.kind ≡ kind.AtLeast
+  pub factor : pos 0 <ℤ coef_at r col
+
+pub record IsUpper (g : Gauge) (columns col : ℕ) (r : Row) : Type 0 where
+  pub proper : IsProper g columns r
+  pub kind : r.kind ≡ kind.AtLeast
+  pub factor : coef_at r col <ℤ pos 0
+
+pub record IsDivides (g : Gauge) (columns : ℕ) (r : Row) : Type 0 where
+  pub proper : IsProper g columns r
+  pub kind : r.kind ≡ kind.Divides
+
+pub record IsApart (g : Gauge) (columns col : ℕ) (r : Row) : Type 0 where
+  pub proper : IsProper g columns r
+  pub kind : r.kind ≡ kind.NotDivides
+  pub depends : ¬ divide.Divides r.k (coef_at r col)
+
+pub record IsFreeRow (g : Gauge) (columns col : ℕ) (r : Row) : Type 0 where
+  pub proper : IsProper g columns r
+  pub free : IsFree col r
+
+pub record AreSided (g : Gauge) (columns col : ℕ) (sides : Sides) : Type 0 where
+  pub lowers : All (IsLower g columns col) sides.lowers
+  pub uppers : All (IsUpper g columns col) sides.uppers
+  pub divides : All (IsDivides g columns) sides.divides
+  pub apart : All (IsApart g columns col) sides.apart
+  pub free : All (IsFreeRow g columns col) sides.free
+
+-- the rows of all sides hold with x at the column
+pub record SidesHold (sides : Sides) (col : ℕ) (point : List ℤ) (x : ℤ) : Type 0 where
+  pub lowers : HoldAt sides.lowers col point x
+  pub uppers : HoldAt sides.uppers col point x
+  pub divides : HoldAt sides.divides col point x
+  pub apart : HoldAt sides.apart col point x
+  pub free : HoldAt sides.free col point x
