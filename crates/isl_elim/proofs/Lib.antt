@@ -13,3 +13,4 @@ pub mod ShadowLemmas
 pub mod SideLemmas
 pub mod Splinters
 pub mod SubstitutionLemmas
+pub mod TightenLemmas

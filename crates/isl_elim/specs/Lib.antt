@@ -4,4 +4,5 @@ pub mod Congruence
 pub mod Equality
 pub mod Sides
 pub mod Substitution
+pub mod Tighten
 pub mod Work

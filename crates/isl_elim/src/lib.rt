@@ -8,3 +8,4 @@ mod equality;
 mod rows;
 mod sides;
 mod substitution;
+mod tighten;
