@@ -34,8 +34,11 @@ divisor_scaled AtLeast m k p h = h
 divisor_scaled Divides m k p h = positive-*ℤ m k p h
 divisor_scaled NotDivides m k p h = positive-*ℤ m k p h
 
-pub combination_well_formed : (columns : ℕ) (m : ℤ) (a : Row) (n : ℤ) (b : Row) → pos 0 <ℤ m → IsWellFormed columns a → IsWellFormed columns b → IsWellFormed columns (combination m a n b)
-combination_well_formed columns m a n b p h k = record {
-  width = length-weighted_sum m a.coefs n b.coefs (let e = h.width in let f = k.width in omega arith) ∙ h.width;
+pub combination_formed : (columns : ℕ) (m : ℤ) (a : Row) (n : ℤ) (b : Row) → pos 0 <ℤ m → IsWellFormed columns a → length b.coefs ≡ columns → IsWellFormed columns (combination m a n b)
+combination_formed columns m a n b p h w = record {
+  width = length-weighted_sum m a.coefs n b.coefs (let e = h.width in omega arith) ∙ h.width;
   divisor = divisor_scaled a.kind m a.k p h.divisor;
 }
+
+pub combination_well_formed : (columns : ℕ) (m : ℤ) (a : Row) (n : ℤ) (b : Row) → pos 0 <ℤ m → IsWellFormed columns a → IsWellFormed columns b → IsWellFormed columns (combination m a n b)
+combination_well_formed columns m a n b p h k = combination_formed columns m a n b p h k.width

@@ -6,6 +6,7 @@ pub mod ImageLemmas
 pub mod Lists
 pub mod MergeLemmas
 pub mod Magnitudes
+pub mod MoveLemmas
 pub mod NeighbourLemmas
 pub mod Pairs
 pub mod ReduceLemmas

@@ -1,14 +1,15 @@
 -- A congruence on one column as a substitution: the numbers that it allows are a progression.
-use Rattle.std.specs.Prelude.{◌≡◌, ℕ, ◌-◌, ◌≤◌, ℤ, pos, ◌+ℤ◌, ◌-ℤ◌, ◌*ℤ◌, ◌<ℤ◌, List, length, unsigned_abs}
+use Rattle.std.specs.Prelude.{◌≡◌, ◌↔◌, ℕ, ◌-◌, ◌≤◌, ℤ, pos, ◌+ℤ◌, ◌-ℤ◌, ◌*ℤ◌, ◌<ℤ◌, List, length, unsigned_abs}
 use Rattle.std.specs.List.{insert}
 use Rattle.isl_math.specs.Divide.{Divides, floor_mod}
 use Rattle.isl_math.specs.Dot.{weighted_sum}
 use Rattle.isl_piece.specs.Numbers.{reduced}
-use Rattle.isl_piece.specs.declared.constraint.RowKind.TheVariants.{Zero}
+use Rattle.isl_piece.specs.declared.constraint.RowKind.TheVariants.{Zero, AtLeast}
 use Rattle.isl_piece.specs.declared.constraint.Row.{Row}
-use Rattle.isl_piece.specs.Row.{HoldsRow, coef_at}
+use Rattle.isl_piece.specs.Row.{HoldsRow, IsWellFormed, IsRowUpTo, coef_at}
 use Rattle.isl_elim.specs.Column.{rest_at}
 use Rattle.isl_elim.specs.Combine.{combination}
+use Rattle.isl_elim.specs.Tighten.{IsLessened}
 
 -- g is the greatest common divisor of a coefficient c and a divisor k, and d is the negative of an inverse of c / g modulo k / g
 pub record AreProgressionParts (c k g d : ℤ) : Type 0 where
@@ -37,3 +38,15 @@ pub record IsProgressionOf (columns col : ℕ) (one : Row) (scale : ℤ) (offset
 -- a row with the progression in the column's place: scale times the row plus its coefficient times the offsets
 abbrev pub substituted : ℤ → Row → ℕ → Row → Row
 substituted scale offsets col r = combination scale r (coef_at r col) offsets
+
+-- what a coefficient at the column is multiplied by: the divisor of the congruence
+abbrev pub multiplier : ℤ → Row → ℕ → ℤ
+multiplier scale offsets col = scale +ℤ coef_at offsets col
+
+-- a bound with the progression in the column's place, divided as far as it goes
+pub record IsMovedBound (columns col : ℕ) (scale : ℤ) (offsets row moved : Row) : Type 0 where
+  pub formed : IsWellFormed columns moved
+  pub kind : moved.kind ≡ AtLeast
+  pub same : (xs : List ℤ) → HoldsRow moved xs ↔ HoldsRow (substituted scale offsets col row) xs
+  pub factor : IsLessened (multiplier scale offsets col *ℤ coef_at row col) (coef_at moved col)
+  pub up_to : (b : ℕ) → IsRowUpTo b (substituted scale offsets col row) → IsRowUpTo b moved

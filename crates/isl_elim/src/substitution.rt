@@ -9,6 +9,7 @@ ghost use Rattle.isl_elim.specs.Work.{IsCutUpTo};
 
 use crate::combine::{combined, weighted};
 use crate::congruence::remainders;
+use crate::tighten::tightened;
 use isl_meter::{Cut, Int, Meter};
 use isl_piece::{Row, RowKind};
 use std::alloc::Global;
@@ -77,5 +78,51 @@ impl Substitution {
         let mut row = offsets(alloc, factor, one, meter)?;
         row.coefs.set(col, k.sub(scale, meter)?);
         Ok(Substitution { scale, offsets: row })
+    }
+}
+
+impl Substitution {
+    ghost use Rattle.std.specs.Prelude.{ℤ, map};
+    ghost use Rattle.std.specs.List.{AllZip};
+    ghost use Rattle.isl_piece.specs.declared.constraint.RowKind.TheVariants.{AtLeast};
+    ghost use Rattle.isl_elim.specs.Sides.{IsProper};
+    ghost use Rattle.isl_elim.specs.Substitution.{IsMovedBound};
+
+    // The row with the progression in the column's place.
+    fn put(&self, alloc: Global, row: &Row, col: usize, meter: &mut Meter) -> Result<Row, Cut>
+        requires scale_within { IsWithin meter.old self.now.scale }
+        requires offsets_within { IsRowWithin meter.old self.now.offsets }
+        requires within { IsRowWithin meter.old row.now }
+        requires same_width { length row.now.coefs ≡ length self.now.offsets.coefs }
+        requires col_in { col < length row.now.coefs }
+        ensures { MatchResult result
+            (λ moved. (moved ≡ substituted self.now.scale self.now.offsets col row.now) × IsRowWithin meter.old moved × (meter.new ≡ meter.old))
+            (λ cut. IsCutUpTo 0 meter.old meter.new cut) }
+    {
+        combined(alloc, self.scale, row, row.coefs.get(col), &self.offsets, meter)
+    }
+
+    // The bound with the progression in the column's place, divided as far as it goes.
+    fn bound(
+        &self,
+        alloc: Global,
+        row: &Row,
+        columns: usize,
+        col: usize,
+        meter: &mut Meter,
+    ) -> Result<Row, Cut>
+        requires scale { pos 0 <ℤ self.now.scale }
+        requires scale_within { IsWithin meter.old self.now.scale }
+        requires offsets_within { IsRowWithin meter.old self.now.offsets }
+        requires offsets_width { length self.now.offsets.coefs ≡ columns }
+        requires lower { IsProper meter.old columns row.now }
+        requires kind { row.now.kind ≡ AtLeast }
+        requires col_in { col < columns }
+        ensures { MatchResult result
+            (λ moved. IsMovedBound columns col self.now.scale self.now.offsets row.now moved × IsRowWithin meter.old moved × (meter.new ≡ meter.old))
+            (λ cut. IsCutUpTo 0 meter.old meter.new cut) }
+    {
+        let moved = self.put(alloc, row, col, meter)?;
+        Ok(tightened(alloc, moved, columns, meter)?)
     }
 }
