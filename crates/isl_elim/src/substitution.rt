@@ -11,7 +11,7 @@ use crate::combine::{combined, weighted};
 use crate::congruence::remainders;
 use crate::tighten::tightened;
 use isl_meter::{Cut, Int, Meter};
-use isl_piece::{Row, RowKind};
+use isl_piece::{Row, RowKind, Rows};
 use std::alloc::Global;
 
 /// The numbers that a congruence allows at a column: `scale` times each of them is the congruence's
@@ -124,5 +124,59 @@ impl Substitution {
     {
         let moved = self.put(alloc, row, col, meter)?;
         Ok(tightened(alloc, moved, columns, meter)?)
+    }
+
+    /// The bounds with the progression in the column's place, divided as far as they go.
+    pub fn bounds(
+        &self,
+        alloc: Global,
+        rows: &[Row],
+        columns: usize,
+        col: usize,
+        meter: &mut Meter,
+    ) -> Result<Rows, Cut>
+        requires scale { pos 0 <ℤ self.now.scale }
+        requires scale_within { IsWithin meter.old self.now.scale }
+        requires offsets_within { IsRowWithin meter.old self.now.offsets }
+        requires offsets_width { length self.now.offsets.coefs ≡ columns }
+        requires proper { All (IsProper meter.old columns) rows.now }
+        requires kinds { All (λ r. r.kind ≡ AtLeast) rows.now }
+        requires col_in { col < columns }
+        ensures { MatchResult result
+            (λ moved. AllZip (IsMovedBound columns col self.now.scale self.now.offsets) rows.now moved
+            × All (IsRowWithin meter.old) moved × (meter.new ≡ meter.old))
+            (λ cut. IsCutUpTo 0 meter.old meter.new cut) }
+    {
+        let mut moved = Rows::new(alloc);
+        for row in rows {
+            moved.push(self.bound(alloc, row, columns, col, meter)?)?;
+        }
+        Ok(moved)
+    }
+
+    /// The rows with the progression in the column's place.
+    pub fn rows(
+        &self,
+        alloc: Global,
+        rows: &[Row],
+        columns: usize,
+        col: usize,
+        meter: &mut Meter,
+    ) -> Result<Rows, Cut>
+        requires scale_within { IsWithin meter.old self.now.scale }
+        requires offsets_within { IsRowWithin meter.old self.now.offsets }
+        requires offsets_width { length self.now.offsets.coefs ≡ columns }
+        requires proper { All (IsProper meter.old columns) rows.now }
+        requires col_in { col < columns }
+        ensures { MatchResult result
+            (λ moved. (moved ≡ map (substituted self.now.scale self.now.offsets col) rows.now)
+            × All (IsRowWithin meter.old) moved × (meter.new ≡ meter.old))
+            (λ cut. IsCutUpTo 0 meter.old meter.new cut) }
+    {
+        let mut moved = Rows::new(alloc);
+        for row in rows {
+            moved.push(self.put(alloc, row, col, meter)?)?;
+        }
+        Ok(moved)
     }
 }
