@@ -13,5 +13,6 @@ pub mod ReduceLemmas
 pub mod ShadowLemmas
 pub mod SideLemmas
 pub mod Splinters
+pub mod StepLemmas
 pub mod SubstitutionLemmas
 pub mod TightenLemmas

@@ -67,3 +67,9 @@ AllZip-more R [] [] x y z r = (r, z)
 AllZip-more R [] (b ∷ ys) x y z r = absurd z
 AllZip-more R (a ∷ xs) [] x y z r = absurd z
 AllZip-more R (a ∷ xs) (b ∷ ys) x y z r = (z.0, AllZip-more R xs ys x y z.1 r)
+
+pub AllZip-weaker : {A B : Type 0} (R S : A → B → Type 0) → ((a : A) (b : B) → R a b → S a b) → (xs : List A) (ys : List B) → AllZip R xs ys → AllZip S xs ys
+AllZip-weaker R S f [] [] z = z
+AllZip-weaker R S f [] (y ∷ ys) z = absurd z
+AllZip-weaker R S f (x ∷ xs) [] z = absurd z
+AllZip-weaker R S f (x ∷ xs) (y ∷ ys) z = (f x y z.0, AllZip-weaker R S f xs ys z.1)

@@ -111,7 +111,7 @@ side_means kind.NotDivides k c h = means_apart (floor_mod c k) k c h refl
 means_of : (columns col : ℕ) (side : Side) (r : Row) → IsWellFormed columns r → is_same side (side_of col r) ≡ true → SideMeans side r.kind r.k (coef_at r col)
 means_of columns col side r w e = let s = same_from side (side_of col r) e in rw s at (side_means r.kind r.k (coef_at r col) w.divisor)
 
-picked : (g : Gauge) (columns col : ℕ) (side : Side) (rows : List Row) (P : Row → Type 0) → ((r : Row) → IsProper g columns r → SideMeans side r.kind r.k (coef_at r col) → P r) → All (IsProper g columns) rows → All P (on_side side col rows)
+pub picked : (g : Gauge) (columns col : ℕ) (side : Side) (rows : List Row) (P : Row → Type 0) → ((r : Row) → IsProper g columns r → SideMeans side r.kind r.k (coef_at r col) → P r) → All (IsProper g columns) rows → All P (on_side side col rows)
 picked g columns col side rows P f h = λ k d i.
     let proper = All-filter (λ r. is_same side (side_of col r)) (IsProper g columns) rows h k d i in
     f (get_or (on_side side col rows) k d) proper (means_of columns col side (get_or (on_side side col rows) k d) proper.formed (filter_passes (λ r. is_same side (side_of col r)) rows k d i))
@@ -143,7 +143,7 @@ sides_are g columns col rows sides s h n = record {
 
 -- ---- the sides hold where the rows do
 -- an element that the test keeps is in the filtered list
-in_filter : (p : Row → Bool) (P : Row → Type 0) (rows : List Row) (k : ℕ) (d : Row) → k < length rows → p (get_or rows k d) ≡ true → All P (filter p rows) → P (get_or rows k d)
+pub in_filter : (p : Row → Bool) (P : Row → Type 0) (rows : List Row) (k : ℕ) (d : Row) → k < length rows → p (get_or rows k d) ≡ true → All P (filter p rows) → P (get_or rows k d)
 in_filter p P [] k d i e h = absurd (omega arith)
 in_filter p P (r ∷ rows) zero d i e h = All-head P r (filter p rows) (kept (p r) e h)
   where
@@ -177,3 +177,20 @@ sides_hold rows col sides point x s = (
   }),
   (λ h. all_sides (λ r. HoldsRow r (insert point col x)) col rows (rw s.lowers at h.lowers) (rw s.uppers at h.uppers) (rw s.divides at h.divides) (rw s.apart at h.apart) (rw s.free at h.free)),
 )
+
+-- rows that a divisor must not divide are apart or free
+pub sides_apart : (P : Row → Type 0) (columns col : ℕ) (rows : List Row) → All (IsWellFormed columns) rows → All (λ r. r.kind ≡ kind.NotDivides) rows → All P (on_side Apart col rows) → All P (on_side Free col rows) → All P rows
+sides_apart P columns col rows w n a f = λ k d i. by k d i (side_of col (get_or rows k d)) refl
+  where
+    clash : (asks : RowKind) → asks ≡ kind.NotDivides → asks ≡ kind.AtLeast → ⊥
+    clash asks e f = cc
+    clash_divides : (asks : RowKind) → asks ≡ kind.NotDivides → asks ≡ kind.Divides → ⊥
+    clash_divides asks e f = cc
+    means : (k : ℕ) (d : Row) → k < length rows → (s : Side) → s ≡ side_of col (get_or rows k d) → SideMeans s (get_or rows k d).kind (get_or rows k d).k (coef_at (get_or rows k d) col)
+    means k d i s e = let r = get_or rows k d in rw e (side_means r.kind r.k (coef_at r col) (w k d i).divisor)
+    by : (k : ℕ) (d : Row) → k < length rows → (s : Side) → s ≡ side_of col (get_or rows k d) → P (get_or rows k d)
+    by k d i Lower e = absurd (clash (get_or rows k d).kind (n k d i) (means k d i Lower e).0)
+    by k d i Upper e = absurd (clash (get_or rows k d).kind (n k d i) (means k d i Upper e).0)
+    by k d i Divides e = absurd (clash_divides (get_or rows k d).kind (n k d i) (means k d i Divides e))
+    by k d i Apart e = in_filter (λ r. is_same Apart (side_of col r)) P rows k d i (rw (← e) refl) a
+    by k d i Free e = in_filter (λ r. is_same Free (side_of col r)) P rows k d i (rw (← e) refl) f

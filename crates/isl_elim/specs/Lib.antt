@@ -3,6 +3,7 @@ pub mod Combine
 pub mod Congruence
 pub mod Equality
 pub mod Sides
+pub mod Step
 pub mod Substitution
 pub mod Tighten
 pub mod Work
