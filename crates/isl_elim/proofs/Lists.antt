@@ -1,6 +1,7 @@
 -- All elements of a list, or some of them.
-use Rattle.std.proofs.Common.{◌≡◌, ◌⊎◌, inl, inr, ℕ, zero, suc, ◌+◌, ◌<◌, refl, arith, List, [], ◌∷◌, ◌++◌, length, get_or, take}
-use Rattle.std.specs.List.{All, AllZip, Any, Contains}
+use Rattle.std.proofs.Common.{◌≡◌, ◌⊎◌, inl, inr, subst, Bool, true, false, cond, map, ℕ, zero, suc, ◌+◌, ◌<◌, ◌≤◌, refl, arith, List, [], ◌∷◌, ◌++◌, length, get_or, take}
+use Rattle.std.specs.List.{All, AllZip, Any, Contains, filter}
+use Rattle.std.proofs.lemmas.List.{get_or-map, length-map}
 use Rattle.std.proofs.lemmas.List.Elements.{All-nil, All-cons, All-head, All-tail}
 
 pub Contains-later : {X : Type 0} (y : X) (xs : List X) (x : X) → Contains xs x → Contains (y ∷ xs) x
@@ -73,3 +74,15 @@ AllZip-weaker R S f [] [] z = z
 AllZip-weaker R S f [] (y ∷ ys) z = absurd z
 AllZip-weaker R S f (x ∷ xs) [] z = absurd z
 AllZip-weaker R S f (x ∷ xs) (y ∷ ys) z = (f x y z.0, AllZip-weaker R S f xs ys z.1)
+
+-- ---- mapped and filtered lists
+pub All-unmapped : {X Y : Type 0} (P : Y → Type 0) (f : X → Y) (xs : List X) → All P (map f xs) → All (λ x. P (f x)) xs
+All-unmapped P f xs h = λ k d i. subst P (get_or-map f xs k d (f d) i) (h k (f d) (let n = length-map xs f in omega arith))
+
+pub filter_shorter : {X : Type 0} (p : X → Bool) (xs : List X) → length (filter p xs) ≤ length xs
+filter_shorter p [] = omega arith
+filter_shorter p (x ∷ xs) = by (p x) (filter_shorter p xs)
+  where
+    by : (b : Bool) → length (filter p xs) ≤ length xs → length (cond b (x ∷ filter p xs) (filter p xs)) ≤ suc (length xs)
+    by true h = omega arith
+    by false h = omega arith

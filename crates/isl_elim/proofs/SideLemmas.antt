@@ -117,7 +117,7 @@ picked g columns col side rows P f h = λ k d i.
     f (get_or (on_side side col rows) k d) proper (means_of columns col side (get_or (on_side side col rows) k d) proper.formed (filter_passes (λ r. is_same side (side_of col r)) rows k d i))
 
 -- an equality that does not have the column is free of it
-free_from : (asks : RowKind) (k c : ℤ) → (asks ≡ kind.Zero → c ≡ pos 0) → (asks ≡ kind.Zero) ⊎ IsFreeKind asks k c → IsFreeKind asks k c
+pub free_from : (asks : RowKind) (k c : ℤ) → (asks ≡ kind.Zero → c ≡ pos 0) → (asks ≡ kind.Zero) ⊎ IsFreeKind asks k c → IsFreeKind asks k c
 free_from asks k c none (inl e) = rw e (none e)
 free_from asks k c none (inr f) = f
 

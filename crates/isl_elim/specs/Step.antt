@@ -1,7 +1,7 @@
 -- The congruence step: the sides of a column with its congruences as a substitution.
 use Rattle.std.specs.Prelude.{◌≡◌, ◌↔◌, ℕ, ◌-◌, ◌≤◌, ℤ, pos, ◌*ℤ◌, ◌≤ℤ◌, ◌<ℤ◌, List, [], ◌∷◌, ◌++◌, All, length, map}
 use Rattle.std.specs.List.{AllZip}
-use Rattle.isl_meter.specs.Gauge.{Gauge}
+use Rattle.isl_meter.specs.Gauge.{Gauge, IsWithin}
 use Rattle.isl_piece.specs.declared.constraint.Row.{Row}
 use Rattle.isl_piece.specs.Row.{IsRowWithin, coef_at}
 use Rattle.isl_elim.specs.Congruence.{product_of_divisors}
@@ -23,6 +23,7 @@ pub record AreMovedTo (g : Gauge) (columns col : ℕ) (one : Row) (others : List
   pub uppers : AllZip (IsMovedBound columns col scale offsets) old.uppers new.uppers
   pub uppers_within : All (IsRowWithin g) new.uppers
   pub divides : new.divides ≡ []
+  pub scale_within : IsWithin g scale
   pub moved_within : All (IsRowWithin g) (map (substituted scale offsets col) old.apart)
   pub apart : new.apart ≡ on_side Apart col (map (substituted scale offsets col) old.apart)
   pub free : new.free ≡ ((on_side Free col (map (substituted scale offsets col) old.apart) ++ others) ++ old.free) ++ within_scale one scale ∷ []
