@@ -1,5 +1,5 @@
 -- All elements of a list, or some of them.
-use Rattle.std.proofs.Common.{◌≡◌, ◌⊎◌, inl, inr, subst, Bool, true, false, cond, map, ℕ, zero, suc, ◌+◌, ◌<◌, ◌≤◌, refl, arith, List, [], ◌∷◌, ◌++◌, length, get_or, take}
+use Rattle.std.proofs.Common.{◌≡◌, ◌⊎◌, inl, inr, subst, Bool, true, false, cond, map, ℕ, zero, suc, ◌+◌, ◌<◌, ◌≤◌, refl, ap, arith, List, [], ◌∷◌, ◌++◌, length, get_or, take}
 use Rattle.std.specs.List.{All, AllZip, Any, Contains, filter}
 use Rattle.std.proofs.lemmas.List.{get_or-map, length-map}
 use Rattle.std.proofs.lemmas.List.Elements.{All-nil, All-cons, All-head, All-tail}
@@ -86,3 +86,9 @@ filter_shorter p (x ∷ xs) = by (p x) (filter_shorter p xs)
     by : (b : Bool) → length (filter p xs) ≤ length xs → length (cond b (x ∷ filter p xs) (filter p xs)) ≤ suc (length xs)
     by true h = omega arith
     by false h = omega arith
+
+pub length_zipped : {A B : Type 0} (R : A → B → Type 0) (xs : List A) (ys : List B) → AllZip R xs ys → length xs ≡ length ys
+length_zipped R [] [] z = refl
+length_zipped R [] (y ∷ ys) z = absurd z
+length_zipped R (x ∷ xs) [] z = absurd z
+length_zipped R (x ∷ xs) (y ∷ ys) z = ap suc (length_zipped R xs ys z.1)

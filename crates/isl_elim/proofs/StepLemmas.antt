@@ -1,8 +1,8 @@
 -- The congruence step: some whole number meets the old sides exactly where one meets the new.
-use Rattle.std.proofs.Common.{◌≡◌, ◌≢◌, ◌↔◌, ◌⊎◌, inl, inr, ◌∙◌, refl, sym, ap, subst, arith, Bool, true, false, cond, ℕ, zero, suc, ◌+◌, ◌-◌, ◌<◌, ◌≤◌, ℤ, pos, ◌+ℤ◌, ◌-ℤ◌, ◌*ℤ◌, ◌≤ℤ◌, ◌<ℤ◌, List, [], ◌∷◌, ◌++◌, length, get_or, map}
+use Rattle.std.proofs.Common.{◌≡◌, ◌≢◌, ◌↔◌, ◌⊎◌, inl, inr, ◌∙◌, refl, sym, ap, subst, arith, Bool, true, false, cond, ℕ, zero, suc, ◌+◌, ◌-◌, ◌<◌, ◌≤◌, ℤ, pos, neg_ℤ, ◌+ℤ◌, ◌-ℤ◌, ◌*ℤ◌, ◌≤ℤ◌, ◌<ℤ◌, List, [], ◌∷◌, ◌++◌, length, get_or, map}
 use Rattle.std.specs.List.{All, AllZip, filter, insert}
 use Rattle.std.proofs.lemmas.List.{length-map, get_or-map}
-use Rattle.std.proofs.lemmas.List.Elements.{All-nil, All-append, All-push, All-map, All-weaker, All-filter}
+use Rattle.std.proofs.lemmas.List.Elements.{All-nil, All-append, All-push, All-map, All-weaker, All-filter, AllZip-get_or, filter_passes}
 use Rattle.isl_math.specs.Divide as divide
 use Rattle.isl_math.proofs.Ring.{expand, linear}
 use Rattle.isl_math.proofs.OrderLaws.{positive-*ℤ}
@@ -11,8 +11,8 @@ use Rattle.isl_meter.specs.Gauge.{Gauge}
 use Rattle.isl_piece.specs.declared.constraint.RowKind.{RowKind}
 use Rattle.isl_piece.specs.declared.constraint.RowKind.TheVariants as kind
 use Rattle.isl_piece.specs.declared.constraint.Row.{Row}
-use Rattle.isl_piece.specs.Row.{HoldsRow, HoldsValue, value_at, IsWellFormed, IsRowWithin, coef_at}
-use Rattle.isl_elim.specs.Column.{IsFree, HoldAt, rest_at}
+use Rattle.isl_piece.specs.Row.{HoldsRow, HoldsValue, value_at, HasDivisor, IsWellFormed, IsRowWithin, coef_at}
+use Rattle.isl_elim.specs.Column.{IsFree, IsFreeKind, HoldAt, rest_at}
 use Rattle.isl_elim.specs.Congruence.{AreMergedTo, product_of_divisors}
 use Rattle.isl_elim.specs.Sides.{AreSided, SidesHold, IsProper, IsLower, IsUpper, IsDivides, IsApart, IsFreeRow, is_same, side_of, on_side}
 use Rattle.isl_elim.specs.Step.{within_scale, AreMovedTo, AreNarrowed, HoldTogether, IsStepOf}
@@ -23,10 +23,10 @@ use Rattle.isl_elim.specs.declared.sides.Side.TheVariants.{Lower, Upper, Divides
 use Rattle.isl_elim.specs.declared.sides.Sides.{Sides}
 use Rattle.isl_elim.proofs.ColumnLemmas.{value_at-insert, hold_anywhere}
 use Rattle.isl_elim.proofs.CongruenceLemmas.{divides_rest}
-use Rattle.isl_elim.proofs.Lists.{All-parts, All-last, All-zipped, All-zipped_back, AllZip-with, AllZip-weaker, All-unmapped, filter_shorter}
+use Rattle.isl_elim.proofs.Lists.{All-parts, All-last, All-zipped, All-zipped_back, AllZip-with, AllZip-weaker, All-unmapped, filter_shorter, length_zipped}
 use Rattle.isl_elim.proofs.MoveLemmas.{substituted_formed, substituted_same}
 use Rattle.isl_elim.proofs.ReduceLemmas.{holds_congruence}
-use Rattle.isl_elim.proofs.SideLemmas.{in_filter, side_means, picked, sides_apart}
+use Rattle.isl_elim.proofs.SideLemmas.{picked, sides_apart, SideMeans, free_from}
 
 -- ---- bounds
 -- where scale x is k y and what the offsets have beside the column, the new bounds hold with y where the old ones hold with x
@@ -152,3 +152,89 @@ step_same g columns col one others scale offsets old new s = λ point n. (forth 
           apart = (apart_same point x.0 y n x.1).0 apart;
           free = free_rows_anywhere g columns col old.free point y x.0 inside n sided.free two.1;
         })
+
+-- ---- the new sides
+multiplier_is : (col : ℕ) (scale k : ℤ) (offsets : Row) → coef_at offsets col ≡ k -ℤ scale → multiplier scale offsets col ≡ k
+multiplier_is col scale k offsets e = by scale k (coef_at offsets col) e
+  where
+    by : (s k o : ℤ) → o ≡ k -ℤ s → s +ℤ o ≡ k
+    by s k o e = omega (arith, linear)
+
+below_zero : (k c : ℤ) → pos 0 <ℤ k → c <ℤ pos 0 → (k *ℤ c) <ℤ pos 0
+below_zero k c p h = let t = positive-*ℤ k (neg_ℤ c) p (omega (arith, linear)) in let t' = simp expand at t in omega (arith, linear)
+
+divides_divisor : (asks : RowKind) (k : ℤ) → asks ≡ kind.Divides → pos 0 <ℤ k → HasDivisor asks k
+divides_divisor asks k e p = rw e p
+
+divides_free : (asks : RowKind) (k c : ℤ) → asks ≡ kind.Divides → divide.Divides k c → IsFreeKind asks k c
+divides_free asks k c e d = rw e d
+
+no_equality : (asks : RowKind) (c : ℤ) → asks ≡ kind.NotDivides → asks ≡ kind.Zero → c ≡ pos 0
+no_equality asks c e f = cc
+
+moved_proper : (g : Gauge) (columns col : ℕ) (scale : ℤ) (offsets : Row) (rows : List Row) → pos 0 <ℤ scale → length offsets.coefs ≡ columns → All (IsApart g columns col) rows → All (IsRowWithin g) (map (substituted scale offsets col) rows)
+    → All (IsProper g columns) (map (substituted scale offsets col) rows)
+moved_proper g columns col scale offsets rows p w h i = λ k d j. record { formed = moved_formed g columns col scale offsets rows p w h k d j; within = i k d j }
+
+moved_free : (g : Gauge) (columns col : ℕ) (scale : ℤ) (offsets : Row) (rows : List Row) → All (IsApart g columns col) rows → All (IsProper g columns) (map (substituted scale offsets col) rows) → All (IsFreeRow g columns col) (on_side Free col (map (substituted scale offsets col) rows))
+moved_free g columns col scale offsets rows h p = λ k d j.
+    let moved = map (substituted scale offsets col) rows in
+    let r = get_or (on_side Free col moved) k d in
+    let proper = All-filter (λ r. is_same Free (side_of col r)) (IsProper g columns) moved p k d j in
+    let kinds = All-filter (λ r. is_same Free (side_of col r)) (λ r. r.kind ≡ kind.NotDivides) moved (moved_kinds g columns col scale offsets rows h) k d j in
+    let means = picked g columns col Free moved (λ r. SideMeans Free r.kind r.k (coef_at r col)) (λ r q m. m) p k d j in
+    record { proper = proper; free = free_from r.kind r.k (coef_at r col) (no_equality r.kind (coef_at r col) kinds) means }
+
+pub step_sided : (g : Gauge) (columns col : ℕ) (one : Row) (others : List Row) (scale : ℤ) (offsets : Row) (old new : Sides) → IsStep g columns col one others scale offsets old new → AreSided g columns col new
+step_sided g columns col one others scale offsets old new s = record {
+  lowers = λ i d j.
+      let r = get_or old.lowers i d in
+      let inside_old : i < length old.lowers = (let e = length_zipped (IsMovedBound columns col scale offsets) old.lowers new.lowers moved.lowers in omega arith) in
+      let m = AllZip-get_or (IsMovedBound columns col scale offsets) old.lowers new.lowers i d d moved.lowers inside_old in
+      record { proper = record { formed = m.formed; within = moved.lowers_within i d j }; kind = m.kind; factor = m.factor.above (positive-*ℤ (multiplier scale offsets col) (coef_at r col) multiplied (sided.lowers i d inside_old).factor) };
+  uppers = λ i d j.
+      let r = get_or old.uppers i d in
+      let inside_old : i < length old.uppers = (let e = length_zipped (IsMovedBound columns col scale offsets) old.uppers new.uppers moved.uppers in omega arith) in
+      let m = AllZip-get_or (IsMovedBound columns col scale offsets) old.uppers new.uppers i d d moved.uppers inside_old in
+      record { proper = record { formed = m.formed; within = moved.uppers_within i d j }; kind = m.kind; factor = m.factor.below (below_zero (multiplier scale offsets col) (coef_at r col) multiplied (sided.uppers i d inside_old).factor) };
+  divides = rw moved.divides (All-nil (IsDivides g columns));
+  apart = rw moved.apart (picked g columns col Apart (map (substituted scale offsets col) old.apart) (IsApart g columns col) (λ r p m. record { proper = p; kind = m.0; depends = m.1 }) proper);
+  free = rw moved.free (All-push (IsFreeRow g columns col) ((on_side Free col (map (substituted scale offsets col) old.apart) ++ others) ++ old.free) (within_scale one scale)
+    (All-append (IsFreeRow g columns col) (on_side Free col (map (substituted scale offsets col) old.apart) ++ others) old.free
+      (All-append (IsFreeRow g columns col) (on_side Free col (map (substituted scale offsets col) old.apart)) others
+        (moved_free g columns col scale offsets old.apart sided.apart proper)
+        (λ i d j. record { proper = record { formed = merged.well_formed i d j; within = merged.others_within i d j }; free = merged.free i d j }))
+      sided.free)
+    (record {
+      proper = record { formed = record { width = merged.is_reduced.width; divisor = divides_divisor one.kind scale merged.is_reduced.kind progression.positive }; within = record { coefs = merged.within.coefs; constant = merged.within.constant; k = moved.scale_within } };
+      free = divides_free one.kind scale (coef_at one col) merged.is_reduced.kind progression.divides_coefficient;
+    }));
+}
+  where
+    open s use {inside, sided, merged, progression, moved}
+    multiplied : pos 0 <ℤ multiplier scale offsets col
+    multiplied = rw (multiplier_is col scale one.k offsets progression.at_column) merged.positive
+    proper : All (IsProper g columns) (map (substituted scale offsets col) old.apart)
+    proper = moved_proper g columns col scale offsets old.apart progression.positive progression.width sided.apart moved.moved_within
+
+narrowed_list : (columns col : ℕ) (scale k : ℤ) (offsets : Row) (old new : List Row) → coef_at offsets col ≡ k -ℤ scale → AllZip (IsMovedBound columns col scale offsets) old new → AllZip (λ r s. IsLessened (k *ℤ coef_at r col) (coef_at s col)) old new
+narrowed_list columns col scale k offsets old new e z =
+    AllZip-weaker (IsMovedBound columns col scale offsets) (λ r s. IsLessened (k *ℤ coef_at r col) (coef_at s col)) (λ r s m. subst (λ j. IsLessened (j *ℤ coef_at r col) (coef_at s col)) (multiplier_is col scale k offsets e) m.factor) old new z
+
+pub step_is : (g : Gauge) (columns col : ℕ) (one : Row) (others : List Row) (scale : ℤ) (offsets : Row) (old new : Sides) → IsStep g columns col one others scale offsets old new → IsStepOf g columns col old new
+step_is g columns col one others scale offsets old new s = record {
+  sided = step_sided g columns col one others scale offsets old new s;
+  divides = s.moved.divides;
+  apart = let n = filter_shorter (λ r. is_same Apart (side_of col r)) (map (substituted scale offsets col) old.apart) in
+      let e = ap (λ (rows : List Row). length rows) s.moved.apart in
+      let m = length-map old.apart (substituted scale offsets col) in
+      omega arith;
+  same = step_same g columns col one others scale offsets old new s;
+  k = one.k;
+  positive = s.merged.positive;
+  small = s.merged.small;
+  narrowed = record {
+    lowers = narrowed_list columns col scale one.k offsets old.lowers new.lowers s.progression.at_column s.moved.lowers;
+    uppers = narrowed_list columns col scale one.k offsets old.uppers new.uppers s.progression.at_column s.moved.uppers;
+  };
+}
