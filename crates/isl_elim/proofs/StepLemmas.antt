@@ -91,7 +91,7 @@ moved_apart g columns col scale k offsets rows point x y p w l n o e h = (
   (λ a. All-map (λ r. HoldsRow r (insert point col y)) (substituted scale offsets col) rows (λ i d j. (substituted_same columns col scale k offsets (get_or rows i d) point x y p (h i d j).proper.formed w l n o e).1 (a i d j))),
 )
 
-moved_formed : (g : Gauge) (columns col : ℕ) (scale : ℤ) (offsets : Row) (rows : List Row) → pos 0 <ℤ scale → length offsets.coefs ≡ columns → All (IsApart g columns col) rows → All (IsWellFormed columns) (map (substituted scale offsets col) rows)
+pub moved_formed : (g : Gauge) (columns col : ℕ) (scale : ℤ) (offsets : Row) (rows : List Row) → pos 0 <ℤ scale → length offsets.coefs ≡ columns → All (IsApart g columns col) rows → All (IsWellFormed columns) (map (substituted scale offsets col) rows)
 moved_formed g columns col scale offsets rows p w h = All-map (IsWellFormed columns) (substituted scale offsets col) rows (λ i d j. substituted_formed columns col scale offsets (get_or rows i d) p (h i d j).proper.formed w)
 
 moved_kinds : (g : Gauge) (columns col : ℕ) (scale : ℤ) (offsets : Row) (rows : List Row) → All (IsApart g columns col) rows → All (λ r. r.kind ≡ kind.NotDivides) (map (substituted scale offsets col) rows)

@@ -143,7 +143,7 @@ fn joined(
 }
 
 // Congruences that depend on the column as one, and what they say of the other columns.
-fn merged(
+pub(crate) fn merged(
     alloc: Global,
     rows: &[Row],
     columns: usize,

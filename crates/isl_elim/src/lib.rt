@@ -7,5 +7,6 @@ mod congruence;
 mod equality;
 mod rows;
 mod sides;
+mod step;
 mod substitution;
 mod tighten;

@@ -93,7 +93,7 @@ impl Side {
 
     // Copies of the rows on this side of the column.
     #[tactic(auto, using(std::proofs::lemmas::Grind::common_steps, std::proofs::lemmas::List::Elements::filter_more))]
-    fn copied(
+    pub fn copied(
         self,
         alloc: Global,
         rows: &[Row],
