@@ -8,7 +8,8 @@ use Rattle.isl_math.proofs.Ring.{expand, linear}
 use Rattle.isl_math.proofs.OrderLaws.{cases_ℤ, at_most_or_above}
 use Rattle.isl_math.proofs.DivideLaws.{Divides-+ℤ, Divides-minus, Divides-*ℤ, Divides_trans, Divides-same, Divides-from_mod, mod-from_Divides, floor_split, floor_mod_bounds, IsCongruent-floor_mod}
 use Rattle.isl_elim.proofs.Lists.{all_or_any}
-use Rattle.isl_elim.proofs.ShadowLemmas.{Bound, IsProper, MeetsLower, MeetsUpper, lower_holds_on, far_above, far_below, upper_holds_on}
+use Rattle.isl_elim.specs.Shadow.{Bound, IsPositive, MeetsLower, MeetsUpper}
+use Rattle.isl_elim.proofs.ShadowLemmas.{lower_holds_on, far_above, far_below, upper_holds_on}
 
 -- k divides z, or it does not
 pub Divides_or_not : (k z : ℤ) → pos 0 <ℤ k → Divides k z ⊎ ¬ Divides k z
@@ -51,7 +52,7 @@ pub record MeetsTwice (lowers uppers : List Bound) (x : ℤ) : Type 0 where
   pub below : All (λ u. MeetsUpper x (shifted u)) uppers
 
 -- two neighbours within the bounds give one that k leaves undivided
-pub neighbours_give : (lowers uppers : List Bound) (k c f x : ℤ) → pos 0 <ℤ k → ¬ Divides k c → All IsProper lowers → All IsProper uppers
+pub neighbours_give : (lowers uppers : List Bound) (k c f x : ℤ) → pos 0 <ℤ k → ¬ Divides k c → All IsPositive lowers → All IsPositive uppers
     → MeetsTwice lowers uppers x → (y : ℤ) × MeetsApart lowers uppers k c f y
 neighbours_give lowers uppers k c f x p n q r m =
     let next : All (MeetsUpper (x +ℤ pos 1)) uppers = (λ i d l. (shifted_is x (get_or uppers i d)).0 (m.below i d l)) in
@@ -85,7 +86,7 @@ neighbours_cover lowers uppers x h k = elim (all_or_any (MeetsLower (x -ℤ pos 
         by x y u e h = rw e at h
 
 -- the neighbour step: some whole x is met exactly where two neighbours are, or an end of a lower bound is met
-pub neighbour_step : (lowers uppers : List Bound) (k c f : ℤ) → pos 0 <ℤ k → ¬ Divides k c → All IsProper lowers → All IsProper uppers
+pub neighbour_step : (lowers uppers : List Bound) (k c f : ℤ) → pos 0 <ℤ k → ¬ Divides k c → All IsPositive lowers → All IsPositive uppers
     → ((x : ℤ) × MeetsApart lowers uppers k c f x) ↔ (((x : ℤ) × MeetsTwice lowers uppers x) ⊎ ((x : ℤ) × MeetsApart lowers uppers k c f x × Any (IsEnd x) lowers))
 neighbour_step lowers uppers k c f p n q r = (
   (λ s. elim (neighbours_cover lowers uppers s.0 (s.1).above (s.1).below) [ inl m ↦ inl (s.0 -ℤ pos 1, m) | inr a ↦ inr (s.0, s.1, a) ]),
@@ -93,16 +94,16 @@ neighbour_step lowers uppers k c f p n q r = (
 )
 
 -- where one side has no bound, some x is met
-pub neighbour_open_above : (lowers : List Bound) (k c f : ℤ) → pos 0 <ℤ k → ¬ Divides k c → All IsProper lowers → (x : ℤ) × MeetsApart lowers [] k c f x
+pub neighbour_open_above : (lowers : List Bound) (k c f : ℤ) → pos 0 <ℤ k → ¬ Divides k c → All IsPositive lowers → (x : ℤ) × MeetsApart lowers [] k c f x
 neighbour_open_above lowers k c f p n q =
     let far = far_above lowers q in
-    neighbours_give lowers [] k c f far.0 p n q (All-nil IsProper) (record { above = far.1; below = All-nil (λ u. MeetsUpper far.0 (shifted u)) })
+    neighbours_give lowers [] k c f far.0 p n q (All-nil IsPositive) (record { above = far.1; below = All-nil (λ u. MeetsUpper far.0 (shifted u)) })
 
-pub neighbour_open_below : (uppers : List Bound) (k c f : ℤ) → pos 0 <ℤ k → ¬ Divides k c → All IsProper uppers → (x : ℤ) × MeetsApart [] uppers k c f x
+pub neighbour_open_below : (uppers : List Bound) (k c f : ℤ) → pos 0 <ℤ k → ¬ Divides k c → All IsPositive uppers → (x : ℤ) × MeetsApart [] uppers k c f x
 neighbour_open_below uppers k c f p n r =
     let far = far_below uppers r in
     let x = far.0 -ℤ pos 1 in
-    neighbours_give [] uppers k c f x p n (All-nil IsProper) r
+    neighbours_give [] uppers k c f x p n (All-nil IsPositive) r
     (record { above = All-nil (MeetsLower x); below = (λ i d l. (shifted_is x (get_or uppers i d)).1 (upper_holds_on far.0 (x +ℤ pos 1) (get_or uppers i d) (r i d l) (omega (arith, linear)) (far.1 i d l))) })
 
 -- ---- several such rows: residues

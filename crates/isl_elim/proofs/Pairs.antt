@@ -4,7 +4,7 @@ use Rattle.isl_math.specs.Divide.{floor_div, Divides}
 use Rattle.isl_math.proofs.Ring.{expand, linear}
 use Rattle.isl_math.proofs.OrderLaws.{*ℤ-≤ℤ, ≤ℤ-from_*ℤ, <ℤ-from_*ℤ}
 use Rattle.isl_math.proofs.DivideLaws.{at_most_floor, floor_split, floor_mod_bounds}
-use Rattle.isl_elim.proofs.ShadowLemmas.{Bound, together, slack, IsReal, IsDark}
+use Rattle.isl_elim.specs.Shadow.{Bound, together, slack, IsReal, IsDark}
 
 -- z / d, rounded up
 abbrev pub ceiling : ℤ → ℤ → ℤ

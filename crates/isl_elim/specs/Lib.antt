@@ -2,6 +2,7 @@ pub mod Column
 pub mod Combine
 pub mod Congruence
 pub mod Equality
+pub mod Shadow
 pub mod Sides
 pub mod Step
 pub mod Substitution
