@@ -1,5 +1,5 @@
 -- A row's value by its part at one column, and rows that do not depend on it.
-use Rattle.std.proofs.Common.{◌≡◌, ◌≢◌, ◌↔◌, ◌∙◌, Option, Some, None, MatchOption, refl, sym, ap, subst, map, ◌-◌, arith, ℕ, zero, suc, ◌+◌, ◌<◌, ◌≤◌, ℤ, pos, ◌+ℤ◌, ◌-ℤ◌, ◌*ℤ◌, List, [], ◌∷◌, ◌++◌, length, get_or, take, drop, add-one}
+use Rattle.std.proofs.Common.{◌≡◌, ◌≢◌, ◌↔◌, ◌∙◌, Option, Some, None, MatchOption, option_map, refl, sym, ap, subst, map, ◌-◌, arith, ℕ, zero, suc, ◌+◌, ◌<◌, ◌≤◌, ℤ, pos, ◌+ℤ◌, ◌-ℤ◌, ◌*ℤ◌, List, [], ◌∷◌, ◌++◌, length, get_or, take, drop, add-one}
 use Rattle.std.specs.List.{All, insert, remove}
 use Rattle.std.proofs.lemmas.List.Edits.{length-remove}
 use Rattle.std.proofs.lemmas.List.Elements.{All-append, All-take, All-drop, All-map, All-weaker}
@@ -14,6 +14,8 @@ use Rattle.isl_piece.specs.declared.constraint.RowKind.TheVariants.{Zero, AtLeas
 use Rattle.isl_piece.specs.declared.constraint.Row.{Row}
 use Rattle.isl_piece.specs.declared.conjunction.System.{System}
 use Rattle.isl_piece.specs.System.{HoldsSystem, IsSystemWithin}
+use Rattle.isl_piece.specs.Normal.{normal_rows, normal_system}
+use Rattle.std.specs.Prelude.{IfSome}
 use Rattle.isl_piece.specs.Row.{HoldsValue, HoldsRow, value_at, coef_at, IsWellFormed, IsRowWithin}
 use Rattle.isl_meter.specs.Gauge.{Gauge, IsWithin}
 use Rattle.isl_elim.specs.Column.{rest_at, IsFreeKind, IsFree, HoldAt, dropped, IsSystemOf}
@@ -119,14 +121,20 @@ pub short_within : (g : Gauge) (columns col : ℕ) (rows short : List Row) → c
     → IsSystemWithin g (record { columns = columns - 1; rows = short })
 short_within g columns col rows short h w i e = let d = rows_dropped g columns col rows h w i in rw e (record { rows = d.0; within = d.1 })
 
+columns_kept : (columns : ℕ) (o : Option (List Row)) (s : System) → Some s ≡ option_map (λ rows. system_of columns rows) o → s.columns ≡ columns
+columns_kept columns None s e = cc
+columns_kept columns (Some rows) s e = let f : s ≡ system_of columns rows = cc in ap (λ (t : System). t.columns) f
+
 pub settled_is : (g : Gauge) (columns col : ℕ) (rows short : List Row) (o : Option System) → col < columns → All (IsWellFormed columns) rows → All (IsFree col) rows → short ≡ map (λ r. dropped r col) rows
-    → MatchOption o ((xs : List ℤ) → ¬ HoldsSystem (system_of (columns - 1) short) xs) (λ s. (s.columns ≡ columns - 1) × IsSystemWithin g s × ((xs : List ℤ) → HoldsSystem s xs ↔ HoldsSystem (system_of (columns - 1) short) xs))
+    → o ≡ normal_system (system_of (columns - 1) short)
+    → ((xs : List ℤ) → MatchOption o (¬ HoldsSystem (system_of (columns - 1) short) xs) (λ s. HoldsSystem s xs ↔ HoldsSystem (system_of (columns - 1) short) xs))
+    → IfSome o (IsSystemWithin g)
     → IsSystemOf g (columns - 1) (λ point. HoldAt rows col point (pos 0)) o
-settled_is g columns col rows short None h w f e m = λ point n a. m point (rw e ((hold_dropped columns col rows point (pos 0) h n w f).1 a))
-settled_is g columns col rows short (Some s) h w f e m = (
-  m.0,
-  m.1,
-  (λ point n. ((λ a. (hold_dropped columns col rows point (pos 0) h n w f).0 (rw e at ((m.2 point).0 a))), (λ a. (m.2 point).1 (rw e ((hold_dropped columns col rows point (pos 0) h n w f).1 a))))),
+settled_is g columns col rows short None h w f e x m i = λ point n a. m point (rw e ((hold_dropped columns col rows point (pos 0) h n w f).1 a))
+settled_is g columns col rows short (Some s) h w f e x m i = (
+  columns_kept (columns - 1) (normal_rows short) s x,
+  i,
+  (λ point n. ((λ a. (hold_dropped columns col rows point (pos 0) h n w f).0 (rw e at ((m point).0 a))), (λ a. (m point).1 (rw e ((hold_dropped columns col rows point (pos 0) h n w f).1 a))))),
 )
 
 -- rows that are free of the column hold at any x there or at none

@@ -11,9 +11,7 @@ use Rattle.isl_math.proofs.GcdLaws.{IsContentOf-content}
 use Rattle.isl_piece.specs.declared.constraint.RowKind.{RowKind}
 use Rattle.isl_piece.specs.declared.constraint.RowKind.TheVariants.{AtLeast}
 use Rattle.isl_piece.specs.declared.constraint.Row.{Row}
-use Rattle.isl_piece.specs.declared.normal.Verdict.{Verdict}
-use Rattle.isl_piece.specs.declared.normal.Verdict.TheVariants.{Always, Never, Kept}
-use Rattle.isl_piece.specs.Normal.{normal_row, normal_form, normal_at_least, bound}
+use Rattle.isl_piece.specs.Normal.{Verdict, Always, Never, Kept, normal_row, normal_form, normal_at_least, bound}
 use Rattle.isl_piece.specs.Numbers.{divided}
 use Rattle.isl_piece.specs.Row.{HoldsRow, IsWellFormed, IsRowWithin, IsRowUpTo, coef_at}
 use Rattle.isl_piece.proofs.NormalCases.{normal_at_least_by, content_positive}

@@ -7,7 +7,7 @@ ghost use Rattle.isl_elim.specs.Work.{IsCutUpTo};
 ghost use Rattle.isl_elim.specs.Column.{dropped, IsFree, IsSystemOf, HoldAt};
 
 use isl_meter::{Cut, Int, Meter};
-use isl_piece::{Coefs, Row, Rows, System};
+use isl_piece::{Coefs, Row, Rows, System, normalise};
 use std::alloc::{AllocError, AllocFailed, Global};
 
 // The numbers but for the one at `col`.
@@ -60,5 +60,5 @@ pub(crate) fn settled(
 {
     let short = rows_without(alloc, rows.as_slice(), col)?;
     let system = System { columns: columns - 1, rows: short };
-    Ok(system.normalised(alloc, meter)?)
+    Ok(normalise(alloc, system, meter)?)
 }

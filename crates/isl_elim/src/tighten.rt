@@ -6,7 +6,7 @@ ghost use Rattle.isl_piece.specs.Row.{IsRowWithin, IsWellFormed};
 ghost use Rattle.isl_elim.specs.Tighten.{IsTightened};
 
 use isl_meter::Meter;
-use isl_piece::{Row, Verdict, normal_row};
+use isl_piece::{Outcome, Row, settle};
 use std::alloc::{AllocError, Global};
 
 /// The bound in normal form; as it is where no column occurs.
@@ -16,8 +16,9 @@ pub(crate) fn tightened(alloc: Global, row: Row, columns: usize, meter: &Meter) 
     requires within { IsRowWithin meter.now row }
     ensures { IfOk result (λ tight. IsTightened columns row tight × IsRowWithin meter.now tight) }
 {
-    match normal_row(row.copy(alloc)?, meter) {
-        Verdict::Kept(tight) => Ok(tight),
-        Verdict::Always | Verdict::Never => Ok(row),
+    let mut tight = row.copy(alloc)?;
+    match settle(&mut tight, meter) {
+        Outcome::Stays => Ok(tight),
+        Outcome::Holds | Outcome::Fails => Ok(row),
     }
 }
