@@ -1,3 +1,4 @@
+pub mod ColumnLaws
 pub mod CountLaws
 pub mod DivideLaws
 pub mod DotLaws

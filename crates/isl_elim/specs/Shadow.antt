@@ -1,0 +1,53 @@
+-- Shadows of bounds on one column (Pugh, the Omega test): what a lower and an upper bound leave without the column.
+use Rattle.std.specs.Prelude.{◌≡◌, ◌↔◌, ◌⊎◌, ℕ, ◌-◌, ℤ, pos, neg_ℤ, ◌+ℤ◌, ◌-ℤ◌, ◌*ℤ◌, ◌≤ℤ◌, ◌<ℤ◌, List, length, All}
+use Rattle.std.specs.List.{insert}
+use Rattle.isl_math.specs.Divide.{floor_div}
+use Rattle.isl_piece.specs.declared.constraint.Row.{Row}
+use Rattle.isl_piece.specs.Row.{HoldsRow, coef_at}
+use Rattle.isl_elim.specs.Column.{rest_at}
+
+-- a bound on x at a point of the other columns: `rest` is the value of what stands beside x
+pub record Bound : Type 0 where
+  pub factor : ℤ
+  pub rest : ℤ
+
+-- the factor is 1 or more
+abbrev pub IsPositive : Bound → Type 0
+IsPositive b = pos 0 <ℤ b.factor
+
+-- a x + f >= 0
+abbrev pub MeetsLower : ℤ → Bound → Type 0
+MeetsLower x l = pos 0 ≤ℤ (l.factor *ℤ x +ℤ l.rest)
+
+-- -b x + g >= 0
+abbrev pub MeetsUpper : ℤ → Bound → Type 0
+MeetsUpper x u = (u.factor *ℤ x) ≤ℤ u.rest
+
+-- a g + b f, what a lower and an upper bound leave without x
+abbrev pub together : Bound → Bound → ℤ
+together l u = l.factor *ℤ u.rest +ℤ u.factor *ℤ l.rest
+
+-- the real shadow of the pair: some rational x lies between
+abbrev pub IsReal : Bound → Bound → Type 0
+IsReal l u = pos 0 ≤ℤ together l u
+
+-- (a - 1)(b - 1)
+abbrev pub slack : Bound → Bound → ℤ
+slack l u = (l.factor -ℤ pos 1) *ℤ (u.factor -ℤ pos 1)
+
+-- the dark shadow of the pair: some whole x lies between
+abbrev pub IsDark : Bound → Bound → Type 0
+IsDark l u = slack l u ≤ℤ together l u
+
+-- a - 1 less a / m rounded up: the last value of a lower bound of factor a in the splinters that a greatest upper factor m asks for
+abbrev pub last_splinter : ℤ → ℤ → ℤ
+last_splinter a m = a -ℤ pos 1 +ℤ floor_div (neg_ℤ a) m
+
+-- ---- rows as bounds
+-- a row with a coefficient above 0 at the column, at a point of the other columns
+abbrev pub lower_at : ℕ → List ℤ → Row → Bound
+lower_at col point r = record { factor = coef_at r col; rest = rest_at r col point }
+
+-- a row with a coefficient below 0
+abbrev pub upper_at : ℕ → List ℤ → Row → Bound
+upper_at col point r = record { factor = neg_ℤ (coef_at r col); rest = rest_at r col point }
