@@ -1,10 +1,9 @@
 -- The greatest common divisor of two integers and of a list.
-use Rattle.std.proofs.Common.{◌≡◌, ◌≢◌, ℕ, zero, suc, ◌%◌, ◌<◌, ◌≤ℤ◌, ◌<ℤ◌, refl, sym, ap, ◌∙◌, arith, ℤ, pos, ◌*ℤ◌, List, [], ◌∷◌, map, mod-lt, unsigned_abs}
-use Rattle.std.specs.List.{All}
+use Rattle.std.proofs.Common.{◌≡◌, ℕ, zero, suc, ◌%◌, ◌<◌, refl, arith, ℤ, pos, List, [], ◌∷◌, mod-lt, unsigned_abs}
 use Rattle.std.proofs.lemmas.List.Elements.{All-nil, All-cons, All-head, All-tail, All-weaker}
 use Rattle.isl_math.specs.Divide.{Divides, IsGcdOf}
 use Rattle.isl_math.specs.Gcd.{euclid, gcd_of, content, IsContentOf}
-use Rattle.isl_math.proofs.Ring.{expand, linear}
+use Rattle.isl_math.proofs.Ring.{linear}
 use Rattle.isl_math.proofs.DivideLaws.{Divides-zero, Divides_trans, gcd_unique, IsGcdOf-from_mod, IsGcdOf-from_zero, IsGcdOf-from_abs}
 
 pub IsGcdOf-euclid : (steps a b : ℕ) → b < steps → IsGcdOf (pos a) (pos b) (pos (euclid steps a b))

@@ -1,20 +1,20 @@
 -- The content of divided, scaled and opposite lists, and their first numbers that are not 0.
-use Rattle.std.proofs.Common.{◌≡◌, ◌≢◌, ◌↔◌, ◌⊎◌, inl, inr, ℕ, zero, suc, ◌≤ℤ◌, ◌<ℤ◌, refl, sym, ap, ◌∙◌, arith, ℤ, pos, negsuc, neg_ℤ, ◌+ℤ◌, ◌-ℤ◌, ◌*ℤ◌, List, [], ◌∷◌, length, map, Bool, true, false, cond}
+use Rattle.std.proofs.Common.{◌≡◌, ◌≢◌, ◌⊎◌, inl, inr, zero, suc, ◌≤ℤ◌, ◌<ℤ◌, refl, sym, ap, ◌∙◌, arith, ℤ, pos, negsuc, neg_ℤ, ◌-ℤ◌, ◌*ℤ◌, List, [], ◌∷◌, length, Bool, true, false}
 use Rattle.std.specs.List.{All}
 use Rattle.std.specs.Ordering.{int_eq}
 use Rattle.std.proofs.lemmas.Bool.{cases_Bool, cond-true, cond-false}
 use Rattle.std.proofs.lemmas.Bool.Decides.{Decides-int_eq}
-use Rattle.std.proofs.lemmas.List.Elements.{All-nil, All-cons, All-head, All-tail, All-weaker}
-use Rattle.isl_math.specs.Divide.{floor_div, floor_mod, Divides, IsGcdOf}
+use Rattle.std.proofs.lemmas.List.Elements.{All-nil, All-cons, All-head, All-tail}
+use Rattle.isl_math.specs.Divide.{floor_div, floor_mod, Divides}
 use Rattle.isl_math.specs.Dot.{scaled}
-use Rattle.isl_math.specs.Gcd.{gcd_of, content, IsContentOf}
-use Rattle.isl_math.specs.Order.{abs_of, sign_of}
+use Rattle.isl_math.specs.Gcd.{content, IsContentOf}
+use Rattle.isl_math.specs.Order.{sign_of}
 use Rattle.isl_math.proofs.Ring.{expand, linear, *ℤ_assoc}
 use Rattle.isl_math.proofs.OrderLaws.{≡-from_*ℤ, sign-*ℤ, abs_positive}
 use Rattle.isl_math.proofs.DivideLaws.{floor_split, Divides_self, Divides-zero, one-Divides, Divides-neg_ℤ, Divides-minus, Divides-*ℤ, Divides-same, Divides_trans, gcd_unique}
 use Rattle.isl_math.proofs.GcdLaws.{IsContentOf-content}
-use Rattle.isl_piece.specs.Numbers.{divided, reduced, opposite, lead}
-use Rattle.isl_piece.proofs.NumberLaws.{exact, Divides-cancel, Divides-times, IsReduced}
+use Rattle.isl_piece.specs.Numbers.{divided, opposite, lead}
+use Rattle.isl_piece.proofs.NumberLaws.{exact, Divides-cancel, Divides-times}
 
 -- ---- what determines the content
 pub content_unique : (xs : List ℤ) (g h : ℤ) → IsContentOf xs g → IsContentOf xs h → g ≡ h

@@ -1,26 +1,21 @@
 -- The negation of a row.
-use Rattle.std.proofs.Common.{◌≡◌, ◌≢◌, ◌↔◌, ◌⊎◌, inl, inr, refl, sym, ap, ◌∙◌, arith, ℕ, zero, suc, ◌<◌, ℤ, pos, negsuc, neg_ℤ, ◌+ℤ◌, ◌-ℤ◌, ◌*ℤ◌, ◌≤ℤ◌, ◌<ℤ◌, List, [], ◌∷◌, length, get_or, Result, Ok, Err, MatchResult, IfOk, IfErr, unsigned_abs, pow_pos, ◌^◌}
+use Rattle.std.proofs.Common.{◌≡◌, ◌≢◌, ◌↔◌, ◌⊎◌, inl, inr, refl, ◌∙◌, arith, ℕ, zero, suc, ◌<◌, ℤ, pos, negsuc, neg_ℤ, ◌+ℤ◌, ◌-ℤ◌, ◌*ℤ◌, ◌≤ℤ◌, List, [], ◌∷◌, length, get_or, Result, MatchResult, IfOk}
 use Rattle.std.specs.List.{All, Any}
 use Rattle.std.proofs.lemmas.List.Elements.{All-nil, All-cons, All-head, All-tail}
 use Rattle.std.proofs.lemmas.Result.{MatchResult-weaker}
-use Rattle.isl_math.specs.Divide as divide
 use Rattle.isl_math.specs.Dot.{dot, scaled}
-use Rattle.isl_math.proofs.Ring.{expand, linear}
+use Rattle.isl_math.proofs.Ring.{linear}
 use Rattle.isl_math.proofs.DotLaws.{dot-scaled}
-use Rattle.isl_math.proofs.DivideLaws.{Divides-from_mod, mod-from_Divides}
 use Rattle.isl_meter.specs.declared.Cut.{Cut}
-use Rattle.isl_meter.specs.declared.Cut.TheVariants.{Overflow, Budget, NoMemory}
-use Rattle.isl_meter.specs.Gauge.{Gauge, IsWithin, IsCutBy, overflown}
-use Rattle.isl_meter.proofs.CutLemmas.{IsCutBy-overflown, IsCutBy-kept, IsKept_refl}
+use Rattle.isl_meter.specs.Gauge.{Gauge, IsWithin}
 use Rattle.isl_piece.specs.declared.constraint.RowKind.{RowKind}
 use Rattle.isl_piece.specs.declared.constraint.RowKind.TheVariants.{Zero, AtLeast, Divides, NotDivides}
 use Rattle.isl_piece.specs.declared.constraint.Row.{Row}
-use Rattle.isl_piece.specs.Row.{HoldsRow, HoldsValue, HasDivisor, IsRowWithin, IsWellFormed, value_at}
+use Rattle.isl_piece.specs.Row.{HoldsRow, HoldsValue, HasDivisor, IsRowWithin, IsWellFormed}
 use Rattle.isl_piece.specs.Normal.{bound}
 use Rattle.isl_piece.specs.Negation.{above, below, negated_form, negation_of, IsCutFor, ConstantPassesLimit}
 use Rattle.isl_piece.proofs.ContentLaws.{length-scaled}
 use Rattle.isl_piece.proofs.NormalCases.{divides_cases}
-use Rattle.isl_piece.proofs.RowLemmas.{HasDivisor-positive}
 
 -- ---- one of two rows
 pub Any-first : (P : Row → Type 0) (r : Row) (rows : List Row) → P r → Any P (r ∷ rows)

@@ -1,9 +1,8 @@
 -- The normal form of a row, case by case.
-use Rattle.std.proofs.Common.{◌≡◌, ◌≢◌, ◌⊎◌, inl, inr, refl, sym, ap, ◌∙◌, arith, ℤ, pos, neg_ℤ, ◌*ℤ◌, ◌≤ℤ◌, ◌<ℤ◌, List, [], ◌∷◌, ◌++◌, Bool, true, false, cond, subst, int_lt}
-use Rattle.std.specs.List.{All}
+use Rattle.std.proofs.Common.{◌≡◌, ◌≢◌, ◌⊎◌, inl, inr, refl, sym, ap, arith, ℤ, pos, ◌*ℤ◌, ◌≤ℤ◌, ◌<ℤ◌, List, ◌∷◌, Bool, true, false, cond, subst, int_lt}
 use Rattle.std.specs.Ordering.{int_eq, int_cmp, is_lt}
 use Rattle.std.specs.Cmp.Lexicographic.{slice_cmp}
-use Rattle.std.proofs.lemmas.Bool.{cases_Bool, cond-true, cond-false}
+use Rattle.std.proofs.lemmas.Bool.{cases_Bool}
 use Rattle.std.proofs.lemmas.Bool.Decides.{Decides-int_eq}
 use Rattle.std.proofs.lemmas.List.Elements.{All-head}
 use Rattle.std.proofs.lemmas.Int.{ints}
@@ -12,10 +11,9 @@ use Rattle.isl_math.specs.Gcd.{content}
 use Rattle.isl_math.proofs.Ring.{linear}
 use Rattle.isl_math.proofs.DivideLaws.{Divides-from_mod, mod-from_Divides}
 use Rattle.isl_math.proofs.GcdLaws.{IsContentOf-content}
-use Rattle.isl_piece.specs.declared.constraint.RowKind.TheVariants.{Zero, AtLeast, Divides as KindDivides, NotDivides}
 use Rattle.isl_piece.specs.declared.constraint.Row.{Row}
 use Rattle.isl_piece.specs.Normal.{Verdict, Always, Never, Kept}
-use Rattle.isl_piece.specs.Numbers.{divided, reduced, opposite, lead, is_multiple}
+use Rattle.isl_piece.specs.Numbers.{divided, reduced, is_multiple}
 use Rattle.isl_piece.specs.Normal.{normal_zero, normal_at_least, normal_divides, upright, bound, congruence, lesser, opposite_row, numbers_of}
 use Rattle.isl_piece.proofs.ContentLaws.{int_eq-true, int_eq-false, zero_cases}
 

@@ -1,20 +1,18 @@
 -- The laws of normal rows.
-use Rattle.std.proofs.Common.{◌≡◌, ◌≢◌, ◌↔◌, ◌⊎◌, inl, inr, refl, sym, ap, ◌∙◌, arith, ℕ, zero, suc, ◌+◌, ◌<◌, ℤ, List, [], ◌∷◌, ◌++◌, length, get_or, map, fold, take, Bool, true, false, Option, Some, None, option_map, MatchOption, IfSome, subst}
-use Rattle.std.specs.List.{All, AllPairs, Any}
+use Rattle.std.proofs.Common.{◌≡◌, ◌≢◌, ◌↔◌, inl, inr, refl, sym, ap, ◌∙◌, arith, ℕ, zero, suc, ℤ, List, [], ◌∷◌, get_or, map, fold, false, Option, Some, None, option_map, MatchOption, IfSome}
+use Rattle.std.specs.List.{All, AllPairs}
 use Rattle.std.proofs.lemmas.List.Elements.{All-nil, All-cons, All-head, All-tail, All-weaker, All-get_or}
-use Rattle.isl_meter.specs.Gauge.{Gauge, IsWithin}
-use Rattle.isl_piece.specs.declared.constraint.RowKind.{RowKind}
-use Rattle.isl_piece.specs.declared.constraint.RowKind.TheVariants.{Zero, AtLeast, Divides, NotDivides}
+use Rattle.isl_piece.specs.declared.constraint.RowKind.TheVariants.{AtLeast}
 use Rattle.isl_piece.specs.declared.constraint.Row.{Row}
 use Rattle.isl_piece.specs.Normal.{Verdict, Always, Never, Kept}
-use Rattle.isl_piece.specs.Row.{HoldsRow, HasDivisor, IsWellFormed, IsRowWithin, IsRowUpTo}
+use Rattle.isl_piece.specs.Row.{HoldsRow, HasDivisor, IsWellFormed, IsRowUpTo}
 use Rattle.isl_piece.specs.System.{HoldRows}
-use Rattle.isl_piece.specs.Normal.{normal_row, kept_rows, same_kind, same_bound, with_row, merged, normal_rows, IsNormal}
+use Rattle.isl_piece.specs.Normal.{normal_row, kept_rows, same_bound, with_row, merged, normal_rows, IsNormal}
 use Rattle.isl_piece.proofs.PointLaws.{HoldsVerdict, normal_row_holds}
-use Rattle.isl_piece.proofs.ShapeLaws.{IfKept, IfKept-weaker, normal_row_well_formed, normal_row_up_to}
+use Rattle.isl_piece.proofs.ShapeLaws.{IfKept, normal_row_well_formed, normal_row_up_to}
 use Rattle.isl_piece.proofs.SettledLaws.{normal_row_settled}
 use Rattle.isl_piece.proofs.WitnessLaws.{IsContingent-settled}
-use Rattle.isl_piece.proofs.MergeLaws.{SameBound, same_bound-from, with_row_all, fold_all, fold_holds, fold_apart, merged_itself, AreApart}
+use Rattle.isl_piece.proofs.MergeLaws.{same_bound-from, fold_all, fold_holds, fold_apart, merged_itself, AreApart}
 
 -- ---- the rows that verdicts keep
 pub kept_rows_all : (P : Row → Type 0) (verdicts : List Verdict) → All (IfKept P) verdicts → IfSome (kept_rows verdicts) (All P)

@@ -1,5 +1,5 @@
 -- What the code that makes a row normal wants, for `using`.
-use Rattle.std.proofs.Common.{◌≡◌, ◌≢◌, ◌⊎◌, inl, inr, refl, sym, ap, ◌∙◌, arith, ℕ, zero, suc, ◌<◌, ◌≤◌, ◌^◌, ◌-◌, ℤ, pos, negsuc, neg_ℤ, ◌*ℤ◌, ◌≤ℤ◌, ◌<ℤ◌, List, [], ◌∷◌, ◌++◌, unsigned_abs, pow_pos, subst, Bool, true, false, cond, int_lt, length, get_or, drop, drop-cons, add-one, ◌+◌}
+use Rattle.std.proofs.Common.{◌≡◌, ◌≢◌, inl, inr, refl, sym, ap, ◌∙◌, arith, ℕ, suc, ◌<◌, ◌≤◌, ◌^◌, ◌-◌, ℤ, pos, negsuc, neg_ℤ, ◌*ℤ◌, ◌≤ℤ◌, ◌<ℤ◌, List, [], ◌∷◌, ◌++◌, pow_pos, Bool, true, false, cond, int_lt, length, get_or, drop, drop-cons, add-one, ◌+◌}
 use Rattle.std.specs.List.{All}
 use Rattle.std.specs.Cmp.{int_ranked}
 use Rattle.std.specs.Cmp.Lexicographic.{slice_cmp}
@@ -11,13 +11,11 @@ use Rattle.std.proofs.lemmas.List.{get_or_read}
 use Rattle.std.proofs.lemmas.List.Elements.{All-weaker}
 use Rattle.isl_math.specs.Divide.{floor_div, floor_mod, Divides}
 use Rattle.isl_math.specs.Dot.{scaled}
-use Rattle.isl_math.specs.Gcd.{gcd_of, content, IsContentOf}
+use Rattle.isl_math.specs.Gcd.{content}
 use Rattle.isl_math.specs.Order.{sign_of}
 use Rattle.isl_math.proofs.Ring.{linear}
-use Rattle.isl_math.proofs.DivideLaws.{Divides-zero}
-use Rattle.isl_math.proofs.GcdLaws.{IsContentOf-content}
 use Rattle.isl_meter.specs.Gauge.{Gauge, IsWithin}
-use Rattle.isl_piece.specs.declared.constraint.RowKind.TheVariants.{Zero, AtLeast, Divides as KindDivides, NotDivides}
+use Rattle.isl_piece.specs.declared.constraint.RowKind.TheVariants.{Zero, AtLeast, Divides as KindDivides}
 use Rattle.isl_piece.specs.declared.constraint.RowKind.{RowKind}
 use Rattle.isl_piece.specs.declared.constraint.Row.{Row}
 use Rattle.isl_piece.specs.Row.{IsRowWithin}
@@ -25,7 +23,7 @@ use Rattle.isl_piece.specs.Normal.{Always, Never, Kept}
 use Rattle.isl_piece.specs.Numbers.{divided, reduced, opposite, lead}
 use Rattle.isl_piece.specs.Normal.{normal_zero, normal_at_least, normal_divides, upright, bound, congruence, lesser, opposite_row, numbers_of}
 use Rattle.isl_piece.proofs.NumberLaws.{abs-quotient, abs-remainder, positive-divided, IsUpTo, IsUpTo-divided, IsUpTo-reduced, IsUpTo-opposite}
-use Rattle.isl_piece.proofs.ContentLaws.{zero_cases, content_is, content-divided, lead_not_zero, scaled_one, sign_of_positive}
+use Rattle.isl_piece.proofs.ContentLaws.{zero_cases, content-divided, lead_not_zero, scaled_one, sign_of_positive}
 use Rattle.isl_piece.proofs.NormalCases.{common_part, divided_congruence, normal_zero-always, normal_zero-never, normal_zero-apart, normal_zero-kept, normal_at_least-always, normal_at_least-never, normal_at_least-kept, normal_divides-always, normal_divides-never, normal_divides-kept, content_positive, int_lt-true, int_lt-false}
 
 -- ---- within the limit
@@ -87,7 +85,9 @@ pub at_least_kept : (cs : List ℤ) (c g : ℤ) (row : Row) → g ≡ content cs
 at_least_kept cs c g row e n is f h one = normal_at_least-kept cs c (λ z. n (e ∙ z)) ∙ ap (λ x. Kept (bound (divided x cs) (floor_div c x))) (sym e) ∙ ap Kept (sym (row_is row AtLeast (divided g cs) (floor_div c g) (pos 1) is f h one))
 
 pub ruleset upright_steps = (upright-negative, upright_stays)
+
 pub ruleset zero_steps = (normal_zero-always, normal_zero-never, normal_zero-apart, lead-divided, above_zero)
+
 pub ruleset bound_steps = (normal_at_least-always, normal_at_least-never, above_zero)
 
 -- ---- a row within the limit

@@ -1,15 +1,14 @@
 -- The laws of divided, reduced and opposite lists of numbers.
-use Rattle.std.proofs.Common.{◌≡◌, ◌≢◌, ◌↔◌, ◌⊎◌, inl, inr, ℕ, zero, suc, ◌+◌, ◌<◌, ◌≤◌, ◌≤ℤ◌, ◌<ℤ◌, refl, sym, ap, ◌∙◌, arith, ℤ, pos, negsuc, neg_ℤ, ◌+ℤ◌, ◌-ℤ◌, ◌*ℤ◌, List, [], ◌∷◌, ◌++◌, length, unsigned_abs, Bool, true, false, IsTrue}
+use Rattle.std.proofs.Common.{◌≡◌, ℕ, zero, suc, ◌≤◌, ◌≤ℤ◌, ◌<ℤ◌, refl, sym, ap, ◌∙◌, arith, ℤ, pos, negsuc, neg_ℤ, ◌+ℤ◌, ◌-ℤ◌, ◌*ℤ◌, List, [], ◌∷◌, length, unsigned_abs}
 use Rattle.std.specs.List.{All}
-use Rattle.std.specs.Ordering.{int_eq}
-use Rattle.std.proofs.lemmas.List.Elements.{All-nil, All-cons, All-head, All-tail, All-weaker}
+use Rattle.std.proofs.lemmas.List.Elements.{All-nil, All-cons, All-head, All-tail}
 use Rattle.isl_math.specs.Divide.{floor_div, floor_mod, Divides, IsCongruent}
 use Rattle.isl_math.specs.Dot.{dot}
 use Rattle.std.proofs.Math.Nat.{div-le_self}
 use Rattle.isl_math.proofs.Ring.{expand, linear, *ℤ_assoc}
 use Rattle.isl_math.proofs.OrderLaws.{≤ℤ-from_*ℤ, <ℤ-from_*ℤ, ≡-from_*ℤ}
-use Rattle.isl_math.proofs.DivideLaws.{floor_split, floor_mod_bounds, floor_unique, floor_mod-same, Divides-zero, Divides-+ℤ, Divides-*ℤ, Divides-same, mod-from_Divides, Divides-from_mod, IsCongruent_refl, IsCongruent_trans, IsCongruent_sym, IsCongruent-+ℤ, IsCongruent-*ℤ, IsCongruent-floor_mod}
-use Rattle.isl_piece.specs.Numbers.{divided, reduced, opposite, lead, is_multiple}
+use Rattle.isl_math.proofs.DivideLaws.{floor_split, floor_mod_bounds, floor_unique, floor_mod-same, Divides-zero, Divides-+ℤ, Divides-*ℤ, Divides-same, mod-from_Divides, IsCongruent_refl, IsCongruent-+ℤ, IsCongruent-*ℤ, IsCongruent-floor_mod}
+use Rattle.isl_piece.specs.Numbers.{divided, reduced, opposite}
 
 -- ---- a quotient without a remainder
 pub exact : (g z : ℤ) → pos 0 <ℤ g → Divides g z → g *ℤ floor_div z g ≡ z
@@ -59,8 +58,8 @@ dot-opposite k (c ∷ cs) [] p = IsCongruent_refl k (pos 0)
 dot-opposite k (c ∷ cs) (x ∷ xs) p =
     Divides-same k (neg_ℤ c *ℤ x +ℤ neg_ℤ (dot cs xs) -ℤ (floor_mod (neg_ℤ c) k *ℤ x +ℤ dot (opposite k cs) xs)) (neg_ℤ (c *ℤ x +ℤ dot cs xs) -ℤ (floor_mod (neg_ℤ c) k *ℤ x +ℤ dot (opposite k cs) xs)) (by c x (dot cs xs) (floor_mod (neg_ℤ c) k *ℤ x +ℤ dot (opposite k cs) xs))
     (IsCongruent-+ℤ k (neg_ℤ c *ℤ x) (floor_mod (neg_ℤ c) k *ℤ x) (neg_ℤ (dot cs xs)) (dot (opposite k cs) xs)
-      (IsCongruent-*ℤ k (neg_ℤ c) (floor_mod (neg_ℤ c) k) x x (IsCongruent-floor_mod k (neg_ℤ c) p) (IsCongruent_refl k x))
-      (dot-opposite k cs xs p))
+    (IsCongruent-*ℤ k (neg_ℤ c) (floor_mod (neg_ℤ c) k) x x (IsCongruent-floor_mod k (neg_ℤ c) p) (IsCongruent_refl k x))
+    (dot-opposite k cs xs p))
   where
     by : (c x d r : ℤ) → neg_ℤ c *ℤ x +ℤ neg_ℤ d -ℤ r ≡ neg_ℤ (c *ℤ x +ℤ d) -ℤ r
     by c x d r = simp expand (omega (arith, linear))

@@ -3,7 +3,7 @@ use Rattle.std.proofs.Common.{◌≡◌, ◌≢◌, refl, sym, ap, ◌∙◌, �
 use Rattle.std.proofs.lemmas.List.{get_or_read, take_more}
 use Rattle.std.proofs.lemmas.Grind.{common_steps}
 use Rattle.std.specs.List.{All}
-use Rattle.std.proofs.lemmas.List.Elements.{All-nil, All-cons, All-head, All-tail, All-more, All-get_or, All-take, All-push, All-weaker}
+use Rattle.std.proofs.lemmas.List.Elements.{All-nil, All-cons, All-head, All-tail, All-get_or, All-take, All-push, All-weaker}
 use Rattle.isl_math.proofs.Ring.{linear}
 use Rattle.isl_math.specs.Divide.{floor_div, floor_mod, IsGcdOf, Divides}
 use Rattle.isl_math.specs.Dot.{scaled}
@@ -71,6 +71,7 @@ pub lead-found : (xs : List ℤ) (i : ℕ) → i < length xs → lead (drop i xs
 lead-found xs i h e n = sym (lead-here (get_or xs i (pos 0)) (drop (suc i) xs) n) ∙ ap lead (sym (drop-cons xs i (pos 0) h)) ∙ e
 
 pub ruleset leads = (lead-skip, lead-found, get_or_read)
+
 -- ---- the content of the first numbers
 pub IsContentOf-first : (z : ℤ) → pos 0 ≤ℤ z → IsContentOf (z ∷ []) z
 IsContentOf-first z h = record {

@@ -1,10 +1,10 @@
 -- Rows that are made normal in a slice: those that are kept stand in front, the rest is still to come.
-use Rattle.std.proofs.Common.{◌≡◌, refl, sym, ap, ◌∙◌, arith, ℕ, zero, suc, ◌+◌, ◌<◌, ◌≤◌, List, [], ◌∷◌, ◌++◌, length, get_or, set, take, drop, drop-cons, add-one, length-take, get_or-take, Option, Some, None, subst}
+use Rattle.std.proofs.Common.{◌≡◌, sym, ap, ◌∙◌, arith, ℕ, suc, ◌+◌, ◌<◌, ◌≤◌, List, [], ◌∷◌, ◌++◌, length, get_or, set, take, drop, drop-cons, add-one, length-take, get_or-take, Option, None}
 use Rattle.std.specs.Int.{int_min}
 use Rattle.std.specs.List.{SwappedAt}
 use Rattle.std.proofs.Math.Seq.{take-set-lt}
 use Rattle.std.proofs.lemmas.Grind.{common_steps}
-use Rattle.std.proofs.lemmas.List.{get_or_read, take-set-le, take_more_set}
+use Rattle.std.proofs.lemmas.List.{get_or_read, take-set-le}
 use Rattle.isl_piece.specs.declared.constraint.Row.{Row}
 use Rattle.isl_piece.specs.Normal.{Always, Never, Kept, normal_row, tighter, with_row}
 use Rattle.isl_piece.proofs.NormalLaws.{normal_from, normal_from_always, normal_from_never, normal_from_kept}

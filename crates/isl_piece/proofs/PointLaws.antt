@@ -1,10 +1,9 @@
 -- A row and its normal form hold at the same points.
-use Rattle.std.proofs.Common.{◌≡◌, ◌≢◌, ◌↔◌, ◌⊎◌, inl, inr, refl, sym, ap, ◌∙◌, arith, ℕ, ℤ, pos, neg_ℤ, ◌+ℤ◌, ◌-ℤ◌, ◌*ℤ◌, ◌≤ℤ◌, ◌<ℤ◌, List, [], ◌∷◌, subst}
-use Rattle.std.specs.List.{All}
+use Rattle.std.proofs.Common.{◌≡◌, ◌≢◌, ◌↔◌, refl, sym, ap, arith, ℤ, pos, neg_ℤ, ◌+ℤ◌, ◌-ℤ◌, ◌*ℤ◌, ◌≤ℤ◌, ◌<ℤ◌, List, ◌∷◌}
 use Rattle.std.proofs.lemmas.List.Elements.{All-head, All-tail}
 use Rattle.isl_math.specs.Divide as divide
 use Rattle.isl_math.specs.Divide.{floor_div, floor_mod, IsCongruent}
-use Rattle.isl_math.specs.Dot.{dot, scaled}
+use Rattle.isl_math.specs.Dot.{dot}
 use Rattle.isl_math.specs.Gcd.{content}
 use Rattle.isl_math.specs.Order.{sign_of}
 use Rattle.isl_math.proofs.Ring.{expand, linear}
@@ -17,11 +16,11 @@ use Rattle.isl_piece.specs.declared.constraint.RowKind.TheVariants.{Zero, AtLeas
 use Rattle.isl_piece.specs.declared.constraint.Row.{Row}
 use Rattle.isl_piece.specs.Normal.{Verdict, Always, Never, Kept}
 use Rattle.isl_piece.specs.Numbers.{divided, reduced, opposite, lead}
-use Rattle.isl_piece.specs.Row.{HoldsValue, HoldsRow, HasDivisor, value_at}
-use Rattle.isl_piece.specs.Normal.{normal_zero, normal_at_least, normal_divides, normal_form, normal_row, denied, upright, bound, congruence, lesser, opposite_row}
+use Rattle.isl_piece.specs.Row.{HoldsValue, HoldsRow, HasDivisor}
+use Rattle.isl_piece.specs.Normal.{normal_zero, normal_at_least, normal_divides, normal_form, normal_row, denied, upright, lesser}
 use Rattle.isl_piece.proofs.NumberLaws.{exact, Divides-dot, dot-divided, dot-reduced, dot-opposite, Divides-times, Divides-cancel, positive-divided}
 use Rattle.isl_piece.proofs.ContentLaws.{content-divided, lead_not_zero, sign_not_zero}
-use Rattle.isl_piece.proofs.NormalCases.{content_positive, common_part, common_part-positive, divided_congruence, divides_cases, normal_zero_by, normal_at_least_by, normal_divides_by, lesser_by}
+use Rattle.isl_piece.proofs.NormalCases.{content_positive, common_part, common_part-positive, divided_congruence, normal_zero_by, normal_at_least_by, normal_divides_by, lesser_by}
 
 -- what a verdict says of a point
 abbrev pub HoldsVerdict : Verdict → List ℤ → Type 0
@@ -135,7 +134,7 @@ common_divides cs c k xs p d =
     let dk = All-head (divide.Divides g) k (reduced k cs) all in
     both_ways (turned (scaled_divides g (floor_div k g) (dot (divided g (reduced k cs)) xs +ℤ floor_div (floor_mod c k) g) q))
     (both_ways (same g (floor_div k g) k (dot (divided g (reduced k cs)) xs) (dot (reduced k cs) xs) (floor_div (floor_mod c k) g) (floor_mod c k) (exact g k q dk) (dot-divided g (reduced k cs) xs q (All-tail (divide.Divides g) k (reduced k cs) all)) (exact g (floor_mod c k) q d))
-      (reduced_divides cs c k xs p))
+    (reduced_divides cs c k xs p))
   where
     same : (g h k w v q c : ℤ) → g *ℤ h ≡ k → g *ℤ w ≡ v → g *ℤ q ≡ c → divide.Divides (g *ℤ h) (g *ℤ (w +ℤ q)) ↔ divide.Divides k (v +ℤ c)
     same g h k w v q c e f i =

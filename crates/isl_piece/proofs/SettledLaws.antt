@@ -1,19 +1,19 @@
 -- A normal row is its own normal form.
-use Rattle.std.proofs.Common.{◌≡◌, ◌≢◌, ◌⊎◌, inl, inr, refl, sym, ap, ◌∙◌, arith, ℤ, pos, neg_ℤ, ◌*ℤ◌, ◌≤ℤ◌, ◌<ℤ◌, List, [], ◌∷◌, ◌++◌, subst, Bool, true, false, cond}
+use Rattle.std.proofs.Common.{◌≡◌, ◌≢◌, inl, inr, refl, sym, ap, ◌∙◌, arith, ℤ, pos, neg_ℤ, ◌*ℤ◌, ◌<ℤ◌, List, ◌∷◌, true, false}
 use Rattle.std.specs.List.{All}
-use Rattle.std.specs.Cmp.{IsTotalOrder, int_cmp_total}
+use Rattle.std.specs.Cmp.{int_cmp_total}
 use Rattle.std.specs.Cmp.Lexicographic.{slice_cmp, lists_total}
 use Rattle.std.specs.Ordering.{int_cmp, is_lt, ordering_reverse}
 use Rattle.std.specs.declared.cmp.Ordering.{Ordering}
 use Rattle.std.specs.declared.cmp.Ordering.TheVariants.{Less, Equal, Greater}
 use Rattle.std.proofs.lemmas.Bool.{cases_Bool, cond-true, cond-false}
-use Rattle.std.proofs.lemmas.List.Elements.{All-nil, All-cons, All-head, All-tail}
+use Rattle.std.proofs.lemmas.List.Elements.{All-cons, All-head, All-tail}
 use Rattle.isl_math.specs.Divide as divide
 use Rattle.isl_math.specs.Divide.{floor_div, floor_mod}
 use Rattle.isl_math.specs.Dot.{scaled}
-use Rattle.isl_math.specs.Gcd.{content, IsContentOf}
+use Rattle.isl_math.specs.Gcd.{content}
 use Rattle.isl_math.specs.Order.{sign_of}
-use Rattle.isl_math.proofs.Ring.{expand, linear}
+use Rattle.isl_math.proofs.Ring.{linear}
 use Rattle.isl_math.proofs.DivideLaws.{one-Divides}
 use Rattle.isl_math.proofs.GcdLaws.{IsContentOf-content}
 use Rattle.isl_piece.specs.declared.constraint.RowKind.{RowKind}
@@ -25,7 +25,7 @@ use Rattle.isl_piece.specs.Row.{HasDivisor}
 use Rattle.isl_piece.specs.Normal.{normal_zero, normal_at_least, normal_divides, normal_form, normal_row, denied, upright, bound, congruence, lesser, opposite_row, numbers_of}
 use Rattle.isl_piece.proofs.NumberLaws.{IsReduced, IsReduced-floor_mod, All-IsReduced-reduced, All-IsReduced-opposite, All-IsReduced-divided, IsReduced-divided, positive-divided, reduced_reduced, floor_mod_reduced, opposite_opposite, opposite_twice, divided_one, quotient_one}
 use Rattle.isl_piece.proofs.ContentLaws.{content_is, IsContentOf-like, IsContentOf-divided, content-divided, content-scaled, lead_not_zero, lead-signed, sign_of_positive, sign_squared, scaled_one, common_opposite}
-use Rattle.isl_piece.proofs.NormalCases.{content_positive, common_part, common_part-positive, divided_congruence, normal_zero_by, normal_zero-kept, normal_at_least_by, normal_at_least-kept, normal_divides_by, normal_divides-kept, lesser_by}
+use Rattle.isl_piece.proofs.NormalCases.{common_part, common_part-positive, divided_congruence, normal_zero_by, normal_zero-kept, normal_at_least_by, normal_at_least-kept, normal_divides_by, normal_divides-kept, lesser_by}
 use Rattle.isl_piece.proofs.ShapeLaws.{IfKept, IfKept-weaker}
 
 one_not_zero : (z : ℤ) → z ≡ pos 1 → z ≢ pos 0

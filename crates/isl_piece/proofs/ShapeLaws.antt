@@ -1,31 +1,24 @@
 -- The normal form of a row is a row over the same columns, with no greater numbers, and is its own normal form.
-use Rattle.std.proofs.Common.{◌≡◌, ◌≢◌, ◌↔◌, ◌⊎◌, inl, inr, refl, sym, ap, ◌∙◌, arith, ℕ, zero, suc, ◌≤◌, ◌<◌, ℤ, pos, negsuc, neg_ℤ, ◌+ℤ◌, ◌-ℤ◌, ◌*ℤ◌, ◌≤ℤ◌, ◌<ℤ◌, List, [], ◌∷◌, ◌++◌, length, subst, unsigned_abs, Bool, true, false, cond}
+use Rattle.std.proofs.Common.{◌≡◌, refl, ◌∙◌, arith, ℕ, zero, suc, ◌≤◌, ℤ, pos, negsuc, neg_ℤ, ◌*ℤ◌, ◌<ℤ◌, List, [], ◌∷◌, length, unsigned_abs}
 use Rattle.std.specs.List.{All}
-use Rattle.std.specs.Cmp.{IsTotalOrder, int_cmp_total}
-use Rattle.std.specs.Cmp.Lexicographic.{slice_cmp, lists_total}
-use Rattle.std.specs.Ordering.{int_cmp, is_lt, ordering_reverse}
-use Rattle.std.specs.declared.cmp.Ordering.{Ordering}
-use Rattle.std.specs.declared.cmp.Ordering.TheVariants.{Less, Equal, Greater}
-use Rattle.std.proofs.lemmas.Bool.{cases_Bool, cond-true, cond-false}
 use Rattle.std.proofs.lemmas.List.Elements.{All-nil, All-cons, All-head, All-tail}
 use Rattle.isl_math.specs.Divide as divide
 use Rattle.isl_math.specs.Divide.{floor_div, floor_mod}
 use Rattle.isl_math.specs.Dot.{scaled}
-use Rattle.isl_math.specs.Gcd.{content, IsContentOf}
+use Rattle.isl_math.specs.Gcd.{content}
 use Rattle.isl_math.specs.Order.{sign_of}
-use Rattle.isl_math.proofs.Ring.{expand, linear}
-use Rattle.isl_math.proofs.DivideLaws.{one-Divides, Divides_self, Divides_trans}
+use Rattle.isl_math.proofs.Ring.{linear}
 use Rattle.isl_math.proofs.GcdLaws.{IsContentOf-content}
 use Rattle.isl_piece.specs.declared.constraint.RowKind.{RowKind}
 use Rattle.isl_piece.specs.declared.constraint.RowKind.TheVariants.{Zero, AtLeast, Divides, NotDivides}
 use Rattle.isl_piece.specs.declared.constraint.Row.{Row}
 use Rattle.isl_piece.specs.Normal.{Verdict, Always, Never, Kept}
-use Rattle.isl_piece.specs.Numbers.{divided, reduced, opposite, lead}
+use Rattle.isl_piece.specs.Numbers.{divided, reduced, lead}
 use Rattle.isl_piece.specs.Row.{HasDivisor, IsWellFormed, IsRowUpTo}
-use Rattle.isl_piece.specs.Normal.{normal_zero, normal_at_least, normal_divides, normal_form, normal_row, denied, upright, bound, congruence, lesser, opposite_row, numbers_of}
-use Rattle.isl_piece.proofs.NumberLaws.{length-divided, length-reduced, length-opposite, exact, IsUpTo, IsUpTo-divided, IsUpTo-reduced, IsUpTo-opposite, abs-quotient, abs-remainder, positive-divided, IsReduced, IsReduced-floor_mod, All-IsReduced-reduced, All-IsReduced-opposite, All-IsReduced-divided, IsReduced-divided, reduced_reduced, floor_mod_reduced, opposite_opposite, opposite_twice, divided_one, quotient_one}
-use Rattle.isl_piece.proofs.ContentLaws.{content_is, IsContentOf-like, IsContentOf-divided, content-divided, content-scaled, length-scaled, lead_not_zero, lead-signed, sign_of_positive, sign_squared, scaled_one, common_opposite}
-use Rattle.isl_piece.proofs.NormalCases.{content_positive, common_part, common_part-positive, divided_congruence, normal_zero_by, normal_zero-kept, normal_at_least_by, normal_at_least-kept, normal_divides_by, normal_divides-kept, lesser_by}
+use Rattle.isl_piece.specs.Normal.{normal_divides, normal_form, normal_row, denied, lesser}
+use Rattle.isl_piece.proofs.NumberLaws.{length-divided, length-reduced, length-opposite, IsUpTo, IsUpTo-divided, IsUpTo-reduced, IsUpTo-opposite, abs-quotient, abs-remainder, positive-divided}
+use Rattle.isl_piece.proofs.ContentLaws.{length-scaled}
+use Rattle.isl_piece.proofs.NormalCases.{content_positive, common_part, common_part-positive, divided_congruence, normal_zero_by, normal_at_least_by, normal_divides_by, lesser_by}
 
 -- the kept row, if there is one, has P
 abbrev pub IfKept : (Row → Type 0) → Verdict → Type 0
@@ -41,10 +34,13 @@ well_formed_divides : (n : ℕ) (cs : List ℤ) (c k : ℤ) → length cs ≡ n 
 well_formed_divides n cs c k w p = normal_divides_by (IfKept (λ r. IsWellFormed n r × (r.kind ≡ Divides))) cs c k p
     (λ m. tt)
     (λ d e. tt)
-    (λ d m. (well_formed_lesser n (divided_congruence cs c k) (record {
-      width = length-divided (common_part cs k) (reduced k cs) ∙ length-reduced k cs ∙ w;
-      divisor = positive-divided (common_part cs k) k (common_part-positive cs k p) p (All-head (divide.Divides (common_part cs k)) k (reduced k cs) (IsContentOf-content (k ∷ reduced k cs)).common);
-    }), lesser_by (λ r. r.kind ≡ Divides) (divided_congruence cs c k) refl refl))
+    (λ d m. (
+      well_formed_lesser n (divided_congruence cs c k) (record {
+        width = length-divided (common_part cs k) (reduced k cs) ∙ length-reduced k cs ∙ w;
+        divisor = positive-divided (common_part cs k) k (common_part-positive cs k p) p (All-head (divide.Divides (common_part cs k)) k (reduced k cs) (IsContentOf-content (k ∷ reduced k cs)).common);
+      }),
+      lesser_by (λ r. r.kind ≡ Divides) (divided_congruence cs c k) refl refl,
+    ))
 
 well_formed_denied : (n : ℕ) (v : Verdict) → IfKept (λ r. IsWellFormed n r × (r.kind ≡ Divides)) v → IfKept (IsWellFormed n) (denied v)
 well_formed_denied n Always h = tt
@@ -88,14 +84,14 @@ up_to_divides b cs c k p h = normal_divides_by (IfKept (IsRowUpTo b)) cs c k p
     (λ m. tt)
     (λ d e. tt)
     (λ d m.
-        let g = common_part cs k in
-        let q = common_part-positive cs k p in
-        let part = All-head (divide.Divides g) k (reduced k cs) (IsContentOf-content (k ∷ reduced k cs)).common in
-        up_to_lesser b (divided_congruence cs c k) (positive-divided g k q p part) (record {
-          coefs = IsUpTo-divided b g (reduced k cs) q (IsUpTo-reduced b k cs p h);
-          constant = abs-quotient b g (floor_mod c k) q (abs-remainder b k c p h);
-          k = abs-quotient b g k q h;
-        }))
+    let g = common_part cs k in
+    let q = common_part-positive cs k p in
+    let part = All-head (divide.Divides g) k (reduced k cs) (IsContentOf-content (k ∷ reduced k cs)).common in
+    up_to_lesser b (divided_congruence cs c k) (positive-divided g k q p part) (record {
+      coefs = IsUpTo-divided b g (reduced k cs) q (IsUpTo-reduced b k cs p h);
+      constant = abs-quotient b g (floor_mod c k) q (abs-remainder b k c p h);
+      k = abs-quotient b g k q h;
+    }))
 
 up_to_denied : (b : ℕ) (v : Verdict) → IfKept (IsRowUpTo b) v → IfKept (IsRowUpTo b) (denied v)
 up_to_denied b Always h = tt
@@ -105,10 +101,10 @@ up_to_denied b (Kept r) h = record { coefs = h.coefs; constant = h.constant; k =
 up_to_form : (b : ℕ) (kind : RowKind) (cs : List ℤ) (c k : ℤ) → HasDivisor kind k → All (IsUpTo b) cs → IsUpTo b c → IsUpTo b k → IfKept (IsRowUpTo b) (normal_form kind cs c k)
 up_to_form b Zero cs c k p h i j = normal_zero_by (IfKept (IsRowUpTo b)) cs c (λ e f. tt) (λ e f. tt) (λ e f. tt)
     (λ m d.
-        let g = content cs in
-        let q = content_positive cs m in
-        let first = lead (divided g cs) in
-        record { coefs = IsUpTo-signed b first (divided g cs) (IsUpTo-divided b g cs q h); constant = abs-signed b first (floor_div c g) (abs-quotient b g c q i); k = rw p at j })
+    let g = content cs in
+    let q = content_positive cs m in
+    let first = lead (divided g cs) in
+    record { coefs = IsUpTo-signed b first (divided g cs) (IsUpTo-divided b g cs q h); constant = abs-signed b first (floor_div c g) (abs-quotient b g c q i); k = rw p at j })
 up_to_form b AtLeast cs c k p h i j = normal_at_least_by (IfKept (IsRowUpTo b)) cs c (λ e f. tt) (λ e f. tt)
     (λ m. let q = content_positive cs m in record { coefs = IsUpTo-divided b (content cs) cs q h; constant = abs-quotient b (content cs) c q i; k = rw p at j })
 up_to_form b Divides cs c k p h i j = up_to_divides b cs c k p j

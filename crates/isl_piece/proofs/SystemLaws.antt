@@ -1,5 +1,5 @@
 -- The normal rows of a system.
-use Rattle.std.proofs.Common.{◌≡◌, ◌↔◌, ◌⊎◌, inl, inr, refl, sym, ap, ◌∙◌, arith, ℕ, zero, suc, ◌-◌, ◌<◌, ◌≤◌, ◌^◌, ℤ, List, [], ◌∷◌, length, get_or, map, pow_pos, Option, Some, None, option_map, MatchOption, IfSome, IsNone, is_none, unsigned_abs, subst}
+use Rattle.std.proofs.Common.{◌≡◌, ◌↔◌, ◌⊎◌, inl, inr, refl, sym, ap, ◌∙◌, arith, ℕ, zero, suc, ◌-◌, ◌<◌, ◌≤◌, ◌^◌, ℤ, List, [], ◌∷◌, length, get_or, map, pow_pos, Option, Some, None, option_map, MatchOption, IfSome, IsNone, unsigned_abs, subst}
 use Rattle.std.specs.List.{All, Any}
 use Rattle.std.proofs.lemmas.List.Elements.{All-weaker}
 use Rattle.isl_meter.specs.Gauge.{Gauge, IsWithin}

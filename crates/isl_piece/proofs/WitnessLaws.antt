@@ -1,22 +1,22 @@
 -- A row whose normal form is kept holds at some point, and fails at some.
-use Rattle.std.proofs.Common.{◌≡◌, ◌≢◌, ◌↔◌, ◌⊎◌, inl, inr, refl, sym, ap, ◌∙◌, arith, ℕ, zero, suc, ◌≤ℤ◌, ◌<ℤ◌, ℤ, pos, negsuc, neg_ℤ, ◌+ℤ◌, ◌-ℤ◌, ◌*ℤ◌, List, [], ◌∷◌, unsigned_abs, subst}
+use Rattle.std.proofs.Common.{◌≡◌, ◌↔◌, inl, inr, refl, sym, ap, ◌∙◌, arith, ◌≤ℤ◌, ◌<ℤ◌, ℤ, pos, neg_ℤ, ◌+ℤ◌, ◌-ℤ◌, ◌*ℤ◌, List, [], ◌∷◌, subst}
 use Rattle.std.specs.List.{All}
-use Rattle.std.proofs.lemmas.List.Elements.{All-nil, All-cons, All-head, All-tail}
+use Rattle.std.proofs.lemmas.List.Elements.{All-nil, All-cons, All-head}
 use Rattle.isl_math.specs.Divide as divide
 use Rattle.isl_math.specs.Divide.{floor_div, floor_mod}
 use Rattle.isl_math.specs.Dot.{dot, scaled}
-use Rattle.isl_math.specs.Gcd.{gcd_of, content}
+use Rattle.isl_math.specs.Gcd.{content}
 use Rattle.isl_math.specs.Order.{abs_of}
-use Rattle.isl_math.proofs.Ring.{expand, linear, *ℤ_assoc}
+use Rattle.isl_math.proofs.Ring.{expand, linear}
 use Rattle.isl_math.proofs.OrderLaws.{*ℤ-≤ℤ, ≡-from_*ℤ}
 use Rattle.isl_math.proofs.DotLaws.{dot-scaled_right, dot-nil_right}
-use Rattle.isl_math.proofs.DivideLaws.{bezout, gcd_unique, Divides-minus, Divides-same, le_from_Divides}
-use Rattle.isl_math.proofs.GcdLaws.{IsGcdOf-gcd_of, IsContentOf-content, gcd_of-from_IsGcdOf}
+use Rattle.isl_math.proofs.DivideLaws.{bezout, Divides-minus, Divides-same, le_from_Divides}
+use Rattle.isl_math.proofs.GcdLaws.{IsContentOf-content, gcd_of-from_IsGcdOf}
 use Rattle.isl_piece.specs.declared.constraint.RowKind.{RowKind}
 use Rattle.isl_piece.specs.declared.constraint.RowKind.TheVariants.{Zero, AtLeast, Divides, NotDivides}
 use Rattle.isl_piece.specs.declared.constraint.Row.{Row}
-use Rattle.isl_piece.specs.Normal.{Verdict, Always, Never, Kept}
-use Rattle.isl_piece.specs.Numbers.{divided, reduced}
+use Rattle.isl_piece.specs.Normal.{Always, Never, Kept}
+use Rattle.isl_piece.specs.Numbers.{reduced}
 use Rattle.isl_piece.specs.Row.{HoldsValue, HoldsRow, HasDivisor, IsContingent}
 use Rattle.isl_piece.specs.Normal.{normal_zero, normal_at_least, normal_divides, normal_form, normal_row, denied}
 use Rattle.isl_piece.proofs.NumberLaws.{exact}

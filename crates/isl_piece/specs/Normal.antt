@@ -67,8 +67,8 @@ normal_divides cs c k =
     let constant = floor_mod c k in
     let g = content (k ∷ columns) in
     if is_multiple g constant then (
-      if int_eq (floor_div k g) (pos 1) then Always
-      else Kept (lesser (congruence (divided g columns) (floor_div constant g) (floor_div k g)))
+    if int_eq (floor_div k g) (pos 1) then Always
+    else Kept (lesser (congruence (divided g columns) (floor_div constant g) (floor_div k g)))
     ) else Never
 
 -- what is left of a congruence, denied

@@ -10,6 +10,7 @@ use crate::numbers;
 use isl_meter::{Int, Meter};
 use smallvec::SmallVec;
 use std::alloc::{AllocError, AllocFailed, Global};
+use std::fmt;
 use std::marker::Model;
 
 /// The coefficients of a row, one for each column. Up to 16 lie in the row itself.
@@ -24,6 +25,33 @@ impl Model for Coefs {
     ghost Value = { List ℤ };
 
     ghost view = { λ c. c.items.items };
+}
+
+impl PartialEq for Coefs {
+    ghost use Rattle.std.specs.Cmp.{int_eq_equiv, partial_equiv_from_equiv};
+    ghost use Rattle.std.specs.Cmp.Lexicographic.{pointwise, lists_per};
+    ghost use Rattle.std.specs.Ordering.{int_eq};
+
+    ghost eq = { pointwise int_eq };
+
+    ghost laws = { lists_per (partial_equiv_from_equiv int_eq_equiv) };
+
+    fn eq(&self, other: &Coefs) -> bool {
+        self.as_slice() == other.as_slice()
+    }
+}
+
+impl Eq for Coefs {
+    ghost use Rattle.std.specs.Cmp.{int_eq_equiv};
+    ghost use Rattle.std.specs.Cmp.Lexicographic.{lists_equiv};
+
+    ghost laws = { lists_equiv int_eq_equiv };
+}
+
+impl fmt::Debug for Coefs {
+    fn fmt<W: fmt::Write>(&self, f: &mut fmt::Formatter<W>) -> fmt::Result {
+        f.debug_list().entries(self.as_slice()).finish()
+    }
 }
 
 impl Coefs {

@@ -19,7 +19,7 @@ pub enum RowKind {
 
 /// A constraint on the form `coefs[0] x0 + coefs[1] x1 + .. + constant`.
 /// `k` is at least 1, and 1 for `Zero` and `AtLeast`.
-#[derive(Drop)]
+#[derive(Debug, PartialEq, Eq, Drop)]
 pub struct Row {
     pub kind: RowKind,
     pub coefs: Coefs,

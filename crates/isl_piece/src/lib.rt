@@ -2,8 +2,8 @@
 #![tactic(auto)]
 
 mod coefficients;
-mod constraint;
 mod conjunction;
+mod constraint;
 mod list;
 mod located;
 mod negation;

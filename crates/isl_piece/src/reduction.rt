@@ -61,7 +61,11 @@ fn settle_zero(row: &mut Row, meter: &Meter) -> Outcome
     let g = numbers::content(row.coefs.as_slice(), meter);
     let constant = row.offset();
     if g.is_zero() {
-        return if constant.is_zero() { Outcome::Holds } else { Outcome::Fails };
+        return if constant.is_zero() {
+            Outcome::Holds
+        } else {
+            Outcome::Fails
+        };
     }
     if !is_multiple(constant, g, meter) {
         return Outcome::Fails;
@@ -81,7 +85,11 @@ fn settle_at_least(row: &mut Row, meter: &Meter) -> Outcome
 {
     let g = numbers::content(row.coefs.as_slice(), meter);
     if g.is_zero() {
-        return if row.offset().is_negative() { Outcome::Fails } else { Outcome::Holds };
+        return if row.offset().is_negative() {
+            Outcome::Fails
+        } else {
+            Outcome::Holds
+        };
     }
     divide(row, g, meter);
     Outcome::Stays

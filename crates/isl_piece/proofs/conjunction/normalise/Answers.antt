@@ -1,4 +1,4 @@
-use Rattle.std.proofs.Common.{◌≡◌, refl, Option, Some, None}
+use Rattle.std.proofs.Common.{◌≡◌, refl, Some}
 use Rattle.isl_piece.specs.declared.conjunction.System.{System}
 use Rattle.isl_piece.specs.Normal.{normal_system}
 use Rattle.isl_piece.proofs.SystemLaws.{normal_system-Some, normal_system-None, found_none, found_points, found_normal, found_within, found_up_to, missing_none, missing_points}

@@ -42,12 +42,14 @@ loop-at-preserved c =
     let inside : at < length rows = omega arith in
     let rest : drop (at + 1) (set rows at made) ≡ drop (at + 1) c.args.rows.now = grind (arith, common_steps) in
     elim c.match-settle.branch [
-      | in-Holds w ↦
-          (rw w.kept-is (omega arith),
-           ap (drop (at + 1)) w.rows-is ∙ rest,
-           rw (w.kept-is, w.rows-is) (come_always rows kept at row c.loop-at.invariant.0 inside c.index-rows-at.is made old (ap normal_row c.index-rows-at.is ∙ w.in-Holds.ensures) c.loop-at.invariant.2))
-      | in-Stays w ↦
-          (rw w.kept-is w.keep-kept.ensures.bound,
-           ap (drop (at + 1)) w.rows-is ∙ w.keep-kept.ensures.rest ∙ rest,
-           rw (w.kept-is, w.rows-is) (come_kept rows kept at row c.loop-at.invariant.0 inside c.index-rows-at.is made w.keep-kept.new.rows w.keep-kept.result old (ap normal_row c.index-rows-at.is ∙ w.in-Stays.ensures) w.keep-kept.ensures.front w.keep-kept.ensures.rest c.loop-at.invariant.2))
+      | in-Holds w ↦ (
+        rw w.kept-is (omega arith),
+        ap (drop (at + 1)) w.rows-is ∙ rest,
+        rw (w.kept-is, w.rows-is) (come_always rows kept at row c.loop-at.invariant.0 inside c.index-rows-at.is made old (ap normal_row c.index-rows-at.is ∙ w.in-Holds.ensures) c.loop-at.invariant.2),
+      )
+      | in-Stays w ↦ (
+        rw w.kept-is w.keep-kept.ensures.bound,
+        ap (drop (at + 1)) w.rows-is ∙ w.keep-kept.ensures.rest ∙ rest,
+        rw (w.kept-is, w.rows-is) (come_kept rows kept at row c.loop-at.invariant.0 inside c.index-rows-at.is made w.keep-kept.new.rows w.keep-kept.result old (ap normal_row c.index-rows-at.is ∙ w.in-Stays.ensures) w.keep-kept.ensures.front w.keep-kept.ensures.rest c.loop-at.invariant.2),
+      )
     ]

@@ -1,4 +1,4 @@
-use Rattle.std.proofs.Common.{◌≡◌, false, take, length, arith}
+use Rattle.std.proofs.Common.{◌≡◌, false, take, arith}
 use Rattle.std.proofs.lemmas.Grind.{common_steps}
 use Rattle.std.proofs.lemmas.List.Elements.{All-more}
 use Rattle.isl_piece.specs.declared.constraint.Row.{Row}

@@ -1,4 +1,4 @@
-use Rattle.std.proofs.Common.{◌≡◌, ◌++◌, drop, take, length}
+use Rattle.std.proofs.Common.{◌≡◌, drop, take}
 use Rattle.isl_piece.specs.Numbers.{divided}
 use Rattle.isl_piece.proofs.numbers.divide.Given as goal
 

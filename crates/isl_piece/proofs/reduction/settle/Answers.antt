@@ -1,4 +1,4 @@
-use Rattle.std.proofs.Common.{ap, sym, arith, subst}
+use Rattle.std.proofs.Common.{arith}
 use Rattle.isl_piece.specs.Normal.{normal_divides}
 use Rattle.isl_piece.proofs.reduction.settle.Goals as goal
 
