@@ -72,6 +72,9 @@ pub divided_one : (xs : List ℤ) → divided (pos 1) xs ≡ xs
 divided_one [] = refl
 divided_one (x ∷ xs) = let e = divided_one xs in let f = quotient_one x in cc
 
+pub divided_by_one : (g : ℤ) (xs : List ℤ) → g ≡ pos 1 → xs ≡ divided g xs
+divided_by_one g xs e = rw e (sym (divided_one xs))
+
 -- x is from 0 to k - 1
 pub record IsReduced (k x : ℤ) : Type 0 where
   pub low : pos 0 ≤ℤ x

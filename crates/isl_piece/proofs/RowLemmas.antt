@@ -3,7 +3,7 @@ use Rattle.std.proofs.Common.{◌≡◌, sym, ◌∙◌, ◌↔◌, ℤ, pos, �
 use Rattle.std.proofs.lemmas.List.{get_or_read}
 use Rattle.isl_math.specs.Divide as divide
 use Rattle.isl_math.specs.Divide.{floor_mod}
-use Rattle.isl_math.proofs.DivideLaws.{Divides-from_mod, mod-from_Divides}
+use Rattle.isl_math.proofs.DivideLaws.{Divides-from_mod, mod-from_Divides, one-Divides}
 use Rattle.isl_math.proofs.DotLaws.{dot-take_more}
 use Rattle.isl_math.proofs.Ring.{linear}
 use Rattle.isl_piece.specs.declared.constraint.RowKind.{RowKind}
@@ -25,3 +25,6 @@ Divides-test k z m t p e h = (
   (λ is. Divides-from_mod k z p (sym e ∙ h.0 is)),
   (λ d. h.1 (e ∙ mod-from_Divides k z p d)),
 )
+
+pub one-Divides-test : (k z : ℤ) (t : Bool) → k ≡ pos 1 → IsTrue t → IsTrue t ↔ divide.Divides k z
+one-Divides-test k z t e h = ((λ _. rw e (one-Divides z)), (λ _. h))

@@ -1,13 +1,13 @@
 -- The normal rows of a system.
-use Rattle.std.proofs.Common.{◌≡◌, ◌↔◌, ◌⊎◌, inl, inr, refl, sym, ap, ◌∙◌, arith, ℕ, zero, suc, ◌-◌, ◌<◌, ◌≤◌, ◌^◌, ℤ, List, [], ◌∷◌, length, get_or, map, pow_pos, Option, Some, None, option_map, MatchOption, IfSome, IsNone, unsigned_abs, subst}
+use Rattle.std.proofs.Common.{◌≡◌, ◌↔◌, ◌⊎◌, inl, inr, refl, sym, ap, ◌∙◌, arith, ℕ, zero, suc, ◌-◌, ◌<◌, ◌≤◌, ◌^◌, ℤ, List, [], ◌∷◌, ◌++◌, length, get_or, map, pow_pos, Option, Some, None, option_map, MatchOption, IfSome, IsNone, unsigned_abs, subst}
 use Rattle.std.specs.List.{All, Any}
-use Rattle.std.proofs.lemmas.List.Elements.{All-weaker}
+use Rattle.std.proofs.lemmas.List.Elements.{All-nil, All-cons, All-head, All-tail, All-append, All-weaker}
 use Rattle.isl_meter.specs.Gauge.{Gauge, IsWithin}
 use Rattle.isl_piece.specs.declared.constraint.Row.{Row}
 use Rattle.isl_piece.specs.declared.conjunction.System.{System}
 use Rattle.isl_piece.specs.Normal.{Verdict, Always, Never, Kept, normal_row, kept_rows, merged, normal_rows, normal_system, IsNormal}
 use Rattle.isl_piece.specs.Row.{HoldsRow, HasDivisor, IsWellFormed, IsRowWithin, IsRowUpTo}
-use Rattle.isl_piece.specs.System.{HoldsSystem, IsSystemWithin}
+use Rattle.isl_piece.specs.System.{HoldRows, HoldsSystem, IsSystemWithin}
 use Rattle.isl_piece.proofs.WitnessLaws.{never_exactly}
 use Rattle.isl_piece.proofs.NormalLaws.{normal_rows_hold, normal_rows_normal, normal_rows_well_formed, normal_rows_up_to}
 
@@ -153,3 +153,18 @@ module _ (s : System) (g : Gauge) (h : IsSystemWithin g s) where
 
     pub missing_points : (xs : List ℤ) → ¬ HoldsSystem s xs
     missing_points xs = subst (λ (o : Option System). MatchOption o (¬ HoldsSystem s xs) (λ t. HoldsSystem t xs ↔ HoldsSystem s xs)) e (normal_system_points s g h xs)
+
+-- ---- two systems together
+parts : (P : Row → Type 0) (xs ys : List Row) → All P (xs ++ ys) → All P xs × All P ys
+parts P [] ys h = (All-nil P, h)
+parts P (x ∷ xs) ys h = let rest = parts P xs ys (All-tail P x (xs ++ ys) h) in (All-cons P x xs (All-head P x (xs ++ ys) h) rest.0, rest.1)
+
+module _ (a b : System) where
+  pub meet_points : (xs : List ℤ) → HoldRows (a.rows ++ b.rows) xs ↔ (HoldsSystem a xs × HoldsSystem b xs)
+  meet_points xs = ((λ h. parts (λ r. HoldsRow r xs) a.rows b.rows h), (λ h. All-append (λ r. HoldsRow r xs) a.rows b.rows h.0 h.1))
+
+  pub meet_within : (g : Gauge) → a.columns ≡ b.columns → IsSystemWithin g a → IsSystemWithin g b → IsSystemWithin g (record { columns = a.columns; rows = a.rows ++ b.rows })
+  meet_within g e p q = record {
+    rows = All-append (IsWellFormed a.columns) a.rows b.rows p.rows (rw e q.rows);
+    within = All-append (IsRowWithin g) a.rows b.rows p.within q.within;
+  }

@@ -1,6 +1,7 @@
 //! Systems: the points at which each row of a list holds.
 
 ghost use Rattle.std.specs.Prelude.{◌≡◌, ◌↔◌, ℕ, ℤ, List, [], ◌++◌, All, Any, IfOk, IfSome, IsNone, MatchOption};
+ghost use Rattle.isl_meter.specs.Gauge.{Gauge};
 ghost use Rattle.isl_piece.specs.Normal.{normal_system, IsNormal};
 ghost use Rattle.isl_piece.specs.Row.{HoldsRow, IsRowUpTo};
 ghost use Rattle.isl_piece.specs.System.{HoldsSystem, IsSystemWithin};
@@ -37,14 +38,21 @@ impl System {
     }
 }
 
-/// The system that holds where both do.
+/// The system that holds where both do: the rows of `a`, then those of `b`.
 pub fn meet(alloc: Global, a: &System, b: &System) -> Result<System, AllocError>
     requires { a.now.columns ≡ b.now.columns }
-    ensures { IfOk result (λ system. system ≡ record { columns = a.now.columns; rows = a.now.rows ++ b.now.rows }) }
+    ensures exact { IfOk result (λ met. met ≡ record { columns = a.now.columns; rows = a.now.rows ++ b.now.rows }) }
+    ensures points { IfOk result (λ met. (point : List ℤ) → HoldsSystem met point ↔ (HoldsSystem a.now point × HoldsSystem b.now point)) }
+    ensures within { (g : Gauge) → IsSystemWithin g a.now → IsSystemWithin g b.now → IfOk result (IsSystemWithin g) }
 {
-    let mut system = a.copy(alloc)?;
-    system.rows.append(alloc, &b.rows)?;
-    Ok(system)
+    let count = a.rows.len().saturating_add(b.rows.len());
+    let mut rows = Rows::with_capacity(alloc, count)?;
+    rows.append(alloc, &a.rows)?;
+    rows.append(alloc, &b.rows)?;
+    Ok(System {
+        columns: a.columns,
+        rows,
+    })
 }
 
 /// The system with its normal rows: each row divided as far as it goes, rows that hold everywhere left out, and each bound

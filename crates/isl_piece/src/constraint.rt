@@ -121,5 +121,8 @@ pub(crate) fn is_multiple(number: Int, k: Int, meter: &Meter) -> bool
     requires divisor { pos 0 <ℤ k }
     ensures { IsTrue result ↔ Divides k number }
 {
+    if k == Int::ONE {
+        return true;
+    }
     number.modulo(k, meter).is_zero()
 }

@@ -23,6 +23,26 @@ impl Model for Rows {
     ghost view = { λ r. r.items.items };
 }
 
+impl From<Vec<Row>> for Rows {
+    ghost use Rattle.std.specs.Prelude.{◌≡◌};
+
+    ghost from_gives = { λ items rows. rows ≡ items.items };
+
+    fn from(items: Vec<Row>) -> Rows {
+        Rows { items }
+    }
+}
+
+impl From<Rows> for Vec<Row> {
+    ghost use Rattle.std.specs.Prelude.{◌≡◌};
+
+    ghost from_gives = { λ rows items. items.items ≡ rows };
+
+    fn from(rows: Rows) -> Vec<Row> {
+        rows.items
+    }
+}
+
 impl Rows {
     pub fn new(alloc: Global) -> Self
         ensures { result ≡ [] }
@@ -32,16 +52,13 @@ impl Rows {
         }
     }
 
-    pub fn from_vec(items: Vec<Row>) -> Self
-        ensures { result ≡ items.items }
+    /// No rows, with room for `count`.
+    pub fn with_capacity(alloc: Global, count: usize) -> Result<Self, AllocError>
+        ensures { IfOk result (λ rows. rows ≡ []) }
     {
-        Rows { items }
-    }
-
-    pub fn into_vec(self) -> Vec<Row>
-        ensures { result.items ≡ self }
-    {
-        self.items
+        Ok(Rows {
+            items: Vec::with_capacity(alloc, count)?,
+        })
     }
 
     pub fn len(&self) -> usize
@@ -69,8 +86,8 @@ impl Rows {
         self.items.push(row)
     }
 
-    /// Copies of the other rows behind these.
-    pub fn append(&mut self, alloc: Global, other: &Rows) -> Result<(), AllocError>
+    // Copies of the other rows behind these.
+    pub(crate) fn append(&mut self, alloc: Global, other: &Rows) -> Result<(), AllocError>
         ensures { OnOk result (self.new ≡ self.old ++ other.now) }
     {
         for row in other.as_slice() {
@@ -82,7 +99,7 @@ impl Rows {
     pub fn copy(&self, alloc: Global) -> Result<Self, AllocError>
         ensures { IfOk result (λ rows. rows ≡ self.now) }
     {
-        let mut rows = Rows::new(alloc);
+        let mut rows = Rows::with_capacity(alloc, self.len())?;
         rows.append(alloc, self)?;
         Ok(rows)
     }

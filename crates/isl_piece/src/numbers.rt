@@ -46,6 +46,9 @@ pub(crate) fn divide(numbers: &mut [Int], g: Int, meter: &Meter)
     requires divisor { pos 0 <ℤ g }
     ensures { numbers.new ≡ divided g numbers.old }
 {
+    if g == Int::ONE {
+        return;
+    }
     for i in 0..numbers.len() {
         numbers[i] = numbers[i].floor_div(g, meter);
     }

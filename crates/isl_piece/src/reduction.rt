@@ -83,15 +83,15 @@ fn settle_at_least(row: &mut Row, meter: &Meter) -> Outcome
     requires within { IsRowWithin meter.now row.old }
     ensures { Settles result row.new (normal_at_least row.old.coefs row.old.constant) }
 {
-    let g = numbers::content(row.coefs.as_slice(), meter);
-    if g.is_zero() {
+    let common = numbers::content(row.coefs.as_slice(), meter);
+    if common.is_zero() {
         return if row.offset().is_negative() {
             Outcome::Fails
         } else {
             Outcome::Holds
         };
     }
-    divide(row, g, meter);
+    divide(row, common, meter);
     Outcome::Stays
 }
 
