@@ -3,8 +3,8 @@ use Rattle.std.specs.Prelude.{◌≡◌, ◌↔◌, ◌⊎◌, ℕ, ◌-◌, ℤ
 use Rattle.std.specs.List.{insert}
 use Rattle.isl_math.specs.Divide.{floor_div}
 use Rattle.isl_piece.specs.declared.constraint.Row.{Row}
-use Rattle.isl_piece.specs.Row.{HoldsRow, coef_at}
-use Rattle.isl_elim.specs.Column.{rest_at}
+use Rattle.isl_piece.specs.Row.{HoldsRow, IsWellFormed, coef_at}
+use Rattle.isl_elim.specs.Column.{IsFree, rest_at}
 
 -- a bound on x at a point of the other columns: `rest` is the value of what stands beside x
 pub record Bound : Type 0 where
@@ -43,6 +43,10 @@ IsDark l u = slack l u ≤ℤ together l u
 abbrev pub last_splinter : ℤ → ℤ → ℤ
 last_splinter a m = a -ℤ pos 1 +ℤ floor_div (neg_ℤ a) m
 
+-- z / d, rounded up
+abbrev pub ceiling : ℤ → ℤ → ℤ
+ceiling z d = neg_ℤ (floor_div (neg_ℤ z) d)
+
 -- ---- rows as bounds
 -- a row with a coefficient above 0 at the column, at a point of the other columns
 abbrev pub lower_at : ℕ → List ℤ → Row → Bound
@@ -51,3 +55,14 @@ lower_at col point r = record { factor = coef_at r col; rest = rest_at r col poi
 -- a row with a coefficient below 0
 abbrev pub upper_at : ℕ → List ℤ → Row → Bound
 upper_at col point r = record { factor = neg_ℤ (coef_at r col); rest = rest_at r col point }
+
+-- ---- what the code makes of a pair
+-- a row without the column that holds exactly where the pair is dark
+pub record IsDarkRow (columns col : ℕ) (lower upper dark : Row) : Type 0 where
+  pub formed : IsWellFormed columns dark
+  pub free : IsFree col dark
+  pub is : (point : List ℤ) (x : ℤ) → length point ≡ columns - 1 → HoldsRow dark (insert point col x) ↔ IsDark (lower_at col point lower) (upper_at col point upper)
+
+-- wherever the pair is real it is dark
+abbrev pub IsExact : ℕ → ℕ → Row → Row → Type 0
+IsExact columns col lower upper = (point : List ℤ) → length point ≡ columns - 1 → IsReal (lower_at col point lower) (upper_at col point upper) → IsDark (lower_at col point lower) (upper_at col point upper)

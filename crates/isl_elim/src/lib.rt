@@ -5,6 +5,7 @@
 mod combine;
 mod congruence;
 mod equality;
+mod pair;
 mod rows;
 mod sides;
 mod step;
