@@ -15,4 +15,5 @@ pub mod SideLemmas
 pub mod Splinters
 pub mod StepLemmas
 pub mod SubstitutionLemmas
+pub mod TightLemmas
 pub mod TightenLemmas

@@ -2,8 +2,9 @@
 use Rattle.std.specs.Prelude.{◌≡◌, ◌↔◌, ◌⊎◌, ℕ, ◌-◌, ℤ, pos, neg_ℤ, ◌+ℤ◌, ◌-ℤ◌, ◌*ℤ◌, ◌≤ℤ◌, ◌<ℤ◌, List, length, All}
 use Rattle.std.specs.List.{insert}
 use Rattle.isl_math.specs.Divide.{floor_div}
+use Rattle.isl_piece.specs.declared.constraint.RowKind.TheVariants.{AtLeast}
 use Rattle.isl_piece.specs.declared.constraint.Row.{Row}
-use Rattle.isl_piece.specs.Row.{HoldsRow, IsWellFormed, coef_at}
+use Rattle.isl_piece.specs.Row.{HoldsRow, IsWellFormed, value_at, coef_at}
 use Rattle.isl_elim.specs.Column.{IsFree, rest_at}
 
 -- a bound on x at a point of the other columns: `rest` is the value of what stands beside x
@@ -57,6 +58,13 @@ abbrev pub upper_at : ℕ → List ℤ → Row → Bound
 upper_at col point r = record { factor = neg_ℤ (coef_at r col); rest = rest_at r col point }
 
 -- ---- what the code makes of a pair
+-- a row without the column whose value, times d, is what the pair has together
+pub record IsRealRow (columns col : ℕ) (lower upper : Row) (d : ℤ) (real : Row) : Type 0 where
+  pub kind : real.kind ≡ AtLeast
+  pub formed : IsWellFormed columns real
+  pub gone : coef_at real col ≡ pos 0
+  pub value : (point : List ℤ) (x : ℤ) → length point ≡ columns - 1 → together (lower_at col point lower) (upper_at col point upper) ≡ d *ℤ value_at real (insert point col x)
+
 -- a row without the column that holds exactly where the pair is dark
 pub record IsDarkRow (columns col : ℕ) (lower upper dark : Row) : Type 0 where
   pub formed : IsWellFormed columns dark

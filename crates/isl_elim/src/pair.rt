@@ -1,9 +1,10 @@
 // What a lower and an upper bound leave without the column.
 
-ghost use Rattle.std.specs.Prelude.{◌≡◌, ◌<◌, ◌↔◌, pos, ◌-ℤ◌, ◌*ℤ◌, neg_ℤ, ◌<ℤ◌, IsTrue, length, MatchResult};
+ghost use Rattle.std.specs.Prelude.{◌≡◌, ◌<◌, ◌↔◌, pos, ◌-ℤ◌, ◌*ℤ◌, ◌<ℤ◌, ℤ, List, IsTrue, length, IfOk, MatchResult};
 ghost use Rattle.isl_meter.specs.Gauge.{IsWithin};
-ghost use Rattle.isl_piece.specs.Row.{IsRowWithin, coef_at};
-ghost use Rattle.isl_elim.specs.Shadow.{ceiling, IsDarkRow, IsExact};
+ghost use Rattle.isl_piece.specs.declared.constraint.RowKind.TheVariants.{AtLeast};
+ghost use Rattle.isl_piece.specs.Row.{HoldsRow, HasDivisor, IsRowWithin, coef_at};
+ghost use Rattle.isl_elim.specs.Shadow.{ceiling, IsRealRow, IsDarkRow, IsExact};
 ghost use Rattle.isl_elim.specs.Sides.{IsLower, IsUpper};
 ghost use Rattle.isl_elim.specs.Work.{IsCutUpTo};
 
@@ -31,4 +32,30 @@ fn slack(a: Int, b: Int, divisor: Int, meter: &mut Meter) -> Result<Int, Overflo
     let n = b.sub(Int::ONE, meter)?;
     let product = m.mul(n, meter)?;
     Ok(product.neg(meter).floor_div(divisor, meter).neg(meter))
+}
+
+fn has_same_form(a: &Row, b: &Row) -> bool
+    ensures { IsTrue result → (a.now.coefs ≡ b.now.coefs) × (a.now.constant ≡ b.now.constant) }
+{
+    a.coefs.as_slice() == b.coefs.as_slice() && a.offset() == b.offset()
+}
+
+// Whether the normal forms show that `dark` holds wherever `real` does.
+fn is_tight(alloc: Global, real: &Row, dark: &Row, meter: &Meter) -> Result<bool, AllocError>
+    requires real_kind { real.now.kind ≡ AtLeast }
+    requires dark_kind { dark.now.kind ≡ AtLeast }
+    requires real_divisor { HasDivisor real.now.kind real.now.k }
+    requires dark_divisor { HasDivisor dark.now.kind dark.now.k }
+    requires real_within { IsRowWithin meter.now real.now }
+    requires dark_within { IsRowWithin meter.now dark.now }
+    ensures { IfOk result (λ tight. IsTrue tight → (xs : List ℤ) → HoldsRow real.now xs → HoldsRow dark.now xs) }
+{
+    let mut first = real.copy(alloc)?;
+    let mut second = dark.copy(alloc)?;
+    match (settle(&mut first, meter), settle(&mut second, meter)) {
+        (Outcome::Fails, _) => Ok(true),
+        (_, Outcome::Holds) => Ok(true),
+        (Outcome::Stays, Outcome::Stays) => Ok(has_same_form(&first, &second)),
+        _ => Ok(false),
+    }
 }
