@@ -8,6 +8,7 @@ pub mod MergeLemmas
 pub mod Magnitudes
 pub mod MoveLemmas
 pub mod NeighbourLemmas
+pub mod PairLemmas
 pub mod Pairs
 pub mod ReduceLemmas
 pub mod ShadowLemmas

@@ -63,6 +63,7 @@ pub record IsRealRow (columns col : ℕ) (lower upper : Row) (d : ℤ) (real : R
   pub kind : real.kind ≡ AtLeast
   pub formed : IsWellFormed columns real
   pub gone : coef_at real col ≡ pos 0
+  pub positive : pos 0 <ℤ d
   pub value : (point : List ℤ) (x : ℤ) → length point ≡ columns - 1 → together (lower_at col point lower) (upper_at col point upper) ≡ d *ℤ value_at real (insert point col x)
 
 -- a row without the column that holds exactly where the pair is dark

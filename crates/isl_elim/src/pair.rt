@@ -1,6 +1,7 @@
 // What a lower and an upper bound leave without the column.
 
-ghost use Rattle.std.specs.Prelude.{◌≡◌, ◌<◌, ◌↔◌, pos, ◌-ℤ◌, ◌*ℤ◌, ◌<ℤ◌, ℤ, List, IsTrue, length, IfOk, MatchResult};
+ghost use Rattle.std.specs.Prelude.{◌≡◌, ◌<◌, ◌↔◌, pos, ◌-ℤ◌, ◌*ℤ◌, neg_ℤ, ◌<ℤ◌, ℤ, List, IsTrue, length, IfOk, MatchResult};
+ghost use Rattle.isl_math.specs.Divide.{IsGcdOf};
 ghost use Rattle.isl_meter.specs.Gauge.{IsWithin};
 ghost use Rattle.isl_piece.specs.declared.constraint.RowKind.TheVariants.{AtLeast};
 ghost use Rattle.isl_piece.specs.Row.{HoldsRow, HasDivisor, IsRowWithin, coef_at};
@@ -57,5 +58,70 @@ fn is_tight(alloc: Global, real: &Row, dark: &Row, meter: &Meter) -> Result<bool
         (_, Outcome::Holds) => Ok(true),
         (Outcome::Stays, Outcome::Stays) => Ok(has_same_form(&first, &second)),
         _ => Ok(false),
+    }
+}
+
+// The real row of a pair whose coefficients have the greatest common divisor `divisor`.
+fn real_row(
+    alloc: Global,
+    lower: &Row,
+    upper: &Row,
+    columns: usize,
+    col: usize,
+    divisor: Int,
+    meter: &mut Meter,
+) -> Result<Row, Cut>
+    requires lower { IsLower meter.old columns col lower.now }
+    requires upper { IsUpper meter.old columns col upper.now }
+    requires col_in { col < columns }
+    requires gcd { IsGcdOf (coef_at lower.now col) (neg_ℤ (coef_at upper.now col)) divisor }
+    requires within { IsWithin meter.old divisor }
+    ensures { MatchResult result
+        (λ real. IsRealRow columns col lower.now upper.now divisor real × IsRowWithin meter.old real × (meter.new ≡ meter.old))
+        (λ cut. IsCutUpTo 0 meter.old meter.new cut) }
+{
+    let m = lower.coefs.get(col).floor_div(divisor, meter);
+    let n = upper.coefs.get(col).neg(meter).floor_div(divisor, meter);
+    let real = combined(alloc, n, lower, m, upper, meter)?;
+    Ok(real)
+}
+
+// The row with its constant less `by`.
+fn lowered(alloc: Global, row: &Row, by: Int, meter: &mut Meter) -> Result<Row, Cut>
+    requires within { IsRowWithin meter.old row.now }
+    ensures { MatchResult result
+        (λ low. (low ≡ record row.now { constant = row.now.constant -ℤ by }) × IsRowWithin meter.old low × (meter.new ≡ meter.old))
+        (λ cut. IsCutUpTo 0 meter.old meter.new cut) }
+{
+    let constant = row.offset().sub(by, meter)?;
+    Ok(Row::new(row.kind, row.coefs.copy(alloc)?, constant, row.modulus()))
+}
+
+impl Pair {
+    /// What the bounds leave.
+    pub fn of(
+        alloc: Global,
+        lower: &Row,
+        upper: &Row,
+        columns: usize,
+        col: usize,
+        meter: &mut Meter,
+    ) -> Result<Self, Cut>
+        requires lower { IsLower meter.old columns col lower.now }
+        requires upper { IsUpper meter.old columns col upper.now }
+        requires col_in { col < columns }
+        ensures { MatchResult result
+            (λ pair. IsDarkRow columns col lower.now upper.now pair.dark × IsRowWithin meter.old pair.dark
+            × (IsTrue pair.exact → IsExact columns col lower.now upper.now) × (meter.new ≡ meter.old))
+            (λ cut. IsCutUpTo 0 meter.old meter.new cut) }
+    {
+        let a = lower.coefs.get(col);
+        let b = upper.coefs.get(col).neg(meter);
+        let divisor = a.gcd(b, meter);
+        let real = real_row(alloc, lower, upper, columns, col, divisor, meter)?;
+        let by = slack(a, b, divisor, meter)?;
+        let dark = lowered(alloc, &real, by, meter)?;
+        let exact = is_tight(alloc, &real, &dark, meter)?;
+        Ok(Pair { dark, exact })
     }
 }
