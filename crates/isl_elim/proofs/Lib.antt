@@ -12,9 +12,11 @@ pub mod PairLemmas
 pub mod Pairs
 pub mod ReduceLemmas
 pub mod ShadowLemmas
+pub mod ShadowRows
 pub mod SideLemmas
 pub mod Splinters
 pub mod StepLemmas
 pub mod SubstitutionLemmas
+pub mod WorkLemmas
 pub mod TightLemmas
 pub mod TightenLemmas

@@ -60,7 +60,7 @@ real_row_is g columns col lower upper d m n real hl hu l h e f r =
         simp expand (omega (arith, linear))
 
 -- a row that is at least 0 holds where its value is so
-holds_at_least : (asks : RowKind) (k z : ℤ) → asks ≡ AtLeast → HoldsValue asks k z ↔ (pos 0 ≤ℤ z)
+pub holds_at_least : (asks : RowKind) (k z : ℤ) → asks ≡ AtLeast → HoldsValue asks k z ↔ (pos 0 ≤ℤ z)
 holds_at_least asks k z e = rw e ((λ h. h), (λ h. h))
 
 -- the dark row: the real one with the slack taken off

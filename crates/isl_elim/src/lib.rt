@@ -7,6 +7,7 @@ mod congruence;
 mod equality;
 mod pair;
 mod rows;
+mod shadow;
 mod sides;
 mod step;
 mod substitution;
