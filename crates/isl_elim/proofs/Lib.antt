@@ -8,11 +8,15 @@ pub mod MergeLemmas
 pub mod Magnitudes
 pub mod MoveLemmas
 pub mod NeighbourLemmas
+pub mod PairLemmas
 pub mod Pairs
 pub mod ReduceLemmas
 pub mod ShadowLemmas
+pub mod ShadowRows
 pub mod SideLemmas
 pub mod Splinters
 pub mod StepLemmas
 pub mod SubstitutionLemmas
+pub mod WorkLemmas
+pub mod TightLemmas
 pub mod TightenLemmas

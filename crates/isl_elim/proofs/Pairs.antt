@@ -4,11 +4,7 @@ use Rattle.isl_math.specs.Divide.{floor_div, Divides}
 use Rattle.isl_math.proofs.Ring.{expand, linear}
 use Rattle.isl_math.proofs.OrderLaws.{*ℤ-≤ℤ, ≤ℤ-from_*ℤ, <ℤ-from_*ℤ}
 use Rattle.isl_math.proofs.DivideLaws.{at_most_floor, floor_split, floor_mod_bounds}
-use Rattle.isl_elim.specs.Shadow.{Bound, together, slack, IsReal, IsDark}
-
--- z / d, rounded up
-abbrev pub ceiling : ℤ → ℤ → ℤ
-ceiling z d = neg_ℤ (floor_div (neg_ℤ z) d)
+use Rattle.isl_elim.specs.Shadow.{ceiling, Bound, together, slack, IsReal, IsDark}
 
 -- with a = d m and b = d n, the pair together is d times n f + m g
 pub together_divided : (l u : Bound) (d m n : ℤ) → l.factor ≡ d *ℤ m → u.factor ≡ d *ℤ n → together l u ≡ d *ℤ (n *ℤ l.rest +ℤ m *ℤ u.rest)

@@ -2,13 +2,10 @@
 -- or the modulus of a substitution rises.
 use Rattle.std.proofs.Common.{◌≡◌, ◌∙◌, sym, ap, arith, ℤ, pos, neg_ℤ, ◌+ℤ◌, ◌-ℤ◌, ◌*ℤ◌, ◌≤ℤ◌, ◌<ℤ◌}
 use Rattle.isl_math.specs.Divide.{floor_div, floor_mod}
+use Rattle.isl_elim.specs.Shadow.{splinters}
 use Rattle.isl_math.proofs.Ring.{expand, linear}
 use Rattle.isl_math.proofs.OrderLaws.{*ℤ-≤ℤ, <ℤ-from_*ℤ, positive-*ℤ}
 use Rattle.isl_math.proofs.DivideLaws.{at_most_floor, floor_split, floor_mod_bounds, floor_unique}
-
--- a less a / m rounded up: the values 0 .. last_splinter a m
-abbrev pub splinters : ℤ → ℤ → ℤ
-splinters a m = a +ℤ floor_div (neg_ℤ a) m
 
 -- as Pugh counts them: (a m - a - m) / m rounded down, and one
 pub splinters_counted : (a m : ℤ) → pos 0 <ℤ m → floor_div (a *ℤ m -ℤ a -ℤ m) m +ℤ pos 1 ≡ splinters a m

@@ -94,3 +94,6 @@ within_from_up_to g r s w u =
 
 pub tightened_within : (g : Gauge) (columns : ℕ) (row tight : Row) → IsTightened columns row tight → IsRowWithin g row → IsRowWithin g tight
 tightened_within g columns row tight t w = within_from_up_to g tight row w (t.up_to (2 ^ g.bits - 1) (up_to_from_within g row w))
+
+pub kept_is_bound : (row tight : Row) → row.kind ≡ AtLeast → normal_row row ≡ Kept tight → tight.kind ≡ AtLeast
+kept_is_bound row tight is e = kind_kept row.coefs row.constant tight (at_least_form row.kind row.coefs row.constant row.k tight is e)

@@ -5,7 +5,9 @@
 mod combine;
 mod congruence;
 mod equality;
+mod pair;
 mod rows;
+mod shadow;
 mod sides;
 mod step;
 mod substitution;
