@@ -10,10 +10,16 @@ use Rattle.isl_math.proofs.DivideLaws.{Divides-+ℤ, Divides-minus, Divides-*ℤ
 -- Euclid's step on two values: k divides p and q exactly where it divides q and p - t q
 pub merge_step : (k p q t r : ℤ) → Divides k (p -ℤ t *ℤ q -ℤ r) → (Divides k p × Divides k q) ↔ (Divides k q × Divides k r)
 merge_step k p q t r h = (
-  (λ d. (d.1, Divides-same k (p -ℤ q *ℤ t -ℤ (p -ℤ t *ℤ q -ℤ r)) r (simp expand (omega (arith, linear)))
-    (Divides-minus k (p -ℤ q *ℤ t) (p -ℤ t *ℤ q -ℤ r) (Divides-minus k p (q *ℤ t) d.0 (Divides-*ℤ k q t d.1)) h))),
-  (λ d. (Divides-same k (p -ℤ t *ℤ q -ℤ r +ℤ r +ℤ q *ℤ t) p (simp expand (omega (arith, linear)))
-    (Divides-+ℤ k (p -ℤ t *ℤ q -ℤ r +ℤ r) (q *ℤ t) (Divides-+ℤ k (p -ℤ t *ℤ q -ℤ r) r h d.1) (Divides-*ℤ k q t d.0)), d.0)),
+  (λ d. (
+    d.1,
+    Divides-same k (p -ℤ q *ℤ t -ℤ (p -ℤ t *ℤ q -ℤ r)) r (simp expand (omega (arith, linear)))
+        (Divides-minus k (p -ℤ q *ℤ t) (p -ℤ t *ℤ q -ℤ r) (Divides-minus k p (q *ℤ t) d.0 (Divides-*ℤ k q t d.1)) h),
+  )),
+  (λ d. (
+    Divides-same k (p -ℤ t *ℤ q -ℤ r +ℤ r +ℤ q *ℤ t) p (simp expand (omega (arith, linear)))
+        (Divides-+ℤ k (p -ℤ t *ℤ q -ℤ r +ℤ r) (q *ℤ t) (Divides-+ℤ k (p -ℤ t *ℤ q -ℤ r) r h d.1) (Divides-*ℤ k q t d.0)),
+    d.0,
+  )),
 )
 
 -- ---- one congruence: k divides c x + f
@@ -71,6 +77,7 @@ progression_gives k c f g d h y s r =
         let a1 = simp expand at (ap (λ w. y *ℤ w) a) in
         let a2 = simp expand at (ap (λ w. t *ℤ w) a) in
         simp expand (omega (arith, linear))
+
     lies : (k c f g d y m n j t v : ℤ) → k ≡ g *ℤ m → c ≡ g *ℤ n → n *ℤ d +ℤ pos 1 ≡ m *ℤ j → f ≡ g *ℤ v → c *ℤ (m *ℤ (y -ℤ t) +ℤ d *ℤ v) +ℤ f ≡ k *ℤ (n *ℤ (y -ℤ t) +ℤ v *ℤ j)
     lies k c f g d y m n j t v a b i r = rw (a, b, r)
         (let i' = simp expand at (ap (λ w. g *ℤ v *ℤ w) i) in simp expand (omega (arith, linear)))

@@ -95,6 +95,7 @@ equality_step_is columns fixed col rows images point z h k l n =
   where
     nought : (k c f : ℤ) → divide.Divides k (c *ℤ pos 0 +ℤ f) → divide.Divides k f
     nought k c f d = Divides-same k (c *ℤ pos 0 +ℤ f) f (omega (arith, linear)) d
+
     beside : (k c f : ℤ) → divide.Divides k f → divide.Divides k (c *ℤ pos 0 +ℤ f)
     beside k c f d = Divides-same k f (c *ℤ pos 0 +ℤ f) (omega (arith, linear)) d
 

@@ -33,8 +33,8 @@ substituted_same columns col scale k offsets row point x y p h w l n o e =
     let at_y = value_at-insert row col point y (let f = h.width in omega arith) (omega arith) in
     let off_y = value_at-insert offsets col point y (omega arith) (omega arith) in
     let value : value_at (substituted scale offsets col row) (insert point col y) ≡ scale *ℤ value_at row (insert point col x) =
-        value_at-combination scale row (coef_at row col) offsets (insert point col y) widths
-        ∙ by scale k (coef_at row col) (coef_at offsets col) x y (rest_at row col point) (rest_at offsets col point) (value_at row (insert point col x)) (value_at row (insert point col y)) (value_at offsets (insert point col y)) at_x at_y off_y o e in
+    value_at-combination scale row (coef_at row col) offsets (insert point col y) widths
+    ∙ by scale k (coef_at row col) (coef_at offsets col) x y (rest_at row col point) (rest_at offsets col point) (value_at row (insert point col x)) (value_at row (insert point col y)) (value_at offsets (insert point col y)) at_x at_y off_y o e in
     rw value (holds_scaled row.kind scale row.k (value_at row (insert point col x)) p)
   where
     by : (s k a o x y f h u v w : ℤ) → u ≡ a *ℤ x +ℤ f → v ≡ a *ℤ y +ℤ f → w ≡ o *ℤ y +ℤ h → o ≡ k -ℤ s → s *ℤ x ≡ k *ℤ y +ℤ h → s *ℤ v +ℤ a *ℤ w ≡ s *ℤ u

@@ -79,6 +79,7 @@ neighbours_cover lowers uppers x h k = elim (all_or_any (MeetsLower (x -ℤ pos 
       where
         by : (x a f : ℤ) → (pos 0 ≤ℤ (a *ℤ (x -ℤ pos 1) +ℤ f)) ⊎ ((a *ℤ x +ℤ f) ≤ℤ (a -ℤ pos 1))
         by x a f = elim (at_most_or_above (pos 0) (a *ℤ (x -ℤ pos 1) +ℤ f)) [ inl m ↦ inl m | inr m ↦ inr (let m' = simp expand at m in simp expand (omega (arith, linear))) ]
+
     same : (x : ℤ) (u : Bound) → MeetsUpper x u → MeetsUpper (x -ℤ pos 1 +ℤ pos 1) u
     same x u h = by x (x -ℤ pos 1 +ℤ pos 1) u (omega (arith, linear)) h
       where

@@ -50,6 +50,7 @@ real_row_is g columns col lower upper d m n real hl hu l h e f r =
         let e' = simp expand at (ap (λ w. n *ℤ w) e) in
         let f' = simp expand at (ap (λ w. m *ℤ w) f) in
         simp expand (omega (arith, linear))
+
     beside : (d m n a c x f g u v w : ℤ) → pos 0 <ℤ d → d *ℤ m ≡ a → d *ℤ n ≡ neg_ℤ c → u ≡ a *ℤ x +ℤ f → v ≡ c *ℤ x +ℤ g → w ≡ n *ℤ u +ℤ m *ℤ v → n *ℤ f +ℤ m *ℤ g ≡ w
     beside d m n a c x f g u v w p e h eu ev ew =
         let gone = ap (λ z. x *ℤ z) (cancel d m n a c p e h) in
@@ -82,8 +83,10 @@ dark_row_is columns col lower upper d real dark s r e f = record {
   where
     moved : (v c s : ℤ) → v +ℤ (c -ℤ s) ≡ v +ℤ c -ℤ s
     moved v c s = omega (arith, linear)
+
     least : (s t v w : ℤ) → s ≡ t → w ≡ v -ℤ s → pos 0 ≤ℤ w → t ≤ℤ v
     least s t v w e f h = omega (arith, linear)
+
     most : (s t v w : ℤ) → s ≡ t → w ≡ v -ℤ s → t ≤ℤ v → pos 0 ≤ℤ w
     most s t v w e f h = omega (arith, linear)
 

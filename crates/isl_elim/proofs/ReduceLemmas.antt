@@ -118,8 +118,10 @@ remainder_row columns col k t p q rest small hp hq above l c e f g =
   where
     at_divisor : (r : Row) (j : ℤ) → j ≡ k → IsReducedCongruence columns j r → IsReducedCongruence columns k r
     at_divisor r j e h = rw e at h
+
     near : (j k v p q t r s : ℤ) → j ≡ k → v ≡ pos 1 *ℤ p +ℤ neg_ℤ t *ℤ q → r ≡ s → IsCongruent j v r → divide.Divides k (p -ℤ t *ℤ q -ℤ s)
     near j k v p q t r s e f g h = rw e at (Divides-same j (v -ℤ r) (p -ℤ t *ℤ q -ℤ s) (let f' = simp expand at f in simp expand (omega (arith, linear))) h)
+
     below : (k p q t r j s : ℤ) → pos 0 <ℤ q → q <ℤ k → t ≡ floor_div p q → r ≡ pos 1 *ℤ p +ℤ neg_ℤ t *ℤ q → j ≡ k → s ≡ floor_mod r j → s <ℤ q
     below k p q t r j s above l e f g h =
         let split = floor_split p q above in
@@ -169,8 +171,10 @@ scaled_row columns m r scaled small p is w e f =
   where
     at_divisor : (s : Row) (j : ℤ) → j ≡ m *ℤ r.k → IsReducedCongruence columns j s → IsReducedCongruence columns (m *ℤ r.k) s
     at_divisor s j d h = rw d at h
+
     alone : (a b : ℤ) → a +ℤ pos 0 *ℤ b ≡ a
     alone a b = omega (arith, linear)
+
     near : (j k v w r s : ℤ) → j ≡ k → v ≡ w → r ≡ s → IsCongruent j v r → IsCongruent k w s
     near j k v w r s d e f h = rw d at (Divides-same j (v -ℤ r) (w -ℤ s) (omega (arith, linear)) h)
 
@@ -201,6 +205,7 @@ common_parts j k g m n p q h e f =
         let a' = simp expand at (ap (λ w. j *ℤ w) a) in
         let b' = simp expand at (ap (λ w. k *ℤ w) b) in
         simp expand (omega (arith, linear))
+
     least : (g m j k : ℤ) → pos 0 <ℤ g → pos 0 <ℤ m → pos 0 <ℤ j → g *ℤ m ≡ k → (m *ℤ j) ≤ℤ (j *ℤ k)
     least g m j k p q r a =
         let one = simp expand at (*ℤ-≤ℤ (m *ℤ j) (pos 1) g (let t = positive-*ℤ m j q r in omega (arith, linear)) (omega (arith, linear))) in

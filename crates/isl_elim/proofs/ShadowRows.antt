@@ -74,6 +74,7 @@ so_far_more g columns col lower uppers u dark old new newer greatest next E s d 
     wider : (v : Row) → IsExact columns col lower v ⊎ (neg_ℤ (coef_at v col) ≤ℤ greatest) → IsExact columns col lower v ⊎ (neg_ℤ (coef_at v col) ≤ℤ next)
     wider v (inl x) = inl x
     wider v (inr h) = inr (omega (arith, linear))
+
     last : E ⊎ (neg_ℤ (coef_at u col) ≤ℤ next) → IsExact columns col lower u ⊎ (neg_ℤ (coef_at u col) ≤ℤ next)
     last (inl t) = inl (e t)
     last (inr h) = inr h
@@ -109,8 +110,10 @@ shadow_is g columns col lower uppers old new greatest last hl hu l s none some =
   where
     split : (z : ℤ) → pos 0 ≤ℤ z → (z ≡ pos 0) ⊎ (pos 0 <ℤ z)
     split z h = elim (cases_ℤ (pos 0) z) [ inl q ↦ inr q | inr r ↦ elim r [ inl e ↦ inl (sym e) | inr q ↦ absurd (omega (arith, linear)) ] ]
+
     apart : (z : ℤ) → pos 0 <ℤ z → z ≢ pos 0
     apart z p e = omega (arith, linear)
+
     each : (point : List ℤ) (x : ℤ) → length point ≡ columns - 1 → (u : Row) → MeetsLower x (lower_at col point lower) → value_at lower (insert point col x) ≡ coef_at lower col *ℤ x +ℤ rest_at lower col point → IsUpper g columns col u
         → IsExact columns col lower u ⊎ (neg_ℤ (coef_at u col) ≤ℤ greatest) → HoldsRow u (insert point col x) → IsDark (lower_at col point lower) (upper_at col point u) ⊎ (value_at lower (insert point col x) ≤ℤ last)
     each point x n u low value h e up =

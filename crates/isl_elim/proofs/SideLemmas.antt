@@ -184,10 +184,13 @@ sides_apart P columns col rows w n a f = λ k d i. by k d i (side_of col (get_or
   where
     clash : (asks : RowKind) → asks ≡ kind.NotDivides → asks ≡ kind.AtLeast → ⊥
     clash asks e f = cc
+
     clash_divides : (asks : RowKind) → asks ≡ kind.NotDivides → asks ≡ kind.Divides → ⊥
     clash_divides asks e f = cc
+
     means : (k : ℕ) (d : Row) → k < length rows → (s : Side) → s ≡ side_of col (get_or rows k d) → SideMeans s (get_or rows k d).kind (get_or rows k d).k (coef_at (get_or rows k d) col)
     means k d i s e = let r = get_or rows k d in rw e (side_means r.kind r.k (coef_at r col) (w k d i).divisor)
+
     by : (k : ℕ) (d : Row) → k < length rows → (s : Side) → s ≡ side_of col (get_or rows k d) → P (get_or rows k d)
     by k d i Lower e = absurd (clash (get_or rows k d).kind (n k d i) (means k d i Lower e).0)
     by k d i Upper e = absurd (clash (get_or rows k d).kind (n k d i) (means k d i Upper e).0)

@@ -101,18 +101,25 @@ pub step_same : (g : Gauge) (columns col : ℕ) (one : Row) (others : List Row) 
 step_same g columns col one others scale offsets old new s = λ point n. (forth point n, back point n)
   where
     open s use {inside, sided, merged, progression, moved}
+
     is : one.kind ≡ kind.Divides
     is = merged.is_reduced.kind
+
     wide : length one.coefs ≡ columns
     wide = merged.is_reduced.width
+
     lowers_same : (point : List ℤ) (x y : ℤ) → length point ≡ columns - 1 → scale *ℤ x ≡ one.k *ℤ y +ℤ rest_at offsets col point → HoldAt new.lowers col point y ↔ HoldAt old.lowers col point x
     lowers_same point x y n e = bounds_same g columns col scale one.k offsets old.lowers new.lowers point x y progression.positive progression.width inside n progression.at_column e (proper_of_lowers g columns col old.lowers sided.lowers) moved.lowers
+
     uppers_same : (point : List ℤ) (x y : ℤ) → length point ≡ columns - 1 → scale *ℤ x ≡ one.k *ℤ y +ℤ rest_at offsets col point → HoldAt new.uppers col point y ↔ HoldAt old.uppers col point x
     uppers_same point x y n e = bounds_same g columns col scale one.k offsets old.uppers new.uppers point x y progression.positive progression.width inside n progression.at_column e (proper_of_uppers g columns col old.uppers sided.uppers) moved.uppers
+
     apart_same : (point : List ℤ) (x y : ℤ) → length point ≡ columns - 1 → scale *ℤ x ≡ one.k *ℤ y +ℤ rest_at offsets col point → HoldAt (map (substituted scale offsets col) old.apart) col point y ↔ HoldAt old.apart col point x
     apart_same point x y n e = moved_apart g columns col scale one.k offsets old.apart point x y progression.positive progression.width inside n progression.at_column e sided.apart
+
     others_anywhere : (point : List ℤ) (x y : ℤ) → length point ≡ columns - 1 → HoldAt others col point x → HoldAt others col point y
     others_anywhere point x y n a = hold_anywhere columns col others point x y inside n merged.well_formed merged.free a
+
     forth : (point : List ℤ) → length point ≡ columns - 1 → ((x : ℤ) × SidesHold old col point x) → (y : ℤ) × SidesHold new col point y
     forth point n a =
         let x = a.0 in
@@ -120,20 +127,23 @@ step_same g columns col one others scale offsets old new s = λ point n. (forth 
         let split = (merged.same (insert point col x)).0 holds.divides in
         let y = progression.meets point x n split.0 in
         let apart = (apart_same point x y.0 n y.1).1 holds.apart in
-        let beside = scale_beside columns col one scale offsets point x is wide inside n progression split.0 in
-        (y.0, record {
-          lowers = (lowers_same point x y.0 n y.1).1 holds.lowers;
-          uppers = (uppers_same point x y.0 n y.1).1 holds.uppers;
-          divides = rw moved.divides (All-nil (λ r. HoldsRow r (insert point col y.0)));
-          apart = rw moved.apart (All-filter (λ r. is_same Apart (side_of col r)) (λ r. HoldsRow r (insert point col y.0)) (map (substituted scale offsets col) old.apart) apart);
-          free = rw moved.free (All-push (λ r. HoldsRow r (insert point col y.0)) ((on_side Free col (map (substituted scale offsets col) old.apart) ++ others) ++ old.free) (within_scale one scale)
-            (All-append (λ r. HoldsRow r (insert point col y.0)) (on_side Free col (map (substituted scale offsets col) old.apart) ++ others) old.free
-              (All-append (λ r. HoldsRow r (insert point col y.0)) (on_side Free col (map (substituted scale offsets col) old.apart)) others
+        let beside = scale_beside columns col one scale offsets point x is wide inside n progression split.0 in (
+          y.0,
+          record {
+            lowers = (lowers_same point x y.0 n y.1).1 holds.lowers;
+            uppers = (uppers_same point x y.0 n y.1).1 holds.uppers;
+            divides = rw moved.divides (All-nil (λ r. HoldsRow r (insert point col y.0)));
+            apart = rw moved.apart (All-filter (λ r. is_same Apart (side_of col r)) (λ r. HoldsRow r (insert point col y.0)) (map (substituted scale offsets col) old.apart) apart);
+            free = rw moved.free (All-push (λ r. HoldsRow r (insert point col y.0)) ((on_side Free col (map (substituted scale offsets col) old.apart) ++ others) ++ old.free) (within_scale one scale)
+                (All-append (λ r. HoldsRow r (insert point col y.0)) (on_side Free col (map (substituted scale offsets col) old.apart) ++ others) old.free
+                (All-append (λ r. HoldsRow r (insert point col y.0)) (on_side Free col (map (substituted scale offsets col) old.apart)) others
                 (All-filter (λ r. is_same Free (side_of col r)) (λ r. HoldsRow r (insert point col y.0)) (map (substituted scale offsets col) old.apart) apart)
                 (others_anywhere point x y.0 n split.1))
-              (free_rows_anywhere g columns col old.free point x y.0 inside n sided.free holds.free))
-            ((within_scale_holds columns col one scale offsets point y.0 is wide inside n progression).1 beside));
-        })
+                (free_rows_anywhere g columns col old.free point x y.0 inside n sided.free holds.free))
+                ((within_scale_holds columns col one scale offsets point y.0 is wide inside n progression).1 beside));
+          },
+        )
+
     back : (point : List ℤ) → length point ≡ columns - 1 → ((y : ℤ) × SidesHold new col point y) → (x : ℤ) × SidesHold old col point x
     back point n a =
         let y = a.0 in
@@ -144,14 +154,16 @@ step_same g columns col one others scale offsets old new s = λ point n. (forth 
         let three = All-parts P (on_side Free col (map (substituted scale offsets col) old.apart)) others two.0 in
         let beside = (within_scale_holds columns col one scale offsets point y is wide inside n progression).0 last.1 in
         let x = progression.gives point y n beside in
-        let apart = sides_apart P columns col (map (substituted scale offsets col) old.apart) (moved_formed g columns col scale offsets old.apart progression.positive progression.width sided.apart) (moved_kinds g columns col scale offsets old.apart sided.apart) (rw moved.apart at holds.apart) three.0 in
-        (x.0, record {
-          lowers = (lowers_same point x.0 y n x.1).0 holds.lowers;
-          uppers = (uppers_same point x.0 y n x.1).0 holds.uppers;
-          divides = (merged.same (insert point col x.0)).1 (x.2, others_anywhere point y x.0 n three.1);
-          apart = (apart_same point x.0 y n x.1).0 apart;
-          free = free_rows_anywhere g columns col old.free point y x.0 inside n sided.free two.1;
-        })
+        let apart = sides_apart P columns col (map (substituted scale offsets col) old.apart) (moved_formed g columns col scale offsets old.apart progression.positive progression.width sided.apart) (moved_kinds g columns col scale offsets old.apart sided.apart) (rw moved.apart at holds.apart) three.0 in (
+          x.0,
+          record {
+            lowers = (lowers_same point x.0 y n x.1).0 holds.lowers;
+            uppers = (uppers_same point x.0 y n x.1).0 holds.uppers;
+            divides = (merged.same (insert point col x.0)).1 (x.2, others_anywhere point y x.0 n three.1);
+            apart = (apart_same point x.0 y n x.1).0 apart;
+            free = free_rows_anywhere g columns col old.free point y x.0 inside n sided.free two.1;
+          },
+        )
 
 -- ---- the new sides
 multiplier_is : (col : ℕ) (scale k : ℤ) (offsets : Row) → coef_at offsets col ≡ k -ℤ scale → multiplier scale offsets col ≡ k
@@ -200,20 +212,22 @@ step_sided g columns col one others scale offsets old new s = record {
   divides = rw moved.divides (All-nil (IsDivides g columns));
   apart = rw moved.apart (picked g columns col Apart (map (substituted scale offsets col) old.apart) (IsApart g columns col) (λ r p m. record { proper = p; kind = m.0; depends = m.1 }) proper);
   free = rw moved.free (All-push (IsFreeRow g columns col) ((on_side Free col (map (substituted scale offsets col) old.apart) ++ others) ++ old.free) (within_scale one scale)
-    (All-append (IsFreeRow g columns col) (on_side Free col (map (substituted scale offsets col) old.apart) ++ others) old.free
+      (All-append (IsFreeRow g columns col) (on_side Free col (map (substituted scale offsets col) old.apart) ++ others) old.free
       (All-append (IsFreeRow g columns col) (on_side Free col (map (substituted scale offsets col) old.apart)) others
-        (moved_free g columns col scale offsets old.apart sided.apart proper)
-        (λ i d j. record { proper = record { formed = merged.well_formed i d j; within = merged.others_within i d j }; free = merged.free i d j }))
+      (moved_free g columns col scale offsets old.apart sided.apart proper)
+      (λ i d j. record { proper = record { formed = merged.well_formed i d j; within = merged.others_within i d j }; free = merged.free i d j }))
       sided.free)
-    (record {
-      proper = record { formed = record { width = merged.is_reduced.width; divisor = divides_divisor one.kind scale merged.is_reduced.kind progression.positive }; within = record { coefs = merged.within.coefs; constant = merged.within.constant; k = moved.scale_within } };
-      free = divides_free one.kind scale (coef_at one col) merged.is_reduced.kind progression.divides_coefficient;
-    }));
+      (record {
+        proper = record { formed = record { width = merged.is_reduced.width; divisor = divides_divisor one.kind scale merged.is_reduced.kind progression.positive }; within = record { coefs = merged.within.coefs; constant = merged.within.constant; k = moved.scale_within } };
+        free = divides_free one.kind scale (coef_at one col) merged.is_reduced.kind progression.divides_coefficient;
+      }));
 }
   where
     open s use {inside, sided, merged, progression, moved}
+
     multiplied : pos 0 <ℤ multiplier scale offsets col
     multiplied = rw (multiplier_is col scale one.k offsets progression.at_column) merged.positive
+
     proper : All (IsProper g columns) (map (substituted scale offsets col) old.apart)
     proper = moved_proper g columns col scale offsets old.apart progression.positive progression.width sided.apart moved.moved_within
 

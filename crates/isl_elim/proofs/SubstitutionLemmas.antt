@@ -67,8 +67,10 @@ coprime_parts c k g m n p h e f =
         let b' = simp expand at (ap (λ w. s *ℤ w) b) in
         let f' = simp expand at f in
         simp expand (omega (arith, linear))
+
     least : (g m k : ℤ) → g *ℤ m ≡ k → (m *ℤ pos 1) ≤ℤ (m *ℤ g) → m ≤ℤ k
     least g m k a t = let a' = simp expand at a in let t' = simp expand at t in omega (arith, linear)
+
     turned : (s n t m : ℤ) → s *ℤ n +ℤ t *ℤ m ≡ pos 1 → n *ℤ s +ℤ m *ℤ t ≡ pos 1
     turned s n t m e = let e' = simp expand at e in simp expand (omega (arith, linear))
 
@@ -143,6 +145,7 @@ is_progression columns col one scale factor offsets is f l a e =
       inverse = a.inverse;
       offset = offsets_beside columns col one factor (one.k -ℤ scale) point f (divisor_positive one.kind one.k f.divisor) l n;
     }
+
     holds : (point : List ℤ) (x : ℤ) → length point ≡ columns - 1 → HoldsRow one (insert point col x) ↔ divide.Divides one.k (coef_at one col *ℤ x +ℤ rest_at one col point)
     holds point x n = let v = value_at-insert one col point x (let w = f.width in omega arith) (omega arith) in rw (← v) (holds_congruence one one.k (insert point col x) is refl)
 

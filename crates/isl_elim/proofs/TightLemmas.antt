@@ -26,5 +26,6 @@ tight_same real dark a b r s d f e g same_coefs same_constant xs h =
   where
     by : (ka kb : RowKind) (k l v w : ℤ) → ka ≡ AtLeast → kb ≡ AtLeast → v ≡ w → HoldsValue ka k v → HoldsValue kb l w
     by ka kb k l v w e f g h = rw f (rw (e, g) at h)
+
     values : (a b : Row) → a.coefs ≡ b.coefs → a.constant ≡ b.constant → value_at a xs ≡ value_at b xs
     values a b e f = rw (e, f) refl

@@ -71,7 +71,14 @@ pub(crate) fn combined(
         (λ sum. (sum ≡ combination m row.now n other.now) × IsRowWithin meter.old sum × (meter.new ≡ meter.old))
         (λ cut. IsCutUpTo 0 meter.old meter.new cut) }
 {
-    let coefs = weighted(alloc, m, row.coefs.as_slice(), n, other.coefs.as_slice(), meter)?;
+    let coefs = weighted(
+        alloc,
+        m,
+        row.coefs.as_slice(),
+        n,
+        other.coefs.as_slice(),
+        meter,
+    )?;
     let x = m.mul(row.offset(), meter)?;
     let y = n.mul(other.offset(), meter)?;
     let sum = x.add(y, meter)?;

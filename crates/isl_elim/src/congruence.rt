@@ -98,7 +98,13 @@ fn merged_pair(
 }
 
 // `m` times a congruence, with its numbers reduced.
-fn scaled_copy(alloc: Global, m: Int, row: &Row, columns: usize, meter: &mut Meter) -> Result<Row, Cut>
+fn scaled_copy(
+    alloc: Global,
+    m: Int,
+    row: &Row,
+    columns: usize,
+    meter: &mut Meter,
+) -> Result<Row, Cut>
     requires m_within { IsWithin meter.old m }
     requires m_positive { pos 0 <ℤ m }
     requires kind { row.now.kind ≡ Divides }

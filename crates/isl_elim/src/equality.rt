@@ -30,13 +30,7 @@ fn factors(pivot: Int, own: Int, meter: &Meter) -> (Int, Int)
 }
 
 // The row without the column, where `fixed` is 0.
-fn image(
-    alloc: Global,
-    row: &Row,
-    fixed: &Row,
-    col: usize,
-    meter: &mut Meter,
-) -> Result<Row, Cut>
+fn image(alloc: Global, row: &Row, fixed: &Row, col: usize, meter: &mut Meter) -> Result<Row, Cut>
     requires row_within { IsRowWithin meter.old row.now }
     requires fixed_within { IsRowWithin meter.old fixed.now }
     requires same_width { length row.now.coefs ≡ length fixed.now.coefs }
@@ -83,7 +77,12 @@ fn divisibility(alloc: Global, fixed: &Row, col: usize, meter: &Meter) -> Result
     ensures { IfOk result (λ row. (row ≡ solvable fixed.now col) × IsRowWithin meter.now row) }
 {
     let k = fixed.coefs.get(col).abs(meter);
-    Ok(Row::new(RowKind::Divides, fixed.coefs.copy(alloc)?, fixed.offset(), k))
+    Ok(Row::new(
+        RowKind::Divides,
+        fixed.coefs.copy(alloc)?,
+        fixed.offset(),
+        k,
+    ))
 }
 
 /// The rows where `fixed` is 0 at some whole number at `col`, without that column.

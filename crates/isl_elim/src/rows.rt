@@ -28,7 +28,12 @@ fn row_without(alloc: Global, row: &Row, col: usize) -> Result<Row, AllocFailed<
     ensures { IfOk result (λ short. short ≡ dropped row.now col) }
 {
     let coefs = coefs_without(alloc, row.coefs.as_slice(), col)?;
-    Ok(Row { kind: row.kind, coefs, constant: row.constant, k: row.k })
+    Ok(Row {
+        kind: row.kind,
+        coefs,
+        constant: row.constant,
+        k: row.k,
+    })
 }
 
 fn rows_without(alloc: Global, rows: &[Row], col: usize) -> Result<Rows, Cut>
@@ -59,6 +64,9 @@ pub(crate) fn settled(
         (λ cut. IsCutUpTo 0 meter.old meter.new cut) }
 {
     let short = rows_without(alloc, rows.as_slice(), col)?;
-    let system = System { columns: columns - 1, rows: short };
+    let system = System {
+        columns: columns - 1,
+        rows: short,
+    };
     Ok(normalise(alloc, system, meter)?)
 }

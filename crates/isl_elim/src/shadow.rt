@@ -18,7 +18,11 @@ fn widest(greatest: Int, factor: Int, exact: bool) -> Int
     ensures covered { IsTrue exact ⊎ (factor ≤ℤ result) }
     ensures least { (m : ℤ) → greatest ≤ℤ m → factor ≤ℤ m → result ≤ℤ m }
 {
-    if exact || factor <= greatest { greatest } else { factor }
+    if exact || factor <= greatest {
+        greatest
+    } else {
+        factor
+    }
 }
 
 // The last value of a lower bound of the factor in its splinters: -1, so that there is none, where all pairs are exact.

@@ -58,7 +58,11 @@ impl Side {
         requires divisor { pos 0 <ℤ k }
         ensures { result ≡ unless_multiple self (floor_mod coef k) }
     {
-        if coef.modulo(k, meter).is_zero() { Side::Free } else { self }
+        if coef.modulo(k, meter).is_zero() {
+            Side::Free
+        } else {
+            self
+        }
     }
 
     fn of(row: &Row, col: usize, meter: &Meter) -> Self

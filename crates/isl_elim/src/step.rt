@@ -47,7 +47,11 @@ impl Progression {
     {
         let (one, others) = merged(alloc, divides, columns, col, meter)?;
         let substitution = Substitution::of(alloc, &one, columns, col, meter)?;
-        Ok(Progression { one, others, substitution })
+        Ok(Progression {
+            one,
+            others,
+            substitution,
+        })
     }
 
     // Where there are numbers: the congruence with the scale for its divisor.
@@ -55,7 +59,12 @@ impl Progression {
         ensures { IfOk result (λ row. row ≡ within_scale self.now.one self.now.substitution.scale) }
     {
         let one = &self.one;
-        Ok(Row::new(one.kind, one.coefs.copy(alloc)?, one.offset(), self.substitution.scale))
+        Ok(Row::new(
+            one.kind,
+            one.coefs.copy(alloc)?,
+            one.offset(),
+            self.substitution.scale,
+        ))
     }
 
     // The rows that are free of the column: of those that were moved, what the congruences say, and those that were.
@@ -107,7 +116,13 @@ impl Progression {
         let moved = s.rows(alloc, sides.apart.as_slice(), columns, col, meter)?;
         let apart = Side::Apart.copied(alloc, moved.as_slice(), columns, col, meter)?;
         let free = self.free_rows(alloc, moved.as_slice(), &sides.free, columns, col, meter)?;
-        Ok(Sides { lowers, uppers, divides: Rows::new(alloc), apart, free })
+        Ok(Sides {
+            lowers,
+            uppers,
+            divides: Rows::new(alloc),
+            apart,
+            free,
+        })
     }
 }
 

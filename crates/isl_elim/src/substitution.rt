@@ -77,7 +77,10 @@ impl Substitution {
         let (scale, factor) = parts(one.coefs.get(col), k, meter);
         let mut row = offsets(alloc, factor, one, meter)?;
         row.coefs.set(col, k.sub(scale, meter)?);
-        Ok(Substitution { scale, offsets: row })
+        Ok(Substitution {
+            scale,
+            offsets: row,
+        })
     }
 }
 
@@ -99,7 +102,14 @@ impl Substitution {
             (λ moved. (moved ≡ substituted self.now.scale self.now.offsets col row.now) × IsRowWithin meter.old moved × (meter.new ≡ meter.old))
             (λ cut. IsCutUpTo 0 meter.old meter.new cut) }
     {
-        combined(alloc, self.scale, row, row.coefs.get(col), &self.offsets, meter)
+        combined(
+            alloc,
+            self.scale,
+            row,
+            row.coefs.get(col),
+            &self.offsets,
+            meter,
+        )
     }
 
     // The bound with the progression in the column's place, divided as far as it goes.

@@ -10,7 +10,12 @@ use isl_piece::{Outcome, Row, settle};
 use std::alloc::{AllocError, Global};
 
 /// The bound in normal form; as it is where no column occurs.
-pub(crate) fn tightened(alloc: Global, row: Row, columns: usize, meter: &Meter) -> Result<Row, AllocError>
+pub(crate) fn tightened(
+    alloc: Global,
+    row: Row,
+    columns: usize,
+    meter: &Meter,
+) -> Result<Row, AllocError>
     requires kind { row.kind ≡ AtLeast }
     requires well_formed { IsWellFormed columns row }
     requires within { IsRowWithin meter.now row }

@@ -9,14 +9,14 @@ scaled_copy-requires-clause-m_positive c =
     let p = c.args.p.now in
     let q = c.args.q.now in
     (common_parts p.k q.k c.gcd-common.result c.floor_div-m.result c.floor_div-n.result (divisor_positive p.kind p.k c.requires.p_formed.divisor) (divisor_positive q.kind q.k c.requires.q_formed.divisor)
-      (grind arith) (grind arith) (grind arith)).m_positive
+    (grind arith) (grind arith) (grind arith)).m_positive
 
 pub scaled_copy-requires-2-clause-m_positive : goal.scaled_copy-requires-2-clause-m_positive
 scaled_copy-requires-2-clause-m_positive c =
     let p = c.args.p.now in
     let q = c.args.q.now in
     (common_parts p.k q.k c.gcd-common.result c.floor_div-m.result c.floor_div-n.result (divisor_positive p.kind p.k c.requires.p_formed.divisor) (divisor_positive q.kind q.k c.requires.q_formed.divisor)
-      (grind arith) (grind arith) (grind arith)).n_positive
+    (grind arith) (grind arith) (grind arith)).n_positive
 
 pub merged_pair-requires-clause-q_reduced : goal.merged_pair-requires-clause-q_reduced
 merged_pair-requires-clause-q_reduced c =

@@ -15,5 +15,5 @@ returns c =
     let rest : c.in_ok-rest.rest ≡ combination (pos 1) p (neg_ℤ c.floor_div-times.result) q = grind arith in
     let is : small ≡ reduced_row c.in_ok-rest.rest = grind arith in
     let row : IsRemainderRow c.args.columns c.args.col p.k p q small =
-        remainder_row c.args.columns c.args.col p.k c.floor_div-times.result p q c.in_ok-rest.rest small c.requires.p_reduced c.requires.q_reduced c.requires.positive c.requires.col_in c.requires.occurs times rest is in
+    remainder_row c.args.columns c.args.col p.k c.floor_div-times.result p q c.in_ok-rest.rest small c.requires.p_reduced c.requires.q_reduced c.requires.positive c.requires.col_in c.requires.occurs times rest is in
     (row.is_reduced, row.same, row.smaller, grind arith)

@@ -20,4 +20,4 @@ returns-in-Stays-Stays c =
     let first : normal_row c.args.real.now ≡ Kept a = grind arith in
     let second : normal_row c.args.dark.now ≡ Kept b = grind arith in
     λ t. let same = c.has_same_form.ensures t in
-        tight_same c.args.real.now c.args.dark.now a b c.requires.real_kind c.requires.dark_kind c.requires.real_divisor c.requires.dark_divisor first second same.0 same.1
+    tight_same c.args.real.now c.args.dark.now a b c.requires.real_kind c.requires.dark_kind c.requires.real_divisor c.requires.dark_divisor first second same.0 same.1

@@ -31,7 +31,7 @@ loop-upper-preserved c =
     let taken : take (i + 1) uppers ≡ take i uppers ++ u ∷ [] = take_more uppers i u inside ∙ ap (λ (s : Row). take i uppers ++ s ∷ []) (sym c.upper-item.is) in
     record {
       so_far = rw taken (so_far_more g c.args.columns c.args.col c.args.lower.now (take i uppers) u pair.dark c.args.rows.now c.loop-upper.rows c.push.new.self c.loop-upper.greatest c.widest-greatest.result (IsTrue pair.exact)
-        c.loop-upper.invariant.so_far dark within exact pushed c.widest-greatest.ensures.kept (grind arith) (grind arith));
+          c.loop-upper.invariant.so_far dark within exact pushed c.widest-greatest.ensures.kept (grind arith) (grind arith));
       charged = grind arith;
     }
 

@@ -14,6 +14,6 @@ returns c =
     let progression : IsProgressionOf c.args.columns c.args.col p.one s.scale s.offsets = grind arith in
     let moved : AreMovedTo c.args.meter.now c.args.columns c.args.col p.one p.others s.scale s.offsets sides c.in_ok-new.new = grind arith in (
       step_is c.args.meter.now c.args.columns c.args.col p.one p.others s.scale s.offsets sides c.in_ok-new.new
-      (record { inside = c.requires.col_in; sided = c.requires.sided; merged = merged; progression = progression; moved = moved }),
+          (record { inside = c.requires.col_in; sided = c.requires.sided; merged = merged; progression = progression; moved = moved }),
       grind arith,
     )

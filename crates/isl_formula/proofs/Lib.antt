@@ -1,0 +1,16 @@
+pub mod TermDepth
+pub mod TermTaken
+pub mod TermEnds
+pub mod TermAgain
+pub mod FormulaDepth
+pub mod Operands
+pub mod OpenBrackets
+pub mod RowsTaken
+pub mod RowsAgain
+pub mod ChainTaken
+pub mod FormulaTaken
+pub mod Marks
+pub mod TermMarks
+pub mod FormulaMarks
+pub mod ChainAgain
+pub mod FormulaAgain

@@ -1,0 +1,7 @@
+//! Terms and formulas of literals: how tokens spell them, and how they are read.
+#![tactic(auto)]
+
+pub mod ahead;
+pub mod chain;
+pub mod formula;
+pub mod term;

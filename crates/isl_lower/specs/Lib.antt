@@ -1,0 +1,7 @@
+pub mod Linear
+pub mod Passes
+pub mod Placed
+pub mod Places
+pub mod Points
+pub mod Rows
+pub mod Width

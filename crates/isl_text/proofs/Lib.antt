@@ -1,0 +1,10 @@
+pub mod TupleDepth
+pub mod LiteralTaken
+pub mod Missing
+pub mod TupleMarks
+pub mod TupleAgain
+pub mod LiteralAgain
+pub mod Along
+pub mod LiteralLaws
+pub mod Counting
+pub mod BoundLaws

@@ -1,0 +1,8 @@
+//! Literals of sets and maps: how tokens spell them, their limits, and why a text is refused.
+#![tactic(auto)]
+
+pub mod bound;
+pub mod formed;
+pub mod literal;
+pub mod piece;
+pub mod tuple;

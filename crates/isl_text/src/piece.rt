@@ -1,0 +1,198 @@
+//! The reader of pieces of literals.
+
+ghost use Rattle.std.specs.Prelude.{◌≡◌};
+ghost use Rattle.isl_token.specs.Reading.{Reads};
+ghost use Rattle.isl_formula.specs.Formula as formulas;
+ghost use Rattle.isl_text.specs.Tuple as tuples;
+ghost use Rattle.isl_text.specs.Piece as spec;
+
+use crate::tuple::tuple;
+use isl_formula::formula::formula;
+use isl_space::Name;
+use isl_token::{Cursor, Fault, Kind};
+use isl_tree::tree::{Formula, Literal, PieceTree, Tuple};
+use sqlite_items::Items;
+use std::alloc::Global;
+
+/// A tuple, after `->`.
+#[tactic(auto, unfolding(crate::specs::Piece::next_tuple))]
+fn next_tuple(alloc: Global, tokens: &mut Cursor<'_>, depth: usize) -> Result<Tuple, Fault>
+    ensures { Reads (spec.next_tuple (tuples.tuple depth) tokens.old) result tokens.new }
+{
+    tokens.skip();
+    tuple(alloc, tokens, depth)
+}
+
+/// The second tuple of a map, which a set has not.
+fn image(alloc: Global, tokens: &mut Cursor<'_>, depth: usize) -> Result<Option<Tuple>, Fault>
+    ensures { Reads (spec.image (tuples.tuple depth) tokens.old) result tokens.new }
+{
+    if tokens.sees(Kind::Arrow) {
+        Ok(Some(next_tuple(alloc, tokens, depth)?))
+    } else {
+        Ok(None)
+    }
+}
+
+fn ends_piece(kind: Kind) -> bool
+    ensures { result ≡ spec.ends_piece kind }
+{
+    matches!(kind, Kind::Semicolon | Kind::CloseBrace)
+}
+
+/// The formula after `:`, which may be missing.
+fn body(alloc: Global, tokens: &mut Cursor<'_>, depth: usize) -> Result<Option<Formula>, Fault>
+    ensures { Reads (spec.body (formulas.formula depth) tokens.old) result tokens.new }
+{
+    if ends_piece(tokens.peek()) {
+        Ok(None)
+    } else {
+        Ok(Some(formula(alloc, tokens, depth)?))
+    }
+}
+
+/// The formula of a piece, which may be missing.
+fn condition(alloc: Global, tokens: &mut Cursor<'_>, depth: usize) -> Result<Option<Formula>, Fault>
+    ensures { Reads (spec.condition (formulas.formula depth) tokens.old) result tokens.new }
+{
+    if tokens.sees(Kind::Colon) {
+        tokens.skip();
+        body(alloc, tokens, depth)
+    } else {
+        Ok(None)
+    }
+}
+
+/// Tuples and their formula.
+#[tactic(auto, unfolding(crate::specs::Piece::piece))]
+fn piece(alloc: Global, tokens: &mut Cursor<'_>, depth: usize) -> Result<PieceTree, Fault>
+    ensures { Reads (spec.piece (tuples.tuple depth) (formulas.formula depth) tokens.old) result tokens.new }
+{
+    let first = tuple(alloc, tokens, depth)?;
+    let second = image(alloc, tokens, depth)?;
+    let body = condition(alloc, tokens, depth)?;
+    Ok(PieceTree {
+        first,
+        second,
+        body,
+    })
+}
+
+/// A piece, after a sign.
+#[tactic(auto, unfolding(crate::specs::Piece::next_piece))]
+fn next_piece(alloc: Global, tokens: &mut Cursor<'_>, depth: usize) -> Result<PieceTree, Fault>
+    ensures { Reads (spec.next_piece (tuples.tuple depth) (formulas.formula depth) tokens.old) result tokens.new }
+{
+    tokens.skip();
+    piece(alloc, tokens, depth)
+}
+
+/// One piece or more, with `;` between them.
+#[tactic(auto, using(isl_token::proofs::Turns::turns), unfolding(crate::specs::Piece::piece_row, isl_token::specs::Reading::row))]
+fn piece_row(
+    alloc: Global,
+    tokens: &mut Cursor<'_>,
+    depth: usize,
+) -> Result<Items<PieceTree>, Fault>
+    ensures { Reads (spec.piece_row (tuples.tuple depth) (formulas.formula depth) tokens.old) result tokens.new }
+{
+    let mut found = Items::new(alloc);
+    found.push(piece(alloc, tokens, depth)?)?;
+    for _turn in 0..tokens.left() {
+        if !tokens.sees(Kind::Semicolon) {
+            return Ok(found);
+        }
+        found.push(next_piece(alloc, tokens, depth)?)?;
+    }
+    Ok(found)
+}
+
+/// The pieces of a literal, which may be none.
+fn pieces(alloc: Global, tokens: &mut Cursor<'_>, depth: usize) -> Result<Items<PieceTree>, Fault>
+    ensures { Reads (spec.pieces (tuples.tuple depth) (formulas.formula depth) tokens.old) result tokens.new }
+{
+    if tokens.sees(Kind::CloseBrace) {
+        Ok(Items::new(alloc))
+    } else {
+        piece_row(alloc, tokens, depth)
+    }
+}
+
+/// A name, after a sign.
+#[tactic(auto, unfolding(crate::specs::Piece::next_name))]
+fn next_name(tokens: &mut Cursor<'_>) -> Result<Name, Fault>
+    ensures { Reads (spec.next_name tokens.old) result tokens.new }
+{
+    tokens.skip();
+    tokens.name()
+}
+
+/// One name or more, with `,` between them.
+#[tactic(auto, using(isl_token::proofs::Turns::turns), unfolding(crate::specs::Piece::name_row, isl_token::specs::Reading::row))]
+fn name_row(alloc: Global, tokens: &mut Cursor<'_>) -> Result<Items<Name>, Fault>
+    ensures { Reads (spec.name_row tokens.old) result tokens.new }
+{
+    let mut found = Items::new(alloc);
+    found.push(tokens.name()?)?;
+    for _turn in 0..tokens.left() {
+        if !tokens.sees(Kind::Comma) {
+            return Ok(found);
+        }
+        found.push(next_name(tokens)?)?;
+    }
+    Ok(found)
+}
+
+fn names(alloc: Global, tokens: &mut Cursor<'_>) -> Result<Items<Name>, Fault>
+    ensures { Reads (spec.names tokens.old) result tokens.new }
+{
+    if tokens.sees(Kind::CloseSquare) {
+        Ok(Items::new(alloc))
+    } else {
+        name_row(alloc, tokens)
+    }
+}
+
+/// Names, `]` and `->`, after the bracket.
+#[tactic(auto, unfolding(crate::specs::Piece::declared))]
+fn declared(alloc: Global, tokens: &mut Cursor<'_>) -> Result<Items<Name>, Fault>
+    ensures { Reads (spec.declared tokens.old) result tokens.new }
+{
+    let found = names(alloc, tokens)?;
+    tokens.expect(Kind::CloseSquare)?;
+    tokens.expect(Kind::Arrow)?;
+    Ok(found)
+}
+
+/// The parameters of a literal, whose list may be missing.
+fn parameters(alloc: Global, tokens: &mut Cursor<'_>) -> Result<Items<Name>, Fault>
+    ensures { Reads (spec.parameters tokens.old) result tokens.new }
+{
+    if tokens.sees(Kind::OpenSquare) {
+        tokens.skip();
+        declared(alloc, tokens)
+    } else {
+        Ok(Items::new(alloc))
+    }
+}
+
+/// Pieces in braces.
+#[tactic(auto, unfolding(crate::specs::Piece::braces))]
+fn braces(alloc: Global, tokens: &mut Cursor<'_>, depth: usize) -> Result<Items<PieceTree>, Fault>
+    ensures { Reads (spec.braces (tuples.tuple depth) (formulas.formula depth) tokens.old) result tokens.new }
+{
+    tokens.expect(Kind::OpenBrace)?;
+    let found = pieces(alloc, tokens, depth)?;
+    tokens.expect(Kind::CloseBrace)?;
+    Ok(found)
+}
+
+/// Parameters and pieces, of which no rule on names is asked yet.
+#[tactic(auto, unfolding(crate::specs::Piece::outline))]
+pub fn outline(alloc: Global, tokens: &mut Cursor<'_>, depth: usize) -> Result<Literal, Fault>
+    ensures { Reads (spec.outline (tuples.tuple depth) (formulas.formula depth) tokens.old) result tokens.new }
+{
+    let params = parameters(alloc, tokens)?;
+    let pieces = braces(alloc, tokens, depth)?;
+    Ok(Literal { params, pieces })
+}

@@ -1,0 +1,9 @@
+pub mod Fronts
+pub mod Pieces
+pub mod Numbers
+pub mod Turns
+pub mod Taking
+pub mod Again
+pub mod Whole
+pub mod Prints
+pub mod SignPrints

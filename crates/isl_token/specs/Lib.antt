@@ -1,0 +1,6 @@
+pub mod Token
+pub mod Lex
+pub mod Number
+pub mod Depth
+pub mod Reading
+pub mod Spelling

@@ -1,0 +1,123 @@
+//! How deep the tokens of a text are nested.
+
+ghost use Rattle.std.specs.Prelude.{◌≡◌, ◌+◌, ◌≤◌, map};
+ghost use Rattle.std.specs.List.{list_any};
+ghost use Rattle.std.specs.Str.{bytes_eq};
+ghost use Rattle.isl_token.specs.Depth as spec;
+
+use crate::token::{Kind, Token, kind_of};
+
+/// The depth that a text may have.
+pub const MAX_DEPTH: usize = 200;
+
+/// The words that stand before an operand, so that they can stand in a row.
+const STACKING: [&[u8]; 21] = [
+    b"not",
+    b"exists",
+    b"dom",
+    b"domain",
+    b"ran",
+    b"range",
+    b"deltas",
+    b"identity",
+    b"wrap",
+    b"unwrap",
+    b"zip",
+    b"domain_map",
+    b"range_map",
+    b"lexmin",
+    b"lexmax",
+    b"coalesce",
+    b"sample",
+    b"scan",
+    b"codegen",
+    b"any",
+    b"last",
+];
+
+/// A place in a text: the brackets that are open, and the stacking words since the last brace or `;`.
+#[derive(Clone, Copy, Debug)]
+struct Place {
+    brackets: usize,
+    words: usize,
+}
+
+fn is_among(mut texts: &[&[u8]], text: &[u8]) -> bool
+    ensures { result ≡ list_any (bytes_eq text.now) (map (λ t. t.now) texts.entry.now) }
+{
+    while let [first, rest @ ..] = texts {
+        if text == *first {
+            return true;
+        }
+        texts = rest;
+    }
+    false
+}
+
+#[tactic(auto, unfolding(crate::specs::Depth::stacking_words))]
+fn is_stacking_word(word: &[u8]) -> bool
+    ensures { result ≡ spec.is_stacking_word word.now }
+{
+    is_among(&STACKING, word)
+}
+
+fn is_stacking(token: &Token) -> bool
+    ensures { result ≡ spec.is_stacking token.now }
+{
+    match token {
+        Token::Word(word) => is_stacking_word(word.as_str().as_bytes()),
+        Token::Number(_) => false,
+        Token::Sign(_) => kind_of(token) == Kind::Not,
+    }
+}
+
+/// The place behind the token.
+fn step(place: Place, token: &Token) -> Place
+    requires { place.brackets + place.words ≤ MAX_DEPTH }
+    ensures { result ≡ spec.step place token.now }
+{
+    let Place { brackets, words } = place;
+    match kind_of(token) {
+        Kind::Open | Kind::OpenSquare => Place {
+            brackets: brackets + 1,
+            words,
+        },
+        Kind::OpenBrace => Place {
+            brackets: brackets + 1,
+            words: 0,
+        },
+        Kind::Close | Kind::CloseSquare => Place {
+            brackets: brackets.saturating_sub(1),
+            words,
+        },
+        Kind::CloseBrace => Place {
+            brackets: brackets.saturating_sub(1),
+            words: 0,
+        },
+        Kind::Semicolon => Place { brackets, words: 0 },
+        _ => Place {
+            brackets,
+            words: words + usize::from(is_stacking(token)),
+        },
+    }
+}
+
+/// Whether the depth is above 200 at some token.
+///
+/// The depth at a token is the number of brackets that are open there and of the stacking words since the last brace or
+/// `;`, the token counted.
+pub fn is_too_deep(tokens: &[Token]) -> bool
+    ensures { result ≡ spec.is_too_deep tokens.now }
+{
+    let mut place = Place {
+        brackets: 0,
+        words: 0,
+    };
+    for token in tokens {
+        place = step(place, token);
+        if place.brackets + place.words > MAX_DEPTH {
+            return true;
+        }
+    }
+    false
+}

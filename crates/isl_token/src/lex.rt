@@ -1,0 +1,158 @@
+//! Tokens from bytes.
+
+ghost use Rattle.std.specs.Prelude.{◌≡◌, ◌≢◌, ◌<◌, ◌≤◌, All, length, slice_index, map, true, nat_eq, IfOk, IfSome};
+ghost use Rattle.std.specs.List.{starts_with};
+ghost use Rattle.isl_token.specs.Lex as spec;
+ghost use Rattle.isl_token.specs.Lex.{Lexes, LexesOne};
+ghost use Rattle.isl_token.specs.Token.{IsToken};
+
+use crate::fault::Fault;
+use crate::token::{Kind, SIGNS, Token, Tokens};
+use isl_space::Name;
+use sqlite_items::Items;
+use std::alloc::{AllocError, Global};
+
+/// Bytes that stand in rows.
+#[derive(Clone, Copy, Debug)]
+enum Class {
+    Blank,
+    Comment,
+    Letter,
+    Word,
+    Prime,
+    Digit,
+}
+
+/// What stands at the front of a text.
+#[derive(Clone, Copy, Debug)]
+enum Piece {
+    /// A blank or a comment.
+    Nothing,
+    Word,
+    Number,
+    Sign,
+    /// No token begins so.
+    Wrong,
+}
+
+fn is_in(class: Class, byte: u8) -> bool
+    ensures { result ≡ spec.is_in class byte }
+{
+    match class {
+        Class::Blank => byte == b' ' || byte == b'\t' || byte == b'\r' || byte == b'\n',
+        Class::Comment => byte != b'\n',
+        Class::Letter => byte.is_ascii_alphabetic() || byte == b'_',
+        Class::Word => byte.is_ascii_alphanumeric() || byte == b'_',
+        Class::Prime => byte == b'\'',
+        Class::Digit => byte.is_ascii_digit(),
+    }
+}
+
+/// The first place from `at` on whose byte is not of the class.
+fn past(class: Class, z: &[u8], at: usize) -> usize
+    requires { at ≤ length z.now }
+    ensures value { result ≡ spec.past class z.now at }
+    ensures within { (at ≤ result) × (result ≤ length z.now) }
+{
+    let mut end = at;
+    while end < z.len() && is_in(class, z[end]) {
+        end += 1;
+    }
+    end
+}
+
+fn begins(z: &[u8], text: &[u8]) -> bool
+    ensures value { result ≡ starts_with nat_eq z.now text.now }
+    ensures within { result ≡ true → length text.now ≤ length z.now }
+{
+    z.starts_with(text)
+}
+
+/// The length of the longest text of the table that stands at the front, 0 where none does.
+fn longest(mut table: &[(&[u8], Kind)], z: &[u8]) -> usize
+    ensures value { result ≡ spec.longest (map (λ k. k.0.now) table.entry.now) z.now }
+    ensures within { result ≤ length z.now }
+{
+    let mut best = 0;
+    while let [(text, _), rest @ ..] = table {
+        if best < text.len() && begins(z, text) {
+            best = text.len();
+        }
+        table = rest;
+    }
+    best
+}
+
+#[tactic(auto, unfolding(crate::specs::Token::signs))]
+fn sign_len(z: &[u8]) -> usize
+    ensures value { result ≡ spec.sign_len z.now }
+    ensures within { result ≤ length z.now }
+{
+    longest(&SIGNS, z)
+}
+
+/// What stands at the front, and its length in bytes.
+#[tactic(auto, unfolding(crate::specs::Lex::cut))]
+fn cut(z: &[u8]) -> (Piece, usize)
+    requires { 0 < length z.now }
+    ensures value { result ≡ spec.cut z.now }
+    ensures within { result.1 ≤ length z.now }
+    ensures moves { 1 ≤ result.1 }
+{
+    let byte = z[0];
+    if is_in(Class::Blank, byte) {
+        (Piece::Nothing, 1)
+    } else if byte == b'#' {
+        (Piece::Nothing, past(Class::Comment, z, 1))
+    } else if is_in(Class::Letter, byte) {
+        (Piece::Word, past(Class::Prime, z, past(Class::Word, z, 1)))
+    } else if is_in(Class::Digit, byte) {
+        (Piece::Number, past(Class::Digit, z, 1))
+    } else {
+        match sign_len(z) {
+            0 => (Piece::Wrong, 1),
+            len => (Piece::Sign, len),
+        }
+    }
+}
+
+/// The token of the piece, if it has one.
+#[tactic(auto, using(crate::proofs::Pieces::pieces))]
+fn token_of(alloc: Global, piece: Piece, text: &[u8]) -> Result<Option<Token>, Fault>
+    requires { spec.IsPiece piece text.now }
+    ensures lexes { LexesOne (spec.tokens_of piece text.now) result }
+    ensures formed { IfOk result (λ token. IfSome token IsToken) }
+{
+    match piece {
+        Piece::Nothing => Ok(None),
+        Piece::Word => {
+            let Ok(word) = std::str::from_utf8(text) else {
+                return Err(Fault::Syntax);
+            };
+            Ok(Some(Token::Word(Name::new(alloc, word)?)))
+        }
+        Piece::Number => Ok(Some(Token::Number(Items::from_slice(alloc, text)?))),
+        Piece::Sign => Ok(Some(Token::Sign(Items::from_slice(alloc, text)?))),
+        Piece::Wrong => Err(Fault::Syntax),
+    }
+}
+
+/// The tokens of a text, each the longest that fits.
+///
+/// It fails with `Syntax` exactly where some byte begins no token.
+#[tactic(auto, using(crate::proofs::Pieces::pieces))]
+pub fn tokens(alloc: Global, mut bytes: &[u8]) -> Result<Tokens, Fault>
+    ensures lexes { Lexes (spec.tokens bytes.entry.now) result }
+    ensures formed { IfOk result (λ ts. All IsToken ts) }
+{
+    let mut found = Items::new(alloc);
+    while !bytes.is_empty() {
+        let (piece, len) = cut(bytes);
+        let (text, rest) = bytes.split_at(len);
+        if let Some(token) = token_of(alloc, piece, text)? {
+            found.push(token)?;
+        }
+        bytes = rest;
+    }
+    Ok(found)
+}

@@ -1,0 +1,6 @@
+pub mod Environment
+pub mod Term
+pub mod Formula
+pub mod Literal
+pub mod Known
+pub mod Plain

@@ -1,0 +1,4 @@
+//! Literals as trees.
+#![tactic(auto)]
+
+pub mod tree;
