@@ -17,3 +17,4 @@ pub use constraint::{Row, RowKind};
 pub use list::Rows;
 pub use located::Piece;
 pub use negation::negate;
+pub use reduction::{Outcome, settle};

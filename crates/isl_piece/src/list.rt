@@ -86,8 +86,8 @@ impl Rows {
         self.items.push(row)
     }
 
-    // Copies of the other rows behind these.
-    pub(crate) fn append(&mut self, alloc: Global, other: &Rows) -> Result<(), AllocError>
+    /// Puts copies of the other rows behind these. Where memory ends, some of them may stand there.
+    pub fn append(&mut self, alloc: Global, other: &Rows) -> Result<(), AllocError>
         ensures { OnOk result (self.new ≡ self.old ++ other.now) }
     {
         for row in other.as_slice() {

@@ -17,7 +17,7 @@ use isl_meter::{Int, Meter};
 
 /// What is left of a row: it holds at every point, at none, or it stays as it was made.
 #[derive(Clone, Copy)]
-pub(crate) enum Outcome {
+pub enum Outcome {
     Holds,
     Fails,
     Stays,
@@ -180,7 +180,7 @@ impl Outcome {
 }
 
 /// Makes the row normal.
-pub(crate) fn settle(row: &mut Row, meter: &Meter) -> Outcome
+pub fn settle(row: &mut Row, meter: &Meter) -> Outcome
     requires divisor { HasDivisor row.old.kind row.old.k }
     requires within { IsRowWithin meter.now row.old }
     ensures { Settles result row.new (normal_row row.old) }

@@ -1,0 +1,17 @@
+use Rattle.std.proofs.Common.{◌≡◌, arith, map, refl}
+use Rattle.isl_piece.specs.declared.constraint.Row.{Row}
+use Rattle.isl_elim.specs.Column.{dropped}
+use Rattle.isl_elim.proofs.ColumnLemmas.{short_within, settled_is}
+use Rattle.isl_elim.proofs.rows.settled.Goals as goal
+
+pub normalise-requires : goal.normalise-requires
+normalise-requires c =
+    let e : c.in_ok-short.short ≡ map (λ r. dropped r c.args.col) c.args.rows.now = grind arith in
+    short_within c.args.meter.now c.args.columns c.args.col c.args.rows.now c.in_ok-short.short c.requires.col_in c.requires.well_formed c.requires.within e
+
+pub returns : goal.returns
+returns c =
+    let e : c.in_ok-short.short ≡ map (λ r. dropped r c.args.col) c.args.rows.now = grind arith in (
+      settled_is c.args.meter.now c.args.columns c.args.col c.args.rows.now c.in_ok-short.short c.in_ok-normalise.field-0 c.requires.col_in c.requires.well_formed c.requires.free e c.in_ok-normalise.ensures.exact c.in_ok-normalise.ensures.points c.in_ok-normalise.ensures.within,
+      grind arith,
+    )

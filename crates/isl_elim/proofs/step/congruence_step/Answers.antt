@@ -1,0 +1,19 @@
+use Rattle.std.proofs.Common.{arith}
+use Rattle.isl_elim.specs.Congruence.{AreMergedTo}
+use Rattle.isl_elim.specs.Step.{AreMovedTo}
+use Rattle.isl_elim.specs.Substitution.{IsProgressionOf}
+use Rattle.isl_elim.proofs.StepLemmas.{step_is}
+use Rattle.isl_elim.proofs.step.congruence_step.Goals as goal
+
+pub returns : goal.returns
+returns c =
+    let sides = c.args.sides.now in
+    let p = c.in_ok-progression.progression in
+    let s = p.substitution in
+    let merged : AreMergedTo c.args.meter.now c.args.columns c.args.col sides.divides p.one p.others = grind arith in
+    let progression : IsProgressionOf c.args.columns c.args.col p.one s.scale s.offsets = grind arith in
+    let moved : AreMovedTo c.args.meter.now c.args.columns c.args.col p.one p.others s.scale s.offsets sides c.in_ok-new.new = grind arith in (
+      step_is c.args.meter.now c.args.columns c.args.col p.one p.others s.scale s.offsets sides c.in_ok-new.new
+          (record { inside = c.requires.col_in; sided = c.requires.sided; merged = merged; progression = progression; moved = moved }),
+      grind arith,
+    )

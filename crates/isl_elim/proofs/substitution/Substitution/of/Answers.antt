@@ -1,0 +1,30 @@
+use Rattle.std.proofs.Common.{◌≡◌, ◌<◌, ◌-ℤ◌, length, set, arith}
+use Rattle.isl_meter.specs.Gauge.{IsWithin}
+use Rattle.isl_piece.specs.Row.{IsRowWithin, coef_at}
+use Rattle.isl_elim.specs.Substitution.{AreProgressionParts, offsets_of}
+use Rattle.isl_elim.proofs.SubstitutionLemmas.{offsets_wide, offsets_set, set_within, is_progression}
+use Rattle.isl_elim.proofs.substitution.Substitution.of.Goals as goal
+
+pub set-requires : goal.set-requires
+set-requires c =
+    let is : c.in_ok-row.row ≡ offsets_of c.parts-scale.result.1 c.args.one.now = grind arith in
+    let wide = offsets_wide c.args.columns c.parts-scale.result.1 c.args.one.now c.in_ok-row.row c.requires.well_formed is in
+    omega arith
+
+pub returns : goal.returns
+returns c =
+    let one = c.args.one.now in
+    let row = c.in_ok-row.row in
+    let scale = c.parts-scale.result.0 in
+    let factor = c.parts-scale.result.1 in
+    let is : row ≡ offsets_of factor one = grind arith in
+    let written : c.set.new.self ≡ set row.coefs c.args.col c.in_ok-sub.field-0 = grind arith in
+    let number : c.in_ok-sub.field-0 ≡ one.k -ℤ scale = grind arith in
+    let number_within : IsWithin c.args.meter.now c.in_ok-sub.field-0 = grind arith in
+    let row_within : IsRowWithin c.args.meter.now row = grind arith in
+    let are : AreProgressionParts (coef_at one c.args.col) one.k scale factor = grind arith in (
+      is_progression c.args.columns c.args.col one scale factor _ c.requires.kind c.requires.well_formed c.requires.col_in are (offsets_set factor (one.k -ℤ scale) c.in_ok-sub.field-0 one row c.args.col c.set.new.self is written number),
+      grind arith,
+      set_within c.args.meter.now row c.args.col c.set.new.self c.in_ok-sub.field-0 row_within number_within written,
+      grind arith,
+    )

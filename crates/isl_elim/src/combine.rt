@@ -1,0 +1,87 @@
+// Sums of multiples of rows.
+
+ghost use Rattle.std.specs.Prelude.{◌≡◌, ◌<ℤ◌, pos, length, All, MatchResult};
+ghost use Rattle.isl_math.specs.Dot.{weighted_sum};
+ghost use Rattle.isl_meter.specs.Gauge.{IsWithin};
+ghost use Rattle.isl_piece.specs.Row.{IsRowWithin};
+ghost use Rattle.isl_elim.specs.Work.{IsCutUpTo};
+ghost use Rattle.isl_elim.specs.Combine.{combination, scaled_divisor};
+
+use isl_meter::{Cut, Int, Meter, Overflow};
+use isl_piece::{Coefs, Row, RowKind};
+use std::alloc::Global;
+
+// `m` times each number of `left` plus `n` times that of `right`.
+#[tactic(auto, using(std::proofs::lemmas::Grind::common_steps, crate::proofs::CombineLemmas::weighted_steps))]
+pub(crate) fn weighted(
+    alloc: Global,
+    m: Int,
+    left: &[Int],
+    n: Int,
+    right: &[Int],
+    meter: &mut Meter,
+) -> Result<Coefs, Cut>
+    requires m_within { IsWithin meter.old m }
+    requires n_within { IsWithin meter.old n }
+    requires left_within { All (IsWithin meter.old) left.now }
+    requires right_within { All (IsWithin meter.old) right.now }
+    requires same_length { length left.now ≡ length right.now }
+    ensures { MatchResult result
+        (λ coefs. (coefs ≡ weighted_sum m left.now n right.now) × All (IsWithin meter.old) coefs × (meter.new ≡ meter.old))
+        (λ cut. IsCutUpTo 0 meter.old meter.new cut) }
+{
+    let mut coefs = Coefs::new(alloc);
+    for i in 0..left.len() {
+        let x = m.mul(left[i], meter)?;
+        let y = n.mul(right[i], meter)?;
+        coefs.push(x.add(y, meter)?)?;
+    }
+    Ok(coefs)
+}
+
+// The divisor of `m` times a row.
+fn divisor_of(row: &Row, m: Int, meter: &mut Meter) -> Result<Int, Overflow>
+    requires m_within { IsWithin meter.old m }
+    requires row_within { IsRowWithin meter.old row.now }
+    ensures { MatchResult result
+        (λ k. (k ≡ scaled_divisor row.now.kind m row.now.k) × IsWithin meter.old k × (meter.new ≡ meter.old))
+        (λ _. IsCutUpTo 0 meter.old meter.new Cut.Overflow) }
+{
+    match row.kind {
+        RowKind::Zero | RowKind::AtLeast => Ok(row.modulus()),
+        RowKind::Divides | RowKind::NotDivides => m.mul(row.modulus(), meter),
+    }
+}
+
+/// `m` times `row` plus `n` times `other`, of the kind of `row`.
+pub(crate) fn combined(
+    alloc: Global,
+    m: Int,
+    row: &Row,
+    n: Int,
+    other: &Row,
+    meter: &mut Meter,
+) -> Result<Row, Cut>
+    requires m_within { IsWithin meter.old m }
+    requires n_within { IsWithin meter.old n }
+    requires row_within { IsRowWithin meter.old row.now }
+    requires other_within { IsRowWithin meter.old other.now }
+    requires same_width { length row.now.coefs ≡ length other.now.coefs }
+    ensures { MatchResult result
+        (λ sum. (sum ≡ combination m row.now n other.now) × IsRowWithin meter.old sum × (meter.new ≡ meter.old))
+        (λ cut. IsCutUpTo 0 meter.old meter.new cut) }
+{
+    let coefs = weighted(
+        alloc,
+        m,
+        row.coefs.as_slice(),
+        n,
+        other.coefs.as_slice(),
+        meter,
+    )?;
+    let x = m.mul(row.offset(), meter)?;
+    let y = n.mul(other.offset(), meter)?;
+    let sum = x.add(y, meter)?;
+    let k = divisor_of(row, m, meter)?;
+    Ok(Row::new(row.kind, coefs, sum, k))
+}

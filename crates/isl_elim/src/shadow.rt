@@ -1,0 +1,71 @@
+// The dark shadow of bounds on a column, and what it leaves out.
+
+ghost use Rattle.std.specs.Prelude.{◌≡◌, ◌≢◌, ◌⊎◌, ◌<◌, ◌++◌, pos, negsuc, ◌<ℤ◌, ◌≤ℤ◌, ℤ, IsTrue, length, All, MatchResult};
+ghost use Rattle.isl_meter.specs.Gauge.{IsWithin};
+ghost use Rattle.isl_piece.specs.Row.{coef_at};
+ghost use Rattle.isl_elim.specs.Shadow.{last_splinter, IsShadowOf};
+ghost use Rattle.isl_elim.specs.Sides.{IsLower, IsUpper};
+ghost use Rattle.isl_elim.specs.Work.{IsChargedUpTo, IsCutUpTo};
+
+use crate::pair::Pair;
+use isl_meter::{Cut, Int, Meter, Overflow};
+use isl_piece::{Row, Rows};
+use std::alloc::Global;
+
+// The greatest upper factor of a pair that is not exact.
+fn widest(greatest: Int, factor: Int, exact: bool) -> Int
+    ensures kept { greatest ≤ℤ result }
+    ensures covered { IsTrue exact ⊎ (factor ≤ℤ result) }
+    ensures least { (m : ℤ) → greatest ≤ℤ m → factor ≤ℤ m → result ≤ℤ m }
+{
+    if exact || factor <= greatest {
+        greatest
+    } else {
+        factor
+    }
+}
+
+// The last value of a lower bound of the factor in its splinters: -1, so that there is none, where all pairs are exact.
+fn last_value(factor: Int, greatest: Int, meter: &mut Meter) -> Result<Int, Overflow>
+    requires within { IsWithin meter.old factor }
+    requires not_negative { pos 0 ≤ℤ greatest }
+    ensures { MatchResult result
+        (λ last. (greatest ≡ pos 0 → last ≡ negsuc 0) × (greatest ≢ pos 0 → last ≡ last_splinter factor greatest)
+        × IsWithin meter.old last × (meter.new ≡ meter.old))
+        (λ _. IsCutUpTo 0 meter.old meter.new Cut.Overflow) }
+{
+    if greatest.is_zero() {
+        return Int::ZERO.sub(Int::ONE, meter);
+    }
+    let rest = factor.neg(meter).floor_div(greatest, meter);
+    factor.sub(Int::ONE, meter)?.add(rest, meter)
+}
+
+// Pushes the dark rows of a lower bound with each upper bound, and answers the last value of its splinters.
+fn shadow_of(
+    alloc: Global,
+    lower: &Row,
+    uppers: &[Row],
+    columns: usize,
+    col: usize,
+    rows: &mut Rows,
+    meter: &mut Meter,
+) -> Result<Int, Cut>
+    requires lower { IsLower meter.old columns col lower.now }
+    requires uppers { All (IsUpper meter.old columns col) uppers.now }
+    requires col_in { col < columns }
+    ensures { MatchResult result
+        (λ last. IsShadowOf meter.old columns col lower.now uppers.now rows.old rows.new last × IsWithin meter.old last
+        × IsChargedUpTo (length uppers.now) meter.old meter.new)
+        (λ cut. IsCutUpTo (length uppers.now) meter.old meter.new cut) }
+{
+    let mut greatest = Int::ZERO;
+    for upper in uppers {
+        meter.unit()?;
+        let pair = Pair::of(alloc, lower, upper, columns, col, meter)?;
+        rows.push(pair.dark)?;
+        greatest = widest(greatest, upper.coefs.get(col).neg(meter), pair.exact);
+    }
+    let last = last_value(lower.coefs.get(col), greatest, meter)?;
+    Ok(last)
+}
