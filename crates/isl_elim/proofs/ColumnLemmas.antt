@@ -8,7 +8,7 @@ use Rattle.isl_math.specs.Divide as divide
 use Rattle.isl_math.specs.Dot.{dot}
 use Rattle.isl_math.proofs.Ring.{expand, linear}
 use Rattle.isl_math.proofs.ColumnLaws.{dot-insert}
-use Rattle.isl_math.proofs.DivideLaws.{Divides-minus, Divides-+ℤ, Divides-*ℤ, Divides-same}
+use Rattle.isl_math.proofs.DivideLaws.{Divides-+ℤ, Divides-*ℤ, Divides-same}
 use Rattle.isl_piece.specs.declared.constraint.RowKind.{RowKind}
 use Rattle.isl_piece.specs.declared.constraint.RowKind.TheVariants.{Zero, AtLeast, Divides, NotDivides}
 use Rattle.isl_piece.specs.declared.constraint.Row.{Row}

@@ -1,5 +1,5 @@
 -- What a combination of rows says.
-use Rattle.std.proofs.Common.{◌≡◌, ◌↔◌, ◌∙◌, refl, ap, arith, ℕ, ◌<◌, ℤ, pos, ◌+ℤ◌, ◌*ℤ◌, ◌≤ℤ◌, ◌<ℤ◌, List, length}
+use Rattle.std.proofs.Common.{◌≡◌, ◌↔◌, ◌∙◌, arith, ℕ, ◌<◌, ℤ, pos, ◌+ℤ◌, ◌*ℤ◌, ◌<ℤ◌, List, length}
 use Rattle.std.proofs.lemmas.List.Elements.{All-push}
 use Rattle.isl_math.proofs.Ring.{expand, linear}
 use Rattle.isl_math.proofs.OrderLaws.{positive-*ℤ}
@@ -7,7 +7,7 @@ use Rattle.isl_math.proofs.ColumnLaws.{weighted_sum-take_more, dot-weighted_sum,
 use Rattle.isl_piece.specs.declared.constraint.RowKind.{RowKind}
 use Rattle.isl_piece.specs.declared.constraint.RowKind.TheVariants.{Zero, AtLeast, Divides, NotDivides}
 use Rattle.isl_piece.specs.declared.constraint.Row.{Row}
-use Rattle.isl_piece.specs.Row.{HoldsValue, HoldsRow, value_at, coef_at, IsWellFormed, HasDivisor}
+use Rattle.isl_piece.specs.Row.{HoldsValue, value_at, coef_at, IsWellFormed, HasDivisor}
 use Rattle.isl_elim.specs.Combine.{combination, scaled_divisor}
 use Rattle.isl_elim.proofs.EqualityLemmas.{zero_scaled, at_least_scaled, Divides_scaled}
 

@@ -1,6 +1,6 @@
 -- Congruences on one column. Several are merged into one by Euclid's steps; one is a progression, which a substitution
 -- follows without a list of its residues.
-use Rattle.std.proofs.Common.{◌≡◌, ◌↔◌, ◌∙◌, sym, ap, arith, ℤ, pos, neg_ℤ, ◌+ℤ◌, ◌-ℤ◌, ◌*ℤ◌, ◌≤ℤ◌, ◌<ℤ◌}
+use Rattle.std.proofs.Common.{◌≡◌, ◌↔◌, ap, arith, ℤ, pos, ◌+ℤ◌, ◌-ℤ◌, ◌*ℤ◌}
 use Rattle.isl_math.specs.Divide.{Divides}
 use Rattle.isl_math.proofs.Ring.{expand, linear}
 use Rattle.isl_math.proofs.DivideLaws.{Divides-+ℤ, Divides-minus, Divides-*ℤ, Divides-same}

@@ -1,5 +1,5 @@
 -- Substitution by an equality, the first step of Pugh's Omega test: where e x + f = 0, the column x leaves every other row.
-use Rattle.std.proofs.Common.{◌≡◌, ◌≢◌, ◌↔◌, ◌∙◌, inl, inr, ap, arith, zero, suc, ◌≤◌, ℤ, pos, negsuc, neg_ℤ, ◌+ℤ◌, ◌-ℤ◌, ◌*ℤ◌, ◌≤ℤ◌, ◌<ℤ◌, unsigned_abs}
+use Rattle.std.proofs.Common.{◌≡◌, ◌≢◌, ◌↔◌, ◌∙◌, inl, inr, ap, arith, zero, suc, ◌≤◌, ℤ, pos, negsuc, neg_ℤ, ◌+ℤ◌, ◌*ℤ◌, ◌≤ℤ◌, ◌<ℤ◌, unsigned_abs}
 use lib.IntN.{*ℤ_comm}
 use Rattle.isl_math.specs.Divide.{Divides, floor_div, IsGcdOf}
 use Rattle.isl_math.specs.Order.{abs_of, sign_of}

@@ -1,9 +1,9 @@
 -- What the equality step makes of rows.
-use Rattle.std.proofs.Common.{◌≡◌, ◌≢◌, ◌↔◌, ◌∙◌, Option, Some, None, refl, sym, ap, arith, ℕ, suc, ◌+◌, ◌-◌, ◌<◌, ◌≤◌, ℤ, pos, neg_ℤ, ◌+ℤ◌, ◌*ℤ◌, ◌<ℤ◌, List, [], ◌∷◌, ◌++◌, length, get_or}
+use Rattle.std.proofs.Common.{◌≡◌, ◌≢◌, ◌↔◌, ◌∙◌, Option, Some, None, sym, arith, ℕ, ◌-◌, ◌<◌, ◌≤◌, ℤ, pos, ◌+ℤ◌, ◌*ℤ◌, List, [], ◌∷◌, ◌++◌, length}
 use Rattle.std.specs.List.{All, AllZip, insert}
 use Rattle.std.proofs.lemmas.List.Elements.{All-push}
 use Rattle.isl_math.specs.Divide as divide
-use Rattle.isl_math.proofs.Ring.{expand, linear}
+use Rattle.isl_math.proofs.Ring.{linear}
 use lib.IntN.{*ℤ_comm}
 use Rattle.isl_math.specs.Order.{abs_of, sign_of}
 use Rattle.isl_math.proofs.OrderLaws.{sign-*ℤ, sign-*ℤ-abs, abs_positive}

@@ -1,8 +1,8 @@
 -- All elements of a list, or some of them.
-use Rattle.std.proofs.Common.{◌≡◌, ◌⊎◌, inl, inr, subst, Bool, true, false, cond, map, ℕ, zero, suc, ◌+◌, ◌<◌, ◌≤◌, refl, ap, arith, List, [], ◌∷◌, ◌++◌, length, get_or, take}
+use Rattle.std.proofs.Common.{◌≡◌, ◌⊎◌, inl, inr, subst, ◌∙◌, Bool, true, false, cond, map, ℕ, zero, suc, ◌<◌, ◌≤◌, refl, ap, arith, List, [], ◌∷◌, ◌++◌, length, get_or}
 use Rattle.std.specs.List.{All, AllZip, Any, Contains, filter}
-use Rattle.std.proofs.lemmas.List.{get_or-map, length-map}
-use Rattle.std.proofs.lemmas.List.Elements.{All-nil, All-cons, All-head, All-tail}
+use Rattle.std.proofs.lemmas.List.{get_or-map, length-map, length-append, get_or_append_left}
+use Rattle.std.proofs.lemmas.List.Elements.{All-nil, All-cons, All-head, All-tail, All-map}
 
 pub Contains-later : {X : Type 0} (y : X) (xs : List X) (x : X) → Contains xs x → Contains (y ∷ xs) x
 Contains-later y xs x c = (suc c.0, (let h = c.1 in omega arith), c.2)
@@ -92,3 +92,50 @@ length_zipped R [] [] z = refl
 length_zipped R [] (y ∷ ys) z = absurd z
 length_zipped R (x ∷ xs) [] z = absurd z
 length_zipped R (x ∷ xs) (y ∷ ys) z = ap suc (length_zipped R xs ys z.1)
+
+-- ---- some element of joined lists
+pub Any-left : {X : Type 0} (P : X → Type 0) (xs ys : List X) → Any P xs → Any P (xs ++ ys)
+Any-left P xs ys a = (a.0, a.1, (let n = length-append xs ys in let h = a.2 in omega arith), get_or_append_left xs ys a.1 a.0 a.2 ∙ a.3, a.4)
+
+Any-cases : {X : Type 0} (P : X → Type 0) (y : X) (xs : List X) → Any P (y ∷ xs) → P y ⊎ Any P xs
+Any-cases {X = X} P y xs a = by a.0 a.1 a.2 a.3 a.4
+  where
+    by : (k : ℕ) (x : X) → k < length (y ∷ xs) → get_or (y ∷ xs) k x ≡ x → P x → P y ⊎ Any P xs
+    by zero x i e p = inl (rw e p)
+    by (suc k) x i e p = inr (k, x, omega arith, e, p)
+
+pub Any-unmapped : {X Y : Type 0} (P : Y → Type 0) (f : X → Y) (xs : List X) → Any P (map f xs) → Any (λ x. P (f x)) xs
+Any-unmapped P f [] a = absurd (let h = a.2 in omega arith)
+Any-unmapped P f (x ∷ xs) a = elim (Any-cases P (f x) (map f xs) a) [
+  | inl p ↦ Any-first (λ x. P (f x)) x xs p
+  | inr b ↦ Any-later (λ x. P (f x)) x xs (Any-unmapped P f xs b)
+]
+
+pub Any-zipped : {A B : Type 0} (R : A → B → Type 0) (P : A → Type 0) (Q : B → Type 0) → ((a : A) (b : B) → R a b → P a → Q b) → (xs : List A) (ys : List B) → AllZip R xs ys → Any P xs → Any Q ys
+Any-zipped R P Q f [] [] z a = absurd (let h = a.2 in omega arith)
+Any-zipped R P Q f [] (y ∷ ys) z a = absurd z
+Any-zipped R P Q f (x ∷ xs) [] z a = absurd z
+Any-zipped R P Q f (x ∷ xs) (y ∷ ys) z a = elim (Any-cases P x xs a) [
+  | inl p ↦ Any-first Q y ys (f x y z.0 p)
+  | inr b ↦ Any-later Q y ys (Any-zipped R P Q f xs ys z.1 b)
+]
+
+pub All-map-with : {X Y : Type 0} (P Q : Y → Type 0) (f : X → Y) (xs : List X) → ((k : ℕ) (d : X) → k < length xs → P (f (get_or xs k d)) → Q (f (get_or xs k d))) → All P (map f xs) → All Q (map f xs)
+All-map-with P Q f xs g h = All-map Q f xs (λ k d i. g k d i (All-unmapped P f xs h k d i))
+
+pub Any-with : {X : Type 0} (P Q R : X → Type 0) → ((x : X) → P x → Q x → R x) → (xs : List X) → All Q xs → Any P xs → Any R xs
+Any-with P Q R f xs h a = (a.0, a.1, a.2, a.3, f a.1 a.4 (rw (a.3) at (h a.0 a.1 a.2)))
+
+pub Any-right : {X : Type 0} (P : X → Type 0) (xs ys : List X) → Any P ys → Any P (xs ++ ys)
+Any-right P [] ys a = a
+Any-right P (x ∷ xs) ys a = Any-later P x (xs ++ ys) (Any-right P xs ys a)
+
+pub Any-parts : {X : Type 0} (P : X → Type 0) (xs ys : List X) → Any P (xs ++ ys) → Any P xs ⊎ Any P ys
+Any-parts P [] ys a = inr a
+Any-parts P (x ∷ xs) ys a = elim (Any-cases P x (xs ++ ys) a) [
+  | inl p ↦ inl (Any-first P x xs p)
+  | inr b ↦ elim (Any-parts P xs ys b) [ inl c ↦ inl (Any-later P x xs c) | inr c ↦ inr c ]
+]
+
+pub Any-one : {X : Type 0} (P : X → Type 0) (x : X) → Any P (x ∷ []) → P x
+Any-one P x a = elim (Any-cases P x [] a) [ inl p ↦ p | inr b ↦ absurd (let h = b.2 in omega arith) ]

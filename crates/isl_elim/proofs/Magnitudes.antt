@@ -1,9 +1,9 @@
 -- How far numbers grow: magnitudes of sums, products and quotients.
-use Rattle.std.proofs.Common.{◌≡◌, ◌∙◌, sym, ap, arith, ℕ, zero, suc, ◌+◌, ◌*◌, ◌≤◌, ◌<◌, ℤ, pos, negsuc, neg_ℤ, ◌+ℤ◌, ◌-ℤ◌, ◌*ℤ◌, ◌≤ℤ◌, ◌<ℤ◌, unsigned_abs}
+use Rattle.std.proofs.Common.{◌≡◌, arith, ℕ, zero, suc, ◌+◌, ◌*◌, ◌≤◌, ℤ, pos, negsuc, neg_ℤ, ◌+ℤ◌, ◌-ℤ◌, ◌*ℤ◌, ◌<ℤ◌, unsigned_abs}
 use Rattle.std.proofs.Math.Nat.{mul-le-mul_left, mul-le-mul_right, div-le_self}
 use Rattle.isl_math.specs.Divide.{floor_div, floor_mod}
-use Rattle.isl_math.proofs.Ring.{expand, linear}
-use Rattle.isl_math.proofs.DivideLaws.{floor_split, floor_mod_bounds}
+use Rattle.isl_math.proofs.Ring.{linear}
+use Rattle.isl_math.proofs.DivideLaws.{floor_mod_bounds}
 
 -- the magnitude is at most w
 abbrev pub IsUpTo : ℕ → ℤ → Type 0

@@ -8,9 +8,8 @@ use Rattle.isl_meter.specs.Gauge.{Gauge}
 use Rattle.isl_piece.specs.declared.constraint.RowKind.TheVariants.{Divides}
 use Rattle.isl_piece.specs.declared.constraint.Row.{Row}
 use Rattle.isl_piece.specs.Row.{HoldsRow, value_at, IsWellFormed, IsRowWithin}
-use Rattle.isl_piece.specs.System.{HoldRows}
 use Rattle.isl_elim.specs.Column.{IsFree}
-use Rattle.isl_elim.specs.Congruence.{reduced_row, IsReducedCongruence, AreJoined, AreMergedTo, product_of_divisors}
+use Rattle.isl_elim.specs.Congruence.{reduced_row, AreJoined, AreMergedTo, product_of_divisors}
 use Rattle.isl_elim.proofs.Lists.{All-last}
 use Rattle.isl_elim.proofs.ReduceLemmas.{divisor_positive, reduced_is, holds_congruence, value_reduced, Divides-congruent}
 use Rattle.isl_math.proofs.DivideLaws.{IsCongruent_sym}

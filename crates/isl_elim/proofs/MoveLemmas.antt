@@ -1,14 +1,12 @@
 -- Rows with a progression in the column's place.
-use Rattle.std.proofs.Common.{◌≡◌, ◌↔◌, ◌∙◌, refl, sym, ap, subst, arith, ℕ, ◌-◌, ◌<◌, ◌≤◌, ℤ, pos, ◌+ℤ◌, ◌-ℤ◌, ◌*ℤ◌, ◌<ℤ◌, List, length}
+use Rattle.std.proofs.Common.{◌≡◌, ◌↔◌, ◌∙◌, ap, subst, arith, ℕ, ◌-◌, ◌<◌, ℤ, pos, ◌+ℤ◌, ◌-ℤ◌, ◌*ℤ◌, ◌<ℤ◌, List, length}
 use Rattle.std.specs.List.{insert}
 use Rattle.isl_math.proofs.Ring.{expand, linear}
-use Rattle.isl_piece.specs.declared.constraint.RowKind.TheVariants.{AtLeast}
 use Rattle.isl_piece.specs.declared.constraint.Row.{Row}
 use Rattle.isl_piece.specs.Row.{HoldsRow, IsWellFormed, value_at, coef_at}
 use Rattle.isl_elim.specs.Column.{rest_at}
-use Rattle.isl_elim.specs.Combine.{combination}
 use Rattle.isl_elim.specs.Substitution.{substituted, multiplier, IsMovedBound}
-use Rattle.isl_elim.specs.Tighten.{IsLessened, IsTightened}
+use Rattle.isl_elim.specs.Tighten.{IsTightened}
 use Rattle.isl_elim.proofs.ColumnLemmas.{value_at-insert}
 use Rattle.isl_elim.proofs.CombineLemmas.{value_at-combination, coef_at-combination, combination_formed, holds_scaled}
 

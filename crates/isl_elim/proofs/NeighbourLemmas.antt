@@ -1,12 +1,12 @@
 -- Numbers that a divisor must not divide, on one column: of two neighbours one is met where it is one such row, and a
 -- period of residues where there are several.
-use Rattle.std.proofs.Common.{◌≡◌, ◌⊎◌, inl, inr, ◌↔◌, ℕ, ◌<◌, refl, sym, ap, ◌∙◌, arith, ℤ, pos, neg_ℤ, ◌+ℤ◌, ◌-ℤ◌, ◌*ℤ◌, ◌≤ℤ◌, ◌<ℤ◌, List, [], length, get_or}
+use Rattle.std.proofs.Common.{◌≡◌, ◌⊎◌, inl, inr, ◌↔◌, ap, arith, ℤ, pos, ◌+ℤ◌, ◌-ℤ◌, ◌*ℤ◌, ◌≤ℤ◌, ◌<ℤ◌, List, [], get_or}
 use Rattle.std.specs.List.{All, Any}
 use Rattle.std.proofs.lemmas.List.Elements.{All-nil}
 use Rattle.isl_math.specs.Divide.{Divides, IsCongruent, floor_mod}
 use Rattle.isl_math.proofs.Ring.{expand, linear}
 use Rattle.isl_math.proofs.OrderLaws.{cases_ℤ, at_most_or_above}
-use Rattle.isl_math.proofs.DivideLaws.{Divides-+ℤ, Divides-minus, Divides-*ℤ, Divides_trans, Divides-same, Divides-from_mod, mod-from_Divides, floor_split, floor_mod_bounds, IsCongruent-floor_mod}
+use Rattle.isl_math.proofs.DivideLaws.{Divides-+ℤ, Divides-minus, Divides_trans, Divides-same, Divides-from_mod, mod-from_Divides, floor_mod_bounds, IsCongruent-floor_mod}
 use Rattle.isl_elim.proofs.Lists.{all_or_any}
 use Rattle.isl_elim.specs.Shadow.{Bound, IsPositive, MeetsLower, MeetsUpper}
 use Rattle.isl_elim.proofs.ShadowLemmas.{lower_holds_on, far_above, far_below, upper_holds_on}

@@ -1,5 +1,5 @@
 -- The rows that the code makes of a pair of bounds.
-use Rattle.std.proofs.Common.{◌≡◌, ◌≢◌, ◌↔◌, ◌∙◌, refl, sym, ap, arith, ℕ, ◌-◌, ◌<◌, ◌≤◌, ℤ, pos, neg_ℤ, ◌+ℤ◌, ◌-ℤ◌, ◌*ℤ◌, ◌≤ℤ◌, ◌<ℤ◌, List, length}
+use Rattle.std.proofs.Common.{◌≡◌, ◌↔◌, ◌∙◌, sym, ap, arith, ℕ, ◌<◌, ℤ, pos, neg_ℤ, ◌+ℤ◌, ◌-ℤ◌, ◌*ℤ◌, ◌≤ℤ◌, ◌<ℤ◌, List, length}
 use Rattle.std.specs.List.{insert}
 use Rattle.isl_math.specs.Divide.{floor_div, IsGcdOf}
 use Rattle.isl_math.specs.Dot.{dot}
@@ -12,7 +12,7 @@ use Rattle.isl_piece.specs.declared.constraint.Row.{Row}
 use Rattle.isl_piece.specs.Row.{HoldsRow, HoldsValue, value_at, coef_at}
 use Rattle.isl_elim.specs.Column.{rest_at}
 use Rattle.isl_elim.specs.Combine.{combination}
-use Rattle.isl_elim.specs.Shadow.{together, slack, ceiling, IsReal, IsDark, lower_at, upper_at, IsRealRow, IsDarkRow, IsExact}
+use Rattle.isl_elim.specs.Shadow.{ceiling, lower_at, upper_at, IsRealRow, IsDarkRow, IsExact}
 use Rattle.isl_elim.specs.Sides.{IsLower, IsUpper}
 use Rattle.isl_elim.proofs.ColumnLemmas.{value_at-insert}
 use Rattle.isl_elim.proofs.CombineLemmas.{value_at-combination, coef_at-combination, combination_formed}

@@ -1,9 +1,9 @@
 -- One row for a pair of bounds: the pair divided by the greatest common divisor of its factors.
-use Rattle.std.proofs.Common.{◌≡◌, ◌↔◌, ◌∙◌, sym, ap, arith, ℤ, pos, neg_ℤ, ◌+ℤ◌, ◌-ℤ◌, ◌*ℤ◌, ◌≤ℤ◌, ◌<ℤ◌}
-use Rattle.isl_math.specs.Divide.{floor_div, Divides}
+use Rattle.std.proofs.Common.{◌≡◌, ◌↔◌, ap, arith, ℤ, pos, neg_ℤ, ◌+ℤ◌, ◌-ℤ◌, ◌*ℤ◌, ◌≤ℤ◌, ◌<ℤ◌}
+use Rattle.isl_math.specs.Divide.{floor_div}
 use Rattle.isl_math.proofs.Ring.{expand, linear}
-use Rattle.isl_math.proofs.OrderLaws.{*ℤ-≤ℤ, ≤ℤ-from_*ℤ, <ℤ-from_*ℤ}
-use Rattle.isl_math.proofs.DivideLaws.{at_most_floor, floor_split, floor_mod_bounds}
+use Rattle.isl_math.proofs.OrderLaws.{*ℤ-≤ℤ, ≤ℤ-from_*ℤ}
+use Rattle.isl_math.proofs.DivideLaws.{at_most_floor}
 use Rattle.isl_elim.specs.Shadow.{ceiling, Bound, together, slack, IsReal, IsDark}
 
 -- with a = d m and b = d n, the pair together is d times n f + m g

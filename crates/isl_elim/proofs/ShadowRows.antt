@@ -1,17 +1,15 @@
 -- Rows as bounds, and the rows that the code makes of a lower bound with all upper bounds.
-use Rattle.std.proofs.Common.{◌≡◌, ◌≢◌, ◌↔◌, ◌⊎◌, inl, inr, IsTrue, ◌∙◌, refl, sym, ap, arith, ℕ, ◌-◌, ◌<◌, ◌≤◌, ℤ, pos, negsuc, neg_ℤ, ◌+ℤ◌, ◌-ℤ◌, ◌*ℤ◌, ◌≤ℤ◌, ◌<ℤ◌, List, [], ◌∷◌, ◌++◌, append_assoc, length, get_or}
-use Rattle.std.specs.List.{All, Any, insert}
+use Rattle.std.proofs.Common.{◌≡◌, ◌≢◌, ◌↔◌, ◌⊎◌, inl, inr, ◌∙◌, sym, ap, arith, ℕ, ◌-◌, ◌<◌, ℤ, pos, negsuc, neg_ℤ, ◌+ℤ◌, ◌*ℤ◌, ◌≤ℤ◌, ◌<ℤ◌, List, [], ◌∷◌, ◌++◌, append_assoc, length, get_or}
+use Rattle.std.specs.List.{All, insert}
 use Rattle.std.proofs.lemmas.List.{append-nil}
-use Rattle.std.proofs.lemmas.List.Elements.{All-nil, All-push, All-append}
-use Rattle.isl_math.specs.Divide.{floor_div}
+use Rattle.std.proofs.lemmas.List.Elements.{All-nil, All-push}
 use Rattle.isl_math.proofs.Ring.{expand, linear}
 use Rattle.isl_math.proofs.OrderLaws.{cases_ℤ}
 use Rattle.isl_meter.specs.Gauge.{Gauge}
-use Rattle.isl_piece.specs.declared.constraint.RowKind.TheVariants.{AtLeast}
 use Rattle.isl_piece.specs.declared.constraint.Row.{Row}
-use Rattle.isl_piece.specs.Row.{HoldsRow, IsRowWithin, IsWellFormed, value_at, coef_at}
-use Rattle.isl_elim.specs.Column.{IsFree, HoldAt, rest_at}
-use Rattle.isl_elim.specs.Shadow.{Bound, MeetsLower, MeetsUpper, IsReal, IsDark, lower_at, upper_at, last_splinter, splinters, IsDarkRow, IsExact, IsShadowSoFar, IsShadowOf}
+use Rattle.isl_piece.specs.Row.{HoldsRow, IsRowWithin, value_at, coef_at}
+use Rattle.isl_elim.specs.Column.{IsFree, rest_at}
+use Rattle.isl_elim.specs.Shadow.{MeetsLower, MeetsUpper, IsDark, lower_at, upper_at, last_splinter, IsDarkRow, IsExact, IsShadowSoFar, IsShadowOf}
 use Rattle.isl_elim.specs.Sides.{IsProper, IsLower, IsUpper}
 use Rattle.isl_elim.proofs.ColumnLemmas.{value_at-insert}
 use Rattle.isl_elim.proofs.Lists.{All-last, all_or_any, Any-element}

@@ -1,10 +1,10 @@
 -- How many splinters a lower bound has, and that their number does not fall where its factor, the greatest upper factor
 -- or the modulus of a substitution rises.
-use Rattle.std.proofs.Common.{◌≡◌, ◌∙◌, sym, ap, arith, ℤ, pos, neg_ℤ, ◌+ℤ◌, ◌-ℤ◌, ◌*ℤ◌, ◌≤ℤ◌, ◌<ℤ◌}
+use Rattle.std.proofs.Common.{◌≡◌, ap, arith, ℤ, pos, neg_ℤ, ◌+ℤ◌, ◌-ℤ◌, ◌*ℤ◌, ◌≤ℤ◌, ◌<ℤ◌}
 use Rattle.isl_math.specs.Divide.{floor_div, floor_mod}
 use Rattle.isl_elim.specs.Shadow.{splinters}
 use Rattle.isl_math.proofs.Ring.{expand, linear}
-use Rattle.isl_math.proofs.OrderLaws.{*ℤ-≤ℤ, <ℤ-from_*ℤ, positive-*ℤ}
+use Rattle.isl_math.proofs.OrderLaws.{*ℤ-≤ℤ, <ℤ-from_*ℤ}
 use Rattle.isl_math.proofs.DivideLaws.{at_most_floor, floor_split, floor_mod_bounds, floor_unique}
 
 -- as Pugh counts them: (a m - a - m) / m rounded down, and one

@@ -1,8 +1,8 @@
 -- The congruence step: some whole number meets the old sides exactly where one meets the new.
-use Rattle.std.proofs.Common.{◌≡◌, ◌≢◌, ◌↔◌, ◌⊎◌, inl, inr, ◌∙◌, refl, sym, ap, subst, arith, Bool, true, false, cond, ℕ, zero, suc, ◌+◌, ◌-◌, ◌<◌, ◌≤◌, ℤ, pos, neg_ℤ, ◌+ℤ◌, ◌-ℤ◌, ◌*ℤ◌, ◌≤ℤ◌, ◌<ℤ◌, List, [], ◌∷◌, ◌++◌, length, get_or, map}
-use Rattle.std.specs.List.{All, AllZip, filter, insert}
-use Rattle.std.proofs.lemmas.List.{length-map, get_or-map}
-use Rattle.std.proofs.lemmas.List.Elements.{All-nil, All-append, All-push, All-map, All-weaker, All-filter, AllZip-get_or, filter_passes}
+use Rattle.std.proofs.Common.{◌≡◌, ◌↔◌, ◌∙◌, refl, ap, subst, arith, ℕ, ◌-◌, ◌<◌, ℤ, pos, neg_ℤ, ◌+ℤ◌, ◌-ℤ◌, ◌*ℤ◌, ◌≤ℤ◌, ◌<ℤ◌, List, ◌++◌, length, get_or, map}
+use Rattle.std.specs.List.{All, AllZip, insert}
+use Rattle.std.proofs.lemmas.List.{length-map}
+use Rattle.std.proofs.lemmas.List.Elements.{All-nil, All-append, All-push, All-map, All-weaker, All-filter, AllZip-get_or}
 use Rattle.isl_math.specs.Divide as divide
 use Rattle.isl_math.proofs.Ring.{expand, linear}
 use Rattle.isl_math.proofs.OrderLaws.{positive-*ℤ}
@@ -11,21 +11,23 @@ use Rattle.isl_meter.specs.Gauge.{Gauge}
 use Rattle.isl_piece.specs.declared.constraint.RowKind.{RowKind}
 use Rattle.isl_piece.specs.declared.constraint.RowKind.TheVariants as kind
 use Rattle.isl_piece.specs.declared.constraint.Row.{Row}
+use Rattle.isl_piece.specs.System.{HoldRows}
 use Rattle.isl_piece.specs.Row.{HoldsRow, HoldsValue, value_at, HasDivisor, IsWellFormed, IsRowWithin, coef_at}
 use Rattle.isl_elim.specs.Column.{IsFree, IsFreeKind, HoldAt, rest_at}
-use Rattle.isl_elim.specs.Congruence.{AreMergedTo, product_of_divisors}
+use Rattle.isl_elim.specs.Combine.{scaled_divisor}
+use Rattle.isl_elim.specs.Congruence.{AreMergedTo, product_of_divisors, period, product_of_periods}
 use Rattle.isl_elim.specs.Sides.{AreSided, SidesHold, IsProper, IsLower, IsUpper, IsDivides, IsApart, IsFreeRow, is_same, side_of, on_side}
 use Rattle.isl_elim.specs.Step.{within_scale, AreMovedTo, AreNarrowed, HoldTogether, IsStepOf}
 use Rattle.isl_elim.specs.Substitution.{IsProgressionOf, IsMovedBound, substituted, multiplier}
 use Rattle.isl_elim.specs.Tighten.{IsLessened}
-use Rattle.isl_elim.specs.declared.sides.Side.{Side}
-use Rattle.isl_elim.specs.declared.sides.Side.TheVariants.{Lower, Upper, Divides, Apart, Free}
+use Rattle.isl_elim.specs.declared.sides.Side.TheVariants.{Apart, Free}
 use Rattle.isl_elim.specs.declared.sides.Sides.{Sides}
 use Rattle.isl_elim.proofs.ColumnLemmas.{value_at-insert, hold_anywhere}
 use Rattle.isl_elim.proofs.CongruenceLemmas.{divides_rest}
 use Rattle.isl_elim.proofs.Lists.{All-parts, All-last, All-zipped, All-zipped_back, AllZip-with, AllZip-weaker, All-unmapped, filter_shorter, length_zipped}
-use Rattle.isl_elim.proofs.MoveLemmas.{substituted_formed, substituted_same}
-use Rattle.isl_elim.proofs.ReduceLemmas.{holds_congruence}
+use Rattle.isl_elim.proofs.MoveLemmas.{substituted_formed, substituted_coefficient, substituted_same}
+use Rattle.isl_elim.proofs.ReduceLemmas.{holds_congruence, divisor_positive}
+use Rattle.isl_elim.proofs.PeriodLemmas.{IsShorterPeriod, shorter_period, period_at, periods_filtered, periods_mapped}
 use Rattle.isl_elim.proofs.SideLemmas.{picked, sides_apart, SideMeans, free_from}
 
 -- ---- bounds
@@ -67,10 +69,35 @@ within_scale_holds columns col one scale offsets point y is w l n p =
     )
 
 -- ---- the step
+-- one congruence and other rows say what the congruences do
+pub record AreOne (g : Gauge) (columns col : ℕ) (rows : List Row) (one : Row) (others : List Row) : Type 0 where
+  pub kind : one.kind ≡ kind.Divides
+  pub width : length one.coefs ≡ columns
+  pub positive : pos 0 <ℤ one.k
+  pub within : IsRowWithin g one
+  pub small : one.k ≤ℤ product_of_divisors rows
+  pub well_formed : All (IsWellFormed columns) others
+  pub others_within : All (IsRowWithin g) others
+  pub free : All (IsFree col) others
+  pub same : (xs : List ℤ) → HoldRows rows xs ↔ (HoldsRow one xs × HoldRows others xs)
+
+pub one_from_merged : (g : Gauge) (columns col : ℕ) (rows : List Row) (one : Row) (others : List Row) → AreMergedTo g columns col rows one others → AreOne g columns col rows one others
+one_from_merged g columns col rows one others m = record {
+  kind = m.is_reduced.kind;
+  width = m.is_reduced.width;
+  positive = m.positive;
+  within = m.within;
+  small = m.small;
+  well_formed = m.well_formed;
+  others_within = m.others_within;
+  free = m.free;
+  same = m.same;
+}
+
 pub record IsStep (g : Gauge) (columns col : ℕ) (one : Row) (others : List Row) (scale : ℤ) (offsets : Row) (old new : Sides) : Type 0 where
   pub inside : col < columns
   pub sided : AreSided g columns col old
-  pub merged : AreMergedTo g columns col old.divides one others
+  pub merged : AreOne g columns col old.divides one others
   pub progression : IsProgressionOf columns col one scale offsets
   pub moved : AreMovedTo g columns col one others scale offsets old new
 
@@ -103,10 +130,10 @@ step_same g columns col one others scale offsets old new s = λ point n. (forth 
     open s use {inside, sided, merged, progression, moved}
 
     is : one.kind ≡ kind.Divides
-    is = merged.is_reduced.kind
+    is = merged.kind
 
     wide : length one.coefs ≡ columns
-    wide = merged.is_reduced.width
+    wide = merged.width
 
     lowers_same : (point : List ℤ) (x y : ℤ) → length point ≡ columns - 1 → scale *ℤ x ≡ one.k *ℤ y +ℤ rest_at offsets col point → HoldAt new.lowers col point y ↔ HoldAt old.lowers col point x
     lowers_same point x y n e = bounds_same g columns col scale one.k offsets old.lowers new.lowers point x y progression.positive progression.width inside n progression.at_column e (proper_of_lowers g columns col old.lowers sided.lowers) moved.lowers
@@ -166,7 +193,7 @@ step_same g columns col one others scale offsets old new s = λ point n. (forth 
         )
 
 -- ---- the new sides
-multiplier_is : (col : ℕ) (scale k : ℤ) (offsets : Row) → coef_at offsets col ≡ k -ℤ scale → multiplier scale offsets col ≡ k
+pub multiplier_is : (col : ℕ) (scale k : ℤ) (offsets : Row) → coef_at offsets col ≡ k -ℤ scale → multiplier scale offsets col ≡ k
 multiplier_is col scale k offsets e = by scale k (coef_at offsets col) e
   where
     by : (s k o : ℤ) → o ≡ k -ℤ s → s +ℤ o ≡ k
@@ -218,8 +245,8 @@ step_sided g columns col one others scale offsets old new s = record {
       (λ i d j. record { proper = record { formed = merged.well_formed i d j; within = merged.others_within i d j }; free = merged.free i d j }))
       sided.free)
       (record {
-        proper = record { formed = record { width = merged.is_reduced.width; divisor = divides_divisor one.kind scale merged.is_reduced.kind progression.positive }; within = record { coefs = merged.within.coefs; constant = merged.within.constant; k = moved.scale_within } };
-        free = divides_free one.kind scale (coef_at one col) merged.is_reduced.kind progression.divides_coefficient;
+        proper = record { formed = record { width = merged.width; divisor = divides_divisor one.kind scale merged.kind progression.positive }; within = record { coefs = merged.within.coefs; constant = merged.within.constant; k = moved.scale_within } };
+        free = divides_free one.kind scale (coef_at one col) merged.kind progression.divides_coefficient;
       }));
 }
   where
@@ -235,6 +262,33 @@ narrowed_list : (columns col : ℕ) (scale k : ℤ) (offsets : Row) (old new : L
 narrowed_list columns col scale k offsets old new e z =
     AllZip-weaker (IsMovedBound columns col scale offsets) (λ r s. IsLessened (k *ℤ coef_at r col) (coef_at s col)) (λ r s m. subst (λ j. IsLessened (j *ℤ coef_at r col) (coef_at s col)) (multiplier_is col scale k offsets e) m.factor) old new z
 
+pub step_narrowed : (g : Gauge) (columns col : ℕ) (one : Row) (others : List Row) (scale : ℤ) (offsets : Row) (old new : Sides) → IsStep g columns col one others scale offsets old new → AreNarrowed col one.k old new
+step_narrowed g columns col one others scale offsets old new s = record {
+  lowers = narrowed_list columns col scale one.k offsets old.lowers new.lowers s.progression.at_column s.moved.lowers;
+  uppers = narrowed_list columns col scale one.k offsets old.uppers new.uppers s.progression.at_column s.moved.uppers;
+}
+
+-- ---- periods
+pub scaled_apart : (asks : RowKind) (m k : ℤ) → asks ≡ kind.NotDivides → scaled_divisor asks m k ≡ m *ℤ k
+scaled_apart asks m k e = rw e refl
+
+-- the scale leaves the period of a row as it is, or less
+substituted_period : (g : Gauge) (columns col : ℕ) (scale k : ℤ) (offsets r : Row) → IsApart g columns col r → pos 0 <ℤ scale → divide.Divides scale k → coef_at offsets col ≡ k -ℤ scale → length offsets.coefs ≡ columns → col < columns
+    → IsShorterPeriod (period col (substituted scale offsets col r)) r.k
+substituted_period g columns col scale k offsets r a p d e w l =
+    let c : coef_at (substituted scale offsets col r) col ≡ k *ℤ coef_at r col = substituted_coefficient columns col scale offsets r a.proper.formed w l ∙ ap (λ z. z *ℤ coef_at r col) (multiplier_is col scale k offsets e) in
+    let m : (substituted scale offsets col r).k ≡ scale *ℤ r.k = scaled_apart r.kind scale r.k a.kind in
+    period_at (k *ℤ coef_at r col) (coef_at (substituted scale offsets col r) col) (scale *ℤ r.k) (substituted scale offsets col r).k r.k c m (shorter_period (coef_at r col) r.k scale k (divisor_positive r.kind r.k a.proper.formed.divisor) p d)
+
+periods_kept : (g : Gauge) (columns col : ℕ) (scale : ℤ) (offsets : Row) (rows : List Row) {k : ℤ} → All (IsApart g columns col) rows → pos 0 <ℤ scale → divide.Divides scale k → coef_at offsets col ≡ k -ℤ scale → length offsets.coefs ≡ columns → col < columns
+    → product_of_periods col (on_side Apart col (map (substituted scale offsets col) rows)) ≤ℤ product_of_divisors rows
+periods_kept g columns col scale offsets rows {k = k} h p d e w l =
+    let short : All (λ r. IsShorterPeriod (period col (substituted scale offsets col r)) r.k) rows = (λ i z j. substituted_period g columns col scale k offsets (get_or rows i z) (h i z j) p d e w l) in
+    let positive = All-map (λ r. pos 0 <ℤ period col r) (substituted scale offsets col) rows (λ i z j. (short i z j).positive) in
+    let first = periods_filtered col (λ r. is_same Apart (side_of col r)) (map (substituted scale offsets col) rows) positive in
+    let second = (periods_mapped col (substituted scale offsets col) rows short).1 in
+    omega (arith, linear)
+
 pub step_is : (g : Gauge) (columns col : ℕ) (one : Row) (others : List Row) (scale : ℤ) (offsets : Row) (old new : Sides) → IsStep g columns col one others scale offsets old new → IsStepOf g columns col old new
 step_is g columns col one others scale offsets old new s = record {
   sided = step_sided g columns col one others scale offsets old new s;
@@ -243,12 +297,10 @@ step_is g columns col one others scale offsets old new s = record {
       let e = ap (λ (rows : List Row). length rows) s.moved.apart in
       let m = length-map old.apart (substituted scale offsets col) in
       omega arith;
+  periods = rw s.moved.apart (periods_kept g columns col scale offsets old.apart s.sided.apart s.progression.positive (s.progression.divides_modulus) s.progression.at_column s.progression.width s.inside);
   same = step_same g columns col one others scale offsets old new s;
   k = one.k;
   positive = s.merged.positive;
   small = s.merged.small;
-  narrowed = record {
-    lowers = narrowed_list columns col scale one.k offsets old.lowers new.lowers s.progression.at_column s.moved.lowers;
-    uppers = narrowed_list columns col scale one.k offsets old.uppers new.uppers s.progression.at_column s.moved.uppers;
-  };
+  narrowed = step_narrowed g columns col one others scale offsets old new s;
 }

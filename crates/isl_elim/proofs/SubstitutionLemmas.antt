@@ -1,6 +1,6 @@
 -- The progression of a congruence, and rows with it in the column's place.
-use Rattle.std.proofs.Common.{◌≡◌, ◌≢◌, ◌↔◌, ◌∙◌, refl, sym, ap, ℕ, zero, suc, ◌+◌, ◌-◌, ◌<◌, ◌≤◌, arith, ℤ, pos, neg_ℤ, ◌+ℤ◌, ◌-ℤ◌, ◌*ℤ◌, ◌≤ℤ◌, ◌<ℤ◌, List, [], ◌∷◌, length, get_or, set, unsigned_abs}
-use Rattle.std.specs.List.{All, insert}
+use Rattle.std.proofs.Common.{◌≡◌, ◌↔◌, ◌∙◌, refl, sym, ap, ℕ, ◌-◌, ◌<◌, ◌≤◌, arith, ℤ, pos, neg_ℤ, ◌+ℤ◌, ◌-ℤ◌, ◌*ℤ◌, ◌≤ℤ◌, ◌<ℤ◌, List, length, get_or, set}
+use Rattle.std.specs.List.{insert}
 use Rattle.isl_math.specs.Divide as divide
 use Rattle.isl_math.specs.Divide.{floor_div, floor_mod, IsGcdOf, IsInverse, IsCongruent}
 use Rattle.isl_math.proofs.Ring.{expand, linear}

@@ -1,5 +1,5 @@
 -- What the normal forms of the real and the dark row of a pair show.
-use Rattle.std.proofs.Common.{◌≡◌, ◌↔◌, refl, sym, ap, ◌∙◌, ℤ, ◌≤ℤ◌, pos, List}
+use Rattle.std.proofs.Common.{◌≡◌, refl, ℤ, List}
 use Rattle.isl_piece.specs.declared.constraint.RowKind.{RowKind}
 use Rattle.isl_piece.specs.declared.constraint.RowKind.TheVariants.{AtLeast}
 use Rattle.isl_piece.specs.declared.constraint.Row.{Row}

@@ -1,23 +1,22 @@
 -- A bound divided by the content of its columns.
-use Rattle.std.proofs.Common.{◌≡◌, ◌≢◌, ◌↔◌, ◌∙◌, refl, sym, ap, arith, ℕ, zero, suc, ◌-◌, ◌^◌, ◌<◌, ◌≤◌, ℤ, pos, negsuc, ◌*ℤ◌, ◌≤ℤ◌, ◌<ℤ◌, List, [], ◌∷◌, length, get_or, unsigned_abs}
-use Rattle.std.specs.List.{All}
+use Rattle.std.proofs.Common.{◌≡◌, ◌≢◌, ◌∙◌, refl, sym, ap, arith, ℕ, zero, suc, ◌-◌, ◌^◌, ◌<◌, ◌≤◌, ℤ, pos, ◌<ℤ◌, List, [], ◌∷◌, length, get_or, unsigned_abs}
 use Rattle.std.proofs.lemmas.List.Elements.{All-weaker}
 use Rattle.isl_meter.specs.Gauge.{Gauge, IsWithin}
 use Rattle.isl_math.specs.Divide.{Divides, floor_div}
 use Rattle.isl_math.specs.Gcd.{content}
-use Rattle.isl_math.proofs.Ring.{expand, linear}
+use Rattle.isl_math.proofs.Ring.{linear}
 use Rattle.isl_math.proofs.OrderLaws.{<ℤ-from_*ℤ}
 use Rattle.isl_math.proofs.GcdLaws.{IsContentOf-content}
 use Rattle.isl_piece.specs.declared.constraint.RowKind.{RowKind}
 use Rattle.isl_piece.specs.declared.constraint.RowKind.TheVariants.{AtLeast}
 use Rattle.isl_piece.specs.declared.constraint.Row.{Row}
-use Rattle.isl_piece.specs.Normal.{Verdict, Always, Never, Kept, normal_row, normal_form, normal_at_least, bound}
+use Rattle.isl_piece.specs.Normal.{Kept, normal_row, normal_form, normal_at_least, bound}
 use Rattle.isl_piece.specs.Numbers.{divided}
-use Rattle.isl_piece.specs.Row.{HoldsRow, IsWellFormed, IsRowWithin, IsRowUpTo, coef_at}
+use Rattle.isl_piece.specs.Row.{IsWellFormed, IsRowWithin, IsRowUpTo, coef_at}
 use Rattle.isl_piece.proofs.NormalCases.{normal_at_least_by, content_positive}
 use Rattle.isl_piece.proofs.NumberLaws.{exact, abs-quotient}
-use Rattle.isl_piece.proofs.PointLaws.{HoldsVerdict, normal_row_holds}
-use Rattle.isl_piece.proofs.ShapeLaws.{IfKept, normal_row_well_formed, normal_row_up_to}
+use Rattle.isl_piece.proofs.PointLaws.{normal_row_holds}
+use Rattle.isl_piece.proofs.ShapeLaws.{normal_row_well_formed, normal_row_up_to}
 use Rattle.isl_elim.specs.Tighten.{IsLessened, IsTightened}
 
 lessened_quotient : (c g : ℤ) → pos 0 <ℤ g → Divides g c → IsLessened c (floor_div c g)

@@ -1,14 +1,16 @@
 -- Units used, one call after another; and numbers within a limit that stays.
-use Rattle.std.proofs.Common.{◌≡◌, refl, sym, ap, ◌∙◌, arith, ℕ, ◌+◌, ◌^◌, ◌<◌, ◌≤◌, ℤ, List, unsigned_abs}
+use Rattle.std.proofs.Common.{◌≡◌, refl, ap, arith, ℕ, zero, suc, ◌+◌, ◌*◌, ◌<◌, ◌≤◌, ℤ, pos, ◌+ℤ◌, ◌≤ℤ◌, List}
 use Rattle.std.specs.List.{All}
 use Rattle.std.proofs.lemmas.List.Elements.{All-weaker}
-use Rattle.isl_meter.specs.Gauge.{Gauge, IsWithin, IsCharged, IsCutBy}
+use Rattle.isl_math.proofs.Ring.{linear}
+use Rattle.isl_meter.specs.Gauge.{Gauge, IsWithin}
 use Rattle.isl_meter.specs.declared.Cut.{Cut}
-use Rattle.isl_meter.proofs.CutLemmas.{IsCharged_refl, IsCharged_trans, IsCharged-unit, IsCutBy-after}
+use Rattle.isl_meter.specs.declared.Cut.TheVariants.{NoMemory}
+use Rattle.isl_meter.proofs.CutLemmas.{IsCharged_refl, IsCharged_trans, IsCharged-unit, IsCutBy-after, IsCutBy-charged}
 use Rattle.isl_piece.specs.declared.constraint.Row.{Row}
 use Rattle.isl_piece.specs.Row.{IsRowWithin}
 use Rattle.isl_elim.specs.Sides.{IsProper}
-use Rattle.isl_elim.specs.Work.{IsChargedUpTo, IsCutUpTo}
+use Rattle.isl_elim.specs.Work.{IsChargedUpTo, IsCutUpTo, IsChargedBy, IsCutAfter}
 
 pub charged_same : (g h : Gauge) → h ≡ g → IsChargedUpTo 0 g h
 charged_same g h e = record { charged = IsCharged_refl g h e; most = let u = ap (λ (x : Gauge). x.units) e in omega arith }
@@ -56,3 +58,58 @@ rows_within_kept g h rows e w = All-weaker (IsRowWithin h) (IsRowWithin g) (λ r
 
 pub proper_kept : (g h : Gauge) (columns : ℕ) (r : Row) → h.bits ≡ g.bits → IsProper h columns r → IsProper g columns r
 proper_kept g h columns r e p = record { formed = p.formed; within = row_within_kept g h r e p.within }
+
+-- ---- units as whole numbers
+pub charged_by : (n : ℕ) (g h : Gauge) → IsChargedUpTo n g h → IsChargedBy (pos n) g h
+charged_by n g h p = record { charged = p.charged; most = let m = p.most in omega (arith, linear) }
+
+pub cut_by : (n : ℕ) (g h : Gauge) (cut : Cut) → IsCutUpTo n g h cut → IsCutAfter (pos n) g h cut
+cut_by n g h cut p = record { by = p.by; most = let m = p.most in omega (arith, linear) }
+
+pub charged_by_more : (m n : ℤ) (g h k : Gauge) → IsChargedBy m g h → IsChargedBy n h k → IsChargedBy (m +ℤ n) g k
+charged_by_more m n g h k p q = record { charged = IsCharged_trans g h k p.charged q.charged; most = let a = p.most in let b = q.most in omega (arith, linear) }
+
+pub charged_by_weaker : (m n : ℤ) (g h : Gauge) → m ≤ℤ n → IsChargedBy m g h → IsChargedBy n g h
+charged_by_weaker m n g h l p = record { charged = p.charged; most = let a = p.most in omega (arith, linear) }
+
+pub cut_after_by : (m n : ℤ) (g h k : Gauge) (cut : Cut) → IsChargedBy m g h → IsCutAfter n h k cut → IsCutAfter (m +ℤ n) g k cut
+cut_after_by m n g h k cut p q = record { by = IsCutBy-after g h k cut p.charged q.by; most = let a = p.most in let b = q.most in omega (arith, linear) }
+
+pub cut_after_weaker : (m n : ℤ) (g h : Gauge) (cut : Cut) → m ≤ℤ n → IsCutAfter m g h cut → IsCutAfter n g h cut
+cut_after_weaker m n g h cut l p = record { by = p.by; most = let a = p.most in omega (arith, linear) }
+
+pub charged_by_bits : (z : ℤ) (g h : Gauge) → IsChargedBy z g h → h.bits ≡ g.bits
+charged_by_bits z g h p = ap (λ (x : Gauge). x.bits) p.charged.same
+
+-- ---- turns of a loop, each with at most u units
+turns : (i l u : ℕ) → i < l → (i * u + u) ≤ (l * u)
+turns i zero u h = absurd (omega arith)
+turns zero (suc l) u h = omega arith
+turns (suc i) (suc l) u h = let r = turns i l u (omega arith) in omega arith
+
+pub charged_turn : (i u : ℕ) (g h k : Gauge) → IsChargedUpTo (i * u) g h → IsChargedUpTo u h k → IsChargedUpTo ((i + 1) * u) g k
+charged_turn i u g h k p q = charged_weaker (i * u + u) ((i + 1) * u) g k (turns i (i + 1) u (omega arith)) (charged_more (i * u) u g h k p q)
+
+pub charged_none : (u : ℕ) (g : Gauge) → IsChargedUpTo (0 * u) g g
+charged_none u g = record { charged = IsCharged_refl g g refl; most = omega arith }
+
+pub cut_turn : (i l u : ℕ) (g h k : Gauge) (cut : Cut) → i < l → IsChargedUpTo (i * u) g h → IsCutUpTo u h k cut → IsCutUpTo (l * u) g k cut
+cut_turn i l u g h k cut n p q = cut_weaker (i * u + u) (l * u) g k cut (turns i l u n) (cut_after (i * u) u g h k cut p q)
+
+-- cut after the turn's units
+pub cut_late : (i l u : ℕ) (g h k m : Gauge) (cut : Cut) → i < l → IsChargedUpTo (i * u) g h → IsChargedUpTo u h k → IsCutUpTo 0 k m cut → IsCutUpTo (l * u) g m cut
+cut_late i l u g h k m cut n p q r = cut_turn i l u g h m cut n p (cut_weaker (u + 0) u h m cut (omega arith) (cut_after u 0 h k m cut q r))
+
+pub no_memory : (g h : Gauge) → h ≡ g → IsCutUpTo 0 g h NoMemory
+no_memory g h e = record { by = IsCutBy-charged g h (IsCharged_refl g h e); most = let u = ap (λ (x : Gauge). x.units) e in omega arith }
+
+-- ---- cuts on the way
+pub memory_after : (z : ℤ) (g h : Gauge) → pos 0 ≤ℤ z → h ≡ g → IsCutAfter z g h NoMemory
+memory_after z g h n e = cut_after_weaker (pos 0) z g h NoMemory n (cut_by 0 g h NoMemory (no_memory g h e))
+
+-- cut where at most z units were to be used, after y of them and then at most x
+pub cut_within : (x y z : ℤ) (g h k : Gauge) (cut : Cut) → (y +ℤ x) ≤ℤ z → IsChargedBy y g h → IsCutAfter x h k cut → IsCutAfter z g k cut
+cut_within x y z g h k cut l p q = cut_after_weaker (y +ℤ x) z g k cut l (cut_after_by y x g h k cut p q)
+
+pub charged_within : (x y z : ℤ) (g h k : Gauge) → (y +ℤ x) ≤ℤ z → IsChargedBy y g h → IsChargedBy x h k → IsChargedBy z g k
+charged_within x y z g h k l p q = charged_by_weaker (y +ℤ x) z g k l (charged_by_more y x g h k p q)

@@ -1,5 +1,5 @@
 -- Rows and systems without one column.
-use Rattle.std.specs.Prelude.{◌≡◌, ◌↔◌, ℕ, ◌+◌, ℤ, pos, ◌+ℤ◌, List, length, All, Any, MatchOption, Option}
+use Rattle.std.specs.Prelude.{◌≡◌, ◌↔◌, ℕ, ℤ, pos, ◌+ℤ◌, List, length, All, MatchOption, Option}
 use Rattle.std.specs.List.{insert, remove}
 use Rattle.isl_math.specs.Divide as divide
 use Rattle.isl_math.specs.Dot.{dot}

@@ -1,6 +1,7 @@
 -- Congruences on one column, made one.
 use Rattle.std.specs.Prelude.{◌≡◌, ◌↔◌, ℕ, ℤ, pos, ◌*ℤ◌, ◌≤ℤ◌, ◌<ℤ◌, List, [], ◌∷◌, All, length}
-use Rattle.isl_math.specs.Divide.{floor_mod}
+use Rattle.isl_math.specs.Divide.{floor_div, floor_mod}
+use Rattle.isl_math.specs.Gcd.{gcd_of}
 use Rattle.isl_piece.specs.Numbers.{reduced}
 use Rattle.isl_piece.specs.declared.constraint.RowKind.TheVariants.{Divides}
 use Rattle.isl_piece.specs.declared.constraint.Row.{Row}
@@ -41,6 +42,14 @@ pub record AreMerged (columns col : ℕ) (k : ℤ) (p q first second : Row) : Ty
 abbrev pub product_of_divisors : List Row → ℤ
 product_of_divisors [] = pos 1
 product_of_divisors (r ∷ rows) = r.k *ℤ product_of_divisors rows
+
+-- the period of a congruence in the column: its divisor without what it has in common with the coefficient
+abbrev pub period : ℕ → Row → ℤ
+period col r = floor_div r.k (gcd_of (coef_at r col) r.k)
+
+abbrev pub product_of_periods : ℕ → List Row → ℤ
+product_of_periods col [] = pos 1
+product_of_periods col (r ∷ rows) = period col r *ℤ product_of_periods col rows
 
 -- a congruence says the same as another, with its numbers remainders by k
 pub record IsScaledTo (columns : ℕ) (k : ℤ) (r scaled : Row) : Type 0 where

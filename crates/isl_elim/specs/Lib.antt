@@ -1,10 +1,16 @@
+pub mod Adds
+pub mod Branch
 pub mod Column
 pub mod Combine
 pub mod Congruence
+pub mod Elimination
 pub mod Equality
+pub mod Residue
 pub mod Shadow
 pub mod Sides
 pub mod Step
 pub mod Substitution
 pub mod Tighten
+pub mod Together
+pub mod Units
 pub mod Work

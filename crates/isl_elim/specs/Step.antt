@@ -4,7 +4,7 @@ use Rattle.std.specs.List.{AllZip}
 use Rattle.isl_meter.specs.Gauge.{Gauge, IsWithin}
 use Rattle.isl_piece.specs.declared.constraint.Row.{Row}
 use Rattle.isl_piece.specs.Row.{IsRowWithin, coef_at}
-use Rattle.isl_elim.specs.Congruence.{product_of_divisors}
+use Rattle.isl_elim.specs.Congruence.{product_of_divisors, product_of_periods}
 use Rattle.isl_elim.specs.Sides.{AreSided, SidesHold, on_side}
 use Rattle.isl_elim.specs.Substitution.{substituted, IsMovedBound}
 use Rattle.isl_elim.specs.Tighten.{IsLessened}
@@ -42,6 +42,7 @@ pub record IsStepOf (g : Gauge) (columns col : ℕ) (old new : Sides) : Type 0 w
   pub sided : AreSided g columns col new
   pub divides : new.divides ≡ []
   pub apart : length new.apart ≤ length old.apart
+  pub periods : product_of_periods col new.apart ≤ℤ product_of_divisors old.apart
   pub same : HoldTogether columns col old new
   pub k : ℤ
   pub positive : pos 0 <ℤ k

@@ -87,7 +87,7 @@ fn real_row(
 }
 
 // The row with its constant less `by`.
-fn lowered(alloc: Global, row: &Row, by: Int, meter: &mut Meter) -> Result<Row, Cut>
+pub(crate) fn lowered(alloc: Global, row: &Row, by: Int, meter: &mut Meter) -> Result<Row, Cut>
     requires within { IsRowWithin meter.old row.now }
     ensures { MatchResult result
         (λ low. (low ≡ record row.now { constant = row.now.constant -ℤ by }) × IsRowWithin meter.old low × (meter.new ≡ meter.old))

@@ -1,9 +1,9 @@
 // The dark shadow of bounds on a column, and what it leaves out.
 
-ghost use Rattle.std.specs.Prelude.{◌≡◌, ◌≢◌, ◌⊎◌, ◌<◌, ◌++◌, pos, negsuc, ◌<ℤ◌, ◌≤ℤ◌, ℤ, IsTrue, length, All, MatchResult};
+ghost use Rattle.std.specs.Prelude.{◌≡◌, ◌≢◌, ◌⊎◌, ◌<◌, ◌++◌, pos, negsuc, ◌<ℤ◌, ◌≤ℤ◌, ◌+ℤ◌, ℤ, ◌*◌, IsTrue, length, All, MatchResult};
 ghost use Rattle.isl_meter.specs.Gauge.{IsWithin};
 ghost use Rattle.isl_piece.specs.Row.{coef_at};
-ghost use Rattle.isl_elim.specs.Shadow.{last_splinter, IsShadowOf};
+ghost use Rattle.isl_elim.specs.Shadow.{last_splinter, extra, IsShadowOf, HasTail, IsShadow};
 ghost use Rattle.isl_elim.specs.Sides.{IsLower, IsUpper};
 ghost use Rattle.isl_elim.specs.Work.{IsChargedUpTo, IsCutUpTo};
 
@@ -11,6 +11,13 @@ use crate::pair::Pair;
 use isl_meter::{Cut, Int, Meter, Overflow};
 use isl_piece::{Row, Rows};
 use std::alloc::Global;
+
+/// A lower bound, whose values from 0 to `last` are splinters: systems of their own.
+#[derive(Drop)]
+pub(crate) struct Tail {
+    pub lower: Row,
+    pub last: Int,
+}
 
 // The greatest upper factor of a pair that is not exact.
 fn widest(greatest: Int, factor: Int, exact: bool) -> Int
@@ -68,4 +75,75 @@ fn shadow_of(
     }
     let last = last_value(lower.coefs.get(col), greatest, meter)?;
     Ok(last)
+}
+
+// The last value of a tail: further by the factor where a row must not be divided.
+fn tail_value(last: Int, factor: Int, neighbours: bool, meter: &mut Meter) -> Result<Int, Overflow>
+    requires within { IsWithin meter.old last }
+    ensures { MatchResult result
+        (λ value. (value ≡ last +ℤ extra neighbours factor) × IsWithin meter.old value × (meter.new ≡ meter.old))
+        (λ _. IsCutUpTo 0 meter.old meter.new Cut.Overflow) }
+{
+    if neighbours {
+        last.add(factor, meter)
+    } else {
+        Ok(last)
+    }
+}
+
+// Pushes the dark rows of a lower bound, and answers its tail.
+fn tail_of(
+    alloc: Global,
+    lower: &Row,
+    uppers: &[Row],
+    neighbours: bool,
+    columns: usize,
+    col: usize,
+    rows: &mut Rows,
+    meter: &mut Meter,
+) -> Result<Tail, Cut>
+    requires lower { IsLower meter.old columns col lower.now }
+    requires uppers { All (IsUpper meter.old columns col) uppers.now }
+    requires col_in { col < columns }
+    ensures { MatchResult result
+        (λ tail. HasTail meter.old columns col neighbours lower.now uppers.now rows.old rows.new tail
+        × IsChargedUpTo (length uppers.now) meter.old meter.new)
+        (λ cut. IsCutUpTo (length uppers.now) meter.old meter.new cut) }
+{
+    let last = shadow_of(alloc, lower, uppers, columns, col, rows, meter)?;
+    let last = tail_value(last, lower.coefs.get(col), neighbours, meter)?;
+    Ok(Tail {
+        lower: lower.copy(alloc)?,
+        last,
+    })
+}
+
+/// The dark rows of all pairs, and a tail for each lower bound. With `neighbours` the tails go further by the
+/// bound's factor.
+pub(crate) fn shadow(
+    alloc: Global,
+    lowers: &[Row],
+    uppers: &[Row],
+    neighbours: bool,
+    columns: usize,
+    col: usize,
+    meter: &mut Meter,
+) -> Result<(Rows, Vec<Tail>), Cut>
+    requires lowers { All (IsLower meter.old columns col) lowers.now }
+    requires uppers { All (IsUpper meter.old columns col) uppers.now }
+    requires col_in { col < columns }
+    ensures { MatchResult result
+        (λ pair. IsShadow meter.old columns col neighbours lowers.now uppers.now pair.0 pair.1.items
+        × IsChargedUpTo (length lowers.now * length uppers.now) meter.old meter.new)
+        (λ cut. IsCutUpTo (length lowers.now * length uppers.now) meter.old meter.new cut) }
+{
+    let mut rows = Rows::new(alloc);
+    let mut tails = Vec::new(alloc);
+    for lower in lowers {
+        let tail = tail_of(
+            alloc, lower, uppers, neighbours, columns, col, &mut rows, meter,
+        )?;
+        tails.push(tail)?;
+    }
+    Ok((rows, tails))
 }

@@ -12,12 +12,12 @@ use crate::congruence::merged;
 use crate::sides::{Side, Sides};
 use crate::substitution::Substitution;
 use isl_meter::{Cut, Int, Meter};
-use isl_piece::{Row, Rows};
+use isl_piece::{Coefs, Row, RowKind, Rows};
 use std::alloc::{AllocError, Global};
 
 /// The congruences on a column as one, what they say of the other columns, and the numbers that they allow.
 #[derive(Drop)]
-struct Progression {
+pub(crate) struct Progression {
     one: Row,
     others: Rows,
     substitution: Substitution,
@@ -26,6 +26,7 @@ struct Progression {
 impl Progression {
     ghost use Rattle.isl_elim.specs.Congruence.{AreMergedTo};
     ghost use Rattle.isl_elim.specs.Sides.{IsDivides, AreSided, on_side};
+    ghost use Rattle.isl_elim.specs.Residue.{residue_row};
     ghost use Rattle.isl_elim.specs.Step.{within_scale, AreMovedTo};
     ghost use Rattle.isl_elim.specs.Substitution.{IsProgressionOf};
 
@@ -50,6 +51,37 @@ impl Progression {
         Ok(Progression {
             one,
             others,
+            substitution,
+        })
+    }
+
+    /// The numbers that leave `rest` when divided by `k`.
+    pub fn of_residue(
+        alloc: Global,
+        k: Int,
+        rest: Int,
+        columns: usize,
+        col: usize,
+        meter: &mut Meter,
+    ) -> Result<Self, Cut>
+        requires positive { pos 0 <ℤ k }
+        requires k_within { IsWithin meter.old k }
+        requires rest_within { IsWithin meter.old rest }
+        requires col_in { col < columns }
+        ensures { MatchResult result
+            (λ p. (p.one ≡ residue_row columns col k rest) × (p.others ≡ [])
+            × IsRowWithin meter.old p.one
+            × IsProgressionOf columns col p.one p.substitution.scale p.substitution.offsets
+            × IsWithin meter.old p.substitution.scale × IsRowWithin meter.old p.substitution.offsets × (meter.new ≡ meter.old))
+            (λ cut. IsCutUpTo 0 meter.old meter.new cut) }
+    {
+        let mut coefs = Coefs::zeros(alloc, columns)?;
+        coefs.set(col, Int::ONE);
+        let one = Row::new(RowKind::Divides, coefs, rest.neg(meter), k);
+        let substitution = Substitution::of(alloc, &one, columns, col, meter)?;
+        Ok(Progression {
+            one,
+            others: Rows::new(alloc),
             substitution,
         })
     }
@@ -91,8 +123,8 @@ impl Progression {
         Ok(rows)
     }
 
-    // The sides with the progression in the column's place.
-    fn put(
+    /// The sides with the progression in the column's place.
+    pub fn put(
         &self,
         alloc: Global,
         sides: &Sides,

@@ -13,3 +13,4 @@ pub mod PieceLaws
 pub mod PlaceLaws
 pub mod PlainLaws
 pub mod TermLaws
+pub mod ValueLaws

@@ -4,4 +4,5 @@ pub mod Placed
 pub mod Places
 pub mod Points
 pub mod Rows
+pub mod Value
 pub mod Width

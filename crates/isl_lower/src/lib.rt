@@ -10,7 +10,9 @@ mod plain;
 mod rows;
 #[cfg(test)]
 mod tests;
+mod value;
 
 pub use known::is_known;
 pub use lowered::rows_written;
 pub use plain::{is_plain, is_plain_piece};
+pub use value::lower;

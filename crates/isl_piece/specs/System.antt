@@ -1,4 +1,4 @@
--- What a system says of a point.
+-- What a system says of a point: the conjunction of its rows. (isl manual, on basic sets)
 use Rattle.std.specs.Prelude.{List, ℤ, All}
 use Rattle.isl_meter.specs.Gauge.{Gauge}
 use Rattle.isl_piece.specs.declared.constraint.Row.{Row}

@@ -8,3 +8,5 @@ pub mod Along
 pub mod LiteralLaws
 pub mod Counting
 pub mod BoundLaws
+pub mod LimitLaws
+pub mod ReadLaws

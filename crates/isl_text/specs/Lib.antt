@@ -4,3 +4,6 @@ pub mod LiteralGrammar
 pub mod Formed
 pub mod Literal
 pub mod Bound
+pub mod Limits
+pub mod Refusal
+pub mod Read

@@ -3,6 +3,11 @@
 
 pub mod bound;
 pub mod formed;
+pub mod limits;
 pub mod literal;
 pub mod piece;
+pub mod read;
+pub mod refusal;
+#[cfg(test)]
+mod tests;
 pub mod tuple;

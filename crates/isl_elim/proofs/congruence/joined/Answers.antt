@@ -1,7 +1,7 @@
-use Rattle.std.proofs.Common.{◌≡◌, ◌∙◌, sym, pos, ◌<ℤ◌, ◌*ℤ◌, arith}
+use Rattle.std.proofs.Common.{◌∙◌, sym, pos, ◌<ℤ◌, ◌*ℤ◌, arith}
 use Rattle.isl_meter.specs.Gauge.{IsWithin}
-use Rattle.isl_elim.specs.Congruence.{IsScaledTo, AreMerged, IsReducedCongruence}
-use Rattle.isl_elim.proofs.ReduceLemmas.{CommonParts, common_parts, divisor_positive, reduced_at, reduced_within, joined_is}
+use Rattle.isl_elim.specs.Congruence.{IsScaledTo, AreMerged}
+use Rattle.isl_elim.proofs.ReduceLemmas.{common_parts, divisor_positive, reduced_at, reduced_within, joined_is}
 use Rattle.isl_elim.proofs.congruence.joined.Goals as goal
 
 pub scaled_copy-requires-clause-m_positive : goal.scaled_copy-requires-clause-m_positive

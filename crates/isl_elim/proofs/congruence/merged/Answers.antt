@@ -1,10 +1,10 @@
-use Rattle.std.proofs.Common.{◌≡◌, ◌+◌, ◌<◌, ◌++◌, ◌∷◌, [], length, get_or, take, refl, sym, ◌∙◌, ap, arith}
+use Rattle.std.proofs.Common.{◌≡◌, ◌+◌, ◌<◌, ◌++◌, ◌∷◌, [], length, take, refl, sym, ◌∙◌, ap, arith}
 use Rattle.std.proofs.lemmas.Grind.{common_steps}
 use Rattle.std.proofs.lemmas.List.{take_more}
 use Rattle.isl_piece.specs.declared.constraint.Row.{Row}
 use Rattle.isl_piece.specs.declared.constraint.RowKind.TheVariants.{Divides}
 use Rattle.isl_piece.specs.Row.{IsWellFormed, IsRowWithin}
-use Rattle.isl_elim.specs.Congruence.{reduced_row, AreJoined, AreMergedTo}
+use Rattle.isl_elim.specs.Congruence.{reduced_row, AreJoined}
 use Rattle.isl_elim.proofs.MergeLemmas.{take_one, merged_first, merged_more}
 use Rattle.isl_elim.proofs.congruence.merged.Goals as goal
 

@@ -1,4 +1,4 @@
-use Rattle.std.proofs.Common.{◌≡◌, pos, ◌*ℤ◌, arith}
+use Rattle.std.proofs.Common.{◌≡◌, pos, arith}
 use Rattle.isl_elim.specs.Combine.{combination}
 use Rattle.isl_elim.specs.Congruence.{reduced_row}
 use Rattle.isl_elim.proofs.ReduceLemmas.{scaled_positive, scaled_row}

@@ -1,5 +1,4 @@
-use Rattle.std.proofs.Common.{◌≡◌, arith, map, refl}
-use Rattle.isl_piece.specs.declared.constraint.Row.{Row}
+use Rattle.std.proofs.Common.{◌≡◌, arith, map}
 use Rattle.isl_elim.specs.Column.{dropped}
 use Rattle.isl_elim.proofs.ColumnLemmas.{short_within, settled_is}
 use Rattle.isl_elim.proofs.rows.settled.Goals as goal

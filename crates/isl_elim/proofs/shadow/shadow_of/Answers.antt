@@ -1,6 +1,6 @@
-use Rattle.std.proofs.Common.{◌≡◌, ◌+◌, ◌<◌, ◌++◌, ◌∷◌, [], length, get_or, take, refl, sym, ◌∙◌, ap, IsTrue, arith}
+use Rattle.std.proofs.Common.{◌≡◌, ◌+◌, ◌<◌, ◌++◌, ◌∷◌, [], length, take, refl, sym, ◌∙◌, ap, IsTrue, arith}
 use Rattle.std.proofs.lemmas.Grind.{common_steps}
-use Rattle.std.proofs.lemmas.List.{take_more, take_all}
+use Rattle.std.proofs.lemmas.List.{take_more}
 use Rattle.isl_piece.specs.declared.constraint.Row.{Row}
 use Rattle.isl_piece.specs.Row.{IsRowWithin}
 use Rattle.isl_elim.specs.Shadow.{IsDarkRow, IsExact, IsShadowSoFar}

@@ -1,4 +1,4 @@
-use Rattle.std.proofs.Common.{◌≡◌, take}
+use Rattle.std.proofs.Common.{take}
 use Rattle.isl_elim.specs.Shadow.{IsShadowSoFar}
 use Rattle.isl_elim.specs.Work.{IsChargedUpTo}
 use Rattle.isl_elim.proofs.shadow.shadow_of.Given as goal

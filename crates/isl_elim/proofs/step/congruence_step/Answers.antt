@@ -2,7 +2,7 @@ use Rattle.std.proofs.Common.{arith}
 use Rattle.isl_elim.specs.Congruence.{AreMergedTo}
 use Rattle.isl_elim.specs.Step.{AreMovedTo}
 use Rattle.isl_elim.specs.Substitution.{IsProgressionOf}
-use Rattle.isl_elim.proofs.StepLemmas.{step_is}
+use Rattle.isl_elim.proofs.StepLemmas.{one_from_merged, step_is}
 use Rattle.isl_elim.proofs.step.congruence_step.Goals as goal
 
 pub returns : goal.returns
@@ -14,6 +14,6 @@ returns c =
     let progression : IsProgressionOf c.args.columns c.args.col p.one s.scale s.offsets = grind arith in
     let moved : AreMovedTo c.args.meter.now c.args.columns c.args.col p.one p.others s.scale s.offsets sides c.in_ok-new.new = grind arith in (
       step_is c.args.meter.now c.args.columns c.args.col p.one p.others s.scale s.offsets sides c.in_ok-new.new
-          (record { inside = c.requires.col_in; sided = c.requires.sided; merged = merged; progression = progression; moved = moved }),
+          (record { inside = c.requires.col_in; sided = c.requires.sided; merged = one_from_merged c.args.meter.now c.args.columns c.args.col sides.divides p.one p.others merged; progression = progression; moved = moved }),
       grind arith,
     )

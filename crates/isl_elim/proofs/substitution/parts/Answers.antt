@@ -1,4 +1,3 @@
-use Rattle.std.proofs.Common.{arith}
 use Rattle.isl_elim.proofs.SubstitutionLemmas.{coprime_parts, progression_parts}
 use Rattle.isl_elim.proofs.substitution.parts.Goals as goal
 

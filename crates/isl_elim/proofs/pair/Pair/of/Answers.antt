@@ -1,5 +1,4 @@
 use Rattle.std.proofs.Common.{◌≡◌, pos, neg_ℤ, ◌-ℤ◌, ◌*ℤ◌, List, ℤ, IsTrue, arith}
-use Rattle.isl_piece.specs.declared.constraint.Row.{Row}
 use Rattle.isl_piece.specs.Row.{HoldsRow, coef_at}
 use Rattle.isl_elim.specs.Shadow.{ceiling, IsRealRow, IsDarkRow}
 use Rattle.isl_elim.proofs.PairLemmas.{dark_row_is, exact_is}

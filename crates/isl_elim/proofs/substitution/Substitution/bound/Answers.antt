@@ -1,5 +1,4 @@
 use Rattle.std.proofs.Common.{◌≡◌, arith}
-use Rattle.isl_piece.specs.Row.{IsRowWithin}
 use Rattle.isl_elim.specs.Substitution.{substituted}
 use Rattle.isl_elim.specs.Tighten.{IsTightened}
 use Rattle.isl_elim.proofs.MoveLemmas.{substituted_formed, moved_bound}

@@ -1,4 +1,4 @@
-use Rattle.std.proofs.Common.{◌≡◌, ◌<◌, ◌-ℤ◌, length, set, arith}
+use Rattle.std.proofs.Common.{◌≡◌, ◌-ℤ◌, set, arith}
 use Rattle.isl_meter.specs.Gauge.{IsWithin}
 use Rattle.isl_piece.specs.Row.{IsRowWithin, coef_at}
 use Rattle.isl_elim.specs.Substitution.{AreProgressionParts, offsets_of}

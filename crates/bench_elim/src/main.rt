@@ -1,0 +1,76 @@
+//! Takes a column out of a system again and again, to be timed: `bench_elim KIND COUNT`, where KIND is `stencil` or `skewed`. It prints
+//! how many systems were answered in all.
+#![tactic(auto)]
+
+mod systems;
+
+use isl_elim::eliminate;
+use isl_meter::{Cut, Meter};
+use isl_piece::System;
+use std::alloc::{AllocError, AllocGlobal, Global};
+use std::env;
+use std::env::Env;
+use std::process::ExitCode;
+use systems::{is_proper, skewed, stencil};
+
+// The words of the command line, but for the program's name.
+fn words_of(rt: &(impl Env + AllocGlobal), alloc: Global) -> Result<Vec<String>, AllocError> {
+    match env::args(rt) {
+        Ok(words) => words.skip(1).collect(alloc),
+        Err(_) => Ok(Vec::new(alloc)),
+    }
+}
+
+// How many systems are answered in `count` turns.
+fn answered(
+    alloc: Global,
+    system: &System,
+    col: usize,
+    count: u64,
+    meter: &mut Meter,
+) -> Result<u64, Cut> {
+    let mut systems: u64 = 0;
+    for _turn in 0..count {
+        if col < system.columns && is_proper(system, meter) {
+            meter.start();
+            let found = eliminate(alloc, system, col, meter)?;
+            systems = systems.saturating_add(found.len() as u64);
+        }
+    }
+    Ok(systems)
+}
+
+// The system of a kind, and the column that is taken out of it.
+fn system_of(alloc: Global, kind: &str) -> Result<(System, usize), AllocError> {
+    if kind == "stencil" {
+        Ok((stencil(alloc)?, 3))
+    } else {
+        Ok((skewed(alloc)?, 0))
+    }
+}
+
+fn timed(alloc: Global, kind: &str, count: u64) -> Result<u64, Cut> {
+    let (system, col) = system_of(alloc, kind)?;
+    let mut meter = Meter::new(127, 10_000_000);
+    answered(alloc, &system, col, count, &mut meter)
+}
+
+fn main(rt: HostRuntime) -> ExitCode {
+    let alloc = rt.alloc();
+    let Ok(words) = words_of(&rt, alloc) else {
+        return ExitCode::FAILURE;
+    };
+    let [kind, count] = words.as_slice() else {
+        return ExitCode::FAILURE;
+    };
+    let Ok(count) = count.parse::<u64>() else {
+        return ExitCode::FAILURE;
+    };
+    match timed(alloc, kind, count) {
+        Ok(systems) => match println!(rt; "{systems}") {
+            Ok(()) => ExitCode::SUCCESS,
+            Err(_) => ExitCode::FAILURE,
+        },
+        Err(_) => ExitCode::FAILURE,
+    }
+}

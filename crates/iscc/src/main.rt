@@ -1,0 +1,43 @@
+//! The calculator over the standard streams.
+#![tactic(auto)]
+
+use isl_io::{StdSink, StdSource};
+use isl_session::{Fault, Refusal, run, write_fault};
+use std::alloc::{AllocError, AllocGlobal, Global};
+use std::env;
+use std::env::Env;
+use std::io::ErrorKind;
+use std::process::ExitCode;
+
+// The words of the command line, the program's name first. Where they are no text there are none, which is refused.
+fn words_of(rt: &(impl Env + AllocGlobal), alloc: Global) -> Result<Vec<String>, AllocError> {
+    match env::args(rt) {
+        Ok(words) => words.collect(alloc),
+        Err(error) if error.kind() == ErrorKind::OutOfMemory => Err(AllocError),
+        Err(_) => Ok(Vec::new(alloc)),
+    }
+}
+
+fn main(rt: HostRuntime) -> ExitCode {
+    let alloc = rt.alloc();
+    let mut src = StdSource::new(rt.stdin());
+    let mut out = StdSink::new(rt.stdout());
+    let mut err = StdSink::new(rt.stderr());
+    match words_of(&rt, alloc) {
+        Ok(words) => {
+            let status = run(alloc, &words, &mut src, &mut out, &mut err);
+            ExitCode::from(status.code())
+        }
+        Err(AllocError) => {
+            let refusal = Refusal::NoMemory;
+            let _ = write_fault(
+                &mut err,
+                Fault {
+                    statement: 1,
+                    refusal,
+                },
+            );
+            ExitCode::from(refusal.code())
+        }
+    }
+}

@@ -1,0 +1,115 @@
+-- One column out of a system: what was pushed is its projection.
+use Rattle.std.proofs.Common.{◌≡◌, ◌≢◌, ◌↔◌, Option, Some, None, ◌∙◌, ap, arith, ℕ, ◌-◌, ◌<◌, ◌++◌, ℤ, pos, ◌≤ℤ◌, ◌<ℤ◌, List, [], ◌∷◌, length, get_or, take, ◌+◌, MatchOption}
+use Rattle.std.specs.List.{All, insert}
+use Rattle.std.proofs.lemmas.List.Elements.{All-head, All-tail, All-more}
+use Rattle.isl_math.proofs.Ring.{linear}
+use Rattle.isl_math.proofs.OrderLaws.{positive-*ℤ}
+use Rattle.isl_meter.specs.Gauge.{Gauge}
+use Rattle.isl_piece.specs.declared.constraint.RowKind.{RowKind}
+use Rattle.isl_piece.specs.declared.constraint.RowKind.TheVariants as kind
+use Rattle.isl_piece.specs.declared.constraint.Row.{Row}
+use Rattle.isl_piece.specs.declared.conjunction.System.{System}
+use Rattle.isl_piece.specs.Row.{HoldsRow, value_at, coef_at}
+use Rattle.isl_piece.specs.System.{IsSystemWithin}
+use Rattle.isl_elim.specs.Adds.{Adds}
+use Rattle.isl_elim.specs.Congruence.{product_of_divisors, period, product_of_periods}
+use Rattle.isl_elim.specs.Elimination.{HoldsAtSome, IsProjection, HasNoEquality, IsEqualityAt}
+use Rattle.isl_elim.specs.Equality.{IsSolvedBy}
+use Rattle.isl_elim.specs.Residue.{HasNumber, sides_units}
+use Rattle.isl_elim.specs.Sides.{IsProper, IsLower, IsUpper, IsApart, AreSidesOf, AreSided, on_side}
+use Rattle.isl_elim.specs.Step.{IsStepOf}
+use Rattle.isl_elim.specs.Units.{HasEquality, product_of_moduli, elimination_units}
+use Rattle.isl_elim.specs.declared.sides.Side.TheVariants.{Lower, Upper}
+use Rattle.isl_elim.specs.declared.sides.Sides.{Sides}
+use Rattle.isl_elim.proofs.AddsLemmas.{adds_same}
+use Rattle.isl_elim.proofs.PeriodLemmas.{period_short, product_le}
+use Rattle.isl_elim.proofs.ReduceLemmas.{divisor_positive}
+use Rattle.isl_elim.proofs.SideLemmas.{sides_hold, picked}
+use Rattle.isl_elim.proofs.UnitLemmas.{AreProducts, units_not_negative, same_lessened, moduli_products, step_cost}
+
+-- ---- no congruence: the step leaves the sides as they are
+own_periods : (g : Gauge) (columns col : ℕ) (rows : List Row) → All (IsApart g columns col) rows → (pos 0 <ℤ product_of_periods col rows) × (product_of_periods col rows ≤ℤ product_of_divisors rows)
+own_periods g columns col [] h = (omega (arith, linear), omega (arith, linear))
+own_periods g columns col (r ∷ rows) h =
+    let rest = own_periods g columns col rows (All-tail (IsApart g columns col) r rows h) in
+    let k = divisor_positive r.kind r.k (All-head (IsApart g columns col) r rows h).proper.formed.divisor in
+    let p = period_short (coef_at r col) r.k k in
+    let a = rest.0 in (
+      positive-*ℤ (period col r) (product_of_periods col rows) p.positive a,
+      product_le (period col r) r.k (product_of_periods col rows) (product_of_divisors rows) (omega (arith, linear)) (omega (arith, linear)) p.small rest.1,
+    )
+
+pub step_none : (g : Gauge) (columns col : ℕ) (sides : Sides) → AreSided g columns col sides → sides.divides ≡ [] → IsStepOf g columns col sides sides
+step_none g columns col sides s e = record {
+  sided = s;
+  divides = e;
+  apart = omega arith;
+  periods = (own_periods g columns col sides.apart s.apart).1;
+  same = λ point n. ((λ a. a), (λ a. a));
+  k = pos 1;
+  positive = omega (arith, linear);
+  small = rw e (omega (arith, linear));
+  narrowed = record { lowers = same_lessened col sides.lowers; uppers = same_lessened col sides.uppers };
+}
+
+-- ---- the sides of a system
+pub system_proper : (g : Gauge) (system : System) → IsSystemWithin g system → All (IsProper g system.columns) system.rows
+system_proper g system w = λ i d j. record { formed = w.rows i d j; within = w.within i d j }
+
+-- what the sides add is the projection
+pub sides_project : (g : Gauge) (system : System) (col : ℕ) (sides new : Sides) (before after : List System) → AreSidesOf system.rows col sides → IsStepOf g system.columns col sides new → Adds g (system.columns - 1) (HasNumber new col) before after → Adds g (system.columns - 1) (HoldsAtSome system col) before after
+sides_project g system col sides new before after s step a = adds_same g (system.columns - 1) (HasNumber new col) (HoldsAtSome system col) before after
+    (λ point n.
+    let same = step.same point n in (
+      (λ h. let x = same.1 h in (x.0, (sides_hold system.rows col sides point x.0 s).1 x.1)),
+      (λ h. same.0 (h.0, (sides_hold system.rows col sides point h.0 s).0 h.1)),
+    )) a
+
+-- and costs no more than the system's bounds
+pub sides_cost : (g : Gauge) (system : System) (col : ℕ) (sides new : Sides) → IsSystemWithin g system → AreSidesOf system.rows col sides → AreSided g system.columns col sides → IsStepOf g system.columns col sides new → sides_units col new ≤ℤ elimination_units system col
+sides_cost g system col sides new w s sided step =
+    let products : AreProducts (product_of_divisors sides.divides) (product_of_divisors sides.apart) (product_of_moduli col system.rows) = rw (s.divides, s.apart) (moduli_products system.columns col system.rows w.rows) in
+    let cost = step_cost g system.columns col (product_of_moduli col system.rows) sides new (record { sided = sided; step = step; products = products }) in
+    rw (s.lowers, s.uppers) at cost
+
+-- the number of those units is not below 0
+pub most_not_negative : (g : Gauge) (system : System) (col : ℕ) → IsSystemWithin g system → pos 0 ≤ℤ elimination_units system col
+most_not_negative g system col w =
+    let proper = system_proper g system w in
+    units_not_negative g system.columns col system.rows (on_side Lower col system.rows) (on_side Upper col system.rows) w.rows
+    (picked g system.columns col Lower system.rows (IsLower g system.columns col) (λ r p m. record { proper = p; kind = m.0; factor = m.1 }) proper)
+    (picked g system.columns col Upper system.rows (IsUpper g system.columns col) (λ r p m. record { proper = p; kind = m.0; factor = m.1 }) proper)
+
+-- ---- an equality
+abbrev NotAt : ℕ → List Row → ℕ → Type 0
+NotAt col rows at = (d : Row) → (get_or rows at d).kind ≡ kind.Zero → coef_at (get_or rows at d) col ≡ pos 0
+
+pub found_next : (col : ℕ) (rows : List Row) (i : ℕ) (found better : Option ℕ) → i < length rows → MatchOption found (HasNoEquality col (take i rows)) (IsEqualityAt col rows) → MatchOption better ((found ≡ None) × NotAt col rows i) (IsEqualityAt col rows)
+    → MatchOption better (HasNoEquality col (take (i + 1) rows)) (IsEqualityAt col rows)
+found_next col rows i found (Some at) l f b = b
+found_next col rows i None None l f b =
+    let d : Row = record { kind = kind.Zero; coefs = []; constant = pos 0; k = pos 1 } in
+    All-more (λ (r : Row). r.kind ≡ kind.Zero → coef_at r col ≡ pos 0) rows i d l f (b.1 d)
+found_next col rows i (Some at) None l f b = let e = b.0 in cc
+
+pub solved_projects : (system : System) (col at : ℕ) (fixed : Row) (point : List ℤ) → fixed.kind ≡ kind.Zero → at < length system.rows → fixed ≡ get_or system.rows at fixed → IsSolvedBy system.rows fixed col point ↔ HoldsAtSome system col point
+solved_projects system col at fixed point e l f = (
+  (λ a. (a.0, a.2)),
+  (λ a. (a.0, by fixed (insert point col a.0) e (rw (← f) at (a.1 at fixed l)), a.1)),
+)
+  where
+    by : (r : Row) (xs : List ℤ) → r.kind ≡ kind.Zero → HoldsRow r xs → value_at r xs ≡ pos 0
+    by r xs e h = rw e at h
+
+-- ---- what was pushed on no systems
+pub adds_project : (g : Gauge) (system : System) (col : ℕ) (before after : List System) → before ≡ [] → Adds g (system.columns - 1) (HoldsAtSome system col) before after → IsProjection system col after × All (IsSystemWithin g) after
+adds_project g system col before after e a =
+    let all : after ≡ a.added = a.pushed ∙ ap (λ (xs : List System). xs ++ a.added) e in
+    rw all (record { columns = a.widths; points = a.points }, a.within)
+
+-- an equality that has the column, and none
+pub equality_clash : (col : ℕ) (rows : List Row) → HasNoEquality col rows → HasEquality col rows → ⊥
+equality_clash col rows n h = by (h.1).kind (coef_at h.1 col) (rw (h.3) at (n h.0 h.1 h.2)) h.4
+  where
+    by : (k : RowKind) (c : ℤ) → (k ≡ kind.Zero → c ≡ pos 0) → (k ≡ kind.Zero) × (c ≢ pos 0) → ⊥
+    by k c f p = p.1 (f p.0)

@@ -1,0 +1,40 @@
+use Rattle.std.proofs.Common.{◌≡◌, ◌+◌, ◌<◌, ◌++◌, ◌∷◌, [], length, take, sym, ap, ◌∙◌, refl, arith}
+use Rattle.std.proofs.lemmas.Grind.{common_steps}
+use Rattle.std.proofs.lemmas.List.{take_more}
+use Rattle.isl_piece.specs.declared.constraint.Row.{Row}
+use Rattle.isl_elim.specs.Congruence.{period}
+use Rattle.isl_elim.specs.Residue.{IsCommonMultiple}
+use Rattle.isl_elim.specs.Sides.{IsApart}
+use Rattle.isl_elim.proofs.MergeLemmas.{take_one}
+use Rattle.isl_elim.proofs.PeriodLemmas.{period_one, period_more}
+use Rattle.isl_elim.proofs.ReduceLemmas.{divisor_positive}
+use Rattle.isl_elim.proofs.residue.common_period.Goals as goal
+
+pub loop-i-init : goal.loop-i-init
+loop-i-init c =
+    let rows = c.args.rows.now in
+    let r = c.index-rows-0.result in
+    let apart : IsApart c.args.meter.now c.args.columns c.args.col r = grind (arith, common_steps) in
+    let is : c.period_of-period.result ≡ period c.args.col r = grind arith in
+    record {
+      is_period = rw (take_one rows r c.requires.some c.index-rows-0.is, is) (period_one c.args.col r (divisor_positive r.kind r.k apart.proper.formed.divisor));
+      within = grind arith;
+      at_least_one = omega arith;
+      same = refl;
+    }
+
+pub loop-i-preserved : goal.loop-i-preserved
+loop-i-preserved c =
+    let rows = c.args.rows.now in
+    let i = c.loop-i.i in
+    let r = c.index-rows-i.result in
+    let inside : i < length rows = grind (arith, common_steps) in
+    let apart : IsApart c.args.meter.now c.args.columns c.args.col r = grind (arith, common_steps) in
+    let multiple : IsCommonMultiple c.loop-i.period (period c.args.col r) c.in_ok-period.period = grind arith in
+    let taken : take (i + 1) rows ≡ take i rows ++ r ∷ [] = take_more rows i r inside ∙ ap (λ (s : Row). take i rows ++ s ∷ []) (sym c.index-rows-i.is) in
+    record {
+      is_period = rw taken (period_more c.args.col (take i rows) r c.loop-i.period c.in_ok-period.period (divisor_positive r.kind r.k apart.proper.formed.divisor) c.loop-i.invariant.is_period multiple);
+      within = grind arith;
+      at_least_one = omega arith;
+      same = grind arith;
+    }

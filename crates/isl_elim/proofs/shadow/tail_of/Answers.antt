@@ -1,0 +1,25 @@
+use Rattle.std.proofs.Common.{◌≡◌, ◌+ℤ◌, length, arith}
+use Rattle.isl_meter.specs.Gauge.{IsWithin}
+use Rattle.isl_piece.specs.Row.{coef_at}
+use Rattle.isl_elim.specs.declared.shadow.Tail.{Tail}
+use Rattle.isl_elim.specs.Shadow.{extra, IsShadowOf}
+use Rattle.isl_elim.specs.Work.{IsChargedUpTo}
+use Rattle.isl_elim.proofs.WorkLemmas.{charged_bits, within_kept}
+use Rattle.isl_elim.proofs.shadow.tail_of.Goals as goal
+
+pub returns : goal.returns
+returns c =
+    let lower = c.args.lower.now in
+    let uppers = c.args.uppers.now in
+    let g = c.args.meter.now in
+    let k = c.shadow_of.new.meter in
+    let last = c.in_ok-last.last in
+    let tail : Tail = record { lower = c.in_ok-copy.field-0; last = c.in_ok-last-2.last } in
+    let charged : IsChargedUpTo (length uppers) g k = grind arith in
+    let shadow : IsShadowOf g c.args.columns c.args.col lower uppers c.args.rows.now c.shadow_of.new.rows last = grind arith in
+    let same : tail.lower ≡ lower = grind arith in
+    let value : tail.last ≡ last +ℤ extra c.args.neighbours (coef_at lower c.args.col) = grind arith in
+    let within : IsWithin k tail.last = grind arith in (
+      record { last = last; shadow = shadow; same = same; value = value; within = within_kept g k tail.last (charged_bits (length uppers) g k charged) within },
+      grind arith,
+    )

@@ -1,0 +1,62 @@
+use Rattle.std.proofs.Common.{◌≡◌, ◌-◌, ◌+◌, ◌<◌, pos, ◌+ℤ◌, ◌≤ℤ◌, length, get_or, take, refl, arith}
+use Rattle.std.proofs.lemmas.Grind.{common_steps}
+use Rattle.isl_elim.specs.Adds.{Adds}
+use Rattle.isl_elim.specs.Branch.{HasSplinter, tail_total}
+use Rattle.isl_elim.specs.Work.{IsChargedBy, IsCutAfter}
+use Rattle.isl_elim.proofs.AddsLemmas.{adds_kept}
+use Rattle.isl_elim.proofs.TailLemmas.{tail_next, tails_done, total_next, total_part, total_not_negative}
+use Rattle.isl_elim.proofs.WorkLemmas.{charged_by_bits, charged_by_more, cut_within, memory_after}
+use Rattle.isl_elim.proofs.tails.push_branch.Goals as goal
+
+pub returns-in_err-push_left : goal.returns-in_err-push_left
+returns-in_err-push_left c =
+    let g = c.args.meter.now in
+    let tails = c.args.branch.tails.items in
+    let cut = memory_after (tail_total tails) g g (total_not_negative g c.args.columns c.args.col tails c.requires.branch.tails) refl in
+    grind arith
+
+pub returns-in_err-push_splinters : goal.returns-in_err-push_splinters
+returns-in_err-push_splinters c =
+    let g = c.args.meter.now in
+    let h = c.loop-tail.meter in
+    let k = c.push_splinters.new.meter in
+    let tails = c.args.branch.tails.items in
+    let i = c.loop-tail.tail-index in
+    let t = c.tail-item.result in
+    let inside : i < length tails = grind (arith, common_steps) in
+    let at : t ≡ get_or tails i t = grind (arith, common_steps) in
+    let part : (tail_total (take i tails) +ℤ (t.last +ℤ pos 1)) ≤ℤ tail_total tails = rw (total_next tails i t inside at) at (total_part g c.args.columns c.args.col (i + 1) tails c.requires.branch.tails) in
+    let own : IsCutAfter (t.last +ℤ pos 1) h k c.in_err-push_splinters.field-0.0 = grind arith in
+    let cut = cut_within (t.last +ℤ pos 1) (tail_total (take i tails)) (tail_total tails) g h k c.in_err-push_splinters.field-0.0 part c.loop-tail.invariant.charged own in
+    grind arith
+
+pub loop-tail-preserved : goal.loop-tail-preserved
+loop-tail-preserved c =
+    let g = c.args.meter.now in
+    let h = c.loop-tail.meter in
+    let k = c.push_splinters.new.meter in
+    let branch = c.args.branch in
+    let tails = branch.tails.items in
+    let i = c.loop-tail.tail-index in
+    let t = c.tail-item.result in
+    let inside : i < length tails = grind (arith, common_steps) in
+    let at : t ≡ get_or tails i t = grind (arith, common_steps) in
+    let same : c.as_slice.result.now ≡ branch.rows = grind arith in
+    let some : Adds h (c.args.columns - 1) (λ point. HasSplinter c.as_slice.result.now c.args.col point t) c.loop-tail.systems.items c.push_splinters.new.systems.items = grind arith in
+    let more : Adds h (c.args.columns - 1) (λ point. HasSplinter branch.rows c.args.col point t) c.loop-tail.systems.items c.push_splinters.new.systems.items = rw same at some in
+    let own : IsChargedBy (t.last +ℤ pos 1) h k = grind arith in
+    let kept = adds_kept g h (c.args.columns - 1) (λ point. HasSplinter branch.rows c.args.col point t) c.loop-tail.systems.items c.push_splinters.new.systems.items (charged_by_bits (tail_total (take i tails)) g h c.loop-tail.invariant.charged) more in
+    record {
+      added = tail_next g c.args.columns c.args.col branch i t c.args.systems.now.items c.loop-tail.systems.items c.push_splinters.new.systems.items inside at c.loop-tail.invariant.added kept;
+      charged = rw (total_next tails i t inside at) (charged_by_more (tail_total (take i tails)) (t.last +ℤ pos 1) g h k c.loop-tail.invariant.charged own);
+    }
+
+pub returns : goal.returns
+returns c =
+    let g = c.args.meter.now in
+    let branch = c.args.branch in
+    let i = c.loop-tail.tail-index in
+    let whole : take i branch.tails.items ≡ branch.tails.items = grind (arith, common_steps) in (
+      tails_done g c.args.columns c.args.col branch i c.args.systems.now.items c.loop-tail.systems.items whole c.loop-tail.invariant.added,
+      rw whole at c.loop-tail.invariant.charged,
+    )

@@ -1,0 +1,22 @@
+use Rattle.std.proofs.Common.{◌≡◌, ◌-◌, ◌++◌, refl, arith}
+use Rattle.std.specs.Prelude.{option_to_list}
+use Rattle.isl_elim.specs.Branch.{HasValue}
+use Rattle.isl_elim.specs.Column.{IsSystemOf}
+use Rattle.isl_elim.specs.Work.{IsChargedUpTo}
+use Rattle.isl_elim.proofs.AddsLemmas.{system_of_kept}
+use Rattle.isl_elim.proofs.TailLemmas.{adds_option}
+use Rattle.isl_elim.proofs.WorkLemmas.{charged_same, charged_unit, charged_bits}
+use Rattle.isl_elim.proofs.tails.push_splinter.Goals as goal
+
+pub returns : goal.returns
+returns c =
+    let g = c.args.meter.now in
+    let h = c.unit.new.self in
+    let left = c.in_ok-left.left in
+    let P = HasValue c.args.rows.now c.args.col c.args.bound.now c.args.i in
+    let charged : IsChargedUpTo 1 g h = charged_unit 0 g g h (charged_same g g refl) (grind arith) in
+    let solved : IsSystemOf h (c.args.columns - 1) P left = grind arith in
+    let pushed : c.push_left.new.systems.items ≡ c.args.systems.now.items ++ option_to_list left = grind arith in (
+      adds_option g (c.args.columns - 1) P left c.args.systems.now.items c.push_left.new.systems.items (system_of_kept g h (c.args.columns - 1) P left (charged_bits 1 g h charged) solved) pushed,
+      grind arith,
+    )

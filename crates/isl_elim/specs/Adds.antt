@@ -1,0 +1,14 @@
+-- Lists of systems that grow.
+use Rattle.std.specs.Prelude.{◌≡◌, ◌↔◌, ℕ, ℤ, List, ◌++◌, length, All}
+use Rattle.isl_meter.specs.Gauge.{Gauge}
+use Rattle.isl_piece.specs.declared.conjunction.System.{System}
+use Rattle.isl_piece.specs.System.{IsSystemWithin}
+use Rattle.isl_elim.specs.Elimination.{HoldsAtAny}
+
+-- the systems that were added have these columns, are within the limit, and hold together exactly at the points of P
+pub record Adds (g : Gauge) (columns : ℕ) (P : List ℤ → Type 0) (old new : List System) : Type 0 where
+  pub added : List System
+  pub pushed : new ≡ old ++ added
+  pub widths : All (λ s. s.columns ≡ columns) added
+  pub within : All (IsSystemWithin g) added
+  pub points : (point : List ℤ) → length point ≡ columns → HoldsAtAny added point ↔ P point

@@ -1,0 +1,23 @@
+-- What holds of causes and of what is bound, whatever the language.
+use Rattle.std.proofs.Common.{ℕ, ℤ, List, ◌≤◌}
+use Rattle.isl_math.specs.Count.{Rose}
+use Rattle.isl_meter.specs.Gauge.{Gauge, limit_of}
+use Rattle.isl_token.specs.declared.fault.Fault.{Fault}
+use Rattle.isl_token.specs.declared.fault.Fault.TheVariants as fault
+use Rattle.isl_text.specs.declared.refusal.Refusal.TheVariants.{Overflow}
+use Rattle.isl_text.specs.Refusal.{of_fault}
+use Rattle.isl_eval.specs.Statement.{IsWhyNot}
+use Rattle.isl_eval.specs.Bindings.{Bindings, unbound, Fits}
+use Rattle.isl_eval.specs.Machine.{Refuses}
+
+pub overflow_rose : (limit : ℤ) (state : Bindings) (bytes : List ℕ) (before now : Gauge) → Refuses limit state bytes before now Overflow → Rose before.overflows now.overflows
+overflow_rose limit state bytes before now cause = cause.1
+
+-- nothing that is bound passes a limit
+pub unbound_fits : (g : Gauge) → 8 ≤ g.bits → Fits (limit_of g) unbound
+unbound_fits g low = tt
+
+-- what is read at fault is refused
+pub refuses_fault : (limit : ℤ) (state : Bindings) (bytes : List ℕ) (before now : Gauge) (f : Fault) → IsWhyNot limit bytes f → Refuses limit state bytes before now (of_fault f)
+refuses_fault limit state bytes before now fault.NoMemory why = tt
+refuses_fault limit state bytes before now fault.Syntax why = why

@@ -1,0 +1,4 @@
+pub mod Causes
+pub mod NameLaws
+pub mod ReadLaws
+pub mod SoundLaws

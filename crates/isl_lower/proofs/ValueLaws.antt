@@ -1,0 +1,227 @@
+-- The value that a plain literal writes has the literal's elements.
+use Rattle.std.proofs.Common.{◌≡◌, ◌⊎◌, ◌↔◌, ◌∙◌, inl, inr, refl, sym, ap, ap₂, subst, ℕ, zero, suc, ◌+◌, ◌<◌, pos, true, ◌&&◌, List, [], ◌∷◌, ◌++◌, length, get_or, map, take, Option, Some, None, option_map, MatchOption, IfSome, arith}
+use Rattle.std.specs.List.{All, Any, filter_map, cons_option, list_all}
+use Rattle.std.specs.Option.{option_to_list}
+use Rattle.std.proofs.lemmas.List.{length-append, length-take-le, length-replicate, take_more, append-nil, map-append}
+use Rattle.std.proofs.lemmas.List.Elements.{All-map, All-push, filter_map-append}
+use Rattle.isl_space.specs.Valuation.{Valuation, values_of}
+use Rattle.isl_space.specs.Element.{Element, IsElement}
+use Rattle.isl_space.specs.SpaceForm.{SpaceForm, coordinates_of, IsWellFormedSpace}
+use Rattle.isl_piece.specs.declared.constraint.RowKind.{RowKind}
+use Rattle.isl_piece.specs.declared.constraint.RowKind.TheVariants.{Zero, AtLeast, Divides, NotDivides}
+use Rattle.isl_piece.specs.declared.constraint.Row.{Row}
+use Rattle.isl_piece.specs.declared.conjunction.System.{System}
+use Rattle.isl_meter.specs.Gauge.{Gauge, overflown}
+use Rattle.isl_meter.specs.declared.Cut.{Cut}
+use Rattle.isl_meter.specs.declared.Cut.TheVariants.{Overflow, Budget, NoMemory}
+use Rattle.isl_space.specs.declared.space.Space.{Space}
+use Rattle.isl_space.specs.Space.{space_form_of}
+use Rattle.isl_piece.specs.declared.located.Piece.{Piece}
+use Rattle.isl_piece.specs.Row.{HasDivisor, IsWellFormed, IsRowWithin}
+use Rattle.isl_piece.specs.System.{HoldRows, IsSystemWithin}
+use Rattle.isl_piece.specs.Normal.{normal_rows, normal_system, IsNormal}
+use Rattle.isl_piece.proofs.NormalLaws.{HoldWhere, normal_rows_hold}
+use Rattle.isl_union.specs.KeptValue.{KeptPiece, HasElement, columns_of}
+use Rattle.isl_union.specs.Piece.{kept_piece, IsPieceOf}
+use Rattle.isl_tree.specs.declared.tree.Tuple.{Tuple, Leaf, Pair'}
+use Rattle.isl_tree.specs.declared.tree.PieceTree.{PieceTree}
+use Rattle.isl_tree.specs.declared.tree.Literal.{Literal}
+use Rattle.isl_tree.specs.Literal.{entries_of, piece_entries, form_of_tuple, space_of_piece, PieceHas}
+use Rattle.isl_tree.specs.Known.{piece_is_known, literal_is_known}
+use Rattle.isl_tree.specs.Plain.{is_plain_tuple, second_is_plain, body_is_plain, is_plain_piece, is_plain}
+use Rattle.isl_space.specs.Form.{width_of}
+use Rattle.isl_lower.specs.Linear.{row_of}
+use Rattle.isl_lower.specs.Rows.{Written, added, piece_width, rows_written, written_piece}
+use Rattle.isl_lower.specs.Passes.{PiecePasses, FailsBy}
+use Rattle.isl_lower.specs.Value.{piece_lowered, value_lowered, HasSameElements, PiecesPass}
+use Rattle.isl_lower.proofs.AmountLaws.{length-with_amounts}
+use Rattle.isl_lower.proofs.TermLaws.{both_true}
+use Rattle.isl_lower.proofs.PieceLaws.{points_are}
+use Rattle.std.proofs.lemmas.Bool.{false≢true}
+
+-- ---- some element of a list
+any_none : {X : Type 0} (P : X → Type 0) → Any P [] → ⊥
+any_none P a = let h = a.2 in omega arith
+
+any_first : {X : Type 0} (P : X → Type 0) (x : X) (xs : List X) → P x → Any P (x ∷ xs)
+any_first P x xs p = (0, x, omega arith, refl, p)
+
+any_later : {X : Type 0} (P : X → Type 0) (x : X) (xs : List X) → Any P xs → Any P (x ∷ xs)
+any_later P x xs a = (suc a.0, a.1, (let h = a.2 in omega arith), a.3, a.4)
+
+any_cases : {X : Type 0} (P : X → Type 0) (y : X) (xs : List X) → Any P (y ∷ xs) → P y ⊎ Any P xs
+any_cases {X = X} P y xs a = by a.0 a.1 a.2 a.3 a.4
+  where
+    by : (k : ℕ) (x : X) → k < length (y ∷ xs) → get_or (y ∷ xs) k x ≡ x → P x → P y ⊎ Any P xs
+    by zero x i e p = inl (rw e p)
+    by (suc k) x i e p = inr (k, x, omega arith, e, p)
+
+-- ---- the rows are rows over the columns
+divisor_of_one : (kind : RowKind) → HasDivisor kind (pos 1)
+divisor_of_one Zero = refl
+divisor_of_one AtLeast = refl
+divisor_of_one Divides = omega arith
+divisor_of_one NotDivides = omega arith
+
+pub added_formed : (n : ℕ) (w : Written) → IsWellFormed n (added n w)
+added_formed n w =
+    let long : length (row_of n w.1) ≡ n + 1 = length-with_amounts _ w.1 ∙ length-replicate (n + 1) (pos 0) in
+    record {
+      width = length-take-le n (row_of n w.1) (omega arith);
+      divisor = divisor_of_one w.0;
+    }
+
+pub written_formed : (params : List (List ℕ)) (piece : PieceTree) → All (IsWellFormed (piece_width params piece)) (rows_written params piece)
+written_formed params piece =
+    let n = piece_width params piece in
+    All-map (IsWellFormed n) (added n) (written_piece params piece) (λ k d low. added_formed n (get_or (written_piece params piece) k d))
+
+-- ---- a plain piece has a coordinate for each entry
+width_is : (tuple : Tuple) → is_plain_tuple tuple ≡ true → width_of (form_of_tuple tuple) ≡ length (entries_of tuple)
+width_is (Leaf name entries) plain = refl
+width_is (Pair' s left t right) plain = absurd (false≢true plain)
+
+coordinates_are : (first : Tuple) (second : Option Tuple) (piece : PieceTree) → piece.first ≡ first → piece.second ≡ second → is_plain_tuple first ≡ true → second_is_plain second ≡ true → coordinates_of (space_of_piece piece) ≡ length (piece_entries piece)
+coordinates_are first None piece is_first is_second plain others =
+    rw (is_first, is_second) (width_is first plain ∙ (let e = length-append (entries_of first) [] in omega arith))
+coordinates_are first (Some second) piece is_first is_second plain others =
+    rw (is_first, is_second) (ap₂ (λ (m n : ℕ). m + n) (width_is first plain) (width_is second others) ∙ sym (length-append (entries_of first) (entries_of second)))
+
+pub coordinates_of_plain : (piece : PieceTree) → is_plain_piece piece ≡ true → coordinates_of (space_of_piece piece) ≡ length (piece_entries piece)
+coordinates_of_plain piece plain =
+    let parts = both_true (is_plain_tuple piece.first && second_is_plain piece.second) (body_is_plain piece.body) plain in
+    let tuples = both_true (is_plain_tuple piece.first) (second_is_plain piece.second) parts.0 in
+    coordinates_are piece.first piece.second piece refl refl tuples.0 tuples.1
+
+pub columns_are : (params : List (List ℕ)) (piece : PieceTree) → is_plain_piece piece ≡ true → columns_of params (space_of_piece piece) ≡ piece_width params piece
+columns_are params piece plain = ap (λ (n : ℕ). length params + n) (coordinates_of_plain piece plain)
+
+-- ---- elements
+-- the piece has an element exactly where its space is the element's, and its rows hold there
+holds_where : (params : List (List ℕ)) (piece : PieceTree) (valuation : Valuation) (element : Element) → IsElement element → is_plain_piece piece ≡ true → piece_is_known params piece ≡ true
+    → PieceHas params valuation element piece ↔ ((space_of_piece piece ≡ element.space) × HoldRows (rows_written params piece) (values_of params valuation ++ element.coordinates))
+holds_where params piece valuation element sized plain known =
+    let points = points_are params piece (rows_written params piece) plain known refl valuation element.coordinates in
+    let long : (space_of_piece piece ≡ element.space) → length (piece_entries piece) ≡ length element.coordinates = λ same. sym (coordinates_of_plain piece plain) ∙ ap coordinates_of same ∙ sym sized in (
+      (λ has. (has.space, (points (long has.space)).0 (has.entries, has.body))),
+      (λ holds. let parts = (points (long holds.0)).1 holds.1 in record { space = holds.0; entries = parts.0; body = parts.1 }),
+    )
+
+-- what is kept of a piece has its elements
+Keeps : List (List ℕ) → PieceTree → Valuation → Element → Option (List Row) → Type 0
+Keeps params piece valuation element kept =
+    MatchOption kept (¬ PieceHas params valuation element piece)
+    (λ rows. HasElement params valuation element (record { space = space_of_piece piece; rows = rows }) ↔ PieceHas params valuation element piece)
+
+keeps : (params : List (List ℕ)) (piece : PieceTree) (valuation : Valuation) (element : Element) → IsElement element → is_plain_piece piece ≡ true → piece_is_known params piece ≡ true → Keeps params piece valuation element (normal_rows (rows_written params piece))
+unfolding Keeps
+keeps params piece valuation element sized plain known =
+    let formed = written_formed params piece in
+    by (normal_rows (rows_written params piece)) (normal_rows_hold (rows_written params piece) (values_of params valuation ++ element.coordinates) (λ k d low. (formed k d low).divisor))
+  where
+    by : (kept : Option (List Row)) → HoldWhere kept (values_of params valuation ++ element.coordinates) (HoldRows (rows_written params piece) (values_of params valuation ++ element.coordinates)) → Keeps params piece valuation element kept
+    by None never = λ has. never ((holds_where params piece valuation element sized plain known).0 has).1
+    by (Some rows) same =
+        let where_it_holds = holds_where params piece valuation element sized plain known in (
+          (λ has. where_it_holds.1 (has.space, same.0 has.holds)),
+          (λ has. let holds = where_it_holds.0 has in record { space = holds.0; holds = same.1 holds.1 }),
+        )
+
+pieces_have : (params : List (List ℕ)) (pieces : List PieceTree) (valuation : Valuation) (element : Element) → IsElement element → list_all is_plain_piece pieces ≡ true → list_all (piece_is_known params) pieces ≡ true
+    → Any (HasElement params valuation element) (filter_map (piece_lowered params) pieces) ↔ Any (PieceHas params valuation element) pieces
+unfolding Keeps
+pieces_have params [] valuation element sized plain known = ((λ a. absurd (any_none (HasElement params valuation element) a)), (λ a. absurd (any_none (PieceHas params valuation element) a)))
+pieces_have params (piece ∷ pieces) valuation element sized plain known =
+    let plains = both_true (is_plain_piece piece) (list_all is_plain_piece pieces) plain in
+    let knowns = both_true (piece_is_known params piece) (list_all (piece_is_known params) pieces) known in
+    by (normal_rows (rows_written params piece)) (keeps params piece valuation element sized plains.0 knowns.0) (pieces_have params pieces valuation element sized plains.1 knowns.1)
+  where
+    kept_as : List Row → KeptPiece
+    kept_as rows = record { space = space_of_piece piece; rows = rows }
+
+    by : (kept : Option (List Row)) → Keeps params piece valuation element kept → Any (HasElement params valuation element) (filter_map (piece_lowered params) pieces) ↔ Any (PieceHas params valuation element) pieces
+        → Any (HasElement params valuation element) (cons_option (option_map (λ rows. record { space = space_of_piece piece; rows = rows }) kept) (filter_map (piece_lowered params) pieces)) ↔ Any (PieceHas params valuation element) (piece ∷ pieces)
+    by None never more = (
+      (λ a. any_later (PieceHas params valuation element) piece pieces (more.0 a)),
+      (λ a. elim (any_cases (PieceHas params valuation element) piece pieces a) [ inl p ↦ absurd (never p) | inr b ↦ more.1 b ]),
+    )
+    by (Some rows) same more = (
+      (λ a. elim (any_cases (HasElement params valuation element) _ (filter_map (piece_lowered params) pieces) a) [
+        | inl p ↦ any_first (PieceHas params valuation element) piece pieces (same.0 p)
+        | inr b ↦ any_later (PieceHas params valuation element) piece pieces (more.0 b)
+      ]),
+      (λ a. elim (any_cases (PieceHas params valuation element) piece pieces a) [
+        | inl p ↦ any_first (HasElement params valuation element) _ (filter_map (piece_lowered params) pieces) (same.1 p)
+        | inr b ↦ any_later (HasElement params valuation element) _ (filter_map (piece_lowered params) pieces) (more.1 b)
+      ]),
+    )
+
+-- a plain literal of known names, and its value
+pub same_elements : (literal : Literal) → is_plain literal ≡ true → literal_is_known literal ≡ true → HasSameElements literal (value_lowered literal)
+same_elements literal plain known valuation element sized = pieces_have literal.params literal.pieces valuation element sized plain known
+
+-- ---- what the code makes
+-- the written rows are a system within the limit
+pub system_within : (g : Gauge) (params : List (List ℕ)) (piece : PieceTree) (rows : List Row) (columns : ℕ) → rows ≡ rows_written params piece → All (IsRowWithin g) rows → columns ≡ piece_width params piece
+    → IsSystemWithin g (record { columns = columns; rows = rows })
+system_within g params piece rows columns is within wide = record {
+  rows = subst (λ (n : ℕ). All (IsWellFormed n) rows) (sym wide) (subst (All (IsWellFormed (piece_width params piece))) (sym is) (written_formed params piece));
+  within = within;
+}
+
+-- what the normal system and the space make is what is kept of the piece
+pub piece_made : (params : List (List ℕ)) (piece : PieceTree) (rows : List Row) (columns : ℕ) (kept : System) (space : Space) → is_plain_piece piece ≡ true → rows ≡ rows_written params piece → columns ≡ piece_width params piece
+    → Some kept ≡ normal_system (record { columns = columns; rows = rows }) → space_form_of space ≡ space_of_piece piece
+    → Some (kept_piece (record { space = space; system = kept })) ≡ piece_lowered params piece
+piece_made params piece rows columns kept space plain is wide made same = by (normal_rows rows) (ap (λ (l : List Row). normal_rows l) is) made
+  where
+    by : (o : Option (List Row)) → o ≡ normal_rows (rows_written params piece) → Some kept ≡ option_map (λ (rs : List Row). record { columns = columns; rows = rs }) o → Some (kept_piece (record { space = space; system = kept })) ≡ piece_lowered params piece
+    by None at e = absurd cc
+    by (Some rs) at e =
+        let found : kept ≡ record { columns = columns; rows = rs } = cc in
+        ap (λ (s : System). Some (record { space = space_form_of space; rows = s.rows })) found ∙ ap (λ (f : SpaceForm). Some (record { space = f; rows = rs })) same
+        ∙ ap (option_map (λ (rows : List Row). record { space = space_of_piece piece; rows = rows })) at
+
+pub piece_of_value : (g : Gauge) (params : List (List ℕ)) (piece : PieceTree) (rows : List Row) (columns : ℕ) (kept : System) (space : Space) → is_plain_piece piece ≡ true → columns ≡ piece_width params piece
+    → Some kept ≡ normal_system (record { columns = columns; rows = rows }) → IsNormal kept.rows → IsSystemWithin g kept → space_form_of space ≡ space_of_piece piece → IsWellFormedSpace (space_of_piece piece)
+    → IsPieceOf params (record { space = space; system = kept })
+piece_of_value g params piece rows columns kept space plain wide made normal within same formed =
+    let width : kept.columns ≡ columns_of params (space_form_of space) = by (normal_rows rows) made ∙ wide ∙ sym (columns_are params piece plain) ∙ ap (columns_of params) (sym same) in
+    record {
+      columns = width;
+      kept = record {
+        space = subst IsWellFormedSpace (sym same) formed;
+        rows = subst (λ (n : ℕ). All (IsWellFormed n) kept.rows) width within.rows;
+        normal = normal;
+      };
+    }
+  where
+    by : (o : Option (List Row)) → Some kept ≡ option_map (λ (rs : List Row). record { columns = columns; rows = rs }) o → kept.columns ≡ columns
+    by None e = absurd cc
+    by (Some rs) e = let found : kept ≡ record { columns = columns; rows = rs } = cc in ap (λ (s : System). s.columns) found
+
+-- a loop's step
+lowered_more : (params : List (List ℕ)) (pieces : List PieceTree) (i : ℕ) (piece : PieceTree) (kept : Option KeptPiece) → i < length pieces → piece ≡ get_or pieces i piece → kept ≡ piece_lowered params piece
+    → filter_map (piece_lowered params) (take (i + 1) pieces) ≡ filter_map (piece_lowered params) (take i pieces) ++ cons_option kept []
+lowered_more params pieces i piece kept low at is =
+    ap (filter_map (piece_lowered params)) (take_more pieces i piece low ∙ ap (λ (p : PieceTree). take i pieces ++ p ∷ []) (sym at))
+    ∙ filter_map-append (piece_lowered params) (take i pieces) (piece ∷ []) ∙ ap (λ (o : Option KeptPiece). filter_map (piece_lowered params) (take i pieces) ++ cons_option o []) (sym is)
+
+pub lowered_step : (params : List (List ℕ)) (pieces : List PieceTree) (i : ℕ) (piece : PieceTree) (made pushed : List Piece) (found : Option Piece) → i < length pieces → piece ≡ get_or pieces i piece
+    → option_map kept_piece found ≡ piece_lowered params piece → IfSome found (IsPieceOf params) → pushed ≡ made ++ option_to_list found
+    → (map kept_piece made ≡ filter_map (piece_lowered params) (take i pieces)) × All (IsPieceOf params) made → (map kept_piece pushed ≡ filter_map (piece_lowered params) (take (i + 1) pieces)) × All (IsPieceOf params) pushed
+lowered_step params pieces i piece made pushed None low at is sound more so_far =
+    let same : pushed ≡ made = more ∙ append-nil made in
+    (ap (map kept_piece) same ∙ so_far.0 ∙ sym (append-nil (filter_map (piece_lowered params) (take i pieces))) ∙ sym (lowered_more params pieces i piece None low at is), subst (All (IsPieceOf params)) (sym same) so_far.1)
+lowered_step params pieces i piece made pushed (Some kept) low at is sound more so_far = (
+  ap (map kept_piece) more ∙ map-append kept_piece made (kept ∷ []) ∙ ap (λ (l : List KeptPiece). l ++ kept_piece kept ∷ []) so_far.0 ∙ sym (lowered_more params pieces i piece (Some (kept_piece kept)) low at is),
+  subst (All (IsPieceOf params)) (sym more) (All-push (IsPieceOf params) made kept so_far.1 sound),
+)
+
+-- a cause of one piece is one of all
+pub cause_of_pieces : (g loop now : Gauge) (params : List (List ℕ)) (pieces : List PieceTree) (i : ℕ) (piece : PieceTree) (cut : Cut) → loop ≡ g → i < length pieces → piece ≡ get_or pieces i piece → FailsBy (PiecePasses loop params piece) loop now cut → FailsBy (PiecesPass g params pieces) g now cut
+cause_of_pieces g loop now params pieces i piece Overflow same low at h =
+    let passes = subst (λ (m : Gauge). PiecePasses m params piece) same h.0 in
+    ((i, piece, low, sym at, passes), subst (λ (m : Gauge). now ≡ overflown m) same h.1)
+cause_of_pieces g loop now params pieces i piece Budget same low at h = h
+cause_of_pieces g loop now params pieces i piece NoMemory same low at h = h ∙ same

@@ -1,0 +1,37 @@
+-- The value that a plain literal writes. (isl manual, on sets, relations and their notation)
+use Rattle.std.specs.Prelude.{◌↔◌, List, All, Any, Option, option_map}
+use Rattle.std.specs.List.{filter_map}
+use Rattle.isl_meter.specs.Gauge.{Gauge}
+use Rattle.isl_space.specs.Name.{Name}
+use Rattle.isl_space.specs.Names.{IsParameterList}
+use Rattle.isl_space.specs.SpaceForm.{IsWellFormedSpace}
+use Rattle.isl_space.specs.Valuation.{Valuation}
+use Rattle.isl_space.specs.Element.{Element, IsElement}
+use Rattle.isl_piece.specs.Normal.{normal_rows}
+use Rattle.isl_union.specs.KeptValue.{KeptPiece, KeptValue, Has}
+use Rattle.isl_tree.specs.declared.tree.PieceTree.{PieceTree}
+use Rattle.isl_tree.specs.declared.tree.Literal.{Literal}
+use Rattle.isl_tree.specs.Literal.{space_of_piece, LiteralHas}
+use Rattle.isl_lower.specs.Rows.{rows_written}
+use Rattle.isl_lower.specs.Passes.{PiecePasses}
+
+-- what a literal declares and names is what a value may have
+pub record IsWellFormedLiteral (literal : Literal) : Type 0 where
+  pub params : IsParameterList literal.params
+  pub spaces : All (λ piece. IsWellFormedSpace (space_of_piece piece)) literal.pieces
+
+-- the piece's space with the normal rows of those that it writes; nothing where one of them never holds
+abbrev pub piece_lowered : List Name → PieceTree → Option KeptPiece
+piece_lowered params piece = option_map (λ rows. record { space = space_of_piece piece; rows = rows }) (normal_rows (rows_written params piece))
+
+-- the declared parameters, and what is kept of each piece
+abbrev pub value_lowered : Literal → KeptValue
+value_lowered literal = record { params = literal.params; pieces = filter_map (piece_lowered literal.params) literal.pieces }
+
+-- at every valuation the value has the literal's elements, and no others
+abbrev pub HasSameElements : Literal → KeptValue → Type 0
+HasSameElements literal value = (valuation : Valuation) (element : Element) → IsElement element → Has value valuation element ↔ LiteralHas literal valuation element
+
+-- a row of one of the pieces passes the limit
+abbrev pub PiecesPass : Gauge → List Name → List PieceTree → Type 0
+PiecesPass g params pieces = Any (PiecePasses g params) pieces

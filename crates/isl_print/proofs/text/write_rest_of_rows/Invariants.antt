@@ -1,0 +1,10 @@
+use Rattle.std.proofs.Common.{◌≡◌, ◌++◌, drop, map}
+use Rattle.std.specs.Prelude.{codes, string_bytes}
+use Rattle.isl_print.specs.Joined.{each_after}
+use Rattle.isl_print.specs.RowText.{row_text}
+use Rattle.isl_print.proofs.text.write_rest_of_rows.Given as goal
+
+abbrev pub invariant-loop-row : goal.invariant-loop-row
+invariant-loop-row l =
+    string_bytes l.out ++ each_after (codes " and ") (map (λ row. row_text l.names row.now) (drop l.row-index l.rows))
+    ≡ string_bytes l.initial.out ++ each_after (codes " and ") (map (λ row. row_text l.names row.now) l.rows)

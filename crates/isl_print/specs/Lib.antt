@@ -1,0 +1,10 @@
+pub mod Ordered
+pub mod Naming
+pub mod Joined
+pub mod Sum
+pub mod RowOrder
+pub mod RowText
+pub mod Tuple
+pub mod PieceOrder
+pub mod Printed
+pub mod OrderedValue

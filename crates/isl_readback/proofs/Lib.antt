@@ -1,0 +1,17 @@
+pub mod AddedLaws
+pub mod PlacedLaws
+pub mod TupleLaws
+pub mod WrittenLaws
+pub mod KnownLaws
+pub mod TokenLaws
+pub mod ValueTokenLaws
+pub mod TermSpelled
+pub mod LiteralSpelled
+pub mod PlainTree
+pub mod ValueSpelled
+pub mod FormedTree
+pub mod RoundTripLaws
+pub mod WithinTree
+pub mod QuietNames
+pub mod AcceptedTokens
+pub mod AcceptedLaws

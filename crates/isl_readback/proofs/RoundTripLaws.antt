@@ -1,0 +1,123 @@
+-- What is read of a printed value is the value again.
+use Rattle.std.proofs.Common.{◌≡◌, ◌∙◌, ◌≤◌, suc, List, [], ◌∷◌, Some, All, map, ap, sym, subst, refl, arith}
+use Rattle.std.specs.Prelude.{option_map}
+use Rattle.std.specs.List.{filter_map, cons_option, AllByRecursion}
+use Rattle.std.proofs.lemmas.List.Elements.{recursion_from_All, All-map, All-weaker}
+use Rattle.isl_space.specs.Limits.{most_leaves}
+use Rattle.isl_space.specs.Name.{Name}
+use Rattle.isl_space.specs.Names.{IsParameterList}
+use Rattle.isl_space.specs.SpaceForm.{SpaceForm, IsWellFormedSpace}
+use Rattle.isl_piece.specs.declared.constraint.Row.{Row}
+use Rattle.isl_piece.specs.Normal.{normal_rows}
+use Rattle.isl_union.specs.KeptValue.{KeptPiece, KeptValue, IsKeptPiece, IsKeptValue}
+use Rattle.isl_print.specs.Joined.{Text}
+use Rattle.isl_print.specs.Ordered.{in_order}
+use Rattle.isl_print.specs.OrderedValue.{ordered_piece, ordered}
+use Rattle.isl_print.specs.PieceOrder.{piece_before}
+use Rattle.isl_print.specs.Printed.{printed}
+use Rattle.isl_print.specs.RowOrder.{row_before}
+use Rattle.isl_print.proofs.OrderedValueLaws.{IsKeptValue-ordered, Has-ordered, printed-ordered}
+use Rattle.isl_print.proofs.TextLaws.{All-in_order}
+use Rattle.isl_token.specs.declared.token.Token.{Token}
+use Rattle.isl_token.specs.Spelling.{Spells}
+use Rattle.isl_token.proofs.Again.{always}
+use Rattle.isl_token.proofs.Whole.{spells_one}
+use Rattle.isl_text.specs.Literal.{literal, literal_grammar}
+use Rattle.isl_text.proofs.LiteralLaws.{literal_taken, literal_again}
+use Rattle.isl_tree.specs.declared.tree.PieceTree.{PieceTree}
+use Rattle.isl_tree.specs.declared.tree.Literal.{Literal}
+use Rattle.isl_tree.specs.Literal.{space_of_piece}
+use Rattle.isl_lower.specs.Value.{IsWellFormedLiteral, piece_lowered, value_lowered}
+use Rattle.isl_readback.specs.Tree.{piece_tree, printed_tree}
+use Rattle.isl_readback.specs.Written.{IsComparison, HasComparisons, HasWritableNumbers, IsUniform}
+use Rattle.isl_readback.specs.RoundTrip.{Writes, IsWritableValue, HasElementsOf, ReadsAs, ReadsBack}
+use Rattle.isl_readback.proofs.KnownLaws.{printed_tree_known}
+use Rattle.isl_readback.proofs.TupleLaws.{space-piece_tree}
+use Rattle.isl_readback.proofs.WrittenLaws.{rows-piece_tree}
+use Rattle.isl_readback.proofs.ValueTokenLaws.{printed_tokens, tokens-printed}
+use Rattle.isl_readback.proofs.ValueSpelled.{outline_spelled}
+use Rattle.isl_readback.proofs.FormedTree.{tree_formed}
+use Rattle.isl_readback.proofs.PlainTree.{tree_plain}
+use Rattle.isl_readback.proofs.WithinTree.{tree_within}
+
+-- ---- the tokens of the text spell the tree
+pub tree_spelled : (value : KeptValue) → IsKeptValue value → HasWritableNumbers value → IsUniform value → Writes (printed value) (printed_tree value)
+tree_spelled value kept numbers uniform =
+    let deep : most_leaves ≤ suc (suc most_leaves) = omega arith in (
+      printed_tokens value,
+      tokens-printed value kept numbers,
+      record { depth = suc (suc most_leaves); spelled = (outline_spelled most_leaves value kept numbers deep, tree_formed value kept uniform) },
+    )
+
+some_same : (a b : List Token) → Some a ≡ Some b → a ≡ b
+some_same a b e = cc
+
+-- and no other tree
+pub one_tree : (text : Text) (a b : Literal) → Writes text a → Writes text b → a ≡ b
+one_tree text a b x y =
+    let same : y.0 ≡ x.0 = some_same y.0 x.0 (sym y.1 ∙ x.1) in
+    spells_one literal literal_grammar always literal_taken literal_again refl x.0 a b x.2 (subst (λ (ts : List Token). Spells literal_grammar b ts) same y.2)
+
+-- ---- the rows are kept
+abbrev kept_with : SpaceForm → List Row → KeptPiece
+kept_with space rows = record { space = space; rows = rows }
+
+piece_kept : (params : List Name) (piece : KeptPiece) → IsParameterList params → IsKeptPiece params piece → IsKeptPiece params (ordered_piece piece) → All (λ r. IsComparison r.kind) piece.rows
+    → piece_lowered params (piece_tree params piece) ≡ Some (ordered_piece piece)
+piece_kept params piece list kept again compares =
+    let tree = piece_tree params piece in
+    ap (λ rows. option_map (kept_with (space_of_piece tree)) (normal_rows rows)) (rows-piece_tree params piece list kept compares)
+    ∙ ap (option_map (kept_with (space_of_piece tree))) again.normal.itself
+    ∙ ap (λ space. Some (kept_with space (in_order row_before piece.rows))) (space-piece_tree params piece)
+
+pieces_kept : (params : List Name) (pieces : List KeptPiece) → IsParameterList params → AllByRecursion (IsKeptPiece params) pieces → AllByRecursion (IsKeptPiece params) (map ordered_piece pieces)
+    → AllByRecursion (λ p. All (λ r. IsComparison r.kind) p.rows) pieces → filter_map (piece_lowered params) (map (piece_tree params) pieces) ≡ map ordered_piece pieces
+pieces_kept params [] list kept again compare = refl
+pieces_kept params (piece ∷ pieces) list kept again compare =
+    ap (λ o. cons_option o (filter_map (piece_lowered params) (map (piece_tree params) pieces))) (piece_kept params piece list kept.0 again.0 compare.0)
+    ∙ ap (λ ps. ordered_piece piece ∷ ps) (pieces_kept params pieces list kept.1 again.1 compare.1)
+
+pub tree_kept : (value : KeptValue) → IsKeptValue value → HasComparisons value → value_lowered (printed_tree value) ≡ ordered value
+tree_kept value kept compare =
+    let pieces = in_order piece_before value.pieces in
+    let again = IsKeptValue-ordered value kept in
+    ap (λ ps. let v : KeptValue = record { params = value.params; pieces = ps } in v)
+    (pieces_kept value.params pieces kept.params
+    (recursion_from_All (IsKeptPiece value.params) pieces (All-in_order piece_before (IsKeptPiece value.params) value.pieces kept.pieces))
+    (recursion_from_All (IsKeptPiece value.params) (map ordered_piece pieces) again.pieces)
+    (recursion_from_All (λ p. All (λ r. IsComparison r.kind) p.rows) pieces (All-in_order piece_before (λ p. All (λ r. IsComparison r.kind) p.rows) value.pieces compare)))
+
+-- ---- what is declared
+pub tree_well_formed : (value : KeptValue) → IsKeptValue value → IsWellFormedLiteral (printed_tree value)
+tree_well_formed value kept =
+    let pieces = in_order piece_before value.pieces in
+    record {
+      params = kept.params;
+      spaces = All-map (λ (tree : PieceTree). IsWellFormedSpace (space_of_piece tree)) (piece_tree value.params) pieces
+          (All-weaker (IsKeptPiece value.params) (λ p. IsWellFormedSpace (space_of_piece (piece_tree value.params p))) (λ p k. subst IsWellFormedSpace (sym (space-piece_tree value.params p)) k.space) pieces
+          (All-in_order piece_before (IsKeptPiece value.params) value.pieces kept.pieces));
+    }
+
+-- ---- all together
+reads_as : (value : KeptValue) → IsWritableValue value → ReadsAs (printed_tree value) value
+reads_as value writable =
+    let rows = tree_kept value writable.kept writable.comparisons in
+    record {
+      plain = tree_plain value writable.comparisons writable.flat;
+      within = tree_within value writable.kept writable.comparisons;
+      known = printed_tree_known value writable.kept;
+      well_formed = tree_well_formed value writable.kept;
+      rows = rows;
+      elements = subst (λ (v : KeptValue). HasElementsOf v value) (sym rows) (Has-ordered value);
+      again = ap printed rows ∙ printed-ordered value;
+    }
+
+pub reads_back : (value : KeptValue) → IsWritableValue value → ReadsBack value
+reads_back value writable =
+    let written = tree_spelled value writable.kept writable.numbers writable.uniform in
+    record {
+      literal = printed_tree value;
+      written = written;
+      only = λ other w. one_tree (printed value) other (printed_tree value) w written;
+      read = reads_as value writable;
+    }

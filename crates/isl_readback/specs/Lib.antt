@@ -1,0 +1,4 @@
+pub mod Tree
+pub mod Written
+pub mod RoundTrip
+pub mod Accepted

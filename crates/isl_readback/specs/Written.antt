@@ -1,0 +1,65 @@
+-- The value that a plain literal writes.
+use Rattle.std.specs.Prelude.{ℕ, ◌-◌, ◌⊎◌, List, All, map}
+use Rattle.isl_space.specs.Name.{Name}
+use Rattle.isl_space.specs.Form.{Form, leaf, pair}
+use Rattle.isl_piece.specs.declared.constraint.RowKind.{RowKind}
+use Rattle.isl_piece.specs.declared.constraint.RowKind.TheVariants.{Zero, AtLeast, Divides, NotDivides}
+use Rattle.isl_piece.specs.Row.{IsRowUpTo}
+use Rattle.isl_space.specs.SpaceForm.{SpaceForm, set_of, map_of}
+use Rattle.isl_token.specs.Number.{too_great}
+use Rattle.isl_union.specs.KeptValue.{KeptPiece, KeptValue}
+use Rattle.isl_tree.specs.declared.tree.PieceTree.{PieceTree}
+use Rattle.isl_tree.specs.declared.tree.Literal.{Literal}
+use Rattle.isl_tree.specs.Literal.{space_of_piece}
+use Rattle.isl_lower.specs.Rows.{rows_written}
+
+-- the piece's space, and the rows that its entries and comparisons write
+abbrev pub piece_written : List Name → PieceTree → KeptPiece
+piece_written params piece = record { space = space_of_piece piece; rows = rows_written params piece }
+
+abbrev pub value_written : Literal → KeptValue
+value_written literal = record { params = literal.params; pieces = map (piece_written literal.params) literal.pieces }
+
+-- a row of this kind is an equation or an inequality
+abbrev pub IsComparison : RowKind → Type 0
+IsComparison Zero = Unit {0}
+IsComparison AtLeast = Unit {0}
+IsComparison Divides = ⊥
+IsComparison NotDivides = ⊥
+
+-- each row of the value is one
+abbrev pub HasComparisons : KeptValue → Type 0
+HasComparisons value = All (λ piece. All (λ row. IsComparison row.kind) piece.rows) value.pieces
+
+-- each number of the value has at most this magnitude
+abbrev pub HasNumbersUpTo : ℕ → KeptValue → Type 0
+HasNumbersUpTo limit value = All (λ piece. All (IsRowUpTo limit) piece.rows) value.pieces
+
+-- each number of the value has a magnitude that a literal may write
+abbrev pub HasWritableNumbers : KeptValue → Type 0
+HasWritableNumbers value = HasNumbersUpTo (too_great - 1) value
+
+-- all pieces have one tuple, or all have two
+abbrev pub IsSet : SpaceForm → Type 0
+IsSet (set_of form) = Unit {0}
+IsSet (map_of from to) = ⊥
+
+abbrev pub IsMap : SpaceForm → Type 0
+IsMap (set_of form) = ⊥
+IsMap (map_of from to) = Unit {0}
+
+abbrev pub IsUniform : KeptValue → Type 0
+IsUniform value = All (λ piece. IsSet piece.space) value.pieces ⊎ All (λ piece. IsMap piece.space) value.pieces
+
+-- no tuple of the space is a pair
+abbrev pub IsLeaf : Form → Type 0
+IsLeaf (leaf name width) = Unit {0}
+IsLeaf (pair left right) = ⊥
+
+abbrev pub IsFlatSpace : SpaceForm → Type 0
+IsFlatSpace (set_of form) = IsLeaf form
+IsFlatSpace (map_of from to) = IsLeaf from × IsLeaf to
+
+-- no tuple of the value is a pair
+abbrev pub IsFlat : KeptValue → Type 0
+IsFlat value = All (λ piece. IsFlatSpace piece.space) value.pieces

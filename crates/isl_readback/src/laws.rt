@@ -1,0 +1,57 @@
+//! What holds of printed values that are read again. These functions do nothing: their contracts are the laws.
+
+ghost use Rattle.std.specs.Prelude.{◌≡◌, ◌<◌, ℕ, true};
+ghost use Rattle.isl_union.specs.KeptValue.{KeptValue, IsKeptValue};
+ghost use Rattle.isl_print.specs.OrderedValue.{ordered};
+ghost use Rattle.isl_print.specs.Printed.{printed};
+ghost use Rattle.isl_text.specs.Limits.{is_within};
+ghost use Rattle.isl_token.specs.Number.{too_great};
+ghost use Rattle.isl_tree.specs.Known.{literal_is_known};
+ghost use Rattle.isl_tree.specs.Plain.{is_plain};
+ghost use Rattle.isl_lower.specs.Value.{IsWellFormedLiteral, value_lowered};
+ghost use Rattle.isl_readback.specs.Accepted.{HasQuietNames, IsAccepted};
+ghost use Rattle.isl_readback.specs.Tree.{printed_tree};
+ghost use Rattle.isl_readback.specs.Written.{HasComparisons, HasNumbersUpTo, HasWritableNumbers, IsFlat, IsUniform, value_written};
+ghost use Rattle.isl_readback.specs.RoundTrip.{IsWritableValue, ReadsBack, Writes};
+
+/// The text of a value writes its printed tree.
+pub fn printed_tree_is_spelled()
+    ensures { (value : KeptValue) → IsKeptValue value → HasWritableNumbers value → IsUniform value
+        → Writes (printed value) (printed_tree value) }
+{}
+
+/// The printed tree is plain.
+pub fn printed_tree_is_plain()
+    ensures { (value : KeptValue) → HasComparisons value → IsFlat value → is_plain (printed_tree value) ≡ true }
+{}
+
+/// The printed tree keeps the limits of literals.
+pub fn printed_tree_is_within()
+    ensures { (value : KeptValue) → IsKeptValue value → HasComparisons value → is_within (printed_tree value) ≡ true }
+{}
+
+/// Each name of the printed tree is known, and what it declares is what a value may have.
+pub fn printed_tree_is_known()
+    ensures known { (value : KeptValue) → IsKeptValue value → literal_is_known (printed_tree value) ≡ true }
+    ensures well_formed { (value : KeptValue) → IsKeptValue value → IsWellFormedLiteral (printed_tree value) }
+{}
+
+/// The rows that the printed tree writes are those of the value, in the order in which they are printed, and they are their
+/// own normal rows.
+pub fn printed_tree_is_kept()
+    ensures written { (value : KeptValue) → IsKeptValue value → HasComparisons value → value_written (printed_tree value) ≡ ordered value }
+    ensures normal { (value : KeptValue) → IsKeptValue value → HasComparisons value → value_lowered (printed_tree value) ≡ ordered value }
+{}
+
+/// The text of a value that one plain literal can write is that literal; what is read of it is the value again, with the
+/// same elements, and printed again it is the same text.
+pub fn round_trip()
+    ensures { (value : KeptValue) → IsWritableValue value → ReadsBack value }
+{}
+
+/// A reader of literals that keeps the contract of `read_literal` accepts the text of such a value: it answers the printed
+/// tree, unless memory runs out, where no number is above the limit and no name adds to the depth of the text.
+pub fn printed_is_accepted()
+    ensures { (limit : ℕ) (value : KeptValue) → limit < too_great → IsWritableValue value → HasNumbersUpTo limit value → HasQuietNames value
+        → IsAccepted limit value }
+{}

@@ -1,0 +1,9 @@
+//! Printed values are literals again.
+#![tactic(auto)]
+
+mod laws;
+
+pub use laws::{
+    printed_is_accepted, printed_tree_is_kept, printed_tree_is_known, printed_tree_is_plain,
+    printed_tree_is_spelled, printed_tree_is_within, round_trip,
+};

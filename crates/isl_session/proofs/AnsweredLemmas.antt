@@ -1,0 +1,192 @@
+-- From what the session and the ends say to what a run has done.
+use Rattle.std.proofs.Common.{◌≡◌, ℕ, ◌+◌, ◌≤◌, List, [], ◌∷◌, ◌++◌, length, take, true, refl, sym, ◌∙◌, ap, subst, arith, Option, None, Some, Result, Ok, Err}
+use Rattle.std.specs.List.{concat}
+use Rattle.std.specs.Result.{OnOk, OnErr}
+use Rattle.std.specs.Io.KnownBytes.{Appends, Consumes, IsAtEnd}
+use Rattle.std.proofs.lemmas.List.{append-nil, append_assoc, length-append}
+use Rattle.isl_math.specs.Count.{Rose}
+use Rattle.isl_meter.specs.Gauge.{Gauge, IsKept, limit_of}
+use Rattle.isl_stmt.specs.Script.{statements, rest_of, ends, IsBlank}
+use Rattle.isl_text.specs.declared.refusal.Refusal.{Refusal}
+use Rattle.isl_eval.specs.Machine.{Refuses}
+use Rattle.isl_session.specs.declared.fault.Fault.{Fault}
+use Rattle.isl_session.specs.declared.TheConstants.{SCRIPT_MAX}
+use Rattle.isl_session.specs.Place.{Place, at_words, in_statement, past_limit, at_end, at_read, at_write, anywhere, place_of}
+use Rattle.isl_session.specs.View.{View, BreaksIn, Fed, Stopped, fresh}
+use Rattle.isl_session.specs.Status.{StatusView}
+use Rattle.isl_session.specs.Lines.{fault_line}
+use Rattle.isl_session.specs.Run.{Answered, Ended, Halts, HasCause, IsScriptOf, OfFirst, Outside, Progress, Tells, Wrote, number_at}
+use Rattle.isl_session.proofs.MeterLemmas.{kept_refl}
+use Rattle.isl_session.proofs.AheadLemmas.{ahead_of, statements-readable, ahead_end, ahead_full, ahead_first}
+
+-- what was told, unless telling failed
+pub tells_of : {T E : Type 0} (r : Result T E) (A R : Type 0) → OnOk r A → OnErr r R → (R → ⊥) → A
+tells_of (Ok x) A R ok err not = ok
+tells_of (Err e) A R ok err not = absurd (not err)
+
+-- the parts of a status
+module _ (status : StatusView) (refusal : Option Refusal) (meter : Gauge) (is : status ≡ record { refusal = refusal; meter = Some meter }) where
+  pub status_refusal : status.refusal ≡ refusal
+  status_refusal = ap (λ (s : StatusView). s.refusal) is
+
+  pub status_meter : (now : Gauge) → meter ≡ now → status.meter ≡ Some now
+  status_meter now same = ap (λ (s : StatusView). s.meter) is ∙ ap Some same
+
+abbrev fault_of : ℕ → Refusal → Fault
+fault_of statement refusal = record { statement = statement; refusal = refusal }
+
+-- why a run ended at this place, what it wrote and what it told
+abbrev EndedAt : (first : Gauge) (script : List ℕ) → Progress first script → List ℕ → List ℕ → Gauge → Outside → Outside → Refusal → Place → Type 0
+EndedAt first script progress taken gained now old new refusal place =
+    HasCause first script progress taken now old new refusal place × Wrote progress.answers gained place
+    × Tells old new (fault_line (fault_of (number_at progress.answers place) refusal))
+
+-- A run that took this front of a script, and after which the session and its meter are so.
+module _ (first : Gauge) (script : List ℕ) (old new : Outside) (status : StatusView) (session : View) (meter_is : status.meter ≡ Some session.meter)
+    (taken left : List ℕ) (script_is : script ≡ taken ++ left) (told : IsScriptOf old.left taken script) (took : Consumes old.left new.left taken) (few : length taken ≤ SCRIPT_MAX + 1)
+    (gained : List ℕ) (wrote : Appends old.written new.written gained) where
+  assemble : (refusal : Option Refusal) → status.refusal ≡ refusal → (progress : Progress first script) → IsKept progress.meter session.meter → session.meter.units ≡ progress.meter.units
+      → Ended first script progress taken gained session.meter old new refusal → Answered first script old new status
+  assemble refusal is progress kept units ended = record {
+    taken = taken;
+    left = left;
+    script_is = script_is;
+    told = told;
+    took = took;
+    few = few;
+    progress = progress;
+    gained = gained;
+    wrote = wrote;
+    meter = session.meter;
+    meter_is = meter_is;
+    kept = kept;
+    units = units;
+    ended = subst (λ (r : Option Refusal). Ended first script progress taken gained session.meter old new r) (sym is) ended;
+  }
+
+  -- the script was answered up to the end of a front
+  module _ (front more : List ℕ) (split : script ≡ front ++ more) (answers : List (List ℕ)) (at_front : View) (fed : Fed (fresh first) front answers at_front) where
+    front_within : length front ≤ SCRIPT_MAX
+    front_within = omega (arith, fed.taken, fed.within)
+
+    abbrev progress : Progress first script
+    progress = record {
+      done = statements front;
+      ahead = ahead_of front more;
+      split = ap (λ (l : List ℕ). statements (take SCRIPT_MAX l)) split ∙ statements-readable front more front_within;
+      answers = answers;
+      state = at_front.state;
+      run = fed.run;
+      meter = at_front.meter;
+      carried = fed.meter;
+    }
+
+    -- how it ended is left to say
+    halted : (refusal : Refusal) → status.refusal ≡ Some refusal → (place : Place) → place_of refusal ≡ place → IsKept at_front.meter session.meter → session.meter.units ≡ at_front.meter.units
+        → EndedAt first script progress taken gained session.meter old new refusal place → Answered first script old new status
+    halted refusal is place at kept units ended =
+        assemble (Some refusal) is progress kept units (subst (λ (p : Place). EndedAt first script progress taken gained session.meter old new refusal p) (sym at) ended)
+
+  -- the whole script was taken and answered
+  pub answered_whole : status.refusal ≡ None → left ≡ [] → IsAtEnd new.left → (answers : List (List ℕ)) → gained ≡ concat answers → Fed (fresh first) taken answers session → IsBlank session.rest
+      → Answered first script old new status
+  answered_whole is none end answers gained_is fed blank =
+      let whole : taken ≡ script = sym (script_is ∙ ap (λ (l : List ℕ). taken ++ l) none ∙ append-nil taken) in
+      assemble None is (progress taken left script_is answers session fed) (kept_refl session.meter) refl (
+        record {
+          answered = ahead_end taken left none;
+          whole = whole;
+          within = omega (arith, ap length whole, fed.taken, fed.within);
+          blank = subst IsBlank (fed.rest ∙ ap rest_of whole) blank;
+          end = end;
+        },
+        gained_is,
+      )
+
+  -- a refusal
+  module _ (statement : ℕ) (refusal : Refusal) (status_is : status.refusal ≡ Some refusal) (tells : Tells old new (fault_line (fault_of statement refusal))) where
+    line_for : (k : ℕ) → statement ≡ k → Tells old new (fault_line (fault_of k refusal))
+    line_for k is = subst (λ (n : ℕ). Tells old new (fault_line (fault_of n refusal))) is tells
+
+    -- the session was refused at a byte
+    module _ (answers : List (List ℕ)) (gained_is : gained ≡ concat answers) (stopped : Stopped (fresh first) taken answers session (fault_of statement refusal)) where
+      abbrev more : List ℕ
+      more = stopped.behind ++ left
+
+      split_at : script ≡ stopped.front ++ (stopped.byte ∷ more)
+      split_at = script_is ∙ ap (λ (l : List ℕ). l ++ left) stopped.split ∙ append_assoc stopped.front (stopped.byte ∷ stopped.behind) left
+
+      abbrev so_far : Progress first script
+      so_far = progress stopped.front (stopped.byte ∷ more) split_at answers stopped.at_front stopped.fed
+
+      breaks_at : (place : Place) → place_of refusal ≡ place → BreaksIn place stopped.at_front stopped.byte session.meter refusal
+      breaks_at place at = subst (λ (p : Place). BreaksIn p stopped.at_front stopped.byte session.meter refusal) at stopped.breaks
+
+      number : statement ≡ length answers + 1
+      number = omega (arith, stopped.number, stopped.fed.answered)
+
+      halted_at : (place : Place) → place_of refusal ≡ place → HasCause first script so_far taken session.meter old new refusal place → Wrote answers gained place
+          → statement ≡ number_at answers place → Answered first script old new status
+      halted_at place at cause written k =
+          halted stopped.front (stopped.byte ∷ more) split_at answers stopped.at_front stopped.fed refusal status_is place at stopped.meter stopped.units
+          (cause, written, line_for (number_at answers place) k)
+
+      refused_in_statement : place_of refusal ≡ in_statement → Answered first script old new status
+      refused_in_statement at =
+          let breaks = breaks_at in_statement at in
+          let rest = stopped.fed.rest in
+          let ended = subst (λ (l : List ℕ). ends l stopped.byte ≡ true) rest breaks.1 in
+          let first_ahead = ahead_first stopped.front stopped.byte more (omega (arith, stopped.fed.taken, breaks.0)) ended in
+          let at_front = stopped.at_front in
+          let P : List ℕ → Type 0 = λ bytes. Refuses (limit_of at_front.meter) at_front.state bytes at_front.meter session.meter refusal in
+          halted_at in_statement at (subst (OfFirst P) (sym first_ahead.1) (subst P rest breaks.2)) gained_is number
+
+      refused_past_limit : place_of refusal ≡ past_limit → Answered first script old new status
+      refused_past_limit at =
+          let full = breaks_at past_limit at in
+          let front = stopped.front in
+          halted_at past_limit at (
+            ahead_full front (stopped.byte ∷ more) (omega (arith, stopped.fed.taken, full)),
+            omega (arith, few, ap length stopped.split, length-append front (stopped.byte ∷ stopped.behind), stopped.fed.taken, full),
+          ) gained_is number
+
+    -- whatever stopped it
+    pub answered_up_to : (place : Place) → place_of refusal ≡ place → (IsAtEnd new.left → left ≡ [])
+        → Halts (Rose old.reads new.reads) (Rose old.writes new.writes) (IsAtEnd new.left) (fresh first) taken gained session (fault_of statement refusal) place → Answered first script old new status
+    answered_up_to at_words at none_left h = absurd h
+    answered_up_to in_statement at none_left h = refused_in_statement h.0 h.1 h.2 at
+    answered_up_to past_limit at none_left h = refused_past_limit h.0 h.1 h.2 at
+    answered_up_to anywhere at none_left h = halted_at h.0 h.1 h.2 anywhere at tt h.1 (number h.0 h.1 h.2)
+    answered_up_to at_read at none_left h =
+        let answers = h.2.0 in
+        let fed = h.2.2 in
+        halted taken left script_is answers session fed refusal status_is at_read at (kept_refl session.meter) refl (
+          (h.0, refl, omega (arith, fed.taken, fed.within)),
+          h.2.1,
+          line_for (length answers + 1) (omega (arith, fed.answered, h.1)),
+        )
+    answered_up_to at_write at none_left h =
+        let front = h.2.0 in
+        let answers = h.2.2 in
+        let fed = h.2.5 in
+        halted front (h.2.1 ++ left) (script_is ∙ ap (λ (l : List ℕ). l ++ left) h.2.3 ∙ append_assoc front h.2.1 left) answers session fed refusal status_is at_write at (kept_refl session.meter) refl
+        (h.0, h.2.4, line_for (length answers) (omega (arith, fed.answered, h.1)))
+    answered_up_to at_end at none_left h =
+        let answers = h.1.0 in
+        let before = h.1.1 in
+        let fed = h.1.3 in
+        let none = none_left h.0 in
+        let whole : taken ≡ script = sym (script_is ∙ ap (λ (l : List ℕ). taken ++ l) none ∙ append-nil taken) in
+        let rest : before.rest ≡ rest_of script = fed.rest ∙ ap rest_of whole in
+        let meter = ap (λ (v : View). v.meter) h.1.6 in
+        halted taken left script_is answers before fed refusal status_is at_end at (subst (λ (g : Gauge). IsKept before.meter g) (sym meter) (kept_refl before.meter)) (ap (λ (g : Gauge). g.units) meter) (
+          (
+            ahead_end taken left none,
+            whole,
+            omega (arith, ap length whole, fed.taken, fed.within),
+            h.0,
+            λ blank. h.1.4 (subst IsBlank (sym rest) blank),
+          ),
+          h.1.2,
+          line_for (length answers + 1) (omega (arith, fed.answered, h.1.5)),
+        )

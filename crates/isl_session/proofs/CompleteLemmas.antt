@@ -1,0 +1,105 @@
+-- What is valid is answered, unless memory ends or a count rose.
+use Rattle.std.proofs.Common.{◌≡◌, ℕ, ℤ, ◌+◌, ◌≤◌, List, [], ◌∷◌, ◌++◌, length, refl, sym, ◌∙◌, ap, subst, arith, Option, None, Some}
+use Rattle.std.proofs.lemmas.List.{append_assoc, length-append, take_all}
+use mathlib.Core.Logic.{inl, inr}
+use Rattle.isl_math.specs.Count.{Rose}
+use Rattle.isl_meter.specs.Gauge.{Gauge, limit_of}
+use Rattle.isl_stmt.specs.Script.{statements, rest_of}
+use Rattle.isl_stmt.proofs.ScriptLaws.{statements-append}
+use Rattle.isl_text.specs.declared.refusal.Refusal.{Refusal}
+use Rattle.isl_text.specs.declared.refusal.Refusal.TheVariants.{Usage, Unfinished, Overflow, Budget, ReadFault, WriteFault, NoMemory, ScriptTooLong}
+use Rattle.isl_eval.specs.Bindings.{Bindings}
+use Rattle.isl_eval.specs.Machine.{Refuses}
+use Rattle.isl_eval.proofs.Causes.{overflow_rose}
+use Rattle.isl_session.specs.declared.fault.Fault.{Fault}
+use Rattle.isl_session.specs.declared.TheConstants.{SCRIPT_MAX}
+use Rattle.isl_session.specs.Place.{Place, at_words, in_statement, past_limit, at_end, at_read, at_write, anywhere, place_of}
+use Rattle.isl_session.specs.View.{View, BreaksIn, Carries, Stopped}
+use Rattle.isl_session.specs.Status.{StatusView}
+use Rattle.isl_session.specs.Run.{Answered, Ended, HasCause, OfFirst, Outside, Progress}
+use Rattle.isl_session.specs.Valid.{AreValid, IsDoneOrMemory, IsValid, IsValidScript}
+use Rattle.isl_session.proofs.MeterLemmas.{carries_limit}
+use Rattle.isl_session.proofs.ScriptLemmas.{statements-ended}
+use Rattle.isl_session.proofs.FedLemmas.{fed_ready}
+
+-- where memory is asked for, only its want comes
+memory_only : (refusal : Refusal) → place_of refusal ≡ anywhere → refusal ≡ NoMemory
+memory_only NoMemory is = refl
+memory_only Usage is = absurd (let bad : ⊥ = cc in bad)
+memory_only Unfinished is = absurd (let bad : ⊥ = cc in bad)
+memory_only ReadFault is = absurd (let bad : ⊥ = cc in bad)
+memory_only WriteFault is = absurd (let bad : ⊥ = cc in bad)
+memory_only ScriptTooLong is = absurd (let bad : ⊥ = cc in bad)
+memory_only refusal is = absurd (let bad : ⊥ = cc in bad)
+
+-- a valid statement without an overflow
+no_cause : (limit : ℤ) (state : Bindings) (bytes : List ℕ) (before now : Gauge) → IsValid limit state bytes → (Rose before.overflows now.overflows → ⊥)
+    → (refusal : Refusal) → Refuses limit state bytes before now refusal → refusal ≡ NoMemory
+no_cause limit state bytes before now valid no_overflow NoMemory cause = refl
+no_cause limit state bytes before now valid no_overflow Overflow cause = absurd (no_overflow (overflow_rose limit state bytes before now cause))
+no_cause limit state bytes before now valid no_overflow Budget cause = absurd cause
+no_cause limit state bytes before now valid no_overflow refusal cause = absurd (valid refusal before now refl cause)
+
+-- the same, where statements that were answered raised no count
+no_cause_behind : (first : Gauge) (state : Bindings) (bytes : List ℕ) (before now : Gauge) → Carries first before → IsValid (limit_of first) state bytes → (Rose first.overflows now.overflows → ⊥)
+    → (refusal : Refusal) → Refuses (limit_of before) state bytes before now refusal → refusal ≡ NoMemory
+no_cause_behind first state bytes before now carried valid no_overflow refusal cause =
+    no_cause (limit_of before) state bytes before now (subst (λ (k : ℤ). IsValid k state bytes) (sym (carries_limit first before carried)) valid)
+    (subst (λ (n : ℕ). Rose n now.overflows → ⊥) (sym (ap (λ (g : Gauge). g.overflows) carried.same)) no_overflow) refusal cause
+
+-- a piece whose statements are valid
+pub complete_piece : (old : View) (piece : List ℕ) (answers : List (List ℕ)) (new : View) (fault : Fault) → Stopped old piece answers new fault
+    → AreValid (limit_of old.meter) old.state (statements (old.rest ++ piece)) → old.taken + length piece ≤ SCRIPT_MAX → (Rose old.meter.overflows new.meter.overflows → ⊥) → fault.refusal ≡ NoMemory
+complete_piece old piece answers new fault stopped valid within no_overflow = go (place_of fault.refusal) refl stopped.breaks
+  where
+    go : (place : Place) → place_of fault.refusal ≡ place → BreaksIn place stopped.at_front stopped.byte new.meter fault.refusal → fault.refusal ≡ NoMemory
+    go at_words at breaks = absurd breaks
+    go at_end at breaks = absurd breaks
+    go at_read at breaks = absurd breaks
+    go at_write at breaks = absurd breaks
+    go anywhere at breaks = memory_only fault.refusal at
+    go past_limit at breaks = absurd (omega (arith, stopped.fed.taken, ap length stopped.split, length-append stopped.front (stopped.byte ∷ stopped.behind), within, breaks))
+    go in_statement at breaks =
+        let fed = stopped.fed in
+        let rest = stopped.at_front.rest in
+        let ready = fed_ready old stopped.front answers stopped.at_front fed in
+        let next = rest ++ stopped.byte ∷ [] in
+        let later = statements (rest_of next ++ stopped.behind) in
+        let split : statements (old.rest ++ piece) ≡ statements (old.rest ++ stopped.front) ++ rest ∷ later =
+        ap (λ (l : List ℕ). statements (old.rest ++ l)) stopped.split
+        ∙ ap statements (sym (append_assoc old.rest stopped.front (stopped.byte ∷ stopped.behind)))
+        ∙ statements-append (old.rest ++ stopped.front) (stopped.byte ∷ stopped.behind)
+        ∙ ap (λ (l : List (List ℕ)). statements (old.rest ++ stopped.front) ++ l)
+        (ap (λ (l : List ℕ). statements (l ++ stopped.byte ∷ stopped.behind)) (sym fed.rest)
+        ∙ ap statements (sym (append_assoc rest (stopped.byte ∷ []) stopped.behind)) ∙ statements-append next stopped.behind
+        ∙ ap (λ (l : List (List ℕ)). l ++ later) (statements-ended rest stopped.byte ready.open_rest breaks.1)) in
+        no_cause_behind old.meter stopped.at_front.state rest stopped.at_front.meter new.meter fed.meter
+        (valid.each (statements (old.rest ++ stopped.front)) rest later answers stopped.at_front.state split fed.run) no_overflow fault.refusal breaks.2
+
+module _ (first : Gauge) (script : List ℕ) (valid : IsValidScript (limit_of first) script) (old new : Outside) (progress : Progress first script) (now : Gauge)
+    (taken left : List ℕ) (script_is : script ≡ taken ++ left) (no_read : Rose old.reads new.reads → ⊥) (no_write : Rose old.writes new.writes → ⊥) (no_overflow : Rose first.overflows now.overflows → ⊥) where
+  -- the first statement ahead has no cause
+  first_ahead : (refusal : Refusal) (ahead : List (List ℕ)) → progress.ahead ≡ ahead → OfFirst (λ bytes. Refuses (limit_of progress.meter) progress.state bytes progress.meter now refusal) ahead → refusal ≡ NoMemory
+  first_ahead refusal [] is cause = absurd cause
+  first_ahead refusal (bytes ∷ later) is cause =
+      let split = ap statements (sym (take_all SCRIPT_MAX script valid.within)) ∙ progress.split ∙ ap (λ (l : List (List ℕ)). progress.done ++ l) is in
+      no_cause_behind first progress.state bytes progress.meter now progress.carried
+      (valid.parts.each progress.done bytes later progress.answers progress.state split progress.run) no_overflow refusal cause
+
+  only_memory : (refusal : Refusal) (place : Place) → place_of refusal ≡ place → HasCause first script progress taken now old new refusal place → refusal ≡ NoMemory
+  only_memory refusal at_words at cause = absurd cause
+  only_memory refusal at_end at cause = absurd (cause.4 valid.blank)
+  only_memory refusal at_read at cause = absurd (no_read cause.0)
+  only_memory refusal at_write at cause = absurd (no_write cause)
+  only_memory refusal past_limit at cause = absurd (omega (arith, cause.1, valid.within, ap length script_is, length-append taken left))
+  only_memory refusal anywhere at cause = memory_only refusal at
+  only_memory refusal in_statement at cause = first_ahead refusal progress.ahead refl cause
+
+  complete : (gained : List ℕ) (refusal : Option Refusal) → Ended first script progress taken gained now old new refusal → IsDoneOrMemory refusal
+  complete gained None ended = inl refl
+  complete gained (Some refusal) ended = inr (ap Some (only_memory refusal (place_of refusal) refl ended.0))
+
+pub complete_run : (first : Gauge) (script : List ℕ) (old new : Outside) (status : StatusView) → Answered first script old new status → IsValidScript (limit_of first) script
+    → (Rose old.reads new.reads → ⊥) → (Rose old.writes new.writes → ⊥) → ((meter : Gauge) → status.meter ≡ Some meter → Rose first.overflows meter.overflows → ⊥) → IsDoneOrMemory status.refusal
+complete_run first script old new status run valid no_read no_write no_overflow =
+    complete first script valid old new run.progress run.meter run.taken run.left run.script_is no_read no_write (no_overflow run.meter run.meter_is) run.gained status.refusal run.ended

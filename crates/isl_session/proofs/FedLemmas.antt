@@ -1,0 +1,72 @@
+-- One byte, or none, of a session's script.
+use Rattle.std.proofs.Common.{◌≡◌, ℕ, ◌+◌, ◌<◌, true, false, List, [], ◌∷◌, ◌++◌, sym, ◌∙◌, ap, subst, arith, Option, None, Some}
+use Rattle.std.specs.Option.{IfNone}
+use Rattle.std.proofs.lemmas.List.{append-nil}
+use Rattle.isl_meter.specs.Gauge.{limit_of}
+use Rattle.isl_stmt.specs.Script.{statements, rest_of, ends, IsOpen}
+use Rattle.isl_stmt.proofs.ScriptLaws.{open_rest, rest-open, statements-open}
+use Rattle.isl_eval.specs.Bindings.{Bindings}
+use Rattle.isl_eval.specs.Machine.{Answers, Run}
+use Rattle.isl_session.specs.declared.TheConstants.{SCRIPT_MAX}
+use Rattle.isl_session.specs.View.{View, Carries, Fed, IsReady}
+use Rattle.isl_session.proofs.MeterLemmas.{carries_refl}
+use Rattle.isl_session.proofs.RunLemmas.{no_run, one_run}
+use Rattle.isl_session.proofs.ScriptLemmas.{statements-held, rest_of-held, statements-ended, rest_of-ended}
+
+-- nothing of the script
+pub ready_fed : (view : View) → IsReady view → Fed view [] [] view
+ready_fed view ready = record {
+  run = subst (λ (l : List (List ℕ)). Run (limit_of view.meter) view.state l [] view.state) (sym (ap statements (append-nil view.rest) ∙ statements-open view.rest ready.open_rest)) (no_run (limit_of view.meter) view.state);
+  rest = sym (ap rest_of (append-nil view.rest) ∙ rest-open view.rest ready.open_rest);
+  taken = omega arith;
+  within = ready.within;
+  answered = omega arith;
+  sound = ready.sound;
+  meter = carries_refl view.meter;
+}
+
+-- a session that took a piece
+pub fed_ready : (a : View) (x : List ℕ) (ps : List (List ℕ)) (b : View) → Fed a x ps b → IsReady b
+fed_ready a x ps b fed =
+    record {
+      open_rest = subst IsOpen (sym fed.rest) (open_rest (a.rest ++ x));
+      within = fed.within;
+      sound = fed.sound;
+    }
+
+module _ (old : View) (ready : IsReady old) (byte : ℕ) (new : View) (room : old.taken < SCRIPT_MAX) (taken : new.taken ≡ old.taken + 1) (sound : new.fault ≡ None) (meter : Carries old.meter new.meter) where
+  -- a byte that ends a statement
+  pub fed_end : (answer : List ℕ) → ends old.rest byte ≡ true → Answers (limit_of old.meter) old.state old.rest new.state answer → new.rest ≡ [] → new.answered ≡ old.answered + 1 → Fed old (byte ∷ []) (answer ∷ []) new
+  fed_end answer is one rest answered = record {
+    run = subst (λ (l : List (List ℕ)). Run (limit_of old.meter) old.state l (answer ∷ []) new.state)
+        (sym (statements-ended old.rest byte ready.open_rest is))
+        (one_run (limit_of old.meter) old.state old.rest answer new.state one);
+    rest = rest ∙ sym (rest_of-ended old.rest byte ready.open_rest is);
+    taken = taken;
+    within = omega arith;
+    answered = answered;
+    sound = sound;
+    meter = meter;
+  }
+
+  -- another byte
+  pub fed_held : ends old.rest byte ≡ false → new.rest ≡ old.rest ++ byte ∷ [] → new.state ≡ old.state → new.answered ≡ old.answered → Fed old (byte ∷ []) [] new
+  fed_held is rest state answered = record {
+    run = subst (λ (l : List (List ℕ)). Run (limit_of old.meter) old.state l [] new.state)
+        (sym (statements-held old.rest byte ready.open_rest is))
+        (subst (λ (t : Bindings). Run (limit_of old.meter) old.state [] [] t) (sym state) (no_run (limit_of old.meter) old.state));
+    rest = rest ∙ sym (rest_of-held old.rest byte ready.open_rest is);
+    taken = taken;
+    within = omega arith;
+    answered = omega arith;
+    sound = sound;
+    meter = meter;
+  }
+
+pub if_none : {A P : Type 0} (o : Option A) → P → IfNone o P
+if_none None p = p
+if_none (Some x) p = tt
+
+pub at_none : {A P : Type 0} (o : Option A) → o ≡ None → IfNone o P → P
+at_none None is p = p
+at_none (Some x) is p = absurd (let bad : ⊥ = cc in bad)

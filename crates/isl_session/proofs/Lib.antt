@@ -1,0 +1,11 @@
+pub mod MeterLemmas
+pub mod ScriptLemmas
+pub mod RunLemmas
+pub mod FedLemmas
+pub mod KnownLemmas
+pub mod BreakLemmas
+pub mod HaltLemmas
+pub mod SoundLemmas
+pub mod AheadLemmas
+pub mod AnsweredLemmas
+pub mod CompleteLemmas

@@ -1,0 +1,137 @@
+-- How a run over a whole script ends, and what it leaves.
+use Rattle.std.specs.Prelude.{◌≡◌, ℕ, ◌+◌, ◌<◌, ◌≤◌, List, [], ◌∷◌, ◌++◌, length, take, Option, Some, None}
+use Rattle.std.specs.List.{concat}
+use Rattle.std.specs.Io.KnownBytes.{Appends, Consumes, IsAtEnd}
+use Rattle.isl_math.specs.Count.{Rose}
+use Rattle.isl_meter.specs.Gauge.{Gauge, IsKept, limit_of}
+use Rattle.isl_stmt.specs.Script.{statements, rest_of, readable, IsBlank}
+use Rattle.isl_text.specs.declared.refusal.Refusal.{Refusal}
+use Rattle.isl_eval.specs.Bindings.{Bindings, unbound}
+use Rattle.isl_eval.specs.Machine.{Refuses, Run}
+use Rattle.isl_session.specs.declared.fault.Fault.{Fault}
+use Rattle.isl_session.specs.declared.TheConstants.{SCRIPT_MAX}
+use Rattle.isl_session.specs.Place.{Place, at_words, in_statement, past_limit, at_end, at_read, at_write, anywhere, place_of}
+use Rattle.isl_session.specs.View.{View, Carries, Fed, Stopped}
+use Rattle.isl_session.specs.Status.{StatusView}
+use Rattle.isl_session.specs.Lines.{fault_line}
+
+-- The answers of a run, of which the last did not go out whole: this much was written.
+pub record IsCutShort (answers : List (List ℕ)) (gained : List ℕ) : Type 0 where
+  pub earlier : List (List ℕ)
+  pub final : List ℕ
+  pub split : answers ≡ earlier ++ final ∷ []
+  pub count : ℕ
+  pub short : count < length final
+  pub is : gained ≡ concat earlier ++ take count final
+
+-- Between the session and the outside: how the session ends while these bytes are taken and this much is written, by the place of
+-- the refusal. The first three say that a read failed, that a write failed, and that nothing is left to read.
+abbrev pub Halts : Type 0 → Type 0 → Type 0 → View → List ℕ → List ℕ → View → Fault → Place → Type 0
+Halts read_failed write_failed ended old taken gained new fault at_words = ⊥
+Halts read_failed write_failed ended old taken gained new fault at_read =
+    read_failed × (fault.statement ≡ new.answered + 1) × ((answers : List (List ℕ)) × (gained ≡ concat answers) × Fed old taken answers new)
+Halts read_failed write_failed ended old taken gained new fault at_write =
+    write_failed × (fault.statement ≡ new.answered) × ((front : List ℕ) × (behind : List ℕ) × (answers : List (List ℕ)) × (taken ≡ front ++ behind) × IsCutShort answers gained × Fed old front answers new)
+Halts read_failed write_failed ended old taken gained new fault at_end =
+    ended × ((answers : List (List ℕ)) × (before : View) × (gained ≡ concat answers) × Fed old taken answers before × (IsBlank before.rest → ⊥)
+    × (fault.statement ≡ before.answered + 1) × (new ≡ record before { fault = Some fault }))
+Halts read_failed write_failed ended old taken gained new fault in_statement = (answers : List (List ℕ)) × (gained ≡ concat answers) × Stopped old taken answers new fault
+Halts read_failed write_failed ended old taken gained new fault past_limit = (answers : List (List ℕ)) × (gained ≡ concat answers) × Stopped old taken answers new fault
+Halts read_failed write_failed ended old taken gained new fault anywhere = (answers : List (List ℕ)) × (gained ≡ concat answers) × Stopped old taken answers new fault
+
+-- The two ends of a program, and where it tells of a fault, as one moment sees them.
+pub record Outside : Type 0 where
+  -- what the source has left, and how often a read failed
+  pub left : Option (List ℕ)
+  pub reads : ℕ
+  -- what was written, and how often a write failed
+  pub written : Option (List ℕ)
+  pub writes : ℕ
+  -- what was told, and how often telling failed
+  pub told : Option (List ℕ)
+  pub tells : ℕ
+
+abbrev pub outside : Option (List ℕ) → ℕ → Option (List ℕ) → ℕ → Option (List ℕ) → ℕ → Outside
+outside left reads written writes told tells = record { left = left; reads = reads; written = written; writes = writes; told = told; tells = tells }
+
+-- How far a script was answered: its statements one after another, up to those that are ahead.
+pub record Progress (first : Gauge) (script : List ℕ) : Type 0 where
+  pub done : List (List ℕ)
+  pub ahead : List (List ℕ)
+  pub split : statements (readable script) ≡ done ++ ahead
+  pub answers : List (List ℕ)
+  pub state : Bindings
+  pub run : Run (limit_of first) unbound done answers state
+  -- the meter as the first statement ahead begins
+  pub meter : Gauge
+  pub carried : Carries first meter
+
+-- the first of these statements has P
+abbrev pub OfFirst : (List ℕ → Type 0) → List (List ℕ) → Type 0
+OfFirst P [] = ⊥
+OfFirst P (bytes ∷ later) = P bytes
+
+-- Why a run ended where it did, by the place of the refusal. `taken` was read, and `now` is the meter at the refusal.
+abbrev pub HasCause : (first : Gauge) (script : List ℕ) → Progress first script → List ℕ → Gauge → Outside → Outside → Refusal → Place → Type 0
+HasCause first script progress taken now old new refusal at_words = ⊥
+HasCause first script progress taken now old new refusal in_statement =
+    OfFirst (λ bytes. Refuses (limit_of progress.meter) progress.state bytes progress.meter now refusal) progress.ahead
+HasCause first script progress taken now old new refusal past_limit = (progress.ahead ≡ []) × (length taken ≡ SCRIPT_MAX + 1)
+HasCause first script progress taken now old new refusal at_end =
+    (progress.ahead ≡ []) × (taken ≡ script) × (length script ≤ SCRIPT_MAX) × IsAtEnd new.left × (IsBlank (rest_of script) → ⊥)
+HasCause first script progress taken now old new refusal at_read =
+    Rose old.reads new.reads × (progress.done ≡ statements taken) × (length taken ≤ SCRIPT_MAX)
+HasCause first script progress taken now old new refusal at_write = Rose old.writes new.writes
+HasCause first script progress taken now old new refusal anywhere = Unit {0}
+
+-- the whole script was read and answered, and nothing is left of it
+pub record IsDone (script : List ℕ) (ahead : List (List ℕ)) (taken : List ℕ) (new : Outside) : Type 0 where
+  pub answered : ahead ≡ []
+  pub whole : taken ≡ script
+  pub within : length script ≤ SCRIPT_MAX
+  pub blank : IsBlank (rest_of script)
+  pub end : IsAtEnd new.left
+
+-- what was written of the answers: all of them, or where a write failed all but a part of the last
+abbrev pub Wrote : List (List ℕ) → List ℕ → Place → Type 0
+Wrote answers gained at_write = IsCutShort answers gained
+Wrote answers gained place = gained ≡ concat answers
+
+-- The number of the statement that a refusal speaks of. A failed write speaks of the first whose answer did not go out whole,
+-- another refusal of the first that was not answered.
+abbrev pub number_at : List (List ℕ) → Place → ℕ
+number_at answers at_write = length answers
+number_at answers place = length answers + 1
+
+-- this line was told, unless telling failed
+abbrev pub Tells : Outside → Outside → List ℕ → Type 0
+Tells old new line = (Rose old.tells new.tells → ⊥) → Appends old.told new.told line
+
+abbrev pub Ended : (first : Gauge) (script : List ℕ) → Progress first script → List ℕ → List ℕ → Gauge → Outside → Outside → Option Refusal → Type 0
+Ended first script progress taken gained now old new None = IsDone script progress.ahead taken new × (gained ≡ concat progress.answers)
+Ended first script progress taken gained now old new (Some refusal) =
+    HasCause first script progress taken now old new refusal (place_of refusal) × Wrote progress.answers gained (place_of refusal)
+    × Tells old new (fault_line (record { statement = number_at progress.answers (place_of refusal); refusal = refusal }))
+
+-- the script is what the source tells that it has left; of a source that does not tell, it is what was read
+abbrev pub IsScriptOf : Option (List ℕ) → List ℕ → List ℕ → Type 0
+IsScriptOf None taken script = script ≡ taken
+IsScriptOf (Some bytes) taken script = script ≡ bytes
+
+-- What a run over a script has done. It read a front of the script, answered its statements one after another up to the first
+-- refused one, and wrote their answers and nothing else.
+pub record Answered (first : Gauge) (script : List ℕ) (old new : Outside) (status : StatusView) : Type 0 where
+  pub taken : List ℕ
+  pub left : List ℕ
+  pub script_is : script ≡ taken ++ left
+  pub told : IsScriptOf old.left taken script
+  pub took : Consumes old.left new.left taken
+  pub few : length taken ≤ SCRIPT_MAX + 1
+  pub progress : Progress first script
+  pub gained : List ℕ
+  pub wrote : Appends old.written new.written gained
+  pub meter : Gauge
+  pub meter_is : status.meter ≡ Some meter
+  pub kept : IsKept progress.meter meter
+  pub units : meter.units ≡ progress.meter.units
+  pub ended : Ended first script progress taken gained meter old new status.refusal

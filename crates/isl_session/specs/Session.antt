@@ -1,0 +1,21 @@
+-- The fields of a session: what they show, and what they keep.
+use Rattle.std.specs.Prelude.{◌≤◌, length}
+use Rattle.isl_meter.specs.Gauge.{limit_of}
+use Rattle.isl_stmt.specs.Script.{IsOpen}
+use Rattle.isl_stmt.specs.Cutter.{IsAt}
+use Rattle.isl_eval.specs.Bindings.{Fits}
+use Rattle.isl_session.specs.declared.session.Session.TheInside.{Inside}
+use Rattle.isl_session.specs.declared.TheConstants.{SCRIPT_MAX}
+use Rattle.isl_session.specs.View.{View}
+
+abbrev pub view_of : Inside → View
+view_of s = record { state = s.state; rest = s.rest.items; taken = s.taken; answered = s.answered; fault = s.fault; meter = s.meter }
+
+pub record IsSound (s : Inside) : Type 0 where
+  -- no statement ends in the bytes that are held, and the cutter stands behind them
+  pub open_rest : IsOpen s.rest.items
+  pub place : IsAt s.cutter s.rest.items
+  pub held : length s.rest.items ≤ s.taken
+  pub within : s.taken ≤ SCRIPT_MAX
+  pub answered : s.answered ≤ s.taken
+  pub fits : Fits (limit_of s.meter) s.state

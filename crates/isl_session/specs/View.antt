@@ -1,0 +1,95 @@
+-- A session as it is seen from outside, and what a piece of a script does to it.
+use Rattle.std.specs.Prelude.{◌≡◌, ℕ, ◌+◌, ◌<◌, ◌≤◌, List, [], ◌∷◌, ◌++◌, length, Option, Some, None, true, Result, MatchResult}
+use Rattle.std.specs.List.{concat}
+use Rattle.isl_meter.specs.Gauge.{Gauge, IsKept, limit_of}
+use Rattle.isl_stmt.specs.Script.{statements, rest_of, ends, IsBlank, IsOpen}
+use Rattle.isl_text.specs.declared.refusal.Refusal.{Refusal}
+use Rattle.isl_text.specs.declared.refusal.Refusal.TheVariants.{Unfinished}
+use Rattle.isl_eval.specs.Bindings.{Bindings, unbound}
+use Rattle.isl_eval.specs.Machine.{Refuses, Run}
+use Rattle.isl_session.specs.declared.fault.Fault.{Fault}
+use Rattle.isl_session.specs.declared.TheConstants.{SCRIPT_MAX}
+use Rattle.isl_session.specs.Place.{Place, at_words, in_statement, past_limit, at_end, at_read, at_write, anywhere, place_of}
+
+pub record View : Type 0 where
+  -- what the statements so far have bound
+  pub state : Bindings
+  -- the bytes behind the last statement's end
+  pub rest : List ℕ
+  -- how many bytes of the script were taken
+  pub taken : ℕ
+  -- how many statements were answered
+  pub answered : ℕ
+  pub fault : Option Fault
+  pub meter : Gauge
+
+-- a session that has taken nothing
+abbrev pub fresh : Gauge → View
+fresh meter = record { state = unbound; rest = []; taken = 0; answered = 0; fault = None; meter = meter }
+
+-- Statements that are answered raise no count of the session's meter. No unit is spent.
+pub record Carries (old new : Gauge) : Type 0 where
+  pub same : new ≡ record old { units = new.units }
+  pub units : new.units ≡ old.units
+
+-- A session took this piece, and answered each statement that the piece completed.
+pub record Fed (old : View) (piece : List ℕ) (answers : List (List ℕ)) (new : View) : Type 0 where
+  pub run : Run (limit_of old.meter) old.state (statements (old.rest ++ piece)) answers new.state
+  pub rest : new.rest ≡ rest_of (old.rest ++ piece)
+  pub taken : new.taken ≡ old.taken + length piece
+  pub within : new.taken ≤ SCRIPT_MAX
+  pub answered : new.answered ≡ old.answered + length answers
+  pub sound : new.fault ≡ None
+  pub meter : Carries old.meter new.meter
+
+-- A session without a fault, which holds no whole statement.
+pub record IsReady (view : View) : Type 0 where
+  pub open_rest : IsOpen view.rest
+  pub within : view.taken ≤ SCRIPT_MAX
+  pub sound : view.fault ≡ None
+
+-- Why a byte is not taken, by the place of the refusal: the statement that it ends is refused, or it is one byte too many for a
+-- script. `now` is the meter at the refusal.
+abbrev pub BreaksIn : Place → View → ℕ → Gauge → Refusal → Type 0
+BreaksIn in_statement view byte now refusal =
+    (view.taken < SCRIPT_MAX) × (ends view.rest byte ≡ true) × Refuses (limit_of view.meter) view.state view.rest view.meter now refusal
+BreaksIn past_limit view byte now refusal = view.taken ≡ SCRIPT_MAX
+BreaksIn anywhere view byte now refusal = Unit {0}
+BreaksIn at_words view byte now refusal = ⊥
+BreaksIn at_end view byte now refusal = ⊥
+BreaksIn at_read view byte now refusal = ⊥
+BreaksIn at_write view byte now refusal = ⊥
+
+-- A session is refused at a byte. Only its meter changes, whose limit and budget stay, and no count of it falls.
+pub record IsRefusedAt (old : View) (byte : ℕ) (refusal : Refusal) (new : View) : Type 0 where
+  pub breaks : BreaksIn (place_of refusal) old byte new.meter refusal
+  pub same : new ≡ record old { meter = new.meter }
+  pub meter : IsKept old.meter new.meter
+  pub units : new.meter.units ≡ old.meter.units
+
+-- A session took the front of this piece, was refused at the next byte, and has that fault from then on. Nothing else but its
+-- meter changed at that byte.
+pub record Stopped (old : View) (piece : List ℕ) (answers : List (List ℕ)) (new : View) (fault : Fault) : Type 0 where
+  pub front : List ℕ
+  pub byte : ℕ
+  pub behind : List ℕ
+  pub split : piece ≡ front ++ byte ∷ behind
+  pub at_front : View
+  pub fed : Fed old front answers at_front
+  pub breaks : BreaksIn (place_of fault.refusal) at_front byte new.meter fault.refusal
+  pub number : fault.statement ≡ at_front.answered + 1
+  pub same : new ≡ record at_front { meter = new.meter; fault = Some fault }
+  pub meter : IsKept at_front.meter new.meter
+  pub units : new.meter.units ≡ at_front.meter.units
+
+-- what a piece does to a session without a fault, and to the text of its answers
+abbrev pub Feeds : View → List ℕ → List ℕ → List ℕ → View → Result (Unit {0}) Fault → Type 0
+Feeds old piece text_before text new result = MatchResult result
+    (λ _. (answers : List (List ℕ)) × (text ≡ text_before ++ concat answers) × Fed old piece answers new)
+    (λ fault. (answers : List (List ℕ)) × (text ≡ text_before ++ concat answers) × Stopped old piece answers new fault)
+
+-- what the end of the script does to a session without a fault
+abbrev pub Finishes : View → View → Result (Unit {0}) Fault → Type 0
+Finishes old new result = MatchResult result
+    (λ _. IsBlank old.rest × (new ≡ old))
+    (λ fault. (IsBlank old.rest → ⊥) × (fault ≡ record { statement = old.answered + 1; refusal = Unfinished }) × (new ≡ record old { fault = Some fault }))

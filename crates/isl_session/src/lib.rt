@@ -1,0 +1,21 @@
+//! Sessions, which answer the statements of a script as its bytes come in, and the whole program over a source
+//! and two sinks.
+#![tactic(auto)]
+
+mod fault;
+mod options;
+mod program;
+mod session;
+mod status;
+mod write;
+
+pub use fault::Fault;
+pub use isl_text::refusal::Refusal;
+pub use options::Options;
+pub use program::run;
+pub use session::Session;
+pub use status::Status;
+pub use write::write_fault;
+
+/// The most bytes of a script that belong to its statements and its rest.
+pub const SCRIPT_MAX: u64 = 1 << 30;

@@ -1,0 +1,234 @@
+// The whole program over a source and two sinks.
+ghost use Rattle.std.specs.Prelude.{◌≡◌, ◌≢◌, ◌+◌, ◌<◌, ◌≤◌, ℕ, List, length, vec_len, Some, None, OnOk, IfErr, IfSome, IsNone, IsSome};
+ghost use Rattle.std.specs.List.{concat};
+ghost use Rattle.std.specs.Io.KnownBytes.{Appends, Consumes, IsAtEnd};
+ghost use Rattle.isl_math.specs.Count.{Rose};
+ghost use Rattle.isl_meter.specs.Gauge.{Gauge, limit_of};
+ghost use Rattle.isl_stmt.specs.Script.{IsBlank};
+ghost use Rattle.isl_session.specs.Choices.{gauge_of, defaults};
+ghost use Rattle.isl_session.specs.Place.{place_of};
+ghost use Rattle.isl_session.specs.View.{Fed, IsReady};
+ghost use Rattle.isl_session.specs.Lines.{usage_line};
+ghost use Rattle.isl_session.specs.Run.{Answered, Halts, outside};
+ghost use Rattle.isl_session.specs.Valid.{IsValidScript, IsDoneOrMemory};
+
+use crate::write::{write_all, write_fault, write_usage};
+use crate::{Fault, Options, SCRIPT_MAX, Session, Status};
+use isl_io::{Failed, Sink, Source};
+use isl_text::refusal::Refusal;
+use std::alloc::Global;
+
+// How many bytes a read asks for.
+const PIECE: usize = 4096;
+
+// What is chosen where the command line chooses nothing.
+const BITS: u32 = 127;
+
+const BUDGET: u64 = 10_000_000;
+
+// Takes a piece of the script. Each answer is written before the bytes behind its statement are taken.
+fn answer_piece<K: Sink>(
+    session: &mut Session,
+    out: &mut K,
+    text: &mut Vec<u8>,
+    piece: &[u8],
+) -> Result<(), Fault>
+    requires { IsReady session.old }
+    ensures ok { OnOk result ((answers : List (List ℕ))
+        × Appends (K.written out.old) (K.written out.new) (concat answers)
+        × Fed session.old piece.now answers session.new) }
+    ensures err { IfErr result (λ fault. (gained : List ℕ)
+        × Appends (K.written out.old) (K.written out.new) gained
+        × Halts ⊥ (Rose (K.faults out.old) (K.faults out.new)) ⊥
+        session.old piece.now gained session.new fault (place_of fault.refusal)) }
+    ensures no_fewer_faults { K.faults out.old ≤ K.faults out.new }
+{
+    let mut at = 0;
+    while at < piece.len() {
+        text.clear();
+        match session.take_front(&piece[at..], text) {
+            Ok(n) => at += n,
+            Err(fault) => return Err(fault),
+        }
+        if let Err(Failed) = write_all(out, text) {
+            return Err(Fault {
+                statement: session.answered(),
+                refusal: Refusal::WriteFault,
+            });
+        }
+    }
+    Ok(())
+}
+
+// How many bytes the next read may take: at most `most`, and no more than one behind the last that a script may
+// have.
+fn room_for(session: &Session, most: usize) -> usize
+    requires { 0 < most }
+    ensures some { 0 < result }
+    ensures most { result ≤ most }
+    ensures few { session.now.taken + result ≤ SCRIPT_MAX + 1 }
+{
+    let left = SCRIPT_MAX + 1 - session.taken();
+    left.min(most as u64) as usize
+}
+
+// Takes what the source has left, in the pieces that it gives.
+fn answer_all<S: Source, K: Sink>(
+    session: &mut Session,
+    src: &mut S,
+    out: &mut K,
+    text: &mut Vec<u8>,
+    buf: &mut [u8],
+) -> Result<(), Fault>
+    requires ready { IsReady session.old }
+    requires room { 0 < length buf.old }
+    ensures ok { OnOk result ((taken : List ℕ) × (answers : List (List ℕ))
+        × Consumes (S.left src.old) (S.left src.new) taken × IsAtEnd (S.left src.new)
+        × Appends (K.written out.old) (K.written out.new) (concat answers)
+        × Fed session.old taken answers session.new) }
+    ensures err { IfErr result (λ fault. (taken : List ℕ) × (gained : List ℕ)
+        × Consumes (S.left src.old) (S.left src.new) taken
+        × (session.old.taken + length taken ≤ SCRIPT_MAX + 1)
+        × Appends (K.written out.old) (K.written out.new) gained
+        × Halts (Rose (S.faults src.old) (S.faults src.new)) (Rose (K.faults out.old) (K.faults out.new)) ⊥
+        session.old taken gained session.new fault (place_of fault.refusal)) }
+    ensures later_reads { S.faults src.old ≤ S.faults src.new }
+    ensures later_writes { K.faults out.old ≤ K.faults out.new }
+{
+    'reads: loop {
+        let room = room_for(session, buf.len());
+        let piece = &mut buf[..room];
+        match src.read(piece) {
+            Ok(0) => return Ok(()),
+            Ok(n) => {
+                if let Err(fault) = answer_piece(session, out, text, &piece[..n]) {
+                    return Err(fault);
+                }
+            }
+            Err(Failed) => {
+                return Err(Fault {
+                    statement: session.answered() + 1,
+                    refusal: Refusal::ReadFault,
+                });
+            }
+        }
+    }
+}
+
+// Answers the whole script.
+fn run_session<S: Source, K: Sink>(
+    alloc: Global,
+    session: &mut Session,
+    src: &mut S,
+    out: &mut K,
+) -> Result<(), Fault>
+    requires { IsReady session.old }
+    ensures ok { OnOk result ((taken : List ℕ) × (answers : List (List ℕ))
+        × Consumes (S.left src.old) (S.left src.new) taken × IsAtEnd (S.left src.new)
+        × Appends (K.written out.old) (K.written out.new) (concat answers)
+        × Fed session.old taken answers session.new × IsBlank session.new.rest) }
+    ensures err { IfErr result (λ fault. (taken : List ℕ) × (gained : List ℕ)
+        × Consumes (S.left src.old) (S.left src.new) taken
+        × (session.old.taken + length taken ≤ SCRIPT_MAX + 1)
+        × Appends (K.written out.old) (K.written out.new) gained
+        × Halts (Rose (S.faults src.old) (S.faults src.new)) (Rose (K.faults out.old) (K.faults out.new))
+        (IsAtEnd (S.left src.new)) session.old taken gained session.new fault (place_of fault.refusal)) }
+{
+    let mut buf = [0; PIECE];
+    let mut text = Vec::new(alloc);
+    if let Err(fault) = answer_all(session, src, out, &mut text, &mut buf) {
+        return Err(fault);
+    }
+    session.finish(&mut text)
+}
+
+// Answers the script with these options, and tells a refusal.
+fn run_script<S: Source, K: Sink, E: Sink>(
+    alloc: Global,
+    options: Options,
+    src: &mut S,
+    out: &mut K,
+    err: &mut E,
+) -> Status
+    ensures answered { (script : List ℕ) × Answered (gauge_of options) script
+        (outside (S.left src.old) (S.faults src.old) (K.written out.old) (K.faults out.old)
+        (E.written err.old) (E.faults err.old))
+        (outside (S.left src.new) (S.faults src.new) (K.written out.new) (K.faults out.new)
+        (E.written err.new) (E.faults err.new))
+        result }
+    ensures quiet { result.refusal ≡ None → err.new ≡ err.old }
+    ensures read_fault { result.refusal ≡ Some Refusal.ReadFault
+        → Rose (S.faults src.old) (S.faults src.new) }
+    ensures write_fault { result.refusal ≡ Some Refusal.WriteFault
+        → Rose (K.faults out.old) (K.faults out.new) }
+    ensures overflow { result.refusal ≡ Some Refusal.Overflow
+        → IfSome result.meter (λ meter. Rose 0 meter.overflows) }
+    ensures no_usage { result.refusal ≢ Some Refusal.Usage }
+    ensures session { IsSome result.meter }
+{
+    let mut session = Session::new(alloc, options);
+    let outcome = run_session(alloc, &mut session, src, out);
+    match outcome {
+        Ok(()) => Status::new(None, Some(session.into_meter())),
+        Err(fault) => {
+            let _ = write_fault(err, fault);
+            Status::new(Some(fault.refusal), Some(session.into_meter()))
+        }
+    }
+}
+
+/// Does all that the program does: judges the words, answers the script that `src` has left on `out`, and tells
+/// a refusal on `err`.
+///
+/// The words are taken where there is one, the program's name. Then numbers have 127 bits, and a statement may
+/// use 10,000,000 units. No more than 2^30 + 1 bytes are read.
+pub fn run<S: Source, K: Sink, E: Sink>(
+    alloc: Global,
+    words: &Vec<String>,
+    src: &mut S,
+    out: &mut K,
+    err: &mut E,
+) -> Status
+    // For every script, however its bytes arrive, and whatever the ends tell.
+    ensures answered { vec_len words.now ≡ 1 → (script : List ℕ) × Answered (gauge_of defaults) script
+        (outside (S.left src.old) (S.faults src.old) (K.written out.old) (K.faults out.old)
+        (E.written err.old) (E.faults err.old))
+        (outside (S.left src.new) (S.faults src.new) (K.written out.new) (K.faults out.new)
+        (E.written err.new) (E.faults err.new))
+        result }
+    ensures quiet { result.refusal ≡ None → err.new ≡ err.old }
+
+    // A valid script is answered whole, unless memory ends or a count rises.
+    ensures complete { vec_len words.now ≡ 1
+        → (script : List ℕ) → S.left src.old ≡ Some script
+        → IsValidScript (limit_of (gauge_of defaults)) script
+        → (Rose (S.faults src.old) (S.faults src.new) → ⊥)
+        → (Rose (K.faults out.old) (K.faults out.new) → ⊥)
+        → ((meter : Gauge) → result.meter ≡ Some meter → Rose 0 meter.overflows → ⊥)
+        → IsDoneOrMemory result.refusal }
+
+    // The counted faults.
+    ensures read_fault { result.refusal ≡ Some Refusal.ReadFault
+        → Rose (S.faults src.old) (S.faults src.new) }
+    ensures write_fault { result.refusal ≡ Some Refusal.WriteFault
+        → Rose (K.faults out.old) (K.faults out.new) }
+    ensures overflow { result.refusal ≡ Some Refusal.Overflow
+        → IfSome result.meter (λ meter. Rose 0 meter.overflows) }
+
+    // Other words are refused before anything is read, and the usage line is told.
+    ensures usage { (vec_len words.now ≡ 1 → ⊥)
+        → (result ≡ record { refusal = Some Refusal.Usage; meter = None })
+        × (src.new ≡ src.old) × (out.new ≡ out.old) }
+    ensures only_usage { result.refusal ≡ Some Refusal.Usage → vec_len words.now ≡ 1 → ⊥ }
+    ensures session { IsNone result.meter → result.refusal ≡ Some Refusal.Usage }
+    ensures usage_line { result.refusal ≡ Some Refusal.Usage
+        → (Rose (E.faults err.old) (E.faults err.new) → ⊥)
+        → Appends (E.written err.old) (E.written err.new) usage_line }
+{
+    if words.len() != 1 {
+        let _ = write_usage(err);
+        return Status::new(Some(Refusal::Usage), None);
+    }
+    let options = Options::new(BITS, BUDGET, Vec::new(alloc), false);
+    run_script(alloc, options, src, out, err)
+}

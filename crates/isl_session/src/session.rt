@@ -1,0 +1,207 @@
+// A session takes a script in pieces of any length, and answers each statement as soon as it is complete.
+ghost use Rattle.std.specs.Prelude.{◌≡◌, ◌+◌, ◌<◌, ◌≤◌, ◌++◌, [], ◌∷◌, ℕ, List, length, take, false, Some, None, IfSome, IfNone, IfErr, IfOk, OnOk};
+ghost use Rattle.std.specs.List.{concat};
+ghost use Rattle.isl_math.specs.Count.{Rose};
+ghost use Rattle.isl_meter.specs.Gauge.{limit_of};
+ghost use Rattle.isl_stmt.specs.Script.{statements};
+ghost use Rattle.isl_session.specs.Choices.{gauge_of};
+ghost use Rattle.isl_session.specs.Valid.{AreValid};
+ghost use Rattle.isl_session.specs.View.{Fed, Feeds, Finishes, IsReady, IsRefusedAt, Stopped, fresh};
+
+use crate::{Fault, Options, SCRIPT_MAX};
+use isl_eval::{State, answer};
+use isl_meter::Meter;
+use isl_stmt::Cutter;
+use isl_text::refusal::Refusal;
+use std::alloc::Global;
+use std::marker::Model;
+
+/// Answers the statements of one script.
+///
+/// A refusal ends it: from then on each call answers the same fault and changes nothing.
+#[derive(Drop)]
+pub struct Session {
+    alloc: Global,
+    state: State,
+    rest: Vec<u8>,
+    cutter: Cutter,
+    taken: u64,
+    answered: u64,
+    fault: Option<Fault>,
+    meter: Meter,
+}
+
+impl Model for Session {
+    ghost use Rattle.isl_session.specs.View.{View};
+
+    ghost Value = { View };
+
+    ghost use Rattle.isl_session.specs.Session.{view_of, IsSound};
+
+    ghost view = { view_of };
+
+    ghost invariant = { IsSound };
+}
+
+impl Session {
+    /// Nothing is taken yet and nothing is bound.
+    pub fn new(alloc: Global, options: Options) -> Session
+        ensures { result ≡ fresh (gauge_of options) }
+    {
+        Session {
+            alloc,
+            state: State::new(alloc),
+            rest: Vec::new(alloc),
+            cutter: Cutter::new(),
+            taken: 0,
+            answered: 0,
+            fault: None,
+            meter: Meter::new(options.bits, options.budget),
+        }
+    }
+
+    // Takes one byte, and tells whether it ended a statement, which is then answered.
+    fn take_byte(&mut self, byte: u8, text: &mut Vec<u8>) -> Result<bool, Refusal>
+        requires { self.old.fault ≡ None }
+        ensures ok { IfOk result (λ ended. (answers : List (List ℕ))
+            × (text.new.items ≡ text.old.items ++ concat answers)
+            × Fed self.old (byte ∷ []) answers self.new × (length answers ≤ 1) × (ended ≡ false
+            → answers ≡ [])) }
+        ensures err { IfErr result (λ refusal. (text.new.items ≡ text.old.items)
+            × IsRefusedAt self.old byte refusal self.new) }
+    {
+        if self.taken >= SCRIPT_MAX {
+            return Err(Refusal::ScriptTooLong);
+        }
+        let mut cutter = self.cutter;
+        if cutter.push(byte) {
+            if let Err(refusal) = answer(
+                self.alloc,
+                &self.rest,
+                &mut self.state,
+                &mut self.meter,
+                text,
+            ) {
+                return Err(refusal);
+            }
+            self.rest.clear();
+            self.cutter = cutter;
+            self.answered += 1;
+            self.taken += 1;
+            return Ok(true);
+        }
+        self.rest.push(byte)?;
+        self.cutter = cutter;
+        self.taken += 1;
+        Ok(false)
+    }
+
+    /// Takes the front of a piece up to the first end of a statement in it, or all of it, and appends the answer
+    /// of that statement. It tells how many bytes it took.
+    pub(crate) fn take_front(&mut self, piece: &[u8], text: &mut Vec<u8>) -> Result<usize, Fault>
+        requires { IsReady self.old }
+        ensures ok { IfOk result (λ n. (n ≤ length piece.now) × (0 < length piece.now → 0 < n)
+            × ((answers : List (List ℕ))
+            × (text.new.items ≡ text.old.items ++ concat answers)
+            × Fed self.old (take n piece.now) answers self.new × (length answers ≤ 1))) }
+        ensures err { IfErr result (λ fault. (text.new.items ≡ text.old.items)
+            × Stopped self.old piece.now [] self.new fault) }
+    {
+        for (i, byte) in piece.iter().enumerate() {
+            match self.take_byte(*byte, text) {
+                Ok(false) => {}
+                Ok(true) => return Ok(i + 1),
+                Err(refusal) => return Err(self.refuse(refusal)),
+            }
+        }
+        Ok(piece.len())
+    }
+
+    /// Takes a piece of the script, and appends the answers of the statements that it completes, up to the
+    /// first refused one.
+    pub fn feed(&mut self, piece: &[u8], text: &mut Vec<u8>) -> Result<(), Fault>
+        ensures faulted { IfSome self.old.fault (λ fault. (result ≡ Err fault) × (self.new ≡ self.old)
+            × (text.new.items ≡ text.old.items)) }
+        ensures fed { IfNone self.old.fault
+            (Feeds self.old piece.now text.old.items text.new.items self.new result) }
+
+        // Valid statements are answered, unless memory ends or an overflow is counted.
+        ensures complete { IfNone self.old.fault
+            (AreValid (limit_of self.old.meter) self.old.state (statements (self.old.rest ++ piece.now))
+            → self.old.taken + length piece.now ≤ SCRIPT_MAX
+            → (Rose self.old.meter.overflows self.new.meter.overflows → ⊥)
+            → IfErr result (λ fault. fault.refusal ≡ Refusal.NoMemory)) }
+    {
+        if let Some(fault) = self.fault {
+            return Err(fault);
+        }
+        let mut at = 0;
+        while at < piece.len() {
+            match self.take_front(&piece[at..], text) {
+                Ok(n) => at += n,
+                Err(fault) => return Err(fault),
+            }
+        }
+        Ok(())
+    }
+
+    /// Says that the script ended. It takes no memory, and appends nothing.
+    pub fn finish(&mut self, text: &mut Vec<u8>) -> Result<(), Fault>
+        ensures faulted { IfSome self.old.fault (λ fault. (result ≡ Err fault) × (self.new ≡ self.old)) }
+        ensures finished { IfNone self.old.fault (Finishes self.old self.new result) }
+        ensures text { text.new ≡ text.old }
+    {
+        let _ = text;
+        if let Some(fault) = self.fault {
+            return Err(fault);
+        }
+        if self.cutter.blank() {
+            return Ok(());
+        }
+        Err(self.refuse(Refusal::Unfinished))
+    }
+
+    // Keeps the fault of a session that is refused now: it speaks of the statement behind those that were
+    // answered.
+    fn refuse(&mut self, refusal: Refusal) -> Fault
+        ensures fault { result ≡ record { statement = self.old.answered + 1; refusal = refusal } }
+        ensures kept { self.new ≡ record self.old { fault = Some result } }
+    {
+        let fault = Fault {
+            statement: self.answered + 1,
+            refusal,
+        };
+        self.fault = Some(fault);
+        fault
+    }
+
+    /// How many bytes of the script were taken.
+    pub(crate) fn taken(&self) -> u64
+        ensures count { result ≡ self.now.taken }
+        ensures few { result ≤ SCRIPT_MAX }
+    {
+        self.taken
+    }
+
+    /// How many statements were answered.
+    pub(crate) fn answered(&self) -> u64
+        ensures count { result ≡ self.now.answered }
+        ensures few { result ≤ SCRIPT_MAX }
+    {
+        self.answered
+    }
+
+    /// The meter of the session's arithmetic.
+    pub fn meter(&self) -> &Meter
+        ensures { result.now ≡ self.now.meter }
+    {
+        &self.meter
+    }
+
+    /// Gives the session up, and keeps its meter.
+    pub(crate) fn into_meter(self) -> Meter
+        ensures { result ≡ self.meter }
+    {
+        self.meter
+    }
+}

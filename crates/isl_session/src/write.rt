@@ -1,0 +1,49 @@
+// Whole texts, written to a sink that may take them in pieces.
+ghost use Rattle.std.specs.Prelude.{◌≡◌, ◌++◌, ◌<◌, ◌≤◌, ◌∷◌, [], ℕ, length, take, OnOk, OnErr};
+ghost use Rattle.std.specs.Io.KnownBytes.{Appends};
+ghost use Rattle.isl_math.specs.Count.{Rose};
+ghost use Rattle.isl_session.specs.Lines.{fault_line, usage_line};
+
+use crate::Fault;
+use isl_io::{Failed, Sink};
+use isl_text::refusal::Refusal;
+use itoa::Buffer;
+
+/// Writes the whole text. Where a write fails, a front of it was written.
+pub(crate) fn write_all<K: Sink>(out: &mut K, text: &[u8]) -> Result<(), Failed>
+    ensures ok { OnOk result (Appends (K.written out.old) (K.written out.new) text.now) }
+    ensures err { OnErr result ((n : ℕ) × (n < length text.now)
+        × Appends (K.written out.old) (K.written out.new) (take n text.now)) }
+    ensures no_fewer_faults { K.faults out.old ≤ K.faults out.new }
+    ensures fault { OnErr result (Rose (K.faults out.old) (K.faults out.new)) }
+{
+    let mut at = 0;
+    while at < text.len() {
+        at += out.write(&text[at..])?;
+    }
+    Ok(())
+}
+
+/// Writes the line that tells of a fault. It takes no memory.
+pub fn write_fault<E: Sink>(err: &mut E, fault: Fault) -> Result<(), Failed>
+    ensures ok { OnOk result (Appends (E.written err.old) (E.written err.new) (fault_line fault)) }
+    ensures no_fewer_faults { E.faults err.old ≤ E.faults err.new }
+    ensures fault { OnErr result (Rose (E.faults err.old) (E.faults err.new)) }
+{
+    let mut digits = Buffer::new();
+    write_all(err, b"iscc: statement ")?;
+    write_all(err, digits.format(fault.statement).as_bytes())?;
+    write_all(err, b": ")?;
+    write_all(err, fault.refusal.text().as_bytes())?;
+    write_all(err, b"\n")
+}
+
+/// Writes the usage line. It takes no memory.
+pub(crate) fn write_usage<E: Sink>(err: &mut E) -> Result<(), Failed>
+    ensures ok { OnOk result (Appends (E.written err.old) (E.written err.new) usage_line) }
+    ensures no_fewer_faults { E.faults err.old ≤ E.faults err.new }
+    ensures fault { OnErr result (Rose (E.faults err.old) (E.faults err.new)) }
+{
+    write_all(err, Refusal::Usage.text().as_bytes())?;
+    write_all(err, b"\n")
+}

@@ -1,0 +1,106 @@
+//! The limits of literals.
+
+ghost use Rattle.std.specs.Prelude.{◌≡◌, ◌+◌, ◌≤ℤ◌, pos, length};
+ghost use Rattle.std.specs.List.{list_any};
+ghost use Rattle.isl_tree.specs.Literal.{entries_of};
+ghost use Rattle.isl_text.specs.Bound.{capped};
+ghost use Rattle.isl_text.specs.Limits as spec;
+
+use crate::bound::{added, bound_in};
+use isl_token::Token;
+use isl_token::number::is_above;
+use isl_tree::tree::{Literal, PieceTree, Tuple};
+
+/// The parameters that a literal may have.
+pub const MAX_PARAMETERS: usize = 16;
+
+/// The coordinates that a piece may have in all.
+pub const MAX_COORDINATES: usize = 32;
+
+/// The leaves that a piece may have in all.
+pub const MAX_LEAVES: usize = 64;
+
+/// The variables that a piece may bind.
+pub const MAX_BOUND: usize = 64;
+
+/// The coordinates of a tuple, counted as bound variables are.
+#[tactic(auto, using(crate::proofs::LimitLaws::widths))]
+fn width(tuple: &Tuple) -> usize
+    ensures { result ≡ capped (length (entries_of tuple.now)) }
+{
+    match tuple {
+        Tuple::Leaf { entries, .. } => added(entries.len(), 0),
+        Tuple::Pair(first, second) => added(width(first.get()), width(second.get())),
+    }
+}
+
+/// The leaves of a tuple, counted as bound variables are.
+#[tactic(auto, using(crate::proofs::LimitLaws::leaves))]
+fn leaves(tuple: &Tuple) -> usize
+    ensures { result ≡ capped (spec.leaves_in tuple.now) }
+{
+    match tuple {
+        Tuple::Leaf { .. } => 1,
+        Tuple::Pair(first, second) => added(leaves(first.get()), leaves(second.get())),
+    }
+}
+
+#[tactic(auto, using(crate::proofs::LimitLaws::pieces))]
+fn coordinates(piece: &PieceTree) -> usize
+    ensures { result ≡ capped (spec.coordinates piece.now) }
+{
+    match &piece.second {
+        Some(second) => added(width(&piece.first), width(second)),
+        None => width(&piece.first),
+    }
+}
+
+#[tactic(auto, using(crate::proofs::LimitLaws::pieces))]
+fn leaves_of(piece: &PieceTree) -> usize
+    ensures { result ≡ capped (spec.leaves_of piece.now) }
+{
+    match &piece.second {
+        Some(second) => added(leaves(&piece.first), leaves(second)),
+        None => leaves(&piece.first),
+    }
+}
+
+#[tactic(auto, using(crate::proofs::LimitLaws::tests))]
+fn piece_is_within(piece: &PieceTree) -> bool
+    ensures { result ≡ spec.piece_is_within piece.now }
+{
+    coordinates(piece) <= MAX_COORDINATES
+        && leaves_of(piece) <= MAX_LEAVES
+        && bound_in(piece) <= MAX_BOUND
+}
+
+fn pieces_are_within(pieces: &[PieceTree]) -> bool
+    ensures { result ≡ spec.pieces_are_within pieces.now }
+{
+    pieces.iter().all(|piece| piece_is_within(piece))
+}
+
+/// Whether a literal has at most 16 parameters, and each piece at most 32 coordinates, 64 leaves and 64 bound variables.
+pub fn is_within(literal: &Literal) -> bool
+    ensures { result ≡ spec.is_within literal.now }
+{
+    literal.params.len() <= MAX_PARAMETERS && pieces_are_within(literal.pieces.as_slice())
+}
+
+fn is_wide(token: &Token, limit: i128) -> bool
+    requires { pos 0 ≤ℤ limit }
+    ensures { result ≡ spec.is_wide limit token.now }
+{
+    match token {
+        Token::Number(digits) => is_above(digits.as_slice(), limit),
+        _ => false,
+    }
+}
+
+/// Whether some number is above the limit, which is not negative.
+pub fn has_wide_number(tokens: &[Token], limit: i128) -> bool
+    requires { pos 0 ≤ℤ limit }
+    ensures { result ≡ list_any (spec.is_wide limit) tokens.now }
+{
+    tokens.iter().any(|token| is_wide(token, limit))
+}

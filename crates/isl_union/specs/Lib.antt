@@ -1,0 +1,3 @@
+pub mod KeptValue
+pub mod Piece
+pub mod Stored
