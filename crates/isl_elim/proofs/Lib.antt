@@ -29,3 +29,7 @@ pub mod TightLemmas
 pub mod TightenLemmas
 pub mod TogetherLemmas
 pub mod UnitLemmas
+pub mod SmallLemmas
+pub mod SmallSteps
+pub mod SmallTails
+pub mod SmallSides

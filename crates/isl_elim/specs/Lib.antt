@@ -5,6 +5,7 @@ pub mod Combine
 pub mod Congruence
 pub mod Elimination
 pub mod Equality
+pub mod Magnitude
 pub mod Residue
 pub mod Shadow
 pub mod Sides

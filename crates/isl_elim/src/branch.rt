@@ -1,8 +1,9 @@
 // What elimination makes of the sides of a column.
 
-ghost use Rattle.std.specs.Prelude.{◌≡◌, ◌≢◌, ◌⊎◌, ◌<◌, ◌*◌, [], true, false, All, IfOk, length, map, MatchResult};
-ghost use Rattle.isl_piece.specs.Row.{IsRowWithin};
+ghost use Rattle.std.specs.Prelude.{◌≡◌, ◌≢◌, ◌⊎◌, ◌<◌, ◌*◌, [], true, false, All, IfOk, length, map, MatchResult, ◌^◌};
+ghost use Rattle.isl_piece.specs.Row.{IsRowWithin, IsRowUpTo};
 ghost use Rattle.isl_elim.specs.Work.{IsChargedUpTo, IsCutUpTo};
+ghost use Rattle.isl_elim.specs.Magnitude.{IsNoOverflow, AreSidesUpTo, IsSmallBranch};
 
 use crate::pair::lowered;
 use crate::rows::settled;
@@ -48,9 +49,10 @@ impl Branch {
     ) -> Result<Rows, Cut>
         requires uppers { All (IsUpper meter.old columns col) uppers.now }
         requires col_in { col < columns }
-        ensures { MatchResult result
+        ensures exact { MatchResult result
             (λ rows. (rows ≡ map (shifted_row col) uppers.now) × All (IsRowWithin meter.old) rows × (meter.new ≡ meter.old))
             (λ cut. IsCutUpTo 0 meter.old meter.new cut) }
+        ensures small { meter.old.bits ≡ 127 → All (IsRowUpTo (2 ^ 61)) uppers.now → IsNoOverflow result }
     {
         let mut rows = Rows::new(alloc);
         for upper in uppers {
@@ -70,12 +72,13 @@ impl Branch {
     ) -> Result<(Rows, Vec<Tail>), Cut>
         requires sided { AreSided meter.old columns col sides.now }
         requires col_in { col < columns }
-        ensures { MatchResult result
+        ensures exact { MatchResult result
             (λ pair. (sides.now.apart ≡ [] → IsShadow meter.old columns col false sides.now.lowers sides.now.uppers pair.0 pair.1.items)
             × (sides.now.apart ≢ [] → All (IsUpper meter.old columns col) (map (shifted_row col) sides.now.uppers)
             × IsShadow meter.old columns col true sides.now.lowers (map (shifted_row col) sides.now.uppers) pair.0 pair.1.items)
             × IsChargedUpTo (length sides.now.lowers * length sides.now.uppers) meter.old meter.new)
             (λ cut. IsCutUpTo (length sides.now.lowers * length sides.now.uppers) meter.old meter.new cut) }
+        ensures small { meter.old.bits ≡ 127 → AreSidesUpTo (2 ^ 61) sides.now → IsNoOverflow result }
     {
         let lowers = sides.lowers.as_slice();
         if sides.apart.is_empty() {
@@ -108,9 +111,10 @@ impl Branch {
         requires apart { length sides.now.apart < 2 }
         requires open { (sides.now.lowers ≡ []) ⊎ (sides.now.uppers ≡ []) }
         requires col_in { col < columns }
-        ensures { MatchResult result
+        ensures exact { MatchResult result
             (λ branch. IsBranchOf meter.old columns col sides.now branch × AreFewTails col sides.now branch.tails.items × (meter.new ≡ meter.old))
             (λ cut. IsCutUpTo 0 meter.old meter.new cut) }
+        ensures small { meter.old.bits ≡ 127 → AreSidesUpTo (2 ^ 61) sides.now → MatchResult result IsSmallBranch (λ cut. cut ≢ Cut.Overflow) }
     {
         let rows = Branch::all_rows(alloc, sides)?;
         let head = settled(alloc, &sides.free, columns, col, meter)?;
@@ -134,10 +138,11 @@ impl Branch {
         requires apart { length sides.now.apart < 2 }
         requires uppers { sides.now.uppers ≢ [] }
         requires col_in { col < columns }
-        ensures { MatchResult result
+        ensures exact { MatchResult result
             (λ branch. IsBranchOf meter.old columns col sides.now branch × AreFewTails col sides.now branch.tails.items
             × IsChargedUpTo (length sides.now.lowers * length sides.now.uppers) meter.old meter.new)
             (λ cut. IsCutUpTo (length sides.now.lowers * length sides.now.uppers) meter.old meter.new cut) }
+        ensures small { meter.old.bits ≡ 127 → AreSidesUpTo (2 ^ 61) sides.now → MatchResult result IsSmallBranch (λ cut. cut ≢ Cut.Overflow) }
     {
         let rows = Branch::all_rows(alloc, sides)?;
         let (dark, tails) = Branch::shadows(alloc, sides, columns, col, meter)?;
@@ -159,10 +164,11 @@ impl Branch {
         requires divides { sides.now.divides ≡ [] }
         requires apart { length sides.now.apart < 2 }
         requires col_in { col < columns }
-        ensures { MatchResult result
+        ensures exact { MatchResult result
             (λ branch. IsBranchOf meter.old columns col sides.now branch × AreFewTails col sides.now branch.tails.items
             × IsChargedUpTo (length sides.now.lowers * length sides.now.uppers) meter.old meter.new)
             (λ cut. IsCutUpTo (length sides.now.lowers * length sides.now.uppers) meter.old meter.new cut) }
+        ensures small { meter.old.bits ≡ 127 → AreSidesUpTo (2 ^ 61) sides.now → MatchResult result IsSmallBranch (λ cut. cut ≢ Cut.Overflow) }
     {
         if sides.lowers.is_empty() || sides.uppers.is_empty() {
             let branch = Branch::open(alloc, sides, columns, col, meter)?;

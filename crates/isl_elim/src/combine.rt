@@ -1,11 +1,12 @@
 // Sums of multiples of rows.
 
-ghost use Rattle.std.specs.Prelude.{◌≡◌, ◌<ℤ◌, pos, length, All, MatchResult};
+ghost use Rattle.std.specs.Prelude.{◌≡◌, ◌<ℤ◌, pos, length, All, MatchResult, ℕ, ◌*◌, ◌+◌, ◌^◌, ◌<◌, ◌≤◌, unsigned_abs, IfErr};
 ghost use Rattle.isl_math.specs.Dot.{weighted_sum};
 ghost use Rattle.isl_meter.specs.Gauge.{IsWithin};
-ghost use Rattle.isl_piece.specs.Row.{IsRowWithin};
+ghost use Rattle.isl_piece.specs.Row.{IsRowWithin, IsRowUpTo};
 ghost use Rattle.isl_elim.specs.Work.{IsCutUpTo};
 ghost use Rattle.isl_elim.specs.Combine.{combination, scaled_divisor};
+ghost use Rattle.isl_elim.specs.Magnitude.{IsNoOverflow};
 
 use isl_meter::{Cut, Int, Meter, Overflow};
 use isl_piece::{Coefs, Row, RowKind};
@@ -26,9 +27,11 @@ pub(crate) fn weighted(
     requires left_within { All (IsWithin meter.old) left.now }
     requires right_within { All (IsWithin meter.old) right.now }
     requires same_length { length left.now ≡ length right.now }
-    ensures { MatchResult result
+    ensures exact { MatchResult result
         (λ coefs. (coefs ≡ weighted_sum m left.now n right.now) × All (IsWithin meter.old) coefs × (meter.new ≡ meter.old))
         (λ cut. IsCutUpTo 0 meter.old meter.new cut) }
+    ensures small { (u v w x : ℕ) → unsigned_abs m ≤ u → unsigned_abs n ≤ v → All (λ c. unsigned_abs c ≤ w) left.now → All (λ c. unsigned_abs c ≤ x) right.now
+        → u * w + v * x < 2 ^ meter.old.bits → IsNoOverflow result }
 {
     let mut coefs = Coefs::new(alloc);
     for i in 0..left.len() {
@@ -43,9 +46,10 @@ pub(crate) fn weighted(
 fn divisor_of(row: &Row, m: Int, meter: &mut Meter) -> Result<Int, Overflow>
     requires m_within { IsWithin meter.old m }
     requires row_within { IsRowWithin meter.old row.now }
-    ensures { MatchResult result
+    ensures exact { MatchResult result
         (λ k. (k ≡ scaled_divisor row.now.kind m row.now.k) × IsWithin meter.old k × (meter.new ≡ meter.old))
         (λ _. IsCutUpTo 0 meter.old meter.new Cut.Overflow) }
+    ensures small { (u w : ℕ) → unsigned_abs m ≤ u → IsRowUpTo w row.now → u * w < 2 ^ meter.old.bits → IfErr result (λ _. ⊥) }
 {
     match row.kind {
         RowKind::Zero | RowKind::AtLeast => Ok(row.modulus()),
@@ -67,9 +71,11 @@ pub(crate) fn combined(
     requires row_within { IsRowWithin meter.old row.now }
     requires other_within { IsRowWithin meter.old other.now }
     requires same_width { length row.now.coefs ≡ length other.now.coefs }
-    ensures { MatchResult result
+    ensures exact { MatchResult result
         (λ sum. (sum ≡ combination m row.now n other.now) × IsRowWithin meter.old sum × (meter.new ≡ meter.old))
         (λ cut. IsCutUpTo 0 meter.old meter.new cut) }
+    ensures small { (u v w x : ℕ) → unsigned_abs m ≤ u → unsigned_abs n ≤ v → IsRowUpTo w row.now → IsRowUpTo x other.now
+        → u * w + v * x < 2 ^ meter.old.bits → IsNoOverflow result }
 {
     let coefs = weighted(
         alloc,

@@ -1,6 +1,6 @@
 // Congruences on one column: several are made one, and that one is a substitution.
 
-ghost use Rattle.std.specs.Prelude.{◌≡◌, ◌<◌, ◌*ℤ◌, ◌≤ℤ◌, ◌<ℤ◌, ℤ, pos, All, IfOk, MatchResult, length};
+ghost use Rattle.std.specs.Prelude.{◌≡◌, ◌<◌, ◌*ℤ◌, ◌≤ℤ◌, ◌<ℤ◌, ℤ, pos, All, IfOk, MatchResult, length, ◌≢◌, []};
 ghost use Rattle.isl_meter.specs.Gauge.{IsWithin};
 ghost use Rattle.isl_piece.specs.Numbers.{reduced};
 ghost use Rattle.isl_piece.specs.Row.{IsWellFormed, IsRowWithin, coef_at};
@@ -161,9 +161,10 @@ pub(crate) fn merged(
     requires well_formed { All (IsWellFormed columns) rows.now }
     requires within { All (IsRowWithin meter.old) rows.now }
     requires col_in { col < columns }
-    ensures { MatchResult result
+    ensures exact { MatchResult result
         (λ pair. AreMergedTo meter.old columns col rows.now pair.0 pair.1 × (meter.new ≡ meter.old))
         (λ cut. IsCutUpTo 0 meter.old meter.new cut) }
+    ensures small { length rows.now < 2 → MatchResult result (λ pair. pair.1 ≡ []) (λ cut. cut ≢ Cut.Overflow) }
 {
     let mut one = reduced_copy(alloc, &rows[0], meter)?;
     let mut others = Rows::new(alloc);

@@ -1,12 +1,13 @@
 // Substitution by an equality.
 
-ghost use Rattle.std.specs.Prelude.{◌≡◌, ◌≢◌, ◌-◌, ◌<◌, pos, length, All, IfOk, MatchResult};
+ghost use Rattle.std.specs.Prelude.{◌≡◌, ◌≢◌, ◌-◌, ◌<◌, pos, length, All, IfOk, MatchResult, ◌^◌};
 ghost use Rattle.std.specs.List.{AllZip};
 ghost use Rattle.isl_meter.specs.Gauge.{IsWithin};
-ghost use Rattle.isl_piece.specs.Row.{IsRowWithin, IsWellFormed, coef_at};
+ghost use Rattle.isl_piece.specs.Row.{IsRowWithin, IsWellFormed, coef_at, IsRowUpTo};
 ghost use Rattle.isl_elim.specs.Work.{IsCutUpTo};
 ghost use Rattle.isl_elim.specs.Column.{IsSystemOf};
 ghost use Rattle.isl_elim.specs.Equality.{AreFactors, IsImage, IsSolvedBy, solvable};
+ghost use Rattle.isl_elim.specs.Magnitude.{IsNoOverflow};
 
 use crate::combine::combined;
 use crate::rows::settled;
@@ -36,9 +37,10 @@ fn image(alloc: Global, row: &Row, fixed: &Row, col: usize, meter: &mut Meter) -
     requires same_width { length row.now.coefs ≡ length fixed.now.coefs }
     requires col_in { col < length fixed.now.coefs }
     requires occurs { coef_at fixed.now col ≢ pos 0 }
-    ensures { MatchResult result
+    ensures exact { MatchResult result
         (λ short. IsImage fixed.now col row.now short × IsRowWithin meter.old short × (meter.new ≡ meter.old))
         (λ cut. IsCutUpTo 0 meter.old meter.new cut) }
+    ensures small { meter.old.bits ≡ 127 → IsRowUpTo (2 ^ 61) row.now → IsRowUpTo (2 ^ 63) fixed.now → IsNoOverflow result }
 {
     let (m, n) = factors(fixed.coefs.get(col), row.coefs.get(col), meter);
     combined(alloc, m, row, n, fixed, meter)
@@ -59,9 +61,10 @@ fn images(
     requires fixed_within { IsRowWithin meter.old fixed.now }
     requires col_in { col < columns }
     requires occurs { coef_at fixed.now col ≢ pos 0 }
-    ensures { MatchResult result
+    ensures exact { MatchResult result
         (λ short. AllZip (IsImage fixed.now col) rows.now short × All (IsRowWithin meter.old) short × (meter.new ≡ meter.old))
         (λ cut. IsCutUpTo 0 meter.old meter.new cut) }
+    ensures small { meter.old.bits ≡ 127 → All (IsRowUpTo (2 ^ 61)) rows.now → IsRowUpTo (2 ^ 63) fixed.now → IsNoOverflow result }
 {
     let mut short = Rows::new(alloc);
     for row in rows {
@@ -100,9 +103,10 @@ pub(crate) fn equality_step(
     requires fixed_within { IsRowWithin meter.old fixed.now }
     requires col_in { col < columns }
     requires occurs { coef_at fixed.now col ≢ pos 0 }
-    ensures { MatchResult result
+    ensures exact { MatchResult result
         (λ left. IsSystemOf meter.old (columns - 1) (IsSolvedBy rows.now fixed.now col) left × (meter.new ≡ meter.old))
         (λ cut. IsCutUpTo 0 meter.old meter.new cut) }
+    ensures small { meter.old.bits ≡ 127 → All (IsRowUpTo (2 ^ 61)) rows.now → IsRowUpTo (2 ^ 63) fixed.now → IsNoOverflow result }
 {
     let mut short = images(alloc, rows, fixed, columns, col, meter)?;
     short.push(divisibility(alloc, fixed, col, meter)?)?;

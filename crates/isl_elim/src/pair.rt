@@ -1,13 +1,14 @@
 // What a lower and an upper bound leave without the column.
 
-ghost use Rattle.std.specs.Prelude.{◌≡◌, ◌<◌, ◌↔◌, pos, ◌-ℤ◌, ◌*ℤ◌, neg_ℤ, ◌<ℤ◌, ℤ, List, IsTrue, length, IfOk, MatchResult};
+ghost use Rattle.std.specs.Prelude.{◌≡◌, ◌<◌, ◌↔◌, pos, ◌-ℤ◌, ◌*ℤ◌, neg_ℤ, ◌<ℤ◌, ℤ, List, IsTrue, length, IfOk, MatchResult, ◌≢◌, ◌^◌, ◌≤◌, ◌+◌, ℕ, unsigned_abs, IfErr};
 ghost use Rattle.isl_math.specs.Divide.{IsGcdOf};
 ghost use Rattle.isl_meter.specs.Gauge.{IsWithin};
 ghost use Rattle.isl_piece.specs.declared.constraint.RowKind.TheVariants.{AtLeast};
-ghost use Rattle.isl_piece.specs.Row.{HoldsRow, HasDivisor, IsRowWithin, coef_at};
+ghost use Rattle.isl_piece.specs.Row.{HoldsRow, HasDivisor, IsRowWithin, coef_at, IsRowUpTo};
 ghost use Rattle.isl_elim.specs.Shadow.{ceiling, IsRealRow, IsDarkRow, IsExact};
 ghost use Rattle.isl_elim.specs.Sides.{IsLower, IsUpper};
 ghost use Rattle.isl_elim.specs.Work.{IsCutUpTo};
+ghost use Rattle.isl_elim.specs.Magnitude.{IsNoOverflow};
 
 use crate::combine::combined;
 use isl_meter::{Cut, Int, Meter, Overflow};
@@ -25,9 +26,10 @@ pub(crate) struct Pair {
 fn slack(a: Int, b: Int, divisor: Int, meter: &mut Meter) -> Result<Int, Overflow>
     requires positive { pos 0 <ℤ divisor }
     requires within { IsWithin meter.old divisor }
-    ensures { MatchResult result
+    ensures exact { MatchResult result
         (λ s. (s ≡ ceiling ((a -ℤ pos 1) *ℤ (b -ℤ pos 1)) divisor) × IsWithin meter.old s × (meter.new ≡ meter.old))
         (λ _. IsCutUpTo 0 meter.old meter.new Cut.Overflow) }
+    ensures small { meter.old.bits ≡ 127 → unsigned_abs a ≤ 2 ^ 62 → unsigned_abs b ≤ 2 ^ 62 → IfErr result (λ _. ⊥) }
 {
     let m = a.sub(Int::ONE, meter)?;
     let n = b.sub(Int::ONE, meter)?;
@@ -76,9 +78,11 @@ fn real_row(
     requires col_in { col < columns }
     requires gcd { IsGcdOf (coef_at lower.now col) (neg_ℤ (coef_at upper.now col)) divisor }
     requires within { IsWithin meter.old divisor }
-    ensures { MatchResult result
+    ensures exact { MatchResult result
         (λ real. IsRealRow columns col lower.now upper.now divisor real × IsRowWithin meter.old real × (meter.new ≡ meter.old))
         (λ cut. IsCutUpTo 0 meter.old meter.new cut) }
+    ensures small { meter.old.bits ≡ 127 → IsRowUpTo (2 ^ 62) lower.now → IsRowUpTo (2 ^ 62) upper.now
+        → MatchResult result (IsRowUpTo (2 ^ 125)) (λ cut. cut ≢ Cut.Overflow) }
 {
     let m = lower.coefs.get(col).floor_div(divisor, meter);
     let n = upper.coefs.get(col).neg(meter).floor_div(divisor, meter);
@@ -89,9 +93,10 @@ fn real_row(
 // The row with its constant less `by`.
 pub(crate) fn lowered(alloc: Global, row: &Row, by: Int, meter: &mut Meter) -> Result<Row, Cut>
     requires within { IsRowWithin meter.old row.now }
-    ensures { MatchResult result
+    ensures exact { MatchResult result
         (λ low. (low ≡ record row.now { constant = row.now.constant -ℤ by }) × IsRowWithin meter.old low × (meter.new ≡ meter.old))
         (λ cut. IsCutUpTo 0 meter.old meter.new cut) }
+    ensures small { (u w : ℕ) → unsigned_abs by ≤ u → IsRowUpTo w row.now → w + u < 2 ^ meter.old.bits → IsNoOverflow result }
 {
     let constant = row.offset().sub(by, meter)?;
     Ok(Row::new(row.kind, row.coefs.copy(alloc)?, constant, row.modulus()))
@@ -110,10 +115,11 @@ impl Pair {
         requires lower { IsLower meter.old columns col lower.now }
         requires upper { IsUpper meter.old columns col upper.now }
         requires col_in { col < columns }
-        ensures { MatchResult result
+        ensures exact { MatchResult result
             (λ pair. IsDarkRow columns col lower.now upper.now pair.dark × IsRowWithin meter.old pair.dark
             × (IsTrue pair.exact → IsExact columns col lower.now upper.now) × (meter.new ≡ meter.old))
             (λ cut. IsCutUpTo 0 meter.old meter.new cut) }
+        ensures small { meter.old.bits ≡ 127 → IsRowUpTo (2 ^ 62) lower.now → IsRowUpTo (2 ^ 62) upper.now → IsNoOverflow result }
     {
         let a = lower.coefs.get(col);
         let b = upper.coefs.get(col).neg(meter);

@@ -1,6 +1,6 @@
 // One column out of a system.
 
-ghost use Rattle.std.specs.Prelude.{◌≡◌, ◌≢◌, ◌↔◌, ◌<◌, ◌-◌, ◌≤ℤ◌, ◌+ℤ◌, pos, All, length, slice_index_or, None, IfOk, IfSome, IsTrue, MatchOption, MatchResult};
+ghost use Rattle.std.specs.Prelude.{◌≡◌, ◌≢◌, ◌↔◌, ◌<◌, ◌-◌, ◌≤ℤ◌, ◌+ℤ◌, pos, All, length, slice_index_or, None, IfOk, IfSome, IsTrue, MatchOption, MatchResult, ◌^◌};
 ghost use Rattle.isl_meter.specs.Gauge.{IsCharged, IsCutBy};
 ghost use Rattle.isl_piece.specs.declared.constraint.RowKind.TheVariants.{Zero};
 ghost use Rattle.isl_piece.specs.declared.constraint.Row.{Row};
@@ -12,6 +12,7 @@ ghost use Rattle.isl_elim.specs.Sides.{IsProper, AreSided};
 ghost use Rattle.isl_elim.specs.Step.{IsStepOf};
 ghost use Rattle.isl_elim.specs.Units.{HasEquality, elimination_units};
 ghost use Rattle.isl_elim.specs.Work.{IsCutUpTo, IsChargedBy, IsCutAfter};
+ghost use Rattle.isl_elim.specs.Magnitude.{IsNoOverflow, AreSidesUpTo, HasSmallNumbers, HasOneCongruence};
 
 use crate::equality::equality_step;
 use crate::residue::push_sides;
@@ -82,9 +83,11 @@ fn without_congruences(
 ) -> Result<Sides, Cut>
     requires sided { AreSided meter.old columns col sides }
     requires col_in { col < columns }
-    ensures { MatchResult result
+    ensures exact { MatchResult result
         (λ new. IsStepOf meter.old columns col sides new × (meter.new ≡ meter.old))
         (λ cut. IsCutUpTo 0 meter.old meter.new cut) }
+    ensures small { meter.old.bits ≡ 127 → AreSidesUpTo (2 ^ 30) sides → length sides.divides < 2
+        → MatchResult result (AreSidesUpTo (2 ^ 61)) (λ cut. cut ≢ Cut.Overflow) }
 {
     if sides.divides.is_empty() {
         return Ok(sides);
@@ -104,10 +107,11 @@ fn push_projection(
     requires system { IsSystemWithin meter.old system.now }
     requires col_in { col < system.now.columns }
     requires none { HasNoEquality col system.now.rows }
-    ensures { MatchResult result
+    ensures exact { MatchResult result
         (λ _. Adds meter.old (system.now.columns - 1) (HoldsAtSome system.now col) systems.old.items systems.new.items
         × IsChargedBy (elimination_units system.now col) meter.old meter.new)
         (λ cut. IsCutAfter (elimination_units system.now col) meter.old meter.new cut) }
+    ensures small { meter.old.bits ≡ 127 → HasSmallNumbers system.now → HasOneCongruence system.now col → IsNoOverflow result }
 {
     let sides = Sides::of(alloc, system.rows.as_slice(), system.columns, col, meter)?;
     let new = without_congruences(alloc, sides, system.columns, col, meter)?;
@@ -127,10 +131,11 @@ fn push_solved(
     requires system { IsSystemWithin meter.old system.now }
     requires col_in { col < system.now.columns }
     requires equality { IsEqualityAt col system.now.rows at }
-    ensures { MatchResult result
+    ensures exact { MatchResult result
         (λ _. Adds meter.old (system.now.columns - 1) (HoldsAtSome system.now col) systems.old.items systems.new.items
         × (meter.new ≡ meter.old))
         (λ cut. IsCutUpTo 0 meter.old meter.new cut) }
+    ensures small { meter.old.bits ≡ 127 → HasSmallNumbers system.now → IsNoOverflow result }
 {
     let rows = system.rows.as_slice();
     let left = equality_step(alloc, rows, &rows[at], system.columns, col, meter)?;
@@ -152,6 +157,7 @@ pub(crate) fn push_without(
     ensures meter { MatchResult result (λ _. IsCharged meter.old meter.new) (IsCutBy meter.old meter.new) }
     ensures units { pos meter.new.units ≤ℤ (pos meter.old.units +ℤ elimination_units system.now col) }
     ensures equality { HasEquality col system.now.rows → meter.new.units ≡ meter.old.units }
+    ensures magnitude { meter.old.bits ≡ 127 → HasSmallNumbers system.now → HasOneCongruence system.now col → IsNoOverflow result }
 {
     if let Some(at) = equality_at(system.rows.as_slice(), system.columns, col, meter) {
         push_solved(alloc, system, at, col, systems, meter)?;
@@ -168,7 +174,8 @@ pub(crate) fn push_without(
 ///
 /// # Errors
 ///
-/// `Overflow` where a number passes the limit of the meter, `Budget` where its units are used up, and `NoMemory`.
+/// `Overflow` where a number passes the limit of the meter, `Budget` where its units are used up, and `NoMemory`. A limit
+/// of 127 bits is not passed where the numbers are at most `2^30` and at most one congruence has the column.
 pub fn eliminate(
     alloc: Global,
     system: &System,
@@ -182,6 +189,7 @@ pub fn eliminate(
     ensures meter { MatchResult result (λ _. IsCharged meter.old meter.new) (IsCutBy meter.old meter.new) }
     ensures units { pos meter.new.units ≤ℤ (pos meter.old.units +ℤ elimination_units system.now col) }
     ensures equality { HasEquality col system.now.rows → meter.new.units ≡ meter.old.units }
+    ensures magnitude { meter.old.bits ≡ 127 → HasSmallNumbers system.now → HasOneCongruence system.now col → result ≢ Err Cut.Overflow }
 {
     let mut systems = Vec::new(alloc);
     push_without(alloc, system, col, &mut systems, meter)?;

@@ -1,12 +1,13 @@
 // Several rows of one column that divisors must not divide: one residue after another.
 
-ghost use Rattle.std.specs.Prelude.{◌≡◌, ◌-◌, ◌<◌, ◌≤ℤ◌, ◌<ℤ◌, [], pos, All, length, MatchResult};
+ghost use Rattle.std.specs.Prelude.{◌≡◌, ◌-◌, ◌<◌, ◌≤ℤ◌, ◌<ℤ◌, [], pos, All, length, MatchResult, ◌^◌};
 ghost use Rattle.isl_meter.specs.Gauge.{IsWithin};
 ghost use Rattle.isl_elim.specs.Adds.{Adds};
 ghost use Rattle.isl_elim.specs.Congruence.{period};
 ghost use Rattle.isl_elim.specs.Residue.{IsCommonMultiple, IsPeriod, HasNumber, HasResidue, IsResidueOf, shadow_units, residue_units, residues_units, sides_units};
 ghost use Rattle.isl_elim.specs.Sides.{IsApart, AreSided};
 ghost use Rattle.isl_elim.specs.Work.{IsCutUpTo, IsChargedBy, IsCutAfter};
+ghost use Rattle.isl_elim.specs.Magnitude.{IsNoOverflow, AreSidesUpTo};
 
 use crate::branch::Branch;
 use crate::sides::Sides;
@@ -103,10 +104,11 @@ fn push_shadow(
     requires divides { sides.now.divides ≡ [] }
     requires apart { length sides.now.apart < 2 }
     requires col_in { col < columns }
-    ensures { MatchResult result
+    ensures exact { MatchResult result
         (λ _. Adds meter.old (columns - 1) (HasNumber sides.now col) systems.old.items systems.new.items
         × IsChargedBy (shadow_units col sides.now) meter.old meter.new)
         (λ cut. IsCutAfter (shadow_units col sides.now) meter.old meter.new cut) }
+    ensures small { meter.old.bits ≡ 127 → AreSidesUpTo (2 ^ 61) sides.now → IsNoOverflow result }
 {
     let branch = Branch::of(alloc, sides, columns, col, meter)?;
     push_branch(alloc, branch, columns, col, systems, meter)?;
@@ -180,10 +182,11 @@ pub(crate) fn push_sides(
     requires sided { AreSided meter.old columns col sides.now }
     requires divides { sides.now.divides ≡ [] }
     requires col_in { col < columns }
-    ensures { MatchResult result
+    ensures exact { MatchResult result
         (λ _. Adds meter.old (columns - 1) (HasNumber sides.now col) systems.old.items systems.new.items
         × IsChargedBy (sides_units col sides.now) meter.old meter.new)
         (λ cut. IsCutAfter (sides_units col sides.now) meter.old meter.new cut) }
+    ensures small { meter.old.bits ≡ 127 → AreSidesUpTo (2 ^ 61) sides.now → length sides.now.apart < 2 → IsNoOverflow result }
 {
     if sides.apart.len() < 2 {
         push_shadow(alloc, sides, columns, col, systems, meter)

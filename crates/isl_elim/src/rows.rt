@@ -5,6 +5,7 @@ ghost use Rattle.std.specs.List.{remove};
 ghost use Rattle.isl_piece.specs.Row.{IsRowWithin, IsWellFormed};
 ghost use Rattle.isl_elim.specs.Work.{IsCutUpTo};
 ghost use Rattle.isl_elim.specs.Column.{dropped, IsFree, IsSystemOf, HoldAt};
+ghost use Rattle.isl_elim.specs.Magnitude.{IsNoOverflow};
 
 use isl_meter::{Cut, Int, Meter};
 use isl_piece::{Coefs, Row, Rows, System, normalise};
@@ -59,9 +60,10 @@ pub(crate) fn settled(
     requires well_formed { All (IsWellFormed columns) rows.now }
     requires within { All (IsRowWithin meter.old) rows.now }
     requires free { All (IsFree col) rows.now }
-    ensures { MatchResult result
+    ensures exact { MatchResult result
         (λ left. IsSystemOf meter.old (columns - 1) (λ point. HoldAt rows.now col point (pos 0)) left × (meter.new ≡ meter.old))
         (λ cut. IsCutUpTo 0 meter.old meter.new cut) }
+    ensures memory { IsNoOverflow result }
 {
     let short = rows_without(alloc, rows.as_slice(), col)?;
     let system = System {

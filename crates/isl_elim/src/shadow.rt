@@ -1,11 +1,12 @@
 // The dark shadow of bounds on a column, and what it leaves out.
 
-ghost use Rattle.std.specs.Prelude.{◌≡◌, ◌≢◌, ◌⊎◌, ◌<◌, ◌++◌, pos, negsuc, ◌<ℤ◌, ◌≤ℤ◌, ◌+ℤ◌, ℤ, ◌*◌, IsTrue, length, All, MatchResult};
+ghost use Rattle.std.specs.Prelude.{◌≡◌, ◌≢◌, ◌⊎◌, ◌<◌, ◌++◌, pos, negsuc, ◌<ℤ◌, ◌≤ℤ◌, ◌+ℤ◌, ℤ, ◌*◌, IsTrue, length, All, MatchResult, ◌^◌, ◌≤◌, unsigned_abs, IfErr};
 ghost use Rattle.isl_meter.specs.Gauge.{IsWithin};
-ghost use Rattle.isl_piece.specs.Row.{coef_at};
+ghost use Rattle.isl_piece.specs.Row.{coef_at, IsRowUpTo};
 ghost use Rattle.isl_elim.specs.Shadow.{last_splinter, extra, IsShadowOf, HasTail, IsShadow};
 ghost use Rattle.isl_elim.specs.Sides.{IsLower, IsUpper};
 ghost use Rattle.isl_elim.specs.Work.{IsChargedUpTo, IsCutUpTo};
+ghost use Rattle.isl_elim.specs.Magnitude.{IsNoOverflow};
 
 use crate::pair::Pair;
 use isl_meter::{Cut, Int, Meter, Overflow};
@@ -36,10 +37,11 @@ fn widest(greatest: Int, factor: Int, exact: bool) -> Int
 fn last_value(factor: Int, greatest: Int, meter: &mut Meter) -> Result<Int, Overflow>
     requires within { IsWithin meter.old factor }
     requires not_negative { pos 0 ≤ℤ greatest }
-    ensures { MatchResult result
+    ensures exact { MatchResult result
         (λ last. (greatest ≡ pos 0 → last ≡ negsuc 0) × (greatest ≢ pos 0 → last ≡ last_splinter factor greatest)
         × IsWithin meter.old last × (meter.new ≡ meter.old))
         (λ _. IsCutUpTo 0 meter.old meter.new Cut.Overflow) }
+    ensures small { meter.old.bits ≡ 127 → unsigned_abs factor ≤ 2 ^ 62 → IfErr result (λ _. ⊥) }
 {
     if greatest.is_zero() {
         return Int::ZERO.sub(Int::ONE, meter);
@@ -61,10 +63,11 @@ fn shadow_of(
     requires lower { IsLower meter.old columns col lower.now }
     requires uppers { All (IsUpper meter.old columns col) uppers.now }
     requires col_in { col < columns }
-    ensures { MatchResult result
+    ensures exact { MatchResult result
         (λ last. IsShadowOf meter.old columns col lower.now uppers.now rows.old rows.new last × IsWithin meter.old last
         × IsChargedUpTo (length uppers.now) meter.old meter.new)
         (λ cut. IsCutUpTo (length uppers.now) meter.old meter.new cut) }
+    ensures small { meter.old.bits ≡ 127 → IsRowUpTo (2 ^ 62) lower.now → All (IsRowUpTo (2 ^ 62)) uppers.now → IsNoOverflow result }
 {
     let mut greatest = Int::ZERO;
     for upper in uppers {
@@ -80,9 +83,10 @@ fn shadow_of(
 // The last value of a tail: further by the factor where a row must not be divided.
 fn tail_value(last: Int, factor: Int, neighbours: bool, meter: &mut Meter) -> Result<Int, Overflow>
     requires within { IsWithin meter.old last }
-    ensures { MatchResult result
+    ensures exact { MatchResult result
         (λ value. (value ≡ last +ℤ extra neighbours factor) × IsWithin meter.old value × (meter.new ≡ meter.old))
         (λ _. IsCutUpTo 0 meter.old meter.new Cut.Overflow) }
+    ensures small { meter.old.bits ≡ 127 → unsigned_abs last ≤ 2 ^ 62 → unsigned_abs factor ≤ 2 ^ 62 → IfErr result (λ _. ⊥) }
 {
     if neighbours {
         last.add(factor, meter)
@@ -105,10 +109,11 @@ fn tail_of(
     requires lower { IsLower meter.old columns col lower.now }
     requires uppers { All (IsUpper meter.old columns col) uppers.now }
     requires col_in { col < columns }
-    ensures { MatchResult result
+    ensures exact { MatchResult result
         (λ tail. HasTail meter.old columns col neighbours lower.now uppers.now rows.old rows.new tail
         × IsChargedUpTo (length uppers.now) meter.old meter.new)
         (λ cut. IsCutUpTo (length uppers.now) meter.old meter.new cut) }
+    ensures small { meter.old.bits ≡ 127 → IsRowUpTo (2 ^ 62) lower.now → All (IsRowUpTo (2 ^ 62)) uppers.now → IsNoOverflow result }
 {
     let last = shadow_of(alloc, lower, uppers, columns, col, rows, meter)?;
     let last = tail_value(last, lower.coefs.get(col), neighbours, meter)?;
@@ -132,10 +137,11 @@ pub(crate) fn shadow(
     requires lowers { All (IsLower meter.old columns col) lowers.now }
     requires uppers { All (IsUpper meter.old columns col) uppers.now }
     requires col_in { col < columns }
-    ensures { MatchResult result
+    ensures exact { MatchResult result
         (λ pair. IsShadow meter.old columns col neighbours lowers.now uppers.now pair.0 pair.1.items
         × IsChargedUpTo (length lowers.now * length uppers.now) meter.old meter.new)
         (λ cut. IsCutUpTo (length lowers.now * length uppers.now) meter.old meter.new cut) }
+    ensures small { meter.old.bits ≡ 127 → All (IsRowUpTo (2 ^ 62)) lowers.now → All (IsRowUpTo (2 ^ 62)) uppers.now → IsNoOverflow result }
 {
     let mut rows = Rows::new(alloc);
     let mut tails = Vec::new(alloc);

@@ -1,12 +1,13 @@
 // The congruence step: the congruences on a column as a substitution for it.
 
-ghost use Rattle.std.specs.Prelude.{◌≡◌, ◌<◌, ◌++◌, ◌∷◌, [], pos, ◌<ℤ◌, All, length, map, IfOk, IfErr, MatchResult};
+ghost use Rattle.std.specs.Prelude.{◌≡◌, ◌<◌, ◌++◌, ◌∷◌, [], pos, ◌<ℤ◌, All, length, map, IfOk, IfErr, MatchResult, ◌≢◌, ◌^◌, ◌≤◌, unsigned_abs};
 ghost use Rattle.isl_meter.specs.Gauge.{IsWithin};
 ghost use Rattle.isl_piece.specs.declared.constraint.Row.{Row};
-ghost use Rattle.isl_piece.specs.Row.{IsWellFormed, IsRowWithin};
+ghost use Rattle.isl_piece.specs.Row.{IsWellFormed, IsRowWithin, IsRowUpTo};
 ghost use Rattle.isl_elim.specs.Sides.{AreSided};
 ghost use Rattle.isl_elim.specs.Step.{IsStepOf};
 ghost use Rattle.isl_elim.specs.Work.{IsCutUpTo};
+ghost use Rattle.isl_elim.specs.Magnitude.{IsNoOverflow, AreSidesUpTo};
 
 use crate::congruence::merged;
 use crate::sides::{Side, Sides};
@@ -40,11 +41,14 @@ impl Progression {
         requires some { 0 < length divides.now }
         requires divides { All (IsDivides meter.old columns) divides.now }
         requires col_in { col < columns }
-        ensures { MatchResult result
+        ensures exact { MatchResult result
             (λ p. AreMergedTo meter.old columns col divides.now p.one p.others
             × IsProgressionOf columns col p.one p.substitution.scale p.substitution.offsets
             × IsWithin meter.old p.substitution.scale × IsRowWithin meter.old p.substitution.offsets × (meter.new ≡ meter.old))
             (λ cut. IsCutUpTo 0 meter.old meter.new cut) }
+        ensures small { meter.old.bits ≡ 127 → All (IsRowUpTo (2 ^ 30)) divides.now → length divides.now < 2 → MatchResult result
+            (λ p. IsRowUpTo (2 ^ 30) p.one × (p.others ≡ []) × (unsigned_abs p.substitution.scale ≤ 2 ^ 30) × IsRowUpTo (2 ^ 30) p.substitution.offsets)
+            (λ cut. cut ≢ Cut.Overflow) }
     {
         let (one, others) = merged(alloc, divides, columns, col, meter)?;
         let substitution = Substitution::of(alloc, &one, columns, col, meter)?;
@@ -137,10 +141,12 @@ impl Progression {
         requires scale_within { IsWithin meter.old self.now.substitution.scale }
         requires offsets_within { IsRowWithin meter.old self.now.substitution.offsets }
         requires col_in { col < columns }
-        ensures { MatchResult result
+        ensures exact { MatchResult result
             (λ new. AreMovedTo meter.old columns col self.now.one self.now.others self.now.substitution.scale self.now.substitution.offsets sides.now new
             × (meter.new ≡ meter.old))
             (λ cut. IsCutUpTo 0 meter.old meter.new cut) }
+        ensures small { meter.old.bits ≡ 127 → unsigned_abs self.now.substitution.scale ≤ 2 ^ 30 → IsRowUpTo (2 ^ 30) self.now.substitution.offsets
+            → AreSidesUpTo (2 ^ 30) sides.now → IsNoOverflow result }
     {
         let s = &self.substitution;
         let lowers = s.bounds(alloc, sides.lowers.as_slice(), columns, col, meter)?;
@@ -169,9 +175,11 @@ pub(crate) fn congruence_step(
     requires sided { AreSided meter.old columns col sides.now }
     requires some { 0 < length sides.now.divides }
     requires col_in { col < columns }
-    ensures { MatchResult result
+    ensures exact { MatchResult result
         (λ new. IsStepOf meter.old columns col sides.now new × (meter.new ≡ meter.old))
         (λ cut. IsCutUpTo 0 meter.old meter.new cut) }
+    ensures small { meter.old.bits ≡ 127 → AreSidesUpTo (2 ^ 30) sides.now → length sides.now.divides < 2
+        → MatchResult result (AreSidesUpTo (2 ^ 61)) (λ cut. cut ≢ Cut.Overflow) }
 {
     let progression = Progression::of(alloc, sides.divides.as_slice(), columns, col, meter)?;
     let new = progression.put(alloc, sides, columns, col, meter)?;

@@ -1,11 +1,12 @@
 // A congruence as a substitution for its column.
 
-ghost use Rattle.std.specs.Prelude.{◌≡◌, ◌<◌, ◌<ℤ◌, pos, All, length, MatchResult};
+ghost use Rattle.std.specs.Prelude.{◌≡◌, ◌<◌, ◌<ℤ◌, pos, All, length, MatchResult, ◌≢◌, ◌^◌, ◌≤◌, unsigned_abs};
 ghost use Rattle.isl_meter.specs.Gauge.{IsWithin};
-ghost use Rattle.isl_piece.specs.Row.{IsRowWithin, IsWellFormed, coef_at};
+ghost use Rattle.isl_piece.specs.Row.{IsRowWithin, IsWellFormed, coef_at, IsRowUpTo};
 ghost use Rattle.isl_piece.specs.declared.constraint.RowKind.TheVariants.{Divides};
 ghost use Rattle.isl_elim.specs.Substitution.{AreProgressionParts, offsets_of, IsProgressionOf, substituted};
 ghost use Rattle.isl_elim.specs.Work.{IsCutUpTo};
+ghost use Rattle.isl_elim.specs.Magnitude.{IsNoOverflow};
 
 use crate::combine::{combined, weighted};
 use crate::congruence::remainders;
@@ -43,9 +44,10 @@ fn offsets(alloc: Global, factor: Int, one: &Row, meter: &mut Meter) -> Result<R
     requires factor_within { IsWithin meter.old factor }
     requires within { IsRowWithin meter.old one.now }
     requires divisor { pos 0 <ℤ one.now.k }
-    ensures { MatchResult result
+    ensures exact { MatchResult result
         (λ row. (row ≡ offsets_of factor one.now) × IsRowWithin meter.old row × (meter.new ≡ meter.old))
         (λ cut. IsCutUpTo 0 meter.old meter.new cut) }
+    ensures small { meter.old.bits ≡ 127 → unsigned_abs factor ≤ 2 ^ 30 → IsRowUpTo (2 ^ 30) one.now → IsNoOverflow result }
 {
     let k = one.modulus();
     let numbers = one.coefs.as_slice();
@@ -68,10 +70,12 @@ impl Substitution {
         requires well_formed { IsWellFormed columns one.now }
         requires within { IsRowWithin meter.old one.now }
         requires col_in { col < columns }
-        ensures { MatchResult result
+        ensures exact { MatchResult result
             (λ s. IsProgressionOf columns col one.now s.scale s.offsets × IsWithin meter.old s.scale × IsRowWithin meter.old s.offsets
             × (meter.new ≡ meter.old))
             (λ cut. IsCutUpTo 0 meter.old meter.new cut) }
+        ensures small { meter.old.bits ≡ 127 → IsRowUpTo (2 ^ 30) one.now → MatchResult result
+            (λ s. (unsigned_abs s.scale ≤ 2 ^ 30) × IsRowUpTo (2 ^ 30) s.offsets) (λ cut. cut ≢ Cut.Overflow) }
     {
         let k = one.modulus();
         let (scale, factor) = parts(one.coefs.get(col), k, meter);
@@ -98,9 +102,10 @@ impl Substitution {
         requires within { IsRowWithin meter.old row.now }
         requires same_width { length row.now.coefs ≡ length self.now.offsets.coefs }
         requires col_in { col < length row.now.coefs }
-        ensures { MatchResult result
+        ensures exact { MatchResult result
             (λ moved. (moved ≡ substituted self.now.scale self.now.offsets col row.now) × IsRowWithin meter.old moved × (meter.new ≡ meter.old))
             (λ cut. IsCutUpTo 0 meter.old meter.new cut) }
+        ensures small { meter.old.bits ≡ 127 → unsigned_abs self.now.scale ≤ 2 ^ 30 → IsRowUpTo (2 ^ 30) self.now.offsets → IsRowUpTo (2 ^ 30) row.now → IsNoOverflow result }
     {
         combined(
             alloc,
@@ -128,9 +133,10 @@ impl Substitution {
         requires lower { IsProper meter.old columns row.now }
         requires kind { row.now.kind ≡ AtLeast }
         requires col_in { col < columns }
-        ensures { MatchResult result
+        ensures exact { MatchResult result
             (λ moved. IsMovedBound columns col self.now.scale self.now.offsets row.now moved × IsRowWithin meter.old moved × (meter.new ≡ meter.old))
             (λ cut. IsCutUpTo 0 meter.old meter.new cut) }
+        ensures small { meter.old.bits ≡ 127 → unsigned_abs self.now.scale ≤ 2 ^ 30 → IsRowUpTo (2 ^ 30) self.now.offsets → IsRowUpTo (2 ^ 30) row.now → IsNoOverflow result }
     {
         let moved = self.put(alloc, row, col, meter)?;
         Ok(tightened(alloc, moved, columns, meter)?)
@@ -152,10 +158,11 @@ impl Substitution {
         requires proper { All (IsProper meter.old columns) rows.now }
         requires kinds { All (λ r. r.kind ≡ AtLeast) rows.now }
         requires col_in { col < columns }
-        ensures { MatchResult result
+        ensures exact { MatchResult result
             (λ moved. AllZip (IsMovedBound columns col self.now.scale self.now.offsets) rows.now moved
             × All (IsRowWithin meter.old) moved × (meter.new ≡ meter.old))
             (λ cut. IsCutUpTo 0 meter.old meter.new cut) }
+        ensures small { meter.old.bits ≡ 127 → unsigned_abs self.now.scale ≤ 2 ^ 30 → IsRowUpTo (2 ^ 30) self.now.offsets → All (IsRowUpTo (2 ^ 30)) rows.now → IsNoOverflow result }
     {
         let mut moved = Rows::new(alloc);
         for row in rows {
@@ -178,10 +185,11 @@ impl Substitution {
         requires offsets_width { length self.now.offsets.coefs ≡ columns }
         requires proper { All (IsProper meter.old columns) rows.now }
         requires col_in { col < columns }
-        ensures { MatchResult result
+        ensures exact { MatchResult result
             (λ moved. (moved ≡ map (substituted self.now.scale self.now.offsets col) rows.now)
             × All (IsRowWithin meter.old) moved × (meter.new ≡ meter.old))
             (λ cut. IsCutUpTo 0 meter.old meter.new cut) }
+        ensures small { meter.old.bits ≡ 127 → unsigned_abs self.now.scale ≤ 2 ^ 30 → IsRowUpTo (2 ^ 30) self.now.offsets → All (IsRowUpTo (2 ^ 30)) rows.now → IsNoOverflow result }
     {
         let mut moved = Rows::new(alloc);
         for row in rows {

@@ -33,7 +33,7 @@ use Rattle.isl_space.specs.Form.{width_of}
 use Rattle.isl_lower.specs.Linear.{row_of}
 use Rattle.isl_lower.specs.Rows.{Written, added, piece_width, rows_written, written_piece}
 use Rattle.isl_lower.specs.Passes.{PiecePasses, FailsBy}
-use Rattle.isl_lower.specs.Value.{piece_lowered, value_lowered, HasSameElements, PiecesPass}
+use Rattle.isl_lower.specs.Value.{piece_lowered, value_lowered, HasSameElements, PiecesPass, IsLoweredPiece}
 use Rattle.isl_lower.proofs.AmountLaws.{length-with_amounts}
 use Rattle.isl_lower.proofs.TermLaws.{both_true}
 use Rattle.isl_lower.proofs.PieceLaws.{points_are}
@@ -207,16 +207,23 @@ lowered_more params pieces i piece kept low at is =
     ap (filter_map (piece_lowered params)) (take_more pieces i piece low ∙ ap (λ (p : PieceTree). take i pieces ++ p ∷ []) (sym at))
     ∙ filter_map-append (piece_lowered params) (take i pieces) (piece ∷ []) ∙ ap (λ (o : Option KeptPiece). filter_map (piece_lowered params) (take i pieces) ++ cons_option o []) (sym is)
 
-pub lowered_step : (params : List (List ℕ)) (pieces : List PieceTree) (i : ℕ) (piece : PieceTree) (made pushed : List Piece) (found : Option Piece) → i < length pieces → piece ≡ get_or pieces i piece
-    → option_map kept_piece found ≡ piece_lowered params piece → IfSome found (IsPieceOf params) → pushed ≡ made ++ option_to_list found
-    → (map kept_piece made ≡ filter_map (piece_lowered params) (take i pieces)) × All (IsPieceOf params) made → (map kept_piece pushed ≡ filter_map (piece_lowered params) (take (i + 1) pieces)) × All (IsPieceOf params) pushed
-lowered_step params pieces i piece made pushed None low at is sound more so_far =
+pub lowered_step : (P : Piece → Type 0) (params : List (List ℕ)) (pieces : List PieceTree) (i : ℕ) (piece : PieceTree) (made pushed : List Piece) (found : Option Piece) → i < length pieces → piece ≡ get_or pieces i piece
+    → option_map kept_piece found ≡ piece_lowered params piece → IfSome found P → pushed ≡ made ++ option_to_list found
+    → (map kept_piece made ≡ filter_map (piece_lowered params) (take i pieces)) × All P made → (map kept_piece pushed ≡ filter_map (piece_lowered params) (take (i + 1) pieces)) × All P pushed
+lowered_step P params pieces i piece made pushed None low at is sound more so_far =
     let same : pushed ≡ made = more ∙ append-nil made in
-    (ap (map kept_piece) same ∙ so_far.0 ∙ sym (append-nil (filter_map (piece_lowered params) (take i pieces))) ∙ sym (lowered_more params pieces i piece None low at is), subst (All (IsPieceOf params)) (sym same) so_far.1)
-lowered_step params pieces i piece made pushed (Some kept) low at is sound more so_far = (
+    (ap (map kept_piece) same ∙ so_far.0 ∙ sym (append-nil (filter_map (piece_lowered params) (take i pieces))) ∙ sym (lowered_more params pieces i piece None low at is), subst (All P) (sym same) so_far.1)
+lowered_step P params pieces i piece made pushed (Some kept) low at is sound more so_far = (
   ap (map kept_piece) more ∙ map-append kept_piece made (kept ∷ []) ∙ ap (λ (l : List KeptPiece). l ++ kept_piece kept ∷ []) so_far.0 ∙ sym (lowered_more params pieces i piece (Some (kept_piece kept)) low at is),
-  subst (All (IsPieceOf params)) (sym more) (All-push (IsPieceOf params) made kept so_far.1 sound),
+  subst (All P) (sym more) (All-push P made kept so_far.1 sound),
 )
+
+-- the pieces of the value
+pub all_sound : (g : Gauge) (params : List (List ℕ)) (made : List Piece) → All (IsLoweredPiece g params) made → All (IsPieceOf params) made
+all_sound g params made all k d low = (all k d low).sound
+
+pub value_within : (g : Gauge) (params : List (List ℕ)) (made : List Piece) (pieces : List KeptPiece) → pieces ≡ map kept_piece made → All (IsLoweredPiece g params) made → All (λ piece. All (IsRowWithin g) piece.rows) pieces
+value_within g params made pieces is all = subst (All (λ (piece : KeptPiece). All (IsRowWithin g) piece.rows)) (sym is) (All-map (λ (piece : KeptPiece). All (IsRowWithin g) piece.rows) kept_piece made (λ k d low. (all k d low).within))
 
 -- a cause of one piece is one of all
 pub cause_of_pieces : (g loop now : Gauge) (params : List (List ℕ)) (pieces : List PieceTree) (i : ℕ) (piece : PieceTree) (cut : Cut) → loop ≡ g → i < length pieces → piece ≡ get_or pieces i piece → FailsBy (PiecePasses loop params piece) loop now cut → FailsBy (PiecesPass g params pieces) g now cut

@@ -7,8 +7,11 @@ use Rattle.isl_space.specs.Names.{IsParameterList}
 use Rattle.isl_space.specs.SpaceForm.{IsWellFormedSpace}
 use Rattle.isl_space.specs.Valuation.{Valuation}
 use Rattle.isl_space.specs.Element.{Element, IsElement}
+use Rattle.isl_piece.specs.declared.located.Piece.{Piece}
 use Rattle.isl_piece.specs.Normal.{normal_rows}
+use Rattle.isl_piece.specs.Row.{IsRowWithin}
 use Rattle.isl_union.specs.KeptValue.{KeptPiece, KeptValue, Has}
+use Rattle.isl_union.specs.Piece.{IsPieceOf}
 use Rattle.isl_tree.specs.declared.tree.PieceTree.{PieceTree}
 use Rattle.isl_tree.specs.declared.tree.Literal.{Literal}
 use Rattle.isl_tree.specs.Literal.{space_of_piece, LiteralHas}
@@ -35,3 +38,12 @@ HasSameElements literal value = (valuation : Valuation) (element : Element) → 
 -- a row of one of the pieces passes the limit
 abbrev pub PiecesPass : Gauge → List Name → List PieceTree → Type 0
 PiecesPass g params pieces = Any (PiecePasses g params) pieces
+
+-- each number of the value's rows is within the limit
+abbrev pub IsValueWithin : Gauge → KeptValue → Type 0
+IsValueWithin g value = All (λ piece. All (IsRowWithin g) piece.rows) value.pieces
+
+-- a piece that a value may have, with its numbers within the limit
+pub record IsLoweredPiece (g : Gauge) (params : List Name) (piece : Piece) : Type 0 where
+  pub sound : IsPieceOf params piece
+  pub within : All (IsRowWithin g) piece.system.rows

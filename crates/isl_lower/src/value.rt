@@ -9,13 +9,13 @@ ghost use Rattle.isl_space.specs.Form.{IsNamed, width_of};
 ghost use Rattle.isl_space.specs.Shape.{form_of};
 ghost use Rattle.isl_space.specs.Space.{space_form_of};
 ghost use Rattle.isl_space.specs.SpaceForm.{IsWellFormedSpace};
-ghost use Rattle.isl_union.specs.Piece.{kept_piece, IsPieceOf};
+ghost use Rattle.isl_union.specs.Piece.{kept_piece};
 ghost use Rattle.isl_tree.specs.Known.{literal_is_known};
 ghost use Rattle.isl_tree.specs.Literal.{form_of_tuple, space_of_piece};
 ghost use Rattle.isl_tree.specs.Plain.{is_plain_tuple, is_plain_piece, is_plain};
 ghost use Rattle.isl_lower.specs.Rows.{piece_width};
 ghost use Rattle.isl_lower.specs.Passes.{FailsBy, PiecePasses};
-ghost use Rattle.isl_lower.specs.Value.{piece_lowered, value_lowered, IsWellFormedLiteral, HasSameElements, PiecesPass};
+ghost use Rattle.isl_lower.specs.Value.{piece_lowered, value_lowered, IsWellFormedLiteral, HasSameElements, PiecesPass, IsLoweredPiece, IsValueWithin};
 
 use crate::known::{leaf_entries, second_entries};
 use crate::lowered::rows_written;
@@ -91,7 +91,7 @@ fn lower_piece(
     requires plain { is_plain_piece piece.now ≡ true }
     requires well_formed { IsWellFormedSpace (space_of_piece piece.now) }
     ensures { MatchResult result
-        (λ kept. (option_map kept_piece kept ≡ piece_lowered params.now piece.now) × IfSome kept (IsPieceOf params.now) × (meter.new ≡ meter.old))
+        (λ kept. (option_map kept_piece kept ≡ piece_lowered params.now piece.now) × IfSome kept (IsLoweredPiece meter.old params.now) × (meter.new ≡ meter.old))
         (λ cut. FailsBy (PiecePasses meter.old params.now piece.now) meter.old meter.new cut) }
 {
     let rows = match rows_written(alloc, params, piece, meter) {
@@ -133,7 +133,7 @@ fn lower_pieces(
     requires plain { list_all is_plain_piece pieces.now ≡ true }
     requires well_formed { All (λ piece. IsWellFormedSpace (space_of_piece piece)) pieces.now }
     ensures { MatchResult result
-        (λ kept. (map kept_piece kept.items ≡ filter_map (piece_lowered params.now) pieces.now) × All (IsPieceOf params.now) kept.items × (meter.new ≡ meter.old))
+        (λ kept. (map kept_piece kept.items ≡ filter_map (piece_lowered params.now) pieces.now) × All (IsLoweredPiece meter.old params.now) kept.items × (meter.new ≡ meter.old))
         (λ cut. FailsBy (PiecesPass meter.old params.now pieces.now) meter.old meter.new cut) }
 {
     let mut kept = Vec::new(alloc);
@@ -174,6 +174,7 @@ pub fn lower(alloc: Global, literal: &Literal, meter: &mut Meter) -> Result<Valu
     requires well_formed { IsWellFormedLiteral literal.now }
     ensures exact { IfOk result (λ value. value ≡ value_lowered literal.now) }
     ensures elements { IfOk result (HasSameElements literal.now) }
+    ensures within { IfOk result (IsValueWithin meter.old) }
     ensures meter { MatchResult result (λ _. meter.new ≡ meter.old)
         (λ cut. FailsBy (PiecesPass meter.old literal.now.params literal.now.pieces) meter.old meter.new cut) }
 {

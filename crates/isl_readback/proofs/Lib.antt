@@ -15,3 +15,4 @@ pub mod WithinTree
 pub mod QuietNames
 pub mod AcceptedTokens
 pub mod AcceptedLaws
+pub mod LoweredLaws

@@ -1,14 +1,17 @@
 //! What holds of printed values that are read again. These functions do nothing: their contracts are the laws.
 
-ghost use Rattle.std.specs.Prelude.{◌≡◌, ◌<◌, ℕ, true};
+ghost use Rattle.std.specs.Prelude.{◌≡◌, ◌<◌, ◌≤◌, ℕ, true};
+ghost use Rattle.isl_meter.specs.Gauge.{Gauge};
 ghost use Rattle.isl_union.specs.KeptValue.{KeptValue, IsKeptValue};
 ghost use Rattle.isl_print.specs.OrderedValue.{ordered};
 ghost use Rattle.isl_print.specs.Printed.{printed};
+ghost use Rattle.isl_text.specs.Formed.{are_alike};
 ghost use Rattle.isl_text.specs.Limits.{is_within};
 ghost use Rattle.isl_token.specs.Number.{too_great};
+ghost use Rattle.isl_tree.specs.declared.tree.Literal.{Literal};
 ghost use Rattle.isl_tree.specs.Known.{literal_is_known};
 ghost use Rattle.isl_tree.specs.Plain.{is_plain};
-ghost use Rattle.isl_lower.specs.Value.{IsWellFormedLiteral, value_lowered};
+ghost use Rattle.isl_lower.specs.Value.{IsWellFormedLiteral, IsValueWithin, value_lowered};
 ghost use Rattle.isl_readback.specs.Accepted.{HasQuietNames, IsAccepted};
 ghost use Rattle.isl_readback.specs.Tree.{printed_tree};
 ghost use Rattle.isl_readback.specs.Written.{HasComparisons, HasNumbersUpTo, HasWritableNumbers, IsFlat, IsUniform, value_written};
@@ -54,4 +57,10 @@ pub fn round_trip()
 pub fn printed_is_accepted()
     ensures { (limit : ℕ) (value : KeptValue) → limit < too_great → IsWritableValue value → HasNumbersUpTo limit value → HasQuietNames value
         → IsAccepted limit value }
+{}
+
+/// What a plain literal of known names writes can be written: its value, with numbers within the limit of a meter.
+pub fn lowered_is_writable()
+    ensures { (gauge : Gauge) (literal : Literal) → gauge.bits ≤ 127 → is_plain literal ≡ true → IsWellFormedLiteral literal → are_alike literal.pieces ≡ true
+        → IsValueWithin gauge (value_lowered literal) → IsWritableValue (value_lowered literal) }
 {}

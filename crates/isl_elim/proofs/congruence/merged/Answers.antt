@@ -17,7 +17,7 @@ loop-i-init c =
     let within : IsRowWithin c.args.meter.now c.in_ok-one.one = grind arith in
     let is : c.in_ok-one.one ≡ reduced_row r = grind arith in
     let none : c.new-others.result ≡ [] = grind arith in
-    (rw (take_one rows r c.requires.some c.index-rows-0.is, none) (merged_first c.args.meter.now c.args.columns c.args.col r c.in_ok-one.one kind formed within is), refl)
+    (rw (take_one rows r c.requires.some c.index-rows-0.is, none) (merged_first c.args.meter.now c.args.columns c.args.col r c.in_ok-one.one kind formed within is), refl, (λ _. none))
 
 pub loop-i-preserved : goal.loop-i-preserved
 loop-i-preserved c =
@@ -33,4 +33,8 @@ loop-i-preserved c =
     let taken : take (i + 1) rows ≡ take i rows ++ r ∷ [] = take_more rows i r inside ∙ ap (λ (s : Row). take i rows ++ s ∷ []) (sym c.index-rows-i.is) in (
       rw (taken, pushed) (merged_more c.args.meter.now c.args.columns c.args.col (take i rows) r c.loop-i.one c.in_ok-next.other c.in_ok-next.next c.loop-i.others c.loop-i.invariant.0 formed joined next_within other_within),
       grind arith,
+      (λ few. absurd (grind (arith, common_steps))),
     )
+
+pub returns-clause-small : goal.returns-clause-small
+returns-clause-small c = c.loop-i.invariant.2

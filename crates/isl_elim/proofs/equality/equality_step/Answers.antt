@@ -26,8 +26,8 @@ settled-requires-clause-free c =
     let pushed : c.push.new.self ≡ c.in_ok-short.short ++ solvable c.args.fixed.now c.args.col ∷ [] = grind arith in
     step_free c.args.columns c.args.fixed.now c.args.col c.args.rows.now c.in_ok-short.short c.push.new.self zip c.requires.rows_formed c.requires.fixed_formed c.requires.col_in pushed
 
-pub returns : goal.returns
-returns c =
+pub returns-clause-exact : goal.returns-clause-exact
+returns-clause-exact c =
     let zip : AllZip (IsImage c.args.fixed.now c.args.col) c.args.rows.now c.in_ok-short.short = grind arith in
     let pushed : c.push.new.self ≡ c.in_ok-short.short ++ solvable c.args.fixed.now c.args.col ∷ [] = grind arith in
     let left : IsSystemOf c.args.meter.now (c.args.columns - 1) (λ point. HoldAt c.push.new.self c.args.col point (pos 0)) c.in_ok-left.left = grind arith in (

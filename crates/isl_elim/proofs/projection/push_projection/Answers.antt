@@ -1,4 +1,4 @@
-use Rattle.std.proofs.Common.{◌-◌, pos, refl, arith}
+use Rattle.std.proofs.Common.{◌-◌, pos, refl, arith, ◌^◌, ◌≡◌, ◌∙◌, ap, ◌<◌, length}
 use Rattle.isl_elim.specs.Adds.{Adds}
 use Rattle.isl_elim.specs.Residue.{HasNumber, sides_units}
 use Rattle.isl_elim.specs.Sides.{AreSidesOf}
@@ -8,10 +8,13 @@ use Rattle.isl_elim.specs.Work.{IsCutUpTo, IsChargedBy, IsCutAfter}
 use Rattle.isl_elim.proofs.EliminateLemmas.{system_proper, sides_project, sides_cost, most_not_negative}
 use Rattle.isl_elim.proofs.SideLemmas.{sides_are}
 use Rattle.isl_elim.proofs.WorkLemmas.{memory_after, cut_by, cut_after_weaker, charged_by_weaker}
+use Rattle.std.proofs.lemmas.Result.{err_from_is_err_and}
+use Rattle.isl_meter.specs.Gauge.{Gauge}
+use Rattle.isl_elim.proofs.SmallSides.{sides_up_to, sides_few}
 use Rattle.isl_elim.proofs.projection.push_projection.Goals as goal
 
-pub returns-in_err-sides : goal.returns-in_err-sides
-returns-in_err-sides c =
+pub returns-in_err-sides-clause-exact : goal.returns-in_err-sides-clause-exact
+returns-in_err-sides-clause-exact c =
     let g = c.args.meter.now in
     let system = c.args.system.now in
     let cut = memory_after (elimination_units system c.args.col) g g (most_not_negative g system c.args.col c.requires.system) refl in
@@ -25,8 +28,8 @@ without_congruences-requires-clause-sided c =
     let are : AreSidesOf system.rows c.args.col sides = grind arith in
     sides_are g system.columns c.args.col system.rows sides are (system_proper g system c.requires.system) c.requires.none
 
-pub returns-in_err-new : goal.returns-in_err-new
-returns-in_err-new c =
+pub returns-in_err-new-clause-exact : goal.returns-in_err-new-clause-exact
+returns-in_err-new-clause-exact c =
     let g = c.args.meter.now in
     let k = c.without_congruences.new.meter in
     let system = c.args.system.now in
@@ -35,8 +38,8 @@ returns-in_err-new c =
     let cut = cut_after_weaker (pos 0) (elimination_units system c.args.col) g k e (most_not_negative g system c.args.col c.requires.system) (cut_by 0 g k e own) in
     grind arith
 
-pub returns-in_err-push_sides : goal.returns-in_err-push_sides
-returns-in_err-push_sides c =
+pub returns-in_err-push_sides-clause-exact : goal.returns-in_err-push_sides-clause-exact
+returns-in_err-push_sides-clause-exact c =
     let g = c.args.meter.now in
     let k = c.push_sides.new.meter in
     let system = c.args.system.now in
@@ -51,8 +54,8 @@ returns-in_err-push_sides c =
     let cut = cut_after_weaker (sides_units c.args.col new) (elimination_units system c.args.col) g k e cost own in
     grind arith
 
-pub returns : goal.returns
-returns c =
+pub returns-clause-exact : goal.returns-clause-exact
+returns-clause-exact c =
     let g = c.args.meter.now in
     let k = c.push_sides.new.meter in
     let system = c.args.system.now in
@@ -69,3 +72,29 @@ returns c =
       sides_project g system c.args.col sides new before after are step added,
       charged_by_weaker (sides_units c.args.col new) (elimination_units system c.args.col) g k cost own,
     )
+
+pub returns-in_err-new-clause-small : goal.returns-in_err-new-clause-small
+returns-in_err-new-clause-small c = λ bits small one.
+    let system = c.args.system.now in
+    let sides = c.in_ok-sides.sides in
+    let are : AreSidesOf system.rows c.args.col sides = grind arith in
+    let few = sides_few system.columns c.args.col system.rows sides are c.requires.system.rows one in
+    let p = err_from_is_err_and c.from_residual-in_err-new.result c.from_residual-in_err-new.ensures.1 in
+    rw (p.1, p.2) (c.in_err-new.ensures.small bits (sides_up_to (2 ^ 30) c.args.col system.rows sides are small) few.0)
+
+pub returns-in_err-push_sides-clause-small : goal.returns-in_err-push_sides-clause-small
+returns-in_err-push_sides-clause-small c = λ bits small one.
+    let g = c.args.meter.now in
+    let system = c.args.system.now in
+    let sides = c.in_ok-sides.sides in
+    let new = c.in_ok-new.new in
+    let are : AreSidesOf system.rows c.args.col sides = grind arith in
+    let step : IsStepOf g system.columns c.args.col sides new = grind arith in
+    let meter : c.without_congruences.new.meter ≡ g = grind arith in
+    let few = sides_few system.columns c.args.col system.rows sides are c.requires.system.rows one in
+    let fewer = step.apart in
+    let enough = few.1 in
+    let rest : length new.apart < 2 = omega arith in
+    let up = c.in_ok-new.ensures.small bits (sides_up_to (2 ^ 30) c.args.col system.rows sides are small) few.0 in
+    let p = err_from_is_err_and c.from_residual-in_err-push_sides.result c.from_residual-in_err-push_sides.ensures.1 in
+    rw (p.1, p.2) (c.in_err-push_sides.ensures.small (ap (λ (x : Gauge). x.bits) meter ∙ bits) up rest)

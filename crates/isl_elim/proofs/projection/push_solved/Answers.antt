@@ -9,8 +9,8 @@ use Rattle.isl_elim.proofs.EliminateLemmas.{solved_projects}
 use Rattle.isl_elim.proofs.TailLemmas.{adds_option}
 use Rattle.isl_elim.proofs.projection.push_solved.Goals as goal
 
-pub returns : goal.returns
-returns c =
+pub returns-clause-exact : goal.returns-clause-exact
+returns-clause-exact c =
     let g = c.args.meter.now in
     let system = c.args.system.now in
     let rows = system.rows in

@@ -10,8 +10,8 @@ use Rattle.isl_elim.proofs.UnitLemmas.{tails_bounded, bound_not_negative}
 use Rattle.isl_elim.proofs.WorkLemmas.{charged_by, cut_by, charged_bits, cut_after_weaker, charged_within, cut_within}
 use Rattle.isl_elim.proofs.residue.push_shadow.Goals as goal
 
-pub returns-in_err-branch : goal.returns-in_err-branch
-returns-in_err-branch c =
+pub returns-in_err-branch-clause-exact : goal.returns-in_err-branch-clause-exact
+returns-in_err-branch-clause-exact c =
     let g = c.args.meter.now in
     let k = c.of.new.meter in
     let s = c.args.sides.now in
@@ -22,8 +22,8 @@ returns-in_err-branch c =
     let cut = cut_after_weaker (pos n) (shadow_units c.args.col s) g k e (omega (arith, linear)) (cut_by n g k e own) in
     grind arith
 
-pub returns-in_err-push_branch : goal.returns-in_err-push_branch
-returns-in_err-push_branch c =
+pub returns-in_err-push_branch-clause-exact : goal.returns-in_err-push_branch-clause-exact
+returns-in_err-push_branch-clause-exact c =
     let g = c.args.meter.now in
     let h = c.of.new.meter in
     let k = c.push_branch.new.meter in
@@ -39,8 +39,8 @@ returns-in_err-push_branch c =
     let cut = cut_within (tail_total branch.tails.items) (pos n) (shadow_units c.args.col s) g h k e (omega (arith, linear)) (charged_by n g h charged) own in
     grind arith
 
-pub returns : goal.returns
-returns c =
+pub returns-clause-exact : goal.returns-clause-exact
+returns-clause-exact c =
     let g = c.args.meter.now in
     let h = c.of.new.meter in
     let k = c.push_branch.new.meter in

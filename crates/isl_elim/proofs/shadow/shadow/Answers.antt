@@ -37,8 +37,8 @@ loop-lower-preserved c =
       charged = charged_turn i (length uppers) g h k c.loop-lower.invariant.charged charged;
     }
 
-pub returns-in_err-tail : goal.returns-in_err-tail
-returns-in_err-tail c =
+pub returns-in_err-tail-clause-exact : goal.returns-in_err-tail-clause-exact
+returns-in_err-tail-clause-exact c =
     let lowers = c.args.lowers.now in
     let uppers = c.args.uppers.now in
     let i = c.loop-lower.lower-index in
@@ -50,8 +50,8 @@ returns-in_err-tail c =
     let all = cut_turn i (length lowers) (length uppers) g h k c.in_err-tail.field-0.0 inside c.loop-lower.invariant.charged cut in
     grind arith
 
-pub returns-in_err-push : goal.returns-in_err-push
-returns-in_err-push c =
+pub returns-in_err-push-clause-exact : goal.returns-in_err-push-clause-exact
+returns-in_err-push-clause-exact c =
     let lowers = c.args.lowers.now in
     let uppers = c.args.uppers.now in
     let i = c.loop-lower.lower-index in

@@ -35,8 +35,8 @@ loop-upper-preserved c =
       charged = grind arith;
     }
 
-pub returns : goal.returns
-returns c =
+pub returns-clause-exact : goal.returns-clause-exact
+returns-clause-exact c =
     let uppers = c.args.uppers.now in
     let whole : take c.loop-upper.upper-index uppers ≡ uppers = grind (arith, common_steps) in
     let so_far : IsShadowSoFar c.args.meter.now c.args.columns c.args.col c.args.lower.now uppers c.args.rows.now c.loop-upper.rows c.loop-upper.greatest = rw whole at c.loop-upper.invariant.so_far in (

@@ -1,14 +1,16 @@
-use Rattle.std.proofs.Common.{◌≡◌, ◌+ℤ◌, length, arith}
+use Rattle.std.proofs.Common.{◌≡◌, ◌+ℤ◌, length, arith, ◌^◌, ◌∙◌}
 use Rattle.isl_meter.specs.Gauge.{IsWithin}
 use Rattle.isl_piece.specs.Row.{coef_at}
 use Rattle.isl_elim.specs.declared.shadow.Tail.{Tail}
 use Rattle.isl_elim.specs.Shadow.{extra, IsShadowOf}
 use Rattle.isl_elim.specs.Work.{IsChargedUpTo}
 use Rattle.isl_elim.proofs.WorkLemmas.{charged_bits, within_kept}
+use Rattle.isl_elim.proofs.SmallLemmas.{coef_up_to}
+use Rattle.isl_elim.proofs.SmallTails.{shadow_last}
 use Rattle.isl_elim.proofs.shadow.tail_of.Goals as goal
 
-pub returns : goal.returns
-returns c =
+pub returns-clause-exact : goal.returns-clause-exact
+returns-clause-exact c =
     let lower = c.args.lower.now in
     let uppers = c.args.uppers.now in
     let g = c.args.meter.now in
@@ -23,3 +25,15 @@ returns c =
       record { last = last; shadow = shadow; same = same; value = value; within = within_kept g k tail.last (charged_bits (length uppers) g k charged) within },
       grind arith,
     )
+
+pub returns-in_err-last-2-clause-small : goal.returns-in_err-last-2-clause-small
+returns-in_err-last-2-clause-small c = λ bits low up.
+    let lower = c.args.lower.now in
+    let uppers = c.args.uppers.now in
+    let g = c.args.meter.now in
+    let k = c.shadow_of.new.meter in
+    let last = c.in_ok-last.last in
+    let charged : IsChargedUpTo (length uppers) g k = grind arith in
+    let shadow : IsShadowOf g c.args.columns c.args.col lower uppers c.args.rows.now c.shadow_of.new.rows last = grind arith in
+    let at : c.get.result ≡ coef_at lower c.args.col = grind arith in
+    absurd (c.in_err-last-2.ensures.small (charged_bits (length uppers) g k charged ∙ bits) (shadow_last g c.args.columns c.args.col lower uppers c.args.rows.now c.shadow_of.new.rows last shadow c.requires.lower low up) (rw at (coef_up_to (2 ^ 62) lower c.args.col low)))

@@ -8,15 +8,15 @@ use Rattle.isl_elim.proofs.TailLemmas.{tail_next, tails_done, total_next, total_
 use Rattle.isl_elim.proofs.WorkLemmas.{charged_by_bits, charged_by_more, cut_within, memory_after}
 use Rattle.isl_elim.proofs.tails.push_branch.Goals as goal
 
-pub returns-in_err-push_left : goal.returns-in_err-push_left
-returns-in_err-push_left c =
+pub returns-in_err-push_left-clause-exact : goal.returns-in_err-push_left-clause-exact
+returns-in_err-push_left-clause-exact c =
     let g = c.args.meter.now in
     let tails = c.args.branch.tails.items in
     let cut = memory_after (tail_total tails) g g (total_not_negative g c.args.columns c.args.col tails c.requires.branch.tails) refl in
     grind arith
 
-pub returns-in_err-push_splinters : goal.returns-in_err-push_splinters
-returns-in_err-push_splinters c =
+pub returns-in_err-push_splinters-clause-exact : goal.returns-in_err-push_splinters-clause-exact
+returns-in_err-push_splinters-clause-exact c =
     let g = c.args.meter.now in
     let h = c.loop-tail.meter in
     let k = c.push_splinters.new.meter in
@@ -51,8 +51,8 @@ loop-tail-preserved c =
       charged = rw (total_next tails i t inside at) (charged_by_more (tail_total (take i tails)) (t.last +ℤ pos 1) g h k c.loop-tail.invariant.charged own);
     }
 
-pub returns : goal.returns
-returns c =
+pub returns-clause-exact : goal.returns-clause-exact
+returns-clause-exact c =
     let g = c.args.meter.now in
     let branch = c.args.branch in
     let i = c.loop-tail.tail-index in

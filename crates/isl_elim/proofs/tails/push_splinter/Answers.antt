@@ -8,8 +8,8 @@ use Rattle.isl_elim.proofs.TailLemmas.{adds_option}
 use Rattle.isl_elim.proofs.WorkLemmas.{charged_same, charged_unit, charged_bits}
 use Rattle.isl_elim.proofs.tails.push_splinter.Goals as goal
 
-pub returns : goal.returns
-returns c =
+pub returns-clause-exact : goal.returns-clause-exact
+returns-clause-exact c =
     let g = c.args.meter.now in
     let h = c.unit.new.self in
     let left = c.in_ok-left.left in

@@ -42,8 +42,8 @@ values-preserved c =
       not_above = omega (arith, linear);
     }
 
-pub returns : goal.returns
-returns c =
+pub returns-clause-exact : goal.returns-clause-exact
+returns-clause-exact c =
     let g = c.args.meter.now in
     let i = c.values.i in
     let t = c.args.tail.now in

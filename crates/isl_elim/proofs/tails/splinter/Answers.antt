@@ -1,14 +1,20 @@
-use Rattle.std.proofs.Common.{◌≡◌, ◌-◌, arith}
+use Rattle.std.proofs.Common.{◌≡◌, ◌-◌, arith, ◌^◌, lit<}
 use Rattle.isl_elim.specs.Column.{IsSystemOf}
 use Rattle.isl_elim.specs.Equality.{IsSolvedBy}
 use Rattle.isl_elim.proofs.TailLemmas.{lowered_by, splinter_is}
+use Rattle.std.proofs.lemmas.Result.{err_from_is_err_and}
 use Rattle.isl_elim.proofs.tails.splinter.Goals as goal
 
-pub returns : goal.returns
-returns c =
+pub returns-clause-exact : goal.returns-clause-exact
+returns-clause-exact c =
     let bound = c.args.bound.now in
     let fixed = c.in_ok-fixed.fixed in
     let g = c.args.meter.now in
     let same : fixed ≡ lowered_by bound c.args.i = grind arith in
     let left : IsSystemOf g (c.args.columns - 1) (IsSolvedBy c.args.rows.now fixed c.args.col) c.in_ok-left.left = grind arith in
     (splinter_is g c.args.columns c.args.col c.args.rows.now bound fixed c.args.i c.in_ok-left.left same left, grind arith)
+
+pub returns-in_err-fixed-clause-small : goal.returns-in_err-fixed-clause-small
+returns-in_err-fixed-clause-small c = λ bits rows bound i.
+    let p = err_from_is_err_and c.from_residual.result c.from_residual.ensures.1 in
+    rw (p.1, p.2) (c.in_err-fixed.ensures.small (2 ^ 62) (2 ^ 61) i bound (rw bits (lit< tt)))

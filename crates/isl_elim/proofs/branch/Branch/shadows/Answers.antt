@@ -1,15 +1,19 @@
-use Rattle.std.proofs.Common.{◌≡◌, ◌≢◌, true, [], length, map, ◌*◌, arith}
+use Rattle.std.proofs.Common.{◌≡◌, ◌≢◌, true, [], length, map, ◌*◌, arith, ◌^◌, ap, ◌∙◌, lit≤}
 use Rattle.std.specs.List.{All}
 use Rattle.std.proofs.lemmas.List.{length-map}
-use Rattle.isl_piece.specs.Row.{IsRowWithin}
+use Rattle.isl_piece.specs.Row.{IsRowWithin, IsRowUpTo}
 use Rattle.isl_elim.specs.Branch.{shifted_row}
 use Rattle.isl_elim.specs.Shadow.{IsShadow}
 use Rattle.isl_elim.specs.Work.{IsChargedUpTo}
 use Rattle.isl_elim.proofs.BranchLemmas.{shifted_upper}
+use Rattle.std.proofs.lemmas.Result.{err_from_is_err_and}
+use Rattle.isl_meter.specs.Gauge.{Gauge}
+use Rattle.isl_elim.proofs.SmallLemmas.{rows_more}
+use Rattle.isl_elim.proofs.SmallTails.{all_shifted}
 use Rattle.isl_elim.proofs.branch.Branch.shadows.Goals as goal
 
-pub returns : goal.returns
-returns c =
+pub returns-clause-exact : goal.returns-clause-exact
+returns-clause-exact c =
     let sides = c.args.sides.now in
     let g = c.args.meter.now in
     let uppers = map (shifted_row c.args.col) sides.uppers in
@@ -33,3 +37,15 @@ shadow-requires-2-clause-uppers c =
     let meter : c.shifted.new.meter ≡ g = grind arith in
     let within : All (IsRowWithin g) c.as_slice-3.result.now = grind arith in
     rw (same, meter) (shifted_upper g c.args.columns c.args.col sides.uppers c.requires.sided.uppers (rw same at within))
+
+pub returns-in_err-pair-2-clause-small : goal.returns-in_err-pair-2-clause-small
+returns-in_err-pair-2-clause-small c = λ bits small.
+    let sides = c.args.sides.now in
+    let g = c.args.meter.now in
+    let meter : c.shifted.new.meter ≡ g = grind arith in
+    let lowers : c.as_slice-lowers.result.now ≡ sides.lowers = grind arith in
+    let uppers : c.as_slice-3.result.now ≡ map (shifted_row c.args.col) sides.uppers = grind arith in
+    let low : All (IsRowUpTo (2 ^ 62)) c.as_slice-lowers.result.now = rw lowers (rows_more (2 ^ 61) (2 ^ 62) sides.lowers (lit≤ tt) small.lowers) in
+    let up : All (IsRowUpTo (2 ^ 62)) c.as_slice-3.result.now = rw uppers (all_shifted c.args.col sides.uppers small.uppers) in
+    let p = err_from_is_err_and c.from_residual-in_err-pair-2.result c.from_residual-in_err-pair-2.ensures.1 in
+    rw (p.1, p.2) (c.in_err-pair-2.ensures.small (ap (λ (x : Gauge). x.bits) meter ∙ bits) low up)

@@ -11,8 +11,8 @@ tightened-requires-clause-well_formed c =
     let is : c.in_ok-moved.moved ≡ substituted s.scale s.offsets c.args.col row = grind arith in
     rw is (substituted_formed c.args.columns c.args.col s.scale s.offsets row c.requires.scale c.requires.lower.formed c.requires.offsets_width)
 
-pub returns : goal.returns
-returns c =
+pub returns-clause-exact : goal.returns-clause-exact
+returns-clause-exact c =
     let s = c.args.self.now in
     let row = c.args.row.now in
     let is : c.in_ok-moved.moved ≡ substituted s.scale s.offsets c.args.col row = grind arith in
