@@ -18,7 +18,7 @@ fn at_least(alloc: Global, coefs: &[i128], constant: i128) -> Result<Row, AllocE
 }
 
 /// Dependences of a stencil over a grid: the columns are T, n, the time and the place that are written, and those that are read.
-pub fn stencil(alloc: Global) -> Result<System, AllocError> {
+pub(crate) fn stencil(alloc: Global) -> Result<System, AllocError> {
     let mut system = System::new(alloc, 8);
     let table: [([i128; 8], i128); 12] = [
         ([0, 0, 1, 0, 0, 0, 0, 0], 0),
@@ -41,7 +41,7 @@ pub fn stencil(alloc: Global) -> Result<System, AllocError> {
 }
 
 /// 27 <= 11x + 13y <= 45 and -10 <= 7x - 9y <= 4, which has rational points, and no whole one.
-pub fn skewed(alloc: Global) -> Result<System, AllocError> {
+pub(crate) fn skewed(alloc: Global) -> Result<System, AllocError> {
     let mut system = System::new(alloc, 2);
     let table: [([i128; 2], i128); 4] = [
         ([11, 13], -27),
@@ -92,7 +92,7 @@ fn is_proper_row(row: &Row, columns: usize, meter: &Meter) -> bool
 }
 
 /// Whether the rows are bounds over the system's columns, with numbers within the limit.
-pub fn is_proper(system: &System, meter: &Meter) -> bool
+pub(crate) fn is_proper(system: &System, meter: &Meter) -> bool
     ensures { result ≡ true → IsSystemWithin meter.now system.now }
 {
     for row in system.rows.as_slice() {
