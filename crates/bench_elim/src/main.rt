@@ -2,6 +2,9 @@
 //! how many systems were answered in all.
 #![tactic(auto)]
 
+ghost use Rattle.std.specs.Prelude.{◌<◌};
+ghost use Rattle.isl_piece.specs.System.{IsSystemWithin};
+
 mod systems;
 
 use isl_elim::eliminate;
@@ -28,14 +31,15 @@ fn answered(
     col: usize,
     count: u64,
     meter: &mut Meter,
-) -> Result<u64, Cut> {
+) -> Result<u64, Cut>
+    requires system { IsSystemWithin meter.old system.now }
+    requires col_in { col < system.now.columns }
+{
     let mut systems: u64 = 0;
-    for _turn in 0..count {
-        if col < system.columns && is_proper(system, meter) {
-            meter.start();
-            let found = eliminate(alloc, system, col, meter)?;
-            systems = systems.saturating_add(found.len() as u64);
-        }
+    'turns: for _turn in 0..count {
+        meter.start();
+        let found = eliminate(alloc, system, col, meter)?;
+        systems = systems.saturating_add(found.len() as u64);
     }
     Ok(systems)
 }
@@ -52,7 +56,11 @@ fn system_of(alloc: Global, kind: &str) -> Result<(System, usize), AllocError> {
 fn timed(alloc: Global, kind: &str, count: u64) -> Result<u64, Cut> {
     let (system, col) = system_of(alloc, kind)?;
     let mut meter = Meter::new(127, 10_000_000);
-    answered(alloc, &system, col, count, &mut meter)
+    if col < system.columns && is_proper(&system, &meter) {
+        answered(alloc, &system, col, count, &mut meter)
+    } else {
+        Ok(0)
+    }
 }
 
 fn main(rt: HostRuntime) -> ExitCode {

@@ -6,10 +6,10 @@ use Rattle.isl_meter.specs.Gauge.{Gauge}
 use Rattle.isl_piece.specs.declared.conjunction.System.{System}
 use Rattle.isl_piece.specs.System.{HoldsSystem, IsSystemWithin}
 use Rattle.isl_elim.specs.Adds.{Adds}
-use Rattle.isl_elim.specs.Column.{IsSystemOf}
+use Rattle.isl_omega.specs.Column.{IsSystemOf}
 use Rattle.isl_elim.specs.Elimination.{HoldsAtAny}
-use Rattle.isl_elim.proofs.Lists.{Any-first, Any-left, Any-right, Any-parts, Any-one}
-use Rattle.isl_elim.proofs.WorkLemmas.{rows_within_kept}
+use Rattle.isl_math.proofs.ListLaws.{Any-first, Any-left, Any-right, Any-parts, Any-one}
+use Rattle.isl_omega.proofs.WorkLemmas.{rows_within_kept}
 
 no_system : (point : List ℤ) → HoldsAtAny [] point → ⊥
 no_system point a = let h = a.2 in omega arith

@@ -12,22 +12,22 @@ use Rattle.isl_piece.specs.declared.constraint.Row.{Row}
 use Rattle.isl_piece.specs.Row.{HoldsRow, HoldsValue, IsWellFormed, IsRowWithin, value_at, coef_at}
 use Rattle.isl_elim.specs.Branch.{rows_of, shifted_row, HoldsHead, HasSplinter, KeepBound, IsTail, IsBranchOf, tail_total, splinter_total, AreFewTails}
 use Rattle.isl_elim.specs.declared.branch.Branch.{Branch}
-use Rattle.isl_elim.specs.declared.sides.Sides.{Sides}
+use Rattle.isl_omega.specs.declared.sides.Sides.{Sides}
 use Rattle.isl_piece.specs.declared.conjunction.System.{System}
 use Rattle.isl_piece.specs.System.{IsSystemWithin}
 use Rattle.std.specs.Prelude.{IfSome, nat_lt}
-use Rattle.isl_elim.proofs.Splinters.{splinters_not_negative}
-use Rattle.isl_elim.specs.Column.{IsFree, HoldAt, rest_at, IsSystemOf}
-use Rattle.isl_elim.specs.Shadow.{Bound, IsPositive, MeetsLower, MeetsUpper, IsDark, lower_at, upper_at, extra, IsTailOf, IsShadow}
-use Rattle.isl_elim.specs.Sides.{IsProper, IsLower, IsUpper, IsApart, IsFreeRow, AreSided, SidesHold}
-use Rattle.isl_elim.specs.declared.shadow.Tail.{Tail}
-use Rattle.isl_elim.proofs.ColumnLemmas.{value_at-insert, hold_anywhere}
-use Rattle.isl_elim.proofs.Lists.{All-parts, All-unmapped, All-map-with, All-zipped, AllZip-with, Any-weaker, Any-with, Any-element, Any-unmapped, Any-zipped}
+use Rattle.isl_omega.proofs.Splinters.{splinters_not_negative}
+use Rattle.isl_omega.specs.Column.{IsFree, HoldAt, rest_at, IsSystemOf}
+use Rattle.isl_omega.specs.Shadow.{Bound, IsPositive, MeetsLower, MeetsUpper, IsDark, lower_at, upper_at, extra, IsTailOf, IsShadow}
+use Rattle.isl_omega.specs.Sides.{IsProper, IsLower, IsUpper, IsApart, IsFreeRow, AreSided, SidesHold}
+use Rattle.isl_omega.specs.declared.shadow.Tail.{Tail}
+use Rattle.isl_omega.proofs.ColumnLemmas.{value_at-insert, hold_anywhere}
+use Rattle.isl_math.proofs.ListLaws.{All-parts, All-unmapped, All-map-with, All-zipped, AllZip-with, Any-weaker, Any-with, Any-element, Any-unmapped, Any-zipped}
 use Rattle.isl_elim.proofs.NeighbourLemmas.{shifted, MeetsTwice, IsEnd, neighbours_give, neighbours_cover, neighbour_open_above, neighbour_open_below}
-use Rattle.isl_elim.proofs.ReduceLemmas.{divisor_positive}
-use Rattle.isl_elim.proofs.ShadowLemmas.{dark_shadow, far_above, far_below}
-use Rattle.isl_elim.proofs.ShadowRows.{lower_meets, upper_meets, lower_value}
-use Rattle.isl_elim.proofs.PairLemmas.{holds_at_least}
+use Rattle.isl_omega.proofs.ReduceLemmas.{divisor_positive}
+use Rattle.isl_omega.proofs.ShadowLemmas.{dark_shadow, far_above, far_below}
+use Rattle.isl_omega.proofs.ShadowRows.{lower_meets, upper_meets, lower_value}
+use Rattle.isl_omega.proofs.PairLemmas.{holds_at_least}
 
 -- ---- rows and bounds
 abbrev lower_bounds : ℕ → List ℤ → List Row → List Bound
@@ -55,7 +55,7 @@ uppers_meet g columns col rows point x h l n = (
 )
 
 -- where each pair is dark, some x meets all bounds
-dark_meets : (g : Gauge) (columns col : ℕ) (lowers uppers : List Row) (point : List ℤ) → All (IsLower g columns col) lowers → All (IsUpper g columns col) uppers → col < columns → length point ≡ columns - 1
+pub dark_meets : (g : Gauge) (columns col : ℕ) (lowers uppers : List Row) (point : List ℤ) → All (IsLower g columns col) lowers → All (IsUpper g columns col) uppers → col < columns → length point ≡ columns - 1
     → All (λ l. All (λ u. IsDark (lower_at col point l) (upper_at col point u)) uppers) lowers → (x : ℤ) × HoldAt lowers col point x × HoldAt uppers col point x
 dark_meets g columns col lowers uppers point hl hu l n d =
     let s = dark_shadow (lower_bounds col point lowers) (upper_bounds col point uppers) (positive_lowers g columns col lowers point hl) (positive_uppers g columns col uppers point hu)
@@ -63,7 +63,7 @@ dark_meets g columns col lowers uppers point hl hu l n d =
     (s.0, (lowers_meet g columns col lowers point s.0 hl l n).1 s.1, (uppers_meet g columns col uppers point s.0 hu l n).1 s.2)
 
 -- free rows hold at any x
-free_holds : (g : Gauge) (columns col : ℕ) (rows : List Row) (point : List ℤ) (x y : ℤ) → col < columns → length point ≡ columns - 1 → All (IsFreeRow g columns col) rows → HoldAt rows col point x → HoldAt rows col point y
+pub free_holds : (g : Gauge) (columns col : ℕ) (rows : List Row) (point : List ℤ) (x y : ℤ) → col < columns → length point ≡ columns - 1 → All (IsFreeRow g columns col) rows → HoldAt rows col point x → HoldAt rows col point y
 free_holds g columns col rows point x y l n f a =
     hold_anywhere columns col rows point x y l n (All-weaker (IsFreeRow g columns col) (IsWellFormed columns) (λ r h. h.proper.formed) rows f) (All-weaker (IsFreeRow g columns col) (IsFree col) (λ r h. h.free) rows f) a
 

@@ -12,19 +12,19 @@ use Rattle.isl_piece.specs.declared.conjunction.System.{System}
 use Rattle.isl_piece.specs.Row.{HoldsRow, value_at, coef_at}
 use Rattle.isl_piece.specs.System.{IsSystemWithin}
 use Rattle.isl_elim.specs.Adds.{Adds}
-use Rattle.isl_elim.specs.Congruence.{product_of_divisors, period, product_of_periods}
+use Rattle.isl_omega.specs.Congruence.{product_of_divisors, period, product_of_periods}
 use Rattle.isl_elim.specs.Elimination.{HoldsAtSome, IsProjection, HasNoEquality, IsEqualityAt}
-use Rattle.isl_elim.specs.Equality.{IsSolvedBy}
+use Rattle.isl_omega.specs.Equality.{IsSolvedBy}
 use Rattle.isl_elim.specs.Residue.{HasNumber, sides_units}
-use Rattle.isl_elim.specs.Sides.{IsProper, IsLower, IsUpper, IsApart, AreSidesOf, AreSided, on_side}
-use Rattle.isl_elim.specs.Step.{IsStepOf}
+use Rattle.isl_omega.specs.Sides.{IsProper, IsLower, IsUpper, IsApart, AreSidesOf, AreSided, on_side}
+use Rattle.isl_omega.specs.Step.{IsStepOf}
 use Rattle.isl_elim.specs.Units.{HasEquality, product_of_moduli, elimination_units}
-use Rattle.isl_elim.specs.declared.sides.Side.TheVariants.{Lower, Upper}
-use Rattle.isl_elim.specs.declared.sides.Sides.{Sides}
+use Rattle.isl_omega.specs.declared.sides.Side.TheVariants.{Lower, Upper}
+use Rattle.isl_omega.specs.declared.sides.Sides.{Sides}
 use Rattle.isl_elim.proofs.AddsLemmas.{adds_same}
-use Rattle.isl_elim.proofs.PeriodLemmas.{period_short, product_le}
-use Rattle.isl_elim.proofs.ReduceLemmas.{divisor_positive}
-use Rattle.isl_elim.proofs.SideLemmas.{sides_hold, picked}
+use Rattle.isl_omega.proofs.PeriodLemmas.{period_short, product_le}
+use Rattle.isl_omega.proofs.ReduceLemmas.{divisor_positive}
+use Rattle.isl_omega.proofs.SideLemmas.{sides_hold, picked}
 use Rattle.isl_elim.proofs.UnitLemmas.{AreProducts, units_not_negative, same_lessened, moduli_products, step_cost}
 
 -- ---- no congruence: the step leaves the sides as they are

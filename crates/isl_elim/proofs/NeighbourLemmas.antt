@@ -7,9 +7,9 @@ use Rattle.isl_math.specs.Divide.{Divides, IsCongruent, floor_mod}
 use Rattle.isl_math.proofs.Ring.{expand, linear}
 use Rattle.isl_math.proofs.OrderLaws.{cases_ℤ, at_most_or_above}
 use Rattle.isl_math.proofs.DivideLaws.{Divides-+ℤ, Divides-minus, Divides_trans, Divides-same, Divides-from_mod, mod-from_Divides, floor_mod_bounds, IsCongruent-floor_mod}
-use Rattle.isl_elim.proofs.Lists.{all_or_any}
-use Rattle.isl_elim.specs.Shadow.{Bound, IsPositive, MeetsLower, MeetsUpper}
-use Rattle.isl_elim.proofs.ShadowLemmas.{lower_holds_on, far_above, far_below, upper_holds_on}
+use Rattle.isl_math.proofs.ListLaws.{all_or_any}
+use Rattle.isl_omega.specs.Shadow.{Bound, IsPositive, MeetsLower, MeetsUpper}
+use Rattle.isl_omega.proofs.ShadowLemmas.{lower_holds_on, far_above, far_below, upper_holds_on}
 
 -- k divides z, or it does not
 pub Divides_or_not : (k z : ℤ) → pos 0 <ℤ k → Divides k z ⊎ ¬ Divides k z

@@ -16,20 +16,21 @@ use Rattle.isl_piece.specs.declared.constraint.RowKind.TheVariants as kind
 use Rattle.isl_piece.specs.declared.constraint.Row.{Row}
 use Rattle.isl_piece.specs.declared.conjunction.System.{System}
 use Rattle.isl_piece.specs.Row.{HoldsRow, IsWellFormed, IsRowWithin, value_at, coef_at}
-use Rattle.isl_elim.specs.Column.{IsFree}
-use Rattle.isl_elim.specs.Residue.{IsPeriod, residue_row, HasNumber, HasResidue, IsResidueOf}
-use Rattle.isl_elim.specs.Sides.{AreSided, SidesHold, IsProper, IsDivides, IsApart, is_same, side_of, side_of_kind}
-use Rattle.isl_elim.specs.Step.{AreMovedTo, AreNarrowed, IsStepOf}
-use Rattle.isl_elim.specs.Substitution.{IsProgressionOf, substituted}
-use Rattle.isl_elim.specs.declared.sides.Side.TheVariants.{Apart}
-use Rattle.isl_elim.specs.declared.sides.Sides.{Sides}
+use Rattle.isl_omega.specs.Column.{IsFree}
+use Rattle.isl_omega.specs.Step.{residue_row}
+use Rattle.isl_elim.specs.Residue.{IsPeriod, HasNumber, HasResidue, IsResidueOf}
+use Rattle.isl_omega.specs.Sides.{AreSided, SidesHold, IsProper, IsDivides, IsApart, is_same, side_of, side_of_kind}
+use Rattle.isl_omega.specs.Step.{AreMovedTo, AreNarrowed, IsStepOf}
+use Rattle.isl_omega.specs.Substitution.{IsProgressionOf, substituted}
+use Rattle.isl_omega.specs.declared.sides.Side.TheVariants.{Apart}
+use Rattle.isl_omega.specs.declared.sides.Sides.{Sides}
 use Rattle.isl_elim.specs.Adds.{Adds}
 use Rattle.isl_elim.proofs.AddsLemmas.{adds_none, adds_more, adds_same}
-use Rattle.isl_elim.proofs.MoveLemmas.{substituted_coefficient}
-use Rattle.isl_elim.proofs.ReduceLemmas.{divisor_positive}
-use Rattle.isl_elim.proofs.SideLemmas.{unless_zero}
-use Rattle.isl_elim.proofs.WorkLemmas.{proper_kept}
-use Rattle.isl_elim.proofs.StepLemmas.{AreOne, IsStep, step_is, step_narrowed, multiplier_is, scaled_apart}
+use Rattle.isl_omega.proofs.MoveLemmas.{substituted_coefficient}
+use Rattle.isl_omega.proofs.ReduceLemmas.{divisor_positive}
+use Rattle.isl_omega.proofs.SideLemmas.{unless_zero}
+use Rattle.isl_omega.proofs.WorkLemmas.{proper_kept}
+use Rattle.isl_omega.proofs.StepLemmas.{AreOne, IsStep, step_is, step_narrowed, multiplier_is, scaled_apart}
 
 -- ---- the row of a residue
 pub residue_coef : (columns col : ℕ) (p t : ℤ) → col < columns → coef_at (residue_row columns col p t) col ≡ pos 1

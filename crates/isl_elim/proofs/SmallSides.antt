@@ -11,11 +11,12 @@ use Rattle.isl_piece.specs.declared.constraint.RowKind.{RowKind}
 use Rattle.isl_piece.specs.declared.constraint.RowKind.TheVariants as kind
 use Rattle.isl_piece.specs.declared.constraint.Row.{Row}
 use Rattle.isl_piece.specs.Row.{IsRowUpTo, IsWellFormed, HasDivisor, coef_at}
-use Rattle.isl_elim.specs.Magnitude.{has_congruence, congruences_on, AreSidesUpTo}
-use Rattle.isl_elim.specs.Sides.{AreSidesOf, is_same, side_of, side_of_kind, unless_multiple}
-use Rattle.isl_elim.specs.declared.sides.Side.{Side}
-use Rattle.isl_elim.specs.declared.sides.Side.TheVariants.{Lower, Upper, Divides, Apart, Free}
-use Rattle.isl_elim.specs.declared.sides.Sides.{Sides}
+use Rattle.isl_omega.specs.Magnitude.{AreSidesUpTo}
+use Rattle.isl_elim.specs.Magnitude.{has_congruence, congruences_on}
+use Rattle.isl_omega.specs.Sides.{AreSidesOf, is_same, side_of, side_of_kind, unless_multiple}
+use Rattle.isl_omega.specs.declared.sides.Side.{Side}
+use Rattle.isl_omega.specs.declared.sides.Side.TheVariants.{Lower, Upper, Divides, Apart, Free}
+use Rattle.isl_omega.specs.declared.sides.Sides.{Sides}
 
 pub sides_up_to : (b col : ℕ) (rows : List Row) (sides : Sides) → AreSidesOf rows col sides → All (IsRowUpTo b) rows → AreSidesUpTo b sides
 sides_up_to b col rows sides are h = record {

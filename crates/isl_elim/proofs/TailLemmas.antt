@@ -14,14 +14,14 @@ use Rattle.isl_piece.specs.Row.{value_at}
 use Rattle.isl_piece.specs.System.{IsSystemWithin}
 use Rattle.isl_elim.specs.Adds.{Adds}
 use Rattle.isl_elim.specs.Branch.{HoldsHead, HasValue, HasSplinter, KeepBound, IsTail, IsBranch, HoldsBranch, tail_total}
-use Rattle.isl_elim.specs.Column.{HoldAt, IsSystemOf}
-use Rattle.isl_elim.specs.Equality.{IsSolvedBy}
-use Rattle.isl_elim.specs.Sides.{IsProper, IsLower}
+use Rattle.isl_omega.specs.Column.{HoldAt, IsSystemOf}
+use Rattle.isl_omega.specs.Equality.{IsSolvedBy}
+use Rattle.isl_omega.specs.Sides.{IsProper, IsLower}
 use Rattle.isl_elim.specs.declared.branch.Branch.{Branch}
-use Rattle.isl_elim.specs.declared.shadow.Tail.{Tail}
+use Rattle.isl_omega.specs.declared.shadow.Tail.{Tail}
 use Rattle.isl_elim.proofs.AddsLemmas.{adds_none, adds_one, adds_more, adds_same, system_of_same}
-use Rattle.isl_elim.proofs.Lists.{Any-parts, Any-left, Any-one}
-use Rattle.isl_elim.proofs.WorkLemmas.{within_kept, proper_kept}
+use Rattle.isl_math.proofs.ListLaws.{Any-none, Any-parts, Any-left, Any-one}
+use Rattle.isl_omega.proofs.WorkLemmas.{within_kept, proper_kept}
 
 -- ---- one system, if there is one
 pub adds_option : (g : Gauge) (columns : ℕ) (P : List ℤ → Type 0) (left : Option System) (old new : List System) → IsSystemOf g columns P left → new ≡ old ++ option_to_list left → Adds g columns P old new
@@ -87,12 +87,9 @@ below_last g columns col rows t i old new h k a = adds_same g (columns - 1) (λ 
 abbrev pub HasSplinterOf : Branch → ℕ → ℕ → List ℤ → Type 0
 HasSplinterOf branch col i point = HoldsHead branch.head point ⊎ Any (HasSplinter branch.rows col point) (take i branch.tails.items)
 
-no_element : {X : Type 0} (P : X → Type 0) → Any P [] → ⊥
-no_element P a = let h = a.2 in omega arith
-
 pub head_first : (g : Gauge) (columns col : ℕ) (branch : Branch) (old new : List System) → IsBranch g columns col branch → new ≡ old ++ option_to_list branch.head → Adds g (columns - 1) (HasSplinterOf branch col 0) old new
 head_first g columns col branch old new b e = adds_same g (columns - 1) (HoldsHead branch.head) (HasSplinterOf branch col 0) old new
-    (λ point n. ((λ h. inl h), (λ h. elim h [ inl x ↦ x | inr a ↦ absurd (no_element (HasSplinter branch.rows col point) a) ])))
+    (λ point n. ((λ h. inl h), (λ h. elim h [ inl x ↦ x | inr a ↦ absurd (Any-none (HasSplinter branch.rows col point) a) ])))
     (adds_option g (columns - 1) (HoldsHead branch.head) branch.head old new (by branch.head b.head) e)
   where
     by : (head : Option System) → IfSome head (λ s. (s.columns ≡ columns - 1) × IsSystemWithin g s) → IsSystemOf g (columns - 1) (HoldsHead head) head

@@ -14,7 +14,7 @@ use Rattle.isl_elim.specs.Adds.{Adds}
 use Rattle.isl_elim.specs.Elimination.{HoldsAtSome, is_among, without_from, without, IsProjectionAlong}
 use Rattle.isl_elim.specs.Together.{AreWithout, without_later, AreWithoutSome, IsNext}
 use Rattle.isl_elim.proofs.AddsLemmas.{adds_kept, adds_more, adds_none, adds_same, system_within_kept}
-use Rattle.isl_elim.proofs.Lists.{Any-parts, Any-left, Any-one, Any-element, Any-contains, Any-first}
+use Rattle.isl_math.proofs.ListLaws.{Any-parts, Any-left, Any-one, Any-element, Any-contains, Any-first}
 
 -- ---- a list with one element put in and taken out
 remove-insert : (xs : List ℤ) (i : ℕ) (x : ℤ) → i ≤ length xs → remove (insert xs i x) i ≡ xs

@@ -4,6 +4,7 @@ use Rattle.std.specs.Prelude.{nat_lt}
 use Rattle.std.specs.Int.{int_max}
 use Rattle.std.specs.Ordering.{int_eq}
 use Rattle.std.specs.List.{All, AllZip}
+use Rattle.std.proofs.lemmas.List.Elements.{length_all_zip}
 use Rattle.std.proofs.lemmas.Bool.{cond-false}
 use Rattle.std.proofs.lemmas.Int.{clamps}
 use Rattle.std.proofs.lemmas.Bool.Decides.{Decides-int_eq}
@@ -19,23 +20,22 @@ use Rattle.isl_piece.specs.declared.constraint.RowKind.TheVariants as kind
 use Rattle.isl_piece.specs.declared.constraint.Row.{Row}
 use Rattle.isl_piece.specs.Row.{HasDivisor, IsWellFormed, coef_at}
 use Rattle.isl_elim.specs.Branch.{IsBranchOf, AreFewTails, tail_total, splinter_total}
-use Rattle.isl_elim.specs.Congruence.{product_of_divisors, product_of_periods}
+use Rattle.isl_omega.specs.Congruence.{product_of_divisors, product_of_periods}
 use Rattle.isl_elim.specs.Residue.{splinter_bound, shadow_units, residue_units, residues_units, sides_units, IsPeriod, IsResidueOf}
-use Rattle.isl_elim.specs.Shadow.{splinters}
-use Rattle.isl_elim.specs.Sides.{IsLower, IsUpper, IsApart, AreSided, on_side, side_of, side_of_kind, is_same, unless_multiple}
-use Rattle.isl_elim.specs.Step.{IsStepOf}
-use Rattle.isl_elim.specs.Tighten.{IsLessened}
+use Rattle.isl_omega.specs.Shadow.{splinters}
+use Rattle.isl_omega.specs.Sides.{IsLower, IsUpper, IsApart, AreSided, on_side, side_of, side_of_kind, is_same, unless_multiple}
+use Rattle.isl_omega.specs.Step.{IsStepOf}
+use Rattle.isl_omega.specs.Tighten.{IsLessened}
 use Rattle.isl_elim.specs.Units.{greatest_factor, counted_splinters, sum_of_splinters, all_splinters, pairs, modulus_of, product_of_moduli, units_of_bounds}
 use Rattle.isl_elim.specs.declared.branch.Branch.{Branch}
-use Rattle.isl_elim.specs.declared.sides.Side.{Side}
-use Rattle.isl_elim.specs.declared.sides.Side.TheVariants.{Lower, Upper, Divides, Apart, Free}
-use Rattle.isl_elim.specs.declared.sides.Sides.{Sides}
+use Rattle.isl_omega.specs.declared.sides.Side.{Side}
+use Rattle.isl_omega.specs.declared.sides.Side.TheVariants.{Lower, Upper, Divides, Apart, Free}
+use Rattle.isl_omega.specs.declared.sides.Sides.{Sides}
 use Rattle.isl_elim.proofs.BranchLemmas.{splinter_total_not_negative}
-use Rattle.isl_elim.proofs.Lists.{length_zipped}
-use Rattle.isl_elim.proofs.PeriodLemmas.{product_le, period_short, periods_positive}
-use Rattle.isl_elim.proofs.ReduceLemmas.{divisor_positive}
-use Rattle.isl_elim.proofs.SideLemmas.{side_means, unless_zero}
-use Rattle.isl_elim.proofs.Splinters.{splinters_counted, splinters_not_negative, splinters_rise, neighbour_splinters}
+use Rattle.isl_omega.proofs.PeriodLemmas.{product_le, period_short, periods_positive}
+use Rattle.isl_omega.proofs.ReduceLemmas.{divisor_positive}
+use Rattle.isl_omega.proofs.SideLemmas.{side_means, unless_zero}
+use Rattle.isl_omega.proofs.Splinters.{splinters_counted, splinters_not_negative, splinters_rise, neighbour_splinters}
 
 -- ---- the greatest factor
 pub greatest_bounds : (col : ℕ) (uppers : List Row) → All (λ u. neg_ℤ (coef_at u col) ≤ℤ greatest_factor col uppers) uppers
@@ -211,8 +211,8 @@ all_splinters_not_negative g columns col r lowers (u ∷ uppers) p hl hu = sum_n
 pairs_narrowed : (col : ℕ) (k : ℤ) (lowers uppers fewer lesser : List Row) → AllZip (λ a b. IsLessened (k *ℤ coef_at a col) (coef_at b col)) lowers fewer → AllZip (λ a b. IsLessened (k *ℤ coef_at a col) (coef_at b col)) uppers lesser → pairs fewer lesser ≡ pairs lowers uppers
 pairs_narrowed col k lowers uppers fewer lesser zl zu =
     let R : Row → Row → Type 0 = λ a b. IsLessened (k *ℤ coef_at a col) (coef_at b col) in
-    let a = length_zipped R lowers fewer zl in
-    let b = length_zipped R uppers lesser zu in
+    let a = length_all_zip R lowers fewer zl in
+    let b = length_all_zip R uppers lesser zu in
     rw (← a, ← b) refl
 
 -- ---- one residue
@@ -453,12 +453,25 @@ residue_turn t x p z n l h = let m = simp expand at (≤ℤ-*ℤ x (t +ℤ pos 1
 pub residue_next : (t u x : ℤ) → u ≡ t +ℤ pos 1 → (t *ℤ x +ℤ x) ≤ℤ (u *ℤ x)
 residue_next t u x e = let e' = simp expand at (ap (λ w. w *ℤ x) e) in simp expand (omega (arith, linear))
 
-pub units_not_negative : (g : Gauge) (columns col : ℕ) (rows lowers uppers : List Row) → All (IsWellFormed columns) rows → All (IsLower g columns col) lowers → All (IsUpper g columns col) uppers → pos 0 ≤ℤ units_of_bounds col (product_of_moduli col rows) lowers uppers
-units_not_negative g columns col rows lowers uppers w hl hu =
-    let r = product_of_moduli col rows in
+pub moduli_positive : (columns col : ℕ) (rows : List Row) → All (IsWellFormed columns) rows → pos 0 <ℤ product_of_moduli col rows
+moduli_positive columns col rows w =
     let m = moduli_products columns col rows w in
     let a = positive-*ℤ (product_of_divisors (on_side Divides col rows)) (product_of_divisors (on_side Apart col rows)) m.first m.second in
     let b = m.small in
+    omega (arith, linear)
+
+pub units_not_negative : (g : Gauge) (columns col : ℕ) (rows lowers uppers : List Row) → All (IsWellFormed columns) rows → All (IsLower g columns col) lowers → All (IsUpper g columns col) uppers → pos 0 ≤ℤ units_of_bounds col (product_of_moduli col rows) lowers uppers
+units_not_negative g columns col rows lowers uppers w hl hu =
+    let r = product_of_moduli col rows in
+    let p = moduli_positive columns col rows w in
     let q = pairs_not_negative lowers uppers in
-    let s = all_splinters_not_negative g columns col r lowers uppers (omega (arith, linear)) hl hu in
+    let s = all_splinters_not_negative g columns col r lowers uppers p hl hu in
     not_negative-*ℤ r (pos 1 +ℤ pairs lowers uppers +ℤ all_splinters col r lowers uppers) (omega (arith, linear)) (omega (arith, linear))
+
+-- the pairs alone are no more
+pub pairs_cost : (g : Gauge) (columns col : ℕ) (rows lowers uppers : List Row) → All (IsWellFormed columns) rows → All (IsLower g columns col) lowers → All (IsUpper g columns col) uppers → pairs lowers uppers ≤ℤ units_of_bounds col (product_of_moduli col rows) lowers uppers
+pairs_cost g columns col rows lowers uppers w hl hu =
+    let r = product_of_moduli col rows in
+    let p = moduli_positive columns col rows w in
+    let s = all_splinters_not_negative g columns col r lowers uppers p hl hu in
+    at_least_once r (pairs lowers uppers) (all_splinters col r lowers uppers) (pairs lowers uppers) p (pairs_not_negative lowers uppers) s (omega (arith, linear))

@@ -6,12 +6,12 @@ use Rattle.isl_piece.specs.declared.constraint.Row.{Row}
 use Rattle.isl_piece.specs.declared.conjunction.System.{System}
 use Rattle.isl_piece.specs.Row.{value_at, coef_at}
 use Rattle.isl_piece.specs.System.{HoldsSystem, IsSystemWithin}
-use Rattle.isl_elim.specs.Column.{HoldAt}
-use Rattle.isl_elim.specs.Shadow.{splinters, extra}
-use Rattle.isl_elim.specs.Sides.{IsProper, IsLower, SidesHold}
+use Rattle.isl_omega.specs.Column.{HoldAt}
+use Rattle.isl_omega.specs.Shadow.{splinters, extra}
+use Rattle.isl_omega.specs.Sides.{IsProper, IsLower, SidesHold}
 use Rattle.isl_elim.specs.declared.branch.Branch.{Branch}
-use Rattle.isl_elim.specs.declared.shadow.Tail.{Tail}
-use Rattle.isl_elim.specs.declared.sides.Sides.{Sides}
+use Rattle.isl_omega.specs.declared.shadow.Tail.{Tail}
+use Rattle.isl_omega.specs.declared.sides.Sides.{Sides}
 
 -- the rows of all sides but the congruences
 abbrev pub rows_of : Sides → List Row

@@ -1,16 +1,15 @@
 -- Several rows of one column that divisors must not divide: what they say depends on a residue alone. (Pugh, the Omega test)
-use Rattle.std.specs.Prelude.{◌≡◌, ◌↔◌, Bool, if◌then◌else◌, nat_lt, ℕ, ◌-◌, ℤ, pos, neg_ℤ, ◌+ℤ◌, ◌-ℤ◌, ◌*ℤ◌, ◌≤ℤ◌, ◌<ℤ◌, List, [], ◌∷◌, length, All, replicate, slice_set}
+use Rattle.std.specs.Prelude.{◌≡◌, ◌↔◌, Bool, if◌then◌else◌, nat_lt, ℕ, ◌-◌, ℤ, pos, ◌+ℤ◌, ◌-ℤ◌, ◌*ℤ◌, ◌≤ℤ◌, ◌<ℤ◌, List, [], ◌∷◌, length, All}
 use Rattle.isl_math.specs.Divide as divide
 use Rattle.isl_meter.specs.Gauge.{Gauge}
-use Rattle.isl_piece.specs.declared.constraint.RowKind.TheVariants as kind
 use Rattle.isl_piece.specs.declared.constraint.Row.{Row}
 use Rattle.isl_piece.specs.Row.{coef_at}
 use Rattle.isl_elim.specs.Branch.{splinter_total}
-use Rattle.isl_elim.specs.Congruence.{product_of_periods}
-use Rattle.isl_elim.specs.Sides.{AreSided, SidesHold}
-use Rattle.isl_elim.specs.Step.{AreNarrowed}
+use Rattle.isl_omega.specs.Congruence.{product_of_periods}
+use Rattle.isl_omega.specs.Sides.{AreSided, SidesHold}
+use Rattle.isl_omega.specs.Step.{AreNarrowed}
 use Rattle.isl_elim.specs.Units.{greatest_factor, all_splinters, pairs}
-use Rattle.isl_elim.specs.declared.sides.Sides.{Sides}
+use Rattle.isl_omega.specs.declared.sides.Sides.{Sides}
 
 -- both divide m, which is at most their product
 pub record IsCommonMultiple (a b m : ℤ) : Type 0 where
@@ -24,10 +23,6 @@ pub record IsPeriod (col : ℕ) (rows : List Row) (p : ℤ) : Type 0 where
   pub positive : pos 0 <ℤ p
   pub small : p ≤ℤ product_of_periods col rows
   pub multiples : All (λ r. divide.Divides r.k (coef_at r col *ℤ p)) rows
-
--- the row that says that p divides x - t
-abbrev pub residue_row : ℕ → ℕ → ℤ → ℤ → Row
-residue_row columns col p t = record { kind = kind.Divides; coefs = slice_set (replicate columns (pos 0)) col (pos 1); constant = neg_ℤ t; k = p }
 
 -- some whole number at the column meets the sides
 abbrev pub HasNumber : Sides → ℕ → List ℤ → Type 0

@@ -8,8 +8,8 @@ use Rattle.isl_piece.specs.declared.constraint.RowKind.TheVariants.{Zero, AtLeas
 use Rattle.isl_piece.specs.declared.constraint.Row.{Row}
 use Rattle.isl_piece.specs.declared.conjunction.System.{System}
 use Rattle.isl_piece.specs.Row.{coef_at}
-use Rattle.isl_elim.specs.Sides.{on_side}
-use Rattle.isl_elim.specs.declared.sides.Side.TheVariants.{Lower, Upper}
+use Rattle.isl_omega.specs.Sides.{on_side}
+use Rattle.isl_omega.specs.declared.sides.Side.TheVariants.{Lower, Upper}
 
 -- some equality has the column
 abbrev pub HasEquality : ℕ → List Row → Type 0

@@ -2,14 +2,15 @@
 
 ghost use Rattle.std.specs.Prelude.{◌≡◌, ◌≢◌, ◌⊎◌, ◌<◌, ◌*◌, [], true, false, All, IfOk, length, map, MatchResult, ◌^◌};
 ghost use Rattle.isl_piece.specs.Row.{IsRowWithin, IsRowUpTo};
-ghost use Rattle.isl_elim.specs.Work.{IsChargedUpTo, IsCutUpTo};
-ghost use Rattle.isl_elim.specs.Magnitude.{IsNoOverflow, AreSidesUpTo, IsSmallBranch};
+ghost use Rattle.isl_omega.specs.Work.{IsChargedUpTo, IsCutUpTo};
+ghost use Rattle.isl_omega.specs.Magnitude.{IsNoOverflow, AreSidesUpTo};
+ghost use Rattle.isl_elim.specs.Magnitude.{IsSmallBranch};
 
-use crate::pair::lowered;
-use crate::rows::settled;
-use crate::shadow::{Tail, shadow};
-use crate::sides::Sides;
 use isl_meter::{Cut, Meter};
+use isl_omega::pair::lowered;
+use isl_omega::rows::settled;
+use isl_omega::shadow::{Tail, shadow};
+use isl_omega::sides::Sides;
 use isl_piece::{Row, Rows, System};
 use std::alloc::{AllocError, Global};
 
@@ -25,8 +26,8 @@ pub(crate) struct Branch {
 
 impl Branch {
     ghost use Rattle.isl_elim.specs.Branch.{rows_of, shifted_row, IsBranchOf, AreFewTails};
-    ghost use Rattle.isl_elim.specs.Shadow.{IsShadow};
-    ghost use Rattle.isl_elim.specs.Sides.{AreSided, IsUpper};
+    ghost use Rattle.isl_omega.specs.Shadow.{IsShadow};
+    ghost use Rattle.isl_omega.specs.Sides.{AreSided, IsUpper};
 
     // The rows of all sides but the congruences.
     fn all_rows(alloc: Global, sides: &Sides) -> Result<Rows, AllocError>

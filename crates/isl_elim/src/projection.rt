@@ -8,18 +8,20 @@ ghost use Rattle.isl_piece.specs.Row.{coef_at};
 ghost use Rattle.isl_piece.specs.System.{IsSystemWithin};
 ghost use Rattle.isl_elim.specs.Adds.{Adds};
 ghost use Rattle.isl_elim.specs.Elimination.{HoldsAtSome, IsProjection, HasNoEquality, IsEqualityAt};
-ghost use Rattle.isl_elim.specs.Sides.{IsProper, AreSided};
-ghost use Rattle.isl_elim.specs.Step.{IsStepOf};
+ghost use Rattle.isl_omega.specs.Sides.{IsProper, AreSided};
+ghost use Rattle.isl_omega.specs.Step.{IsStepOf};
 ghost use Rattle.isl_elim.specs.Units.{HasEquality, elimination_units};
-ghost use Rattle.isl_elim.specs.Work.{IsCutUpTo, IsChargedBy, IsCutAfter};
-ghost use Rattle.isl_elim.specs.Magnitude.{IsNoOverflow, AreSidesUpTo, HasSmallNumbers, HasOneCongruence};
+ghost use Rattle.isl_omega.specs.Work.{IsCutUpTo, IsChargedBy, IsCutAfter};
+ghost use Rattle.isl_omega.specs.Magnitude.{IsNoOverflow, AreSidesUpTo};
+ghost use Rattle.isl_elim.specs.Magnitude.{HasSmallNumbers, HasOneCongruence};
 
-use crate::equality::equality_step;
+use crate::exact::{is_exact, push_exact};
 use crate::residue::push_sides;
-use crate::sides::Sides;
-use crate::step::congruence_step;
 use crate::tails::push_left;
 use isl_meter::{Cut, Int, Meter};
+use isl_omega::equality::equality_step;
+use isl_omega::sides::Sides;
+use isl_omega::step::congruence_step;
 use isl_piece::{Row, RowKind, System};
 use std::alloc::Global;
 
@@ -96,8 +98,8 @@ fn without_congruences(
     Ok(new)
 }
 
-// Pushes what is left where no equality has the column.
-fn push_projection(
+// Pushes what the sides of the column leave.
+fn push_by_sides(
     alloc: Global,
     system: &System,
     col: usize,
@@ -117,6 +119,30 @@ fn push_projection(
     let new = without_congruences(alloc, sides, system.columns, col, meter)?;
     push_sides(alloc, &new, system.columns, col, systems, meter)?;
     Ok(())
+}
+
+// Pushes what is left where no equality has the column.
+fn push_projection(
+    alloc: Global,
+    system: &System,
+    col: usize,
+    systems: &mut Vec<System>,
+    meter: &mut Meter,
+) -> Result<(), Cut>
+    requires system { IsSystemWithin meter.old system.now }
+    requires col_in { col < system.now.columns }
+    requires none { HasNoEquality col system.now.rows }
+    ensures exact { MatchResult result
+        (λ _. Adds meter.old (system.now.columns - 1) (HoldsAtSome system.now col) systems.old.items systems.new.items
+        × IsChargedBy (elimination_units system.now col) meter.old meter.new)
+        (λ cut. IsCutAfter (elimination_units system.now col) meter.old meter.new cut) }
+    ensures small { meter.old.bits ≡ 127 → HasSmallNumbers system.now → HasOneCongruence system.now col → IsNoOverflow result }
+{
+    if is_exact(system.rows.as_slice(), system.columns, col, meter) {
+        push_exact(alloc, system, col, systems, meter)
+    } else {
+        push_by_sides(alloc, system, col, systems, meter)
+    }
 }
 
 // Pushes what is left where the row at a place is an equality that has the column.

@@ -3,17 +3,17 @@
 ghost use Rattle.std.specs.Prelude.{◌≡◌, ◌-◌, ◌<◌, ◌≤ℤ◌, ◌<ℤ◌, [], pos, All, length, MatchResult, ◌^◌};
 ghost use Rattle.isl_meter.specs.Gauge.{IsWithin};
 ghost use Rattle.isl_elim.specs.Adds.{Adds};
-ghost use Rattle.isl_elim.specs.Congruence.{period};
+ghost use Rattle.isl_omega.specs.Congruence.{period};
 ghost use Rattle.isl_elim.specs.Residue.{IsCommonMultiple, IsPeriod, HasNumber, HasResidue, IsResidueOf, shadow_units, residue_units, residues_units, sides_units};
-ghost use Rattle.isl_elim.specs.Sides.{IsApart, AreSided};
-ghost use Rattle.isl_elim.specs.Work.{IsCutUpTo, IsChargedBy, IsCutAfter};
-ghost use Rattle.isl_elim.specs.Magnitude.{IsNoOverflow, AreSidesUpTo};
+ghost use Rattle.isl_omega.specs.Sides.{IsApart, AreSided};
+ghost use Rattle.isl_omega.specs.Work.{IsCutUpTo, IsChargedBy, IsCutAfter};
+ghost use Rattle.isl_omega.specs.Magnitude.{IsNoOverflow, AreSidesUpTo};
 
 use crate::branch::Branch;
-use crate::sides::Sides;
-use crate::step::Progression;
 use crate::tails::push_branch;
 use isl_meter::{Cut, Int, Meter, Overflow};
+use isl_omega::sides::Sides;
+use isl_omega::step::Progression;
 use isl_piece::{Row, System};
 use std::alloc::Global;
 

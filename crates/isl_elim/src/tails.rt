@@ -4,17 +4,18 @@ ghost use Rattle.std.specs.Prelude.{◌≡◌, ◌-◌, ◌<◌, ◌++◌, ◌+�
 ghost use Rattle.isl_meter.specs.Gauge.{IsWithin};
 ghost use Rattle.isl_elim.specs.Adds.{Adds};
 ghost use Rattle.isl_elim.specs.Branch.{HasValue, HasSplinter, KeepBound, IsTail, IsBranch, HoldsBranch, tail_total};
-ghost use Rattle.isl_elim.specs.Column.{IsSystemOf};
-ghost use Rattle.isl_elim.specs.Sides.{IsProper, IsLower};
-ghost use Rattle.isl_elim.specs.Work.{IsChargedUpTo, IsCutUpTo, IsChargedBy, IsCutAfter};
+ghost use Rattle.isl_omega.specs.Column.{IsSystemOf};
+ghost use Rattle.isl_omega.specs.Sides.{IsProper, IsLower};
+ghost use Rattle.isl_omega.specs.Work.{IsChargedUpTo, IsCutUpTo, IsChargedBy, IsCutAfter};
 ghost use Rattle.isl_piece.specs.Row.{IsRowUpTo};
-ghost use Rattle.isl_elim.specs.Magnitude.{IsNoOverflow, IsSmallTail, IsSmallBranch};
+ghost use Rattle.isl_omega.specs.Magnitude.{IsNoOverflow};
+ghost use Rattle.isl_elim.specs.Magnitude.{IsSmallTail, IsSmallBranch};
 
 use crate::branch::Branch;
-use crate::equality::equality_step;
-use crate::pair::lowered;
-use crate::shadow::Tail;
 use isl_meter::{Cut, Int, Meter};
+use isl_omega::equality::equality_step;
+use isl_omega::pair::lowered;
+use isl_omega::shadow::Tail;
 use isl_piece::{Row, System};
 use std::alloc::Global;
 

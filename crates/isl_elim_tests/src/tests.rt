@@ -118,6 +118,39 @@ fn bounds(rt: HostRuntime) -> Result<(), Cut> {
     Ok(())
 }
 
+// 2n - 3 <= x, x <= 4 and 3x <= n + 5, with -2 <= n beside, without x: one system, and a unit for each pair.
+#[test]
+fn unit_factor(rt: HostRuntime) -> Result<(), Cut> {
+    let alloc = rt.alloc();
+    let mut meter = Meter::new(127, 1000);
+    let mut system = System::new(alloc, 2);
+    add(
+        &mut system,
+        row(alloc, RowKind::AtLeast, -2, 1, 3, 1)?,
+        &meter,
+    )?;
+    add(
+        &mut system,
+        row(alloc, RowKind::AtLeast, 0, -1, 4, 1)?,
+        &meter,
+    )?;
+    add(
+        &mut system,
+        row(alloc, RowKind::AtLeast, 1, -3, 5, 1)?,
+        &meter,
+    )?;
+    add(
+        &mut system,
+        row(alloc, RowKind::AtLeast, 1, 0, 2, 1)?,
+        &meter,
+    )?;
+    let left = without_second(alloc, &system, &mut meter)?;
+    assert!(rt; left.len() == 1 && meter.units() == 2);
+    let wanted = [false, false, true, true, true, true, true, false, false];
+    assert!(rt; holds_where(&left, &wanted, &mut meter)?);
+    Ok(())
+}
+
 // 3x = n, without x.
 #[test]
 fn equality(rt: HostRuntime) -> Result<(), Cut> {

@@ -1,5 +1,5 @@
 -- What a literal that is taken declares and names is what a value may have.
-use Rattle.std.proofs.Common.{◌≡◌, ◌≢◌, ◌∙◌, refl, sym, ℕ, ℤ, ◌≤◌, Bool, true, false, List, [], ◌∷◌, length, get_or, Option, Some, None, arith}
+use Rattle.std.proofs.Common.{◌≡◌, ◌≢◌, ◌∙◌, refl, sym, ℕ, ℤ, ◌≤◌, true, false, List, [], ◌∷◌, length, get_or, Option, Some, None, arith}
 use Rattle.std.specs.Prelude.{not, ◌&&◌, nat_le}
 use Rattle.std.specs.List.{All, list_all}
 use Rattle.std.specs.Str.{bytes_eq}
@@ -7,6 +7,7 @@ use Rattle.std.proofs.lemmas.Bool.{false≢true, and_parts, or_parts, not-true, 
 use Rattle.std.proofs.lemmas.List.Elements.{All-nil, All-cons}
 use Rattle.std.proofs.lemmas.List.Kept.{AllPairs-cons}
 use Rattle.std.proofs.lemmas.Slice.Eq.{bytes_eq-Decides}
+use Rattle.isl_math.proofs.ListLaws.{All-pass}
 use Rattle.isl_space.specs.Name.{Name}
 use Rattle.isl_space.specs.Names.{AreDistinct}
 use Rattle.isl_space.specs.Form.{leaves_of}
@@ -63,10 +64,6 @@ narrow piece plain within =
       leaves = few_leaves piece piece.first piece.second refl refl tuples.0 tuples.1;
     }
 
-passes : {X : Type 0} (test : X → Bool) (xs : List X) → list_all test xs ≡ true → All (λ x. test x ≡ true) xs
-passes test [] e = All-nil (λ x. test x ≡ true)
-passes test (x ∷ xs) e = let parts = and_parts (test x) (list_all test xs) e in All-cons (λ y. test y ≡ true) x xs parts.0 (passes test xs parts.1)
-
 -- ---- what is taken is sound
 pub sound : (limit : ℤ) (ts : List Token) (literal : Literal) → All IsToken ts → TokensSpell limit ts (Show literal) → IsSound (Show literal)
 sound limit ts literal tokens spelled =
@@ -75,8 +72,8 @@ sound limit ts literal tokens spelled =
     let formed = and_parts (are_distinct literal.params && are_alike literal.pieces) (list_all (piece_is_formed literal.params) literal.pieces) spelled.0.spelled.1 in
     let distinct = and_parts (are_distinct literal.params) (are_alike literal.pieces) formed.0 in
     let sizes = and_parts (nat_le (length literal.params) 16) (list_all piece_is_within literal.pieces) taken.within in
-    let plain = passes is_plain_piece literal.pieces taken.plain in
-    let within = passes piece_is_within literal.pieces sizes.1 in (
+    let plain = All-pass is_plain_piece literal.pieces taken.plain in
+    let within = All-pass piece_is_within literal.pieces sizes.1 in (
       taken.plain,
       record {
         params = record {

@@ -1,14 +1,14 @@
 -- What the bytes of a statement spell. (isl manual, the notation of sets and relations; the iscc chapter of the barvinok
 -- manual, on statements)
-use Rattle.std.specs.Prelude.{◌≡◌, ℕ, ℤ, Bool, true, false, ◌||◌, List, [], Some}
+use Rattle.std.specs.Prelude.{◌≡◌, ℕ, ℤ, Bool, true, false, ◌||◌, ◌&&◌, List, [], ◌∷◌, Some}
 use Rattle.std.specs.List.{list_any}
 use Rattle.isl_token.specs.declared.fault.Fault.{Fault}
 use Rattle.isl_token.specs.declared.fault.Fault.TheVariants.{Syntax, NoMemory}
 use Rattle.isl_token.specs.declared.token.Token.{Token}
+use Rattle.isl_token.specs.declared.token.Kind.{Kind}
 use Rattle.isl_token.specs.declared.token.Kind.TheVariants as k
 use Rattle.isl_token.specs.Token.{is_kind, kind_of}
 use Rattle.isl_token.specs.Lex as lex
-use Rattle.isl_token.specs.Depth.{is_too_deep}
 use Rattle.isl_token.specs.Spelling.{Spells}
 use Rattle.isl_tree.specs.declared.tree.Literal.{Literal}
 use Rattle.isl_tree.specs.Plain.{is_plain}
@@ -19,15 +19,34 @@ use Rattle.isl_lower.specs.Value.{IsWellFormedLiteral}
 use Rattle.isl_eval.specs.declared.statement.Statement.{Statement}
 use Rattle.isl_eval.specs.declared.statement.Statement.TheVariants.{Empty, Show}
 
-abbrev pub is_round : Token → Bool
-is_round t = is_kind (kind_of t) k.Open || is_kind (kind_of t) k.Close
+-- a kind of token that only later forms have: round brackets, `not`, `!` and `exists`
+abbrev pub is_later_kind : Kind → Bool
+is_later_kind k.Open = true
+is_later_kind k.Close = true
+is_later_kind k.Not = true
+is_later_kind k.Exists = true
+is_later_kind _ = false
 
--- The literals of today: those that are plain, that are written without round brackets, and that keep the limits on depth,
--- size and numbers.
+abbrev pub is_later : Token → Bool
+is_later t = is_later_kind (kind_of t)
+
+-- whether square brackets are open behind a token, where none is nested
+abbrev pub is_inside_behind : Bool → Kind → Bool
+is_inside_behind inside k.OpenSquare = true
+is_inside_behind inside k.CloseSquare = false
+is_inside_behind inside _ = inside
+
+-- a square bracket opens where one is open
+abbrev pub has_nested : Bool → List Token → Bool
+has_nested inside [] = false
+has_nested inside (t ∷ ts) = (inside && is_kind (kind_of t) k.OpenSquare) || has_nested (is_inside_behind inside (kind_of t)) ts
+
+-- The literals of today: those that are plain, that are written without the tokens of later forms and without square brackets
+-- within square brackets, and that keep the limits on size and numbers.
 pub record IsTaken (limit : ℤ) (ts : List Token) (literal : Literal) : Type 0 where
   pub plain : is_plain literal ≡ true
-  pub bare : list_any is_round ts ≡ false
-  pub shallow : is_too_deep ts ≡ false
+  pub bare : list_any is_later ts ≡ false
+  pub flat : has_nested false ts ≡ false
   pub within : is_within literal ≡ true
   pub narrow : has_wide_number limit ts ≡ false
 

@@ -1,5 +1,5 @@
 -- The value that a plain literal writes has the literal's elements.
-use Rattle.std.proofs.Common.{◌≡◌, ◌⊎◌, ◌↔◌, ◌∙◌, inl, inr, refl, sym, ap, ap₂, subst, ℕ, zero, suc, ◌+◌, ◌<◌, pos, true, ◌&&◌, List, [], ◌∷◌, ◌++◌, length, get_or, map, take, Option, Some, None, option_map, MatchOption, IfSome, arith}
+use Rattle.std.proofs.Common.{◌≡◌, ◌↔◌, ◌∙◌, inl, inr, refl, sym, ap, ap₂, subst, ℕ, ◌+◌, ◌<◌, pos, true, ◌&&◌, List, [], ◌∷◌, ◌++◌, length, get_or, map, take, Option, Some, None, option_map, MatchOption, IfSome, arith}
 use Rattle.std.specs.List.{All, Any, filter_map, cons_option, list_all}
 use Rattle.std.specs.Option.{option_to_list}
 use Rattle.std.proofs.lemmas.List.{length-append, length-take-le, length-replicate, take_more, append-nil, map-append}
@@ -34,27 +34,11 @@ use Rattle.isl_lower.specs.Linear.{row_of}
 use Rattle.isl_lower.specs.Rows.{Written, added, piece_width, rows_written, written_piece}
 use Rattle.isl_lower.specs.Passes.{PiecePasses, FailsBy}
 use Rattle.isl_lower.specs.Value.{piece_lowered, value_lowered, HasSameElements, PiecesPass, IsLoweredPiece}
+use Rattle.isl_math.proofs.ListLaws.{Any-none, Any-first, Any-later, Any-cases}
 use Rattle.isl_lower.proofs.AmountLaws.{length-with_amounts}
 use Rattle.isl_lower.proofs.TermLaws.{both_true}
 use Rattle.isl_lower.proofs.PieceLaws.{points_are}
 use Rattle.std.proofs.lemmas.Bool.{false≢true}
-
--- ---- some element of a list
-any_none : {X : Type 0} (P : X → Type 0) → Any P [] → ⊥
-any_none P a = let h = a.2 in omega arith
-
-any_first : {X : Type 0} (P : X → Type 0) (x : X) (xs : List X) → P x → Any P (x ∷ xs)
-any_first P x xs p = (0, x, omega arith, refl, p)
-
-any_later : {X : Type 0} (P : X → Type 0) (x : X) (xs : List X) → Any P xs → Any P (x ∷ xs)
-any_later P x xs a = (suc a.0, a.1, (let h = a.2 in omega arith), a.3, a.4)
-
-any_cases : {X : Type 0} (P : X → Type 0) (y : X) (xs : List X) → Any P (y ∷ xs) → P y ⊎ Any P xs
-any_cases {X = X} P y xs a = by a.0 a.1 a.2 a.3 a.4
-  where
-    by : (k : ℕ) (x : X) → k < length (y ∷ xs) → get_or (y ∷ xs) k x ≡ x → P x → P y ⊎ Any P xs
-    by zero x i e p = inl (rw e p)
-    by (suc k) x i e p = inr (k, x, omega arith, e, p)
 
 -- ---- the rows are rows over the columns
 divisor_of_one : (kind : RowKind) → HasDivisor kind (pos 1)
@@ -130,7 +114,7 @@ keeps params piece valuation element sized plain known =
 pieces_have : (params : List (List ℕ)) (pieces : List PieceTree) (valuation : Valuation) (element : Element) → IsElement element → list_all is_plain_piece pieces ≡ true → list_all (piece_is_known params) pieces ≡ true
     → Any (HasElement params valuation element) (filter_map (piece_lowered params) pieces) ↔ Any (PieceHas params valuation element) pieces
 unfolding Keeps
-pieces_have params [] valuation element sized plain known = ((λ a. absurd (any_none (HasElement params valuation element) a)), (λ a. absurd (any_none (PieceHas params valuation element) a)))
+pieces_have params [] valuation element sized plain known = ((λ a. absurd (Any-none (HasElement params valuation element) a)), (λ a. absurd (Any-none (PieceHas params valuation element) a)))
 pieces_have params (piece ∷ pieces) valuation element sized plain known =
     let plains = both_true (is_plain_piece piece) (list_all is_plain_piece pieces) plain in
     let knowns = both_true (piece_is_known params piece) (list_all (piece_is_known params) pieces) known in
@@ -142,17 +126,17 @@ pieces_have params (piece ∷ pieces) valuation element sized plain known =
     by : (kept : Option (List Row)) → Keeps params piece valuation element kept → Any (HasElement params valuation element) (filter_map (piece_lowered params) pieces) ↔ Any (PieceHas params valuation element) pieces
         → Any (HasElement params valuation element) (cons_option (option_map (λ rows. record { space = space_of_piece piece; rows = rows }) kept) (filter_map (piece_lowered params) pieces)) ↔ Any (PieceHas params valuation element) (piece ∷ pieces)
     by None never more = (
-      (λ a. any_later (PieceHas params valuation element) piece pieces (more.0 a)),
-      (λ a. elim (any_cases (PieceHas params valuation element) piece pieces a) [ inl p ↦ absurd (never p) | inr b ↦ more.1 b ]),
+      (λ a. Any-later (PieceHas params valuation element) piece pieces (more.0 a)),
+      (λ a. elim (Any-cases (PieceHas params valuation element) piece pieces a) [ inl p ↦ absurd (never p) | inr b ↦ more.1 b ]),
     )
     by (Some rows) same more = (
-      (λ a. elim (any_cases (HasElement params valuation element) _ (filter_map (piece_lowered params) pieces) a) [
-        | inl p ↦ any_first (PieceHas params valuation element) piece pieces (same.0 p)
-        | inr b ↦ any_later (PieceHas params valuation element) piece pieces (more.0 b)
+      (λ a. elim (Any-cases (HasElement params valuation element) _ (filter_map (piece_lowered params) pieces) a) [
+        | inl p ↦ Any-first (PieceHas params valuation element) piece pieces (same.0 p)
+        | inr b ↦ Any-later (PieceHas params valuation element) piece pieces (more.0 b)
       ]),
-      (λ a. elim (any_cases (PieceHas params valuation element) piece pieces a) [
-        | inl p ↦ any_first (HasElement params valuation element) _ (filter_map (piece_lowered params) pieces) (same.1 p)
-        | inr b ↦ any_later (HasElement params valuation element) _ (filter_map (piece_lowered params) pieces) (more.1 b)
+      (λ a. elim (Any-cases (PieceHas params valuation element) piece pieces a) [
+        | inl p ↦ Any-first (HasElement params valuation element) _ (filter_map (piece_lowered params) pieces) (same.1 p)
+        | inr b ↦ Any-later (HasElement params valuation element) _ (filter_map (piece_lowered params) pieces) (more.1 b)
       ]),
     )
 

@@ -1,9 +1,10 @@
 -- The negation of a row.
-use Rattle.std.proofs.Common.{◌≡◌, ◌≢◌, ◌↔◌, ◌⊎◌, inl, inr, refl, ◌∙◌, arith, ℕ, zero, suc, ◌<◌, ℤ, pos, negsuc, neg_ℤ, ◌+ℤ◌, ◌-ℤ◌, ◌*ℤ◌, ◌≤ℤ◌, List, [], ◌∷◌, length, get_or, Result, MatchResult, IfOk}
+use Rattle.std.proofs.Common.{◌≡◌, ◌≢◌, ◌↔◌, ◌⊎◌, inl, inr, refl, ◌∙◌, arith, ℕ, ℤ, pos, negsuc, neg_ℤ, ◌+ℤ◌, ◌-ℤ◌, ◌*ℤ◌, ◌≤ℤ◌, List, [], ◌∷◌, length, Result, MatchResult, IfOk}
 use Rattle.std.specs.List.{All, Any}
 use Rattle.std.proofs.lemmas.List.Elements.{All-nil, All-cons, All-head, All-tail}
 use Rattle.std.proofs.lemmas.Result.{MatchResult-weaker}
 use Rattle.isl_math.specs.Dot.{dot, scaled}
+use Rattle.isl_math.proofs.ListLaws.{Any-none, Any-first, Any-later, Any-cases}
 use Rattle.isl_math.proofs.Ring.{linear}
 use Rattle.isl_math.proofs.DotLaws.{dot-scaled}
 use Rattle.isl_meter.specs.declared.Cut.{Cut}
@@ -16,23 +17,6 @@ use Rattle.isl_piece.specs.Normal.{bound}
 use Rattle.isl_piece.specs.Negation.{above, below, negated_form, negation_of, IsCutFor, ConstantPassesLimit}
 use Rattle.isl_piece.proofs.ContentLaws.{length-scaled}
 use Rattle.isl_piece.proofs.NormalCases.{divides_cases}
-
--- ---- one of two rows
-pub Any-first : (P : Row → Type 0) (r : Row) (rows : List Row) → P r → Any P (r ∷ rows)
-Any-first P r rows p = (0, r, omega arith, refl, p)
-
-pub Any-later : (P : Row → Type 0) (r : Row) (rows : List Row) → Any P rows → Any P (r ∷ rows)
-Any-later P r rows a = (suc a.0, a.1, (let h = a.2 in omega arith), a.3, a.4)
-
-Any-cases : (P : Row → Type 0) (r : Row) (rows : List Row) → Any P (r ∷ rows) → P r ⊎ Any P rows
-Any-cases P r rows a = by a.0 a.1 a.2 a.3 a.4
-  where
-    by : (k : ℕ) (x : Row) → k < length (r ∷ rows) → get_or (r ∷ rows) k x ≡ x → P x → P r ⊎ Any P rows
-    by zero x l is p = inl (rw is p)
-    by (suc k) x l is p = inr (k, x, omega arith, is, p)
-
-no_Any : (P : Row → Type 0) → ¬ Any P []
-no_Any P a = let h = a.2 in absurd (omega arith)
 
 -- ---- constants that pass the limit
 pub above_passes : (g : Gauge) (r : Row) → r.kind ≡ Zero → ¬ IsWithin g (r.constant -ℤ pos 1) → ConstantPassesLimit g (negation_of r)
@@ -60,7 +44,7 @@ negated_holds Zero cs c k xs h = (
     | inl p ↦ let q = (value_above cs c xs).0 p in omega (arith, linear)
     | inr b ↦ elim (Any-cases (λ r. HoldsRow r xs) (below cs c) [] b) [
       | inl p ↦ let q = (value_below cs c xs).0 p in omega (arith, linear)
-      | inr d ↦ no_Any (λ r. HoldsRow r xs) d
+      | inr d ↦ Any-none (λ r. HoldsRow r xs) d
     ]
   ]),
   (λ n. elim (apart_from_zero (dot cs xs +ℤ c) n) [
@@ -71,18 +55,18 @@ negated_holds Zero cs c k xs h = (
 negated_holds AtLeast cs c k xs h = (
   (λ a e. elim (Any-cases (λ r. HoldsRow r xs) (below cs c) [] a) [
     | inl p ↦ let q = (value_below cs c xs).0 p in omega (arith, linear)
-    | inr d ↦ no_Any (λ r. HoldsRow r xs) d
+    | inr d ↦ Any-none (λ r. HoldsRow r xs) d
   ]),
   (λ n. Any-first (λ r. HoldsRow r xs) (below cs c) [] ((value_below cs c xs).1 (omega (arith, linear)))),
 )
 negated_holds Divides cs c k xs h =
     let r : Row = record { kind = NotDivides; coefs = cs; constant = c; k = k } in (
-      (λ a. elim (Any-cases (λ s. HoldsRow s xs) r [] a) [ inl p ↦ p | inr d ↦ absurd (no_Any (λ s. HoldsRow s xs) d) ]),
+      (λ a. elim (Any-cases (λ s. HoldsRow s xs) r [] a) [ inl p ↦ p | inr d ↦ absurd (Any-none (λ s. HoldsRow s xs) d) ]),
       (λ n. Any-first (λ s. HoldsRow s xs) r [] n),
     )
 negated_holds NotDivides cs c k xs h =
     let r : Row = record { kind = Divides; coefs = cs; constant = c; k = k } in (
-      (λ a n. elim (Any-cases (λ s. HoldsRow s xs) r [] a) [ inl p ↦ n p | inr d ↦ no_Any (λ s. HoldsRow s xs) d ]),
+      (λ a n. elim (Any-cases (λ s. HoldsRow s xs) r [] a) [ inl p ↦ n p | inr d ↦ Any-none (λ s. HoldsRow s xs) d ]),
       (λ n. elim (divides_cases k (dot cs xs +ℤ c) h) [ inl d ↦ Any-first (λ s. HoldsRow s xs) r [] d | inr m ↦ absurd (n m) ]),
     )
 

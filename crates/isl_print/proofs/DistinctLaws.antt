@@ -1,19 +1,19 @@
 -- The names of the columns of a space are distinct.
-use Rattle.std.proofs.Common.{◌≡◌, ◌≢◌, ◌<◌, ◌≤◌, ◌+◌, ◌-◌, ◌*◌, ◌^◌, ◌∙◌, ℕ, zero, suc, Bool, true, false, not, List, [], ◌∷◌, ◌++◌, length, get_or, drop, replicate, arith, ap, sym, subst, refl, cond, lit<}
-use Rattle.std.specs.Prelude.{if◌then◌else◌, codes, ◌==◌, ◌||◌, All, AllPairs, filter}
+use Rattle.std.proofs.Common.{◌≡◌, ◌≢◌, ◌<◌, ◌≤◌, ◌+◌, ◌-◌, ◌^◌, ◌∙◌, ℕ, zero, suc, Bool, true, false, not, List, [], ◌∷◌, ◌++◌, length, get_or, arith, ap, sym, refl, cond, lit<}
+use Rattle.std.specs.Prelude.{if◌then◌else◌, codes, ◌==◌, ◌||◌, All, filter}
 use Rattle.std.specs.Char.{digit_value}
 use Rattle.std.specs.Fmt.{decimal}
 use Rattle.std.specs.List.{sum_by, list_any, AllByRecursion}
 use Rattle.std.specs.Str.{bytes_eq}
 use Rattle.std.specs.Str.Parse.{AllDigits}
-use Rattle.std.proofs.lemmas.Bool.{false≢true, ne_eqb, eq-eqb, lt-ltb}
+use Rattle.std.proofs.lemmas.Bool.{false≢true, ne_eqb}
 use Rattle.std.proofs.lemmas.Fmt.{decimal_is_IsNumeral_wide, decimal_injective}
-use Rattle.std.proofs.lemmas.List.{append_assoc, append-nil, length-append}
-use Rattle.std.proofs.lemmas.List.Elements.{filter-append, All-from_recursion, recursion_from_All}
+use Rattle.std.proofs.lemmas.List.{append-nil, length-append}
+use Rattle.std.proofs.lemmas.List.Elements.{filter-append, recursion_from_All}
 use Rattle.std.proofs.lemmas.Slice.Eq.{bytes_eq-Decides}
 use Rattle.isl_space.specs.Name.{Name}
-use Rattle.isl_space.specs.Names.{AreDistinct, IsParameterList, is_among}
-use Rattle.isl_space.specs.Form.{Form, width_of}
+use Rattle.isl_space.specs.Names.{AreDistinct, is_among}
+use Rattle.isl_space.specs.Form.{width_of}
 use Rattle.isl_space.specs.SpaceForm.{SpaceForm, set_of, map_of, coordinates_of}
 use Rattle.isl_print.specs.Naming.{primed, free_name, numbered, coordinate_names, column_names}
 use Rattle.isl_print.proofs.NamingLaws.{among_short}

@@ -1,9 +1,9 @@
 -- The names of coordinates may stand inside a literal.
-use Rattle.std.proofs.Common.{◌≡◌, ◌≢◌, ◌<◌, ◌≤◌, ◌+◌, ◌-◌, ◌∙◌, ◌^◌, ℕ, zero, suc, Bool, true, false, cond, not, List, [], ◌∷◌, ◌++◌, length, drop, replicate, slice_index, ap, sym, subst, refl, arith, All, IsTrue, lit<}
-use Rattle.std.specs.Prelude.{codes, if◌then◌else◌, ◌&&◌}
+use Rattle.std.proofs.Common.{◌≡◌, ◌<◌, ◌≤◌, ◌+◌, ◌-◌, ◌∙◌, ◌^◌, ℕ, zero, suc, Bool, true, false, cond, not, List, [], ◌∷◌, ◌++◌, length, drop, replicate, slice_index, ap, sym, subst, refl, arith, All, lit<}
+use Rattle.std.specs.Prelude.{codes, if◌then◌else◌}
 use Rattle.std.specs.Char.{digit_value, is_ascii_digit}
 use Rattle.std.specs.Fmt.{decimal}
-use Rattle.std.specs.List.{list_all, list_any, prefix_len, sum_by, AllByRecursion}
+use Rattle.std.specs.List.{list_all, prefix_len, sum_by, AllByRecursion}
 use Rattle.std.specs.Str.{bytes_eq}
 use Rattle.std.specs.Str.Parse.{AllDigits}
 use Rattle.std.proofs.lemmas.Bool.{false≢true, false_from_ne_true, and_from, and_parts}

@@ -1,21 +1,17 @@
 -- A value in printed order is the same value, with the same text.
-use Rattle.std.proofs.Common.{◌≡◌, ◌↔◌, ◌⊎◌, inl, inr, ◌<◌, ◌≤◌, ◌+◌, ◌∙◌, ℕ, ℤ, zero, suc, Bool, true, false, List, [], ◌∷◌, ◌++◌, Option, Some, None, All, Any, Contains, length, map, get_or, ap, sym, subst, refl, arith}
+use Rattle.std.proofs.Common.{◌≡◌, ◌↔◌, inl, inr, ◌∙◌, ℤ, Bool, true, false, List, [], ◌∷◌, ◌++◌, Option, Some, None, All, Any, map, ap, sym, subst, refl, arith}
 use Rattle.std.specs.Prelude.{if◌then◌else◌, option_map, IfSome}
-use Rattle.std.specs.List.{AllByRecursion}
 use Rattle.std.specs.List.Sorted.{IsPermutation}
-use Rattle.std.specs.Cmp.{IsStrictWeakOrder, IsTotalOrder}
-use Rattle.std.specs.Ordering.{is_lt}
-use Rattle.std.proofs.lemmas.Bool.{cases_Bool}
+use Rattle.std.specs.Cmp.{IsStrictWeakOrder}
 use Rattle.std.proofs.lemmas.List.{length-map, get_or-map}
 use Rattle.std.proofs.lemmas.List.Sorted.{IsPermutation-refl, IsPermutation-cons, IsPermutation-trans, IsPermutation-sym, IsPermutation-middle, All-permutation, Contains-permutation, ranks_by}
-use Rattle.std.proofs.lemmas.List.Elements.{All-from_recursion, recursion_from_All, All-map, All-weaker, All-head, All-tail, All-nil, All-cons}
+use Rattle.std.proofs.lemmas.List.Elements.{All-map, All-weaker, All-head, All-tail, All-nil, All-cons}
+use Rattle.isl_math.proofs.ListLaws.{Any-weaker, Any-unmapped}
 use Rattle.isl_space.specs.Name.{Name}
-use Rattle.isl_space.specs.Names.{IsParameterList}
 use Rattle.isl_space.specs.Valuation.{Valuation}
 use Rattle.isl_space.specs.Element.{Element}
 use Rattle.isl_piece.specs.declared.constraint.Row.{Row}
 use Rattle.isl_piece.specs.Row.{HoldsRow, IsWellFormed, HasDivisor}
-use Rattle.isl_piece.specs.System.{HoldRows}
 use Rattle.isl_piece.specs.Normal.{normal_row, normal_rows, kept_rows, merged, same_bound, IsNormal, Kept}
 use Rattle.isl_piece.proofs.MergeLaws.{SameBound, same_bound-true, same_bound-from, AreApart, fold_apart}
 use Rattle.isl_piece.proofs.NormalLaws.{IsNormal-from}
@@ -23,9 +19,9 @@ use Rattle.isl_union.specs.KeptValue.{KeptPiece, KeptValue, HasElement, Has, poi
 use Rattle.isl_print.specs.Naming.{coordinate_names, column_names}
 use Rattle.isl_print.specs.Ordered.{placed, in_order}
 use Rattle.isl_print.specs.OrderedValue.{ordered_piece, ordered}
-use Rattle.isl_print.specs.PieceOrder.{piece_cmp, piece_before}
+use Rattle.isl_print.specs.PieceOrder.{piece_before}
 use Rattle.isl_print.specs.Printed.{piece_text, pieces_text, params_text, printed}
-use Rattle.isl_print.specs.RowOrder.{row_cmp, row_before}
+use Rattle.isl_print.specs.RowOrder.{row_before}
 use Rattle.isl_print.specs.RowText.{row_text, conjunction_text}
 use Rattle.isl_print.specs.Tuple.{tuples_text}
 use Rattle.isl_print.proofs.OrderedLaws.{Rises, Least, rises_in_order, map-in_order}
@@ -77,19 +73,8 @@ module _ {X : Type 0} (before : X → X → Bool) where
 any_permutation : {X : Type 0} (P : X → Type 0) (xs ys : List X) → IsPermutation xs ys → Any P xs → Any P ys
 any_permutation P xs ys moves some = let c = Contains-permutation xs ys some.1 moves (some.0, some.2, some.3) in (c.0, some.1, c.1, c.2, some.4)
 
-any_weaker : {X : Type 0} (P Q : X → Type 0) → ((x : X) → P x → Q x) → (xs : List X) → Any P xs → Any Q xs
-any_weaker P Q f xs some = (some.0, some.1, some.2, some.3, f some.1 some.4)
-
 any_map : {X Y : Type 0} (f : X → Y) (P : Y → Type 0) (xs : List X) → Any (λ x. P (f x)) xs → Any P (map f xs)
 any_map f P xs some = (some.0, f some.1, omega (arith, some.2, length-map xs f), get_or-map f xs some.0 some.1 (f some.1) some.2 ∙ ap f some.3, some.4)
-
-any_at_back : {X Y : Type 0} (f : X → Y) (P : Y → Type 0) (xs : List X) (k : ℕ) (y : Y) → k < length (map f xs) → get_or (map f xs) k y ≡ y → P y → Any (λ x. P (f x)) xs
-any_at_back f P [] k y low at p = absurd (omega (arith, low))
-any_at_back f P (x ∷ xs) zero y low at p = (0, x, omega arith, refl, subst P (sym at) p)
-any_at_back f P (x ∷ xs) (suc k) y low at p = let r = any_at_back f P xs k y (omega arith) at p in (suc r.0, r.1, omega (arith, r.2), r.3, r.4)
-
-any_map_back : {X Y : Type 0} (f : X → Y) (P : Y → Type 0) (xs : List X) → Any P (map f xs) → Any (λ x. P (f x)) xs
-any_map_back f P xs some = any_at_back f P xs some.0 some.1 some.2 some.3 some.4
 
 -- ---- rows
 same_bound_back : (a b : Row) → same_bound a b ≡ false → same_bound b a ≡ false
@@ -175,7 +160,7 @@ Has-ordered value valuation element =
     let has = HasElement value.params valuation element in
     let there = in_order-permutes piece_before value.pieces in (
       λ some. any_permutation has (in_order piece_before value.pieces) value.pieces (IsPermutation-sym value.pieces (in_order piece_before value.pieces) there)
-          (any_weaker (λ p. has (ordered_piece p)) has (out_of_ordered value.params valuation element) (in_order piece_before value.pieces) (any_map_back ordered_piece has (in_order piece_before value.pieces) some)),
+          (Any-weaker (λ p. has (ordered_piece p)) has (out_of_ordered value.params valuation element) (in_order piece_before value.pieces) (Any-unmapped has ordered_piece (in_order piece_before value.pieces) some)),
       λ some. any_map ordered_piece has (in_order piece_before value.pieces)
-          (any_weaker has (λ p. has (ordered_piece p)) (in_ordered value.params valuation element) (in_order piece_before value.pieces) (any_permutation has value.pieces (in_order piece_before value.pieces) there some)),
+          (Any-weaker has (λ p. has (ordered_piece p)) (in_ordered value.params valuation element) (in_order piece_before value.pieces) (any_permutation has value.pieces (in_order piece_before value.pieces) there some)),
     )

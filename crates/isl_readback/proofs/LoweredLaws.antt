@@ -2,9 +2,10 @@
 use mathlib.Core.Former.{Count}
 use Rattle.std.proofs.Common.{◌≡◌, inl, inr, ◌≤◌, ◌+◌, ◌-◌, ◌^◌, ℕ, ℤ, Bool, true, false, List, [], ◌∷◌, Option, Some, None, option_map, IfSome, length, get_or, sym, subst, refl, arith, pow_mono, unsigned_abs}
 use Rattle.std.specs.Prelude.{◌&&◌, ◌||◌, is_some, is_none}
-use Rattle.std.specs.List.{All, filter_map, cons_option, list_all}
+use Rattle.std.specs.List.{All, filter_map, cons_option}
 use Rattle.std.proofs.lemmas.Bool.{and_parts, false≢true}
 use Rattle.std.proofs.lemmas.List.Elements.{All-nil, All-cons, All-head, All-tail, All-append, All-map}
+use Rattle.isl_math.proofs.ListLaws.{All-pass}
 use Rattle.isl_meter.specs.Gauge.{Gauge, IsWithin}
 use Rattle.isl_space.specs.SpaceForm.{SpaceForm, IsWellFormedSpace}
 use Rattle.isl_piece.specs.declared.constraint.RowKind.{RowKind}
@@ -132,15 +133,12 @@ kept_space_has space Q None h = tt
 kept_space_has space Q (Some rows) h = h
 
 -- ---- the whole value
-passes : {X : Type 0} (test : X → Bool) (xs : List X) → list_all test xs ≡ true → All (λ x. test x ≡ true) xs
-passes test [] e = All-nil (λ x. test x ≡ true)
-passes test (x ∷ xs) e = let parts = and_parts (test x) (list_all test xs) e in All-cons (λ y. test y ≡ true) x xs parts.0 (passes test xs parts.1)
 
 comparisons : (literal : Literal) → is_plain literal ≡ true → HasComparisons (value_lowered literal)
 comparisons literal plain =
     all_kept literal.params (λ p. All (λ row. IsComparison row.kind) p.rows) literal.pieces (λ i d low.
     let piece = get_or literal.pieces i d in
-    let body = (and_parts (is_plain_tuple piece.first && second_is_plain piece.second) (body_is_plain piece.body) (passes is_plain_piece literal.pieces plain i d low)).1 in
+    let body = (and_parts (is_plain_tuple piece.first && second_is_plain piece.second) (body_is_plain piece.body) (All-pass is_plain_piece literal.pieces plain i d low)).1 in
     kept_rows_have (space_of_piece piece) (All (λ row. IsComparison row.kind)) (normal_rows (rows_written literal.params piece)) (normal_compare (rows_written literal.params piece) (rows_compare literal.params piece body)))
 
 leaf_of_plain : (tuple : Tuple) → is_plain_tuple tuple ≡ true → IsLeaf (form_of_tuple tuple)
@@ -155,7 +153,7 @@ flat : (literal : Literal) → is_plain literal ≡ true → IsFlat (value_lower
 flat literal plain =
     all_kept literal.params (λ p. IsFlatSpace p.space) literal.pieces (λ i d low.
     let piece = get_or literal.pieces i d in
-    let tuples = (and_parts (is_plain_tuple piece.first && second_is_plain piece.second) (body_is_plain piece.body) (passes is_plain_piece literal.pieces plain i d low)).0 in
+    let tuples = (and_parts (is_plain_tuple piece.first && second_is_plain piece.second) (body_is_plain piece.body) (All-pass is_plain_piece literal.pieces plain i d low)).0 in
     let both = and_parts (is_plain_tuple piece.first) (second_is_plain piece.second) tuples in
     kept_space_has (space_of_piece piece) IsFlatSpace (normal_rows (rows_written literal.params piece)) (flat_of_plain piece piece.second refl both.0 both.1))
 
@@ -173,17 +171,17 @@ uniform literal alike = by (are_sets literal.pieces) refl alike
     by : (b : Bool) → are_sets literal.pieces ≡ b → (b || are_maps literal.pieces) ≡ true → IsUniform (value_lowered literal)
     by true sets e = inl (all_kept literal.params (λ p. IsSet p.space) literal.pieces (λ i d low.
         let piece = get_or literal.pieces i d in
-        kept_space_has (space_of_piece piece) IsSet (normal_rows (rows_written literal.params piece)) (set_of_none piece piece.second refl (passes (λ p. is_none p.second) literal.pieces sets i d low))))
+        kept_space_has (space_of_piece piece) IsSet (normal_rows (rows_written literal.params piece)) (set_of_none piece piece.second refl (All-pass (λ p. is_none p.second) literal.pieces sets i d low))))
     by false sets maps = inr (all_kept literal.params (λ p. IsMap p.space) literal.pieces (λ i d low.
         let piece = get_or literal.pieces i d in
-        kept_space_has (space_of_piece piece) IsMap (normal_rows (rows_written literal.params piece)) (map_of_some piece piece.second refl (passes (λ p. is_some p.second) literal.pieces maps i d low))))
+        kept_space_has (space_of_piece piece) IsMap (normal_rows (rows_written literal.params piece)) (map_of_some piece piece.second refl (All-pass (λ p. is_some p.second) literal.pieces maps i d low))))
 
 kept : (literal : Literal) → is_plain literal ≡ true → IsWellFormedLiteral literal → IsKeptValue (value_lowered literal)
 kept literal plain formed = record {
   params = formed.params;
   pieces = all_kept literal.params (IsKeptPiece literal.params) literal.pieces (λ i d low.
       let piece = get_or literal.pieces i d in
-      piece_kept literal.params piece (passes is_plain_piece literal.pieces plain i d low) (formed.spaces i d low));
+      piece_kept literal.params piece (All-pass is_plain_piece literal.pieces plain i d low) (formed.spaces i d low));
 }
   where
     by : (params : List (List ℕ)) (piece : PieceTree) (o : Option (List Row)) → IsWellFormedSpace (space_of_piece piece) → is_plain_piece piece ≡ true → IfSome o (All (IsWellFormed (piece_width params piece))) → IfSome o IsNormal

@@ -140,6 +140,44 @@ mod tests {
         Ok(())
     }
 
+    // The head, the part as often as is told, and the tail.
+    fn repeated(
+        alloc: Global,
+        head: &str,
+        part: &str,
+        count: usize,
+        tail: &str,
+    ) -> Result<String, Fail> {
+        let mut text = String::from_str(alloc, head)?;
+        for _turn in 0..count {
+            text.push_str(part)?;
+        }
+        text.push_str(tail)?;
+        Ok(text)
+    }
+
+    #[test]
+    fn a_name_may_be_a_word_of_statements(rt: HostRuntime) -> Result<(), Fail> {
+        let head = "[dom] -> { [i] : i >= dom";
+        let script = repeated(rt.alloc(), head, " and i >= dom", 205, " };")?;
+        let want = (0, "[dom] -> { [i0] : i0 >= dom }\n", "");
+        expect_run(&rt, rt.alloc(), &["iscc"], &script, &SOUND, want)
+    }
+
+    #[test]
+    fn what_is_nested_deep_is_refused(rt: HostRuntime) -> Result<(), Fail> {
+        let alloc = rt.alloc();
+        let opened = repeated(alloc, "{ [", "a[] -> [", 30_000, "]")?;
+        let tuples = repeated(alloc, &opened, "]", 30_000, " };")?;
+        let denials = repeated(alloc, "{ [i] : ", "not ", 30_000, "i = 0 };")?;
+        let bound = repeated(alloc, "{ [i] : ", "exists a: ", 30_000, "i = 0 };")?;
+        for script in [&tuples, &denials, &bound] {
+            let want = (3, "", "iscc: statement 1: syntax error\n");
+            expect_run(&rt, alloc, &["iscc"], script, &SOUND, want)?;
+        }
+        Ok(())
+    }
+
     #[test]
     fn other_literals_are_refused(rt: HostRuntime) -> Result<(), Fail> {
         for (script, status, text) in [

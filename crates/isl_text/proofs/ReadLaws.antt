@@ -80,7 +80,7 @@ module _ (ts : List Token) (at : ℕ) (begins : at ≤ length ts) (start cursor 
 pub ruleset places = (found_from, left_from, stands_from)
 
 -- at most one literal stands at a place
-same_literal : (ts : List Token) (at : ℕ) (found other : Literal) (next behind : ℕ) → at ≤ length ts → IsLiteralAt ts at found next → IsLiteralAt ts at other behind → (found ≡ other) × (next ≡ behind)
+pub same_literal : (ts : List Token) (at : ℕ) (found other : Literal) (next behind : ℕ) → at ≤ length ts → IsLiteralAt ts at found next → IsLiteralAt ts at other behind → (found ≡ other) × (next ≡ behind)
 same_literal ts at found other next behind begins is also =
     let n = suc (length (drop at ts)) in
     let one = literal_read ts at begins n (omega arith) found next is in

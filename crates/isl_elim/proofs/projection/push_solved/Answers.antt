@@ -1,9 +1,9 @@
 use Rattle.std.proofs.Common.{◌≡◌, ◌-◌, ◌++◌, get_or, arith}
 use Rattle.std.specs.Prelude.{option_to_list}
 use Rattle.isl_piece.specs.declared.constraint.RowKind.TheVariants.{Zero}
-use Rattle.isl_elim.specs.Column.{IsSystemOf}
+use Rattle.isl_omega.specs.Column.{IsSystemOf}
 use Rattle.isl_elim.specs.Elimination.{HoldsAtSome}
-use Rattle.isl_elim.specs.Equality.{IsSolvedBy}
+use Rattle.isl_omega.specs.Equality.{IsSolvedBy}
 use Rattle.isl_elim.proofs.AddsLemmas.{system_of_same}
 use Rattle.isl_elim.proofs.EliminateLemmas.{solved_projects}
 use Rattle.isl_elim.proofs.TailLemmas.{adds_option}

@@ -1,7 +1,7 @@
 use Rattle.std.proofs.Common.{◌≡◌, ap, arith}
 use Rattle.isl_math.proofs.Ring.{linear}
 use Rattle.isl_meter.specs.Gauge.{Gauge}
-use Rattle.isl_elim.specs.Work.{IsCutUpTo}
+use Rattle.isl_omega.specs.Work.{IsCutUpTo}
 use Rattle.isl_elim.proofs.EliminateLemmas.{most_not_negative}
 use Rattle.isl_elim.proofs.projection.push_without.Goals as goal
 

@@ -1,5 +1,5 @@
 use Rattle.std.proofs.Common.{◌≡◌, ◌*ℤ◌, arith}
-use Rattle.isl_elim.proofs.PeriodLemmas.{common_multiple_is}
+use Rattle.isl_elim.proofs.CommonPeriods.{common_multiple_is}
 use Rattle.isl_elim.proofs.residue.common_multiple.Goals as goal
 
 pub returns : goal.returns

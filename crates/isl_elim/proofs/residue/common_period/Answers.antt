@@ -2,12 +2,12 @@ use Rattle.std.proofs.Common.{◌≡◌, ◌+◌, ◌<◌, ◌++◌, ◌∷◌, 
 use Rattle.std.proofs.lemmas.Grind.{common_steps}
 use Rattle.std.proofs.lemmas.List.{take_more}
 use Rattle.isl_piece.specs.declared.constraint.Row.{Row}
-use Rattle.isl_elim.specs.Congruence.{period}
+use Rattle.isl_omega.specs.Congruence.{period}
 use Rattle.isl_elim.specs.Residue.{IsCommonMultiple}
-use Rattle.isl_elim.specs.Sides.{IsApart}
-use Rattle.isl_elim.proofs.MergeLemmas.{take_one}
-use Rattle.isl_elim.proofs.PeriodLemmas.{period_one, period_more}
-use Rattle.isl_elim.proofs.ReduceLemmas.{divisor_positive}
+use Rattle.isl_omega.specs.Sides.{IsApart}
+use Rattle.isl_omega.proofs.MergeLemmas.{take_one}
+use Rattle.isl_elim.proofs.CommonPeriods.{period_one, period_more}
+use Rattle.isl_omega.proofs.ReduceLemmas.{divisor_positive}
 use Rattle.isl_elim.proofs.residue.common_period.Goals as goal
 
 pub loop-i-init : goal.loop-i-init

@@ -4,11 +4,11 @@ use Rattle.isl_math.proofs.Ring.{linear}
 use Rattle.isl_meter.specs.declared.Cut.TheVariants.{Budget}
 use Rattle.isl_elim.specs.Adds.{Adds}
 use Rattle.isl_elim.specs.Residue.{HasNumber, HasResidue, IsResidueOf, shadow_units, residue_units}
-use Rattle.isl_elim.specs.Work.{IsChargedUpTo, IsCutUpTo, IsChargedBy, IsCutAfter}
+use Rattle.isl_omega.specs.Work.{IsChargedUpTo, IsCutUpTo, IsChargedBy, IsCutAfter}
 use Rattle.isl_elim.proofs.AddsLemmas.{adds_kept, adds_same}
 use Rattle.isl_elim.proofs.ResidueLemmas.{residue_kept}
 use Rattle.isl_elim.proofs.UnitLemmas.{residue_cost, residue_units_positive}
-use Rattle.isl_elim.proofs.WorkLemmas.{charged_same, charged_unit, charged_by, cut_by, charged_bits, cut_after, cut_after_weaker, charged_within, cut_within}
+use Rattle.isl_omega.proofs.WorkLemmas.{charged_same, charged_unit, charged_by, cut_by, charged_bits, cut_after, cut_after_weaker, charged_within, cut_within}
 use Rattle.isl_elim.proofs.residue.push_residue.Goals as goal
 
 pub returns-in_err-unit : goal.returns-in_err-unit

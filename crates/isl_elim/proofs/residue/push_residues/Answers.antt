@@ -4,11 +4,11 @@ use Rattle.isl_math.proofs.Ring.{linear}
 use Rattle.isl_meter.specs.declared.Cut.TheVariants.{Overflow}
 use Rattle.isl_elim.specs.Adds.{Adds}
 use Rattle.isl_elim.specs.Residue.{IsPeriod, HasResidue, residue_units, residues_units}
-use Rattle.isl_elim.specs.Work.{IsCutUpTo, IsChargedBy, IsCutAfter}
+use Rattle.isl_omega.specs.Work.{IsCutUpTo, IsChargedBy, IsCutAfter}
 use Rattle.isl_elim.proofs.AddsLemmas.{adds_kept}
 use Rattle.isl_elim.proofs.ResidueLemmas.{residues_first, residues_next, residues_done}
 use Rattle.isl_elim.proofs.UnitLemmas.{residues_units_not_negative, residue_units_positive, residues_units_most, residue_turn, residue_next}
-use Rattle.isl_elim.proofs.WorkLemmas.{charged_same, charged_by, charged_by_bits, charged_by_weaker, charged_within, cut_by, cut_after_weaker, cut_within}
+use Rattle.isl_omega.proofs.WorkLemmas.{charged_same, charged_by, charged_by_bits, charged_by_weaker, charged_within, cut_by, cut_after_weaker, cut_within}
 use Rattle.isl_elim.proofs.residue.push_residues.Goals as goal
 
 pub returns-in_err-period : goal.returns-in_err-period

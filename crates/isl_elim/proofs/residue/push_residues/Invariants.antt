@@ -2,7 +2,7 @@ use Rattle.std.proofs.Common.{◌-◌, pos, ◌-ℤ◌, ◌*ℤ◌, ◌≤ℤ◌
 use Rattle.isl_meter.specs.Gauge.{IsWithin}
 use Rattle.isl_elim.specs.Adds.{Adds}
 use Rattle.isl_elim.specs.Residue.{residue_units}
-use Rattle.isl_elim.specs.Work.{IsChargedBy}
+use Rattle.isl_omega.specs.Work.{IsChargedBy}
 use Rattle.isl_elim.proofs.ResidueLemmas.{HasResidueBelow}
 use Rattle.isl_elim.proofs.residue.push_residues.Given as goal
 

@@ -4,10 +4,10 @@ use Rattle.isl_math.proofs.Ring.{linear}
 use Rattle.isl_elim.specs.Adds.{Adds}
 use Rattle.isl_elim.specs.Branch.{IsBranchOf, AreFewTails, HoldsBranch, tail_total}
 use Rattle.isl_elim.specs.Residue.{HasNumber, shadow_units}
-use Rattle.isl_elim.specs.Work.{IsChargedUpTo, IsCutUpTo, IsChargedBy, IsCutAfter}
+use Rattle.isl_omega.specs.Work.{IsChargedUpTo, IsCutUpTo, IsChargedBy, IsCutAfter}
 use Rattle.isl_elim.proofs.AddsLemmas.{adds_kept, adds_same}
 use Rattle.isl_elim.proofs.UnitLemmas.{tails_bounded, bound_not_negative}
-use Rattle.isl_elim.proofs.WorkLemmas.{charged_by, cut_by, charged_bits, cut_after_weaker, charged_within, cut_within}
+use Rattle.isl_omega.proofs.WorkLemmas.{charged_by, cut_by, charged_bits, cut_after_weaker, charged_within, cut_within}
 use Rattle.isl_elim.proofs.residue.push_shadow.Goals as goal
 
 pub returns-in_err-branch-clause-exact : goal.returns-in_err-branch-clause-exact

@@ -1,8 +1,8 @@
 use Rattle.std.proofs.Common.{◌≡◌, [], arith}
 use Rattle.isl_piece.specs.Row.{IsRowWithin}
-use Rattle.isl_elim.specs.Residue.{residue_row}
-use Rattle.isl_elim.specs.Step.{AreMovedTo}
-use Rattle.isl_elim.specs.Substitution.{IsProgressionOf}
+use Rattle.isl_omega.specs.Step.{residue_row}
+use Rattle.isl_omega.specs.Step.{AreMovedTo}
+use Rattle.isl_omega.specs.Substitution.{IsProgressionOf}
 use Rattle.isl_elim.proofs.ResidueLemmas.{residue_is}
 use Rattle.isl_elim.proofs.residue.residue_of.Goals as goal
 

@@ -2,10 +2,10 @@ use Rattle.std.proofs.Common.{◌≡◌, ◌-◌, ◌+◌, ◌<◌, pos, ◌+ℤ
 use Rattle.std.proofs.lemmas.Grind.{common_steps}
 use Rattle.isl_elim.specs.Adds.{Adds}
 use Rattle.isl_elim.specs.Branch.{HasSplinter, tail_total}
-use Rattle.isl_elim.specs.Work.{IsChargedBy, IsCutAfter}
+use Rattle.isl_omega.specs.Work.{IsChargedBy, IsCutAfter}
 use Rattle.isl_elim.proofs.AddsLemmas.{adds_kept}
 use Rattle.isl_elim.proofs.TailLemmas.{tail_next, tails_done, total_next, total_part, total_not_negative}
-use Rattle.isl_elim.proofs.WorkLemmas.{charged_by_bits, charged_by_more, cut_within, memory_after}
+use Rattle.isl_omega.proofs.WorkLemmas.{charged_by_bits, charged_by_more, cut_within, memory_after}
 use Rattle.isl_elim.proofs.tails.push_branch.Goals as goal
 
 pub returns-in_err-push_left-clause-exact : goal.returns-in_err-push_left-clause-exact

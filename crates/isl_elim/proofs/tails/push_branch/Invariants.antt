@@ -1,7 +1,7 @@
 use Rattle.std.proofs.Common.{◌-◌, take}
 use Rattle.isl_elim.specs.Adds.{Adds}
 use Rattle.isl_elim.specs.Branch.{tail_total}
-use Rattle.isl_elim.specs.Work.{IsChargedBy}
+use Rattle.isl_omega.specs.Work.{IsChargedBy}
 use Rattle.isl_elim.proofs.TailLemmas.{HasSplinterOf}
 use Rattle.isl_elim.proofs.tails.push_branch.Given as goal
 

@@ -1,11 +1,11 @@
 use Rattle.std.proofs.Common.{◌≡◌, ◌-◌, ◌++◌, refl, arith}
 use Rattle.std.specs.Prelude.{option_to_list}
 use Rattle.isl_elim.specs.Branch.{HasValue}
-use Rattle.isl_elim.specs.Column.{IsSystemOf}
-use Rattle.isl_elim.specs.Work.{IsChargedUpTo}
+use Rattle.isl_omega.specs.Column.{IsSystemOf}
+use Rattle.isl_omega.specs.Work.{IsChargedUpTo}
 use Rattle.isl_elim.proofs.AddsLemmas.{system_of_kept}
 use Rattle.isl_elim.proofs.TailLemmas.{adds_option}
-use Rattle.isl_elim.proofs.WorkLemmas.{charged_same, charged_unit, charged_bits}
+use Rattle.isl_omega.proofs.WorkLemmas.{charged_same, charged_unit, charged_bits}
 use Rattle.isl_elim.proofs.tails.push_splinter.Goals as goal
 
 pub returns-clause-exact : goal.returns-clause-exact

@@ -2,10 +2,10 @@ use Rattle.std.proofs.Common.{◌≡◌, ◌-◌, pos, ◌+ℤ◌, ◌≤ℤ◌,
 use Rattle.isl_math.proofs.Ring.{linear}
 use Rattle.isl_elim.specs.Adds.{Adds}
 use Rattle.isl_elim.specs.Branch.{HasValue}
-use Rattle.isl_elim.specs.Work.{IsChargedUpTo}
+use Rattle.isl_omega.specs.Work.{IsChargedUpTo}
 use Rattle.isl_elim.proofs.AddsLemmas.{adds_kept}
 use Rattle.isl_elim.proofs.TailLemmas.{below_first, below_next, below_last}
-use Rattle.isl_elim.proofs.WorkLemmas.{charged_same, charged_by, charged_by_more, charged_by_bits}
+use Rattle.isl_omega.proofs.WorkLemmas.{charged_same, charged_by, charged_by_more, charged_by_bits}
 use Rattle.isl_elim.proofs.tails.push_splinters.Goals as goal
 
 pub values-init : goal.values-init

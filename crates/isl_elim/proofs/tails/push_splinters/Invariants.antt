@@ -1,6 +1,6 @@
 use Rattle.std.proofs.Common.{◌-◌, pos, ◌+ℤ◌, ◌-ℤ◌, ◌≤ℤ◌, unsigned_abs}
 use Rattle.isl_elim.specs.Adds.{Adds}
-use Rattle.isl_elim.specs.Work.{IsChargedBy}
+use Rattle.isl_omega.specs.Work.{IsChargedBy}
 use Rattle.isl_elim.proofs.TailLemmas.{HasSplinterBelow}
 use Rattle.isl_elim.proofs.tails.push_splinters.Given as goal
 

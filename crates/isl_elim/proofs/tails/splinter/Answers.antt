@@ -1,6 +1,6 @@
 use Rattle.std.proofs.Common.{◌≡◌, ◌-◌, arith, ◌^◌, lit<}
-use Rattle.isl_elim.specs.Column.{IsSystemOf}
-use Rattle.isl_elim.specs.Equality.{IsSolvedBy}
+use Rattle.isl_omega.specs.Column.{IsSystemOf}
+use Rattle.isl_omega.specs.Equality.{IsSolvedBy}
 use Rattle.isl_elim.proofs.TailLemmas.{lowered_by, splinter_is}
 use Rattle.std.proofs.lemmas.Result.{err_from_is_err_and}
 use Rattle.isl_elim.proofs.tails.splinter.Goals as goal

@@ -2,12 +2,12 @@ use Rattle.std.proofs.Common.{◌≡◌, ◌-◌, ◌++◌, ◌*◌, length, pos
 use Rattle.std.proofs.lemmas.List.Elements.{All-weaker}
 use Rattle.isl_piece.specs.Row.{IsWellFormed, IsRowWithin}
 use Rattle.isl_elim.specs.Branch.{rows_of}
-use Rattle.isl_elim.specs.Column.{HoldAt, IsSystemOf}
-use Rattle.isl_elim.specs.Sides.{IsProper}
+use Rattle.isl_omega.specs.Column.{HoldAt, IsSystemOf}
+use Rattle.isl_omega.specs.Sides.{IsProper}
 use Rattle.isl_elim.specs.declared.branch.Branch.{Branch}
 use Rattle.isl_elim.proofs.AddsLemmas.{system_of_kept}
 use Rattle.isl_elim.proofs.BranchLemmas.{closed_from, closed_is, left_rows}
-use Rattle.isl_elim.proofs.WorkLemmas.{charged_bits, rows_within_kept}
+use Rattle.isl_omega.proofs.WorkLemmas.{charged_bits, rows_within_kept}
 use Rattle.isl_elim.proofs.SmallTails.{rows_small, shadows_small}
 use Rattle.isl_elim.proofs.branch.Branch.closed.Goals as goal
 

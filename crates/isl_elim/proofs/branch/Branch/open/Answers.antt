@@ -1,6 +1,6 @@
 use Rattle.std.proofs.Common.{◌≡◌, ◌-◌, pos, arith, ◌^◌, []}
 use Rattle.isl_elim.specs.Branch.{rows_of}
-use Rattle.isl_elim.specs.Column.{HoldAt, IsSystemOf}
+use Rattle.isl_omega.specs.Column.{HoldAt, IsSystemOf}
 use Rattle.isl_elim.specs.declared.branch.Branch.{Branch}
 use Rattle.isl_elim.proofs.BranchLemmas.{open_is}
 use Rattle.std.proofs.lemmas.List.Elements.{All-nil}

@@ -3,12 +3,12 @@ use Rattle.std.specs.List.{All}
 use Rattle.std.proofs.lemmas.List.{length-map}
 use Rattle.isl_piece.specs.Row.{IsRowWithin, IsRowUpTo}
 use Rattle.isl_elim.specs.Branch.{shifted_row}
-use Rattle.isl_elim.specs.Shadow.{IsShadow}
-use Rattle.isl_elim.specs.Work.{IsChargedUpTo}
+use Rattle.isl_omega.specs.Shadow.{IsShadow}
+use Rattle.isl_omega.specs.Work.{IsChargedUpTo}
 use Rattle.isl_elim.proofs.BranchLemmas.{shifted_upper}
 use Rattle.std.proofs.lemmas.Result.{err_from_is_err_and}
 use Rattle.isl_meter.specs.Gauge.{Gauge}
-use Rattle.isl_elim.proofs.SmallLemmas.{rows_more}
+use Rattle.isl_omega.proofs.SmallLemmas.{rows_more}
 use Rattle.isl_elim.proofs.SmallTails.{all_shifted}
 use Rattle.isl_elim.proofs.branch.Branch.shadows.Goals as goal
 

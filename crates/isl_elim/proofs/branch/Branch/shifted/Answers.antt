@@ -6,8 +6,8 @@ use Rattle.std.proofs.lemmas.Result.{err_from_is_err_and}
 use Rattle.isl_piece.specs.declared.constraint.Row.{Row}
 use Rattle.isl_piece.specs.Row.{IsRowUpTo, IsRowWithin, coef_at}
 use Rattle.isl_elim.specs.Branch.{shifted_row}
-use Rattle.isl_elim.proofs.Magnitudes.{up_to-neg}
-use Rattle.isl_elim.proofs.SmallLemmas.{coef_up_to}
+use Rattle.isl_omega.proofs.Magnitudes.{up_to-neg}
+use Rattle.isl_omega.proofs.SmallLemmas.{coef_up_to}
 use Rattle.isl_elim.proofs.branch.Branch.shifted.Goals as goal
 
 pub returns-in_err-lowered-clause-small : goal.returns-in_err-lowered-clause-small

@@ -1,6 +1,0 @@
-use Rattle.std.proofs.Common.{◌≡◌, ◌<◌, [], length, take}
-use Rattle.isl_elim.specs.Congruence.{AreMergedTo}
-use Rattle.isl_elim.proofs.congruence.merged.Given as goal
-
-abbrev pub invariant-loop-i : goal.invariant-loop-i
-invariant-loop-i l = AreMergedTo l.fn.meter l.columns l.col (take l.i l.rows) l.one l.others × (l.meter ≡ l.fn.meter) × (length l.rows < 2 → l.others ≡ [])

@@ -1,8 +1,0 @@
-use Rattle.std.proofs.Common.{arith}
-use Rattle.isl_elim.proofs.EqualityLemmas.{AreFactors-from_gcd}
-use Rattle.isl_elim.proofs.equality.factors.Goals as goal
-
-pub returns-clause-cancel : goal.returns-clause-cancel
-returns-clause-cancel c =
-    AreFactors-from_gcd c.args.pivot c.args.own c.gcd-divisor.result c.floor_div-m.result c.floor_div-n.result c.neg.result
-    c.requires.occurs c.gcd-divisor.ensures.value (grind arith) (grind arith) c.neg.ensures.value

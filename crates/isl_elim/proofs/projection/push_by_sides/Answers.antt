@@ -1,0 +1,100 @@
+use Rattle.std.proofs.Common.{◌-◌, pos, refl, arith, ◌^◌, ◌≡◌, ◌∙◌, ap, ◌<◌, length}
+use Rattle.isl_elim.specs.Adds.{Adds}
+use Rattle.isl_elim.specs.Residue.{HasNumber, sides_units}
+use Rattle.isl_omega.specs.Sides.{AreSidesOf}
+use Rattle.isl_omega.specs.Step.{IsStepOf}
+use Rattle.isl_elim.specs.Units.{elimination_units}
+use Rattle.isl_omega.specs.Work.{IsCutUpTo, IsChargedBy, IsCutAfter}
+use Rattle.isl_elim.proofs.EliminateLemmas.{system_proper, sides_project, sides_cost, most_not_negative}
+use Rattle.isl_omega.proofs.SideLemmas.{sides_are}
+use Rattle.isl_omega.proofs.WorkLemmas.{memory_after, cut_by, cut_after_weaker, charged_by_weaker}
+use Rattle.std.proofs.lemmas.Result.{err_from_is_err_and}
+use Rattle.isl_meter.specs.Gauge.{Gauge}
+use Rattle.isl_elim.proofs.SmallSides.{sides_up_to, sides_few}
+use Rattle.isl_elim.proofs.projection.push_by_sides.Goals as goal
+
+pub returns-in_err-sides-clause-exact : goal.returns-in_err-sides-clause-exact
+returns-in_err-sides-clause-exact c =
+    let g = c.args.meter.now in
+    let system = c.args.system.now in
+    let cut = memory_after (elimination_units system c.args.col) g g (most_not_negative g system c.args.col c.requires.system) refl in
+    grind arith
+
+pub without_congruences-requires-clause-sided : goal.without_congruences-requires-clause-sided
+without_congruences-requires-clause-sided c =
+    let g = c.args.meter.now in
+    let system = c.args.system.now in
+    let sides = c.in_ok-sides.sides in
+    let are : AreSidesOf system.rows c.args.col sides = grind arith in
+    sides_are g system.columns c.args.col system.rows sides are (system_proper g system c.requires.system) c.requires.none
+
+pub returns-in_err-new-clause-exact : goal.returns-in_err-new-clause-exact
+returns-in_err-new-clause-exact c =
+    let g = c.args.meter.now in
+    let k = c.without_congruences.new.meter in
+    let system = c.args.system.now in
+    let e = c.in_err-new.field-0.0 in
+    let own : IsCutUpTo 0 g k e = grind arith in
+    let cut = cut_after_weaker (pos 0) (elimination_units system c.args.col) g k e (most_not_negative g system c.args.col c.requires.system) (cut_by 0 g k e own) in
+    grind arith
+
+pub returns-in_err-push_sides-clause-exact : goal.returns-in_err-push_sides-clause-exact
+returns-in_err-push_sides-clause-exact c =
+    let g = c.args.meter.now in
+    let k = c.push_sides.new.meter in
+    let system = c.args.system.now in
+    let sides = c.in_ok-sides.sides in
+    let new = c.in_ok-new.new in
+    let e = c.in_err-push_sides.field-0.0 in
+    let are : AreSidesOf system.rows c.args.col sides = grind arith in
+    let step : IsStepOf g system.columns c.args.col sides new = grind arith in
+    let own : IsCutAfter (sides_units c.args.col new) g k e = grind arith in
+    let sided = sides_are g system.columns c.args.col system.rows sides are (system_proper g system c.requires.system) c.requires.none in
+    let cost = sides_cost g system c.args.col sides new c.requires.system are sided step in
+    let cut = cut_after_weaker (sides_units c.args.col new) (elimination_units system c.args.col) g k e cost own in
+    grind arith
+
+pub returns-clause-exact : goal.returns-clause-exact
+returns-clause-exact c =
+    let g = c.args.meter.now in
+    let k = c.push_sides.new.meter in
+    let system = c.args.system.now in
+    let sides = c.in_ok-sides.sides in
+    let new = c.in_ok-new.new in
+    let before = c.args.systems.now.items in
+    let after = c.push_sides.new.systems.items in
+    let are : AreSidesOf system.rows c.args.col sides = grind arith in
+    let step : IsStepOf g system.columns c.args.col sides new = grind arith in
+    let own : IsChargedBy (sides_units c.args.col new) g k = grind arith in
+    let added : Adds g (system.columns - 1) (HasNumber new c.args.col) before after = grind arith in
+    let sided = sides_are g system.columns c.args.col system.rows sides are (system_proper g system c.requires.system) c.requires.none in
+    let cost = sides_cost g system c.args.col sides new c.requires.system are sided step in (
+      sides_project g system c.args.col sides new before after are step added,
+      charged_by_weaker (sides_units c.args.col new) (elimination_units system c.args.col) g k cost own,
+    )
+
+pub returns-in_err-new-clause-small : goal.returns-in_err-new-clause-small
+returns-in_err-new-clause-small c = λ bits small one.
+    let system = c.args.system.now in
+    let sides = c.in_ok-sides.sides in
+    let are : AreSidesOf system.rows c.args.col sides = grind arith in
+    let few = sides_few system.columns c.args.col system.rows sides are c.requires.system.rows one in
+    let p = err_from_is_err_and c.from_residual-in_err-new.result c.from_residual-in_err-new.ensures.1 in
+    rw (p.1, p.2) (c.in_err-new.ensures.small bits (sides_up_to (2 ^ 30) c.args.col system.rows sides are small) few.0)
+
+pub returns-in_err-push_sides-clause-small : goal.returns-in_err-push_sides-clause-small
+returns-in_err-push_sides-clause-small c = λ bits small one.
+    let g = c.args.meter.now in
+    let system = c.args.system.now in
+    let sides = c.in_ok-sides.sides in
+    let new = c.in_ok-new.new in
+    let are : AreSidesOf system.rows c.args.col sides = grind arith in
+    let step : IsStepOf g system.columns c.args.col sides new = grind arith in
+    let meter : c.without_congruences.new.meter ≡ g = grind arith in
+    let few = sides_few system.columns c.args.col system.rows sides are c.requires.system.rows one in
+    let fewer = step.apart in
+    let enough = few.1 in
+    let rest : length new.apart < 2 = omega arith in
+    let up = c.in_ok-new.ensures.small bits (sides_up_to (2 ^ 30) c.args.col system.rows sides are small) few.0 in
+    let p = err_from_is_err_and c.from_residual-in_err-push_sides.result c.from_residual-in_err-push_sides.ensures.1 in
+    rw (p.1, p.2) (c.in_err-push_sides.ensures.small (ap (λ (x : Gauge). x.bits) meter ∙ bits) up rest)

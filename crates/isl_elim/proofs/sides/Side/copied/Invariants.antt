@@ -1,6 +1,0 @@
-use Rattle.std.proofs.Common.{◌≡◌, take}
-use Rattle.isl_elim.specs.Sides.{on_side}
-use Rattle.isl_elim.proofs.sides.Side.copied.Given as goal
-
-abbrev pub invariant-loop-row : goal.invariant-loop-row
-invariant-loop-row l = l.picked ≡ on_side l.self l.col (take l.row-index l.rows)

@@ -1,0 +1,117 @@
+-- What the equality step makes of rows.
+use Rattle.std.proofs.Common.{◌≡◌, ◌≢◌, ◌↔◌, ◌∙◌, Option, Some, None, sym, arith, ℕ, ◌-◌, ◌<◌, ◌≤◌, ℤ, pos, ◌+ℤ◌, ◌*ℤ◌, List, [], ◌∷◌, ◌++◌, length}
+use Rattle.std.specs.List.{All, AllZip, insert}
+use Rattle.std.proofs.lemmas.List.Elements.{All-push}
+use Rattle.isl_math.specs.Divide as divide
+use Rattle.isl_math.proofs.Ring.{linear}
+use lib.IntN.{*ℤ_comm}
+use Rattle.isl_math.specs.Order.{abs_of, sign_of}
+use Rattle.isl_math.proofs.OrderLaws.{sign-*ℤ, sign-*ℤ-abs, abs_positive}
+use Rattle.isl_math.proofs.DivideLaws.{Divides-zero, Divides-same, Divides_self, Divides-*ℤ, Divides_trans}
+use Rattle.isl_piece.specs.declared.constraint.RowKind.{RowKind}
+use Rattle.isl_piece.specs.declared.constraint.RowKind.TheVariants.{Zero, AtLeast, Divides, NotDivides}
+use Rattle.isl_piece.specs.declared.constraint.Row.{Row}
+use Rattle.isl_piece.specs.Row.{HoldsRow, value_at, coef_at, IsWellFormed}
+use Rattle.isl_meter.specs.Gauge.{Gauge}
+use Rattle.isl_piece.specs.declared.conjunction.System.{System}
+use Rattle.isl_omega.specs.Column.{IsFree, IsFreeKind, HoldAt, rest_at, IsSystemOf}
+use Rattle.isl_omega.specs.Combine.{combination}
+use Rattle.isl_omega.specs.Equality.{IsImage, IsSolvedBy, solvable}
+use Rattle.isl_omega.proofs.ColumnLemmas.{value_at-insert, hold_anywhere}
+use Rattle.isl_omega.proofs.CombineLemmas.{value_at-combination, coef_at-combination, holds_scaled, combination_well_formed}
+use Rattle.isl_omega.proofs.EqualityLemmas.{multiple_of_zero, some_solution}
+use Rattle.isl_math.proofs.ListLaws.{All-last, All-zipped, All-zipped_back, AllZip-with}
+
+pub free_of_zero : (kind : RowKind) (k c : ℤ) → c ≡ pos 0 → IsFreeKind kind k c
+free_of_zero Zero k c e = e
+free_of_zero AtLeast k c e = e
+free_of_zero Divides k c e = rw e (Divides-zero k)
+free_of_zero NotDivides k c e = rw e (Divides-zero k)
+
+-- ---- one row
+pub image_well_formed : (columns : ℕ) (fixed : Row) (col : ℕ) (row image : Row) → IsImage fixed col row image → IsWellFormed columns row → IsWellFormed columns fixed → IsWellFormed columns image
+image_well_formed columns fixed col row image i h k = rw i.is (combination_well_formed columns i.m row i.n fixed i.factors.positive h k)
+
+pub image_free : (columns : ℕ) (fixed : Row) (col : ℕ) (row image : Row) → IsImage fixed col row image → IsWellFormed columns row → IsWellFormed columns fixed → col < columns → IsFree col image
+image_free columns fixed col row image i h k l = free_of_zero image.kind image.k (coef_at image col) (rw i.is (coef_at-combination i.m row i.n fixed col (let e = h.width in let f = k.width in omega arith) (let e = h.width in omega arith) ∙ i.factors.cancel))
+
+pub image_same : (columns : ℕ) (fixed : Row) (col : ℕ) (row image : Row) (xs : List ℤ) → IsImage fixed col row image → IsWellFormed columns row → IsWellFormed columns fixed → value_at fixed xs ≡ pos 0 → HoldsRow image xs ↔ HoldsRow row xs
+image_same columns fixed col row image xs i h k z = rw i.is (by (let e = h.width in let f = k.width in omega arith))
+  where
+    by : length row.coefs ≡ length fixed.coefs → HoldsRow (combination i.m row i.n fixed) xs ↔ HoldsRow row xs
+    by w = rw (value_at-combination i.m row i.n fixed xs w ∙ multiple_of_zero i.m (value_at row xs) i.n (value_at fixed xs) z) (holds_scaled row.kind i.m row.k (value_at row xs) i.factors.positive)
+
+-- ---- all rows
+pub images_well_formed : (columns : ℕ) (fixed : Row) (col : ℕ) (rows images : List Row) → AllZip (IsImage fixed col) rows images → All (IsWellFormed columns) rows → IsWellFormed columns fixed → All (IsWellFormed columns) images
+images_well_formed columns fixed col rows images z h k = All-zipped (IsImage fixed col) (IsWellFormed columns) (IsWellFormed columns) (λ row image i w. image_well_formed columns fixed col row image i w k) rows images z h
+
+pub images_free : (columns : ℕ) (fixed : Row) (col : ℕ) (rows images : List Row) → AllZip (IsImage fixed col) rows images → All (IsWellFormed columns) rows → IsWellFormed columns fixed → col < columns → All (IsFree col) images
+images_free columns fixed col rows images z h k l = All-zipped (IsImage fixed col) (IsWellFormed columns) (IsFree col) (λ row image i w. image_free columns fixed col row image i w k l) rows images z h
+
+pub images_same : (columns : ℕ) (fixed : Row) (col : ℕ) (rows images : List Row) (xs : List ℤ) → AllZip (IsImage fixed col) rows images → All (IsWellFormed columns) rows → IsWellFormed columns fixed → value_at fixed xs ≡ pos 0
+    → All (λ r. HoldsRow r xs) images ↔ All (λ r. HoldsRow r xs) rows
+images_same columns fixed col rows images xs z h k e =
+    let both = AllZip-with (IsImage fixed col) (IsWellFormed columns) rows images z h in (
+      All-zipped_back (λ row image. IsImage fixed col row image × IsWellFormed columns row) (λ r. HoldsRow r xs) (λ r. HoldsRow r xs) (λ row image i. (image_same columns fixed col row image xs i.0 i.1 k e).0) rows images both,
+      All-zipped (λ row image. IsImage fixed col row image × IsWellFormed columns row) (λ r. HoldsRow r xs) (λ r. HoldsRow r xs) (λ row image i. (image_same columns fixed col row image xs i.0 i.1 k e).1) rows images both,
+    )
+
+-- ---- the row that says where the equality has a solution
+abs_divides : (p : ℤ) → divide.Divides (abs_of p) p
+abs_divides p = Divides-same (abs_of p) (abs_of p *ℤ sign_of p) p (*ℤ_comm (abs_of p) (sign_of p) ∙ sign-*ℤ-abs p) (Divides-*ℤ (abs_of p) (abs_of p) (sign_of p) (Divides_self (abs_of p)))
+
+Divides_abs : (p f : ℤ) → divide.Divides (abs_of p) f ↔ divide.Divides p f
+Divides_abs p f = (
+  (λ d. Divides_trans p (abs_of p) f (Divides-same p (p *ℤ sign_of p) (abs_of p) (*ℤ_comm p (sign_of p) ∙ sign-*ℤ p) (Divides-*ℤ p p (sign_of p) (Divides_self p))) d),
+  (λ d. Divides_trans (abs_of p) p f (abs_divides p) d),
+)
+
+pub solvable_well_formed : (columns : ℕ) (fixed : Row) (col : ℕ) → IsWellFormed columns fixed → coef_at fixed col ≢ pos 0 → IsWellFormed columns (solvable fixed col)
+solvable_well_formed columns fixed col h n = record { width = h.width; divisor = abs_positive (coef_at fixed col) n }
+
+pub solvable_free : (fixed : Row) (col : ℕ) → IsFree col (solvable fixed col)
+solvable_free fixed col = abs_divides (coef_at fixed col)
+
+-- ---- the step
+-- the images and that row hold with any x at the column exactly where some x solves the equality and meets all rows
+pub equality_step_is : (columns : ℕ) (fixed : Row) (col : ℕ) (rows images : List Row) (point : List ℤ) → AllZip (IsImage fixed col) rows images → All (IsWellFormed columns) rows → IsWellFormed columns fixed → col < columns → length point ≡ columns - 1
+    → HoldAt (images ++ solvable fixed col ∷ []) col point (pos 0) ↔ IsSolvedBy rows fixed col point
+equality_step_is columns fixed col rows images point z h k l n =
+    let wide : col < length fixed.coefs = (let e = k.width in omega arith) in
+    let inside : col ≤ length point = omega arith in
+    let shape : (x : ℤ) → value_at fixed (insert point col x) ≡ coef_at fixed col *ℤ x +ℤ rest_at fixed col point = λ x. value_at-insert fixed col point x wide inside in (
+      (λ a.
+          let parts = All-last (λ r. HoldsRow r (insert point col (pos 0))) images (solvable fixed col) a in
+          let divides = (Divides_abs (coef_at fixed col) (rest_at fixed col point)).0 (nought (abs_of (coef_at fixed col)) (coef_at fixed col) (rest_at fixed col point) (rw shape at parts.1)) in
+          let s = (some_solution (coef_at fixed col) (rest_at fixed col point)).1 divides in
+          let zero_there = shape s.0 ∙ s.1 in
+          (s.0, zero_there, (images_same columns fixed col rows images (insert point col s.0) z h k zero_there).0 (hold_anywhere columns col images point (pos 0) s.0 l n (images_well_formed columns fixed col rows images z h k) (images_free columns fixed col rows images z h k l) parts.0))),
+      (λ s.
+          let divides = (some_solution (coef_at fixed col) (rest_at fixed col point)).0 (s.0, sym (shape s.0) ∙ s.1) in
+          All-push (λ r. HoldsRow r (insert point col (pos 0))) images (solvable fixed col)
+          (hold_anywhere columns col images point s.0 (pos 0) l n (images_well_formed columns fixed col rows images z h k) (images_free columns fixed col rows images z h k l) ((images_same columns fixed col rows images (insert point col s.0) z h k s.1).1 s.2))
+          (rw shape (beside (abs_of (coef_at fixed col)) (coef_at fixed col) (rest_at fixed col point) ((Divides_abs (coef_at fixed col) (rest_at fixed col point)).1 divides)))),
+    )
+  where
+    nought : (k c f : ℤ) → divide.Divides k (c *ℤ pos 0 +ℤ f) → divide.Divides k f
+    nought k c f d = Divides-same k (c *ℤ pos 0 +ℤ f) f (omega (arith, linear)) d
+
+    beside : (k c f : ℤ) → divide.Divides k f → divide.Divides k (c *ℤ pos 0 +ℤ f)
+    beside k c f d = Divides-same k f (c *ℤ pos 0 +ℤ f) (omega (arith, linear)) d
+
+-- ---- what the step puts together
+pub step_well_formed : (columns : ℕ) (fixed : Row) (col : ℕ) (rows images out : List Row) → AllZip (IsImage fixed col) rows images → All (IsWellFormed columns) rows → IsWellFormed columns fixed → coef_at fixed col ≢ pos 0 → out ≡ images ++ solvable fixed col ∷ [] → All (IsWellFormed columns) out
+step_well_formed columns fixed col rows images out z h k n e = rw e (All-push (IsWellFormed columns) images (solvable fixed col) (images_well_formed columns fixed col rows images z h k) (solvable_well_formed columns fixed col k n))
+
+pub step_free : (columns : ℕ) (fixed : Row) (col : ℕ) (rows images out : List Row) → AllZip (IsImage fixed col) rows images → All (IsWellFormed columns) rows → IsWellFormed columns fixed → col < columns → out ≡ images ++ solvable fixed col ∷ [] → All (IsFree col) out
+step_free columns fixed col rows images out z h k l e = rw e (All-push (IsFree col) images (solvable fixed col) (images_free columns fixed col rows images z h k l) (solvable_free fixed col))
+
+-- what a system of the rows is a system of
+pub system_same : (g : Gauge) (columns : ℕ) (P Q : List ℤ → Type 0) → ((point : List ℤ) → length point ≡ columns → P point ↔ Q point) → (o : Option System) → IsSystemOf g columns P o → IsSystemOf g columns Q o
+system_same g columns P Q f None h = λ point n q. h point n ((f point n).1 q)
+system_same g columns P Q f (Some s) h = (h.0, h.1, (λ point n. ((λ a. (f point n).0 ((h.2 point n).0 a)), (λ q. (h.2 point n).1 ((f point n).1 q)))))
+
+pub step_is : (g : Gauge) (columns : ℕ) (fixed : Row) (col : ℕ) (rows images out : List Row) (o : Option System) → AllZip (IsImage fixed col) rows images → All (IsWellFormed columns) rows → IsWellFormed columns fixed → col < columns → out ≡ images ++ solvable fixed col ∷ []
+    → IsSystemOf g (columns - 1) (λ point. HoldAt out col point (pos 0)) o → IsSystemOf g (columns - 1) (IsSolvedBy rows fixed col) o
+step_is g columns fixed col rows images out o z h k l e s =
+    system_same g (columns - 1) (λ point. HoldAt out col point (pos 0)) (IsSolvedBy rows fixed col) (λ point n. rw e (equality_step_is columns fixed col rows images point z h k l n)) o s

@@ -1,0 +1,199 @@
+-- What the side of a row says of it, and that the sides of rows hold where the rows do.
+use Rattle.std.proofs.Common.{◌≡◌, ◌≢◌, ◌⊎◌, inl, inr, ◌↔◌, ◌∙◌, sym, Bool, true, false, cond, refl, arith, ℕ, zero, suc, ◌<◌, ℤ, pos, negsuc, ◌<ℤ◌, List, [], ◌∷◌, length, get_or}
+use Rattle.std.specs.List.{All, filter, insert}
+use Rattle.std.proofs.lemmas.List.Elements.{All-filter, filter_passes, All-head, All-tail}
+use Rattle.isl_math.proofs.Ring.{linear}
+use Rattle.isl_math.specs.Divide as divide
+use Rattle.isl_math.specs.Divide.{floor_mod}
+use Rattle.isl_math.proofs.DivideLaws.{Divides-from_mod, mod-from_Divides}
+use Rattle.isl_meter.specs.Gauge.{Gauge}
+use Rattle.isl_piece.specs.declared.constraint.RowKind.{RowKind}
+use Rattle.isl_piece.specs.declared.constraint.RowKind.TheVariants as kind
+use Rattle.isl_piece.specs.declared.constraint.Row.{Row}
+use Rattle.isl_piece.specs.Row.{HoldsRow, IsWellFormed, HasDivisor, coef_at}
+use Rattle.isl_omega.specs.Column.{IsFreeKind, HoldAt}
+use Rattle.isl_omega.specs.Sides.{side_of_kind, side_of, by_sign, unless_multiple, is_same, on_side, AreSidesOf, AreSided, SidesHold, IsProper, IsLower, IsUpper, IsDivides, IsApart, IsFreeRow}
+use Rattle.isl_omega.specs.declared.sides.Side.{Side}
+use Rattle.isl_omega.specs.declared.sides.Side.TheVariants.{Lower, Upper, Divides, Apart, Free}
+use Rattle.isl_omega.specs.declared.sides.Sides.{Sides}
+
+pub by_sign_positive : (c : ℤ) → pos 0 <ℤ c → by_sign c ≡ Lower
+by_sign_positive (pos zero) p = absurd p.lt
+by_sign_positive (pos (suc n)) p = refl
+by_sign_positive (negsuc n) p = absurd p.lt
+
+pub by_sign_negative : (c : ℤ) → c <ℤ pos 0 → by_sign c ≡ Upper
+by_sign_negative (pos n) p = absurd (omega (arith, linear))
+by_sign_negative (negsuc n) p = refl
+
+pub by_sign_zero : (c : ℤ) → ¬ (pos 0 <ℤ c) → ¬ (c <ℤ pos 0) → by_sign c ≡ Free
+by_sign_zero (pos zero) p n = refl
+by_sign_zero (pos (suc c)) p n = absurd (p (omega (arith, linear)))
+by_sign_zero (negsuc c) p n = absurd (n (omega (arith, linear)))
+
+pub ruleset sign_cases = (by_sign_positive, by_sign_negative, by_sign_zero)
+
+pub unless_zero : (side : Side) (z : ℤ) → z ≡ pos 0 → unless_multiple side z ≡ Free
+unless_zero side z e = rw e refl
+
+pub unless_not_zero : (side : Side) (z : ℤ) → z ≢ pos 0 → unless_multiple side z ≡ side
+unless_not_zero side (pos zero) n = absurd (n refl)
+unless_not_zero side (pos (suc z)) n = refl
+unless_not_zero side (negsuc z) n = refl
+
+pub ruleset multiple_cases = (unless_zero, unless_not_zero)
+
+pub same_true : (a : Side) → is_same a a ≡ true
+same_true Lower = refl
+same_true Upper = refl
+same_true Divides = refl
+same_true Apart = refl
+same_true Free = refl
+
+-- ---- what a row's side says of it
+pub same_from : (a b : Side) → is_same a b ≡ true → b ≡ a
+same_from Lower Lower e = refl
+same_from Lower Upper e = cc
+same_from Lower Divides e = cc
+same_from Lower Apart e = cc
+same_from Lower Free e = cc
+same_from Upper Lower e = cc
+same_from Upper Upper e = refl
+same_from Upper Divides e = cc
+same_from Upper Apart e = cc
+same_from Upper Free e = cc
+same_from Divides Lower e = cc
+same_from Divides Upper e = cc
+same_from Divides Divides e = refl
+same_from Divides Apart e = cc
+same_from Divides Free e = cc
+same_from Apart Lower e = cc
+same_from Apart Upper e = cc
+same_from Apart Divides e = cc
+same_from Apart Apart e = refl
+same_from Apart Free e = cc
+same_from Free Lower e = cc
+same_from Free Upper e = cc
+same_from Free Divides e = cc
+same_from Free Apart e = cc
+same_from Free Free e = refl
+
+-- what each side says of a kind, a divisor and a coefficient
+abbrev pub SideMeans : Side → RowKind → ℤ → ℤ → Type 0
+SideMeans Lower asks k c = (asks ≡ kind.AtLeast) × (pos 0 <ℤ c)
+SideMeans Upper asks k c = (asks ≡ kind.AtLeast) × (c <ℤ pos 0)
+SideMeans Divides asks k c = asks ≡ kind.Divides
+SideMeans Apart asks k c = (asks ≡ kind.NotDivides) × (¬ divide.Divides k c)
+SideMeans Free asks k c = (asks ≡ kind.Zero) ⊎ IsFreeKind asks k c
+
+means_by_sign : (k c : ℤ) → SideMeans (by_sign c) kind.AtLeast k c
+means_by_sign k (pos zero) = inr refl
+means_by_sign k (pos (suc n)) = (refl, omega (arith, linear))
+means_by_sign k (negsuc n) = (refl, omega (arith, linear))
+
+means_divides : (z k c : ℤ) → pos 0 <ℤ k → z ≡ floor_mod c k → SideMeans (unless_multiple Divides z) kind.Divides k c
+means_divides (pos zero) k c p e = inr (Divides-from_mod k c p (sym e))
+means_divides (pos (suc n)) k c p e = refl
+means_divides (negsuc n) k c p e = refl
+
+means_apart : (z k c : ℤ) → pos 0 <ℤ k → z ≡ floor_mod c k → SideMeans (unless_multiple Apart z) kind.NotDivides k c
+means_apart (pos zero) k c p e = inr (Divides-from_mod k c p (sym e))
+means_apart (pos (suc n)) k c p e = (refl, (λ d. let f = e ∙ mod-from_Divides k c p d in omega (arith, linear)))
+means_apart (negsuc n) k c p e = (refl, (λ d. let f = e ∙ mod-from_Divides k c p d in omega (arith, linear)))
+
+pub side_means : (asks : RowKind) (k c : ℤ) → HasDivisor asks k → SideMeans (side_of_kind asks k c) asks k c
+side_means kind.Zero k c h = inl refl
+side_means kind.AtLeast k c h = means_by_sign k c
+side_means kind.Divides k c h = means_divides (floor_mod c k) k c h refl
+side_means kind.NotDivides k c h = means_apart (floor_mod c k) k c h refl
+
+-- a row that was picked for a side
+pub means_of : (columns col : ℕ) (side : Side) (r : Row) → IsWellFormed columns r → is_same side (side_of col r) ≡ true → SideMeans side r.kind r.k (coef_at r col)
+means_of columns col side r w e = let s = same_from side (side_of col r) e in rw s at (side_means r.kind r.k (coef_at r col) w.divisor)
+
+pub picked : (g : Gauge) (columns col : ℕ) (side : Side) (rows : List Row) (P : Row → Type 0) → ((r : Row) → IsProper g columns r → SideMeans side r.kind r.k (coef_at r col) → P r) → All (IsProper g columns) rows → All P (on_side side col rows)
+picked g columns col side rows P f h = λ k d i.
+    let proper = All-filter (λ r. is_same side (side_of col r)) (IsProper g columns) rows h k d i in
+    f (get_or (on_side side col rows) k d) proper (means_of columns col side (get_or (on_side side col rows) k d) proper.formed (filter_passes (λ r. is_same side (side_of col r)) rows k d i))
+
+-- an equality that does not have the column is free of it
+pub free_from : (asks : RowKind) (k c : ℤ) → (asks ≡ kind.Zero → c ≡ pos 0) → (asks ≡ kind.Zero) ⊎ IsFreeKind asks k c → IsFreeKind asks k c
+free_from asks k c none (inl e) = rw e (none e)
+free_from asks k c none (inr f) = f
+
+-- no equality has the column
+abbrev pub HasNoEquality : ℕ → List Row → Type 0
+HasNoEquality col rows = All (λ r. r.kind ≡ kind.Zero → coef_at r col ≡ pos 0) rows
+
+pub sides_are : (g : Gauge) (columns col : ℕ) (rows : List Row) (sides : Sides) → AreSidesOf rows col sides → All (IsProper g columns) rows → HasNoEquality col rows → AreSided g columns col sides
+sides_are g columns col rows sides s h n = record {
+  lowers = rw s.lowers (picked g columns col Lower rows (IsLower g columns col) (λ r p m. record { proper = p; kind = m.0; factor = m.1 }) h);
+  uppers = rw s.uppers (picked g columns col Upper rows (IsUpper g columns col) (λ r p m. record { proper = p; kind = m.0; factor = m.1 }) h);
+  divides = rw s.divides (picked g columns col Divides rows (IsDivides g columns) (λ r p m. record { proper = p; kind = m }) h);
+  apart = rw s.apart (picked g columns col Apart rows (IsApart g columns col) (λ r p m. record { proper = p; kind = m.0; depends = m.1 }) h);
+  free = rw s.free (frees rows h n);
+}
+  where
+    frees : (rows : List Row) → All (IsProper g columns) rows → HasNoEquality col rows → All (IsFreeRow g columns col) (on_side Free col rows)
+    frees rows h n = λ k d i.
+        let proper = All-filter (λ r. is_same Free (side_of col r)) (IsProper g columns) rows h k d i in
+        let r = get_or (on_side Free col rows) k d in
+        let none = All-filter (λ r. is_same Free (side_of col r)) (λ r. r.kind ≡ kind.Zero → coef_at r col ≡ pos 0) rows n k d i in
+        record { proper = proper; free = free_from r.kind r.k (coef_at r col) none (means_of columns col Free r proper.formed (filter_passes (λ r. is_same Free (side_of col r)) rows k d i)) }
+
+-- ---- the sides hold where the rows do
+-- an element that the test keeps is in the filtered list
+pub in_filter : (p : Row → Bool) (P : Row → Type 0) (rows : List Row) (k : ℕ) (d : Row) → k < length rows → p (get_or rows k d) ≡ true → All P (filter p rows) → P (get_or rows k d)
+in_filter p P [] k d i e h = absurd (omega arith)
+in_filter p P (r ∷ rows) zero d i e h = All-head P r (filter p rows) (kept (p r) e h)
+  where
+    kept : (b : Bool) → b ≡ true → All P (cond b (r ∷ filter p rows) (filter p rows)) → All P (r ∷ filter p rows)
+    kept true e h = h
+    kept false e h = cc
+in_filter p P (r ∷ rows) (suc k) d i e h = in_filter p P rows k d (omega arith) e (rest (p r) h)
+  where
+    rest : (b : Bool) → All P (cond b (r ∷ filter p rows) (filter p rows)) → All P (filter p rows)
+    rest true h = All-tail P r (filter p rows) h
+    rest false h = h
+
+all_sides : (P : Row → Type 0) (col : ℕ) (rows : List Row) → All P (on_side Lower col rows) → All P (on_side Upper col rows) → All P (on_side Divides col rows) → All P (on_side Apart col rows) → All P (on_side Free col rows) → All P rows
+all_sides P col rows l u v a f = λ k d i. by k d i (side_of col (get_or rows k d)) refl
+  where
+    by : (k : ℕ) (d : Row) → k < length rows → (s : Side) → s ≡ side_of col (get_or rows k d) → P (get_or rows k d)
+    by k d i Lower e = in_filter (λ r. is_same Lower (side_of col r)) P rows k d i (rw (← e) refl) l
+    by k d i Upper e = in_filter (λ r. is_same Upper (side_of col r)) P rows k d i (rw (← e) refl) u
+    by k d i Divides e = in_filter (λ r. is_same Divides (side_of col r)) P rows k d i (rw (← e) refl) v
+    by k d i Apart e = in_filter (λ r. is_same Apart (side_of col r)) P rows k d i (rw (← e) refl) a
+    by k d i Free e = in_filter (λ r. is_same Free (side_of col r)) P rows k d i (rw (← e) refl) f
+
+pub sides_hold : (rows : List Row) (col : ℕ) (sides : Sides) (point : List ℤ) (x : ℤ) → AreSidesOf rows col sides → HoldAt rows col point x ↔ SidesHold sides col point x
+sides_hold rows col sides point x s = (
+  (λ h. record {
+    lowers = rw s.lowers (All-filter (λ r. is_same Lower (side_of col r)) (λ r. HoldsRow r (insert point col x)) rows h);
+    uppers = rw s.uppers (All-filter (λ r. is_same Upper (side_of col r)) (λ r. HoldsRow r (insert point col x)) rows h);
+    divides = rw s.divides (All-filter (λ r. is_same Divides (side_of col r)) (λ r. HoldsRow r (insert point col x)) rows h);
+    apart = rw s.apart (All-filter (λ r. is_same Apart (side_of col r)) (λ r. HoldsRow r (insert point col x)) rows h);
+    free = rw s.free (All-filter (λ r. is_same Free (side_of col r)) (λ r. HoldsRow r (insert point col x)) rows h);
+  }),
+  (λ h. all_sides (λ r. HoldsRow r (insert point col x)) col rows (rw s.lowers at h.lowers) (rw s.uppers at h.uppers) (rw s.divides at h.divides) (rw s.apart at h.apart) (rw s.free at h.free)),
+)
+
+-- rows that a divisor must not divide are apart or free
+pub sides_apart : (P : Row → Type 0) (columns col : ℕ) (rows : List Row) → All (IsWellFormed columns) rows → All (λ r. r.kind ≡ kind.NotDivides) rows → All P (on_side Apart col rows) → All P (on_side Free col rows) → All P rows
+sides_apart P columns col rows w n a f = λ k d i. by k d i (side_of col (get_or rows k d)) refl
+  where
+    clash : (asks : RowKind) → asks ≡ kind.NotDivides → asks ≡ kind.AtLeast → ⊥
+    clash asks e f = cc
+
+    clash_divides : (asks : RowKind) → asks ≡ kind.NotDivides → asks ≡ kind.Divides → ⊥
+    clash_divides asks e f = cc
+
+    means : (k : ℕ) (d : Row) → k < length rows → (s : Side) → s ≡ side_of col (get_or rows k d) → SideMeans s (get_or rows k d).kind (get_or rows k d).k (coef_at (get_or rows k d) col)
+    means k d i s e = let r = get_or rows k d in rw e (side_means r.kind r.k (coef_at r col) (w k d i).divisor)
+
+    by : (k : ℕ) (d : Row) → k < length rows → (s : Side) → s ≡ side_of col (get_or rows k d) → P (get_or rows k d)
+    by k d i Lower e = absurd (clash (get_or rows k d).kind (n k d i) (means k d i Lower e).0)
+    by k d i Upper e = absurd (clash (get_or rows k d).kind (n k d i) (means k d i Upper e).0)
+    by k d i Divides e = absurd (clash_divides (get_or rows k d).kind (n k d i) (means k d i Divides e))
+    by k d i Apart e = in_filter (λ r. is_same Apart (side_of col r)) P rows k d i (rw (← e) refl) a
+    by k d i Free e = in_filter (λ r. is_same Free (side_of col r)) P rows k d i (rw (← e) refl) f

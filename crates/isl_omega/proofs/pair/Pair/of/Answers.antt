@@ -1,0 +1,41 @@
+use Rattle.std.proofs.Common.{◌≡◌, pos, neg_ℤ, ◌-ℤ◌, ◌*ℤ◌, List, ℤ, IsTrue, arith, ◌^◌, lit<}
+use Rattle.isl_piece.specs.Row.{HoldsRow, coef_at}
+use Rattle.isl_omega.specs.Shadow.{ceiling, IsRealRow, IsDarkRow}
+use Rattle.isl_omega.proofs.PairLemmas.{dark_row_is, exact_is}
+use Rattle.std.proofs.lemmas.Result.{err_from_is_err_and}
+use Rattle.isl_omega.proofs.Magnitudes.{up_to-neg}
+use Rattle.isl_omega.proofs.SmallLemmas.{coef_up_to}
+use Rattle.isl_omega.proofs.SmallPairs.{slack_up_to}
+use Rattle.isl_omega.proofs.pair.Pair.of.Goals as goal
+
+pub returns-clause-exact : goal.returns-clause-exact
+returns-clause-exact c =
+    let lower = c.args.lower.now in
+    let upper = c.args.upper.now in
+    let d = c.gcd-divisor.result in
+    let real = c.in_ok-real.real in
+    let dark = c.in_ok-dark.dark in
+    let is : IsRealRow c.args.columns c.args.col lower upper d real = grind arith in
+    let by : c.in_ok-by.by ≡ ceiling ((coef_at lower c.args.col -ℤ pos 1) *ℤ (neg_ℤ (coef_at upper c.args.col) -ℤ pos 1)) d = grind arith in
+    let lowered : dark ≡ record real { constant = real.constant -ℤ c.in_ok-by.by } = grind arith in
+    let row : IsDarkRow c.args.columns c.args.col lower upper dark = dark_row_is c.args.columns c.args.col lower upper d real dark c.in_ok-by.by is by lowered in
+    let tight : IsTrue c.in_ok-exact.exact → (xs : List ℤ) → HoldsRow real xs → HoldsRow dark xs = c.in_ok-exact.ensures in (
+      row,
+      grind arith,
+      (λ t. exact_is c.args.columns c.args.col lower upper d real dark is row (tight t)),
+      grind arith,
+    )
+
+pub returns-in_err-dark-clause-small : goal.returns-in_err-dark-clause-small
+returns-in_err-dark-clause-small c = λ bits low up.
+    let lower = c.args.lower.now in
+    let upper = c.args.upper.now in
+    let a = coef_at lower c.args.col in
+    let b = neg_ℤ (coef_at upper c.args.col) in
+    let d = c.gcd-divisor.result in
+    let is : IsRealRow c.args.columns c.args.col lower upper d c.in_ok-real.real = grind arith in
+    let by : c.in_ok-by.by ≡ ceiling ((a -ℤ pos 1) *ℤ (b -ℤ pos 1)) d = grind arith in
+    let meter : c.slack.new.meter ≡ c.args.meter.now = grind arith in
+    let slack = slack_up_to a b d c.in_ok-by.by is.positive (coef_up_to (2 ^ 62) lower c.args.col low) (up_to-neg (2 ^ 62) (coef_at upper c.args.col) (coef_up_to (2 ^ 62) upper c.args.col up)) by in
+    let p = err_from_is_err_and c.from_residual-in_err-dark.result c.from_residual-in_err-dark.ensures.1 in
+    rw (p.1, p.2) (c.in_err-dark.ensures.small (2 ^ 125) (2 ^ 125) slack (c.in_ok-real.ensures.small bits low up) (rw (meter, bits) (lit< tt)))

@@ -1,0 +1,18 @@
+use Rattle.std.proofs.Common.{◌≡◌, map, arith}
+use Rattle.isl_omega.specs.Substitution.{substituted}
+use Rattle.isl_omega.proofs.StepLemmas.{moved_formed}
+use Rattle.isl_omega.proofs.step.Progression.put.Goals as goal
+
+pub copied-requires-clause-well_formed : goal.copied-requires-clause-well_formed
+copied-requires-clause-well_formed c =
+    let s = c.args.self.now.substitution in
+    let rows = c.args.sides.now.apart in
+    let is : c.as_slice-4.result.now ≡ map (substituted s.scale s.offsets c.args.col) rows = grind arith in
+    rw is (moved_formed c.args.meter.now c.args.columns c.args.col s.scale s.offsets rows c.requires.progression.positive c.requires.progression.width c.requires.sided.apart)
+
+pub free_rows-requires-clause-well_formed : goal.free_rows-requires-clause-well_formed
+free_rows-requires-clause-well_formed c =
+    let s = c.args.self.now.substitution in
+    let rows = c.args.sides.now.apart in
+    let is : c.as_slice-5.result.now ≡ map (substituted s.scale s.offsets c.args.col) rows = grind arith in
+    rw is (moved_formed c.args.meter.now c.args.columns c.args.col s.scale s.offsets rows c.requires.progression.positive c.requires.progression.width c.requires.sided.apart)

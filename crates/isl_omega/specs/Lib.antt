@@ -1,0 +1,11 @@
+pub mod Column
+pub mod Combine
+pub mod Congruence
+pub mod Equality
+pub mod Magnitude
+pub mod Shadow
+pub mod Sides
+pub mod Step
+pub mod Substitution
+pub mod Tighten
+pub mod Work

@@ -1,0 +1,18 @@
+-- How large the numbers become.
+use Rattle.std.specs.Prelude.{◌≢◌, ℕ, All, Result, IfErr}
+use Rattle.isl_meter.specs.declared.Cut.{Cut}
+use Rattle.isl_meter.specs.declared.Cut.TheVariants.{Overflow}
+use Rattle.isl_piece.specs.Row.{IsRowUpTo}
+use Rattle.isl_omega.specs.declared.sides.Sides.{Sides}
+
+-- work did not end because a number passed the limit
+abbrev pub IsNoOverflow : {A : Type 0} → Result A Cut → Type 0
+IsNoOverflow result = IfErr result (λ cut. cut ≢ Overflow)
+
+-- each number of the sides is at most b in magnitude
+pub record AreSidesUpTo (b : ℕ) (sides : Sides) : Type 0 where
+  pub lowers : All (IsRowUpTo b) sides.lowers
+  pub uppers : All (IsRowUpTo b) sides.uppers
+  pub divides : All (IsRowUpTo b) sides.divides
+  pub apart : All (IsRowUpTo b) sides.apart
+  pub free : All (IsRowUpTo b) sides.free

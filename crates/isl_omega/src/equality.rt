@@ -1,0 +1,120 @@
+// Substitution by an equality.
+
+ghost use Rattle.std.specs.Prelude.{◌≡◌, ◌≢◌, ◌-◌, ◌<◌, pos, length, All, IfOk, MatchResult, ◌^◌};
+ghost use Rattle.std.specs.List.{AllZip};
+ghost use Rattle.isl_meter.specs.Gauge.{IsWithin};
+ghost use Rattle.isl_piece.specs.Row.{IsRowWithin, IsWellFormed, coef_at, IsRowUpTo};
+ghost use Rattle.isl_omega.specs.Work.{IsCutUpTo};
+ghost use Rattle.isl_omega.specs.Column.{IsSystemOf};
+ghost use Rattle.isl_omega.specs.Equality.{AreFactors, IsImage, IsSolvedBy, solvable};
+ghost use Rattle.isl_omega.specs.Magnitude.{IsNoOverflow};
+
+use crate::combine::combined;
+use crate::rows::settled;
+use isl_meter::{Cut, Int, Meter};
+use isl_piece::{Row, RowKind, Rows, System};
+use std::alloc::{AllocError, Global};
+
+// What to multiply a row and an equality by, so that the column cancels.
+fn factors(pivot: Int, own: Int, meter: &Meter) -> (Int, Int)
+    requires pivot_within { IsWithin meter.now pivot }
+    requires own_within { IsWithin meter.now own }
+    requires occurs { pivot ≢ pos 0 }
+    ensures cancel { AreFactors pivot own result.0 result.1 }
+    ensures first_within { IsWithin meter.now result.0 }
+    ensures second_within { IsWithin meter.now result.1 }
+{
+    let divisor = pivot.gcd(own, meter);
+    let m = pivot.abs(meter).floor_div(divisor, meter);
+    let n = own.times_sign_of(pivot, meter).floor_div(divisor, meter);
+    (m, n.neg(meter))
+}
+
+// The row without the column, where `fixed` is 0.
+fn image(alloc: Global, row: &Row, fixed: &Row, col: usize, meter: &mut Meter) -> Result<Row, Cut>
+    requires row_within { IsRowWithin meter.old row.now }
+    requires fixed_within { IsRowWithin meter.old fixed.now }
+    requires same_width { length row.now.coefs ≡ length fixed.now.coefs }
+    requires col_in { col < length fixed.now.coefs }
+    requires occurs { coef_at fixed.now col ≢ pos 0 }
+    ensures exact { MatchResult result
+        (λ short. IsImage fixed.now col row.now short × IsRowWithin meter.old short × (meter.new ≡ meter.old))
+        (λ cut. IsCutUpTo 0 meter.old meter.new cut) }
+    ensures small { meter.old.bits ≡ 127 → IsRowUpTo (2 ^ 61) row.now → IsRowUpTo (2 ^ 63) fixed.now → IsNoOverflow result }
+{
+    let (m, n) = factors(fixed.coefs.get(col), row.coefs.get(col), meter);
+    combined(alloc, m, row, n, fixed, meter)
+}
+
+// The rows without the column, where `fixed` is 0.
+fn images(
+    alloc: Global,
+    rows: &[Row],
+    fixed: &Row,
+    columns: usize,
+    col: usize,
+    meter: &mut Meter,
+) -> Result<Rows, Cut>
+    requires rows_formed { All (IsWellFormed columns) rows.now }
+    requires rows_within { All (IsRowWithin meter.old) rows.now }
+    requires fixed_formed { IsWellFormed columns fixed.now }
+    requires fixed_within { IsRowWithin meter.old fixed.now }
+    requires col_in { col < columns }
+    requires occurs { coef_at fixed.now col ≢ pos 0 }
+    ensures exact { MatchResult result
+        (λ short. AllZip (IsImage fixed.now col) rows.now short × All (IsRowWithin meter.old) short × (meter.new ≡ meter.old))
+        (λ cut. IsCutUpTo 0 meter.old meter.new cut) }
+    ensures small { meter.old.bits ≡ 127 → All (IsRowUpTo (2 ^ 61)) rows.now → IsRowUpTo (2 ^ 63) fixed.now → IsNoOverflow result }
+{
+    let mut short = Rows::new(alloc);
+    for row in rows {
+        short.push(image(alloc, row, fixed, col, meter)?)?;
+    }
+    Ok(short)
+}
+
+// The row that says where some whole number makes `fixed` 0.
+fn divisibility(alloc: Global, fixed: &Row, col: usize, meter: &Meter) -> Result<Row, AllocError>
+    requires fixed_within { IsRowWithin meter.now fixed.now }
+    requires col_in { col < length fixed.now.coefs }
+    ensures { IfOk result (λ row. (row ≡ solvable fixed.now col) × IsRowWithin meter.now row) }
+{
+    let k = fixed.coefs.get(col).abs(meter);
+    Ok(Row::new(
+        RowKind::Divides,
+        fixed.coefs.copy(alloc)?,
+        fixed.offset(),
+        k,
+    ))
+}
+
+/// The rows where `fixed` is 0 at some whole number at `col`, without that column; none where no point is left. No unit is used.
+/// (Pugh, the Omega test: substitution by an equality)
+///
+/// # Errors
+///
+/// `Overflow` where a number passes the limit of the meter, and `NoMemory`.
+pub fn equality_step(
+    alloc: Global,
+    rows: &[Row],
+    fixed: &Row,
+    columns: usize,
+    col: usize,
+    meter: &mut Meter,
+) -> Result<Option<System>, Cut>
+    requires rows_formed { All (IsWellFormed columns) rows.now }
+    requires rows_within { All (IsRowWithin meter.old) rows.now }
+    requires fixed_formed { IsWellFormed columns fixed.now }
+    requires fixed_within { IsRowWithin meter.old fixed.now }
+    requires col_in { col < columns }
+    requires occurs { coef_at fixed.now col ≢ pos 0 }
+    ensures exact { MatchResult result
+        (λ left. IsSystemOf meter.old (columns - 1) (IsSolvedBy rows.now fixed.now col) left × (meter.new ≡ meter.old))
+        (λ cut. IsCutUpTo 0 meter.old meter.new cut) }
+    ensures small { meter.old.bits ≡ 127 → All (IsRowUpTo (2 ^ 61)) rows.now → IsRowUpTo (2 ^ 63) fixed.now → IsNoOverflow result }
+{
+    let mut short = images(alloc, rows, fixed, columns, col, meter)?;
+    short.push(divisibility(alloc, fixed, col, meter)?)?;
+    let left = settled(alloc, &short, columns, col, meter)?;
+    Ok(left)
+}

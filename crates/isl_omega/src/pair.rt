@@ -1,0 +1,137 @@
+// What a lower and an upper bound leave without the column.
+
+ghost use Rattle.std.specs.Prelude.{◌≡◌, ◌<◌, ◌↔◌, pos, ◌-ℤ◌, ◌*ℤ◌, neg_ℤ, ◌<ℤ◌, ℤ, List, IsTrue, length, IfOk, MatchResult, ◌≢◌, ◌^◌, ◌≤◌, ◌+◌, ℕ, unsigned_abs, IfErr};
+ghost use Rattle.isl_math.specs.Divide.{IsGcdOf};
+ghost use Rattle.isl_meter.specs.Gauge.{IsWithin};
+ghost use Rattle.isl_piece.specs.declared.constraint.RowKind.TheVariants.{AtLeast};
+ghost use Rattle.isl_piece.specs.Row.{HoldsRow, HasDivisor, IsRowWithin, coef_at, IsRowUpTo};
+ghost use Rattle.isl_omega.specs.Shadow.{ceiling, IsRealRow, IsDarkRow, IsExact};
+ghost use Rattle.isl_omega.specs.Sides.{IsLower, IsUpper};
+ghost use Rattle.isl_omega.specs.Work.{IsCutUpTo};
+ghost use Rattle.isl_omega.specs.Magnitude.{IsNoOverflow};
+
+use crate::combine::combined;
+use isl_meter::{Cut, Int, Meter, Overflow};
+use isl_piece::{Outcome, Row, settle};
+use std::alloc::{AllocError, Global};
+
+/// The row that holds where the pair is dark, and whether it is so wherever the pair is real.
+#[derive(Drop)]
+pub(crate) struct Pair {
+    pub dark: Row,
+    pub exact: bool,
+}
+
+// (a - 1)(b - 1) / divisor, rounded up.
+fn slack(a: Int, b: Int, divisor: Int, meter: &mut Meter) -> Result<Int, Overflow>
+    requires positive { pos 0 <ℤ divisor }
+    requires within { IsWithin meter.old divisor }
+    ensures exact { MatchResult result
+        (λ s. (s ≡ ceiling ((a -ℤ pos 1) *ℤ (b -ℤ pos 1)) divisor) × IsWithin meter.old s × (meter.new ≡ meter.old))
+        (λ _. IsCutUpTo 0 meter.old meter.new Cut.Overflow) }
+    ensures small { meter.old.bits ≡ 127 → unsigned_abs a ≤ 2 ^ 62 → unsigned_abs b ≤ 2 ^ 62 → IfErr result (λ _. ⊥) }
+{
+    let m = a.sub(Int::ONE, meter)?;
+    let n = b.sub(Int::ONE, meter)?;
+    let product = m.mul(n, meter)?;
+    Ok(product.neg(meter).floor_div(divisor, meter).neg(meter))
+}
+
+fn has_same_form(a: &Row, b: &Row) -> bool
+    ensures { IsTrue result → (a.now.coefs ≡ b.now.coefs) × (a.now.constant ≡ b.now.constant) }
+{
+    a.coefs.as_slice() == b.coefs.as_slice() && a.offset() == b.offset()
+}
+
+// Whether the normal forms show that `dark` holds wherever `real` does.
+fn is_tight(alloc: Global, real: &Row, dark: &Row, meter: &Meter) -> Result<bool, AllocError>
+    requires real_kind { real.now.kind ≡ AtLeast }
+    requires dark_kind { dark.now.kind ≡ AtLeast }
+    requires real_divisor { HasDivisor real.now.kind real.now.k }
+    requires dark_divisor { HasDivisor dark.now.kind dark.now.k }
+    requires real_within { IsRowWithin meter.now real.now }
+    requires dark_within { IsRowWithin meter.now dark.now }
+    ensures { IfOk result (λ tight. IsTrue tight → (xs : List ℤ) → HoldsRow real.now xs → HoldsRow dark.now xs) }
+{
+    let mut first = real.copy(alloc)?;
+    let mut second = dark.copy(alloc)?;
+    match (settle(&mut first, meter), settle(&mut second, meter)) {
+        (Outcome::Fails, _) => Ok(true),
+        (_, Outcome::Holds) => Ok(true),
+        (Outcome::Stays, Outcome::Stays) => Ok(has_same_form(&first, &second)),
+        _ => Ok(false),
+    }
+}
+
+// The real row of a pair whose coefficients have the greatest common divisor `divisor`.
+fn real_row(
+    alloc: Global,
+    lower: &Row,
+    upper: &Row,
+    columns: usize,
+    col: usize,
+    divisor: Int,
+    meter: &mut Meter,
+) -> Result<Row, Cut>
+    requires lower { IsLower meter.old columns col lower.now }
+    requires upper { IsUpper meter.old columns col upper.now }
+    requires col_in { col < columns }
+    requires gcd { IsGcdOf (coef_at lower.now col) (neg_ℤ (coef_at upper.now col)) divisor }
+    requires within { IsWithin meter.old divisor }
+    ensures exact { MatchResult result
+        (λ real. IsRealRow columns col lower.now upper.now divisor real × IsRowWithin meter.old real × (meter.new ≡ meter.old))
+        (λ cut. IsCutUpTo 0 meter.old meter.new cut) }
+    ensures small { meter.old.bits ≡ 127 → IsRowUpTo (2 ^ 62) lower.now → IsRowUpTo (2 ^ 62) upper.now
+        → MatchResult result (IsRowUpTo (2 ^ 125)) (λ cut. cut ≢ Cut.Overflow) }
+{
+    let m = lower.coefs.get(col).floor_div(divisor, meter);
+    let n = upper.coefs.get(col).neg(meter).floor_div(divisor, meter);
+    let real = combined(alloc, n, lower, m, upper, meter)?;
+    Ok(real)
+}
+
+/// The row with its constant less `by`.
+///
+/// # Errors
+///
+/// `Overflow` where the constant passes the limit of the meter, and `NoMemory`.
+pub fn lowered(alloc: Global, row: &Row, by: Int, meter: &mut Meter) -> Result<Row, Cut>
+    requires within { IsRowWithin meter.old row.now }
+    ensures exact { MatchResult result
+        (λ low. (low ≡ record row.now { constant = row.now.constant -ℤ by }) × IsRowWithin meter.old low × (meter.new ≡ meter.old))
+        (λ cut. IsCutUpTo 0 meter.old meter.new cut) }
+    ensures small { (u w : ℕ) → unsigned_abs by ≤ u → IsRowUpTo w row.now → w + u < 2 ^ meter.old.bits → IsNoOverflow result }
+{
+    let constant = row.offset().sub(by, meter)?;
+    Ok(Row::new(row.kind, row.coefs.copy(alloc)?, constant, row.modulus()))
+}
+
+impl Pair {
+    /// What the bounds leave.
+    pub(crate) fn of(
+        alloc: Global,
+        lower: &Row,
+        upper: &Row,
+        columns: usize,
+        col: usize,
+        meter: &mut Meter,
+    ) -> Result<Self, Cut>
+        requires lower { IsLower meter.old columns col lower.now }
+        requires upper { IsUpper meter.old columns col upper.now }
+        requires col_in { col < columns }
+        ensures exact { MatchResult result
+            (λ pair. IsDarkRow columns col lower.now upper.now pair.dark × IsRowWithin meter.old pair.dark
+            × (IsTrue pair.exact → IsExact columns col lower.now upper.now) × (meter.new ≡ meter.old))
+            (λ cut. IsCutUpTo 0 meter.old meter.new cut) }
+        ensures small { meter.old.bits ≡ 127 → IsRowUpTo (2 ^ 62) lower.now → IsRowUpTo (2 ^ 62) upper.now → IsNoOverflow result }
+    {
+        let a = lower.coefs.get(col);
+        let b = upper.coefs.get(col).neg(meter);
+        let divisor = a.gcd(b, meter);
+        let real = real_row(alloc, lower, upper, columns, col, divisor, meter)?;
+        let by = slack(a, b, divisor, meter)?;
+        let dark = lowered(alloc, &real, by, meter)?;
+        let exact = is_tight(alloc, &real, &dark, meter)?;
+        Ok(Pair { dark, exact })
+    }
+}

@@ -1,0 +1,83 @@
+// Rows without a column.
+
+ghost use Rattle.std.specs.Prelude.{◌≡◌, ◌-◌, ◌<◌, pos, length, All, IfOk, OnErr, MatchResult, map};
+ghost use Rattle.std.specs.List.{remove};
+ghost use Rattle.isl_piece.specs.Row.{IsRowWithin, IsWellFormed};
+ghost use Rattle.isl_omega.specs.Work.{IsCutUpTo};
+ghost use Rattle.isl_omega.specs.Column.{dropped, IsFree, IsSystemOf, HoldAt};
+ghost use Rattle.isl_omega.specs.Magnitude.{IsNoOverflow};
+
+use isl_meter::{Cut, Int, Meter};
+use isl_piece::{Coefs, Row, Rows, System, normalise};
+use std::alloc::{AllocError, AllocFailed, Global};
+
+// The numbers but for the one at `col`.
+#[tactic(auto, using(std::proofs::lemmas::Grind::common_steps, crate::proofs::ColumnLemmas::removals))]
+fn coefs_without(alloc: Global, coefs: &[Int], col: usize) -> Result<Coefs, AllocFailed<Int>>
+    ensures { IfOk result (λ kept. kept ≡ remove coefs.now col) }
+{
+    let mut kept = Coefs::new(alloc);
+    for i in 0..coefs.len() {
+        if i != col {
+            kept.push(coefs[i])?;
+        }
+    }
+    Ok(kept)
+}
+
+/// The row without the column, so of one column less.
+///
+/// # Errors
+///
+/// Want of memory.
+pub fn row_without(alloc: Global, row: &Row, col: usize) -> Result<Row, AllocFailed<Int>>
+    ensures { IfOk result (λ short. short ≡ dropped row.now col) }
+{
+    let coefs = coefs_without(alloc, row.coefs.as_slice(), col)?;
+    Ok(Row {
+        kind: row.kind,
+        coefs,
+        constant: row.constant,
+        k: row.k,
+    })
+}
+
+fn rows_without(alloc: Global, rows: &[Row], col: usize) -> Result<Rows, Cut>
+    ensures ok { IfOk result (λ short. short ≡ map (λ r. dropped r col) rows.now) }
+    ensures err { OnErr result (result ≡ Err Cut.NoMemory) }
+{
+    let mut short = Rows::new(alloc);
+    for row in rows {
+        short.push(row_without(alloc, row, col)?)?;
+    }
+    Ok(short)
+}
+
+/// The rows without the column, in normal form; none where no point is left. The rows must not depend on the column.
+///
+/// # Errors
+///
+/// `NoMemory`.
+pub fn settled(
+    alloc: Global,
+    rows: &Rows,
+    columns: usize,
+    col: usize,
+    meter: &mut Meter,
+) -> Result<Option<System>, Cut>
+    requires col_in { col < columns }
+    requires well_formed { All (IsWellFormed columns) rows.now }
+    requires within { All (IsRowWithin meter.old) rows.now }
+    requires free { All (IsFree col) rows.now }
+    ensures exact { MatchResult result
+        (λ left. IsSystemOf meter.old (columns - 1) (λ point. HoldAt rows.now col point (pos 0)) left × (meter.new ≡ meter.old))
+        (λ cut. IsCutUpTo 0 meter.old meter.new cut) }
+    ensures memory { IsNoOverflow result }
+{
+    let short = rows_without(alloc, rows.as_slice(), col)?;
+    let system = System {
+        columns: columns - 1,
+        rows: short,
+    };
+    Ok(normalise(alloc, system, meter)?)
+}

@@ -1,0 +1,158 @@
+// The rows of a system by what they say of one column.
+
+ghost use Rattle.std.specs.Prelude.{◌≡◌, ◌<◌, ◌↔◌, IsTrue, length, All, IfOk, IfErr};
+ghost use Rattle.isl_piece.specs.Row.{IsRowWithin, IsWellFormed};
+
+use isl_meter::{Cut, Int, Meter};
+use isl_piece::{Row, RowKind, Rows};
+use std::alloc::{AllocError, Global};
+
+/// What a row says of a column.
+#[derive(Clone, Copy, Debug, PartialEq, Eq)]
+pub enum Side {
+    /// At least 0, with a coefficient above 0.
+    Lower,
+    /// At least 0, with a coefficient below 0.
+    Upper,
+    /// A congruence whose divisor does not divide the coefficient.
+    Divides,
+    /// The same of a divisor that must not divide.
+    Apart,
+    /// Nothing.
+    Free,
+}
+
+/// Rows by what they say of a column.
+#[derive(Drop)]
+pub struct Sides {
+    pub lowers: Rows,
+    pub uppers: Rows,
+    pub divides: Rows,
+    pub apart: Rows,
+    pub free: Rows,
+}
+
+impl Side {
+    ghost use Rattle.std.specs.Prelude.{◌<ℤ◌, pos};
+    ghost use Rattle.isl_math.specs.Divide.{floor_mod};
+    ghost use Rattle.isl_meter.specs.Gauge.{IsWithin};
+    ghost use Rattle.isl_omega.specs.Sides.{by_sign, unless_multiple, side_of};
+
+    #[tactic(auto, using(std::proofs::lemmas::Grind::common_steps, crate::proofs::SideLemmas::sign_cases))]
+    fn by_sign(coef: Int) -> Self
+        ensures { result ≡ by_sign coef }
+    {
+        if coef.is_positive() {
+            Side::Lower
+        } else if coef.is_negative() {
+            Side::Upper
+        } else {
+            Side::Free
+        }
+    }
+
+    // The side, unless `k` divides the coefficient.
+    #[tactic(auto, using(std::proofs::lemmas::Grind::common_steps, crate::proofs::SideLemmas::multiple_cases))]
+    fn unless_multiple(self, coef: Int, k: Int, meter: &Meter) -> Self
+        requires within { IsWithin meter.now k }
+        requires divisor { pos 0 <ℤ k }
+        ensures { result ≡ unless_multiple self (floor_mod coef k) }
+    {
+        if coef.modulo(k, meter).is_zero() {
+            Side::Free
+        } else {
+            self
+        }
+    }
+
+    /// What the row says of the column.
+    pub fn of(row: &Row, col: usize, meter: &Meter) -> Self
+        requires well_formed { IsWellFormed (length row.now.coefs) row.now }
+        requires within { IsRowWithin meter.now row.now }
+        requires col_in { col < length row.now.coefs }
+        ensures { result ≡ side_of col row.now }
+    {
+        let coef = row.coefs.get(col);
+        match row.kind {
+            RowKind::Zero => Side::Free,
+            RowKind::AtLeast => Side::by_sign(coef),
+            RowKind::Divides => Side::Divides.unless_multiple(coef, row.modulus(), meter),
+            RowKind::NotDivides => Side::Apart.unless_multiple(coef, row.modulus(), meter),
+        }
+    }
+}
+
+impl Side {
+    ghost use Rattle.isl_omega.specs.Sides.{on_side, side_of, is_same};
+
+    /// Whether the row is on this side of the column.
+    #[tactic(auto, using(std::proofs::lemmas::Grind::common_steps, crate::proofs::SideLemmas::same_true))]
+    pub fn has(self, row: &Row, col: usize, meter: &Meter) -> bool
+        requires well_formed { IsWellFormed (length row.now.coefs) row.now }
+        requires within { IsRowWithin meter.now row.now }
+        requires col_in { col < length row.now.coefs }
+        ensures { result ≡ is_same self (side_of col row.now) }
+    {
+        self == Side::of(row, col, meter)
+    }
+
+    /// Copies of the rows on this side of the column, in order.
+    ///
+    /// # Errors
+    ///
+    /// `NoMemory`.
+    #[tactic(auto, using(std::proofs::lemmas::Grind::common_steps, std::proofs::lemmas::List::Elements::filter_more))]
+    pub fn copied(
+        self,
+        alloc: Global,
+        rows: &[Row],
+        columns: usize,
+        col: usize,
+        meter: &Meter,
+    ) -> Result<Rows, Cut>
+        requires well_formed { All (IsWellFormed columns) rows.now }
+        requires within { All (IsRowWithin meter.now) rows.now }
+        requires col_in { col < columns }
+        ensures ok { IfOk result (λ picked. picked ≡ on_side self col rows.now) }
+        ensures err { IfErr result (λ cut. cut ≡ Cut.NoMemory) }
+    {
+        let mut picked = Rows::new(alloc);
+        for row in rows {
+            if self.has(row, col, meter) {
+                picked.push(row.copy(alloc)?)?;
+            }
+        }
+        Ok(picked)
+    }
+}
+
+impl Sides {
+    ghost use Rattle.isl_omega.specs.Sides.{AreSidesOf};
+
+    /// Copies of the rows, each on its side.
+    ///
+    /// # Errors
+    ///
+    /// `NoMemory`.
+    pub fn of(
+        alloc: Global,
+        rows: &[Row],
+        columns: usize,
+        col: usize,
+        meter: &Meter,
+    ) -> Result<Self, Cut>
+        requires well_formed { All (IsWellFormed columns) rows.now }
+        requires within { All (IsRowWithin meter.now) rows.now }
+        requires col_in { col < columns }
+        ensures ok { IfOk result (AreSidesOf rows.now col) }
+        ensures err { IfErr result (λ cut. cut ≡ Cut.NoMemory) }
+    {
+        Ok(Sides {
+            lowers: Side::Lower.copied(alloc, rows, columns, col, meter)?,
+            uppers: Side::Upper.copied(alloc, rows, columns, col, meter)?,
+            divides: Side::Divides.copied(alloc, rows, columns, col, meter)?,
+            apart: Side::Apart.copied(alloc, rows, columns, col, meter)?,
+            free: Side::Free.copied(alloc, rows, columns, col, meter)?,
+        })
+    }
+}

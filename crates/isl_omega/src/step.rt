@@ -1,0 +1,199 @@
+// The congruence step: the congruences on a column as a substitution for it.
+
+ghost use Rattle.std.specs.Prelude.{◌≡◌, ◌<◌, ◌++◌, ◌∷◌, [], pos, ◌<ℤ◌, All, length, map, IfOk, IfErr, MatchResult, ◌≢◌, ◌^◌, ◌≤◌, unsigned_abs};
+ghost use Rattle.isl_meter.specs.Gauge.{IsWithin};
+ghost use Rattle.isl_piece.specs.declared.constraint.Row.{Row};
+ghost use Rattle.isl_piece.specs.Row.{IsWellFormed, IsRowWithin, IsRowUpTo};
+ghost use Rattle.isl_omega.specs.Sides.{AreSided};
+ghost use Rattle.isl_omega.specs.Step.{IsStepOf};
+ghost use Rattle.isl_omega.specs.Work.{IsCutUpTo};
+ghost use Rattle.isl_omega.specs.Magnitude.{IsNoOverflow, AreSidesUpTo};
+
+use crate::congruence::merged;
+use crate::sides::{Side, Sides};
+use crate::substitution::Substitution;
+use isl_meter::{Cut, Int, Meter};
+use isl_piece::{Coefs, Row, RowKind, Rows};
+use std::alloc::{AllocError, Global};
+
+/// The congruences on a column as one, what they say of the other columns, and the numbers that they allow.
+#[derive(Drop)]
+pub struct Progression {
+    pub one: Row,
+    pub others: Rows,
+    pub substitution: Substitution,
+}
+
+impl Progression {
+    ghost use Rattle.isl_omega.specs.Congruence.{AreMergedTo};
+    ghost use Rattle.isl_omega.specs.Sides.{IsDivides, AreSided, on_side};
+    ghost use Rattle.isl_omega.specs.Step.{residue_row};
+    ghost use Rattle.isl_omega.specs.Step.{within_scale, AreMovedTo};
+    ghost use Rattle.isl_omega.specs.Substitution.{IsProgressionOf};
+
+    fn of(
+        alloc: Global,
+        divides: &[Row],
+        columns: usize,
+        col: usize,
+        meter: &mut Meter,
+    ) -> Result<Self, Cut>
+        requires some { 0 < length divides.now }
+        requires divides { All (IsDivides meter.old columns) divides.now }
+        requires col_in { col < columns }
+        ensures exact { MatchResult result
+            (λ p. AreMergedTo meter.old columns col divides.now p.one p.others
+            × IsProgressionOf columns col p.one p.substitution.scale p.substitution.offsets
+            × IsWithin meter.old p.substitution.scale × IsRowWithin meter.old p.substitution.offsets × (meter.new ≡ meter.old))
+            (λ cut. IsCutUpTo 0 meter.old meter.new cut) }
+        ensures small { meter.old.bits ≡ 127 → All (IsRowUpTo (2 ^ 30)) divides.now → length divides.now < 2 → MatchResult result
+            (λ p. IsRowUpTo (2 ^ 30) p.one × (p.others ≡ []) × (unsigned_abs p.substitution.scale ≤ 2 ^ 30) × IsRowUpTo (2 ^ 30) p.substitution.offsets)
+            (λ cut. cut ≢ Cut.Overflow) }
+    {
+        let (one, others) = merged(alloc, divides, columns, col, meter)?;
+        let substitution = Substitution::of(alloc, &one, columns, col, meter)?;
+        Ok(Progression {
+            one,
+            others,
+            substitution,
+        })
+    }
+
+    /// The numbers that leave `rest` when divided by `k`.
+    ///
+    /// # Errors
+    ///
+    /// `Overflow` where a number passes the limit of the meter, and `NoMemory`.
+    pub fn of_residue(
+        alloc: Global,
+        k: Int,
+        rest: Int,
+        columns: usize,
+        col: usize,
+        meter: &mut Meter,
+    ) -> Result<Self, Cut>
+        requires positive { pos 0 <ℤ k }
+        requires k_within { IsWithin meter.old k }
+        requires rest_within { IsWithin meter.old rest }
+        requires col_in { col < columns }
+        ensures { MatchResult result
+            (λ p. (p.one ≡ residue_row columns col k rest) × (p.others ≡ [])
+            × IsRowWithin meter.old p.one
+            × IsProgressionOf columns col p.one p.substitution.scale p.substitution.offsets
+            × IsWithin meter.old p.substitution.scale × IsRowWithin meter.old p.substitution.offsets × (meter.new ≡ meter.old))
+            (λ cut. IsCutUpTo 0 meter.old meter.new cut) }
+    {
+        let mut coefs = Coefs::zeros(alloc, columns)?;
+        coefs.set(col, Int::ONE);
+        let one = Row::new(RowKind::Divides, coefs, rest.neg(meter), k);
+        let substitution = Substitution::of(alloc, &one, columns, col, meter)?;
+        Ok(Progression {
+            one,
+            others: Rows::new(alloc),
+            substitution,
+        })
+    }
+
+    // Where there are numbers: the congruence with the scale for its divisor.
+    fn within_scale(&self, alloc: Global) -> Result<Row, AllocError>
+        ensures { IfOk result (λ row. row ≡ within_scale self.now.one self.now.substitution.scale) }
+    {
+        let one = &self.one;
+        Ok(Row::new(
+            one.kind,
+            one.coefs.copy(alloc)?,
+            one.offset(),
+            self.substitution.scale,
+        ))
+    }
+
+    // The rows that are free of the column: of those that were moved, what the congruences say, and those that were.
+    fn free_rows(
+        &self,
+        alloc: Global,
+        moved: &[Row],
+        free: &Rows,
+        columns: usize,
+        col: usize,
+        meter: &Meter,
+    ) -> Result<Rows, Cut>
+        requires well_formed { All (IsWellFormed columns) moved.now }
+        requires within { All (IsRowWithin meter.now) moved.now }
+        requires col_in { col < columns }
+        ensures ok { IfOk result (λ rows. rows ≡ ((on_side Side.Free col moved.now ++ self.now.others) ++ free.now)
+            ++ within_scale self.now.one self.now.substitution.scale ∷ []) }
+        ensures err { IfErr result (λ cut. cut ≡ Cut.NoMemory) }
+    {
+        let mut rows = Side::Free.copied(alloc, moved, columns, col, meter)?;
+        rows.append(alloc, &self.others)?;
+        rows.append(alloc, free)?;
+        rows.push(self.within_scale(alloc)?)?;
+        Ok(rows)
+    }
+
+    /// The sides with the progression in the column's place.
+    ///
+    /// # Errors
+    ///
+    /// `Overflow` where a number passes the limit of the meter, and `NoMemory`.
+    pub fn put(
+        &self,
+        alloc: Global,
+        sides: &Sides,
+        columns: usize,
+        col: usize,
+        meter: &mut Meter,
+    ) -> Result<Sides, Cut>
+        requires sided { AreSided meter.old columns col sides.now }
+        requires progression { IsProgressionOf columns col self.now.one self.now.substitution.scale self.now.substitution.offsets }
+        requires scale_within { IsWithin meter.old self.now.substitution.scale }
+        requires offsets_within { IsRowWithin meter.old self.now.substitution.offsets }
+        requires col_in { col < columns }
+        ensures exact { MatchResult result
+            (λ new. AreMovedTo meter.old columns col self.now.one self.now.others self.now.substitution.scale self.now.substitution.offsets sides.now new
+            × (meter.new ≡ meter.old))
+            (λ cut. IsCutUpTo 0 meter.old meter.new cut) }
+        ensures small { meter.old.bits ≡ 127 → unsigned_abs self.now.substitution.scale ≤ 2 ^ 30 → IsRowUpTo (2 ^ 30) self.now.substitution.offsets
+            → AreSidesUpTo (2 ^ 30) sides.now → IsNoOverflow result }
+    {
+        let s = &self.substitution;
+        let lowers = s.bounds(alloc, sides.lowers.as_slice(), columns, col, meter)?;
+        let uppers = s.bounds(alloc, sides.uppers.as_slice(), columns, col, meter)?;
+        let moved = s.rows(alloc, sides.apart.as_slice(), columns, col, meter)?;
+        let apart = Side::Apart.copied(alloc, moved.as_slice(), columns, col, meter)?;
+        let free = self.free_rows(alloc, moved.as_slice(), &sides.free, columns, col, meter)?;
+        Ok(Sides {
+            lowers,
+            uppers,
+            divides: Rows::new(alloc),
+            apart,
+            free,
+        })
+    }
+}
+
+/// The sides with the congruences on the column as a substitution for it, so that none is left. No unit is used.
+///
+/// # Errors
+///
+/// `Overflow` where a number passes the limit of the meter, and `NoMemory`.
+pub fn congruence_step(
+    alloc: Global,
+    sides: &Sides,
+    columns: usize,
+    col: usize,
+    meter: &mut Meter,
+) -> Result<Sides, Cut>
+    requires sided { AreSided meter.old columns col sides.now }
+    requires some { 0 < length sides.now.divides }
+    requires col_in { col < columns }
+    ensures exact { MatchResult result
+        (λ new. IsStepOf meter.old columns col sides.now new × (meter.new ≡ meter.old))
+        (λ cut. IsCutUpTo 0 meter.old meter.new cut) }
+    ensures small { meter.old.bits ≡ 127 → AreSidesUpTo (2 ^ 30) sides.now → length sides.now.divides < 2
+        → MatchResult result (AreSidesUpTo (2 ^ 61)) (λ cut. cut ≢ Cut.Overflow) }
+{
+    let progression = Progression::of(alloc, sides.divides.as_slice(), columns, col, meter)?;
+    let new = progression.put(alloc, sides, columns, col, meter)?;
+    Ok(new)
+}

@@ -1,0 +1,200 @@
+// A congruence as a substitution for its column.
+
+ghost use Rattle.std.specs.Prelude.{◌≡◌, ◌<◌, ◌<ℤ◌, pos, All, length, MatchResult, ◌≢◌, ◌^◌, ◌≤◌, unsigned_abs};
+ghost use Rattle.isl_meter.specs.Gauge.{IsWithin};
+ghost use Rattle.isl_piece.specs.Row.{IsRowWithin, IsWellFormed, coef_at, IsRowUpTo};
+ghost use Rattle.isl_piece.specs.declared.constraint.RowKind.TheVariants.{Divides};
+ghost use Rattle.isl_omega.specs.Substitution.{AreProgressionParts, offsets_of, IsProgressionOf, substituted};
+ghost use Rattle.isl_omega.specs.Work.{IsCutUpTo};
+ghost use Rattle.isl_omega.specs.Magnitude.{IsNoOverflow};
+
+use crate::combine::{combined, weighted};
+use crate::congruence::remainders;
+use crate::tighten::tightened;
+use isl_meter::{Cut, Int, Meter};
+use isl_piece::{Row, RowKind, Rows};
+use std::alloc::Global;
+
+/// The numbers that a congruence allows at a column: `scale` times each of them is the congruence's
+/// divisor times any whole number, and what `offsets` has beside the column.
+#[derive(Drop)]
+pub struct Substitution {
+    pub scale: Int,
+    pub offsets: Row,
+}
+
+// The scale of the progression of a coefficient and a divisor, and what to multiply offsets by.
+fn parts(coef: Int, k: Int, meter: &Meter) -> (Int, Int)
+    requires coef_within { IsWithin meter.now coef }
+    requires within { IsWithin meter.now k }
+    requires divisor { pos 0 <ℤ k }
+    ensures are { AreProgressionParts coef k result.0 result.1 }
+    ensures scale_within { IsWithin meter.now result.0 }
+    ensures factor_within { IsWithin meter.now result.1 }
+{
+    let scale = coef.gcd(k, meter);
+    let m = k.floor_div(scale, meter);
+    let n = coef.floor_div(scale, meter);
+    let factor = n.inverse(m, meter);
+    (scale, factor.neg(meter))
+}
+
+// `factor` times a congruence's numbers, each reduced by its divisor.
+fn offsets(alloc: Global, factor: Int, one: &Row, meter: &mut Meter) -> Result<Row, Cut>
+    requires factor_within { IsWithin meter.old factor }
+    requires within { IsRowWithin meter.old one.now }
+    requires divisor { pos 0 <ℤ one.now.k }
+    ensures exact { MatchResult result
+        (λ row. (row ≡ offsets_of factor one.now) × IsRowWithin meter.old row × (meter.new ≡ meter.old))
+        (λ cut. IsCutUpTo 0 meter.old meter.new cut) }
+    ensures small { meter.old.bits ≡ 127 → unsigned_abs factor ≤ 2 ^ 30 → IsRowUpTo (2 ^ 30) one.now → IsNoOverflow result }
+{
+    let k = one.modulus();
+    let numbers = one.coefs.as_slice();
+    let coefs = weighted(alloc, factor, numbers, Int::ZERO, numbers, meter)?;
+    let small = remainders(alloc, coefs.as_slice(), k, meter)?;
+    let constant = factor.mul(one.offset(), meter)?.modulo(k, meter);
+    Ok(Row::new(RowKind::Zero, small, constant, Int::ONE))
+}
+
+impl Substitution {
+    /// The numbers that the congruence allows.
+    pub(crate) fn of(
+        alloc: Global,
+        one: &Row,
+        columns: usize,
+        col: usize,
+        meter: &mut Meter,
+    ) -> Result<Self, Cut>
+        requires kind { one.now.kind ≡ Divides }
+        requires well_formed { IsWellFormed columns one.now }
+        requires within { IsRowWithin meter.old one.now }
+        requires col_in { col < columns }
+        ensures exact { MatchResult result
+            (λ s. IsProgressionOf columns col one.now s.scale s.offsets × IsWithin meter.old s.scale × IsRowWithin meter.old s.offsets
+            × (meter.new ≡ meter.old))
+            (λ cut. IsCutUpTo 0 meter.old meter.new cut) }
+        ensures small { meter.old.bits ≡ 127 → IsRowUpTo (2 ^ 30) one.now → MatchResult result
+            (λ s. (unsigned_abs s.scale ≤ 2 ^ 30) × IsRowUpTo (2 ^ 30) s.offsets) (λ cut. cut ≢ Cut.Overflow) }
+    {
+        let k = one.modulus();
+        let (scale, factor) = parts(one.coefs.get(col), k, meter);
+        let mut row = offsets(alloc, factor, one, meter)?;
+        row.coefs.set(col, k.sub(scale, meter)?);
+        Ok(Substitution {
+            scale,
+            offsets: row,
+        })
+    }
+}
+
+impl Substitution {
+    ghost use Rattle.std.specs.Prelude.{ℤ, map};
+    ghost use Rattle.std.specs.List.{AllZip};
+    ghost use Rattle.isl_piece.specs.declared.constraint.RowKind.TheVariants.{AtLeast};
+    ghost use Rattle.isl_omega.specs.Sides.{IsProper};
+    ghost use Rattle.isl_omega.specs.Substitution.{IsMovedBound};
+
+    // The row with the progression in the column's place.
+    fn put(&self, alloc: Global, row: &Row, col: usize, meter: &mut Meter) -> Result<Row, Cut>
+        requires scale_within { IsWithin meter.old self.now.scale }
+        requires offsets_within { IsRowWithin meter.old self.now.offsets }
+        requires within { IsRowWithin meter.old row.now }
+        requires same_width { length row.now.coefs ≡ length self.now.offsets.coefs }
+        requires col_in { col < length row.now.coefs }
+        ensures exact { MatchResult result
+            (λ moved. (moved ≡ substituted self.now.scale self.now.offsets col row.now) × IsRowWithin meter.old moved × (meter.new ≡ meter.old))
+            (λ cut. IsCutUpTo 0 meter.old meter.new cut) }
+        ensures small { meter.old.bits ≡ 127 → unsigned_abs self.now.scale ≤ 2 ^ 30 → IsRowUpTo (2 ^ 30) self.now.offsets → IsRowUpTo (2 ^ 30) row.now → IsNoOverflow result }
+    {
+        combined(
+            alloc,
+            self.scale,
+            row,
+            row.coefs.get(col),
+            &self.offsets,
+            meter,
+        )
+    }
+
+    // The bound with the progression in the column's place, divided as far as it goes.
+    fn bound(
+        &self,
+        alloc: Global,
+        row: &Row,
+        columns: usize,
+        col: usize,
+        meter: &mut Meter,
+    ) -> Result<Row, Cut>
+        requires scale { pos 0 <ℤ self.now.scale }
+        requires scale_within { IsWithin meter.old self.now.scale }
+        requires offsets_within { IsRowWithin meter.old self.now.offsets }
+        requires offsets_width { length self.now.offsets.coefs ≡ columns }
+        requires lower { IsProper meter.old columns row.now }
+        requires kind { row.now.kind ≡ AtLeast }
+        requires col_in { col < columns }
+        ensures exact { MatchResult result
+            (λ moved. IsMovedBound columns col self.now.scale self.now.offsets row.now moved × IsRowWithin meter.old moved × (meter.new ≡ meter.old))
+            (λ cut. IsCutUpTo 0 meter.old meter.new cut) }
+        ensures small { meter.old.bits ≡ 127 → unsigned_abs self.now.scale ≤ 2 ^ 30 → IsRowUpTo (2 ^ 30) self.now.offsets → IsRowUpTo (2 ^ 30) row.now → IsNoOverflow result }
+    {
+        let moved = self.put(alloc, row, col, meter)?;
+        Ok(tightened(alloc, moved, columns, meter)?)
+    }
+
+    /// The bounds with the progression in the column's place, divided as far as they go.
+    pub(crate) fn bounds(
+        &self,
+        alloc: Global,
+        rows: &[Row],
+        columns: usize,
+        col: usize,
+        meter: &mut Meter,
+    ) -> Result<Rows, Cut>
+        requires scale { pos 0 <ℤ self.now.scale }
+        requires scale_within { IsWithin meter.old self.now.scale }
+        requires offsets_within { IsRowWithin meter.old self.now.offsets }
+        requires offsets_width { length self.now.offsets.coefs ≡ columns }
+        requires proper { All (IsProper meter.old columns) rows.now }
+        requires kinds { All (λ r. r.kind ≡ AtLeast) rows.now }
+        requires col_in { col < columns }
+        ensures exact { MatchResult result
+            (λ moved. AllZip (IsMovedBound columns col self.now.scale self.now.offsets) rows.now moved
+            × All (IsRowWithin meter.old) moved × (meter.new ≡ meter.old))
+            (λ cut. IsCutUpTo 0 meter.old meter.new cut) }
+        ensures small { meter.old.bits ≡ 127 → unsigned_abs self.now.scale ≤ 2 ^ 30 → IsRowUpTo (2 ^ 30) self.now.offsets → All (IsRowUpTo (2 ^ 30)) rows.now → IsNoOverflow result }
+    {
+        let mut moved = Rows::new(alloc);
+        for row in rows {
+            moved.push(self.bound(alloc, row, columns, col, meter)?)?;
+        }
+        Ok(moved)
+    }
+
+    /// The rows with the progression in the column's place.
+    pub(crate) fn rows(
+        &self,
+        alloc: Global,
+        rows: &[Row],
+        columns: usize,
+        col: usize,
+        meter: &mut Meter,
+    ) -> Result<Rows, Cut>
+        requires scale_within { IsWithin meter.old self.now.scale }
+        requires offsets_within { IsRowWithin meter.old self.now.offsets }
+        requires offsets_width { length self.now.offsets.coefs ≡ columns }
+        requires proper { All (IsProper meter.old columns) rows.now }
+        requires col_in { col < columns }
+        ensures exact { MatchResult result
+            (λ moved. (moved ≡ map (substituted self.now.scale self.now.offsets col) rows.now)
+            × All (IsRowWithin meter.old) moved × (meter.new ≡ meter.old))
+            (λ cut. IsCutUpTo 0 meter.old meter.new cut) }
+        ensures small { meter.old.bits ≡ 127 → unsigned_abs self.now.scale ≤ 2 ^ 30 → IsRowUpTo (2 ^ 30) self.now.offsets → All (IsRowUpTo (2 ^ 30)) rows.now → IsNoOverflow result }
+    {
+        let mut moved = Rows::new(alloc);
+        for row in rows {
+            moved.push(self.put(alloc, row, col, meter)?)?;
+        }
+        Ok(moved)
+    }
+}
