@@ -2,7 +2,7 @@
 #![tactic(auto)]
 
 use isl_io::{StdSink, StdSource};
-use isl_session::{Fault, Refusal, run, write_fault};
+use isl_session::{refuse_words, run};
 use std::alloc::{AllocError, AllocGlobal, Global};
 use std::env;
 use std::env::Env;
@@ -23,21 +23,9 @@ fn main(rt: HostRuntime) -> ExitCode {
     let mut src = StdSource::new(rt.stdin());
     let mut out = StdSink::new(rt.stdout());
     let mut err = StdSink::new(rt.stderr());
-    match words_of(&rt, alloc) {
-        Ok(words) => {
-            let status = run(alloc, &words, &mut src, &mut out, &mut err);
-            ExitCode::from(status.code())
-        }
-        Err(AllocError) => {
-            let refusal = Refusal::NoMemory;
-            let _ = write_fault(
-                &mut err,
-                Fault {
-                    statement: 1,
-                    refusal,
-                },
-            );
-            ExitCode::from(refusal.code())
-        }
-    }
+    let status = match words_of(&rt, alloc) {
+        Ok(words) => run(alloc, &words, &mut src, &mut out, &mut err),
+        Err(AllocError) => refuse_words(&mut err),
+    };
+    ExitCode::from(status.code())
 }

@@ -1,4 +1,5 @@
 pub mod Causes
+pub mod LexLaws
 pub mod NameLaws
 pub mod ReadLaws
 pub mod SoundLaws

@@ -23,8 +23,10 @@ use Rattle.isl_lower.proofs.ValueLaws.{coordinates_of_plain}
 use Rattle.isl_text.specs.Formed.{are_distinct, are_alike, piece_is_formed}
 use Rattle.isl_text.specs.Bound.{bound_in}
 use Rattle.isl_text.specs.Limits.{coordinates, leaves_of as leaves_of_piece, piece_is_within}
-use Rattle.isl_eval.specs.declared.statement.Statement.TheVariants.{Show}
-use Rattle.isl_eval.specs.Statement.{TokensSpell, IsSound}
+use Rattle.isl_eval.specs.declared.statement.Statement.{Statement}
+use Rattle.isl_eval.specs.declared.statement.Statement.TheVariants.{Empty, Show}
+use Rattle.isl_eval.specs.Statement.{TokensSpell, BytesSpell, IsSound}
+use Rattle.isl_eval.proofs.LexLaws.{lexed}
 use Rattle.isl_eval.proofs.NameLaws.{named}
 
 -- ---- distinct names
@@ -84,3 +86,7 @@ sound limit ts literal tokens spelled =
         spaces = λ i d low. record { named = names.spaces i d low; narrow = narrow (get_or literal.pieces i d) (plain i d low) (within i d low) };
       },
     )
+
+pub spelled_sound : (limit : ℤ) (bytes : List ℕ) (statement : Statement) → BytesSpell limit bytes statement → IsSound statement
+spelled_sound limit bytes Empty spelled = tt
+spelled_sound limit bytes (Show literal) spelled = sound limit spelled.tokens literal (lexed bytes spelled.tokens spelled.cut) spelled.spelled

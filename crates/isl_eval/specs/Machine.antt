@@ -1,7 +1,9 @@
 -- What statements do, one after another. (the iscc chapter of the barvinok manual)
-use Rattle.std.specs.Prelude.{◌≡◌, ℕ, ℤ, true, false, List, [], ◌∷◌, ◌++◌}
+use Rattle.std.specs.Prelude.{◌≡◌, ℕ, ℤ, true, false, List, [], ◌∷◌, ◌++◌, All, unsigned_abs}
 use Rattle.isl_math.specs.Count.{Rose}
 use Rattle.isl_meter.specs.Gauge.{Gauge, overflown}
+use Rattle.isl_piece.specs.Row.{IsRowUpTo}
+use Rattle.isl_union.specs.KeptValue.{KeptValue}
 use Rattle.isl_tree.specs.declared.tree.Literal.{Literal}
 use Rattle.isl_tree.specs.Known.{literal_is_known}
 use Rattle.isl_lower.specs.Value.{value_lowered, PiecesPass}
@@ -17,16 +19,25 @@ use Rattle.isl_eval.specs.Statement.{BytesSpell, SpellNothing}
 abbrev pub shown : Literal → List ℕ
 shown literal = printed (value_lowered literal) ++ 10 ∷ []
 
+-- each number of the value has at most this magnitude
+abbrev pub HasNumbersUpTo : ℕ → KeptValue → Type 0
+HasNumbersUpTo limit value = All (λ piece. All (IsRowUpTo limit) piece.rows) value.pieces
+
+-- the names of the literal are known, and no number of its value passes the limit
+pub record IsShowable (limit : ℤ) (literal : Literal) : Type 0 where
+  pub known : literal_is_known literal ≡ true
+  pub within : HasNumbersUpTo (unsigned_abs limit) (value_lowered literal)
+
 -- From what is bound a statement leads to what is bound after it, with this answer.
-abbrev pub Step : Bindings → Statement → Bindings → List ℕ → Type 0
-Step state Empty next answer = (next ≡ state) × (answer ≡ [])
-Step state (Show literal) next answer = (literal_is_known literal ≡ true) × (next ≡ state) × (answer ≡ shown literal)
+abbrev pub Step : ℤ → Bindings → Statement → Bindings → List ℕ → Type 0
+Step limit state Empty next answer = (next ≡ state) × (answer ≡ [])
+Step limit state (Show literal) next answer = IsShowable limit literal × (next ≡ state) × (answer ≡ shown literal)
 
 -- The bytes of a statement are answered.
 pub record Answers (limit : ℤ) (state : Bindings) (bytes : List ℕ) (next : Bindings) (answer : List ℕ) : Type 0 where
   pub statement : Statement
   pub spelled : BytesSpell limit bytes statement
-  pub step : Step state statement next answer
+  pub step : Step limit state statement next answer
 
 -- The bytes spell a literal with P.
 pub record ShowsWith (P : Literal → Type 0) (limit : ℤ) (bytes : List ℕ) : Type 0 where

@@ -8,5 +8,5 @@ mod statement;
 mod step;
 
 pub use state::State;
-pub use statement::one_statement;
+pub use statement::{Statement, one_statement};
 pub use step::answer;

@@ -17,7 +17,7 @@ use std::alloc::Global;
 
 /// The statements of the language.
 #[derive(Drop)]
-pub(crate) enum Statement {
+pub enum Statement {
     /// Blanks and comments.
     Empty,
     /// A literal, whose value is shown.

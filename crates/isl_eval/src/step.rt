@@ -1,11 +1,10 @@
 // One step of the machine.
 ghost use Rattle.std.specs.Prelude.{◌≡◌, ◌++◌, List, ℕ, true, OnOk, OnErr, IfErr, MatchResult};
 ghost use Rattle.isl_meter.specs.Gauge.{limit_of, overflown, IsCharged, IsKept};
-ghost use Rattle.isl_tree.specs.Known.{literal_is_known};
 ghost use Rattle.isl_tree.specs.Plain.{is_plain};
 ghost use Rattle.isl_lower.specs.Value.{IsWellFormedLiteral};
 ghost use Rattle.isl_eval.specs.Bindings.{Fits};
-ghost use Rattle.isl_eval.specs.Machine.{shown, Answers, Refuses, IsWhyUnshown};
+ghost use Rattle.isl_eval.specs.Machine.{shown, Answers, IsShowable, Refuses, IsWhyUnshown};
 
 use crate::State;
 use crate::statement::{Statement, read_statement};
@@ -17,6 +16,7 @@ use isl_tree::tree::Literal;
 use std::alloc::Global;
 
 // Appends the line that shows a literal.
+#[tactic(auto, using(crate::proofs::Causes::showable))]
 fn show(
     alloc: Global,
     literal: &Literal,
@@ -26,7 +26,7 @@ fn show(
     requires plain { is_plain literal.now ≡ true }
     requires well_formed { IsWellFormedLiteral literal.now }
     ensures { MatchResult result
-        (λ _. (literal_is_known literal.now ≡ true) × (text.new.items ≡ text.old.items ++ shown literal.now) × (meter.new ≡ meter.old))
+        (λ _. IsShowable (limit_of meter.old) literal.now × (text.new.items ≡ text.old.items ++ shown literal.now) × (meter.new ≡ meter.old))
         (λ refusal. (text.new.items ≡ text.old.items) × IsWhyUnshown literal.now meter.old meter.new refusal) }
 {
     if !is_known(literal) {

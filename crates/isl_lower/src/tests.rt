@@ -1,11 +1,18 @@
-// The rows of a small piece.
+// The rows of a small piece, and copies of small values.
+ghost use Rattle.std.specs.Prelude.{◌≡◌, All, IfOk};
+ghost use Rattle.isl_space.specs.Names.{IsParameterList};
+ghost use Rattle.isl_piece.specs.Normal.{IsNormal};
+ghost use Rattle.isl_piece.specs.Row.{IsRowWithin, IsWellFormed};
+ghost use Rattle.isl_union.specs.Piece.{IsPieceOf};
+
 use crate::{is_known, is_plain, is_plain_piece, rows_written};
-use isl_meter::Meter;
-use isl_piece::{Row, RowKind};
-use isl_space::Name;
+use isl_meter::{Int, Meter};
+use isl_piece::{Coefs, Piece, Row, RowKind, Rows, System, normalise};
+use isl_space::{Name, Params, Shape, Space, SpaceFault};
 use isl_tree::tree::{
     Compare, Entry, Factor, Formula, Literal, Modded, PieceTree, Product, Signed, Tuple,
 };
+use isl_union::Value;
 use sqlite_items::Items;
 use std::alloc::{AllocError, Global};
 use std::test::Fail;
@@ -105,5 +112,93 @@ fn a_repeated_variable_and_a_strict_comparison_are_rows(rt: HostRuntime) -> Resu
     for (row, (kind, coefs, constant)) in rows.as_slice().iter().zip(expected) {
         assert!(rt; is_row(row, kind, coefs, constant));
     }
+    Ok(())
+}
+
+// The one parameter `n`.
+fn params(alloc: Global) -> Result<Params, SpaceFault>
+    ensures { IfOk result IsParameterList }
+{
+    let mut names = Vec::new(alloc);
+    names.push(Name::new(alloc, "n")?)?;
+    Params::new(alloc, names)
+}
+
+// `n >= i + 1`, over `n`, `i` and `j`.
+fn row(alloc: Global, meter: &Meter) -> Result<Row, AllocError>
+    requires { meter.now.bits ≡ 8 }
+    ensures formed { IfOk result (IsWellFormed 3) }
+    ensures within { IfOk result (IsRowWithin meter.now) }
+{
+    let coefs = Coefs::from_slice(alloc, &[Int::ONE, Int::new(-1), Int::ZERO])?;
+    Ok(Row::new(RowKind::AtLeast, coefs, Int::new(-1), Int::ONE))
+}
+
+// The system of that row.
+fn system(alloc: Global) -> Result<System, Fail>
+    ensures formed { IfOk result (λ system. All (IsWellFormed system.columns) system.rows) }
+    ensures normal { IfOk result (λ system. IsNormal system.rows) }
+{
+    let mut meter = Meter::new(8, 1);
+    let mut rows = Rows::new(alloc);
+    rows.push(row(alloc, &meter)?)?;
+    let system = normalise(alloc, System { columns: 3, rows }, &mut meter)?;
+    Ok(system.ok_or("it never holds")?)
+}
+
+// `S[i, j] : n >= i + 1`.
+fn piece(alloc: Global, params: &Params) -> Result<Piece, Fail>
+    ensures { IfOk result (IsPieceOf params.now) }
+{
+    let space = Space::set(Shape::leaf(alloc, Some(Name::new(alloc, "S")?), 2)?)?;
+    let system = system(alloc)?;
+    if system.columns != params.len() + space.width() as usize {
+        return Err("other columns".into());
+    }
+    Ok(Piece { space, system })
+}
+
+// `[n] -> { S[i, j] : n >= i + 1 }`.
+fn value(alloc: Global) -> Result<Value, Fail> {
+    let params = params(alloc)?;
+    let mut pieces = Vec::new(alloc);
+    pieces.push(piece(alloc, &params)?)?;
+    Ok(Value::from_normal(params, pieces))
+}
+
+// Whether the piece is `S[i, j] : n >= i + 1`, over `n`.
+fn is_piece(alloc: Global, piece: &Piece) -> Result<bool, AllocError> {
+    let [row] = piece.system.rows.as_slice() else {
+        return Ok(false);
+    };
+    let is_space = piece.space.text(alloc)?.as_str() == "S[2]";
+    Ok(is_space && piece.system.columns == 3 && is_row(row, RowKind::AtLeast, [1, -1, 0], -1))
+}
+
+// Whether the value declares `n` alone.
+fn declares_n(alloc: Global, value: &Value) -> Result<bool, AllocError> {
+    let place = value.params().position(&Name::new(alloc, "n")?);
+    Ok(value.params().len() == 1 && place == Some(0))
+}
+
+#[test]
+fn a_copied_value_is_the_same(rt: HostRuntime) -> Result<(), Fail> {
+    let alloc = rt.alloc();
+    let copy = value(alloc)?.copy(alloc)?;
+    assert!(rt; declares_n(alloc, &copy)?);
+    assert_eq!(rt; copy.pieces().len(), 1);
+    for piece in copy.pieces() {
+        assert!(rt; is_piece(alloc, piece)?);
+        assert!(rt; is_piece(alloc, &piece.copy(alloc)?)?);
+    }
+    Ok(())
+}
+
+#[test]
+fn a_copied_empty_value_is_empty(rt: HostRuntime) -> Result<(), Fail> {
+    let alloc = rt.alloc();
+    let copy = Value::empty(alloc, params(alloc)?).copy(alloc)?;
+    assert!(rt; declares_n(alloc, &copy)?);
+    assert!(rt; copy.pieces().is_empty());
     Ok(())
 }

@@ -1,12 +1,13 @@
-//! The plain program beside the one that works in place, on many small systems, and both beside examples made by hand.
+//! The plain program beside the one that works in place, on many small systems, and both beside examples made by hand; what two
+//! systems have together, and the negations of rows.
 
 ghost use Rattle.std.specs.Prelude.{◌≡◌, ◌<◌, IfOk, unsigned_abs};
 ghost use Rattle.isl_piece.specs.Row.{HasDivisor, IsRowWithin, IsWellFormed};
 ghost use Rattle.isl_piece.specs.System.{IsSystemWithin};
 
 use crate::normal_system;
-use isl_meter::{Int, Meter};
-use isl_piece::{Coefs, Row, RowKind, Rows, System, normalise};
+use isl_meter::{Cut, Int, Meter};
+use isl_piece::{Coefs, Row, RowKind, Rows, System, meet, negate, normalise};
 use std::alloc::{AllocError, Global};
 use std::test::Fail;
 
@@ -265,5 +266,81 @@ fn agree_on_pairs(rt: HostRuntime) -> Result<(), Fail> {
             }
         }
     }
+    Ok(())
+}
+
+/// The system where both lists of rows hold.
+fn met(alloc: Global, a: &[Sample], b: &[Sample]) -> Result<System, AllocError> {
+    let meter = Meter::new(8, 1);
+    let a = System {
+        columns: 2,
+        rows: system(alloc, a, &meter)?.rows,
+    };
+    let b = System {
+        columns: 2,
+        rows: system(alloc, b, &meter)?.rows,
+    };
+    meet(alloc, &a, &b)
+}
+
+/// The first rows, with the second behind them.
+fn appended(alloc: Global, a: &[Sample], b: &[Sample]) -> Result<System, AllocError> {
+    let meter = Meter::new(8, 1);
+    let mut rows = system(alloc, a, &meter)?.rows;
+    rows.append(alloc, &system(alloc, b, &meter)?.rows)?;
+    Ok(System { columns: 2, rows })
+}
+
+/// The rows of which one holds where the row does not.
+fn negated(alloc: Global, sample: Sample) -> Result<System, Cut> {
+    let mut meter = Meter::new(8, 1);
+    let row = row(alloc, sample, &meter)?;
+    let rows = negate(alloc, &row, &mut meter)?;
+    Ok(System { columns: 2, rows })
+}
+
+/// Whether the system has these rows over the two columns.
+fn has_rows(alloc: Global, found: System, rows: &[Sample]) -> Result<bool, AllocError> {
+    let wanted = system(alloc, rows, &Meter::new(8, 1))?;
+    Ok(is_same(&Some(found), &Some(wanted)))
+}
+
+#[test]
+fn rows_meet_in_order(rt: HostRuntime) -> Result<(), Fail> {
+    let alloc = rt.alloc();
+    // i >= 1, n = i, (i + 1) mod 3 = 0, i >= 1: of the rows before a place and those behind it
+    let rows = [
+        at_least(0, 1, -1),
+        zero(1, -1, 0),
+        divides(3, 1, 1),
+        at_least(0, 1, -1),
+    ];
+    for at in 0..5 {
+        let (a, b) = rows.split_at(at);
+        assert!(rt; has_rows(alloc, met(alloc, a, b)?, &rows)?, "{at}");
+        assert!(rt; has_rows(alloc, appended(alloc, a, b)?, &rows)?, "{at}");
+    }
+    Ok(())
+}
+
+#[test]
+fn rows_are_negated(rt: HostRuntime) -> Result<(), Fail> {
+    let alloc = rt.alloc();
+    for (given, wanted) in [
+        // i >= 3 to 2 >= i, and 9 >= i to i >= 10
+        (at_least(0, 1, -3), at_least(0, -1, 2)),
+        (at_least(0, -1, 9), at_least(0, 1, -10)),
+        // n >= i + 1 to i >= n
+        (at_least(1, -1, -1), at_least(-1, 1, 0)),
+        // (i + 1) mod 3 = 0 and (2i + 1) mod 4 != 0 to their opposites
+        (divides(3, 1, 1), not_divides(3, 1, 1)),
+        (not_divides(4, 2, 1), divides(4, 2, 1)),
+    ] {
+        let found = negated(alloc, given)?;
+        assert!(rt; has_rows(alloc, found, &[wanted])?, "{given:?}");
+    }
+    // n = i to n >= i + 1 and i >= n + 1
+    let sides = [at_least(1, -1, -1), at_least(-1, 1, -1)];
+    assert!(rt; has_rows(alloc, negated(alloc, zero(1, -1, 0))?, &sides)?);
     Ok(())
 }

@@ -13,6 +13,9 @@ pub mod FormedTree
 pub mod RoundTripLaws
 pub mod WithinTree
 pub mod QuietNames
+pub mod PrintedTokens
 pub mod AcceptedTokens
+pub mod TakenTokens
 pub mod AcceptedLaws
 pub mod LoweredLaws
+pub mod TakenLaws

@@ -1,17 +1,17 @@
 -- The value of a plain literal is one that a plain literal can write.
 use mathlib.Core.Former.{Count}
-use Rattle.std.proofs.Common.{◌≡◌, inl, inr, ◌≤◌, ◌+◌, ◌-◌, ◌^◌, ℕ, ℤ, Bool, true, false, List, [], ◌∷◌, Option, Some, None, option_map, IfSome, length, get_or, sym, subst, refl, arith, pow_mono, unsigned_abs}
+use Rattle.std.proofs.Common.{◌≡◌, inl, inr, ◌≤◌, ◌+◌, ◌-◌, ◌^◌, ℕ, ℤ, Bool, true, false, List, [], ◌∷◌, Option, Some, None, option_map, IfSome, length, get_or, sym, subst, refl, arith, pow_mono}
 use Rattle.std.specs.Prelude.{◌&&◌, ◌||◌, is_some, is_none}
 use Rattle.std.specs.List.{All, filter_map, cons_option}
 use Rattle.std.proofs.lemmas.Bool.{and_parts, false≢true}
 use Rattle.std.proofs.lemmas.List.Elements.{All-nil, All-cons, All-head, All-tail, All-append, All-map}
 use Rattle.isl_math.proofs.ListLaws.{All-pass}
-use Rattle.isl_meter.specs.Gauge.{Gauge, IsWithin}
+use Rattle.isl_meter.specs.Gauge.{Gauge}
 use Rattle.isl_space.specs.SpaceForm.{SpaceForm, IsWellFormedSpace}
 use Rattle.isl_piece.specs.declared.constraint.RowKind.{RowKind}
 use Rattle.isl_piece.specs.declared.constraint.RowKind.TheVariants.{Zero, AtLeast, Divides, NotDivides}
 use Rattle.isl_piece.specs.declared.constraint.Row.{Row}
-use Rattle.isl_piece.specs.Row.{IsRowWithin, IsRowUpTo, IsWellFormed}
+use Rattle.isl_piece.specs.Row.{IsRowUpTo, IsWellFormed}
 use Rattle.isl_piece.specs.Normal.{normal_form, normal_rows, IsNormal}
 use Rattle.isl_piece.proofs.NormalCases.{normal_zero_by, normal_at_least_by}
 use Rattle.isl_piece.proofs.NormalLaws.{normal_rows_all, normal_rows_well_formed, normal_rows_normal}
@@ -33,7 +33,9 @@ use Rattle.isl_lower.specs.Linear.{Place}
 use Rattle.isl_lower.specs.Rows.{Written, kind_of_compare, equation, written_entries, written_links, written_chains, written_formula, written_body, written_piece, piece_width, piece_place, added, rows_written}
 use Rattle.isl_lower.specs.Value.{IsWellFormedLiteral, piece_lowered, value_lowered, IsValueWithin}
 use Rattle.isl_lower.proofs.ValueLaws.{written_formed, columns_are}
-use Rattle.isl_readback.specs.Written.{IsComparison, HasComparisons, HasWritableNumbers, IsSet, IsMap, IsUniform, IsLeaf, IsFlatSpace, IsFlat}
+use Rattle.isl_eval.specs.Machine.{HasNumbersUpTo}
+use Rattle.isl_eval.proofs.Causes.{value_up_to}
+use Rattle.isl_readback.specs.Written.{IsComparison, HasComparisons, IsSet, IsMap, IsUniform, IsLeaf, IsFlatSpace, IsFlat}
 use Rattle.isl_readback.specs.RoundTrip.{IsWritableValue}
 
 -- ---- each row that is written is an equation or an inequality
@@ -199,27 +201,28 @@ kept literal plain formed = record {
         let rows = written_formed params piece in
         by params piece (normal_rows (rows_written params piece)) space plain_piece (normal_rows_well_formed n (rows_written params piece) rows) (normal_rows_normal n (rows_written params piece) rows)
 
--- a number within 127 bits can be written
-writable_number : (g : Gauge) (z : ℤ) → g.bits ≤ 127 → IsWithin g z → unsigned_abs z ≤ too_great - 1
-writable_number g z bits within =
-    let large : 2 ^ g.bits ≤ 2 ^ 127 = pow_mono bits in
-    omega (arith, large, within)
-
-writable_row : (g : Gauge) (r : Row) → g.bits ≤ 127 → IsRowWithin g r → IsRowUpTo (too_great - 1) r
-writable_row g r bits within = record {
-  coefs = λ i d low. writable_number g (get_or r.coefs i d) bits (within.coefs i d low);
-  constant = writable_number g r.constant bits within.constant;
-  k = writable_number g r.k bits within.k;
+-- numbers up to a limit are up to a greater one
+row_more : (m n : ℕ) (r : Row) → m ≤ n → IsRowUpTo m r → IsRowUpTo n r
+row_more m n r less small = record {
+  coefs = λ i d low. let h = small.coefs i d low in omega (arith, less, h);
+  constant = let h = small.constant in omega (arith, less, h);
+  k = let h = small.k in omega (arith, less, h);
 }
 
-numbers : (g : Gauge) (value : KeptValue) → g.bits ≤ 127 → IsValueWithin g value → HasWritableNumbers value
-numbers g value bits within i d low = λ j e inside. writable_row g (get_or (get_or value.pieces i d).rows j e) bits (within i d low j e inside)
+numbers_more : (m n : ℕ) (value : KeptValue) → m ≤ n → HasNumbersUpTo m value → HasNumbersUpTo n value
+numbers_more m n value less small i d low = λ j e inside. row_more m n (get_or (get_or value.pieces i d).rows j e) less (small i d low j e inside)
+
+pub shown_writable : (g : Gauge) (literal : Literal) → g.bits ≤ 127 → is_plain literal ≡ true → IsWellFormedLiteral literal → are_alike literal.pieces ≡ true → HasNumbersUpTo (2 ^ g.bits - 1) (value_lowered literal)
+    → IsWritableValue (value_lowered literal)
+shown_writable g literal bits plain formed alike small =
+    let large : 2 ^ g.bits ≤ 2 ^ 127 = pow_mono bits in
+    record {
+      kept = kept literal plain formed;
+      comparisons = comparisons literal plain;
+      numbers = numbers_more (2 ^ g.bits - 1) (too_great - 1) (value_lowered literal) (omega (arith, large)) small;
+      uniform = uniform literal alike;
+      flat = flat literal plain;
+    }
 
 pub lowered_writable : (g : Gauge) (literal : Literal) → g.bits ≤ 127 → is_plain literal ≡ true → IsWellFormedLiteral literal → are_alike literal.pieces ≡ true → IsValueWithin g (value_lowered literal) → IsWritableValue (value_lowered literal)
-lowered_writable g literal bits plain formed alike within = record {
-  kept = kept literal plain formed;
-  comparisons = comparisons literal plain;
-  numbers = numbers g (value_lowered literal) bits within;
-  uniform = uniform literal alike;
-  flat = flat literal plain;
-}
+lowered_writable g literal bits plain formed alike within = shown_writable g literal bits plain formed alike (value_up_to g (value_lowered literal) within)

@@ -49,7 +49,7 @@ tree_spelled value kept numbers uniform =
       record { depth = suc (suc most_leaves); spelled = (outline_spelled most_leaves value kept numbers deep, tree_formed value kept uniform) },
     )
 
-some_same : (a b : List Token) → Some a ≡ Some b → a ≡ b
+pub some_same : (a b : List Token) → Some a ≡ Some b → a ≡ b
 some_same a b e = cc
 
 -- and no other tree
@@ -99,7 +99,7 @@ tree_well_formed value kept =
     }
 
 -- ---- all together
-reads_as : (value : KeptValue) → IsWritableValue value → ReadsAs (printed_tree value) value
+pub reads_as : (value : KeptValue) → IsWritableValue value → ReadsAs (printed_tree value) value
 reads_as value writable =
     let rows = tree_kept value writable.kept writable.comparisons in
     record {

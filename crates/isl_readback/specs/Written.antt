@@ -1,10 +1,9 @@
 -- The value that a plain literal writes.
-use Rattle.std.specs.Prelude.{ℕ, ◌-◌, ◌⊎◌, List, All, map}
+use Rattle.std.specs.Prelude.{◌-◌, ◌⊎◌, List, All, map}
 use Rattle.isl_space.specs.Name.{Name}
 use Rattle.isl_space.specs.Form.{Form, leaf, pair}
 use Rattle.isl_piece.specs.declared.constraint.RowKind.{RowKind}
 use Rattle.isl_piece.specs.declared.constraint.RowKind.TheVariants.{Zero, AtLeast, Divides, NotDivides}
-use Rattle.isl_piece.specs.Row.{IsRowUpTo}
 use Rattle.isl_space.specs.SpaceForm.{SpaceForm, set_of, map_of}
 use Rattle.isl_token.specs.Number.{too_great}
 use Rattle.isl_union.specs.KeptValue.{KeptPiece, KeptValue}
@@ -12,6 +11,7 @@ use Rattle.isl_tree.specs.declared.tree.PieceTree.{PieceTree}
 use Rattle.isl_tree.specs.declared.tree.Literal.{Literal}
 use Rattle.isl_tree.specs.Literal.{space_of_piece}
 use Rattle.isl_lower.specs.Rows.{rows_written}
+use Rattle.isl_eval.specs.Machine.{HasNumbersUpTo}
 
 -- the piece's space, and the rows that its entries and comparisons write
 abbrev pub piece_written : List Name → PieceTree → KeptPiece
@@ -30,10 +30,6 @@ IsComparison NotDivides = ⊥
 -- each row of the value is one
 abbrev pub HasComparisons : KeptValue → Type 0
 HasComparisons value = All (λ piece. All (λ row. IsComparison row.kind) piece.rows) value.pieces
-
--- each number of the value has at most this magnitude
-abbrev pub HasNumbersUpTo : ℕ → KeptValue → Type 0
-HasNumbersUpTo limit value = All (λ piece. All (IsRowUpTo limit) piece.rows) value.pieces
 
 -- each number of the value has a magnitude that a literal may write
 abbrev pub HasWritableNumbers : KeptValue → Type 0

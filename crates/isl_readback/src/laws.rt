@@ -1,7 +1,7 @@
 //! What holds of printed values that are read again. These functions do nothing: their contracts are the laws.
 
-ghost use Rattle.std.specs.Prelude.{◌≡◌, ◌<◌, ◌≤◌, ℕ, true};
-ghost use Rattle.isl_meter.specs.Gauge.{Gauge};
+ghost use Rattle.std.specs.Prelude.{◌≡◌, ◌<◌, ◌≤◌, ℕ, List, true};
+ghost use Rattle.isl_meter.specs.Gauge.{Gauge, limit_of};
 ghost use Rattle.isl_union.specs.KeptValue.{KeptValue, IsKeptValue};
 ghost use Rattle.isl_print.specs.OrderedValue.{ordered};
 ghost use Rattle.isl_print.specs.Printed.{printed};
@@ -12,10 +12,13 @@ ghost use Rattle.isl_tree.specs.declared.tree.Literal.{Literal};
 ghost use Rattle.isl_tree.specs.Known.{literal_is_known};
 ghost use Rattle.isl_tree.specs.Plain.{is_plain};
 ghost use Rattle.isl_lower.specs.Value.{IsWellFormedLiteral, IsValueWithin, value_lowered};
+ghost use Rattle.isl_eval.specs.Bindings.{Bindings};
+ghost use Rattle.isl_eval.specs.Machine.{HasNumbersUpTo, Answers};
 ghost use Rattle.isl_readback.specs.Accepted.{HasQuietNames, IsAccepted};
 ghost use Rattle.isl_readback.specs.Tree.{printed_tree};
-ghost use Rattle.isl_readback.specs.Written.{HasComparisons, HasNumbersUpTo, HasWritableNumbers, IsFlat, IsUniform, value_written};
+ghost use Rattle.isl_readback.specs.Written.{HasComparisons, HasWritableNumbers, IsFlat, IsUniform, value_written};
 ghost use Rattle.isl_readback.specs.RoundTrip.{IsWritableValue, ReadsBack, Writes};
+ghost use Rattle.isl_readback.specs.TakenAgain.{IsTakenAgain};
 
 /// The text of a value writes its printed tree.
 pub fn printed_tree_is_spelled()
@@ -63,4 +66,11 @@ pub fn printed_is_accepted()
 pub fn lowered_is_writable()
     ensures { (gauge : Gauge) (literal : Literal) → gauge.bits ≤ 127 → is_plain literal ≡ true → IsWellFormedLiteral literal → are_alike literal.pieces ≡ true
         → IsValueWithin gauge (value_lowered literal) → IsWritableValue (value_lowered literal) }
+{}
+
+/// What the program answers, it takes again: the text of a line that shows a literal is a statement, which shows a literal with
+/// the same elements, and whose answer is the same line.
+pub fn shown_is_taken_again()
+    ensures { (gauge : Gauge) (state : Bindings) (bytes : List ℕ) (next : Bindings) (answer : List ℕ) → gauge.bits ≤ 127
+        → (answered : Answers (limit_of gauge) state bytes next answer) → IsTakenAgain (limit_of gauge) answered.statement next answer }
 {}

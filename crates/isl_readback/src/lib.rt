@@ -6,4 +6,5 @@ mod laws;
 pub use laws::{
     lowered_is_writable, printed_is_accepted, printed_tree_is_kept, printed_tree_is_known,
     printed_tree_is_plain, printed_tree_is_spelled, printed_tree_is_within, round_trip,
+    shown_is_taken_again,
 };

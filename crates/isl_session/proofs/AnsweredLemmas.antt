@@ -1,28 +1,37 @@
 -- From what the session and the ends say to what a run has done.
 use Rattle.std.proofs.Common.{◌≡◌, ℕ, ◌+◌, ◌≤◌, List, [], ◌∷◌, ◌++◌, length, take, true, refl, sym, ◌∙◌, ap, subst, arith, Option, None, Some, Result, Ok, Err}
 use Rattle.std.specs.List.{concat}
-use Rattle.std.specs.Result.{OnOk, OnErr}
+use Rattle.std.specs.Result.{OnOk, OnErr, IfErr}
+use mathlib.Core.Logic.{inl, inr}
 use Rattle.std.specs.Io.KnownBytes.{Appends, Consumes, IsAtEnd}
 use Rattle.std.proofs.lemmas.List.{append-nil, append_assoc, length-append}
 use Rattle.isl_math.specs.Count.{Rose}
-use Rattle.isl_meter.specs.Gauge.{Gauge, IsKept, limit_of}
+use Rattle.isl_meter.specs.Gauge.{Gauge, limit_of}
 use Rattle.isl_stmt.specs.Script.{statements, rest_of, ends, IsBlank}
 use Rattle.isl_text.specs.declared.refusal.Refusal.{Refusal}
 use Rattle.isl_eval.specs.Machine.{Refuses}
 use Rattle.isl_session.specs.declared.fault.Fault.{Fault}
 use Rattle.isl_session.specs.declared.TheConstants.{SCRIPT_MAX}
 use Rattle.isl_session.specs.Place.{Place, at_words, in_statement, past_limit, at_end, at_read, at_write, anywhere, place_of}
-use Rattle.isl_session.specs.View.{View, BreaksIn, Fed, Stopped, fresh}
+use Rattle.isl_session.specs.View.{View, BreaksIn, Fed, IsMeterAt, Stopped, fresh}
 use Rattle.isl_session.specs.Status.{StatusView}
 use Rattle.isl_session.specs.Lines.{fault_line}
-use Rattle.isl_session.specs.Run.{Answered, Ended, Halts, HasCause, IsScriptOf, OfFirst, Outside, Progress, Tells, Wrote, number_at}
-use Rattle.isl_session.proofs.MeterLemmas.{kept_refl}
+use Rattle.isl_session.specs.Run.{Answered, Ended, Halts, HasCause, IsReadThrough, IsScriptOf, OfFirst, Outside, Progress, Tells, Wrote, number_at}
 use Rattle.isl_session.proofs.AheadLemmas.{ahead_of, statements-readable, ahead_end, ahead_full, ahead_first}
 
 -- what was told, unless telling failed
 pub tells_of : {T E : Type 0} (r : Result T E) (A R : Type 0) → OnOk r A → OnErr r R → (R → ⊥) → A
 tells_of (Ok x) A R ok err not = ok
 tells_of (Err e) A R ok err not = absurd (not err)
+
+pub err_of : {T E : Type 0} {P Q : E → Type 0} (r : Result T E) → ((e : E) → P e → Q e) → IfErr r P → IfErr r Q
+err_of (Ok x) on err = tt
+err_of (Err e) on err = on e err
+
+-- no more is read of a script than one byte behind its last
+pub few_read : (left : Option (List ℕ)) (taken : List ℕ) → IsReadThrough left taken → length taken ≤ SCRIPT_MAX + 1
+few_read left taken (inl end) = omega (arith, end.1)
+few_read left taken (inr full) = omega (arith, full)
 
 -- the parts of a status
 module _ (status : StatusView) (refusal : Option Refusal) (meter : Gauge) (is : status ≡ record { refusal = refusal; meter = Some meter }) where
@@ -39,15 +48,14 @@ fault_of statement refusal = record { statement = statement; refusal = refusal }
 abbrev EndedAt : (first : Gauge) (script : List ℕ) → Progress first script → List ℕ → List ℕ → Gauge → Outside → Outside → Refusal → Place → Type 0
 EndedAt first script progress taken gained now old new refusal place =
     HasCause first script progress taken now old new refusal place × Wrote progress.answers gained place
-    × Tells old new (fault_line (fault_of (number_at progress.answers place) refusal))
+    × Tells old new (fault_line (fault_of (number_at progress.answers place) refusal)) × IsMeterAt place progress.meter now
 
 -- A run that took this front of a script, and after which the session and its meter are so.
 module _ (first : Gauge) (script : List ℕ) (old new : Outside) (status : StatusView) (session : View) (meter_is : status.meter ≡ Some session.meter)
     (taken left : List ℕ) (script_is : script ≡ taken ++ left) (told : IsScriptOf old.left taken script) (took : Consumes old.left new.left taken) (few : length taken ≤ SCRIPT_MAX + 1)
     (gained : List ℕ) (wrote : Appends old.written new.written gained) where
-  assemble : (refusal : Option Refusal) → status.refusal ≡ refusal → (progress : Progress first script) → IsKept progress.meter session.meter → session.meter.units ≡ progress.meter.units
-      → Ended first script progress taken gained session.meter old new refusal → Answered first script old new status
-  assemble refusal is progress kept units ended = record {
+  assemble : (refusal : Option Refusal) → status.refusal ≡ refusal → (progress : Progress first script) → Ended first script progress taken gained session.meter old new refusal → Answered first script old new status
+  assemble refusal is progress ended = record {
     taken = taken;
     left = left;
     script_is = script_is;
@@ -59,8 +67,6 @@ module _ (first : Gauge) (script : List ℕ) (old new : Outside) (status : Statu
     wrote = wrote;
     meter = session.meter;
     meter_is = meter_is;
-    kept = kept;
-    units = units;
     ended = subst (λ (r : Option Refusal). Ended first script progress taken gained session.meter old new r) (sym is) ended;
   }
 
@@ -82,17 +88,17 @@ module _ (first : Gauge) (script : List ℕ) (old new : Outside) (status : Statu
     }
 
     -- how it ended is left to say
-    halted : (refusal : Refusal) → status.refusal ≡ Some refusal → (place : Place) → place_of refusal ≡ place → IsKept at_front.meter session.meter → session.meter.units ≡ at_front.meter.units
+    halted : (refusal : Refusal) → status.refusal ≡ Some refusal → (place : Place) → place_of refusal ≡ place
         → EndedAt first script progress taken gained session.meter old new refusal place → Answered first script old new status
-    halted refusal is place at kept units ended =
-        assemble (Some refusal) is progress kept units (subst (λ (p : Place). EndedAt first script progress taken gained session.meter old new refusal p) (sym at) ended)
+    halted refusal is place at ended =
+        assemble (Some refusal) is progress (subst (λ (p : Place). EndedAt first script progress taken gained session.meter old new refusal p) (sym at) ended)
 
   -- the whole script was taken and answered
   pub answered_whole : status.refusal ≡ None → left ≡ [] → IsAtEnd new.left → (answers : List (List ℕ)) → gained ≡ concat answers → Fed (fresh first) taken answers session → IsBlank session.rest
       → Answered first script old new status
   answered_whole is none end answers gained_is fed blank =
       let whole : taken ≡ script = sym (script_is ∙ ap (λ (l : List ℕ). taken ++ l) none ∙ append-nil taken) in
-      assemble None is (progress taken left script_is answers session fed) (kept_refl session.meter) refl (
+      assemble None is (progress taken left script_is answers session fed) (
         record {
           answered = ahead_end taken left none;
           whole = whole;
@@ -101,6 +107,7 @@ module _ (first : Gauge) (script : List ℕ) (old new : Outside) (status : Statu
           end = end;
         },
         gained_is,
+        refl,
       )
 
   -- a refusal
@@ -128,8 +135,8 @@ module _ (first : Gauge) (script : List ℕ) (old new : Outside) (status : Statu
       halted_at : (place : Place) → place_of refusal ≡ place → HasCause first script so_far taken session.meter old new refusal place → Wrote answers gained place
           → statement ≡ number_at answers place → Answered first script old new status
       halted_at place at cause written k =
-          halted stopped.front (stopped.byte ∷ more) split_at answers stopped.at_front stopped.fed refusal status_is place at stopped.meter stopped.units
-          (cause, written, line_for (number_at answers place) k)
+          halted stopped.front (stopped.byte ∷ more) split_at answers stopped.at_front stopped.fed refusal status_is place at
+          (cause, written, line_for (number_at answers place) k, subst (λ (p : Place). IsMeterAt p stopped.at_front.meter session.meter) at stopped.meter)
 
       refused_in_statement : place_of refusal ≡ in_statement → Answered first script old new status
       refused_in_statement at =
@@ -160,17 +167,18 @@ module _ (first : Gauge) (script : List ℕ) (old new : Outside) (status : Statu
     answered_up_to at_read at none_left h =
         let answers = h.2.0 in
         let fed = h.2.2 in
-        halted taken left script_is answers session fed refusal status_is at_read at (kept_refl session.meter) refl (
+        halted taken left script_is answers session fed refusal status_is at_read at (
           (h.0, refl, omega (arith, fed.taken, fed.within)),
           h.2.1,
           line_for (length answers + 1) (omega (arith, fed.answered, h.1)),
+          refl,
         )
     answered_up_to at_write at none_left h =
         let front = h.2.0 in
         let answers = h.2.2 in
         let fed = h.2.5 in
-        halted front (h.2.1 ++ left) (script_is ∙ ap (λ (l : List ℕ). l ++ left) h.2.3 ∙ append_assoc front h.2.1 left) answers session fed refusal status_is at_write at (kept_refl session.meter) refl
-        (h.0, h.2.4, line_for (length answers) (omega (arith, fed.answered, h.1)))
+        halted front (h.2.1 ++ left) (script_is ∙ ap (λ (l : List ℕ). l ++ left) h.2.3 ∙ append_assoc front h.2.1 left) answers session fed refusal status_is at_write at
+        (h.0, h.2.4, line_for (length answers) (omega (arith, fed.answered, h.1)), refl)
     answered_up_to at_end at none_left h =
         let answers = h.1.0 in
         let before = h.1.1 in
@@ -179,7 +187,7 @@ module _ (first : Gauge) (script : List ℕ) (old new : Outside) (status : Statu
         let whole : taken ≡ script = sym (script_is ∙ ap (λ (l : List ℕ). taken ++ l) none ∙ append-nil taken) in
         let rest : before.rest ≡ rest_of script = fed.rest ∙ ap rest_of whole in
         let meter = ap (λ (v : View). v.meter) h.1.6 in
-        halted taken left script_is answers before fed refusal status_is at_end at (subst (λ (g : Gauge). IsKept before.meter g) (sym meter) (kept_refl before.meter)) (ap (λ (g : Gauge). g.units) meter) (
+        halted taken left script_is answers before fed refusal status_is at_end at (
           (
             ahead_end taken left none,
             whole,
@@ -189,4 +197,5 @@ module _ (first : Gauge) (script : List ℕ) (old new : Outside) (status : Statu
           ),
           h.1.2,
           line_for (length answers + 1) (omega (arith, fed.answered, h.1.5)),
+          meter,
         )

@@ -1,9 +1,9 @@
 -- How a run over a whole script ends, and what it leaves.
-use Rattle.std.specs.Prelude.{◌≡◌, ℕ, ◌+◌, ◌<◌, ◌≤◌, List, [], ◌∷◌, ◌++◌, length, take, Option, Some, None}
+use Rattle.std.specs.Prelude.{◌≡◌, ◌⊎◌, ℕ, ◌+◌, ◌<◌, ◌≤◌, List, [], ◌∷◌, ◌++◌, length, take, Option, Some, None}
 use Rattle.std.specs.List.{concat}
 use Rattle.std.specs.Io.KnownBytes.{Appends, Consumes, IsAtEnd}
 use Rattle.isl_math.specs.Count.{Rose}
-use Rattle.isl_meter.specs.Gauge.{Gauge, IsKept, limit_of}
+use Rattle.isl_meter.specs.Gauge.{Gauge, limit_of}
 use Rattle.isl_stmt.specs.Script.{statements, rest_of, readable, IsBlank}
 use Rattle.isl_text.specs.declared.refusal.Refusal.{Refusal}
 use Rattle.isl_eval.specs.Bindings.{Bindings, unbound}
@@ -11,7 +11,7 @@ use Rattle.isl_eval.specs.Machine.{Refuses, Run}
 use Rattle.isl_session.specs.declared.fault.Fault.{Fault}
 use Rattle.isl_session.specs.declared.TheConstants.{SCRIPT_MAX}
 use Rattle.isl_session.specs.Place.{Place, at_words, in_statement, past_limit, at_end, at_read, at_write, anywhere, place_of}
-use Rattle.isl_session.specs.View.{View, Carries, Fed, Stopped}
+use Rattle.isl_session.specs.View.{View, Carries, Fed, IsMeterAt, Stopped}
 use Rattle.isl_session.specs.Status.{StatusView}
 use Rattle.isl_session.specs.Lines.{fault_line}
 
@@ -38,6 +38,14 @@ Halts read_failed write_failed ended old taken gained new fault at_end =
 Halts read_failed write_failed ended old taken gained new fault in_statement = (answers : List (List ℕ)) × (gained ≡ concat answers) × Stopped old taken answers new fault
 Halts read_failed write_failed ended old taken gained new fault past_limit = (answers : List (List ℕ)) × (gained ≡ concat answers) × Stopped old taken answers new fault
 Halts read_failed write_failed ended old taken gained new fault anywhere = (answers : List (List ℕ)) × (gained ≡ concat answers) × Stopped old taken answers new fault
+
+-- A source that has this left, and that this much was read of, is at its end, or no more may be read of a script.
+abbrev pub IsReadThrough : Option (List ℕ) → List ℕ → Type 0
+IsReadThrough left taken = IsAtEnd left × (length taken ≤ SCRIPT_MAX) ⊎ length taken ≡ SCRIPT_MAX + 1
+
+-- the whole of what a source had left was read, or as much as may be read of a script
+abbrev pub IsReadWhole : Option (List ℕ) → Option (List ℕ) → Type 0
+IsReadWhole old new = (taken : List ℕ) × Consumes old new taken × IsReadThrough new taken
 
 -- The two ends of a program, and where it tells of a fault, as one moment sees them.
 pub record Outside : Type 0 where
@@ -107,11 +115,13 @@ number_at answers place = length answers + 1
 abbrev pub Tells : Outside → Outside → List ℕ → Type 0
 Tells old new line = (Rose old.tells new.tells → ⊥) → Appends old.told new.told line
 
+-- Why a run ended, what it wrote and what it told, and the meter as it left it.
 abbrev pub Ended : (first : Gauge) (script : List ℕ) → Progress first script → List ℕ → List ℕ → Gauge → Outside → Outside → Option Refusal → Type 0
-Ended first script progress taken gained now old new None = IsDone script progress.ahead taken new × (gained ≡ concat progress.answers)
+Ended first script progress taken gained now old new None = IsDone script progress.ahead taken new × (gained ≡ concat progress.answers) × (now ≡ progress.meter)
 Ended first script progress taken gained now old new (Some refusal) =
     HasCause first script progress taken now old new refusal (place_of refusal) × Wrote progress.answers gained (place_of refusal)
     × Tells old new (fault_line (record { statement = number_at progress.answers (place_of refusal); refusal = refusal }))
+    × IsMeterAt (place_of refusal) progress.meter now
 
 -- the script is what the source tells that it has left; of a source that does not tell, it is what was read
 abbrev pub IsScriptOf : Option (List ℕ) → List ℕ → List ℕ → Type 0
@@ -132,6 +142,4 @@ pub record Answered (first : Gauge) (script : List ℕ) (old new : Outside) (sta
   pub wrote : Appends old.written new.written gained
   pub meter : Gauge
   pub meter_is : status.meter ≡ Some meter
-  pub kept : IsKept progress.meter meter
-  pub units : meter.units ≡ progress.meter.units
   pub ended : Ended first script progress taken gained meter old new status.refusal

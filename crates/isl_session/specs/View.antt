@@ -60,12 +60,18 @@ BreaksIn at_end view byte now refusal = ⊥
 BreaksIn at_read view byte now refusal = ⊥
 BreaksIn at_write view byte now refusal = ⊥
 
--- A session is refused at a byte. Only its meter changes, whose limit and budget stay, and no count of it falls.
+-- The meter at a refusal, after that of the statements answered. Only the work on a statement, which want of memory may end, raises
+-- a count; limit and budget stay, no count falls, and no unit is spent.
+abbrev pub IsMeterAt : Place → Gauge → Gauge → Type 0
+IsMeterAt in_statement before now = IsKept before now × (now.units ≡ before.units)
+IsMeterAt anywhere before now = IsKept before now × (now.units ≡ before.units)
+IsMeterAt place before now = now ≡ before
+
+-- A session is refused at a byte. Only its meter changes.
 pub record IsRefusedAt (old : View) (byte : ℕ) (refusal : Refusal) (new : View) : Type 0 where
   pub breaks : BreaksIn (place_of refusal) old byte new.meter refusal
   pub same : new ≡ record old { meter = new.meter }
-  pub meter : IsKept old.meter new.meter
-  pub units : new.meter.units ≡ old.meter.units
+  pub meter : IsMeterAt (place_of refusal) old.meter new.meter
 
 -- A session took the front of this piece, was refused at the next byte, and has that fault from then on. Nothing else but its
 -- meter changed at that byte.
@@ -79,8 +85,7 @@ pub record Stopped (old : View) (piece : List ℕ) (answers : List (List ℕ)) (
   pub breaks : BreaksIn (place_of fault.refusal) at_front byte new.meter fault.refusal
   pub number : fault.statement ≡ at_front.answered + 1
   pub same : new ≡ record at_front { meter = new.meter; fault = Some fault }
-  pub meter : IsKept at_front.meter new.meter
-  pub units : new.meter.units ≡ at_front.meter.units
+  pub meter : IsMeterAt (place_of fault.refusal) at_front.meter new.meter
 
 -- what a piece does to a session without a fault, and to the text of its answers
 abbrev pub Feeds : View → List ℕ → List ℕ → List ℕ → View → Result (Unit {0}) Fault → Type 0

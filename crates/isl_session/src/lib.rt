@@ -12,10 +12,9 @@ mod write;
 pub use fault::Fault;
 pub use isl_text::refusal::Refusal;
 pub use options::Options;
-pub use program::run;
+pub use program::{refuse_words, run};
 pub use session::Session;
 pub use status::Status;
-pub use write::write_fault;
 
 /// The most bytes of a script that belong to its statements and its rest.
 pub const SCRIPT_MAX: u64 = 1 << 30;

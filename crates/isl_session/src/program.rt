@@ -1,5 +1,5 @@
 // The whole program over a source and two sinks.
-ghost use Rattle.std.specs.Prelude.{◌≡◌, ◌≢◌, ◌+◌, ◌<◌, ◌≤◌, ℕ, List, length, vec_len, Some, None, OnOk, IfErr, IfSome, IsNone, IsSome};
+ghost use Rattle.std.specs.Prelude.{◌≡◌, ◌≢◌, ◌+◌, ◌<◌, ◌≤◌, ℕ, List, [], length, vec_len, Err, Some, None, OnOk, IfErr, IfSome, IsNone, IsSome};
 ghost use Rattle.std.specs.List.{concat};
 ghost use Rattle.std.specs.Io.KnownBytes.{Appends, Consumes, IsAtEnd};
 ghost use Rattle.isl_math.specs.Count.{Rose};
@@ -8,8 +8,8 @@ ghost use Rattle.isl_stmt.specs.Script.{IsBlank};
 ghost use Rattle.isl_session.specs.Choices.{gauge_of, defaults};
 ghost use Rattle.isl_session.specs.Place.{place_of};
 ghost use Rattle.isl_session.specs.View.{Fed, IsReady};
-ghost use Rattle.isl_session.specs.Lines.{usage_line};
-ghost use Rattle.isl_session.specs.Run.{Answered, Halts, outside};
+ghost use Rattle.isl_session.specs.Lines.{fault_line, usage_line};
+ghost use Rattle.isl_session.specs.Run.{Answered, Halts, IsReadThrough, IsReadWhole, outside};
 ghost use Rattle.isl_session.specs.Valid.{IsValidScript, IsDoneOrMemory};
 
 use crate::write::{write_all, write_fault, write_usage};
@@ -60,27 +60,68 @@ fn answer_piece<K: Sink>(
     Ok(())
 }
 
-// How many bytes the next read may take: at most `most`, and no more than one behind the last that a script may
-// have.
-fn room_for(session: &Session, most: usize) -> usize
-    requires { 0 < most }
+// Why a script was not read to its end.
+#[derive(Clone, Copy)]
+enum ReadError {
+    Failed,
+    NoMemory,
+}
+
+// How many bytes the next read may take where `script` was read so far: at most `most`, and no more than one
+// behind the last that a script may have.
+fn room_for(script: &[u8], most: usize) -> usize
+    requires room { 0 < most }
+    requires within { length script.now ≤ SCRIPT_MAX }
     ensures some { 0 < result }
     ensures most { result ≤ most }
-    ensures few { session.now.taken + result ≤ SCRIPT_MAX + 1 }
+    ensures few { length script.now + result ≤ SCRIPT_MAX + 1 }
 {
-    let left = SCRIPT_MAX + 1 - session.taken();
+    let left = SCRIPT_MAX + 1 - script.len() as u64;
     left.min(most as u64) as usize
 }
 
-// Takes what the source has left, in the pieces that it gives.
+// Reads what the source has left, and no more than one byte behind the last that a script may have.
+fn read_all<S: Source>(src: &mut S, buf: &mut [u8], script: &mut Vec<u8>) -> Result<(), ReadError>
+    requires empty { script.old.items ≡ [] }
+    requires room { 0 < length buf.old }
+    ensures ok { OnOk result (Consumes (S.left src.old) (S.left src.new) script.new.items
+        × IsReadThrough (S.left src.new) script.new.items) }
+    ensures failed { result ≡ Err ReadError.Failed
+        → Consumes (S.left src.old) (S.left src.new) script.new.items
+        × (length script.new.items ≤ SCRIPT_MAX)
+        × Rose (S.faults src.old) (S.faults src.new) }
+    ensures no_memory { result ≡ Err ReadError.NoMemory → (taken : List ℕ) × (0 < length taken)
+        × (length taken ≤ SCRIPT_MAX + 1)
+        × Consumes (S.left src.old) (S.left src.new) taken }
+{
+    'reads: while script.len() as u64 <= SCRIPT_MAX {
+        let room = room_for(script, buf.len());
+        let piece = &mut buf[..room];
+        match src.read(piece) {
+            Ok(0) => return Ok(()),
+            Ok(n) => {
+                if script.extend_from_slice(&piece[..n]).is_err() {
+                    return Err(ReadError::NoMemory);
+                }
+            }
+            Err(Failed) => return Err(ReadError::Failed),
+        }
+    }
+    Ok(())
+}
+
+// Reads the whole script, and then takes it. What was read before a read failed is taken too.
 fn answer_all<S: Source, K: Sink>(
     session: &mut Session,
     src: &mut S,
     out: &mut K,
-    text: &mut Vec<u8>,
     buf: &mut [u8],
+    script: &mut Vec<u8>,
+    text: &mut Vec<u8>,
 ) -> Result<(), Fault>
     requires ready { IsReady session.old }
+    requires first { session.old.taken ≡ 0 }
+    requires empty { script.old.items ≡ [] }
     requires room { 0 < length buf.old }
     ensures ok { OnOk result ((taken : List ℕ) × (answers : List (List ℕ))
         × Consumes (S.left src.old) (S.left src.new) taken × IsAtEnd (S.left src.new)
@@ -88,30 +129,26 @@ fn answer_all<S: Source, K: Sink>(
         × Fed session.old taken answers session.new) }
     ensures err { IfErr result (λ fault. (taken : List ℕ) × (gained : List ℕ)
         × Consumes (S.left src.old) (S.left src.new) taken
-        × (session.old.taken + length taken ≤ SCRIPT_MAX + 1)
+        × (length taken ≤ SCRIPT_MAX + 1)
         × Appends (K.written out.old) (K.written out.new) gained
         × Halts (Rose (S.faults src.old) (S.faults src.new)) (Rose (K.faults out.old) (K.faults out.new)) ⊥
         session.old taken gained session.new fault (place_of fault.refusal)) }
-    ensures later_reads { S.faults src.old ≤ S.faults src.new }
-    ensures later_writes { K.faults out.old ≤ K.faults out.new }
+    ensures whole { IfErr result (λ fault. (fault.refusal ≡ Refusal.NoMemory → ⊥)
+        → (Rose (S.faults src.old) (S.faults src.new) → ⊥)
+        → IsReadWhole (S.left src.old) (S.left src.new)) }
 {
-    'reads: loop {
-        let room = room_for(session, buf.len());
-        let piece = &mut buf[..room];
-        match src.read(piece) {
-            Ok(0) => return Ok(()),
-            Ok(n) => {
-                if let Err(fault) = answer_piece(session, out, text, &piece[..n]) {
-                    return Err(fault);
-                }
+    match read_all(src, buf, script) {
+        Ok(()) => answer_piece(session, out, text, script),
+        Err(ReadError::Failed) => {
+            if let Err(fault) = answer_piece(session, out, text, script) {
+                return Err(fault);
             }
-            Err(Failed) => {
-                return Err(Fault {
-                    statement: session.answered() + 1,
-                    refusal: Refusal::ReadFault,
-                });
-            }
+            Err(Fault {
+                statement: session.answered() + 1,
+                refusal: Refusal::ReadFault,
+            })
         }
+        Err(ReadError::NoMemory) => Err(session.refuse(Refusal::NoMemory)),
     }
 }
 
@@ -122,21 +159,26 @@ fn run_session<S: Source, K: Sink>(
     src: &mut S,
     out: &mut K,
 ) -> Result<(), Fault>
-    requires { IsReady session.old }
+    requires ready { IsReady session.old }
+    requires first { session.old.taken ≡ 0 }
     ensures ok { OnOk result ((taken : List ℕ) × (answers : List (List ℕ))
         × Consumes (S.left src.old) (S.left src.new) taken × IsAtEnd (S.left src.new)
         × Appends (K.written out.old) (K.written out.new) (concat answers)
         × Fed session.old taken answers session.new × IsBlank session.new.rest) }
     ensures err { IfErr result (λ fault. (taken : List ℕ) × (gained : List ℕ)
         × Consumes (S.left src.old) (S.left src.new) taken
-        × (session.old.taken + length taken ≤ SCRIPT_MAX + 1)
+        × (length taken ≤ SCRIPT_MAX + 1)
         × Appends (K.written out.old) (K.written out.new) gained
         × Halts (Rose (S.faults src.old) (S.faults src.new)) (Rose (K.faults out.old) (K.faults out.new))
         (IsAtEnd (S.left src.new)) session.old taken gained session.new fault (place_of fault.refusal)) }
+    ensures whole { IfErr result (λ fault. (fault.refusal ≡ Refusal.NoMemory → ⊥)
+        → (Rose (S.faults src.old) (S.faults src.new) → ⊥)
+        → IsReadWhole (S.left src.old) (S.left src.new)) }
 {
     let mut buf = [0; PIECE];
+    let mut script = Vec::new(alloc);
     let mut text = Vec::new(alloc);
-    if let Err(fault) = answer_all(session, src, out, &mut text, &mut buf) {
+    if let Err(fault) = answer_all(session, src, out, &mut buf, &mut script, &mut text) {
         return Err(fault);
     }
     session.finish(&mut text)
@@ -163,6 +205,9 @@ fn run_script<S: Source, K: Sink, E: Sink>(
         → Rose (K.faults out.old) (K.faults out.new) }
     ensures overflow { result.refusal ≡ Some Refusal.Overflow
         → IfSome result.meter (λ meter. Rose 0 meter.overflows) }
+    ensures whole { result.refusal ≢ Some Refusal.NoMemory
+        → (Rose (S.faults src.old) (S.faults src.new) → ⊥)
+        → IsReadWhole (S.left src.old) (S.left src.new) }
     ensures no_usage { result.refusal ≢ Some Refusal.Usage }
     ensures session { IsSome result.meter }
 {
@@ -177,11 +222,30 @@ fn run_script<S: Source, K: Sink, E: Sink>(
     }
 }
 
+/// Tells that memory ended while the words were read. The line speaks of statement 1, since none was answered.
+pub fn refuse_words<E: Sink>(err: &mut E) -> Status
+    ensures status { result ≡ record { refusal = Some Refusal.NoMemory; meter = None } }
+    ensures line { (Rose (E.faults err.old) (E.faults err.new) → ⊥)
+        → Appends (E.written err.old) (E.written err.new)
+        (fault_line (record { statement = 1; refusal = Refusal.NoMemory })) }
+{
+    let refusal = Refusal::NoMemory;
+    let _ = write_fault(
+        err,
+        Fault {
+            statement: 1,
+            refusal,
+        },
+    );
+    Status::new(Some(refusal), None)
+}
+
 /// Does all that the program does: judges the words, answers the script that `src` has left on `out`, and tells
 /// a refusal on `err`.
 ///
 /// The words are taken where there is one, the program's name. Then numbers have 127 bits, and a statement may
-/// use 10,000,000 units. No more than 2^30 + 1 bytes are read.
+/// use 10,000,000 units. The whole script is read before its first statement is answered, and no more than
+/// 2^30 + 1 bytes of it.
 pub fn run<S: Source, K: Sink, E: Sink>(
     alloc: Global,
     words: &Vec<String>,
@@ -206,6 +270,11 @@ pub fn run<S: Source, K: Sink, E: Sink>(
         → (Rose (K.faults out.old) (K.faults out.new) → ⊥)
         → ((meter : Gauge) → result.meter ≡ Some meter → Rose 0 meter.overflows → ⊥)
         → IsDoneOrMemory result.refusal }
+
+    // A refused script too is read to its end, or as far as a script may go, unless a read fails or memory ends.
+    ensures whole { vec_len words.now ≡ 1 → result.refusal ≢ Some Refusal.NoMemory
+        → (Rose (S.faults src.old) (S.faults src.new) → ⊥)
+        → IsReadWhole (S.left src.old) (S.left src.new) }
 
     // The counted faults.
     ensures read_fault { result.refusal ≡ Some Refusal.ReadFault

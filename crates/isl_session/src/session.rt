@@ -161,9 +161,9 @@ impl Session {
         Err(self.refuse(Refusal::Unfinished))
     }
 
-    // Keeps the fault of a session that is refused now: it speaks of the statement behind those that were
-    // answered.
-    fn refuse(&mut self, refusal: Refusal) -> Fault
+    /// Keeps the fault of a session that is refused now: it speaks of the statement behind those that were
+    /// answered.
+    pub(crate) fn refuse(&mut self, refusal: Refusal) -> Fault
         ensures fault { result ≡ record { statement = self.old.answered + 1; refusal = refusal } }
         ensures kept { self.new ≡ record self.old { fault = Some result } }
     {
@@ -173,14 +173,6 @@ impl Session {
         };
         self.fault = Some(fault);
         fault
-    }
-
-    /// How many bytes of the script were taken.
-    pub(crate) fn taken(&self) -> u64
-        ensures count { result ≡ self.now.taken }
-        ensures few { result ≤ SCRIPT_MAX }
-    {
-        self.taken
     }
 
     /// How many statements were answered.

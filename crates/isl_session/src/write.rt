@@ -25,7 +25,7 @@ pub(crate) fn write_all<K: Sink>(out: &mut K, text: &[u8]) -> Result<(), Failed>
 }
 
 /// Writes the line that tells of a fault. It takes no memory.
-pub fn write_fault<E: Sink>(err: &mut E, fault: Fault) -> Result<(), Failed>
+pub(crate) fn write_fault<E: Sink>(err: &mut E, fault: Fault) -> Result<(), Failed>
     ensures ok { OnOk result (Appends (E.written err.old) (E.written err.new) (fault_line fault)) }
     ensures no_fewer_faults { E.faults err.old ≤ E.faults err.new }
     ensures fault { OnErr result (Rose (E.faults err.old) (E.faults err.new)) }

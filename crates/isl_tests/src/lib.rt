@@ -5,9 +5,10 @@ ghost use Rattle.std.specs.Prelude.{None};
 
 #[cfg(test)]
 mod tests {
-    use isl_io::{CleanSink, CleanSource, Failed, MemSink, MemSource, Source};
-    use isl_session::{Options, Refusal, Session, run};
+    use isl_io::{CleanSink, CleanSource, Failed, MemSink, MemSource, Sink, Source};
+    use isl_session::{Options, Refusal, Session, refuse_words, run};
     use std::alloc::Global;
+    use std::cell::Cell;
     use std::process::Abort;
     use std::test::Fail;
 
@@ -321,6 +322,125 @@ mod tests {
         assert_eq!(rt; status.code(), 0);
         assert_eq!(rt; src.reads, 2);
         assert_eq!(rt; out.bytes(), b"{ }\n".as_slice());
+        Ok(())
+    }
+
+    #[test]
+    fn refused_scripts_are_read_to_their_end(rt: HostRuntime) -> Result<(), Fail> {
+        let alloc = rt.alloc();
+        let words = vec![in alloc; String::from_str(alloc, "iscc")?]?;
+        for (script, status) in [
+            ("{ };x;{ };{ };", 3),
+            ("{ };{ };{ [i] : i < n };{", 4),
+            ("{ };{", 16),
+        ] {
+            let mut src = MemSource::new(script.as_bytes().to_vec(alloc)?, 1, Vec::new(alloc));
+            let mut out = MemSink::new(alloc, 100, 100, Vec::new(alloc))?;
+            let mut err = CleanSink::new();
+            let ended = run(alloc, &words, &mut src, &mut out, &mut err);
+            assert_eq!(rt; ended.code(), status, "the status of {script}");
+            assert_eq!(rt; src.read(&mut [0; 8]), Ok(0), "what is left of {script}");
+        }
+        Ok(())
+    }
+
+    // A source of one script, which says when it came to its end.
+    #[derive(Drop)]
+    struct Watched<'a> {
+        script: &'a [u8],
+        ended: &'a Cell<bool>,
+    }
+
+    impl Source for Watched<'_> {
+        ghost left = { λ _. None };
+
+        ghost faults = { λ _. 0 };
+
+        fn read(&mut self, buf: &mut [u8]) -> Result<usize, Failed> {
+            let n = self.script.len().min(buf.len()).min(4);
+            buf[..n].copy_from_slice(&self.script[..n]);
+            self.script = &self.script[n..];
+            if n == 0 {
+                self.ended.set(true);
+            }
+            Ok(n)
+        }
+    }
+
+    // A sink that counts the writes before that end.
+    #[derive(Drop)]
+    struct Waiting<'a> {
+        ended: &'a Cell<bool>,
+        early: u32,
+        late: u32,
+    }
+
+    impl Sink for Waiting<'_> {
+        ghost written = { λ _. None };
+
+        ghost faults = { λ _. 0 };
+
+        fn write(&mut self, piece: &[u8]) -> Result<usize, Failed> {
+            if self.ended.get() {
+                self.late = self.late.saturating_add(1);
+            } else {
+                self.early = self.early.saturating_add(1);
+            }
+            Ok(piece.len())
+        }
+    }
+
+    #[test]
+    fn scripts_are_read_before_they_are_answered(rt: HostRuntime) -> Result<(), Fail> {
+        let alloc = rt.alloc();
+        let words = vec![in alloc; String::from_str(alloc, "iscc")?]?;
+        let ended = Cell::new(false);
+        let mut src = Watched {
+            script: b"{ };{ };x;",
+            ended: &ended,
+        };
+        let mut out = Waiting {
+            ended: &ended,
+            early: 0,
+            late: 0,
+        };
+        let mut err = CleanSink::new();
+        let status = run(alloc, &words, &mut src, &mut out, &mut err);
+        assert_eq!(rt; (status.code(), out.early, out.late), (3, 0, 2));
+        Ok(())
+    }
+
+    #[test]
+    fn want_of_memory_for_words_is_told(rt: HostRuntime) -> Result<(), Fail> {
+        let mut err = MemSink::new(rt.alloc(), 100, 100, Vec::new(rt.alloc()))?;
+        let status = refuse_words(&mut err);
+        assert_eq!(rt; (status.code(), status.meter().is_none()), (21, true));
+        let want = "iscc: statement 1: out of memory\n";
+        assert_eq!(rt; err.bytes(), want.as_bytes());
+        Ok(())
+    }
+
+    #[test]
+    fn sessions_take_single_bytes(rt: HostRuntime) -> Result<(), Fail> {
+        let alloc = rt.alloc();
+        let script = "{ [i] : i = 0; [i] : i = 1 } # a ; here\n";
+        for (end, ended) in [(";", Ok(())), ("", Err((1, Refusal::Unfinished)))] {
+            let mut session = Session::new(alloc, Options::new(127, 1, Vec::new(alloc), false));
+            let mut text = Vec::new(alloc);
+            for byte in script.bytes().chain(end.bytes()) {
+                assert_eq!(rt; session.feed(&[byte], &mut text), Ok(()));
+            }
+            let finished = session
+                .finish(&mut text)
+                .map_err(|fault| (fault.statement, fault.refusal));
+            assert_eq!(rt; finished, ended);
+            let want = if end.is_empty() {
+                ""
+            } else {
+                "{ [i0] : i0 = 0; [i0] : i0 = 1 }\n"
+            };
+            assert_eq!(rt; text.as_slice(), want.as_bytes());
+        }
         Ok(())
     }
 

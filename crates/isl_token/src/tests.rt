@@ -20,64 +20,66 @@ fn kinds(alloc: Global, text: &str) -> Result<Option<Vec<Kind>>, AllocError> {
     }
 }
 
+/// Texts, and the kinds of their tokens.
+const KINDS: [(&str, &[Kind]); 6] = [
+    ("# none ; {\n\t ", &[]),
+    (
+        "2i' <= 007",
+        &[Kind::Number, Kind::Name, Kind::LessEqual, Kind::Number],
+    ),
+    (
+        "[n]->{}",
+        &[
+            Kind::OpenSquare,
+            Kind::Name,
+            Kind::CloseSquare,
+            Kind::Arrow,
+            Kind::OpenBrace,
+            Kind::CloseBrace,
+        ],
+    ),
+    (
+        "i<-1 ->- ->*^-1",
+        &[
+            Kind::Name,
+            Kind::Less,
+            Kind::Minus,
+            Kind::Number,
+            Kind::Other,
+            Kind::Other,
+            Kind::Other,
+        ],
+    ),
+    (
+        "a==b&&!(c%2)",
+        &[
+            Kind::Name,
+            Kind::Equal,
+            Kind::Name,
+            Kind::And,
+            Kind::Not,
+            Kind::Open,
+            Kind::Name,
+            Kind::Mod,
+            Kind::Number,
+            Kind::Close,
+        ],
+    ),
+    (
+        "floord ceild floor ceil dom",
+        &[
+            Kind::FloorDiv,
+            Kind::CeilDiv,
+            Kind::Floor,
+            Kind::Ceil,
+            Kind::Name,
+        ],
+    ),
+];
+
 #[test]
 fn texts_have_these_kinds(rt: HostRuntime) -> Result<(), Fail> {
-    let table: [(&str, &[Kind]); 6] = [
-        ("# none ; {\n\t ", &[]),
-        (
-            "2i' <= 007",
-            &[Kind::Number, Kind::Name, Kind::LessEqual, Kind::Number],
-        ),
-        (
-            "[n]->{}",
-            &[
-                Kind::OpenSquare,
-                Kind::Name,
-                Kind::CloseSquare,
-                Kind::Arrow,
-                Kind::OpenBrace,
-                Kind::CloseBrace,
-            ],
-        ),
-        (
-            "i<-1 ->- ->*^-1",
-            &[
-                Kind::Name,
-                Kind::Less,
-                Kind::Minus,
-                Kind::Number,
-                Kind::Other,
-                Kind::Other,
-                Kind::Other,
-            ],
-        ),
-        (
-            "a==b&&!(c%2)",
-            &[
-                Kind::Name,
-                Kind::Equal,
-                Kind::Name,
-                Kind::And,
-                Kind::Not,
-                Kind::Open,
-                Kind::Name,
-                Kind::Mod,
-                Kind::Number,
-                Kind::Close,
-            ],
-        ),
-        (
-            "floord ceild floor ceil dom",
-            &[
-                Kind::FloorDiv,
-                Kind::CeilDiv,
-                Kind::Floor,
-                Kind::Ceil,
-                Kind::Name,
-            ],
-        ),
-    ];
-    for (text, expected) in table {
+    for (text, expected) in KINDS {
         let found = kinds(rt.alloc(), text)?.ok_or("refused")?;
         assert_eq!(rt; found.as_slice(), expected, "{text}");
     }

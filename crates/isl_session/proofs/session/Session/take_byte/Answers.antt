@@ -11,7 +11,7 @@ use Rattle.isl_session.specs.Session.{view_of}
 use Rattle.isl_session.proofs.MeterLemmas.{carries_charged, carries_refl}
 use Rattle.isl_session.proofs.SoundLemmas.{sound_ready}
 use Rattle.isl_session.proofs.FedLemmas.{fed_end, fed_held}
-use Rattle.isl_session.proofs.BreakLemmas.{breaks_in_statement}
+use Rattle.isl_session.proofs.BreakLemmas.{breaks_in_statement, meter_in_statement}
 use Rattle.isl_session.proofs.session.Session.take_byte.Goals as goal
 
 pub push-requires : goal.push-requires
@@ -31,8 +31,7 @@ returns-in-Err-clause-err c =
     let refused : IsRefusedAt old c.args.byte c.in-Err.refusal new = record {
       breaks = breaks_in_statement c.in-Err.refusal old c.args.byte c.answer.new.meter c.if-self-ge-SCRIPT_MAX.false ends_there cause;
       same = ap (λ (s : Bindings). let v : View = record { state = s; rest = rest; taken = inside.taken; answered = inside.answered; fault = inside.fault; meter = c.answer.new.meter } in v) after_answer.0;
-      meter = c.in-Err.ensures.meter;
-      units = c.in-Err.ensures.no_units;
+      meter = meter_in_statement (limit_of inside.meter) inside.state rest inside.meter c.answer.new.meter c.in-Err.refusal cause c.in-Err.ensures.meter c.in-Err.ensures.no_units;
     } in
     (after_answer.1, subst (λ (v : View). IsRefusedAt v c.args.byte c.in-Err.refusal new) c.self.view_is refused)
 

@@ -1,11 +1,11 @@
 use Rattle.std.proofs.Common.{◌+◌, ◌∷◌, [], ◌++◌, ◌∙◌, List, ℕ, Some, arith, ap, take, drop, get_or, sym, subst, refl}
 use Rattle.std.specs.List.{concat}
 use Rattle.std.proofs.lemmas.List.{append-nil, take_more, drop_more, take-append-drop}
-use Rattle.isl_meter.specs.Gauge.{Gauge, IsKept}
+use Rattle.isl_meter.specs.Gauge.{Gauge}
 use Rattle.isl_text.specs.declared.refusal.Refusal.{Refusal}
 use Rattle.isl_session.specs.declared.fault.Fault.{Fault}
 use Rattle.isl_session.specs.Place.{place_of}
-use Rattle.isl_session.specs.View.{View, Fed, BreaksIn}
+use Rattle.isl_session.specs.View.{View, Fed, BreaksIn, IsMeterAt}
 use Rattle.isl_session.proofs.RunLemmas.{Fed-append}
 use Rattle.isl_session.proofs.FedLemmas.{ready_fed}
 use Rattle.isl_session.proofs.session.Session.take_front.Goals as goal
@@ -54,8 +54,8 @@ returns-in-Err-clause-err c =
         number = omega (arith, ap (λ (f : Fault). f.statement) fault_is, ap (λ (v : View). v.answered) at.same);
         same = kept ∙ ap (λ (v : View). let w : View = record v { fault = Some fault } in w) at.same
             ∙ ap (λ (g : Gauge). let w : View = record at_front { meter = g; fault = Some fault } in w) (sym meter);
-        meter = subst (λ (g : Gauge). IsKept at_front.meter g) (sym meter) at.meter;
-        units = ap (λ (g : Gauge). g.units) meter ∙ at.units;
+        meter = subst (λ (r : Refusal). IsMeterAt (place_of r) at_front.meter c.refuse.new.self.meter) (sym (ap (λ (f : Fault). f.refusal) fault_is))
+            (subst (λ (g : Gauge). IsMeterAt (place_of c.in-Err.refusal) at_front.meter g) (sym meter) at.meter);
       },
     )
 
