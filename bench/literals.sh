@@ -15,7 +15,7 @@ awk 'BEGIN { for (s = 0; s < 200; s++) { printf "{ ["; for (i = 0; i < 32; i++) 
 
 for name in statements pieces wide; do
   count="$(grep -c ';$' "$folder/$name")"
-  /usr/bin/time -f '%e %M' -o "$folder/time" "$program" < "$folder/$name" > "$folder/out"
+  command time -f '%e %M' -o "$folder/time" "$program" < "$folder/$name" > "$folder/out"
   awk -v name="$name" -v count="$count" -v bytes="$(wc -c < "$folder/$name")" \
     '{ printf "%-10s %6d statements %9d bytes  %.4f ms a statement  peak %d KiB\n", name, count, bytes, 1000 * $1 / count, $2 }' "$folder/time"
 done

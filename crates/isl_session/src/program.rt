@@ -110,7 +110,7 @@ fn read_all<S: Source>(src: &mut S, buf: &mut [u8], script: &mut Vec<u8>) -> Res
     Ok(())
 }
 
-// Reads the whole script, and then takes it. What was read before a read failed is taken too.
+// Reads the whole script, and then answers it. What was read before a read failed is answered too.
 fn answer_all<S: Source, K: Sink>(
     session: &mut Session,
     src: &mut S,

@@ -132,8 +132,8 @@ impl Session {
             → (Rose self.old.meter.overflows self.new.meter.overflows → ⊥)
             → IfErr result (λ fault. fault.refusal ≡ Refusal.NoMemory)) }
     {
-        if let Some(fault) = self.fault {
-            return Err(fault);
+        if let Some(kept) = self.fault {
+            return Err(kept);
         }
         let mut at = 0;
         while at < piece.len() {

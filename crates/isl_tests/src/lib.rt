@@ -132,6 +132,7 @@ mod tests {
             ("[i0, i0'] -> { [x] }", "[i0, i0'] -> { [i0''] }\n"),
             ("{ s[i]; [i]; S[i] }", "{ S[i0]; [i0]; s[i0] }\n"),
             ("[] -> { [i] : }", "{ [i0] }\n"),
+            ("{ [i] : i*2*3 >= 2*3i }", "{ [i0] }\n"),
         ] {
             let mut script = String::from_str(rt.alloc(), literal)?;
             script.push(';')?;
@@ -196,6 +197,15 @@ mod tests {
                 3,
                 "syntax error",
             ),
+            (
+                "{ [0,0,0,0,0,0,0,0,0,0,0,0,0,0,0,0,0,0,0,0,0,0,0,0,0,0,0,0,0,0,0,0,0] };",
+                3,
+                "syntax error",
+            ),
+            ("{ [2 3] };", 3, "syntax error"),
+            ("{ [i] : i + -1 >= 0 };", 3, "syntax error"),
+            ("{ [--i] };", 3, "syntax error"),
+            ("{ [i] : 1 = 0 and i >= n };", 4, "unknown name"),
             (
                 "{ [i] : 170141183460469231731687303715884105727 * 2i >= 0 };",
                 17,
@@ -280,6 +290,30 @@ mod tests {
             )?;
         }
         Ok(())
+    }
+
+    #[test]
+    fn a_failing_line_changes_no_status(rt: HostRuntime) -> Result<(), Fail> {
+        let silent = Ends {
+            failing_tells: &[0],
+            ..SOUND
+        };
+        for (script, status, out) in [
+            ("{ };x;", 3, "{ }\n"),
+            ("{ };{ [i] : i < n };", 4, "{ }\n"),
+            ("{ };{", 16, "{ }\n"),
+        ] {
+            let want = (status, out, "");
+            expect_run(&rt, rt.alloc(), &["iscc"], script, &silent, want)?;
+        }
+        expect_run(
+            &rt,
+            rt.alloc(),
+            &["iscc", "x"],
+            "{ };",
+            &silent,
+            (2, "", ""),
+        )
     }
 
     #[test]
@@ -454,6 +488,19 @@ mod tests {
         let status = run(alloc, &words, &mut src, &mut out, &mut err);
         assert_eq!(rt; status.code(), 0);
         assert_eq!(rt; status.meter().map(|meter| meter.overflows()), Some(0));
+        Ok(())
+    }
+
+    #[test]
+    fn the_limit_of_a_session_is_that_of_its_options(rt: HostRuntime) -> Result<(), Fail> {
+        let alloc = rt.alloc();
+        for (bits, result) in [(8, Err((1, Refusal::Syntax))), (9, Ok(()))] {
+            let mut session = Session::new(alloc, Options::new(bits, 1, Vec::new(alloc), false));
+            let fed = session
+                .feed(b"{ [300] };", &mut Vec::new(alloc))
+                .map_err(|fault| (fault.statement, fault.refusal));
+            assert_eq!(rt; fed, result, "{bits} bits");
+        }
         Ok(())
     }
 
