@@ -1,7 +1,7 @@
 -- A term that is read is spelled so.
 use Rattle.std.proofs.Common.{◌≡◌, ◌≢◌, ℕ, ℤ, zero, suc, Bool, true, false, cond, List, [], ◌∷◌, ◌++◌, Option, Some, None, refl}
 use Rattle.std.proofs.lemmas.Bool.{false≢true, and_parts}
-use Rattle.isl_token.specs.declared.token.Token.{Token}
+use Rattle.isl_token.specs.TokenView.{Token}
 use Rattle.isl_token.specs.declared.token.Kind.{Kind}
 use Rattle.isl_token.specs.declared.token.Kind.TheVariants as k
 use Rattle.isl_token.specs.Token.{is_kind}
