@@ -1,5 +1,5 @@
 -- Comparisons, and the names that `exists` binds: how they are read.
-use Rattle.std.specs.Prelude.{Bool, true, false, is_some, List, [], ◌∷◌, Option, Some, None, if◌then◌else◌}
+use Rattle.std.specs.Prelude.{Bool, is_some, List, [], ◌∷◌, Option, Some, None, if◌then◌else◌}
 use Rattle.isl_token.specs.TokenView.{Token}
 use Rattle.isl_token.specs.declared.token.Kind.{Kind}
 use Rattle.isl_token.specs.declared.token.Kind.TheVariants as k
