@@ -66,6 +66,10 @@ none_with_later ts limit later literal spelled = false≢true (sym spelled.1.bar
 pub none_with_nested : (ts : List Token) (limit : ℤ) → has_nested false ts ≡ true → IsWhyNoLiteral limit ts fault.Syntax
 none_with_nested ts limit nested literal spelled = false≢true (sym spelled.1.flat ∙ nested)
 
+-- the search as the code has it, with a limit that is read back
+pub same_wide : (limit k : ℤ) → k ≡ limit → (us ts : List Token) → us ≡ ts → has_wide_number limit ts ≡ has_wide_number k us
+same_wide limit k back us ts same = rw (back, same) refl
+
 pub none_with_wide : (ts : List Token) (limit : ℤ) → has_wide_number limit ts ≡ true → IsWhyNoLiteral limit ts fault.Syntax
 none_with_wide ts limit wide literal spelled = false≢true (sym spelled.1.narrow ∙ wide)
 
