@@ -20,7 +20,7 @@ use Rattle.isl_token.specs.TokenView.{Token}
 use Rattle.isl_token.specs.TokenView as token
 use Rattle.isl_token.specs.Number.{too_great}
 use Rattle.isl_token.proofs.Prints.{Prints, any, after_word, after_number, word_prints, number_prints, decimal_prints, blank_prints, prints_both, prints_nil, prints_less}
-use Rattle.isl_token.proofs.SignPrints.{comma_prints, open_prints, close_prints, open_square_prints, close_square_prints, plus_prints, at_least_prints, differs_prints, arrow_prints, equal_prints, colon_prints}
+use Rattle.isl_token.proofs.SignPrints.{whole_sign_prints, spaced_sign_prints}
 
 -- ---- lists of texts
 abbrev pub Tokens : Type 0
@@ -193,7 +193,7 @@ constant_print c small = by (c == 0)
 
 -- ` + ` and the like: a sign between blanks
 plus_between : Prints (codes " + ") (sign (codes "+") ∷ []) any
-plus_between = loose_prints (codes " ") (codes "+ ") [] (sign (codes "+") ∷ []) any blank_prints (loose_prints (codes "+") (codes " ") (sign (codes "+") ∷ []) [] any plus_prints blank_prints)
+plus_between = loose_prints (codes " ") (codes "+ ") [] (sign (codes "+") ∷ []) any blank_prints (loose_prints (codes "+") (codes " ") (sign (codes "+") ∷ []) [] any (whole_sign_prints (codes "+") refl) blank_prints)
 
 sum_prints : (texts : List Text) (tss : List Tokens) → AllPrint texts tss → Prints (sum_of texts) (sum_tokens tss) after_item
 sum_prints [] [] all = prints_less (codes "0") (token.Number (codes "0") ∷ []) after_number after_item (number_prints (codes "0") refl) item_number
@@ -236,13 +236,13 @@ abbrev pub row_tokens : List Name → Row → Tokens
 row_tokens names row = kind_tokens row.kind names row
 
 equal_between : Prints (codes " = ") (sign (codes "=") ∷ []) any
-equal_between = loose_prints (codes " ") (codes "= ") [] (sign (codes "=") ∷ []) any blank_prints equal_prints
+equal_between = loose_prints (codes " ") (codes "= ") [] (sign (codes "=") ∷ []) any blank_prints (spaced_sign_prints (codes "=") refl)
 
 at_least_between : Prints (codes " >= ") (sign (codes ">=") ∷ []) any
-at_least_between = loose_prints (codes " ") (codes ">= ") [] (sign (codes ">=") ∷ []) any blank_prints (loose_prints (codes ">=") (codes " ") (sign (codes ">=") ∷ []) [] any at_least_prints blank_prints)
+at_least_between = loose_prints (codes " ") (codes ">= ") [] (sign (codes ">=") ∷ []) any blank_prints (loose_prints (codes ">=") (codes " ") (sign (codes ">=") ∷ []) [] any (whole_sign_prints (codes ">=") refl) blank_prints)
 
 differs_between : Prints (codes " != ") (sign (codes "!=") ∷ []) any
-differs_between = loose_prints (codes " ") (codes "!= ") [] (sign (codes "!=") ∷ []) any blank_prints (loose_prints (codes "!=") (codes " ") (sign (codes "!=") ∷ []) [] any differs_prints blank_prints)
+differs_between = loose_prints (codes " ") (codes "!= ") [] (sign (codes "!=") ∷ []) any blank_prints (loose_prints (codes "!=") (codes " ") (sign (codes "!=") ∷ []) [] any (whole_sign_prints (codes "!=") refl) blank_prints)
 
 zero_prints : Prints (codes "0") (token.Number (codes "0") ∷ []) after_item
 zero_prints = prints_less (codes "0") (token.Number (codes "0") ∷ []) after_number after_item (number_prints (codes "0") refl) item_number
@@ -259,7 +259,7 @@ word_between w is =
     prints_both (codes " " ++ w) (codes " ") (word w ∷ []) [] after_word any (loose_prints (codes " ") w [] (word w ∷ []) after_word blank_prints (word_prints w is)) blank_prints (λ z _. refl)
 
 modulo_prints : Prints (codes ") mod ") (sign (codes ")") ∷ word (codes "mod") ∷ []) any
-modulo_prints = loose_prints (codes ")") (codes " mod ") (sign (codes ")") ∷ []) (word (codes "mod") ∷ []) any close_prints (word_between (codes "mod") refl)
+modulo_prints = loose_prints (codes ")") (codes " mod ") (sign (codes ")") ∷ []) (word (codes "mod") ∷ []) any (whole_sign_prints (codes ")") refl) (word_between (codes "mod") refl)
 
 module _ (names : List Name) (row : Row) (a : AreNamed names) (b : IsWritableRow row) where
   relation_prints : (relation : Text) (between : Text) → Prints between (sign relation ∷ []) any → Ends between → Prints (relation_text between names row) (relation_tokens relation names row) after_item
@@ -274,7 +274,7 @@ module _ (names : List Name) (row : Row) (a : AreNamed names) (b : IsWritableRow
       let ts = side_tokens Left names row.coefs row.constant in
       loose_prints (codes "(" ++ left ++ codes ") mod ") (decimal (unsigned_abs row.k)) (sign (codes "(") ∷ [] ++ ts ++ (sign (codes ")") ∷ word (codes "mod") ∷ [])) (number (unsigned_abs row.k) ∷ []) after_item
       (then_prints (codes "(" ++ left) (codes ") mod ") (sign (codes "(") ∷ [] ++ ts) (sign (codes ")") ∷ word (codes "mod") ∷ []) any
-      (loose_prints (codes "(") left (sign (codes "(") ∷ []) ts after_item open_prints (side_prints Left names row.coefs row.constant a b.coefs b.constant)) modulo_prints (λ z. refl))
+      (loose_prints (codes "(") left (sign (codes "(") ∷ []) ts after_item (whole_sign_prints (codes "(") refl) (side_prints Left names row.coefs row.constant a b.coefs b.constant)) modulo_prints (λ z. refl))
       (count_prints (unsigned_abs row.k) b.k)
 
   kind_prints : (kind : RowKind) → Prints (kind_text kind names row) (kind_tokens kind names row) after_item
@@ -296,7 +296,7 @@ conjunction_tokens [] = []
 conjunction_tokens (ts ∷ tss) = sign (codes ":") ∷ [] ++ joined_tokens (word (codes "and") ∷ []) (ts ∷ tss)
 
 colon_between : Prints (codes " : ") (sign (codes ":") ∷ []) any
-colon_between = loose_prints (codes " ") (codes ": ") [] (sign (codes ":") ∷ []) any blank_prints colon_prints
+colon_between = loose_prints (codes " ") (codes ": ") [] (sign (codes ":") ∷ []) any blank_prints (spaced_sign_prints (codes ":") refl)
 
 and_between : Prints (codes " and ") (word (codes "and") ∷ []) any
 and_between = word_between (codes "and") refl
@@ -331,10 +331,10 @@ tuples_tokens (set_of form) names = tuple_tokens form names
 tuples_tokens (map_of from to) names = tuple_tokens from names ++ sign (codes "->") ∷ [] ++ tuple_tokens to (drop (width_of from) names)
 
 comma_between : Prints (codes ", ") (sign (codes ",") ∷ []) any
-comma_between = loose_prints (codes ",") (codes " ") (sign (codes ",") ∷ []) [] any comma_prints blank_prints
+comma_between = loose_prints (codes ",") (codes " ") (sign (codes ",") ∷ []) [] any (whole_sign_prints (codes ",") refl) blank_prints
 
 pub arrow_between : Prints (codes " -> ") (sign (codes "->") ∷ []) any
-arrow_between = loose_prints (codes " ") (codes "-> ") [] (sign (codes "->") ∷ []) any blank_prints arrow_prints
+arrow_between = loose_prints (codes " ") (codes "-> ") [] (sign (codes "->") ∷ []) any blank_prints (spaced_sign_prints (codes "->") refl)
 
 each_name_prints : (names : List Name) → AreNamed names → AllPrint names (map (λ name. word name ∷ []) names)
 each_name_prints [] all = tt
@@ -360,22 +360,22 @@ named_drop (suc n) [] all = tt
 named_drop (suc n) (name ∷ names) all = named_drop n names all.1
 
 open_leaf : (name : Option Name) (width : ℕ) → IsNamedForm (leaf name width) → Prints (name_text name ++ codes "[") (name_tokens name ++ sign (codes "[") ∷ []) any
-open_leaf None width h = open_square_prints
-open_leaf (Some name) width h = then_prints name (codes "[") (word name ∷ []) (sign (codes "[") ∷ []) any (name_prints name h) open_square_prints (λ z. refl)
+open_leaf None width h = whole_sign_prints (codes "[") refl
+open_leaf (Some name) width h = then_prints name (codes "[") (word name ∷ []) (sign (codes "[") ∷ []) any (name_prints name h) (whole_sign_prints (codes "[") refl) (λ z. refl)
 
 -- a tuple ends in a bracket
 pub tuple_prints : (form : Form) (names : List Name) → IsNamedForm form → AreNamed names → Prints (tuple_text form names) (tuple_tokens form names) any
 tuple_prints (leaf name width) names h all =
     then_prints (name_text name ++ codes "[" ++ joined_by (codes ", ") (take width names)) (codes "]") (name_tokens name ++ sign (codes "[") ∷ [] ++ names_tokens (take width names)) (sign (codes "]") ∷ []) any
     (loose_prints (name_text name ++ codes "[") (joined_by (codes ", ") (take width names)) (name_tokens name ++ sign (codes "[") ∷ []) (names_tokens (take width names)) after_item (open_leaf name width h) (names_print (take width names) (named_take width names all)))
-    close_square_prints (λ z. refl)
+    (whole_sign_prints (codes "]") refl) (λ z. refl)
 tuple_prints (pair left right) names h all =
     let rest = drop (width_of left) names in
-    let opened = loose_prints (codes "[") (tuple_text left names) (sign (codes "[") ∷ []) (tuple_tokens left names) any open_square_prints (tuple_prints left names h.0 all) in
+    let opened = loose_prints (codes "[") (tuple_text left names) (sign (codes "[") ∷ []) (tuple_tokens left names) any (whole_sign_prints (codes "[") refl) (tuple_prints left names h.0 all) in
     let turned = loose_prints (codes "[" ++ tuple_text left names) (codes " -> ") (sign (codes "[") ∷ [] ++ tuple_tokens left names) (sign (codes "->") ∷ []) any opened arrow_between in
     let both = loose_prints (codes "[" ++ tuple_text left names ++ codes " -> ") (tuple_text right rest) (sign (codes "[") ∷ [] ++ tuple_tokens left names ++ sign (codes "->") ∷ []) (tuple_tokens right rest) any turned
     (tuple_prints right rest h.1 (named_drop (width_of left) names all)) in
-    loose_prints (codes "[" ++ tuple_text left names ++ codes " -> " ++ tuple_text right rest) (codes "]") (sign (codes "[") ∷ [] ++ tuple_tokens left names ++ sign (codes "->") ∷ [] ++ tuple_tokens right rest) (sign (codes "]") ∷ []) any both close_square_prints
+    loose_prints (codes "[" ++ tuple_text left names ++ codes " -> " ++ tuple_text right rest) (codes "]") (sign (codes "[") ∷ [] ++ tuple_tokens left names ++ sign (codes "->") ∷ [] ++ tuple_tokens right rest) (sign (codes "]") ∷ []) any both (whole_sign_prints (codes "]") refl)
 
 abbrev pub IsNamedSpaceForm : SpaceForm → Type 0
 IsNamedSpaceForm (set_of form) = IsNamedForm form

@@ -22,7 +22,7 @@ use Rattle.isl_print.proofs.TextLaws.{All-in_order}
 use Rattle.isl_token.specs.Lex.{tokens}
 use Rattle.isl_token.specs.Number.{too_great}
 use Rattle.isl_token.proofs.Prints.{Prints, any, blank_prints, prints_nil, prints_whole}
-use Rattle.isl_token.proofs.SignPrints.{semicolon_prints, open_square_prints, close_square_prints, open_brace_prints, close_brace_prints}
+use Rattle.isl_token.proofs.SignPrints.{whole_sign_prints}
 use Rattle.isl_readback.specs.Written.{HasWritableNumbers}
 use Rattle.isl_readback.proofs.TokenLaws.{Tokens, AllPrint, after_item, AreNamed, AreSmall, IsSmall, IsWritableRow, AreWritableRows, IsNamedForm, IsNamedSpaceForm, sign, joined_tokens, names_tokens, row_tokens, conjunction_tokens, tuples_tokens, then_prints, loose_prints, joined_print, names_print, rows_print, conjunction_prints, tuples_print, arrow_between}
 
@@ -94,16 +94,16 @@ pieces_print_each params [] names kept numbers = tt
 pieces_print_each params (piece ∷ pieces) names kept numbers = (piece_prints params piece names kept.0 numbers.0, pieces_print_each params pieces names kept.1 numbers.1)
 
 semicolon_between : Prints (codes "; ") (sign (codes ";") ∷ []) any
-semicolon_between = loose_prints (codes ";") (codes " ") (sign (codes ";") ∷ []) [] any semicolon_prints blank_prints
+semicolon_between = loose_prints (codes ";") (codes " ") (sign (codes ";") ∷ []) [] any (whole_sign_prints (codes ";") refl) blank_prints
 
 open_braces : Prints (codes "{ ") (sign (codes "{") ∷ []) any
-open_braces = loose_prints (codes "{") (codes " ") (sign (codes "{") ∷ []) [] any open_brace_prints blank_prints
+open_braces = loose_prints (codes "{") (codes " ") (sign (codes "{") ∷ []) [] any (whole_sign_prints (codes "{") refl) blank_prints
 
 close_braces : Prints (codes " }") (sign (codes "}") ∷ []) any
-close_braces = loose_prints (codes " ") (codes "}") [] (sign (codes "}") ∷ []) any blank_prints close_brace_prints
+close_braces = loose_prints (codes " ") (codes "}") [] (sign (codes "}") ∷ []) any blank_prints (whole_sign_prints (codes "}") refl)
 
 pieces_print : (texts : List Text) (tss : List Tokens) → AllPrint texts tss → Prints (pieces_text texts) (pieces_tokens tss) any
-pieces_print [] [] all = loose_prints (codes "{ ") (codes "}") (sign (codes "{") ∷ []) (sign (codes "}") ∷ []) any open_braces close_brace_prints
+pieces_print [] [] all = loose_prints (codes "{ ") (codes "}") (sign (codes "{") ∷ []) (sign (codes "}") ∷ []) any open_braces (whole_sign_prints (codes "}") refl)
 pieces_print [] (ts ∷ tss) all = absurd all
 pieces_print (text ∷ texts) [] all = absurd all
 pieces_print (text ∷ texts) (ts ∷ tss) all =
@@ -120,8 +120,8 @@ params_print (name ∷ names) all =
     let inside = joined_by (codes ", ") (name ∷ names) in
     let ins = names_tokens (name ∷ names) in
     then_prints (codes "[" ++ inside) (codes "] -> ") (sign (codes "[") ∷ [] ++ ins) (sign (codes "]") ∷ sign (codes "->") ∷ []) any
-    (loose_prints (codes "[") inside (sign (codes "[") ∷ []) ins after_item open_square_prints (names_print (name ∷ names) all))
-    (loose_prints (codes "]") (codes " -> ") (sign (codes "]") ∷ []) (sign (codes "->") ∷ []) any close_square_prints arrow_between) (λ z. refl)
+    (loose_prints (codes "[") inside (sign (codes "[") ∷ []) ins after_item (whole_sign_prints (codes "[") refl) (names_print (name ∷ names) all))
+    (loose_prints (codes "]") (codes " -> ") (sign (codes "]") ∷ []) (sign (codes "->") ∷ []) any (whole_sign_prints (codes "]") refl) arrow_between) (λ z. refl)
 
 -- the tokens of the text
 pub tokens-printed : (value : KeptValue) → IsKeptValue value → HasWritableNumbers value → tokens (printed value) ≡ Some (printed_tokens value)

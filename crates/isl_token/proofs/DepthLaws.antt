@@ -1,16 +1,14 @@
 -- What stacks, told by kinds.
-use Rattle.std.proofs.Common.{◌≡◌, ◌≢◌, ◌<◌, ◌≤◌, ◌+◌, Bool, true, false, cond, List, [], ◌∷◌, Option, Some, None, length, refl, sym, ap, subst, ◌∙◌, arith}
+use Rattle.std.proofs.Common.{◌≡◌, ◌≢◌, ◌<◌, ◌≤◌, ◌+◌, Bool, true, false, cond, List, [], ◌∷◌, Option, Some, None, length, refl, sym, ap, ◌∙◌, arith}
 use Rattle.std.specs.Prelude.{nat_lt}
 use Rattle.std.specs.List.{list_any}
-use Rattle.std.specs.Str.{bytes_eq}
 use Rattle.std.proofs.lemmas.Bool.{le-ltb}
-use Rattle.std.proofs.lemmas.Slice.Eq.{bytes_eq-Decides}
 use Rattle.isl_token.specs.TokenView.{Token}
 use Rattle.isl_token.specs.TokenView as token
 use Rattle.isl_token.specs.declared.token.Kind.{Kind}
 use Rattle.isl_token.specs.declared.token.Kind.TheVariants as kind
 use Rattle.isl_token.specs.declared.depth.Place.{Place}
-use Rattle.isl_token.specs.Token.{Text, is_kind, kind_of, kind_in, word_kinds, word_kind, sign_kinds, sign_kind}
+use Rattle.isl_token.specs.Token.{Text, is_kind, kind_of, word_kinds, word_kind, sign_kinds, sign_kind}
 use Rattle.isl_token.specs.Depth.{is_stacking, is_stacking_word, stacking_words, head_is_stacking, depths, step_by}
 use Rattle.isl_token.specs.Reading.{name, head_kind, tail}
 use Rattle.isl_token.proofs.WordLaws.{Each, found}

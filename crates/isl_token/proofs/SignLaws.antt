@@ -1,6 +1,6 @@
 -- Signs are found by their first bytes, and words that are too short are in no table.
-use Rattle.std.proofs.Common.{◌≡◌, ℕ, suc, ◌+◌, ◌<◌, ◌≤◌, Bool, true, false, cond, List, [], ◌∷◌, ◌++◌, length, drop, slice_index, refl, sym, ap, subst, ◌∙◌, arith}
-use Rattle.std.specs.Prelude.{max, eqb, nat_eq, nat_lt, ◌||◌, ◌&&◌}
+use Rattle.std.proofs.Common.{◌≡◌, ℕ, ◌≤◌, Bool, true, false, cond, List, [], ◌∷◌, ◌++◌, length, drop, slice_index, refl, sym, ap, subst, ◌∙◌, arith}
+use Rattle.std.specs.Prelude.{max, eqb, nat_eq, ◌||◌}
 use Rattle.std.specs.List.{list_any, list_all, starts_with}
 use Rattle.std.specs.Str.{bytes_eq}
 use Rattle.std.proofs.lemmas.Bool.{eqb-true, eq-eqb, false≢true, and_parts}
@@ -8,12 +8,10 @@ use Rattle.std.proofs.lemmas.Slice.Eq.{bytes_eq-Decides}
 use Rattle.std.proofs.lemmas.Slice.Eq.{starts_is}
 use Rattle.std.proofs.lemmas.Bool.Decides.{Decides-eqb}
 use Rattle.std.proofs.lemmas.List.{length-append}
-use Rattle.isl_token.specs.declared.token.Kind.{Kind}
-use Rattle.isl_token.specs.declared.token.Kind.TheVariants as kind
-use Rattle.isl_token.specs.Token.{Text, is_kind, signs, sign_kind, sign_kinds, kind_in}
+use Rattle.isl_token.specs.Token.{Text, is_kind, signs, sign_kind}
 use Rattle.isl_token.specs.Lex.{longest, sign_len}
 use Rattle.isl_token.proofs.Taking.{is_kind_true}
-use Rattle.isl_token.specs.Signs.{sign_by, dashes, less, greater, doubled, alone}
+use Rattle.isl_token.specs.Signs.{sign_by}
 
 eqb_sym : (a n : ℕ) → eqb a n ≡ false → eqb n a ≡ false
 eqb_sym a n is = by_test (eqb n a) refl
