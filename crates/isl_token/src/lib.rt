@@ -6,8 +6,6 @@ pub mod depth;
 pub mod fault;
 pub mod lex;
 pub mod number;
-#[cfg(test)]
-mod tests;
 pub mod token;
 
 pub use cursor::Cursor;
