@@ -5,6 +5,7 @@ pub mod cursor;
 pub mod depth;
 pub mod fault;
 pub mod lex;
+pub mod marks;
 pub mod number;
 pub mod token;
 
@@ -12,4 +13,5 @@ pub use cursor::Cursor;
 pub use depth::is_too_deep;
 pub use fault::Fault;
 pub use lex::tokens;
-pub use token::{Kind, Token, Tokens};
+pub use marks::{Rest, Tokens};
+pub use token::Kind;
