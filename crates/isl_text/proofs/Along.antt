@@ -62,7 +62,9 @@ module _ (t a b : Tuple) (is : t ≡ Pair a b) (known mid behind : List Text) wh
   pub pair_goes_on : {E : Type 0} (p : Bool) (u w : Tuple) (r : Result Bool E) → p ≡ true → u ≡ a → w ≡ b
       → GoesAlong p known mid (entries_of u) → IfOk r (λ new. GoesAlong new mid behind (entries_of w))
       → IfOk r (λ new. GoesAlong new known behind (entries_of t))
-  pair_goes_on p u w (Ok new) yes' left right first second = goes_on known mid behind (entries_of u) (entries_of w) (entries_of t) (entries_at t a b is ∙ rw (left, right) refl) new (subst (λ (q : Bool). GoesAlong q known mid (entries_of u)) yes' first) second
+  pair_goes_on p u w (Ok new) yes' left right first second =
+      goes_on known mid behind (entries_of u) (entries_of w) (entries_of t) (entries_at t a b is ∙ rw (left, right) refl) new
+      (subst (λ (q : Bool). GoesAlong q known mid (entries_of u)) yes' first) second
   pair_goes_on p u w (Err e) yes' left right first second = tt
 
   pub pair_stops : GoesAlong false known mid (entries_of a) → GoesAlong false known behind (entries_of t)
@@ -82,12 +84,16 @@ entries_of_map piece t is = rw is refl
 
 module _ (piece : PieceTree) (known mid behind : List Text) where
   pub set_goes_on : piece.second ≡ None → GoesAlong true known mid (entries_of piece.first) → GoesAlong true known mid (piece_entries piece)
-  set_goes_on is first = goes_on known mid mid (entries_of piece.first) [] (piece_entries piece) (entries_of_set piece is) true first (record { are_new = refl; become_known = λ e. same_names-refl mid })
+  set_goes_on is first =
+      goes_on known mid mid (entries_of piece.first) [] (piece_entries piece) (entries_of_set piece is) true first
+      (record { are_new = refl; become_known = λ e. same_names-refl mid })
 
   pub map_goes_on : {E : Type 0} (t : Tuple) (p : Bool) (r : Result Bool E) → piece.second ≡ Some t → p ≡ true
       → GoesAlong p known mid (entries_of piece.first) → IfOk r (λ new. GoesAlong new mid behind (entries_of t))
       → IfOk r (λ new. GoesAlong new known behind (piece_entries piece))
-  map_goes_on t p (Ok new) is yes' first second = goes_on known mid behind (entries_of piece.first) (entries_of t) (piece_entries piece) (entries_of_map piece t is) new (subst (λ (q : Bool). GoesAlong q known mid (entries_of piece.first)) yes' first) second
+  map_goes_on t p (Ok new) is yes' first second =
+      goes_on known mid behind (entries_of piece.first) (entries_of t) (piece_entries piece) (entries_of_map piece t is) new
+      (subst (λ (q : Bool). GoesAlong q known mid (entries_of piece.first)) yes' first) second
   map_goes_on t p (Err e) is yes' first second = tt
 
   pub piece_stops : GoesAlong false known mid (entries_of piece.first) → GoesAlong false known mid (piece_entries piece)

@@ -1,14 +1,15 @@
 -- The equations of the counts at the constructors of the code.
 use mathlib.Core.Former.{Count}
-use Rattle.std.proofs.Common.{◌≡◌, ℕ, ◌+◌, List, refl, sym, ap, ◌∙◌, arith}
-use Rattle.std.specs.Prelude.{ℤ}
-use Rattle.isl_tree.specs.declared.tree.Factor.{Factor, Inner, Floor, Ceil, Row_of-Signed, end_of-Signed, more_of-Signed, items-the_row-Signed, items_hidden-the_row-Signed-0}
+use Rattle.std.proofs.Common.{◌≡◌, ℕ, ◌+◌, Bool, List, [], ◌∷◌, length, Option, Some, None, refl, sym, ap, ◌∙◌, arith}
+use Rattle.std.specs.Prelude.{ℤ, min}
+use Rattle.isl_tree.specs.declared.tree.Factor.{Factor, Name, Inner, Floor, Ceil, Row_of-Signed, end_of-Signed, more_of-Signed, items-the_row-Signed, items_hidden-the_row-Signed-0}
 use Rattle.isl_tree.specs.declared.tree.Factor.TheBlock.{hidden-the_row-Signed-0}
 use Rattle.isl_tree.specs.declared.tree.Signed.{Signed}
 use Rattle.isl_tree.specs.declared.tree.Compare.{Compare}
 use Rattle.isl_tree.specs.declared.tree.Binder.{Binder}
 use Rattle.isl_tree.specs.declared.tree.Formula.{Formula, Implies, Or, And, Not, Exists, Chain, Row_of-Formula, end_of-Formula, more_of-Formula, items-the_row-Formula, items_hidden-the_row-Formula-0}
 use Rattle.isl_tree.specs.declared.tree.Formula.TheBlock.{hidden-the_row-Formula-0, hidden-the_row-Formula-1}
+use Rattle.isl_tree.specs.declared.tree.Entry.{Entry}
 use Rattle.isl_tree.specs.declared.tree.Tuple.{Tuple, Pair}
 use Rattle.isl_tree.specs.declared.tree.Tuple.TheBlock.{hidden-the_row-Tuple-0}
 use Rattle.isl_text.specs.Bound.{in_factor, in_row, in_part, in_term, in_side, in_links, by_binders, in_formula, in_formula_row, in_formulas, in_tuple, capped}

@@ -1,5 +1,6 @@
 -- Sums that stand at a cap.
-use Rattle.std.proofs.Common.{◌≡◌, ℕ, ◌+◌, arith}
+use Rattle.std.proofs.Common.{◌≡◌, ℕ, ◌+◌, ◌≤◌, arith}
+use Rattle.std.specs.Prelude.{min}
 use Rattle.isl_text.specs.Bound.{capped}
 
 -- one more item of a list whose items are counted

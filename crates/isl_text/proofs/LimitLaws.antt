@@ -1,13 +1,13 @@
 -- The counts that literals have limits for, at the constructors of the code.
-use Rattle.std.proofs.Common.{◌≡◌, ℕ, ◌+◌, ◌<◌, ◌≤◌, Bool, true, false, List, [], length, Option, Some, None, refl, sym, ap, ◌∙◌, arith, length-append}
-use Rattle.std.specs.Prelude.{nat_le}
+use Rattle.std.proofs.Common.{◌≡◌, ℕ, ◌+◌, ◌<◌, ◌≤◌, Bool, true, false, List, [], ◌∷◌, ◌++◌, length, Option, Some, None, refl, sym, ap, ◌∙◌, arith, length-append}
+use Rattle.std.specs.Prelude.{min, nat_le}
 use Rattle.std.proofs.lemmas.Bool.{le-leb, lt-leb, leb-true, leb-false}
 use Rattle.isl_token.specs.Token.{Text}
 use Rattle.isl_tree.specs.declared.tree.Entry.{Entry}
 use Rattle.isl_tree.specs.declared.tree.Tuple.{Tuple, Leaf, Pair}
 use Rattle.isl_tree.specs.declared.tree.Tuple.TheBlock.{hidden-the_row-Tuple-0}
 use Rattle.isl_tree.specs.declared.tree.PieceTree.{PieceTree}
-use Rattle.isl_tree.specs.Literal.{entries_of}
+use Rattle.isl_tree.specs.Literal.{entries_of, piece_entries}
 use Rattle.isl_text.specs.Bound.{capped}
 use Rattle.isl_text.specs.Limits.{coordinates, leaves_in, leaves_of}
 use Rattle.isl_text.proofs.Along.{entries-Pair}

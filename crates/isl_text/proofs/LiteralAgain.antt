@@ -1,17 +1,19 @@
 -- What spells a literal is read again.
-use Rattle.std.proofs.Common.{◌≡◌, ℕ, suc, ◌<◌, Bool, true, false, not, List, [], ◌∷◌, ◌++◌, length, Option, Some, None, refl, inl, inr, arith}
+use Rattle.std.proofs.Common.{◌≡◌, ◌≢◌, ℕ, zero, suc, ◌+◌, ◌<◌, Bool, true, false, cond, not, List, [], ◌∷◌, ◌++◌, length, Option, Some, None, refl, inl, inr, arith}
 use Rattle.std.proofs.lemmas.Bool.{false≢true, not-true}
 use Rattle.isl_token.specs.declared.token.Token.{Token}
 use Rattle.isl_token.specs.declared.token.Kind.{Kind}
 use Rattle.isl_token.specs.declared.token.Kind.TheVariants as k
-use Rattle.isl_token.specs.Token.{is_kind}
+use Rattle.isl_token.specs.Token.{Text, is_kind}
 use Rattle.isl_token.specs.Reading.{Parser, head_kind, sees}
 use Rattle.isl_token.specs.Reading as r
 use Rattle.isl_token.specs.Spelling.{Grammar}
 use Rattle.isl_token.specs.Spelling as s
-use Rattle.isl_token.proofs.Again.{Stops, Again, Starts, Follows, always, again_map, again_bind, again_skip, again_after, again_end, again_name, again_whole_row, follows_pure, follows_starts, follows_either, follows_always, follows_bind, follows_map, follows_many, starts_bind, starts_more, starts_word, starts_with, starts_name, full_word, full_bind}
+use Rattle.isl_token.proofs.Again.{Stops, Again, Starts, Follows, Items, always, again_pure, again_map, again_bind, again_skip, again_after, again_end, again_name, again_whole_row, follows_pure, follows_starts, follows_either, follows_always, follows_bind, follows_map, follows_many, starts_bind, starts_more, starts_word, starts_with, starts_name, full_word, full_bind}
 use Rattle.isl_tree.specs.declared.tree.Formula.{Formula}
 use Rattle.isl_tree.specs.declared.tree.Tuple.{Tuple}
+use Rattle.isl_tree.specs.declared.tree.PieceTree.{PieceTree}
+use Rattle.isl_tree.specs.declared.tree.Literal.{Literal}
 use Rattle.isl_formula.specs.Formula as formulas
 use Rattle.isl_formula.specs.FormulaGrammar as formula_spell
 use Rattle.isl_formula.proofs.TermEnds.{at}

@@ -1,5 +1,5 @@
 -- Both laws for literals with the rules on names.
-use Rattle.std.proofs.Common.{ℕ, cond, List, ◌++◌, Some, refl, ap, subst, ◌∙◌, inl, inr}
+use Rattle.std.proofs.Common.{◌≡◌, ℕ, ◌<◌, Bool, true, false, cond, List, ◌++◌, length, Option, Some, None, refl, sym, ap, subst, ◌∙◌, inl, inr}
 use Rattle.isl_token.specs.declared.token.Token.{Token}
 use Rattle.isl_token.specs.Reading.{Parser, and_then}
 use Rattle.isl_token.specs.Reading as r

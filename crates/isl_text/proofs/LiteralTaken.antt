@@ -1,6 +1,7 @@
 -- A literal that is read is spelled so.
-use Rattle.std.proofs.Common.{◌≡◌, ℕ, zero, suc, Bool, true, cond, List, [], ◌∷◌, ◌++◌, Option, Some, None, inl, inr}
+use Rattle.std.proofs.Common.{◌≡◌, ◌≢◌, ℕ, zero, suc, Bool, true, false, cond, List, [], ◌∷◌, ◌++◌, Option, Some, None, refl, inl, inr}
 use Rattle.isl_token.specs.declared.token.Token.{Token}
+use Rattle.isl_token.specs.declared.token.Kind.{Kind}
 use Rattle.isl_token.specs.declared.token.Kind.TheVariants as k
 use Rattle.isl_token.specs.Token.{Text, is_kind}
 use Rattle.isl_token.specs.Reading.{Parser, head_kind, sees}
@@ -10,6 +11,7 @@ use Rattle.isl_token.specs.Spelling as s
 use Rattle.isl_token.proofs.Taking.{TakesAt, Takes, takes_pure, takes_none, takes_bind, takes_map, takes_past, takes_seen, takes_after, takes_end, takes_or_left, takes_or_right, takes_peek, takes_if, takes_name, takes_whole_row, takes_test}
 use Rattle.isl_tree.specs.declared.tree.Signed.{Signed}
 use Rattle.isl_tree.specs.declared.tree.Formula.{Formula}
+use Rattle.isl_tree.specs.declared.tree.Entry.{Entry}
 use Rattle.isl_tree.specs.declared.tree.Entry.TheVariants.{Plain, Named}
 use Rattle.isl_tree.specs.declared.tree.Tuple.{Tuple}
 use Rattle.isl_tree.specs.declared.tree.Tuple.TheVariants.{Leaf, Pair}

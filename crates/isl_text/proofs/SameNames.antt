@@ -83,7 +83,8 @@ pub known_behind-same : (a b : List Text) (entries : List Entry) → HaveSameNam
     → HaveSameNames (known_behind a entries) (known_behind b entries)
 known_behind-same a b [] same = same
 known_behind-same a b (entry ∷ entries) same =
-    known_behind-same (with_name a (standing_name entry)) (with_name b (standing_name entry)) entries (with_name-same a b (standing_name entry) same)
+    known_behind-same (with_name a (standing_name entry)) (with_name b (standing_name entry)) entries
+    (with_name-same a b (standing_name entry) same)
 
 -- ---- sets of names
 
@@ -160,7 +161,9 @@ module _ (params start own : List Text) (entries : List Entry) (i : ℕ) (entry 
         same = along.same ∙ ap (names_are_new (params ++ own)) rest_is
             ∙ ap (λ q. q && names_are_new (with_name (params ++ own) (standing_name entry)) rest) new
             ∙ sym (names_are_new-same (params ++ more) (with_name (params ++ own) (standing_name entry)) rest next);
-        behind = same_names-trans (known_behind (params ++ more) rest) (known_behind (params ++ own) (drop i entries)) (known_behind (params ++ start) entries)
+        behind =
+            same_names-trans (known_behind (params ++ more) rest) (known_behind (params ++ own) (drop i entries))
+            (known_behind (params ++ start) entries)
             (subst (λ (l : List Entry). HaveSameNames (known_behind (params ++ more) rest) (known_behind (params ++ own) l)) (sym rest_is)
             (known_behind-same (params ++ more) (with_name (params ++ own) (standing_name entry)) rest next))
             along.behind;
@@ -278,4 +281,5 @@ module _ (names before pushed : List Text) (i : ℕ) (name copy : Text) (low : i
       ap (λ n. take i names ++ n ∷ drop (i + 1) names) (same ∙ at) ∙ ap (λ l. take i names ++ l) (sym (drop_more names i name low))
       ∙ take-append-drop i names in
       ap are_distinct (sym split)
-      ∙ distinct_fails (take i names) (drop (i + 1) names) copy (ap (λ l. is_among l copy) (sym is) ∙ sym (among_turned before copy) ∙ there)
+      ∙ distinct_fails (take i names) (drop (i + 1) names) copy
+      (ap (λ l. is_among l copy) (sym is) ∙ sym (among_turned before copy) ∙ there)

@@ -1,5 +1,5 @@
 -- What spells a tuple is read again.
-use Rattle.std.proofs.Common.{◌≡◌, ℕ, zero, suc, ◌<◌, Bool, true, false, not, ◌&&◌, List, [], ◌∷◌, ◌++◌, length, Option, Some, None, refl, sym, ap, ◌∙◌, inl, inr, arith}
+use Rattle.std.proofs.Common.{◌≡◌, ◌≢◌, ℕ, zero, suc, ◌+◌, ◌<◌, Bool, true, false, cond, not, ◌&&◌, List, [], ◌∷◌, ◌++◌, length, Option, Some, None, refl, sym, ap, ◌∙◌, inl, inr, arith}
 use Rattle.std.proofs.lemmas.Bool.{false≢true, true≢false, not-true}
 use Rattle.std.proofs.lemmas.List.{append-nil}
 use Rattle.isl_token.specs.declared.token.Token.{Token}
@@ -12,7 +12,7 @@ use Rattle.isl_token.specs.Reading as r
 use Rattle.isl_token.specs.Spelling.{Grammar}
 use Rattle.isl_token.specs.Spelling as s
 use Rattle.isl_token.proofs.Taking.{is_kind_same, is_kind_true}
-use Rattle.isl_token.proofs.Again.{Again, Starts, always, again_map, again_bind, again_skip, again_after, again_end, again_name, again_whole_row, follows_pure, follows_starts, follows_always, follows_bind, follows_many, starts_bind, starts_either, starts_more, starts_word, starts_with, starts_name, head_is, full_word, full_bind}
+use Rattle.isl_token.proofs.Again.{Stops, Again, Starts, Follows, Items, always, again_pure, again_map, again_bind, again_skip, again_after, again_end, again_name, again_whole_row, follows_pure, follows_starts, follows_either, follows_always, follows_bind, follows_many, follows_word, starts_bind, starts_either, starts_more, starts_word, starts_with, starts_name, head_is, full_word, full_bind}
 use Rattle.isl_tree.specs.declared.tree.Signed.{Signed}
 use Rattle.isl_tree.specs.declared.tree.Entry.{Entry}
 use Rattle.isl_tree.specs.declared.tree.Entry.TheVariants.{Plain, Named}

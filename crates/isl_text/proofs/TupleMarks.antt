@@ -1,11 +1,13 @@
 -- What a look ahead for `->` sees in tuples.
-use Rattle.std.proofs.Common.{◌≡◌, ℕ, zero, suc, true, List, [], ◌++◌, Option, Some, None, refl, ◌∙◌, inl, inr, append_assoc}
+use Rattle.std.proofs.Common.{◌≡◌, ℕ, zero, suc, Bool, true, false, List, [], ◌∷◌, ◌++◌, Option, Some, None, refl, ◌∙◌, inl, inr, append_assoc}
+use Rattle.std.specs.Prelude.{◌⊎◌}
 use Rattle.isl_token.specs.declared.token.Token.{Token}
 use Rattle.isl_token.specs.declared.token.Kind.TheVariants as k
 use Rattle.isl_token.specs.Token.{Text}
 use Rattle.isl_token.specs.Spelling.{Grammar}
 use Rattle.isl_token.specs.Spelling as s
 use Rattle.isl_tree.specs.declared.tree.Signed.{Signed}
+use Rattle.isl_tree.specs.declared.tree.Entry.{Entry}
 use Rattle.isl_tree.specs.declared.tree.Tuple.{Tuple}
 use Rattle.isl_tree.specs.declared.tree.Tuple.TheVariants.{Leaf, Pair}
 use Rattle.isl_formula.specs.declared.ahead.Mark.TheVariants.{Arrow}

@@ -1,6 +1,6 @@
 -- The limits of literals.
 use Rattle.std.specs.Prelude.{ℕ, ℤ, pos, ◌+◌, Bool, false, ◌&&◌, nat_le, int_lt, List, length, Option, Some, None}
-use Rattle.std.specs.List.{list_all}
+use Rattle.std.specs.List.{list_all, list_any}
 use Rattle.isl_token.specs.declared.token.Token.{Token}
 use Rattle.isl_token.specs.declared.token.Token.TheVariants as token
 use Rattle.isl_token.specs.Number.{value_of}

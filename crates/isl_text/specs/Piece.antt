@@ -1,9 +1,10 @@
 -- Pieces, and literals of which no rule on names is asked yet: how they are read.
 use Rattle.std.specs.Prelude.{Bool, true, false, List, [], ◌∷◌, Option, Some, None, if◌then◌else◌}
+use Rattle.isl_token.specs.declared.token.Token.{Token}
 use Rattle.isl_token.specs.declared.token.Kind.{Kind}
 use Rattle.isl_token.specs.declared.token.Kind.TheVariants as k
 use Rattle.isl_token.specs.Token.{Text}
-use Rattle.isl_token.specs.Reading.{Parser, ◌>>=◌, ◌>>◌, pure, head_kind, sees, skip, expect, name, row}
+use Rattle.isl_token.specs.Reading.{Parser, ◌>>=◌, ◌>>◌, pure, head_kind, tail, sees, skip, expect, name, row}
 use Rattle.isl_tree.specs.declared.tree.Formula.{Formula}
 use Rattle.isl_tree.specs.declared.tree.Tuple.{Tuple}
 use Rattle.isl_tree.specs.declared.tree.PieceTree.{PieceTree}

@@ -16,4 +16,5 @@ loop-name-preserved c =
     let before = c.loop-name.before.keys in
     let new : not (list_any (bytes_eq c.in_ok-copy.field-0) before) ≡ true = grind arith in
     distinct_more c.args.names.now before c.insert_full.new.self.keys c.loop-name.name-index c.name-item.result c.in_ok-copy.field-0
-    c.loop-name-test.true c.name-item.is c.in_ok-copy.ensures c.loop-name.invariant.0 c.loop-name.invariant.1 new c.in_ok-is_new.ensures.keys
+    c.loop-name-test.true c.name-item.is c.in_ok-copy.ensures c.loop-name.invariant.0 c.loop-name.invariant.1 new
+    c.in_ok-is_new.ensures.keys
