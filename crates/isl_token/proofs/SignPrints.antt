@@ -19,12 +19,14 @@ AllCut : (ℕ → Bool) → List Text → Type 0
 AllCut test [] = Unit {0}
 AllCut test (text ∷ texts) = Cuts test text × AllCut test texts
 
-one_cuts : (test : ℕ → Bool) (texts : List Text) → AllCut test texts → (text : Text) → list_any (bytes_eq text) texts ≡ true → Cuts test text
+one_cuts : (test : ℕ → Bool) (texts : List Text) → AllCut test texts → (text : Text) → list_any (bytes_eq text) texts ≡ true
+    → Cuts test text
 unfolding AllCut
 one_cuts test [] all text among = absurd (false≢true among)
 one_cuts test (t ∷ texts) all text among = by_test (bytes_eq text t) refl among (one_cuts test texts all.1 text)
   where
-    by_test : (q : Bool) → bytes_eq text t ≡ q → (q || list_any (bytes_eq text) texts) ≡ true → (list_any (bytes_eq text) texts ≡ true → Cuts test text) → Cuts test text
+    by_test : (q : Bool) → bytes_eq text t ≡ q → (q || list_any (bytes_eq text) texts) ≡ true
+        → (list_any (bytes_eq text) texts ≡ true → Cuts test text) → Cuts test text
     by_test true same among rest = subst (Cuts test) (sym ((bytes_eq-Decides text t).0 same)) all.0
     by_test false other among rest = rest among
 
@@ -32,7 +34,8 @@ one_cuts test (t ∷ texts) all text among = by_test (bytes_eq text t) refl amon
 
 abbrev pub whole_signs : List Text
 whole_signs =
-    (44 ∷ []) ∷ (59 ∷ []) ∷ (40 ∷ []) ∷ (41 ∷ []) ∷ (91 ∷ []) ∷ (93 ∷ []) ∷ (123 ∷ []) ∷ (125 ∷ []) ∷ (43 ∷ []) ∷ (62 ∷ 61 ∷ []) ∷ (33 ∷ 61 ∷ []) ∷ []
+    (44 ∷ []) ∷ (59 ∷ []) ∷ (40 ∷ []) ∷ (41 ∷ []) ∷ (91 ∷ []) ∷ (93 ∷ []) ∷ (123 ∷ []) ∷ (125 ∷ []) ∷ (43 ∷ []) ∷ (62 ∷ 61 ∷ []) ∷
+    (33 ∷ 61 ∷ []) ∷ []
 
 whole_cut : AllCut any whole_signs
 unfolding AllCut Cuts cut signs
@@ -48,7 +51,13 @@ whole_cut = (
           (omega arith, λ z _. refl),
           (
             (omega arith, λ z _. refl),
-            ((omega arith, λ z _. refl), ((omega arith, λ z _. refl), ((omega arith, λ z _. refl), ((omega arith, λ z _. refl), ((omega arith, λ z _. refl), tt))))),
+            (
+              (omega arith, λ z _. refl),
+              (
+                (omega arith, λ z _. refl),
+                ((omega arith, λ z _. refl), ((omega arith, λ z _. refl), ((omega arith, λ z _. refl), tt))),
+              ),
+            ),
           ),
         ),
       ),
@@ -66,14 +75,20 @@ abbrev pub spaced_signs : List Text
 spaced_signs = (45 ∷ []) ∷ (45 ∷ 62 ∷ []) ∷ (61 ∷ []) ∷ (58 ∷ []) ∷ []
 
 -- what is known before a blank is known of what follows
-before_blank : (text : Text) → ((z : Text) → cut (text ++ 32 ∷ z) ≡ (piece.Sign, length text)) → (z : Text) → blank (slice_index z 0) ≡ true → cut (text ++ z) ≡ (piece.Sign, length text)
+before_blank : (text : Text) → ((z : Text) → cut (text ++ 32 ∷ z) ≡ (piece.Sign, length text)) → (z : Text) → blank
+    (slice_index z 0) ≡ true → cut (text ++ z) ≡ (piece.Sign, length text)
 before_blank text is [] ends = absurd cc
 before_blank text is (b ∷ z) ends = let e : b ≡ 32 = eqb-true b 32 ends in rw e (is z)
 
 spaced_cut : AllCut blank spaced_signs
 unfolding AllCut Cuts cut signs
-spaced_cut =
-    ((omega arith, before_blank (45 ∷ []) (λ z. refl)), ((omega arith, before_blank (45 ∷ 62 ∷ []) (λ z. refl)), ((omega arith, before_blank (61 ∷ []) (λ z. refl)), ((omega arith, before_blank (58 ∷ []) (λ z. refl)), tt))))
+spaced_cut = (
+  (omega arith, before_blank (45 ∷ []) (λ z. refl)),
+  (
+    (omega arith, before_blank (45 ∷ 62 ∷ []) (λ z. refl)),
+    ((omega arith, before_blank (61 ∷ []) (λ z. refl)), ((omega arith, before_blank (58 ∷ []) (λ z. refl)), tt)),
+  ),
+)
 
 pub spaced_sign_prints : (text : Text) → list_any (bytes_eq text) spaced_signs ≡ true → Prints (text ++ 32 ∷ []) (token.Sign text ∷ []) any
 unfolding Cuts
