@@ -103,7 +103,7 @@ fn kind_of_piece(piece: Piece, text: &[u8]) -> Result<Option<Kind>, Fault>
 /// The tokens of a text, each the longest that fits.
 ///
 /// # Errors
-/// `Syntax` exactly where some byte begins no token.
+/// `Syntax` exactly where some byte begins no token, and `NoMemory` where memory runs out or the text has 4 GiB or more.
 #[tactic(auto, using(crate::proofs::Pieces::pieces))]
 pub fn tokens(alloc: Global, text: &[u8]) -> Result<Tokens<'_>, Fault>
     ensures lexes { Lexes (spec.tokens text.now) result }
