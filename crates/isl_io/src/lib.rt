@@ -6,8 +6,6 @@ mod mem_sink;
 mod mem_source;
 mod outside;
 mod standard;
-#[cfg(test)]
-mod tests;
 mod unread;
 
 pub use clean::{CleanSink, CleanSource};

@@ -8,8 +8,6 @@ mod lowered;
 mod places;
 mod plain;
 mod rows;
-#[cfg(test)]
-mod tests;
 mod value;
 
 pub use known::is_known;

@@ -3,6 +3,7 @@ pub mod NormalCases
 pub mod NumberLaws
 pub mod PointLaws
 pub mod RowLemmas
+pub mod RowMagnitudes
 pub mod ShapeLaws
 pub mod SettledLaws
 pub mod MergeLaws

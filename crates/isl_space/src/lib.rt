@@ -13,6 +13,3 @@ pub use name::Name;
 pub use params::Params;
 pub use shape::Shape;
 pub use space::Space;
-
-#[cfg(test)]
-mod tests;

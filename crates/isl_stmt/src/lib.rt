@@ -3,8 +3,6 @@
 
 mod cutter;
 mod script;
-#[cfg(test)]
-mod tests;
 
 pub use cutter::Cutter;
 pub use script::scripts_are_cut;

@@ -4,7 +4,7 @@ use Rattle.std.specs.Prelude.{not, slice_range}
 use Rattle.std.proofs.lemmas.Bool.{false≢true, true≢false}
 use Rattle.std.proofs.lemmas.List.{take-append-drop, drop-drop, length-drop, length-take}
 use Rattle.std.proofs.Math.Seq.{take-append_seam}
-use Rattle.isl_token.specs.declared.token.Token.{Token}
+use Rattle.isl_token.specs.TokenView.{Token}
 use Rattle.isl_token.specs.declared.fault.Fault.{Fault}
 use Rattle.isl_token.specs.declared.fault.Fault.TheVariants as fault
 use Rattle.isl_token.specs.Depth.{is_too_deep}

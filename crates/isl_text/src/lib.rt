@@ -8,6 +8,4 @@ pub mod literal;
 pub mod piece;
 pub mod read;
 pub mod refusal;
-#[cfg(test)]
-mod tests;
 pub mod tuple;

@@ -1,5 +1,7 @@
 pub mod Fronts
 pub mod Pieces
+pub mod MarkLaws
+pub mod DepthLaws
 pub mod Numbers
 pub mod Turns
 pub mod Taking

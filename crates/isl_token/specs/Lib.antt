@@ -1,3 +1,4 @@
+pub mod TokenView
 pub mod Token
 pub mod Lex
 pub mod Number

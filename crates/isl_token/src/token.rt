@@ -1,24 +1,7 @@
-//! Tokens, and what a token is to the grammar of literals.
+//! What a token is to the grammar of literals.
 
 ghost use Rattle.std.specs.Prelude.{◌≡◌, map};
 ghost use Rattle.isl_token.specs.Token as spec;
-
-use isl_space::Name;
-use sqlite_items::Items;
-
-/// A part of a text that is neither blank nor comment.
-#[derive(Drop)]
-pub enum Token {
-    /// An identifier, or a word of the notation.
-    Word(Name),
-    /// A number, as its digits.
-    Number(Items<u8>),
-    /// A sign, as its bytes.
-    Sign(Items<u8>),
-}
-
-/// Tokens in the order of the text. Contracts see their list.
-pub type Tokens = Items<Token>;
 
 /// What a token is to the grammar of literals: words and signs of one meaning are one kind.
 #[derive(Clone, Copy, Debug, PartialEq, Eq)]
@@ -60,8 +43,16 @@ pub enum Kind {
     Greater,
     GreaterEqual,
     Differs,
-    /// A sign that no literal has.
-    Other,
+    // Signs that statements have, and literals have not.
+    Assign,
+    Inverse,
+    Dot,
+    ArrowMinus,
+    ArrowStar,
+    LexLess,
+    LexLessEqual,
+    LexGreater,
+    LexGreaterEqual,
 }
 
 /// The words that are no identifiers inside a literal.
@@ -82,7 +73,7 @@ pub const WORDS: [(&[u8], Kind); 12] = [
 
 /// The signs.
 pub const SIGNS: [(&[u8], Kind); 34] = [
-    (b":=", Kind::Other),
+    (b":=", Kind::Assign),
     (b";", Kind::Semicolon),
     (b":", Kind::Colon),
     (b",", Kind::Comma),
@@ -95,11 +86,11 @@ pub const SIGNS: [(&[u8], Kind); 34] = [
     (b"+", Kind::Plus),
     (b"*", Kind::Star),
     (b"-", Kind::Minus),
-    (b"->-", Kind::Other),
-    (b"->*", Kind::Other),
+    (b"->-", Kind::ArrowMinus),
+    (b"->*", Kind::ArrowStar),
     (b"->", Kind::Arrow),
-    (b"^-1", Kind::Other),
-    (b".", Kind::Other),
+    (b"^-1", Kind::Inverse),
+    (b".", Kind::Dot),
     (b"/", Kind::Slash),
     (b"%", Kind::Mod),
     (b"=", Kind::Equal),
@@ -108,10 +99,10 @@ pub const SIGNS: [(&[u8], Kind); 34] = [
     (b"<=", Kind::LessEqual),
     (b">", Kind::Greater),
     (b">=", Kind::GreaterEqual),
-    (b"<<", Kind::Other),
-    (b"<<=", Kind::Other),
-    (b">>", Kind::Other),
-    (b">>=", Kind::Other),
+    (b"<<", Kind::LexLess),
+    (b"<<=", Kind::LexLessEqual),
+    (b">>", Kind::LexGreater),
+    (b">>=", Kind::LexGreaterEqual),
     (b"!=", Kind::Differs),
     (b"!", Kind::Not),
     (b"&&", Kind::And),
@@ -132,26 +123,15 @@ fn kind_in(mut table: &[(&[u8], Kind)], text: &[u8], other: Kind) -> Kind
 }
 
 #[tactic(auto, unfolding(crate::specs::Token::word_kind))]
-fn word_kind(word: &[u8]) -> Kind
+pub(crate) fn word_kind(word: &[u8]) -> Kind
     ensures { result ≡ spec.word_kind word.now }
 {
     kind_in(&WORDS, word, Kind::Name)
 }
 
 #[tactic(auto, unfolding(crate::specs::Token::sign_kind))]
-fn sign_kind(sign: &[u8]) -> Kind
+pub(crate) fn sign_kind(sign: &[u8]) -> Kind
     ensures { result ≡ spec.sign_kind sign.now }
 {
-    kind_in(&SIGNS, sign, Kind::Other)
-}
-
-/// What the token is inside a literal.
-pub fn kind_of(token: &Token) -> Kind
-    ensures { result ≡ spec.kind_of token.now }
-{
-    match token {
-        Token::Word(word) => word_kind(word.as_str().as_bytes()),
-        Token::Number(_) => Kind::Number,
-        Token::Sign(sign) => sign_kind(sign.as_slice()),
-    }
+    kind_in(&SIGNS, sign, Kind::End)
 }

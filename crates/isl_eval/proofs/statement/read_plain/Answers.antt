@@ -2,7 +2,7 @@ use Rattle.std.proofs.Common.{◌∙◌, ℤ, List, subst, sym, ap}
 use Rattle.std.specs.Int.{w128}
 use Rattle.std.proofs.lemmas.Int.{to_z-of_z}
 use Rattle.isl_token.specs.declared.fault.Fault.TheVariants as fault
-use Rattle.isl_token.specs.declared.token.Token.{Token}
+use Rattle.isl_token.specs.TokenView.{Token}
 use Rattle.isl_eval.specs.declared.statement.Statement.TheVariants.{Show}
 use Rattle.isl_eval.specs.Statement.{TokensSpell, IsWhyNoLiteral}
 use Rattle.isl_eval.proofs.ReadLaws.{is_fit, spelled_whole, none_before_end, none_unfit, none_standing}

@@ -1,6 +1,0 @@
-use Rattle.std.specs.List.{All}
-use Rattle.isl_piece.specs.Row.{IsRowWithin, IsWellFormed}
-use Rattle.isl_plain.proofs.tests.system.Given as goal
-
-abbrev pub invariant-loop-sample : goal.invariant-loop-sample
-invariant-loop-sample l = (All (IsWellFormed 2) l.rows) × (All (IsRowWithin l.meter) l.rows)

@@ -1,4 +1,0 @@
-pub mod NameLaws
-pub mod PartLaws
-pub mod TermLaws
-pub mod ValueLaws

@@ -1,5 +1,0 @@
-use Rattle.std.proofs.Common.{length}
-use Rattle.isl_plain_text.proofs.row.+placed.Given as goal
-
-abbrev pub decreases-placed : goal.decreases-placed
-decreases-placed l = length l.rows.now
