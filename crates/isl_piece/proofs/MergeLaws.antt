@@ -87,7 +87,7 @@ least_holds v c d = (
   (λ h. let p = h.0 in let q = h.1 in omega (arith, linear, clamps)),
 )
 
-int_min_itself : (c d : ℤ) → c ≡ d → int_min c d ≡ c
+pub int_min_itself : (c d : ℤ) → c ≡ d → int_min c d ≡ c
 int_min_itself c d e = elim (int_min_cases c d) [ inl f ↦ f | inr f ↦ f ∙ sym e ]
 
 pub tighter_holds : (a r : Row) (xs : List ℤ) → SameBound a r → HoldsRow (tighter a r) xs ↔ (HoldsRow a xs × HoldsRow r xs)
