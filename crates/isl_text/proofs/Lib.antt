@@ -10,3 +10,4 @@ pub mod Counting
 pub mod BoundLaws
 pub mod LimitLaws
 pub mod ReadLaws
+pub mod WideLaws
