@@ -4,4 +4,5 @@ pub mod Lex
 pub mod Number
 pub mod Depth
 pub mod Reading
+pub mod AnyWord
 pub mod Spelling
