@@ -1,5 +1,5 @@
 -- A number put into a list of numbers at one place, or taken out; and weighted sums of two lists.
-use Rattle.std.proofs.Common.{◌≡◌, ℕ, zero, suc, ◌+◌, ◌<◌, ◌≤◌, refl, ap, ◌∙◌, sym, arith, ℤ, pos, ◌+ℤ◌, ◌*ℤ◌, List, [], ◌∷◌, ◌++◌, length, get_or, take, drop, add-one}
+use Rattle.std.proofs.Common.{◌≡◌, ℕ, zero, suc, ◌+◌, ◌<◌, ◌≤◌, refl, ap, arith, ℤ, pos, ◌+ℤ◌, ◌*ℤ◌, List, [], ◌∷◌, ◌++◌, length, get_or, take, add-one}
 use Rattle.std.specs.List.{insert, remove}
 use Rattle.isl_math.proofs.Ring.{expand, linear}
 use Rattle.isl_math.specs.Dot.{dot, weighted_sum}

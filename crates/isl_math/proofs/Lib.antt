@@ -4,5 +4,6 @@ pub mod DivideLaws
 pub mod DotLaws
 pub mod GcdLaws
 pub mod ListLaws
+pub mod MagnitudeLaws
 pub mod OrderLaws
 pub mod Ring

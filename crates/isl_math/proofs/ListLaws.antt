@@ -1,5 +1,5 @@
 -- Some element of a list, all of them, or two lists at once.
-use Rattle.std.proofs.Common.{◌≡◌, ◌⊎◌, inl, inr, subst, ◌∙◌, Bool, true, false, cond, map, ℕ, zero, suc, ◌<◌, ◌≤◌, refl, ap, arith, List, [], ◌∷◌, ◌++◌, length, get_or}
+use Rattle.std.proofs.Common.{◌≡◌, ◌⊎◌, inl, inr, subst, ◌∙◌, Bool, true, false, cond, map, ℕ, zero, suc, ◌<◌, ◌≤◌, refl, arith, List, [], ◌∷◌, ◌++◌, length, get_or}
 use Rattle.std.specs.List.{All, AllZip, Any, Contains, filter, list_all}
 use Rattle.std.proofs.lemmas.Bool.{and_parts}
 use Rattle.std.proofs.lemmas.List.{get_or-map, length-map, length-append, get_or_append_left}

@@ -1,5 +1,5 @@
 -- What a meter shows, and what calls with a meter do to it.
-use Rattle.std.specs.Prelude.{◌≡◌, ℕ, ◌-◌, ◌^◌, ◌<◌, ◌≤◌, ℤ, pos, unsigned_abs, Result, MatchResult}
+use Rattle.std.specs.Prelude.{◌≡◌, ℕ, ◌-◌, ◌^◌, ◌<◌, ◌≤◌, ℤ, pos, ◌+ℤ◌, ◌≤ℤ◌, unsigned_abs, Result, MatchResult}
 use Rattle.isl_math.specs.Count.{risen, Rose}
 use Rattle.isl_meter.specs.declared.Cut.{Cut}
 use Rattle.isl_meter.specs.declared.Cut.TheVariants.{Overflow, Budget, NoMemory}
@@ -61,3 +61,23 @@ HasCause old new NoMemory = Unit {0}
 pub record IsCutBy (old new : Gauge) (cut : Cut) : Type 0 where
   pub kept : IsKept old new
   pub cause : HasCause old new cut
+
+-- ---- units
+-- units alone were used, at most z. A bound is a whole number, since a proof may not know it to be 0 or more
+pub record IsChargedUpTo (z : ℤ) (old new : Gauge) : Type 0 where
+  pub charged : IsCharged old new
+  pub most : pos new.units ≤ℤ (pos old.units +ℤ z)
+
+-- work was cut, after at most z units
+pub record IsCutUpTo (z : ℤ) (old new : Gauge) (cut : Cut) : Type 0 where
+  pub by : IsCutBy old new cut
+  pub most : pos new.units ≤ℤ (pos old.units +ℤ z)
+
+-- ---- what a call that may be cut leaves
+-- a result of P, and the meter is as it was; or work was cut, and no unit was used
+abbrev pub IsDone : {A : Type 0} → Gauge → Gauge → (A → Type 0) → Result A Cut → Type 0
+IsDone old new P result = MatchResult result (λ v. P v × (new ≡ old)) (IsCutUpTo (pos 0) old new)
+
+-- a result of P after at most z units; or work was cut after at most z
+abbrev pub IsDoneWithin : {A : Type 0} → ℤ → Gauge → Gauge → (A → Type 0) → Result A Cut → Type 0
+IsDoneWithin z old new P result = MatchResult result (λ v. P v × IsChargedUpTo z old new) (IsCutUpTo z old new)

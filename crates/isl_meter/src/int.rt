@@ -25,10 +25,13 @@ impl Model for Int {
 }
 
 impl Int {
+    /// The number 0.
     pub const ZERO: Int = Int { value: 0 };
 
+    /// The number 1.
     pub const ONE: Int = Int { value: 1 };
 
+    /// The integer with this value.
     #[inline]
     pub fn new(value: i128) -> Self
         ensures { result ≡ value }
@@ -36,6 +39,7 @@ impl Int {
         Int { value }
     }
 
+    /// The value.
     #[inline]
     pub fn get(self) -> i128
         ensures { result ≡ self }
@@ -43,6 +47,7 @@ impl Int {
         self.value
     }
 
+    /// Whether it is 0.
     #[inline]
     pub fn is_zero(self) -> bool
         ensures { IsTrue result ↔ (self ≡ pos 0) }
@@ -50,6 +55,7 @@ impl Int {
         self.value == 0
     }
 
+    /// Whether it is below 0.
     #[inline]
     pub fn is_negative(self) -> bool
         ensures { IsTrue result ↔ (self <ℤ pos 0) }
@@ -57,6 +63,7 @@ impl Int {
         self.value < 0
     }
 
+    /// Whether it is above 0.
     #[inline]
     pub fn is_positive(self) -> bool
         ensures { IsTrue result ↔ (pos 0 <ℤ self) }
@@ -65,6 +72,10 @@ impl Int {
     }
 
     /// `self + other`.
+    ///
+    /// # Errors
+    ///
+    /// `Overflow` where the magnitude of the result is above the limit of the meter.
     #[inline]
     pub fn add(self, other: Int, meter: &mut Meter) -> Result<Int, Overflow>
         ensures { IsMeasured meter.old meter.new (self +ℤ other) result }
@@ -74,6 +85,10 @@ impl Int {
     }
 
     /// `self - other`.
+    ///
+    /// # Errors
+    ///
+    /// `Overflow` where the magnitude of the result is above the limit of the meter.
     #[inline]
     pub fn sub(self, other: Int, meter: &mut Meter) -> Result<Int, Overflow>
         ensures { IsMeasured meter.old meter.new (self -ℤ other) result }
@@ -83,6 +98,10 @@ impl Int {
     }
 
     /// `self` times `other`.
+    ///
+    /// # Errors
+    ///
+    /// `Overflow` where the magnitude of the result is above the limit of the meter.
     #[inline]
     pub fn mul(self, other: Int, meter: &mut Meter) -> Result<Int, Overflow>
         ensures { IsMeasured meter.old meter.new (self *ℤ other) result }

@@ -4,7 +4,7 @@ use Rattle.std.specs.List.{insert}
 use Rattle.isl_math.specs.Divide.{floor_div, IsGcdOf}
 use Rattle.isl_math.specs.Dot.{dot}
 use Rattle.isl_math.proofs.Ring.{expand, linear}
-use Rattle.isl_math.proofs.OrderLaws.{<ℤ-from_*ℤ}
+use Rattle.isl_math.proofs.OrderLaws.{<ℤ-from_*ℤ, positive_not_zero}
 use Rattle.isl_meter.specs.Gauge.{Gauge}
 use Rattle.isl_piece.specs.declared.constraint.RowKind.{RowKind}
 use Rattle.isl_piece.specs.declared.constraint.RowKind.TheVariants.{AtLeast}
@@ -16,7 +16,7 @@ use Rattle.isl_omega.specs.Shadow.{ceiling, lower_at, upper_at, IsRealRow, IsDar
 use Rattle.isl_omega.specs.Sides.{IsLower, IsUpper}
 use Rattle.isl_omega.proofs.ColumnLemmas.{value_at-insert}
 use Rattle.isl_omega.proofs.CombineLemmas.{value_at-combination, coef_at-combination, combination_formed}
-use Rattle.isl_omega.proofs.EqualityLemmas.{exact_quotient, gcd_positive, positive_not_zero}
+use Rattle.isl_math.proofs.DivideLaws.{exact_quotient, gcd_positive}
 use Rattle.isl_omega.proofs.ImageLemmas.{free_of_zero}
 use Rattle.isl_omega.proofs.Pairs.{together_divided, real_divided, dark_divided}
 

@@ -11,10 +11,9 @@ use Rattle.isl_math.specs.Gcd.{content, IsContentOf}
 use Rattle.isl_math.specs.Order.{sign_of}
 use Rattle.isl_math.proofs.Ring.{expand, linear, *ℤ_assoc}
 use Rattle.isl_math.proofs.OrderLaws.{≡-from_*ℤ, sign-*ℤ, abs_positive}
-use Rattle.isl_math.proofs.DivideLaws.{floor_split, Divides_self, Divides-zero, one-Divides, Divides-neg_ℤ, Divides-minus, Divides-*ℤ, Divides-same, Divides_trans, gcd_unique}
+use Rattle.isl_math.proofs.DivideLaws.{exact_quotient, Divides_scaled, floor_split, Divides_self, Divides-zero, one-Divides, Divides-neg_ℤ, Divides-minus, Divides-*ℤ, Divides-same, Divides_trans, gcd_unique}
 use Rattle.isl_math.proofs.GcdLaws.{IsContentOf-content}
 use Rattle.isl_piece.specs.Numbers.{divided, opposite, lead}
-use Rattle.isl_piece.proofs.NumberLaws.{exact, Divides-cancel, Divides-times}
 
 -- ---- what determines the content
 pub content_unique : (xs : List ℤ) (g h : ℤ) → IsContentOf xs g → IsContentOf xs h → g ≡ h
@@ -34,7 +33,7 @@ common_times : (g d : ℤ) (xs : List ℤ) → pos 0 <ℤ g → All (Divides g) 
 common_times g d [] p h k = All-nil (Divides (g *ℤ d))
 common_times g d (x ∷ xs) p h k =
     All-cons (Divides (g *ℤ d)) x xs
-    (Divides-same (g *ℤ d) (g *ℤ floor_div x g) x (exact g x p (All-head (Divides g) x xs h)) (Divides-times g d (floor_div x g) (All-head (Divides d) (floor_div x g) (divided g xs) k)))
+    (Divides-same (g *ℤ d) (g *ℤ floor_div x g) x (exact_quotient g x p (All-head (Divides g) x xs h)) ((Divides_scaled g d (floor_div x g) p).1 (All-head (Divides d) (floor_div x g) (divided g xs) k)))
     (common_times g d xs p (All-tail (Divides g) x xs h) (All-tail (Divides d) (floor_div x g) (divided g xs) k))
 
 pub all_by_one : (xs : List ℤ) → All (Divides (pos 1)) xs
@@ -45,7 +44,7 @@ pub IsContentOf-divided : (xs : List ℤ) (g : ℤ) → pos 0 <ℤ g → IsConte
 IsContentOf-divided xs g p h = record {
   not_negative = omega (arith, linear);
   common = all_by_one (divided g xs);
-  greatest = λ d k. Divides-cancel g d (pos 1) p (Divides-same (g *ℤ d) g (g *ℤ pos 1) (omega (arith, linear)) (h.greatest (g *ℤ d) (common_times g d xs p h.common k)));
+  greatest = λ d k. (Divides_scaled g d (pos 1) p).0 (Divides-same (g *ℤ d) g (g *ℤ pos 1) (omega (arith, linear)) (h.greatest (g *ℤ d) (common_times g d xs p h.common k)));
 }
 
 pub content-divided : (xs : List ℤ) → content xs ≢ pos 0 → content (divided (content xs) xs) ≡ pos 1

@@ -3,6 +3,7 @@ pub mod NormalCases
 pub mod NumberLaws
 pub mod PointLaws
 pub mod RowLemmas
+pub mod RowMagnitudes
 pub mod ShapeLaws
 pub mod SettledLaws
 pub mod MergeLaws
@@ -13,3 +14,4 @@ pub mod PlaceLaws
 pub mod SystemLaws
 pub mod NegationLaws
 pub mod WitnessLaws
+pub mod IndexLaws

@@ -1,5 +1,5 @@
 -- The normal form of a row, case by case.
-use Rattle.std.proofs.Common.{◌≡◌, ◌≢◌, ◌⊎◌, inl, inr, refl, sym, ap, arith, ℤ, pos, ◌*ℤ◌, ◌≤ℤ◌, ◌<ℤ◌, List, ◌∷◌, Bool, true, false, cond, subst, int_lt}
+use Rattle.std.proofs.Common.{◌≡◌, ◌≢◌, ◌⊎◌, inl, inr, refl, sym, arith, ℤ, pos, ◌≤ℤ◌, ◌<ℤ◌, List, ◌∷◌, Bool, true, false, cond, subst, int_lt}
 use Rattle.std.specs.Ordering.{int_eq, int_cmp, is_lt}
 use Rattle.std.specs.Cmp.Lexicographic.{slice_cmp}
 use Rattle.std.proofs.lemmas.Bool.{cases_Bool}
@@ -9,7 +9,7 @@ use Rattle.std.proofs.lemmas.Int.{ints}
 use Rattle.isl_math.specs.Divide.{floor_div, floor_mod, Divides}
 use Rattle.isl_math.specs.Gcd.{content}
 use Rattle.isl_math.proofs.Ring.{linear}
-use Rattle.isl_math.proofs.DivideLaws.{Divides-from_mod, mod-from_Divides}
+use Rattle.isl_math.proofs.DivideLaws.{divisor_positive, Divides-from_mod, mod-from_Divides}
 use Rattle.isl_math.proofs.GcdLaws.{IsContentOf-content}
 use Rattle.isl_piece.specs.declared.constraint.Row.{Row}
 use Rattle.isl_piece.specs.Normal.{Verdict, Always, Never, Kept}
@@ -112,13 +112,9 @@ abbrev pub common_part : List ℤ → ℤ → ℤ
 common_part cs k = content (k ∷ reduced k cs)
 
 pub common_part-positive : (cs : List ℤ) (k : ℤ) → pos 0 <ℤ k → pos 0 <ℤ common_part cs k
-common_part-positive cs k p = let h = IsContentOf-content (k ∷ reduced k cs) in by (common_part cs k) k p h.not_negative (All-head (Divides (common_part cs k)) k (reduced k cs) h.common)
-  where
-    by : (g k : ℤ) → pos 0 <ℤ k → pos 0 ≤ℤ g → Divides g k → pos 0 <ℤ g
-    by g k p h d = elim (zero_cases g) [
-      | inl e ↦ let f = d.is in let t = ap (λ w. w *ℤ d.quotient) e in omega (arith, linear)
-      | inr n ↦ omega (arith, linear)
-    ]
+common_part-positive cs k p =
+    let h = IsContentOf-content (k ∷ reduced k cs) in
+    divisor_positive (common_part cs k) k p h.not_negative (All-head (Divides (common_part cs k)) k (reduced k cs) h.common)
 
 -- the congruence, divided
 abbrev pub divided_congruence : List ℤ → ℤ → ℤ → Row

@@ -1,5 +1,5 @@
 -- What the code that makes a row normal wants, for `using`.
-use Rattle.std.proofs.Common.{◌≡◌, ◌≢◌, inl, inr, refl, sym, ap, ◌∙◌, arith, ℕ, suc, ◌<◌, ◌≤◌, ◌^◌, ◌-◌, ℤ, pos, negsuc, neg_ℤ, ◌*ℤ◌, ◌≤ℤ◌, ◌<ℤ◌, List, [], ◌∷◌, ◌++◌, pow_pos, Bool, true, false, cond, int_lt, length, get_or, drop, drop-cons, add-one, ◌+◌}
+use Rattle.std.proofs.Common.{◌≡◌, ◌≢◌, refl, sym, ap, ◌∙◌, arith, ℕ, suc, ◌<◌, ◌≤◌, ◌^◌, ◌-◌, ℤ, pos, negsuc, neg_ℤ, ◌*ℤ◌, ◌≤ℤ◌, ◌<ℤ◌, List, [], ◌∷◌, ◌++◌, Bool, true, false, cond, int_lt, length, get_or, drop, drop-cons, add-one, ◌+◌}
 use Rattle.std.specs.List.{All}
 use Rattle.std.specs.Cmp.{int_ranked}
 use Rattle.std.specs.Cmp.Lexicographic.{slice_cmp}
@@ -14,6 +14,9 @@ use Rattle.isl_math.specs.Dot.{scaled}
 use Rattle.isl_math.specs.Gcd.{content}
 use Rattle.isl_math.specs.Order.{sign_of}
 use Rattle.isl_math.proofs.Ring.{linear}
+use Rattle.isl_math.proofs.DivideLaws.{divisor_positive}
+use Rattle.isl_math.proofs.MagnitudeLaws.{IsUpTo, up_to-floor_div, up_to-floor_mod}
+use Rattle.isl_meter.proofs.LimitLemmas.{within_up_to, up_to_within}
 use Rattle.isl_meter.specs.Gauge.{Gauge, IsWithin}
 use Rattle.isl_piece.specs.declared.constraint.RowKind.TheVariants.{Zero, AtLeast, Divides as KindDivides}
 use Rattle.isl_piece.specs.declared.constraint.RowKind.{RowKind}
@@ -22,17 +25,11 @@ use Rattle.isl_piece.specs.Row.{IsRowWithin}
 use Rattle.isl_piece.specs.Normal.{Always, Never, Kept}
 use Rattle.isl_piece.specs.Numbers.{divided, reduced, opposite, lead}
 use Rattle.isl_piece.specs.Normal.{normal_zero, normal_at_least, normal_divides, upright, bound, congruence, lesser, opposite_row, numbers_of}
-use Rattle.isl_piece.proofs.NumberLaws.{abs-quotient, abs-remainder, positive-divided, IsUpTo, IsUpTo-divided, IsUpTo-reduced, IsUpTo-opposite}
-use Rattle.isl_piece.proofs.ContentLaws.{zero_cases, content-divided, lead_not_zero, scaled_one, sign_of_positive}
+use Rattle.isl_piece.proofs.NumberLaws.{positive-divided, IsUpTo-divided, IsUpTo-reduced, IsUpTo-opposite}
+use Rattle.isl_piece.proofs.ContentLaws.{content-divided, lead_not_zero, scaled_one, sign_of_positive}
 use Rattle.isl_piece.proofs.NormalCases.{common_part, divided_congruence, normal_zero-always, normal_zero-never, normal_zero-apart, normal_zero-kept, normal_at_least-always, normal_at_least-never, normal_at_least-kept, normal_divides-always, normal_divides-never, normal_divides-kept, content_positive, int_lt-true, int_lt-false}
 
 -- ---- within the limit
-up_to_within : (g : Gauge) (z : ℤ) → IsUpTo (2 ^ g.bits - 1) z → IsWithin g z
-up_to_within g z h = omega (arith, pow_pos g.bits)
-
-within_up_to : (g : Gauge) (z : ℤ) → IsWithin g z → IsUpTo (2 ^ g.bits - 1) z
-within_up_to g z h = omega arith
-
 pub All-IsWithin-divided : (m : Gauge) (g : ℤ) (xs : List ℤ) → pos 0 <ℤ g → All (IsWithin m) xs → All (IsWithin m) (divided g xs)
 All-IsWithin-divided m g xs p h = All-weaker (IsUpTo (2 ^ m.bits - 1)) (IsWithin m) (up_to_within m) (divided g xs) (IsUpTo-divided (2 ^ m.bits - 1) g xs p (All-weaker (IsWithin m) (IsUpTo (2 ^ m.bits - 1)) (within_up_to m) xs h))
 
@@ -92,10 +89,10 @@ pub ruleset bound_steps = (normal_at_least-always, normal_at_least-never, above_
 
 -- ---- a row within the limit
 pub IsWithin-floor_div : (m : Gauge) (g z : ℤ) → pos 0 <ℤ g → IsWithin m z → IsWithin m (floor_div z g)
-IsWithin-floor_div m g z p h = up_to_within m (floor_div z g) (abs-quotient (2 ^ m.bits - 1) g z p (within_up_to m z h))
+IsWithin-floor_div m g z p h = up_to_within m (floor_div z g) (up_to-floor_div (2 ^ m.bits - 1) z g p (within_up_to m z h))
 
 pub IsWithin-floor_mod : (m : Gauge) (k z : ℤ) → pos 0 <ℤ k → IsWithin m k → IsWithin m (floor_mod z k)
-IsWithin-floor_mod m k z p h = up_to_within m (floor_mod z k) (abs-remainder (2 ^ m.bits - 1) k z p (within_up_to m k h))
+IsWithin-floor_mod m k z p h = up_to_within m (floor_mod z k) (up_to-floor_mod (2 ^ m.bits - 1) z k p (within_up_to m k h))
 
 pub IsRowWithin-divided : (m : Gauge) (r new : Row) (g : ℤ) → pos 0 <ℤ g → IsRowWithin m r → new ≡ record r { coefs = divided g r.coefs; constant = floor_div r.constant g } → IsRowWithin m new
 IsRowWithin-divided m r new g p h e = rw e (record { coefs = All-IsWithin-divided m g r.coefs p h.coefs; constant = IsWithin-floor_div m g r.constant p h.constant; k = h.k })
@@ -155,13 +152,6 @@ opposite_order-end k cs c i o h f = let e : drop i cs ≡ [] = grind (arith, com
 pub ruleset orders = (opposite_order-skip, opposite_order-here, opposite_order-end, get_or_read)
 
 -- ---- a form that k divides
--- a divisor of a number above 0 that is not negative is above 0
-pub divisor_positive : (g k : ℤ) → pos 0 <ℤ k → pos 0 ≤ℤ g → Divides g k → pos 0 <ℤ g
-divisor_positive g k p h d = elim (zero_cases g) [
-  | inl e ↦ let f = d.is in let t = ap (λ w. w *ℤ d.quotient) e in omega (arith, linear)
-  | inr n ↦ omega (arith, linear)
-]
-
 pub divides_never : (cs : List ℤ) (c k : ℤ) (ds : List ℤ) (r g : ℤ) → pos 0 <ℤ k → ds ≡ reduced k cs → r ≡ floor_mod c k → g ≡ content (k ∷ ds) → ¬ Divides g r → normal_divides cs c k ≡ Never
 divides_never cs c k ds r g p e f h n =
     let part : g ≡ common_part cs k = h ∙ ap (λ xs. content (k ∷ xs)) e in

@@ -1,21 +1,14 @@
 -- The laws of divided, reduced and opposite lists of numbers.
-use Rattle.std.proofs.Common.{◌≡◌, ℕ, zero, suc, ◌≤◌, ◌≤ℤ◌, ◌<ℤ◌, refl, sym, ap, ◌∙◌, arith, ℤ, pos, negsuc, neg_ℤ, ◌+ℤ◌, ◌-ℤ◌, ◌*ℤ◌, List, [], ◌∷◌, length, unsigned_abs}
+use Rattle.std.proofs.Common.{◌≡◌, ℕ, ◌≤◌, ◌<ℤ◌, refl, sym, ap, ◌∙◌, arith, ℤ, pos, neg_ℤ, ◌+ℤ◌, ◌-ℤ◌, ◌*ℤ◌, List, [], ◌∷◌, length, unsigned_abs}
 use Rattle.std.specs.List.{All}
 use Rattle.std.proofs.lemmas.List.Elements.{All-nil, All-cons, All-head, All-tail}
-use Rattle.isl_math.specs.Divide.{floor_div, floor_mod, Divides, IsCongruent}
+use Rattle.isl_math.specs.Divide.{floor_div, floor_mod, IsRemainder, Divides, IsCongruent}
 use Rattle.isl_math.specs.Dot.{dot}
-use Rattle.std.proofs.Math.Nat.{div-le_self}
-use Rattle.isl_math.proofs.Ring.{expand, linear, *ℤ_assoc}
-use Rattle.isl_math.proofs.OrderLaws.{≤ℤ-from_*ℤ, <ℤ-from_*ℤ, ≡-from_*ℤ}
-use Rattle.isl_math.proofs.DivideLaws.{floor_split, floor_mod_bounds, floor_unique, floor_mod-same, Divides-zero, Divides-+ℤ, Divides-*ℤ, Divides-same, mod-from_Divides, IsCongruent_refl, IsCongruent-+ℤ, IsCongruent-*ℤ, IsCongruent-floor_mod}
+use Rattle.isl_math.proofs.Ring.{expand, linear}
+use Rattle.isl_math.proofs.OrderLaws.{≤ℤ-from_*ℤ, <ℤ-from_*ℤ}
+use Rattle.isl_math.proofs.MagnitudeLaws.{IsUpTo, up_to-floor_div, up_to-floor_mod}
+use Rattle.isl_math.proofs.DivideLaws.{exact_quotient, IsRemainder-floor_mod, floor_mod-from_IsRemainder, floor_split, floor_unique, floor_mod-same, Divides-zero, Divides-+ℤ, Divides-*ℤ, Divides-same, IsCongruent_refl, IsCongruent-+ℤ, IsCongruent-*ℤ, IsCongruent-floor_mod}
 use Rattle.isl_piece.specs.Numbers.{divided, reduced, opposite}
-
--- ---- a quotient without a remainder
-pub exact : (g z : ℤ) → pos 0 <ℤ g → Divides g z → g *ℤ floor_div z g ≡ z
-exact g z p d =
-    let s = floor_split z g p in
-    let m = mod-from_Divides g z p d in
-    omega (arith, linear)
 
 -- ---- lengths
 pub length-divided : (g : ℤ) (xs : List ℤ) → length (divided g xs) ≡ length xs
@@ -39,7 +32,7 @@ Divides-dot g (c ∷ cs) (x ∷ xs) h = Divides-+ℤ g (c *ℤ x) (dot cs xs) (D
 pub dot-divided : (g : ℤ) (cs xs : List ℤ) → pos 0 <ℤ g → All (Divides g) cs → g *ℤ dot (divided g cs) xs ≡ dot cs xs
 dot-divided g [] xs p h = omega (arith, linear)
 dot-divided g (c ∷ cs) [] p h = omega (arith, linear)
-dot-divided g (c ∷ cs) (x ∷ xs) p h = by g c x (floor_div c g) (dot (divided g cs) xs) (dot cs xs) (exact g c p (All-head (Divides g) c cs h)) (dot-divided g cs xs p (All-tail (Divides g) c cs h))
+dot-divided g (c ∷ cs) (x ∷ xs) p h = by g c x (floor_div c g) (dot (divided g cs) xs) (dot cs xs) (exact_quotient g c p (All-head (Divides g) c cs h)) (dot-divided g cs xs p (All-tail (Divides g) c cs h))
   where
     by : (g c x q r s : ℤ) → g *ℤ q ≡ c → g *ℤ r ≡ s → g *ℤ (q *ℤ x +ℤ r) ≡ c *ℤ x +ℤ s
     by g c x q r s e f = let e' = simp expand at (ap (λ w. w *ℤ x) e) in simp expand (omega (arith, linear))
@@ -75,94 +68,59 @@ divided_one (x ∷ xs) = let e = divided_one xs in let f = quotient_one x in cc
 pub divided_by_one : (g : ℤ) (xs : List ℤ) → g ≡ pos 1 → xs ≡ divided g xs
 divided_by_one g xs e = rw e (sym (divided_one xs))
 
--- x is from 0 to k - 1
-pub record IsReduced (k x : ℤ) : Type 0 where
-  pub low : pos 0 ≤ℤ x
-  pub high : x <ℤ k
+pub All-IsRemainder-reduced : (k : ℤ) (xs : List ℤ) → pos 0 <ℤ k → All (IsRemainder k) (reduced k xs)
+All-IsRemainder-reduced k [] p = All-nil (IsRemainder k)
+All-IsRemainder-reduced k (x ∷ xs) p = All-cons (IsRemainder k) (floor_mod x k) (reduced k xs) (IsRemainder-floor_mod k x p) (All-IsRemainder-reduced k xs p)
 
-pub IsReduced-floor_mod : (k z : ℤ) → pos 0 <ℤ k → IsReduced k (floor_mod z k)
-IsReduced-floor_mod k z p = let b = floor_mod_bounds z k p in record { low = b.0; high = b.1 }
+pub All-IsRemainder-opposite : (k : ℤ) (xs : List ℤ) → pos 0 <ℤ k → All (IsRemainder k) (opposite k xs)
+All-IsRemainder-opposite k [] p = All-nil (IsRemainder k)
+All-IsRemainder-opposite k (x ∷ xs) p = All-cons (IsRemainder k) (floor_mod (neg_ℤ x) k) (opposite k xs) (IsRemainder-floor_mod k (neg_ℤ x) p) (All-IsRemainder-opposite k xs p)
 
-pub floor_mod_reduced : (k x : ℤ) → IsReduced k x → floor_mod x k ≡ x
-floor_mod_reduced k x h = sym (floor_unique x k (pos 0) x (omega (arith, linear)) h.low h.high).1
-
-pub All-IsReduced-reduced : (k : ℤ) (xs : List ℤ) → pos 0 <ℤ k → All (IsReduced k) (reduced k xs)
-All-IsReduced-reduced k [] p = All-nil (IsReduced k)
-All-IsReduced-reduced k (x ∷ xs) p = All-cons (IsReduced k) (floor_mod x k) (reduced k xs) (IsReduced-floor_mod k x p) (All-IsReduced-reduced k xs p)
-
-pub All-IsReduced-opposite : (k : ℤ) (xs : List ℤ) → pos 0 <ℤ k → All (IsReduced k) (opposite k xs)
-All-IsReduced-opposite k [] p = All-nil (IsReduced k)
-All-IsReduced-opposite k (x ∷ xs) p = All-cons (IsReduced k) (floor_mod (neg_ℤ x) k) (opposite k xs) (IsReduced-floor_mod k (neg_ℤ x) p) (All-IsReduced-opposite k xs p)
-
-pub reduced_reduced : (k : ℤ) (xs : List ℤ) → All (IsReduced k) xs → reduced k xs ≡ xs
+pub reduced_reduced : (k : ℤ) (xs : List ℤ) → All (IsRemainder k) xs → reduced k xs ≡ xs
 reduced_reduced k [] h = refl
-reduced_reduced k (x ∷ xs) h = let e = reduced_reduced k xs (All-tail (IsReduced k) x xs h) in let f = floor_mod_reduced k x (All-head (IsReduced k) x xs h) in cc
+reduced_reduced k (x ∷ xs) h = let e = reduced_reduced k xs (All-tail (IsRemainder k) x xs h) in let f = floor_mod-from_IsRemainder k x (All-head (IsRemainder k) x xs h) in cc
 
-pub opposite_twice : (k x : ℤ) → pos 0 <ℤ k → IsReduced k x → floor_mod (neg_ℤ (floor_mod (neg_ℤ x) k)) k ≡ x
+pub opposite_twice : (k x : ℤ) → pos 0 <ℤ k → IsRemainder k x → floor_mod (neg_ℤ (floor_mod (neg_ℤ x) k)) k ≡ x
 opposite_twice k x p h =
     let s = floor_split (neg_ℤ x) k p in
-    floor_mod-same k (neg_ℤ (floor_mod (neg_ℤ x) k)) x p (record { quotient = floor_div (neg_ℤ x) k; is = omega (arith, linear) }) ∙ floor_mod_reduced k x h
+    floor_mod-same k (neg_ℤ (floor_mod (neg_ℤ x) k)) x p (record { quotient = floor_div (neg_ℤ x) k; is = omega (arith, linear) }) ∙ floor_mod-from_IsRemainder k x h
 
 -- the opposite of the opposite is the number again
-pub opposite_opposite : (k : ℤ) (xs : List ℤ) → pos 0 <ℤ k → All (IsReduced k) xs → opposite k (opposite k xs) ≡ xs
+pub opposite_opposite : (k : ℤ) (xs : List ℤ) → pos 0 <ℤ k → All (IsRemainder k) xs → opposite k (opposite k xs) ≡ xs
 opposite_opposite k [] p h = refl
-opposite_opposite k (x ∷ xs) p h = let e = opposite_opposite k xs p (All-tail (IsReduced k) x xs h) in let f = opposite_twice k x p (All-head (IsReduced k) x xs h) in cc
+opposite_opposite k (x ∷ xs) p h = let e = opposite_opposite k xs p (All-tail (IsRemainder k) x xs h) in let f = opposite_twice k x p (All-head (IsRemainder k) x xs h) in cc
 
 -- ---- what g divides, divided by g
-pub Divides-cancel : (g d z : ℤ) → pos 0 <ℤ g → Divides (g *ℤ d) (g *ℤ z) → Divides d z
-Divides-cancel g d z p h = record {
-  quotient = h.quotient;
-  is = ≡-from_*ℤ g z (d *ℤ h.quotient) (λ e. not_positive g p e) (h.is ∙ *ℤ_assoc g d h.quotient);
-}
-  where
-    not_positive : (g : ℤ) → pos 0 <ℤ g → g ≡ pos 0 → ⊥
-    not_positive g p e = omega (arith, linear)
-
-pub Divides-times : (g d z : ℤ) → Divides d z → Divides (g *ℤ d) (g *ℤ z)
-Divides-times g d z h = record { quotient = h.quotient; is = ap (λ w. g *ℤ w) h.is ∙ sym (*ℤ_assoc g d h.quotient) }
-
-pub IsReduced-divided : (g k x : ℤ) → pos 0 <ℤ g → pos 0 <ℤ k → Divides g k → Divides g x → IsReduced k x → IsReduced (floor_div k g) (floor_div x g)
-IsReduced-divided g k x p q dk dx h =
-    let e = exact g k p dk in
-    let f = exact g x p dx in
-    let l = h.low in
-    let u = h.high in
+pub IsRemainder-divided : (g k x : ℤ) → pos 0 <ℤ g → pos 0 <ℤ k → Divides g k → Divides g x → IsRemainder k x → IsRemainder (floor_div k g) (floor_div x g)
+IsRemainder-divided g k x p q dk dx h =
+    let e = exact_quotient g k p dk in
+    let f = exact_quotient g x p dx in
+    let l = h.not_negative in
+    let u = h.small in
     record {
-      low = ≤ℤ-from_*ℤ g (pos 0) (floor_div x g) p (omega (arith, linear));
-      high = <ℤ-from_*ℤ g (floor_div x g) (floor_div k g) (omega (arith, linear)) (omega (arith, linear));
+      not_negative = ≤ℤ-from_*ℤ g (pos 0) (floor_div x g) p (omega (arith, linear));
+      small = <ℤ-from_*ℤ g (floor_div x g) (floor_div k g) (omega (arith, linear)) (omega (arith, linear));
     }
 
-pub All-IsReduced-divided : (g k : ℤ) (xs : List ℤ) → pos 0 <ℤ g → pos 0 <ℤ k → Divides g k → All (Divides g) xs → All (IsReduced k) xs → All (IsReduced (floor_div k g)) (divided g xs)
-All-IsReduced-divided g k [] p q dk d h = All-nil (IsReduced (floor_div k g))
-All-IsReduced-divided g k (x ∷ xs) p q dk d h =
-    All-cons (IsReduced (floor_div k g)) (floor_div x g) (divided g xs)
-    (IsReduced-divided g k x p q dk (All-head (Divides g) x xs d) (All-head (IsReduced k) x xs h))
-    (All-IsReduced-divided g k xs p q dk (All-tail (Divides g) x xs d) (All-tail (IsReduced k) x xs h))
+pub All-IsRemainder-divided : (g k : ℤ) (xs : List ℤ) → pos 0 <ℤ g → pos 0 <ℤ k → Divides g k → All (Divides g) xs → All (IsRemainder k) xs → All (IsRemainder (floor_div k g)) (divided g xs)
+All-IsRemainder-divided g k [] p q dk d h = All-nil (IsRemainder (floor_div k g))
+All-IsRemainder-divided g k (x ∷ xs) p q dk d h =
+    All-cons (IsRemainder (floor_div k g)) (floor_div x g) (divided g xs)
+    (IsRemainder-divided g k x p q dk (All-head (Divides g) x xs d) (All-head (IsRemainder k) x xs h))
+    (All-IsRemainder-divided g k xs p q dk (All-tail (Divides g) x xs d) (All-tail (IsRemainder k) x xs h))
 
 pub positive-divided : (g k : ℤ) → pos 0 <ℤ g → pos 0 <ℤ k → Divides g k → pos 0 <ℤ floor_div k g
-positive-divided g k p q d = let e = exact g k p d in <ℤ-from_*ℤ g (pos 0) (floor_div k g) (omega (arith, linear)) (omega (arith, linear))
+positive-divided g k p q d = let e = exact_quotient g k p d in <ℤ-from_*ℤ g (pos 0) (floor_div k g) (omega (arith, linear)) (omega (arith, linear))
 
 -- ---- magnitudes
-pub abs-quotient : (b : ℕ) (g z : ℤ) → pos 0 <ℤ g → unsigned_abs z ≤ b → unsigned_abs (floor_div z g) ≤ b
-abs-quotient b (pos zero) z p h = absurd p.lt
-abs-quotient b (pos (suc g)) (pos a) p h = let d = div-le_self a (suc g) in omega (arith, linear)
-abs-quotient b (pos (suc g)) (negsuc a) p h = let d = div-le_self a (suc g) in omega (arith, linear)
-abs-quotient b (negsuc g) z p h = absurd p.lt
-
-pub abs-remainder : (b : ℕ) (k z : ℤ) → pos 0 <ℤ k → unsigned_abs k ≤ b → unsigned_abs (floor_mod z k) ≤ b
-abs-remainder b k z p h = let r = floor_mod_bounds z k p in omega (arith, linear)
-
-abbrev pub IsUpTo : ℕ → ℤ → Type 0
-IsUpTo b z = unsigned_abs z ≤ b
-
 pub IsUpTo-divided : (b : ℕ) (g : ℤ) (xs : List ℤ) → pos 0 <ℤ g → All (IsUpTo b) xs → All (IsUpTo b) (divided g xs)
 IsUpTo-divided b g [] p h = All-nil (IsUpTo b)
-IsUpTo-divided b g (x ∷ xs) p h = All-cons (IsUpTo b) (floor_div x g) (divided g xs) (abs-quotient b g x p (All-head (IsUpTo b) x xs h)) (IsUpTo-divided b g xs p (All-tail (IsUpTo b) x xs h))
+IsUpTo-divided b g (x ∷ xs) p h = All-cons (IsUpTo b) (floor_div x g) (divided g xs) (up_to-floor_div b x g p (All-head (IsUpTo b) x xs h)) (IsUpTo-divided b g xs p (All-tail (IsUpTo b) x xs h))
 
 pub IsUpTo-reduced : (b : ℕ) (k : ℤ) (xs : List ℤ) → pos 0 <ℤ k → unsigned_abs k ≤ b → All (IsUpTo b) (reduced k xs)
 IsUpTo-reduced b k [] p h = All-nil (IsUpTo b)
-IsUpTo-reduced b k (x ∷ xs) p h = All-cons (IsUpTo b) (floor_mod x k) (reduced k xs) (abs-remainder b k x p h) (IsUpTo-reduced b k xs p h)
+IsUpTo-reduced b k (x ∷ xs) p h = All-cons (IsUpTo b) (floor_mod x k) (reduced k xs) (up_to-floor_mod b x k p h) (IsUpTo-reduced b k xs p h)
 
 pub IsUpTo-opposite : (b : ℕ) (k : ℤ) (xs : List ℤ) → pos 0 <ℤ k → unsigned_abs k ≤ b → All (IsUpTo b) (opposite k xs)
 IsUpTo-opposite b k [] p h = All-nil (IsUpTo b)
-IsUpTo-opposite b k (x ∷ xs) p h = All-cons (IsUpTo b) (floor_mod (neg_ℤ x) k) (opposite k xs) (abs-remainder b k (neg_ℤ x) p h) (IsUpTo-opposite b k xs p h)
+IsUpTo-opposite b k (x ∷ xs) p h = All-cons (IsUpTo b) (floor_mod (neg_ℤ x) k) (opposite k xs) (up_to-floor_mod b (neg_ℤ x) k p h) (IsUpTo-opposite b k xs p h)

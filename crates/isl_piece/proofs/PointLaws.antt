@@ -8,7 +8,7 @@ use Rattle.isl_math.specs.Gcd.{content}
 use Rattle.isl_math.specs.Order.{sign_of}
 use Rattle.isl_math.proofs.Ring.{expand, linear}
 use Rattle.isl_math.proofs.OrderLaws.{≡-from_*ℤ}
-use Rattle.isl_math.proofs.DivideLaws.{at_most_floor, Divides-+ℤ, Divides-minus, Divides-neg_ℤ, Divides-same, Divides_trans, IsCongruent-floor_mod, IsCongruent-+ℤ, one-Divides}
+use Rattle.isl_math.proofs.DivideLaws.{at_most_floor, exact_quotient, Divides_scaled, Divides-+ℤ, Divides-minus, Divides-neg_ℤ, Divides-same, Divides_trans, IsCongruent-floor_mod, IsCongruent-+ℤ, one-Divides}
 use Rattle.isl_math.proofs.DotLaws.{dot-scaled}
 use Rattle.isl_math.proofs.GcdLaws.{IsContentOf-content}
 use Rattle.isl_piece.specs.declared.constraint.RowKind.{RowKind}
@@ -18,7 +18,7 @@ use Rattle.isl_piece.specs.Normal.{Verdict, Always, Never, Kept}
 use Rattle.isl_piece.specs.Numbers.{divided, reduced, opposite, lead}
 use Rattle.isl_piece.specs.Row.{HoldsValue, HoldsRow, HasDivisor}
 use Rattle.isl_piece.specs.Normal.{normal_zero, normal_at_least, normal_divides, normal_form, normal_row, denied, upright, lesser}
-use Rattle.isl_piece.proofs.NumberLaws.{exact, Divides-dot, dot-divided, dot-reduced, dot-opposite, Divides-times, Divides-cancel, positive-divided}
+use Rattle.isl_piece.proofs.NumberLaws.{Divides-dot, dot-divided, dot-reduced, dot-opposite, positive-divided}
 use Rattle.isl_piece.proofs.ContentLaws.{content-divided, lead_not_zero, sign_not_zero}
 use Rattle.isl_piece.proofs.NormalCases.{content_positive, common_part, common_part-positive, divided_congruence, normal_zero_by, normal_at_least_by, normal_divides_by, lesser_by}
 
@@ -68,7 +68,7 @@ normal_zero_holds cs c xs = normal_zero_by (λ v. HoldsVerdict v xs ↔ (dot cs 
         let ds = divided g cs in
         let s = sign_of (lead ds) in
         let one : content ds ≢ pos 0 = λ e. let f = content-divided cs n in two_numbers (content ds) f e in
-        rw (dot-scaled s ds xs) (zero_scaled s g (dot ds xs) (floor_div c g) (dot cs xs) c (sign_not_zero (lead ds) (lead_not_zero ds one)) n (dot-divided g cs xs p (IsContentOf-content cs).common) (exact g c p d))
+        rw (dot-scaled s ds xs) (zero_scaled s g (dot ds xs) (floor_div c g) (dot cs xs) c (sign_not_zero (lead ds) (lead_not_zero ds one)) n (dot-divided g cs xs p (IsContentOf-content cs).common) (exact_quotient g c p d))
       where
         two_numbers : (z : ℤ) → z ≡ pos 1 → z ≡ pos 0 → ⊥
         two_numbers z e f = omega (arith, linear)
@@ -102,9 +102,6 @@ negative_divides k z = (
   (λ d. Divides-neg_ℤ k z d),
 )
 
-scaled_divides : (g k z : ℤ) → pos 0 <ℤ g → divide.Divides (g *ℤ k) (g *ℤ z) ↔ divide.Divides k z
-scaled_divides g k z p = ((λ d. Divides-cancel g k z p d), (λ d. Divides-times g k z d))
-
 both_ways : {P Q R : Type 0} → P ↔ Q → Q ↔ R → P ↔ R
 both_ways f g = ((λ p. g.0 (f.0 p)), (λ r. f.1 (g.1 r)))
 
@@ -132,8 +129,8 @@ common_divides cs c k xs p d =
     let q = common_part-positive cs k p in
     let all = (IsContentOf-content (k ∷ reduced k cs)).common in
     let dk = All-head (divide.Divides g) k (reduced k cs) all in
-    both_ways (turned (scaled_divides g (floor_div k g) (dot (divided g (reduced k cs)) xs +ℤ floor_div (floor_mod c k) g) q))
-    (both_ways (same g (floor_div k g) k (dot (divided g (reduced k cs)) xs) (dot (reduced k cs) xs) (floor_div (floor_mod c k) g) (floor_mod c k) (exact g k q dk) (dot-divided g (reduced k cs) xs q (All-tail (divide.Divides g) k (reduced k cs) all)) (exact g (floor_mod c k) q d))
+    both_ways (turned (Divides_scaled g (floor_div k g) (dot (divided g (reduced k cs)) xs +ℤ floor_div (floor_mod c k) g) q))
+    (both_ways (same g (floor_div k g) k (dot (divided g (reduced k cs)) xs) (dot (reduced k cs) xs) (floor_div (floor_mod c k) g) (floor_mod c k) (exact_quotient g k q dk) (dot-divided g (reduced k cs) xs q (All-tail (divide.Divides g) k (reduced k cs) all)) (exact_quotient g (floor_mod c k) q d))
     (reduced_divides cs c k xs p))
   where
     same : (g h k w v q c : ℤ) → g *ℤ h ≡ k → g *ℤ w ≡ v → g *ℤ q ≡ c → divide.Divides (g *ℤ h) (g *ℤ (w +ℤ q)) ↔ divide.Divides k (v +ℤ c)

@@ -9,12 +9,12 @@ use Rattle.std.specs.declared.cmp.Ordering.TheVariants.{Less, Equal, Greater}
 use Rattle.std.proofs.lemmas.Bool.{cases_Bool, cond-true, cond-false}
 use Rattle.std.proofs.lemmas.List.Elements.{All-cons, All-head, All-tail}
 use Rattle.isl_math.specs.Divide as divide
-use Rattle.isl_math.specs.Divide.{floor_div, floor_mod}
+use Rattle.isl_math.specs.Divide.{floor_div, floor_mod, IsRemainder}
 use Rattle.isl_math.specs.Dot.{scaled}
 use Rattle.isl_math.specs.Gcd.{content}
 use Rattle.isl_math.specs.Order.{sign_of}
 use Rattle.isl_math.proofs.Ring.{linear}
-use Rattle.isl_math.proofs.DivideLaws.{one-Divides}
+use Rattle.isl_math.proofs.DivideLaws.{one-Divides, IsRemainder-floor_mod, floor_mod-from_IsRemainder}
 use Rattle.isl_math.proofs.GcdLaws.{IsContentOf-content}
 use Rattle.isl_piece.specs.declared.constraint.RowKind.{RowKind}
 use Rattle.isl_piece.specs.declared.constraint.RowKind.TheVariants.{Zero, AtLeast, Divides, NotDivides}
@@ -23,7 +23,7 @@ use Rattle.isl_piece.specs.Normal.{Verdict, Always, Never, Kept}
 use Rattle.isl_piece.specs.Numbers.{divided, reduced, opposite, lead}
 use Rattle.isl_piece.specs.Row.{HasDivisor}
 use Rattle.isl_piece.specs.Normal.{normal_zero, normal_at_least, normal_divides, normal_form, normal_row, denied, upright, bound, congruence, lesser, opposite_row, numbers_of}
-use Rattle.isl_piece.proofs.NumberLaws.{IsReduced, IsReduced-floor_mod, All-IsReduced-reduced, All-IsReduced-opposite, All-IsReduced-divided, IsReduced-divided, positive-divided, reduced_reduced, floor_mod_reduced, opposite_opposite, opposite_twice, divided_one, quotient_one}
+use Rattle.isl_piece.proofs.NumberLaws.{All-IsRemainder-reduced, All-IsRemainder-opposite, All-IsRemainder-divided, IsRemainder-divided, positive-divided, reduced_reduced, opposite_opposite, opposite_twice, divided_one, quotient_one}
 use Rattle.isl_piece.proofs.ContentLaws.{content_is, IsContentOf-like, IsContentOf-divided, content-divided, content-scaled, lead_not_zero, lead-signed, sign_of_positive, sign_squared, scaled_one, common_opposite}
 use Rattle.isl_piece.proofs.NormalCases.{common_part, common_part-positive, divided_congruence, normal_zero_by, normal_zero-kept, normal_at_least_by, normal_at_least-kept, normal_divides_by, normal_divides-kept, lesser_by}
 use Rattle.isl_piece.proofs.ShapeLaws.{IfKept, IfKept-weaker}
@@ -66,20 +66,20 @@ settled_at_least cs c = normal_at_least_by (IfKept (λ r. normal_row r ≡ Kept 
 
 -- ---- congruences
 -- the numbers are from 0 to k - 1, and have no divisor in common with k, which is not 1
-pub record IsReducedRow (r : Row) : Type 0 where
+pub record IsRemainderRow (r : Row) : Type 0 where
   pub positive : pos 0 <ℤ r.k
   pub large : r.k ≢ pos 1
-  pub coefs : All (IsReduced r.k) r.coefs
-  pub constant : IsReduced r.k r.constant
+  pub coefs : All (IsRemainder r.k) r.coefs
+  pub constant : IsRemainder r.k r.constant
   pub common : content (r.k ∷ r.coefs) ≡ pos 1
 
-opposite_of_opposite : (r : Row) → IsReducedRow r → opposite_row (opposite_row r) ≡ r
+opposite_of_opposite : (r : Row) → IsRemainderRow r → opposite_row (opposite_row r) ≡ r
 opposite_of_opposite r h = by r.kind r.coefs r.constant r.k _ _ (opposite_opposite r.k r.coefs h.positive h.coefs) (opposite_twice r.k r.constant h.positive h.constant)
   where
     by : (kind : RowKind) (cs : List ℤ) (c k : ℤ) (ds : List ℤ) (d : ℤ) → ds ≡ cs → d ≡ c → (let r : Row = record { kind = kind; coefs = ds; constant = d; k = k } in r) ≡ (let r : Row = record { kind = kind; coefs = cs; constant = c; k = k } in r)
     by kind cs c k ds d e f = cc
 
-content-opposite : (k : ℤ) (xs : List ℤ) → pos 0 <ℤ k → All (IsReduced k) xs → content (k ∷ opposite k xs) ≡ content (k ∷ xs)
+content-opposite : (k : ℤ) (xs : List ℤ) → pos 0 <ℤ k → All (IsRemainder k) xs → content (k ∷ opposite k xs) ≡ content (k ∷ xs)
 content-opposite k xs p h = content_is (k ∷ opposite k xs) (content (k ∷ xs)) (IsContentOf-like (k ∷ xs) (k ∷ opposite k xs) (content (k ∷ xs)) forth back (IsContentOf-content (k ∷ xs)))
   where
     forth : (d : ℤ) → All (divide.Divides d) (k ∷ xs) → All (divide.Divides d) (k ∷ opposite k xs)
@@ -92,20 +92,20 @@ content-opposite k xs p h = content_is (k ∷ opposite k xs) (content (k ∷ xs)
         let dk = All-head (divide.Divides d) k (opposite k xs) g in
         All-cons (divide.Divides d) k xs dk (rw (← opposite_opposite k xs p h) (common_opposite d k (opposite k xs) p dk (All-tail (divide.Divides d) k (opposite k xs) g)))
 
-reduced_opposite : (r : Row) → IsReducedRow r → IsReducedRow (opposite_row r)
+reduced_opposite : (r : Row) → IsRemainderRow r → IsRemainderRow (opposite_row r)
 reduced_opposite r h = record {
   positive = h.positive;
   large = h.large;
-  coefs = All-IsReduced-opposite r.k r.coefs h.positive;
-  constant = IsReduced-floor_mod r.k (neg_ℤ r.constant) h.positive;
+  coefs = All-IsRemainder-opposite r.k r.coefs h.positive;
+  constant = IsRemainder-floor_mod r.k (neg_ℤ r.constant) h.positive;
   common = content-opposite r.k r.coefs h.positive h.coefs ∙ h.common;
 }
 
-reduced_lesser : (r : Row) → IsReducedRow r → IsReducedRow (lesser r)
-reduced_lesser r h = lesser_by IsReducedRow r h (reduced_opposite r h)
+reduced_lesser : (r : Row) → IsRemainderRow r → IsRemainderRow (lesser r)
+reduced_lesser r h = lesser_by IsRemainderRow r h (reduced_opposite r h)
 
 -- the lesser of a congruence and its opposite is less than its own opposite
-lesser_lesser : (r : Row) → IsReducedRow r → lesser (lesser r) ≡ lesser r
+lesser_lesser : (r : Row) → IsRemainderRow r → lesser (lesser r) ≡ lesser r
 lesser_lesser r h = elim (cases_Bool (is_lt (slice_cmp int_cmp (numbers_of (opposite_row r)) (numbers_of r)))) [
   | inl t ↦
       let o = opposite_row r in
@@ -128,11 +128,11 @@ lesser_lesser r h = elim (cases_Bool (is_lt (slice_cmp int_cmp (numbers_of (oppo
     opposite_stays : (o s : Row) → opposite_row o ≡ s → is_lt (slice_cmp int_cmp (numbers_of s) (numbers_of o)) ≡ false → lesser o ≡ o
     opposite_stays o s e f = cond-false (is_lt (slice_cmp int_cmp (numbers_of (opposite_row o)) (numbers_of o))) (opposite_row o) o (ap (λ (x : Row). is_lt (slice_cmp int_cmp (numbers_of x) (numbers_of o))) e ∙ f)
 
-divides_settled : (cs : List ℤ) (c k : ℤ) → IsReducedRow (congruence cs c k) → normal_divides cs c k ≡ Kept (lesser (congruence cs c k))
+divides_settled : (cs : List ℤ) (c k : ℤ) → IsRemainderRow (congruence cs c k) → normal_divides cs c k ≡ Kept (lesser (congruence cs c k))
 divides_settled cs c k h =
     let p = h.positive in
     let e : reduced k cs ≡ cs = reduced_reduced k cs h.coefs in
-    let f : floor_mod c k ≡ c = floor_mod_reduced k c h.constant in
+    let f : floor_mod c k ≡ c = floor_mod-from_IsRemainder k c h.constant in
     let one : common_part cs k ≡ pos 1 = ap (λ ds. content (k ∷ ds)) e ∙ h.common in
     normal_divides-kept cs c k p (rw one (one-Divides (floor_mod c k))) (λ g. h.large (sym (quotient_one k) ∙ ap (λ w. floor_div k w) (sym one) ∙ g))
     ∙ ap (λ r. Kept (lesser r)) (by (common_part cs k) (reduced k cs) (floor_mod c k) one e f)
@@ -140,7 +140,7 @@ divides_settled cs c k h =
     by : (g : ℤ) (ds : List ℤ) (d : ℤ) → g ≡ pos 1 → ds ≡ cs → d ≡ c → congruence (divided g ds) (floor_div d g) (floor_div k g) ≡ congruence cs c k
     by g ds d e f i = rw (e, f, i, divided_one cs, quotient_one c, quotient_one k) refl
 
-divided_reduced : (cs : List ℤ) (c k : ℤ) → pos 0 <ℤ k → divide.Divides (common_part cs k) (floor_mod c k) → floor_div k (common_part cs k) ≢ pos 1 → IsReducedRow (divided_congruence cs c k)
+divided_reduced : (cs : List ℤ) (c k : ℤ) → pos 0 <ℤ k → divide.Divides (common_part cs k) (floor_mod c k) → floor_div k (common_part cs k) ≢ pos 1 → IsRemainderRow (divided_congruence cs c k)
 divided_reduced cs c k p d n =
     let g = common_part cs k in
     let q = common_part-positive cs k p in
@@ -149,8 +149,8 @@ divided_reduced cs c k p d n =
     record {
       positive = positive-divided g k q p part;
       large = n;
-      coefs = All-IsReduced-divided g k (reduced k cs) q p part (All-tail (divide.Divides g) k (reduced k cs) is.common) (All-IsReduced-reduced k cs p);
-      constant = IsReduced-divided g k (floor_mod c k) q p part d (IsReduced-floor_mod k c p);
+      coefs = All-IsRemainder-divided g k (reduced k cs) q p part (All-tail (divide.Divides g) k (reduced k cs) is.common) (All-IsRemainder-reduced k cs p);
+      constant = IsRemainder-divided g k (floor_mod c k) q p part d (IsRemainder-floor_mod k c p);
       common = content_is (floor_div k g ∷ divided g (reduced k cs)) (pos 1) (IsContentOf-divided (k ∷ reduced k cs) g q is);
     }
 
@@ -162,13 +162,13 @@ settled_divides : (cs : List ℤ) (c k : ℤ) → pos 0 <ℤ k → IfKept (λ r.
 settled_divides cs c k p = normal_divides_by (IfKept (λ r. (r.kind ≡ Divides) × (normal_divides r.coefs r.constant r.k ≡ Kept r))) cs c k p (λ m. tt) (λ d e. tt)
     (λ d n. kept (divided_congruence cs c k) refl (divided_reduced cs c k p d n))
   where
-    again : (r : Row) → r.kind ≡ Divides → IsReducedRow r → normal_divides r.coefs r.constant r.k ≡ Kept (lesser r)
+    again : (r : Row) → r.kind ≡ Divides → IsRemainderRow r → normal_divides r.coefs r.constant r.k ≡ Kept (lesser r)
     again r is h =
         let same : congruence r.coefs r.constant r.k ≡ r = ap (λ (kind : RowKind). let s : Row = record { kind = kind; coefs = r.coefs; constant = r.constant; k = r.k } in s) (sym is) in
         divides_settled r.coefs r.constant r.k (record { positive = h.positive; large = h.large; coefs = h.coefs; constant = h.constant; common = h.common })
         ∙ ap (λ s. Kept (lesser s)) same
 
-    kept : (r : Row) → r.kind ≡ Divides → IsReducedRow r → ((lesser r).kind ≡ Divides) × (normal_divides (lesser r).coefs (lesser r).constant (lesser r).k ≡ Kept (lesser r))
+    kept : (r : Row) → r.kind ≡ Divides → IsRemainderRow r → ((lesser r).kind ≡ Divides) × (normal_divides (lesser r).coefs (lesser r).constant (lesser r).k ≡ Kept (lesser r))
     kept r is h =
         let kind : (lesser r).kind ≡ Divides = lesser_by (λ s. s.kind ≡ Divides) r is is in
         (kind, again (lesser r) kind (reduced_lesser r h) ∙ ap Kept (lesser_lesser r h))

@@ -8,6 +8,7 @@ use Rattle.isl_math.specs.Dot.{scaled}
 use Rattle.isl_math.specs.Gcd.{content}
 use Rattle.isl_math.specs.Order.{sign_of}
 use Rattle.isl_math.proofs.Ring.{linear}
+use Rattle.isl_math.proofs.MagnitudeLaws.{IsUpTo, up_to-floor_div, up_to-floor_mod}
 use Rattle.isl_math.proofs.GcdLaws.{IsContentOf-content}
 use Rattle.isl_piece.specs.declared.constraint.RowKind.{RowKind}
 use Rattle.isl_piece.specs.declared.constraint.RowKind.TheVariants.{Zero, AtLeast, Divides, NotDivides}
@@ -16,7 +17,7 @@ use Rattle.isl_piece.specs.Normal.{Verdict, Always, Never, Kept}
 use Rattle.isl_piece.specs.Numbers.{divided, reduced, lead}
 use Rattle.isl_piece.specs.Row.{HasDivisor, IsWellFormed, IsRowUpTo}
 use Rattle.isl_piece.specs.Normal.{normal_divides, normal_form, normal_row, denied, lesser}
-use Rattle.isl_piece.proofs.NumberLaws.{length-divided, length-reduced, length-opposite, IsUpTo, IsUpTo-divided, IsUpTo-reduced, IsUpTo-opposite, abs-quotient, abs-remainder, positive-divided}
+use Rattle.isl_piece.proofs.NumberLaws.{length-divided, length-reduced, length-opposite, IsUpTo-divided, IsUpTo-reduced, IsUpTo-opposite, positive-divided}
 use Rattle.isl_piece.proofs.ContentLaws.{length-scaled}
 use Rattle.isl_piece.proofs.NormalCases.{content_positive, common_part, common_part-positive, divided_congruence, normal_zero_by, normal_at_least_by, normal_divides_by, lesser_by}
 
@@ -77,7 +78,7 @@ one_up_to : (b : ℕ) (k : ℤ) → pos 0 <ℤ k → unsigned_abs k ≤ b → 1 
 one_up_to b k p h = omega (arith, linear)
 
 up_to_lesser : (b : ℕ) (r : Row) → pos 0 <ℤ r.k → IsRowUpTo b r → IsRowUpTo b (lesser r)
-up_to_lesser b r p h = lesser_by (IsRowUpTo b) r h (record { coefs = IsUpTo-opposite b r.k r.coefs p h.k; constant = abs-remainder b r.k (neg_ℤ r.constant) p h.k; k = h.k })
+up_to_lesser b r p h = lesser_by (IsRowUpTo b) r h (record { coefs = IsUpTo-opposite b r.k r.coefs p h.k; constant = up_to-floor_mod b (neg_ℤ r.constant) r.k p h.k; k = h.k })
 
 up_to_divides : (b : ℕ) (cs : List ℤ) (c k : ℤ) → pos 0 <ℤ k → unsigned_abs k ≤ b → IfKept (IsRowUpTo b) (normal_divides cs c k)
 up_to_divides b cs c k p h = normal_divides_by (IfKept (IsRowUpTo b)) cs c k p
@@ -89,8 +90,8 @@ up_to_divides b cs c k p h = normal_divides_by (IfKept (IsRowUpTo b)) cs c k p
     let part = All-head (divide.Divides g) k (reduced k cs) (IsContentOf-content (k ∷ reduced k cs)).common in
     up_to_lesser b (divided_congruence cs c k) (positive-divided g k q p part) (record {
       coefs = IsUpTo-divided b g (reduced k cs) q (IsUpTo-reduced b k cs p h);
-      constant = abs-quotient b g (floor_mod c k) q (abs-remainder b k c p h);
-      k = abs-quotient b g k q h;
+      constant = up_to-floor_div b (floor_mod c k) g q (up_to-floor_mod b c k p h);
+      k = up_to-floor_div b k g q h;
     }))
 
 up_to_denied : (b : ℕ) (v : Verdict) → IfKept (IsRowUpTo b) v → IfKept (IsRowUpTo b) (denied v)
@@ -104,9 +105,9 @@ up_to_form b Zero cs c k p h i j = normal_zero_by (IfKept (IsRowUpTo b)) cs c (�
     let g = content cs in
     let q = content_positive cs m in
     let first = lead (divided g cs) in
-    record { coefs = IsUpTo-signed b first (divided g cs) (IsUpTo-divided b g cs q h); constant = abs-signed b first (floor_div c g) (abs-quotient b g c q i); k = rw p at j })
+    record { coefs = IsUpTo-signed b first (divided g cs) (IsUpTo-divided b g cs q h); constant = abs-signed b first (floor_div c g) (up_to-floor_div b c g q i); k = rw p at j })
 up_to_form b AtLeast cs c k p h i j = normal_at_least_by (IfKept (IsRowUpTo b)) cs c (λ e f. tt) (λ e f. tt)
-    (λ m. let q = content_positive cs m in record { coefs = IsUpTo-divided b (content cs) cs q h; constant = abs-quotient b (content cs) c q i; k = rw p at j })
+    (λ m. let q = content_positive cs m in record { coefs = IsUpTo-divided b (content cs) cs q h; constant = up_to-floor_div b c (content cs) q i; k = rw p at j })
 up_to_form b Divides cs c k p h i j = up_to_divides b cs c k p j
 up_to_form b NotDivides cs c k p h i j = up_to_denied b (normal_divides cs c k) (up_to_divides b cs c k p j)
 

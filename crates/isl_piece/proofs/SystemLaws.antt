@@ -1,13 +1,15 @@
 -- The normal rows of a system.
-use Rattle.std.proofs.Common.{◌≡◌, ◌↔◌, ◌⊎◌, inl, inr, refl, sym, ap, ◌∙◌, arith, ℕ, zero, suc, ◌-◌, ◌<◌, ◌≤◌, ◌^◌, ℤ, List, [], ◌∷◌, ◌++◌, length, get_or, map, pow_pos, Option, Some, None, option_map, MatchOption, IfSome, IsNone, unsigned_abs, subst}
+use Rattle.std.proofs.Common.{◌≡◌, ◌↔◌, inl, inr, refl, sym, ap, ◌∙◌, arith, ℕ, ◌-◌, ◌<◌, ◌^◌, ℤ, List, [], ◌∷◌, ◌++◌, length, get_or, map, Option, Some, None, option_map, MatchOption, IfSome, IsNone, subst}
 use Rattle.std.specs.List.{All, Any}
-use Rattle.std.proofs.lemmas.List.Elements.{All-nil, All-cons, All-head, All-tail, All-append, All-weaker}
-use Rattle.isl_meter.specs.Gauge.{Gauge, IsWithin}
+use Rattle.std.proofs.lemmas.List.Elements.{All-append, All-weaker}
+use Rattle.isl_math.proofs.ListLaws.{Any-first, Any-later, Any-cases, All-parts}
+use Rattle.isl_meter.specs.Gauge.{Gauge}
 use Rattle.isl_piece.specs.declared.constraint.Row.{Row}
 use Rattle.isl_piece.specs.declared.conjunction.System.{System}
 use Rattle.isl_piece.specs.Normal.{Verdict, Always, Never, Kept, normal_row, kept_rows, merged, normal_rows, normal_system, IsNormal}
 use Rattle.isl_piece.specs.Row.{HoldsRow, HasDivisor, IsWellFormed, IsRowWithin, IsRowUpTo}
 use Rattle.isl_piece.specs.System.{HoldRows, HoldsSystem, IsSystemWithin}
+use Rattle.isl_piece.proofs.RowMagnitudes.{up_to_limit, within_limit}
 use Rattle.isl_piece.proofs.WitnessLaws.{never_exactly}
 use Rattle.isl_piece.proofs.NormalLaws.{normal_rows_hold, normal_rows_normal, normal_rows_well_formed, normal_rows_up_to}
 
@@ -36,26 +38,6 @@ pub normal_system_up_to : (s : System) (g : Gauge) (b : ℕ) → IsSystemWithin 
 normal_system_up_to s g b h u = of_system (All (IsRowUpTo b)) s (normal_rows_up_to b s.rows (divisors s g h) u)
 
 -- ---- within the limit
-up_to_limit : (g : Gauge) (r : Row) → IsRowWithin g r → IsRowUpTo (2 ^ g.bits - 1) r
-up_to_limit g r h = record {
-  coefs = All-weaker (IsWithin g) (λ z. unsigned_abs z ≤ 2 ^ g.bits - 1) (λ z w. below z w) r.coefs h.coefs;
-  constant = below r.constant h.constant;
-  k = below r.k h.k;
-}
-  where
-    below : (z : ℤ) → IsWithin g z → unsigned_abs z ≤ 2 ^ g.bits - 1
-    below z w = omega arith
-
-within_limit : (g : Gauge) (r : Row) → IsRowUpTo (2 ^ g.bits - 1) r → IsRowWithin g r
-within_limit g r h = record {
-  coefs = All-weaker (λ z. unsigned_abs z ≤ 2 ^ g.bits - 1) (IsWithin g) (λ z w. below z w) r.coefs h.coefs;
-  constant = below r.constant h.constant;
-  k = below r.k h.k;
-}
-  where
-    below : (z : ℤ) → unsigned_abs z ≤ 2 ^ g.bits - 1 → IsWithin g z
-    below z w = omega (arith, pow_pos g.bits)
-
 pub normal_system_within : (s : System) (g : Gauge) → IsSystemWithin g s → IfSome (normal_system s) (IsSystemWithin g)
 normal_system_within s g h = by (normal_rows s.rows) (normal_rows_well_formed s.columns s.rows h.rows) (normal_rows_up_to (2 ^ g.bits - 1) s.rows (divisors s g h) (All-weaker (IsRowWithin g) (IsRowUpTo (2 ^ g.bits - 1)) (up_to_limit g) s.rows h.within))
   where
@@ -64,21 +46,11 @@ normal_system_within s g h = by (normal_rows s.rows) (normal_rows_well_formed s.
     by (Some rows) w u = record { rows = w; within = All-weaker (IsRowUpTo (2 ^ g.bits - 1)) (IsRowWithin g) (within_limit g) rows u }
 
 -- ---- no system
+abbrev IsNever : Row → Type 0
+IsNever r = normal_row r ≡ Never
+
 abbrev pub HasNever : List Row → Type 0
-HasNever rows = Any (λ r. normal_row r ≡ Never) rows
-
-never_here : (r : Row) (rows : List Row) → normal_row r ≡ Never → HasNever (r ∷ rows)
-never_here r rows e = (0, r, omega arith, refl, e)
-
-never_later : (r : Row) (rows : List Row) → HasNever rows → HasNever (r ∷ rows)
-never_later r rows a = (suc a.0, a.1, (let h = a.2 in omega arith), a.3, a.4)
-
-never_cases : (r : Row) (rows : List Row) → HasNever (r ∷ rows) → (normal_row r ≡ Never) ⊎ HasNever rows
-never_cases r rows a = by a.0 a.1 a.2 a.3 a.4
-  where
-    by : (k : ℕ) (x : Row) → k < length (r ∷ rows) → get_or (r ∷ rows) k x ≡ x → normal_row x ≡ Never → (normal_row r ≡ Never) ⊎ HasNever rows
-    by zero x l is e = inl (ap normal_row is ∙ e)
-    by (suc k) x l is e = inr (k, x, omega arith, is, e)
+HasNever rows = Any IsNever rows
 
 kept_rows_none : (rows : List Row) → IsNone (kept_rows (map normal_row rows)) ↔ HasNever rows
 kept_rows_none [] = ((λ n. cc), (λ a. let h = a.2 in absurd (omega arith)))
@@ -90,13 +62,13 @@ kept_rows_none (r ∷ rows) = by (kept_rows_none rows) (normal_row r) refl
 
     by : IsNone (kept_rows (map normal_row rows)) ↔ HasNever rows → (v : Verdict) → normal_row r ≡ v → IsNone (kept_rows (v ∷ map normal_row rows)) ↔ HasNever (r ∷ rows)
     by rest Always e = (
-      (λ n. never_later r rows (rest.0 n)),
-      (λ a. elim (never_cases r rows a) [ inl f ↦ absurd (let g = sym e ∙ f in cc) | inr m ↦ rest.1 m ]),
+      (λ n. Any-later IsNever r rows (rest.0 n)),
+      (λ a. elim (Any-cases IsNever r rows a) [ inl f ↦ absurd (let g = sym e ∙ f in cc) | inr m ↦ rest.1 m ]),
     )
-    by rest Never e = ((λ n. never_here r rows e), (λ a. refl))
+    by rest Never e = ((λ n. Any-first IsNever r rows e), (λ a. refl))
     by rest (Kept s) e = (
-      (λ n. never_later r rows (rest.0 ((ends (kept_rows (map normal_row rows)) s).0 n))),
-      (λ a. elim (never_cases r rows a) [ inl f ↦ absurd (let g = sym e ∙ f in cc) | inr m ↦ (ends (kept_rows (map normal_row rows)) s).1 (rest.1 m) ]),
+      (λ n. Any-later IsNever r rows (rest.0 ((ends (kept_rows (map normal_row rows)) s).0 n))),
+      (λ a. elim (Any-cases IsNever r rows a) [ inl f ↦ absurd (let g = sym e ∙ f in cc) | inr m ↦ (ends (kept_rows (map normal_row rows)) s).1 (rest.1 m) ]),
     )
 
 -- one of the rows holds at no point
@@ -155,13 +127,9 @@ module _ (s : System) (g : Gauge) (h : IsSystemWithin g s) where
     missing_points xs = subst (λ (o : Option System). MatchOption o (¬ HoldsSystem s xs) (λ t. HoldsSystem t xs ↔ HoldsSystem s xs)) e (normal_system_points s g h xs)
 
 -- ---- two systems together
-parts : (P : Row → Type 0) (xs ys : List Row) → All P (xs ++ ys) → All P xs × All P ys
-parts P [] ys h = (All-nil P, h)
-parts P (x ∷ xs) ys h = let rest = parts P xs ys (All-tail P x (xs ++ ys) h) in (All-cons P x xs (All-head P x (xs ++ ys) h) rest.0, rest.1)
-
 module _ (a b : System) where
   pub meet_points : (xs : List ℤ) → HoldRows (a.rows ++ b.rows) xs ↔ (HoldsSystem a xs × HoldsSystem b xs)
-  meet_points xs = ((λ h. parts (λ r. HoldsRow r xs) a.rows b.rows h), (λ h. All-append (λ r. HoldsRow r xs) a.rows b.rows h.0 h.1))
+  meet_points xs = ((λ h. All-parts (λ r. HoldsRow r xs) a.rows b.rows h), (λ h. All-append (λ r. HoldsRow r xs) a.rows b.rows h.0 h.1))
 
   pub meet_within : (g : Gauge) → a.columns ≡ b.columns → IsSystemWithin g a → IsSystemWithin g b → IsSystemWithin g (record { columns = a.columns; rows = a.rows ++ b.rows })
   meet_within g e p q = record {

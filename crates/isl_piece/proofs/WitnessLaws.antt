@@ -8,9 +8,9 @@ use Rattle.isl_math.specs.Dot.{dot, scaled}
 use Rattle.isl_math.specs.Gcd.{content}
 use Rattle.isl_math.specs.Order.{abs_of}
 use Rattle.isl_math.proofs.Ring.{expand, linear}
-use Rattle.isl_math.proofs.OrderLaws.{*ℤ-≤ℤ, ≡-from_*ℤ}
+use Rattle.isl_math.proofs.OrderLaws.{*ℤ-≤ℤ, ≡-from_*ℤ, positive_not_zero}
 use Rattle.isl_math.proofs.DotLaws.{dot-scaled_right, dot-nil_right}
-use Rattle.isl_math.proofs.DivideLaws.{bezout, Divides-minus, Divides-same, le_from_Divides}
+use Rattle.isl_math.proofs.DivideLaws.{exact_quotient, Divides_self, bezout, Divides-minus, Divides-same, le_from_Divides}
 use Rattle.isl_math.proofs.GcdLaws.{IsContentOf-content, gcd_of-from_IsGcdOf}
 use Rattle.isl_piece.specs.declared.constraint.RowKind.{RowKind}
 use Rattle.isl_piece.specs.declared.constraint.RowKind.TheVariants.{Zero, AtLeast, Divides, NotDivides}
@@ -19,7 +19,6 @@ use Rattle.isl_piece.specs.Normal.{Always, Never, Kept}
 use Rattle.isl_piece.specs.Numbers.{reduced}
 use Rattle.isl_piece.specs.Row.{HoldsValue, HoldsRow, HasDivisor, IsContingent}
 use Rattle.isl_piece.specs.Normal.{normal_zero, normal_at_least, normal_divides, normal_form, normal_row, denied}
-use Rattle.isl_piece.proofs.NumberLaws.{exact}
 use Rattle.isl_piece.proofs.NormalCases.{content_positive, common_part, common_part-positive, divides_cases, normal_zero_by, normal_at_least_by, normal_divides_by}
 use Rattle.isl_piece.proofs.PointLaws.{HoldsVerdict, normal_row_holds, reduced_divides}
 
@@ -139,13 +138,10 @@ always_divides cs c k p h = normal_divides_by (λ v. v ≡ Always) cs c k p
     whole d = rw same (by k p)
       where
         by : (k : ℤ) → pos 0 <ℤ k → floor_div k k ≡ pos 1
-        by k p = let e = exact k k p (record { quotient = pos 1; is = omega (arith, linear) }) in from k (floor_div k k) p (e ∙ omega (arith, linear))
+        by k p = let e = exact_quotient k k p (Divides_self k) in from k (floor_div k k) p (e ∙ omega (arith, linear))
           where
             from : (k q : ℤ) → pos 0 <ℤ k → k *ℤ q ≡ k *ℤ pos 1 → q ≡ pos 1
-            from k q p e = ≡-from_*ℤ k q (pos 1) (λ z. by_zero k p z) e
-              where
-                by_zero : (k : ℤ) → pos 0 <ℤ k → k ≡ pos 0 → ⊥
-                by_zero k p z = omega (arith, linear)
+            from k q p e = ≡-from_*ℤ k q (pos 1) (positive_not_zero k p) e
 
 never_form : (kind : RowKind) (cs : List ℤ) (c k : ℤ) → HasDivisor kind k → ((xs : List ℤ) → ¬ HoldsValue kind k (dot cs xs +ℤ c)) → normal_form kind cs c k ≡ Never
 never_form Zero cs c k d h = never_zero cs c h

@@ -16,8 +16,8 @@ use Rattle.isl_print.specs.Joined.{Text, each_after, joined_by}
 use Rattle.isl_print.specs.Sum.{Term, share, terms_of, term_text, constant_texts, sum_of, side_text}
 use Rattle.isl_print.specs.RowText.{relation_text, remainder_text, kind_text, row_text, conjunction_text}
 use Rattle.isl_print.specs.Tuple.{tuple_text, tuples_text}
-use Rattle.isl_token.specs.declared.token.Token.{Token}
-use Rattle.isl_token.specs.declared.token.Token.TheVariants as token
+use Rattle.isl_token.specs.TokenView.{Token}
+use Rattle.isl_token.specs.TokenView as token
 use Rattle.isl_token.specs.Number.{too_great}
 use Rattle.isl_token.proofs.Prints.{Prints, any, after_word, after_number, word_prints, number_prints, decimal_prints, blank_prints, prints_both, prints_nil, prints_less}
 use Rattle.isl_token.proofs.SignPrints.{comma_prints, open_prints, close_prints, open_square_prints, close_square_prints, plus_prints, at_least_prints, differs_prints, arrow_prints, equal_prints, colon_prints}

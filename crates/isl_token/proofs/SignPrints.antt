@@ -1,7 +1,7 @@
 -- The signs that a printer writes are tokens. A blank follows those with which a longer sign begins.
-use Rattle.std.proofs.Common.{◌≡◌, ℕ, Bool, true, List, [], ◌∷◌, ◌++◌, length, slice_index, refl, arith}
+use Rattle.std.proofs.Common.{◌≡◌, true, [], ◌∷◌, ◌++◌, slice_index, refl, arith}
 use Rattle.std.proofs.lemmas.Bool.{eqb-true}
-use Rattle.isl_token.specs.declared.token.Token.TheVariants as token
+use Rattle.isl_token.specs.TokenView as token
 use Rattle.isl_token.specs.declared.lex.Piece.TheVariants as piece
 use Rattle.isl_token.specs.Token.{Text, signs}
 use Rattle.isl_token.specs.Lex.{cut}

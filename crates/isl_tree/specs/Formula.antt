@@ -1,12 +1,19 @@
 -- When a formula holds (isl manual, "Sets and relations": Presburger formulas).
 use Rattle.std.specs.Prelude.{◌≡◌, ◌≢◌, ◌≤ℤ◌, ◌<ℤ◌, ◌⊎◌, ℤ, List, [], ◌∷◌, Option, Some, None}
-use Rattle.isl_tree.specs.declared.tree.Signed.{Signed}
 use Rattle.isl_tree.specs.declared.tree.Binder.{Binder}
 use Rattle.isl_tree.specs.declared.tree.Compare.{Compare}
 use Rattle.isl_tree.specs.declared.tree.Compare.TheVariants.{Equal, Less, LessEqual, Greater, GreaterEqual, Differs}
 use Rattle.isl_tree.specs.declared.tree.Formula.{Formula, Implies', Or', And', Not', True, False, Exists', Chain, Row_of-Formula, end_of-Formula, more_of-Formula}
 use Rattle.isl_tree.specs.Environment.{Environment}
-use Rattle.isl_tree.specs.Term.{term_value}
+use Rattle.isl_tree.specs.Term.{Term, term_value}
+
+-- one side of a comparison
+abbrev pub Side : Type 0
+Side = List Term
+
+-- how a side of a chain stands to the one before it, and that side
+abbrev pub Link : Type 0
+Link = Compare × Side
 
 -- what a comparison says of two numbers
 abbrev pub Compares : Compare → ℤ → ℤ → Type 0
@@ -18,22 +25,22 @@ Compares GreaterEqual a b = b ≤ℤ a
 Compares Differs a b = a ≢ b
 
 -- a term stands so to each of the terms
-abbrev pub ComparesToAll : Compare → List Signed → List (List Signed) → Environment → Type 0
+abbrev pub ComparesToAll : Compare → Term → Side → Environment → Type 0
 ComparesToAll c left [] env = Unit {0}
 ComparesToAll c left (right ∷ rights) env = Compares c (term_value left env) (term_value right env) × ComparesToAll c left rights env
 
 -- each of the terms on the left stands so to each on the right
-abbrev pub SidesCompare : Compare → List (List Signed) → List (List Signed) → Environment → Type 0
+abbrev pub SidesCompare : Compare → Side → Side → Environment → Type 0
 SidesCompare c [] rights env = Unit {0}
 SidesCompare c (left ∷ lefts) rights env = ComparesToAll c left rights env × SidesCompare c lefts rights env
 
 -- each side of a chain stands to the next as the sign between them says
-abbrev pub ChainHolds : List (List Signed) → List (Compare × List (List Signed)) → Environment → Type 0
+abbrev pub ChainHolds : Side → List Link → Environment → Type 0
 ChainHolds side [] env = Unit {0}
 ChainHolds side (link ∷ links) env = SidesCompare link.0 side link.1 env × ChainHolds link.1 links env
 
 -- some number is bound, or the term's where one is given
-abbrev pub BindsOne : Option (List Signed) → (ℤ → Type 0) → Environment → Type 0
+abbrev pub BindsOne : Option Term → (ℤ → Type 0) → Environment → Type 0
 BindsOne None holds env = (z : ℤ) × holds z
 BindsOne (Some term) holds env = holds (term_value term env)
 

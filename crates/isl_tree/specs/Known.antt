@@ -5,12 +5,13 @@ use Rattle.isl_tree.specs.declared.tree.Factor.{Factor, Name, Inner', Floor', Ce
 use Rattle.isl_tree.specs.declared.tree.Signed.{Signed, Signed'}
 use Rattle.isl_tree.specs.declared.tree.Product.{Product, Product', Held-Product-inner, None', Some'}
 use Rattle.isl_tree.specs.declared.tree.Binder.{Binder}
-use Rattle.isl_tree.specs.declared.tree.Compare.{Compare}
 use Rattle.isl_tree.specs.declared.tree.Formula.{Formula, Implies', Or', And', Not', True, False, Exists', Chain, Row_of-Formula, end_of-Formula, more_of-Formula}
 use Rattle.isl_tree.specs.declared.tree.Entry.{Entry}
 use Rattle.isl_tree.specs.declared.tree.Entry.TheVariants.{Plain, Named}
 use Rattle.isl_tree.specs.declared.tree.PieceTree.{PieceTree}
 use Rattle.isl_tree.specs.declared.tree.Literal.{Literal}
+use Rattle.isl_tree.specs.Term.{Term}
+use Rattle.isl_tree.specs.Formula.{Side, Link}
 use Rattle.isl_tree.specs.Literal.{is_among, new_name, known_after, piece_entries}
 
 abbrev mutual
@@ -35,20 +36,20 @@ abbrev mutual
   sum_names end_of-Signed = []
   sum_names (more_of-Signed part rest) = signed_names part ++ sum_names rest
 
-abbrev pub term_names : List Signed → List (List ℕ)
+abbrev pub term_names : Term → List (List ℕ)
 term_names [] = []
 term_names (part ∷ parts) = signed_names part ++ term_names parts
 
-abbrev pub term_is_known : List (List ℕ) → List Signed → Bool
+abbrev pub term_is_known : List (List ℕ) → Term → Bool
 term_is_known known term = list_all (is_among known) (term_names term)
 
-abbrev pub side_is_known : List (List ℕ) → List (List Signed) → Bool
+abbrev pub side_is_known : List (List ℕ) → Side → Bool
 side_is_known known side = list_all (term_is_known known) side
 
-abbrev pub links_are_known : List (List ℕ) → List (Compare × List (List Signed)) → Bool
+abbrev pub links_are_known : List (List ℕ) → List Link → Bool
 links_are_known known links = list_all (λ link. side_is_known known link.1) links
 
-abbrev pub chain_is_known : List (List ℕ) → List (List Signed) → List (Compare × List (List Signed)) → Bool
+abbrev pub chain_is_known : List (List ℕ) → Side → List Link → Bool
 chain_is_known known first links = side_is_known known first && links_are_known known links
 
 -- the terms of binders know the binders before them
@@ -56,7 +57,7 @@ abbrev pub binders_are_known : List (List ℕ) → List Binder → Bool
 binders_are_known known [] = true
 binders_are_known known (binder ∷ binders) = value_is_known binder.value && binders_are_known (binder.name ∷ known) binders
   where
-    value_is_known : Option (List Signed) → Bool
+    value_is_known : Option Term → Bool
     value_is_known None = true
     value_is_known (Some term) = term_is_known known term
 

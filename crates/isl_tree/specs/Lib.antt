@@ -4,3 +4,8 @@ pub mod Formula
 pub mod Literal
 pub mod Known
 pub mod Plain
+pub use Rattle.isl_math.specs.Divide
+pub use Rattle.isl_space.specs.Element
+pub use Rattle.isl_space.specs.Form
+pub use Rattle.isl_space.specs.SpaceForm
+pub use Rattle.isl_space.specs.Valuation

@@ -6,7 +6,7 @@ use Rattle.isl_space.specs.Form.{Form, leaf, pair}
 use Rattle.isl_space.specs.SpaceForm.{SpaceForm, set_of, map_of}
 use Rattle.isl_space.specs.Element.{Element}
 use Rattle.isl_tree.specs.declared.tree.Factor.{Name}
-use Rattle.isl_tree.specs.declared.tree.Signed.{Signed, Signed'}
+use Rattle.isl_tree.specs.declared.tree.Signed.{Signed'}
 use Rattle.isl_tree.specs.declared.tree.Product.{Product', Some'}
 use Rattle.isl_tree.specs.declared.tree.Entry.{Entry}
 use Rattle.isl_tree.specs.declared.tree.Entry.TheVariants.{Plain, Named}
@@ -15,7 +15,7 @@ use Rattle.isl_tree.specs.declared.tree.Tuple.{Tuple, Leaf, Pair', Row_of-Tuple,
 use Rattle.isl_tree.specs.declared.tree.PieceTree.{PieceTree}
 use Rattle.isl_tree.specs.declared.tree.Literal.{Literal}
 use Rattle.isl_tree.specs.Environment.{Environment}
-use Rattle.isl_tree.specs.Term.{term_value}
+use Rattle.isl_tree.specs.Term.{Term, term_value}
 use Rattle.isl_tree.specs.Formula.{FormulaHolds}
 
 -- whether a name is among these
@@ -23,7 +23,7 @@ abbrev pub is_among : List (List ℕ) → List ℕ → Bool
 is_among names name = list_any (λ n. bytes_eq n name) names
 
 -- the name that a term consists of, where it is a name alone
-abbrev pub lone_name : List Signed → Option (List ℕ)
+abbrev pub lone_name : Term → Option (List ℕ)
 lone_name (Signed' false (Product' [] (Some' (Name name) [])) ∷ []) = Some name
 lone_name _ = None
 
@@ -36,7 +36,7 @@ abbrev pub new_name : List (List ℕ) → Entry → Option (List ℕ)
 new_name known (Plain term) = unless_known known (lone_name term)
 new_name known (Named name term) = Some name
 
-abbrev pub entry_term : Entry → List Signed
+abbrev pub entry_term : Entry → Term
 entry_term (Plain term) = term
 entry_term (Named name term) = term
 

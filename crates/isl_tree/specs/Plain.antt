@@ -12,6 +12,8 @@ use Rattle.isl_tree.specs.declared.tree.Entry.TheVariants.{Plain, Named}
 use Rattle.isl_tree.specs.declared.tree.Tuple.{Tuple, Leaf, Pair'}
 use Rattle.isl_tree.specs.declared.tree.PieceTree.{PieceTree}
 use Rattle.isl_tree.specs.declared.tree.Literal.{Literal}
+use Rattle.isl_tree.specs.Term.{Term}
+use Rattle.isl_tree.specs.Formula.{Side, Link}
 
 -- a number, or a number times a name
 abbrev pub is_linear_part : Signed → Bool
@@ -20,7 +22,7 @@ is_linear_part (Signed' negative (Product' numbers (Some' (Name name) []))) = tr
 is_linear_part _ = false
 
 -- a sum of such parts
-abbrev pub is_linear : List Signed → Bool
+abbrev pub is_linear : Term → Bool
 is_linear term = list_all is_linear_part term
 
 abbrev pub is_plain_entry : Entry → Bool
@@ -28,7 +30,7 @@ is_plain_entry (Plain term) = is_linear term
 is_plain_entry (Named name term) = false
 
 -- one linear term
-abbrev pub is_plain_side : List (List Signed) → Bool
+abbrev pub is_plain_side : Side → Bool
 is_plain_side (term ∷ []) = is_linear term
 is_plain_side _ = false
 
@@ -37,7 +39,7 @@ abbrev pub is_plain_compare : Compare → Bool
 is_plain_compare Differs = false
 is_plain_compare _ = true
 
-abbrev pub are_plain_links : List (Compare × List (List Signed)) → Bool
+abbrev pub are_plain_links : List Link → Bool
 are_plain_links links = list_all (λ link. is_plain_compare link.0 && is_plain_side link.1) links
 
 -- a chain of comparisons of single linear terms

@@ -6,6 +6,10 @@ use Rattle.isl_tree.specs.declared.tree.Signed.{Signed, Signed'}
 use Rattle.isl_tree.specs.declared.tree.Product.{Product, Product', Held-Product-inner, None', Some'}
 use Rattle.isl_tree.specs.Environment.{Environment, value_in}
 
+-- a sum of products with their signs
+abbrev pub Term : Type 0
+Term = List Signed
+
 -- the product of numbers
 abbrev pub product_of : List ℤ → ℤ
 product_of [] = pos 1
@@ -38,6 +42,6 @@ abbrev mutual
   sum_value (more_of-Signed part rest) env = signed_value part env +ℤ sum_value rest env
 
 -- the value of a term: the sum of its parts
-abbrev pub term_value : List Signed → Environment → ℤ
+abbrev pub term_value : Term → Environment → ℤ
 term_value [] env = pos 0
 term_value (part ∷ parts) env = signed_value part env +ℤ term_value parts env

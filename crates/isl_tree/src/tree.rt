@@ -3,6 +3,15 @@
 use isl_space::Name;
 use sqlite_items::{Boxed, Items};
 
+/// A sum of products with their signs.
+pub type Term = Items<Signed>;
+
+/// One side of a comparison: a list of terms.
+pub type Side = Items<Term>;
+
+/// How a side of a chain stands to the one before it, and that side.
+pub type Link = (Compare, Side);
+
 /// A product with its sign.
 #[cycle(term)]
 #[derive(Drop)]
@@ -27,15 +36,17 @@ pub struct Modded {
     pub moduli: Items<i128>,
 }
 
+/// What numbers are multiplied by: a name, a term in brackets, or a term divided by a number and rounded down or up.
 #[cycle(term)]
 #[derive(Drop)]
 pub enum Factor {
     Name(Name),
-    Inner(Items<Signed>),
-    Floor(Items<Signed>, i128),
-    Ceil(Items<Signed>, i128),
+    Inner(Term),
+    Floor(Term, i128),
+    Ceil(Term, i128),
 }
 
+/// The signs of comparison.
 #[derive(Clone, Copy, Debug, PartialEq, Eq)]
 pub enum Compare {
     Equal,
@@ -50,9 +61,10 @@ pub enum Compare {
 #[derive(Drop)]
 pub struct Binder {
     pub name: Name,
-    pub value: Option<Items<Signed>>,
+    pub value: Option<Term>,
 }
 
+/// Chains of comparisons, and what joins them.
 #[derive(Drop)]
 pub enum Formula {
     Implies(Items<Formula>),
@@ -62,16 +74,17 @@ pub enum Formula {
     True,
     False,
     Exists(Items<Binder>, Boxed<Formula>),
-    Chain(Items<Items<Signed>>, Items<(Compare, Items<Items<Signed>>)>),
+    Chain(Side, Items<Link>),
 }
 
 /// What stands at one place of a tuple.
 #[derive(Drop)]
 pub enum Entry {
-    Plain(Items<Signed>),
-    Named(Name, Items<Signed>),
+    Plain(Term),
+    Named(Name, Term),
 }
 
+/// Entries under a name that may be missing, or a pair of tuples.
 #[derive(Drop)]
 pub enum Tuple {
     Leaf {
@@ -81,6 +94,7 @@ pub enum Tuple {
     Pair(Boxed<Tuple>, Boxed<Tuple>),
 }
 
+/// A piece: the tuple of a set, or both tuples of a map, and a formula.
 #[derive(Drop)]
 pub struct PieceTree {
     pub first: Tuple,
@@ -88,6 +102,7 @@ pub struct PieceTree {
     pub body: Option<Formula>,
 }
 
+/// Declared parameters, and pieces.
 #[derive(Drop)]
 pub struct Literal {
     pub params: Items<Name>,

@@ -3,7 +3,7 @@ use Rattle.isl_piece.specs.Row.{HoldsRow, coef_at}
 use Rattle.isl_omega.specs.Shadow.{ceiling, IsRealRow, IsDarkRow}
 use Rattle.isl_omega.proofs.PairLemmas.{dark_row_is, exact_is}
 use Rattle.std.proofs.lemmas.Result.{err_from_is_err_and}
-use Rattle.isl_omega.proofs.Magnitudes.{up_to-neg}
+use Rattle.isl_math.proofs.MagnitudeLaws.{up_to-neg}
 use Rattle.isl_omega.proofs.SmallLemmas.{coef_up_to}
 use Rattle.isl_omega.proofs.SmallPairs.{slack_up_to}
 use Rattle.isl_omega.proofs.pair.Pair.of.Goals as goal
