@@ -61,21 +61,21 @@ module _ (ts : List Token) (at : ℕ) (begins : at ≤ length ts) (n : ℕ) (eno
       omega (arith, ap length c.1, length-append c.0 left, length-drop at ts)
 
 -- the same where the code reads from a cursor over what begins at the place
-module _ (ts : List Token) (at : ℕ) (begins : at ≤ length ts) (start cursor : List Token) (same : start ≡ drop at ts) (is : cursor ≡ start) where
-  enough : length (drop at ts) < length start + 1
-  enough = omega (arith, ap length same)
+module _ (ts : List Token) (at : ℕ) (begins : at ≤ length ts) (start cursor : List Token) (depth : ℕ) (same : start ≡ drop at ts) (is : cursor ≡ start) (deep : depth ≡ length start) where
+  enough : length (drop at ts) < depth + 1
+  enough = omega (arith, ap length same, deep)
 
-  from_place : {x : Option (Literal × List Token)} → literal (length start + 1) cursor ≡ x → literal (length start + 1) (drop at ts) ≡ x
-  from_place e = ap (literal (length start + 1)) (sym (is ∙ same)) ∙ e
+  from_place : {x : Option (Literal × List Token)} → literal (depth + 1) cursor ≡ x → literal (depth + 1) (drop at ts) ≡ x
+  from_place e = ap (literal (depth + 1)) (sym (is ∙ same)) ∙ e
 
-  pub found_from : (found : Literal) (left : List Token) (m : ℕ) → literal (length start + 1) cursor ≡ Some (found, left) → m ≡ length left → IsLiteralAt ts at found (length ts - m)
-  found_from found left m e len = rw len (literal_found ts at begins (length start + 1) enough found left (from_place e))
+  pub found_from : (found : Literal) (left : List Token) (whole m : ℕ) → literal (depth + 1) cursor ≡ Some (found, left) → whole ≡ length ts → m ≡ length left → IsLiteralAt ts at found (whole - m)
+  found_from found left whole m e all len = rw (all, len) (literal_found ts at begins (depth + 1) enough found left (from_place e))
 
-  pub left_from : (found : Literal) (left : List Token) (m : ℕ) → literal (length start + 1) cursor ≡ Some (found, left) → m ≡ length left → m ≤ length ts
-  left_from found left m e len = rw len (literal_left ts at begins (length start + 1) enough found left (from_place e))
+  pub left_from : (found : Literal) (left : List Token) (whole m : ℕ) → literal (depth + 1) cursor ≡ Some (found, left) → whole ≡ length ts → m ≡ length left → m ≤ whole
+  left_from found left whole m e all len = rw (all, len) (literal_left ts at begins (depth + 1) enough found left (from_place e))
 
-  pub stands_from : (f : Fault) (left : List Token) → Reads (literal (length start + 1) cursor) (Err f) left → Stands ts at (Err f)
-  stands_from f left e = stands ts at begins (length start + 1) enough f left (subst (λ (l : List Token). Reads (literal (length start + 1) l) (Err f) left) (is ∙ same) e)
+  pub stands_from : (f : Fault) (left : List Token) → Reads (literal (depth + 1) cursor) (Err f) left → Stands ts at (Err f)
+  stands_from f left e = stands ts at begins (depth + 1) enough f left (subst (λ (l : List Token). Reads (literal (depth + 1) l) (Err f) left) (is ∙ same) e)
 
 pub ruleset places = (found_from, left_from, stands_from)
 
@@ -136,27 +136,22 @@ module _ (ts : List Token) (at : ℕ) (begins : at ≤ length ts) (limit : ℤ) 
             inl (ap (λ (l : Literal). judged limit (slice_range ts at next) l next) p.0 ∙ ap (λ k. judged limit (slice_range ts at k) other k) p.1);
       }
 
--- ---- as the code has it: the tokens as a slice, and a limit that is read back
+-- ---- as the code has it: the tokens of the literal by themselves, and a limit that is read back
 
-module _ (ts : List Token) (at : ℕ) (begins : at ≤ length ts) (limit : ℤ) (slice : List Token) (same : slice ≡ ts) (flat : is_too_deep slice ≡ false) where
-  level : is_too_deep ts ≡ false
-  level = ap is_too_deep (sym same) ∙ flat
+module _ (ts : List Token) (at : ℕ) (begins : at ≤ length ts) (limit : ℤ) (flat : is_too_deep ts ≡ false) where
+  pub only_fault : (f : Fault) (refusal : Refusal) → Stands ts at (Err f) → refusal ≡ of_fault f → OnlyWhere ts at limit (Err refusal)
+  only_fault f refusal none is = rw is (fault_only ts at begins limit flat f none)
 
-  pub only_fault : (f : Fault) (refusal : Refusal) → Stands slice at (Err f) → refusal ≡ of_fault f → OnlyWhere ts at limit (Err refusal)
-  only_fault f refusal none is = rw is (fault_only ts at begins limit level f (subst (λ (l : List Token). Stands l at (Err f)) same none))
+  pub exactly_fault : (f : Fault) (refusal : Refusal) → Stands ts at (Err f) → refusal ≡ of_fault f → ExactlyWhere ts at limit (Err refusal)
+  exactly_fault f refusal none is = rw is (fault_exactly ts at begins limit flat f none)
 
-  pub exactly_fault : (f : Fault) (refusal : Refusal) → Stands slice at (Err f) → refusal ≡ of_fault f → ExactlyWhere ts at limit (Err refusal)
-  exactly_fault f refusal none is = rw is (fault_exactly ts at begins limit level f (subst (λ (l : List Token). Stands l at (Err f)) same none))
-
-  module _ (found : Literal) (next : ℕ) (is : IsLiteralAt slice at found next) (k : ℤ) (back : k ≡ limit) (result : Result (Literal × ℕ) Refusal) (answer : result ≡ judged k (slice_range slice at next) found next) where
+  module _ (found : Literal) (next : ℕ) (is : IsLiteralAt ts at found next) (k : ℤ) (back : k ≡ limit) (us : List Token) (spelled : us ≡ slice_range ts at next)
+      (result : Result (Literal × ℕ) Refusal) (answer : result ≡ judged k us found next) where
     answer_is : result ≡ judged limit (slice_range ts at next) found next
-    answer_is = answer ∙ ap (λ z. judged z (slice_range slice at next) found next) back ∙ ap (λ (l : List Token). judged limit (slice_range l at next) found next) same
-
-    stands_there : IsLiteralAt ts at found next
-    stands_there = subst (λ (l : List Token). IsLiteralAt l at found next) same is
+    answer_is = answer ∙ ap (λ z. judged z us found next) back ∙ ap (λ (l : List Token). judged limit l found next) spelled
 
     pub only_judged : OnlyWhere ts at limit result
-    only_judged = subst (OnlyWhere ts at limit) (sym answer_is) (judged_only ts at begins limit level found next stands_there)
+    only_judged = subst (OnlyWhere ts at limit) (sym answer_is) (judged_only ts at begins limit flat found next is)
 
     pub exactly_judged : ExactlyWhere ts at limit result
-    exactly_judged = subst (ExactlyWhere ts at limit) (sym answer_is) (judged_exactly ts at begins limit level found next stands_there)
+    exactly_judged = subst (ExactlyWhere ts at limit) (sym answer_is) (judged_exactly ts at begins limit flat found next is)

@@ -13,6 +13,7 @@ use Rattle.isl_token.specs.declared.depth.Place.{Place}
 use Rattle.isl_token.specs.Token.{Text, is_kind, kind_of, kind_in, word_kinds, word_kind, sign_kinds, sign_kind}
 use Rattle.isl_token.specs.Depth.{is_stacking, is_stacking_word, stacking_words, head_is_stacking, depths, step_by}
 use Rattle.isl_token.specs.Reading.{name, head_kind, tail}
+use Rattle.isl_token.proofs.WordLaws.{Each, found}
 use Rattle.isl_token.proofs.Taking.{is_kind_same, same_read}
 
 -- whether it stacks, told by its kind, and for a name by its word
@@ -22,29 +23,15 @@ by_kind kind.Exists word = true
 by_kind kind.Name word = word
 by_kind _ word = false
 
--- a claim on the entries of a table
-Each : (Text → Kind → Type 0) → List (Text × Kind) → Type 0
-Each P [] = Unit {0}
-Each P (e ∷ es) = P e.0 e.1 × Each P es
-
-found : (P : Text → Kind → Type 0) (es : List (Text × Kind)) (text : Text) (other : Kind) → Each P es → P text other → P text (kind_in es text other)
-unfolding Each
-found P [] text other each last = last
-found P (e ∷ es) text other each last = by_test (bytes_eq e.0 text) refl (found P es text other each.1 last)
-  where
-    by_test : (q : Bool) → bytes_eq e.0 text ≡ q → P text (kind_in es text other) → P text (cond q e.1 (kind_in es text other))
-    by_test true is rest = subst (λ (t : Text). P t e.1) ((bytes_eq-Decides e.0 text).0 is) each.0
-    by_test false is rest = rest
-
 word_stacks : (word : Text) → is_stacking_word word ≡ by_kind (word_kind word) (is_stacking_word word)
-unfolding word_kind stacking_words by_kind Each
+unfolding word_kind stacking_words by_kind
 word_stacks word = found (λ text k. is_stacking_word text ≡ by_kind k (is_stacking_word text)) word_kinds word kind.Name each refl
   where
     each : Each (λ text k. is_stacking_word text ≡ by_kind k (is_stacking_word text)) word_kinds
     each = (refl, (refl, (refl, (refl, (refl, (refl, (refl, (refl, (refl, (refl, (refl, (refl, tt))))))))))))
 
 sign_stacks : (sign : Text) → is_kind (sign_kind sign) kind.Not ≡ by_kind (sign_kind sign) false
-unfolding sign_kind by_kind Each
+unfolding sign_kind by_kind
 sign_stacks sign = found (λ text k. is_kind k kind.Not ≡ by_kind k false) sign_kinds sign kind.End each refl
   where
     each : Each (λ text k. is_kind k kind.Not ≡ by_kind k false) sign_kinds

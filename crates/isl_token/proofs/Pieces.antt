@@ -85,6 +85,9 @@ formed_token piece.Wrong text is some = absurd cc
 pub cut_piece : (z : Text) (p : Piece) (n : ℕ) → (p, n) ≡ cut z → IsPiece p (take n z)
 cut_piece z p n is = let motive : Piece × ℕ → Type 0 = λ c. IsPiece c.0 (take c.1 z) in subst motive (sym is) (front_piece z)
 
+pub front_is_piece : (z front : Text) (p : Piece) (n : ℕ) → (p, n) ≡ cut z → front ≡ take n z → IsPiece p front
+front_is_piece z front p n is begins = rw begins (cut_piece z p n is)
+
 pub not_some : (o : Option Kind) → ((k : Kind) → o ≢ Some k) → o ≡ None
 not_some None none = refl
 not_some (Some k) none = absurd (none k refl)
@@ -140,4 +143,4 @@ marks_end text marks at so_far over =
     let none : drop at text ≡ [] = nil_from_length (drop at text) (omega (arith, length-drop at text)) in
     so_far ∙ rw none (ap (λ l. Some l) (append-nil (tokens_at text marks)))
 
-pub ruleset pieces = (one_mark, no_mark, marks_fail, marks_end, one_kind, one_formed)
+pub ruleset pieces = (front_is_piece, one_mark, no_mark, marks_fail, marks_end, one_kind, one_formed)
