@@ -5,3 +5,4 @@ pub mod Number
 pub mod Depth
 pub mod Reading
 pub mod Spelling
+pub mod Signs
