@@ -21,7 +21,8 @@ brings_in places = brings places.params.now (places.first.now ++ places.second.n
 abbrev pub placed_rows : Places → Option Formula → List Written
 placed_rows places body =
     (placed_entries (width_of places) (place_in places) (brings_in places) places.first.now (length places.params.now)
-    ++ placed_entries (width_of places) (place_in places) (brings_in places) places.second.now (length places.params.now + length places.first.now))
+    ++ placed_entries (width_of places) (place_in places) (brings_in places) places.second.now
+    (length places.params.now + length places.first.now))
     ++ written_body (width_of places) (place_in places) body
 
 -- one of them passes the limit

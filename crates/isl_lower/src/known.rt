@@ -1,16 +1,18 @@
-// Whether each identifier of a plain literal is known.
+//! Whether each identifier of a plain literal is known.
+
 ghost use Rattle.std.specs.Prelude.{◌≡◌, ◌++◌, ◌+◌, ◌<◌, ℕ, List, [], length, true, take, IsTrue, ◌↔◌};
 ghost use Rattle.std.specs.Option.{option_copied};
 ghost use Rattle.isl_lower.specs.Linear.{part_name};
-ghost use Rattle.isl_lower.specs.Placed.{is_placed, term_is_placed, side_is_placed, links_are_placed, chain_is_placed, is_placed_chain, formula_is_placed, body_is_placed, entry_is_placed, entries_are_placed, leaf_entries, second_leaf_entries, piece_is_placed};
+ghost use Rattle.isl_lower.specs.Placed.{is_placed, term_is_placed, side_is_placed, links_are_placed, chain_is_placed, is_placed_chain};
+ghost use Rattle.isl_lower.specs.Placed.{formula_is_placed, body_is_placed, entry_is_placed, entries_are_placed, leaf_entries};
+ghost use Rattle.isl_lower.specs.Placed.{second_leaf_entries, piece_is_placed};
 ghost use Rattle.isl_tree.specs.Plain.{is_plain};
 ghost use Rattle.isl_tree.specs.Known.{literal_is_known};
 ghost use Rattle.std.specs.List.{list_all};
 
 use crate::places::{Places, entry_name};
 use isl_space::Name;
-use isl_tree::tree::{Compare, Entry, Factor, Formula, Literal, PieceTree, Signed, Tuple};
-use sqlite_items::Items;
+use isl_tree::tree::{Entry, Factor, Formula, Link, Literal, PieceTree, Signed, Term, Tuple};
 
 /// The name of a linear part, where it has one.
 pub(crate) fn part_name(part: &Signed) -> Option<&Name>
@@ -40,14 +42,14 @@ fn term_is_placed(term: &[Signed], places: &Places<'_>) -> bool
     term.iter().all(|part| part_is_placed(part, places))
 }
 
-fn side_is_placed(side: &[Items<Signed>], places: &Places<'_>) -> bool
+fn side_is_placed(side: &[Term], places: &Places<'_>) -> bool
     ensures { result ≡ side_is_placed places.now.params.now (places.now.first.now ++ places.now.second.now) side.now }
 {
     side.iter()
         .all(|term| term_is_placed(term.as_slice(), places))
 }
 
-fn links_are_placed(links: &[(Compare, Items<Items<Signed>>)], places: &Places<'_>) -> bool
+fn links_are_placed(links: &[Link], places: &Places<'_>) -> bool
     ensures { result ≡ links_are_placed places.now.params.now (places.now.first.now ++ places.now.second.now) links.now }
 {
     links

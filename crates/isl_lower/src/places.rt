@@ -1,4 +1,5 @@
-// Where the names of a piece stand among its columns.
+//! Where the names of a piece stand among its columns.
+
 ghost use Rattle.std.specs.Prelude.{◌≡◌, ◌++◌, ◌+◌, ◌<◌, ℕ, IfSome, List, length, Option, Some, None, map, IsTrue, ◌↔◌};
 ghost use Rattle.std.specs.Option.{option_copied};
 ghost use Rattle.isl_tree.specs.Literal.{lone_name};

@@ -63,10 +63,13 @@ module _ (text : Text) (at : ℕ) (k : Kind) (known : IsKindAt text at k) where
 
   module _ (p : Piece) (n : ℕ) (is : (p, n) ≡ cut (drop at text)) where
     pub word_there : k ≡ kind.Name → p ≡ piece.Word → (us : List Token) → name (token_at text at ∷ us) ≡ Some (take n (drop at text), us)
-    word_there named word us = word_of_name (token_at text at) (take n (drop at text)) us (token_there text at p n is ∙ ap (λ (q : Piece). token_of q (take n (drop at text))) word) (sym known.1 ∙ named)
+    word_there named word us = word_of_name (token_at text at) (take n (drop at text)) us
+        (token_there text at p n is ∙ ap (λ (q : Piece). token_of q (take n (drop at text))) word) (sym known.1 ∙ named)
 
     pub word_utf8 : p ≡ piece.Word → IsUtf8 (take n (drop at text))
-    word_utf8 word = IsUtf8-from_ascii (take n (drop at text)) (identifier_ascii (take n (drop at text)) (let motive : Piece → Type 0 = λ q. IsPiece q (take n (drop at text)) in subst motive word (cut_piece (drop at text) p n is)))
+    word_utf8 word = IsUtf8-from_ascii (take n (drop at text))
+        (identifier_ascii (take n (drop at text))
+        (let motive : Piece → Type 0 = λ q. IsPiece q (take n (drop at text)) in subst motive word (cut_piece (drop at text) p n is)))
 
     pub no_word_there : p ≢ piece.Word → (us : List Token) → name (token_at text at ∷ us) ≡ None
     no_word_there other us = rw (token_there text at p n is) (no_word p (take n (drop at text)) us other)

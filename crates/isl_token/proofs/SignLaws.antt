@@ -1,6 +1,6 @@
 -- Signs are found by their first bytes, and words that are too short are in no table.
-use Rattle.std.proofs.Common.{◌≡◌, ℕ, suc, ◌+◌, ◌<◌, ◌≤◌, Bool, true, false, cond, List, [], ◌∷◌, ◌++◌, length, drop, slice_index, refl, sym, ap, subst, ◌∙◌, arith}
-use Rattle.std.specs.Prelude.{max, eqb, nat_eq, nat_lt, ◌||◌, ◌&&◌}
+use Rattle.std.proofs.Common.{◌≡◌, ℕ, ◌≤◌, Bool, true, false, cond, List, [], ◌∷◌, ◌++◌, length, drop, slice_index, refl, sym, ap, subst, ◌∙◌, arith}
+use Rattle.std.specs.Prelude.{max, eqb, nat_eq, ◌||◌}
 use Rattle.std.specs.List.{list_any, list_all, starts_with}
 use Rattle.std.specs.Str.{bytes_eq}
 use Rattle.std.proofs.lemmas.Bool.{eqb-true, eq-eqb, false≢true, and_parts}
@@ -8,12 +8,10 @@ use Rattle.std.proofs.lemmas.Slice.Eq.{bytes_eq-Decides}
 use Rattle.std.proofs.lemmas.Slice.Eq.{starts_is}
 use Rattle.std.proofs.lemmas.Bool.Decides.{Decides-eqb}
 use Rattle.std.proofs.lemmas.List.{length-append}
-use Rattle.isl_token.specs.declared.token.Kind.{Kind}
-use Rattle.isl_token.specs.declared.token.Kind.TheVariants as kind
-use Rattle.isl_token.specs.Token.{Text, is_kind, signs, sign_kind, sign_kinds, kind_in}
+use Rattle.isl_token.specs.Token.{Text, is_kind, signs, sign_kind}
 use Rattle.isl_token.specs.Lex.{longest, sign_len}
 use Rattle.isl_token.proofs.Taking.{is_kind_true}
-use Rattle.isl_token.specs.Signs.{sign_by, dashes, less, greater, doubled, alone}
+use Rattle.isl_token.specs.Signs.{sign_by}
 
 eqb_sym : (a n : ℕ) → eqb a n ≡ false → eqb n a ≡ false
 eqb_sym a n is = by_test (eqb n a) refl
@@ -100,12 +98,61 @@ unfolding signs
 first_bytes [] = refl
 first_bytes (a ∷ w) =
     let P : ℕ → Type 0 = λ a. Is (a ∷ w) in
-    split P a 45 (by_dash w) (λ o45 p45. split P a 60 (by_less w) (λ o60 p60. split P a 62 (by_greater w) (λ o62 p62. split P a 58 (by_colon w) (λ o58 p58. split P a 61 (by_equal w) (λ o61 p61.
-    split P a 33 (by_not w) (λ o33 p33. split P a 38 (by_and w) (λ o38 p38. split P a 124 (by_or w) (λ o124 p124. split P a 94 (by_power w) (λ o94 p94. split P a 44 refl (λ o44 p44.
-    split P a 59 refl (λ o59 p59. split P a 40 refl (λ o40 p40. split P a 41 refl (λ o41 p41. split P a 91 refl (λ o91 p91. split P a 93 refl (λ o93 p93.
-    split P a 123 refl (λ o123 p123. split P a 125 refl (λ o125 p125. split P a 43 refl (λ o43 p43. split P a 42 refl (λ o42 p42. split P a 46 refl (λ o46 p46.
+    split P a 45 (by_dash w) (λ o45 p45. split P a 60 (by_less w)
+    (λ o60 p60. split P a 62 (by_greater w) (λ o62 p62. split P a 58 (by_colon w) (λ o58 p58. split P a 61 (by_equal w) (λ o61 p61.
+    split P a 33 (by_not w) (λ o33 p33. split P a 38 (by_and w)
+    (λ o38 p38. split P a 124 (by_or w) (λ o124 p124. split P a 94 (by_power w) (λ o94 p94. split P a 44 refl (λ o44 p44.
+    split P a 59 refl (λ o59 p59. split P a 40 refl
+    (λ o40 p40. split P a 41 refl (λ o41 p41. split P a 91 refl (λ o91 p91. split P a 93 refl (λ o93 p93.
+    split P a 123 refl (λ o123 p123. split P a 125 refl
+    (λ o125 p125. split P a 43 refl (λ o43 p43. split P a 42 refl (λ o42 p42. split P a 46 refl (λ o46 p46.
     split P a 47 refl (λ o47 p47. split P a 37 refl (λ o37 p37.
-    rw (o45, p45, o60, p60, o62, p62, o58, p58, o61, p61, o33, p33, o38, p38, o124, p124, o94, p94, o44, p44, o59, p59, o40, p40, o41, p41, o91, p91, o93, p93, o123, p123, o125, p125, o43, p43, o42, p42, o46, p46, o47, p47, o37, p37) refl))))))))))))))))))))))
+    rw (
+      o45,
+      p45,
+      o60,
+      p60,
+      o62,
+      p62,
+      o58,
+      p58,
+      o61,
+      p61,
+      o33,
+      p33,
+      o38,
+      p38,
+      o124,
+      p124,
+      o94,
+      p94,
+      o44,
+      p44,
+      o59,
+      p59,
+      o40,
+      p40,
+      o41,
+      p41,
+      o91,
+      p91,
+      o93,
+      p93,
+      o123,
+      p123,
+      o125,
+      p125,
+      o43,
+      p43,
+      o42,
+      p42,
+      o46,
+      p46,
+      o47,
+      p47,
+      o37,
+      p37,
+    ) refl))))))))))))))))))))))
 
 pub longest_within : (ss : List Text) (z : Text) → longest ss z ≤ length z
 longest_within [] z = omega arith
@@ -132,12 +179,17 @@ all_told = refl
 
 each_told : (ss : List Text) (text : Text) → list_all told ss ≡ true → list_any (bytes_eq text) ss ≡ true → told text ≡ true
 each_told [] text all one = absurd (false≢true one)
-each_told (s ∷ ss) text all one = by_test (bytes_eq text s) refl one (λ rest. each_told ss text (and_parts (told s) (list_all told ss) all).1 rest)
+each_told (s ∷ ss) text all one = by_test (bytes_eq text s) refl one
+    (λ rest. each_told ss text (and_parts (told s) (list_all told ss) all).1 rest)
   where
-    by_test : (q : Bool) → bytes_eq text s ≡ q → (q || list_any (bytes_eq text) ss) ≡ true → (list_any (bytes_eq text) ss ≡ true → told text ≡ true) → told text ≡ true
-    by_test true is one rest = subst (λ (t : Text). told t ≡ true) (sym ((bytes_eq-Decides text s).0 is)) (and_parts (told s) (list_all told ss) all).0
+    by_test : (q : Bool) → bytes_eq text s ≡ q → (q || list_any (bytes_eq text) ss) ≡ true
+        → (list_any (bytes_eq text) ss ≡ true → told text ≡ true) → told text ≡ true
+    by_test true is one rest = subst (λ (t : Text). told t ≡ true) (sym ((bytes_eq-Decides text s).0 is))
+        (and_parts (told s) (list_all told ss) all).0
     by_test false is one rest = rest one
 
-pub kind_told : (text : Text) → list_any (bytes_eq text) signs ≡ true → (sign_by (slice_index text 0) (slice_index text 1) (slice_index text 2)).0 ≡ sign_kind text
+pub kind_told : (text : Text) → list_any (bytes_eq text) signs ≡ true
+    → (sign_by (slice_index text 0) (slice_index text 1) (slice_index text 2)).0 ≡ sign_kind text
 unfolding told
-kind_told text one = sym (is_kind_true (sign_kind text) (sign_by (slice_index text 0) (slice_index text 1) (slice_index text 2)).0 (each_told signs text all_told one))
+kind_told text one = sym (is_kind_true (sign_kind text) (sign_by (slice_index text 0) (slice_index text 1) (slice_index text 2)).0
+    (each_told signs text all_told one))

@@ -1,5 +1,5 @@
 -- Tables of words.
-use Rattle.std.proofs.Common.{◌≡◌, ℕ, ◌<◌, ◌≤◌, Bool, true, false, cond, List, [], ◌∷◌, length, refl, sym, ap, subst, ◌∙◌, arith}
+use Rattle.std.proofs.Common.{◌≡◌, ℕ, ◌<◌, ◌≤◌, Bool, true, false, cond, List, [], ◌∷◌, length, refl, sym, ap, subst, arith}
 use Rattle.std.specs.Prelude.{◌||◌, nat_lt}
 use Rattle.std.specs.List.{list_any, list_all}
 use Rattle.std.specs.Str.{bytes_eq}
@@ -15,7 +15,8 @@ abbrev pub Each : (Text → Kind → Type 0) → List (Text × Kind) → Type 0
 Each P [] = Unit {0}
 Each P (e ∷ es) = P e.0 e.1 × Each P es
 
-pub found : (P : Text → Kind → Type 0) (es : List (Text × Kind)) (text : Text) (other : Kind) → Each P es → P text other → P text (kind_in es text other)
+pub found : (P : Text → Kind → Type 0) (es : List (Text × Kind)) (text : Text) (other : Kind) → Each P es → P text other → P text
+    (kind_in es text other)
 found P [] text other each last = last
 found P (e ∷ es) text other each last = by_test (bytes_eq e.0 text) refl (found P es text other each.1 last)
   where
@@ -28,17 +29,48 @@ unfolding word_kind
 one_letter word short = sym (found (λ text k. length text < 2 → k ≡ kind.Name) word_kinds word kind.Name each (λ _. refl) short)
   where
     each : Each (λ text k. length text < 2 → k ≡ kind.Name) word_kinds
-    each = (λ h. absurd (omega (arith, h)), (λ h. absurd (omega (arith, h)), (λ h. absurd (omega (arith, h)), (λ h. absurd (omega (arith, h)), (λ h. absurd (omega (arith, h)), (λ h. absurd (omega (arith, h)), (λ h. absurd (omega (arith, h)), (λ h. absurd (omega (arith, h)), (λ h. absurd (omega (arith, h)), (λ h. absurd (omega (arith, h)), (λ h. absurd (omega (arith, h)), (λ h. absurd (omega (arith, h)), tt))))))))))))
+    each = (
+      λ h. absurd (omega (arith, h)),
+      (
+        λ h. absurd (omega (arith, h)),
+        (
+          λ h. absurd (omega (arith, h)),
+          (
+            λ h. absurd (omega (arith, h)),
+            (
+              λ h. absurd (omega (arith, h)),
+              (
+                λ h. absurd (omega (arith, h)),
+                (
+                  λ h. absurd (omega (arith, h)),
+                  (
+                    λ h. absurd (omega (arith, h)),
+                    (
+                      λ h. absurd (omega (arith, h)),
+                      (λ h. absurd (omega (arith, h)), (λ h. absurd (omega (arith, h)), (λ h. absurd (omega (arith, h)), tt))),
+                    ),
+                  ),
+                ),
+              ),
+            ),
+          ),
+        ),
+      ),
+    )
 
 -- no text of a list is as short
-too_short : (least : ℕ) (texts : List Text) (text : Text) → list_all (λ t. nat_lt least (length t)) texts ≡ true → length text ≤ least → list_any (bytes_eq text) texts ≡ false
+too_short : (least : ℕ) (texts : List Text) (text : Text) → list_all (λ t. nat_lt least (length t)) texts ≡ true → length text ≤ least
+    → list_any (bytes_eq text) texts ≡ false
 too_short least [] text all short = refl
 too_short least (t ∷ texts) text all short =
     let parts = and_parts (nat_lt least (length t)) (list_all (λ t. nat_lt least (length t)) texts) all in
     by_test (bytes_eq text t) refl parts.0 (too_short least texts text parts.1 short)
   where
-    by_test : (q : Bool) → bytes_eq text t ≡ q → nat_lt least (length t) ≡ true → list_any (bytes_eq text) texts ≡ false → (q || list_any (bytes_eq text) texts) ≡ false
-    by_test true is long rest = let same : length text ≡ length t = ap length ((bytes_eq-Decides text t).0 is) in let above : least < length t = ltb-true least (length t) long in absurd (omega (arith, same, above, short))
+    by_test : (q : Bool) → bytes_eq text t ≡ q → nat_lt least (length t) ≡ true → list_any (bytes_eq text) texts ≡ false
+        → (q || list_any (bytes_eq text) texts) ≡ false
+    by_test true is long rest = let same : length text ≡ length t = ap length
+        ((bytes_eq-Decides text t).0 is) in let above : least < length t = ltb-true least (length t) long in absurd
+        (omega (arith, same, above, short))
     by_test false is long rest = rest
 
 pub two_letters : (word : Text) → length word ≤ 2 → false ≡ is_stacking_word word

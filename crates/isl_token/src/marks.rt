@@ -138,7 +138,8 @@ impl<'a> Rest<'a> {
 
     /// The digits of the next token, where it is a number.
     pub fn digits(&self) -> Option<&'a [u8]>
-        ensures { MatchOption result (spec.digits self.now ≡ None) (λ digits. spec.digits self.now ≡ Some (digits.now, spec.tail self.now)) }
+        ensures { MatchOption result (spec.digits self.now ≡ None)
+            (λ digits. spec.digits self.now ≡ Some (digits.now, spec.tail self.now)) }
     {
         match self.marks {
             [] => None,
