@@ -20,7 +20,8 @@ module _ (total : Bool) (ts us : List Token) (kind : Kind) (next : IsNext ts (So
 pub later_end : (total : Bool) (ts us : List Token) → IsNext ts None us → total ≡ list_any is_later ts → total ≡ false
 later_end total ts us next so_far = so_far ∙ ap (list_any is_later) next.0
 
-module _ (total inside : Bool) (ts us : List Token) (kind : Kind) (next : IsNext ts (Some kind) us) (so_far : total ≡ has_nested inside ts) where
+module _ (total inside : Bool) (ts us : List Token) (kind : Kind) (next : IsNext ts (Some kind) us)
+    (so_far : total ≡ has_nested inside ts) where
   pub nested_found : inside ≡ true → kind ≡ k.OpenSquare → total ≡ true
   nested_found within is = so_far ∙ ap (has_nested inside) next.1 ∙ rw (← next.2, within, is_kind_same kind k.OpenSquare is) refl
 

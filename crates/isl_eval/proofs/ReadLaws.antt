@@ -40,7 +40,8 @@ taken_fits : (limit : ℤ) (ts : List Token) (literal : Literal) → IsTaken lim
 taken_fits limit ts literal taken = and_from (is_plain literal) (is_within literal) taken.plain taken.within
 
 module _ (ts : List Token) (limit : ℤ) (found : Literal) (next : ℕ) (is : IsLiteralAt ts 0 found next) where
-  pub spelled_whole : next ≡ length ts → list_any is_later ts ≡ false → has_nested false ts ≡ false → has_wide_number limit ts ≡ false → is_fit found ≡ true → TokensSpell limit ts (Show found)
+  pub spelled_whole : next ≡ length ts → list_any is_later ts ≡ false → has_nested false ts ≡ false → has_wide_number limit ts ≡ false
+      → is_fit found ≡ true → TokensSpell limit ts (Show found)
   spelled_whole ends bare flat narrow fit =
       let parts = and_parts (is_plain found) (is_within found) fit in (
         subst (λ (l : List Token). Spells literal_grammar found l) (ap (slice_range ts 0) ends ∙ whole ts) is.spelled,
@@ -50,7 +51,9 @@ module _ (ts : List Token) (limit : ℤ) (found : Literal) (next : ℕ) (is : Is
   -- what the tokens spell is what stands at their begin, and ends where they do
   same_as_found : (other : Literal) → TokensSpell limit ts (Show other) → (found ≡ other) × (next ≡ length ts)
   same_as_found other spelled =
-      let at : IsLiteralAt ts 0 other (length ts) = record { ends = (omega arith, omega arith); spelled = subst (λ (l : List Token). Spells literal_grammar other l) (sym (whole ts)) spelled.0 } in
+      let at : IsLiteralAt ts 0 other
+          (length ts) = record { ends = (omega arith, omega arith); spelled = subst (λ (l : List Token). Spells literal_grammar other l)
+          (sym (whole ts)) spelled.0 } in
       same_literal ts 0 found other next (length ts) (omega arith) is at
 
   pub none_before_end : (next ≡ length ts → ⊥) → IsWhyNoLiteral limit ts fault.Syntax
@@ -66,12 +69,18 @@ none_with_later ts limit later literal spelled = false≢true (sym spelled.1.bar
 pub none_with_nested : (ts : List Token) (limit : ℤ) → has_nested false ts ≡ true → IsWhyNoLiteral limit ts fault.Syntax
 none_with_nested ts limit nested literal spelled = false≢true (sym spelled.1.flat ∙ nested)
 
+-- the search as the code has it, with a limit that is read back
+pub same_wide : (limit k : ℤ) → k ≡ limit → (us ts : List Token) → us ≡ ts → has_wide_number limit ts ≡ has_wide_number k us
+same_wide limit k back us ts same = rw (back, same) refl
+
 pub none_with_wide : (ts : List Token) (limit : ℤ) → has_wide_number limit ts ≡ true → IsWhyNoLiteral limit ts fault.Syntax
 none_with_wide ts limit wide literal spelled = false≢true (sym spelled.1.narrow ∙ wide)
 
 pub none_standing : (ts : List Token) (limit : ℤ) (f : Fault) → Stands ts 0 (Err f) → IsWhyNoLiteral limit ts f
 none_standing ts limit fault.NoMemory none = tt
-none_standing ts limit fault.Syntax none = λ other spelled. none other (length ts) (record { ends = (omega arith, omega arith); spelled = subst (λ (l : List Token). Spells literal_grammar other l) (sym (whole ts)) spelled.0 })
+none_standing ts limit fault.Syntax none = λ other spelled. none other (length ts)
+    (record { ends = (omega arith, omega arith); spelled = subst (λ (l : List Token). Spells literal_grammar other l)
+    (sym (whole ts)) spelled.0 })
 
 -- ---- the bytes of a statement
 same_tokens : (bytes : List ℕ) (ts us : List Token) → lex.tokens bytes ≡ Some ts → lex.tokens bytes ≡ Some us → ts ≡ us
@@ -80,9 +89,11 @@ same_tokens bytes ts us a b = let p : Some ts ≡ Some us = sym a ∙ b in cc
 pub none_uncut : (limit : ℤ) (bytes : List ℕ) → lex.tokens bytes ≡ None → SpellNothing limit bytes
 none_uncut limit bytes none statement spelled = let p : None ≡ Some spelled.tokens = sym none ∙ spelled.cut in cc
 
-pub none_of_these : (limit : ℤ) (bytes : List ℕ) (ts : List Token) (f : Fault) → lex.tokens bytes ≡ Some ts → (ts ≡ [] → ⊥) → IsWhyNoLiteral limit ts f → IsWhyNot limit bytes f
+pub none_of_these : (limit : ℤ) (bytes : List ℕ) (ts : List Token) (f : Fault) → lex.tokens bytes ≡ Some ts → (ts ≡ [] → ⊥)
+    → IsWhyNoLiteral limit ts f → IsWhyNot limit bytes f
 none_of_these limit bytes ts fault.NoMemory cut some none = tt
-none_of_these limit bytes ts fault.Syntax cut some none = λ statement spelled. by statement (subst (λ (l : List Token). TokensSpell limit l statement) (sym (same_tokens bytes ts spelled.tokens cut spelled.cut)) spelled.spelled)
+none_of_these limit bytes ts fault.Syntax cut some none = λ statement spelled. by statement
+    (subst (λ (l : List Token). TokensSpell limit l statement) (sym (same_tokens bytes ts spelled.tokens cut spelled.cut)) spelled.spelled)
   where
     by : (statement : Statement) → TokensSpell limit ts statement → ⊥
     by Empty spelled = some spelled
@@ -104,7 +115,8 @@ no_tokens l spelled =
     omega (arith, e, f, rest)
 
 pub one : (limit : ℤ) (bytes : List ℕ) → SpellOne limit bytes
-one limit bytes a b x y = by a b x.spelled (subst (λ (l : List Token). TokensSpell limit l b) (sym (same_tokens bytes x.tokens y.tokens x.cut y.cut)) y.spelled)
+one limit bytes a b x y = by a b x.spelled
+    (subst (λ (l : List Token). TokensSpell limit l b) (sym (same_tokens bytes x.tokens y.tokens x.cut y.cut)) y.spelled)
   where
     by : (a b : Statement) → TokensSpell limit x.tokens a → TokensSpell limit x.tokens b → a ≡ b
     by Empty Empty p q = refl

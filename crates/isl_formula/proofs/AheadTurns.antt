@@ -12,7 +12,8 @@ unfolding holds
 next m [] level some = absurd (omega (arith, some))
 next m (t ∷ ts) level some = refl
 
-mark_or_on : (m : Mark) (kind : Kind) (level : ℕ) (go : ℕ → Bool) → kind ≢ k.Open → kind ≢ k.OpenSquare → kind ≢ k.Close → kind ≢ k.CloseSquare
+mark_or_on : (m : Mark) (kind : Kind) (level : ℕ) (go : ℕ → Bool) → kind ≢ k.Open → kind ≢ k.OpenSquare → kind ≢ k.Close
+    → kind ≢ k.CloseSquare
     → mark_step m kind level go ≡ cond (is_mark m kind) true (go level)
 mark_or_on m k.Open level go a b c d = absurd (a refl)
 mark_or_on m k.OpenSquare level go a b c d = absurd (b refl)
@@ -20,7 +21,8 @@ mark_or_on m k.Close level go a b c d = absurd (c refl)
 mark_or_on m k.CloseSquare level go a b c d = absurd (d refl)
 mark_or_on m _ level go a b c d = refl
 
-module _ (total : Bool) (m : Mark) (ts : List Token) (level : ℕ) (kind : Kind) (so_far : total ≡ holds m ts level) (some : 0 < length ts) (head : kind ≡ head_kind ts) where
+module _ (total : Bool) (m : Mark) (ts : List Token) (level : ℕ) (kind : Kind) (so_far : total ≡ holds m ts level)
+    (some : 0 < length ts) (head : kind ≡ head_kind ts) where
   step : total ≡ mark_step m kind level (holds m (tail ts))
   step = so_far ∙ next m ts level some ∙ ap (λ h. mark_step m h level (holds m (tail ts))) (sym head)
 
@@ -40,9 +42,11 @@ module _ (total : Bool) (m : Mark) (ts : List Token) (level : ℕ) (kind : Kind)
   closes is more = let e : level ≡ suc (level - 1) = omega arith in step ∙ rw is (ap (λ l. mark_step m k.Close l (holds m (tail ts))) e)
 
   pub closes_square : kind ≡ k.CloseSquare → level ≢ 0 → total ≡ holds m (tail ts) (level - 1)
-  closes_square is more = let e : level ≡ suc (level - 1) = omega arith in step ∙ rw is (ap (λ l. mark_step m k.CloseSquare l (holds m (tail ts))) e)
+  closes_square is more = let e : level ≡ suc (level - 1) = omega arith in step ∙ rw is
+      (ap (λ l. mark_step m k.CloseSquare l (holds m (tail ts))) e)
 
-  pub goes_on : kind ≢ k.Open → kind ≢ k.OpenSquare → kind ≢ k.Close → kind ≢ k.CloseSquare → is_mark m kind ≡ false → total ≡ holds m (tail ts) level
+  pub goes_on : kind ≢ k.Open → kind ≢ k.OpenSquare → kind ≢ k.Close → kind ≢ k.CloseSquare → is_mark m kind ≡ false → total ≡ holds m
+      (tail ts) level
   goes_on a b c d none = step ∙ mark_or_on m kind level (holds m (tail ts)) a b c d ∙ rw none refl
 
   pub found : kind ≢ k.Open → kind ≢ k.OpenSquare → kind ≢ k.Close → kind ≢ k.CloseSquare → is_mark m kind ≡ true → total ≡ true

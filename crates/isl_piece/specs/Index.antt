@@ -1,10 +1,23 @@
 -- inner: where the row with a bound stands among rows
-use Rattle.std.specs.Prelude.{◌≡◌, ◌<◌, ℕ, ℤ, pos, unsigned_abs, false, if◌then◌else◌, AllPairs, Contains, List, [], fold, length, slice_index_or}
+use Rattle.std.specs.Prelude.{◌≡◌, ◌<◌, ℕ, ℤ, pos, unsigned_abs, true, false, if◌then◌else◌, All, AllPairs, Contains, Option, MatchOption}
+use Rattle.std.specs.Prelude.{List, [], fold, length, slice_index_or}
 use Rattle.std.specs.Int.{w128, int_rem_euclid, int_wrapping_add, int_wrapping_mul}
 use Rattle.isl_piece.specs.declared.index.TheConstants.{MULTIPLIER}
 use Rattle.isl_piece.specs.declared.constraint.RowKind.TheVariants.{AtLeast}
 use Rattle.isl_piece.specs.declared.constraint.Row.{Row}
 use Rattle.isl_piece.specs.Normal.{same_kind, same_bound}
+
+-- the place of a row with the bound of r; none where no row has it
+abbrev pub IsPlaceOf : List Row → Row → Option ℕ → Type 0
+IsPlaceOf rows r found = MatchOption found
+    (All (λ a. same_bound a r ≡ false) rows)
+    (λ place. (place < length rows) × (same_bound (slice_index_or rows place r) r ≡ true))
+
+-- one of the places, at which a row with the bound of r stands; none where it stands at none of them
+abbrev pub IsPlaceAmong : List Row → Row → List ℕ → Option ℕ → Type 0
+IsPlaceAmong rows r places found = MatchOption found
+    (All (λ place. place < length rows → same_bound (slice_index_or rows place r) r ≡ false) places)
+    (λ place. (place < length rows) × (same_bound (slice_index_or rows place r) r ≡ true))
 
 -- a hash, with one number more
 abbrev pub mixed : ℤ → ℤ → ℤ

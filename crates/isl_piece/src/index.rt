@@ -1,21 +1,22 @@
 //! Where the row with a bound stands among rows of which each bound stands once.
 
-ghost use Rattle.std.specs.Prelude.{◌≡◌, ◌++◌, ◌∷◌, [], ◌<◌, ◌≤◌, length, false, true, pos, All, IfOk, OnOk, MatchOption, slice_index_or};
+ghost use Rattle.std.specs.Prelude.{◌≡◌, ◌++◌, ◌∷◌, [], ◌<◌, false, All, IfOk, OnOk};
 ghost use Rattle.isl_piece.specs.Normal.{same_bound};
-ghost use Rattle.isl_piece.specs.Index.{mixed, bound_constant, bound_hash, slot_of};
+ghost use Rattle.isl_piece.specs.Index.{IsPlaceOf, IsPlaceAmong, mixed, bound_constant, bound_hash, slot_of};
 
 use crate::{Row, RowKind};
 use isl_meter::Int;
 use std::alloc::{AllocError, AllocFailed, Global};
 use std::marker::Model;
 
-// So many rows are looked through one by one.
-const FEW: usize = 32;
+// Up to so many rows are looked through one by one, which is no slower than slots then.
+const FEW: usize = 64;
 
 // By what each number is spread over the bits of a hash: odd, and with no pattern.
 const MULTIPLIER: i128 = 0x2360_ED05_1FC6_5DA4_4385_DF64_9FCC_F645;
 
 // Whether two rows are equal, or both `AtLeast` and different in the constant alone.
+#[inline]
 fn is_same_bound(a: &Row, b: &Row) -> bool
     ensures { result ≡ same_bound a.now b.now }
 {
@@ -25,11 +26,9 @@ fn is_same_bound(a: &Row, b: &Row) -> bool
         && (a.kind == RowKind::AtLeast || a.constant == b.constant)
 }
 
-// The place of a row with the bound of `row`, when all are looked through.
+// The place of the first row with the bound of `row`; `None` where no row has it.
 fn place_among(rows: &[Row], row: &Row) -> Option<usize>
-    ensures { MatchOption result
-        (All (λ a. same_bound a row.now ≡ false) rows.now)
-        (λ place. (place < length rows.now) × (same_bound (slice_index_or rows.now place row.now) row.now ≡ true)) }
+    ensures { IsPlaceOf rows.now row.now result }
 {
     for place in 0..rows.len() {
         if is_same_bound(&rows[place], row) {
@@ -106,11 +105,9 @@ impl Slot {
         self.places.push(place)
     }
 
-    // One of the places, at which a row with the bound of `row` stands.
+    // The first of the places at which a row with the bound of `row` stands; `None` where it stands at none of them.
     fn place_of(&self, rows: &[Row], row: &Row) -> Option<usize>
-        ensures { MatchOption result
-            (All (λ place. place < length rows.now → same_bound (slice_index_or rows.now place row.now) row.now ≡ false) self.now)
-            (λ place. (place < length rows.now) × (same_bound (slice_index_or rows.now place row.now) row.now ≡ true)) }
+        ensures { IsPlaceAmong rows.now row.now self.now result }
     {
         for place in self.places.as_slice() {
             if *place < rows.len() && is_same_bound(&rows[*place], row) {
@@ -121,8 +118,8 @@ impl Slot {
     }
 }
 
-/// Finds the place of the row with a bound among rows of which each bound stands once. Where few rows are to come, they are
-/// looked through one by one, and no memory is taken.
+/// Finds the place of the row with a bound among rows of which each bound stands once. The places lie in slots, by a hash of
+/// the row's bound. Where few rows are to come there are no slots: the rows are looked through one by one, and no memory is taken.
 #[derive(Drop)]
 pub(crate) struct BoundIndex {
     slots: Vec<Slot>,
@@ -139,7 +136,11 @@ impl Model for BoundIndex {
 impl BoundIndex {
     ghost use Rattle.isl_piece.specs.Index.{IsIndexOf};
 
-    /// The index of no rows, where up to `count` are to come.
+    /// The index of no rows, where about `count` are to come.
+    ///
+    /// # Errors
+    ///
+    /// `AllocError` where memory ends.
     pub(crate) fn for_rows(alloc: Global, count: usize) -> Result<Self, AllocError>
         ensures { IfOk result (λ index. IsIndexOf index []) }
     {
@@ -154,9 +155,7 @@ impl BoundIndex {
     /// The place of the row with the bound of `row` among the rows; `None` where no row has it.
     pub(crate) fn place_of(&self, rows: &[Row], row: &Row) -> Option<usize>
         requires { IsIndexOf self.now rows.now }
-        ensures { MatchOption result
-            (All (λ a. same_bound a row.now ≡ false) rows.now)
-            (λ place. (place < length rows.now) × (same_bound (slice_index_or rows.now place row.now) row.now ≡ true)) }
+        ensures { IsPlaceOf rows.now row.now result }
     {
         if self.slots.is_empty() {
             return place_among(rows, row);
@@ -165,6 +164,10 @@ impl BoundIndex {
     }
 
     /// Takes in a row with a bound of its own, which is to stand behind the rows.
+    ///
+    /// # Errors
+    ///
+    /// `AllocError` where memory ends.
     pub(crate) fn push(&mut self, rows: &[Row], row: &Row) -> Result<(), AllocError>
         requires index { IsIndexOf self.old rows.now }
         requires unlike { All (λ a. same_bound a row.now ≡ false) rows.now }

@@ -1,6 +1,6 @@
 //! The normal form of rows and systems, made in place.
 
-ghost use Rattle.std.specs.Prelude.{◌≡◌, ◌+◌, ◌<◌, ◌≤◌, ◌++◌, ◌∷◌, [], length, take, drop, All, Some, None, MatchOption, IfOk, OnOk, slice_index_or};
+ghost use Rattle.std.specs.Prelude.{◌≡◌, ◌+◌, ◌<◌, ◌≤◌, length, take, drop, All, Some, None, MatchOption, IfOk, OnOk, slice_index_or};
 ghost use Rattle.std.specs.Int.{int_min};
 ghost use Rattle.isl_piece.specs.declared.constraint.Row.{Row};
 ghost use Rattle.isl_piece.specs.Row.{IsRowWithin, HasDivisor};

@@ -4,6 +4,7 @@ pub mod Missing
 pub mod TupleMarks
 pub mod TupleAgain
 pub mod LiteralAgain
+pub mod SameNames
 pub mod Along
 pub mod LiteralLaws
 pub mod Counting

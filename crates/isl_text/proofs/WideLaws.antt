@@ -10,11 +10,13 @@ use Rattle.isl_token.specs.Reading.{digits, tail}
 use Rattle.isl_token.proofs.Taking.{same_read}
 use Rattle.isl_text.specs.Limits.{is_wide, next_is_wide}
 
-pub wide_digits : (ts us : List Token) (limit : ℤ) (d : Text) (r : Bool) → digits ts ≡ Some (d, us) → r ≡ int_lt limit (pos (value_of d)) → r ≡ next_is_wide limit ts
+pub wide_digits : (ts us : List Token) (limit : ℤ) (d : Text) (r : Bool) → digits ts ≡ Some (d, us) → r ≡ int_lt limit
+    (pos (value_of d)) → r ≡ next_is_wide limit ts
 unfolding digits
 wide_digits [] us limit d r read is = absurd cc
 wide_digits (token.Word word ∷ ts) us limit d r read is = absurd cc
-wide_digits (token.Number text ∷ ts) us limit d r read is = is ∙ ap (λ (t : Text). int_lt limit (pos (value_of t))) (sym (same_read text d ts us read).0)
+wide_digits (token.Number text ∷ ts) us limit d r read is = is ∙ ap (λ (t : Text). int_lt limit (pos (value_of t)))
+    (sym (same_read text d ts us read).0)
 wide_digits (token.Sign sign ∷ ts) us limit d r read is = absurd cc
 
 pub wide_none : (ts : List Token) (limit : ℤ) → digits ts ≡ None → false ≡ next_is_wide limit ts
@@ -35,9 +37,11 @@ module _ (total : Bool) (limit : ℤ) (ts : List Token) (so_far : total ≡ list
   pub wide_on : next_is_wide limit ts ≡ false → 0 < length ts → total ≡ list_any (is_wide limit) (tail ts)
   wide_on = go ts so_far
     where
-      go : (ts : List Token) → total ≡ list_any (is_wide limit) ts → next_is_wide limit ts ≡ false → 0 < length ts → total ≡ list_any (is_wide limit) (tail ts)
+      go : (ts : List Token) → total ≡ list_any (is_wide limit) ts → next_is_wide limit ts ≡ false → 0 < length ts → total ≡ list_any
+          (is_wide limit) (tail ts)
       go [] so_far wide some = absurd (omega (arith, some))
       go (t ∷ ts) so_far wide some = so_far ∙ rw wide refl
 
 pub ruleset next = (wide_digits, wide_none)
+
 pub ruleset turns = (wide_found, wide_on)

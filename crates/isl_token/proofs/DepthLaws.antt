@@ -1,18 +1,17 @@
 -- What stacks, told by kinds.
-use Rattle.std.proofs.Common.{◌≡◌, ◌≢◌, ◌<◌, ◌≤◌, ◌+◌, Bool, true, false, cond, List, [], ◌∷◌, Option, Some, None, length, refl, sym, ap, subst, ◌∙◌, arith}
+use Rattle.std.proofs.Common.{◌≡◌, ◌≢◌, ◌<◌, ◌≤◌, ◌+◌, Bool, true, false, cond, List, [], ◌∷◌, Option, Some, None, length, refl, sym, ap, ◌∙◌, arith}
 use Rattle.std.specs.Prelude.{nat_lt}
 use Rattle.std.specs.List.{list_any}
-use Rattle.std.specs.Str.{bytes_eq}
 use Rattle.std.proofs.lemmas.Bool.{le-ltb}
-use Rattle.std.proofs.lemmas.Slice.Eq.{bytes_eq-Decides}
 use Rattle.isl_token.specs.TokenView.{Token}
 use Rattle.isl_token.specs.TokenView as token
 use Rattle.isl_token.specs.declared.token.Kind.{Kind}
 use Rattle.isl_token.specs.declared.token.Kind.TheVariants as kind
 use Rattle.isl_token.specs.declared.depth.Place.{Place}
-use Rattle.isl_token.specs.Token.{Text, is_kind, kind_of, kind_in, word_kinds, word_kind, sign_kinds, sign_kind}
+use Rattle.isl_token.specs.Token.{Text, is_kind, kind_of, word_kinds, word_kind, sign_kinds, sign_kind}
 use Rattle.isl_token.specs.Depth.{is_stacking, is_stacking_word, stacking_words, head_is_stacking, depths, step_by}
 use Rattle.isl_token.specs.Reading.{name, head_kind, tail}
+use Rattle.isl_token.proofs.WordLaws.{Each, found}
 use Rattle.isl_token.proofs.Taking.{is_kind_same, same_read}
 
 -- whether it stacks, told by its kind, and for a name by its word
@@ -22,33 +21,91 @@ by_kind kind.Exists word = true
 by_kind kind.Name word = word
 by_kind _ word = false
 
--- a claim on the entries of a table
-Each : (Text → Kind → Type 0) → List (Text × Kind) → Type 0
-Each P [] = Unit {0}
-Each P (e ∷ es) = P e.0 e.1 × Each P es
-
-found : (P : Text → Kind → Type 0) (es : List (Text × Kind)) (text : Text) (other : Kind) → Each P es → P text other → P text (kind_in es text other)
-unfolding Each
-found P [] text other each last = last
-found P (e ∷ es) text other each last = by_test (bytes_eq e.0 text) refl (found P es text other each.1 last)
-  where
-    by_test : (q : Bool) → bytes_eq e.0 text ≡ q → P text (kind_in es text other) → P text (cond q e.1 (kind_in es text other))
-    by_test true is rest = subst (λ (t : Text). P t e.1) ((bytes_eq-Decides e.0 text).0 is) each.0
-    by_test false is rest = rest
-
 word_stacks : (word : Text) → is_stacking_word word ≡ by_kind (word_kind word) (is_stacking_word word)
-unfolding word_kind stacking_words by_kind Each
+unfolding word_kind stacking_words by_kind
 word_stacks word = found (λ text k. is_stacking_word text ≡ by_kind k (is_stacking_word text)) word_kinds word kind.Name each refl
   where
     each : Each (λ text k. is_stacking_word text ≡ by_kind k (is_stacking_word text)) word_kinds
     each = (refl, (refl, (refl, (refl, (refl, (refl, (refl, (refl, (refl, (refl, (refl, (refl, tt))))))))))))
 
 sign_stacks : (sign : Text) → is_kind (sign_kind sign) kind.Not ≡ by_kind (sign_kind sign) false
-unfolding sign_kind by_kind Each
+unfolding sign_kind by_kind
 sign_stacks sign = found (λ text k. is_kind k kind.Not ≡ by_kind k false) sign_kinds sign kind.End each refl
   where
     each : Each (λ text k. is_kind k kind.Not ≡ by_kind k false) sign_kinds
-    each = (refl, (refl, (refl, (refl, (refl, (refl, (refl, (refl, (refl, (refl, (refl, (refl, (refl, (refl, (refl, (refl, (refl, (refl, (refl, (refl, (refl, (refl, (refl, (refl, (refl, (refl, (refl, (refl, (refl, (refl, (refl, (refl, (refl, (refl, tt))))))))))))))))))))))))))))))))))
+    each = (
+      refl,
+      (
+        refl,
+        (
+          refl,
+          (
+            refl,
+            (
+              refl,
+              (
+                refl,
+                (
+                  refl,
+                  (
+                    refl,
+                    (
+                      refl,
+                      (
+                        refl,
+                        (
+                          refl,
+                          (
+                            refl,
+                            (
+                              refl,
+                              (
+                                refl,
+                                (
+                                  refl,
+                                  (
+                                    refl,
+                                    (
+                                      refl,
+                                      (
+                                        refl,
+                                        (
+                                          refl,
+                                          (
+                                            refl,
+                                            (
+                                              refl,
+                                              (
+                                                refl,
+                                                (
+                                                  refl,
+                                                  (
+                                                    refl,
+                                                    (refl, (refl, (refl, (refl, (refl, (refl, (refl, (refl, (refl, (refl, tt)))))))))),
+                                                  ),
+                                                ),
+                                              ),
+                                            ),
+                                          ),
+                                        ),
+                                      ),
+                                    ),
+                                  ),
+                                ),
+                              ),
+                            ),
+                          ),
+                        ),
+                      ),
+                    ),
+                  ),
+                ),
+              ),
+            ),
+          ),
+        ),
+      ),
+    )
 
 stacks_of : Token → Bool
 stacks_of (token.Word word) = is_stacking_word word
@@ -90,11 +147,14 @@ pub next_exists : (ts : List Token) (k : Kind) → k ≡ head_kind ts → k ≡ 
 next_exists [] k head is = absurd cc
 next_exists (t ∷ ts) k head is = sym (stacks t ∙ of_exists (kind_of t) (stacks_of t) (sym head ∙ is))
 
-pub next_other : (ts : List Token) (k : Kind) → k ≡ head_kind ts → k ≢ kind.Name → k ≢ kind.Not → k ≢ kind.Exists → false ≡ head_is_stacking ts
+pub next_other : (ts : List Token) (k : Kind) → k ≡ head_kind ts → k ≢ kind.Name → k ≢ kind.Not → k ≢ kind.Exists
+    → false ≡ head_is_stacking ts
 next_other [] k head no_name no_not no_exists = refl
-next_other (t ∷ ts) k head no_name no_not no_exists = sym (stacks t ∙ of_other (kind_of t) (stacks_of t) (λ e. no_name (head ∙ e)) (λ e. no_not (head ∙ e)) (λ e. no_exists (head ∙ e)))
+next_other (t ∷ ts) k head no_name no_not no_exists = sym
+    (stacks t ∙ of_other (kind_of t) (stacks_of t) (λ e. no_name (head ∙ e)) (λ e. no_not (head ∙ e)) (λ e. no_exists (head ∙ e)))
 
-pub next_word : (ts us : List Token) (word : Text) (r : Bool) → name ts ≡ Some (word, us) → r ≡ is_stacking_word word → r ≡ head_is_stacking ts
+pub next_word : (ts us : List Token) (word : Text) (r : Bool) → name ts ≡ Some (word, us) → r ≡ is_stacking_word word
+    → r ≡ head_is_stacking ts
 unfolding name
 next_word [] us word r read is = absurd cc
 next_word (token.Word w ∷ ts) us word r read is = by_test (is_kind (kind_of (token.Word w)) kind.Name) read
@@ -117,8 +177,10 @@ next_no_word (token.Sign sign ∷ ts) k head is none = sym (sign_stacks sign ∙
 
 -- ---- one turn of the loop over tokens
 
-pub depth_step : (ts : List Token) (place next : Place) (total : Bool) → 0 < length ts → next ≡ step_by place (head_is_stacking ts) (head_kind ts)
-    → next.brackets + next.words ≤ 200 → total ≡ list_any (nat_lt 200) (depths place ts) → total ≡ list_any (nat_lt 200) (depths next (tail ts))
+pub depth_step : (ts : List Token) (place next : Place) (total : Bool) → 0 < length ts → next ≡ step_by place (head_is_stacking ts)
+    (head_kind ts)
+    → next.brackets + next.words ≤ 200 → total ≡ list_any (nat_lt 200) (depths place ts) → total ≡ list_any (nat_lt 200)
+    (depths next (tail ts))
 depth_step [] place next total some is within so_far = absurd (omega arith)
 depth_step (t ∷ ts) place next total some is within so_far =
     so_far ∙ rw (← is, le-ltb 200 (next.brackets + next.words) within) refl

@@ -9,3 +9,5 @@ pub mod Again
 pub mod Whole
 pub mod Prints
 pub mod SignPrints
+pub mod SignLaws
+pub mod WordLaws

@@ -74,7 +74,9 @@ module _ (text : Text) (at : ℕ) (k : Kind) (known : IsKindAt text at k) where
     word_there word us = rw (token_there text at p n is, word) refl
 
     pub word_utf8 : p ≡ piece.Word → IsUtf8 (take n (drop at text))
-    word_utf8 word = IsUtf8-from_ascii (take n (drop at text)) (identifier_ascii (take n (drop at text)) (let motive : Piece → Type 0 = λ q. IsPiece q (take n (drop at text)) in subst motive word (cut_piece (drop at text) p n is)))
+    word_utf8 word = IsUtf8-from_ascii (take n (drop at text))
+        (identifier_ascii (take n (drop at text))
+        (let motive : Piece → Type 0 = λ q. IsPiece q (take n (drop at text)) in subst motive word (cut_piece (drop at text) p n is)))
 
     pub no_word_there : p ≢ piece.Word → (us : List Token) → any_word (token_at text at ∷ us) ≡ None
     no_word_there other us = rw (token_there text at p n is) (no_word p (take n (drop at text)) us other)

@@ -6,3 +6,4 @@ pub mod Depth
 pub mod Reading
 pub mod AnyWord
 pub mod Spelling
+pub mod Signs

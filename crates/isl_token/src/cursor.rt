@@ -1,6 +1,6 @@
 //! A cursor over tokens.
 
-ghost use Rattle.std.specs.Prelude.{◌≡◌, length};
+ghost use Rattle.std.specs.Prelude.{◌≡◌, length, IfOk};
 ghost use Rattle.isl_token.specs.Reading as spec;
 ghost use Rattle.isl_token.specs.Reading.{Reads};
 
@@ -9,14 +9,35 @@ use crate::marks::Rest;
 use crate::number::number_of;
 use crate::token::Kind;
 use isl_space::Name;
-use std::alloc::Global;
+use std::alloc::{AllocError, Global};
 use std::marker::Model;
+
+/// How many names are kept to be shared.
+const KEPT: usize = 32;
+
+/// A name that was read before, or a new one, which is kept while there are few.
+fn shared(alloc: Global, names: &mut Vec<Name>, text: &str) -> Result<Name, AllocError>
+    ensures { IfOk result (λ name. name ≡ text.now) }
+{
+    for name in names.iter() {
+        if name.as_str() == text {
+            return name.copy();
+        }
+    }
+    let name = Name::new(alloc, text)?;
+    if names.len() < KEPT {
+        names.push(name.copy()?)?;
+    }
+    Ok(name)
+}
 
 /// The tokens that are still to be read.
 #[derive(Drop)]
 pub struct Cursor<'a> {
     alloc: Global,
     rest: Rest<'a>,
+    /// Names that were read, to be shared.
+    names: Vec<Name>,
 }
 
 impl<'a> Model for Cursor<'a> {
@@ -32,7 +53,11 @@ impl<'a> Cursor<'a> {
     pub fn new(alloc: Global, rest: Rest<'a>) -> Cursor<'a>
         ensures { result ≡ rest.entry }
     {
-        Cursor { alloc, rest }
+        Cursor {
+            alloc,
+            rest,
+            names: Vec::new(alloc),
+        }
     }
 
     /// The tokens that are left.
@@ -102,7 +127,7 @@ impl<'a> Cursor<'a> {
     {
         match self.rest.word() {
             Some(word) => {
-                let name = Name::new(self.alloc, word)?;
+                let name = shared(self.alloc, &mut self.names, word)?;
                 self.rest.skip();
                 Ok(name)
             }

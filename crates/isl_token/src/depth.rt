@@ -57,10 +57,18 @@ fn is_among(mut texts: &[&[u8]], text: &[u8]) -> bool
 }
 
 #[tactic(auto, unfolding(crate::specs::Depth::stacking_words))]
-fn is_stacking_word(word: &[u8]) -> bool
+fn is_listed(word: &[u8]) -> bool
     ensures { result ≡ spec.is_stacking_word word.now }
 {
     is_among(&STACKING, word)
+}
+
+/// Whether the word stacks. None of those that do has less than three letters.
+#[tactic(auto, using(crate::proofs::WordLaws::two_letters))]
+fn is_stacking_word(word: &[u8]) -> bool
+    ensures { result ≡ spec.is_stacking_word word.now }
+{
+    word.len() > 2 && is_listed(word)
 }
 
 fn is_stacking(rest: &Rest<'_>) -> bool

@@ -3,12 +3,13 @@
 ghost use Rattle.std.specs.Prelude.{◌≡◌, ◌≢◌, ◌<◌, ◌≤◌, All, length, slice_index, map, true, nat_eq, IfOk};
 ghost use Rattle.std.specs.List.{starts_with};
 ghost use Rattle.isl_token.specs.Lex as spec;
-ghost use Rattle.isl_token.specs.Lex.{Lexes, IsKindOfPiece};
+ghost use Rattle.isl_token.specs.Lex.{Lexes, IsPiece, IsKindOfPiece};
 ghost use Rattle.isl_token.specs.Token.{IsToken};
 
 use crate::fault::Fault;
 use crate::marks::{Mark, Tokens};
-use crate::token::{Kind, SIGNS, sign_kind, word_kind};
+use crate::sign::{sign, sign_kind};
+use crate::token::{Kind, word_kind};
 use std::alloc::Global;
 
 /// Bytes that stand in rows.
@@ -60,36 +61,6 @@ fn past(class: Class, z: &[u8], at: usize) -> usize
     end
 }
 
-fn begins(z: &[u8], text: &[u8]) -> bool
-    ensures value { result ≡ starts_with nat_eq z.now text.now }
-    ensures within { result ≡ true → length text.now ≤ length z.now }
-{
-    z.starts_with(text)
-}
-
-/// The length of the longest text of the table that stands at the front, 0 where none does.
-fn longest(mut table: &[(&[u8], Kind)], z: &[u8]) -> usize
-    ensures value { result ≡ spec.longest (map (λ k. k.0.now) table.entry.now) z.now }
-    ensures within { result ≤ length z.now }
-{
-    let mut best = 0;
-    while let [(text, _), rest @ ..] = table {
-        if best < text.len() && begins(z, text) {
-            best = text.len();
-        }
-        table = rest;
-    }
-    best
-}
-
-#[tactic(auto, unfolding(crate::specs::Token::signs))]
-fn sign_len(z: &[u8]) -> usize
-    ensures value { result ≡ spec.sign_len z.now }
-    ensures within { result ≤ length z.now }
-{
-    longest(&SIGNS, z)
-}
-
 /// What stands at the front, and its length in bytes.
 #[tactic(auto, unfolding(crate::specs::Lex::cut))]
 pub(crate) fn cut(z: &[u8]) -> (Piece, usize)
@@ -108,15 +79,16 @@ pub(crate) fn cut(z: &[u8]) -> (Piece, usize)
     } else if is_in(Class::Digit, byte) {
         (Piece::Number, past(Class::Digit, z, 1))
     } else {
-        match sign_len(z) {
-            0 => (Piece::Wrong, 1),
-            len => (Piece::Sign, len),
+        match sign(z) {
+            (_, 0) => (Piece::Wrong, 1),
+            (_, len) => (Piece::Sign, len),
         }
     }
 }
 
 /// The kind of the piece's token, if it has one.
 fn kind_of_piece(piece: Piece, text: &[u8]) -> Result<Option<Kind>, Fault>
+    requires { IsPiece piece text.now }
     ensures { IsKindOfPiece piece text.now result }
 {
     match piece {

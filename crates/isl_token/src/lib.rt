@@ -7,6 +7,7 @@ pub mod fault;
 pub mod lex;
 pub mod marks;
 pub mod number;
+mod sign;
 pub mod token;
 
 pub use cursor::Cursor;

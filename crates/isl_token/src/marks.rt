@@ -139,7 +139,8 @@ impl<'a> Rest<'a> {
 
     /// The text of the next token, where it is a word, whatever it means inside a literal.
     pub fn any_word(&self) -> Option<&'a str>
-        ensures { MatchOption result (any_word self.now ≡ None) (λ word. any_word self.now ≡ Some (word.now, spec.tail self.now)) }
+        ensures { MatchOption result (any_word self.now ≡ None)
+            (λ word. any_word self.now ≡ Some (word.now, spec.tail self.now)) }
     {
         match self.marks {
             [] => None,
@@ -149,7 +150,8 @@ impl<'a> Rest<'a> {
 
     /// The digits of the next token, where it is a number.
     pub fn digits(&self) -> Option<&'a [u8]>
-        ensures { MatchOption result (spec.digits self.now ≡ None) (λ digits. spec.digits self.now ≡ Some (digits.now, spec.tail self.now)) }
+        ensures { MatchOption result (spec.digits self.now ≡ None)
+            (λ digits. spec.digits self.now ≡ Some (digits.now, spec.tail self.now)) }
     {
         match self.marks {
             [] => None,

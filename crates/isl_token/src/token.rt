@@ -71,44 +71,6 @@ pub const WORDS: [(&[u8], Kind); 12] = [
     (b"ceild", Kind::CeilDiv),
 ];
 
-/// The signs.
-pub const SIGNS: [(&[u8], Kind); 34] = [
-    (b":=", Kind::Assign),
-    (b";", Kind::Semicolon),
-    (b":", Kind::Colon),
-    (b",", Kind::Comma),
-    (b"(", Kind::Open),
-    (b")", Kind::Close),
-    (b"[", Kind::OpenSquare),
-    (b"]", Kind::CloseSquare),
-    (b"{", Kind::OpenBrace),
-    (b"}", Kind::CloseBrace),
-    (b"+", Kind::Plus),
-    (b"*", Kind::Star),
-    (b"-", Kind::Minus),
-    (b"->-", Kind::ArrowMinus),
-    (b"->*", Kind::ArrowStar),
-    (b"->", Kind::Arrow),
-    (b"^-1", Kind::Inverse),
-    (b".", Kind::Dot),
-    (b"/", Kind::Slash),
-    (b"%", Kind::Mod),
-    (b"=", Kind::Equal),
-    (b"==", Kind::Equal),
-    (b"<", Kind::Less),
-    (b"<=", Kind::LessEqual),
-    (b">", Kind::Greater),
-    (b">=", Kind::GreaterEqual),
-    (b"<<", Kind::LexLess),
-    (b"<<=", Kind::LexLessEqual),
-    (b">>", Kind::LexGreater),
-    (b">>=", Kind::LexGreaterEqual),
-    (b"!=", Kind::Differs),
-    (b"!", Kind::Not),
-    (b"&&", Kind::And),
-    (b"||", Kind::Or),
-];
-
 /// The kind of the text in the table, or the other kind where it is not there.
 fn kind_in(mut table: &[(&[u8], Kind)], text: &[u8], other: Kind) -> Kind
     ensures { result ≡ spec.kind_in (map (λ k. (k.0.now, k.1)) table.entry.now) text.now other }
@@ -123,15 +85,20 @@ fn kind_in(mut table: &[(&[u8], Kind)], text: &[u8], other: Kind) -> Kind
 }
 
 #[tactic(auto, unfolding(crate::specs::Token::word_kind))]
-pub(crate) fn word_kind(word: &[u8]) -> Kind
+fn listed_kind(word: &[u8]) -> Kind
     ensures { result ≡ spec.word_kind word.now }
 {
     kind_in(&WORDS, word, Kind::Name)
 }
 
-#[tactic(auto, unfolding(crate::specs::Token::sign_kind))]
-pub(crate) fn sign_kind(sign: &[u8]) -> Kind
-    ensures { result ≡ spec.sign_kind sign.now }
+/// The kind of a word. None of the list has one letter.
+#[tactic(auto, using(crate::proofs::WordLaws::one_letter))]
+pub(crate) fn word_kind(word: &[u8]) -> Kind
+    ensures { result ≡ spec.word_kind word.now }
 {
-    kind_in(&SIGNS, sign, Kind::End)
+    if word.len() < 2 {
+        Kind::Name
+    } else {
+        listed_kind(word)
+    }
 }

@@ -3,8 +3,8 @@ use Rattle.std.specs.List.{list_any}
 use Rattle.isl_eval.specs.Statement.{is_later}
 use Rattle.isl_eval.proofs.statement.has_later.Given as goal
 
-abbrev pub invariant-loop-rest : goal.invariant-loop-rest
-invariant-loop-rest l = list_any is_later l.initial.rest ≡ list_any is_later l.rest
+abbrev pub invariant-loop-kind : goal.invariant-loop-kind
+invariant-loop-kind l = list_any is_later l.initial.rest ≡ list_any is_later l.rest
 
-abbrev pub decreases-loop-rest : goal.decreases-loop-rest
-decreases-loop-rest l = length l.rest
+abbrev pub decreases-loop-kind : goal.decreases-loop-kind
+decreases-loop-kind l = length l.rest

@@ -1,7 +1,8 @@
-use Rattle.std.proofs.Common.{◌≡◌, refl, Some}
+use Rattle.std.proofs.Common.{◌≡◌, Some}
 use Rattle.isl_piece.specs.declared.conjunction.System.{System}
 use Rattle.isl_piece.specs.Normal.{normal_system}
-use Rattle.isl_piece.proofs.SystemLaws.{normal_system-Some, normal_system-None, found_none, found_points, found_normal, found_within, found_up_to, missing_none, missing_points}
+use Rattle.isl_piece.proofs.SystemLaws.{normal_system-Some, found_none, found_points, found_normal, found_within, found_up_to}
+use Rattle.isl_piece.proofs.SystemLaws.{normal_system-None, missing_none, missing_points}
 use Rattle.isl_piece.proofs.conjunction.normalise.Goals as goal
 use Rattle.isl_piece.proofs.conjunction.normalise.Goals.{Then-branch}
 
@@ -34,7 +35,9 @@ unfolding made
 returns-then-branch-clause-magnitudes c = found_up_to c.args.system c.args.meter.now c.requires (made c) (found c)
 
 pub returns-else-branch-clause-none : goal.returns-else-branch-clause-none
-returns-else-branch-clause-none c = missing_none c.args.system c.args.meter.now c.requires (normal_system-None c.args.system (c.in_ok-normalise.ensures.none c.if-branch.false))
+returns-else-branch-clause-none c =
+    missing_none c.args.system c.args.meter.now c.requires (normal_system-None c.args.system (c.in_ok-normalise.ensures.none c.if-branch.false))
 
 pub returns-else-branch-clause-points : goal.returns-else-branch-clause-points
-returns-else-branch-clause-points c = missing_points c.args.system c.args.meter.now c.requires (normal_system-None c.args.system (c.in_ok-normalise.ensures.none c.if-branch.false))
+returns-else-branch-clause-points c =
+    missing_points c.args.system c.args.meter.now c.requires (normal_system-None c.args.system (c.in_ok-normalise.ensures.none c.if-branch.false))

@@ -6,7 +6,11 @@ use Rattle.isl_piece.specs.Normal.{same_bound}
 use Rattle.isl_piece.proofs.index.place_among.Goals as goal
 
 pub loop-place-preserved : goal.loop-place-preserved
-loop-place-preserved c = All-more (λ (a : Row). same_bound a c.args.row.now ≡ false) c.args.rows.now c.loop-place.place c.index-rows-place.result (omega arith) c.loop-place.invariant (grind arith)
+loop-place-preserved c =
+    let rows = c.args.rows.now in
+    let row = c.args.row.now in
+    let place = c.loop-place.place in
+    All-more (λ (a : Row). same_bound a row ≡ false) rows place c.index-rows-place.result (omega arith) c.loop-place.invariant (grind arith)
 
 pub returns : goal.returns
 returns c =

@@ -1,5 +1,5 @@
 use Rattle.std.proofs.Common.{arith}
-use Rattle.std.proofs.lemmas.Int.{to_z-of_z, ints}
+use Rattle.std.proofs.lemmas.Int.{to_z-of_z}
 use Rattle.isl_piece.specs.Index.{slot_of}
 use Rattle.isl_piece.proofs.index.slot_of.Goals as goal
 

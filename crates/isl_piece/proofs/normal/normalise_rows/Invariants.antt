@@ -5,5 +5,6 @@ use Rattle.isl_piece.proofs.normal.normalise_rows.Given as goal
 
 abbrev pub invariant-loop-at : goal.invariant-loop-at
 invariant-loop-at l =
-    (l.kept ≤ l.at) × (drop l.at l.rows ≡ drop l.at l.initial.rows) × (normal_from (take l.kept l.rows) (drop l.at l.rows) ≡ normal_from [] l.initial.rows)
+    (l.kept ≤ l.at) × (drop l.at l.rows ≡ drop l.at l.initial.rows)
+    × (normal_from (take l.kept l.rows) (drop l.at l.rows) ≡ normal_from [] l.initial.rows)
     × IsIndexOf l.index (take l.kept l.rows)

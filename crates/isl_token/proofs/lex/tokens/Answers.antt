@@ -11,7 +11,8 @@ loop-at-preserved-in_ok-push c =
     let front = c.split_at-in-loop-at.result.0.now in
     let cut = c.cut-piece.result in
     let mark : Mark = record { place = c.loop-at.at; kind = c.in-Some.kind } in
-    let known : IsKindOfPiece cut.0 front (Ok (Some c.in-Some.kind)) = subst (λ (o : Option Kind). IsKindOfPiece cut.0 front (Ok o)) c.in-Some.is c.in_ok-kind.ensures in
+    let known : IsKindOfPiece cut.0 front (Ok (Some c.in-Some.kind)) = subst
+    (λ (o : Option Kind). IsKindOfPiece cut.0 front (Ok o)) c.in-Some.is c.in_ok-kind.ensures in
     let pushed = c.in_ok-push.ensures.items in
     let invariant = c.loop-at.invariant in
     let so_far = invariant.same in
@@ -29,7 +30,8 @@ pub loop-at-preserved : goal.loop-at-preserved
 loop-at-preserved c =
     let front = c.split_at-in-loop-at.result.0.now in
     let cut = c.cut-piece.result in
-    let known : IsKindOfPiece cut.0 front (Ok None) = subst (λ (o : Option Kind). IsKindOfPiece cut.0 front (Ok o)) (not_some c.in_ok-kind.field-0 (search rules)) c.in_ok-kind.ensures in
+    let known : IsKindOfPiece cut.0 front (Ok None) = subst (λ (o : Option Kind). IsKindOfPiece cut.0 front (Ok o))
+    (not_some c.in_ok-kind.field-0 (search rules)) c.in_ok-kind.ensures in
     record {
       same = no_mark c.args.text.now c.loop-at.marks.items c.loop-at.at c.split_at.result.1.now front cut.0 cut.1 c.loop-at.invariant.same c.split_at.ensures.back c.cut-piece.ensures.value c.split_at-in-loop-at.ensures.front c.loop-at-test.true _ known c.cut-piece.ensures.moves refl;
       kinds = c.loop-at.invariant.kinds;

@@ -12,7 +12,8 @@ returns-in-Number-default c = λ after.
 pub returns-in_default-cut : goal.returns-in_default-cut
 returns-in_default-cut c = λ after.
     let is = c.cut.ensures.value ∙ ap cut c.split_at.ensures.back in
-    no_digits_there c.args.text.now c.args.mark.now.place c.args.mark.now.kind c.requires c.cut.result.0 c.cut.result.1 is (search rules) after
+    no_digits_there c.args.text.now c.args.mark.now.place c.args.mark.now.kind c.requires c.cut.result.0 c.cut.result.1 is
+    (search rules) after
 
 pub returns-in_default : goal.returns-in_default
 returns-in_default c = not_number c.args.text.now c.args.mark.now.place c.args.mark.now.kind c.requires c.in_default.not-Number

@@ -8,4 +8,5 @@ use Rattle.isl_token.proofs.marks.Rest.first.Goals as goal
 pub returns : goal.returns
 returns c =
     let there : Mark → Token = λ m. token_at c.self.inside.text.now m.place in
-    ap (map there) c.split_at.ensures.front ∙ sym (take-map there c.args.count c.self.inside.marks.now) ∙ ap (take c.args.count) c.self.view_is
+    ap (map there) c.split_at.ensures.front ∙ sym (take-map there c.args.count c.self.inside.marks.now) ∙ ap
+    (take c.args.count) c.self.view_is
