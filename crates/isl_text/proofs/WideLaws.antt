@@ -43,4 +43,5 @@ module _ (total : Bool) (limit : ℤ) (ts : List Token) (so_far : total ≡ list
       go (t ∷ ts) so_far wide some = so_far ∙ rw wide refl
 
 pub ruleset next = (wide_digits, wide_none)
+
 pub ruleset turns = (wide_found, wide_on)

@@ -16,8 +16,10 @@ fn main(rt: HostRuntime) -> io::Result<()> {
         ("pairs", spaces::pairs_are_right(alloc)),
         ("maps", spaces::maps_are_right(alloc)),
         ("names", spaces::names_are_right(alloc)),
-        ("values", values::copies_are_right(alloc).unwrap_or(false)),
+        ("copies of values", values::copy_is_right(alloc)),
+        ("copies of empty values", values::empty_copy_is_right(alloc)),
         ("division", numbers::division_is_right()),
+        ("inverses", numbers::inverses_are_right()),
         ("the widest limit", numbers::widest_limit_is_right()),
         ("the least limit", numbers::least_limit_is_right()),
         ("the budget", numbers::budget_is_right()),
@@ -28,5 +30,5 @@ fn main(rt: HostRuntime) -> io::Result<()> {
             differ = differ.saturating_add(1);
         }
     }
-    println!(&rt; "10 kinds of calls, {differ} differ")
+    println!(&rt; "12 kinds of calls, {differ} differ")
 }

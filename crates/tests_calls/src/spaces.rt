@@ -85,23 +85,29 @@ fn list_of_two(alloc: Global, first: &str, second: &str) -> Result<Params, Space
     Params::new(alloc, names)
 }
 
-fn place(alloc: Global, params: &Params, name: &str) -> Result<Option<usize>, SpaceFault> {
-    Ok(params.position(&Name::new(alloc, name)?))
+fn has_place(alloc: Global, params: &Params, name: &str, place: Option<usize>) -> bool {
+    match Name::new(alloc, name) {
+        Ok(name) => params.position(&name) == place,
+        Err(_) => false,
+    }
 }
 
-// Whether `[n, m]` and `[k, n]` are `[n, m, k]` together, in which the names of the second list have the places 2 and 0.
-fn lists_join(alloc: Global) -> Result<bool, SpaceFault> {
+// The lists `[n, m]` and `[k, n]` together.
+fn joined(alloc: Global) -> Result<(Params, Vec<usize>), SpaceFault> {
     let one = list_of_two(alloc, "n", "m")?.copy(alloc)?;
     let other = list_of_two(alloc, "k", "n")?;
-    let (joined, places) = one.align(alloc, &other)?;
-    Ok(
-        joined.len() == 3
-            && places.as_slice() == [2, 0].as_slice()
-            && place(alloc, &joined, "k")? == Some(2)
-            && place(alloc, &joined, "i")?.is_none(),
-    )
+    one.align(alloc, &other)
 }
 
+// They are `[n, m, k]`, in which the names of the second list have the places 2 and 0.
 pub(crate) fn names_are_right(alloc: Global) -> bool {
-    lists_join(alloc).unwrap_or(false)
+    match joined(alloc) {
+        Ok((all, places)) => {
+            let places_are = places.as_slice() == [2, 0].as_slice();
+            let there = has_place(alloc, &all, "k", Some(2));
+            let absent = has_place(alloc, &all, "i", None);
+            all.len() == 3 && places_are && there && absent
+        }
+        Err(_) => false,
+    }
 }

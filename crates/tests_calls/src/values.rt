@@ -33,17 +33,37 @@ fn value(alloc: Global) -> Result<Value, SpaceFault> {
     Ok(Value::from_normal(params, pieces))
 }
 
-fn is_copied(alloc: Global, piece: &Piece) -> Result<bool, SpaceFault> {
-    let copy = piece.copy(alloc)?;
-    let text = copy.space.text(alloc)?;
-    Ok(text.as_str() == "[2]" && copy.system.columns == 2 && copy.system.rows.is_empty())
+fn is_copied(alloc: Global, piece: &Piece) -> bool {
+    match piece.copy(alloc) {
+        Ok(copy) => {
+            let same = copy.space.same(&piece.space);
+            same && copy.system.columns == 2 && copy.system.rows.is_empty()
+        }
+        Err(_) => false,
+    }
 }
 
-pub(crate) fn copies_are_right(alloc: Global) -> Result<bool, SpaceFault> {
-    let copy = value(alloc)?.copy(alloc)?;
-    let empty = Value::empty(alloc, params(alloc)?).copy(alloc)?;
-    let [piece] = copy.pieces() else {
-        return Ok(false);
-    };
-    Ok(is_copied(alloc, piece)? && empty.pieces().is_empty() && empty.params().len() == 0)
+// Whether a copy of the value has so many pieces, each of them all of `[i, j]`.
+fn value_is_copied(alloc: Global, value: &Value, pieces: usize) -> bool {
+    match value.copy(alloc) {
+        Ok(copy) => {
+            let found = copy.pieces();
+            found.len() == pieces && found.iter().all(|piece| is_copied(alloc, piece))
+        }
+        Err(_) => false,
+    }
+}
+
+pub(crate) fn copy_is_right(alloc: Global) -> bool {
+    match value(alloc) {
+        Ok(value) => value_is_copied(alloc, &value, 1),
+        Err(_) => false,
+    }
+}
+
+pub(crate) fn empty_copy_is_right(alloc: Global) -> bool {
+    match params(alloc) {
+        Ok(params) => value_is_copied(alloc, &Value::empty(alloc, params), 0),
+        Err(_) => false,
+    }
 }

@@ -16,6 +16,11 @@ const FIRST: i128 = -4;
 
 const SIDE: u32 = 9;
 
+// How many points there are in so many columns.
+fn points(columns: usize) -> u32 {
+    SIDE.saturating_pow(u32::try_from(columns).unwrap_or(0))
+}
+
 fn read(alloc: Global, text: &str) -> Result<Literal, Wrong> {
     let tokens = tokens(alloc, text.as_bytes()).map_err(|_| Wrong::NoMemory)?;
     match read_literal(alloc, &tokens, 0, i128::MAX) {
@@ -119,7 +124,7 @@ fn is_answered(
 ) -> Result<bool, Wrong> {
     let other = printed(alloc, text)?;
     let mut same = true;
-    for at in 0..SIDE.saturating_pow(columns as u32) {
+    for at in 0..points(columns) {
         let point = numbered(alloc, at, columns, FIRST, SIDE)?;
         let has = literal_has(alloc, literal, &point)?;
         same = same
@@ -134,7 +139,7 @@ pub(crate) fn literal_is_right(alloc: Global, case: &str, text: &str) -> Result<
     let literal = read(alloc, text)?;
     let columns = number(case, "columns ", 1).min(4);
     let mut same = true;
-    for at in 0..SIDE.saturating_pow(columns as u32) {
+    for at in 0..points(columns) {
         let point = numbered(alloc, at, columns, FIRST, SIDE)?;
         if let Some(wanted) = listed(case, &point) {
             same = same && literal_has(alloc, &literal, &point)? == wanted;

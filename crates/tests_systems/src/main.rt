@@ -40,10 +40,15 @@ fn system_of(alloc: Global, case: &str, columns: usize, key: &str) -> Result<Sys
     Ok(System { columns, rows })
 }
 
+// How many points there are in so many columns.
+fn points(columns: usize) -> u32 {
+    SIDE.saturating_pow(u32::try_from(columns).unwrap_or(0))
+}
+
 // Whether the row says at each point what it means.
 fn row_tells(alloc: Global, row: &Row, columns: usize, meter: &mut Meter) -> Result<bool, Cut> {
     let mut same = true;
-    for at in 0..SIDE.saturating_pow(columns as u32) {
+    for at in 0..points(columns) {
         let point = numbered(alloc, at, columns, FIRST, SIDE)?;
         let one = slice::from_ref(row);
         same = same
@@ -61,7 +66,7 @@ fn hold_alike(
     columns: usize,
 ) -> Result<bool, AllocError> {
     let mut alike = true;
-    for at in 0..SIDE.saturating_pow(columns as u32) {
+    for at in 0..points(columns) {
         let point = numbered(alloc, at, columns, FIRST, SIDE)?;
         alike = alike && all_hold(one, &point) == all_hold(other, &point);
     }
@@ -152,10 +157,10 @@ fn are_found(
     gone: usize,
 ) -> Result<bool, Cut> {
     let mut same = true;
-    for at in 0..SIDE.saturating_pow(2u32.saturating_sub(gone as u32)) {
+    for at in 0..points(2usize.saturating_sub(gone)) {
         let point = numbered(alloc, at, 2usize.saturating_sub(gone), FIRST, SIDE)?;
         let found = some_hold(left, &point);
-        same = same && found == holds_somewhere(alloc, given.as_slice(), &point, gone as u32)?;
+        same = same && found == holds_somewhere(alloc, given.as_slice(), &point, gone)?;
         if let (Some(number), true) = (point.first(), found) {
             same = same && is_listed(case, *number);
         }
