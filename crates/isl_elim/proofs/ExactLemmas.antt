@@ -14,8 +14,8 @@ use Rattle.isl_piece.specs.Row.{HoldsRow, IsWellFormed, IsRowWithin, value_at, c
 use Rattle.isl_piece.specs.System.{HoldsSystem, IsSystemWithin}
 use Rattle.isl_omega.specs.Column.{IsFree, HoldAt, dropped, IsSystemOf}
 use Rattle.isl_elim.specs.Elimination.{HoldsAtSome}
-use Rattle.isl_elim.specs.Exact.{IsExactRow, IsExactColumn, real_row, real_rows, rows_left, pairs_on, AreAdded}
-use Rattle.isl_omega.specs.Shadow.{IsReal, lower_at, upper_at, IsRealRow}
+use Rattle.isl_elim.specs.Exact.{IsExactRow, IsExactColumn, real_rows, rows_left, pairs_on, AreAdded}
+use Rattle.isl_omega.specs.Shadow.{IsReal, lower_at, upper_at, IsRealRow, real_row}
 use Rattle.isl_omega.specs.Equality.{HasEquality}
 use Rattle.isl_omega.specs.Sides.{IsProper, IsLower, IsUpper, IsFreeRow, AreSidesOf, AreSided, on_side, side_of, is_same}
 use Rattle.isl_elim.specs.Units.{elimination_units}
@@ -28,7 +28,7 @@ use Rattle.isl_omega.proofs.ColumnLemmas.{rows_formed, settled_is}
 use Rattle.isl_elim.proofs.EliminateLemmas.{system_proper}
 use Rattle.isl_omega.proofs.ImageLemmas.{free_of_zero}
 use Rattle.isl_math.proofs.ListLaws.{All-parts, All-unmapped}
-use Rattle.isl_omega.proofs.PairLemmas.{real_row_of, holds_at_least}
+use Rattle.isl_omega.proofs.PairLemmas.{real_row_of, together_is, holds_at_least}
 use Rattle.isl_omega.proofs.Pairs.{real_divided}
 use Rattle.isl_omega.proofs.ShadowLemmas.{real_pair, exact_pair}
 use Rattle.isl_omega.proofs.ShadowRows.{lower_meets, upper_meets}
@@ -50,7 +50,9 @@ real_holds g columns col lower upper point x hl hu l n =
     let row = real_row col lower upper in
     let r = real_is g columns col lower upper hl hu l in
     let holds = holds_at_least row.kind row.k (value_at row (insert point col x)) r.kind in
-    let pair = real_divided (lower_at col point lower) (upper_at col point upper) (pos 1) (value_at row (insert point col x)) r.positive (r.value point x n) in
+    let whole = together_is g columns col lower upper point x hl hu l n in
+    let pair = real_divided (lower_at col point lower) (upper_at col point upper) (pos 1) (value_at row (insert point col x)) r.positive
+    (whole ∙ r.value (insert point col x)) in
     ((λ h. pair.1 (holds.0 h)), (λ h. holds.1 (pair.0 h)))
 
 -- ---- all pairs

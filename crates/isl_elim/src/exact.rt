@@ -6,12 +6,13 @@ ghost use Rattle.isl_piece.specs.System.{IsSystemWithin};
 ghost use Rattle.isl_elim.specs.Adds.{AddsProjection};
 ghost use Rattle.isl_omega.specs.Column.{dropped};
 ghost use Rattle.isl_omega.specs.Equality.{HasEquality};
-ghost use Rattle.isl_elim.specs.Exact.{IsExactRow, IsExactColumn, real_row, real_rows, rows_left, pairs_on, AddsExactly, AreAdded};
+ghost use Rattle.isl_elim.specs.Exact.{IsExactRow, IsExactColumn, real_rows, rows_left, pairs_on, AddsExactly, AreAdded};
+ghost use Rattle.isl_omega.specs.Shadow.{real_row};
 ghost use Rattle.isl_omega.specs.Magnitude.{IsNoOverflow};
 ghost use Rattle.isl_elim.specs.Magnitude.{HasSmallNumbers};
 ghost use Rattle.isl_omega.specs.Sides.{IsProper, IsLower, IsUpper, on_side};
 ghost use Rattle.isl_elim.specs.Units.{elimination_units};
-ghost use Rattle.isl_meter.specs.Gauge.{IsChargedUpTo, IsCutUpTo, IsDone, IsDoneWithin};
+ghost use Rattle.isl_meter.specs.Gauge.{IsCutUpTo, IsDoneWithin};
 
 use crate::tails::push_left;
 use isl_meter::{Cut, Int, Meter};
@@ -151,8 +152,10 @@ fn push_lower(
     requires row { IsProper meter.old columns row.now }
     requires rows { All (IsProper meter.old columns) rows.now }
     requires col_in { col < columns }
-    ensures exact { IsDoneWithin (pos (length (on_side Side.Lower col (row.now ∷ [])) * length (on_side Side.Upper col rows.now))) meter.old meter.new
-        (λ _. AreAdded meter.old col (real_rows col (on_side Side.Lower col (row.now ∷ [])) (on_side Side.Upper col rows.now)) short.old short.new) result }
+    ensures exact { IsDoneWithin (pos (length (on_side Side.Lower col (row.now ∷ [])) * length (on_side Side.Upper col rows.now)))
+        meter.old meter.new
+        (λ _. AreAdded meter.old col (real_rows col (on_side Side.Lower col (row.now ∷ [])) (on_side Side.Upper col rows.now))
+        short.old short.new) result }
     ensures small { meter.old.bits ≡ 127 → IsRowUpTo (2 ^ 30) row.now → All (IsRowUpTo (2 ^ 30)) rows.now → IsNoOverflow result }
 {
     if !Side::Lower.has(row, col, meter) {
@@ -173,7 +176,8 @@ fn push_pairs(
     requires rows { All (IsProper meter.old columns) rows.now }
     requires col_in { col < columns }
     ensures exact { IsDoneWithin (pos (pairs_on col rows.now)) meter.old meter.new
-        (λ _. AreAdded meter.old col (real_rows col (on_side Side.Lower col rows.now) (on_side Side.Upper col rows.now)) short.old short.new) result }
+        (λ _. AreAdded meter.old col (real_rows col (on_side Side.Lower col rows.now) (on_side Side.Upper col rows.now))
+        short.old short.new) result }
     ensures small { meter.old.bits ≡ 127 → All (IsRowUpTo (2 ^ 30)) rows.now → IsNoOverflow result }
 {
     for row in rows {

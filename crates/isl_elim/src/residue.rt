@@ -1,7 +1,7 @@
 // Several rows of one column that divisors must not divide: one residue after another.
 
-ghost use Rattle.std.specs.Prelude.{◌≡◌, ◌-◌, ◌<◌, ◌≤ℤ◌, ◌<ℤ◌, [], pos, All, length, MatchResult, ◌^◌};
-ghost use Rattle.isl_meter.specs.Gauge.{IsWithin, IsCutUpTo, IsChargedUpTo, IsDone, IsDoneWithin};
+ghost use Rattle.std.specs.Prelude.{◌≡◌, ◌-◌, ◌<◌, ◌<ℤ◌, [], pos, All, length, MatchResult, ◌^◌};
+ghost use Rattle.isl_meter.specs.Gauge.{IsWithin, IsCutUpTo, IsDone, IsDoneWithin};
 ghost use Rattle.isl_elim.specs.Adds.{Adds};
 ghost use Rattle.isl_omega.specs.Congruence.{period};
 ghost use Rattle.isl_elim.specs.Residue.{IsCommonMultiple, IsPeriod, HasNumber, HasResidue, IsResidueOf, shadow_units, residue_units, residues_units, sides_units};

@@ -1,7 +1,7 @@
 // Splinters: systems in which a lower bound has one of its least values.
 
 ghost use Rattle.std.specs.Prelude.{◌≡◌, ◌-◌, ◌<◌, ◌++◌, ◌+ℤ◌, pos, All, MatchResult, option_to_list, ◌^◌, ◌≤◌, unsigned_abs};
-ghost use Rattle.isl_meter.specs.Gauge.{IsWithin, IsChargedUpTo, IsCutUpTo, IsDone, IsDoneWithin};
+ghost use Rattle.isl_meter.specs.Gauge.{IsDone, IsDoneWithin};
 ghost use Rattle.isl_elim.specs.Adds.{Adds};
 ghost use Rattle.isl_elim.specs.Branch.{HasValue, HasSplinter, KeepBound, IsTail, IsBranch, HoldsBranch, tail_total};
 ghost use Rattle.isl_omega.specs.Column.{IsSystemOf};
@@ -31,7 +31,8 @@ fn splinter(
     requires rows { All (IsProper meter.old columns) rows.now }
     requires bound { IsLower meter.old columns col bound.now }
     requires col_in { col < columns }
-    ensures exact { IsDone meter.old meter.new (λ left. IsSystemOf meter.old (columns - 1) (HasValue rows.now col bound.now i) left) result }
+    ensures exact { IsDone meter.old meter.new
+        (λ left. IsSystemOf meter.old (columns - 1) (HasValue rows.now col bound.now i) left) result }
     ensures small { meter.old.bits ≡ 127 → All (IsRowUpTo (2 ^ 61)) rows.now → IsRowUpTo (2 ^ 61) bound.now → unsigned_abs i ≤ 2 ^ 62 → IsNoOverflow result }
 {
     let fixed = lowered(alloc, bound, i, meter)?;

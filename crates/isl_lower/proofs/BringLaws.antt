@@ -54,7 +54,9 @@ place_own params before entry behind name e own = go (param_from 0 params name) 
   where
     go : (o : Option ℕ) → param_from 0 params name ≡ o
         → place_of params (before ++ entry ∷ behind) name ≡ Some (length params + length before)
-    go (Some p) f = absurd (let bad : None ≡ Some p = sym e ∙ ap (λ (q : Option ℕ). first_some q (entry_from (length params) before name)) f in let worse : ⊥ = cc in worse)
+    go (Some p) f =
+        absurd (let bad : None ≡ Some p = sym e ∙ ap (λ (q : Option ℕ). first_some q (entry_from (length params) before name))
+        f in let worse : ⊥ = cc in worse)
     go None f =
         let none : entry_from (length params) before name ≡ None = sym
         (ap (λ (q : Option ℕ). first_some q (entry_from (length params) before name)) f) ∙ e in
@@ -142,7 +144,9 @@ placed_are n place params before (entry ∷ entries) plain_before plain =
     let more = placed_are n place params (before ++ entry ∷ []) entries
     (all_of_both before (entry ∷ []) plain_before (ap (λ (b : Bool). b && true) each.0)) each.1 in
     let next : length params + length (before ++ entry ∷ []) ≡ at + 1 = omega (arith, length-append before (entry ∷ [])) in
-    let rest : placed_entries n place (brings params (before ++ entry ∷ entries)) entries (at + 1) ≡ written_entries n place (known_after (known_behind params before) (new_name (known_behind params before) entry)) entries (at + 1) =
+    let known = known_behind params before in
+    let rest : placed_entries n place (brings params (before ++ entry ∷ entries)) entries (at + 1)
+    ≡ written_entries n place (known_after known (new_name known entry)) entries (at + 1) =
     ap (λ (k : ℕ). placed_entries n place (brings params (before ++ entry ∷ entries)) entries k) (sym next)
     ∙ ap (λ (l : List Entry). placed_entries n place (brings params l) entries (length params + length (before ++ entry ∷ [])))
     (sym (append_assoc before (entry ∷ []) entries))

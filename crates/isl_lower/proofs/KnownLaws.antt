@@ -136,13 +136,18 @@ module _ (params : List (List ℕ)) (entries : List Entry) (plain : list_all is_
           (is_some (unless_known (known_behind params entries) (lone_name term)) || term_is_known (known_behind params entries) term)
       go None e =
           ap (λ (b : Bool). is_some (lone_name term) || b) (term_placed term plain_entry)
-          ∙ ap₂ (λ (a b : Bool). a || b) (ap (λ (o : Option (List ℕ)). is_some o) e ∙ sym (ap (λ (o : Option (List ℕ)). is_some (unless_known (known_behind params entries) o)) e)) refl
+          ∙ ap₂ (λ (a b : Bool). a || b) (ap (λ (o : Option (List ℕ)). is_some o) e
+          ∙ sym (ap (λ (o : Option (List ℕ)). is_some (unless_known (known_behind params entries) o)) e)) refl
       go (Some m) e =
           ap (λ (o : Option (List ℕ)). is_some o || term_is_placed params entries term) e
           ∙ sym (elim (cases_Bool (is_among (known_behind params entries) m)) [
-            | inl among ↦ ap₂ (λ (a b : Bool). a || b) (ap (λ (o : Option (List ℕ)). is_some (unless_known (known_behind params entries) o)) e ∙ ap (λ (o : Option (List ℕ)). is_some o) (cond-true _ _ _ among))
+            | inl among ↦ ap₂ (λ (a b : Bool). a || b)
+                (ap (λ (o : Option (List ℕ)). is_some (unless_known (known_behind params entries) o)) e
+                ∙ ap (λ (o : Option (List ℕ)). is_some o) (cond-true _ _ _ among))
                 (ap (list_all (is_among (known_behind params entries))) (lone_names term m e) ∙ ap (λ (b : Bool). b && true) among)
-            | inr unknown ↦ ap (λ (b : Bool). b || term_is_known (known_behind params entries) term) (ap (λ (o : Option (List ℕ)). is_some (unless_known (known_behind params entries) o)) e ∙ ap (λ (o : Option (List ℕ)). is_some o) (cond-false _ _ _ unknown))
+            | inr unknown ↦ ap (λ (b : Bool). b || term_is_known (known_behind params entries) term)
+                (ap (λ (o : Option (List ℕ)). is_some (unless_known (known_behind params entries) o)) e
+                ∙ ap (λ (o : Option (List ℕ)). is_some o) (cond-false _ _ _ unknown))
           ])
 
 -- the entries of a plain tuple, each with those before it

@@ -36,8 +36,10 @@ piece_placed params piece plain =
     let body_plain = (both_true (is_plain_tuple piece.first && second_is_plain piece.second) (body_is_plain piece.body) plain).1 in
     let entries_plain = piece_entries_plain piece plain in
     let split = sym (entries_are_placed-append params [] (leaf_entries piece.first) (second_leaf_entries piece.second)) in
-    ap₂ (λ (a b : Bool). a && b) (split ∙ ap (entries_are_placed params []) (piece_entries_are piece plain) ∙ entries_placed params [] (piece_entries piece) refl entries_plain)
-    (ap (λ (l : List Entry). body_is_placed params l piece.body) (piece_entries_are piece plain) ∙ body_placed params (piece_entries piece) entries_plain piece.body body_plain)
+    ap₂ (λ (a b : Bool). a && b) (split ∙ ap (entries_are_placed params []) (piece_entries_are piece plain) ∙ entries_placed params []
+    (piece_entries piece) refl entries_plain)
+    (ap (λ (l : List Entry). body_is_placed params l piece.body) (piece_entries_are piece plain) ∙ body_placed params (piece_entries piece)
+    entries_plain piece.body body_plain)
 
 pieces_placed : (params : List (List ℕ)) (pieces : List PieceTree) → list_all is_plain_piece pieces ≡ true
     → list_all (piece_is_placed params) pieces ≡ list_all (piece_is_known params) pieces

@@ -19,8 +19,11 @@ placed-append : (n : ℕ) (place : Place) (test : Entry → ℕ → Bool) (xs ys
 placed-append n place test [] ys at = ap (λ (k : ℕ). placed_entries n place test ys k) (let e : at ≡ at + 0 = omega arith in e)
 placed-append n place test (x ∷ xs) ys at =
     let next : at + 1 + length xs ≡ at + length (x ∷ xs) = omega arith in
-    ap (λ (l : List Written). placed_entry n place test x at ++ l) (placed-append n place test xs ys (at + 1) ∙ ap (λ (k : ℕ). placed_entries n place test xs (at + 1) ++ placed_entries n place test ys k) next)
-    ∙ sym (append_assoc (placed_entry n place test x at) (placed_entries n place test xs (at + 1)) (placed_entries n place test ys (at + length (x ∷ xs))))
+    ap (λ (l : List Written). placed_entry n place test x at ++ l)
+    (placed-append n place test xs ys (at + 1) ∙ ap (λ (k : ℕ). placed_entries n place test xs (at + 1) ++ placed_entries n place test ys k)
+    next)
+    ∙ sym (append_assoc (placed_entry n place test x at) (placed_entries n place test xs (at + 1))
+    (placed_entries n place test ys (at + length (x ∷ xs))))
 
 -- the rows of entries and body, with the names in one list
 gathered : (params : List (List ℕ)) (entries : List Entry) → ℕ → (n : ℕ) → PieceTree → List Written
@@ -38,7 +41,9 @@ rows_are params piece first second n first_is second_is wide plain =
     let place = place_among params entries n in
     let is : entries ≡ piece_entries piece = ap₂ (λ (xs ys : List Entry). xs ++ ys) first_is second_is ∙ piece_entries_are piece plain in
     let entries_plain : list_all is_plain_entry entries ≡ true = ap (list_all is_plain_entry) is ∙ piece_entries_plain piece plain in
-    let width : n ≡ piece_width params piece = wide ∙ (let e = length-append first second in let f : length params + length first + length second ≡ length params + length (first ++ second) = omega arith in f) ∙ ap (λ (l : List Entry). length params + length l) is in
+    let width : n ≡ piece_width params piece = wide
+    ∙ (let e = length-append first second in let f : length params + length first + length second ≡ length params + length
+    (first ++ second) = omega arith in f) ∙ ap (λ (l : List Entry). length params + length l) is in
     let start : length params + 0 ≡ length params = omega arith in
     let joined = sym (placed-append n place (brings params entries) first second (length params))
     ∙ ap (λ (k : ℕ). placed_entries n place (brings params entries) entries k) (sym start)

@@ -107,8 +107,10 @@ sum_passes_at g row takes n place term i d inside passes =
     ∙ ap (λ (l : List Amount). l ++ map (turned takes) (amounts_of n place (drop (i + 1) term)))
     (map-push takes n place (take i term) (get_or term i d)) in
     subst (λ (l : List Amount). SumPasses g row l) (sym whole)
-    (sum_passes_left g row (map (turned takes) (amounts_of n place (take i term)) ++ turned takes (amount_of n place (get_or term i d)) ∷ []) (map (turned takes) (amounts_of n place (drop (i + 1) term)))
-    (sum_passes_right g row (map (turned takes) (amounts_of n place (take i term))) (turned takes (amount_of n place (get_or term i d)) ∷ []) passes))
+    (sum_passes_left g row (map (turned takes) (amounts_of n place (take i term)) ++ turned takes
+    (amount_of n place (get_or term i d)) ∷ []) (map (turned takes) (amounts_of n place (drop (i + 1) term)))
+    (sum_passes_right g row (map (turned takes) (amounts_of n place (take i term)))
+    (turned takes (amount_of n place (get_or term i d)) ∷ []) passes))
 
 pub length-with_amount : (row : List ℤ) (a : Amount) → length (with_amount row a) ≡ length row
 length-with_amount row a = length-set row a.0 _
@@ -121,10 +123,12 @@ pub term_failed : (g h k : Gauge) (row r : List ℤ) (takes : Bool) (n : ℕ) (p
     → (PartsPass g term ⊎ SumPasses g row (map (turned takes) (amounts_of n place term))) × (k ≡ overflown g)
 term_failed g h k row r takes n place term i part is inside added same failed = (
   elim failed.0 [
-    | inl product ↦ inl (parts_pass_at g term i part inside (subst (λ (p : Signed). ProductPasses g (numbers_of p)) is (subst (λ (l : Gauge). ProductPasses l (numbers_of part)) same product)))
+    | inl product ↦ inl (parts_pass_at g term i part inside
+        (subst (λ (p : Signed). ProductPasses g (numbers_of p)) is (subst (λ (l : Gauge). ProductPasses l (numbers_of part)) same product)))
     | inr sum ↦ inr (sum_passes_at g row takes n place term i part inside
         (subst (λ (l : List ℤ). SumPasses g l (turned takes (amount_of n place (get_or term i part)) ∷ [])) added
-        (subst (λ (p : Signed). SumPasses g r (turned takes (amount_of n place p) ∷ [])) is (subst (λ (l : Gauge). SumPasses l r (turned takes (amount_of n place part) ∷ [])) same sum))))
+        (subst (λ (p : Signed). SumPasses g r (turned takes (amount_of n place p) ∷ [])) is
+        (subst (λ (l : Gauge). SumPasses l r (turned takes (amount_of n place part) ∷ [])) same sum))))
   ],
   failed.1 ∙ ap overflown same,
 )
@@ -142,14 +146,18 @@ module _ (g : Gauge) (n : ℕ) (place : Place) (row : List ℤ) (greater less : 
   pub difference_first : PartsPass g greater ⊎ SumPasses g row (map (turned false) (amounts_of n place greater))
       → DifferencePasses g n place row greater less last
   difference_first (inl parts) = inl parts
-  difference_first (inr sum) = inr (inr (sum_passes_left g row _ (one_less last) (sum_passes_left g row (map (turned false) (amounts_of n place greater)) (map (turned true) (amounts_of n place less)) sum)))
+  difference_first (inr sum) =
+      inr (inr (sum_passes_left g row _ (one_less last)
+      (sum_passes_left g row (map (turned false) (amounts_of n place greater)) (map (turned true) (amounts_of n place less)) sum)))
 
   pub difference_second : (h : Gauge) (r : List ℤ) → h ≡ g → r ≡ with_amounts row (map (turned false) (amounts_of n place greater))
       → PartsPass h less ⊎ SumPasses h r (map (turned true) (amounts_of n place less)) → DifferencePasses g n place row greater less last
   difference_second h r same is (inl parts) = inr (inl (subst (λ (l : Gauge). PartsPass l less) same parts))
   difference_second h r same is (inr sum) =
-      inr (inr (sum_passes_left g row _ (one_less last) (sum_passes_right g row (map (turned false) (amounts_of n place greater)) (map (turned true) (amounts_of n place less))
-      (subst (λ (l : List ℤ). SumPasses g l (map (turned true) (amounts_of n place less))) is (subst (λ (l : Gauge). SumPasses l r (map (turned true) (amounts_of n place less))) same sum)))))
+      inr (inr (sum_passes_left g row _ (one_less last)
+      (sum_passes_right g row (map (turned false) (amounts_of n place greater)) (map (turned true) (amounts_of n place less))
+      (subst (λ (l : List ℤ). SumPasses g l (map (turned true) (amounts_of n place less))) is
+      (subst (λ (l : Gauge). SumPasses l r (map (turned true) (amounts_of n place less))) same sum)))))
 
   both_added : (r q : List ℤ) → r ≡ with_amounts row (map (turned false) (amounts_of n place greater))
       → q ≡ with_amounts r (map (turned true) (amounts_of n place less))
@@ -162,14 +170,17 @@ module _ (g : Gauge) (n : ℕ) (place : Place) (row : List ℤ) (greater less : 
       → q ≡ with_amounts r (map (turned true) (amounts_of n place less))
       → SumPasses h q (one_less last) → DifferencePasses g n place row greater less last
   difference_last h r q same is then_is sum =
-      inr (inr (sum_passes_right g row (map (turned false) (amounts_of n place greater) ++ map (turned true) (amounts_of n place less)) (one_less last)
-      (subst (λ (l : List ℤ). SumPasses g l (one_less last)) (both_added r q is then_is) (subst (λ (l : Gauge). SumPasses l q (one_less last)) same sum))))
+      inr (inr (sum_passes_right g row (map (turned false) (amounts_of n place greater) ++ map (turned true) (amounts_of n place less))
+      (one_less last)
+      (subst (λ (l : List ℤ). SumPasses g l (one_less last)) (both_added r q is then_is)
+      (subst (λ (l : Gauge). SumPasses l q (one_less last)) same sum))))
 
   pub difference_added : (r q s : List ℤ) → r ≡ with_amounts row (map (turned false) (amounts_of n place greater))
       → q ≡ with_amounts r (map (turned true) (amounts_of n place less))
       → s ≡ with_amounts q (one_less last) → s ≡ with_amounts row (difference n place greater less last)
   difference_added r q s is then_is last_is = last_is ∙ ap (λ (l : List ℤ). with_amounts l (one_less last)) (both_added r q is then_is)
-      ∙ sym (with_amounts-append row (map (turned false) (amounts_of n place greater) ++ map (turned true) (amounts_of n place less)) (one_less last))
+      ∙ sym (with_amounts-append row (map (turned false) (amounts_of n place greater) ++ map (turned true) (amounts_of n place less))
+      (one_less last))
 
 -- ---- a finished row
 pub remove_last : (xs : List ℤ) (n : ℕ) → length xs ≡ n + 1 → remove xs n ≡ take n xs

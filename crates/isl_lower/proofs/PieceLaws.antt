@@ -60,8 +60,11 @@ stands_behind before [] after = tt
 stands_behind before (y ∷ ys) after =
     let e : before ++ ((y ∷ ys) ++ after) ≡ (before ++ y ∷ []) ++ (ys ++ after) = sym (append_assoc before (y ∷ []) (ys ++ after)) in
     let more = stands_behind (before ++ y ∷ []) ys after in
-    let long : length (before ++ y ∷ []) ≡ length before + 1 = length-append before (y ∷ []) in
-    (here before y (ys ++ after), subst (λ (l : List ℤ). StandsAt l (length before + 1) ys) (sym e) (subst (λ (k : ℕ). StandsAt ((before ++ y ∷ []) ++ (ys ++ after)) k ys) long more))
+    let long : length (before ++ y ∷ []) ≡ length before + 1 = length-append before (y ∷ []) in (
+      here before y (ys ++ after),
+      subst (λ (l : List ℤ). StandsAt l (length before + 1) ys) (sym e)
+          (subst (λ (k : ℕ). StandsAt ((before ++ y ∷ []) ++ (ys ++ after)) k ys) long more),
+    )
   where
     here : (before : List ℤ) (y : ℤ) (after : List ℤ) → get_or (before ++ (y ∷ after)) (length before) (pos 0) ≡ y
     here [] y after = refl
@@ -78,17 +81,22 @@ all_added n xs [] same = (λ h. h, λ h. h)
 all_added n xs (w ∷ ws) same =
     let more = all_added n xs ws same in
     let value : value_at (added n w) xs ≡ total (xs ++ pos 1 ∷ []) w.1 = ap
-    (λ (k : ℕ). dot (take k (row_of k w.1)) xs +ℤ get_or (row_of k w.1) k (pos 0)) same ∙ row_at xs w.1 in
-    (λ h. (subst (λ (z : ℤ). HoldsValue w.0 (pos 1) z) (sym value) h.0, more.0 h.1), λ h. (subst (λ (z : ℤ). HoldsValue w.0 (pos 1) z) value h.0, more.1 h.1))
+    (λ (k : ℕ). dot (take k (row_of k w.1)) xs +ℤ get_or (row_of k w.1) k (pos 0)) same ∙ row_at xs w.1 in (
+      λ h. (subst (λ (z : ℤ). HoldsValue w.0 (pos 1) z) (sym value) h.0, more.0 h.1),
+      λ h.
+          (subst (λ (z : ℤ). HoldsValue w.0 (pos 1) z) value h.0, more.1 h.1),
+    )
 
 last_is : (xs : List ℤ) → get_or (xs ++ pos 1 ∷ []) (length xs) (pos 0) ≡ pos 1
 last_is [] = refl
 last_is (x ∷ xs) = last_is xs
 
--- A plain piece of known names holds at a valuation and coordinates exactly where all its rows hold at the parameters' numbers and the coordinates.
+-- A plain piece of known names holds at a valuation and coordinates exactly where all its rows hold at the parameters' numbers and
+-- the coordinates.
 pub piece_holds : (params : List (List ℕ)) (piece : PieceTree) (env : Environment) (ys : List ℤ) → is_plain_piece piece ≡ true
     → piece_is_known params piece ≡ true → length (piece_entries piece) ≡ length ys
-    → (EntriesEqual (piece_entries piece) ys (piece_environment params piece ys env) × BodyHolds piece.body (piece_environment params piece ys env))
+    → (EntriesEqual (piece_entries piece) ys (piece_environment params piece ys env) × BodyHolds piece.body
+    (piece_environment params piece ys env))
     ↔ AllRows (rows_written params piece) (params_at params env ++ ys)
 piece_holds params piece env ys plain are_known same =
     let entries = piece_entries piece in
@@ -117,8 +125,11 @@ piece_holds params piece env ys plain are_known same =
     (λ name among. among) refl second same in
     let in_body = body_holds n xs place inner known agrees one piece.body plains.1 knowns.1 in
     let split = all_written_append xs (written_entries n place params entries (length params)) (written_body n place piece.body) in
-    let rows = all_added n point (written_piece params piece) long in
-    (λ h. rows.0 (split.1 (in_entries.0 h.0, in_body.0 h.1)), λ h. let parts = split.0 (rows.1 h) in (in_entries.1 parts.0, in_body.1 parts.1))
+    let rows = all_added n point (written_piece params piece) long in (
+      λ h. rows.0 (split.1 (in_entries.0 h.0, in_body.0 h.1)),
+      λ h. let parts = split.0
+          (rows.1 h) in (in_entries.1 parts.0, in_body.1 parts.1),
+    )
 
 -- the same of rows by their places
 pub all_rows_are : (rows : List Row) (xs : List ℤ) → AllRows rows xs ↔ HoldRows rows xs
@@ -140,8 +151,11 @@ unfolding value_in
 points_are params piece rows plain are_known is valuation xs same =
     let holds = piece_holds params piece valuation xs plain are_known same in
     let rows_hold = all_rows_are (rows_written params piece) (params_at params valuation ++ xs) in
-    let same_rows = ap (λ (l : List Row). HoldRows l (params_at params valuation ++ xs)) is in
-    (λ h. subst (λ (l : List Row). HoldRows l (params_at params valuation ++ xs)) (sym is) (rows_hold.0 (holds.0 h)), λ h. holds.1 (rows_hold.1 (subst (λ (l : List Row). HoldRows l (params_at params valuation ++ xs)) is h)))
+    let same_rows = ap (λ (l : List Row). HoldRows l (params_at params valuation ++ xs)) is in (
+      λ h. subst (λ (l : List Row). HoldRows l (params_at params valuation ++ xs)) (sym is) (rows_hold.0 (holds.0 h)),
+      λ h. holds.1
+          (rows_hold.1 (subst (λ (l : List Row). HoldRows l (params_at params valuation ++ xs)) is h)),
+    )
 
 pub points_result : {E : Type 0} (r : Result (List Row) E) (P : List Row → Type 0) (Q : E → Type 0) (params : List (List ℕ))
     (piece : PieceTree) → is_plain_piece piece ≡ true → piece_is_known params piece ≡ true

@@ -113,33 +113,44 @@ entry_column n (entry ∷ entries) known first columns name plain unknown =
     let each = both_true (is_plain_entry entry) (list_all is_plain_entry entries) plain in
     elim (cases_Bool (is_name (entry_name entry) name)) [
       | inl is ↦ here is each.0 each.1 (entry_brings known entry name each.0 unknown is)
-      | inr is ↦ further is each.0 each.1 (new_name known entry) refl (λ kept. entry_column n entries (known_after known (new_name known entry)) (first + 1) (with_column (new_name known entry) first columns) name each.1 kept)
+      | inr is ↦ further is each.0 each.1 (new_name known entry) refl
+          (λ kept. entry_column n entries (known_after known (new_name known entry)) (first + 1)
+          (with_column (new_name known entry) first columns) name each.1 kept)
     ]
   where
     here : is_name (entry_name entry) name ≡ true → is_plain_entry entry ≡ true → list_all is_plain_entry entries ≡ true
         → new_name known entry ≡ Some name
-        → (column_of n (with_columns known (entry ∷ entries) first columns) name ≡ or_else (entry_from first (entry ∷ entries) name) (column_of n columns name)) × (is_among (known_behind known (entry ∷ entries)) name ≡ is_some (entry_from first (entry ∷ entries) name))
+        → (column_of n (with_columns known (entry ∷ entries) first columns) name ≡ or_else (entry_from first (entry ∷ entries) name)
+        (column_of n columns name)) × (is_among (known_behind known (entry ∷ entries)) name ≡ is_some
+        (entry_from first (entry ∷ entries) name))
     here is plain plains e =
         let itself : bytes_eq name name ≡ true = (bytes_eq-Decides name name).1 refl in
         let found : entry_from first (entry ∷ entries) name ≡ Some first = cond-true _ _ _ is in (
-          ap (λ (o : Option (List ℕ)). column_of n (with_columns (known_after known o) entries (first + 1) (with_column o first columns)) name) e
+          ap (λ (o : Option (List ℕ)). column_of n (with_columns (known_after known o) entries (first + 1) (with_column o first columns))
+              name) e
               ∙ kept_column n entries (name ∷ known) (first + 1) ((name, first) ∷ columns) name plains (among_first name known name itself)
               ∙ column_here n name first columns name itself ∙ ap (λ (o : Option ℕ). or_else o (column_of n columns name)) (sym found),
           ap (λ (o : Option (List ℕ)). is_among (known_behind (known_after known o) entries) name) e
-              ∙ among_after_all entries (name ∷ known) name (among_first name known name itself) ∙ ap (λ (o : Option ℕ). is_some o) (sym found),
+              ∙ among_after_all entries (name ∷ known) name (among_first name known name itself)
+              ∙ ap (λ (o : Option ℕ). is_some o) (sym found),
         )
 
     further : is_name (entry_name entry) name ≡ false → is_plain_entry entry ≡ true → list_all is_plain_entry entries ≡ true
         → (o : Option (List ℕ)) → new_name known entry ≡ o
         → (is_among (known_after known (new_name known entry)) name ≡ false
-        → (column_of n (with_columns (known_after known (new_name known entry)) entries (first + 1) (with_column (new_name known entry) first columns)) name ≡ or_else (entry_from (first + 1) entries name) (column_of n (with_column (new_name known entry) first columns) name))
+        → (column_of n (with_columns (known_after known (new_name known entry)) entries (first + 1)
+        (with_column (new_name known entry) first columns)) name ≡ or_else (entry_from (first + 1) entries name)
+        (column_of n (with_column (new_name known entry) first columns) name))
         × (is_among (known_behind (known_after known (new_name known entry)) entries) name ≡ is_some (entry_from (first + 1) entries name)))
-        → (column_of n (with_columns known (entry ∷ entries) first columns) name ≡ or_else (entry_from first (entry ∷ entries) name) (column_of n columns name)) × (is_among (known_behind known (entry ∷ entries)) name ≡ is_some (entry_from first (entry ∷ entries) name))
+        → (column_of n (with_columns known (entry ∷ entries) first columns) name ≡ or_else (entry_from first (entry ∷ entries) name)
+        (column_of n columns name)) × (is_among (known_behind known (entry ∷ entries)) name ≡ is_some
+        (entry_from first (entry ∷ entries) name))
     further is plain plains o e more =
         let found : entry_from first (entry ∷ entries) name ≡ entry_from (first + 1) entries name = cond-false _ _ _ is in
         let rest = more (ap (λ (q : Option (List ℕ)). is_among (known_after known q) name) e ∙ still o e) in (
           rest.0
-              ∙ ap (λ (q : Option (List ℕ)). or_else (entry_from (first + 1) entries name) (column_of n (with_column q first columns) name)) e
+              ∙ ap (λ (q : Option (List ℕ)). or_else (entry_from (first + 1) entries name) (column_of n (with_column q first columns) name))
+              e
               ∙ ap (or_else (entry_from (first + 1) entries name)) (same o e)
               ∙ ap (λ (q : Option ℕ). or_else q (column_of n columns name)) (sym found),
           rest.1 ∙ ap (λ (q : Option ℕ). is_some q) (sym found),
@@ -160,7 +171,10 @@ pub place_is : (n : ℕ) (params : List (List ℕ)) (entries : List Entry) (name
 place_is n params entries name plain = go (param_from 0 params name) refl
   where
     go : (o : Option ℕ) → param_from 0 params name ≡ o
-        → (column_of n (with_columns params entries (length params) (columns_from 0 params)) name ≡ or_else (first_some (param_from 0 params name) (entry_from (length params) entries name)) n) × (is_among (known_behind params entries) name ≡ is_some (first_some (param_from 0 params name) (entry_from (length params) entries name)))
+        → (column_of n (with_columns params entries (length params) (columns_from 0 params)) name ≡ or_else
+        (first_some (param_from 0 params name) (entry_from (length params) entries name)) n)
+        × (is_among (known_behind params entries) name ≡ is_some
+        (first_some (param_from 0 params name) (entry_from (length params) entries name)))
     go (Some at) e =
         let among : is_among params name ≡ true = param_among params 0 name ∙ ap (λ (o : Option ℕ). is_some o) e in (
           kept_column n entries params (length params) (columns_from 0 params) name plain among ∙ param_column n params 0 name

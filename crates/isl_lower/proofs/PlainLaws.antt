@@ -97,7 +97,10 @@ pub entries_are_placed-append : (params : List (List ℕ)) (before xs ys : List 
     → entries_are_placed params before (xs ++ ys) ≡ (entries_are_placed params before xs && entries_are_placed params (before ++ xs) ys)
 entries_are_placed-append params before [] ys = ap (λ (l : List Entry). entries_are_placed params l ys) (sym (append-nil before))
 entries_are_placed-append params before (x ∷ xs) ys =
-    ap (λ (b : Bool). entry_is_placed params before x && b) (entries_are_placed-append params (before ++ x ∷ []) xs ys ∙ ap (λ (l : List Entry). entries_are_placed params (before ++ x ∷ []) xs && entries_are_placed params l ys) (append_assoc before (x ∷ []) xs))
+    ap (λ (b : Bool). entry_is_placed params before x && b)
+    (entries_are_placed-append params (before ++ x ∷ []) xs ys
+    ∙ ap (λ (l : List Entry). entries_are_placed params (before ++ x ∷ []) xs && entries_are_placed params l ys)
+    (append_assoc before (x ∷ []) xs))
     ∙ grouped (entry_is_placed params before x) (entries_are_placed params (before ++ x ∷ []) xs)
     (entries_are_placed params (before ++ x ∷ xs) ys)
   where

@@ -124,7 +124,8 @@ module _ (params : List (List ℕ)) (piece : PieceTree) (valuation : Valuation) 
   Keeps : Option (List Row) → Type 0
   Keeps kept =
       MatchOption kept (¬ PieceHas params valuation element piece)
-      (λ rows. HasElement params valuation element (record { space = space_of_piece piece; rows = rows }) ↔ PieceHas params valuation element piece)
+      (λ rows. HasElement params valuation element (record { space = space_of_piece piece; rows = rows }) ↔ PieceHas params valuation
+      element piece)
 
   keeps : Keeps (normal_rows (rows_written params piece))
   unfolding Keeps
@@ -159,7 +160,9 @@ pieces_have params (piece ∷ pieces) valuation element plain known =
         → Keeps params piece valuation element one known_one kept
         → Any (HasElement params valuation element) (filter_map (piece_lowered params) pieces) ↔ Any (PieceHas params valuation element)
         pieces
-        → Any (HasElement params valuation element) (cons_option (option_map (λ rows. record { space = space_of_piece piece; rows = rows }) kept) (filter_map (piece_lowered params) pieces))
+        → Any (HasElement params valuation element)
+        (cons_option (option_map (λ rows. record { space = space_of_piece piece; rows = rows }) kept)
+        (filter_map (piece_lowered params) pieces))
         ↔ Any (PieceHas params valuation element) (piece ∷ pieces)
     by one known_one None never more = (
       (λ a. Any-later (PieceHas params valuation element) piece pieces (more.0 a)),
@@ -213,7 +216,12 @@ piece_made params piece rows columns kept space plain is wide made same =
 
 pub piece_of_value : (g : Gauge) (params : List (List ℕ)) (piece : PieceTree) (rows : List Row) (columns : ℕ) (kept : System)
     (space : Space) → is_plain_piece piece ≡ true → columns ≡ piece_width params piece
-    → Some kept ≡ normal_system (record { columns = columns; rows = rows }) → IsNormal kept.rows → IsSystemWithin g kept → space_form_of space ≡ space_of_piece piece → IsWellFormedSpace (space_of_piece piece)
+    → Some kept ≡ normal_system (record {
+      columns =
+          columns;
+      rows = rows;
+    }) → IsNormal kept.rows → IsSystemWithin g kept → space_form_of space ≡ space_of_piece piece
+    → IsWellFormedSpace (space_of_piece piece)
     → IsPieceOf params (record { space = space; system = kept })
 piece_of_value g params piece rows columns kept space plain wide made normal within same formed =
     let width : kept.columns ≡ columns_of params (space_form_of space) = by (normal_rows rows) made ∙ wide ∙ sym
@@ -247,8 +255,11 @@ pub lowered_step : (P : Piece → Type 0) (params : List (List ℕ)) (pieces : L
     → (map kept_piece made ≡ filter_map (piece_lowered params) (take i pieces)) × All P made →
     (map kept_piece pushed ≡ filter_map (piece_lowered params) (take (i + 1) pieces)) × All P pushed
 lowered_step P params pieces i piece made pushed None low at is sound more so_far =
-    let same : pushed ≡ made = more ∙ append-nil made in
-    (ap (map kept_piece) same ∙ so_far.0 ∙ sym (append-nil (filter_map (piece_lowered params) (take i pieces))) ∙ sym (lowered_more params pieces i piece None low at is), subst (All P) (sym same) so_far.1)
+    let same : pushed ≡ made = more ∙ append-nil made in (
+      ap (map kept_piece) same ∙ so_far.0 ∙ sym (append-nil (filter_map (piece_lowered params) (take i pieces)))
+          ∙ sym (lowered_more params pieces i piece None low at is),
+      subst (All P) (sym same) so_far.1,
+    )
 lowered_step P params pieces i piece made pushed (Some kept) low at is sound more so_far = (
   ap (map kept_piece) more ∙ map-append kept_piece made (kept ∷ []) ∙ ap (λ (l : List KeptPiece). l ++ kept_piece kept ∷ []) so_far.0
       ∙ sym (lowered_more params pieces i piece (Some (kept_piece kept)) low at is),

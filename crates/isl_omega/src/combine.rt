@@ -1,6 +1,6 @@
 // Sums of multiples of rows.
 
-ghost use Rattle.std.specs.Prelude.{◌≡◌, ◌<ℤ◌, ◌*ℤ◌, ◌+ℤ◌, pos, length, All, MatchResult, ℕ, ◌*◌, ◌+◌, ◌^◌, ◌<◌, ◌≤◌, unsigned_abs, IfErr};
+ghost use Rattle.std.specs.Prelude.{◌≡◌, ◌*ℤ◌, ◌+ℤ◌, pos, length, All, MatchResult, ℕ, ◌*◌, ◌+◌, ◌^◌, ◌<◌, ◌≤◌, unsigned_abs, IfErr};
 ghost use Rattle.std.specs.List.{remove};
 ghost use Rattle.isl_math.specs.Dot.{weighted_sum};
 ghost use Rattle.isl_meter.specs.Gauge.{IsWithin, IsMeasured, IsCutUpTo};

@@ -1,6 +1,6 @@
 // Congruences on one column: several are made one, and that one is a substitution.
 
-ghost use Rattle.std.specs.Prelude.{◌≡◌, ◌<◌, ◌*ℤ◌, ◌≤ℤ◌, ◌<ℤ◌, ℤ, pos, All, IfOk, MatchResult, length, ◌≢◌, []};
+ghost use Rattle.std.specs.Prelude.{◌≡◌, ◌<◌, ◌*ℤ◌, ◌<ℤ◌, ℤ, pos, All, IfOk, MatchResult, length, ◌≢◌, []};
 ghost use Rattle.isl_meter.specs.Gauge.{IsWithin, IsCutUpTo};
 ghost use Rattle.isl_piece.specs.Numbers.{reduced};
 ghost use Rattle.isl_piece.specs.Row.{IsWellFormed, IsRowWithin, coef_at};

@@ -1,6 +1,6 @@
 // What a lower and an upper bound leave without the column.
 
-ghost use Rattle.std.specs.Prelude.{◌≡◌, ◌<◌, ◌↔◌, pos, ◌-ℤ◌, ◌*ℤ◌, neg_ℤ, ◌<ℤ◌, ℤ, List, IsTrue, length, IfOk, MatchResult, ◌≢◌, ◌^◌, ◌≤◌, ◌+◌, ℕ, unsigned_abs, IfErr};
+ghost use Rattle.std.specs.Prelude.{◌≡◌, ◌<◌, pos, ◌-ℤ◌, ◌*ℤ◌, neg_ℤ, ◌<ℤ◌, ℤ, List, IsTrue, IfOk, MatchResult, ◌≢◌, ◌^◌, ◌≤◌, ◌+◌, ℕ, unsigned_abs, IfErr};
 ghost use Rattle.isl_math.specs.Divide.{IsGcdOf};
 ghost use Rattle.isl_meter.specs.Gauge.{IsWithin, IsCutUpTo};
 ghost use Rattle.isl_piece.specs.declared.constraint.RowKind.TheVariants.{AtLeast};

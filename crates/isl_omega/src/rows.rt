@@ -1,6 +1,6 @@
 // Rows without a column.
 
-ghost use Rattle.std.specs.Prelude.{◌≡◌, ◌-◌, ◌<◌, pos, length, All, IfOk, OnErr, MatchResult, map};
+ghost use Rattle.std.specs.Prelude.{◌≡◌, ◌-◌, ◌<◌, pos, All, IfOk, OnErr, MatchResult, map};
 ghost use Rattle.std.specs.List.{remove};
 ghost use Rattle.isl_piece.specs.Row.{IsRowWithin, IsWellFormed};
 ghost use Rattle.isl_meter.specs.Gauge.{IsCutUpTo};

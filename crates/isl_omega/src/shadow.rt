@@ -1,8 +1,8 @@
 // The dark shadow of bounds on a column, and what it leaves out.
 
-ghost use Rattle.std.specs.Prelude.{◌≡◌, ◌≢◌, ◌⊎◌, ◌<◌, ◌++◌, pos, negsuc, ◌<ℤ◌, ◌≤ℤ◌, ◌+ℤ◌, ℤ, ◌*◌, IsTrue, length, All, MatchResult, ◌^◌, ◌≤◌, unsigned_abs, IfErr};
+ghost use Rattle.std.specs.Prelude.{◌≡◌, ◌≢◌, ◌⊎◌, ◌<◌, pos, negsuc, ◌≤ℤ◌, ◌+ℤ◌, ℤ, ◌*◌, IsTrue, length, All, MatchResult, ◌^◌, ◌≤◌, unsigned_abs, IfErr};
 ghost use Rattle.isl_meter.specs.Gauge.{IsWithin, IsChargedUpTo, IsCutUpTo};
-ghost use Rattle.isl_piece.specs.Row.{coef_at, IsRowUpTo};
+ghost use Rattle.isl_piece.specs.Row.{IsRowUpTo};
 ghost use Rattle.isl_omega.specs.Shadow.{last_splinter, extra, IsShadowOf, HasTail, IsShadow};
 ghost use Rattle.isl_omega.specs.Sides.{IsLower, IsUpper};
 ghost use Rattle.isl_omega.specs.Magnitude.{IsNoOverflow};

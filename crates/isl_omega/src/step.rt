@@ -1,6 +1,6 @@
 // The congruence step: the congruences on a column as a substitution for it.
 
-ghost use Rattle.std.specs.Prelude.{◌≡◌, ◌<◌, ◌++◌, ◌∷◌, [], pos, ◌<ℤ◌, All, length, map, IfOk, IfErr, MatchResult, ◌≢◌, ◌^◌, ◌≤◌, unsigned_abs};
+ghost use Rattle.std.specs.Prelude.{◌≡◌, ◌<◌, ◌++◌, ◌∷◌, [], pos, ◌<ℤ◌, All, length, IfOk, IfErr, MatchResult, ◌≢◌, ◌^◌, ◌≤◌, unsigned_abs};
 ghost use Rattle.isl_meter.specs.Gauge.{IsWithin, IsCutUpTo};
 ghost use Rattle.isl_piece.specs.declared.constraint.Row.{Row};
 ghost use Rattle.isl_piece.specs.Row.{IsWellFormed, IsRowWithin, IsRowUpTo};

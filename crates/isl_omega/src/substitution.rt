@@ -2,7 +2,7 @@
 
 ghost use Rattle.std.specs.Prelude.{◌≡◌, ◌<◌, ◌<ℤ◌, pos, All, length, MatchResult, ◌≢◌, ◌^◌, ◌≤◌, unsigned_abs};
 ghost use Rattle.isl_meter.specs.Gauge.{IsWithin, IsCutUpTo};
-ghost use Rattle.isl_piece.specs.Row.{IsRowWithin, IsWellFormed, coef_at, IsRowUpTo};
+ghost use Rattle.isl_piece.specs.Row.{IsRowWithin, IsWellFormed, IsRowUpTo};
 ghost use Rattle.isl_piece.specs.declared.constraint.RowKind.TheVariants.{Divides};
 ghost use Rattle.isl_omega.specs.Substitution.{AreProgressionParts, offsets_of, IsProgressionOf, substituted};
 ghost use Rattle.isl_omega.specs.Magnitude.{IsNoOverflow};

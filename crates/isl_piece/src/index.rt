@@ -16,6 +16,7 @@ const FEW: usize = 64;
 const MULTIPLIER: i128 = 0x2360_ED05_1FC6_5DA4_4385_DF64_9FCC_F645;
 
 // Whether two rows are equal, or both `AtLeast` and different in the constant alone.
+#[inline]
 fn is_same_bound(a: &Row, b: &Row) -> bool
     ensures { result ≡ same_bound a.now b.now }
 {

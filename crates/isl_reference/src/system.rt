@@ -47,11 +47,11 @@ pub fn holds_somewhere(
     alloc: Global,
     rows: &[Row],
     begin: &[i128],
-    others: u32,
+    others: usize,
 ) -> Result<bool, AllocError> {
-    for number in 0..41u32.saturating_pow(others) {
+    for number in 0..41u32.saturating_pow(u32::try_from(others).unwrap_or(0)) {
         let mut point = begin.to_vec(alloc)?;
-        point.extend_from_slice(&numbered(alloc, number, others as usize, -20, 41)?)?;
+        point.extend_from_slice(&numbered(alloc, number, others, -20, 41)?)?;
         if all_hold(rows, &point) {
             return Ok(true);
         }

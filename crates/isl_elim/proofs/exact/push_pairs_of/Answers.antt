@@ -1,6 +1,7 @@
 use Rattle.std.proofs.Common.{◌+◌, ◌∷◌, [], length, map, take, arith, pos}
 use Rattle.std.proofs.lemmas.List.{length-append, map-append}
-use Rattle.isl_elim.specs.Exact.{AreAdded, real_row}
+use Rattle.isl_elim.specs.Exact.{AreAdded}
+use Rattle.isl_omega.specs.Shadow.{real_row}
 use Rattle.isl_math.proofs.Ring.{linear}
 use Rattle.isl_omega.specs.Sides.{on_side}
 use Rattle.isl_meter.specs.Gauge.{IsChargedUpTo, IsCutUpTo}

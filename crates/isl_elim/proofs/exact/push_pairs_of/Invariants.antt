@@ -1,5 +1,6 @@
 use Rattle.std.proofs.Common.{length, map, take, pos}
-use Rattle.isl_elim.specs.Exact.{AreAdded, real_row}
+use Rattle.isl_elim.specs.Exact.{AreAdded}
+use Rattle.isl_omega.specs.Shadow.{real_row}
 use Rattle.isl_omega.specs.Sides.{on_side}
 use Rattle.isl_meter.specs.Gauge.{IsChargedUpTo}
 use Rattle.isl_omega.specs.declared.sides.Side.TheVariants.{Upper}

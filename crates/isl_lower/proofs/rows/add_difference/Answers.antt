@@ -8,8 +8,11 @@ use Rattle.isl_lower.proofs.PassLaws.{difference_last, difference_added}
 use Rattle.isl_lower.proofs.rows.add_difference.Goals as goal
 
 pub returns-in-Err : goal.returns-in-Err
-returns-in-Err c =
-    (difference_first c.args.meter.now (width_of c.args.places.now) (place_in c.args.places.now) c.args.row.now c.args.greater.now c.args.less.now c.args.last c.in-Err.ensures.0, c.in-Err.ensures.1)
+returns-in-Err c = (
+  difference_first c.args.meter.now (width_of c.args.places.now) (place_in c.args.places.now) c.args.row.now c.args.greater.now
+      c.args.less.now c.args.last c.in-Err.ensures.0,
+  c.in-Err.ensures.1,
+)
 
 pub add_term-requires-2-clause-width : goal.add_term-requires-2-clause-width
 add_term-requires-2-clause-width c =
@@ -49,6 +52,16 @@ returns c =
     let second = c.in_default-add_term.ensures in
     let meters : c.add_term-2.new.meter ≡ c.args.meter.now = second.2 ∙ first.2 in
     match_weaker c.take_one.result _ _ _ _
-    (λ u h. (difference_added c.args.meter.now n place c.args.row.now c.args.greater.now c.args.less.now c.args.last c.add_term.new.row c.add_term-2.new.row c.take_one.new.row first.0 second.0 h.0, subst (λ (m : Gauge). All (IsWithin m) c.take_one.new.row) meters h.1, h.2 ∙ meters))
-    (λ e h. (difference_last c.args.meter.now n place c.args.row.now c.args.greater.now c.args.less.now c.args.last c.add_term-2.new.meter c.add_term.new.row c.add_term-2.new.row meters first.0 second.0 h.0, h.1 ∙ ap overflown meters))
+    (λ u h. (
+      difference_added c.args.meter.now n place c.args.row.now c.args.greater.now c.args.less.now c.args.last c.add_term.new.row
+          c.add_term-2.new.row c.take_one.new.row first.0 second.0 h.0,
+      subst (λ (m : Gauge). All (IsWithin m) c.take_one.new.row) meters h.1,
+      h.2
+          ∙ meters,
+    ))
+    (λ e h. (
+      difference_last c.args.meter.now n place c.args.row.now c.args.greater.now c.args.less.now c.args.last c.add_term-2.new.meter
+          c.add_term.new.row c.add_term-2.new.row meters first.0 second.0 h.0,
+      h.1 ∙ ap overflown meters,
+    ))
     c.take_one.ensures

@@ -12,7 +12,9 @@ pub returns-in-Err-lower_pieces-clause-meter : goal.returns-in-Err-lower_pieces-
 returns-in-Err-lower_pieces-clause-meter c = rw (c.as_slice-names.ensures, c.as_slice.ensures) at c.in-Err-lower_pieces.ensures
 
 pub from_normal-requires-clause-pieces : goal.from_normal-requires-clause-pieces
-from_normal-requires-clause-pieces c = rw c.in-Ok.ensures (all_sound c.args.meter.now c.as_slice-names.result.now c.in-Ok-lower_pieces.pieces.items c.in-Ok-lower_pieces.ensures.1)
+from_normal-requires-clause-pieces c =
+    rw c.in-Ok.ensures (all_sound c.args.meter.now c.as_slice-names.result.now c.in-Ok-lower_pieces.pieces.items
+    c.in-Ok-lower_pieces.ensures.1)
 
 pub returns-in-Ok-lower_pieces-clause-within : goal.returns-in-Ok-lower_pieces-clause-within
 returns-in-Ok-lower_pieces-clause-within c =

@@ -20,7 +20,8 @@ returns-in-Ok-space_of c =
           c.requires.plain written.0 c.width-columns.ensures exact c.in-Ok-space_of.ensures,
       record {
         sound =
-            piece_of_value c.rows_written.new.meter c.args.params.now c.args.piece.now c.in-Ok.rows c.width-columns.result c.in-Ok-Some.system
+            piece_of_value c.rows_written.new.meter c.args.params.now c.args.piece.now c.in-Ok.rows c.width-columns.result
+            c.in-Ok-Some.system
             c.in-Ok-space_of.space c.requires.plain c.width-columns.ensures exact normal within c.in-Ok-space_of.ensures
             c.requires.well_formed;
         within = subst (λ (g : Gauge). All (IsRowWithin g) c.in-Ok-Some.system.rows) written.2 within.within;

@@ -18,11 +18,11 @@ returns-clause-exact c =
     let is : IsRealRow c.args.columns c.args.col lower upper d real = grind arith in
     let by : c.in_ok-by.by ≡ ceiling ((coef_at lower c.args.col -ℤ pos 1) *ℤ (neg_ℤ (coef_at upper c.args.col) -ℤ pos 1)) d = grind arith in
     let lowered : dark ≡ record real { constant = real.constant -ℤ c.in_ok-by.by } = grind arith in
-    let row : IsDarkRow c.args.columns c.args.col lower upper dark = dark_row_is c.args.columns c.args.col lower upper d real dark c.in_ok-by.by is by lowered in
+    let row : IsDarkRow c.args.columns c.args.col lower upper dark = dark_row_is c.args.meter.now c.args.columns c.args.col lower upper d real dark c.in_ok-by.by c.requires.lower c.requires.upper c.requires.col_in is by lowered in
     let tight : IsTrue c.in_ok-exact.exact → (xs : List ℤ) → HoldsRow real xs → HoldsRow dark xs = c.in_ok-exact.ensures in (
       row,
       grind arith,
-      (λ t. exact_is c.args.columns c.args.col lower upper d real dark is row (tight t)),
+      (λ t. exact_is c.args.meter.now c.args.columns c.args.col lower upper d real dark c.requires.lower c.requires.upper c.requires.col_in is row (tight t)),
       grind arith,
     )
 
