@@ -32,4 +32,5 @@ pub nested_end : (total inside : Bool) (ts us : List Token) → IsNext ts None u
 nested_end total inside ts us next so_far = so_far ∙ ap (has_nested inside) next.0
 
 pub ruleset later = (later_found, later_on, later_end)
+
 pub ruleset nested = (nested_found, nested_on, nested_end)

@@ -52,8 +52,11 @@ module _ (ts : List Token) (limit : ℤ) (found : Literal) (next : ℕ) (is : Is
   same_as_found : (other : Literal) → TokensSpell limit ts (Show other) → (found ≡ other) × (next ≡ length ts)
   same_as_found other spelled =
       let at : IsLiteralAt ts 0 other
-          (length ts) = record { ends = (omega arith, omega arith); spelled = subst (λ (l : List Token). Spells literal_grammar other l)
-          (sym (whole ts)) spelled.0 } in
+      (length ts) = record {
+        ends = (omega arith, omega arith);
+        spelled = subst (λ (l : List Token). Spells literal_grammar other l)
+            (sym (whole ts)) spelled.0;
+      } in
       same_literal ts 0 found other next (length ts) (omega arith) is at
 
   pub none_before_end : (next ≡ length ts → ⊥) → IsWhyNoLiteral limit ts fault.Syntax
@@ -79,8 +82,11 @@ none_with_wide ts limit wide literal spelled = false≢true (sym spelled.1.narro
 pub none_standing : (ts : List Token) (limit : ℤ) (f : Fault) → Stands ts 0 (Err f) → IsWhyNoLiteral limit ts f
 none_standing ts limit fault.NoMemory none = tt
 none_standing ts limit fault.Syntax none = λ other spelled. none other (length ts)
-    (record { ends = (omega arith, omega arith); spelled = subst (λ (l : List Token). Spells literal_grammar other l)
-    (sym (whole ts)) spelled.0 })
+    (record {
+      ends = (omega arith, omega arith);
+      spelled = subst (λ (l : List Token). Spells literal_grammar other l)
+          (sym (whole ts)) spelled.0;
+    })
 
 -- ---- the bytes of a statement
 same_tokens : (bytes : List ℕ) (ts us : List Token) → lex.tokens bytes ≡ Some ts → lex.tokens bytes ≡ Some us → ts ≡ us

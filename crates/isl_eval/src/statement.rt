@@ -27,10 +27,7 @@ pub enum Statement {
 fn is_later(kind: Kind) -> bool
     ensures { result ≡ is_later_kind kind }
 {
-    matches!(
-        kind,
-        Kind::Open | Kind::Close | Kind::Not | Kind::Exists
-    )
+    matches!(kind, Kind::Open | Kind::Close | Kind::Not | Kind::Exists)
 }
 
 /// Whether tokens of later forms are there.

@@ -53,8 +53,8 @@ each_ends : (separator : Text) (texts : List Text) → Ends separator → (z : T
 each_ends separator [] ends z after = after
 each_ends separator (text ∷ texts) ends z after =
     ap (λ t. after_item (slice_index t 0))
-        (append_assoc (separator ++ text) (each_after separator texts) z ∙ append_assoc separator text
-        (each_after separator texts ++ z)) ∙ ends (text ++ (each_after separator texts ++ z))
+    (append_assoc (separator ++ text) (each_after separator texts) z ∙ append_assoc separator text
+    (each_after separator texts ++ z)) ∙ ends (text ++ (each_after separator texts ++ z))
 
 each_print : (separator : Text) (ts : Tokens) → Prints separator ts any → Ends separator → (texts : List Text) (tss : List Tokens)
     → AllPrint texts tss → Prints (each_after separator texts) (each_tokens ts tss) after_item
@@ -64,7 +64,7 @@ each_print separator ts prints ends (text ∷ texts) [] all = absurd all
 each_print separator ts prints ends (text ∷ texts) (us ∷ tss) all =
     prints_both (separator ++ text) (each_after separator texts) (ts ++ us) (each_tokens ts tss) after_item after_item
     (prints_both separator text ts us any after_item prints all.0 (λ z _. refl)) (each_print separator ts prints ends texts tss all.1)
-        (each_ends separator texts ends)
+    (each_ends separator texts ends)
 
 pub joined_print : (separator : Text) (ts : Tokens) → Prints separator ts any → Ends separator → (texts : List Text)
     (tss : List Tokens) → AllPrint texts tss → Prints (joined_by separator texts) (joined_tokens ts tss) after_item
@@ -73,7 +73,7 @@ joined_print separator ts prints ends [] (us ∷ tss) all = absurd all
 joined_print separator ts prints ends (text ∷ texts) [] all = absurd all
 joined_print separator ts prints ends (text ∷ texts) (us ∷ tss) all =
     prints_both text (each_after separator texts) us (each_tokens ts tss) after_item after_item all.0
-        (each_print separator ts prints ends texts tss all.1) (each_ends separator texts ends)
+    (each_print separator ts prints ends texts tss all.1) (each_ends separator texts ends)
 
 all_print-append : (xs ys : List Text) (us vs : List Tokens) → AllPrint xs us → AllPrint ys vs → AllPrint (xs ++ ys) (us ++ vs)
 all_print-append [] ys [] vs a b = b
@@ -191,7 +191,7 @@ term_prints term h = by (term.0 == 1) (name_prints term.1 h.1)
     by true alone = alone
     by false alone =
         prints_both (decimal term.0) term.1 (number term.0 ∷ []) (word term.1 ∷ []) after_number after_item
-            (decimal_prints term.0 (wide term.0 h.0)) alone (λ z _. name_ends term.1 z (named term.1 h.1))
+        (decimal_prints term.0 (wide term.0 h.0)) alone (λ z _. name_ends term.1 z (named term.1 h.1))
 
 terms_print : (terms : List Term) → AreWritable terms → AllPrint (map term_text terms) (map term_tokens terms)
 terms_print [] all = tt
@@ -223,9 +223,9 @@ pub side_prints : (side : Side) (names : List Name) (numbers : List ℤ) (consta
 side_prints side names numbers constant a b c =
     let terms = terms_of side names numbers in
     sum_prints (map term_text terms ++ constant_texts (share side constant))
-        (map term_tokens terms ++ constant_tokens (share side constant))
+    (map term_tokens terms ++ constant_tokens (share side constant))
     (all_print-append (map term_text terms) (constant_texts (share side constant)) (map term_tokens terms)
-        (constant_tokens (share side constant)) (terms_print terms (terms_writable side names numbers a b))
+    (constant_tokens (share side constant)) (terms_print terms (terms_writable side names numbers a b))
     (constant_print (share side constant) (share_small side constant c)))
 
 -- ---- rows
@@ -241,7 +241,7 @@ relation_tokens relation names row = side_tokens Left names row.coefs row.consta
 abbrev pub remainder_tokens : List Name → Row → Tokens
 remainder_tokens names row =
     sign (codes "(") ∷ [] ++ side_tokens Left names row.coefs row.constant ++ (sign (codes ")") ∷ word (codes "mod") ∷ []) ++ number
-        (unsigned_abs row.k) ∷ []
+    (unsigned_abs row.k) ∷ []
 
 abbrev pub compared_tokens : Text → List Name → Row → Tokens
 compared_tokens relation names row = remainder_tokens names row ++ (sign relation ∷ token.Number (codes "0") ∷ [])
@@ -281,7 +281,7 @@ is_not_zero = loose_prints (codes " != ") (codes "0") (sign (codes "!=") ∷ [])
 word_between : (w : Text) → is_identifier w ≡ true → Prints (codes " " ++ w ++ codes " ") (word w ∷ []) any
 word_between w is =
     prints_both (codes " " ++ w) (codes " ") (word w ∷ []) [] after_word any
-        (loose_prints (codes " ") w [] (word w ∷ []) after_word blank_prints (word_prints w is)) blank_prints (λ z _. refl)
+    (loose_prints (codes " ") w [] (word w ∷ []) after_word blank_prints (word_prints w is)) blank_prints (λ z _. refl)
 
 modulo_prints : Prints (codes ") mod ") (sign (codes ")") ∷ word (codes "mod") ∷ []) any
 modulo_prints = loose_prints (codes ")") (codes " mod ") (sign (codes ")") ∷ []) (word (codes "mod") ∷ []) any
@@ -292,9 +292,9 @@ module _ (names : List Name) (row : Row) (a : AreNamed names) (b : IsWritableRow
       (relation_text between names row) (relation_tokens relation names row) after_item
   relation_prints relation between prints ends =
       loose_prints (side_text Left names row.coefs row.constant ++ between) (side_text Right names row.coefs row.constant)
-          (side_tokens Left names row.coefs row.constant ++ sign relation ∷ []) (side_tokens Right names row.coefs row.constant) after_item
+      (side_tokens Left names row.coefs row.constant ++ sign relation ∷ []) (side_tokens Right names row.coefs row.constant) after_item
       (then_prints (side_text Left names row.coefs row.constant) between (side_tokens Left names row.coefs row.constant)
-          (sign relation ∷ []) any (side_prints Left names row.coefs row.constant a b.coefs b.constant) prints ends)
+      (sign relation ∷ []) any (side_prints Left names row.coefs row.constant a b.coefs b.constant) prints ends)
       (side_prints Right names row.coefs row.constant a b.coefs b.constant)
 
   remainder_prints : Prints (remainder_text names row) (remainder_tokens names row) after_item
@@ -302,12 +302,12 @@ module _ (names : List Name) (row : Row) (a : AreNamed names) (b : IsWritableRow
       let left = side_text Left names row.coefs row.constant in
       let ts = side_tokens Left names row.coefs row.constant in
       loose_prints (codes "(" ++ left ++ codes ") mod ") (decimal (unsigned_abs row.k))
-          (sign (codes "(") ∷ [] ++ ts ++ (sign (codes ")") ∷ word (codes "mod") ∷ [])) (number (unsigned_abs row.k) ∷ []) after_item
+      (sign (codes "(") ∷ [] ++ ts ++ (sign (codes ")") ∷ word (codes "mod") ∷ [])) (number (unsigned_abs row.k) ∷ []) after_item
       (then_prints (codes "(" ++ left) (codes ") mod ") (sign (codes "(") ∷ [] ++ ts) (sign (codes ")") ∷ word (codes "mod") ∷ []) any
       (loose_prints (codes "(") left
-          (sign (codes "(") ∷ []) ts after_item
-          (whole_sign_prints (codes "(") refl) (side_prints Left names row.coefs row.constant a b.coefs b.constant)) modulo_prints
-          (λ z. refl))
+      (sign (codes "(") ∷ []) ts after_item
+      (whole_sign_prints (codes "(") refl) (side_prints Left names row.coefs row.constant a b.coefs b.constant)) modulo_prints
+      (λ z. refl))
       (count_prints (unsigned_abs row.k) b.k)
 
   kind_prints : (kind : RowKind) → Prints (kind_text kind names row) (kind_tokens kind names row) after_item
@@ -344,7 +344,7 @@ conjunction_prints [] (ts ∷ tss) all = absurd all
 conjunction_prints (text ∷ texts) [] all = absurd all
 conjunction_prints (text ∷ texts) (ts ∷ tss) all =
     loose_prints (codes " : ") (joined_by (codes " and ") (text ∷ texts)) (sign (codes ":") ∷ [])
-        (joined_tokens (word (codes "and") ∷ []) (ts ∷ tss)) after_item colon_between
+    (joined_tokens (word (codes "and") ∷ []) (ts ∷ tss)) after_item colon_between
     (joined_print (codes " and ") (word (codes "and") ∷ []) and_between (λ z. refl) (text ∷ texts) (ts ∷ tss) all)
 
 conjunction_ends : (texts : List Text) (z : Text) → after_item (slice_index z 0) ≡ true → after_item
@@ -364,7 +364,7 @@ abbrev pub tuple_tokens : Form → List Name → Tokens
 tuple_tokens (leaf name width) names = name_tokens name ++ sign (codes "[") ∷ [] ++ names_tokens (take width names) ++ sign (codes "]") ∷ []
 tuple_tokens (pair left right) names =
     sign (codes "[") ∷ [] ++ tuple_tokens left names ++ sign (codes "->") ∷ [] ++ tuple_tokens right
-        (drop (width_of left) names) ++ sign (codes "]") ∷ []
+    (drop (width_of left) names) ++ sign (codes "]") ∷ []
 
 abbrev pub tuples_tokens : SpaceForm → List Name → Tokens
 tuples_tokens (set_of form) names = tuple_tokens form names
@@ -411,23 +411,23 @@ pub tuple_prints : (form : Form) (names : List Name) → IsNamedForm form → Ar
     (tuple_tokens form names) any
 tuple_prints (leaf name width) names h all =
     then_prints (name_text name ++ codes "[" ++ joined_by (codes ", ") (take width names)) (codes "]")
-        (name_tokens name ++ sign (codes "[") ∷ [] ++ names_tokens (take width names)) (sign (codes "]") ∷ []) any
+    (name_tokens name ++ sign (codes "[") ∷ [] ++ names_tokens (take width names)) (sign (codes "]") ∷ []) any
     (loose_prints (name_text name ++ codes "[") (joined_by (codes ", ") (take width names))
-        (name_tokens name ++ sign (codes "[") ∷ []) (names_tokens (take width names)) after_item (open_leaf name width h)
-        (names_print (take width names) (named_take width names all)))
+    (name_tokens name ++ sign (codes "[") ∷ []) (names_tokens (take width names)) after_item (open_leaf name width h)
+    (names_print (take width names) (named_take width names all)))
     (whole_sign_prints (codes "]") refl) (λ z. refl)
 tuple_prints (pair left right) names h all =
     let rest = drop (width_of left) names in
     let opened = loose_prints (codes "[") (tuple_text left names)
-        (sign (codes "[") ∷ []) (tuple_tokens left names) any (whole_sign_prints (codes "[") refl) (tuple_prints left names h.0 all) in
+    (sign (codes "[") ∷ []) (tuple_tokens left names) any (whole_sign_prints (codes "[") refl) (tuple_prints left names h.0 all) in
     let turned = loose_prints (codes "[" ++ tuple_text left names) (codes " -> ")
-        (sign (codes "[") ∷ [] ++ tuple_tokens left names) (sign (codes "->") ∷ []) any opened arrow_between in
+    (sign (codes "[") ∷ [] ++ tuple_tokens left names) (sign (codes "->") ∷ []) any opened arrow_between in
     let both = loose_prints (codes "[" ++ tuple_text left names ++ codes " -> ") (tuple_text right rest)
-        (sign (codes "[") ∷ [] ++ tuple_tokens left names ++ sign (codes "->") ∷ []) (tuple_tokens right rest) any turned
+    (sign (codes "[") ∷ [] ++ tuple_tokens left names ++ sign (codes "->") ∷ []) (tuple_tokens right rest) any turned
     (tuple_prints right rest h.1 (named_drop (width_of left) names all)) in
     loose_prints (codes "[" ++ tuple_text left names ++ codes " -> " ++ tuple_text right rest) (codes "]")
-        (sign (codes "[") ∷ [] ++ tuple_tokens left names ++ sign (codes "->") ∷ [] ++ tuple_tokens right rest)
-        (sign (codes "]") ∷ []) any both (whole_sign_prints (codes "]") refl)
+    (sign (codes "[") ∷ [] ++ tuple_tokens left names ++ sign (codes "->") ∷ [] ++ tuple_tokens right rest)
+    (sign (codes "]") ∷ []) any both (whole_sign_prints (codes "]") refl)
 
 abbrev pub IsNamedSpaceForm : SpaceForm → Type 0
 IsNamedSpaceForm (set_of form) = IsNamedForm form
@@ -439,7 +439,7 @@ tuples_print (set_of form) names h all = tuple_prints form names h all
 tuples_print (map_of from to) names h all =
     let rest = drop (width_of from) names in
     loose_prints (tuple_text from names ++ codes " -> ") (tuple_text to rest) (tuple_tokens from names ++ sign (codes "->") ∷ [])
-        (tuple_tokens to rest) any
+    (tuple_tokens to rest) any
     (loose_prints (tuple_text from names) (codes " -> ") (tuple_tokens from names) (sign (codes "->") ∷ []) any
-        (tuple_prints from names h.0 all) arrow_between)
+    (tuple_prints from names h.0 all) arrow_between)
     (tuple_prints to rest h.1 (named_drop (width_of from) names all))

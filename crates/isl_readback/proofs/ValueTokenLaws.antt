@@ -86,11 +86,11 @@ piece_prints params piece names kept numbers =
     let rows = in_order row_before piece.rows in
     let all = named_from columns (columns_named params piece.space names (omega (arith, few))) in
     let writable = writable_rows rows
-        (recursion_from_All (IsRowUpTo (too_great - 1)) rows (All-in_order row_before (IsRowUpTo (too_great - 1)) piece.rows numbers)) in
+    (recursion_from_All (IsRowUpTo (too_great - 1)) rows (All-in_order row_before (IsRowUpTo (too_great - 1)) piece.rows numbers)) in
     loose_prints (tuples_text piece.space (coordinate_names params piece.space)) (conjunction_text (map (row_text columns) rows))
-        (tuples_tokens piece.space (coordinate_names params piece.space)) (conjunction_tokens (map (row_tokens columns) rows)) after_item
+    (tuples_tokens piece.space (coordinate_names params piece.space)) (conjunction_tokens (map (row_tokens columns) rows)) after_item
     (tuples_print piece.space (coordinate_names params piece.space) (named_space piece.space kept.space.named)
-        (named_from (coordinate_names params piece.space) (coordinates_named params piece.space (omega (arith, few)))))
+    (named_from (coordinate_names params piece.space) (coordinates_named params piece.space (omega (arith, few)))))
     (conjunction_prints (map (row_text columns) rows) (map (row_tokens columns) rows) (rows_print columns rows all writable))
 
 pieces_print_each : (params : List Name) (pieces : List KeptPiece) → All IsLiteralName params → AllByRecursion
@@ -119,8 +119,8 @@ pieces_print (text ∷ texts) (ts ∷ tss) all =
     let ins = joined_tokens (sign (codes ";") ∷ []) (ts ∷ tss) in
     then_prints (codes "{ " ++ inside) (codes " }") (sign (codes "{") ∷ [] ++ ins) (sign (codes "}") ∷ []) any
     (loose_prints (codes "{ ") inside
-        (sign (codes "{") ∷ []) ins after_item open_braces
-        (joined_print (codes "; ") (sign (codes ";") ∷ []) semicolon_between (λ z. refl) (text ∷ texts) (ts ∷ tss) all))
+    (sign (codes "{") ∷ []) ins after_item open_braces
+    (joined_print (codes "; ") (sign (codes ";") ∷ []) semicolon_between (λ z. refl) (text ∷ texts) (ts ∷ tss) all))
     close_braces (λ z. refl)
 
 -- ---- the declared names
@@ -131,9 +131,9 @@ params_print (name ∷ names) all =
     let ins = names_tokens (name ∷ names) in
     then_prints (codes "[" ++ inside) (codes "] -> ") (sign (codes "[") ∷ [] ++ ins) (sign (codes "]") ∷ sign (codes "->") ∷ []) any
     (loose_prints (codes "[") inside
-        (sign (codes "[") ∷ []) ins after_item (whole_sign_prints (codes "[") refl) (names_print (name ∷ names) all))
+    (sign (codes "[") ∷ []) ins after_item (whole_sign_prints (codes "[") refl) (names_print (name ∷ names) all))
     (loose_prints (codes "]") (codes " -> ") (sign (codes "]") ∷ []) (sign (codes "->") ∷ []) any
-        (whole_sign_prints (codes "]") refl) arrow_between) (λ z. refl)
+    (whole_sign_prints (codes "]") refl) arrow_between) (λ z. refl)
 
 -- the tokens of the text
 pub tokens-printed : (value : KeptValue) → IsKeptValue value → HasWritableNumbers value → tokens (printed value) ≡ Some
@@ -143,9 +143,9 @@ tokens-printed value kept numbers =
     let each = pieces_print_each value.params pieces kept.params.named
     (recursion_from_All (IsKeptPiece value.params) pieces (All-in_order piece_before (IsKeptPiece value.params) value.pieces kept.pieces))
     (recursion_from_All (λ p. All (IsRowUpTo (too_great - 1)) p.rows) pieces
-        (All-in_order piece_before (λ p. All (IsRowUpTo (too_great - 1)) p.rows) value.pieces numbers)) in
+    (All-in_order piece_before (λ p. All (IsRowUpTo (too_great - 1)) p.rows) value.pieces numbers)) in
     prints_whole (printed value) (printed_tokens value) any
     (loose_prints (params_text value.params) (pieces_text (map (piece_text value.params) pieces)) (params_tokens value.params)
-        (pieces_tokens (map (piece_tokens value.params) pieces)) any
+    (pieces_tokens (map (piece_tokens value.params) pieces)) any
     (params_print value.params (named_from value.params kept.params.named))
-        (pieces_print (map (piece_text value.params) pieces) (map (piece_tokens value.params) pieces) each)) refl
+    (pieces_print (map (piece_text value.params) pieces) (map (piece_tokens value.params) pieces) each)) refl

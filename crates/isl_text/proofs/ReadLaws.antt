@@ -25,7 +25,7 @@ split_at : (ts : List Token) (at next : ℕ) → at ≤ next → drop at ts ≡ 
 split_at ts at next le =
     let e : at + (next - at) ≡ next = omega arith in
     sym (take-append-drop (next - at) (drop at ts)) ∙ ap (λ (l : List Token). slice_range ts at next ++ l)
-        (drop-drop (next - at) at ts ∙ ap (λ k. drop k ts) e)
+    (drop-drop (next - at) at ts ∙ ap (λ k. drop k ts) e)
 
 module _ (ts : List Token) (at : ℕ) (begins : at ≤ length ts) (n : ℕ) (enough : length (drop at ts) < n) where
   -- what is read there is a literal that stands there
@@ -37,7 +37,7 @@ module _ (ts : List Token) (at : ℕ) (begins : at ≤ length ts) (n : ℕ) (eno
       let dropped = length-drop at ts in
       let width : (length ts - length left) - at ≡ length c.0 = omega (arith, lens, dropped, begins) in
       let same : slice_range ts at (length ts - length left) ≡ c.0 = ap (λ k. take k (drop at ts)) width ∙ ap (take (length c.0)) c.1
-          ∙ take-append_seam c.0 left in
+      ∙ take-append_seam c.0 left in
       record {
         ends = (omega (arith, lens, dropped, begins), omega arith);
         spelled = record { depth = n; spelled = rw same c.2 };
@@ -48,9 +48,9 @@ module _ (ts : List Token) (at : ℕ) (begins : at ≤ length ts) (n : ℕ) (eno
   literal_read found next is =
       let whole = split_at ts at next is.ends.0 in
       let lens : length (drop at ts) ≡ length (slice_range ts at next) + length (drop next ts) = ap length whole ∙ length-append
-          (slice_range ts at next) (drop next ts) in
+      (slice_range ts at next) (drop next ts) in
       ap (literal n) whole ∙ (literal_again n is.spelled.depth).by found (slice_range ts at next) (drop next ts) is.spelled.spelled
-          (omega (arith, lens, enough)) refl
+      (omega (arith, lens, enough)) refl
 
   -- so what is read there fails where none stands there
   pub stands : (f : Fault) (left : List Token) → Reads (literal n (drop at ts)) (Err f) left → Stands ts at (Err f)
@@ -145,7 +145,7 @@ module _ (ts : List Token) (at : ℕ) (begins : at ≤ length ts) (limit : ℤ) 
         none = λ _ no. absurd (no found next is);
         some = λ _ other behind also. let p = same_literal ts at found other next behind begins is also in
             inl (ap (λ (l : Literal). judged limit (slice_range ts at next) l next) p.0 ∙ ap
-                (λ k. judged limit (slice_range ts at k) other k) p.1);
+            (λ k. judged limit (slice_range ts at k) other k) p.1);
       }
 
 -- ---- as the code has it: the tokens of the literal by themselves, and a limit that is read back

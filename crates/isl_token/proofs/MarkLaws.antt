@@ -1,5 +1,5 @@
 -- What marks at a text tell of its tokens.
-use Rattle.std.proofs.Common.{◌≡◌, ◌≢◌, ℕ, Bool, true, false, List, [], ◌∷◌, take, drop, Some, None, refl, sym, ap, subst, ◌∙◌}
+use Rattle.std.proofs.Common.{◌≡◌, ◌≢◌, ℕ, Bool, true, false, List, [], ◌∷◌, take, drop, Some, None, refl, sym, subst, ◌∙◌}
 use Rattle.std.specs.Str.{IsUtf8}
 use Rattle.std.proofs.lemmas.Str.{IsUtf8-from_ascii}
 use Rattle.isl_token.specs.TokenView.{Token}
@@ -11,6 +11,7 @@ use Rattle.isl_token.specs.declared.lex.Piece.TheVariants as piece
 use Rattle.isl_token.specs.Token.{Text, is_kind, kind_of}
 use Rattle.isl_token.specs.Lex.{cut, token_at, token_of, IsPiece, IsKindAt}
 use Rattle.isl_token.specs.Number.{number_of}
+use Rattle.isl_token.specs.AnyWord.{any_word}
 use Rattle.isl_token.specs.Reading.{name, digits, number}
 use Rattle.isl_token.proofs.Fronts.{identifier_ascii}
 use Rattle.isl_token.proofs.Pieces.{token_there, cut_piece}
@@ -18,9 +19,12 @@ use Rattle.isl_token.proofs.Taking.{is_kind_same, is_kind_true, same_read}
 
 -- ---- words
 
-word_of_name : (t : Token) (w : Text) (us : List Token) → t ≡ token.Word w → kind_of t ≡ kind.Name → name (t ∷ us) ≡ Some (w, us)
-unfolding name
-word_of_name t w us is named = rw (is, is_kind_same (kind_of (token.Word w)) kind.Name (ap kind_of (sym is) ∙ named)) refl
+-- an identifier is a word
+name_is_word : (t : Token) (us : List Token) → kind_of t ≡ kind.Name → name (t ∷ us) ≡ any_word (t ∷ us)
+unfolding name any_word
+name_is_word (token.Word word) us named = rw (is_kind_same (kind_of (token.Word word)) kind.Name named) refl
+name_is_word (token.Number text) us named = refl
+name_is_word (token.Sign sign) us named = refl
 
 not_named : (t : Token) (us : List Token) → kind_of t ≢ kind.Name → name (t ∷ us) ≡ None
 unfolding name
@@ -32,8 +36,8 @@ not_named (token.Word word) us other = by_test (is_kind (kind_of (token.Word wor
 not_named (token.Number text) us other = refl
 not_named (token.Sign sign) us other = refl
 
-no_word : (p : Piece) (text : Text) (us : List Token) → p ≢ piece.Word → name (token_of p text ∷ us) ≡ None
-unfolding name
+no_word : (p : Piece) (text : Text) (us : List Token) → p ≢ piece.Word → any_word (token_of p text ∷ us) ≡ None
+unfolding any_word
 no_word piece.Nothing text us other = refl
 no_word piece.Word text us other = absurd (other refl)
 no_word piece.Number text us other = refl
@@ -58,20 +62,23 @@ module _ (text : Text) (at : ℕ) (k : Kind) (known : IsKindAt text at k) where
   pub not_name : k ≢ kind.Name → (us : List Token) → name (token_at text at ∷ us) ≡ None
   not_name other us = not_named (token_at text at) us (λ e. other (known.1 ∙ e))
 
+  pub name_there : k ≡ kind.Name → (us : List Token) → name (token_at text at ∷ us) ≡ any_word (token_at text at ∷ us)
+  name_there named us = name_is_word (token_at text at) us (sym known.1 ∙ named)
+
   pub not_number : k ≢ kind.Number → (us : List Token) → digits (token_at text at ∷ us) ≡ None
   not_number other us = not_digits (token_at text at) us (λ e. other (known.1 ∙ e))
 
   module _ (p : Piece) (n : ℕ) (is : (p, n) ≡ cut (drop at text)) where
-    pub word_there : k ≡ kind.Name → p ≡ piece.Word → (us : List Token) → name (token_at text at ∷ us) ≡ Some (take n (drop at text), us)
-    word_there named word us = word_of_name (token_at text at) (take n (drop at text)) us
-        (token_there text at p n is ∙ ap (λ (q : Piece). token_of q (take n (drop at text))) word) (sym known.1 ∙ named)
+    pub word_there : p ≡ piece.Word → (us : List Token) → any_word (token_at text at ∷ us) ≡ Some (take n (drop at text), us)
+    unfolding any_word
+    word_there word us = rw (token_there text at p n is, word) refl
 
     pub word_utf8 : p ≡ piece.Word → IsUtf8 (take n (drop at text))
     word_utf8 word = IsUtf8-from_ascii (take n (drop at text))
         (identifier_ascii (take n (drop at text))
         (let motive : Piece → Type 0 = λ q. IsPiece q (take n (drop at text)) in subst motive word (cut_piece (drop at text) p n is)))
 
-    pub no_word_there : p ≢ piece.Word → (us : List Token) → name (token_at text at ∷ us) ≡ None
+    pub no_word_there : p ≢ piece.Word → (us : List Token) → any_word (token_at text at ∷ us) ≡ None
     no_word_there other us = rw (token_there text at p n is) (no_word p (take n (drop at text)) us other)
 
     pub digits_there : p ≡ piece.Number → (us : List Token) → digits (token_at text at ∷ us) ≡ Some (take n (drop at text), us)
@@ -102,6 +109,10 @@ pub ruleset read = (number_digits, number_none)
 pub name_empty : name [] ≡ None
 unfolding name
 name_empty = refl
+
+pub any_word_empty : any_word [] ≡ None
+unfolding any_word
+any_word_empty = refl
 
 pub digits_empty : digits [] ≡ None
 unfolding digits

@@ -4,5 +4,6 @@ pub mod Lex
 pub mod Number
 pub mod Depth
 pub mod Reading
+pub mod AnyWord
 pub mod Spelling
 pub mod Signs

@@ -3,6 +3,7 @@
 ghost use Rattle.std.specs.Prelude.{◌≡◌, ◌≤◌, List, ◌∷◌, length, take, drop, MatchOption};
 ghost use Rattle.isl_token.specs.TokenView.{Token};
 ghost use Rattle.isl_token.specs.Lex.{token_at, IsKindAt};
+ghost use Rattle.isl_token.specs.AnyWord.{any_word};
 ghost use Rattle.isl_token.specs.Reading as spec;
 
 use crate::lex::{Piece, cut};
@@ -136,6 +137,17 @@ impl<'a> Rest<'a> {
         }
     }
 
+    /// The text of the next token, where it is a word, whatever it means inside a literal.
+    pub fn any_word(&self) -> Option<&'a str>
+        ensures { MatchOption result (any_word self.now ≡ None)
+            (λ word. any_word self.now ≡ Some (word.now, spec.tail self.now)) }
+    {
+        match self.marks {
+            [] => None,
+            [mark, ..] => any_word_at(self.text, mark),
+        }
+    }
+
     /// The digits of the next token, where it is a number.
     pub fn digits(&self) -> Option<&'a [u8]>
         ensures { MatchOption result (spec.digits self.now ≡ None)
@@ -179,16 +191,23 @@ fn word_at<'a>(text: &'a [u8], mark: &Mark) -> Option<&'a str>
         (λ word. spec.name (token_at text.now mark.now.place ∷ after) ≡ Some (word.now, after)) }
 {
     match mark.kind {
-        Kind::Name => {
-            let (_, rest) = text.split_at(mark.place as usize);
-            match cut(rest) {
-                (Piece::Word, len) => match std::str::from_utf8(rest.split_at(len).0) {
-                    Ok(word) => Some(word),
-                    Err(_) => None,
-                },
-                _ => None,
-            }
-        }
+        Kind::Name => any_word_at(text, mark),
+        _ => None,
+    }
+}
+
+/// The text of the token with the mark, where it is a word.
+fn any_word_at<'a>(text: &'a [u8], mark: &Mark) -> Option<&'a str>
+    requires { IsKindAt text.now mark.now.place mark.now.kind }
+    ensures { (after : List Token) → MatchOption result (any_word (token_at text.now mark.now.place ∷ after) ≡ None)
+        (λ word. any_word (token_at text.now mark.now.place ∷ after) ≡ Some (word.now, after)) }
+{
+    let (_, rest) = text.split_at(mark.place as usize);
+    match cut(rest) {
+        (Piece::Word, len) => match std::str::from_utf8(rest.split_at(len).0) {
+            Ok(word) => Some(word),
+            Err(_) => None,
+        },
         _ => None,
     }
 }

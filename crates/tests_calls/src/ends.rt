@@ -1,6 +1,7 @@
 //! Sources and sinks over other streams.
 
-use isl_io::{Failed, Sink, Source, StdSink, StdSource};
+use isl_io::{CleanSink, CleanSource, Failed, Sink, Source, StdSink, StdSource};
+use std::alloc::Global;
 use std::io;
 use std::io::{ErrorKind, Read, Write};
 
@@ -47,4 +48,17 @@ pub(crate) fn streams_are_passed_on() -> bool {
         right = source.read(&mut [0; 12]) == read && sink.write(b"abcdef") == written && right;
     }
     right
+}
+
+pub(crate) fn clean_ends_take_all(alloc: Global) -> bool {
+    match b"{ };{ };".to_vec(alloc) {
+        Ok(script) => {
+            let mut source = CleanSource::new(script, 5);
+            let five = source.read(&mut [0; 12]) == Ok(5);
+            let three = source.read(&mut [0; 12]) == Ok(3);
+            let none = source.read(&mut [0; 12]) == Ok(0);
+            five && three && none && CleanSink::new().write(b"abc") == Ok(3)
+        }
+        Err(_) => false,
+    }
 }

@@ -24,11 +24,12 @@ fn main(rt: HostRuntime) -> io::Result<()> {
         ("the least limit", numbers::least_limit_is_right()),
         ("the budget", numbers::budget_is_right()),
         ("ends over other streams", ends::streams_are_passed_on()),
+        ("clean ends", ends::clean_ends_take_all(alloc)),
     ] {
         if !right {
             println!(&rt; "{name} differ")?;
             differ = differ.saturating_add(1);
         }
     }
-    println!(&rt; "12 kinds of calls, {differ} differ")
+    println!(&rt; "13 kinds of calls, {differ} differ")
 }

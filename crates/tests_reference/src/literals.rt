@@ -1,5 +1,7 @@
 //! Literals: the elements that the reference finds, beside the rows that the program makes and the text that it prints.
 
+ghost use Rattle.std.specs.Prelude.{◌≤ℤ◌, pos};
+
 use isl_lower::{is_plain_piece, rows_written};
 use isl_meter::{Cut, Meter};
 use isl_piece::{System, normalise};
@@ -9,7 +11,7 @@ use isl_space::Name;
 use isl_text::read::{read_literal, tokens};
 use isl_tree::tree::{Literal, PieceTree};
 use std::alloc::Global;
-use tests_made::{field, is_proper, number};
+use tests_made::{bytes, field, is_proper, number};
 
 /// Points are taken from `FIRST` on, `SIDE` numbers a column.
 const FIRST: i128 = -4;
@@ -146,4 +148,28 @@ pub(crate) fn literal_is_right(alloc: Global, case: &str, text: &str) -> Result<
         }
     }
     Ok(same && (field(case, "later").is_some() || is_answered(alloc, &literal, text, columns)?))
+}
+
+// Why the text is no literal within its limits; nothing where it is one.
+fn refusal_of(alloc: Global, text: &[u8], limit: i128) -> &'static str
+    requires { pos 0 ≤ℤ limit }
+{
+    match tokens(alloc, text) {
+        Ok(found) => match read_literal(alloc, &found, 0, limit) {
+            Ok((_, next)) if next == found.rest().left() => "",
+            Ok(_) => "syntax error",
+            Err(refusal) => refusal.text(),
+        },
+        Err(refusal) => refusal.text(),
+    }
+}
+
+/// Whether the text of a case is a literal, or refused as the case says.
+pub(crate) fn text_is_right(alloc: Global, case: &str) -> Result<bool, Wrong> {
+    let text = bytes(alloc, case, "text")?;
+    let limit = match number(case, "limit ", 0) {
+        0 => i128::MAX,
+        least => least as i128,
+    };
+    Ok(refusal_of(alloc, &text, limit) == field(case, "refused ").unwrap_or(""))
 }

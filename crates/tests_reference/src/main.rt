@@ -5,14 +5,14 @@
 mod literals;
 mod scripts;
 
-use literals::literal_is_right;
+use literals::{literal_is_right, text_is_right};
 use scripts::{script_is_right, short_script_is_right};
 use std::alloc::Global;
 use std::io;
 use tests_made::{Form, field, is_case};
 
 // The lines of a case.
-const FORMS: [(&str, Form); 10] = [
+const FORMS: [(&str, Form); 15] = [
     ("#", Form::Text),
     ("case ", Form::Text),
     ("literal ", Form::Text),
@@ -23,16 +23,24 @@ const FORMS: [(&str, Form); 10] = [
     ("ends ", Form::Numbers),
     ("rest", Form::Text),
     ("later", Form::Text),
+    ("text ", Form::Text),
+    ("text-part ", Form::Text),
+    ("text-times ", Form::Counted),
+    ("limit ", Form::Number),
+    ("refused ", Form::Text),
 ];
 
 fn is_right(alloc: Global, case: &str) -> bool {
     if !is_case(case, &FORMS) {
         return false;
     }
-    match field(case, "literal ") {
-        Some(text) => literal_is_right(alloc, case, text) == Ok(true),
-        None => script_is_right(alloc, case) == Ok(true),
+    if let Some(text) = field(case, "literal ") {
+        return literal_is_right(alloc, case, text) == Ok(true);
     }
+    if field(case, "text").is_some() {
+        return text_is_right(alloc, case) == Ok(true);
+    }
+    script_is_right(alloc, case) == Ok(true)
 }
 
 fn main(rt: HostRuntime) -> io::Result<()> {

@@ -11,7 +11,7 @@ pub returns-then-has_wide_number : goal.returns-then-has_wide_number
 returns-then-has_wide_number c =
     none_with_wide c.args.tokens.now c.args.limit
     (same_wide c.args.limit _ (to_z-of_z w128 c.args.limit c.ranges.limit) c.rest-2.result c.args.tokens.now c.rest-2.ensures
-        ∙ sym c.if-has_wide_number.ensures)
+    ∙ sym c.if-has_wide_number.ensures)
 
 pub returns-then-is_fit : goal.returns-then-is_fit
 returns-then-is_fit c =
@@ -19,10 +19,10 @@ returns-then-is_fit c =
     let bare = sym (c.if-has_later.ensures ∙ ap (list_any is_later) c.rest.ensures) in
     let flat = sym (c.if-has_nested.ensures ∙ ap (has_nested false) c.rest-else-has_later.ensures) in
     let narrow = same_wide c.args.limit _
-        (to_z-of_z w128 c.args.limit c.ranges.limit) c.rest-2.result c.args.tokens.now c.rest-2.ensures
-        ∙ sym c.if-has_wide_number.ensures in
+    (to_z-of_z w128 c.args.limit c.ranges.limit) c.rest-2.result c.args.tokens.now c.rest-2.ensures
+    ∙ sym c.if-has_wide_number.ensures in
     spelled_whole c.args.tokens.now c.args.limit c.in-Ok.literal c.in-Ok.next c.in-Ok.ensures ends bare flat narrow
-        (sym c.if-is_fit.ensures)
+    (sym c.if-is_fit.ensures)
 
 pub returns-else-next-left : goal.returns-else-next-left
 returns-else-next-left c =

@@ -7,11 +7,11 @@ overflow_sub-result c =
     left_from c.args.tokens.now c.args.at c.requires c.from-rest.result c.new-cursor.result c.left-depth.result
     (c.from-rest.ensures ∙ ap (drop c.args.at) c.rest-all.ensures) c.new-cursor.ensures c.left-depth.ensures
     c.in-Ok.found c.literal.new.tokens c.left.result c.left-in-Ok.result c.in-Ok.ensures
-        (c.left.ensures ∙ ap length c.rest-all.ensures) c.left-in-Ok.ensures
+    (c.left.ensures ∙ ap length c.rest-all.ensures) c.left-in-Ok.ensures
 
 pub returns-in-Ok : goal.returns-in-Ok
 returns-in-Ok c =
     found_from c.args.tokens.now c.args.at c.requires c.from-rest.result c.new-cursor.result c.left-depth.result
     (c.from-rest.ensures ∙ ap (drop c.args.at) c.rest-all.ensures) c.new-cursor.ensures c.left-depth.ensures
     c.in-Ok.found c.literal.new.tokens c.left.result c.left-in-Ok.result c.in-Ok.ensures
-        (c.left.ensures ∙ ap length c.rest-all.ensures) c.left-in-Ok.ensures
+    (c.left.ensures ∙ ap length c.rest-all.ensures) c.left-in-Ok.ensures

@@ -9,14 +9,14 @@ returns-in-Ok-clause-only c =
     let spelled = c.first-spelled.ensures ∙ ap (take (c.in-Ok.next - c.args.at)) (c.from.ensures ∙ ap (drop c.args.at) c.rest.ensures) in
     only_judged c.args.tokens.now c.args.at c.requires.begins c.args.limit (sym c.if-is_too_deep.ensures)
     c.in-Ok.found c.in-Ok.next c.in-Ok.ensures _
-        (to_z-of_z w128 c.args.limit c.ranges.limit) c.first-spelled.result spelled c.judged.result c.judged.ensures
+    (to_z-of_z w128 c.args.limit c.ranges.limit) c.first-spelled.result spelled c.judged.result c.judged.ensures
 
 pub returns-in-Ok-clause-exactly : goal.returns-in-Ok-clause-exactly
 returns-in-Ok-clause-exactly c =
     let spelled = c.first-spelled.ensures ∙ ap (take (c.in-Ok.next - c.args.at)) (c.from.ensures ∙ ap (drop c.args.at) c.rest.ensures) in
     exactly_judged c.args.tokens.now c.args.at c.requires.begins c.args.limit (sym c.if-is_too_deep.ensures)
     c.in-Ok.found c.in-Ok.next c.in-Ok.ensures _
-        (to_z-of_z w128 c.args.limit c.ranges.limit) c.first-spelled.result spelled c.judged.result c.judged.ensures
+    (to_z-of_z w128 c.args.limit c.ranges.limit) c.first-spelled.result spelled c.judged.result c.judged.ensures
 
 pub returns-in-Err-clause-only : goal.returns-in-Err-clause-only
 returns-in-Err-clause-only c =
