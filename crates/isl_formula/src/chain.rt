@@ -59,7 +59,7 @@ fn next_term(alloc: Global, tokens: &mut Cursor<'_>, depth: usize) -> Result<Ite
 fn side(alloc: Global, tokens: &mut Cursor<'_>, depth: usize) -> Result<Items<Items<Signed>>, Fault>
     ensures { Reads (spec.side (terms.term depth) tokens.old) result tokens.new }
 {
-    let mut found = Items::new(alloc);
+    let mut found = Items::from_vec(Vec::with_capacity(alloc, 1)?);
     found.push(term(alloc, tokens, depth)?)?;
     for _turn in 0..tokens.left() {
         if !tokens.sees(Kind::Comma) {
@@ -93,7 +93,7 @@ fn links(
 ) -> Result<Items<(Compare, Items<Items<Signed>>)>, Fault>
     ensures { Reads (reading.row spec.sees_compare (spec.link (terms.term depth)) (first ∷ []) tokens.old) result tokens.new }
 {
-    let mut found = Items::new(alloc);
+    let mut found = Items::from_vec(Vec::with_capacity(alloc, 1)?);
     found.push(first)?;
     for _turn in 0..tokens.left() {
         if !sees_compare(tokens) {
@@ -152,7 +152,7 @@ fn next_binder(alloc: Global, tokens: &mut Cursor<'_>, depth: usize) -> Result<B
 pub fn binders(alloc: Global, tokens: &mut Cursor<'_>, depth: usize) -> Result<Items<Binder>, Fault>
     ensures { Reads (spec.binders (terms.term depth) tokens.old) result tokens.new }
 {
-    let mut found = Items::new(alloc);
+    let mut found = Items::from_vec(Vec::with_capacity(alloc, 1)?);
     found.push(binder(alloc, tokens, depth)?)?;
     for _turn in 0..tokens.left() {
         if !tokens.sees(Kind::Comma) {

@@ -89,7 +89,7 @@ fn others(
 ) -> Result<Items<Formula>, Fault>
     ensures { Reads (reading.row (reading.sees (spec.sign_of operator)) (spec.next_of (spec.unary depth) operator) (first ∷ second ∷ []) tokens.old) result tokens.new }
 {
-    let mut found = Items::new(alloc);
+    let mut found = Items::from_vec(Vec::with_capacity(alloc, 2)?);
     found.push(first)?;
     found.push(second)?;
     for _turn in 0..tokens.left() {

@@ -107,7 +107,7 @@ fn rounded(rounding: Rounding, term: Items<Signed>, divisor: i128) -> Factor
 pub fn term(alloc: Global, tokens: &mut Cursor<'_>, depth: usize) -> Result<Items<Signed>, Fault>
     ensures { Reads (spec.term depth tokens.old) result tokens.new }
 {
-    let mut found = Items::new(alloc);
+    let mut found = Items::from_vec(Vec::with_capacity(alloc, 1)?);
     found.push(signed(alloc, tokens, depth)?)?;
     for _turn in 0..tokens.left() {
         if !is_additive(tokens.peek()) {
@@ -171,7 +171,7 @@ fn times(tokens: &mut Cursor<'_>, mut numbers: Items<i128>) -> Result<Items<i128
 fn numbered(alloc: Global, tokens: &mut Cursor<'_>, depth: usize) -> Result<Product, Fault>
     ensures { Reads (spec.numbered (spec.product depth) tokens.old) result tokens.new }
 {
-    let mut numbers = Items::new(alloc);
+    let mut numbers = Items::from_vec(Vec::with_capacity(alloc, 1)?);
     numbers.push(tokens.number()?)?;
     let numbers = times(tokens, numbers)?;
     let inner = inner(alloc, tokens, depth)?;
