@@ -14,7 +14,8 @@ use std::alloc::{AllocError, AllocGlobal, Global};
 use std::env;
 use std::env::Env;
 use std::process::ExitCode;
-use systems::{is_proper, skewed, stencil};
+use systems::{skewed, stencil};
+use tests_made::is_proper;
 
 // The words of the command line, but for the program's name.
 fn words_of(rt: &(impl Env + AllocGlobal), alloc: Global) -> Result<Vec<String>, AllocError> {

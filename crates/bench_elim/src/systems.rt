@@ -1,11 +1,6 @@
 // The systems that are timed.
 
-ghost use Rattle.std.specs.Prelude.{◌≡◌, All, true};
-ghost use Rattle.isl_meter.specs.Gauge.{IsWithin};
-ghost use Rattle.isl_piece.specs.Row.{IsWellFormed, IsRowWithin};
-ghost use Rattle.isl_piece.specs.System.{IsSystemWithin};
-
-use isl_meter::{Int, Meter};
+use isl_meter::Int;
 use isl_piece::{Coefs, Row, RowKind, System};
 use std::alloc::{AllocError, Global};
 
@@ -53,52 +48,4 @@ pub(crate) fn skewed(alloc: Global) -> Result<System, AllocError> {
         system.rows.push(at_least(alloc, coefs, *constant)?)?;
     }
     Ok(system)
-}
-
-fn is_within(number: Int, meter: &Meter) -> bool
-    ensures { result ≡ true → IsWithin meter.now number }
-{
-    let limit = meter.limit();
-    -limit <= number.get() && number.get() <= limit
-}
-
-fn are_within(numbers: &[Int], meter: &Meter) -> bool
-    ensures { result ≡ true → All (IsWithin meter.now) numbers.now }
-{
-    for number in numbers {
-        if !is_within(*number, meter) {
-            return false;
-        }
-    }
-    true
-}
-
-fn is_proper_row(row: &Row, columns: usize, meter: &Meter) -> bool
-    ensures { result ≡ true → IsWellFormed columns row.now × IsRowWithin meter.now row.now }
-{
-    if row.kind != RowKind::AtLeast {
-        return false;
-    }
-    if row.modulus() != Int::ONE || !is_within(row.modulus(), meter) {
-        return false;
-    }
-    if row.coefs.len() != columns {
-        return false;
-    }
-    if !are_within(row.coefs.as_slice(), meter) {
-        return false;
-    }
-    is_within(row.offset(), meter)
-}
-
-/// Whether the rows are bounds over the system's columns, with numbers within the limit.
-pub(crate) fn is_proper(system: &System, meter: &Meter) -> bool
-    ensures { result ≡ true → IsSystemWithin meter.now system.now }
-{
-    for row in system.rows.as_slice() {
-        if !is_proper_row(row, system.columns, meter) {
-            return false;
-        }
-    }
-    true
 }

@@ -9,7 +9,7 @@ use Rattle.isl_elim.specs.Adds.{Adds}
 use Rattle.isl_omega.specs.Column.{IsSystemOf}
 use Rattle.isl_elim.specs.Elimination.{HoldsAtAny}
 use Rattle.isl_math.proofs.ListLaws.{Any-first, Any-left, Any-right, Any-parts, Any-one}
-use Rattle.isl_omega.proofs.WorkLemmas.{rows_within_kept}
+use Rattle.isl_piece.proofs.RowMagnitudes.{rows_within_kept}
 
 no_system : (point : List ℤ) → HoldsAtAny [] point → ⊥
 no_system point a = let h = a.2 in omega arith

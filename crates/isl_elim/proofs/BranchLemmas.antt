@@ -24,7 +24,8 @@ use Rattle.isl_omega.specs.declared.shadow.Tail.{Tail}
 use Rattle.isl_omega.proofs.ColumnLemmas.{value_at-insert, hold_anywhere}
 use Rattle.isl_math.proofs.ListLaws.{All-parts, All-unmapped, All-map-with, All-zipped, AllZip-with, Any-weaker, Any-with, Any-element, Any-unmapped, Any-zipped}
 use Rattle.isl_elim.proofs.NeighbourLemmas.{shifted, MeetsTwice, IsEnd, neighbours_give, neighbours_cover, neighbour_open_above, neighbour_open_below}
-use Rattle.isl_omega.proofs.ReduceLemmas.{divisor_positive}
+use Rattle.isl_piece.proofs.RowLemmas.{HasDivisor-positive}
+use Rattle.isl_omega.proofs.SideLemmas.{free_rows_hold}
 use Rattle.isl_omega.proofs.ShadowLemmas.{dark_shadow, far_above, far_below}
 use Rattle.isl_omega.proofs.ShadowRows.{lower_meets, upper_meets, lower_value}
 use Rattle.isl_omega.proofs.PairLemmas.{holds_at_least}
@@ -62,11 +63,6 @@ dark_meets g columns col lowers uppers point hl hu l n d =
     (All-map (λ b. All (IsDark b) (upper_bounds col point uppers)) (lower_at col point) lowers (λ k z i. All-map (IsDark (lower_at col point (get_or lowers k z))) (upper_at col point) uppers (d k z i))) in
     (s.0, (lowers_meet g columns col lowers point s.0 hl l n).1 s.1, (uppers_meet g columns col uppers point s.0 hu l n).1 s.2)
 
--- free rows hold at any x
-pub free_holds : (g : Gauge) (columns col : ℕ) (rows : List Row) (point : List ℤ) (x y : ℤ) → col < columns → length point ≡ columns - 1 → All (IsFreeRow g columns col) rows → HoldAt rows col point x → HoldAt rows col point y
-free_holds g columns col rows point x y l n f a =
-    hold_anywhere columns col rows point x y l n (All-weaker (IsFreeRow g columns col) (IsWellFormed columns) (λ r h. h.proper.formed) rows f) (All-weaker (IsFreeRow g columns col) (IsFree col) (λ r h. h.free) rows f) a
-
 shadow_holds : (g : Gauge) (columns col : ℕ) (neighbours : Bool) (lowers uppers rows : List Row) (tails : List Tail) (point : List ℤ) (x y : ℤ) → col < columns → length point ≡ columns - 1 → IsShadow g columns col neighbours lowers uppers rows tails → HoldAt rows col point x → HoldAt rows col point y
 shadow_holds g columns col neighbours lowers uppers rows tails point x y l n s a = hold_anywhere columns col rows point x y l n (All-weaker (IsProper g columns) (IsWellFormed columns) (λ r p. p.formed) rows s.proper) s.free a
 
@@ -81,14 +77,14 @@ bounds_exact g columns col lowers uppers free rows tails all point l n hl hu hf 
       let x = a.0 in
       let parts = (split x).0 a.1 in
       elim (s.covered point x n parts.0 parts.1) [
-        | inl h ↦ inl (All-append (λ r. HoldsRow r (insert point col (pos 0))) free rows (free_holds g columns col free point x (pos 0) l n hf parts.2) (shadow_holds g columns col false lowers uppers rows tails point x (pos 0) l n s h))
+        | inl h ↦ inl (All-append (λ r. HoldsRow r (insert point col (pos 0))) free rows (free_rows_hold g columns col free point x (pos 0) l n hf parts.2) (shadow_holds g columns col false lowers uppers rows tails point x (pos 0) l n s h))
         | inr t ↦ inr (Any-weaker (λ t. (value_at t.lower (insert point col x) +ℤ extra false (coef_at t.lower col)) ≤ℤ t.last) (HasSplinter all col point) (λ t v. (x, a.1, omega (arith, linear))) tails t)
       ]),
   (λ a. elim a [
     | inl h ↦
         let parts = All-parts (λ r. HoldsRow r (insert point col (pos 0))) free rows h in
         let m = dark_meets g columns col lowers uppers point hl hu l n (s.dark point (pos 0) n parts.1) in
-        (m.0, (split m.0).1 (m.1, m.2, free_holds g columns col free point (pos 0) m.0 l n hf parts.0))
+        (m.0, (split m.0).1 (m.1, m.2, free_rows_hold g columns col free point (pos 0) m.0 l n hf parts.0))
     | inr t ↦ let e = Any-element (HasSplinter all col point) tails t in let p = e.2 in (p.0, p.1)
   ]),
 )
@@ -158,7 +154,7 @@ neighbours_exact g columns col lowers uppers r free rows tails all point l n hl 
           | inl m ↦
               let both = (twice g columns col lowers uppers point (x -ℤ pos 1) hl hs l n).1 m in
               elim (s.covered point (x -ℤ pos 1) n both.0 both.1) [
-                | inl h ↦ inl (All-append (λ q. HoldsRow q (insert point col (pos 0))) free rows (free_holds g columns col free point x (pos 0) l n hf parts.3) (shadow_holds g columns col true lowers (map (shifted_row col) uppers) rows tails point (x -ℤ pos 1) (pos 0) l n s h))
+                | inl h ↦ inl (All-append (λ q. HoldsRow q (insert point col (pos 0))) free rows (free_rows_hold g columns col free point x (pos 0) l n hf parts.3) (shadow_holds g columns col true lowers (map (shifted_row col) uppers) rows tails point (x -ℤ pos 1) (pos 0) l n s h))
                 | inr t ↦ inr (Any-with (λ t. (value_at t.lower (insert point col (x -ℤ pos 1)) +ℤ extra true (coef_at t.lower col)) ≤ℤ t.last) (λ t. IsLower g columns col t.lower) (HasSplinter all col point)
                     (λ t v h. (x, a.1, moved (value_at t.lower (insert point col x)) (value_at t.lower (insert point col (x -ℤ pos 1))) (coef_at t.lower col) t.last (value_on t.lower x h) v)) tails tail_lowers t)
               ]
@@ -180,14 +176,14 @@ neighbours_exact g columns col lowers uppers r free rows tails all point l n hl 
     back (inl h) =
         let parts = All-parts (λ q. HoldsRow q (insert point col (pos 0))) free rows h in
         let m = dark_meets g columns col lowers (map (shifted_row col) uppers) point hl hs l n (s.dark point (pos 0) n parts.1) in
-        let y = neighbours_give (lower_bounds col point lowers) (upper_bounds col point uppers) r.k (coef_at r col) (rest_at r col point) m.0 (divisor_positive r.kind r.k hr.proper.formed.divisor) hr.depends (positive_lowers g columns col lowers point hl) (positive_uppers g columns col uppers point hu)
+        let y = neighbours_give (lower_bounds col point lowers) (upper_bounds col point uppers) r.k (coef_at r col) (rest_at r col point) m.0 (HasDivisor-positive r.kind r.k hr.proper.formed.divisor) hr.depends (positive_lowers g columns col lowers point hl) (positive_uppers g columns col uppers point hu)
         ((twice g columns col lowers uppers point m.0 hl hs l n).0 (m.1, m.2)) in (
           y.0,
           (split y.0).1 (
             (lowers_meet g columns col lowers point y.0 hl l n).1 (y.1).above,
             (uppers_meet g columns col uppers point y.0 hu l n).1 (y.1).below,
             (apart_holds g columns col r point y.0 hr l n).1 (y.1).apart,
-            free_holds g columns col free point (pos 0) y.0 l n hf parts.0,
+            free_rows_hold g columns col free point (pos 0) y.0 l n hf parts.0,
           ),
         )
 
@@ -201,7 +197,7 @@ open_meets g columns col [] uppers [] point l n hl hu ha o f =
     (far.0, All-nil P, (uppers_meet g columns col uppers point far.0 hu l n).1 far.1, All-nil P)
 open_meets g columns col [] uppers (r ∷ []) point l n hl hu ha o f =
     let h = All-head (IsApart g columns col) r [] ha in
-    let y = neighbour_open_below (upper_bounds col point uppers) r.k (coef_at r col) (rest_at r col point) (divisor_positive r.kind r.k h.proper.formed.divisor) h.depends (positive_uppers g columns col uppers point hu) in
+    let y = neighbour_open_below (upper_bounds col point uppers) r.k (coef_at r col) (rest_at r col point) (HasDivisor-positive r.kind r.k h.proper.formed.divisor) h.depends (positive_uppers g columns col uppers point hu) in
     let P : Row → Type 0 = λ q. HoldsRow q (insert point col y.0) in
     (y.0, All-nil P, (uppers_meet g columns col uppers point y.0 hu l n).1 (y.1).below, All-cons P r [] ((apart_holds g columns col r point y.0 h l n).1 (y.1).apart) (All-nil P))
 open_meets g columns col (b ∷ lowers) [] [] point l n hl hu ha o f =
@@ -210,7 +206,7 @@ open_meets g columns col (b ∷ lowers) [] [] point l n hl hu ha o f =
     (far.0, (lowers_meet g columns col (b ∷ lowers) point far.0 hl l n).1 far.1, All-nil P, All-nil P)
 open_meets g columns col (b ∷ lowers) [] (r ∷ []) point l n hl hu ha o f =
     let h = All-head (IsApart g columns col) r [] ha in
-    let y = neighbour_open_above (lower_bounds col point (b ∷ lowers)) r.k (coef_at r col) (rest_at r col point) (divisor_positive r.kind r.k h.proper.formed.divisor) h.depends (positive_lowers g columns col (b ∷ lowers) point hl) in
+    let y = neighbour_open_above (lower_bounds col point (b ∷ lowers)) r.k (coef_at r col) (rest_at r col point) (HasDivisor-positive r.kind r.k h.proper.formed.divisor) h.depends (positive_lowers g columns col (b ∷ lowers) point hl) in
     let P : Row → Type 0 = λ q. HoldsRow q (insert point col y.0) in
     (y.0, (lowers_meet g columns col (b ∷ lowers) point y.0 hl l n).1 (y.1).above, All-nil P, All-cons P r [] ((apart_holds g columns col r point y.0 h l n).1 (y.1).apart) (All-nil P))
 open_meets g columns col (b ∷ lowers) (u ∷ uppers) apart point l n hl hu ha (inl e) f = cc
@@ -222,8 +218,8 @@ pub open_exact : (g : Gauge) (columns col : ℕ) (lowers uppers apart free all :
     → ((x : ℤ) → HoldAt all col point x ↔ (HoldAt lowers col point x × HoldAt uppers col point x × HoldAt apart col point x × HoldAt free col point x))
     → ((x : ℤ) × HoldAt all col point x) ↔ HoldAt free col point (pos 0)
 open_exact g columns col lowers uppers apart free all point l n hl hu ha hf o f split = (
-  (λ a. free_holds g columns col free point a.0 (pos 0) l n hf ((split a.0).0 a.1).3),
-  (λ h. let m = open_meets g columns col lowers uppers apart point l n hl hu ha o f in (m.0, (split m.0).1 (m.1, m.2, m.3, free_holds g columns col free point (pos 0) m.0 l n hf h))),
+  (λ a. free_rows_hold g columns col free point a.0 (pos 0) l n hf ((split a.0).0 a.1).3),
+  (λ h. let m = open_meets g columns col lowers uppers apart point l n hl hu ha o f in (m.0, (split m.0).1 (m.1, m.2, m.3, free_rows_hold g columns col free point (pos 0) m.0 l n hf h))),
 )
 
 -- ---- the branch as a whole

@@ -3,19 +3,19 @@ use Rattle.std.proofs.Common.{◌≡◌, ◌∙◌, ap, arith, ℕ, ℤ, pos, �
 use Rattle.std.proofs.lemmas.List.Elements.{All-nil, All-push}
 use Rattle.isl_math.specs.Divide.{Divides, IsGcdOf, floor_div}
 use Rattle.isl_math.proofs.Ring.{expand, linear}
-use Rattle.isl_math.proofs.OrderLaws.{*ℤ-≤ℤ, ≤ℤ-*ℤ, positive-*ℤ}
-use Rattle.isl_math.proofs.DivideLaws.{Divides-*ℤ, Divides-same, Divides_self}
+use Rattle.isl_math.proofs.OrderLaws.{*ℤ-≤ℤ, ≤ℤ-*ℤ, positive-*ℤ, positive_factors}
+use Rattle.isl_math.proofs.DivideLaws.{Divides-*ℤ, Divides-same, Divides_self, quotient-from_Divides}
 use Rattle.isl_piece.specs.declared.constraint.Row.{Row}
 use Rattle.isl_piece.specs.Row.{coef_at}
 use Rattle.isl_omega.specs.Congruence.{period, product_of_periods}
 use Rattle.isl_elim.specs.Residue.{IsCommonMultiple, IsPeriod}
-use Rattle.isl_omega.proofs.PeriodLemmas.{exact_quotient, positive_factors, period_short, period_multiple}
+use Rattle.isl_omega.proofs.PeriodLemmas.{period_short, period_multiple}
 
 -- ---- a common period
 pub common_multiple_is : (a b g rest m : ℤ) → pos 0 <ℤ a → pos 0 <ℤ b → IsGcdOf a b g → rest ≡ floor_div b g → m ≡ a *ℤ rest → IsCommonMultiple a b m
 common_multiple_is a b g rest m p q h e f =
     let s = positive_factors g h.second.quotient b q h.second.is h.not_negative in
-    let exact = exact_quotient g b s.0 h.second in
+    let exact = quotient-from_Divides g b s.0 h.second in
     by g h.first.quotient h.second.quotient h.first.is h.second.is s.0 s.1 (f ∙ ap (λ z. a *ℤ z) (e ∙ exact))
   where
     by : (g n w : ℤ) → a ≡ g *ℤ n → b ≡ g *ℤ w → pos 0 <ℤ g → pos 0 <ℤ w → m ≡ a *ℤ w → IsCommonMultiple a b m

@@ -1,11 +1,11 @@
 -- One column out of a system: what was pushed is its projection.
-use Rattle.std.proofs.Common.{◌≡◌, ◌≢◌, ◌↔◌, Option, Some, None, ◌∙◌, ap, arith, ℕ, ◌-◌, ◌<◌, ◌++◌, ℤ, pos, ◌≤ℤ◌, ◌<ℤ◌, List, [], ◌∷◌, length, get_or, take, ◌+◌, MatchOption}
+use Rattle.std.proofs.Common.{◌≡◌, ◌≢◌, ◌↔◌, Option, Some, None, ◌∙◌, ap, arith, ℕ, zero, suc, ◌-◌, ◌<◌, ◌++◌, ℤ, pos, ◌≤ℤ◌, ◌<ℤ◌, List, [], ◌∷◌, length, get_or, take, ◌+◌, MatchOption}
 use Rattle.std.specs.List.{All, insert}
 use Rattle.std.proofs.lemmas.List.Elements.{All-head, All-tail, All-more}
 use Rattle.isl_math.proofs.Ring.{linear}
-use Rattle.isl_math.proofs.OrderLaws.{positive-*ℤ}
+use Rattle.isl_math.proofs.OrderLaws.{positive-*ℤ, product_le}
+use Rattle.isl_math.proofs.ListLaws.{Any-first, Any-later}
 use Rattle.isl_meter.specs.Gauge.{Gauge}
-use Rattle.isl_piece.specs.declared.constraint.RowKind.{RowKind}
 use Rattle.isl_piece.specs.declared.constraint.RowKind.TheVariants as kind
 use Rattle.isl_piece.specs.declared.constraint.Row.{Row}
 use Rattle.isl_piece.specs.declared.conjunction.System.{System}
@@ -13,18 +13,18 @@ use Rattle.isl_piece.specs.Row.{HoldsRow, value_at, coef_at}
 use Rattle.isl_piece.specs.System.{IsSystemWithin}
 use Rattle.isl_elim.specs.Adds.{Adds}
 use Rattle.isl_omega.specs.Congruence.{product_of_divisors, period, product_of_periods}
-use Rattle.isl_elim.specs.Elimination.{HoldsAtSome, IsProjection, HasNoEquality, IsEqualityAt}
-use Rattle.isl_omega.specs.Equality.{IsSolvedBy}
+use Rattle.isl_elim.specs.Elimination.{HoldsAtSome, IsProjection, IsEqualityAt}
+use Rattle.isl_omega.specs.Equality.{HasEquality, IsSolvedBy}
 use Rattle.isl_elim.specs.Residue.{HasNumber, sides_units}
 use Rattle.isl_omega.specs.Sides.{IsProper, IsLower, IsUpper, IsApart, AreSidesOf, AreSided, on_side}
 use Rattle.isl_omega.specs.Step.{IsStepOf}
-use Rattle.isl_elim.specs.Units.{HasEquality, product_of_moduli, elimination_units}
+use Rattle.isl_elim.specs.Units.{product_of_moduli, elimination_units}
 use Rattle.isl_omega.specs.declared.sides.Side.TheVariants.{Lower, Upper}
 use Rattle.isl_omega.specs.declared.sides.Sides.{Sides}
 use Rattle.isl_elim.proofs.AddsLemmas.{adds_same}
-use Rattle.isl_omega.proofs.PeriodLemmas.{period_short, product_le}
-use Rattle.isl_omega.proofs.ReduceLemmas.{divisor_positive}
-use Rattle.isl_omega.proofs.SideLemmas.{sides_hold, picked}
+use Rattle.isl_omega.proofs.PeriodLemmas.{period_short}
+use Rattle.isl_piece.proofs.RowLemmas.{HasDivisor-positive}
+use Rattle.isl_omega.proofs.SideLemmas.{LackColumn, lacking_has_none, sides_hold, picked}
 use Rattle.isl_elim.proofs.UnitLemmas.{AreProducts, units_not_negative, same_lessened, moduli_products, step_cost}
 
 -- ---- no congruence: the step leaves the sides as they are
@@ -32,7 +32,7 @@ own_periods : (g : Gauge) (columns col : ℕ) (rows : List Row) → All (IsApart
 own_periods g columns col [] h = (omega (arith, linear), omega (arith, linear))
 own_periods g columns col (r ∷ rows) h =
     let rest = own_periods g columns col rows (All-tail (IsApart g columns col) r rows h) in
-    let k = divisor_positive r.kind r.k (All-head (IsApart g columns col) r rows h).proper.formed.divisor in
+    let k = HasDivisor-positive r.kind r.k (All-head (IsApart g columns col) r rows h).proper.formed.divisor in
     let p = period_short (coef_at r col) r.k k in
     let a = rest.0 in (
       positive-*ℤ (period col r) (product_of_periods col rows) p.positive a,
@@ -84,13 +84,27 @@ most_not_negative g system col w =
 abbrev NotAt : ℕ → List Row → ℕ → Type 0
 NotAt col rows at = (d : Row) → (get_or rows at d).kind ≡ kind.Zero → coef_at (get_or rows at d) col ≡ pos 0
 
-pub found_next : (col : ℕ) (rows : List Row) (i : ℕ) (found better : Option ℕ) → i < length rows → MatchOption found (HasNoEquality col (take i rows)) (IsEqualityAt col rows) → MatchOption better ((found ≡ None) × NotAt col rows i) (IsEqualityAt col rows)
-    → MatchOption better (HasNoEquality col (take (i + 1) rows)) (IsEqualityAt col rows)
+pub found_next : (col : ℕ) (rows : List Row) (i : ℕ) (found better : Option ℕ) → i < length rows → MatchOption found (LackColumn col (take i rows)) (IsEqualityAt col rows) → MatchOption better ((found ≡ None) × NotAt col rows i) (IsEqualityAt col rows)
+    → MatchOption better (LackColumn col (take (i + 1) rows)) (IsEqualityAt col rows)
 found_next col rows i found (Some at) l f b = b
 found_next col rows i None None l f b =
     let d : Row = record { kind = kind.Zero; coefs = []; constant = pos 0; k = pos 1 } in
     All-more (λ (r : Row). r.kind ≡ kind.Zero → coef_at r col ≡ pos 0) rows i d l f (b.1 d)
 found_next col rows i (Some at) None l f b = let e = b.0 in cc
+
+pub found_none : (col : ℕ) (rows : List Row) (found : Option ℕ) → MatchOption found (LackColumn col rows) (IsEqualityAt col rows)
+    → MatchOption found (¬ HasEquality col rows) (IsEqualityAt col rows)
+found_none col rows None lack = lacking_has_none col rows lack
+found_none col rows (Some at) is = is
+
+abbrev IsEqualityOn : ℕ → Row → Type 0
+IsEqualityOn col r = (r.kind ≡ kind.Zero) × (coef_at r col ≢ pos 0)
+
+pub equality_from : (col : ℕ) (rows : List Row) (at : ℕ) → IsEqualityAt col rows at → HasEquality col rows
+equality_from col [] at is = absurd (let inside = is.0 in omega arith)
+equality_from col (r ∷ rows) zero is = Any-first (IsEqualityOn col) r rows (is.1 r)
+equality_from col (r ∷ rows) (suc at) is =
+    Any-later (IsEqualityOn col) r rows (equality_from col rows at ((let inside = is.0 in omega arith), is.1))
 
 pub solved_projects : (system : System) (col at : ℕ) (fixed : Row) (point : List ℤ) → fixed.kind ≡ kind.Zero → at < length system.rows → fixed ≡ get_or system.rows at fixed → IsSolvedBy system.rows fixed col point ↔ HoldsAtSome system col point
 solved_projects system col at fixed point e l f = (
@@ -106,10 +120,3 @@ pub adds_project : (g : Gauge) (system : System) (col : ℕ) (before after : Lis
 adds_project g system col before after e a =
     let all : after ≡ a.added = a.pushed ∙ ap (λ (xs : List System). xs ++ a.added) e in
     rw all (record { columns = a.widths; points = a.points }, a.within)
-
--- an equality that has the column, and none
-pub equality_clash : (col : ℕ) (rows : List Row) → HasNoEquality col rows → HasEquality col rows → ⊥
-equality_clash col rows n h = by (h.1).kind (coef_at h.1 col) (rw (h.3) at (n h.0 h.1 h.2)) h.4
-  where
-    by : (k : RowKind) (c : ℤ) → (k ≡ kind.Zero → c ≡ pos 0) → (k ≡ kind.Zero) × (c ≢ pos 0) → ⊥
-    by k c f p = p.1 (f p.0)

@@ -13,27 +13,28 @@ use Rattle.isl_piece.specs.Normal.{normal_system}
 use Rattle.isl_piece.specs.Row.{HoldsRow, IsWellFormed, IsRowWithin, value_at, coef_at}
 use Rattle.isl_piece.specs.System.{HoldsSystem, IsSystemWithin}
 use Rattle.isl_omega.specs.Column.{IsFree, HoldAt, dropped, IsSystemOf}
-use Rattle.isl_elim.specs.Elimination.{HoldsAtSome, HasNoEquality}
-use Rattle.isl_elim.specs.Exact.{IsExactRow, IsExactColumn, real_row, real_rows, rows_left, pairs_on, AreAdded}
-use Rattle.isl_omega.specs.Shadow.{IsReal, lower_at, upper_at, IsRealRow}
+use Rattle.isl_elim.specs.Elimination.{HoldsAtSome}
+use Rattle.isl_elim.specs.Exact.{IsExactRow, IsExactColumn, real_rows, rows_left, pairs_on, AreAdded}
+use Rattle.isl_omega.specs.Shadow.{IsReal, lower_at, upper_at, IsRealRow, real_row}
+use Rattle.isl_omega.specs.Equality.{HasEquality}
 use Rattle.isl_omega.specs.Sides.{IsProper, IsLower, IsUpper, IsFreeRow, AreSidesOf, AreSided, on_side, side_of, is_same}
 use Rattle.isl_elim.specs.Units.{elimination_units}
 use Rattle.isl_omega.specs.declared.sides.Side.{Side}
 use Rattle.isl_omega.specs.declared.sides.Side.TheVariants.{Lower, Upper, Divides, Apart, Free}
 use Rattle.isl_omega.specs.declared.sides.Sides.{Sides}
 use Rattle.isl_elim.proofs.AddsLemmas.{system_of_same}
-use Rattle.isl_elim.proofs.BranchLemmas.{dark_meets, free_holds}
+use Rattle.isl_elim.proofs.BranchLemmas.{dark_meets}
 use Rattle.isl_omega.proofs.ColumnLemmas.{rows_formed, settled_is}
 use Rattle.isl_elim.proofs.EliminateLemmas.{system_proper}
 use Rattle.isl_omega.proofs.ImageLemmas.{free_of_zero}
 use Rattle.isl_math.proofs.ListLaws.{All-parts, All-unmapped}
-use Rattle.isl_omega.proofs.PairLemmas.{real_row_of, holds_at_least}
+use Rattle.isl_omega.proofs.PairLemmas.{real_row_of, together_is, holds_at_least}
 use Rattle.isl_omega.proofs.Pairs.{real_divided}
 use Rattle.isl_omega.proofs.ShadowLemmas.{real_pair, exact_pair}
 use Rattle.isl_omega.proofs.ShadowRows.{lower_meets, upper_meets}
-use Rattle.isl_omega.proofs.SideLemmas.{same_from, means_of, sides_are, sides_hold}
+use Rattle.isl_omega.proofs.SideLemmas.{free_rows_hold, same_from, means_of, sides_are, sides_hold}
 use Rattle.isl_elim.proofs.UnitLemmas.{pairs_cost}
-use Rattle.isl_omega.proofs.WorkLemmas.{rows_within_kept}
+use Rattle.isl_piece.proofs.RowMagnitudes.{rows_within_kept}
 
 -- ---- one pair
 real_is : (g : Gauge) (columns col : ℕ) (lower upper : Row) → IsLower g columns col lower → IsUpper g columns col upper → col < columns → IsRealRow columns col lower upper (pos 1) (real_row col lower upper)
@@ -49,7 +50,9 @@ real_holds g columns col lower upper point x hl hu l n =
     let row = real_row col lower upper in
     let r = real_is g columns col lower upper hl hu l in
     let holds = holds_at_least row.kind row.k (value_at row (insert point col x)) r.kind in
-    let pair = real_divided (lower_at col point lower) (upper_at col point upper) (pos 1) (value_at row (insert point col x)) r.positive (r.value point x n) in
+    let whole = together_is g columns col lower upper point x hl hu l n in
+    let pair = real_divided (lower_at col point lower) (upper_at col point upper) (pos 1) (value_at row (insert point col x)) r.positive
+    (whole ∙ r.value (insert point col x)) in
     ((λ h. pair.1 (holds.0 h)), (λ h. holds.1 (pair.0 h)))
 
 -- ---- all pairs
@@ -148,7 +151,7 @@ exact_holds g columns col rows point s e l n = (forth, back)
             uppers = m.2;
             divides = none_on Q Divides col rows none.0;
             apart = none_on Q Apart col rows none.1;
-            free = free_holds g columns col free point (pos 0) m.0 l n s.free parts.0;
+            free = free_rows_hold g columns col free point (pos 0) m.0 l n s.free parts.0;
           }),
         )
 
@@ -156,7 +159,7 @@ exact_holds g columns col rows point s e l n = (forth, back)
     back a =
         let x = a.0 in
         let h = (sides_hold rows col (sides_of col rows) point x (are_sides col rows)).0 a.1 in
-        All-append P free (real_rows col lowers uppers) (free_holds g columns col free point x (pos 0) l n s.free h.free) (all_real P col lowers uppers (λ k d i. λ j b q.
+        All-append P free (real_rows col lowers uppers) (free_rows_hold g columns col free point x (pos 0) l n s.free h.free) (all_real P col lowers uppers (λ k d i. λ j b q.
         let low = get_or lowers k d in
         let up = get_or uppers j b in
         let hl = s.lowers k d i in
@@ -165,13 +168,13 @@ exact_holds g columns col rows point s e l n = (forth, back)
         ((lower_meets g columns col low point x hl l n).0 (h.lowers k d i)) ((upper_meets g columns col up point x hu l n).0 (h.uppers j b q)))))
 
 -- ---- the system without the column
-pub exact_sided : (g : Gauge) (system : System) (col : ℕ) → IsSystemWithin g system → HasNoEquality col system.rows → AreSided g system.columns col (sides_of col system.rows)
+pub exact_sided : (g : Gauge) (system : System) (col : ℕ) → IsSystemWithin g system → ¬ HasEquality col system.rows → AreSided g system.columns col (sides_of col system.rows)
 exact_sided g system col w none = sides_are g system.columns col system.rows (sides_of col system.rows) (are_sides col system.rows) (system_proper g system w) none
 
 abbrev short_system : ℕ → List Row → System
 short_system columns rows = record { columns = columns; rows = rows }
 
-pub exact_is : (g k : Gauge) (system : System) (col : ℕ) (short : List Row) (o : Option System) → IsSystemWithin g system → HasNoEquality col system.rows → IsExactColumn col system.rows → col < system.columns → AreAdded g col (rows_left col system.rows) [] short
+pub exact_is : (g k : Gauge) (system : System) (col : ℕ) (short : List Row) (o : Option System) → IsSystemWithin g system → ¬ HasEquality col system.rows → IsExactColumn col system.rows → col < system.columns → AreAdded g col (rows_left col system.rows) [] short
     → o ≡ normal_system (short_system (system.columns - 1) short)
     → ((xs : List ℤ) → MatchOption o (¬ HoldsSystem (short_system (system.columns - 1) short) xs) (λ s. HoldsSystem s xs ↔ HoldsSystem (short_system (system.columns - 1) short) xs))
     → IfSome o (IsSystemWithin k) → IsSystemOf k (system.columns - 1) (HoldsAtSome system col) o
@@ -182,12 +185,12 @@ exact_is g k system col short o w none e l a normal points within =
     system_of_same k (system.columns - 1) (λ point. HoldAt left col point (pos 0)) (HoldsAtSome system col) o (λ point n. exact_holds g system.columns col system.rows point s e l n)
     (settled_is k system.columns col left short o l f.0 f.1 a.pushed normal points within)
 
-pub exact_short : (g : Gauge) (system : System) (col : ℕ) (short : List Row) → IsSystemWithin g system → HasNoEquality col system.rows → col < system.columns → AreAdded g col (rows_left col system.rows) [] short → IsSystemWithin g (record { columns = system.columns - 1; rows = short })
+pub exact_short : (g : Gauge) (system : System) (col : ℕ) (short : List Row) → IsSystemWithin g system → ¬ HasEquality col system.rows → col < system.columns → AreAdded g col (rows_left col system.rows) [] short → IsSystemWithin g (record { columns = system.columns - 1; rows = short })
 exact_short g system col short w none l a =
     let f = left_formed g system.columns col system.rows l (exact_sided g system col w none) in
     rw a.pushed (record { rows = rows_formed system.columns col (rows_left col system.rows) l f.0; within = a.within })
 
-pub exact_cost : (g : Gauge) (system : System) (col : ℕ) → IsSystemWithin g system → HasNoEquality col system.rows → pos (pairs_on col system.rows) ≤ℤ elimination_units system col
+pub exact_cost : (g : Gauge) (system : System) (col : ℕ) → IsSystemWithin g system → ¬ HasEquality col system.rows → pos (pairs_on col system.rows) ≤ℤ elimination_units system col
 exact_cost g system col w none =
     let s = exact_sided g system col w none in
     pairs_cost g system.columns col system.rows (on_side Lower col system.rows) (on_side Upper col system.rows) w.rows s.lowers s.uppers

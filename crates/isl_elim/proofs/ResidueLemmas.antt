@@ -27,9 +27,8 @@ use Rattle.isl_omega.specs.declared.sides.Sides.{Sides}
 use Rattle.isl_elim.specs.Adds.{Adds}
 use Rattle.isl_elim.proofs.AddsLemmas.{adds_none, adds_more, adds_same}
 use Rattle.isl_omega.proofs.MoveLemmas.{substituted_coefficient}
-use Rattle.isl_omega.proofs.ReduceLemmas.{divisor_positive}
-use Rattle.isl_omega.proofs.SideLemmas.{unless_zero}
-use Rattle.isl_omega.proofs.WorkLemmas.{proper_kept}
+use Rattle.isl_piece.proofs.RowLemmas.{HasDivisor-positive}
+use Rattle.isl_omega.proofs.SideLemmas.{unless_zero, proper_kept}
 use Rattle.isl_omega.proofs.StepLemmas.{AreOne, IsStep, step_is, step_narrowed, multiplier_is, scaled_apart}
 
 -- ---- the row of a residue
@@ -129,7 +128,7 @@ moved_free : (g : Gauge) (columns col : ℕ) (scale p : ℤ) (offsets r : Row) �
 moved_free g columns col scale p offsets r one at w l h d =
     let c : coef_at (substituted scale offsets col r) col ≡ p *ℤ coef_at r col = substituted_coefficient columns col scale offsets r h.proper.formed w l ∙ ap (λ z. z *ℤ coef_at r col) (multiplier_is col scale p offsets at) in
     let m : (substituted scale offsets col r).k ≡ scale *ℤ r.k = scaled_apart r.kind scale r.k h.kind in
-    by r.kind r.k (substituted scale offsets col r).k (coef_at r col) (coef_at (substituted scale offsets col r) col) h.kind (divisor_positive r.kind r.k h.proper.formed.divisor) (m ∙ ap (λ z. z *ℤ r.k) one) c d
+    by r.kind r.k (substituted scale offsets col r).k (coef_at r col) (coef_at (substituted scale offsets col r) col) h.kind (HasDivisor-positive r.kind r.k h.proper.formed.divisor) (m ∙ ap (λ z. z *ℤ r.k) one) c d
   where
     by : (asks : RowKind) (k j c e : ℤ) → asks ≡ kind.NotDivides → pos 0 <ℤ k → j ≡ pos 1 *ℤ k → e ≡ p *ℤ c → divide.Divides k (c *ℤ p) → is_same Apart (side_of_kind asks j e) ≡ false
     by asks k j c e is q f h d =

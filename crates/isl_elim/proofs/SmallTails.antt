@@ -14,8 +14,9 @@ use Rattle.isl_omega.specs.Sides.{IsLower, IsUpper, AreSided}
 use Rattle.isl_omega.specs.declared.shadow.Tail.{Tail}
 use Rattle.isl_omega.specs.declared.sides.Sides.{Sides}
 use Rattle.isl_math.proofs.ListLaws.{All-zipped}
-use Rattle.isl_omega.proofs.Magnitudes.{up_to-difference, up_to-neg}
-use Rattle.isl_omega.proofs.SmallLemmas.{at_most, coef_up_to, rows_more}
+use Rattle.isl_math.proofs.MagnitudeLaws.{up_to-difference, up_to-neg}
+use Rattle.isl_piece.proofs.RowMagnitudes.{rows_more}
+use Rattle.isl_omega.proofs.SmallLemmas.{at_most, coef_up_to}
 use Rattle.isl_elim.proofs.TailLemmas.{lowered_by}
 use Rattle.isl_omega.proofs.SmallPairs.{splinters_few, factors_up_to}
 

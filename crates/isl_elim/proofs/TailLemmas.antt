@@ -21,7 +21,8 @@ use Rattle.isl_elim.specs.declared.branch.Branch.{Branch}
 use Rattle.isl_omega.specs.declared.shadow.Tail.{Tail}
 use Rattle.isl_elim.proofs.AddsLemmas.{adds_none, adds_one, adds_more, adds_same, system_of_same}
 use Rattle.isl_math.proofs.ListLaws.{Any-none, Any-parts, Any-left, Any-one}
-use Rattle.isl_omega.proofs.WorkLemmas.{within_kept, proper_kept}
+use Rattle.isl_meter.proofs.LimitLemmas.{within_kept}
+use Rattle.isl_omega.proofs.SideLemmas.{proper_kept}
 
 -- ---- one system, if there is one
 pub adds_option : (g : Gauge) (columns : ℕ) (P : List ℤ → Type 0) (left : Option System) (old new : List System) → IsSystemOf g columns P left → new ≡ old ++ option_to_list left → Adds g columns P old new

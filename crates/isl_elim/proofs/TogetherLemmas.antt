@@ -14,7 +14,12 @@ use Rattle.isl_elim.specs.Adds.{Adds}
 use Rattle.isl_elim.specs.Elimination.{HoldsAtSome, is_among, without_from, without, IsProjectionAlong}
 use Rattle.isl_elim.specs.Together.{AreWithout, without_later, AreWithoutSome, IsNext}
 use Rattle.isl_elim.proofs.AddsLemmas.{adds_kept, adds_more, adds_none, adds_same, system_within_kept}
-use Rattle.isl_math.proofs.ListLaws.{Any-parts, Any-left, Any-one, Any-element, Any-contains, Any-first}
+use Rattle.isl_math.proofs.ListLaws.{Any-parts, Any-left, Any-one, Any-element, Any-contains, Any-first, Any-none}
+
+-- so many zeros
+zeros : (k : ℕ) → (whole : List ℤ) × (length whole ≡ k)
+zeros zero = ([], refl)
+zeros (suc k) = let z = zeros k in (pos 0 ∷ z.0, ap suc z.1)
 
 -- ---- a list with one element put in and taken out
 remove-insert : (xs : List ℤ) (i : ℕ) (x : ℤ) → i ≤ length xs → remove (insert xs i x) i ≡ xs
@@ -54,9 +59,6 @@ later_long i (suc c) cols (x ∷ xs) h = let r = later_long (suc i) c cols xs (o
 abbrev HoldsAnyAtSome : List System → ℕ → List ℤ → Type 0
 HoldsAnyAtSome systems col point = Any (λ s. HoldsAtSome s col point) systems
 
-no_element : {X : Type 0} (P : X → Type 0) → Any P [] → ⊥
-no_element P a = let h = a.2 in omega arith
-
 -- what was pushed for the first systems
 pub record ArePushed (g : Gauge) (col : ℕ) (systems : List System) (left : List System) : Type 0 where
   pub adds : (columns : ℕ) → All (λ s. s.columns ≡ columns) systems → Adds g (columns - 1) (HoldsAnyAtSome systems col) [] left
@@ -64,7 +66,7 @@ pub record ArePushed (g : Gauge) (col : ℕ) (systems : List System) (left : Lis
 
 pub pushed_none : (g : Gauge) (col : ℕ) → ArePushed g col [] []
 pushed_none g col = record {
-  adds = λ columns h. adds_none g (columns - 1) (HoldsAnyAtSome [] col) [] [] refl (λ point n a. no_element (λ s. HoldsAtSome s col point) a);
+  adds = λ columns h. adds_none g (columns - 1) (HoldsAnyAtSome [] col) [] [] refl (λ point n a. Any-none (λ s. HoldsAtSome s col point) a);
   within = All-nil (IsSystemWithin g);
 }
 
@@ -153,10 +155,6 @@ next_among g cols col before after among w = λ old l s.
         let a = at_suc old n s zs.0 zs.1 in
         let b = length-insert point col x (omega arith) in
         omega arith
-      where
-        zeros : (k : ℕ) → (whole : List ℤ) × (length whole ≡ k)
-        zeros zero = ([], refl)
-        zeros (suc k) = let z = zeros k in (pos 0 ∷ z.0, ap suc z.1)
 
 pub next_other : (g : Gauge) (cols : List ℕ) (col : ℕ) (before : List System) → is_among cols col ≡ false → IsNext g cols col before before
 next_other g cols col before other = λ old l s. record {
@@ -207,10 +205,6 @@ some_wide g old cols from col new f l s = λ k d i.
     let a = s.lengths zs.0 zs.1 in
     let e = s.widths k d i in
     omega arith
-  where
-    zeros : (k : ℕ) → (whole : List ℤ) × (length whole ≡ k)
-    zeros zero = ([], refl)
-    zeros (suc k) = let z = zeros k in (pos 0 ∷ z.0, ap suc z.1)
 
 pub some_next : (g h : Gauge) (old : System) (cols : List ℕ) (from col to : ℕ) (before after : List System) → h.bits ≡ g.bits → IsNext h cols col before after → col < old.columns → from ≡ col + 1 → to ≡ col → AreWithoutSome g old cols from before → AreWithoutSome g old cols to after
 some_next g h old cols from col to before after e n l f t s =
@@ -285,10 +279,6 @@ along_is g old cols new d h s = (
   s.within,
 )
   where
-    zeros : (k : ℕ) → (whole : List ℤ) × (length whole ≡ k)
-    zeros zero = ([], refl)
-    zeros (suc k) = let z = zeros k in (pos 0 ∷ z.0, ap suc z.1)
-
     count : s.columns ≡ old.columns - length cols
     count =
         let zs = zeros old.columns in

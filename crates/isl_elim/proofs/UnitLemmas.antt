@@ -12,7 +12,7 @@ use Rattle.std.proofs.lemmas.List.Elements.{All-nil, All-cons, All-head, All-tai
 use Rattle.isl_math.specs.Divide as divide
 use Rattle.isl_math.specs.Divide.{floor_div, floor_mod}
 use Rattle.isl_math.proofs.Ring.{expand, linear}
-use Rattle.isl_math.proofs.OrderLaws.{*ℤ-≤ℤ, ≤ℤ-*ℤ, positive-*ℤ, not_negative-*ℤ}
+use Rattle.isl_math.proofs.OrderLaws.{*ℤ-≤ℤ, ≤ℤ-*ℤ, positive-*ℤ, not_negative-*ℤ, product_le, negative-*ℤ}
 use Rattle.isl_math.proofs.DivideLaws.{mod-from_Divides, Divides-zero}
 use Rattle.isl_meter.specs.Gauge.{Gauge}
 use Rattle.isl_piece.specs.declared.constraint.RowKind.{RowKind}
@@ -32,8 +32,8 @@ use Rattle.isl_omega.specs.declared.sides.Side.{Side}
 use Rattle.isl_omega.specs.declared.sides.Side.TheVariants.{Lower, Upper, Divides, Apart, Free}
 use Rattle.isl_omega.specs.declared.sides.Sides.{Sides}
 use Rattle.isl_elim.proofs.BranchLemmas.{splinter_total_not_negative}
-use Rattle.isl_omega.proofs.PeriodLemmas.{product_le, period_short, periods_positive}
-use Rattle.isl_omega.proofs.ReduceLemmas.{divisor_positive}
+use Rattle.isl_omega.proofs.PeriodLemmas.{period_short, periods_positive}
+use Rattle.isl_piece.proofs.RowLemmas.{HasDivisor-positive}
 use Rattle.isl_omega.proofs.SideLemmas.{side_means, unless_zero}
 use Rattle.isl_omega.proofs.Splinters.{splinters_counted, splinters_not_negative, splinters_rise, neighbour_splinters}
 
@@ -78,11 +78,8 @@ narrowed_greatest g h columns col k (r ∷ old) [] p u z = absurd z
 narrowed_greatest g h columns col k (r ∷ old) (s ∷ new) p u z =
     let rest = narrowed_greatest g h columns col k old new p (All-tail (IsUpper g columns col) r old u) z.1 in
     let factor = (All-head (IsUpper g columns col) r old u).factor in
-    by k (coef_at r col) (coef_at s col) (greatest_factor col old) (greatest_factor col new) p factor (below k (coef_at r col) p factor) z.0 rest
+    by k (coef_at r col) (coef_at s col) (greatest_factor col old) (greatest_factor col new) p factor (negative-*ℤ k (coef_at r col) p factor) z.0 rest
   where
-    below : (k c : ℤ) → pos 0 <ℤ k → c <ℤ pos 0 → (k *ℤ c) <ℤ pos 0
-    below k c p h = let t = simp expand at (positive-*ℤ k (neg_ℤ c) p (omega (arith, linear))) in omega (arith, linear)
-
     by : (k c d m n : ℤ) → pos 0 <ℤ k → c <ℤ pos 0 → (k *ℤ c) <ℤ pos 0 → IsLessened (k *ℤ c) d → n ≤ℤ (k *ℤ m) → int_max (neg_ℤ d) n ≤ℤ (k *ℤ int_max (neg_ℤ c) m)
     by k c d m n p l q h e =
         let top = int_max (neg_ℤ c) m in
@@ -267,13 +264,13 @@ two_at_least k c p n = by (λ e. n (record { quotient = c; is = one k c e }))
 
 apart_positive : (g : Gauge) (columns col : ℕ) (rows : List Row) → All (IsApart g columns col) rows → pos 0 <ℤ product_of_divisors rows
 apart_positive g columns col [] h = omega (arith, linear)
-apart_positive g columns col (r ∷ rows) h = positive-*ℤ r.k (product_of_divisors rows) (divisor_positive r.kind r.k (All-head (IsApart g columns col) r rows h).proper.formed.divisor) (apart_positive g columns col rows (All-tail (IsApart g columns col) r rows h))
+apart_positive g columns col (r ∷ rows) h = positive-*ℤ r.k (product_of_divisors rows) (HasDivisor-positive r.kind r.k (All-head (IsApart g columns col) r rows h).proper.formed.divisor) (apart_positive g columns col rows (All-tail (IsApart g columns col) r rows h))
 
 pub apart_two : (g : Gauge) (columns col : ℕ) (rows : List Row) → All (IsApart g columns col) rows → 0 < length rows → pos 2 ≤ℤ product_of_divisors rows
 apart_two g columns col [] h n = absurd (omega arith)
 apart_two g columns col (r ∷ rows) h n =
     let first = All-head (IsApart g columns col) r rows h in
-    let two = two_at_least r.k (coef_at r col) (divisor_positive r.kind r.k first.proper.formed.divisor) first.depends in
+    let two = two_at_least r.k (coef_at r col) (HasDivisor-positive r.kind r.k first.proper.formed.divisor) first.depends in
     let rest = apart_positive g columns col rows (All-tail (IsApart g columns col) r rows h) in
     let t = product_le (pos 2) r.k (pos 1) (product_of_divisors rows) (omega (arith, linear)) (omega (arith, linear)) two (omega (arith, linear)) in
     omega (arith, linear)
@@ -423,7 +420,7 @@ residues_cost g columns col r old new s =
     p = product_of_periods col new.apart
 
     positive : pos 0 <ℤ p
-    positive = periods_positive col new.apart (λ i d j. let q = get_or new.apart i d in let h = s.step.sided.apart i d j in (period_short (coef_at q col) q.k (divisor_positive q.kind q.k h.proper.formed.divisor)).positive)
+    positive = periods_positive col new.apart (λ i d j. let q = get_or new.apart i d in let h = s.step.sided.apart i d j in (period_short (coef_at q col) q.k (HasDivisor-positive q.kind q.k h.proper.formed.divisor)).positive)
 
     product : (s.step.k *ℤ p) ≤ℤ r
     product =
@@ -442,7 +439,7 @@ step_cost g columns col r old new s = by (nat_lt (length new.apart) 2) (shadow_c
 
 pub residues_units_not_negative : (g : Gauge) (columns col : ℕ) (s : Sides) → AreSided g columns col s → pos 0 ≤ℤ residues_units col s
 residues_units_not_negative g columns col s a =
-    let p = periods_positive col s.apart (λ i d j. let q = get_or s.apart i d in let h = a.apart i d j in (period_short (coef_at q col) q.k (divisor_positive q.kind q.k h.proper.formed.divisor)).positive) in
+    let p = periods_positive col s.apart (λ i d j. let q = get_or s.apart i d in let h = a.apart i d j in (period_short (coef_at q col) q.k (HasDivisor-positive q.kind q.k h.proper.formed.divisor)).positive) in
     let x = residue_units_positive g columns col (product_of_periods col s.apart) s p a in
     not_negative-*ℤ (product_of_periods col s.apart) (residue_units col (product_of_periods col s.apart) s) (omega (arith, linear)) (omega (arith, linear))
 

@@ -1,5 +1,5 @@
 -- What elimination makes of the sides of a column: one system without it, and splinters.
-use Rattle.std.specs.Prelude.{◌≡◌, ◌↔◌, ◌⊎◌, Bool, nat_lt, ℕ, ◌-◌, ℤ, pos, negsuc, neg_ℤ, ◌+ℤ◌, ◌-ℤ◌, ◌≤ℤ◌, ◌<ℤ◌, List, [], ◌∷◌, ◌++◌, length, All, Any, Option, MatchOption, IfSome}
+use Rattle.std.specs.Prelude.{◌≡◌, ◌≢◌, ◌↔◌, ◌⊎◌, Bool, true, false, map, nat_lt, ℕ, ◌-◌, ℤ, pos, negsuc, neg_ℤ, ◌+ℤ◌, ◌-ℤ◌, ◌≤ℤ◌, ◌<ℤ◌, List, [], ◌∷◌, ◌++◌, length, All, Any, Option, MatchOption, IfSome}
 use Rattle.std.specs.List.{insert}
 use Rattle.isl_meter.specs.Gauge.{Gauge, IsWithin}
 use Rattle.isl_piece.specs.declared.constraint.Row.{Row}
@@ -7,8 +7,8 @@ use Rattle.isl_piece.specs.declared.conjunction.System.{System}
 use Rattle.isl_piece.specs.Row.{value_at, coef_at}
 use Rattle.isl_piece.specs.System.{HoldsSystem, IsSystemWithin}
 use Rattle.isl_omega.specs.Column.{HoldAt}
-use Rattle.isl_omega.specs.Shadow.{splinters, extra}
-use Rattle.isl_omega.specs.Sides.{IsProper, IsLower, SidesHold}
+use Rattle.isl_omega.specs.Shadow.{splinters, extra, IsShadow}
+use Rattle.isl_omega.specs.Sides.{IsProper, IsLower, IsUpper, SidesHold}
 use Rattle.isl_elim.specs.declared.branch.Branch.{Branch}
 use Rattle.isl_omega.specs.declared.shadow.Tail.{Tail}
 use Rattle.isl_omega.specs.declared.sides.Sides.{Sides}
@@ -75,3 +75,15 @@ splinter_total neighbours m col (l ∷ lowers) = (splinters (coef_at l col) m +�
 abbrev pub AreFewTails : ℕ → Sides → List Tail → Type 0
 AreFewTails col sides tails =
     (m : ℤ) → pos 0 <ℤ m → All (λ u. neg_ℤ (coef_at u col) ≤ℤ m) sides.uppers → tail_total tails ≤ℤ splinter_total (nat_lt 0 (length sides.apart)) m col sides.lowers
+
+-- ---- what the code makes
+-- the dark rows of the sides' bounds, and a tail for each lower bound: of the shifted upper bounds where a divisor must not divide a row
+abbrev pub AreShadowsOf : Gauge → ℕ → ℕ → Sides → List Row → List Tail → Type 0
+AreShadowsOf g columns col sides rows tails =
+    (sides.apart ≡ [] → IsShadow g columns col false sides.lowers sides.uppers rows tails)
+    × (sides.apart ≢ [] → All (IsUpper g columns col) (map (shifted_row col) sides.uppers)
+    × IsShadow g columns col true sides.lowers (map (shifted_row col) sides.uppers) rows tails)
+
+-- a branch of the sides, with no more splinters than the bounds ask for
+abbrev pub IsBranchWithFewTails : Gauge → ℕ → ℕ → Sides → Branch → Type 0
+IsBranchWithFewTails g columns col sides branch = IsBranchOf g columns col sides branch × AreFewTails col sides branch.tails.items

@@ -22,10 +22,6 @@ pub record IsProjection (old : System) (col : ℕ) (new : List System) : Type 0 
   pub points : (point : List ℤ) → length point ≡ old.columns - 1 → HoldsAtAny new point ↔ HoldsAtSome old col point
 
 -- ---- where an equality has the column
--- none of the rows is an equality that has the column
-abbrev pub HasNoEquality : ℕ → List Row → Type 0
-HasNoEquality col rows = All (λ r. r.kind ≡ Zero → coef_at r col ≡ pos 0) rows
-
 -- the row at the place is one
 abbrev pub IsEqualityAt : ℕ → List Row → ℕ → Type 0
 IsEqualityAt col rows at = (at < length rows) × ((d : Row) → ((slice_index_or rows at d).kind ≡ Zero) × (coef_at (slice_index_or rows at d) col ≢ pos 0))

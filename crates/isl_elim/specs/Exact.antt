@@ -1,12 +1,14 @@
 -- Columns whose shadow is exact: wherever a rational number meets the bounds a whole one does, so that their real rows are all that is left.
 -- (Pugh, the Omega test)
-use Rattle.std.specs.Prelude.{◌≡◌, ◌≢◌, ◌⊎◌, ℕ, pos, neg_ℤ, List, [], ◌∷◌, ◌++◌, ◌*◌, All, length, map}
+use Rattle.std.specs.Prelude.{◌≡◌, ◌≢◌, ◌⊎◌, ℕ, pos, List, [], ◌∷◌, ◌++◌, ◌*◌, ◌-◌, All, length, map, Option, option_to_list}
 use Rattle.isl_math.specs.Order.{abs_of}
 use Rattle.isl_meter.specs.Gauge.{Gauge}
 use Rattle.isl_piece.specs.declared.constraint.Row.{Row}
+use Rattle.isl_piece.specs.declared.conjunction.System.{System}
+use Rattle.isl_piece.specs.Normal.{normal_system}
 use Rattle.isl_piece.specs.Row.{IsRowWithin, coef_at}
 use Rattle.isl_omega.specs.Column.{dropped}
-use Rattle.isl_omega.specs.Combine.{combination}
+use Rattle.isl_omega.specs.Shadow.{real_row}
 use Rattle.isl_omega.specs.Sides.{side_of, on_side}
 use Rattle.isl_omega.specs.declared.sides.Side.{Side}
 use Rattle.isl_omega.specs.declared.sides.Side.TheVariants.{Lower, Upper, Divides, Apart, Free}
@@ -22,11 +24,7 @@ abbrev pub IsExactColumn : ℕ → List Row → Type 0
 IsExactColumn col rows = All (IsExactRow Lower col) rows ⊎ All (IsExactRow Upper col) rows
 
 -- ---- what is left
--- b times a lower bound of the factor a, plus a times an upper bound of the factor b: the column cancels
-abbrev pub real_row : ℕ → Row → Row → Row
-real_row col lower upper = combination (neg_ℤ (coef_at upper col)) lower (coef_at lower col) upper
-
--- those of each lower bound with each upper bound
+-- the real rows of each lower bound with each upper bound
 abbrev pub real_rows : ℕ → List Row → List Row → List Row
 real_rows col [] uppers = []
 real_rows col (l ∷ lowers) uppers = map (real_row col l) uppers ++ real_rows col lowers uppers
@@ -34,6 +32,14 @@ real_rows col (l ∷ lowers) uppers = map (real_row col l) uppers ++ real_rows c
 -- the rows that do not depend on the column, and the real rows
 abbrev pub rows_left : ℕ → List Row → List Row
 rows_left col rows = on_side Free col rows ++ real_rows col (on_side Lower col rows) (on_side Upper col rows)
+
+-- those rows without the column in normal form: one system, or none where no point is left
+abbrev pub exact_projection : System → ℕ → Option System
+exact_projection system col = normal_system (record { columns = system.columns - 1; rows = map (λ r. dropped r col) (rows_left col system.rows) })
+
+-- the systems that were answered before, and the one that is left
+abbrev pub AddsExactly : System → ℕ → List System → List System → Type 0
+AddsExactly system col old new = new ≡ old ++ option_to_list (exact_projection system col)
 
 -- how many pairs of a lower and an upper bound there are
 abbrev pub pairs_on : ℕ → List Row → ℕ

@@ -1,7 +1,10 @@
 -- Where elimination never passes the limit of 127 bits: small numbers, and at most one congruence on the column. (Pugh, the Omega test; the
 -- bound is this project's own)
-use Rattle.std.specs.Prelude.{Bool, false, not, ℕ, ◌^◌, ◌≤◌, ℤ, pos, List, All, filter, length, unsigned_abs}
+use Rattle.std.specs.Prelude.{◌≡◌, Bool, false, not, ℕ, ◌^◌, ◌≤◌, ℤ, pos, List, All, filter, length, unsigned_abs, Result}
 use Rattle.std.specs.Ordering.{int_eq}
+use Rattle.isl_meter.specs.Gauge.{Gauge}
+use Rattle.isl_meter.specs.declared.Cut.{Cut}
+use Rattle.isl_omega.specs.Magnitude.{IsNoOverflow}
 use Rattle.isl_piece.specs.declared.constraint.RowKind.{RowKind}
 use Rattle.isl_piece.specs.declared.constraint.RowKind.TheVariants.{Zero, AtLeast, Divides, NotDivides}
 use Rattle.isl_piece.specs.declared.constraint.Row.{Row}
@@ -28,6 +31,10 @@ congruences_on col rows = filter (λ r. has_congruence r.kind (coef_at r col)) r
 -- at most one congruence has the column
 abbrev pub HasOneCongruence : System → ℕ → Type 0
 HasOneCongruence system col = length (congruences_on col system.rows) ≤ 1
+
+-- at 127 bits no number of such a system passes the limit
+abbrev pub IsSpared : {A : Type 0} → Gauge → System → ℕ → Result A Cut → Type 0
+IsSpared g system col result = g.bits ≡ 127 → HasSmallNumbers system → HasOneCongruence system col → IsNoOverflow result
 
 -- ---- inside
 -- a tail with numbers of at most 2^61, and a last value of at most 2^62

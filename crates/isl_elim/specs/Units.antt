@@ -1,5 +1,5 @@
 -- How many units elimination uses at most: one for each pair of bounds, each splinter and each residue. (Pugh, the Omega test)
-use Rattle.std.specs.Prelude.{◌≡◌, ◌≢◌, ◌*◌, if◌then◌else◌, ℕ, ℤ, pos, neg_ℤ, ◌+ℤ◌, ◌-ℤ◌, ◌*ℤ◌, List, [], ◌∷◌, length, Any}
+use Rattle.std.specs.Prelude.{◌*◌, if◌then◌else◌, ℕ, ℤ, pos, neg_ℤ, ◌+ℤ◌, ◌-ℤ◌, ◌*ℤ◌, List, [], ◌∷◌, length}
 use Rattle.std.specs.Int.{int_max}
 use Rattle.std.specs.Ordering.{int_eq}
 use Rattle.isl_math.specs.Divide.{floor_div}
@@ -10,10 +10,6 @@ use Rattle.isl_piece.specs.declared.conjunction.System.{System}
 use Rattle.isl_piece.specs.Row.{coef_at}
 use Rattle.isl_omega.specs.Sides.{on_side}
 use Rattle.isl_omega.specs.declared.sides.Side.TheVariants.{Lower, Upper}
-
--- some equality has the column
-abbrev pub HasEquality : ℕ → List Row → Type 0
-HasEquality col rows = Any (λ r. (r.kind ≡ Zero) × (coef_at r col ≢ pos 0)) rows
 
 -- the greatest factor of upper bounds, and 0 where there is none
 abbrev pub greatest_factor : ℕ → List Row → ℤ

@@ -1,9 +1,9 @@
 // What elimination makes of the sides of a column.
 
-ghost use Rattle.std.specs.Prelude.{◌≡◌, ◌≢◌, ◌⊎◌, ◌<◌, ◌*◌, [], true, false, All, IfOk, length, map, MatchResult, ◌^◌};
+ghost use Rattle.std.specs.Prelude.{◌≡◌, ◌≢◌, ◌⊎◌, ◌<◌, ◌*◌, [], true, false, All, IfOk, length, map, MatchResult, ◌^◌, pos};
 ghost use Rattle.isl_piece.specs.Row.{IsRowWithin, IsRowUpTo};
-ghost use Rattle.isl_omega.specs.Work.{IsChargedUpTo, IsCutUpTo};
-ghost use Rattle.isl_omega.specs.Magnitude.{IsNoOverflow, AreSidesUpTo};
+ghost use Rattle.isl_meter.specs.Gauge.{IsCutUpTo, IsDone, IsDoneWithin};
+ghost use Rattle.isl_omega.specs.Magnitude.{IsNoOverflow, IsNoOverflowWith, AreSidesUpTo};
 ghost use Rattle.isl_elim.specs.Magnitude.{IsSmallBranch};
 
 use isl_meter::{Cut, Meter};
@@ -25,8 +25,7 @@ pub(crate) struct Branch {
 }
 
 impl Branch {
-    ghost use Rattle.isl_elim.specs.Branch.{rows_of, shifted_row, IsBranchOf, AreFewTails};
-    ghost use Rattle.isl_omega.specs.Shadow.{IsShadow};
+    ghost use Rattle.isl_elim.specs.Branch.{rows_of, shifted_row, AreShadowsOf, IsBranchWithFewTails};
     ghost use Rattle.isl_omega.specs.Sides.{AreSided, IsUpper};
 
     // The rows of all sides but the congruences.
@@ -52,7 +51,7 @@ impl Branch {
         requires col_in { col < columns }
         ensures exact { MatchResult result
             (λ rows. (rows ≡ map (shifted_row col) uppers.now) × All (IsRowWithin meter.old) rows × (meter.new ≡ meter.old))
-            (λ cut. IsCutUpTo 0 meter.old meter.new cut) }
+            (λ cut. IsCutUpTo (pos 0) meter.old meter.new cut) }
         ensures small { meter.old.bits ≡ 127 → All (IsRowUpTo (2 ^ 61)) uppers.now → IsNoOverflow result }
     {
         let mut rows = Rows::new(alloc);
@@ -73,12 +72,8 @@ impl Branch {
     ) -> Result<(Rows, Vec<Tail>), Cut>
         requires sided { AreSided meter.old columns col sides.now }
         requires col_in { col < columns }
-        ensures exact { MatchResult result
-            (λ pair. (sides.now.apart ≡ [] → IsShadow meter.old columns col false sides.now.lowers sides.now.uppers pair.0 pair.1.items)
-            × (sides.now.apart ≢ [] → All (IsUpper meter.old columns col) (map (shifted_row col) sides.now.uppers)
-            × IsShadow meter.old columns col true sides.now.lowers (map (shifted_row col) sides.now.uppers) pair.0 pair.1.items)
-            × IsChargedUpTo (length sides.now.lowers * length sides.now.uppers) meter.old meter.new)
-            (λ cut. IsCutUpTo (length sides.now.lowers * length sides.now.uppers) meter.old meter.new cut) }
+        ensures exact { IsDoneWithin (pos (length sides.now.lowers * length sides.now.uppers)) meter.old meter.new
+            (λ pair. AreShadowsOf meter.old columns col sides.now pair.0 pair.1.items) result }
         ensures small { meter.old.bits ≡ 127 → AreSidesUpTo (2 ^ 61) sides.now → IsNoOverflow result }
     {
         let lowers = sides.lowers.as_slice();
@@ -112,10 +107,8 @@ impl Branch {
         requires apart { length sides.now.apart < 2 }
         requires open { (sides.now.lowers ≡ []) ⊎ (sides.now.uppers ≡ []) }
         requires col_in { col < columns }
-        ensures exact { MatchResult result
-            (λ branch. IsBranchOf meter.old columns col sides.now branch × AreFewTails col sides.now branch.tails.items × (meter.new ≡ meter.old))
-            (λ cut. IsCutUpTo 0 meter.old meter.new cut) }
-        ensures small { meter.old.bits ≡ 127 → AreSidesUpTo (2 ^ 61) sides.now → MatchResult result IsSmallBranch (λ cut. cut ≢ Cut.Overflow) }
+        ensures exact { IsDone meter.old meter.new (IsBranchWithFewTails meter.old columns col sides.now) result }
+        ensures small { meter.old.bits ≡ 127 → AreSidesUpTo (2 ^ 61) sides.now → IsNoOverflowWith IsSmallBranch result }
     {
         let rows = Branch::all_rows(alloc, sides)?;
         let head = settled(alloc, &sides.free, columns, col, meter)?;
@@ -139,11 +132,9 @@ impl Branch {
         requires apart { length sides.now.apart < 2 }
         requires uppers { sides.now.uppers ≢ [] }
         requires col_in { col < columns }
-        ensures exact { MatchResult result
-            (λ branch. IsBranchOf meter.old columns col sides.now branch × AreFewTails col sides.now branch.tails.items
-            × IsChargedUpTo (length sides.now.lowers * length sides.now.uppers) meter.old meter.new)
-            (λ cut. IsCutUpTo (length sides.now.lowers * length sides.now.uppers) meter.old meter.new cut) }
-        ensures small { meter.old.bits ≡ 127 → AreSidesUpTo (2 ^ 61) sides.now → MatchResult result IsSmallBranch (λ cut. cut ≢ Cut.Overflow) }
+        ensures exact { IsDoneWithin (pos (length sides.now.lowers * length sides.now.uppers)) meter.old meter.new
+            (IsBranchWithFewTails meter.old columns col sides.now) result }
+        ensures small { meter.old.bits ≡ 127 → AreSidesUpTo (2 ^ 61) sides.now → IsNoOverflowWith IsSmallBranch result }
     {
         let rows = Branch::all_rows(alloc, sides)?;
         let (dark, tails) = Branch::shadows(alloc, sides, columns, col, meter)?;
@@ -165,11 +156,9 @@ impl Branch {
         requires divides { sides.now.divides ≡ [] }
         requires apart { length sides.now.apart < 2 }
         requires col_in { col < columns }
-        ensures exact { MatchResult result
-            (λ branch. IsBranchOf meter.old columns col sides.now branch × AreFewTails col sides.now branch.tails.items
-            × IsChargedUpTo (length sides.now.lowers * length sides.now.uppers) meter.old meter.new)
-            (λ cut. IsCutUpTo (length sides.now.lowers * length sides.now.uppers) meter.old meter.new cut) }
-        ensures small { meter.old.bits ≡ 127 → AreSidesUpTo (2 ^ 61) sides.now → MatchResult result IsSmallBranch (λ cut. cut ≢ Cut.Overflow) }
+        ensures exact { IsDoneWithin (pos (length sides.now.lowers * length sides.now.uppers)) meter.old meter.new
+            (IsBranchWithFewTails meter.old columns col sides.now) result }
+        ensures small { meter.old.bits ≡ 127 → AreSidesUpTo (2 ^ 61) sides.now → IsNoOverflowWith IsSmallBranch result }
     {
         if sides.lowers.is_empty() || sides.uppers.is_empty() {
             let branch = Branch::open(alloc, sides, columns, col, meter)?;

@@ -1,17 +1,18 @@
 // Columns whose shadow is exact: no splinter, no residue, and no memory but for the rows that are answered.
 
-ghost use Rattle.std.specs.Prelude.{◌≡◌, ◌↔◌, ◌-◌, ◌<◌, ◌∷◌, ◌*◌, ◌^◌, [], All, length, map, IsTrue, MatchResult};
+ghost use Rattle.std.specs.Prelude.{◌≡◌, ◌↔◌, ◌-◌, ◌<◌, ◌∷◌, ◌*◌, ◌^◌, [], All, length, map, IfOk, IsTrue, MatchResult, pos};
 ghost use Rattle.isl_piece.specs.Row.{IsRowWithin, IsRowUpTo};
 ghost use Rattle.isl_piece.specs.System.{IsSystemWithin};
-ghost use Rattle.isl_elim.specs.Adds.{Adds};
+ghost use Rattle.isl_elim.specs.Adds.{AddsProjection};
 ghost use Rattle.isl_omega.specs.Column.{dropped};
-ghost use Rattle.isl_elim.specs.Elimination.{HoldsAtSome, HasNoEquality};
-ghost use Rattle.isl_elim.specs.Exact.{IsExactRow, IsExactColumn, real_row, real_rows, rows_left, pairs_on, AreAdded};
+ghost use Rattle.isl_omega.specs.Equality.{HasEquality};
+ghost use Rattle.isl_elim.specs.Exact.{IsExactRow, IsExactColumn, real_rows, rows_left, pairs_on, AddsExactly, AreAdded};
+ghost use Rattle.isl_omega.specs.Shadow.{real_row};
 ghost use Rattle.isl_omega.specs.Magnitude.{IsNoOverflow};
 ghost use Rattle.isl_elim.specs.Magnitude.{HasSmallNumbers};
 ghost use Rattle.isl_omega.specs.Sides.{IsProper, IsLower, IsUpper, on_side};
 ghost use Rattle.isl_elim.specs.Units.{elimination_units};
-ghost use Rattle.isl_omega.specs.Work.{IsChargedUpTo, IsCutUpTo, IsChargedBy, IsCutAfter};
+ghost use Rattle.isl_meter.specs.Gauge.{IsCutUpTo, IsDoneWithin};
 
 use crate::tails::push_left;
 use isl_meter::{Cut, Int, Meter};
@@ -71,7 +72,7 @@ fn real_row_without(
     requires col_in { col < columns }
     ensures exact { MatchResult result
         (λ row. (row ≡ dropped (real_row col lower.now upper.now) col) × IsRowWithin meter.old row × (meter.new ≡ meter.old))
-        (λ cut. IsCutUpTo 0 meter.old meter.new cut) }
+        (λ cut. IsCutUpTo (pos 0) meter.old meter.new cut) }
     ensures small { meter.old.bits ≡ 127 → IsRowUpTo (2 ^ 30) lower.now → IsRowUpTo (2 ^ 30) upper.now → IsNoOverflow result }
 {
     let a = lower.coefs.get(col);
@@ -102,10 +103,8 @@ fn push_pair(
     requires lower { IsLower meter.old columns col lower.now }
     requires row { IsProper meter.old columns row.now }
     requires col_in { col < columns }
-    ensures exact { MatchResult result
-        (λ _. AreAdded meter.old col (map (real_row col lower.now) (on_side Side.Upper col (row.now ∷ []))) short.old short.new
-        × IsChargedUpTo (length (on_side Side.Upper col (row.now ∷ []))) meter.old meter.new)
-        (λ cut. IsCutUpTo (length (on_side Side.Upper col (row.now ∷ []))) meter.old meter.new cut) }
+    ensures exact { IsDoneWithin (pos (length (on_side Side.Upper col (row.now ∷ [])))) meter.old meter.new
+        (λ _. AreAdded meter.old col (map (real_row col lower.now) (on_side Side.Upper col (row.now ∷ []))) short.old short.new) result }
     ensures small { meter.old.bits ≡ 127 → IsRowUpTo (2 ^ 30) lower.now → IsRowUpTo (2 ^ 30) row.now → IsNoOverflow result }
 {
     if !Side::Upper.has(row, col, meter) {
@@ -130,10 +129,8 @@ fn push_pairs_of(
     requires lower { IsLower meter.old columns col lower.now }
     requires rows { All (IsProper meter.old columns) rows.now }
     requires col_in { col < columns }
-    ensures exact { MatchResult result
-        (λ _. AreAdded meter.old col (map (real_row col lower.now) (on_side Side.Upper col rows.now)) short.old short.new
-        × IsChargedUpTo (length (on_side Side.Upper col rows.now)) meter.old meter.new)
-        (λ cut. IsCutUpTo (length (on_side Side.Upper col rows.now)) meter.old meter.new cut) }
+    ensures exact { IsDoneWithin (pos (length (on_side Side.Upper col rows.now))) meter.old meter.new
+        (λ _. AreAdded meter.old col (map (real_row col lower.now) (on_side Side.Upper col rows.now)) short.old short.new) result }
     ensures small { meter.old.bits ≡ 127 → IsRowUpTo (2 ^ 30) lower.now → All (IsRowUpTo (2 ^ 30)) rows.now → IsNoOverflow result }
 {
     for row in rows {
@@ -155,10 +152,10 @@ fn push_lower(
     requires row { IsProper meter.old columns row.now }
     requires rows { All (IsProper meter.old columns) rows.now }
     requires col_in { col < columns }
-    ensures exact { MatchResult result
-        (λ _. AreAdded meter.old col (real_rows col (on_side Side.Lower col (row.now ∷ [])) (on_side Side.Upper col rows.now)) short.old short.new
-        × IsChargedUpTo (length (on_side Side.Lower col (row.now ∷ [])) * length (on_side Side.Upper col rows.now)) meter.old meter.new)
-        (λ cut. IsCutUpTo (length (on_side Side.Lower col (row.now ∷ [])) * length (on_side Side.Upper col rows.now)) meter.old meter.new cut) }
+    ensures exact { IsDoneWithin (pos (length (on_side Side.Lower col (row.now ∷ [])) * length (on_side Side.Upper col rows.now)))
+        meter.old meter.new
+        (λ _. AreAdded meter.old col (real_rows col (on_side Side.Lower col (row.now ∷ [])) (on_side Side.Upper col rows.now))
+        short.old short.new) result }
     ensures small { meter.old.bits ≡ 127 → IsRowUpTo (2 ^ 30) row.now → All (IsRowUpTo (2 ^ 30)) rows.now → IsNoOverflow result }
 {
     if !Side::Lower.has(row, col, meter) {
@@ -178,10 +175,9 @@ fn push_pairs(
 ) -> Result<(), Cut>
     requires rows { All (IsProper meter.old columns) rows.now }
     requires col_in { col < columns }
-    ensures exact { MatchResult result
-        (λ _. AreAdded meter.old col (real_rows col (on_side Side.Lower col rows.now) (on_side Side.Upper col rows.now)) short.old short.new
-        × IsChargedUpTo (pairs_on col rows.now) meter.old meter.new)
-        (λ cut. IsCutUpTo (pairs_on col rows.now) meter.old meter.new cut) }
+    ensures exact { IsDoneWithin (pos (pairs_on col rows.now)) meter.old meter.new
+        (λ _. AreAdded meter.old col (real_rows col (on_side Side.Lower col rows.now) (on_side Side.Upper col rows.now))
+        short.old short.new) result }
     ensures small { meter.old.bits ≡ 127 → All (IsRowUpTo (2 ^ 30)) rows.now → IsNoOverflow result }
 {
     for row in rows {
@@ -242,10 +238,8 @@ fn short_rows(
 ) -> Result<Rows, Cut>
     requires rows { All (IsProper meter.old columns) rows.now }
     requires col_in { col < columns }
-    ensures exact { MatchResult result
-        (λ short. AreAdded meter.old col (rows_left col rows.now) [] short
-        × IsChargedUpTo (pairs_on col rows.now) meter.old meter.new)
-        (λ cut. IsCutUpTo (pairs_on col rows.now) meter.old meter.new cut) }
+    ensures exact { IsDoneWithin (pos (pairs_on col rows.now)) meter.old meter.new
+        (λ short. AreAdded meter.old col (rows_left col rows.now) [] short) result }
     ensures small { meter.old.bits ≡ 127 → All (IsRowUpTo (2 ^ 30)) rows.now → IsNoOverflow result }
 {
     let mut short = Rows::with_capacity(alloc, rows.len())?;
@@ -264,12 +258,11 @@ pub(crate) fn push_exact(
 ) -> Result<(), Cut>
     requires system { IsSystemWithin meter.old system.now }
     requires col_in { col < system.now.columns }
-    requires none { HasNoEquality col system.now.rows }
+    requires none { ¬ HasEquality col system.now.rows }
     requires exact { IsExactColumn col system.now.rows }
-    ensures exact { MatchResult result
-        (λ _. Adds meter.old (system.now.columns - 1) (HoldsAtSome system.now col) systems.old.items systems.new.items
-        × IsChargedBy (elimination_units system.now col) meter.old meter.new)
-        (λ cut. IsCutAfter (elimination_units system.now col) meter.old meter.new cut) }
+    ensures exact { IsDoneWithin (elimination_units system.now col) meter.old meter.new
+        (λ _. AddsProjection meter.old system.now col systems.old.items systems.new.items) result }
+    ensures left { IfOk result (λ _. AddsExactly system.now col systems.old.items systems.new.items) }
     ensures small { meter.old.bits ≡ 127 → HasSmallNumbers system.now → IsNoOverflow result }
 {
     let rows = short_rows(alloc, system.rows.as_slice(), system.columns, col, meter)?;

@@ -1,19 +1,20 @@
 // One column out of a system.
 
-ghost use Rattle.std.specs.Prelude.{◌≡◌, ◌≢◌, ◌↔◌, ◌<◌, ◌-◌, ◌≤ℤ◌, ◌+ℤ◌, pos, All, length, slice_index_or, None, IfOk, IfSome, IsTrue, MatchOption, MatchResult, ◌^◌};
-ghost use Rattle.isl_meter.specs.Gauge.{IsCharged, IsCutBy};
+ghost use Rattle.std.specs.Prelude.{◌≡◌, ◌≢◌, ◌↔◌, ◌<◌, ◌-◌, ◌≤ℤ◌, ◌+ℤ◌, pos, All, length, slice_index_or, None, IfOk, IfSome, IsTrue, option_to_list, MatchOption, MatchResult, ◌^◌};
+ghost use Rattle.isl_meter.specs.Gauge.{IsCharged, IsCutBy, IsDone, IsDoneWithin};
 ghost use Rattle.isl_piece.specs.declared.constraint.RowKind.TheVariants.{Zero};
 ghost use Rattle.isl_piece.specs.declared.constraint.Row.{Row};
 ghost use Rattle.isl_piece.specs.Row.{coef_at};
 ghost use Rattle.isl_piece.specs.System.{IsSystemWithin};
-ghost use Rattle.isl_elim.specs.Adds.{Adds};
-ghost use Rattle.isl_elim.specs.Elimination.{HoldsAtSome, IsProjection, HasNoEquality, IsEqualityAt};
+ghost use Rattle.isl_elim.specs.Adds.{AddsProjection};
+ghost use Rattle.isl_elim.specs.Elimination.{IsProjection, IsEqualityAt};
+ghost use Rattle.isl_elim.specs.Exact.{IsExactColumn, exact_projection, AddsExactly};
 ghost use Rattle.isl_omega.specs.Sides.{IsProper, AreSided};
 ghost use Rattle.isl_omega.specs.Step.{IsStepOf};
-ghost use Rattle.isl_elim.specs.Units.{HasEquality, elimination_units};
-ghost use Rattle.isl_omega.specs.Work.{IsCutUpTo, IsChargedBy, IsCutAfter};
-ghost use Rattle.isl_omega.specs.Magnitude.{IsNoOverflow, AreSidesUpTo};
-ghost use Rattle.isl_elim.specs.Magnitude.{HasSmallNumbers, HasOneCongruence};
+ghost use Rattle.isl_omega.specs.Equality.{HasEquality};
+ghost use Rattle.isl_elim.specs.Units.{elimination_units};
+ghost use Rattle.isl_omega.specs.Magnitude.{IsNoOverflow, IsNoOverflowWith, AreSidesUpTo};
+ghost use Rattle.isl_elim.specs.Magnitude.{HasSmallNumbers, HasOneCongruence, IsSpared};
 
 use crate::exact::{is_exact, push_exact};
 use crate::residue::push_sides;
@@ -33,7 +34,7 @@ fn is_equality(row: &Row, col: usize) -> bool
     row.kind == RowKind::Zero && !row.coefs.get(col).is_zero()
 }
 
-// The better of an equality that was found and the row at a place: the one with the coefficient of lesser magnitude.
+// Of an equality that was found and the row at a place, one that is an equality with the column.
 fn better(
     rows: &[Row],
     found: Option<usize>,
@@ -62,11 +63,11 @@ fn better(
     Some(at)
 }
 
-// The place of an equality that has the column, with a coefficient of least magnitude.
+// The place of an equality that has the column.
 fn equality_at(rows: &[Row], columns: usize, col: usize, meter: &Meter) -> Option<usize>
     requires rows { All (IsProper meter.now columns) rows.now }
     requires col_in { col < columns }
-    ensures { MatchOption result (HasNoEquality col rows.now) (IsEqualityAt col rows.now) }
+    ensures { MatchOption result (¬ HasEquality col rows.now) (IsEqualityAt col rows.now) }
 {
     let mut found = None;
     for i in 0..rows.len() {
@@ -85,11 +86,9 @@ fn without_congruences(
 ) -> Result<Sides, Cut>
     requires sided { AreSided meter.old columns col sides }
     requires col_in { col < columns }
-    ensures exact { MatchResult result
-        (λ new. IsStepOf meter.old columns col sides new × (meter.new ≡ meter.old))
-        (λ cut. IsCutUpTo 0 meter.old meter.new cut) }
+    ensures exact { IsDone meter.old meter.new (λ new. IsStepOf meter.old columns col sides new) result }
     ensures small { meter.old.bits ≡ 127 → AreSidesUpTo (2 ^ 30) sides → length sides.divides < 2
-        → MatchResult result (AreSidesUpTo (2 ^ 61)) (λ cut. cut ≢ Cut.Overflow) }
+        → IsNoOverflowWith (AreSidesUpTo (2 ^ 61)) result }
 {
     if sides.divides.is_empty() {
         return Ok(sides);
@@ -108,12 +107,10 @@ fn push_by_sides(
 ) -> Result<(), Cut>
     requires system { IsSystemWithin meter.old system.now }
     requires col_in { col < system.now.columns }
-    requires none { HasNoEquality col system.now.rows }
-    ensures exact { MatchResult result
-        (λ _. Adds meter.old (system.now.columns - 1) (HoldsAtSome system.now col) systems.old.items systems.new.items
-        × IsChargedBy (elimination_units system.now col) meter.old meter.new)
-        (λ cut. IsCutAfter (elimination_units system.now col) meter.old meter.new cut) }
-    ensures small { meter.old.bits ≡ 127 → HasSmallNumbers system.now → HasOneCongruence system.now col → IsNoOverflow result }
+    requires none { ¬ HasEquality col system.now.rows }
+    ensures exact { IsDoneWithin (elimination_units system.now col) meter.old meter.new
+        (λ _. AddsProjection meter.old system.now col systems.old.items systems.new.items) result }
+    ensures small { IsSpared meter.old system.now col result }
 {
     let sides = Sides::of(alloc, system.rows.as_slice(), system.columns, col, meter)?;
     let new = without_congruences(alloc, sides, system.columns, col, meter)?;
@@ -131,12 +128,11 @@ fn push_projection(
 ) -> Result<(), Cut>
     requires system { IsSystemWithin meter.old system.now }
     requires col_in { col < system.now.columns }
-    requires none { HasNoEquality col system.now.rows }
-    ensures exact { MatchResult result
-        (λ _. Adds meter.old (system.now.columns - 1) (HoldsAtSome system.now col) systems.old.items systems.new.items
-        × IsChargedBy (elimination_units system.now col) meter.old meter.new)
-        (λ cut. IsCutAfter (elimination_units system.now col) meter.old meter.new cut) }
-    ensures small { meter.old.bits ≡ 127 → HasSmallNumbers system.now → HasOneCongruence system.now col → IsNoOverflow result }
+    requires none { ¬ HasEquality col system.now.rows }
+    ensures exact { IsDoneWithin (elimination_units system.now col) meter.old meter.new
+        (λ _. AddsProjection meter.old system.now col systems.old.items systems.new.items) result }
+    ensures left { IsExactColumn col system.now.rows → IfOk result (λ _. AddsExactly system.now col systems.old.items systems.new.items) }
+    ensures small { IsSpared meter.old system.now col result }
 {
     if is_exact(system.rows.as_slice(), system.columns, col, meter) {
         push_exact(alloc, system, col, systems, meter)
@@ -157,10 +153,7 @@ fn push_solved(
     requires system { IsSystemWithin meter.old system.now }
     requires col_in { col < system.now.columns }
     requires equality { IsEqualityAt col system.now.rows at }
-    ensures exact { MatchResult result
-        (λ _. Adds meter.old (system.now.columns - 1) (HoldsAtSome system.now col) systems.old.items systems.new.items
-        × (meter.new ≡ meter.old))
-        (λ cut. IsCutUpTo 0 meter.old meter.new cut) }
+    ensures exact { IsDone meter.old meter.new (λ _. AddsProjection meter.old system.now col systems.old.items systems.new.items) result }
     ensures small { meter.old.bits ≡ 127 → HasSmallNumbers system.now → IsNoOverflow result }
 {
     let rows = system.rows.as_slice();
@@ -179,11 +172,13 @@ pub(crate) fn push_without(
 ) -> Result<(), Cut>
     requires system { IsSystemWithin meter.old system.now }
     requires col_in { col < system.now.columns }
-    ensures pushed { IfOk result (λ _. Adds meter.old (system.now.columns - 1) (HoldsAtSome system.now col) systems.old.items systems.new.items) }
+    ensures pushed { IfOk result (λ _. AddsProjection meter.old system.now col systems.old.items systems.new.items) }
+    ensures left { IsExactColumn col system.now.rows → ¬ HasEquality col system.now.rows
+        → IfOk result (λ _. AddsExactly system.now col systems.old.items systems.new.items) }
     ensures meter { MatchResult result (λ _. IsCharged meter.old meter.new) (IsCutBy meter.old meter.new) }
     ensures units { pos meter.new.units ≤ℤ (pos meter.old.units +ℤ elimination_units system.now col) }
     ensures equality { HasEquality col system.now.rows → meter.new.units ≡ meter.old.units }
-    ensures magnitude { meter.old.bits ≡ 127 → HasSmallNumbers system.now → HasOneCongruence system.now col → IsNoOverflow result }
+    ensures magnitude { IsSpared meter.old system.now col result }
 {
     if let Some(at) = equality_at(system.rows.as_slice(), system.columns, col, meter) {
         push_solved(alloc, system, at, col, systems, meter)?;
@@ -196,7 +191,8 @@ pub(crate) fn push_without(
 /// The systems without the column `col`, of which some holds at a point exactly where some whole number put at `col` makes
 /// `system` hold.
 ///
-/// Where an equality has the column, no unit is used; else at most `elimination_units`.
+/// Where an equality has the column, no unit is used; else at most `elimination_units`. Where none has it and the column is
+/// exact, what is answered is a function of the system: at most one system, in normal form.
 ///
 /// # Errors
 ///
@@ -212,6 +208,8 @@ pub fn eliminate(
     requires col_in { col < system.now.columns }
     ensures projection { IfOk result (λ systems. IsProjection system.now col systems.items) }
     ensures within { IfOk result (λ systems. All (IsSystemWithin meter.old) systems.items) }
+    ensures exact_column { IsExactColumn col system.now.rows → ¬ HasEquality col system.now.rows
+        → IfOk result (λ systems. systems.items ≡ option_to_list (exact_projection system.now col)) }
     ensures meter { MatchResult result (λ _. IsCharged meter.old meter.new) (IsCutBy meter.old meter.new) }
     ensures units { pos meter.new.units ≤ℤ (pos meter.old.units +ℤ elimination_units system.now col) }
     ensures equality { HasEquality col system.now.rows → meter.new.units ≡ meter.old.units }

@@ -1,12 +1,11 @@
 // Several rows of one column that divisors must not divide: one residue after another.
 
-ghost use Rattle.std.specs.Prelude.{◌≡◌, ◌-◌, ◌<◌, ◌≤ℤ◌, ◌<ℤ◌, [], pos, All, length, MatchResult, ◌^◌};
-ghost use Rattle.isl_meter.specs.Gauge.{IsWithin};
+ghost use Rattle.std.specs.Prelude.{◌≡◌, ◌-◌, ◌<◌, ◌<ℤ◌, [], pos, All, length, MatchResult, ◌^◌};
+ghost use Rattle.isl_meter.specs.Gauge.{IsWithin, IsCutUpTo, IsDone, IsDoneWithin};
 ghost use Rattle.isl_elim.specs.Adds.{Adds};
 ghost use Rattle.isl_omega.specs.Congruence.{period};
 ghost use Rattle.isl_elim.specs.Residue.{IsCommonMultiple, IsPeriod, HasNumber, HasResidue, IsResidueOf, shadow_units, residue_units, residues_units, sides_units};
 ghost use Rattle.isl_omega.specs.Sides.{IsApart, AreSided};
-ghost use Rattle.isl_omega.specs.Work.{IsCutUpTo, IsChargedBy, IsCutAfter};
 ghost use Rattle.isl_omega.specs.Magnitude.{IsNoOverflow, AreSidesUpTo};
 
 use crate::branch::Branch;
@@ -17,7 +16,7 @@ use isl_omega::step::Progression;
 use isl_piece::{Row, System};
 use std::alloc::Global;
 
-// The least common multiple.
+// A common multiple, which is at most the product.
 fn common_multiple(a: Int, b: Int, meter: &mut Meter) -> Result<Int, Overflow>
     requires a_within { IsWithin meter.old a }
     requires b_within { IsWithin meter.old b }
@@ -25,7 +24,7 @@ fn common_multiple(a: Int, b: Int, meter: &mut Meter) -> Result<Int, Overflow>
     requires b_positive { pos 0 <ℤ b }
     ensures { MatchResult result
         (λ m. IsCommonMultiple a b m × IsWithin meter.old m × (meter.new ≡ meter.old))
-        (λ _. IsCutUpTo 0 meter.old meter.new Cut.Overflow) }
+        (λ _. IsCutUpTo (pos 0) meter.old meter.new Cut.Overflow) }
 {
     let rest = b.floor_div(a.gcd(b, meter), meter);
     let multiple = a.mul(rest, meter)?;
@@ -56,7 +55,7 @@ fn common_period(
     requires col_in { col < columns }
     ensures { MatchResult result
         (λ p. IsPeriod col rows.now p × IsWithin meter.old p × (meter.new ≡ meter.old))
-        (λ _. IsCutUpTo 0 meter.old meter.new Cut.Overflow) }
+        (λ _. IsCutUpTo (pos 0) meter.old meter.new Cut.Overflow) }
 {
     let mut period = period_of(&rows[0], columns, col, meter);
     for i in 1..rows.len() {
@@ -82,9 +81,7 @@ fn residue_of(
     requires period_within { IsWithin meter.old period }
     requires rest_within { IsWithin meter.old rest }
     requires col_in { col < columns }
-    ensures { MatchResult result
-        (λ new. IsResidueOf meter.old columns col period rest sides.now new × (meter.new ≡ meter.old))
-        (λ cut. IsCutUpTo 0 meter.old meter.new cut) }
+    ensures { IsDone meter.old meter.new (λ new. IsResidueOf meter.old columns col period rest sides.now new) result }
 {
     let progression = Progression::of_residue(alloc, period, rest, columns, col, meter)?;
     let new = progression.put(alloc, sides, columns, col, meter)?;
@@ -104,10 +101,8 @@ fn push_shadow(
     requires divides { sides.now.divides ≡ [] }
     requires apart { length sides.now.apart < 2 }
     requires col_in { col < columns }
-    ensures exact { MatchResult result
-        (λ _. Adds meter.old (columns - 1) (HasNumber sides.now col) systems.old.items systems.new.items
-        × IsChargedBy (shadow_units col sides.now) meter.old meter.new)
-        (λ cut. IsCutAfter (shadow_units col sides.now) meter.old meter.new cut) }
+    ensures exact { IsDoneWithin (shadow_units col sides.now) meter.old meter.new
+        (λ _. Adds meter.old (columns - 1) (HasNumber sides.now col) systems.old.items systems.new.items) result }
     ensures small { meter.old.bits ≡ 127 → AreSidesUpTo (2 ^ 61) sides.now → IsNoOverflow result }
 {
     let branch = Branch::of(alloc, sides, columns, col, meter)?;
@@ -132,10 +127,8 @@ fn push_residue(
     requires period_within { IsWithin meter.old period }
     requires rest_within { IsWithin meter.old rest }
     requires col_in { col < columns }
-    ensures { MatchResult result
-        (λ _. Adds meter.old (columns - 1) (HasResidue sides.now col period rest) systems.old.items systems.new.items
-        × IsChargedBy (residue_units col period sides.now) meter.old meter.new)
-        (λ cut. IsCutAfter (residue_units col period sides.now) meter.old meter.new cut) }
+    ensures { IsDoneWithin (residue_units col period sides.now) meter.old meter.new
+        (λ _. Adds meter.old (columns - 1) (HasResidue sides.now col period rest) systems.old.items systems.new.items) result }
 {
     meter.unit()?;
     let residue = residue_of(alloc, sides, period, rest, columns, col, meter)?;
@@ -156,10 +149,8 @@ pub(crate) fn push_residues(
     requires divides { sides.now.divides ≡ [] }
     requires some { 0 < length sides.now.apart }
     requires col_in { col < columns }
-    ensures { MatchResult result
-        (λ _. Adds meter.old (columns - 1) (HasNumber sides.now col) systems.old.items systems.new.items
-        × IsChargedBy (residues_units col sides.now) meter.old meter.new)
-        (λ cut. IsCutAfter (residues_units col sides.now) meter.old meter.new cut) }
+    ensures { IsDoneWithin (residues_units col sides.now) meter.old meter.new
+        (λ _. Adds meter.old (columns - 1) (HasNumber sides.now col) systems.old.items systems.new.items) result }
 {
     let period = common_period(sides.apart.as_slice(), columns, col, meter)?;
     let mut rest = Int::ZERO;
@@ -182,10 +173,8 @@ pub(crate) fn push_sides(
     requires sided { AreSided meter.old columns col sides.now }
     requires divides { sides.now.divides ≡ [] }
     requires col_in { col < columns }
-    ensures exact { MatchResult result
-        (λ _. Adds meter.old (columns - 1) (HasNumber sides.now col) systems.old.items systems.new.items
-        × IsChargedBy (sides_units col sides.now) meter.old meter.new)
-        (λ cut. IsCutAfter (sides_units col sides.now) meter.old meter.new cut) }
+    ensures exact { IsDoneWithin (sides_units col sides.now) meter.old meter.new
+        (λ _. Adds meter.old (columns - 1) (HasNumber sides.now col) systems.old.items systems.new.items) result }
     ensures small { meter.old.bits ≡ 127 → AreSidesUpTo (2 ^ 61) sides.now → length sides.now.apart < 2 → IsNoOverflow result }
 {
     if sides.apart.len() < 2 {

@@ -1,12 +1,11 @@
 // Splinters: systems in which a lower bound has one of its least values.
 
 ghost use Rattle.std.specs.Prelude.{◌≡◌, ◌-◌, ◌<◌, ◌++◌, ◌+ℤ◌, pos, All, MatchResult, option_to_list, ◌^◌, ◌≤◌, unsigned_abs};
-ghost use Rattle.isl_meter.specs.Gauge.{IsWithin};
+ghost use Rattle.isl_meter.specs.Gauge.{IsDone, IsDoneWithin};
 ghost use Rattle.isl_elim.specs.Adds.{Adds};
 ghost use Rattle.isl_elim.specs.Branch.{HasValue, HasSplinter, KeepBound, IsTail, IsBranch, HoldsBranch, tail_total};
 ghost use Rattle.isl_omega.specs.Column.{IsSystemOf};
 ghost use Rattle.isl_omega.specs.Sides.{IsProper, IsLower};
-ghost use Rattle.isl_omega.specs.Work.{IsChargedUpTo, IsCutUpTo, IsChargedBy, IsCutAfter};
 ghost use Rattle.isl_piece.specs.Row.{IsRowUpTo};
 ghost use Rattle.isl_omega.specs.Magnitude.{IsNoOverflow};
 ghost use Rattle.isl_elim.specs.Magnitude.{IsSmallTail, IsSmallBranch};
@@ -32,9 +31,8 @@ fn splinter(
     requires rows { All (IsProper meter.old columns) rows.now }
     requires bound { IsLower meter.old columns col bound.now }
     requires col_in { col < columns }
-    ensures exact { MatchResult result
-        (λ left. IsSystemOf meter.old (columns - 1) (HasValue rows.now col bound.now i) left × (meter.new ≡ meter.old))
-        (λ cut. IsCutUpTo 0 meter.old meter.new cut) }
+    ensures exact { IsDone meter.old meter.new
+        (λ left. IsSystemOf meter.old (columns - 1) (HasValue rows.now col bound.now i) left) result }
     ensures small { meter.old.bits ≡ 127 → All (IsRowUpTo (2 ^ 61)) rows.now → IsRowUpTo (2 ^ 61) bound.now → unsigned_abs i ≤ 2 ^ 62 → IsNoOverflow result }
 {
     let fixed = lowered(alloc, bound, i, meter)?;
@@ -68,10 +66,8 @@ fn push_splinter(
     requires rows { All (IsProper meter.old columns) rows.now }
     requires bound { IsLower meter.old columns col bound.now }
     requires col_in { col < columns }
-    ensures exact { MatchResult result
-        (λ _. Adds meter.old (columns - 1) (HasValue rows.now col bound.now i) systems.old.items systems.new.items
-        × IsChargedUpTo 1 meter.old meter.new)
-        (λ cut. IsCutUpTo 1 meter.old meter.new cut) }
+    ensures exact { IsDoneWithin (pos 1) meter.old meter.new
+        (λ _. Adds meter.old (columns - 1) (HasValue rows.now col bound.now i) systems.old.items systems.new.items) result }
     ensures small { meter.old.bits ≡ 127 → All (IsRowUpTo (2 ^ 61)) rows.now → IsRowUpTo (2 ^ 61) bound.now → unsigned_abs i ≤ 2 ^ 62 → IsNoOverflow result }
 {
     meter.unit()?;
@@ -94,10 +90,8 @@ fn push_splinters(
     requires tail { IsTail meter.old columns col tail.now }
     requires bound { KeepBound columns col rows.now tail.now.lower }
     requires col_in { col < columns }
-    ensures exact { MatchResult result
-        (λ _. Adds meter.old (columns - 1) (λ point. HasSplinter rows.now col point tail.now) systems.old.items systems.new.items
-        × IsChargedBy (tail.now.last +ℤ pos 1) meter.old meter.new)
-        (λ cut. IsCutAfter (tail.now.last +ℤ pos 1) meter.old meter.new cut) }
+    ensures exact { IsDoneWithin (tail.now.last +ℤ pos 1) meter.old meter.new
+        (λ _. Adds meter.old (columns - 1) (λ point. HasSplinter rows.now col point tail.now) systems.old.items systems.new.items) result }
     ensures small { meter.old.bits ≡ 127 → All (IsRowUpTo (2 ^ 61)) rows.now → IsSmallTail tail.now → IsNoOverflow result }
 {
     let mut i = Int::ZERO;
@@ -119,10 +113,8 @@ pub(crate) fn push_branch(
 ) -> Result<(), Cut>
     requires branch { IsBranch meter.old columns col branch }
     requires col_in { col < columns }
-    ensures exact { MatchResult result
-        (λ _. Adds meter.old (columns - 1) (HoldsBranch branch col) systems.old.items systems.new.items
-        × IsChargedBy (tail_total branch.tails.items) meter.old meter.new)
-        (λ cut. IsCutAfter (tail_total branch.tails.items) meter.old meter.new cut) }
+    ensures exact { IsDoneWithin (tail_total branch.tails.items) meter.old meter.new
+        (λ _. Adds meter.old (columns - 1) (HoldsBranch branch col) systems.old.items systems.new.items) result }
     ensures small { meter.old.bits ≡ 127 → IsSmallBranch branch → IsNoOverflow result }
 {
     let Branch { rows, head, tails } = branch;

@@ -1,6 +1,6 @@
 // Several columns out of a system together.
 
-ghost use Rattle.std.specs.Prelude.{◌≡◌, ◌≢◌, ◌<◌, ◌-◌, ℕ, ℤ, List, All, AllPairs, length, IfOk, MatchResult};
+ghost use Rattle.std.specs.Prelude.{◌≡◌, ◌≢◌, ◌<◌, ◌-◌, All, AllPairs, IfOk, MatchResult};
 ghost use Rattle.isl_meter.specs.Gauge.{IsCharged, IsCutBy};
 ghost use Rattle.isl_piece.specs.System.{IsSystemWithin};
 ghost use Rattle.isl_elim.specs.Elimination.{is_among, IsProjectionAlong};

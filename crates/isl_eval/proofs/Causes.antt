@@ -1,9 +1,8 @@
 -- What holds of causes and of what is bound, whatever the language.
-use Rattle.std.proofs.Common.{◌≡◌, ℕ, ℤ, ◌≤◌, ◌-◌, ◌^◌, true, List, get_or, subst, arith, unsigned_abs}
+use Rattle.std.proofs.Common.{◌≡◌, ℕ, ℤ, ◌≤◌, ◌-◌, ◌^◌, true, List, get_or, subst}
 use Rattle.isl_math.specs.Count.{Rose}
-use Rattle.isl_meter.specs.Gauge.{Gauge, IsWithin, limit_of}
-use Rattle.isl_piece.specs.declared.constraint.Row.{Row}
-use Rattle.isl_piece.specs.Row.{IsRowWithin, IsRowUpTo}
+use Rattle.isl_meter.specs.Gauge.{Gauge, limit_of}
+use Rattle.isl_piece.proofs.RowMagnitudes.{up_to_limit}
 use Rattle.isl_union.specs.KeptValue.{KeptValue}
 use Rattle.isl_tree.specs.declared.tree.Literal.{Literal}
 use Rattle.isl_tree.specs.Known.{literal_is_known}
@@ -29,18 +28,8 @@ refuses_fault limit state bytes before now fault.NoMemory why = tt
 refuses_fault limit state bytes before now fault.Syntax why = why
 
 -- ---- numbers within the limit
-within_up_to : (g : Gauge) (z : ℤ) → IsWithin g z → unsigned_abs z ≤ 2 ^ g.bits - 1
-within_up_to g z within = omega (arith, within)
-
-row_up_to : (g : Gauge) (r : Row) → IsRowWithin g r → IsRowUpTo (2 ^ g.bits - 1) r
-row_up_to g r within = record {
-  coefs = λ i d low. within_up_to g (get_or r.coefs i d) (within.coefs i d low);
-  constant = within_up_to g r.constant within.constant;
-  k = within_up_to g r.k within.k;
-}
-
 pub value_up_to : (g : Gauge) (value : KeptValue) → IsValueWithin g value → HasNumbersUpTo (2 ^ g.bits - 1) value
-value_up_to g value within i d low = λ j e inside. row_up_to g (get_or (get_or value.pieces i d).rows j e) (within i d low j e inside)
+value_up_to g value within i d low = λ j e inside. up_to_limit g (get_or (get_or value.pieces i d).rows j e) (within i d low j e inside)
 
 pub showable : (g : Gauge) (literal : Literal) (value : KeptValue) → literal_is_known literal ≡ true → value ≡ value_lowered literal → IsValueWithin g value → IsShowable (limit_of g) literal
 showable g literal value known is within = record { known = known; within = subst (HasNumbersUpTo (2 ^ g.bits - 1)) is (value_up_to g value within) }

@@ -2,7 +2,7 @@
 use Rattle.std.proofs.Common.{◌≡◌, ◌-◌, ℕ, zero, suc, List, [], ◌∷◌, take, Option, Some, None, IfSome, subst, rules}
 use Rattle.std.specs.List.{All}
 use Rattle.std.proofs.lemmas.List.Elements.{All-nil, All-append}
-use Rattle.isl_token.specs.declared.token.Token.{Token}
+use Rattle.isl_token.specs.TokenView.{Token}
 use Rattle.isl_token.specs.Token.{Text, IsToken}
 use Rattle.isl_token.specs.Lex.{cut, tokens_of, join, tokens_from, tokens, IsPiece}
 use Rattle.isl_token.proofs.Fronts.{front_piece}

@@ -3,3 +3,4 @@ pub mod LexLaws
 pub mod NameLaws
 pub mod ReadLaws
 pub mod SoundLaws
+pub mod FormLaws

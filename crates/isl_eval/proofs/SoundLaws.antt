@@ -12,7 +12,7 @@ use Rattle.isl_space.specs.Name.{Name}
 use Rattle.isl_space.specs.Names.{AreDistinct}
 use Rattle.isl_space.specs.Form.{leaves_of}
 use Rattle.isl_space.specs.SpaceForm.{space_leaves_of, IsNarrowSpace}
-use Rattle.isl_token.specs.declared.token.Token.{Token}
+use Rattle.isl_token.specs.TokenView.{Token}
 use Rattle.isl_token.specs.Token.{IsToken}
 use Rattle.isl_tree.specs.declared.tree.Tuple.{Tuple, Leaf, Pair'}
 use Rattle.isl_tree.specs.declared.tree.PieceTree.{PieceTree}

@@ -1,17 +1,17 @@
-// What a statement's bytes spell.
+//! What a statement's bytes spell.
+
 ghost use Rattle.std.specs.Prelude.{◌≡◌, ◌≤ℤ◌, ◌&&◌, ℕ, ℤ, List, pos, false, not, All, IfOk, MatchResult};
 ghost use Rattle.std.specs.List.{list_any};
 ghost use Rattle.isl_token.specs.Token.{IsToken};
 ghost use Rattle.isl_tree.specs.Plain.{is_plain};
 ghost use Rattle.isl_text.specs.Limits.{is_within};
-ghost use Rattle.isl_text.specs.Read.{has_wide_number};
-ghost use Rattle.isl_eval.specs.Statement.{is_later, is_inside_behind, has_nested, TokensSpell, BytesSpell, IsWhyNot, IsWhyNoLiteral, IsSound, SpellOne};
+ghost use Rattle.isl_eval.specs.Statement.{is_later, is_later_kind, is_inside_behind, has_nested, TokensSpell, BytesSpell, IsWhyNot, IsWhyNoLiteral, IsSound, SpellOne};
 
 use isl_lower::is_plain;
-use isl_text::limits::{has_wide_number, is_within};
+use isl_text::limits::is_within;
 use isl_text::read::literal_at;
-use isl_token::token::kind_of;
-use isl_token::{Fault, Kind, Token, Tokens, tokens};
+use isl_text::wide::has_wide_number;
+use isl_token::{Fault, Kind, Rest, Tokens, tokens};
 use isl_tree::tree::Literal;
 use std::alloc::Global;
 
@@ -24,20 +24,23 @@ pub enum Statement {
     Show(Literal),
 }
 
-fn is_later(token: &Token) -> bool
-    ensures { result ≡ is_later token.now }
+fn is_later(kind: Kind) -> bool
+    ensures { result ≡ is_later_kind kind }
 {
-    matches!(
-        kind_of(token),
-        Kind::Open | Kind::Close | Kind::Not | Kind::Exists
-    )
+    matches!(kind, Kind::Open | Kind::Close | Kind::Not | Kind::Exists)
 }
 
-// Whether tokens of later forms are there.
-fn has_later(tokens: &[Token]) -> bool
-    ensures { result ≡ list_any is_later tokens.now }
+/// Whether tokens of later forms are there.
+#[tactic(auto, using(crate::proofs::FormLaws::later))]
+fn has_later(mut rest: Rest<'_>) -> bool
+    ensures { result ≡ list_any is_later rest.entry }
 {
-    tokens.iter().any(|token| is_later(token))
+    while let Some(kind) = rest.next() {
+        if is_later(kind) {
+            return true;
+        }
+    }
+    false
 }
 
 fn is_inside_behind(inside: bool, kind: Kind) -> bool
@@ -50,13 +53,13 @@ fn is_inside_behind(inside: bool, kind: Kind) -> bool
     }
 }
 
-// Whether a square bracket opens within square brackets.
-fn has_nested(tokens: &[Token]) -> bool
-    ensures { result ≡ has_nested false tokens.now }
+/// Whether a square bracket opens within square brackets.
+#[tactic(auto, using(crate::proofs::FormLaws::nested))]
+fn has_nested(mut rest: Rest<'_>) -> bool
+    ensures { result ≡ has_nested false rest.entry }
 {
     let mut inside = false;
-    for token in tokens {
-        let kind = kind_of(token);
+    while let Some(kind) = rest.next() {
         if inside && kind == Kind::OpenSquare {
             return true;
         }
@@ -65,27 +68,29 @@ fn has_nested(tokens: &[Token]) -> bool
     false
 }
 
-// Whether a literal that these tokens spell is plain, and keeps the limits.
-fn is_fit(literal: &Literal, tokens: &[Token], limit: i128) -> bool
-    requires { pos 0 ≤ℤ limit }
-    ensures { result ≡ is_plain literal.now && is_within literal.now && not (has_wide_number limit tokens.now) }
+/// Whether a literal is plain, and keeps the limits of its size.
+fn is_fit(literal: &Literal) -> bool
+    ensures { result ≡ is_plain literal.now && is_within literal.now }
 {
-    is_plain(literal) && is_within(literal) && !has_wide_number(tokens, limit)
+    is_plain(literal) && is_within(literal)
 }
 
-// The literal that the tokens spell, where it is one of those that are taken. Tokens of later forms are looked for first, so
-// that brackets can't be nested deep where a literal is read.
-fn read_plain(alloc: Global, tokens: &Tokens, limit: i128) -> Result<Literal, Fault>
+/// The literal that the tokens spell, where it is one of those that are taken.
+///
+/// What the tokens tell is asked first, so that no literal is read that is refused for them, and none whose brackets are nested deep.
+fn read_plain(alloc: Global, tokens: &Tokens<'_>, limit: i128) -> Result<Literal, Fault>
     requires limited { pos 0 ≤ℤ limit }
     ensures { MatchResult result (λ literal. TokensSpell limit tokens.now (Statement.Show literal)) (IsWhyNoLiteral limit tokens.now) }
 {
-    let tokens = tokens.as_slice();
-    if has_later(tokens) || has_nested(tokens) {
+    if has_later(tokens.rest()) || has_nested(tokens.rest()) {
+        return Err(Fault::Syntax);
+    }
+    if has_wide_number(tokens.rest(), limit) {
         return Err(Fault::Syntax);
     }
     match literal_at(alloc, tokens, 0) {
         Ok((literal, next)) => {
-            if next == tokens.len() && is_fit(&literal, tokens, limit) {
+            if next == tokens.rest().left() && is_fit(&literal) {
                 Ok(literal)
             } else {
                 Err(Fault::Syntax)
@@ -105,7 +110,7 @@ pub(crate) fn read_statement(alloc: Global, bytes: &[u8], limit: i128) -> Result
         Ok(tokens) => tokens,
         Err(fault) => return Err(fault),
     };
-    if tokens.is_empty() {
+    if tokens.rest().left() == 0 {
         return Ok(Statement::Empty);
     }
     match read_plain(alloc, &tokens, limit) {

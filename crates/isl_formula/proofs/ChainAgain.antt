@@ -1,19 +1,18 @@
 -- What spells a chain of comparisons, or the names that `exists` binds, is read again.
-use Rattle.std.proofs.Common.{◌≡◌, ◌≢◌, ℕ, zero, suc, ◌+◌, ◌<◌, Bool, true, false, cond, not, ◌&&◌, List, [], ◌∷◌, ◌++◌, length, Option, Some, None, refl, sym, ap, ◌∙◌, inl, inr, arith}
+use Rattle.std.proofs.Common.{◌≡◌, ℕ, ◌<◌, Bool, true, false, not, ◌&&◌, List, [], ◌∷◌, ◌++◌, length, Option, Some, refl, ap, inl, inr, arith}
 use Rattle.std.specs.Prelude.{is_some}
 use Rattle.std.proofs.lemmas.Bool.{false≢true, not-true}
-use Rattle.isl_token.specs.declared.token.Token.{Token}
+use Rattle.isl_token.specs.TokenView.{Token}
 use Rattle.isl_token.specs.declared.token.Kind.{Kind}
 use Rattle.isl_token.specs.declared.token.Kind.TheVariants as k
-use Rattle.isl_token.specs.Token.{is_kind, kind_of}
+use Rattle.isl_token.specs.Token.{is_kind}
 use Rattle.isl_token.specs.Reading.{Parser, head_kind, sees}
 use Rattle.isl_token.specs.Reading as r
 use Rattle.isl_token.specs.Spelling.{Grammar}
 use Rattle.isl_token.specs.Spelling as s
-use Rattle.isl_token.proofs.Again.{Stops, Again, Starts, Follows, Full, Items, always, again_map, again_bind, again_skip, again_pure, again_name, again_row, again_whole_row, follows_pure, follows_starts, follows_always, follows_bind, follows_many, starts_bind, starts_more, starts_word, starts_with, full_word, full_bind}
+use Rattle.isl_token.proofs.Again.{Stops, Again, Starts, Full, Items, always, again_map, again_bind, again_skip, again_pure, again_name, again_row, again_whole_row, follows_pure, follows_starts, follows_always, follows_bind, follows_many, starts_bind, starts_more, starts_word, starts_with, full_word, full_bind}
 use Rattle.isl_tree.specs.declared.tree.Signed.{Signed}
 use Rattle.isl_tree.specs.declared.tree.Compare.{Compare}
-use Rattle.isl_tree.specs.declared.tree.Binder.{Binder}
 use Rattle.isl_tree.specs.declared.tree.Formula.TheVariants as f
 use Rattle.isl_formula.specs.Chain as read
 use Rattle.isl_formula.specs.FormulaGrammar as spell

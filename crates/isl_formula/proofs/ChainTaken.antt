@@ -1,6 +1,6 @@
 -- A chain of comparisons that is read is spelled so, and names that `exists` binds.
-use Rattle.std.proofs.Common.{◌≡◌, ◌≢◌, Bool, true, false, cond, List, [], ◌∷◌, ◌++◌, Option, Some, None, refl, ap, ◌∙◌}
-use Rattle.isl_token.specs.declared.token.Token.{Token}
+use Rattle.std.proofs.Common.{◌≡◌, true, List, [], ◌∷◌, Option, Some, None, refl, ap, ◌∙◌}
+use Rattle.isl_token.specs.TokenView.{Token}
 use Rattle.isl_token.specs.declared.token.Kind.TheVariants as k
 use Rattle.isl_token.specs.Token.{kind_of}
 use Rattle.isl_token.specs.Reading.{Parser, sees}
@@ -10,7 +10,6 @@ use Rattle.isl_token.specs.Spelling as s
 use Rattle.isl_token.proofs.Taking.{TakesAt, Takes, takes_pure, takes_none, takes_bind, takes_map, takes_seen, takes_name, takes_row, takes_whole_row, takes_test, same_read}
 use Rattle.isl_tree.specs.declared.tree.Signed.{Signed}
 use Rattle.isl_tree.specs.declared.tree.Compare.{Compare}
-use Rattle.isl_tree.specs.declared.tree.Binder.{Binder}
 use Rattle.isl_tree.specs.declared.tree.Formula.TheVariants as f
 use Rattle.isl_formula.specs.Chain as read
 use Rattle.isl_formula.specs.FormulaGrammar as spell

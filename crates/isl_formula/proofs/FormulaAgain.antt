@@ -1,17 +1,16 @@
 -- What spells a formula is read again.
-use Rattle.std.proofs.Common.{◌≡◌, ◌≢◌, ℕ, zero, suc, ◌+◌, ◌<◌, Bool, true, false, cond, not, ◌&&◌, List, [], ◌∷◌, ◌++◌, length, Option, Some, None, refl, sym, ap, ◌∙◌, inl, inr, arith}
-use Rattle.std.specs.Prelude.{is_some}
+use Rattle.std.proofs.Common.{◌≡◌, ℕ, zero, suc, ◌<◌, Bool, true, false, not, List, ◌++◌, length, Some, refl, ap, ◌∙◌, inl, inr, arith}
 use Rattle.std.proofs.lemmas.Bool.{false≢true, not-true}
-use Rattle.isl_token.specs.declared.token.Token.{Token}
+use Rattle.isl_token.specs.TokenView.{Token}
 use Rattle.isl_token.specs.declared.token.Kind.{Kind}
 use Rattle.isl_token.specs.declared.token.Kind.TheVariants as k
-use Rattle.isl_token.specs.Token.{is_kind, kind_of}
+use Rattle.isl_token.specs.Token.{is_kind}
 use Rattle.isl_token.specs.Reading.{Parser, head_kind, sees}
 use Rattle.isl_token.specs.Reading as r
 use Rattle.isl_token.specs.Spelling.{Grammar}
 use Rattle.isl_token.specs.Spelling as s
-use Rattle.isl_token.proofs.Taking.{is_kind_same, is_kind_true}
-use Rattle.isl_token.proofs.Again.{Stops, Again, Starts, Follows, always, again_pure, again_map, again_weaker, again_bind, again_skip, again_after, again_end, follows_pure, follows_starts, follows_either, follows_word, starts_bind, starts_either, starts_more, starts_then, starts_word, starts_with, starts_name, starts_kind, head_is, head_of_word}
+use Rattle.isl_token.proofs.Taking.{is_kind_true}
+use Rattle.isl_token.proofs.Again.{Stops, Again, Starts, always, again_pure, again_map, again_weaker, again_bind, again_skip, again_after, again_end, follows_pure, follows_starts, follows_either, follows_word, starts_bind, starts_either, starts_more, starts_then, starts_word, starts_with, starts_name, starts_kind, head_is, head_of_word}
 use Rattle.isl_tree.specs.declared.tree.Signed.{Signed}
 use Rattle.isl_tree.specs.declared.tree.Formula.{Formula}
 use Rattle.isl_tree.specs.declared.tree.Formula.TheVariants as f

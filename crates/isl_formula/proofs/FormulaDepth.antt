@@ -1,6 +1,5 @@
 -- A unary reads one level.
-use Rattle.std.proofs.Common.{◌≡◌, ℕ, zero, suc, ◌-◌, ◌<◌, refl, ap, arith}
-use Rattle.isl_token.specs.Reading.{Parser}
+use Rattle.std.proofs.Common.{◌≡◌, ℕ, zero, suc, ◌-◌, ◌<◌, ap, arith}
 use Rattle.isl_formula.specs.Term.{term}
 use Rattle.isl_formula.specs.Formula.{unary, unary_level}
 

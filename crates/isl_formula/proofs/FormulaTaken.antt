@@ -1,17 +1,14 @@
 -- A formula that is read is spelled so.
-use Rattle.std.proofs.Common.{◌≡◌, ◌≢◌, ℕ, zero, suc, Bool, true, false, cond, List, [], ◌∷◌, ◌++◌, Option, Some, None, refl, sym, ap, subst, ◌∙◌, inl, inr, append_assoc}
-use Rattle.std.specs.Prelude.{◌⊎◌}
+use Rattle.std.proofs.Common.{◌≡◌, ◌≢◌, ℕ, zero, suc, Bool, true, false, List, [], ◌++◌, Some, refl, sym, ap, subst, ◌∙◌, inl, inr, append_assoc}
 use Rattle.std.proofs.lemmas.List.{append-nil}
 use Rattle.std.proofs.lemmas.Bool.{false≢true}
-use Rattle.isl_token.specs.declared.token.Token.{Token}
+use Rattle.isl_token.specs.TokenView.{Token}
 use Rattle.isl_token.specs.declared.token.Kind.{Kind}
 use Rattle.isl_token.specs.declared.token.Kind.TheVariants as k
 use Rattle.isl_tree.specs.declared.tree.Signed.{Signed}
-use Rattle.isl_tree.specs.declared.tree.Compare.{Compare}
-use Rattle.isl_tree.specs.declared.tree.Binder.{Binder}
 use Rattle.isl_tree.specs.declared.tree.Formula.{Formula}
 use Rattle.isl_tree.specs.declared.tree.Formula.TheVariants as f
-use Rattle.isl_token.specs.Token.{is_kind, kind_of}
+use Rattle.isl_token.specs.Token.{is_kind}
 use Rattle.isl_token.specs.Reading.{Parser, and_then, head_kind, tail}
 use Rattle.isl_token.specs.Reading as r
 use Rattle.isl_token.specs.Spelling.{Grammar}
@@ -24,7 +21,7 @@ use Rattle.isl_formula.specs.Ahead.{begins}
 use Rattle.isl_formula.specs.Chain as chains
 use Rattle.isl_formula.specs.Formula as read
 use Rattle.isl_formula.specs.FormulaGrammar as spell
-use Rattle.isl_token.proofs.Taking.{TakesAt, Takes, takes_pure, takes_none, takes_bind, takes_or_left, takes_or_right, takes_peek, takes_if, takes_skip, takes_expect, takes_name, takes_row, takes_whole_row, is_kind_true, chosen, and_then_some, same_read, both_left}
+use Rattle.isl_token.proofs.Taking.{TakesAt, Takes, takes_pure, takes_bind, takes_or_left, takes_or_right, takes_skip, takes_expect, is_kind_true, chosen, and_then_some, same_read}
 use Rattle.isl_formula.proofs.TermTaken.{term_taken}
 use Rattle.isl_formula.proofs.ChainTaken.{chain_taken, binders_taken}
 use Rattle.isl_formula.proofs.OpenBrackets.{begins_bracket}

@@ -9,6 +9,7 @@ pub mod RowsTaken
 pub mod RowsAgain
 pub mod ChainTaken
 pub mod FormulaTaken
+pub mod AheadTurns
 pub mod Marks
 pub mod TermMarks
 pub mod FormulaMarks

@@ -1,8 +1,7 @@
 -- What a look ahead sees in a text: no mark, or one.
-use Rattle.std.proofs.Common.{◌≡◌, ◌≢◌, ℕ, ℤ, zero, suc, Bool, true, false, cond, not, List, [], ◌∷◌, ◌++◌, Option, Some, None, refl, sym, ap, ◌∙◌, inl, inr, append_assoc}
-use Rattle.isl_token.specs.declared.token.Token.{Token}
+use Rattle.std.proofs.Common.{◌≡◌, ℕ, zero, suc, Bool, true, false, cond, not, List, [], ◌∷◌, ◌++◌, refl, ap, ◌∙◌, inl, inr, append_assoc}
+use Rattle.isl_token.specs.TokenView.{Token}
 use Rattle.isl_token.specs.declared.token.Kind.{Kind}
-use Rattle.isl_token.specs.declared.token.Kind.TheVariants as k
 use Rattle.isl_token.specs.Token.{is_kind, kind_of}
 use Rattle.isl_token.specs.Reading.{head_kind, sees}
 use Rattle.isl_token.specs.Spelling.{Grammar}
@@ -10,7 +9,7 @@ use Rattle.isl_token.specs.Spelling as s
 use Rattle.isl_token.proofs.Taking.{is_kind_true, is_kind_same}
 use Rattle.isl_token.proofs.Again.{Stops, Starts}
 use Rattle.isl_formula.specs.declared.ahead.Mark.{Mark}
-use Rattle.isl_formula.specs.Ahead.{is_mark, mark_step, holds, begins}
+use Rattle.isl_formula.specs.Ahead.{mark_step, holds, begins}
 
 -- no mark, and each bracket closed
 pub record Clear (m : Mark) {A : Type 0} (L : Grammar A) : Type 0 where

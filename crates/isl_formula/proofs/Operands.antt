@@ -1,6 +1,6 @@
 -- What an operator joins.
-use Rattle.std.proofs.Common.{◌≡◌, Bool, true, false, cond, List, [], ◌∷◌, Option, Some, None, Result, Err, refl, sym, subst}
-use Rattle.isl_token.specs.declared.token.Token.{Token}
+use Rattle.std.proofs.Common.{◌≡◌, true, false, List, [], ◌∷◌, Some, Result, Err, refl, sym, subst}
+use Rattle.isl_token.specs.TokenView.{Token}
 use Rattle.isl_token.specs.declared.fault.Fault.{Fault}
 use Rattle.isl_token.specs.declared.fault.Fault.TheVariants.{NoMemory, Syntax}
 use Rattle.isl_token.specs.declared.token.Kind.{Kind}

@@ -1,19 +1,17 @@
 -- Rows of one operator, whose last item may be open: what is spelled so is read again.
-use Rattle.std.proofs.Common.{◌≡◌, ◌≢◌, ℕ, zero, suc, ◌+◌, ◌<◌, ◌≤◌, Bool, true, false, cond, not, List, [], ◌∷◌, ◌++◌, length, Option, Some, None, refl, sym, ap, subst, ◌∙◌, inl, inr, arith, append_assoc, length-append}
-use Rattle.std.specs.Prelude.{◌⊎◌}
+use Rattle.std.proofs.Common.{◌≡◌, ℕ, zero, suc, ◌+◌, ◌<◌, ◌≤◌, Bool, true, false, List, [], ◌∷◌, ◌++◌, length, Some, refl, sym, ap, ◌∙◌, inl, inr, arith, append_assoc, length-append}
 use Rattle.std.proofs.lemmas.List.{append-nil}
-use Rattle.isl_token.specs.declared.token.Token.{Token}
+use Rattle.isl_token.specs.TokenView.{Token}
 use Rattle.isl_token.specs.declared.token.Kind.{Kind}
 use Rattle.isl_tree.specs.declared.tree.Formula.{Formula}
 use Rattle.isl_token.specs.Token.{is_kind}
-use Rattle.isl_token.specs.Reading.{Parser, and_then, head_kind, rest_of, row}
-use Rattle.isl_token.specs.Reading as r
+use Rattle.isl_token.specs.Reading.{Parser, rest_of, row}
 use Rattle.isl_token.specs.Spelling.{Grammar}
 use Rattle.isl_token.specs.Spelling as s
 use Rattle.isl_token.specs.Reading.{sees}
 use Rattle.isl_formula.specs.Formula as read
 use Rattle.isl_formula.specs.FormulaGrammar as spell
-use Rattle.isl_token.proofs.Again.{Stops, Again, Starts, Full, again_skip, again_weaker, starts_bind, starts_word, full_bind, full_word, no_to_false}
+use Rattle.isl_token.proofs.Again.{Stops, Again, Starts, Full, again_skip, starts_bind, starts_word, full_bind, full_word}
 use Rattle.isl_token.proofs.Taking.{is_kind_same}
 use Rattle.isl_token.proofs.Turns.{stops as stopped}
 

@@ -1,10 +1,10 @@
 -- Rows of one operator, whose last item may be open: what is read is spelled so.
-use Rattle.std.proofs.Common.{◌≡◌, ◌≢◌, ℕ, zero, suc, ◌<◌, ◌≤◌, Bool, true, false, cond, not, List, [], ◌∷◌, ◌++◌, length, Option, Some, None, refl, sym, ap, subst, ◌∙◌, inl, inr, append_assoc, arith, length-append}
+use Rattle.std.proofs.Common.{◌≡◌, ◌≢◌, ℕ, zero, suc, ◌<◌, ◌≤◌, Bool, true, false, List, [], ◌∷◌, ◌++◌, length, Some, refl, sym, ap, subst, ◌∙◌, inl, inr, append_assoc, arith, length-append}
 use Rattle.std.specs.Prelude.{◌⊎◌}
 use Rattle.std.proofs.lemmas.List.{append-nil}
 use Rattle.std.proofs.lemmas.Bool.{false≢true, false_from_ne_true}
 use Rattle.isl_token.proofs.Turns.{stops}
-use Rattle.isl_token.specs.declared.token.Token.{Token}
+use Rattle.isl_token.specs.TokenView.{Token}
 use Rattle.isl_token.specs.declared.token.Kind.{Kind}
 use Rattle.isl_token.specs.declared.token.Kind.TheVariants as k
 use Rattle.isl_tree.specs.declared.tree.Formula.{Formula}
@@ -16,7 +16,7 @@ use Rattle.isl_token.specs.Spelling as s
 use Rattle.isl_token.specs.Reading.{sees}
 use Rattle.isl_formula.specs.Formula as read
 use Rattle.isl_formula.specs.FormulaGrammar as spell
-use Rattle.isl_token.proofs.Taking.{TakesAt, Takes, and_then_some, same_read, chosen, takes_bind, takes_skip, is_kind_true}
+use Rattle.isl_token.proofs.Taking.{and_then_some, same_read, chosen, takes_skip, is_kind_true}
 
 -- what does not go on with a row of formulas
 abbrev pub ends_rows : Kind → Bool

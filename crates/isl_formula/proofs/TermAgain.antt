@@ -1,8 +1,8 @@
 -- What spells a term is read again.
-use Rattle.std.proofs.Common.{◌≡◌, ◌≢◌, ℕ, ℤ, zero, suc, ◌+◌, ◌<◌, Bool, true, false, cond, not, ◌&&◌, List, [], ◌∷◌, ◌++◌, length, Option, Some, None, refl, sym, ap, ◌∙◌, inl, inr, arith}
+use Rattle.std.proofs.Common.{◌≡◌, ℕ, ℤ, zero, suc, ◌<◌, Bool, true, false, not, List, [], ◌∷◌, ◌++◌, length, Option, Some, None, refl, sym, ap, ◌∙◌, inl, inr, arith}
 use Rattle.std.proofs.lemmas.Bool.{false≢true, not-true}
-use Rattle.isl_token.specs.declared.token.Token.{Token}
-use Rattle.isl_token.specs.declared.token.Token.TheVariants as token
+use Rattle.isl_token.specs.TokenView.{Token}
+use Rattle.isl_token.specs.TokenView as token
 use Rattle.isl_token.specs.declared.token.Kind.{Kind}
 use Rattle.isl_token.specs.declared.token.Kind.TheVariants as k
 use Rattle.isl_token.specs.Token.{is_kind, kind_of}
@@ -11,12 +11,11 @@ use Rattle.isl_token.specs.Reading as r
 use Rattle.isl_token.specs.Spelling.{Grammar}
 use Rattle.isl_token.specs.Spelling as s
 use Rattle.isl_token.proofs.Taking.{is_kind_same}
-use Rattle.isl_token.proofs.Again.{Stops, Again, Starts, Items, always, again_pure, again_map, again_bind, again_skip, again_after, again_end, again_name, again_number, again_positive, again_row, again_whole_row, starts_kind, starts_with, head_is, head_of_word, Follows, Full, follows_pure, follows_map, follows_starts, follows_either, follows_always, follows_bind, follows_many, follows_word, starts_bind, starts_either, starts_more, starts_always, starts_word, starts_name, starts_number, full_word, full_bind, full_either}
+use Rattle.isl_token.proofs.Again.{Stops, Again, Starts, Items, always, again_pure, again_map, again_bind, again_skip, again_after, again_end, again_name, again_number, again_positive, again_row, again_whole_row, starts_kind, starts_with, head_is, head_of_word, Follows, Full, follows_pure, follows_starts, follows_either, follows_always, follows_bind, follows_many, follows_word, starts_bind, starts_either, starts_more, starts_always, starts_word, starts_name, starts_number, full_word, full_bind, full_either}
 use Rattle.isl_tree.specs.declared.tree.Factor.{Factor}
 use Rattle.isl_tree.specs.declared.tree.Factor.TheVariants as f
 use Rattle.isl_tree.specs.declared.tree.Modded.{Modded}
 use Rattle.isl_tree.specs.declared.tree.Product.{Product}
-use Rattle.isl_tree.specs.declared.tree.Signed.{Signed}
 use Rattle.isl_formula.specs.declared.term.Rounding.{Rounding}
 use Rattle.isl_formula.specs.declared.term.Rounding.TheVariants.{Down, Up}
 use Rattle.isl_formula.specs.Term as read

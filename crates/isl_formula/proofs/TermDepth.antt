@@ -1,7 +1,5 @@
 -- A product reads one level.
-use Rattle.std.proofs.Common.{◌≡◌, ℕ, zero, suc, ◌-◌, ◌<◌, refl, ap, arith}
-use Rattle.isl_tree.specs.declared.tree.Product.{Product}
-use Rattle.isl_token.specs.Reading.{Parser}
+use Rattle.std.proofs.Common.{◌≡◌, ℕ, zero, suc, ◌-◌, ◌<◌, ap, arith}
 use Rattle.isl_formula.specs.Term.{product, product_level}
 
 pub deeper : (n : ℕ) → 0 < n → product n ≡ product_level (product (n - 1))

@@ -1,20 +1,16 @@
 -- A term holds no mark, and its brackets are closed.
-use Rattle.std.proofs.Common.{◌≡◌, ℕ, ℤ, zero, suc, Bool, true, false, List, [], ◌∷◌, Option, Some, None, refl}
-use Rattle.isl_token.specs.declared.token.Token.{Token}
+use Rattle.std.proofs.Common.{◌≡◌, ℕ, zero, suc, Bool, true, false, None, refl}
 use Rattle.isl_token.specs.declared.token.Kind.{Kind}
 use Rattle.isl_token.specs.declared.token.Kind.TheVariants as k
 use Rattle.isl_token.specs.Spelling.{Grammar}
 use Rattle.isl_token.specs.Spelling as s
-use Rattle.isl_token.proofs.Again.{Starts, Follows, follows_either, follows_starts, follows_pure, starts_then, starts_bind, starts_either, starts_word, starts_with}
-use Rattle.isl_tree.specs.declared.tree.Factor.{Factor}
+use Rattle.isl_token.proofs.Again.{Starts, Follows, follows_either, follows_starts, follows_pure, starts_then, starts_bind, starts_either, starts_with}
 use Rattle.isl_tree.specs.declared.tree.Factor.TheVariants as f
 use Rattle.isl_tree.specs.declared.tree.Product.{Product}
-use Rattle.isl_tree.specs.declared.tree.Signed.{Signed}
 use Rattle.isl_formula.specs.declared.ahead.Mark.{Mark}
 use Rattle.isl_formula.specs.declared.term.Rounding.{Rounding}
 use Rattle.isl_formula.specs.declared.term.Rounding.TheVariants.{Down, Up}
 use Rattle.isl_formula.specs.Ahead.{mark_step}
-use Rattle.isl_formula.specs.Term.{rounded}
 use Rattle.isl_formula.specs.TermGrammar as spell
 use Rattle.isl_formula.proofs.Marks.{Clear, Closes, clear_pure, clear_nothing, clear_bind, clear_map, clear_either, clear_many, clear_word, clear_name, clear_number, clear_positive, closes_end, closes_bind, clear_brackets, plain, plain_brackets, plain_other}
 use Rattle.isl_formula.proofs.TermAgain.{lone_starts, numbered_starts}

@@ -1,7 +1,7 @@
 -- A term that is read is spelled so.
-use Rattle.std.proofs.Common.{◌≡◌, ◌≢◌, ℕ, ℤ, zero, suc, Bool, true, false, cond, List, [], ◌∷◌, ◌++◌, Option, Some, None, refl}
+use Rattle.std.proofs.Common.{◌≡◌, ◌≢◌, ℕ, zero, suc, Bool, true, false, List, [], ◌∷◌, Some, None, refl}
 use Rattle.std.proofs.lemmas.Bool.{false≢true, and_parts}
-use Rattle.isl_token.specs.declared.token.Token.{Token}
+use Rattle.isl_token.specs.TokenView.{Token}
 use Rattle.isl_token.specs.declared.token.Kind.{Kind}
 use Rattle.isl_token.specs.declared.token.Kind.TheVariants as k
 use Rattle.isl_token.specs.Token.{is_kind}
@@ -10,10 +10,8 @@ use Rattle.isl_token.specs.Reading as r
 use Rattle.isl_token.specs.Spelling.{Grammar}
 use Rattle.isl_token.specs.Spelling as s
 use Rattle.isl_token.proofs.Taking.{TakesAt, Takes, takes_pure, takes_none, takes_bind, takes_map, takes_past, takes_seen, takes_after, takes_end, takes_or_left, takes_or_right, takes_peek, takes_if, takes_name, takes_number, takes_positive, takes_row, takes_whole_row, takes_nothing_then, takes_either_then, takes_later_then, takes_test, is_kind_true}
-use Rattle.isl_tree.specs.declared.tree.Factor.{Factor}
 use Rattle.isl_tree.specs.declared.tree.Factor.TheVariants as f
 use Rattle.isl_tree.specs.declared.tree.Product.{Product}
-use Rattle.isl_tree.specs.declared.tree.Signed.{Signed}
 use Rattle.isl_formula.specs.declared.term.Rounding.{Rounding}
 use Rattle.isl_formula.specs.declared.term.Rounding.TheVariants.{Down, Up}
 use Rattle.isl_formula.specs.Term as read

@@ -1,6 +1,6 @@
 -- What a bracket begins, as the tokens up to the bracket that closes it tell.
 use Rattle.std.specs.Prelude.{ℕ, zero, suc, Bool, true, false, List, [], ◌∷◌, if◌then◌else◌}
-use Rattle.isl_token.specs.declared.token.Token.{Token}
+use Rattle.isl_token.specs.TokenView.{Token}
 use Rattle.isl_token.specs.declared.token.Kind.{Kind}
 use Rattle.isl_token.specs.declared.token.Kind.TheVariants as k
 use Rattle.isl_token.specs.Token.{is_kind, kind_of}

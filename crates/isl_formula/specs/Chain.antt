@@ -1,6 +1,6 @@
 -- Comparisons, and the names that `exists` binds: how they are read.
-use Rattle.std.specs.Prelude.{Bool, true, false, is_some, List, [], ◌∷◌, Option, Some, None, if◌then◌else◌}
-use Rattle.isl_token.specs.declared.token.Token.{Token}
+use Rattle.std.specs.Prelude.{Bool, is_some, List, [], ◌∷◌, Option, Some, None, if◌then◌else◌}
+use Rattle.isl_token.specs.TokenView.{Token}
 use Rattle.isl_token.specs.declared.token.Kind.{Kind}
 use Rattle.isl_token.specs.declared.token.Kind.TheVariants as k
 use Rattle.isl_token.specs.Reading.{Parser, ◌>>=◌, ◌>>◌, pure, none, head_kind, sees, peek, skip, name, row}

@@ -1,6 +1,5 @@
 -- Formulas: how they are read.
-use Rattle.std.specs.Prelude.{ℕ, zero, suc, Bool, true, false, List, [], ◌∷◌, Option, Some, None, if◌then◌else◌}
-use Rattle.isl_token.specs.declared.token.Token.{Token}
+use Rattle.std.specs.Prelude.{ℕ, zero, suc, List, [], ◌∷◌, Some, if◌then◌else◌}
 use Rattle.isl_token.specs.declared.token.Kind.{Kind}
 use Rattle.isl_token.specs.declared.token.Kind.TheVariants as k
 use Rattle.isl_token.specs.Reading.{Parser, ◌>>=◌, ◌>>◌, pure, none, sees, peek, skip, expect, row}

@@ -3,8 +3,7 @@
 ghost use Rattle.std.specs.Prelude.{◌≡◌};
 ghost use Rattle.isl_formula.specs.Ahead as spec;
 
-use isl_token::token::kind_of;
-use isl_token::{Cursor, Kind, Token};
+use isl_token::{Cursor, Kind, Rest};
 
 /// What is looked for in brackets.
 #[derive(Clone, Copy, Debug)]
@@ -37,13 +36,15 @@ fn is_mark(mark: Mark, kind: Kind) -> bool
 }
 
 /// Whether such a mark stands before the bracket that closes one that is open.
-#[tactic(auto, unfolding(crate::specs::Ahead::holds))]
-fn holds(mark: Mark, tokens: &[Token]) -> bool
-    ensures { result ≡ spec.holds mark tokens.now 0 }
+#[tactic(auto, using(crate::proofs::AheadTurns::turns))]
+fn holds(mark: Mark, mut rest: Rest<'_>) -> bool
+    ensures { result ≡ spec.holds mark rest.entry 0 }
 {
     let mut level: usize = 0;
-    for token in tokens {
-        match kind_of(token) {
+    for _turn in 0..rest.left() {
+        let kind = rest.peek();
+        rest.skip();
+        match kind {
             Kind::Open | Kind::OpenSquare => level += 1,
             Kind::Close | Kind::CloseSquare => {
                 if level == 0 {
@@ -62,11 +63,14 @@ fn holds(mark: Mark, tokens: &[Token]) -> bool
 }
 
 /// Whether the bracket comes next and such a mark stands in it.
+#[tactic(auto, using(crate::proofs::AheadTurns::begun))]
 pub fn begins(tokens: &Cursor<'_>, bracket: Kind, mark: Mark) -> bool
     ensures { result ≡ spec.begins bracket mark tokens.now }
 {
-    match tokens.rest() {
-        [token, rest @ ..] if kind_of(token) == bracket => holds(mark, rest),
-        _ => false,
+    let mut rest = tokens.rest();
+    if rest.left() == 0 || rest.peek() != bracket {
+        return false;
     }
+    rest.skip();
+    holds(mark, rest)
 }

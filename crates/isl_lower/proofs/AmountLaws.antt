@@ -1,5 +1,6 @@
 -- What a row of added amounts says of a point.
-use Rattle.std.proofs.Common.{◌≡◌, ◌∙◌, refl, sym, ap, ℕ, zero, suc, ◌+◌, ◌<◌, ℤ, pos, ◌+ℤ◌, ◌-ℤ◌, ◌*ℤ◌, List, [], ◌∷◌, ◌++◌, length, get_or, take, replicate, arith, ◌≤◌, ◌⊎◌}
+use Rattle.std.proofs.Common.{◌≡◌, ◌∙◌, refl, sym, ap, ℕ, zero, suc, ◌+◌, ◌<◌, ℤ, pos, ◌+ℤ◌, ◌-ℤ◌, ◌*ℤ◌, List, [], ◌∷◌, ◌++◌, length}
+use Rattle.std.proofs.Common.{get_or, take, replicate, arith, ◌≤◌, ◌⊎◌}
 use mathlib.Core.Logic.{inl, inr}
 use Rattle.isl_math.proofs.Ring.{expand, linear}
 use Rattle.isl_math.specs.Dot.{dot}
@@ -26,9 +27,12 @@ get_or_past (x ∷ xs) zero past = absurd (omega arith)
 get_or_past (x ∷ xs) (suc i) past = get_or_past xs i (omega arith)
 
 -- one amount more; one beyond the row changes nothing
-pub dot-with_amount : (row xs : List ℤ) (a : Amount) → length row ≡ length xs → dot (with_amount row a) xs ≡ dot row xs +ℤ a.1 *ℤ get_or xs a.0 (pos 0)
+pub dot-with_amount : (row xs : List ℤ) (a : Amount) → length row ≡ length xs
+    → dot (with_amount row a) xs ≡ dot row xs +ℤ a.1 *ℤ get_or xs a.0 (pos 0)
 dot-with_amount row xs a same = elim (below_or a.0 (length row)) [
-  | inl is ↦ let e = dot-set_left row xs a.0 (get_or row a.0 (pos 0) +ℤ a.1) is in e ∙ inside (dot row xs) (get_or row a.0 (pos 0)) a.1 (get_or xs a.0 (pos 0))
+  | inl is ↦ let e =
+      dot-set_left row xs a.0 (get_or row a.0 (pos 0) +ℤ a.1) is in e
+      ∙ inside (dot row xs) (get_or row a.0 (pos 0)) a.1 (get_or xs a.0 (pos 0))
   | inr is ↦
       let kept : with_amount row a ≡ row = set_past row a.0 (get_or row a.0 (pos 0) +ℤ a.1) is in
       let none : get_or xs a.0 (pos 0) ≡ pos 0 = get_or_past xs a.0 (omega arith) in
@@ -41,7 +45,8 @@ dot-with_amount row xs a same = elim (below_or a.0 (length row)) [
     outside : (d z x : ℤ) → x ≡ pos 0 → d ≡ d +ℤ z *ℤ x
     outside d z x e = rw e (simp expand (omega (arith, linear)))
 
-pub dot-with_amounts : (row xs : List ℤ) (amounts : List Amount) → length row ≡ length xs → dot (with_amounts row amounts) xs ≡ dot row xs +ℤ total xs amounts
+pub dot-with_amounts : (row xs : List ℤ) (amounts : List Amount) → length row ≡ length xs
+    → dot (with_amounts row amounts) xs ≡ dot row xs +ℤ total xs amounts
 dot-with_amounts row xs [] same = omega (arith, linear)
 dot-with_amounts row xs (a ∷ amounts) same =
     let first = dot-with_amount row xs a same in
@@ -49,7 +54,8 @@ dot-with_amounts row xs (a ∷ amounts) same =
     omega (arith, linear)
 
 -- a list of one number more, at a point with a 1 behind it
-pub dot-last : (row xs : List ℤ) → length row ≡ length xs + 1 → dot row (xs ++ pos 1 ∷ []) ≡ dot (take (length xs) row) xs +ℤ get_or row (length xs) (pos 0)
+pub dot-last : (row xs : List ℤ) → length row ≡ length xs + 1
+    → dot row (xs ++ pos 1 ∷ []) ≡ dot (take (length xs) row) xs +ℤ get_or row (length xs) (pos 0)
 dot-last [] xs same = absurd (omega arith)
 dot-last (c ∷ []) [] same = omega (arith, linear)
 dot-last (c ∷ (d ∷ row)) [] same = absurd (omega arith)
@@ -57,7 +63,8 @@ dot-last (c ∷ row) (x ∷ xs) same = let more = dot-last row xs (omega arith) 
 
 -- what the row of amounts says of a point
 pub row_at : (xs : List ℤ) (amounts : List Amount)
-    → dot (take (length xs) (row_of (length xs) amounts)) xs +ℤ get_or (row_of (length xs) amounts) (length xs) (pos 0) ≡ total (xs ++ pos 1 ∷ []) amounts
+    → dot (take (length xs) (row_of (length xs) amounts)) xs +ℤ get_or (row_of (length xs) amounts) (length xs) (pos 0) ≡ total
+    (xs ++ pos 1 ∷ []) amounts
 row_at xs amounts =
     let n = length xs in
     let zeros = replicate (n + 1) (pos 0) in

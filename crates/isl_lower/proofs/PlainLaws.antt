@@ -2,7 +2,8 @@
 use mathlib.Core.Former.{Count}
 use Rattle.std.proofs.Common.{◌≡◌, ◌∙◌, refl, sym, ap, Bool, true, false, ◌&&◌, List, [], ◌∷◌}
 use Rattle.std.specs.List.{list_all}
-use Rattle.isl_tree.specs.declared.tree.Formula.{Formula, And, Row_of-Formula, end_of-Formula, more_of-Formula, items-the_row-Formula, items_hidden-the_row-Formula-0}
+use Rattle.isl_tree.specs.declared.tree.Formula.{Formula, And, Row_of-Formula, end_of-Formula, more_of-Formula, items-the_row-Formula}
+use Rattle.isl_tree.specs.declared.tree.Formula.{items_hidden-the_row-Formula-0}
 use Rattle.isl_tree.specs.declared.tree.Formula.TheBlock.{hidden-the_row-Formula-0}
 use Rattle.std.proofs.Common.{◌++◌, Option, None, Some}
 use Rattle.std.proofs.lemmas.Bool.{false≢true}
@@ -10,7 +11,8 @@ use Rattle.isl_tree.specs.declared.tree.Entry.{Entry}
 use Rattle.isl_tree.specs.declared.tree.Tuple.{Tuple, Leaf, Pair'}
 use Rattle.isl_tree.specs.declared.tree.PieceTree.{PieceTree}
 use Rattle.isl_tree.specs.Literal.{entries_of, second_entries, piece_entries}
-use Rattle.isl_tree.specs.Plain.{is_plain_entry, is_plain_chain, are_plain_chains, is_plain_formula, is_plain_tuple, second_is_plain, body_is_plain, is_plain_piece}
+use Rattle.isl_tree.specs.Plain.{is_plain_entry, is_plain_chain, are_plain_chains, is_plain_formula, is_plain_tuple, second_is_plain}
+use Rattle.isl_tree.specs.Plain.{body_is_plain, is_plain_piece}
 use Rattle.isl_lower.specs.Placed.{is_placed_chain, are_placed_chains, formula_is_placed, entry_is_placed, entries_are_placed}
 use Rattle.std.proofs.Common.{ℕ, ◌+◌, ◌<◌, ◌≤◌, length, take, drop, get_or}
 use Rattle.std.proofs.lemmas.List.{take_more, drop_more, append-nil, append_assoc, drop_all}
@@ -27,9 +29,11 @@ pub plain_and : (f : Formula) (fs : List Formula) (b : Bool) → f ≡ And fs �
 plain_and f fs b is e = e ∙ sym (ap is_plain_formula is ∙ plain-And fs)
 
 -- ---- the entries of plain tuples
-pub all_of_both : (xs ys : List Entry) → list_all is_plain_entry xs ≡ true → list_all is_plain_entry ys ≡ true → list_all is_plain_entry (xs ++ ys) ≡ true
+pub all_of_both : (xs ys : List Entry) → list_all is_plain_entry xs ≡ true → list_all is_plain_entry ys ≡ true
+    → list_all is_plain_entry (xs ++ ys) ≡ true
 all_of_both [] ys first second = second
-all_of_both (x ∷ xs) ys first second = let both = both_true (is_plain_entry x) (list_all is_plain_entry xs) first in rw both.0 (all_of_both xs ys both.1 second)
+all_of_both (x ∷ xs) ys first second =
+    let both = both_true (is_plain_entry x) (list_all is_plain_entry xs) first in rw both.0 (all_of_both xs ys both.1 second)
 
 tuple_entries_plain : (tuple : Tuple) → is_plain_tuple tuple ≡ true → list_all is_plain_entry (entries_of tuple) ≡ true
 tuple_entries_plain (Leaf name entries) plain = plain
@@ -41,47 +45,64 @@ second_entries_plain (Some tuple) plain = tuple_entries_plain tuple plain
 
 pub piece_entries_plain : (piece : PieceTree) → is_plain_piece piece ≡ true → list_all is_plain_entry (piece_entries piece) ≡ true
 piece_entries_plain piece plain =
-    let tuples = both_true (is_plain_tuple piece.first) (second_is_plain piece.second) (both_true (is_plain_tuple piece.first && second_is_plain piece.second) (body_is_plain piece.body) plain).0 in
-    all_of_both (entries_of piece.first) (second_entries piece.second) (tuple_entries_plain piece.first tuples.0) (second_entries_plain piece.second tuples.1)
+    let tuples = both_true (is_plain_tuple piece.first) (second_is_plain piece.second)
+    (both_true (is_plain_tuple piece.first && second_is_plain piece.second) (body_is_plain piece.body) plain).0 in
+    all_of_both (entries_of piece.first) (second_entries piece.second) (tuple_entries_plain piece.first tuples.0)
+    (second_entries_plain piece.second tuples.1)
 
 -- ---- the names of plain formulas
 module _ (params : List (List ℕ)) (entries : List Entry) where
-  placed_chains_are : (m : Count) (row : Row_of-Formula m) → are_placed_chains params entries row ≡ list_all (is_placed_chain params entries) (items-the_row-Formula m row)
+  placed_chains_are : (m : Count) (row : Row_of-Formula m)
+      → are_placed_chains params entries row ≡ list_all (is_placed_chain params entries) (items-the_row-Formula m row)
   placed_chains_are m end_of-Formula = refl
   placed_chains_are m (more_of-Formula f row) = ap (λ (b : Bool). is_placed_chain params entries f && b) (placed_chains_are _ row)
 
   placed-And : (fs : List Formula) → formula_is_placed params entries (And fs) ≡ list_all (is_placed_chain params entries) fs
-  placed-And fs = placed_chains_are _ (hidden-the_row-Formula-0 fs) ∙ ap (list_all (is_placed_chain params entries)) (items_hidden-the_row-Formula-0 fs)
+  placed-And fs =
+      placed_chains_are _ (hidden-the_row-Formula-0 fs) ∙ ap (list_all (is_placed_chain params entries)) (items_hidden-the_row-Formula-0 fs)
 
-pub placed_and : (params : List (List ℕ)) (entries : List Entry) (f : Formula) (fs : List Formula) (b : Bool) → f ≡ And fs → b ≡ list_all (is_placed_chain params entries) fs → b ≡ formula_is_placed params entries f
+pub placed_and : (params : List (List ℕ)) (entries : List Entry) (f : Formula) (fs : List Formula) (b : Bool) → f ≡ And fs
+    → b ≡ list_all (is_placed_chain params entries) fs → b ≡ formula_is_placed params entries f
 placed_and params entries f fs b is e = e ∙ sym (ap (formula_is_placed params entries) is ∙ placed-And params entries fs)
 
 -- ---- the entries one after the other
-pub entries-next : (params : List (List ℕ)) (before xs : List Entry) (i : ℕ) (d : Entry) (total : Bool) → i < length xs → entry_is_placed params (before ++ take i xs) (get_or xs i d) ≡ true
-    → entries_are_placed params (before ++ take i xs) (drop i xs) ≡ total → entries_are_placed params (before ++ take (i + 1) xs) (drop (i + 1) xs) ≡ total
+pub entries-next : (params : List (List ℕ)) (before xs : List Entry) (i : ℕ) (d : Entry) (total : Bool) → i < length xs
+    → entry_is_placed params (before ++ take i xs) (get_or xs i d) ≡ true
+    → entries_are_placed params (before ++ take i xs) (drop i xs) ≡ total → entries_are_placed params (before ++ take (i + 1) xs)
+    (drop (i + 1) xs) ≡ total
 entries-next params before xs i d total inside placed so_far =
-    let longer : before ++ take (i + 1) xs ≡ (before ++ take i xs) ++ get_or xs i d ∷ [] = ap (λ (l : List Entry). before ++ l) (take_more xs i d inside) ∙ sym (append_assoc before (take i xs) (get_or xs i d ∷ [])) in
+    let longer : before ++ take (i + 1) xs ≡ (before ++ take i xs) ++ get_or xs i d ∷ [] = ap (λ (l : List Entry). before ++ l)
+    (take_more xs i d inside) ∙ sym (append_assoc before (take i xs) (get_or xs i d ∷ [])) in
     ap (λ (l : List Entry). entries_are_placed params l (drop (i + 1) xs)) longer
     ∙ ap (λ (b : Bool). b && entries_are_placed params ((before ++ take i xs) ++ get_or xs i d ∷ []) (drop (i + 1) xs)) (sym placed)
     ∙ ap (λ (l : List Entry). entries_are_placed params (before ++ take i xs) l) (sym (drop_more xs i d inside)) ∙ so_far
 
-pub entries-fail : (params : List (List ℕ)) (before xs : List Entry) (i : ℕ) (d : Entry) (total : Bool) → i < length xs → entry_is_placed params (before ++ take i xs) (get_or xs i d) ≡ false
+pub entries-fail : (params : List (List ℕ)) (before xs : List Entry) (i : ℕ) (d : Entry) (total : Bool) → i < length xs
+    → entry_is_placed params (before ++ take i xs) (get_or xs i d) ≡ false
     → entries_are_placed params (before ++ take i xs) (drop i xs) ≡ total → false ≡ total
 entries-fail params before xs i d total inside placed so_far =
     ap (λ (b : Bool). b && entries_are_placed params ((before ++ take i xs) ++ get_or xs i d ∷ []) (drop (i + 1) xs)) (sym placed)
     ∙ ap (λ (l : List Entry). entries_are_placed params (before ++ take i xs) l) (sym (drop_more xs i d inside)) ∙ so_far
 
-pub entries-end : (params : List (List ℕ)) (before xs : List Entry) (i : ℕ) (total : Bool) → length xs ≤ i → entries_are_placed params (before ++ take i xs) (drop i xs) ≡ total → true ≡ total
-entries-end params before xs i total past so_far = ap (λ (l : List Entry). entries_are_placed params (before ++ take i xs) l) (sym (drop_all i xs past)) ∙ so_far
+pub entries-end : (params : List (List ℕ)) (before xs : List Entry) (i : ℕ) (total : Bool) → length xs ≤ i
+    → entries_are_placed params (before ++ take i xs) (drop i xs) ≡ total → true ≡ total
+entries-end params before xs i total past so_far =
+    ap (λ (l : List Entry). entries_are_placed params (before ++ take i xs) l) (sym (drop_all i xs past)) ∙ so_far
 
-pub entries-start : (params : List (List ℕ)) (before xs : List Entry) → entries_are_placed params (before ++ take 0 xs) (drop 0 xs) ≡ entries_are_placed params before xs
+pub entries-start : (params : List (List ℕ)) (before xs : List Entry)
+    → entries_are_placed params (before ++ take 0 xs) (drop 0 xs) ≡ entries_are_placed params before xs
 entries-start params before xs = ap (λ (l : List Entry). entries_are_placed params l xs) (append-nil before)
 
-pub entries_are_placed-append : (params : List (List ℕ)) (before xs ys : List Entry) → entries_are_placed params before (xs ++ ys) ≡ (entries_are_placed params before xs && entries_are_placed params (before ++ xs) ys)
+pub entries_are_placed-append : (params : List (List ℕ)) (before xs ys : List Entry)
+    → entries_are_placed params before (xs ++ ys) ≡ (entries_are_placed params before xs && entries_are_placed params (before ++ xs) ys)
 entries_are_placed-append params before [] ys = ap (λ (l : List Entry). entries_are_placed params l ys) (sym (append-nil before))
 entries_are_placed-append params before (x ∷ xs) ys =
-    ap (λ (b : Bool). entry_is_placed params before x && b) (entries_are_placed-append params (before ++ x ∷ []) xs ys ∙ ap (λ (l : List Entry). entries_are_placed params (before ++ x ∷ []) xs && entries_are_placed params l ys) (append_assoc before (x ∷ []) xs))
-    ∙ grouped (entry_is_placed params before x) (entries_are_placed params (before ++ x ∷ []) xs) (entries_are_placed params (before ++ x ∷ xs) ys)
+    ap (λ (b : Bool). entry_is_placed params before x && b)
+    (entries_are_placed-append params (before ++ x ∷ []) xs ys
+    ∙ ap (λ (l : List Entry). entries_are_placed params (before ++ x ∷ []) xs && entries_are_placed params l ys)
+    (append_assoc before (x ∷ []) xs))
+    ∙ grouped (entry_is_placed params before x) (entries_are_placed params (before ++ x ∷ []) xs)
+    (entries_are_placed params (before ++ x ∷ xs) ys)
   where
     grouped : (a b c : Bool) → (a && (b && c)) ≡ ((a && b) && c)
     grouped true b c = refl

@@ -1,11 +1,12 @@
 -- Linear terms as rows of numbers: one for each column, and the constant behind them.
-use Rattle.std.specs.Prelude.{ℕ, ◌+◌, ℤ, pos, neg_ℤ, ◌+ℤ◌, Bool, true, false, not, List, [], ◌∷◌, ◌++◌, map, slice_index_or, slice_set, replicate, Option, Some, None, if◌then◌else◌}
+use Rattle.std.specs.Prelude.{ℕ, ◌+◌, ℤ, pos, neg_ℤ, ◌+ℤ◌, Bool, true, false, not, List, [], ◌∷◌, ◌++◌, map, slice_index_or, slice_set}
+use Rattle.std.specs.Prelude.{replicate, Option, Some, None, if◌then◌else◌}
 use Rattle.isl_tree.specs.declared.tree.Factor.{Name}
 use Rattle.isl_tree.specs.declared.tree.Signed.{Signed, Signed'}
 use Rattle.isl_tree.specs.declared.tree.Product.{Product', Some'}
 use Rattle.isl_tree.specs.declared.tree.Compare.{Compare}
 use Rattle.isl_tree.specs.declared.tree.Compare.TheVariants.{Equal, Less, LessEqual, Greater, GreaterEqual, Differs}
-use Rattle.isl_tree.specs.Term.{product_of}
+use Rattle.isl_tree.specs.Term.{Term, product_of}
 
 -- an amount that is added at a column; the constant stands behind the last one
 abbrev pub Amount : Type 0
@@ -39,7 +40,7 @@ named_place place n (Some name) = place name
 abbrev pub amount_of : ℕ → Place → Signed → Amount
 amount_of n place part = (named_place place n (part_name part), signed_product (is_negative part) (numbers_of part))
 
-abbrev pub amounts_of : ℕ → Place → List Signed → List Amount
+abbrev pub amounts_of : ℕ → Place → Term → List Amount
 amounts_of n place term = map (amount_of n place) term
 
 -- the same amount with the other sign, where it is taken away
@@ -74,11 +75,12 @@ one_less None = []
 one_less (Some at) = (at, neg_ℤ (pos 1)) ∷ []
 
 -- a term less another one, and less a one at a place where that is asked for
-abbrev pub difference : ℕ → Place → List Signed → List Signed → Option ℕ → List Amount
-difference n place greater less last = map (turned false) (amounts_of n place greater) ++ map (turned true) (amounts_of n place less) ++ one_less last
+abbrev pub difference : ℕ → Place → Term → Term → Option ℕ → List Amount
+difference n place greater less last =
+    map (turned false) (amounts_of n place greater) ++ map (turned true) (amounts_of n place less) ++ one_less last
 
 -- what is added up for `left compare right`: the side that is to be greater, less the other, less one where they may not be equal
-abbrev pub compared : ℕ → Place → Compare → List Signed → List Signed → List Amount
+abbrev pub compared : ℕ → Place → Compare → Term → Term → List Amount
 compared n place Equal left right = difference n place left right None
 compared n place GreaterEqual left right = difference n place left right None
 compared n place Greater left right = difference n place left right (Some n)

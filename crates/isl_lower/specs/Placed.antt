@@ -1,8 +1,6 @@
 -- Whether the names of plain pieces stand somewhere: the way in which the check of a plain literal goes.
 use Rattle.std.specs.Prelude.{ℕ, Bool, true, is_some, ◌&&◌, ◌||◌, List, [], ◌∷◌, ◌++◌, Option, Some, None}
 use Rattle.std.specs.List.{list_all}
-use Rattle.isl_tree.specs.declared.tree.Signed.{Signed}
-use Rattle.isl_tree.specs.declared.tree.Compare.{Compare}
 use Rattle.isl_tree.specs.declared.tree.Entry.{Entry}
 use Rattle.isl_tree.specs.declared.tree.Formula.{Formula, And', Chain, Row_of-Formula, end_of-Formula, more_of-Formula}
 use Rattle.isl_tree.specs.declared.tree.Tuple.{Tuple, Leaf, Pair'}
@@ -10,6 +8,8 @@ use Rattle.isl_tree.specs.declared.tree.PieceTree.{PieceTree}
 use Rattle.isl_tree.specs.Literal.{entry_term}
 use Rattle.isl_lower.specs.Linear.{part_name}
 use Rattle.isl_lower.specs.Places.{entry_name, place_of}
+use Rattle.isl_tree.specs.Term.{Term}
+use Rattle.isl_tree.specs.Formula.{Link, Side}
 
 module _ (params : List (List ℕ)) (entries : List Entry) where
   -- a name that may be missing stands somewhere
@@ -17,16 +17,16 @@ module _ (params : List (List ℕ)) (entries : List Entry) where
   is_placed None = true
   is_placed (Some name) = is_some (place_of params entries name)
 
-  abbrev pub term_is_placed : List Signed → Bool
+  abbrev pub term_is_placed : Term → Bool
   term_is_placed term = list_all (λ part. is_placed (part_name part)) term
 
-  abbrev pub side_is_placed : List (List Signed) → Bool
+  abbrev pub side_is_placed : Side → Bool
   side_is_placed side = list_all term_is_placed side
 
-  abbrev pub links_are_placed : List (Compare × List (List Signed)) → Bool
+  abbrev pub links_are_placed : List Link → Bool
   links_are_placed links = list_all (λ link. side_is_placed link.1) links
 
-  abbrev pub chain_is_placed : List (List Signed) → List (Compare × List (List Signed)) → Bool
+  abbrev pub chain_is_placed : Side → List Link → Bool
   chain_is_placed first links = side_is_placed first && links_are_placed links
 
   abbrev pub is_placed_chain : Formula → Bool
@@ -53,7 +53,8 @@ module _ (params : List (List ℕ)) (entries : List Entry) where
 -- each entry knows the names before it
 abbrev pub entries_are_placed : List (List ℕ) → List Entry → List Entry → Bool
 entries_are_placed params before [] = true
-entries_are_placed params before (entry ∷ entries) = entry_is_placed params before entry && entries_are_placed params (before ++ entry ∷ []) entries
+entries_are_placed params before (entry ∷ entries) =
+    entry_is_placed params before entry && entries_are_placed params (before ++ entry ∷ []) entries
 
 -- the entries of a tuple that is no pair
 abbrev pub leaf_entries : Tuple → List Entry
@@ -66,5 +67,6 @@ second_leaf_entries (Some tuple) = leaf_entries tuple
 
 abbrev pub piece_is_placed : List (List ℕ) → PieceTree → Bool
 piece_is_placed params piece =
-    entries_are_placed params [] (leaf_entries piece.first) && entries_are_placed params (leaf_entries piece.first) (second_leaf_entries piece.second)
+    entries_are_placed params [] (leaf_entries piece.first) && entries_are_placed params (leaf_entries piece.first)
+    (second_leaf_entries piece.second)
     && body_is_placed params (leaf_entries piece.first ++ second_leaf_entries piece.second) piece.body

@@ -11,5 +11,6 @@ use Rattle.isl_tree.specs.Literal.{piece_entries, piece_environment, EntriesEqua
 abbrev pub HasPoints : List (List ℕ) → PieceTree → List Row → Type 0
 HasPoints params piece rows =
     (valuation : Valuation) (xs : List ℤ) → length (piece_entries piece) ≡ length xs
-    → (EntriesEqual (piece_entries piece) xs (piece_environment params piece xs valuation) × BodyHolds piece.body (piece_environment params piece xs valuation))
+    → (EntriesEqual (piece_entries piece) xs (piece_environment params piece xs valuation)
+    × BodyHolds piece.body (piece_environment params piece xs valuation))
     ↔ HoldRows rows (values_of params valuation ++ xs)

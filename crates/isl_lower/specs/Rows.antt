@@ -3,7 +3,6 @@ use Rattle.std.specs.Prelude.{ℕ, Bool, if◌then◌else◌, ◌+◌, pos, List
 use Rattle.isl_piece.specs.declared.constraint.RowKind.{RowKind}
 use Rattle.isl_piece.specs.declared.constraint.RowKind.TheVariants.{Zero, AtLeast}
 use Rattle.isl_piece.specs.declared.constraint.Row.{Row}
-use Rattle.isl_tree.specs.declared.tree.Signed.{Signed}
 use Rattle.isl_tree.specs.declared.tree.Compare.{Compare}
 use Rattle.isl_tree.specs.declared.tree.Compare.TheVariants.{Equal}
 use Rattle.isl_tree.specs.declared.tree.Entry.{Entry}
@@ -12,6 +11,8 @@ use Rattle.isl_tree.specs.declared.tree.PieceTree.{PieceTree}
 use Rattle.isl_tree.specs.Literal.{new_name, known_after, entry_term, piece_entries}
 use Rattle.isl_lower.specs.Linear.{Place, Amount, difference, compared, row_of}
 use Rattle.isl_lower.specs.Places.{place_among}
+use Rattle.isl_tree.specs.Term.{Term}
+use Rattle.isl_tree.specs.Formula.{Link, Side}
 
 -- a row before its amounts are added up
 abbrev pub Written : Type 0
@@ -22,7 +23,7 @@ abbrev pub kind_of_compare : Compare → RowKind
 kind_of_compare Equal = Zero
 kind_of_compare _ = AtLeast
 
-abbrev pub written_compare : ℕ → Place → Compare → List Signed → List Signed → Written
+abbrev pub written_compare : ℕ → Place → Compare → Term → Term → Written
 written_compare n place c left right = (kind_of_compare c, compared n place c left right)
 
 -- an entry that brings in no name equals its coordinate
@@ -45,9 +46,10 @@ placed_entries n place brings (entry ∷ entries) at =
     placed_entry n place brings entry at ++ placed_entries n place brings entries (at + 1)
 
 -- a row for each neighbouring pair of a chain of single terms
-abbrev pub written_links : ℕ → Place → List (List Signed) → List (Compare × List (List Signed)) → List Written
+abbrev pub written_links : ℕ → Place → Side → List Link → List Written
 written_links n place side [] = []
-written_links n place (left ∷ []) ((c, right ∷ []) ∷ links) = written_compare n place c left right ∷ written_links n place (right ∷ []) links
+written_links n place (left ∷ []) ((c, right ∷ []) ∷ links) =
+    written_compare n place c left right ∷ written_links n place (right ∷ []) links
 written_links n place _ _ = []
 
 -- a chain's rows; a plain formula is a chain, or chains joined by `and`

@@ -6,7 +6,7 @@ use Rattle.isl_space.specs.Name.{Name}
 use Rattle.isl_space.specs.Names.{IsParameterList}
 use Rattle.isl_space.specs.SpaceForm.{IsWellFormedSpace}
 use Rattle.isl_space.specs.Valuation.{Valuation}
-use Rattle.isl_space.specs.Element.{Element, IsElement}
+use Rattle.isl_space.specs.Element.{Element}
 use Rattle.isl_piece.specs.declared.located.Piece.{Piece}
 use Rattle.isl_piece.specs.Normal.{normal_rows}
 use Rattle.isl_piece.specs.Row.{IsRowWithin}
@@ -25,7 +25,8 @@ pub record IsWellFormedLiteral (literal : Literal) : Type 0 where
 
 -- the piece's space with the normal rows of those that it writes; nothing where one of them never holds
 abbrev pub piece_lowered : List Name → PieceTree → Option KeptPiece
-piece_lowered params piece = option_map (λ rows. record { space = space_of_piece piece; rows = rows }) (normal_rows (rows_written params piece))
+piece_lowered params piece =
+    option_map (λ rows. record { space = space_of_piece piece; rows = rows }) (normal_rows (rows_written params piece))
 
 -- the declared parameters, and what is kept of each piece
 abbrev pub value_lowered : Literal → KeptValue
@@ -33,7 +34,8 @@ value_lowered literal = record { params = literal.params; pieces = filter_map (p
 
 -- at every valuation the value has the literal's elements, and no others
 abbrev pub HasSameElements : Literal → KeptValue → Type 0
-HasSameElements literal value = (valuation : Valuation) (element : Element) → IsElement element → Has value valuation element ↔ LiteralHas literal valuation element
+HasSameElements literal value =
+    (valuation : Valuation) (element : Element) → Has value valuation element ↔ LiteralHas literal valuation element
 
 -- a row of one of the pieces passes the limit
 abbrev pub PiecesPass : Gauge → List Name → List PieceTree → Type 0

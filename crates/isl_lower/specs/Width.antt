@@ -8,20 +8,25 @@ use Rattle.isl_lower.specs.Rows.{Written, placed_entries, written_body}
 use Rattle.isl_lower.specs.Passes.{EntriesPass, BodyPasses}
 use Rattle.isl_lower.specs.declared.places.Places.{Places}
 
+-- the entries of both tuples
+abbrev pub entries_in : Places → List Entry
+entries_in places = places.first.now ++ places.second.now
+
 abbrev pub width_of : Places → ℕ
 width_of places = length places.params.now + length places.first.now + length places.second.now
 
 abbrev pub place_in : Places → List ℕ → ℕ
-place_in places = place_among places.params.now (places.first.now ++ places.second.now) (width_of places)
+place_in places = place_among places.params.now (entries_in places) (width_of places)
 
 abbrev pub brings_in : Places → Entry → ℕ → Bool
-brings_in places = brings places.params.now (places.first.now ++ places.second.now)
+brings_in places = brings places.params.now (entries_in places)
 
 -- the rows of the entries of both tuples, and of a body
 abbrev pub placed_rows : Places → Option Formula → List Written
 placed_rows places body =
     (placed_entries (width_of places) (place_in places) (brings_in places) places.first.now (length places.params.now)
-    ++ placed_entries (width_of places) (place_in places) (brings_in places) places.second.now (length places.params.now + length places.first.now))
+    ++ placed_entries (width_of places) (place_in places) (brings_in places) places.second.now
+    (length places.params.now + length places.first.now))
     ++ written_body (width_of places) (place_in places) body
 
 -- one of them passes the limit

@@ -1,16 +1,16 @@
-// The rows of chains of comparisons.
-ghost use Rattle.std.specs.Prelude.{◌≡◌, ◌+◌, ◌≤◌, ◌++◌, [], ◌∷◌, All, length, map, MatchResult};
+//! The rows of chains of comparisons.
+
+ghost use Rattle.std.specs.Prelude.{◌≤◌, [], ◌∷◌, All};
 ghost use Rattle.isl_piece.specs.Row.{IsRowWithin};
-ghost use Rattle.isl_lower.specs.Rows.{added, written_links, written_chain, written_list, written_formula, written_body};
-ghost use Rattle.isl_lower.specs.Passes.{LinksPass, ChainPasses, ChainsPass, FormulaPasses, BodyPasses, FailsBy};
-ghost use Rattle.isl_lower.specs.Width.{width_of, place_in};
+ghost use Rattle.isl_lower.specs.Rows.{written_links, written_chain, written_list, written_formula, written_body};
+ghost use Rattle.isl_lower.specs.Passes.{LinksPass, ChainPasses, ChainsPass, FormulaPasses, BodyPasses};
+ghost use Rattle.isl_lower.specs.Outcome.{PutsRows};
 
 use crate::places::Places;
 use crate::rows::compare_row;
 use isl_meter::{Cut, Meter};
 use isl_piece::Rows;
-use isl_tree::tree::{Compare, Formula, Signed};
-use sqlite_items::Items;
+use isl_tree::tree::{Formula, Link, Signed, Term};
 use std::alloc::Global;
 
 // Puts the row of each neighbouring pair of a chain of single terms behind the others.
@@ -18,15 +18,15 @@ fn push_links(
     alloc: Global,
     rows: &mut Rows,
     first: &[Signed],
-    links: &[(Compare, Items<Items<Signed>>)],
+    links: &[Link],
     places: &Places<'_>,
     meter: &mut Meter,
 ) -> Result<(), Cut>
     requires bits { 8 ≤ meter.old.bits }
     requires within { All (IsRowWithin meter.old) rows.old }
-    ensures { MatchResult result
-        (λ _. (rows.new ≡ rows.old ++ map (added (width_of places.now)) (written_links (width_of places.now) (place_in places.now) (first.now ∷ []) links.now)) × All (IsRowWithin meter.old) rows.new × (meter.new ≡ meter.old))
-        (λ cut. FailsBy (LinksPass meter.old (width_of places.now) (place_in places.now) (first.now ∷ []) links.now) meter.old meter.new cut) }
+    ensures { PutsRows meter.old meter.new rows.old rows.new places.now
+        (λ n place. written_links n place (first.now ∷ []) links.now) (λ n place. LinksPass meter.old n place (first.now ∷ []) links.now)
+        result }
 {
     let mut left = first;
     for i in 0..links.len() {
@@ -50,16 +50,15 @@ fn push_links(
 fn push_sides(
     alloc: Global,
     rows: &mut Rows,
-    first: &[Items<Signed>],
-    links: &[(Compare, Items<Items<Signed>>)],
+    first: &[Term],
+    links: &[Link],
     places: &Places<'_>,
     meter: &mut Meter,
 ) -> Result<(), Cut>
     requires bits { 8 ≤ meter.old.bits }
     requires within { All (IsRowWithin meter.old) rows.old }
-    ensures { MatchResult result
-        (λ _. (rows.new ≡ rows.old ++ map (added (width_of places.now)) (written_links (width_of places.now) (place_in places.now) first.now links.now)) × All (IsRowWithin meter.old) rows.new × (meter.new ≡ meter.old))
-        (λ cut. FailsBy (LinksPass meter.old (width_of places.now) (place_in places.now) first.now links.now) meter.old meter.new cut) }
+    ensures { PutsRows meter.old meter.new rows.old rows.new places.now
+        (λ n place. written_links n place first.now links.now) (λ n place. LinksPass meter.old n place first.now links.now) result }
 {
     match first {
         [left] => push_links(alloc, rows, left.as_slice(), links, places, meter),
@@ -77,9 +76,8 @@ fn push_chain(
 ) -> Result<(), Cut>
     requires bits { 8 ≤ meter.old.bits }
     requires within { All (IsRowWithin meter.old) rows.old }
-    ensures { MatchResult result
-        (λ _. (rows.new ≡ rows.old ++ map (added (width_of places.now)) (written_chain (width_of places.now) (place_in places.now) formula.now)) × All (IsRowWithin meter.old) rows.new × (meter.new ≡ meter.old))
-        (λ cut. FailsBy (ChainPasses meter.old (width_of places.now) (place_in places.now) formula.now) meter.old meter.new cut) }
+    ensures { PutsRows meter.old meter.new rows.old rows.new places.now
+        (λ n place. written_chain n place formula.now) (λ n place. ChainPasses meter.old n place formula.now) result }
 {
     match formula {
         Formula::Chain(first, links) => push_sides(
@@ -104,9 +102,8 @@ fn push_chains(
 ) -> Result<(), Cut>
     requires bits { 8 ≤ meter.old.bits }
     requires within { All (IsRowWithin meter.old) rows.old }
-    ensures { MatchResult result
-        (λ _. (rows.new ≡ rows.old ++ map (added (width_of places.now)) (written_list (width_of places.now) (place_in places.now) formulas.now)) × All (IsRowWithin meter.old) rows.new × (meter.new ≡ meter.old))
-        (λ cut. FailsBy (ChainsPass meter.old (width_of places.now) (place_in places.now) formulas.now) meter.old meter.new cut) }
+    ensures { PutsRows meter.old meter.new rows.old rows.new places.now
+        (λ n place. written_list n place formulas.now) (λ n place. ChainsPass meter.old n place formulas.now) result }
 {
     for i in 0..formulas.len() {
         if let Err(cut) = push_chain(alloc, rows, &formulas[i], places, meter) {
@@ -127,9 +124,8 @@ fn push_formula(
 ) -> Result<(), Cut>
     requires bits { 8 ≤ meter.old.bits }
     requires within { All (IsRowWithin meter.old) rows.old }
-    ensures { MatchResult result
-        (λ _. (rows.new ≡ rows.old ++ map (added (width_of places.now)) (written_formula (width_of places.now) (place_in places.now) formula.now)) × All (IsRowWithin meter.old) rows.new × (meter.new ≡ meter.old))
-        (λ cut. FailsBy (FormulaPasses meter.old (width_of places.now) (place_in places.now) formula.now) meter.old meter.new cut) }
+    ensures { PutsRows meter.old meter.new rows.old rows.new places.now
+        (λ n place. written_formula n place formula.now) (λ n place. FormulaPasses meter.old n place formula.now) result }
 {
     match formula {
         Formula::And(parts) => push_chains(alloc, rows, parts.as_slice(), places, meter),
@@ -155,9 +151,8 @@ pub(crate) fn push_body(
 ) -> Result<(), Cut>
     requires bits { 8 ≤ meter.old.bits }
     requires within { All (IsRowWithin meter.old) rows.old }
-    ensures { MatchResult result
-        (λ _. (rows.new ≡ rows.old ++ map (added (width_of places.now)) (written_body (width_of places.now) (place_in places.now) body.now)) × All (IsRowWithin meter.old) rows.new × (meter.new ≡ meter.old))
-        (λ cut. FailsBy (BodyPasses meter.old (width_of places.now) (place_in places.now) body.now) meter.old meter.new cut) }
+    ensures { PutsRows meter.old meter.new rows.old rows.new places.now
+        (λ n place. written_body n place body.now) (λ n place. BodyPasses meter.old n place body.now) result }
 {
     match body {
         Some(formula) => push_formula(alloc, rows, formula, places, meter),

@@ -1,10 +1,12 @@
-// The rows of entries.
-ghost use Rattle.std.specs.Prelude.{◌≡◌, ◌+◌, ◌≤◌, ◌<◌, ◌++◌, [], ◌∷◌, pos, All, Some, length, map, replicate, MatchResult};
+//! The rows of entries.
+
+ghost use Rattle.std.specs.Prelude.{◌≡◌, ◌+◌, ◌≤◌, ◌<◌, [], pos, All, Some, length, replicate};
 ghost use Rattle.isl_piece.specs.Row.{IsRowWithin};
 ghost use Rattle.isl_tree.specs.Literal.{entry_term};
-ghost use Rattle.isl_lower.specs.Rows.{added, placed_entry, placed_entries};
-ghost use Rattle.isl_lower.specs.Passes.{DifferencePasses, EntriesPass, FailsBy};
-ghost use Rattle.isl_lower.specs.Width.{width_of, place_in, brings_in};
+ghost use Rattle.isl_lower.specs.Rows.{placed_entry, placed_entries};
+ghost use Rattle.isl_lower.specs.Passes.{DifferencePasses, EntriesPass};
+ghost use Rattle.isl_lower.specs.Width.{width_of, brings_in};
+ghost use Rattle.isl_lower.specs.Outcome.{PutsRows};
 
 use crate::places::Places;
 use crate::rows::entry_row;
@@ -34,9 +36,9 @@ fn push_entry(
     requires bits { 8 ≤ meter.old.bits }
     requires within { All (IsRowWithin meter.old) rows.old }
     requires inside { at < width_of places.now }
-    ensures { MatchResult result
-        (λ _. (rows.new ≡ rows.old ++ map (added (width_of places.now)) (placed_entry (width_of places.now) (place_in places.now) (brings_in places.now) entry.now at)) × All (IsRowWithin meter.old) rows.new × (meter.new ≡ meter.old))
-        (λ cut. FailsBy (DifferencePasses meter.old (width_of places.now) (place_in places.now) (replicate (width_of places.now + 1) (pos 0)) (entry_term entry.now) [] (Some at)) meter.old meter.new cut) }
+    ensures { PutsRows meter.old meter.new rows.old rows.new places.now
+        (λ n place. placed_entry n place (brings_in places.now) entry.now at)
+        (λ n place. DifferencePasses meter.old n place (replicate (n + 1) (pos 0)) (entry_term entry.now) [] (Some at)) result }
 {
     if places.brings(entry, at) {
         return Ok(());
@@ -64,9 +66,9 @@ pub(crate) fn push_entries(
     requires bits { 8 ≤ meter.old.bits }
     requires within { All (IsRowWithin meter.old) rows.old }
     requires inside { first + length entries.now ≤ width_of places.now }
-    ensures { MatchResult result
-        (λ _. (rows.new ≡ rows.old ++ map (added (width_of places.now)) (placed_entries (width_of places.now) (place_in places.now) (brings_in places.now) entries.now first)) × All (IsRowWithin meter.old) rows.new × (meter.new ≡ meter.old))
-        (λ cut. FailsBy (EntriesPass meter.old (width_of places.now) (place_in places.now) entries.now first) meter.old meter.new cut) }
+    ensures { PutsRows meter.old meter.new rows.old rows.new places.now
+        (λ n place. placed_entries n place (brings_in places.now) entries.now first)
+        (λ n place. EntriesPass meter.old n place entries.now first) result }
 {
     for i in 0..entries.len() {
         if let Err(cut) = push_entry(alloc, rows, &entries[i], first + i, places, meter) {

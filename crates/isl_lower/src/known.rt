@@ -1,16 +1,19 @@
-// Whether each identifier of a plain literal is known.
-ghost use Rattle.std.specs.Prelude.{◌≡◌, ◌++◌, ◌+◌, ◌<◌, ℕ, List, [], length, true, take, IsTrue, ◌↔◌};
+//! Whether each identifier of a plain literal is known.
+
+ghost use Rattle.std.specs.Prelude.{◌≡◌, true};
 ghost use Rattle.std.specs.Option.{option_copied};
 ghost use Rattle.isl_lower.specs.Linear.{part_name};
-ghost use Rattle.isl_lower.specs.Placed.{is_placed, term_is_placed, side_is_placed, links_are_placed, chain_is_placed, is_placed_chain, formula_is_placed, body_is_placed, entry_is_placed, entries_are_placed, leaf_entries, second_leaf_entries, piece_is_placed};
+ghost use Rattle.isl_lower.specs.Placed.{is_placed, term_is_placed, side_is_placed, links_are_placed, chain_is_placed, is_placed_chain};
+ghost use Rattle.isl_lower.specs.Placed.{formula_is_placed, body_is_placed, entry_is_placed, entries_are_placed, leaf_entries};
+ghost use Rattle.isl_lower.specs.Placed.{second_leaf_entries, piece_is_placed};
+ghost use Rattle.isl_lower.specs.Width.{entries_in};
 ghost use Rattle.isl_tree.specs.Plain.{is_plain};
 ghost use Rattle.isl_tree.specs.Known.{literal_is_known};
 ghost use Rattle.std.specs.List.{list_all};
 
 use crate::places::{Places, entry_name};
 use isl_space::Name;
-use isl_tree::tree::{Compare, Entry, Factor, Formula, Literal, PieceTree, Signed, Tuple};
-use sqlite_items::Items;
+use isl_tree::tree::{Entry, Factor, Formula, Link, Literal, PieceTree, Signed, Term, Tuple};
 
 /// The name of a linear part, where it has one.
 pub(crate) fn part_name(part: &Signed) -> Option<&Name>
@@ -26,7 +29,7 @@ pub(crate) fn part_name(part: &Signed) -> Option<&Name>
 }
 
 fn part_is_placed(part: &Signed, places: &Places<'_>) -> bool
-    ensures { result ≡ is_placed places.now.params.now (places.now.first.now ++ places.now.second.now) (part_name part.now) }
+    ensures { result ≡ is_placed places.now.params.now (entries_in places.now) (part_name part.now) }
 {
     match part_name(part) {
         Some(name) => places.column(name).is_some(),
@@ -35,20 +38,20 @@ fn part_is_placed(part: &Signed, places: &Places<'_>) -> bool
 }
 
 fn term_is_placed(term: &[Signed], places: &Places<'_>) -> bool
-    ensures { result ≡ term_is_placed places.now.params.now (places.now.first.now ++ places.now.second.now) term.now }
+    ensures { result ≡ term_is_placed places.now.params.now (entries_in places.now) term.now }
 {
     term.iter().all(|part| part_is_placed(part, places))
 }
 
-fn side_is_placed(side: &[Items<Signed>], places: &Places<'_>) -> bool
-    ensures { result ≡ side_is_placed places.now.params.now (places.now.first.now ++ places.now.second.now) side.now }
+fn side_is_placed(side: &[Term], places: &Places<'_>) -> bool
+    ensures { result ≡ side_is_placed places.now.params.now (entries_in places.now) side.now }
 {
     side.iter()
         .all(|term| term_is_placed(term.as_slice(), places))
 }
 
-fn links_are_placed(links: &[(Compare, Items<Items<Signed>>)], places: &Places<'_>) -> bool
-    ensures { result ≡ links_are_placed places.now.params.now (places.now.first.now ++ places.now.second.now) links.now }
+fn links_are_placed(links: &[Link], places: &Places<'_>) -> bool
+    ensures { result ≡ links_are_placed places.now.params.now (entries_in places.now) links.now }
 {
     links
         .iter()
@@ -56,7 +59,7 @@ fn links_are_placed(links: &[(Compare, Items<Items<Signed>>)], places: &Places<'
 }
 
 fn entry_is_placed(entry: &Entry, before: &Places<'_>) -> bool
-    ensures { result ≡ entry_is_placed before.now.params.now (before.now.first.now ++ before.now.second.now) entry.now }
+    ensures { result ≡ entry_is_placed before.now.params.now (entries_in before.now) entry.now }
 {
     let term = match entry {
         Entry::Plain(term) => term,
@@ -66,7 +69,7 @@ fn entry_is_placed(entry: &Entry, before: &Places<'_>) -> bool
 }
 
 fn chain_is_placed(formula: &Formula, places: &Places<'_>) -> bool
-    ensures { result ≡ is_placed_chain places.now.params.now (places.now.first.now ++ places.now.second.now) formula.now }
+    ensures { result ≡ is_placed_chain places.now.params.now (entries_in places.now) formula.now }
 {
     match formula {
         Formula::Chain(first, links) => {
@@ -77,7 +80,7 @@ fn chain_is_placed(formula: &Formula, places: &Places<'_>) -> bool
 }
 
 fn chains_are_placed(formulas: &[Formula], places: &Places<'_>) -> bool
-    ensures { result ≡ list_all (is_placed_chain places.now.params.now (places.now.first.now ++ places.now.second.now)) formulas.now }
+    ensures { result ≡ list_all (is_placed_chain places.now.params.now (entries_in places.now)) formulas.now }
 {
     formulas
         .iter()
@@ -86,7 +89,7 @@ fn chains_are_placed(formulas: &[Formula], places: &Places<'_>) -> bool
 
 #[tactic(auto, using(crate::proofs::PlainLaws::placed_and))]
 fn formula_is_placed(formula: &Formula, places: &Places<'_>) -> bool
-    ensures { result ≡ formula_is_placed places.now.params.now (places.now.first.now ++ places.now.second.now) formula.now }
+    ensures { result ≡ formula_is_placed places.now.params.now (entries_in places.now) formula.now }
 {
     match formula {
         Formula::And(parts) => chains_are_placed(parts.as_slice(), places),
@@ -134,7 +137,7 @@ pub(crate) fn second_entries(second: &Option<Tuple>) -> &[Entry]
 }
 
 fn body_is_placed(body: &Option<Formula>, places: &Places<'_>) -> bool
-    ensures { result ≡ body_is_placed places.now.params.now (places.now.first.now ++ places.now.second.now) body.now }
+    ensures { result ≡ body_is_placed places.now.params.now (entries_in places.now) body.now }
 {
     match body {
         Some(formula) => formula_is_placed(formula, places),

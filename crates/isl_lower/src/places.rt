@@ -1,5 +1,6 @@
-// Where the names of a piece stand among its columns.
-ghost use Rattle.std.specs.Prelude.{◌≡◌, ◌++◌, ◌+◌, ◌<◌, ℕ, IfSome, List, length, Option, Some, None, map, IsTrue, ◌↔◌};
+//! Where the names of a piece stand among its columns.
+
+ghost use Rattle.std.specs.Prelude.{◌≡◌, ◌<◌, IfSome, length};
 ghost use Rattle.std.specs.Option.{option_copied};
 ghost use Rattle.isl_tree.specs.Literal.{lone_name};
 ghost use Rattle.isl_lower.specs.Places.{entry_name, entry_from, param_from, is_name, place_of, brings};
@@ -66,7 +67,7 @@ pub struct Places<'a> {
 }
 
 impl Places<'_> {
-    ghost use Rattle.isl_lower.specs.Width.{width_of};
+    ghost use Rattle.isl_lower.specs.Width.{entries_in, width_of};
 
     /// How many columns a piece with these names has.
     pub fn width(&self) -> usize
@@ -78,7 +79,7 @@ impl Places<'_> {
     /// The column of a name, or `None` where the name is unknown.
     #[tactic(auto, using(std::proofs::lemmas::Grind::common_steps, crate::proofs::PlaceLaws::places))]
     pub fn column(&self, name: &Name) -> Option<usize>
-        ensures place { result ≡ place_of self.now.params.now (self.now.first.now ++ self.now.second.now) name.now }
+        ensures place { result ≡ place_of self.now.params.now (entries_in self.now) name.now }
         ensures inside { IfSome result (λ at. at < width_of self.now) }
     {
         if let Some(at) = first_param(self.params, name) {
@@ -97,7 +98,7 @@ impl Places<'_> {
 
     /// Whether an entry at a column brings in its name.
     pub(crate) fn brings(&self, entry: &Entry, at: usize) -> bool
-        ensures { result ≡ brings self.now.params.now (self.now.first.now ++ self.now.second.now) entry.now at }
+        ensures { result ≡ brings self.now.params.now (entries_in self.now) entry.now at }
     {
         match entry_name(entry) {
             Some(name) => match self.column(name) {

@@ -1,10 +1,14 @@
-// Whether a literal is plain: linear terms, compared in chains that are joined by `and`.
+//! Whether a literal is plain: linear terms, compared in chains that are joined by `and`.
+
 ghost use Rattle.std.specs.Prelude.{◌≡◌, ◌++◌, true};
 ghost use Rattle.std.specs.List.{list_all};
-ghost use Rattle.isl_tree.specs.Plain.{is_linear_part, is_linear, is_plain_entry, is_plain_side, is_plain_compare, are_plain_links, is_plain_chain, is_plain_formula, is_plain_tuple, second_is_plain, body_is_plain, is_plain_piece, is_plain};
+ghost use Rattle.isl_tree.specs.Plain.{is_linear_part, is_linear, is_plain_entry, is_plain_side, is_plain_compare, are_plain_links};
+ghost use Rattle.isl_tree.specs.Plain.{is_plain_chain, is_plain_formula, is_plain_tuple, second_is_plain, body_is_plain, is_plain_piece};
+ghost use Rattle.isl_tree.specs.Plain.{is_plain};
 
-use isl_tree::tree::{Compare, Entry, Factor, Formula, Literal, PieceTree, Signed, Tuple};
-use sqlite_items::Items;
+use isl_tree::tree::{
+    Compare, Entry, Factor, Formula, Link, Literal, PieceTree, Signed, Term, Tuple,
+};
 
 fn is_linear_part(part: &Signed) -> bool
     ensures { result ≡ is_linear_part part.now }
@@ -36,7 +40,7 @@ fn are_plain_entries(entries: &[Entry]) -> bool
     entries.iter().all(|entry| is_plain_entry(entry))
 }
 
-fn is_plain_side(side: &[Items<Signed>]) -> bool
+fn is_plain_side(side: &[Term]) -> bool
     ensures { result ≡ is_plain_side side.now }
 {
     match side {
@@ -51,7 +55,7 @@ fn is_plain_compare(compare: Compare) -> bool
     !matches!(compare, Compare::Differs)
 }
 
-fn are_plain_links(links: &[(Compare, Items<Items<Signed>>)]) -> bool
+fn are_plain_links(links: &[Link]) -> bool
     ensures { result ≡ are_plain_links links.now }
 {
     links.iter().all(|link| is_plain_compare(link.0) && is_plain_side(link.1.as_slice()))

@@ -1,12 +1,15 @@
-// Rows as they are added up.
-ghost use Rattle.std.specs.Prelude.{◌≡◌, All, IfSome, Some, [], ◌∷◌, ◌⊎◌, ◌<◌, ◌≤◌, ◌+◌, ◌+ℤ◌, ◌++◌, ℕ, pos, length, map, take, replicate, slice_index_or, MatchResult};
+//! Rows as they are added up.
+
+ghost use Rattle.std.specs.Prelude.{◌≡◌, All, IfSome, Some, [], ◌∷◌, ◌⊎◌, ◌<◌, ◌≤◌, ◌+◌, ◌+ℤ◌, ◌++◌, ℕ, pos, length, map, take, replicate};
+ghost use Rattle.std.specs.Prelude.{slice_index_or, MatchResult};
 ghost use Rattle.isl_meter.specs.Gauge.{IsWithin, overflown};
-ghost use Rattle.isl_lower.specs.Rows.{added, written_compare};
-ghost use Rattle.isl_piece.specs.Row.{IsRowWithin};
+ghost use Rattle.isl_lower.specs.Rows.{written_compare};
 ghost use Rattle.isl_tree.specs.Term.{product_of};
-ghost use Rattle.isl_lower.specs.Linear.{amount_of, amounts_of, signed_product, turned, with_amount, with_amounts, numbers_of, is_negative, part_name, named_place, is_taken, one_less, difference};
-ghost use Rattle.isl_lower.specs.Passes.{ProductPasses, PartsPass, SumPasses, DifferencePasses, ComparePasses, FailsBy};
+ghost use Rattle.isl_lower.specs.Linear.{amount_of, amounts_of, signed_product, turned, with_amount, with_amounts, numbers_of, is_negative};
+ghost use Rattle.isl_lower.specs.Linear.{part_name, named_place, is_taken, one_less, difference};
+ghost use Rattle.isl_lower.specs.Passes.{ProductPasses, PartsPass, SumPasses, DifferencePasses, ComparePasses};
 ghost use Rattle.isl_lower.specs.Width.{width_of, place_in};
+ghost use Rattle.isl_lower.specs.Outcome.{SumsUp, MakesRow};
 
 use crate::known::part_name;
 use crate::places::Places;
@@ -40,9 +43,8 @@ fn add_amount(
 ) -> Result<(), Overflow>
     requires inside { at < length row.old }
     requires within { All (IsWithin meter.old) row.old }
-    ensures { MatchResult result
-        (λ _. (row.new ≡ with_amount row.old (turned takes (at, amount))) × All (IsWithin meter.old) row.new × (meter.new ≡ meter.old))
-        (λ _. SumPasses meter.old row.old (turned takes (at, amount) ∷ []) × (meter.new ≡ overflown meter.old)) }
+    ensures { SumsUp meter.old meter.new row.new (with_amount row.old (turned takes (at, amount)))
+        (SumPasses meter.old row.old (turned takes (at, amount) ∷ [])) result }
 {
     let had = row.get(at);
     let sum = if takes {
@@ -99,9 +101,9 @@ fn add_part(
 ) -> Result<(), Overflow>
     requires width { length row.old ≡ width_of places.now + 1 }
     requires within { All (IsWithin meter.old) row.old }
-    ensures { MatchResult result
-        (λ _. (row.new ≡ with_amount row.old (turned takes (amount_of (width_of places.now) (place_in places.now) part.now))) × All (IsWithin meter.old) row.new × (meter.new ≡ meter.old))
-        (λ _. (ProductPasses meter.old (numbers_of part.now) ⊎ SumPasses meter.old row.old (turned takes (amount_of (width_of places.now) (place_in places.now) part.now) ∷ [])) × (meter.new ≡ overflown meter.old)) }
+    ensures { let amount = turned takes (amount_of (width_of places.now) (place_in places.now) part.now) in
+        SumsUp meter.old meter.new row.new (with_amount row.old amount)
+        (ProductPasses meter.old (numbers_of part.now) ⊎ SumPasses meter.old row.old (amount ∷ [])) result }
 {
     let amount = product(numbers(part), meter)?;
     let at = part_place(part, places);
@@ -118,9 +120,9 @@ fn add_term(
 ) -> Result<(), Overflow>
     requires width { length row.old ≡ width_of places.now + 1 }
     requires within { All (IsWithin meter.old) row.old }
-    ensures { MatchResult result
-        (λ _. (row.new ≡ with_amounts row.old (map (turned takes) (amounts_of (width_of places.now) (place_in places.now) term.now))) × All (IsWithin meter.old) row.new × (meter.new ≡ meter.old))
-        (λ _. (PartsPass meter.old term.now ⊎ SumPasses meter.old row.old (map (turned takes) (amounts_of (width_of places.now) (place_in places.now) term.now))) × (meter.new ≡ overflown meter.old)) }
+    ensures { let amounts = map (turned takes) (amounts_of (width_of places.now) (place_in places.now) term.now) in
+        SumsUp meter.old meter.new row.new (with_amounts row.old amounts)
+        (PartsPass meter.old term.now ⊎ SumPasses meter.old row.old amounts) result }
 {
     for i in 0..term.len() {
         if let Err(overflow) = add_part(row, &term[i], places, takes, meter) {
@@ -135,9 +137,8 @@ fn add_term(
 fn take_one(row: &mut Coefs, place: Option<usize>, meter: &mut Meter) -> Result<(), Overflow>
     requires inside { IfSome place (λ at. at < length row.old) }
     requires within { All (IsWithin meter.old) row.old }
-    ensures { MatchResult result
-        (λ _. (row.new ≡ with_amounts row.old (one_less place)) × All (IsWithin meter.old) row.new × (meter.new ≡ meter.old))
-        (λ _. SumPasses meter.old row.old (one_less place) × (meter.new ≡ overflown meter.old)) }
+    ensures { SumsUp meter.old meter.new row.new (with_amounts row.old (one_less place))
+        (SumPasses meter.old row.old (one_less place)) result }
 {
     match place {
         Some(at) => add_amount(row, at, Int::ONE, true, meter),
@@ -157,9 +158,9 @@ fn add_difference(
     requires width { length row.old ≡ width_of places.now + 1 }
     requires within { All (IsWithin meter.old) row.old }
     requires inside { IfSome last (λ at. at ≤ width_of places.now) }
-    ensures { MatchResult result
-        (λ _. (row.new ≡ with_amounts row.old (difference (width_of places.now) (place_in places.now) greater.now less.now last)) × All (IsWithin meter.old) row.new × (meter.new ≡ meter.old))
-        (λ _. DifferencePasses meter.old (width_of places.now) (place_in places.now) row.old greater.now less.now last × (meter.new ≡ overflown meter.old)) }
+    ensures { SumsUp meter.old meter.new row.new
+        (with_amounts row.old (difference (width_of places.now) (place_in places.now) greater.now less.now last))
+        (DifferencePasses meter.old (width_of places.now) (place_in places.now) row.old greater.now less.now last) result }
 {
     if let Err(overflow) = add_term(row, greater, places, false, meter) {
         return Err(overflow);
@@ -193,9 +194,8 @@ fn difference_row(
 ) -> Result<Row, Cut>
     requires bits { 8 ≤ meter.old.bits }
     requires inside { IfSome last (λ at. at ≤ width_of places.now) }
-    ensures { MatchResult result
-        (λ row. (row ≡ added (width_of places.now) (kind, difference (width_of places.now) (place_in places.now) greater.now less.now last)) × IsRowWithin meter.old row × (meter.new ≡ meter.old))
-        (λ cut. FailsBy (DifferencePasses meter.old (width_of places.now) (place_in places.now) (replicate (width_of places.now + 1) (pos 0)) greater.now less.now last) meter.old meter.new cut) }
+    ensures { MakesRow meter.old meter.new places.now (λ n place. (kind, difference n place greater.now less.now last))
+        (λ n place. DifferencePasses meter.old n place (replicate (n + 1) (pos 0)) greater.now less.now last) result }
 {
     let columns = places.width();
     let mut row = match Coefs::zeros(alloc, columns + 1) {
@@ -218,9 +218,8 @@ pub(crate) fn compare_row(
     meter: &mut Meter,
 ) -> Result<Row, Cut>
     requires bits { 8 ≤ meter.old.bits }
-    ensures { MatchResult result
-        (λ row. (row ≡ added (width_of places.now) (written_compare (width_of places.now) (place_in places.now) compare left.now right.now)) × IsRowWithin meter.old row × (meter.new ≡ meter.old))
-        (λ cut. FailsBy (ComparePasses meter.old (width_of places.now) (place_in places.now) compare left.now right.now) meter.old meter.new cut) }
+    ensures { MakesRow meter.old meter.new places.now (λ n place. written_compare n place compare left.now right.now)
+        (λ n place. ComparePasses meter.old n place compare left.now right.now) result }
 {
     let constant = Some(places.width());
     match compare {
@@ -265,9 +264,8 @@ pub(crate) fn entry_row(
 ) -> Result<Row, Cut>
     requires bits { 8 ≤ meter.old.bits }
     requires inside { at < width_of places.now }
-    ensures { MatchResult result
-        (λ row. (row ≡ added (width_of places.now) (RowKind.Zero, difference (width_of places.now) (place_in places.now) term.now [] (Some at))) × IsRowWithin meter.old row × (meter.new ≡ meter.old))
-        (λ cut. FailsBy (DifferencePasses meter.old (width_of places.now) (place_in places.now) (replicate (width_of places.now + 1) (pos 0)) term.now [] (Some at)) meter.old meter.new cut) }
+    ensures { MakesRow meter.old meter.new places.now (λ n place. (RowKind.Zero, difference n place term.now [] (Some at)))
+        (λ n place. DifferencePasses meter.old n place (replicate (n + 1) (pos 0)) term.now [] (Some at)) result }
 {
     difference_row(alloc, RowKind::Zero, term, &[], Some(at), places, meter)
 }

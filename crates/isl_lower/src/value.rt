@@ -1,4 +1,5 @@
-// Plain literals as values.
+//! Plain literals as values.
+
 ghost use Rattle.std.specs.Option.{option_to_list};
 ghost use Rattle.std.specs.Prelude.{◌≡◌, ◌≤◌, ◌++◌, All, IfOk, IfSome, MatchResult, option_map, map, true};
 ghost use Rattle.std.specs.List.{filter_map, list_all};
@@ -15,7 +16,8 @@ ghost use Rattle.isl_tree.specs.Literal.{form_of_tuple, space_of_piece};
 ghost use Rattle.isl_tree.specs.Plain.{is_plain_tuple, is_plain_piece, is_plain};
 ghost use Rattle.isl_lower.specs.Rows.{piece_width};
 ghost use Rattle.isl_lower.specs.Passes.{FailsBy, PiecePasses};
-ghost use Rattle.isl_lower.specs.Value.{piece_lowered, value_lowered, IsWellFormedLiteral, HasSameElements, PiecesPass, IsLoweredPiece, IsValueWithin};
+ghost use Rattle.isl_lower.specs.Value.{piece_lowered, value_lowered, IsWellFormedLiteral, HasSameElements, PiecesPass, IsLoweredPiece};
+ghost use Rattle.isl_lower.specs.Value.{IsValueWithin};
 
 use crate::known::{leaf_entries, second_entries};
 use crate::lowered::rows_written;
@@ -91,7 +93,8 @@ fn lower_piece(
     requires plain { is_plain_piece piece.now ≡ true }
     requires well_formed { IsWellFormedSpace (space_of_piece piece.now) }
     ensures { MatchResult result
-        (λ kept. (option_map kept_piece kept ≡ piece_lowered params.now piece.now) × IfSome kept (IsLoweredPiece meter.old params.now) × (meter.new ≡ meter.old))
+        (λ kept. (option_map kept_piece kept ≡ piece_lowered params.now piece.now)
+        × IfSome kept (IsLoweredPiece meter.old params.now) × (meter.new ≡ meter.old))
         (λ cut. FailsBy (PiecePasses meter.old params.now piece.now) meter.old meter.new cut) }
 {
     let rows = match rows_written(alloc, params, piece, meter) {
@@ -133,10 +136,11 @@ fn lower_pieces(
     requires plain { list_all is_plain_piece pieces.now ≡ true }
     requires well_formed { All (λ piece. IsWellFormedSpace (space_of_piece piece)) pieces.now }
     ensures { MatchResult result
-        (λ kept. (map kept_piece kept.items ≡ filter_map (piece_lowered params.now) pieces.now) × All (IsLoweredPiece meter.old params.now) kept.items × (meter.new ≡ meter.old))
+        (λ kept. (map kept_piece kept.items ≡ filter_map (piece_lowered params.now) pieces.now)
+        × All (IsLoweredPiece meter.old params.now) kept.items × (meter.new ≡ meter.old))
         (λ cut. FailsBy (PiecesPass meter.old params.now pieces.now) meter.old meter.new cut) }
 {
-    let mut kept = Vec::new(alloc);
+    let mut kept = Vec::with_capacity(alloc, pieces.len())?;
     for piece in pieces {
         let found = match lower_piece(alloc, params, piece, meter) {
             Ok(found) => found,
@@ -166,8 +170,11 @@ fn declared(alloc: Global, names: &[Name]) -> Result<Params, Cut>
 }
 
 /// The value that a plain literal of known names writes: over the declared parameters a piece for each piece of the literal,
-/// with normal rows, but none where a row never holds. `Overflow` comes only where a product or a sum of a row that is
-/// written passes the limit. No unit is used. (isl manual, on the notation of sets and relations)
+/// with normal rows, but none where a row never holds. No unit is used. (isl manual, on the notation of sets and relations)
+///
+/// # Errors
+///
+/// `Overflow` only where a product or a sum of a row that is written passes the limit, and `NoMemory`.
 pub fn lower(alloc: Global, literal: &Literal, meter: &mut Meter) -> Result<Value, Cut>
     requires plain { is_plain literal.now ≡ true }
     requires known { literal_is_known literal.now ≡ true }

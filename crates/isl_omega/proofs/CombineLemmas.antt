@@ -5,14 +5,14 @@ use Rattle.std.proofs.lemmas.List.{length-take, take_all}
 use Rattle.isl_math.specs.Dot.{weighted_sum}
 use Rattle.std.proofs.lemmas.List.Elements.{All-push}
 use Rattle.isl_math.proofs.Ring.{expand, linear}
-use Rattle.isl_math.proofs.OrderLaws.{positive-*ℤ}
+use Rattle.isl_math.proofs.OrderLaws.{positive-*ℤ, zero_scaled, at_least_scaled}
 use Rattle.isl_math.proofs.ColumnLaws.{weighted_sum-take_more, dot-weighted_sum, get_or-weighted_sum, length-weighted_sum}
 use Rattle.isl_piece.specs.declared.constraint.RowKind.{RowKind}
 use Rattle.isl_piece.specs.declared.constraint.RowKind.TheVariants.{Zero, AtLeast, Divides, NotDivides}
 use Rattle.isl_piece.specs.declared.constraint.Row.{Row}
 use Rattle.isl_piece.specs.Row.{HoldsValue, value_at, coef_at, IsWellFormed, HasDivisor}
 use Rattle.isl_omega.specs.Combine.{combination, scaled_divisor}
-use Rattle.isl_omega.proofs.EqualityLemmas.{zero_scaled, at_least_scaled, Divides_scaled}
+use Rattle.isl_math.proofs.DivideLaws.{Divides_scaled}
 
 -- ---- the loops over the coefficients
 -- a last number, at the column or not

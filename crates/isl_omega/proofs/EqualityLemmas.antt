@@ -1,13 +1,13 @@
 -- Substitution by an equality, the first step of Pugh's Omega test: where e x + f = 0, the column x leaves every other row.
-use Rattle.std.proofs.Common.{◌≡◌, ◌≢◌, ◌↔◌, ◌∙◌, inl, inr, ap, arith, zero, suc, ◌≤◌, ℤ, pos, negsuc, neg_ℤ, ◌+ℤ◌, ◌*ℤ◌, ◌≤ℤ◌, ◌<ℤ◌, unsigned_abs}
+use Rattle.std.proofs.Common.{◌≡◌, ◌≢◌, ◌↔◌, ◌∙◌, ap, arith, zero, suc, ◌≤◌, ℤ, pos, negsuc, neg_ℤ, ◌+ℤ◌, ◌*ℤ◌, unsigned_abs}
 use lib.IntN.{*ℤ_comm}
 use Rattle.isl_math.specs.Divide.{Divides, floor_div, IsGcdOf}
 use Rattle.isl_math.specs.Order.{abs_of, sign_of}
 use Rattle.isl_math.proofs.Ring.{expand, linear}
-use Rattle.isl_math.proofs.OrderLaws.{*ℤ-≤ℤ, ≤ℤ-from_*ℤ, <ℤ-from_*ℤ, ≡-from_*ℤ, cases_ℤ, sign-*ℤ, abs_positive}
-use Rattle.isl_math.proofs.DivideLaws.{floor_split, mod-from_Divides, Divides-abs, Divides-same, Divides-*ℤ}
+use Rattle.isl_math.proofs.OrderLaws.{<ℤ-from_*ℤ, ≡-from_*ℤ, sign-*ℤ, abs_positive, positive_not_zero}
+use Rattle.isl_math.proofs.DivideLaws.{Divides-abs, Divides-same, Divides-*ℤ, exact_quotient, gcd_positive}
 use Rattle.isl_omega.specs.Equality.{AreFactors}
-use Rattle.isl_omega.proofs.Magnitudes.{up_to-floor_div, up_to-neg}
+use Rattle.isl_math.proofs.MagnitudeLaws.{up_to-floor_div, up_to-neg}
 
 -- some whole x solves the equality exactly where e divides what stands beside it
 pub some_solution : (e f : ℤ) → ((x : ℤ) × (e *ℤ x +ℤ f ≡ pos 0)) ↔ Divides e f
@@ -27,36 +27,7 @@ column_cancels d m n e a p q =
     let t = simp expand at (ap (λ w. m *ℤ w) q) in
     simp expand (omega (arith, linear))
 
--- ---- what a row asks of its value, it asks of a positive multiple of the value too
-pub positive_not_zero : (m : ℤ) → pos 0 <ℤ m → m ≢ pos 0
-positive_not_zero m p = omega (arith, linear)
-
-pub zero_scaled : (m v : ℤ) → pos 0 <ℤ m → (m *ℤ v ≡ pos 0) ↔ (v ≡ pos 0)
-zero_scaled m v p = ((λ h. ≡-from_*ℤ m v (pos 0) (positive_not_zero m p) (omega (arith, linear))), (λ h. let t = ap (λ w. m *ℤ w) h in omega (arith, linear)))
-
-pub at_least_scaled : (m v : ℤ) → pos 0 <ℤ m → (pos 0 ≤ℤ (m *ℤ v)) ↔ (pos 0 ≤ℤ v)
-at_least_scaled m v p = ((λ h. ≤ℤ-from_*ℤ m (pos 0) v p (omega (arith, linear))), (λ h. let t = *ℤ-≤ℤ m (pos 0) v (omega (arith, linear)) h in omega (arith, linear)))
-
-pub Divides_scaled : (m k v : ℤ) → pos 0 <ℤ m → Divides (m *ℤ k) (m *ℤ v) ↔ Divides k v
-Divides_scaled m k v p = (
-  (λ h. record { quotient = h.quotient; is = let e = simp expand at h.is in ≡-from_*ℤ m v (k *ℤ h.quotient) (positive_not_zero m p) (simp expand (omega (arith, linear))) }),
-  (λ h. record { quotient = h.quotient; is = let e = simp expand at (ap (λ w. m *ℤ w) h.is) in simp expand (omega (arith, linear)) }),
-)
-
 -- ---- the factors
--- a quotient of a multiple is exact
-pub exact_quotient : (d z : ℤ) → pos 0 <ℤ d → Divides d z → d *ℤ floor_div z d ≡ z
-exact_quotient d z p h = let s = floor_split z d p in let m = mod-from_Divides d z p h in omega (arith, linear)
-
-pub gcd_positive : (p o d : ℤ) → p ≢ pos 0 → IsGcdOf p o d → pos 0 <ℤ d
-gcd_positive p o d n g = elim (cases_ℤ (pos 0) d) [
-  | inl l ↦ l
-  | inr r ↦ elim r [
-    | inl e ↦ absurd (n (let q = g.first.is in let t = ap (λ w. w *ℤ g.first.quotient) e in omega (arith, linear)))
-    | inr l ↦ let m = g.not_negative in absurd (omega (arith, linear))
-  ]
-]
-
 sign_up_to : (a b : ℤ) → unsigned_abs (sign_of a *ℤ b) ≤ unsigned_abs b
 sign_up_to (pos zero) b = omega (arith, linear)
 sign_up_to (pos (suc a)) b = omega (arith, linear)

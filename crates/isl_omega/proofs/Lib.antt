@@ -3,7 +3,6 @@ pub mod CombineLemmas
 pub mod CongruenceLemmas
 pub mod EqualityLemmas
 pub mod ImageLemmas
-pub mod Magnitudes
 pub mod MergeLemmas
 pub mod MoveLemmas
 pub mod PairLemmas
@@ -22,4 +21,3 @@ pub mod StepLemmas
 pub mod SubstitutionLemmas
 pub mod TightLemmas
 pub mod TightenLemmas
-pub mod WorkLemmas

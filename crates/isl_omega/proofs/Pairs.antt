@@ -1,22 +1,12 @@
 -- One row for a pair of bounds: the pair divided by the greatest common divisor of its factors.
-use Rattle.std.proofs.Common.{◌≡◌, ◌↔◌, ap, arith, ℤ, pos, neg_ℤ, ◌+ℤ◌, ◌-ℤ◌, ◌*ℤ◌, ◌≤ℤ◌, ◌<ℤ◌}
+use Rattle.std.proofs.Common.{◌≡◌, ◌↔◌, arith, ℤ, pos, neg_ℤ, ◌+ℤ◌, ◌-ℤ◌, ◌*ℤ◌, ◌≤ℤ◌, ◌<ℤ◌}
 use Rattle.isl_math.specs.Divide.{floor_div}
 use Rattle.isl_math.proofs.Ring.{expand, linear}
 use Rattle.isl_math.proofs.OrderLaws.{*ℤ-≤ℤ, ≤ℤ-from_*ℤ}
 use Rattle.isl_math.proofs.DivideLaws.{at_most_floor}
 use Rattle.isl_omega.specs.Shadow.{ceiling, Bound, together, slack, IsReal, IsDark}
 
--- with a = d m and b = d n, the pair together is d times n f + m g
-pub together_divided : (l u : Bound) (d m n : ℤ) → l.factor ≡ d *ℤ m → u.factor ≡ d *ℤ n → together l u ≡ d *ℤ (n *ℤ l.rest +ℤ m *ℤ u.rest)
-together_divided l u d m n e f = by l.factor l.rest u.factor u.rest d m n e f
-  where
-    by : (a f b g d m n : ℤ) → a ≡ d *ℤ m → b ≡ d *ℤ n → a *ℤ g +ℤ b *ℤ f ≡ d *ℤ (n *ℤ f +ℤ m *ℤ g)
-    by a f b g d m n p q =
-        let p' = simp expand at (ap (λ w. g *ℤ w) p) in
-        let q' = simp expand at (ap (λ w. f *ℤ w) q) in
-        simp expand (omega (arith, linear))
-
--- so the pair is real where w, what is divided so, is 0 or more
+-- the pair is real where w, what is divided so, is 0 or more
 pub real_divided : (l u : Bound) (d w : ℤ) → pos 0 <ℤ d → together l u ≡ d *ℤ w → IsReal l u ↔ (pos 0 ≤ℤ w)
 real_divided l u d w p e = (
   (λ h. ≤ℤ-from_*ℤ d (pos 0) w p (omega (arith, linear))),

@@ -1,39 +1,15 @@
 -- The periods of rows that divisors must not divide, and their products.
-use Rattle.std.proofs.Common.{◌≡◌, refl, sym, ap, arith, Bool, true, false, cond, ℕ, ℤ, pos, ◌+ℤ◌, ◌*ℤ◌, ◌≤ℤ◌, ◌<ℤ◌, List, [], ◌∷◌, map}
+use Rattle.std.proofs.Common.{◌≡◌, refl, ap, arith, Bool, true, false, cond, ℕ, ℤ, pos, ◌*ℤ◌, ◌≤ℤ◌, ◌<ℤ◌, List, [], ◌∷◌, map}
 use Rattle.std.specs.List.{All, filter}
 use Rattle.std.proofs.lemmas.List.Elements.{All-head, All-tail}
 use Rattle.isl_math.specs.Divide.{Divides, floor_div}
 use Rattle.isl_math.specs.Gcd.{gcd_of}
 use Rattle.isl_math.proofs.Ring.{expand, linear}
-use Rattle.isl_math.proofs.OrderLaws.{*ℤ-≤ℤ, ≤ℤ-*ℤ, <ℤ-from_*ℤ, ≡-from_*ℤ, positive-*ℤ}
-use Rattle.isl_math.proofs.DivideLaws.{floor_unique, Divides-*ℤ}
+use Rattle.isl_math.proofs.OrderLaws.{*ℤ-≤ℤ, ≤ℤ-*ℤ, <ℤ-from_*ℤ, ≡-from_*ℤ, positive-*ℤ, positive_factors, product_le}
+use Rattle.isl_math.proofs.DivideLaws.{Divides-*ℤ, quotient-from_Divides}
 use Rattle.isl_math.proofs.GcdLaws.{IsGcdOf-gcd_of}
 use Rattle.isl_piece.specs.declared.constraint.Row.{Row}
 use Rattle.isl_omega.specs.Congruence.{product_of_divisors, period, product_of_periods}
-
--- ---- exact quotients
-pub exact_quotient : (k z : ℤ) → pos 0 <ℤ k → (d : Divides k z) → floor_div z k ≡ d.quotient
-exact_quotient k z p d =
-    let e = d.is in
-    let u = floor_unique z k d.quotient (pos 0) (by k z d.quotient d.is) (omega (arith, linear)) p in
-    sym u.0
-  where
-    by : (k z q : ℤ) → z ≡ k *ℤ q → k *ℤ q +ℤ pos 0 ≡ z
-    by k z q e = omega (arith, linear)
-
--- both factors of a number above 0 are above 0, if one is not below
-pub positive_factors : (g q k : ℤ) → pos 0 <ℤ k → k ≡ g *ℤ q → pos 0 ≤ℤ g → (pos 0 <ℤ g) × (pos 0 <ℤ q)
-positive_factors g q k p e n =
-    let second : pos 0 <ℤ q = <ℤ-from_*ℤ g (pos 0) q n (omega (arith, linear)) in
-    let e' = simp expand at e in
-    let first : pos 0 <ℤ g = <ℤ-from_*ℤ q (pos 0) g (omega (arith, linear)) (simp expand (omega (arith, linear))) in
-    (first, second)
-
-pub product_le : (a b m n : ℤ) → pos 0 ≤ℤ m → pos 0 ≤ℤ b → a ≤ℤ b → m ≤ℤ n → (a *ℤ m) ≤ℤ (b *ℤ n)
-product_le a b m n p q h k =
-    let first = ≤ℤ-*ℤ m a b p h in
-    let second = *ℤ-≤ℤ b m n q k in
-    omega (arith, linear)
 
 -- ---- one period
 -- above 0, and at most k
@@ -45,7 +21,7 @@ pub period_short : (c k : ℤ) → pos 0 <ℤ k → IsShorterPeriod (floor_div k
 period_short c k p =
     let h = IsGcdOf-gcd_of c k in
     let f = positive_factors (gcd_of c k) h.second.quotient k p h.second.is h.not_negative in
-    let e = exact_quotient (gcd_of c k) k f.0 h.second in
+    let e = quotient-from_Divides (gcd_of c k) k f.0 h.second in
     rw e (by (gcd_of c k) h.second.quotient k f.0 f.1 h.second.is)
   where
     by : (g q k : ℤ) → pos 0 <ℤ g → pos 0 <ℤ q → k ≡ g *ℤ q → IsShorterPeriod q k
@@ -56,7 +32,7 @@ pub period_multiple : (c k : ℤ) → pos 0 <ℤ k → Divides k (c *ℤ floor_d
 period_multiple c k p =
     let h = IsGcdOf-gcd_of c k in
     let f = positive_factors (gcd_of c k) h.second.quotient k p h.second.is h.not_negative in
-    let e = exact_quotient (gcd_of c k) k f.0 h.second in
+    let e = quotient-from_Divides (gcd_of c k) k f.0 h.second in
     rw e (record { quotient = h.first.quotient; is = by c (gcd_of c k) h.first.quotient h.second.quotient k h.first.is h.second.is })
   where
     by : (c g m q k : ℤ) → c ≡ g *ℤ m → k ≡ g *ℤ q → c *ℤ q ≡ k *ℤ m
@@ -71,7 +47,7 @@ shorter_period c k s j p q d =
     let g = gcd_of (j *ℤ c) (s *ℤ k) in
     let h = IsGcdOf-gcd_of (j *ℤ c) (s *ℤ k) in
     let f = positive_factors g h.second.quotient (s *ℤ k) (positive-*ℤ s k q p) h.second.is h.not_negative in
-    let e = exact_quotient g (s *ℤ k) f.0 h.second in
+    let e = quotient-from_Divides g (s *ℤ k) f.0 h.second in
     let w = h.greatest s (Divides-*ℤ s j c d) (record { quotient = k; is = refl }) in
     rw e (by g h.second.quotient s k w.quotient f.0 f.1 q h.second.is w.is)
   where

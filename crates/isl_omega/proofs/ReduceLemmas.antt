@@ -1,13 +1,12 @@
 -- Congruences with their numbers reduced, and Euclid's steps on two of them.
-use Rattle.std.proofs.Common.{◌≡◌, ◌↔◌, ◌∙◌, refl, sym, ap, ℕ, zero, suc, ◌+◌, ◌<◌, arith, ℤ, pos, neg_ℤ, ◌+ℤ◌, ◌-ℤ◌, ◌*ℤ◌, ◌≤ℤ◌, ◌<ℤ◌, List, [], ◌∷◌, ◌++◌, length, get_or, take, add-one}
-use Rattle.std.specs.List.{All}
+use Rattle.std.proofs.Common.{◌≡◌, ◌↔◌, ◌∙◌, refl, sym, ap, ℕ, zero, suc, ◌<◌, arith, ℤ, pos, neg_ℤ, ◌+ℤ◌, ◌-ℤ◌, ◌*ℤ◌, ◌≤ℤ◌, ◌<ℤ◌, List, [], ◌∷◌, length, get_or}
 use Rattle.std.proofs.lemmas.List.Elements.{All-push, All-nil, All-cons}
 use Rattle.isl_math.specs.Divide as divide
-use Rattle.isl_math.specs.Divide.{floor_div, floor_mod, IsCongruent, IsGcdOf}
+use Rattle.isl_math.specs.Divide.{floor_div, floor_mod, IsCongruent, IsGcdOf, IsRemainder}
 use Rattle.isl_math.specs.Dot.{dot}
 use Rattle.isl_math.proofs.Ring.{expand, linear}
-use Rattle.isl_math.proofs.DivideLaws.{floor_split, floor_mod_bounds, floor_unique, IsCongruent-+ℤ, IsCongruent-floor_mod, IsCongruent_sym, Divides-same, Divides-minus}
-use Rattle.isl_math.proofs.OrderLaws.{positive-*ℤ, *ℤ-≤ℤ, <ℤ-from_*ℤ, ≡-from_*ℤ}
+use Rattle.isl_math.proofs.DivideLaws.{floor_split, floor_mod_bounds, floor_unique, IsCongruent-+ℤ, IsCongruent-floor_mod, IsCongruent_sym, Divides-same, Divides_scaled, exact_quotient, gcd_positive, IsRemainder-floor_mod, Divides-congruent}
+use Rattle.isl_math.proofs.OrderLaws.{positive-*ℤ, *ℤ-≤ℤ, <ℤ-from_*ℤ, ≡-from_*ℤ, positive_not_zero}
 use Rattle.isl_math.proofs.ColumnLaws.{length-weighted_sum}
 use Rattle.isl_meter.specs.Gauge.{Gauge, IsWithin}
 use Rattle.isl_piece.specs.Numbers.{reduced}
@@ -15,22 +14,14 @@ use Rattle.isl_piece.specs.declared.constraint.RowKind.{RowKind}
 use Rattle.isl_piece.specs.declared.constraint.RowKind.TheVariants.{Zero, AtLeast, Divides, NotDivides}
 use Rattle.isl_piece.specs.declared.constraint.Row.{Row}
 use Rattle.isl_piece.specs.Row.{HoldsRow, HoldsValue, value_at, coef_at, HasDivisor, IsWellFormed, IsRowWithin}
-use Rattle.isl_piece.proofs.NumberLaws.{length-reduced, dot-reduced}
+use Rattle.isl_piece.proofs.NumberLaws.{length-reduced, dot-reduced, All-IsRemainder-reduced}
+use Rattle.isl_piece.proofs.NumberSteps.{reduced-take_more}
+use Rattle.isl_piece.proofs.RowLemmas.{HasDivisor-positive}
 use Rattle.isl_omega.specs.Combine.{combination, scaled_divisor}
-use Rattle.isl_omega.specs.Congruence.{reduced_row, IsRemainder, IsReducedCongruence, SayTheSame, IsScaledTo, AreMerged, AreJoined}
+use Rattle.isl_omega.specs.Congruence.{reduced_row, IsReducedCongruence, SayTheSame, IsScaledTo, AreMerged, AreJoined}
 use Rattle.isl_omega.proofs.CombineLemmas.{value_at-combination, coef_at-combination}
 use Rattle.isl_omega.proofs.CongruenceLemmas.{merge_step}
-use Rattle.isl_omega.proofs.EqualityLemmas.{Divides_scaled, exact_quotient, gcd_positive, positive_not_zero}
 use Rattle.isl_omega.proofs.ImageLemmas.{free_of_zero}
-
--- one number more, for a loop
-pub reduced-take_more : (k : ℤ) (xs : List ℤ) (i : ℕ) → i < length xs → reduced k (take (i + 1) xs) ≡ reduced k (take i xs) ++ floor_mod (get_or xs i (pos 0)) k ∷ []
-reduced-take_more k xs i h = rw add-one (by xs i h)
-  where
-    by : (xs : List ℤ) (i : ℕ) → i < length xs → reduced k (take (suc i) xs) ≡ reduced k (take i xs) ++ floor_mod (get_or xs i (pos 0)) k ∷ []
-    by [] i h = absurd (omega arith)
-    by (x ∷ xs) zero h = refl
-    by (x ∷ xs) (suc i) h = ap (λ ys. floor_mod x k ∷ ys) (by xs i (omega arith))
 
 pub ruleset reduce_steps = (reduced-take_more, All-push)
 
@@ -39,18 +30,7 @@ get_or-reduced k [] i h = absurd (omega arith)
 get_or-reduced k (x ∷ xs) zero h = refl
 get_or-reduced k (x ∷ xs) (suc i) h = get_or-reduced k xs i (omega arith)
 
-remainder_is : (k z : ℤ) → pos 0 <ℤ k → IsRemainder k (floor_mod z k)
-remainder_is k z p = let b = floor_mod_bounds z k p in record { not_negative = b.0; small = b.1 }
-
-remainders_are : (k : ℤ) (xs : List ℤ) → pos 0 <ℤ k → All (IsRemainder k) (reduced k xs)
-remainders_are k [] p = All-nil (IsRemainder k)
-remainders_are k (x ∷ xs) p = All-cons (IsRemainder k) (floor_mod x k) (reduced k xs) (remainder_is k x p) (remainders_are k xs p)
-
 -- ---- one congruence
--- congruent numbers are divisible at once
-pub Divides-congruent : (k a b : ℤ) → IsCongruent k a b → divide.Divides k a → divide.Divides k b
-Divides-congruent k a b h d = Divides-same k (a -ℤ (a -ℤ b)) b (omega (arith, linear)) (Divides-minus k a (a -ℤ b) d h)
-
 -- a congruence holds where its divisor divides its value
 pub holds_congruence : (r : Row) (k : ℤ) (xs : List ℤ) → r.kind ≡ Divides → r.k ≡ k → HoldsRow r xs ↔ divide.Divides k (value_at r xs)
 holds_congruence r k xs is e = by r.kind r.k (value_at r xs) is e
@@ -67,8 +47,8 @@ reduced_is columns r is p w = record {
   kind = is;
   divisor = refl;
   width = length-reduced r.k r.coefs ∙ w;
-  coefs = remainders_are r.k r.coefs p;
-  constant = remainder_is r.k r.constant p;
+  coefs = All-IsRemainder-reduced r.k r.coefs p;
+  constant = IsRemainder-floor_mod r.k r.constant p;
 }
 
 pub divisor_once : (kind : RowKind) (k : ℤ) → scaled_divisor kind (pos 1) k ≡ k
@@ -135,17 +115,11 @@ remainder_row columns col k t p q rest small hp hq above l c e f g =
         omega (arith, linear)
 
 -- ---- a multiple of a congruence
-pub divisor_positive : (kind : RowKind) (k : ℤ) → HasDivisor kind k → pos 0 <ℤ k
-divisor_positive Zero k e = omega (arith, linear)
-divisor_positive AtLeast k e = omega (arith, linear)
-divisor_positive Divides k p = p
-divisor_positive NotDivides k p = p
-
 divisor_times : (kind : RowKind) (m k : ℤ) → kind ≡ Divides → scaled_divisor kind m k ≡ m *ℤ k
 divisor_times kind m k e = rw e refl
 
 pub scaled_positive : (columns : ℕ) (m : ℤ) (r scaled : Row) → pos 0 <ℤ m → r.kind ≡ Divides → IsWellFormed columns r → scaled ≡ combination m r (pos 0) r → pos 0 <ℤ scaled.k
-scaled_positive columns m r scaled p is w e = rw (ap (λ (s : Row). s.k) e ∙ divisor_times r.kind m r.k is) (positive-*ℤ m r.k p (divisor_positive r.kind r.k w.divisor))
+scaled_positive columns m r scaled p is w e = rw (ap (λ (s : Row). s.k) e ∙ divisor_times r.kind m r.k is) (positive-*ℤ m r.k p (HasDivisor-positive r.kind r.k w.divisor))
 
 pub scaled_row : (columns : ℕ) (m : ℤ) (r scaled small : Row) → pos 0 <ℤ m → r.kind ≡ Divides → IsWellFormed columns r → scaled ≡ combination m r (pos 0) r → small ≡ reduced_row scaled → IsScaledTo columns (m *ℤ r.k) r small
 scaled_row columns m r scaled small p is w e f =

@@ -12,7 +12,8 @@ use Rattle.isl_omega.specs.Shadow.{IsDark, lower_at, upper_at, extra, IsShadowOf
 use Rattle.isl_omega.specs.Sides.{IsProper}
 use Rattle.isl_omega.specs.declared.shadow.Tail.{Tail}
 use Rattle.isl_math.proofs.ListLaws.{All-parts, All-last, AllZip-more, Any-left}
-use Rattle.isl_omega.proofs.WorkLemmas.{proper_kept, within_kept}
+use Rattle.isl_omega.proofs.SideLemmas.{proper_kept}
+use Rattle.isl_meter.proofs.LimitLemmas.{within_kept}
 
 pub shadow_none : (g : Gauge) (columns col : ℕ) (neighbours : Bool) (uppers : List Row) → IsShadow g columns col neighbours [] uppers [] []
 shadow_none g columns col neighbours uppers = record {

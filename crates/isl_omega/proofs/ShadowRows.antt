@@ -4,7 +4,7 @@ use Rattle.std.specs.List.{All, insert}
 use Rattle.std.proofs.lemmas.List.{append-nil}
 use Rattle.std.proofs.lemmas.List.Elements.{All-nil, All-push}
 use Rattle.isl_math.proofs.Ring.{expand, linear}
-use Rattle.isl_math.proofs.OrderLaws.{cases_ℤ}
+use Rattle.isl_math.proofs.OrderLaws.{cases_ℤ, positive_not_zero}
 use Rattle.isl_meter.specs.Gauge.{Gauge}
 use Rattle.isl_piece.specs.declared.constraint.Row.{Row}
 use Rattle.isl_piece.specs.Row.{HoldsRow, IsRowWithin, value_at, coef_at}
@@ -98,19 +98,16 @@ shadow_is g columns col lower uppers old new greatest last hl hu l s none some =
       ];
   not_below = elim (split greatest s.not_negative) [
     | inl e ↦ let f = none e in omega (arith, linear)
-    | inr p ↦ let f = some (apart greatest p) in let t = splinters_not_negative (coef_at lower col) greatest hl.factor p in omega (arith, linear)
+    | inr p ↦ let f = some (positive_not_zero greatest p) in let t = splinters_not_negative (coef_at lower col) greatest hl.factor p in omega (arith, linear)
   ];
   few = λ m p a. elim (split greatest s.not_negative) [
     | inl e ↦ let f = none e in let t = splinters_not_negative (coef_at lower col) m hl.factor p in omega (arith, linear)
-    | inr q ↦ let f = some (apart greatest q) in let t = splinters_rise (coef_at lower col) (coef_at lower col) greatest m hl.factor (omega (arith, linear)) q (s.least m (omega (arith, linear)) a) in omega (arith, linear)
+    | inr q ↦ let f = some (positive_not_zero greatest q) in let t = splinters_rise (coef_at lower col) (coef_at lower col) greatest m hl.factor (omega (arith, linear)) q (s.least m (omega (arith, linear)) a) in omega (arith, linear)
   ];
 }
   where
     split : (z : ℤ) → pos 0 ≤ℤ z → (z ≡ pos 0) ⊎ (pos 0 <ℤ z)
     split z h = elim (cases_ℤ (pos 0) z) [ inl q ↦ inr q | inr r ↦ elim r [ inl e ↦ inl (sym e) | inr q ↦ absurd (omega (arith, linear)) ] ]
-
-    apart : (z : ℤ) → pos 0 <ℤ z → z ≢ pos 0
-    apart z p e = omega (arith, linear)
 
     each : (point : List ℤ) (x : ℤ) → length point ≡ columns - 1 → (u : Row) → MeetsLower x (lower_at col point lower) → value_at lower (insert point col x) ≡ coef_at lower col *ℤ x +ℤ rest_at lower col point → IsUpper g columns col u
         → IsExact columns col lower u ⊎ (neg_ℤ (coef_at u col) ≤ℤ greatest) → HoldsRow u (insert point col x) → IsDark (lower_at col point lower) (upper_at col point u) ⊎ (value_at lower (insert point col x) ≤ℤ last)
@@ -123,7 +120,7 @@ shadow_is g columns col lower uppers old new greatest last hl hu l s none some =
           | inl exact ↦ inl (exact point n (real_pair x bound above hl.factor factor low meets))
           | inr below ↦ elim (splinter x bound above hl.factor factor low meets) [
             | inl d ↦ inl d
-            | inr v ↦ let f = some (apart greatest (omega (arith, linear))) in
+            | inr v ↦ let f = some (positive_not_zero greatest (omega (arith, linear))) in
                 let c = splinter_covered bound.factor above.factor greatest (bound.factor *ℤ x +ℤ bound.rest) hl.factor factor below v in
                 inr (omega (arith, linear))
           ]

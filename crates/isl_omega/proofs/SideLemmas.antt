@@ -1,18 +1,22 @@
 -- What the side of a row says of it, and that the sides of rows hold where the rows do.
-use Rattle.std.proofs.Common.{◌≡◌, ◌≢◌, ◌⊎◌, inl, inr, ◌↔◌, ◌∙◌, sym, Bool, true, false, cond, refl, arith, ℕ, zero, suc, ◌<◌, ℤ, pos, negsuc, ◌<ℤ◌, List, [], ◌∷◌, length, get_or}
+use Rattle.std.proofs.Common.{◌≡◌, ◌≢◌, ◌⊎◌, inl, inr, ◌↔◌, ◌∙◌, sym, Bool, true, false, cond, refl, arith, ℕ, zero, suc, ◌-◌, ◌<◌, ℤ, pos, negsuc, ◌<ℤ◌, List, [], ◌∷◌, length, get_or}
 use Rattle.std.specs.List.{All, filter, insert}
-use Rattle.std.proofs.lemmas.List.Elements.{All-filter, filter_passes, All-head, All-tail}
+use Rattle.std.proofs.lemmas.List.Elements.{All-filter, filter_passes, All-head, All-tail, All-cons, All-weaker}
 use Rattle.isl_math.proofs.Ring.{linear}
 use Rattle.isl_math.specs.Divide as divide
 use Rattle.isl_math.specs.Divide.{floor_mod}
 use Rattle.isl_math.proofs.DivideLaws.{Divides-from_mod, mod-from_Divides}
+use Rattle.isl_math.proofs.ListLaws.{Any-first, Any-later}
 use Rattle.isl_meter.specs.Gauge.{Gauge}
 use Rattle.isl_piece.specs.declared.constraint.RowKind.{RowKind}
 use Rattle.isl_piece.specs.declared.constraint.RowKind.TheVariants as kind
 use Rattle.isl_piece.specs.declared.constraint.Row.{Row}
 use Rattle.isl_piece.specs.Row.{HoldsRow, IsWellFormed, HasDivisor, coef_at}
-use Rattle.isl_omega.specs.Column.{IsFreeKind, HoldAt}
+use Rattle.isl_omega.specs.Column.{IsFreeKind, IsFree, HoldAt}
+use Rattle.isl_omega.specs.Equality.{HasEquality}
 use Rattle.isl_omega.specs.Sides.{side_of_kind, side_of, by_sign, unless_multiple, is_same, on_side, AreSidesOf, AreSided, SidesHold, IsProper, IsLower, IsUpper, IsDivides, IsApart, IsFreeRow}
+use Rattle.isl_piece.proofs.RowMagnitudes.{row_within_kept}
+use Rattle.isl_omega.proofs.ColumnLemmas.{hold_anywhere}
 use Rattle.isl_omega.specs.declared.sides.Side.{Side}
 use Rattle.isl_omega.specs.declared.sides.Side.TheVariants.{Lower, Upper, Divides, Apart, Free}
 use Rattle.isl_omega.specs.declared.sides.Sides.{Sides}
@@ -121,20 +125,35 @@ pub free_from : (asks : RowKind) (k c : ℤ) → (asks ≡ kind.Zero → c ≡ p
 free_from asks k c none (inl e) = rw e (none e)
 free_from asks k c none (inr f) = f
 
--- no equality has the column
-abbrev pub HasNoEquality : ℕ → List Row → Type 0
-HasNoEquality col rows = All (λ r. r.kind ≡ kind.Zero → coef_at r col ≡ pos 0) rows
+-- each equality lacks the column, where none has it
+abbrev pub LackColumn : ℕ → List Row → Type 0
+LackColumn col rows = All (λ r. r.kind ≡ kind.Zero → coef_at r col ≡ pos 0) rows
 
-pub sides_are : (g : Gauge) (columns col : ℕ) (rows : List Row) (sides : Sides) → AreSidesOf rows col sides → All (IsProper g columns) rows → HasNoEquality col rows → AreSided g columns col sides
+pub equalities_lack : (col : ℕ) (rows : List Row) → ¬ HasEquality col rows → LackColumn col rows
+equalities_lack col [] n = λ k d i e. absurd (omega arith)
+equalities_lack col (r ∷ rows) n =
+    All-cons (λ r. r.kind ≡ kind.Zero → coef_at r col ≡ pos 0) r rows
+    (λ e. zero_unless (coef_at r col) (λ c. n (Any-first (λ r. (r.kind ≡ kind.Zero) × (coef_at r col ≢ pos 0)) r rows (e, c))))
+    (equalities_lack col rows (λ a. n (Any-later (λ r. (r.kind ≡ kind.Zero) × (coef_at r col ≢ pos 0)) r rows a)))
+  where
+    zero_unless : (z : ℤ) → ¬ (z ≢ pos 0) → z ≡ pos 0
+    zero_unless (pos zero) n = refl
+    zero_unless (pos (suc z)) n = absurd (n (λ e. omega (arith, linear)))
+    zero_unless (negsuc z) n = absurd (n (λ e. omega (arith, linear)))
+
+pub lacking_has_none : (col : ℕ) (rows : List Row) → LackColumn col rows → ¬ HasEquality col rows
+lacking_has_none col rows h a = let p = h a.0 a.1 a.2 in (a.4).1 (rw (a.3) at p (a.4).0)
+
+pub sides_are : (g : Gauge) (columns col : ℕ) (rows : List Row) (sides : Sides) → AreSidesOf rows col sides → All (IsProper g columns) rows → ¬ HasEquality col rows → AreSided g columns col sides
 sides_are g columns col rows sides s h n = record {
   lowers = rw s.lowers (picked g columns col Lower rows (IsLower g columns col) (λ r p m. record { proper = p; kind = m.0; factor = m.1 }) h);
   uppers = rw s.uppers (picked g columns col Upper rows (IsUpper g columns col) (λ r p m. record { proper = p; kind = m.0; factor = m.1 }) h);
   divides = rw s.divides (picked g columns col Divides rows (IsDivides g columns) (λ r p m. record { proper = p; kind = m }) h);
   apart = rw s.apart (picked g columns col Apart rows (IsApart g columns col) (λ r p m. record { proper = p; kind = m.0; depends = m.1 }) h);
-  free = rw s.free (frees rows h n);
+  free = rw s.free (frees rows h (equalities_lack col rows n));
 }
   where
-    frees : (rows : List Row) → All (IsProper g columns) rows → HasNoEquality col rows → All (IsFreeRow g columns col) (on_side Free col rows)
+    frees : (rows : List Row) → All (IsProper g columns) rows → LackColumn col rows → All (IsFreeRow g columns col) (on_side Free col rows)
     frees rows h n = λ k d i.
         let proper = All-filter (λ r. is_same Free (side_of col r)) (IsProper g columns) rows h k d i in
         let r = get_or (on_side Free col rows) k d in
@@ -197,3 +216,15 @@ sides_apart P columns col rows w n a f = λ k d i. by k d i (side_of col (get_or
     by k d i Divides e = absurd (clash_divides (get_or rows k d).kind (n k d i) (means k d i Divides e))
     by k d i Apart e = in_filter (λ r. is_same Apart (side_of col r)) P rows k d i (rw (← e) refl) a
     by k d i Free e = in_filter (λ r. is_same Free (side_of col r)) P rows k d i (rw (← e) refl) f
+
+-- ---- rows that are free of the column, and the limit at another time
+-- they hold with any number at the column or with none
+pub free_rows_hold : (g : Gauge) (columns col : ℕ) (rows : List Row) (point : List ℤ) (x y : ℤ) → col < columns
+    → length point ≡ columns - 1 → All (IsFreeRow g columns col) rows → HoldAt rows col point x → HoldAt rows col point y
+free_rows_hold g columns col rows point x y l n f a =
+    hold_anywhere columns col rows point x y l n
+    (All-weaker (IsFreeRow g columns col) (IsWellFormed columns) (λ r h. h.proper.formed) rows f)
+    (All-weaker (IsFreeRow g columns col) (IsFree col) (λ r h. h.free) rows f) a
+
+pub proper_kept : (g h : Gauge) (columns : ℕ) (r : Row) → h.bits ≡ g.bits → IsProper h columns r → IsProper g columns r
+proper_kept g h columns r e p = record { formed = p.formed; within = row_within_kept g h r e p.within }

@@ -1,30 +1,18 @@
 -- How far the numbers of rows grow, and what stays below a limit.
-use Rattle.std.proofs.Common.{arith, ℕ, zero, suc, ◌+◌, ◌*◌, ◌<◌, ◌≤◌, ℤ, pos, ◌+ℤ◌, ◌*ℤ◌, ◌<ℤ◌, List, [], ◌∷◌, get_or, unsigned_abs}
+use Rattle.std.proofs.Common.{arith, ℕ, zero, suc, ◌+◌, ◌*◌, ◌<◌, ◌≤◌, ℤ, pos, ◌+ℤ◌, ◌*ℤ◌, List, [], ◌∷◌, get_or, unsigned_abs}
 use Rattle.std.specs.List.{All}
-use Rattle.std.proofs.lemmas.List.Elements.{All-nil, All-cons, All-head, All-tail, All-weaker}
-use Rattle.isl_math.specs.Divide.{floor_mod}
+use Rattle.std.proofs.lemmas.List.Elements.{All-nil, All-cons, All-head, All-tail}
 use Rattle.isl_math.specs.Dot.{weighted_sum}
-use Rattle.isl_piece.specs.Numbers.{reduced}
 use Rattle.isl_piece.specs.declared.constraint.RowKind.{RowKind}
 use Rattle.isl_piece.specs.declared.constraint.RowKind.TheVariants.{Zero, AtLeast, Divides, NotDivides}
 use Rattle.isl_piece.specs.declared.constraint.Row.{Row}
 use Rattle.isl_piece.specs.Row.{IsRowUpTo, coef_at}
 use Rattle.isl_omega.specs.Combine.{combination, scaled_divisor}
-use Rattle.isl_omega.proofs.Magnitudes.{up_to-sum, up_to-product, up_to-floor_mod}
+use Rattle.isl_math.proofs.MagnitudeLaws.{up_to-sum, up_to-product}
 
 -- ---- more room
 pub at_most : (x y n : ℕ) → x ≤ y → y ≤ n → x ≤ n
 at_most x y n h k = omega arith
-
-pub row_more : (b c : ℕ) (r : Row) → b ≤ c → IsRowUpTo b r → IsRowUpTo c r
-row_more b c r le h = record {
-  coefs = All-weaker (λ z. unsigned_abs z ≤ b) (λ z. unsigned_abs z ≤ c) (λ z p. omega arith) r.coefs h.coefs;
-  constant = (let p = h.constant in omega arith);
-  k = (let p = h.k in omega arith);
-}
-
-pub rows_more : (b c : ℕ) (rows : List Row) → b ≤ c → All (IsRowUpTo b) rows → All (IsRowUpTo c) rows
-rows_more b c rows le h = All-weaker (IsRowUpTo b) (IsRowUpTo c) (λ r p. row_more b c r le p) rows h
 
 -- a number of a list, and 0 beyond its end
 get_up_to : (b : ℕ) (xs : List ℤ) (k : ℕ) → All (λ z. unsigned_abs z ≤ b) xs → unsigned_abs (get_or xs k (pos 0)) ≤ b
@@ -69,8 +57,3 @@ combination_up_to u v w x b m a n c hm hn ha hc le l = record {
   constant = weighted_up_to u v w x b m a.constant n c.constant hm hn ha.constant hc.constant le;
   k = divisor_up_to a.kind u w b m a.k hm ha.k (omega arith) l;
 }
-
--- ---- remainders
-pub reduced_up_to : (b : ℕ) (k : ℤ) (xs : List ℤ) → pos 0 <ℤ k → unsigned_abs k ≤ b → All (λ z. unsigned_abs z ≤ b) (reduced k xs)
-reduced_up_to b k [] p h = All-nil (λ z. unsigned_abs z ≤ b)
-reduced_up_to b k (x ∷ xs) p h = All-cons (λ z. unsigned_abs z ≤ b) (floor_mod x k) (reduced k xs) (up_to-floor_mod b x k p h) (reduced_up_to b k xs p h)

@@ -9,7 +9,7 @@ use Rattle.isl_piece.specs.declared.constraint.Row.{Row}
 use Rattle.isl_piece.specs.Row.{IsRowUpTo, coef_at}
 use Rattle.isl_omega.specs.Shadow.{splinters, ceiling, IsShadowOf}
 use Rattle.isl_omega.specs.Sides.{IsLower}
-use Rattle.isl_omega.proofs.Magnitudes.{up_to-neg, up_to-product, up_to-floor_div}
+use Rattle.isl_math.proofs.MagnitudeLaws.{up_to-neg, up_to-product, up_to-floor_div}
 use Rattle.isl_omega.proofs.SmallLemmas.{at_most, coef_up_to}
 
 -- ---- pairs

@@ -9,7 +9,11 @@ use Rattle.isl_math.proofs.Ring.{linear}
 use Rattle.isl_meter.specs.Gauge.{Gauge}
 use Rattle.isl_piece.specs.declared.constraint.Row.{Row}
 use Rattle.isl_piece.specs.Row.{IsRowUpTo, coef_at}
-use Rattle.isl_omega.specs.Congruence.{IsRemainder, AreMergedTo}
+use Rattle.isl_omega.specs.Congruence.{AreMergedTo}
+use Rattle.isl_math.specs.Divide.{IsRemainder}
+use Rattle.isl_math.proofs.MagnitudeLaws.{up_to-floor_mod}
+use Rattle.isl_piece.proofs.NumberLaws.{IsUpTo-reduced}
+use Rattle.isl_piece.proofs.RowMagnitudes.{rows_more, row_more}
 use Rattle.isl_omega.specs.Magnitude.{AreSidesUpTo}
 use Rattle.isl_omega.specs.Sides.{is_same, side_of}
 use Rattle.isl_omega.specs.Step.{AreMovedTo, within_scale}
@@ -17,8 +21,7 @@ use Rattle.isl_omega.specs.Substitution.{offsets_of, substituted, IsMovedBound}
 use Rattle.isl_omega.specs.declared.sides.Side.TheVariants.{Apart, Free}
 use Rattle.isl_omega.specs.declared.sides.Sides.{Sides}
 use Rattle.isl_math.proofs.ListLaws.{All-zipped}
-use Rattle.isl_omega.proofs.Magnitudes.{up_to-floor_mod}
-use Rattle.isl_omega.proofs.SmallLemmas.{coef_up_to, combination_up_to, reduced_up_to, rows_more, row_more}
+use Rattle.isl_omega.proofs.SmallLemmas.{coef_up_to, combination_up_to}
 
 -- ---- the substitution
 pub scale_up_to : (b : ℕ) (scale k : ℤ) → pos 0 <ℤ scale → pos 0 <ℤ k → divide.Divides scale k → unsigned_abs k ≤ b → (unsigned_abs scale ≤ b) × (unsigned_abs (k -ℤ scale) ≤ b)
@@ -27,7 +30,7 @@ scale_up_to b scale k p q d h = let l = le_from_Divides scale k q d in (omega (a
 pub offsets_up_to : (b : ℕ) (factor : ℤ) (one row : Row) (col : ℕ) (z : ℤ) (coefs : List ℤ) → pos 0 <ℤ one.k → unsigned_abs one.k ≤ b → unsigned_abs z ≤ b → row ≡ offsets_of factor one → coefs ≡ set row.coefs col z
     → IsRowUpTo b (record { kind = row.kind; coefs = coefs; constant = row.constant; k = row.k })
 offsets_up_to b factor one row col z coefs p h hz e f = rw (f, e) (record {
-  coefs = All-set (λ c. unsigned_abs c ≤ b) _ col z hz (reduced_up_to b one.k (weighted_sum factor one.coefs (pos 0) one.coefs) p h);
+  coefs = All-set (λ c. unsigned_abs c ≤ b) _ col z hz (IsUpTo-reduced b one.k (weighted_sum factor one.coefs (pos 0) one.coefs) p h);
   constant = up_to-floor_mod b (factor *ℤ one.constant) one.k p h;
   k = omega (arith, linear);
 })

@@ -1,12 +1,12 @@
 -- The congruence step: some whole number meets the old sides exactly where one meets the new.
-use Rattle.std.proofs.Common.{◌≡◌, ◌↔◌, ◌∙◌, refl, ap, subst, arith, ℕ, ◌-◌, ◌<◌, ℤ, pos, neg_ℤ, ◌+ℤ◌, ◌-ℤ◌, ◌*ℤ◌, ◌≤ℤ◌, ◌<ℤ◌, List, ◌++◌, length, get_or, map}
+use Rattle.std.proofs.Common.{◌≡◌, ◌↔◌, ◌∙◌, refl, ap, subst, arith, ℕ, ◌-◌, ◌<◌, ℤ, pos, ◌+ℤ◌, ◌-ℤ◌, ◌*ℤ◌, ◌≤ℤ◌, ◌<ℤ◌, List, ◌++◌, length, get_or, map}
 use Rattle.std.specs.List.{All, AllZip, insert}
 use Rattle.std.proofs.lemmas.List.Elements.{length_all_zip}
 use Rattle.std.proofs.lemmas.List.{length-map}
 use Rattle.std.proofs.lemmas.List.Elements.{All-nil, All-append, All-push, All-map, All-weaker, All-filter, AllZip-get_or}
 use Rattle.isl_math.specs.Divide as divide
-use Rattle.isl_math.proofs.Ring.{expand, linear}
-use Rattle.isl_math.proofs.OrderLaws.{positive-*ℤ}
+use Rattle.isl_math.proofs.Ring.{linear}
+use Rattle.isl_math.proofs.OrderLaws.{positive-*ℤ, negative-*ℤ}
 use Rattle.isl_math.proofs.DivideLaws.{Divides-+ℤ, Divides-*ℤ, Divides-minus, Divides-same}
 use Rattle.isl_meter.specs.Gauge.{Gauge}
 use Rattle.isl_piece.specs.declared.constraint.RowKind.{RowKind}
@@ -27,9 +27,10 @@ use Rattle.isl_omega.proofs.ColumnLemmas.{value_at-insert, hold_anywhere}
 use Rattle.isl_omega.proofs.CongruenceLemmas.{divides_rest}
 use Rattle.isl_math.proofs.ListLaws.{All-parts, All-last, All-zipped, All-zipped_back, AllZip-with, AllZip-weaker, All-unmapped, filter_shorter}
 use Rattle.isl_omega.proofs.MoveLemmas.{substituted_formed, substituted_coefficient, substituted_same}
-use Rattle.isl_omega.proofs.ReduceLemmas.{holds_congruence, divisor_positive}
+use Rattle.isl_omega.proofs.ReduceLemmas.{holds_congruence}
+use Rattle.isl_piece.proofs.RowLemmas.{HasDivisor-positive}
 use Rattle.isl_omega.proofs.PeriodLemmas.{IsShorterPeriod, shorter_period, period_at, periods_filtered, periods_mapped}
-use Rattle.isl_omega.proofs.SideLemmas.{picked, sides_apart, SideMeans, free_from}
+use Rattle.isl_omega.proofs.SideLemmas.{picked, sides_apart, SideMeans, free_from, free_rows_hold}
 
 -- ---- bounds
 -- where scale x is k y and what the offsets have beside the column, the new bounds hold with y where the old ones hold with x
@@ -108,10 +109,6 @@ proper_of_lowers g columns col rows h = All-weaker (IsLower g columns col) (IsPr
 proper_of_uppers : (g : Gauge) (columns col : ℕ) (rows : List Row) → All (IsUpper g columns col) rows → All (IsProper g columns) rows
 proper_of_uppers g columns col rows h = All-weaker (IsUpper g columns col) (IsProper g columns) (λ r l. l.proper) rows h
 
-free_rows_anywhere : (g : Gauge) (columns col : ℕ) (rows : List Row) (point : List ℤ) (x y : ℤ) → col < columns → length point ≡ columns - 1 → All (IsFreeRow g columns col) rows → HoldAt rows col point x → HoldAt rows col point y
-free_rows_anywhere g columns col rows point x y l n f a =
-    hold_anywhere columns col rows point x y l n (All-weaker (IsFreeRow g columns col) (IsWellFormed columns) (λ r h. h.proper.formed) rows f) (All-weaker (IsFreeRow g columns col) (IsFree col) (λ r h. h.free) rows f) a
-
 moved_apart : (g : Gauge) (columns col : ℕ) (scale k : ℤ) (offsets : Row) (rows : List Row) (point : List ℤ) (x y : ℤ) → pos 0 <ℤ scale → length offsets.coefs ≡ columns → col < columns → length point ≡ columns - 1 → coef_at offsets col ≡ k -ℤ scale
     → scale *ℤ x ≡ k *ℤ y +ℤ rest_at offsets col point → All (IsApart g columns col) rows → HoldAt (map (substituted scale offsets col) rows) col point y ↔ HoldAt rows col point x
 moved_apart g columns col scale k offsets rows point x y p w l n o e h = (
@@ -167,7 +164,7 @@ step_same g columns col one others scale offsets old new s = λ point n. (forth 
                 (All-append (λ r. HoldsRow r (insert point col y.0)) (on_side Free col (map (substituted scale offsets col) old.apart)) others
                 (All-filter (λ r. is_same Free (side_of col r)) (λ r. HoldsRow r (insert point col y.0)) (map (substituted scale offsets col) old.apart) apart)
                 (others_anywhere point x y.0 n split.1))
-                (free_rows_anywhere g columns col old.free point x y.0 inside n sided.free holds.free))
+                (free_rows_hold g columns col old.free point x y.0 inside n sided.free holds.free))
                 ((within_scale_holds columns col one scale offsets point y.0 is wide inside n progression).1 beside));
           },
         )
@@ -189,7 +186,7 @@ step_same g columns col one others scale offsets old new s = λ point n. (forth 
             uppers = (uppers_same point x.0 y n x.1).0 holds.uppers;
             divides = (merged.same (insert point col x.0)).1 (x.2, others_anywhere point y x.0 n three.1);
             apart = (apart_same point x.0 y n x.1).0 apart;
-            free = free_rows_anywhere g columns col old.free point y x.0 inside n sided.free two.1;
+            free = free_rows_hold g columns col old.free point y x.0 inside n sided.free two.1;
           },
         )
 
@@ -199,9 +196,6 @@ multiplier_is col scale k offsets e = by scale k (coef_at offsets col) e
   where
     by : (s k o : ℤ) → o ≡ k -ℤ s → s +ℤ o ≡ k
     by s k o e = omega (arith, linear)
-
-below_zero : (k c : ℤ) → pos 0 <ℤ k → c <ℤ pos 0 → (k *ℤ c) <ℤ pos 0
-below_zero k c p h = let t = positive-*ℤ k (neg_ℤ c) p (omega (arith, linear)) in let t' = simp expand at t in omega (arith, linear)
 
 divides_divisor : (asks : RowKind) (k : ℤ) → asks ≡ kind.Divides → pos 0 <ℤ k → HasDivisor asks k
 divides_divisor asks k e p = rw e p
@@ -236,7 +230,7 @@ step_sided g columns col one others scale offsets old new s = record {
       let r = get_or old.uppers i d in
       let inside_old : i < length old.uppers = (let e = length_all_zip (IsMovedBound columns col scale offsets) old.uppers new.uppers moved.uppers in omega arith) in
       let m = AllZip-get_or (IsMovedBound columns col scale offsets) old.uppers new.uppers i d d moved.uppers inside_old in
-      record { proper = record { formed = m.formed; within = moved.uppers_within i d j }; kind = m.kind; factor = m.factor.below (below_zero (multiplier scale offsets col) (coef_at r col) multiplied (sided.uppers i d inside_old).factor) };
+      record { proper = record { formed = m.formed; within = moved.uppers_within i d j }; kind = m.kind; factor = m.factor.below (negative-*ℤ (multiplier scale offsets col) (coef_at r col) multiplied (sided.uppers i d inside_old).factor) };
   divides = rw moved.divides (All-nil (IsDivides g columns));
   apart = rw moved.apart (picked g columns col Apart (map (substituted scale offsets col) old.apart) (IsApart g columns col) (λ r p m. record { proper = p; kind = m.0; depends = m.1 }) proper);
   free = rw moved.free (All-push (IsFreeRow g columns col) ((on_side Free col (map (substituted scale offsets col) old.apart) ++ others) ++ old.free) (within_scale one scale)
@@ -279,7 +273,7 @@ substituted_period : (g : Gauge) (columns col : ℕ) (scale k : ℤ) (offsets r 
 substituted_period g columns col scale k offsets r a p d e w l =
     let c : coef_at (substituted scale offsets col r) col ≡ k *ℤ coef_at r col = substituted_coefficient columns col scale offsets r a.proper.formed w l ∙ ap (λ z. z *ℤ coef_at r col) (multiplier_is col scale k offsets e) in
     let m : (substituted scale offsets col r).k ≡ scale *ℤ r.k = scaled_apart r.kind scale r.k a.kind in
-    period_at (k *ℤ coef_at r col) (coef_at (substituted scale offsets col r) col) (scale *ℤ r.k) (substituted scale offsets col r).k r.k c m (shorter_period (coef_at r col) r.k scale k (divisor_positive r.kind r.k a.proper.formed.divisor) p d)
+    period_at (k *ℤ coef_at r col) (coef_at (substituted scale offsets col r) col) (scale *ℤ r.k) (substituted scale offsets col r).k r.k c m (shorter_period (coef_at r col) r.k scale k (HasDivisor-positive r.kind r.k a.proper.formed.divisor) p d)
 
 periods_kept : (g : Gauge) (columns col : ℕ) (scale : ℤ) (offsets : Row) (rows : List Row) {k : ℤ} → All (IsApart g columns col) rows → pos 0 <ℤ scale → divide.Divides scale k → coef_at offsets col ≡ k -ℤ scale → length offsets.coefs ≡ columns → col < columns
     → product_of_periods col (on_side Apart col (map (substituted scale offsets col) rows)) ≤ℤ product_of_divisors rows

@@ -4,8 +4,8 @@ use Rattle.std.specs.List.{insert}
 use Rattle.isl_math.specs.Divide as divide
 use Rattle.isl_math.specs.Divide.{floor_div, floor_mod, IsGcdOf, IsInverse, IsCongruent}
 use Rattle.isl_math.proofs.Ring.{expand, linear}
-use Rattle.isl_math.proofs.OrderLaws.{*ℤ-≤ℤ, <ℤ-from_*ℤ, ≡-from_*ℤ}
-use Rattle.isl_math.proofs.DivideLaws.{bezout, gcd_unique, IsCongruent-floor_mod, one-Divides, Divides-same, Divides-+ℤ, Divides-*ℤ, Divides-neg_ℤ}
+use Rattle.isl_math.proofs.OrderLaws.{*ℤ-≤ℤ, <ℤ-from_*ℤ, ≡-from_*ℤ, positive_not_zero}
+use Rattle.isl_math.proofs.DivideLaws.{bezout, gcd_unique, IsCongruent-floor_mod, one-Divides, Divides-same, Divides-+ℤ, Divides-*ℤ, Divides-neg_ℤ, exact_quotient, gcd_positive}
 use Rattle.std.proofs.lemmas.List.{length-set, get_or-set_same}
 use Rattle.std.proofs.lemmas.List.Edits.{get_or-insert_at}
 use Rattle.isl_math.specs.Dot.{dot, weighted_sum}
@@ -22,8 +22,8 @@ use Rattle.isl_omega.specs.Column.{rest_at}
 use Rattle.isl_omega.specs.Substitution.{AreProgressionParts, IsProgressionOf, offsets_of}
 use Rattle.isl_omega.proofs.ColumnLemmas.{value_at-insert}
 use Rattle.isl_omega.proofs.CongruenceLemmas.{Progression, progression_meets, progression_gives}
-use Rattle.isl_omega.proofs.ReduceLemmas.{divisor_positive, holds_congruence}
-use Rattle.isl_omega.proofs.EqualityLemmas.{exact_quotient, gcd_positive, positive_not_zero}
+use Rattle.isl_omega.proofs.ReduceLemmas.{holds_congruence}
+use Rattle.isl_piece.proofs.RowLemmas.{HasDivisor-positive}
 
 -- ---- the parts
 gcd_swapped : (a b g : ℤ) → IsGcdOf a b g → IsGcdOf b a g
@@ -124,7 +124,7 @@ offsets_beside columns col one factor w point f p l n =
 pub is_progression : (columns col : ℕ) (one : Row) (scale factor : ℤ) (offsets : Row) → one.kind ≡ Divides → IsWellFormed columns one → col < columns → AreProgressionParts (coef_at one col) one.k scale factor → offsets ≡ with_column factor one col (one.k -ℤ scale)
     → IsProgressionOf columns col one scale offsets
 is_progression columns col one scale factor offsets is f l a e =
-    let p = divisor_positive one.kind one.k f.divisor in
+    let p = HasDivisor-positive one.kind one.k f.divisor in
     let ys = weighted_sum factor one.coefs (pos 0) one.coefs in
     let hs = reduced one.k ys in
     let wide : length hs ≡ columns = length-reduced one.k ys ∙ length-weighted_sum factor one.coefs (pos 0) one.coefs refl ∙ f.width in
@@ -143,7 +143,7 @@ is_progression columns col one scale factor offsets is f l a e =
       modulus = a.modulus;
       coefficient = a.coefficient;
       inverse = a.inverse;
-      offset = offsets_beside columns col one factor (one.k -ℤ scale) point f (divisor_positive one.kind one.k f.divisor) l n;
+      offset = offsets_beside columns col one factor (one.k -ℤ scale) point f (HasDivisor-positive one.kind one.k f.divisor) l n;
     }
 
     holds : (point : List ℤ) (x : ℤ) → length point ≡ columns - 1 → HoldsRow one (insert point col x) ↔ divide.Divides one.k (coef_at one col *ℤ x +ℤ rest_at one col point)

@@ -1,7 +1,6 @@
 -- A bound divided by the content of its columns.
-use Rattle.std.proofs.Common.{◌≡◌, ◌≢◌, ◌∙◌, refl, sym, ap, arith, ℕ, zero, suc, ◌-◌, ◌^◌, ◌<◌, ◌≤◌, ℤ, pos, ◌<ℤ◌, List, [], ◌∷◌, length, get_or, unsigned_abs}
-use Rattle.std.proofs.lemmas.List.Elements.{All-weaker}
-use Rattle.isl_meter.specs.Gauge.{Gauge, IsWithin}
+use Rattle.std.proofs.Common.{◌≡◌, ◌≢◌, ◌∙◌, refl, sym, ap, arith, ℕ, zero, suc, ◌-◌, ◌^◌, ◌<◌, ℤ, pos, ◌<ℤ◌, List, [], ◌∷◌, length, get_or, unsigned_abs}
+use Rattle.isl_meter.specs.Gauge.{Gauge}
 use Rattle.isl_math.specs.Divide.{Divides, floor_div}
 use Rattle.isl_math.specs.Gcd.{content}
 use Rattle.isl_math.proofs.Ring.{linear}
@@ -12,20 +11,22 @@ use Rattle.isl_piece.specs.declared.constraint.RowKind.TheVariants.{AtLeast}
 use Rattle.isl_piece.specs.declared.constraint.Row.{Row}
 use Rattle.isl_piece.specs.Normal.{Kept, normal_row, normal_form, normal_at_least, bound}
 use Rattle.isl_piece.specs.Numbers.{divided}
-use Rattle.isl_piece.specs.Row.{IsWellFormed, IsRowWithin, IsRowUpTo, coef_at}
+use Rattle.isl_piece.specs.Row.{IsWellFormed, IsRowWithin, coef_at}
 use Rattle.isl_piece.proofs.NormalCases.{normal_at_least_by, content_positive}
-use Rattle.isl_piece.proofs.NumberLaws.{exact, abs-quotient}
+use Rattle.isl_math.proofs.DivideLaws.{exact_quotient}
+use Rattle.isl_math.proofs.MagnitudeLaws.{up_to-floor_div}
+use Rattle.isl_piece.proofs.RowMagnitudes.{up_to_limit, within_limit}
 use Rattle.isl_piece.proofs.PointLaws.{normal_row_holds}
 use Rattle.isl_piece.proofs.ShapeLaws.{normal_row_well_formed, normal_row_up_to}
 use Rattle.isl_omega.specs.Tighten.{IsLessened, IsTightened}
 
 lessened_quotient : (c g : ℤ) → pos 0 <ℤ g → Divides g c → IsLessened c (floor_div c g)
 lessened_quotient c g p d =
-    let e = exact g c p d in
+    let e = exact_quotient g c p d in
     record {
       above = λ h. <ℤ-from_*ℤ g (pos 0) (floor_div c g) (omega (arith, linear)) (omega (arith, linear));
       below = λ h. <ℤ-from_*ℤ g (floor_div c g) (pos 0) (omega (arith, linear)) (omega (arith, linear));
-      small = abs-quotient (unsigned_abs c) g c p (omega arith);
+      small = up_to-floor_div (unsigned_abs c) c g p (omega arith);
     }
 
 get_or-divided : (g : ℤ) (xs : List ℤ) (i : ℕ) → i < length xs → get_or (divided g xs) i (pos 0) ≡ floor_div (get_or xs i (pos 0)) g
@@ -75,24 +76,8 @@ tightened_itself columns row is w = record {
 }
 
 -- ---- numbers within a limit
-up_to_from_within : (g : Gauge) (r : Row) → IsRowWithin g r → IsRowUpTo (2 ^ g.bits - 1) r
-up_to_from_within g r w = record {
-  coefs = All-weaker (IsWithin g) (λ c. unsigned_abs c ≤ 2 ^ g.bits - 1) (λ c h. omega arith) r.coefs w.coefs;
-  constant = let h = w.constant in omega arith;
-  k = let h = w.k in omega arith;
-}
-
-within_from_up_to : (g : Gauge) (r : Row) (s : Row) → IsRowWithin g s → IsRowUpTo (2 ^ g.bits - 1) r → IsRowWithin g r
-within_from_up_to g r s w u =
-    let room : 0 < 2 ^ g.bits = (let h = w.k in omega arith) in
-    record {
-      coefs = All-weaker (λ c. unsigned_abs c ≤ 2 ^ g.bits - 1) (IsWithin g) (λ c h. omega arith) r.coefs u.coefs;
-      constant = let h = u.constant in omega arith;
-      k = let h = u.k in omega arith;
-    }
-
 pub tightened_within : (g : Gauge) (columns : ℕ) (row tight : Row) → IsTightened columns row tight → IsRowWithin g row → IsRowWithin g tight
-tightened_within g columns row tight t w = within_from_up_to g tight row w (t.up_to (2 ^ g.bits - 1) (up_to_from_within g row w))
+tightened_within g columns row tight t w = within_limit g tight (t.up_to (2 ^ g.bits - 1) (up_to_limit g row w))
 
 pub kept_is_bound : (row tight : Row) → row.kind ≡ AtLeast → normal_row row ≡ Kept tight → tight.kind ≡ AtLeast
 kept_is_bound row tight is e = kind_kept row.coefs row.constant tight (at_least_form row.kind row.coefs row.constant row.k tight is e)

@@ -1,6 +1,6 @@
 -- Congruences on one column, made one.
 use Rattle.std.specs.Prelude.{◌≡◌, ◌↔◌, ℕ, ℤ, pos, ◌*ℤ◌, ◌≤ℤ◌, ◌<ℤ◌, List, [], ◌∷◌, All, length}
-use Rattle.isl_math.specs.Divide.{floor_div, floor_mod}
+use Rattle.isl_math.specs.Divide.{floor_div, floor_mod, IsRemainder}
 use Rattle.isl_math.specs.Gcd.{gcd_of}
 use Rattle.isl_piece.specs.Numbers.{reduced}
 use Rattle.isl_piece.specs.declared.constraint.RowKind.TheVariants.{Divides}
@@ -13,11 +13,6 @@ use Rattle.isl_omega.specs.Column.{IsFree}
 -- a congruence with each number's remainder by its divisor in the number's place
 abbrev pub reduced_row : Row → Row
 reduced_row r = record { kind = r.kind; coefs = reduced r.k r.coefs; constant = floor_mod r.constant r.k; k = r.k }
-
--- from 0 to k - 1
-pub record IsRemainder (k x : ℤ) : Type 0 where
-  pub not_negative : pos 0 ≤ℤ x
-  pub small : x <ℤ k
 
 -- a congruence over so many columns with the divisor k, whose numbers are remainders by it
 pub record IsReducedCongruence (columns : ℕ) (k : ℤ) (r : Row) : Type 0 where

@@ -1,12 +1,16 @@
--- Rows from which an equality takes a column out.
-use Rattle.std.specs.Prelude.{◌≡◌, ℕ, ◌≤◌, ℤ, pos, ◌+ℤ◌, ◌*ℤ◌, ◌<ℤ◌, List, unsigned_abs}
+-- Equalities that have a column, and rows from which one takes it out.
+use Rattle.std.specs.Prelude.{◌≡◌, ◌≢◌, ℕ, ◌≤◌, ℤ, pos, ◌+ℤ◌, ◌*ℤ◌, ◌<ℤ◌, List, Any, unsigned_abs}
 use Rattle.std.specs.List.{insert}
 use Rattle.isl_math.specs.Order.{abs_of}
-use Rattle.isl_piece.specs.declared.constraint.RowKind.TheVariants.{Divides}
+use Rattle.isl_piece.specs.declared.constraint.RowKind.TheVariants.{Zero, Divides}
 use Rattle.isl_piece.specs.declared.constraint.Row.{Row}
 use Rattle.isl_piece.specs.Row.{value_at, coef_at}
 use Rattle.isl_omega.specs.Column.{HoldAt}
 use Rattle.isl_omega.specs.Combine.{combination}
+
+-- some equality has the column
+abbrev pub HasEquality : ℕ → List Row → Type 0
+HasEquality col rows = Any (λ r. (r.kind ≡ Zero) × (coef_at r col ≢ pos 0)) rows
 
 -- m of a row and n of an equality cancel the column, whose coefficients are `own` and `pivot`
 pub record AreFactors (pivot own m n : ℤ) : Type 0 where

@@ -8,4 +8,3 @@ pub mod Sides
 pub mod Step
 pub mod Substitution
 pub mod Tighten
-pub mod Work

@@ -1,5 +1,5 @@
 -- How large the numbers become.
-use Rattle.std.specs.Prelude.{◌≢◌, ℕ, All, Result, IfErr}
+use Rattle.std.specs.Prelude.{◌≢◌, ℕ, All, Result, IfErr, MatchResult}
 use Rattle.isl_meter.specs.declared.Cut.{Cut}
 use Rattle.isl_meter.specs.declared.Cut.TheVariants.{Overflow}
 use Rattle.isl_piece.specs.Row.{IsRowUpTo}
@@ -8,6 +8,10 @@ use Rattle.isl_omega.specs.declared.sides.Sides.{Sides}
 -- work did not end because a number passed the limit
 abbrev pub IsNoOverflow : {A : Type 0} → Result A Cut → Type 0
 IsNoOverflow result = IfErr result (λ cut. cut ≢ Overflow)
+
+-- a result of P, or work ended for another reason
+abbrev pub IsNoOverflowWith : {A : Type 0} → (A → Type 0) → Result A Cut → Type 0
+IsNoOverflowWith P result = MatchResult result P (λ cut. cut ≢ Overflow)
 
 -- each number of the sides is at most b in magnitude
 pub record AreSidesUpTo (b : ℕ) (sides : Sides) : Type 0 where

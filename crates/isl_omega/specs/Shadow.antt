@@ -7,6 +7,7 @@ use Rattle.isl_piece.specs.declared.constraint.RowKind.TheVariants.{AtLeast}
 use Rattle.isl_piece.specs.declared.constraint.Row.{Row}
 use Rattle.isl_piece.specs.Row.{HoldsRow, IsWellFormed, value_at, coef_at}
 use Rattle.isl_omega.specs.Column.{IsFree, HoldAt, rest_at}
+use Rattle.isl_omega.specs.Combine.{combination}
 use Rattle.isl_omega.specs.Sides.{IsProper}
 use Rattle.isl_omega.specs.declared.shadow.Tail.{Tail}
 
@@ -65,13 +66,17 @@ abbrev pub upper_at : ℕ → List ℤ → Row → Bound
 upper_at col point r = record { factor = neg_ℤ (coef_at r col); rest = rest_at r col point }
 
 -- ---- what the code makes of a pair
--- a row without the column whose value, times d, is what the pair has together
+-- b times a lower bound of the factor a, plus a times an upper bound of the factor b: the column cancels
+abbrev pub real_row : ℕ → Row → Row → Row
+real_row col lower upper = combination (neg_ℤ (coef_at upper col)) lower (coef_at lower col) upper
+
+-- a row without the column whose value, times d, is that of the pair's real row
 pub record IsRealRow (columns col : ℕ) (lower upper : Row) (d : ℤ) (real : Row) : Type 0 where
   pub kind : real.kind ≡ AtLeast
   pub formed : IsWellFormed columns real
   pub gone : coef_at real col ≡ pos 0
   pub positive : pos 0 <ℤ d
-  pub value : (point : List ℤ) (x : ℤ) → length point ≡ columns - 1 → together (lower_at col point lower) (upper_at col point upper) ≡ d *ℤ value_at real (insert point col x)
+  pub value : (xs : List ℤ) → value_at (real_row col lower upper) xs ≡ d *ℤ value_at real xs
 
 -- a row without the column that holds exactly where the pair is dark
 pub record IsDarkRow (columns col : ℕ) (lower upper dark : Row) : Type 0 where

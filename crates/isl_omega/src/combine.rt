@@ -1,11 +1,10 @@
 // Sums of multiples of rows.
 
-ghost use Rattle.std.specs.Prelude.{◌≡◌, ◌<ℤ◌, ◌*ℤ◌, ◌+ℤ◌, pos, length, All, MatchResult, ℕ, ◌*◌, ◌+◌, ◌^◌, ◌<◌, ◌≤◌, unsigned_abs, IfErr};
+ghost use Rattle.std.specs.Prelude.{◌≡◌, ◌*ℤ◌, ◌+ℤ◌, pos, length, All, MatchResult, ℕ, ◌*◌, ◌+◌, ◌^◌, ◌<◌, ◌≤◌, unsigned_abs, IfErr};
 ghost use Rattle.std.specs.List.{remove};
 ghost use Rattle.isl_math.specs.Dot.{weighted_sum};
-ghost use Rattle.isl_meter.specs.Gauge.{IsWithin, IsMeasured};
+ghost use Rattle.isl_meter.specs.Gauge.{IsWithin, IsMeasured, IsCutUpTo};
 ghost use Rattle.isl_piece.specs.Row.{IsRowWithin, IsRowUpTo};
-ghost use Rattle.isl_omega.specs.Work.{IsCutUpTo};
 ghost use Rattle.isl_omega.specs.Combine.{combination, scaled_divisor};
 ghost use Rattle.isl_omega.specs.Magnitude.{IsNoOverflow};
 
@@ -36,7 +35,7 @@ pub fn sum_of(m: Int, left: Int, n: Int, right: Int, meter: &mut Meter) -> Resul
     requires right_within { IsWithin meter.old right }
     ensures exact { MatchResult result
         (λ sum. (sum ≡ m *ℤ left +ℤ n *ℤ right) × IsWithin meter.old sum × (meter.new ≡ meter.old))
-        (λ _. IsCutUpTo 0 meter.old meter.new Cut.Overflow) }
+        (λ _. IsCutUpTo (pos 0) meter.old meter.new Cut.Overflow) }
     ensures small { (u v w x : ℕ) → unsigned_abs m ≤ u → unsigned_abs n ≤ v → unsigned_abs left ≤ w → unsigned_abs right ≤ x
         → u * w + v * x < 2 ^ meter.old.bits → IfErr result (λ _. ⊥) }
 {
@@ -61,7 +60,7 @@ pub(crate) fn weighted(
     requires same_length { length left.now ≡ length right.now }
     ensures exact { MatchResult result
         (λ coefs. (coefs ≡ weighted_sum m left.now n right.now) × All (IsWithin meter.old) coefs × (meter.new ≡ meter.old))
-        (λ cut. IsCutUpTo 0 meter.old meter.new cut) }
+        (λ cut. IsCutUpTo (pos 0) meter.old meter.new cut) }
     ensures small { (u v w x : ℕ) → unsigned_abs m ≤ u → unsigned_abs n ≤ v → All (λ c. unsigned_abs c ≤ w) left.now → All (λ c. unsigned_abs c ≤ x) right.now
         → u * w + v * x < 2 ^ meter.old.bits → IsNoOverflow result }
 {
@@ -93,7 +92,7 @@ pub fn weighted_without(
     requires same_length { length left.now ≡ length right.now }
     ensures exact { MatchResult result
         (λ coefs. (coefs ≡ remove (weighted_sum m left.now n right.now) col) × All (IsWithin meter.old) coefs × (meter.new ≡ meter.old))
-        (λ cut. IsCutUpTo 0 meter.old meter.new cut) }
+        (λ cut. IsCutUpTo (pos 0) meter.old meter.new cut) }
     ensures small { (u v w x : ℕ) → unsigned_abs m ≤ u → unsigned_abs n ≤ v → All (λ c. unsigned_abs c ≤ w) left.now → All (λ c. unsigned_abs c ≤ x) right.now
         → u * w + v * x < 2 ^ meter.old.bits → IsNoOverflow result }
 {
@@ -112,7 +111,7 @@ fn divisor_of(row: &Row, m: Int, meter: &mut Meter) -> Result<Int, Overflow>
     requires row_within { IsRowWithin meter.old row.now }
     ensures exact { MatchResult result
         (λ k. (k ≡ scaled_divisor row.now.kind m row.now.k) × IsWithin meter.old k × (meter.new ≡ meter.old))
-        (λ _. IsCutUpTo 0 meter.old meter.new Cut.Overflow) }
+        (λ _. IsCutUpTo (pos 0) meter.old meter.new Cut.Overflow) }
     ensures small { (u w : ℕ) → unsigned_abs m ≤ u → IsRowUpTo w row.now → u * w < 2 ^ meter.old.bits → IfErr result (λ _. ⊥) }
 {
     match row.kind {
@@ -137,7 +136,7 @@ pub(crate) fn combined(
     requires same_width { length row.now.coefs ≡ length other.now.coefs }
     ensures exact { MatchResult result
         (λ sum. (sum ≡ combination m row.now n other.now) × IsRowWithin meter.old sum × (meter.new ≡ meter.old))
-        (λ cut. IsCutUpTo 0 meter.old meter.new cut) }
+        (λ cut. IsCutUpTo (pos 0) meter.old meter.new cut) }
     ensures small { (u v w x : ℕ) → unsigned_abs m ≤ u → unsigned_abs n ≤ v → IsRowUpTo w row.now → IsRowUpTo x other.now
         → u * w + v * x < 2 ^ meter.old.bits → IsNoOverflow result }
 {

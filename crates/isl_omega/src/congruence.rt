@@ -1,12 +1,11 @@
 // Congruences on one column: several are made one, and that one is a substitution.
 
-ghost use Rattle.std.specs.Prelude.{◌≡◌, ◌<◌, ◌*ℤ◌, ◌≤ℤ◌, ◌<ℤ◌, ℤ, pos, All, IfOk, MatchResult, length, ◌≢◌, []};
-ghost use Rattle.isl_meter.specs.Gauge.{IsWithin};
+ghost use Rattle.std.specs.Prelude.{◌≡◌, ◌<◌, ◌*ℤ◌, ◌<ℤ◌, ℤ, pos, All, IfOk, MatchResult, length, ◌≢◌, []};
+ghost use Rattle.isl_meter.specs.Gauge.{IsWithin, IsCutUpTo};
 ghost use Rattle.isl_piece.specs.Numbers.{reduced};
 ghost use Rattle.isl_piece.specs.Row.{IsWellFormed, IsRowWithin, coef_at};
 ghost use Rattle.isl_piece.specs.declared.constraint.RowKind.TheVariants.{Divides};
 ghost use Rattle.isl_omega.specs.Congruence.{reduced_row, IsReducedCongruence, SayTheSame, AreMerged, IsScaledTo, AreJoined, AreMergedTo};
-ghost use Rattle.isl_omega.specs.Work.{IsCutUpTo};
 
 use crate::combine::combined;
 use isl_meter::{Cut, Int, Meter};
@@ -61,7 +60,7 @@ fn remainder(
     ensures { MatchResult result
         (λ rest. IsReducedCongruence columns p.now.k rest × SayTheSame p.now q.now q.now rest
         × (coef_at rest col <ℤ coef_at q.now col) × (meter.new ≡ meter.old))
-        (λ cut. IsCutUpTo 0 meter.old meter.new cut) }
+        (λ cut. IsCutUpTo (pos 0) meter.old meter.new cut) }
 {
     let times = p.coefs.get(col).floor_div(q.coefs.get(col), meter);
     let rest = combined(alloc, Int::ONE, p, times.neg(meter), q, meter)?;
@@ -85,7 +84,7 @@ fn merged_pair(
     requires col_in { col < columns }
     ensures { MatchResult result
         (λ pair. AreMerged columns col p.k p q pair.0 pair.1 × (meter.new ≡ meter.old))
-        (λ cut. IsCutUpTo 0 meter.old meter.new cut) }
+        (λ cut. IsCutUpTo (pos 0) meter.old meter.new cut) }
 {
     let mut first = p;
     let mut second = q;
@@ -112,7 +111,7 @@ fn scaled_copy(
     requires within { IsRowWithin meter.old row.now }
     ensures { MatchResult result
         (λ scaled. IsScaledTo columns (m *ℤ row.now.k) row.now scaled × IsRowWithin meter.old scaled × (meter.new ≡ meter.old))
-        (λ cut. IsCutUpTo 0 meter.old meter.new cut) }
+        (λ cut. IsCutUpTo (pos 0) meter.old meter.new cut) }
 {
     let scaled = combined(alloc, m, row, Int::ZERO, row, meter)?;
     Ok(reduced_copy(alloc, &scaled, meter)?)
@@ -137,7 +136,7 @@ fn joined(
     ensures { MatchResult result
         (λ pair. AreJoined columns col p.now q.now pair.0 pair.1
         × IsRowWithin meter.old pair.0 × IsRowWithin meter.old pair.1 × (meter.new ≡ meter.old))
-        (λ cut. IsCutUpTo 0 meter.old meter.new cut) }
+        (λ cut. IsCutUpTo (pos 0) meter.old meter.new cut) }
 {
     let common = p.modulus().gcd(q.modulus(), meter);
     let m = q.modulus().floor_div(common, meter);
@@ -163,7 +162,7 @@ pub(crate) fn merged(
     requires col_in { col < columns }
     ensures exact { MatchResult result
         (λ pair. AreMergedTo meter.old columns col rows.now pair.0 pair.1 × (meter.new ≡ meter.old))
-        (λ cut. IsCutUpTo 0 meter.old meter.new cut) }
+        (λ cut. IsCutUpTo (pos 0) meter.old meter.new cut) }
     ensures small { length rows.now < 2 → MatchResult result (λ pair. pair.1 ≡ []) (λ cut. cut ≢ Cut.Overflow) }
 {
     let mut one = reduced_copy(alloc, &rows[0], meter)?;

@@ -2,9 +2,8 @@
 
 ghost use Rattle.std.specs.Prelude.{◌≡◌, ◌≢◌, ◌-◌, ◌<◌, pos, length, All, IfOk, MatchResult, ◌^◌};
 ghost use Rattle.std.specs.List.{AllZip};
-ghost use Rattle.isl_meter.specs.Gauge.{IsWithin};
+ghost use Rattle.isl_meter.specs.Gauge.{IsWithin, IsCutUpTo};
 ghost use Rattle.isl_piece.specs.Row.{IsRowWithin, IsWellFormed, coef_at, IsRowUpTo};
-ghost use Rattle.isl_omega.specs.Work.{IsCutUpTo};
 ghost use Rattle.isl_omega.specs.Column.{IsSystemOf};
 ghost use Rattle.isl_omega.specs.Equality.{AreFactors, IsImage, IsSolvedBy, solvable};
 ghost use Rattle.isl_omega.specs.Magnitude.{IsNoOverflow};
@@ -39,7 +38,7 @@ fn image(alloc: Global, row: &Row, fixed: &Row, col: usize, meter: &mut Meter) -
     requires occurs { coef_at fixed.now col ≢ pos 0 }
     ensures exact { MatchResult result
         (λ short. IsImage fixed.now col row.now short × IsRowWithin meter.old short × (meter.new ≡ meter.old))
-        (λ cut. IsCutUpTo 0 meter.old meter.new cut) }
+        (λ cut. IsCutUpTo (pos 0) meter.old meter.new cut) }
     ensures small { meter.old.bits ≡ 127 → IsRowUpTo (2 ^ 61) row.now → IsRowUpTo (2 ^ 63) fixed.now → IsNoOverflow result }
 {
     let (m, n) = factors(fixed.coefs.get(col), row.coefs.get(col), meter);
@@ -63,7 +62,7 @@ fn images(
     requires occurs { coef_at fixed.now col ≢ pos 0 }
     ensures exact { MatchResult result
         (λ short. AllZip (IsImage fixed.now col) rows.now short × All (IsRowWithin meter.old) short × (meter.new ≡ meter.old))
-        (λ cut. IsCutUpTo 0 meter.old meter.new cut) }
+        (λ cut. IsCutUpTo (pos 0) meter.old meter.new cut) }
     ensures small { meter.old.bits ≡ 127 → All (IsRowUpTo (2 ^ 61)) rows.now → IsRowUpTo (2 ^ 63) fixed.now → IsNoOverflow result }
 {
     let mut short = Rows::new(alloc);
@@ -110,7 +109,7 @@ pub fn equality_step(
     requires occurs { coef_at fixed.now col ≢ pos 0 }
     ensures exact { MatchResult result
         (λ left. IsSystemOf meter.old (columns - 1) (IsSolvedBy rows.now fixed.now col) left × (meter.new ≡ meter.old))
-        (λ cut. IsCutUpTo 0 meter.old meter.new cut) }
+        (λ cut. IsCutUpTo (pos 0) meter.old meter.new cut) }
     ensures small { meter.old.bits ≡ 127 → All (IsRowUpTo (2 ^ 61)) rows.now → IsRowUpTo (2 ^ 63) fixed.now → IsNoOverflow result }
 {
     let mut short = images(alloc, rows, fixed, columns, col, meter)?;

@@ -1,13 +1,12 @@
 // What a lower and an upper bound leave without the column.
 
-ghost use Rattle.std.specs.Prelude.{◌≡◌, ◌<◌, ◌↔◌, pos, ◌-ℤ◌, ◌*ℤ◌, neg_ℤ, ◌<ℤ◌, ℤ, List, IsTrue, length, IfOk, MatchResult, ◌≢◌, ◌^◌, ◌≤◌, ◌+◌, ℕ, unsigned_abs, IfErr};
+ghost use Rattle.std.specs.Prelude.{◌≡◌, ◌<◌, pos, ◌-ℤ◌, ◌*ℤ◌, neg_ℤ, ◌<ℤ◌, ℤ, List, IsTrue, IfOk, MatchResult, ◌≢◌, ◌^◌, ◌≤◌, ◌+◌, ℕ, unsigned_abs, IfErr};
 ghost use Rattle.isl_math.specs.Divide.{IsGcdOf};
-ghost use Rattle.isl_meter.specs.Gauge.{IsWithin};
+ghost use Rattle.isl_meter.specs.Gauge.{IsWithin, IsCutUpTo};
 ghost use Rattle.isl_piece.specs.declared.constraint.RowKind.TheVariants.{AtLeast};
 ghost use Rattle.isl_piece.specs.Row.{HoldsRow, HasDivisor, IsRowWithin, coef_at, IsRowUpTo};
 ghost use Rattle.isl_omega.specs.Shadow.{ceiling, IsRealRow, IsDarkRow, IsExact};
 ghost use Rattle.isl_omega.specs.Sides.{IsLower, IsUpper};
-ghost use Rattle.isl_omega.specs.Work.{IsCutUpTo};
 ghost use Rattle.isl_omega.specs.Magnitude.{IsNoOverflow};
 
 use crate::combine::combined;
@@ -28,7 +27,7 @@ fn slack(a: Int, b: Int, divisor: Int, meter: &mut Meter) -> Result<Int, Overflo
     requires within { IsWithin meter.old divisor }
     ensures exact { MatchResult result
         (λ s. (s ≡ ceiling ((a -ℤ pos 1) *ℤ (b -ℤ pos 1)) divisor) × IsWithin meter.old s × (meter.new ≡ meter.old))
-        (λ _. IsCutUpTo 0 meter.old meter.new Cut.Overflow) }
+        (λ _. IsCutUpTo (pos 0) meter.old meter.new Cut.Overflow) }
     ensures small { meter.old.bits ≡ 127 → unsigned_abs a ≤ 2 ^ 62 → unsigned_abs b ≤ 2 ^ 62 → IfErr result (λ _. ⊥) }
 {
     let m = a.sub(Int::ONE, meter)?;
@@ -80,7 +79,7 @@ fn real_row(
     requires within { IsWithin meter.old divisor }
     ensures exact { MatchResult result
         (λ real. IsRealRow columns col lower.now upper.now divisor real × IsRowWithin meter.old real × (meter.new ≡ meter.old))
-        (λ cut. IsCutUpTo 0 meter.old meter.new cut) }
+        (λ cut. IsCutUpTo (pos 0) meter.old meter.new cut) }
     ensures small { meter.old.bits ≡ 127 → IsRowUpTo (2 ^ 62) lower.now → IsRowUpTo (2 ^ 62) upper.now
         → MatchResult result (IsRowUpTo (2 ^ 125)) (λ cut. cut ≢ Cut.Overflow) }
 {
@@ -99,7 +98,7 @@ pub fn lowered(alloc: Global, row: &Row, by: Int, meter: &mut Meter) -> Result<R
     requires within { IsRowWithin meter.old row.now }
     ensures exact { MatchResult result
         (λ low. (low ≡ record row.now { constant = row.now.constant -ℤ by }) × IsRowWithin meter.old low × (meter.new ≡ meter.old))
-        (λ cut. IsCutUpTo 0 meter.old meter.new cut) }
+        (λ cut. IsCutUpTo (pos 0) meter.old meter.new cut) }
     ensures small { (u w : ℕ) → unsigned_abs by ≤ u → IsRowUpTo w row.now → w + u < 2 ^ meter.old.bits → IsNoOverflow result }
 {
     let constant = row.offset().sub(by, meter)?;
@@ -122,7 +121,7 @@ impl Pair {
         ensures exact { MatchResult result
             (λ pair. IsDarkRow columns col lower.now upper.now pair.dark × IsRowWithin meter.old pair.dark
             × (IsTrue pair.exact → IsExact columns col lower.now upper.now) × (meter.new ≡ meter.old))
-            (λ cut. IsCutUpTo 0 meter.old meter.new cut) }
+            (λ cut. IsCutUpTo (pos 0) meter.old meter.new cut) }
         ensures small { meter.old.bits ≡ 127 → IsRowUpTo (2 ^ 62) lower.now → IsRowUpTo (2 ^ 62) upper.now → IsNoOverflow result }
     {
         let a = lower.coefs.get(col);

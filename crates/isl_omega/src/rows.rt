@@ -1,9 +1,9 @@
 // Rows without a column.
 
-ghost use Rattle.std.specs.Prelude.{◌≡◌, ◌-◌, ◌<◌, pos, length, All, IfOk, OnErr, MatchResult, map};
+ghost use Rattle.std.specs.Prelude.{◌≡◌, ◌-◌, ◌<◌, pos, All, IfOk, OnErr, MatchResult, map};
 ghost use Rattle.std.specs.List.{remove};
 ghost use Rattle.isl_piece.specs.Row.{IsRowWithin, IsWellFormed};
-ghost use Rattle.isl_omega.specs.Work.{IsCutUpTo};
+ghost use Rattle.isl_meter.specs.Gauge.{IsCutUpTo};
 ghost use Rattle.isl_omega.specs.Column.{dropped, IsFree, IsSystemOf, HoldAt};
 ghost use Rattle.isl_omega.specs.Magnitude.{IsNoOverflow};
 
@@ -71,7 +71,7 @@ pub fn settled(
     requires free { All (IsFree col) rows.now }
     ensures exact { MatchResult result
         (λ left. IsSystemOf meter.old (columns - 1) (λ point. HoldAt rows.now col point (pos 0)) left × (meter.new ≡ meter.old))
-        (λ cut. IsCutUpTo 0 meter.old meter.new cut) }
+        (λ cut. IsCutUpTo (pos 0) meter.old meter.new cut) }
     ensures memory { IsNoOverflow result }
 {
     let short = rows_without(alloc, rows.as_slice(), col)?;

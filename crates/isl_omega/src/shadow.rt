@@ -1,11 +1,10 @@
 // The dark shadow of bounds on a column, and what it leaves out.
 
-ghost use Rattle.std.specs.Prelude.{◌≡◌, ◌≢◌, ◌⊎◌, ◌<◌, ◌++◌, pos, negsuc, ◌<ℤ◌, ◌≤ℤ◌, ◌+ℤ◌, ℤ, ◌*◌, IsTrue, length, All, MatchResult, ◌^◌, ◌≤◌, unsigned_abs, IfErr};
-ghost use Rattle.isl_meter.specs.Gauge.{IsWithin};
-ghost use Rattle.isl_piece.specs.Row.{coef_at, IsRowUpTo};
+ghost use Rattle.std.specs.Prelude.{◌≡◌, ◌≢◌, ◌⊎◌, ◌<◌, pos, negsuc, ◌≤ℤ◌, ◌+ℤ◌, ℤ, ◌*◌, IsTrue, length, All, MatchResult, ◌^◌, ◌≤◌, unsigned_abs, IfErr};
+ghost use Rattle.isl_meter.specs.Gauge.{IsWithin, IsChargedUpTo, IsCutUpTo};
+ghost use Rattle.isl_piece.specs.Row.{IsRowUpTo};
 ghost use Rattle.isl_omega.specs.Shadow.{last_splinter, extra, IsShadowOf, HasTail, IsShadow};
 ghost use Rattle.isl_omega.specs.Sides.{IsLower, IsUpper};
-ghost use Rattle.isl_omega.specs.Work.{IsChargedUpTo, IsCutUpTo};
 ghost use Rattle.isl_omega.specs.Magnitude.{IsNoOverflow};
 
 use crate::pair::Pair;
@@ -40,7 +39,7 @@ fn last_value(factor: Int, greatest: Int, meter: &mut Meter) -> Result<Int, Over
     ensures exact { MatchResult result
         (λ last. (greatest ≡ pos 0 → last ≡ negsuc 0) × (greatest ≢ pos 0 → last ≡ last_splinter factor greatest)
         × IsWithin meter.old last × (meter.new ≡ meter.old))
-        (λ _. IsCutUpTo 0 meter.old meter.new Cut.Overflow) }
+        (λ _. IsCutUpTo (pos 0) meter.old meter.new Cut.Overflow) }
     ensures small { meter.old.bits ≡ 127 → unsigned_abs factor ≤ 2 ^ 62 → IfErr result (λ _. ⊥) }
 {
     if greatest.is_zero() {
@@ -65,8 +64,8 @@ fn shadow_of(
     requires col_in { col < columns }
     ensures exact { MatchResult result
         (λ last. IsShadowOf meter.old columns col lower.now uppers.now rows.old rows.new last × IsWithin meter.old last
-        × IsChargedUpTo (length uppers.now) meter.old meter.new)
-        (λ cut. IsCutUpTo (length uppers.now) meter.old meter.new cut) }
+        × IsChargedUpTo (pos (length uppers.now)) meter.old meter.new)
+        (λ cut. IsCutUpTo (pos (length uppers.now)) meter.old meter.new cut) }
     ensures small { meter.old.bits ≡ 127 → IsRowUpTo (2 ^ 62) lower.now → All (IsRowUpTo (2 ^ 62)) uppers.now → IsNoOverflow result }
 {
     let mut greatest = Int::ZERO;
@@ -85,7 +84,7 @@ fn tail_value(last: Int, factor: Int, neighbours: bool, meter: &mut Meter) -> Re
     requires within { IsWithin meter.old last }
     ensures exact { MatchResult result
         (λ value. (value ≡ last +ℤ extra neighbours factor) × IsWithin meter.old value × (meter.new ≡ meter.old))
-        (λ _. IsCutUpTo 0 meter.old meter.new Cut.Overflow) }
+        (λ _. IsCutUpTo (pos 0) meter.old meter.new Cut.Overflow) }
     ensures small { meter.old.bits ≡ 127 → unsigned_abs last ≤ 2 ^ 62 → unsigned_abs factor ≤ 2 ^ 62 → IfErr result (λ _. ⊥) }
 {
     if neighbours {
@@ -111,8 +110,8 @@ fn tail_of(
     requires col_in { col < columns }
     ensures exact { MatchResult result
         (λ tail. HasTail meter.old columns col neighbours lower.now uppers.now rows.old rows.new tail
-        × IsChargedUpTo (length uppers.now) meter.old meter.new)
-        (λ cut. IsCutUpTo (length uppers.now) meter.old meter.new cut) }
+        × IsChargedUpTo (pos (length uppers.now)) meter.old meter.new)
+        (λ cut. IsCutUpTo (pos (length uppers.now)) meter.old meter.new cut) }
     ensures small { meter.old.bits ≡ 127 → IsRowUpTo (2 ^ 62) lower.now → All (IsRowUpTo (2 ^ 62)) uppers.now → IsNoOverflow result }
 {
     let last = shadow_of(alloc, lower, uppers, columns, col, rows, meter)?;
@@ -143,8 +142,8 @@ pub fn shadow(
     requires col_in { col < columns }
     ensures exact { MatchResult result
         (λ pair. IsShadow meter.old columns col neighbours lowers.now uppers.now pair.0 pair.1.items
-        × IsChargedUpTo (length lowers.now * length uppers.now) meter.old meter.new)
-        (λ cut. IsCutUpTo (length lowers.now * length uppers.now) meter.old meter.new cut) }
+        × IsChargedUpTo (pos (length lowers.now * length uppers.now)) meter.old meter.new)
+        (λ cut. IsCutUpTo (pos (length lowers.now * length uppers.now)) meter.old meter.new cut) }
     ensures small { meter.old.bits ≡ 127 → All (IsRowUpTo (2 ^ 62)) lowers.now → All (IsRowUpTo (2 ^ 62)) uppers.now → IsNoOverflow result }
 {
     let mut rows = Rows::new(alloc);

@@ -1,6 +1,6 @@
 // The rows of a system by what they say of one column.
 
-ghost use Rattle.std.specs.Prelude.{◌≡◌, ◌<◌, ◌↔◌, IsTrue, length, All, IfOk, IfErr};
+ghost use Rattle.std.specs.Prelude.{◌≡◌, ◌<◌, length, All, IfOk, IfErr};
 ghost use Rattle.isl_piece.specs.Row.{IsRowWithin, IsWellFormed};
 
 use isl_meter::{Cut, Int, Meter};

@@ -1,12 +1,11 @@
 // The congruence step: the congruences on a column as a substitution for it.
 
-ghost use Rattle.std.specs.Prelude.{◌≡◌, ◌<◌, ◌++◌, ◌∷◌, [], pos, ◌<ℤ◌, All, length, map, IfOk, IfErr, MatchResult, ◌≢◌, ◌^◌, ◌≤◌, unsigned_abs};
-ghost use Rattle.isl_meter.specs.Gauge.{IsWithin};
+ghost use Rattle.std.specs.Prelude.{◌≡◌, ◌<◌, ◌++◌, ◌∷◌, [], pos, ◌<ℤ◌, All, length, IfOk, IfErr, MatchResult, ◌≢◌, ◌^◌, ◌≤◌, unsigned_abs};
+ghost use Rattle.isl_meter.specs.Gauge.{IsWithin, IsCutUpTo};
 ghost use Rattle.isl_piece.specs.declared.constraint.Row.{Row};
 ghost use Rattle.isl_piece.specs.Row.{IsWellFormed, IsRowWithin, IsRowUpTo};
 ghost use Rattle.isl_omega.specs.Sides.{AreSided};
 ghost use Rattle.isl_omega.specs.Step.{IsStepOf};
-ghost use Rattle.isl_omega.specs.Work.{IsCutUpTo};
 ghost use Rattle.isl_omega.specs.Magnitude.{IsNoOverflow, AreSidesUpTo};
 
 use crate::congruence::merged;
@@ -45,7 +44,7 @@ impl Progression {
             (λ p. AreMergedTo meter.old columns col divides.now p.one p.others
             × IsProgressionOf columns col p.one p.substitution.scale p.substitution.offsets
             × IsWithin meter.old p.substitution.scale × IsRowWithin meter.old p.substitution.offsets × (meter.new ≡ meter.old))
-            (λ cut. IsCutUpTo 0 meter.old meter.new cut) }
+            (λ cut. IsCutUpTo (pos 0) meter.old meter.new cut) }
         ensures small { meter.old.bits ≡ 127 → All (IsRowUpTo (2 ^ 30)) divides.now → length divides.now < 2 → MatchResult result
             (λ p. IsRowUpTo (2 ^ 30) p.one × (p.others ≡ []) × (unsigned_abs p.substitution.scale ≤ 2 ^ 30) × IsRowUpTo (2 ^ 30) p.substitution.offsets)
             (λ cut. cut ≢ Cut.Overflow) }
@@ -81,7 +80,7 @@ impl Progression {
             × IsRowWithin meter.old p.one
             × IsProgressionOf columns col p.one p.substitution.scale p.substitution.offsets
             × IsWithin meter.old p.substitution.scale × IsRowWithin meter.old p.substitution.offsets × (meter.new ≡ meter.old))
-            (λ cut. IsCutUpTo 0 meter.old meter.new cut) }
+            (λ cut. IsCutUpTo (pos 0) meter.old meter.new cut) }
     {
         let mut coefs = Coefs::zeros(alloc, columns)?;
         coefs.set(col, Int::ONE);
@@ -152,7 +151,7 @@ impl Progression {
         ensures exact { MatchResult result
             (λ new. AreMovedTo meter.old columns col self.now.one self.now.others self.now.substitution.scale self.now.substitution.offsets sides.now new
             × (meter.new ≡ meter.old))
-            (λ cut. IsCutUpTo 0 meter.old meter.new cut) }
+            (λ cut. IsCutUpTo (pos 0) meter.old meter.new cut) }
         ensures small { meter.old.bits ≡ 127 → unsigned_abs self.now.substitution.scale ≤ 2 ^ 30 → IsRowUpTo (2 ^ 30) self.now.substitution.offsets
             → AreSidesUpTo (2 ^ 30) sides.now → IsNoOverflow result }
     {
@@ -189,7 +188,7 @@ pub fn congruence_step(
     requires col_in { col < columns }
     ensures exact { MatchResult result
         (λ new. IsStepOf meter.old columns col sides.now new × (meter.new ≡ meter.old))
-        (λ cut. IsCutUpTo 0 meter.old meter.new cut) }
+        (λ cut. IsCutUpTo (pos 0) meter.old meter.new cut) }
     ensures small { meter.old.bits ≡ 127 → AreSidesUpTo (2 ^ 30) sides.now → length sides.now.divides < 2
         → MatchResult result (AreSidesUpTo (2 ^ 61)) (λ cut. cut ≢ Cut.Overflow) }
 {

@@ -1,11 +1,10 @@
 // A congruence as a substitution for its column.
 
 ghost use Rattle.std.specs.Prelude.{◌≡◌, ◌<◌, ◌<ℤ◌, pos, All, length, MatchResult, ◌≢◌, ◌^◌, ◌≤◌, unsigned_abs};
-ghost use Rattle.isl_meter.specs.Gauge.{IsWithin};
-ghost use Rattle.isl_piece.specs.Row.{IsRowWithin, IsWellFormed, coef_at, IsRowUpTo};
+ghost use Rattle.isl_meter.specs.Gauge.{IsWithin, IsCutUpTo};
+ghost use Rattle.isl_piece.specs.Row.{IsRowWithin, IsWellFormed, IsRowUpTo};
 ghost use Rattle.isl_piece.specs.declared.constraint.RowKind.TheVariants.{Divides};
 ghost use Rattle.isl_omega.specs.Substitution.{AreProgressionParts, offsets_of, IsProgressionOf, substituted};
-ghost use Rattle.isl_omega.specs.Work.{IsCutUpTo};
 ghost use Rattle.isl_omega.specs.Magnitude.{IsNoOverflow};
 
 use crate::combine::{combined, weighted};
@@ -46,7 +45,7 @@ fn offsets(alloc: Global, factor: Int, one: &Row, meter: &mut Meter) -> Result<R
     requires divisor { pos 0 <ℤ one.now.k }
     ensures exact { MatchResult result
         (λ row. (row ≡ offsets_of factor one.now) × IsRowWithin meter.old row × (meter.new ≡ meter.old))
-        (λ cut. IsCutUpTo 0 meter.old meter.new cut) }
+        (λ cut. IsCutUpTo (pos 0) meter.old meter.new cut) }
     ensures small { meter.old.bits ≡ 127 → unsigned_abs factor ≤ 2 ^ 30 → IsRowUpTo (2 ^ 30) one.now → IsNoOverflow result }
 {
     let k = one.modulus();
@@ -73,7 +72,7 @@ impl Substitution {
         ensures exact { MatchResult result
             (λ s. IsProgressionOf columns col one.now s.scale s.offsets × IsWithin meter.old s.scale × IsRowWithin meter.old s.offsets
             × (meter.new ≡ meter.old))
-            (λ cut. IsCutUpTo 0 meter.old meter.new cut) }
+            (λ cut. IsCutUpTo (pos 0) meter.old meter.new cut) }
         ensures small { meter.old.bits ≡ 127 → IsRowUpTo (2 ^ 30) one.now → MatchResult result
             (λ s. (unsigned_abs s.scale ≤ 2 ^ 30) × IsRowUpTo (2 ^ 30) s.offsets) (λ cut. cut ≢ Cut.Overflow) }
     {
@@ -104,7 +103,7 @@ impl Substitution {
         requires col_in { col < length row.now.coefs }
         ensures exact { MatchResult result
             (λ moved. (moved ≡ substituted self.now.scale self.now.offsets col row.now) × IsRowWithin meter.old moved × (meter.new ≡ meter.old))
-            (λ cut. IsCutUpTo 0 meter.old meter.new cut) }
+            (λ cut. IsCutUpTo (pos 0) meter.old meter.new cut) }
         ensures small { meter.old.bits ≡ 127 → unsigned_abs self.now.scale ≤ 2 ^ 30 → IsRowUpTo (2 ^ 30) self.now.offsets → IsRowUpTo (2 ^ 30) row.now → IsNoOverflow result }
     {
         combined(
@@ -135,7 +134,7 @@ impl Substitution {
         requires col_in { col < columns }
         ensures exact { MatchResult result
             (λ moved. IsMovedBound columns col self.now.scale self.now.offsets row.now moved × IsRowWithin meter.old moved × (meter.new ≡ meter.old))
-            (λ cut. IsCutUpTo 0 meter.old meter.new cut) }
+            (λ cut. IsCutUpTo (pos 0) meter.old meter.new cut) }
         ensures small { meter.old.bits ≡ 127 → unsigned_abs self.now.scale ≤ 2 ^ 30 → IsRowUpTo (2 ^ 30) self.now.offsets → IsRowUpTo (2 ^ 30) row.now → IsNoOverflow result }
     {
         let moved = self.put(alloc, row, col, meter)?;
@@ -161,7 +160,7 @@ impl Substitution {
         ensures exact { MatchResult result
             (λ moved. AllZip (IsMovedBound columns col self.now.scale self.now.offsets) rows.now moved
             × All (IsRowWithin meter.old) moved × (meter.new ≡ meter.old))
-            (λ cut. IsCutUpTo 0 meter.old meter.new cut) }
+            (λ cut. IsCutUpTo (pos 0) meter.old meter.new cut) }
         ensures small { meter.old.bits ≡ 127 → unsigned_abs self.now.scale ≤ 2 ^ 30 → IsRowUpTo (2 ^ 30) self.now.offsets → All (IsRowUpTo (2 ^ 30)) rows.now → IsNoOverflow result }
     {
         let mut moved = Rows::new(alloc);
@@ -188,7 +187,7 @@ impl Substitution {
         ensures exact { MatchResult result
             (λ moved. (moved ≡ map (substituted self.now.scale self.now.offsets col) rows.now)
             × All (IsRowWithin meter.old) moved × (meter.new ≡ meter.old))
-            (λ cut. IsCutUpTo 0 meter.old meter.new cut) }
+            (λ cut. IsCutUpTo (pos 0) meter.old meter.new cut) }
         ensures small { meter.old.bits ≡ 127 → unsigned_abs self.now.scale ≤ 2 ^ 30 → IsRowUpTo (2 ^ 30) self.now.offsets → All (IsRowUpTo (2 ^ 30)) rows.now → IsNoOverflow result }
     {
         let mut moved = Rows::new(alloc);

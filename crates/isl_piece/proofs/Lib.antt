@@ -14,3 +14,4 @@ pub mod PlaceLaws
 pub mod SystemLaws
 pub mod NegationLaws
 pub mod WitnessLaws
+pub mod IndexLaws

@@ -8,7 +8,6 @@ use Rattle.std.proofs.lemmas.Bool.{cases_Bool, cond-true, cond-false, and_parts,
 use Rattle.std.proofs.lemmas.Bool.Decides.{Decides-int_eq}
 use Rattle.std.proofs.lemmas.Slice.Eq.{slice_eq-Decides}
 use Rattle.std.proofs.lemmas.Int.{clamps}
-use Rattle.std.proofs.lemmas.List.{get_or_read}
 use Rattle.std.proofs.lemmas.List.Elements.{All-nil, All-cons, All-head, All-tail, All-weaker}
 use Rattle.isl_math.specs.Dot.{dot}
 use Rattle.isl_math.proofs.Ring.{linear}
@@ -87,7 +86,7 @@ least_holds v c d = (
   (λ h. let p = h.0 in let q = h.1 in omega (arith, linear, clamps)),
 )
 
-int_min_itself : (c d : ℤ) → c ≡ d → int_min c d ≡ c
+pub int_min_itself : (c d : ℤ) → c ≡ d → int_min c d ≡ c
 int_min_itself c d e = elim (int_min_cases c d) [ inl f ↦ f | inr f ↦ f ∙ sym e ]
 
 pub tighter_holds : (a r : Row) (xs : List ℤ) → SameBound a r → HoldsRow (tighter a r) xs ↔ (HoldsRow a xs × HoldsRow r xs)
@@ -167,9 +166,6 @@ with_row_at (a ∷ rows) zero r d l h t = with_row-here a rows r t
 with_row_at (a ∷ rows) (suc i) r d l h t =
     with_row-later a rows r (All-head (λ b. same_bound b r ≡ false) a (take i rows) h)
     ∙ ap (λ s. a ∷ s) (with_row_at rows i r d (omega arith) (All-tail (λ b. same_bound b r ≡ false) a (take i rows) h) t)
-
-pub with_row_place : (rows : List Row) (i : ℕ) (a r : Row) → i < length rows → a ≡ get_or rows i a → All (λ x. same_bound x r ≡ false) (take i rows) → same_bound a r ≡ true → with_row rows r ≡ set rows i (tighter (get_or rows i r) r)
-with_row_place rows i a r l is h t = with_row_at rows i r r l h (ap (λ (x : Row). same_bound x r) (sym (get_or_read rows i a l is r)) ∙ t)
 
 -- ---- many rows
 pub fold_all : (P : Row → Type 0) (kept rows : List Row) → All P kept → All P rows → All P (fold with_row kept rows)

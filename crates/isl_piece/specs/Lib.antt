@@ -1,3 +1,4 @@
+pub mod Index
 pub mod Negation
 pub mod Normal
 pub mod Numbers

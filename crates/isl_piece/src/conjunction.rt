@@ -57,9 +57,13 @@ pub fn meet(alloc: Global, a: &System, b: &System) -> Result<System, AllocError>
 
 /// The system with its normal rows: each row divided as far as it goes, rows that hold everywhere left out, and each bound
 /// once, with the least constant, in the place of the first. `None` where one of the rows holds nowhere. The rows are made
-/// normal where they lie, so that no memory is taken.
+/// normal where they lie; an index finds equal bounds among many rows, and few rows take no memory.
+///
+/// # Errors
+///
+/// `AllocError` where memory ends.
 pub fn normalise(
-    _alloc: Global,
+    alloc: Global,
     mut system: System,
     meter: &mut Meter,
 ) -> Result<Option<System>, AllocError>
@@ -74,7 +78,7 @@ pub fn normalise(
         → IfOk result (λ normal. IfSome normal (λ kept. All (IsRowUpTo b) kept.rows)) }
     ensures meter { meter.new ≡ meter.old }
 {
-    if system.rows.normalise(meter) {
+    if system.rows.normalise(alloc, meter)? {
         Ok(Some(system))
     } else {
         Ok(None)

@@ -4,6 +4,7 @@
 mod coefficients;
 mod conjunction;
 mod constraint;
+mod index;
 mod list;
 mod located;
 mod negation;

@@ -110,16 +110,20 @@ impl Rows {
     ghost use Rattle.isl_piece.specs.Normal.{normal_rows};
 
     /// Makes the rows normal; false where one of them holds at no point.
-    pub(crate) fn normalise(&mut self, meter: &Meter) -> bool
+    ///
+    /// # Errors
+    ///
+    /// `AllocError` where memory ends.
+    pub(crate) fn normalise(&mut self, alloc: Global, meter: &Meter) -> Result<bool, AllocError>
         requires divisors { All (λ r. HasDivisor r.kind r.k) self.old }
         requires within { All (IsRowWithin meter.now) self.old }
-        ensures kept { IsTrue result → normal_rows self.old ≡ Some self.new }
-        ensures none { result ≡ false → normal_rows self.old ≡ None }
+        ensures kept { IfOk result (λ holds. IsTrue holds → normal_rows self.old ≡ Some self.new) }
+        ensures none { IfOk result (λ holds. holds ≡ false → normal_rows self.old ≡ None) }
     {
-        if let Some(kept) = normalise_rows(self.items.as_mut_slice(), meter) {
+        if let Some(kept) = normalise_rows(alloc, self.items.as_mut_slice(), meter)? {
             self.items.truncate(kept);
-            return true;
+            return Ok(true);
         }
-        false
+        Ok(false)
     }
 }

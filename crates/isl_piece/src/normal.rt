@@ -1,39 +1,17 @@
 //! The normal form of rows and systems, made in place.
 
-ghost use Rattle.std.specs.Prelude.{◌≡◌, ◌+◌, ◌<◌, ◌≤◌, ◌++◌, ◌∷◌, [], length, take, drop, All, Some, None, MatchOption, slice_index_or, slice_set};
+ghost use Rattle.std.specs.Prelude.{◌≡◌, ◌+◌, ◌<◌, ◌≤◌, length, take, drop, All, Some, None, MatchOption, IfOk, OnOk, slice_index_or};
 ghost use Rattle.std.specs.Int.{int_min};
 ghost use Rattle.isl_piece.specs.declared.constraint.Row.{Row};
 ghost use Rattle.isl_piece.specs.Row.{IsRowWithin, HasDivisor};
-ghost use Rattle.isl_piece.specs.Normal.{same_bound, tighter, with_row, normal_rows};
+ghost use Rattle.isl_piece.specs.Normal.{with_row, normal_rows};
+ghost use Rattle.isl_piece.specs.Index.{IsIndexOf};
 
+use crate::Row;
+use crate::index::BoundIndex;
 use crate::reduction::{Outcome, settle};
-use crate::{Row, RowKind};
 use isl_meter::{Int, Meter};
-
-// Whether two rows are equal, or both `AtLeast` and different in the constant alone.
-fn is_same_bound(a: &Row, b: &Row) -> bool
-    ensures { result ≡ same_bound a.now b.now }
-{
-    a.kind == b.kind
-        && a.coefs.as_slice() == b.coefs.as_slice()
-        && a.k == b.k
-        && (a.kind == RowKind::AtLeast || a.constant == b.constant)
-}
-
-// The place of the first of the rows that has the bound of `row`.
-fn place_of(rows: &[Row], row: &Row) -> Option<usize>
-    ensures { MatchOption result
-        (with_row rows.now row.now ≡ rows.now ++ row.now ∷ [])
-        (λ place. (place < length rows.now)
-        × (with_row rows.now row.now ≡ slice_set rows.now place (tighter (slice_index_or rows.now place row.now) row.now))) }
-{
-    for place in 0..rows.len() {
-        if is_same_bound(&rows[place], row) {
-            return Some(place);
-        }
-    }
-    None
-}
+use std::alloc::{AllocError, Global};
 
 // Gives the row the constant where that is less.
 fn take_lesser(row: &mut Row, constant: Int)
@@ -45,41 +23,60 @@ fn take_lesser(row: &mut Row, constant: Int)
 }
 
 // Puts the row at `at` to the first `kept` rows, which stand before it, and answers how many these are then.
-fn keep(rows: &mut [Row], kept: usize, at: usize) -> usize
+fn keep(
+    rows: &mut [Row],
+    kept: usize,
+    at: usize,
+    index: &mut BoundIndex,
+) -> Result<usize, AllocError>
     requires before { kept ≤ at }
     requires inside { at < length rows.old }
-    ensures front { (d : Row) → take result rows.new ≡ with_row (take kept rows.old) (slice_index_or rows.old at d) }
-    ensures bound { result ≤ at + 1 }
-    ensures rest { drop (at + 1) rows.new ≡ drop (at + 1) rows.old }
+    requires index { IsIndexOf index.old (take kept rows.old) }
+    ensures front { IfOk result (λ count. (d : Row) → take count rows.new ≡ with_row (take kept rows.old) (slice_index_or rows.old at d)) }
+    ensures bound { IfOk result (λ count. count ≤ at + 1) }
+    ensures rest { OnOk result (drop (at + 1) rows.new ≡ drop (at + 1) rows.old) }
+    ensures index { IfOk result (λ count. IsIndexOf index.new (take count rows.new)) }
 {
     let all = &rows[..];
-    match place_of(&all[..kept], &all[at]) {
+    let row = &all[at];
+    match index.place_of(&all[..kept], row) {
         Some(place) => {
             let constant = rows[at].offset();
             take_lesser(&mut rows[place], constant);
-            kept
+            Ok(kept)
         }
         None => {
+            index.push(&all[..kept], row)?;
             rows.swap(kept, at);
-            kept + 1
+            Ok(kept + 1)
         }
     }
 }
 
 /// Makes the rows normal, and moves those that are kept to the front. Answers how many they are; `None` where one of the
 /// rows holds at no point.
-pub(crate) fn normalise_rows(rows: &mut [Row], meter: &Meter) -> Option<usize>
+///
+/// # Errors
+///
+/// `AllocError` where memory ends; the rows are in no order then. Few rows take none.
+pub(crate) fn normalise_rows(
+    alloc: Global,
+    rows: &mut [Row],
+    meter: &Meter,
+) -> Result<Option<usize>, AllocError>
     requires divisors { All (λ r. HasDivisor r.kind r.k) rows.old }
     requires within { All (IsRowWithin meter.now) rows.old }
-    ensures { MatchOption result (normal_rows rows.old ≡ None) (λ kept. normal_rows rows.old ≡ Some (take kept rows.new)) }
+    ensures { IfOk result (λ found. MatchOption found
+        (normal_rows rows.old ≡ None) (λ kept. normal_rows rows.old ≡ Some (take kept rows.new))) }
 {
+    let mut index = BoundIndex::for_rows(alloc, rows.len())?;
     let mut kept = 0;
     for at in 0..rows.len() {
         match settle(&mut rows[at], meter) {
             Outcome::Holds => {}
-            Outcome::Fails => return None,
-            Outcome::Stays => kept = keep(rows, kept, at),
+            Outcome::Fails => return Ok(None),
+            Outcome::Stays => kept = keep(rows, kept, at, &mut index)?,
         }
     }
-    Some(kept)
+    Ok(Some(kept))
 }

@@ -1,66 +1,27 @@
 -- The names of the columns of a space are distinct.
-use Rattle.std.proofs.Common.{◌≡◌, ◌≢◌, ◌<◌, ◌≤◌, ◌+◌, ◌-◌, ◌^◌, ◌∙◌, ℕ, zero, suc, Bool, true, false, not, List, [], ◌∷◌, ◌++◌, length, get_or, arith, ap, sym, refl, cond, lit<}
-use Rattle.std.specs.Prelude.{if◌then◌else◌, codes, ◌==◌, ◌||◌, All, filter}
+use Rattle.std.proofs.Common.{◌≡◌, ◌≢◌, ◌<◌, ◌≤◌, ◌+◌, ◌-◌, ◌^◌, ◌∙◌, ℕ, zero, suc, Bool, true, false, not, List, [], ◌∷◌, ◌++◌, length}
+use Rattle.std.proofs.Common.{arith, ap, sym, refl, cond, lit<}
+use Rattle.std.specs.Prelude.{if◌then◌else◌, codes, ◌==◌, All, filter}
 use Rattle.std.specs.Char.{digit_value}
 use Rattle.std.specs.Fmt.{decimal}
-use Rattle.std.specs.List.{sum_by, list_any, AllByRecursion}
-use Rattle.std.specs.Str.{bytes_eq}
+use Rattle.std.specs.List.{sum_by, AllByRecursion}
 use Rattle.std.specs.Str.Parse.{AllDigits}
-use Rattle.std.proofs.lemmas.Bool.{false≢true, ne_eqb}
+use Rattle.std.proofs.lemmas.Bool.{ne_eqb}
 use Rattle.std.proofs.lemmas.Fmt.{decimal_is_IsNumeral_wide, decimal_injective}
 use Rattle.std.proofs.lemmas.List.{append-nil, length-append}
 use Rattle.std.proofs.lemmas.List.Elements.{filter-append, recursion_from_All}
-use Rattle.std.proofs.lemmas.Slice.Eq.{bytes_eq-Decides}
 use Rattle.isl_space.specs.Name.{Name}
 use Rattle.isl_space.specs.Names.{AreDistinct, is_among}
 use Rattle.isl_space.specs.Form.{width_of}
 use Rattle.isl_space.specs.SpaceForm.{SpaceForm, set_of, map_of, coordinates_of}
 use Rattle.isl_print.specs.Naming.{primed, free_name, numbered, coordinate_names, column_names}
+use Rattle.isl_space.proofs.DistinctLaws.{Differs, Distinct, Apart, apart-append, distinct-append, apart-nil, apart_from, distinct_from}
+use Rattle.isl_space.proofs.DistinctLaws.{distinct_at}
 use Rattle.isl_print.proofs.NamingLaws.{among_short}
 
--- ---- a name differs from each of a list, and no two of a list are equal
-abbrev pub Differs : Name → List Name → Type 0
-Differs name [] = Unit {0}
-Differs name (other ∷ others) = (name ≢ other) × Differs name others
-
-abbrev pub Distinct : List Name → Type 0
-Distinct [] = Unit {0}
-Distinct (name ∷ names) = Differs name names × Distinct names
-
--- each of a list differs from each of another one
-abbrev pub Apart : List Name → List Name → Type 0
-Apart [] others = Unit {0}
-Apart (name ∷ names) others = Differs name others × Apart names others
-
-differs-append : (name : Name) (xs ys : List Name) → Differs name xs → Differs name ys → Differs name (xs ++ ys)
-differs-append name [] ys a b = b
-differs-append name (x ∷ xs) ys a b = (a.0, differs-append name xs ys a.1 b)
-
-apart-append : (xs ys zs : List Name) → Apart xs ys → Apart xs zs → Apart xs (ys ++ zs)
-apart-append [] ys zs a b = tt
-apart-append (x ∷ xs) ys zs a b = (differs-append x ys zs a.0 b.0, apart-append xs ys zs a.1 b.1)
-
-pub distinct-append : (xs ys : List Name) → Distinct xs → Distinct ys → Apart xs ys → Distinct (xs ++ ys)
-distinct-append [] ys a b apart = b
-distinct-append (x ∷ xs) ys a b apart = (differs-append x xs ys a.0 apart.0, distinct-append xs ys a.1 b apart.1)
-
--- ---- no name is one of those that it is to differ from
-among_itself : (others : List Name) (name other : Name) → is_among (other ∷ others) name ≡ false → other ≢ name
-among_itself others name other is same = false≢true (sym is ∙ ap (λ (b : Bool). b || list_any (bytes_eq name) others) ((bytes_eq-Decides name other).1 (sym same)))
-
-among_others : (others : List Name) (name other : Name) → is_among (other ∷ others) name ≡ false → is_among others name ≡ false
-among_others others name other is = by (bytes_eq name other) is
-  where
-    by : (b : Bool) → (b || list_any (bytes_eq name) others) ≡ false → is_among others name ≡ false
-    by true h = absurd (false≢true (sym h))
-    by false h = h
-
-apart_from : (others : List Name) (name : Name) → is_among others name ≡ false → Apart others (name ∷ [])
-apart_from [] name is = tt
-apart_from (other ∷ others) name is = ((among_itself others name other is, tt), apart_from others name (among_others others name other is))
-
 -- with so many primes a name is longer than all others together
-primed_free : (most : ℕ) (others : List Name) (name : Name) → sum_by length others + 1 ≤ most + length name → is_among others (primed most others name) ≡ false
+primed_free : (most : ℕ) (others : List Name) (name : Name) → sum_by length others + 1 ≤ most + length name
+    → is_among others (primed most others name) ≡ false
 primed_free zero others name enough = by (is_among others name) refl
   where
     by : (b : Bool) → is_among others name ≡ b → is_among others name ≡ false
@@ -93,7 +54,8 @@ bare_primed (suc most) others name = by (is_among others name) (bare_primed most
     shorter : bare (name ++ codes "'") ≡ bare name
     shorter = filter-append no_prime name (codes "'") ∙ append-nil (bare name)
 
-    by : (b : Bool) → bare (primed most others (name ++ codes "'")) ≡ bare (name ++ codes "'") → bare (if b then primed most others (name ++ codes "'") else name) ≡ bare name
+    by : (b : Bool) → bare (primed most others (name ++ codes "'")) ≡ bare (name ++ codes "'")
+        → bare (if b then primed most others (name ++ codes "'") else name) ≡ bare name
     by true again = again ∙ shorter
     by false again = refl
 
@@ -109,7 +71,9 @@ digit_is_no_prime d digit = grind arith
 
 digits_bare : (ds : List ℕ) → AllDigits 10 ds → bare ds ≡ ds
 digits_bare [] all = refl
-digits_bare (d ∷ ds) all = ap (λ (q : Bool). cond (not q) (d ∷ bare ds) (bare ds)) (ne_eqb d 39 (digit_is_no_prime d all.0)) ∙ ap (λ m. d ∷ m) (digits_bare ds all.1)
+digits_bare (d ∷ ds) all =
+    ap (λ (q : Bool). cond (not q) (d ∷ bare ds) (bare ds)) (ne_eqb d 39 (digit_is_no_prime d all.0))
+    ∙ ap (λ m. d ∷ m) (digits_bare ds all.1)
 
 narrow_is_wide : (n : ℕ) → n < 2 ^ 64 → n < 10 ^ 64
 narrow_is_wide n small = let more : 2 ^ 64 < 10 ^ 64 = lit< tt in omega (arith, small, more)
@@ -120,11 +84,15 @@ bare_numbered letter n other small =
     ap (λ (q : Bool). cond (not q) (letter ∷ bare (decimal n)) (bare (decimal n))) (ne_eqb letter 39 other)
     ∙ ap (λ m. letter ∷ m) (digits_bare (decimal n) (decimal_is_IsNumeral_wide n (narrow_is_wide n small)).0.1)
 
-bare_free : (params : List Name) (letter : ℕ) (n : ℕ) → letter ≢ 39 → n < 2 ^ 64 → bare (free_name params (letter ∷ decimal n)) ≡ letter ∷ decimal n
-bare_free params letter n other small = bare_primed (sum_by length params + 1 - length (letter ∷ decimal n)) params (letter ∷ decimal n) ∙ bare_numbered letter n other small
+bare_free : (params : List Name) (letter : ℕ) (n : ℕ) → letter ≢ 39 → n < 2 ^ 64
+    → bare (free_name params (letter ∷ decimal n)) ≡ letter ∷ decimal n
+bare_free params letter n other small =
+    bare_primed (sum_by length params + 1 - length (letter ∷ decimal n)) params (letter ∷ decimal n) ∙ bare_numbered letter n other small
 
-same_numbered : (params : List Name) (a b m n : ℕ) → a ≢ 39 → b ≢ 39 → m < 2 ^ 64 → n < 2 ^ 64 → free_name params (a ∷ decimal m) ≡ free_name params (b ∷ decimal n) → a ∷ decimal m ≡ b ∷ decimal n
-same_numbered params a b m n first second low high same = sym (bare_free params a m first low) ∙ ap bare same ∙ bare_free params b n second high
+same_numbered : (params : List Name) (a b m n : ℕ) → a ≢ 39 → b ≢ 39 → m < 2 ^ 64 → n < 2 ^ 64
+    → free_name params (a ∷ decimal m) ≡ free_name params (b ∷ decimal n) → a ∷ decimal m ≡ b ∷ decimal n
+same_numbered params a b m n first second low high same =
+    sym (bare_free params a m first low) ∙ ap bare same ∙ bare_free params b n second high
 
 same_letters : (a b : ℕ) (x y : Name) → a ∷ x ≡ b ∷ y → a ≡ b
 same_letters a b x y same = cc
@@ -134,24 +102,28 @@ same_digits a b x y same = cc
 
 module _ (params : List Name) where
   -- other numbers behind one letter
-  numbered_differs : (letter : ℕ) → letter ≢ 39 → (n first count : ℕ) → n < first → first + count ≤ 2 ^ 64 → Differs (free_name params (letter ∷ decimal n)) (numbered params (letter ∷ []) first count)
+  numbered_differs : (letter : ℕ) → letter ≢ 39 → (n first count : ℕ) → n < first → first + count ≤ 2 ^ 64
+      → Differs (free_name params (letter ∷ decimal n)) (numbered params (letter ∷ []) first count)
   numbered_differs letter other n first zero below small = tt
   numbered_differs letter other n first (suc count) below small = (
     λ same. absurd (omega (arith, below, decimal_injective n first (omega arith) (omega arith) (same_digits letter letter _ _ (same_numbered params letter letter n first other other (omega arith) (omega arith) same)))),
     numbered_differs letter other n (first + 1) count (omega arith) (omega arith),
   )
 
-  numbered_distinct : (letter : ℕ) → letter ≢ 39 → (first count : ℕ) → first + count ≤ 2 ^ 64 → Distinct (numbered params (letter ∷ []) first count)
+  numbered_distinct : (letter : ℕ) → letter ≢ 39 → (first count : ℕ) → first + count ≤ 2 ^ 64
+      → Distinct (numbered params (letter ∷ []) first count)
   numbered_distinct letter other first zero small = tt
   numbered_distinct letter other first (suc count) small = (numbered_differs letter other first (first + 1) count (omega arith) (omega arith), numbered_distinct letter other (first + 1) count (omega arith))
 
   -- other letters
-  lettered_differs : (a b : ℕ) → a ≢ 39 → b ≢ 39 → a ≢ b → (n first count : ℕ) → n < 2 ^ 64 → first + count ≤ 2 ^ 64 → Differs (free_name params (a ∷ decimal n)) (numbered params (b ∷ []) first count)
+  lettered_differs : (a b : ℕ) → a ≢ 39 → b ≢ 39 → a ≢ b → (n first count : ℕ) → n < 2 ^ 64 → first + count ≤ 2 ^ 64
+      → Differs (free_name params (a ∷ decimal n)) (numbered params (b ∷ []) first count)
   lettered_differs a b one two other n first zero low small = tt
   lettered_differs a b one two other n first (suc count) low small =
       (λ same. other (same_letters a b _ _ (same_numbered params a b n first one two low (omega arith) same)), lettered_differs a b one two other n (first + 1) count low (omega arith))
 
-  lettered_apart : (a b : ℕ) → a ≢ 39 → b ≢ 39 → a ≢ b → (first count other_first others : ℕ) → first + count ≤ 2 ^ 64 → other_first + others ≤ 2 ^ 64
+  lettered_apart : (a b : ℕ) → a ≢ 39 → b ≢ 39 → a ≢ b → (first count other_first others : ℕ) → first + count ≤ 2 ^ 64
+      → other_first + others ≤ 2 ^ 64
       → Apart (numbered params (a ∷ []) first count) (numbered params (b ∷ []) other_first others)
   lettered_apart a b one two other first zero other_first others small smaller = tt
   lettered_apart a b one two other first (suc count) other_first others small smaller =
@@ -159,11 +131,7 @@ module _ (params : List Name) where
 
   -- the parameters
   params_apart : (letter : Name) (first count : ℕ) → Apart params (numbered params letter first count)
-  params_apart letter first zero = none params
-    where
-      none : (l : List Name) → Apart l []
-      none [] = tt
-      none (n ∷ l) = (tt, none l)
+  params_apart letter first zero = apart-nil params
   params_apart letter first (suc count) =
       apart-append params (free_name params (letter ++ decimal first) ∷ []) (numbered params letter (first + 1) count)
       (apart_from params (free_name params (letter ++ decimal first)) (free_name_is_free params (letter ++ decimal first))) (params_apart letter (first + 1) count)
@@ -180,30 +148,11 @@ module _ (params : List Name) where
   coordinates_apart (set_of form) = params_apart (codes "i") 0 (width_of form)
   coordinates_apart (map_of from to) = apart-append params (numbered params (codes "i") 0 (width_of from)) (numbered params (codes "o") 0 (width_of to)) (params_apart (codes "i") 0 (width_of from)) (params_apart (codes "o") 0 (width_of to))
 
--- ---- the same by places
-differs_from : (name : Name) (names : List Name) → ((j : ℕ) (d : Name) → j < length names → name ≢ get_or names j d) → Differs name names
-differs_from name [] h = tt
-differs_from name (other ∷ others) h = (h 0 name (omega arith), differs_from name others (λ j d low. h (suc j) d (omega arith)))
-
-pub distinct_from : (names : List Name) → AreDistinct names → Distinct names
-distinct_from [] h = tt
-distinct_from (name ∷ names) h = (differs_from name names (λ j d low. h 0 (suc j) d (omega arith) (omega arith)), distinct_from names (λ i j d before low. h (suc i) (suc j) d (omega arith) (omega arith)))
-
-differs_at : (name : Name) (names : List Name) → Differs name names → (j : ℕ) (d : Name) → j < length names → name ≢ get_or names j d
-differs_at name [] h j d low = absurd (omega (arith, low))
-differs_at name (other ∷ others) h zero d low = h.0
-differs_at name (other ∷ others) h (suc j) d low = differs_at name others h.1 j d (omega arith)
-
-distinct_at : (names : List Name) → Distinct names → AreDistinct names
-distinct_at [] h i j d before low = absurd (omega (arith, low))
-distinct_at (name ∷ names) h zero zero d before low = absurd (omega (arith, before))
-distinct_at (name ∷ names) h zero (suc j) d before low = differs_at name names h.0 j d (omega arith)
-distinct_at (name ∷ names) h (suc i) zero d before low = absurd (omega (arith, before))
-distinct_at (name ∷ names) h (suc i) (suc j) d before low = distinct_at names h.1 i j d (omega arith) (omega arith)
-
 -- no two columns have one name
-pub columns_distinct : (params : List Name) (space : SpaceForm) → AreDistinct params → coordinates_of space ≤ 2 ^ 32 → Distinct (column_names params space)
+pub columns_distinct : (params : List Name) (space : SpaceForm) → AreDistinct params → coordinates_of space ≤ 2 ^ 32
+    → Distinct (column_names params space)
 columns_distinct params space distinct small = distinct-append params (coordinate_names params space) (distinct_from params distinct) (coordinates_distinct params space small) (coordinates_apart params space)
 
-pub columns_are_distinct : (params : List Name) (space : SpaceForm) → AreDistinct params → coordinates_of space ≤ 2 ^ 32 → AreDistinct (column_names params space)
+pub columns_are_distinct : (params : List Name) (space : SpaceForm) → AreDistinct params → coordinates_of space ≤ 2 ^ 32
+    → AreDistinct (column_names params space)
 columns_are_distinct params space distinct small = distinct_at (column_names params space) (columns_distinct params space distinct small)

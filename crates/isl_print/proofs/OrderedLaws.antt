@@ -58,14 +58,17 @@ module _ {X : Type 0} (before : X → X → Bool) where
     -- where none of a list stands before y, and one of it ties with x, x does not stand before y
     not_before : (x y z : X) (l m : List X) → Least y l → filter (ties before x) l ≡ z ∷ m → before x y ≡ false
     not_before x y z [] m least some = absurd cc
-    not_before x y z (w ∷ l) m least some = by (ties before x w) refl (λ is. not_before x y z l m least.1 (sym (left_out (ties before x) w l is) ∙ some))
+    not_before x y z (w ∷ l) m least some =
+        by (ties before x w) refl (λ is. not_before x y z l m least.1 (sym (left_out (ties before x) w l is) ∙ some))
       where
         by : (b : Bool) → ties before x w ≡ b → (ties before x w ≡ false → before x y ≡ false) → before x y ≡ false
         by true is again = o.chain x w y (tie_parts x w is).0 least.0
         by false is again = again is
 
-    heads_tie : (y z : X) (ys zs : List X) → Least y ys → filter (ties before z) (y ∷ ys) ≡ filter (ties before z) (z ∷ zs) → before z y ≡ false
-    heads_tie y z ys zs least same = not_before z y z (y ∷ ys) (filter (ties before z) zs) (itself y, least) (same ∙ filtered (ties before z) z zs (tie_itself z))
+    heads_tie : (y z : X) (ys zs : List X) → Least y ys → filter (ties before z) (y ∷ ys) ≡ filter (ties before z) (z ∷ zs)
+        → before z y ≡ false
+    heads_tie y z ys zs least same =
+        not_before z y z (y ∷ ys) (filter (ties before z) zs) (itself y, least) (same ∙ filtered (ties before z) z zs (tie_itself z))
 
     same_head : (y z : X) (ys zs : List X) → y ∷ ys ≡ z ∷ zs → y ≡ z
     same_head y z ys zs e = cc
@@ -73,7 +76,8 @@ module _ {X : Type 0} (before : X → X → Bool) where
     same_tail : (y z : X) (ys zs : List X) → y ∷ ys ≡ z ∷ zs → ys ≡ zs
     same_tail y z ys zs e = cc
 
-    tails_same : (x y : X) (ys zs : List X) → filter (ties before x) (y ∷ ys) ≡ filter (ties before x) (y ∷ zs) → filter (ties before x) ys ≡ filter (ties before x) zs
+    tails_same : (x y : X) (ys zs : List X) → filter (ties before x) (y ∷ ys) ≡ filter (ties before x) (y ∷ zs)
+        → filter (ties before x) ys ≡ filter (ties before x) zs
     tails_same x y ys zs same = by (ties before x y) refl
       where
         by : (b : Bool) → ties before x y ≡ b → filter (ties before x) ys ≡ filter (ties before x) zs
@@ -121,7 +125,8 @@ module _ {X : Type 0} (before : X → X → Bool) where
     one_ties : (w x y : X) → before y x ≡ true → ties before w x ≡ true → ties before w y ≡ true → ⊥
     one_ties w x y is a b = false≢true (sym (o.chain y w x (tie_parts w y b).1 (tie_parts w x a).0) ∙ is)
 
-    swapped : (p q : Bool) (x y : X) (l : List X) → (p ≡ true → q ≡ true → ⊥) → cond q (y ∷ cond p (x ∷ l) l) (cond p (x ∷ l) l) ≡ cond p (x ∷ cond q (y ∷ l) l) (cond q (y ∷ l) l)
+    swapped : (p q : Bool) (x y : X) (l : List X) → (p ≡ true → q ≡ true → ⊥)
+        → cond q (y ∷ cond p (x ∷ l) l) (cond p (x ∷ l) l) ≡ cond p (x ∷ cond q (y ∷ l) l) (cond q (y ∷ l) l)
     swapped true true x y l never = absurd (never refl refl)
     swapped true false x y l never = refl
     swapped false true x y l never = refl
@@ -133,7 +138,9 @@ module _ {X : Type 0} (before : X → X → Bool) where
       where
         by : (b : Bool) → before y x ≡ b → filter (ties before w) (placed before x l) ≡ filter (ties before w) (x ∷ l)
             → filter (ties before w) (if b then y ∷ placed before x l else x ∷ y ∷ l) ≡ filter (ties before w) (x ∷ y ∷ l)
-        by true is again = ap (λ m. cond (ties before w y) (y ∷ m) m) again ∙ swapped (ties before w x) (ties before w y) x y (filter (ties before w) l) (one_ties w x y is)
+        by true is again =
+            ap (λ m. cond (ties before w y) (y ∷ m) m) again
+            ∙ swapped (ties before w x) (ties before w y) x y (filter (ties before w) l) (one_ties w x y is)
         by false is again = refl
 
     ties_in_order : (w : X) (xs : List X) → filter (ties before w) (in_order before xs) ≡ filter (ties before w) xs
@@ -172,4 +179,5 @@ in_order-from_sort_by {X} {Y} f R o {F} {g} {closure} xs ys sorted stable calls 
     let lt : X → X → Bool = λ a b. is_lt (R (f a) (f b)) in
     let weak : IsStrictWeakOrder lt = ranks_by o f in
     let compares : ComparesAs g lt closure = answers_always g (λ a r. is_lt r ≡ lt a.0.now a.1.0.now) closure (λ c a r d h. ap is_lt (calls c a r d h)) in
-    ap (map f) (in_order-from_sort lt weak xs ys (sorted lt weak compares) (stable lt weak compares)) ∙ map-in_order f (λ a b. is_lt (R a b)) xs
+    ap (map f) (in_order-from_sort lt weak xs ys (sorted lt weak compares) (stable lt weak compares))
+    ∙ map-in_order f (λ a b. is_lt (R a b)) xs

@@ -1,10 +1,12 @@
 -- A value in printed order is the same value, with the same text.
-use Rattle.std.proofs.Common.{◌≡◌, ◌↔◌, inl, inr, ◌∙◌, ℤ, Bool, true, false, List, [], ◌∷◌, ◌++◌, Option, Some, None, All, Any, map, ap, sym, subst, refl, arith}
+use Rattle.std.proofs.Common.{◌≡◌, ◌↔◌, inl, inr, ◌∙◌, ℤ, Bool, true, false, List, [], ◌∷◌, ◌++◌, Option, Some, None, All, Any, map, ap}
+use Rattle.std.proofs.Common.{sym, subst, refl, arith}
 use Rattle.std.specs.Prelude.{if◌then◌else◌, option_map, IfSome}
 use Rattle.std.specs.List.Sorted.{IsPermutation}
 use Rattle.std.specs.Cmp.{IsStrictWeakOrder}
 use Rattle.std.proofs.lemmas.List.{length-map, get_or-map}
-use Rattle.std.proofs.lemmas.List.Sorted.{IsPermutation-refl, IsPermutation-cons, IsPermutation-trans, IsPermutation-sym, IsPermutation-middle, All-permutation, Contains-permutation, ranks_by}
+use Rattle.std.proofs.lemmas.List.Sorted.{IsPermutation-refl, IsPermutation-cons, IsPermutation-trans, IsPermutation-sym}
+use Rattle.std.proofs.lemmas.List.Sorted.{IsPermutation-middle, All-permutation, Contains-permutation, ranks_by}
 use Rattle.std.proofs.lemmas.List.Elements.{All-map, All-weaker, All-head, All-tail, All-nil, All-cons}
 use Rattle.isl_math.proofs.ListLaws.{Any-weaker, Any-unmapped}
 use Rattle.isl_space.specs.Name.{Name}
@@ -56,7 +58,8 @@ module _ {X : Type 0} (before : X → X → Bool) where
   placed_permutes x [] = IsPermutation-refl (x ∷ [])
   placed_permutes x (y ∷ l) = by (before y x) (placed_permutes x l)
     where
-      by : (b : Bool) → IsPermutation (x ∷ l) (placed before x l) → IsPermutation (x ∷ y ∷ l) (if b then y ∷ placed before x l else x ∷ y ∷ l)
+      by : (b : Bool) → IsPermutation (x ∷ l) (placed before x l)
+          → IsPermutation (x ∷ y ∷ l) (if b then y ∷ placed before x l else x ∷ y ∷ l)
       by true again = IsPermutation-trans (x ∷ y ∷ l) (y ∷ x ∷ l) (y ∷ placed before x l) (swapped x y l) (IsPermutation-cons y (x ∷ l) (placed before x l) again)
       by false again = IsPermutation-refl (x ∷ y ∷ l)
 
@@ -67,14 +70,17 @@ module _ {X : Type 0} (before : X → X → Bool) where
       (placed_permutes x (in_order before xs))
 
   pub All-out_of_order : (P : X → Type 0) (xs : List X) → All P (in_order before xs) → All P xs
-  All-out_of_order P xs all = All-permutation P (in_order before xs) xs (IsPermutation-sym xs (in_order before xs) (in_order-permutes xs)) all
+  All-out_of_order P xs all =
+      All-permutation P (in_order before xs) xs (IsPermutation-sym xs (in_order before xs) (in_order-permutes xs)) all
 
 -- some element of a list is one of the list in another order
 any_permutation : {X : Type 0} (P : X → Type 0) (xs ys : List X) → IsPermutation xs ys → Any P xs → Any P ys
-any_permutation P xs ys moves some = let c = Contains-permutation xs ys some.1 moves (some.0, some.2, some.3) in (c.0, some.1, c.1, c.2, some.4)
+any_permutation P xs ys moves some =
+    let c = Contains-permutation xs ys some.1 moves (some.0, some.2, some.3) in (c.0, some.1, c.1, c.2, some.4)
 
 any_map : {X Y : Type 0} (f : X → Y) (P : Y → Type 0) (xs : List X) → Any (λ x. P (f x)) xs → Any P (map f xs)
-any_map f P xs some = (some.0, f some.1, omega (arith, some.2, length-map xs f), get_or-map f xs some.0 some.1 (f some.1) some.2 ∙ ap f some.3, some.4)
+any_map f P xs some =
+    (some.0, f some.1, omega (arith, some.2, length-map xs f), get_or-map f xs some.0 some.1 (f some.1) some.2 ∙ ap f some.3, some.4)
 
 -- ---- rows
 same_bound_back : (a b : Row) → same_bound a b ≡ false → same_bound b a ≡ false
@@ -134,9 +140,12 @@ piece_text-ordered : (params : List Name) (piece : KeptPiece) → piece_text par
 piece_text-ordered params piece =
     ap (λ rows. tuples_text piece.space (coordinate_names params piece.space) ++ conjunction_text (map (row_text (column_names params piece.space)) rows)) (in_order-twice row_before rows_ranked piece.rows)
 
-piece_texts-ordered : (params : List Name) (pieces : List KeptPiece) → map (piece_text params) (map ordered_piece pieces) ≡ map (piece_text params) pieces
+piece_texts-ordered : (params : List Name) (pieces : List KeptPiece)
+    → map (piece_text params) (map ordered_piece pieces) ≡ map (piece_text params) pieces
 piece_texts-ordered params [] = refl
-piece_texts-ordered params (piece ∷ pieces) = ap (λ t. t ∷ map (piece_text params) (map ordered_piece pieces)) (piece_text-ordered params piece) ∙ ap (λ ts. piece_text params piece ∷ ts) (piece_texts-ordered params pieces)
+piece_texts-ordered params (piece ∷ pieces) =
+    ap (λ t. t ∷ map (piece_text params) (map ordered_piece pieces)) (piece_text-ordered params piece)
+    ∙ ap (λ ts. piece_text params piece ∷ ts) (piece_texts-ordered params pieces)
 
 pub printed-ordered : (value : KeptValue) → printed (ordered value) ≡ printed value
 printed-ordered value =
@@ -150,12 +159,16 @@ module _ (params : List Name) (valuation : Valuation) (element : Element) where
   point = point_of params valuation element
 
   in_ordered : (piece : KeptPiece) → HasElement params valuation element piece → HasElement params valuation element (ordered_piece piece)
-  in_ordered piece has = record { space = has.space; holds = All-in_order row_before (λ r. HoldsRow r point) piece.rows has.holds }
+  in_ordered piece has =
+      record { numbers = has.numbers; space = has.space; holds = All-in_order row_before (λ r. HoldsRow r point) piece.rows has.holds }
 
-  out_of_ordered : (piece : KeptPiece) → HasElement params valuation element (ordered_piece piece) → HasElement params valuation element piece
-  out_of_ordered piece has = record { space = has.space; holds = All-out_of_order row_before (λ r. HoldsRow r point) piece.rows has.holds }
+  out_of_ordered : (piece : KeptPiece) → HasElement params valuation element (ordered_piece piece)
+      → HasElement params valuation element piece
+  out_of_ordered piece has =
+      record { numbers = has.numbers; space = has.space; holds = All-out_of_order row_before (λ r. HoldsRow r point) piece.rows has.holds }
 
-pub Has-ordered : (value : KeptValue) (valuation : Valuation) (element : Element) → Has (ordered value) valuation element ↔ Has value valuation element
+pub Has-ordered : (value : KeptValue) (valuation : Valuation) (element : Element)
+    → Has (ordered value) valuation element ↔ Has value valuation element
 Has-ordered value valuation element =
     let has = HasElement value.params valuation element in
     let there = in_order-permutes piece_before value.pieces in (

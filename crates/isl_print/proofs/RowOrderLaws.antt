@@ -5,7 +5,8 @@ use Rattle.isl_piece.specs.declared.constraint.Row.{Row}
 use Rattle.isl_print.specs.RowOrder.{rank_of, numbers_cmp, row_cmp}
 
 numbers_cmp_total : IsTotalOrder numbers_cmp
-numbers_cmp_total = then_total (on_total (λ (r : Row). r.coefs) (lists_total int_cmp_total)) (on_total (λ (r : Row). r.constant) int_cmp_total)
+numbers_cmp_total =
+    then_total (on_total (λ (r : Row). r.coefs) (lists_total int_cmp_total)) (on_total (λ (r : Row). r.constant) int_cmp_total)
 
 pub row_cmp_total : IsTotalOrder row_cmp
 row_cmp_total =

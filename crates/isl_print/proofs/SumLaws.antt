@@ -1,5 +1,6 @@
 -- Sums, written from the left.
-use Rattle.std.proofs.Common.{◌≡◌, ◌≢◌, ◌<◌, ◌≤◌, ◌+◌, ℕ, zero, suc, ℤ, Bool, true, false, List, [], ◌∷◌, ◌++◌, drop, length, map, refl, sym, ap, ◌∙◌, arith}
+use Rattle.std.proofs.Common.{◌≡◌, ◌≢◌, ◌<◌, ◌≤◌, ◌+◌, ℕ, zero, suc, ℤ, Bool, true, false, List, [], ◌∷◌, ◌++◌, drop, length, map, refl}
+use Rattle.std.proofs.Common.{sym, ap, ◌∙◌, arith}
 use Rattle.std.specs.Prelude.{◌==◌, ◌&&◌, if◌then◌else◌, codes, get_or}
 use Rattle.std.specs.Fmt.{decimal}
 use Rattle.std.proofs.lemmas.Fmt.{decimal_digit}
@@ -29,14 +30,18 @@ first_constant is_first c first = ap (λ b. rest_of_sum b (constant_texts c)) fi
 pub no_constant : (is_first : Bool) (c : ℕ) → is_first ≡ false → c ≡ 0 → rest_of_sum is_first (constant_texts c) ≡ []
 no_constant is_first c first is = ap (λ b. rest_of_sum b (constant_texts c)) first ∙ ap (λ ts. rest_of_sum false ts) (no_constant_text c is)
 
-pub added_constant : (is_first : Bool) (c : ℕ) → is_first ≡ false → c ≢ 0 → rest_of_sum is_first (constant_texts c) ≡ codes " + " ++ decimal c
+pub added_constant : (is_first : Bool) (c : ℕ) → is_first ≡ false → c ≢ 0
+    → rest_of_sum is_first (constant_texts c) ≡ codes " + " ++ decimal c
 added_constant is_first c first differs =
-    ap (λ b. rest_of_sum b (constant_texts c)) first ∙ ap (λ ts. rest_of_sum false ts) (constant_text c differs) ∙ append-nil (codes " + " ++ decimal c)
+    ap (λ b. rest_of_sum b (constant_texts c)) first ∙ ap (λ ts. rest_of_sum false ts) (constant_text c differs)
+    ∙ append-nil (codes " + " ++ decimal c)
 
-pub after_plus : (is_first : Bool) (c : ℕ) (old between new : Text) → is_first ≡ false → c ≢ 0 → between ≡ old ++ codes " + " → new ≡ between ++ decimal c
+pub after_plus : (is_first : Bool) (c : ℕ) (old between new : Text) → is_first ≡ false → c ≢ 0 → between ≡ old ++ codes " + "
+    → new ≡ between ++ decimal c
     → new ≡ old ++ rest_of_sum is_first (constant_texts c)
 after_plus is_first c old between new first differs plus digits =
-    digits ∙ ap (λ t. t ++ decimal c) plus ∙ append_assoc old (codes " + ") (decimal c) ∙ ap (λ t. old ++ t) (sym (added_constant is_first c first differs))
+    digits ∙ ap (λ t. t ++ decimal c) plus ∙ append_assoc old (codes " + ") (decimal c)
+    ∙ ap (λ t. old ++ t) (sym (added_constant is_first c first differs))
 
 pub ruleset constants = (first_constant, no_constant, added_constant)
 
@@ -50,7 +55,8 @@ terms_at side name names number numbers constant is_first next q is goes =
     let here : summands side (name ∷ names) (number ∷ numbers) constant ≡ (if q then rest else term_text (share side number, name) ∷ rest) = rw (← is) (by_test q) in
     ap (rest_of_sum is_first) here ∙ split q is_first next rest goes
   where
-    by_test : (q : Bool) → map term_text (if q then terms_of side names numbers else (share side number, name) ∷ terms_of side names numbers) ++ constant_texts (share side constant)
+    by_test : (q : Bool)
+        → map term_text (if q then terms_of side names numbers else (share side number, name) ∷ terms_of side names numbers) ++ constant_texts (share side constant)
         ≡ (if q then summands side names numbers constant else term_text (share side number, name) ∷ summands side names numbers constant)
     by_test true = refl
     by_test false = refl
@@ -83,7 +89,8 @@ no_terms side [] = refl
 no_terms side (name ∷ names) = refl
 
 -- behind the last column only the constant is left
-pub sum_end : (side : Side) (names : List Name) (numbers : List ℤ) (constant : ℤ) (i : ℕ) (is_first : Bool) (before after whole : Text) → length numbers ≤ i
+pub sum_end : (side : Side) (names : List Name) (numbers : List ℤ) (constant : ℤ) (i : ℕ) (is_first : Bool) (before after whole : Text)
+    → length numbers ≤ i
     → after ≡ before ++ rest_of_sum is_first (constant_texts (share side constant))
     → before ++ rest_of_sum is_first (summands side (drop i names) (drop i numbers) constant) ≡ whole
     → after ≡ whole

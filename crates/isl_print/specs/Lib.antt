@@ -8,3 +8,9 @@ pub mod Tuple
 pub mod PieceOrder
 pub mod Printed
 pub mod OrderedValue
+pub use Rattle.isl_space.specs.Element
+pub use Rattle.isl_space.specs.Name
+pub use Rattle.isl_space.specs.Names
+pub use Rattle.isl_space.specs.SpaceForm
+pub use Rattle.isl_space.specs.Valuation
+pub use Rattle.isl_union.specs.KeptValue

@@ -11,7 +11,8 @@ use Rattle.isl_print.specs.Tuple.{tuples_text}
 
 -- the tuples, and the rows where there are some
 abbrev pub piece_text : List Name → KeptPiece → Text
-piece_text params piece = tuples_text piece.space (coordinate_names params piece.space) ++ rows_text (column_names params piece.space) piece.rows
+piece_text params piece =
+    tuples_text piece.space (coordinate_names params piece.space) ++ rows_text (column_names params piece.space) piece.rows
 
 abbrev pub params_text : List Name → Text
 params_text [] = []

@@ -8,7 +8,8 @@ use Rattle.isl_print.specs.Joined.{Text, joined_by}
 -- a tuple of the first of the names: a leaf is its name and the names in brackets, a pair is `[left -> right]`
 abbrev pub tuple_text : Form → List Name → Text
 tuple_text (leaf name width) names = name_text name ++ codes "[" ++ joined_by (codes ", ") (take width names) ++ codes "]"
-tuple_text (pair left right) names = codes "[" ++ tuple_text left names ++ codes " -> " ++ tuple_text right (drop (width_of left) names) ++ codes "]"
+tuple_text (pair left right) names =
+    codes "[" ++ tuple_text left names ++ codes " -> " ++ tuple_text right (drop (width_of left) names) ++ codes "]"
 
 -- a set has one tuple, a map two
 abbrev pub tuples_text : SpaceForm → List Name → Text

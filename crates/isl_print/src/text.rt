@@ -112,6 +112,10 @@ fn write_params(alloc: Global, out: &mut String, params: &Params) -> Result<(), 
 }
 
 /// The value as text: a literal that has its elements.
+///
+/// # Errors
+///
+/// Where memory ends.
 pub fn text_of(alloc: Global, value: &Value) -> Result<String, AllocError>
     ensures { IfOk result (λ text. string_bytes text ≡ printed value.now) }
 {

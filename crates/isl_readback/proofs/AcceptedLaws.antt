@@ -3,7 +3,7 @@ use Rattle.std.proofs.Common.{◌≡◌, ◌<◌, ◌∙◌, ℕ, pos, true, fal
 use Rattle.std.specs.Prelude.{◌-◌, slice_range, Ok}
 use Rattle.std.proofs.lemmas.List.{take_all}
 use Rattle.isl_union.specs.KeptValue.{KeptValue}
-use Rattle.isl_token.specs.declared.token.Token.{Token}
+use Rattle.isl_token.specs.TokenView.{Token}
 use Rattle.isl_token.specs.Depth.{is_too_deep}
 use Rattle.isl_token.specs.Number.{too_great}
 use Rattle.isl_token.specs.Spelling.{Spells}

@@ -12,7 +12,7 @@ use Rattle.isl_union.specs.KeptValue.{KeptPiece, KeptValue, IsKeptValue}
 use Rattle.isl_print.specs.Naming.{coordinate_names}
 use Rattle.isl_print.specs.Ordered.{in_order}
 use Rattle.isl_print.specs.PieceOrder.{piece_before}
-use Rattle.isl_print.proofs.DistinctLaws.{Differs, Distinct, distinct_from}
+use Rattle.isl_space.proofs.DistinctLaws.{Differs, Distinct, distinct_from}
 use Rattle.isl_print.proofs.TextLaws.{All-in_order}
 use Rattle.isl_tree.specs.Literal.{is_among}
 use Rattle.isl_text.specs.Formed.{are_distinct, are_sets, are_maps, are_alike, standing_name, with_name, names_are_new, piece_is_formed, is_formed}

@@ -19,7 +19,8 @@ use Rattle.isl_print.specs.Ordered.{in_order}
 use Rattle.isl_print.specs.PieceOrder.{piece_before}
 use Rattle.isl_print.specs.RowOrder.{row_before}
 use Rattle.isl_print.specs.Sum.{share, terms_of}
-use Rattle.isl_print.proofs.DistinctLaws.{Distinct, Apart, coordinates_distinct, coordinates_apart}
+use Rattle.isl_space.proofs.DistinctLaws.{Distinct, Apart}
+use Rattle.isl_print.proofs.DistinctLaws.{coordinates_distinct, coordinates_apart}
 use Rattle.isl_print.proofs.TextLaws.{All-in_order}
 use Rattle.std.proofs.lemmas.List.Elements.{recursion_from_All}
 use Rattle.isl_tree.specs.declared.tree.Signed.{Signed}

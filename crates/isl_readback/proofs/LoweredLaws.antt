@@ -11,10 +11,11 @@ use Rattle.isl_space.specs.SpaceForm.{SpaceForm, IsWellFormedSpace}
 use Rattle.isl_piece.specs.declared.constraint.RowKind.{RowKind}
 use Rattle.isl_piece.specs.declared.constraint.RowKind.TheVariants.{Zero, AtLeast, Divides, NotDivides}
 use Rattle.isl_piece.specs.declared.constraint.Row.{Row}
-use Rattle.isl_piece.specs.Row.{IsRowUpTo, IsWellFormed}
+use Rattle.isl_piece.specs.Row.{IsWellFormed}
 use Rattle.isl_piece.specs.Normal.{normal_form, normal_rows, IsNormal}
 use Rattle.isl_piece.proofs.NormalCases.{normal_zero_by, normal_at_least_by}
 use Rattle.isl_piece.proofs.NormalLaws.{normal_rows_all, normal_rows_well_formed, normal_rows_normal}
+use Rattle.isl_piece.proofs.RowMagnitudes.{row_more}
 use Rattle.isl_piece.proofs.ShapeLaws.{IfKept}
 use Rattle.isl_union.specs.KeptValue.{KeptPiece, KeptValue, IsKeptPiece, IsKeptValue}
 use Rattle.isl_token.specs.Number.{too_great}
@@ -202,13 +203,6 @@ kept literal plain formed = record {
         by params piece (normal_rows (rows_written params piece)) space plain_piece (normal_rows_well_formed n (rows_written params piece) rows) (normal_rows_normal n (rows_written params piece) rows)
 
 -- numbers up to a limit are up to a greater one
-row_more : (m n : ℕ) (r : Row) → m ≤ n → IsRowUpTo m r → IsRowUpTo n r
-row_more m n r less small = record {
-  coefs = λ i d low. let h = small.coefs i d low in omega (arith, less, h);
-  constant = let h = small.constant in omega (arith, less, h);
-  k = let h = small.k in omega (arith, less, h);
-}
-
 numbers_more : (m n : ℕ) (value : KeptValue) → m ≤ n → HasNumbersUpTo m value → HasNumbersUpTo n value
 numbers_more m n value less small i d low = λ j e inside. row_more m n (get_or (get_or value.pieces i d).rows j e) less (small i d low j e inside)
 

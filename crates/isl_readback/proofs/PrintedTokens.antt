@@ -22,7 +22,7 @@ use Rattle.isl_print.specs.PieceOrder.{piece_before}
 use Rattle.isl_print.specs.RowOrder.{row_before}
 use Rattle.isl_print.specs.Sum.{share, terms_of}
 use Rattle.isl_print.proofs.TextLaws.{All-in_order}
-use Rattle.isl_token.specs.declared.token.Token.TheVariants as token
+use Rattle.isl_token.specs.TokenView as token
 use Rattle.isl_eval.specs.Machine.{HasNumbersUpTo}
 use Rattle.isl_readback.specs.Written.{IsComparison, IsLeaf, IsFlatSpace}
 use Rattle.isl_readback.specs.RoundTrip.{IsWritableValue}

@@ -18,7 +18,7 @@ use Rattle.isl_print.specs.Printed.{printed}
 use Rattle.isl_print.specs.RowOrder.{row_before}
 use Rattle.isl_print.proofs.OrderedValueLaws.{IsKeptValue-ordered, Has-ordered, printed-ordered}
 use Rattle.isl_print.proofs.TextLaws.{All-in_order}
-use Rattle.isl_token.specs.declared.token.Token.{Token}
+use Rattle.isl_token.specs.TokenView.{Token}
 use Rattle.isl_token.specs.Spelling.{Spells}
 use Rattle.isl_token.proofs.Again.{always}
 use Rattle.isl_token.proofs.Whole.{spells_one}

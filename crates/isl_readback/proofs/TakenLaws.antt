@@ -46,9 +46,9 @@ ordered_numbers limit value small =
 
 -- what reads as the value of a literal has its elements
 elements_again : (literal again : Literal) → is_plain literal ≡ true → literal_is_known literal ≡ true → ReadsAs again (value_lowered literal) → HaveSameElements again literal
-elements_again literal again plain known reads valuation element is =
-    let was = same_elements literal plain known valuation element is in
-    let now = same_elements again reads.plain reads.known valuation element is in
+elements_again literal again plain known reads valuation element =
+    let was = same_elements literal plain known valuation element in
+    let now = same_elements again reads.plain reads.known valuation element in
     let values = reads.elements valuation element in
     ((λ h. was.0 (values.0 (now.1 h))), (λ h. now.0 (values.1 (was.1 h))))
 

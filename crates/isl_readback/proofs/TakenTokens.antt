@@ -11,7 +11,7 @@ use Rattle.isl_piece.proofs.NormalCases.{int_lt-false}
 use Rattle.isl_union.specs.KeptValue.{KeptPiece, KeptValue, IsKeptPiece}
 use Rattle.isl_print.specs.Naming.{coordinate_names}
 use Rattle.isl_print.proofs.LiteralNameLaws.{coordinates_named}
-use Rattle.isl_token.specs.declared.token.Token.{Token}
+use Rattle.isl_token.specs.TokenView.{Token}
 use Rattle.isl_token.specs.declared.token.Kind.{Kind}
 use Rattle.isl_token.specs.declared.token.Kind.TheVariants as k
 use Rattle.isl_token.specs.Token.{is_kind, kind_of, word_kind, sign_kind}

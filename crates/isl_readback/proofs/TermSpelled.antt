@@ -12,8 +12,8 @@ use Rattle.isl_space.specs.Name.{Name, is_identifier, is_reserved, IsLiteralName
 use Rattle.isl_print.specs.declared.sum.Side.{Side}
 use Rattle.isl_print.specs.Joined.{Text}
 use Rattle.isl_print.specs.Sum.{Term, share, terms_of}
-use Rattle.isl_token.specs.declared.token.Token.{Token}
-use Rattle.isl_token.specs.declared.token.Token.TheVariants as token
+use Rattle.isl_token.specs.TokenView.{Token}
+use Rattle.isl_token.specs.TokenView as token
 use Rattle.isl_token.specs.declared.token.Kind.{Kind}
 use Rattle.isl_token.specs.declared.token.Kind.TheVariants as k
 use Rattle.isl_token.specs.Token.{kind_of, kind_in, word_kind, word_kinds, sign_kind}

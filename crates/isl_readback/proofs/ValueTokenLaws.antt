@@ -22,12 +22,13 @@ use Rattle.isl_print.proofs.TextLaws.{All-in_order}
 use Rattle.isl_token.specs.Lex.{tokens}
 use Rattle.isl_token.specs.Number.{too_great}
 use Rattle.isl_token.proofs.Prints.{Prints, any, blank_prints, prints_nil, prints_whole}
-use Rattle.isl_token.proofs.SignPrints.{semicolon_prints, open_square_prints, close_square_prints, open_brace_prints, close_brace_prints}
+use Rattle.isl_token.proofs.SignPrints.{whole_sign_prints}
 use Rattle.isl_readback.specs.Written.{HasWritableNumbers}
 use Rattle.isl_readback.proofs.TokenLaws.{Tokens, AllPrint, after_item, AreNamed, AreSmall, IsSmall, IsWritableRow, AreWritableRows, IsNamedForm, IsNamedSpaceForm, sign, joined_tokens, names_tokens, row_tokens, conjunction_tokens, tuples_tokens, then_prints, loose_prints, joined_print, names_print, rows_print, conjunction_prints, tuples_print, arrow_between}
 
 abbrev pub piece_tokens : List Name → KeptPiece → Tokens
-piece_tokens params piece = tuples_tokens piece.space (coordinate_names params piece.space) ++ conjunction_tokens (map (row_tokens (column_names params piece.space)) (in_order row_before piece.rows))
+piece_tokens params piece = tuples_tokens piece.space (coordinate_names params piece.space) ++ conjunction_tokens
+    (map (row_tokens (column_names params piece.space)) (in_order row_before piece.rows))
 
 abbrev pub params_tokens : List Name → Tokens
 params_tokens [] = []
@@ -76,41 +77,50 @@ writable_rows [] all = tt
 writable_rows (row ∷ rows) all = (writable_row row all.0, writable_rows rows all.1)
 
 -- ---- pieces
-pub piece_prints : (params : List Name) (piece : KeptPiece) → All IsLiteralName params → IsKeptPiece params piece → All (IsRowUpTo (too_great - 1)) piece.rows
+pub piece_prints : (params : List Name) (piece : KeptPiece) → All IsLiteralName params → IsKeptPiece params piece → All
+    (IsRowUpTo (too_great - 1)) piece.rows
     → Prints (piece_text params piece) (piece_tokens params piece) after_item
 piece_prints params piece names kept numbers =
     let few = kept.space.narrow.coordinates in
     let columns = column_names params piece.space in
     let rows = in_order row_before piece.rows in
     let all = named_from columns (columns_named params piece.space names (omega (arith, few))) in
-    let writable = writable_rows rows (recursion_from_All (IsRowUpTo (too_great - 1)) rows (All-in_order row_before (IsRowUpTo (too_great - 1)) piece.rows numbers)) in
-    loose_prints (tuples_text piece.space (coordinate_names params piece.space)) (conjunction_text (map (row_text columns) rows)) (tuples_tokens piece.space (coordinate_names params piece.space)) (conjunction_tokens (map (row_tokens columns) rows)) after_item
-    (tuples_print piece.space (coordinate_names params piece.space) (named_space piece.space kept.space.named) (named_from (coordinate_names params piece.space) (coordinates_named params piece.space (omega (arith, few)))))
+    let writable = writable_rows rows
+    (recursion_from_All (IsRowUpTo (too_great - 1)) rows (All-in_order row_before (IsRowUpTo (too_great - 1)) piece.rows numbers)) in
+    loose_prints (tuples_text piece.space (coordinate_names params piece.space)) (conjunction_text (map (row_text columns) rows))
+    (tuples_tokens piece.space (coordinate_names params piece.space)) (conjunction_tokens (map (row_tokens columns) rows)) after_item
+    (tuples_print piece.space (coordinate_names params piece.space) (named_space piece.space kept.space.named)
+    (named_from (coordinate_names params piece.space) (coordinates_named params piece.space (omega (arith, few)))))
     (conjunction_prints (map (row_text columns) rows) (map (row_tokens columns) rows) (rows_print columns rows all writable))
 
-pieces_print_each : (params : List Name) (pieces : List KeptPiece) → All IsLiteralName params → AllByRecursion (IsKeptPiece params) pieces → AllByRecursion (λ p. All (IsRowUpTo (too_great - 1)) p.rows) pieces
+pieces_print_each : (params : List Name) (pieces : List KeptPiece) → All IsLiteralName params → AllByRecursion
+    (IsKeptPiece params) pieces → AllByRecursion (λ p. All (IsRowUpTo (too_great - 1)) p.rows) pieces
     → AllPrint (map (piece_text params) pieces) (map (piece_tokens params) pieces)
 pieces_print_each params [] names kept numbers = tt
-pieces_print_each params (piece ∷ pieces) names kept numbers = (piece_prints params piece names kept.0 numbers.0, pieces_print_each params pieces names kept.1 numbers.1)
+pieces_print_each params (piece ∷ pieces) names kept numbers =
+    (piece_prints params piece names kept.0 numbers.0, pieces_print_each params pieces names kept.1 numbers.1)
 
 semicolon_between : Prints (codes "; ") (sign (codes ";") ∷ []) any
-semicolon_between = loose_prints (codes ";") (codes " ") (sign (codes ";") ∷ []) [] any semicolon_prints blank_prints
+semicolon_between = loose_prints (codes ";") (codes " ") (sign (codes ";") ∷ []) [] any (whole_sign_prints (codes ";") refl) blank_prints
 
 open_braces : Prints (codes "{ ") (sign (codes "{") ∷ []) any
-open_braces = loose_prints (codes "{") (codes " ") (sign (codes "{") ∷ []) [] any open_brace_prints blank_prints
+open_braces = loose_prints (codes "{") (codes " ") (sign (codes "{") ∷ []) [] any (whole_sign_prints (codes "{") refl) blank_prints
 
 close_braces : Prints (codes " }") (sign (codes "}") ∷ []) any
-close_braces = loose_prints (codes " ") (codes "}") [] (sign (codes "}") ∷ []) any blank_prints close_brace_prints
+close_braces = loose_prints (codes " ") (codes "}") [] (sign (codes "}") ∷ []) any blank_prints (whole_sign_prints (codes "}") refl)
 
 pieces_print : (texts : List Text) (tss : List Tokens) → AllPrint texts tss → Prints (pieces_text texts) (pieces_tokens tss) any
-pieces_print [] [] all = loose_prints (codes "{ ") (codes "}") (sign (codes "{") ∷ []) (sign (codes "}") ∷ []) any open_braces close_brace_prints
+pieces_print [] [] all = loose_prints (codes "{ ") (codes "}") (sign (codes "{") ∷ []) (sign (codes "}") ∷ []) any open_braces
+    (whole_sign_prints (codes "}") refl)
 pieces_print [] (ts ∷ tss) all = absurd all
 pieces_print (text ∷ texts) [] all = absurd all
 pieces_print (text ∷ texts) (ts ∷ tss) all =
     let inside = joined_by (codes "; ") (text ∷ texts) in
     let ins = joined_tokens (sign (codes ";") ∷ []) (ts ∷ tss) in
     then_prints (codes "{ " ++ inside) (codes " }") (sign (codes "{") ∷ [] ++ ins) (sign (codes "}") ∷ []) any
-    (loose_prints (codes "{ ") inside (sign (codes "{") ∷ []) ins after_item open_braces (joined_print (codes "; ") (sign (codes ";") ∷ []) semicolon_between (λ z. refl) (text ∷ texts) (ts ∷ tss) all))
+    (loose_prints (codes "{ ") inside
+    (sign (codes "{") ∷ []) ins after_item open_braces
+    (joined_print (codes "; ") (sign (codes ";") ∷ []) semicolon_between (λ z. refl) (text ∷ texts) (ts ∷ tss) all))
     close_braces (λ z. refl)
 
 -- ---- the declared names
@@ -120,16 +130,22 @@ params_print (name ∷ names) all =
     let inside = joined_by (codes ", ") (name ∷ names) in
     let ins = names_tokens (name ∷ names) in
     then_prints (codes "[" ++ inside) (codes "] -> ") (sign (codes "[") ∷ [] ++ ins) (sign (codes "]") ∷ sign (codes "->") ∷ []) any
-    (loose_prints (codes "[") inside (sign (codes "[") ∷ []) ins after_item open_square_prints (names_print (name ∷ names) all))
-    (loose_prints (codes "]") (codes " -> ") (sign (codes "]") ∷ []) (sign (codes "->") ∷ []) any close_square_prints arrow_between) (λ z. refl)
+    (loose_prints (codes "[") inside
+    (sign (codes "[") ∷ []) ins after_item (whole_sign_prints (codes "[") refl) (names_print (name ∷ names) all))
+    (loose_prints (codes "]") (codes " -> ") (sign (codes "]") ∷ []) (sign (codes "->") ∷ []) any
+    (whole_sign_prints (codes "]") refl) arrow_between) (λ z. refl)
 
 -- the tokens of the text
-pub tokens-printed : (value : KeptValue) → IsKeptValue value → HasWritableNumbers value → tokens (printed value) ≡ Some (printed_tokens value)
+pub tokens-printed : (value : KeptValue) → IsKeptValue value → HasWritableNumbers value → tokens (printed value) ≡ Some
+    (printed_tokens value)
 tokens-printed value kept numbers =
     let pieces = in_order piece_before value.pieces in
     let each = pieces_print_each value.params pieces kept.params.named
     (recursion_from_All (IsKeptPiece value.params) pieces (All-in_order piece_before (IsKeptPiece value.params) value.pieces kept.pieces))
-    (recursion_from_All (λ p. All (IsRowUpTo (too_great - 1)) p.rows) pieces (All-in_order piece_before (λ p. All (IsRowUpTo (too_great - 1)) p.rows) value.pieces numbers)) in
+    (recursion_from_All (λ p. All (IsRowUpTo (too_great - 1)) p.rows) pieces
+    (All-in_order piece_before (λ p. All (IsRowUpTo (too_great - 1)) p.rows) value.pieces numbers)) in
     prints_whole (printed value) (printed_tokens value) any
-    (loose_prints (params_text value.params) (pieces_text (map (piece_text value.params) pieces)) (params_tokens value.params) (pieces_tokens (map (piece_tokens value.params) pieces)) any
-    (params_print value.params (named_from value.params kept.params.named)) (pieces_print (map (piece_text value.params) pieces) (map (piece_tokens value.params) pieces) each)) refl
+    (loose_prints (params_text value.params) (pieces_text (map (piece_text value.params) pieces)) (params_tokens value.params)
+    (pieces_tokens (map (piece_tokens value.params) pieces)) any
+    (params_print value.params (named_from value.params kept.params.named))
+    (pieces_print (map (piece_text value.params) pieces) (map (piece_tokens value.params) pieces) each)) refl

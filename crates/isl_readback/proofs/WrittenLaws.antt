@@ -21,7 +21,8 @@ use Rattle.isl_print.specs.Ordered.{in_order}
 use Rattle.isl_print.specs.OrderedValue.{ordered_piece, ordered}
 use Rattle.isl_print.specs.PieceOrder.{piece_before}
 use Rattle.isl_print.specs.RowOrder.{row_before}
-use Rattle.isl_print.proofs.DistinctLaws.{Distinct, Apart, distinct_from, coordinates_distinct, coordinates_apart}
+use Rattle.isl_space.proofs.DistinctLaws.{Distinct, Apart, distinct_from}
+use Rattle.isl_print.proofs.DistinctLaws.{coordinates_distinct, coordinates_apart}
 use Rattle.isl_print.proofs.TextLaws.{length-column_names, All-in_order}
 use Rattle.isl_tree.specs.Literal.{is_among, new_name, known_after, piece_entries}
 use Rattle.isl_lower.specs.Linear.{Place, difference}

@@ -5,7 +5,7 @@ use Rattle.isl_space.specs.Form.{Form, leaf, pair}
 use Rattle.isl_space.specs.SpaceForm.{SpaceForm, set_of, map_of}
 use Rattle.isl_union.specs.KeptValue.{KeptValue}
 use Rattle.isl_print.specs.Printed.{printed}
-use Rattle.isl_token.specs.declared.token.Token.{Token}
+use Rattle.isl_token.specs.TokenView.{Token}
 use Rattle.isl_token.specs.Depth.{is_stacking_word}
 use Rattle.isl_token.specs.Lex.{tokens}
 use Rattle.isl_tree.specs.declared.tree.Literal.{Literal}

@@ -6,7 +6,7 @@ use Rattle.isl_union.specs.KeptValue.{KeptValue, Has, IsKeptValue}
 use Rattle.isl_print.specs.Joined.{Text}
 use Rattle.isl_print.specs.OrderedValue.{ordered}
 use Rattle.isl_print.specs.Printed.{printed}
-use Rattle.isl_token.specs.declared.token.Token.{Token}
+use Rattle.isl_token.specs.TokenView.{Token}
 use Rattle.isl_token.specs.Lex.{tokens}
 use Rattle.isl_token.specs.Spelling.{Spells}
 use Rattle.isl_text.specs.Limits.{is_within}

@@ -2,7 +2,7 @@
 -- manual)
 use Rattle.std.specs.Prelude.{◌≡◌, ◌↔◌, ℕ, ℤ, List, [], ◌∷◌, ◌++◌}
 use Rattle.isl_space.specs.Valuation.{Valuation}
-use Rattle.isl_space.specs.Element.{Element, IsElement}
+use Rattle.isl_space.specs.Element.{Element}
 use Rattle.isl_tree.specs.declared.tree.Literal.{Literal}
 use Rattle.isl_tree.specs.Literal.{LiteralHas}
 use Rattle.isl_lower.specs.Value.{value_lowered}
@@ -15,7 +15,7 @@ use Rattle.isl_readback.specs.RoundTrip.{ReadsAs}
 
 -- at every valuation both literals have the same elements
 abbrev pub HaveSameElements : Literal → Literal → Type 0
-HaveSameElements a b = (valuation : Valuation) (element : Element) → IsElement element → LiteralHas a valuation element ↔ LiteralHas b valuation element
+HaveSameElements a b = (valuation : Valuation) (element : Element) → LiteralHas a valuation element ↔ LiteralHas b valuation element
 
 -- The answer to a literal is a line. Its text is a statement, which shows a literal with the same elements that reads as the
 -- value that was printed, and whose answer is the same line.

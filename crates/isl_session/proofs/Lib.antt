@@ -3,6 +3,7 @@ pub mod ScriptLemmas
 pub mod RunLemmas
 pub mod FedLemmas
 pub mod KnownLemmas
+pub mod LineLaws
 pub mod BreakLemmas
 pub mod HaltLemmas
 pub mod SoundLemmas

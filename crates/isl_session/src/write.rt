@@ -1,10 +1,11 @@
 // Whole texts, written to a sink that may take them in pieces.
-ghost use Rattle.std.specs.Prelude.{◌≡◌, ◌++◌, ◌<◌, ◌≤◌, ◌∷◌, [], ℕ, length, take, OnOk, OnErr};
+ghost use Rattle.std.specs.Prelude.{◌≡◌, ◌+◌, ◌++◌, ◌<◌, ◌≤◌, ◌∷◌, [], ℕ, length, take, OnOk, OnErr};
 ghost use Rattle.std.specs.Io.KnownBytes.{Appends};
 ghost use Rattle.isl_math.specs.Count.{Rose};
 ghost use Rattle.isl_session.specs.Lines.{fault_line, usage_line};
 
 use crate::Fault;
+use arrayvec::ArrayVec;
 use isl_io::{Failed, Sink};
 use isl_text::refusal::Refusal;
 use itoa::Buffer;
@@ -24,26 +25,47 @@ pub(crate) fn write_all<K: Sink>(out: &mut K, text: &[u8]) -> Result<(), Failed>
     Ok(())
 }
 
-/// Writes the line that tells of a fault. It takes no memory.
+/// A line on the stack, with room for each that is told.
+type Line = ArrayVec<u8, 128>;
+
+fn push(line: &mut Line, text: &[u8])
+    requires { length line.old.items + length text.now ≤ 128 }
+    ensures { line.new.items ≡ line.old.items ++ text.now }
+{
+    line.try_extend_from_slice(text).unwrap();
+}
+
+#[tactic(auto, using(std::proofs::lemmas::Grind::common_steps, crate::proofs::LineLaws::text_is_short))]
+fn line_of(fault: Fault) -> Line
+    ensures { result.items ≡ fault_line fault }
+{
+    let mut line = Line::new();
+    let mut digits = Buffer::new();
+    push(&mut line, b"iscc: statement ");
+    push(&mut line, digits.format(fault.statement).as_bytes());
+    push(&mut line, b": ");
+    push(&mut line, fault.refusal.text().as_bytes());
+    push(&mut line, b"\n");
+    line
+}
+
+/// Writes the line that tells of a fault, at once where the sink takes it whole. It takes no memory.
 pub(crate) fn write_fault<E: Sink>(err: &mut E, fault: Fault) -> Result<(), Failed>
     ensures ok { OnOk result (Appends (E.written err.old) (E.written err.new) (fault_line fault)) }
     ensures no_fewer_faults { E.faults err.old ≤ E.faults err.new }
     ensures fault { OnErr result (Rose (E.faults err.old) (E.faults err.new)) }
 {
-    let mut digits = Buffer::new();
-    write_all(err, b"iscc: statement ")?;
-    write_all(err, digits.format(fault.statement).as_bytes())?;
-    write_all(err, b": ")?;
-    write_all(err, fault.refusal.text().as_bytes())?;
-    write_all(err, b"\n")
+    write_all(err, line_of(fault).as_slice())
 }
 
-/// Writes the usage line. It takes no memory.
+/// Writes the usage line, at once where the sink takes it whole. It takes no memory.
 pub(crate) fn write_usage<E: Sink>(err: &mut E) -> Result<(), Failed>
     ensures ok { OnOk result (Appends (E.written err.old) (E.written err.new) usage_line) }
     ensures no_fewer_faults { E.faults err.old ≤ E.faults err.new }
     ensures fault { OnErr result (Rose (E.faults err.old) (E.faults err.new)) }
 {
-    write_all(err, Refusal::Usage.text().as_bytes())?;
-    write_all(err, b"\n")
+    let mut line = Line::new();
+    push(&mut line, Refusal::Usage.text().as_bytes());
+    push(&mut line, b"\n");
+    write_all(err, line.as_slice())
 }

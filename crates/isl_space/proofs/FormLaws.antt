@@ -3,13 +3,15 @@ use Rattle.std.proofs.Common.{◌<◌, ◌≤◌, ◌⊎◌, inl, inr, arith}
 use Rattle.std.proofs.lemmas.Bool.{cases_lt}
 use Rattle.isl_space.specs.Limits.{most_coordinates, most_leaves}
 use Rattle.isl_space.specs.Form.{Form, pair, width_of, leaves_of, IsNarrow, IsTooWide, IsWellFormed}
-use Rattle.isl_space.specs.SpaceForm.{SpaceForm, set_of, map_of, coordinates_of, space_leaves_of, IsNarrowSpace, IsTooWideSpace, IsWellFormedSpace}
+use Rattle.isl_space.specs.SpaceForm.{SpaceForm, set_of, map_of, coordinates_of, space_leaves_of, IsNarrowSpace, IsTooWideSpace}
+use Rattle.isl_space.specs.SpaceForm.{IsWellFormedSpace}
 
 -- a form is within the limits or beyond them, and not both
 pub narrow_or_too_wide : (form : Form) → IsNarrow form ⊎ IsTooWide form
 narrow_or_too_wide form = by_cases (cases_lt most_coordinates (width_of form)) (cases_lt most_leaves (leaves_of form))
   where
-    by_cases : (most_coordinates < width_of form) ⊎ (width_of form ≤ most_coordinates) → (most_leaves < leaves_of form) ⊎ (leaves_of form ≤ most_leaves) → IsNarrow form ⊎ IsTooWide form
+    by_cases : (most_coordinates < width_of form) ⊎ (width_of form ≤ most_coordinates)
+        → (most_leaves < leaves_of form) ⊎ (leaves_of form ≤ most_leaves) → IsNarrow form ⊎ IsTooWide form
     by_cases (inl wide) leaves = inr (inl wide)
     by_cases (inr coordinates) (inl many) = inr (inr many)
     by_cases (inr coordinates) (inr leaves) = inl (record { coordinates = coordinates; leaves = leaves })
@@ -22,7 +24,8 @@ narrow_not_too_wide form narrow (inr many) = omega arith
 pub narrow_or_too_wide_space : (space : SpaceForm) → IsNarrowSpace space ⊎ IsTooWideSpace space
 narrow_or_too_wide_space space = by_cases (cases_lt most_coordinates (coordinates_of space)) (cases_lt most_leaves (space_leaves_of space))
   where
-    by_cases : (most_coordinates < coordinates_of space) ⊎ (coordinates_of space ≤ most_coordinates) → (most_leaves < space_leaves_of space) ⊎ (space_leaves_of space ≤ most_leaves)
+    by_cases : (most_coordinates < coordinates_of space) ⊎ (coordinates_of space ≤ most_coordinates)
+        → (most_leaves < space_leaves_of space) ⊎ (space_leaves_of space ≤ most_leaves)
         → IsNarrowSpace space ⊎ IsTooWideSpace space
     by_cases (inl wide) leaves = inr (inl wide)
     by_cases (inr coordinates) (inl many) = inr (inr many)

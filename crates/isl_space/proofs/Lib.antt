@@ -1,3 +1,4 @@
+pub mod DistinctLaws
 pub mod FormLaws
 pub mod NameLaws
 pub mod NamesLaws

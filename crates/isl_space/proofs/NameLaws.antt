@@ -1,5 +1,6 @@
 -- What an identifier is, in plain words.
-use Rattle.std.proofs.Common.{◌≡◌, ◌∙◌, ℕ, suc, zero, ◌+◌, true, false, [], ◌∷◌, ◌++◌, length, replicate, drop, arith, ap, sym, refl, subst, IsTrue, ◌↔◌, ◌⊎◌, inl, inr}
+use Rattle.std.proofs.Common.{◌≡◌, ◌∙◌, ℕ, suc, zero, ◌+◌, true, false, [], ◌∷◌, ◌++◌, length, replicate, drop, arith, ap, sym, refl, subst}
+use Rattle.std.proofs.Common.{IsTrue, ◌↔◌, ◌⊎◌, inl, inr}
 use Rattle.std.specs.List.{list_all, prefix_len, AllPass}
 use Rattle.std.proofs.lemmas.Bool.{and_parts, and_from, cases_Bool, eqb-true, false≢true}
 use Rattle.std.proofs.lemmas.List.Elements.{All-nil, All-cons, All-head, All-tail}
@@ -45,9 +46,11 @@ passed b z passes =
 
 rest_of : (z : Name) → list_all is_prime (drop (prefix_len goes_on_name z) z) ≡ true → Rest z
 rest_of [] h = record { middle = []; primes = 0; is = refl; goes_on = All-nil _ }
-rest_of (b ∷ z) h = by_test (cases_Bool (goes_on_name b)) (λ (shorter : list_all is_prime (drop (prefix_len goes_on_name z) z) ≡ true). rest_of z shorter)
+rest_of (b ∷ z) h =
+    by_test (cases_Bool (goes_on_name b)) (λ (shorter : list_all is_prime (drop (prefix_len goes_on_name z) z) ≡ true). rest_of z shorter)
   where
-    by_test : (goes_on_name b ≡ true) ⊎ (goes_on_name b ≡ false) → (list_all is_prime (drop (prefix_len goes_on_name z) z) ≡ true → Rest z) → Rest (b ∷ z)
+    by_test : (goes_on_name b ≡ true) ⊎ (goes_on_name b ≡ false) → (list_all is_prime (drop (prefix_len goes_on_name z) z) ≡ true → Rest z)
+        → Rest (b ∷ z)
     by_test (inl passes) rest =
         let shorter = rest (sym (ap (λ l. list_all is_prime l) (passed b z passes)) ∙ h) in
         record {
@@ -60,7 +63,8 @@ rest_of (b ∷ z) h = by_test (cases_Bool (goes_on_name b)) (λ (shorter : list_
         let here : list_all is_prime (b ∷ z) ≡ true = rw ends at h in
         record { middle = []; primes = length (b ∷ z); is = all_primes (b ∷ z) here; goes_on = All-nil _ }
 
-tested : (middle : Name) (n : ℕ) → AllPass goes_on_name middle → list_all is_prime (drop (prefix_len goes_on_name (middle ++ replicate n 39)) (middle ++ replicate n 39)) ≡ true
+tested : (middle : Name) (n : ℕ) → AllPass goes_on_name middle
+    → list_all is_prime (drop (prefix_len goes_on_name (middle ++ replicate n 39)) (middle ++ replicate n 39)) ≡ true
 tested [] zero all = refl
 tested [] (suc n) all = replicate_primes n
 tested (b ∷ middle) n all =

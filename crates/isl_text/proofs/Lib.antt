@@ -4,9 +4,11 @@ pub mod Missing
 pub mod TupleMarks
 pub mod TupleAgain
 pub mod LiteralAgain
+pub mod SameNames
 pub mod Along
 pub mod LiteralLaws
 pub mod Counting
 pub mod BoundLaws
 pub mod LimitLaws
 pub mod ReadLaws
+pub mod WideLaws

@@ -1,6 +1,6 @@
 -- Both laws for literals with the rules on names.
 use Rattle.std.proofs.Common.{◌≡◌, ℕ, ◌<◌, Bool, true, false, cond, List, ◌++◌, length, Option, Some, None, refl, sym, ap, subst, ◌∙◌, inl, inr}
-use Rattle.isl_token.specs.declared.token.Token.{Token}
+use Rattle.isl_token.specs.TokenView.{Token}
 use Rattle.isl_token.specs.Reading.{Parser, and_then}
 use Rattle.isl_token.specs.Reading as r
 use Rattle.isl_token.proofs.Taking.{Takes, and_then_some, same_read, chosen_reader}

@@ -1,6 +1,6 @@
 -- A literal that is read is spelled so.
 use Rattle.std.proofs.Common.{◌≡◌, ◌≢◌, ℕ, zero, suc, Bool, true, false, cond, List, [], ◌∷◌, ◌++◌, Option, Some, None, refl, inl, inr}
-use Rattle.isl_token.specs.declared.token.Token.{Token}
+use Rattle.isl_token.specs.TokenView.{Token}
 use Rattle.isl_token.specs.declared.token.Kind.{Kind}
 use Rattle.isl_token.specs.declared.token.Kind.TheVariants as k
 use Rattle.isl_token.specs.Token.{Text, is_kind}

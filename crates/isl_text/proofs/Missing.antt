@@ -1,7 +1,7 @@
 -- What may be missing is read again.
 use Rattle.std.proofs.Common.{◌≡◌, ℕ, ◌<◌, Bool, true, false, cond, not, List, [], ◌∷◌, ◌++◌, length, Option, Some, None, refl, inl, inr}
 use Rattle.std.proofs.lemmas.Bool.{not-true}
-use Rattle.isl_token.specs.declared.token.Token.{Token}
+use Rattle.isl_token.specs.TokenView.{Token}
 use Rattle.isl_token.specs.declared.token.Kind.{Kind}
 use Rattle.isl_token.specs.Reading.{Parser, sees}
 use Rattle.isl_token.specs.Spelling.{Grammar}

@@ -4,7 +4,7 @@ use Rattle.std.specs.Prelude.{not, slice_range}
 use Rattle.std.proofs.lemmas.Bool.{false≢true, true≢false}
 use Rattle.std.proofs.lemmas.List.{take-append-drop, drop-drop, length-drop, length-take}
 use Rattle.std.proofs.Math.Seq.{take-append_seam}
-use Rattle.isl_token.specs.declared.token.Token.{Token}
+use Rattle.isl_token.specs.TokenView.{Token}
 use Rattle.isl_token.specs.declared.fault.Fault.{Fault}
 use Rattle.isl_token.specs.declared.fault.Fault.TheVariants as fault
 use Rattle.isl_token.specs.Depth.{is_too_deep}
@@ -24,17 +24,20 @@ use Rattle.isl_text.proofs.LiteralLaws.{literal_taken, literal_again}
 split_at : (ts : List Token) (at next : ℕ) → at ≤ next → drop at ts ≡ slice_range ts at next ++ drop next ts
 split_at ts at next le =
     let e : at + (next - at) ≡ next = omega arith in
-    sym (take-append-drop (next - at) (drop at ts)) ∙ ap (λ (l : List Token). slice_range ts at next ++ l) (drop-drop (next - at) at ts ∙ ap (λ k. drop k ts) e)
+    sym (take-append-drop (next - at) (drop at ts)) ∙ ap (λ (l : List Token). slice_range ts at next ++ l)
+    (drop-drop (next - at) at ts ∙ ap (λ k. drop k ts) e)
 
 module _ (ts : List Token) (at : ℕ) (begins : at ≤ length ts) (n : ℕ) (enough : length (drop at ts) < n) where
   -- what is read there is a literal that stands there
-  pub literal_found : (found : Literal) (left : List Token) → literal n (drop at ts) ≡ Some (found, left) → IsLiteralAt ts at found (length ts - length left)
+  pub literal_found : (found : Literal) (left : List Token) → literal n (drop at ts) ≡ Some (found, left) → IsLiteralAt ts at found
+      (length ts - length left)
   literal_found found left e =
       let c = (literal_taken n (drop at ts)).by found left e in
       let lens : length (drop at ts) ≡ length c.0 + length left = ap length c.1 ∙ length-append c.0 left in
       let dropped = length-drop at ts in
       let width : (length ts - length left) - at ≡ length c.0 = omega (arith, lens, dropped, begins) in
-      let same : slice_range ts at (length ts - length left) ≡ c.0 = ap (λ k. take k (drop at ts)) width ∙ ap (take (length c.0)) c.1 ∙ take-append_seam c.0 left in
+      let same : slice_range ts at (length ts - length left) ≡ c.0 = ap (λ k. take k (drop at ts)) width ∙ ap (take (length c.0)) c.1
+      ∙ take-append_seam c.0 left in
       record {
         ends = (omega (arith, lens, dropped, begins), omega arith);
         spelled = record { depth = n; spelled = rw same c.2 };
@@ -44,8 +47,10 @@ module _ (ts : List Token) (at : ℕ) (begins : at ≤ length ts) (n : ℕ) (eno
   pub literal_read : (found : Literal) (next : ℕ) → IsLiteralAt ts at found next → literal n (drop at ts) ≡ Some (found, drop next ts)
   literal_read found next is =
       let whole = split_at ts at next is.ends.0 in
-      let lens : length (drop at ts) ≡ length (slice_range ts at next) + length (drop next ts) = ap length whole ∙ length-append (slice_range ts at next) (drop next ts) in
-      ap (literal n) whole ∙ (literal_again n is.spelled.depth).by found (slice_range ts at next) (drop next ts) is.spelled.spelled (omega (arith, lens, enough)) refl
+      let lens : length (drop at ts) ≡ length (slice_range ts at next) + length (drop next ts) = ap length whole ∙ length-append
+      (slice_range ts at next) (drop next ts) in
+      ap (literal n) whole ∙ (literal_again n is.spelled.depth).by found (slice_range ts at next) (drop next ts) is.spelled.spelled
+      (omega (arith, lens, enough)) refl
 
   -- so what is read there fails where none stands there
   pub stands : (f : Fault) (left : List Token) → Reads (literal n (drop at ts)) (Err f) left → Stands ts at (Err f)
@@ -61,26 +66,31 @@ module _ (ts : List Token) (at : ℕ) (begins : at ≤ length ts) (n : ℕ) (eno
       omega (arith, ap length c.1, length-append c.0 left, length-drop at ts)
 
 -- the same where the code reads from a cursor over what begins at the place
-module _ (ts : List Token) (at : ℕ) (begins : at ≤ length ts) (start cursor : List Token) (same : start ≡ drop at ts) (is : cursor ≡ start) where
-  enough : length (drop at ts) < length start + 1
-  enough = omega (arith, ap length same)
+module _ (ts : List Token) (at : ℕ) (begins : at ≤ length ts) (start cursor : List Token) (depth : ℕ) (same : start ≡ drop at ts)
+    (is : cursor ≡ start) (deep : depth ≡ length start) where
+  enough : length (drop at ts) < depth + 1
+  enough = omega (arith, ap length same, deep)
 
-  from_place : {x : Option (Literal × List Token)} → literal (length start + 1) cursor ≡ x → literal (length start + 1) (drop at ts) ≡ x
-  from_place e = ap (literal (length start + 1)) (sym (is ∙ same)) ∙ e
+  from_place : {x : Option (Literal × List Token)} → literal (depth + 1) cursor ≡ x → literal (depth + 1) (drop at ts) ≡ x
+  from_place e = ap (literal (depth + 1)) (sym (is ∙ same)) ∙ e
 
-  pub found_from : (found : Literal) (left : List Token) (m : ℕ) → literal (length start + 1) cursor ≡ Some (found, left) → m ≡ length left → IsLiteralAt ts at found (length ts - m)
-  found_from found left m e len = rw len (literal_found ts at begins (length start + 1) enough found left (from_place e))
+  pub found_from : (found : Literal) (left : List Token) (whole m : ℕ) → literal (depth + 1) cursor ≡ Some (found, left)
+      → whole ≡ length ts → m ≡ length left → IsLiteralAt ts at found (whole - m)
+  found_from found left whole m e all len = rw (all, len) (literal_found ts at begins (depth + 1) enough found left (from_place e))
 
-  pub left_from : (found : Literal) (left : List Token) (m : ℕ) → literal (length start + 1) cursor ≡ Some (found, left) → m ≡ length left → m ≤ length ts
-  left_from found left m e len = rw len (literal_left ts at begins (length start + 1) enough found left (from_place e))
+  pub left_from : (found : Literal) (left : List Token) (whole m : ℕ) → literal (depth + 1) cursor ≡ Some (found, left)
+      → whole ≡ length ts → m ≡ length left → m ≤ whole
+  left_from found left whole m e all len = rw (all, len) (literal_left ts at begins (depth + 1) enough found left (from_place e))
 
-  pub stands_from : (f : Fault) (left : List Token) → Reads (literal (length start + 1) cursor) (Err f) left → Stands ts at (Err f)
-  stands_from f left e = stands ts at begins (length start + 1) enough f left (subst (λ (l : List Token). Reads (literal (length start + 1) l) (Err f) left) (is ∙ same) e)
+  pub stands_from : (f : Fault) (left : List Token) → Reads (literal (depth + 1) cursor) (Err f) left → Stands ts at (Err f)
+  stands_from f left e = stands ts at begins (depth + 1) enough f left
+      (subst (λ (l : List Token). Reads (literal (depth + 1) l) (Err f) left) (is ∙ same) e)
 
 pub ruleset places = (found_from, left_from, stands_from)
 
 -- at most one literal stands at a place
-pub same_literal : (ts : List Token) (at : ℕ) (found other : Literal) (next behind : ℕ) → at ≤ length ts → IsLiteralAt ts at found next → IsLiteralAt ts at other behind → (found ≡ other) × (next ≡ behind)
+pub same_literal : (ts : List Token) (at : ℕ) (found other : Literal) (next behind : ℕ) → at ≤ length ts → IsLiteralAt ts at found next
+    → IsLiteralAt ts at other behind → (found ≡ other) × (next ≡ behind)
 same_literal ts at found other next behind begins is also =
     let n = suc (length (drop at ts)) in
     let one = literal_read ts at begins n (omega arith) found next is in
@@ -120,7 +130,8 @@ module _ (ts : List Token) (at : ℕ) (begins : at ≤ length ts) (limit : ℤ) 
       abbrev answer : Result (Literal × ℕ) Refusal
       answer = judged limit (slice_range ts at next) found next
 
-      by_tests : (wide big : Bool) → answer ≡ cond wide (Err TooWide) (cond big (Err WideNumber) (Ok (found, next))) → OnlyWhere ts at limit (cond wide (Err TooWide) (cond big (Err WideNumber) (Ok (found, next))))
+      by_tests : (wide big : Bool) → answer ≡ cond wide (Err TooWide) (cond big (Err WideNumber) (Ok (found, next)))
+          → OnlyWhere ts at limit (cond wide (Err TooWide) (cond big (Err WideNumber) (Ok (found, next))))
       by_tests true big e = (flat, (found, next, is, sym e))
       by_tests false true e = (flat, (found, next, is, sym e))
       by_tests false false e = (flat, (found, next, is, sym e))
@@ -133,30 +144,27 @@ module _ (ts : List Token) (at : ℕ) (begins : at ≤ length ts) (limit : ℤ) 
         deep = λ deep. absurd (true≢false (sym deep ∙ flat));
         none = λ _ no. absurd (no found next is);
         some = λ _ other behind also. let p = same_literal ts at found other next behind begins is also in
-            inl (ap (λ (l : Literal). judged limit (slice_range ts at next) l next) p.0 ∙ ap (λ k. judged limit (slice_range ts at k) other k) p.1);
+            inl (ap (λ (l : Literal). judged limit (slice_range ts at next) l next) p.0 ∙ ap
+            (λ k. judged limit (slice_range ts at k) other k) p.1);
       }
 
--- ---- as the code has it: the tokens as a slice, and a limit that is read back
+-- ---- as the code has it: the tokens of the literal by themselves, and a limit that is read back
 
-module _ (ts : List Token) (at : ℕ) (begins : at ≤ length ts) (limit : ℤ) (slice : List Token) (same : slice ≡ ts) (flat : is_too_deep slice ≡ false) where
-  level : is_too_deep ts ≡ false
-  level = ap is_too_deep (sym same) ∙ flat
+module _ (ts : List Token) (at : ℕ) (begins : at ≤ length ts) (limit : ℤ) (flat : is_too_deep ts ≡ false) where
+  pub only_fault : (f : Fault) (refusal : Refusal) → Stands ts at (Err f) → refusal ≡ of_fault f → OnlyWhere ts at limit (Err refusal)
+  only_fault f refusal none is = rw is (fault_only ts at begins limit flat f none)
 
-  pub only_fault : (f : Fault) (refusal : Refusal) → Stands slice at (Err f) → refusal ≡ of_fault f → OnlyWhere ts at limit (Err refusal)
-  only_fault f refusal none is = rw is (fault_only ts at begins limit level f (subst (λ (l : List Token). Stands l at (Err f)) same none))
+  pub exactly_fault : (f : Fault) (refusal : Refusal) → Stands ts at (Err f) → refusal ≡ of_fault f → ExactlyWhere ts at limit (Err refusal)
+  exactly_fault f refusal none is = rw is (fault_exactly ts at begins limit flat f none)
 
-  pub exactly_fault : (f : Fault) (refusal : Refusal) → Stands slice at (Err f) → refusal ≡ of_fault f → ExactlyWhere ts at limit (Err refusal)
-  exactly_fault f refusal none is = rw is (fault_exactly ts at begins limit level f (subst (λ (l : List Token). Stands l at (Err f)) same none))
-
-  module _ (found : Literal) (next : ℕ) (is : IsLiteralAt slice at found next) (k : ℤ) (back : k ≡ limit) (result : Result (Literal × ℕ) Refusal) (answer : result ≡ judged k (slice_range slice at next) found next) where
+  module _ (found : Literal) (next : ℕ) (is : IsLiteralAt ts at found next) (k : ℤ) (back : k ≡ limit) (us : List Token)
+      (spelled : us ≡ slice_range ts at next)
+      (result : Result (Literal × ℕ) Refusal) (answer : result ≡ judged k us found next) where
     answer_is : result ≡ judged limit (slice_range ts at next) found next
-    answer_is = answer ∙ ap (λ z. judged z (slice_range slice at next) found next) back ∙ ap (λ (l : List Token). judged limit (slice_range l at next) found next) same
-
-    stands_there : IsLiteralAt ts at found next
-    stands_there = subst (λ (l : List Token). IsLiteralAt l at found next) same is
+    answer_is = answer ∙ ap (λ z. judged z us found next) back ∙ ap (λ (l : List Token). judged limit l found next) spelled
 
     pub only_judged : OnlyWhere ts at limit result
-    only_judged = subst (OnlyWhere ts at limit) (sym answer_is) (judged_only ts at begins limit level found next stands_there)
+    only_judged = subst (OnlyWhere ts at limit) (sym answer_is) (judged_only ts at begins limit flat found next is)
 
     pub exactly_judged : ExactlyWhere ts at limit result
-    exactly_judged = subst (ExactlyWhere ts at limit) (sym answer_is) (judged_exactly ts at begins limit level found next stands_there)
+    exactly_judged = subst (ExactlyWhere ts at limit) (sym answer_is) (judged_exactly ts at begins limit flat found next is)

@@ -3,13 +3,14 @@ use Rattle.std.specs.Prelude.{ℕ, ℤ, ◌+◌, min, List, [], ◌∷◌, lengt
 use Rattle.isl_tree.specs.declared.tree.Factor.{Factor, Name, Inner', Floor', Ceil', Row_of-Signed, end_of-Signed, more_of-Signed}
 use Rattle.isl_tree.specs.declared.tree.Signed.{Signed, Signed'}
 use Rattle.isl_tree.specs.declared.tree.Product.{Product, Product', Held-Product-inner, None', Some'}
-use Rattle.isl_tree.specs.declared.tree.Compare.{Compare}
 use Rattle.isl_tree.specs.declared.tree.Binder.{Binder}
 use Rattle.isl_tree.specs.declared.tree.Formula.{Formula, Implies', Or', And', Not', True, False, Exists', Chain, Row_of-Formula, end_of-Formula, more_of-Formula}
 use Rattle.isl_tree.specs.declared.tree.Entry.{Entry}
 use Rattle.isl_tree.specs.declared.tree.Entry.TheVariants.{Plain, Named}
 use Rattle.isl_tree.specs.declared.tree.Tuple.{Tuple, Leaf, Pair', Row_of-Tuple, end_of-Tuple, more_of-Tuple}
 use Rattle.isl_tree.specs.declared.tree.PieceTree.{PieceTree}
+use Rattle.isl_tree.specs.Term.{Term}
+use Rattle.isl_tree.specs.Formula.{Side, Link}
 
 -- ---- in terms
 
@@ -35,21 +36,21 @@ abbrev mutual
   in_row end_of-Signed = 0
   in_row (more_of-Signed part rest) = in_part part + in_row rest
 
-abbrev pub in_term : List Signed → ℕ
+abbrev pub in_term : Term → ℕ
 in_term [] = 0
 in_term (part ∷ parts) = in_part part + in_term parts
 
 -- ---- in formulas
 
-abbrev pub in_side : List (List Signed) → ℕ
+abbrev pub in_side : Side → ℕ
 in_side [] = 0
 in_side (term ∷ terms) = in_term term + in_side terms
 
-abbrev pub in_links : List (Compare × List (List Signed)) → ℕ
+abbrev pub in_links : List Link → ℕ
 in_links [] = 0
 in_links (link ∷ links) = in_side link.1 + in_links links
 
-abbrev pub in_value : Option (List Signed) → ℕ
+abbrev pub in_value : Option Term → ℕ
 in_value None = 0
 in_value (Some term) = in_term term
 

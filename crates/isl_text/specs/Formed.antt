@@ -1,6 +1,6 @@
 -- The rules on names and on the number of tuples, which no grammar says. (isl manual, the notation of sets and relations)
-use Rattle.std.specs.Prelude.{◌≡◌, ℕ, Bool, true, false, not, ◌&&◌, ◌||◌, is_some, is_none, List, [], ◌∷◌, ◌++◌, Option, Some, None}
-use Rattle.std.specs.List.{list_all}
+use Rattle.std.specs.Prelude.{◌≡◌, Bool, true, false, not, ◌&&◌, ◌||◌, is_some, is_none, List, [], ◌∷◌, ◌++◌, Option, Some, None}
+use Rattle.std.specs.List.{list_all, list_any}
 use Rattle.isl_token.specs.Token.{Text}
 use Rattle.isl_tree.specs.declared.tree.Factor.{Name}
 use Rattle.isl_tree.specs.declared.tree.Product.{Product, Product', Some'}
@@ -8,7 +8,7 @@ use Rattle.isl_tree.specs.declared.tree.Entry.{Entry}
 use Rattle.isl_tree.specs.declared.tree.Entry.TheVariants.{Plain, Named}
 use Rattle.isl_tree.specs.declared.tree.PieceTree.{PieceTree}
 use Rattle.isl_tree.specs.declared.tree.Literal.{Literal}
-use Rattle.isl_tree.specs.Literal.{is_among, lone_name, entries_of, piece_entries}
+use Rattle.isl_tree.specs.Literal.{is_among, lone_name, piece_entries}
 
 -- no name stands twice
 abbrev pub are_distinct : List Text → Bool
@@ -65,7 +65,19 @@ is_formed literal = are_distinct literal.params && are_alike literal.pieces && l
 
 -- ---- what functions ensure that go along entries
 
+-- a name stands before `=`
+abbrev pub is_named : Entry → Bool
+is_named (Plain term) = false
+is_named (Named name term) = true
+
+abbrev pub has_named : PieceTree → Bool
+has_named piece = list_any is_named (piece_entries piece)
+
+-- both lists have the same names
+abbrev pub HaveSameNames : List Text → List Text → Type 0
+HaveSameNames names others = (name : Text) → is_among names name ≡ is_among others name
+
 -- the answer says whether the names are new, and where they are they have become known
 pub record GoesAlong (new : Bool) (known behind : List Text) (entries : List Entry) : Type 0 where
   pub are_new : new ≡ names_are_new known entries
-  pub become_known : new ≡ true → behind ≡ known_behind known entries
+  pub become_known : new ≡ true → HaveSameNames behind (known_behind known entries)

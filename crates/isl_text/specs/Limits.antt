@@ -1,8 +1,8 @@
 -- The limits of literals.
-use Rattle.std.specs.Prelude.{ℕ, ℤ, pos, ◌+◌, Bool, false, ◌&&◌, nat_le, int_lt, List, length, Option, Some, None}
+use Rattle.std.specs.Prelude.{ℕ, ℤ, pos, ◌+◌, Bool, false, ◌&&◌, nat_le, int_lt, List, [], ◌∷◌, length, Option, Some, None}
 use Rattle.std.specs.List.{list_all, list_any}
-use Rattle.isl_token.specs.declared.token.Token.{Token}
-use Rattle.isl_token.specs.declared.token.Token.TheVariants as token
+use Rattle.isl_token.specs.TokenView.{Token}
+use Rattle.isl_token.specs.TokenView as token
 use Rattle.isl_token.specs.Number.{value_of}
 use Rattle.isl_tree.specs.declared.tree.Tuple.{Tuple, Leaf, Pair', Row_of-Tuple, end_of-Tuple, more_of-Tuple}
 use Rattle.isl_tree.specs.declared.tree.PieceTree.{PieceTree}
@@ -47,3 +47,8 @@ abbrev pub is_wide : ℤ → Token → Bool
 is_wide limit (token.Word word) = false
 is_wide limit (token.Number digits) = int_lt limit (pos (value_of digits))
 is_wide limit (token.Sign sign) = false
+
+-- the next token is one
+abbrev pub next_is_wide : ℤ → List Token → Bool
+next_is_wide limit [] = false
+next_is_wide limit (t ∷ ts) = is_wide limit t

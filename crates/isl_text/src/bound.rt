@@ -4,8 +4,7 @@ ghost use Rattle.std.specs.Prelude.{◌≡◌, ◌+◌};
 ghost use Rattle.isl_text.specs.Bound as spec;
 ghost use Rattle.isl_text.specs.Bound.{capped};
 
-use isl_tree::tree::{Binder, Compare, Entry, Factor, Formula, PieceTree, Signed, Tuple};
-use sqlite_items::Items;
+use isl_tree::tree::{Binder, Entry, Factor, Formula, Link, PieceTree, Signed, Term, Tuple};
 
 /// One more than every limit.
 pub const CAP: usize = 65;
@@ -53,7 +52,7 @@ fn in_factor(factor: &Factor) -> usize
 }
 
 #[tactic(auto, using(crate::proofs::Counting::counts))]
-fn in_side(side: &[Items<Signed>]) -> usize
+fn in_side(side: &[Term]) -> usize
     ensures { result ≡ capped (spec.in_side side.now) }
 {
     let mut total = 0;
@@ -64,7 +63,7 @@ fn in_side(side: &[Items<Signed>]) -> usize
 }
 
 #[tactic(auto, using(crate::proofs::Counting::counts))]
-fn in_links(links: &[(Compare, Items<Items<Signed>>)]) -> usize
+fn in_links(links: &[Link]) -> usize
     ensures { result ≡ capped (spec.in_links links.now) }
 {
     let mut total = 0;
@@ -74,7 +73,7 @@ fn in_links(links: &[(Compare, Items<Items<Signed>>)]) -> usize
     total
 }
 
-fn in_value(value: &Option<Items<Signed>>) -> usize
+fn in_value(value: &Option<Term>) -> usize
     ensures { result ≡ capped (spec.in_value value.now) }
 {
     match value {

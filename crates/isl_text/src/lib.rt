@@ -9,3 +9,4 @@ pub mod piece;
 pub mod read;
 pub mod refusal;
 pub mod tuple;
+pub mod wide;

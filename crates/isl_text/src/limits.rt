@@ -1,14 +1,11 @@
 //! The limits of literals.
 
-ghost use Rattle.std.specs.Prelude.{◌≡◌, ◌+◌, ◌≤ℤ◌, pos, length};
-ghost use Rattle.std.specs.List.{list_any};
+ghost use Rattle.std.specs.Prelude.{◌≡◌, ◌+◌, length};
 ghost use Rattle.isl_tree.specs.Literal.{entries_of};
 ghost use Rattle.isl_text.specs.Bound.{capped};
 ghost use Rattle.isl_text.specs.Limits as spec;
 
 use crate::bound::{added, bound_in};
-use isl_token::Token;
-use isl_token::number::is_above;
 use isl_tree::tree::{Literal, PieceTree, Tuple};
 
 /// The parameters that a literal may have.
@@ -85,22 +82,4 @@ pub fn is_within(literal: &Literal) -> bool
     ensures { result ≡ spec.is_within literal.now }
 {
     literal.params.len() <= MAX_PARAMETERS && pieces_are_within(literal.pieces.as_slice())
-}
-
-fn is_wide(token: &Token, limit: i128) -> bool
-    requires { pos 0 ≤ℤ limit }
-    ensures { result ≡ spec.is_wide limit token.now }
-{
-    match token {
-        Token::Number(digits) => is_above(digits.as_slice(), limit),
-        _ => false,
-    }
-}
-
-/// Whether some number is above the limit, which is not negative.
-pub fn has_wide_number(tokens: &[Token], limit: i128) -> bool
-    requires { pos 0 ≤ℤ limit }
-    ensures { result ≡ list_any (spec.is_wide limit) tokens.now }
-{
-    tokens.iter().any(|token| is_wide(token, limit))
 }

@@ -7,17 +7,18 @@ ghost use Rattle.isl_token.specs.Spelling.{SpellsOne};
 ghost use Rattle.isl_text.specs.Literal.{literal_grammar};
 ghost use Rattle.isl_text.specs.Read as spec;
 
-use crate::limits::{has_wide_number, is_within};
+use crate::limits::is_within;
 use crate::literal::literal;
 use crate::refusal::Refusal;
-use isl_token::{Cursor, Fault, Token, Tokens, is_too_deep};
+use crate::wide::has_wide_number;
+use isl_token::{Cursor, Fault, Rest, Tokens, is_too_deep};
 use isl_tree::tree::Literal;
 use std::alloc::Global;
 
 /// The tokens of a text, each the longest that fits.
 ///
 /// It is refused by `Syntax` exactly where some byte begins no token.
-pub fn tokens(alloc: Global, bytes: &[u8]) -> Result<Tokens, Refusal>
+pub fn tokens(alloc: Global, bytes: &[u8]) -> Result<Tokens<'_>, Refusal>
     ensures lexes { spec.Lexes (lex.tokens bytes.now) result }
     ensures formed { IfOk result (λ ts. All IsToken ts) }
 {
@@ -30,12 +31,12 @@ pub fn tokens(alloc: Global, bytes: &[u8]) -> Result<Tokens, Refusal>
 /// A literal that was read from the tokens, where it keeps its limits.
 fn judged(
     literal: Literal,
-    tokens: &[Token],
+    tokens: Rest<'_>,
     next: usize,
     limit: i128,
 ) -> Result<(Literal, usize), Refusal>
     requires { pos 0 ≤ℤ limit }
-    ensures { result ≡ spec.judged limit tokens.now literal next }
+    ensures { result ≡ spec.judged limit tokens.entry literal next }
 {
     if !is_within(&literal) {
         Err(Refusal::TooWide)
@@ -48,14 +49,16 @@ fn judged(
 
 /// The literal that begins at a token, whatever its size, and the place behind it.
 #[tactic(auto, using(crate::proofs::ReadLaws::places))]
-pub fn literal_at(alloc: Global, tokens: &[Token], at: usize) -> Result<(Literal, usize), Fault>
+pub fn literal_at(alloc: Global, tokens: &Tokens<'_>, at: usize) -> Result<(Literal, usize), Fault>
     requires { at ≤ length tokens.now }
     ensures { spec.Stands tokens.now at result }
 {
-    let (_, rest) = tokens.split_at(at);
-    let mut cursor = Cursor::new(rest);
-    match literal(alloc, &mut cursor, rest.len() + 1) {
-        Ok(found) => Ok((found, tokens.len() - cursor.left())),
+    let all = tokens.rest();
+    let rest = all.from(at);
+    let depth = rest.left();
+    let mut cursor = Cursor::new(alloc, rest);
+    match literal(alloc, &mut cursor, depth + 1) {
+        Ok(found) => Ok((found, all.left() - cursor.left())),
         Err(fault) => Err(fault),
     }
 }
@@ -66,7 +69,7 @@ pub fn literal_at(alloc: Global, tokens: &[Token], at: usize) -> Result<(Literal
 /// not. The limit is the greatest number that a literal may write.
 pub fn read_literal(
     alloc: Global,
-    tokens: &Tokens,
+    tokens: &Tokens<'_>,
     at: usize,
     limit: i128,
 ) -> Result<(Literal, usize), Refusal>
@@ -77,12 +80,14 @@ pub fn read_literal(
     // Each cause has its answer, unless memory runs out.
     ensures exactly { spec.ExactlyWhere tokens.now at limit result }
 {
-    let tokens = tokens.as_slice();
     if is_too_deep(tokens) {
         return Err(Refusal::TooDeep);
     }
     match literal_at(alloc, tokens, at) {
-        Ok((found, next)) => judged(found, &tokens[at..next], next, limit),
+        Ok((found, next)) => {
+            let spelled = tokens.rest().from(at).first(next - at);
+            judged(found, spelled, next, limit)
+        }
         Err(fault) => Err(Refusal::from(fault)),
     }
 }

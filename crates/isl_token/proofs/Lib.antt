@@ -1,5 +1,7 @@
 pub mod Fronts
 pub mod Pieces
+pub mod MarkLaws
+pub mod DepthLaws
 pub mod Numbers
 pub mod Turns
 pub mod Taking
@@ -7,3 +9,5 @@ pub mod Again
 pub mod Whole
 pub mod Prints
 pub mod SignPrints
+pub mod SignLaws
+pub mod WordLaws

@@ -1,18 +1,18 @@
 -- The tokens of a text that is put together, as a printer does.
-use Rattle.std.proofs.Common.{◌≡◌, ◌≢◌, ℕ, ℤ, zero, suc, ◌+◌, ◌-◌, ◌*◌, ◌^◌, ◌<◌, ◌≤◌, Bool, true, false, cond, List, [], ◌∷◌, ◌++◌, length, take, drop, slice_index, Option, Some, None, refl, sym, ap, subst, ◌∙◌, arith, lit<}
+use Rattle.std.proofs.Common.{◌≡◌, ℕ, suc, ◌+◌, ◌-◌, ◌*◌, ◌^◌, ◌<◌, ◌≤◌, Bool, true, false, cond, List, [], ◌∷◌, ◌++◌, length, take, drop, slice_index, Option, Some, None, refl, sym, ap, subst, ◌∙◌, arith, lit<}
 use Rattle.std.specs.Prelude.{not, min, pos, ◌&&◌, ◌==◌, eqb, decimal, fold, nat_lt}
 use Rattle.std.specs.List.{prefix_len, list_all}
 use Rattle.std.specs.Char.{is_ascii_digit, digit_value}
-use Rattle.std.specs.Str.Parse.{AllDigits, IsNumeral, digits_value, digits_value_after}
+use Rattle.std.specs.Str.Parse.{AllDigits, IsNumeral, digits_value_after}
 use Rattle.std.proofs.Math.Seq.{take-append_seam, drop-append_seam}
 use Rattle.std.proofs.lemmas.Fmt.{decimal_is_IsNumeral_wide}
 use Rattle.std.proofs.lemmas.List.{append-nil, append_assoc, drop-append-le, length-append, length-drop}
 use Rattle.std.proofs.lemmas.List.Folds.{prefix_len-append}
 use Rattle.std.proofs.lemmas.List.Sums.{prefix_len-le-length}
-use Rattle.std.proofs.lemmas.Bool.{eqb-true, and_parts, and_from, not-true, lt-ltb, ltb-true}
+use Rattle.std.proofs.lemmas.Bool.{eqb-true, and_parts, and_from, not-true, lt-ltb}
 use Rattle.isl_space.specs.Name.{begins_name, goes_on_name, is_prime, is_identifier}
-use Rattle.isl_token.specs.declared.token.Token.{Token}
-use Rattle.isl_token.specs.declared.token.Token.TheVariants as token
+use Rattle.isl_token.specs.TokenView.{Token}
+use Rattle.isl_token.specs.TokenView as token
 use Rattle.isl_token.specs.declared.lex.Class.{Class}
 use Rattle.isl_token.specs.declared.lex.Class.TheVariants as class
 use Rattle.isl_token.specs.declared.lex.Piece.{Piece}

@@ -1,94 +1,97 @@
 -- The signs that a printer writes are tokens. A blank follows those with which a longer sign begins.
-use Rattle.std.proofs.Common.{◌≡◌, ℕ, Bool, true, List, [], ◌∷◌, ◌++◌, length, slice_index, refl, arith}
-use Rattle.std.proofs.lemmas.Bool.{eqb-true}
-use Rattle.isl_token.specs.declared.token.Token.TheVariants as token
+use Rattle.std.proofs.Common.{◌≡◌, ℕ, ◌<◌, Bool, true, false, List, [], ◌∷◌, ◌++◌, length, slice_index, refl, sym, subst, arith}
+use Rattle.std.specs.Prelude.{◌||◌}
+use Rattle.std.specs.List.{list_any}
+use Rattle.std.specs.Str.{bytes_eq}
+use Rattle.std.proofs.lemmas.Bool.{eqb-true, false≢true}
+use Rattle.std.proofs.lemmas.Slice.Eq.{bytes_eq-Decides}
+use Rattle.isl_token.specs.TokenView as token
 use Rattle.isl_token.specs.declared.lex.Piece.TheVariants as piece
 use Rattle.isl_token.specs.Token.{Text, signs}
 use Rattle.isl_token.specs.Lex.{cut}
 use Rattle.isl_token.proofs.Prints.{Prints, any, blank, blank_prints, prints_both, sign_prints}
 
--- a sign, and the blank after it
-spaced_prints : (text : Text) → Prints text (token.Sign text ∷ []) blank → Prints (text ++ 32 ∷ []) (token.Sign text ∷ []) any
-spaced_prints text prints = prints_both text (32 ∷ []) (token.Sign text ∷ []) [] blank any prints blank_prints (λ z _. refl)
+-- the text is cut as a sign, where a byte after it passes the test
+Cuts : (ℕ → Bool) → Text → Type 0
+Cuts test text = (0 < length text) × ((z : Text) → test (slice_index z 0) ≡ true → cut (text ++ z) ≡ (piece.Sign, length text))
 
-pub comma_prints : Prints (44 ∷ []) (token.Sign (44 ∷ []) ∷ []) any
-unfolding cut signs
-comma_prints = sign_prints (44 ∷ []) any (omega arith) (λ z _. refl)
+AllCut : (ℕ → Bool) → List Text → Type 0
+AllCut test [] = Unit {0}
+AllCut test (text ∷ texts) = Cuts test text × AllCut test texts
 
-pub semicolon_prints : Prints (59 ∷ []) (token.Sign (59 ∷ []) ∷ []) any
-unfolding cut signs
-semicolon_prints = sign_prints (59 ∷ []) any (omega arith) (λ z _. refl)
-
-pub open_prints : Prints (40 ∷ []) (token.Sign (40 ∷ []) ∷ []) any
-unfolding cut signs
-open_prints = sign_prints (40 ∷ []) any (omega arith) (λ z _. refl)
-
-pub close_prints : Prints (41 ∷ []) (token.Sign (41 ∷ []) ∷ []) any
-unfolding cut signs
-close_prints = sign_prints (41 ∷ []) any (omega arith) (λ z _. refl)
-
-pub open_square_prints : Prints (91 ∷ []) (token.Sign (91 ∷ []) ∷ []) any
-unfolding cut signs
-open_square_prints = sign_prints (91 ∷ []) any (omega arith) (λ z _. refl)
-
-pub close_square_prints : Prints (93 ∷ []) (token.Sign (93 ∷ []) ∷ []) any
-unfolding cut signs
-close_square_prints = sign_prints (93 ∷ []) any (omega arith) (λ z _. refl)
-
-pub open_brace_prints : Prints (123 ∷ []) (token.Sign (123 ∷ []) ∷ []) any
-unfolding cut signs
-open_brace_prints = sign_prints (123 ∷ []) any (omega arith) (λ z _. refl)
-
-pub close_brace_prints : Prints (125 ∷ []) (token.Sign (125 ∷ []) ∷ []) any
-unfolding cut signs
-close_brace_prints = sign_prints (125 ∷ []) any (omega arith) (λ z _. refl)
-
-pub plus_prints : Prints (43 ∷ []) (token.Sign (43 ∷ []) ∷ []) any
-unfolding cut signs
-plus_prints = sign_prints (43 ∷ []) any (omega arith) (λ z _. refl)
-
--- `>=`
-pub at_least_prints : Prints (62 ∷ 61 ∷ []) (token.Sign (62 ∷ 61 ∷ []) ∷ []) any
-unfolding cut signs
-at_least_prints = sign_prints (62 ∷ 61 ∷ []) any (omega arith) (λ z _. refl)
-
--- `!=`
-pub differs_prints : Prints (33 ∷ 61 ∷ []) (token.Sign (33 ∷ 61 ∷ []) ∷ []) any
-unfolding cut signs
-differs_prints = sign_prints (33 ∷ 61 ∷ []) any (omega arith) (λ z _. refl)
-
--- `-` before a blank
-pub minus_prints : Prints (45 ∷ 32 ∷ []) (token.Sign (45 ∷ []) ∷ []) any
-unfolding cut signs
-minus_prints = spaced_prints (45 ∷ []) (sign_prints (45 ∷ []) blank (omega arith) before_blank)
+one_cuts : (test : ℕ → Bool) (texts : List Text) → AllCut test texts → (text : Text) → list_any (bytes_eq text) texts ≡ true
+    → Cuts test text
+unfolding AllCut
+one_cuts test [] all text among = absurd (false≢true among)
+one_cuts test (t ∷ texts) all text among = by_test (bytes_eq text t) refl among (one_cuts test texts all.1 text)
   where
-    before_blank : (z : Text) → blank (slice_index z 0) ≡ true → cut (45 ∷ z) ≡ (piece.Sign, 1)
-    before_blank [] is = absurd cc
-    before_blank (b ∷ z) is = let e : b ≡ 32 = eqb-true b 32 is in rw e refl
+    by_test : (q : Bool) → bytes_eq text t ≡ q → (q || list_any (bytes_eq text) texts) ≡ true
+        → (list_any (bytes_eq text) texts ≡ true → Cuts test text) → Cuts test text
+    by_test true same among rest = subst (Cuts test) (sym ((bytes_eq-Decides text t).0 same)) all.0
+    by_test false other among rest = rest among
 
--- `->` before a blank
-pub arrow_prints : Prints (45 ∷ 62 ∷ 32 ∷ []) (token.Sign (45 ∷ 62 ∷ []) ∷ []) any
-unfolding cut signs
-arrow_prints = spaced_prints (45 ∷ 62 ∷ []) (sign_prints (45 ∷ 62 ∷ []) blank (omega arith) before_blank)
-  where
-    before_blank : (z : Text) → blank (slice_index z 0) ≡ true → cut (45 ∷ 62 ∷ z) ≡ (piece.Sign, 2)
-    before_blank [] is = absurd cc
-    before_blank (b ∷ z) is = let e : b ≡ 32 = eqb-true b 32 is in rw e refl
+-- ---- signs that no byte makes longer: `,` `;` `(` `)` `[` `]` `{` `}` `+` `>=` `!=`
 
--- `=` before a blank
-pub equal_prints : Prints (61 ∷ 32 ∷ []) (token.Sign (61 ∷ []) ∷ []) any
-unfolding cut signs
-equal_prints = spaced_prints (61 ∷ []) (sign_prints (61 ∷ []) blank (omega arith) before_blank)
-  where
-    before_blank : (z : Text) → blank (slice_index z 0) ≡ true → cut (61 ∷ z) ≡ (piece.Sign, 1)
-    before_blank [] is = absurd cc
-    before_blank (b ∷ z) is = let e : b ≡ 32 = eqb-true b 32 is in rw e refl
+abbrev pub whole_signs : List Text
+whole_signs =
+    (44 ∷ []) ∷ (59 ∷ []) ∷ (40 ∷ []) ∷ (41 ∷ []) ∷ (91 ∷ []) ∷ (93 ∷ []) ∷ (123 ∷ []) ∷ (125 ∷ []) ∷ (43 ∷ []) ∷ (62 ∷ 61 ∷ []) ∷
+    (33 ∷ 61 ∷ []) ∷ []
 
--- `:` before a blank
-pub colon_prints : Prints (58 ∷ 32 ∷ []) (token.Sign (58 ∷ []) ∷ []) any
-unfolding cut signs
-colon_prints = spaced_prints (58 ∷ []) (sign_prints (58 ∷ []) blank (omega arith) before_blank)
-  where
-    before_blank : (z : Text) → blank (slice_index z 0) ≡ true → cut (58 ∷ z) ≡ (piece.Sign, 1)
-    before_blank [] is = absurd cc
-    before_blank (b ∷ z) is = let e : b ≡ 32 = eqb-true b 32 is in rw e refl
+whole_cut : AllCut any whole_signs
+unfolding AllCut Cuts cut signs
+whole_cut = (
+  (omega arith, λ z _. refl),
+  (
+    (omega arith, λ z _. refl),
+    (
+      (omega arith, λ z _. refl),
+      (
+        (omega arith, λ z _. refl),
+        (
+          (omega arith, λ z _. refl),
+          (
+            (omega arith, λ z _. refl),
+            (
+              (omega arith, λ z _. refl),
+              (
+                (omega arith, λ z _. refl),
+                ((omega arith, λ z _. refl), ((omega arith, λ z _. refl), ((omega arith, λ z _. refl), tt))),
+              ),
+            ),
+          ),
+        ),
+      ),
+    ),
+  ),
+)
+
+pub whole_sign_prints : (text : Text) → list_any (bytes_eq text) whole_signs ≡ true → Prints text (token.Sign text ∷ []) any
+unfolding Cuts
+whole_sign_prints text among = let is = one_cuts any whole_signs whole_cut text among in sign_prints text any is.0 is.1
+
+-- ---- signs before a blank: `-` `->` `=` `:`
+
+abbrev pub spaced_signs : List Text
+spaced_signs = (45 ∷ []) ∷ (45 ∷ 62 ∷ []) ∷ (61 ∷ []) ∷ (58 ∷ []) ∷ []
+
+-- what is known before a blank is known of what follows
+before_blank : (text : Text) → ((z : Text) → cut (text ++ 32 ∷ z) ≡ (piece.Sign, length text)) → (z : Text) → blank
+    (slice_index z 0) ≡ true → cut (text ++ z) ≡ (piece.Sign, length text)
+before_blank text is [] ends = absurd cc
+before_blank text is (b ∷ z) ends = let e : b ≡ 32 = eqb-true b 32 ends in rw e (is z)
+
+spaced_cut : AllCut blank spaced_signs
+unfolding AllCut Cuts cut signs
+spaced_cut = (
+  (omega arith, before_blank (45 ∷ []) (λ z. refl)),
+  (
+    (omega arith, before_blank (45 ∷ 62 ∷ []) (λ z. refl)),
+    ((omega arith, before_blank (61 ∷ []) (λ z. refl)), ((omega arith, before_blank (58 ∷ []) (λ z. refl)), tt)),
+  ),
+)
+
+pub spaced_sign_prints : (text : Text) → list_any (bytes_eq text) spaced_signs ≡ true → Prints (text ++ 32 ∷ []) (token.Sign text ∷ []) any
+unfolding Cuts
+spaced_sign_prints text among =
+    let is = one_cuts blank spaced_signs spaced_cut text among in
+    prints_both text (32 ∷ []) (token.Sign text ∷ []) [] blank any (sign_prints text blank is.0 is.1) blank_prints (λ z _. refl)

@@ -1,10 +1,10 @@
 -- One turn of a loop that reads a row.
-use Rattle.std.proofs.Common.{◌≡◌, ℕ, zero, suc, ◌+◌, ◌-◌, ◌<◌, ◌≤◌, Bool, true, false, cond, List, [], ◌∷◌, ◌++◌, Option, Some, None, refl, sym, ap, ◌∙◌, arith}
-use Rattle.isl_token.specs.declared.token.Token.{Token}
+use Rattle.std.proofs.Common.{◌≡◌, ℕ, zero, suc, ◌+◌, ◌-◌, ◌<◌, ◌≤◌, Bool, true, false, List, [], ◌∷◌, ◌++◌, Option, Some, None, refl, sym, ap, ◌∙◌, arith}
+use Rattle.isl_token.specs.TokenView.{Token}
 use Rattle.isl_token.specs.declared.fault.Fault.{Fault}
 use Rattle.isl_token.specs.declared.fault.Fault.TheVariants.{NoMemory, Syntax}
-use Rattle.std.specs.Prelude.{Result, Err}
-use Rattle.isl_token.specs.Reading.{Parser, and_then, rest_of, Reads}
+use Rattle.std.specs.Prelude.{Err}
+use Rattle.isl_token.specs.Reading.{Parser, rest_of, Reads}
 
 module _ {A : Type 0} (goes_on : List Token → Bool) (item : Parser A) where
   one_more : (n : ℕ) (found : List A) (ts us : List Token) (x : A) → goes_on ts ≡ true → item ts ≡ Some (x, us) → rest_of goes_on item (suc n) found ts ≡ rest_of goes_on item n (found ++ x ∷ []) us

@@ -1,8 +1,7 @@
 -- Lists of tokens as a whole: both laws, and that tokens spell at most one value.
-use Rattle.std.proofs.Common.{◌≡◌, ◌≢◌, ℕ, zero, suc, ◌+◌, ◌<◌, true, List, [], ◌∷◌, ◌++◌, length, Option, Some, None, Result, Ok, Err, refl, sym, ap, ◌∙◌, inl, inr, arith}
-use Rattle.std.specs.Prelude.{◌⊎◌}
+use Rattle.std.proofs.Common.{◌≡◌, ◌≢◌, ℕ, suc, ◌<◌, true, List, [], ◌++◌, length, Some, Ok, Err, refl, sym, ap, ◌∙◌, inl, inr, arith}
 use Rattle.std.proofs.lemmas.List.{append-nil, nil_from_length}
-use Rattle.isl_token.specs.declared.token.Token.{Token}
+use Rattle.isl_token.specs.TokenView.{Token}
 use Rattle.isl_token.specs.declared.fault.Fault.{Fault}
 use Rattle.isl_token.specs.declared.fault.Fault.TheVariants.{NoMemory, Syntax}
 use Rattle.isl_token.specs.Reading.{Parser, Reads}

@@ -1,10 +1,10 @@
 -- How deep the tokens of a text are nested.
-use Rattle.std.specs.Prelude.{ℕ, zero, suc, ◌+◌, ◌-◌, Bool, true, false, nat_lt, List, [], ◌∷◌, codes, if◌then◌else◌}
+use Rattle.std.specs.Prelude.{ℕ, ◌+◌, ◌-◌, Bool, false, nat_lt, List, [], ◌∷◌, codes, if◌then◌else◌}
 use Rattle.std.specs.List.{list_any}
 use Rattle.std.specs.Str.{bytes_eq}
 use Rattle.isl_token.specs.declared.depth.Place.{Place}
-use Rattle.isl_token.specs.declared.token.Token.{Token}
-use Rattle.isl_token.specs.declared.token.Token.TheVariants as token
+use Rattle.isl_token.specs.TokenView.{Token}
+use Rattle.isl_token.specs.TokenView as token
 use Rattle.isl_token.specs.declared.token.Kind.{Kind}
 use Rattle.isl_token.specs.declared.token.Kind.TheVariants as kind
 use Rattle.isl_token.specs.Token.{Text, is_kind, kind_of}
@@ -24,6 +24,10 @@ abbrev pub is_stacking : Token → Bool
 is_stacking (token.Word word) = is_stacking_word word
 is_stacking (token.Number digits) = false
 is_stacking (token.Sign sign) = is_kind (kind_of (token.Sign sign)) kind.Not
+
+abbrev pub head_is_stacking : List Token → Bool
+head_is_stacking [] = false
+head_is_stacking (t ∷ ts) = is_stacking t
 
 -- Brackets open and close. A brace or `;` begins the count of words anew.
 abbrev pub step_by : Place → Bool → Kind → Place

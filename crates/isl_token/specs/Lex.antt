@@ -1,8 +1,7 @@
 -- Tokens from bytes, each the longest that fits. (isl manual, the notation of sets and relations)
-use Rattle.std.specs.Prelude.{ℕ, zero, suc, ◌+◌, ◌-◌, ◌≡◌, Bool, true, false, not, max, ◌&&◌, ◌||◌, if◌then◌else◌, ◌==◌, nat_eq, List, [], ◌∷◌, ◌++◌, length, take, drop, slice_index, Option, Some, None, Result, Ok, Err, IsTrue}
+use Rattle.std.specs.Prelude.{ℕ, zero, suc, ◌+◌, ◌-◌, ◌<◌, ◌≡◌, Bool, not, max, ◌||◌, if◌then◌else◌, ◌==◌, nat_eq, List, [], ◌∷◌, ◌++◌, length, take, drop, slice_index, Option, Some, None, Result, Ok, Err, IsTrue}
 use Rattle.std.specs.Char.{is_ascii_digit}
 use Rattle.std.specs.List.{prefix_len, starts_with, list_any}
-use Rattle.std.specs.Option.{option_to_list}
 use Rattle.std.specs.Str.{bytes_eq}
 use Rattle.isl_space.specs.Name.{begins_name, goes_on_name, is_prime, is_identifier}
 use Rattle.isl_token.specs.declared.fault.Fault.{Fault}
@@ -11,9 +10,10 @@ use Rattle.isl_token.specs.declared.lex.Class.{Class}
 use Rattle.isl_token.specs.declared.lex.Class.TheVariants as class
 use Rattle.isl_token.specs.declared.lex.Piece.{Piece}
 use Rattle.isl_token.specs.declared.lex.Piece.TheVariants as piece
-use Rattle.isl_token.specs.declared.token.Token.{Token}
-use Rattle.isl_token.specs.declared.token.Token.TheVariants as token
-use Rattle.isl_token.specs.Token.{Text, signs, is_number}
+use Rattle.isl_token.specs.TokenView.{Token}
+use Rattle.isl_token.specs.TokenView as token
+use Rattle.isl_token.specs.declared.token.Kind.{Kind}
+use Rattle.isl_token.specs.Token.{Text, signs, is_number, kind_of}
 
 abbrev pub is_in : Class → ℕ → Bool
 is_in class.Blank b = b == 32 || b == 9 || b == 13 || b == 10
@@ -72,16 +72,32 @@ tokens_from zero (b ∷ z) = let c = cut (b ∷ z) in join (tokens_of c.0 (take 
 unfoldable pub tokens : Text → Option (List Token)
 tokens = tokens_from 0
 
+-- the token of a piece that has one
+abbrev pub token_of : Piece → Text → Token
+token_of piece.Word text = token.Word text
+token_of piece.Number text = token.Number text
+token_of _ text = token.Sign text
+
+-- the token that begins at a place of a text
+unfoldable pub token_at : Text → ℕ → Token
+token_at text at = let z = drop at text in token_of (cut z).0 (take (cut z).1 z)
+
+-- the kind of the token that begins at a place of a text
+abbrev pub IsKindAt : Text → ℕ → Kind → Type 0
+IsKindAt text at kind = (at < length text) × (kind ≡ kind_of (token_at text at))
+
+-- what a function that finds the kind of a piece ensures: that of its token, if it has one
+abbrev pub IsKindOfPiece : Piece → Text → Result (Option Kind) Fault → Type 0
+IsKindOfPiece piece text (Ok (Some kind)) = (tokens_of piece text ≡ Some (token_of piece text ∷ [])) × (kind ≡ kind_of (token_of piece text))
+IsKindOfPiece piece text (Ok None) = tokens_of piece text ≡ Some []
+IsKindOfPiece piece text (Err NoMemory) = Unit {0}
+IsKindOfPiece piece text (Err Syntax) = tokens_of piece text ≡ None
+
 -- what a function that cuts tokens ensures: the tokens, unless memory fails
 abbrev pub Lexes : Option (List Token) → Result (List Token) Fault → Type 0
 Lexes read (Ok ts) = read ≡ Some ts
 Lexes read (Err NoMemory) = Unit {0}
 Lexes read (Err Syntax) = read ≡ None
-
-abbrev pub LexesOne : Option (List Token) → Result (Option Token) Fault → Type 0
-LexesOne read (Ok t) = read ≡ Some (option_to_list t)
-LexesOne read (Err NoMemory) = Unit {0}
-LexesOne read (Err Syntax) = read ≡ None
 
 -- what the text of a piece is
 abbrev pub IsPiece : Piece → Text → Type 0

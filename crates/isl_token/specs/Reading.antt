@@ -1,8 +1,8 @@
 -- Readers of token lists: a value and the tokens after it, or nothing. Readers are put together as the grammar is.
 use Rattle.std.specs.Prelude.{◌≡◌, ℕ, ℤ, pos, zero, suc, Bool, List, [], ◌∷◌, ◌++◌, length, Option, Some, None, Result, Ok, Err, if◌then◌else◌}
 use Rattle.std.specs.Ordering.{int_eq}
-use Rattle.isl_token.specs.declared.token.Token.{Token}
-use Rattle.isl_token.specs.declared.token.Token.TheVariants as token
+use Rattle.isl_token.specs.TokenView.{Token}
+use Rattle.isl_token.specs.TokenView as token
 use Rattle.isl_token.specs.declared.token.Kind.{Kind}
 use Rattle.isl_token.specs.declared.token.Kind.TheVariants as kind
 use Rattle.isl_token.specs.declared.fault.Fault.{Fault}
@@ -56,6 +56,11 @@ peek = λ ts. Some (head_kind ts, ts)
 abbrev pub skip : Parser (Unit {0})
 skip = λ ts. Some (tt, tail ts)
 
+-- the next token's kind, and the tokens after it
+abbrev pub IsNext : List Token → Option Kind → List Token → Type 0
+IsNext ts None rest = (ts ≡ []) × (rest ≡ [])
+IsNext ts (Some kind) rest = (t : Token) × (ts ≡ t ∷ rest) × (kind ≡ kind_of t)
+
 unfoldable pub expect : Kind → Parser (Unit {0})
 expect k = λ ts. if is_kind (head_kind ts) k then Some (tt, tail ts) else None
 
@@ -73,6 +78,13 @@ number (token.Sign sign ∷ ts) = None
 
 abbrev pub is_zero : ℤ → Bool
 is_zero z = int_eq z (pos 0)
+
+-- the digits of a number
+unfoldable pub digits : Parser Text
+digits [] = None
+digits (token.Word word ∷ ts) = None
+digits (token.Number text ∷ ts) = Some (text, ts)
+digits (token.Sign sign ∷ ts) = None
 
 -- a number that is not 0
 unfoldable pub positive : Parser ℤ

@@ -1,9 +1,9 @@
 -- Grammars over token lists: which tokens spell which values. Grammars are put together as their notation is written.
-use Rattle.std.specs.Prelude.{◌≡◌, ◌≢◌, ℕ, ℤ, pos, List, [], ◌∷◌, ◌++◌, Option, Some, None, Result, Ok, Err, ◌⊎◌}
+use Rattle.std.specs.Prelude.{◌≡◌, ◌≢◌, ℕ, ℤ, pos, List, [], ◌∷◌, ◌++◌, Result, Ok, Err, ◌⊎◌}
 use Rattle.isl_token.specs.declared.fault.Fault.{Fault}
 use Rattle.isl_token.specs.declared.fault.Fault.TheVariants.{NoMemory}
-use Rattle.isl_token.specs.declared.token.Token.{Token}
-use Rattle.isl_token.specs.declared.token.Token.TheVariants as token
+use Rattle.isl_token.specs.TokenView.{Token}
+use Rattle.isl_token.specs.TokenView as token
 use Rattle.isl_token.specs.declared.token.Kind.{Kind}
 use Rattle.isl_token.specs.declared.token.Kind.TheVariants as kind
 use Rattle.isl_token.specs.Token.{Text, kind_of}

@@ -6,8 +6,8 @@ use Rattle.std.specs.Str.{bytes_eq}
 use denote.Enum.Bare.{sameb}
 use Rattle.isl_space.specs.Name.{is_identifier}
 use Rattle.isl_token.specs.contracts.token.Kind.{the_type}
-use Rattle.isl_token.specs.declared.token.Token.{Token}
-use Rattle.isl_token.specs.declared.token.Token.TheVariants as token
+use Rattle.isl_token.specs.TokenView.{Token}
+use Rattle.isl_token.specs.TokenView as token
 use Rattle.isl_token.specs.declared.token.Kind.{Kind}
 use Rattle.isl_token.specs.declared.token.Kind.TheVariants as kind
 
@@ -34,21 +34,21 @@ word_kinds =
 unfoldable pub word_kind : Text → Kind
 word_kind word = kind_in word_kinds word kind.Name
 
--- the signs, where several signs of one meaning are one kind, also with words, and those that no literal has are `Other`
+-- the signs, where several signs of one meaning are one kind, also with words
 abbrev pub sign_kinds : List (Text × Kind)
 sign_kinds =
-    (codes ":=", kind.Other) ∷ (codes ";", kind.Semicolon) ∷ (codes ":", kind.Colon) ∷ (codes ",", kind.Comma)
+    (codes ":=", kind.Assign) ∷ (codes ";", kind.Semicolon) ∷ (codes ":", kind.Colon) ∷ (codes ",", kind.Comma)
     ∷ (codes "(", kind.Open) ∷ (codes ")", kind.Close) ∷ (codes "[", kind.OpenSquare) ∷ (codes "]", kind.CloseSquare)
     ∷ (codes "{", kind.OpenBrace) ∷ (codes "}", kind.CloseBrace) ∷ (codes "+", kind.Plus) ∷ (codes "*", kind.Star)
-    ∷ (codes "-", kind.Minus) ∷ (codes "->-", kind.Other) ∷ (codes "->*", kind.Other) ∷ (codes "->", kind.Arrow)
-    ∷ (codes "^-1", kind.Other) ∷ (codes ".", kind.Other) ∷ (codes "/", kind.Slash) ∷ (codes "%", kind.Mod)
+    ∷ (codes "-", kind.Minus) ∷ (codes "->-", kind.ArrowMinus) ∷ (codes "->*", kind.ArrowStar) ∷ (codes "->", kind.Arrow)
+    ∷ (codes "^-1", kind.Inverse) ∷ (codes ".", kind.Dot) ∷ (codes "/", kind.Slash) ∷ (codes "%", kind.Mod)
     ∷ (codes "=", kind.Equal) ∷ (codes "==", kind.Equal) ∷ (codes "<", kind.Less) ∷ (codes "<=", kind.LessEqual)
-    ∷ (codes ">", kind.Greater) ∷ (codes ">=", kind.GreaterEqual) ∷ (codes "<<", kind.Other) ∷ (codes "<<=", kind.Other)
-    ∷ (codes ">>", kind.Other) ∷ (codes ">>=", kind.Other) ∷ (codes "!=", kind.Differs) ∷ (codes "!", kind.Not)
+    ∷ (codes ">", kind.Greater) ∷ (codes ">=", kind.GreaterEqual) ∷ (codes "<<", kind.LexLess) ∷ (codes "<<=", kind.LexLessEqual)
+    ∷ (codes ">>", kind.LexGreater) ∷ (codes ">>=", kind.LexGreaterEqual) ∷ (codes "!=", kind.Differs) ∷ (codes "!", kind.Not)
     ∷ (codes "&&", kind.And) ∷ (codes "||", kind.Or) ∷ []
 
 unfoldable pub sign_kind : Text → Kind
-sign_kind sign = kind_in sign_kinds sign kind.Other
+sign_kind sign = kind_in sign_kinds sign kind.End
 
 -- the texts of the signs
 unfoldable pub signs : List Text

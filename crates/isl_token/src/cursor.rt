@@ -1,69 +1,91 @@
 //! A cursor over tokens.
 
-ghost use Rattle.std.specs.Prelude.{◌≡◌, length};
+ghost use Rattle.std.specs.Prelude.{◌≡◌, length, IfOk};
 ghost use Rattle.isl_token.specs.Reading as spec;
 ghost use Rattle.isl_token.specs.Reading.{Reads};
 
 use crate::fault::Fault;
+use crate::marks::Rest;
 use crate::number::number_of;
-use crate::token::{Kind, Token, kind_of};
+use crate::token::Kind;
 use isl_space::Name;
+use std::alloc::{AllocError, Global};
 use std::marker::Model;
+
+/// How many names are kept to be shared.
+const KEPT: usize = 32;
+
+/// A name that was read before, or a new one, which is kept while there are few.
+fn shared(alloc: Global, names: &mut Vec<Name>, text: &str) -> Result<Name, AllocError>
+    ensures { IfOk result (λ name. name ≡ text.now) }
+{
+    for name in names.iter() {
+        if name.as_str() == text {
+            return name.copy();
+        }
+    }
+    let name = Name::new(alloc, text)?;
+    if names.len() < KEPT {
+        names.push(name.copy()?)?;
+    }
+    Ok(name)
+}
 
 /// The tokens that are still to be read.
 #[derive(Drop)]
 pub struct Cursor<'a> {
-    rest: &'a [Token],
+    alloc: Global,
+    rest: Rest<'a>,
+    /// Names that were read, to be shared.
+    names: Vec<Name>,
 }
 
 impl<'a> Model for Cursor<'a> {
     ghost use Rattle.std.specs.Prelude.{List};
-    ghost use Rattle.isl_token.specs.declared.token.Token.{Token};
+    ghost use Rattle.isl_token.specs.TokenView.{Token};
 
     ghost Value = { List Token };
 
-    ghost view = { λ c. c.rest.now };
+    ghost view = { λ c. c.rest };
 }
 
 impl<'a> Cursor<'a> {
-    pub fn new(tokens: &'a [Token]) -> Cursor<'a>
-        ensures { result ≡ tokens.now }
+    pub fn new(alloc: Global, rest: Rest<'a>) -> Cursor<'a>
+        ensures { result ≡ rest.entry }
     {
-        Cursor { rest: tokens }
+        Cursor {
+            alloc,
+            rest,
+            names: Vec::new(alloc),
+        }
     }
 
     /// The tokens that are left.
-    pub fn rest(&self) -> &'a [Token]
-        ensures { result.now ≡ self.now }
+    pub fn rest(&self) -> Rest<'a>
+        ensures { result ≡ self.now }
     {
-        self.rest
+        self.rest.copy()
     }
 
     /// How many tokens are left.
     pub fn left(&self) -> usize
         ensures { result ≡ length self.now }
     {
-        self.rest.len()
+        self.rest.left()
     }
 
     /// The kind of the next token.
     pub fn peek(&self) -> Kind
         ensures { result ≡ spec.head_kind self.now }
     {
-        match self.rest {
-            [] => Kind::End,
-            [token, ..] => kind_of(token),
-        }
+        self.rest.peek()
     }
 
     /// The kind of the token after the next.
     pub fn second(&self) -> Kind
         ensures { result ≡ spec.second_kind self.now }
     {
-        match self.rest {
-            [_, token, ..] => kind_of(token),
-            _ => Kind::End,
-        }
+        self.rest.second()
     }
 
     /// Whether the next token is of the kind.
@@ -77,12 +99,13 @@ impl<'a> Cursor<'a> {
     pub fn skip(&mut self)
         ensures { self.new ≡ spec.tail self.old }
     {
-        if let [_, rest @ ..] = self.rest {
-            self.rest = rest;
-        }
+        self.rest.skip();
     }
 
     /// Goes past the next token, which has to be of the kind.
+    ///
+    /// # Errors
+    /// `Syntax` where it is of another kind.
     #[tactic(auto, unfolding(crate::specs::Reading::expect))]
     pub fn expect(&mut self, kind: Kind) -> Result<(), Fault>
         ensures { Reads (spec.expect kind self.old) result self.new }
@@ -96,36 +119,44 @@ impl<'a> Cursor<'a> {
     }
 
     /// Reads an identifier.
-    #[tactic(auto, unfolding(crate::specs::Reading::name))]
+    ///
+    /// # Errors
+    /// `Syntax` where another token comes next.
     pub fn name(&mut self) -> Result<Name, Fault>
         ensures { Reads (spec.name self.old) result self.new }
     {
-        match self.rest {
-            [Token::Word(word), rest @ ..] if self.peek() == Kind::Name => {
-                let word = word.copy()?;
-                self.rest = rest;
-                Ok(word)
+        match self.rest.word() {
+            Some(word) => {
+                let name = shared(self.alloc, &mut self.names, word)?;
+                self.rest.skip();
+                Ok(name)
             }
-            _ => Err(Fault::Syntax),
+            None => Err(Fault::Syntax),
         }
     }
 
     /// Reads a number.
-    #[tactic(auto, unfolding(crate::specs::Reading::number))]
+    ///
+    /// # Errors
+    /// `Syntax` where another token comes next.
+    #[tactic(auto, using(crate::proofs::MarkLaws::read))]
     pub fn number(&mut self) -> Result<i128, Fault>
         ensures { Reads (spec.number self.old) result self.new }
     {
-        match self.rest {
-            [Token::Number(digits), rest @ ..] => {
-                let value = number_of(digits.as_slice());
-                self.rest = rest;
+        match self.rest.digits() {
+            Some(digits) => {
+                let value = number_of(digits);
+                self.rest.skip();
                 Ok(value)
             }
-            _ => Err(Fault::Syntax),
+            None => Err(Fault::Syntax),
         }
     }
 
     /// Reads a number that is not 0.
+    ///
+    /// # Errors
+    /// `Syntax` where another token comes next.
     #[tactic(auto, unfolding(crate::specs::Reading::positive))]
     pub fn positive(&mut self) -> Result<i128, Fault>
         ensures { Reads (spec.positive self.old) result self.new }

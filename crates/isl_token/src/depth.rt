@@ -4,8 +4,10 @@ ghost use Rattle.std.specs.Prelude.{◌≡◌, ◌+◌, ◌≤◌, map};
 ghost use Rattle.std.specs.List.{list_any};
 ghost use Rattle.std.specs.Str.{bytes_eq};
 ghost use Rattle.isl_token.specs.Depth as spec;
+ghost use Rattle.isl_token.specs.Reading as reading;
 
-use crate::token::{Kind, Token, kind_of};
+use crate::marks::{Rest, Tokens};
+use crate::token::Kind;
 
 /// The depth that a text may have.
 pub const MAX_DEPTH: usize = 200;
@@ -55,29 +57,40 @@ fn is_among(mut texts: &[&[u8]], text: &[u8]) -> bool
 }
 
 #[tactic(auto, unfolding(crate::specs::Depth::stacking_words))]
-fn is_stacking_word(word: &[u8]) -> bool
+fn is_listed(word: &[u8]) -> bool
     ensures { result ≡ spec.is_stacking_word word.now }
 {
     is_among(&STACKING, word)
 }
 
-fn is_stacking(token: &Token) -> bool
-    ensures { result ≡ spec.is_stacking token.now }
+/// Whether the word stacks. None of those that do has less than three letters.
+#[tactic(auto, using(crate::proofs::WordLaws::two_letters))]
+fn is_stacking_word(word: &[u8]) -> bool
+    ensures { result ≡ spec.is_stacking_word word.now }
 {
-    match token {
-        Token::Word(word) => is_stacking_word(word.as_str().as_bytes()),
-        Token::Number(_) => false,
-        Token::Sign(_) => kind_of(token) == Kind::Not,
+    word.len() > 2 && is_listed(word)
+}
+
+fn is_stacking(rest: &Rest<'_>) -> bool
+    ensures { result ≡ spec.head_is_stacking rest.now }
+{
+    match rest.peek() {
+        Kind::Not | Kind::Exists => true,
+        Kind::Name => match rest.word() {
+            Some(word) => is_stacking_word(word.as_bytes()),
+            None => false,
+        },
+        _ => false,
     }
 }
 
-/// The place behind the token.
-fn step(place: Place, token: &Token) -> Place
+/// The place behind the next token.
+fn step(place: Place, rest: &Rest<'_>) -> Place
     requires { place.brackets + place.words ≤ MAX_DEPTH }
-    ensures { result ≡ spec.step place token.now }
+    ensures { result ≡ spec.step_by place (spec.head_is_stacking rest.now) (reading.head_kind rest.now) }
 {
     let Place { brackets, words } = place;
-    match kind_of(token) {
+    match rest.peek() {
         Kind::Open | Kind::OpenSquare => Place {
             brackets: brackets + 1,
             words,
@@ -97,7 +110,7 @@ fn step(place: Place, token: &Token) -> Place
         Kind::Semicolon => Place { brackets, words: 0 },
         _ => Place {
             brackets,
-            words: words + usize::from(is_stacking(token)),
+            words: words + usize::from(is_stacking(rest)),
         },
     }
 }
@@ -106,18 +119,21 @@ fn step(place: Place, token: &Token) -> Place
 ///
 /// The depth at a token is the number of brackets that are open there and of the stacking words since the last brace or
 /// `;`, the token counted.
-pub fn is_too_deep(tokens: &[Token]) -> bool
+#[tactic(auto, using(crate::proofs::DepthLaws::depth_step))]
+pub fn is_too_deep(tokens: &Tokens<'_>) -> bool
     ensures { result ≡ spec.is_too_deep tokens.now }
 {
     let mut place = Place {
         brackets: 0,
         words: 0,
     };
-    for token in tokens {
-        place = step(place, token);
+    let mut rest = tokens.rest();
+    while rest.left() > 0 {
+        place = step(place, &rest);
         if place.brackets + place.words > MAX_DEPTH {
             return true;
         }
+        rest.skip();
     }
     false
 }

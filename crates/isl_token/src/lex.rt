@@ -1,16 +1,16 @@
 //! Tokens from bytes.
 
-ghost use Rattle.std.specs.Prelude.{◌≡◌, ◌≢◌, ◌<◌, ◌≤◌, All, length, slice_index, map, true, nat_eq, IfOk, IfSome};
+ghost use Rattle.std.specs.Prelude.{◌≡◌, ◌≢◌, ◌<◌, ◌≤◌, All, length, slice_index, map, true, nat_eq, IfOk};
 ghost use Rattle.std.specs.List.{starts_with};
 ghost use Rattle.isl_token.specs.Lex as spec;
-ghost use Rattle.isl_token.specs.Lex.{Lexes, LexesOne};
+ghost use Rattle.isl_token.specs.Lex.{Lexes, IsPiece, IsKindOfPiece};
 ghost use Rattle.isl_token.specs.Token.{IsToken};
 
 use crate::fault::Fault;
-use crate::token::{Kind, SIGNS, Token, Tokens};
-use isl_space::Name;
-use sqlite_items::Items;
-use std::alloc::{AllocError, Global};
+use crate::marks::{Mark, Tokens};
+use crate::sign::{sign, sign_kind};
+use crate::token::{Kind, word_kind};
+use std::alloc::Global;
 
 /// Bytes that stand in rows.
 #[derive(Clone, Copy, Debug)]
@@ -25,7 +25,7 @@ enum Class {
 
 /// What stands at the front of a text.
 #[derive(Clone, Copy, Debug)]
-enum Piece {
+pub(crate) enum Piece {
     /// A blank or a comment.
     Nothing,
     Word,
@@ -61,39 +61,9 @@ fn past(class: Class, z: &[u8], at: usize) -> usize
     end
 }
 
-fn begins(z: &[u8], text: &[u8]) -> bool
-    ensures value { result ≡ starts_with nat_eq z.now text.now }
-    ensures within { result ≡ true → length text.now ≤ length z.now }
-{
-    z.starts_with(text)
-}
-
-/// The length of the longest text of the table that stands at the front, 0 where none does.
-fn longest(mut table: &[(&[u8], Kind)], z: &[u8]) -> usize
-    ensures value { result ≡ spec.longest (map (λ k. k.0.now) table.entry.now) z.now }
-    ensures within { result ≤ length z.now }
-{
-    let mut best = 0;
-    while let [(text, _), rest @ ..] = table {
-        if best < text.len() && begins(z, text) {
-            best = text.len();
-        }
-        table = rest;
-    }
-    best
-}
-
-#[tactic(auto, unfolding(crate::specs::Token::signs))]
-fn sign_len(z: &[u8]) -> usize
-    ensures value { result ≡ spec.sign_len z.now }
-    ensures within { result ≤ length z.now }
-{
-    longest(&SIGNS, z)
-}
-
 /// What stands at the front, and its length in bytes.
 #[tactic(auto, unfolding(crate::specs::Lex::cut))]
-fn cut(z: &[u8]) -> (Piece, usize)
+pub(crate) fn cut(z: &[u8]) -> (Piece, usize)
     requires { 0 < length z.now }
     ensures value { result ≡ spec.cut z.now }
     ensures within { result.1 ≤ length z.now }
@@ -109,50 +79,53 @@ fn cut(z: &[u8]) -> (Piece, usize)
     } else if is_in(Class::Digit, byte) {
         (Piece::Number, past(Class::Digit, z, 1))
     } else {
-        match sign_len(z) {
-            0 => (Piece::Wrong, 1),
-            len => (Piece::Sign, len),
+        match sign(z) {
+            (_, 0) => (Piece::Wrong, 1),
+            (_, len) => (Piece::Sign, len),
         }
     }
 }
 
-/// The token of the piece, if it has one.
-#[tactic(auto, using(crate::proofs::Pieces::pieces))]
-fn token_of(alloc: Global, piece: Piece, text: &[u8]) -> Result<Option<Token>, Fault>
-    requires { spec.IsPiece piece text.now }
-    ensures lexes { LexesOne (spec.tokens_of piece text.now) result }
-    ensures formed { IfOk result (λ token. IfSome token IsToken) }
+/// The kind of the piece's token, if it has one.
+fn kind_of_piece(piece: Piece, text: &[u8]) -> Result<Option<Kind>, Fault>
+    requires { IsPiece piece text.now }
+    ensures { IsKindOfPiece piece text.now result }
 {
     match piece {
         Piece::Nothing => Ok(None),
-        Piece::Word => {
-            let Ok(word) = std::str::from_utf8(text) else {
-                return Err(Fault::Syntax);
-            };
-            Ok(Some(Token::Word(Name::new(alloc, word)?)))
-        }
-        Piece::Number => Ok(Some(Token::Number(Items::from_slice(alloc, text)?))),
-        Piece::Sign => Ok(Some(Token::Sign(Items::from_slice(alloc, text)?))),
+        Piece::Word => Ok(Some(word_kind(text))),
+        Piece::Number => Ok(Some(Kind::Number)),
+        Piece::Sign => Ok(Some(sign_kind(text))),
         Piece::Wrong => Err(Fault::Syntax),
     }
 }
 
 /// The tokens of a text, each the longest that fits.
 ///
-/// It fails with `Syntax` exactly where some byte begins no token.
+/// # Errors
+/// `Syntax` exactly where some byte begins no token.
 #[tactic(auto, using(crate::proofs::Pieces::pieces))]
-pub fn tokens(alloc: Global, mut bytes: &[u8]) -> Result<Tokens, Fault>
-    ensures lexes { Lexes (spec.tokens bytes.entry.now) result }
+pub fn tokens(alloc: Global, text: &[u8]) -> Result<Tokens<'_>, Fault>
+    ensures lexes { Lexes (spec.tokens text.now) result }
     ensures formed { IfOk result (λ ts. All IsToken ts) }
 {
-    let mut found = Items::new(alloc);
-    while !bytes.is_empty() {
-        let (piece, len) = cut(bytes);
-        let (text, rest) = bytes.split_at(len);
-        if let Some(token) = token_of(alloc, piece, text)? {
-            found.push(token)?;
-        }
-        bytes = rest;
+    if text.len() > u32::MAX as usize {
+        return Err(Fault::NoMemory);
     }
-    Ok(found)
+    let mut marks = Vec::with_capacity(alloc, text.len())?;
+    let mut at: usize = 0;
+    while at < text.len() {
+        let (_, rest) = text.split_at(at);
+        let (piece, len) = cut(rest);
+        let (front, _) = rest.split_at(len);
+        let next = at + len;
+        if let Some(kind) = kind_of_piece(piece, front)? {
+            marks.push(Mark {
+                place: at as u32,
+                kind,
+            })?;
+        }
+        at = next;
+    }
+    Ok(Tokens { text, marks })
 }

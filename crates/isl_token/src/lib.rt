@@ -5,11 +5,14 @@ pub mod cursor;
 pub mod depth;
 pub mod fault;
 pub mod lex;
+pub mod marks;
 pub mod number;
+mod sign;
 pub mod token;
 
 pub use cursor::Cursor;
 pub use depth::is_too_deep;
 pub use fault::Fault;
 pub use lex::tokens;
-pub use token::{Kind, Token, Tokens};
+pub use marks::{Rest, Tokens};
+pub use token::Kind;

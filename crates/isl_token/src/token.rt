@@ -1,24 +1,7 @@
-//! Tokens, and what a token is to the grammar of literals.
+//! What a token is to the grammar of literals.
 
 ghost use Rattle.std.specs.Prelude.{◌≡◌, map};
 ghost use Rattle.isl_token.specs.Token as spec;
-
-use isl_space::Name;
-use sqlite_items::Items;
-
-/// A part of a text that is neither blank nor comment.
-#[derive(Drop)]
-pub enum Token {
-    /// An identifier, or a word of the notation.
-    Word(Name),
-    /// A number, as its digits.
-    Number(Items<u8>),
-    /// A sign, as its bytes.
-    Sign(Items<u8>),
-}
-
-/// Tokens in the order of the text. Contracts see their list.
-pub type Tokens = Items<Token>;
 
 /// What a token is to the grammar of literals: words and signs of one meaning are one kind.
 #[derive(Clone, Copy, Debug, PartialEq, Eq)]
@@ -60,8 +43,16 @@ pub enum Kind {
     Greater,
     GreaterEqual,
     Differs,
-    /// A sign that no literal has.
-    Other,
+    // Signs that statements have, and literals have not.
+    Assign,
+    Inverse,
+    Dot,
+    ArrowMinus,
+    ArrowStar,
+    LexLess,
+    LexLessEqual,
+    LexGreater,
+    LexGreaterEqual,
 }
 
 /// The words that are no identifiers inside a literal.
@@ -80,44 +71,6 @@ pub const WORDS: [(&[u8], Kind); 12] = [
     (b"ceild", Kind::CeilDiv),
 ];
 
-/// The signs.
-pub const SIGNS: [(&[u8], Kind); 34] = [
-    (b":=", Kind::Other),
-    (b";", Kind::Semicolon),
-    (b":", Kind::Colon),
-    (b",", Kind::Comma),
-    (b"(", Kind::Open),
-    (b")", Kind::Close),
-    (b"[", Kind::OpenSquare),
-    (b"]", Kind::CloseSquare),
-    (b"{", Kind::OpenBrace),
-    (b"}", Kind::CloseBrace),
-    (b"+", Kind::Plus),
-    (b"*", Kind::Star),
-    (b"-", Kind::Minus),
-    (b"->-", Kind::Other),
-    (b"->*", Kind::Other),
-    (b"->", Kind::Arrow),
-    (b"^-1", Kind::Other),
-    (b".", Kind::Other),
-    (b"/", Kind::Slash),
-    (b"%", Kind::Mod),
-    (b"=", Kind::Equal),
-    (b"==", Kind::Equal),
-    (b"<", Kind::Less),
-    (b"<=", Kind::LessEqual),
-    (b">", Kind::Greater),
-    (b">=", Kind::GreaterEqual),
-    (b"<<", Kind::Other),
-    (b"<<=", Kind::Other),
-    (b">>", Kind::Other),
-    (b">>=", Kind::Other),
-    (b"!=", Kind::Differs),
-    (b"!", Kind::Not),
-    (b"&&", Kind::And),
-    (b"||", Kind::Or),
-];
-
 /// The kind of the text in the table, or the other kind where it is not there.
 fn kind_in(mut table: &[(&[u8], Kind)], text: &[u8], other: Kind) -> Kind
     ensures { result ≡ spec.kind_in (map (λ k. (k.0.now, k.1)) table.entry.now) text.now other }
@@ -132,26 +85,20 @@ fn kind_in(mut table: &[(&[u8], Kind)], text: &[u8], other: Kind) -> Kind
 }
 
 #[tactic(auto, unfolding(crate::specs::Token::word_kind))]
-fn word_kind(word: &[u8]) -> Kind
+fn listed_kind(word: &[u8]) -> Kind
     ensures { result ≡ spec.word_kind word.now }
 {
     kind_in(&WORDS, word, Kind::Name)
 }
 
-#[tactic(auto, unfolding(crate::specs::Token::sign_kind))]
-fn sign_kind(sign: &[u8]) -> Kind
-    ensures { result ≡ spec.sign_kind sign.now }
+/// The kind of a word. None of the list has one letter.
+#[tactic(auto, using(crate::proofs::WordLaws::one_letter))]
+pub(crate) fn word_kind(word: &[u8]) -> Kind
+    ensures { result ≡ spec.word_kind word.now }
 {
-    kind_in(&SIGNS, sign, Kind::Other)
-}
-
-/// What the token is inside a literal.
-pub fn kind_of(token: &Token) -> Kind
-    ensures { result ≡ spec.kind_of token.now }
-{
-    match token {
-        Token::Word(word) => word_kind(word.as_str().as_bytes()),
-        Token::Number(_) => Kind::Number,
-        Token::Sign(sign) => sign_kind(sign.as_slice()),
+    if word.len() < 2 {
+        Kind::Name
+    } else {
+        listed_kind(word)
     }
 }

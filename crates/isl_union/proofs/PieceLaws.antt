@@ -24,21 +24,24 @@ IsKeptValue-from_pieces params pieces p all = record {
 pub kept_piece-same : (a b : Piece) → space_form_of a.space ≡ space_form_of b.space → a.system ≡ b.system → kept_piece a ≡ kept_piece b
 kept_piece-same a b space system = cc
 
-pub IsPieceOf-same : (params : List Name) (a b : Piece) → space_form_of a.space ≡ space_form_of b.space → a.system ≡ b.system → IsPieceOf params b → IsPieceOf params a
+pub IsPieceOf-same : (params : List Name) (a b : Piece) → space_form_of a.space ≡ space_form_of b.space → a.system ≡ b.system
+    → IsPieceOf params b → IsPieceOf params a
 IsPieceOf-same params a b space system h = record {
   columns = ap (λ (s : System). s.columns) system ∙ h.columns ∙ ap (λ s. columns_of params s) (sym space);
   kept = subst (IsKeptPiece params) (sym (kept_piece-same a b space system)) h.kept;
 }
 
 -- a loop's step: the copy of the i-th piece is put behind the copies
-pub copied_more : (params : List Name) (pieces made pushed : List Piece) (i : ℕ) (piece copy : Piece) → i < length pieces → piece ≡ get_or pieces i piece
+pub copied_more : (params : List Name) (pieces made pushed : List Piece) (i : ℕ) (piece copy : Piece) → i < length pieces
+    → piece ≡ get_or pieces i piece
     → space_form_of copy.space ≡ space_form_of piece.space → copy.system ≡ piece.system → pushed ≡ made ++ copy ∷ [] → All (IsPieceOf params) pieces
     → (map kept_piece made ≡ map kept_piece (take i pieces)) × All (IsPieceOf params) made
     → (map kept_piece pushed ≡ map kept_piece (take (i + 1) pieces)) × All (IsPieceOf params) pushed
 copied_more params pieces made pushed i piece copy low at space system is all so_far =
     let one : kept_piece copy ≡ kept_piece (get_or pieces i piece) = kept_piece-same copy piece space system ∙ ap kept_piece at in
     let sound : IsPieceOf params piece = subst (IsPieceOf params) (sym at) (all i piece low) in (
-      ap (map kept_piece) is ∙ map-append kept_piece made (copy ∷ []) ∙ ap (λ l. l ++ kept_piece copy ∷ []) so_far.0 ∙ ap (λ k. map kept_piece (take i pieces) ++ k ∷ []) one ∙ sym (map_more kept_piece pieces i piece low),
+      ap (map kept_piece) is ∙ map-append kept_piece made (copy ∷ []) ∙ ap (λ l. l ++ kept_piece copy ∷ []) so_far.0
+          ∙ ap (λ k. map kept_piece (take i pieces) ++ k ∷ []) one ∙ sym (map_more kept_piece pieces i piece low),
       subst (All (IsPieceOf params)) (sym is) (All-push (IsPieceOf params) made copy so_far.1 (IsPieceOf-same params copy piece space system sound)),
     )
 

@@ -4,7 +4,7 @@ use Rattle.isl_space.specs.Name.{Name}
 use Rattle.isl_space.specs.Names.{IsParameterList}
 use Rattle.isl_space.specs.SpaceForm.{SpaceForm, coordinates_of, IsWellFormedSpace}
 use Rattle.isl_space.specs.Valuation.{Valuation, values_of}
-use Rattle.isl_space.specs.Element.{Element}
+use Rattle.isl_space.specs.Element.{Element, IsElement}
 use Rattle.isl_piece.specs.declared.constraint.Row.{Row}
 use Rattle.isl_piece.specs.Normal.{IsNormal}
 use Rattle.isl_piece.specs.Row.{IsWellFormed}
@@ -24,8 +24,9 @@ pub record KeptValue : Type 0 where
 abbrev pub point_of : List Name → Valuation → Element → List ℤ
 point_of params valuation element = values_of params valuation ++ element.coordinates
 
--- the piece lies in the element's space, and each of its rows holds there
+-- the element has as many numbers as its space has coordinates, the piece lies in that space, and each of its rows holds there
 pub record HasElement (params : List Name) (valuation : Valuation) (element : Element) (piece : KeptPiece) : Type 0 where
+  pub numbers : IsElement element
   pub space : piece.space ≡ element.space
   pub holds : HoldRows piece.rows (point_of params valuation element)
 

@@ -1,3 +1,12 @@
 pub mod KeptValue
 pub mod Piece
 pub mod Stored
+pub use Rattle.isl_space.specs.Element
+pub use Rattle.isl_space.specs.Name
+pub use Rattle.isl_space.specs.Names
+pub use Rattle.isl_space.specs.Space
+pub use Rattle.isl_space.specs.SpaceForm
+pub use Rattle.isl_space.specs.Valuation
+pub use Rattle.isl_piece.specs.Normal
+pub use Rattle.isl_piece.specs.Row
+pub use Rattle.isl_piece.specs.System

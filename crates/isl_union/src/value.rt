@@ -37,7 +37,7 @@ impl Model for Value {
 }
 
 impl Value {
-    /// The value without pieces.
+    /// The value without pieces. It takes no memory: the allocator is kept by the list of pieces.
     #[tactic(auto, using(crate::proofs::PieceLaws::made))]
     pub fn empty(alloc: Global, params: Params) -> Value
         requires { IsParameterList params }
@@ -77,6 +77,10 @@ impl Value {
     }
 
     /// The same value, with the same names and shapes in memory.
+    ///
+    /// # Errors
+    ///
+    /// Where memory ends.
     #[tactic(auto, using(std::proofs::lemmas::Grind::common_steps, crate::proofs::PieceLaws::made))]
     pub fn copy(&self, alloc: Global) -> Result<Value, AllocError>
         ensures { IfOk result (λ value. value ≡ self.now) }

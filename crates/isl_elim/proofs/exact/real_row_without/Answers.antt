@@ -2,7 +2,7 @@ use Rattle.std.proofs.Common.{◌≡◌, ◌^◌, ◌≤◌, neg_ℤ, ◌∙◌,
 use Rattle.std.proofs.lemmas.Result.{err_from_is_err_and}
 use Rattle.isl_meter.specs.Gauge.{Gauge}
 use Rattle.isl_piece.specs.Row.{coef_at}
-use Rattle.isl_omega.proofs.Magnitudes.{up_to-neg}
+use Rattle.isl_math.proofs.MagnitudeLaws.{up_to-neg}
 use Rattle.isl_omega.proofs.SmallLemmas.{coef_up_to}
 use Rattle.isl_elim.proofs.exact.real_row_without.Goals as goal
 

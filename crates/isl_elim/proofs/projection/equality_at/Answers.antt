@@ -1,6 +1,6 @@
 use Rattle.std.proofs.Common.{◌≡◌, ◌<◌, length, take, arith}
 use Rattle.std.proofs.lemmas.Grind.{common_steps}
-use Rattle.isl_elim.proofs.EliminateLemmas.{found_next}
+use Rattle.isl_elim.proofs.EliminateLemmas.{found_next, found_none}
 use Rattle.isl_elim.proofs.projection.equality_at.Goals as goal
 
 pub loop-i-preserved : goal.loop-i-preserved
@@ -11,4 +11,4 @@ loop-i-preserved c =
 pub returns : goal.returns
 returns c =
     let whole : take c.loop-i.i c.args.rows.now ≡ c.args.rows.now = grind (arith, common_steps) in
-    rw whole at c.loop-i.invariant
+    found_none c.args.col c.args.rows.now c.loop-i.found (rw whole at c.loop-i.invariant)

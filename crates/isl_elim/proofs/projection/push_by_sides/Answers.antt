@@ -4,12 +4,11 @@ use Rattle.isl_elim.specs.Residue.{HasNumber, sides_units}
 use Rattle.isl_omega.specs.Sides.{AreSidesOf}
 use Rattle.isl_omega.specs.Step.{IsStepOf}
 use Rattle.isl_elim.specs.Units.{elimination_units}
-use Rattle.isl_omega.specs.Work.{IsCutUpTo, IsChargedBy, IsCutAfter}
+use Rattle.isl_meter.proofs.UnitLemmas.{memory_after, cut_weaker, charged_weaker}
 use Rattle.isl_elim.proofs.EliminateLemmas.{system_proper, sides_project, sides_cost, most_not_negative}
 use Rattle.isl_omega.proofs.SideLemmas.{sides_are}
-use Rattle.isl_omega.proofs.WorkLemmas.{memory_after, cut_by, cut_after_weaker, charged_by_weaker}
 use Rattle.std.proofs.lemmas.Result.{err_from_is_err_and}
-use Rattle.isl_meter.specs.Gauge.{Gauge}
+use Rattle.isl_meter.specs.Gauge.{Gauge, IsCutUpTo, IsChargedUpTo}
 use Rattle.isl_elim.proofs.SmallSides.{sides_up_to, sides_few}
 use Rattle.isl_elim.proofs.projection.push_by_sides.Goals as goal
 
@@ -34,8 +33,8 @@ returns-in_err-new-clause-exact c =
     let k = c.without_congruences.new.meter in
     let system = c.args.system.now in
     let e = c.in_err-new.field-0.0 in
-    let own : IsCutUpTo 0 g k e = grind arith in
-    let cut = cut_after_weaker (pos 0) (elimination_units system c.args.col) g k e (most_not_negative g system c.args.col c.requires.system) (cut_by 0 g k e own) in
+    let own : IsCutUpTo (pos 0) g k e = grind arith in
+    let cut = cut_weaker (pos 0) (elimination_units system c.args.col) g k e (most_not_negative g system c.args.col c.requires.system) own in
     grind arith
 
 pub returns-in_err-push_sides-clause-exact : goal.returns-in_err-push_sides-clause-exact
@@ -48,10 +47,10 @@ returns-in_err-push_sides-clause-exact c =
     let e = c.in_err-push_sides.field-0.0 in
     let are : AreSidesOf system.rows c.args.col sides = grind arith in
     let step : IsStepOf g system.columns c.args.col sides new = grind arith in
-    let own : IsCutAfter (sides_units c.args.col new) g k e = grind arith in
+    let own : IsCutUpTo (sides_units c.args.col new) g k e = grind arith in
     let sided = sides_are g system.columns c.args.col system.rows sides are (system_proper g system c.requires.system) c.requires.none in
     let cost = sides_cost g system c.args.col sides new c.requires.system are sided step in
-    let cut = cut_after_weaker (sides_units c.args.col new) (elimination_units system c.args.col) g k e cost own in
+    let cut = cut_weaker (sides_units c.args.col new) (elimination_units system c.args.col) g k e cost own in
     grind arith
 
 pub returns-clause-exact : goal.returns-clause-exact
@@ -65,12 +64,12 @@ returns-clause-exact c =
     let after = c.push_sides.new.systems.items in
     let are : AreSidesOf system.rows c.args.col sides = grind arith in
     let step : IsStepOf g system.columns c.args.col sides new = grind arith in
-    let own : IsChargedBy (sides_units c.args.col new) g k = grind arith in
+    let own : IsChargedUpTo (sides_units c.args.col new) g k = grind arith in
     let added : Adds g (system.columns - 1) (HasNumber new c.args.col) before after = grind arith in
     let sided = sides_are g system.columns c.args.col system.rows sides are (system_proper g system c.requires.system) c.requires.none in
     let cost = sides_cost g system c.args.col sides new c.requires.system are sided step in (
       sides_project g system c.args.col sides new before after are step added,
-      charged_by_weaker (sides_units c.args.col new) (elimination_units system c.args.col) g k cost own,
+      charged_weaker (sides_units c.args.col new) (elimination_units system c.args.col) g k cost own,
     )
 
 pub returns-in_err-new-clause-small : goal.returns-in_err-new-clause-small

@@ -4,11 +4,11 @@ use Rattle.isl_math.proofs.Ring.{linear}
 use Rattle.isl_meter.specs.declared.Cut.TheVariants.{Overflow}
 use Rattle.isl_elim.specs.Adds.{Adds}
 use Rattle.isl_elim.specs.Residue.{IsPeriod, HasResidue, residue_units, residues_units}
-use Rattle.isl_omega.specs.Work.{IsCutUpTo, IsChargedBy, IsCutAfter}
+use Rattle.isl_meter.specs.Gauge.{IsCutUpTo, IsChargedUpTo}
+use Rattle.isl_meter.proofs.UnitLemmas.{charged_same, charged_bits, charged_weaker, charged_within, cut_weaker, cut_within}
 use Rattle.isl_elim.proofs.AddsLemmas.{adds_kept}
 use Rattle.isl_elim.proofs.ResidueLemmas.{residues_first, residues_next, residues_done}
 use Rattle.isl_elim.proofs.UnitLemmas.{residues_units_not_negative, residue_units_positive, residues_units_most, residue_turn, residue_next}
-use Rattle.isl_omega.proofs.WorkLemmas.{charged_same, charged_by, charged_by_bits, charged_by_weaker, charged_within, cut_by, cut_after_weaker, cut_within}
 use Rattle.isl_elim.proofs.residue.push_residues.Goals as goal
 
 pub returns-in_err-period : goal.returns-in_err-period
@@ -16,8 +16,8 @@ returns-in_err-period c =
     let g = c.args.meter.now in
     let k = c.common_period.new.meter in
     let s = c.args.sides.now in
-    let own : IsCutUpTo 0 g k Overflow = grind arith in
-    let cut = cut_after_weaker (pos 0) (residues_units c.args.col s) g k Overflow (residues_units_not_negative g c.args.columns c.args.col s c.requires.sided) (cut_by 0 g k Overflow own) in
+    let own : IsCutUpTo (pos 0) g k Overflow = grind arith in
+    let cut = cut_weaker (pos 0) (residues_units c.args.col s) g k Overflow (residues_units_not_negative g c.args.columns c.args.col s c.requires.sided) own in
     grind arith
 
 pub residues-init : goal.residues-init
@@ -32,7 +32,7 @@ residues-init c =
     let same : k ≡ g = grind arith in
     record {
       added = residues_first g c.args.columns c.args.col s p (pos 0) c.args.systems.now.items is.positive refl;
-      charged = rw same (charged_by_weaker (pos 0) (pos 0 *ℤ x) g g (omega (arith, linear)) (charged_by 0 g g (charged_same g g refl)));
+      charged = rw same (charged_weaker (pos 0) (pos 0 *ℤ x) g g (omega (arith, linear)) (charged_same g g refl));
       within = grind (arith, common_steps);
       not_negative = omega (arith, linear);
       not_above = omega (arith, linear);
@@ -49,7 +49,7 @@ returns-in_err-push_residue c =
     let x = residue_units c.args.col p s in
     let e = c.in_err-push_residue.field-0.0 in
     let is : IsPeriod c.args.col s.apart p = grind arith in
-    let own : IsCutAfter x h k e = grind arith in
+    let own : IsCutUpTo x h k e = grind arith in
     let low : t <ℤ p = grind (arith, linear) in
     let one = residue_units_positive g c.args.columns c.args.col p s is.positive c.requires.sided in
     let most = residues_units_most g c.args.columns c.args.col p s c.requires.sided is in
@@ -74,8 +74,8 @@ residues-preserved c =
     let same : c.add.new.meter ≡ k = grind arith in
     let P = HasResidue s c.args.col p t in
     let more : Adds h (c.args.columns - 1) P before after = grind arith in
-    let own : IsChargedBy x h k = grind arith in
-    let kept = adds_kept g h (c.args.columns - 1) P before after (charged_by_bits (t *ℤ x) g h c.residues.invariant.charged) more in
+    let own : IsChargedUpTo x h k = grind arith in
+    let kept = adds_kept g h (c.args.columns - 1) P before after (charged_bits (t *ℤ x) g h c.residues.invariant.charged) more in
     record {
       added = residues_next g c.args.columns c.args.col s p t u c.args.systems.now.items before after start low next c.residues.invariant.added kept;
       charged = rw same (charged_within x (t *ℤ x) (u *ℤ x) g h k (residue_next t u x next) c.residues.invariant.charged own);
@@ -98,5 +98,5 @@ returns c =
     let all : t ≡ p = omega (arith, linear) in
     let most = residues_units_most g c.args.columns c.args.col p s c.requires.sided is in (
       residues_done g c.args.columns c.args.col s p t c.args.systems.now.items c.residues.systems.items is.positive high c.residues.invariant.added,
-      charged_by_weaker (p *ℤ x) (residues_units c.args.col s) g h most (rw all at c.residues.invariant.charged),
+      charged_weaker (p *ℤ x) (residues_units c.args.col s) g h most (rw all at c.residues.invariant.charged),
     )

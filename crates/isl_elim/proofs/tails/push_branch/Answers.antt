@@ -2,10 +2,10 @@ use Rattle.std.proofs.Common.{◌≡◌, ◌-◌, ◌+◌, ◌<◌, pos, ◌+ℤ
 use Rattle.std.proofs.lemmas.Grind.{common_steps}
 use Rattle.isl_elim.specs.Adds.{Adds}
 use Rattle.isl_elim.specs.Branch.{HasSplinter, tail_total}
-use Rattle.isl_omega.specs.Work.{IsChargedBy, IsCutAfter}
+use Rattle.isl_meter.specs.Gauge.{IsChargedUpTo, IsCutUpTo}
+use Rattle.isl_meter.proofs.UnitLemmas.{charged_bits, charged_more, cut_within, memory_after}
 use Rattle.isl_elim.proofs.AddsLemmas.{adds_kept}
 use Rattle.isl_elim.proofs.TailLemmas.{tail_next, tails_done, total_next, total_part, total_not_negative}
-use Rattle.isl_omega.proofs.WorkLemmas.{charged_by_bits, charged_by_more, cut_within, memory_after}
 use Rattle.isl_elim.proofs.tails.push_branch.Goals as goal
 
 pub returns-in_err-push_left-clause-exact : goal.returns-in_err-push_left-clause-exact
@@ -26,7 +26,7 @@ returns-in_err-push_splinters-clause-exact c =
     let inside : i < length tails = grind (arith, common_steps) in
     let at : t ≡ get_or tails i t = grind (arith, common_steps) in
     let part : (tail_total (take i tails) +ℤ (t.last +ℤ pos 1)) ≤ℤ tail_total tails = rw (total_next tails i t inside at) at (total_part g c.args.columns c.args.col (i + 1) tails c.requires.branch.tails) in
-    let own : IsCutAfter (t.last +ℤ pos 1) h k c.in_err-push_splinters.field-0.0 = grind arith in
+    let own : IsCutUpTo (t.last +ℤ pos 1) h k c.in_err-push_splinters.field-0.0 = grind arith in
     let cut = cut_within (t.last +ℤ pos 1) (tail_total (take i tails)) (tail_total tails) g h k c.in_err-push_splinters.field-0.0 part c.loop-tail.invariant.charged own in
     grind arith
 
@@ -44,11 +44,11 @@ loop-tail-preserved c =
     let same : c.as_slice.result.now ≡ branch.rows = grind arith in
     let some : Adds h (c.args.columns - 1) (λ point. HasSplinter c.as_slice.result.now c.args.col point t) c.loop-tail.systems.items c.push_splinters.new.systems.items = grind arith in
     let more : Adds h (c.args.columns - 1) (λ point. HasSplinter branch.rows c.args.col point t) c.loop-tail.systems.items c.push_splinters.new.systems.items = rw same at some in
-    let own : IsChargedBy (t.last +ℤ pos 1) h k = grind arith in
-    let kept = adds_kept g h (c.args.columns - 1) (λ point. HasSplinter branch.rows c.args.col point t) c.loop-tail.systems.items c.push_splinters.new.systems.items (charged_by_bits (tail_total (take i tails)) g h c.loop-tail.invariant.charged) more in
+    let own : IsChargedUpTo (t.last +ℤ pos 1) h k = grind arith in
+    let kept = adds_kept g h (c.args.columns - 1) (λ point. HasSplinter branch.rows c.args.col point t) c.loop-tail.systems.items c.push_splinters.new.systems.items (charged_bits (tail_total (take i tails)) g h c.loop-tail.invariant.charged) more in
     record {
       added = tail_next g c.args.columns c.args.col branch i t c.args.systems.now.items c.loop-tail.systems.items c.push_splinters.new.systems.items inside at c.loop-tail.invariant.added kept;
-      charged = rw (total_next tails i t inside at) (charged_by_more (tail_total (take i tails)) (t.last +ℤ pos 1) g h k c.loop-tail.invariant.charged own);
+      charged = rw (total_next tails i t inside at) (charged_more (tail_total (take i tails)) (t.last +ℤ pos 1) g h k c.loop-tail.invariant.charged own);
     }
 
 pub returns-clause-exact : goal.returns-clause-exact

@@ -1,11 +1,11 @@
-use Rattle.std.proofs.Common.{◌≡◌, ◌-◌, ◌++◌, refl, arith}
+use Rattle.std.proofs.Common.{◌≡◌, ◌-◌, ◌++◌, refl, arith, pos}
 use Rattle.std.specs.Prelude.{option_to_list}
 use Rattle.isl_elim.specs.Branch.{HasValue}
 use Rattle.isl_omega.specs.Column.{IsSystemOf}
-use Rattle.isl_omega.specs.Work.{IsChargedUpTo}
+use Rattle.isl_meter.specs.Gauge.{IsChargedUpTo}
+use Rattle.isl_meter.proofs.UnitLemmas.{charged_same, charged_unit, charged_bits}
 use Rattle.isl_elim.proofs.AddsLemmas.{system_of_kept}
 use Rattle.isl_elim.proofs.TailLemmas.{adds_option}
-use Rattle.isl_omega.proofs.WorkLemmas.{charged_same, charged_unit, charged_bits}
 use Rattle.isl_elim.proofs.tails.push_splinter.Goals as goal
 
 pub returns-clause-exact : goal.returns-clause-exact
@@ -14,9 +14,9 @@ returns-clause-exact c =
     let h = c.unit.new.self in
     let left = c.in_ok-left.left in
     let P = HasValue c.args.rows.now c.args.col c.args.bound.now c.args.i in
-    let charged : IsChargedUpTo 1 g h = charged_unit 0 g g h (charged_same g g refl) (grind arith) in
+    let charged : IsChargedUpTo (pos 1) g h = charged_unit (pos 0) g g h (charged_same g g refl) (grind arith) in
     let solved : IsSystemOf h (c.args.columns - 1) P left = grind arith in
     let pushed : c.push_left.new.systems.items ≡ c.args.systems.now.items ++ option_to_list left = grind arith in (
-      adds_option g (c.args.columns - 1) P left c.args.systems.now.items c.push_left.new.systems.items (system_of_kept g h (c.args.columns - 1) P left (charged_bits 1 g h charged) solved) pushed,
+      adds_option g (c.args.columns - 1) P left c.args.systems.now.items c.push_left.new.systems.items (system_of_kept g h (c.args.columns - 1) P left (charged_bits (pos 1) g h charged) solved) pushed,
       grind arith,
     )

@@ -2,10 +2,10 @@ use Rattle.std.proofs.Common.{◌≡◌, ◌-◌, pos, ◌+ℤ◌, ◌≤ℤ◌,
 use Rattle.isl_math.proofs.Ring.{linear}
 use Rattle.isl_elim.specs.Adds.{Adds}
 use Rattle.isl_elim.specs.Branch.{HasValue}
-use Rattle.isl_omega.specs.Work.{IsChargedUpTo}
+use Rattle.isl_meter.specs.Gauge.{IsChargedUpTo}
+use Rattle.isl_meter.proofs.UnitLemmas.{charged_same, charged_more, charged_bits}
 use Rattle.isl_elim.proofs.AddsLemmas.{adds_kept}
 use Rattle.isl_elim.proofs.TailLemmas.{below_first, below_next, below_last}
-use Rattle.isl_omega.proofs.WorkLemmas.{charged_same, charged_by, charged_by_more, charged_by_bits}
 use Rattle.isl_elim.proofs.tails.push_splinters.Goals as goal
 
 pub values-init : goal.values-init
@@ -14,7 +14,7 @@ values-init c =
     let low = c.requires.tail.not_below in
     record {
       added = below_first g c.args.columns c.args.col c.args.rows.now c.args.tail.now (pos 0) c.args.systems.now.items c.requires.bound refl;
-      charged = charged_by 0 g g (charged_same g g refl);
+      charged = charged_same g g refl;
       not_negative = omega (arith, linear);
       not_above = omega (arith, linear);
     }
@@ -29,15 +29,15 @@ values-preserved c =
     let t = c.args.tail.now in
     let P = HasValue c.args.rows.now c.args.col t.lower i in
     let more : Adds h (c.args.columns - 1) P c.values.systems.items c.push_splinter.new.systems.items = grind arith in
-    let unit : IsChargedUpTo 1 h k = grind arith in
+    let unit : IsChargedUpTo (pos 1) h k = grind arith in
     let next : j ≡ i +ℤ pos 1 = grind arith in
     let same : c.add.new.meter ≡ k = grind arith in
     let low : i ≤ℤ t.last = grind (arith, linear) in
     let start = c.values.invariant.not_negative in
-    let kept = adds_kept g h (c.args.columns - 1) P c.values.systems.items c.push_splinter.new.systems.items (charged_by_bits i g h c.values.invariant.charged) more in
+    let kept = adds_kept g h (c.args.columns - 1) P c.values.systems.items c.push_splinter.new.systems.items (charged_bits i g h c.values.invariant.charged) more in
     record {
       added = below_next g c.args.columns c.args.col c.args.rows.now t i j c.args.systems.now.items c.values.systems.items c.push_splinter.new.systems.items next c.values.invariant.added kept;
-      charged = rw (next, same) (charged_by_more i (pos 1) g h k c.values.invariant.charged (charged_by 1 h k unit));
+      charged = rw (next, same) (charged_more i (pos 1) g h k c.values.invariant.charged unit);
       not_negative = omega (arith, linear);
       not_above = omega (arith, linear);
     }

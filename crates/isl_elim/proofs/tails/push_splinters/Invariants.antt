@@ -1,13 +1,13 @@
 use Rattle.std.proofs.Common.{◌-◌, pos, ◌+ℤ◌, ◌-ℤ◌, ◌≤ℤ◌, unsigned_abs}
 use Rattle.isl_elim.specs.Adds.{Adds}
-use Rattle.isl_omega.specs.Work.{IsChargedBy}
+use Rattle.isl_meter.specs.Gauge.{IsChargedUpTo}
 use Rattle.isl_elim.proofs.TailLemmas.{HasSplinterBelow}
 use Rattle.isl_elim.proofs.tails.push_splinters.Given as goal
 
 abbrev pub invariant-values : goal.invariant-values
 invariant-values l = record {
   added : Adds l.fn.meter (l.columns - 1) (λ point. HasSplinterBelow l.rows l.col point l.tail l.i) l.fn.systems.items l.systems.items;
-  charged : IsChargedBy l.i l.fn.meter l.meter;
+  charged : IsChargedUpTo l.i l.fn.meter l.meter;
   not_negative : pos 0 ≤ℤ l.i;
   not_above : l.i ≤ℤ (l.tail.last +ℤ pos 1);
 }

@@ -1,9 +1,10 @@
-use Rattle.std.proofs.Common.{◌≡◌, ◌≤◌, drop}
+use Rattle.std.proofs.Common.{◌≡◌, ◌-◌, ◌≤◌, length}
 use Rattle.isl_formula.specs.Ahead.{holds}
 use Rattle.isl_formula.proofs.ahead.holds.Given as goal
 
-abbrev pub invariant-loop-token : goal.invariant-loop-token
-invariant-loop-token l = record {
-  same : holds l.mark l.tokens 0 ≡ holds l.mark (drop l.token-index l.tokens) l.level;
-  few : l.level ≤ l.token-index;
+abbrev pub invariant-loop-turn : goal.invariant-loop-turn
+invariant-loop-turn l = record {
+  same : holds l.mark l.initial.rest 0 ≡ holds l.mark l.rest l.level;
+  few : l.level ≤ l._turn;
+  left : length l.rest ≡ l._turn-end - l._turn;
 }

@@ -11,4 +11,5 @@ invariant-loop-i l =
     (l.rows ++ map (added (width_of l.places)) (written_list (width_of l.places) (place_in l.places) (drop l.i l.formulas))
     ≡ l.fn.rows ++ map (added (width_of l.places)) (written_list (width_of l.places) (place_in l.places) l.formulas))
     × All (IsRowWithin l.fn.meter) l.rows × (l.meter ≡ l.fn.meter)
-    × (ChainsPass l.fn.meter (width_of l.places) (place_in l.places) (drop l.i l.formulas) → ChainsPass l.fn.meter (width_of l.places) (place_in l.places) l.formulas)
+    × (ChainsPass l.fn.meter (width_of l.places) (place_in l.places) (drop l.i l.formulas) → ChainsPass l.fn.meter (width_of l.places)
+    (place_in l.places) l.formulas)

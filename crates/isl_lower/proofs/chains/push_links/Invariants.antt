@@ -11,4 +11,5 @@ invariant-loop-i l =
     (l.rows ++ map (added (width_of l.places)) (written_links (width_of l.places) (place_in l.places) (l.left ∷ []) (drop l.i l.links))
     ≡ l.fn.rows ++ map (added (width_of l.places)) (written_links (width_of l.places) (place_in l.places) (l.fn.first ∷ []) l.links))
     × All (IsRowWithin l.fn.meter) l.rows × (l.meter ≡ l.fn.meter)
-    × (LinksPass l.fn.meter (width_of l.places) (place_in l.places) (l.left ∷ []) (drop l.i l.links) → LinksPass l.fn.meter (width_of l.places) (place_in l.places) (l.fn.first ∷ []) l.links)
+    × (LinksPass l.fn.meter (width_of l.places) (place_in l.places) (l.left ∷ []) (drop l.i l.links) → LinksPass l.fn.meter
+    (width_of l.places) (place_in l.places) (l.fn.first ∷ []) l.links)

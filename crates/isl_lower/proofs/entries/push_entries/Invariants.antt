@@ -8,7 +8,10 @@ use Rattle.isl_lower.proofs.entries.push_entries.Given as goal
 
 abbrev pub invariant-loop-i : goal.invariant-loop-i
 invariant-loop-i l =
-    (l.rows ++ map (added (width_of l.places)) (placed_entries (width_of l.places) (place_in l.places) (brings_in l.places) (drop l.i l.entries) (l.first + l.i))
-    ≡ l.fn.rows ++ map (added (width_of l.places)) (placed_entries (width_of l.places) (place_in l.places) (brings_in l.places) l.entries l.first))
+    (l.rows ++ map (added (width_of l.places))
+    (placed_entries (width_of l.places) (place_in l.places) (brings_in l.places) (drop l.i l.entries) (l.first + l.i))
+    ≡ l.fn.rows ++ map (added (width_of l.places))
+    (placed_entries (width_of l.places) (place_in l.places) (brings_in l.places) l.entries l.first))
     × All (IsRowWithin l.fn.meter) l.rows × (l.meter ≡ l.fn.meter)
-    × (EntriesPass l.fn.meter (width_of l.places) (place_in l.places) (drop l.i l.entries) (l.first + l.i) → EntriesPass l.fn.meter (width_of l.places) (place_in l.places) l.entries l.first)
+    × (EntriesPass l.fn.meter (width_of l.places) (place_in l.places) (drop l.i l.entries) (l.first + l.i) → EntriesPass l.fn.meter
+    (width_of l.places) (place_in l.places) l.entries l.first)

@@ -8,4 +8,5 @@ pub returns-in-And : goal.returns-in-And
 returns-in-And c =
     let params = c.args.places.now.params.now in
     let entries = c.args.places.now.first.now ++ c.args.places.now.second.now in
-    placed_and params entries c.args.formula.now c.in-And.parts c.chains_are_placed.result c.in-And.is (c.chains_are_placed.ensures ∙ ap (list_all (is_placed_chain params entries)) c.as_slice.ensures)
+    placed_and params entries c.args.formula.now c.in-And.parts c.chains_are_placed.result c.in-And.is
+    (c.chains_are_placed.ensures ∙ ap (list_all (is_placed_chain params entries)) c.as_slice.ensures)

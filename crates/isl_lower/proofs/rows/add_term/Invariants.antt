@@ -6,5 +6,6 @@ use Rattle.isl_lower.specs.Width.{width_of, place_in}
 use Rattle.isl_lower.proofs.rows.add_term.Given as goal
 
 abbrev pub invariant-loop-i : goal.invariant-loop-i
-invariant-loop-i l = (l.row ≡ with_amounts l.fn.row (map (turned l.takes) (amounts_of (width_of l.places) (place_in l.places) (take l.i l.term))))
+invariant-loop-i l =
+    (l.row ≡ with_amounts l.fn.row (map (turned l.takes) (amounts_of (width_of l.places) (place_in l.places) (take l.i l.term))))
     × All (IsWithin l.fn.meter) l.row × (l.meter ≡ l.fn.meter) × (length l.row ≡ length l.fn.row)

@@ -6,4 +6,5 @@ use Rattle.isl_lower.proofs.value.lower_pieces.Given as goal
 
 abbrev pub invariant-loop-piece : goal.invariant-loop-piece
 invariant-loop-piece l =
-    (map kept_piece l.kept.items ≡ filter_map (piece_lowered l.params) (take l.piece-index l.pieces)) × All (IsLoweredPiece l.initial.meter l.params) l.kept.items × (l.meter ≡ l.initial.meter)
+    (map kept_piece l.kept.items ≡ filter_map (piece_lowered l.params) (take l.piece-index l.pieces)) × All
+    (IsLoweredPiece l.initial.meter l.params) l.kept.items × (l.meter ≡ l.initial.meter)

@@ -1,12 +1,12 @@
-use Rattle.std.proofs.Common.{◌≡◌, ◌+◌, ◌*◌, ◌<◌, ◌++◌, ◌∷◌, [], length, take, refl, sym, ◌∙◌, ap, arith}
+use Rattle.std.proofs.Common.{◌≡◌, ◌+◌, ◌*◌, ◌<◌, ◌++◌, ◌∷◌, [], length, take, refl, sym, ◌∙◌, ap, arith, pos}
 use Rattle.std.proofs.lemmas.Grind.{common_steps}
 use Rattle.std.proofs.lemmas.List.{take_more}
 use Rattle.isl_piece.specs.declared.constraint.Row.{Row}
 use Rattle.isl_meter.specs.declared.Cut.TheVariants.{NoMemory}
 use Rattle.isl_omega.specs.Shadow.{HasTail}
-use Rattle.isl_omega.specs.Work.{IsChargedUpTo, IsCutUpTo}
+use Rattle.isl_meter.specs.Gauge.{IsChargedUpTo, IsCutUpTo}
+use Rattle.isl_meter.proofs.UnitLemmas.{charged_none, charged_turn, charged_bits, cut_turn, cut_late, no_memory}
 use Rattle.isl_omega.proofs.ShadowLists.{shadow_none, tail_kept, shadow_more}
-use Rattle.isl_omega.proofs.WorkLemmas.{charged_none, charged_turn, charged_bits, cut_turn, cut_late, no_memory}
 use Rattle.isl_omega.proofs.shadow.shadow.Goals as goal
 
 pub loop-lower-init : goal.loop-lower-init
@@ -26,9 +26,9 @@ loop-lower-preserved c =
     let k = c.tail_of.new.meter in
     let tail = c.in_ok-tail.tail in
     let inside : i < length lowers = grind (arith, common_steps) in
-    let charged : IsChargedUpTo (length uppers) h k = grind arith in
+    let charged : IsChargedUpTo (pos (length uppers)) h k = grind arith in
     let more : HasTail h c.args.columns c.args.col c.args.neighbours l uppers c.loop-lower.rows c.tail_of.new.rows tail = grind arith in
-    let start = charged_bits (i * length uppers) g h c.loop-lower.invariant.charged in
+    let start = charged_bits (pos (i * length uppers)) g h c.loop-lower.invariant.charged in
     let pushed : c.push.new.self.items ≡ c.loop-lower.tails.items ++ tail ∷ [] = grind arith in
     let taken : take (i + 1) lowers ≡ take i lowers ++ l ∷ [] = take_more lowers i l inside ∙ ap (λ (s : Row). take i lowers ++ s ∷ []) (sym c.lower-item.is) in
     record {
@@ -46,7 +46,7 @@ returns-in_err-tail-clause-exact c =
     let h = c.loop-lower.meter in
     let k = c.tail_of.new.meter in
     let inside : i < length lowers = grind (arith, common_steps) in
-    let cut : IsCutUpTo (length uppers) h k c.in_err-tail.field-0.0 = grind arith in
+    let cut : IsCutUpTo (pos (length uppers)) h k c.in_err-tail.field-0.0 = grind arith in
     let all = cut_turn i (length lowers) (length uppers) g h k c.in_err-tail.field-0.0 inside c.loop-lower.invariant.charged cut in
     grind arith
 
@@ -59,6 +59,6 @@ returns-in_err-push-clause-exact c =
     let h = c.loop-lower.meter in
     let k = c.tail_of.new.meter in
     let inside : i < length lowers = grind (arith, common_steps) in
-    let charged : IsChargedUpTo (length uppers) h k = grind arith in
+    let charged : IsChargedUpTo (pos (length uppers)) h k = grind arith in
     let all = cut_late i (length lowers) (length uppers) g h k k NoMemory inside c.loop-lower.invariant.charged charged (no_memory k k refl) in
     grind arith

@@ -1,10 +1,10 @@
-use Rattle.std.proofs.Common.{◌*◌, length, take}
+use Rattle.std.proofs.Common.{◌*◌, length, take, pos}
 use Rattle.isl_omega.specs.Shadow.{IsShadow}
-use Rattle.isl_omega.specs.Work.{IsChargedUpTo}
+use Rattle.isl_meter.specs.Gauge.{IsChargedUpTo}
 use Rattle.isl_omega.proofs.shadow.shadow.Given as goal
 
 abbrev pub invariant-loop-lower : goal.invariant-loop-lower
 invariant-loop-lower l = record {
   is_shadow : IsShadow l.fn.meter l.columns l.col l.neighbours (take l.lower-index l.lowers) l.uppers l.rows l.tails.items;
-  charged : IsChargedUpTo (l.lower-index * length l.uppers) l.fn.meter l.meter;
+  charged : IsChargedUpTo (pos (l.lower-index * length l.uppers)) l.fn.meter l.meter;
 }

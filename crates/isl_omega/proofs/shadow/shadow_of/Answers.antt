@@ -1,12 +1,13 @@
-use Rattle.std.proofs.Common.{◌≡◌, ◌+◌, ◌<◌, ◌++◌, ◌∷◌, [], length, take, refl, sym, ◌∙◌, ap, IsTrue, arith}
+use Rattle.std.proofs.Common.{◌≡◌, ◌+◌, ◌<◌, ◌++◌, ◌∷◌, [], length, take, refl, sym, ◌∙◌, ap, IsTrue, arith, pos}
 use Rattle.std.proofs.lemmas.Grind.{common_steps}
 use Rattle.std.proofs.lemmas.List.{take_more}
 use Rattle.isl_piece.specs.declared.constraint.Row.{Row}
 use Rattle.isl_piece.specs.Row.{IsRowWithin}
 use Rattle.isl_omega.specs.Shadow.{IsDarkRow, IsExact, IsShadowSoFar}
-use Rattle.isl_omega.specs.Work.{IsChargedUpTo}
+use Rattle.isl_meter.specs.Gauge.{IsChargedUpTo}
+use Rattle.isl_meter.proofs.UnitLemmas.{charged_same, charged_unit, charged_bits}
+use Rattle.isl_piece.proofs.RowMagnitudes.{row_within_kept}
 use Rattle.isl_omega.proofs.ShadowRows.{so_far_none, so_far_more, shadow_is}
-use Rattle.isl_omega.proofs.WorkLemmas.{charged_same, charged_unit, charged_bits, row_within_kept}
 use Rattle.isl_omega.proofs.shadow.shadow_of.Goals as goal
 
 pub loop-upper-init : goal.loop-upper-init
@@ -23,9 +24,9 @@ loop-upper-preserved c =
     let g = c.args.meter.now in
     let pair = c.in_ok-pair.pair in
     let inside : i < length uppers = grind (arith, common_steps) in
-    let charged : IsChargedUpTo (i + 1) g c.unit.new.self = charged_unit i g c.loop-upper.meter c.unit.new.self c.loop-upper.invariant.charged (grind arith) in
+    let charged : IsChargedUpTo (pos (i + 1)) g c.unit.new.self = charged_unit (pos i) g c.loop-upper.meter c.unit.new.self c.loop-upper.invariant.charged (grind arith) in
     let dark : IsDarkRow c.args.columns c.args.col c.args.lower.now u pair.dark = grind arith in
-    let within : IsRowWithin g pair.dark = row_within_kept g c.unit.new.self pair.dark (charged_bits (i + 1) g c.unit.new.self charged) (grind arith) in
+    let within : IsRowWithin g pair.dark = row_within_kept g c.unit.new.self pair.dark (charged_bits (pos (i + 1)) g c.unit.new.self charged) (grind arith) in
     let exact : IsTrue pair.exact → IsExact c.args.columns c.args.col c.args.lower.now u = grind arith in
     let pushed : c.push.new.self ≡ c.loop-upper.rows ++ pair.dark ∷ [] = grind arith in
     let taken : take (i + 1) uppers ≡ take i uppers ++ u ∷ [] = take_more uppers i u inside ∙ ap (λ (s : Row). take i uppers ++ s ∷ []) (sym c.upper-item.is) in

@@ -1,10 +1,10 @@
-use Rattle.std.proofs.Common.{◌≡◌, ◌+ℤ◌, length, arith, ◌^◌, ◌∙◌}
-use Rattle.isl_meter.specs.Gauge.{IsWithin}
+use Rattle.std.proofs.Common.{◌≡◌, ◌+ℤ◌, length, arith, ◌^◌, ◌∙◌, pos}
+use Rattle.isl_meter.specs.Gauge.{IsWithin, IsChargedUpTo}
 use Rattle.isl_piece.specs.Row.{coef_at}
 use Rattle.isl_omega.specs.declared.shadow.Tail.{Tail}
 use Rattle.isl_omega.specs.Shadow.{extra, IsShadowOf}
-use Rattle.isl_omega.specs.Work.{IsChargedUpTo}
-use Rattle.isl_omega.proofs.WorkLemmas.{charged_bits, within_kept}
+use Rattle.isl_meter.proofs.UnitLemmas.{charged_bits}
+use Rattle.isl_meter.proofs.LimitLemmas.{within_kept}
 use Rattle.isl_omega.proofs.SmallLemmas.{coef_up_to}
 use Rattle.isl_omega.proofs.SmallPairs.{shadow_last}
 use Rattle.isl_omega.proofs.shadow.tail_of.Goals as goal
@@ -17,12 +17,12 @@ returns-clause-exact c =
     let k = c.shadow_of.new.meter in
     let last = c.in_ok-last.last in
     let tail : Tail = record { lower = c.in_ok-copy.field-0; last = c.in_ok-last-2.last } in
-    let charged : IsChargedUpTo (length uppers) g k = grind arith in
+    let charged : IsChargedUpTo (pos (length uppers)) g k = grind arith in
     let shadow : IsShadowOf g c.args.columns c.args.col lower uppers c.args.rows.now c.shadow_of.new.rows last = grind arith in
     let same : tail.lower ≡ lower = grind arith in
     let value : tail.last ≡ last +ℤ extra c.args.neighbours (coef_at lower c.args.col) = grind arith in
     let within : IsWithin k tail.last = grind arith in (
-      record { last = last; shadow = shadow; same = same; value = value; within = within_kept g k tail.last (charged_bits (length uppers) g k charged) within },
+      record { last = last; shadow = shadow; same = same; value = value; within = within_kept g k tail.last (charged_bits (pos (length uppers)) g k charged) within },
       grind arith,
     )
 
@@ -33,7 +33,7 @@ returns-in_err-last-2-clause-small c = λ bits low up.
     let g = c.args.meter.now in
     let k = c.shadow_of.new.meter in
     let last = c.in_ok-last.last in
-    let charged : IsChargedUpTo (length uppers) g k = grind arith in
+    let charged : IsChargedUpTo (pos (length uppers)) g k = grind arith in
     let shadow : IsShadowOf g c.args.columns c.args.col lower uppers c.args.rows.now c.shadow_of.new.rows last = grind arith in
     let at : c.get.result ≡ coef_at lower c.args.col = grind arith in
-    absurd (c.in_err-last-2.ensures.small (charged_bits (length uppers) g k charged ∙ bits) (shadow_last g c.args.columns c.args.col lower uppers c.args.rows.now c.shadow_of.new.rows last shadow c.requires.lower low up) (rw at (coef_up_to (2 ^ 62) lower c.args.col low)))
+    absurd (c.in_err-last-2.ensures.small (charged_bits (pos (length uppers)) g k charged ∙ bits) (shadow_last g c.args.columns c.args.col lower uppers c.args.rows.now c.shadow_of.new.rows last shadow c.requires.lower low up) (rw at (coef_up_to (2 ^ 62) lower c.args.col low)))

@@ -1,40 +1,43 @@
-use Rattle.std.proofs.Common.{◌≡◌, refl, Some}
+use Rattle.std.proofs.Common.{◌≡◌, Some}
 use Rattle.isl_piece.specs.declared.conjunction.System.{System}
 use Rattle.isl_piece.specs.Normal.{normal_system}
-use Rattle.isl_piece.proofs.SystemLaws.{normal_system-Some, normal_system-None, found_none, found_points, found_normal, found_within, found_up_to, missing_none, missing_points}
+use Rattle.isl_piece.proofs.SystemLaws.{normal_system-Some, found_none, found_points, found_normal, found_within, found_up_to}
+use Rattle.isl_piece.proofs.SystemLaws.{normal_system-None, missing_none, missing_points}
 use Rattle.isl_piece.proofs.conjunction.normalise.Goals as goal
-use Rattle.isl_piece.proofs.conjunction.normalise.Goals.{Then-normalise}
+use Rattle.isl_piece.proofs.conjunction.normalise.Goals.{Then-branch}
 
 -- the system that was made
-made : Then-normalise → System
+made : Then-branch → System
 made c = record { columns = c.args.system.columns; rows = c.normalise.new.self }
 
-found : (c : Then-normalise) → normal_system c.args.system ≡ Some (made c)
+found : (c : Then-branch) → normal_system c.args.system ≡ Some (made c)
 unfolding made
-found c = normal_system-Some c.args.system c.normalise.new.self (c.if-normalise.ensures.kept refl)
+found c = normal_system-Some c.args.system c.normalise.new.self (c.in_ok-normalise.ensures.kept c.if-branch.true)
 
-pub returns-then-normalise-clause-none : goal.returns-then-normalise-clause-none
+pub returns-then-branch-clause-none : goal.returns-then-branch-clause-none
 unfolding made
-returns-then-normalise-clause-none c = found_none c.args.system c.args.meter.now c.requires (made c) (found c)
+returns-then-branch-clause-none c = found_none c.args.system c.args.meter.now c.requires (made c) (found c)
 
-pub returns-then-normalise-clause-points : goal.returns-then-normalise-clause-points
+pub returns-then-branch-clause-points : goal.returns-then-branch-clause-points
 unfolding made
-returns-then-normalise-clause-points c = found_points c.args.system c.args.meter.now c.requires (made c) (found c)
+returns-then-branch-clause-points c = found_points c.args.system c.args.meter.now c.requires (made c) (found c)
 
-pub returns-then-normalise-clause-normal : goal.returns-then-normalise-clause-normal
+pub returns-then-branch-clause-normal : goal.returns-then-branch-clause-normal
 unfolding made
-returns-then-normalise-clause-normal c = found_normal c.args.system c.args.meter.now c.requires (made c) (found c)
+returns-then-branch-clause-normal c = found_normal c.args.system c.args.meter.now c.requires (made c) (found c)
 
-pub returns-then-normalise-clause-within : goal.returns-then-normalise-clause-within
+pub returns-then-branch-clause-within : goal.returns-then-branch-clause-within
 unfolding made
-returns-then-normalise-clause-within c = found_within c.args.system c.args.meter.now c.requires (made c) (found c)
+returns-then-branch-clause-within c = found_within c.args.system c.args.meter.now c.requires (made c) (found c)
 
-pub returns-then-normalise-clause-magnitudes : goal.returns-then-normalise-clause-magnitudes
+pub returns-then-branch-clause-magnitudes : goal.returns-then-branch-clause-magnitudes
 unfolding made
-returns-then-normalise-clause-magnitudes c = found_up_to c.args.system c.args.meter.now c.requires (made c) (found c)
+returns-then-branch-clause-magnitudes c = found_up_to c.args.system c.args.meter.now c.requires (made c) (found c)
 
-pub returns-else-normalise-clause-none : goal.returns-else-normalise-clause-none
-returns-else-normalise-clause-none c = missing_none c.args.system c.args.meter.now c.requires (normal_system-None c.args.system (c.if-normalise.ensures.none refl))
+pub returns-else-branch-clause-none : goal.returns-else-branch-clause-none
+returns-else-branch-clause-none c =
+    missing_none c.args.system c.args.meter.now c.requires (normal_system-None c.args.system (c.in_ok-normalise.ensures.none c.if-branch.false))
 
-pub returns-else-normalise-clause-points : goal.returns-else-normalise-clause-points
-returns-else-normalise-clause-points c = missing_points c.args.system c.args.meter.now c.requires (normal_system-None c.args.system (c.if-normalise.ensures.none refl))
+pub returns-else-branch-clause-points : goal.returns-else-branch-clause-points
+returns-else-branch-clause-points c =
+    missing_points c.args.system c.args.meter.now c.requires (normal_system-None c.args.system (c.in_ok-normalise.ensures.none c.if-branch.false))

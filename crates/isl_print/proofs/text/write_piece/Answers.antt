@@ -8,7 +8,8 @@ use Rattle.isl_print.proofs.TextLaws.{names_enough, rows_enough, piece_written}
 use Rattle.isl_print.proofs.text.write_piece.Goals as goal
 
 pub write_tuples-requires-clause-enough : goal.write_tuples-requires-clause-enough
-write_tuples-requires-clause-enough c = names_enough c.args.params.now _ (space_form_of c.args.piece.now.space) _ (grind (arith, common_steps)) c.len.ensures.len
+write_tuples-requires-clause-enough c =
+    names_enough c.args.params.now _ (space_form_of c.args.piece.now.space) _ (grind (arith, common_steps)) c.len.ensures.len
 
 pub write_conjunction-requires : goal.write_conjunction-requires
 write_conjunction-requires c =

@@ -16,7 +16,7 @@ returns-clause-exact c =
     let rows : branch.rows ≡ rows_of sides = grind arith in
     let head : IsSystemOf g (c.args.columns - 1) (λ point. HoldAt sides.free c.args.col point (pos 0)) branch.head = grind arith in
     let both = open_is g c.args.columns c.args.col sides branch.rows branch.head branch c.requires.sided c.requires.divides c.requires.apart c.requires.open c.requires.col_in rows c.new.ensures.items head in
-    (both.0, both.1, grind arith)
+    ((both.0, both.1), grind arith)
 
 pub returns-clause-small : goal.returns-clause-small
 returns-clause-small c = λ bits small.

@@ -6,7 +6,7 @@ use Rattle.std.proofs.lemmas.Result.{err_from_is_err_and}
 use Rattle.isl_piece.specs.declared.constraint.Row.{Row}
 use Rattle.isl_piece.specs.Row.{IsRowUpTo, IsRowWithin, coef_at}
 use Rattle.isl_elim.specs.Branch.{shifted_row}
-use Rattle.isl_omega.proofs.Magnitudes.{up_to-neg}
+use Rattle.isl_math.proofs.MagnitudeLaws.{up_to-neg}
 use Rattle.isl_omega.proofs.SmallLemmas.{coef_up_to}
 use Rattle.isl_elim.proofs.branch.Branch.shifted.Goals as goal
 

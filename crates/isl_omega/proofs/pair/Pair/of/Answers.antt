@@ -3,7 +3,7 @@ use Rattle.isl_piece.specs.Row.{HoldsRow, coef_at}
 use Rattle.isl_omega.specs.Shadow.{ceiling, IsRealRow, IsDarkRow}
 use Rattle.isl_omega.proofs.PairLemmas.{dark_row_is, exact_is}
 use Rattle.std.proofs.lemmas.Result.{err_from_is_err_and}
-use Rattle.isl_omega.proofs.Magnitudes.{up_to-neg}
+use Rattle.isl_math.proofs.MagnitudeLaws.{up_to-neg}
 use Rattle.isl_omega.proofs.SmallLemmas.{coef_up_to}
 use Rattle.isl_omega.proofs.SmallPairs.{slack_up_to}
 use Rattle.isl_omega.proofs.pair.Pair.of.Goals as goal
@@ -18,11 +18,11 @@ returns-clause-exact c =
     let is : IsRealRow c.args.columns c.args.col lower upper d real = grind arith in
     let by : c.in_ok-by.by ≡ ceiling ((coef_at lower c.args.col -ℤ pos 1) *ℤ (neg_ℤ (coef_at upper c.args.col) -ℤ pos 1)) d = grind arith in
     let lowered : dark ≡ record real { constant = real.constant -ℤ c.in_ok-by.by } = grind arith in
-    let row : IsDarkRow c.args.columns c.args.col lower upper dark = dark_row_is c.args.columns c.args.col lower upper d real dark c.in_ok-by.by is by lowered in
+    let row : IsDarkRow c.args.columns c.args.col lower upper dark = dark_row_is c.args.meter.now c.args.columns c.args.col lower upper d real dark c.in_ok-by.by c.requires.lower c.requires.upper c.requires.col_in is by lowered in
     let tight : IsTrue c.in_ok-exact.exact → (xs : List ℤ) → HoldsRow real xs → HoldsRow dark xs = c.in_ok-exact.ensures in (
       row,
       grind arith,
-      (λ t. exact_is c.args.columns c.args.col lower upper d real dark is row (tight t)),
+      (λ t. exact_is c.args.meter.now c.args.columns c.args.col lower upper d real dark c.requires.lower c.requires.upper c.requires.col_in is row (tight t)),
       grind arith,
     )
 

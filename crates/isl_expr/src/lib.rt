@@ -1,0 +1,4 @@
+//! Statements and expressions as trees, and what kinds of value there are.
+#![tactic(auto)]
+
+pub mod tree;

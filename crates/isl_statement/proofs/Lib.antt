@@ -1,0 +1,10 @@
+pub mod Depth
+pub mod Operands
+pub mod WordReads
+pub mod Words
+pub mod ExpressionTaken
+pub mod StatementTaken
+pub mod ExpressionAgain
+pub mod StatementAgain
+pub mod LimitLaws
+pub mod ReadLaws

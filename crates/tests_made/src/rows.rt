@@ -1,0 +1,104 @@
+//! Rows, as they are written, and whether they may be handed to what works on systems.
+
+ghost use Rattle.std.specs.Prelude.{◌≡◌, All, true};
+ghost use Rattle.isl_meter.specs.Gauge.{IsWithin};
+ghost use Rattle.isl_piece.specs.Row.{HasDivisor, IsWellFormed, IsRowWithin};
+ghost use Rattle.isl_piece.specs.System.{IsSystemWithin};
+
+use isl_meter::{Int, Meter};
+use isl_piece::{Coefs, Row, RowKind, Rows, System};
+use std::alloc::{AllocError, Global};
+
+fn kind_of(word: &str) -> Option<RowKind> {
+    match word {
+        "=" => Some(RowKind::Zero),
+        ">=" => Some(RowKind::AtLeast),
+        "mod" => Some(RowKind::Divides),
+        "not-mod" => Some(RowKind::NotDivides),
+        _ => None,
+    }
+}
+
+fn numbers_of(alloc: Global, text: &str) -> Result<Vec<Int>, AllocError> {
+    let mut numbers = Vec::new(alloc);
+    for word in text.split_whitespace() {
+        if let Ok(number) = word.parse::<i128>() {
+            numbers.push(Int::new(number))?;
+        }
+    }
+    Ok(numbers)
+}
+
+// A row: its kind, the coefficients, the constant, and the divisor of a congruence.
+fn row_of(alloc: Global, text: &str) -> Result<Option<Row>, AllocError> {
+    let (word, rest) = text.split_once(' ').unwrap_or((text, ""));
+    let Some(kind) = kind_of(word) else {
+        return Ok(None);
+    };
+    let mut numbers = numbers_of(alloc, rest)?;
+    let divisor = match kind {
+        RowKind::Zero | RowKind::AtLeast => Int::ONE,
+        RowKind::Divides | RowKind::NotDivides => numbers.pop().unwrap_or(Int::ZERO),
+    };
+    let constant = numbers.pop().unwrap_or(Int::ZERO);
+    let coefs = Coefs::from_slice(alloc, &numbers)?;
+    Ok(Some(Row::new(kind, coefs, constant, divisor)))
+}
+
+/// The rows of all lines that have this key.
+pub fn rows_of(alloc: Global, case: &str, key: &str) -> Result<Rows, AllocError> {
+    let mut rows = Rows::new(alloc);
+    for line in case.lines() {
+        if let Some(text) = line.strip_prefix(key) {
+            if let Some(row) = row_of(alloc, text)? {
+                rows.push(row)?;
+            }
+        }
+    }
+    Ok(rows)
+}
+
+fn is_within(number: Int, meter: &Meter) -> bool
+    ensures { result ≡ true → IsWithin meter.now number }
+{
+    let limit = meter.limit();
+    -limit <= number.get() && number.get() <= limit
+}
+
+fn are_within(numbers: &[Int], meter: &Meter) -> bool
+    ensures { result ≡ true → All (IsWithin meter.now) numbers.now }
+{
+    numbers.iter().all(|number| is_within(*number, meter))
+}
+
+fn has_divisor(kind: RowKind, divisor: Int) -> bool
+    ensures { result ≡ true → HasDivisor kind divisor }
+{
+    match kind {
+        RowKind::Zero | RowKind::AtLeast => divisor == Int::ONE,
+        RowKind::Divides | RowKind::NotDivides => divisor.is_positive(),
+    }
+}
+
+/// Whether the row is one over so many columns, with numbers within the limit.
+pub fn is_proper_row(row: &Row, columns: usize, meter: &Meter) -> bool
+    ensures formed { result ≡ true → IsWellFormed columns row.now }
+    ensures within { result ≡ true → IsRowWithin meter.now row.now }
+{
+    row.coefs.len() == columns
+        && has_divisor(row.kind, row.modulus())
+        && is_within(row.modulus(), meter)
+        && is_within(row.offset(), meter)
+        && are_within(row.coefs.as_slice(), meter)
+}
+
+/// Whether the rows are such rows over the system's columns.
+pub fn is_proper(system: &System, meter: &Meter) -> bool
+    ensures { result ≡ true → IsSystemWithin meter.now system.now }
+{
+    system
+        .rows
+        .as_slice()
+        .iter()
+        .all(|row| is_proper_row(row, system.columns, meter))
+}

@@ -1,0 +1,116 @@
+//! Whole runs of the program over bytes in memory. The cases stand in the file `stdin`, whose head says how they are written.
+//! What differs is printed, and how many cases there were.
+#![tactic(auto)]
+
+use isl_io::{MemSink, MemSource, Source};
+use isl_session::run;
+use std::alloc::{AllocError, Global};
+use std::io;
+use tests_made::{Form, bytes, field, is_case, number, numbers, words};
+
+/// What a run comes to: the status, what was written to both sinks, and whether the source has bytes left.
+#[derive(Debug, Drop, PartialEq)]
+struct Outcome {
+    status: usize,
+    out: String,
+    err: String,
+    unread: bool,
+}
+
+const ROOM: usize = 1 << 16;
+
+fn text(alloc: Global, bytes: &[u8]) -> Result<String, AllocError> {
+    String::from_str(alloc, str::from_utf8(bytes).unwrap_or("(no text)"))
+}
+
+fn wanted(alloc: Global, case: &str) -> Result<Outcome, AllocError> {
+    Ok(Outcome {
+        status: number(case, "status ", 0),
+        out: text(alloc, &bytes(alloc, case, "out")?)?,
+        err: text(alloc, &bytes(alloc, case, "err")?)?,
+        unread: field(case, "unread").is_some(),
+    })
+}
+
+// The sink for answers.
+fn sink(alloc: Global, case: &str, at_most: usize) -> Result<MemSink, AllocError> {
+    let room = number(case, "room ", ROOM);
+    let most = number(case, "writes ", ROOM).min(at_most).max(1);
+    MemSink::new(alloc, room, most, numbers(alloc, case, "fail-writes ")?)
+}
+
+// What the program comes to, with so many bytes of a read or a write at most.
+fn found(alloc: Global, case: &str, at_most: usize) -> Result<Outcome, AllocError> {
+    let words = words(alloc, case, "words", "iscc")?;
+    let most = number(case, "reads ", ROOM).min(at_most).max(1);
+    let script = bytes(alloc, case, "script")?;
+    let mut src = MemSource::new(script, most, numbers(alloc, case, "fail-reads ")?);
+    let mut out = sink(alloc, case, at_most)?;
+    let mut err = MemSink::new(alloc, ROOM, ROOM, numbers(alloc, case, "fail-tells ")?)?;
+    let status = run(alloc, &words, &mut src, &mut out, &mut err);
+    Ok(Outcome {
+        status: usize::from(status.code()),
+        out: text(alloc, out.bytes())?,
+        err: text(alloc, err.bytes())?,
+        unread: src.read(&mut [0; 8]).is_ok_and(|n| n > 0),
+    })
+}
+
+// Whether a case comes to what is wanted.
+fn is_same(rt: &impl Print, alloc: Global, case: &str, at_most: usize) -> io::Result<bool> {
+    let wanted = wanted(alloc, case)?;
+    let found = found(alloc, case, at_most)?;
+    if found != wanted {
+        println!(rt; "{case}\n  {found:?}\n  wanted {wanted:?}")?;
+        return Ok(false);
+    }
+    Ok(true)
+}
+
+// The lines of a case.
+const FORMS: [(&str, Form); 20] = [
+    ("#", Form::Text),
+    ("case ", Form::Text),
+    ("words", Form::Text),
+    ("script ", Form::Text),
+    ("script-part ", Form::Text),
+    ("script-times ", Form::Counted),
+    ("script-byte ", Form::Number),
+    ("reads ", Form::Number),
+    ("writes ", Form::Number),
+    ("room ", Form::Number),
+    ("fail-reads ", Form::Numbers),
+    ("fail-writes ", Form::Numbers),
+    ("fail-tells ", Form::Numbers),
+    ("status ", Form::Number),
+    ("out ", Form::Text),
+    ("out-part ", Form::Text),
+    ("out-times ", Form::Counted),
+    ("err ", Form::Text),
+    ("err-part ", Form::Text),
+    ("unread", Form::Text),
+];
+
+// Whether a case is one, and comes to what is wanted, byte by byte too where no call is to fail.
+fn holds(rt: &impl Print, alloc: Global, case: &str) -> io::Result<bool> {
+    if !is_case(case, &FORMS) {
+        println!(rt; "no case:\n{case}")?;
+        return Ok(false);
+    }
+    let fails = field(case, "fail-").is_some() || field(case, "room ").is_some();
+    Ok(is_same(rt, alloc, case, ROOM)? && (fails || is_same(rt, alloc, case, 1)?))
+}
+
+fn main(rt: HostRuntime) -> io::Result<()> {
+    let alloc = rt.alloc();
+    let text = io::read_to_string(alloc, rt.reader())?;
+    let mut cases = 0u32;
+    let mut differ = 0u32;
+    for case in text.as_str().split("\n\n").skip(1) {
+        cases = cases.saturating_add(1);
+        if !holds(&rt, alloc, case)? {
+            differ = differ.saturating_add(1);
+        }
+    }
+    println!(&rt; "{cases} cases, {differ} differ")
+}

@@ -1,0 +1,151 @@
+//! Sessions that are fed in pieces, and what no table of whole runs can show.
+#![tactic(auto)]
+
+ghost use Rattle.std.specs.Prelude.{None};
+
+#[cfg(test)]
+mod tests {
+    use isl_io::{CleanSink, Failed, MemSink, Sink, Source};
+    use isl_session::{Options, Refusal, Session, refuse_words, run};
+    use std::cell::Cell;
+    use std::test::Fail;
+
+    // A source of one script, four bytes a read, which says when it came to its end.
+    #[derive(Drop)]
+    struct Watched<'a> {
+        script: &'a [u8],
+        ended: &'a Cell<bool>,
+    }
+
+    impl Source for Watched<'_> {
+        ghost left = { λ _. None };
+
+        ghost faults = { λ _. 0 };
+
+        fn read(&mut self, buf: &mut [u8]) -> Result<usize, Failed> {
+            let n = self.script.len().min(buf.len()).min(4);
+            buf[..n].copy_from_slice(&self.script[..n]);
+            self.script = &self.script[n..];
+            if n == 0 {
+                self.ended.set(true);
+            }
+            Ok(n)
+        }
+    }
+
+    // A sink that counts the writes before that end.
+    #[derive(Drop)]
+    struct Waiting<'a> {
+        ended: &'a Cell<bool>,
+        early: u32,
+        late: u32,
+    }
+
+    impl Sink for Waiting<'_> {
+        ghost written = { λ _. None };
+
+        ghost faults = { λ _. 0 };
+
+        fn write(&mut self, piece: &[u8]) -> Result<usize, Failed> {
+            if self.ended.get() {
+                self.late = self.late.saturating_add(1);
+            } else {
+                self.early = self.early.saturating_add(1);
+            }
+            Ok(piece.len())
+        }
+    }
+
+    #[test]
+    fn scripts_are_read_before_they_are_answered(rt: HostRuntime) -> Result<(), Fail> {
+        let alloc = rt.alloc();
+        let words = vec![in alloc; String::from_str(alloc, "iscc")?]?;
+        let ended = Cell::new(false);
+        let mut src = Watched {
+            script: b"{ };{ };x];",
+            ended: &ended,
+        };
+        let mut out = Waiting {
+            ended: &ended,
+            early: 0,
+            late: 0,
+        };
+        let mut err = Waiting {
+            ended: &ended,
+            early: 0,
+            late: 0,
+        };
+        let status = run(alloc, &words, &mut src, &mut out, &mut err);
+        assert_eq!(rt; (status.code(), out.early, out.late), (3, 0, 2));
+        assert_eq!(rt;
+            (err.early, err.late),
+            (0, 1),
+            "a fault's line is one write"
+        );
+        Ok(())
+    }
+
+    #[test]
+    fn want_of_memory_for_words_is_told(rt: HostRuntime) -> Result<(), Fail> {
+        let mut err = MemSink::new(rt.alloc(), 100, 100, Vec::new(rt.alloc()))?;
+        let status = refuse_words(&mut err);
+        assert_eq!(rt; (status.code(), status.meter().is_none()), (21, true));
+        let want = "iscc: statement 1: out of memory\n";
+        assert_eq!(rt; err.bytes(), want.as_bytes());
+        assert_eq!(rt; refuse_words(&mut CleanSink::new()).code(), 21);
+        Ok(())
+    }
+
+    // Pieces, and what feeding or finishing comes to: the statement and the refusal.
+    #[test]
+    fn sessions_take_pieces(rt: HostRuntime) -> Result<(), Fail> {
+        let alloc = rt.alloc();
+        let mut session = Session::new(alloc, Options::new(8, 1, Vec::new(alloc), false));
+        let mut text = Vec::new(alloc);
+        for byte in "{ [i] : i = 0; [i] : i = 1 } # a ; here\n;{ [255] };".bytes() {
+            assert_eq!(rt; session.feed(&[byte], &mut text), Ok(()));
+        }
+        let answered = "{ [i0] : i0 = 0; [i0] : i0 = 1 }\n{ [i0] : i0 = 255 }\n";
+        assert_eq!(rt; text.as_slice(), answered.as_bytes());
+        assert_eq!(rt; session.finish(&mut text), Ok(()));
+        // The sum passes the limit of 8 bits, and the session stays refused.
+        for piece in ["{ [i] : i + 200 + 200 >= 0 };{ };", "{ };"] {
+            let refused = session
+                .feed(piece.as_bytes(), &mut text)
+                .map_err(|fault| (fault.statement, fault.refusal));
+            assert_eq!(rt; refused, Err((3, Refusal::Overflow)));
+        }
+        assert_eq!(rt; session.meter().overflows(), 1);
+        assert_eq!(rt; text.len(), answered.len());
+        Ok(())
+    }
+
+    #[test]
+    fn sessions_refuse(rt: HostRuntime) -> Result<(), Fail> {
+        let alloc = rt.alloc();
+        for (bits, script, fed, finished) in [
+            (
+                8,
+                "{ };{ [300] };",
+                Some(Refusal::Syntax),
+                Some(Refusal::Syntax),
+            ),
+            (9, "{ };{ [300] };", None, None),
+            (8, "{ };{ [", None, Some(Refusal::Unfinished)),
+        ] {
+            let mut session = Session::new(alloc, Options::new(bits, 1, Vec::new(alloc), false));
+            let mut text = Vec::new(alloc);
+            let answer = session.feed(script.as_bytes(), &mut text);
+            assert_eq!(rt;
+                answer.err().map(|fault| (fault.statement, fault.refusal)),
+                fed.map(|refusal| (2, refusal))
+            );
+            let answer = session.finish(&mut text);
+            assert_eq!(rt;
+                answer.err().map(|fault| (fault.statement, fault.refusal)),
+                finished.map(|refusal| (2, refusal))
+            );
+        }
+        Ok(())
+    }
+}
