@@ -1,0 +1,13 @@
+use Rattle.std.proofs.Common.{◌∙◌}
+use Rattle.isl_words.proofs.NumberLemmas.{saturated_none, saturated_more}
+use Rattle.isl_words.proofs.number.saturated.Goals as goal
+
+pub loop-digit-init : goal.loop-digit-init
+loop-digit-init c = saturated_none
+
+pub loop-digit-preserved : goal.loop-digit-preserved
+loop-digit-preserved c =
+    saturated_more c.args.digits.now c.loop-digit.digit-index c.loop-digit.value c.from-unit.result
+    c.saturating_mul.result c.saturating_add-value.result
+    c.loop-digit-test.true c.loop-digit.invariant (c.from-unit.ensures
+    ∙ c.saturating_sub.ensures) c.saturating_mul.ensures c.saturating_add-value.ensures

@@ -1,0 +1,72 @@
+//! What the command line chooses.
+
+ghost use Rattle.std.specs.Prelude.{◌≡◌};
+ghost use Rattle.isl_words.specs.Options.{IsChoice};
+
+use isl_space::Name;
+use std::marker::Model;
+
+/// What a session works with.
+#[derive(Drop)]
+pub struct Options {
+    bits: u32,
+    budget: u64,
+    at: Vec<(Name, i128)>,
+    run: bool,
+}
+
+impl Model for Options {
+    ghost use Rattle.isl_words.specs.Options.{OptionsView, IsChoice};
+
+    ghost Value = { OptionsView };
+
+    ghost view = { λ o. record { bits = o.bits; budget = o.budget; at = o.at.items; run = o.run } };
+
+    ghost invariant = { λ o. IsChoice (record { bits = o.bits; budget = o.budget; at = o.at.items; run = o.run }) };
+}
+
+impl Options {
+    /// Numbers have magnitudes of at most `2^bits - 1`, and a statement may use `budget` units of work. `at` gives
+    /// parameters their numbers where elements are listed and loops are run; `run` asks for the calls of loops in
+    /// place of their text.
+    pub fn new(bits: u32, budget: u64, at: Vec<(Name, i128)>, run: bool) -> Options
+        requires { IsChoice (record { bits = bits; budget = budget; at = at.items; run = run }) }
+        ensures { result ≡ record { bits = bits; budget = budget; at = at.items; run = run } }
+    {
+        Options {
+            bits,
+            budget,
+            at,
+            run,
+        }
+    }
+
+    /// How many bits the magnitudes of numbers may have.
+    pub fn bits(&self) -> u32
+        ensures bits { result ≡ self.now.bits }
+        ensures choice { IsChoice self.now }
+    {
+        self.bits
+    }
+
+    /// How many units of work a statement may use.
+    pub fn budget(&self) -> u64
+        ensures { result ≡ self.now.budget }
+    {
+        self.budget
+    }
+
+    /// The parameters that have numbers, with their numbers.
+    pub fn at(&self) -> &[(Name, i128)]
+        ensures { result.now ≡ self.now.at }
+    {
+        self.at.as_slice()
+    }
+
+    /// Whether the calls of loops are asked for in place of their text.
+    pub fn run(&self) -> bool
+        ensures { result ≡ self.now.run }
+    {
+        self.run
+    }
+}
