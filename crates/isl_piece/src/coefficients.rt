@@ -13,10 +13,10 @@ use std::alloc::{AllocError, AllocFailed, Global};
 use std::fmt;
 use std::marker::Model;
 
-/// The coefficients of a row, one for each column. Up to 16 lie in the row itself.
+/// The coefficients of a row, one for each column. Up to 8 lie in the row itself.
 #[derive(Drop)]
 pub struct Coefs {
-    items: SmallVec<Int, 16>,
+    items: SmallVec<Int, 8>,
 }
 
 impl Model for Coefs {
