@@ -22,16 +22,21 @@ literals_of-Prefix word operand = refl
 
 pub literals_of-Row : (first : Expr) (links : List Link) → literals_of (Row first links) ≡ literals_of first ++ links_literals links
 unfolding hidden-the_row-Expr-0 denote.Hole.Carrier.hidden
-literals_of-Row first links = ap (λ ls. literals_of first ++ ls) (links_are _ (hidden-the_row-Link-1 links) ∙ ap links_literals (items_hidden-the_row-Link-1 links))
+literals_of-Row first links = ap (λ ls. literals_of first ++ ls)
+    (links_are _ (hidden-the_row-Link-1 links) ∙ ap links_literals (items_hidden-the_row-Link-1 links))
 
-pub literals_of-Post : (operand : Expr) (postfixes : List Postfix) → literals_of (Post operand postfixes) ≡ literals_of operand ++ postfixes_literals postfixes
+pub literals_of-Post : (operand : Expr) (postfixes : List Postfix)
+    → literals_of (Post operand postfixes) ≡ literals_of operand ++ postfixes_literals postfixes
 unfolding hidden-the_row-Expr-0 denote.Hole.Carrier.hidden
-literals_of-Post operand postfixes = ap (λ ls. literals_of operand ++ ls) (postfixes_are _ (hidden-the_row-Postfix-2 postfixes) ∙ ap postfixes_literals (items_hidden-the_row-Postfix-2 postfixes))
+literals_of-Post operand postfixes = ap (λ ls. literals_of operand ++ ls)
+    (postfixes_are _ (hidden-the_row-Postfix-2 postfixes) ∙ ap postfixes_literals (items_hidden-the_row-Postfix-2 postfixes))
 
-pub literals_of-Any : (source sink schedule : Expr) → literals_of (Any source sink schedule) ≡ literals_of source ++ (literals_of sink ++ literals_of schedule)
+pub literals_of-Any : (source sink schedule : Expr) → literals_of (Any source sink schedule) ≡ literals_of source ++
+    (literals_of sink ++ literals_of schedule)
 unfolding hidden-the_row-Expr-0 denote.Hole.Carrier.hidden
 literals_of-Any source sink schedule = refl
 
-pub literals_of-Last : (source sink schedule : Expr) → literals_of (Last source sink schedule) ≡ literals_of source ++ (literals_of sink ++ literals_of schedule)
+pub literals_of-Last : (source sink schedule : Expr) → literals_of (Last source sink schedule) ≡ literals_of source ++
+    (literals_of sink ++ literals_of schedule)
 unfolding hidden-the_row-Expr-0 denote.Hole.Carrier.hidden
 literals_of-Last source sink schedule = refl

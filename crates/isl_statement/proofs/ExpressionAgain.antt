@@ -55,7 +55,8 @@ again_word size x = record { by = λ n ts rest l lt stop. rw (l.1, is_role_same 
 
 -- a word before an operand, and what follows it
 module _ {B : Type 0} (q : Prefix → Parser B) (M : Prefix → Grammar B) where
-  again_prefix : (size : ℕ) (stops : Stops) → ((x : Prefix) → Again size (q x) (M x) stops) → Again (suc size) (r.◌>>=◌ words.prefix q) (s.◌>>=◌ spell.prefix M) stops
+  again_prefix : (size : ℕ) (stops : Stops) → ((x : Prefix) → Again size (q x) (M x) stops) → Again (suc size) (r.◌>>=◌ words.prefix q)
+      (s.◌>>=◌ spell.prefix M) stops
   unfolding words.prefix
   again_prefix size stops h = record {
     by = λ b ts rest l lt stop.
@@ -66,7 +67,8 @@ module _ {B : Type 0} (q : Prefix → Parser B) (M : Prefix → Grammar B) where
 
 -- a word that is known to be there, and what follows it
 module _ {B : Type 0} (x : Role) (q : Unit {0} → Parser B) (M : Unit {0} → Grammar B) where
-  pub again_said : (size : ℕ) (stops : Stops) → ((u : Unit {0}) → Again size (q u) (M u) stops) → Again (suc size) (r.◌>>=◌ r.skip q) (s.◌>>=◌ (spell.said x) M) stops
+  pub again_said : (size : ℕ) (stops : Stops) → ((u : Unit {0}) → Again size (q u) (M u) stops)
+      → Again (suc size) (r.◌>>=◌ r.skip q) (s.◌>>=◌ (spell.said x) M) stops
   again_said size stops h = record {
     by = λ b ts rest l lt stop.
         let whole : ts ≡ token.Word l.4.0 ∷ l.2 = l.3 ∙ ap (λ (x : List Token). x ++ l.2) l.4.1 in
@@ -85,7 +87,8 @@ no p ts = not (sees_operator p ts)
 word_ends_post : (word : Text) → not (read.begins_postfix (kind_of (token.Word word))) ≡ true
 word_ends_post word = word_passes (λ kind. not (read.begins_postfix kind)) refl refl word
 
-sign_ends_post : (p : Precedence) (kind : Kind) → is_some (of_precedence p (operator_sign kind)) ≡ true → not (read.begins_postfix kind) ≡ true
+sign_ends_post : (p : Precedence) (kind : Kind) → is_some (of_precedence p (operator_sign kind)) ≡ true
+    → not (read.begins_postfix kind) ≡ true
 sign_ends_post p k.Inverse h = absurd (false≢true h)
 sign_ends_post p k.Open h = absurd (false≢true h)
 sign_ends_post p k.OpenSquare h = absurd (false≢true h)
@@ -98,11 +101,15 @@ operator_ends_post p (token.Number d ∷ ts) h = refl
 operator_ends_post p (token.Sign g ∷ ts) h = sign_ends_post p (sign_kind g) h
 
 -- an operator has one precedence
-one_precedence : (p q : Precedence) → is_precedence p q ≡ false → (binary : Binary) (b : Bool) → is_precedence (precedence_of binary) p ≡ b → is_some (cond b (Some binary) None) ≡ true → not (is_some (of_precedence q (Some binary))) ≡ true
-one_precedence p q apart binary true is h = let same : precedence_of binary ≡ p = same_true the_type (search rules) (precedence_of binary) p is in rw (same, apart) refl
+one_precedence : (p q : Precedence) → is_precedence p q ≡ false → (binary : Binary) (b : Bool)
+    → is_precedence (precedence_of binary) p ≡ b → is_some (cond b (Some binary) None) ≡ true
+    → not (is_some (of_precedence q (Some binary))) ≡ true
+one_precedence p q apart binary true is h = let same : precedence_of binary ≡ p = same_true the_type (search rules)
+    (precedence_of binary) p is in rw (same, apart) refl
 one_precedence p q apart binary false is h = absurd (false≢true h)
 
-other_operator : (p q : Precedence) → is_precedence p q ≡ false → (o : Option Binary) → is_some (of_precedence p o) ≡ true → not (is_some (of_precedence q o)) ≡ true
+other_operator : (p q : Precedence) → is_precedence p q ≡ false → (o : Option Binary) → is_some (of_precedence p o) ≡ true
+    → not (is_some (of_precedence q o)) ≡ true
 other_operator p q apart None h = absurd (false≢true h)
 other_operator p q apart (Some binary) h = one_precedence p q apart binary (is_precedence (precedence_of binary) p) refl h
 
@@ -124,20 +131,27 @@ operator_starts p = record { by = λ b ts rest l. rw (l.1, l.2) refl }
 operator_full : (p : Precedence) → Full (spell.operator p)
 operator_full p = record { by = λ b ts l. omega (arith, ap length l.1) }
 
-module _ (size : ℕ) (p : Precedence) (item : Parser Expr) (L : Grammar Expr) (stops : Stops) (again : Again size item L stops) (opens : (ts : List Token) → sees_operator p ts ≡ true → stops ts ≡ true) where
+module _ (size : ℕ) (p : Precedence) (item : Parser Expr) (L : Grammar Expr) (stops : Stops) (again : Again size item L stops)
+    (opens : (ts : List Token) → sees_operator p ts ≡ true → stops ts ≡ true) where
   -- what ends a row
   abbrev ends : Stops
   ends ts = no p ts && stops ts
 
   link_again : Again size (read.link p item) (spell.link p L) stops
   unfolding read.link
-  link_again = again_bind size (ops.operator p) _ (spell.operator p) _ always stops (operator_again size p) (λ binary. again_map size item L (read.make_link binary) stops again) (λ binary. follows_always _ stops)
+  link_again = again_bind size (ops.operator p) _ (spell.operator p) _ always stops (operator_again size p)
+      (λ binary. again_map size item L (read.make_link binary) stops again) (λ binary. follows_always _ stops)
 
   link_starts : (test : Stops) → ((ts : List Token) → sees_operator p ts ≡ true → test ts ≡ true) → Starts (spell.link p L) test
   link_starts test h = starts_bind (spell.operator p) _ test (starts_more _ (sees_operator p) test (operator_starts p) h)
 
   link_items : Items (sees_operator p) (spell.link p L) stops
-  link_items = record { starts = link_starts (sees_operator p) (λ ts h. h); follows = link_starts stops opens; some = full_bind (spell.operator p) _ (operator_full p) }
+  link_items = record {
+    starts = link_starts (sees_operator p) (λ ts h. h);
+    follows = link_starts stops opens;
+    some = full_bind
+        (spell.operator p) _ (operator_full p);
+  }
 
   rows_again : Again size (read.rows p item) (spell.rows p L) ends
   unfolding read.rows
@@ -146,7 +160,8 @@ module _ (size : ℕ) (p : Precedence) (item : Parser Expr) (L : Grammar Expr) (
       (λ more. again_pure size (read.row_of first more) ends)
       (λ more. follows_pure _ ends (no p) (λ rest h. both_left (no p rest) (stops rest) h))
       (λ more. follows_pure _ ends stops (λ rest h. both_right (no p rest) (stops rest) h)))
-      (λ first. follows_bind (follows_many (link_starts stops opens) (λ rest h. both_right (no p rest) (stops rest) h)) (λ more. follows_pure _ ends ends (λ rest h. h)))
+      (λ first. follows_bind (follows_many (link_starts stops opens) (λ rest h. both_right (no p rest) (stops rest) h))
+      (λ more. follows_pure _ ends ends (λ rest h. h)))
 
 -- what ends a row of each precedence
 abbrev ends_join : Stops
@@ -168,10 +183,12 @@ ends_expr ts = no Test ts && ends_univ ts
 opens_join : (p : Precedence) → is_precedence p Join ≡ false → (ts : List Token) → sees_operator p ts ≡ true → ends_join ts ≡ true
 opens_join p a ts h = both (apart_at p Join a ts h) (operator_ends_post p ts h)
 
-opens_prod : (p : Precedence) → is_precedence p Product ≡ false → is_precedence p Join ≡ false → (ts : List Token) → sees_operator p ts ≡ true → ends_prod ts ≡ true
+opens_prod : (p : Precedence) → is_precedence p Product ≡ false → is_precedence p Join ≡ false → (ts : List Token)
+    → sees_operator p ts ≡ true → ends_prod ts ≡ true
 opens_prod p b a ts h = both (apart_at p Product b ts h) (opens_join p a ts h)
 
-opens_sum : (p : Precedence) → is_precedence p Sum ≡ false → is_precedence p Product ≡ false → is_precedence p Join ≡ false → (ts : List Token) → sees_operator p ts ≡ true → ends_sum ts ≡ true
+opens_sum : (p : Precedence) → is_precedence p Sum ≡ false → is_precedence p Product ≡ false → is_precedence p Join ≡ false
+    → (ts : List Token) → sees_operator p ts ≡ true → ends_sum ts ≡ true
 opens_sum p c b a ts h = both (apart_at p Sum c ts h) (opens_prod p b a ts h)
 
 opens_univ : (ts : List Token) → sees_operator Test ts ≡ true → ends_univ ts ≡ true
@@ -196,7 +213,8 @@ module _ (size : ℕ) (p : Parser Expr) (L : Grammar Expr) (pre : Again size p L
 -- ---- operands
 
 -- what neither joins nor follows an operand ends an expression
-pub over_expr : (ts : List Token) → ops.operator_by (head_role ts) (head_kind ts) ≡ None → read.begins_postfix (head_kind ts) ≡ false → ends_expr ts ≡ true
+pub over_expr : (ts : List Token) → ops.operator_by (head_role ts) (head_kind ts) ≡ None → read.begins_postfix (head_kind ts) ≡ false
+    → ends_expr ts ≡ true
 over_expr ts none nothing = rw (none, nothing) refl
 
 -- the bracket that closes, or `:=`
@@ -224,17 +242,20 @@ lone_again size = again_map size words.variable spell.variable e.Name always (ag
 
 postfix_starts : (L : Grammar Expr) → Starts (spell.postfix L) read.sees_postfix
 postfix_starts L = starts_either _ _ read.sees_postfix (starts_kind k.Inverse read.begins_postfix (starts_with k.Inverse _) refl)
-    (starts_either _ _ read.sees_postfix (starts_bind (spell.enclosed L) _ read.sees_postfix (starts_kind k.Open read.begins_postfix (starts_with k.Open _) refl))
+    (starts_either _ _ read.sees_postfix
+    (starts_bind (spell.enclosed L) _ read.sees_postfix (starts_kind k.Open read.begins_postfix (starts_with k.Open _) refl))
     (starts_kind k.OpenSquare read.begins_postfix (starts_with k.OpenSquare _) refl))
 
 postfix_full : (L : Grammar Expr) → Full (spell.postfix L)
-postfix_full L = full_either _ _ (full_bind _ _ (full_word k.Inverse)) (full_either _ _ (full_bind _ _ (full_bind _ _ (full_word k.Open))) (full_bind _ _ (full_word k.OpenSquare)))
+postfix_full L = full_either _ _ (full_bind _ _ (full_word k.Inverse))
+    (full_either _ _ (full_bind _ _ (full_bind _ _ (full_word k.Open))) (full_bind _ _ (full_word k.OpenSquare)))
 
 module _ (size : ℕ) (p : Parser Expr) (L : Grammar Expr) (nested : Again size p L ends_post) where
   enclosed_again : Again (suc size) (r.◌>>◌ r.skip (read.enclosed p)) (spell.enclosed L) always
   unfolding read.enclosed
   enclosed_again = again_skip k.Open size (λ _. read.enclosed p) _ always (λ _.
-      again_bind size (read.expr_with p) _ (spell.expr_with L) _ ends_expr always (expr_again size p L nested) (λ inner. again_end size k.Close inner) (λ inner. follows_starts always (close_ends inner)))
+      again_bind size (read.expr_with p) _ (spell.expr_with L) _ ends_expr always (expr_again size p L nested)
+      (λ inner. again_end size k.Close inner) (λ inner. follows_starts always (close_ends inner)))
 
   applied_again : Again (suc size) (r.◌>>◌ r.skip (read.applied p)) (spell.applied L) always
   unfolding read.applied
@@ -246,20 +267,25 @@ module _ (size : ℕ) (p : Parser Expr) (L : Grammar Expr) (nested : Again size 
   item_again : Again (suc size) (r.◌>>◌ r.skip read.item) spell.item always
   unfolding read.item
   item_again = again_skip k.OpenSquare size (λ _. read.item) _ always (λ _.
-      again_bind size r.number _ s.number _ always always (again_number size) (λ at. again_end size k.CloseSquare (Item at)) (λ at. follows_always _ always))
+      again_bind size r.number _ s.number _ always always (again_number size) (λ at. again_end size k.CloseSquare (Item at))
+      (λ at. follows_always _ always))
 
   applied_starts : Starts (spell.applied L) (sees k.Open)
   applied_starts = starts_bind (spell.enclosed L) _ (sees k.Open) (starts_with k.Open _)
 
   postfix_head : (kind : Kind) (M : Unit {0} → Grammar Postfix) → Again (suc size) (read.postfix_by p kind) (s.◌>>=◌ (s.word kind) M) always
-      → (a : Postfix) (ts rest : List Token) → s.◌>>=◌ (s.word kind) M a ts → length ts < suc size → read.postfix p (ts ++ rest) ≡ Some (a, rest)
+      → (a : Postfix) (ts rest : List Token) → s.◌>>=◌ (s.word kind) M a ts → length ts < suc size
+      → read.postfix p (ts ++ rest) ≡ Some (a, rest)
   unfolding read.postfix
-  postfix_head kind M h a ts rest l lt = ap (λ kind. read.postfix_by p kind (ts ++ rest)) (head_of_word kind M a ts rest l) ∙ h.by a ts rest l lt refl
+  postfix_head kind M h a ts rest l lt = ap (λ kind. read.postfix_by p kind (ts ++ rest)) (head_of_word kind M a ts rest l)
+      ∙ h.by a ts rest l lt refl
 
-  postfix_read : (a : Postfix) (ts rest : List Token) → spell.postfix L a ts → length ts < suc size → read.postfix p (ts ++ rest) ≡ Some (a, rest)
+  postfix_read : (a : Postfix) (ts rest : List Token) → spell.postfix L a ts → length ts < suc size
+      → read.postfix p (ts ++ rest) ≡ Some (a, rest)
   unfolding read.postfix
   postfix_read a ts rest (inl l) lt = postfix_head k.Inverse _ inverse_again a ts rest l lt
-  postfix_read a ts rest (inr (inl l)) lt = ap (λ kind. read.postfix_by p kind (ts ++ rest)) (head_is k.Open applied_starts a ts rest l) ∙ applied_again.by a ts rest l lt refl
+  postfix_read a ts rest (inr (inl l)) lt = ap (λ kind. read.postfix_by p kind (ts ++ rest)) (head_is k.Open applied_starts a ts rest l)
+      ∙ applied_again.by a ts rest l lt refl
   postfix_read a ts rest (inr (inr l)) lt = postfix_head k.OpenSquare _ item_again a ts rest l lt
 
   postfix_again : Again (suc size) (read.postfix p) (spell.postfix L) always
@@ -287,10 +313,13 @@ literal_starts n = record { by = λ a us rest l. outline_starts.by a us rest l.0
   braces_start = starts_kind k.OpenBrace begins_literal (starts_with k.OpenBrace _) refl
 
   declared_follows : Follows (s.◌∪◌ literals.declared (s.pure [])) at_literal at_literal
-  declared_follows = follows_either (follows_starts at_literal (starts_kind k.OpenSquare begins_literal (starts_with k.OpenSquare _) refl)) (follows_pure [] at_literal at_literal (λ rest h. h))
+  declared_follows = follows_either
+      (follows_starts at_literal (starts_kind k.OpenSquare begins_literal (starts_with k.OpenSquare _) refl))
+      (follows_pure [] at_literal at_literal (λ rest h. h))
 
   outline_starts : Starts (literals.outline_of n) at_literal
-  outline_starts = starts_then _ _ at_literal declared_follows (λ params. starts_bind (literals.braces (literals.tuple n) (formulas.formula n)) _ at_literal braces_start)
+  outline_starts = starts_then _ _ at_literal declared_follows
+      (λ params. starts_bind (literals.braces (literals.tuple n) (formulas.formula n)) _ at_literal braces_start)
 
 -- how an operand begins
 abbrev begins_post : Role → Bool
@@ -328,7 +357,8 @@ post_begins_expr role.NoWord h = refl
 post_begins_expr role.Name h = refl
 post_begins_expr _ h = absurd (false≢true h)
 
-module _ (size : ℕ) (lp : Parser Literal) (ll : Grammar Literal) (literal : Again (suc size) lp ll always) (begins : Starts ll at_literal) (p : Parser Expr) (L : Grammar Expr) (nested : Again size p L ends_post) where
+module _ (size : ℕ) (lp : Parser Literal) (ll : Grammar Literal) (literal : Again (suc size) lp ll always)
+    (begins : Starts ll at_literal) (p : Parser Expr) (L : Grammar Expr) (nested : Again size p L ends_post) where
   whole_again : Again (suc size) (read.whole_literal lp) (spell.whole_literal ll) always
   unfolding read.whole_literal
   whole_again = again_map (suc size) lp ll e.Literal always literal
@@ -355,9 +385,12 @@ module _ (size : ℕ) (lp : Parser Literal) (ll : Grammar Literal) (literal : Ag
 
   atom_read : (a : Expr) (ts rest : List Token) → spell.atom ll L a ts → length ts < suc size → read.atom lp p (ts ++ rest) ≡ Some (a, rest)
   unfolding read.atom
-  atom_read a ts rest (inl l) lt = ap (λ (q : Parser Expr). q (ts ++ rest)) (by_word (head_kind (ts ++ rest)) (lone_head a ts rest l)) ∙ (lone_again (suc size)).by a ts rest l lt refl
-  atom_read a ts rest (inr (inl l)) lt = ap (λ (q : Parser Expr). q (ts ++ rest)) (by_literal (head_kind (ts ++ rest)) (whole_starts.by a ts rest l)) ∙ whole_again.by a ts rest l lt refl
-  atom_read a ts rest (inr (inr l)) lt = ap (λ kind. read.atom_by lp p kind (ts ++ rest)) (head_is k.Open enclosed_starts a ts rest l) ∙ (enclosed_again size p L nested).by a ts rest l lt refl
+  atom_read a ts rest (inl l) lt = ap (λ (q : Parser Expr). q (ts ++ rest)) (by_word (head_kind (ts ++ rest)) (lone_head a ts rest l))
+      ∙ (lone_again (suc size)).by a ts rest l lt refl
+  atom_read a ts rest (inr (inl l)) lt = ap (λ (q : Parser Expr). q (ts ++ rest))
+      (by_literal (head_kind (ts ++ rest)) (whole_starts.by a ts rest l)) ∙ whole_again.by a ts rest l lt refl
+  atom_read a ts rest (inr (inr l)) lt = ap (λ kind. read.atom_by lp p kind (ts ++ rest)) (head_is k.Open enclosed_starts a ts rest l)
+      ∙ (enclosed_again size p L nested).by a ts rest l lt refl
 
   atom_again : Again (suc size) (read.atom lp p) (spell.atom ll L) always
   atom_again = record { by = λ a ts rest l lt stop. atom_read a ts rest l lt }
@@ -365,7 +398,8 @@ module _ (size : ℕ) (lp : Parser Literal) (ll : Grammar Literal) (literal : Ag
   post_again : Again (suc size) (read.post lp p) (spell.post ll L) ends_post
   unfolding read.post
   post_again = again_bind (suc size) (read.atom lp p) _ (spell.atom ll L) _ always ends_post atom_again
-      (λ operand. again_row (suc size) read.sees_postfix (read.postfix p) (spell.postfix L) always (postfix_items size p L nested) (postfix_again size p L nested) [] _ _ ends_post
+      (λ operand. again_row (suc size) read.sees_postfix (read.postfix p) (spell.postfix L) always (postfix_items size p L nested)
+      (postfix_again size p L nested) [] _ _ ends_post
       (λ more. again_pure (suc size) (read.post_of operand more) ends_post)
       (λ more. follows_pure _ ends_post ends_post (λ rest h. h)) (λ more. follows_always _ ends_post))
       (λ operand. follows_always _ ends_post)
@@ -376,22 +410,26 @@ module _ (size : ℕ) (lp : Parser Literal) (ll : Grammar Literal) (literal : Ag
   said_ends : {B : Type 0} (x : Role) (M : Unit {0} → Grammar B) → Starts (s.◌>>=◌ (spell.said x) M) ends_post
   said_ends x M = record { by = λ b ts rest l. rw (l.3, l.4.1) (word_ends_post l.4.0) }
 
-  flows_again : (first : Role) (found : Flow) → Again (suc size) (r.◌>>◌ r.skip (read.flows lp p found)) (spell.flows ll L first found) ends_post
+  flows_again : (first : Role) (found : Flow) → Again (suc size) (r.◌>>◌ r.skip (read.flows lp p found))
+      (spell.flows ll L first found) ends_post
   unfolding read.flows
   flows_again first found = again_said first (λ _. read.flows lp p found) _ size ends_post (λ _.
       again_bind size (read.post lp p) _ (spell.post ll L) _ ends_post ends_post small_post
       (λ source. again_bind size (words.expect_word role.Before) _ (spell.said role.Before) _ always ends_post (again_word size role.Before)
       (λ _. again_bind size (read.post lp p) _ (spell.post ll L) _ ends_post ends_post small_post
       (λ sink. again_bind size (words.expect_word role.Under) _ (spell.said role.Under) _ always ends_post (again_word size role.Under)
-      (λ _. again_map size (read.post lp p) (spell.post ll L) (read.dependence found source sink) ends_post small_post) (λ _. follows_always _ ends_post))
+      (λ _. again_map size (read.post lp p) (spell.post ll L) (read.dependence found source sink) ends_post small_post)
+      (λ _. follows_always _ ends_post))
       (λ sink. follows_starts ends_post (said_ends role.Under _))) (λ _. follows_always _ ends_post))
       (λ source. follows_starts ends_post (said_ends role.Before _)))
 
   atom_starts : Starts (spell.atom ll L) (λ ts. begins_post (head_role ts))
   atom_starts = starts_either _ _ (λ ts. begins_post (head_role ts)) (record { by = λ a ts rest l. rw (l.3, l.4.0, l.4.1) refl })
       (starts_either _ _ (λ ts. begins_post (head_role ts))
-      (starts_more _ at_literal (λ ts. begins_post (head_role ts)) whole_starts (λ ts h. rw (bracket_no_word ts (literal_begins_atom (head_kind ts) h)) refl))
-      (starts_more _ (sees k.Open) (λ ts. begins_post (head_role ts)) enclosed_starts (λ ts h. rw (bracket_no_word ts (rw (is_kind_true (head_kind ts) k.Open h) refl)) refl)))
+      (starts_more _ at_literal (λ ts. begins_post (head_role ts)) whole_starts
+      (λ ts h. rw (bracket_no_word ts (literal_begins_atom (head_kind ts) h)) refl))
+      (starts_more _ (sees k.Open) (λ ts. begins_post (head_role ts)) enclosed_starts
+      (λ ts h. rw (bracket_no_word ts (rw (is_kind_true (head_kind ts) k.Open h) refl)) refl)))
 
   post_starts : Starts (spell.post ll L) (λ ts. begins_post (head_role ts))
   post_starts = starts_bind (spell.atom ll L) _ (λ ts. begins_post (head_role ts)) atom_starts
@@ -409,15 +447,21 @@ module _ (size : ℕ) (lp : Parser Literal) (ll : Grammar Literal) (literal : Ag
   prefixed_head : (a : Expr) (ts rest : List Token) → spell.prefixed L a ts → head_role (ts ++ rest) ≡ role.Prefix
   prefixed_head a ts rest l = rw (l.3, l.4.1) (prefix_role l.4.0 (prefix_of l.4.0) l.0 l.4.2)
 
-  flows_head : (first : Role) (found : Flow) (a : Expr) (ts rest : List Token) → spell.flows ll L first found a ts → head_role (ts ++ rest) ≡ first
+  flows_head : (first : Role) (found : Flow) (a : Expr) (ts rest : List Token) → spell.flows ll L first found a ts
+      → head_role (ts ++ rest) ≡ first
   flows_head first found a ts rest l = rw (l.3, l.4.1) l.4.2
 
-  level_read : (a : Expr) (ts rest : List Token) → spell.pre_level ll L a ts → length ts < suc size → ends_post rest ≡ true → read.pre_level lp p (ts ++ rest) ≡ Some (a, rest)
+  level_read : (a : Expr) (ts rest : List Token) → spell.pre_level ll L a ts → length ts < suc size → ends_post rest ≡ true
+      → read.pre_level lp p (ts ++ rest) ≡ Some (a, rest)
   unfolding read.pre_level
-  level_read a ts rest (inl l) lt stop = ap (λ x. read.pre_by lp p x (ts ++ rest)) (prefixed_head a ts rest l) ∙ (prefixed_again size p L nested).by a ts rest l lt stop
-  level_read a ts rest (inr (inl l)) lt stop = ap (λ x. read.pre_by lp p x (ts ++ rest)) (flows_head role.Any flow.Any a ts rest l) ∙ (flows_again role.Any flow.Any).by a ts rest l lt stop
-  level_read a ts rest (inr (inr (inl l))) lt stop = ap (λ x. read.pre_by lp p x (ts ++ rest)) (flows_head role.Last flow.Last a ts rest l) ∙ (flows_again role.Last flow.Last).by a ts rest l lt stop
-  level_read a ts rest (inr (inr (inr l))) lt stop = ap (λ (q : Parser Expr). q (ts ++ rest)) (by_post (head_role (ts ++ rest)) (post_starts.by a ts rest l)) ∙ post_again.by a ts rest l lt stop
+  level_read a ts rest (inl l) lt stop = ap (λ x. read.pre_by lp p x (ts ++ rest)) (prefixed_head a ts rest l)
+      ∙ (prefixed_again size p L nested).by a ts rest l lt stop
+  level_read a ts rest (inr (inl l)) lt stop = ap (λ x. read.pre_by lp p x (ts ++ rest)) (flows_head role.Any flow.Any a ts rest l)
+      ∙ (flows_again role.Any flow.Any).by a ts rest l lt stop
+  level_read a ts rest (inr (inr (inl l))) lt stop = ap (λ x. read.pre_by lp p x (ts ++ rest))
+      (flows_head role.Last flow.Last a ts rest l) ∙ (flows_again role.Last flow.Last).by a ts rest l lt stop
+  level_read a ts rest (inr (inr (inr l))) lt stop = ap (λ (q : Parser Expr). q (ts ++ rest))
+      (by_post (head_role (ts ++ rest)) (post_starts.by a ts rest l)) ∙ post_again.by a ts rest l lt stop
 
   pub level_starts : Starts (spell.pre_level ll L) at_expr
   level_starts = record { by = starts }
@@ -436,7 +480,8 @@ unfolding read.pre spell.pre
 pre_again zero depth = record { by = λ a us rest l lt stop. absurd (omega arith) }
 pre_again (suc n) zero = record { by = λ a us rest l lt stop. absurd l }
 pre_again (suc n) (suc depth) =
-    level_again n (literal (suc n)) (literal_grammar (suc depth)) (literal_again (suc n) (suc depth)) (literal_starts (suc depth)) (read.pre n) (spell.pre depth) (pre_again n depth)
+    level_again n (literal (suc n)) (literal_grammar (suc depth)) (literal_again (suc n) (suc depth)) (literal_starts (suc depth))
+    (read.pre n) (spell.pre depth) (pre_again n depth)
 
 pub expression_again : (n depth : ℕ) → Again n (read.expression n) (spell.expression depth) ends_expr
 expression_again n depth = expr_again n (read.pre n) (spell.pre depth) (pre_again n depth)
@@ -444,7 +489,8 @@ expression_again n depth = expr_again n (read.pre n) (spell.pre depth) (pre_agai
 pre_starts : (n : ℕ) → Starts (spell.pre n) at_expr
 unfolding spell.pre
 pre_starts zero = record { by = λ a us rest l. absurd l }
-pre_starts (suc n) = level_starts n (literal (suc n)) (literal_grammar (suc n)) (literal_again (suc n) (suc n)) (literal_starts (suc n)) (read.pre n) (spell.pre n) (pre_again n n)
+pre_starts (suc n) = level_starts n (literal (suc n)) (literal_grammar (suc n)) (literal_again (suc n) (suc n)) (literal_starts (suc n))
+    (read.pre n) (spell.pre n) (pre_again n n)
 
 row_starts : (p : Precedence) (L : Grammar Expr) → Starts L at_expr → Starts (spell.rows p L) at_expr
 row_starts p L h = starts_bind L _ at_expr h
@@ -461,11 +507,19 @@ row_alone p L a us l = (a, us, [], sym (append-nil us), l, ([], [], [], refl, re
 
 name_alone : (w : Text) → role_of w ≡ role.Name → spell.pre 1 (e.Name w) (token.Word w ∷ [])
 unfolding spell.pre
-name_alone w is = inr (inr (inr (e.Name w, token.Word w ∷ [], [], refl, inl (w, token.Word w ∷ [], [], refl, (refl, is), (refl, refl)), ([], [], [], refl, refl, (refl, refl)))))
+name_alone w is = inr (inr (inr (
+  e.Name w,
+  token.Word w ∷ [],
+  [],
+  refl,
+  inl (w, token.Word w ∷ [], [], refl, (refl, is), (refl, refl)),
+  ([], [], [], refl, refl, (refl, refl)),
+)))
 
 pub name_is_expression : (w : Text) → role_of w ≡ role.Name → spell.expression 1 (e.Name w) (token.Word w ∷ [])
 name_is_expression w is =
-    row_alone Test (spell.univ (spell.pre 1)) _ _ (row_alone Universal (spell.sum (spell.pre 1)) _ _ (row_alone Sum (spell.prod (spell.pre 1)) _ _
+    row_alone Test (spell.univ (spell.pre 1)) _ _
+    (row_alone Universal (spell.sum (spell.pre 1)) _ _ (row_alone Sum (spell.prod (spell.pre 1)) _ _
     (row_alone Product (spell.join (spell.pre 1)) _ _ (row_alone Join (spell.pre 1) _ _ (name_alone w is)))))
 
 -- ---- an expression has a token
@@ -490,8 +544,12 @@ said_full x = record { by = λ a us l. one_token us (token.Word l.0) l.1 }
 
 level_full : (ll : Grammar Literal) → Full ll → (L : Grammar Expr) → Full (spell.pre_level ll L)
 level_full ll some L =
-    full_either _ _ (full_bind spell.prefix _ prefix_full) (full_either _ _ (full_bind (spell.said role.Any) _ (said_full role.Any)) (full_either _ _ (full_bind (spell.said role.Last) _ (said_full role.Last))
-    (full_bind (spell.atom ll L) _ (full_either _ _ (full_bind spell.variable _ variable_full) (full_either _ _ (full_bind ll _ some) (full_bind (s.word k.Open) _ (full_word k.Open)))))))
+    full_either _ _ (full_bind spell.prefix _ prefix_full)
+    (full_either _ _ (full_bind (spell.said role.Any) _ (said_full role.Any))
+    (full_either _ _ (full_bind (spell.said role.Last) _ (said_full role.Last))
+    (full_bind (spell.atom ll L) _
+    (full_either _ _ (full_bind spell.variable _ variable_full)
+    (full_either _ _ (full_bind ll _ some) (full_bind (s.word k.Open) _ (full_word k.Open)))))))
 
 pre_full : (n : ℕ) → Full (spell.pre n)
 unfolding spell.pre

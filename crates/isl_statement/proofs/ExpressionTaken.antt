@@ -42,18 +42,27 @@ takes_variable (token.Word w ∷ ts) = record {
   by = λ a rest h.
       elim (chosen (is_role (role_of w) role.Name) (Some (w, ts)) None (Some (a, rest)) h) [
         | inl yes' ↦
-            let p = same_read w a ts rest yes'.1 in
-            (token.Word w ∷ [], ap (λ l. token.Word w ∷ l) p.1, (ap (λ v. token.Word v ∷ []) p.0, subst (λ (v : Text). role_of v ≡ role.Name) p.0 (is_role_true (role_of w) role.Name yes'.0)))
+            let p = same_read w a ts rest yes'.1 in (
+              token.Word w ∷ [],
+              ap (λ l. token.Word w ∷ l) p.1,
+              (
+                ap (λ v. token.Word v ∷ []) p.0,
+                subst (λ (v : Text). role_of v ≡ role.Name) p.0
+                    (is_role_true (role_of w) role.Name yes'.0),
+              ),
+            )
         | inr no' ↦ absurd cc
       ];
 }
 takes_variable (token.Number d ∷ ts) = record { by = λ a rest h. absurd cc }
 takes_variable (token.Sign g ∷ ts) = record { by = λ a rest h. absurd cc }
 
-prefix_taken : (t : Token) (ts : List Token) (o : Option Prefix) → token_prefix t ≡ o → (a : Prefix) (rest : List Token) → words.prefix_given o (t ∷ ts) ≡ Some (a, rest)
+prefix_taken : (t : Token) (ts : List Token) (o : Option Prefix) → token_prefix t ≡ o → (a : Prefix) (rest : List Token)
+    → words.prefix_given o (t ∷ ts) ≡ Some (a, rest)
     → (us : List Token) × (t ∷ ts ≡ us ++ rest) × spell.prefix a us
 prefix_taken t ts None e a rest h = absurd cc
-prefix_taken t ts (Some found) e a rest h = let p = same_read found a ts rest h in (t ∷ [], ap (λ l. t ∷ l) p.1, is_word t (e ∙ ap (λ q. Some q) p.0))
+prefix_taken t ts (Some found) e a rest h = let p = same_read found a ts rest h in
+    (t ∷ [], ap (λ l. t ∷ l) p.1, is_word t (e ∙ ap (λ q. Some q) p.0))
   where
     is_word : (t : Token) {a : Prefix} → token_prefix t ≡ Some a → spell.prefix a (t ∷ [])
     is_word (token.Word w) e = (w, refl, e)
@@ -68,7 +77,8 @@ takes_prefix (t ∷ ts) = record { by = λ a rest h. prefix_taken t ts (token_pr
 module _ (x : Role) (some : x ≢ role.NoWord) where
   pub takes_said : (ts : List Token) → head_role ts ≡ x → TakesAt ts r.skip (spell.said x)
   takes_said [] e = absurd (some (sym e))
-  takes_said (token.Word w ∷ ts) e = record { by = λ a rest h. (token.Word w ∷ [], ap (λ l. token.Word w ∷ l) (same_read tt a ts rest h).1, (w, refl, e)) }
+  takes_said (token.Word w ∷ ts) e = record
+      { by = λ a rest h. (token.Word w ∷ [], ap (λ l. token.Word w ∷ l) (same_read tt a ts rest h).1, (w, refl, e)) }
   takes_said (token.Number d ∷ ts) e = absurd (some (sym e))
   takes_said (token.Sign g ∷ ts) e = absurd (some (sym e))
 
@@ -84,10 +94,12 @@ module _ (x : Role) (some : x ≢ role.NoWord) where
 
 -- ---- operators
 
-operator_taken : (p : Precedence) (t : Token) (ts : List Token) (o : Option Binary) → of_precedence p (operator_of t) ≡ o → (a : Binary) (rest : List Token) → ops.operator_given o (t ∷ ts) ≡ Some (a, rest)
+operator_taken : (p : Precedence) (t : Token) (ts : List Token) (o : Option Binary) → of_precedence p (operator_of t) ≡ o
+    → (a : Binary) (rest : List Token) → ops.operator_given o (t ∷ ts) ≡ Some (a, rest)
     → (us : List Token) × (t ∷ ts ≡ us ++ rest) × spell.operator p a us
 operator_taken p t ts None e a rest h = absurd cc
-operator_taken p t ts (Some found) e a rest h = let q = same_read found a ts rest h in (t ∷ [], ap (λ l. t ∷ l) q.1, (t, refl, e ∙ ap (λ b. Some b) q.0))
+operator_taken p t ts (Some found) e a rest h = let q = same_read found a ts rest h in
+    (t ∷ [], ap (λ l. t ∷ l) q.1, (t, refl, e ∙ ap (λ b. Some b) q.0))
 
 takes_operator : (p : Precedence) → Takes (ops.operator p) (spell.operator p)
 unfolding ops.operator
@@ -99,20 +111,25 @@ takes_operator p (t ∷ ts) = record { by = λ a rest h. operator_taken p t ts (
 module _ (p : Precedence) (item : Parser Expr) (L : Grammar Expr) (taken : Takes item L) where
   link_taken : Takes (read.link p item) (spell.link p L)
   unfolding read.link
-  link_taken ts = takes_bind (ops.operator p) _ (spell.operator p) _ ts (takes_operator p ts) (λ binary. takes_map item L (read.make_link binary) taken)
+  link_taken ts = takes_bind (ops.operator p) _ (spell.operator p) _ ts (takes_operator p ts)
+      (λ binary. takes_map item L (read.make_link binary) taken)
 
   rows_taken : Takes (read.rows p item) (spell.rows p L)
   unfolding read.rows
-  rows_taken ts = takes_bind item _ L _ ts (taken ts) (λ first. takes_row (sees_operator p) (read.link p item) (spell.link p L) (λ us _. link_taken us) [] _ _ (λ more. takes_pure (read.row_of first more)))
+  rows_taken ts = takes_bind item _ L _ ts (taken ts)
+      (λ first. takes_row (sees_operator p) (read.link p item) (spell.link p L) (λ us _. link_taken us) [] _ _
+      (λ more. takes_pure (read.row_of first more)))
 
 expr_taken : (p : Parser Expr) (L : Grammar Expr) → Takes p L → Takes (read.expr_with p) (spell.expr_with L)
 expr_taken p L pre =
-    rows_taken Test (read.univ p) (spell.univ L) (rows_taken Universal (read.sum p) (spell.sum L) (rows_taken Sum (read.prod p) (spell.prod L)
+    rows_taken Test (read.univ p) (spell.univ L)
+    (rows_taken Universal (read.sum p) (spell.sum L) (rows_taken Sum (read.prod p) (spell.prod L)
     (rows_taken Product (read.join p) (spell.join L) (rows_taken Join p L pre))))
 
 -- ---- operands
 
-takes_look : (f : Role → Parser Expr) (L : Grammar Expr) (ts : List Token) → TakesAt ts (f (head_role ts)) L → TakesAt ts (r.◌>>=◌ words.look f) L
+takes_look : (f : Role → Parser Expr) (L : Grammar Expr) (ts : List Token) → TakesAt ts (f (head_role ts)) L
+    → TakesAt ts (r.◌>>=◌ words.look f) L
 takes_look f L ts h = record { by = h.by }
 
 lone_taken : Takes read.lone spell.lone
@@ -121,12 +138,15 @@ lone_taken = takes_map words.variable spell.variable e.Name takes_variable
 
 item_taken : (ts : List Token) → head_kind ts ≡ k.OpenSquare → TakesAt ts (r.◌>>◌ r.skip read.item) spell.item
 unfolding read.item
-item_taken = takes_past k.OpenSquare (λ h. cc) _ _ (λ _. λ ts. takes_bind r.number _ s.number _ ts (takes_number ts) (λ at. takes_end k.CloseSquare (λ h. cc) (Item at)))
+item_taken = takes_past k.OpenSquare (λ h. cc) _ _
+    (λ _. λ ts. takes_bind r.number _ s.number _ ts (takes_number ts) (λ at. takes_end k.CloseSquare (λ h. cc) (Item at)))
 
 module _ (p : Parser Expr) (L : Grammar Expr) (nested : Takes p L) where
   enclosed_taken : (ts : List Token) → head_kind ts ≡ k.Open → TakesAt ts (r.◌>>◌ r.skip (read.enclosed p)) (spell.enclosed L)
   unfolding read.enclosed
-  enclosed_taken = takes_past k.Open (λ h. cc) _ _ (λ _. λ ts. takes_bind (read.expr_with p) _ (spell.expr_with L) _ ts (expr_taken p L nested ts) (λ inner. takes_end k.Close (λ h. cc) inner))
+  enclosed_taken = takes_past k.Open (λ h. cc) _ _
+      (λ _. λ ts. takes_bind (read.expr_with p) _ (spell.expr_with L) _ ts (expr_taken p L nested ts)
+      (λ inner. takes_end k.Close (λ h. cc) inner))
 
   prefixed_taken : Takes (read.prefixed p) (spell.prefixed L)
   unfolding read.prefixed
@@ -134,7 +154,11 @@ module _ (p : Parser Expr) (L : Grammar Expr) (nested : Takes p L) where
 
   applied_taken : (ts : List Token) → head_kind ts ≡ k.Open → TakesAt ts (r.◌>>◌ r.skip (read.applied p)) (spell.applied L)
   unfolding read.applied
-  applied_taken ts h = record { by = (takes_bind (r.◌>>◌ r.skip (read.enclosed p)) _ (spell.enclosed L) _ ts (enclosed_taken ts h) (λ argument. takes_pure (Apply argument))).by }
+  applied_taken ts h = record {
+    by =
+        (takes_bind (r.◌>>◌ r.skip (read.enclosed p)) _ (spell.enclosed L) _ ts (enclosed_taken ts h)
+        (λ argument. takes_pure (Apply argument))).by;
+  }
 
   postfix_by_taken : (ts : List Token) (kind : Kind) → head_kind ts ≡ kind → TakesAt ts (read.postfix_by p kind) (spell.postfix L)
   postfix_by_taken ts k.Inverse h = takes_or_left _ (takes_past k.Inverse (λ h. cc) _ _ (λ _. takes_pure Inverse) ts h)
@@ -146,7 +170,8 @@ module _ (p : Parser Expr) (L : Grammar Expr) (nested : Takes p L) where
   unfolding read.postfix
   postfix_taken ts = takes_peek (read.postfix_by p) (spell.postfix L) ts (postfix_by_taken ts (head_kind ts) refl)
 
-module _ (lp : Parser Literal) (ll : Grammar Literal) (literal : Takes lp ll) (p : Parser Expr) (L : Grammar Expr) (nested : Takes p L) where
+module _ (lp : Parser Literal) (ll : Grammar Literal) (literal : Takes lp ll) (p : Parser Expr) (L : Grammar Expr)
+    (nested : Takes p L) where
   whole_taken : Takes (read.whole_literal lp) (spell.whole_literal ll)
   unfolding read.whole_literal
   whole_taken = takes_map lp ll e.Literal literal
@@ -163,9 +188,12 @@ module _ (lp : Parser Literal) (ll : Grammar Literal) (literal : Takes lp ll) (p
 
   post_taken : Takes (read.post lp p) (spell.post ll L)
   unfolding read.post
-  post_taken ts = takes_bind (read.atom lp p) _ (spell.atom ll L) _ ts (atom_taken ts) (λ operand. takes_row read.sees_postfix (read.postfix p) (spell.postfix L) (λ us _. postfix_taken p L nested us) [] _ _ (λ more. takes_pure (read.post_of operand more)))
+  post_taken ts = takes_bind (read.atom lp p) _ (spell.atom ll L) _ ts (atom_taken ts)
+      (λ operand. takes_row read.sees_postfix (read.postfix p) (spell.postfix L) (λ us _. postfix_taken p L nested us) [] _ _
+      (λ more. takes_pure (read.post_of operand more)))
 
-  flows_taken : (first : Role) → first ≢ role.NoWord → (found : Flow) (ts : List Token) → head_role ts ≡ first → TakesAt ts (r.◌>>◌ r.skip (read.flows lp p found)) (spell.flows ll L first found)
+  flows_taken : (first : Role) → first ≢ role.NoWord → (found : Flow) (ts : List Token) → head_role ts ≡ first
+      → TakesAt ts (r.◌>>◌ r.skip (read.flows lp p found)) (spell.flows ll L first found)
   unfolding read.flows
   flows_taken first some found ts h = takes_bind r.skip _ (spell.said first) _ ts (takes_said first some ts h) (λ _. λ us.
       takes_bind (read.post lp p) _ (spell.post ll L) _ us (post_taken us) (λ source. λ vs.
@@ -187,7 +215,8 @@ module _ (lp : Parser Literal) (ll : Grammar Literal) (literal : Takes lp ll) (p
 pub pre_taken : (n : ℕ) → Takes (read.pre n) (spell.pre n)
 unfolding read.pre spell.pre
 pre_taken zero ts = takes_none ts (spell.pre 0)
-pre_taken (suc n) ts = level_taken (literal (suc n)) (literal_grammar (suc n)) (literal_taken (suc n)) (read.pre n) (spell.pre n) (pre_taken n) ts
+pre_taken (suc n) ts = level_taken (literal (suc n)) (literal_grammar (suc n)) (literal_taken (suc n)) (read.pre n) (spell.pre n)
+    (pre_taken n) ts
 
 pub expression_taken : (n : ℕ) → Takes (read.expression n) (spell.expression n)
 expression_taken n = expr_taken (read.pre n) (spell.pre n) (pre_taken n)

@@ -32,18 +32,24 @@ not_given stmt (inl h) = cc
 not_given stmt (inr h) = cc
 
 module _ (ts cursor left : List Token) (n : ℕ) (same : cursor ≡ ts) (enough : length ts < n) where
-  pub whole_found : (found : Stmt) (m : ℕ) → statement n cursor ≡ Some (found, left) → m ≡ length left → m ≤ 0 → Spells statement_grammar found ts
-  whole_found found m e count none = found_whole statement statement_grammar over statement_taken statement_again refl n cursor ts left same enough found e (omega arith)
+  pub whole_found : (found : Stmt) (m : ℕ) → statement n cursor ≡ Some (found, left) → m ≡ length left → m ≤ 0
+      → Spells statement_grammar found ts
+  whole_found found m e count none = found_whole statement statement_grammar over statement_taken statement_again refl n cursor ts left
+      same enough found e (omega arith)
 
   some_left : (m : ℕ) → m ≡ length left → 0 < m → length left ≢ 0
   some_left m count some h = let none : m ≡ 0 = count ∙ h in absurd (omega arith)
 
   pub whole_goes_on : (found : Stmt) (m : ℕ) → statement n cursor ≡ Some (found, left) → m ≡ length left → 0 < m → NoStatement ts
-  whole_goes_on found m e count some = λ stmt spelled. not_given stmt (over_only statement statement_grammar over statement_taken statement_again refl n cursor ts left same enough stmt found e (some_left m count some) spelled)
+  whole_goes_on found m e count some = λ stmt spelled. not_given stmt
+      (over_only statement statement_grammar over statement_taken statement_again refl n cursor ts left same enough stmt found e
+      (some_left m count some) spelled)
 
   pub whole_fails : (f : Fault) → Reads (statement n cursor) (Err f) left → IsWhole ts (Err f)
   whole_fails fault.NoMemory e = tt
-  whole_fails fault.Syntax e = λ stmt spelled. not_given stmt (fails_only statement statement_grammar over statement_taken statement_again refl n cursor ts left same enough stmt fault.Syntax e spelled)
+  whole_fails fault.Syntax e = λ stmt spelled. not_given stmt
+      (fails_only statement statement_grammar over statement_taken statement_again refl n cursor ts left same enough stmt fault.Syntax e
+      spelled)
 
 -- ---- what is due
 
@@ -54,11 +60,13 @@ module _ (ts : List Token) (limit : ℤ) where
   pub due_deep : is_too_deep ts ≡ true → Unless ts limit (Err TooDeep)
   due_deep deep = inr (inl (deep, refl))
 
-  pub due_fault : (f : Fault) (refusal : Refusal) → is_too_deep ts ≡ false → IsWhole ts (Err f) → refusal ≡ of_fault f → Unless ts limit (Err refusal)
+  pub due_fault : (f : Fault) (refusal : Refusal) → is_too_deep ts ≡ false → IsWhole ts (Err f) → refusal ≡ of_fault f
+      → Unless ts limit (Err refusal)
   due_fault fault.NoMemory refusal flat none is = inl (ap (λ r. Err r) is)
   due_fault fault.Syntax refusal flat none is = inr (inr (inl (flat, none, ap (λ r. Err r) is)))
 
-  pub due_judged : (found : Stmt) (answer : Result Stmt Refusal) (k : ℤ) → is_too_deep ts ≡ false → IsWhole ts (Ok found) → k ≡ limit → answer ≡ judged k ts found → Unless ts limit answer
+  pub due_judged : (found : Stmt) (answer : Result Stmt Refusal) (k : ℤ) → is_too_deep ts ≡ false → IsWhole ts (Ok found) → k ≡ limit
+      → answer ≡ judged k ts found → Unless ts limit answer
   due_judged found answer k flat spelled back is = inr (inr (inr (flat, found, spelled, is ∙ ap (λ z. judged z ts found) back)))
 
   -- one answer is due
@@ -83,21 +91,25 @@ pub one_due : (bytes : Text) (limit : ℤ) (a b : Result Stmt Refusal) → IsDue
 one_due bytes limit a b (inl x) (inl y) = x.1 ∙ sym y.1
 one_due bytes limit a b (inl x) (inr y) = absurd (no_tokens bytes y.0 x.0 y.1)
 one_due bytes limit a b (inr x) (inl y) = absurd (no_tokens bytes x.0 y.0 x.1)
-one_due bytes limit a b (inr x) (inr y) = due_once x.0 limit a b x.2 (subst (λ (ts : List Token). IsDueTo ts limit b) (sym (same_tokens bytes x.0 y.0 x.1 y.1)) y.2)
+one_due bytes limit a b (inr x) (inr y) = due_once x.0 limit a b x.2
+    (subst (λ (ts : List Token). IsDueTo ts limit b) (sym (same_tokens bytes x.0 y.0 x.1 y.1)) y.2)
 
 -- ---- from bytes
 
 module _ (bytes : Text) (limit : ℤ) where
-  pub due_bytes : (ts : List Token) (answer : Result Stmt Refusal) (k : ℤ) → tokens bytes ≡ Some ts → k ≡ limit → Unless ts k answer → (answer ≡ Err NoMemory) ⊎ IsDue bytes limit answer
+  pub due_bytes : (ts : List Token) (answer : Result Stmt Refusal) (k : ℤ) → tokens bytes ≡ Some ts → k ≡ limit → Unless ts k answer
+      → (answer ≡ Err NoMemory) ⊎ IsDue bytes limit answer
   due_bytes ts answer k read back (inl none) = inl none
   due_bytes ts answer k read back (inr due) = inr (inr (ts, read, subst (λ z. IsDueTo ts z answer) back due))
 
-  pub due_refused : (refusal : Refusal) → text.Lexes (tokens bytes) (Err refusal) → (let answer : Result Stmt Refusal = Err refusal in (answer ≡ Err NoMemory) ⊎ IsDue bytes limit answer)
+  pub due_refused : (refusal : Refusal) → text.Lexes (tokens bytes) (Err refusal)
+      → (let answer : Result Stmt Refusal = Err refusal in (answer ≡ Err NoMemory) ⊎ IsDue bytes limit answer)
   due_refused Syntax none = inr (inl (none, refl))
   due_refused NoMemory none = inl refl
   due_refused _ none = absurd none
 
-  pub exactly_due : (result : Result Stmt Refusal) → ((result ≡ Err NoMemory) ⊎ IsDue bytes limit result) → (answer : Result Stmt Refusal) → IsDue bytes limit answer → Answers result answer
+  pub exactly_due : (result : Result Stmt Refusal) → ((result ≡ Err NoMemory) ⊎ IsDue bytes limit result)
+      → (answer : Result Stmt Refusal) → IsDue bytes limit answer → Answers result answer
   exactly_due result (inl none) answer due = inr none
   exactly_due result (inr is) answer due = inl (one_due bytes limit result answer is due)
 

@@ -39,11 +39,13 @@ not_over ts lt = false_from_ne_true (over ts) (λ h. let none : length ts ≡ 0 
 
 module _ (n depth : ℕ) where
   -- what begins as a binding is no expression: its name alone is one, and `:=` does not go on with it
-  name_first : (a : Expr) (w : Text) (t : Token) (ts : List Token) → exprs.expression depth a (token.Word w ∷ (t ∷ ts)) → length (token.Word w ∷ (t ∷ ts)) < n
+  name_first : (a : Expr) (w : Text) (t : Token) (ts : List Token) → exprs.expression depth a (token.Word w ∷ (t ∷ ts))
+      → length (token.Word w ∷ (t ∷ ts)) < n
       → role_of w ≡ role.Name → kind_of t ≡ k.Assign → ⊥
   name_first a w t ts l lt is assign =
       let whole = (expression_again n depth).by a (token.Word w ∷ (t ∷ ts)) [] l lt refl in
-      let first = (expression_again n 1).by (e.Name w) (token.Word w ∷ []) (t ∷ ts) (name_is_expression w is) (omega arith) (closing_over t ts (rw assign refl)) in
+      let first = (expression_again n 1).by (e.Name w) (token.Word w ∷ []) (t ∷ ts) (name_is_expression w is) (omega arith)
+      (closing_over t ts (rw assign refl)) in
       let p = same_read (e.Name w) a (t ∷ ts) [] (sym first ∙ ap (expression n) (sym (append-nil (token.Word w ∷ (t ∷ ts)))) ∙ whole) in
       some_left t ts p.1
     where
@@ -58,7 +60,8 @@ module _ (n depth : ℕ) where
       no_second true = refl
       no_second false = refl
   no_binding a (token.Word w ∷ (t ∷ ts)) l lt h =
-      name_first a w t ts l lt (is_role_true (role_of w) role.Name (both_left _ (is_kind (kind_of t) k.Assign) h)) (is_kind_true (kind_of t) k.Assign (both_right (is_role (role_of w) role.Name) _ h))
+      name_first a w t ts l lt (is_role_true (role_of w) role.Name (both_left _ (is_kind (kind_of t) k.Assign) h))
+      (is_kind_true (kind_of t) k.Assign (both_right (is_role (role_of w) role.Name) _ h))
   no_binding a (token.Number d ∷ (t ∷ ts)) l lt h = false≢true h
   no_binding a (token.Sign g ∷ (t ∷ ts)) l lt h = false≢true h
 
@@ -81,7 +84,15 @@ module _ (n depth : ℕ) where
   -- ---- which form a text has
 
   bound_seen : (a : Stmt) (us rest : List Token) → spell.bound (exprs.expression depth) a us → read.sees_binding (us ++ rest) ≡ true
-  bound_seen a us rest l = rw (l.3, l.4.0, l.5.3, l.5.4.1, is_role_same (role_of l.0) role.Name l.4.1, is_kind_same (kind_of l.5.4.0) k.Assign l.5.4.2) refl
+  bound_seen a us rest l = rw (
+    l.3,
+    l.4.0,
+    l.5.3,
+    l.5.4.1,
+    is_role_same (role_of l.0) role.Name l.4.1,
+    is_kind_same
+        (kind_of l.5.4.0) k.Assign l.5.4.2,
+  ) refl
 
   some_left : (us rest : List Token) → 0 < length us → over (us ++ rest) ≡ false
   some_left us rest lt = not_over (us ++ rest) (omega (arith, length-append us rest))
@@ -108,20 +119,27 @@ module _ (n depth : ℕ) where
   shown_starts : Starts (spell.shown (exprs.expression depth)) at_expr
   shown_starts = starts_bind (exprs.expression depth) _ at_expr (expression_starts depth)
 
-  read_again : (a : Stmt) (us rest : List Token) → spell.statement_with (exprs.expression depth) a us → length us < n → over rest ≡ true → read.statement_with (expression n) (us ++ rest) ≡ Some (a, rest)
+  read_again : (a : Stmt) (us rest : List Token) → spell.statement_with (exprs.expression depth) a us → length us < n → over rest ≡ true
+      → read.statement_with (expression n) (us ++ rest) ≡ Some (a, rest)
   unfolding read.statement_with
   read_again a us rest (inl l) lt stop = rw (l.1, stop, l.0) refl
   read_again a us rest (inr (inl l)) lt stop =
       rw (some_left us rest (bound_full.by a us l), bound_seen a us rest l) (bound_again.by a us rest l lt stop)
   read_again a us rest (inr (inr (inl l))) lt stop =
       let head = printed_role a us rest l in
-      rw (some_left us rest (printed_full.by a us l), by_role (head_role (us ++ rest)) head (is_kind (second_kind (us ++ rest)) k.Assign), is_role_same (head_role (us ++ rest)) role.Print head)
+      rw (
+        some_left us rest (printed_full.by a us l),
+        by_role (head_role (us ++ rest)) head
+            (is_kind (second_kind (us ++ rest)) k.Assign),
+        is_role_same (head_role (us ++ rest)) role.Print head,
+      )
       (printed_again.by a us rest l (omega arith) stop)
   read_again a us rest (inr (inr (inr l))) lt stop =
       let begins = not_print (head_role (us ++ rest)) (shown_starts.by a us rest l) in
       rw (some_left us rest (shown_full.by a us l), no_binding_after a us rest l lt stop, begins) (shown_again.by a us rest l lt stop)
     where
-      no_binding_after : (a : Stmt) (us rest : List Token) → spell.shown (exprs.expression depth) a us → length us < n → over rest ≡ true → read.sees_binding (us ++ rest) ≡ false
+      no_binding_after : (a : Stmt) (us rest : List Token) → spell.shown (exprs.expression depth) a us → length us < n → over rest ≡ true
+          → read.sees_binding (us ++ rest) ≡ false
       no_binding_after a us rest l lt stop =
           let alone : us ≡ l.1 = l.3 ∙ ap (λ (x : List Token). l.1 ++ x) l.5.1 ∙ append-nil l.1 in
           let whole : us ++ rest ≡ l.1 = ap (λ (x : List Token). us ++ x) (over_nil rest stop) ∙ append-nil us ∙ alone in

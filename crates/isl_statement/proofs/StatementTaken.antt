@@ -22,7 +22,8 @@ use Rattle.isl_statement.proofs.ExpressionTaken.{takes_variable, takes_said, exp
 module _ (p : Parser Expr) (L : Grammar Expr) (expr : Takes p L) where
   bound_taken : Takes (read.bound p) (spell.bound L)
   unfolding read.bound
-  bound_taken ts = takes_bind words.variable _ exprs.variable _ ts (takes_variable ts) (λ name. takes_after k.Assign (λ h. cc) _ _ (λ _. takes_map p L (Bind name) expr))
+  bound_taken ts = takes_bind words.variable _ exprs.variable _ ts (takes_variable ts)
+      (λ name. takes_after k.Assign (λ h. cc) _ _ (λ _. takes_map p L (Bind name) expr))
 
   shown_taken : Takes (read.shown p) (spell.shown L)
   unfolding read.shown
@@ -39,10 +40,12 @@ module _ (p : Parser Expr) (L : Grammar Expr) (expr : Takes p L) where
           | inl none ↦ let c = (takes_pure Empty ts).by a rest none.1 in (c.0, c.1, inl c.2)
           | inr some ↦ elim (chosen (read.sees_binding ts) (read.bound p ts) (read.answered p ts) (Some (a, rest)) some.1) [
             | inl yes' ↦ let c = (bound_taken ts).by a rest yes'.1 in (c.0, c.1, inr (inl c.2))
-            | inr no' ↦ elim (chosen (is_role (head_role ts) role.Print) (r.◌>>◌ r.skip (read.shown p) ts) (read.shown p ts) (Some (a, rest)) no'.1) [
-              | inl print ↦ let c = (printed_taken ts (is_role_true (head_role ts) role.Print print.0)).by a rest print.1 in (c.0, c.1, inr (inr (inl c.2)))
-              | inr show ↦ let c = (shown_taken ts).by a rest show.1 in (c.0, c.1, inr (inr (inr c.2)))
-            ]
+            | inr no' ↦ elim (chosen (is_role (head_role ts) role.Print) (r.◌>>◌ r.skip (read.shown p) ts) (read.shown p ts)
+                (Some (a, rest)) no'.1) [
+                  | inl print ↦ let c = (printed_taken ts (is_role_true (head_role ts) role.Print print.0)).by a rest print.1 in
+                      (c.0, c.1, inr (inr (inl c.2)))
+                  | inr show ↦ let c = (shown_taken ts).by a rest show.1 in (c.0, c.1, inr (inr (inr c.2)))
+                ]
           ]
         ];
   }

@@ -26,21 +26,27 @@ abbrev all_pass : (Kind → Bool) → List (Text × Kind) → Bool
 all_pass test [] = true
 all_pass test (entry ∷ entries) = test entry.1 && all_pass test entries
 
-kind_passes : (test : Kind → Bool) (table : List (Text × Kind)) (text : Text) (other : Kind) → all_pass test table ≡ true → test other ≡ true → test (kind_in table text other) ≡ true
+kind_passes : (test : Kind → Bool) (table : List (Text × Kind)) (text : Text) (other : Kind) → all_pass test table ≡ true
+    → test other ≡ true → test (kind_in table text other) ≡ true
 kind_passes test [] text other all e = e
-kind_passes test (entry ∷ entries) text other all e = by_test (bytes_eq entry.0 text) (both_left _ _ all) (kind_passes test entries text other (both_right _ _ all) e)
+kind_passes test (entry ∷ entries) text other all e = by_test (bytes_eq entry.0 text) (both_left _ _ all)
+    (kind_passes test entries text other (both_right _ _ all) e)
   where
-    by_test : (b : Bool) → test entry.1 ≡ true → test (kind_in entries text other) ≡ true → test (cond b entry.1 (kind_in entries text other)) ≡ true
+    by_test : (b : Bool) → test entry.1 ≡ true → test (kind_in entries text other) ≡ true
+        → test (cond b entry.1 (kind_in entries text other)) ≡ true
     by_test true here there = here
     by_test false here there = there
 
 -- what holds of every kind of word
-pub word_passes : (test : Kind → Bool) → all_pass test word_kinds ≡ true → test k.Name ≡ true → (word : Text) → test (kind_of (token.Word word)) ≡ true
+pub word_passes : (test : Kind → Bool) → all_pass test word_kinds ≡ true → test k.Name ≡ true → (word : Text)
+    → test (kind_of (token.Word word)) ≡ true
 unfolding word_kind
 word_passes test all e word = kind_passes test word_kinds word k.Name all e
 
 -- what no word is
-pub sign_is_no_word : (t : Token) (test : Kind → Bool) → all_pass (λ kind. not (test kind)) word_kinds ≡ true → test k.Name ≡ false → test (kind_of t) ≡ true → token_role t ≡ role.NoWord
-sign_is_no_word (token.Word word) test all name e = absurd (false≢true (ap not (sym e) ∙ word_passes (λ kind. not (test kind)) all (ap not name) word))
+pub sign_is_no_word : (t : Token) (test : Kind → Bool) → all_pass (λ kind. not (test kind)) word_kinds ≡ true → test k.Name ≡ false
+    → test (kind_of t) ≡ true → token_role t ≡ role.NoWord
+sign_is_no_word (token.Word word) test all name e = absurd
+    (false≢true (ap not (sym e) ∙ word_passes (λ kind. not (test kind)) all (ap not name) word))
 sign_is_no_word (token.Number digits) test all name e = refl
 sign_is_no_word (token.Sign sign) test all name e = refl

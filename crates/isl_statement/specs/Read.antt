@@ -26,7 +26,10 @@ IsWhole ts (Err fault.Syntax) = NoStatement ts
 
 -- the statement that the tokens spell, unless a limit refuses it: first those of its literals, then that of its numbers
 abbrev pub judged : ℤ → List Token → Stmt → Result Stmt Refusal
-judged limit ts stmt = if not (statement_is_within stmt) then Err TooWide else (if has_wide_number limit ts then Err WideNumber else Ok stmt)
+judged limit ts stmt =
+    if not (statement_is_within stmt) then Err TooWide
+    else (if has_wide_number limit ts then Err WideNumber
+    else Ok stmt)
 
 -- the answer that is due to tokens: they are nested too deeply, or spell no statement, or spell one that is judged
 abbrev pub IsDueTo : List Token → ℤ → Result Stmt Refusal → Type 0

@@ -21,16 +21,17 @@ look_up (entry ∷ entries) text = if bytes_eq entry.0 text then Some entry.1 el
 -- the words that stand before an operand
 abbrev pub prefixes : List (Text × Prefix)
 prefixes =
-    (codes "dom", Domain) ∷ (codes "domain", Domain) ∷ (codes "ran", Range) ∷ (codes "range", Range) ∷ (codes "deltas", Deltas) ∷ (codes "identity", Identity)
-    ∷ (codes "wrap", Wrap) ∷ (codes "unwrap", Unwrap) ∷ (codes "zip", Zip) ∷ (codes "domain_map", DomainMap) ∷ (codes "range_map", RangeMap)
-    ∷ (codes "lexmin", LexMin) ∷ (codes "lexmax", LexMax) ∷ (codes "coalesce", Coalesce) ∷ (codes "sample", Sample) ∷ (codes "scan", Scan)
-    ∷ (codes "codegen", Codegen) ∷ []
+    (codes "dom", Domain) ∷ (codes "domain", Domain) ∷ (codes "ran", Range) ∷ (codes "range", Range) ∷ (codes "deltas", Deltas)
+    ∷ (codes "identity", Identity) ∷ (codes "wrap", Wrap) ∷ (codes "unwrap", Unwrap) ∷ (codes "zip", Zip)
+    ∷ (codes "domain_map", DomainMap) ∷ (codes "range_map", RangeMap) ∷ (codes "lexmin", LexMin) ∷ (codes "lexmax", LexMax)
+    ∷ (codes "coalesce", Coalesce) ∷ (codes "sample", Sample) ∷ (codes "scan", Scan) ∷ (codes "codegen", Codegen) ∷ []
 
 -- the other words that are no names
 abbrev pub keywords : List (Text × Role)
 keywords =
-    (codes "print", role.Print) ∷ (codes "any", role.Any) ∷ (codes "last", role.Last) ∷ (codes "before", role.Before) ∷ (codes "under", role.Under)
-    ∷ (codes "cross", role.Cross) ∷ (codes "assume", role.Reserved) ∷ (codes "pip", role.Reserved) ∷ (codes "aff", role.Reserved) ∷ []
+    (codes "print", role.Print) ∷ (codes "any", role.Any) ∷ (codes "last", role.Last) ∷ (codes "before", role.Before)
+    ∷ (codes "under", role.Under) ∷ (codes "cross", role.Cross) ∷ (codes "assume", role.Reserved) ∷ (codes "pip", role.Reserved)
+    ∷ (codes "aff", role.Reserved) ∷ []
 
 unfoldable pub prefix_of : Text → Option Prefix
 prefix_of word = look_up prefixes word

@@ -62,6 +62,9 @@ fn dependence(
 }
 
 /// An expression nested less than `depth` deep.
+///
+/// # Errors
+/// `Syntax` where none comes next.
 #[cycle(expression)]
 pub fn expression(alloc: Global, tokens: &mut Cursor<'_>, depth: usize) -> Result<Expr, Fault>
     ensures { Reads (spec.expression depth tokens.old) result tokens.new }

@@ -87,6 +87,7 @@ fn head_operator(tokens: &Cursor<'_>, precedence: Precedence) -> Option<Binary>
     }
 }
 
+/// Whether an operator of the precedence comes next.
 pub fn sees_operator(tokens: &Cursor<'_>, precedence: Precedence) -> bool
     ensures { result ≡ spec.sees_operator precedence tokens.now }
 {
@@ -94,6 +95,9 @@ pub fn sees_operator(tokens: &Cursor<'_>, precedence: Precedence) -> bool
 }
 
 /// Reads an operator of the precedence.
+///
+/// # Errors
+/// `Syntax` where another token comes next.
 #[tactic(auto, unfolding(crate::specs::Operator::operator))]
 pub fn operator(tokens: &mut Cursor<'_>, precedence: Precedence) -> Result<Binary, Fault>
     ensures { Reads (spec.operator precedence tokens.old) result tokens.new }

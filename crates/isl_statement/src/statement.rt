@@ -46,7 +46,10 @@ fn answered(alloc: Global, tokens: &mut Cursor<'_>, depth: usize) -> Result<Stmt
     shown(alloc, tokens, depth)
 }
 
-/// A statement whose brackets are nested less than `depth` deep, as long as there are tokens.
+/// A statement whose brackets are nested less than `depth` deep, which is empty where no token is left.
+///
+/// # Errors
+/// `Syntax` where other tokens come next than those of a statement.
 #[tactic(auto, unfolding(crate::specs::Statement::statement_with))]
 pub fn statement(alloc: Global, tokens: &mut Cursor<'_>, depth: usize) -> Result<Stmt, Fault>
     ensures { Reads (spec.statement depth tokens.old) result tokens.new }

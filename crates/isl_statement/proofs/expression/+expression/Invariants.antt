@@ -60,7 +60,9 @@ abbrev pub decreases-expression : goal.decreases-expression
 decreases-expression l = 64 * l.depth + 29
 
 abbrev pub invariant-links-loop-turn : goal.invariant-links-loop-turn
-invariant-links-loop-turn l = links l.precedence (operand (pre l.depth) l.precedence) l.fn.tokens ≡ rest_of (sees_operator l.precedence) (link l.precedence (operand (pre l.depth) l.precedence)) (l._turn-end - l._turn) l.found l.tokens
+invariant-links-loop-turn l = links l.precedence (operand (pre l.depth) l.precedence) l.fn.tokens ≡ rest_of (sees_operator l.precedence)
+    (link l.precedence (operand (pre l.depth) l.precedence)) (l._turn-end - l._turn) l.found l.tokens
 
 abbrev pub invariant-postfixes-loop-turn : goal.invariant-postfixes-loop-turn
-invariant-postfixes-loop-turn l = postfixes (pre (l.depth - 1)) l.fn.tokens ≡ rest_of sees_postfix (postfix (pre (l.depth - 1))) (l._turn-end - l._turn) l.found l.tokens
+invariant-postfixes-loop-turn l = postfixes (pre (l.depth - 1)) l.fn.tokens ≡ rest_of sees_postfix (postfix (pre (l.depth - 1)))
+    (l._turn-end - l._turn) l.found l.tokens

@@ -6,4 +6,5 @@ use Rattle.isl_statement.proofs.word.head_prefix.Goals as goal
 
 pub returns-in-Some : goal.returns-in-Some
 returns-in-Some c =
-    prefix_there c.args.tokens.now _ c.in-Some.word.now c.prefix_of.result (ap any_word (sym c.rest.ensures) ∙ c.in-Some.ensures) (c.prefix_of.ensures ∙ ap prefix_of c.as_bytes.ensures.value)
+    prefix_there c.args.tokens.now _ c.in-Some.word.now c.prefix_of.result (ap any_word (sym c.rest.ensures) ∙ c.in-Some.ensures)
+    (c.prefix_of.ensures ∙ ap prefix_of c.as_bytes.ensures.value)
