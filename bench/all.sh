@@ -1,6 +1,6 @@
 #!/usr/bin/env bash
-# All benches, one after the other: one table, and the instructions a literal.
-set -eu
+# All benches, one after the other: one table, and behind it the instructions a literal.
+set -eu -o pipefail
 cd "$(dirname "${BASH_SOURCE[0]}")"
-./literals.sh
-./elimination.sh | tail -n +2
+./elimination.sh
+./literals.sh | tail -n +2

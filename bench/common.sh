@@ -13,14 +13,19 @@ head_row() {
   printf '%-28s %9s %10s %12s %10s\n' name count bytes 'ms each' 'peak KiB'
 }
 
-# Runs a command on a file again and again until a second is full, and prints a row: its name, how many things the file has, its
-# bytes, the milliseconds for each of them, and the peak of memory.
+# Runs a command on a file again and again until a second is full, each time with the exit status that is `wanted` (0), and prints a row: its name,
+# how many things the file has, its bytes, the milliseconds for each of them, and the peak of memory.
 row() {
-  local name="$1" count="$2" file="$3" begin now runs=0
+  local name="$1" count="$2" file="$3" begin now status runs=0
   shift 3
   begin="$(date +%s%N)"
   while :; do
-    command time -f %M -o "$folder/peak" "$@" < "$file" > "$folder/out" 2> "$folder/err" || true
+    status=0
+    command time -f %M -o "$folder/peak" "$@" < "$file" > "$folder/out" 2> "$folder/err" || status=$?
+    if [ "$status" -ne "${wanted:-0}" ]; then
+      echo "$name: exit status $status, and ${wanted:-0} was wanted" >&2
+      exit 1
+    fi
     runs=$((runs + 1))
     now="$(date +%s%N)"
     [ $((now - begin)) -lt 1000000000 ] || break

@@ -27,9 +27,9 @@ row 'a literal of 1,000 pieces' 1 "$folder/pieces" "$program"
 row 'of 20,000 pieces' 1 "$folder/many_pieces" "$program"
 row '32 coordinates wide' 200 "$folder/wide" "$program"
 row '64,000 rows' 1 "$folder/rows" "$program"
-row '100,000 parameters' 1 "$folder/parameters" "$program"
-row '40,000 named entries' 1 "$folder/entries" "$program"
-row '20 MB of braces' 1 "$folder/braces" "$program"
+wanted=3 row '100,000 parameters' 1 "$folder/parameters" "$program"
+wanted=3 row '40,000 named entries' 1 "$folder/entries" "$program"
+wanted=3 row '20 MB of braces' 1 "$folder/braces" "$program"
 
 if command -v valgrind > "$folder/out"; then
   head -n 2000 "$folder/statements" > "$folder/some"

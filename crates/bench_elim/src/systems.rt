@@ -1,4 +1,4 @@
-// The systems that are timed.
+//! The systems that are timed.
 
 use isl_meter::Int;
 use isl_piece::{Coefs, Row, RowKind, System};

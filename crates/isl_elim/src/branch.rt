@@ -1,4 +1,4 @@
-// What elimination makes of the sides of a column.
+//! What elimination makes of the sides of a column.
 
 ghost use Rattle.std.specs.Prelude.{◌≡◌, ◌≢◌, ◌⊎◌, ◌<◌, ◌*◌, [], true, false, All, IfOk, length, map, MatchResult, ◌^◌, pos};
 ghost use Rattle.isl_piece.specs.Row.{IsRowWithin, IsRowUpTo};

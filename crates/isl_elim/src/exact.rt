@@ -1,4 +1,4 @@
-// Columns whose shadow is exact: no splinter, no residue, and no memory but for the rows that are answered.
+//! Columns whose shadow is exact: no splinter, no residue, and no memory but for the rows that are answered.
 
 ghost use Rattle.std.specs.Prelude.{◌≡◌, ◌↔◌, ◌-◌, ◌<◌, ◌∷◌, ◌*◌, ◌^◌, [], All, length, map, IfOk, IsTrue, MatchResult, pos};
 ghost use Rattle.isl_piece.specs.Row.{IsRowWithin, IsRowUpTo};

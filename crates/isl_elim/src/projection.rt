@@ -1,4 +1,4 @@
-// One column out of a system.
+//! One column out of a system.
 
 ghost use Rattle.std.specs.Prelude.{◌≡◌, ◌≢◌, ◌↔◌, ◌<◌, ◌-◌, ◌≤ℤ◌, ◌+ℤ◌, pos, All, length, slice_index_or, None, IfOk, IfSome, IsTrue, option_to_list, MatchOption, MatchResult, ◌^◌};
 ghost use Rattle.isl_meter.specs.Gauge.{IsCharged, IsCutBy, IsDone, IsDoneWithin};

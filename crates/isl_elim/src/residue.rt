@@ -1,4 +1,4 @@
-// Several rows of one column that divisors must not divide: one residue after another.
+//! Several rows of one column that divisors must not divide: one residue after another.
 
 ghost use Rattle.std.specs.Prelude.{◌≡◌, ◌-◌, ◌<◌, ◌<ℤ◌, [], pos, All, length, MatchResult, ◌^◌};
 ghost use Rattle.isl_meter.specs.Gauge.{IsWithin, IsCutUpTo, IsDone, IsDoneWithin};

@@ -1,4 +1,4 @@
-// Splinters: systems in which a lower bound has one of its least values.
+//! Splinters: systems in which a lower bound has one of its least values.
 
 ghost use Rattle.std.specs.Prelude.{◌≡◌, ◌-◌, ◌<◌, ◌++◌, ◌+ℤ◌, pos, All, MatchResult, option_to_list, ◌^◌, ◌≤◌, unsigned_abs};
 ghost use Rattle.isl_meter.specs.Gauge.{IsDone, IsDoneWithin};

@@ -1,4 +1,4 @@
-// Several columns out of a system together.
+//! Several columns out of a system together.
 
 ghost use Rattle.std.specs.Prelude.{◌≡◌, ◌≢◌, ◌<◌, ◌-◌, All, AllPairs, IfOk, MatchResult};
 ghost use Rattle.isl_meter.specs.Gauge.{IsCharged, IsCutBy};

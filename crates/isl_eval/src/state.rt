@@ -1,4 +1,5 @@
-// What statements have bound so far.
+//! What statements have bound so far.
+
 ghost use Rattle.std.specs.Prelude.{◌≡◌};
 ghost use Rattle.isl_eval.specs.Bindings.{unbound};
 

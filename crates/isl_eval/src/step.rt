@@ -1,4 +1,5 @@
-// One step of the machine.
+//! One step of the machine.
+
 ghost use Rattle.std.specs.Prelude.{◌≡◌, ◌++◌, List, ℕ, true, OnOk, OnErr, IfErr, MatchResult};
 ghost use Rattle.isl_meter.specs.Gauge.{limit_of, overflown, IsCharged, IsKept};
 ghost use Rattle.isl_tree.specs.Plain.{is_plain};

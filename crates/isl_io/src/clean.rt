@@ -1,4 +1,5 @@
-// A source and a sink that never fail.
+//! A source and a sink that never fail.
+
 ghost use Rattle.std.specs.Prelude.{◌≡◌, ◌<◌, ◌≤◌, ◌++◌, length, take, drop, min, IfOk, Some, None};
 ghost use Rattle.std.specs.Io.KnownBytes.{ReadConsumes};
 

@@ -1,4 +1,5 @@
-// A sink into memory, in small pieces and with failing calls.
+//! A sink into memory, in small pieces and with failing calls.
+
 ghost use Rattle.std.specs.Prelude.{◌≡◌, ◌↔◌, ◌⊎◌, ◌<◌, ◌≤◌, [], ◌++◌, length, take, min, IfOk, OnErr, IsErr, Contains, Some};
 ghost use Rattle.isl_math.specs.Count.{risen};
 ghost use Rattle.isl_io.specs.Outside.{room_left};

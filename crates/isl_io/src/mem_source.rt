@@ -1,4 +1,5 @@
-// A source over bytes in memory, in small pieces and with failing calls.
+//! A source over bytes in memory, in small pieces and with failing calls.
+
 ghost use Rattle.std.specs.Prelude.{◌≡◌, ◌↔◌, ◌<◌, ◌≤◌, ◌++◌, length, take, drop, min, IfOk, OnErr, IsErr, Contains, Some};
 ghost use Rattle.std.specs.Io.KnownBytes.{ReadConsumes};
 ghost use Rattle.isl_math.specs.Count.{risen};

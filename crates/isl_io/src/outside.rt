@@ -1,4 +1,5 @@
-// A source of bytes and a sink for bytes, as generic code sees them.
+//! A source of bytes and a sink for bytes, as generic code sees them.
+
 ghost use Rattle.std.specs.Prelude.{◌<◌, ◌≤◌, List, ℕ, length, Option, IfOk, OnErr};
 ghost use Rattle.std.specs.Io.KnownBytes.{ReadConsumes, WriteAppends};
 ghost use Rattle.isl_math.specs.Count.{Rose};

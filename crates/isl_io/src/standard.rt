@@ -1,4 +1,5 @@
-// The standard streams. What they give and show is outside of what is proved.
+//! The standard streams. What they give and show is outside of what is proved.
+
 ghost use Rattle.std.specs.Prelude.{◌≡◌, ◌<◌, ◌≤◌, ℕ, length, take, None, IfOk, OnErr, MatchResult};
 ghost use Rattle.std.specs.Io.KnownBytes.{ReadConsumes, Appends};
 ghost use Rattle.isl_math.specs.Count.{risen};

@@ -1,4 +1,5 @@
-// Bytes in memory that are given from the front.
+//! Bytes in memory that are given from the front.
+
 ghost use Rattle.std.specs.Prelude.{◌≡◌, ◌++◌, length, take, drop, min};
 
 use std::marker::Model;

@@ -153,7 +153,7 @@ scaled_row columns m r scaled small p is w e f =
     near j k v w r s d e f h = rw d at (Divides-same j (v -ℤ r) (w -ℤ s) (omega (arith, linear)) h)
 
 -- ---- two congruences of different divisors
--- what each is multiplied by, so that both have the least common multiple
+-- what each is multiplied by, so that both have one divisor
 pub record CommonParts (j k g m n : ℤ) : Type 0 where
   pub positive : pos 0 <ℤ g
   pub m_positive : pos 0 <ℤ m

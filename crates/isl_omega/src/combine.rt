@@ -1,4 +1,4 @@
-// Sums of multiples of rows.
+//! Sums of multiples of rows.
 
 ghost use Rattle.std.specs.Prelude.{◌≡◌, ◌*ℤ◌, ◌+ℤ◌, pos, length, All, MatchResult, ℕ, ◌*◌, ◌+◌, ◌^◌, ◌<◌, ◌≤◌, unsigned_abs, IfErr};
 ghost use Rattle.std.specs.List.{remove};

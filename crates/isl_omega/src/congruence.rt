@@ -1,4 +1,4 @@
-// Congruences on one column: several are made one, and that one is a substitution.
+//! Congruences on one column: several are made one, and that one is a substitution.
 
 ghost use Rattle.std.specs.Prelude.{◌≡◌, ◌<◌, ◌*ℤ◌, ◌<ℤ◌, ℤ, pos, All, IfOk, MatchResult, length, ◌≢◌, []};
 ghost use Rattle.isl_meter.specs.Gauge.{IsWithin, IsCutUpTo};

@@ -1,4 +1,4 @@
-// Substitution by an equality.
+//! Substitution by an equality.
 
 ghost use Rattle.std.specs.Prelude.{◌≡◌, ◌≢◌, ◌-◌, ◌<◌, pos, length, All, IfOk, MatchResult, ◌^◌};
 ghost use Rattle.std.specs.List.{AllZip};

@@ -1,4 +1,4 @@
-// Rows without a column.
+//! Rows without a column.
 
 ghost use Rattle.std.specs.Prelude.{◌≡◌, ◌-◌, ◌<◌, pos, All, IfOk, OnErr, MatchResult, map};
 ghost use Rattle.std.specs.List.{remove};

@@ -1,4 +1,4 @@
-// The dark shadow of bounds on a column, and what it leaves out.
+//! The dark shadow of bounds on a column, and what it leaves out.
 
 ghost use Rattle.std.specs.Prelude.{◌≡◌, ◌≢◌, ◌⊎◌, ◌<◌, pos, negsuc, ◌≤ℤ◌, ◌+ℤ◌, ℤ, ◌*◌, IsTrue, length, All, MatchResult, ◌^◌, ◌≤◌, unsigned_abs, IfErr};
 ghost use Rattle.isl_meter.specs.Gauge.{IsWithin, IsChargedUpTo, IsCutUpTo};

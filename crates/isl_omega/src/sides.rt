@@ -1,4 +1,4 @@
-// The rows of a system by what they say of one column.
+//! The rows of a system by what they say of one column.
 
 ghost use Rattle.std.specs.Prelude.{◌≡◌, ◌<◌, length, All, IfOk, IfErr};
 ghost use Rattle.isl_piece.specs.Row.{IsRowWithin, IsWellFormed};

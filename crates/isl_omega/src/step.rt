@@ -1,4 +1,4 @@
-// The congruence step: the congruences on a column as a substitution for it.
+//! The congruence step: the congruences on a column as a substitution for it.
 
 ghost use Rattle.std.specs.Prelude.{◌≡◌, ◌<◌, ◌++◌, ◌∷◌, [], pos, ◌<ℤ◌, All, length, IfOk, IfErr, MatchResult, ◌≢◌, ◌^◌, ◌≤◌, unsigned_abs};
 ghost use Rattle.isl_meter.specs.Gauge.{IsWithin, IsCutUpTo};

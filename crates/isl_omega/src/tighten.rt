@@ -1,4 +1,4 @@
-// Bounds divided as far as they go.
+//! Bounds divided as far as they go.
 
 ghost use Rattle.std.specs.Prelude.{◌≡◌, IfOk};
 ghost use Rattle.isl_piece.specs.declared.constraint.RowKind.TheVariants.{AtLeast};

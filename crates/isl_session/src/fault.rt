@@ -1,4 +1,5 @@
-// What a refused session answers.
+//! What a refused session answers.
+
 use isl_text::refusal::Refusal;
 
 /// A refusal, and the number of the statement that it speaks of, counted from 1.

@@ -1,4 +1,5 @@
-// What the command line chooses.
+//! What the command line chooses.
+
 ghost use Rattle.std.specs.Prelude.{◌≡◌, ◌<◌, ◌≤◌, ◌^◌, All, map, unsigned_abs};
 ghost use Rattle.isl_space.specs.Names.{AreDistinct};
 

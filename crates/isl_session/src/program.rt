@@ -1,4 +1,5 @@
-// The whole program over a source and two sinks.
+//! The whole program over a source and two sinks.
+
 ghost use Rattle.std.specs.Prelude.{◌≡◌, ◌≢◌, ◌+◌, ◌<◌, ◌≤◌, ℕ, List, [], length, vec_len, Err, Some, None, OnOk, IfErr, IfSome, IsNone, IsSome};
 ghost use Rattle.std.specs.List.{concat};
 ghost use Rattle.std.specs.Io.KnownBytes.{Appends, Consumes, IsAtEnd};

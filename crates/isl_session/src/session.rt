@@ -1,4 +1,5 @@
-// A session takes a script in pieces of any length, and answers each statement as soon as it is complete.
+//! A session takes a script in pieces of any length, and answers each statement as soon as it is complete.
+
 ghost use Rattle.std.specs.Prelude.{◌≡◌, ◌+◌, ◌<◌, ◌≤◌, ◌++◌, [], ◌∷◌, ℕ, List, length, take, false, Some, None, IfSome, IfNone, IfErr, IfOk, OnOk};
 ghost use Rattle.std.specs.List.{concat};
 ghost use Rattle.isl_math.specs.Count.{Rose};

@@ -1,4 +1,5 @@
-// How a run ended.
+//! How a run ended.
+
 ghost use Rattle.std.specs.Prelude.{◌≡◌};
 ghost use Rattle.std.specs.Option.{option_copied};
 ghost use Rattle.isl_session.specs.Status.{exit_code};

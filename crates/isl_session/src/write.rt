@@ -1,4 +1,5 @@
-// Whole texts, written to a sink that may take them in pieces.
+//! Whole texts, written to a sink that may take them in pieces.
+
 ghost use Rattle.std.specs.Prelude.{◌≡◌, ◌+◌, ◌++◌, ◌<◌, ◌≤◌, ◌∷◌, [], ℕ, length, take, OnOk, OnErr};
 ghost use Rattle.std.specs.Io.KnownBytes.{Appends};
 ghost use Rattle.isl_math.specs.Count.{Rose};

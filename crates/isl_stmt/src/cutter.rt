@@ -1,4 +1,5 @@
-// Where the statements of a script end.
+//! Where the statements of a script end.
+
 ghost use Rattle.std.specs.Prelude.{◌≡◌, ℕ, ◌-◌, ◌^◌, ◌<◌, ◌↔◌, List, [], ◌∷◌, ◌++◌, IsTrue, MatchBool};
 ghost use Rattle.isl_stmt.specs.Script.{is_blank as is_blank_byte, ends, IsBlank};
 ghost use Rattle.isl_stmt.specs.Cutter.{IsAt};

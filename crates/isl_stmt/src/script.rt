@@ -1,4 +1,5 @@
-// What is true of every script.
+//! What is true of every script.
+
 ghost use Rattle.std.specs.Prelude.{◌≡◌, ℕ, ◌^◌, ◌≤◌, ◌↔◌, ◌||◌, List, [], ◌∷◌, ◌++◌, length, drop, IsTrue, true, false};
 ghost use Rattle.isl_stmt.specs.Script.{place_of, is_blank, is_commented, ends, IsBlank, IsCut, statements, rest_of, readable};
 

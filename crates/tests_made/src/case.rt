@@ -1,14 +1,16 @@
 //! Cases, as they are written: lines of a key and what belongs to it, with empty lines between the cases.
 
+use crate::rows::is_row;
 use std::alloc::{AllocError, Global};
 
-/// What stands behind a key: any text, a number, numbers, or a number and a text.
+/// What stands behind a key: any text, a number, numbers, a number and a text, or a row.
 #[derive(Clone, Copy)]
 pub enum Form {
     Text,
     Number,
     Numbers,
     Counted,
+    Row,
 }
 
 fn is_number(text: &str) -> bool {
@@ -23,6 +25,7 @@ fn has_form(text: &str, form: Form) -> bool {
         Form::Counted => text
             .split_once(' ')
             .is_some_and(|(count, _)| is_number(count)),
+        Form::Row => is_row(text),
     }
 }
 

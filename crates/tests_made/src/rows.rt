@@ -19,6 +19,20 @@ fn kind_of(word: &str) -> Option<RowKind> {
     }
 }
 
+/// Whether the text is a row: a kind, and numbers behind it.
+pub(crate) fn is_row(text: &str) -> bool {
+    let (word, rest) = text.split_once(' ').unwrap_or((text, ""));
+    if kind_of(word).is_none() || rest.is_empty() {
+        return false;
+    }
+    for word in rest.split(' ') {
+        if word.parse::<i128>().is_err() {
+            return false;
+        }
+    }
+    true
+}
+
 fn numbers_of(alloc: Global, text: &str) -> Result<Vec<Int>, AllocError> {
     let mut numbers = Vec::new(alloc);
     for word in text.split_whitespace() {

@@ -117,6 +117,29 @@ fn listed(case: &str, point: &[i128]) -> Option<bool> {
     )
 }
 
+// How many points the case lists.
+fn list_len(case: &str) -> usize {
+    let mut count: usize = 0;
+    for line in case.lines() {
+        count = count.saturating_add(usize::from(line.starts_with("has ")));
+    }
+    count
+}
+
+// Whether the literal has the points that the case lists, and no others, where it lists some, and each of them is looked at.
+fn has_listed(alloc: Global, literal: &Literal, case: &str, columns: usize) -> Result<bool, Wrong> {
+    let mut same = true;
+    let mut met: usize = 0;
+    for at in 0..points(columns) {
+        let point = numbered(alloc, at, columns, FIRST, SIDE)?;
+        if let Some(wanted) = listed(case, &point) {
+            same = same && literal_has(alloc, literal, &point)? == wanted;
+            met = met.saturating_add(usize::from(wanted));
+        }
+    }
+    Ok(same && met == list_len(case))
+}
+
 // Whether the literal's rows, and what is printed of it, have the points that it has.
 fn is_answered(
     alloc: Global,
@@ -140,14 +163,13 @@ fn is_answered(
 pub(crate) fn literal_is_right(alloc: Global, case: &str, text: &str) -> Result<bool, Wrong> {
     let literal = read(alloc, text)?;
     let columns = number(case, "columns ", 1).min(4);
-    let mut same = true;
-    for at in 0..points(columns) {
-        let point = numbered(alloc, at, columns, FIRST, SIDE)?;
-        if let Some(wanted) = listed(case, &point) {
-            same = same && literal_has(alloc, &literal, &point)? == wanted;
-        }
+    if !has_listed(alloc, &literal, case, columns)? {
+        return Ok(false);
     }
-    Ok(same && (field(case, "later").is_some() || is_answered(alloc, &literal, text, columns)?))
+    if field(case, "later").is_some() {
+        return Ok(field(case, "has ").is_some() || field(case, "none").is_some());
+    }
+    is_answered(alloc, &literal, text, columns)
 }
 
 // Why the text is no literal within its limits; nothing where it is one.

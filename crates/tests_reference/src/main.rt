@@ -40,7 +40,7 @@ fn is_right(alloc: Global, case: &str) -> bool {
     if field(case, "text").is_some() {
         return text_is_right(alloc, case) == Ok(true);
     }
-    script_is_right(alloc, case) == Ok(true)
+    field(case, "script").is_some() && script_is_right(alloc, case) == Ok(true)
 }
 
 fn main(rt: HostRuntime) -> io::Result<()> {
