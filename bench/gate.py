@@ -19,18 +19,22 @@ TICKS = os.sysconf("SC_CLK_TCK")
 BUDGET, LEAST = 300 / 1000, 30
 
 
-def provers():
-    """The provers that run now: process and start, crate, kind, processor seconds."""
+def provers(gate):
+    """The provers of the gate that run now: process and start, crate, kind, processor seconds."""
     for folder in glob.glob("/proc/[0-9]*"):
         try:
+            with open(f"{folder}/comm") as file:
+                if file.read().strip() != "rattle":
+                    continue
+            where = os.readlink(f"{folder}/cwd")
+            is_edit = os.path.basename(where).startswith(f"rt-edit-{gate}-")
+            if not is_edit and not where.startswith(f"{os.getcwd()}/crates/"):
+                continue  # another checkout's
             with open(f"{folder}/cmdline", "rb") as file:
                 words = file.read().decode(errors="replace").split("\0")
-            if os.path.basename(words[0]) != "rattle" or "--crate-name" not in words:
-                continue
             with open(f"{folder}/stat") as file:
                 stat = file.read().rpartition(")")[2].split()
             seconds = (int(stat[11]) + int(stat[12])) / TICKS
-            is_edit = os.path.basename(os.readlink(f"{folder}/cwd")).startswith("rt-edit")
             kind = "edits" if is_edit else "tests" if "--test" in words else "proof"
             yield (folder, stat[19]), words[words.index("--crate-name") + 1], kind, seconds
         except (OSError, IndexError, ValueError):
@@ -41,7 +45,7 @@ def run(log, words):
     seen, begin = {}, time.time()
     gate = subprocess.Popen(["rt", "ci", *words])
     while gate.poll() is None:
-        for key, crate, kind, seconds in provers():
+        for key, crate, kind, seconds in provers(gate.pid):
             seen[key] = crate, kind, seconds
         time.sleep(0.2)
     used = resource.getrusage(resource.RUSAGE_CHILDREN)
