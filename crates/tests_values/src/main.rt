@@ -24,7 +24,7 @@ const FORMS: [(&str, Form); 6] = [
     ("case ", Form::Text),
     ("params ", Form::Text),
     ("piece ", Form::Text),
-    ("row ", Form::Text),
+    ("row ", Form::Row),
     ("want ", Form::Text),
 ];
 
@@ -32,22 +32,22 @@ const FORMS: [(&str, Form); 6] = [
 fn params_of(alloc: Global, names: &str) -> Result<Option<Params>, SpaceFault>
     ensures { IfOk result (λ made. IfSome made IsParameterList) }
 {
-    let mut list = Vec::new(alloc);
     match names {
-        "" => Ok(Some(Params::new(alloc, list)?)),
+        "" => Ok(Some(Params::new(alloc, Vec::new(alloc))?)),
         "n" => {
-            list.push(Name::new(alloc, "n")?)?;
+            let list = vec![in alloc; Name::new(alloc, "n")?]?;
             Ok(Some(Params::new(alloc, list)?))
         }
         "n, m" => {
-            list.push(Name::new(alloc, "n")?)?;
-            list.push(Name::new(alloc, "m")?)?;
+            let list = vec![in alloc; Name::new(alloc, "n")?, Name::new(alloc, "m")?]?;
             Ok(Some(Params::new(alloc, list)?))
         }
         "i0, i0', o1" => {
-            list.push(Name::new(alloc, "i0")?)?;
-            list.push(Name::new(alloc, "i0'")?)?;
-            list.push(Name::new(alloc, "o1")?)?;
+            let list = vec![in alloc;
+                Name::new(alloc, "i0")?,
+                Name::new(alloc, "i0'")?,
+                Name::new(alloc, "o1")?,
+            ]?;
             Ok(Some(Params::new(alloc, list)?))
         }
         _ => Ok(None),
