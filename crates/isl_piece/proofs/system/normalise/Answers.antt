@@ -1,10 +1,10 @@
 use Rattle.std.proofs.Common.{◌≡◌, Some}
-use Rattle.isl_piece.specs.declared.conjunction.System.{System}
+use Rattle.isl_piece.specs.declared.system.System.{System}
 use Rattle.isl_piece.specs.Normal.{normal_system}
 use Rattle.isl_piece.proofs.SystemLaws.{normal_system-Some, found_none, found_points, found_normal, found_within, found_up_to}
 use Rattle.isl_piece.proofs.SystemLaws.{normal_system-None, missing_none, missing_points}
-use Rattle.isl_piece.proofs.conjunction.normalise.Goals as goal
-use Rattle.isl_piece.proofs.conjunction.normalise.Goals.{Then-branch}
+use Rattle.isl_piece.proofs.system.normalise.Goals as goal
+use Rattle.isl_piece.proofs.system.normalise.Goals.{Then-branch}
 
 -- the system that was made
 made : Then-branch → System

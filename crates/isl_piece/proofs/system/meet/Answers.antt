@@ -1,6 +1,6 @@
 use Rattle.std.proofs.Common.{◌≡◌, ◌++◌, arith}
 use Rattle.isl_piece.proofs.SystemLaws.{meet_points, meet_within}
-use Rattle.isl_piece.proofs.conjunction.meet.Goals as goal
+use Rattle.isl_piece.proofs.system.meet.Goals as goal
 
 pub returns-clause-points : goal.returns-clause-points
 returns-clause-points c =

@@ -40,7 +40,7 @@ impl Row {
     }
 
     /// The constant of the form.
-    pub fn offset(&self) -> Int
+    pub fn constant(&self) -> Int
         ensures { result ≡ self.now.constant }
     {
         Int::new(self.constant)
@@ -53,7 +53,7 @@ impl Row {
         Int::new(self.k)
     }
 
-    pub fn set_offset(&mut self, constant: Int)
+    pub fn set_constant(&mut self, constant: Int)
         ensures { self.new ≡ record self.old { constant = constant } }
     {
         self.constant = constant.get();
@@ -94,7 +94,7 @@ impl Row {
             let product = coefs[i].mul(Int::new(point[i]), meter)?;
             sum = sum.add(product, meter)?;
         }
-        sum.add(self.offset(), meter)
+        sum.add(self.constant(), meter)
     }
 
     /// Whether the row holds at the point. Takes no memory and uses no unit.
@@ -118,7 +118,7 @@ impl Row {
 /// Whether `k` divides the number.
 pub(crate) fn is_multiple(number: Int, k: Int, meter: &Meter) -> bool
     requires within { IsWithin meter.now k }
-    requires divisor { pos 0 <ℤ k }
+    requires modulus { pos 0 <ℤ k }
     ensures { IsTrue result ↔ Divides k number }
 {
     if k == Int::ONE {

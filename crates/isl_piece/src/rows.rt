@@ -16,7 +16,7 @@ pub struct Rows {
 
 impl Model for Rows {
     ghost use Rattle.std.specs.Prelude.{List};
-    ghost use Rattle.isl_piece.specs.declared.constraint.Row.{Row};
+    ghost use Rattle.isl_piece.specs.declared.row.Row.{Row};
 
     ghost Value = { List Row };
 
@@ -106,7 +106,7 @@ impl Rows {
 }
 
 impl Rows {
-    ghost use Rattle.isl_piece.specs.Row.{HasDivisor, IsRowWithin};
+    ghost use Rattle.isl_piece.specs.Row.{HasModulus, IsRowWithin};
     ghost use Rattle.isl_piece.specs.Normal.{normal_rows};
 
     /// Makes the rows normal; false where one of them holds at no point.
@@ -115,7 +115,7 @@ impl Rows {
     ///
     /// `AllocError` where memory ends.
     pub(crate) fn normalise(&mut self, alloc: Global, meter: &Meter) -> Result<bool, AllocError>
-        requires divisors { All (λ r. HasDivisor r.kind r.k) self.old }
+        requires divisors { All (λ r. HasModulus r.kind r.k) self.old }
         requires within { All (IsRowWithin meter.now) self.old }
         ensures kept { IfOk result (λ holds. IsTrue holds → normal_rows self.old ≡ Some self.new) }
         ensures none { IfOk result (λ holds. holds ≡ false → normal_rows self.old ≡ None) }

@@ -142,7 +142,7 @@ impl Coefs {
 
     pub(crate) fn reduce(&mut self, k: Int, meter: &Meter)
         requires within { IsWithin meter.now k }
-        requires divisor { pos 0 <ℤ k }
+        requires modulus { pos 0 <ℤ k }
         ensures { self.new ≡ reduced k self.old }
     {
         numbers::reduce(self.items.as_mut_slice(), k, meter);
@@ -151,7 +151,7 @@ impl Coefs {
     pub(crate) fn oppose(&mut self, k: Int, meter: &Meter)
         requires numbers_within { All (IsWithin meter.now) self.old }
         requires within { IsWithin meter.now k }
-        requires divisor { pos 0 <ℤ k }
+        requires modulus { pos 0 <ℤ k }
         ensures { self.new ≡ opposite k self.old }
     {
         numbers::oppose(self.items.as_mut_slice(), k, meter);
