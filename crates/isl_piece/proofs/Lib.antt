@@ -11,6 +11,7 @@ pub mod NormalLaws
 pub mod NumberSteps
 pub mod NormalSteps
 pub mod PlaceLaws
+pub mod RowsLaws
 pub mod SystemLaws
 pub mod NegationLaws
 pub mod WitnessLaws

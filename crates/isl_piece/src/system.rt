@@ -64,7 +64,7 @@ pub fn meet(alloc: Global, a: &System, b: &System) -> Result<System, AllocError>
 /// `AllocError` where memory ends.
 pub fn normalise(
     alloc: Global,
-    mut system: System,
+    system: System,
     meter: &mut Meter,
 ) -> Result<Option<System>, AllocError>
     requires { IsSystemWithin meter.old system }
@@ -78,9 +78,11 @@ pub fn normalise(
         → IfOk result (λ normal. IfSome normal (λ kept. All (IsRowUpTo b) kept.rows)) }
     ensures meter { meter.new ≡ meter.old }
 {
-    if system.rows.normalise(alloc, meter)? {
-        Ok(Some(system))
-    } else {
-        Ok(None)
+    match system.rows.normalise(alloc, meter)? {
+        Some(rows) => Ok(Some(System {
+            columns: system.columns,
+            rows,
+        })),
+        None => Ok(None),
     }
 }
