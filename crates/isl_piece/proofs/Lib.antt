@@ -11,6 +11,8 @@ pub mod NormalLaws
 pub mod NumberSteps
 pub mod NormalSteps
 pub mod PlaceLaws
+pub mod CutLaws
+pub mod DefinedLaws
 pub mod RowsLaws
 pub mod SystemLaws
 pub mod NegationLaws

@@ -1,3 +1,5 @@
+pub mod Cut
+pub mod Definition
 pub mod Index
 pub mod Negation
 pub mod Normal

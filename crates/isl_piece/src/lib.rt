@@ -2,6 +2,8 @@
 #![tactic(auto)]
 
 mod coefs;
+mod definition;
+mod form;
 mod index;
 mod negation;
 mod normal;
@@ -13,6 +15,7 @@ mod rows;
 mod system;
 
 pub use coefs::Coefs;
+pub use definition::{Definition, Definitions};
 pub use negation::negate;
 pub use piece::Piece;
 pub use reduction::{Outcome, settle};

@@ -1,11 +1,12 @@
 //! Lists of rows.
 
-ghost use Rattle.std.specs.Prelude.{All, Any, IfSome, IsNone, MatchOption, ◌≡◌, ◌↔◌, ◌<◌, [], ◌∷◌, ◌++◌, length, IsTrue, IfOk, IfErr, OnOk, slice_index_or, slice_set};
+ghost use Rattle.std.specs.Prelude.{All, Any, IfSome, IsNone, MatchOption, MatchResult, map, ◌≡◌, ◌↔◌, ◌<◌, [], ◌∷◌, ◌++◌, length, IsTrue, IfOk, IfErr, OnOk, slice_index_or, slice_set};
 ghost use Rattle.std.specs.List.{remove};
+ghost use Rattle.isl_meter.specs.Gauge.{overflown};
 
 use crate::Row;
 use crate::normal::normalise_rows;
-use isl_meter::Meter;
+use isl_meter::{Meter, Overflow};
 use std::alloc::{AllocError, AllocFailed, Global};
 use std::marker::Model;
 
@@ -122,6 +123,43 @@ impl Rows {
         let mut rows = Rows::with_capacity(alloc, self.len())?;
         rows.append(alloc, self)?;
         Ok(rows)
+    }
+}
+
+impl Rows {
+    ghost use Rattle.isl_piece.specs.Row.{HoldsRow, IsWellFormed, IsRowWithin, FormPassesLimit};
+    ghost use Rattle.isl_piece.specs.System.{HoldRows, widened};
+
+    // The rows, with 0 at one more column.
+    pub(crate) fn widened(&self, alloc: Global) -> Result<Self, AllocError>
+        ensures { IfOk result (λ rows. rows ≡ map widened self.now) }
+    {
+        let mut rows = Rows::with_capacity(alloc, self.len())?;
+        for row in self.as_slice() {
+            let coefs = row.coefs.widened(alloc)?;
+            rows.push(Row::new(row.kind, coefs, row.constant(), row.modulus()))?;
+        }
+        Ok(rows)
+    }
+
+    /// Whether each row holds at the point. Takes no memory and uses no unit.
+    ///
+    /// # Errors
+    ///
+    /// `Overflow` where the form of a row passes the limit at the point.
+    pub fn hold_at(&self, point: &[i128], meter: &mut Meter) -> Result<bool, Overflow>
+        requires rows { All (IsWellFormed (length point.now)) self.now }
+        requires within { All (IsRowWithin meter.old) self.now }
+        ensures { MatchResult result
+            (λ holds. (IsTrue holds ↔ HoldRows self.now point.now) × (meter.new ≡ meter.old))
+            (λ _. Any (λ r. FormPassesLimit meter.old r.coefs r.constant point.now) self.now × (meter.new ≡ overflown meter.old)) }
+    {
+        for row in self.as_slice() {
+            if !row.holds_at(point, meter)? {
+                return Ok(false);
+            }
+        }
+        Ok(true)
     }
 }
 

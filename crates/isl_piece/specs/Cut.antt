@@ -1,0 +1,11 @@
+-- How a call that uses no unit is cut.
+use Rattle.std.specs.Prelude.{◌≡◌}
+use Rattle.isl_meter.specs.Gauge.{Gauge, overflown}
+use Rattle.isl_meter.specs.declared.Cut.{Cut}
+use Rattle.isl_meter.specs.declared.Cut.TheVariants.{Overflow, Budget, NoMemory}
+
+-- the cut is an overflow, for the reason P, which is counted, or want of memory
+abbrev pub IsCutFor : Type 0 → Gauge → Gauge → Cut → Type 0
+IsCutFor P old new Overflow = P × (new ≡ overflown old)
+IsCutFor P old new Budget = ⊥
+IsCutFor P old new NoMemory = new ≡ old
