@@ -5,5 +5,7 @@ pub mod Negation
 pub mod Normal
 pub mod Numbers
 pub mod Outcome
+pub mod Piece
 pub mod Row
+pub mod Stored
 pub mod System

@@ -65,6 +65,11 @@ impl Rows {
         })
     }
 
+    // Where the rows lie.
+    pub(crate) fn allocator(&self) -> Global {
+        *self.items.allocator()
+    }
+
     pub fn len(&self) -> usize
         ensures { result ≡ length self.now }
     {

@@ -66,6 +66,16 @@ impl System {
     }
 }
 
+impl Clone for System {
+    ghost use Rattle.std.specs.Prelude.{◌≡◌};
+
+    ghost is_clone = { λ s copy. copy ≡ s };
+
+    fn clone(&self) -> Result<System, AllocError> {
+        self.copy(self.rows.allocator())
+    }
+}
+
 impl System {
     ghost use Rattle.isl_piece.specs.declared.definition.Definition.{Definition};
 
@@ -77,7 +87,6 @@ impl System {
     /// `AllocError` where memory ends; the system is as it was then.
     pub fn define(
         &mut self,
-        alloc: Global,
         coefs: &[i128],
         constant: i128,
         k: i128,
@@ -92,6 +101,7 @@ impl System {
             → OnOk result (IsSystemWithin g self.new) }
         ensures unchanged { OnErr result (self.new ≡ self.old) }
     {
+        let alloc = self.rows.allocator();
         self.push_column(
             alloc,
             Definition {
