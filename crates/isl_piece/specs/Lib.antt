@@ -1,3 +1,4 @@
+pub mod Combine
 pub mod Cut
 pub mod Definition
 pub mod Index

@@ -2,6 +2,7 @@
 #![tactic(auto)]
 
 mod coefs;
+mod combine;
 mod definition;
 mod form;
 mod index;
@@ -15,6 +16,7 @@ mod rows;
 mod system;
 
 pub use coefs::Coefs;
+pub use combine::{combination, sum_of, weighted_sum};
 pub use definition::{Definition, Definitions};
 pub use negation::negate;
 pub use piece::Piece;

@@ -85,12 +85,7 @@ impl System {
     /// # Errors
     ///
     /// `AllocError` where memory ends; the system is as it was then.
-    pub fn define(
-        &mut self,
-        coefs: &[i128],
-        constant: i128,
-        k: i128,
-    ) -> Result<usize, AllocError>
+    pub fn define(&mut self, coefs: &[i128], constant: i128, k: i128) -> Result<usize, AllocError>
         requires columns { length coefs.now ≡ self.old.columns }
         requires modulus { pos 0 <ℤ k }
         ensures place { IfOk result (λ column. column ≡ self.old.columns) }
