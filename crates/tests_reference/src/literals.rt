@@ -59,10 +59,7 @@ fn rows_hold(
         return Ok(false);
     }
     let rows = rows_written(alloc, params, piece, &mut meter)?;
-    let system = System {
-        columns: point.len(),
-        rows,
-    };
+    let system = System::from_rows(alloc, point.len(), rows);
     if !is_proper(&system, &meter) {
         return Ok(false);
     }
