@@ -77,8 +77,7 @@ follows_always M stops2 = record { by = λ a us rest l stop. refl }
 pub follows_bind : {A B : Type 0} {L : Grammar A} {M : A → Grammar B} {stops2 stops1 stops : Stops} → Follows L stops1 stops
     → ((a : A) → Follows (M a) stops2 stops1) → Follows (s.◌>>=◌ L M) stops2 stops
 follows_bind h k = record {
-  by = λ b ts rest l stop. rw (l.3, append_assoc l.1 l.2 rest)
-      (h.by l.0 l.1 (l.2 ++ rest) l.4 ((k l.0).by b l.2 rest l.5 stop));
+  by = λ b ts rest l stop. rw (l.3, append_assoc l.1 l.2 rest) (h.by l.0 l.1 (l.2 ++ rest) l.4 ((k l.0).by b l.2 rest l.5 stop));
 }
 
 pub follows_many : {A : Type 0} {L : Grammar A} {stops2 stops : Stops} → Starts L stops
@@ -95,8 +94,7 @@ starts_bind L M test h = record { by = λ b ts rest l. rw (l.3, append_assoc l.1
 pub starts_then : {A B : Type 0} (L : Grammar A) (M : A → Grammar B) (test : Stops) → Follows L test test → ((a : A) → Starts (M a) test)
     → Starts (s.◌>>=◌ L M) test
 starts_then L M test h k = record {
-  by = λ b ts rest l. rw (l.3, append_assoc l.1 l.2 rest)
-      (h.by l.0 l.1 (l.2 ++ rest) l.4 ((k l.0).by b l.2 rest l.5));
+  by = λ b ts rest l. rw (l.3, append_assoc l.1 l.2 rest) (h.by l.0 l.1 (l.2 ++ rest) l.4 ((k l.0).by b l.2 rest l.5));
 }
 
 pub starts_either : {A : Type 0} (L M : Grammar A) (test : Stops) → Starts L test → Starts M test → Starts (s.◌∪◌ L M) test
