@@ -13,7 +13,7 @@ use Rattle.isl_token.specs.Spelling.{Grammar}
 use Rattle.isl_token.specs.Spelling as s
 use Rattle.isl_token.proofs.Again.{Stops, Again, Starts, Full, Items, always, again_map, again_bind, again_skip, again_pure, again_name}
 use Rattle.isl_token.proofs.Again.{again_row, again_separated, follows_pure, follows_starts, follows_always, follows_bind, follows_many}
-use Rattle.isl_token.proofs.Again.{starts_bind, starts_more, starts_word, starts_with, full_word, full_bind}
+use Rattle.isl_token.proofs.Again.{starts_bind, starts_more, starts_word, starts_with, full_bind}
 use Rattle.isl_tree.specs.declared.tree.Signed.{Signed}
 use Rattle.isl_tree.specs.declared.tree.Compare.{Compare}
 use Rattle.isl_tree.specs.declared.tree.Formula.TheVariants as f

@@ -216,8 +216,7 @@ pub unary_again : (n depth : ℕ) → Again n (read.unary n) (spell.unary depth 
 unfolding read.unary spell.unary
 unary_again zero depth = (
   record { by = λ a us rest l lt stop. absurd (omega arith) },
-  record
-      { by = λ a us rest l lt stop. absurd (omega arith) },
+  record { by = λ a us rest l lt stop. absurd (omega arith) },
 )
 unary_again (suc n) zero = (record { by = λ a us rest l lt stop. absurd l }, record { by = λ a us rest l lt stop. absurd l })
 unary_again (suc n) (suc depth) =

@@ -181,8 +181,7 @@ module _ (tp : Parser (List Signed)) (tl : Grammar (List Signed)) (term : Takes 
             | inl l ↦ inl (inl (y.0.0, w.0, c.0, refl, w.2, (z.0.0, c.0, [], sym (append-nil c.0), l, (sym q.0, refl))))
             | inr l ↦ inr (
               inl (inl (y.0.0, w.0, c.0, refl, w.2, (z.0.0, c.0, [], sym (append-nil c.0), l.0, (sym q.0, refl)))),
-              subst ended
-                  q.1 l.1,
+              subst ended q.1 l.1,
             )
           ],
         );

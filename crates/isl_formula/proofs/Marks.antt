@@ -33,8 +33,7 @@ module _ (m : Mark) where
 
   pub clear_bind : {A B : Type 0} {L : Grammar A} {M : A → Grammar B} → Clear m L → ((a : A) → Clear m (M a)) → Clear m (s.◌>>=◌ L M)
   clear_bind h k = record {
-    by = λ b ts rest level l. rw (l.3, append_assoc l.1 l.2 rest)
-        (h.by l.0 l.1 (l.2 ++ rest) level l.4 ∙ (k l.0).by b l.2 rest level l.5);
+    by = λ b ts rest level l. rw (l.3, append_assoc l.1 l.2 rest) (h.by l.0 l.1 (l.2 ++ rest) level l.4 ∙ (k l.0).by b l.2 rest level l.5);
   }
 
   pub clear_map : {A B : Type 0} {L : Grammar A} (f : A → B) → Clear m L → Clear m (s.◌>>=◌ L (λ a. s.pure (f a)))
@@ -85,8 +84,7 @@ module _ (m : Mark) where
       → ((level : ℕ) (go : ℕ → Bool) → mark_step m k level go ≡ go (suc level)) → Closes m (M tt) → Clear m (s.◌>>=◌ (s.word k) M)
   unfolding holds
   clear_brackets k e h = record {
-    by = λ b ts rest level l. rw (l.3, l.4.1, l.4.2)
-        (e level (holds m (l.2 ++ rest)) ∙ h.by b l.2 rest level l.5);
+    by = λ b ts rest level l. rw (l.3, l.4.1, l.4.2) (e level (holds m (l.2 ++ rest)) ∙ h.by b l.2 rest level l.5);
   }
 
   pub marked_word : (k : Kind) → ((level : ℕ) (go : ℕ → Bool) → mark_step m k level go ≡ true) → Marked m (s.word k)
@@ -98,8 +96,7 @@ module _ (m : Mark) where
 
   pub marked_later : {A B : Type 0} {L : Grammar A} {M : A → Grammar B} → Clear m L → ((a : A) → Marked m (M a)) → Marked m (s.◌>>=◌ L M)
   marked_later h k' = record {
-    by = λ b ts rest level l. rw (l.3, append_assoc l.1 l.2 rest)
-        (h.by l.0 l.1 (l.2 ++ rest) level l.4 ∙ (k' l.0).by b l.2 rest level l.5);
+    by = λ b ts rest level l. rw (l.3, append_assoc l.1 l.2 rest) (h.by l.0 l.1 (l.2 ++ rest) level l.4 ∙ (k' l.0).by b l.2 rest level l.5);
   }
 
   pub marked_either : {A : Type 0} {L M : Grammar A} → Marked m L → Marked m M → Marked m (s.◌∪◌ L M)
@@ -109,8 +106,7 @@ module _ (m : Mark) where
       → ((level : ℕ) (go : ℕ → Bool) → mark_step m k level go ≡ go (suc level)) → Marked m (M tt) → Marked m (s.◌>>=◌ (s.word k) M)
   unfolding holds
   marked_brackets k e h = record {
-    by = λ b ts rest level l. rw (l.3, l.4.1, l.4.2)
-        (e level (holds m (l.2 ++ rest)) ∙ h.by b l.2 rest (suc level) l.5);
+    by = λ b ts rest level l. rw (l.3, l.4.1, l.4.2) (e level (holds m (l.2 ++ rest)) ∙ h.by b l.2 rest (suc level) l.5);
   }
 
   -- no bracket of this kind with a mark in it

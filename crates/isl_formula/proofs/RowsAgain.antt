@@ -128,6 +128,5 @@ module _ (size : ℕ) (sep : Kind) (make : List Formula → Formula) (item : Par
 
   pub rows_again : Again size (read.rows sep make item) (spell.rows sep make G b) last
   rows_again = record {
-    by = λ a ts rest l lt stop. elim l
-        [ inl x ↦ single_again a ts rest x lt stop | inr y ↦ several_again a ts rest y lt stop ];
+    by = λ a ts rest l lt stop. elim l [ inl x ↦ single_again a ts rest x lt stop | inr y ↦ several_again a ts rest y lt stop ];
   }

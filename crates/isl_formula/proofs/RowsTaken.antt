@@ -108,8 +108,7 @@ module _ (sep : Kind) (is_end : sep ≢ k.End) (goes_on : ends_rows sep ≡ fals
     ap (λ (l : List Formula). x ∷ l) none,
     refl,
     refl,
-    inr
-        (subst (λ (l : List Token). after true x l) (sym (e ∙ ap (λ (l : List Token). u ++ l) over ∙ append-nil u)) a, stop),
+    inr (subst (λ (l : List Token). after true x l) (sym (e ∙ ap (λ (l : List Token). u ++ l) over ∙ append-nil u)) a, stop),
   )
   split x [] us rest (u, v, e, inl (a, t)) = (
     [],
@@ -119,8 +118,7 @@ module _ (sep : Kind) (is_end : sep ≢ k.End) (goes_on : ends_rows sep ≡ fals
     refl,
     refl,
     refl,
-    inl
-        (subst (λ (l : List Token). after false x l) (sym (e ∙ ap (λ (l : List Token). u ++ l) t ∙ append-nil u)) a),
+    inl (subst (λ (l : List Token). after false x l) (sym (e ∙ ap (λ (l : List Token). u ++ l) t ∙ append-nil u)) a),
   )
   split x (y ∷ ys) us rest (u, v, e, inl (a, t)) =
       let d = split y ys v rest t in (
@@ -181,8 +179,7 @@ module _ (sep : Kind) (is_end : sep ≢ k.End) (goes_on : ends_rows sep ≡ fals
               [],
               n.0,
               sym p.0 ∙ ap make (sym q.0),
-              n.1
-                  ∙ ap (λ (l : List Token). n.0 ++ l) left,
+              n.1 ∙ ap (λ (l : List Token). n.0 ++ l) left,
               (n.0, [], sym (append-nil n.0), inr (l.0, refl, refl, subst ended left l.1)),
             )
       ]

@@ -93,8 +93,8 @@ modulus_again : (size : ℕ) → Again size read.modulus (s.◌>>◌ (s.word k.M
 unfolding read.modulus
 modulus_again size = record {
   by = λ a ts rest l lt stop.
-      (again_skip k.Mod (length ts) (λ _. r.positive) (λ _. s.positive) always (λ _. again_positive (length ts))).by a ts rest l (omega arith)
-      refl;
+      let n = length ts in
+      (again_skip k.Mod n (λ _. r.positive) (λ _. s.positive) always (λ _. again_positive n)).by a ts rest l (omega arith) refl;
 }
 
 times_start : (a : ℤ) (us rest : List Token) → (s.◌>>◌ (s.word k.Star) s.number) a us → read.sees_times (us ++ rest) ≡ true

@@ -120,8 +120,7 @@ Any-left P xs ys a = (
   a.0,
   a.1,
   (let n = length-append xs ys in let h = a.2 in omega arith),
-  get_or_append_left xs ys a.1 a.0 a.2
-      ∙ a.3,
+  get_or_append_left xs ys a.1 a.0 a.2 ∙ a.3,
   a.4,
 )
 

@@ -72,8 +72,7 @@ pub distinct_from : (names : List Name) → AreDistinct names → Distinct names
 distinct_from [] h = tt
 distinct_from (name ∷ names) h = (
   differs_from name names (λ j d low. h 0 (suc j) d (omega arith) (omega arith)),
-  distinct_from names
-      (λ i j d before low. h (suc i) (suc j) d (omega arith) (omega arith)),
+  distinct_from names (λ i j d before low. h (suc i) (suc j) d (omega arith) (omega arith)),
 )
 
 differs_at : (name : Name) (names : List Name) → Differs name names → (j : ℕ) (d : Name) → j < length names → name ≢ get_or names j d

@@ -11,16 +11,8 @@ use Rattle.isl_token.specs.Reading as r
 use Rattle.isl_token.specs.Spelling.{Grammar}
 use Rattle.isl_token.specs.Spelling as s
 use Rattle.isl_token.proofs.Again.{Stops, Again, Starts, Follows, always, again_map, again_bind, again_skip, again_after}
-use Rattle.isl_token.proofs.Again.{
-  again_end,
-  again_name,
-  again_separated,
-  starts_always,
-  follows_pure,
-  follows_starts,
-  follows_either,
-  follows_always,
-}
+use Rattle.isl_token.proofs.Again.{again_end, again_name, again_separated, starts_always, follows_pure, follows_starts, follows_either}
+use Rattle.isl_token.proofs.Again.{follows_always}
 use Rattle.isl_token.proofs.Again.{follows_map, starts_bind, starts_more, starts_word, starts_with, starts_name}
 use Rattle.isl_tree.specs.declared.tree.Formula.{Formula}
 use Rattle.isl_tree.specs.declared.tree.Tuple.{Tuple}

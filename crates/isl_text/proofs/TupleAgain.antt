@@ -182,8 +182,7 @@ module _ (size : ℕ) (p : Parser (List Signed)) (L : Grammar (List Signed)) (te
       ((named_leaf_again (suc size) p L term starts clear).by a us rest l lt refl)
   level_read a us rest (inr (inl l)) lt = rw (
     no_name (head_kind (us ++ rest)) (head_is k.OpenSquare leaf_starts a us rest l),
-    not-true
-        _ (leaf_plain.by a us rest l),
+    not-true _ (leaf_plain.by a us rest l),
   ) ((leaf_again (suc size) p L term starts clear None).by a us rest l lt refl)
   level_read a us rest (inr (inr l)) lt = rw (
     no_name (head_kind (us ++ rest)) (head_is k.OpenSquare pair_starts a us rest l),

@@ -29,14 +29,12 @@ through_marked h = record { by = λ a us rest level l seen. h.by a us rest level
 
 through_either : {A : Type 0} {L M : Grammar A} → Through L → Through M → Through (s.◌∪◌ L M)
 through_either h k = record {
-  by = λ a us rest level l seen. elim l
-      [ inl x ↦ h.by a us rest level x seen | inr y ↦ k.by a us rest level y seen ];
+  by = λ a us rest level l seen. elim l [ inl x ↦ h.by a us rest level x seen | inr y ↦ k.by a us rest level y seen ];
 }
 
 marked_behind : {A B : Type 0} {L : Grammar A} {M : A → Grammar B} → Through L → ((a : A) → Marked Arrow (M a)) → Marked Arrow (s.◌>>=◌ L M)
 marked_behind h k = record {
-  by = λ b ts rest level l. rw (l.3, append_assoc l.1 l.2 rest)
-      (h.by l.0 l.1 (l.2 ++ rest) level l.4 ((k l.0).by b l.2 rest level l.5));
+  by = λ b ts rest level l. rw (l.3, append_assoc l.1 l.2 rest) (h.by l.0 l.1 (l.2 ++ rest) level l.4 ((k l.0).by b l.2 rest level l.5));
 }
 
 module _ (L : Grammar (List Signed)) (term : Clear Arrow L) where
