@@ -55,6 +55,8 @@ struct TermReader {
 impl ItemReader for TermReader {
     type Item = Items<Signed>;
 
+    const ROOM: usize = 1;
+
     ghost reads = { λ r. terms.term r.depth };
 
     fn read(&self, alloc: Global, tokens: &mut Cursor<'_>) -> Result<Items<Signed>, Fault> {
@@ -145,6 +147,8 @@ struct BinderReader {
 
 impl ItemReader for BinderReader {
     type Item = Binder;
+
+    const ROOM: usize = 1;
 
     ghost reads = { λ r. spec.binder (terms.term r.depth) };
 

@@ -12,6 +12,9 @@ pub trait ItemReader {
     /// What an item is.
     type Item: Drop;
 
+    /// For how many items room is made at first.
+    const ROOM: usize;
+
     /// The reader that a call meets.
     ghost reads: { Self → Parser Self.Item };
 
@@ -42,7 +45,7 @@ pub fn separated<R: ItemReader>(
 ) -> Result<Items<R::Item>, Fault>
     ensures { Reads (reading.separated sign (R.reads item.now) tokens.old) result tokens.new }
 {
-    let mut found = Items::from_vec(Vec::with_capacity(alloc, 1)?);
+    let mut found = Items::from_vec(Vec::with_capacity(alloc, R::ROOM)?);
     found.push(item.read(alloc, tokens)?)?;
     for _turn in 0..tokens.left() {
         if !tokens.sees(sign) {

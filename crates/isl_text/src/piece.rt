@@ -89,6 +89,8 @@ struct PieceReader {
 impl ItemReader for PieceReader {
     type Item = PieceTree;
 
+    const ROOM: usize = 1;
+
     ghost reads = { λ r. spec.piece (tuples.tuple r.depth) (formulas.formula r.depth) };
 
     fn read(&self, alloc: Global, tokens: &mut Cursor<'_>) -> Result<PieceTree, Fault> {
@@ -124,6 +126,8 @@ struct NameReader;
 
 impl ItemReader for NameReader {
     type Item = Name;
+
+    const ROOM: usize = 2;
 
     ghost reads = { λ _. reading.name };
 

@@ -58,6 +58,8 @@ struct EntryReader {
 impl ItemReader for EntryReader {
     type Item = Entry;
 
+    const ROOM: usize = 2;
+
     ghost reads = { λ r. spec.entry (terms.term r.depth) };
 
     fn read(&self, alloc: Global, tokens: &mut Cursor<'_>) -> Result<Entry, Fault> {
