@@ -11,8 +11,10 @@ use Rattle.isl_expr.specs.declared.tree.Expr.{Row_of-Postfix, end_of-Postfix, mo
 use Rattle.isl_expr.specs.declared.tree.Expr.{items_hidden-the_row-Link-1, items_hidden-the_row-Postfix-2}
 use Rattle.isl_expr.specs.declared.tree.Expr.TheBlock.{hidden-the_row-Expr-0, hidden-the_row-Link-1, hidden-the_row-Postfix-2}
 use Rattle.isl_simple.specs.declared.flattening.Standing.{Standing}
-use Rattle.isl_simple.specs.Flat.{Flattened, Partial, Followed, is_gist_row, is_gist_alone, is_chosen, is_sample, flattened, nested, nested_postfix}
-use Rattle.isl_simple.specs.Flat.{settled_row, with_link, begun, ended, past_links, past_row, past_link, past_postfixes, past_post, followed_by, followed, behind, unfollowed}
+use Rattle.isl_simple.specs.Flat.{Flattened, Partial, Followed, is_gist_row, is_gist_alone, is_chosen, is_sample, flattened, nested}
+use Rattle.isl_simple.specs.Flat.{nested_postfix}
+use Rattle.isl_simple.specs.Flat.{settled_row, with_link, begun, ended, past_links, past_row, past_link, past_postfixes, past_post}
+use Rattle.isl_simple.specs.Flat.{followed_by, followed, behind, unfollowed}
 use Rattle.isl_simple.specs.Size.{size_of_links, size_of_postfixes}
 use Rattle.isl_simple.proofs.SizeLaws.{links_with, postfixes_with}
 use Rattle.isl_simple.specs.Flat.{behind_word, operand_of, Leaves}
@@ -98,7 +100,8 @@ flattened-Last standing old a b c = refl
 
 -- ---- what the code answers
 
-pub at-Row : {E : Type 0} (standing : Standing) (old new : List Stmt) (x first : Expr) (links : List Link) (r : Result Expr E) → x ≡ Row first links
+pub at-Row : {E : Type 0} (standing : Standing) (old new : List Stmt) (x first : Expr) (links : List Link) (r : Result Expr E)
+    → x ≡ Row first links
     → Leaves (ended (past_row (begun (nested old first)) links)) r new → Leaves (flattened standing old x) r new
 at-Row standing old new x first links r is left =
     subst (λ (f : Flattened). Leaves f r new) (sym (ap (flattened standing old) is ∙ flattened-Row standing old first links)) left
@@ -133,14 +136,17 @@ row_on p q rest new link is step =
 
 pub post_on : (s0 s1 : List Stmt) (kept more : List Postfix) (postfix r : Postfix) (rest new : List Postfix) → rest ≡ new ++ postfix ∷ []
     → nested_postfix s0 postfix ≡ (s1, r) → more ≡ kept ++ r ∷ []
-    → past_post (record { statements = s1; postfixes = more }) (reverse new) ≡ past_post (record { statements = s0; postfixes = kept }) (reverse rest)
+    → past_post (record { statements = s1; postfixes = more }) (reverse new) ≡
+    past_post (record { statements = s0; postfixes = kept }) (reverse rest)
 post_on s0 s1 kept more postfix r rest new is step grown =
     ap (λ (ps : List Postfix). past_post (record { statements = s1; postfixes = ps }) (reverse new)) grown
     ∙ ap (λ (q : List Stmt × Postfix). past_post (followed_by (record { statements = s0; postfixes = kept }) q) (reverse new)) (sym step)
     ∙ sym (ap (past_post (record { statements = s0; postfixes = kept })) (ap reverse is ∙ reverse-append new (postfix ∷ [])))
 
-pub postfixes_end : (s0 s1 : List Stmt) (kept0 kept postfixes rest0 rest : List Postfix) → kept0 ≡ [] → rest0 ≡ reverse postfixes → rest ≡ []
-    → past_post (record { statements = s1; postfixes = kept }) (reverse rest) ≡ past_post (record { statements = s0; postfixes = kept0 }) (reverse rest0)
+pub postfixes_end : (s0 s1 : List Stmt) (kept0 kept postfixes rest0 rest : List Postfix) → kept0 ≡ [] → rest0 ≡ reverse postfixes
+    → rest ≡ []
+    → past_post (record { statements = s1; postfixes = kept }) (reverse rest) ≡
+    past_post (record { statements = s0; postfixes = kept0 }) (reverse rest0)
     → past_post (unfollowed s0) postfixes ≡ record { statements = s1; postfixes = kept }
 postfixes_end s0 s1 kept0 kept postfixes rest0 rest none turned done same =
     ap (past_post (unfollowed s0)) (sym (reverse-reverse postfixes) ∙ ap reverse (sym turned))

@@ -30,6 +30,7 @@ pub later_link : (link : Link) (links : List Link) → list_any is_later (parts_
     ((is_later (part.operator link.operator) || list_any is_later (parts_of link.operand)) || list_any is_later (parts_of_links links))
 later_link link links =
     ap (λ (b : Bool). is_later (part.operator link.operator) || b) (list_any-append is_later (parts_of link.operand) (parts_of_links links))
-    ∙ or_left (is_later (part.operator link.operator)) (list_any is_later (parts_of link.operand)) (list_any is_later (parts_of_links links))
+    ∙ or_left (is_later (part.operator link.operator)) (list_any is_later (parts_of link.operand))
+    (list_any is_later (parts_of_links links))
 
 pub ruleset lists = (later_link)

@@ -28,16 +28,19 @@ unfolding hidden-the_row-Expr-0 denote.Hole.Carrier.hidden
 size_of-Row first links = ap (λ n. 2 + (size_of first + n))
     (links_are _ (hidden-the_row-Link-1 links) ∙ ap size_of_links (items_hidden-the_row-Link-1 links))
 
-pub size_of-Post : (operand : Expr) (postfixes : List Postfix) → size_of (Post operand postfixes) ≡ 2 + (size_of operand + size_of_postfixes postfixes)
+pub size_of-Post : (operand : Expr) (postfixes : List Postfix)
+    → size_of (Post operand postfixes) ≡ 2 + (size_of operand + size_of_postfixes postfixes)
 unfolding hidden-the_row-Expr-0 denote.Hole.Carrier.hidden
 size_of-Post operand postfixes = ap (λ n. 2 + (size_of operand + n))
     (postfixes_are _ (hidden-the_row-Postfix-2 postfixes) ∙ ap size_of_postfixes (items_hidden-the_row-Postfix-2 postfixes))
 
-pub size_of-Any : (source sink schedule : Expr) → size_of (Any source sink schedule) ≡ 2 + (size_of source + (size_of sink + size_of schedule))
+pub size_of-Any : (source sink schedule : Expr)
+    → size_of (Any source sink schedule) ≡ 2 + (size_of source + (size_of sink + size_of schedule))
 unfolding hidden-the_row-Expr-0 denote.Hole.Carrier.hidden
 size_of-Any source sink schedule = refl
 
-pub size_of-Last : (source sink schedule : Expr) → size_of (Last source sink schedule) ≡ 2 + (size_of source + (size_of sink + size_of schedule))
+pub size_of-Last : (source sink schedule : Expr)
+    → size_of (Last source sink schedule) ≡ 2 + (size_of source + (size_of sink + size_of schedule))
 unfolding hidden-the_row-Expr-0 denote.Hole.Carrier.hidden
 size_of-Last source sink schedule = refl
 
@@ -69,4 +72,5 @@ postfixes_reversed (postfix ∷ postfixes) =
     ∙ ap (λ n. n + size_of_postfix postfix) (postfixes_reversed postfixes)
     ∙ swapped (size_of_postfixes postfixes) (size_of_postfix postfix)
 
-pub ruleset sizes = (links_reversed, postfixes_reversed, size_of-Prefix, size_of-Row, size_of-Post, size_of-Any, size_of-Last, links_with, postfixes_with)
+pub ruleset sizes =
+    (links_reversed, postfixes_reversed, size_of-Prefix, size_of-Row, size_of-Post, size_of-Any, size_of-Last, links_with, postfixes_with)

@@ -220,6 +220,9 @@ abbrev pub LeavesPostfixes : {E : Type 0} → Followed → Result (List Postfix)
 LeavesPostfixes p (Ok postfixes) statements = p ≡ record { statements = statements; postfixes = postfixes }
 LeavesPostfixes p (Err error) statements = Unit {0}
 
+abbrev pub partial : List Stmt → Row → Partial
+partial statements row = record { statements = statements; first = row.first; links = row.links }
+
 abbrev pub LeavesRow : {E : Type 0} → Partial → Result Row E → List Stmt → Type 0
-LeavesRow p (Ok row) statements = p ≡ record { statements = statements; first = row.first; links = row.links }
+LeavesRow p (Ok row) statements = p ≡ partial statements row
 LeavesRow p (Err error) statements = Unit {0}

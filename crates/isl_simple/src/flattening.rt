@@ -2,7 +2,7 @@
 
 ghost use Rattle.std.specs.Prelude.{◌≡◌, ◌++◌, ◌∷◌, [], IfOk};
 ghost use Rattle.isl_simple.specs.Flat as spec;
-ghost use Rattle.isl_simple.specs.Flat.{Leaves, LeavesPostfix, LeavesPostfixes, LeavesRow, dollar, flat};
+ghost use Rattle.isl_simple.specs.Flat.{Leaves, LeavesPostfix, LeavesPostfixes, LeavesRow, dollar, flat, partial};
 
 use crate::partial::{Row, is_gist, is_gist_alone, reversed};
 use isl_expr::tree::{Binary, Expr, Link, Postfix, Prefix, Stmt};
@@ -115,7 +115,7 @@ impl Flattening {
 
     /// A row that is the left operand of what comes next.
     fn settled_row(&mut self, row: Row) -> Result<Row, AllocError>
-        ensures { LeavesRow (spec.settled_row (record { statements = self.old; first = row.first; links = row.links })) result self.new }
+        ensures { LeavesRow (spec.settled_row (partial self.old row)) result self.new }
     {
         if !row.is_gist() {
             return Ok(row);
@@ -144,7 +144,7 @@ impl Flattening {
 
     /// An operator and its operand, which is flattened, come behind the row.
     fn with_link(&mut self, row: Row, operator: Binary, operand: Expr) -> Result<Row, AllocError>
-        ensures { LeavesRow (spec.with_link operator (record { statements = self.old; first = row.first; links = row.links }) (self.old, operand)) result self.new }
+        ensures { LeavesRow (spec.with_link operator (partial self.old row) (self.old, operand)) result self.new }
     {
         if is_gist(operator) {
             let left = row.whole(self.alloc)?;
@@ -158,7 +158,7 @@ impl Flattening {
     #[cycle(flat)]
     #[tactic(auto, using(crate::proofs::SizeLaws::sizes))]
     fn past_link(&mut self, row: Row, link: Link) -> Result<Row, AllocError>
-        ensures { LeavesRow (spec.past_link (record { statements = self.old; first = row.first; links = row.links }) link) result self.new }
+        ensures { LeavesRow (spec.past_link (partial self.old row) link) result self.new }
     {
         let row = self.settled_row(row)?;
         let Link { operator, operand } = link;

@@ -2,7 +2,8 @@ use Rattle.std.proofs.Common.{◌≡◌, ◌∙◌, List, [], sym, ap, subst, ru
 use Rattle.isl_expr.specs.declared.tree.Expr.{Expr}
 use Rattle.isl_expr.specs.declared.tree.Postfix.{Postfix}
 use Rattle.isl_simple.specs.Flat.{Leaves, ended, past_row, begun, nested, followed, operand_of}
-use Rattle.isl_simple.proofs.FlatLaws.{at-Row, at-Post, at-Prefix, at-Any, at-Last, row_on, post_on, postfixes_end, fewer_links, fewer_postfixes}
+use Rattle.isl_simple.proofs.FlatLaws.{at-Row, at-Post, at-Prefix, at-Any, at-Last, row_on, post_on, postfixes_end, fewer_links}
+use Rattle.isl_simple.proofs.FlatLaws.{fewer_postfixes}
 use Rattle.isl_simple.proofs.flattening.Flattening.+flat.Goals as goal
 
 pub flattened-returns-in-Row : goal.flattened-returns-in-Row
@@ -10,14 +11,16 @@ flattened-returns-in-Row t c =
     let old = c.args.self.now in
     let new = c.row.new.self in
     at-Row c.args.standing old new c.args.expr c.in-Row.first c.in-Row.links c.row.result c.in-Row.is
-    (subst (λ (y : Expr). Leaves (ended (past_row (begun (nested old y)) c.in-Row.links)) c.row.result new) c.into_inner.ensures c.row.ensures)
+    (subst (λ (y : Expr). Leaves (ended (past_row (begun (nested old y)) c.in-Row.links)) c.row.result new)
+    c.into_inner.ensures c.row.ensures)
 
 pub flattened-returns-in-Post : goal.flattened-returns-in-Post
 flattened-returns-in-Post t c =
     let old = c.args.self.now in
     let new = c.post.new.self in
     at-Post c.args.standing old new c.args.expr c.in-Post.operand c.in-Post.postfixes c.post.result c.in-Post.is
-    (subst (λ (y : Expr). Leaves (followed (nested old y) c.in-Post.postfixes) c.post.result new) c.into_inner-in-Post.ensures c.post.ensures)
+    (subst (λ (y : Expr). Leaves (followed (nested old y) c.in-Post.postfixes) c.post.result new)
+    c.into_inner-in-Post.ensures c.post.ensures)
 
 pub flattened-returns-in_ok-new-in-Prefix : goal.flattened-returns-in_ok-new-in-Prefix
 flattened-returns-in_ok-new-in-Prefix t c =
