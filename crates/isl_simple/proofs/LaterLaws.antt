@@ -4,7 +4,6 @@ use Rattle.std.specs.List.{list_any}
 use Rattle.std.proofs.lemmas.List.Folds.{list_any-append}
 use Rattle.isl_expr.specs.declared.tree.Prefix.{Prefix as Word}
 use Rattle.isl_expr.specs.declared.tree.Link.{Link}
-use Rattle.isl_expr.specs.declared.tree.Postfix.{Postfix, Inverse, Apply, Item}
 use Rattle.isl_expr.specs.declared.tree.Expr.{Expr, Prefix, Any, Last}
 use Rattle.isl_kinds.specs.Parts.{parts_of, parts_of_links, parts_of_postfix, parts_of_postfixes}
 use Rattle.isl_kinds.specs.Parts as part

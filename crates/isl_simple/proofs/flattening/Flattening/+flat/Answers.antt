@@ -1,6 +1,5 @@
-use Rattle.std.proofs.Common.{◌≡◌, ◌∙◌, List, [], sym, ap, subst, rules}
+use Rattle.std.proofs.Common.{◌≡◌, ◌∙◌, [], sym, ap, subst, rules}
 use Rattle.isl_expr.specs.declared.tree.Expr.{Expr}
-use Rattle.isl_expr.specs.declared.tree.Postfix.{Postfix}
 use Rattle.isl_simple.specs.Flat.{Leaves, ended, past_row, begun, nested, followed, operand_of}
 use Rattle.isl_simple.proofs.FlatLaws.{at-Row, at-Post, at-Prefix, at-Any, at-Last, row_on, post_on, postfixes_end, fewer_links}
 use Rattle.isl_simple.proofs.FlatLaws.{fewer_postfixes}

@@ -1,5 +1,5 @@
-use Rattle.std.proofs.Common.{◌≡◌, ℕ, ◌+◌, ◌*◌, ◌≤◌, length, reverse}
-use Rattle.isl_simple.specs.Flat.{Partial, past_row, past_post}
+use Rattle.std.proofs.Common.{◌≡◌, ◌+◌, ◌*◌, ◌≤◌, length, reverse}
+use Rattle.isl_simple.specs.Flat.{past_row, past_post}
 use Rattle.isl_simple.specs.Size.{size_of, size_of_links, size_of_postfix, size_of_postfixes}
 use Rattle.isl_simple.proofs.flattening.Flattening.+flat.Given as goal
 
