@@ -3,12 +3,12 @@
 //! A statement is empty, or it binds or shows a plain literal or a name.
 #![tactic(auto)]
 
-mod answer;
 mod eval;
 mod selected;
 mod spelled;
 mod state;
+mod step;
 
-pub use answer::{Tally, answer};
 pub use spelled::one_statement;
 pub use state::State;
+pub use step::{Tally, answer};

@@ -2,6 +2,7 @@
 
 ghost use Rattle.std.specs.Prelude.{◌≡◌, IfOk, OnOk, OnErr};
 ghost use Rattle.std.specs.Option.{option_copied};
+ghost use Rattle.isl_union.specs.KeptValue.{IsKeptValue};
 ghost use Rattle.isl_eval.specs.State.{unbound, kept_of, type_of, scope_of, Binds};
 
 use indexmap::IndexMap;
@@ -38,11 +39,23 @@ impl Kept {
         Kept { kind, value }
     }
 
-    /// The value, which is shared.
-    pub(crate) fn value(&self) -> Result<Rc<Value>, AllocError>
-        ensures { IfOk result (λ value. value.value ≡ self.now.value) }
+    /// The value.
+    pub(crate) fn value(&self) -> &Value
+        ensures { result.now ≡ self.now.value }
     {
-        self.value.clone()
+        &self.value
+    }
+
+    /// The same, with the same value in memory.
+    pub(crate) fn copy(&self) -> Result<Kept, AllocError>
+        ensures copy { IfOk result (λ copy. copy ≡ self.now) }
+        ensures kept { IsKeptValue self.now.value }
+    {
+        let _pieces = self.value.pieces();
+        Ok(Kept {
+            kind: self.kind,
+            value: self.value.clone()?,
+        })
     }
 }
 
@@ -94,14 +107,14 @@ impl State {
     }
 
     /// From now on the name stands for this, which is of this type, and every other name for what it stood for.
-    pub(crate) fn bind(&mut self, name: &Name, kept: Kept, typed: Typed) -> Result<(), AllocError>
+    pub(crate) fn bind(&mut self, name: Name, kept: Kept, typed: Typed) -> Result<(), AllocError>
         requires { typed ≡ type_of kept }
-        ensures ok { OnOk result (Binds self.old name.now kept self.new) }
+        ensures ok { OnOk result (Binds self.old name kept self.new) }
         ensures err { OnErr result (self.new ≡ self.old) }
     {
         self.bound.reserve(1)?;
         self.scope.bind(name.copy()?, typed)?;
-        match self.bound.insert(name.copy()?, kept) {
+        match self.bound.insert(name, kept) {
             Ok(_) => Ok(()),
             Err(_) => unreachable!(),
         }

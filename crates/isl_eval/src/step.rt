@@ -7,9 +7,8 @@ ghost use Rattle.isl_eval.specs.Causes.{Refuses};
 ghost use Rattle.isl_eval.specs.Machine.{Answer, Answers};
 
 use crate::State;
-use crate::eval::eval;
+use crate::eval::{perform, prepare};
 use crate::spelled::read;
-use isl_kinds::typed_statement;
 use isl_meter::Meter;
 use isl_text::refusal::Refusal;
 use std::alloc::Global;
@@ -52,8 +51,8 @@ pub fn answer(
         Ok(stmt) => stmt,
         Err(refusal) => return Err(refusal),
     };
-    match typed_statement(alloc, &stmt, state.scope()) {
-        Ok(typed) => eval(alloc, stmt, typed, state, meter, text),
+    match prepare(alloc, &stmt, state, meter) {
+        Ok(work) => perform(alloc, work, state, text),
         Err(refusal) => Err(refusal),
     }
 }
