@@ -1,7 +1,7 @@
 -- Which causes the bytes of a statement have.
-use Rattle.std.proofs.Common.{◌≡◌, ◌∙◌, ◌⊎◌, inl, inr, refl, sym, ap, subst, ℕ, ℤ, Bool, true, false, List, [], ◌∷◌, Option, Some, None, Result, Ok, Err}
-use Rattle.std.proofs.lemmas.Bool.{false≢true, true≢false}
-use Rattle.isl_meter.specs.Gauge.{Gauge, limit_of}
+use Rattle.std.proofs.Common.{◌≡◌, ◌∙◌, ◌⊎◌, inl, inr, refl, sym, ap, subst, ℕ, ℤ, Bool, true, false, List, Some, None, Result, Ok, Err}
+use Rattle.std.proofs.lemmas.Bool.{false≢true}
+use Rattle.isl_meter.specs.Gauge.{limit_of}
 use Rattle.isl_token.specs.TokenView.{Token}
 use Rattle.isl_token.specs.Lex.{tokens}
 use Rattle.isl_token.specs.Depth.{is_too_deep}
@@ -16,8 +16,8 @@ use Rattle.isl_statement.specs.Read.{NoStatement, judged, IsDueTo, IsDue}
 use Rattle.isl_statement.proofs.ReadLaws.{one_statement}
 use Rattle.isl_eval.specs.State.{Moment}
 use Rattle.isl_eval.specs.Spelled.{BytesSpell, OfTokens, OfStatement, SpellOne, is_unsupported}
-use Rattle.isl_eval.specs.Causes.{Cause, causes, IsThere, FirstGives, NoneIs}
-use Rattle.isl_eval.specs.Evaluation.{IsRead, IsWhyNot, causes_of_bytes}
+use Rattle.isl_eval.specs.Causes.{causes, IsThere, FirstGives}
+use Rattle.isl_eval.specs.Evaluation.{IsRead, IsWhyNot}
 use Rattle.isl_eval.proofs.SoundLaws.{spelled_sound}
 
 -- ---- one list of tokens, one statement
@@ -41,10 +41,10 @@ pub of_statement : (bytes : List ℕ) (stmt : Stmt) (P : Stmt → Type 0) → By
 of_statement bytes stmt P spelled h = subst P (one bytes h.0 stmt h.1 spelled) h.2
 
 is_not : (a : Bool) → a ≡ false → ¬ (a ≡ true)
-is_not a no yes = false≢true (sym no ∙ yes)
+is_not a not_so so = false≢true (sym not_so ∙ so)
 
 is_so : (a : Bool) → a ≡ true → ¬ (a ≡ false)
-is_so a yes no = false≢true (sym no ∙ yes)
+is_so a so not_so = false≢true (sym not_so ∙ so)
 
 -- ---- what limits make of a statement
 data Judged (limit : ℤ) (ts : List Token) (found : Stmt) (answer : Result Stmt Refusal) : Type 0 where
@@ -67,12 +67,12 @@ module _ (before : Moment) (bytes : List ℕ) where
     deep_why deep = inr (no_tokens bytes ts cut, inl ((ts, cut, deep), refl))
 
     shallow : is_too_deep ts ≡ false → ¬ OfTokens bytes (λ ts. is_too_deep ts ≡ true)
-    shallow no there = is_not (is_too_deep ts) no (of_tokens bytes ts (λ ts. is_too_deep ts ≡ true) cut there)
+    shallow flat there = is_not (is_too_deep ts) flat (of_tokens bytes ts (λ ts. is_too_deep ts ≡ true) cut there)
 
     none_why : is_too_deep ts ≡ false → NoStatement ts → FirstGives (IsThere before bytes) causes r.Syntax
-    none_why no none = inr (no_tokens bytes ts cut, inr (shallow no, inl ((ts, cut, none), refl)))
+    none_why flat none = inr (no_tokens bytes ts cut, inr (shallow flat, inl ((ts, cut, none), refl)))
 
-    module _ (no : is_too_deep ts ≡ false) (stmt : Stmt) (spells : Spells statement_grammar stmt ts) where
+    module _ (flat : is_too_deep ts ≡ false) (stmt : Stmt) (spells : Spells statement_grammar stmt ts) where
       spelled : BytesSpell bytes stmt
       spelled = record { tokens = ts; cut = cut; spelled = spells }
 
@@ -80,13 +80,13 @@ module _ (before : Moment) (bytes : List ℕ) where
       some_statement there = of_tokens bytes ts NoStatement cut there stmt spells
 
       wide_why : statement_is_within stmt ≡ false → FirstGives (IsThere before bytes) causes r.TooWide
-      wide_why wide = inr (no_tokens bytes ts cut, inr (shallow no, inr (some_statement, inl ((stmt, spelled, wide), refl))))
+      wide_why wide = inr (no_tokens bytes ts cut, inr (shallow flat, inr (some_statement, inl ((stmt, spelled, wide), refl))))
 
       narrow_tree : statement_is_within stmt ≡ true → ¬ OfStatement bytes (λ stmt. statement_is_within stmt ≡ false)
       narrow_tree within there = is_so (statement_is_within stmt) within (of_statement bytes stmt (λ stmt. statement_is_within stmt ≡ false) spelled there)
 
       number_why : statement_is_within stmt ≡ true → has_wide_number (limit_of before.meter) ts ≡ true → FirstGives (IsThere before bytes) causes r.WideNumber
-      number_why within wide = inr (no_tokens bytes ts cut, inr (shallow no, inr (some_statement, inr (narrow_tree within, inl ((ts, cut, wide), refl)))))
+      number_why within wide = inr (no_tokens bytes ts cut, inr (shallow flat, inr (some_statement, inr (narrow_tree within, inl ((ts, cut, wide), refl)))))
 
       narrow_tokens : has_wide_number (limit_of before.meter) ts ≡ false → ¬ OfTokens bytes (λ ts. has_wide_number (limit_of before.meter) ts ≡ true)
       narrow_tokens small there =
@@ -95,13 +95,27 @@ module _ (before : Moment) (bytes : List ℕ) where
       unsupported_why : statement_is_within stmt ≡ true → has_wide_number (limit_of before.meter) ts ≡ false → is_unsupported stmt ≡ true
           → FirstGives (IsThere before bytes) causes r.Syntax
       unsupported_why within small un =
-          inr (no_tokens bytes ts cut, inr (shallow no, inr (some_statement, inr (narrow_tree within, inr (narrow_tokens small, inl ((stmt, spelled, un), refl))))))
+          inr (no_tokens bytes ts cut, inr (shallow flat, inr (some_statement, inr (narrow_tree within, inr (narrow_tokens small, inl ((stmt, spelled, un), refl))))))
 
       read : statement_is_within stmt ≡ true → has_wide_number (limit_of before.meter) ts ≡ false → is_unsupported stmt ≡ false → IsRead before bytes stmt
       read within small supported = record {
         spelled = spelled;
-        none = (no_tokens bytes ts cut, (shallow no, (some_statement, (narrow_tree within, (narrow_tokens small,
-            ((λ there. is_not (is_unsupported stmt) supported (of_statement bytes stmt (λ stmt. is_unsupported stmt ≡ true) spelled there)), tt))))));
+        none = (
+          no_tokens bytes ts cut,
+          (
+            shallow flat,
+            (
+              some_statement,
+              (
+                narrow_tree within,
+                (
+                  narrow_tokens small,
+                  ((λ there. is_not (is_unsupported stmt) supported (of_statement bytes stmt (λ stmt. is_unsupported stmt ≡ true) spelled there)), tt),
+                ),
+              ),
+            ),
+          ),
+        );
         supported = supported;
         sound = spelled_sound bytes stmt spelled supported within;
       }
@@ -150,3 +164,23 @@ module _ (before : Moment) (bytes : List ℕ) where
       by (inl d) = let e = d.1 in cc
       by (inr (inl d)) = let e = d.2 in cc
       by (inr (inr d)) = un_of h.0 h.1 d.0 d.1 d.2 found (judged_as (limit_of before.meter) h.0 d.1 (Ok found) d.3) un
+
+abbrev failed : Refusal → Result Stmt Refusal
+failed refusal = Err refusal
+
+-- ---- what reading answers, as its contract has it: what is due, or that memory ended
+module _ (before : Moment) (bytes : List ℕ) (limit : ℤ) (same : limit ≡ limit_of before.meter) where
+  at_limit : (answer : Result Stmt Refusal) → IsDue bytes limit answer → IsDue bytes (limit_of before.meter) answer
+  at_limit answer due = subst (λ (z : ℤ). IsDue bytes z answer) same due
+
+  pub read_ok : (found : Stmt) → (Ok found ≡ Err r.NoMemory) ⊎ IsDue bytes limit (Ok found) → is_unsupported found ≡ false → IsRead before bytes found
+  read_ok found (inl e) supported = let f : Ok found ≡ Err r.NoMemory = e in cc
+  read_ok found (inr due) supported = due_read before bytes found (at_limit (Ok found) due) supported
+
+  pub read_unsupported : (found : Stmt) → (Ok found ≡ Err r.NoMemory) ⊎ IsDue bytes limit (Ok found) → is_unsupported found ≡ true → IsWhyNot before bytes r.Syntax
+  read_unsupported found (inl e) un = let f : Ok found ≡ Err r.NoMemory = e in cc
+  read_unsupported found (inr due) un = inr (due_unsupported before bytes found (at_limit (Ok found) due) un)
+
+  pub read_err : (refusal : Refusal) → (failed refusal ≡ Err r.NoMemory) ⊎ IsDue bytes limit (failed refusal) → IsWhyNot before bytes refusal
+  read_err refusal (inl e) = inl cc
+  read_err refusal (inr due) = inr (due_refused before bytes refusal (at_limit (Err refusal) due))

@@ -1,6 +1,10 @@
 -- What is kept of expressions.
-use Rattle.std.proofs.Common.{◌≡◌, ◌≢◌, ◌∙◌, ◌↔◌, refl, sym, ap, ap₂, subst, ℕ, ◌-◌, ◌^◌, true, List, [], ◌∷◌, ◌++◌, get_or, Option, Some, None, option_map}
+use Rattle.std.proofs.Common.{◌≡◌, ◌∙◌, ◌↔◌, refl, sym, ap, ap₂, subst, ◌-◌, ◌^◌, false, is_some, List, [], ◌∷◌, ◌++◌, get_or, Option, Some, None, option_map}
+use Rattle.std.specs.Prelude.{not, ◌||◌}
+use Rattle.std.specs.List.{All}
 use Rattle.std.specs.Str.{bytes_eq}
+use Rattle.std.proofs.lemmas.Bool.{false≢true}
+use Rattle.std.proofs.lemmas.List.Elements.{All-head}
 use Rattle.std.proofs.lemmas.List.{append-nil}
 use Rattle.indexmap.specs.IndexSet.{insert_all, insert_key}
 use Rattle.isl_meter.specs.Gauge.{Gauge, limit_of}
@@ -12,11 +16,12 @@ use Rattle.isl_space.proofs.NamesLaws.{inserted}
 use Rattle.isl_piece.proofs.RowMagnitudes.{up_to_limit}
 use Rattle.isl_union.specs.KeptValue.{KeptValue, IsKeptValue, Has}
 use Rattle.isl_tree.specs.declared.tree.Literal.{Literal}
-use Rattle.isl_tree.specs.Literal.{LiteralHas}
 use Rattle.isl_lower.specs.Value.{IsWellFormedLiteral, IsValueWithin, HasSameElements, value_lowered}
 use Rattle.isl_expr.specs.declared.tree.ValueKind.{ValueKind}
+use Rattle.isl_expr.specs.declared.tree.Expr.{Expr}
 use Rattle.isl_expr.specs.declared.tree.Expr.TheVariants as e
-use Rattle.isl_kinds.specs.Typed.{TypeView, params_of, kind_of, declared_of, bound_to}
+use Rattle.isl_expr.specs.Expr.{literals_of}
+use Rattle.isl_kinds.specs.Typed.{TypeView, params_of, has_unknown, kind_of, declared_of, bound_to}
 use Rattle.isl_eval.specs.State.{Kept, StateView, Moment, kept_of, type_of, scope_of, HasNumbersUpTo, Fits}
 use Rattle.isl_eval.specs.Selection.{KeptHas, Selects, Keeps}
 use Rattle.isl_eval.specs.Evaluation.{IsOfType}
@@ -88,3 +93,28 @@ module _ (before : Moment) (literal : Literal) (value : KeptValue) (t : TypeView
   literal_type =
       let params : value.params ≡ t.params = sym params_made ∙ typed.params in
       ap (λ (ps : List Name). let built : TypeView = record { kind = t.kind; params = ps } in built) params
+
+-- ---- what is selected
+pub never_unbound : (state : StateView) (name : Name) → kept_of state name ≡ None → ¬ (has_unknown (scope_of state) (e.Name name) ≡ false)
+never_unbound state name none known =
+    let unbound : bound_to (scope_of state) name ≡ None = bound_at state name ∙ ap (option_map type_of) none in
+    false≢true (sym known ∙ ap (λ (o : Option TypeView). not (is_some o) || false) unbound)
+
+pub name_selected : (before : Moment) (expr : Expr) (name : Name) (kept found : Kept) (t : TypeView) → expr ≡ e.Name name → found ≡ kept → kept_of before.state name ≡ Some kept
+    → IsOfType (scope_of before.state) expr t → IsKeptValue kept.value → Fits (limit_of before.meter) before.state → Keeps before expr found × (type_of found ≡ t)
+name_selected before expr name kept found t is same there typed sound fits =
+    subst (λ (x : Expr). Keeps before x found × (type_of found ≡ t)) (sym is)
+    (subst (λ (k : Kept). Keeps before (e.Name name) k × (type_of k ≡ t)) (sym same)
+    (name_keeps before name kept t there sound fits, name_type before name kept t there sound (subst (λ (x : Expr). IsOfType (scope_of before.state) x t) is typed)))
+
+pub literal_selected : (before : Moment) (expr : Expr) (literal : Literal) (value : KeptValue) (found : Kept) (t : TypeView) → expr ≡ e.Literal literal
+    → found ≡ record { kind = t.kind; value = value } → IsWellFormedLiteral literal → value ≡ value_lowered literal → HasSameElements literal value → IsValueWithin before.meter value
+    → IsOfType (scope_of before.state) expr t → Keeps before expr found × (type_of found ≡ t)
+literal_selected before expr literal value found t is same formed exact elements within typed =
+    let of_literal = subst (λ (x : Expr). IsOfType (scope_of before.state) x t) is typed in
+    subst (λ (x : Expr). Keeps before x found × (type_of found ≡ t)) (sym is)
+    (subst (λ (k : Kept). Keeps before (e.Literal literal) k × (type_of k ≡ t)) (sym same)
+    (literal_keeps before literal value t formed exact of_literal elements within, literal_type before literal value t formed exact of_literal))
+
+pub only_literal : (expr : Expr) (literal : Literal) → expr ≡ e.Literal literal → All IsWellFormedLiteral (literals_of expr) → IsWellFormedLiteral literal
+only_literal expr literal is sound = All-head IsWellFormedLiteral literal [] (subst (λ (x : Expr). All IsWellFormedLiteral (literals_of x)) is sound)

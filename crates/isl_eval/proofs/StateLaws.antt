@@ -1,5 +1,5 @@
 -- What is bound: look-ups, and their types.
-use Rattle.std.proofs.Common.{◌≡◌, ◌≢◌, ◌∙◌, refl, sym, ap, subst, ℕ, ℤ, Bool, true, false, cond, List, [], ◌∷◌, ◌++◌, map, Option, Some, None, option_map}
+use Rattle.std.proofs.Common.{◌≡◌, ◌≢◌, ◌∙◌, refl, sym, ap, subst, ℤ, Bool, true, false, cond, List, [], ◌∷◌, map, Some, None, option_map}
 use Rattle.std.specs.Prelude.{unsigned_abs, if◌then◌else◌}
 use Rattle.std.specs.Map.{lookup}
 use Rattle.std.specs.Str.{bytes_eq}
@@ -7,13 +7,10 @@ use Rattle.std.proofs.lemmas.Bool.{false≢true}
 use Rattle.std.proofs.lemmas.Slice.Eq.{bytes_eq-Decides}
 use Rattle.indexmap.specs.IndexMap.{insert_entry}
 use Rattle.isl_space.specs.Name.{Name}
-use Rattle.isl_kinds.specs.Typed.{TypeView, bound_to}
+use Rattle.isl_kinds.specs.Typed.{TypeView, ScopeView, bound_to}
 use Rattle.isl_eval.specs.State.{Kept, StateView, unbound, kept_of, type_of, scope_of, Binds, HasNumbersUpTo, Fits}
 
 -- ---- the types of what is bound
-typed_entry : Name × Kept → Name × TypeView
-typed_entry entry = (entry.0, type_of entry.1)
-
 lookup_types : (name : Name) (entries : List (Name × Kept)) → lookup (bytes_eq name) (map (λ entry. (entry.0, type_of entry.1)) entries) ≡ option_map type_of (lookup (bytes_eq name) entries)
 lookup_types name [] = refl
 lookup_types name (entry ∷ entries) = by (bytes_eq name entry.0) (lookup_types name entries)
@@ -40,17 +37,25 @@ insert_types name kept (entry ∷ entries) = by (bytes_eq name entry.0) (insert_
     by true more = refl
     by false more = ap (λ l. (entry.0, type_of entry.1) ∷ l) more
 
+-- the types when a name is bound
+pub bind_scope : (scope next : ScopeView) (entries after : List (Name × Kept)) (name : Name) (kept : Kept) (t : TypeView) → scope ≡ map (λ entry. (entry.0, type_of entry.1)) entries
+    → next ≡ insert_entry bytes_eq scope name t → t ≡ type_of kept → after ≡ insert_entry bytes_eq entries name kept → next ≡ map (λ entry. (entry.0, type_of entry.1)) after
+bind_scope scope next entries after name kept t was bound typed is =
+    bound ∙ ap (λ (s : ScopeView). insert_entry bytes_eq s name t) was ∙ ap (insert_entry bytes_eq (map (λ entry. (entry.0, type_of entry.1)) entries) name) typed
+    ∙ sym (insert_types name kept entries) ∙ ap (map (λ (entry : Name × Kept). (entry.0, type_of entry.1))) (sym is)
+
 -- ---- what is bound when a name is
 equal_itself : (name : Name) → bytes_eq name name ≡ true
 equal_itself name = (bytes_eq-Decides name name).1 refl
 
 named_in : (name : Name) (kept : Kept) (entries : List (Name × Kept)) → lookup (bytes_eq name) (insert_entry bytes_eq entries name kept) ≡ Some kept
 named_in name kept [] = rw (equal_itself name) refl
-named_in name kept (entry ∷ entries) = by (bytes_eq name entry.0) refl
+named_in name kept (entry ∷ entries) = by (bytes_eq name entry.0) refl (named_in name kept entries)
   where
-    by : (b : Bool) → bytes_eq name entry.0 ≡ b → lookup (bytes_eq name) (if b then (entry.0, kept) ∷ entries else entry ∷ insert_entry bytes_eq entries name kept) ≡ Some kept
-    by true is = rw is refl
-    by false is = rw is (named_in name kept entries)
+    by : (b : Bool) → bytes_eq name entry.0 ≡ b → lookup (bytes_eq name) (insert_entry bytes_eq entries name kept) ≡ Some kept
+        → lookup (bytes_eq name) (if b then (entry.0, kept) ∷ entries else entry ∷ insert_entry bytes_eq entries name kept) ≡ Some kept
+    by true is more = rw is refl
+    by false is more = rw is more
 
 others_in : (name other : Name) (kept : Kept) (entries : List (Name × Kept)) → other ≢ name → lookup (bytes_eq other) (insert_entry bytes_eq entries name kept) ≡ lookup (bytes_eq other) entries
 others_in name other kept [] apart = by (bytes_eq other name) refl
@@ -58,14 +63,15 @@ others_in name other kept [] apart = by (bytes_eq other name) refl
     by : (b : Bool) → bytes_eq other name ≡ b → cond b (Some kept) None ≡ None
     by true is = absurd (apart ((bytes_eq-Decides other name).0 is))
     by false is = refl
-others_in name other kept (entry ∷ entries) apart = by (bytes_eq name entry.0) refl (bytes_eq other entry.0) refl
+others_in name other kept (entry ∷ entries) apart = by (bytes_eq name entry.0) refl (bytes_eq other entry.0) refl (others_in name other kept entries apart)
   where
     by : (b : Bool) → bytes_eq name entry.0 ≡ b → (c : Bool) → bytes_eq other entry.0 ≡ c
+        → lookup (bytes_eq other) (insert_entry bytes_eq entries name kept) ≡ lookup (bytes_eq other) entries
         → lookup (bytes_eq other) (if b then (entry.0, kept) ∷ entries else entry ∷ insert_entry bytes_eq entries name kept) ≡ cond c (Some entry.1) (lookup (bytes_eq other) entries)
-    by true is true also = absurd (apart ((bytes_eq-Decides other entry.0).0 also ∙ sym ((bytes_eq-Decides name entry.0).0 is)))
-    by true is false also = rw also refl
-    by false is true also = rw also refl
-    by false is false also = rw also (others_in name other kept entries apart)
+    by true is true also more = absurd (apart ((bytes_eq-Decides other entry.0).0 also ∙ sym ((bytes_eq-Decides name entry.0).0 is)))
+    by true is false also more = rw also refl
+    by false is true also more = rw also refl
+    by false is false also more = rw also more
 
 pub binds : (before : StateView) (name : Name) (kept : Kept) (after : StateView) → after.bound ≡ insert_entry bytes_eq before.bound name kept → Binds before name kept after
 binds before name kept after is = record {

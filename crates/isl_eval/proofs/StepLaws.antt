@@ -1,8 +1,8 @@
 -- One step: what is answered, and what is refused.
-use Rattle.std.proofs.Common.{◌≡◌, ◌≢◌, ◌∙◌, ◌⊎◌, inl, inr, refl, sym, ap, subst, ℕ, ◌≤◌, Bool, true, false, List, [], ◌∷◌, Option, Some, None, Result, Ok, Err, arith}
-use Rattle.std.specs.Prelude.{not}
-use Rattle.isl_math.specs.Count.{risen}
+use Rattle.std.proofs.Common.{◌≡◌, ◌≢◌, ◌∙◌, ◌⊎◌, inl, inr, refl, sym, ap, subst, ℕ, Bool, true, false, List, [], ◌∷◌, ◌++◌, Option, Some, None, Result, Ok, Err, arith}
+use Rattle.std.specs.Prelude.{IfOk, MatchResult}
 use Rattle.isl_meter.specs.Gauge.{Gauge, limit_of, overflown, IsCharged, IsKept}
+use Rattle.isl_tree.specs.declared.tree.Literal.{Literal}
 use Rattle.isl_text.specs.declared.refusal.Refusal.{Refusal}
 use Rattle.isl_text.specs.declared.refusal.Refusal.TheVariants as r
 use Rattle.isl_expr.specs.declared.tree.ValueKind.{ValueKind}
@@ -14,10 +14,10 @@ use Rattle.isl_kinds.specs.declared.types.Purpose.{Purpose}
 use Rattle.isl_kinds.specs.declared.types.Purpose.TheVariants as purpose
 use Rattle.isl_kinds.specs.Typed.{TypeView, ScopeView, takes, has_unknown, has_no_item, kind_of, declared_of, kind_for, with_params, type_for, found, type_of_statement}
 use Rattle.isl_eval.specs.State.{Moment, StateView, Binds, scope_of, Fits}
-use Rattle.isl_eval.specs.Selection.{Keeps}
-use Rattle.isl_eval.specs.Spelled.{BytesSpell, OfStatement}
-use Rattle.isl_eval.specs.Causes.{Cause, no_token, too_deep, no_statement, too_wide, wide_number, unsupported, unknown_name, wrong_kind, no_element, causes, refusal_of, IsThere, FirstGives, NoneIs, IsValid, Refuses}
+use Rattle.isl_eval.specs.Spelled.{OfStatement}
+use Rattle.isl_eval.specs.Causes.{Cause, no_token, too_deep, no_statement, too_wide, wide_number, unsupported, unknown_name, wrong_kind, no_element, causes, refusal_of, IsThere, FirstGives, IsValid, Refuses}
 use Rattle.isl_eval.specs.Machine.{Answer, Step, Answers}
+use Rattle.isl_eval.specs.declared.step.Tally.{Tally}
 use Rattle.isl_eval.specs.declared.eval.Work.{Work}
 use Rattle.isl_eval.specs.declared.eval.Work.TheVariants as work
 use Rattle.isl_eval.specs.Evaluation.{IsRead, IsWhyNot, IsTyped, IsOfType, IsWork, IsWhyUnmade, IsWhyUnworked, Does}
@@ -78,6 +78,11 @@ module _ (scope : ScopeView) (expr : Expr) where
       by true q = let f : Err r.UnknownName ≡ Err refusal = sym (rw q refl) ∙ e in inl cc
       by false q = inr (wrong_kind_of p (kind_of scope expr) refusal (sym (rw q refl) ∙ e))
 
+-- what a function that finds a type answers
+pub answered_ok : (t : Option TypeView) (answer : Result (Option TypeView) Refusal) → (Ok t ≡ answer) ⊎ (Ok t ≡ Err r.NoMemory) → answer ≡ Ok t
+answered_ok t answer (inl e) = sym e
+answered_ok t answer (inr e) = let f : Ok t ≡ Err r.NoMemory = e in cc
+
 found_err : (t : Result TypeView Refusal) (refusal : Refusal) → found t ≡ Err refusal → t ≡ Err refusal
 found_err (Ok t) refusal e = let f : Ok (Some t) ≡ Err refusal = e in cc
 found_err (Err other) refusal e = cc
@@ -107,6 +112,12 @@ pub none_typed : (before : Moment) (stmt : Stmt) → type_of_statement (scope_of
 none_typed before Empty e = tt
 none_typed before (Bind name expr) e = absurd (found_some (type_for purpose.Bound (scope_of before.state) expr) e)
 none_typed before (Show expr) e = absurd (found_some (type_for purpose.Shown (scope_of before.state) expr) e)
+
+-- why the expression of a statement with a type was not worked out
+pub unmade_unworked : (scope : ScopeView) (stmt : Stmt) (t : Option TypeView) (literals : List Literal) (old now : Gauge) (refusal : Refusal)
+    → (Ok t ≡ type_of_statement scope stmt) ⊎ (Ok t ≡ Err r.NoMemory) → statement_literals stmt ≡ literals → IsWhyUnmade literals old now refusal → IsWhyUnworked scope stmt old now refusal
+unmade_unworked scope stmt t literals old now refusal typed are why =
+    inr (inl ((t, answered_ok t (type_of_statement scope stmt) typed), subst (λ (ls : List Literal). IsWhyUnmade ls old now refusal) (sym are) why))
 
 -- ---- refusals
 module _ (before : Moment) (bytes : List ℕ) (now : Gauge) (same : now ≡ before.meter) where
@@ -147,9 +158,6 @@ unread_refuses before bytes refusal (inr h) = first_refuses before bytes before.
 
 -- ---- a statement that was read
 module _ (before : Moment) (bytes : List ℕ) (stmt : Stmt) (read : IsRead before bytes stmt) where
-  scope : ScopeView
-  scope = scope_of before.state
-
   -- it has one type
   other_type : (a b : Result (Option TypeView) Refusal) → type_of_statement (scope_of before.state) stmt ≡ a → a ≢ b → ¬ OfStatement bytes (λ stmt. type_of_statement (scope_of before.state) stmt ≡ b)
   other_type a b is apart there =
@@ -162,33 +170,60 @@ module _ (before : Moment) (bytes : List ℕ) (stmt : Stmt) (read : IsRead befor
     pub valid : IsValid before bytes
     valid =
         let n = read.none in
-        (n.0, (n.1, (n.2, (n.3, (n.4, (n.5, (other_type (Ok typed.0) (Err r.UnknownName) typed.1 (apart r.UnknownName),
-        (other_type (Ok typed.0) (Err r.WrongKind) typed.1 (apart r.WrongKind), (other_type (Ok typed.0) (Err r.NoElement) typed.1 (apart r.NoElement), tt)))))))))
+        let m = n.1 in
+        let l = m.1 in
+        let k = l.1 in
+        let j = k.1 in
+        let i = j.1 in (
+          n.0,
+          (
+            m.0,
+            (
+              l.0,
+              (
+                k.0,
+                (
+                  j.0,
+                  (
+                    i.0,
+                    (
+                      other_type (Ok typed.0) (Err r.UnknownName) typed.1 (apart r.UnknownName),
+                      (other_type (Ok typed.0) (Err r.WrongKind) typed.1 (apart r.WrongKind), (other_type (Ok typed.0) (Err r.NoElement) typed.1 (apart r.NoElement), tt)),
+                    ),
+                  ),
+                ),
+              ),
+            ),
+          ),
+        )
 
   -- it has no type
   untyped : (refusal : Refusal) → type_of_statement (scope_of before.state) stmt ≡ Err refusal
       → ((refusal ≡ r.UnknownName) ⊎ ((refusal ≡ r.WrongKind) ⊎ (refusal ≡ r.NoElement))) → FirstGives (IsThere before bytes) causes refusal
   untyped refusal is why =
       let n = read.none in
-      inr (n.0, inr (n.1, inr (n.2, inr (n.3, inr (n.4, inr (n.5, by why))))))
+      let m = n.1 in
+      let l = m.1 in
+      let k = l.1 in
+      let j = k.1 in
+      let i = j.1 in
+      inr (n.0, inr (m.0, inr (l.0, inr (k.0, inr (j.0, inr (i.0, by why))))))
     where
-      first : List Cause
-      first = unknown_name ∷ wrong_kind ∷ no_element ∷ []
-
-      by : ((refusal ≡ r.UnknownName) ⊎ ((refusal ≡ r.WrongKind) ⊎ (refusal ≡ r.NoElement))) → FirstGives (IsThere before bytes) first refusal
-      unfolding first
+      by : ((refusal ≡ r.UnknownName) ⊎ ((refusal ≡ r.WrongKind) ⊎ (refusal ≡ r.NoElement))) → FirstGives (IsThere before bytes) (unknown_name ∷ wrong_kind ∷ no_element ∷ []) refusal
       by (inl e) = inl ((stmt, read.spelled, is ∙ ap Err e), e)
       by (inr (inl e)) = inr (other_type (Err refusal) (Err r.UnknownName) is (λ f. let g : r.WrongKind ≡ r.UnknownName = sym e ∙ (let h = f in cc) in cc), inl ((stmt, read.spelled, is ∙ ap Err e), e))
       by (inr (inr e)) =
-          inr (other_type (Err refusal) (Err r.UnknownName) is (λ f. let g : r.NoElement ≡ r.UnknownName = sym e ∙ (let h = f in cc) in cc),
-          inr (other_type (Err refusal) (Err r.WrongKind) is (λ f. let g : r.NoElement ≡ r.WrongKind = sym e ∙ (let h = f in cc) in cc), inl ((stmt, read.spelled, is ∙ ap Err e), e)))
+          inr (
+            other_type (Err refusal) (Err r.UnknownName) is (λ f. let g : r.NoElement ≡ r.UnknownName = sym e ∙ (let h = f in cc) in cc),
+            inr (other_type (Err refusal) (Err r.WrongKind) is (λ f. let g : r.NoElement ≡ r.WrongKind = sym e ∙ (let h = f in cc) in cc), inl ((stmt, read.spelled, is ∙ ap Err e), e)),
+          )
 
   pub unworked_refuses : (now : Gauge) (refusal : Refusal) → IsWhyUnworked (scope_of before.state) stmt before.meter now refusal → Refuses before bytes now refusal
   unworked_refuses now refusal (inl h) = first_refuses before bytes now h.1 refusal (untyped refusal h.0 (no_type (scope_of before.state) stmt refusal h.0))
   unworked_refuses now refusal (inr (inl h)) = by h.1
     where
       by : IsWhyUnmade (statement_literals stmt) before.meter now refusal → Refuses before bytes now refusal
-      by (inl g) = subst (Refuses before bytes now) (sym g.0) (valid h.0, ((stmt, read.spelled, g.1), charged_as (overflown before.meter) now g.2))
+      by (inl g) = subst (Refuses before bytes now) (sym g.0) (valid h.0, (stmt, read.spelled, g.1), charged_as (overflown before.meter) now g.2)
       by (inr g) = memory_refuses before bytes now g.1 refusal g.0
   unworked_refuses now refusal (inr (inr h)) = memory_refuses before bytes now h.1 refusal h.0
 
@@ -226,3 +261,34 @@ work_fits before (Show expr) (work.Bind name kept t) next answer fits is does = 
 work_fits before (Bind name expr) work.Nothing next answer fits is does = absurd is
 work_fits before (Bind name expr) (work.Show kept) next answer fits is does = absurd is
 work_fits before (Bind name expr) (work.Bind bound kept t) next answer fits is does = fits_bound (limit_of before.meter) before.state bound kept next fits does.0 is.1.numbers
+
+-- ---- what each part leaves, at once
+-- what performing the work ensures
+abbrev Performs : Work → StateView → List ℕ → StateView → List ℕ → Result Tally Refusal → Type 0
+Performs w old text new all result = MatchResult result
+    (λ tally. (answer : Answer) × (all ≡ text ++ answer.bytes) × (tally ≡ record { is_true = answer.is_true; elements = answer.elements }) × Does w old new answer)
+    (λ refusal. (refusal ≡ r.NoMemory) × (new ≡ old) × (all ≡ text))
+
+module _ (before : Moment) (bytes : List ℕ) (stmt : Stmt) (read : IsRead before bytes stmt) (now : Gauge) (w : Work)
+    (made : IsTyped (scope_of before.state) stmt × IsWork before stmt w × (now ≡ before.meter)) (text : List ℕ) (next : StateView) (all : List ℕ) where
+  pub performed_answers : (result : Result Tally Refusal) → Performs w before.state text next all result
+      → IfOk result (λ tally. (answer : Answer) × (all ≡ text ++ answer.bytes) × (tally ≡ record { is_true = answer.is_true; elements = answer.elements })
+      × Answers before bytes (record { state = next; meter = now }) answer)
+  performed_answers (Ok tally) done =
+      (done.0, done.1, done.2, answers before bytes stmt read (record { state = next; meter = now }) w done.0 made.0 made.1 done.3 made.2)
+  performed_answers (Err refusal) done = tt
+
+  pub performed_fits : (result : Result Tally Refusal) → Fits (limit_of before.meter) before.state → Performs w before.state text next all result → Fits (limit_of now) next
+  performed_fits (Ok tally) fits done =
+      subst (λ (g : Gauge). Fits (limit_of g) next) (sym made.2) (work_fits before stmt w next done.0 fits made.1 done.3)
+  performed_fits (Err refusal) fits done = subst (λ (g : Gauge). Fits (limit_of g) next) (sym made.2) (subst (Fits (limit_of before.meter)) (sym done.1) fits)
+
+-- ---- the limit after a refusal
+pub unmade_limit : (scope : ScopeView) (stmt : Stmt) (old now : Gauge) (refusal : Refusal) → IsWhyUnworked scope stmt old now refusal → limit_of now ≡ limit_of old
+unmade_limit scope stmt old now refusal (inl h) = ap limit_of h.1
+unmade_limit scope stmt old now refusal (inr (inl h)) = by h.1
+  where
+    by : IsWhyUnmade (statement_literals stmt) old now refusal → limit_of now ≡ limit_of old
+    by (inl g) = ap limit_of g.2
+    by (inr g) = ap limit_of g.1
+unmade_limit scope stmt old now refusal (inr (inr h)) = ap limit_of h.1

@@ -12,7 +12,7 @@ use Rattle.isl_expr.specs.Expr.{statement_literals}
 use Rattle.isl_kinds.specs.Typed.{TypeView, ScopeView, has_unknown, kind_of, declared_of, type_of_statement}
 use Rattle.isl_eval.specs.declared.eval.Work.{Work}
 use Rattle.isl_eval.specs.declared.eval.Work.TheVariants as work
-use Rattle.isl_eval.specs.State.{StateView, Moment, Kept, Binds, type_of}
+use Rattle.isl_eval.specs.State.{StateView, Moment, Binds, type_of}
 use Rattle.isl_eval.specs.Selection.{Keeps}
 use Rattle.isl_eval.specs.Spelled.{BytesSpell, is_unsupported}
 use Rattle.isl_eval.specs.Machine.{Answer, nothing, shown}

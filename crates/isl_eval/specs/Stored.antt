@@ -10,7 +10,7 @@ use Rattle.isl_eval.specs.State.{Kept, StateView}
 
 abbrev pub kept_code : Coded Kept
 kept_code =
-    code_by (ValueKind × KeptValue) (coded× kind.the_type.coded kept_value_code) (λ kept. (kept.kind, kept.value))
+    code_by (ValueKind × KeptValue) (coded× kind.the_row.coded kept_value_code) (λ kept. (kept.kind, kept.value))
     (λ parts. record { kind = parts.0; value = parts.1 }) (λ _. refl)
 
 abbrev pub state_code : Coded StateView
