@@ -13,10 +13,11 @@ use Rattle.isl_expr.specs.Expr.{statement_literals}
 use Rattle.isl_kinds.specs.declared.types.Purpose.{Purpose}
 use Rattle.isl_kinds.specs.declared.types.Purpose.TheVariants as purpose
 use Rattle.isl_kinds.specs.Typed.{TypeView, ScopeView, takes, has_unknown, has_no_item, kind_of, declared_of, kind_for, with_params, type_for, found, type_of_statement}
-use Rattle.isl_eval.specs.State.{Moment, StateView, Binds, scope_of, Fits}
+use Rattle.isl_eval.specs.State.{Kept, Moment, StateView, Binds, scope_of, Fits}
 use Rattle.isl_eval.specs.Spelled.{OfStatement}
 use Rattle.isl_eval.specs.Causes.{Cause, no_token, too_deep, no_statement, too_wide, wide_number, unsupported, unknown_name, wrong_kind, no_element, causes, refusal_of, IsThere, FirstGives, IsValid, Refuses}
-use Rattle.isl_eval.specs.Machine.{Answer, Step, Answers}
+use Rattle.isl_eval.specs.Selection.{Keeps}
+use Rattle.isl_eval.specs.Machine.{Answer, Step, Answers, shown}
 use Rattle.isl_eval.specs.declared.step.Tally.{Tally}
 use Rattle.isl_eval.specs.declared.eval.Work.{Work}
 use Rattle.isl_eval.specs.declared.eval.Work.TheVariants as work
@@ -248,6 +249,11 @@ module _ (before : Moment) (bytes : List ℕ) (stmt : Stmt) (read : IsRead befor
       step (Bind name expr) work.Nothing is does = absurd is
       step (Bind name expr) (work.Show kept) is does = absurd is
       step (Bind name expr) (work.Bind bound kept t) is does = ((kept, is.1, subst (λ (n : List ℕ). Binds before.state n kept after.state) is.0 does.0), does.1)
+
+-- an expression is shown
+pub show_answers : (before : Moment) (bytes : List ℕ) (expr : Expr) → IsRead before bytes (Show expr) → (after : Moment) (kept : Kept) (answer : Answer) → IsTyped (scope_of before.state) (Show expr)
+    → Keeps before expr kept → after.state ≡ before.state → answer ≡ shown kept.value → after.meter ≡ before.meter → Answers before bytes after answer
+show_answers before bytes expr read after kept answer typed keeps same is meter = answers before bytes (Show expr) read after (work.Show kept) answer typed keeps (same, is) meter
 
 -- ---- what is bound stays within the limit
 pub work_fits : (before : Moment) (stmt : Stmt) (w : Work) (next : StateView) (answer : Answer) → Fits (limit_of before.meter) before.state → IsWork before stmt w → Does w before.state next answer
