@@ -34,8 +34,8 @@ use Rattle.isl_lower.specs.Linear.{Place}
 use Rattle.isl_lower.specs.Rows.{Written, kind_of_compare, equation, written_entries, written_links, written_chains, written_formula, written_body, written_piece, piece_width, piece_place, added, rows_written}
 use Rattle.isl_lower.specs.Value.{IsWellFormedLiteral, piece_lowered, value_lowered, IsValueWithin}
 use Rattle.isl_lower.proofs.ValueLaws.{written_formed, written_moduli, columns_are}
-use Rattle.isl_eval.specs.Machine.{HasNumbersUpTo}
-use Rattle.isl_eval.proofs.Causes.{value_up_to}
+use Rattle.isl_eval.specs.State.{HasNumbersUpTo}
+use Rattle.isl_eval.proofs.KeptLaws.{value_up_to}
 use Rattle.isl_readback.specs.Written.{IsComparison, HasComparisons, IsSet, IsMap, IsUniform, IsLeaf, IsFlatSpace, IsFlat}
 use Rattle.isl_readback.specs.RoundTrip.{IsWritableValue}
 
