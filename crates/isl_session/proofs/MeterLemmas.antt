@@ -1,8 +1,6 @@
 -- A session's meter over one statement after another.
 use Rattle.std.proofs.Common.{◌≡◌, ℕ, ℤ, Bool, List, refl, ◌∙◌, ap, arith}
 use Rattle.isl_meter.specs.Gauge.{Gauge, IsCharged, IsKept, limit_of}
-use Rattle.isl_space.specs.Name.{Name}
-use Rattle.isl_session.specs.Choices.{Choices, gauge_of}
 use Rattle.isl_session.specs.View.{Carries}
 
 pub carries_refl : (g : Gauge) → Carries g g
@@ -22,8 +20,3 @@ carries_limit g h carried = ap limit_of carried.same
 
 pub kept_refl : (g : Gauge) → IsKept g g
 kept_refl g = record { bits = refl; budget = refl; units = omega arith; overflows = omega arith; spents = omega arith }
-
--- the meter does not depend on the numbers of parameters
-pub gauge_of_bits : (choices : Choices) (bits budget : ℕ) (at : List (Name × ℤ)) (run : Bool) → choices ≡ record { bits = bits; budget = budget; at = at; run = run }
-    → gauge_of choices ≡ record { bits = bits; budget = budget; units = 0; overflows = 0; spents = 0 }
-gauge_of_bits choices bits budget at run is = ap gauge_of is

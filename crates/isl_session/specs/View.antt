@@ -10,6 +10,11 @@ use Rattle.isl_eval.specs.Machine.{Refuses, Run}
 use Rattle.isl_session.specs.declared.fault.Fault.{Fault}
 use Rattle.isl_session.specs.declared.TheConstants.{SCRIPT_MAX}
 use Rattle.isl_session.specs.Place.{Place, at_words, in_statement, past_limit, at_end, at_read, at_write, anywhere, place_of}
+use Rattle.isl_words.specs.Options.{OptionsView}
+
+-- the meter of a session that begins with these options
+abbrev pub gauge_of : OptionsView → Gauge
+gauge_of options = record { bits = options.bits; budget = options.budget; units = 0; overflows = 0; spents = 0 }
 
 pub record View : Type 0 where
   -- what the statements so far have bound

@@ -3,7 +3,6 @@
 #![tactic(auto)]
 
 mod fault;
-mod options;
 mod program;
 mod session;
 mod status;
@@ -11,7 +10,7 @@ mod write;
 
 pub use fault::Fault;
 pub use isl_text::refusal::Refusal;
-pub use options::Options;
+pub use isl_words::Options;
 pub use program::{refuse_words, run};
 pub use session::Session;
 pub use status::Status;

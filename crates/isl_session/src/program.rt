@@ -1,14 +1,15 @@
 //! The whole program over a source and two sinks.
 
-ghost use Rattle.std.specs.Prelude.{◌≡◌, ◌≢◌, ◌+◌, ◌<◌, ◌≤◌, ℕ, List, [], length, vec_len, Err, Some, None, OnOk, IfErr, IfSome, IsNone, IsSome};
+ghost use Rattle.std.specs.Prelude.{◌≡◌, ◌≢◌, ◌⊎◌, ◌+◌, ◌<◌, ◌≤◌, ℕ, List, [], length, map, string_bytes, Err, Some, None, OnOk, IfErr, IfSome, IsNone, IsSome};
 ghost use Rattle.std.specs.List.{concat};
 ghost use Rattle.std.specs.Io.KnownBytes.{Appends, Consumes, IsAtEnd};
 ghost use Rattle.isl_math.specs.Count.{Rose};
 ghost use Rattle.isl_meter.specs.Gauge.{Gauge, limit_of};
 ghost use Rattle.isl_stmt.specs.Script.{IsBlank};
-ghost use Rattle.isl_session.specs.Choices.{gauge_of, defaults};
+ghost use Rattle.isl_words.specs.Options.{OptionsView};
+ghost use Rattle.isl_words.specs.Taken.{AreTaken};
 ghost use Rattle.isl_session.specs.Place.{place_of};
-ghost use Rattle.isl_session.specs.View.{Fed, IsReady};
+ghost use Rattle.isl_session.specs.View.{Fed, IsReady, gauge_of};
 ghost use Rattle.isl_session.specs.Lines.{fault_line, usage_line};
 ghost use Rattle.isl_session.specs.Run.{Answered, Halts, IsReadThrough, IsReadWhole, outside};
 ghost use Rattle.isl_session.specs.Valid.{IsValidScript, IsDoneOrMemory};
@@ -17,15 +18,11 @@ use crate::write::{write_all, write_fault, write_usage};
 use crate::{Fault, Options, SCRIPT_MAX, Session, Status};
 use isl_io::{Failed, Sink, Source};
 use isl_text::refusal::Refusal;
+use isl_words::{WordsFault, read_words};
 use std::alloc::Global;
 
 // How many bytes a read asks for.
 const PIECE: usize = 4096;
-
-// What is chosen where the command line chooses nothing.
-const BITS: u32 = 127;
-
-const BUDGET: u64 = 10_000_000;
 
 // Takes a piece of the script. Each answer is written before the bytes behind its statement are taken.
 fn answer_piece<K: Sink>(
@@ -244,18 +241,19 @@ pub fn refuse_words<E: Sink>(err: &mut E) -> Status
 /// Does all that the program does: judges the words, answers the script that `src` has left on `out`, and tells
 /// a refusal on `err`.
 ///
-/// The words are taken where there is one, the program's name. Then numbers have 127 bits, and a statement may
-/// use 10,000,000 units. The whole script is read before its first statement is answered, and no more than
+/// The words, of which the first is the program's name, choose the options of the session. What they give to
+/// parameters, and whether loops are run, has no effect yet. The whole script is read before its first statement is answered, and no more than
 /// 2^30 + 1 bytes of it.
 pub fn run<S: Source, K: Sink, E: Sink>(
     alloc: Global,
-    words: &Vec<String>,
+    words: &[String],
     src: &mut S,
     out: &mut K,
     err: &mut E,
 ) -> Status
     // For every script, however its bytes arrive, and whatever the ends tell.
-    ensures answered { vec_len words.now ≡ 1 → (script : List ℕ) × Answered (gauge_of defaults) script
+    ensures answered { (options : OptionsView) → AreTaken (map string_bytes words.now) options → IsSome result.meter
+        → (script : List ℕ) × Answered (gauge_of options) script
         (outside (S.left src.old) (S.faults src.old) (K.written out.old) (K.faults out.old)
         (E.written err.old) (E.faults err.old))
         (outside (S.left src.new) (S.faults src.new) (K.written out.new) (K.faults out.new)
@@ -264,16 +262,16 @@ pub fn run<S: Source, K: Sink, E: Sink>(
     ensures quiet { result.refusal ≡ None → err.new ≡ err.old }
 
     // A valid script is answered whole, unless memory ends or a count rises.
-    ensures complete { vec_len words.now ≡ 1
+    ensures complete { (options : OptionsView) → AreTaken (map string_bytes words.now) options
         → (script : List ℕ) → S.left src.old ≡ Some script
-        → IsValidScript (limit_of (gauge_of defaults)) script
+        → IsValidScript (limit_of (gauge_of options)) script
         → (Rose (S.faults src.old) (S.faults src.new) → ⊥)
         → (Rose (K.faults out.old) (K.faults out.new) → ⊥)
         → ((meter : Gauge) → result.meter ≡ Some meter → Rose 0 meter.overflows → ⊥)
         → IsDoneOrMemory result.refusal }
 
     // A refused script too is read to its end, or as far as a script may go, unless a read fails or memory ends.
-    ensures whole { vec_len words.now ≡ 1 → result.refusal ≢ Some Refusal.NoMemory
+    ensures whole { (options : OptionsView) → AreTaken (map string_bytes words.now) options → result.refusal ≢ Some Refusal.NoMemory
         → (Rose (S.faults src.old) (S.faults src.new) → ⊥)
         → IsReadWhole (S.left src.old) (S.left src.new) }
 
@@ -285,20 +283,27 @@ pub fn run<S: Source, K: Sink, E: Sink>(
     ensures overflow { result.refusal ≡ Some Refusal.Overflow
         → IfSome result.meter (λ meter. Rose 0 meter.overflows) }
 
-    // Other words are refused before anything is read, and the usage line is told.
-    ensures usage { (vec_len words.now ≡ 1 → ⊥)
-        → (result ≡ record { refusal = Some Refusal.Usage; meter = None })
-        × (src.new ≡ src.old) × (out.new ≡ out.old) }
-    ensures only_usage { result.refusal ≡ Some Refusal.Usage → vec_len words.now ≡ 1 → ⊥ }
-    ensures session { IsNone result.meter → result.refusal ≡ Some Refusal.Usage }
+    // Other words are refused before anything is read, and the usage line is told, unless memory ends while they are read.
+    ensures usage { ((options : OptionsView) → ¬ (AreTaken (map string_bytes words.now) options))
+        → IsNone result.meter }
+    ensures only_usage { result.refusal ≡ Some Refusal.Usage
+        → (options : OptionsView) → ¬ (AreTaken (map string_bytes words.now) options) }
+    ensures session { IsNone result.meter → (src.new ≡ src.old) × (out.new ≡ out.old)
+        × ((result.refusal ≡ Some Refusal.Usage) ⊎ (result.refusal ≡ Some Refusal.NoMemory)) }
     ensures usage_line { result.refusal ≡ Some Refusal.Usage
         → (Rose (E.faults err.old) (E.faults err.new) → ⊥)
         → Appends (E.written err.old) (E.written err.new) usage_line }
+    ensures memory_line { IsNone result.meter → result.refusal ≡ Some Refusal.NoMemory
+        → (Rose (E.faults err.old) (E.faults err.new) → ⊥)
+        → Appends (E.written err.old) (E.written err.new)
+        (fault_line (record { statement = 1; refusal = Refusal.NoMemory })) }
 {
-    if words.len() != 1 {
-        let _ = write_usage(err);
-        return Status::new(Some(Refusal::Usage), None);
+    match read_words(alloc, words) {
+        Ok(options) => run_script(alloc, options, src, out, err),
+        Err(WordsFault::NoMemory) => refuse_words(err),
+        Err(WordsFault::Usage) => {
+            let _ = write_usage(err);
+            Status::new(Some(Refusal::Usage), None)
+        }
     }
-    let options = Options::new(BITS, BUDGET, Vec::new(alloc), false);
-    run_script(alloc, options, src, out, err)
 }

@@ -5,9 +5,8 @@ ghost use Rattle.std.specs.List.{concat};
 ghost use Rattle.isl_math.specs.Count.{Rose};
 ghost use Rattle.isl_meter.specs.Gauge.{limit_of};
 ghost use Rattle.isl_stmt.specs.Script.{statements};
-ghost use Rattle.isl_session.specs.Choices.{gauge_of};
 ghost use Rattle.isl_session.specs.Valid.{AreValid};
-ghost use Rattle.isl_session.specs.View.{Fed, Feeds, Finishes, IsReady, IsRefusedAt, Stopped, fresh};
+ghost use Rattle.isl_session.specs.View.{Fed, Feeds, Finishes, IsReady, IsRefusedAt, Stopped, fresh, gauge_of};
 
 use crate::{Fault, Options, SCRIPT_MAX};
 use isl_eval::{State, answer};
@@ -49,6 +48,8 @@ impl Session {
     pub fn new(alloc: Global, options: Options) -> Session
         ensures { result ≡ fresh (gauge_of options) }
     {
+        let bits = options.bits();
+        let budget = options.budget();
         Session {
             alloc,
             state: State::new(alloc),
@@ -57,7 +58,7 @@ impl Session {
             taken: 0,
             answered: 0,
             fault: None,
-            meter: Meter::new(options.bits, options.budget),
+            meter: Meter::new(bits, budget),
         }
     }
 

@@ -3,9 +3,8 @@ use Rattle.std.specs.List.{concat}
 use Rattle.std.specs.Io.KnownBytes.{Appends, IsAtEnd}
 use Rattle.isl_math.specs.Count.{Rose}
 use Rattle.isl_session.specs.declared.TheConstants.{SCRIPT_MAX}
-use Rattle.isl_session.specs.Choices.{gauge_of}
 use Rattle.isl_session.specs.Place.{place_of}
-use Rattle.isl_session.specs.View.{View, Fed}
+use Rattle.isl_session.specs.View.{View, Fed, gauge_of}
 use Rattle.isl_session.specs.Lines.{fault_line}
 use Rattle.isl_session.specs.Run.{Halts, outside}
 use Rattle.isl_session.proofs.AheadLemmas.{script_of}

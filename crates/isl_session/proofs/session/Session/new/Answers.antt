@@ -15,5 +15,5 @@ invariant_of-result c =
       held = omega (arith, ap length none);
       within = omega arith;
       answered = omega arith;
-      fits = unbound_fits c.new-4.result (let bits = ap (λ (g : Gauge). g.bits) c.new-4.ensures in omega (arith, bits, c.options.invariant.0));
+      fits = unbound_fits c.new-4.result (let bits = ap (λ (g : Gauge). g.bits) c.new-4.ensures in omega (arith, bits, c.bits-bits.ensures.bits, c.bits-bits.ensures.choice.bits.0));
     }
