@@ -3,7 +3,7 @@ use Rattle.std.proofs.Common.{◌≡◌, ℕ, ℤ, ◌<◌, List, true}
 use Rattle.isl_meter.specs.Gauge.{Gauge, IsKept, limit_of}
 use Rattle.isl_stmt.specs.Script.{ends}
 use Rattle.isl_text.specs.declared.refusal.Refusal.{Refusal}
-use Rattle.isl_text.specs.declared.refusal.Refusal.TheVariants.{Usage, Unfinished, ReadFault, WriteFault, NoMemory, ScriptTooLong}
+use Rattle.isl_text.specs.declared.refusal.Refusal.TheVariants.{Usage, Unfinished, ReadFault, WriteFault, NoMemory, TooLong, ScriptTooLong}
 use Rattle.isl_eval.specs.Bindings.{Bindings}
 use Rattle.isl_eval.specs.Machine.{Refuses}
 use Rattle.isl_session.specs.declared.TheConstants.{SCRIPT_MAX}
@@ -16,6 +16,7 @@ breaks_in_statement Usage view byte now room ended cause = absurd cause
 breaks_in_statement Unfinished view byte now room ended cause = absurd cause
 breaks_in_statement ReadFault view byte now room ended cause = absurd cause
 breaks_in_statement WriteFault view byte now room ended cause = absurd cause
+breaks_in_statement TooLong view byte now room ended cause = absurd cause
 breaks_in_statement ScriptTooLong view byte now room ended cause = absurd cause
 breaks_in_statement NoMemory view byte now room ended cause = tt
 breaks_in_statement refusal view byte now room ended cause = (room, ended, cause)
@@ -27,6 +28,7 @@ meter_in_statement limit state bytes before now Usage cause kept units = absurd 
 meter_in_statement limit state bytes before now Unfinished cause kept units = absurd cause
 meter_in_statement limit state bytes before now ReadFault cause kept units = absurd cause
 meter_in_statement limit state bytes before now WriteFault cause kept units = absurd cause
+meter_in_statement limit state bytes before now TooLong cause kept units = absurd cause
 meter_in_statement limit state bytes before now ScriptTooLong cause kept units = absurd cause
 meter_in_statement limit state bytes before now NoMemory cause kept units = (kept, units)
 meter_in_statement limit state bytes before now refusal cause kept units = (kept, units)

@@ -1,23 +1,25 @@
 -- What is valid is answered, unless memory ends or a count rose.
 use Rattle.std.proofs.Common.{◌≡◌, ℕ, ℤ, ◌+◌, ◌≤◌, List, [], ◌∷◌, ◌++◌, length, refl, sym, ◌∙◌, ap, subst, arith, Option, None, Some}
 use Rattle.std.proofs.lemmas.List.{append_assoc, length-append, take_all}
+use Rattle.std.proofs.lemmas.List.Elements.{All-head}
 use mathlib.Core.Logic.{inl, inr}
 use Rattle.isl_math.specs.Count.{Rose}
+use Rattle.isl_math.proofs.ListLaws.{All-parts}
 use Rattle.isl_meter.specs.Gauge.{Gauge, limit_of}
-use Rattle.isl_stmt.specs.Script.{statements, rest_of}
-use Rattle.isl_stmt.proofs.ScriptLaws.{statements-append}
+use Rattle.isl_stmt.specs.Script.{statements, rest_of, readable, next_part, ends}
+use Rattle.isl_stmt.proofs.ScriptLaws.{next_part-long, rest-append, statements-append}
 use Rattle.isl_text.specs.declared.refusal.Refusal.{Refusal}
-use Rattle.isl_text.specs.declared.refusal.Refusal.TheVariants.{Usage, Unfinished, Overflow, Budget, ReadFault, WriteFault, NoMemory, ScriptTooLong}
+use Rattle.isl_text.specs.declared.refusal.Refusal.TheVariants.{Usage, TooLong, Unfinished, Overflow, Budget, ReadFault, WriteFault, NoMemory, ScriptTooLong}
 use Rattle.isl_eval.specs.Bindings.{Bindings}
 use Rattle.isl_eval.specs.Machine.{Refuses}
 use Rattle.isl_eval.proofs.Causes.{overflow_rose}
 use Rattle.isl_session.specs.declared.fault.Fault.{Fault}
-use Rattle.isl_session.specs.declared.TheConstants.{SCRIPT_MAX}
-use Rattle.isl_session.specs.Place.{Place, at_words, in_statement, past_limit, at_end, at_read, at_write, anywhere, place_of}
+use Rattle.isl_session.specs.declared.TheConstants.{SCRIPT_MAX, STATEMENT_MAX}
+use Rattle.isl_session.specs.Place.{Place, at_words, in_statement, too_long, past_limit, at_end, at_read, at_write, anywhere, place_of}
 use Rattle.isl_session.specs.View.{View, BreaksIn, Carries, Stopped}
 use Rattle.isl_session.specs.Status.{StatusView}
 use Rattle.isl_session.specs.Run.{Answered, Ended, HasCause, OfFirst, Outside, Progress}
-use Rattle.isl_session.specs.Valid.{AreValid, IsDoneOrMemory, IsValid, IsValidScript}
+use Rattle.isl_session.specs.Valid.{AreShort, AreValid, IsDoneOrMemory, IsValid, IsValidScript}
 use Rattle.isl_session.proofs.MeterLemmas.{carries_limit}
 use Rattle.isl_session.proofs.ScriptLemmas.{statements-ended}
 use Rattle.isl_session.proofs.FedLemmas.{fed_ready}
@@ -29,6 +31,7 @@ memory_only Usage is = absurd (let bad : ⊥ = cc in bad)
 memory_only Unfinished is = absurd (let bad : ⊥ = cc in bad)
 memory_only ReadFault is = absurd (let bad : ⊥ = cc in bad)
 memory_only WriteFault is = absurd (let bad : ⊥ = cc in bad)
+memory_only TooLong is = absurd (let bad : ⊥ = cc in bad)
 memory_only ScriptTooLong is = absurd (let bad : ⊥ = cc in bad)
 memory_only refusal is = absurd (let bad : ⊥ = cc in bad)
 
@@ -47,10 +50,17 @@ no_cause_behind first state bytes before now carried valid no_overflow refusal c
     no_cause (limit_of before) state bytes before now (subst (λ (k : ℤ). IsValid k state bytes) (sym (carries_limit first before carried)) valid)
     (subst (λ (n : ℕ). Rose n now.overflows → ⊥) (sym (ap (λ (g : Gauge). g.overflows) carried.same)) no_overflow) refusal cause
 
+-- the part that comes next is none too long
+short_next : (done ahead : List (List ℕ)) (rest : List ℕ) → AreShort (done ++ ahead) rest → length (next_part ahead rest) ≤ STATEMENT_MAX
+short_next done [] rest short = short.rest
+short_next done (part ∷ later) rest short =
+    let P : List ℕ → Type 0 = λ p. length p ≤ STATEMENT_MAX in
+    All-head P part later (All-parts P done (part ∷ later) short.parts).1
+
 -- a piece whose statements are valid
 pub complete_piece : (old : View) (piece : List ℕ) (answers : List (List ℕ)) (new : View) (fault : Fault) → Stopped old piece answers new fault
-    → AreValid (limit_of old.meter) old.state (statements (old.rest ++ piece)) → old.taken + length piece ≤ SCRIPT_MAX → (Rose old.meter.overflows new.meter.overflows → ⊥) → fault.refusal ≡ NoMemory
-complete_piece old piece answers new fault stopped valid within no_overflow = go (place_of fault.refusal) refl stopped.breaks
+    → AreValid (limit_of old.meter) old.state (statements (old.rest ++ piece)) → AreShort (statements (old.rest ++ piece)) (rest_of (old.rest ++ piece)) → old.taken + length piece ≤ SCRIPT_MAX → (Rose old.meter.overflows new.meter.overflows → ⊥) → fault.refusal ≡ NoMemory
+complete_piece old piece answers new fault stopped valid short within no_overflow = go (place_of fault.refusal) refl stopped.breaks
   where
     go : (place : Place) → place_of fault.refusal ≡ place → BreaksIn place stopped.at_front stopped.byte new.meter fault.refusal → fault.refusal ≡ NoMemory
     go at_words at breaks = absurd breaks
@@ -58,6 +68,22 @@ complete_piece old piece answers new fault stopped valid within no_overflow = go
     go at_read at breaks = absurd breaks
     go at_write at breaks = absurd breaks
     go anywhere at breaks = memory_only fault.refusal at
+    go too_long at breaks =
+        let fed = stopped.fed in
+        let rest = stopped.at_front.rest in
+        let tail = stopped.byte ∷ stopped.behind in
+        let ready = fed_ready old stopped.front answers stopped.at_front fed in
+        let long = next_part-long rest stopped.byte stopped.behind ready.open_rest breaks.1 in
+        let joined : old.rest ++ piece ≡ (old.rest ++ stopped.front) ++ tail =
+        ap (λ (l : List ℕ). old.rest ++ l) stopped.split ∙ sym (append_assoc old.rest stopped.front tail) in
+        let parts : statements (old.rest ++ piece) ≡ statements (old.rest ++ stopped.front) ++ statements (rest ++ tail) =
+        ap statements joined ∙ statements-append (old.rest ++ stopped.front) tail
+        ∙ ap (λ (l : List ℕ). statements (old.rest ++ stopped.front) ++ statements (l ++ tail)) (sym fed.rest) in
+        let behind : rest_of (old.rest ++ piece) ≡ rest_of (rest ++ tail) =
+        ap rest_of joined ∙ rest-append (old.rest ++ stopped.front) tail ∙ ap (λ (l : List ℕ). rest_of (l ++ tail)) (sym fed.rest) in
+        let next = short_next (statements (old.rest ++ stopped.front)) (statements (rest ++ tail)) (rest_of (rest ++ tail))
+        (subst (λ (ps : List (List ℕ)). AreShort ps (rest_of (rest ++ tail))) parts (subst (λ (l : List ℕ). AreShort (statements (old.rest ++ piece)) l) behind short)) in
+        absurd (omega (arith, long, next, breaks.2))
     go past_limit at breaks = absurd (omega (arith, stopped.fed.taken, ap length stopped.split, length-append stopped.front (stopped.byte ∷ stopped.behind), within, breaks))
     go in_statement at breaks =
         let fed = stopped.fed in
@@ -91,6 +117,11 @@ module _ (first : Gauge) (script : List ℕ) (valid : IsValidScript (limit_of fi
   only_memory refusal at_end at cause = absurd (cause.4 valid.blank)
   only_memory refusal at_read at cause = absurd (no_read cause.0)
   only_memory refusal at_write at cause = absurd (no_write cause)
+  only_memory refusal too_long at cause =
+      let whole : readable script ≡ script = take_all SCRIPT_MAX script valid.within in
+      let split : statements script ≡ progress.done ++ progress.ahead = ap statements (sym whole) ∙ progress.split in
+      let next = short_next progress.done progress.ahead (rest_of script) (subst (λ (ps : List (List ℕ)). AreShort ps (rest_of script)) split valid.short) in
+      absurd (omega (arith, cause, next, ap (λ (l : List ℕ). length (next_part progress.ahead (rest_of l))) whole))
   only_memory refusal past_limit at cause = absurd (omega (arith, cause.1, valid.within, ap length script_is, length-append taken left))
   only_memory refusal anywhere at cause = memory_only refusal at
   only_memory refusal in_statement at cause = first_ahead refusal progress.ahead refl cause

@@ -1,12 +1,12 @@
 -- When statements must be answered.
-use Rattle.std.specs.Prelude.{◌≡◌, ◌⊎◌, ℕ, ℤ, ◌≤◌, Bool, true, false, List, ◌∷◌, ◌++◌, length, Option, Some, None}
+use Rattle.std.specs.Prelude.{◌≡◌, ◌⊎◌, ℕ, ℤ, ◌≤◌, Bool, true, false, List, ◌∷◌, ◌++◌, All, length, Option, Some, None}
 use Rattle.isl_meter.specs.Gauge.{Gauge}
 use Rattle.isl_stmt.specs.Script.{statements, rest_of, IsBlank}
 use Rattle.isl_text.specs.declared.refusal.Refusal.{Refusal}
 use Rattle.isl_text.specs.declared.refusal.Refusal.TheVariants.{Overflow, Budget, NoMemory}
 use Rattle.isl_eval.specs.Bindings.{Bindings, unbound}
 use Rattle.isl_eval.specs.Machine.{Refuses, Run}
-use Rattle.isl_session.specs.declared.TheConstants.{SCRIPT_MAX}
+use Rattle.isl_session.specs.declared.TheConstants.{SCRIPT_MAX, STATEMENT_MAX}
 
 -- a refusal that the work of a statement may come to by a count or by want of memory, whatever the statement says
 abbrev pub is_of_work : Refusal → Bool
@@ -24,10 +24,16 @@ pub record AreValid (limit : ℤ) (state : Bindings) (parts : List (List ℕ)) :
   pub each : (done : List (List ℕ)) (bytes : List ℕ) (ahead answers : List (List ℕ)) (next : Bindings)
       → parts ≡ done ++ bytes ∷ ahead → Run limit state done answers next → IsValid limit next bytes
 
+-- none of these parts of a script has too many bytes, and the rest has not
+pub record AreShort (parts : List (List ℕ)) (rest : List ℕ) : Type 0 where
+  pub parts : All (λ part. length part ≤ STATEMENT_MAX) parts
+  pub rest : length rest ≤ STATEMENT_MAX
+
 -- the statements of the script are valid, and what follows the last is blank
 pub record IsValidScript (limit : ℤ) (script : List ℕ) : Type 0 where
   pub parts : AreValid limit unbound (statements script)
   pub blank : IsBlank (rest_of script)
+  pub short : AreShort (statements script) (rest_of script)
   pub within : length script ≤ SCRIPT_MAX
 
 -- only want of memory comes in the place of status 0

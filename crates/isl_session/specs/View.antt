@@ -1,5 +1,5 @@
 -- A session as it is seen from outside, and what a piece of a script does to it.
-use Rattle.std.specs.Prelude.{◌≡◌, ℕ, ◌+◌, ◌<◌, ◌≤◌, List, [], ◌∷◌, ◌++◌, length, Option, Some, None, true, Result, MatchResult}
+use Rattle.std.specs.Prelude.{◌≡◌, ℕ, ◌+◌, ◌<◌, ◌≤◌, List, [], ◌∷◌, ◌++◌, length, Option, Some, None, true, false, Result, MatchResult}
 use Rattle.std.specs.List.{concat}
 use Rattle.isl_meter.specs.Gauge.{Gauge, IsKept, limit_of}
 use Rattle.isl_stmt.specs.Script.{statements, rest_of, ends, IsBlank, IsOpen}
@@ -8,8 +8,8 @@ use Rattle.isl_text.specs.declared.refusal.Refusal.TheVariants.{Unfinished}
 use Rattle.isl_eval.specs.Bindings.{Bindings, unbound}
 use Rattle.isl_eval.specs.Machine.{Refuses, Run}
 use Rattle.isl_session.specs.declared.fault.Fault.{Fault}
-use Rattle.isl_session.specs.declared.TheConstants.{SCRIPT_MAX}
-use Rattle.isl_session.specs.Place.{Place, at_words, in_statement, past_limit, at_end, at_read, at_write, anywhere, place_of}
+use Rattle.isl_session.specs.declared.TheConstants.{SCRIPT_MAX, STATEMENT_MAX}
+use Rattle.isl_session.specs.Place.{Place, at_words, in_statement, too_long, past_limit, at_end, at_read, at_write, anywhere, place_of}
 use Rattle.isl_words.specs.Options.{OptionsView}
 
 -- the meter of a session that begins with these options
@@ -54,10 +54,11 @@ pub record IsReady (view : View) : Type 0 where
   pub sound : view.fault ≡ None
 
 -- Why a byte is not taken, by the place of the refusal: the statement that it ends is refused, or it is one byte too many for a
--- script. `now` is the meter at the refusal.
+-- statement or a script. `now` is the meter at the refusal.
 abbrev pub BreaksIn : Place → View → ℕ → Gauge → Refusal → Type 0
 BreaksIn in_statement view byte now refusal =
     (view.taken < SCRIPT_MAX) × (ends view.rest byte ≡ true) × Refuses (limit_of view.meter) view.state view.rest view.meter now refusal
+BreaksIn too_long view byte now refusal = (view.taken < SCRIPT_MAX) × (ends view.rest byte ≡ false) × (length view.rest ≡ STATEMENT_MAX)
 BreaksIn past_limit view byte now refusal = view.taken ≡ SCRIPT_MAX
 BreaksIn anywhere view byte now refusal = Unit {0}
 BreaksIn at_words view byte now refusal = ⊥

@@ -11,7 +11,7 @@ ghost use Rattle.isl_words.specs.Taken.{AreTaken};
 ghost use Rattle.isl_session.specs.Place.{place_of};
 ghost use Rattle.isl_session.specs.View.{Fed, IsReady, gauge_of};
 ghost use Rattle.isl_session.specs.Lines.{fault_line, usage_line};
-ghost use Rattle.isl_session.specs.Run.{Answered, Halts, IsReadThrough, IsReadWhole, outside};
+ghost use Rattle.isl_session.specs.Run.{Answered, Halts, outside};
 ghost use Rattle.isl_session.specs.Valid.{IsValidScript, IsDoneOrMemory};
 
 use crate::write::{write_all, write_fault, write_usage};
@@ -39,7 +39,8 @@ fn answer_piece<K: Sink>(
         × Appends (K.written out.old) (K.written out.new) gained
         × Halts ⊥ (Rose (K.faults out.old) (K.faults out.new)) ⊥
         session.old piece.now gained session.new fault (place_of fault.refusal)) }
-    ensures no_fewer_faults { K.faults out.old ≤ K.faults out.new }
+    ensures kept { OnOk result (K.faults out.new ≡ K.faults out.old) }
+    ensures writes { IfErr result (λ fault. fault.refusal ≢ Refusal.WriteFault → K.faults out.new ≡ K.faults out.old) }
 {
     let mut at = 0;
     while at < piece.len() {
@@ -58,68 +59,30 @@ fn answer_piece<K: Sink>(
     Ok(())
 }
 
-// Why a script was not read to its end.
-#[derive(Clone, Copy)]
-enum ReadError {
-    Failed,
-    NoMemory,
-}
-
-// How many bytes the next read may take where `script` was read so far: at most `most`, and no more than one
+// How many bytes the next read may take where `taken` were read so far: at most `most`, and no more than one
 // behind the last that a script may have.
-fn room_for(script: &[u8], most: usize) -> usize
+fn room_for(taken: u64, most: usize) -> usize
     requires room { 0 < most }
-    requires within { length script.now ≤ SCRIPT_MAX }
+    requires within { taken ≤ SCRIPT_MAX }
     ensures some { 0 < result }
     ensures most { result ≤ most }
-    ensures few { length script.now + result ≤ SCRIPT_MAX + 1 }
+    ensures few { taken + result ≤ SCRIPT_MAX + 1 }
 {
-    let left = SCRIPT_MAX + 1 - script.len() as u64;
+    let left = SCRIPT_MAX + 1 - taken;
     left.min(most as u64) as usize
 }
 
-// Reads what the source has left, and no more than one byte behind the last that a script may have.
-fn read_all<S: Source>(src: &mut S, buf: &mut [u8], script: &mut Vec<u8>) -> Result<(), ReadError>
-    requires empty { script.old.items ≡ [] }
-    requires room { 0 < length buf.old }
-    ensures ok { OnOk result (Consumes (S.left src.old) (S.left src.new) script.new.items
-        × IsReadThrough (S.left src.new) script.new.items) }
-    ensures failed { result ≡ Err ReadError.Failed
-        → Consumes (S.left src.old) (S.left src.new) script.new.items
-        × (length script.new.items ≤ SCRIPT_MAX)
-        × Rose (S.faults src.old) (S.faults src.new) }
-    ensures no_memory { result ≡ Err ReadError.NoMemory → (taken : List ℕ) × (0 < length taken)
-        × (length taken ≤ SCRIPT_MAX + 1)
-        × Consumes (S.left src.old) (S.left src.new) taken }
-{
-    'reads: while script.len() as u64 <= SCRIPT_MAX {
-        let room = room_for(script, buf.len());
-        let piece = &mut buf[..room];
-        match src.read(piece) {
-            Ok(0) => return Ok(()),
-            Ok(n) => {
-                if script.extend_from_slice(&piece[..n]).is_err() {
-                    return Err(ReadError::NoMemory);
-                }
-            }
-            Err(Failed) => return Err(ReadError::Failed),
-        }
-    }
-    Ok(())
-}
-
-// Reads the whole script, and then answers it. What was read before a read failed is answered too.
+// Takes the script as it arrives: each answer is written before the bytes behind its statement are taken, and so before the next read.
+// What was read before a read fails is answered.
 fn answer_all<S: Source, K: Sink>(
     session: &mut Session,
     src: &mut S,
     out: &mut K,
     buf: &mut [u8],
-    script: &mut Vec<u8>,
     text: &mut Vec<u8>,
 ) -> Result<(), Fault>
     requires ready { IsReady session.old }
     requires first { session.old.taken ≡ 0 }
-    requires empty { script.old.items ≡ [] }
     requires room { 0 < length buf.old }
     ensures ok { OnOk result ((taken : List ℕ) × (answers : List (List ℕ))
         × Consumes (S.left src.old) (S.left src.new) taken × IsAtEnd (S.left src.new)
@@ -131,22 +94,27 @@ fn answer_all<S: Source, K: Sink>(
         × Appends (K.written out.old) (K.written out.new) gained
         × Halts (Rose (S.faults src.old) (S.faults src.new)) (Rose (K.faults out.old) (K.faults out.new)) ⊥
         session.old taken gained session.new fault (place_of fault.refusal)) }
-    ensures whole { IfErr result (λ fault. (fault.refusal ≡ Refusal.NoMemory → ⊥)
-        → (Rose (S.faults src.old) (S.faults src.new) → ⊥)
-        → IsReadWhole (S.left src.old) (S.left src.new)) }
+    ensures kept { OnOk result ((S.faults src.new ≡ S.faults src.old) × (K.faults out.new ≡ K.faults out.old)) }
+    ensures reads { IfErr result (λ fault. fault.refusal ≢ Refusal.ReadFault → S.faults src.new ≡ S.faults src.old) }
+    ensures writes { IfErr result (λ fault. fault.refusal ≢ Refusal.WriteFault → K.faults out.new ≡ K.faults out.old) }
 {
-    match read_all(src, buf, script) {
-        Ok(()) => answer_piece(session, out, text, script),
-        Err(ReadError::Failed) => {
-            if let Err(fault) = answer_piece(session, out, text, script) {
-                return Err(fault);
+    'reads: loop {
+        let room = room_for(session.taken(), buf.len());
+        let piece = &mut buf[..room];
+        match src.read(piece) {
+            Ok(0) => return Ok(()),
+            Ok(n) => {
+                if let Err(fault) = answer_piece(session, out, text, &piece[..n]) {
+                    return Err(fault);
+                }
             }
-            Err(Fault {
-                statement: session.answered() + 1,
-                refusal: Refusal::ReadFault,
-            })
+            Err(Failed) => {
+                return Err(Fault {
+                    statement: session.answered() + 1,
+                    refusal: Refusal::ReadFault,
+                });
+            }
         }
-        Err(ReadError::NoMemory) => Err(session.refuse(Refusal::NoMemory)),
     }
 }
 
@@ -169,14 +137,13 @@ fn run_session<S: Source, K: Sink>(
         × Appends (K.written out.old) (K.written out.new) gained
         × Halts (Rose (S.faults src.old) (S.faults src.new)) (Rose (K.faults out.old) (K.faults out.new))
         (IsAtEnd (S.left src.new)) session.old taken gained session.new fault (place_of fault.refusal)) }
-    ensures whole { IfErr result (λ fault. (fault.refusal ≡ Refusal.NoMemory → ⊥)
-        → (Rose (S.faults src.old) (S.faults src.new) → ⊥)
-        → IsReadWhole (S.left src.old) (S.left src.new)) }
+    ensures kept { OnOk result ((S.faults src.new ≡ S.faults src.old) × (K.faults out.new ≡ K.faults out.old)) }
+    ensures reads { IfErr result (λ fault. fault.refusal ≢ Refusal.ReadFault → S.faults src.new ≡ S.faults src.old) }
+    ensures writes { IfErr result (λ fault. fault.refusal ≢ Refusal.WriteFault → K.faults out.new ≡ K.faults out.old) }
 {
     let mut buf = [0; PIECE];
-    let mut script = Vec::new(alloc);
     let mut text = Vec::new(alloc);
-    if let Err(fault) = answer_all(session, src, out, &mut buf, &mut script, &mut text) {
+    if let Err(fault) = answer_all(session, src, out, &mut buf, &mut text) {
         return Err(fault);
     }
     session.finish(&mut text)
@@ -201,11 +168,10 @@ fn run_script<S: Source, K: Sink, E: Sink>(
         → Rose (S.faults src.old) (S.faults src.new) }
     ensures write_fault { result.refusal ≡ Some Refusal.WriteFault
         → Rose (K.faults out.old) (K.faults out.new) }
+    ensures reads { result.refusal ≢ Some Refusal.ReadFault → S.faults src.new ≡ S.faults src.old }
+    ensures writes { result.refusal ≢ Some Refusal.WriteFault → K.faults out.new ≡ K.faults out.old }
     ensures overflow { result.refusal ≡ Some Refusal.Overflow
         → IfSome result.meter (λ meter. Rose 0 meter.overflows) }
-    ensures whole { result.refusal ≢ Some Refusal.NoMemory
-        → (Rose (S.faults src.old) (S.faults src.new) → ⊥)
-        → IsReadWhole (S.left src.old) (S.left src.new) }
     ensures no_usage { result.refusal ≢ Some Refusal.Usage }
     ensures session { IsSome result.meter }
 {
@@ -242,8 +208,8 @@ pub fn refuse_words<E: Sink>(err: &mut E) -> Status
 /// a refusal on `err`.
 ///
 /// The words, of which the first is the program's name, choose the options of the session. What they give to
-/// parameters, and whether loops are run, has no effect yet. The whole script is read before its first statement is answered, and no more than
-/// 2^30 + 1 bytes of it.
+/// parameters, and whether loops are run, has no effect yet. Each statement is answered as soon as it is read, before the bytes behind it
+/// are taken; no more than 2^30 + 1 bytes are read.
 pub fn run<S: Source, K: Sink, E: Sink>(
     alloc: Global,
     words: &[String],
@@ -270,11 +236,6 @@ pub fn run<S: Source, K: Sink, E: Sink>(
         → ((meter : Gauge) → result.meter ≡ Some meter → Rose 0 meter.overflows → ⊥)
         → IsDoneOrMemory result.refusal }
 
-    // A refused script too is read to its end, or as far as a script may go, unless a read fails or memory ends.
-    ensures whole { (options : OptionsView) → AreTaken (map string_bytes words.now) options → result.refusal ≢ Some Refusal.NoMemory
-        → (Rose (S.faults src.old) (S.faults src.new) → ⊥)
-        → IsReadWhole (S.left src.old) (S.left src.new) }
-
     // The counted faults.
     ensures read_fault { result.refusal ≡ Some Refusal.ReadFault
         → Rose (S.faults src.old) (S.faults src.new) }
@@ -282,6 +243,10 @@ pub fn run<S: Source, K: Sink, E: Sink>(
         → Rose (K.faults out.old) (K.faults out.new) }
     ensures overflow { result.refusal ≡ Some Refusal.Overflow
         → IfSome result.meter (λ meter. Rose 0 meter.overflows) }
+
+    // A read that failed ends the run, and so does a failed write of an answer.
+    ensures reads { result.refusal ≢ Some Refusal.ReadFault → S.faults src.new ≡ S.faults src.old }
+    ensures writes { result.refusal ≢ Some Refusal.WriteFault → K.faults out.new ≡ K.faults out.old }
 
     // Other words are refused before anything is read, and the usage line is told, unless memory ends while they are read.
     ensures usage { ((options : OptionsView) → ¬ (AreTaken (map string_bytes words.now) options))

@@ -4,11 +4,11 @@ ghost use Rattle.std.specs.Prelude.{◌≡◌, ◌+◌, ◌<◌, ◌≤◌, ◌+
 ghost use Rattle.std.specs.List.{concat};
 ghost use Rattle.isl_math.specs.Count.{Rose};
 ghost use Rattle.isl_meter.specs.Gauge.{limit_of};
-ghost use Rattle.isl_stmt.specs.Script.{statements};
-ghost use Rattle.isl_session.specs.Valid.{AreValid};
+ghost use Rattle.isl_stmt.specs.Script.{statements, rest_of};
+ghost use Rattle.isl_session.specs.Valid.{AreShort, AreValid};
 ghost use Rattle.isl_session.specs.View.{Fed, Feeds, Finishes, IsReady, IsRefusedAt, Stopped, fresh, gauge_of};
 
-use crate::{Fault, Options, SCRIPT_MAX};
+use crate::{Fault, Options, SCRIPT_MAX, STATEMENT_MAX};
 use isl_eval::{State, answer};
 use isl_meter::Meter;
 use isl_stmt::Cutter;
@@ -92,6 +92,9 @@ impl Session {
             self.taken += 1;
             return Ok(true);
         }
+        if self.rest.len() >= STATEMENT_MAX {
+            return Err(Refusal::TooLong);
+        }
         self.rest.push(byte)?;
         self.cutter = cutter;
         self.taken += 1;
@@ -130,6 +133,7 @@ impl Session {
         // Valid statements are answered, unless memory ends or an overflow is counted.
         ensures complete { IfNone self.old.fault
             (AreValid (limit_of self.old.meter) self.old.state (statements (self.old.rest ++ piece.now))
+            → AreShort (statements (self.old.rest ++ piece.now)) (rest_of (self.old.rest ++ piece.now))
             → self.old.taken + length piece.now ≤ SCRIPT_MAX
             → (Rose self.old.meter.overflows self.new.meter.overflows → ⊥)
             → IfErr result (λ fault. fault.refusal ≡ Refusal.NoMemory)) }
@@ -183,6 +187,22 @@ impl Session {
         ensures few { result ≤ SCRIPT_MAX }
     {
         self.answered
+    }
+
+    /// How many bytes are held: those behind the last statement's end, blanks and comments counted.
+    pub fn held(&self) -> usize
+        ensures count { result ≡ length self.now.rest }
+        ensures few { result ≤ STATEMENT_MAX }
+    {
+        self.rest.len()
+    }
+
+    /// How many bytes of the script were taken.
+    pub(crate) fn taken(&self) -> u64
+        ensures count { result ≡ self.now.taken }
+        ensures few { result ≤ SCRIPT_MAX }
+    {
+        self.taken
     }
 
     /// The meter of the session's arithmetic.
