@@ -6,14 +6,15 @@ use mathlib.Core.Logic.{inl, inr}
 use Rattle.std.specs.Io.KnownBytes.{Appends, Consumes, IsAtEnd}
 use Rattle.std.proofs.lemmas.List.{append-nil, append_assoc, length-append}
 use Rattle.isl_math.specs.Count.{Rose}
-use Rattle.isl_meter.specs.Gauge.{Gauge, limit_of}
+use Rattle.isl_meter.specs.Gauge.{Gauge}
 use Rattle.isl_stmt.specs.Script.{statements, rest_of, readable, next_part, ends, IsBlank}
 use Rattle.isl_text.specs.declared.refusal.Refusal.{Refusal}
-use Rattle.isl_eval.specs.Machine.{Refuses}
+use Rattle.isl_eval.specs.Causes.{Refuses}
+use Rattle.isl_eval.specs.Machine.{started}
 use Rattle.isl_session.specs.declared.fault.Fault.{Fault}
 use Rattle.isl_session.specs.declared.TheConstants.{SCRIPT_MAX}
 use Rattle.isl_session.specs.Place.{Place, at_words, in_statement, too_long, past_limit, at_end, at_read, at_write, anywhere, place_of}
-use Rattle.isl_session.specs.View.{View, BreaksIn, Fed, IsMeterAt, Stopped, fresh}
+use Rattle.isl_session.specs.View.{View, BreaksIn, Fed, IsMeterAt, Stopped, fresh, moment_of}
 use Rattle.isl_session.specs.Status.{StatusView}
 use Rattle.isl_session.specs.Lines.{fault_line}
 use Rattle.isl_session.specs.Run.{Answered, Ended, Halts, HasCause, IsScriptOf, OfFirst, Outside, Progress, Tells, Wrote, number_at}
@@ -140,7 +141,7 @@ module _ (first : Gauge) (script : List ℕ) (old new : Outside) (status : Statu
           let ended = subst (λ (l : List ℕ). ends l stopped.byte ≡ true) rest breaks.1 in
           let first_ahead = ahead_first stopped.front stopped.byte more (omega (arith, stopped.fed.taken, breaks.0)) ended in
           let at_front = stopped.at_front in
-          let P : List ℕ → Type 0 = λ bytes. Refuses (limit_of at_front.meter) at_front.state bytes at_front.meter session.meter refusal in
+          let P : List ℕ → Type 0 = λ bytes. Refuses (started (moment_of at_front)) bytes session.meter refusal in
           halted_at in_statement at (subst (OfFirst P) (sym first_ahead.1) (subst P rest breaks.2)) gained_is number
 
       refused_too_long : place_of refusal ≡ too_long → Answered first script old new status

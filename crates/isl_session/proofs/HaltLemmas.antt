@@ -9,7 +9,6 @@ use Rattle.isl_session.specs.declared.fault.Fault.{Fault}
 use Rattle.isl_session.specs.Place.{Place, at_words, in_statement, too_long, past_limit, at_end, at_read, at_write, anywhere, place_of}
 use Rattle.isl_session.specs.View.{View, Fed, IsMeterAt, IsReady, Stopped, BreaksIn}
 use Rattle.isl_session.specs.Run.{Halts, IsCutShort}
-use Rattle.isl_session.proofs.MeterLemmas.{kept_refl}
 use Rattle.isl_session.proofs.FedLemmas.{ready_fed}
 use Rattle.isl_session.proofs.RunLemmas.{Fed-append}
 

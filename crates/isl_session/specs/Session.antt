@@ -3,7 +3,7 @@ use Rattle.std.specs.Prelude.{◌≤◌, length}
 use Rattle.isl_meter.specs.Gauge.{limit_of}
 use Rattle.isl_stmt.specs.Script.{IsOpen}
 use Rattle.isl_stmt.specs.Cutter.{IsAt}
-use Rattle.isl_eval.specs.Bindings.{Fits}
+use Rattle.isl_eval.specs.State.{Fits}
 use Rattle.isl_session.specs.declared.session.Session.TheInside.{Inside}
 use Rattle.isl_session.specs.declared.TheConstants.{SCRIPT_MAX, STATEMENT_MAX}
 use Rattle.isl_session.specs.View.{View}

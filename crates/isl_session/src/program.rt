@@ -4,7 +4,7 @@ ghost use Rattle.std.specs.Prelude.{◌≡◌, ◌≢◌, ◌⊎◌, ◌+◌, �
 ghost use Rattle.std.specs.List.{concat};
 ghost use Rattle.std.specs.Io.KnownBytes.{Appends, Consumes, IsAtEnd};
 ghost use Rattle.isl_math.specs.Count.{Rose};
-ghost use Rattle.isl_meter.specs.Gauge.{Gauge, limit_of};
+ghost use Rattle.isl_meter.specs.Gauge.{Gauge};
 ghost use Rattle.isl_stmt.specs.Script.{IsBlank};
 ghost use Rattle.isl_words.specs.Options.{OptionsView};
 ghost use Rattle.isl_words.specs.Taken.{AreTaken};
@@ -172,6 +172,8 @@ fn run_script<S: Source, K: Sink, E: Sink>(
     ensures writes { result.refusal ≢ Some Refusal.WriteFault → K.faults out.new ≡ K.faults out.old }
     ensures overflow { result.refusal ≡ Some Refusal.Overflow
         → IfSome result.meter (λ meter. Rose 0 meter.overflows) }
+    ensures budget { result.refusal ≡ Some Refusal.Budget
+        → IfSome result.meter (λ meter. (meter.budget ≤ meter.units) × Rose 0 meter.spents) }
     ensures no_usage { result.refusal ≢ Some Refusal.Usage }
     ensures session { IsSome result.meter }
 {
@@ -230,10 +232,10 @@ pub fn run<S: Source, K: Sink, E: Sink>(
     // A valid script is answered whole, unless memory ends or a count rises.
     ensures complete { (options : OptionsView) → AreTaken (map string_bytes words.now) options
         → (script : List ℕ) → S.left src.old ≡ Some script
-        → IsValidScript (limit_of (gauge_of options)) script
+        → IsValidScript (gauge_of options) script
         → (Rose (S.faults src.old) (S.faults src.new) → ⊥)
         → (Rose (K.faults out.old) (K.faults out.new) → ⊥)
-        → ((meter : Gauge) → result.meter ≡ Some meter → Rose 0 meter.overflows → ⊥)
+        → ((meter : Gauge) → result.meter ≡ Some meter → (Rose 0 meter.overflows → ⊥) × (Rose 0 meter.spents → ⊥))
         → IsDoneOrMemory result.refusal }
 
     // The counted faults.
@@ -243,6 +245,8 @@ pub fn run<S: Source, K: Sink, E: Sink>(
         → Rose (K.faults out.old) (K.faults out.new) }
     ensures overflow { result.refusal ≡ Some Refusal.Overflow
         → IfSome result.meter (λ meter. Rose 0 meter.overflows) }
+    ensures budget { result.refusal ≡ Some Refusal.Budget
+        → IfSome result.meter (λ meter. (meter.budget ≤ meter.units) × Rose 0 meter.spents) }
 
     // A read that failed ends the run, and so does a failed write of an answer.
     ensures reads { result.refusal ≢ Some Refusal.ReadFault → S.faults src.new ≡ S.faults src.old }

@@ -3,10 +3,9 @@
 ghost use Rattle.std.specs.Prelude.{◌≡◌, ◌+◌, ◌<◌, ◌≤◌, ◌++◌, [], ◌∷◌, ℕ, List, length, take, false, Some, None, IfSome, IfNone, IfErr, IfOk, OnOk};
 ghost use Rattle.std.specs.List.{concat};
 ghost use Rattle.isl_math.specs.Count.{Rose};
-ghost use Rattle.isl_meter.specs.Gauge.{limit_of};
 ghost use Rattle.isl_stmt.specs.Script.{statements, rest_of};
 ghost use Rattle.isl_session.specs.Valid.{AreShort, AreValid};
-ghost use Rattle.isl_session.specs.View.{Fed, Feeds, Finishes, IsReady, IsRefusedAt, Stopped, fresh, gauge_of};
+ghost use Rattle.isl_session.specs.View.{Fed, Feeds, Finishes, IsReady, IsRefusedAt, Stopped, fresh, gauge_of, moment_of};
 
 use crate::{Fault, Options, SCRIPT_MAX, STATEMENT_MAX};
 use isl_eval::{State, answer};
@@ -77,6 +76,7 @@ impl Session {
         }
         let mut cutter = self.cutter;
         if cutter.push(byte) {
+            self.meter.start();
             if let Err(refusal) = answer(
                 self.alloc,
                 &self.rest,
@@ -130,12 +130,13 @@ impl Session {
         ensures fed { IfNone self.old.fault
             (Feeds self.old piece.now text.old.items text.new.items self.new result) }
 
-        // Valid statements are answered, unless memory ends or an overflow is counted.
+        // Valid statements are answered, unless memory ends or a refusal is counted.
         ensures complete { IfNone self.old.fault
-            (AreValid (limit_of self.old.meter) self.old.state (statements (self.old.rest ++ piece.now))
+            (AreValid (moment_of self.old) (statements (self.old.rest ++ piece.now))
             → AreShort (statements (self.old.rest ++ piece.now)) (rest_of (self.old.rest ++ piece.now))
             → self.old.taken + length piece.now ≤ SCRIPT_MAX
             → (Rose self.old.meter.overflows self.new.meter.overflows → ⊥)
+            → (Rose self.old.meter.spents self.new.meter.spents → ⊥)
             → IfErr result (λ fault. fault.refusal ≡ Refusal.NoMemory)) }
     {
         if let Some(kept) = self.fault {
