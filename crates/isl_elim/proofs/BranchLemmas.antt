@@ -6,14 +6,14 @@ use Rattle.isl_math.specs.Divide as divide
 use Rattle.isl_math.specs.Dot.{dot}
 use Rattle.isl_math.proofs.Ring.{expand, linear}
 use Rattle.isl_meter.specs.Gauge.{Gauge}
-use Rattle.isl_piece.specs.declared.constraint.RowKind.{RowKind}
-use Rattle.isl_piece.specs.declared.constraint.RowKind.TheVariants as kind
-use Rattle.isl_piece.specs.declared.constraint.Row.{Row}
+use Rattle.isl_piece.specs.declared.row.RowKind.{RowKind}
+use Rattle.isl_piece.specs.declared.row.RowKind.TheVariants as kind
+use Rattle.isl_piece.specs.declared.row.Row.{Row}
 use Rattle.isl_piece.specs.Row.{HoldsRow, HoldsValue, IsWellFormed, IsRowWithin, value_at, coef_at}
 use Rattle.isl_elim.specs.Branch.{rows_of, shifted_row, HoldsHead, HasSplinter, KeepBound, IsTail, IsBranchOf, tail_total, splinter_total, AreFewTails}
 use Rattle.isl_elim.specs.declared.branch.Branch.{Branch}
 use Rattle.isl_omega.specs.declared.sides.Sides.{Sides}
-use Rattle.isl_piece.specs.declared.conjunction.System.{System}
+use Rattle.isl_piece.specs.declared.system.System.{System}
 use Rattle.isl_piece.specs.System.{IsSystemWithin}
 use Rattle.std.specs.Prelude.{IfSome, nat_lt}
 use Rattle.isl_omega.proofs.Splinters.{splinters_not_negative}
@@ -24,7 +24,7 @@ use Rattle.isl_omega.specs.declared.shadow.Tail.{Tail}
 use Rattle.isl_omega.proofs.ColumnLemmas.{value_at-insert, hold_anywhere}
 use Rattle.isl_math.proofs.ListLaws.{All-parts, All-unmapped, All-map-with, All-zipped, AllZip-with, Any-weaker, Any-with, Any-element, Any-unmapped, Any-zipped}
 use Rattle.isl_elim.proofs.NeighbourLemmas.{shifted, MeetsTwice, IsEnd, neighbours_give, neighbours_cover, neighbour_open_above, neighbour_open_below}
-use Rattle.isl_piece.proofs.RowLemmas.{HasDivisor-positive}
+use Rattle.isl_piece.proofs.RowLemmas.{HasModulus-positive}
 use Rattle.isl_omega.proofs.SideLemmas.{free_rows_hold}
 use Rattle.isl_omega.proofs.ShadowLemmas.{dark_shadow, far_above, far_below}
 use Rattle.isl_omega.proofs.ShadowRows.{lower_meets, upper_meets, lower_value}
@@ -107,7 +107,7 @@ shifted_at col point u = ap (λ (z : ℤ). let b : Bound = record { factor = neg
 pub shifted_upper : (g : Gauge) (columns col : ℕ) (rows : List Row) → All (IsUpper g columns col) rows → All (IsRowWithin g) (map (shifted_row col) rows) → All (IsUpper g columns col) (map (shifted_row col) rows)
 shifted_upper g columns col rows h w = All-map-with (IsRowWithin g) (IsUpper g columns col) (shifted_row col) rows
     (λ k d i v. record {
-      proper = record { formed = record { width = (h k d i).proper.formed.width; divisor = (h k d i).proper.formed.divisor }; within = v };
+      proper = record { formed = record { width = (h k d i).proper.formed.width; modulus = (h k d i).proper.formed.modulus }; within = v };
       kind = (h k d i).kind;
       factor = (h k d i).factor;
     })
@@ -176,7 +176,7 @@ neighbours_exact g columns col lowers uppers r free rows tails all point l n hl 
     back (inl h) =
         let parts = All-parts (λ q. HoldsRow q (insert point col (pos 0))) free rows h in
         let m = dark_meets g columns col lowers (map (shifted_row col) uppers) point hl hs l n (s.dark point (pos 0) n parts.1) in
-        let y = neighbours_give (lower_bounds col point lowers) (upper_bounds col point uppers) r.k (coef_at r col) (rest_at r col point) m.0 (HasDivisor-positive r.kind r.k hr.proper.formed.divisor) hr.depends (positive_lowers g columns col lowers point hl) (positive_uppers g columns col uppers point hu)
+        let y = neighbours_give (lower_bounds col point lowers) (upper_bounds col point uppers) r.k (coef_at r col) (rest_at r col point) m.0 (HasModulus-positive r.kind r.k hr.proper.formed.modulus) hr.depends (positive_lowers g columns col lowers point hl) (positive_uppers g columns col uppers point hu)
         ((twice g columns col lowers uppers point m.0 hl hs l n).0 (m.1, m.2)) in (
           y.0,
           (split y.0).1 (
@@ -197,7 +197,7 @@ open_meets g columns col [] uppers [] point l n hl hu ha o f =
     (far.0, All-nil P, (uppers_meet g columns col uppers point far.0 hu l n).1 far.1, All-nil P)
 open_meets g columns col [] uppers (r ∷ []) point l n hl hu ha o f =
     let h = All-head (IsApart g columns col) r [] ha in
-    let y = neighbour_open_below (upper_bounds col point uppers) r.k (coef_at r col) (rest_at r col point) (HasDivisor-positive r.kind r.k h.proper.formed.divisor) h.depends (positive_uppers g columns col uppers point hu) in
+    let y = neighbour_open_below (upper_bounds col point uppers) r.k (coef_at r col) (rest_at r col point) (HasModulus-positive r.kind r.k h.proper.formed.modulus) h.depends (positive_uppers g columns col uppers point hu) in
     let P : Row → Type 0 = λ q. HoldsRow q (insert point col y.0) in
     (y.0, All-nil P, (uppers_meet g columns col uppers point y.0 hu l n).1 (y.1).below, All-cons P r [] ((apart_holds g columns col r point y.0 h l n).1 (y.1).apart) (All-nil P))
 open_meets g columns col (b ∷ lowers) [] [] point l n hl hu ha o f =
@@ -206,7 +206,7 @@ open_meets g columns col (b ∷ lowers) [] [] point l n hl hu ha o f =
     (far.0, (lowers_meet g columns col (b ∷ lowers) point far.0 hl l n).1 far.1, All-nil P, All-nil P)
 open_meets g columns col (b ∷ lowers) [] (r ∷ []) point l n hl hu ha o f =
     let h = All-head (IsApart g columns col) r [] ha in
-    let y = neighbour_open_above (lower_bounds col point (b ∷ lowers)) r.k (coef_at r col) (rest_at r col point) (HasDivisor-positive r.kind r.k h.proper.formed.divisor) h.depends (positive_lowers g columns col (b ∷ lowers) point hl) in
+    let y = neighbour_open_above (lower_bounds col point (b ∷ lowers)) r.k (coef_at r col) (rest_at r col point) (HasModulus-positive r.kind r.k h.proper.formed.modulus) h.depends (positive_lowers g columns col (b ∷ lowers) point hl) in
     let P : Row → Type 0 = λ q. HoldsRow q (insert point col y.0) in
     (y.0, (lowers_meet g columns col (b ∷ lowers) point y.0 hl l n).1 (y.1).above, All-nil P, All-cons P r [] ((apart_holds g columns col r point y.0 h l n).1 (y.1).apart) (All-nil P))
 open_meets g columns col (b ∷ lowers) (u ∷ uppers) apart point l n hl hu ha (inl e) f = cc

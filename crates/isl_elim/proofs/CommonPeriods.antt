@@ -5,7 +5,7 @@ use Rattle.isl_math.specs.Divide.{Divides, IsGcdOf, floor_div}
 use Rattle.isl_math.proofs.Ring.{expand, linear}
 use Rattle.isl_math.proofs.OrderLaws.{*ℤ-≤ℤ, ≤ℤ-*ℤ, positive-*ℤ, positive_factors}
 use Rattle.isl_math.proofs.DivideLaws.{Divides-*ℤ, Divides-same, Divides_self, quotient-from_Divides}
-use Rattle.isl_piece.specs.declared.constraint.Row.{Row}
+use Rattle.isl_piece.specs.declared.row.Row.{Row}
 use Rattle.isl_piece.specs.Row.{coef_at}
 use Rattle.isl_omega.specs.Congruence.{period, product_of_periods}
 use Rattle.isl_elim.specs.Residue.{IsCommonMultiple, IsPeriod}

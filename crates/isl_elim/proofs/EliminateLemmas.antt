@@ -6,9 +6,9 @@ use Rattle.isl_math.proofs.Ring.{linear}
 use Rattle.isl_math.proofs.OrderLaws.{positive-*ℤ, product_le}
 use Rattle.isl_math.proofs.ListLaws.{Any-first, Any-later}
 use Rattle.isl_meter.specs.Gauge.{Gauge}
-use Rattle.isl_piece.specs.declared.constraint.RowKind.TheVariants as kind
-use Rattle.isl_piece.specs.declared.constraint.Row.{Row}
-use Rattle.isl_piece.specs.declared.conjunction.System.{System}
+use Rattle.isl_piece.specs.declared.row.RowKind.TheVariants as kind
+use Rattle.isl_piece.specs.declared.row.Row.{Row}
+use Rattle.isl_piece.specs.declared.system.System.{System}
 use Rattle.isl_piece.specs.Row.{HoldsRow, value_at, coef_at}
 use Rattle.isl_piece.specs.System.{IsSystemWithin}
 use Rattle.isl_elim.specs.Adds.{Adds}
@@ -23,7 +23,7 @@ use Rattle.isl_omega.specs.declared.sides.Side.TheVariants.{Lower, Upper}
 use Rattle.isl_omega.specs.declared.sides.Sides.{Sides}
 use Rattle.isl_elim.proofs.AddsLemmas.{adds_same}
 use Rattle.isl_omega.proofs.PeriodLemmas.{period_short}
-use Rattle.isl_piece.proofs.RowLemmas.{HasDivisor-positive}
+use Rattle.isl_piece.proofs.RowLemmas.{HasModulus-positive}
 use Rattle.isl_omega.proofs.SideLemmas.{LackColumn, lacking_has_none, sides_hold, picked}
 use Rattle.isl_elim.proofs.UnitLemmas.{AreProducts, units_not_negative, same_lessened, moduli_products, step_cost}
 
@@ -32,7 +32,7 @@ own_periods : (g : Gauge) (columns col : ℕ) (rows : List Row) → All (IsApart
 own_periods g columns col [] h = (omega (arith, linear), omega (arith, linear))
 own_periods g columns col (r ∷ rows) h =
     let rest = own_periods g columns col rows (All-tail (IsApart g columns col) r rows h) in
-    let k = HasDivisor-positive r.kind r.k (All-head (IsApart g columns col) r rows h).proper.formed.divisor in
+    let k = HasModulus-positive r.kind r.k (All-head (IsApart g columns col) r rows h).proper.formed.modulus in
     let p = period_short (coef_at r col) r.k k in
     let a = rest.0 in (
       positive-*ℤ (period col r) (product_of_periods col rows) p.positive a,

@@ -1,4 +1,4 @@
--- Numbers that a divisor must not divide, on one column: of two neighbours one is met where it is one such row, and a
+-- Numbers that a modulus must not divide, on one column: of two neighbours one is met where it is one such row, and a
 -- period of residues where there are several.
 use Rattle.std.proofs.Common.{◌≡◌, ◌⊎◌, inl, inr, ◌↔◌, ap, arith, ℤ, pos, ◌+ℤ◌, ◌-ℤ◌, ◌*ℤ◌, ◌≤ℤ◌, ◌<ℤ◌, List, [], get_or}
 use Rattle.std.specs.List.{All, Any}

@@ -11,10 +11,10 @@ use Rattle.isl_math.proofs.Ring.{expand, linear}
 use Rattle.isl_math.proofs.DivideLaws.{Divides-same, mod-from_Divides, floor_mod-same, floor_unique, floor_mod_bounds, IsCongruent-floor_mod, le_from_Divides}
 use Rattle.isl_math.proofs.DotLaws.{dot-set_left, dot-zeros}
 use Rattle.isl_meter.specs.Gauge.{Gauge}
-use Rattle.isl_piece.specs.declared.constraint.RowKind.{RowKind}
-use Rattle.isl_piece.specs.declared.constraint.RowKind.TheVariants as kind
-use Rattle.isl_piece.specs.declared.constraint.Row.{Row}
-use Rattle.isl_piece.specs.declared.conjunction.System.{System}
+use Rattle.isl_piece.specs.declared.row.RowKind.{RowKind}
+use Rattle.isl_piece.specs.declared.row.RowKind.TheVariants as kind
+use Rattle.isl_piece.specs.declared.row.Row.{Row}
+use Rattle.isl_piece.specs.declared.system.System.{System}
 use Rattle.isl_piece.specs.Row.{HoldsRow, IsWellFormed, IsRowWithin, value_at, coef_at}
 use Rattle.isl_omega.specs.Column.{IsFree}
 use Rattle.isl_omega.specs.Step.{residue_row}
@@ -27,7 +27,7 @@ use Rattle.isl_omega.specs.declared.sides.Sides.{Sides}
 use Rattle.isl_elim.specs.Adds.{Adds}
 use Rattle.isl_elim.proofs.AddsLemmas.{adds_none, adds_more, adds_same}
 use Rattle.isl_omega.proofs.MoveLemmas.{substituted_coefficient}
-use Rattle.isl_piece.proofs.RowLemmas.{HasDivisor-positive}
+use Rattle.isl_piece.proofs.RowLemmas.{HasModulus-positive}
 use Rattle.isl_omega.proofs.SideLemmas.{unless_zero, proper_kept}
 use Rattle.isl_omega.proofs.StepLemmas.{AreOne, IsStep, step_is, step_narrowed, multiplier_is, scaled_apart}
 
@@ -39,7 +39,7 @@ pub residue_width : (columns col : ℕ) (p t : ℤ) → length (residue_row colu
 residue_width columns col p t = length-set (replicate columns (pos 0)) col (pos 1) ∙ length-replicate columns (pos 0)
 
 pub residue_formed : (columns col : ℕ) (p t : ℤ) → pos 0 <ℤ p → IsWellFormed columns (residue_row columns col p t)
-residue_formed columns col p t h = record { width = residue_width columns col p t; divisor = h }
+residue_formed columns col p t h = record { width = residue_width columns col p t; modulus = h }
 
 pub residue_value : (columns col : ℕ) (p t : ℤ) (point : List ℤ) (x : ℤ) → col < columns → length point ≡ columns - 1 → value_at (residue_row columns col p t) (insert point col x) ≡ x -ℤ t
 residue_value columns col p t point x l n =
@@ -112,7 +112,7 @@ with_row_holds columns col sides p t point x e l n =
       (λ h. let s = h.0 in record { lowers = s.lowers; uppers = s.uppers; divides = All-cons P r [] ((residue_holds columns col p t point x l n).1 h.1) (All-nil P); apart = s.apart; free = s.free }),
     )
 
--- ---- no row is left that a divisor must not divide
+-- ---- no row is left that a modulus must not divide
 none_on_side : (p : Row → Bool) (rows : List Row) → All (λ r. p r ≡ false) rows → filter p rows ≡ []
 none_on_side p [] h = refl
 none_on_side p (r ∷ rows) h = rw (All-head (λ r. p r ≡ false) r rows h) (none_on_side p rows (All-tail (λ r. p r ≡ false) r rows h))
@@ -128,7 +128,7 @@ moved_free : (g : Gauge) (columns col : ℕ) (scale p : ℤ) (offsets r : Row) �
 moved_free g columns col scale p offsets r one at w l h d =
     let c : coef_at (substituted scale offsets col r) col ≡ p *ℤ coef_at r col = substituted_coefficient columns col scale offsets r h.proper.formed w l ∙ ap (λ z. z *ℤ coef_at r col) (multiplier_is col scale p offsets at) in
     let m : (substituted scale offsets col r).k ≡ scale *ℤ r.k = scaled_apart r.kind scale r.k h.kind in
-    by r.kind r.k (substituted scale offsets col r).k (coef_at r col) (coef_at (substituted scale offsets col r) col) h.kind (HasDivisor-positive r.kind r.k h.proper.formed.divisor) (m ∙ ap (λ z. z *ℤ r.k) one) c d
+    by r.kind r.k (substituted scale offsets col r).k (coef_at r col) (coef_at (substituted scale offsets col r) col) h.kind (HasModulus-positive r.kind r.k h.proper.formed.modulus) (m ∙ ap (λ z. z *ℤ r.k) one) c d
   where
     by : (asks : RowKind) (k j c e : ℤ) → asks ≡ kind.NotDivides → pos 0 <ℤ k → j ≡ pos 1 *ℤ k → e ≡ p *ℤ c → divide.Divides k (c *ℤ p) → is_same Apart (side_of_kind asks j e) ≡ false
     by asks k j c e is q f h d =

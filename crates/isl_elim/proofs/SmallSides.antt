@@ -7,10 +7,10 @@ use Rattle.std.proofs.lemmas.Bool.Decides.{Decides-int_eq}
 use Rattle.isl_math.specs.Divide.{floor_mod}
 use Rattle.isl_math.proofs.DivideLaws.{mod-from_Divides}
 use Rattle.isl_math.proofs.Ring.{linear}
-use Rattle.isl_piece.specs.declared.constraint.RowKind.{RowKind}
-use Rattle.isl_piece.specs.declared.constraint.RowKind.TheVariants as kind
-use Rattle.isl_piece.specs.declared.constraint.Row.{Row}
-use Rattle.isl_piece.specs.Row.{IsRowUpTo, IsWellFormed, HasDivisor, coef_at}
+use Rattle.isl_piece.specs.declared.row.RowKind.{RowKind}
+use Rattle.isl_piece.specs.declared.row.RowKind.TheVariants as kind
+use Rattle.isl_piece.specs.declared.row.Row.{Row}
+use Rattle.isl_piece.specs.Row.{IsRowUpTo, IsWellFormed, HasModulus, coef_at}
 use Rattle.isl_omega.specs.Magnitude.{AreSidesUpTo}
 use Rattle.isl_elim.specs.Magnitude.{has_congruence, congruences_on}
 use Rattle.isl_omega.specs.Sides.{AreSidesOf, is_same, side_of, side_of_kind, unless_multiple}
@@ -51,7 +51,7 @@ no_rest k p = mod-from_Divides k (pos 0) p (record { quotient = pos 0; is = omeg
 free_at_none : (side : Side) (k : ℤ) → pos 0 <ℤ k → unless_multiple side (floor_mod (pos 0) k) ≡ Free
 free_at_none side k p = rw (no_rest k p) refl
 
-divides_has : (kind : RowKind) (k c : ℤ) → HasDivisor kind k → is_same Divides (side_of_kind kind k c) ≡ true → has_congruence kind c ≡ true
+divides_has : (kind : RowKind) (k c : ℤ) → HasModulus kind k → is_same Divides (side_of_kind kind k c) ≡ true → has_congruence kind c ≡ true
 divides_has kind.Zero k c d h = absurd (cc)
 divides_has kind.AtLeast k (pos zero) d h = absurd (cc)
 divides_has kind.AtLeast k (pos (suc n)) d h = absurd (cc)
@@ -63,7 +63,7 @@ divides_has kind.NotDivides k (pos zero) d h = absurd (let e = rw (free_at_none 
 divides_has kind.NotDivides k (pos (suc n)) d h = not_zero (pos (suc n)) (λ e. cc)
 divides_has kind.NotDivides k (negsuc n) d h = not_zero (negsuc n) (λ e. cc)
 
-apart_has : (kind : RowKind) (k c : ℤ) → HasDivisor kind k → is_same Apart (side_of_kind kind k c) ≡ true → has_congruence kind c ≡ true
+apart_has : (kind : RowKind) (k c : ℤ) → HasModulus kind k → is_same Apart (side_of_kind kind k c) ≡ true → has_congruence kind c ≡ true
 apart_has kind.Zero k c d h = absurd (cc)
 apart_has kind.AtLeast k (pos zero) d h = absurd (cc)
 apart_has kind.AtLeast k (pos (suc n)) d h = absurd (cc)
@@ -77,6 +77,6 @@ apart_has kind.NotDivides k (negsuc n) d h = not_zero (negsuc n) (λ e. cc)
 
 pub sides_few : (columns col : ℕ) (rows : List Row) (sides : Sides) → AreSidesOf rows col sides → All (IsWellFormed columns) rows → length (congruences_on col rows) ≤ 1 → (length sides.divides < 2) × (length sides.apart < 2)
 sides_few columns col rows sides are h few =
-    let divides = filter_fewer (IsWellFormed columns) (λ r. is_same Divides (side_of col r)) (λ r. has_congruence r.kind (coef_at r col)) (λ r f e. divides_has r.kind r.k (coef_at r col) f.divisor e) rows h in
-    let apart = filter_fewer (IsWellFormed columns) (λ r. is_same Apart (side_of col r)) (λ r. has_congruence r.kind (coef_at r col)) (λ r f e. apart_has r.kind r.k (coef_at r col) f.divisor e) rows h in
+    let divides = filter_fewer (IsWellFormed columns) (λ r. is_same Divides (side_of col r)) (λ r. has_congruence r.kind (coef_at r col)) (λ r f e. divides_has r.kind r.k (coef_at r col) f.modulus e) rows h in
+    let apart = filter_fewer (IsWellFormed columns) (λ r. is_same Apart (side_of col r)) (λ r. has_congruence r.kind (coef_at r col)) (λ r f e. apart_has r.kind r.k (coef_at r col) f.modulus e) rows h in
     (rw (are.divides) (omega arith), rw (are.apart) (omega arith))

@@ -15,10 +15,10 @@ use Rattle.isl_math.proofs.Ring.{expand, linear}
 use Rattle.isl_math.proofs.OrderLaws.{*ℤ-≤ℤ, ≤ℤ-*ℤ, positive-*ℤ, not_negative-*ℤ, product_le, negative-*ℤ}
 use Rattle.isl_math.proofs.DivideLaws.{mod-from_Divides, Divides-zero}
 use Rattle.isl_meter.specs.Gauge.{Gauge}
-use Rattle.isl_piece.specs.declared.constraint.RowKind.{RowKind}
-use Rattle.isl_piece.specs.declared.constraint.RowKind.TheVariants as kind
-use Rattle.isl_piece.specs.declared.constraint.Row.{Row}
-use Rattle.isl_piece.specs.Row.{HasDivisor, IsWellFormed, coef_at}
+use Rattle.isl_piece.specs.declared.row.RowKind.{RowKind}
+use Rattle.isl_piece.specs.declared.row.RowKind.TheVariants as kind
+use Rattle.isl_piece.specs.declared.row.Row.{Row}
+use Rattle.isl_piece.specs.Row.{HasModulus, IsWellFormed, coef_at}
 use Rattle.isl_elim.specs.Branch.{IsBranchOf, AreFewTails, tail_total, splinter_total}
 use Rattle.isl_omega.specs.Congruence.{product_of_divisors, product_of_periods}
 use Rattle.isl_elim.specs.Residue.{splinter_bound, shadow_units, residue_units, residues_units, sides_units, IsPeriod, IsResidueOf}
@@ -33,7 +33,7 @@ use Rattle.isl_omega.specs.declared.sides.Side.TheVariants.{Lower, Upper, Divide
 use Rattle.isl_omega.specs.declared.sides.Sides.{Sides}
 use Rattle.isl_elim.proofs.BranchLemmas.{splinter_total_not_negative}
 use Rattle.isl_omega.proofs.PeriodLemmas.{period_short, periods_positive}
-use Rattle.isl_piece.proofs.RowLemmas.{HasDivisor-positive}
+use Rattle.isl_piece.proofs.RowLemmas.{HasModulus-positive}
 use Rattle.isl_omega.proofs.SideLemmas.{side_means, unless_zero}
 use Rattle.isl_omega.proofs.Splinters.{splinters_counted, splinters_not_negative, splinters_rise, neighbour_splinters}
 
@@ -264,18 +264,18 @@ two_at_least k c p n = by (λ e. n (record { quotient = c; is = one k c e }))
 
 apart_positive : (g : Gauge) (columns col : ℕ) (rows : List Row) → All (IsApart g columns col) rows → pos 0 <ℤ product_of_divisors rows
 apart_positive g columns col [] h = omega (arith, linear)
-apart_positive g columns col (r ∷ rows) h = positive-*ℤ r.k (product_of_divisors rows) (HasDivisor-positive r.kind r.k (All-head (IsApart g columns col) r rows h).proper.formed.divisor) (apart_positive g columns col rows (All-tail (IsApart g columns col) r rows h))
+apart_positive g columns col (r ∷ rows) h = positive-*ℤ r.k (product_of_divisors rows) (HasModulus-positive r.kind r.k (All-head (IsApart g columns col) r rows h).proper.formed.modulus) (apart_positive g columns col rows (All-tail (IsApart g columns col) r rows h))
 
 pub apart_two : (g : Gauge) (columns col : ℕ) (rows : List Row) → All (IsApart g columns col) rows → 0 < length rows → pos 2 ≤ℤ product_of_divisors rows
 apart_two g columns col [] h n = absurd (omega arith)
 apart_two g columns col (r ∷ rows) h n =
     let first = All-head (IsApart g columns col) r rows h in
-    let two = two_at_least r.k (coef_at r col) (HasDivisor-positive r.kind r.k first.proper.formed.divisor) first.depends in
+    let two = two_at_least r.k (coef_at r col) (HasModulus-positive r.kind r.k first.proper.formed.modulus) first.depends in
     let rest = apart_positive g columns col rows (All-tail (IsApart g columns col) r rows h) in
     let t = product_le (pos 2) r.k (pos 1) (product_of_divisors rows) (omega (arith, linear)) (omega (arith, linear)) two (omega (arith, linear)) in
     omega (arith, linear)
 
-modulus_positive : (asks : RowKind) (k c : ℤ) → HasDivisor asks k → pos 0 <ℤ modulus_of asks k c
+modulus_positive : (asks : RowKind) (k c : ℤ) → HasModulus asks k → pos 0 <ℤ modulus_of asks k c
 modulus_positive kind.Zero k c h = omega (arith, linear)
 modulus_positive kind.AtLeast k c h = omega (arith, linear)
 modulus_positive kind.Divides k c h = by (int_eq c (pos 0))
@@ -296,8 +296,8 @@ occurs c k n = cond-false (int_eq c (pos 0)) (pos 1) k (by (int_eq c (pos 0)) (D
     by true f = absurd (n (f refl))
     by false f = refl
 
--- a row on the side of the congruences, or of those that must not divide, has its divisor for its modulus
-modulus_divides : (asks : RowKind) (k c : ℤ) → HasDivisor asks k → side_of_kind asks k c ≡ Divides → modulus_of asks k c ≡ k
+-- a row on the side of the congruences, or of those that must not divide, has its modulus for its modulus
+modulus_divides : (asks : RowKind) (k c : ℤ) → HasModulus asks k → side_of_kind asks k c ≡ Divides → modulus_of asks k c ≡ k
 modulus_divides kind.Zero k c h e = cc
 modulus_divides kind.AtLeast k (pos zero) h e = cc
 modulus_divides kind.AtLeast k (pos (suc c)) h e = cc
@@ -346,11 +346,11 @@ products_more Free r m n divides apart p e f h = others_more m n (product_of_div
 pub moduli_products : (columns col : ℕ) (rows : List Row) → All (IsWellFormed columns) rows → AreProducts (product_of_divisors (on_side Divides col rows)) (product_of_divisors (on_side Apart col rows)) (product_of_moduli col rows)
 moduli_products columns col [] h = record { first = omega (arith, linear); second = omega (arith, linear); small = omega (arith, linear) }
 moduli_products columns col (r ∷ rows) h =
-    let w = (All-head (IsWellFormed columns) r rows h).divisor in
+    let w = (All-head (IsWellFormed columns) r rows h).modulus in
     products_more (side_of col r) r (modulus_of r.kind r.k (coef_at r col)) (product_of_moduli col rows) (on_side Divides col rows) (on_side Apart col rows) (modulus_positive r.kind r.k (coef_at r col) w) (modulus_divides r.kind r.k (coef_at r col) w)
     (λ e. let m = apart_means r.kind r.k (coef_at r col) w e in modulus_apart r.kind r.k (coef_at r col) m.0 m.1) (moduli_products columns col rows (All-tail (IsWellFormed columns) r rows h))
   where
-    apart_means : (asks : RowKind) (k c : ℤ) → HasDivisor asks k → side_of_kind asks k c ≡ Apart → (asks ≡ kind.NotDivides) × (¬ divide.Divides k c)
+    apart_means : (asks : RowKind) (k c : ℤ) → HasModulus asks k → side_of_kind asks k c ≡ Apart → (asks ≡ kind.NotDivides) × (¬ divide.Divides k c)
     apart_means asks k c h e = rw e at (side_means asks k c h)
 
 -- ---- all in all
@@ -420,7 +420,7 @@ residues_cost g columns col r old new s =
     p = product_of_periods col new.apart
 
     positive : pos 0 <ℤ p
-    positive = periods_positive col new.apart (λ i d j. let q = get_or new.apart i d in let h = s.step.sided.apart i d j in (period_short (coef_at q col) q.k (HasDivisor-positive q.kind q.k h.proper.formed.divisor)).positive)
+    positive = periods_positive col new.apart (λ i d j. let q = get_or new.apart i d in let h = s.step.sided.apart i d j in (period_short (coef_at q col) q.k (HasModulus-positive q.kind q.k h.proper.formed.modulus)).positive)
 
     product : (s.step.k *ℤ p) ≤ℤ r
     product =
@@ -439,7 +439,7 @@ step_cost g columns col r old new s = by (nat_lt (length new.apart) 2) (shadow_c
 
 pub residues_units_not_negative : (g : Gauge) (columns col : ℕ) (s : Sides) → AreSided g columns col s → pos 0 ≤ℤ residues_units col s
 residues_units_not_negative g columns col s a =
-    let p = periods_positive col s.apart (λ i d j. let q = get_or s.apart i d in let h = a.apart i d j in (period_short (coef_at q col) q.k (HasDivisor-positive q.kind q.k h.proper.formed.divisor)).positive) in
+    let p = periods_positive col s.apart (λ i d j. let q = get_or s.apart i d in let h = a.apart i d j in (period_short (coef_at q col) q.k (HasModulus-positive q.kind q.k h.proper.formed.modulus)).positive) in
     let x = residue_units_positive g columns col (product_of_periods col s.apart) s p a in
     not_negative-*ℤ (product_of_periods col s.apart) (residue_units col (product_of_periods col s.apart) s) (omega (arith, linear)) (omega (arith, linear))
 

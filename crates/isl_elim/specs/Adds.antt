@@ -1,7 +1,7 @@
 -- Lists of systems that grow.
 use Rattle.std.specs.Prelude.{◌≡◌, ◌↔◌, ℕ, ◌-◌, ℤ, List, ◌++◌, length, All}
 use Rattle.isl_meter.specs.Gauge.{Gauge}
-use Rattle.isl_piece.specs.declared.conjunction.System.{System}
+use Rattle.isl_piece.specs.declared.system.System.{System}
 use Rattle.isl_piece.specs.System.{IsSystemWithin}
 use Rattle.isl_elim.specs.Elimination.{HoldsAtAny, HoldsAtSome}
 

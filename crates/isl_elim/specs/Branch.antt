@@ -2,8 +2,8 @@
 use Rattle.std.specs.Prelude.{◌≡◌, ◌≢◌, ◌↔◌, ◌⊎◌, Bool, true, false, map, nat_lt, ℕ, ◌-◌, ℤ, pos, negsuc, neg_ℤ, ◌+ℤ◌, ◌-ℤ◌, ◌≤ℤ◌, ◌<ℤ◌, List, [], ◌∷◌, ◌++◌, length, All, Any, Option, MatchOption, IfSome}
 use Rattle.std.specs.List.{insert}
 use Rattle.isl_meter.specs.Gauge.{Gauge, IsWithin}
-use Rattle.isl_piece.specs.declared.constraint.Row.{Row}
-use Rattle.isl_piece.specs.declared.conjunction.System.{System}
+use Rattle.isl_piece.specs.declared.row.Row.{Row}
+use Rattle.isl_piece.specs.declared.system.System.{System}
 use Rattle.isl_piece.specs.Row.{value_at, coef_at}
 use Rattle.isl_piece.specs.System.{HoldsSystem, IsSystemWithin}
 use Rattle.isl_omega.specs.Column.{HoldAt}
@@ -77,7 +77,7 @@ AreFewTails col sides tails =
     (m : ℤ) → pos 0 <ℤ m → All (λ u. neg_ℤ (coef_at u col) ≤ℤ m) sides.uppers → tail_total tails ≤ℤ splinter_total (nat_lt 0 (length sides.apart)) m col sides.lowers
 
 -- ---- what the code makes
--- the dark rows of the sides' bounds, and a tail for each lower bound: of the shifted upper bounds where a divisor must not divide a row
+-- the dark rows of the sides' bounds, and a tail for each lower bound: of the shifted upper bounds where a modulus must not divide a row
 abbrev pub AreShadowsOf : Gauge → ℕ → ℕ → Sides → List Row → List Tail → Type 0
 AreShadowsOf g columns col sides rows tails =
     (sides.apart ≡ [] → IsShadow g columns col false sides.lowers sides.uppers rows tails)

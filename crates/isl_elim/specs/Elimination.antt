@@ -1,9 +1,9 @@
 -- What elimination answers: the projection of a system along columns.
 use Rattle.std.specs.Prelude.{◌≡◌, ◌≢◌, ◌↔◌, Bool, false, ◌||◌, if◌then◌else◌, nat_eq, ℕ, suc, ◌-◌, ◌<◌, ℤ, pos, List, [], ◌∷◌, length, All, Any, slice_index_or}
 use Rattle.std.specs.List.{insert}
-use Rattle.isl_piece.specs.declared.constraint.RowKind.TheVariants.{Zero}
-use Rattle.isl_piece.specs.declared.constraint.Row.{Row}
-use Rattle.isl_piece.specs.declared.conjunction.System.{System}
+use Rattle.isl_piece.specs.declared.row.RowKind.TheVariants.{Zero}
+use Rattle.isl_piece.specs.declared.row.Row.{Row}
+use Rattle.isl_piece.specs.declared.system.System.{System}
 use Rattle.isl_piece.specs.Row.{coef_at}
 use Rattle.isl_piece.specs.System.{HoldsSystem}
 

@@ -3,8 +3,8 @@
 use Rattle.std.specs.Prelude.{◌≡◌, ◌≢◌, ◌⊎◌, ℕ, pos, List, [], ◌∷◌, ◌++◌, ◌*◌, ◌-◌, All, length, map, Option, option_to_list}
 use Rattle.isl_math.specs.Order.{abs_of}
 use Rattle.isl_meter.specs.Gauge.{Gauge}
-use Rattle.isl_piece.specs.declared.constraint.Row.{Row}
-use Rattle.isl_piece.specs.declared.conjunction.System.{System}
+use Rattle.isl_piece.specs.declared.row.Row.{Row}
+use Rattle.isl_piece.specs.declared.system.System.{System}
 use Rattle.isl_piece.specs.Normal.{normal_system}
 use Rattle.isl_piece.specs.Row.{IsRowWithin, coef_at}
 use Rattle.isl_omega.specs.Column.{dropped}

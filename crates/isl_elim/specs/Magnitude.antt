@@ -5,10 +5,10 @@ use Rattle.std.specs.Ordering.{int_eq}
 use Rattle.isl_meter.specs.Gauge.{Gauge}
 use Rattle.isl_meter.specs.declared.Cut.{Cut}
 use Rattle.isl_omega.specs.Magnitude.{IsNoOverflow}
-use Rattle.isl_piece.specs.declared.constraint.RowKind.{RowKind}
-use Rattle.isl_piece.specs.declared.constraint.RowKind.TheVariants.{Zero, AtLeast, Divides, NotDivides}
-use Rattle.isl_piece.specs.declared.constraint.Row.{Row}
-use Rattle.isl_piece.specs.declared.conjunction.System.{System}
+use Rattle.isl_piece.specs.declared.row.RowKind.{RowKind}
+use Rattle.isl_piece.specs.declared.row.RowKind.TheVariants.{Zero, AtLeast, Divides, NotDivides}
+use Rattle.isl_piece.specs.declared.row.Row.{Row}
+use Rattle.isl_piece.specs.declared.system.System.{System}
 use Rattle.isl_piece.specs.Row.{IsRowUpTo, coef_at}
 use Rattle.isl_elim.specs.declared.branch.Branch.{Branch}
 use Rattle.isl_omega.specs.declared.shadow.Tail.{Tail}

@@ -2,7 +2,7 @@
 use Rattle.std.specs.Prelude.{◌≡◌, ◌↔◌, Bool, if◌then◌else◌, nat_lt, ℕ, ◌-◌, ℤ, pos, ◌+ℤ◌, ◌-ℤ◌, ◌*ℤ◌, ◌≤ℤ◌, ◌<ℤ◌, List, [], ◌∷◌, length, All}
 use Rattle.isl_math.specs.Divide as divide
 use Rattle.isl_meter.specs.Gauge.{Gauge}
-use Rattle.isl_piece.specs.declared.constraint.Row.{Row}
+use Rattle.isl_piece.specs.declared.row.Row.{Row}
 use Rattle.isl_piece.specs.Row.{coef_at}
 use Rattle.isl_elim.specs.Branch.{splinter_total}
 use Rattle.isl_omega.specs.Congruence.{product_of_periods}
@@ -46,7 +46,7 @@ abbrev pub splinter_bound : Bool → ℕ → List Row → List Row → ℤ
 splinter_bound neighbours col lowers [] = pos 0
 splinter_bound neighbours col lowers (u ∷ uppers) = splinter_total neighbours (greatest_factor col (u ∷ uppers)) col lowers
 
--- the units for sides with at most one row that a divisor must not divide
+-- the units for sides with at most one row that a modulus must not divide
 abbrev pub shadow_units : ℕ → Sides → ℤ
 shadow_units col sides = pairs sides.lowers sides.uppers +ℤ splinter_bound (nat_lt 0 (length sides.apart)) col sides.lowers sides.uppers
 

@@ -3,10 +3,10 @@ use Rattle.std.specs.Prelude.{◌*◌, if◌then◌else◌, ℕ, ℤ, pos, neg_�
 use Rattle.std.specs.Int.{int_max}
 use Rattle.std.specs.Ordering.{int_eq}
 use Rattle.isl_math.specs.Divide.{floor_div}
-use Rattle.isl_piece.specs.declared.constraint.RowKind.{RowKind}
-use Rattle.isl_piece.specs.declared.constraint.RowKind.TheVariants.{Zero, AtLeast, Divides, NotDivides}
-use Rattle.isl_piece.specs.declared.constraint.Row.{Row}
-use Rattle.isl_piece.specs.declared.conjunction.System.{System}
+use Rattle.isl_piece.specs.declared.row.RowKind.{RowKind}
+use Rattle.isl_piece.specs.declared.row.RowKind.TheVariants.{Zero, AtLeast, Divides, NotDivides}
+use Rattle.isl_piece.specs.declared.row.Row.{Row}
+use Rattle.isl_piece.specs.declared.system.System.{System}
 use Rattle.isl_piece.specs.Row.{coef_at}
 use Rattle.isl_omega.specs.Sides.{on_side}
 use Rattle.isl_omega.specs.declared.sides.Side.TheVariants.{Lower, Upper}
@@ -34,7 +34,7 @@ all_splinters col r lowers (u ∷ uppers) = sum_of_splinters col r (greatest_fac
 abbrev pub pairs : List Row → List Row → ℤ
 pairs lowers uppers = pos (length lowers * length uppers)
 
--- the divisor of a congruence in which the column occurs, and 1 of other rows
+-- the modulus of a congruence in which the column occurs, and 1 of other rows
 abbrev pub modulus_of : RowKind → ℤ → ℤ → ℤ
 modulus_of Zero k c = pos 1
 modulus_of AtLeast k c = pos 1

@@ -86,7 +86,7 @@ fn real_row_without(
         col,
         meter,
     )?;
-    let constant = sum_of(b, lower.offset(), a, upper.offset(), meter)?;
+    let constant = sum_of(b, lower.constant(), a, upper.constant(), meter)?;
     Ok(Row::new(RowKind::AtLeast, coefs, constant, Int::ONE))
 }
 

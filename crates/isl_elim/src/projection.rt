@@ -2,8 +2,8 @@
 
 ghost use Rattle.std.specs.Prelude.{◌≡◌, ◌≢◌, ◌↔◌, ◌<◌, ◌-◌, ◌≤ℤ◌, ◌+ℤ◌, pos, All, length, slice_index_or, None, IfOk, IfSome, IsTrue, option_to_list, MatchOption, MatchResult, ◌^◌};
 ghost use Rattle.isl_meter.specs.Gauge.{IsCharged, IsCutBy, IsDone, IsDoneWithin};
-ghost use Rattle.isl_piece.specs.declared.constraint.RowKind.TheVariants.{Zero};
-ghost use Rattle.isl_piece.specs.declared.constraint.Row.{Row};
+ghost use Rattle.isl_piece.specs.declared.row.RowKind.TheVariants.{Zero};
+ghost use Rattle.isl_piece.specs.declared.row.Row.{Row};
 ghost use Rattle.isl_piece.specs.Row.{coef_at};
 ghost use Rattle.isl_piece.specs.System.{IsSystemWithin};
 ghost use Rattle.isl_elim.specs.Adds.{AddsProjection};

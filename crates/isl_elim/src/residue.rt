@@ -88,7 +88,7 @@ fn residue_of(
     Ok(new)
 }
 
-// Pushes what sides leave that have at most one row that a divisor must not divide.
+// Pushes what sides leave that have at most one row that a modulus must not divide.
 fn push_shadow(
     alloc: Global,
     sides: &Sides,

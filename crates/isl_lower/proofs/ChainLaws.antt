@@ -1,7 +1,7 @@
 -- Chains that write no row.
 use Rattle.std.proofs.Common.{◌≡◌, ◌∙◌, refl, sym, ap, ℕ, ◌<◌, ◌≤◌, List, [], ◌∷◌, ◌++◌, length, map, arith}
 use Rattle.std.proofs.lemmas.List.{append-nil}
-use Rattle.isl_piece.specs.declared.constraint.Row.{Row}
+use Rattle.isl_piece.specs.declared.row.Row.{Row}
 use mathlib.Core.Former.{Count}
 use Rattle.std.specs.Prelude.{◌⊎◌}
 use Rattle.isl_meter.specs.Gauge.{Gauge}

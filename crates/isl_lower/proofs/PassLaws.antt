@@ -9,8 +9,8 @@ use mathlib.Core.Logic.{inl, inr}
 use Rattle.std.specs.List.{remove}
 use Rattle.std.proofs.Common.{◌≤◌}
 use Rattle.isl_meter.proofs.LimitLemmas.{IsWithin-small}
-use Rattle.isl_piece.specs.declared.constraint.RowKind.{RowKind}
-use Rattle.isl_piece.specs.declared.constraint.Row.{Row}
+use Rattle.isl_piece.specs.declared.row.RowKind.{RowKind}
+use Rattle.isl_piece.specs.declared.row.Row.{Row}
 use Rattle.isl_piece.specs.Row.{IsRowWithin}
 use Rattle.isl_lower.specs.Rows.{added}
 use Rattle.std.proofs.Common.{map, drop, subst, ◌⊎◌, Result, Ok, Err, Option}

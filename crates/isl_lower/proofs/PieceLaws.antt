@@ -10,7 +10,7 @@ use Rattle.isl_math.specs.Dot.{dot}
 use Rattle.isl_piece.specs.System.{HoldRows}
 use Rattle.isl_lower.specs.Points.{HasPoints}
 use Rattle.isl_piece.specs.Row.{HoldsValue, HoldsRow, value_at}
-use Rattle.isl_piece.specs.declared.constraint.Row.{Row}
+use Rattle.isl_piece.specs.declared.row.Row.{Row}
 use Rattle.isl_tree.specs.declared.tree.PieceTree.{PieceTree}
 use Rattle.isl_tree.specs.Environment.{Environment, value_in}
 use Rattle.isl_tree.specs.Literal.{piece_entries, piece_environment, EntriesEqual, BodyHolds}

@@ -8,17 +8,17 @@ use Rattle.std.proofs.lemmas.List.Elements.{All-map, All-push, filter_map-append
 use Rattle.isl_space.specs.Valuation.{Valuation, values_of}
 use Rattle.isl_space.specs.Element.{Element, IsElement}
 use Rattle.isl_space.specs.SpaceForm.{SpaceForm, coordinates_of, IsWellFormedSpace}
-use Rattle.isl_piece.specs.declared.constraint.RowKind.{RowKind}
-use Rattle.isl_piece.specs.declared.constraint.RowKind.TheVariants.{Zero, AtLeast, Divides, NotDivides}
-use Rattle.isl_piece.specs.declared.constraint.Row.{Row}
-use Rattle.isl_piece.specs.declared.conjunction.System.{System}
+use Rattle.isl_piece.specs.declared.row.RowKind.{RowKind}
+use Rattle.isl_piece.specs.declared.row.RowKind.TheVariants.{Zero, AtLeast, Divides, NotDivides}
+use Rattle.isl_piece.specs.declared.row.Row.{Row}
+use Rattle.isl_piece.specs.declared.system.System.{System}
 use Rattle.isl_meter.specs.Gauge.{Gauge, overflown}
 use Rattle.isl_meter.specs.declared.Cut.{Cut}
 use Rattle.isl_meter.specs.declared.Cut.TheVariants.{Overflow, Budget, NoMemory}
 use Rattle.isl_space.specs.declared.space.Space.{Space}
 use Rattle.isl_space.specs.Space.{space_form_of}
-use Rattle.isl_piece.specs.declared.located.Piece.{Piece}
-use Rattle.isl_piece.specs.Row.{HasDivisor, IsWellFormed, IsRowWithin}
+use Rattle.isl_piece.specs.declared.piece.Piece.{Piece}
+use Rattle.isl_piece.specs.Row.{HasModulus, IsWellFormed, IsRowWithin}
 use Rattle.isl_piece.specs.System.{HoldRows, IsSystemWithin}
 use Rattle.isl_piece.specs.Normal.{normal_rows, normal_system, IsNormal}
 use Rattle.isl_piece.proofs.NormalLaws.{HoldWhere, normal_rows_hold}
@@ -44,7 +44,7 @@ use Rattle.isl_lower.proofs.PieceLaws.{points_are}
 use Rattle.std.proofs.lemmas.Bool.{false≢true}
 
 -- ---- the rows are rows over the columns
-divisor_of_one : (kind : RowKind) → HasDivisor kind (pos 1)
+divisor_of_one : (kind : RowKind) → HasModulus kind (pos 1)
 divisor_of_one Zero = refl
 divisor_of_one AtLeast = refl
 divisor_of_one Divides = omega arith
@@ -55,7 +55,7 @@ added_formed n w =
     let long : length (row_of n w.1) ≡ n + 1 = length-with_amounts _ w.1 ∙ length-replicate (n + 1) (pos 0) in
     record {
       width = length-take-le n (row_of n w.1) (omega arith);
-      divisor = divisor_of_one w.0;
+      modulus = divisor_of_one w.0;
     }
 
 pub written_formed : (params : List (List ℕ)) (piece : PieceTree)
@@ -132,7 +132,7 @@ module _ (params : List (List ℕ)) (piece : PieceTree) (valuation : Valuation) 
   keeps =
       let formed = written_formed params piece in
       by (normal_rows (rows_written params piece))
-      (normal_rows_hold (rows_written params piece) point (λ k d low. (formed k d low).divisor))
+      (normal_rows_hold (rows_written params piece) point (λ k d low. (formed k d low).modulus))
     where
       sized : PieceHas params valuation element piece → IsElement element
       sized has = piece_has_elements params piece valuation element plain has

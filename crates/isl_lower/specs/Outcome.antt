@@ -2,7 +2,7 @@
 use Rattle.std.specs.Prelude.{◌≡◌, ℕ, ℤ, List, ◌++◌, All, map, Result, MatchResult}
 use Rattle.isl_meter.specs.Gauge.{Gauge, IsWithin, overflown}
 use Rattle.isl_meter.specs.declared.Cut.{Cut}
-use Rattle.isl_piece.specs.declared.constraint.Row.{Row}
+use Rattle.isl_piece.specs.declared.row.Row.{Row}
 use Rattle.isl_piece.specs.Row.{IsRowWithin}
 use Rattle.isl_tree.specs.declared.tree.PieceTree.{PieceTree}
 use Rattle.isl_lower.specs.declared.places.Places.{Places}

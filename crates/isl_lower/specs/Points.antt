@@ -1,7 +1,7 @@
 -- The points of a piece of a literal.
 use Rattle.std.specs.Prelude.{◌≡◌, ◌↔◌, ℕ, ℤ, List, ◌++◌, length}
 use Rattle.isl_space.specs.Valuation.{Valuation, values_of}
-use Rattle.isl_piece.specs.declared.constraint.Row.{Row}
+use Rattle.isl_piece.specs.declared.row.Row.{Row}
 use Rattle.isl_piece.specs.System.{HoldRows}
 use Rattle.isl_tree.specs.declared.tree.PieceTree.{PieceTree}
 use Rattle.isl_tree.specs.Literal.{piece_entries, piece_environment, EntriesEqual, BodyHolds}

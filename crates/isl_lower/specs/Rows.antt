@@ -1,8 +1,8 @@
 -- The rows that a plain piece writes: one for each entry that is a term, and one for each comparison.
 use Rattle.std.specs.Prelude.{ℕ, Bool, if◌then◌else◌, ◌+◌, pos, List, [], ◌∷◌, ◌++◌, length, map, take, slice_index_or, Option, Some, None}
-use Rattle.isl_piece.specs.declared.constraint.RowKind.{RowKind}
-use Rattle.isl_piece.specs.declared.constraint.RowKind.TheVariants.{Zero, AtLeast}
-use Rattle.isl_piece.specs.declared.constraint.Row.{Row}
+use Rattle.isl_piece.specs.declared.row.RowKind.{RowKind}
+use Rattle.isl_piece.specs.declared.row.RowKind.TheVariants.{Zero, AtLeast}
+use Rattle.isl_piece.specs.declared.row.Row.{Row}
 use Rattle.isl_tree.specs.declared.tree.Compare.{Compare}
 use Rattle.isl_tree.specs.declared.tree.Compare.TheVariants.{Equal}
 use Rattle.isl_tree.specs.declared.tree.Entry.{Entry}

@@ -7,7 +7,7 @@ use Rattle.isl_space.specs.Names.{IsParameterList}
 use Rattle.isl_space.specs.SpaceForm.{IsWellFormedSpace}
 use Rattle.isl_space.specs.Valuation.{Valuation}
 use Rattle.isl_space.specs.Element.{Element}
-use Rattle.isl_piece.specs.declared.located.Piece.{Piece}
+use Rattle.isl_piece.specs.declared.piece.Piece.{Piece}
 use Rattle.isl_piece.specs.Normal.{normal_rows}
 use Rattle.isl_piece.specs.Row.{IsRowWithin}
 use Rattle.isl_union.specs.KeptValue.{KeptPiece, KeptValue, Has}

@@ -9,10 +9,10 @@ use Rattle.isl_math.specs.Dot.{dot}
 use Rattle.isl_math.proofs.Ring.{expand, linear}
 use Rattle.isl_math.proofs.ColumnLaws.{dot-insert}
 use Rattle.isl_math.proofs.DivideLaws.{Divides-+ℤ, Divides-*ℤ, Divides-same}
-use Rattle.isl_piece.specs.declared.constraint.RowKind.{RowKind}
-use Rattle.isl_piece.specs.declared.constraint.RowKind.TheVariants.{Zero, AtLeast, Divides, NotDivides}
-use Rattle.isl_piece.specs.declared.constraint.Row.{Row}
-use Rattle.isl_piece.specs.declared.conjunction.System.{System}
+use Rattle.isl_piece.specs.declared.row.RowKind.{RowKind}
+use Rattle.isl_piece.specs.declared.row.RowKind.TheVariants.{Zero, AtLeast, Divides, NotDivides}
+use Rattle.isl_piece.specs.declared.row.Row.{Row}
+use Rattle.isl_piece.specs.declared.system.System.{System}
 use Rattle.isl_piece.specs.System.{HoldsSystem, IsSystemWithin}
 use Rattle.isl_piece.specs.Normal.{normal_rows, normal_system}
 use Rattle.std.specs.Prelude.{IfSome}
@@ -86,7 +86,7 @@ pub ruleset removals = (remove-take_more, remove-take_at)
 
 -- ---- lists of rows without the column
 well_formed_dropped : (columns col : ℕ) (r : Row) → col < columns → IsWellFormed columns r → IsWellFormed (columns - 1) (dropped r col)
-well_formed_dropped columns col r h w = record { width = (let n = length-remove r.coefs col (let e = w.width in omega arith) in let e = w.width in omega arith); divisor = w.divisor }
+well_formed_dropped columns col r h w = record { width = (let n = length-remove r.coefs col (let e = w.width in omega arith) in let e = w.width in omega arith); modulus = w.modulus }
 
 pub row_within_dropped : (g : Gauge) (col : ℕ) (r : Row) → IsRowWithin g r → IsRowWithin g (dropped r col)
 row_within_dropped g col r w = record {

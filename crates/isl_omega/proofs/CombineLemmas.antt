@@ -7,10 +7,10 @@ use Rattle.std.proofs.lemmas.List.Elements.{All-push}
 use Rattle.isl_math.proofs.Ring.{expand, linear}
 use Rattle.isl_math.proofs.OrderLaws.{positive-*ℤ, zero_scaled, at_least_scaled}
 use Rattle.isl_math.proofs.ColumnLaws.{weighted_sum-take_more, dot-weighted_sum, get_or-weighted_sum, length-weighted_sum}
-use Rattle.isl_piece.specs.declared.constraint.RowKind.{RowKind}
-use Rattle.isl_piece.specs.declared.constraint.RowKind.TheVariants.{Zero, AtLeast, Divides, NotDivides}
-use Rattle.isl_piece.specs.declared.constraint.Row.{Row}
-use Rattle.isl_piece.specs.Row.{HoldsValue, value_at, coef_at, IsWellFormed, HasDivisor}
+use Rattle.isl_piece.specs.declared.row.RowKind.{RowKind}
+use Rattle.isl_piece.specs.declared.row.RowKind.TheVariants.{Zero, AtLeast, Divides, NotDivides}
+use Rattle.isl_piece.specs.declared.row.Row.{Row}
+use Rattle.isl_piece.specs.Row.{HoldsValue, value_at, coef_at, IsWellFormed, HasModulus}
 use Rattle.isl_omega.specs.Combine.{combination, scaled_divisor}
 use Rattle.isl_math.proofs.DivideLaws.{Divides_scaled}
 
@@ -63,7 +63,7 @@ holds_scaled AtLeast m k v p = at_least_scaled m v p
 holds_scaled Divides m k v p = Divides_scaled m k v p
 holds_scaled NotDivides m k v p = let h = Divides_scaled m k v p in ((λ n d. n (h.1 d)), (λ n d. n (h.0 d)))
 
-divisor_scaled : (kind : RowKind) (m k : ℤ) → pos 0 <ℤ m → HasDivisor kind k → HasDivisor kind (scaled_divisor kind m k)
+divisor_scaled : (kind : RowKind) (m k : ℤ) → pos 0 <ℤ m → HasModulus kind k → HasModulus kind (scaled_divisor kind m k)
 divisor_scaled Zero m k p h = h
 divisor_scaled AtLeast m k p h = h
 divisor_scaled Divides m k p h = positive-*ℤ m k p h
@@ -72,7 +72,7 @@ divisor_scaled NotDivides m k p h = positive-*ℤ m k p h
 pub combination_formed : (columns : ℕ) (m : ℤ) (a : Row) (n : ℤ) (b : Row) → pos 0 <ℤ m → IsWellFormed columns a → length b.coefs ≡ columns → IsWellFormed columns (combination m a n b)
 combination_formed columns m a n b p h w = record {
   width = length-weighted_sum m a.coefs n b.coefs (let e = h.width in omega arith) ∙ h.width;
-  divisor = divisor_scaled a.kind m a.k p h.divisor;
+  modulus = divisor_scaled a.kind m a.k p h.modulus;
 }
 
 pub combination_well_formed : (columns : ℕ) (m : ℤ) (a : Row) (n : ℤ) (b : Row) → pos 0 <ℤ m → IsWellFormed columns a → IsWellFormed columns b → IsWellFormed columns (combination m a n b)

@@ -8,12 +8,12 @@ use lib.IntN.{*ℤ_comm}
 use Rattle.isl_math.specs.Order.{abs_of, sign_of}
 use Rattle.isl_math.proofs.OrderLaws.{sign-*ℤ, sign-*ℤ-abs, abs_positive}
 use Rattle.isl_math.proofs.DivideLaws.{Divides-zero, Divides-same, Divides_self, Divides-*ℤ, Divides_trans}
-use Rattle.isl_piece.specs.declared.constraint.RowKind.{RowKind}
-use Rattle.isl_piece.specs.declared.constraint.RowKind.TheVariants.{Zero, AtLeast, Divides, NotDivides}
-use Rattle.isl_piece.specs.declared.constraint.Row.{Row}
+use Rattle.isl_piece.specs.declared.row.RowKind.{RowKind}
+use Rattle.isl_piece.specs.declared.row.RowKind.TheVariants.{Zero, AtLeast, Divides, NotDivides}
+use Rattle.isl_piece.specs.declared.row.Row.{Row}
 use Rattle.isl_piece.specs.Row.{HoldsRow, value_at, coef_at, IsWellFormed}
 use Rattle.isl_meter.specs.Gauge.{Gauge}
-use Rattle.isl_piece.specs.declared.conjunction.System.{System}
+use Rattle.isl_piece.specs.declared.system.System.{System}
 use Rattle.isl_omega.specs.Column.{IsFree, IsFreeKind, HoldAt, rest_at, IsSystemOf}
 use Rattle.isl_omega.specs.Combine.{combination}
 use Rattle.isl_omega.specs.Equality.{IsImage, IsSolvedBy, solvable}
@@ -67,7 +67,7 @@ Divides_abs p f = (
 )
 
 pub solvable_well_formed : (columns : ℕ) (fixed : Row) (col : ℕ) → IsWellFormed columns fixed → coef_at fixed col ≢ pos 0 → IsWellFormed columns (solvable fixed col)
-solvable_well_formed columns fixed col h n = record { width = h.width; divisor = abs_positive (coef_at fixed col) n }
+solvable_well_formed columns fixed col h n = record { width = h.width; modulus = abs_positive (coef_at fixed col) n }
 
 pub solvable_free : (fixed : Row) (col : ℕ) → IsFree col (solvable fixed col)
 solvable_free fixed col = abs_divides (coef_at fixed col)

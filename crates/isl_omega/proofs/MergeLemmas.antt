@@ -5,14 +5,14 @@ use Rattle.std.proofs.lemmas.List.Elements.{All-push, All-nil, All-cons, All-hea
 use Rattle.isl_math.proofs.Ring.{expand, linear}
 use Rattle.isl_math.proofs.OrderLaws.{*ℤ-≤ℤ, positive-*ℤ}
 use Rattle.isl_meter.specs.Gauge.{Gauge}
-use Rattle.isl_piece.specs.declared.constraint.RowKind.TheVariants.{Divides}
-use Rattle.isl_piece.specs.declared.constraint.Row.{Row}
+use Rattle.isl_piece.specs.declared.row.RowKind.TheVariants.{Divides}
+use Rattle.isl_piece.specs.declared.row.Row.{Row}
 use Rattle.isl_piece.specs.Row.{HoldsRow, value_at, IsWellFormed, IsRowWithin}
 use Rattle.isl_omega.specs.Column.{IsFree}
 use Rattle.isl_omega.specs.Congruence.{reduced_row, AreJoined, AreMergedTo, product_of_divisors}
 use Rattle.isl_math.proofs.ListLaws.{All-last}
 use Rattle.isl_omega.proofs.ReduceLemmas.{reduced_is, holds_congruence, value_reduced}
-use Rattle.isl_piece.proofs.RowLemmas.{HasDivisor-positive}
+use Rattle.isl_piece.proofs.RowLemmas.{HasModulus-positive}
 use Rattle.isl_math.proofs.DivideLaws.{IsCongruent_sym, Divides-congruent}
 
 pub product-append : (rows : List Row) (r : Row) → product_of_divisors (rows ++ r ∷ []) ≡ product_of_divisors rows *ℤ r.k
@@ -24,7 +24,7 @@ product-append (q ∷ rows) r = let e = product-append rows r in ap (λ z. q.k *
 
 pub product_positive : (columns : ℕ) (rows : List Row) → All (IsWellFormed columns) rows → pos 0 <ℤ product_of_divisors rows
 product_positive columns [] h = omega (arith, linear)
-product_positive columns (r ∷ rows) h = positive-*ℤ r.k (product_of_divisors rows) (HasDivisor-positive r.kind r.k (All-head (IsWellFormed columns) r rows h).divisor) (product_positive columns rows (λ k d i. h (suc k) d (omega arith)))
+product_positive columns (r ∷ rows) h = positive-*ℤ r.k (product_of_divisors rows) (HasModulus-positive r.kind r.k (All-head (IsWellFormed columns) r rows h).modulus) (product_positive columns rows (λ k d i. h (suc k) d (omega arith)))
 
 -- a congruence and its reduced form hold at the same points
 pub holds_reduced : (r : Row) (xs : List ℤ) → r.kind ≡ Divides → pos 0 <ℤ r.k → HoldsRow (reduced_row r) xs ↔ HoldsRow r xs
@@ -39,7 +39,7 @@ holds_reduced r xs is p =
 -- one congruence alone
 pub merged_first : (g : Gauge) (columns col : ℕ) (r one : Row) → r.kind ≡ Divides → IsWellFormed columns r → IsRowWithin g one → one ≡ reduced_row r → AreMergedTo g columns col (r ∷ []) one []
 merged_first g columns col r one is w i e =
-    let p = HasDivisor-positive r.kind r.k w.divisor in
+    let p = HasModulus-positive r.kind r.k w.modulus in
     rw e (record {
       is_reduced = reduced_is columns r is p w.width;
       positive = p;
@@ -61,7 +61,7 @@ merged_more g columns col rows r one other next others m w j a b = record {
   is_reduced = j.is_reduced;
   positive = j.positive;
   within = a;
-  small = rw (product-append rows r) (by one.k r.k (product_of_divisors rows) next.k (HasDivisor-positive r.kind r.k w.divisor) m.small j.small);
+  small = rw (product-append rows r) (by one.k r.k (product_of_divisors rows) next.k (HasModulus-positive r.kind r.k w.modulus) m.small j.small);
   well_formed = All-push (IsWellFormed columns) others other m.well_formed j.well_formed;
   others_within = All-push (IsRowWithin g) others other m.others_within b;
   free = All-push (IsFree col) others other m.free j.free;

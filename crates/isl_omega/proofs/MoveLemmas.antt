@@ -2,7 +2,7 @@
 use Rattle.std.proofs.Common.{◌≡◌, ◌↔◌, ◌∙◌, ap, subst, arith, ℕ, ◌-◌, ◌<◌, ℤ, pos, ◌+ℤ◌, ◌-ℤ◌, ◌*ℤ◌, ◌<ℤ◌, List, length}
 use Rattle.std.specs.List.{insert}
 use Rattle.isl_math.proofs.Ring.{expand, linear}
-use Rattle.isl_piece.specs.declared.constraint.Row.{Row}
+use Rattle.isl_piece.specs.declared.row.Row.{Row}
 use Rattle.isl_piece.specs.Row.{HoldsRow, IsWellFormed, value_at, coef_at}
 use Rattle.isl_omega.specs.Column.{rest_at}
 use Rattle.isl_omega.specs.Substitution.{substituted, multiplier, IsMovedBound}

@@ -6,9 +6,9 @@ use Rattle.isl_math.specs.Dot.{dot}
 use Rattle.isl_math.proofs.Ring.{expand, linear}
 use Rattle.isl_math.proofs.OrderLaws.{<ℤ-from_*ℤ, positive_not_zero}
 use Rattle.isl_meter.specs.Gauge.{Gauge}
-use Rattle.isl_piece.specs.declared.constraint.RowKind.{RowKind}
-use Rattle.isl_piece.specs.declared.constraint.RowKind.TheVariants.{AtLeast}
-use Rattle.isl_piece.specs.declared.constraint.Row.{Row}
+use Rattle.isl_piece.specs.declared.row.RowKind.{RowKind}
+use Rattle.isl_piece.specs.declared.row.RowKind.TheVariants.{AtLeast}
+use Rattle.isl_piece.specs.declared.row.Row.{Row}
 use Rattle.isl_piece.specs.Row.{HoldsRow, HoldsValue, value_at, coef_at}
 use Rattle.isl_omega.specs.Column.{rest_at}
 use Rattle.isl_omega.specs.Combine.{combination}
@@ -91,7 +91,7 @@ pub dark_row_is : (g : Gauge) (columns col : ℕ) (lower upper : Row) (d : ℤ) 
     → IsUpper g columns col upper → col < columns → IsRealRow columns col lower upper d real → s ≡ ceiling ((coef_at lower col -ℤ pos 1) *ℤ (neg_ℤ (coef_at upper col) -ℤ pos 1)) d
     → dark ≡ record real { constant = real.constant -ℤ s } → IsDarkRow columns col lower upper dark
 dark_row_is g columns col lower upper d real dark s hl hu l r e f = record {
-  formed = rw f (record { width = r.formed.width; divisor = r.formed.divisor });
+  formed = rw f (record { width = r.formed.width; modulus = r.formed.modulus });
   free = rw f (free_of_zero real.kind real.k (coef_at real col) r.gone);
   is = λ point x n.
       let xs = insert point col x in

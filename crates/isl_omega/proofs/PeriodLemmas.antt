@@ -8,7 +8,7 @@ use Rattle.isl_math.proofs.Ring.{expand, linear}
 use Rattle.isl_math.proofs.OrderLaws.{*ℤ-≤ℤ, ≤ℤ-*ℤ, <ℤ-from_*ℤ, ≡-from_*ℤ, positive-*ℤ, positive_factors, product_le}
 use Rattle.isl_math.proofs.DivideLaws.{Divides-*ℤ, quotient-from_Divides}
 use Rattle.isl_math.proofs.GcdLaws.{IsGcdOf-gcd_of}
-use Rattle.isl_piece.specs.declared.constraint.Row.{Row}
+use Rattle.isl_piece.specs.declared.row.Row.{Row}
 use Rattle.isl_omega.specs.Congruence.{product_of_divisors, period, product_of_periods}
 
 -- ---- one period
@@ -27,7 +27,7 @@ period_short c k p =
     by : (g q k : ℤ) → pos 0 <ℤ g → pos 0 <ℤ q → k ≡ g *ℤ q → IsShorterPeriod q k
     by g q k p r e = record { positive = r; small = (let m = simp expand at (≤ℤ-*ℤ q (pos 1) g (omega (arith, linear)) (omega (arith, linear))) in let e' = simp expand at e in omega (arith, linear)) }
 
--- the divisor divides the coefficient times the period
+-- the modulus divides the coefficient times the period
 pub period_multiple : (c k : ℤ) → pos 0 <ℤ k → Divides k (c *ℤ floor_div k (gcd_of c k))
 period_multiple c k p =
     let h = IsGcdOf-gcd_of c k in
@@ -41,7 +41,7 @@ period_multiple c k p =
         let f' = simp expand at (ap (λ w. w *ℤ m) f) in
         simp expand (omega (arith, linear))
 
--- with both the coefficient and the divisor times multiples of s, the period is no longer
+-- with both the coefficient and the modulus times multiples of s, the period is no longer
 pub shorter_period : (c k s j : ℤ) → pos 0 <ℤ k → pos 0 <ℤ s → Divides s j → IsShorterPeriod (floor_div (s *ℤ k) (gcd_of (j *ℤ c) (s *ℤ k))) k
 shorter_period c k s j p q d =
     let g = gcd_of (j *ℤ c) (s *ℤ k) in

@@ -10,13 +10,13 @@ use Rattle.isl_math.proofs.OrderLaws.{positive-*ℤ, *ℤ-≤ℤ, <ℤ-from_*ℤ
 use Rattle.isl_math.proofs.ColumnLaws.{length-weighted_sum}
 use Rattle.isl_meter.specs.Gauge.{Gauge, IsWithin}
 use Rattle.isl_piece.specs.Numbers.{reduced}
-use Rattle.isl_piece.specs.declared.constraint.RowKind.{RowKind}
-use Rattle.isl_piece.specs.declared.constraint.RowKind.TheVariants.{Zero, AtLeast, Divides, NotDivides}
-use Rattle.isl_piece.specs.declared.constraint.Row.{Row}
-use Rattle.isl_piece.specs.Row.{HoldsRow, HoldsValue, value_at, coef_at, HasDivisor, IsWellFormed, IsRowWithin}
+use Rattle.isl_piece.specs.declared.row.RowKind.{RowKind}
+use Rattle.isl_piece.specs.declared.row.RowKind.TheVariants.{Zero, AtLeast, Divides, NotDivides}
+use Rattle.isl_piece.specs.declared.row.Row.{Row}
+use Rattle.isl_piece.specs.Row.{HoldsRow, HoldsValue, value_at, coef_at, HasModulus, IsWellFormed, IsRowWithin}
 use Rattle.isl_piece.proofs.NumberLaws.{length-reduced, dot-reduced, All-IsRemainder-reduced}
 use Rattle.isl_piece.proofs.NumberSteps.{reduced-take_more}
-use Rattle.isl_piece.proofs.RowLemmas.{HasDivisor-positive}
+use Rattle.isl_piece.proofs.RowLemmas.{HasModulus-positive}
 use Rattle.isl_omega.specs.Combine.{combination, scaled_divisor}
 use Rattle.isl_omega.specs.Congruence.{reduced_row, IsReducedCongruence, SayTheSame, IsScaledTo, AreMerged, AreJoined}
 use Rattle.isl_omega.proofs.CombineLemmas.{value_at-combination, coef_at-combination}
@@ -31,21 +31,21 @@ get_or-reduced k (x ∷ xs) zero h = refl
 get_or-reduced k (x ∷ xs) (suc i) h = get_or-reduced k xs i (omega arith)
 
 -- ---- one congruence
--- a congruence holds where its divisor divides its value
+-- a congruence holds where its modulus divides its value
 pub holds_congruence : (r : Row) (k : ℤ) (xs : List ℤ) → r.kind ≡ Divides → r.k ≡ k → HoldsRow r xs ↔ divide.Divides k (value_at r xs)
 holds_congruence r k xs is e = by r.kind r.k (value_at r xs) is e
   where
     by : (kind : RowKind) (l z : ℤ) → kind ≡ Divides → l ≡ k → HoldsValue kind l z ↔ divide.Divides k z
     by kind l z is e = rw (is, e) ((λ d. d), (λ d. d))
 
--- reduced, its value is the same up to a multiple of the divisor
+-- reduced, its value is the same up to a multiple of the modulus
 pub value_reduced : (r : Row) (xs : List ℤ) → pos 0 <ℤ r.k → IsCongruent r.k (value_at r xs) (value_at (reduced_row r) xs)
 value_reduced r xs p = IsCongruent-+ℤ r.k (dot r.coefs xs) (dot (reduced r.k r.coefs) xs) r.constant (floor_mod r.constant r.k) (dot-reduced r.k r.coefs xs p) (IsCongruent-floor_mod r.k r.constant p)
 
 pub reduced_is : (columns : ℕ) (r : Row) → r.kind ≡ Divides → pos 0 <ℤ r.k → length r.coefs ≡ columns → IsReducedCongruence columns r.k (reduced_row r)
 reduced_is columns r is p w = record {
   kind = is;
-  divisor = refl;
+  modulus = refl;
   width = length-reduced r.k r.coefs ∙ w;
   coefs = All-IsRemainder-reduced r.k r.coefs p;
   constant = IsRemainder-floor_mod r.k r.constant p;
@@ -68,7 +68,7 @@ pub remainder_row : (columns col : ℕ) (k t : ℤ) (p q rest small : Row) → I
     → t ≡ floor_div (coef_at p col) (coef_at q col) → rest ≡ combination (pos 1) p (neg_ℤ t) q → small ≡ reduced_row rest → IsRemainderRow columns col k p q small
 remainder_row columns col k t p q rest small hp hq above l c e f g =
     let is : rest.kind ≡ Divides = ap (λ (r : Row). r.kind) f ∙ hp.kind in
-    let same_divisor : rest.k ≡ k = ap (λ (r : Row). r.k) f ∙ divisor_once p.kind p.k ∙ hp.divisor in
+    let same_divisor : rest.k ≡ k = ap (λ (r : Row). r.k) f ∙ divisor_once p.kind p.k ∙ hp.modulus in
     let widths : length p.coefs ≡ length q.coefs = hp.width ∙ sym hq.width in
     let wide : length rest.coefs ≡ columns = ap (λ (r : Row). length r.coefs) f ∙ length-weighted_sum (pos 1) p.coefs (neg_ℤ t) q.coefs widths ∙ hp.width in
     let positive : pos 0 <ℤ rest.k = rw same_divisor above in
@@ -81,8 +81,8 @@ remainder_row columns col k t p q rest small hp hq above l c e f g =
           let left : value_at (reduced_row rest) xs ≡ value_at small xs = ap (λ (r : Row). value_at r xs) (sym g) in
           let congruent = near rest.k k (value_at rest xs) (value_at p xs) (value_at q xs) t (value_at (reduced_row rest) xs) (value_at small xs) same_divisor value left (value_reduced rest xs positive) in
           let step = merge_step k (value_at p xs) (value_at q xs) t (value_at small xs) congruent in
-          let of_p = holds_congruence p k xs hp.kind hp.divisor in
-          let of_q = holds_congruence q k xs hq.kind hq.divisor in
+          let of_p = holds_congruence p k xs hp.kind hp.modulus in
+          let of_q = holds_congruence q k xs hq.kind hq.modulus in
           let of_small = holds_congruence small k xs small_kind small_divisor in (
             (λ h. let d = step.0 (of_p.0 h.0, of_q.0 h.1) in (of_q.1 d.0, of_small.1 d.1)),
             (λ h. let d = step.1 (of_q.0 h.0, of_small.0 h.1) in (of_p.1 d.0, of_q.1 d.1)),
@@ -119,22 +119,22 @@ divisor_times : (kind : RowKind) (m k : ℤ) → kind ≡ Divides → scaled_div
 divisor_times kind m k e = rw e refl
 
 pub scaled_positive : (columns : ℕ) (m : ℤ) (r scaled : Row) → pos 0 <ℤ m → r.kind ≡ Divides → IsWellFormed columns r → scaled ≡ combination m r (pos 0) r → pos 0 <ℤ scaled.k
-scaled_positive columns m r scaled p is w e = rw (ap (λ (s : Row). s.k) e ∙ divisor_times r.kind m r.k is) (positive-*ℤ m r.k p (HasDivisor-positive r.kind r.k w.divisor))
+scaled_positive columns m r scaled p is w e = rw (ap (λ (s : Row). s.k) e ∙ divisor_times r.kind m r.k is) (positive-*ℤ m r.k p (HasModulus-positive r.kind r.k w.modulus))
 
 pub scaled_row : (columns : ℕ) (m : ℤ) (r scaled small : Row) → pos 0 <ℤ m → r.kind ≡ Divides → IsWellFormed columns r → scaled ≡ combination m r (pos 0) r → small ≡ reduced_row scaled → IsScaledTo columns (m *ℤ r.k) r small
 scaled_row columns m r scaled small p is w e f =
     let kind : scaled.kind ≡ Divides = ap (λ (s : Row). s.kind) e ∙ is in
-    let divisor : scaled.k ≡ m *ℤ r.k = ap (λ (s : Row). s.k) e ∙ divisor_times r.kind m r.k is in
+    let modulus : scaled.k ≡ m *ℤ r.k = ap (λ (s : Row). s.k) e ∙ divisor_times r.kind m r.k is in
     let wide : length scaled.coefs ≡ columns = ap (λ (s : Row). length s.coefs) e ∙ length-weighted_sum m r.coefs (pos 0) r.coefs refl ∙ w.width in
     let positive = scaled_positive columns m r scaled p is w e in
     let small_kind : small.kind ≡ Divides = ap (λ (s : Row). s.kind) f ∙ kind in
-    let small_divisor : small.k ≡ m *ℤ r.k = ap (λ (s : Row). s.k) f ∙ divisor in
+    let small_divisor : small.k ≡ m *ℤ r.k = ap (λ (s : Row). s.k) f ∙ modulus in
     record {
-      is_reduced = rw f (at_divisor (reduced_row scaled) scaled.k divisor (reduced_is columns scaled kind positive wide));
+      is_reduced = rw f (at_divisor (reduced_row scaled) scaled.k modulus (reduced_is columns scaled kind positive wide));
       same = λ xs.
           let value : value_at scaled xs ≡ m *ℤ value_at r xs = ap (λ (s : Row). value_at s xs) e ∙ value_at-combination m r (pos 0) r xs refl ∙ alone (m *ℤ value_at r xs) (value_at r xs) in
           let left : value_at (reduced_row scaled) xs ≡ value_at small xs = ap (λ (s : Row). value_at s xs) (sym f) in
-          let congruent = near scaled.k (m *ℤ r.k) (value_at scaled xs) (m *ℤ value_at r xs) (value_at (reduced_row scaled) xs) (value_at small xs) divisor value left (value_reduced scaled xs positive) in
+          let congruent = near scaled.k (m *ℤ r.k) (value_at scaled xs) (m *ℤ value_at r xs) (value_at (reduced_row scaled) xs) (value_at small xs) modulus value left (value_reduced scaled xs positive) in
           let scaling = Divides_scaled m r.k (value_at r xs) p in
           let of_r = holds_congruence r r.k xs is refl in
           let of_small = holds_congruence small (m *ℤ r.k) xs small_kind small_divisor in (
@@ -153,7 +153,7 @@ scaled_row columns m r scaled small p is w e f =
     near j k v w r s d e f h = rw d at (Divides-same j (v -ℤ r) (w -ℤ s) (omega (arith, linear)) h)
 
 -- ---- two congruences of different divisors
--- what each is multiplied by, so that both have one divisor
+-- what each is multiplied by, so that both have one modulus
 pub record CommonParts (j k g m n : ℤ) : Type 0 where
   pub positive : pos 0 <ℤ g
   pub m_positive : pos 0 <ℤ m
@@ -190,17 +190,17 @@ pub reduced_at : (columns : ℕ) (j k : ℤ) (r : Row) → j ≡ k → IsReduced
 reduced_at columns j k r e h = rw e at h
 
 pub reduced_well_formed : (columns : ℕ) (k : ℤ) (r : Row) → pos 0 <ℤ k → IsReducedCongruence columns k r → IsWellFormed columns r
-reduced_well_formed columns k r p h = record { width = h.width; divisor = divides_divisor r.kind r.k h.kind (rw h.divisor p) }
+reduced_well_formed columns k r p h = record { width = h.width; modulus = divides_divisor r.kind r.k h.kind (rw h.modulus p) }
   where
-    divides_divisor : (kind : RowKind) (k : ℤ) → kind ≡ Divides → pos 0 <ℤ k → HasDivisor kind k
+    divides_divisor : (kind : RowKind) (k : ℤ) → kind ≡ Divides → pos 0 <ℤ k → HasModulus kind k
     divides_divisor kind k e p = rw e p
 
 pub joined_is : (columns col : ℕ) (m n : ℤ) (p q first second one other : Row) → pos 0 <ℤ first.k → m *ℤ p.k ≡ n *ℤ q.k → (m *ℤ p.k) ≤ℤ (p.k *ℤ q.k) → IsScaledTo columns (m *ℤ p.k) p first → IsScaledTo columns (n *ℤ q.k) q second
     → AreMerged columns col first.k first second one other → AreJoined columns col p q one other
 joined_is columns col m n p q first second one other above e small hp hq a = record {
-  is_reduced = reduced_at columns first.k one.k one (sym a.first_reduced.divisor) a.first_reduced;
-  positive = rw a.first_reduced.divisor above;
-  small = rw (a.first_reduced.divisor ∙ hp.is_reduced.divisor) small;
+  is_reduced = reduced_at columns first.k one.k one (sym a.first_reduced.modulus) a.first_reduced;
+  positive = rw a.first_reduced.modulus above;
+  small = rw (a.first_reduced.modulus ∙ hp.is_reduced.modulus) small;
   well_formed = reduced_well_formed columns first.k other above a.second_reduced;
   free = free_of_zero other.kind other.k (coef_at other col) a.gone;
   same = λ xs. (
@@ -209,12 +209,12 @@ joined_is columns col m n p q first second one other above e small hp hq a = rec
   );
 }
 
--- remainders by a divisor within the limit are within it
+-- remainders by a modulus within the limit are within it
 pub reduced_within : (g : Gauge) (columns : ℕ) (k : ℤ) (r : Row) → IsWithin g k → IsReducedCongruence columns k r → IsRowWithin g r
 reduced_within g columns k r w h = record {
   coefs = λ i d l. let x = h.coefs i d l in by (get_or r.coefs i d) x.not_negative x.small;
   constant = by r.constant h.constant.not_negative h.constant.small;
-  k = rw h.divisor w;
+  k = rw h.modulus w;
 }
   where
     by : (z : ℤ) → pos 0 ≤ℤ z → z <ℤ k → IsWithin g z

@@ -5,7 +5,7 @@ use Rattle.std.proofs.lemmas.List.Elements.{All-nil, All-push, All-append}
 use Rattle.std.proofs.lemmas.List.Quantifiers.{Any-push}
 use Rattle.isl_math.proofs.Ring.{linear}
 use Rattle.isl_meter.specs.Gauge.{Gauge, IsWithin}
-use Rattle.isl_piece.specs.declared.constraint.Row.{Row}
+use Rattle.isl_piece.specs.declared.row.Row.{Row}
 use Rattle.isl_piece.specs.Row.{HoldsRow, value_at, coef_at}
 use Rattle.isl_omega.specs.Column.{IsFree}
 use Rattle.isl_omega.specs.Shadow.{IsDark, lower_at, upper_at, extra, IsShadowOf, IsTailOf, HasTail, IsShadow}

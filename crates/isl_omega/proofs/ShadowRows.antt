@@ -6,7 +6,7 @@ use Rattle.std.proofs.lemmas.List.Elements.{All-nil, All-push}
 use Rattle.isl_math.proofs.Ring.{expand, linear}
 use Rattle.isl_math.proofs.OrderLaws.{cases_ℤ, positive_not_zero}
 use Rattle.isl_meter.specs.Gauge.{Gauge}
-use Rattle.isl_piece.specs.declared.constraint.Row.{Row}
+use Rattle.isl_piece.specs.declared.row.Row.{Row}
 use Rattle.isl_piece.specs.Row.{HoldsRow, IsRowWithin, value_at, coef_at}
 use Rattle.isl_omega.specs.Column.{IsFree, rest_at}
 use Rattle.isl_omega.specs.Shadow.{MeetsLower, MeetsUpper, IsDark, lower_at, upper_at, last_splinter, IsDarkRow, IsExact, IsShadowSoFar, IsShadowOf}

@@ -8,10 +8,10 @@ use Rattle.isl_math.specs.Divide.{floor_mod}
 use Rattle.isl_math.proofs.DivideLaws.{Divides-from_mod, mod-from_Divides}
 use Rattle.isl_math.proofs.ListLaws.{Any-first, Any-later}
 use Rattle.isl_meter.specs.Gauge.{Gauge}
-use Rattle.isl_piece.specs.declared.constraint.RowKind.{RowKind}
-use Rattle.isl_piece.specs.declared.constraint.RowKind.TheVariants as kind
-use Rattle.isl_piece.specs.declared.constraint.Row.{Row}
-use Rattle.isl_piece.specs.Row.{HoldsRow, IsWellFormed, HasDivisor, coef_at}
+use Rattle.isl_piece.specs.declared.row.RowKind.{RowKind}
+use Rattle.isl_piece.specs.declared.row.RowKind.TheVariants as kind
+use Rattle.isl_piece.specs.declared.row.Row.{Row}
+use Rattle.isl_piece.specs.Row.{HoldsRow, IsWellFormed, HasModulus, coef_at}
 use Rattle.isl_omega.specs.Column.{IsFreeKind, IsFree, HoldAt}
 use Rattle.isl_omega.specs.Equality.{HasEquality}
 use Rattle.isl_omega.specs.Sides.{side_of_kind, side_of, by_sign, unless_multiple, is_same, on_side, AreSidesOf, AreSided, SidesHold, IsProper, IsLower, IsUpper, IsDivides, IsApart, IsFreeRow}
@@ -82,7 +82,7 @@ same_from Free Divides e = cc
 same_from Free Apart e = cc
 same_from Free Free e = refl
 
--- what each side says of a kind, a divisor and a coefficient
+-- what each side says of a kind, a modulus and a coefficient
 abbrev pub SideMeans : Side → RowKind → ℤ → ℤ → Type 0
 SideMeans Lower asks k c = (asks ≡ kind.AtLeast) × (pos 0 <ℤ c)
 SideMeans Upper asks k c = (asks ≡ kind.AtLeast) × (c <ℤ pos 0)
@@ -105,7 +105,7 @@ means_apart (pos zero) k c p e = inr (Divides-from_mod k c p (sym e))
 means_apart (pos (suc n)) k c p e = (refl, (λ d. let f = e ∙ mod-from_Divides k c p d in omega (arith, linear)))
 means_apart (negsuc n) k c p e = (refl, (λ d. let f = e ∙ mod-from_Divides k c p d in omega (arith, linear)))
 
-pub side_means : (asks : RowKind) (k c : ℤ) → HasDivisor asks k → SideMeans (side_of_kind asks k c) asks k c
+pub side_means : (asks : RowKind) (k c : ℤ) → HasModulus asks k → SideMeans (side_of_kind asks k c) asks k c
 side_means kind.Zero k c h = inl refl
 side_means kind.AtLeast k c h = means_by_sign k c
 side_means kind.Divides k c h = means_divides (floor_mod c k) k c h refl
@@ -113,7 +113,7 @@ side_means kind.NotDivides k c h = means_apart (floor_mod c k) k c h refl
 
 -- a row that was picked for a side
 pub means_of : (columns col : ℕ) (side : Side) (r : Row) → IsWellFormed columns r → is_same side (side_of col r) ≡ true → SideMeans side r.kind r.k (coef_at r col)
-means_of columns col side r w e = let s = same_from side (side_of col r) e in rw s at (side_means r.kind r.k (coef_at r col) w.divisor)
+means_of columns col side r w e = let s = same_from side (side_of col r) e in rw s at (side_means r.kind r.k (coef_at r col) w.modulus)
 
 pub picked : (g : Gauge) (columns col : ℕ) (side : Side) (rows : List Row) (P : Row → Type 0) → ((r : Row) → IsProper g columns r → SideMeans side r.kind r.k (coef_at r col) → P r) → All (IsProper g columns) rows → All P (on_side side col rows)
 picked g columns col side rows P f h = λ k d i.
@@ -197,7 +197,7 @@ sides_hold rows col sides point x s = (
   (λ h. all_sides (λ r. HoldsRow r (insert point col x)) col rows (rw s.lowers at h.lowers) (rw s.uppers at h.uppers) (rw s.divides at h.divides) (rw s.apart at h.apart) (rw s.free at h.free)),
 )
 
--- rows that a divisor must not divide are apart or free
+-- rows that a modulus must not divide are apart or free
 pub sides_apart : (P : Row → Type 0) (columns col : ℕ) (rows : List Row) → All (IsWellFormed columns) rows → All (λ r. r.kind ≡ kind.NotDivides) rows → All P (on_side Apart col rows) → All P (on_side Free col rows) → All P rows
 sides_apart P columns col rows w n a f = λ k d i. by k d i (side_of col (get_or rows k d)) refl
   where
@@ -208,7 +208,7 @@ sides_apart P columns col rows w n a f = λ k d i. by k d i (side_of col (get_or
     clash_divides asks e f = cc
 
     means : (k : ℕ) (d : Row) → k < length rows → (s : Side) → s ≡ side_of col (get_or rows k d) → SideMeans s (get_or rows k d).kind (get_or rows k d).k (coef_at (get_or rows k d) col)
-    means k d i s e = let r = get_or rows k d in rw e (side_means r.kind r.k (coef_at r col) (w k d i).divisor)
+    means k d i s e = let r = get_or rows k d in rw e (side_means r.kind r.k (coef_at r col) (w k d i).modulus)
 
     by : (k : ℕ) (d : Row) → k < length rows → (s : Side) → s ≡ side_of col (get_or rows k d) → P (get_or rows k d)
     by k d i Lower e = absurd (clash (get_or rows k d).kind (n k d i) (means k d i Lower e).0)

@@ -5,7 +5,7 @@ use Rattle.std.proofs.lemmas.List.Elements.{All-weaker}
 use Rattle.isl_math.specs.Divide.{floor_div}
 use Rattle.isl_math.proofs.Ring.{linear}
 use Rattle.isl_meter.specs.Gauge.{Gauge}
-use Rattle.isl_piece.specs.declared.constraint.Row.{Row}
+use Rattle.isl_piece.specs.declared.row.Row.{Row}
 use Rattle.isl_piece.specs.Row.{IsRowUpTo, coef_at}
 use Rattle.isl_omega.specs.Shadow.{splinters, ceiling, IsShadowOf}
 use Rattle.isl_omega.specs.Sides.{IsLower}

@@ -7,7 +7,7 @@ use Rattle.isl_math.specs.Dot.{weighted_sum}
 use Rattle.isl_math.proofs.DivideLaws.{le_from_Divides}
 use Rattle.isl_math.proofs.Ring.{linear}
 use Rattle.isl_meter.specs.Gauge.{Gauge}
-use Rattle.isl_piece.specs.declared.constraint.Row.{Row}
+use Rattle.isl_piece.specs.declared.row.Row.{Row}
 use Rattle.isl_piece.specs.Row.{IsRowUpTo, coef_at}
 use Rattle.isl_omega.specs.Congruence.{AreMergedTo}
 use Rattle.isl_math.specs.Divide.{IsRemainder}

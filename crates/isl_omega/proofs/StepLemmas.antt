@@ -9,11 +9,11 @@ use Rattle.isl_math.proofs.Ring.{linear}
 use Rattle.isl_math.proofs.OrderLaws.{positive-*ℤ, negative-*ℤ}
 use Rattle.isl_math.proofs.DivideLaws.{Divides-+ℤ, Divides-*ℤ, Divides-minus, Divides-same}
 use Rattle.isl_meter.specs.Gauge.{Gauge}
-use Rattle.isl_piece.specs.declared.constraint.RowKind.{RowKind}
-use Rattle.isl_piece.specs.declared.constraint.RowKind.TheVariants as kind
-use Rattle.isl_piece.specs.declared.constraint.Row.{Row}
+use Rattle.isl_piece.specs.declared.row.RowKind.{RowKind}
+use Rattle.isl_piece.specs.declared.row.RowKind.TheVariants as kind
+use Rattle.isl_piece.specs.declared.row.Row.{Row}
 use Rattle.isl_piece.specs.System.{HoldRows}
-use Rattle.isl_piece.specs.Row.{HoldsRow, HoldsValue, value_at, HasDivisor, IsWellFormed, IsRowWithin, coef_at}
+use Rattle.isl_piece.specs.Row.{HoldsRow, HoldsValue, value_at, HasModulus, IsWellFormed, IsRowWithin, coef_at}
 use Rattle.isl_omega.specs.Column.{IsFree, IsFreeKind, HoldAt, rest_at}
 use Rattle.isl_omega.specs.Combine.{scaled_divisor}
 use Rattle.isl_omega.specs.Congruence.{AreMergedTo, product_of_divisors, period, product_of_periods}
@@ -28,7 +28,7 @@ use Rattle.isl_omega.proofs.CongruenceLemmas.{divides_rest}
 use Rattle.isl_math.proofs.ListLaws.{All-parts, All-last, All-zipped, All-zipped_back, AllZip-with, AllZip-weaker, All-unmapped, filter_shorter}
 use Rattle.isl_omega.proofs.MoveLemmas.{substituted_formed, substituted_coefficient, substituted_same}
 use Rattle.isl_omega.proofs.ReduceLemmas.{holds_congruence}
-use Rattle.isl_piece.proofs.RowLemmas.{HasDivisor-positive}
+use Rattle.isl_piece.proofs.RowLemmas.{HasModulus-positive}
 use Rattle.isl_omega.proofs.PeriodLemmas.{IsShorterPeriod, shorter_period, period_at, periods_filtered, periods_mapped}
 use Rattle.isl_omega.proofs.SideLemmas.{picked, sides_apart, SideMeans, free_from, free_rows_hold}
 
@@ -197,7 +197,7 @@ multiplier_is col scale k offsets e = by scale k (coef_at offsets col) e
     by : (s k o : ℤ) → o ≡ k -ℤ s → s +ℤ o ≡ k
     by s k o e = omega (arith, linear)
 
-divides_divisor : (asks : RowKind) (k : ℤ) → asks ≡ kind.Divides → pos 0 <ℤ k → HasDivisor asks k
+divides_divisor : (asks : RowKind) (k : ℤ) → asks ≡ kind.Divides → pos 0 <ℤ k → HasModulus asks k
 divides_divisor asks k e p = rw e p
 
 divides_free : (asks : RowKind) (k c : ℤ) → asks ≡ kind.Divides → divide.Divides k c → IsFreeKind asks k c
@@ -240,7 +240,7 @@ step_sided g columns col one others scale offsets old new s = record {
       (λ i d j. record { proper = record { formed = merged.well_formed i d j; within = merged.others_within i d j }; free = merged.free i d j }))
       sided.free)
       (record {
-        proper = record { formed = record { width = merged.width; divisor = divides_divisor one.kind scale merged.kind progression.positive }; within = record { coefs = merged.within.coefs; constant = merged.within.constant; k = moved.scale_within } };
+        proper = record { formed = record { width = merged.width; modulus = divides_divisor one.kind scale merged.kind progression.positive }; within = record { coefs = merged.within.coefs; constant = merged.within.constant; k = moved.scale_within } };
         free = divides_free one.kind scale (coef_at one col) merged.kind progression.divides_coefficient;
       }));
 }
@@ -273,7 +273,7 @@ substituted_period : (g : Gauge) (columns col : ℕ) (scale k : ℤ) (offsets r 
 substituted_period g columns col scale k offsets r a p d e w l =
     let c : coef_at (substituted scale offsets col r) col ≡ k *ℤ coef_at r col = substituted_coefficient columns col scale offsets r a.proper.formed w l ∙ ap (λ z. z *ℤ coef_at r col) (multiplier_is col scale k offsets e) in
     let m : (substituted scale offsets col r).k ≡ scale *ℤ r.k = scaled_apart r.kind scale r.k a.kind in
-    period_at (k *ℤ coef_at r col) (coef_at (substituted scale offsets col r) col) (scale *ℤ r.k) (substituted scale offsets col r).k r.k c m (shorter_period (coef_at r col) r.k scale k (HasDivisor-positive r.kind r.k a.proper.formed.divisor) p d)
+    period_at (k *ℤ coef_at r col) (coef_at (substituted scale offsets col r) col) (scale *ℤ r.k) (substituted scale offsets col r).k r.k c m (shorter_period (coef_at r col) r.k scale k (HasModulus-positive r.kind r.k a.proper.formed.modulus) p d)
 
 periods_kept : (g : Gauge) (columns col : ℕ) (scale : ℤ) (offsets : Row) (rows : List Row) {k : ℤ} → All (IsApart g columns col) rows → pos 0 <ℤ scale → divide.Divides scale k → coef_at offsets col ≡ k -ℤ scale → length offsets.coefs ≡ columns → col < columns
     → product_of_periods col (on_side Apart col (map (substituted scale offsets col) rows)) ≤ℤ product_of_divisors rows

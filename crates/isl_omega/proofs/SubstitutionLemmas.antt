@@ -14,8 +14,8 @@ use Rattle.isl_math.proofs.ColumnLaws.{dot-weighted_sum, length-weighted_sum}
 use Rattle.std.proofs.lemmas.List.Elements.{All-set}
 use Rattle.isl_meter.specs.Gauge.{Gauge, IsWithin}
 use Rattle.isl_piece.specs.Numbers.{reduced}
-use Rattle.isl_piece.specs.declared.constraint.RowKind.TheVariants.{Zero, Divides}
-use Rattle.isl_piece.specs.declared.constraint.Row.{Row}
+use Rattle.isl_piece.specs.declared.row.RowKind.TheVariants.{Zero, Divides}
+use Rattle.isl_piece.specs.declared.row.Row.{Row}
 use Rattle.isl_piece.specs.Row.{HoldsRow, IsWellFormed, IsRowWithin, coef_at}
 use Rattle.isl_piece.proofs.NumberLaws.{dot-reduced, length-reduced}
 use Rattle.isl_omega.specs.Column.{rest_at}
@@ -23,7 +23,7 @@ use Rattle.isl_omega.specs.Substitution.{AreProgressionParts, IsProgressionOf, o
 use Rattle.isl_omega.proofs.ColumnLemmas.{value_at-insert}
 use Rattle.isl_omega.proofs.CongruenceLemmas.{Progression, progression_meets, progression_gives}
 use Rattle.isl_omega.proofs.ReduceLemmas.{holds_congruence}
-use Rattle.isl_piece.proofs.RowLemmas.{HasDivisor-positive}
+use Rattle.isl_piece.proofs.RowLemmas.{HasModulus-positive}
 
 -- ---- the parts
 gcd_swapped : (a b g : ℤ) → IsGcdOf a b g → IsGcdOf b a g
@@ -90,7 +90,7 @@ progression_parts c k g m n v d h i e = record {
 abbrev pub with_column : ℤ → Row → ℕ → ℤ → Row
 with_column factor one col w = record { kind = Zero; coefs = set (reduced one.k (weighted_sum factor one.coefs (pos 0) one.coefs)) col w; constant = floor_mod (factor *ℤ one.constant) one.k; k = pos 1 }
 
--- what the offsets have beside the column is factor times what the congruence has there, up to a multiple of the divisor
+-- what the offsets have beside the column is factor times what the congruence has there, up to a multiple of the modulus
 offsets_beside : (columns col : ℕ) (one : Row) (factor w : ℤ) (point : List ℤ) → IsWellFormed columns one → pos 0 <ℤ one.k → col < columns → length point ≡ columns - 1
     → IsCongruent one.k (factor *ℤ rest_at one col point) (rest_at (with_column factor one col w) col point)
 offsets_beside columns col one factor w point f p l n =
@@ -124,7 +124,7 @@ offsets_beside columns col one factor w point f p l n =
 pub is_progression : (columns col : ℕ) (one : Row) (scale factor : ℤ) (offsets : Row) → one.kind ≡ Divides → IsWellFormed columns one → col < columns → AreProgressionParts (coef_at one col) one.k scale factor → offsets ≡ with_column factor one col (one.k -ℤ scale)
     → IsProgressionOf columns col one scale offsets
 is_progression columns col one scale factor offsets is f l a e =
-    let p = HasDivisor-positive one.kind one.k f.divisor in
+    let p = HasModulus-positive one.kind one.k f.modulus in
     let ys = weighted_sum factor one.coefs (pos 0) one.coefs in
     let hs = reduced one.k ys in
     let wide : length hs ≡ columns = length-reduced one.k ys ∙ length-weighted_sum factor one.coefs (pos 0) one.coefs refl ∙ f.width in
@@ -143,7 +143,7 @@ is_progression columns col one scale factor offsets is f l a e =
       modulus = a.modulus;
       coefficient = a.coefficient;
       inverse = a.inverse;
-      offset = offsets_beside columns col one factor (one.k -ℤ scale) point f (HasDivisor-positive one.kind one.k f.divisor) l n;
+      offset = offsets_beside columns col one factor (one.k -ℤ scale) point f (HasModulus-positive one.kind one.k f.modulus) l n;
     }
 
     holds : (point : List ℤ) (x : ℤ) → length point ≡ columns - 1 → HoldsRow one (insert point col x) ↔ divide.Divides one.k (coef_at one col *ℤ x +ℤ rest_at one col point)

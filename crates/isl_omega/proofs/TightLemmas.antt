@@ -1,23 +1,23 @@
 -- What the normal forms of the real and the dark row of a pair show.
 use Rattle.std.proofs.Common.{◌≡◌, refl, ℤ, List}
-use Rattle.isl_piece.specs.declared.constraint.RowKind.{RowKind}
-use Rattle.isl_piece.specs.declared.constraint.RowKind.TheVariants.{AtLeast}
-use Rattle.isl_piece.specs.declared.constraint.Row.{Row}
+use Rattle.isl_piece.specs.declared.row.RowKind.{RowKind}
+use Rattle.isl_piece.specs.declared.row.RowKind.TheVariants.{AtLeast}
+use Rattle.isl_piece.specs.declared.row.Row.{Row}
 use Rattle.isl_piece.specs.Normal.{Always, Never, Kept, normal_row}
-use Rattle.isl_piece.specs.Row.{HoldsRow, HoldsValue, HasDivisor, value_at}
+use Rattle.isl_piece.specs.Row.{HoldsRow, HoldsValue, HasModulus, value_at}
 use Rattle.isl_piece.proofs.PointLaws.{normal_row_holds}
 use Rattle.isl_omega.proofs.TightenLemmas.{kept_is_bound}
 
 -- the real row holds nowhere
-pub tight_never : (real dark : Row) → HasDivisor real.kind real.k → normal_row real ≡ Never → (xs : List ℤ) → HoldsRow real xs → HoldsRow dark xs
+pub tight_never : (real dark : Row) → HasModulus real.kind real.k → normal_row real ≡ Never → (xs : List ℤ) → HoldsRow real xs → HoldsRow dark xs
 tight_never real dark d e xs h = absurd (rw e at ((normal_row_holds real xs d).1 h))
 
 -- the dark row holds everywhere
-pub tight_always : (real dark : Row) → HasDivisor dark.kind dark.k → normal_row dark ≡ Always → (xs : List ℤ) → HoldsRow real xs → HoldsRow dark xs
+pub tight_always : (real dark : Row) → HasModulus dark.kind dark.k → normal_row dark ≡ Always → (xs : List ℤ) → HoldsRow real xs → HoldsRow dark xs
 tight_always real dark d e xs h = (rw e at (normal_row_holds dark xs d)).0 tt
 
 -- both are the same when they are normal
-pub tight_same : (real dark a b : Row) → real.kind ≡ AtLeast → dark.kind ≡ AtLeast → HasDivisor real.kind real.k → HasDivisor dark.kind dark.k → normal_row real ≡ Kept a → normal_row dark ≡ Kept b → a.coefs ≡ b.coefs → a.constant ≡ b.constant
+pub tight_same : (real dark a b : Row) → real.kind ≡ AtLeast → dark.kind ≡ AtLeast → HasModulus real.kind real.k → HasModulus dark.kind dark.k → normal_row real ≡ Kept a → normal_row dark ≡ Kept b → a.coefs ≡ b.coefs → a.constant ≡ b.constant
     → (xs : List ℤ) → HoldsRow real xs → HoldsRow dark xs
 tight_same real dark a b r s d f e g same_coefs same_constant xs h =
     let first = (rw e at (normal_row_holds real xs d)).1 h in

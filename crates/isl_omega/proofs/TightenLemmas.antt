@@ -6,9 +6,9 @@ use Rattle.isl_math.specs.Gcd.{content}
 use Rattle.isl_math.proofs.Ring.{linear}
 use Rattle.isl_math.proofs.OrderLaws.{<ℤ-from_*ℤ}
 use Rattle.isl_math.proofs.GcdLaws.{IsContentOf-content}
-use Rattle.isl_piece.specs.declared.constraint.RowKind.{RowKind}
-use Rattle.isl_piece.specs.declared.constraint.RowKind.TheVariants.{AtLeast}
-use Rattle.isl_piece.specs.declared.constraint.Row.{Row}
+use Rattle.isl_piece.specs.declared.row.RowKind.{RowKind}
+use Rattle.isl_piece.specs.declared.row.RowKind.TheVariants.{AtLeast}
+use Rattle.isl_piece.specs.declared.row.Row.{Row}
 use Rattle.isl_piece.specs.Normal.{Kept, normal_row, normal_form, normal_at_least, bound}
 use Rattle.isl_piece.specs.Numbers.{divided}
 use Rattle.isl_piece.specs.Row.{IsWellFormed, IsRowWithin, coef_at}
@@ -61,9 +61,9 @@ tightened_kept columns row tight is w e =
     record {
       formed = rw e at (normal_row_well_formed columns row w);
       kind = kind_kept row.coefs row.constant tight f;
-      same = λ xs. rw e at (normal_row_holds row xs w.divisor);
+      same = λ xs. rw e at (normal_row_holds row xs w.modulus);
       coefs = λ col l. lessened_columns row.coefs row.constant tight f col (let n = w.width in omega arith);
-      up_to = λ b h. rw e at (normal_row_up_to b row w.divisor h);
+      up_to = λ b h. rw e at (normal_row_up_to b row w.modulus h);
     }
 
 pub tightened_itself : (columns : ℕ) (row : Row) → row.kind ≡ AtLeast → IsWellFormed columns row → IsTightened columns row row

@@ -4,10 +4,10 @@ use Rattle.std.specs.List.{insert, remove}
 use Rattle.isl_math.specs.Divide as divide
 use Rattle.isl_math.specs.Dot.{dot}
 use Rattle.isl_meter.specs.Gauge.{Gauge}
-use Rattle.isl_piece.specs.declared.constraint.RowKind.{RowKind}
-use Rattle.isl_piece.specs.declared.constraint.RowKind.TheVariants.{Zero, AtLeast, Divides, NotDivides}
-use Rattle.isl_piece.specs.declared.constraint.Row.{Row}
-use Rattle.isl_piece.specs.declared.conjunction.System.{System}
+use Rattle.isl_piece.specs.declared.row.RowKind.{RowKind}
+use Rattle.isl_piece.specs.declared.row.RowKind.TheVariants.{Zero, AtLeast, Divides, NotDivides}
+use Rattle.isl_piece.specs.declared.row.Row.{Row}
+use Rattle.isl_piece.specs.declared.system.System.{System}
 use Rattle.isl_piece.specs.Row.{HoldsRow, coef_at}
 use Rattle.isl_piece.specs.System.{HoldsSystem, IsSystemWithin}
 
@@ -15,7 +15,7 @@ use Rattle.isl_piece.specs.System.{HoldsSystem, IsSystemWithin}
 abbrev pub rest_at : Row → ℕ → List ℤ → ℤ
 rest_at r col point = dot (remove r.coefs col) point +ℤ r.constant
 
--- a row of this kind and divisor does not depend on a column with the coefficient c
+-- a row of this kind and modulus does not depend on a column with the coefficient c
 abbrev pub IsFreeKind : RowKind → ℤ → ℤ → Type 0
 IsFreeKind Zero k c = c ≡ pos 0
 IsFreeKind AtLeast k c = c ≡ pos 0

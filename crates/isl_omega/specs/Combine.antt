@@ -1,11 +1,11 @@
 -- Sums of multiples of rows.
 use Rattle.std.specs.Prelude.{ℤ, ◌+ℤ◌, ◌*ℤ◌}
 use Rattle.isl_math.specs.Dot.{weighted_sum}
-use Rattle.isl_piece.specs.declared.constraint.RowKind.{RowKind}
-use Rattle.isl_piece.specs.declared.constraint.RowKind.TheVariants.{Zero, AtLeast, Divides, NotDivides}
-use Rattle.isl_piece.specs.declared.constraint.Row.{Row}
+use Rattle.isl_piece.specs.declared.row.RowKind.{RowKind}
+use Rattle.isl_piece.specs.declared.row.RowKind.TheVariants.{Zero, AtLeast, Divides, NotDivides}
+use Rattle.isl_piece.specs.declared.row.Row.{Row}
 
--- the divisor of m times a row: a congruence's is multiplied too
+-- the modulus of m times a row: a congruence's is multiplied too
 abbrev pub scaled_divisor : RowKind → ℤ → ℤ → ℤ
 scaled_divisor Zero m k = k
 scaled_divisor AtLeast m k = k

@@ -3,21 +3,21 @@ use Rattle.std.specs.Prelude.{◌≡◌, ◌↔◌, ℕ, ℤ, pos, ◌*ℤ◌, �
 use Rattle.isl_math.specs.Divide.{floor_div, floor_mod, IsRemainder}
 use Rattle.isl_math.specs.Gcd.{gcd_of}
 use Rattle.isl_piece.specs.Numbers.{reduced}
-use Rattle.isl_piece.specs.declared.constraint.RowKind.TheVariants.{Divides}
-use Rattle.isl_piece.specs.declared.constraint.Row.{Row}
+use Rattle.isl_piece.specs.declared.row.RowKind.TheVariants.{Divides}
+use Rattle.isl_piece.specs.declared.row.Row.{Row}
 use Rattle.isl_meter.specs.Gauge.{Gauge}
 use Rattle.isl_piece.specs.Row.{HoldsRow, IsWellFormed, IsRowWithin, coef_at}
 use Rattle.isl_piece.specs.System.{HoldRows}
 use Rattle.isl_omega.specs.Column.{IsFree}
 
--- a congruence with each number's remainder by its divisor in the number's place
+-- a congruence with each number's remainder by its modulus in the number's place
 abbrev pub reduced_row : Row → Row
 reduced_row r = record { kind = r.kind; coefs = reduced r.k r.coefs; constant = floor_mod r.constant r.k; k = r.k }
 
--- a congruence over so many columns with the divisor k, whose numbers are remainders by it
+-- a congruence over so many columns with the modulus k, whose numbers are remainders by it
 pub record IsReducedCongruence (columns : ℕ) (k : ℤ) (r : Row) : Type 0 where
   pub kind : r.kind ≡ Divides
-  pub divisor : r.k ≡ k
+  pub modulus : r.k ≡ k
   pub width : length r.coefs ≡ columns
   pub coefs : All (IsRemainder k) r.coefs
   pub constant : IsRemainder k r.constant
@@ -38,7 +38,7 @@ abbrev pub product_of_divisors : List Row → ℤ
 product_of_divisors [] = pos 1
 product_of_divisors (r ∷ rows) = r.k *ℤ product_of_divisors rows
 
--- the period of a congruence in the column: its divisor without what it has in common with the coefficient
+-- the period of a congruence in the column: its modulus without what it has in common with the coefficient
 abbrev pub period : ℕ → Row → ℤ
 period col r = floor_div r.k (gcd_of (coef_at r col) r.k)
 

@@ -2,8 +2,8 @@
 use Rattle.std.specs.Prelude.{◌≡◌, ◌≢◌, ℕ, ◌≤◌, ℤ, pos, ◌+ℤ◌, ◌*ℤ◌, ◌<ℤ◌, List, Any, unsigned_abs}
 use Rattle.std.specs.List.{insert}
 use Rattle.isl_math.specs.Order.{abs_of}
-use Rattle.isl_piece.specs.declared.constraint.RowKind.TheVariants.{Zero, Divides}
-use Rattle.isl_piece.specs.declared.constraint.Row.{Row}
+use Rattle.isl_piece.specs.declared.row.RowKind.TheVariants.{Zero, Divides}
+use Rattle.isl_piece.specs.declared.row.Row.{Row}
 use Rattle.isl_piece.specs.Row.{value_at, coef_at}
 use Rattle.isl_omega.specs.Column.{HoldAt}
 use Rattle.isl_omega.specs.Combine.{combination}

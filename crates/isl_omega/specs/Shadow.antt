@@ -3,8 +3,8 @@ use Rattle.std.specs.Prelude.{◌≡◌, ◌↔◌, ◌⊎◌, Bool, true, false
 use Rattle.std.specs.List.{AllZip, insert}
 use Rattle.isl_math.specs.Divide.{floor_div}
 use Rattle.isl_meter.specs.Gauge.{Gauge, IsWithin}
-use Rattle.isl_piece.specs.declared.constraint.RowKind.TheVariants.{AtLeast}
-use Rattle.isl_piece.specs.declared.constraint.Row.{Row}
+use Rattle.isl_piece.specs.declared.row.RowKind.TheVariants.{AtLeast}
+use Rattle.isl_piece.specs.declared.row.Row.{Row}
 use Rattle.isl_piece.specs.Row.{HoldsRow, IsWellFormed, value_at, coef_at}
 use Rattle.isl_omega.specs.Column.{IsFree, HoldAt, rest_at}
 use Rattle.isl_omega.specs.Combine.{combination}

@@ -3,16 +3,16 @@ use Rattle.std.specs.Prelude.{◌≡◌, ℕ, zero, suc, Bool, true, false, ℤ,
 use Rattle.isl_math.specs.Divide as divide
 use Rattle.isl_math.specs.Divide.{floor_mod}
 use Rattle.isl_meter.specs.Gauge.{Gauge}
-use Rattle.isl_piece.specs.declared.constraint.RowKind.{RowKind}
-use Rattle.isl_piece.specs.declared.constraint.RowKind.TheVariants as kind
-use Rattle.isl_piece.specs.declared.constraint.Row.{Row}
+use Rattle.isl_piece.specs.declared.row.RowKind.{RowKind}
+use Rattle.isl_piece.specs.declared.row.RowKind.TheVariants as kind
+use Rattle.isl_piece.specs.declared.row.Row.{Row}
 use Rattle.isl_piece.specs.Row.{coef_at, IsWellFormed, IsRowWithin}
 use Rattle.isl_omega.specs.Column.{HoldAt, IsFree}
 use Rattle.isl_omega.specs.declared.sides.Side.{Side}
 use Rattle.isl_omega.specs.declared.sides.Side.TheVariants.{Lower, Upper, Divides, Apart, Free}
 use Rattle.isl_omega.specs.declared.sides.Sides.{Sides}
 
--- a congruence depends on the column where its divisor leaves something of the coefficient
+-- a congruence depends on the column where its modulus leaves something of the coefficient
 abbrev pub unless_multiple : Side → ℤ → Side
 unless_multiple side (pos zero) = Free
 unless_multiple side (pos (suc n)) = side

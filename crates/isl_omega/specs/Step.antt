@@ -2,8 +2,8 @@
 use Rattle.std.specs.Prelude.{◌≡◌, ◌↔◌, ℕ, ◌-◌, ◌≤◌, ℤ, pos, neg_ℤ, ◌*ℤ◌, ◌≤ℤ◌, ◌<ℤ◌, List, [], ◌∷◌, ◌++◌, All, length, map, replicate, slice_set}
 use Rattle.std.specs.List.{AllZip}
 use Rattle.isl_meter.specs.Gauge.{Gauge, IsWithin}
-use Rattle.isl_piece.specs.declared.constraint.RowKind.TheVariants as kind
-use Rattle.isl_piece.specs.declared.constraint.Row.{Row}
+use Rattle.isl_piece.specs.declared.row.RowKind.TheVariants as kind
+use Rattle.isl_piece.specs.declared.row.Row.{Row}
 use Rattle.isl_piece.specs.Row.{IsRowWithin, coef_at}
 use Rattle.isl_omega.specs.Congruence.{product_of_divisors, product_of_periods}
 use Rattle.isl_omega.specs.Sides.{AreSided, SidesHold, on_side}
@@ -12,11 +12,11 @@ use Rattle.isl_omega.specs.Tighten.{IsLessened}
 use Rattle.isl_omega.specs.declared.sides.Side.TheVariants.{Apart, Free}
 use Rattle.isl_omega.specs.declared.sides.Sides.{Sides}
 
--- the congruence with the scale for its divisor: where it holds, the progression has numbers
+-- the congruence with the scale for its modulus: where it holds, the progression has numbers
 abbrev pub within_scale : Row → ℤ → Row
 within_scale one scale = record { kind = one.kind; coefs = one.coefs; constant = one.constant; k = scale }
 
--- the sides with a progression in the column's place: bounds stay bounds; a row that a divisor must not divide may become free; what the
+-- the sides with a progression in the column's place: bounds stay bounds; a row that a modulus must not divide may become free; what the
 -- congruences say of the other columns is free
 pub record AreMovedTo (g : Gauge) (columns col : ℕ) (one : Row) (others : List Row) (scale : ℤ) (offsets : Row) (old new : Sides) : Type 0 where
   pub lowers : AllZip (IsMovedBound columns col scale offsets) old.lowers new.lowers

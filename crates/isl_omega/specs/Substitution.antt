@@ -4,8 +4,8 @@ use Rattle.std.specs.List.{insert}
 use Rattle.isl_math.specs.Divide.{Divides, floor_mod}
 use Rattle.isl_math.specs.Dot.{weighted_sum}
 use Rattle.isl_piece.specs.Numbers.{reduced}
-use Rattle.isl_piece.specs.declared.constraint.RowKind.TheVariants.{Zero, AtLeast}
-use Rattle.isl_piece.specs.declared.constraint.Row.{Row}
+use Rattle.isl_piece.specs.declared.row.RowKind.TheVariants.{Zero, AtLeast}
+use Rattle.isl_piece.specs.declared.row.Row.{Row}
 use Rattle.isl_piece.specs.Row.{HoldsRow, IsWellFormed, IsRowUpTo, coef_at}
 use Rattle.isl_omega.specs.Column.{rest_at}
 use Rattle.isl_omega.specs.Combine.{combination}
@@ -19,12 +19,12 @@ pub record AreProgressionParts (c k g d : ℤ) : Type 0 where
   pub inverse : Divides modulus.quotient (coefficient.quotient *ℤ d +ℤ pos 1)
   pub small : unsigned_abs d ≤ unsigned_abs k
 
--- factor times a congruence's numbers, each reduced by its divisor
+-- factor times a congruence's numbers, each reduced by its modulus
 abbrev pub offsets_of : ℤ → Row → Row
 offsets_of factor r =
     record { kind = Zero; coefs = reduced r.k (weighted_sum factor r.coefs (pos 0) r.coefs); constant = floor_mod (factor *ℤ r.constant) r.k; k = pos 1 }
 
--- where the congruence `one` with the divisor k holds with x at the column, scale x is k y and what `offsets` has beside the column, for
+-- where the congruence `one` with the modulus k holds with x at the column, scale x is k y and what `offsets` has beside the column, for
 -- some y; and each y gives such an x where scale divides what stands beside the column. `offsets` has k - scale at the column
 pub record IsProgressionOf (columns col : ℕ) (one : Row) (scale : ℤ) (offsets : Row) : Type 0 where
   pub positive : pos 0 <ℤ scale
@@ -39,7 +39,7 @@ pub record IsProgressionOf (columns col : ℕ) (one : Row) (scale : ℤ) (offset
 abbrev pub substituted : ℤ → Row → ℕ → Row → Row
 substituted scale offsets col r = combination scale r (coef_at r col) offsets
 
--- what a coefficient at the column is multiplied by: the divisor of the congruence
+-- what a coefficient at the column is multiplied by: the modulus of the congruence
 abbrev pub multiplier : ℤ → Row → ℕ → ℤ
 multiplier scale offsets col = scale +ℤ coef_at offsets col
 

@@ -1,7 +1,7 @@
 -- Rows that are at least 0, divided as far as they go.
 use Rattle.std.specs.Prelude.{◌≡◌, ◌↔◌, ℕ, ◌<◌, ◌≤◌, ℤ, pos, ◌<ℤ◌, List, unsigned_abs}
-use Rattle.isl_piece.specs.declared.constraint.RowKind.TheVariants.{AtLeast}
-use Rattle.isl_piece.specs.declared.constraint.Row.{Row}
+use Rattle.isl_piece.specs.declared.row.RowKind.TheVariants.{AtLeast}
+use Rattle.isl_piece.specs.declared.row.Row.{Row}
 use Rattle.isl_piece.specs.Row.{HoldsRow, IsWellFormed, IsRowUpTo, coef_at}
 
 -- d has the sign of c, and no greater magnitude

@@ -105,7 +105,7 @@ pub fn weighted_without(
     Ok(coefs)
 }
 
-// The divisor of `m` times a row.
+// The modulus of `m` times a row.
 fn divisor_of(row: &Row, m: Int, meter: &mut Meter) -> Result<Int, Overflow>
     requires m_within { IsWithin meter.old m }
     requires row_within { IsRowWithin meter.old row.now }
@@ -148,7 +148,7 @@ pub(crate) fn combined(
         other.coefs.as_slice(),
         meter,
     )?;
-    let sum = sum_of(m, row.offset(), n, other.offset(), meter)?;
+    let sum = sum_of(m, row.constant(), n, other.constant(), meter)?;
     let k = divisor_of(row, m, meter)?;
     Ok(Row::new(row.kind, coefs, sum, k))
 }

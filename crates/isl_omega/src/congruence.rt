@@ -4,7 +4,7 @@ ghost use Rattle.std.specs.Prelude.{◌≡◌, ◌<◌, ◌*ℤ◌, ◌<ℤ◌, 
 ghost use Rattle.isl_meter.specs.Gauge.{IsWithin, IsCutUpTo};
 ghost use Rattle.isl_piece.specs.Numbers.{reduced};
 ghost use Rattle.isl_piece.specs.Row.{IsWellFormed, IsRowWithin, coef_at};
-ghost use Rattle.isl_piece.specs.declared.constraint.RowKind.TheVariants.{Divides};
+ghost use Rattle.isl_piece.specs.declared.row.RowKind.TheVariants.{Divides};
 ghost use Rattle.isl_omega.specs.Congruence.{reduced_row, IsReducedCongruence, SayTheSame, AreMerged, IsScaledTo, AreJoined, AreMergedTo};
 
 use crate::combine::combined;
@@ -21,7 +21,7 @@ pub(crate) fn remainders(
     meter: &Meter,
 ) -> Result<Coefs, AllocFailed<Int>>
     requires within { IsWithin meter.now k }
-    requires divisor { pos 0 <ℤ k }
+    requires modulus { pos 0 <ℤ k }
     ensures { IfOk result (λ coefs. (coefs ≡ reduced k numbers.now) × All (IsWithin meter.now) coefs) }
 {
     let mut coefs = Coefs::new(alloc);
@@ -31,18 +31,18 @@ pub(crate) fn remainders(
     Ok(coefs)
 }
 
-// The congruence with its numbers reduced by its divisor.
+// The congruence with its numbers reduced by its modulus.
 fn reduced_copy(alloc: Global, row: &Row, meter: &Meter) -> Result<Row, AllocFailed<Int>>
     requires within { IsWithin meter.now row.now.k }
-    requires divisor { pos 0 <ℤ row.now.k }
+    requires modulus { pos 0 <ℤ row.now.k }
     ensures { IfOk result (λ small. (small ≡ reduced_row row.now) × IsRowWithin meter.now small) }
 {
     let k = row.modulus();
     let coefs = remainders(alloc, row.coefs.as_slice(), k, meter)?;
-    Ok(Row::new(row.kind, coefs, row.offset().modulo(k, meter), k))
+    Ok(Row::new(row.kind, coefs, row.constant().modulo(k, meter), k))
 }
 
-// The remainder of one congruence by another, of the same divisor, at the column.
+// The remainder of one congruence by another, of the same modulus, at the column.
 fn remainder(
     alloc: Global,
     p: &Row,
@@ -67,7 +67,7 @@ fn remainder(
     Ok(reduced_copy(alloc, &rest, meter)?)
 }
 
-// Two congruences of one divisor, so that only the first depends on the column: Euclid's algorithm on their
+// Two congruences of one modulus, so that only the first depends on the column: Euclid's algorithm on their
 // coefficients.
 fn merged_pair(
     alloc: Global,

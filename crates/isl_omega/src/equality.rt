@@ -23,9 +23,9 @@ fn factors(pivot: Int, own: Int, meter: &Meter) -> (Int, Int)
     ensures first_within { IsWithin meter.now result.0 }
     ensures second_within { IsWithin meter.now result.1 }
 {
-    let divisor = pivot.gcd(own, meter);
-    let m = pivot.abs(meter).floor_div(divisor, meter);
-    let n = own.times_sign_of(pivot, meter).floor_div(divisor, meter);
+    let modulus = pivot.gcd(own, meter);
+    let m = pivot.abs(meter).floor_div(modulus, meter);
+    let n = own.times_sign_of(pivot, meter).floor_div(modulus, meter);
     (m, n.neg(meter))
 }
 
@@ -82,7 +82,7 @@ fn divisibility(alloc: Global, fixed: &Row, col: usize, meter: &Meter) -> Result
     Ok(Row::new(
         RowKind::Divides,
         fixed.coefs.copy(alloc)?,
-        fixed.offset(),
+        fixed.constant(),
         k,
     ))
 }

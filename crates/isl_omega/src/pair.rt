@@ -3,8 +3,8 @@
 ghost use Rattle.std.specs.Prelude.{◌≡◌, ◌<◌, pos, ◌-ℤ◌, ◌*ℤ◌, neg_ℤ, ◌<ℤ◌, ℤ, List, IsTrue, IfOk, MatchResult, ◌≢◌, ◌^◌, ◌≤◌, ◌+◌, ℕ, unsigned_abs, IfErr};
 ghost use Rattle.isl_math.specs.Divide.{IsGcdOf};
 ghost use Rattle.isl_meter.specs.Gauge.{IsWithin, IsCutUpTo};
-ghost use Rattle.isl_piece.specs.declared.constraint.RowKind.TheVariants.{AtLeast};
-ghost use Rattle.isl_piece.specs.Row.{HoldsRow, HasDivisor, IsRowWithin, coef_at, IsRowUpTo};
+ghost use Rattle.isl_piece.specs.declared.row.RowKind.TheVariants.{AtLeast};
+ghost use Rattle.isl_piece.specs.Row.{HoldsRow, HasModulus, IsRowWithin, coef_at, IsRowUpTo};
 ghost use Rattle.isl_omega.specs.Shadow.{ceiling, IsRealRow, IsDarkRow, IsExact};
 ghost use Rattle.isl_omega.specs.Sides.{IsLower, IsUpper};
 ghost use Rattle.isl_omega.specs.Magnitude.{IsNoOverflow};
@@ -21,33 +21,33 @@ pub(crate) struct Pair {
     pub exact: bool,
 }
 
-// (a - 1)(b - 1) / divisor, rounded up.
-fn slack(a: Int, b: Int, divisor: Int, meter: &mut Meter) -> Result<Int, Overflow>
-    requires positive { pos 0 <ℤ divisor }
-    requires within { IsWithin meter.old divisor }
+// (a - 1)(b - 1) / modulus, rounded up.
+fn slack(a: Int, b: Int, modulus: Int, meter: &mut Meter) -> Result<Int, Overflow>
+    requires positive { pos 0 <ℤ modulus }
+    requires within { IsWithin meter.old modulus }
     ensures exact { MatchResult result
-        (λ s. (s ≡ ceiling ((a -ℤ pos 1) *ℤ (b -ℤ pos 1)) divisor) × IsWithin meter.old s × (meter.new ≡ meter.old))
+        (λ s. (s ≡ ceiling ((a -ℤ pos 1) *ℤ (b -ℤ pos 1)) modulus) × IsWithin meter.old s × (meter.new ≡ meter.old))
         (λ _. IsCutUpTo (pos 0) meter.old meter.new Cut.Overflow) }
     ensures small { meter.old.bits ≡ 127 → unsigned_abs a ≤ 2 ^ 62 → unsigned_abs b ≤ 2 ^ 62 → IfErr result (λ _. ⊥) }
 {
     let m = a.sub(Int::ONE, meter)?;
     let n = b.sub(Int::ONE, meter)?;
     let product = m.mul(n, meter)?;
-    Ok(product.neg(meter).floor_div(divisor, meter).neg(meter))
+    Ok(product.neg(meter).floor_div(modulus, meter).neg(meter))
 }
 
 fn has_same_form(a: &Row, b: &Row) -> bool
     ensures { IsTrue result → (a.now.coefs ≡ b.now.coefs) × (a.now.constant ≡ b.now.constant) }
 {
-    a.coefs.as_slice() == b.coefs.as_slice() && a.offset() == b.offset()
+    a.coefs.as_slice() == b.coefs.as_slice() && a.constant() == b.constant()
 }
 
 // Whether the normal forms show that `dark` holds wherever `real` does.
 fn is_tight(alloc: Global, real: &Row, dark: &Row, meter: &Meter) -> Result<bool, AllocError>
     requires real_kind { real.now.kind ≡ AtLeast }
     requires dark_kind { dark.now.kind ≡ AtLeast }
-    requires real_divisor { HasDivisor real.now.kind real.now.k }
-    requires dark_divisor { HasDivisor dark.now.kind dark.now.k }
+    requires real_divisor { HasModulus real.now.kind real.now.k }
+    requires dark_divisor { HasModulus dark.now.kind dark.now.k }
     requires real_within { IsRowWithin meter.now real.now }
     requires dark_within { IsRowWithin meter.now dark.now }
     ensures { IfOk result (λ tight. IsTrue tight → (xs : List ℤ) → HoldsRow real.now xs → HoldsRow dark.now xs) }
@@ -69,22 +69,22 @@ fn real_row(
     upper: &Row,
     columns: usize,
     col: usize,
-    divisor: Int,
+    modulus: Int,
     meter: &mut Meter,
 ) -> Result<Row, Cut>
     requires lower { IsLower meter.old columns col lower.now }
     requires upper { IsUpper meter.old columns col upper.now }
     requires col_in { col < columns }
-    requires gcd { IsGcdOf (coef_at lower.now col) (neg_ℤ (coef_at upper.now col)) divisor }
-    requires within { IsWithin meter.old divisor }
+    requires gcd { IsGcdOf (coef_at lower.now col) (neg_ℤ (coef_at upper.now col)) modulus }
+    requires within { IsWithin meter.old modulus }
     ensures exact { MatchResult result
-        (λ real. IsRealRow columns col lower.now upper.now divisor real × IsRowWithin meter.old real × (meter.new ≡ meter.old))
+        (λ real. IsRealRow columns col lower.now upper.now modulus real × IsRowWithin meter.old real × (meter.new ≡ meter.old))
         (λ cut. IsCutUpTo (pos 0) meter.old meter.new cut) }
     ensures small { meter.old.bits ≡ 127 → IsRowUpTo (2 ^ 62) lower.now → IsRowUpTo (2 ^ 62) upper.now
         → MatchResult result (IsRowUpTo (2 ^ 125)) (λ cut. cut ≢ Cut.Overflow) }
 {
-    let m = lower.coefs.get(col).floor_div(divisor, meter);
-    let n = upper.coefs.get(col).neg(meter).floor_div(divisor, meter);
+    let m = lower.coefs.get(col).floor_div(modulus, meter);
+    let n = upper.coefs.get(col).neg(meter).floor_div(modulus, meter);
     let real = combined(alloc, n, lower, m, upper, meter)?;
     Ok(real)
 }
@@ -101,7 +101,7 @@ pub fn lowered(alloc: Global, row: &Row, by: Int, meter: &mut Meter) -> Result<R
         (λ cut. IsCutUpTo (pos 0) meter.old meter.new cut) }
     ensures small { (u w : ℕ) → unsigned_abs by ≤ u → IsRowUpTo w row.now → w + u < 2 ^ meter.old.bits → IsNoOverflow result }
 {
-    let constant = row.offset().sub(by, meter)?;
+    let constant = row.constant().sub(by, meter)?;
     Ok(Row::new(row.kind, row.coefs.copy(alloc)?, constant, row.modulus()))
 }
 
@@ -126,9 +126,9 @@ impl Pair {
     {
         let a = lower.coefs.get(col);
         let b = upper.coefs.get(col).neg(meter);
-        let divisor = a.gcd(b, meter);
-        let real = real_row(alloc, lower, upper, columns, col, divisor, meter)?;
-        let by = slack(a, b, divisor, meter)?;
+        let modulus = a.gcd(b, meter);
+        let real = real_row(alloc, lower, upper, columns, col, modulus, meter)?;
+        let by = slack(a, b, modulus, meter)?;
         let dark = lowered(alloc, &real, by, meter)?;
         let exact = is_tight(alloc, &real, &dark, meter)?;
         Ok(Pair { dark, exact })

@@ -14,9 +14,9 @@ pub enum Side {
     Lower,
     /// At least 0, with a coefficient below 0.
     Upper,
-    /// A congruence whose divisor does not divide the coefficient.
+    /// A congruence whose modulus does not divide the coefficient.
     Divides,
-    /// The same of a divisor that must not divide.
+    /// The same of a modulus that must not divide.
     Apart,
     /// Nothing.
     Free,
@@ -55,7 +55,7 @@ impl Side {
     #[tactic(auto, using(std::proofs::lemmas::Grind::common_steps, crate::proofs::SideLemmas::multiple_cases))]
     fn unless_multiple(self, coef: Int, k: Int, meter: &Meter) -> Self
         requires within { IsWithin meter.now k }
-        requires divisor { pos 0 <ℤ k }
+        requires modulus { pos 0 <ℤ k }
         ensures { result ≡ unless_multiple self (floor_mod coef k) }
     {
         if coef.modulo(k, meter).is_zero() {

@@ -2,7 +2,7 @@
 
 ghost use Rattle.std.specs.Prelude.{◌≡◌, ◌<◌, ◌++◌, ◌∷◌, [], pos, ◌<ℤ◌, All, length, IfOk, IfErr, MatchResult, ◌≢◌, ◌^◌, ◌≤◌, unsigned_abs};
 ghost use Rattle.isl_meter.specs.Gauge.{IsWithin, IsCutUpTo};
-ghost use Rattle.isl_piece.specs.declared.constraint.Row.{Row};
+ghost use Rattle.isl_piece.specs.declared.row.Row.{Row};
 ghost use Rattle.isl_piece.specs.Row.{IsWellFormed, IsRowWithin, IsRowUpTo};
 ghost use Rattle.isl_omega.specs.Sides.{AreSided};
 ghost use Rattle.isl_omega.specs.Step.{IsStepOf};
@@ -93,7 +93,7 @@ impl Progression {
         })
     }
 
-    // Where there are numbers: the congruence with the scale for its divisor.
+    // Where there are numbers: the congruence with the scale for its modulus.
     fn within_scale(&self, alloc: Global) -> Result<Row, AllocError>
         ensures { IfOk result (λ row. row ≡ within_scale self.now.one self.now.substitution.scale) }
     {
@@ -101,7 +101,7 @@ impl Progression {
         Ok(Row::new(
             one.kind,
             one.coefs.copy(alloc)?,
-            one.offset(),
+            one.constant(),
             self.substitution.scale,
         ))
     }

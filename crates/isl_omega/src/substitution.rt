@@ -3,7 +3,7 @@
 ghost use Rattle.std.specs.Prelude.{◌≡◌, ◌<◌, ◌<ℤ◌, pos, All, length, MatchResult, ◌≢◌, ◌^◌, ◌≤◌, unsigned_abs};
 ghost use Rattle.isl_meter.specs.Gauge.{IsWithin, IsCutUpTo};
 ghost use Rattle.isl_piece.specs.Row.{IsRowWithin, IsWellFormed, IsRowUpTo};
-ghost use Rattle.isl_piece.specs.declared.constraint.RowKind.TheVariants.{Divides};
+ghost use Rattle.isl_piece.specs.declared.row.RowKind.TheVariants.{Divides};
 ghost use Rattle.isl_omega.specs.Substitution.{AreProgressionParts, offsets_of, IsProgressionOf, substituted};
 ghost use Rattle.isl_omega.specs.Magnitude.{IsNoOverflow};
 
@@ -15,18 +15,18 @@ use isl_piece::{Row, RowKind, Rows};
 use std::alloc::Global;
 
 /// The numbers that a congruence allows at a column: `scale` times each of them is the congruence's
-/// divisor times any whole number, and what `offsets` has beside the column.
+/// modulus times any whole number, and what `offsets` has beside the column.
 #[derive(Drop)]
 pub struct Substitution {
     pub scale: Int,
     pub offsets: Row,
 }
 
-// The scale of the progression of a coefficient and a divisor, and what to multiply offsets by.
+// The scale of the progression of a coefficient and a modulus, and what to multiply offsets by.
 fn parts(coef: Int, k: Int, meter: &Meter) -> (Int, Int)
     requires coef_within { IsWithin meter.now coef }
     requires within { IsWithin meter.now k }
-    requires divisor { pos 0 <ℤ k }
+    requires modulus { pos 0 <ℤ k }
     ensures are { AreProgressionParts coef k result.0 result.1 }
     ensures scale_within { IsWithin meter.now result.0 }
     ensures factor_within { IsWithin meter.now result.1 }
@@ -38,11 +38,11 @@ fn parts(coef: Int, k: Int, meter: &Meter) -> (Int, Int)
     (scale, factor.neg(meter))
 }
 
-// `factor` times a congruence's numbers, each reduced by its divisor.
+// `factor` times a congruence's numbers, each reduced by its modulus.
 fn offsets(alloc: Global, factor: Int, one: &Row, meter: &mut Meter) -> Result<Row, Cut>
     requires factor_within { IsWithin meter.old factor }
     requires within { IsRowWithin meter.old one.now }
-    requires divisor { pos 0 <ℤ one.now.k }
+    requires modulus { pos 0 <ℤ one.now.k }
     ensures exact { MatchResult result
         (λ row. (row ≡ offsets_of factor one.now) × IsRowWithin meter.old row × (meter.new ≡ meter.old))
         (λ cut. IsCutUpTo (pos 0) meter.old meter.new cut) }
@@ -52,7 +52,7 @@ fn offsets(alloc: Global, factor: Int, one: &Row, meter: &mut Meter) -> Result<R
     let numbers = one.coefs.as_slice();
     let coefs = weighted(alloc, factor, numbers, Int::ZERO, numbers, meter)?;
     let small = remainders(alloc, coefs.as_slice(), k, meter)?;
-    let constant = factor.mul(one.offset(), meter)?.modulo(k, meter);
+    let constant = factor.mul(one.constant(), meter)?.modulo(k, meter);
     Ok(Row::new(RowKind::Zero, small, constant, Int::ONE))
 }
 
@@ -90,7 +90,7 @@ impl Substitution {
 impl Substitution {
     ghost use Rattle.std.specs.Prelude.{ℤ, map};
     ghost use Rattle.std.specs.List.{AllZip};
-    ghost use Rattle.isl_piece.specs.declared.constraint.RowKind.TheVariants.{AtLeast};
+    ghost use Rattle.isl_piece.specs.declared.row.RowKind.TheVariants.{AtLeast};
     ghost use Rattle.isl_omega.specs.Sides.{IsProper};
     ghost use Rattle.isl_omega.specs.Substitution.{IsMovedBound};
 

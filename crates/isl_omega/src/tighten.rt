@@ -1,7 +1,7 @@
 //! Bounds divided as far as they go.
 
 ghost use Rattle.std.specs.Prelude.{◌≡◌, IfOk};
-ghost use Rattle.isl_piece.specs.declared.constraint.RowKind.TheVariants.{AtLeast};
+ghost use Rattle.isl_piece.specs.declared.row.RowKind.TheVariants.{AtLeast};
 ghost use Rattle.isl_piece.specs.Row.{IsRowWithin, IsWellFormed};
 ghost use Rattle.isl_omega.specs.Tighten.{IsTightened};
 

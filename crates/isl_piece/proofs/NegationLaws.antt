@@ -9,10 +9,10 @@ use Rattle.isl_math.proofs.Ring.{linear}
 use Rattle.isl_math.proofs.DotLaws.{dot-scaled}
 use Rattle.isl_meter.specs.declared.Cut.{Cut}
 use Rattle.isl_meter.specs.Gauge.{Gauge, IsWithin}
-use Rattle.isl_piece.specs.declared.constraint.RowKind.{RowKind}
-use Rattle.isl_piece.specs.declared.constraint.RowKind.TheVariants.{Zero, AtLeast, Divides, NotDivides}
-use Rattle.isl_piece.specs.declared.constraint.Row.{Row}
-use Rattle.isl_piece.specs.Row.{HoldsRow, HoldsValue, HasDivisor, IsRowWithin, IsWellFormed}
+use Rattle.isl_piece.specs.declared.row.RowKind.{RowKind}
+use Rattle.isl_piece.specs.declared.row.RowKind.TheVariants.{Zero, AtLeast, Divides, NotDivides}
+use Rattle.isl_piece.specs.declared.row.Row.{Row}
+use Rattle.isl_piece.specs.Row.{HoldsRow, HoldsValue, HasModulus, IsRowWithin, IsWellFormed}
 use Rattle.isl_piece.specs.Normal.{bound}
 use Rattle.isl_piece.specs.Negation.{above, below, negated_form, negation_of, IsCutFor, ConstantPassesLimit}
 use Rattle.isl_piece.proofs.ContentLaws.{length-scaled}
@@ -38,7 +38,7 @@ value_above cs c xs = ((λ h. omega (arith, linear)), (λ h. omega (arith, linea
 value_below : (cs : List ℤ) (c : ℤ) (xs : List ℤ) → pos 0 ≤ℤ (dot (scaled (negsuc 0) cs) xs +ℤ (neg_ℤ c -ℤ pos 1)) ↔ ((dot cs xs +ℤ c) ≤ℤ negsuc 0)
 value_below cs c xs = let e = dot-scaled (negsuc 0) cs xs in ((λ h. omega (arith, linear)), (λ h. omega (arith, linear)))
 
-negated_holds : (kind : RowKind) (cs : List ℤ) (c k : ℤ) (xs : List ℤ) → HasDivisor kind k → Any (λ r. HoldsRow r xs) (negated_form kind cs c k) ↔ (¬ HoldsValue kind k (dot cs xs +ℤ c))
+negated_holds : (kind : RowKind) (cs : List ℤ) (c k : ℤ) (xs : List ℤ) → HasModulus kind k → Any (λ r. HoldsRow r xs) (negated_form kind cs c k) ↔ (¬ HoldsValue kind k (dot cs xs +ℤ c))
 negated_holds Zero cs c k xs h = (
   (λ a e. elim (Any-cases (λ r. HoldsRow r xs) (above cs c) (below cs c ∷ []) a) [
     | inl p ↦ let q = (value_above cs c xs).0 p in omega (arith, linear)
@@ -70,7 +70,7 @@ negated_holds NotDivides cs c k xs h =
       (λ n. elim (divides_cases k (dot cs xs +ℤ c) h) [ inl d ↦ Any-first (λ s. HoldsRow s xs) r [] d | inr m ↦ absurd (n m) ]),
     )
 
-pub negation_holds : (r : Row) (xs : List ℤ) → HasDivisor r.kind r.k → Any (λ s. HoldsRow s xs) (negation_of r) ↔ (¬ HoldsRow r xs)
+pub negation_holds : (r : Row) (xs : List ℤ) → HasModulus r.kind r.k → Any (λ s. HoldsRow s xs) (negation_of r) ↔ (¬ HoldsRow r xs)
 negation_holds r xs h = negated_holds r.kind r.coefs r.constant r.k xs h
 
 -- ---- the negation's rows
@@ -85,7 +85,7 @@ negative_within g (c ∷ cs) h = All-cons (IsWithin g) (negsuc 0 *ℤ c) (scaled
 bound_within : (g : Gauge) (cs : List ℤ) (c k : ℤ) → k ≡ pos 1 → IsWithin g k → All (IsWithin g) cs → IsWithin g c → IsRowWithin g (bound cs c)
 bound_within g cs c k e h all w = record { coefs = all; constant = w; k = rw e at h }
 
-negated_within : (g : Gauge) (kind : RowKind) (cs : List ℤ) (c k : ℤ) → HasDivisor kind k → All (IsWithin g) cs → IsWithin g c → IsWithin g k → All (λ r. IsWithin g r.constant) (negated_form kind cs c k) → All (IsRowWithin g) (negated_form kind cs c k)
+negated_within : (g : Gauge) (kind : RowKind) (cs : List ℤ) (c k : ℤ) → HasModulus kind k → All (IsWithin g) cs → IsWithin g c → IsWithin g k → All (λ r. IsWithin g r.constant) (negated_form kind cs c k) → All (IsRowWithin g) (negated_form kind cs c k)
 negated_within g Zero cs c k d h w l a =
     All-cons (IsRowWithin g) (above cs c) (below cs c ∷ []) (bound_within g cs (c -ℤ pos 1) k d l h (All-head (λ r. IsWithin g r.constant) (above cs c) (below cs c ∷ []) a))
     (All-cons (IsRowWithin g) (below cs c) [] (bound_within g (scaled (negsuc 0) cs) (neg_ℤ c -ℤ pos 1) k d l (negative_within g cs h) (All-head (λ r. IsWithin g r.constant) (below cs c) [] (All-tail (λ r. IsWithin g r.constant) (above cs c) (below cs c ∷ []) a))) (All-nil (IsRowWithin g)))
@@ -94,22 +94,22 @@ negated_within g AtLeast cs c k d h w l a =
 negated_within g Divides cs c k d h w l a = let r : Row = record { kind = NotDivides; coefs = cs; constant = c; k = k } in All-cons (IsRowWithin g) r [] (record { coefs = h; constant = w; k = l }) (All-nil (IsRowWithin g))
 negated_within g NotDivides cs c k d h w l a = let r : Row = record { kind = Divides; coefs = cs; constant = c; k = k } in All-cons (IsRowWithin g) r [] (record { coefs = h; constant = w; k = l }) (All-nil (IsRowWithin g))
 
-negated_shape : (n : ℕ) (kind : RowKind) (cs : List ℤ) (c k : ℤ) → HasDivisor kind k → length cs ≡ n → All (IsWellFormed n) (negated_form kind cs c k)
+negated_shape : (n : ℕ) (kind : RowKind) (cs : List ℤ) (c k : ℤ) → HasModulus kind k → length cs ≡ n → All (IsWellFormed n) (negated_form kind cs c k)
 negated_shape n Zero cs c k d e =
-    All-cons (IsWellFormed n) (above cs c) (below cs c ∷ []) (record { width = e; divisor = refl })
-    (All-cons (IsWellFormed n) (below cs c) [] (record { width = length-scaled (negsuc 0) cs ∙ e; divisor = refl }) (All-nil (IsWellFormed n)))
-negated_shape n AtLeast cs c k d e = All-cons (IsWellFormed n) (below cs c) [] (record { width = length-scaled (negsuc 0) cs ∙ e; divisor = refl }) (All-nil (IsWellFormed n))
-negated_shape n Divides cs c k d e = let r : Row = record { kind = NotDivides; coefs = cs; constant = c; k = k } in All-cons (IsWellFormed n) r [] (record { width = e; divisor = d }) (All-nil (IsWellFormed n))
-negated_shape n NotDivides cs c k d e = let r : Row = record { kind = Divides; coefs = cs; constant = c; k = k } in All-cons (IsWellFormed n) r [] (record { width = e; divisor = d }) (All-nil (IsWellFormed n))
+    All-cons (IsWellFormed n) (above cs c) (below cs c ∷ []) (record { width = e; modulus = refl })
+    (All-cons (IsWellFormed n) (below cs c) [] (record { width = length-scaled (negsuc 0) cs ∙ e; modulus = refl }) (All-nil (IsWellFormed n)))
+negated_shape n AtLeast cs c k d e = All-cons (IsWellFormed n) (below cs c) [] (record { width = length-scaled (negsuc 0) cs ∙ e; modulus = refl }) (All-nil (IsWellFormed n))
+negated_shape n Divides cs c k d e = let r : Row = record { kind = NotDivides; coefs = cs; constant = c; k = k } in All-cons (IsWellFormed n) r [] (record { width = e; modulus = d }) (All-nil (IsWellFormed n))
+negated_shape n NotDivides cs c k d e = let r : Row = record { kind = Divides; coefs = cs; constant = c; k = k } in All-cons (IsWellFormed n) r [] (record { width = e; modulus = d }) (All-nil (IsWellFormed n))
 
 -- ---- what was answered
 module _ (g h : Gauge) (r : Row) (result : Result (List Row) Cut)
     (exact : MatchResult result (λ rows. (rows ≡ negation_of r) × All (λ s. IsWithin g s.constant) rows × (h ≡ g)) (λ cut. IsCutFor (ConstantPassesLimit g (negation_of r)) g h cut)) where
-  pub negation_points : HasDivisor r.kind r.k → IfOk result (λ rows. (xs : List ℤ) → Any (λ s. HoldsRow s xs) rows ↔ (¬ HoldsRow r xs))
+  pub negation_points : HasModulus r.kind r.k → IfOk result (λ rows. (xs : List ℤ) → Any (λ s. HoldsRow s xs) rows ↔ (¬ HoldsRow r xs))
   negation_points d = MatchResult-weaker result exact (λ rows e xs. rw e.0 (negation_holds r xs d)) (λ cut e. tt)
 
-  pub negation_within : HasDivisor r.kind r.k → IsRowWithin g r → IfOk result (All (IsRowWithin g))
+  pub negation_within : HasModulus r.kind r.k → IsRowWithin g r → IfOk result (All (IsRowWithin g))
   negation_within d w = MatchResult-weaker result exact (λ rows e. rw e.0 (negated_within g r.kind r.coefs r.constant r.k d w.coefs w.constant w.k (rw e.0 at e.1))) (λ cut e. tt)
 
-  pub negation_shape : HasDivisor r.kind r.k → (n : ℕ) → length r.coefs ≡ n → IfOk result (All (IsWellFormed n))
+  pub negation_shape : HasModulus r.kind r.k → (n : ℕ) → length r.coefs ≡ n → IfOk result (All (IsWellFormed n))
   negation_shape d n e = MatchResult-weaker result exact (λ rows f. rw f.0 (negated_shape n r.kind r.coefs r.constant r.k d e)) (λ cut f. tt)

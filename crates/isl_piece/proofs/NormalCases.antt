@@ -11,7 +11,7 @@ use Rattle.isl_math.specs.Gcd.{content}
 use Rattle.isl_math.proofs.Ring.{linear}
 use Rattle.isl_math.proofs.DivideLaws.{divisor_positive, Divides-from_mod, mod-from_Divides}
 use Rattle.isl_math.proofs.GcdLaws.{IsContentOf-content}
-use Rattle.isl_piece.specs.declared.constraint.Row.{Row}
+use Rattle.isl_piece.specs.declared.row.Row.{Row}
 use Rattle.isl_piece.specs.Normal.{Verdict, Always, Never, Kept}
 use Rattle.isl_piece.specs.Numbers.{divided, reduced, is_multiple}
 use Rattle.isl_piece.specs.Normal.{normal_zero, normal_at_least, normal_divides, upright, bound, congruence, lesser, opposite_row, numbers_of}

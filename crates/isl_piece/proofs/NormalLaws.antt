@@ -2,10 +2,10 @@
 use Rattle.std.proofs.Common.{◌≡◌, ◌≢◌, ◌↔◌, inl, inr, refl, sym, ap, ◌∙◌, arith, ℕ, zero, suc, ℤ, List, [], ◌∷◌, get_or, map, fold, false, Option, Some, None, option_map, MatchOption, IfSome}
 use Rattle.std.specs.List.{All, AllPairs}
 use Rattle.std.proofs.lemmas.List.Elements.{All-nil, All-cons, All-head, All-tail, All-weaker, All-get_or}
-use Rattle.isl_piece.specs.declared.constraint.RowKind.TheVariants.{AtLeast}
-use Rattle.isl_piece.specs.declared.constraint.Row.{Row}
+use Rattle.isl_piece.specs.declared.row.RowKind.TheVariants.{AtLeast}
+use Rattle.isl_piece.specs.declared.row.Row.{Row}
 use Rattle.isl_piece.specs.Normal.{Verdict, Always, Never, Kept}
-use Rattle.isl_piece.specs.Row.{HoldsRow, HasDivisor, IsWellFormed, IsRowUpTo}
+use Rattle.isl_piece.specs.Row.{HoldsRow, HasModulus, IsWellFormed, IsRowUpTo}
 use Rattle.isl_piece.specs.System.{HoldRows}
 use Rattle.isl_piece.specs.Normal.{normal_row, kept_rows, same_bound, with_row, merged, normal_rows, IsNormal}
 use Rattle.isl_piece.proofs.PointLaws.{HoldsVerdict, normal_row_holds}
@@ -73,14 +73,14 @@ pub normal_rows_all : (P Q : Row → Type 0) → ((r : Row) → P r → IfKept Q
 normal_rows_all P Q f rows h = merged_some (All Q) (All Q) (λ kept g. fold_all Q [] kept (All-nil Q) g) (kept_rows (map normal_row rows)) (kept_rows_all Q (map normal_row rows) (verdicts_all P (IfKept Q) f rows h))
 
 -- the normal rows hold at the same points
-pub normal_rows_hold : (rows : List Row) (xs : List ℤ) → All (λ r. HasDivisor r.kind r.k) rows → HoldWhere (normal_rows rows) xs (HoldRows rows xs)
+pub normal_rows_hold : (rows : List Row) (xs : List ℤ) → All (λ r. HasModulus r.kind r.k) rows → HoldWhere (normal_rows rows) xs (HoldRows rows xs)
 normal_rows_hold rows xs h = by (kept_rows (map normal_row rows)) (HoldWhere-like (kept_rows (map normal_row rows)) xs (All (λ v. HoldsVerdict v xs) (map normal_row rows)) (HoldRows rows xs) (same rows h) (kept_rows_hold (map normal_row rows) xs))
   where
-    same : (rows : List Row) → All (λ r. HasDivisor r.kind r.k) rows → All (λ v. HoldsVerdict v xs) (map normal_row rows) ↔ HoldRows rows xs
+    same : (rows : List Row) → All (λ r. HasModulus r.kind r.k) rows → All (λ v. HoldsVerdict v xs) (map normal_row rows) ↔ HoldRows rows xs
     same [] h = ((λ g. All-nil (λ r. HoldsRow r xs)), (λ g. All-nil (λ v. HoldsVerdict v xs)))
     same (r ∷ rows) h =
-        let one = normal_row_holds r xs (All-head (λ s. HasDivisor s.kind s.k) r rows h) in
-        let rest = same rows (All-tail (λ s. HasDivisor s.kind s.k) r rows h) in (
+        let one = normal_row_holds r xs (All-head (λ s. HasModulus s.kind s.k) r rows h) in
+        let rest = same rows (All-tail (λ s. HasModulus s.kind s.k) r rows h) in (
           (λ g. All-cons (λ s. HoldsRow s xs) r rows (one.0 (All-head (λ v. HoldsVerdict v xs) (normal_row r) (map normal_row rows) g)) (rest.0 (All-tail (λ v. HoldsVerdict v xs) (normal_row r) (map normal_row rows) g))),
           (λ g. All-cons (λ v. HoldsVerdict v xs) (normal_row r) (map normal_row rows) (one.1 (All-head (λ s. HoldsRow s xs) r rows g)) (rest.1 (All-tail (λ s. HoldsRow s xs) r rows g))),
         )
@@ -112,19 +112,19 @@ at_pairs_with P R f (a ∷ rows) p h i zero d l m = absurd (omega arith)
 at_pairs_with P R f (a ∷ rows) p h zero (suc j) d l m = f a (get_or rows j d) (All-head P a rows p) (All-get_or P rows j d (omega arith) (All-tail P a rows p)) (All-get_or (λ b. same_bound a b ≡ false) rows j d (omega arith) h.0)
 at_pairs_with P R f (a ∷ rows) p h (suc i) (suc j) d l m = at_pairs_with P R f rows (All-tail P a rows p) h.1 i j d (omega arith) (omega arith)
 
-undominated : (a b : Row) → HasDivisor a.kind a.k → HasDivisor b.kind b.k → same_bound a b ≡ false → a.kind ≡ AtLeast → b.kind ≡ AtLeast → a.coefs ≢ b.coefs
+undominated : (a b : Row) → HasModulus a.kind a.k → HasModulus b.kind b.k → same_bound a b ≡ false → a.kind ≡ AtLeast → b.kind ≡ AtLeast → a.coefs ≢ b.coefs
 undominated a b p q f s t e =
     let m = rw s at p in
     let n = rw t at q in
     let x = same_bound-from a b (record { kind = s ∙ sym t; coefs = e; k = m ∙ sym n; constant = inl s }) in
     cc
 
-pub IsNormal-from : (rows : List Row) → All (λ r. normal_row r ≡ Kept r) rows → All (λ r. HasDivisor r.kind r.k) rows → AreApart rows → IsNormal rows
+pub IsNormal-from : (rows : List Row) → All (λ r. normal_row r ≡ Kept r) rows → All (λ r. HasModulus r.kind r.k) rows → AreApart rows → IsNormal rows
 IsNormal-from rows s d h = record {
   settled = s;
   contingent = λ k e l. IsContingent-settled (get_or rows k e) (d k e l) (s k e l);
   distinct = at_pairs (λ a b. a ≢ b) differ rows h;
-  undominated = at_pairs_with (λ r. HasDivisor r.kind r.k) (λ a b. a.kind ≡ AtLeast → b.kind ≡ AtLeast → a.coefs ≢ b.coefs) undominated rows d h;
+  undominated = at_pairs_with (λ r. HasModulus r.kind r.k) (λ a b. a.kind ≡ AtLeast → b.kind ≡ AtLeast → a.coefs ≢ b.coefs) undominated rows d h;
   itself = ap (option_map merged) (kept_rows_itself rows s) ∙ ap Some (merged_itself rows h);
 }
 
@@ -145,23 +145,23 @@ normal_rows_well_formed n rows h = normal_rows_all (IsWellFormed n) (IsWellForme
 pub normal_rows_normal : (n : ℕ) (rows : List Row) → All (IsWellFormed n) rows → IfSome (normal_rows rows) IsNormal
 normal_rows_normal n rows h =
     IfSome-three (All (λ r. normal_row r ≡ Kept r)) (All (IsWellFormed n)) AreApart IsNormal
-    (λ kept s w a. IsNormal-from kept s (All-weaker (IsWellFormed n) (λ r. HasDivisor r.kind r.k) (λ r d. d.divisor) kept w) a)
+    (λ kept s w a. IsNormal-from kept s (All-weaker (IsWellFormed n) (λ r. HasModulus r.kind r.k) (λ r d. d.modulus) kept w) a)
     (normal_rows rows)
-    (normal_rows_all (IsWellFormed n) (λ r. normal_row r ≡ Kept r) (λ r d. normal_row_settled r d.divisor) rows h)
+    (normal_rows_all (IsWellFormed n) (λ r. normal_row r ≡ Kept r) (λ r d. normal_row_settled r d.modulus) rows h)
     (normal_rows_well_formed n rows h)
     (normal_rows_apart rows)
 
 -- ---- no greater numbers
--- a row with a divisor of its kind and numbers up to b
+-- a row with a modulus of its kind and numbers up to b
 pub record IsFitRow (b : ℕ) (r : Row) : Type 0 where
-  pub divisor : HasDivisor r.kind r.k
+  pub modulus : HasModulus r.kind r.k
   pub up_to : IsRowUpTo b r
 
-pub normal_rows_up_to : (b : ℕ) (rows : List Row) → All (λ r. HasDivisor r.kind r.k) rows → All (IsRowUpTo b) rows → IfSome (normal_rows rows) (All (IsRowUpTo b))
-normal_rows_up_to b rows d h = normal_rows_all (IsFitRow b) (IsRowUpTo b) (λ r f. normal_row_up_to b r f.divisor f.up_to) rows (both rows d h)
+pub normal_rows_up_to : (b : ℕ) (rows : List Row) → All (λ r. HasModulus r.kind r.k) rows → All (IsRowUpTo b) rows → IfSome (normal_rows rows) (All (IsRowUpTo b))
+normal_rows_up_to b rows d h = normal_rows_all (IsFitRow b) (IsRowUpTo b) (λ r f. normal_row_up_to b r f.modulus f.up_to) rows (both rows d h)
   where
-    both : (rows : List Row) → All (λ r. HasDivisor r.kind r.k) rows → All (IsRowUpTo b) rows → All (IsFitRow b) rows
-    both rows d h k e l = record { divisor = d k e l; up_to = h k e l }
+    both : (rows : List Row) → All (λ r. HasModulus r.kind r.k) rows → All (IsRowUpTo b) rows → All (IsFitRow b) rows
+    both rows d h k e l = record { modulus = d k e l; up_to = h k e l }
 
 -- ---- row by row
 -- the normal rows, where some are kept already and the rest is still to come

@@ -11,13 +11,13 @@ use Rattle.isl_math.proofs.OrderLaws.{≡-from_*ℤ}
 use Rattle.isl_math.proofs.DivideLaws.{at_most_floor, exact_quotient, Divides_scaled, Divides-+ℤ, Divides-minus, Divides-neg_ℤ, Divides-same, Divides_trans, IsCongruent-floor_mod, IsCongruent-+ℤ, one-Divides}
 use Rattle.isl_math.proofs.DotLaws.{dot-scaled}
 use Rattle.isl_math.proofs.GcdLaws.{IsContentOf-content}
-use Rattle.isl_piece.specs.declared.constraint.RowKind.{RowKind}
-use Rattle.isl_piece.specs.declared.constraint.RowKind.TheVariants.{Zero, AtLeast, Divides, NotDivides}
-use Rattle.isl_piece.specs.declared.constraint.Row.{Row}
+use Rattle.isl_piece.specs.declared.row.RowKind.{RowKind}
+use Rattle.isl_piece.specs.declared.row.RowKind.TheVariants.{Zero, AtLeast, Divides, NotDivides}
+use Rattle.isl_piece.specs.declared.row.Row.{Row}
 use Rattle.isl_piece.specs.Normal.{Verdict, Always, Never, Kept}
 use Rattle.isl_piece.specs.Numbers.{divided, reduced, opposite, lead}
-use Rattle.isl_piece.specs.Row.{HoldsValue, HoldsRow, HasDivisor}
-use Rattle.isl_piece.specs.Normal.{normal_zero, normal_at_least, normal_divides, normal_form, normal_row, denied, upright, lesser}
+use Rattle.isl_piece.specs.Row.{HoldsValue, HoldsRow, HasModulus}
+use Rattle.isl_piece.specs.Normal.{normal_zero, normal_at_least, normal_divides, normal_form, normal_row, negated, upright, lesser}
 use Rattle.isl_piece.proofs.NumberLaws.{Divides-dot, dot-divided, dot-reduced, dot-opposite, positive-divided}
 use Rattle.isl_piece.proofs.ContentLaws.{content-divided, lead_not_zero, sign_not_zero}
 use Rattle.isl_piece.proofs.NormalCases.{content_positive, common_part, common_part-positive, divided_congruence, normal_zero_by, normal_at_least_by, normal_divides_by, lesser_by}
@@ -160,10 +160,10 @@ normal_divides_holds cs c k xs p = normal_divides_by (λ v. HoldsVerdict v xs �
     by_one {z = z} e = rw e (one-Divides z)
 
 -- ---- a form that k does not divide
-pub denied_holds : (v : Verdict) (xs : List ℤ) → ((r : Row) → v ≡ Kept r → r.kind ≡ Divides) → HoldsVerdict (denied v) xs ↔ (¬ HoldsVerdict v xs)
-denied_holds Always xs h = ((λ f. absurd f), (λ n. n tt))
-denied_holds Never xs h = ((λ _ f. f), (λ _. tt))
-denied_holds (Kept r) xs h = rw (h r refl) ((λ n. n), (λ n. n))
+pub negated_holds : (v : Verdict) (xs : List ℤ) → ((r : Row) → v ≡ Kept r → r.kind ≡ Divides) → HoldsVerdict (negated v) xs ↔ (¬ HoldsVerdict v xs)
+negated_holds Always xs h = ((λ f. absurd f), (λ n. n tt))
+negated_holds Never xs h = ((λ _ f. f), (λ _. tt))
+negated_holds (Kept r) xs h = rw (h r refl) ((λ n. n), (λ n. n))
 
 pub normal_divides-kind : (cs : List ℤ) (c k : ℤ) → pos 0 <ℤ k → (r : Row) → normal_divides cs c k ≡ Kept r → r.kind ≡ Divides
 normal_divides-kind cs c k p = normal_divides_by (λ v. (r : Row) → v ≡ Kept r → r.kind ≡ Divides) cs c k p
@@ -172,14 +172,14 @@ normal_divides-kind cs c k p = normal_divides_by (λ v. (r : Row) → v ≡ Kept
     (λ d n r e. lesser_by (λ s. s ≡ r → r.kind ≡ Divides) (divided_congruence cs c k) (λ f. sym (ap (λ (s : Row). s.kind) f)) (λ f. sym (ap (λ (s : Row). s.kind) f)) (cc))
 
 -- ---- any row
-normal_form_holds : (kind : RowKind) (cs : List ℤ) (c k : ℤ) (xs : List ℤ) → HasDivisor kind k → HoldsVerdict (normal_form kind cs c k) xs ↔ HoldsValue kind k (dot cs xs +ℤ c)
+normal_form_holds : (kind : RowKind) (cs : List ℤ) (c k : ℤ) (xs : List ℤ) → HasModulus kind k → HoldsVerdict (normal_form kind cs c k) xs ↔ HoldsValue kind k (dot cs xs +ℤ c)
 normal_form_holds Zero cs c k xs h = normal_zero_holds cs c xs
 normal_form_holds AtLeast cs c k xs h = normal_at_least_holds cs c xs
 normal_form_holds Divides cs c k xs h = normal_divides_holds cs c k xs h
 normal_form_holds NotDivides cs c k xs h =
     let e = normal_divides_holds cs c k xs h in
-    both_ways (denied_holds (normal_divides cs c k) xs (normal_divides-kind cs c k h)) ((λ n d. n (e.1 d)), (λ n d. n (e.0 d)))
+    both_ways (negated_holds (normal_divides cs c k) xs (normal_divides-kind cs c k h)) ((λ n d. n (e.1 d)), (λ n d. n (e.0 d)))
 
 -- a row and its normal form hold at the same points
-pub normal_row_holds : (r : Row) (xs : List ℤ) → HasDivisor r.kind r.k → HoldsVerdict (normal_row r) xs ↔ HoldsRow r xs
+pub normal_row_holds : (r : Row) (xs : List ℤ) → HasModulus r.kind r.k → HoldsVerdict (normal_row r) xs ↔ HoldsRow r xs
 normal_row_holds r xs h = normal_form_holds r.kind r.coefs r.constant r.k xs h

@@ -6,18 +6,18 @@ use Rattle.isl_math.specs.Divide.{floor_mod}
 use Rattle.isl_math.proofs.DivideLaws.{Divides-from_mod, mod-from_Divides, one-Divides}
 use Rattle.isl_math.proofs.DotLaws.{dot-take_more}
 use Rattle.isl_math.proofs.Ring.{linear}
-use Rattle.isl_piece.specs.declared.constraint.RowKind.{RowKind}
-use Rattle.isl_piece.specs.declared.constraint.RowKind.TheVariants.{Zero, AtLeast, Divides, NotDivides}
-use Rattle.isl_piece.specs.Row.{HasDivisor}
+use Rattle.isl_piece.specs.declared.row.RowKind.{RowKind}
+use Rattle.isl_piece.specs.declared.row.RowKind.TheVariants.{Zero, AtLeast, Divides, NotDivides}
+use Rattle.isl_piece.specs.Row.{HasModulus}
 
 pub ruleset value_steps = (to_z-of_z, dot-take_more, get_or_read)
 
--- each kind's divisor is above 0
-pub HasDivisor-positive : (kind : RowKind) (k : ℤ) → HasDivisor kind k → pos 0 <ℤ k
-HasDivisor-positive Zero k h = omega (arith, linear)
-HasDivisor-positive AtLeast k h = omega (arith, linear)
-HasDivisor-positive Divides k h = h
-HasDivisor-positive NotDivides k h = h
+-- each kind's modulus is above 0
+pub HasModulus-positive : (kind : RowKind) (k : ℤ) → HasModulus kind k → pos 0 <ℤ k
+HasModulus-positive Zero k h = omega (arith, linear)
+HasModulus-positive AtLeast k h = omega (arith, linear)
+HasModulus-positive Divides k h = h
+HasModulus-positive NotDivides k h = h
 
 -- a test whether the remainder m of z is 0
 pub Divides-test : (k z m : ℤ) (t : Bool) → pos 0 <ℤ k → m ≡ floor_mod z k → IsTrue t ↔ (m ≡ pos 0) → IsTrue t ↔ divide.Divides k z

@@ -16,13 +16,13 @@ use Rattle.isl_math.specs.Order.{sign_of}
 use Rattle.isl_math.proofs.Ring.{linear}
 use Rattle.isl_math.proofs.DivideLaws.{one-Divides, IsRemainder-floor_mod, floor_mod-from_IsRemainder}
 use Rattle.isl_math.proofs.GcdLaws.{IsContentOf-content}
-use Rattle.isl_piece.specs.declared.constraint.RowKind.{RowKind}
-use Rattle.isl_piece.specs.declared.constraint.RowKind.TheVariants.{Zero, AtLeast, Divides, NotDivides}
-use Rattle.isl_piece.specs.declared.constraint.Row.{Row}
+use Rattle.isl_piece.specs.declared.row.RowKind.{RowKind}
+use Rattle.isl_piece.specs.declared.row.RowKind.TheVariants.{Zero, AtLeast, Divides, NotDivides}
+use Rattle.isl_piece.specs.declared.row.Row.{Row}
 use Rattle.isl_piece.specs.Normal.{Verdict, Always, Never, Kept}
 use Rattle.isl_piece.specs.Numbers.{divided, reduced, opposite, lead}
-use Rattle.isl_piece.specs.Row.{HasDivisor}
-use Rattle.isl_piece.specs.Normal.{normal_zero, normal_at_least, normal_divides, normal_form, normal_row, denied, upright, bound, congruence, lesser, opposite_row, numbers_of}
+use Rattle.isl_piece.specs.Row.{HasModulus}
+use Rattle.isl_piece.specs.Normal.{normal_zero, normal_at_least, normal_divides, normal_form, normal_row, negated, upright, bound, congruence, lesser, opposite_row, numbers_of}
 use Rattle.isl_piece.proofs.NumberLaws.{All-IsRemainder-reduced, All-IsRemainder-opposite, All-IsRemainder-divided, IsRemainder-divided, positive-divided, reduced_reduced, opposite_opposite, opposite_twice, divided_one, quotient_one}
 use Rattle.isl_piece.proofs.ContentLaws.{content_is, IsContentOf-like, IsContentOf-divided, content-divided, content-scaled, lead_not_zero, lead-signed, sign_of_positive, sign_squared, scaled_one, common_opposite}
 use Rattle.isl_piece.proofs.NormalCases.{common_part, common_part-positive, divided_congruence, normal_zero_by, normal_zero-kept, normal_at_least_by, normal_at_least-kept, normal_divides_by, normal_divides-kept, lesser_by}
@@ -173,20 +173,20 @@ settled_divides cs c k p = normal_divides_by (IfKept (λ r. (r.kind ≡ Divides)
         let kind : (lesser r).kind ≡ Divides = lesser_by (λ s. s.kind ≡ Divides) r is is in
         (kind, again (lesser r) kind (reduced_lesser r h) ∙ ap Kept (lesser_lesser r h))
 
-settled_denied : (v : Verdict) → IfKept (λ r. (r.kind ≡ Divides) × (normal_divides r.coefs r.constant r.k ≡ Kept r)) v → IfKept (λ r. normal_row r ≡ Kept r) (denied v)
-settled_denied Always h = tt
-settled_denied Never h = tt
-settled_denied (Kept r) h = ap denied h.1
+settled_negated : (v : Verdict) → IfKept (λ r. (r.kind ≡ Divides) × (normal_divides r.coefs r.constant r.k ≡ Kept r)) v → IfKept (λ r. normal_row r ≡ Kept r) (negated v)
+settled_negated Always h = tt
+settled_negated Never h = tt
+settled_negated (Kept r) h = ap negated h.1
 
-settled_form : (kind : RowKind) (cs : List ℤ) (c k : ℤ) → HasDivisor kind k → IfKept (λ r. normal_row r ≡ Kept r) (normal_form kind cs c k)
+settled_form : (kind : RowKind) (cs : List ℤ) (c k : ℤ) → HasModulus kind k → IfKept (λ r. normal_row r ≡ Kept r) (normal_form kind cs c k)
 settled_form Zero cs c k h = settled_zero cs c
 settled_form AtLeast cs c k h = settled_at_least cs c
 settled_form Divides cs c k h = IfKept-weaker _ _ (normal_divides cs c k) (λ r g. by r g.0 g.1) (settled_divides cs c k h)
   where
     by : (r : Row) → r.kind ≡ Divides → normal_divides r.coefs r.constant r.k ≡ Kept r → normal_row r ≡ Kept r
     by r is e = ap (λ (kind : RowKind). normal_form kind r.coefs r.constant r.k) is ∙ e
-settled_form NotDivides cs c k h = settled_denied (normal_divides cs c k) (settled_divides cs c k h)
+settled_form NotDivides cs c k h = settled_negated (normal_divides cs c k) (settled_divides cs c k h)
 
 -- a normal row is its own normal form
-pub normal_row_settled : (r : Row) → HasDivisor r.kind r.k → IfKept (λ s. normal_row s ≡ Kept s) (normal_row r)
+pub normal_row_settled : (r : Row) → HasModulus r.kind r.k → IfKept (λ s. normal_row s ≡ Kept s) (normal_row r)
 normal_row_settled r h = settled_form r.kind r.coefs r.constant r.k h

@@ -4,17 +4,17 @@ use Rattle.std.specs.List.{All, Any}
 use Rattle.std.proofs.lemmas.List.Elements.{All-append, All-weaker}
 use Rattle.isl_math.proofs.ListLaws.{Any-first, Any-later, Any-cases, All-parts}
 use Rattle.isl_meter.specs.Gauge.{Gauge}
-use Rattle.isl_piece.specs.declared.constraint.Row.{Row}
-use Rattle.isl_piece.specs.declared.conjunction.System.{System}
+use Rattle.isl_piece.specs.declared.row.Row.{Row}
+use Rattle.isl_piece.specs.declared.system.System.{System}
 use Rattle.isl_piece.specs.Normal.{Verdict, Always, Never, Kept, normal_row, kept_rows, merged, normal_rows, normal_system, IsNormal}
-use Rattle.isl_piece.specs.Row.{HoldsRow, HasDivisor, IsWellFormed, IsRowWithin, IsRowUpTo}
+use Rattle.isl_piece.specs.Row.{HoldsRow, HasModulus, IsWellFormed, IsRowWithin, IsRowUpTo}
 use Rattle.isl_piece.specs.System.{HoldRows, HoldsSystem, IsSystemWithin}
 use Rattle.isl_piece.proofs.RowMagnitudes.{up_to_limit, within_limit}
 use Rattle.isl_piece.proofs.WitnessLaws.{never_exactly}
 use Rattle.isl_piece.proofs.NormalLaws.{normal_rows_hold, normal_rows_normal, normal_rows_well_formed, normal_rows_up_to}
 
-divisors : (s : System) (g : Gauge) → IsSystemWithin g s → All (λ r. HasDivisor r.kind r.k) s.rows
-divisors s g h = All-weaker (IsWellFormed s.columns) (λ r. HasDivisor r.kind r.k) (λ r w. w.divisor) s.rows h.rows
+divisors : (s : System) (g : Gauge) → IsSystemWithin g s → All (λ r. HasModulus r.kind r.k) s.rows
+divisors s g h = All-weaker (IsWellFormed s.columns) (λ r. HasModulus r.kind r.k) (λ r w. w.modulus) s.rows h.rows
 
 -- what the normal rows have, the system has
 of_system : (P : List Row → Type 0) (s : System) → IfSome (normal_rows s.rows) P → IfSome (normal_system s) (λ kept. P kept.rows)
@@ -75,13 +75,13 @@ kept_rows_none (r ∷ rows) = by (kept_rows_none rows) (normal_row r) refl
 abbrev pub HasImpossible : List Row → Type 0
 HasImpossible rows = Any (λ r. (xs : List ℤ) → ¬ HoldsRow r xs) rows
 
-impossible : (rows : List Row) → All (λ r. HasDivisor r.kind r.k) rows → HasNever rows ↔ HasImpossible rows
+impossible : (rows : List Row) → All (λ r. HasModulus r.kind r.k) rows → HasNever rows ↔ HasImpossible rows
 impossible rows d = (
   (λ a. (a.0, a.1, a.2, a.3, (never_exactly a.1 (divisor_of a.0 a.1 a.2 a.3)).0 a.4)),
   (λ a. (a.0, a.1, a.2, a.3, (never_exactly a.1 (divisor_of a.0 a.1 a.2 a.3)).1 a.4)),
 )
   where
-    divisor_of : (k : ℕ) (x : Row) → k < length rows → get_or rows k x ≡ x → HasDivisor x.kind x.k
+    divisor_of : (k : ℕ) (x : Row) → k < length rows → get_or rows k x ≡ x → HasModulus x.kind x.k
     divisor_of k x l is = rw is at (d k x l)
 
 no_normal_system : (s : System) → IsNone (normal_system s) ↔ HasNever s.rows

@@ -12,13 +12,13 @@ use Rattle.isl_math.proofs.OrderLaws.{*ℤ-≤ℤ, ≡-from_*ℤ, positive_not_z
 use Rattle.isl_math.proofs.DotLaws.{dot-scaled_right, dot-nil_right}
 use Rattle.isl_math.proofs.DivideLaws.{exact_quotient, Divides_self, bezout, Divides-minus, Divides-same, le_from_Divides}
 use Rattle.isl_math.proofs.GcdLaws.{IsContentOf-content, gcd_of-from_IsGcdOf}
-use Rattle.isl_piece.specs.declared.constraint.RowKind.{RowKind}
-use Rattle.isl_piece.specs.declared.constraint.RowKind.TheVariants.{Zero, AtLeast, Divides, NotDivides}
-use Rattle.isl_piece.specs.declared.constraint.Row.{Row}
+use Rattle.isl_piece.specs.declared.row.RowKind.{RowKind}
+use Rattle.isl_piece.specs.declared.row.RowKind.TheVariants.{Zero, AtLeast, Divides, NotDivides}
+use Rattle.isl_piece.specs.declared.row.Row.{Row}
 use Rattle.isl_piece.specs.Normal.{Always, Never, Kept}
 use Rattle.isl_piece.specs.Numbers.{reduced}
-use Rattle.isl_piece.specs.Row.{HoldsValue, HoldsRow, HasDivisor, IsContingent}
-use Rattle.isl_piece.specs.Normal.{normal_zero, normal_at_least, normal_divides, normal_form, normal_row, denied}
+use Rattle.isl_piece.specs.Row.{HoldsValue, HoldsRow, HasModulus, IsContingent}
+use Rattle.isl_piece.specs.Normal.{normal_zero, normal_at_least, normal_divides, normal_form, normal_row, negated}
 use Rattle.isl_piece.proofs.NormalCases.{content_positive, common_part, common_part-positive, divides_cases, normal_zero_by, normal_at_least_by, normal_divides_by}
 use Rattle.isl_piece.proofs.PointLaws.{HoldsVerdict, normal_row_holds, reduced_divides}
 
@@ -143,14 +143,14 @@ always_divides cs c k p h = normal_divides_by (λ v. v ≡ Always) cs c k p
             from : (k q : ℤ) → pos 0 <ℤ k → k *ℤ q ≡ k *ℤ pos 1 → q ≡ pos 1
             from k q p e = ≡-from_*ℤ k q (pos 1) (positive_not_zero k p) e
 
-never_form : (kind : RowKind) (cs : List ℤ) (c k : ℤ) → HasDivisor kind k → ((xs : List ℤ) → ¬ HoldsValue kind k (dot cs xs +ℤ c)) → normal_form kind cs c k ≡ Never
+never_form : (kind : RowKind) (cs : List ℤ) (c k : ℤ) → HasModulus kind k → ((xs : List ℤ) → ¬ HoldsValue kind k (dot cs xs +ℤ c)) → normal_form kind cs c k ≡ Never
 never_form Zero cs c k d h = never_zero cs c h
 never_form AtLeast cs c k d h = never_at_least cs c h
 never_form Divides cs c k d h = never_divides cs c k d h
-never_form NotDivides cs c k d h = ap denied (always_divides cs c k d (λ xs. elim (divides_cases k (dot cs xs +ℤ c) d) [ inl e ↦ e | inr n ↦ absurd (h xs n) ]))
+never_form NotDivides cs c k d h = ap negated (always_divides cs c k d (λ xs. elim (divides_cases k (dot cs xs +ℤ c) d) [ inl e ↦ e | inr n ↦ absurd (h xs n) ]))
 
 -- the normal form of a row is `Never` exactly where it holds at no point
-pub never_exactly : (r : Row) → HasDivisor r.kind r.k → (normal_row r ≡ Never) ↔ ((xs : List ℤ) → ¬ HoldsRow r xs)
+pub never_exactly : (r : Row) → HasModulus r.kind r.k → (normal_row r ≡ Never) ↔ ((xs : List ℤ) → ¬ HoldsRow r xs)
 never_exactly r d = (
   (λ e xs h. subst (λ v. HoldsVerdict v xs) e ((normal_row_holds r xs d).1 h)),
   (λ h. never_form r.kind r.coefs r.constant r.k d h),
@@ -185,21 +185,21 @@ always_at_least cs c h = normal_at_least_by (λ v. v ≡ Always) cs c
     below : (g : ℤ) → pos 0 <ℤ g → Reaches cs (neg_ℤ (abs_of c +ℤ pos 1) *ℤ g) → ⊥
     below g p r = let e = r.is in let f = h r.point in let n = negative g c p in omega (arith, linear)
 
-always_form : (kind : RowKind) (cs : List ℤ) (c k : ℤ) → HasDivisor kind k → ((xs : List ℤ) → HoldsValue kind k (dot cs xs +ℤ c)) → normal_form kind cs c k ≡ Always
+always_form : (kind : RowKind) (cs : List ℤ) (c k : ℤ) → HasModulus kind k → ((xs : List ℤ) → HoldsValue kind k (dot cs xs +ℤ c)) → normal_form kind cs c k ≡ Always
 always_form Zero cs c k d h = always_zero cs c h
 always_form AtLeast cs c k d h = always_at_least cs c h
 always_form Divides cs c k d h = always_divides cs c k d h
-always_form NotDivides cs c k d h = ap denied (never_divides cs c k d h)
+always_form NotDivides cs c k d h = ap negated (never_divides cs c k d h)
 
 -- the normal form of a row is `Always` exactly where it holds at every point
-pub always_exactly : (r : Row) → HasDivisor r.kind r.k → (normal_row r ≡ Always) ↔ ((xs : List ℤ) → HoldsRow r xs)
+pub always_exactly : (r : Row) → HasModulus r.kind r.k → (normal_row r ≡ Always) ↔ ((xs : List ℤ) → HoldsRow r xs)
 always_exactly r d = (
   (λ e xs. (normal_row_holds r xs d).0 (subst (λ v. HoldsVerdict v xs) (sym e) tt)),
   (λ h. always_form r.kind r.coefs r.constant r.k d h),
 )
 
 -- a normal row holds at some point, and fails at some
-pub IsContingent-settled : (r : Row) → HasDivisor r.kind r.k → normal_row r ≡ Kept r → IsContingent r
+pub IsContingent-settled : (r : Row) → HasModulus r.kind r.k → normal_row r ≡ Kept r → IsContingent r
 IsContingent-settled r d e = record {
   possible = λ h. let f = (never_exactly r d).1 h in cc;
   refutable = λ h. let f = (always_exactly r d).1 h in cc;

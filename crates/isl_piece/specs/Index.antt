@@ -3,8 +3,8 @@ use Rattle.std.specs.Prelude.{◌≡◌, ◌<◌, ℕ, ℤ, pos, unsigned_abs, t
 use Rattle.std.specs.Prelude.{List, [], fold, length, slice_index_or}
 use Rattle.std.specs.Int.{w128, int_rem_euclid, int_wrapping_add, int_wrapping_mul}
 use Rattle.isl_piece.specs.declared.index.TheConstants.{MULTIPLIER}
-use Rattle.isl_piece.specs.declared.constraint.RowKind.TheVariants.{AtLeast}
-use Rattle.isl_piece.specs.declared.constraint.Row.{Row}
+use Rattle.isl_piece.specs.declared.row.RowKind.TheVariants.{AtLeast}
+use Rattle.isl_piece.specs.declared.row.Row.{Row}
 use Rattle.isl_piece.specs.Normal.{same_kind, same_bound}
 
 -- the place of a row with the bound of r; none where no row has it

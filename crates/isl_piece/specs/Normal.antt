@@ -10,10 +10,10 @@ use Rattle.isl_math.specs.Gcd.{content}
 use Rattle.isl_math.specs.Order.{sign_of}
 use Rattle.isl_piece.specs.Row.{IsContingent}
 use Rattle.isl_piece.specs.Numbers.{divided, reduced, opposite, lead, is_multiple}
-use Rattle.isl_piece.specs.declared.constraint.RowKind.{RowKind}
-use Rattle.isl_piece.specs.declared.constraint.RowKind.TheVariants.{Zero, AtLeast, Divides, NotDivides}
-use Rattle.isl_piece.specs.declared.constraint.Row.{Row}
-use Rattle.isl_piece.specs.declared.conjunction.System.{System}
+use Rattle.isl_piece.specs.declared.row.RowKind.{RowKind}
+use Rattle.isl_piece.specs.declared.row.RowKind.TheVariants.{Zero, AtLeast, Divides, NotDivides}
+use Rattle.isl_piece.specs.declared.row.Row.{Row}
+use Rattle.isl_piece.specs.declared.system.System.{System}
 
 -- ---- one row
 -- what is left of a row: it holds at every point, at none, or where the kept row does
@@ -72,17 +72,17 @@ normal_divides cs c k =
     else Kept (lesser (congruence (divided g columns) (floor_div constant g) (floor_div k g)))
     ) else Never
 
--- what is left of a congruence, denied
-abbrev pub denied : Verdict → Verdict
-denied Always = Never
-denied Never = Always
-denied (Kept r) = Kept (record { kind = NotDivides; coefs = r.coefs; constant = r.constant; k = r.k })
+-- what is left of a congruence, negated
+abbrev pub negated : Verdict → Verdict
+negated Always = Never
+negated Never = Always
+negated (Kept r) = Kept (record { kind = NotDivides; coefs = r.coefs; constant = r.constant; k = r.k })
 
 abbrev pub normal_form : RowKind → List ℤ → ℤ → ℤ → Verdict
 normal_form Zero cs c k = normal_zero cs c
 normal_form AtLeast cs c k = normal_at_least cs c
 normal_form Divides cs c k = normal_divides cs c k
-normal_form NotDivides cs c k = denied (normal_divides cs c k)
+normal_form NotDivides cs c k = negated (normal_divides cs c k)
 
 -- the normal form of a row
 abbrev pub normal_row : Row → Verdict

@@ -1,6 +1,6 @@
 -- What the code says of a row that it made normal in its place.
 use Rattle.std.specs.Prelude.{◌≡◌}
-use Rattle.isl_piece.specs.declared.constraint.Row.{Row}
+use Rattle.isl_piece.specs.declared.row.Row.{Row}
 use Rattle.isl_piece.specs.declared.reduction.Outcome.{Outcome}
 use Rattle.isl_piece.specs.declared.reduction.Outcome.TheVariants.{Holds, Fails, Stays}
 use Rattle.isl_piece.specs.Normal.{Verdict, Always, Never, Kept}

@@ -4,9 +4,9 @@ use Rattle.std.specs.Prelude.{◌≡◌, ℕ, ◌+◌, ◌<◌, ◌≤◌, ◌�
 use Rattle.isl_math.specs.Divide as divide
 use Rattle.isl_math.specs.Dot.{dot}
 use Rattle.isl_meter.specs.Gauge.{Gauge, IsWithin}
-use Rattle.isl_piece.specs.declared.constraint.RowKind.{RowKind}
-use Rattle.isl_piece.specs.declared.constraint.RowKind.TheVariants.{Zero, AtLeast, Divides, NotDivides}
-use Rattle.isl_piece.specs.declared.constraint.Row.{Row}
+use Rattle.isl_piece.specs.declared.row.RowKind.{RowKind}
+use Rattle.isl_piece.specs.declared.row.RowKind.TheVariants.{Zero, AtLeast, Divides, NotDivides}
+use Rattle.isl_piece.specs.declared.row.Row.{Row}
 
 -- what a kind asks of the number z: to be 0, to be at least 0, to be divisible by k, not to be
 abbrev pub HoldsValue : RowKind → ℤ → ℤ → Type 0
@@ -28,17 +28,17 @@ pub record IsContingent (r : Row) : Type 0 where
   pub possible : ¬ ((xs : List ℤ) → ¬ HoldsRow r xs)
   pub refutable : ¬ ((xs : List ℤ) → HoldsRow r xs)
 
--- the divisor of each kind: 1 where none is asked for
-abbrev pub HasDivisor : RowKind → ℤ → Type 0
-HasDivisor Zero k = k ≡ pos 1
-HasDivisor AtLeast k = k ≡ pos 1
-HasDivisor Divides k = pos 0 <ℤ k
-HasDivisor NotDivides k = pos 0 <ℤ k
+-- the modulus of each kind: 1 where none is asked for
+abbrev pub HasModulus : RowKind → ℤ → Type 0
+HasModulus Zero k = k ≡ pos 1
+HasModulus AtLeast k = k ≡ pos 1
+HasModulus Divides k = pos 0 <ℤ k
+HasModulus NotDivides k = pos 0 <ℤ k
 
--- the row has as many coefficients as columns, and a divisor of its kind
+-- the row has as many coefficients as columns, and a modulus of its kind
 pub record IsWellFormed (columns : ℕ) (r : Row) : Type 0 where
   pub width : length r.coefs ≡ columns
-  pub divisor : HasDivisor r.kind r.k
+  pub modulus : HasModulus r.kind r.k
 
 -- each number of the row is within the limit
 pub record IsRowWithin (g : Gauge) (r : Row) : Type 0 where

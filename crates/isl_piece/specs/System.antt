@@ -1,8 +1,8 @@
 -- What a system says of a point: the conjunction of its rows. (isl manual, on basic sets)
 use Rattle.std.specs.Prelude.{List, ℤ, All}
 use Rattle.isl_meter.specs.Gauge.{Gauge}
-use Rattle.isl_piece.specs.declared.constraint.Row.{Row}
-use Rattle.isl_piece.specs.declared.conjunction.System.{System}
+use Rattle.isl_piece.specs.declared.row.Row.{Row}
+use Rattle.isl_piece.specs.declared.system.System.{System}
 use Rattle.isl_piece.specs.Row.{HoldsRow, IsWellFormed, IsRowWithin}
 
 -- each of the rows holds at a point

@@ -52,7 +52,7 @@ fn bound_constant(row: &Row) -> Int
     if row.kind == RowKind::AtLeast {
         Int::ZERO
     } else {
-        row.offset()
+        row.constant()
     }
 }
 

@@ -1,21 +1,21 @@
 //! Conjunctions of linear constraints over integer columns, in one normal form.
 #![tactic(auto)]
 
-mod coefficients;
-mod conjunction;
-mod constraint;
+mod coefs;
+mod system;
+mod row;
 mod index;
-mod list;
-mod located;
+mod rows;
+mod piece;
 mod negation;
 mod normal;
 mod numbers;
 mod reduction;
 
-pub use coefficients::Coefs;
-pub use conjunction::{System, meet, normalise};
-pub use constraint::{Row, RowKind};
-pub use list::Rows;
-pub use located::Piece;
+pub use coefs::Coefs;
+pub use system::{System, meet, normalise};
+pub use row::{Row, RowKind};
+pub use rows::Rows;
+pub use piece::Piece;
 pub use negation::negate;
 pub use reduction::{Outcome, settle};

@@ -3,7 +3,7 @@
 ghost use Rattle.std.specs.Prelude.{◌⊎◌, length, ◌≡◌, ◌↔◌, ◌-ℤ◌, pos, neg_ℤ, ℕ, ℤ, List, [], ◌∷◌, All, Any, IfOk, IfErr, MatchResult};
 ghost use Rattle.isl_meter.specs.Gauge.{IsWithin, IsCutBy};
 ghost use Rattle.isl_piece.specs.Negation.{above, below, negation_of, IsCutFor, ConstantPassesLimit};
-ghost use Rattle.isl_piece.specs.Row.{HasDivisor, HoldsRow, IsRowWithin, IsWellFormed};
+ghost use Rattle.isl_piece.specs.Row.{HasModulus, HoldsRow, IsRowWithin, IsWellFormed};
 
 use crate::{Row, RowKind, Rows};
 use isl_meter::{Cut, Int, Meter};
@@ -17,7 +17,7 @@ fn above(alloc: Global, row: &Row, meter: &mut Meter) -> Result<Row, Cut>
         (λ made. (made ≡ above row.now.coefs row.now.constant) × IsWithin meter.old made.constant × (meter.new ≡ meter.old))
         (λ cut. IsCutFor (ConstantPassesLimit meter.old (negation_of row.now)) meter.old meter.new cut) }
 {
-    let constant = row.offset().sub(Int::ONE, meter)?;
+    let constant = row.constant().sub(Int::ONE, meter)?;
     let coefs = row.coefs.copy(alloc)?;
     Ok(Row::new(RowKind::AtLeast, coefs, constant, Int::ONE))
 }
@@ -31,13 +31,13 @@ fn below(alloc: Global, row: &Row, meter: &mut Meter) -> Result<Row, Cut>
         (λ made. (made ≡ below row.now.coefs row.now.constant) × IsWithin meter.old made.constant × (meter.new ≡ meter.old))
         (λ cut. IsCutFor (ConstantPassesLimit meter.old (negation_of row.now)) meter.old meter.new cut) }
 {
-    let constant = row.offset().neg(meter).sub(Int::ONE, meter)?;
+    let constant = row.constant().neg(meter).sub(Int::ONE, meter)?;
     let mut coefs = row.coefs.copy(alloc)?;
     coefs.negate(meter);
     Ok(Row::new(RowKind::AtLeast, coefs, constant, Int::ONE))
 }
 
-// The row's form and divisor, of another kind.
+// The row's form and modulus, of another kind.
 fn of_kind(alloc: Global, kind: RowKind, row: &Row) -> Result<Row, AllocError>
     ensures { IfOk result (λ made. made ≡ record row.now { kind = kind }) }
 {
@@ -85,7 +85,7 @@ fn negated(alloc: Global, row: &Row, meter: &mut Meter) -> Result<Rows, Cut>
 
 /// Rows of which one holds exactly where `row` does not: two for `Zero`, else one. Uses no unit.
 pub fn negate(alloc: Global, row: &Row, meter: &mut Meter) -> Result<Rows, Cut>
-    requires divisor { HasDivisor row.now.kind row.now.k }
+    requires modulus { HasModulus row.now.kind row.now.k }
     requires within { IsRowWithin meter.old row.now }
     ensures exact { MatchResult result
         (λ rows. (rows ≡ negation_of row.now) × (meter.new ≡ meter.old))

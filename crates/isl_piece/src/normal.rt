@@ -2,8 +2,8 @@
 
 ghost use Rattle.std.specs.Prelude.{◌≡◌, ◌+◌, ◌<◌, ◌≤◌, length, take, drop, All, Some, None, MatchOption, IfOk, OnOk, slice_index_or};
 ghost use Rattle.std.specs.Int.{int_min};
-ghost use Rattle.isl_piece.specs.declared.constraint.Row.{Row};
-ghost use Rattle.isl_piece.specs.Row.{IsRowWithin, HasDivisor};
+ghost use Rattle.isl_piece.specs.declared.row.Row.{Row};
+ghost use Rattle.isl_piece.specs.Row.{IsRowWithin, HasModulus};
 ghost use Rattle.isl_piece.specs.Normal.{with_row, normal_rows};
 ghost use Rattle.isl_piece.specs.Index.{IsIndexOf};
 
@@ -17,8 +17,8 @@ use std::alloc::{AllocError, Global};
 fn take_lesser(row: &mut Row, constant: Int)
     ensures { row.new ≡ record row.old { constant = int_min row.old.constant constant } }
 {
-    if constant < row.offset() {
-        row.set_offset(constant);
+    if constant < row.constant() {
+        row.set_constant(constant);
     }
 }
 
@@ -41,7 +41,7 @@ fn keep(
     let row = &all[at];
     match index.place_of(&all[..kept], row) {
         Some(place) => {
-            let constant = rows[at].offset();
+            let constant = rows[at].constant();
             take_lesser(&mut rows[place], constant);
             Ok(kept)
         }
@@ -64,7 +64,7 @@ pub(crate) fn normalise_rows(
     rows: &mut [Row],
     meter: &Meter,
 ) -> Result<Option<usize>, AllocError>
-    requires divisors { All (λ r. HasDivisor r.kind r.k) rows.old }
+    requires divisors { All (λ r. HasModulus r.kind r.k) rows.old }
     requires within { All (IsRowWithin meter.now) rows.old }
     ensures { IfOk result (λ found. MatchOption found
         (normal_rows rows.old ≡ None) (λ kept. normal_rows rows.old ≡ Some (take kept rows.new))) }

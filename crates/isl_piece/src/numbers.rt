@@ -58,7 +58,7 @@ pub(crate) fn divide(numbers: &mut [Int], g: Int, meter: &Meter)
 #[tactic(auto, using(std::proofs::lemmas::Grind::common_steps, crate::proofs::NumberSteps::steps))]
 pub(crate) fn reduce(numbers: &mut [Int], k: Int, meter: &Meter)
     requires within { IsWithin meter.now k }
-    requires divisor { pos 0 <ℤ k }
+    requires modulus { pos 0 <ℤ k }
     ensures { numbers.new ≡ reduced k numbers.old }
 {
     for i in 0..numbers.len() {
@@ -71,7 +71,7 @@ pub(crate) fn reduce(numbers: &mut [Int], k: Int, meter: &Meter)
 pub(crate) fn oppose(numbers: &mut [Int], k: Int, meter: &Meter)
     requires numbers_within { All (IsWithin meter.now) numbers.old }
     requires within { IsWithin meter.now k }
-    requires divisor { pos 0 <ℤ k }
+    requires modulus { pos 0 <ℤ k }
     ensures { numbers.new ≡ opposite k numbers.old }
 {
     for i in 0..numbers.len() {

@@ -7,11 +7,11 @@ ghost use Rattle.isl_math.specs.Divide.{floor_div, floor_mod};
 ghost use Rattle.isl_math.specs.Dot.{scaled};
 ghost use Rattle.isl_meter.specs.Gauge.{IsWithin};
 ghost use Rattle.isl_piece.specs.Numbers.{divided, reduced, opposite, lead};
-ghost use Rattle.isl_piece.specs.Row.{IsRowWithin, HasDivisor};
+ghost use Rattle.isl_piece.specs.Row.{IsRowWithin, HasModulus};
 ghost use Rattle.isl_piece.specs.Normal.{normal_zero, normal_at_least, normal_divides, normal_row, upright, opposite_row, lesser, numbers_of};
 ghost use Rattle.isl_piece.specs.Outcome.{Settles};
 
-use crate::constraint::is_multiple;
+use crate::row::is_multiple;
 use crate::{Row, RowKind, numbers};
 use isl_meter::{Int, Meter};
 
@@ -32,7 +32,7 @@ fn divide(row: &mut Row, g: Int, meter: &Meter)
     ensures within { IsRowWithin meter.now row.new }
 {
     row.coefs.divide(g, meter);
-    row.set_offset(row.offset().floor_div(g, meter));
+    row.set_constant(row.constant().floor_div(g, meter));
 }
 
 // The first number of the form that is not 0 made positive.
@@ -46,7 +46,7 @@ fn make_upright(row: &mut Row, meter: &Meter)
 {
     if numbers::lead(row.coefs.as_slice()).is_negative() {
         row.coefs.negate(meter);
-        row.set_offset(row.offset().neg(meter));
+        row.set_constant(row.constant().neg(meter));
     }
 }
 
@@ -59,7 +59,7 @@ fn settle_zero(row: &mut Row, meter: &Meter) -> Outcome
     ensures { Settles result row.new (normal_zero row.old.coefs row.old.constant) }
 {
     let g = numbers::content(row.coefs.as_slice(), meter);
-    let constant = row.offset();
+    let constant = row.constant();
     if g.is_zero() {
         return if constant.is_zero() {
             Outcome::Holds
@@ -85,7 +85,7 @@ fn settle_at_least(row: &mut Row, meter: &Meter) -> Outcome
 {
     let common = numbers::content(row.coefs.as_slice(), meter);
     if common.is_zero() {
-        return if row.offset().is_negative() {
+        return if row.constant().is_negative() {
             Outcome::Fails
         } else {
             Outcome::Holds
@@ -99,27 +99,27 @@ fn settle_at_least(row: &mut Row, meter: &Meter) -> Outcome
 #[tactic(auto, using(std::proofs::lemmas::Grind::common_steps, crate::proofs::NormalSteps::row_steps))]
 fn reduce(row: &mut Row, meter: &Meter)
     requires within { IsRowWithin meter.now row.old }
-    requires divisor { pos 0 <ℤ row.old.k }
+    requires modulus { pos 0 <ℤ row.old.k }
     ensures value { row.new ≡ record row.old { coefs = reduced row.old.k row.old.coefs; constant = floor_mod row.old.constant row.old.k } }
     ensures within { IsRowWithin meter.now row.new }
 {
     let k = row.modulus();
     row.coefs.reduce(k, meter);
-    row.set_offset(row.offset().modulo(k, meter));
+    row.set_constant(row.constant().modulo(k, meter));
 }
 
 // A form that `k` divides, or does not: the outcome is that of the first.
 #[tactic(auto, using(std::proofs::lemmas::Grind::common_steps, crate::proofs::NormalSteps::congruence_steps))]
 fn settle_divides(row: &mut Row, meter: &Meter) -> Outcome
     requires within { IsRowWithin meter.now row.old }
-    requires divisor { pos 0 <ℤ row.old.k }
+    requires modulus { pos 0 <ℤ row.old.k }
     ensures divides { Settles result (record row.new { kind = RowKind.Divides }) (normal_divides row.old.coefs row.old.constant row.old.k) }
     ensures kind { row.new.kind ≡ row.old.kind }
 {
     reduce(row, meter);
     let k = row.modulus();
     let g = numbers::content_with(k, row.coefs.as_slice(), meter);
-    if !is_multiple(row.offset(), g, meter) {
+    if !is_multiple(row.constant(), g, meter) {
         return Outcome::Fails;
     }
     let quotient = k.floor_div(g, meter);
@@ -135,13 +135,13 @@ fn settle_divides(row: &mut Row, meter: &Meter) -> Outcome
 // Of a congruence and its opposite the one whose list of numbers is the lesser.
 fn take_lesser(row: &mut Row, meter: &Meter)
     requires within { IsRowWithin meter.now row.old }
-    requires divisor { pos 0 <ℤ row.old.k }
+    requires modulus { pos 0 <ℤ row.old.k }
     ensures { row.new ≡ lesser row.old }
 {
     if is_opposite_less(row, meter) {
         let k = row.modulus();
         row.coefs.oppose(k, meter);
-        row.set_offset(row.offset().neg(meter).modulo(k, meter));
+        row.set_constant(row.constant().neg(meter).modulo(k, meter));
     }
 }
 
@@ -149,7 +149,7 @@ fn take_lesser(row: &mut Row, meter: &Meter)
 #[tactic(auto, using(std::proofs::lemmas::Grind::common_steps, crate::proofs::NormalSteps::orders))]
 fn is_opposite_less(row: &Row, meter: &Meter) -> bool
     requires within { IsRowWithin meter.now row.now }
-    requires divisor { pos 0 <ℤ row.now.k }
+    requires modulus { pos 0 <ℤ row.now.k }
     ensures { result ≡ is_lt (slice_cmp int_cmp (numbers_of (opposite_row row.now)) (numbers_of row.now)) }
 {
     let k = row.modulus();
@@ -159,17 +159,17 @@ fn is_opposite_less(row: &Row, meter: &Meter) -> bool
             return opposite < *number;
         }
     }
-    let constant = row.offset();
+    let constant = row.constant();
     constant.neg(meter).modulo(k, meter) < constant
 }
 
 impl Outcome {
-    ghost use Rattle.isl_piece.specs.declared.constraint.Row.{Row};
-    ghost use Rattle.isl_piece.specs.Normal.{Verdict, denied};
+    ghost use Rattle.isl_piece.specs.declared.row.Row.{Row};
+    ghost use Rattle.isl_piece.specs.Normal.{Verdict, negated};
 
     // The outcome of the row that holds where this one does not.
-    fn denied(self) -> Outcome
-        ensures { (r : Row) (v : Verdict) → r.kind ≡ RowKind.NotDivides → Settles self (record r { kind = RowKind.Divides }) v → Settles result r (denied v) }
+    fn negated(self) -> Outcome
+        ensures { (r : Row) (v : Verdict) → r.kind ≡ RowKind.NotDivides → Settles self (record r { kind = RowKind.Divides }) v → Settles result r (negated v) }
     {
         match self {
             Outcome::Holds => Outcome::Fails,
@@ -181,7 +181,7 @@ impl Outcome {
 
 /// Makes the row normal.
 pub fn settle(row: &mut Row, meter: &Meter) -> Outcome
-    requires divisor { HasDivisor row.old.kind row.old.k }
+    requires modulus { HasModulus row.old.kind row.old.k }
     requires within { IsRowWithin meter.now row.old }
     ensures { Settles result row.new (normal_row row.old) }
 {
@@ -189,6 +189,6 @@ pub fn settle(row: &mut Row, meter: &Meter) -> Outcome
         RowKind::Zero => settle_zero(row, meter),
         RowKind::AtLeast => settle_at_least(row, meter),
         RowKind::Divides => settle_divides(row, meter),
-        RowKind::NotDivides => settle_divides(row, meter).denied(),
+        RowKind::NotDivides => settle_divides(row, meter).negated(),
     }
 }

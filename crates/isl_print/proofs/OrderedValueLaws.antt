@@ -12,8 +12,8 @@ use Rattle.isl_math.proofs.ListLaws.{Any-weaker, Any-unmapped}
 use Rattle.isl_space.specs.Name.{Name}
 use Rattle.isl_space.specs.Valuation.{Valuation}
 use Rattle.isl_space.specs.Element.{Element}
-use Rattle.isl_piece.specs.declared.constraint.Row.{Row}
-use Rattle.isl_piece.specs.Row.{HoldsRow, IsWellFormed, HasDivisor}
+use Rattle.isl_piece.specs.declared.row.Row.{Row}
+use Rattle.isl_piece.specs.Row.{HoldsRow, IsWellFormed, HasModulus}
 use Rattle.isl_piece.specs.Normal.{normal_row, normal_rows, kept_rows, merged, same_bound, IsNormal, Kept}
 use Rattle.isl_piece.proofs.MergeLaws.{SameBound, same_bound-true, same_bound-from, AreApart, fold_apart}
 use Rattle.isl_piece.proofs.NormalLaws.{IsNormal-from}
@@ -115,17 +115,17 @@ normal_rows_apart rows = by (kept_rows (map normal_row rows))
     by None = tt
     by (Some kept) = fold_apart [] kept tt
 
-normal_in_order : (rows : List Row) → All (λ r. HasDivisor r.kind r.k) rows → IsNormal rows → IsNormal (in_order row_before rows)
+normal_in_order : (rows : List Row) → All (λ r. HasModulus r.kind r.k) rows → IsNormal rows → IsNormal (in_order row_before rows)
 normal_in_order rows divisors normal =
     let apart : AreApart rows = subst (λ (o : Option (List Row)). IfSome o AreApart) normal.itself (normal_rows_apart rows) in
-    IsNormal-from (in_order row_before rows) (All-in_order row_before (λ r. normal_row r ≡ Kept r) rows normal.settled) (All-in_order row_before (λ r. HasDivisor r.kind r.k) rows divisors) (apart_in_order rows apart)
+    IsNormal-from (in_order row_before rows) (All-in_order row_before (λ r. normal_row r ≡ Kept r) rows normal.settled) (All-in_order row_before (λ r. HasModulus r.kind r.k) rows divisors) (apart_in_order rows apart)
 
 -- ---- pieces and values
 kept_in_order : (params : List Name) (piece : KeptPiece) → IsKeptPiece params piece → IsKeptPiece params (ordered_piece piece)
 kept_in_order params piece kept = record {
   space = kept.space;
   rows = All-in_order row_before (IsWellFormed (columns_of params piece.space)) piece.rows kept.rows;
-  normal = normal_in_order piece.rows (All-weaker (IsWellFormed (columns_of params piece.space)) (λ r. HasDivisor r.kind r.k) (λ r h. h.divisor) piece.rows kept.rows) kept.normal;
+  normal = normal_in_order piece.rows (All-weaker (IsWellFormed (columns_of params piece.space)) (λ r. HasModulus r.kind r.k) (λ r h. h.modulus) piece.rows kept.rows) kept.normal;
 }
 
 pub IsKeptValue-ordered : (value : KeptValue) → IsKeptValue value → IsKeptValue (ordered value)

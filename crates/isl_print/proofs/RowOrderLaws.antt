@@ -1,7 +1,7 @@
 -- The order of rows is total.
 use Rattle.std.specs.Cmp.{IsTotalOrder}
 use Rattle.std.proofs.lemmas.Cmp.{on_total, then_total, back_total, lists_total, nat_cmp_total, int_cmp_total}
-use Rattle.isl_piece.specs.declared.constraint.Row.{Row}
+use Rattle.isl_piece.specs.declared.row.Row.{Row}
 use Rattle.isl_print.specs.RowOrder.{rank_of, numbers_cmp, row_cmp}
 
 numbers_cmp_total : IsTotalOrder numbers_cmp

@@ -9,7 +9,7 @@ use Rattle.std.proofs.lemmas.List.Elements.{All-from_recursion, recursion_from_A
 use Rattle.isl_space.specs.Name.{Name}
 use Rattle.isl_space.specs.Form.{width_of}
 use Rattle.isl_space.specs.SpaceForm.{SpaceForm, set_of, map_of, coordinates_of}
-use Rattle.isl_piece.specs.declared.constraint.Row.{Row}
+use Rattle.isl_piece.specs.declared.row.Row.{Row}
 use Rattle.isl_piece.specs.Row.{IsWellFormed}
 use Rattle.isl_union.specs.KeptValue.{KeptPiece, KeptValue, columns_of}
 use Rattle.isl_print.specs.Joined.{Text, each_after}

@@ -2,9 +2,9 @@
 use Rattle.std.specs.Prelude.{List, [], ◌∷◌, ◌++◌, map, codes, unsigned_abs}
 use Rattle.std.specs.Fmt.{decimal}
 use Rattle.isl_space.specs.Name.{Name}
-use Rattle.isl_piece.specs.declared.constraint.RowKind.{RowKind}
-use Rattle.isl_piece.specs.declared.constraint.RowKind.TheVariants.{Zero, AtLeast, Divides, NotDivides}
-use Rattle.isl_piece.specs.declared.constraint.Row.{Row}
+use Rattle.isl_piece.specs.declared.row.RowKind.{RowKind}
+use Rattle.isl_piece.specs.declared.row.RowKind.TheVariants.{Zero, AtLeast, Divides, NotDivides}
+use Rattle.isl_piece.specs.declared.row.Row.{Row}
 use Rattle.isl_print.specs.declared.sum.Side.TheVariants.{Left, Right}
 use Rattle.isl_print.specs.Joined.{Text, joined_by}
 use Rattle.isl_print.specs.Ordered.{in_order}

@@ -29,7 +29,7 @@ fn compare_numbers(a: &Row, b: &Row) -> Ordering
     ensures { result ≡ numbers_cmp a.now b.now }
 {
     let by_coefs = a.coefs.as_slice().cmp(b.coefs.as_slice());
-    by_coefs.then(a.offset().cmp(&b.offset()))
+    by_coefs.then(a.constant().cmp(&b.constant()))
 }
 
 fn compare_rows(a: &Row, b: &Row) -> Ordering

@@ -9,15 +9,15 @@ use isl_space::Name;
 use std::alloc::AllocError;
 use std::fmt::Write;
 
-// A form that is divided, in brackets, and its divisor.
+// A form that is divided, in brackets, and its modulus.
 fn write_remainder(out: &mut String, names: &[Name], row: &Row) -> Result<(), AllocError>
     requires { length row.now.coefs ≤ length names.now }
     ensures { OnOk result (string_bytes out.new ≡ string_bytes out.old ++ remainder_text names.now row.now) }
 {
     out.push_str("(")?;
     write_side(out, Side::Left, names, row)?;
-    let divisor = row.k.unsigned_abs();
-    write!(out, ") mod {divisor}")
+    let modulus = row.k.unsigned_abs();
+    write!(out, ") mod {modulus}")
 }
 
 // What a row says of the two sides of its form.

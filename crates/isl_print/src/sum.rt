@@ -95,5 +95,5 @@ pub(crate) fn write_side(
         let coefficient = side.share(coefs[column]);
         is_first = write_term(out, is_first, coefficient, &names[column])?;
     }
-    write_constant(out, is_first, side.share(row.offset()))
+    write_constant(out, is_first, side.share(row.constant()))
 }

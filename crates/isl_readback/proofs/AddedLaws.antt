@@ -5,8 +5,8 @@ use Rattle.std.proofs.lemmas.Bool.{eqb-true}
 use Rattle.std.proofs.lemmas.List.{append_assoc, append-nil, length-append, length-replicate, get_or_at, set_at, replicate_more, take-append-le, take_all}
 use Rattle.isl_math.proofs.Ring.{expand, linear}
 use Rattle.isl_space.specs.Name.{Name}
-use Rattle.isl_piece.specs.declared.constraint.RowKind.{RowKind}
-use Rattle.isl_piece.specs.declared.constraint.Row.{Row}
+use Rattle.isl_piece.specs.declared.row.RowKind.{RowKind}
+use Rattle.isl_piece.specs.declared.row.Row.{Row}
 use Rattle.isl_print.specs.declared.sum.Side.{Side}
 use Rattle.isl_print.specs.declared.sum.Side.TheVariants.{Left, Right}
 use Rattle.isl_print.specs.Sum.{share, terms_of}

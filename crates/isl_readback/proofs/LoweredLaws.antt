@@ -8,9 +8,9 @@ use Rattle.std.proofs.lemmas.List.Elements.{All-nil, All-cons, All-head, All-tai
 use Rattle.isl_math.proofs.ListLaws.{All-pass}
 use Rattle.isl_meter.specs.Gauge.{Gauge}
 use Rattle.isl_space.specs.SpaceForm.{SpaceForm, IsWellFormedSpace}
-use Rattle.isl_piece.specs.declared.constraint.RowKind.{RowKind}
-use Rattle.isl_piece.specs.declared.constraint.RowKind.TheVariants.{Zero, AtLeast, Divides, NotDivides}
-use Rattle.isl_piece.specs.declared.constraint.Row.{Row}
+use Rattle.isl_piece.specs.declared.row.RowKind.{RowKind}
+use Rattle.isl_piece.specs.declared.row.RowKind.TheVariants.{Zero, AtLeast, Divides, NotDivides}
+use Rattle.isl_piece.specs.declared.row.Row.{Row}
 use Rattle.isl_piece.specs.Row.{IsWellFormed}
 use Rattle.isl_piece.specs.Normal.{normal_form, normal_rows, IsNormal}
 use Rattle.isl_piece.proofs.NormalCases.{normal_zero_by, normal_at_least_by}

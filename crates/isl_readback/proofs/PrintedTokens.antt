@@ -8,9 +8,9 @@ use Rattle.std.proofs.lemmas.List.Elements.{recursion_from_All}
 use Rattle.isl_space.specs.Name.{Name}
 use Rattle.isl_space.specs.Form.{Form, leaf, pair, width_of}
 use Rattle.isl_space.specs.SpaceForm.{SpaceForm, set_of, map_of}
-use Rattle.isl_piece.specs.declared.constraint.RowKind.{RowKind}
-use Rattle.isl_piece.specs.declared.constraint.RowKind.TheVariants.{Zero, AtLeast, Divides, NotDivides}
-use Rattle.isl_piece.specs.declared.constraint.Row.{Row}
+use Rattle.isl_piece.specs.declared.row.RowKind.{RowKind}
+use Rattle.isl_piece.specs.declared.row.RowKind.TheVariants.{Zero, AtLeast, Divides, NotDivides}
+use Rattle.isl_piece.specs.declared.row.Row.{Row}
 use Rattle.isl_piece.specs.Row.{IsRowUpTo}
 use Rattle.isl_union.specs.KeptValue.{KeptPiece, KeptValue}
 use Rattle.isl_print.specs.declared.sum.Side.{Side}

@@ -7,7 +7,7 @@ use Rattle.isl_space.specs.Limits.{most_leaves}
 use Rattle.isl_space.specs.Name.{Name}
 use Rattle.isl_space.specs.Names.{IsParameterList}
 use Rattle.isl_space.specs.SpaceForm.{SpaceForm, IsWellFormedSpace}
-use Rattle.isl_piece.specs.declared.constraint.Row.{Row}
+use Rattle.isl_piece.specs.declared.row.Row.{Row}
 use Rattle.isl_piece.specs.Normal.{normal_rows}
 use Rattle.isl_union.specs.KeptValue.{KeptPiece, KeptValue, IsKeptPiece, IsKeptValue}
 use Rattle.isl_print.specs.Joined.{Text}

@@ -7,9 +7,9 @@ use Rattle.std.proofs.lemmas.List.{append_assoc}
 use Rattle.isl_space.specs.Name.{Name, begins_name, is_identifier, is_reserved, IsLiteralName}
 use Rattle.isl_space.specs.Form.{Form, leaf, pair, width_of, name_text}
 use Rattle.isl_space.specs.SpaceForm.{SpaceForm, set_of, map_of}
-use Rattle.isl_piece.specs.declared.constraint.RowKind.{RowKind}
-use Rattle.isl_piece.specs.declared.constraint.RowKind.TheVariants.{Zero, AtLeast, Divides, NotDivides}
-use Rattle.isl_piece.specs.declared.constraint.Row.{Row}
+use Rattle.isl_piece.specs.declared.row.RowKind.{RowKind}
+use Rattle.isl_piece.specs.declared.row.RowKind.TheVariants.{Zero, AtLeast, Divides, NotDivides}
+use Rattle.isl_piece.specs.declared.row.Row.{Row}
 use Rattle.isl_print.specs.declared.sum.Side.{Side}
 use Rattle.isl_print.specs.declared.sum.Side.TheVariants.{Left, Right}
 use Rattle.isl_print.specs.Joined.{Text, each_after, joined_by}

@@ -9,9 +9,9 @@ use Rattle.isl_space.specs.Limits.{most_leaves}
 use Rattle.isl_space.specs.Name.{Name, IsLiteralName}
 use Rattle.isl_space.specs.Form.{width_of}
 use Rattle.isl_space.specs.SpaceForm.{SpaceForm, set_of, map_of, space_leaves_of}
-use Rattle.isl_piece.specs.declared.constraint.RowKind.{RowKind}
-use Rattle.isl_piece.specs.declared.constraint.RowKind.TheVariants.{Zero, AtLeast, Divides, NotDivides}
-use Rattle.isl_piece.specs.Row.{HasDivisor, IsRowUpTo, IsWellFormed}
+use Rattle.isl_piece.specs.declared.row.RowKind.{RowKind}
+use Rattle.isl_piece.specs.declared.row.RowKind.TheVariants.{Zero, AtLeast, Divides, NotDivides}
+use Rattle.isl_piece.specs.Row.{HasModulus, IsRowUpTo, IsWellFormed}
 use Rattle.isl_union.specs.KeptValue.{KeptPiece, KeptValue, IsKeptPiece, IsKeptValue, columns_of}
 use Rattle.isl_print.specs.Naming.{coordinate_names, column_names}
 use Rattle.isl_print.specs.Ordered.{in_order}
@@ -49,7 +49,7 @@ unfolding sign_kind
 semicolon_is = refl
 
 -- a row has a divisor that is not 0
-some_divisor : (kind : RowKind) (z : ℤ) → HasDivisor kind z → unsigned_abs z ≢ 0
+some_divisor : (kind : RowKind) (z : ℤ) → HasModulus kind z → unsigned_abs z ≢ 0
 some_divisor Zero z is none = let one : unsigned_abs z ≡ 1 = ap unsigned_abs is in absurd (omega (arith, one, none))
 some_divisor AtLeast z is none = let one : unsigned_abs z ≡ 1 = ap unsigned_abs is in absurd (omega (arith, one, none))
 some_divisor Divides (pos n) above none = absurd (omega (arith, linear, above, none))
@@ -161,7 +161,7 @@ module _ (n : ℕ) where
       let rows = in_order row_before piece.rows in
       let all = named_from columns (columns_named params piece.space names (omega (arith, few))) in
       let writable = writable_rows rows (recursion_from_All (IsRowUpTo (too_great - 1)) rows (All-in_order row_before (IsRowUpTo (too_great - 1)) piece.rows numbers)) in
-      let some : All (HasSomeDivisor n) piece.rows = All-weaker (IsWellFormed (columns_of params piece.space)) (HasSomeDivisor n) (λ r w. some_divisor r.kind r.k w.divisor) piece.rows kept.rows in
+      let some : All (HasSomeDivisor n) piece.rows = All-weaker (IsWellFormed (columns_of params piece.space)) (HasSomeDivisor n) (λ r w. some_divisor r.kind r.k w.modulus) piece.rows kept.rows in
       let divisors = recursion_from_All (HasSomeDivisor n) rows (All-in_order row_before (HasSomeDivisor n) piece.rows some) in
       tuples_spelled piece.space (coordinate_names params piece.space) (conjunction_tree (map (row_tree columns) rows)) (conjunction_tokens (map (row_tokens columns) rows)) (omega (arith, leaves, deep))
       (named_space piece.space kept.space.named) (named_from (coordinate_names params piece.space) (coordinates_named params piece.space (omega (arith, few))))

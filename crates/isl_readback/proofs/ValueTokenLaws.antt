@@ -6,7 +6,7 @@ use Rattle.std.proofs.lemmas.List.Elements.{recursion_from_All}
 use Rattle.isl_space.specs.Name.{Name, IsLiteralName}
 use Rattle.isl_space.specs.Form.{Form, leaf, pair, IsNamed}
 use Rattle.isl_space.specs.SpaceForm.{SpaceForm, set_of, map_of, IsNamedSpace}
-use Rattle.isl_piece.specs.declared.constraint.Row.{Row}
+use Rattle.isl_piece.specs.declared.row.Row.{Row}
 use Rattle.isl_piece.specs.Row.{IsRowUpTo}
 use Rattle.isl_union.specs.KeptValue.{KeptPiece, KeptValue, IsKeptPiece, IsKeptValue}
 use Rattle.isl_print.specs.Joined.{Text, joined_by}

@@ -10,10 +10,10 @@ use Rattle.std.proofs.lemmas.List.Elements.{recursion_from_All}
 use Rattle.isl_space.specs.Name.{Name}
 use Rattle.isl_space.specs.Names.{IsParameterList}
 use Rattle.isl_space.specs.SpaceForm.{SpaceForm}
-use Rattle.isl_piece.specs.declared.constraint.RowKind.{RowKind}
-use Rattle.isl_piece.specs.declared.constraint.RowKind.TheVariants.{Zero, AtLeast, Divides, NotDivides}
-use Rattle.isl_piece.specs.declared.constraint.Row.{Row}
-use Rattle.isl_piece.specs.Row.{HasDivisor}
+use Rattle.isl_piece.specs.declared.row.RowKind.{RowKind}
+use Rattle.isl_piece.specs.declared.row.RowKind.TheVariants.{Zero, AtLeast, Divides, NotDivides}
+use Rattle.isl_piece.specs.declared.row.Row.{Row}
+use Rattle.isl_piece.specs.Row.{HasModulus}
 use Rattle.isl_union.specs.KeptValue.{KeptPiece, KeptValue, IsKeptPiece, IsKeptValue}
 use Rattle.isl_print.specs.declared.sum.Side.TheVariants.{Left, Right}
 use Rattle.isl_print.specs.Naming.{coordinate_names, column_names}
@@ -99,7 +99,7 @@ rows_added n place names (row ∷ rows) placed count all =
     ap₂ (λ (r : Row) (rs : List Row). r ∷ rs) (row_added n place names row row.kind placed all.0.coefs (count ∙ all.0.coefs) refl all.0.divisor) (rows_added n place names rows placed count all.1)
 
 -- ---- pieces
-one_divisor : (kind : RowKind) (k : ℤ) → IsComparison kind → HasDivisor kind k → k ≡ pos 1
+one_divisor : (kind : RowKind) (k : ℤ) → IsComparison kind → HasModulus kind k → k ≡ pos 1
 one_divisor Zero k compares divisor = divisor
 one_divisor AtLeast k compares divisor = divisor
 one_divisor Divides k compares divisor = absurd compares
@@ -108,7 +108,7 @@ one_divisor NotDivides k compares divisor = absurd compares
 fit : (params : List Name) (piece : KeptPiece) → IsKeptPiece params piece → All (λ r. IsComparison r.kind) piece.rows → All (Fits (column_names params piece.space)) piece.rows
 fit params piece kept compares = λ k d low. record {
   coefs = length-column_names params piece.space ∙ sym (kept.rows k d low).width;
-  divisor = one_divisor _ _ (compares k d low) (kept.rows k d low).divisor;
+  divisor = one_divisor _ _ (compares k d low) (kept.rows k d low).modulus;
 }
 
 pub rows-piece_tree : (params : List Name) (piece : KeptPiece) → IsParameterList params → IsKeptPiece params piece → All (λ r. IsComparison r.kind) piece.rows

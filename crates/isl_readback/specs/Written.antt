@@ -2,8 +2,8 @@
 use Rattle.std.specs.Prelude.{◌-◌, ◌⊎◌, List, All, map}
 use Rattle.isl_space.specs.Name.{Name}
 use Rattle.isl_space.specs.Form.{Form, leaf, pair}
-use Rattle.isl_piece.specs.declared.constraint.RowKind.{RowKind}
-use Rattle.isl_piece.specs.declared.constraint.RowKind.TheVariants.{Zero, AtLeast, Divides, NotDivides}
+use Rattle.isl_piece.specs.declared.row.RowKind.{RowKind}
+use Rattle.isl_piece.specs.declared.row.RowKind.TheVariants.{Zero, AtLeast, Divides, NotDivides}
 use Rattle.isl_space.specs.SpaceForm.{SpaceForm, set_of, map_of}
 use Rattle.isl_token.specs.Number.{too_great}
 use Rattle.isl_union.specs.KeptValue.{KeptPiece, KeptValue}

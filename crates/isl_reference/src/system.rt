@@ -8,7 +8,7 @@ fn divides(by: i128, number: i128) -> bool {
 }
 
 fn holds(row: &Row, point: &[i128]) -> bool {
-    let mut sum = row.offset().get();
+    let mut sum = row.constant().get();
     for (coef, x) in row.coefs.as_slice().iter().zip(point) {
         sum = sum.wrapping_add(coef.get().wrapping_mul(*x));
     }

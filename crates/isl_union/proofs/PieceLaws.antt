@@ -5,8 +5,8 @@ use Rattle.std.proofs.lemmas.List.Elements.{All-map, All-nil, All-push}
 use Rattle.isl_space.specs.Name.{Name}
 use Rattle.isl_space.specs.Names.{IsParameterList}
 use Rattle.isl_space.specs.Space.{space_form_of}
-use Rattle.isl_piece.specs.declared.located.Piece.{Piece}
-use Rattle.isl_piece.specs.declared.conjunction.System.{System}
+use Rattle.isl_piece.specs.declared.piece.Piece.{Piece}
+use Rattle.isl_piece.specs.declared.system.System.{System}
 use Rattle.isl_union.specs.KeptValue.{KeptValue, columns_of, IsKeptPiece, IsKeptValue}
 use Rattle.isl_union.specs.Piece.{kept_piece, IsPieceOf}
 

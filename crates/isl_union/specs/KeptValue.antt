@@ -5,7 +5,7 @@ use Rattle.isl_space.specs.Names.{IsParameterList}
 use Rattle.isl_space.specs.SpaceForm.{SpaceForm, coordinates_of, IsWellFormedSpace}
 use Rattle.isl_space.specs.Valuation.{Valuation, values_of}
 use Rattle.isl_space.specs.Element.{Element, IsElement}
-use Rattle.isl_piece.specs.declared.constraint.Row.{Row}
+use Rattle.isl_piece.specs.declared.row.Row.{Row}
 use Rattle.isl_piece.specs.Normal.{IsNormal}
 use Rattle.isl_piece.specs.Row.{IsWellFormed}
 use Rattle.isl_piece.specs.System.{HoldRows}

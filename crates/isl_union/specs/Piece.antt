@@ -2,7 +2,7 @@
 use Rattle.std.specs.Prelude.{◌≡◌, List}
 use Rattle.isl_space.specs.Name.{Name}
 use Rattle.isl_space.specs.Space.{space_form_of}
-use Rattle.isl_piece.specs.declared.located.Piece.{Piece}
+use Rattle.isl_piece.specs.declared.piece.Piece.{Piece}
 use Rattle.isl_union.specs.KeptValue.{KeptPiece, columns_of, IsKeptPiece}
 
 abbrev pub kept_piece : Piece → KeptPiece

@@ -4,8 +4,8 @@ use Rattle.std.specs.Coded.{Coded, code_by, coded×, coded_list, coded_ℕ}
 use Rattle.isl_space.specs.Name.{Name}
 use Rattle.isl_space.specs.SpaceForm.{SpaceForm}
 use Rattle.isl_space.specs.FormCode.{space_form_code}
-use Rattle.isl_piece.specs.declared.constraint.Row.{Row}
-use Rattle.isl_piece.specs.contracts.constraint.Row as row
+use Rattle.isl_piece.specs.declared.row.Row.{Row}
+use Rattle.isl_piece.specs.contracts.row.Row as row
 use Rattle.isl_union.specs.KeptValue.{KeptPiece, KeptValue}
 
 abbrev pub kept_piece_code : Coded KeptPiece

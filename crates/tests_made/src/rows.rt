@@ -2,7 +2,7 @@
 
 ghost use Rattle.std.specs.Prelude.{◌≡◌, All, true};
 ghost use Rattle.isl_meter.specs.Gauge.{IsWithin};
-ghost use Rattle.isl_piece.specs.Row.{HasDivisor, IsWellFormed, IsRowWithin};
+ghost use Rattle.isl_piece.specs.Row.{HasModulus, IsWellFormed, IsRowWithin};
 ghost use Rattle.isl_piece.specs.System.{IsSystemWithin};
 
 use isl_meter::{Int, Meter};
@@ -86,7 +86,7 @@ fn are_within(numbers: &[Int], meter: &Meter) -> bool
 }
 
 fn has_divisor(kind: RowKind, divisor: Int) -> bool
-    ensures { result ≡ true → HasDivisor kind divisor }
+    ensures { result ≡ true → HasModulus kind divisor }
 {
     match kind {
         RowKind::Zero | RowKind::AtLeast => divisor == Int::ONE,
@@ -102,7 +102,7 @@ pub fn is_proper_row(row: &Row, columns: usize, meter: &Meter) -> bool
     row.coefs.len() == columns
         && has_divisor(row.kind, row.modulus())
         && is_within(row.modulus(), meter)
-        && is_within(row.offset(), meter)
+        && is_within(row.constant(), meter)
         && are_within(row.coefs.as_slice(), meter)
 }
 

@@ -1,6 +1,6 @@
 use Rattle.std.proofs.Common.{All, IfSome, List, Option, subst, sym}
 use Rattle.std.proofs.lemmas.List.Elements.{All-push}
-use Rattle.isl_piece.specs.declared.located.Piece.{Piece}
+use Rattle.isl_piece.specs.declared.piece.Piece.{Piece}
 use Rattle.isl_union.specs.Piece.{IsPieceOf}
 use Rattle.tests_values.proofs.pieces_of.Goals as goal
 

@@ -1,7 +1,7 @@
 use Rattle.std.proofs.Common.{◌≡◌, ◌-◌, ◌++◌, [], pos, sym, ap, ◌∙◌, List, Option, arith}
 use Rattle.std.specs.Prelude.{option_to_list}
-use Rattle.isl_piece.specs.declared.constraint.Row.{Row}
-use Rattle.isl_piece.specs.declared.conjunction.System.{System}
+use Rattle.isl_piece.specs.declared.row.Row.{Row}
+use Rattle.isl_piece.specs.declared.system.System.{System}
 use Rattle.isl_piece.specs.Normal.{normal_system}
 use Rattle.isl_elim.specs.Elimination.{HoldsAtSome}
 use Rattle.isl_elim.specs.Exact.{AreAdded, rows_left, pairs_on}

@@ -28,6 +28,6 @@ returns-in_err-constant-clause-small c = λ bits low up.
     let hm : unsigned_abs c.neg-b.result ≤ 2 ^ 30 = rw m (up_to-neg (2 ^ 30) (coef_at upper c.args.col) (coef_up_to (2 ^ 30) upper c.args.col up)) in
     let hn : unsigned_abs c.get-a.result ≤ 2 ^ 30 = rw n (coef_up_to (2 ^ 30) lower c.args.col low) in
     let same : c.weighted_without.new.meter ≡ c.args.meter.now = grind arith in
-    let first : c.offset.result ≡ lower.constant = grind arith in
-    let second : c.offset-2.result ≡ upper.constant = grind arith in
+    let first : c.constant.result ≡ lower.constant = grind arith in
+    let second : c.constant-2.result ≡ upper.constant = grind arith in
     absurd (c.in_err-constant.ensures.small (2 ^ 30) (2 ^ 30) (2 ^ 30) (2 ^ 30) hm hn (rw first low.constant) (rw second up.constant) (rw (ap (λ (x : Gauge). x.bits) same ∙ bits) (lit< tt)))

@@ -1,6 +1,6 @@
 use Rattle.std.proofs.Common.{◌≡◌, ◌-◌, ◌++◌, get_or, arith}
 use Rattle.std.specs.Prelude.{option_to_list}
-use Rattle.isl_piece.specs.declared.constraint.RowKind.TheVariants.{Zero}
+use Rattle.isl_piece.specs.declared.row.RowKind.TheVariants.{Zero}
 use Rattle.isl_omega.specs.Column.{IsSystemOf}
 use Rattle.isl_elim.specs.Elimination.{HoldsAtSome}
 use Rattle.isl_omega.specs.Equality.{IsSolvedBy}

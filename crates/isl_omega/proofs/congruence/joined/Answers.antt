@@ -2,38 +2,38 @@ use Rattle.std.proofs.Common.{◌∙◌, sym, pos, ◌<ℤ◌, ◌*ℤ◌, arith
 use Rattle.isl_meter.specs.Gauge.{IsWithin}
 use Rattle.isl_omega.specs.Congruence.{IsScaledTo, AreMerged}
 use Rattle.isl_omega.proofs.ReduceLemmas.{common_parts, reduced_at, reduced_within, joined_is}
-use Rattle.isl_piece.proofs.RowLemmas.{HasDivisor-positive}
+use Rattle.isl_piece.proofs.RowLemmas.{HasModulus-positive}
 use Rattle.isl_omega.proofs.congruence.joined.Goals as goal
 
 pub scaled_copy-requires-clause-m_positive : goal.scaled_copy-requires-clause-m_positive
 scaled_copy-requires-clause-m_positive c =
     let p = c.args.p.now in
     let q = c.args.q.now in
-    (common_parts p.k q.k c.gcd-common.result c.floor_div-m.result c.floor_div-n.result (HasDivisor-positive p.kind p.k c.requires.p_formed.divisor) (HasDivisor-positive q.kind q.k c.requires.q_formed.divisor)
+    (common_parts p.k q.k c.gcd-common.result c.floor_div-m.result c.floor_div-n.result (HasModulus-positive p.kind p.k c.requires.p_formed.modulus) (HasModulus-positive q.kind q.k c.requires.q_formed.modulus)
     (grind arith) (grind arith) (grind arith)).m_positive
 
 pub scaled_copy-requires-2-clause-m_positive : goal.scaled_copy-requires-2-clause-m_positive
 scaled_copy-requires-2-clause-m_positive c =
     let p = c.args.p.now in
     let q = c.args.q.now in
-    (common_parts p.k q.k c.gcd-common.result c.floor_div-m.result c.floor_div-n.result (HasDivisor-positive p.kind p.k c.requires.p_formed.divisor) (HasDivisor-positive q.kind q.k c.requires.q_formed.divisor)
+    (common_parts p.k q.k c.gcd-common.result c.floor_div-m.result c.floor_div-n.result (HasModulus-positive p.kind p.k c.requires.p_formed.modulus) (HasModulus-positive q.kind q.k c.requires.q_formed.modulus)
     (grind arith) (grind arith) (grind arith)).n_positive
 
 pub merged_pair-requires-clause-q_reduced : goal.merged_pair-requires-clause-q_reduced
 merged_pair-requires-clause-q_reduced c =
     let p = c.args.p.now in
     let q = c.args.q.now in
-    let parts = common_parts p.k q.k c.gcd-common.result c.floor_div-m.result c.floor_div-n.result (HasDivisor-positive p.kind p.k c.requires.p_formed.divisor) (HasDivisor-positive q.kind q.k c.requires.q_formed.divisor)
+    let parts = common_parts p.k q.k c.gcd-common.result c.floor_div-m.result c.floor_div-n.result (HasModulus-positive p.kind p.k c.requires.p_formed.modulus) (HasModulus-positive q.kind q.k c.requires.q_formed.modulus)
     (grind arith) (grind arith) (grind arith) in
     let first : IsScaledTo c.args.columns (c.floor_div-m.result *ℤ p.k) p c.in_ok-first.first = grind arith in
     let second : IsScaledTo c.args.columns (c.floor_div-n.result *ℤ q.k) q c.in_ok-second.second = grind arith in
-    reduced_at c.args.columns (c.floor_div-n.result *ℤ q.k) c.in_ok-first.first.k c.in_ok-second.second (sym (first.is_reduced.divisor ∙ parts.same)) second.is_reduced
+    reduced_at c.args.columns (c.floor_div-n.result *ℤ q.k) c.in_ok-first.first.k c.in_ok-second.second (sym (first.is_reduced.modulus ∙ parts.same)) second.is_reduced
 
 pub returns : goal.returns
 returns c =
     let p = c.args.p.now in
     let q = c.args.q.now in
-    let parts = common_parts p.k q.k c.gcd-common.result c.floor_div-m.result c.floor_div-n.result (HasDivisor-positive p.kind p.k c.requires.p_formed.divisor) (HasDivisor-positive q.kind q.k c.requires.q_formed.divisor)
+    let parts = common_parts p.k q.k c.gcd-common.result c.floor_div-m.result c.floor_div-n.result (HasModulus-positive p.kind p.k c.requires.p_formed.modulus) (HasModulus-positive q.kind q.k c.requires.q_formed.modulus)
     (grind arith) (grind arith) (grind arith) in
     let first : IsScaledTo c.args.columns (c.floor_div-m.result *ℤ p.k) p c.in_ok-first.first = grind arith in
     let second : IsScaledTo c.args.columns (c.floor_div-n.result *ℤ q.k) q c.in_ok-second.second = grind arith in

@@ -1,8 +1,8 @@
 use Rattle.std.proofs.Common.{◌≡◌, ◌+◌, ◌<◌, ◌++◌, ◌∷◌, [], length, take, refl, sym, ◌∙◌, ap, arith}
 use Rattle.std.proofs.lemmas.Grind.{common_steps}
 use Rattle.std.proofs.lemmas.List.{take_more}
-use Rattle.isl_piece.specs.declared.constraint.Row.{Row}
-use Rattle.isl_piece.specs.declared.constraint.RowKind.TheVariants.{Divides}
+use Rattle.isl_piece.specs.declared.row.Row.{Row}
+use Rattle.isl_piece.specs.declared.row.RowKind.TheVariants.{Divides}
 use Rattle.isl_piece.specs.Row.{IsWellFormed, IsRowWithin}
 use Rattle.isl_omega.specs.Congruence.{reduced_row, AreJoined}
 use Rattle.isl_omega.proofs.MergeLemmas.{take_one, merged_first, merged_more}

@@ -4,5 +4,5 @@ use Rattle.isl_omega.proofs.equality.factors.Goals as goal
 
 pub returns-clause-cancel : goal.returns-clause-cancel
 returns-clause-cancel c =
-    AreFactors-from_gcd c.args.pivot c.args.own c.gcd-divisor.result c.floor_div-m.result c.floor_div-n.result c.neg.result
-    c.requires.occurs c.gcd-divisor.ensures.value (grind arith) (grind arith) c.neg.ensures.value
+    AreFactors-from_gcd c.args.pivot c.args.own c.gcd-modulus.result c.floor_div-m.result c.floor_div-n.result c.neg.result
+    c.requires.occurs c.gcd-modulus.ensures.value (grind arith) (grind arith) c.neg.ensures.value

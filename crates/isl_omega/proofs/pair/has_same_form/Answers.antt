@@ -6,5 +6,5 @@ use Rattle.isl_omega.proofs.pair.has_same_form.Goals as goal
 pub returns-then-eq : goal.returns-then-eq
 returns-then-eq c =
     let forms = slice_eq-Decides Decides-int_eq c.as_slice.result.now c.as_slice-2.result.now c.eq.result c.eq.ensures in
-    let constants = Decides-int_eq c.offset.result c.offset-then-eq.result in
+    let constants = Decides-int_eq c.constant.result c.constant-then-eq.result in
     grind arith

@@ -1,7 +1,7 @@
 use Rattle.std.proofs.Common.{◌≡◌, ◌+◌, ◌*◌, ◌<◌, ◌++◌, ◌∷◌, [], length, take, refl, sym, ◌∙◌, ap, arith, pos}
 use Rattle.std.proofs.lemmas.Grind.{common_steps}
 use Rattle.std.proofs.lemmas.List.{take_more}
-use Rattle.isl_piece.specs.declared.constraint.Row.{Row}
+use Rattle.isl_piece.specs.declared.row.Row.{Row}
 use Rattle.isl_meter.specs.declared.Cut.TheVariants.{NoMemory}
 use Rattle.isl_omega.specs.Shadow.{HasTail}
 use Rattle.isl_meter.specs.Gauge.{IsChargedUpTo, IsCutUpTo}

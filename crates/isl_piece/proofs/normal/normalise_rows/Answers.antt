@@ -1,8 +1,8 @@
 use Rattle.std.proofs.Common.{◌≡◌, ◌+◌, ◌<◌, [], length, drop, take, set, sym, ap, ◌∙◌, subst, arith}
 use Rattle.std.proofs.lemmas.Grind.{common_steps}
 use Rattle.std.proofs.lemmas.List.{take-set-le}
-use Rattle.isl_piece.specs.declared.constraint.Row.{Row}
-use Rattle.isl_piece.specs.Row.{IsRowWithin, HasDivisor}
+use Rattle.isl_piece.specs.declared.row.Row.{Row}
+use Rattle.isl_piece.specs.Row.{IsRowWithin, HasModulus}
 use Rattle.isl_piece.specs.Normal.{normal_row}
 use Rattle.isl_piece.proofs.NormalLaws.{normal_from, normal_from_none, normal_from_all}
 use Rattle.isl_piece.proofs.NumberSteps.{holds_unchanged}
@@ -10,10 +10,10 @@ use Rattle.isl_piece.proofs.PlaceLaws.{come_always, come_never, come_kept}
 use Rattle.isl_piece.proofs.normal.normalise_rows.Goals as goal
 use Rattle.isl_piece.proofs.normal.normalise_rows.Goals.{in-Holds, in-Stays+in_ok-kept-in-Stays}
 
-pub settle-requires-clause-divisor : goal.settle-requires-clause-divisor
-settle-requires-clause-divisor c =
+pub settle-requires-clause-modulus : goal.settle-requires-clause-modulus
+settle-requires-clause-modulus c =
     let row = c.index-rows-at.result in
-    let P : Row → Type 0 = λ r. HasDivisor r.kind r.k in
+    let P : Row → Type 0 = λ r. HasModulus r.kind r.k in
     let same = c.loop-at.invariant.1 in
     subst P c.index-rows-at.is
     (holds_unchanged P c.loop-at.rows c.args.rows.now c.loop-at.at row (omega arith) (omega arith) c.requires.divisors same c.index-rows-at.is)

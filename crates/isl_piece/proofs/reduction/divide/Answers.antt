@@ -3,4 +3,4 @@ use Rattle.isl_piece.proofs.NormalSteps.{IsRowWithin-divided}
 use Rattle.isl_piece.proofs.reduction.divide.Goals as goal
 
 pub returns-clause-within : goal.returns-clause-within
-returns-clause-within c = IsRowWithin-divided c.args.meter.now c.args.row.now c.set_offset.new.self c.args.g c.requires.divisor c.requires.within (grind arith)
+returns-clause-within c = IsRowWithin-divided c.args.meter.now c.args.row.now c.set_constant.new.self c.args.g c.requires.divisor c.requires.within (grind arith)

@@ -12,7 +12,7 @@ pub returns-clause-exact : goal.returns-clause-exact
 returns-clause-exact c =
     let lower = c.args.lower.now in
     let upper = c.args.upper.now in
-    let d = c.gcd-divisor.result in
+    let d = c.gcd-modulus.result in
     let real = c.in_ok-real.real in
     let dark = c.in_ok-dark.dark in
     let is : IsRealRow c.args.columns c.args.col lower upper d real = grind arith in
@@ -32,7 +32,7 @@ returns-in_err-dark-clause-small c = λ bits low up.
     let upper = c.args.upper.now in
     let a = coef_at lower c.args.col in
     let b = neg_ℤ (coef_at upper c.args.col) in
-    let d = c.gcd-divisor.result in
+    let d = c.gcd-modulus.result in
     let is : IsRealRow c.args.columns c.args.col lower upper d c.in_ok-real.real = grind arith in
     let by : c.in_ok-by.by ≡ ceiling ((a -ℤ pos 1) *ℤ (b -ℤ pos 1)) d = grind arith in
     let meter : c.slack.new.meter ≡ c.args.meter.now = grind arith in

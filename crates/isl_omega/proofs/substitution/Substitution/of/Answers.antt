@@ -2,7 +2,7 @@ use Rattle.std.proofs.Common.{◌≡◌, ◌-ℤ◌, set, arith, ◌^◌, ◌≤
 use Rattle.isl_meter.specs.Gauge.{IsWithin}
 use Rattle.isl_piece.specs.Row.{IsRowWithin, coef_at}
 use Rattle.isl_omega.specs.Substitution.{AreProgressionParts, offsets_of}
-use Rattle.isl_piece.proofs.RowLemmas.{HasDivisor-positive}
+use Rattle.isl_piece.proofs.RowLemmas.{HasModulus-positive}
 use Rattle.isl_omega.proofs.SubstitutionLemmas.{offsets_wide, offsets_set, set_within, is_progression}
 use Rattle.isl_omega.proofs.SmallSteps.{scale_up_to, offsets_up_to}
 use Rattle.isl_omega.proofs.substitution.Substitution.of.Goals as goal
@@ -42,7 +42,7 @@ returns-clause-small c = λ bits small.
     let written : c.set.new.self ≡ set row.coefs c.args.col z = grind arith in
     let number : z ≡ one.k -ℤ scale = grind arith in
     let are : AreProgressionParts (coef_at one c.args.col) one.k scale factor = grind arith in
-    let positive = HasDivisor-positive one.kind one.k c.requires.well_formed.divisor in
+    let positive = HasModulus-positive one.kind one.k c.requires.well_formed.modulus in
     let sizes = scale_up_to (2 ^ 30) scale one.k are.positive positive are.modulus small.k in
     let last : unsigned_abs z ≤ 2 ^ 30 = rw number (sizes.1) in
     (sizes.0, offsets_up_to (2 ^ 30) factor one row c.args.col z c.set.new.self positive small.k last is written)
