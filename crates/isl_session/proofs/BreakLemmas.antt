@@ -1,5 +1,5 @@
 -- A statement that is refused stops its session at the byte that ends it.
-use Rattle.std.proofs.Common.{◌≡◌, ℕ, ◌<◌, List, [], ◌∷◌, true, sym, ◌∙◌, ap, subst, inl, inr, ◌⊎◌}
+use Rattle.std.proofs.Common.{◌≡◌, ℕ, ◌<◌, List, [], ◌∷◌, true, refl, sym, ◌∙◌, ap, subst, inl, inr, ◌⊎◌}
 use Rattle.isl_meter.specs.Gauge.{Gauge, IsKept}
 use Rattle.isl_stmt.specs.Script.{ends}
 use Rattle.isl_text.specs.declared.refusal.Refusal.{Refusal}

@@ -35,6 +35,11 @@ impl Model for Session {
 
     ghost Value = { View };
 
+    ghost use Rattle.std.specs.Coded.{codes};
+    ghost use Rattle.isl_eval.specs.Stored.{state_code};
+
+    ghost coded = { Prim.hlevel (codes, state_code) };
+
     ghost use Rattle.isl_session.specs.Session.{view_of, IsSound};
 
     ghost view = { view_of };

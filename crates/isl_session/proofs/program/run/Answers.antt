@@ -1,5 +1,4 @@
 use Rattle.std.proofs.Common.{List, ℕ, Option, map, string_bytes, sym, subst}
-use Rattle.isl_meter.specs.Gauge.{limit_of}
 use Rattle.isl_words.specs.Options.{OptionsView}
 use Rattle.isl_words.proofs.WordsLemmas.{taken_once}
 use Rattle.isl_session.specs.Run.{Answered, IsScriptOf, outside}
@@ -27,4 +26,4 @@ returns-in-Ok-clause-complete g c options taken script left valid no_read no_wri
     let answered = subst (λ (o : OptionsView). Answered (gauge_of o) run.0 before now c.run_script.result) same run.1 in
     let told = subst (λ (o : Option (List ℕ)). IsScriptOf o answered.taken run.0) left answered.told in
     complete_run (gauge_of options) run.0 before now c.run_script.result answered
-    (subst (λ (bytes : List ℕ). IsValidScript (limit_of (gauge_of options)) bytes) (sym told) valid) no_read no_write no_overflow
+    (subst (λ (bytes : List ℕ). IsValidScript (gauge_of options) bytes) (sym told) valid) no_read no_write no_overflow

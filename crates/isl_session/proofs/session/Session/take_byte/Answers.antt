@@ -1,10 +1,10 @@
 use Rattle.std.proofs.Common.{◌≡◌, ◌+◌, ◌∷◌, [], ◌++◌, ◌∙◌, List, ℕ, true, false, arith, ap, length, sym, subst, refl}
 use Rattle.std.proofs.lemmas.List.{append-nil, length_push}
-use Rattle.isl_meter.specs.Gauge.{Gauge}
+use Rattle.isl_meter.specs.Gauge.{Gauge, IsKept, limit_of}
 use Rattle.isl_stmt.specs.Script.{ends, IsOpen, Place}
 use Rattle.isl_stmt.specs.Cutter.{IsAt}
 use Rattle.isl_stmt.proofs.ScriptLaws.{depth-le-length, open_nil, open_push}
-use Rattle.isl_eval.specs.State.{StateView, Moment}
+use Rattle.isl_eval.specs.State.{StateView, Moment, Fits}
 use Rattle.isl_eval.specs.Causes.{Refuses}
 use Rattle.isl_eval.specs.Machine.{Answers, started}
 use Rattle.isl_session.specs.View.{View, Fed, IsRefusedAt, moment_of}
@@ -20,6 +20,9 @@ push-requires c =
     let depth = ap (λ (p : Place). p.depth) c.self.invariant.place.place in
     omega (arith, depth, depth-le-length c.self.inside.rest.items, c.self.invariant.held, c.if-self-ge-SCRIPT_MAX.false)
 
+pub answer-requires : goal.answer-requires
+answer-requires c = subst (λ (g : Gauge). Fits (limit_of g) c.self.inside.state) (sym c.start.ensures) c.self.invariant.fits
+
 pub returns-in-Err-clause-err : goal.returns-in-Err-clause-err
 returns-in-Err-clause-err c =
     let inside = c.self.inside in
@@ -29,7 +32,7 @@ returns-in-Err-clause-err c =
     let ends_there : ends rest c.args.byte ≡ true = sym (c.if-push.ensures.ends rest c.self.invariant.place) in
     let begun : c.start.new.self ≡ record inside.meter { units = 0 } = c.start.ensures in
     let cause = subst (λ (bytes : List ℕ). Refuses (started (moment_of old)) bytes c.answer.new.meter c.in-Err.refusal) c.deref.ensures.value
-        (subst (λ (g : Gauge). let m : Moment = record { state = inside.state; meter = g } in Refuses m c.deref.result.now c.answer.new.meter c.in-Err.refusal) begun c.in-Err.ensures.cause) in
+    (subst (λ (g : Gauge). let m : Moment = record { state = inside.state; meter = g } in Refuses m c.deref.result.now c.answer.new.meter c.in-Err.refusal) begun c.in-Err.ensures.cause) in
     let new : View = record { state = c.answer.new.state; rest = rest; taken = inside.taken; answered = inside.answered; fault = inside.fault; meter = c.answer.new.meter } in
     let refused : IsRefusedAt old c.args.byte c.in-Err.refusal new = record {
       breaks = breaks_in_statement c.in-Err.refusal old c.args.byte c.answer.new.meter c.if-self-ge-SCRIPT_MAX.false ends_there cause;
@@ -63,7 +66,7 @@ returns-then-push-clause-ok c =
     let begun : c.start.new.self ≡ record inside.meter { units = 0 } = c.start.ensures in
     let after : Moment = record { state = c.answer.new.state; meter = c.answer.new.meter } in
     let step = subst (λ (bytes : List ℕ). Answers (started (moment_of old)) bytes after one.0) c.deref.ensures.value
-        (subst (λ (g : Gauge). let m : Moment = record { state = inside.state; meter = g } in Answers m c.deref.result.now after one.0) begun one.3) in
+    (subst (λ (g : Gauge). let m : Moment = record { state = inside.state; meter = g } in Answers m c.deref.result.now after one.0) begun one.3) in
     let new : View = record { state = c.answer.new.state; rest = c.clear.new.self.items; taken = inside.taken + 1; answered = inside.answered + 1; fault = inside.fault; meter = c.answer.new.meter } in
     let carried = carries_started inside.meter c.answer.new.meter step.meter in
     let fed = fed_end old ready c.args.byte new c.if-self-ge-SCRIPT_MAX.false refl sound carried one.0 ends_there step c.clear.ensures.items refl in (
