@@ -52,10 +52,10 @@ no_cause_behind first state bytes before now carried valid no_overflow refusal c
 
 -- the part that comes next is none too long
 short_next : (done ahead : List (List ℕ)) (rest : List ℕ) → AreShort (done ++ ahead) rest → length (next_part ahead rest) ≤ STATEMENT_MAX
-short_next done [] rest short = short.rest
+short_next done [] rest short = short.last
 short_next done (part ∷ later) rest short =
     let P : List ℕ → Type 0 = λ p. length p ≤ STATEMENT_MAX in
-    All-head P part later (All-parts P done (part ∷ later) short.parts).1
+    All-head P part later (All-parts P done (part ∷ later) short.each).1
 
 -- a piece whose statements are valid
 pub complete_piece : (old : View) (piece : List ℕ) (answers : List (List ℕ)) (new : View) (fault : Fault) → Stopped old piece answers new fault

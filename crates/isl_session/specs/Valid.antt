@@ -26,8 +26,8 @@ pub record AreValid (limit : ℤ) (state : Bindings) (parts : List (List ℕ)) :
 
 -- none of these parts of a script has too many bytes, and the rest has not
 pub record AreShort (parts : List (List ℕ)) (rest : List ℕ) : Type 0 where
-  pub parts : All (λ part. length part ≤ STATEMENT_MAX) parts
-  pub rest : length rest ≤ STATEMENT_MAX
+  pub each : All (λ part. length part ≤ STATEMENT_MAX) parts
+  pub last : length rest ≤ STATEMENT_MAX
 
 -- the statements of the script are valid, and what follows the last is blank
 pub record IsValidScript (limit : ℤ) (script : List ℕ) : Type 0 where

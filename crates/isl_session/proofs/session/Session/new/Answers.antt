@@ -13,6 +13,7 @@ invariant_of-result c =
       open_rest = subst IsOpen (sym none) open_nil;
       place = subst (λ (l : List ℕ). IsAt c.new-3.result l) (sym none) c.new-3.ensures;
       held = omega (arith, ap length none);
+      short = omega (arith, ap length none);
       within = omega arith;
       answered = omega arith;
       fits = unbound_fits c.new-4.result (let bits = ap (λ (g : Gauge). g.bits) c.new-4.ensures in omega (arith, bits, c.bits-bits.ensures.bits, c.bits-bits.ensures.choice.bits.0));
