@@ -11,6 +11,10 @@ pub mod NormalLaws
 pub mod NumberSteps
 pub mod NormalSteps
 pub mod PlaceLaws
+pub mod CombineLaws
+pub mod CutLaws
+pub mod DefinedLaws
+pub mod RowsLaws
 pub mod SystemLaws
 pub mod NegationLaws
 pub mod WitnessLaws

@@ -1,7 +1,12 @@
+pub mod Combine
+pub mod Cut
+pub mod Definition
 pub mod Index
 pub mod Negation
 pub mod Normal
 pub mod Numbers
 pub mod Outcome
+pub mod Piece
 pub mod Row
+pub mod Stored
 pub mod System
