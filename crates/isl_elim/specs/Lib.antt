@@ -1,5 +1,5 @@
 pub mod Adds
-pub mod Branch
+pub mod DarkShadow
 pub mod Elimination
 pub mod Exact
 pub mod Magnitude

@@ -3,7 +3,7 @@
 //! splinters.
 #![tactic(auto)]
 
-mod branch;
+mod dark_shadow;
 mod exact;
 mod projection;
 mod residue;
