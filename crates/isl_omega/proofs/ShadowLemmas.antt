@@ -135,10 +135,10 @@ far_above [] p = (pos 0, All-nil (MeetsLower (pos 0)))
 far_above (l ∷ ls) p = let e = lower_end l ls p in (e.x, e.meets)
 
 -- where each pair of a lower and an upper bound is dark, some whole x meets them all: the least that meets the lower ones
-pub branch : (lowers uppers : List Bound) → All IsPositive lowers → All IsPositive uppers → All (λ l. All (IsDark l) uppers) lowers
+pub dark_shadow : (lowers uppers : List Bound) → All IsPositive lowers → All IsPositive uppers → All (λ l. All (IsDark l) uppers) lowers
     → (x : ℤ) × All (MeetsLower x) lowers × All (MeetsUpper x) uppers
-branch [] uppers p q d = let far = far_below uppers q in (far.0, All-nil (MeetsLower far.0), far.1)
-branch (l ∷ ls) uppers p q d =
+dark_shadow [] uppers p q d = let far = far_below uppers q in (far.0, All-nil (MeetsLower far.0), far.1)
+dark_shadow (l ∷ ls) uppers p q d =
     let e = lower_end l ls p in
     let proper = All-contains IsPositive (l ∷ ls) e.bound p e.among in
     let darks = All-contains (λ b. All (IsDark b) uppers) (l ∷ ls) e.bound d e.among in

@@ -1,4 +1,4 @@
-use Rattle.std.proofs.Common.{◌≡◌, ◌-◌, ◌++◌, ◌×◌, map, [], pos, sym, ap, ◌∙◌, refl, List, Option, arith}
+use Rattle.std.proofs.Common.{◌≡◌, ◌-◌, ◌++◌, map, [], pos, sym, ap, ◌∙◌, refl, List, Option, arith}
 use Rattle.std.specs.Prelude.{option_to_list}
 use Rattle.std.specs.List.{All}
 use Rattle.isl_piece.specs.declared.row.Row.{Row}
