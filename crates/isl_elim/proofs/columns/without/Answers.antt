@@ -6,10 +6,10 @@ use Rattle.isl_meter.proofs.CutLemmas.{IsCharged_refl, IsCharged_trans}
 use Rattle.isl_piece.specs.declared.system.System.{System}
 use Rattle.isl_elim.specs.Adds.{Adds}
 use Rattle.isl_elim.specs.Elimination.{HoldsAtSome}
-use Rattle.isl_piece.specs.System.{IsSystemWithin}
-use Rattle.isl_elim.proofs.AddsLemmas.{system_within_kept}
+use Rattle.isl_elim.specs.Elimination.{IsPlain}
+use Rattle.isl_elim.proofs.AddsLemmas.{plain_kept}
 use Rattle.isl_elim.proofs.TogetherLemmas.{pushed_none, pushed_more, pushed_all}
-use Rattle.isl_elim.proofs.together.without.Goals as goal
+use Rattle.isl_elim.proofs.columns.without.Goals as goal
 
 pub loop-system-init : goal.loop-system-init
 loop-system-init c =
@@ -46,5 +46,5 @@ push_without-requires-clause-system c =
     let g = c.args.meter.now in
     let h = c.loop-system.meter in
     let inside : c.loop-system.system-index < length c.args.systems.now = grind (arith, common_steps) in
-    let within : IsSystemWithin g c.system-item.result = rw (← c.system-item.is) at (c.requires.systems c.loop-system.system-index c.system-item.result inside) in
-    system_within_kept h g c.system-item.result (sym (ap (λ (x : Gauge). x.bits) c.loop-system.invariant.charged.same)) within
+    let within : IsPlain g c.system-item.result = rw (← c.system-item.is) at (c.requires.systems c.loop-system.system-index c.system-item.result inside) in
+    plain_kept h g c.system-item.result (sym (ap (λ (x : Gauge). x.bits) c.loop-system.invariant.charged.same)) within

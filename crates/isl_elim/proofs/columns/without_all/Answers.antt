@@ -3,9 +3,9 @@ use Rattle.std.proofs.lemmas.Grind.{common_steps}
 use Rattle.isl_meter.specs.Gauge.{Gauge, IsCharged}
 use Rattle.isl_meter.proofs.CutLemmas.{IsCharged_refl, IsCharged_trans}
 use Rattle.isl_elim.specs.Together.{IsNext}
-use Rattle.isl_elim.proofs.AddsLemmas.{system_within_kept}
+use Rattle.isl_elim.proofs.AddsLemmas.{plain_kept}
 use Rattle.isl_elim.proofs.TogetherLemmas.{some_first, some_next, some_wide}
-use Rattle.isl_elim.proofs.together.without_all.Goals as goal
+use Rattle.isl_elim.proofs.columns.without_all.Goals as goal
 
 pub loop-i-init : goal.loop-i-init
 loop-i-init c =
@@ -22,7 +22,7 @@ without_if-requires-clause-systems c =
     let g = c.args.meter.now in
     let h = c.loop-i.meter in
     let bits = sym (ap (λ (x : Gauge). x.bits) c.loop-i.invariant.charged.same) in
-    λ k d i. system_within_kept h g (get_or c.loop-i.left.items k d) bits (c.loop-i.invariant.some.within k d i)
+    λ k d i. plain_kept h g (get_or c.loop-i.left.items k d) bits (c.loop-i.invariant.some.within k d i)
 
 pub without_if-requires-clause-columns : goal.without_if-requires-clause-columns
 without_if-requires-clause-columns c =

@@ -1,12 +1,12 @@
 //! Several columns out of a system together.
 
-ghost use Rattle.std.specs.Prelude.{◌≡◌, ◌≢◌, ◌<◌, ◌-◌, All, AllPairs, IfOk, MatchResult};
+ghost use Rattle.std.specs.Prelude.{◌≡◌, ◌≢◌, ◌<◌, ◌-◌, [], All, AllPairs, IfOk, MatchResult};
 ghost use Rattle.isl_meter.specs.Gauge.{IsCharged, IsCutBy};
 ghost use Rattle.isl_piece.specs.System.{IsSystemWithin};
-ghost use Rattle.isl_elim.specs.Elimination.{is_among, IsProjectionAlong};
+ghost use Rattle.isl_elim.specs.Elimination.{IsPlain, is_among, IsProjectionAlong};
 ghost use Rattle.isl_elim.specs.Together.{AreWithout, AreWithoutSome, IsNext};
 
-use crate::projection::push_without;
+use crate::column::push_without;
 use isl_meter::{Cut, Meter};
 use isl_piece::System;
 use std::alloc::Global;
@@ -30,7 +30,7 @@ fn without(
     col: usize,
     meter: &mut Meter,
 ) -> Result<Vec<System>, Cut>
-    requires systems { All (IsSystemWithin meter.old) systems.now }
+    requires systems { All (IsPlain meter.old) systems.now }
     requires columns { All (λ s. col < s.columns) systems.now }
     ensures { MatchResult result
         (λ left. AreWithout meter.old col systems.now left.items × IsCharged meter.old meter.new)
@@ -51,7 +51,7 @@ fn without_if(
     col: usize,
     meter: &mut Meter,
 ) -> Result<Vec<System>, Cut>
-    requires systems { All (IsSystemWithin meter.old) systems.items }
+    requires systems { All (IsPlain meter.old) systems.items }
     requires columns { All (λ s. col < s.columns) systems.items }
     ensures { MatchResult result
         (λ left. IsNext meter.old cols.now col systems.items left.items × IsCharged meter.old meter.new)
@@ -71,7 +71,7 @@ fn without_all(
     cols: &[usize],
     meter: &mut Meter,
 ) -> Result<Vec<System>, Cut>
-    requires well_formed { IsSystemWithin meter.old system.now }
+    requires well_formed { IsPlain meter.old system.now }
     ensures { MatchResult result
         (λ left. AreWithoutSome meter.old system.now cols.now 0 left.items × IsCharged meter.old meter.new)
         (IsCutBy meter.old meter.new) }
@@ -85,7 +85,7 @@ fn without_all(
 }
 
 /// The systems without the columns `cols`, of which some holds at a point exactly where some whole numbers put at `cols`
-/// make `system` hold.
+/// make `system`, in which no column is defined, hold.
 ///
 /// # Errors
 ///
@@ -97,6 +97,7 @@ pub fn eliminate_all(
     meter: &mut Meter,
 ) -> Result<Vec<System>, Cut>
     requires well_formed { IsSystemWithin meter.old system.now }
+    requires plain { system.now.definitions ≡ [] }
     requires distinct { AllPairs (λ a b. a ≢ b) cols.now }
     requires cols_in { All (λ col. col < system.now.columns) cols.now }
     ensures projection { IfOk result (λ systems. IsProjectionAlong system.now cols.now systems.items) }

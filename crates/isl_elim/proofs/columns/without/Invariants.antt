@@ -1,7 +1,7 @@
 use Rattle.std.proofs.Common.{take}
 use Rattle.isl_meter.specs.Gauge.{IsCharged}
 use Rattle.isl_elim.proofs.TogetherLemmas.{ArePushed}
-use Rattle.isl_elim.proofs.together.without.Given as goal
+use Rattle.isl_elim.proofs.columns.without.Given as goal
 
 abbrev pub invariant-loop-system : goal.invariant-loop-system
 invariant-loop-system l = record {

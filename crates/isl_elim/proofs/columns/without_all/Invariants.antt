@@ -1,7 +1,7 @@
 use Rattle.std.proofs.Common.{◌-◌}
 use Rattle.isl_meter.specs.Gauge.{IsCharged}
 use Rattle.isl_elim.specs.Together.{AreWithoutSome}
-use Rattle.isl_elim.proofs.together.without_all.Given as goal
+use Rattle.isl_elim.proofs.columns.without_all.Given as goal
 
 abbrev pub invariant-loop-i : goal.invariant-loop-i
 invariant-loop-i l = record {

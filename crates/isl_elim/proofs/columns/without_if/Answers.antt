@@ -3,7 +3,7 @@ use Rattle.isl_meter.proofs.CutLemmas.{IsCharged_refl}
 use Rattle.isl_elim.specs.Elimination.{is_among}
 use Rattle.isl_elim.specs.Together.{AreWithout}
 use Rattle.isl_elim.proofs.TogetherLemmas.{next_among, next_other}
-use Rattle.isl_elim.proofs.together.without_if.Goals as goal
+use Rattle.isl_elim.proofs.columns.without_if.Goals as goal
 
 pub returns : goal.returns
 returns c =

@@ -1,7 +1,7 @@
 use Rattle.std.proofs.Common.{◌≡◌, ◌<◌, get_or, length, sym, arith}
 use Rattle.std.proofs.lemmas.Grind.{common_steps}
 use Rattle.isl_elim.proofs.TogetherLemmas.{among-at}
-use Rattle.isl_elim.proofs.together.is_among.Goals as goal
+use Rattle.isl_elim.proofs.columns.is_among.Goals as goal
 
 pub returns-then-cols-i : goal.returns-then-cols-i
 returns-then-cols-i c =
