@@ -1,12 +1,2 @@
 pub mod AddsLemmas
-pub mod BranchLemmas
-pub mod CommonPeriods
-pub mod EliminateLemmas
-pub mod ExactLemmas
-pub mod NeighbourLemmas
-pub mod ResidueLemmas
-pub mod SmallSides
-pub mod SmallTails
-pub mod TailLemmas
 pub mod TogetherLemmas
-pub mod UnitLemmas

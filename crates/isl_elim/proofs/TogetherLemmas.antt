@@ -9,11 +9,11 @@ use Rattle.std.proofs.lemmas.List.Elements.{All-nil, All-cons, All-head, All-tai
 use Rattle.std.proofs.lemmas.List.Quantifiers.{Any-push}
 use Rattle.isl_meter.specs.Gauge.{Gauge}
 use Rattle.isl_piece.specs.declared.system.System.{System}
-use Rattle.isl_piece.specs.System.{HoldsSystem, IsSystemWithin}
+use Rattle.isl_piece.specs.System.{HoldsSystem}
 use Rattle.isl_elim.specs.Adds.{Adds}
-use Rattle.isl_elim.specs.Elimination.{HoldsAtSome, is_among, without_from, without, IsProjectionAlong}
+use Rattle.isl_elim.specs.Elimination.{IsPlain, HoldsAtSome, is_among, without_from, without, IsProjectionAlong}
 use Rattle.isl_elim.specs.Together.{AreWithout, without_later, AreWithoutSome, IsNext}
-use Rattle.isl_elim.proofs.AddsLemmas.{adds_kept, adds_more, adds_none, adds_same, system_within_kept}
+use Rattle.isl_elim.proofs.AddsLemmas.{adds_kept, adds_more, adds_none, adds_same, plain_kept}
 use Rattle.isl_math.proofs.ListLaws.{Any-parts, Any-left, Any-one, Any-element, Any-contains, Any-first, Any-none}
 
 -- so many zeros
@@ -62,12 +62,12 @@ HoldsAnyAtSome systems col point = Any (λ s. HoldsAtSome s col point) systems
 -- what was pushed for the first systems
 pub record ArePushed (g : Gauge) (col : ℕ) (systems : List System) (left : List System) : Type 0 where
   pub adds : (columns : ℕ) → All (λ s. s.columns ≡ columns) systems → Adds g (columns - 1) (HoldsAnyAtSome systems col) [] left
-  pub within : All (IsSystemWithin g) left
+  pub within : All (IsPlain g) left
 
 pub pushed_none : (g : Gauge) (col : ℕ) → ArePushed g col [] []
 pushed_none g col = record {
   adds = λ columns h. adds_none g (columns - 1) (HoldsAnyAtSome [] col) [] [] refl (λ point n a. Any-none (λ s. HoldsAtSome s col point) a);
-  within = All-nil (IsSystemWithin g);
+  within = All-nil (IsPlain g);
 }
 
 pub pushed_more : (g h : Gauge) (col : ℕ) (systems : List System) (s : System) (left more : List System) → h.bits ≡ g.bits → ArePushed g col systems left → Adds h (s.columns - 1) (HoldsAtSome s col) left more → ArePushed g col (systems ++ s ∷ []) more
@@ -81,7 +81,7 @@ pushed_more g h col systems s left more e a b = record {
         (λ k. elim (Any-parts P systems (s ∷ []) k) [ inl x ↦ inl x | inr x ↦ inr (Any-one P s x) ]),
       ))
       (adds_more g (columns - 1) (HoldsAnyAtSome systems col) (HoldsAtSome s col) [] left more (a.adds columns parts.0) own);
-  within = rw b.pushed (All-append (IsSystemWithin g) left b.added a.within (λ k d i. system_within_kept g h (get_or b.added k d) e (b.within k d i)));
+  within = rw b.pushed (All-append (IsPlain g) left b.added a.within (λ k d i. plain_kept g h (get_or b.added k d) e (b.within k d i)));
 }
   where
     All-both : (xs : List System) (y : System) (columns : ℕ) → All (λ s. s.columns ≡ columns) (xs ++ y ∷ []) → All (λ s. s.columns ≡ columns) xs × (y.columns ≡ columns)
@@ -173,11 +173,11 @@ next_other g cols col before other = λ old l s. record {
     same old l whole e = later_other 0 col cols whole (ap (is_among cols) (omega arith) ∙ other) (omega arith) ∙ (let e : suc col ≡ col + 1 = omega arith in ap (λ (k : ℕ). without_later 0 k cols whole) e)
 
 -- ---- from the first to the last
-pub some_first : (g : Gauge) (old : System) (cols : List ℕ) (from : ℕ) (new : List System) → IsSystemWithin g old → from ≡ old.columns → new ≡ old ∷ [] → AreWithoutSome g old cols from new
+pub some_first : (g : Gauge) (old : System) (cols : List ℕ) (from : ℕ) (new : List System) → IsPlain g old → from ≡ old.columns → new ≡ old ∷ [] → AreWithoutSome g old cols from new
 some_first g old cols from new w f e = rw e (record {
   columns = old.columns;
   widths = All-cons (λ s. s.columns ≡ old.columns) old [] refl (All-nil (λ s. s.columns ≡ old.columns));
-  within = All-cons (IsSystemWithin g) old [] w (All-nil (IsSystemWithin g));
+  within = All-cons (IsPlain g) old [] w (All-nil (IsPlain g));
   lengths = λ whole n. ap (λ (zs : List ℤ). length zs) (same whole n) ∙ n;
   points = λ point n. (
     (λ h. (point, n, same point n, Any-one (λ s. HoldsSystem s point) old h)),
@@ -192,7 +192,7 @@ pub some_kept : (g h : Gauge) (old : System) (cols : List ℕ) (from : ℕ) (new
 some_kept g h old cols from new e s = record {
   columns = s.columns;
   widths = s.widths;
-  within = λ k d i. system_within_kept g h (get_or new k d) e (s.within k d i);
+  within = λ k d i. plain_kept g h (get_or new k d) e (s.within k d i);
   lengths = s.lengths;
   points = s.points;
 }
@@ -270,7 +270,7 @@ length_without (c ∷ cols) xs d h =
     let less = length_less c 0 cols xs (not_among c cols (λ k z i. d 0 (suc k) z (omega arith) (omega arith))) (omega arith) (let f = All-head (λ c. c < length xs) c cols h in omega arith) in
     omega arith
 
-pub along_is : (g : Gauge) (old : System) (cols : List ℕ) (new : List System) → AllPairs (λ a b. a ≢ b) cols → All (λ c. c < old.columns) cols → AreWithoutSome g old cols 0 new → IsProjectionAlong old cols new × All (IsSystemWithin g) new
+pub along_is : (g : Gauge) (old : System) (cols : List ℕ) (new : List System) → AllPairs (λ a b. a ≢ b) cols → All (λ c. c < old.columns) cols → AreWithoutSome g old cols 0 new → IsProjectionAlong old cols new × All (IsPlain g) new
 along_is g old cols new d h s = (
   record {
     columns = All-weaker (λ t. t.columns ≡ s.columns) (λ t. t.columns ≡ old.columns - length cols) (λ t e. e ∙ count) new s.widths;

@@ -1,11 +1,21 @@
--- What elimination answers: the projection of a system along columns.
-use Rattle.std.specs.Prelude.{◌≡◌, ◌≢◌, ◌↔◌, Bool, false, ◌||◌, if◌then◌else◌, nat_eq, ℕ, suc, ◌-◌, ◌<◌, ℤ, pos, List, [], ◌∷◌, length, All, Any, slice_index_or}
+-- public: what elimination answers: the projection of a system along columns. (isl manual, on projections)
+use Rattle.std.specs.Prelude.{◌≡◌, ◌↔◌, Bool, false, ◌||◌, if◌then◌else◌, nat_eq, ℕ, suc, ◌-◌, ℤ, List, [], ◌∷◌, length, All, Any, Option, option_map}
 use Rattle.std.specs.List.{insert}
-use Rattle.isl_piece.specs.declared.row.RowKind.TheVariants.{Zero}
+use Rattle.isl_meter.specs.Gauge.{Gauge}
 use Rattle.isl_piece.specs.declared.row.Row.{Row}
 use Rattle.isl_piece.specs.declared.system.System.{System}
-use Rattle.isl_piece.specs.Row.{coef_at}
 use Rattle.isl_piece.specs.System.{HoldsSystem}
+use Rattle.isl_omega.specs.Column.{IsProper}
+use Rattle.isl_column.specs.Exact.{exact_rows}
+
+-- the system of rows in which each column is free
+abbrev pub plain_system : ℕ → List Row → System
+plain_system columns rows = record { columns = columns; definitions = []; rows = rows }
+
+-- no column is defined, and the rows are over the columns and within the limit
+pub record IsPlain (g : Gauge) (s : System) : Type 0 where
+  pub plain : s.definitions ≡ []
+  pub rows : All (IsProper g s.columns) s.rows
 
 -- some whole number put at the column makes the system hold
 abbrev pub HoldsAtSome : System → ℕ → List ℤ → Type 0
@@ -21,10 +31,9 @@ pub record IsProjection (old : System) (col : ℕ) (new : List System) : Type 0 
   pub columns : All (λ s. s.columns ≡ old.columns - 1) new
   pub points : (point : List ℤ) → length point ≡ old.columns - 1 → HoldsAtAny new point ↔ HoldsAtSome old col point
 
--- ---- where an equality has the column
--- the row at the place is one
-abbrev pub IsEqualityAt : ℕ → List Row → ℕ → Type 0
-IsEqualityAt col rows at = (at < length rows) × ((d : Row) → ((slice_index_or rows at d).kind ≡ Zero) × (coef_at (slice_index_or rows at d) col ≢ pos 0))
+-- where no equality has the column and it is exact: one normal system, or none where no point is left
+abbrev pub exact_projection : System → ℕ → Option System
+exact_projection system col = option_map (plain_system (system.columns - 1)) (exact_rows system.rows col)
 
 -- ---- several columns
 -- the number is among the columns

@@ -1,8 +1,3 @@
 pub mod Adds
-pub mod Branch
 pub mod Elimination
-pub mod Exact
-pub mod Magnitude
-pub mod Residue
 pub mod Together
-pub mod Units

@@ -1,14 +1,14 @@
--- What stands while several columns are taken out, the last one first.
+-- inner: what stands while several columns are taken out, the last one first.
 use Rattle.std.specs.Prelude.{◌≡◌, ◌↔◌, ◌<◌, ◌+◌, ℕ, zero, suc, ◌-◌, ℤ, List, [], ◌∷◌, length, All}
 use Rattle.std.specs.List.{insert}
 use Rattle.isl_meter.specs.Gauge.{Gauge}
 use Rattle.isl_piece.specs.declared.system.System.{System}
-use Rattle.isl_piece.specs.System.{HoldsSystem, IsSystemWithin}
-use Rattle.isl_elim.specs.Elimination.{without_from, HoldsAtAny}
+use Rattle.isl_piece.specs.System.{HoldsSystem}
+use Rattle.isl_elim.specs.Elimination.{IsPlain, without_from, HoldsAtAny}
 
 -- systems without the column, of which some holds at a point exactly where some whole number at the column makes some old one hold
 pub record AreWithout (g : Gauge) (col : ℕ) (old new : List System) : Type 0 where
-  pub within : All (IsSystemWithin g) new
+  pub within : All (IsPlain g) new
   pub widths : (columns : ℕ) → All (λ s. s.columns ≡ columns) old → All (λ s. s.columns ≡ columns - 1) new
   pub points : (columns : ℕ) → All (λ s. s.columns ≡ columns) old → (point : List ℤ) → length point ≡ columns - 1 → HoldsAtAny new point ↔ ((x : ℤ) × HoldsAtAny old (insert point col x))
 
@@ -22,7 +22,7 @@ without_later i (suc from) cols (x ∷ whole) = x ∷ without_later (suc i) from
 pub record AreWithoutSome (g : Gauge) (old : System) (cols : List ℕ) (from : ℕ) (new : List System) : Type 0 where
   pub columns : ℕ
   pub widths : All (λ s. s.columns ≡ columns) new
-  pub within : All (IsSystemWithin g) new
+  pub within : All (IsPlain g) new
   pub lengths : (whole : List ℤ) → length whole ≡ old.columns → length (without_later 0 from cols whole) ≡ columns
   pub points : (point : List ℤ) → length point ≡ columns → HoldsAtAny new point ↔ ((whole : List ℤ) × (length whole ≡ old.columns) × (without_later 0 from cols whole ≡ point) × HoldsSystem old whole)
 

@@ -1,14 +1,9 @@
-//! Exact projection of whole numbers: one column of a system is taken out, and what is left holds exactly where some
-//! whole number stood there. It is the Omega test of Pugh: equalities, congruences, exact and dark shadows, and
-//! splinters.
+//! Exact projection of whole numbers: columns of a system are taken out, and what is left holds exactly where some whole
+//! numbers stood there.
 #![tactic(auto)]
 
-mod branch;
-mod exact;
-mod projection;
-mod residue;
-mod tails;
-mod together;
+mod column;
+mod columns;
 
-pub use projection::eliminate;
-pub use together::eliminate_all;
+pub use column::eliminate;
+pub use columns::eliminate_all;
