@@ -117,8 +117,8 @@ mod tests {
             (
                 8,
                 "{ };{ [300] };",
-                Some(Refusal::Syntax),
-                Some(Refusal::Syntax),
+                Some(Refusal::WideNumber),
+                Some(Refusal::WideNumber),
             ),
             (9, "{ };{ [300] };", None, None),
             (8, "{ };{ [", None, Some(Refusal::Unfinished)),
