@@ -1,8 +1,5 @@
-pub mod Adds
-pub mod DarkShadow
 pub mod Elimination
-pub mod Exact
-pub mod Magnitude
-pub mod Residue
-pub mod Together
-pub mod Units
+pub mod Emptiness
+pub mod Others
+pub mod Parts
+pub mod Sample

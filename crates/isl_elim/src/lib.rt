@@ -1,14 +1,13 @@
-//! Exact projection of whole numbers: one column of a system is taken out, and what is left holds exactly where some
-//! whole number stood there. It is the Omega test of Pugh: equalities, congruences, exact and dark shadows, and
-//! splinters.
+//! Several columns out of rows, emptiness, and samples.
 #![tactic(auto)]
 
-mod dark_shadow;
-mod exact;
+mod choice;
+mod eliminate_all;
+mod emptiness;
+mod line;
+mod parts;
+mod progression;
 mod projection;
-mod residue;
-mod tails;
-mod together;
+mod sample;
 
 pub use projection::eliminate;
-pub use together::eliminate_all;
