@@ -1,7 +1,7 @@
 -- Several columns, one after another.
-use Rattle.std.proofs.Common.{◌≡◌, ◌≢◌, ◌↔◌, ◌⊎◌, inl, inr, refl, sym, ap, ◌∙◌, arith, true, ℕ, zero, suc, ℤ, pos, List, [], ◌∷◌, ◌++◌, ◌-◌, ◌+◌, ◌<◌, ◌≤◌, length, get_or}
+use Rattle.std.proofs.Common.{◌≡◌, ◌≢◌, ◌↔◌, ◌⊎◌, inl, inr, refl, sym, ap, ◌∙◌, arith, true, ℕ, ℤ, pos, List, [], ◌∷◌, ◌++◌, ◌-◌, ◌<◌, ◌≤◌, length, get_or}
 use Rattle.std.specs.Prelude.{AllPairs, Result, MatchResult, Ok, Err}
-use Rattle.std.specs.List.{All, Any, insert, remove}
+use Rattle.std.specs.List.{All, insert, remove}
 use Rattle.std.proofs.lemmas.List.{append_assoc, append-nil}
 use Rattle.std.proofs.lemmas.List.Elements.{All-nil, All-cons, All-append}
 use Rattle.std.proofs.lemmas.List.Edits.{length-remove, length-insert}

@@ -1,5 +1,5 @@
 -- Emptiness, one part after another.
-use Rattle.std.proofs.Common.{◌≡◌, ◌≢◌, ◌↔◌, ◌⊎◌, inl, inr, refl, sym, ap, arith, ℕ, zero, suc, ℤ, pos, List, [], ◌∷◌, ◌-◌, ◌+◌, ◌<◌, ◌≤◌, length, get_or, Bool, true, false}
+use Rattle.std.proofs.Common.{◌≡◌, ◌≢◌, ◌↔◌, inl, inr, refl, ap, arith, ℕ, zero, suc, ℤ, pos, List, [], ◌∷◌, ◌-◌, ◌<◌, length, get_or, Bool, false}
 use Rattle.std.specs.Prelude.{IsTrue, is_none, Option, Some, None, MatchOption, Result, MatchResult, Ok, Err}
 use Rattle.std.specs.List.{All, insert, remove}
 use Rattle.std.proofs.lemmas.List.Elements.{All-head}
@@ -10,8 +10,7 @@ use Rattle.isl_meter.specs.declared.Cut.{Cut}
 use Rattle.isl_meter.proofs.CutLemmas.{IsCharged_refl, IsCharged_trans, IsCutBy-after, charges}
 use Rattle.isl_piece.specs.declared.row.Row.{Row}
 use Rattle.isl_piece.specs.Normal.{IsNormal}
-use Rattle.isl_piece.specs.Row.{HoldsRow, IsContingent, IsWellFormed}
-use Rattle.isl_piece.specs.System.{HoldRows}
+use Rattle.isl_piece.specs.Row.{HoldsRow, IsContingent}
 use Rattle.isl_omega.specs.Column.{IsProper}
 use Rattle.isl_elim.specs.Emptiness.{HoldNowhere}
 use Rattle.isl_elim.specs.Parts.{PartsView, AreParts, ArePartsOf, IsNextPart, HoldsPart}

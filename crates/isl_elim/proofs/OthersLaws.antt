@@ -36,7 +36,7 @@ lowered_above col c l = let m : nat_lt col c ≡ true = grind arith in rw m refl
 by_side : (P : Type 0) (col c : ℕ) → c ≢ col → (c < col → P) → (col < c → P) → P
 by_side P col c n f g = elim (order c col) [ inl e ↦ absurd (n e) | inr s ↦ elim s [ inl l ↦ f l | inr l ↦ g l ] ]
 
-others_same : (col c : ℕ) (cols : List ℕ) → c ≡ col → others_of col (c ∷ cols) ≡ others_of col cols
+pub others_same : (col c : ℕ) (cols : List ℕ) → c ≡ col → others_of col (c ∷ cols) ≡ others_of col cols
 others_same col c cols e = let m : nat_eq c col ≡ true = grind arith in rw m refl
 
 others_other : (col c : ℕ) (cols : List ℕ) → c ≢ col → others_of col (c ∷ cols) ≡ lowered col c ∷ others_of col cols

@@ -1,14 +1,12 @@
 -- Parts: where the limit stays, what is still to come stays as it is.
-use Rattle.std.proofs.Common.{◌≡◌, ◌↔◌, ◌⊎◌, inl, inr, refl, sym, Option, Some, None, MatchOption, ap, arith, ℕ, ℤ, pos, List, [], ◌∷◌, ◌++◌, ◌-◌, ◌<◌, length, get_or}
+use Rattle.std.proofs.Common.{◌≡◌, inl, inr, refl, sym, Option, Some, None, MatchOption, ap, arith, ℕ, ℤ, List, [], ◌∷◌, ◌++◌, ◌-◌, length, get_or}
 use Rattle.std.specs.Prelude.{option_to_list}
-use Rattle.std.specs.List.{All, Any}
+use Rattle.std.specs.List.{All}
 use Rattle.std.proofs.lemmas.List.{length-append, nil_from_length}
-use Rattle.std.proofs.lemmas.List.Elements.{All-weaker, All-cons, All-nil}
 use Rattle.isl_meter.specs.Gauge.{Gauge, IsCharged}
 use Rattle.isl_math.proofs.ListLaws.{All-last, Any-parts, Any-left, Any-right, Any-one, Any-first, Any-none}
 use Rattle.isl_piece.specs.declared.row.Row.{Row}
 use Rattle.isl_piece.specs.Normal.{IsNormal}
-use Rattle.isl_piece.specs.Row.{IsRowWithin}
 use Rattle.isl_piece.specs.System.{HoldRows}
 use Rattle.isl_piece.proofs.RowMagnitudes.{row_within_kept}
 use Rattle.isl_omega.specs.Column.{IsProper}

@@ -1,19 +1,18 @@
 -- Samples: numbers that are tried at a column, and parts in turn.
-use Rattle.std.proofs.Common.{◌≡◌, ◌≢◌, ◌↔◌, ◌⊎◌, inl, inr, refl, ◌∙◌, sym, ap, arith, ℕ, zero, suc, ℤ, pos, List, [], ◌∷◌, ◌-◌, ◌+◌, ◌<◌, ◌≤◌, length, get_or, set, ◌^◌, ◌+ℤ◌}
-use Rattle.std.specs.Prelude.{Option, Some, None, MatchOption, Result, MatchResult, Ok, Err, unsigned_abs, replicate}
-use Rattle.std.specs.List.{All, insert, remove}
+use Rattle.std.proofs.Common.{◌≡◌, inl, refl, ◌∙◌, sym, ap, arith, ℕ, zero, suc, ℤ, pos, List, [], ◌∷◌, ◌-◌, ◌+◌, ◌<◌, ◌≤◌, length, set}
+use Rattle.std.specs.Prelude.{replicate}
+use Rattle.std.specs.List.{All, insert}
 use Rattle.std.proofs.lemmas.List.{length-set, length-replicate}
 use Rattle.std.proofs.lemmas.List.Elements.{All-set, All-cons, All-head, All-tail, All-replicate}
-use Rattle.std.proofs.lemmas.List.Edits.{length-remove, length-insert}
-use Rattle.isl_meter.specs.Gauge.{Gauge, IsCharged, IsCutBy, IsWithin}
-use Rattle.isl_meter.specs.declared.Cut.{Cut}
+use Rattle.std.proofs.lemmas.List.Edits.{length-insert}
+use Rattle.isl_meter.specs.Gauge.{Gauge, IsCharged, IsWithin}
 use Rattle.isl_meter.proofs.CutLemmas.{IsCharged_refl, IsCharged_trans, IsCharged-unit, IsCutBy-after, charges}
 use Rattle.isl_meter.proofs.LimitLemmas.{IsWithin-zero}
 use Rattle.isl_piece.specs.declared.row.Row.{Row}
 use Rattle.isl_piece.specs.Row.{IsWellFormed, IsRowWithin}
 use Rattle.isl_piece.specs.System.{HoldRows}
 use Rattle.isl_omega.specs.Column.{IsProper}
-use Rattle.isl_elim.specs.Parts.{PartsView, AreParts, ArePartsOf, IsNextPart, HoldsPart}
+use Rattle.isl_elim.specs.Parts.{PartsView, ArePartsOf, IsNextPart, HoldsPart}
 use Rattle.isl_elim.specs.Sample.{IsSample, IsNowhere}
 use Rattle.isl_elim.proofs.PartsLaws.{proper_kept, charged_bits}
 use Rattle.isl_elim.proofs.EmptinessLaws.{IsSoFar, so_far_first, so_far_next, so_far_none, parts_nowhere, some_column}

@@ -1,6 +1,6 @@
 //! Whether rows hold nowhere.
 
-ghost use Rattle.std.specs.Prelude.{◌≡◌, ◌↔◌, ◌+ℤ◌, ◌≤ℤ◌, pos, ℤ, List, length, All, IsTrue, MatchResult};
+ghost use Rattle.std.specs.Prelude.{◌≡◌, ◌↔◌, ◌+ℤ◌, ◌≤ℤ◌, pos, ℤ, List, length, All, [], IfOk, IsTrue, MatchResult};
 ghost use Rattle.isl_meter.specs.Gauge.{IsCharged, IsCutBy};
 ghost use Rattle.isl_piece.specs.Normal.{IsNormal};
 ghost use Rattle.isl_omega.specs.Column.{IsProper};
@@ -8,12 +8,15 @@ ghost use Rattle.isl_column.specs.Units.{elimination_units};
 ghost use Rattle.isl_column.specs.Magnitude.{IsSpared};
 ghost use Rattle.isl_omega.specs.Equality.{HasEquality};
 ghost use Rattle.isl_elim.specs.Emptiness.{HoldNowhere};
+ghost use Rattle.isl_piece.specs.System.{HoldsSystem, IsSystemWithin, free_columns};
+ghost use Rattle.isl_elim.specs.Sample.{IsNowhere};
 ghost use Rattle.isl_elim.specs.Parts.{AreParts, HoldsPart};
 
 use crate::choice::{any_column, cheapest};
+use crate::opened::opened;
 use crate::parts::Parts;
 use isl_meter::{Cut, Meter};
-use isl_piece::Rows;
+use isl_piece::{Rows, System};
 use std::alloc::Global;
 
 /// Whether no number makes rows over one column hold. This spends what elimination of the column does.
@@ -74,4 +77,30 @@ fn are_empty(
         }
     }
     Ok(true)
+}
+
+/// Whether the system, in which no column is defined, holds at no point of whole numbers. Of one column this spends what
+/// `eliminate` does; it spends no unit of its own.
+///
+/// # Errors
+///
+/// `Overflow` where a number passes the limit of the meter, `Budget` where its units are used up, and `NoMemory`. With one
+/// column a limit of 127 bits is not passed where the numbers are at most `2^30` and at most one congruence has it.
+#[tactic(auto, using(crate::proofs::OpenedLaws::opened_steps))]
+pub fn is_empty(alloc: Global, system: &System, meter: &mut Meter) -> Result<bool, Cut>
+    requires well_formed { IsSystemWithin meter.old system.now }
+    requires plain { system.now.definitions ≡ [] }
+    ensures exact { IfOk result (λ empty. IsTrue empty ↔ IsNowhere (free_columns system.now) (HoldsSystem system.now)) }
+    ensures meter { MatchResult result (λ _. IsCharged meter.old meter.new) (IsCutBy meter.old meter.new) }
+    ensures units { system.now.columns ≡ 1 → pos meter.new.units ≤ℤ (pos meter.old.units +ℤ elimination_units system.now.rows 0) }
+    ensures equality { system.now.columns ≡ 1 → HasEquality 0 system.now.rows → meter.new.units ≡ meter.old.units }
+    ensures magnitude { system.now.columns ≡ 1 → IsSpared meter.old system.now.rows 0 result }
+{
+    if system.columns == 1 {
+        return column_nowhere(alloc, &system.rows, meter);
+    }
+    match opened(alloc, system, meter)? {
+        None => Ok(true),
+        Some(rows) => hold_nowhere(alloc, &rows, system.columns, meter),
+    }
 }

@@ -1,13 +1,16 @@
 //! Several columns out of rows, emptiness, and samples.
 #![tactic(auto)]
 
+mod along;
 mod choice;
-mod eliminate_all;
 mod emptiness;
 mod line;
+mod opened;
 mod parts;
 mod progression;
 mod projection;
 mod sample;
 
-pub use projection::eliminate;
+pub use emptiness::is_empty;
+pub use projection::{eliminate, eliminate_all};
+pub use sample::sample_point;

@@ -1,19 +1,21 @@
 //! A point at which rows hold.
 
-ghost use Rattle.std.specs.Prelude.{◌≡◌, ◌+◌, ◌≤◌, length, All, MatchOption, MatchResult};
+ghost use Rattle.std.specs.Prelude.{◌≡◌, ◌+◌, ◌≤◌, length, All, [], IfOk, MatchOption, MatchResult};
 ghost use Rattle.std.specs.List.{remove};
 ghost use Rattle.isl_meter.specs.Gauge.{IsCharged, IsCutBy, IsWithin};
 ghost use Rattle.isl_piece.specs.Normal.{IsNormal};
 ghost use Rattle.isl_piece.specs.System.{HoldRows};
 ghost use Rattle.isl_omega.specs.Column.{IsProper};
+ghost use Rattle.isl_piece.specs.System.{HoldsSystem, IsSystemWithin, free_columns};
 ghost use Rattle.isl_elim.specs.Parts.{AreParts, HoldsPart};
 ghost use Rattle.isl_elim.specs.Sample.{IsSample, IsNowhere};
 
 use crate::choice::any_column;
 use crate::line::tries_at;
+use crate::opened::opened;
 use crate::parts::Parts;
 use isl_meter::{Cut, Meter};
-use isl_piece::Rows;
+use isl_piece::{Rows, System};
 use std::alloc::Global;
 
 // The point with a number put in at the column, so that the rows hold. One unit is used for each number at which they do not.
@@ -98,4 +100,36 @@ fn sample_parts(
         }
     }
     Ok(None)
+}
+
+/// A point at which the system, in which no column is defined, holds, with its numbers within the limit of the meter; none
+/// exactly where there is no point.
+///
+/// # Errors
+///
+/// `Overflow` where a number passes the limit, `Budget` where the units are used up, and `NoMemory`.
+#[tactic(auto, using(crate::proofs::OpenedLaws::opened_steps))]
+pub fn sample_point(
+    alloc: Global,
+    system: &System,
+    meter: &mut Meter,
+) -> Result<Option<Vec<i128>>, Cut>
+    requires well_formed { IsSystemWithin meter.old system.now }
+    requires plain { system.now.definitions ≡ [] }
+    ensures exact { IfOk result (λ sample. MatchOption sample
+        (IsNowhere (free_columns system.now) (HoldsSystem system.now))
+        (λ point. IsSample meter.old (free_columns system.now) (HoldsSystem system.now) point.items)) }
+    ensures meter { MatchResult result (λ _. IsCharged meter.old meter.new) (IsCutBy meter.old meter.new) }
+{
+    let Some(rows) = opened(alloc, system, meter)? else {
+        return Ok(None);
+    };
+    match sample_rows(alloc, &rows, system.columns, meter)? {
+        None => Ok(None),
+        Some(whole) => {
+            let mut point = whole;
+            point.truncate(system.free());
+            Ok(Some(point))
+        }
+    }
 }

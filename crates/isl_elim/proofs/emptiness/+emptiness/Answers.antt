@@ -1,6 +1,5 @@
 use Rattle.std.proofs.Common.{◌≡◌, ◌≢◌, ◌<◌, [], arith}
 use Rattle.isl_meter.specs.Gauge.{IsCharged}
-use Rattle.isl_column.specs.Units.{elimination_units}
 use Rattle.isl_elim.specs.Parts.{ArePartsOf}
 use Rattle.isl_elim.proofs.EmptinessLaws.{some_column, nowhere_after}
 use Rattle.isl_elim.proofs.emptiness.+emptiness.Goals as goal

@@ -1,6 +1,6 @@
-use Rattle.std.proofs.Common.{◌≡◌, ◌↔◌, pos, List, ℤ, length, MatchOption, arith}
-use Rattle.std.specs.Prelude.{is_none, IsTrue}
-use Rattle.isl_meter.specs.Gauge.{Gauge, IsCharged}
+use Rattle.std.proofs.Common.{◌≡◌, List, ℤ, length, MatchOption, arith}
+use Rattle.std.specs.Prelude.{is_none}
+use Rattle.isl_meter.specs.Gauge.{IsCharged}
 use Rattle.isl_elim.specs.Parts.{ArePartsOf, IsNextPart, HoldsPart}
 use Rattle.isl_elim.proofs.EmptinessLaws.{column_found}
 use Rattle.isl_elim.proofs.emptiness.column_nowhere.Goals as goal

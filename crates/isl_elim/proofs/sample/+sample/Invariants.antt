@@ -1,4 +1,4 @@
-use Rattle.std.proofs.Common.{◌+◌, ◌*◌, ℕ}
+use Rattle.std.proofs.Common.{◌+◌, ◌*◌}
 use Rattle.isl_elim.specs.Parts.{most_parts}
 use Rattle.isl_elim.proofs.EmptinessLaws.{IsSoFar}
 use Rattle.isl_elim.proofs.sample.+sample.Given as goal

@@ -1,9 +1,9 @@
-use Rattle.std.proofs.Common.{◌≡◌, ◌∙◌, ap, sym, ◌+◌, length, arith, pos, ℤ, List, to_z, of_z, set, to_z-of_z}
+use Rattle.std.proofs.Common.{◌≡◌, ◌+◌, length, arith, pos, to_z, of_z, set, to_z-of_z}
 use Rattle.std.specs.Int.{w128}
 use Rattle.std.specs.List.{insert}
-use Rattle.isl_meter.specs.Gauge.{Gauge, IsCharged, IsWithin}
+use Rattle.isl_meter.specs.Gauge.{IsWithin}
 use Rattle.isl_piece.specs.System.{HoldRows}
-use Rattle.isl_elim.proofs.SampleLaws.{IsTried, tried_first, tried_put, tried_next, tried_rows, tried_sample}
+use Rattle.isl_elim.proofs.SampleLaws.{tried_first, tried_put, tried_next, tried_rows, tried_sample}
 use Rattle.isl_elim.proofs.sample.completed.Goals as goal
 
 pub loop-whole-init : goal.loop-whole-init

@@ -101,11 +101,13 @@ pub(crate) fn rows_without(
         (λ lists. AddsAlong meter.old columns cols.now (HoldRows rows.now) [] lists.items × IsCharged meter.old meter.new)
         (IsCutBy meter.old meter.new) }
 {
-    let mut lists = Vec::new(alloc);
     let copied = rows.copy(alloc)?;
     match copied.normalise(alloc, meter)? {
-        Some(normal) => push_without(alloc, normal, columns, cols, &mut lists, meter)?,
-        None => {}
+        None => Ok(Vec::new(alloc)),
+        Some(normal) => {
+            let mut lists = Vec::new(alloc);
+            push_without(alloc, normal, columns, cols, &mut lists, meter)?;
+            Ok(lists)
+        }
     }
-    Ok(lists)
 }

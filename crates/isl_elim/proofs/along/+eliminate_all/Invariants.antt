@@ -1,7 +1,7 @@
-use Rattle.std.proofs.Common.{◌+◌, ◌*◌, ℕ}
+use Rattle.std.proofs.Common.{◌+◌, ◌*◌}
 use Rattle.isl_elim.specs.Parts.{most_parts}
 use Rattle.isl_elim.proofs.AlongLaws.{ArePushed}
-use Rattle.isl_elim.proofs.eliminate_all.+eliminate_all.Given as goal
+use Rattle.isl_elim.proofs.along.+eliminate_all.Given as goal
 
 abbrev pub decreases-push_without : goal.decreases-push_without
 decreases-push_without l = 2 * l.columns

@@ -1,12 +1,12 @@
-use Rattle.std.proofs.Common.{◌≡◌, ◌∷◌, ◌++◌, ◌<◌, ◌-◌, [], refl, sym, arith, get_or, length, true, List, ℤ, ℕ}
+use Rattle.std.proofs.Common.{◌≡◌, ◌∷◌, ◌++◌, ◌<◌, [], refl, arith, get_or, length, true, List, ℤ}
 use Rattle.std.proofs.lemmas.List.{nil_from_length}
-use Rattle.isl_meter.specs.Gauge.{Gauge, IsCharged}
+use Rattle.isl_meter.specs.Gauge.{IsCharged}
 use Rattle.isl_meter.proofs.CutLemmas.{IsCharged_refl}
 use Rattle.isl_elim.specs.Others.{others_of}
 use Rattle.isl_elim.specs.Parts.{ArePartsOf, HoldsPart}
 use Rattle.isl_elim.proofs.OthersLaws.{among, among_at}
 use Rattle.isl_elim.proofs.AlongLaws.{along_none, along_after, pushed_all}
-use Rattle.isl_elim.proofs.eliminate_all.+eliminate_all.Goals as goal
+use Rattle.isl_elim.proofs.along.+eliminate_all.Goals as goal
 
 pub push_parts-returns : goal.push_parts-returns
 push_parts-returns t c =
