@@ -1,6 +1,8 @@
-pub mod Causes
 pub mod LexLaws
 pub mod NameLaws
-pub mod ReadLaws
+pub mod LiteralLaws
 pub mod SoundLaws
-pub mod FormLaws
+pub mod CauseLaws
+pub mod StateLaws
+pub mod KeptLaws
+pub mod StepLaws

@@ -17,7 +17,7 @@ use Rattle.isl_token.specs.declared.token.Kind.{Kind}
 use Rattle.isl_token.specs.declared.token.Kind.TheVariants as k
 use Rattle.isl_token.specs.Token.{Text, kind_of, kind_in, word_kind, word_kinds, IsToken}
 use Rattle.isl_token.specs.Spelling as s
-use Rattle.isl_token.specs.Spelling.{Grammar, Spells}
+use Rattle.isl_token.specs.Spelling.{Grammar}
 use Rattle.isl_tree.specs.declared.tree.Signed.{Signed}
 use Rattle.isl_tree.specs.declared.tree.Formula.{Formula}
 use Rattle.isl_tree.specs.declared.tree.Entry.{Entry}
@@ -31,7 +31,6 @@ use Rattle.isl_formula.specs.TermGrammar.{term}
 use Rattle.isl_formula.specs.FormulaGrammar.{formula}
 use Rattle.isl_text.specs.LiteralGrammar as g
 use Rattle.isl_text.specs.Piece.{make_piece, make_literal}
-use Rattle.isl_text.specs.Literal.{literal_grammar}
 
 -- ---- what all values that a grammar spells have, where the tokens are some text's
 pub record Has {A : Type 0} (Q : A → Type 0) (L : Grammar A) : Type 0 where
@@ -44,13 +43,13 @@ all_right : (us vs : List Token) → All IsToken (us ++ vs) → All IsToken vs
 all_right [] vs h = h
 all_right (u ∷ us) vs h = all_right us vs (All-tail IsToken u (us ++ vs) h)
 
-whatever : {A : Type 0} (L : Grammar A) → Has (λ _. Unit {0}) L
+pub whatever : {A : Type 0} (L : Grammar A) → Has (λ _. Unit {0}) L
 whatever L = record { by = λ a ts h l. tt }
 
-pure_has : {A : Type 0} (Q : A → Type 0) (a : A) → Q a → Has Q (s.pure a)
+pub pure_has : {A : Type 0} (Q : A → Type 0) (a : A) → Q a → Has Q (s.pure a)
 pure_has Q a q = record { by = λ b ts h l. subst Q (sym l.0) q }
 
-bind_has : {A B : Type 0} (P : A → Type 0) (Q : B → Type 0) (L : Grammar A) (M : A → Grammar B) → Has P L → ((a : A) → P a → Has Q (M a)) → Has Q (s.◌>>=◌ L M)
+pub bind_has : {A B : Type 0} (P : A → Type 0) (Q : B → Type 0) (L : Grammar A) (M : A → Grammar B) → Has P L → ((a : A) → P a → Has Q (M a)) → Has Q (s.◌>>=◌ L M)
 bind_has P Q L M first second = record {
   by = λ b ts h l.
       let us = l.1 in
@@ -59,10 +58,10 @@ bind_has P Q L M first second = record {
       (second l.0 (first.by l.0 us (all_left us vs whole) l.4)).by b vs (all_right us vs whole) l.5;
 }
 
-then_has : {A B : Type 0} (Q : B → Type 0) (L : Grammar A) (M : Grammar B) → Has Q M → Has Q (s.◌>>◌ L M)
+pub then_has : {A B : Type 0} (Q : B → Type 0) (L : Grammar A) (M : Grammar B) → Has Q M → Has Q (s.◌>>◌ L M)
 then_has Q L M second = bind_has (λ _. Unit {0}) Q L (λ _. M) (whatever L) (λ _ _. second)
 
-either_has : {A : Type 0} (Q : A → Type 0) (L M : Grammar A) → Has Q L → Has Q M → Has Q (s.◌∪◌ L M)
+pub either_has : {A : Type 0} (Q : A → Type 0) (L M : Grammar A) → Has Q L → Has Q M → Has Q (s.◌∪◌ L M)
 either_has Q L M first second = record {
   by = λ a ts h l. elim l [
     | inl x ↦ first.by a ts h x
@@ -78,7 +77,7 @@ many_by Q L each (x ∷ xs) ts h l =
     let whole : All IsToken (us ++ vs) = subst (All IsToken) l.2 h in
     All-cons Q x xs (each.by x us (all_left us vs whole) l.3) (many_by Q L each xs vs (all_right us vs whole) l.4)
 
-many_has : {A : Type 0} (Q : A → Type 0) (L : Grammar A) → Has Q L → Has (All Q) (s.many L)
+pub many_has : {A : Type 0} (Q : A → Type 0) (L : Grammar A) → Has Q L → Has (All Q) (s.many L)
 many_has Q L each = record { by = λ xs ts h l. many_by Q L each xs ts h l }
 
 -- ---- names
@@ -187,12 +186,9 @@ pub record IsNamedLiteral (literal : Literal) : Type 0 where
   pub params : All IsLiteralName literal.params
   pub spaces : All (λ piece. IsNamedSpace (space_of_piece piece)) literal.pieces
 
-outline_has : (n : ℕ) → Has IsNamedLiteral (g.outline_of n)
+pub outline_has : (n : ℕ) → Has IsNamedLiteral (g.outline_of n)
 unfolding NamedPiece
 outline_has n =
     bind_has (All IsLiteralName) IsNamedLiteral _ _ (either_has (All IsLiteralName) _ _ declared_has (pure_has (All IsLiteralName) [] (All-nil IsLiteralName))) (λ params names.
     bind_has (All NamedPiece) IsNamedLiteral _ _ (braces_has (g.tuple n) (formula n) (tuple_has n)) (λ found spaces.
     pure_has IsNamedLiteral (make_literal params found) (record { params = names; spaces = spaces })))
-
-pub named : (literal : Literal) (ts : List Token) → All IsToken ts → Spells literal_grammar literal ts → IsNamedLiteral literal
-named literal ts tokens spelled = (outline_has spelled.depth).by literal ts tokens spelled.spelled.0

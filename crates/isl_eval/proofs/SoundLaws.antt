@@ -1,10 +1,10 @@
 -- What a literal that is taken declares and names is what a value may have.
-use Rattle.std.proofs.Common.{◌≡◌, ◌≢◌, ◌∙◌, refl, sym, ℕ, ℤ, ◌≤◌, true, false, List, [], ◌∷◌, length, get_or, Option, Some, None, arith}
+use Rattle.std.proofs.Common.{◌≡◌, ◌≢◌, ◌∙◌, refl, sym, ℕ, ◌≤◌, true, false, List, [], ◌∷◌, length, get_or, Option, Some, None, arith}
 use Rattle.std.specs.Prelude.{not, ◌&&◌, nat_le}
 use Rattle.std.specs.List.{All, list_all}
 use Rattle.std.specs.Str.{bytes_eq}
-use Rattle.std.proofs.lemmas.Bool.{false≢true, and_parts, or_parts, not-true, leb-true}
-use Rattle.std.proofs.lemmas.List.Elements.{All-nil, All-cons}
+use Rattle.std.proofs.lemmas.Bool.{false≢true, and_parts, or_parts, not-true, not-false, leb-true}
+use Rattle.std.proofs.lemmas.List.Elements.{All-nil, All-cons, All-head}
 use Rattle.std.proofs.lemmas.List.Kept.{AllPairs-cons}
 use Rattle.std.proofs.lemmas.Slice.Eq.{bytes_eq-Decides}
 use Rattle.isl_math.proofs.ListLaws.{All-pass}
@@ -12,8 +12,6 @@ use Rattle.isl_space.specs.Name.{Name}
 use Rattle.isl_space.specs.Names.{AreDistinct}
 use Rattle.isl_space.specs.Form.{leaves_of}
 use Rattle.isl_space.specs.SpaceForm.{space_leaves_of, IsNarrowSpace}
-use Rattle.isl_token.specs.TokenView.{Token}
-use Rattle.isl_token.specs.Token.{IsToken}
 use Rattle.isl_tree.specs.declared.tree.Tuple.{Tuple, Leaf, Pair'}
 use Rattle.isl_tree.specs.declared.tree.PieceTree.{PieceTree}
 use Rattle.isl_tree.specs.declared.tree.Literal.{Literal}
@@ -23,11 +21,18 @@ use Rattle.isl_lower.proofs.ValueLaws.{coordinates_of_plain}
 use Rattle.isl_text.specs.Formed.{are_distinct, are_alike, piece_is_formed}
 use Rattle.isl_text.specs.Bound.{bound_in}
 use Rattle.isl_text.specs.Limits.{coordinates, leaves_of as leaves_of_piece, piece_is_within}
-use Rattle.isl_eval.specs.declared.statement.Statement.{Statement}
-use Rattle.isl_eval.specs.declared.statement.Statement.TheVariants.{Empty, Show}
-use Rattle.isl_eval.specs.Statement.{TokensSpell, BytesSpell, IsSound}
+use Rattle.isl_tree.specs.Plain.{is_plain}
+use Rattle.isl_text.specs.Limits.{is_within}
+use Rattle.isl_lower.specs.Value.{IsWellFormedLiteral}
+use Rattle.isl_expr.specs.declared.tree.Stmt.{Stmt}
+use Rattle.isl_expr.specs.declared.tree.Stmt.TheVariants.{Empty, Bind, Show}
+use Rattle.isl_expr.specs.declared.tree.Expr.{Expr, Row', Prefix', Any', Last', Post'}
+use Rattle.isl_expr.specs.declared.tree.Expr as e
+use Rattle.isl_expr.specs.Expr.{literals_of, statement_literals}
+use Rattle.isl_statement.specs.Limits.{statement_is_within}
+use Rattle.isl_eval.specs.Spelled.{BytesSpell, is_brought, is_unsupported}
 use Rattle.isl_eval.proofs.LexLaws.{lexed}
-use Rattle.isl_eval.proofs.NameLaws.{named}
+use Rattle.isl_eval.proofs.LiteralLaws.{IsSpelled, literals_spelled}
 
 -- ---- distinct names
 each_apart : (name : Name) (names : List Name) → is_among names name ≡ false → All (λ other. name ≢ other) names
@@ -67,26 +72,38 @@ narrow piece plain within =
     }
 
 -- ---- what is taken is sound
-pub sound : (limit : ℤ) (ts : List Token) (literal : Literal) → All IsToken ts → TokensSpell limit ts (Show literal) → IsSound (Show literal)
-sound limit ts literal tokens spelled =
-    let taken = spelled.1 in
-    let names = named literal ts tokens spelled.0 in
-    let formed = and_parts (are_distinct literal.params && are_alike literal.pieces) (list_all (piece_is_formed literal.params) literal.pieces) spelled.0.spelled.1 in
+pub sound : (literal : Literal) → is_plain literal ≡ true → is_within literal ≡ true → IsSpelled literal → IsWellFormedLiteral literal
+sound literal plain_literal within_literal spelled =
+    let formed = and_parts (are_distinct literal.params && are_alike literal.pieces) (list_all (piece_is_formed literal.params) literal.pieces) spelled.formed in
     let distinct = and_parts (are_distinct literal.params) (are_alike literal.pieces) formed.0 in
-    let sizes = and_parts (nat_le (length literal.params) 16) (list_all piece_is_within literal.pieces) taken.within in
-    let plain = All-pass is_plain_piece literal.pieces taken.plain in
-    let within = All-pass piece_is_within literal.pieces sizes.1 in (
-      taken.plain,
-      record {
-        params = record {
-          distinct = distinct_from literal.params distinct.0;
-          named = names.params;
-          few = at_most (length literal.params) 16 sizes.0;
-        };
-        spaces = λ i d low. record { named = names.spaces i d low; narrow = narrow (get_or literal.pieces i d) (plain i d low) (within i d low) };
-      },
-    )
+    let sizes = and_parts (nat_le (length literal.params) 16) (list_all piece_is_within literal.pieces) within_literal in
+    let plain = All-pass is_plain_piece literal.pieces plain_literal in
+    let within = All-pass piece_is_within literal.pieces sizes.1 in record {
+      params = record {
+        distinct = distinct_from literal.params distinct.0;
+        named = spelled.named.params;
+        few = at_most (length literal.params) 16 sizes.0;
+      };
+      spaces = λ i d low. record { named = spelled.named.spaces i d low; narrow = narrow (get_or literal.pieces i d) (plain i d low) (within i d low) };
+    }
 
-pub spelled_sound : (limit : ℤ) (bytes : List ℕ) (statement : Statement) → BytesSpell limit bytes statement → IsSound statement
-spelled_sound limit bytes Empty spelled = tt
-spelled_sound limit bytes (Show literal) spelled = sound limit spelled.tokens literal (lexed bytes spelled.tokens spelled.cut) spelled.spelled
+-- the literals of an expression that is taken
+of_expr : (expr : Expr) → is_brought expr ≡ true → list_all is_within (literals_of expr) ≡ true → All IsSpelled (literals_of expr) → All IsWellFormedLiteral (literals_of expr)
+of_expr (e.Name name) brought within spelled = All-nil IsWellFormedLiteral
+of_expr (e.Literal literal) brought within spelled =
+    let fits = and_parts (is_within literal) true within in
+    All-cons IsWellFormedLiteral literal [] (sound literal brought fits.0 (All-head IsSpelled literal [] spelled)) (All-nil IsWellFormedLiteral)
+of_expr (Row' s first t links) brought within spelled = absurd (false≢true brought)
+of_expr (Prefix' word s operand) brought within spelled = absurd (false≢true brought)
+of_expr (Any' r source s sink t schedule) brought within spelled = absurd (false≢true brought)
+of_expr (Last' r source s sink t schedule) brought within spelled = absurd (false≢true brought)
+of_expr (Post' s operand t postfixes) brought within spelled = absurd (false≢true brought)
+
+of_statement : (stmt : Stmt) → is_unsupported stmt ≡ false → statement_is_within stmt ≡ true → All IsSpelled (statement_literals stmt) → All IsWellFormedLiteral (statement_literals stmt)
+of_statement Empty supported within spelled = All-nil IsWellFormedLiteral
+of_statement (Bind name expr) supported within spelled = of_expr expr (not-false (is_brought expr) supported) within spelled
+of_statement (Show expr) supported within spelled = of_expr expr (not-false (is_brought expr) supported) within spelled
+
+pub spelled_sound : (bytes : List ℕ) (stmt : Stmt) → BytesSpell bytes stmt → is_unsupported stmt ≡ false → statement_is_within stmt ≡ true → All IsWellFormedLiteral (statement_literals stmt)
+spelled_sound bytes stmt spelled supported within =
+    of_statement stmt supported within (literals_spelled stmt spelled.tokens (lexed bytes spelled.tokens spelled.cut) spelled.spelled)

@@ -1,3 +1,13 @@
-pub mod Bindings
+pub mod State
+pub mod Selection
+pub mod Spelled
+pub mod Causes
+pub mod Stored
 pub mod Machine
-pub mod Statement
+pub mod Evaluation
+pub use Rattle.isl_kinds.specs.Typed
+pub use Rattle.isl_lower.specs.Value
+pub use Rattle.isl_print.specs.Printed
+pub use Rattle.isl_statement.specs.StatementGrammar
+pub use Rattle.isl_tree.specs.Literal
+pub use Rattle.isl_union.specs.KeptValue

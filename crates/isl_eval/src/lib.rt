@@ -1,12 +1,14 @@
 //! One statement of a script: what it answers and what it binds, or why it is refused.
 //!
-//! A statement is empty, or one plain literal, whose value is shown.
+//! A statement is empty, or it binds or shows a plain literal or a name.
 #![tactic(auto)]
 
+mod eval;
+mod selected;
+mod spelled;
 mod state;
-mod statement;
 mod step;
 
+pub use spelled::one_statement;
 pub use state::State;
-pub use statement::{Statement, one_statement};
-pub use step::answer;
+pub use step::{Tally, answer};

@@ -1,28 +1,122 @@
 //! What statements have bound so far.
 
-ghost use Rattle.std.specs.Prelude.{◌≡◌};
-ghost use Rattle.isl_eval.specs.Bindings.{unbound};
+ghost use Rattle.std.specs.Prelude.{◌≡◌, IfOk, OnOk, OnErr};
+ghost use Rattle.std.specs.Option.{option_copied};
+ghost use Rattle.isl_union.specs.KeptValue.{IsKeptValue};
+ghost use Rattle.isl_eval.specs.State.{unbound, kept_of, type_of, scope_of, Binds};
 
-use std::alloc::Global;
+use indexmap::IndexMap;
+use isl_expr::tree::ValueKind;
+use isl_kinds::{Scope, Typed};
+use isl_space::Name;
+use isl_union::Value;
+use std::alloc::{AllocError, Global};
 use std::marker::Model;
+use std::rc::Rc;
 
-/// What the statements so far have bound: nothing yet.
+/// What a name stands for: a kind, and a value that may have several names.
 #[derive(Drop)]
-pub struct State {}
+pub(crate) struct Kept {
+    kind: ValueKind,
+    value: Rc<Value>,
+}
+
+impl Model for Kept {
+    ghost use Rattle.isl_eval.specs.State.{Kept as KeptView};
+    ghost use Rattle.isl_eval.specs.Stored.{kept_code};
+
+    ghost Value = { KeptView };
+
+    ghost coded = { kept_code };
+
+    ghost view = { λ k. record { kind = k.kind; value = k.value.value } };
+}
+
+impl Kept {
+    pub(crate) fn new(kind: ValueKind, value: Rc<Value>) -> Kept
+        ensures { result ≡ record { kind = kind; value = value.value } }
+    {
+        Kept { kind, value }
+    }
+
+    /// The value.
+    pub(crate) fn value(&self) -> &Value
+        ensures { result.now ≡ self.now.value }
+    {
+        &self.value
+    }
+
+    /// The same, with the same value in memory.
+    pub(crate) fn copy(&self) -> Result<Kept, AllocError>
+        ensures copy { IfOk result (λ copy. copy ≡ self.now) }
+        ensures kept { IsKeptValue self.now.value }
+    {
+        let _pieces = self.value.pieces();
+        Ok(Kept {
+            kind: self.kind,
+            value: self.value.clone()?,
+        })
+    }
+}
+
+/// What the statements so far have bound: names, each with a kind and a kept value. Contracts see them by content.
+#[derive(Drop)]
+pub struct State {
+    // The types of what is bound.
+    scope: Scope,
+    bound: IndexMap<Name, Kept>,
+}
 
 impl Model for State {
-    ghost use Rattle.isl_eval.specs.Bindings.{Bindings, unbound};
+    ghost use Rattle.std.specs.Prelude.{◌≡◌};
+    ghost use Rattle.isl_eval.specs.State.{StateView, scope_of};
+    ghost use Rattle.isl_eval.specs.Stored.{state_code};
 
-    ghost Value = { Bindings };
+    ghost Value = { StateView };
 
-    ghost view = { λ s. unbound };
+    ghost coded = { state_code };
+
+    ghost view = { λ s. record { bound = s.bound.entries } };
+
+    ghost invariant = { λ s. s.scope ≡ scope_of (record { bound = s.bound.entries }) };
 }
 
 impl State {
-    /// Nothing is bound.
-    pub fn new(_alloc: Global) -> State
+    /// No name is bound.
+    pub fn new(alloc: Global) -> State
         ensures { result ≡ unbound }
     {
-        State {}
+        State {
+            scope: Scope::new(alloc),
+            bound: IndexMap::new(alloc),
+        }
+    }
+
+    /// The bound names, each with its kind and its declared parameters.
+    pub fn scope(&self) -> &Scope
+        ensures { result.now ≡ scope_of self.now }
+    {
+        &self.scope
+    }
+
+    /// What a name stands for.
+    pub(crate) fn get(&self, name: &Name) -> Option<&Kept>
+        ensures { option_copied result ≡ kept_of self.now name.now }
+    {
+        self.bound.get(name)
+    }
+
+    /// From now on the name stands for this, which is of this type, and every other name for what it stood for.
+    pub(crate) fn bind(&mut self, name: Name, kept: Kept, typed: Typed) -> Result<(), AllocError>
+        requires { typed ≡ type_of kept }
+        ensures ok { OnOk result (Binds self.old name kept self.new) }
+        ensures err { OnErr result (self.new ≡ self.old) }
+    {
+        self.bound.reserve(1)?;
+        self.scope.bind(name.copy()?, typed)?;
+        match self.bound.insert(name, kept) {
+            Ok(_) => Ok(()),
+            Err(_) => unreachable!(),
+        }
     }
 }

@@ -1,4 +1,13 @@
-//! Which kind of value an operation makes of its operands.
+//! Which kind of value an operation makes of its operands, and which kind and parameters an expression has.
 #![tactic(auto)]
 
-pub mod lines;
+mod known;
+mod lines;
+mod params;
+mod place;
+mod scope;
+mod sought;
+mod types;
+
+pub use scope::{Scope, Typed};
+pub use types::{typed, typed_statement};

@@ -1,6 +1,6 @@
 -- Work that is cut by an overflow, for a reason.
-use Rattle.std.proofs.Common.{◌≡◌, refl, Result, Ok, Err, MatchResult}
-use Rattle.std.specs.Result.{IsErr, IsErrAnd}
+use Rattle.std.proofs.Common.{◌≡◌, Result, Ok, Err, MatchResult}
+use Rattle.std.specs.Result.{IsErrAnd}
 use Rattle.isl_meter.specs.declared.Cut.{Cut}
 use Rattle.isl_meter.specs.declared.Cut.TheVariants.{Overflow}
 use Rattle.isl_meter.specs.Gauge.{Gauge, overflown}

@@ -15,7 +15,8 @@ pub mod CombineLaws
 pub mod CutLaws
 pub mod DefinedLaws
 pub mod RowsLaws
-pub mod SystemLaws
+pub mod PlacedLaws
+pub mod MeetLaws
 pub mod NegationLaws
 pub mod WitnessLaws
 pub mod IndexLaws

@@ -1,7 +1,7 @@
 -- The laws of normal rows.
 use Rattle.std.proofs.Common.{◌≡◌, ◌≢◌, ◌↔◌, inl, inr, refl, sym, ap, ◌∙◌, arith, ℕ, zero, suc, ℤ, List, [], ◌∷◌, get_or, map, fold, length, false, Option, Some, None, option_map, MatchOption, IfSome}
 use Rattle.std.specs.List.{All, AllPairs}
-use Rattle.std.proofs.lemmas.List.Elements.{All-nil, All-cons, All-head, All-tail, All-weaker, All-get_or}
+use Rattle.std.proofs.lemmas.List.Elements.{All-nil, All-cons, All-head, All-tail, All-get_or}
 use Rattle.isl_piece.specs.declared.row.RowKind.TheVariants.{AtLeast}
 use Rattle.isl_piece.specs.declared.row.Row.{Row}
 use Rattle.isl_piece.specs.Normal.{Verdict, Always, Never, Kept}

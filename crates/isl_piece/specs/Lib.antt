@@ -2,6 +2,7 @@ pub mod Combine
 pub mod Cut
 pub mod Definition
 pub mod Index
+pub mod Meet
 pub mod Negation
 pub mod Normal
 pub mod Numbers

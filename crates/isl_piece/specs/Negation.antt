@@ -1,5 +1,5 @@
 -- Rows of which one holds exactly where a row does not.
-use Rattle.std.specs.Prelude.{◌≡◌, ℤ, pos, negsuc, neg_ℤ, ◌-ℤ◌, List, [], ◌∷◌, Any}
+use Rattle.std.specs.Prelude.{ℤ, pos, negsuc, neg_ℤ, ◌-ℤ◌, List, [], ◌∷◌, Any}
 use Rattle.isl_math.specs.Dot.{scaled}
 use Rattle.isl_meter.specs.Gauge.{Gauge, IsWithin}
 use Rattle.isl_piece.specs.declared.row.RowKind.{RowKind}

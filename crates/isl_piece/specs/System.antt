@@ -1,6 +1,6 @@
 -- What a system says of a point: the conjunction of its rows, at the numbers of its free columns and those that its definitions
 -- give. (isl manual, on basic sets and integer divisions)
-use Rattle.std.specs.Prelude.{◌≡◌, ℕ, ◌+◌, ◌-◌, ◌≤◌, ◌⊎◌, ℤ, pos, List, [], ◌∷◌, ◌++◌, All, Any, length, map}
+use Rattle.std.specs.Prelude.{ℕ, ◌+◌, ◌-◌, ◌≤◌, ◌⊎◌, ℤ, pos, List, [], ◌∷◌, ◌++◌, All, Any, length, map}
 use Rattle.isl_meter.specs.Gauge.{Gauge}
 use Rattle.isl_piece.specs.declared.row.Row.{Row}
 use Rattle.isl_piece.specs.declared.definition.Definition.{Definition}

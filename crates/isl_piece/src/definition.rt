@@ -32,6 +32,12 @@ impl Definition {
         })
     }
 
+    fn same(&self, other: &Definition) -> bool
+        ensures { IsTrue result ↔ (self.now ≡ other.now) }
+    {
+        self.constant == other.constant && self.k == other.k && self.coefs == other.coefs
+    }
+
     /// The number of the column, where those before it have the numbers of the point.
     pub(crate) fn value_at(&self, point: &[i128], meter: &mut Meter) -> Result<Int, Overflow>
         requires { IsDefinition meter.old (length point.now) self.now }
@@ -78,6 +84,21 @@ impl Definitions {
         ensures { IsTrue result ↔ (self.now ≡ []) }
     {
         self.items.is_empty()
+    }
+
+    /// Whether the two are the same, one by one.
+    pub fn same(&self, other: &Definitions) -> bool
+        ensures { IsTrue result ↔ (self.now ≡ other.now) }
+    {
+        if self.len() != other.len() {
+            return false;
+        }
+        for i in 0..self.len() {
+            if !self.items[i].same(&other.items[i]) {
+                return false;
+            }
+        }
+        true
     }
 
     pub fn as_slice(&self) -> &[Definition]

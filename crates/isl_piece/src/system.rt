@@ -59,10 +59,9 @@ impl System {
 
     /// The number of columns without one, which come first.
     pub fn free(&self) -> usize
-        requires { length self.now.definitions ≤ self.now.columns }
         ensures { result ≡ free_columns self.now }
     {
-        self.columns - self.definitions.len()
+        self.columns.saturating_sub(self.definitions.len())
     }
 }
 
@@ -141,25 +140,6 @@ impl System {
         let full = self.definitions.full_point(alloc, point, meter)?;
         Ok(self.rows.hold_at(full.as_slice(), meter)?)
     }
-}
-
-/// The system that holds where both do: the rows of `a`, then those of `b`.
-pub fn meet(alloc: Global, a: &System, b: &System) -> Result<System, AllocError>
-    requires columns { a.now.columns ≡ b.now.columns }
-    requires definitions { a.now.definitions ≡ b.now.definitions }
-    ensures exact { IfOk result (λ met. met ≡ record { columns = a.now.columns; definitions = a.now.definitions; rows = a.now.rows ++ b.now.rows }) }
-    ensures points { IfOk result (λ met. (point : List ℤ) → HoldsSystem met point ↔ (HoldsSystem a.now point × HoldsSystem b.now point)) }
-    ensures within { (g : Gauge) → IsSystemWithin g a.now → IsSystemWithin g b.now → IfOk result (IsSystemWithin g) }
-{
-    let count = a.rows.len().saturating_add(b.rows.len());
-    let mut rows = Rows::with_capacity(alloc, count)?;
-    rows.append(alloc, &a.rows)?;
-    rows.append(alloc, &b.rows)?;
-    Ok(System {
-        columns: a.columns,
-        definitions: a.definitions.copy(alloc)?,
-        rows,
-    })
 }
 
 /// The system with its normal rows: each row divided as far as it goes, rows that hold everywhere left out, and each bound

@@ -11,14 +11,14 @@ use Rattle.isl_tree.specs.declared.tree.Literal.{Literal}
 use Rattle.isl_text.specs.Limits.{is_within}
 use Rattle.isl_text.specs.Literal.{literal_grammar}
 use Rattle.isl_text.specs.Read.{Answers, IsLiteralAt, has_wide_number, judged}
-use Rattle.isl_eval.specs.Machine.{HasNumbersUpTo}
+use Rattle.isl_eval.specs.State.{HasNumbersUpTo}
 use Rattle.isl_readback.specs.Tree.{printed_tree}
 use Rattle.isl_readback.specs.RoundTrip.{IsWritableValue}
 use Rattle.isl_readback.specs.Accepted.{HasQuietNames, IsAccepted}
 use Rattle.isl_readback.proofs.TokenLaws.{Tokens}
 use Rattle.isl_readback.proofs.ValueTokenLaws.{printed_tokens, tokens-printed}
 use Rattle.isl_readback.proofs.AcceptedTokens.{at, not_deep, printed_leads as quiet_leads}
-use Rattle.isl_readback.proofs.TakenTokens.{narrow, printed_leads}
+use Rattle.isl_readback.proofs.TakenTokens.{narrow}
 use Rattle.isl_readback.proofs.RoundTripLaws.{some_same, tree_spelled}
 use Rattle.isl_readback.proofs.WithinTree.{tree_within}
 
@@ -39,5 +39,5 @@ printed_accepted limit value below writable numbers quiet ts result lexed exactl
     let shallow = ap is_too_deep (sym same) ∙ not_deep (at 0) (at 0) (printed_tokens value) (quiet_leads limit value writable numbers quiet) in
     let answer = exactly.some shallow (printed_tree value) (length ts) stands in
     let small : has_wide_number (pos limit) (slice_range ts 0 (length ts)) ≡ false =
-    ap (has_wide_number (pos limit)) (whole ∙ sym same) ∙ narrow limit false false (printed_tokens value) (printed_leads limit below value writable numbers) in
+    ap (has_wide_number (pos limit)) (whole ∙ sym same) ∙ narrow limit below value writable numbers in
     subst (Answers result) (not_refused limit (slice_range ts 0 (length ts)) (printed_tree value) (length ts) (tree_within value writable.kept writable.comparisons) small) answer

@@ -16,6 +16,7 @@ pub mod QuietNames
 pub mod PrintedTokens
 pub mod AcceptedTokens
 pub mod TakenTokens
+pub mod AloneLaws
 pub mod AcceptedLaws
 pub mod LoweredLaws
 pub mod TakenLaws

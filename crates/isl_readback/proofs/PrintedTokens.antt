@@ -23,7 +23,7 @@ use Rattle.isl_print.specs.RowOrder.{row_before}
 use Rattle.isl_print.specs.Sum.{share, terms_of}
 use Rattle.isl_print.proofs.TextLaws.{All-in_order}
 use Rattle.isl_token.specs.TokenView as token
-use Rattle.isl_eval.specs.Machine.{HasNumbersUpTo}
+use Rattle.isl_eval.specs.State.{HasNumbersUpTo}
 use Rattle.isl_readback.specs.Written.{IsComparison, IsLeaf, IsFlatSpace}
 use Rattle.isl_readback.specs.RoundTrip.{IsWritableValue}
 use Rattle.isl_readback.proofs.TokenLaws.{Tokens, sign, word, number, each_tokens, joined_tokens, term_tokens, constant_tokens, sum_tokens, side_tokens, relation_tokens, kind_tokens, row_tokens, conjunction_tokens, name_tokens, names_tokens, tuple_tokens, tuples_tokens}

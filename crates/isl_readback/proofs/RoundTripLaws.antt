@@ -41,13 +41,14 @@ use Rattle.isl_readback.proofs.PlainTree.{tree_plain}
 use Rattle.isl_readback.proofs.WithinTree.{tree_within}
 
 -- ---- the tokens of the text spell the tree
+pub tree_at : (value : KeptValue) → IsKeptValue value → HasWritableNumbers value → IsUniform value → literal_grammar (suc (suc most_leaves)) (printed_tree value) (printed_tokens value)
+tree_at value kept numbers uniform =
+    let deep : most_leaves ≤ suc (suc most_leaves) = omega arith in
+    (outline_spelled most_leaves value kept numbers deep, tree_formed value kept uniform)
+
 pub tree_spelled : (value : KeptValue) → IsKeptValue value → HasWritableNumbers value → IsUniform value → Writes (printed value) (printed_tree value)
 tree_spelled value kept numbers uniform =
-    let deep : most_leaves ≤ suc (suc most_leaves) = omega arith in (
-      printed_tokens value,
-      tokens-printed value kept numbers,
-      record { depth = suc (suc most_leaves); spelled = (outline_spelled most_leaves value kept numbers deep, tree_formed value kept uniform) },
-    )
+    (printed_tokens value, tokens-printed value kept numbers, record { depth = suc (suc most_leaves); spelled = tree_at value kept numbers uniform })
 
 pub some_same : (a b : List Token) → Some a ≡ Some b → a ≡ b
 some_same a b e = cc

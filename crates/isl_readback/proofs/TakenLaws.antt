@@ -1,10 +1,13 @@
 -- What the program answers, it takes again.
-use Rattle.std.proofs.Common.{◌≡◌, ◌<◌, ◌≤◌, ◌-◌, ◌^◌, ◌∙◌, ℕ, true, false, List, [], ◌∷◌, ◌++◌, All, ap, sym, subst, refl, arith, pow_mono}
-use Rattle.std.specs.Prelude.{◌&&◌}
+use Rattle.std.proofs.Common.{◌≡◌, ◌<◌, ◌≤◌, ◌-◌, ◌^◌, ◌∙◌, ℕ, suc, Bool, true, false, List, [], ◌∷◌, ◌++◌, Some, None, Ok, All, ap, sym, subst, refl, arith, pow_mono}
+use Rattle.std.specs.Prelude.{◌&&◌, not}
 use Rattle.std.specs.List.{list_all}
-use Rattle.std.proofs.lemmas.Bool.{and_parts}
-use Rattle.std.proofs.lemmas.List.Elements.{All-map, All-weaker}
-use Rattle.isl_meter.specs.Gauge.{Gauge, limit_of}
+use Rattle.std.specs.Str.{bytes_eq}
+use Rattle.std.proofs.lemmas.Bool.{and_parts, false≢true, false_from_ne_true, not-false}
+use Rattle.std.proofs.lemmas.List.Elements.{All-map, All-weaker, All-head, All-nil, All-cons}
+use Rattle.std.proofs.lemmas.Slice.Eq.{bytes_eq-Decides}
+use Rattle.isl_meter.specs.Gauge.{Gauge, limit_of, IsCharged}
+use Rattle.isl_space.specs.Name.{Name}
 use Rattle.isl_piece.specs.Row.{IsRowUpTo}
 use Rattle.isl_union.specs.KeptValue.{KeptPiece, KeptValue}
 use Rattle.isl_print.specs.Ordered.{in_order}
@@ -14,27 +17,44 @@ use Rattle.isl_print.specs.Printed.{printed}
 use Rattle.isl_print.specs.RowOrder.{row_before}
 use Rattle.isl_print.proofs.TextLaws.{All-in_order}
 use Rattle.isl_token.specs.Number.{too_great}
+use Rattle.isl_token.specs.Lex.{tokens}
 use Rattle.isl_token.specs.Spelling.{Spells}
 use Rattle.isl_tree.specs.declared.tree.Literal.{Literal}
 use Rattle.isl_tree.specs.Known.{literal_is_known}
 use Rattle.isl_tree.specs.Plain.{is_plain}
 use Rattle.isl_text.specs.Formed.{are_distinct, are_alike, piece_is_formed}
-use Rattle.isl_text.specs.Literal.{literal_grammar}
-use Rattle.isl_lower.specs.Value.{value_lowered}
+use Rattle.isl_text.specs.Read.{has_wide_number}
+use Rattle.isl_lower.specs.Value.{IsWellFormedLiteral, value_lowered}
 use Rattle.isl_lower.proofs.ValueLaws.{same_elements}
-use Rattle.isl_eval.specs.declared.statement.Statement.{Statement}
-use Rattle.isl_eval.specs.declared.statement.Statement.TheVariants.{Empty, Show}
-use Rattle.isl_eval.specs.Bindings.{Bindings}
-use Rattle.isl_eval.specs.Machine.{HasNumbersUpTo, IsShowable, Step, Answers}
-use Rattle.isl_eval.specs.Statement.{IsTaken, BytesSpell}
+use Rattle.isl_expr.specs.declared.tree.Stmt.{Stmt}
+use Rattle.isl_expr.specs.declared.tree.Stmt.TheVariants.{Empty, Bind, Show}
+use Rattle.isl_expr.specs.declared.tree.Expr.{Expr, Row', Prefix', Any', Last', Post'}
+use Rattle.isl_expr.specs.declared.tree.Expr as e
+use Rattle.isl_expr.specs.Expr.{literals_of, statement_literals}
+use Rattle.isl_space.specs.Limits.{most_leaves}
+use Rattle.isl_statement.specs.StatementGrammar.{statement_grammar}
+use Rattle.isl_statement.specs.Limits.{statement_is_within}
+use Rattle.isl_statement.specs.Read.{NoStatement}
+use Rattle.isl_kinds.specs.Typed.{ScopeView, kind_of_pieces, declared_of, type_of_statement}
+use Rattle.isl_eval.specs.State.{Kept, Moment, unbound, kept_of, scope_of, HasNumbersUpTo}
+use Rattle.isl_eval.specs.Selection.{Keeps}
+use Rattle.isl_eval.specs.Spelled.{BytesSpell, is_brought, is_unsupported}
+use Rattle.isl_eval.specs.Causes.{IsValid}
+use Rattle.isl_eval.specs.Machine.{Answer, Step, Answers, shown}
+use Rattle.isl_eval.specs.Evaluation.{IsRead}
+use Rattle.isl_eval.proofs.CauseLaws.{of_tokens, of_statement}
+use Rattle.isl_eval.proofs.LexLaws.{lexed}
+use Rattle.isl_eval.proofs.LiteralLaws.{IsSpelled, literals_spelled}
 use Rattle.isl_eval.proofs.SoundLaws.{spelled_sound}
+use Rattle.isl_eval.proofs.KeptLaws.{declared_itself}
+use Rattle.isl_eval.proofs.StepLaws.{show_answers}
 use Rattle.isl_readback.specs.Tree.{printed_tree}
 use Rattle.isl_readback.specs.RoundTrip.{IsWritableValue, ReadsAs}
-use Rattle.isl_readback.specs.TakenAgain.{HaveSameElements, IsShownAgain, IsTakenAgain}
-use Rattle.isl_readback.proofs.TokenLaws.{Tokens}
+use Rattle.isl_readback.specs.TakenAgain.{AreWritable, IsShallow, IsShownAgain, IsTakenAgain}
 use Rattle.isl_readback.proofs.ValueTokenLaws.{printed_tokens, tokens-printed}
-use Rattle.isl_readback.proofs.TakenTokens.{bare, flat, narrow, printed_leads}
-use Rattle.isl_readback.proofs.RoundTripLaws.{some_same, tree_spelled, reads_as}
+use Rattle.isl_readback.proofs.TakenTokens.{narrow}
+use Rattle.isl_readback.proofs.RoundTripLaws.{tree_at, reads_as}
+use Rattle.isl_readback.proofs.AloneLaws.{shown_alone}
 use Rattle.isl_readback.proofs.LoweredLaws.{shown_writable}
 
 -- the numbers of a value in printed order
@@ -44,64 +64,176 @@ ordered_numbers limit value small =
     let pieces = in_order piece_before value.pieces in
     All-map P ordered_piece pieces (All-weaker P (λ p. P (ordered_piece p)) (λ p rows. All-in_order row_before (IsRowUpTo limit) p.rows rows) pieces (All-in_order piece_before P value.pieces small))
 
--- what reads as the value of a literal has its elements
-elements_again : (literal again : Literal) → is_plain literal ≡ true → literal_is_known literal ≡ true → ReadsAs again (value_lowered literal) → HaveSameElements again literal
-elements_again literal again plain known reads valuation element =
-    let was = same_elements literal plain known valuation element in
-    let now = same_elements again reads.plain reads.known valuation element in
-    let values = reads.elements valuation element in
-    ((λ h. was.0 (values.0 (now.1 h))), (λ h. now.0 (values.1 (was.1 h))))
+is_not : (a : Bool) → a ≡ false → ¬ (a ≡ true)
+is_not a not_so so = false≢true (sym not_so ∙ so)
 
-module _ (g : Gauge) (bits : g.bits ≤ 127) where
-  below : 2 ^ g.bits - 1 < too_great
-  below = let large : 2 ^ g.bits ≤ 2 ^ 127 = pow_mono bits in omega (arith, large)
+is_so : (a : Bool) → a ≡ true → ¬ (a ≡ false)
+is_so a so not_so = false≢true (sym not_so ∙ so)
 
-  -- the text of a value spells its tree, which is taken
-  printed_spelled : (value : KeptValue) → IsWritableValue value → HasNumbersUpTo (2 ^ g.bits - 1) value → BytesSpell (limit_of g) (printed value) (Show (printed_tree value))
-  printed_spelled value writable small =
-      let ts = printed_tokens value in
-      let lexed = tokens-printed value writable.kept writable.numbers in
-      let written = tree_spelled value writable.kept writable.numbers writable.uniform in
-      let spelled = subst (λ (l : Tokens). Spells literal_grammar (printed_tree value) l) (some_same written.0 ts (sym written.1 ∙ lexed)) written.2 in
-      let leads = printed_leads (2 ^ g.bits - 1) below value writable small in
-      let reads = reads_as value writable in
-      let taken : IsTaken (limit_of g) ts (printed_tree value) = record {
-        plain = reads.plain;
-        bare = bare (2 ^ g.bits - 1) false false ts leads;
-        flat = flat (2 ^ g.bits - 1) false false ts leads;
-        within = reads.within;
-        narrow = narrow (2 ^ g.bits - 1) false false ts leads;
-      } in
-      record { tokens = ts; cut = lexed; spelled = (spelled, taken) }
+-- ---- a literal of known names has a type
+literal_typed : (scope : ScopeView) (literal : Literal) → literal_is_known literal ≡ true
+    → type_of_statement scope (Show (e.Literal literal)) ≡ Ok (Some (record { kind = kind_of_pieces literal.pieces; params = declared_of scope (e.Literal literal) }))
+literal_typed scope literal known = rw known refl
 
-  shown_again : (value : KeptValue) (next : Bindings) (answer : List ℕ) → IsWritableValue value → HasNumbersUpTo (2 ^ g.bits - 1) value → answer ≡ printed value ++ 10 ∷ [] → Answers (limit_of g) next (printed value) next answer
-  shown_again value next answer writable small is =
-      let reads = reads_as value writable in
-      let showable : IsShowable (limit_of g) (printed_tree value) = record { known = reads.known; within = subst (HasNumbersUpTo (2 ^ g.bits - 1)) (sym reads.rows) (ordered_numbers (2 ^ g.bits - 1) value small) } in
-      record { statement = Show (printed_tree value); spelled = printed_spelled value writable small; step = (showable, refl, is ∙ ap (λ t. t ++ 10 ∷ []) (sym reads.again)) }
+-- ---- the text of a value, and its answer
+module _ (moment : Moment) (bits : moment.meter.bits ≤ 127) (value : KeptValue) (writable : IsWritableValue value)
+    (small : HasNumbersUpTo (2 ^ moment.meter.bits - 1) value) where
+  below : 2 ^ moment.meter.bits - 1 < too_great
+  below = let large : 2 ^ moment.meter.bits ≤ 2 ^ 127 = pow_mono bits in omega (arith, large)
 
-  literal_again : (bytes : List ℕ) (literal : Literal) (state next : Bindings) (answer : List ℕ) → BytesSpell (limit_of g) bytes (Show literal) → Step (limit_of g) state (Show literal) next answer
-      → IsShownAgain (limit_of g) literal next answer
-  literal_again bytes literal state next answer spelled step =
-      let value = value_lowered literal in
-      let sound = spelled_sound (limit_of g) bytes (Show literal) spelled in
-      let formed = and_parts (are_distinct literal.params && are_alike literal.pieces) (list_all (piece_is_formed literal.params) literal.pieces) spelled.spelled.0.spelled.1 in
-      let alike = (and_parts (are_distinct literal.params) (are_alike literal.pieces) formed.0).1 in
-      let writable = shown_writable g literal bits sound.0 sound.1 alike step.0.within in
-      let reads = reads_as value writable in
+  lexes : tokens (printed value) ≡ Some (printed_tokens value)
+  lexes = tokens-printed value writable.kept writable.numbers
+
+  spells : Spells statement_grammar (Show (e.Literal (printed_tree value))) (printed_tokens value)
+  spells = shown_alone (suc most_leaves) (printed_tree value) (printed_tokens value) (tree_at value writable.kept writable.numbers writable.uniform)
+
+  pub text_spells : BytesSpell (printed value) (Show (e.Literal (printed_tree value)))
+  text_spells = record { tokens = printed_tokens value; cut = lexes; spelled = spells }
+
+  reads : ReadsAs (printed_tree value) value
+  reads = reads_as value writable
+
+  supported : is_unsupported (Show (e.Literal (printed_tree value))) ≡ false
+  supported = ap not reads.plain
+
+  within : statement_is_within (Show (e.Literal (printed_tree value))) ≡ true
+  within = rw reads.within refl
+
+  none_there : IsShallow (printed value) → IsRead moment (printed value) (Show (e.Literal (printed_tree value)))
+  none_there shallow = record {
+    spelled = text_spells;
+    none = (
+      (λ none. let f : Some (printed_tokens value) ≡ None = sym lexes ∙ none in cc),
+      (
+        shallow,
+        (
+          (λ there. of_tokens (printed value) (printed_tokens value) NoStatement lexes there (Show (e.Literal (printed_tree value))) spells),
+          (
+            (λ there. is_so _ within (of_statement (printed value) _ (λ stmt. statement_is_within stmt ≡ false) text_spells there)),
+            (
+              (λ there. is_not _ (narrow (2 ^ moment.meter.bits - 1) below value writable small)
+                  (of_tokens (printed value) (printed_tokens value) (λ ts. has_wide_number (limit_of moment.meter) ts ≡ true) lexes there)),
+              ((λ there. is_not _ supported (of_statement (printed value) _ (λ stmt. is_unsupported stmt ≡ true) text_spells there)), tt),
+            ),
+          ),
+        ),
+      ),
+    );
+    supported = supported;
+    sound = All-cons IsWellFormedLiteral (printed_tree value) [] reads.well_formed (All-nil IsWellFormedLiteral);
+  }
+
+  keeps_again : Keeps moment (e.Literal (printed_tree value)) (record { kind = kind_of_pieces (printed_tree value).pieces; value = value_lowered (printed_tree value) })
+  keeps_again = record {
+    kind = refl;
+    params = declared_itself (printed_tree value).params reads.well_formed.params.distinct;
+    elements = same_elements (printed_tree value) reads.plain reads.known;
+    written = λ plain. refl;
+    numbers = subst (HasNumbersUpTo (2 ^ moment.meter.bits - 1)) (sym reads.rows) (ordered_numbers (2 ^ moment.meter.bits - 1) value small);
+  }
+
+  pub text_answered : (answer : Answer) → answer ≡ shown value → IsShallow (printed value) → Answers moment (printed value) moment answer
+  text_answered answer is shallow =
+      show_answers moment (printed value) (e.Literal (printed_tree value)) (none_there shallow) moment
+      (record { kind = kind_of_pieces (printed_tree value).pieces; value = value_lowered (printed_tree value) }) answer
+      (Some (record { kind = kind_of_pieces (printed_tree value).pieces; params = declared_of (scope_of moment.state) (e.Literal (printed_tree value)) }), literal_typed (scope_of moment.state) (printed_tree value) reads.known)
+      keeps_again refl
+      (is ∙ sym (ap (λ (t : List ℕ). let a : Answer = record { bytes = t ++ 10 ∷ []; is_true = false; elements = 0 } in a) reads.again)) refl
+
+-- ---- what an answered statement shows or binds can be written
+module _ (before : Moment) (bytes : List ℕ) (bits : before.meter.bits ≤ 127) (all : AreWritable before.state) where
+  -- what is there today
+  brought : (stmt : Stmt) → IsValid before bytes → BytesSpell bytes stmt → is_unsupported stmt ≡ false
+  brought stmt valid spelled =
+      let m = valid.1 in
+      let l = m.1 in
+      let k = l.1 in
+      let j = k.1 in
+      false_from_ne_true (is_unsupported stmt) (λ un. j.1.0 (stmt, spelled, un))
+
+  narrow_tree : (stmt : Stmt) → IsValid before bytes → BytesSpell bytes stmt → statement_is_within stmt ≡ true
+  narrow_tree stmt valid spelled = by (statement_is_within stmt) refl
+    where
+      by : (b : Bool) → statement_is_within stmt ≡ b → statement_is_within stmt ≡ true
+      by true is = is
+      by false is = let m = valid.1 in let l = m.1 in let k = l.1 in absurd (k.0 (stmt, spelled, is))
+
+  module _ (valid : IsValid before bytes) (stmt : Stmt) (spelled : BytesSpell bytes stmt) where
+    formed : All IsWellFormedLiteral (statement_literals stmt)
+    formed = spelled_sound bytes stmt spelled (brought stmt valid spelled) (narrow_tree stmt valid spelled)
+
+    of_text : All IsSpelled (statement_literals stmt)
+    of_text = literals_spelled stmt spelled.tokens (lexed bytes spelled.tokens spelled.cut) spelled.spelled
+
+  literal_writable : (literal : Literal) (kept : Kept) → is_plain literal ≡ true → IsWellFormedLiteral literal → IsSpelled literal → Keeps before (e.Literal literal) kept → IsWritableValue kept.value
+  literal_writable literal kept plain well_formed spelled keeps =
+      let parts = and_parts (are_distinct literal.params && are_alike literal.pieces) (list_all (piece_is_formed literal.params) literal.pieces) spelled.formed in
+      let alike = (and_parts (are_distinct literal.params) (are_alike literal.pieces) parts.0).1 in
+      let is = keeps.written plain in
+      subst IsWritableValue (sym is) (shown_writable before.meter literal bits plain well_formed alike (subst (HasNumbersUpTo (2 ^ before.meter.bits - 1)) is keeps.numbers))
+
+  expr_writable : (expr : Expr) (kept : Kept) (stmt : Stmt) → statement_literals stmt ≡ literals_of expr → is_brought expr ≡ true → All IsWellFormedLiteral (statement_literals stmt) → All IsSpelled (statement_literals stmt)
+      → Keeps before expr kept → IsWritableValue kept.value
+  expr_writable (e.Name name) kept stmt is there sound spelled keeps = all name kept keeps.written
+  expr_writable (e.Literal literal) kept stmt is there sound spelled keeps =
+      literal_writable literal kept there (All-head IsWellFormedLiteral literal [] (subst (All IsWellFormedLiteral) is sound)) (All-head IsSpelled literal [] (subst (All IsSpelled) is spelled)) keeps
+  expr_writable (Row' s first t links) kept stmt is there sound spelled keeps = absurd (false≢true there)
+  expr_writable (Prefix' word s operand) kept stmt is there sound spelled keeps = absurd (false≢true there)
+  expr_writable (Any' p source s sink t schedule) kept stmt is there sound spelled keeps = absurd (false≢true there)
+  expr_writable (Last' p source s sink t schedule) kept stmt is there sound spelled keeps = absurd (false≢true there)
+  expr_writable (Post' s operand t postfixes) kept stmt is there sound spelled keeps = absurd (false≢true there)
+
+  show_again : (expr : Expr) (kept : Kept) (after : Moment) (answer : Answer) → IsValid before bytes → BytesSpell bytes (Show expr) → Keeps before expr kept → answer ≡ shown kept.value
+      → IsCharged before.meter after.meter → IsShownAgain before expr after answer
+  show_again expr kept after answer valid spelled keeps is charged =
+      let stmt = Show expr in
+      let writable = expr_writable expr kept (Show expr) refl (not-false (is_brought expr) (brought (Show expr) valid spelled)) (formed valid (Show expr) spelled) (of_text valid (Show expr) spelled) keeps in
+      let value = kept.value in
+      let reads = reads_as kept.value writable in
+      let same : after.meter.bits ≡ before.meter.bits = ap (λ (g : Gauge). g.bits) charged.same in
+      let bits_after : after.meter.bits ≤ 127 = subst (λ (n : ℕ). n ≤ 127) (sym same) bits in
+      let small : HasNumbersUpTo (2 ^ after.meter.bits - 1) kept.value = subst (λ (n : ℕ). HasNumbersUpTo (2 ^ n - 1) kept.value) (sym same) keeps.numbers in
       record {
-        text = printed value;
-        line = step.2;
-        again = printed_tree value;
-        spelled = printed_spelled value writable step.0.within;
-        elements = elements_again literal (printed_tree value) sound.0 step.0.known reads;
+        text = printed kept.value;
+        line = ap (λ (a : Answer). a.bytes) is;
+        again = printed_tree kept.value;
+        spelled = text_spells after bits_after kept.value writable small;
+        elements = λ valuation element.
+            let now = same_elements (printed_tree kept.value) reads.plain reads.known valuation element in
+            let values = reads.elements valuation element in
+            let chosen = keeps.elements valuation element in
+            ((λ h. chosen.0 (values.0 (now.1 h))), (λ h. now.0 (values.1 (chosen.1 h))));
+        value = kept.value;
+        is_text = refl;
         reads = reads;
-        answered = shown_again value next answer writable step.0.within step.2;
+        answered = text_answered after bits_after kept.value writable small answer is;
       }
 
-pub taken_again : (g : Gauge) (state : Bindings) (bytes : List ℕ) (next : Bindings) (answer : List ℕ) → g.bits ≤ 127 → (answered : Answers (limit_of g) state bytes next answer) → IsTakenAgain (limit_of g) answered.statement next answer
-taken_again g state bytes next answer bits answered = by answered.statement answered.spelled answered.step
-  where
-    by : (statement : Statement) → BytesSpell (limit_of g) bytes statement → Step (limit_of g) state statement next answer → IsTakenAgain (limit_of g) statement next answer
-    by Empty spelled step = step.1
-    by (Show literal) spelled step = literal_again g bits bytes literal state next answer spelled step
+  pub stays : (stmt : Stmt) (after : Moment) (answer : Answer) → IsValid before bytes → BytesSpell bytes stmt → Step before stmt after answer → AreWritable after.state
+  stays Empty after answer valid spelled step = subst AreWritable (sym step.0) all
+  stays (Show expr) after answer valid spelled step = subst AreWritable (sym step.0) all
+  stays (Bind name expr) after answer valid spelled step = λ other found is. by other found is (bytes_eq other name) refl
+    where
+      by : (other : Name) (found : Kept) → kept_of after.state other ≡ Some found → (b : Bool) → bytes_eq other name ≡ b → IsWritableValue found.value
+      by other found is true same =
+          let made = step.0 in
+          let there : kept_of after.state other ≡ Some made.0 = ap (kept_of after.state) ((bytes_eq-Decides other name).0 same) ∙ made.2.named in
+          let e : made.0 ≡ found = let f : Some made.0 ≡ Some found = sym there ∙ is in cc in
+          subst (λ (k : Kept). IsWritableValue k.value) e
+          (expr_writable expr made.0 (Bind name expr) refl (not-false (is_brought expr) (brought (Bind name expr) valid spelled)) (formed valid (Bind name expr) spelled) (of_text valid (Bind name expr) spelled) made.1)
+      by other found is false apart =
+          all other found (sym (step.0.2.others other (λ e. false≢true (sym apart ∙ (bytes_eq-Decides other name).1 e))) ∙ is)
+
+  pub again : (stmt : Stmt) (after : Moment) (answer : Answer) → IsValid before bytes → BytesSpell bytes stmt → Step before stmt after answer → IsCharged before.meter after.meter → IsTakenAgain before stmt after answer
+  again Empty after answer valid spelled step charged = step.1
+  again (Bind name expr) after answer valid spelled step charged = step.1
+  again (Show expr) after answer valid spelled step charged = show_again expr step.1.0 after answer valid spelled step.1.1 step.1.2 charged
+
+pub taken_again : (before : Moment) (bytes : List ℕ) (after : Moment) (answer : Answer) → before.meter.bits ≤ 127 → AreWritable before.state → (answered : Answers before bytes after answer) → IsTakenAgain before answered.stmt after answer
+taken_again before bytes after answer bits all answered = again before bytes bits all answered.stmt after answer answered.valid answered.spelled answered.step answered.meter
+
+pub stays_writable : (before : Moment) (bytes : List ℕ) (after : Moment) (answer : Answer) → before.meter.bits ≤ 127 → AreWritable before.state → Answers before bytes after answer → AreWritable after.state
+stays_writable before bytes after answer bits all answered = stays before bytes bits all answered.stmt after answer answered.valid answered.spelled answered.step
+
+pub starts_writable : AreWritable unbound
+starts_writable = λ name kept is. let f : None ≡ Some kept = is in cc

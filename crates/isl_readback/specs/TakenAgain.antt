@@ -1,34 +1,49 @@
--- What the program answers, it takes again. (isl manual, the notation of sets and relations; the iscc chapter of the barvinok
+-- public: what the program answers, it takes again. (isl manual, the notation of sets and relations; the iscc chapter of the barvinok
 -- manual)
-use Rattle.std.specs.Prelude.{◌≡◌, ◌↔◌, ℕ, ℤ, List, [], ◌∷◌, ◌++◌}
-use Rattle.isl_space.specs.Valuation.{Valuation}
+use Rattle.std.specs.Prelude.{◌≡◌, ◌↔◌, ℕ, true, List, [], ◌∷◌, ◌++◌}
 use Rattle.isl_space.specs.Element.{Element}
+use Rattle.isl_union.specs.KeptValue.{KeptValue}
+use Rattle.isl_print.specs.Printed.{printed}
+use Rattle.isl_token.specs.Depth.{is_too_deep}
 use Rattle.isl_tree.specs.declared.tree.Literal.{Literal}
 use Rattle.isl_tree.specs.Literal.{LiteralHas}
-use Rattle.isl_lower.specs.Value.{value_lowered}
-use Rattle.isl_eval.specs.declared.statement.Statement.{Statement}
-use Rattle.isl_eval.specs.declared.statement.Statement.TheVariants.{Empty, Show}
-use Rattle.isl_eval.specs.Bindings.{Bindings}
-use Rattle.isl_eval.specs.Statement.{BytesSpell}
-use Rattle.isl_eval.specs.Machine.{Answers}
-use Rattle.isl_readback.specs.RoundTrip.{ReadsAs}
+use Rattle.isl_expr.specs.declared.tree.Stmt.{Stmt}
+use Rattle.isl_expr.specs.declared.tree.Stmt.TheVariants.{Empty, Bind, Show}
+use Rattle.isl_expr.specs.declared.tree.Expr.{Expr}
+use Rattle.isl_expr.specs.declared.tree.Expr.TheVariants as e
+use Rattle.isl_eval.specs.State.{StateView, Moment, EachKept, Everywhere}
+use Rattle.isl_eval.specs.Selection.{Selects}
+use Rattle.isl_eval.specs.Spelled.{BytesSpell, OfTokens}
+use Rattle.isl_eval.specs.Machine.{Answer, Answers, nothing}
+use Rattle.isl_readback.specs.RoundTrip.{IsWritableValue, ReadsAs}
 
--- at every valuation both literals have the same elements
-abbrev pub HaveSameElements : Literal → Literal → Type 0
-HaveSameElements a b = (valuation : Valuation) (element : Element) → LiteralHas a valuation element ↔ LiteralHas b valuation element
+-- each value that is bound is one that a plain literal can write
+abbrev pub AreWritable : StateView → Type 0
+AreWritable state = EachKept (λ kept. IsWritableValue kept.value) state
 
--- The answer to a literal is a line. Its text is a statement, which shows a literal with the same elements that reads as the
--- value that was printed, and whose answer is the same line.
-pub record IsShownAgain (limit : ℤ) (literal : Literal) (next : Bindings) (answer : List ℕ) : Type 0 where
+-- brackets and prefixes are not nested too deeply
+abbrev pub IsShallow : List ℕ → Type 0
+IsShallow text = ¬ OfTokens text (λ ts. is_too_deep ts ≡ true)
+
+-- the literal has exactly the elements that the expression selects
+abbrev pub HasSelected : Literal → StateView → Expr → Type 0
+HasSelected literal state expr = Everywhere state (λ valuation. (element : Element) → LiteralHas literal valuation element ↔ Selects state expr valuation element)
+
+-- The answer is a line that shows a value. Its text is a statement, which shows a literal that has exactly the elements that were selected, and that
+-- reads as the value. Where the text is not too deep, its answer is the same line.
+pub record IsShownAgain (before : Moment) (expr : Expr) (after : Moment) (answer : Answer) : Type 0 where
   pub text : List ℕ
-  pub line : answer ≡ text ++ 10 ∷ []
+  pub line : answer.bytes ≡ text ++ 10 ∷ []
   pub again : Literal
-  pub spelled : BytesSpell limit text (Show again)
-  pub elements : HaveSameElements again literal
-  pub reads : ReadsAs again (value_lowered literal)
-  pub answered : Answers limit next text next answer
+  pub spelled : BytesSpell text (Show (e.Literal again))
+  pub elements : HasSelected again before.state expr
+  pub value : KeptValue
+  pub is_text : text ≡ printed value
+  pub reads : ReadsAs again value
+  pub answered : IsShallow text → Answers after text after answer
 
--- the answer to the empty statement is empty
-abbrev pub IsTakenAgain : ℤ → Statement → Bindings → List ℕ → Type 0
-IsTakenAgain limit Empty next answer = answer ≡ []
-IsTakenAgain limit (Show literal) next answer = IsShownAgain limit literal next answer
+-- a binding and the empty statement answer nothing
+abbrev pub IsTakenAgain : Moment → Stmt → Moment → Answer → Type 0
+IsTakenAgain before Empty after answer = answer ≡ nothing
+IsTakenAgain before (Bind name expr) after answer = answer ≡ nothing
+IsTakenAgain before (Show expr) after answer = IsShownAgain before expr after answer

@@ -11,7 +11,7 @@ use Rattle.isl_tree.specs.declared.tree.PieceTree.{PieceTree}
 use Rattle.isl_tree.specs.declared.tree.Literal.{Literal}
 use Rattle.isl_tree.specs.Literal.{space_of_piece}
 use Rattle.isl_lower.specs.Rows.{rows_written}
-use Rattle.isl_eval.specs.Machine.{HasNumbersUpTo}
+use Rattle.isl_eval.specs.State.{HasNumbersUpTo}
 
 -- the piece's space, and the rows that its entries and comparisons write
 abbrev pub piece_written : List Name → PieceTree → KeptPiece

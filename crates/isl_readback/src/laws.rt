@@ -1,7 +1,7 @@
 //! What holds of printed values that are read again. These functions do nothing: their contracts are the laws.
 
 ghost use Rattle.std.specs.Prelude.{◌≡◌, ◌<◌, ◌≤◌, ℕ, List, true};
-ghost use Rattle.isl_meter.specs.Gauge.{Gauge, limit_of};
+ghost use Rattle.isl_meter.specs.Gauge.{Gauge};
 ghost use Rattle.isl_union.specs.KeptValue.{KeptValue, IsKeptValue};
 ghost use Rattle.isl_print.specs.OrderedValue.{ordered};
 ghost use Rattle.isl_print.specs.Printed.{printed};
@@ -12,13 +12,13 @@ ghost use Rattle.isl_tree.specs.declared.tree.Literal.{Literal};
 ghost use Rattle.isl_tree.specs.Known.{literal_is_known};
 ghost use Rattle.isl_tree.specs.Plain.{is_plain};
 ghost use Rattle.isl_lower.specs.Value.{IsWellFormedLiteral, IsValueWithin, value_lowered};
-ghost use Rattle.isl_eval.specs.Bindings.{Bindings};
-ghost use Rattle.isl_eval.specs.Machine.{HasNumbersUpTo, Answers};
+ghost use Rattle.isl_eval.specs.State.{HasNumbersUpTo, Moment, unbound};
+ghost use Rattle.isl_eval.specs.Machine.{Answer, Answers};
 ghost use Rattle.isl_readback.specs.Accepted.{HasQuietNames, IsAccepted};
 ghost use Rattle.isl_readback.specs.Tree.{printed_tree};
 ghost use Rattle.isl_readback.specs.Written.{HasComparisons, HasWritableNumbers, IsFlat, IsUniform, value_written};
 ghost use Rattle.isl_readback.specs.RoundTrip.{IsWritableValue, ReadsBack, Writes};
-ghost use Rattle.isl_readback.specs.TakenAgain.{IsTakenAgain};
+ghost use Rattle.isl_readback.specs.TakenAgain.{AreWritable, IsTakenAgain};
 
 /// The text of a value writes its printed tree.
 pub fn printed_tree_is_spelled()
@@ -68,9 +68,13 @@ pub fn lowered_is_writable()
         → IsValueWithin gauge (value_lowered literal) → IsWritableValue (value_lowered literal) }
 {}
 
-/// What the program answers, it takes again: the text of a line that shows a literal is a statement, which shows a literal with
-/// the same elements, and whose answer is the same line.
+/// What the program answers, it takes again: the text of a line that shows a value is a statement, which shows a literal with exactly
+/// the elements that were selected, and whose answer is the same line. It needs that what is bound can be written; this holds where
+/// nothing is bound, and each answered statement keeps it.
 pub fn shown_is_taken_again()
-    ensures { (gauge : Gauge) (state : Bindings) (bytes : List ℕ) (next : Bindings) (answer : List ℕ) → gauge.bits ≤ 127
-        → (answered : Answers (limit_of gauge) state bytes next answer) → IsTakenAgain (limit_of gauge) answered.statement next answer }
+    ensures taken { (before : Moment) (bytes : List ℕ) (after : Moment) (answer : Answer) → before.meter.bits ≤ 127 → AreWritable before.state
+        → (answered : Answers before bytes after answer) → IsTakenAgain before answered.stmt after answer }
+    ensures kept { (before : Moment) (bytes : List ℕ) (after : Moment) (answer : Answer) → before.meter.bits ≤ 127 → AreWritable before.state
+        → Answers before bytes after answer → AreWritable after.state }
+    ensures start { AreWritable unbound }
 {}

@@ -1,4 +1,4 @@
-use Rattle.std.proofs.Common.{refl, ◌<◌, length, get_or, arith, sym, subst, take_all}
+use Rattle.std.proofs.Common.{refl, ◌<◌, length, get_or, arith, subst, take_all}
 use Rattle.std.specs.List.{All}
 use Rattle.std.proofs.lemmas.Grind.{common_steps}
 use Rattle.std.proofs.lemmas.List.Elements.{All-more}

@@ -1,4 +1,4 @@
-use Rattle.std.proofs.Common.{◌≡◌, refl, sym, ap, arith, Bool, IsTrue, ◌↔◌, [], List, ℤ}
+use Rattle.std.proofs.Common.{◌≡◌, refl, sym, ap, arith, IsTrue, ◌↔◌, [], List}
 use Rattle.std.proofs.lemmas.Grind.{common_steps}
 use Rattle.isl_piece.specs.declared.definition.Definition.{Definition}
 use Rattle.isl_piece.specs.Definition.{with_defined}

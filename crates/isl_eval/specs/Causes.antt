@@ -1,0 +1,90 @@
+-- public: why a complete statement is refused.
+use Rattle.std.specs.Prelude.{◌≡◌, ◌⊎◌, ◌≤◌, ℕ, true, false, List, [], ◌∷◌, None, Err, Any}
+use Rattle.isl_meter.specs.Gauge.{Gauge, IsCharged, limit_of, overflown, spent_out}
+use Rattle.isl_token.specs.Lex.{tokens}
+use Rattle.isl_token.specs.Depth.{is_too_deep}
+use Rattle.isl_text.specs.declared.refusal.Refusal.{Refusal}
+use Rattle.isl_text.specs.declared.refusal.Refusal.TheVariants as r
+use Rattle.isl_text.specs.Read.{has_wide_number}
+use Rattle.isl_lower.specs.Value.{PiecesPass}
+use Rattle.isl_expr.specs.declared.tree.Stmt.{Stmt}
+use Rattle.isl_expr.specs.Expr.{statement_literals}
+use Rattle.isl_statement.specs.Limits.{statement_is_within}
+use Rattle.isl_statement.specs.Read.{NoStatement}
+use Rattle.isl_kinds.specs.Typed.{type_of_statement}
+use Rattle.isl_eval.specs.State.{Moment, scope_of}
+use Rattle.isl_eval.specs.Spelled.{OfTokens, OfStatement, is_unsupported}
+
+-- what the bytes of a statement are looked at for
+pub data Cause : Type 0 where
+  -- a byte begins no token
+  no_token : Cause
+  -- brackets and prefixes are nested too deeply
+  too_deep : Cause
+  -- the tokens spell no statement
+  no_statement : Cause
+  -- a literal has too many parameters, coordinates, leaves or bound variables
+  too_wide : Cause
+  -- a number is above the limit
+  wide_number : Cause
+  -- the statement is none that is answered yet
+  unsupported : Cause
+  -- a name is unbound, or an identifier of a literal unknown
+  unknown_name : Cause
+  -- an operation takes no operands of such kinds, or what would be bound may not be bound
+  wrong_kind : Cause
+  -- a list has no element with that number
+  no_element : Cause
+
+-- the causes, in the order in which they are looked for, each in the whole statement before the next
+abbrev pub causes : List Cause
+causes = no_token ∷ too_deep ∷ no_statement ∷ too_wide ∷ wide_number ∷ unsupported ∷ unknown_name ∷ wrong_kind ∷ no_element ∷ []
+
+abbrev pub refusal_of : Cause → Refusal
+refusal_of no_token = r.Syntax
+refusal_of too_deep = r.TooDeep
+refusal_of no_statement = r.Syntax
+refusal_of too_wide = r.TooWide
+refusal_of wide_number = r.WideNumber
+refusal_of unsupported = r.Syntax
+refusal_of unknown_name = r.UnknownName
+refusal_of wrong_kind = r.WrongKind
+refusal_of no_element = r.NoElement
+
+-- the bytes have the cause at this moment
+abbrev pub IsThere : Moment → List ℕ → Cause → Type 0
+IsThere before bytes no_token = tokens bytes ≡ None
+IsThere before bytes too_deep = OfTokens bytes (λ ts. is_too_deep ts ≡ true)
+IsThere before bytes no_statement = OfTokens bytes NoStatement
+IsThere before bytes too_wide = OfStatement bytes (λ stmt. statement_is_within stmt ≡ false)
+IsThere before bytes wide_number = OfTokens bytes (λ ts. has_wide_number (limit_of before.meter) ts ≡ true)
+IsThere before bytes unsupported = OfStatement bytes (λ stmt. is_unsupported stmt ≡ true)
+IsThere before bytes unknown_name = OfStatement bytes (λ stmt. type_of_statement (scope_of before.state) stmt ≡ Err r.UnknownName)
+IsThere before bytes wrong_kind = OfStatement bytes (λ stmt. type_of_statement (scope_of before.state) stmt ≡ Err r.WrongKind)
+IsThere before bytes no_element = OfStatement bytes (λ stmt. type_of_statement (scope_of before.state) stmt ≡ Err r.NoElement)
+
+-- the first of these causes that is there gives this refusal
+abbrev pub FirstGives : (Cause → Type 0) → List Cause → Refusal → Type 0
+FirstGives There [] refusal = ⊥
+FirstGives There (cause ∷ later) refusal = (There cause × (refusal ≡ refusal_of cause)) ⊎ (¬ There cause × FirstGives There later refusal)
+
+-- none of these causes is there
+abbrev pub NoneIs : (Cause → Type 0) → List Cause → Type 0
+NoneIs There [] = Unit {0}
+NoneIs There (cause ∷ later) = ¬ There cause × NoneIs There later
+
+-- what the bytes say is no cause to refuse them
+abbrev pub IsValid : Moment → List ℕ → Type 0
+IsValid before bytes = NoneIs (IsThere before bytes) causes
+
+-- a product or a sum of a row of one of its literals passes the limit
+abbrev pub HasGreatRow : Gauge → Stmt → Type 0
+HasGreatRow g stmt = Any (λ literal. PiecesPass g literal.params literal.pieces) (statement_literals stmt)
+
+-- Why a complete statement is refused, and what it did to the meter until then. Overflow and want of units may come only while a
+-- valid statement is worked out, and are counted; memory may end at any time.
+abbrev pub Refuses : Moment → List ℕ → Gauge → Refusal → Type 0
+Refuses before bytes now r.Overflow = IsValid before bytes × OfStatement bytes (HasGreatRow before.meter) × IsCharged (overflown before.meter) now
+Refuses before bytes now r.Budget = IsValid before bytes × (now.budget ≤ now.units) × IsCharged (spent_out before.meter) now
+Refuses before bytes now r.NoMemory = IsCharged before.meter now
+Refuses before bytes now refusal = FirstGives (IsThere before bytes) causes refusal × (now ≡ before.meter)

@@ -1,0 +1,5 @@
+pub mod PartLaws
+pub mod KindLaws
+pub mod DeclaredLaws
+pub mod PlaceLaws
+pub mod KnownLaws

@@ -1,0 +1,91 @@
+//! What names are bound to: kinds and declared parameters.
+
+ghost use Rattle.std.specs.Prelude.{◌≡◌, IfOk, OnOk, OnErr, []};
+ghost use Rattle.std.specs.Option.{option_copied};
+ghost use Rattle.std.specs.Str.{bytes_eq};
+ghost use Rattle.indexmap.specs.IndexMap.{insert_entry};
+ghost use Rattle.isl_kinds.specs.Typed.{bound_to};
+
+use indexmap::{IndexMap, IndexSet};
+use isl_expr::tree::ValueKind;
+use isl_space::Name;
+use std::alloc::{AllocFailed, Global};
+use std::marker::Model;
+
+/// A kind, and declared parameters, which may be more than a value can have.
+#[derive(Drop)]
+pub struct Typed {
+    kind: ValueKind,
+    params: IndexSet<Name>,
+}
+
+impl Model for Typed {
+    ghost use Rattle.isl_kinds.specs.Typed.{TypeView};
+
+    ghost Value = { TypeView };
+
+    ghost view = { λ t. record { kind = t.kind; params = t.params.keys } };
+}
+
+impl Typed {
+    pub(crate) fn new(kind: ValueKind, params: IndexSet<Name>) -> Typed
+        ensures { result ≡ record { kind = kind; params = params.keys } }
+    {
+        Typed { kind, params }
+    }
+
+    /// The kind.
+    pub fn kind(&self) -> ValueKind
+        ensures { result ≡ self.now.kind }
+    {
+        self.kind
+    }
+
+    /// The declared parameters, in order.
+    pub fn params(&self) -> &[Name]
+        ensures { result.now ≡ self.now.params }
+    {
+        self.params.as_slice()
+    }
+}
+
+/// The bound names, each with its kind and its declared parameters.
+#[derive(Drop)]
+pub struct Scope {
+    bound: IndexMap<Name, Typed>,
+}
+
+impl Model for Scope {
+    ghost use Rattle.isl_kinds.specs.Typed.{ScopeView};
+
+    ghost Value = { ScopeView };
+
+    ghost view = { λ s. s.bound.entries };
+}
+
+impl Scope {
+    /// No name is bound.
+    pub fn new(alloc: Global) -> Scope
+        ensures { result ≡ [] }
+    {
+        Scope {
+            bound: IndexMap::new(alloc),
+        }
+    }
+
+    /// What a name is bound to.
+    pub fn get(&self, name: &Name) -> Option<&Typed>
+        ensures { option_copied result ≡ bound_to self.now name.now }
+    {
+        self.bound.get(name)
+    }
+
+    /// Binds a name, in the place of what it was bound to.
+    pub fn bind(&mut self, name: Name, typed: Typed) -> Result<(), AllocFailed<(Name, Typed)>>
+        ensures ok { OnOk result (self.new ≡ insert_entry bytes_eq self.old name typed) }
+        ensures err { OnErr result (self.new ≡ self.old) }
+    {
+        self.bound.insert(name, typed)?;
+        Ok(())
+    }
+}
