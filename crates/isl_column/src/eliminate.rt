@@ -1,6 +1,6 @@
 //! One column out of rows.
 
-ghost use Rattle.std.specs.Prelude.{◌≡◌, ◌≢◌, ◌↔◌, ◌<◌, ◌-◌, ◌≤ℤ◌, ◌+ℤ◌, pos, All, length, slice_index_or, None, IfOk, IfSome, IsTrue, option_to_list, MatchOption, MatchResult, ◌^◌};
+ghost use Rattle.std.specs.Prelude.{◌≡◌, ◌≢◌, ◌↔◌, ◌<◌, ◌-◌, ◌≤ℤ◌, ◌+ℤ◌, pos, All, length, slice_index_or, None, IfOk, IfSome, IsTrue, option_to_list, MatchOption, MatchResult, ◌^◌, ◌+◌, ◌≤◌};
 ghost use Rattle.isl_meter.specs.Gauge.{IsCharged, IsCutBy, IsDone, IsDoneWithin};
 ghost use Rattle.isl_piece.specs.declared.row.RowKind.TheVariants.{Zero};
 ghost use Rattle.isl_piece.specs.declared.row.Row.{Row};
@@ -113,6 +113,7 @@ fn push_by_sides(
     ensures exact { IsDoneWithin (elimination_units rows.now col) meter.old meter.new
         (λ _. AddsProjection meter.old columns rows.now col answers.old.items answers.new.items) result }
     ensures no_overflow { IsSpared meter.old rows.now col result }
+    ensures counted { IfOk result (λ _. length answers.new.items + meter.old.units ≤ length answers.old.items + meter.new.units + 1) }
 {
     let sides = Sides::of(alloc, rows, columns, col, meter)?;
     let new = without_congruences(alloc, sides, columns, col, meter)?;
@@ -136,6 +137,7 @@ fn push_projection(
         (λ _. AddsProjection meter.old columns rows.now col answers.old.items answers.new.items) result }
     ensures left { IsExactColumn col rows.now → IfOk result (λ _. AddsExactly rows.now col answers.old.items answers.new.items) }
     ensures no_overflow { IsSpared meter.old rows.now col result }
+    ensures counted { IfOk result (λ _. length answers.new.items + meter.old.units ≤ length answers.old.items + meter.new.units + 1) }
 {
     if is_exact(rows, columns, col, meter) {
         push_exact(alloc, rows, columns, col, answers, meter)
@@ -159,6 +161,7 @@ fn push_solved(
     requires equality { IsEqualityAt col rows.now at }
     ensures exact { IsDone meter.old meter.new (λ _. AddsProjection meter.old columns rows.now col answers.old.items answers.new.items) result }
     ensures no_overflow { meter.old.bits ≡ 127 → HaveSmallNumbers rows.now → IsNoOverflow result }
+    ensures counted { IfOk result (λ _. length answers.new.items + meter.old.units ≤ length answers.old.items + meter.new.units + 1) }
 {
     let left = equality_step(alloc, rows, &rows[at], columns, col, meter)?;
     push_left(left, answers)?;
@@ -183,6 +186,7 @@ fn push_without(
     ensures units { pos meter.new.units ≤ℤ (pos meter.old.units +ℤ elimination_units rows.now col) }
     ensures equality { HasEquality col rows.now → meter.new.units ≡ meter.old.units }
     ensures magnitude { IsSpared meter.old rows.now col result }
+    ensures counted { IfOk result (λ _. length answers.new.items + meter.old.units ≤ length answers.old.items + meter.new.units + 1) }
 {
     if let Some(at) = equality_at(rows, columns, col, meter) {
         push_solved(alloc, rows, at, columns, col, answers, meter)?;
@@ -195,8 +199,9 @@ fn push_without(
 /// The rows without the column `col`: lists of rows, of which one holds at a point exactly where some whole number put at `col`
 /// makes `rows` hold. Each list is in normal form.
 ///
-/// Where an equality has the column, no unit is used; else at most `elimination_units`. Where none has it and the column is
-/// exact, what is answered is a function of the rows: at most one list.
+/// Where an equality has the column, no unit is used; else at most `elimination_units`, and at least one for each list that is
+/// answered but the first. Where none has it and the column is exact, what is answered is a function of the rows: at most one
+/// list.
 ///
 /// # Errors
 ///
@@ -220,6 +225,7 @@ pub fn eliminate_rows(
     ensures units { pos meter.new.units ≤ℤ (pos meter.old.units +ℤ elimination_units rows.now col) }
     ensures equality { HasEquality col rows.now → meter.new.units ≡ meter.old.units }
     ensures magnitude { meter.old.bits ≡ 127 → HaveSmallNumbers rows.now → HaveOneCongruence rows.now col → result ≢ Err Cut.Overflow }
+    ensures counted { IfOk result (λ answers. length answers.items + meter.old.units ≤ meter.new.units + 1) }
 {
     let mut answers = Vec::new(alloc);
     push_without(alloc, rows, columns, col, &mut answers, meter)?;

@@ -1,6 +1,6 @@
 //! Columns whose shadow is exact: no splinter, no residue, and no memory but for the rows that are answered.
 
-ghost use Rattle.std.specs.Prelude.{◌≡◌, ◌↔◌, ◌-◌, ◌<◌, ◌∷◌, ◌*◌, ◌^◌, [], All, length, map, IfOk, IsTrue, MatchResult, pos};
+ghost use Rattle.std.specs.Prelude.{◌≡◌, ◌↔◌, ◌-◌, ◌<◌, ◌∷◌, ◌*◌, ◌^◌, [], All, length, map, IfOk, IsTrue, MatchResult, pos, ◌+◌, ◌≤◌};
 ghost use Rattle.isl_piece.specs.Row.{IsRowWithin, IsRowUpTo};
 ghost use Rattle.isl_column.specs.Adds.{AddsProjection};
 ghost use Rattle.isl_omega.specs.Column.{dropped, IsProper};
@@ -264,6 +264,7 @@ pub(crate) fn push_exact(
         (λ _. AddsProjection meter.old columns rows.now col answers.old.items answers.new.items) result }
     ensures left { IfOk result (λ _. AddsExactly rows.now col answers.old.items answers.new.items) }
     ensures no_overflow { meter.old.bits ≡ 127 → HaveSmallNumbers rows.now → IsNoOverflow result }
+    ensures counted { IfOk result (λ _. length answers.new.items + meter.old.units ≤ length answers.old.items + meter.new.units + 1) }
 {
     let short = short_rows(alloc, rows, columns, col, meter)?;
     let left = short.normalise(alloc, meter)?;

@@ -1,6 +1,6 @@
 //! Several rows of one column that divisors must not divide: one residue after another.
 
-ghost use Rattle.std.specs.Prelude.{◌≡◌, ◌-◌, ◌<◌, ◌<ℤ◌, [], pos, All, length, MatchResult, ◌^◌};
+ghost use Rattle.std.specs.Prelude.{◌≡◌, ◌-◌, ◌<◌, ◌<ℤ◌, [], pos, All, length, MatchResult, ◌^◌, ◌+◌, ◌≤◌, IfOk};
 ghost use Rattle.isl_meter.specs.Gauge.{IsWithin, IsCutUpTo, IsDone, IsDoneWithin};
 ghost use Rattle.isl_column.specs.Adds.{Adds};
 ghost use Rattle.isl_omega.specs.Congruence.{period};
@@ -104,6 +104,7 @@ fn push_shadow(
     ensures exact { IsDoneWithin (shadow_units col sides.now) meter.old meter.new
         (λ _. Adds meter.old (columns - 1) (HasNumber sides.now col) answers.old.items answers.new.items) result }
     ensures no_overflow { meter.old.bits ≡ 127 → AreSidesUpTo (2 ^ 61) sides.now → IsNoOverflow result }
+    ensures counted { IfOk result (λ _. length answers.new.items + meter.old.units ≤ length answers.old.items + meter.new.units + 1) }
 {
     let dark_shadow = DarkShadow::of(alloc, sides, columns, col, meter)?;
     push_dark_shadow(alloc, dark_shadow, columns, col, answers, meter)?;
@@ -127,8 +128,9 @@ fn push_residue(
     requires period_within { IsWithin meter.old period }
     requires rest_within { IsWithin meter.old rest }
     requires col_in { col < columns }
-    ensures { IsDoneWithin (residue_units col period sides.now) meter.old meter.new
+    ensures exact { IsDoneWithin (residue_units col period sides.now) meter.old meter.new
         (λ _. Adds meter.old (columns - 1) (HasResidue sides.now col period rest) answers.old.items answers.new.items) result }
+    ensures counted { IfOk result (λ _. length answers.new.items + meter.old.units ≤ length answers.old.items + meter.new.units) }
 {
     meter.unit()?;
     let residue = residue_of(alloc, sides, period, rest, columns, col, meter)?;
@@ -149,8 +151,9 @@ pub(crate) fn push_residues(
     requires divides { sides.now.divides ≡ [] }
     requires some { 0 < length sides.now.not_divides }
     requires col_in { col < columns }
-    ensures { IsDoneWithin (residues_units col sides.now) meter.old meter.new
+    ensures exact { IsDoneWithin (residues_units col sides.now) meter.old meter.new
         (λ _. Adds meter.old (columns - 1) (HasNumber sides.now col) answers.old.items answers.new.items) result }
+    ensures counted { IfOk result (λ _. length answers.new.items + meter.old.units ≤ length answers.old.items + meter.new.units) }
 {
     let period = common_period(sides.not_divides.as_slice(), columns, col, meter)?;
     let mut rest = Int::ZERO;
@@ -176,6 +179,7 @@ pub(crate) fn push_sides(
     ensures exact { IsDoneWithin (sides_units col sides.now) meter.old meter.new
         (λ _. Adds meter.old (columns - 1) (HasNumber sides.now col) answers.old.items answers.new.items) result }
     ensures no_overflow { meter.old.bits ≡ 127 → AreSidesUpTo (2 ^ 61) sides.now → length sides.now.not_divides < 2 → IsNoOverflow result }
+    ensures counted { IfOk result (λ _. length answers.new.items + meter.old.units ≤ length answers.old.items + meter.new.units + 1) }
 {
     if sides.not_divides.len() < 2 {
         push_shadow(alloc, sides, columns, col, answers, meter)

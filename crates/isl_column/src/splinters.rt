@@ -1,6 +1,6 @@
 //! Splinters: rows in which a lower bound has one of its least values.
 
-ghost use Rattle.std.specs.Prelude.{◌≡◌, ◌-◌, ◌<◌, ◌++◌, ◌+ℤ◌, pos, All, MatchResult, option_to_list, ◌^◌, ◌≤◌, unsigned_abs};
+ghost use Rattle.std.specs.Prelude.{◌≡◌, ◌-◌, ◌<◌, ◌++◌, ◌+ℤ◌, pos, All, MatchResult, option_to_list, ◌^◌, ◌≤◌, unsigned_abs, ◌+◌, IfOk, length};
 ghost use Rattle.isl_meter.specs.Gauge.{IsDone, IsDoneWithin};
 ghost use Rattle.isl_column.specs.Adds.{Adds};
 ghost use Rattle.isl_column.specs.DarkShadow.{HasValue, HasSplinter, KeepBound, AreSplinters, IsDarkShadow, HoldsDarkShadow, splinter_count};
@@ -42,9 +42,10 @@ fn splinter(
 
 // Pushes the rows, if there are any.
 pub(crate) fn push_left(left: Option<Rows>, answers: &mut Vec<Rows>) -> Result<(), Cut>
-    ensures { MatchResult result
+    ensures pushed { MatchResult result
         (λ _. answers.new.items ≡ answers.old.items ++ option_to_list left)
         (λ cut. cut ≡ Cut.NoMemory) }
+    ensures counted { IfOk result (λ _. length answers.new.items ≤ length answers.old.items + 1) }
 {
     if let Some(rows) = left {
         answers.push(rows)?;
@@ -69,6 +70,7 @@ fn push_splinter(
     ensures exact { IsDoneWithin (pos 1) meter.old meter.new
         (λ _. Adds meter.old (columns - 1) (HasValue rows.now col bound.now i) answers.old.items answers.new.items) result }
     ensures no_overflow { meter.old.bits ≡ 127 → All (IsRowUpTo (2 ^ 61)) rows.now → IsRowUpTo (2 ^ 61) bound.now → unsigned_abs i ≤ 2 ^ 62 → IsNoOverflow result }
+    ensures counted { IfOk result (λ _. length answers.new.items + meter.old.units ≤ length answers.old.items + meter.new.units) }
 {
     meter.unit()?;
     let left = splinter(alloc, rows, bound, i, columns, col, meter)?;
@@ -93,6 +95,7 @@ fn push_splinters(
     ensures exact { IsDoneWithin (tail.now.last +ℤ pos 1) meter.old meter.new
         (λ _. Adds meter.old (columns - 1) (λ point. HasSplinter rows.now col point tail.now) answers.old.items answers.new.items) result }
     ensures no_overflow { meter.old.bits ≡ 127 → All (IsRowUpTo (2 ^ 61)) rows.now → AreSmallSplinters tail.now → IsNoOverflow result }
+    ensures counted { IfOk result (λ _. length answers.new.items + meter.old.units ≤ length answers.old.items + meter.new.units) }
 {
     let mut i = Int::ZERO;
     'values: while i <= tail.last {
@@ -116,6 +119,7 @@ pub(crate) fn push_dark_shadow(
     ensures exact { IsDoneWithin (splinter_count dark_shadow.tails.items) meter.old meter.new
         (λ _. Adds meter.old (columns - 1) (HoldsDarkShadow dark_shadow col) answers.old.items answers.new.items) result }
     ensures no_overflow { meter.old.bits ≡ 127 → IsSmallDarkShadow dark_shadow → IsNoOverflow result }
+    ensures counted { IfOk result (λ _. length answers.new.items + meter.old.units ≤ length answers.old.items + meter.new.units + 1) }
 {
     let DarkShadow { rows, dark, tails } = dark_shadow;
     push_left(dark, answers)?;

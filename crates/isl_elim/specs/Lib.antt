@@ -1,3 +1,6 @@
-pub mod Adds
 pub mod Elimination
-pub mod Together
+pub mod Emptiness
+pub mod Opened
+pub mod Others
+pub mod Parts
+pub mod Sample

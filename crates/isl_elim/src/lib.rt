@@ -1,9 +1,16 @@
-//! Exact projection of whole numbers: columns of a system are taken out, and what is left holds exactly where some whole
-//! numbers stood there.
+//! Several columns out of rows, emptiness, and samples.
 #![tactic(auto)]
 
-mod column;
-mod columns;
+mod along;
+mod choice;
+mod emptiness;
+mod line;
+mod opened;
+mod parts;
+mod progression;
+mod projection;
+mod sample;
 
-pub use column::eliminate;
-pub use columns::eliminate_all;
+pub use emptiness::is_empty;
+pub use projection::{eliminate, eliminate_all};
+pub use sample::sample_point;

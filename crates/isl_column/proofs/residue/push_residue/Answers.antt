@@ -11,8 +11,8 @@ use Rattle.isl_column.proofs.ResidueLemmas.{residue_kept}
 use Rattle.isl_column.proofs.UnitLemmas.{residue_cost, residue_units_positive}
 use Rattle.isl_column.proofs.residue.push_residue.Goals as goal
 
-pub returns-in_err-unit : goal.returns-in_err-unit
-returns-in_err-unit c =
+pub returns-in_err-unit-clause-exact : goal.returns-in_err-unit-clause-exact
+returns-in_err-unit-clause-exact c =
     let g = c.args.meter.now in
     let k = c.unit.new.self in
     let s = c.args.sides.now in
@@ -21,8 +21,8 @@ returns-in_err-unit c =
     let cut = cut_weaker (pos 0) (residue_units c.args.col c.args.period s) g k Budget (omega (arith, linear)) own in
     grind arith
 
-pub returns-in_err-residue : goal.returns-in_err-residue
-returns-in_err-residue c =
+pub returns-in_err-residue-clause-exact : goal.returns-in_err-residue-clause-exact
+returns-in_err-residue-clause-exact c =
     let g = c.args.meter.now in
     let h = c.unit.new.self in
     let k = c.residue_of.new.meter in
@@ -34,8 +34,8 @@ returns-in_err-residue c =
     let cut = cut_weaker (pos 1) (residue_units c.args.col c.args.period s) g k e (omega (arith, linear)) (cut_after (pos 1) (pos 0) g h k e charged own) in
     grind arith
 
-pub returns-in_err-push_shadow : goal.returns-in_err-push_shadow
-returns-in_err-push_shadow c =
+pub returns-in_err-push_shadow-clause-exact : goal.returns-in_err-push_shadow-clause-exact
+returns-in_err-push_shadow-clause-exact c =
     let g = c.args.meter.now in
     let h = c.unit.new.self in
     let k = c.push_shadow.new.meter in
@@ -49,8 +49,8 @@ returns-in_err-push_shadow c =
     let cut = cut_within (shadow_units c.args.col new) (pos 1) (residue_units c.args.col c.args.period s) g h k e cost charged own in
     grind arith
 
-pub returns : goal.returns
-returns c =
+pub returns-clause-exact : goal.returns-clause-exact
+returns-clause-exact c =
     let g = c.args.meter.now in
     let h = c.unit.new.self in
     let k = c.push_shadow.new.meter in

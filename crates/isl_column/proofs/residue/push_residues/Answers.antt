@@ -1,4 +1,4 @@
-use Rattle.std.proofs.Common.{◌≡◌, ◌-◌, pos, ◌+ℤ◌, ◌*ℤ◌, ◌≤ℤ◌, ◌<ℤ◌, refl, arith}
+use Rattle.std.proofs.Common.{◌≡◌, ◌-◌, pos, ◌+ℤ◌, ◌*ℤ◌, ◌≤ℤ◌, ◌<ℤ◌, refl, arith, ◌+◌, ◌≤◌, length}
 use Rattle.std.proofs.lemmas.Grind.{common_steps}
 use Rattle.isl_math.proofs.Ring.{linear}
 use Rattle.isl_meter.specs.declared.Cut.TheVariants.{Overflow}
@@ -11,8 +11,8 @@ use Rattle.isl_column.proofs.ResidueLemmas.{residues_first, residues_next, resid
 use Rattle.isl_column.proofs.UnitLemmas.{residues_units_not_negative, residue_units_positive, residues_units_most, residue_turn, residue_next}
 use Rattle.isl_column.proofs.residue.push_residues.Goals as goal
 
-pub returns-in_err-period : goal.returns-in_err-period
-returns-in_err-period c =
+pub returns-in_err-period-clause-exact : goal.returns-in_err-period-clause-exact
+returns-in_err-period-clause-exact c =
     let g = c.args.meter.now in
     let k = c.common_period.new.meter in
     let s = c.args.sides.now in
@@ -33,13 +33,14 @@ residues-init c =
     record {
       added = residues_first g c.args.columns c.args.col s p (pos 0) c.args.answers.now.items is.positive refl;
       charged = rw same (charged_weaker (pos 0) (pos 0 *ℤ x) g g (omega (arith, linear)) (charged_same g g refl));
+      counted = rw same (omega arith);
       within = grind (arith, common_steps);
       not_negative = omega (arith, linear);
       not_above = omega (arith, linear);
     }
 
-pub returns-in_err-push_residue : goal.returns-in_err-push_residue
-returns-in_err-push_residue c =
+pub returns-in_err-push_residue-clause-exact : goal.returns-in_err-push_residue-clause-exact
+returns-in_err-push_residue-clause-exact c =
     let g = c.args.meter.now in
     let h = c.residues.meter in
     let k = c.push_residue.new.meter in
@@ -79,13 +80,14 @@ residues-preserved c =
     record {
       added = residues_next g c.args.columns c.args.col s p t u c.args.answers.now.items before after start low next c.residues.invariant.added kept;
       charged = rw same (charged_within x (t *ℤ x) (u *ℤ x) g h k (residue_next t u x next) c.residues.invariant.charged own);
+      counted = rw same (let one : length c.push_residue.new.answers.items + h.units ≤ length c.residues.answers.items + k.units = grind arith in let start = c.residues.invariant.counted in omega arith);
       within = grind arith;
       not_negative = omega (arith, linear);
       not_above = omega (arith, linear);
     }
 
-pub returns : goal.returns
-returns c =
+pub returns-clause-exact : goal.returns-clause-exact
+returns-clause-exact c =
     let g = c.args.meter.now in
     let h = c.residues.meter in
     let s = c.args.sides.now in

@@ -1,4 +1,4 @@
-use Rattle.std.proofs.Common.{◌≡◌, ◌-◌, ◌+◌, ◌<◌, pos, ◌+ℤ◌, ◌≤ℤ◌, length, get_or, take, refl, arith}
+use Rattle.std.proofs.Common.{◌≡◌, ◌-◌, ◌+◌, ◌<◌, ◌≤◌, pos, ◌+ℤ◌, ◌≤ℤ◌, length, get_or, take, refl, arith}
 use Rattle.std.proofs.lemmas.Grind.{common_steps}
 use Rattle.isl_column.specs.Adds.{Adds}
 use Rattle.isl_column.specs.DarkShadow.{HasSplinter, splinter_count}
@@ -48,6 +48,7 @@ loop-tail-preserved c =
     let kept = adds_kept g h (c.args.columns - 1) (λ point. HasSplinter dark_shadow.rows c.args.col point t) c.loop-tail.answers.items c.push_splinters.new.answers.items (charged_bits (splinter_count (take i tails)) g h c.loop-tail.invariant.charged) more in
     record {
       added = tail_next g c.args.columns c.args.col dark_shadow i t c.args.answers.now.items c.loop-tail.answers.items c.push_splinters.new.answers.items inside at c.loop-tail.invariant.added kept;
+      counted = (let one : length c.push_splinters.new.answers.items + h.units ≤ length c.loop-tail.answers.items + k.units = grind arith in let before = c.loop-tail.invariant.counted in omega arith);
       charged = rw (total_next tails i t inside at) (charged_more (splinter_count (take i tails)) (t.last +ℤ pos 1) g h k c.loop-tail.invariant.charged own);
     }
 

@@ -1,4 +1,4 @@
-use Rattle.std.proofs.Common.{◌≡◌, ◌-◌, pos, ◌+ℤ◌, ◌≤ℤ◌, ◌<ℤ◌, refl, arith}
+use Rattle.std.proofs.Common.{◌≡◌, ◌-◌, ◌+◌, ◌≤◌, length, pos, ◌+ℤ◌, ◌≤ℤ◌, ◌<ℤ◌, refl, arith}
 use Rattle.isl_math.proofs.Ring.{linear}
 use Rattle.isl_column.specs.Adds.{Adds}
 use Rattle.isl_column.specs.DarkShadow.{HasValue}
@@ -15,6 +15,7 @@ values-init c =
     record {
       added = below_first g c.args.columns c.args.col c.args.rows.now c.args.tail.now (pos 0) c.args.answers.now.items c.requires.bound refl;
       charged = charged_same g g refl;
+      counted = omega arith;
       not_negative = omega (arith, linear);
       not_above = omega (arith, linear);
     }
@@ -34,10 +35,13 @@ values-preserved c =
     let same : c.add.new.meter ≡ k = grind arith in
     let low : i ≤ℤ t.last = grind (arith, linear) in
     let start = c.values.invariant.not_negative in
+    let own : length c.push_splinter.new.answers.items + h.units ≤ length c.values.answers.items + k.units = grind arith in
+    let before = c.values.invariant.counted in
     let kept = adds_kept g h (c.args.columns - 1) P c.values.answers.items c.push_splinter.new.answers.items (charged_bits i g h c.values.invariant.charged) more in
     record {
       added = below_next g c.args.columns c.args.col c.args.rows.now t i j c.args.answers.now.items c.values.answers.items c.push_splinter.new.answers.items next c.values.invariant.added kept;
       charged = rw (next, same) (charged_more i (pos 1) g h k c.values.invariant.charged unit);
+      counted = rw same (omega arith);
       not_negative = omega (arith, linear);
       not_above = omega (arith, linear);
     }
