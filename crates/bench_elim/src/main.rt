@@ -2,8 +2,8 @@
 //! how many systems were answered in all.
 #![tactic(auto)]
 
-ghost use Rattle.std.specs.Prelude.{◌<◌};
-ghost use Rattle.isl_piece.specs.System.{IsSystemWithin};
+ghost use Rattle.std.specs.Prelude.{◌≡◌, ◌<◌, []};
+ghost use Rattle.isl_piece.specs.System.{IsSystemWithin, free_columns};
 
 mod systems;
 
@@ -34,7 +34,8 @@ fn answered(
     meter: &mut Meter,
 ) -> Result<u64, Cut>
     requires system { IsSystemWithin meter.old system.now }
-    requires col_in { col < system.now.columns }
+    requires plain { system.now.definitions ≡ [] }
+    requires col_in { col < free_columns system.now }
 {
     let mut systems: u64 = 0;
     'turns: for _turn in 0..count {
@@ -57,7 +58,7 @@ fn system_of(alloc: Global, kind: &str) -> Result<(System, usize), AllocError> {
 fn timed(alloc: Global, kind: &str, count: u64) -> Result<u64, Cut> {
     let (system, col) = system_of(alloc, kind)?;
     let mut meter = Meter::new(127, 10_000_000);
-    if col < system.columns && is_proper(&system, &meter) {
+    if is_proper(&system, &meter) && system.definitions.is_empty() && col < system.free() {
         answered(alloc, &system, col, count, &mut meter)
     } else {
         Ok(0)

@@ -1,8 +1,6 @@
-pub mod Adds
-pub mod Branch
 pub mod Elimination
-pub mod Exact
-pub mod Magnitude
-pub mod Residue
-pub mod Together
-pub mod Units
+pub mod Emptiness
+pub mod Opened
+pub mod Others
+pub mod Parts
+pub mod Sample

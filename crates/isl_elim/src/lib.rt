@@ -1,14 +1,16 @@
-//! Exact projection of whole numbers: one column of a system is taken out, and what is left holds exactly where some
-//! whole number stood there. It is the Omega test of Pugh: equalities, congruences, exact and dark shadows, and
-//! splinters.
+//! Several columns out of rows, emptiness, and samples.
 #![tactic(auto)]
 
-mod branch;
-mod exact;
+mod along;
+mod choice;
+mod emptiness;
+mod line;
+mod opened;
+mod parts;
+mod progression;
 mod projection;
-mod residue;
-mod tails;
-mod together;
+mod sample;
 
-pub use projection::eliminate;
-pub use together::eliminate_all;
+pub use emptiness::is_empty;
+pub use projection::{eliminate, eliminate_all};
+pub use sample::sample_point;

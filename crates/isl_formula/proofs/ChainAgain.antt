@@ -1,5 +1,6 @@
 -- What spells a chain of comparisons, or the names that `exists` binds, is read again.
-use Rattle.std.proofs.Common.{◌≡◌, ℕ, ◌<◌, Bool, true, false, not, ◌&&◌, List, [], ◌∷◌, ◌++◌, length, Option, Some, refl, ap, inl, inr, arith}
+use Rattle.std.proofs.Common.{◌≡◌, ℕ, ◌<◌, Bool, true, false, not, ◌&&◌, List, [], ◌∷◌, ◌++◌, length, Option, Some, refl, ap, inl, inr}
+use Rattle.std.proofs.Common.{arith}
 use Rattle.std.specs.Prelude.{is_some}
 use Rattle.std.proofs.lemmas.Bool.{false≢true, not-true}
 use Rattle.isl_token.specs.TokenView.{Token}
@@ -10,7 +11,9 @@ use Rattle.isl_token.specs.Reading.{Parser, head_kind, sees}
 use Rattle.isl_token.specs.Reading as r
 use Rattle.isl_token.specs.Spelling.{Grammar}
 use Rattle.isl_token.specs.Spelling as s
-use Rattle.isl_token.proofs.Again.{Stops, Again, Starts, Full, Items, always, again_map, again_bind, again_skip, again_pure, again_name, again_row, again_whole_row, follows_pure, follows_starts, follows_always, follows_bind, follows_many, starts_bind, starts_more, starts_word, starts_with, full_word, full_bind}
+use Rattle.isl_token.proofs.Again.{Stops, Again, Starts, Full, Items, always, again_map, again_bind, again_skip, again_pure, again_name}
+use Rattle.isl_token.proofs.Again.{again_row, again_separated, follows_pure, follows_starts, follows_always, follows_bind, follows_many}
+use Rattle.isl_token.proofs.Again.{starts_bind, starts_more, starts_word, starts_with, full_bind}
 use Rattle.isl_tree.specs.declared.tree.Signed.{Signed}
 use Rattle.isl_tree.specs.declared.tree.Compare.{Compare}
 use Rattle.isl_tree.specs.declared.tree.Formula.TheVariants as f
@@ -81,27 +84,16 @@ begins_term k.Minus = true
 begins_term kind = begins_product kind
 
 module _ (size : ℕ) (p : Parser (List Signed)) (L : Grammar (List Signed)) (term : Again size p L (at ends_term)) where
-  next_term_again : Again size (read.next_term p) (s.◌>>◌ (s.word k.Comma) L) (at ends_term)
-  unfolding read.next_term
-  next_term_again = record { by = λ a us rest l lt stop. (again_skip k.Comma size (λ _. p) (λ _. L) (at ends_term) (λ _. term)).by a us rest l (omega arith) stop }
-
-  comma_starts : (test : Kind → Bool) → test k.Comma ≡ true → Starts (s.◌>>◌ (s.word k.Comma) L) (at test)
-  comma_starts test e = starts_bind (s.word k.Comma) (λ _. L) (at test) (starts_word k.Comma test e)
-
-  comma_items : Items (sees k.Comma) (s.◌>>◌ (s.word k.Comma) L) (at ends_term)
-  comma_items = record { starts = comma_starts (λ kind. is_kind kind k.Comma) refl; follows = comma_starts ends_term refl; some = full_bind (s.word k.Comma) (λ _. L) (full_word k.Comma) }
-
   side_again : Again size (read.side p) (spell.side L) (at ends_side)
-  unfolding read.side
-  side_again = again_bind size p _ L _ (at ends_term) (at ends_side) term
-      (λ first. again_whole_row size (sees k.Comma) (read.next_term p) (s.◌>>◌ (s.word k.Comma) L) (at ends_term) comma_items next_term_again (first ∷ []) (at ends_side)
-      (λ rest stop. (not-true _ (side_no_comma (head_kind rest) stop), side_ends_term (head_kind rest) stop)))
-      (λ first. follows_bind (follows_many (comma_starts ends_term refl) (λ rest e. side_ends_term (head_kind rest) e)) (λ others. follows_pure _ (at ends_side) (at ends_side) (λ rest e. e)))
+  side_again = again_separated size k.Comma p L (at ends_term) term
+      (starts_bind (s.word k.Comma) _ (at ends_term) (starts_word k.Comma ends_term refl))
+      (at ends_side) (λ rest stop. (not-true _ (side_no_comma (head_kind rest) stop), side_ends_term (head_kind rest) stop))
 
   link_again : Again size (read.link p) (spell.link L) (at ends_side)
   unfolding read.link
   link_again = again_bind size read.comparison _ spell.comparison _ always (at ends_side) (comparison_again size)
-      (λ c. again_bind size (read.side p) _ (spell.side L) _ (at ends_side) (at ends_side) side_again (λ right. again_pure size _ (at ends_side)) (λ right. follows_pure _ (at ends_side) (at ends_side) (λ rest e. e)))
+      (λ c. again_bind size (read.side p) _ (spell.side L) _ (at ends_side) (at ends_side) side_again
+      (λ right. again_pure size _ (at ends_side)) (λ right. follows_pure _ (at ends_side) (at ends_side) (λ rest e. e)))
       (λ c. follows_always _ (at ends_side))
 
   link_starts : Starts (spell.link L) read.sees_compare
@@ -117,11 +109,13 @@ module _ (size : ℕ) (p : Parser (List Signed)) (L : Grammar (List Signed)) (te
   unfolding read.chain
   chain_again = again_bind size (read.side p) _ (spell.side L) _ (at ends_side) (at ends_chain) side_again
       (λ first. again_bind size (read.link p) _ (spell.link L) _ (at ends_side) (at ends_chain) link_again
-      (λ second. again_row size read.sees_compare (read.link p) (spell.link L) (at ends_side) link_items link_again (second ∷ []) _ _ (at ends_chain)
+      (λ second. again_row size read.sees_compare (read.link p) (spell.link L) (at ends_side) link_items link_again (second ∷ [])
+      _ _ (at ends_chain)
       (λ links. again_pure size (f.Chain first links) (at ends_chain))
       (λ links. follows_pure _ (at ends_chain) (λ ts. not (read.sees_compare ts)) (λ rest e. left_of _ _ e))
       (λ links. follows_pure _ (at ends_chain) (at ends_side) (λ rest e. right_of _ _ e)))
-      (λ second. follows_bind (follows_many link_follows (λ rest e. right_of _ _ e)) (λ links. follows_pure _ (at ends_chain) (at ends_chain) (λ rest e. e))))
+      (λ second. follows_bind (follows_many link_follows (λ rest e. right_of _ _ e))
+      (λ links. follows_pure _ (at ends_chain) (at ends_chain) (λ rest e. e))))
       (λ first. follows_starts (at ends_chain) (starts_bind (spell.link L) _ (at ends_side) link_follows))
 
   -- ---- binders
@@ -130,20 +124,24 @@ module _ (size : ℕ) (p : Parser (List Signed)) (L : Grammar (List Signed)) (te
   ends_binder kind = not (is_kind kind k.Equal) && ends_term kind
 
   -- a term after `=`
-  bound_again : Again size (read.next_term p) (s.◌>>◌ (s.word k.Equal) L) (at ends_term)
-  unfolding read.next_term
-  bound_again = record { by = λ a us rest l lt stop. (again_skip k.Equal size (λ _. p) (λ _. L) (at ends_term) (λ _. term)).by a us rest l (omega arith) stop }
+  bound_again : Again size (r.after_sign p) (s.◌>>◌ (s.word k.Equal) L) (at ends_term)
+  unfolding r.after_sign
+  bound_again = record {
+    by = λ a us rest l lt stop. (again_skip k.Equal size (λ _. p) (λ _. L) (at ends_term) (λ _. term)).by a us rest l
+        (omega arith) stop;
+  }
 
   abbrev given : Grammar (Option (List Signed))
   given = s.◌>>=◌ (s.◌>>◌ (s.word k.Equal) L) (λ t. s.pure (Some t))
 
-  given_again : Again size (r.◌>>=◌ (read.next_term p) (λ t. r.pure (Some t))) given (at ends_term)
-  given_again = again_map size (read.next_term p) (s.◌>>◌ (s.word k.Equal) L) (λ t. Some t) (at ends_term) bound_again
+  given_again : Again size (r.◌>>=◌ (r.after_sign p) (λ t. r.pure (Some t))) given (at ends_term)
+  given_again = again_map size (r.after_sign p) (s.◌>>◌ (s.word k.Equal) L) (λ t. Some t) (at ends_term) bound_again
 
   equal_starts : Starts given (sees k.Equal)
   equal_starts = starts_bind _ _ (sees k.Equal) (starts_with k.Equal _)
 
-  value_read : (a : Option (List Signed)) (us rest : List Token) → (spell.value L) a us → length us < size → at ends_binder rest ≡ true → read.value p (us ++ rest) ≡ Some (a, rest)
+  value_read : (a : Option (List Signed)) (us rest : List Token) → (spell.value L) a us → length us < size → at ends_binder rest ≡ true
+      → read.value p (us ++ rest) ≡ Some (a, rest)
   value_read a us rest (inl l) lt stop = rw (equal_starts.by a us rest l) (given_again.by a us rest l lt (right_of _ _ stop))
   value_read a us rest (inr l) lt stop = rw (l.1, not-true (sees k.Equal rest) (left_of _ _ stop), l.0) refl
 
@@ -153,15 +151,9 @@ module _ (size : ℕ) (p : Parser (List Signed)) (L : Grammar (List Signed)) (te
   binder_again : Again size (read.binder p) (spell.binder L) (at ends_binder)
   unfolding read.binder
   binder_again = again_bind size r.name _ s.name _ always (at ends_binder) (again_name size)
-      (λ bound. again_bind size (read.value p) _ (spell.value L) _ (at ends_binder) (at ends_binder) value_again (λ held. again_pure size _ (at ends_binder)) (λ held. follows_pure _ (at ends_binder) (at ends_binder) (λ rest e. e)))
+      (λ bound. again_bind size (read.value p) _ (spell.value L) _ (at ends_binder) (at ends_binder) value_again
+      (λ held. again_pure size _ (at ends_binder)) (λ held. follows_pure _ (at ends_binder) (at ends_binder) (λ rest e. e)))
       (λ bound. follows_always _ (at ends_binder))
-
-  next_binder_again : Again size (read.next_binder p) (s.◌>>◌ (s.word k.Comma) (spell.binder L)) (at ends_binder)
-  unfolding read.next_binder
-  next_binder_again = record { by = λ a us rest l lt stop. (again_skip k.Comma size (λ _. read.binder p) (λ _. spell.binder L) (at ends_binder) (λ _. binder_again)).by a us rest l (omega arith) stop }
-
-  binder_starts : (test : Kind → Bool) → test k.Comma ≡ true → Starts (s.◌>>◌ (s.word k.Comma) (spell.binder L)) (at test)
-  binder_starts test e = starts_bind (s.word k.Comma) (λ _. spell.binder L) (at test) (starts_word k.Comma test e)
 
   -- the colon is next
   abbrev colon : Stops
@@ -172,9 +164,6 @@ module _ (size : ℕ) (p : Parser (List Signed)) (L : Grammar (List Signed)) (te
   colon_is _ e = absurd (false≢true e)
 
   pub binders_again : Again size (read.binders p) (spell.binders L) colon
-  unfolding read.binders
-  binders_again = again_bind size (read.binder p) _ (spell.binder L) _ (at ends_binder) colon binder_again
-      (λ first. again_whole_row size (sees k.Comma) (read.next_binder p) (s.◌>>◌ (s.word k.Comma) (spell.binder L)) (at ends_binder)
-      (record { starts = binder_starts (λ kind. is_kind kind k.Comma) refl; follows = binder_starts ends_binder refl; some = full_bind (s.word k.Comma) (λ _. spell.binder L) (full_word k.Comma) })
-      next_binder_again (first ∷ []) colon (λ rest stop. ((colon_is (head_kind rest) stop).1, (colon_is (head_kind rest) stop).0)))
-      (λ first. follows_bind (follows_many (binder_starts ends_binder refl) (λ rest e. (colon_is (head_kind rest) e).0)) (λ others. follows_pure _ colon colon (λ rest e. e)))
+  binders_again = again_separated size k.Comma (read.binder p) (spell.binder L) (at ends_binder) binder_again
+      (starts_bind (s.word k.Comma) _ (at ends_binder) (starts_word k.Comma ends_binder refl))
+      colon (λ rest stop. ((colon_is (head_kind rest) stop).1, (colon_is (head_kind rest) stop).0))

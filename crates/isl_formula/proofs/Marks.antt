@@ -32,7 +32,9 @@ module _ (m : Mark) where
   clear_nothing = record { by = λ a us rest level l. rw l refl }
 
   pub clear_bind : {A B : Type 0} {L : Grammar A} {M : A → Grammar B} → Clear m L → ((a : A) → Clear m (M a)) → Clear m (s.◌>>=◌ L M)
-  clear_bind h k = record { by = λ b ts rest level l. rw (l.3, append_assoc l.1 l.2 rest) (h.by l.0 l.1 (l.2 ++ rest) level l.4 ∙ (k l.0).by b l.2 rest level l.5) }
+  clear_bind h k = record {
+    by = λ b ts rest level l. rw (l.3, append_assoc l.1 l.2 rest) (h.by l.0 l.1 (l.2 ++ rest) level l.4 ∙ (k l.0).by b l.2 rest level l.5);
+  }
 
   pub clear_map : {A B : Type 0} {L : Grammar A} (f : A → B) → Clear m L → Clear m (s.◌>>=◌ L (λ a. s.pure (f a)))
   clear_map f h = clear_bind h (λ a. clear_pure (f a))
@@ -62,7 +64,8 @@ module _ (m : Mark) where
   clear_positive = record { by = λ n us rest level l. clear_number.by n us rest level l.0 }
 
   -- a bracket that closes one more
-  pub closes_end : {A : Type 0} (k : Kind) → ((level : ℕ) (go : ℕ → Bool) → mark_step m k (suc level) go ≡ go level) → ((go : ℕ → Bool) → mark_step m k zero go ≡ false) → (x : A) → Closes m (s.◌>>◌ (s.word k) (s.pure x))
+  pub closes_end : {A : Type 0} (k : Kind) → ((level : ℕ) (go : ℕ → Bool) → mark_step m k (suc level) go ≡ go level)
+      → ((go : ℕ → Bool) → mark_step m k zero go ≡ false) → (x : A) → Closes m (s.◌>>◌ (s.word k) (s.pure x))
   unfolding holds
   closes_end k one last x = record {
     by = λ a us rest level l. rw (l.3, l.4.1, l.5.1, l.4.2) (one level (holds m rest));
@@ -71,14 +74,18 @@ module _ (m : Mark) where
 
   pub closes_bind : {A B : Type 0} {L : Grammar A} {M : A → Grammar B} → Clear m L → ((a : A) → Closes m (M a)) → Closes m (s.◌>>=◌ L M)
   closes_bind h k = record {
-    by = λ b ts rest level l. rw (l.3, append_assoc l.1 l.2 rest) (h.by l.0 l.1 (l.2 ++ rest) (suc level) l.4 ∙ (k l.0).by b l.2 rest level l.5);
+    by = λ b ts rest level l. rw (l.3, append_assoc l.1 l.2 rest)
+        (h.by l.0 l.1 (l.2 ++ rest) (suc level) l.4 ∙ (k l.0).by b l.2 rest level l.5);
     ends = λ b ts rest l. rw (l.3, append_assoc l.1 l.2 rest) (h.by l.0 l.1 (l.2 ++ rest) 0 l.4 ∙ (k l.0).ends b l.2 rest l.5);
   }
 
   -- a bracket, and what is in it
-  pub clear_brackets : {B : Type 0} (k : Kind) {M : Unit {0} → Grammar B} → ((level : ℕ) (go : ℕ → Bool) → mark_step m k level go ≡ go (suc level)) → Closes m (M tt) → Clear m (s.◌>>=◌ (s.word k) M)
+  pub clear_brackets : {B : Type 0} (k : Kind) {M : Unit {0} → Grammar B}
+      → ((level : ℕ) (go : ℕ → Bool) → mark_step m k level go ≡ go (suc level)) → Closes m (M tt) → Clear m (s.◌>>=◌ (s.word k) M)
   unfolding holds
-  clear_brackets k e h = record { by = λ b ts rest level l. rw (l.3, l.4.1, l.4.2) (e level (holds m (l.2 ++ rest)) ∙ h.by b l.2 rest level l.5) }
+  clear_brackets k e h = record {
+    by = λ b ts rest level l. rw (l.3, l.4.1, l.4.2) (e level (holds m (l.2 ++ rest)) ∙ h.by b l.2 rest level l.5);
+  }
 
   pub marked_word : (k : Kind) → ((level : ℕ) (go : ℕ → Bool) → mark_step m k level go ≡ true) → Marked m (s.word k)
   unfolding holds
@@ -88,14 +95,19 @@ module _ (m : Mark) where
   marked_bind h = record { by = λ b ts rest level l. rw (l.3, append_assoc l.1 l.2 rest) (h.by l.0 l.1 (l.2 ++ rest) level l.4) }
 
   pub marked_later : {A B : Type 0} {L : Grammar A} {M : A → Grammar B} → Clear m L → ((a : A) → Marked m (M a)) → Marked m (s.◌>>=◌ L M)
-  marked_later h k' = record { by = λ b ts rest level l. rw (l.3, append_assoc l.1 l.2 rest) (h.by l.0 l.1 (l.2 ++ rest) level l.4 ∙ (k' l.0).by b l.2 rest level l.5) }
+  marked_later h k' = record {
+    by = λ b ts rest level l. rw (l.3, append_assoc l.1 l.2 rest) (h.by l.0 l.1 (l.2 ++ rest) level l.4 ∙ (k' l.0).by b l.2 rest level l.5);
+  }
 
   pub marked_either : {A : Type 0} {L M : Grammar A} → Marked m L → Marked m M → Marked m (s.◌∪◌ L M)
   marked_either h k' = record { by = λ a us rest level l. elim l [ inl x ↦ h.by a us rest level x | inr y ↦ k'.by a us rest level y ] }
 
-  pub marked_brackets : {B : Type 0} (k : Kind) {M : Unit {0} → Grammar B} → ((level : ℕ) (go : ℕ → Bool) → mark_step m k level go ≡ go (suc level)) → Marked m (M tt) → Marked m (s.◌>>=◌ (s.word k) M)
+  pub marked_brackets : {B : Type 0} (k : Kind) {M : Unit {0} → Grammar B}
+      → ((level : ℕ) (go : ℕ → Bool) → mark_step m k level go ≡ go (suc level)) → Marked m (M tt) → Marked m (s.◌>>=◌ (s.word k) M)
   unfolding holds
-  marked_brackets k e h = record { by = λ b ts rest level l. rw (l.3, l.4.1, l.4.2) (e level (holds m (l.2 ++ rest)) ∙ h.by b l.2 rest (suc level) l.5) }
+  marked_brackets k e h = record {
+    by = λ b ts rest level l. rw (l.3, l.4.1, l.4.2) (e level (holds m (l.2 ++ rest)) ∙ h.by b l.2 rest (suc level) l.5);
+  }
 
   -- no bracket of this kind with a mark in it
   abbrev pub plain : Kind → Stops
@@ -106,16 +118,24 @@ module _ (m : Mark) where
   chosen_false false x h = refl
 
   -- brackets with no mark in them
-  pub plain_brackets : {B : Type 0} (bracket k : Kind) {M : Unit {0} → Grammar B} → Closes m (M tt) → Starts (s.◌>>=◌ (s.word k) M) (plain bracket)
-  plain_brackets bracket k h = record { by = λ b ts rest l. rw (l.3, l.4.1) (chosen_false (is_kind (kind_of l.4.0) bracket) (holds m (l.2 ++ rest) 0) (λ _. h.ends b l.2 rest l.5)) }
+  pub plain_brackets : {B : Type 0} (bracket k : Kind) {M : Unit {0} → Grammar B} → Closes m (M tt)
+      → Starts (s.◌>>=◌ (s.word k) M) (plain bracket)
+  plain_brackets bracket k h = record {
+    by = λ b ts rest l. rw (l.3, l.4.1)
+        (chosen_false (is_kind (kind_of l.4.0) bracket) (holds m (l.2 ++ rest) 0) (λ _. h.ends b l.2 rest l.5));
+  }
 
   not_begun : (bracket : Kind) (ts : List Token) → is_kind (head_kind ts) bracket ≡ false → plain bracket ts ≡ true
   not_begun bracket [] e = refl
   not_begun bracket (t ∷ ts) e = rw e refl
 
   -- another token
-  pub plain_other : {A : Type 0} {L : Grammar A} (bracket k : Kind) → Starts L (sees k) → is_kind k bracket ≡ false → Starts L (plain bracket)
-  plain_other bracket k h e = record { by = λ a us rest l. not_begun bracket (us ++ rest) (ap (λ x. is_kind x bracket) (is_kind_true (head_kind (us ++ rest)) k (h.by a us rest l)) ∙ e) }
+  pub plain_other : {A : Type 0} {L : Grammar A} (bracket k : Kind) → Starts L (sees k) → is_kind k bracket ≡ false
+      → Starts L (plain bracket)
+  plain_other bracket k h e = record {
+    by = λ a us rest l. not_begun bracket (us ++ rest)
+        (ap (λ x. is_kind x bracket) (is_kind_true (head_kind (us ++ rest)) k (h.by a us rest l)) ∙ e);
+  }
 
   -- brackets with a mark in them
   pub begins_brackets : {B : Type 0} (k : Kind) {M : Unit {0} → Grammar B} → Marked m (M tt) → Starts (s.◌>>=◌ (s.word k) M) (begins k m)

@@ -19,12 +19,15 @@ module _ (unary : Parser Formula) (o : Operator) (ts rest : List Token) (r : Res
 
 module _ (sep : Kind) (make : List Formula → Formula) (item : Parser Formula) where
   -- the first part, the test, the second part and the others
-  pub row_whole : (ts us vs ws : List Token) (first second made : Formula) (parts : List Formula) → item ts ≡ Some (first, us) → sees sep us ≡ true → next_item sep make item us ≡ Some (second, vs)
-      → row (sees sep) (next_item sep make item) (first ∷ second ∷ []) vs ≡ Some (parts, ws) → made ≡ make parts → rows sep make item ts ≡ Some (made, ws)
+  pub row_whole : (ts us vs ws : List Token) (first second made : Formula) (parts : List Formula) → item ts ≡ Some (first, us)
+      → sees sep us ≡ true → next_item sep make item us ≡ Some (second, vs)
+      → row (sees sep) (next_item sep make item) (first ∷ second ∷ []) vs ≡ Some (parts, ws) → made ≡ make parts
+      → rows sep make item ts ≡ Some (made, ws)
   unfolding rows
   row_whole ts us vs ws first second made parts one test two all is = rw (one, test, two, all, is) refl
 
-  pub row_first : (ts us : List Token) (first : Formula) → item ts ≡ Some (first, us) → sees sep us ≡ false → rows sep make item ts ≡ Some (first, us)
+  pub row_first : (ts us : List Token) (first : Formula) → item ts ≡ Some (first, us) → sees sep us ≡ false
+      → rows sep make item ts ≡ Some (first, us)
   unfolding rows
   row_first ts us first one test = rw (one, test) refl
 
@@ -33,12 +36,14 @@ module _ (sep : Kind) (make : List Formula → Formula) (item : Parser Formula) 
   row_fails_first ts rest NoMemory one = tt
   row_fails_first ts rest Syntax one = rw one refl
 
-  pub row_fails_second : (ts us rest : List Token) (first : Formula) (e : Fault) → item ts ≡ Some (first, us) → sees sep us ≡ true → Reads (next_item sep make item us) (Err e) rest → Reads (rows sep make item ts) (Err e) rest
+  pub row_fails_second : (ts us rest : List Token) (first : Formula) (e : Fault) → item ts ≡ Some (first, us) → sees sep us ≡ true
+      → Reads (next_item sep make item us) (Err e) rest → Reads (rows sep make item ts) (Err e) rest
   unfolding rows
   row_fails_second ts us rest first NoMemory one test two = tt
   row_fails_second ts us rest first Syntax one test two = rw (one, test, two) refl
 
-  pub row_fails_others : (ts us vs rest : List Token) (first second : Formula) (e : Fault) → item ts ≡ Some (first, us) → sees sep us ≡ true → next_item sep make item us ≡ Some (second, vs)
+  pub row_fails_others : (ts us vs rest : List Token) (first second : Formula) (e : Fault) → item ts ≡ Some (first, us) → sees sep us ≡ true
+      → next_item sep make item us ≡ Some (second, vs)
       → Reads (row (sees sep) (next_item sep make item) (first ∷ second ∷ []) vs) (Err e) rest → Reads (rows sep make item ts) (Err e) rest
   unfolding rows
   row_fails_others ts us vs rest first second NoMemory one test two all = tt

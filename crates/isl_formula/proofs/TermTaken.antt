@@ -9,7 +9,10 @@ use Rattle.isl_token.specs.Reading.{Parser, head_kind, tail}
 use Rattle.isl_token.specs.Reading as r
 use Rattle.isl_token.specs.Spelling.{Grammar}
 use Rattle.isl_token.specs.Spelling as s
-use Rattle.isl_token.proofs.Taking.{TakesAt, Takes, takes_pure, takes_none, takes_bind, takes_map, takes_past, takes_seen, takes_after, takes_end, takes_or_left, takes_or_right, takes_peek, takes_if, takes_name, takes_number, takes_positive, takes_row, takes_whole_row, takes_nothing_then, takes_either_then, takes_later_then, takes_test, is_kind_true}
+use Rattle.isl_token.proofs.Taking.{TakesAt, Takes, takes_pure, takes_none, takes_bind, takes_map, takes_past, takes_seen, takes_after}
+use Rattle.isl_token.proofs.Taking.{takes_end, takes_or_left, takes_or_right, takes_peek, takes_if, takes_name, takes_number}
+use Rattle.isl_token.proofs.Taking.{takes_positive, takes_row, takes_whole_row, takes_nothing_then, takes_either_then, takes_later_then}
+use Rattle.isl_token.proofs.Taking.{takes_test, is_kind_true}
 use Rattle.isl_tree.specs.declared.tree.Factor.TheVariants as f
 use Rattle.isl_tree.specs.declared.tree.Product.{Product}
 use Rattle.isl_formula.specs.declared.term.Rounding.{Rounding}
@@ -35,7 +38,8 @@ sign_taken : Takes read.sign any_sign
 unfolding read.sign
 sign_taken ts = takes_peek read.sign_by any_sign ts (sign_by_taken ts (head_kind ts) refl)
 
-plus_or_minus_by : (ts : List Token) (kind : Kind) → head_kind ts ≡ kind → read.is_additive kind ≡ true → TakesAt ts (read.sign_by kind) spell.plus_or_minus
+plus_or_minus_by : (ts : List Token) (kind : Kind) → head_kind ts ≡ kind → read.is_additive kind ≡ true
+    → TakesAt ts (read.sign_by kind) spell.plus_or_minus
 plus_or_minus_by ts k.Minus e h = takes_or_left _ (minus_taken ts e)
 plus_or_minus_by ts k.Plus e h = takes_or_right _ (plus_taken ts e)
 plus_or_minus_by ts _ e h = absurd (false≢true h)
@@ -48,12 +52,14 @@ opt_minus_taken : Takes read.minus spell.minus
 unfolding read.minus
 opt_minus_taken ts = record {
   by = takes_test (r.sees k.Minus ts) _ _ ts (s.◌>>◌ (s.word k.Minus) (s.pure true)) (s.pure false)
-      (λ seen a rest e. (minus_taken ts (is_kind_true (head_kind ts) k.Minus seen)).by a rest e) (λ _ a rest e. (takes_pure false ts).by a rest e);
+      (λ seen a rest e. (minus_taken ts (is_kind_true (head_kind ts) k.Minus seen)).by a rest e)
+      (λ _ a rest e. (takes_pure false ts).by a rest e);
 }
 
 next_number_taken : (ts : List Token) → read.sees_times ts ≡ true → TakesAt ts read.next_number (s.◌>>◌ (s.word k.Star) s.number)
 unfolding read.next_number
-next_number_taken ts h = takes_seen k.Star (λ h. cc) (λ _. r.number) (λ _. s.number) (λ _. takes_number) ts (and_parts (r.sees k.Star ts) (is_kind (r.second_kind ts) k.Number) h).0
+next_number_taken ts h = takes_seen k.Star (λ h. cc) (λ _. r.number) (λ _. s.number) (λ _. takes_number) ts
+    (and_parts (r.sees k.Star ts) (is_kind (r.second_kind ts) k.Number) h).0
 
 modulus_taken : (ts : List Token) → r.sees k.Mod ts ≡ true → TakesAt ts read.modulus (s.◌>>◌ (s.word k.Mod) s.positive)
 unfolding read.modulus
@@ -67,43 +73,53 @@ module _ (p : Parser Product) (L : Grammar Product) (nested : Takes p L) where
   terms_taken : Takes (read.terms p) (spell.terms L)
   unfolding read.terms
   terms_taken ts = takes_bind (read.signed p) _ (spell.signed_by L any_sign) _ ts (signed_taken any_sign ts (sign_taken ts)) (λ first.
-      takes_whole_row (λ us. read.is_additive (head_kind us)) (read.signed p) (spell.signed_by L spell.plus_or_minus) (λ us h. signed_taken spell.plus_or_minus us (plus_or_minus_taken us h)) (first ∷ []))
+      takes_whole_row (λ us. read.is_additive (head_kind us)) (read.signed p) (spell.signed_by L spell.plus_or_minus)
+      (λ us h. signed_taken spell.plus_or_minus us (plus_or_minus_taken us h)) (first ∷ []))
 
   enclosed_taken : (ts : List Token) → head_kind ts ≡ k.Open → TakesAt ts (r.◌>>◌ r.skip (read.enclosed p)) (spell.enclosed L)
   unfolding read.enclosed
-  enclosed_taken = takes_past k.Open (λ h. cc) _ _ (λ _. λ us. takes_bind (read.terms p) _ (spell.terms L) _ us (terms_taken us) (λ inner. takes_end k.Close (λ h. cc) (f.Inner inner)))
+  enclosed_taken = takes_past k.Open (λ h. cc) _ _ (λ _. λ us. takes_bind (read.terms p) _ (spell.terms L) _ us (terms_taken us)
+      (λ inner. takes_end k.Close (λ h. cc) (f.Inner inner)))
 
   over_taken : Takes (read.over p) (spell.over L)
   unfolding read.over
-  over_taken ts = takes_bind read.minus _ spell.minus _ ts (opt_minus_taken ts) (λ negative. takes_map p L (λ product. read.make_signed negative product ∷ []) nested)
+  over_taken ts = takes_bind read.minus _ spell.minus _ ts (opt_minus_taken ts)
+      (λ negative. takes_map p L (λ product. read.make_signed negative product ∷ []) nested)
 
   ratio_taken : (rounding : Rounding) → Takes (read.ratio p rounding) (spell.ratio L rounding)
   unfolding read.ratio
   ratio_taken rounding ts = takes_bind (read.over p) _ (spell.over L) _ ts (over_taken ts) (λ term. takes_after k.Slash (λ h. cc) _ _ (λ _.
       takes_map r.positive s.positive (read.rounded rounding term) takes_positive))
 
-  in_brackets_taken : (kind : Kind) → kind ≢ k.End → (rounding : Rounding) (ts : List Token) → head_kind ts ≡ kind → TakesAt ts (r.◌>>◌ r.skip (read.in_brackets p rounding)) (spell.in_brackets L kind rounding)
+  in_brackets_taken : (kind : Kind) → kind ≢ k.End → (rounding : Rounding) (ts : List Token) → head_kind ts ≡ kind
+      → TakesAt ts (r.◌>>◌ r.skip (read.in_brackets p rounding)) (spell.in_brackets L kind rounding)
   unfolding read.in_brackets
   in_brackets_taken kind some rounding = takes_past kind some _ _ (λ _. takes_after k.Open (λ h. cc) _ _ (λ _. λ us.
-      takes_bind (read.ratio p rounding) _ (spell.ratio L rounding) _ us (ratio_taken rounding us) (λ quotient. takes_end k.Close (λ h. cc) quotient)))
+      takes_bind (read.ratio p rounding) _ (spell.ratio L rounding) _ us (ratio_taken rounding us)
+      (λ quotient. takes_end k.Close (λ h. cc) quotient)))
 
   in_squares_taken : (ts : List Token) → head_kind ts ≡ k.OpenSquare → TakesAt ts (r.◌>>◌ r.skip (read.in_squares p)) (spell.in_squares L)
   unfolding read.in_squares
   in_squares_taken = takes_past k.OpenSquare (λ h. cc) _ _ (λ _. λ us.
-      takes_bind (read.ratio p Down) _ (spell.ratio L Down) _ us (ratio_taken Down us) (λ quotient. takes_end k.CloseSquare (λ h. cc) quotient))
+      takes_bind (read.ratio p Down) _ (spell.ratio L Down) _ us (ratio_taken Down us)
+      (λ quotient. takes_end k.CloseSquare (λ h. cc) quotient))
 
-  divided_taken : (kind : Kind) → kind ≢ k.End → (rounding : Rounding) (ts : List Token) → head_kind ts ≡ kind → TakesAt ts (r.◌>>◌ r.skip (read.divided p rounding)) (spell.divided L kind rounding)
+  divided_taken : (kind : Kind) → kind ≢ k.End → (rounding : Rounding) (ts : List Token) → head_kind ts ≡ kind
+      → TakesAt ts (r.◌>>◌ r.skip (read.divided p rounding)) (spell.divided L kind rounding)
   unfolding read.divided
   divided_taken kind some rounding = takes_past kind some _ _ (λ _. takes_after k.Open (λ h. cc) _ _ (λ _. λ us.
       takes_bind (read.terms p) _ (spell.terms L) _ us (terms_taken us) (λ term. takes_after k.Comma (λ h. cc) _ _ (λ _. λ vs.
-      takes_bind r.positive _ s.positive _ vs (takes_positive vs) (λ divisor. takes_end k.Close (λ h. cc) (read.rounded rounding term divisor))))))
+      takes_bind r.positive _ s.positive _ vs (takes_positive vs)
+      (λ divisor. takes_end k.Close (λ h. cc) (read.rounded rounding term divisor))))))
 
   quotient_by_taken : (ts : List Token) (kind : Kind) → head_kind ts ≡ kind → TakesAt ts (read.quotient_by p kind) (spell.quotient L)
   quotient_by_taken ts k.OpenSquare e = takes_or_left _ (in_squares_taken ts e)
   quotient_by_taken ts k.Floor e = takes_or_right _ (takes_or_left _ (in_brackets_taken k.Floor (λ h. cc) Down ts e))
   quotient_by_taken ts k.Ceil e = takes_or_right _ (takes_or_right _ (takes_or_left _ (in_brackets_taken k.Ceil (λ h. cc) Up ts e)))
-  quotient_by_taken ts k.FloorDiv e = takes_or_right _ (takes_or_right _ (takes_or_right _ (takes_or_left _ (divided_taken k.FloorDiv (λ h. cc) Down ts e))))
-  quotient_by_taken ts k.CeilDiv e = takes_or_right _ (takes_or_right _ (takes_or_right _ (takes_or_right _ (divided_taken k.CeilDiv (λ h. cc) Up ts e))))
+  quotient_by_taken ts k.FloorDiv e = takes_or_right
+      _ (takes_or_right _ (takes_or_right _ (takes_or_left _ (divided_taken k.FloorDiv (λ h. cc) Down ts e))))
+  quotient_by_taken ts k.CeilDiv e = takes_or_right
+      _ (takes_or_right _ (takes_or_right _ (takes_or_right _ (divided_taken k.CeilDiv (λ h. cc) Up ts e))))
   quotient_by_taken ts _ e = takes_none ts (spell.quotient L)
 
   factor_by_taken : (ts : List Token) (kind : Kind) → head_kind ts ≡ kind → TakesAt ts (read.factor_by p kind) (spell.factor L)
@@ -118,7 +134,8 @@ module _ (p : Parser Product) (L : Grammar Product) (nested : Takes p L) where
   modded_taken : Takes (read.modded p) (spell.modded L)
   unfolding read.modded
   modded_taken ts = takes_bind (read.factor p) _ (spell.factor L) _ ts (factor_taken ts) (λ inner.
-      takes_row (r.sees k.Mod) read.modulus (s.◌>>◌ (s.word k.Mod) s.positive) modulus_taken [] _ _ (λ found. takes_pure (read.make_modded inner found)))
+      takes_row (r.sees k.Mod) read.modulus (s.◌>>◌ (s.word k.Mod) s.positive) modulus_taken []
+      _ _ (λ found. takes_pure (read.make_modded inner found)))
 
   held_taken : Takes (read.held p) (spell.held L)
   unfolding read.held
@@ -141,11 +158,13 @@ module _ (p : Parser Product) (L : Grammar Product) (nested : Takes p L) where
   named_taken : Takes (read.named p) (spell.named L)
   unfolding read.named
   named_taken ts = takes_bind (read.modded p) _ (spell.modded L) _ ts (modded_taken ts) (λ m.
-      takes_row read.sees_times read.next_number (s.◌>>◌ (s.word k.Star) s.number) next_number_taken [] _ _ (λ numbers. takes_pure (read.make_product numbers (Some m))))
+      takes_row read.sees_times read.next_number (s.◌>>◌ (s.word k.Star) s.number) next_number_taken []
+      _ _ (λ numbers. takes_pure (read.make_product numbers (Some m))))
 
   level_taken : Takes (read.product_level p) (spell.product_level L)
   unfolding read.product_level
-  level_taken ts = takes_peek (read.level_by p) (spell.product_level L) ts (takes_if (is_kind (head_kind ts) k.Number) _ _ (spell.product_level L) ts
+  level_taken ts = takes_peek (read.level_by p) (spell.product_level L) ts
+      (takes_if (is_kind (head_kind ts) k.Number) _ _ (spell.product_level L) ts
       (λ h. takes_or_left (spell.named L) (numbered_taken ts)) (λ h. takes_or_right (spell.numbered L) (named_taken ts)))
 
 pub product_taken : (n : ℕ) → Takes (read.product n) (spell.product n)

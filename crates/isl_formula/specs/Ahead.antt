@@ -1,4 +1,4 @@
--- What a bracket begins, as the tokens up to the bracket that closes it tell.
+-- inner: what a bracket begins, as the tokens up to the bracket that closes it tell.
 use Rattle.std.specs.Prelude.{ℕ, zero, suc, Bool, true, false, List, [], ◌∷◌, if◌then◌else◌}
 use Rattle.isl_token.specs.TokenView.{Token}
 use Rattle.isl_token.specs.declared.token.Kind.{Kind}

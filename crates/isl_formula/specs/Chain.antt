@@ -1,9 +1,9 @@
--- Comparisons, and the names that `exists` binds: how they are read.
+-- inner: comparisons, and the names that `exists` binds: how they are read.
 use Rattle.std.specs.Prelude.{Bool, is_some, List, [], ◌∷◌, Option, Some, None, if◌then◌else◌}
 use Rattle.isl_token.specs.TokenView.{Token}
 use Rattle.isl_token.specs.declared.token.Kind.{Kind}
 use Rattle.isl_token.specs.declared.token.Kind.TheVariants as k
-use Rattle.isl_token.specs.Reading.{Parser, ◌>>=◌, ◌>>◌, pure, none, head_kind, sees, peek, skip, name, row}
+use Rattle.isl_token.specs.Reading.{Parser, ◌>>=◌, ◌>>◌, pure, none, head_kind, sees, peek, skip, name, row, after_sign, separated}
 use Rattle.isl_tree.specs.declared.tree.Signed.{Signed}
 use Rattle.isl_tree.specs.declared.tree.Compare.{Compare}
 use Rattle.isl_tree.specs.declared.tree.Compare.TheVariants as compare
@@ -32,13 +32,8 @@ unfoldable pub comparison : Parser Compare
 comparison = peek >>= λ kind. compare_by (compare_of kind)
 
 module _ (term : Parser (List Signed)) where
-  unfoldable pub next_term : Parser (List Signed)
-  next_term = skip >> term
-
-  unfoldable pub side : Parser (List (List Signed))
-  side = do
-    first ← term
-    row (sees k.Comma) next_term (first ∷ [])
+  abbrev pub side : Parser (List (List Signed))
+  side = separated k.Comma term
 
   unfoldable pub link : Parser (Compare × List (List Signed))
   link = do
@@ -55,7 +50,7 @@ module _ (term : Parser (List Signed)) where
 
   -- what a name is bound to
   abbrev pub value : Parser (Option (List Signed))
-  value = λ ts. if sees k.Equal ts then (next_term >>= λ t. pure (Some t)) ts else Some (None, ts)
+  value = λ ts. if sees k.Equal ts then (after_sign term >>= λ t. pure (Some t)) ts else Some (None, ts)
 
   unfoldable pub binder : Parser Binder
   binder = do
@@ -63,10 +58,5 @@ module _ (term : Parser (List Signed)) where
     held ← value
     pure (record { name = bound; value = held })
 
-  unfoldable pub next_binder : Parser Binder
-  next_binder = skip >> binder
-
-  unfoldable pub binders : Parser (List Binder)
-  binders = do
-    first ← binder
-    row (sees k.Comma) next_binder (first ∷ [])
+  abbrev pub binders : Parser (List Binder)
+  binders = separated k.Comma binder

@@ -1,4 +1,4 @@
--- Formulas: how they are read.
+-- inner: formulas: how they are read.
 use Rattle.std.specs.Prelude.{ℕ, zero, suc, List, [], ◌∷◌, Some, if◌then◌else◌}
 use Rattle.isl_token.specs.declared.token.Kind.{Kind}
 use Rattle.isl_token.specs.declared.token.Kind.TheVariants as k

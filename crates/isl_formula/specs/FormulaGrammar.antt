@@ -1,10 +1,10 @@
--- The grammar of formulas. (isl manual, the notation of sets and relations: Presburger formulas)
+-- public: the grammar of formulas. (isl manual, the notation of sets and relations: Presburger formulas)
 use Rattle.std.specs.Prelude.{◌≡◌, ℕ, zero, suc, Bool, true, false, List, [], ◌∷◌, ◌++◌, Option, Some, None}
 use Rattle.isl_token.specs.TokenView.{Token}
 use Rattle.isl_token.specs.declared.token.Kind.{Kind}
 use Rattle.isl_token.specs.declared.token.Kind.TheVariants as k
 use Rattle.isl_token.specs.Token.{kind_of}
-use Rattle.isl_token.specs.Spelling.{Grammar, ◌>>=◌, ◌>>◌, ◌∪◌, pure, word, name, many}
+use Rattle.isl_token.specs.Spelling.{Grammar, ◌>>=◌, ◌>>◌, ◌∪◌, pure, word, name, many, separated}
 use Rattle.isl_tree.specs.declared.tree.Signed.{Signed}
 use Rattle.isl_tree.specs.declared.tree.Compare.{Compare}
 use Rattle.isl_tree.specs.declared.tree.Binder.{Binder}
@@ -20,10 +20,7 @@ comparison = λ c ts. (t : Token) × (ts ≡ t ∷ []) × (compare_of (kind_of t
 module _ (term : Grammar (List Signed)) where
   -- term {"," term}
   abbrev pub side : Grammar (List (List Signed))
-  side = do
-    first ← term
-    others ← many (word k.Comma >> term)
-    pure (first ∷ others)
+  side = separated k.Comma term
 
   abbrev pub link : Grammar (Compare × List (List Signed))
   link = do
@@ -52,10 +49,7 @@ module _ (term : Grammar (List Signed)) where
 
   -- binder {"," binder}
   abbrev pub binders : Grammar (List Binder)
-  binders = do
-    first ← binder
-    others ← many (word k.Comma >> binder)
-    pure (first ∷ others)
+  binders = separated k.Comma binder
 
 -- An `exists` without brackets takes all that follows, so it is the last item of each row that it stands in.
 -- The grammars of items come in two: `false` for texts that do not end in such an `exists`, `true` for all.

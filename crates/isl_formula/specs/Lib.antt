@@ -4,3 +4,7 @@ pub mod Ahead
 pub mod Chain
 pub mod Formula
 pub mod FormulaGrammar
+pub use Rattle.isl_token.specs.Reading
+pub use Rattle.isl_token.specs.Spelling
+pub use Rattle.isl_token.specs.Token
+pub use Rattle.isl_token.specs.TokenView

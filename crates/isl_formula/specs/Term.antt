@@ -1,10 +1,11 @@
--- Terms: how they are read.
+-- inner: terms: how they are read.
 use Rattle.std.specs.Prelude.{ℕ, ℤ, zero, suc, Bool, true, false, ◌&&◌, List, [], ◌∷◌, Option, Some, None, if◌then◌else◌}
 use Rattle.isl_token.specs.TokenView.{Token}
 use Rattle.isl_token.specs.declared.token.Kind.{Kind}
 use Rattle.isl_token.specs.declared.token.Kind.TheVariants as k
 use Rattle.isl_token.specs.Token.{is_kind}
-use Rattle.isl_token.specs.Reading.{Parser, ◌>>=◌, ◌>>◌, pure, none, head_kind, second_kind, tail, sees, peek, skip, expect, name, number, positive, row}
+use Rattle.isl_token.specs.Reading.{Parser, ◌>>=◌, ◌>>◌, pure, none, head_kind, second_kind, tail, sees, peek, skip, expect, name, number}
+use Rattle.isl_token.specs.Reading.{positive, row}
 use Rattle.isl_tree.specs.declared.tree.Factor.{Factor}
 use Rattle.isl_tree.specs.declared.tree.Factor.TheVariants as f
 use Rattle.isl_tree.specs.declared.tree.Modded.{Modded, roll-Modded}

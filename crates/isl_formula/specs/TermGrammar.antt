@@ -1,4 +1,4 @@
--- The grammar of terms. (isl manual, the notation of sets and relations: affine expressions)
+-- public: the grammar of terms. (isl manual, the notation of sets and relations: affine expressions)
 use Rattle.std.specs.Prelude.{ℕ, ℤ, zero, suc, Bool, true, false, List, [], ◌∷◌, Option, Some, None}
 use Rattle.isl_token.specs.declared.token.Kind.{Kind}
 use Rattle.isl_token.specs.declared.token.Kind.TheVariants as k

@@ -6,6 +6,7 @@ ghost use Rattle.isl_token.specs.Reading as reading;
 ghost use Rattle.isl_formula.specs.Term as terms;
 ghost use Rattle.isl_formula.specs.Chain as spec;
 
+use crate::list::{ItemReader, after_sign, separated};
 use crate::term::term;
 use isl_token::{Cursor, Fault, Kind};
 use isl_tree::tree::{Binder, Compare, Formula, Signed};
@@ -45,29 +46,29 @@ fn comparison(tokens: &mut Cursor<'_>) -> Result<Compare, Fault>
     }
 }
 
-/// A term, after a sign.
-#[tactic(auto, unfolding(crate::specs::Chain::next_term))]
-fn next_term(alloc: Global, tokens: &mut Cursor<'_>, depth: usize) -> Result<Items<Signed>, Fault>
-    ensures { Reads (spec.next_term (terms.term depth) tokens.old) result tokens.new }
-{
-    tokens.skip();
-    term(alloc, tokens, depth)
+/// Reads terms whose brackets are nested less than `depth` deep.
+#[derive(Clone, Copy, Debug)]
+struct TermReader {
+    depth: usize,
+}
+
+impl ItemReader for TermReader {
+    type Item = Items<Signed>;
+
+    const ROOM: usize = 1;
+
+    ghost reads = { λ r. terms.term r.depth };
+
+    fn read(&self, alloc: Global, tokens: &mut Cursor<'_>) -> Result<Items<Signed>, Fault> {
+        term(alloc, tokens, self.depth)
+    }
 }
 
 /// One side of a comparison: terms with `,` between them.
-#[tactic(auto, using(isl_token::proofs::Turns::turns), unfolding(crate::specs::Chain::side, isl_token::specs::Reading::row))]
 fn side(alloc: Global, tokens: &mut Cursor<'_>, depth: usize) -> Result<Items<Items<Signed>>, Fault>
     ensures { Reads (spec.side (terms.term depth) tokens.old) result tokens.new }
 {
-    let mut found = Items::from_vec(Vec::with_capacity(alloc, 1)?);
-    found.push(term(alloc, tokens, depth)?)?;
-    for _turn in 0..tokens.left() {
-        if !tokens.sees(Kind::Comma) {
-            return Ok(found);
-        }
-        found.push(next_term(alloc, tokens, depth)?)?;
-    }
-    Ok(found)
+    separated(alloc, tokens, Kind::Comma, &TermReader { depth })
 }
 
 /// A compare sign and the side after it.
@@ -124,7 +125,7 @@ fn value(
     ensures { Reads (spec.value (terms.term depth) tokens.old) result tokens.new }
 {
     if tokens.sees(Kind::Equal) {
-        Ok(Some(next_term(alloc, tokens, depth)?))
+        Ok(Some(after_sign(alloc, tokens, &TermReader { depth })?))
     } else {
         Ok(None)
     }
@@ -139,26 +140,26 @@ fn binder(alloc: Global, tokens: &mut Cursor<'_>, depth: usize) -> Result<Binder
     Ok(Binder { name, value })
 }
 
-#[tactic(auto, unfolding(crate::specs::Chain::next_binder))]
-fn next_binder(alloc: Global, tokens: &mut Cursor<'_>, depth: usize) -> Result<Binder, Fault>
-    ensures { Reads (spec.next_binder (terms.term depth) tokens.old) result tokens.new }
-{
-    tokens.skip();
-    binder(alloc, tokens, depth)
+#[derive(Clone, Copy, Debug)]
+struct BinderReader {
+    depth: usize,
+}
+
+impl ItemReader for BinderReader {
+    type Item = Binder;
+
+    const ROOM: usize = 1;
+
+    ghost reads = { λ r. spec.binder (terms.term r.depth) };
+
+    fn read(&self, alloc: Global, tokens: &mut Cursor<'_>) -> Result<Binder, Fault> {
+        binder(alloc, tokens, self.depth)
+    }
 }
 
 /// The names that `exists` binds.
-#[tactic(auto, using(isl_token::proofs::Turns::turns), unfolding(crate::specs::Chain::binders, isl_token::specs::Reading::row))]
 pub fn binders(alloc: Global, tokens: &mut Cursor<'_>, depth: usize) -> Result<Items<Binder>, Fault>
     ensures { Reads (spec.binders (terms.term depth) tokens.old) result tokens.new }
 {
-    let mut found = Items::from_vec(Vec::with_capacity(alloc, 1)?);
-    found.push(binder(alloc, tokens, depth)?)?;
-    for _turn in 0..tokens.left() {
-        if !tokens.sees(Kind::Comma) {
-            return Ok(found);
-        }
-        found.push(next_binder(alloc, tokens, depth)?)?;
-    }
-    Ok(found)
+    separated(alloc, tokens, Kind::Comma, &BinderReader { depth })
 }

@@ -87,7 +87,8 @@ fn others(
     first: Formula,
     second: Formula,
 ) -> Result<Items<Formula>, Fault>
-    ensures { Reads (reading.row (reading.sees (spec.sign_of operator)) (spec.next_of (spec.unary depth) operator) (first ∷ second ∷ []) tokens.old) result tokens.new }
+    ensures { Reads (reading.row (reading.sees (spec.sign_of operator)) (spec.next_of (spec.unary depth) operator)
+        (first ∷ second ∷ []) tokens.old) result tokens.new }
 {
     let mut found = Items::from_vec(Vec::with_capacity(alloc, 2)?);
     found.push(first)?;

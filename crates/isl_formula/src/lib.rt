@@ -4,4 +4,5 @@
 pub mod ahead;
 pub mod chain;
 pub mod formula;
+pub mod list;
 pub mod term;

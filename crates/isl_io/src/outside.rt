@@ -1,6 +1,6 @@
 //! A source of bytes and a sink for bytes, as generic code sees them.
 
-ghost use Rattle.std.specs.Prelude.{◌<◌, ◌≤◌, List, ℕ, length, Option, IfOk, OnErr};
+ghost use Rattle.std.specs.Prelude.{◌≡◌, ◌<◌, ◌≤◌, List, ℕ, length, Option, IfOk, OnOk, OnErr};
 ghost use Rattle.std.specs.Io.KnownBytes.{ReadConsumes, WriteAppends};
 ghost use Rattle.isl_math.specs.Count.{Rose};
 
@@ -25,6 +25,7 @@ pub trait Source {
         requires { 0 < length buf.old }
         ensures fits { IfOk result (λ n. n ≤ length buf.new) }
         ensures bytes { ReadConsumes (left self.old) (left self.new) result buf.new }
+        ensures kept { OnOk result (faults self.new ≡ faults self.old) }
         ensures no_fewer_faults { faults self.old ≤ faults self.new }
         ensures fault { OnErr result (Rose (faults self.old) (faults self.new)) };
 }
@@ -46,6 +47,7 @@ pub trait Sink {
         requires { 0 < length piece.now }
         ensures fits { IfOk result (λ n. (0 < n) × (n ≤ length piece.now)) }
         ensures bytes { WriteAppends (written self.old) (written self.new) result piece.now }
+        ensures kept { OnOk result (faults self.new ≡ faults self.old) }
         ensures no_fewer_faults { faults self.old ≤ faults self.new }
         ensures fault { OnErr result (Rose (faults self.old) (faults self.new)) };
 }

@@ -1,6 +1,7 @@
 -- Declared parameters at the constructors of the code.
 use mathlib.Core.Former.{Count}
-use Rattle.std.proofs.Common.{◌≡◌, ◌∙◌, Bool, true, false, ◌||◌, List, [], ◌∷◌, ◌++◌, Option, Some, None, refl, sym, ap, subst, if◌then◌else◌, arith}
+use Rattle.std.proofs.Common.{◌≡◌, ◌∙◌, Bool, true, false, ◌||◌, List, [], ◌∷◌, ◌++◌, Option, Some, None, refl, sym, ap, subst}
+use Rattle.std.proofs.Common.{if◌then◌else◌}
 use Rattle.std.specs.List.{list_any}
 use Rattle.std.specs.Str.{bytes_eq}
 use Rattle.std.proofs.lemmas.List.Folds.{list_any-append}
@@ -11,12 +12,14 @@ use Rattle.isl_expr.specs.declared.tree.Prefix.{Prefix as Word}
 use Rattle.isl_expr.specs.declared.tree.Link.{Link}
 use Rattle.isl_expr.specs.declared.tree.Postfix.{Postfix, Inverse, Apply, Item}
 use Rattle.isl_expr.specs.declared.tree.Expr as e
-use Rattle.isl_expr.specs.declared.tree.Expr.{Expr, Row, Prefix, Any, Last, Post, Row', Prefix', Any', Last', Post', Row_of-Expr, end_of-Expr, more_of-Expr}
+use Rattle.isl_expr.specs.declared.tree.Expr.{Expr, Row, Prefix, Any, Last, Post, Row', Prefix', Any', Last', Post', Row_of-Expr}
+use Rattle.isl_expr.specs.declared.tree.Expr.{end_of-Expr, more_of-Expr}
 use Rattle.isl_expr.specs.declared.tree.Expr.{Row_of-Link, end_of-Link, more_of-Link}
 use Rattle.isl_expr.specs.declared.tree.Expr.{Row_of-Postfix, end_of-Postfix, more_of-Postfix, items-the_row-Link, items-the_row-Postfix}
 use Rattle.isl_expr.specs.declared.tree.Expr.{items_hidden-the_row-Link-1, items_hidden-the_row-Postfix-2}
 use Rattle.isl_expr.specs.declared.tree.Expr.TheBlock.{hidden-the_row-Expr-0, hidden-the_row-Link-1, hidden-the_row-Postfix-2}
-use Rattle.isl_kinds.specs.Typed.{ScopeView, TypeView, bound_to, params_of, joined_names, declared_of, declared_in, declared_past_links, declared_past_postfixes, declared_past}
+use Rattle.isl_kinds.specs.Typed.{ScopeView, TypeView, bound_to, params_of, joined_names, declared_of, declared_in, declared_past_links}
+use Rattle.isl_kinds.specs.Typed.{declared_past_postfixes, declared_past}
 use Rattle.isl_kinds.specs.Typed.{declared_of_row, declared_of_post}
 
 -- ---- joined lists
@@ -66,7 +69,8 @@ other_is_there names (m ∷ others) n there =
     by_first false is any further = further any
 
 -- one more behind the others is one more behind all
-joined_one : (names others : List Name) (n : Name) → joined_names names (others ++ n ∷ []) ≡ insert_key bytes_eq (joined_names names others) n
+joined_one : (names others : List Name) (n : Name)
+    → joined_names names (others ++ n ∷ []) ≡ insert_key bytes_eq (joined_names names others) n
 joined_one names [] n = refl
 joined_one names (m ∷ others) n = joined_one (insert_key bytes_eq names m) others n
 
@@ -74,7 +78,8 @@ joined_added : (names others : List Name) (n : Name)
     → joined_names names (insert_key bytes_eq others n) ≡ insert_key bytes_eq (joined_names names others) n
 joined_added names others n = by_test (has others n) refl
   where
-    by_test : (b : Bool) → b ≡ has others n → joined_names names (if b then others else others ++ n ∷ []) ≡ insert_key bytes_eq (joined_names names others) n
+    by_test : (b : Bool) → b ≡ has others n
+        → joined_names names (if b then others else others ++ n ∷ []) ≡ insert_key bytes_eq (joined_names names others) n
     by_test true is = sym (ap (λ (b : Bool). if b then joined_names names others else joined_names names others ++ n ∷ [])
         (other_is_there names others n (sym is)))
     by_test false is = joined_one names others n
@@ -119,7 +124,8 @@ post_behind scope names left (postfix ∷ postfixes) =
 
 -- ---- at the constructors of the code
 
-declared_of-Prefix : (scope : ScopeView) (word : Word) (operand : Expr) → declared_of scope (Prefix word operand) ≡ declared_of scope operand
+declared_of-Prefix : (scope : ScopeView) (word : Word) (operand : Expr)
+    → declared_of scope (Prefix word operand) ≡ declared_of scope operand
 unfolding hidden-the_row-Expr-0 denote.Hole.Carrier.hidden
 declared_of-Prefix scope word operand = refl
 
@@ -162,7 +168,8 @@ once_params : (o : Option TypeView) → IsOnce (params_of o)
 once_params None = refl
 once_params (Some t) = once_leaf t.params
 
-once_past_links : (m : Count) (scope : ScopeView) (left : List Name) (row : Row_of-Link m) → IsOnce left → IsOnce (declared_past_links scope left row)
+once_past_links : (m : Count) (scope : ScopeView) (left : List Name) (row : Row_of-Link m) → IsOnce left
+    → IsOnce (declared_past_links scope left row)
 once_past_links m scope left end_of-Link is = is
 once_past_links m scope left (more_of-Link operator operand row) is =
     once_past_links _ scope (joined_names left (declared_of scope operand)) row (once_joined left (declared_of scope operand) is)
@@ -212,7 +219,8 @@ at-Prefix scope x operand word old new is inner =
     inner ∙ sym (ap (λ y. joined_names old (declared_of scope y)) is ∙ ap (joined_names old) (declared_of-Prefix scope word operand))
 
 pub at-Row : (scope : ScopeView) (x first : Expr) (links : List Link) (old next new : List Name) → x ≡ Row first links
-    → next ≡ joined_names old (declared_of scope first) → new ≡ declared_of_row scope next links → new ≡ joined_names old (declared_of scope x)
+    → next ≡ joined_names old (declared_of scope first) → new ≡ declared_of_row scope next links
+    → new ≡ joined_names old (declared_of scope x)
 at-Row scope x first links old next new is left right =
     right
     ∙ ap (λ ns. declared_of_row scope ns links) left

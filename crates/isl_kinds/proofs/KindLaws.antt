@@ -11,8 +11,9 @@ use Rattle.isl_expr.specs.declared.tree.Expr.{Expr, Row, Prefix, Any, Last, Post
 use Rattle.isl_expr.specs.declared.tree.Expr.{Row_of-Postfix, end_of-Postfix, more_of-Postfix, items-the_row-Link, items-the_row-Postfix}
 use Rattle.isl_expr.specs.declared.tree.Expr.{items_hidden-the_row-Link-1, items_hidden-the_row-Postfix-2}
 use Rattle.isl_expr.specs.declared.tree.Expr.TheBlock.{hidden-the_row-Expr-0, hidden-the_row-Link-1, hidden-the_row-Postfix-2}
-use Rattle.isl_kinds.specs.Lines.{joined, prefixed, dependence}
-use Rattle.isl_kinds.specs.Typed.{ScopeView, kind_of, kind_past_links, kind_past_postfixes, kind_past, kind_of_row, kind_of_post, by_two, by_three}
+use Rattle.isl_kinds.specs.Lines.{joined, prefixed}
+use Rattle.isl_kinds.specs.Typed.{ScopeView, kind_of, kind_past_links, kind_past_postfixes, kind_past, kind_of_row, kind_of_post, by_two}
+use Rattle.isl_kinds.specs.Typed.{by_three}
 
 -- ---- at the constructors of the code
 

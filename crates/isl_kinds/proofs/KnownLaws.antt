@@ -1,23 +1,27 @@
 -- Which identifiers are known, at the constructors of the code.
 use mathlib.Core.Former.{Count}
-use Rattle.std.proofs.Common.{◌≡◌, ◌∙◌, ℕ, ◌+◌, ◌<◌, Bool, true, false, ◌&&◌, List, [], ◌∷◌, ◌++◌, Option, Some, None, refl, sym, ap, ap₂, get_or, take, drop, length}
+use Rattle.std.proofs.Common.{◌≡◌, ◌∙◌, ℕ, ◌+◌, ◌<◌, Bool, true, false, ◌&&◌, List, [], ◌∷◌, ◌++◌, Option, Some, None, refl, sym, ap, ap₂}
+use Rattle.std.proofs.Common.{get_or, take, drop, length}
 use Rattle.std.specs.Prelude.{ℤ}
 use Rattle.std.specs.List.{list_all}
 use Rattle.std.proofs.lemmas.List.{append-nil, take_more, drop_more}
 use Rattle.std.proofs.lemmas.List.Folds.{list_all-append}
 use Rattle.isl_space.specs.Name.{Name}
-use Rattle.isl_tree.specs.declared.tree.Factor.{Factor, Inner, Floor, Ceil, Row_of-Signed, end_of-Signed, more_of-Signed, items-the_row-Signed, items_hidden-the_row-Signed-0}
+use Rattle.isl_tree.specs.declared.tree.Factor.{Factor, Inner, Floor, Ceil, Row_of-Signed, end_of-Signed, more_of-Signed}
+use Rattle.isl_tree.specs.declared.tree.Factor.{items-the_row-Signed, items_hidden-the_row-Signed-0}
 use Rattle.isl_tree.specs.declared.tree.Factor.TheBlock.{hidden-the_row-Signed-0}
 use Rattle.isl_tree.specs.declared.tree.Signed.{Signed}
 use Rattle.isl_tree.specs.declared.tree.Binder.{Binder}
-use Rattle.isl_tree.specs.declared.tree.Formula.{Formula, Implies, Or, And, Not, Exists, Row_of-Formula, end_of-Formula, more_of-Formula, items-the_row-Formula, items_hidden-the_row-Formula-0}
+use Rattle.isl_tree.specs.declared.tree.Formula.{Formula, Implies, Or, And, Not, Exists, Row_of-Formula, end_of-Formula, more_of-Formula}
+use Rattle.isl_tree.specs.declared.tree.Formula.{items-the_row-Formula, items_hidden-the_row-Formula-0}
 use Rattle.isl_tree.specs.declared.tree.Formula.TheBlock.{hidden-the_row-Formula-0, hidden-the_row-Formula-1}
 use Rattle.isl_tree.specs.declared.tree.Entry.{Entry}
 use Rattle.isl_tree.specs.declared.tree.Tuple.{Tuple, Pair}
 use Rattle.isl_tree.specs.declared.tree.PieceTree.{PieceTree}
 use Rattle.isl_tree.specs.Term.{Term}
 use Rattle.isl_tree.specs.Literal.{is_among, new_name, known_after, entries_of, second_entries, piece_entries}
-use Rattle.isl_tree.specs.Known.{factor_names, sum_names, signed_names, term_names, term_is_known, binders_are_known, known_below, formula_is_known}
+use Rattle.isl_tree.specs.Known.{factor_names, sum_names, signed_names, term_names, term_is_known, binders_are_known, known_below}
+use Rattle.isl_tree.specs.Known.{formula_is_known}
 use Rattle.isl_tree.specs.Known.{formulas_are_known, entry_is_known, entries_are_known, known_behind, body_is_known, piece_is_known}
 use Rattle.isl_kinds.specs.Place.{value_is_known}
 use Rattle.isl_kinds.proofs.PlaceLaws.{entries_of-Pair}
@@ -87,7 +91,8 @@ formulas_are : (m : Count) (known : List Name) (row : Row_of-Formula m)
 formulas_are m known end_of-Formula = refl
 formulas_are m known (more_of-Formula f row) = ap (λ (b : Bool). formula_is_known known f && b) (formulas_are _ known row)
 
-joined : (known : List Name) (fs : List Formula) → formulas_are_known known (hidden-the_row-Formula-0 fs) ≡ list_all (formula_is_known known) fs
+joined : (known : List Name) (fs : List Formula)
+    → formulas_are_known known (hidden-the_row-Formula-0 fs) ≡ list_all (formula_is_known known) fs
 joined known fs =
     formulas_are _ known (hidden-the_row-Formula-0 fs) ∙ ap (list_all (formula_is_known known)) (items_hidden-the_row-Formula-0 fs)
 
@@ -168,7 +173,8 @@ at-Pair known x a b p q is first second =
 
 pub ruleset tuples = (at-Pair)
 
-pub at-Set : (params : List Name) (piece : PieceTree) (p q : Bool) → piece.second ≡ None → p ≡ entries_are_known params (entries_of piece.first)
+pub at-Set : (params : List Name) (piece : PieceTree) (p q : Bool) → piece.second ≡ None
+    → p ≡ entries_are_known params (entries_of piece.first)
     → q ≡ body_is_known (known_behind params (entries_of piece.first)) piece.body → (p && q) ≡ piece_is_known params piece
 at-Set params piece p q none first body =
     let alone : piece_entries piece ≡ entries_of piece.first =
@@ -185,7 +191,8 @@ at-Map params piece t p q r two first second body =
     let es = entries_of piece.first in
     let both : piece_entries piece ≡ es ++ entries_of t = ap (λ o. es ++ second_entries o) two in
     ap₂ (λ (a b : Bool). a && b) (ap₂ (λ (a b : Bool). a && b) first second ∙ sym (entries_append params es (entries_of t))) body
-    ∙ ap (λ names. entries_are_known params (es ++ entries_of t) && body_is_known names piece.body) (sym (behind_append params es (entries_of t)))
+    ∙ ap (λ names. entries_are_known params (es ++ entries_of t) && body_is_known names piece.body)
+    (sym (behind_append params es (entries_of t)))
     ∙ sym (ap (λ l. entries_are_known params l && body_is_known (known_behind params l) piece.body) both)
 
 pub ruleset pieces = (at-Set, at-Map)

@@ -54,7 +54,8 @@ or_right : (a b c : Bool) → (a || b || c) ≡ (a || (b || c))
 or_right true b c = refl
 or_right false b c = refl
 
-three_any : (test : Part → Bool) (xs ys zs : List Part) → list_any test (xs ++ (ys ++ zs)) ≡ (list_any test xs || list_any test ys || list_any test zs)
+three_any : (test : Part → Bool) (xs ys zs : List Part)
+    → list_any test (xs ++ (ys ++ zs)) ≡ (list_any test xs || list_any test ys || list_any test zs)
 three_any test xs ys zs =
     list_any-append test xs (ys ++ zs)
     ∙ ap (λ (b : Bool). list_any test xs || b) (list_any-append test ys zs)
@@ -64,7 +65,8 @@ three_any test xs ys zs =
 passed_by : (t a b : Bool) → t ≡ false → a ≡ b → a ≡ (t || b)
 passed_by t a b quiet is = is ∙ sym (ap (λ (s : Bool). s || b) quiet)
 
-pub at-Row : (test : Part → Bool) (x first : Expr) (links : List Link) (a b : Bool) → x ≡ Row first links → a ≡ list_any test (parts_of first)
+pub at-Row : (test : Part → Bool) (x first : Expr) (links : List Link) (a b : Bool) → x ≡ Row first links
+    → a ≡ list_any test (parts_of first)
     → b ≡ list_any test (parts_of_links links) → (a || b) ≡ list_any test (parts_of x)
 at-Row test x first links a b is left right =
     ap₂ (λ (p q : Bool). p || q) left right
@@ -107,7 +109,9 @@ pub ruleset expressions = (at-Row, at-Post, at-Prefix, at-Any, at-Last)
 pub any_in_link : (test : Part → Bool) (link : Link) (links : List Link) → test (part.operator link.operator) ≡ false
     → list_any test (parts_of_links (link ∷ links)) ≡ (list_any test (parts_of link.operand) || list_any test (parts_of_links links))
 any_in_link test link links quiet =
-    sym (passed_by (test (part.operator link.operator)) (list_any test (parts_of link.operand ++ parts_of_links links)) (list_any test (parts_of link.operand ++ parts_of_links links)) quiet refl) ∙ list_any-append test (parts_of link.operand) (parts_of_links links)
+    let behind = list_any test (parts_of link.operand ++ parts_of_links links) in
+    sym (passed_by (test (part.operator link.operator)) behind behind quiet refl)
+    ∙ list_any-append test (parts_of link.operand) (parts_of_links links)
 
 pub any_in_postfix : (test : Part → Bool) (postfix : Postfix) (postfixes : List Postfix)
     → list_any test (parts_of_postfixes (postfix ∷ postfixes)) ≡

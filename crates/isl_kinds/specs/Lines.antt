@@ -34,7 +34,8 @@ Line = ValueKind × ValueKind × ValueKind
 abbrev pub by_lines : List Line → ValueKind → ValueKind → Option ValueKind
 by_lines [] left right = None
 by_lines (line ∷ lines) left right =
-    if fits left line.0 && fits right line.1 then Some (made (is_kind left Empty && is_kind right Empty) line.2) else by_lines lines left right
+    if fits left line.0 && fits right line.1 then Some (made (is_kind left Empty && is_kind right Empty) line.2)
+    else by_lines lines left right
 
 abbrev pub joined : Binary → ValueKind → ValueKind → Option ValueKind
 joined b.Union = by_lines ((Set, Set, Set) ∷ (Map, Map, Map) ∷ [])
@@ -63,7 +64,8 @@ applied = by_lines ((Map, Set, Set) ∷ (Map, Map, Map) ∷ [])
 -- the first line of one operand that fits
 abbrev pub by_short_lines : List (ValueKind × ValueKind) → ValueKind → Option ValueKind
 by_short_lines [] operand = None
-by_short_lines (line ∷ lines) operand = if fits operand line.0 then Some (made (is_kind operand Empty) line.1) else by_short_lines lines operand
+by_short_lines (line ∷ lines) operand =
+    if fits operand line.0 then Some (made (is_kind operand Empty) line.1) else by_short_lines lines operand
 
 abbrev pub prefixed : Prefix → ValueKind → Option ValueKind
 prefixed p.Domain = by_short_lines ((Map, Set) ∷ [])

@@ -1,5 +1,5 @@
 -- inner: the names that are known at a place of a literal, as the check of a literal keeps them.
-use Rattle.std.specs.Prelude.{Bool, true, false, List, ◌∷◌, Option, Some, None}
+use Rattle.std.specs.Prelude.{Bool, true, false, List, Option, Some, None}
 use Rattle.std.specs.Str.{bytes_eq}
 use Rattle.isl_space.specs.Name.{Name}
 use Rattle.isl_tree.specs.declared.tree.Entry.{Entry}

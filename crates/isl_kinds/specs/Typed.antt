@@ -1,5 +1,6 @@
 -- public: the kind of an expression and the parameters that it declares, and why it has none.
-use Rattle.std.specs.Prelude.{◌≡◌, ◌⊎◌, ℤ, pos, int_lt, Bool, true, false, not, is_some, List, [], ◌∷◌, Option, Some, None, Result, Ok, Err, if◌then◌else◌}
+use Rattle.std.specs.Prelude.{◌≡◌, ◌⊎◌, pos, int_lt, Bool, true, false, not, is_some, List, [], ◌∷◌, Option, Some, None, Result, Ok}
+use Rattle.std.specs.Prelude.{Err, if◌then◌else◌}
 use Rattle.std.specs.Option.{option_map, option_and_then}
 use Rattle.std.specs.List.{list_any}
 use Rattle.std.specs.Map.{lookup}
@@ -8,7 +9,6 @@ use Rattle.isl_space.specs.Name.{Name}
 use Rattle.indexmap.specs.IndexSet.{insert_all}
 use Rattle.isl_tree.specs.declared.tree.Tuple.{Tuple}
 use Rattle.isl_tree.specs.declared.tree.PieceTree.{PieceTree}
-use Rattle.isl_tree.specs.declared.tree.Literal.{Literal}
 use Rattle.isl_tree.specs.Known.{literal_is_known}
 use Rattle.isl_text.specs.declared.refusal.Refusal.{Refusal}
 use Rattle.isl_text.specs.declared.refusal.Refusal.TheVariants.{UnknownName, WrongKind, NoElement, NoMemory}

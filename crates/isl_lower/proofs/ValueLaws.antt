@@ -4,23 +4,20 @@ use Rattle.std.proofs.Common.{length, get_or, map, take, Option, Some, None, opt
 use Rattle.std.specs.List.{All, Any, filter_map, cons_option, list_all}
 use Rattle.std.specs.Option.{option_to_list}
 use Rattle.std.proofs.lemmas.List.{length-append, length-take-le, length-replicate, take_more, append-nil, map-append}
-use Rattle.std.proofs.lemmas.List.Elements.{All-map, All-push, filter_map-append}
+use Rattle.std.proofs.lemmas.List.Elements.{All-map, All-push, All-weaker, filter_map-append}
 use Rattle.isl_space.specs.Valuation.{Valuation, values_of}
 use Rattle.isl_space.specs.Element.{Element, IsElement}
 use Rattle.isl_space.specs.SpaceForm.{SpaceForm, coordinates_of, IsWellFormedSpace}
 use Rattle.isl_piece.specs.declared.row.RowKind.{RowKind}
 use Rattle.isl_piece.specs.declared.row.RowKind.TheVariants.{Zero, AtLeast, Divides, NotDivides}
 use Rattle.isl_piece.specs.declared.row.Row.{Row}
-use Rattle.isl_piece.specs.declared.system.System.{System}
 use Rattle.isl_meter.specs.Gauge.{Gauge, overflown}
 use Rattle.isl_meter.specs.declared.Cut.{Cut}
 use Rattle.isl_meter.specs.declared.Cut.TheVariants.{Overflow, Budget, NoMemory}
-use Rattle.isl_space.specs.declared.space.Space.{Space}
-use Rattle.isl_space.specs.Space.{space_form_of}
-use Rattle.isl_piece.specs.declared.piece.Piece.{Piece}
+use Rattle.isl_piece.specs.Piece.{PieceView}
 use Rattle.isl_piece.specs.Row.{HasModulus, IsWellFormed, IsRowWithin}
-use Rattle.isl_piece.specs.System.{HoldRows, IsSystemWithin}
-use Rattle.isl_piece.specs.Normal.{normal_rows, normal_system, IsNormal}
+use Rattle.isl_piece.specs.System.{HoldRows}
+use Rattle.isl_piece.specs.Normal.{normal_rows, IsNormal}
 use Rattle.isl_piece.proofs.NormalLaws.{HoldWhere, normal_rows_hold}
 use Rattle.isl_union.specs.KeptValue.{KeptPiece, HasElement, columns_of}
 use Rattle.isl_union.specs.Piece.{kept_piece, IsPieceOf}
@@ -185,60 +182,39 @@ pub same_elements : (literal : Literal) → is_plain literal ≡ true → litera
 same_elements literal plain known valuation element = pieces_have literal.params literal.pieces valuation element plain known
 
 -- ---- what the code makes
--- the written rows are a system within the limit
-pub system_within : (g : Gauge) (params : List (List ℕ)) (piece : PieceTree) (rows : List Row) (columns : ℕ)
-    → rows ≡ rows_written params piece → All (IsRowWithin g) rows → columns ≡ piece_width params piece
-    → IsSystemWithin g (record { columns = columns; rows = rows })
-system_within g params piece rows columns is within wide = record {
-  rows =
-      subst (λ (n : ℕ). All (IsWellFormed n) rows) (sym wide)
-      (subst (All (IsWellFormed (piece_width params piece))) (sym is) (written_formed params piece));
-  within = within;
-}
+-- the written rows have moduli of their kinds
+pub written_moduli : (params : List (List ℕ)) (piece : PieceTree) (rows : List Row) → rows ≡ rows_written params piece → All (λ r. HasModulus r.kind r.k) rows
+written_moduli params piece rows is =
+    subst (All (λ (r : Row). HasModulus r.kind r.k)) (sym is)
+    (All-weaker (IsWellFormed (piece_width params piece)) (λ (r : Row). HasModulus r.kind r.k) (λ r formed. formed.modulus) (rows_written params piece) (written_formed params piece))
 
--- what the normal system and the space make is what is kept of the piece
-pub piece_made : (params : List (List ℕ)) (piece : PieceTree) (rows : List Row) (columns : ℕ) (kept : System) (space : Space)
-    → is_plain_piece piece ≡ true → rows ≡ rows_written params piece → columns ≡ piece_width params piece
-    → Some kept ≡ normal_system (record { columns = columns; rows = rows }) → space_form_of space ≡ space_of_piece piece
-    → Some (kept_piece (record { space = space; system = kept })) ≡ piece_lowered params piece
-piece_made params piece rows columns kept space plain is wide made same =
-    by (normal_rows rows) (ap (λ (l : List Row). normal_rows l) is) made
-  where
-    by : (o : Option (List Row)) → o ≡ normal_rows (rows_written params piece)
-        → Some kept ≡ option_map (λ (rs : List Row). record { columns = columns; rows = rs }) o
-        → Some (kept_piece (record { space = space; system = kept })) ≡ piece_lowered params piece
-    by None at e = absurd cc
-    by (Some rs) at e =
-        let found : kept ≡ record { columns = columns; rows = rs } = cc in
-        ap (λ (s : System). Some (record { space = space_form_of space; rows = s.rows })) found
-        ∙ ap (λ (f : SpaceForm). Some (record { space = f; rows = rs })) same
-        ∙ ap (option_map (λ (rows : List Row). record { space = space_of_piece piece; rows = rows })) at
+-- the piece over so many columns with the kept rows
+abbrev pub made_piece : SpaceForm → ℕ → List Row → PieceView
+made_piece space columns kept = record { space = space; system = record { columns = columns; definitions = []; rows = kept } }
 
-pub piece_of_value : (g : Gauge) (params : List (List ℕ)) (piece : PieceTree) (rows : List Row) (columns : ℕ) (kept : System)
-    (space : Space) → is_plain_piece piece ≡ true → columns ≡ piece_width params piece
-    → Some kept ≡ normal_system (record {
-      columns =
-          columns;
-      rows = rows;
-    }) → IsNormal kept.rows → IsSystemWithin g kept → space_form_of space ≡ space_of_piece piece
-    → IsWellFormedSpace (space_of_piece piece)
-    → IsPieceOf params (record { space = space; system = kept })
-piece_of_value g params piece rows columns kept space plain wide made normal within same formed =
-    let width : kept.columns ≡ columns_of params (space_form_of space) = by (normal_rows rows) made ∙ wide ∙ sym
-    (columns_are params piece plain) ∙ ap (columns_of params) (sym same) in
-    record {
+-- what the normal rows and the space make is what is kept of the piece
+pub piece_made : (params : List (List ℕ)) (piece : PieceTree) (rows kept : List Row) (columns : ℕ) (space : SpaceForm) (made : PieceView)
+    → rows ≡ rows_written params piece → Some kept ≡ normal_rows rows → space ≡ space_of_piece piece → made ≡ made_piece space columns kept
+    → Some (kept_piece made) ≡ piece_lowered params piece
+piece_made params piece rows kept columns space made is found same whole =
+    ap (λ (p : PieceView). Some (kept_piece p)) whole
+    ∙ ap (λ (f : SpaceForm). Some (record { space = f; rows = kept })) same
+    ∙ ap (option_map (λ (rs : List Row). record { space = space_of_piece piece; rows = rs })) (found ∙ ap normal_rows is)
+
+pub piece_of_value : (params : List (List ℕ)) (piece : PieceTree) (kept : List Row) (columns : ℕ) (space : SpaceForm) (made : PieceView)
+    → is_plain_piece piece ≡ true → columns ≡ piece_width params piece → All (IsWellFormed columns) kept → IsNormal kept → space ≡ space_of_piece piece
+    → IsWellFormedSpace (space_of_piece piece) → made ≡ made_piece space columns kept → IsPieceOf params made
+piece_of_value params piece kept columns space made plain wide rows normal same formed whole =
+    let width : columns ≡ columns_of params space = wide ∙ sym (columns_are params piece plain) ∙ ap (columns_of params) (sym same) in
+    subst (IsPieceOf params) (sym whole) (record {
       columns = width;
+      free = refl;
       kept = record {
         space = subst IsWellFormedSpace (sym same) formed;
-        rows = subst (λ (n : ℕ). All (IsWellFormed n) kept.rows) width within.rows;
+        rows = subst (λ (n : ℕ). All (IsWellFormed n) kept) width rows;
         normal = normal;
       };
-    }
-  where
-    by : (o : Option (List Row)) → Some kept ≡ option_map (λ (rs : List Row). record { columns = columns; rows = rs }) o
-        → kept.columns ≡ columns
-    by None e = absurd cc
-    by (Some rs) e = let found : kept ≡ record { columns = columns; rows = rs } = cc in ap (λ (s : System). s.columns) found
+    })
 
 -- a loop's step
 lowered_more : (params : List (List ℕ)) (pieces : List PieceTree) (i : ℕ) (piece : PieceTree) (kept : Option KeptPiece) → i < length pieces
@@ -249,8 +225,8 @@ lowered_more params pieces i piece kept low at is =
     ∙ filter_map-append (piece_lowered params) (take i pieces) (piece ∷ [])
     ∙ ap (λ (o : Option KeptPiece). filter_map (piece_lowered params) (take i pieces) ++ cons_option o []) (sym is)
 
-pub lowered_step : (P : Piece → Type 0) (params : List (List ℕ)) (pieces : List PieceTree) (i : ℕ) (piece : PieceTree)
-    (made pushed : List Piece) (found : Option Piece) → i < length pieces → piece ≡ get_or pieces i piece
+pub lowered_step : (P : PieceView → Type 0) (params : List (List ℕ)) (pieces : List PieceTree) (i : ℕ) (piece : PieceTree)
+    (made pushed : List PieceView) (found : Option PieceView) → i < length pieces → piece ≡ get_or pieces i piece
     → option_map kept_piece found ≡ piece_lowered params piece → IfSome found P → pushed ≡ made ++ option_to_list found
     → (map kept_piece made ≡ filter_map (piece_lowered params) (take i pieces)) × All P made →
     (map kept_piece pushed ≡ filter_map (piece_lowered params) (take (i + 1) pieces)) × All P pushed
@@ -267,10 +243,10 @@ lowered_step P params pieces i piece made pushed (Some kept) low at is sound mor
 )
 
 -- the pieces of the value
-pub all_sound : (g : Gauge) (params : List (List ℕ)) (made : List Piece) → All (IsLoweredPiece g params) made → All (IsPieceOf params) made
+pub all_sound : (g : Gauge) (params : List (List ℕ)) (made : List PieceView) → All (IsLoweredPiece g params) made → All (IsPieceOf params) made
 all_sound g params made all k d low = (all k d low).sound
 
-pub value_within : (g : Gauge) (params : List (List ℕ)) (made : List Piece) (pieces : List KeptPiece) → pieces ≡ map kept_piece made
+pub value_within : (g : Gauge) (params : List (List ℕ)) (made : List PieceView) (pieces : List KeptPiece) → pieces ≡ map kept_piece made
     → All (IsLoweredPiece g params) made → All (λ piece. All (IsRowWithin g) piece.rows) pieces
 value_within g params made pieces is all =
     subst (All (λ (piece : KeptPiece). All (IsRowWithin g) piece.rows)) (sym is)

@@ -7,7 +7,7 @@ use Rattle.isl_space.specs.Names.{IsParameterList}
 use Rattle.isl_space.specs.SpaceForm.{IsWellFormedSpace}
 use Rattle.isl_space.specs.Valuation.{Valuation}
 use Rattle.isl_space.specs.Element.{Element}
-use Rattle.isl_piece.specs.declared.piece.Piece.{Piece}
+use Rattle.isl_piece.specs.Piece.{PieceView}
 use Rattle.isl_piece.specs.Normal.{normal_rows}
 use Rattle.isl_piece.specs.Row.{IsRowWithin}
 use Rattle.isl_union.specs.KeptValue.{KeptPiece, KeptValue, Has}
@@ -46,6 +46,6 @@ abbrev pub IsValueWithin : Gauge → KeptValue → Type 0
 IsValueWithin g value = All (λ piece. All (IsRowWithin g) piece.rows) value.pieces
 
 -- a piece that a value may have, with its numbers within the limit
-pub record IsLoweredPiece (g : Gauge) (params : List Name) (piece : Piece) : Type 0 where
+pub record IsLoweredPiece (g : Gauge) (params : List Name) (piece : PieceView) : Type 0 where
   pub sound : IsPieceOf params piece
   pub within : All (IsRowWithin g) piece.system.rows

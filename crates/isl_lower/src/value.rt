@@ -22,7 +22,7 @@ ghost use Rattle.isl_lower.specs.Value.{IsValueWithin};
 use crate::known::{leaf_entries, second_entries};
 use crate::lowered::rows_written;
 use isl_meter::{Cut, Meter};
-use isl_piece::{Piece, System, normalise};
+use isl_piece::{Piece, System};
 use isl_space::{Name, Params, Shape, Space, SpaceFault};
 use isl_tree::tree::{Literal, PieceTree, Tuple};
 use isl_union::Value;
@@ -101,15 +101,19 @@ fn lower_piece(
         Ok(rows) => rows,
         Err(cut) => return Err(cut),
     };
-    let columns = width(params, piece);
-    let system = match normalise(alloc, System { columns, rows }, meter) {
-        Ok(Some(system)) => system,
+    let kept = match rows.normalise(alloc, meter) {
+        Ok(Some(kept)) => kept,
         Ok(None) => return Ok(None),
         Err(_) => return Err(Cut::NoMemory),
     };
-    match space_of(alloc, piece) {
-        Ok(space) => Ok(Some(Piece { space, system })),
-        Err(cut) => Err(cut),
+    let space = match space_of(alloc, piece) {
+        Ok(space) => space,
+        Err(cut) => return Err(cut),
+    };
+    let system = System::from_rows(alloc, width(params, piece), kept);
+    match Piece::new(alloc, space, system) {
+        Ok(piece) => Ok(Some(piece)),
+        Err(_) => Err(Cut::NoMemory),
     }
 }
 

@@ -17,19 +17,25 @@ IsGcdOf-euclid (suc steps) a (suc b) h =
 -- the function is the greatest common divisor
 pub IsGcdOf-gcd_of : (a b : ℤ) → IsGcdOf a b (gcd_of a b)
 unfolding gcd_of
-IsGcdOf-gcd_of a b = IsGcdOf-from_abs a b (gcd_of a b) (IsGcdOf-euclid (suc (unsigned_abs b)) (unsigned_abs a) (unsigned_abs b) (omega arith))
+IsGcdOf-gcd_of a b = IsGcdOf-from_abs a b (gcd_of a b)
+    (IsGcdOf-euclid (suc (unsigned_abs b)) (unsigned_abs a) (unsigned_abs b) (omega arith))
 
 pub gcd_of-from_IsGcdOf : (a b g : ℤ) → IsGcdOf a b g → g ≡ gcd_of a b
 gcd_of-from_IsGcdOf a b g h = gcd_unique a b g (gcd_of a b) h (IsGcdOf-gcd_of a b)
 
 pub IsContentOf-content : (xs : List ℤ) → IsContentOf xs (content xs)
-IsContentOf-content [] = record { not_negative = omega (arith, linear); common = All-nil (Divides (pos 0)); greatest = λ d h. Divides-zero d }
+IsContentOf-content [] = record {
+  not_negative = omega (arith, linear);
+  common = All-nil (Divides (pos 0));
+  greatest = λ d h. Divides-zero d;
+}
 IsContentOf-content (x ∷ xs) =
     let rest = IsContentOf-content xs in
     let both = IsGcdOf-gcd_of x (content xs) in
     let g = gcd_of x (content xs) in
     record {
       not_negative = both.not_negative;
-      common = All-cons (Divides g) x xs both.first (All-weaker (Divides (content xs)) (Divides g) (λ y h. Divides_trans g (content xs) y both.second h) xs rest.common);
+      common = All-cons (Divides g) x xs both.first (All-weaker (Divides (content xs)) (Divides g)
+          (λ y h. Divides_trans g (content xs) y both.second h) xs rest.common);
       greatest = λ d h. both.greatest d (All-head (Divides d) x xs h) (rest.greatest d (All-tail (Divides d) x xs h));
     }

@@ -31,7 +31,8 @@ up_to-product u v a b h k =
     let n = mul-le-mul_right (unsigned_abs b) h in
     omega (arith, linear)
 
-pub up_to-weighted : (u v w : ℕ) (m a n b : ℤ) → IsUpTo u m → IsUpTo v n → IsUpTo w a → IsUpTo w b → IsUpTo (u * w + v * w) (m *ℤ a +ℤ n *ℤ b)
+pub up_to-weighted : (u v w : ℕ) (m a n b : ℤ) → IsUpTo u m → IsUpTo v n → IsUpTo w a → IsUpTo w b
+    → IsUpTo (u * w + v * w) (m *ℤ a +ℤ n *ℤ b)
 up_to-weighted u v w m a n b h k p q = up_to-sum (u * w) (v * w) (m *ℤ a) (n *ℤ b) (up_to-product u w m a h p) (up_to-product v w n b k q)
 
 -- a quotient that is rounded down is not farther from 0 than what is divided, and a remainder is below the divisor

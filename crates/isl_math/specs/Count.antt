@@ -1,4 +1,4 @@
--- Counts that a `u64` keeps: they rise by one, and stand still at the last value.
+-- public: counts that a `u64` keeps: they rise by one, and stand still at the last value.
 use Rattle.std.specs.Prelude.{ℕ, ◌+◌, ◌-◌, ◌^◌, ◌≤◌, min, max}
 
 -- the last value of a `u64`

@@ -1,4 +1,4 @@
--- The greatest common divisor as a function, of two integers and of a list.
+-- public: the greatest common divisor as a function, of two integers and of a list.
 use Rattle.std.specs.Prelude.{ℕ, zero, suc, ◌%◌, ℤ, pos, ◌≤ℤ◌, List, [], ◌∷◌, All, unsigned_abs}
 use Rattle.isl_math.specs.Divide.{Divides}
 

@@ -1,4 +1,4 @@
--- What a meter shows, and what calls with a meter do to it.
+-- public: what a meter shows, and what calls with a meter do to it.
 use Rattle.std.specs.Prelude.{◌≡◌, ℕ, ◌-◌, ◌^◌, ◌<◌, ◌≤◌, ℤ, pos, ◌+ℤ◌, ◌≤ℤ◌, unsigned_abs, Result, MatchResult}
 use Rattle.isl_math.specs.Count.{risen, Rose}
 use Rattle.isl_meter.specs.declared.Cut.{Cut}

@@ -1,5 +1,5 @@
 -- A row's value by its part at one column, and rows that do not depend on it.
-use Rattle.std.proofs.Common.{◌≡◌, ◌≢◌, ◌↔◌, ◌∙◌, Option, Some, None, MatchOption, option_map, refl, sym, ap, subst, map, ◌-◌, arith, ℕ, zero, suc, ◌+◌, ◌<◌, ◌≤◌, ℤ, pos, ◌+ℤ◌, ◌-ℤ◌, ◌*ℤ◌, List, [], ◌∷◌, ◌++◌, length, get_or, take, drop, add-one}
+use Rattle.std.proofs.Common.{◌≡◌, ◌≢◌, ◌↔◌, ◌∙◌, Option, Some, None, MatchOption, refl, sym, ap, subst, map, ◌-◌, arith, ℕ, zero, suc, ◌+◌, ◌<◌, ◌≤◌, ℤ, pos, ◌+ℤ◌, ◌-ℤ◌, ◌*ℤ◌, List, [], ◌∷◌, ◌++◌, length, get_or, take, drop, add-one}
 use Rattle.std.specs.List.{All, insert, remove}
 use Rattle.std.proofs.lemmas.List.Edits.{length-remove}
 use Rattle.std.proofs.lemmas.List.Elements.{All-append, All-take, All-drop, All-map, All-weaker}
@@ -12,13 +12,12 @@ use Rattle.isl_math.proofs.DivideLaws.{Divides-+ℤ, Divides-*ℤ, Divides-same}
 use Rattle.isl_piece.specs.declared.row.RowKind.{RowKind}
 use Rattle.isl_piece.specs.declared.row.RowKind.TheVariants.{Zero, AtLeast, Divides, NotDivides}
 use Rattle.isl_piece.specs.declared.row.Row.{Row}
-use Rattle.isl_piece.specs.declared.system.System.{System}
-use Rattle.isl_piece.specs.System.{HoldsSystem, IsSystemWithin}
-use Rattle.isl_piece.specs.Normal.{normal_rows, normal_system}
+use Rattle.isl_piece.specs.System.{HoldRows}
+use Rattle.isl_piece.specs.Normal.{IsNormal}
 use Rattle.std.specs.Prelude.{IfSome}
-use Rattle.isl_piece.specs.Row.{HoldsValue, HoldsRow, value_at, coef_at, IsWellFormed, IsRowWithin}
+use Rattle.isl_piece.specs.Row.{HasModulus, HoldsValue, HoldsRow, value_at, coef_at, IsWellFormed, IsRowWithin}
 use Rattle.isl_meter.specs.Gauge.{Gauge, IsWithin}
-use Rattle.isl_omega.specs.Column.{rest_at, IsFreeKind, IsFree, HoldAt, dropped, IsSystemOf}
+use Rattle.isl_omega.specs.Column.{rest_at, IsFreeKind, IsFree, HoldAt, dropped, IsProper, AreRowsOf, IsAnswerFor}
 
 -- the value at a point with x at the column
 pub value_at-insert : (r : Row) (col : ℕ) (point : List ℤ) (x : ℤ) → col < length r.coefs → col ≤ length point → value_at r (insert point col x) ≡ coef_at r col *ℤ x +ℤ rest_at r col point
@@ -98,7 +97,7 @@ row_within_dropped g col r w = record {
 pub rows_formed : (columns col : ℕ) (rows : List Row) → col < columns → All (IsWellFormed columns) rows → All (IsWellFormed (columns - 1)) (map (λ r. dropped r col) rows)
 rows_formed columns col rows h w = All-map (IsWellFormed (columns - 1)) (λ r. dropped r col) rows (All-weaker (IsWellFormed columns) (λ r. IsWellFormed (columns - 1) (dropped r col)) (λ r. well_formed_dropped columns col r h) rows w)
 
-rows_within : (g : Gauge) (col : ℕ) (rows : List Row) → All (IsRowWithin g) rows → All (IsRowWithin g) (map (λ r. dropped r col) rows)
+pub rows_within : (g : Gauge) (col : ℕ) (rows : List Row) → All (IsRowWithin g) rows → All (IsRowWithin g) (map (λ r. dropped r col) rows)
 rows_within g col rows i = All-map (IsRowWithin g) (λ r. dropped r col) rows (All-weaker (IsRowWithin g) (λ r. IsRowWithin g (dropped r col)) (row_within_dropped g col) rows i)
 
 -- the rows without the column hold at a point exactly where the rows do with any x there
@@ -113,28 +112,22 @@ hold_dropped columns col rows point x h l w f = (
     one i d n = holds_dropped (get_or rows i d) col point x (let e = (w i d n).width in omega arith) (omega arith) (f i d n)
 
 -- ---- what `settled` makes
-abbrev system_of : ℕ → List Row → System
-system_of columns rows = record { columns = columns; rows = rows }
+pub moduli_of : (columns : ℕ) (rows : List Row) → All (IsWellFormed columns) rows → All (λ r. HasModulus r.kind r.k) rows
+moduli_of columns rows w = All-weaker (IsWellFormed columns) (λ r. HasModulus r.kind r.k) (λ r f. f.modulus) rows w
 
-pub short_within : (g : Gauge) (columns col : ℕ) (rows short : List Row) → col < columns → All (IsWellFormed columns) rows → All (IsRowWithin g) rows → short ≡ map (λ r. dropped r col) rows
-    → IsSystemWithin g (record { columns = columns - 1; rows = short })
-short_within g columns col rows short h w i e = rw e (record { rows = rows_formed columns col rows h w; within = rows_within g col rows i })
+pub proper_of : (g : Gauge) (columns : ℕ) (rows : List Row) → All (IsWellFormed columns) rows → All (IsRowWithin g) rows → All (IsProper g columns) rows
+proper_of g columns rows w i = λ k d n. record { formed = w k d n; within = i k d n }
 
-columns_kept : (columns : ℕ) (o : Option (List Row)) (s : System) → Some s ≡ option_map (λ rows. system_of columns rows) o → s.columns ≡ columns
-columns_kept columns None s e = cc
-columns_kept columns (Some rows) s e = let f : s ≡ system_of columns rows = cc in ap (λ (t : System). t.columns) f
-
-pub settled_is : (g : Gauge) (columns col : ℕ) (rows short : List Row) (o : Option System) → col < columns → All (IsWellFormed columns) rows → All (IsFree col) rows → short ≡ map (λ r. dropped r col) rows
-    → o ≡ normal_system (system_of (columns - 1) short)
-    → ((xs : List ℤ) → MatchOption o (¬ HoldsSystem (system_of (columns - 1) short) xs) (λ s. HoldsSystem s xs ↔ HoldsSystem (system_of (columns - 1) short) xs))
-    → IfSome o (IsSystemWithin g)
-    → IsSystemOf g (columns - 1) (λ point. HoldAt rows col point (pos 0)) o
-settled_is g columns col rows short None h w f e x m i = λ point n a. m point (rw e ((hold_dropped columns col rows point (pos 0) h n w f).1 a))
-settled_is g columns col rows short (Some s) h w f e x m i = (
-  columns_kept (columns - 1) (normal_rows short) s x,
-  i,
-  (λ point n. ((λ a. (hold_dropped columns col rows point (pos 0) h n w f).0 (rw e at ((m point).0 a))), (λ a. (m point).1 (rw e ((hold_dropped columns col rows point (pos 0) h n w f).1 a))))),
-)
+pub settled_is : (g : Gauge) (columns col : ℕ) (rows short : List Row) (o : Option (List Row)) → col < columns → All (IsWellFormed columns) rows → All (IsFree col) rows → short ≡ map (λ r. dropped r col) rows
+    → ((xs : List ℤ) → MatchOption o (¬ HoldRows short xs) (λ kept. HoldRows kept xs ↔ HoldRows short xs))
+    → IfSome o IsNormal → IfSome o (All (IsWellFormed (columns - 1))) → IfSome o (All (IsRowWithin g))
+    → IsAnswerFor g (columns - 1) (λ point. HoldAt rows col point (pos 0)) o
+settled_is g columns col rows short None h w f e m k s i = λ point n a. m point (rw e ((hold_dropped columns col rows point (pos 0) h n w f).1 a))
+settled_is g columns col rows short (Some kept) h w f e m k s i = record {
+  proper = proper_of g (columns - 1) kept s i;
+  normal = k;
+  points = λ point n. ((λ a. (hold_dropped columns col rows point (pos 0) h n w f).0 (rw e at ((m point).0 a))), (λ a. (m point).1 (rw e ((hold_dropped columns col rows point (pos 0) h n w f).1 a))));
+}
 
 -- rows that are free of the column hold at any x there or at none
 pub hold_anywhere : (columns col : ℕ) (rows : List Row) (point : List ℤ) (x y : ℤ) → col < columns → length point ≡ columns - 1 → All (IsWellFormed columns) rows → All (IsFree col) rows → HoldAt rows col point x → HoldAt rows col point y

@@ -13,8 +13,7 @@ use Rattle.isl_piece.specs.declared.row.RowKind.TheVariants.{Zero, AtLeast, Divi
 use Rattle.isl_piece.specs.declared.row.Row.{Row}
 use Rattle.isl_piece.specs.Row.{HoldsRow, value_at, coef_at, IsWellFormed}
 use Rattle.isl_meter.specs.Gauge.{Gauge}
-use Rattle.isl_piece.specs.declared.system.System.{System}
-use Rattle.isl_omega.specs.Column.{IsFree, IsFreeKind, HoldAt, rest_at, IsSystemOf}
+use Rattle.isl_omega.specs.Column.{IsFree, IsFreeKind, HoldAt, rest_at, AreRowsOf, IsAnswerFor}
 use Rattle.isl_omega.specs.Combine.{combination}
 use Rattle.isl_omega.specs.Equality.{IsImage, IsSolvedBy, solvable}
 use Rattle.isl_omega.proofs.ColumnLemmas.{value_at-insert, hold_anywhere}
@@ -106,12 +105,12 @@ step_well_formed columns fixed col rows images out z h k n e = rw e (All-push (I
 pub step_free : (columns : ℕ) (fixed : Row) (col : ℕ) (rows images out : List Row) → AllZip (IsImage fixed col) rows images → All (IsWellFormed columns) rows → IsWellFormed columns fixed → col < columns → out ≡ images ++ solvable fixed col ∷ [] → All (IsFree col) out
 step_free columns fixed col rows images out z h k l e = rw e (All-push (IsFree col) images (solvable fixed col) (images_free columns fixed col rows images z h k l) (solvable_free fixed col))
 
--- what a system of the rows is a system of
-pub system_same : (g : Gauge) (columns : ℕ) (P Q : List ℤ → Type 0) → ((point : List ℤ) → length point ≡ columns → P point ↔ Q point) → (o : Option System) → IsSystemOf g columns P o → IsSystemOf g columns Q o
-system_same g columns P Q f None h = λ point n q. h point n ((f point n).1 q)
-system_same g columns P Q f (Some s) h = (h.0, h.1, (λ point n. ((λ a. (f point n).0 ((h.2 point n).0 a)), (λ q. (h.2 point n).1 ((f point n).1 q)))))
+-- what answers one answers the other
+pub answer_same : (g : Gauge) (columns : ℕ) (P Q : List ℤ → Type 0) → ((point : List ℤ) → length point ≡ columns → P point ↔ Q point) → (o : Option (List Row)) → IsAnswerFor g columns P o → IsAnswerFor g columns Q o
+answer_same g columns P Q f None h = λ point n q. h point n ((f point n).1 q)
+answer_same g columns P Q f (Some rows) h = record { proper = h.proper; normal = h.normal; points = λ point n. ((λ a. (f point n).0 ((h.points point n).0 a)), (λ q. (h.points point n).1 ((f point n).1 q))) }
 
-pub step_is : (g : Gauge) (columns : ℕ) (fixed : Row) (col : ℕ) (rows images out : List Row) (o : Option System) → AllZip (IsImage fixed col) rows images → All (IsWellFormed columns) rows → IsWellFormed columns fixed → col < columns → out ≡ images ++ solvable fixed col ∷ []
-    → IsSystemOf g (columns - 1) (λ point. HoldAt out col point (pos 0)) o → IsSystemOf g (columns - 1) (IsSolvedBy rows fixed col) o
+pub step_is : (g : Gauge) (columns : ℕ) (fixed : Row) (col : ℕ) (rows images out : List Row) (o : Option (List Row)) → AllZip (IsImage fixed col) rows images → All (IsWellFormed columns) rows → IsWellFormed columns fixed → col < columns → out ≡ images ++ solvable fixed col ∷ []
+    → IsAnswerFor g (columns - 1) (λ point. HoldAt out col point (pos 0)) o → IsAnswerFor g (columns - 1) (IsSolvedBy rows fixed col) o
 step_is g columns fixed col rows images out o z h k l e s =
-    system_same g (columns - 1) (λ point. HoldAt out col point (pos 0)) (IsSolvedBy rows fixed col) (λ point n. rw e (equality_step_is columns fixed col rows images point z h k l n)) o s
+    answer_same g (columns - 1) (λ point. HoldAt out col point (pos 0)) (IsSolvedBy rows fixed col) (λ point n. rw e (equality_step_is columns fixed col rows images point z h k l n)) o s

@@ -7,10 +7,9 @@ use Rattle.isl_math.proofs.Ring.{linear}
 use Rattle.isl_meter.specs.Gauge.{Gauge, IsWithin}
 use Rattle.isl_piece.specs.declared.row.Row.{Row}
 use Rattle.isl_piece.specs.Row.{HoldsRow, value_at, coef_at}
-use Rattle.isl_omega.specs.Column.{IsFree}
-use Rattle.isl_omega.specs.Shadow.{IsDark, lower_at, upper_at, extra, IsShadowOf, IsTailOf, HasTail, IsShadow}
-use Rattle.isl_omega.specs.Sides.{IsProper}
-use Rattle.isl_omega.specs.declared.shadow.Tail.{Tail}
+use Rattle.isl_omega.specs.Column.{IsFree, IsProper}
+use Rattle.isl_omega.specs.Shadow.{IsDark, lower_at, upper_at, neighbour_splinters, IsShadowOf, AreSplintersOf, LeavesSplinters, IsShadow}
+use Rattle.isl_omega.specs.declared.shadow.Splinters.{Splinters}
 use Rattle.isl_math.proofs.ListLaws.{All-parts, All-last, AllZip-more, Any-left}
 use Rattle.isl_omega.proofs.SideLemmas.{proper_kept}
 use Rattle.isl_meter.proofs.LimitLemmas.{within_kept}
@@ -37,7 +36,7 @@ shadow_of_kept g h columns col lower uppers old new last e s = record {
   few = s.few;
 }
 
-pub tail_kept : (g h : Gauge) (columns col : ℕ) (neighbours : Bool) (lower : Row) (uppers old new : List Row) (tail : Tail) → h.bits ≡ g.bits → HasTail h columns col neighbours lower uppers old new tail → HasTail g columns col neighbours lower uppers old new tail
+pub tail_kept : (g h : Gauge) (columns col : ℕ) (neighbours : Bool) (lower : Row) (uppers old new : List Row) (tail : Splinters) → h.bits ≡ g.bits → LeavesSplinters h columns col neighbours lower uppers old new tail → LeavesSplinters g columns col neighbours lower uppers old new tail
 tail_kept g h columns col neighbours lower uppers old new tail e t = record {
   last = t.last;
   shadow = shadow_of_kept g h columns col lower uppers old new t.last e t.shadow;
@@ -47,8 +46,8 @@ tail_kept g h columns col neighbours lower uppers old new tail e t = record {
 }
 
 -- one lower bound more
-shadow_with : (g : Gauge) (columns col : ℕ) (neighbours : Bool) (lowers : List Row) (l : Row) (uppers rows newer : List Row) (tails : List Tail) (tail : Tail) (last : ℤ) → IsShadow g columns col neighbours lowers uppers rows tails → IsShadowOf g columns col l uppers rows newer last
-    → tail.lower ≡ l → tail.last ≡ last +ℤ extra neighbours (coef_at l col) → IsWithin g tail.last → IsShadow g columns col neighbours (lowers ++ l ∷ []) uppers newer (tails ++ tail ∷ [])
+shadow_with : (g : Gauge) (columns col : ℕ) (neighbours : Bool) (lowers : List Row) (l : Row) (uppers rows newer : List Row) (tails : List Splinters) (tail : Splinters) (last : ℤ) → IsShadow g columns col neighbours lowers uppers rows tails → IsShadowOf g columns col l uppers rows newer last
+    → tail.lower ≡ l → tail.last ≡ last +ℤ neighbour_splinters neighbours (coef_at l col) → IsWithin g tail.last → IsShadow g columns col neighbours (lowers ++ l ∷ []) uppers newer (tails ++ tail ∷ [])
 shadow_with g columns col neighbours lowers l uppers rows newer tails tail last s o same value within = record {
   proper = rw o.pushed (All-append (IsProper g columns) rows o.rows s.proper o.proper);
   free = rw o.pushed (All-append (IsFree col) rows o.rows s.free o.free);
@@ -58,13 +57,13 @@ shadow_with g columns col neighbours lowers l uppers rows newer tails tail last 
   covered = λ point x n h k.
       let parts = All-last (λ r. HoldsRow r (insert point col x)) lowers l h in
       elim (s.covered point x n parts.0 k) [
-        | inr a ↦ inr (Any-left (λ t. (value_at t.lower (insert point col x) +ℤ extra neighbours (coef_at t.lower col)) ≤ℤ t.last) tails (tail ∷ []) a)
+        | inr a ↦ inr (Any-left (λ t. (value_at t.lower (insert point col x) +ℤ neighbour_splinters neighbours (coef_at t.lower col)) ≤ℤ t.last) tails (tail ∷ []) a)
         | inl first ↦ elim (o.covered point x n parts.1 k) [
           | inl second ↦ inl (rw o.pushed (All-append (λ r. HoldsRow r (insert point col x)) rows o.rows first second))
-          | inr v ↦ inr (Any-push (λ t. (value_at t.lower (insert point col x) +ℤ extra neighbours (coef_at t.lower col)) ≤ℤ t.last) tails tail (rw same (by (value_at l (insert point col x)) last (extra neighbours (coef_at l col)) tail.last v value)))
+          | inr v ↦ inr (Any-push (λ t. (value_at t.lower (insert point col x) +ℤ neighbour_splinters neighbours (coef_at t.lower col)) ≤ℤ t.last) tails tail (rw same (by (value_at l (insert point col x)) last (neighbour_splinters neighbours (coef_at l col)) tail.last v value)))
         ]
       ];
-  tails_are = AllZip-more (IsTailOf g col neighbours uppers) lowers tails l tail s.tails_are (record {
+  tails_are = AllZip-more (AreSplintersOf g col neighbours uppers) lowers tails l tail s.tails_are (record {
     same = same;
     within = within;
     not_below = let h = o.not_below in omega (arith, linear);
@@ -75,6 +74,6 @@ shadow_with g columns col neighbours lowers l uppers rows newer tails tail last 
     by : (v last e value : ℤ) → v ≤ℤ last → value ≡ last +ℤ e → (v +ℤ e) ≤ℤ value
     by v last e value h f = omega (arith, linear)
 
-pub shadow_more : (g : Gauge) (columns col : ℕ) (neighbours : Bool) (lowers : List Row) (l : Row) (uppers rows newer : List Row) (tails : List Tail) (tail : Tail) → IsShadow g columns col neighbours lowers uppers rows tails → HasTail g columns col neighbours l uppers rows newer tail
+pub shadow_more : (g : Gauge) (columns col : ℕ) (neighbours : Bool) (lowers : List Row) (l : Row) (uppers rows newer : List Row) (tails : List Splinters) (tail : Splinters) → IsShadow g columns col neighbours lowers uppers rows tails → LeavesSplinters g columns col neighbours l uppers rows newer tail
     → IsShadow g columns col neighbours (lowers ++ l ∷ []) uppers newer (tails ++ tail ∷ [])
 shadow_more g columns col neighbours lowers l uppers rows newer tails tail s t = shadow_with g columns col neighbours lowers l uppers rows newer tails tail t.last s t.shadow t.same t.value t.within

@@ -8,9 +8,9 @@ use Rattle.isl_math.proofs.OrderLaws.{cases_ℤ, positive_not_zero}
 use Rattle.isl_meter.specs.Gauge.{Gauge}
 use Rattle.isl_piece.specs.declared.row.Row.{Row}
 use Rattle.isl_piece.specs.Row.{HoldsRow, IsRowWithin, value_at, coef_at}
-use Rattle.isl_omega.specs.Column.{IsFree, rest_at}
+use Rattle.isl_omega.specs.Column.{IsFree, rest_at, IsProper}
 use Rattle.isl_omega.specs.Shadow.{MeetsLower, MeetsUpper, IsDark, lower_at, upper_at, last_splinter, IsDarkRow, IsExact, IsShadowSoFar, IsShadowOf}
-use Rattle.isl_omega.specs.Sides.{IsProper, IsLower, IsUpper}
+use Rattle.isl_omega.specs.Sides.{IsLower, IsUpper}
 use Rattle.isl_omega.proofs.ColumnLemmas.{value_at-insert}
 use Rattle.isl_math.proofs.ListLaws.{All-last, all_or_any, Any-element}
 use Rattle.isl_omega.proofs.PairLemmas.{holds_at_least}

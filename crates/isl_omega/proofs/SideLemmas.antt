@@ -12,13 +12,13 @@ use Rattle.isl_piece.specs.declared.row.RowKind.{RowKind}
 use Rattle.isl_piece.specs.declared.row.RowKind.TheVariants as kind
 use Rattle.isl_piece.specs.declared.row.Row.{Row}
 use Rattle.isl_piece.specs.Row.{HoldsRow, IsWellFormed, HasModulus, coef_at}
-use Rattle.isl_omega.specs.Column.{IsFreeKind, IsFree, HoldAt}
+use Rattle.isl_omega.specs.Column.{IsFreeKind, IsFree, HoldAt, IsProper}
 use Rattle.isl_omega.specs.Equality.{HasEquality}
-use Rattle.isl_omega.specs.Sides.{side_of_kind, side_of, by_sign, unless_multiple, is_same, on_side, AreSidesOf, AreSided, SidesHold, IsProper, IsLower, IsUpper, IsDivides, IsApart, IsFreeRow}
+use Rattle.isl_omega.specs.Sides.{side_of_kind, side_of, by_sign, unless_multiple, is_same, on_side, AreSidesOf, AreSided, SidesHold, IsLower, IsUpper, IsDivides, IsNotDivides, IsFreeRow}
 use Rattle.isl_piece.proofs.RowMagnitudes.{row_within_kept}
 use Rattle.isl_omega.proofs.ColumnLemmas.{hold_anywhere}
 use Rattle.isl_omega.specs.declared.sides.Side.{Side}
-use Rattle.isl_omega.specs.declared.sides.Side.TheVariants.{Lower, Upper, Divides, Apart, Free}
+use Rattle.isl_omega.specs.declared.sides.Side.TheVariants.{Lower, Upper, Divides, NotDivides, Free}
 use Rattle.isl_omega.specs.declared.sides.Sides.{Sides}
 
 pub by_sign_positive : (c : ℤ) → pos 0 <ℤ c → by_sign c ≡ Lower
@@ -51,7 +51,7 @@ pub same_true : (a : Side) → is_same a a ≡ true
 same_true Lower = refl
 same_true Upper = refl
 same_true Divides = refl
-same_true Apart = refl
+same_true NotDivides = refl
 same_true Free = refl
 
 -- ---- what a row's side says of it
@@ -59,27 +59,27 @@ pub same_from : (a b : Side) → is_same a b ≡ true → b ≡ a
 same_from Lower Lower e = refl
 same_from Lower Upper e = cc
 same_from Lower Divides e = cc
-same_from Lower Apart e = cc
+same_from Lower NotDivides e = cc
 same_from Lower Free e = cc
 same_from Upper Lower e = cc
 same_from Upper Upper e = refl
 same_from Upper Divides e = cc
-same_from Upper Apart e = cc
+same_from Upper NotDivides e = cc
 same_from Upper Free e = cc
 same_from Divides Lower e = cc
 same_from Divides Upper e = cc
 same_from Divides Divides e = refl
-same_from Divides Apart e = cc
+same_from Divides NotDivides e = cc
 same_from Divides Free e = cc
-same_from Apart Lower e = cc
-same_from Apart Upper e = cc
-same_from Apart Divides e = cc
-same_from Apart Apart e = refl
-same_from Apart Free e = cc
+same_from NotDivides Lower e = cc
+same_from NotDivides Upper e = cc
+same_from NotDivides Divides e = cc
+same_from NotDivides NotDivides e = refl
+same_from NotDivides Free e = cc
 same_from Free Lower e = cc
 same_from Free Upper e = cc
 same_from Free Divides e = cc
-same_from Free Apart e = cc
+same_from Free NotDivides e = cc
 same_from Free Free e = refl
 
 -- what each side says of a kind, a modulus and a coefficient
@@ -87,7 +87,7 @@ abbrev pub SideMeans : Side → RowKind → ℤ → ℤ → Type 0
 SideMeans Lower asks k c = (asks ≡ kind.AtLeast) × (pos 0 <ℤ c)
 SideMeans Upper asks k c = (asks ≡ kind.AtLeast) × (c <ℤ pos 0)
 SideMeans Divides asks k c = asks ≡ kind.Divides
-SideMeans Apart asks k c = (asks ≡ kind.NotDivides) × (¬ divide.Divides k c)
+SideMeans NotDivides asks k c = (asks ≡ kind.NotDivides) × (¬ divide.Divides k c)
 SideMeans Free asks k c = (asks ≡ kind.Zero) ⊎ IsFreeKind asks k c
 
 means_by_sign : (k c : ℤ) → SideMeans (by_sign c) kind.AtLeast k c
@@ -100,16 +100,16 @@ means_divides (pos zero) k c p e = inr (Divides-from_mod k c p (sym e))
 means_divides (pos (suc n)) k c p e = refl
 means_divides (negsuc n) k c p e = refl
 
-means_apart : (z k c : ℤ) → pos 0 <ℤ k → z ≡ floor_mod c k → SideMeans (unless_multiple Apart z) kind.NotDivides k c
-means_apart (pos zero) k c p e = inr (Divides-from_mod k c p (sym e))
-means_apart (pos (suc n)) k c p e = (refl, (λ d. let f = e ∙ mod-from_Divides k c p d in omega (arith, linear)))
-means_apart (negsuc n) k c p e = (refl, (λ d. let f = e ∙ mod-from_Divides k c p d in omega (arith, linear)))
+means_not_divides : (z k c : ℤ) → pos 0 <ℤ k → z ≡ floor_mod c k → SideMeans (unless_multiple NotDivides z) kind.NotDivides k c
+means_not_divides (pos zero) k c p e = inr (Divides-from_mod k c p (sym e))
+means_not_divides (pos (suc n)) k c p e = (refl, (λ d. let f = e ∙ mod-from_Divides k c p d in omega (arith, linear)))
+means_not_divides (negsuc n) k c p e = (refl, (λ d. let f = e ∙ mod-from_Divides k c p d in omega (arith, linear)))
 
 pub side_means : (asks : RowKind) (k c : ℤ) → HasModulus asks k → SideMeans (side_of_kind asks k c) asks k c
 side_means kind.Zero k c h = inl refl
 side_means kind.AtLeast k c h = means_by_sign k c
 side_means kind.Divides k c h = means_divides (floor_mod c k) k c h refl
-side_means kind.NotDivides k c h = means_apart (floor_mod c k) k c h refl
+side_means kind.NotDivides k c h = means_not_divides (floor_mod c k) k c h refl
 
 -- a row that was picked for a side
 pub means_of : (columns col : ℕ) (side : Side) (r : Row) → IsWellFormed columns r → is_same side (side_of col r) ≡ true → SideMeans side r.kind r.k (coef_at r col)
@@ -149,7 +149,7 @@ sides_are g columns col rows sides s h n = record {
   lowers = rw s.lowers (picked g columns col Lower rows (IsLower g columns col) (λ r p m. record { proper = p; kind = m.0; factor = m.1 }) h);
   uppers = rw s.uppers (picked g columns col Upper rows (IsUpper g columns col) (λ r p m. record { proper = p; kind = m.0; factor = m.1 }) h);
   divides = rw s.divides (picked g columns col Divides rows (IsDivides g columns) (λ r p m. record { proper = p; kind = m }) h);
-  apart = rw s.apart (picked g columns col Apart rows (IsApart g columns col) (λ r p m. record { proper = p; kind = m.0; depends = m.1 }) h);
+  not_divides = rw s.not_divides (picked g columns col NotDivides rows (IsNotDivides g columns col) (λ r p m. record { proper = p; kind = m.0; depends = m.1 }) h);
   free = rw s.free (frees rows h (equalities_lack col rows n));
 }
   where
@@ -175,14 +175,14 @@ in_filter p P (r ∷ rows) (suc k) d i e h = in_filter p P rows k d (omega arith
     rest true h = All-tail P r (filter p rows) h
     rest false h = h
 
-all_sides : (P : Row → Type 0) (col : ℕ) (rows : List Row) → All P (on_side Lower col rows) → All P (on_side Upper col rows) → All P (on_side Divides col rows) → All P (on_side Apart col rows) → All P (on_side Free col rows) → All P rows
+all_sides : (P : Row → Type 0) (col : ℕ) (rows : List Row) → All P (on_side Lower col rows) → All P (on_side Upper col rows) → All P (on_side Divides col rows) → All P (on_side NotDivides col rows) → All P (on_side Free col rows) → All P rows
 all_sides P col rows l u v a f = λ k d i. by k d i (side_of col (get_or rows k d)) refl
   where
     by : (k : ℕ) (d : Row) → k < length rows → (s : Side) → s ≡ side_of col (get_or rows k d) → P (get_or rows k d)
     by k d i Lower e = in_filter (λ r. is_same Lower (side_of col r)) P rows k d i (rw (← e) refl) l
     by k d i Upper e = in_filter (λ r. is_same Upper (side_of col r)) P rows k d i (rw (← e) refl) u
     by k d i Divides e = in_filter (λ r. is_same Divides (side_of col r)) P rows k d i (rw (← e) refl) v
-    by k d i Apart e = in_filter (λ r. is_same Apart (side_of col r)) P rows k d i (rw (← e) refl) a
+    by k d i NotDivides e = in_filter (λ r. is_same NotDivides (side_of col r)) P rows k d i (rw (← e) refl) a
     by k d i Free e = in_filter (λ r. is_same Free (side_of col r)) P rows k d i (rw (← e) refl) f
 
 pub sides_hold : (rows : List Row) (col : ℕ) (sides : Sides) (point : List ℤ) (x : ℤ) → AreSidesOf rows col sides → HoldAt rows col point x ↔ SidesHold sides col point x
@@ -191,15 +191,15 @@ sides_hold rows col sides point x s = (
     lowers = rw s.lowers (All-filter (λ r. is_same Lower (side_of col r)) (λ r. HoldsRow r (insert point col x)) rows h);
     uppers = rw s.uppers (All-filter (λ r. is_same Upper (side_of col r)) (λ r. HoldsRow r (insert point col x)) rows h);
     divides = rw s.divides (All-filter (λ r. is_same Divides (side_of col r)) (λ r. HoldsRow r (insert point col x)) rows h);
-    apart = rw s.apart (All-filter (λ r. is_same Apart (side_of col r)) (λ r. HoldsRow r (insert point col x)) rows h);
+    not_divides = rw s.not_divides (All-filter (λ r. is_same NotDivides (side_of col r)) (λ r. HoldsRow r (insert point col x)) rows h);
     free = rw s.free (All-filter (λ r. is_same Free (side_of col r)) (λ r. HoldsRow r (insert point col x)) rows h);
   }),
-  (λ h. all_sides (λ r. HoldsRow r (insert point col x)) col rows (rw s.lowers at h.lowers) (rw s.uppers at h.uppers) (rw s.divides at h.divides) (rw s.apart at h.apart) (rw s.free at h.free)),
+  (λ h. all_sides (λ r. HoldsRow r (insert point col x)) col rows (rw s.lowers at h.lowers) (rw s.uppers at h.uppers) (rw s.divides at h.divides) (rw s.not_divides at h.not_divides) (rw s.free at h.free)),
 )
 
--- rows that a modulus must not divide are apart or free
-pub sides_apart : (P : Row → Type 0) (columns col : ℕ) (rows : List Row) → All (IsWellFormed columns) rows → All (λ r. r.kind ≡ kind.NotDivides) rows → All P (on_side Apart col rows) → All P (on_side Free col rows) → All P rows
-sides_apart P columns col rows w n a f = λ k d i. by k d i (side_of col (get_or rows k d)) refl
+-- rows that a modulus must not divide are not_divides or free
+pub sides_not_divides : (P : Row → Type 0) (columns col : ℕ) (rows : List Row) → All (IsWellFormed columns) rows → All (λ r. r.kind ≡ kind.NotDivides) rows → All P (on_side NotDivides col rows) → All P (on_side Free col rows) → All P rows
+sides_not_divides P columns col rows w n a f = λ k d i. by k d i (side_of col (get_or rows k d)) refl
   where
     clash : (asks : RowKind) → asks ≡ kind.NotDivides → asks ≡ kind.AtLeast → ⊥
     clash asks e f = cc
@@ -214,7 +214,7 @@ sides_apart P columns col rows w n a f = λ k d i. by k d i (side_of col (get_or
     by k d i Lower e = absurd (clash (get_or rows k d).kind (n k d i) (means k d i Lower e).0)
     by k d i Upper e = absurd (clash (get_or rows k d).kind (n k d i) (means k d i Upper e).0)
     by k d i Divides e = absurd (clash_divides (get_or rows k d).kind (n k d i) (means k d i Divides e))
-    by k d i Apart e = in_filter (λ r. is_same Apart (side_of col r)) P rows k d i (rw (← e) refl) a
+    by k d i NotDivides e = in_filter (λ r. is_same NotDivides (side_of col r)) P rows k d i (rw (← e) refl) a
     by k d i Free e = in_filter (λ r. is_same Free (side_of col r)) P rows k d i (rw (← e) refl) f
 
 -- ---- rows that are free of the column, and the limit at another time

@@ -16,9 +16,9 @@ use Rattle.isl_piece.proofs.NumberLaws.{IsUpTo-reduced}
 use Rattle.isl_piece.proofs.RowMagnitudes.{rows_more, row_more}
 use Rattle.isl_omega.specs.Magnitude.{AreSidesUpTo}
 use Rattle.isl_omega.specs.Sides.{is_same, side_of}
-use Rattle.isl_omega.specs.Step.{AreMovedTo, within_scale}
+use Rattle.isl_omega.specs.Step.{IsSubstitutionOf, within_scale}
 use Rattle.isl_omega.specs.Substitution.{offsets_of, substituted, IsMovedBound}
-use Rattle.isl_omega.specs.declared.sides.Side.TheVariants.{Apart, Free}
+use Rattle.isl_omega.specs.declared.sides.Side.TheVariants.{NotDivides, Free}
 use Rattle.isl_omega.specs.declared.sides.Sides.{Sides}
 use Rattle.isl_math.proofs.ListLaws.{All-zipped}
 use Rattle.isl_omega.proofs.SmallLemmas.{coef_up_to, combination_up_to}
@@ -61,18 +61,18 @@ bounds_up_to : (columns col : ℕ) (scale : ℤ) (offsets : Row) (old new : List
 bounds_up_to columns col scale offsets old new s o h z =
     All-zipped (IsMovedBound columns col scale offsets) (IsRowUpTo (2 ^ 30)) (IsRowUpTo (2 ^ 61)) (λ r t m p. m.up_to (2 ^ 61) (substituted_up_to scale offsets col r s o p)) old new z h
 
-pub moved_up_to : (g : Gauge) (columns col : ℕ) (one : Row) (others : List Row) (scale : ℤ) (offsets : Row) (old new : Sides) → AreMovedTo g columns col one others scale offsets old new
+pub moved_up_to : (g : Gauge) (columns col : ℕ) (one : Row) (others : List Row) (scale : ℤ) (offsets : Row) (old new : Sides) → IsSubstitutionOf g columns col one others scale offsets old new
     → IsRowUpTo (2 ^ 30) one → others ≡ [] → unsigned_abs scale ≤ 2 ^ 30 → IsRowUpTo (2 ^ 30) offsets → AreSidesUpTo (2 ^ 30) old → AreSidesUpTo (2 ^ 61) new
 moved_up_to g columns col one others scale offsets old new m h none s o up =
-    let moved : All (IsRowUpTo (2 ^ 61)) (map (substituted scale offsets col) old.apart) =
-    All-map (IsRowUpTo (2 ^ 61)) (substituted scale offsets col) old.apart (All-weaker (IsRowUpTo (2 ^ 30)) (λ r. IsRowUpTo (2 ^ 61) (substituted scale offsets col r)) (λ r p. substituted_up_to scale offsets col r s o p) old.apart up.apart) in
+    let moved : All (IsRowUpTo (2 ^ 61)) (map (substituted scale offsets col) old.not_divides) =
+    All-map (IsRowUpTo (2 ^ 61)) (substituted scale offsets col) old.not_divides (All-weaker (IsRowUpTo (2 ^ 30)) (λ r. IsRowUpTo (2 ^ 61) (substituted scale offsets col r)) (λ r p. substituted_up_to scale offsets col r s o p) old.not_divides up.not_divides) in
     let last : IsRowUpTo (2 ^ 30) (within_scale one scale) = record { coefs = h.coefs; constant = h.constant; k = s } in
     let nothing : All (IsRowUpTo (2 ^ 61)) others = rw none (All-nil (IsRowUpTo (2 ^ 61))) in
     record {
       lowers = bounds_up_to columns col scale offsets old.lowers new.lowers s o up.lowers m.lowers;
       uppers = bounds_up_to columns col scale offsets old.uppers new.uppers s o up.uppers m.uppers;
       divides = rw (m.divides) (All-nil (IsRowUpTo (2 ^ 61)));
-      apart = rw (m.apart) (All-filter (λ r. is_same Apart (side_of col r)) (IsRowUpTo (2 ^ 61)) _ moved);
+      not_divides = rw (m.not_divides) (All-filter (λ r. is_same NotDivides (side_of col r)) (IsRowUpTo (2 ^ 61)) _ moved);
       free = rw (m.free) (All-append (IsRowUpTo (2 ^ 61)) _ _
           (All-append (IsRowUpTo (2 ^ 61)) _ _ (All-append (IsRowUpTo (2 ^ 61)) _ _ (All-filter (λ r. is_same Free (side_of col r)) (IsRowUpTo (2 ^ 61)) _ moved) nothing) (rows_more (2 ^ 30) (2 ^ 61) old.free (lit≤ tt) up.free))
           (All-cons (IsRowUpTo (2 ^ 61)) (within_scale one scale) [] (row_more (2 ^ 30) (2 ^ 61) (within_scale one scale) (lit≤ tt) last) (All-nil (IsRowUpTo (2 ^ 61)))));
@@ -83,6 +83,6 @@ sides_more sides h = record {
   lowers = rows_more (2 ^ 30) (2 ^ 61) sides.lowers (lit≤ tt) h.lowers;
   uppers = rows_more (2 ^ 30) (2 ^ 61) sides.uppers (lit≤ tt) h.uppers;
   divides = rows_more (2 ^ 30) (2 ^ 61) sides.divides (lit≤ tt) h.divides;
-  apart = rows_more (2 ^ 30) (2 ^ 61) sides.apart (lit≤ tt) h.apart;
+  not_divides = rows_more (2 ^ 30) (2 ^ 61) sides.not_divides (lit≤ tt) h.not_divides;
   free = rows_more (2 ^ 30) (2 ^ 61) sides.free (lit≤ tt) h.free;
 }

@@ -18,5 +18,5 @@ pub record AreSidesUpTo (b : ℕ) (sides : Sides) : Type 0 where
   pub lowers : All (IsRowUpTo b) sides.lowers
   pub uppers : All (IsRowUpTo b) sides.uppers
   pub divides : All (IsRowUpTo b) sides.divides
-  pub apart : All (IsRowUpTo b) sides.apart
+  pub not_divides : All (IsRowUpTo b) sides.not_divides
   pub free : All (IsRowUpTo b) sides.free

@@ -6,10 +6,9 @@ use Rattle.isl_meter.specs.Gauge.{Gauge, IsWithin}
 use Rattle.isl_piece.specs.declared.row.RowKind.TheVariants.{AtLeast}
 use Rattle.isl_piece.specs.declared.row.Row.{Row}
 use Rattle.isl_piece.specs.Row.{HoldsRow, IsWellFormed, value_at, coef_at}
-use Rattle.isl_omega.specs.Column.{IsFree, HoldAt, rest_at}
+use Rattle.isl_omega.specs.Column.{IsFree, IsProper, HoldAt, rest_at}
 use Rattle.isl_omega.specs.Combine.{combination}
-use Rattle.isl_omega.specs.Sides.{IsProper}
-use Rattle.isl_omega.specs.declared.shadow.Tail.{Tail}
+use Rattle.isl_omega.specs.declared.shadow.Splinters.{Splinters}
 
 -- a bound on x at a point of the other columns: `rest` is the value of what stands beside x
 pub record Bound : Type 0 where
@@ -114,31 +113,31 @@ pub record IsShadowOf (g : Gauge) (columns col : ℕ) (lower : Row) (uppers old 
 
 -- ---- what the code makes of all bounds
 -- what the splinters of a bound of the factor a go further where a row must not be divided: a neighbour's step
-abbrev pub extra : Bool → ℤ → ℤ
-extra true a = a
-extra false a = pos 0
+abbrev pub neighbour_splinters : Bool → ℤ → ℤ
+neighbour_splinters true a = a
+neighbour_splinters false a = pos 0
 
 -- a lower bound with the last value of its splinters
-pub record IsTailOf (g : Gauge) (col : ℕ) (neighbours : Bool) (uppers : List Row) (lower : Row) (tail : Tail) : Type 0 where
+pub record AreSplintersOf (g : Gauge) (col : ℕ) (neighbours : Bool) (uppers : List Row) (lower : Row) (tail : Splinters) : Type 0 where
   pub same : tail.lower ≡ lower
   pub within : IsWithin g tail.last
-  pub not_below : (extra neighbours (coef_at lower col) -ℤ pos 1) ≤ℤ tail.last
-  pub few : (m : ℤ) → pos 0 <ℤ m → All (λ u. neg_ℤ (coef_at u col) ≤ℤ m) uppers → (tail.last +ℤ pos 1) ≤ℤ (splinters (coef_at lower col) m +ℤ extra neighbours (coef_at lower col))
+  pub not_below : (neighbour_splinters neighbours (coef_at lower col) -ℤ pos 1) ≤ℤ tail.last
+  pub few : (m : ℤ) → pos 0 <ℤ m → All (λ u. neg_ℤ (coef_at u col) ≤ℤ m) uppers → (tail.last +ℤ pos 1) ≤ℤ (splinters (coef_at lower col) m +ℤ neighbour_splinters neighbours (coef_at lower col))
 
 -- new rows of a lower bound and its tail
-pub record HasTail (g : Gauge) (columns col : ℕ) (neighbours : Bool) (lower : Row) (uppers old new : List Row) (tail : Tail) : Type 0 where
+pub record LeavesSplinters (g : Gauge) (columns col : ℕ) (neighbours : Bool) (lower : Row) (uppers old new : List Row) (tail : Splinters) : Type 0 where
   pub last : ℤ
   pub shadow : IsShadowOf g columns col lower uppers old new last
   pub same : tail.lower ≡ lower
-  pub value : tail.last ≡ last +ℤ extra neighbours (coef_at lower col)
+  pub value : tail.last ≡ last +ℤ neighbour_splinters neighbours (coef_at lower col)
   pub within : IsWithin g tail.last
 
 -- rows that hold only where each pair is dark, and a tail for each lower bound: where the bounds are met and the rows do not hold, some
 -- lower bound's value is within its tail
-pub record IsShadow (g : Gauge) (columns col : ℕ) (neighbours : Bool) (lowers uppers rows : List Row) (tails : List Tail) : Type 0 where
+pub record IsShadow (g : Gauge) (columns col : ℕ) (neighbours : Bool) (lowers uppers rows : List Row) (tails : List Splinters) : Type 0 where
   pub proper : All (IsProper g columns) rows
   pub free : All (IsFree col) rows
   pub dark : (point : List ℤ) (x : ℤ) → length point ≡ columns - 1 → HoldAt rows col point x → All (λ l. All (λ u. IsDark (lower_at col point l) (upper_at col point u)) uppers) lowers
   pub covered : (point : List ℤ) (x : ℤ) → length point ≡ columns - 1 → HoldAt lowers col point x → HoldAt uppers col point x
-      → HoldAt rows col point x ⊎ Any (λ t. (value_at t.lower (insert point col x) +ℤ extra neighbours (coef_at t.lower col)) ≤ℤ t.last) tails
-  pub tails_are : AllZip (IsTailOf g col neighbours uppers) lowers tails
+      → HoldAt rows col point x ⊎ Any (λ t. (value_at t.lower (insert point col x) +ℤ neighbour_splinters neighbours (coef_at t.lower col)) ≤ℤ t.last) tails
+  pub tails_are : AllZip (AreSplintersOf g col neighbours uppers) lowers tails

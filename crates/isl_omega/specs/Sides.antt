@@ -6,10 +6,10 @@ use Rattle.isl_meter.specs.Gauge.{Gauge}
 use Rattle.isl_piece.specs.declared.row.RowKind.{RowKind}
 use Rattle.isl_piece.specs.declared.row.RowKind.TheVariants as kind
 use Rattle.isl_piece.specs.declared.row.Row.{Row}
-use Rattle.isl_piece.specs.Row.{coef_at, IsWellFormed, IsRowWithin}
-use Rattle.isl_omega.specs.Column.{HoldAt, IsFree}
+use Rattle.isl_piece.specs.Row.{coef_at}
+use Rattle.isl_omega.specs.Column.{HoldAt, IsFree, IsProper}
 use Rattle.isl_omega.specs.declared.sides.Side.{Side}
-use Rattle.isl_omega.specs.declared.sides.Side.TheVariants.{Lower, Upper, Divides, Apart, Free}
+use Rattle.isl_omega.specs.declared.sides.Side.TheVariants.{Lower, Upper, Divides, NotDivides, Free}
 use Rattle.isl_omega.specs.declared.sides.Sides.{Sides}
 
 -- a congruence depends on the column where its modulus leaves something of the coefficient
@@ -29,7 +29,7 @@ abbrev pub side_of_kind : RowKind → ℤ → ℤ → Side
 side_of_kind kind.Zero k c = Free
 side_of_kind kind.AtLeast k c = by_sign c
 side_of_kind kind.Divides k c = unless_multiple Divides (floor_mod c k)
-side_of_kind kind.NotDivides k c = unless_multiple Apart (floor_mod c k)
+side_of_kind kind.NotDivides k c = unless_multiple NotDivides (floor_mod c k)
 
 abbrev pub side_of : ℕ → Row → Side
 side_of col r = side_of_kind r.kind r.k (coef_at r col)
@@ -38,7 +38,7 @@ abbrev pub is_same : Side → Side → Bool
 is_same Lower Lower = true
 is_same Upper Upper = true
 is_same Divides Divides = true
-is_same Apart Apart = true
+is_same NotDivides NotDivides = true
 is_same Free Free = true
 is_same _ _ = false
 
@@ -51,15 +51,10 @@ pub record AreSidesOf (rows : List Row) (col : ℕ) (sides : Sides) : Type 0 whe
   pub lowers : sides.lowers ≡ on_side Lower col rows
   pub uppers : sides.uppers ≡ on_side Upper col rows
   pub divides : sides.divides ≡ on_side Divides col rows
-  pub apart : sides.apart ≡ on_side Apart col rows
+  pub not_divides : sides.not_divides ≡ on_side NotDivides col rows
   pub free : sides.free ≡ on_side Free col rows
 
 -- ---- what the rows of each side are
--- a row over the columns, within the limit
-pub record IsProper (g : Gauge) (columns : ℕ) (r : Row) : Type 0 where
-  pub formed : IsWellFormed columns r
-  pub within : IsRowWithin g r
-
 pub record IsLower (g : Gauge) (columns col : ℕ) (r : Row) : Type 0 where
   pub proper : IsProper g columns r
   pub kind : r.kind ≡ kind.AtLeast
@@ -74,7 +69,7 @@ pub record IsDivides (g : Gauge) (columns : ℕ) (r : Row) : Type 0 where
   pub proper : IsProper g columns r
   pub kind : r.kind ≡ kind.Divides
 
-pub record IsApart (g : Gauge) (columns col : ℕ) (r : Row) : Type 0 where
+pub record IsNotDivides (g : Gauge) (columns col : ℕ) (r : Row) : Type 0 where
   pub proper : IsProper g columns r
   pub kind : r.kind ≡ kind.NotDivides
   pub depends : ¬ divide.Divides r.k (coef_at r col)
@@ -87,7 +82,7 @@ pub record AreSided (g : Gauge) (columns col : ℕ) (sides : Sides) : Type 0 whe
   pub lowers : All (IsLower g columns col) sides.lowers
   pub uppers : All (IsUpper g columns col) sides.uppers
   pub divides : All (IsDivides g columns) sides.divides
-  pub apart : All (IsApart g columns col) sides.apart
+  pub not_divides : All (IsNotDivides g columns col) sides.not_divides
   pub free : All (IsFreeRow g columns col) sides.free
 
 -- the rows of all sides hold with x at the column
@@ -95,5 +90,5 @@ pub record SidesHold (sides : Sides) (col : ℕ) (point : List ℤ) (x : ℤ) : 
   pub lowers : HoldAt sides.lowers col point x
   pub uppers : HoldAt sides.uppers col point x
   pub divides : HoldAt sides.divides col point x
-  pub apart : HoldAt sides.apart col point x
+  pub not_divides : HoldAt sides.not_divides col point x
   pub free : HoldAt sides.free col point x

@@ -9,7 +9,7 @@ use Rattle.isl_omega.specs.Congruence.{product_of_divisors, product_of_periods}
 use Rattle.isl_omega.specs.Sides.{AreSided, SidesHold, on_side}
 use Rattle.isl_omega.specs.Substitution.{substituted, IsMovedBound}
 use Rattle.isl_omega.specs.Tighten.{IsLessened}
-use Rattle.isl_omega.specs.declared.sides.Side.TheVariants.{Apart, Free}
+use Rattle.isl_omega.specs.declared.sides.Side.TheVariants.{NotDivides, Free}
 use Rattle.isl_omega.specs.declared.sides.Sides.{Sides}
 
 -- the congruence with the scale for its modulus: where it holds, the progression has numbers
@@ -18,37 +18,37 @@ within_scale one scale = record { kind = one.kind; coefs = one.coefs; constant =
 
 -- the sides with a progression in the column's place: bounds stay bounds; a row that a modulus must not divide may become free; what the
 -- congruences say of the other columns is free
-pub record AreMovedTo (g : Gauge) (columns col : ℕ) (one : Row) (others : List Row) (scale : ℤ) (offsets : Row) (old new : Sides) : Type 0 where
+pub record IsSubstitutionOf (g : Gauge) (columns col : ℕ) (one : Row) (others : List Row) (scale : ℤ) (offsets : Row) (old new : Sides) : Type 0 where
   pub lowers : AllZip (IsMovedBound columns col scale offsets) old.lowers new.lowers
   pub lowers_within : All (IsRowWithin g) new.lowers
   pub uppers : AllZip (IsMovedBound columns col scale offsets) old.uppers new.uppers
   pub uppers_within : All (IsRowWithin g) new.uppers
   pub divides : new.divides ≡ []
   pub scale_within : IsWithin g scale
-  pub moved_within : All (IsRowWithin g) (map (substituted scale offsets col) old.apart)
-  pub apart : new.apart ≡ on_side Apart col (map (substituted scale offsets col) old.apart)
-  pub free : new.free ≡ ((on_side Free col (map (substituted scale offsets col) old.apart) ++ others) ++ old.free) ++ within_scale one scale ∷ []
+  pub moved_within : All (IsRowWithin g) (map (substituted scale offsets col) old.not_divides)
+  pub not_divides : new.not_divides ≡ on_side NotDivides col (map (substituted scale offsets col) old.not_divides)
+  pub free : new.free ≡ ((on_side Free col (map (substituted scale offsets col) old.not_divides) ++ others) ++ old.free) ++ within_scale one scale ∷ []
 
 -- the coefficients at the column were k times the old ones before they were divided
-pub record AreNarrowed (col : ℕ) (k : ℤ) (old new : Sides) : Type 0 where
+pub record HasFactorsUpTo (col : ℕ) (k : ℤ) (old new : Sides) : Type 0 where
   pub lowers : AllZip (λ r s. IsLessened (k *ℤ coef_at r col) (coef_at s col)) old.lowers new.lowers
   pub uppers : AllZip (λ r s. IsLessened (k *ℤ coef_at r col) (coef_at s col)) old.uppers new.uppers
 
 -- some whole number at the column makes both hold, or none does for either
-abbrev pub HoldTogether : ℕ → ℕ → Sides → Sides → Type 0
-HoldTogether columns col old new = (point : List ℤ) → length point ≡ columns - 1 → ((x : ℤ) × SidesHold old col point x) ↔ ((y : ℤ) × SidesHold new col point y)
+abbrev pub AreEquisatisfiable : ℕ → ℕ → Sides → Sides → Type 0
+AreEquisatisfiable columns col old new = (point : List ℤ) → length point ≡ columns - 1 → ((x : ℤ) × SidesHold old col point x) ↔ ((y : ℤ) × SidesHold new col point y)
 
 -- what the step leaves
 pub record IsStepOf (g : Gauge) (columns col : ℕ) (old new : Sides) : Type 0 where
   pub sided : AreSided g columns col new
   pub divides : new.divides ≡ []
-  pub apart : length new.apart ≤ length old.apart
-  pub periods : product_of_periods col new.apart ≤ℤ product_of_divisors old.apart
-  pub same : HoldTogether columns col old new
+  pub not_divides : length new.not_divides ≤ length old.not_divides
+  pub periods : product_of_periods col new.not_divides ≤ℤ product_of_divisors old.not_divides
+  pub same : AreEquisatisfiable columns col old new
   pub k : ℤ
   pub positive : pos 0 <ℤ k
   pub small : k ≤ℤ product_of_divisors old.divides
-  pub narrowed : AreNarrowed col k old new
+  pub narrowed : HasFactorsUpTo col k old new
 
 -- the row that says that p divides x - t
 abbrev pub residue_row : ℕ → ℕ → ℤ → ℤ → Row

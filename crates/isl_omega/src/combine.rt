@@ -36,7 +36,7 @@ pub fn sum_of(m: Int, left: Int, n: Int, right: Int, meter: &mut Meter) -> Resul
     ensures exact { MatchResult result
         (λ sum. (sum ≡ m *ℤ left +ℤ n *ℤ right) × IsWithin meter.old sum × (meter.new ≡ meter.old))
         (λ _. IsCutUpTo (pos 0) meter.old meter.new Cut.Overflow) }
-    ensures small { (u v w x : ℕ) → unsigned_abs m ≤ u → unsigned_abs n ≤ v → unsigned_abs left ≤ w → unsigned_abs right ≤ x
+    ensures no_overflow { (u v w x : ℕ) → unsigned_abs m ≤ u → unsigned_abs n ≤ v → unsigned_abs left ≤ w → unsigned_abs right ≤ x
         → u * w + v * x < 2 ^ meter.old.bits → IfErr result (λ _. ⊥) }
 {
     let first = times(m, left, meter)?;
@@ -61,7 +61,7 @@ pub(crate) fn weighted(
     ensures exact { MatchResult result
         (λ coefs. (coefs ≡ weighted_sum m left.now n right.now) × All (IsWithin meter.old) coefs × (meter.new ≡ meter.old))
         (λ cut. IsCutUpTo (pos 0) meter.old meter.new cut) }
-    ensures small { (u v w x : ℕ) → unsigned_abs m ≤ u → unsigned_abs n ≤ v → All (λ c. unsigned_abs c ≤ w) left.now → All (λ c. unsigned_abs c ≤ x) right.now
+    ensures no_overflow { (u v w x : ℕ) → unsigned_abs m ≤ u → unsigned_abs n ≤ v → All (λ c. unsigned_abs c ≤ w) left.now → All (λ c. unsigned_abs c ≤ x) right.now
         → u * w + v * x < 2 ^ meter.old.bits → IsNoOverflow result }
 {
     let mut coefs = Coefs::new(alloc);
@@ -93,7 +93,7 @@ pub fn weighted_without(
     ensures exact { MatchResult result
         (λ coefs. (coefs ≡ remove (weighted_sum m left.now n right.now) col) × All (IsWithin meter.old) coefs × (meter.new ≡ meter.old))
         (λ cut. IsCutUpTo (pos 0) meter.old meter.new cut) }
-    ensures small { (u v w x : ℕ) → unsigned_abs m ≤ u → unsigned_abs n ≤ v → All (λ c. unsigned_abs c ≤ w) left.now → All (λ c. unsigned_abs c ≤ x) right.now
+    ensures no_overflow { (u v w x : ℕ) → unsigned_abs m ≤ u → unsigned_abs n ≤ v → All (λ c. unsigned_abs c ≤ w) left.now → All (λ c. unsigned_abs c ≤ x) right.now
         → u * w + v * x < 2 ^ meter.old.bits → IsNoOverflow result }
 {
     let mut coefs = Coefs::new(alloc);
@@ -112,7 +112,7 @@ fn divisor_of(row: &Row, m: Int, meter: &mut Meter) -> Result<Int, Overflow>
     ensures exact { MatchResult result
         (λ k. (k ≡ scaled_divisor row.now.kind m row.now.k) × IsWithin meter.old k × (meter.new ≡ meter.old))
         (λ _. IsCutUpTo (pos 0) meter.old meter.new Cut.Overflow) }
-    ensures small { (u w : ℕ) → unsigned_abs m ≤ u → IsRowUpTo w row.now → u * w < 2 ^ meter.old.bits → IfErr result (λ _. ⊥) }
+    ensures no_overflow { (u w : ℕ) → unsigned_abs m ≤ u → IsRowUpTo w row.now → u * w < 2 ^ meter.old.bits → IfErr result (λ _. ⊥) }
 {
     match row.kind {
         RowKind::Zero | RowKind::AtLeast => Ok(row.modulus()),
@@ -137,7 +137,7 @@ pub(crate) fn combined(
     ensures exact { MatchResult result
         (λ sum. (sum ≡ combination m row.now n other.now) × IsRowWithin meter.old sum × (meter.new ≡ meter.old))
         (λ cut. IsCutUpTo (pos 0) meter.old meter.new cut) }
-    ensures small { (u v w x : ℕ) → unsigned_abs m ≤ u → unsigned_abs n ≤ v → IsRowUpTo w row.now → IsRowUpTo x other.now
+    ensures no_overflow { (u v w x : ℕ) → unsigned_abs m ≤ u → unsigned_abs n ≤ v → IsRowUpTo w row.now → IsRowUpTo x other.now
         → u * w + v * x < 2 ^ meter.old.bits → IsNoOverflow result }
 {
     let coefs = weighted(

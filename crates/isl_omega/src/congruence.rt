@@ -163,7 +163,7 @@ pub(crate) fn merged(
     ensures exact { MatchResult result
         (λ pair. AreMergedTo meter.old columns col rows.now pair.0 pair.1 × (meter.new ≡ meter.old))
         (λ cut. IsCutUpTo (pos 0) meter.old meter.new cut) }
-    ensures small { length rows.now < 2 → MatchResult result (λ pair. pair.1 ≡ []) (λ cut. cut ≢ Cut.Overflow) }
+    ensures no_overflow { length rows.now < 2 → MatchResult result (λ pair. pair.1 ≡ []) (λ cut. cut ≢ Cut.Overflow) }
 {
     let mut one = reduced_copy(alloc, &rows[0], meter)?;
     let mut others = Rows::new(alloc);

@@ -4,14 +4,14 @@ ghost use Rattle.std.specs.Prelude.{◌≡◌, ◌≢◌, ◌-◌, ◌<◌, pos,
 ghost use Rattle.std.specs.List.{AllZip};
 ghost use Rattle.isl_meter.specs.Gauge.{IsWithin, IsCutUpTo};
 ghost use Rattle.isl_piece.specs.Row.{IsRowWithin, IsWellFormed, coef_at, IsRowUpTo};
-ghost use Rattle.isl_omega.specs.Column.{IsSystemOf};
+ghost use Rattle.isl_omega.specs.Column.{IsAnswerFor};
 ghost use Rattle.isl_omega.specs.Equality.{AreFactors, IsImage, IsSolvedBy, solvable};
 ghost use Rattle.isl_omega.specs.Magnitude.{IsNoOverflow};
 
 use crate::combine::combined;
 use crate::rows::settled;
 use isl_meter::{Cut, Int, Meter};
-use isl_piece::{Row, RowKind, Rows, System};
+use isl_piece::{Row, RowKind, Rows};
 use std::alloc::{AllocError, Global};
 
 // What to multiply a row and an equality by, so that the column cancels.
@@ -39,7 +39,7 @@ fn image(alloc: Global, row: &Row, fixed: &Row, col: usize, meter: &mut Meter) -
     ensures exact { MatchResult result
         (λ short. IsImage fixed.now col row.now short × IsRowWithin meter.old short × (meter.new ≡ meter.old))
         (λ cut. IsCutUpTo (pos 0) meter.old meter.new cut) }
-    ensures small { meter.old.bits ≡ 127 → IsRowUpTo (2 ^ 61) row.now → IsRowUpTo (2 ^ 63) fixed.now → IsNoOverflow result }
+    ensures no_overflow { meter.old.bits ≡ 127 → IsRowUpTo (2 ^ 61) row.now → IsRowUpTo (2 ^ 63) fixed.now → IsNoOverflow result }
 {
     let (m, n) = factors(fixed.coefs.get(col), row.coefs.get(col), meter);
     combined(alloc, m, row, n, fixed, meter)
@@ -63,7 +63,7 @@ fn images(
     ensures exact { MatchResult result
         (λ short. AllZip (IsImage fixed.now col) rows.now short × All (IsRowWithin meter.old) short × (meter.new ≡ meter.old))
         (λ cut. IsCutUpTo (pos 0) meter.old meter.new cut) }
-    ensures small { meter.old.bits ≡ 127 → All (IsRowUpTo (2 ^ 61)) rows.now → IsRowUpTo (2 ^ 63) fixed.now → IsNoOverflow result }
+    ensures no_overflow { meter.old.bits ≡ 127 → All (IsRowUpTo (2 ^ 61)) rows.now → IsRowUpTo (2 ^ 63) fixed.now → IsNoOverflow result }
 {
     let mut short = Rows::new(alloc);
     for row in rows {
@@ -100,7 +100,7 @@ pub fn equality_step(
     columns: usize,
     col: usize,
     meter: &mut Meter,
-) -> Result<Option<System>, Cut>
+) -> Result<Option<Rows>, Cut>
     requires rows_formed { All (IsWellFormed columns) rows.now }
     requires rows_within { All (IsRowWithin meter.old) rows.now }
     requires fixed_formed { IsWellFormed columns fixed.now }
@@ -108,9 +108,9 @@ pub fn equality_step(
     requires col_in { col < columns }
     requires occurs { coef_at fixed.now col ≢ pos 0 }
     ensures exact { MatchResult result
-        (λ left. IsSystemOf meter.old (columns - 1) (IsSolvedBy rows.now fixed.now col) left × (meter.new ≡ meter.old))
+        (λ left. IsAnswerFor meter.old (columns - 1) (IsSolvedBy rows.now fixed.now col) left × (meter.new ≡ meter.old))
         (λ cut. IsCutUpTo (pos 0) meter.old meter.new cut) }
-    ensures small { meter.old.bits ≡ 127 → All (IsRowUpTo (2 ^ 61)) rows.now → IsRowUpTo (2 ^ 63) fixed.now → IsNoOverflow result }
+    ensures no_overflow { meter.old.bits ≡ 127 → All (IsRowUpTo (2 ^ 61)) rows.now → IsRowUpTo (2 ^ 63) fixed.now → IsNoOverflow result }
 {
     let mut short = images(alloc, rows, fixed, columns, col, meter)?;
     short.push(divisibility(alloc, fixed, col, meter)?)?;

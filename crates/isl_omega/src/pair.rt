@@ -28,7 +28,7 @@ fn slack(a: Int, b: Int, modulus: Int, meter: &mut Meter) -> Result<Int, Overflo
     ensures exact { MatchResult result
         (λ s. (s ≡ ceiling ((a -ℤ pos 1) *ℤ (b -ℤ pos 1)) modulus) × IsWithin meter.old s × (meter.new ≡ meter.old))
         (λ _. IsCutUpTo (pos 0) meter.old meter.new Cut.Overflow) }
-    ensures small { meter.old.bits ≡ 127 → unsigned_abs a ≤ 2 ^ 62 → unsigned_abs b ≤ 2 ^ 62 → IfErr result (λ _. ⊥) }
+    ensures no_overflow { meter.old.bits ≡ 127 → unsigned_abs a ≤ 2 ^ 62 → unsigned_abs b ≤ 2 ^ 62 → IfErr result (λ _. ⊥) }
 {
     let m = a.sub(Int::ONE, meter)?;
     let n = b.sub(Int::ONE, meter)?;
@@ -80,7 +80,7 @@ fn real_row(
     ensures exact { MatchResult result
         (λ real. IsRealRow columns col lower.now upper.now modulus real × IsRowWithin meter.old real × (meter.new ≡ meter.old))
         (λ cut. IsCutUpTo (pos 0) meter.old meter.new cut) }
-    ensures small { meter.old.bits ≡ 127 → IsRowUpTo (2 ^ 62) lower.now → IsRowUpTo (2 ^ 62) upper.now
+    ensures no_overflow { meter.old.bits ≡ 127 → IsRowUpTo (2 ^ 62) lower.now → IsRowUpTo (2 ^ 62) upper.now
         → MatchResult result (IsRowUpTo (2 ^ 125)) (λ cut. cut ≢ Cut.Overflow) }
 {
     let m = lower.coefs.get(col).floor_div(modulus, meter);
@@ -94,12 +94,12 @@ fn real_row(
 /// # Errors
 ///
 /// `Overflow` where the constant passes the limit of the meter, and `NoMemory`.
-pub fn lowered(alloc: Global, row: &Row, by: Int, meter: &mut Meter) -> Result<Row, Cut>
+pub fn reduced_by(alloc: Global, row: &Row, by: Int, meter: &mut Meter) -> Result<Row, Cut>
     requires within { IsRowWithin meter.old row.now }
     ensures exact { MatchResult result
         (λ low. (low ≡ record row.now { constant = row.now.constant -ℤ by }) × IsRowWithin meter.old low × (meter.new ≡ meter.old))
         (λ cut. IsCutUpTo (pos 0) meter.old meter.new cut) }
-    ensures small { (u w : ℕ) → unsigned_abs by ≤ u → IsRowUpTo w row.now → w + u < 2 ^ meter.old.bits → IsNoOverflow result }
+    ensures no_overflow { (u w : ℕ) → unsigned_abs by ≤ u → IsRowUpTo w row.now → w + u < 2 ^ meter.old.bits → IsNoOverflow result }
 {
     let constant = row.constant().sub(by, meter)?;
     Ok(Row::new(row.kind, row.coefs.copy(alloc)?, constant, row.modulus()))
@@ -122,14 +122,14 @@ impl Pair {
             (λ pair. IsDarkRow columns col lower.now upper.now pair.dark × IsRowWithin meter.old pair.dark
             × (IsTrue pair.exact → IsExact columns col lower.now upper.now) × (meter.new ≡ meter.old))
             (λ cut. IsCutUpTo (pos 0) meter.old meter.new cut) }
-        ensures small { meter.old.bits ≡ 127 → IsRowUpTo (2 ^ 62) lower.now → IsRowUpTo (2 ^ 62) upper.now → IsNoOverflow result }
+        ensures no_overflow { meter.old.bits ≡ 127 → IsRowUpTo (2 ^ 62) lower.now → IsRowUpTo (2 ^ 62) upper.now → IsNoOverflow result }
     {
         let a = lower.coefs.get(col);
         let b = upper.coefs.get(col).neg(meter);
         let modulus = a.gcd(b, meter);
         let real = real_row(alloc, lower, upper, columns, col, modulus, meter)?;
         let by = slack(a, b, modulus, meter)?;
-        let dark = lowered(alloc, &real, by, meter)?;
+        let dark = reduced_by(alloc, &real, by, meter)?;
         let exact = is_tight(alloc, &real, &dark, meter)?;
         Ok(Pair { dark, exact })
     }

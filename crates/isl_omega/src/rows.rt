@@ -4,11 +4,11 @@ ghost use Rattle.std.specs.Prelude.{◌≡◌, ◌-◌, ◌<◌, pos, All, IfOk,
 ghost use Rattle.std.specs.List.{remove};
 ghost use Rattle.isl_piece.specs.Row.{IsRowWithin, IsWellFormed};
 ghost use Rattle.isl_meter.specs.Gauge.{IsCutUpTo};
-ghost use Rattle.isl_omega.specs.Column.{dropped, IsFree, IsSystemOf, HoldAt};
+ghost use Rattle.isl_omega.specs.Column.{dropped, IsFree, IsAnswerFor, HoldAt};
 ghost use Rattle.isl_omega.specs.Magnitude.{IsNoOverflow};
 
 use isl_meter::{Cut, Int, Meter};
-use isl_piece::{Coefs, Row, Rows, System, normalise};
+use isl_piece::{Coefs, Row, Rows};
 use std::alloc::{AllocError, AllocFailed, Global};
 
 // The numbers but for the one at `col`.
@@ -64,20 +64,16 @@ pub fn settled(
     columns: usize,
     col: usize,
     meter: &mut Meter,
-) -> Result<Option<System>, Cut>
+) -> Result<Option<Rows>, Cut>
     requires col_in { col < columns }
     requires well_formed { All (IsWellFormed columns) rows.now }
     requires within { All (IsRowWithin meter.old) rows.now }
     requires free { All (IsFree col) rows.now }
     ensures exact { MatchResult result
-        (λ left. IsSystemOf meter.old (columns - 1) (λ point. HoldAt rows.now col point (pos 0)) left × (meter.new ≡ meter.old))
+        (λ left. IsAnswerFor meter.old (columns - 1) (λ point. HoldAt rows.now col point (pos 0)) left × (meter.new ≡ meter.old))
         (λ cut. IsCutUpTo (pos 0) meter.old meter.new cut) }
     ensures memory { IsNoOverflow result }
 {
     let short = rows_without(alloc, rows.as_slice(), col)?;
-    let system = System {
-        columns: columns - 1,
-        rows: short,
-    };
-    Ok(normalise(alloc, system, meter)?)
+    Ok(short.normalise(alloc, meter)?)
 }

@@ -3,7 +3,7 @@
 ghost use Rattle.std.specs.Prelude.{◌≡◌, ◌≢◌, ◌⊎◌, ◌<◌, pos, negsuc, ◌≤ℤ◌, ◌+ℤ◌, ℤ, ◌*◌, IsTrue, length, All, MatchResult, ◌^◌, ◌≤◌, unsigned_abs, IfErr};
 ghost use Rattle.isl_meter.specs.Gauge.{IsWithin, IsChargedUpTo, IsCutUpTo};
 ghost use Rattle.isl_piece.specs.Row.{IsRowUpTo};
-ghost use Rattle.isl_omega.specs.Shadow.{last_splinter, extra, IsShadowOf, HasTail, IsShadow};
+ghost use Rattle.isl_omega.specs.Shadow.{last_splinter, neighbour_splinters, IsShadowOf, LeavesSplinters, IsShadow};
 ghost use Rattle.isl_omega.specs.Sides.{IsLower, IsUpper};
 ghost use Rattle.isl_omega.specs.Magnitude.{IsNoOverflow};
 
@@ -14,7 +14,7 @@ use std::alloc::Global;
 
 /// A lower bound, whose values from 0 to `last` are splinters: systems of their own.
 #[derive(Drop)]
-pub struct Tail {
+pub struct Splinters {
     pub lower: Row,
     pub last: Int,
 }
@@ -40,7 +40,7 @@ fn last_value(factor: Int, greatest: Int, meter: &mut Meter) -> Result<Int, Over
         (λ last. (greatest ≡ pos 0 → last ≡ negsuc 0) × (greatest ≢ pos 0 → last ≡ last_splinter factor greatest)
         × IsWithin meter.old last × (meter.new ≡ meter.old))
         (λ _. IsCutUpTo (pos 0) meter.old meter.new Cut.Overflow) }
-    ensures small { meter.old.bits ≡ 127 → unsigned_abs factor ≤ 2 ^ 62 → IfErr result (λ _. ⊥) }
+    ensures no_overflow { meter.old.bits ≡ 127 → unsigned_abs factor ≤ 2 ^ 62 → IfErr result (λ _. ⊥) }
 {
     if greatest.is_zero() {
         return Int::ZERO.sub(Int::ONE, meter);
@@ -66,7 +66,7 @@ fn shadow_of(
         (λ last. IsShadowOf meter.old columns col lower.now uppers.now rows.old rows.new last × IsWithin meter.old last
         × IsChargedUpTo (pos (length uppers.now)) meter.old meter.new)
         (λ cut. IsCutUpTo (pos (length uppers.now)) meter.old meter.new cut) }
-    ensures small { meter.old.bits ≡ 127 → IsRowUpTo (2 ^ 62) lower.now → All (IsRowUpTo (2 ^ 62)) uppers.now → IsNoOverflow result }
+    ensures no_overflow { meter.old.bits ≡ 127 → IsRowUpTo (2 ^ 62) lower.now → All (IsRowUpTo (2 ^ 62)) uppers.now → IsNoOverflow result }
 {
     let mut greatest = Int::ZERO;
     for upper in uppers {
@@ -83,9 +83,9 @@ fn shadow_of(
 fn tail_value(last: Int, factor: Int, neighbours: bool, meter: &mut Meter) -> Result<Int, Overflow>
     requires within { IsWithin meter.old last }
     ensures exact { MatchResult result
-        (λ value. (value ≡ last +ℤ extra neighbours factor) × IsWithin meter.old value × (meter.new ≡ meter.old))
+        (λ value. (value ≡ last +ℤ neighbour_splinters neighbours factor) × IsWithin meter.old value × (meter.new ≡ meter.old))
         (λ _. IsCutUpTo (pos 0) meter.old meter.new Cut.Overflow) }
-    ensures small { meter.old.bits ≡ 127 → unsigned_abs last ≤ 2 ^ 62 → unsigned_abs factor ≤ 2 ^ 62 → IfErr result (λ _. ⊥) }
+    ensures no_overflow { meter.old.bits ≡ 127 → unsigned_abs last ≤ 2 ^ 62 → unsigned_abs factor ≤ 2 ^ 62 → IfErr result (λ _. ⊥) }
 {
     if neighbours {
         last.add(factor, meter)
@@ -104,19 +104,19 @@ fn tail_of(
     col: usize,
     rows: &mut Rows,
     meter: &mut Meter,
-) -> Result<Tail, Cut>
+) -> Result<Splinters, Cut>
     requires lower { IsLower meter.old columns col lower.now }
     requires uppers { All (IsUpper meter.old columns col) uppers.now }
     requires col_in { col < columns }
     ensures exact { MatchResult result
-        (λ tail. HasTail meter.old columns col neighbours lower.now uppers.now rows.old rows.new tail
+        (λ tail. LeavesSplinters meter.old columns col neighbours lower.now uppers.now rows.old rows.new tail
         × IsChargedUpTo (pos (length uppers.now)) meter.old meter.new)
         (λ cut. IsCutUpTo (pos (length uppers.now)) meter.old meter.new cut) }
-    ensures small { meter.old.bits ≡ 127 → IsRowUpTo (2 ^ 62) lower.now → All (IsRowUpTo (2 ^ 62)) uppers.now → IsNoOverflow result }
+    ensures no_overflow { meter.old.bits ≡ 127 → IsRowUpTo (2 ^ 62) lower.now → All (IsRowUpTo (2 ^ 62)) uppers.now → IsNoOverflow result }
 {
     let last = shadow_of(alloc, lower, uppers, columns, col, rows, meter)?;
     let last = tail_value(last, lower.coefs.get(col), neighbours, meter)?;
-    Ok(Tail {
+    Ok(Splinters {
         lower: lower.copy(alloc)?,
         last,
     })
@@ -136,7 +136,7 @@ pub fn shadow(
     columns: usize,
     col: usize,
     meter: &mut Meter,
-) -> Result<(Rows, Vec<Tail>), Cut>
+) -> Result<(Rows, Vec<Splinters>), Cut>
     requires lowers { All (IsLower meter.old columns col) lowers.now }
     requires uppers { All (IsUpper meter.old columns col) uppers.now }
     requires col_in { col < columns }
@@ -144,7 +144,7 @@ pub fn shadow(
         (λ pair. IsShadow meter.old columns col neighbours lowers.now uppers.now pair.0 pair.1.items
         × IsChargedUpTo (pos (length lowers.now * length uppers.now)) meter.old meter.new)
         (λ cut. IsCutUpTo (pos (length lowers.now * length uppers.now)) meter.old meter.new cut) }
-    ensures small { meter.old.bits ≡ 127 → All (IsRowUpTo (2 ^ 62)) lowers.now → All (IsRowUpTo (2 ^ 62)) uppers.now → IsNoOverflow result }
+    ensures no_overflow { meter.old.bits ≡ 127 → All (IsRowUpTo (2 ^ 62)) lowers.now → All (IsRowUpTo (2 ^ 62)) uppers.now → IsNoOverflow result }
 {
     let mut rows = Rows::new(alloc);
     let mut tails = Vec::new(alloc);

@@ -17,7 +17,7 @@ pub enum Side {
     /// A congruence whose modulus does not divide the coefficient.
     Divides,
     /// The same of a modulus that must not divide.
-    Apart,
+    NotDivides,
     /// Nothing.
     Free,
 }
@@ -28,7 +28,7 @@ pub struct Sides {
     pub lowers: Rows,
     pub uppers: Rows,
     pub divides: Rows,
-    pub apart: Rows,
+    pub not_divides: Rows,
     pub free: Rows,
 }
 
@@ -77,7 +77,7 @@ impl Side {
             RowKind::Zero => Side::Free,
             RowKind::AtLeast => Side::by_sign(coef),
             RowKind::Divides => Side::Divides.unless_multiple(coef, row.modulus(), meter),
-            RowKind::NotDivides => Side::Apart.unless_multiple(coef, row.modulus(), meter),
+            RowKind::NotDivides => Side::NotDivides.unless_multiple(coef, row.modulus(), meter),
         }
     }
 }
@@ -151,7 +151,7 @@ impl Sides {
             lowers: Side::Lower.copied(alloc, rows, columns, col, meter)?,
             uppers: Side::Upper.copied(alloc, rows, columns, col, meter)?,
             divides: Side::Divides.copied(alloc, rows, columns, col, meter)?,
-            apart: Side::Apart.copied(alloc, rows, columns, col, meter)?,
+            not_divides: Side::NotDivides.copied(alloc, rows, columns, col, meter)?,
             free: Side::Free.copied(alloc, rows, columns, col, meter)?,
         })
     }

@@ -18,8 +18,8 @@ use std::alloc::{AllocError, Global};
 /// The congruences on a column as one, what they say of the other columns, and the numbers that they allow.
 #[derive(Drop)]
 pub struct Progression {
-    pub one: Row,
-    pub others: Rows,
+    pub merged: Row,
+    pub residual: Rows,
     pub substitution: Substitution,
 }
 
@@ -27,7 +27,7 @@ impl Progression {
     ghost use Rattle.isl_omega.specs.Congruence.{AreMergedTo};
     ghost use Rattle.isl_omega.specs.Sides.{IsDivides, AreSided, on_side};
     ghost use Rattle.isl_omega.specs.Step.{residue_row};
-    ghost use Rattle.isl_omega.specs.Step.{within_scale, AreMovedTo};
+    ghost use Rattle.isl_omega.specs.Step.{within_scale, IsSubstitutionOf};
     ghost use Rattle.isl_omega.specs.Substitution.{IsProgressionOf};
 
     fn of(
@@ -41,19 +41,19 @@ impl Progression {
         requires divides { All (IsDivides meter.old columns) divides.now }
         requires col_in { col < columns }
         ensures exact { MatchResult result
-            (λ p. AreMergedTo meter.old columns col divides.now p.one p.others
-            × IsProgressionOf columns col p.one p.substitution.scale p.substitution.offsets
+            (λ p. AreMergedTo meter.old columns col divides.now p.merged p.residual
+            × IsProgressionOf columns col p.merged p.substitution.scale p.substitution.offsets
             × IsWithin meter.old p.substitution.scale × IsRowWithin meter.old p.substitution.offsets × (meter.new ≡ meter.old))
             (λ cut. IsCutUpTo (pos 0) meter.old meter.new cut) }
-        ensures small { meter.old.bits ≡ 127 → All (IsRowUpTo (2 ^ 30)) divides.now → length divides.now < 2 → MatchResult result
-            (λ p. IsRowUpTo (2 ^ 30) p.one × (p.others ≡ []) × (unsigned_abs p.substitution.scale ≤ 2 ^ 30) × IsRowUpTo (2 ^ 30) p.substitution.offsets)
+        ensures no_overflow { meter.old.bits ≡ 127 → All (IsRowUpTo (2 ^ 30)) divides.now → length divides.now < 2 → MatchResult result
+            (λ p. IsRowUpTo (2 ^ 30) p.merged × (p.residual ≡ []) × (unsigned_abs p.substitution.scale ≤ 2 ^ 30) × IsRowUpTo (2 ^ 30) p.substitution.offsets)
             (λ cut. cut ≢ Cut.Overflow) }
     {
         let (one, others) = merged(alloc, divides, columns, col, meter)?;
         let substitution = Substitution::of(alloc, &one, columns, col, meter)?;
         Ok(Progression {
-            one,
-            others,
+            merged: one,
+            residual: others,
             substitution,
         })
     }
@@ -76,9 +76,9 @@ impl Progression {
         requires rest_within { IsWithin meter.old rest }
         requires col_in { col < columns }
         ensures { MatchResult result
-            (λ p. (p.one ≡ residue_row columns col k rest) × (p.others ≡ [])
-            × IsRowWithin meter.old p.one
-            × IsProgressionOf columns col p.one p.substitution.scale p.substitution.offsets
+            (λ p. (p.merged ≡ residue_row columns col k rest) × (p.residual ≡ [])
+            × IsRowWithin meter.old p.merged
+            × IsProgressionOf columns col p.merged p.substitution.scale p.substitution.offsets
             × IsWithin meter.old p.substitution.scale × IsRowWithin meter.old p.substitution.offsets × (meter.new ≡ meter.old))
             (λ cut. IsCutUpTo (pos 0) meter.old meter.new cut) }
     {
@@ -87,17 +87,17 @@ impl Progression {
         let one = Row::new(RowKind::Divides, coefs, rest.neg(meter), k);
         let substitution = Substitution::of(alloc, &one, columns, col, meter)?;
         Ok(Progression {
-            one,
-            others: Rows::new(alloc),
+            merged: one,
+            residual: Rows::new(alloc),
             substitution,
         })
     }
 
     // Where there are numbers: the congruence with the scale for its modulus.
     fn within_scale(&self, alloc: Global) -> Result<Row, AllocError>
-        ensures { IfOk result (λ row. row ≡ within_scale self.now.one self.now.substitution.scale) }
+        ensures { IfOk result (λ row. row ≡ within_scale self.now.merged self.now.substitution.scale) }
     {
-        let one = &self.one;
+        let one = &self.merged;
         Ok(Row::new(
             one.kind,
             one.coefs.copy(alloc)?,
@@ -119,12 +119,12 @@ impl Progression {
         requires well_formed { All (IsWellFormed columns) moved.now }
         requires within { All (IsRowWithin meter.now) moved.now }
         requires col_in { col < columns }
-        ensures ok { IfOk result (λ rows. rows ≡ ((on_side Side.Free col moved.now ++ self.now.others) ++ free.now)
-            ++ within_scale self.now.one self.now.substitution.scale ∷ []) }
+        ensures ok { IfOk result (λ rows. rows ≡ ((on_side Side.Free col moved.now ++ self.now.residual) ++ free.now)
+            ++ within_scale self.now.merged self.now.substitution.scale ∷ []) }
         ensures err { IfErr result (λ cut. cut ≡ Cut.NoMemory) }
     {
         let mut rows = Side::Free.copied(alloc, moved, columns, col, meter)?;
-        rows.append(alloc, &self.others)?;
+        rows.append(alloc, &self.residual)?;
         rows.append(alloc, free)?;
         rows.push(self.within_scale(alloc)?)?;
         Ok(rows)
@@ -144,28 +144,28 @@ impl Progression {
         meter: &mut Meter,
     ) -> Result<Sides, Cut>
         requires sided { AreSided meter.old columns col sides.now }
-        requires progression { IsProgressionOf columns col self.now.one self.now.substitution.scale self.now.substitution.offsets }
+        requires progression { IsProgressionOf columns col self.now.merged self.now.substitution.scale self.now.substitution.offsets }
         requires scale_within { IsWithin meter.old self.now.substitution.scale }
         requires offsets_within { IsRowWithin meter.old self.now.substitution.offsets }
         requires col_in { col < columns }
         ensures exact { MatchResult result
-            (λ new. AreMovedTo meter.old columns col self.now.one self.now.others self.now.substitution.scale self.now.substitution.offsets sides.now new
+            (λ new. IsSubstitutionOf meter.old columns col self.now.merged self.now.residual self.now.substitution.scale self.now.substitution.offsets sides.now new
             × (meter.new ≡ meter.old))
             (λ cut. IsCutUpTo (pos 0) meter.old meter.new cut) }
-        ensures small { meter.old.bits ≡ 127 → unsigned_abs self.now.substitution.scale ≤ 2 ^ 30 → IsRowUpTo (2 ^ 30) self.now.substitution.offsets
+        ensures no_overflow { meter.old.bits ≡ 127 → unsigned_abs self.now.substitution.scale ≤ 2 ^ 30 → IsRowUpTo (2 ^ 30) self.now.substitution.offsets
             → AreSidesUpTo (2 ^ 30) sides.now → IsNoOverflow result }
     {
         let s = &self.substitution;
         let lowers = s.bounds(alloc, sides.lowers.as_slice(), columns, col, meter)?;
         let uppers = s.bounds(alloc, sides.uppers.as_slice(), columns, col, meter)?;
-        let moved = s.rows(alloc, sides.apart.as_slice(), columns, col, meter)?;
-        let apart = Side::Apart.copied(alloc, moved.as_slice(), columns, col, meter)?;
+        let moved = s.rows(alloc, sides.not_divides.as_slice(), columns, col, meter)?;
+        let not_divides = Side::NotDivides.copied(alloc, moved.as_slice(), columns, col, meter)?;
         let free = self.free_rows(alloc, moved.as_slice(), &sides.free, columns, col, meter)?;
         Ok(Sides {
             lowers,
             uppers,
             divides: Rows::new(alloc),
-            apart,
+            not_divides,
             free,
         })
     }
@@ -189,7 +189,7 @@ pub fn congruence_step(
     ensures exact { MatchResult result
         (λ new. IsStepOf meter.old columns col sides.now new × (meter.new ≡ meter.old))
         (λ cut. IsCutUpTo (pos 0) meter.old meter.new cut) }
-    ensures small { meter.old.bits ≡ 127 → AreSidesUpTo (2 ^ 30) sides.now → length sides.now.divides < 2
+    ensures no_overflow { meter.old.bits ≡ 127 → AreSidesUpTo (2 ^ 30) sides.now → length sides.now.divides < 2
         → MatchResult result (AreSidesUpTo (2 ^ 61)) (λ cut. cut ≢ Cut.Overflow) }
 {
     let progression = Progression::of(alloc, sides.divides.as_slice(), columns, col, meter)?;

@@ -46,7 +46,7 @@ fn offsets(alloc: Global, factor: Int, one: &Row, meter: &mut Meter) -> Result<R
     ensures exact { MatchResult result
         (λ row. (row ≡ offsets_of factor one.now) × IsRowWithin meter.old row × (meter.new ≡ meter.old))
         (λ cut. IsCutUpTo (pos 0) meter.old meter.new cut) }
-    ensures small { meter.old.bits ≡ 127 → unsigned_abs factor ≤ 2 ^ 30 → IsRowUpTo (2 ^ 30) one.now → IsNoOverflow result }
+    ensures no_overflow { meter.old.bits ≡ 127 → unsigned_abs factor ≤ 2 ^ 30 → IsRowUpTo (2 ^ 30) one.now → IsNoOverflow result }
 {
     let k = one.modulus();
     let numbers = one.coefs.as_slice();
@@ -73,7 +73,7 @@ impl Substitution {
             (λ s. IsProgressionOf columns col one.now s.scale s.offsets × IsWithin meter.old s.scale × IsRowWithin meter.old s.offsets
             × (meter.new ≡ meter.old))
             (λ cut. IsCutUpTo (pos 0) meter.old meter.new cut) }
-        ensures small { meter.old.bits ≡ 127 → IsRowUpTo (2 ^ 30) one.now → MatchResult result
+        ensures no_overflow { meter.old.bits ≡ 127 → IsRowUpTo (2 ^ 30) one.now → MatchResult result
             (λ s. (unsigned_abs s.scale ≤ 2 ^ 30) × IsRowUpTo (2 ^ 30) s.offsets) (λ cut. cut ≢ Cut.Overflow) }
     {
         let k = one.modulus();
@@ -91,7 +91,7 @@ impl Substitution {
     ghost use Rattle.std.specs.Prelude.{ℤ, map};
     ghost use Rattle.std.specs.List.{AllZip};
     ghost use Rattle.isl_piece.specs.declared.row.RowKind.TheVariants.{AtLeast};
-    ghost use Rattle.isl_omega.specs.Sides.{IsProper};
+    ghost use Rattle.isl_omega.specs.Column.{IsProper};
     ghost use Rattle.isl_omega.specs.Substitution.{IsMovedBound};
 
     // The row with the progression in the column's place.
@@ -104,7 +104,7 @@ impl Substitution {
         ensures exact { MatchResult result
             (λ moved. (moved ≡ substituted self.now.scale self.now.offsets col row.now) × IsRowWithin meter.old moved × (meter.new ≡ meter.old))
             (λ cut. IsCutUpTo (pos 0) meter.old meter.new cut) }
-        ensures small { meter.old.bits ≡ 127 → unsigned_abs self.now.scale ≤ 2 ^ 30 → IsRowUpTo (2 ^ 30) self.now.offsets → IsRowUpTo (2 ^ 30) row.now → IsNoOverflow result }
+        ensures no_overflow { meter.old.bits ≡ 127 → unsigned_abs self.now.scale ≤ 2 ^ 30 → IsRowUpTo (2 ^ 30) self.now.offsets → IsRowUpTo (2 ^ 30) row.now → IsNoOverflow result }
     {
         combined(
             alloc,
@@ -135,7 +135,7 @@ impl Substitution {
         ensures exact { MatchResult result
             (λ moved. IsMovedBound columns col self.now.scale self.now.offsets row.now moved × IsRowWithin meter.old moved × (meter.new ≡ meter.old))
             (λ cut. IsCutUpTo (pos 0) meter.old meter.new cut) }
-        ensures small { meter.old.bits ≡ 127 → unsigned_abs self.now.scale ≤ 2 ^ 30 → IsRowUpTo (2 ^ 30) self.now.offsets → IsRowUpTo (2 ^ 30) row.now → IsNoOverflow result }
+        ensures no_overflow { meter.old.bits ≡ 127 → unsigned_abs self.now.scale ≤ 2 ^ 30 → IsRowUpTo (2 ^ 30) self.now.offsets → IsRowUpTo (2 ^ 30) row.now → IsNoOverflow result }
     {
         let moved = self.put(alloc, row, col, meter)?;
         Ok(tightened(alloc, moved, columns, meter)?)
@@ -161,7 +161,7 @@ impl Substitution {
             (λ moved. AllZip (IsMovedBound columns col self.now.scale self.now.offsets) rows.now moved
             × All (IsRowWithin meter.old) moved × (meter.new ≡ meter.old))
             (λ cut. IsCutUpTo (pos 0) meter.old meter.new cut) }
-        ensures small { meter.old.bits ≡ 127 → unsigned_abs self.now.scale ≤ 2 ^ 30 → IsRowUpTo (2 ^ 30) self.now.offsets → All (IsRowUpTo (2 ^ 30)) rows.now → IsNoOverflow result }
+        ensures no_overflow { meter.old.bits ≡ 127 → unsigned_abs self.now.scale ≤ 2 ^ 30 → IsRowUpTo (2 ^ 30) self.now.offsets → All (IsRowUpTo (2 ^ 30)) rows.now → IsNoOverflow result }
     {
         let mut moved = Rows::new(alloc);
         for row in rows {
@@ -188,7 +188,7 @@ impl Substitution {
             (λ moved. (moved ≡ map (substituted self.now.scale self.now.offsets col) rows.now)
             × All (IsRowWithin meter.old) moved × (meter.new ≡ meter.old))
             (λ cut. IsCutUpTo (pos 0) meter.old meter.new cut) }
-        ensures small { meter.old.bits ≡ 127 → unsigned_abs self.now.scale ≤ 2 ^ 30 → IsRowUpTo (2 ^ 30) self.now.offsets → All (IsRowUpTo (2 ^ 30)) rows.now → IsNoOverflow result }
+        ensures no_overflow { meter.old.bits ≡ 127 → unsigned_abs self.now.scale ≤ 2 ^ 30 → IsRowUpTo (2 ^ 30) self.now.offsets → All (IsRowUpTo (2 ^ 30)) rows.now → IsNoOverflow result }
     {
         let mut moved = Rows::new(alloc);
         for row in rows {

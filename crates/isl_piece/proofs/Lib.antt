@@ -11,7 +11,12 @@ pub mod NormalLaws
 pub mod NumberSteps
 pub mod NormalSteps
 pub mod PlaceLaws
-pub mod SystemLaws
+pub mod CombineLaws
+pub mod CutLaws
+pub mod DefinedLaws
+pub mod RowsLaws
+pub mod PlacedLaws
+pub mod MeetLaws
 pub mod NegationLaws
 pub mod WitnessLaws
 pub mod IndexLaws

@@ -14,7 +14,8 @@ use Rattle.isl_piece.specs.declared.row.RowKind.TheVariants.{Zero, AtLeast, Divi
 use Rattle.isl_piece.specs.declared.row.Row.{Row}
 use Rattle.isl_piece.specs.Row.{HoldsRow, HoldsValue, HasModulus, IsRowWithin, IsWellFormed}
 use Rattle.isl_piece.specs.Normal.{bound}
-use Rattle.isl_piece.specs.Negation.{above, below, negated_form, negation_of, IsCutFor, ConstantPassesLimit}
+use Rattle.isl_piece.specs.Cut.{IsCutFor}
+use Rattle.isl_piece.specs.Negation.{above, below, negated_form, negation_of, ConstantPassesLimit}
 use Rattle.isl_piece.proofs.ContentLaws.{length-scaled}
 use Rattle.isl_piece.proofs.NormalCases.{divides_cases}
 

@@ -1,7 +1,7 @@
 -- The laws of normal rows.
-use Rattle.std.proofs.Common.{◌≡◌, ◌≢◌, ◌↔◌, inl, inr, refl, sym, ap, ◌∙◌, arith, ℕ, zero, suc, ℤ, List, [], ◌∷◌, get_or, map, fold, false, Option, Some, None, option_map, MatchOption, IfSome}
+use Rattle.std.proofs.Common.{◌≡◌, ◌≢◌, ◌↔◌, inl, inr, refl, sym, ap, ◌∙◌, arith, ℕ, zero, suc, ℤ, List, [], ◌∷◌, get_or, map, fold, length, false, Option, Some, None, option_map, MatchOption, IfSome}
 use Rattle.std.specs.List.{All, AllPairs}
-use Rattle.std.proofs.lemmas.List.Elements.{All-nil, All-cons, All-head, All-tail, All-weaker, All-get_or}
+use Rattle.std.proofs.lemmas.List.Elements.{All-nil, All-cons, All-head, All-tail, All-get_or}
 use Rattle.isl_piece.specs.declared.row.RowKind.TheVariants.{AtLeast}
 use Rattle.isl_piece.specs.declared.row.Row.{Row}
 use Rattle.isl_piece.specs.Normal.{Verdict, Always, Never, Kept}
@@ -9,7 +9,7 @@ use Rattle.isl_piece.specs.Row.{HoldsRow, HasModulus, IsWellFormed, IsRowUpTo}
 use Rattle.isl_piece.specs.System.{HoldRows}
 use Rattle.isl_piece.specs.Normal.{normal_row, kept_rows, same_bound, with_row, merged, normal_rows, IsNormal}
 use Rattle.isl_piece.proofs.PointLaws.{HoldsVerdict, normal_row_holds}
-use Rattle.isl_piece.proofs.ShapeLaws.{IfKept, normal_row_well_formed, normal_row_up_to}
+use Rattle.isl_piece.proofs.ShapeLaws.{IfKept, IfKept-weaker, normal_row_well_formed, normal_row_up_to}
 use Rattle.isl_piece.proofs.SettledLaws.{normal_row_settled}
 use Rattle.isl_piece.proofs.WitnessLaws.{IsContingent-settled}
 use Rattle.isl_piece.proofs.MergeLaws.{same_bound-from, fold_all, fold_holds, fold_apart, merged_itself, AreApart}
@@ -142,13 +142,22 @@ IfSome-three P Q R S f (Some rows) p q r = f rows p q r
 pub normal_rows_well_formed : (n : ℕ) (rows : List Row) → All (IsWellFormed n) rows → IfSome (normal_rows rows) (All (IsWellFormed n))
 normal_rows_well_formed n rows h = normal_rows_all (IsWellFormed n) (IsWellFormed n) (λ r. normal_row_well_formed n r) rows h
 
-pub normal_rows_normal : (n : ℕ) (rows : List Row) → All (IsWellFormed n) rows → IfSome (normal_rows rows) IsNormal
-normal_rows_normal n rows h =
-    IfSome-three (All (λ r. normal_row r ≡ Kept r)) (All (IsWellFormed n)) AreApart IsNormal
-    (λ kept s w a. IsNormal-from kept s (All-weaker (IsWellFormed n) (λ r. HasModulus r.kind r.k) (λ r d. d.modulus) kept w) a)
-    (normal_rows rows)
-    (normal_rows_all (IsWellFormed n) (λ r. normal_row r ≡ Kept r) (λ r d. normal_row_settled r d.modulus) rows h)
-    (normal_rows_well_formed n rows h)
+-- each row has a modulus of its kind
+abbrev pub HaveModuli : List Row → Type 0
+HaveModuli rows = All (λ r. HasModulus r.kind r.k) rows
+
+normal_rows_moduli : (rows : List Row) → HaveModuli rows → IfSome (normal_rows rows) HaveModuli
+normal_rows_moduli rows h = normal_rows_all (λ r. HasModulus r.kind r.k) (λ r. HasModulus r.kind r.k) modulus rows h
+  where
+    modulus : (r : Row) → HasModulus r.kind r.k → IfKept (λ s. HasModulus s.kind s.k) (normal_row r)
+    modulus r d = IfKept-weaker (IsWellFormed (length r.coefs)) (λ s. HasModulus s.kind s.k) (normal_row r) (λ s w. w.modulus)
+        (normal_row_well_formed (length r.coefs) r (record { width = refl; modulus = d }))
+
+pub normal_rows_normal : (rows : List Row) → HaveModuli rows → IfSome (normal_rows rows) IsNormal
+normal_rows_normal rows h =
+    IfSome-three (All (λ r. normal_row r ≡ Kept r)) HaveModuli AreApart IsNormal IsNormal-from (normal_rows rows)
+    (normal_rows_all (λ r. HasModulus r.kind r.k) (λ r. normal_row r ≡ Kept r) normal_row_settled rows h)
+    (normal_rows_moduli rows h)
     (normal_rows_apart rows)
 
 -- ---- no greater numbers

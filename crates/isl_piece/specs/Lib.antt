@@ -1,7 +1,13 @@
+pub mod Combine
+pub mod Cut
+pub mod Definition
 pub mod Index
+pub mod Meet
 pub mod Negation
 pub mod Normal
 pub mod Numbers
 pub mod Outcome
+pub mod Piece
 pub mod Row
+pub mod Stored
 pub mod System

@@ -1,9 +1,7 @@
 -- Rows of which one holds exactly where a row does not.
-use Rattle.std.specs.Prelude.{◌≡◌, ℤ, pos, negsuc, neg_ℤ, ◌-ℤ◌, List, [], ◌∷◌, Any}
+use Rattle.std.specs.Prelude.{ℤ, pos, negsuc, neg_ℤ, ◌-ℤ◌, List, [], ◌∷◌, Any}
 use Rattle.isl_math.specs.Dot.{scaled}
-use Rattle.isl_meter.specs.Gauge.{Gauge, IsWithin, overflown}
-use Rattle.isl_meter.specs.declared.Cut.{Cut}
-use Rattle.isl_meter.specs.declared.Cut.TheVariants.{Overflow, Budget, NoMemory}
+use Rattle.isl_meter.specs.Gauge.{Gauge, IsWithin}
 use Rattle.isl_piece.specs.declared.row.RowKind.{RowKind}
 use Rattle.isl_piece.specs.declared.row.RowKind.TheVariants.{Zero, AtLeast, Divides, NotDivides}
 use Rattle.isl_piece.specs.declared.row.Row.{Row}
@@ -27,11 +25,9 @@ negated_form NotDivides cs c k = record { kind = Divides; coefs = cs; constant =
 abbrev pub negation_of : Row → List Row
 negation_of r = negated_form r.kind r.coefs r.constant r.k
 
--- the cut is an overflow, for the reason P, which is counted, or want of memory
-abbrev pub IsCutFor : Type 0 → Gauge → Gauge → Cut → Type 0
-IsCutFor P old new Overflow = P × (new ≡ overflown old)
-IsCutFor P old new Budget = ⊥
-IsCutFor P old new NoMemory = new ≡ old
+-- the two halves of an equality: the form is at least 0, and at most 0
+abbrev pub halves_of : Row → List Row
+halves_of r = bound r.coefs r.constant ∷ bound (scaled (negsuc 0) r.coefs) (neg_ℤ r.constant) ∷ []
 
 -- the constant of one of the rows passes the limit
 abbrev pub ConstantPassesLimit : Gauge → List Row → Type 0

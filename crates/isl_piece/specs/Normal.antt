@@ -124,9 +124,9 @@ merged rows = fold with_row [] rows
 abbrev pub normal_rows : List Row → Option (List Row)
 normal_rows rows = option_map merged (kept_rows (map normal_row rows))
 
--- a system with its normal rows
+-- a system with its normal rows, and its definitions as they are
 abbrev pub normal_system : System → Option System
-normal_system s = option_map (λ rows. record { columns = s.columns; rows = rows }) (normal_rows s.rows)
+normal_system s = option_map (λ rows. record { columns = s.columns; definitions = s.definitions; rows = rows }) (normal_rows s.rows)
 
 -- ---- what normal rows are
 -- each row is its own normal row, and holds at some point, but not at all; no two are equal, and no two bound the same form

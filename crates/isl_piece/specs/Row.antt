@@ -57,7 +57,7 @@ abbrev pub coef_at : Row → ℕ → ℤ
 coef_at r column = slice_index_or r.coefs column (pos 0)
 
 -- a product of the form at a point, or the sum of the first products, or the whole sum passes the limit
-abbrev pub FormPassesLimit : Gauge → Row → List ℤ → Type 0
-FormPassesLimit g r xs =
-    ((i : ℕ) × (i < length r.coefs) × ((¬ IsWithin g (coef_at r i *ℤ slice_index_or xs i (pos 0))) ⊎ (¬ IsWithin g (dot (take (i + 1) r.coefs) (take (i + 1) xs)))))
-    ⊎ (¬ IsWithin g (value_at r xs))
+abbrev pub FormPassesLimit : Gauge → List ℤ → ℤ → List ℤ → Type 0
+FormPassesLimit g cs c xs =
+    ((i : ℕ) × (i < length cs) × ((¬ IsWithin g (slice_index_or cs i (pos 0) *ℤ slice_index_or xs i (pos 0))) ⊎ (¬ IsWithin g (dot (take (i + 1) cs) (take (i + 1) xs)))))
+    ⊎ (¬ IsWithin g (dot cs xs +ℤ c))

@@ -78,10 +78,29 @@ impl Coefs {
         Ok(Coefs { items })
     }
 
+    pub(crate) fn from_numbers(alloc: Global, numbers: &[i128]) -> Result<Self, AllocError>
+        ensures { IfOk result (λ coefs. coefs ≡ numbers.now) }
+    {
+        let mut coefs = Coefs::new(alloc);
+        for number in numbers {
+            coefs.push(Int::new(*number))?;
+        }
+        Ok(coefs)
+    }
+
     pub fn copy(&self, alloc: Global) -> Result<Self, AllocError>
         ensures { IfOk result (λ coefs. coefs ≡ self.now) }
     {
         Coefs::from_slice(alloc, self.as_slice())
+    }
+
+    // The coefficients, with 0 at one more column.
+    pub(crate) fn widened(&self, alloc: Global) -> Result<Self, AllocError>
+        ensures { IfOk result (λ coefs. coefs ≡ self.now ++ pos 0 ∷ []) }
+    {
+        let mut coefs = self.copy(alloc)?;
+        coefs.push(Int::ZERO)?;
+        Ok(coefs)
     }
 
     pub fn len(&self) -> usize

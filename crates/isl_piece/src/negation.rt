@@ -2,7 +2,8 @@
 
 ghost use Rattle.std.specs.Prelude.{◌⊎◌, length, ◌≡◌, ◌↔◌, ◌-ℤ◌, pos, neg_ℤ, ℕ, ℤ, List, [], ◌∷◌, All, Any, IfOk, IfErr, MatchResult};
 ghost use Rattle.isl_meter.specs.Gauge.{IsWithin, IsCutBy};
-ghost use Rattle.isl_piece.specs.Negation.{above, below, negation_of, IsCutFor, ConstantPassesLimit};
+ghost use Rattle.isl_piece.specs.Cut.{IsCutFor};
+ghost use Rattle.isl_piece.specs.Negation.{above, below, negation_of, ConstantPassesLimit};
 ghost use Rattle.isl_piece.specs.Row.{HasModulus, HoldsRow, IsRowWithin, IsWellFormed};
 
 use crate::{Row, RowKind, Rows};

@@ -5,6 +5,7 @@ ghost use Rattle.isl_math.specs.Divide.{Divides};
 ghost use Rattle.isl_meter.specs.Gauge.{overflown, IsWithin};
 
 use crate::Coefs;
+use crate::form::form_at;
 use isl_meter::{Int, Meter, Overflow};
 use std::alloc::{AllocError, Global};
 
@@ -78,24 +79,7 @@ impl Row {
 }
 
 impl Row {
-    ghost use Rattle.isl_piece.specs.Row.{HoldsRow, IsWellFormed, IsRowWithin, FormPassesLimit, value_at};
-
-    /// The number that the form has at the point: the sum of the products, in order, and the constant.
-    #[tactic(auto, using(std::proofs::lemmas::Grind::common_steps, crate::proofs::RowLemmas::value_steps))]
-    fn value_at(&self, point: &[i128], meter: &mut Meter) -> Result<Int, Overflow>
-        requires { length self.now.coefs ≡ length point.now }
-        ensures { MatchResult result
-            (λ value. (value ≡ value_at self.now point.now) × IsWithin meter.old value × (meter.new ≡ meter.old))
-            (λ _. FormPassesLimit meter.old self.now point.now × (meter.new ≡ overflown meter.old)) }
-    {
-        let coefs = self.coefs.as_slice();
-        let mut sum = Int::ZERO;
-        for i in 0..coefs.len() {
-            let product = coefs[i].mul(Int::new(point[i]), meter)?;
-            sum = sum.add(product, meter)?;
-        }
-        sum.add(self.constant(), meter)
-    }
+    ghost use Rattle.isl_piece.specs.Row.{HoldsRow, IsWellFormed, IsRowWithin, FormPassesLimit};
 
     /// Whether the row holds at the point. Takes no memory and uses no unit.
     pub fn holds_at(&self, point: &[i128], meter: &mut Meter) -> Result<bool, Overflow>
@@ -103,9 +87,9 @@ impl Row {
         requires within { IsRowWithin meter.old self.now }
         ensures { MatchResult result
             (λ holds. (IsTrue holds ↔ HoldsRow self.now point.now) × (meter.new ≡ meter.old))
-            (λ _. FormPassesLimit meter.old self.now point.now × (meter.new ≡ overflown meter.old)) }
+            (λ _. FormPassesLimit meter.old self.now.coefs self.now.constant point.now × (meter.new ≡ overflown meter.old)) }
     {
-        let value = self.value_at(point, meter)?;
+        let value = form_at(self.coefs.as_slice(), self.constant(), point, meter)?;
         Ok(match self.kind {
             RowKind::Zero => value.is_zero(),
             RowKind::AtLeast => !value.is_negative(),

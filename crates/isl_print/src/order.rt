@@ -2,7 +2,6 @@
 
 ghost use Rattle.std.specs.Prelude.{◌≡◌, IfOk, map, string_bytes};
 ghost use Rattle.isl_space.specs.SpaceForm.{space_text_of};
-ghost use Rattle.isl_space.specs.Space.{space_form_of};
 ghost use Rattle.isl_union.specs.Piece.{kept_piece};
 ghost use Rattle.isl_print.specs.Ordered.{in_order};
 ghost use Rattle.isl_print.specs.PieceOrder.{piece_cmp, piece_before};
@@ -58,7 +57,7 @@ pub(crate) fn ordered_rows<'a>(alloc: Global, rows: &'a [Row]) -> Result<Vec<&'a
 pub(crate) struct Titled<'a> {
     title: String,
     pub(crate) piece: &'a Piece,
-    ghost is_title: { string_bytes title ≡ space_text_of (space_form_of piece.now.space) },
+    ghost is_title: { string_bytes title ≡ space_text_of piece.now.space },
 }
 
 fn compare_titled(a: &Titled, b: &Titled) -> Ordering
@@ -76,7 +75,7 @@ pub(crate) fn ordered_pieces<'a>(
 {
     let mut ordered = Vec::with_capacity(alloc, pieces.len())?;
     for piece in pieces {
-        let title = piece.space.text(alloc)?;
+        let title = piece.space().text(alloc)?;
         ordered.push(Titled { title, piece })?;
     }
     ordered.sort_by(|a, b| compare_titled(a, b))?;

@@ -53,9 +53,10 @@ fn write_piece(
     requires { IsKeptPiece params.now (kept_piece piece.now) }
     ensures { OnOk result (string_bytes out.new ≡ string_bytes out.old ++ piece_text params.now (kept_piece piece.now)) }
 {
-    let names = column_names(alloc, params, &piece.space)?;
-    let rows = ordered_rows(alloc, piece.system.rows.as_slice())?;
-    write_tuples(out, &piece.space, &names.as_slice()[params.len()..])?;
+    let space = piece.space();
+    let names = column_names(alloc, params, space)?;
+    let rows = ordered_rows(alloc, piece.system().rows.as_slice())?;
+    write_tuples(out, space, &names.as_slice()[params.len()..])?;
     write_conjunction(out, names.as_slice(), rows.as_slice())
 }
 

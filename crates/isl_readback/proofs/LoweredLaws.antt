@@ -33,7 +33,7 @@ use Rattle.isl_text.specs.Formed.{are_sets, are_maps, are_alike}
 use Rattle.isl_lower.specs.Linear.{Place}
 use Rattle.isl_lower.specs.Rows.{Written, kind_of_compare, equation, written_entries, written_links, written_chains, written_formula, written_body, written_piece, piece_width, piece_place, added, rows_written}
 use Rattle.isl_lower.specs.Value.{IsWellFormedLiteral, piece_lowered, value_lowered, IsValueWithin}
-use Rattle.isl_lower.proofs.ValueLaws.{written_formed, columns_are}
+use Rattle.isl_lower.proofs.ValueLaws.{written_formed, written_moduli, columns_are}
 use Rattle.isl_eval.specs.State.{HasNumbersUpTo}
 use Rattle.isl_eval.proofs.KeptLaws.{value_up_to}
 use Rattle.isl_readback.specs.Written.{IsComparison, HasComparisons, IsSet, IsMap, IsUniform, IsLeaf, IsFlatSpace, IsFlat}
@@ -200,7 +200,7 @@ kept literal plain formed = record {
     piece_kept params piece plain_piece space =
         let n = piece_width params piece in
         let rows = written_formed params piece in
-        by params piece (normal_rows (rows_written params piece)) space plain_piece (normal_rows_well_formed n (rows_written params piece) rows) (normal_rows_normal n (rows_written params piece) rows)
+        by params piece (normal_rows (rows_written params piece)) space plain_piece (normal_rows_well_formed n (rows_written params piece) rows) (normal_rows_normal (rows_written params piece) (written_moduli params piece (rows_written params piece) refl))
 
 -- numbers up to a limit are up to a greater one
 numbers_more : (m n : ℕ) (value : KeptValue) → m ≤ n → HasNumbersUpTo m value → HasNumbersUpTo n value

@@ -1,10 +1,10 @@
 -- The statements of a script that are ahead of a front of it.
-use Rattle.std.proofs.Common.{◌≡◌, ℕ, zero, suc, ◌+◌, ◌-◌, ◌<◌, ◌≤◌, List, [], ◌∷◌, ◌++◌, length, take, true, refl, sym, ◌∙◌, ap, arith, Option, None, Some}
+use Rattle.std.proofs.Common.{◌≡◌, ℕ, zero, suc, ◌+◌, ◌-◌, ◌<◌, ◌≤◌, List, [], ◌∷◌, ◌++◌, length, take, true, false, refl, sym, ◌∙◌, ap, ap₂, subst, arith, Option, None, Some}
 use Rattle.std.specs.Io.KnownBytes.{Consumes, IsAtEnd}
 use Rattle.std.proofs.lemmas.List.{append-nil, append_assoc}
 use Rattle.std.proofs.Math.Seq.{take-append-add}
-use Rattle.isl_stmt.specs.Script.{statements, rest_of, ends}
-use Rattle.isl_stmt.proofs.ScriptLaws.{open_rest, statements-append, statements-open}
+use Rattle.isl_stmt.specs.Script.{statements, rest_of, next_part, ends}
+use Rattle.isl_stmt.proofs.ScriptLaws.{open_rest, next_part-long, rest-append, statements-append, statements-open}
 use Rattle.isl_session.specs.declared.TheConstants.{SCRIPT_MAX}
 use Rattle.isl_stmt.specs.Script.{readable}
 use Rattle.isl_session.specs.Run.{IsScriptOf}
@@ -60,3 +60,16 @@ ahead_first front byte more lt is =
           ∙ ap statements (sym (append_assoc held (byte ∷ []) tail)) ∙ statements-append next tail
           ∙ ap (λ (l : List (List ℕ)). l ++ statements (rest_of next ++ tail)) ended,
     )
+
+-- behind a byte that ends no statement, the part that comes next is longer than what stands before the byte
+pub ahead_long : (front : List ℕ) (byte : ℕ) (more : List ℕ) → length front < SCRIPT_MAX → ends (rest_of front) byte ≡ false
+    → length (rest_of front) < length (next_part (ahead_of front (byte ∷ more)) (rest_of (readable (front ++ byte ∷ more))))
+ahead_long front byte more lt is =
+    let tail = take (SCRIPT_MAX - length front - 1) more in
+    let cut = take_first (SCRIPT_MAX - length front) byte more (omega arith) in
+    let rest = rest_of front in
+    let whole : rest_of (readable (front ++ byte ∷ more)) ≡ rest_of (rest ++ byte ∷ tail) =
+    ap rest_of (readable-append front (byte ∷ more) (omega arith)) ∙ rest-append front (take (SCRIPT_MAX - length front) (byte ∷ more)) ∙ ap (λ (l : List ℕ). rest_of (rest ++ l)) cut in
+    let parts : ahead_of front (byte ∷ more) ≡ statements (rest ++ byte ∷ tail) = ap (λ (l : List ℕ). statements (rest ++ l)) cut in
+    let long = next_part-long rest byte tail (open_rest front) is in
+    omega (arith, long, ap₂ (λ (ps : List (List ℕ)) (l : List ℕ). length (next_part ps l)) parts whole)

@@ -1,23 +1,24 @@
 -- From what the session and the ends say to what a run has done.
-use Rattle.std.proofs.Common.{◌≡◌, ℕ, ◌+◌, ◌≤◌, List, [], ◌∷◌, ◌++◌, length, take, true, refl, sym, ◌∙◌, ap, subst, arith, Option, None, Some, Result, Ok, Err}
+use Rattle.std.proofs.Common.{◌≡◌, ℕ, ◌+◌, ◌≤◌, List, [], ◌∷◌, ◌++◌, length, take, true, false, refl, sym, ◌∙◌, ap, subst, arith, Option, None, Some, Result, Ok, Err}
 use Rattle.std.specs.List.{concat}
 use Rattle.std.specs.Result.{OnOk, OnErr, IfErr}
 use mathlib.Core.Logic.{inl, inr}
 use Rattle.std.specs.Io.KnownBytes.{Appends, Consumes, IsAtEnd}
 use Rattle.std.proofs.lemmas.List.{append-nil, append_assoc, length-append}
 use Rattle.isl_math.specs.Count.{Rose}
-use Rattle.isl_meter.specs.Gauge.{Gauge, limit_of}
-use Rattle.isl_stmt.specs.Script.{statements, rest_of, ends, IsBlank}
+use Rattle.isl_meter.specs.Gauge.{Gauge}
+use Rattle.isl_stmt.specs.Script.{statements, rest_of, readable, next_part, ends, IsBlank}
 use Rattle.isl_text.specs.declared.refusal.Refusal.{Refusal}
-use Rattle.isl_eval.specs.Machine.{Refuses}
+use Rattle.isl_eval.specs.Causes.{Refuses}
+use Rattle.isl_eval.specs.Machine.{started}
 use Rattle.isl_session.specs.declared.fault.Fault.{Fault}
 use Rattle.isl_session.specs.declared.TheConstants.{SCRIPT_MAX}
-use Rattle.isl_session.specs.Place.{Place, at_words, in_statement, past_limit, at_end, at_read, at_write, anywhere, place_of}
-use Rattle.isl_session.specs.View.{View, BreaksIn, Fed, IsMeterAt, Stopped, fresh}
+use Rattle.isl_session.specs.Place.{Place, at_words, in_statement, too_long, past_limit, at_end, at_read, at_write, anywhere, place_of}
+use Rattle.isl_session.specs.View.{View, BreaksIn, Fed, IsMeterAt, Stopped, fresh, moment_of}
 use Rattle.isl_session.specs.Status.{StatusView}
 use Rattle.isl_session.specs.Lines.{fault_line}
-use Rattle.isl_session.specs.Run.{Answered, Ended, Halts, HasCause, IsReadThrough, IsScriptOf, OfFirst, Outside, Progress, Tells, Wrote, number_at}
-use Rattle.isl_session.proofs.AheadLemmas.{ahead_of, statements-readable, ahead_end, ahead_full, ahead_first}
+use Rattle.isl_session.specs.Run.{Answered, Ended, Halts, HasCause, IsScriptOf, OfFirst, Outside, Progress, Tells, Wrote, number_at}
+use Rattle.isl_session.proofs.AheadLemmas.{ahead_of, statements-readable, ahead_end, ahead_full, ahead_first, ahead_long}
 
 -- what was told, unless telling failed
 pub tells_of : {T E : Type 0} (r : Result T E) (A R : Type 0) → OnOk r A → OnErr r R → (R → ⊥) → A
@@ -27,11 +28,6 @@ tells_of (Err e) A R ok err not = absurd (not err)
 pub err_of : {T E : Type 0} {P Q : E → Type 0} (r : Result T E) → ((e : E) → P e → Q e) → IfErr r P → IfErr r Q
 err_of (Ok x) on err = tt
 err_of (Err e) on err = on e err
-
--- no more is read of a script than one byte behind its last
-pub few_read : (left : Option (List ℕ)) (taken : List ℕ) → IsReadThrough left taken → length taken ≤ SCRIPT_MAX + 1
-few_read left taken (inl end) = omega (arith, end.1)
-few_read left taken (inr full) = omega (arith, full)
 
 -- the parts of a status
 module _ (status : StatusView) (refusal : Option Refusal) (meter : Gauge) (is : status ≡ record { refusal = refusal; meter = Some meter }) where
@@ -145,8 +141,19 @@ module _ (first : Gauge) (script : List ℕ) (old new : Outside) (status : Statu
           let ended = subst (λ (l : List ℕ). ends l stopped.byte ≡ true) rest breaks.1 in
           let first_ahead = ahead_first stopped.front stopped.byte more (omega (arith, stopped.fed.taken, breaks.0)) ended in
           let at_front = stopped.at_front in
-          let P : List ℕ → Type 0 = λ bytes. Refuses (limit_of at_front.meter) at_front.state bytes at_front.meter session.meter refusal in
+          let P : List ℕ → Type 0 = λ bytes. Refuses (started (moment_of at_front)) bytes session.meter refusal in
           halted_at in_statement at (subst (OfFirst P) (sym first_ahead.1) (subst P rest breaks.2)) gained_is number
+
+      refused_too_long : place_of refusal ≡ too_long → Answered first script old new status
+      refused_too_long at =
+          let breaks = breaks_at too_long at in
+          let front = stopped.front in
+          let rest = stopped.fed.rest in
+          let held = subst (λ (l : List ℕ). ends l stopped.byte ≡ false) rest breaks.1 in
+          let long = ahead_long front stopped.byte more (omega (arith, stopped.fed.taken, breaks.0)) held in
+          let same : rest_of (readable (front ++ stopped.byte ∷ more)) ≡ rest_of (readable script) = ap (λ (l : List ℕ). rest_of (readable l)) (sym split_at) in
+          halted_at too_long at (omega (arith, breaks.2, ap length rest, long, ap (λ (l : List ℕ). length (next_part (ahead_of front (stopped.byte ∷ more)) l)) same))
+          gained_is number
 
       refused_past_limit : place_of refusal ≡ past_limit → Answered first script old new status
       refused_past_limit at =
@@ -162,6 +169,7 @@ module _ (first : Gauge) (script : List ℕ) (old new : Outside) (status : Statu
         → Halts (Rose old.reads new.reads) (Rose old.writes new.writes) (IsAtEnd new.left) (fresh first) taken gained session (fault_of statement refusal) place → Answered first script old new status
     answered_up_to at_words at none_left h = absurd h
     answered_up_to in_statement at none_left h = refused_in_statement h.0 h.1 h.2 at
+    answered_up_to too_long at none_left h = refused_too_long h.0 h.1 h.2 at
     answered_up_to past_limit at none_left h = refused_past_limit h.0 h.1 h.2 at
     answered_up_to anywhere at none_left h = halted_at h.0 h.1 h.2 anywhere at tt h.1 (number h.0 h.1 h.2)
     answered_up_to at_read at none_left h =

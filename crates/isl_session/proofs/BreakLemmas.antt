@@ -1,32 +1,47 @@
 -- A statement that is refused stops its session at the byte that ends it.
-use Rattle.std.proofs.Common.{◌≡◌, ℕ, ℤ, ◌<◌, List, true}
-use Rattle.isl_meter.specs.Gauge.{Gauge, IsKept, limit_of}
+use Rattle.std.proofs.Common.{◌≡◌, ℕ, ◌<◌, List, [], ◌∷◌, true, refl, sym, ◌∙◌, ap, subst, inl, inr, ◌⊎◌}
+use Rattle.isl_meter.specs.Gauge.{Gauge, IsKept}
 use Rattle.isl_stmt.specs.Script.{ends}
 use Rattle.isl_text.specs.declared.refusal.Refusal.{Refusal}
-use Rattle.isl_text.specs.declared.refusal.Refusal.TheVariants.{Usage, Unfinished, ReadFault, WriteFault, NoMemory, ScriptTooLong}
-use Rattle.isl_eval.specs.Bindings.{Bindings}
-use Rattle.isl_eval.specs.Machine.{Refuses}
+use Rattle.isl_text.specs.declared.refusal.Refusal.TheVariants.{Overflow, Budget, NoMemory}
+use Rattle.isl_eval.specs.State.{Moment}
+use Rattle.isl_eval.specs.Causes as c
+use Rattle.isl_eval.specs.Causes.{Cause, FirstGives, Refuses, causes, refusal_of}
+use Rattle.isl_eval.specs.Machine.{started}
 use Rattle.isl_session.specs.declared.TheConstants.{SCRIPT_MAX}
-use Rattle.isl_session.specs.Place.{place_of}
-use Rattle.isl_session.specs.View.{View, BreaksIn, IsMeterAt}
+use Rattle.isl_session.specs.Place.{Place, in_statement, anywhere, place_of}
+use Rattle.isl_session.specs.View.{View, BreaksIn, IsMeterAt, moment_of}
+
+-- the causes of a statement's bytes come about where the statement ends
+place_of_cause : (cause : Cause) → place_of (refusal_of cause) ≡ in_statement
+place_of_cause c.no_token = refl
+place_of_cause c.too_deep = refl
+place_of_cause c.no_statement = refl
+place_of_cause c.too_wide = refl
+place_of_cause c.wide_number = refl
+place_of_cause c.unsupported = refl
+place_of_cause c.unknown_name = refl
+place_of_cause c.wrong_kind = refl
+place_of_cause c.no_element = refl
+
+place_of_first : (There : Cause → Type 0) (all : List Cause) (refusal : Refusal) → FirstGives There all refusal → place_of refusal ≡ in_statement
+place_of_first There [] refusal gives = absurd gives
+place_of_first There (cause ∷ later) refusal (inl here) = ap place_of here.1 ∙ place_of_cause cause
+place_of_first There (cause ∷ later) refusal (inr behind) = place_of_first There later refusal behind.1
 
 pub breaks_in_statement : (refusal : Refusal) (view : View) (byte : ℕ) (now : Gauge) → view.taken < SCRIPT_MAX → ends view.rest byte ≡ true
-    → Refuses (limit_of view.meter) view.state view.rest view.meter now refusal → BreaksIn (place_of refusal) view byte now refusal
-breaks_in_statement Usage view byte now room ended cause = absurd cause
-breaks_in_statement Unfinished view byte now room ended cause = absurd cause
-breaks_in_statement ReadFault view byte now room ended cause = absurd cause
-breaks_in_statement WriteFault view byte now room ended cause = absurd cause
-breaks_in_statement ScriptTooLong view byte now room ended cause = absurd cause
+    → Refuses (started (moment_of view)) view.rest now refusal → BreaksIn (place_of refusal) view byte now refusal
+breaks_in_statement Overflow view byte now room ended cause = (room, ended, cause)
+breaks_in_statement Budget view byte now room ended cause = (room, ended, cause)
 breaks_in_statement NoMemory view byte now room ended cause = tt
-breaks_in_statement refusal view byte now room ended cause = (room, ended, cause)
+breaks_in_statement refusal view byte now room ended cause =
+    subst (λ (p : Place). BreaksIn p view byte now refusal) (sym (place_of_first (c.IsThere (started (moment_of view)) view.rest) causes refusal cause.0)) (room, ended, cause)
 
 -- the meter of a statement that is refused
-pub meter_in_statement : (limit : ℤ) (state : Bindings) (bytes : List ℕ) (before now : Gauge) (refusal : Refusal) → Refuses limit state bytes before now refusal
-    → IsKept before now → now.units ≡ before.units → IsMeterAt (place_of refusal) before now
-meter_in_statement limit state bytes before now Usage cause kept units = absurd cause
-meter_in_statement limit state bytes before now Unfinished cause kept units = absurd cause
-meter_in_statement limit state bytes before now ReadFault cause kept units = absurd cause
-meter_in_statement limit state bytes before now WriteFault cause kept units = absurd cause
-meter_in_statement limit state bytes before now ScriptTooLong cause kept units = absurd cause
-meter_in_statement limit state bytes before now NoMemory cause kept units = (kept, units)
-meter_in_statement limit state bytes before now refusal cause kept units = (kept, units)
+pub meter_in_statement : (before : Moment) (bytes : List ℕ) (now : Gauge) (refusal : Refusal) → Refuses (started before) bytes now refusal
+    → IsKept (record before.meter { units = 0 }) now → IsMeterAt (place_of refusal) before.meter now
+meter_in_statement before bytes now Overflow cause kept = kept
+meter_in_statement before bytes now Budget cause kept = kept
+meter_in_statement before bytes now NoMemory cause kept = kept
+meter_in_statement before bytes now refusal cause kept =
+    subst (λ (p : Place). IsMeterAt p before.meter now) (sym (place_of_first (c.IsThere (started before) bytes) causes refusal cause.0)) kept

@@ -2,21 +2,20 @@
 use Rattle.std.proofs.Common.{◌≡◌, ℕ, ◌+◌, ◌<◌, true, false, List, [], ◌∷◌, ◌++◌, sym, ◌∙◌, ap, subst, arith, Option, None, Some}
 use Rattle.std.specs.Option.{IfNone}
 use Rattle.std.proofs.lemmas.List.{append-nil}
-use Rattle.isl_meter.specs.Gauge.{limit_of}
 use Rattle.isl_stmt.specs.Script.{statements, rest_of, ends, IsOpen}
 use Rattle.isl_stmt.proofs.ScriptLaws.{open_rest, rest-open, statements-open}
-use Rattle.isl_eval.specs.Bindings.{Bindings}
-use Rattle.isl_eval.specs.Machine.{Answers, Run}
+use Rattle.isl_eval.specs.State.{Moment}
+use Rattle.isl_eval.specs.Machine.{Answer, Answers, started}
 use Rattle.isl_session.specs.declared.TheConstants.{SCRIPT_MAX}
-use Rattle.isl_session.specs.View.{View, Carries, Fed, IsReady}
+use Rattle.isl_session.specs.View.{View, Carries, Fed, Gives, IsReady, moment_of}
 use Rattle.isl_session.proofs.MeterLemmas.{carries_refl}
-use Rattle.isl_session.proofs.RunLemmas.{no_run, one_run}
+use Rattle.isl_session.proofs.RunLemmas.{gives_none, gives_one}
 use Rattle.isl_session.proofs.ScriptLemmas.{statements-held, rest_of-held, statements-ended, rest_of-ended}
 
 -- nothing of the script
 pub ready_fed : (view : View) → IsReady view → Fed view [] [] view
 ready_fed view ready = record {
-  run = subst (λ (l : List (List ℕ)). Run (limit_of view.meter) view.state l [] view.state) (sym (ap statements (append-nil view.rest) ∙ statements-open view.rest ready.open_rest)) (no_run (limit_of view.meter) view.state);
+  run = subst (λ (l : List (List ℕ)). Gives (moment_of view) l [] (moment_of view)) (sym (ap statements (append-nil view.rest) ∙ statements-open view.rest ready.open_rest)) (gives_none (moment_of view));
   rest = sym (ap rest_of (append-nil view.rest) ∙ rest-open view.rest ready.open_rest);
   taken = omega arith;
   within = ready.within;
@@ -36,11 +35,11 @@ fed_ready a x ps b fed =
 
 module _ (old : View) (ready : IsReady old) (byte : ℕ) (new : View) (room : old.taken < SCRIPT_MAX) (taken : new.taken ≡ old.taken + 1) (sound : new.fault ≡ None) (meter : Carries old.meter new.meter) where
   -- a byte that ends a statement
-  pub fed_end : (answer : List ℕ) → ends old.rest byte ≡ true → Answers (limit_of old.meter) old.state old.rest new.state answer → new.rest ≡ [] → new.answered ≡ old.answered + 1 → Fed old (byte ∷ []) (answer ∷ []) new
+  pub fed_end : (answer : Answer) → ends old.rest byte ≡ true → Answers (started (moment_of old)) old.rest (moment_of new) answer → new.rest ≡ [] → new.answered ≡ old.answered + 1 → Fed old (byte ∷ []) (answer.bytes ∷ []) new
   fed_end answer is one rest answered = record {
-    run = subst (λ (l : List (List ℕ)). Run (limit_of old.meter) old.state l (answer ∷ []) new.state)
+    run = subst (λ (l : List (List ℕ)). Gives (moment_of old) l (answer.bytes ∷ []) (moment_of new))
         (sym (statements-ended old.rest byte ready.open_rest is))
-        (one_run (limit_of old.meter) old.state old.rest answer new.state one);
+        (gives_one (moment_of old) old.rest answer (moment_of new) one);
     rest = rest ∙ sym (rest_of-ended old.rest byte ready.open_rest is);
     taken = taken;
     within = omega arith;
@@ -50,11 +49,11 @@ module _ (old : View) (ready : IsReady old) (byte : ℕ) (new : View) (room : ol
   }
 
   -- another byte
-  pub fed_held : ends old.rest byte ≡ false → new.rest ≡ old.rest ++ byte ∷ [] → new.state ≡ old.state → new.answered ≡ old.answered → Fed old (byte ∷ []) [] new
-  fed_held is rest state answered = record {
-    run = subst (λ (l : List (List ℕ)). Run (limit_of old.meter) old.state l [] new.state)
+  pub fed_held : ends old.rest byte ≡ false → new.rest ≡ old.rest ++ byte ∷ [] → moment_of new ≡ moment_of old → new.answered ≡ old.answered → Fed old (byte ∷ []) [] new
+  fed_held is rest moment answered = record {
+    run = subst (λ (l : List (List ℕ)). Gives (moment_of old) l [] (moment_of new))
         (sym (statements-held old.rest byte ready.open_rest is))
-        (subst (λ (t : Bindings). Run (limit_of old.meter) old.state [] [] t) (sym state) (no_run (limit_of old.meter) old.state));
+        (subst (λ (m : Moment). Gives (moment_of old) [] [] m) (sym moment) (gives_none (moment_of old)));
     rest = rest ∙ sym (rest_of-held old.rest byte ready.open_rest is);
     taken = taken;
     within = omega arith;

@@ -6,10 +6,9 @@ use Rattle.std.proofs.lemmas.List.Folds.{concat-append}
 use Rattle.isl_meter.specs.Gauge.{Gauge, IsKept}
 use Rattle.isl_text.specs.declared.refusal.Refusal.TheVariants.{NoMemory}
 use Rattle.isl_session.specs.declared.fault.Fault.{Fault}
-use Rattle.isl_session.specs.Place.{Place, at_words, in_statement, past_limit, at_end, at_read, at_write, anywhere, place_of}
+use Rattle.isl_session.specs.Place.{Place, at_words, in_statement, too_long, past_limit, at_end, at_read, at_write, anywhere, place_of}
 use Rattle.isl_session.specs.View.{View, Fed, IsMeterAt, IsReady, Stopped, BreaksIn}
 use Rattle.isl_session.specs.Run.{Halts, IsCutShort}
-use Rattle.isl_session.proofs.MeterLemmas.{kept_refl}
 use Rattle.isl_session.proofs.FedLemmas.{ready_fed}
 use Rattle.isl_session.proofs.RunLemmas.{Fed-append}
 
@@ -27,25 +26,6 @@ Stopped-append a x ps b y z qs c fault fed stopped = record {
   same = stopped.same;
   meter = stopped.meter;
 }
-
--- a session that is refused before it took anything, for want of memory
-pub stopped_first : (view : View) → IsReady view → (piece : List ℕ) → 0 < length piece → (new : View) (fault : Fault) → fault ≡ record { statement = view.answered + 1; refusal = NoMemory }
-    → new ≡ record view { fault = Some fault } → Stopped view piece [] new fault
-stopped_first view ready [] some new fault is same = absurd (omega arith)
-stopped_first view ready (byte ∷ behind) some new fault is same =
-    let meter : new.meter ≡ view.meter = ap (λ (v : View). v.meter) same in
-    record {
-      front = [];
-      byte = byte;
-      behind = behind;
-      split = refl;
-      at_front = view;
-      fed = ready_fed view ready;
-      breaks = subst (λ (f : Fault). BreaksIn (place_of f.refusal) view byte new.meter f.refusal) (sym is) tt;
-      number = ap (λ (f : Fault). f.statement) is;
-      same = same ∙ ap (λ (m : Gauge). record view { meter = m; fault = Some fault }) (sym meter);
-      meter = subst (λ (f : Fault). IsMeterAt (place_of f.refusal) view.meter new.meter) (sym is) (subst (λ (m : Gauge). IsKept view.meter m) (sym meter) (kept_refl view.meter), ap (λ (m : Gauge). m.units) meter);
-    }
 
 -- answers that went out whole, and then some of which the last did not
 pub CutShort-append : (ps qs : List (List ℕ)) (gained : List ℕ) → IsCutShort qs gained → IsCutShort (ps ++ qs) (concat ps ++ gained)
@@ -83,6 +63,7 @@ module _ (read_failed write_failed ended : Type 0) where
       go at_read breaks = absurd breaks
       go at_write breaks = absurd breaks
       go in_statement breaks = (answers, is, stopped)
+      go too_long breaks = (answers, is, stopped)
       go past_limit breaks = (answers, is, stopped)
       go anywhere breaks = (answers, is, stopped)
 
@@ -109,12 +90,6 @@ module _ (read_failed write_failed ended : Type 0) where
           ),
         )
     halts_on in_statement halts = stopped_on halts
+    halts_on too_long halts = stopped_on halts
     halts_on past_limit halts = stopped_on halts
     halts_on anywhere halts = stopped_on halts
-
-  -- the same, of all that a session takes
-  pub halts_alone : (view : View) → IsReady view → (piece gained : List ℕ) (new : View) (fault : Fault) → Halts ⊥ write_failed ⊥ view piece gained new fault (place_of fault.refusal)
-      → Halts read_failed write_failed ended view piece gained new fault (place_of fault.refusal)
-  halts_alone view ready piece gained new fault halts =
-      subst (λ (l : List ℕ). Halts read_failed write_failed ended view l gained new fault (place_of fault.refusal)) (append-nil piece)
-      (halts_on write_failed (λ h. h) view [] [] view piece [] gained new fault (ready_fed view ready) (place_of fault.refusal) halts)

@@ -1,29 +1,30 @@
 -- A session's meter over one statement after another.
-use Rattle.std.proofs.Common.{◌≡◌, ℕ, ℤ, Bool, List, refl, ◌∙◌, ap, arith}
-use Rattle.isl_meter.specs.Gauge.{Gauge, IsCharged, IsKept, limit_of}
-use Rattle.isl_space.specs.Name.{Name}
-use Rattle.isl_session.specs.Choices.{Choices, gauge_of}
+use Rattle.std.proofs.Common.{◌≡◌, ℕ, refl, sym, ap, subst, arith}
+use Rattle.isl_math.specs.Count.{Rose}
+use Rattle.isl_math.proofs.CountLaws.{rose_by_one}
+use Rattle.isl_meter.specs.Gauge.{Gauge, IsCharged, IsKept, limit_of, overflown, spent_out}
 use Rattle.isl_session.specs.View.{Carries}
 
 pub carries_refl : (g : Gauge) → Carries g g
-carries_refl g = record { same = refl; units = refl }
+carries_refl g = refl
 
 pub carries_trans : (g h k : Gauge) → Carries g h → Carries h k → Carries g k
-carries_trans g h k first second = record {
-  same = let a = first.same in let b = second.same in cc;
-  units = second.units ∙ first.units;
-}
+carries_trans g h k first second = cc
 
-pub carries_charged : (g h : Gauge) → IsCharged g h → h.units ≡ g.units → Carries g h
-carries_charged g h charged units = record { same = charged.same; units = units }
+-- a statement that begins with the whole budget
+pub carries_started : (g h : Gauge) → IsCharged (record g { units = 0 }) h → Carries g h
+carries_started g h charged = charged.same
 
 pub carries_limit : (g h : Gauge) → Carries g h → limit_of h ≡ limit_of g
-carries_limit g h carried = ap limit_of carried.same
+carries_limit g h carried = ap limit_of carried
 
-pub kept_refl : (g : Gauge) → IsKept g g
-kept_refl g = record { bits = refl; budget = refl; units = omega arith; overflows = omega arith; spents = omega arith }
+-- a meter that only begins a statement, or not even that
+pub kept_begun : (g : Gauge) → IsKept (record g { units = 0 }) g
+kept_begun g = record { bits = refl; budget = refl; units = omega arith; overflows = omega arith; spents = omega arith }
 
--- the meter does not depend on the numbers of parameters
-pub gauge_of_bits : (choices : Choices) (bits budget : ℕ) (at : List (Name × ℤ)) (run : Bool) → choices ≡ record { bits = bits; budget = budget; at = at; run = run }
-    → gauge_of choices ≡ record { bits = bits; budget = budget; units = 0; overflows = 0; spents = 0 }
-gauge_of_bits choices bits budget at run is = ap gauge_of is
+-- a counted refusal
+pub overflow_rose : (g h : Gauge) → IsCharged (overflown g) h → Rose g.overflows h.overflows
+overflow_rose g h charged = subst (λ (n : ℕ). Rose g.overflows n) (sym (ap (λ (m : Gauge). m.overflows) charged.same)) (rose_by_one g.overflows)
+
+pub spent_rose : (g h : Gauge) → IsCharged (spent_out g) h → Rose g.spents h.spents
+spent_rose g h charged = subst (λ (n : ℕ). Rose g.spents n) (sym (ap (λ (m : Gauge). m.spents) charged.same)) (rose_by_one g.spents)

@@ -1,4 +1,3 @@
-pub mod Choices
 pub mod Lines
 pub mod Place
 pub mod Run

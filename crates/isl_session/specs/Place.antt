@@ -1,12 +1,14 @@
 -- Where refusals come about.
 use Rattle.isl_text.specs.declared.refusal.Refusal.{Refusal}
-use Rattle.isl_text.specs.declared.refusal.Refusal.TheVariants.{Usage, Unfinished, ReadFault, WriteFault, NoMemory, ScriptTooLong}
+use Rattle.isl_text.specs.declared.refusal.Refusal.TheVariants.{Usage, Syntax, UnknownName, WrongKind, NoMinimum, Unbounded, SeveralTimes, TimeShape, Nested, Parametric, TooWide, TooDeep, WideNumber, TooLong, Unfinished, Overflow, Budget, ReadFault, WriteFault, NoMemory, ScriptTooLong, NoElement}
 
 pub data Place : Type 0 where
   -- before anything is read
   at_words : Place
   -- at the end of a statement, which is read and worked out
   in_statement : Place
+  -- at the byte behind the last one that a statement, or the rest, may have
+  too_long : Place
   -- at the byte behind the last one that a script may have
   past_limit : Place
   -- where the script ended
@@ -23,4 +25,19 @@ place_of ReadFault = at_read
 place_of WriteFault = at_write
 place_of NoMemory = anywhere
 place_of ScriptTooLong = past_limit
-place_of refusal = in_statement
+place_of TooLong = too_long
+place_of Syntax = in_statement
+place_of UnknownName = in_statement
+place_of WrongKind = in_statement
+place_of NoMinimum = in_statement
+place_of Unbounded = in_statement
+place_of SeveralTimes = in_statement
+place_of TimeShape = in_statement
+place_of Nested = in_statement
+place_of Parametric = in_statement
+place_of TooWide = in_statement
+place_of TooDeep = in_statement
+place_of WideNumber = in_statement
+place_of Overflow = in_statement
+place_of Budget = in_statement
+place_of NoElement = in_statement

@@ -3,15 +3,16 @@ use Rattle.std.specs.Prelude.{◌≡◌, ◌⊎◌, ℕ, ◌+◌, ◌<◌, ◌�
 use Rattle.std.specs.List.{concat}
 use Rattle.std.specs.Io.KnownBytes.{Appends, Consumes, IsAtEnd}
 use Rattle.isl_math.specs.Count.{Rose}
-use Rattle.isl_meter.specs.Gauge.{Gauge, limit_of}
-use Rattle.isl_stmt.specs.Script.{statements, rest_of, readable, IsBlank}
+use Rattle.isl_meter.specs.Gauge.{Gauge}
+use Rattle.isl_stmt.specs.Script.{statements, rest_of, readable, next_part, IsBlank}
 use Rattle.isl_text.specs.declared.refusal.Refusal.{Refusal}
-use Rattle.isl_eval.specs.Bindings.{Bindings, unbound}
-use Rattle.isl_eval.specs.Machine.{Refuses, Run}
+use Rattle.isl_eval.specs.State.{StateView, Moment, unbound}
+use Rattle.isl_eval.specs.Causes.{Refuses}
+use Rattle.isl_eval.specs.Machine.{started}
 use Rattle.isl_session.specs.declared.fault.Fault.{Fault}
-use Rattle.isl_session.specs.declared.TheConstants.{SCRIPT_MAX}
-use Rattle.isl_session.specs.Place.{Place, at_words, in_statement, past_limit, at_end, at_read, at_write, anywhere, place_of}
-use Rattle.isl_session.specs.View.{View, Carries, Fed, IsMeterAt, Stopped}
+use Rattle.isl_session.specs.declared.TheConstants.{SCRIPT_MAX, STATEMENT_MAX}
+use Rattle.isl_session.specs.Place.{Place, at_words, in_statement, too_long, past_limit, at_end, at_read, at_write, anywhere, place_of}
+use Rattle.isl_session.specs.View.{View, Carries, Fed, Gives, IsMeterAt, Stopped}
 use Rattle.isl_session.specs.Status.{StatusView}
 use Rattle.isl_session.specs.Lines.{fault_line}
 
@@ -36,16 +37,9 @@ Halts read_failed write_failed ended old taken gained new fault at_end =
     ended × ((answers : List (List ℕ)) × (before : View) × (gained ≡ concat answers) × Fed old taken answers before × (IsBlank before.rest → ⊥)
     × (fault.statement ≡ before.answered + 1) × (new ≡ record before { fault = Some fault }))
 Halts read_failed write_failed ended old taken gained new fault in_statement = (answers : List (List ℕ)) × (gained ≡ concat answers) × Stopped old taken answers new fault
+Halts read_failed write_failed ended old taken gained new fault too_long = (answers : List (List ℕ)) × (gained ≡ concat answers) × Stopped old taken answers new fault
 Halts read_failed write_failed ended old taken gained new fault past_limit = (answers : List (List ℕ)) × (gained ≡ concat answers) × Stopped old taken answers new fault
 Halts read_failed write_failed ended old taken gained new fault anywhere = (answers : List (List ℕ)) × (gained ≡ concat answers) × Stopped old taken answers new fault
-
--- A source that has this left, and that this much was read of, is at its end, or no more may be read of a script.
-abbrev pub IsReadThrough : Option (List ℕ) → List ℕ → Type 0
-IsReadThrough left taken = IsAtEnd left × (length taken ≤ SCRIPT_MAX) ⊎ length taken ≡ SCRIPT_MAX + 1
-
--- the whole of what a source had left was read, or as much as may be read of a script
-abbrev pub IsReadWhole : Option (List ℕ) → Option (List ℕ) → Type 0
-IsReadWhole old new = (taken : List ℕ) × Consumes old new taken × IsReadThrough new taken
 
 -- The two ends of a program, and where it tells of a fault, as one moment sees them.
 pub record Outside : Type 0 where
@@ -68,10 +62,10 @@ pub record Progress (first : Gauge) (script : List ℕ) : Type 0 where
   pub ahead : List (List ℕ)
   pub split : statements (readable script) ≡ done ++ ahead
   pub answers : List (List ℕ)
-  pub state : Bindings
-  pub run : Run (limit_of first) unbound done answers state
-  -- the meter as the first statement ahead begins
+  pub state : StateView
+  -- the meter behind them
   pub meter : Gauge
+  pub run : Gives (record { state = unbound; meter = first }) done answers (record { state = state; meter = meter })
   pub carried : Carries first meter
 
 -- the first of these statements has P
@@ -83,7 +77,8 @@ OfFirst P (bytes ∷ later) = P bytes
 abbrev pub HasCause : (first : Gauge) (script : List ℕ) → Progress first script → List ℕ → Gauge → Outside → Outside → Refusal → Place → Type 0
 HasCause first script progress taken now old new refusal at_words = ⊥
 HasCause first script progress taken now old new refusal in_statement =
-    OfFirst (λ bytes. Refuses (limit_of progress.meter) progress.state bytes progress.meter now refusal) progress.ahead
+    OfFirst (λ bytes. Refuses (started (record { state = progress.state; meter = progress.meter })) bytes now refusal) progress.ahead
+HasCause first script progress taken now old new refusal too_long = STATEMENT_MAX < length (next_part progress.ahead (rest_of (readable script)))
 HasCause first script progress taken now old new refusal past_limit = (progress.ahead ≡ []) × (length taken ≡ SCRIPT_MAX + 1)
 HasCause first script progress taken now old new refusal at_end =
     (progress.ahead ≡ []) × (taken ≡ script) × (length script ≤ SCRIPT_MAX) × IsAtEnd new.left × (IsBlank (rest_of script) → ⊥)

@@ -3,9 +3,9 @@ use Rattle.std.specs.Prelude.{◌≤◌, length}
 use Rattle.isl_meter.specs.Gauge.{limit_of}
 use Rattle.isl_stmt.specs.Script.{IsOpen}
 use Rattle.isl_stmt.specs.Cutter.{IsAt}
-use Rattle.isl_eval.specs.Bindings.{Fits}
+use Rattle.isl_eval.specs.State.{Fits}
 use Rattle.isl_session.specs.declared.session.Session.TheInside.{Inside}
-use Rattle.isl_session.specs.declared.TheConstants.{SCRIPT_MAX}
+use Rattle.isl_session.specs.declared.TheConstants.{SCRIPT_MAX, STATEMENT_MAX}
 use Rattle.isl_session.specs.View.{View}
 
 abbrev pub view_of : Inside → View
@@ -16,6 +16,7 @@ pub record IsSound (s : Inside) : Type 0 where
   pub open_rest : IsOpen s.rest.items
   pub place : IsAt s.cutter s.rest.items
   pub held : length s.rest.items ≤ s.taken
+  pub short : length s.rest.items ≤ STATEMENT_MAX
   pub within : s.taken ≤ SCRIPT_MAX
   pub answered : s.answered ≤ s.taken
   pub fits : Fits (limit_of s.meter) s.state

@@ -1,19 +1,25 @@
 -- A session as it is seen from outside, and what a piece of a script does to it.
-use Rattle.std.specs.Prelude.{◌≡◌, ℕ, ◌+◌, ◌<◌, ◌≤◌, List, [], ◌∷◌, ◌++◌, length, Option, Some, None, true, Result, MatchResult}
+use Rattle.std.specs.Prelude.{◌≡◌, ℕ, ◌+◌, ◌<◌, ◌≤◌, List, [], ◌∷◌, ◌++◌, length, map, Option, Some, None, true, false, Result, MatchResult}
 use Rattle.std.specs.List.{concat}
-use Rattle.isl_meter.specs.Gauge.{Gauge, IsKept, limit_of}
+use Rattle.isl_meter.specs.Gauge.{Gauge, IsKept}
 use Rattle.isl_stmt.specs.Script.{statements, rest_of, ends, IsBlank, IsOpen}
 use Rattle.isl_text.specs.declared.refusal.Refusal.{Refusal}
 use Rattle.isl_text.specs.declared.refusal.Refusal.TheVariants.{Unfinished}
-use Rattle.isl_eval.specs.Bindings.{Bindings, unbound}
-use Rattle.isl_eval.specs.Machine.{Refuses, Run}
+use Rattle.isl_eval.specs.State.{StateView, Moment, unbound}
+use Rattle.isl_eval.specs.Causes.{Refuses}
+use Rattle.isl_eval.specs.Machine.{Answer, Run, started}
 use Rattle.isl_session.specs.declared.fault.Fault.{Fault}
-use Rattle.isl_session.specs.declared.TheConstants.{SCRIPT_MAX}
-use Rattle.isl_session.specs.Place.{Place, at_words, in_statement, past_limit, at_end, at_read, at_write, anywhere, place_of}
+use Rattle.isl_session.specs.declared.TheConstants.{SCRIPT_MAX, STATEMENT_MAX}
+use Rattle.isl_session.specs.Place.{Place, at_words, in_statement, too_long, past_limit, at_end, at_read, at_write, anywhere, place_of}
+use Rattle.isl_words.specs.Options.{OptionsView}
+
+-- the meter of a session that begins with these options
+abbrev pub gauge_of : OptionsView → Gauge
+gauge_of options = record { bits = options.bits; budget = options.budget; units = 0; overflows = 0; spents = 0 }
 
 pub record View : Type 0 where
   -- what the statements so far have bound
-  pub state : Bindings
+  pub state : StateView
   -- the bytes behind the last statement's end
   pub rest : List ℕ
   -- how many bytes of the script were taken
@@ -23,18 +29,27 @@ pub record View : Type 0 where
   pub fault : Option Fault
   pub meter : Gauge
 
+-- what is bound, and the meter
+abbrev pub moment_of : View → Moment
+moment_of view = record { state = view.state; meter = view.meter }
+
 -- a session that has taken nothing
 abbrev pub fresh : Gauge → View
 fresh meter = record { state = unbound; rest = []; taken = 0; answered = 0; fault = None; meter = meter }
 
--- Statements that are answered raise no count of the session's meter. No unit is spent.
-pub record Carries (old new : Gauge) : Type 0 where
-  pub same : new ≡ record old { units = new.units }
-  pub units : new.units ≡ old.units
+-- These statements are answered one after another, with these texts.
+pub record Gives (before : Moment) (parts texts : List (List ℕ)) (after : Moment) : Type 0 where
+  pub answers : List Answer
+  pub run : Run before parts answers after
+  pub written : texts ≡ map (λ answer. answer.bytes) answers
+
+-- a meter that no refusal was counted by since
+abbrev pub Carries : Gauge → Gauge → Type 0
+Carries old new = new ≡ record old { units = new.units }
 
 -- A session took this piece, and answered each statement that the piece completed.
 pub record Fed (old : View) (piece : List ℕ) (answers : List (List ℕ)) (new : View) : Type 0 where
-  pub run : Run (limit_of old.meter) old.state (statements (old.rest ++ piece)) answers new.state
+  pub run : Gives (moment_of old) (statements (old.rest ++ piece)) answers (moment_of new)
   pub rest : new.rest ≡ rest_of (old.rest ++ piece)
   pub taken : new.taken ≡ old.taken + length piece
   pub within : new.taken ≤ SCRIPT_MAX
@@ -49,10 +64,11 @@ pub record IsReady (view : View) : Type 0 where
   pub sound : view.fault ≡ None
 
 -- Why a byte is not taken, by the place of the refusal: the statement that it ends is refused, or it is one byte too many for a
--- script. `now` is the meter at the refusal.
+-- statement or a script. `now` is the meter at the refusal.
 abbrev pub BreaksIn : Place → View → ℕ → Gauge → Refusal → Type 0
 BreaksIn in_statement view byte now refusal =
-    (view.taken < SCRIPT_MAX) × (ends view.rest byte ≡ true) × Refuses (limit_of view.meter) view.state view.rest view.meter now refusal
+    (view.taken < SCRIPT_MAX) × (ends view.rest byte ≡ true) × Refuses (started (moment_of view)) view.rest now refusal
+BreaksIn too_long view byte now refusal = (view.taken < SCRIPT_MAX) × (ends view.rest byte ≡ false) × (length view.rest ≡ STATEMENT_MAX)
 BreaksIn past_limit view byte now refusal = view.taken ≡ SCRIPT_MAX
 BreaksIn anywhere view byte now refusal = Unit {0}
 BreaksIn at_words view byte now refusal = ⊥
@@ -60,11 +76,11 @@ BreaksIn at_end view byte now refusal = ⊥
 BreaksIn at_read view byte now refusal = ⊥
 BreaksIn at_write view byte now refusal = ⊥
 
--- The meter at a refusal, after that of the statements answered. Only the work on a statement, which want of memory may end, raises
--- a count; limit and budget stay, no count falls, and no unit is spent.
+-- The meter at a refusal, after that of the statements answered. Only the work on a statement, which begins with no unit used and
+-- which want of memory may end, raises a count; limit and budget stay, and no count falls.
 abbrev pub IsMeterAt : Place → Gauge → Gauge → Type 0
-IsMeterAt in_statement before now = IsKept before now × (now.units ≡ before.units)
-IsMeterAt anywhere before now = IsKept before now × (now.units ≡ before.units)
+IsMeterAt in_statement before now = IsKept (record before { units = 0 }) now
+IsMeterAt anywhere before now = IsKept (record before { units = 0 }) now
 IsMeterAt place before now = now ≡ before
 
 -- A session is refused at a byte. Only its meter changes.

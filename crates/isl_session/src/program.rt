@@ -1,31 +1,28 @@
 //! The whole program over a source and two sinks.
 
-ghost use Rattle.std.specs.Prelude.{◌≡◌, ◌≢◌, ◌+◌, ◌<◌, ◌≤◌, ℕ, List, [], length, vec_len, Err, Some, None, OnOk, IfErr, IfSome, IsNone, IsSome};
+ghost use Rattle.std.specs.Prelude.{◌≡◌, ◌≢◌, ◌⊎◌, ◌+◌, ◌<◌, ◌≤◌, ℕ, List, [], length, map, string_bytes, Err, Some, None, OnOk, IfErr, IfSome, IsNone, IsSome};
 ghost use Rattle.std.specs.List.{concat};
 ghost use Rattle.std.specs.Io.KnownBytes.{Appends, Consumes, IsAtEnd};
 ghost use Rattle.isl_math.specs.Count.{Rose};
-ghost use Rattle.isl_meter.specs.Gauge.{Gauge, limit_of};
+ghost use Rattle.isl_meter.specs.Gauge.{Gauge};
 ghost use Rattle.isl_stmt.specs.Script.{IsBlank};
-ghost use Rattle.isl_session.specs.Choices.{gauge_of, defaults};
+ghost use Rattle.isl_words.specs.Options.{OptionsView};
+ghost use Rattle.isl_words.specs.Taken.{AreTaken};
 ghost use Rattle.isl_session.specs.Place.{place_of};
-ghost use Rattle.isl_session.specs.View.{Fed, IsReady};
+ghost use Rattle.isl_session.specs.View.{Fed, IsReady, gauge_of};
 ghost use Rattle.isl_session.specs.Lines.{fault_line, usage_line};
-ghost use Rattle.isl_session.specs.Run.{Answered, Halts, IsReadThrough, IsReadWhole, outside};
+ghost use Rattle.isl_session.specs.Run.{Answered, Halts, outside};
 ghost use Rattle.isl_session.specs.Valid.{IsValidScript, IsDoneOrMemory};
 
 use crate::write::{write_all, write_fault, write_usage};
 use crate::{Fault, Options, SCRIPT_MAX, Session, Status};
 use isl_io::{Failed, Sink, Source};
 use isl_text::refusal::Refusal;
+use isl_words::{WordsFault, read_words};
 use std::alloc::Global;
 
 // How many bytes a read asks for.
 const PIECE: usize = 4096;
-
-// What is chosen where the command line chooses nothing.
-const BITS: u32 = 127;
-
-const BUDGET: u64 = 10_000_000;
 
 // Takes a piece of the script. Each answer is written before the bytes behind its statement are taken.
 fn answer_piece<K: Sink>(
@@ -42,7 +39,8 @@ fn answer_piece<K: Sink>(
         × Appends (K.written out.old) (K.written out.new) gained
         × Halts ⊥ (Rose (K.faults out.old) (K.faults out.new)) ⊥
         session.old piece.now gained session.new fault (place_of fault.refusal)) }
-    ensures no_fewer_faults { K.faults out.old ≤ K.faults out.new }
+    ensures kept { OnOk result (K.faults out.new ≡ K.faults out.old) }
+    ensures writes { IfErr result (λ fault. fault.refusal ≢ Refusal.WriteFault → K.faults out.new ≡ K.faults out.old) }
 {
     let mut at = 0;
     while at < piece.len() {
@@ -61,68 +59,30 @@ fn answer_piece<K: Sink>(
     Ok(())
 }
 
-// Why a script was not read to its end.
-#[derive(Clone, Copy)]
-enum ReadError {
-    Failed,
-    NoMemory,
-}
-
-// How many bytes the next read may take where `script` was read so far: at most `most`, and no more than one
+// How many bytes the next read may take where `taken` were read so far: at most `most`, and no more than one
 // behind the last that a script may have.
-fn room_for(script: &[u8], most: usize) -> usize
+fn room_for(taken: u64, most: usize) -> usize
     requires room { 0 < most }
-    requires within { length script.now ≤ SCRIPT_MAX }
+    requires within { taken ≤ SCRIPT_MAX }
     ensures some { 0 < result }
     ensures most { result ≤ most }
-    ensures few { length script.now + result ≤ SCRIPT_MAX + 1 }
+    ensures few { taken + result ≤ SCRIPT_MAX + 1 }
 {
-    let left = SCRIPT_MAX + 1 - script.len() as u64;
+    let left = SCRIPT_MAX + 1 - taken;
     left.min(most as u64) as usize
 }
 
-// Reads what the source has left, and no more than one byte behind the last that a script may have.
-fn read_all<S: Source>(src: &mut S, buf: &mut [u8], script: &mut Vec<u8>) -> Result<(), ReadError>
-    requires empty { script.old.items ≡ [] }
-    requires room { 0 < length buf.old }
-    ensures ok { OnOk result (Consumes (S.left src.old) (S.left src.new) script.new.items
-        × IsReadThrough (S.left src.new) script.new.items) }
-    ensures failed { result ≡ Err ReadError.Failed
-        → Consumes (S.left src.old) (S.left src.new) script.new.items
-        × (length script.new.items ≤ SCRIPT_MAX)
-        × Rose (S.faults src.old) (S.faults src.new) }
-    ensures no_memory { result ≡ Err ReadError.NoMemory → (taken : List ℕ) × (0 < length taken)
-        × (length taken ≤ SCRIPT_MAX + 1)
-        × Consumes (S.left src.old) (S.left src.new) taken }
-{
-    'reads: while script.len() as u64 <= SCRIPT_MAX {
-        let room = room_for(script, buf.len());
-        let piece = &mut buf[..room];
-        match src.read(piece) {
-            Ok(0) => return Ok(()),
-            Ok(n) => {
-                if script.extend_from_slice(&piece[..n]).is_err() {
-                    return Err(ReadError::NoMemory);
-                }
-            }
-            Err(Failed) => return Err(ReadError::Failed),
-        }
-    }
-    Ok(())
-}
-
-// Reads the whole script, and then answers it. What was read before a read failed is answered too.
+// Takes the script as it arrives: each answer is written before the bytes behind its statement are taken, and so before the next read.
+// What was read before a read fails is answered.
 fn answer_all<S: Source, K: Sink>(
     session: &mut Session,
     src: &mut S,
     out: &mut K,
     buf: &mut [u8],
-    script: &mut Vec<u8>,
     text: &mut Vec<u8>,
 ) -> Result<(), Fault>
     requires ready { IsReady session.old }
     requires first { session.old.taken ≡ 0 }
-    requires empty { script.old.items ≡ [] }
     requires room { 0 < length buf.old }
     ensures ok { OnOk result ((taken : List ℕ) × (answers : List (List ℕ))
         × Consumes (S.left src.old) (S.left src.new) taken × IsAtEnd (S.left src.new)
@@ -134,22 +94,27 @@ fn answer_all<S: Source, K: Sink>(
         × Appends (K.written out.old) (K.written out.new) gained
         × Halts (Rose (S.faults src.old) (S.faults src.new)) (Rose (K.faults out.old) (K.faults out.new)) ⊥
         session.old taken gained session.new fault (place_of fault.refusal)) }
-    ensures whole { IfErr result (λ fault. (fault.refusal ≡ Refusal.NoMemory → ⊥)
-        → (Rose (S.faults src.old) (S.faults src.new) → ⊥)
-        → IsReadWhole (S.left src.old) (S.left src.new)) }
+    ensures kept { OnOk result ((S.faults src.new ≡ S.faults src.old) × (K.faults out.new ≡ K.faults out.old)) }
+    ensures reads { IfErr result (λ fault. fault.refusal ≢ Refusal.ReadFault → S.faults src.new ≡ S.faults src.old) }
+    ensures writes { IfErr result (λ fault. fault.refusal ≢ Refusal.WriteFault → K.faults out.new ≡ K.faults out.old) }
 {
-    match read_all(src, buf, script) {
-        Ok(()) => answer_piece(session, out, text, script),
-        Err(ReadError::Failed) => {
-            if let Err(fault) = answer_piece(session, out, text, script) {
-                return Err(fault);
+    'reads: loop {
+        let room = room_for(session.taken(), buf.len());
+        let piece = &mut buf[..room];
+        match src.read(piece) {
+            Ok(0) => return Ok(()),
+            Ok(n) => {
+                if let Err(fault) = answer_piece(session, out, text, &piece[..n]) {
+                    return Err(fault);
+                }
             }
-            Err(Fault {
-                statement: session.answered() + 1,
-                refusal: Refusal::ReadFault,
-            })
+            Err(Failed) => {
+                return Err(Fault {
+                    statement: session.answered() + 1,
+                    refusal: Refusal::ReadFault,
+                });
+            }
         }
-        Err(ReadError::NoMemory) => Err(session.refuse(Refusal::NoMemory)),
     }
 }
 
@@ -172,14 +137,13 @@ fn run_session<S: Source, K: Sink>(
         × Appends (K.written out.old) (K.written out.new) gained
         × Halts (Rose (S.faults src.old) (S.faults src.new)) (Rose (K.faults out.old) (K.faults out.new))
         (IsAtEnd (S.left src.new)) session.old taken gained session.new fault (place_of fault.refusal)) }
-    ensures whole { IfErr result (λ fault. (fault.refusal ≡ Refusal.NoMemory → ⊥)
-        → (Rose (S.faults src.old) (S.faults src.new) → ⊥)
-        → IsReadWhole (S.left src.old) (S.left src.new)) }
+    ensures kept { OnOk result ((S.faults src.new ≡ S.faults src.old) × (K.faults out.new ≡ K.faults out.old)) }
+    ensures reads { IfErr result (λ fault. fault.refusal ≢ Refusal.ReadFault → S.faults src.new ≡ S.faults src.old) }
+    ensures writes { IfErr result (λ fault. fault.refusal ≢ Refusal.WriteFault → K.faults out.new ≡ K.faults out.old) }
 {
     let mut buf = [0; PIECE];
-    let mut script = Vec::new(alloc);
     let mut text = Vec::new(alloc);
-    if let Err(fault) = answer_all(session, src, out, &mut buf, &mut script, &mut text) {
+    if let Err(fault) = answer_all(session, src, out, &mut buf, &mut text) {
         return Err(fault);
     }
     session.finish(&mut text)
@@ -204,11 +168,12 @@ fn run_script<S: Source, K: Sink, E: Sink>(
         → Rose (S.faults src.old) (S.faults src.new) }
     ensures write_fault { result.refusal ≡ Some Refusal.WriteFault
         → Rose (K.faults out.old) (K.faults out.new) }
+    ensures reads { result.refusal ≢ Some Refusal.ReadFault → S.faults src.new ≡ S.faults src.old }
+    ensures writes { result.refusal ≢ Some Refusal.WriteFault → K.faults out.new ≡ K.faults out.old }
     ensures overflow { result.refusal ≡ Some Refusal.Overflow
         → IfSome result.meter (λ meter. Rose 0 meter.overflows) }
-    ensures whole { result.refusal ≢ Some Refusal.NoMemory
-        → (Rose (S.faults src.old) (S.faults src.new) → ⊥)
-        → IsReadWhole (S.left src.old) (S.left src.new) }
+    ensures budget { result.refusal ≡ Some Refusal.Budget
+        → IfSome result.meter (λ meter. (meter.budget ≤ meter.units) × Rose 0 meter.spents) }
     ensures no_usage { result.refusal ≢ Some Refusal.Usage }
     ensures session { IsSome result.meter }
 {
@@ -244,18 +209,19 @@ pub fn refuse_words<E: Sink>(err: &mut E) -> Status
 /// Does all that the program does: judges the words, answers the script that `src` has left on `out`, and tells
 /// a refusal on `err`.
 ///
-/// The words are taken where there is one, the program's name. Then numbers have 127 bits, and a statement may
-/// use 10,000,000 units. The whole script is read before its first statement is answered, and no more than
-/// 2^30 + 1 bytes of it.
+/// The words, of which the first is the program's name, choose the options of the session. What they give to
+/// parameters, and whether loops are run, has no effect yet. Each statement is answered as soon as it is read, before the bytes behind it
+/// are taken; no more than 2^30 + 1 bytes are read.
 pub fn run<S: Source, K: Sink, E: Sink>(
     alloc: Global,
-    words: &Vec<String>,
+    words: &[String],
     src: &mut S,
     out: &mut K,
     err: &mut E,
 ) -> Status
     // For every script, however its bytes arrive, and whatever the ends tell.
-    ensures answered { vec_len words.now ≡ 1 → (script : List ℕ) × Answered (gauge_of defaults) script
+    ensures answered { (options : OptionsView) → AreTaken (map string_bytes words.now) options → IsSome result.meter
+        → (script : List ℕ) × Answered (gauge_of options) script
         (outside (S.left src.old) (S.faults src.old) (K.written out.old) (K.faults out.old)
         (E.written err.old) (E.faults err.old))
         (outside (S.left src.new) (S.faults src.new) (K.written out.new) (K.faults out.new)
@@ -264,18 +230,13 @@ pub fn run<S: Source, K: Sink, E: Sink>(
     ensures quiet { result.refusal ≡ None → err.new ≡ err.old }
 
     // A valid script is answered whole, unless memory ends or a count rises.
-    ensures complete { vec_len words.now ≡ 1
+    ensures complete { (options : OptionsView) → AreTaken (map string_bytes words.now) options
         → (script : List ℕ) → S.left src.old ≡ Some script
-        → IsValidScript (limit_of (gauge_of defaults)) script
+        → IsValidScript (gauge_of options) script
         → (Rose (S.faults src.old) (S.faults src.new) → ⊥)
         → (Rose (K.faults out.old) (K.faults out.new) → ⊥)
-        → ((meter : Gauge) → result.meter ≡ Some meter → Rose 0 meter.overflows → ⊥)
+        → ((meter : Gauge) → result.meter ≡ Some meter → (Rose 0 meter.overflows → ⊥) × (Rose 0 meter.spents → ⊥))
         → IsDoneOrMemory result.refusal }
-
-    // A refused script too is read to its end, or as far as a script may go, unless a read fails or memory ends.
-    ensures whole { vec_len words.now ≡ 1 → result.refusal ≢ Some Refusal.NoMemory
-        → (Rose (S.faults src.old) (S.faults src.new) → ⊥)
-        → IsReadWhole (S.left src.old) (S.left src.new) }
 
     // The counted faults.
     ensures read_fault { result.refusal ≡ Some Refusal.ReadFault
@@ -284,21 +245,34 @@ pub fn run<S: Source, K: Sink, E: Sink>(
         → Rose (K.faults out.old) (K.faults out.new) }
     ensures overflow { result.refusal ≡ Some Refusal.Overflow
         → IfSome result.meter (λ meter. Rose 0 meter.overflows) }
+    ensures budget { result.refusal ≡ Some Refusal.Budget
+        → IfSome result.meter (λ meter. (meter.budget ≤ meter.units) × Rose 0 meter.spents) }
 
-    // Other words are refused before anything is read, and the usage line is told.
-    ensures usage { (vec_len words.now ≡ 1 → ⊥)
-        → (result ≡ record { refusal = Some Refusal.Usage; meter = None })
-        × (src.new ≡ src.old) × (out.new ≡ out.old) }
-    ensures only_usage { result.refusal ≡ Some Refusal.Usage → vec_len words.now ≡ 1 → ⊥ }
-    ensures session { IsNone result.meter → result.refusal ≡ Some Refusal.Usage }
+    // A read that failed ends the run, and so does a failed write of an answer.
+    ensures reads { result.refusal ≢ Some Refusal.ReadFault → S.faults src.new ≡ S.faults src.old }
+    ensures writes { result.refusal ≢ Some Refusal.WriteFault → K.faults out.new ≡ K.faults out.old }
+
+    // Other words are refused before anything is read, and the usage line is told, unless memory ends while they are read.
+    ensures usage { ((options : OptionsView) → ¬ (AreTaken (map string_bytes words.now) options))
+        → IsNone result.meter }
+    ensures only_usage { result.refusal ≡ Some Refusal.Usage
+        → (options : OptionsView) → ¬ (AreTaken (map string_bytes words.now) options) }
+    ensures session { IsNone result.meter → (src.new ≡ src.old) × (out.new ≡ out.old)
+        × ((result.refusal ≡ Some Refusal.Usage) ⊎ (result.refusal ≡ Some Refusal.NoMemory)) }
     ensures usage_line { result.refusal ≡ Some Refusal.Usage
         → (Rose (E.faults err.old) (E.faults err.new) → ⊥)
         → Appends (E.written err.old) (E.written err.new) usage_line }
+    ensures memory_line { IsNone result.meter → result.refusal ≡ Some Refusal.NoMemory
+        → (Rose (E.faults err.old) (E.faults err.new) → ⊥)
+        → Appends (E.written err.old) (E.written err.new)
+        (fault_line (record { statement = 1; refusal = Refusal.NoMemory })) }
 {
-    if words.len() != 1 {
-        let _ = write_usage(err);
-        return Status::new(Some(Refusal::Usage), None);
+    match read_words(alloc, words) {
+        Ok(options) => run_script(alloc, options, src, out, err),
+        Err(WordsFault::NoMemory) => refuse_words(err),
+        Err(WordsFault::Usage) => {
+            let _ = write_usage(err);
+            Status::new(Some(Refusal::Usage), None)
+        }
     }
-    let options = Options::new(BITS, BUDGET, Vec::new(alloc), false);
-    run_script(alloc, options, src, out, err)
 }

@@ -3,13 +3,11 @@
 ghost use Rattle.std.specs.Prelude.{◌≡◌, ◌+◌, ◌<◌, ◌≤◌, ◌++◌, [], ◌∷◌, ℕ, List, length, take, false, Some, None, IfSome, IfNone, IfErr, IfOk, OnOk};
 ghost use Rattle.std.specs.List.{concat};
 ghost use Rattle.isl_math.specs.Count.{Rose};
-ghost use Rattle.isl_meter.specs.Gauge.{limit_of};
-ghost use Rattle.isl_stmt.specs.Script.{statements};
-ghost use Rattle.isl_session.specs.Choices.{gauge_of};
-ghost use Rattle.isl_session.specs.Valid.{AreValid};
-ghost use Rattle.isl_session.specs.View.{Fed, Feeds, Finishes, IsReady, IsRefusedAt, Stopped, fresh};
+ghost use Rattle.isl_stmt.specs.Script.{statements, rest_of};
+ghost use Rattle.isl_session.specs.Valid.{AreShort, AreValid};
+ghost use Rattle.isl_session.specs.View.{Fed, Feeds, Finishes, IsReady, IsRefusedAt, Stopped, fresh, gauge_of, moment_of};
 
-use crate::{Fault, Options, SCRIPT_MAX};
+use crate::{Fault, Options, SCRIPT_MAX, STATEMENT_MAX};
 use isl_eval::{State, answer};
 use isl_meter::Meter;
 use isl_stmt::Cutter;
@@ -37,6 +35,11 @@ impl Model for Session {
 
     ghost Value = { View };
 
+    ghost use Rattle.std.specs.Coded.{codes};
+    ghost use Rattle.isl_eval.specs.Stored.{state_code};
+
+    ghost coded = { Prim.hlevel (codes, state_code) };
+
     ghost use Rattle.isl_session.specs.Session.{view_of, IsSound};
 
     ghost view = { view_of };
@@ -49,6 +52,8 @@ impl Session {
     pub fn new(alloc: Global, options: Options) -> Session
         ensures { result ≡ fresh (gauge_of options) }
     {
+        let bits = options.bits();
+        let budget = options.budget();
         Session {
             alloc,
             state: State::new(alloc),
@@ -57,7 +62,7 @@ impl Session {
             taken: 0,
             answered: 0,
             fault: None,
-            meter: Meter::new(options.bits, options.budget),
+            meter: Meter::new(bits, budget),
         }
     }
 
@@ -76,6 +81,7 @@ impl Session {
         }
         let mut cutter = self.cutter;
         if cutter.push(byte) {
+            self.meter.start();
             if let Err(refusal) = answer(
                 self.alloc,
                 &self.rest,
@@ -90,6 +96,9 @@ impl Session {
             self.answered += 1;
             self.taken += 1;
             return Ok(true);
+        }
+        if self.rest.len() >= STATEMENT_MAX {
+            return Err(Refusal::TooLong);
         }
         self.rest.push(byte)?;
         self.cutter = cutter;
@@ -126,11 +135,13 @@ impl Session {
         ensures fed { IfNone self.old.fault
             (Feeds self.old piece.now text.old.items text.new.items self.new result) }
 
-        // Valid statements are answered, unless memory ends or an overflow is counted.
+        // Valid statements are answered, unless memory ends or a refusal is counted.
         ensures complete { IfNone self.old.fault
-            (AreValid (limit_of self.old.meter) self.old.state (statements (self.old.rest ++ piece.now))
+            (AreValid (moment_of self.old) (statements (self.old.rest ++ piece.now))
+            → AreShort (statements (self.old.rest ++ piece.now)) (rest_of (self.old.rest ++ piece.now))
             → self.old.taken + length piece.now ≤ SCRIPT_MAX
             → (Rose self.old.meter.overflows self.new.meter.overflows → ⊥)
+            → (Rose self.old.meter.spents self.new.meter.spents → ⊥)
             → IfErr result (λ fault. fault.refusal ≡ Refusal.NoMemory)) }
     {
         if let Some(kept) = self.fault {
@@ -182,6 +193,22 @@ impl Session {
         ensures few { result ≤ SCRIPT_MAX }
     {
         self.answered
+    }
+
+    /// How many bytes are held: those behind the last statement's end, blanks and comments counted.
+    pub fn held(&self) -> usize
+        ensures count { result ≡ length self.now.rest }
+        ensures few { result ≤ STATEMENT_MAX }
+    {
+        self.rest.len()
+    }
+
+    /// How many bytes of the script were taken.
+    pub(crate) fn taken(&self) -> u64
+        ensures count { result ≡ self.now.taken }
+        ensures few { result ≤ SCRIPT_MAX }
+    {
+        self.taken
     }
 
     /// The meter of the session's arithmetic.

@@ -16,6 +16,7 @@ pub(crate) fn write_all<K: Sink>(out: &mut K, text: &[u8]) -> Result<(), Failed>
     ensures ok { OnOk result (Appends (K.written out.old) (K.written out.new) text.now) }
     ensures err { OnErr result ((n : ℕ) × (n < length text.now)
         × Appends (K.written out.old) (K.written out.new) (take n text.now)) }
+    ensures kept { OnOk result (K.faults out.new ≡ K.faults out.old) }
     ensures no_fewer_faults { K.faults out.old ≤ K.faults out.new }
     ensures fault { OnErr result (Rose (K.faults out.old) (K.faults out.new)) }
 {

@@ -59,7 +59,8 @@ apart_from (other ∷ others) name is = ((among_itself others name other is, tt)
 pub apart_from_all : (others names : List Name) → All (λ n. is_among others n ≡ false) names → Apart others names
 apart_from_all others [] fresh = apart-nil others
 apart_from_all others (name ∷ names) fresh =
-    apart-append others (name ∷ []) names (apart_from others name (All-head (λ n. is_among others n ≡ false) name names fresh)) (apart_from_all others names (All-tail (λ n. is_among others n ≡ false) name names fresh))
+    apart-append others (name ∷ []) names (apart_from others name (All-head (λ n. is_among others n ≡ false) name names fresh))
+    (apart_from_all others names (All-tail (λ n. is_among others n ≡ false) name names fresh))
 
 -- ---- the same by places
 
@@ -69,7 +70,10 @@ differs_from name (other ∷ others) h = (h 0 name (omega arith), differs_from n
 
 pub distinct_from : (names : List Name) → AreDistinct names → Distinct names
 distinct_from [] h = tt
-distinct_from (name ∷ names) h = (differs_from name names (λ j d low. h 0 (suc j) d (omega arith) (omega arith)), distinct_from names (λ i j d before low. h (suc i) (suc j) d (omega arith) (omega arith)))
+distinct_from (name ∷ names) h = (
+  differs_from name names (λ j d low. h 0 (suc j) d (omega arith) (omega arith)),
+  distinct_from names (λ i j d before low. h (suc i) (suc j) d (omega arith) (omega arith)),
+)
 
 differs_at : (name : Name) (names : List Name) → Differs name names → (j : ℕ) (d : Name) → j < length names → name ≢ get_or names j d
 differs_at name [] h j d low = absurd (omega (arith, low))

@@ -24,7 +24,8 @@ use Rattle.isl_space.proofs.DistinctLaws.{distinct-append, distinct_from, distin
 pub absent : (names : List Name) (n : Name) → All (λ m. n ≢ m) names → is_among names n ≡ false
 absent names n differs =
     list_any_none (bytes_eq n) names
-    (All-weaker (λ m. n ≢ m) (λ m. bytes_eq n m ≡ false) (λ m other. false_from_ne_true _ (λ e. other ((bytes_eq-Decides n m).0 e))) names differs)
+    (All-weaker (λ m. n ≢ m) (λ m. bytes_eq n m ≡ false) (λ m other. false_from_ne_true _ (λ e. other ((bytes_eq-Decides n m).0 e))) names
+    differs)
 
 -- of distinct names, one is not among those before it
 pub absent_before : (names : List Name) (n : Name) (rest : List Name) → AreDistinct (names ++ n ∷ rest) → is_among names n ≡ false
@@ -101,7 +102,8 @@ joined_push before others n fresh =
     insert_key_is (joined before others) n
     ∙ (ap (λ b. joined before others ++ (if b then [] else n ∷ [])) among
     ∙ (append_assoc before (filter is_new others) (if is_among before n then [] else n ∷ [])
-    ∙ ap (λ l. before ++ l) (ap (λ l. filter is_new others ++ l) (by_test (is_among before n) refl) ∙ sym (filter-append is_new others (n ∷ [])))))
+    ∙ ap (λ l. before ++ l) (ap (λ l. filter is_new others ++ l) (by_test (is_among before n) refl)
+    ∙ sym (filter-append is_new others (n ∷ [])))))
   where
     is_new : Name → Bool
     is_new m = not (is_among before m)
@@ -152,7 +154,8 @@ join_push before others now next places n k at fresh joins is found same = recor
   are =
       let here : slice_get next at ≡ Some n = found ∙ ap (λ m. Some m) (sym ((bytes_eq-Decides n k).0 same)) in
       let longer : next ≡ now ++ (if is_among now n then [] else n ∷ []) = is ∙ insert_key_is now n in
-      places_push next others n places at (subst (λ (l : List Name). ArePlaces l others places) (sym longer) (places_longer now _ others places joins.are)) here;
+      places_push next others n places at (subst (λ (l : List Name). ArePlaces l others places) (sym longer)
+      (places_longer now _ others places joins.are)) here;
 }
 
 pub join_next : (before others now next : List Name) (places pushed : List ℕ) (i : ℕ) (m n k : Name) (at : ℕ) → AreDistinct others
@@ -176,12 +179,15 @@ found_there names n (Some at) is found =
 distinct_append : (names more : List Name) → AreDistinct names → AreDistinct more → All (λ n. is_among names n ≡ false) more
     → AreDistinct (names ++ more)
 distinct_append names more first second fresh =
-    distinct_at (names ++ more) (distinct-append names more (distinct_from names first) (distinct_from more second) (apart_from_all names more fresh))
+    distinct_at (names ++ more) (distinct-append names more (distinct_from names first) (distinct_from more second)
+    (apart_from_all names more fresh))
 
 pub joined_distinct : (names others : List Name) → AreDistinct names → AreDistinct others → AreDistinct (joined names others)
 joined_distinct names others first second =
-    distinct_append names (filter (λ n. not (is_among names n)) others) first (AllPairs-filter (λ a b. a ≢ b) (λ n. not (is_among names n)) others second)
-    (All-weaker (λ n. not (is_among names n) ≡ true) (λ n. is_among names n ≡ false) (λ n new. not-true _ new) _ (filter_passes (λ n. not (is_among names n)) others))
+    distinct_append names (filter (λ n. not (is_among names n)) others) first
+    (AllPairs-filter (λ a b. a ≢ b) (λ n. not (is_among names n)) others second)
+    (All-weaker (λ n. not (is_among names n) ≡ true) (λ n. is_among names n ≡ false) (λ n new. not-true _ new)
+    _ (filter_passes (λ n. not (is_among names n)) others))
 
 -- a name that is among some is one of them
 pub Contains-is_among : (names : List Name) (n : Name) → is_among names n ≡ true → Contains names n
@@ -206,11 +212,14 @@ filter_keeps test (m ∷ names) (suc k) n within is passes =
 pub joins : (names others all : List Name) → AreDistinct names → AreDistinct others → all ≡ joined names others → Joins names others all
 joins names others all first second is = record {
   first = rw is (take_at names _ (length names) refl);
-  second = subst (λ (l : List Name). All (Contains l) others) (sym is) (λ i d within. there _ (Contains-get_or others i d within) (cases_Bool (is_among names (get_or others i d))));
+  second = subst (λ (l : List Name). All (Contains l) others) (sym is)
+      (λ i d within. there _ (Contains-get_or others i d within) (cases_Bool (is_among names (get_or others i d))));
   only = subst (λ (l : List Name). All (λ n. Contains names n ⊎ Contains others n) l) (sym is)
       (All-append (λ n. Contains names n ⊎ Contains others n) names _
       (All-weaker (Contains names) (λ n. Contains names n ⊎ Contains others n) (λ n here. inl here) names (All-contains_itself names))
-      (All-filter _ (λ n. Contains names n ⊎ Contains others n) others (All-weaker (Contains others) (λ n. Contains names n ⊎ Contains others n) (λ n here. inr here) others (All-contains_itself others))));
+      (All-filter _ (λ n. Contains names n ⊎ Contains others n) others
+      (All-weaker (Contains others) (λ n. Contains names n ⊎ Contains others n) (λ n here. inr here) others
+      (All-contains_itself others))));
   distinct = subst AreDistinct (sym is) (joined_distinct names others first second);
 }
   where
@@ -238,14 +247,16 @@ nil-joined (n ∷ names) = ap (λ l. n ∷ l) (nil-joined names)
 
 pub joined-self : (names : List Name) → joined names names ≡ names
 joined-self names =
-    joined-nothing_new names names (λ i d within. list_any_at (bytes_eq (get_or names i d)) names i d within ((bytes_eq-Decides (get_or names i d) (get_or names i d)).1 refl))
+    joined-nothing_new names names (λ i d within. list_any_at (bytes_eq (get_or names i d)) names i d within
+    ((bytes_eq-Decides (get_or names i d) (get_or names i d)).1 refl))
 
 -- a joined list that is not too long may be declared
 pub joined_parameters : (names others all : List Name) → IsParameterList names → IsParameterList others → all ≡ joined names others
     → length all ≤ most_parameters → IsParameterList all
 joined_parameters names others all first second is few = record {
   distinct = subst AreDistinct (sym is) (joined_distinct names others first.distinct second.distinct);
-  named = subst (λ (l : List Name). All IsLiteralName l) (sym is) (All-append IsLiteralName names _ first.named (All-filter _ IsLiteralName others second.named));
+  named = subst (λ (l : List Name). All IsLiteralName l) (sym is)
+      (All-append IsLiteralName names _ first.named (All-filter _ IsLiteralName others second.named));
   few = few;
 }
 

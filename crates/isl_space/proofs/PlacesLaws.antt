@@ -17,4 +17,5 @@ places_differ all others places i j distinct are before within same =
     let earlier : i < length others = omega arith in
     distinct i j [] before within
     (same_Some _ _
-    (sym (slice_get-get_or others i [] earlier) ∙ (sym (are.at i earlier) ∙ (ap (λ k. slice_get all k) same ∙ (are.at j within ∙ slice_get-get_or others j [] within)))))
+    (sym (slice_get-get_or others i [] earlier) ∙ (sym (are.at i earlier)
+    ∙ (ap (λ k. slice_get all k) same ∙ (are.at j within ∙ slice_get-get_or others j [] within)))))

@@ -41,7 +41,8 @@ values_of-passing : (names : List Name) (n : Name) (number : ℤ) (v : Valuation
     → values_of names ((n, number) ∷ v) ≡ values_of names v
 values_of-passing [] n number v other = refl
 values_of-passing (m ∷ names) n number v other =
-    let differs : bytes_eq n m ≡ false = false_from_ne_true _ (λ same. All-head (λ m. n ≢ m) m names other ((bytes_eq-Decides n m).0 same)) in
+    let differs : bytes_eq n m ≡ false = false_from_ne_true
+    _ (λ same. All-head (λ m. n ≢ m) m names other ((bytes_eq-Decides n m).0 same)) in
     rw differs (ap (λ l. value_at v m ∷ l) (values_of-passing names n number v (All-tail (λ m. n ≢ m) m names other)))
 
 -- distinct names can have any numbers: the names beside the numbers are a valuation that gives them

@@ -1,4 +1,4 @@
--- The elements of sets and maps. (isl manual, on sets and relations of integer tuples)
+-- public: the elements of sets and maps. (isl manual, on sets and relations of integer tuples)
 use Rattle.std.specs.Prelude.{◌≡◌, List, ℤ, length}
 use Rattle.isl_space.specs.SpaceForm.{SpaceForm, coordinates_of}
 

@@ -1,4 +1,4 @@
--- What a tuple of coordinates looks like, by content. (isl manual, on spaces and nested tuples)
+-- public: what a tuple of coordinates looks like, by content. (isl manual, on spaces and nested tuples)
 use Rattle.std.specs.Prelude.{ℕ, ◌+◌, ◌<◌, ◌≤◌, ◌⊎◌, List, [], ◌++◌, Option, Some, None, IfSome, codes}
 use Rattle.std.specs.Fmt.{decimal}
 use Rattle.isl_space.specs.Limits.{most_coordinates, most_leaves}

@@ -1,4 +1,4 @@
--- How forms are stored, which a model asks for whose value holds them: as the list of their leaves, with a mark before each pair.
+-- inner: how forms are stored, which a model asks for whose value holds them: as the list of their leaves, with a mark before each pair.
 use Rattle.std.specs.Prelude.{◌≡◌, ◌⊎◌, ℕ, List, [], ◌∷◌, ◌++◌, Option, Some, None, refl}
 use Rattle.std.specs.Coded.{Coded, code_by, coded×, coded⊎, coded_list, coded_option, coded_ℕ}
 use Rattle.std.proofs.Common.{◌∙◌, ap, sym, append_assoc, append-nil, inl, inr}
@@ -40,7 +40,8 @@ form_back form = ap (λ l. first_form (forms_of l)) (sym (append-nil (marks_of f
 
 abbrev pub form_code : Coded Form
 form_code =
-    code_by Marks (coded_list (coded_option (coded× (coded_option (coded_list coded_ℕ)) coded_ℕ))) marks_of (λ marks. first_form (forms_of marks)) form_back
+    code_by Marks (coded_list (coded_option (coded× (coded_option (coded_list coded_ℕ)) coded_ℕ))) marks_of
+    (λ marks. first_form (forms_of marks)) form_back
 
 abbrev pub parts_of : SpaceForm → Form ⊎ (Form × Form)
 parts_of (set_of form) = inl form

@@ -1,4 +1,4 @@
--- The sizes that a value may have in this calculator.
+-- public: the sizes that a value may have in this calculator.
 use Rattle.std.specs.Prelude.{ℕ}
 
 -- the most parameters that it declares

@@ -1,4 +1,4 @@
--- Names of the notation, seen as their bytes. (isl manual, on the notation of sets and relations)
+-- public: names of the notation, seen as their bytes. (isl manual, on the notation of sets and relations)
 use Rattle.std.specs.Prelude.{ℕ, Bool, not, ◌==◌, ◌&&◌, ◌||◌, List, [], ◌∷◌, drop, slice_index, IsTrue, codes}
 use Rattle.std.specs.Char.{is_ascii_alphabetic, is_ascii_alphanumeric}
 use Rattle.std.specs.List.{list_all, list_any, prefix_len}

@@ -1,4 +1,4 @@
--- Lists of distinct names, and how two of them are put together. (isl manual, on the alignment of parameters)
+-- public: lists of distinct names, and how two of them are put together. (isl manual, on the alignment of parameters)
 use Rattle.std.specs.Prelude.{◌≡◌, ◌≢◌, ◌≤◌, ◌<◌, ◌⊎◌, ℕ, Bool, not, List, ◌++◌, All, AllPairs, Contains, length, take, filter, slice_get}
 use Rattle.std.specs.Prelude.{slice_index}
 use Rattle.std.specs.List.{list_any}

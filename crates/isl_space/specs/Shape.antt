@@ -1,4 +1,4 @@
--- A shape by content: what it is when the sharing of its parts is forgotten.
+-- public: a shape by content: what it is when the sharing of its parts is forgotten.
 use Rattle.isl_space.specs.declared.shape.Shape.{Shape}
 use Rattle.isl_space.specs.declared.shape.Shape.TheVariants.{Leaf, Pair'}
 use Rattle.isl_space.specs.Form.{Form, leaf, pair}

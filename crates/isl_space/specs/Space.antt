@@ -1,4 +1,4 @@
--- A space by content: what it is when the sharing of its parts is forgotten.
+-- public: a space by content: what it is when the sharing of its parts is forgotten.
 use Rattle.isl_space.specs.declared.space.Space.{Space}
 use Rattle.isl_space.specs.declared.space.Space.TheVariants.{Set, Map}
 use Rattle.isl_space.specs.SpaceForm.{SpaceForm, set_of, map_of}

@@ -1,4 +1,4 @@
--- Where the elements of a set or of a map lie, by content. (isl manual, on spaces)
+-- public: where the elements of a set or of a map lie, by content. (isl manual, on spaces)
 use Rattle.std.specs.Prelude.{ℕ, ◌+◌, ◌<◌, ◌≤◌, ◌⊎◌, List, ◌++◌, codes}
 use Rattle.isl_space.specs.Limits.{most_coordinates, most_leaves}
 use Rattle.isl_space.specs.Form.{Form, width_of, leaves_of, text_of, IsNamed}

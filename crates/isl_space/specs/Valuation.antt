@@ -1,4 +1,4 @@
--- What numbers the parameters stand for. (isl manual, on parameters)
+-- public: what numbers the parameters stand for. (isl manual, on parameters)
 use Rattle.std.specs.Prelude.{List, [], ◌∷◌, ℤ, pos, map, if◌then◌else◌}
 use Rattle.std.specs.Str.{bytes_eq}
 use Rattle.isl_space.specs.Name.{Name}

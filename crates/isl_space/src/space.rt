@@ -3,6 +3,7 @@
 ghost use Rattle.std.specs.Prelude.{◌≡◌, ◌↔◌, ◌<◌, ◌^◌, string_bytes, IsTrue, IfOk, IfErr};
 ghost use Rattle.isl_space.specs.Form.{IsNamed};
 ghost use Rattle.isl_space.specs.SpaceForm.{coordinates_of, space_text_of, IsTooWideSpace, IsWellFormedSpace, set_of, map_of};
+ghost use Rattle.isl_space.specs.declared.fault.SpaceFault.TheVariants.{TooWide};
 ghost use Rattle.isl_space.specs.Shape.{form_of};
 ghost use Rattle.isl_space.specs.Space.{space_form_of};
 
@@ -26,7 +27,7 @@ impl Space {
         requires { IsNamed (form_of shape.value) }
         ensures made { IfOk result (λ space. space_form_of space ≡ set_of (form_of shape.value)) }
         ensures well_formed { IfOk result (λ space. IsWellFormedSpace (space_form_of space)) }
-        ensures too_wide { IfErr result (λ fault. (fault ≡ SpaceFault.TooWide) × IsTooWideSpace (set_of (form_of shape.value))) }
+        ensures too_wide { IfErr result (λ fault. (fault ≡ TooWide) × IsTooWideSpace (set_of (form_of shape.value))) }
     {
         if shape.is_too_wide() {
             return Err(SpaceFault::TooWide);
@@ -40,7 +41,7 @@ impl Space {
         requires to { IsNamed (form_of to.value) }
         ensures made { IfOk result (λ space. space_form_of space ≡ map_of (form_of from.value) (form_of to.value)) }
         ensures well_formed { IfOk result (λ space. IsWellFormedSpace (space_form_of space)) }
-        ensures too_wide { IfErr result (λ fault. (fault ≡ SpaceFault.TooWide) × IsTooWideSpace (map_of (form_of from.value) (form_of to.value))) }
+        ensures too_wide { IfErr result (λ fault. (fault ≡ TooWide) × IsTooWideSpace (map_of (form_of from.value) (form_of to.value))) }
     {
         if are_too_wide(&from, &to) {
             return Err(SpaceFault::TooWide);

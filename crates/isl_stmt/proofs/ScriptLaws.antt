@@ -1,11 +1,11 @@
 -- How scripts are cut: whole, one piece after another, and one byte after another.
-use Rattle.std.proofs.Common.{◌≡◌, ℕ, ◌+◌, ◌≤◌, true, false, ◌||◌, ◌==◌, IsTrue, List, [], ◌∷◌, ◌++◌, length, fold, refl, sym, ap, ◌∙◌, subst, inl, inr, append_assoc, arith}
+use Rattle.std.proofs.Common.{◌≡◌, ℕ, ◌+◌, ◌≤◌, true, false, ◌||◌, ◌==◌, IsTrue, List, [], ◌∷◌, ◌++◌, ◌<◌, length, fold, refl, sym, ap, ◌∙◌, subst, inl, inr, append_assoc, arith}
 use Rattle.std.specs.Prelude.{All}
 use Rattle.std.proofs.lemmas.Bool.{cases_Bool, cond-true, cond-false, and_parts, eqb-true}
-use Rattle.std.proofs.lemmas.List.{append-nil, length-append}
+use Rattle.std.proofs.lemmas.List.{append-nil, length-append, length_push}
 use Rattle.std.proofs.lemmas.List.Sums.{fold_push}
 use Rattle.std.proofs.lemmas.List.Elements.{All-nil, All-cons, All-head, All-tail}
-use Rattle.isl_stmt.specs.Script.{Bytes, is_blank, depth_after, Place, place_after, place_of, is_commented, ends, IsOpen, IsBlank, IsStatement, with_ends, IsCut, statements_from, rest_from, statements, rest_of}
+use Rattle.isl_stmt.specs.Script.{Bytes, is_blank, depth_after, Place, place_after, place_of, is_commented, ends, IsOpen, IsBlank, IsStatement, with_ends, IsCut, statements_from, rest_from, statements, rest_of, next_part}
 use Rattle.isl_stmt.proofs.ByteLaws.{each_nil, each_push, each_front, each_last}
 
 -- ---- the place behind a part
@@ -124,6 +124,31 @@ statements-open part is_open = (open_from [] part is_open).0
 
 pub rest-open : (part : Bytes) → IsOpen part → rest_of part ≡ part
 rest-open part is_open = (open_from [] part is_open).1
+
+-- what stands behind an open part goes on with it
+pub statements-behind : (part bytes : Bytes) → IsOpen part → statements (part ++ bytes) ≡ statements_from part bytes
+statements-behind part bytes is_open =
+    statements_from-append [] part bytes
+    ∙ ap (λ (l : List Bytes). l ++ statements_from (rest_of part) bytes) (statements-open part is_open)
+    ∙ ap (λ (l : Bytes). statements_from l bytes) (rest-open part is_open)
+
+pub rest-behind : (part bytes : Bytes) → IsOpen part → rest_of (part ++ bytes) ≡ rest_from part bytes
+rest-behind part bytes is_open = rest_from-append [] part bytes ∙ ap (λ (l : Bytes). rest_from l bytes) (rest-open part is_open)
+
+-- the part that comes next has at least the bytes that stand already
+next_part-from : (part bytes : Bytes) → length part ≤ length (next_part (statements_from part bytes) (rest_from part bytes))
+next_part-from part [] = rw (statements-none part, rest-none part) (omega arith)
+next_part-from part (b ∷ bytes) = elim (cases_Bool (ends part b)) [
+  | inl ended ↦ rw (statements-ended part b bytes ended) (omega arith)
+  | inr held ↦ rw (statements-held part b bytes held, rest-held part b bytes held) (omega (arith, next_part-from (part ++ b ∷ []) bytes, length_push part b))
+]
+
+-- a part that goes on behind these bytes is longer than they are
+pub next_part-long : (part : Bytes) (b : ℕ) (bytes : Bytes) → IsOpen part → ends part b ≡ false
+    → length part < length (next_part (statements (part ++ b ∷ bytes)) (rest_of (part ++ b ∷ bytes)))
+next_part-long part b bytes is_open held =
+    rw (statements-behind part (b ∷ bytes) is_open, rest-behind part (b ∷ bytes) is_open, statements-held part b bytes held, rest-held part b bytes held)
+    (omega (arith, next_part-from (part ++ b ∷ []) bytes, length_push part b))
 
 -- the statements of two pieces are those of the first, and those of the second behind the rest of the first
 pub statements-append : (xs ys : Bytes) → statements (xs ++ ys) ≡ statements xs ++ statements (rest_of xs ++ ys)

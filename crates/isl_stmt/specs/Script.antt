@@ -92,6 +92,11 @@ statements bytes = statements_from [] bytes
 abbrev pub rest_of : Bytes → Bytes
 rest_of bytes = rest_from [] bytes
 
+-- the part that comes next: the first of these statements, or the rest where there is none
+abbrev pub next_part : List Bytes → Bytes → Bytes
+next_part [] rest = rest
+next_part (part ∷ parts) rest = part
+
 -- the bytes of a script that belong to statements or to the rest: no more than the first 2^30
 abbrev pub readable : Bytes → Bytes
 readable script = take (2 ^ 30) script

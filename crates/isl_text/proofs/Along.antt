@@ -120,7 +120,8 @@ named-Leaf t title es p is one = one ∙ sym (ap (λ x. list_any is_named (entri
 pub named-map : (piece : PieceTree) (t : Tuple) (p q : Bool) → piece.second ≡ Some t → p ≡ list_any is_named (entries_of piece.first)
     → q ≡ list_any is_named (entries_of t) → (p || q) ≡ has_named piece
 named-map piece t p q is one two =
-    rw (one, two) (sym (ap (list_any is_named) (entries_of_map piece t is) ∙ list_any-append is_named (entries_of piece.first) (entries_of t)))
+    rw (one, two) (sym (ap (list_any is_named) (entries_of_map piece t is)
+    ∙ list_any-append is_named (entries_of piece.first) (entries_of t)))
 
 pub named-set : (piece : PieceTree) (p : Bool) → piece.second ≡ None → p ≡ list_any is_named (entries_of piece.first) → p ≡ has_named piece
 named-set piece p is one = one ∙ sym (ap (list_any is_named) (entries_of_set piece is ∙ append-nil (entries_of piece.first)))

@@ -1,18 +1,20 @@
 -- The equations of the counts at the constructors of the code.
 use mathlib.Core.Former.{Count}
-use Rattle.std.proofs.Common.{◌≡◌, ℕ, ◌+◌, Bool, List, [], ◌∷◌, length, Option, Some, None, refl, sym, ap, ◌∙◌, arith}
-use Rattle.std.specs.Prelude.{ℤ, min}
-use Rattle.isl_tree.specs.declared.tree.Factor.{Factor, Name, Inner, Floor, Ceil, Row_of-Signed, end_of-Signed, more_of-Signed, items-the_row-Signed, items_hidden-the_row-Signed-0}
+use Rattle.std.proofs.Common.{◌≡◌, ℕ, ◌+◌, List, refl, sym, ap, ◌∙◌, arith}
+use Rattle.std.specs.Prelude.{ℤ}
+use Rattle.isl_tree.specs.declared.tree.Factor.{Factor, Inner, Floor, Ceil, Row_of-Signed, end_of-Signed, more_of-Signed}
+use Rattle.isl_tree.specs.declared.tree.Factor.{items-the_row-Signed, items_hidden-the_row-Signed-0}
 use Rattle.isl_tree.specs.declared.tree.Factor.TheBlock.{hidden-the_row-Signed-0}
 use Rattle.isl_tree.specs.declared.tree.Signed.{Signed}
 use Rattle.isl_tree.specs.declared.tree.Compare.{Compare}
 use Rattle.isl_tree.specs.declared.tree.Binder.{Binder}
-use Rattle.isl_tree.specs.declared.tree.Formula.{Formula, Implies, Or, And, Not, Exists, Chain, Row_of-Formula, end_of-Formula, more_of-Formula, items-the_row-Formula, items_hidden-the_row-Formula-0}
+use Rattle.isl_tree.specs.declared.tree.Formula.{Formula, Implies, Or, And, Not, Exists, Chain, Row_of-Formula, end_of-Formula}
+use Rattle.isl_tree.specs.declared.tree.Formula.{more_of-Formula, items-the_row-Formula, items_hidden-the_row-Formula-0}
 use Rattle.isl_tree.specs.declared.tree.Formula.TheBlock.{hidden-the_row-Formula-0, hidden-the_row-Formula-1}
-use Rattle.isl_tree.specs.declared.tree.Entry.{Entry}
 use Rattle.isl_tree.specs.declared.tree.Tuple.{Tuple, Pair}
 use Rattle.isl_tree.specs.declared.tree.Tuple.TheBlock.{hidden-the_row-Tuple-0}
-use Rattle.isl_text.specs.Bound.{in_factor, in_row, in_part, in_term, in_side, in_links, by_binders, in_formula, in_formula_row, in_formulas, in_tuple, capped}
+use Rattle.isl_text.specs.Bound.{in_factor, in_row, in_part, in_term, in_side, in_links, by_binders, in_formula, in_formula_row}
+use Rattle.isl_text.specs.Bound.{in_formulas, in_tuple, capped}
 use Rattle.isl_text.proofs.Counting.{capped_right, capped_sum}
 
 -- ---- terms
@@ -27,11 +29,15 @@ inside term = row_is _ (hidden-the_row-Signed-0 term) ∙ ap in_term (items_hidd
 pub at-Inner : (x : Factor) (term : List Signed) (n : ℕ) → x ≡ Inner term → n ≡ capped (in_term term) → n ≡ capped (in_factor x)
 at-Inner x term n is count = count ∙ ap capped (sym (ap in_factor is ∙ inside term))
 
-pub at-Floor : (x : Factor) (term : List Signed) (k : ℤ) (n r : ℕ) → x ≡ Floor term k → n ≡ capped (in_term term) → r ≡ capped (1 + n) → r ≡ capped (in_factor x)
-at-Floor x term k n r is count sum = capped_right 1 (in_term term) n r count sum ∙ ap capped (sym (ap in_factor is ∙ ap (λ m. 1 + m) (inside term)))
+pub at-Floor : (x : Factor) (term : List Signed) (k : ℤ) (n r : ℕ) → x ≡ Floor term k → n ≡ capped (in_term term) → r ≡ capped (1 + n)
+    → r ≡ capped (in_factor x)
+at-Floor x term k n r is count sum = capped_right 1 (in_term term) n r count sum
+    ∙ ap capped (sym (ap in_factor is ∙ ap (λ m. 1 + m) (inside term)))
 
-pub at-Ceil : (x : Factor) (term : List Signed) (k : ℤ) (n r : ℕ) → x ≡ Ceil term k → n ≡ capped (in_term term) → r ≡ capped (1 + n) → r ≡ capped (in_factor x)
-at-Ceil x term k n r is count sum = capped_right 1 (in_term term) n r count sum ∙ ap capped (sym (ap in_factor is ∙ ap (λ m. 1 + m) (inside term)))
+pub at-Ceil : (x : Factor) (term : List Signed) (k : ℤ) (n r : ℕ) → x ≡ Ceil term k → n ≡ capped (in_term term) → r ≡ capped (1 + n)
+    → r ≡ capped (in_factor x)
+at-Ceil x term k n r is count sum = capped_right 1 (in_term term) n r count sum
+    ∙ ap capped (sym (ap in_factor is ∙ ap (λ m. 1 + m) (inside term)))
 
 pub ruleset factors = (at-Inner, at-Floor, at-Ceil)
 
@@ -66,11 +72,15 @@ in_formula-Exists bs f = omega arith
 pub at-Not : (x f : Formula) (n : ℕ) → x ≡ Not f → n ≡ capped (in_formula f) → n ≡ capped (in_formula x)
 at-Not x f n is count = count ∙ ap capped (sym (ap in_formula is ∙ in_formula-Not f))
 
-pub at-Exists : (x f : Formula) (bs : List Binder) (m n r : ℕ) → x ≡ Exists bs f → m ≡ capped (by_binders bs) → n ≡ capped (in_formula f) → r ≡ capped (m + n) → r ≡ capped (in_formula x)
-at-Exists x f bs m n r is first second sum = capped_sum (by_binders bs) (in_formula f) m n r first second sum ∙ ap capped (sym (ap in_formula is ∙ in_formula-Exists bs f))
+pub at-Exists : (x f : Formula) (bs : List Binder) (m n r : ℕ) → x ≡ Exists bs f → m ≡ capped (by_binders bs) → n ≡ capped (in_formula f)
+    → r ≡ capped (m + n) → r ≡ capped (in_formula x)
+at-Exists x f bs m n r is first second sum = capped_sum (by_binders bs) (in_formula f) m n r first second sum
+    ∙ ap capped (sym (ap in_formula is ∙ in_formula-Exists bs f))
 
-pub at-Chain : (x : Formula) (side : List (List Signed)) (links : List (Compare × List (List Signed))) (m n r : ℕ) → x ≡ Chain side links → m ≡ capped (in_side side) → n ≡ capped (in_links links) → r ≡ capped (m + n) → r ≡ capped (in_formula x)
-at-Chain x side links m n r is first second sum = capped_sum (in_side side) (in_links links) m n r first second sum ∙ ap capped (sym (ap in_formula is))
+pub at-Chain : (x : Formula) (side : List (List Signed)) (links : List (Compare × List (List Signed))) (m n r : ℕ) → x ≡ Chain side links
+    → m ≡ capped (in_side side) → n ≡ capped (in_links links) → r ≡ capped (m + n) → r ≡ capped (in_formula x)
+at-Chain x side links m n r is first second sum = capped_sum (in_side side) (in_links links) m n r first second sum
+    ∙ ap capped (sym (ap in_formula is))
 
 pub ruleset formulas = (at-Implies, at-Or, at-And, at-Not, at-Exists, at-Chain)
 
@@ -80,7 +90,9 @@ pub in_tuple-Pair : (a b : Tuple) → in_tuple (Pair a b) ≡ in_tuple a + in_tu
 unfolding hidden-the_row-Tuple-0 denote.Hole.Carrier.hidden
 in_tuple-Pair a b = omega arith
 
-pub at-Pair : (x a b : Tuple) (m n r : ℕ) → x ≡ Pair a b → m ≡ capped (in_tuple a) → n ≡ capped (in_tuple b) → r ≡ capped (m + n) → r ≡ capped (in_tuple x)
-at-Pair x a b m n r is first second sum = capped_sum (in_tuple a) (in_tuple b) m n r first second sum ∙ ap capped (sym (ap in_tuple is ∙ in_tuple-Pair a b))
+pub at-Pair : (x a b : Tuple) (m n r : ℕ) → x ≡ Pair a b → m ≡ capped (in_tuple a) → n ≡ capped (in_tuple b) → r ≡ capped (m + n)
+    → r ≡ capped (in_tuple x)
+at-Pair x a b m n r is first second sum = capped_sum (in_tuple a) (in_tuple b) m n r first second sum
+    ∙ ap capped (sym (ap in_tuple is ∙ in_tuple-Pair a b))
 
 pub ruleset tuples = (at-Pair)

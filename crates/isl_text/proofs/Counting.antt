@@ -1,10 +1,10 @@
 -- Sums that stand at a cap.
-use Rattle.std.proofs.Common.{◌≡◌, ℕ, ◌+◌, ◌≤◌, arith}
-use Rattle.std.specs.Prelude.{min}
+use Rattle.std.proofs.Common.{◌≡◌, ℕ, ◌+◌, arith}
 use Rattle.isl_text.specs.Bound.{capped}
 
 -- one more item of a list whose items are counted
-pub count_more : (whole total x rest next : ℕ) → whole ≡ capped (total + (x + rest)) → next ≡ capped (total + capped x) → whole ≡ capped (next + rest)
+pub count_more : (whole total x rest next : ℕ) → whole ≡ capped (total + (x + rest)) → next ≡ capped (total + capped x)
+    → whole ≡ capped (next + rest)
 count_more whole total x rest next so_far more = omega arith
 
 pub capped_sum : (a b m n r : ℕ) → m ≡ capped a → n ≡ capped b → r ≡ capped (m + n) → r ≡ capped (a + b)

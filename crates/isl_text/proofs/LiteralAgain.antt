@@ -1,19 +1,21 @@
 -- What spells a literal is read again.
-use Rattle.std.proofs.Common.{◌≡◌, ◌≢◌, ℕ, zero, suc, ◌+◌, ◌<◌, Bool, true, false, cond, not, List, [], ◌∷◌, ◌++◌, length, Option, Some, None, refl, inl, inr, arith}
+use Rattle.std.proofs.Common.{◌≡◌, ℕ, suc, ◌<◌, true, false, not, List, [], ◌++◌, length, Option, Some}
+use Rattle.std.proofs.Common.{None, refl, inl, inr, arith}
 use Rattle.std.proofs.lemmas.Bool.{false≢true, not-true}
 use Rattle.isl_token.specs.TokenView.{Token}
 use Rattle.isl_token.specs.declared.token.Kind.{Kind}
 use Rattle.isl_token.specs.declared.token.Kind.TheVariants as k
-use Rattle.isl_token.specs.Token.{Text, is_kind}
+use Rattle.isl_token.specs.Token.{is_kind}
 use Rattle.isl_token.specs.Reading.{Parser, head_kind, sees}
 use Rattle.isl_token.specs.Reading as r
 use Rattle.isl_token.specs.Spelling.{Grammar}
 use Rattle.isl_token.specs.Spelling as s
-use Rattle.isl_token.proofs.Again.{Stops, Again, Starts, Follows, Items, always, again_pure, again_map, again_bind, again_skip, again_after, again_end, again_name, again_whole_row, follows_pure, follows_starts, follows_either, follows_always, follows_bind, follows_map, follows_many, starts_bind, starts_more, starts_word, starts_with, starts_name, full_word, full_bind}
+use Rattle.isl_token.proofs.Again.{Stops, Again, Starts, Follows, always, again_map, again_bind, again_skip, again_after}
+use Rattle.isl_token.proofs.Again.{again_end, again_name, again_separated, starts_always, follows_pure, follows_starts, follows_either}
+use Rattle.isl_token.proofs.Again.{follows_always}
+use Rattle.isl_token.proofs.Again.{follows_map, starts_bind, starts_more, starts_word, starts_with, starts_name}
 use Rattle.isl_tree.specs.declared.tree.Formula.{Formula}
 use Rattle.isl_tree.specs.declared.tree.Tuple.{Tuple}
-use Rattle.isl_tree.specs.declared.tree.PieceTree.{PieceTree}
-use Rattle.isl_tree.specs.declared.tree.Literal.{Literal}
 use Rattle.isl_formula.specs.Formula as formulas
 use Rattle.isl_formula.specs.FormulaGrammar as formula_spell
 use Rattle.isl_formula.proofs.TermEnds.{at}
@@ -31,17 +33,9 @@ close_no_comma : (kind : Kind) → is_kind kind k.CloseSquare ≡ true → is_ki
 close_no_comma k.CloseSquare e = refl
 close_no_comma _ e = absurd (false≢true e)
 
-next_name_again : (size : ℕ) → Again size read.next_name (s.◌>>◌ (s.word k.Comma) s.name) always
-unfolding read.next_name
-next_name_again size = record { by = λ a us rest l lt stop. (again_skip k.Comma size (λ _. r.name) (λ _. s.name) always (λ _. again_name size)).by a us rest l (omega arith) refl }
-
 name_row_again : (size : ℕ) → Again size read.name_row spell.name_row (sees k.CloseSquare)
-unfolding read.name_row
-name_row_again size = again_bind size r.name _ s.name _ always (sees k.CloseSquare) (again_name size)
-    (λ first. again_whole_row size (sees k.Comma) read.next_name (s.◌>>◌ (s.word k.Comma) s.name) always
-    (record { starts = starts_with k.Comma _; follows = record { by = λ a us rest l. refl }; some = full_bind (s.word k.Comma) (λ _. s.name) (full_word k.Comma) })
-    (next_name_again size) (first ∷ []) (sees k.CloseSquare) (λ rest stop. (close_no_comma (head_kind rest) stop, refl)))
-    (λ first. follows_always _ (sees k.CloseSquare))
+name_row_again size = again_separated size k.Comma r.name s.name always (again_name size) (starts_always _)
+    (sees k.CloseSquare) (λ rest stop. (close_no_comma (head_kind rest) stop, refl))
 
 names_again : (size : ℕ) → Again size read.names (s.◌∪◌ (s.pure []) spell.name_row) (sees k.CloseSquare)
 names_again size = again_unless size k.CloseSquare read.name_row spell.name_row (name_row_again size)
@@ -49,8 +43,10 @@ names_again size = again_unless size k.CloseSquare read.name_row spell.name_row 
 
 declared_again : (size : ℕ) → Again (suc size) (r.◌>>◌ r.skip read.declared) spell.declared always
 unfolding read.declared
-declared_again size = again_skip k.OpenSquare size (λ _. read.declared) _ always (λ _. again_bind size read.names _ (s.◌∪◌ (s.pure []) spell.name_row) _ (sees k.CloseSquare) always (names_again size)
-    (λ found. again_after size k.CloseSquare _ _ always (λ _. again_end size k.Arrow found)) (λ found. follows_starts always (starts_with k.CloseSquare _)))
+declared_again size = again_skip k.OpenSquare size (λ _. read.declared) _ always
+    (λ _. again_bind size read.names _ (s.◌∪◌ (s.pure []) spell.name_row) _ (sees k.CloseSquare) always (names_again size)
+    (λ found. again_after size k.CloseSquare _ _ always (λ _. again_end size k.Arrow found))
+    (λ found. follows_starts always (starts_with k.CloseSquare _)))
 
 -- what follows the parameters
 abbrev no_square : Stops
@@ -58,7 +54,8 @@ no_square ts = not (sees k.OpenSquare ts)
 
 parameters_again : (size : ℕ) → Again size read.parameters (s.◌∪◌ spell.declared (s.pure [])) no_square
 parameters_again size = again_given size k.OpenSquare [] (r.◌>>◌ r.skip read.declared) spell.declared always
-    (record { by = λ a us rest l lt stop. (declared_again size).by a us rest l (omega arith) stop }) (starts_with k.OpenSquare _) no_square (λ rest e. refl) (λ rest e. not-true _ e)
+    (record { by = λ a us rest l lt stop. (declared_again size).by a us rest l (omega arith) stop }) (starts_with k.OpenSquare _) no_square
+    (λ rest e. refl) (λ rest e. not-true _ e)
 
 -- ---- pieces
 
@@ -94,21 +91,28 @@ abbrev no_arrow : Stops
 no_arrow ts = not (sees k.Arrow ts)
 
 module _ (size : ℕ) (p : Parser Tuple) (L : Grammar Tuple) (tuple : Again size p L always) (tuple_begins : Starts L (at begins_tuple))
-    (q : Parser Formula) (M : Grammar Formula) (formula : Again size q M (at ends_formula)) (formula_begins : Starts M (at begins_formula)) where
+    (q : Parser Formula) (M : Grammar Formula) (formula : Again size q M (at ends_formula))
+    (formula_begins : Starts M (at begins_formula)) where
   next_tuple_again : Again size (read.next_tuple p) (s.◌>>◌ (s.word k.Arrow) L) always
   unfolding read.next_tuple
-  next_tuple_again = record { by = λ a us rest l lt stop. (again_skip k.Arrow size (λ _. p) (λ _. L) always (λ _. tuple)).by a us rest l (omega arith) stop }
+  next_tuple_again = record {
+    by = λ a us rest l lt stop. (again_skip k.Arrow size (λ _. p) (λ _. L) always (λ _. tuple)).by a us rest l
+        (omega arith) stop;
+  }
 
   image_again : Again size (read.image p) (spell.image L M) no_arrow
-  image_again = again_given size k.Arrow None _ _ always (again_map size (read.next_tuple p) (s.◌>>◌ (s.word k.Arrow) L) (λ t. Some t) always next_tuple_again)
+  image_again = again_given size k.Arrow None _ _ always
+      (again_map size (read.next_tuple p) (s.◌>>◌ (s.word k.Arrow) L) (λ t. Some t) always next_tuple_again)
       (starts_bind _ _ (sees k.Arrow) (starts_with k.Arrow _)) no_arrow (λ rest e. refl) (λ rest e. not-true _ e)
 
   abbrev optional : Grammar (Option Formula)
   optional = s.◌∪◌ (s.pure None) (s.◌>>=◌ M (λ f. s.pure (Some f)))
 
-  body_read : (a : Option Formula) (us rest : List Token) → optional a us → length us < size → at read.ends_piece rest ≡ true → read.body q (us ++ rest) ≡ Some (a, rest)
+  body_read : (a : Option Formula) (us rest : List Token) → optional a us → length us < size → at read.ends_piece rest ≡ true
+      → read.body q (us ++ rest) ≡ Some (a, rest)
   body_read a us rest (inl l) lt stop = rw (l.1, stop, l.0) refl
-  body_read a us rest (inr l) lt stop = rw (formula_goes_on (head_kind (us ++ rest)) (some_begins.by a us rest l)) (some_again.by a us rest l lt (piece_ends_formula (head_kind rest) stop))
+  body_read a us rest (inr l) lt stop = rw (formula_goes_on (head_kind (us ++ rest)) (some_begins.by a us rest l))
+      (some_again.by a us rest l lt (piece_ends_formula (head_kind rest) stop))
     where
       some_begins : Starts (s.◌>>=◌ M (λ f. s.pure (Some f))) (at begins_formula)
       some_begins = starts_bind M _ (at begins_formula) formula_begins
@@ -121,36 +125,31 @@ module _ (size : ℕ) (p : Parser Tuple) (L : Grammar Tuple) (tuple : Again size
 
   condition_again : Again size (read.condition q) (spell.condition L M) (at read.ends_piece)
   condition_again = again_given size k.Colon None (r.◌>>◌ r.skip (read.body q)) (s.◌>>◌ (s.word k.Colon) optional) (at read.ends_piece)
-      (record { by = λ a us rest l lt stop. (again_skip k.Colon size (λ _. read.body q) (λ _. optional) (at read.ends_piece) (λ _. body_again)).by a us rest l (omega arith) stop })
+      (record {
+        by = λ a us rest l lt stop. (again_skip k.Colon size (λ _. read.body q) (λ _. optional) (at read.ends_piece)
+            (λ _. body_again)).by a us rest l (omega arith) stop;
+      })
       (starts_with k.Colon _) (at read.ends_piece) (λ rest e. e) (λ rest e. piece_no_colon (head_kind rest) e)
 
   -- what follows the tuples
   condition_follows : Follows (spell.condition L M) (at read.ends_piece) no_arrow
-  condition_follows = follows_either (follows_starts (at read.ends_piece) (starts_bind (s.word k.Colon) _ no_arrow (starts_word k.Colon (λ kind. not (is_kind kind k.Arrow)) refl)))
+  condition_follows = follows_either (follows_starts (at read.ends_piece)
+      (starts_bind (s.word k.Colon) _ no_arrow (starts_word k.Colon (λ kind. not (is_kind kind k.Arrow)) refl)))
       (follows_pure None (at read.ends_piece) no_arrow (λ rest e. piece_no_arrow (head_kind rest) e))
 
   piece_again : Again size (read.piece p q) (spell.piece L M) (at read.ends_piece)
   unfolding read.piece
   piece_again = again_bind size p _ L _ always (at read.ends_piece) tuple
       (λ first. again_bind size (read.image p) _ (spell.image L M) _ no_arrow (at read.ends_piece) image_again
-      (λ second. again_map size (read.condition q) (spell.condition L M) (read.make_piece first second) (at read.ends_piece) condition_again)
+      (λ second. again_map size (read.condition q) (spell.condition L M) (read.make_piece first second) (at read.ends_piece)
+      condition_again)
       (λ second. follows_map (spell.condition L M) (read.make_piece first second) (at read.ends_piece) no_arrow condition_follows))
       (λ first. follows_always _ (at read.ends_piece))
 
-  next_piece_again : Again size (read.next_piece p q) (s.◌>>◌ (s.word k.Semicolon) (spell.piece L M)) (at read.ends_piece)
-  unfolding read.next_piece
-  next_piece_again = record { by = λ a us rest l lt stop. (again_skip k.Semicolon size (λ _. read.piece p q) (λ _. spell.piece L M) (at read.ends_piece) (λ _. piece_again)).by a us rest l (omega arith) stop }
-
-  semicolon_starts : (test : Kind → Bool) → test k.Semicolon ≡ true → Starts (s.◌>>◌ (s.word k.Semicolon) (spell.piece L M)) (at test)
-  semicolon_starts test e = starts_bind (s.word k.Semicolon) (λ _. spell.piece L M) (at test) (starts_word k.Semicolon test e)
-
   piece_row_again : Again size (read.piece_row p q) (spell.piece_row L M) (sees k.CloseBrace)
-  unfolding read.piece_row
-  piece_row_again = again_bind size (read.piece p q) _ (spell.piece L M) _ (at read.ends_piece) (sees k.CloseBrace) piece_again
-      (λ first. again_whole_row size (sees k.Semicolon) (read.next_piece p q) (s.◌>>◌ (s.word k.Semicolon) (spell.piece L M)) (at read.ends_piece)
-      (record { starts = semicolon_starts (λ kind. is_kind kind k.Semicolon) refl; follows = semicolon_starts read.ends_piece refl; some = full_bind (s.word k.Semicolon) (λ _. spell.piece L M) (full_word k.Semicolon) })
-      next_piece_again (first ∷ []) (sees k.CloseBrace) (λ rest stop. ((brace_is (head_kind rest) stop).1, (brace_is (head_kind rest) stop).0)))
-      (λ first. follows_bind (follows_many (semicolon_starts read.ends_piece refl) (λ rest e. (brace_is (head_kind rest) e).0)) (λ others. follows_pure _ (sees k.CloseBrace) (sees k.CloseBrace) (λ rest e. e)))
+  piece_row_again = again_separated size k.Semicolon (read.piece p q) (spell.piece L M) (at read.ends_piece) piece_again
+      (starts_bind (s.word k.Semicolon) _ (at read.ends_piece) (starts_word k.Semicolon read.ends_piece refl))
+      (sees k.CloseBrace) (λ rest stop. ((brace_is (head_kind rest) stop).1, (brace_is (head_kind rest) stop).0))
 
   pieces_again : Again size (read.pieces p q) (s.◌∪◌ (s.pure []) (spell.piece_row L M)) (sees k.CloseBrace)
   pieces_again = again_unless size k.CloseBrace (read.piece_row p q) (spell.piece_row L M) piece_row_again
@@ -159,14 +158,17 @@ module _ (size : ℕ) (p : Parser Tuple) (L : Grammar Tuple) (tuple : Again size
 
   braces_again : Again size (read.braces p q) (spell.braces L M) always
   unfolding read.braces
-  braces_again = again_after size k.OpenBrace _ _ always (λ _. again_bind size (read.pieces p q) _ (s.◌∪◌ (s.pure []) (spell.piece_row L M)) _ (sees k.CloseBrace) always pieces_again
+  braces_again = again_after size k.OpenBrace _ _ always
+      (λ _. again_bind size (read.pieces p q) _ (s.◌∪◌ (s.pure []) (spell.piece_row L M)) _ (sees k.CloseBrace) always pieces_again
       (λ found. again_end size k.CloseBrace found) (λ found. follows_starts always (starts_with k.CloseBrace _)))
 
   outline_read : Again size (read.outline p q) (spell.outline L M) always
   unfolding read.outline
   outline_read = again_bind size read.parameters _ (s.◌∪◌ spell.declared (s.pure [])) _ no_square always (parameters_again size)
       (λ params. again_map size (read.braces p q) (spell.braces L M) (read.make_literal params) always braces_again)
-      (λ params. follows_starts always (starts_bind (spell.braces L M) _ no_square (starts_bind (s.word k.OpenBrace) _ no_square (starts_word k.OpenBrace (λ kind. not (is_kind kind k.OpenSquare)) refl))))
+      (λ params. follows_starts always (starts_bind (spell.braces L M) _ no_square
+      (starts_bind (s.word k.OpenBrace) _ no_square (starts_word k.OpenBrace (λ kind. not (is_kind kind k.OpenSquare)) refl))))
 
 pub outline_again : (n depth : ℕ) → Again n (read.outline (tuples.tuple n) (formulas.formula n)) (spell.outline_of depth) always
-outline_again n depth = outline_read n (tuples.tuple n) (spell.tuple depth) (tuple_again n depth) (tuple_starts depth) (formulas.formula n) (formula_spell.formula depth) (formula_again n depth) (formula_starts depth)
+outline_again n depth = outline_read n (tuples.tuple n) (spell.tuple depth) (tuple_again n depth) (tuple_starts depth) (formulas.formula n)
+    (formula_spell.formula depth) (formula_again n depth) (formula_starts depth)

@@ -1,5 +1,6 @@
 -- Both laws for literals with the rules on names.
-use Rattle.std.proofs.Common.{◌≡◌, ℕ, ◌<◌, Bool, true, false, cond, List, ◌++◌, length, Option, Some, None, refl, sym, ap, subst, ◌∙◌, inl, inr}
+use Rattle.std.proofs.Common.{ℕ, cond, List, ◌++◌, Some, refl, ap, subst, ◌∙◌, inl}
+use Rattle.std.proofs.Common.{inr}
 use Rattle.isl_token.specs.TokenView.{Token}
 use Rattle.isl_token.specs.Reading.{Parser, and_then}
 use Rattle.isl_token.specs.Reading as r
@@ -22,7 +23,8 @@ unfolding literal
 literal_taken n ts = record {
   by = λ a rest e.
       let x = and_then_some (outline (tuple n) (formula n) ts) (λ found. cond (is_formed found) (r.pure found) r.none) (a, rest) e in
-      let c = (outline_taken (tuple n) (spell.tuple n) (tuple_taken n) (formula n) (formula_spell.formula n) (formula_is_taken n) ts).by x.0.0 x.0.1 x.1 in
+      let c = (outline_taken (tuple n) (spell.tuple n) (tuple_taken n) (formula n) (formula_spell.formula n) (formula_is_taken n) ts).by
+      x.0.0 x.0.1 x.1 in
       elim (chosen_reader (is_formed x.0.0) (r.pure x.0.0) r.none x.0.1 (Some (a, rest)) x.2) [
         | inl yes' ↦ let p = same_read x.0.0 a x.0.1 rest yes'.1 in
             (c.0, c.1 ∙ ap (λ (l : List Token). c.0 ++ l) p.1, subst (λ (v : Literal). literal_grammar n v c.0) p.0 (c.2, yes'.0))

@@ -1,23 +1,23 @@
 -- When each answer of reading a literal comes.
-use Rattle.std.proofs.Common.{◌≡◌, ◌≢◌, ℕ, ℤ, zero, suc, ◌+◌, ◌-◌, ◌<◌, ◌≤◌, Bool, true, false, cond, List, [], ◌∷◌, ◌++◌, length, take, drop, Option, Some, None, Result, Ok, Err, refl, sym, ap, subst, ◌∙◌, inl, inr, arith, length-append}
+use Rattle.std.proofs.Common.{◌≡◌, ℕ, ℤ, suc, ◌+◌, ◌-◌, ◌<◌, ◌≤◌, Bool, true, false, cond, List, ◌++◌, length, take}
+use Rattle.std.proofs.Common.{drop, Option, Some, None, Result, Ok, Err, refl, sym, ap, subst, ◌∙◌, inl, inr, arith, length-append}
 use Rattle.std.specs.Prelude.{not, slice_range}
-use Rattle.std.proofs.lemmas.Bool.{false≢true, true≢false}
-use Rattle.std.proofs.lemmas.List.{take-append-drop, drop-drop, length-drop, length-take}
+use Rattle.std.proofs.lemmas.Bool.{true≢false}
+use Rattle.std.proofs.lemmas.List.{take-append-drop, drop-drop, length-drop}
 use Rattle.std.proofs.Math.Seq.{take-append_seam}
 use Rattle.isl_token.specs.TokenView.{Token}
 use Rattle.isl_token.specs.declared.fault.Fault.{Fault}
 use Rattle.isl_token.specs.declared.fault.Fault.TheVariants as fault
 use Rattle.isl_token.specs.Depth.{is_too_deep}
 use Rattle.isl_token.specs.Reading.{Reads}
-use Rattle.isl_token.specs.Spelling.{Spells}
 use Rattle.isl_token.proofs.Taking.{same_read}
 use Rattle.isl_tree.specs.declared.tree.Literal.{Literal}
 use Rattle.isl_text.specs.declared.refusal.Refusal.{Refusal}
-use Rattle.isl_text.specs.declared.refusal.Refusal.TheVariants.{Syntax, TooWide, TooDeep, WideNumber, NoMemory}
+use Rattle.isl_text.specs.declared.refusal.Refusal.TheVariants.{TooWide, TooDeep, WideNumber}
 use Rattle.isl_text.specs.Refusal.{of_fault}
-use Rattle.isl_text.specs.Literal.{literal, literal_grammar}
+use Rattle.isl_text.specs.Literal.{literal}
 use Rattle.isl_text.specs.Limits.{is_within}
-use Rattle.isl_text.specs.Read.{IsLiteralAt, Stands, has_wide_number, judged, NoLiteral, OnlyWhere, ExactlyWhere}
+use Rattle.isl_text.specs.Read.{IsLiteralAt, Stands, has_wide_number, judged, OnlyWhere, ExactlyWhere}
 use Rattle.isl_text.proofs.LiteralLaws.{literal_taken, literal_again}
 
 -- the tokens from a place on: those up to the next place, and those behind it

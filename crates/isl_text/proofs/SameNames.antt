@@ -77,7 +77,8 @@ names_are_new-same a b [] same = refl
 names_are_new-same a b (entry ∷ entries) same =
     ap (λ q. q && names_are_new (with_name a (standing_name entry)) entries) (is_new-same a b entry same)
     ∙ ap (λ q. is_new b entry && q)
-    (names_are_new-same (with_name a (standing_name entry)) (with_name b (standing_name entry)) entries (with_name-same a b (standing_name entry) same))
+    (names_are_new-same (with_name a (standing_name entry)) (with_name b (standing_name entry)) entries
+    (with_name-same a b (standing_name entry) same))
 
 pub known_behind-same : (a b : List Text) (entries : List Entry) → HaveSameNames a b
     → HaveSameNames (known_behind a entries) (known_behind b entries)
@@ -102,7 +103,8 @@ inserted_same names name = by (list_any (bytes_eq name) names) refl
             ap (is_among names) (sym ((bytes_eq-Decides name other).0 same)) ∙ sym (among_turned names name) ∙ is in
             one ∙ sym (among-append names (name ∷ []) other ∙ ap (λ q. q || (bytes_eq name other || false)) one)
         by_other false differs =
-            sym (among-append names (name ∷ []) other ∙ ap (λ q. is_among names other || (q || false)) differs ∙ or-false (is_among names other))
+            sym (among-append names (name ∷ []) other ∙ ap (λ q. is_among names other || (q || false)) differs
+            ∙ or-false (is_among names other))
 
 pub learned : (own more : List Text) (standing : Option Text) (name copy : Text) → standing ≡ Some name → copy ≡ name
     → more ≡ insert_key bytes_eq own copy → HaveSameNames more (with_name own standing)
@@ -183,7 +185,8 @@ along_ends params start own entries i over along =
     let none : drop i entries ≡ [] = drop_all i entries over in
     record {
       are_new = sym (along.same ∙ ap (names_are_new (params ++ own)) none);
-      become_known = λ e. subst (λ (l : List Entry). HaveSameNames (known_behind (params ++ own) l) (known_behind (params ++ start) entries)) none along.behind;
+      become_known = λ e. subst (λ (l : List Entry). HaveSameNames (known_behind (params ++ own) l)
+          (known_behind (params ++ start) entries)) none along.behind;
     }
 
 -- ---- pieces
@@ -198,7 +201,8 @@ piece_is set params own behind piece new same none goes =
 module _ (params : List Text) (pieces : List PieceTree) (i : ℕ) (piece : PieceTree) (low : i < length pieces)
     (at : piece ≡ get_or pieces i piece)
     (so_far : list_all (piece_is_formed params) pieces ≡ list_all (piece_is_formed params) (drop i pieces)) where
-  behind_it : list_all (piece_is_formed params) pieces ≡ (piece_is_formed params piece && list_all (piece_is_formed params) (drop (i + 1) pieces))
+  behind_it : list_all (piece_is_formed params) pieces
+      ≡ (piece_is_formed params piece && list_all (piece_is_formed params) (drop (i + 1) pieces))
   behind_it = so_far ∙ ap (list_all (piece_is_formed params)) (drop_more pieces i piece low ∙ ap (λ p. p ∷ drop (i + 1) pieces) (sym at))
 
   pub pieces_stop : (new : Bool) → new ≡ false → new ≡ piece_is_formed params piece → false ≡ list_all (piece_is_formed params) pieces

@@ -1,5 +1,6 @@
 -- What spells a tuple is read again.
-use Rattle.std.proofs.Common.{◌≡◌, ◌≢◌, ℕ, zero, suc, ◌+◌, ◌<◌, Bool, true, false, cond, not, ◌&&◌, List, [], ◌∷◌, ◌++◌, length, Option, Some, None, refl, sym, ap, ◌∙◌, inl, inr, arith}
+use Rattle.std.proofs.Common.{◌≡◌, ℕ, zero, suc, ◌<◌, Bool, true, false, not, ◌&&◌, List, [], ◌∷◌, ◌++◌, length, Option}
+use Rattle.std.proofs.Common.{Some, None, refl, sym, ap, ◌∙◌, inl, inr, arith}
 use Rattle.std.proofs.lemmas.Bool.{false≢true, true≢false, not-true}
 use Rattle.std.proofs.lemmas.List.{append-nil}
 use Rattle.isl_token.specs.TokenView.{Token}
@@ -12,7 +13,10 @@ use Rattle.isl_token.specs.Reading as r
 use Rattle.isl_token.specs.Spelling.{Grammar}
 use Rattle.isl_token.specs.Spelling as s
 use Rattle.isl_token.proofs.Taking.{is_kind_same, is_kind_true}
-use Rattle.isl_token.proofs.Again.{Stops, Again, Starts, Follows, Items, always, again_pure, again_map, again_bind, again_skip, again_after, again_end, again_name, again_whole_row, follows_pure, follows_starts, follows_either, follows_always, follows_bind, follows_many, follows_word, starts_bind, starts_either, starts_more, starts_word, starts_with, starts_name, head_is, full_word, full_bind}
+use Rattle.isl_token.proofs.Again.{Again, Starts, always, again_map, again_bind, again_skip, again_after}
+use Rattle.isl_token.proofs.Again.{again_end, again_name, again_separated, follows_starts, follows_always}
+use Rattle.isl_token.proofs.Again.{starts_bind, starts_either, starts_more, starts_word}
+use Rattle.isl_token.proofs.Again.{starts_with, starts_name, head_is}
 use Rattle.isl_tree.specs.declared.tree.Signed.{Signed}
 use Rattle.isl_tree.specs.declared.tree.Entry.{Entry}
 use Rattle.isl_tree.specs.declared.tree.Entry.TheVariants.{Plain, Named}
@@ -63,27 +67,33 @@ no_both true = refl
 no_both false = refl
 
 -- a name and `=` hold a mark of formulas, which no term does
-name_equal : (a b : Kind) (level : ℕ) (rest : ℕ → Bool) → is_kind a k.Name ≡ true → is_kind b k.Equal ≡ true → mark_step Formula a level (λ l. mark_step Formula b l rest) ≡ true
+name_equal : (a b : Kind) (level : ℕ) (rest : ℕ → Bool) → is_kind a k.Name ≡ true → is_kind b k.Equal ≡ true
+    → mark_step Formula a level (λ l. mark_step Formula b l rest) ≡ true
 name_equal a b level rest name equal =
-    ap (λ x. mark_step Formula x level (λ l. mark_step Formula b l rest)) (is_kind_true a k.Name name) ∙ ap (λ x. mark_step Formula x level rest) (is_kind_true b k.Equal equal)
+    ap (λ x. mark_step Formula x level (λ l. mark_step Formula b l rest)) (is_kind_true a k.Name name)
+    ∙ ap (λ x. mark_step Formula x level rest) (is_kind_true b k.Equal equal)
 
 second_apart : (a b : Bool) → (a ≡ true → b ≡ true → ⊥) → (a && b) ≡ false
 second_apart true true apart = absurd (apart refl refl)
 second_apart true false apart = refl
 second_apart false b apart = refl
 
-not_named : (us rest : List Token) → holds Formula (us ++ []) 0 ≡ holds Formula [] 0 → begins_term (head_kind (us ++ [])) ≡ true → is_kind (head_kind rest) k.Equal ≡ false → read.sees_named (us ++ rest) ≡ false
+not_named : (us rest : List Token) → holds Formula (us ++ []) 0 ≡ holds Formula [] 0 → begins_term (head_kind (us ++ [])) ≡ true
+    → is_kind (head_kind rest) k.Equal ≡ false → read.sees_named (us ++ rest) ≡ false
 unfolding holds
 not_named [] rest clear starts stop = absurd (false≢true starts)
 not_named (t ∷ []) rest clear starts stop = rw stop (no_both (is_kind (kind_of t) k.Name))
 not_named (t ∷ u ∷ us) rest clear starts stop =
-    second_apart (is_kind (kind_of t) k.Name) (is_kind (kind_of u) k.Equal) (λ name equal. true≢false (sym (name_equal (kind_of t) (kind_of u) 0 (holds Formula (us ++ [])) name equal) ∙ clear))
+    second_apart (is_kind (kind_of t) k.Name) (is_kind (kind_of u) k.Equal)
+    (λ name equal. true≢false (sym (name_equal (kind_of t) (kind_of u) 0 (holds Formula (us ++ [])) name equal) ∙ clear))
 
-module _ (size : ℕ) (p : Parser (List Signed)) (L : Grammar (List Signed)) (term : Again size p L (at ends_term)) (starts : Starts L (at begins_term)) (clear : Clear Formula L) where
+module _ (size : ℕ) (p : Parser (List Signed)) (L : Grammar (List Signed)) (term : Again size p L (at ends_term))
+    (starts : Starts L (at begins_term)) (clear : Clear Formula L) where
   named_again : Again size (read.named_entry p) (spell.named_entry L) (at ends_term)
   unfolding read.named_entry
   named_again = again_bind size r.name _ s.name _ always (at ends_term) (again_name size)
-      (λ new. again_after size k.Equal _ _ (at ends_term) (λ _. again_map size p L (Named new) (at ends_term) term)) (λ new. follows_always _ (at ends_term))
+      (λ new. again_after size k.Equal _ _ (at ends_term) (λ _. again_map size p L (Named new) (at ends_term) term))
+      (λ new. follows_always _ (at ends_term))
 
   plain_again : Again size (read.plain_entry p) (spell.plain_entry L) (at ends_term)
   unfolding read.plain_entry
@@ -91,58 +101,60 @@ module _ (size : ℕ) (p : Parser (List Signed)) (L : Grammar (List Signed)) (te
 
   named_seen : (a : Entry) (us rest : List Token) → spell.named_entry L a us → read.sees_named (us ++ rest) ≡ true
   named_seen a us rest l =
-      let whole : us ++ rest ≡ token.Word l.0 ∷ (l.5.4.0 ∷ (l.5.2 ++ rest)) = ap (λ (x : List Token). x ++ rest) (l.3 ∙ ap (λ (x : List Token). x ++ l.2) l.4.0 ∙ ap (λ (x : List Token). token.Word l.0 ∷ x) (l.5.3 ∙ ap (λ (x : List Token). x ++ l.5.2) l.5.4.1)) in
+      let whole : us ++ rest ≡ token.Word l.0 ∷ (l.5.4.0 ∷ (l.5.2 ++ rest)) =
+      ap (λ (x : List Token). x ++ rest)
+      (l.3 ∙ ap (λ (x : List Token). x ++ l.2) l.4.0
+      ∙ ap (λ (x : List Token). token.Word l.0 ∷ x) (l.5.3 ∙ ap (λ (x : List Token). x ++ l.5.2) l.5.4.1)) in
       rw (whole, is_kind_same (kind_of (token.Word l.0)) k.Name l.4.1, is_kind_same (kind_of l.5.4.0) k.Equal l.5.4.2) refl
 
-  plain_seen : (a : Entry) (us rest : List Token) → spell.plain_entry L a us → is_kind (head_kind rest) k.Equal ≡ false → read.sees_named (us ++ rest) ≡ false
+  plain_seen : (a : Entry) (us rest : List Token) → spell.plain_entry L a us → is_kind (head_kind rest) k.Equal ≡ false
+      → read.sees_named (us ++ rest) ≡ false
   plain_seen a us rest l stop =
       let same : us ≡ l.1 = l.3 ∙ ap (λ (x : List Token). l.1 ++ x) l.5.1 ∙ append-nil l.1 in
       rw same (not_named l.1 rest (clear.by l.0 l.1 [] 0 l.4) (starts.by l.0 l.1 [] l.4) stop)
 
-  entry_read : (a : Entry) (us rest : List Token) → spell.entry L a us → length us < size → at ends_entry rest ≡ true → read.entry p (us ++ rest) ≡ Some (a, rest)
+  entry_read : (a : Entry) (us rest : List Token) → spell.entry L a us → length us < size → at ends_entry rest ≡ true
+      → read.entry p (us ++ rest) ≡ Some (a, rest)
   entry_read a us rest (inl l) lt stop = rw (named_seen a us rest l) (named_again.by a us rest l lt (entry_ends_term (head_kind rest) stop))
-  entry_read a us rest (inr l) lt stop = rw (plain_seen a us rest l (entry_no_equal (head_kind rest) stop)) (plain_again.by a us rest l lt (entry_ends_term (head_kind rest) stop))
+  entry_read a us rest (inr l) lt stop = rw (plain_seen a us rest l (entry_no_equal (head_kind rest) stop))
+      (plain_again.by a us rest l lt (entry_ends_term (head_kind rest) stop))
 
   entry_again : Again size (read.entry p) (spell.entry L) (at ends_entry)
   entry_again = record { by = λ a us rest l lt stop. entry_read a us rest l lt stop }
 
-  next_entry_again : Again size (read.next_entry p) (s.◌>>◌ (s.word k.Comma) (spell.entry L)) (at ends_entry)
-  unfolding read.next_entry
-  next_entry_again = record { by = λ a us rest l lt stop. (again_skip k.Comma size (λ _. read.entry p) (λ _. spell.entry L) (at ends_entry) (λ _. entry_again)).by a us rest l (omega arith) stop }
-
-  comma_starts : (test : Kind → Bool) → test k.Comma ≡ true → Starts (s.◌>>◌ (s.word k.Comma) (spell.entry L)) (at test)
-  comma_starts test e = starts_bind (s.word k.Comma) (λ _. spell.entry L) (at test) (starts_word k.Comma test e)
-
   entry_row_again : Again size (read.entry_row p) (spell.entry_row L) (sees k.CloseSquare)
-  unfolding read.entry_row
-  entry_row_again = again_bind size (read.entry p) _ (spell.entry L) _ (at ends_entry) (sees k.CloseSquare) entry_again
-      (λ first. again_whole_row size (sees k.Comma) (read.next_entry p) (s.◌>>◌ (s.word k.Comma) (spell.entry L)) (at ends_entry)
-      (record { starts = comma_starts (λ kind. is_kind kind k.Comma) refl; follows = comma_starts ends_entry refl; some = full_bind (s.word k.Comma) (λ _. spell.entry L) (full_word k.Comma) })
-      next_entry_again (first ∷ []) (sees k.CloseSquare) (λ rest stop. ((close_is (head_kind rest) stop).1, (close_is (head_kind rest) stop).0)))
-      (λ first. follows_bind (follows_many (comma_starts ends_entry refl) (λ rest e. (close_is (head_kind rest) e).0)) (λ others. follows_pure _ (sees k.CloseSquare) (sees k.CloseSquare) (λ rest e. e)))
+  entry_row_again = again_separated size k.Comma (read.entry p) (spell.entry L) (at ends_entry) entry_again
+      (starts_bind (s.word k.Comma) _ (at ends_entry) (starts_word k.Comma ends_entry refl))
+      (sees k.CloseSquare) (λ rest stop. ((close_is (head_kind rest) stop).1, (close_is (head_kind rest) stop).0))
 
   entry_starts : Starts (spell.entry L) (at begins_term)
-  entry_starts = starts_either _ _ (at begins_term) (starts_bind s.name _ (at begins_term) (starts_name begins_term refl)) (starts_bind L _ (at begins_term) starts)
+  entry_starts = starts_either _ _ (at begins_term) (starts_bind s.name _ (at begins_term) (starts_name begins_term refl))
+      (starts_bind L _ (at begins_term) starts)
 
   entries_again : Again size (read.entries p) (s.◌∪◌ (s.pure []) (spell.entry_row L)) (sees k.CloseSquare)
   entries_again = again_unless size k.CloseSquare (read.entry_row p) (spell.entry_row L) entry_row_again
-      (starts_bind (spell.entry L) _ (λ ts. not (sees k.CloseSquare ts)) (starts_more _ (at begins_term) (λ ts. not (sees k.CloseSquare ts)) entry_starts (λ ts e. term_no_close (head_kind ts) e)))
+      (starts_bind (spell.entry L) _ (λ ts. not (sees k.CloseSquare ts))
+      (starts_more _ (at begins_term) (λ ts. not (sees k.CloseSquare ts)) entry_starts (λ ts e. term_no_close (head_kind ts) e)))
 
   leaf_again : (title : Option Text) → Again size (read.leaf p title) (spell.leaf L title) always
   unfolding read.leaf
-  leaf_again title = again_after size k.OpenSquare _ _ always (λ _. again_bind size (read.entries p) _ (s.◌∪◌ (s.pure []) (spell.entry_row L)) _ (sees k.CloseSquare) always entries_again
+  leaf_again title = again_after size k.OpenSquare _ _ always
+      (λ _. again_bind size (read.entries p) _ (s.◌∪◌ (s.pure []) (spell.entry_row L)) _ (sees k.CloseSquare) always entries_again
       (λ found. again_end size k.CloseSquare (Leaf title found)) (λ found. follows_starts always (starts_with k.CloseSquare _)))
 
   named_leaf_again : Again size (read.named_leaf p) (spell.named_leaf L) always
   unfolding read.named_leaf
-  named_leaf_again = again_bind size r.name _ s.name _ always always (again_name size) (λ title. leaf_again (Some title)) (λ title. follows_always _ always)
+  named_leaf_again = again_bind size r.name _ s.name _ always always (again_name size) (λ title. leaf_again (Some title))
+      (λ title. follows_always _ always)
 
-module _ (size : ℕ) (p : Parser (List Signed)) (L : Grammar (List Signed)) (term : Again (suc size) p L (at ends_term)) (starts : Starts L (at begins_term)) (clear : Clear Formula L) (flat : Clear Arrow L)
+module _ (size : ℕ) (p : Parser (List Signed)) (L : Grammar (List Signed)) (term : Again (suc size) p L (at ends_term))
+    (starts : Starts L (at begins_term)) (clear : Clear Formula L) (flat : Clear Arrow L)
     (q : Parser Tuple) (M : Grammar Tuple) (nested : Again size q M always) (through : Through M) where
   pair_again : Again (suc size) (r.◌>>◌ r.skip (read.pair p q)) (spell.pair L M) always
   unfolding read.pair
   pair_again = again_skip k.OpenSquare size (λ _. read.pair p q) _ always (λ _. again_bind size q _ M _ always always nested
-      (λ first. again_after size k.Arrow _ _ always (λ _. again_bind size q _ M _ always always nested (λ second. again_end size k.CloseSquare (Pair first second)) (λ second. follows_always _ always)))
+      (λ first. again_after size k.Arrow _ _ always (λ _. again_bind size q _ M _ always always nested
+      (λ second. again_end size k.CloseSquare (Pair first second)) (λ second. follows_always _ always)))
       (λ first. follows_always _ always))
 
   leaf_plain : Starts (spell.leaf L None) (plain Arrow k.OpenSquare)
@@ -163,11 +175,19 @@ module _ (size : ℕ) (p : Parser (List Signed)) (L : Grammar (List Signed)) (te
   no_name : (kind : Kind) → kind ≡ k.OpenSquare → is_kind kind k.Name ≡ false
   no_name kind e = ap (λ x. is_kind x k.Name) e
 
-  level_read : (a : Tuple) (us rest : List Token) → spell.tuple_level L M a us → length us < suc size → read.tuple_level p q (us ++ rest) ≡ Some (a, rest)
+  level_read : (a : Tuple) (us rest : List Token) → spell.tuple_level L M a us → length us < suc size
+      → read.tuple_level p q (us ++ rest) ≡ Some (a, rest)
   unfolding read.tuple_level
-  level_read a us rest (inl l) lt = rw (named_starts.by a us rest l) ((named_leaf_again (suc size) p L term starts clear).by a us rest l lt refl)
-  level_read a us rest (inr (inl l)) lt = rw (no_name (head_kind (us ++ rest)) (head_is k.OpenSquare leaf_starts a us rest l), not-true _ (leaf_plain.by a us rest l)) ((leaf_again (suc size) p L term starts clear None).by a us rest l lt refl)
-  level_read a us rest (inr (inr l)) lt = rw (no_name (head_kind (us ++ rest)) (head_is k.OpenSquare pair_starts a us rest l), pair_begins.by a us rest l) (pair_again.by a us rest l lt refl)
+  level_read a us rest (inl l) lt = rw (named_starts.by a us rest l)
+      ((named_leaf_again (suc size) p L term starts clear).by a us rest l lt refl)
+  level_read a us rest (inr (inl l)) lt = rw (
+    no_name (head_kind (us ++ rest)) (head_is k.OpenSquare leaf_starts a us rest l),
+    not-true _ (leaf_plain.by a us rest l),
+  ) ((leaf_again (suc size) p L term starts clear None).by a us rest l lt refl)
+  level_read a us rest (inr (inr l)) lt = rw (
+    no_name (head_kind (us ++ rest)) (head_is k.OpenSquare pair_starts a us rest l),
+    pair_begins.by a us rest l,
+  ) (pair_again.by a us rest l lt refl)
 
   level_again : Again (suc size) (read.tuple_level p q) (spell.tuple_level L M) always
   level_again = record { by = λ a us rest l lt stop. level_read a us rest l lt }
@@ -176,7 +196,8 @@ pub tuple_again : (n depth : ℕ) → Again n (read.tuple n) (spell.tuple depth)
 unfolding read.tuple spell.tuple
 tuple_again zero depth = record { by = λ a us rest l lt stop. absurd (omega arith) }
 tuple_again (suc n) zero = record { by = λ a us rest l lt stop. absurd l }
-tuple_again (suc n) (suc depth) = level_again n (terms.term (suc n)) (term_spell.term (suc depth)) (term_again (suc n) (suc depth)) (term_starts (suc depth)) (term_clear Formula (suc depth)) (term_clear Arrow (suc depth))
+tuple_again (suc n) (suc depth) = level_again n (terms.term (suc n)) (term_spell.term (suc depth)) (term_again (suc n) (suc depth))
+    (term_starts (suc depth)) (term_clear Formula (suc depth)) (term_clear Arrow (suc depth))
     (read.tuple n) (spell.tuple depth) (tuple_again n depth) (tuple_through depth)
 
 -- ---- how a tuple begins
@@ -190,4 +211,6 @@ pub tuple_starts : (n : ℕ) → Starts (spell.tuple n) (at begins_tuple)
 unfolding spell.tuple
 tuple_starts zero = record { by = λ a us rest l. absurd l }
 tuple_starts (suc n) = starts_either _ _ (at begins_tuple) (starts_bind s.name _ (at begins_tuple) (starts_name begins_tuple refl))
-    (starts_either _ _ (at begins_tuple) (starts_bind (s.word k.OpenSquare) _ (at begins_tuple) (starts_word k.OpenSquare begins_tuple refl)) (starts_bind (s.word k.OpenSquare) _ (at begins_tuple) (starts_word k.OpenSquare begins_tuple refl)))
+    (starts_either _ _ (at begins_tuple) (starts_bind (s.word k.OpenSquare) _ (at begins_tuple)
+    (starts_word k.OpenSquare begins_tuple refl))
+    (starts_bind (s.word k.OpenSquare) _ (at begins_tuple) (starts_word k.OpenSquare begins_tuple refl)))

@@ -1,6 +1,5 @@
 -- A tuple reads one level.
-use Rattle.std.proofs.Common.{◌≡◌, ℕ, zero, suc, ◌-◌, ◌<◌, refl, ap, arith}
-use Rattle.isl_token.specs.Reading.{Parser}
+use Rattle.std.proofs.Common.{◌≡◌, ℕ, zero, suc, ◌-◌, ◌<◌, ap, arith}
 use Rattle.isl_formula.specs.Term.{term}
 use Rattle.isl_text.specs.Tuple.{tuple, tuple_level}
 

@@ -1,4 +1,4 @@
--- The rules on names and on the number of tuples, which no grammar says. (isl manual, the notation of sets and relations)
+-- public: the rules on names and on the number of tuples, which no grammar says. (isl manual, the notation of sets and relations)
 use Rattle.std.specs.Prelude.{◌≡◌, Bool, true, false, not, ◌&&◌, ◌||◌, is_some, is_none, List, [], ◌∷◌, ◌++◌, Option, Some, None}
 use Rattle.std.specs.List.{list_all, list_any}
 use Rattle.isl_token.specs.Token.{Text}

@@ -7,3 +7,11 @@ pub mod Bound
 pub mod Limits
 pub mod Refusal
 pub mod Read
+pub use Rattle.isl_token.specs.Depth
+pub use Rattle.isl_token.specs.Lex
+pub use Rattle.isl_token.specs.Reading
+pub use Rattle.isl_token.specs.Spelling
+pub use Rattle.isl_token.specs.Token
+pub use Rattle.isl_token.specs.TokenView
+pub use Rattle.isl_formula.specs.FormulaGrammar
+pub use Rattle.isl_formula.specs.TermGrammar

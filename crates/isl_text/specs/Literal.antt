@@ -1,4 +1,4 @@
--- Literals: how they are read, and the grammar with the rules on names.
+-- public: literals: how they are read, and the grammar with the rules on names.
 use Rattle.std.specs.Prelude.{◌≡◌, ℕ, true, if◌then◌else◌}
 use Rattle.isl_token.specs.Reading.{Parser, ◌>>=◌, pure, none}
 use Rattle.isl_token.specs.Spelling.{Grammar}

@@ -1,9 +1,8 @@
--- The grammar of literals. (isl manual, the notation of sets and relations)
-use Rattle.std.specs.Prelude.{◌≡◌, ℕ, zero, suc, List, [], ◌∷◌, Option, Some, None}
-use Rattle.isl_token.specs.TokenView.{Token}
+-- public: the grammar of literals. (isl manual, the notation of sets and relations)
+use Rattle.std.specs.Prelude.{ℕ, zero, suc, List, [], Option, Some, None}
 use Rattle.isl_token.specs.declared.token.Kind.TheVariants as k
 use Rattle.isl_token.specs.Token.{Text}
-use Rattle.isl_token.specs.Spelling.{Grammar, ◌>>=◌, ◌>>◌, ◌∪◌, pure, word, name, many}
+use Rattle.isl_token.specs.Spelling.{Grammar, ◌>>=◌, ◌>>◌, ◌∪◌, pure, word, name, separated}
 use Rattle.isl_tree.specs.declared.tree.Signed.{Signed}
 use Rattle.isl_tree.specs.declared.tree.Formula.{Formula}
 use Rattle.isl_tree.specs.declared.tree.Entry.{Entry}
@@ -34,10 +33,7 @@ module _ (term : Grammar (List Signed)) where
 
   -- entry {"," entry}
   abbrev pub entry_row : Grammar (List Entry)
-  entry_row = do
-    first ← entry
-    others ← many (word k.Comma >> entry)
-    pure (first ∷ others)
+  entry_row = separated k.Comma entry
 
   -- "[" [entry {"," entry}] "]"
   abbrev pub leaf : Option Text → Grammar Tuple
@@ -74,10 +70,7 @@ tuple (suc n) = tuple_level (term (suc n)) (tuple n)
 
 -- name {"," name}
 abbrev pub name_row : Grammar (List Text)
-name_row = do
-  first ← name
-  others ← many (word k.Comma >> name)
-  pure (first ∷ others)
+name_row = separated k.Comma name
 
 -- "[" [name {"," name}] "]" "->"
 abbrev pub declared : Grammar (List Text)
@@ -107,10 +100,7 @@ module _ (tuple : Grammar Tuple) (formula : Grammar Formula) where
 
   -- piece {";" piece}
   abbrev pub piece_row : Grammar (List PieceTree)
-  piece_row = do
-    first ← piece
-    others ← many (word k.Semicolon >> piece)
-    pure (first ∷ others)
+  piece_row = separated k.Semicolon piece
 
   -- "{" [piece {";" piece}] "}"
   abbrev pub braces : Grammar (List PieceTree)

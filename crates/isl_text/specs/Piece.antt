@@ -1,10 +1,9 @@
--- Pieces, and literals of which no rule on names is asked yet: how they are read.
-use Rattle.std.specs.Prelude.{Bool, true, false, List, [], ◌∷◌, Option, Some, None, if◌then◌else◌}
-use Rattle.isl_token.specs.TokenView.{Token}
+-- inner: pieces, and literals of which no rule on names is asked yet: how they are read.
+use Rattle.std.specs.Prelude.{Bool, true, false, List, [], Option, Some, None, if◌then◌else◌}
 use Rattle.isl_token.specs.declared.token.Kind.{Kind}
 use Rattle.isl_token.specs.declared.token.Kind.TheVariants as k
 use Rattle.isl_token.specs.Token.{Text}
-use Rattle.isl_token.specs.Reading.{Parser, ◌>>=◌, ◌>>◌, pure, head_kind, tail, sees, skip, expect, name, row}
+use Rattle.isl_token.specs.Reading.{Parser, ◌>>=◌, ◌>>◌, pure, head_kind, sees, skip, expect, name, separated}
 use Rattle.isl_tree.specs.declared.tree.Formula.{Formula}
 use Rattle.isl_tree.specs.declared.tree.Tuple.{Tuple}
 use Rattle.isl_tree.specs.declared.tree.PieceTree.{PieceTree}
@@ -18,13 +17,8 @@ make_literal params pieces = record { params = params; pieces = pieces }
 
 -- ---- parameters
 
-unfoldable pub next_name : Parser Text
-next_name = skip >> name
-
-unfoldable pub name_row : Parser (List Text)
-name_row = do
-  first ← name
-  row (sees k.Comma) next_name (first ∷ [])
+abbrev pub name_row : Parser (List Text)
+name_row = separated k.Comma name
 
 abbrev pub names : Parser (List Text)
 names = λ ts. if sees k.CloseSquare ts then Some ([], ts) else name_row ts
@@ -72,13 +66,8 @@ module _ (tuple : Parser Tuple) (formula : Parser Formula) where
     held ← condition formula
     pure (make_piece first second held)
 
-  unfoldable pub next_piece : Parser PieceTree
-  next_piece = skip >> piece
-
-  unfoldable pub piece_row : Parser (List PieceTree)
-  piece_row = do
-    first ← piece
-    row (sees k.Semicolon) next_piece (first ∷ [])
+  abbrev pub piece_row : Parser (List PieceTree)
+  piece_row = separated k.Semicolon piece
 
   abbrev pub pieces : Parser (List PieceTree)
   pieces = λ ts. if sees k.CloseBrace ts then Some ([], ts) else piece_row ts

@@ -1,5 +1,6 @@
--- What reading a literal answers, and when it is refused.
-use Rattle.std.specs.Prelude.{◌≡◌, ◌⊎◌, ◌≤◌, ℕ, ℤ, Bool, true, false, not, List, length, Option, Some, None, Result, Ok, Err, slice_range, if◌then◌else◌}
+-- public: what reading a literal answers, and when it is refused.
+use Rattle.std.specs.Prelude.{◌≡◌, ◌⊎◌, ◌≤◌, ℕ, ℤ, Bool, true, false, not, List, length, Option, Some, None, Result, Ok, Err, slice_range}
+use Rattle.std.specs.Prelude.{if◌then◌else◌}
 use Rattle.std.specs.List.{list_any}
 use Rattle.isl_token.specs.declared.fault.Fault.{Fault}
 use Rattle.isl_token.specs.declared.fault.Fault.TheVariants as fault
@@ -40,11 +41,13 @@ has_wide_number limit ts = list_any (is_wide limit) ts
 
 -- the literal that the tokens spell, unless a limit refuses it: first those of its size, then that of its numbers
 abbrev pub judged : ℤ → List Token → Literal → ℕ → Result (Literal × ℕ) Refusal
-judged limit ts literal next = if not (is_within literal) then Err TooWide else (if has_wide_number limit ts then Err WideNumber else Ok (literal, next))
+judged limit ts literal next =
+    if not (is_within literal) then Err TooWide else (if has_wide_number limit ts then Err WideNumber else Ok (literal, next))
 
 -- a literal stands at the place, and its limits let it come to this answer
 abbrev pub SomeLiteral : List Token → ℕ → ℤ → Result (Literal × ℕ) Refusal → Type 0
-SomeLiteral ts at limit answer = (literal : Literal) × (next : ℕ) × IsLiteralAt ts at literal next × (answer ≡ judged limit (slice_range ts at next) literal next)
+SomeLiteral ts at limit answer = (literal : Literal) × (next : ℕ) × IsLiteralAt ts at literal next
+    × (answer ≡ judged limit (slice_range ts at next) literal next)
 
 -- ---- when each answer comes
 
@@ -61,4 +64,5 @@ Answers result answer = (result ≡ answer) ⊎ (result ≡ Err NoMemory)
 pub record ExactlyWhere (ts : List Token) (at : ℕ) (limit : ℤ) (result : Result (Literal × ℕ) Refusal) : Type 0 where
   pub deep : is_too_deep ts ≡ true → Answers result (Err TooDeep)
   pub none : is_too_deep ts ≡ false → NoLiteral ts at → Answers result (Err Syntax)
-  pub some : is_too_deep ts ≡ false → (literal : Literal) (next : ℕ) → IsLiteralAt ts at literal next → Answers result (judged limit (slice_range ts at next) literal next)
+  pub some : is_too_deep ts ≡ false → (literal : Literal) (next : ℕ) → IsLiteralAt ts at literal next
+      → Answers result (judged limit (slice_range ts at next) literal next)

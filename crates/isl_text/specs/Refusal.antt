@@ -1,9 +1,12 @@
--- The exit status and the text of a refusal.
+-- public: the exit status and the text of a refusal.
 use Rattle.std.specs.Prelude.{ℕ, List, codes}
 use Rattle.isl_token.specs.declared.fault.Fault.{Fault}
 use Rattle.isl_token.specs.declared.fault.Fault.TheVariants as fault
 use Rattle.isl_text.specs.declared.refusal.Refusal.{Refusal}
-use Rattle.isl_text.specs.declared.refusal.Refusal.TheVariants.{Usage, Syntax, UnknownName, WrongKind, NoMinimum, Unbounded, SeveralTimes, TimeShape, Nested, Parametric, TooWide, TooDeep, WideNumber, TooLong, Unfinished, Overflow, Budget, ReadFault, WriteFault, NoMemory, ScriptTooLong, NoElement}
+use Rattle.isl_text.specs.declared.refusal.Refusal.TheVariants.{Usage, Syntax, UnknownName, WrongKind, NoMinimum, Unbounded, SeveralTimes}
+use Rattle.isl_text.specs.declared.refusal.Refusal.TheVariants.{TimeShape, Nested, Parametric, TooWide, TooDeep, WideNumber, TooLong}
+use Rattle.isl_text.specs.declared.refusal.Refusal.TheVariants.{Unfinished, Overflow, Budget, ReadFault, WriteFault, NoMemory}
+use Rattle.isl_text.specs.declared.refusal.Refusal.TheVariants.{ScriptTooLong, NoElement}
 
 abbrev pub code_of : Refusal → ℕ
 code_of Usage = 2

@@ -1,12 +1,12 @@
--- Tuples: how they are read.
-use Rattle.std.specs.Prelude.{◌≡◌, ℕ, zero, suc, Bool, true, false, ◌&&◌, List, [], ◌∷◌, Option, Some, None, Result, Ok, Err, if◌then◌else◌}
+-- inner: tuples: how they are read.
+use Rattle.std.specs.Prelude.{◌≡◌, ℕ, zero, suc, Bool, ◌&&◌, List, [], Option, Some, None, Result, Ok, Err, if◌then◌else◌}
 use Rattle.isl_token.specs.declared.fault.Fault.{Fault}
 use Rattle.isl_token.specs.declared.fault.Fault.TheVariants.{NoMemory, Syntax}
 use Rattle.isl_token.specs.TokenView.{Token}
 use Rattle.isl_token.specs.declared.token.Kind.{Kind}
 use Rattle.isl_token.specs.declared.token.Kind.TheVariants as k
 use Rattle.isl_token.specs.Token.{Text, is_kind}
-use Rattle.isl_token.specs.Reading.{Parser, ◌>>=◌, ◌>>◌, pure, none, second_kind, sees, peek, skip, expect, name, row}
+use Rattle.isl_token.specs.Reading.{Parser, ◌>>=◌, ◌>>◌, pure, none, second_kind, sees, peek, skip, expect, name, separated}
 use Rattle.isl_tree.specs.declared.tree.Signed.{Signed}
 use Rattle.isl_tree.specs.declared.tree.Entry.{Entry}
 use Rattle.isl_tree.specs.declared.tree.Entry.TheVariants.{Plain, Named}
@@ -34,13 +34,8 @@ module _ (term : Parser (List Signed)) where
   abbrev pub entry : Parser Entry
   entry = λ ts. if sees_named ts then named_entry ts else plain_entry ts
 
-  unfoldable pub next_entry : Parser Entry
-  next_entry = skip >> entry
-
-  unfoldable pub entry_row : Parser (List Entry)
-  entry_row = do
-    first ← entry
-    row (sees k.Comma) next_entry (first ∷ [])
+  abbrev pub entry_row : Parser (List Entry)
+  entry_row = separated k.Comma entry
 
   abbrev pub entries : Parser (List Entry)
   entries = λ ts. if sees k.CloseSquare ts then Some ([], ts) else entry_row ts

@@ -1,6 +1,7 @@
 //! The reader of pieces of literals.
 
 ghost use Rattle.std.specs.Prelude.{◌≡◌};
+ghost use Rattle.isl_token.specs.Reading as reading;
 ghost use Rattle.isl_token.specs.Reading.{Reads};
 ghost use Rattle.isl_formula.specs.Formula as formulas;
 ghost use Rattle.isl_text.specs.Tuple as tuples;
@@ -8,6 +9,7 @@ ghost use Rattle.isl_text.specs.Piece as spec;
 
 use crate::tuple::tuple;
 use isl_formula::formula::formula;
+use isl_formula::list::{ItemReader, separated};
 use isl_space::Name;
 use isl_token::{Cursor, Fault, Kind};
 use isl_tree::tree::{Formula, Literal, PieceTree, Tuple};
@@ -78,17 +80,25 @@ fn piece(alloc: Global, tokens: &mut Cursor<'_>, depth: usize) -> Result<PieceTr
     })
 }
 
-/// A piece, after a sign.
-#[tactic(auto, unfolding(crate::specs::Piece::next_piece))]
-fn next_piece(alloc: Global, tokens: &mut Cursor<'_>, depth: usize) -> Result<PieceTree, Fault>
-    ensures { Reads (spec.next_piece (tuples.tuple depth) (formulas.formula depth) tokens.old) result tokens.new }
-{
-    tokens.skip();
-    piece(alloc, tokens, depth)
+/// Reads pieces whose brackets are nested less than `depth` deep.
+#[derive(Clone, Copy, Debug)]
+struct PieceReader {
+    depth: usize,
+}
+
+impl ItemReader for PieceReader {
+    type Item = PieceTree;
+
+    const ROOM: usize = 1;
+
+    ghost reads = { λ r. spec.piece (tuples.tuple r.depth) (formulas.formula r.depth) };
+
+    fn read(&self, alloc: Global, tokens: &mut Cursor<'_>) -> Result<PieceTree, Fault> {
+        piece(alloc, tokens, self.depth)
+    }
 }
 
 /// One piece or more, with `;` between them.
-#[tactic(auto, using(isl_token::proofs::Turns::turns), unfolding(crate::specs::Piece::piece_row, isl_token::specs::Reading::row))]
 fn piece_row(
     alloc: Global,
     tokens: &mut Cursor<'_>,
@@ -96,15 +106,7 @@ fn piece_row(
 ) -> Result<Items<PieceTree>, Fault>
     ensures { Reads (spec.piece_row (tuples.tuple depth) (formulas.formula depth) tokens.old) result tokens.new }
 {
-    let mut found = Items::new(alloc);
-    found.push(piece(alloc, tokens, depth)?)?;
-    for _turn in 0..tokens.left() {
-        if !tokens.sees(Kind::Semicolon) {
-            return Ok(found);
-        }
-        found.push(next_piece(alloc, tokens, depth)?)?;
-    }
-    Ok(found)
+    separated(alloc, tokens, Kind::Semicolon, &PieceReader { depth })
 }
 
 /// The pieces of a literal, which may be none.
@@ -118,29 +120,27 @@ fn pieces(alloc: Global, tokens: &mut Cursor<'_>, depth: usize) -> Result<Items<
     }
 }
 
-/// A name, after a sign.
-#[tactic(auto, unfolding(crate::specs::Piece::next_name))]
-fn next_name(tokens: &mut Cursor<'_>) -> Result<Name, Fault>
-    ensures { Reads (spec.next_name tokens.old) result tokens.new }
-{
-    tokens.skip();
-    tokens.name()
+/// Reads names.
+#[derive(Clone, Copy, Debug)]
+struct NameReader;
+
+impl ItemReader for NameReader {
+    type Item = Name;
+
+    const ROOM: usize = 2;
+
+    ghost reads = { λ _. reading.name };
+
+    fn read(&self, _alloc: Global, tokens: &mut Cursor<'_>) -> Result<Name, Fault> {
+        tokens.name()
+    }
 }
 
 /// One name or more, with `,` between them.
-#[tactic(auto, using(isl_token::proofs::Turns::turns), unfolding(crate::specs::Piece::name_row, isl_token::specs::Reading::row))]
 fn name_row(alloc: Global, tokens: &mut Cursor<'_>) -> Result<Items<Name>, Fault>
     ensures { Reads (spec.name_row tokens.old) result tokens.new }
 {
-    let mut found = Items::new(alloc);
-    found.push(tokens.name()?)?;
-    for _turn in 0..tokens.left() {
-        if !tokens.sees(Kind::Comma) {
-            return Ok(found);
-        }
-        found.push(next_name(tokens)?)?;
-    }
-    Ok(found)
+    separated(alloc, tokens, Kind::Comma, &NameReader)
 }
 
 fn names(alloc: Global, tokens: &mut Cursor<'_>) -> Result<Items<Name>, Fault>

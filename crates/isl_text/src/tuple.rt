@@ -6,6 +6,7 @@ ghost use Rattle.isl_formula.specs.Term as terms;
 ghost use Rattle.isl_text.specs.Tuple as spec;
 
 use isl_formula::ahead::{Mark, begins};
+use isl_formula::list::{ItemReader, separated};
 use isl_formula::term::term;
 use isl_space::Name;
 use isl_token::{Cursor, Fault, Kind};
@@ -48,29 +49,29 @@ fn entry(alloc: Global, tokens: &mut Cursor<'_>, depth: usize) -> Result<Entry, 
     }
 }
 
-/// An entry, after a sign.
-#[tactic(auto, unfolding(crate::specs::Tuple::next_entry))]
-fn next_entry(alloc: Global, tokens: &mut Cursor<'_>, depth: usize) -> Result<Entry, Fault>
-    ensures { Reads (spec.next_entry (terms.term depth) tokens.old) result tokens.new }
-{
-    tokens.skip();
-    entry(alloc, tokens, depth)
+/// Reads entries whose brackets are nested less than `depth` deep.
+#[derive(Clone, Copy, Debug)]
+struct EntryReader {
+    depth: usize,
+}
+
+impl ItemReader for EntryReader {
+    type Item = Entry;
+
+    const ROOM: usize = 2;
+
+    ghost reads = { λ r. spec.entry (terms.term r.depth) };
+
+    fn read(&self, alloc: Global, tokens: &mut Cursor<'_>) -> Result<Entry, Fault> {
+        entry(alloc, tokens, self.depth)
+    }
 }
 
 /// One entry or more, with `,` between them.
-#[tactic(auto, using(isl_token::proofs::Turns::turns), unfolding(crate::specs::Tuple::entry_row, isl_token::specs::Reading::row))]
 fn entry_row(alloc: Global, tokens: &mut Cursor<'_>, depth: usize) -> Result<Items<Entry>, Fault>
     ensures { Reads (spec.entry_row (terms.term depth) tokens.old) result tokens.new }
 {
-    let mut found = Items::new(alloc);
-    found.push(entry(alloc, tokens, depth)?)?;
-    for _turn in 0..tokens.left() {
-        if !tokens.sees(Kind::Comma) {
-            return Ok(found);
-        }
-        found.push(next_entry(alloc, tokens, depth)?)?;
-    }
-    Ok(found)
+    separated(alloc, tokens, Kind::Comma, &EntryReader { depth })
 }
 
 /// The entries of a tuple, which may be none.

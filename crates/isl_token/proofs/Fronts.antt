@@ -1,5 +1,6 @@
 -- What stands at the front of a text: an identifier, a number or a sign.
-use Rattle.std.proofs.Common.{◌≡◌, ℕ, zero, suc, ◌+◌, ◌<◌, Bool, true, false, cond, List, [], ◌∷◌, ◌++◌, length, take, drop, slice_index, None, refl, ap, subst, ◌∙◌, inl, inr, arith}
+use Rattle.std.proofs.Common.{◌≡◌, ℕ, zero, suc, ◌+◌, ◌<◌, Bool, true, false, cond, List, [], ◌∷◌, ◌++◌, length, take, drop, slice_index}
+use Rattle.std.proofs.Common.{None, refl, ap, subst, ◌∙◌, inl, inr, arith}
 use Rattle.std.specs.Char.{is_ascii_digit}
 use Rattle.std.specs.List.{prefix_len, starts_with, list_all, list_any}
 use Rattle.std.specs.Prelude.{if◌then◌else◌, ◌==◌, ◌&&◌, ◌||◌, eqb, max, nat_eq, nat_lt}
@@ -25,7 +26,8 @@ pub all_prefix : (f : ℕ → Bool) (z : Text) → list_all f (take (prefix_len 
 all_prefix f [] = refl
 all_prefix f (b ∷ z) = front (f b) refl (all_prefix f z)
   where
-    front : (q : Bool) → f b ≡ q → list_all f (take (prefix_len f z) z) ≡ true → list_all f (take (cond q (1 + prefix_len f z) 0) (b ∷ z)) ≡ true
+    front : (q : Bool) → f b ≡ q → list_all f (take (prefix_len f z) z) ≡ true
+        → list_all f (take (cond q (1 + prefix_len f z) 0) (b ∷ z)) ≡ true
     front true is rest = let one : 1 + prefix_len f z ≡ suc (prefix_len f z) = omega arith in rw (one, is) rest
     front false is rest = refl
 
@@ -33,7 +35,8 @@ pub whole_prefix : (f : ℕ → Bool) (z : Text) → list_all f z ≡ true → p
 whole_prefix f [] all = refl
 whole_prefix f (b ∷ z) all = front (f b) refl all (whole_prefix f z)
   where
-    front : (q : Bool) → f b ≡ q → (q && list_all f z) ≡ true → (list_all f z ≡ true → prefix_len f z ≡ length z) → cond q (1 + prefix_len f z) 0 ≡ suc (length z)
+    front : (q : Bool) → f b ≡ q → (q && list_all f z) ≡ true → (list_all f z ≡ true → prefix_len f z ≡ length z)
+        → cond q (1 + prefix_len f z) 0 ≡ suc (length z)
     front true is all rest = omega (arith, rest all)
     front false is all rest = absurd (false≢true all)
 
@@ -51,9 +54,11 @@ pub letter_goes_on : (b : ℕ) → begins_name b ≡ true → goes_on_name b ≡
 letter_goes_on b is = grind arith
 
 -- letters, digits and `_` after a letter, and then primes
-identifier_of : (p q : Text) → begins_name (slice_index (p ++ q) 0) ≡ true → list_all goes_on_name p ≡ true → list_all is_prime q ≡ true → is_identifier (p ++ q) ≡ true
+identifier_of : (p q : Text) → begins_name (slice_index (p ++ q) 0) ≡ true → list_all goes_on_name p ≡ true → list_all is_prime q ≡ true
+    → is_identifier (p ++ q) ≡ true
 identifier_of p q letter goes primes =
-    let eqb_same : eqb (prefix_len goes_on_name p) (length p) ≡ true = eq-eqb (prefix_len goes_on_name p) (length p) (whole_prefix goes_on_name p goes) in
+    let eqb_same : eqb (prefix_len goes_on_name p) (length p) ≡ true =
+    eq-eqb (prefix_len goes_on_name p) (length p) (whole_prefix goes_on_name p goes) in
     let len : prefix_len goes_on_name (p ++ q) ≡ length p =
     prefix_len-append goes_on_name p q ∙ rw (eqb_same, no_prefix goes_on_name is_prime prime_ends_name q primes) (omega arith) in
     rw (letter, len, drop-append_seam p q) primes
@@ -94,7 +99,8 @@ longest_among (s ∷ ss) z n is some = first (starts_with nat_eq z s) refl (λ s
         let front : take n z ≡ s = rw len (ap (take (length s)) whole ∙ take-append_seam s (drop (length s) z)) in
         (bytes_eq-Decides (take n z) s).1 front
 
-    first : (q : Bool) → starts_with nat_eq z s ≡ q → (longest ss z ≡ n → list_any (bytes_eq (take n z)) ss ≡ true) → max (cond q (length s) 0) (longest ss z) ≡ n
+    first : (q : Bool) → starts_with nat_eq z s ≡ q → (longest ss z ≡ n → list_any (bytes_eq (take n z)) ss ≡ true)
+        → max (cond q (length s) 0) (longest ss z) ≡ n
         → (bytes_eq (take n z) s || list_any (bytes_eq (take n z)) ss) ≡ true
     first false starts rest is = or_right (bytes_eq (take n z) s) (list_any (bytes_eq (take n z)) ss) (rest (omega arith))
     first true starts rest is = elim (cases_lt (longest ss z) (length s)) [
@@ -106,14 +112,21 @@ longest_among (s ∷ ss) z n is some = first (starts_with nat_eq z s) refl (λ s
 
 pub front_piece : (z : Text) → IsPiece (cut z).0 (take (cut z).1 z)
 unfolding cut
-front_piece z = by_class (is_in class.Blank (slice_index z 0)) (slice_index z 0 == 35) (is_in class.Letter (slice_index z 0)) (is_in class.Digit (slice_index z 0)) (λ h. word_front z h) (λ h. number_front z h)
+front_piece z = by_class (is_in class.Blank (slice_index z 0)) (slice_index z 0 == 35) (is_in class.Letter (slice_index z 0))
+    (is_in class.Digit (slice_index z 0)) (λ h. word_front z h) (λ h. number_front z h)
   where
     by_sign : (n : ℕ) → longest signs z ≡ n → (λ (c : Piece × ℕ). IsPiece c.0 (take c.1 z)) (sign_piece n)
     by_sign zero is = tt
     by_sign (suc n) is = longest_among signs z (suc n) is (omega arith)
 
-    by_class : (blank comment letter digit : Bool) → (letter ≡ true → is_identifier (take (past class.Prime z (past class.Word z 1)) z) ≡ true) → (digit ≡ true → is_number (take (past class.Digit z 1) z) ≡ true)
-        → (λ (c : Piece × ℕ). IsPiece c.0 (take c.1 z)) (if blank then (piece.Nothing, 1) else (if comment then (piece.Nothing, past class.Comment z 1) else (if letter then (piece.Word, past class.Prime z (past class.Word z 1)) else (if digit then (piece.Number, past class.Digit z 1) else sign_piece (sign_len z)))))
+    by_class : (blank comment letter digit : Bool)
+        → (letter ≡ true → is_identifier (take (past class.Prime z (past class.Word z 1)) z) ≡ true)
+        → (digit ≡ true → is_number (take (past class.Digit z 1) z) ≡ true)
+        → (λ (c : Piece × ℕ). IsPiece c.0 (take c.1 z))
+        (if blank then (piece.Nothing, 1) else
+        (if comment then (piece.Nothing, past class.Comment z 1) else
+        (if letter then (piece.Word, past class.Prime z (past class.Word z 1)) else
+        (if digit then (piece.Number, past class.Digit z 1) else sign_piece (sign_len z)))))
     by_class true comment letter digit w n = tt
     by_class false true letter digit w n = tt
     by_class false false true digit w n = w refl
@@ -137,7 +150,9 @@ pub identifier_ascii : (z : Text) → is_identifier z ≡ true → IsAscii z
 identifier_ascii z is =
     let n = prefix_len goes_on_name z in
     let parts = and_parts (begins_name (slice_index z 0)) (list_all is_prime (drop n z)) is in
-    subst IsAscii (take-append-drop n z) (IsAscii-append (take n z) (drop n z) (ascii_all goes_on_name name_byte_ascii (take n z) (all_prefix goes_on_name z)) (ascii_all is_prime prime_ascii (drop n z) parts.1))
+    subst IsAscii (take-append-drop n z) (IsAscii-append (take n z) (drop n z)
+    (ascii_all goes_on_name name_byte_ascii (take n z) (all_prefix goes_on_name z)) (ascii_all is_prime prime_ascii (drop n z) parts.1))
 
 pub piece_not_text : (p : Piece) (text : Text) → IsPiece p text → p ≡ piece.Word → ¬ (IsUtf8 text) → tokens_of p text ≡ None
-piece_not_text p text is word not_utf8 = absurd (not_utf8 (IsUtf8-from_ascii text (identifier_ascii text (subst (λ (q : Piece). IsPiece q text) word is))))
+piece_not_text p text is word not_utf8 = absurd
+    (not_utf8 (IsUtf8-from_ascii text (identifier_ascii text (subst (λ (q : Piece). IsPiece q text) word is))))

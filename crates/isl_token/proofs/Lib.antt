@@ -2,6 +2,7 @@ pub mod Fronts
 pub mod Pieces
 pub mod MarkLaws
 pub mod DepthLaws
+pub mod FewTokens
 pub mod Numbers
 pub mod Turns
 pub mod Taking

@@ -1,5 +1,6 @@
 -- The tokens of a text that is put together, as a printer does.
-use Rattle.std.proofs.Common.{◌≡◌, ℕ, suc, ◌+◌, ◌-◌, ◌*◌, ◌^◌, ◌<◌, ◌≤◌, Bool, true, false, cond, List, [], ◌∷◌, ◌++◌, length, take, drop, slice_index, Option, Some, None, refl, sym, ap, subst, ◌∙◌, arith, lit<}
+use Rattle.std.proofs.Common.{◌≡◌, ℕ, suc, ◌+◌, ◌-◌, ◌*◌, ◌^◌, ◌<◌, ◌≤◌, Bool, true, false, cond, List, [], ◌∷◌, ◌++◌, length, take, drop}
+use Rattle.std.proofs.Common.{slice_index, Option, Some, None, refl, sym, ap, subst, ◌∙◌, arith, lit<}
 use Rattle.std.specs.Prelude.{not, min, pos, ◌&&◌, ◌==◌, eqb, decimal, fold, nat_lt}
 use Rattle.std.specs.List.{prefix_len, list_all}
 use Rattle.std.specs.Char.{is_ascii_digit, digit_value}
@@ -40,7 +41,8 @@ abbrev pub blank : ℕ → Bool
 blank b = b == 32
 
 -- one piece
-pub one_piece : (z text rest : Text) (p : Piece) (n : ℕ) (ts : List Token) → z ≡ text ++ rest → cut z ≡ (p, n) → 0 < length z → n ≡ length text → 1 ≤ n → tokens_of p text ≡ Some ts → tokens z ≡ join (Some ts) (tokens rest)
+pub one_piece : (z text rest : Text) (p : Piece) (n : ℕ) (ts : List Token) → z ≡ text ++ rest → cut z ≡ (p, n) → 0 < length z
+    → n ≡ length text → 1 ≤ n → tokens_of p text ≡ Some ts → tokens z ≡ join (Some ts) (tokens rest)
 one_piece z text rest p n ts whole is some len moves token =
     let front : take n z ≡ text = rw (whole, len) (take-append_seam text rest) in
     let back : drop n z ≡ rest = rw (whole, len) (drop-append_seam text rest) in
@@ -55,7 +57,8 @@ no_more c (b ∷ z) over = rw over refl
 past_append : (c : Class) (w z : Text) (at : ℕ) → at ≤ length w → is_in c (slice_index z 0) ≡ false → past c (w ++ z) at ≡ past c w at
 past_append c w z at within over =
     ap (λ k. at + k) (ap (prefix_len (is_in c)) (drop-append-le at w z within) ∙ prefix_len-append (is_in c) (drop at w) z
-    ∙ rw (no_more c z over) (either (prefix_len (is_in c) (drop at w)) (length (drop at w)) (eqb (prefix_len (is_in c) (drop at w)) (length (drop at w))) (eqb-true (prefix_len (is_in c) (drop at w)) (length (drop at w)))))
+    ∙ rw (no_more c z over) (either (prefix_len (is_in c) (drop at w)) (length (drop at w))
+    (eqb (prefix_len (is_in c) (drop at w)) (length (drop at w))) (eqb-true (prefix_len (is_in c) (drop at w)) (length (drop at w)))))
   where
     either : (m n : ℕ) (q : Bool) → (q ≡ true → m ≡ n) → cond q (n + 0) m ≡ m
     either m n true same = omega (arith, same refl)
@@ -74,10 +77,12 @@ letter_cut : (z : Text) → begins_name (slice_index z 0) ≡ true → cut z ≡
 unfolding cut
 letter_cut z letter = grind arith
 
-identifier_past : (b : ℕ) (w : Text) → begins_name b ≡ true → list_all is_prime (drop (prefix_len goes_on_name (b ∷ w)) (b ∷ w)) ≡ true → past class.Prime (b ∷ w) (past class.Word (b ∷ w) 1) ≡ length (b ∷ w)
+identifier_past : (b : ℕ) (w : Text) → begins_name b ≡ true → list_all is_prime (drop (prefix_len goes_on_name (b ∷ w)) (b ∷ w)) ≡ true
+    → past class.Prime (b ∷ w) (past class.Word (b ∷ w) 1) ≡ length (b ∷ w)
 identifier_past b w letter primes =
     let len : prefix_len goes_on_name (b ∷ w) ≡ past class.Word (b ∷ w) 1 = rw (letter_goes_on b letter) refl in
-    past_whole class.Prime (b ∷ w) (past class.Word (b ∷ w) 1) (past_within class.Word (b ∷ w) 1 (omega arith)) (subst (λ (n : ℕ). list_all is_prime (drop n (b ∷ w)) ≡ true) len primes)
+    past_whole class.Prime (b ∷ w) (past class.Word (b ∷ w) 1) (past_within class.Word (b ∷ w) 1 (omega arith))
+    (subst (λ (n : ℕ). list_all is_prime (drop n (b ∷ w)) ≡ true) len primes)
 
 pub word_prints : (w : Text) → is_identifier w ≡ true → Prints w (token.Word w ∷ []) after_word
 word_prints [] is = absurd cc
@@ -85,10 +90,13 @@ word_prints (b ∷ w) is = record {
   by = λ z after.
       let i = and_parts (begins_name b) (list_all is_prime (drop (prefix_len goes_on_name (b ∷ w)) (b ∷ w))) is in
       let a = and_parts (not (goes_on_name (slice_index z 0))) (not (is_prime (slice_index z 0))) after in
-      let words : past class.Word (b ∷ w ++ z) 1 ≡ past class.Word (b ∷ w) 1 = past_append class.Word (b ∷ w) z 1 (omega arith) (not-true _ a.0) in
-      let primes : past class.Prime (b ∷ w ++ z) (past class.Word (b ∷ w) 1) ≡ past class.Prime (b ∷ w) (past class.Word (b ∷ w) 1) = past_append class.Prime (b ∷ w) z (past class.Word (b ∷ w) 1) (past_within class.Word (b ∷ w) 1 (omega arith)) (not-true _ a.1) in
+      let words : past class.Word (b ∷ w ++ z) 1 ≡ past class.Word (b ∷ w) 1 =
+      past_append class.Word (b ∷ w) z 1 (omega arith) (not-true _ a.0) in
+      let primes : past class.Prime (b ∷ w ++ z) (past class.Word (b ∷ w) 1) ≡ past class.Prime (b ∷ w) (past class.Word (b ∷ w) 1) =
+      past_append class.Prime (b ∷ w) z (past class.Word (b ∷ w) 1) (past_within class.Word (b ∷ w) 1 (omega arith)) (not-true _ a.1) in
       let len = primes ∙ identifier_past b w i.0 i.1 in
-      let cut_is = letter_cut (b ∷ w ++ z) i.0 ∙ ap (λ n. (piece.Word, past class.Prime (b ∷ w ++ z) n)) words ∙ ap (λ n. (piece.Word, n)) len in
+      let cut_is = letter_cut (b ∷ w ++ z) i.0 ∙ ap (λ n. (piece.Word, past class.Prime (b ∷ w ++ z) n)) words
+      ∙ ap (λ n. (piece.Word, n)) len in
       one_piece (b ∷ w ++ z) (b ∷ w) z piece.Word (length (b ∷ w)) _ refl cut_is (omega arith) refl (omega arith) refl;
 }
 
@@ -103,9 +111,11 @@ number_prints [] is = absurd cc
 number_prints (b ∷ w) is = record {
   by = λ z after.
       let i = and_parts (is_ascii_digit b) (list_all is_ascii_digit w) (and_parts (nat_lt 0 (suc (length w))) _ is).1 in
-      let digits : past class.Digit (b ∷ w ++ z) 1 ≡ past class.Digit (b ∷ w) 1 = past_append class.Digit (b ∷ w) z 1 (omega arith) (not-true _ after) in
+      let digits : past class.Digit (b ∷ w ++ z) 1 ≡ past class.Digit (b ∷ w) 1 =
+      past_append class.Digit (b ∷ w) z 1 (omega arith) (not-true _ after) in
       let len = digits ∙ past_whole class.Digit (b ∷ w) 1 (omega arith) i.1 in
-      one_piece (b ∷ w ++ z) (b ∷ w) z piece.Number (length (b ∷ w)) _ refl (digit_cut (b ∷ w ++ z) i.0 ∙ ap (λ n. (piece.Number, n)) len) (omega arith) refl (omega arith) refl;
+      one_piece (b ∷ w ++ z) (b ∷ w) z piece.Number (length (b ∷ w)) _ refl (digit_cut (b ∷ w ++ z) i.0 ∙ ap (λ n. (piece.Number, n)) len)
+      (omega arith) refl (omega arith) refl;
 }
 
 digit_byte : (d : ℕ) → digit_value d < 10 → is_ascii_digit d ≡ true
@@ -151,15 +161,20 @@ number_of-decimal n small =
 
 pub blank_prints : Prints (32 ∷ []) [] any
 unfolding cut
-blank_prints = record { by = λ z after. one_piece (32 ∷ z) (32 ∷ []) z piece.Nothing 1 [] refl (space_cut z) (omega arith) refl (omega arith) refl }
+blank_prints = record {
+  by = λ z after. one_piece (32 ∷ z) (32 ∷ []) z piece.Nothing 1 [] refl (space_cut z) (omega arith) refl
+      (omega arith) refl;
+}
   where
     space_cut : (z : Text) → cut (32 ∷ z) ≡ (piece.Nothing, 1)
     space_cut z = refl
 
-pub sign_prints : (text : Text) (test : ℕ → Bool) → 0 < length text → ((z : Text) → test (slice_index z 0) ≡ true → cut (text ++ z) ≡ (piece.Sign, length text)) → Prints text (token.Sign text ∷ []) test
+pub sign_prints : (text : Text) (test : ℕ → Bool) → 0 < length text
+    → ((z : Text) → test (slice_index z 0) ≡ true → cut (text ++ z) ≡ (piece.Sign, length text)) → Prints text (token.Sign text ∷ []) test
 sign_prints text test some is = record {
   by = λ z after.
-      one_piece (text ++ z) text z piece.Sign (length text) _ refl (is z after) (omega (arith, some, length-append text z)) refl (omega (arith, some)) refl;
+      one_piece (text ++ z) text z piece.Sign (length text) _ refl (is z after) (omega (arith, some, length-append text z)) refl
+      (omega (arith, some)) refl;
 }
 
 -- one after the other
@@ -178,7 +193,8 @@ prints_nil test = record { by = λ z after. sym (join_nil (tokens z)) }
     join_nil (Some ts) = refl
 
 -- a test that fewer bytes pass
-pub prints_less : (text : Text) (ts : List Token) (test less : ℕ → Bool) → Prints text ts test → ((b : ℕ) → less b ≡ true → test b ≡ true) → Prints text ts less
+pub prints_less : (text : Text) (ts : List Token) (test less : ℕ → Bool) → Prints text ts test → ((b : ℕ) → less b ≡ true → test b ≡ true)
+    → Prints text ts less
 prints_less text ts test less p in_test = record { by = λ z after. p.by z (in_test (slice_index z 0) after) }
 
 -- a text as a whole

@@ -1,5 +1,6 @@
 -- One turn of a loop that reads a row.
-use Rattle.std.proofs.Common.{◌≡◌, ℕ, zero, suc, ◌+◌, ◌-◌, ◌<◌, ◌≤◌, Bool, true, false, List, [], ◌∷◌, ◌++◌, Option, Some, None, refl, sym, ap, ◌∙◌, arith}
+use Rattle.std.proofs.Common.{◌≡◌, ℕ, zero, suc, ◌+◌, ◌-◌, ◌<◌, ◌≤◌, Bool, true, false, List, [], ◌∷◌, ◌++◌, Option, Some, None, refl, sym}
+use Rattle.std.proofs.Common.{ap, ◌∙◌, arith}
 use Rattle.isl_token.specs.TokenView.{Token}
 use Rattle.isl_token.specs.declared.fault.Fault.{Fault}
 use Rattle.isl_token.specs.declared.fault.Fault.TheVariants.{NoMemory, Syntax}
@@ -7,7 +8,8 @@ use Rattle.std.specs.Prelude.{Err}
 use Rattle.isl_token.specs.Reading.{Parser, rest_of, Reads}
 
 module _ {A : Type 0} (goes_on : List Token → Bool) (item : Parser A) where
-  one_more : (n : ℕ) (found : List A) (ts us : List Token) (x : A) → goes_on ts ≡ true → item ts ≡ Some (x, us) → rest_of goes_on item (suc n) found ts ≡ rest_of goes_on item n (found ++ x ∷ []) us
+  one_more : (n : ℕ) (found : List A) (ts us : List Token) (x : A) → goes_on ts ≡ true → item ts ≡ Some (x, us)
+      → rest_of goes_on item (suc n) found ts ≡ rest_of goes_on item n (found ++ x ∷ []) us
   unfolding rest_of
   one_more n found ts us x test read = rw (test, read) refl
 
@@ -16,7 +18,8 @@ module _ {A : Type 0} (goes_on : List Token → Bool) (item : Parser A) where
       → total ≡ rest_of goes_on item (n - at) found ts → total ≡ rest_of goes_on item (n - (at + 1)) more us
   turn_goes_on total n at found more ts us x below test read pushed so_far =
       let turn : n - at ≡ suc (n - (at + 1)) = omega arith in
-      so_far ∙ ap (λ k. rest_of goes_on item k found ts) turn ∙ one_more (n - (at + 1)) found ts us x test read ∙ ap (λ l. rest_of goes_on item (n - (at + 1)) l us) (sym pushed)
+      so_far ∙ ap (λ k. rest_of goes_on item k found ts) turn ∙ one_more (n - (at + 1)) found ts us x test read
+      ∙ ap (λ l. rest_of goes_on item (n - (at + 1)) l us) (sym pushed)
 
   pub stops : (n : ℕ) (found : List A) (ts : List Token) → goes_on ts ≡ false → rest_of goes_on item n found ts ≡ Some (found, ts)
   unfolding rest_of
@@ -39,7 +42,8 @@ module _ {A : Type 0} (goes_on : List Token → Bool) (item : Parser A) where
   fails n found ts test read = rw (test, read) refl
 
   pub turn_fails : (total : Option (List A × List Token)) (n at : ℕ) (found : List A) (ts rest : List Token) (e : Fault)
-      → at < n → goes_on ts ≡ true → Reads (item ts) (Err e) rest → total ≡ rest_of goes_on item (n - at) found ts → Reads total (Err e) rest
+      → at < n → goes_on ts ≡ true → Reads (item ts) (Err e) rest → total ≡ rest_of goes_on item (n - at) found ts
+      → Reads total (Err e) rest
   turn_fails total n at found ts rest NoMemory below test read so_far = tt
   turn_fails total n at found ts rest Syntax below test read so_far =
       let turn : n - at ≡ suc (n - (at + 1)) = omega arith in

@@ -9,7 +9,8 @@ use Rattle.isl_token.specs.Spelling.{Grammar, Spells, SpellsOne, Gives}
 use Rattle.isl_token.proofs.Taking.{Takes, same_read}
 use Rattle.isl_token.proofs.Again.{Again, Stops}
 
-module _ {A : Type 0} (p : ℕ → Parser A) (L : ℕ → Grammar A) (stops : Stops) (taken : (n : ℕ) → Takes (p n) (L n)) (again : (n depth : ℕ) → Again n (p n) (L depth) stops) (ends : stops [] ≡ true) where
+module _ {A : Type 0} (p : ℕ → Parser A) (L : ℕ → Grammar A) (stops : Stops) (taken : (n : ℕ) → Takes (p n) (L n))
+    (again : (n depth : ℕ) → Again n (p n) (L depth) stops) (ends : stops [] ≡ true) where
   read_whole : (n : ℕ) (a : A) (ts : List Token) → length ts < n → Spells L a ts → p n ts ≡ Some (a, [])
   read_whole n a ts lt s = ap (p n) (sym (append-nil ts)) ∙ (again n s.depth).by a ts [] s.spelled lt ends
 

@@ -1,4 +1,4 @@
--- How deep the tokens of a text are nested.
+-- public: how deep the tokens of a text are nested.
 use Rattle.std.specs.Prelude.{ℕ, ◌+◌, ◌-◌, Bool, false, nat_lt, List, [], ◌∷◌, codes, if◌then◌else◌}
 use Rattle.std.specs.List.{list_any}
 use Rattle.std.specs.Str.{bytes_eq}

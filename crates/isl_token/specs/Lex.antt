@@ -1,5 +1,6 @@
--- Tokens from bytes, each the longest that fits. (isl manual, the notation of sets and relations)
-use Rattle.std.specs.Prelude.{ℕ, zero, suc, ◌+◌, ◌-◌, ◌<◌, ◌≡◌, Bool, not, max, ◌||◌, if◌then◌else◌, ◌==◌, nat_eq, List, [], ◌∷◌, ◌++◌, length, take, drop, slice_index, Option, Some, None, Result, Ok, Err, IsTrue}
+-- public: tokens from bytes, each the longest that fits. (isl manual, the notation of sets and relations)
+use Rattle.std.specs.Prelude.{ℕ, zero, suc, ◌+◌, ◌-◌, ◌<◌, ◌≡◌, Bool, not, max, ◌||◌, if◌then◌else◌, ◌==◌, nat_eq, List, [], ◌∷◌, ◌++◌}
+use Rattle.std.specs.Prelude.{length, take, drop, slice_index, Option, Some, None, Result, Ok, Err, IsTrue}
 use Rattle.std.specs.Char.{is_ascii_digit}
 use Rattle.std.specs.List.{prefix_len, starts_with, list_any}
 use Rattle.std.specs.Str.{bytes_eq}
@@ -88,7 +89,8 @@ IsKindAt text at kind = (at < length text) × (kind ≡ kind_of (token_at text a
 
 -- what a function that finds the kind of a piece ensures: that of its token, if it has one
 abbrev pub IsKindOfPiece : Piece → Text → Result (Option Kind) Fault → Type 0
-IsKindOfPiece piece text (Ok (Some kind)) = (tokens_of piece text ≡ Some (token_of piece text ∷ [])) × (kind ≡ kind_of (token_of piece text))
+IsKindOfPiece piece text (Ok (Some kind)) = (tokens_of piece text ≡ Some (token_of piece text ∷ []))
+    × (kind ≡ kind_of (token_of piece text))
 IsKindOfPiece piece text (Ok None) = tokens_of piece text ≡ Some []
 IsKindOfPiece piece text (Err NoMemory) = Unit {0}
 IsKindOfPiece piece text (Err Syntax) = tokens_of piece text ≡ None

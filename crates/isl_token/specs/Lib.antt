@@ -7,3 +7,4 @@ pub mod Reading
 pub mod AnyWord
 pub mod Spelling
 pub mod Signs
+pub use Rattle.isl_space.specs.Name

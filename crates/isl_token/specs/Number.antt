@@ -1,4 +1,4 @@
--- The numbers that digits write.
+-- public: the numbers that digits write.
 use Rattle.std.specs.Prelude.{ℕ, ℤ, pos, ◌+◌, ◌-◌, ◌*◌, ◌^◌, min, List, fold}
 
 -- the number that decimal digits write

@@ -1,5 +1,6 @@
--- Readers of token lists: a value and the tokens after it, or nothing. Readers are put together as the grammar is.
-use Rattle.std.specs.Prelude.{◌≡◌, ℕ, ℤ, pos, zero, suc, Bool, List, [], ◌∷◌, ◌++◌, length, Option, Some, None, Result, Ok, Err, if◌then◌else◌}
+-- public: readers of token lists: a value and the tokens after it, or nothing. Readers are put together as the grammar is.
+use Rattle.std.specs.Prelude.{◌≡◌, ℕ, ℤ, pos, zero, suc, Bool, List, [], ◌∷◌, ◌++◌, length, Option, Some, None, Result, Ok, Err}
+use Rattle.std.specs.Prelude.{if◌then◌else◌}
 use Rattle.std.specs.Ordering.{int_eq}
 use Rattle.isl_token.specs.TokenView.{Token}
 use Rattle.isl_token.specs.TokenView as token
@@ -96,11 +97,23 @@ positive = do
 
 unfoldable pub rest_of : {A : Type 0} → (List Token → Bool) → Parser A → ℕ → List A → Parser (List A)
 rest_of goes_on item zero found = pure found
-rest_of goes_on item (suc n) found = λ ts. if goes_on ts then (item >>= λ x. rest_of goes_on item n (found ++ x ∷ [])) ts else Some (found, ts)
+rest_of goes_on item (suc n) found =
+    λ ts. if goes_on ts then (item >>= λ x. rest_of goes_on item n (found ++ x ∷ [])) ts else Some (found, ts)
 
 -- the row whose first items were found
 unfoldable pub row : {A : Type 0} → (List Token → Bool) → Parser A → List A → Parser (List A)
 row goes_on item found = λ ts. rest_of goes_on item (length ts) found ts
+
+-- ---- lists: one item or more, with a sign of the kind between each two
+
+-- an item, after a sign
+unfoldable pub after_sign : {A : Type 0} → Parser A → Parser A
+after_sign item = skip >> item
+
+unfoldable pub separated : {A : Type 0} → Kind → Parser A → Parser (List A)
+separated sign item = do
+  first ← item
+  row (sees sign) (after_sign item) (first ∷ [])
 
 -- ---- what a function that reads ensures: the reader's answer, unless memory fails
 

@@ -1,4 +1,4 @@
--- Signs by their first three bytes, where a byte that is missing is 0. Inner: it is how signs are found, and laws say that it finds the longest.
+-- inner: signs by their first three bytes, where a byte that is missing is 0. So they are found, and laws say that it is the longest.
 use Rattle.std.specs.Prelude.{ℕ, ◌&&◌, ◌==◌, if◌then◌else◌}
 use Rattle.isl_token.specs.declared.token.Kind.{Kind}
 use Rattle.isl_token.specs.declared.token.Kind.TheVariants as kind

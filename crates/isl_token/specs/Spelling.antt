@@ -1,4 +1,4 @@
--- Grammars over token lists: which tokens spell which values. Grammars are put together as their notation is written.
+-- public: grammars over token lists: which tokens spell which values. Grammars are put together as their notation is written.
 use Rattle.std.specs.Prelude.{◌≡◌, ◌≢◌, ℕ, ℤ, pos, List, [], ◌∷◌, ◌++◌, Result, Ok, Err, ◌⊎◌}
 use Rattle.isl_token.specs.declared.fault.Fault.{Fault}
 use Rattle.isl_token.specs.declared.fault.Fault.TheVariants.{NoMemory}
@@ -52,6 +52,13 @@ positive = λ z ts. number z ts × (z ≢ pos 0)
 abbrev pub many : {A : Type 0} → Grammar A → Grammar (List A)
 many L [] ts = ts ≡ []
 many L (x ∷ xs) ts = (us : List Token) × (vs : List Token) × (ts ≡ us ++ vs) × L x us × many L xs vs
+
+-- item {sign item}
+abbrev pub separated : {A : Type 0} → Kind → Grammar A → Grammar (List A)
+separated sign item = do
+  first ← item
+  others ← many (word sign >> item)
+  pure (first ∷ others)
 
 -- the tokens spell a, with brackets nested to some depth
 pub record Spells {A : Type 0} (L : ℕ → Grammar A) (a : A) (ts : List Token) : Type 0 where

@@ -1,4 +1,4 @@
--- Tokens, and what a token is to the grammar of literals. (isl manual, the notation of sets and relations)
+-- public: tokens, and what a token is to the grammar of literals. (isl manual, the notation of sets and relations)
 use Rattle.std.specs.Prelude.{ℕ, Bool, ◌&&◌, List, [], ◌∷◌, map, length, nat_lt, codes, IsTrue, if◌then◌else◌}
 use Rattle.std.specs.Char.{is_ascii_digit}
 use Rattle.std.specs.List.{list_all, list_any}
@@ -26,8 +26,9 @@ kind_in (entry ∷ entries) text other = if bytes_eq entry.0 text then entry.1 e
 -- the words that have a meaning of their own inside a literal
 abbrev pub word_kinds : List (Text × Kind)
 word_kinds =
-    (codes "and", kind.And) ∷ (codes "or", kind.Or) ∷ (codes "not", kind.Not) ∷ (codes "implies", kind.Implies) ∷ (codes "exists", kind.Exists)
-    ∷ (codes "true", kind.True) ∷ (codes "false", kind.False) ∷ (codes "mod", kind.Mod) ∷ (codes "floor", kind.Floor) ∷ (codes "ceil", kind.Ceil)
+    (codes "and", kind.And) ∷ (codes "or", kind.Or) ∷ (codes "not", kind.Not) ∷ (codes "implies", kind.Implies)
+    ∷ (codes "exists", kind.Exists) ∷ (codes "true", kind.True) ∷ (codes "false", kind.False)
+    ∷ (codes "mod", kind.Mod) ∷ (codes "floor", kind.Floor) ∷ (codes "ceil", kind.Ceil)
     ∷ (codes "floord", kind.FloorDiv) ∷ (codes "ceild", kind.CeilDiv) ∷ []
 
 -- every other word is a name

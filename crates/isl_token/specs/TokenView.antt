@@ -1,4 +1,4 @@
--- Tokens, as contracts see them.
+-- public: tokens, as contracts see them.
 use Rattle.std.specs.Prelude.{ℕ, List}
 
 -- a part of a text that is neither blank nor comment

@@ -15,6 +15,9 @@ use std::marker::Model;
 /// How many names are kept to be shared.
 const KEPT: usize = 32;
 
+/// For how many of them room is made at first.
+const ROOM: usize = 8;
+
 /// A name that was read before, or a new one, which is kept while there are few.
 fn shared(alloc: Global, names: &mut Vec<Name>, text: &str) -> Result<Name, AllocError>
     ensures { IfOk result (λ name. name ≡ text.now) }
@@ -25,6 +28,9 @@ fn shared(alloc: Global, names: &mut Vec<Name>, text: &str) -> Result<Name, Allo
         }
     }
     let name = Name::new(alloc, text)?;
+    if names.is_empty() {
+        names.reserve(ROOM)?;
+    }
     if names.len() < KEPT {
         names.push(name.copy()?)?;
     }

@@ -119,15 +119,19 @@ fn step(place: Place, rest: &Rest<'_>) -> Place
 ///
 /// The depth at a token is the number of brackets that are open there and of the stacking words since the last brace or
 /// `;`, the token counted.
-#[tactic(auto, using(crate::proofs::DepthLaws::depth_step))]
+#[tactic(auto, using(crate::proofs::DepthLaws::depth_step, crate::proofs::FewTokens::few_tokens))]
 pub fn is_too_deep(tokens: &Tokens<'_>) -> bool
     ensures { result ≡ spec.is_too_deep tokens.now }
 {
+    let mut rest = tokens.rest();
+    if rest.left() <= MAX_DEPTH {
+        // Each token adds at most one.
+        return false;
+    }
     let mut place = Place {
         brackets: 0,
         words: 0,
     };
-    let mut rest = tokens.rest();
     while rest.left() > 0 {
         place = step(place, &rest);
         if place.brackets + place.words > MAX_DEPTH {

@@ -1,4 +1,4 @@
--- Environments: which number each name stands for (isl manual, on parameters and variables of sets and relations).
+-- public: environments: which number each name stands for (isl manual, on parameters and variables of sets and relations).
 use Rattle.std.specs.Prelude.{ℕ, ℤ, List}
 use Rattle.isl_space.specs.Valuation.{Valuation, value_at}
 

@@ -1,9 +1,10 @@
--- When a formula holds (isl manual, "Sets and relations": Presburger formulas).
+-- public: when a formula holds (isl manual, "Sets and relations": Presburger formulas).
 use Rattle.std.specs.Prelude.{◌≡◌, ◌≢◌, ◌≤ℤ◌, ◌<ℤ◌, ◌⊎◌, ℤ, List, [], ◌∷◌, Option, Some, None}
 use Rattle.isl_tree.specs.declared.tree.Binder.{Binder}
 use Rattle.isl_tree.specs.declared.tree.Compare.{Compare}
 use Rattle.isl_tree.specs.declared.tree.Compare.TheVariants.{Equal, Less, LessEqual, Greater, GreaterEqual, Differs}
-use Rattle.isl_tree.specs.declared.tree.Formula.{Formula, Implies', Or', And', Not', True, False, Exists', Chain, Row_of-Formula, end_of-Formula, more_of-Formula}
+use Rattle.isl_tree.specs.declared.tree.Formula.{Formula, Implies', Or', And', Not', True, False, Exists', Chain, Row_of-Formula}
+use Rattle.isl_tree.specs.declared.tree.Formula.{end_of-Formula, more_of-Formula}
 use Rattle.isl_tree.specs.Environment.{Environment}
 use Rattle.isl_tree.specs.Term.{Term, term_value}
 

@@ -1,11 +1,12 @@
--- Which identifiers of a literal are known: parameters, variables of an earlier place of the piece, and what an enclosing `exists` binds.
+-- public: which identifiers of a literal are known: parameters, variables of an earlier place, and what an enclosing `exists` binds.
 use Rattle.std.specs.Prelude.{ℕ, Bool, true, is_some, ◌&&◌, ◌||◌, List, [], ◌∷◌, ◌++◌, Option, Some, None}
 use Rattle.std.specs.List.{list_all}
 use Rattle.isl_tree.specs.declared.tree.Factor.{Factor, Name, Inner', Floor', Ceil', Row_of-Signed, end_of-Signed, more_of-Signed}
 use Rattle.isl_tree.specs.declared.tree.Signed.{Signed, Signed'}
 use Rattle.isl_tree.specs.declared.tree.Product.{Product, Product', Held-Product-inner, None', Some'}
 use Rattle.isl_tree.specs.declared.tree.Binder.{Binder}
-use Rattle.isl_tree.specs.declared.tree.Formula.{Formula, Implies', Or', And', Not', True, False, Exists', Chain, Row_of-Formula, end_of-Formula, more_of-Formula}
+use Rattle.isl_tree.specs.declared.tree.Formula.{Formula, Implies', Or', And', Not', True, False, Exists', Chain, Row_of-Formula}
+use Rattle.isl_tree.specs.declared.tree.Formula.{end_of-Formula, more_of-Formula}
 use Rattle.isl_tree.specs.declared.tree.Entry.{Entry}
 use Rattle.isl_tree.specs.declared.tree.Entry.TheVariants.{Plain, Named}
 use Rattle.isl_tree.specs.declared.tree.PieceTree.{PieceTree}
@@ -88,7 +89,8 @@ entry_is_known known (Named name term) = term_is_known known term
 
 abbrev pub entries_are_known : List (List ℕ) → List Entry → Bool
 entries_are_known known [] = true
-entries_are_known known (entry ∷ entries) = entry_is_known known entry && entries_are_known (known_after known (new_name known entry)) entries
+entries_are_known known (entry ∷ entries) =
+    entry_is_known known entry && entries_are_known (known_after known (new_name known entry)) entries
 
 -- the names that are known behind entries
 abbrev pub known_behind : List (List ℕ) → List Entry → List (List ℕ)
@@ -100,7 +102,8 @@ body_is_known known None = true
 body_is_known known (Some formula) = formula_is_known known formula
 
 abbrev pub piece_is_known : List (List ℕ) → PieceTree → Bool
-piece_is_known params piece = entries_are_known params (piece_entries piece) && body_is_known (known_behind params (piece_entries piece)) piece.body
+piece_is_known params piece =
+    entries_are_known params (piece_entries piece) && body_is_known (known_behind params (piece_entries piece)) piece.body
 
 -- every identifier of the literal is known
 abbrev pub literal_is_known : Literal → Bool

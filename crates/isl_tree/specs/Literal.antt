@@ -1,4 +1,4 @@
--- Which elements are in a literal (isl manual, "Sets and relations": sets and binary relations as tuples with constraints).
+-- public: which elements are in a literal (isl manual, "Sets and relations": sets and binary relations as tuples with constraints).
 use Rattle.std.specs.Prelude.{◌≡◌, ℕ, ℤ, Bool, false, List, [], ◌∷◌, ◌++◌, length, Option, Some, None, Any, if◌then◌else◌}
 use Rattle.std.specs.List.{list_any}
 use Rattle.std.specs.Str.{bytes_eq}

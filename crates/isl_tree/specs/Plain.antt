@@ -1,4 +1,4 @@
--- Plain literals: linear terms, compared in chains that are joined by `and`. What the printed form of a set or map is made of.
+-- public: plain literals: linear terms, compared in chains that are joined by `and`. What the printed form of a set or map is made of.
 use Rattle.std.specs.Prelude.{Bool, true, false, ◌&&◌, List, [], ◌∷◌, Option, Some, None}
 use Rattle.std.specs.List.{list_all}
 use Rattle.isl_tree.specs.declared.tree.Factor.{Name}

@@ -1,4 +1,4 @@
--- The value of a term (isl manual, "Sets and relations", on affine expressions and integer divisions).
+-- public: the value of a term (isl manual, "Sets and relations", on affine expressions and integer divisions).
 use Rattle.std.specs.Prelude.{ℤ, pos, neg_ℤ, ◌+ℤ◌, ◌*ℤ◌, List, [], ◌∷◌, if◌then◌else◌}
 use Rattle.isl_math.specs.Divide.{floor_div, floor_mod}
 use Rattle.isl_tree.specs.declared.tree.Factor.{Factor, Name, Inner', Floor', Ceil', Row_of-Signed, end_of-Signed, more_of-Signed}

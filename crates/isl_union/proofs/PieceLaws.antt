@@ -4,49 +4,36 @@ use Rattle.std.proofs.lemmas.List.{map_more, map-append, take_all}
 use Rattle.std.proofs.lemmas.List.Elements.{All-map, All-nil, All-push}
 use Rattle.isl_space.specs.Name.{Name}
 use Rattle.isl_space.specs.Names.{IsParameterList}
-use Rattle.isl_space.specs.Space.{space_form_of}
-use Rattle.isl_piece.specs.declared.piece.Piece.{Piece}
-use Rattle.isl_piece.specs.declared.system.System.{System}
-use Rattle.isl_union.specs.KeptValue.{KeptValue, columns_of, IsKeptPiece, IsKeptValue}
+use Rattle.isl_piece.specs.Piece.{PieceView}
+use Rattle.isl_union.specs.KeptValue.{KeptValue, IsKeptPiece, IsKeptValue}
 use Rattle.isl_union.specs.Piece.{kept_piece, IsPieceOf}
 
 pub no_pieces : (params : List Name) → All (IsPieceOf params) []
 no_pieces params = All-nil (IsPieceOf params)
 
 -- what a value's pieces are, seen by content
-pub IsKeptValue-from_pieces : (params : List Name) (pieces : List Piece) → IsParameterList params → All (IsPieceOf params) pieces
+pub IsKeptValue-from_pieces : (params : List Name) (pieces : List PieceView) → IsParameterList params → All (IsPieceOf params) pieces
     → IsKeptValue (record { params = params; pieces = map kept_piece pieces })
 IsKeptValue-from_pieces params pieces p all = record {
   params = p;
   pieces = All-map (IsKeptPiece params) kept_piece pieces (λ k d low. (all k d low).kept);
 }
 
-pub kept_piece-same : (a b : Piece) → space_form_of a.space ≡ space_form_of b.space → a.system ≡ b.system → kept_piece a ≡ kept_piece b
-kept_piece-same a b space system = cc
-
-pub IsPieceOf-same : (params : List Name) (a b : Piece) → space_form_of a.space ≡ space_form_of b.space → a.system ≡ b.system
-    → IsPieceOf params b → IsPieceOf params a
-IsPieceOf-same params a b space system h = record {
-  columns = ap (λ (s : System). s.columns) system ∙ h.columns ∙ ap (λ s. columns_of params s) (sym space);
-  kept = subst (IsKeptPiece params) (sym (kept_piece-same a b space system)) h.kept;
-}
-
 -- a loop's step: the copy of the i-th piece is put behind the copies
-pub copied_more : (params : List Name) (pieces made pushed : List Piece) (i : ℕ) (piece copy : Piece) → i < length pieces
-    → piece ≡ get_or pieces i piece
-    → space_form_of copy.space ≡ space_form_of piece.space → copy.system ≡ piece.system → pushed ≡ made ++ copy ∷ [] → All (IsPieceOf params) pieces
+pub copied_more : (params : List Name) (pieces made pushed : List PieceView) (i : ℕ) (piece copy : PieceView) → i < length pieces
+    → piece ≡ get_or pieces i piece → copy ≡ piece → pushed ≡ made ++ copy ∷ [] → All (IsPieceOf params) pieces
     → (map kept_piece made ≡ map kept_piece (take i pieces)) × All (IsPieceOf params) made
     → (map kept_piece pushed ≡ map kept_piece (take (i + 1) pieces)) × All (IsPieceOf params) pushed
-copied_more params pieces made pushed i piece copy low at space system is all so_far =
-    let one : kept_piece copy ≡ kept_piece (get_or pieces i piece) = kept_piece-same copy piece space system ∙ ap kept_piece at in
-    let sound : IsPieceOf params piece = subst (IsPieceOf params) (sym at) (all i piece low) in (
+copied_more params pieces made pushed i piece copy low at same is all so_far =
+    let one : kept_piece copy ≡ kept_piece (get_or pieces i piece) = ap kept_piece (same ∙ at) in
+    let sound : IsPieceOf params copy = subst (IsPieceOf params) (sym (same ∙ at)) (all i piece low) in (
       ap (map kept_piece) is ∙ map-append kept_piece made (copy ∷ []) ∙ ap (λ l. l ++ kept_piece copy ∷ []) so_far.0
           ∙ ap (λ k. map kept_piece (take i pieces) ++ k ∷ []) one ∙ sym (map_more kept_piece pieces i piece low),
-      subst (All (IsPieceOf params)) (sym is) (All-push (IsPieceOf params) made copy so_far.1 (IsPieceOf-same params copy piece space system sound)),
+      subst (All (IsPieceOf params)) (sym is) (All-push (IsPieceOf params) made copy so_far.1 sound),
     )
 
 -- all copies, behind the same parameters
-pub copied_all : (pieces made : List Piece) (i : ℕ) (params copied : List Name) (value : KeptValue) → copied ≡ params
+pub copied_all : (pieces made : List PieceView) (i : ℕ) (params copied : List Name) (value : KeptValue) → copied ≡ params
     → record { params = params; pieces = map kept_piece pieces } ≡ value → length pieces ≤ i → map kept_piece made ≡ map kept_piece (take i pieces)
     → record { params = copied; pieces = map kept_piece made } ≡ value
 copied_all pieces made i params copied value same is over so_far =
@@ -54,4 +41,4 @@ copied_all pieces made i params copied value same is over so_far =
     let names : record { params = copied; pieces = map kept_piece made } ≡ record { params = params; pieces = map kept_piece pieces } = cc in
     names ∙ is
 
-pub ruleset made = (no_pieces, IsKeptValue-from_pieces, IsPieceOf-same, kept_piece-same)
+pub ruleset made = (no_pieces, IsKeptValue-from_pieces)

@@ -12,7 +12,7 @@ use std::marker::Model;
 
 /// A union of pieces over declared parameters, each piece with normal rows.
 ///
-/// Contracts see it as a `KeptValue`: by content, without the sharing of its names and shapes.
+/// Contracts see it as a `KeptValue`: by content, without the sharing of its names, shapes and systems.
 #[derive(Drop)]
 pub struct Value {
     params: Params,
@@ -76,7 +76,7 @@ impl Value {
         self.pieces.as_slice()
     }
 
-    /// The same value, with the same names and shapes in memory.
+    /// The same value, with the same names, shapes and systems in memory.
     ///
     /// # Errors
     ///
@@ -87,7 +87,7 @@ impl Value {
     {
         let mut pieces = Vec::with_capacity(alloc, self.pieces.len())?;
         for piece in self.pieces.as_slice() {
-            pieces.push(piece.copy(alloc)?)?;
+            pieces.push(piece.copy()?)?;
         }
         Ok(Value {
             params: self.params.copy(alloc)?,

@@ -23,7 +23,7 @@ fn piece(alloc: Global, params: &Params) -> Result<Piece, SpaceFault>
     let space = Space::set(Shape::leaf(alloc, None, 2)?)?;
     let columns = params.len() + space.width() as usize;
     let system = System::new(alloc, columns);
-    Ok(Piece { space, system })
+    Ok(Piece::new(alloc, space, system)?)
 }
 
 fn value(alloc: Global) -> Result<Value, SpaceFault> {
@@ -33,11 +33,11 @@ fn value(alloc: Global) -> Result<Value, SpaceFault> {
     Ok(Value::from_normal(params, pieces))
 }
 
-fn is_copied(alloc: Global, piece: &Piece) -> bool {
-    match piece.copy(alloc) {
+fn is_copied(piece: &Piece) -> bool {
+    match piece.copy() {
         Ok(copy) => {
-            let same = copy.space.same(&piece.space);
-            same && copy.system.columns == 2 && copy.system.rows.is_empty()
+            let same = copy.space().same(piece.space());
+            same && copy.system().columns == 2 && copy.system().rows.is_empty()
         }
         Err(_) => false,
     }
@@ -48,7 +48,7 @@ fn value_is_copied(alloc: Global, value: &Value, pieces: usize) -> bool {
     match value.copy(alloc) {
         Ok(copy) => {
             let found = copy.pieces();
-            found.len() == pieces && found.iter().all(|piece| is_copied(alloc, piece))
+            found.len() == pieces && found.iter().all(|piece| is_copied(piece))
         }
         Err(_) => false,
     }

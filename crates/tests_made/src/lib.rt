@@ -5,4 +5,4 @@ mod case;
 mod rows;
 
 pub use case::{Form, bytes, field, is_case, number, numbers, words};
-pub use rows::{is_proper, is_proper_row, rows_of};
+pub use rows::{are_proper, is_proper, is_proper_row, rows_of};

@@ -97,6 +97,7 @@ fn has_divisor(kind: RowKind, divisor: Int) -> bool
 /// Whether the row is one over so many columns, with numbers within the limit.
 pub fn is_proper_row(row: &Row, columns: usize, meter: &Meter) -> bool
     ensures formed { result ≡ true → IsWellFormed columns row.now }
+    ensures modulus { result ≡ true → HasModulus row.now.kind row.now.k }
     ensures within { result ≡ true → IsRowWithin meter.now row.now }
 {
     row.coefs.len() == columns
@@ -106,13 +107,18 @@ pub fn is_proper_row(row: &Row, columns: usize, meter: &Meter) -> bool
         && are_within(row.coefs.as_slice(), meter)
 }
 
-/// Whether the rows are such rows over the system's columns.
+/// Whether the rows are such rows over so many columns.
+pub fn are_proper(rows: &[Row], columns: usize, meter: &Meter) -> bool
+    ensures formed { result ≡ true → All (IsWellFormed columns) rows.now }
+    ensures moduli { result ≡ true → All (λ r. HasModulus r.kind r.k) rows.now }
+    ensures within { result ≡ true → All (IsRowWithin meter.now) rows.now }
+{
+    rows.iter().all(|row| is_proper_row(row, columns, meter))
+}
+
+/// Whether the system has no defined columns, and the rows are such rows over its columns.
 pub fn is_proper(system: &System, meter: &Meter) -> bool
     ensures { result ≡ true → IsSystemWithin meter.now system.now }
 {
-    system
-        .rows
-        .as_slice()
-        .iter()
-        .all(|row| is_proper_row(row, system.columns, meter))
+    system.definitions.is_empty() && are_proper(system.rows.as_slice(), system.columns, meter)
 }

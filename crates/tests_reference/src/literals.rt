@@ -59,10 +59,7 @@ fn rows_hold(
         return Ok(false);
     }
     let rows = rows_written(alloc, params, piece, &mut meter)?;
-    let system = System {
-        columns: point.len(),
-        rows,
-    };
+    let system = System::from_rows(alloc, point.len(), rows);
     if !is_proper(&system, &meter) {
         return Ok(false);
     }
@@ -84,6 +81,7 @@ fn some_rows_hold(alloc: Global, literal: &Literal, point: &[i128]) -> Result<bo
 }
 
 // The literal that the program prints.
+#[tactic(auto, using(isl_words::proofs::WordsLemmas::none_numbered))]
 fn printed(alloc: Global, text: &str) -> Result<Literal, Wrong> {
     let mut session = Session::new(alloc, Options::new(127, 1, Vec::new(alloc), false));
     let mut answer = Vec::new(alloc);

@@ -10,11 +10,11 @@ mod tests {
     use std::cell::Cell;
     use std::test::Fail;
 
-    // A source of one script, four bytes a read, which says when it came to its end.
+    // A source of one script, four bytes a read, which counts the reads.
     #[derive(Drop)]
     struct Watched<'a> {
         script: &'a [u8],
-        ended: &'a Cell<bool>,
+        reads: &'a Cell<u32>,
     }
 
     impl Source for Watched<'_> {
@@ -26,62 +26,50 @@ mod tests {
             let n = self.script.len().min(buf.len()).min(4);
             buf[..n].copy_from_slice(&self.script[..n]);
             self.script = &self.script[n..];
-            if n == 0 {
-                self.ended.set(true);
-            }
+            self.reads.set(self.reads.get().wrapping_add(1));
             Ok(n)
         }
     }
 
-    // A sink that counts the writes before that end.
+    // A sink that keeps, digit by digit, how many reads there were at each write.
     #[derive(Drop)]
-    struct Waiting<'a> {
-        ended: &'a Cell<bool>,
-        early: u32,
-        late: u32,
+    struct Watching<'a> {
+        reads: &'a Cell<u32>,
+        seen: u32,
     }
 
-    impl Sink for Waiting<'_> {
+    impl Sink for Watching<'_> {
         ghost written = { λ _. None };
 
         ghost faults = { λ _. 0 };
 
         fn write(&mut self, piece: &[u8]) -> Result<usize, Failed> {
-            if self.ended.get() {
-                self.late = self.late.saturating_add(1);
-            } else {
-                self.early = self.early.saturating_add(1);
-            }
+            self.seen = self.seen.wrapping_mul(10).wrapping_add(self.reads.get());
             Ok(piece.len())
         }
     }
 
     #[test]
-    fn scripts_are_read_before_they_are_answered(rt: HostRuntime) -> Result<(), Fail> {
+    fn answers_are_written_before_the_next_read(rt: HostRuntime) -> Result<(), Fail> {
         let alloc = rt.alloc();
         let words = vec![in alloc; String::from_str(alloc, "iscc")?]?;
-        let ended = Cell::new(false);
+        let reads = Cell::new(0);
         let mut src = Watched {
-            script: b"{ };{ };x];",
-            ended: &ended,
+            script: b"{ };{ };x];{ };",
+            reads: &reads,
         };
-        let mut out = Waiting {
-            ended: &ended,
-            early: 0,
-            late: 0,
+        let mut out = Watching {
+            reads: &reads,
+            seen: 0,
         };
-        let mut err = Waiting {
-            ended: &ended,
-            early: 0,
-            late: 0,
+        let mut err = Watching {
+            reads: &reads,
+            seen: 0,
         };
         let status = run(alloc, &words, &mut src, &mut out, &mut err);
-        assert_eq!(rt; (status.code(), out.early, out.late), (3, 0, 2));
-        assert_eq!(rt;
-            (err.early, err.late),
-            (0, 1),
-            "a fault's line is one write"
-        );
+        assert_eq!(rt; (status.code(), out.seen), (3, 12));
+        assert_eq!(rt; err.seen, 3, "a fault's line is one write");
+        assert_eq!(rt; reads.get(), 3, "nothing is read after a refusal");
         Ok(())
     }
 
@@ -98,6 +86,7 @@ mod tests {
 
     // Pieces, and what feeding or finishing comes to: the statement and the refusal.
     #[test]
+    #[tactic(auto, using(isl_words::proofs::WordsLemmas::none_numbered))]
     fn sessions_take_pieces(rt: HostRuntime) -> Result<(), Fail> {
         let alloc = rt.alloc();
         let mut session = Session::new(alloc, Options::new(8, 1, Vec::new(alloc), false));
@@ -107,7 +96,7 @@ mod tests {
         }
         let answered = "{ [i0] : i0 = 0; [i0] : i0 = 1 }\n{ [i0] : i0 = 255 }\n";
         assert_eq!(rt; text.as_slice(), answered.as_bytes());
-        assert_eq!(rt; session.finish(&mut text), Ok(()));
+        assert_eq!(rt; (session.held(), session.finish(&mut text)), (0, Ok(())));
         // The sum passes the limit of 8 bits, and the session stays refused.
         for piece in ["{ [i] : i + 200 + 200 >= 0 };{ };", "{ };"] {
             let refused = session
@@ -121,14 +110,15 @@ mod tests {
     }
 
     #[test]
+    #[tactic(auto, using(isl_words::proofs::WordsLemmas::none_numbered))]
     fn sessions_refuse(rt: HostRuntime) -> Result<(), Fail> {
         let alloc = rt.alloc();
         for (bits, script, fed, finished) in [
             (
                 8,
                 "{ };{ [300] };",
-                Some(Refusal::Syntax),
-                Some(Refusal::Syntax),
+                Some(Refusal::WideNumber),
+                Some(Refusal::WideNumber),
             ),
             (9, "{ };{ [300] };", None, None),
             (8, "{ };{ [", None, Some(Refusal::Unfinished)),

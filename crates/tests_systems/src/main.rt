@@ -4,7 +4,7 @@
 
 ghost use Rattle.std.specs.Prelude.{◌≡◌, IfOk};
 
-use isl_elim::{eliminate, eliminate_all};
+use isl_elim::{eliminate, eliminate_all, is_empty, sample_point};
 use isl_meter::{Cut, Meter};
 use isl_piece::{Row, Rows, System, meet, negate, normalise};
 use isl_reference::{all_hold, holds_somewhere, numbered};
@@ -37,7 +37,7 @@ fn system_of(alloc: Global, case: &str, columns: usize, key: &str) -> Result<Sys
     ensures { IfOk result (λ system. system.columns ≡ columns) }
 {
     let rows = rows_of(alloc, case, key)?;
-    Ok(System { columns, rows })
+    Ok(System::from_rows(alloc, columns, rows))
 }
 
 // How many points there are in so many columns.
@@ -122,7 +122,7 @@ fn eliminated(
     gone: usize,
     meter: &mut Meter,
 ) -> Result<Vec<System>, Cut> {
-    if system.columns != 2 || !is_proper(system, meter) {
+    if system.columns != 2 || !system.definitions.is_empty() || !is_proper(system, meter) {
         return Ok(Vec::new(alloc));
     }
     if gone == 1 {
@@ -168,6 +168,27 @@ fn are_found(
     Ok(same)
 }
 
+// Whether the system is called empty exactly where it has no sample, and nothing is left of it without its columns; where it has
+// one, its rows hold there.
+fn is_decided(alloc: Global, system: &System, meter: &mut Meter) -> Result<bool, Cut> {
+    if system.columns != 2 || !system.definitions.is_empty() || !is_proper(system, meter) {
+        return Ok(false);
+    }
+    let empty = is_empty(alloc, system, meter)?;
+    let left = eliminate_all(alloc, system, &[0, 1], meter)?;
+    Ok(
+        left.is_empty() == empty
+            && match sample_point(alloc, system, meter)? {
+                Some(point) => {
+                    !empty
+                        && point.len() == system.columns
+                        && all_hold(system.rows.as_slice(), point.as_slice())
+                }
+                None => empty,
+            },
+    )
+}
+
 fn is_eliminated(alloc: Global, case: &str, gone: usize, meter: &mut Meter) -> Result<bool, Cut> {
     let given = system_of(alloc, case, 2, "row ")?;
     let left = eliminated(alloc, &given, gone, meter)?;
@@ -175,7 +196,8 @@ fn is_eliminated(alloc: Global, case: &str, gone: usize, meter: &mut Meter) -> R
         number(case, "systems ", left.len()) == left.len()
             && number(case, "units ", meter.units() as usize) == meter.units() as usize
             && is_proper(&given, meter)
-            && are_found(alloc, case, &given.rows, &left, gone)?,
+            && are_found(alloc, case, &given.rows, &left, gone)?
+            && is_decided(alloc, &given, meter)?,
     )
 }
 

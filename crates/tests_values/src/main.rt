@@ -10,13 +10,13 @@ mod spaces;
 
 use crate::spaces::space_of;
 use isl_meter::Meter;
-use isl_piece::{Piece, System, normalise};
+use isl_piece::{Piece, System};
 use isl_print::text_of;
 use isl_space::{Name, Params, SpaceFault};
 use isl_union::Value;
 use std::alloc::Global;
 use std::io;
-use tests_made::{Form, field, is_case, is_proper, rows_of};
+use tests_made::{Form, are_proper, field, is_case, rows_of};
 
 // The lines of a case.
 const FORMS: [(&str, Form); 6] = [
@@ -64,15 +64,15 @@ fn piece_of(alloc: Global, params: &Params, written: &str) -> Result<Option<Piec
         return Ok(None);
     };
     let columns = params.len() + space.width() as usize;
-    let system = System { columns, rows };
-    let mut meter = Meter::new(127, 1);
-    if !is_proper(&system, &meter) {
+    let meter = Meter::new(127, 1);
+    if !are_proper(rows.as_slice(), columns, &meter) {
         return Ok(None);
     }
-    match normalise(alloc, system, &mut meter)? {
-        Some(system) => Ok(Some(Piece { space, system })),
-        None => Ok(None),
-    }
+    let Some(rows) = rows.normalise(alloc, &meter)? else {
+        return Ok(None);
+    };
+    let system = System::from_rows(alloc, columns, rows);
+    Ok(Some(Piece::new(alloc, space, system)?))
 }
 
 // The pieces that a case writes.

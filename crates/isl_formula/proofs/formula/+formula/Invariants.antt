@@ -51,4 +51,5 @@ abbrev pub decreases-formula : goal.decreases-formula
 decreases-formula l = 32 * l.depth + 28
 
 abbrev pub invariant-others-loop-turn : goal.invariant-others-loop-turn
-invariant-others-loop-turn l = row (sees (sign_of l.operator)) (next_of (unary l.depth) l.operator) (l.fn.first ∷ l.fn.second ∷ []) l.fn.tokens ≡ rest_of (sees (sign_of l.operator)) (next_of (unary l.depth) l.operator) (l._turn-end - l._turn) l.found l.tokens
+invariant-others-loop-turn l = row (sees (sign_of l.operator)) (next_of (unary l.depth) l.operator) (l.fn.first ∷ l.fn.second ∷ [])
+    l.fn.tokens ≡ rest_of (sees (sign_of l.operator)) (next_of (unary l.depth) l.operator) (l._turn-end - l._turn) l.found l.tokens

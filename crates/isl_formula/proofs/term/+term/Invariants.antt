@@ -55,4 +55,5 @@ abbrev pub decreases-signed : goal.decreases-signed
 decreases-signed l = 15 * l.depth + 4
 
 abbrev pub invariant-term-loop-turn : goal.invariant-term-loop-turn
-invariant-term-loop-turn l = terms (product l.depth) l.fn.tokens ≡ rest_of (λ ts. is_additive (head_kind ts)) (signed (product l.depth)) (l._turn-end - l._turn) l.found l.tokens
+invariant-term-loop-turn l = terms (product l.depth) l.fn.tokens ≡ rest_of (λ ts. is_additive (head_kind ts)) (signed (product l.depth))
+    (l._turn-end - l._turn) l.found l.tokens

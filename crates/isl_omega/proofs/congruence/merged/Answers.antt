@@ -36,5 +36,5 @@ loop-i-preserved c =
       (λ few. absurd (grind (arith, common_steps))),
     )
 
-pub returns-clause-small : goal.returns-clause-small
-returns-clause-small c = c.loop-i.invariant.2
+pub returns-clause-no_overflow : goal.returns-clause-no_overflow
+returns-clause-no_overflow c = c.loop-i.invariant.2

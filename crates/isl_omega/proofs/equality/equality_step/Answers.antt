@@ -2,7 +2,7 @@ use Rattle.std.proofs.Common.{◌≡◌, ◌-◌, ◌++◌, ◌∷◌, [], pos, 
 use Rattle.std.specs.List.{All, AllZip}
 use Rattle.std.proofs.lemmas.List.Elements.{All-push}
 use Rattle.isl_piece.specs.Row.{IsRowWithin}
-use Rattle.isl_omega.specs.Column.{IsSystemOf, HoldAt}
+use Rattle.isl_omega.specs.Column.{IsAnswerFor, HoldAt}
 use Rattle.isl_omega.specs.Equality.{IsImage, solvable}
 use Rattle.isl_omega.proofs.ImageLemmas.{step_well_formed, step_free, step_is}
 use Rattle.isl_omega.proofs.equality.equality_step.Goals as goal
@@ -30,7 +30,7 @@ pub returns-clause-exact : goal.returns-clause-exact
 returns-clause-exact c =
     let zip : AllZip (IsImage c.args.fixed.now c.args.col) c.args.rows.now c.in_ok-short.short = grind arith in
     let pushed : c.push.new.self ≡ c.in_ok-short.short ++ solvable c.args.fixed.now c.args.col ∷ [] = grind arith in
-    let left : IsSystemOf c.args.meter.now (c.args.columns - 1) (λ point. HoldAt c.push.new.self c.args.col point (pos 0)) c.in_ok-left.left = grind arith in (
+    let left : IsAnswerFor c.args.meter.now (c.args.columns - 1) (λ point. HoldAt c.push.new.self c.args.col point (pos 0)) c.in_ok-left.left = grind arith in (
       step_is c.args.meter.now c.args.columns c.args.fixed.now c.args.col c.args.rows.now c.in_ok-short.short c.push.new.self c.in_ok-left.left zip c.requires.rows_formed c.requires.fixed_formed c.requires.col_in pushed left,
       grind arith,
     )

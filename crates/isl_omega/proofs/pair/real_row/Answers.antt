@@ -22,8 +22,8 @@ returns-clause-exact c =
       grind arith,
     )
 
-pub returns-in_err-real-clause-small : goal.returns-in_err-real-clause-small
-returns-in_err-real-clause-small c = λ bits low up.
+pub returns-in_err-real-clause-no_overflow : goal.returns-in_err-real-clause-no_overflow
+returns-in_err-real-clause-no_overflow c = λ bits low up.
     let lower = c.args.lower.now in
     let upper = c.args.upper.now in
     let m : c.floor_div-m.result ≡ floor_div (coef_at lower c.args.col) c.args.modulus = grind arith in
@@ -31,10 +31,10 @@ returns-in_err-real-clause-small c = λ bits low up.
     let positive = gcd_positive (coef_at lower c.args.col) (neg_ℤ (coef_at upper c.args.col)) c.args.modulus (positive_not_zero (coef_at lower c.args.col) c.requires.lower.factor) c.requires.gcd in
     let sizes = real_up_to lower upper c.args.col c.args.modulus c.floor_div-m.result c.floor_div-n.result positive low up m n in
     let p = err_from_is_err_and c.from_residual.result c.from_residual.ensures.1 in
-    rw (p.1, p.2) (c.in_err-real.ensures.small (2 ^ 62) (2 ^ 62) (2 ^ 62) (2 ^ 62) sizes.1 sizes.0 low up (rw bits (lit< tt)))
+    rw (p.1, p.2) (c.in_err-real.ensures.no_overflow (2 ^ 62) (2 ^ 62) (2 ^ 62) (2 ^ 62) sizes.1 sizes.0 low up (rw bits (lit< tt)))
 
-pub returns-clause-small : goal.returns-clause-small
-returns-clause-small c = λ bits low up.
+pub returns-clause-no_overflow : goal.returns-clause-no_overflow
+returns-clause-no_overflow c = λ bits low up.
     let lower = c.args.lower.now in
     let upper = c.args.upper.now in
     let real : c.in_ok-real.real ≡ combination c.floor_div-n.result lower c.floor_div-m.result upper = grind arith in

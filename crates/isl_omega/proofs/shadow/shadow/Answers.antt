@@ -3,7 +3,7 @@ use Rattle.std.proofs.lemmas.Grind.{common_steps}
 use Rattle.std.proofs.lemmas.List.{take_more}
 use Rattle.isl_piece.specs.declared.row.Row.{Row}
 use Rattle.isl_meter.specs.declared.Cut.TheVariants.{NoMemory}
-use Rattle.isl_omega.specs.Shadow.{HasTail}
+use Rattle.isl_omega.specs.Shadow.{LeavesSplinters}
 use Rattle.isl_meter.specs.Gauge.{IsChargedUpTo, IsCutUpTo}
 use Rattle.isl_meter.proofs.UnitLemmas.{charged_none, charged_turn, charged_bits, cut_turn, cut_late, no_memory}
 use Rattle.isl_omega.proofs.ShadowLists.{shadow_none, tail_kept, shadow_more}
@@ -27,7 +27,7 @@ loop-lower-preserved c =
     let tail = c.in_ok-tail.tail in
     let inside : i < length lowers = grind (arith, common_steps) in
     let charged : IsChargedUpTo (pos (length uppers)) h k = grind arith in
-    let more : HasTail h c.args.columns c.args.col c.args.neighbours l uppers c.loop-lower.rows c.tail_of.new.rows tail = grind arith in
+    let more : LeavesSplinters h c.args.columns c.args.col c.args.neighbours l uppers c.loop-lower.rows c.tail_of.new.rows tail = grind arith in
     let start = charged_bits (pos (i * length uppers)) g h c.loop-lower.invariant.charged in
     let pushed : c.push.new.self.items ≡ c.loop-lower.tails.items ++ tail ∷ [] = grind arith in
     let taken : take (i + 1) lowers ≡ take i lowers ++ l ∷ [] = take_more lowers i l inside ∙ ap (λ (s : Row). take i lowers ++ s ∷ []) (sym c.lower-item.is) in

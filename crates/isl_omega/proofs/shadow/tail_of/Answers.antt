@@ -1,8 +1,8 @@
 use Rattle.std.proofs.Common.{◌≡◌, ◌+ℤ◌, length, arith, ◌^◌, ◌∙◌, pos}
 use Rattle.isl_meter.specs.Gauge.{IsWithin, IsChargedUpTo}
 use Rattle.isl_piece.specs.Row.{coef_at}
-use Rattle.isl_omega.specs.declared.shadow.Tail.{Tail}
-use Rattle.isl_omega.specs.Shadow.{extra, IsShadowOf}
+use Rattle.isl_omega.specs.declared.shadow.Splinters.{Splinters}
+use Rattle.isl_omega.specs.Shadow.{neighbour_splinters, IsShadowOf}
 use Rattle.isl_meter.proofs.UnitLemmas.{charged_bits}
 use Rattle.isl_meter.proofs.LimitLemmas.{within_kept}
 use Rattle.isl_omega.proofs.SmallLemmas.{coef_up_to}
@@ -16,18 +16,18 @@ returns-clause-exact c =
     let g = c.args.meter.now in
     let k = c.shadow_of.new.meter in
     let last = c.in_ok-last.last in
-    let tail : Tail = record { lower = c.in_ok-copy.field-0; last = c.in_ok-last-2.last } in
+    let tail : Splinters = record { lower = c.in_ok-copy.field-0; last = c.in_ok-last-2.last } in
     let charged : IsChargedUpTo (pos (length uppers)) g k = grind arith in
     let shadow : IsShadowOf g c.args.columns c.args.col lower uppers c.args.rows.now c.shadow_of.new.rows last = grind arith in
     let same : tail.lower ≡ lower = grind arith in
-    let value : tail.last ≡ last +ℤ extra c.args.neighbours (coef_at lower c.args.col) = grind arith in
+    let value : tail.last ≡ last +ℤ neighbour_splinters c.args.neighbours (coef_at lower c.args.col) = grind arith in
     let within : IsWithin k tail.last = grind arith in (
       record { last = last; shadow = shadow; same = same; value = value; within = within_kept g k tail.last (charged_bits (pos (length uppers)) g k charged) within },
       grind arith,
     )
 
-pub returns-in_err-last-2-clause-small : goal.returns-in_err-last-2-clause-small
-returns-in_err-last-2-clause-small c = λ bits low up.
+pub returns-in_err-last-2-clause-no_overflow : goal.returns-in_err-last-2-clause-no_overflow
+returns-in_err-last-2-clause-no_overflow c = λ bits low up.
     let lower = c.args.lower.now in
     let uppers = c.args.uppers.now in
     let g = c.args.meter.now in
@@ -36,4 +36,4 @@ returns-in_err-last-2-clause-small c = λ bits low up.
     let charged : IsChargedUpTo (pos (length uppers)) g k = grind arith in
     let shadow : IsShadowOf g c.args.columns c.args.col lower uppers c.args.rows.now c.shadow_of.new.rows last = grind arith in
     let at : c.get.result ≡ coef_at lower c.args.col = grind arith in
-    absurd (c.in_err-last-2.ensures.small (charged_bits (pos (length uppers)) g k charged ∙ bits) (shadow_last g c.args.columns c.args.col lower uppers c.args.rows.now c.shadow_of.new.rows last shadow c.requires.lower low up) (rw at (coef_up_to (2 ^ 62) lower c.args.col low)))
+    absurd (c.in_err-last-2.ensures.no_overflow (charged_bits (pos (length uppers)) g k charged ∙ bits) (shadow_last g c.args.columns c.args.col lower uppers c.args.rows.now c.shadow_of.new.rows last shadow c.requires.lower low up) (rw at (coef_up_to (2 ^ 62) lower c.args.col low)))

@@ -16,7 +16,7 @@ use Rattle.isl_session.proofs.HaltLemmas.{halts_on, halts_stopped, CutShort-appe
 use Rattle.isl_session.proofs.program.answer_piece.Goals as goal
 
 pub loop-at-init : goal.loop-at-init
-loop-at-init g c = ([], Appends-nil (g.K.Sink.written c.args.out.now), ready_fed c.args.session.now c.requires, omega arith, omega arith)
+loop-at-init g c = ([], Appends-nil (g.K.Sink.written c.args.out.now), ready_fed c.args.session.now c.requires, refl, omega arith)
 
 pub take_front-requires : goal.take_front-requires
 take_front-requires g c =
@@ -57,7 +57,7 @@ returns-in-Err-write_all-clause-err g c =
       concat so_far.0 ++ take cut.0 (concat one.0),
       Appends-trans _ _ _ _ _ so_far.1 (subst (λ (l : List ℕ). Appends (written c.loop-at.out) (written c.write_all.new.out) (take cut.0 l)) text cut.2),
       (
-        rose_since (faults c.args.out.now) (faults c.loop-at.out) (faults c.write_all.new.out) so_far.3 c.in-Err-write_all.ensures.fault,
+        rose_since (faults c.args.out.now) (faults c.loop-at.out) (faults c.write_all.new.out) (omega (arith, so_far.3)) c.in-Err-write_all.ensures.fault,
         c.answered.ensures.count,
         (
           take at xs ++ take n (drop at xs),
@@ -87,6 +87,6 @@ loop-at-preserved g c =
       subst (λ (l : List ℕ). Appends (written c.args.out.now) (written c.write_all.new.out) l) (sym (concat-append so_far.0 one.0)) (Appends-trans _ _ _ _ _ so_far.1 wrote),
       subst (λ (l : List ℕ). Fed c.args.session.now l (so_far.0 ++ one.0) new) (take_join at n xs)
           (Fed-append c.args.session.now (take at xs) so_far.0 c.loop-at.session (take n (drop at xs)) one.0 new so_far.2 fed),
-      omega (arith, so_far.3, c.write_all.ensures.no_fewer_faults),
+      c.in_default.ensures.kept ∙ so_far.3,
       omega (arith, ok.0, ap length (take_rest xs at), length-drop at xs, so_far.4),
     )

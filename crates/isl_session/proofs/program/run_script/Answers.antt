@@ -3,9 +3,8 @@ use Rattle.std.specs.List.{concat}
 use Rattle.std.specs.Io.KnownBytes.{Appends, IsAtEnd}
 use Rattle.isl_math.specs.Count.{Rose}
 use Rattle.isl_session.specs.declared.TheConstants.{SCRIPT_MAX}
-use Rattle.isl_session.specs.Choices.{gauge_of}
 use Rattle.isl_session.specs.Place.{place_of}
-use Rattle.isl_session.specs.View.{View, Fed}
+use Rattle.isl_session.specs.View.{View, Fed, gauge_of}
 use Rattle.isl_session.specs.Lines.{fault_line}
 use Rattle.isl_session.specs.Run.{Halts, outside}
 use Rattle.isl_session.proofs.AheadLemmas.{script_of}
@@ -60,8 +59,3 @@ returns-in-Err-clause-answered g c =
           (tells_of c.write_fault.result (Appends (told c.args.err.now) (told c.write_fault.new.err) (fault_line fault)) (Rose (tells c.args.err.now) (tells c.write_fault.new.err)) c.write_fault.ensures.ok c.write_fault.ensures.fault)
           (place_of fault.refusal) refl script.4 halts,
     )
-
-pub returns-in-Err-clause-whole : goal.returns-in-Err-clause-whole
-returns-in-Err-clause-whole g c = λ other no_read.
-    let is = status_refusal c.new-in-Err.result (Some c.in-Err.fault.refusal) c.into_meter-in-Err.result c.new-in-Err.ensures in
-    c.in-Err.ensures.whole (λ memory. other (is ∙ ap Some memory)) no_read

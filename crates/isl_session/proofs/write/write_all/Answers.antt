@@ -1,4 +1,4 @@
-use Rattle.std.proofs.Common.{◌-◌, List, ℕ, arith, length, subst, drop}
+use Rattle.std.proofs.Common.{◌∙◌, ◌-◌, List, ℕ, arith, length, subst, drop}
 use Rattle.std.proofs.lemmas.List.{length-take, length-drop}
 use Rattle.std.specs.Io.KnownBytes.{Appends}
 use Rattle.std.proofs.KnownBytes.{Appends-trans}
@@ -13,5 +13,5 @@ loop-at-preserved g c =
       within = omega (arith, so_far.within, wrote.fits.1, length-take (length c.args.text.now - c.loop-at.at) (drop c.loop-at.at c.args.text.now), length-drop c.loop-at.at c.args.text.now);
       wrote = subst (λ (l : List ℕ). Appends (g.K.Sink.written c.args.out.now) (g.K.Sink.written c.write.new.self) l) (take_on c.loop-at.at c.in_ok-at.field-0 c.args.text.now)
           (Appends-trans _ _ _ _ _ so_far.wrote wrote.bytes);
-      later = omega (arith, so_far.later, c.write.ensures.no_fewer_faults);
+      kept = wrote.kept ∙ so_far.kept;
     }

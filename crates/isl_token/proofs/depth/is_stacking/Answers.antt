@@ -19,4 +19,5 @@ pub returns-in-None : goal.returns-in-None
 returns-in-None c = next_no_word c.args.rest.now c.peek.result c.peek.ensures c.in-Name.is c.in-None.ensures
 
 pub returns-in_default : goal.returns-in_default
-returns-in_default c = next_other c.args.rest.now c.peek.result c.peek.ensures c.in_default.not-Name c.in_default.not-Not c.in_default.not-Exists
+returns-in_default c = next_other c.args.rest.now c.peek.result c.peek.ensures c.in_default.not-Name c.in_default.not-Not
+    c.in_default.not-Exists

@@ -20,9 +20,12 @@ loop-at-preserved-in_ok-push c =
     let begins = c.split_at-in-loop-at.ensures.front in
     let rest = c.split_at.result.1.now in
     record {
-      same = one_mark c.args.text.now marks c.loop-at.at rest front cut.0 cut.1 so_far back c.cut-piece.ensures.value begins c.loop-at-test.true c.push.new.self.items _ c.in-Some.kind mark known c.cut-piece.ensures.moves refl pushed refl;
-      kinds = one_kind c.args.text.now marks c.loop-at.at rest front cut.0 cut.1 so_far back c.cut-piece.ensures.value begins c.loop-at-test.true c.push.new.self.items c.in-Some.kind mark invariant.kinds known refl refl pushed;
-      formed = one_formed c.args.text.now marks c.loop-at.at rest front cut.0 cut.1 so_far back c.cut-piece.ensures.value begins c.loop-at-test.true c.push.new.self.items c.in-Some.kind mark invariant.formed known refl pushed;
+      same = one_mark c.args.text.now marks c.loop-at.at rest front cut.0 cut.1 so_far back c.cut-piece.ensures.value begins
+          c.loop-at-test.true c.push.new.self.items _ c.in-Some.kind mark known c.cut-piece.ensures.moves refl pushed refl;
+      kinds = one_kind c.args.text.now marks c.loop-at.at rest front cut.0 cut.1 so_far back c.cut-piece.ensures.value begins
+          c.loop-at-test.true c.push.new.self.items c.in-Some.kind mark invariant.kinds known refl refl pushed;
+      formed = one_formed c.args.text.now marks c.loop-at.at rest front cut.0 cut.1 so_far back c.cut-piece.ensures.value begins
+          c.loop-at-test.true c.push.new.self.items c.in-Some.kind mark invariant.formed known refl pushed;
       within = search rules;
     }
 
@@ -33,7 +36,9 @@ loop-at-preserved c =
     let known : IsKindOfPiece cut.0 front (Ok None) = subst (λ (o : Option Kind). IsKindOfPiece cut.0 front (Ok o))
     (not_some c.in_ok-kind.field-0 (search rules)) c.in_ok-kind.ensures in
     record {
-      same = no_mark c.args.text.now c.loop-at.marks.items c.loop-at.at c.split_at.result.1.now front cut.0 cut.1 c.loop-at.invariant.same c.split_at.ensures.back c.cut-piece.ensures.value c.split_at-in-loop-at.ensures.front c.loop-at-test.true _ known c.cut-piece.ensures.moves refl;
+      same = no_mark c.args.text.now c.loop-at.marks.items c.loop-at.at c.split_at.result.1.now front cut.0 cut.1 c.loop-at.invariant.same
+          c.split_at.ensures.back c.cut-piece.ensures.value c.split_at-in-loop-at.ensures.front c.loop-at-test.true _ known
+          c.cut-piece.ensures.moves refl;
       kinds = c.loop-at.invariant.kinds;
       formed = c.loop-at.invariant.formed;
       within = search rules;

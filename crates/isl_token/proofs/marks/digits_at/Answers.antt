@@ -7,7 +7,8 @@ pub returns-in-Number-default : goal.returns-in-Number-default
 returns-in-Number-default c = λ after.
     let is = c.cut.ensures.value ∙ ap cut c.split_at.ensures.back in
     let text = c.split_at-in-Number-default.ensures.front ∙ ap (take c.cut.result.1) c.split_at.ensures.back in
-    digits_there c.args.text.now c.args.mark.now.place c.args.mark.now.kind c.requires c.cut.result.0 c.cut.result.1 is c.in-Number-default.is-0 after ∙ ap (λ d. Some (d, after)) (sym text)
+    digits_there c.args.text.now c.args.mark.now.place c.args.mark.now.kind c.requires c.cut.result.0 c.cut.result.1 is
+    c.in-Number-default.is-0 after ∙ ap (λ d. Some (d, after)) (sym text)
 
 pub returns-in_default-cut : goal.returns-in_default-cut
 returns-in_default-cut c = λ after.

@@ -17,8 +17,8 @@ returns-clause-exact c =
     let dark = c.in_ok-dark.dark in
     let is : IsRealRow c.args.columns c.args.col lower upper d real = grind arith in
     let by : c.in_ok-by.by ≡ ceiling ((coef_at lower c.args.col -ℤ pos 1) *ℤ (neg_ℤ (coef_at upper c.args.col) -ℤ pos 1)) d = grind arith in
-    let lowered : dark ≡ record real { constant = real.constant -ℤ c.in_ok-by.by } = grind arith in
-    let row : IsDarkRow c.args.columns c.args.col lower upper dark = dark_row_is c.args.meter.now c.args.columns c.args.col lower upper d real dark c.in_ok-by.by c.requires.lower c.requires.upper c.requires.col_in is by lowered in
+    let reduced_by : dark ≡ record real { constant = real.constant -ℤ c.in_ok-by.by } = grind arith in
+    let row : IsDarkRow c.args.columns c.args.col lower upper dark = dark_row_is c.args.meter.now c.args.columns c.args.col lower upper d real dark c.in_ok-by.by c.requires.lower c.requires.upper c.requires.col_in is by reduced_by in
     let tight : IsTrue c.in_ok-exact.exact → (xs : List ℤ) → HoldsRow real xs → HoldsRow dark xs = c.in_ok-exact.ensures in (
       row,
       grind arith,
@@ -26,8 +26,8 @@ returns-clause-exact c =
       grind arith,
     )
 
-pub returns-in_err-dark-clause-small : goal.returns-in_err-dark-clause-small
-returns-in_err-dark-clause-small c = λ bits low up.
+pub returns-in_err-dark-clause-no_overflow : goal.returns-in_err-dark-clause-no_overflow
+returns-in_err-dark-clause-no_overflow c = λ bits low up.
     let lower = c.args.lower.now in
     let upper = c.args.upper.now in
     let a = coef_at lower c.args.col in
@@ -38,4 +38,4 @@ returns-in_err-dark-clause-small c = λ bits low up.
     let meter : c.slack.new.meter ≡ c.args.meter.now = grind arith in
     let slack = slack_up_to a b d c.in_ok-by.by is.positive (coef_up_to (2 ^ 62) lower c.args.col low) (up_to-neg (2 ^ 62) (coef_at upper c.args.col) (coef_up_to (2 ^ 62) upper c.args.col up)) by in
     let p = err_from_is_err_and c.from_residual-in_err-dark.result c.from_residual-in_err-dark.ensures.1 in
-    rw (p.1, p.2) (c.in_err-dark.ensures.small (2 ^ 125) (2 ^ 125) slack (c.in_ok-real.ensures.small bits low up) (rw (meter, bits) (lit< tt)))
+    rw (p.1, p.2) (c.in_err-dark.ensures.no_overflow (2 ^ 125) (2 ^ 125) slack (c.in_ok-real.ensures.no_overflow bits low up) (rw (meter, bits) (lit< tt)))

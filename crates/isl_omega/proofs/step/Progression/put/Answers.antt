@@ -6,13 +6,13 @@ use Rattle.isl_omega.proofs.step.Progression.put.Goals as goal
 pub copied-requires-clause-well_formed : goal.copied-requires-clause-well_formed
 copied-requires-clause-well_formed c =
     let s = c.args.self.now.substitution in
-    let rows = c.args.sides.now.apart in
+    let rows = c.args.sides.now.not_divides in
     let is : c.as_slice-4.result.now ≡ map (substituted s.scale s.offsets c.args.col) rows = grind arith in
-    rw is (moved_formed c.args.meter.now c.args.columns c.args.col s.scale s.offsets rows c.requires.progression.positive c.requires.progression.width c.requires.sided.apart)
+    rw is (moved_formed c.args.meter.now c.args.columns c.args.col s.scale s.offsets rows c.requires.progression.positive c.requires.progression.width c.requires.sided.not_divides)
 
 pub free_rows-requires-clause-well_formed : goal.free_rows-requires-clause-well_formed
 free_rows-requires-clause-well_formed c =
     let s = c.args.self.now.substitution in
-    let rows = c.args.sides.now.apart in
+    let rows = c.args.sides.now.not_divides in
     let is : c.as_slice-5.result.now ≡ map (substituted s.scale s.offsets c.args.col) rows = grind arith in
-    rw is (moved_formed c.args.meter.now c.args.columns c.args.col s.scale s.offsets rows c.requires.progression.positive c.requires.progression.width c.requires.sided.apart)
+    rw is (moved_formed c.args.meter.now c.args.columns c.args.col s.scale s.offsets rows c.requires.progression.positive c.requires.progression.width c.requires.sided.not_divides)

@@ -31,8 +31,8 @@ returns-clause-exact c =
       grind arith,
     )
 
-pub returns-clause-small : goal.returns-clause-small
-returns-clause-small c = λ bits small.
+pub returns-clause-no_overflow : goal.returns-clause-no_overflow
+returns-clause-no_overflow c = λ bits small.
     let one = c.args.one.now in
     let row = c.in_ok-row.row in
     let scale = c.parts-scale.result.0 in

@@ -3,8 +3,8 @@ use Rattle.isl_piece.specs.Row.{coef_at}
 use Rattle.isl_omega.proofs.SmallLemmas.{coef_up_to}
 use Rattle.isl_omega.proofs.substitution.Substitution.put.Goals as goal
 
-pub returns-clause-small : goal.returns-clause-small
-returns-clause-small c = λ bits scale offsets small.
+pub returns-clause-no_overflow : goal.returns-clause-no_overflow
+returns-clause-no_overflow c = λ bits scale offsets small.
     let row = c.args.row.now in
     let at : c.get.result ≡ coef_at row c.args.col = grind arith in
-    c.combined.ensures.small (2 ^ 30) (2 ^ 30) (2 ^ 30) (2 ^ 30) scale (rw at (coef_up_to (2 ^ 30) row c.args.col small)) small offsets (rw bits (lit< tt))
+    c.combined.ensures.no_overflow (2 ^ 30) (2 ^ 30) (2 ^ 30) (2 ^ 30) scale (rw at (coef_up_to (2 ^ 30) row c.args.col small)) small offsets (rw bits (lit< tt))

@@ -61,5 +61,5 @@ returns-in-Err-clause-fed c =
 
 pub returns-in-Err-clause-complete : goal.returns-in-Err-clause-complete
 returns-in-Err-clause-complete c =
-    if_none c.args.self.now.fault (λ valid within no_overflow.
-    complete_piece c.args.self.now c.args.piece.now c.loop-at.invariant.0 c.take_front.new.self c.in-Err.fault (stopped_in c) valid within no_overflow)
+    if_none c.args.self.now.fault (λ valid short within no_overflow no_spent.
+    complete_piece c.args.self.now c.args.piece.now c.loop-at.invariant.0 c.take_front.new.self c.in-Err.fault (stopped_in c) valid short within no_overflow no_spent)

@@ -1,9 +1,10 @@
 use Rattle.std.proofs.Common.{List, ℕ, ap, arith, length, subst, sym}
-use Rattle.isl_meter.specs.Gauge.{Gauge}
+use Rattle.isl_meter.specs.Gauge.{limit_of}
 use Rattle.isl_stmt.specs.Script.{IsOpen}
 use Rattle.isl_stmt.specs.Cutter.{IsAt}
 use Rattle.isl_stmt.proofs.ScriptLaws.{open_nil}
-use Rattle.isl_eval.proofs.Causes.{unbound_fits}
+use Rattle.isl_eval.specs.State.{StateView, Fits}
+use Rattle.isl_eval.proofs.StateLaws.{fits_unbound}
 use Rattle.isl_session.proofs.session.Session.new.Goals as goal
 
 pub invariant_of-result : goal.invariant_of-result
@@ -13,7 +14,8 @@ invariant_of-result c =
       open_rest = subst IsOpen (sym none) open_nil;
       place = subst (λ (l : List ℕ). IsAt c.new-3.result l) (sym none) c.new-3.ensures;
       held = omega (arith, ap length none);
+      short = omega (arith, ap length none);
       within = omega arith;
       answered = omega arith;
-      fits = unbound_fits c.new-4.result (let bits = ap (λ (g : Gauge). g.bits) c.new-4.ensures in omega (arith, bits, c.options.invariant.0));
+      fits = subst (λ (s : StateView). Fits (limit_of c.new-4.result) s) (sym c.new.ensures) (fits_unbound (limit_of c.new-4.result));
     }

@@ -1,14 +1,15 @@
 use Rattle.std.proofs.Common.{◌≡◌, ◌+◌, ◌∷◌, [], ◌++◌, ◌∙◌, List, ℕ, true, false, arith, ap, length, sym, subst, refl}
 use Rattle.std.proofs.lemmas.List.{append-nil, length_push}
-use Rattle.isl_meter.specs.Gauge.{limit_of}
+use Rattle.isl_meter.specs.Gauge.{Gauge, IsKept, limit_of}
 use Rattle.isl_stmt.specs.Script.{ends, IsOpen, Place}
 use Rattle.isl_stmt.specs.Cutter.{IsAt}
 use Rattle.isl_stmt.proofs.ScriptLaws.{depth-le-length, open_nil, open_push}
-use Rattle.isl_eval.specs.Bindings.{Bindings}
-use Rattle.isl_eval.specs.Machine.{Answers, Refuses}
-use Rattle.isl_session.specs.View.{View, Fed, IsRefusedAt}
+use Rattle.isl_eval.specs.State.{StateView, Moment, Fits}
+use Rattle.isl_eval.specs.Causes.{Refuses}
+use Rattle.isl_eval.specs.Machine.{Answers, started}
+use Rattle.isl_session.specs.View.{View, Fed, IsRefusedAt, moment_of}
 use Rattle.isl_session.specs.Session.{view_of}
-use Rattle.isl_session.proofs.MeterLemmas.{carries_charged, carries_refl}
+use Rattle.isl_session.proofs.MeterLemmas.{carries_started, carries_refl}
 use Rattle.isl_session.proofs.SoundLemmas.{sound_ready}
 use Rattle.isl_session.proofs.FedLemmas.{fed_end, fed_held}
 use Rattle.isl_session.proofs.BreakLemmas.{breaks_in_statement, meter_in_statement}
@@ -19,6 +20,9 @@ push-requires c =
     let depth = ap (λ (p : Place). p.depth) c.self.invariant.place.place in
     omega (arith, depth, depth-le-length c.self.inside.rest.items, c.self.invariant.held, c.if-self-ge-SCRIPT_MAX.false)
 
+pub answer-requires : goal.answer-requires
+answer-requires c = subst (λ (g : Gauge). Fits (limit_of g) c.self.inside.state) (sym c.start.ensures) c.self.invariant.fits
+
 pub returns-in-Err-clause-err : goal.returns-in-Err-clause-err
 returns-in-Err-clause-err c =
     let inside = c.self.inside in
@@ -26,12 +30,14 @@ returns-in-Err-clause-err c =
     let rest = inside.rest.items in
     let after_answer = c.in-Err.ensures.err in
     let ends_there : ends rest c.args.byte ≡ true = sym (c.if-push.ensures.ends rest c.self.invariant.place) in
-    let cause = subst (λ (bytes : List ℕ). Refuses (limit_of inside.meter) inside.state bytes inside.meter c.answer.new.meter c.in-Err.refusal) c.deref.ensures.value c.in-Err.ensures.cause in
+    let begun : c.start.new.self ≡ record inside.meter { units = 0 } = c.start.ensures in
+    let cause = subst (λ (bytes : List ℕ). Refuses (started (moment_of old)) bytes c.answer.new.meter c.in-Err.refusal) c.deref.ensures.value
+    (subst (λ (g : Gauge). let m : Moment = record { state = inside.state; meter = g } in Refuses m c.deref.result.now c.answer.new.meter c.in-Err.refusal) begun c.in-Err.ensures.cause) in
     let new : View = record { state = c.answer.new.state; rest = rest; taken = inside.taken; answered = inside.answered; fault = inside.fault; meter = c.answer.new.meter } in
     let refused : IsRefusedAt old c.args.byte c.in-Err.refusal new = record {
       breaks = breaks_in_statement c.in-Err.refusal old c.args.byte c.answer.new.meter c.if-self-ge-SCRIPT_MAX.false ends_there cause;
-      same = ap (λ (s : Bindings). let v : View = record { state = s; rest = rest; taken = inside.taken; answered = inside.answered; fault = inside.fault; meter = c.answer.new.meter } in v) after_answer.0;
-      meter = meter_in_statement (limit_of inside.meter) inside.state rest inside.meter c.answer.new.meter c.in-Err.refusal cause c.in-Err.ensures.meter c.in-Err.ensures.no_units;
+      same = ap (λ (s : StateView). let v : View = record { state = s; rest = rest; taken = inside.taken; answered = inside.answered; fault = inside.fault; meter = c.answer.new.meter } in v) after_answer.0;
+      meter = meter_in_statement (moment_of old) rest c.answer.new.meter c.in-Err.refusal cause (subst (λ (g : Gauge). IsKept g c.answer.new.meter) begun c.in-Err.ensures.meter);
     } in
     (after_answer.1, subst (λ (v : View). IsRefusedAt v c.args.byte c.in-Err.refusal new) c.self.view_is refused)
 
@@ -42,6 +48,7 @@ invariant_of-self-then-push c =
       open_rest = subst IsOpen (sym none) open_nil;
       place = subst (λ (l : List ℕ). IsAt c.push.new.self l) (sym none) (c.if-push.ensures.part c.self.inside.rest.items c.self.invariant.place);
       held = omega (arith, ap length none);
+      short = omega (arith, ap length none);
       within = omega (arith, c.if-self-ge-SCRIPT_MAX.false);
       answered = omega (arith, c.self.invariant.answered);
       fits = c.answer.ensures.fits;
@@ -56,13 +63,16 @@ returns-then-push-clause-ok c =
     let ready = sound_ready inside c.self.invariant sound in
     let one = c.in_default.ensures.ok in
     let ends_there : ends rest c.args.byte ≡ true = sym (c.if-push.ensures.ends rest c.self.invariant.place) in
-    let step = subst (λ (bytes : List ℕ). Answers (limit_of inside.meter) inside.state bytes c.answer.new.state one.0) c.deref.ensures.value one.2 in
+    let begun : c.start.new.self ≡ record inside.meter { units = 0 } = c.start.ensures in
+    let after : Moment = record { state = c.answer.new.state; meter = c.answer.new.meter } in
+    let step = subst (λ (bytes : List ℕ). Answers (started (moment_of old)) bytes after one.0) c.deref.ensures.value
+    (subst (λ (g : Gauge). let m : Moment = record { state = inside.state; meter = g } in Answers m c.deref.result.now after one.0) begun one.3) in
     let new : View = record { state = c.answer.new.state; rest = c.clear.new.self.items; taken = inside.taken + 1; answered = inside.answered + 1; fault = inside.fault; meter = c.answer.new.meter } in
-    let carried = carries_charged inside.meter c.answer.new.meter c.in_default.ensures.meter c.in_default.ensures.no_units in
+    let carried = carries_started inside.meter c.answer.new.meter step.meter in
     let fed = fed_end old ready c.args.byte new c.if-self-ge-SCRIPT_MAX.false refl sound carried one.0 ends_there step c.clear.ensures.items refl in (
-      one.0 ∷ [],
-      one.1 ∙ ap (λ (l : List ℕ). c.args.text.now.items ++ l) (sym (append-nil one.0)),
-      subst (λ (v : View). Fed v (c.args.byte ∷ []) (one.0 ∷ []) new) c.self.view_is fed,
+      one.0.bytes ∷ [],
+      one.1 ∙ ap (λ (l : List ℕ). c.args.text.now.items ++ l) (sym (append-nil one.0.bytes)),
+      subst (λ (v : View). Fed v (c.args.byte ∷ []) (one.0.bytes ∷ []) new) c.self.view_is fed,
       omega arith,
       λ bad. absurd (let no : ⊥ = cc in no),
     )
@@ -76,6 +86,7 @@ invariant_of-self-2 c =
       open_rest = subst IsOpen (sym grown) (open_push rest c.args.byte c.self.invariant.open_rest held);
       place = subst (λ (l : List ℕ). IsAt c.push.new.self l) (sym grown) (c.if-push.ensures.part rest c.self.invariant.place);
       held = omega (arith, ap length grown, length_push rest c.args.byte, c.self.invariant.held);
+      short = omega (arith, ap length grown, length_push rest c.args.byte, c.if-len-ge-STATEMENT_MAX.false, c.len.ensures);
       within = omega (arith, c.if-self-ge-SCRIPT_MAX.false);
       answered = omega (arith, c.self.invariant.answered);
       fits = c.self.invariant.fits;

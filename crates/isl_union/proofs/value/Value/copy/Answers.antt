@@ -8,7 +8,7 @@ loop-piece-preserved c =
     let pieces = c.self.inside.pieces.items in
     let i = c.loop-piece.piece-index in
     let low : i < length pieces = grind (arith, common_steps) in
-    copied_more c.self.inside.params pieces _ _ i c.piece-item.result c.in_ok-copy.field-0 low (grind (arith, common_steps)) c.in_ok-copy.ensures.space c.in_ok-copy.ensures.system c.in_ok-push.ensures.items c.self.invariant.1
+    copied_more c.self.inside.params pieces _ _ i c.piece-item.result c.in_ok-copy.field-0 low (grind (arith, common_steps)) c.in_ok-copy.ensures c.in_ok-push.ensures.items c.self.invariant.1
     c.loop-piece.invariant
 
 pub returns : goal.returns

@@ -1,0 +1,11 @@
+pub mod AddsLemmas
+pub mod CommonPeriods
+pub mod DarkShadowLemmas
+pub mod EliminateLemmas
+pub mod ExactLemmas
+pub mod NeighbourLemmas
+pub mod ResidueLemmas
+pub mod SmallSides
+pub mod SmallSplinters
+pub mod SplinterLemmas
+pub mod UnitLemmas

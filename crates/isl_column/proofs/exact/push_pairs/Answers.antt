@@ -1,0 +1,47 @@
+use Rattle.std.proofs.Common.{◌*◌, ◌∷◌, [], length, take, arith, pos}
+use Rattle.std.proofs.lemmas.List.{length-append}
+use Rattle.isl_column.specs.Exact.{AreAdded, real_rows}
+use Rattle.isl_omega.specs.Sides.{on_side}
+use Rattle.isl_meter.specs.Gauge.{IsChargedUpTo, IsCutUpTo}
+use Rattle.isl_meter.proofs.UnitLemmas.{charged_bits, charged_share, cut_share}
+use Rattle.isl_omega.specs.declared.sides.Side.TheVariants.{Lower, Upper}
+use Rattle.isl_column.proofs.ExactLemmas.{on_side_next, on_side_room, added_more, added_kept, real_rows-append}
+use Rattle.isl_column.proofs.exact.push_pairs.Goals as goal
+
+pub returns-in_err-push_lower-clause-exact : goal.returns-in_err-push_lower-clause-exact
+returns-in_err-push_lower-clause-exact c =
+    let g = c.args.meter.now in
+    let h = c.loop-row.meter in
+    let k = c.push_lower.new.meter in
+    let rows = c.args.rows.now in
+    let i = c.loop-row.row-index in
+    let row = c.row-item.result in
+    let before = on_side Lower c.args.col (take i rows) in
+    let one = on_side Lower c.args.col (row ∷ []) in
+    let each = length (on_side Upper c.args.col rows) in
+    let e = c.in_err-push_lower.field-0.0 in
+    let own : IsCutUpTo (pos (length one * each)) h k e = grind arith in
+    let room = on_side_room Lower c.args.col rows i row c.loop-row-test.true c.row-item.is in
+    let cut = cut_share (length before) (length one) (length (on_side Lower c.args.col rows)) each g h k e room c.loop-row.invariant.charged own in
+    grind arith
+
+pub loop-row-preserved : goal.loop-row-preserved
+loop-row-preserved c =
+    let g = c.args.meter.now in
+    let h = c.loop-row.meter in
+    let k = c.push_lower.new.meter in
+    let col = c.args.col in
+    let rows = c.args.rows.now in
+    let i = c.loop-row.row-index in
+    let row = c.row-item.result in
+    let before = on_side Lower col (take i rows) in
+    let one = on_side Lower col (row ∷ []) in
+    let uppers = on_side Upper col rows in
+    let more : AreAdded h col (real_rows col one uppers) c.loop-row.short c.push_lower.new.short = grind arith in
+    let used : IsChargedUpTo (pos (length one * length uppers)) h k = grind arith in
+    let kept = added_kept g h col (real_rows col one uppers) c.loop-row.short c.push_lower.new.short (charged_bits (pos (length before * length uppers)) g h c.loop-row.invariant.charged) more in
+    let next = on_side_next Lower col rows i row c.loop-row-test.true c.row-item.is in
+    record {
+      added = rw (next, real_rows-append col before one uppers) (added_more g col (real_rows col before uppers) (real_rows col one uppers) c.args.short.now c.loop-row.short c.push_lower.new.short c.loop-row.invariant.added kept);
+      charged = rw (next, length-append before one) (charged_share (length before) (length one) (length uppers) g h k c.loop-row.invariant.charged used);
+    }

@@ -1,0 +1,20 @@
+use Rattle.std.proofs.Common.{◌≡◌, ◌-◌, arith, ◌^◌, lit<}
+use Rattle.isl_omega.specs.Column.{IsAnswerFor}
+use Rattle.isl_omega.specs.Equality.{IsSolvedBy}
+use Rattle.isl_column.proofs.SplinterLemmas.{lowered_by, splinter_is}
+use Rattle.std.proofs.lemmas.Result.{err_from_is_err_and}
+use Rattle.isl_column.proofs.splinters.splinter.Goals as goal
+
+pub returns-clause-exact : goal.returns-clause-exact
+returns-clause-exact c =
+    let bound = c.args.bound.now in
+    let fixed = c.in_ok-fixed.fixed in
+    let g = c.args.meter.now in
+    let same : fixed ≡ lowered_by bound c.args.i = grind arith in
+    let left : IsAnswerFor g (c.args.columns - 1) (IsSolvedBy c.args.rows.now fixed c.args.col) c.in_ok-left.left = grind arith in
+    (splinter_is g c.args.columns c.args.col c.args.rows.now bound fixed c.args.i c.in_ok-left.left same left, grind arith)
+
+pub returns-in_err-fixed-clause-no_overflow : goal.returns-in_err-fixed-clause-no_overflow
+returns-in_err-fixed-clause-no_overflow c = λ bits rows bound i.
+    let p = err_from_is_err_and c.from_residual.result c.from_residual.ensures.1 in
+    rw (p.1, p.2) (c.in_err-fixed.ensures.no_overflow (2 ^ 62) (2 ^ 61) i bound (rw bits (lit< tt)))

@@ -1,0 +1,89 @@
+-- inner: the dark shadow of the sides of a column, and splinters. (Pugh, the Omega test)
+use Rattle.std.specs.Prelude.{◌≡◌, ◌≢◌, ◌↔◌, ◌⊎◌, Bool, true, false, map, nat_lt, ℕ, ◌-◌, ℤ, pos, negsuc, neg_ℤ, ◌+ℤ◌, ◌-ℤ◌, ◌≤ℤ◌, ◌<ℤ◌, List, [], ◌∷◌, ◌++◌, length, All, Any, Option, MatchOption, IfSome}
+use Rattle.std.specs.List.{insert}
+use Rattle.isl_meter.specs.Gauge.{Gauge, IsWithin}
+use Rattle.isl_piece.specs.declared.row.Row.{Row}
+use Rattle.isl_piece.specs.Row.{value_at, coef_at}
+use Rattle.isl_piece.specs.Normal.{IsNormal}
+use Rattle.isl_piece.specs.System.{HoldRows}
+use Rattle.isl_omega.specs.Column.{HoldAt, IsProper}
+use Rattle.isl_omega.specs.Shadow.{splinters, neighbour_splinters, IsShadow}
+use Rattle.isl_omega.specs.Sides.{IsLower, IsUpper, SidesHold}
+use Rattle.isl_column.specs.declared.dark_shadow.DarkShadow.{DarkShadow}
+use Rattle.isl_omega.specs.declared.shadow.Splinters.{Splinters}
+use Rattle.isl_omega.specs.declared.sides.Sides.{Sides}
+
+-- the rows of all sides but the congruences
+abbrev pub rows_of : Sides → List Row
+rows_of sides = ((sides.lowers ++ sides.uppers) ++ sides.not_divides) ++ sides.free
+
+-- an upper bound that holds with x at the column where the old one holds with x + 1 too
+abbrev pub shifted_row : ℕ → Row → Row
+shifted_row col u = record { kind = u.kind; coefs = u.coefs; constant = u.constant -ℤ neg_ℤ (coef_at u col); k = u.k }
+
+-- the rows of the dark shadow hold at the point
+abbrev pub HoldsDark : Option (List Row) → List ℤ → Type 0
+HoldsDark dark point = MatchOption dark ⊥ (λ rows. HoldRows rows point)
+
+-- some x at the column makes the rows hold, with the value i of the bound
+abbrev pub HasValue : List Row → ℕ → Row → ℤ → List ℤ → Type 0
+HasValue rows col bound i point = (x : ℤ) × HoldAt rows col point x × (value_at bound (insert point col x) ≡ i)
+
+-- some x at the column makes the rows hold, with the value of the tail's bound within the tail
+abbrev pub HasSplinter : List Row → ℕ → List ℤ → Splinters → Type 0
+HasSplinter rows col point t = (x : ℤ) × HoldAt rows col point x × (value_at t.lower (insert point col x) ≤ℤ t.last)
+
+-- the rows hold only where the bound is met
+abbrev pub KeepBound : ℕ → ℕ → List Row → Row → Type 0
+KeepBound columns col rows bound = (point : List ℤ) (x : ℤ) → length point ≡ columns - 1 → HoldAt rows col point x → pos 0 ≤ℤ value_at bound (insert point col x)
+
+-- a lower bound with the last value of its splinters
+pub record AreSplinters (g : Gauge) (columns col : ℕ) (t : Splinters) : Type 0 where
+  pub lower : IsLower g columns col t.lower
+  pub within : IsWithin g t.last
+  pub not_below : negsuc 0 ≤ℤ t.last
+
+-- a dark shadow, whatever it is made from
+pub record IsDarkShadow (g : Gauge) (columns col : ℕ) (dark_shadow : DarkShadow) : Type 0 where
+  pub rows : All (IsProper g columns) dark_shadow.rows
+  pub dark : IfSome dark_shadow.dark (λ rows. All (IsProper g (columns - 1)) rows × IsNormal rows)
+  pub tails : All (AreSplinters g columns col) dark_shadow.tails.items
+  pub bounds : All (λ t. KeepBound columns col dark_shadow.rows t.lower) dark_shadow.tails.items
+
+-- the dark shadow holds, or some lower bound has a splinter
+abbrev pub HoldsDarkShadow : DarkShadow → ℕ → List ℤ → Type 0
+HoldsDarkShadow dark_shadow col point = HoldsDark dark_shadow.dark point ⊎ Any (HasSplinter dark_shadow.rows col point) dark_shadow.tails.items
+
+-- some x meets the sides exactly where it holds
+pub record IsDarkShadowOf (g : Gauge) (columns col : ℕ) (sides : Sides) (dark_shadow : DarkShadow) : Type 0 where
+  pub is_dark_shadow : IsDarkShadow g columns col dark_shadow
+  pub points : (point : List ℤ) → length point ≡ columns - 1 → ((x : ℤ) × SidesHold sides col point x) ↔ HoldsDarkShadow dark_shadow col point
+  pub open_above : sides.uppers ≡ [] → dark_shadow.tails.items ≡ []
+
+-- ---- how many splinters
+-- the splinters of tails
+abbrev pub splinter_count : List Splinters → ℤ
+splinter_count [] = pos 0
+splinter_count (t ∷ tails) = (t.last +ℤ pos 1) +ℤ splinter_count tails
+
+-- the splinters of lower bounds under a greatest upper factor m
+abbrev pub splinter_total : Bool → ℤ → ℕ → List Row → ℤ
+splinter_total neighbours m col [] = pos 0
+splinter_total neighbours m col (l ∷ lowers) = (splinters (coef_at l col) m +ℤ neighbour_splinters neighbours (coef_at l col)) +ℤ splinter_total neighbours m col lowers
+
+-- the tails have no more splinters than the bounds ask for
+abbrev pub HasFewSplinters : ℕ → Sides → List Splinters → Type 0
+HasFewSplinters col sides tails =
+    (m : ℤ) → pos 0 <ℤ m → All (λ u. neg_ℤ (coef_at u col) ≤ℤ m) sides.uppers → splinter_count tails ≤ℤ splinter_total (nat_lt 0 (length sides.not_divides)) m col sides.lowers
+
+-- ---- what the code makes
+-- the dark rows of the sides' bounds, and a tail for each lower bound: of the shifted upper bounds where a modulus must not divide a row
+abbrev pub AreShadowsOf : Gauge → ℕ → ℕ → Sides → List Row → List Splinters → Type 0
+AreShadowsOf g columns col sides rows tails =
+    (sides.not_divides ≡ [] → IsShadow g columns col false sides.lowers sides.uppers rows tails)
+    × (sides.not_divides ≢ [] → All (IsUpper g columns col) (map (shifted_row col) sides.uppers)
+    × IsShadow g columns col true sides.lowers (map (shifted_row col) sides.uppers) rows tails)
+
+-- a dark shadow of the sides, with no more splinters than the bounds ask for
+abbrev pub IsDarkShadowWithFewSplinters : Gauge → ℕ → ℕ → Sides → DarkShadow → Type 0
+IsDarkShadowWithFewSplinters g columns col sides dark_shadow = IsDarkShadowOf g columns col sides dark_shadow × HasFewSplinters col sides dark_shadow.tails.items

@@ -1,0 +1,167 @@
+//! What elimination makes of the sides of a column.
+
+ghost use Rattle.std.specs.Prelude.{◌≡◌, ◌≢◌, ◌⊎◌, ◌<◌, ◌*◌, [], true, false, All, IfOk, length, map, MatchResult, ◌^◌, pos};
+ghost use Rattle.isl_piece.specs.Row.{IsRowWithin, IsRowUpTo};
+ghost use Rattle.isl_meter.specs.Gauge.{IsCutUpTo, IsDone, IsDoneWithin};
+ghost use Rattle.isl_omega.specs.Magnitude.{IsNoOverflow, IsNoOverflowWith, AreSidesUpTo};
+ghost use Rattle.isl_column.specs.Magnitude.{IsSmallDarkShadow};
+
+use isl_meter::{Cut, Meter};
+use isl_omega::pair::reduced_by;
+use isl_omega::rows::settled;
+use isl_omega::shadow::{Splinters, shadow};
+use isl_omega::sides::Sides;
+use isl_piece::{Row, Rows};
+use std::alloc::{AllocError, Global};
+
+/// Rows, those of their dark shadow without the column, and splinters: some whole number at the column makes the rows hold
+/// exactly where the dark shadow holds, or one does with the value of a bound from 0 to the last of its splinters.
+#[derive(Drop)]
+pub(crate) struct DarkShadow {
+    pub rows: Rows,
+    pub dark: Option<Rows>,
+    pub tails: Vec<Splinters>,
+}
+
+impl DarkShadow {
+    ghost use Rattle.isl_column.specs.DarkShadow.{rows_of, shifted_row, AreShadowsOf, IsDarkShadowWithFewSplinters};
+    ghost use Rattle.isl_omega.specs.Sides.{AreSided, IsUpper};
+
+    // The rows of all sides but the congruences.
+    fn all_rows(alloc: Global, sides: &Sides) -> Result<Rows, AllocError>
+        ensures { IfOk result (λ rows. rows ≡ rows_of sides.now) }
+    {
+        let mut rows = sides.lowers.copy(alloc)?;
+        rows.append(alloc, &sides.uppers)?;
+        rows.append(alloc, &sides.not_divides)?;
+        rows.append(alloc, &sides.free)?;
+        Ok(rows)
+    }
+
+    // The upper bounds that hold with x where these hold with x and with x + 1.
+    fn shifted(
+        alloc: Global,
+        uppers: &[Row],
+        columns: usize,
+        col: usize,
+        meter: &mut Meter,
+    ) -> Result<Rows, Cut>
+        requires uppers { All (IsUpper meter.old columns col) uppers.now }
+        requires col_in { col < columns }
+        ensures exact { MatchResult result
+            (λ rows. (rows ≡ map (shifted_row col) uppers.now) × All (IsRowWithin meter.old) rows × (meter.new ≡ meter.old))
+            (λ cut. IsCutUpTo (pos 0) meter.old meter.new cut) }
+        ensures no_overflow { meter.old.bits ≡ 127 → All (IsRowUpTo (2 ^ 61)) uppers.now → IsNoOverflow result }
+    {
+        let mut rows = Rows::new(alloc);
+        for upper in uppers {
+            let by = upper.coefs.get(col).neg(meter);
+            rows.push(reduced_by(alloc, upper, by, meter)?)?;
+        }
+        Ok(rows)
+    }
+
+    // The dark rows and the tails: of the shifted upper bounds where a row must not be divided.
+    fn shadows(
+        alloc: Global,
+        sides: &Sides,
+        columns: usize,
+        col: usize,
+        meter: &mut Meter,
+    ) -> Result<(Rows, Vec<Splinters>), Cut>
+        requires sided { AreSided meter.old columns col sides.now }
+        requires col_in { col < columns }
+        ensures exact { IsDoneWithin (pos (length sides.now.lowers * length sides.now.uppers)) meter.old meter.new
+            (λ pair. AreShadowsOf meter.old columns col sides.now pair.0 pair.1.items) result }
+        ensures no_overflow { meter.old.bits ≡ 127 → AreSidesUpTo (2 ^ 61) sides.now → IsNoOverflow result }
+    {
+        let lowers = sides.lowers.as_slice();
+        if sides.not_divides.is_empty() {
+            let pair = shadow(
+                alloc,
+                lowers,
+                sides.uppers.as_slice(),
+                false,
+                columns,
+                col,
+                meter,
+            )?;
+            return Ok(pair);
+        }
+        let uppers = DarkShadow::shifted(alloc, sides.uppers.as_slice(), columns, col, meter)?;
+        let pair = shadow(alloc, lowers, uppers.as_slice(), true, columns, col, meter)?;
+        Ok(pair)
+    }
+
+    // Where a side has no bound: the rows that do not depend on the column.
+    fn open(
+        alloc: Global,
+        sides: &Sides,
+        columns: usize,
+        col: usize,
+        meter: &mut Meter,
+    ) -> Result<Self, Cut>
+        requires sided { AreSided meter.old columns col sides.now }
+        requires divides { sides.now.divides ≡ [] }
+        requires not_divides { length sides.now.not_divides < 2 }
+        requires open { (sides.now.lowers ≡ []) ⊎ (sides.now.uppers ≡ []) }
+        requires col_in { col < columns }
+        ensures exact { IsDone meter.old meter.new (IsDarkShadowWithFewSplinters meter.old columns col sides.now) result }
+        ensures no_overflow { meter.old.bits ≡ 127 → AreSidesUpTo (2 ^ 61) sides.now → IsNoOverflowWith IsSmallDarkShadow result }
+    {
+        let rows = DarkShadow::all_rows(alloc, sides)?;
+        let dark = settled(alloc, &sides.free, columns, col, meter)?;
+        Ok(DarkShadow {
+            rows,
+            dark,
+            tails: Vec::new(alloc),
+        })
+    }
+
+    // Where both sides have bounds: the rows that do not depend on the column, and the dark rows.
+    fn closed(
+        alloc: Global,
+        sides: &Sides,
+        columns: usize,
+        col: usize,
+        meter: &mut Meter,
+    ) -> Result<Self, Cut>
+        requires sided { AreSided meter.old columns col sides.now }
+        requires divides { sides.now.divides ≡ [] }
+        requires not_divides { length sides.now.not_divides < 2 }
+        requires uppers { sides.now.uppers ≢ [] }
+        requires col_in { col < columns }
+        ensures exact { IsDoneWithin (pos (length sides.now.lowers * length sides.now.uppers)) meter.old meter.new
+            (IsDarkShadowWithFewSplinters meter.old columns col sides.now) result }
+        ensures no_overflow { meter.old.bits ≡ 127 → AreSidesUpTo (2 ^ 61) sides.now → IsNoOverflowWith IsSmallDarkShadow result }
+    {
+        let rows = DarkShadow::all_rows(alloc, sides)?;
+        let (pairs, tails) = DarkShadow::shadows(alloc, sides, columns, col, meter)?;
+        let mut left = sides.free.copy(alloc)?;
+        left.append(alloc, &pairs)?;
+        let dark = settled(alloc, &left, columns, col, meter)?;
+        Ok(DarkShadow { rows, dark, tails })
+    }
+
+    /// What the sides leave, where no congruence is among them and at most one row that must not be divided.
+    pub fn of(
+        alloc: Global,
+        sides: &Sides,
+        columns: usize,
+        col: usize,
+        meter: &mut Meter,
+    ) -> Result<Self, Cut>
+        requires sided { AreSided meter.old columns col sides.now }
+        requires divides { sides.now.divides ≡ [] }
+        requires not_divides { length sides.now.not_divides < 2 }
+        requires col_in { col < columns }
+        ensures exact { IsDoneWithin (pos (length sides.now.lowers * length sides.now.uppers)) meter.old meter.new
+            (IsDarkShadowWithFewSplinters meter.old columns col sides.now) result }
+        ensures no_overflow { meter.old.bits ≡ 127 → AreSidesUpTo (2 ^ 61) sides.now → IsNoOverflowWith IsSmallDarkShadow result }
+    {
+        if sides.lowers.is_empty() || sides.uppers.is_empty() {
+            return DarkShadow::open(alloc, sides, columns, col, meter);
+        }
+        DarkShadow::closed(alloc, sides, columns, col, meter)
+    }
+}

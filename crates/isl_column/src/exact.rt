@@ -1,0 +1,272 @@
+//! Columns whose shadow is exact: no splinter, no residue, and no memory but for the rows that are answered.
+
+ghost use Rattle.std.specs.Prelude.{◌≡◌, ◌↔◌, ◌-◌, ◌<◌, ◌∷◌, ◌*◌, ◌^◌, [], All, length, map, IfOk, IsTrue, MatchResult, pos};
+ghost use Rattle.isl_piece.specs.Row.{IsRowWithin, IsRowUpTo};
+ghost use Rattle.isl_column.specs.Adds.{AddsProjection};
+ghost use Rattle.isl_omega.specs.Column.{dropped, IsProper};
+ghost use Rattle.isl_omega.specs.Equality.{HasEquality};
+ghost use Rattle.isl_column.specs.Exact.{IsExactRow, IsExactColumn, real_rows, rows_left, pairs_on, AddsExactly, AreAdded};
+ghost use Rattle.isl_omega.specs.Shadow.{real_row};
+ghost use Rattle.isl_omega.specs.Magnitude.{IsNoOverflow};
+ghost use Rattle.isl_column.specs.Magnitude.{HaveSmallNumbers};
+ghost use Rattle.isl_omega.specs.Sides.{IsLower, IsUpper, on_side};
+ghost use Rattle.isl_column.specs.Units.{elimination_units};
+ghost use Rattle.isl_meter.specs.Gauge.{IsCutUpTo, IsDoneWithin};
+
+use crate::splinters::push_left;
+use isl_meter::{Cut, Int, Meter};
+use isl_omega::combine::{sum_of, weighted_without};
+use isl_omega::rows::row_without;
+use isl_omega::sides::Side;
+use isl_piece::{Row, RowKind, Rows};
+use std::alloc::Global;
+
+// Whether the row leaves the column exact where the bounds on `side` are to have the factor 1.
+fn is_exact_row(side: Side, row: &Row, columns: usize, col: usize, meter: &Meter) -> bool
+    requires row { IsProper meter.now columns row.now }
+    requires col_in { col < columns }
+    ensures { IsTrue result ↔ IsExactRow side col row.now }
+{
+    match Side::of(row, col, meter) {
+        Side::Divides | Side::NotDivides => false,
+        own => own != side || row.coefs.get(col).abs(meter) == Int::ONE,
+    }
+}
+
+// Whether each of the rows does.
+fn are_exact(side: Side, rows: &[Row], columns: usize, col: usize, meter: &Meter) -> bool
+    requires rows { All (IsProper meter.now columns) rows.now }
+    requires col_in { col < columns }
+    ensures { IsTrue result ↔ All (IsExactRow side col) rows.now }
+{
+    for row in rows {
+        if !is_exact_row(side, row, columns, col, meter) {
+            return false;
+        }
+    }
+    true
+}
+
+/// Whether no congruence depends on the column, and all lower bounds or all upper bounds have the factor 1.
+pub(crate) fn is_exact(rows: &[Row], columns: usize, col: usize, meter: &Meter) -> bool
+    requires rows { All (IsProper meter.now columns) rows.now }
+    requires col_in { col < columns }
+    ensures { IsTrue result ↔ IsExactColumn col rows.now }
+{
+    are_exact(Side::Lower, rows, columns, col, meter)
+        || are_exact(Side::Upper, rows, columns, col, meter)
+}
+
+// The real row of a lower and an upper bound, without the column.
+fn real_row_without(
+    alloc: Global,
+    lower: &Row,
+    upper: &Row,
+    columns: usize,
+    col: usize,
+    meter: &mut Meter,
+) -> Result<Row, Cut>
+    requires lower { IsLower meter.old columns col lower.now }
+    requires upper { IsUpper meter.old columns col upper.now }
+    requires col_in { col < columns }
+    ensures exact { MatchResult result
+        (λ row. (row ≡ dropped (real_row col lower.now upper.now) col) × IsRowWithin meter.old row × (meter.new ≡ meter.old))
+        (λ cut. IsCutUpTo (pos 0) meter.old meter.new cut) }
+    ensures no_overflow { meter.old.bits ≡ 127 → IsRowUpTo (2 ^ 30) lower.now → IsRowUpTo (2 ^ 30) upper.now → IsNoOverflow result }
+{
+    let a = lower.coefs.get(col);
+    let b = upper.coefs.get(col).neg(meter);
+    let coefs = weighted_without(
+        alloc,
+        b,
+        lower.coefs.as_slice(),
+        a,
+        upper.coefs.as_slice(),
+        col,
+        meter,
+    )?;
+    let constant = sum_of(b, lower.constant(), a, upper.constant(), meter)?;
+    Ok(Row::new(RowKind::AtLeast, coefs, constant, Int::ONE))
+}
+
+// Pushes the real row of a lower bound with the row, if that is an upper bound. A pair costs a unit.
+fn push_pair(
+    alloc: Global,
+    lower: &Row,
+    row: &Row,
+    columns: usize,
+    col: usize,
+    short: &mut Rows,
+    meter: &mut Meter,
+) -> Result<(), Cut>
+    requires lower { IsLower meter.old columns col lower.now }
+    requires row { IsProper meter.old columns row.now }
+    requires col_in { col < columns }
+    ensures exact { IsDoneWithin (pos (length (on_side Side.Upper col (row.now ∷ [])))) meter.old meter.new
+        (λ _. AreAdded meter.old col (map (real_row col lower.now) (on_side Side.Upper col (row.now ∷ []))) short.old short.new) result }
+    ensures no_overflow { meter.old.bits ≡ 127 → IsRowUpTo (2 ^ 30) lower.now → IsRowUpTo (2 ^ 30) row.now → IsNoOverflow result }
+{
+    if !Side::Upper.has(row, col, meter) {
+        return Ok(());
+    }
+    meter.unit()?;
+    let real = real_row_without(alloc, lower, row, columns, col, meter)?;
+    short.push(real)?;
+    Ok(())
+}
+
+// Pushes the real rows of a lower bound with the upper bounds among the rows.
+fn push_pairs_of(
+    alloc: Global,
+    lower: &Row,
+    rows: &[Row],
+    columns: usize,
+    col: usize,
+    short: &mut Rows,
+    meter: &mut Meter,
+) -> Result<(), Cut>
+    requires lower { IsLower meter.old columns col lower.now }
+    requires rows { All (IsProper meter.old columns) rows.now }
+    requires col_in { col < columns }
+    ensures exact { IsDoneWithin (pos (length (on_side Side.Upper col rows.now))) meter.old meter.new
+        (λ _. AreAdded meter.old col (map (real_row col lower.now) (on_side Side.Upper col rows.now)) short.old short.new) result }
+    ensures no_overflow { meter.old.bits ≡ 127 → IsRowUpTo (2 ^ 30) lower.now → All (IsRowUpTo (2 ^ 30)) rows.now → IsNoOverflow result }
+{
+    for row in rows {
+        push_pair(alloc, lower, row, columns, col, short, meter)?;
+    }
+    Ok(())
+}
+
+// Pushes the real rows of the row with the upper bounds among the rows, if it is a lower bound.
+fn push_lower(
+    alloc: Global,
+    row: &Row,
+    rows: &[Row],
+    columns: usize,
+    col: usize,
+    short: &mut Rows,
+    meter: &mut Meter,
+) -> Result<(), Cut>
+    requires row { IsProper meter.old columns row.now }
+    requires rows { All (IsProper meter.old columns) rows.now }
+    requires col_in { col < columns }
+    ensures exact { IsDoneWithin (pos (length (on_side Side.Lower col (row.now ∷ [])) * length (on_side Side.Upper col rows.now)))
+        meter.old meter.new
+        (λ _. AreAdded meter.old col (real_rows col (on_side Side.Lower col (row.now ∷ [])) (on_side Side.Upper col rows.now))
+        short.old short.new) result }
+    ensures no_overflow { meter.old.bits ≡ 127 → IsRowUpTo (2 ^ 30) row.now → All (IsRowUpTo (2 ^ 30)) rows.now → IsNoOverflow result }
+{
+    if !Side::Lower.has(row, col, meter) {
+        return Ok(());
+    }
+    push_pairs_of(alloc, row, rows, columns, col, short, meter)
+}
+
+// Pushes the real rows of all pairs.
+fn push_pairs(
+    alloc: Global,
+    rows: &[Row],
+    columns: usize,
+    col: usize,
+    short: &mut Rows,
+    meter: &mut Meter,
+) -> Result<(), Cut>
+    requires rows { All (IsProper meter.old columns) rows.now }
+    requires col_in { col < columns }
+    ensures exact { IsDoneWithin (pos (pairs_on col rows.now)) meter.old meter.new
+        (λ _. AreAdded meter.old col (real_rows col (on_side Side.Lower col rows.now) (on_side Side.Upper col rows.now))
+        short.old short.new) result }
+    ensures no_overflow { meter.old.bits ≡ 127 → All (IsRowUpTo (2 ^ 30)) rows.now → IsNoOverflow result }
+{
+    for row in rows {
+        push_lower(alloc, row, rows, columns, col, short, meter)?;
+    }
+    Ok(())
+}
+
+// Pushes the row without the column, if it does not depend on it.
+fn push_row(
+    alloc: Global,
+    row: &Row,
+    columns: usize,
+    col: usize,
+    short: &mut Rows,
+    meter: &Meter,
+) -> Result<(), Cut>
+    requires row { IsProper meter.now columns row.now }
+    requires col_in { col < columns }
+    ensures { MatchResult result
+        (λ _. AreAdded meter.now col (on_side Side.Free col (row.now ∷ [])) short.old short.new)
+        (λ cut. cut ≡ Cut.NoMemory) }
+{
+    if Side::Free.has(row, col, meter) {
+        short.push(row_without(alloc, row, col)?)?;
+    }
+    Ok(())
+}
+
+// Pushes the rows that do not depend on the column, without it.
+fn push_free(
+    alloc: Global,
+    rows: &[Row],
+    columns: usize,
+    col: usize,
+    short: &mut Rows,
+    meter: &Meter,
+) -> Result<(), Cut>
+    requires rows { All (IsProper meter.now columns) rows.now }
+    requires col_in { col < columns }
+    ensures { MatchResult result
+        (λ _. AreAdded meter.now col (on_side Side.Free col rows.now) short.old short.new)
+        (λ cut. cut ≡ Cut.NoMemory) }
+{
+    for row in rows {
+        push_row(alloc, row, columns, col, short, meter)?;
+    }
+    Ok(())
+}
+
+// The rows that are left, without the column. At first there is room for as many as there are rows.
+fn short_rows(
+    alloc: Global,
+    rows: &[Row],
+    columns: usize,
+    col: usize,
+    meter: &mut Meter,
+) -> Result<Rows, Cut>
+    requires rows { All (IsProper meter.old columns) rows.now }
+    requires col_in { col < columns }
+    ensures exact { IsDoneWithin (pos (pairs_on col rows.now)) meter.old meter.new
+        (λ short. AreAdded meter.old col (rows_left col rows.now) [] short) result }
+    ensures no_overflow { meter.old.bits ≡ 127 → All (IsRowUpTo (2 ^ 30)) rows.now → IsNoOverflow result }
+{
+    let mut short = Rows::with_capacity(alloc, rows.len())?;
+    push_free(alloc, rows, columns, col, &mut short, meter)?;
+    push_pairs(alloc, rows, columns, col, &mut short, meter)?;
+    Ok(short)
+}
+
+/// Pushes what is left where the column is exact: one list of rows, or none where no point is left.
+pub(crate) fn push_exact(
+    alloc: Global,
+    rows: &[Row],
+    columns: usize,
+    col: usize,
+    answers: &mut Vec<Rows>,
+    meter: &mut Meter,
+) -> Result<(), Cut>
+    requires rows { All (IsProper meter.old columns) rows.now }
+    requires col_in { col < columns }
+    requires none { ¬ HasEquality col rows.now }
+    requires exact { IsExactColumn col rows.now }
+    ensures exact { IsDoneWithin (elimination_units rows.now col) meter.old meter.new
+        (λ _. AddsProjection meter.old columns rows.now col answers.old.items answers.new.items) result }
+    ensures left { IfOk result (λ _. AddsExactly rows.now col answers.old.items answers.new.items) }
+    ensures no_overflow { meter.old.bits ≡ 127 → HaveSmallNumbers rows.now → IsNoOverflow result }
+{
+    let short = short_rows(alloc, rows, columns, col, meter)?;
+    let left = short.normalise(alloc, meter)?;
+    push_left(left, answers)?;
+    Ok(())
+}

@@ -1,0 +1,11 @@
+//! One column out of rows over whole numbers: what is left holds exactly where some whole number stood there. It is the Omega
+//! test of Pugh: equalities, congruences, exact and dark shadows, and splinters.
+#![tactic(auto)]
+
+mod dark_shadow;
+mod eliminate;
+mod exact;
+mod residue;
+mod splinters;
+
+pub use eliminate::eliminate_rows;

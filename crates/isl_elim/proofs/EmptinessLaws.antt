@@ -1,0 +1,120 @@
+-- Emptiness, one part after another.
+use Rattle.std.proofs.Common.{◌≡◌, ◌≢◌, ◌↔◌, inl, inr, refl, ap, arith, ℕ, zero, suc, ℤ, pos, List, [], ◌∷◌, ◌-◌, ◌<◌, length, get_or, Bool, false}
+use Rattle.std.specs.Prelude.{IsTrue, is_none, Option, Some, None, MatchOption, Result, MatchResult, Ok, Err}
+use Rattle.std.specs.List.{All, insert, remove}
+use Rattle.std.proofs.lemmas.List.Elements.{All-head}
+use Rattle.std.proofs.lemmas.List.{nil_from_length}
+use Rattle.std.proofs.lemmas.List.Edits.{length-remove, length-insert}
+use Rattle.isl_meter.specs.Gauge.{Gauge, IsCharged, IsCutBy}
+use Rattle.isl_meter.specs.declared.Cut.{Cut}
+use Rattle.isl_meter.proofs.CutLemmas.{IsCharged_refl, IsCharged_trans, IsCutBy-after, charges}
+use Rattle.isl_piece.specs.declared.row.Row.{Row}
+use Rattle.isl_piece.specs.Normal.{IsNormal}
+use Rattle.isl_piece.specs.Row.{HoldsRow, IsContingent}
+use Rattle.isl_omega.specs.Column.{IsProper}
+use Rattle.isl_elim.specs.Emptiness.{HoldNowhere}
+use Rattle.isl_elim.specs.Parts.{PartsView, AreParts, ArePartsOf, IsNextPart, HoldsPart}
+use Rattle.isl_elim.proofs.PartsLaws.{parts_kept}
+
+-- so many zeros
+pub zeros : (k : ℕ) → (whole : List ℤ) × (length whole ≡ k)
+zeros zero = ([], refl)
+zeros (suc k) = let z = zeros k in (pos 0 ∷ z.0, ap suc z.1)
+
+-- rows that are none hold at each point, of which there is one
+pub none_hold : (columns : ℕ) (rows : List Row) → rows ≡ [] → HoldNowhere columns rows → ⊥
+none_hold columns rows e n = let z = zeros columns in n z.0 z.1 (rw e (λ k d i. absurd (omega arith)))
+
+-- what is still to come holds where what there was does
+pub record IsSoFar (g h : Gauge) (columns : ℕ) (first now : PartsView) : Type 0 where
+  pub charged : IsCharged g h
+  pub are : AreParts h columns now
+  pub points : (point : List ℤ) → length point ≡ columns → HoldsPart first point ↔ HoldsPart now point
+
+pub so_far_first : (g : Gauge) (columns : ℕ) (parts : PartsView) → AreParts g columns parts → IsSoFar g g columns parts parts
+so_far_first g columns parts a = record {
+  charged = IsCharged_refl g g refl;
+  are = a;
+  points = λ point l. ((λ h. h), (λ h. h));
+}
+
+pub so_far_next : (g h k : Gauge) (columns : ℕ) (first now next : PartsView) (rows : List Row) → IsSoFar g h columns first now → IsNextPart h columns now rows next → HoldNowhere columns rows → IsCharged h k → IsSoFar g k columns first next
+so_far_next g h k columns first now next rows s n nowhere c = record {
+  charged = IsCharged_trans g h k s.charged c;
+  are = parts_kept h k columns next c n.rest;
+  points = λ point l. (
+    (λ x. elim ((n.points point l).0 ((s.points point l).0 x)) [ inl y ↦ absurd (nowhere point l y) | inr z ↦ z ]),
+    (λ x. (s.points point l).1 ((n.points point l).1 (inr x))),
+  );
+}
+
+-- a part that holds somewhere
+pub so_far_somewhere : (g h : Gauge) (columns : ℕ) (first now next : PartsView) (rows : List Row) → IsSoFar g h columns first now → IsNextPart h columns now rows next → (HoldNowhere columns rows → ⊥) → ((point : List ℤ) → length point ≡ columns → ¬ HoldsPart first point) → ⊥
+so_far_somewhere g h columns first now next rows s n somewhere nowhere = somewhere (λ point l x. nowhere point l ((s.points point l).1 ((n.points point l).1 (inl x))))
+
+-- none is left
+pub so_far_none : (g h : Gauge) (columns : ℕ) (first now : PartsView) → IsSoFar g h columns first now → ((point : List ℤ) → length point ≡ columns → ¬ HoldsPart now point) → (point : List ℤ) → length point ≡ columns → ¬ HoldsPart first point
+so_far_none g h columns first now s n point l x = n point l ((s.points point l).0 x)
+
+-- ---- the column put in again
+pub insert-remove : (xs : List ℤ) (i : ℕ) → i < length xs → insert (remove xs i) i (get_or xs i (pos 0)) ≡ xs
+insert-remove [] i h = absurd (omega arith)
+insert-remove (y ∷ xs) zero h = refl
+insert-remove (y ∷ xs) (suc i) h = ap (λ (ys : List ℤ). y ∷ ys) (insert-remove xs i (omega arith))
+
+-- the rows hold nowhere where their parts hold nowhere
+pub parts_nowhere : (g : Gauge) (columns col : ℕ) (rows : List Row) (parts : PartsView) → col < columns → ArePartsOf g columns col rows parts → ((point : List ℤ) → length point ≡ columns - 1 → ¬ HoldsPart parts point) ↔ HoldNowhere columns rows
+parts_nowhere g columns col rows parts i a = (
+  (λ n whole l h.
+      let back = insert-remove whole col (omega arith) in
+      let short = length-remove whole col (omega arith) in
+      n (remove whole col) (omega arith) ((a.points (remove whole col) (omega arith)).1 (get_or whole col (pos 0), rw back h))),
+  (λ n point l h.
+      let x = (a.points point l).0 h in
+      let long = length-insert point col x.0 (omega arith) in
+      n (insert point col x.0) (omega arith) x.1),
+)
+
+-- ---- normal rows over no column
+-- a row over no column says the same of each point, and so is not contingent
+no_column : (r : Row) → length r.coefs ≡ 0 → IsContingent r → ⊥
+no_column r e c =
+    let none : r.coefs ≡ [] = nil_from_length r.coefs e in
+    let same : (xs ys : List ℤ) → HoldsRow r xs → HoldsRow r ys = λ xs ys h. rw none (rw none at h) in
+    c.possible (λ xs h. c.refutable (λ ys. same xs ys h))
+
+-- normal rows that are some have a column
+pub some_column : (g : Gauge) (columns : ℕ) (rows : List Row) → All (IsProper g columns) rows → IsNormal rows → rows ≢ [] → 0 < columns
+some_column g columns [] p n h = absurd (h refl)
+some_column g zero (r ∷ rows) p n h = absurd (no_column r (All-head (IsProper g zero) r rows p).formed.width (All-head IsContingent r rows n.contingent))
+some_column g (suc columns) (r ∷ rows) p n h = omega arith
+
+-- the answer for the parts is that for the rows
+pub nowhere_after : (g h k : Gauge) (columns col : ℕ) (rows : List Row) (parts : PartsView) (result : Result Bool Cut) → col < columns → ArePartsOf g columns col rows parts → IsCharged g h
+    → MatchResult result (λ empty. (IsTrue empty ↔ ((point : List ℤ) → length point ≡ columns - 1 → ¬ HoldsPart parts point)) × IsCharged h k) (IsCutBy h k)
+    → MatchResult result (λ empty. (IsTrue empty ↔ HoldNowhere columns rows) × IsCharged g k) (IsCutBy g k)
+nowhere_after g h k columns col rows parts (Ok empty) i a c r =
+    let both = parts_nowhere g columns col rows parts i a in
+    (((λ t. both.0 (r.0.0 t)), (λ n. r.0.1 (both.1 n))), IsCharged_trans g h k c r.1)
+nowhere_after g h k columns col rows parts (Err cut) i a c r = IsCutBy-after g h k cut c r
+
+-- the answer for one column
+normal_none : (g : Gauge) (rows : List Row) → All (IsProper g 0) rows → IsNormal rows → rows ≡ []
+normal_none g [] p n = refl
+normal_none g (r ∷ rows) p n = let h = some_column g 0 (r ∷ rows) p n (λ e. let l = ap (λ (xs : List Row). length xs) e in omega (arith, l)) in absurd (omega (arith, h))
+
+pub column_found : (g h : Gauge) (rows : List Row) (parts new : PartsView) (found : Option (List Row)) → ArePartsOf g 1 0 rows parts
+    → MatchOption found ((point : List ℤ) → length point ≡ 0 → ¬ HoldsPart parts point) (λ left. IsNextPart h 0 parts left new)
+    → IsTrue (is_none found) ↔ HoldNowhere 1 rows
+column_found g h rows parts new None a f = ((λ t. (parts_nowhere g 1 0 rows parts (omega arith) a).0 f), (λ n. refl))
+column_found g h rows parts new (Some left) a f =
+    let both = parts_nowhere g 1 0 rows parts (omega arith) a in
+    let none = normal_none h left f.proper f.normal in (
+      (λ t. absurd (true-not-false t)),
+      (λ n. absurd (none_hold 0 left none (λ point l x. both.1 n point l ((f.points point l).1 (inl x))))),
+    )
+  where
+    true-not-false : IsTrue false → ⊥
+    true-not-false e = grind arith
+
+pub ruleset emptiness_steps = (charges, so_far_first, so_far_next, so_far_somewhere, so_far_none, none_hold, some_column, parts_nowhere)

@@ -1,8 +1,0 @@
-use Rattle.std.proofs.Common.{take}
-use Rattle.isl_elim.specs.Exact.{AreAdded}
-use Rattle.isl_omega.specs.Sides.{on_side}
-use Rattle.isl_omega.specs.declared.sides.Side.TheVariants.{Free}
-use Rattle.isl_elim.proofs.exact.push_free.Given as goal
-
-abbrev pub invariant-loop-row : goal.invariant-loop-row
-invariant-loop-row l = AreAdded l.meter l.col (on_side Free l.col (take l.row-index l.rows)) l.fn.short l.short

@@ -1,0 +1,113 @@
+//! Several columns out of rows together.
+
+ghost use Rattle.std.specs.Prelude.{◌≡◌, ◌≢◌, ◌<◌, [], All, AllPairs, IfOk, MatchResult};
+ghost use Rattle.isl_meter.specs.Gauge.{IsCharged, IsCutBy};
+ghost use Rattle.isl_piece.specs.Normal.{IsNormal};
+ghost use Rattle.isl_piece.specs.System.{HoldRows};
+ghost use Rattle.isl_omega.specs.Column.{IsProper};
+ghost use Rattle.isl_elim.specs.Elimination.{AddsAlong};
+ghost use Rattle.isl_elim.specs.Others.{others_of};
+ghost use Rattle.isl_elim.specs.Parts.{AreParts, HoldsPart};
+
+use crate::choice::cheapest;
+use crate::parts::Parts;
+use isl_meter::{Cut, Meter};
+use isl_piece::Rows;
+use std::alloc::{AllocError, Global};
+
+// The other columns, where they stand once the column was taken out.
+#[tactic(auto, using(std::proofs::lemmas::Grind::common_steps, crate::proofs::OthersLaws::others_steps))]
+fn others(alloc: Global, cols: &[usize], col: usize) -> Result<Vec<usize>, AllocError>
+    ensures { IfOk result (λ left. left.items ≡ others_of col cols.now) }
+{
+    let mut left = Vec::with_capacity(alloc, cols.len())?;
+    for &other in cols {
+        if other < col {
+            left.push(other)?;
+        } else if other > col {
+            left.push(other - 1)?;
+        }
+    }
+    Ok(left)
+}
+
+// Pushes what is left of the rows without the columns.
+#[cycle(eliminate_all)]
+#[tactic(auto, using(crate::proofs::AlongLaws::along_steps))]
+fn push_without(
+    alloc: Global,
+    rows: Rows,
+    columns: usize,
+    cols: &[usize],
+    lists: &mut Vec<Rows>,
+    meter: &mut Meter,
+) -> Result<(), Cut>
+    requires rows { All (IsProper meter.old columns) rows }
+    requires normal { IsNormal rows }
+    requires distinct { AllPairs (λ a b. a ≢ b) cols.now }
+    requires cols_in { All (λ col. col < columns) cols.now }
+    ensures exact { MatchResult result
+        (λ _. AddsAlong meter.old columns cols.now (HoldRows rows) lists.old.items lists.new.items × IsCharged meter.old meter.new)
+        (IsCutBy meter.old meter.new) }
+{
+    if cols.is_empty() {
+        lists.push(rows)?;
+        return Ok(());
+    }
+    let at = cheapest(rows.as_slice(), cols);
+    let col = cols[at];
+    let left = others(alloc, cols, col)?;
+    let parts = Parts::of(alloc, rows.as_slice(), columns, col, meter)?;
+    push_parts(alloc, parts, columns - 1, left.as_slice(), lists, meter)
+}
+
+// Pushes what is left of the parts without the columns.
+#[cycle(eliminate_all)]
+#[tactic(auto, using(crate::proofs::AlongLaws::along_steps))]
+fn push_parts(
+    alloc: Global,
+    mut parts: Parts,
+    columns: usize,
+    cols: &[usize],
+    lists: &mut Vec<Rows>,
+    meter: &mut Meter,
+) -> Result<(), Cut>
+    requires parts { AreParts meter.old columns parts }
+    requires distinct { AllPairs (λ a b. a ≢ b) cols.now }
+    requires cols_in { All (λ col. col < columns) cols.now }
+    ensures exact { MatchResult result
+        (λ _. AddsAlong meter.old columns cols.now (HoldsPart parts) lists.old.items lists.new.items × IsCharged meter.old meter.new)
+        (IsCutBy meter.old meter.new) }
+{
+    while let Some(rows) = parts.next(alloc, columns, meter)? {
+        push_without(alloc, rows, columns, cols, lists, meter)?;
+    }
+    Ok(())
+}
+
+/// What is left of the rows without the columns: lists of normal rows.
+#[tactic(auto, using(crate::proofs::AlongLaws::along_steps))]
+pub(crate) fn rows_without(
+    alloc: Global,
+    rows: &Rows,
+    columns: usize,
+    cols: &[usize],
+    meter: &mut Meter,
+) -> Result<Vec<Rows>, Cut>
+    requires rows { All (IsProper meter.old columns) rows.now }
+    requires distinct { AllPairs (λ a b. a ≢ b) cols.now }
+    requires cols_in { All (λ col. col < columns) cols.now }
+    ensures exact { MatchResult result
+        (λ lists. AddsAlong meter.old columns cols.now (HoldRows rows.now) [] lists.items × IsCharged meter.old meter.new)
+        (IsCutBy meter.old meter.new) }
+{
+    let copied = rows.copy(alloc)?;
+    match copied.normalise(alloc, meter)? {
+        None => Ok(Vec::new(alloc)),
+        Some(normal) => {
+            let mut lists = Vec::new(alloc);
+            push_without(alloc, normal, columns, cols, &mut lists, meter)?;
+            Ok(lists)
+        }
+    }
+}

@@ -1,0 +1,106 @@
+//! Whether rows hold nowhere.
+
+ghost use Rattle.std.specs.Prelude.{◌≡◌, ◌↔◌, ◌+ℤ◌, ◌≤ℤ◌, pos, ℤ, List, length, All, [], IfOk, IsTrue, MatchResult};
+ghost use Rattle.isl_meter.specs.Gauge.{IsCharged, IsCutBy};
+ghost use Rattle.isl_piece.specs.Normal.{IsNormal};
+ghost use Rattle.isl_omega.specs.Column.{IsProper};
+ghost use Rattle.isl_column.specs.Units.{elimination_units};
+ghost use Rattle.isl_column.specs.Magnitude.{IsSpared};
+ghost use Rattle.isl_omega.specs.Equality.{HasEquality};
+ghost use Rattle.isl_elim.specs.Emptiness.{HoldNowhere};
+ghost use Rattle.isl_piece.specs.System.{HoldsSystem, IsSystemWithin, free_columns};
+ghost use Rattle.isl_elim.specs.Sample.{IsNowhere};
+ghost use Rattle.isl_elim.specs.Parts.{AreParts, HoldsPart};
+
+use crate::choice::{any_column, cheapest};
+use crate::opened::opened;
+use crate::parts::Parts;
+use isl_meter::{Cut, Meter};
+use isl_piece::{Rows, System};
+use std::alloc::Global;
+
+/// Whether no number makes rows over one column hold. This spends what elimination of the column does.
+pub(crate) fn column_nowhere(alloc: Global, rows: &Rows, meter: &mut Meter) -> Result<bool, Cut>
+    requires rows { All (IsProper meter.old 1) rows.now }
+    ensures exact { MatchResult result (λ empty. (IsTrue empty ↔ HoldNowhere 1 rows.now) × IsCharged meter.old meter.new) (IsCutBy meter.old meter.new) }
+    ensures units { pos meter.new.units ≤ℤ (pos meter.old.units +ℤ elimination_units rows.now 0) }
+    ensures equality { HasEquality 0 rows.now → meter.new.units ≡ meter.old.units }
+    ensures magnitude { IsSpared meter.old rows.now 0 result }
+{
+    let mut parts = Parts::of(alloc, rows.as_slice(), 1, 0, meter)?;
+    Ok(parts.next(alloc, 0, meter)?.is_none())
+}
+
+// Whether no point makes the rows hold.
+#[cycle(emptiness)]
+#[tactic(auto, using(crate::proofs::EmptinessLaws::emptiness_steps))]
+pub(crate) fn hold_nowhere(
+    alloc: Global,
+    rows: &Rows,
+    columns: usize,
+    meter: &mut Meter,
+) -> Result<bool, Cut>
+    requires rows { All (IsProper meter.old columns) rows.now }
+    requires normal { IsNormal rows.now }
+    ensures exact { MatchResult result
+        (λ empty. (IsTrue empty ↔ HoldNowhere columns rows.now) × IsCharged meter.old meter.new)
+        (IsCutBy meter.old meter.new) }
+{
+    if rows.is_empty() {
+        return Ok(false);
+    }
+    if columns == 1 {
+        return column_nowhere(alloc, rows, meter);
+    }
+    let col = any_column(rows.as_slice(), columns);
+    let parts = Parts::of(alloc, rows.as_slice(), columns, col, meter)?;
+    are_empty(alloc, parts, columns - 1, meter)
+}
+
+// Whether no point makes some of the parts hold.
+#[cycle(emptiness)]
+#[tactic(auto, using(crate::proofs::EmptinessLaws::emptiness_steps))]
+fn are_empty(
+    alloc: Global,
+    mut parts: Parts,
+    columns: usize,
+    meter: &mut Meter,
+) -> Result<bool, Cut>
+    requires parts { AreParts meter.old columns parts }
+    ensures exact { MatchResult result
+        (λ empty. (IsTrue empty ↔ ((point : List ℤ) → length point ≡ columns → ¬ HoldsPart parts point)) × IsCharged meter.old meter.new)
+        (IsCutBy meter.old meter.new) }
+{
+    while let Some(rows) = parts.next(alloc, columns, meter)? {
+        if !hold_nowhere(alloc, &rows, columns, meter)? {
+            return Ok(false);
+        }
+    }
+    Ok(true)
+}
+
+/// Whether the system, in which no column is defined, holds at no point of whole numbers. Of one column this spends what
+/// `eliminate` does; it spends no unit of its own.
+///
+/// # Errors
+///
+/// `Overflow` where a number passes the limit of the meter, `Budget` where its units are used up, and `NoMemory`. With one
+/// column a limit of 127 bits is not passed where the numbers are at most `2^30` and at most one congruence has it.
+#[tactic(auto, using(crate::proofs::OpenedLaws::opened_steps))]
+pub fn is_empty(alloc: Global, system: &System, meter: &mut Meter) -> Result<bool, Cut>
+    requires well_formed { IsSystemWithin meter.old system.now }
+    requires plain { system.now.definitions ≡ [] }
+    ensures exact { IfOk result (λ empty. IsTrue empty ↔ IsNowhere (free_columns system.now) (HoldsSystem system.now)) }
+    ensures meter { MatchResult result (λ _. IsCharged meter.old meter.new) (IsCutBy meter.old meter.new) }
+    ensures units { system.now.columns ≡ 1 → pos meter.new.units ≤ℤ (pos meter.old.units +ℤ elimination_units system.now.rows 0) }
+    ensures equality { system.now.columns ≡ 1 → HasEquality 0 system.now.rows → meter.new.units ≡ meter.old.units }
+    ensures magnitude { system.now.columns ≡ 1 → IsSpared meter.old system.now.rows 0 result }
+{
+    if system.columns == 1 {
+        return column_nowhere(alloc, &system.rows, meter);
+    }
+    match opened(alloc, system, meter)? {
+        None => Ok(true),
+        Some(rows) => hold_nowhere(alloc, &rows, system.columns, meter),
+    }
+}

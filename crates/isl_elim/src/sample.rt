@@ -1,0 +1,135 @@
+//! A point at which rows hold.
+
+ghost use Rattle.std.specs.Prelude.{◌≡◌, ◌+◌, ◌≤◌, length, All, [], IfOk, MatchOption, MatchResult};
+ghost use Rattle.std.specs.List.{remove};
+ghost use Rattle.isl_meter.specs.Gauge.{IsCharged, IsCutBy, IsWithin};
+ghost use Rattle.isl_piece.specs.Normal.{IsNormal};
+ghost use Rattle.isl_piece.specs.System.{HoldRows};
+ghost use Rattle.isl_omega.specs.Column.{IsProper};
+ghost use Rattle.isl_piece.specs.System.{HoldsSystem, IsSystemWithin, free_columns};
+ghost use Rattle.isl_elim.specs.Parts.{AreParts, HoldsPart};
+ghost use Rattle.isl_elim.specs.Sample.{IsSample, IsNowhere};
+
+use crate::choice::any_column;
+use crate::line::tries_at;
+use crate::opened::opened;
+use crate::parts::Parts;
+use isl_meter::{Cut, Meter};
+use isl_piece::{Rows, System};
+use std::alloc::Global;
+
+// The point with a number put in at the column, so that the rows hold. One unit is used for each number at which they do not.
+#[tactic(auto, using(crate::proofs::SampleLaws::tried_steps))]
+fn completed(
+    alloc: Global,
+    rows: &Rows,
+    col: usize,
+    point: Vec<i128>,
+    meter: &mut Meter,
+) -> Result<Vec<i128>, Cut>
+    requires rows { All (IsProper meter.old (length point.items + 1)) rows.now }
+    requires col_in { col ≤ length point.items }
+    requires within { All (IsWithin meter.old) point.items }
+    ensures exact { MatchResult result
+        (λ whole. IsSample meter.old (length point.items + 1) (HoldRows rows.now) whole.items × IsCharged meter.old meter.new)
+        (IsCutBy meter.old meter.new) }
+{
+    let mut whole = point;
+    whole.insert(col, 0)?;
+    let tries = tries_at(rows.as_slice(), whole.as_slice(), col, meter)?;
+    let mut x = meter.add(tries.first, 0)?;
+    loop {
+        whole[col] = x;
+        if rows.hold_at(whole.as_slice(), meter)? {
+            return Ok(whole);
+        }
+        meter.unit()?;
+        x = meter.add(x, tries.step)?;
+    }
+}
+
+// A point at which the rows hold.
+#[cycle(sample)]
+#[tactic(auto, using(crate::proofs::SampleLaws::sample_steps))]
+pub(crate) fn sample_rows(
+    alloc: Global,
+    rows: &Rows,
+    columns: usize,
+    meter: &mut Meter,
+) -> Result<Option<Vec<i128>>, Cut>
+    requires rows { All (IsProper meter.old columns) rows.now }
+    requires normal { IsNormal rows.now }
+    ensures exact { MatchResult result
+        (λ sample. MatchOption sample (IsNowhere columns (HoldRows rows.now)) (λ point. IsSample meter.old columns (HoldRows rows.now) point.items)
+        × IsCharged meter.old meter.new)
+        (IsCutBy meter.old meter.new) }
+{
+    if rows.is_empty() {
+        let zeros = Vec::from_elem(alloc, 0, columns)?;
+        return Ok(Some(zeros));
+    }
+    let col = any_column(rows.as_slice(), columns);
+    let parts = Parts::of(alloc, rows.as_slice(), columns, col, meter)?;
+    match sample_parts(alloc, parts, columns - 1, meter)? {
+        None => Ok(None),
+        Some(point) => {
+            let whole = completed(alloc, rows, col, point, meter)?;
+            Ok(Some(whole))
+        }
+    }
+}
+
+// A point at which some of the parts holds.
+#[cycle(sample)]
+#[tactic(auto, using(crate::proofs::SampleLaws::sample_steps))]
+fn sample_parts(
+    alloc: Global,
+    mut parts: Parts,
+    columns: usize,
+    meter: &mut Meter,
+) -> Result<Option<Vec<i128>>, Cut>
+    requires parts { AreParts meter.old columns parts }
+    ensures exact { MatchResult result
+        (λ sample. MatchOption sample (IsNowhere columns (HoldsPart parts)) (λ point. IsSample meter.old columns (HoldsPart parts) point.items)
+        × IsCharged meter.old meter.new)
+        (IsCutBy meter.old meter.new) }
+{
+    while let Some(rows) = parts.next(alloc, columns, meter)? {
+        if let Some(point) = sample_rows(alloc, &rows, columns, meter)? {
+            return Ok(Some(point));
+        }
+    }
+    Ok(None)
+}
+
+/// A point at which the system, in which no column is defined, holds, with its numbers within the limit of the meter; none
+/// exactly where there is no point.
+///
+/// # Errors
+///
+/// `Overflow` where a number passes the limit, `Budget` where the units are used up, and `NoMemory`.
+#[tactic(auto, using(crate::proofs::OpenedLaws::opened_steps))]
+pub fn sample_point(
+    alloc: Global,
+    system: &System,
+    meter: &mut Meter,
+) -> Result<Option<Vec<i128>>, Cut>
+    requires well_formed { IsSystemWithin meter.old system.now }
+    requires plain { system.now.definitions ≡ [] }
+    ensures exact { IfOk result (λ sample. MatchOption sample
+        (IsNowhere (free_columns system.now) (HoldsSystem system.now))
+        (λ point. IsSample meter.old (free_columns system.now) (HoldsSystem system.now) point.items)) }
+    ensures meter { MatchResult result (λ _. IsCharged meter.old meter.new) (IsCutBy meter.old meter.new) }
+{
+    let Some(rows) = opened(alloc, system, meter)? else {
+        return Ok(None);
+    };
+    match sample_rows(alloc, &rows, system.columns, meter)? {
+        None => Ok(None),
+        Some(whole) => {
+            let mut point = whole;
+            point.truncate(system.free());
+            Ok(Some(point))
+        }
+    }
+}

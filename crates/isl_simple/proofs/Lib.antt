@@ -1,0 +1,3 @@
+pub mod SizeLaws
+pub mod FlatLaws
+pub mod LaterLaws

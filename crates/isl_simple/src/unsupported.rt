@@ -1,0 +1,70 @@
+//! What the language has and this program has not yet.
+
+ghost use Rattle.std.specs.Prelude.{◌≡◌};
+ghost use Rattle.std.specs.List.{list_any};
+ghost use Rattle.isl_kinds.specs.Parts.{operator, parts_of, parts_of_links, parts_of_postfixes};
+ghost use Rattle.isl_simple.specs.Unsupported as spec;
+ghost use Rattle.isl_simple.specs.Unsupported.{is_later};
+
+use isl_expr::tree::{Binary, Expr, Link, Postfix, Stmt};
+use isl_lower::is_plain;
+
+fn is_later_operator(sign: Binary) -> bool
+    ensures { result ≡ is_later (operator sign) }
+{
+    !matches!(sign, Binary::Union | Binary::Intersection)
+}
+
+#[cycle(later)]
+#[tactic(auto, using(crate::proofs::LaterLaws::expressions))]
+fn is_later_expression(expr: &Expr) -> bool
+    ensures { result ≡ list_any is_later (parts_of expr.now) }
+{
+    match expr {
+        Expr::Name(_) => false,
+        Expr::Literal(literal) => !is_plain(literal),
+        Expr::Row(first, links) => {
+            is_later_expression(first.get()) | are_later_links(links.as_slice())
+        }
+        Expr::Prefix(..) => true,
+        Expr::Any(..) => true,
+        Expr::Last(..) => true,
+        Expr::Post(operand, postfixes) => {
+            is_later_expression(operand.get()) | are_later_postfixes(postfixes.as_slice())
+        }
+    }
+}
+
+#[cycle(later)]
+#[tactic(auto, using(crate::proofs::LaterLaws::lists))]
+fn are_later_links(links: &[Link]) -> bool
+    ensures { result ≡ list_any is_later (parts_of_links links.now) }
+{
+    for link in links {
+        if is_later_operator(link.operator) | is_later_expression(&link.operand) {
+            return true;
+        }
+    }
+    false
+}
+
+fn are_later_postfixes(postfixes: &[Postfix]) -> bool
+    ensures { result ≡ list_any is_later (parts_of_postfixes postfixes.now) }
+{
+    for postfix in postfixes {
+        if !matches!(postfix, Postfix::Inverse) {
+            return true;
+        }
+    }
+    false
+}
+
+/// Whether something stands in the statement that is not supported yet.
+pub fn is_unsupported(stmt: &Stmt) -> bool
+    ensures { result ≡ spec.is_unsupported stmt.now }
+{
+    match stmt {
+        Stmt::Empty => false,
+        Stmt::Bind(_, expr) | Stmt::Show(expr) => is_later_expression(expr),
+    }
+}

@@ -1,9 +1,0 @@
-use Rattle.std.proofs.Common.{◌≡◌, ◌-◌}
-use Rattle.isl_token.specs.declared.token.Kind.TheVariants as k
-use Rattle.isl_token.specs.Reading.{rest_of, sees}
-use Rattle.isl_formula.specs.Term.{term}
-use Rattle.isl_text.specs.Tuple.{entry_row, next_entry}
-use Rattle.isl_text.proofs.tuple.entry_row.Given as goal
-
-abbrev pub invariant-loop-turn : goal.invariant-loop-turn
-invariant-loop-turn l = entry_row (term l.depth) l.fn.tokens ≡ rest_of (sees k.Comma) (next_entry (term l.depth)) (l._turn-end - l._turn) l.found l.tokens
