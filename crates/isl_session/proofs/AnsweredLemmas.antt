@@ -81,6 +81,7 @@ module _ (first : Gauge) (script : List ℕ) (old new : Outside) (status : Statu
       run = fed.run;
       meter = at_front.meter;
       carried = fed.meter;
+      short = fed.short.each;
     }
 
     -- how it ended is left to say
@@ -100,6 +101,7 @@ module _ (first : Gauge) (script : List ℕ) (old new : Outside) (status : Statu
           whole = whole;
           within = omega (arith, ap length whole, fed.taken, fed.within);
           blank = subst IsBlank (fed.rest ∙ ap rest_of whole) blank;
+          short = omega (arith, fed.short.last, ap length (fed.rest ∙ ap rest_of whole));
           end = end;
         },
         gained_is,

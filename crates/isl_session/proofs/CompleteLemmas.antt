@@ -16,10 +16,10 @@ use Rattle.isl_eval.specs.Machine.{started}
 use Rattle.isl_session.specs.declared.fault.Fault.{Fault}
 use Rattle.isl_session.specs.declared.TheConstants.{SCRIPT_MAX, STATEMENT_MAX}
 use Rattle.isl_session.specs.Place.{Place, at_words, in_statement, too_long, past_limit, at_end, at_read, at_write, anywhere, place_of}
-use Rattle.isl_session.specs.View.{View, BreaksIn, Carries, Stopped, moment_of}
+use Rattle.isl_session.specs.View.{View, AreShort, BreaksIn, Carries, Stopped, moment_of}
 use Rattle.isl_session.specs.Status.{StatusView}
 use Rattle.isl_session.specs.Run.{Answered, Ended, HasCause, OfFirst, Outside, Progress}
-use Rattle.isl_session.specs.Valid.{AreShort, AreValid, IsDoneOrMemory, IsValidScript}
+use Rattle.isl_session.specs.Valid.{AreValid, IsDoneOrMemory, IsValidScript}
 use Rattle.isl_session.proofs.MeterLemmas.{overflow_rose, spent_rose}
 use Rattle.isl_session.proofs.ScriptLemmas.{statements-ended}
 use Rattle.isl_session.proofs.FedLemmas.{fed_ready}

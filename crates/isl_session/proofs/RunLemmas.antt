@@ -1,6 +1,9 @@
 -- Runs one after another, and pieces one after another.
-use Rattle.std.proofs.Common.{◌≡◌, ℕ, suc, List, [], ◌∷◌, ◌++◌, length, map, refl, sym, ◌∙◌, ap, ap₂, subst, arith}
+use Rattle.std.proofs.Common.{◌≡◌, ◌≤◌, ℕ, suc, List, [], ◌∷◌, ◌++◌, length, map, refl, sym, ◌∙◌, ap, ap₂, subst, arith}
 use Rattle.std.proofs.lemmas.List.{append_assoc, length-append, length-map, map-append}
+use Rattle.std.proofs.lemmas.List.Elements.{All-append}
+use Rattle.std.specs.Prelude.{All}
+use Rattle.isl_session.specs.declared.TheConstants.{STATEMENT_MAX}
 use Rattle.isl_stmt.specs.Script.{statements, rest_of}
 use Rattle.isl_stmt.proofs.ScriptLaws.{statements-append, rest-append}
 use Rattle.isl_eval.specs.State.{Moment}
@@ -64,6 +67,10 @@ Gives-length first xs ps last gives =
 pub gives_carries : (first : Moment) (xs ps : List (List ℕ)) (last : Moment) → Gives first xs ps last → Carries first.meter last.meter
 gives_carries first xs ps last gives = Run-carries first xs gives.answers last gives.run
 
+-- a part with no more bytes than a statement may have
+abbrev pub IsFew : List ℕ → Type 0
+IsFew part = length part ≤ STATEMENT_MAX
+
 -- a piece, and then another
 pub Fed-append : (a : View) (x : List ℕ) (ps : List (List ℕ)) (b : View) (y : List ℕ) (qs : List (List ℕ)) (c : View) → Fed a x ps b → Fed b y qs c → Fed a (x ++ y) (ps ++ qs) c
 Fed-append a x ps b y qs c first second =
@@ -76,6 +83,7 @@ Fed-append a x ps b y qs c first second =
       run = subst (λ (l : List (List ℕ)). Gives (moment_of a) l (ps ++ qs) (moment_of c)) (sym joined)
           (Gives-append (moment_of a) (statements (a.rest ++ x)) ps (moment_of b) (statements (b.rest ++ y)) qs (moment_of c) first.run second.run);
       rest = second.rest ∙ sym left;
+      short = record { each = subst (All IsFew) (sym joined) (All-append IsFew (statements (a.rest ++ x)) (statements (b.rest ++ y)) first.short.each second.short.each); last = second.short.last };
       taken = omega (arith, first.taken, second.taken, length-append x y);
       within = second.within;
       answered = omega (arith, first.answered, second.answered, length-append ps qs);

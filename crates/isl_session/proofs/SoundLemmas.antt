@@ -5,4 +5,4 @@ use Rattle.isl_session.specs.View.{IsReady}
 use Rattle.isl_session.specs.Session.{view_of, IsSound}
 
 pub sound_ready : (s : Inside) → IsSound s → s.fault ≡ None → IsReady (view_of s)
-sound_ready s sound none = record { open_rest = sound.open_rest; within = sound.within; sound = none }
+sound_ready s sound none = record { open_rest = sound.open_rest; short = sound.short; within = sound.within; sound = none }

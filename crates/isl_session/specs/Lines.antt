@@ -1,4 +1,4 @@
--- The lines that tell of a refusal.
+-- public: the lines that tell of a refusal.
 use Rattle.std.specs.Prelude.{ℕ, List, [], ◌∷◌, ◌++◌, codes}
 use Rattle.std.specs.Fmt.{decimal}
 use Rattle.isl_text.specs.declared.refusal.Refusal.TheVariants.{Usage}

@@ -1,4 +1,4 @@
--- Where refusals come about.
+-- public: where refusals come about.
 use Rattle.isl_text.specs.declared.refusal.Refusal.{Refusal}
 use Rattle.isl_text.specs.declared.refusal.Refusal.TheVariants.{Usage, Syntax, UnknownName, WrongKind, NoMinimum, Unbounded, SeveralTimes, TimeShape, Nested, Parametric, TooWide, TooDeep, WideNumber, TooLong, Unfinished, Overflow, Budget, ReadFault, WriteFault, NoMemory, ScriptTooLong, NoElement}
 

@@ -1,5 +1,5 @@
--- How a run over a whole script ends, and what it leaves.
-use Rattle.std.specs.Prelude.{◌≡◌, ◌⊎◌, ℕ, ◌+◌, ◌<◌, ◌≤◌, List, [], ◌∷◌, ◌++◌, length, take, Option, Some, None}
+-- public: how a run over a whole script ends, and what it leaves.
+use Rattle.std.specs.Prelude.{◌≡◌, ◌⊎◌, ℕ, ◌+◌, ◌<◌, ◌≤◌, List, [], ◌∷◌, ◌++◌, All, length, take, Option, Some, None}
 use Rattle.std.specs.List.{concat}
 use Rattle.std.specs.Io.KnownBytes.{Appends, Consumes, IsAtEnd}
 use Rattle.isl_math.specs.Count.{Rose}
@@ -67,6 +67,7 @@ pub record Progress (first : Gauge) (script : List ℕ) : Type 0 where
   pub meter : Gauge
   pub run : Gives (record { state = unbound; meter = first }) done answers (record { state = state; meter = meter })
   pub carried : Carries first meter
+  pub short : All (λ part. length part ≤ STATEMENT_MAX) done
 
 -- the first of these statements has P
 abbrev pub OfFirst : (List ℕ → Type 0) → List (List ℕ) → Type 0
@@ -93,6 +94,7 @@ pub record IsDone (script : List ℕ) (ahead : List (List ℕ)) (taken : List �
   pub whole : taken ≡ script
   pub within : length script ≤ SCRIPT_MAX
   pub blank : IsBlank (rest_of script)
+  pub short : length (rest_of script) ≤ STATEMENT_MAX
   pub end : IsAtEnd new.left
 
 -- what was written of the answers: all of them, or where a write failed all but a part of the last

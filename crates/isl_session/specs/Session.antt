@@ -1,4 +1,4 @@
--- The fields of a session: what they show, and what they keep.
+-- inner: the fields of a session: what they show, and what they keep.
 use Rattle.std.specs.Prelude.{◌≤◌, length}
 use Rattle.isl_meter.specs.Gauge.{limit_of}
 use Rattle.isl_stmt.specs.Script.{IsOpen}

@@ -1,4 +1,4 @@
--- How a run ended.
+-- public: how a run ended.
 use Rattle.std.specs.Prelude.{ℕ, Option, Some, None}
 use Rattle.isl_meter.specs.Gauge.{Gauge}
 use Rattle.isl_text.specs.declared.refusal.Refusal.{Refusal}

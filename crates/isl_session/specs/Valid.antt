@@ -1,5 +1,5 @@
--- When statements must be answered.
-use Rattle.std.specs.Prelude.{◌≡◌, ◌⊎◌, ℕ, ◌≤◌, List, ◌∷◌, ◌++◌, All, length, Option, Some, None}
+-- public: when statements must be answered.
+use Rattle.std.specs.Prelude.{◌≡◌, ◌⊎◌, ℕ, ◌≤◌, List, ◌∷◌, ◌++◌, length, Option, Some, None}
 use Rattle.isl_meter.specs.Gauge.{Gauge}
 use Rattle.isl_stmt.specs.Script.{statements, rest_of, IsBlank}
 use Rattle.isl_text.specs.declared.refusal.Refusal.{Refusal}
@@ -7,18 +7,13 @@ use Rattle.isl_text.specs.declared.refusal.Refusal.TheVariants.{NoMemory}
 use Rattle.isl_eval.specs.State.{Moment, unbound}
 use Rattle.isl_eval.specs.Causes.{IsValid}
 use Rattle.isl_eval.specs.Machine.{started}
-use Rattle.isl_session.specs.declared.TheConstants.{SCRIPT_MAX, STATEMENT_MAX}
-use Rattle.isl_session.specs.View.{Gives}
+use Rattle.isl_session.specs.declared.TheConstants.{SCRIPT_MAX}
+use Rattle.isl_session.specs.View.{AreShort, Gives}
 
 -- each of these statements is valid with what is bound before it
 pub record AreValid (before : Moment) (parts : List (List ℕ)) : Type 0 where
   pub each : (done : List (List ℕ)) (bytes : List ℕ) (ahead texts : List (List ℕ)) (next : Moment)
       → parts ≡ done ++ bytes ∷ ahead → Gives before done texts next → IsValid (started next) bytes
-
--- none of these parts of a script has too many bytes, and the rest has not
-pub record AreShort (parts : List (List ℕ)) (rest : List ℕ) : Type 0 where
-  pub each : All (λ part. length part ≤ STATEMENT_MAX) parts
-  pub last : length rest ≤ STATEMENT_MAX
 
 -- the statements of the script are valid, and what follows the last is blank
 pub record IsValidScript (first : Gauge) (script : List ℕ) : Type 0 where

@@ -1,5 +1,5 @@
--- A session as it is seen from outside, and what a piece of a script does to it.
-use Rattle.std.specs.Prelude.{◌≡◌, ℕ, ◌+◌, ◌<◌, ◌≤◌, List, [], ◌∷◌, ◌++◌, length, map, Option, Some, None, true, false, Result, MatchResult}
+-- public: a session as it is seen from outside, and what a piece of a script does to it.
+use Rattle.std.specs.Prelude.{◌≡◌, ℕ, ◌+◌, ◌<◌, ◌≤◌, List, [], ◌∷◌, ◌++◌, All, length, map, Option, Some, None, true, false, Result, MatchResult}
 use Rattle.std.specs.List.{concat}
 use Rattle.isl_meter.specs.Gauge.{Gauge, IsKept}
 use Rattle.isl_stmt.specs.Script.{statements, rest_of, ends, IsBlank, IsOpen}
@@ -47,10 +47,16 @@ pub record Gives (before : Moment) (parts texts : List (List ℕ)) (after : Mome
 abbrev pub Carries : Gauge → Gauge → Type 0
 Carries old new = new ≡ record old { units = new.units }
 
+-- none of these parts of a script has too many bytes, and the rest has not
+pub record AreShort (parts : List (List ℕ)) (rest : List ℕ) : Type 0 where
+  pub each : All (λ part. length part ≤ STATEMENT_MAX) parts
+  pub last : length rest ≤ STATEMENT_MAX
+
 -- A session took this piece, and answered each statement that the piece completed.
 pub record Fed (old : View) (piece : List ℕ) (answers : List (List ℕ)) (new : View) : Type 0 where
   pub run : Gives (moment_of old) (statements (old.rest ++ piece)) answers (moment_of new)
   pub rest : new.rest ≡ rest_of (old.rest ++ piece)
+  pub short : AreShort (statements (old.rest ++ piece)) new.rest
   pub taken : new.taken ≡ old.taken + length piece
   pub within : new.taken ≤ SCRIPT_MAX
   pub answered : new.answered ≡ old.answered + length answers
@@ -60,6 +66,7 @@ pub record Fed (old : View) (piece : List ℕ) (answers : List (List ℕ)) (new 
 -- A session without a fault, which holds no whole statement.
 pub record IsReady (view : View) : Type 0 where
   pub open_rest : IsOpen view.rest
+  pub short : length view.rest ≤ STATEMENT_MAX
   pub within : view.taken ≤ SCRIPT_MAX
   pub sound : view.fault ≡ None
 
@@ -77,10 +84,10 @@ BreaksIn at_read view byte now refusal = ⊥
 BreaksIn at_write view byte now refusal = ⊥
 
 -- The meter at a refusal, after that of the statements answered. Only the work on a statement, which begins with no unit used and
--- which want of memory may end, raises a count; limit and budget stay, and no count falls.
+-- which want of memory may end uncounted, raises a count; limit and budget stay, and no count falls.
 abbrev pub IsMeterAt : Place → Gauge → Gauge → Type 0
 IsMeterAt in_statement before now = IsKept (record before { units = 0 }) now
-IsMeterAt anywhere before now = IsKept (record before { units = 0 }) now
+IsMeterAt anywhere before now = Carries before now
 IsMeterAt place before now = now ≡ before
 
 -- A session is refused at a byte. Only its meter changes.

@@ -4,8 +4,8 @@ ghost use Rattle.std.specs.Prelude.{◌≡◌, ◌+◌, ◌<◌, ◌≤◌, ◌+
 ghost use Rattle.std.specs.List.{concat};
 ghost use Rattle.isl_math.specs.Count.{Rose};
 ghost use Rattle.isl_stmt.specs.Script.{statements, rest_of};
-ghost use Rattle.isl_session.specs.Valid.{AreShort, AreValid};
-ghost use Rattle.isl_session.specs.View.{Fed, Feeds, Finishes, IsReady, IsRefusedAt, Stopped, fresh, gauge_of, moment_of};
+ghost use Rattle.isl_session.specs.Valid.{AreValid};
+ghost use Rattle.isl_session.specs.View.{AreShort, Fed, Feeds, Finishes, IsReady, IsRefusedAt, Stopped, fresh, gauge_of, moment_of};
 
 use crate::{Fault, Options, SCRIPT_MAX, STATEMENT_MAX};
 use isl_eval::{State, answer};

@@ -101,7 +101,8 @@ returns-clause-ok c =
     let ready = sound_ready inside c.self.invariant sound in
     let held : ends rest c.args.byte ≡ false = sym (c.if-push.ensures.ends rest c.self.invariant.place) in
     let new : View = record { state = inside.state; rest = c.push-2.new.self.items; taken = inside.taken + 1; answered = inside.answered; fault = inside.fault; meter = inside.meter } in
-    let fed = fed_held old ready c.args.byte new c.if-self-ge-SCRIPT_MAX.false refl sound (carries_refl inside.meter) held c.in_ok-push.ensures.items refl refl in (
+    let fed = fed_held old ready c.args.byte new c.if-self-ge-SCRIPT_MAX.false refl sound (carries_refl inside.meter) held c.in_ok-push.ensures.items refl refl
+    (omega (arith, ap length c.in_ok-push.ensures.items, length_push rest c.args.byte, c.if-len-ge-STATEMENT_MAX.false, c.len.ensures)) in (
       [],
       sym (append-nil c.args.text.now.items),
       subst (λ (v : View). Fed v (c.args.byte ∷ []) [] new) c.self.view_is fed,
