@@ -13,8 +13,8 @@ awk -v n=1000 "$pieces" > "$folder/pieces"
 awk -v n=20000 "$pieces" > "$folder/many_pieces"
 # 200 literals that are 32 coordinates wide.
 awk 'BEGIN { for (s = 0; s < 200; s++) { printf "{ ["; for (i = 0; i < 32; i++) printf "%sx%d", i ? ", " : "", i; printf "] : x0 >= %d", s; for (i = 1; i < 32; i++) printf " and x%d >= x%d + 1", i, i - 1; print " };" } }' > "$folder/wide"
-# One piece of 64,000 distinct rows.
-awk 'BEGIN { printf "{ [i, j] : 0 >= i"; for (r = 0; r < 64000; r++) printf " and i + %dj >= %d", r, r % 7; print " };" }' > "$folder/rows"
+# One piece of 50,000 distinct rows.
+awk 'BEGIN { printf "{ [i, j] : 0 >= i"; for (r = 0; r < 50000; r++) printf " and i + %dj >= %d", r, r % 7; print " };" }' > "$folder/rows"
 # What must be refused: 100,000 parameters, 40,000 named entries, 20 MB of closing braces.
 awk 'BEGIN { printf "["; for (i = 0; i < 100000; i++) printf "%sp%d", i ? ", " : "", i; print "] -> { };" }' > "$folder/parameters"
 awk 'BEGIN { printf "{ ["; for (i = 0; i < 40000; i++) printf "%sx%d = 0", i ? ", " : "", i; print "] };" }' > "$folder/entries"
@@ -26,10 +26,10 @@ row 'literals' 20000 "$folder/statements" "$program"
 row 'a literal of 1,000 pieces' 1 "$folder/pieces" "$program"
 row 'of 20,000 pieces' 1 "$folder/many_pieces" "$program"
 row '32 coordinates wide' 200 "$folder/wide" "$program"
-row '64,000 rows' 1 "$folder/rows" "$program"
-wanted=3 row '100,000 parameters' 1 "$folder/parameters" "$program"
-wanted=3 row '40,000 named entries' 1 "$folder/entries" "$program"
-wanted=3 row '20 MB of braces' 1 "$folder/braces" "$program"
+row '50,000 rows' 1 "$folder/rows" "$program"
+wanted=12 row '100,000 parameters' 1 "$folder/parameters" "$program"
+wanted=12 row '40,000 named entries' 1 "$folder/entries" "$program"
+wanted=15 row '20 MB of braces' 1 "$folder/braces" "$program"
 
 if command -v valgrind > "$folder/out"; then
   head -n 2000 "$folder/statements" > "$folder/some"
