@@ -25,22 +25,16 @@ fn words_of(rt: &(impl Env + AllocGlobal), alloc: Global) -> Result<Vec<String>,
     }
 }
 
-// How many systems are answered in `count` turns.
-fn answered(
-    alloc: Global,
-    system: &System,
-    col: usize,
-    count: u64,
-    meter: &mut Meter,
-) -> Result<u64, Cut>
-    requires system { IsSystemWithin meter.old system.now }
+// How many systems are answered in `count` turns, each with a meter of its own.
+fn answered(alloc: Global, system: &System, col: usize, count: u64) -> Result<u64, Cut>
+    requires system { IsSystemWithin (record { bits = 127; budget = 10000000; units = 0; overflows = 0; spents = 0 }) system.now }
     requires plain { system.now.definitions ≡ [] }
     requires col_in { col < free_columns system.now }
 {
     let mut systems: u64 = 0;
     'turns: for _turn in 0..count {
-        meter.start();
-        let found = eliminate(alloc, system, col, meter)?;
+        let mut meter = Meter::new(127, 10_000_000);
+        let found = eliminate(alloc, system, col, &mut meter)?;
         systems = systems.saturating_add(found.len() as u64);
     }
     Ok(systems)
@@ -57,9 +51,9 @@ fn system_of(alloc: Global, kind: &str) -> Result<(System, usize), AllocError> {
 
 fn timed(alloc: Global, kind: &str, count: u64) -> Result<u64, Cut> {
     let (system, col) = system_of(alloc, kind)?;
-    let mut meter = Meter::new(127, 10_000_000);
+    let meter = Meter::new(127, 10_000_000);
     if is_proper(&system, &meter) && system.definitions.is_empty() && col < system.free() {
-        answered(alloc, &system, col, count, &mut meter)
+        answered(alloc, &system, col, count)
     } else {
         Ok(0)
     }
