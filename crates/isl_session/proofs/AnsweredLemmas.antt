@@ -1,5 +1,5 @@
 -- From what the session and the ends say to what a run has done.
-use Rattle.std.proofs.Common.{◌≡◌, ℕ, ◌+◌, ◌≤◌, List, [], ◌∷◌, ◌++◌, length, take, true, false, refl, sym, ◌∙◌, ap, subst, arith, Option, None, Some, Result, Ok, Err}
+use Rattle.std.proofs.Common.{◌≡◌, ℕ, ◌+◌, ◌-◌, ◌≤◌, List, [], ◌∷◌, ◌++◌, length, take, true, false, refl, sym, ◌∙◌, ap, subst, arith, Option, None, Some, Result, Ok, Err}
 use Rattle.std.specs.List.{concat}
 use Rattle.std.specs.Result.{OnOk, OnErr, IfErr}
 use mathlib.Core.Logic.{inl, inr}
@@ -12,13 +12,13 @@ use Rattle.isl_text.specs.declared.refusal.Refusal.{Refusal}
 use Rattle.isl_eval.specs.Causes.{Refuses}
 use Rattle.isl_eval.specs.Machine.{started}
 use Rattle.isl_session.specs.declared.fault.Fault.{Fault}
-use Rattle.isl_session.specs.declared.TheConstants.{SCRIPT_MAX}
+use Rattle.isl_session.specs.declared.TheConstants.{SCRIPT_MAX, STATEMENT_MAX}
 use Rattle.isl_session.specs.Place.{Place, at_words, in_statement, too_long, past_limit, at_end, at_read, at_write, anywhere, place_of}
 use Rattle.isl_session.specs.View.{View, BreaksIn, Fed, IsMeterAt, Stopped, fresh, moment_of}
 use Rattle.isl_session.specs.Status.{StatusView}
 use Rattle.isl_session.specs.Lines.{fault_line}
 use Rattle.isl_session.specs.Run.{Answered, Ended, Halts, HasCause, IsScriptOf, OfFirst, Outside, Progress, Tells, Wrote, number_at}
-use Rattle.isl_session.proofs.AheadLemmas.{ahead_of, statements-readable, ahead_end, ahead_full, ahead_first, ahead_long}
+use Rattle.isl_session.proofs.AheadLemmas.{ahead_of, readable-append, statements-readable, ahead_end, ahead_full, ahead_first, ahead_long}
 
 -- what was told, unless telling failed
 pub tells_of : {T E : Type 0} (r : Result T E) (A R : Type 0) → OnOk r A → OnErr r R → (R → ⊥) → A
@@ -143,8 +143,8 @@ module _ (first : Gauge) (script : List ℕ) (old new : Outside) (status : Statu
           let ended = subst (λ (l : List ℕ). ends l stopped.byte ≡ true) rest breaks.1 in
           let first_ahead = ahead_first stopped.front stopped.byte more (omega (arith, stopped.fed.taken, breaks.0)) ended in
           let at_front = stopped.at_front in
-          let P : List ℕ → Type 0 = λ bytes. Refuses (started (moment_of at_front)) bytes session.meter refusal in
-          halted_at in_statement at (subst (OfFirst P) (sym first_ahead.1) (subst P rest breaks.2)) gained_is number
+          let P : List ℕ → Type 0 = λ bytes. (length bytes ≤ STATEMENT_MAX) × Refuses (started (moment_of at_front)) bytes session.meter refusal in
+          halted_at in_statement at (subst (OfFirst P) (sym first_ahead.1) (subst P rest (stopped.fed.short.last, breaks.2))) gained_is number
 
       refused_too_long : place_of refusal ≡ too_long → Answered first script old new status
       refused_too_long at =
@@ -161,9 +161,14 @@ module _ (first : Gauge) (script : List ℕ) (old new : Outside) (status : Statu
       refused_past_limit at =
           let full = breaks_at past_limit at in
           let front = stopped.front in
+          let none : SCRIPT_MAX - length front ≡ 0 = omega (arith, stopped.fed.taken, full) in
+          let cut : readable (front ++ stopped.byte ∷ more) ≡ front =
+          readable-append front (stopped.byte ∷ more) (omega (arith, stopped.fed.taken, full)) ∙ ap (λ (k : ℕ). front ++ take k (stopped.byte ∷ more)) none ∙ append-nil front in
+          let same : rest_of (readable script) ≡ stopped.at_front.rest = ap (λ (l : List ℕ). rest_of (readable l)) split_at ∙ ap rest_of cut ∙ sym stopped.fed.rest in
           halted_at past_limit at (
             ahead_full front (stopped.byte ∷ more) (omega (arith, stopped.fed.taken, full)),
             omega (arith, few, ap length stopped.split, length-append front (stopped.byte ∷ stopped.behind), stopped.fed.taken, full),
+            omega (arith, stopped.fed.short.last, ap length same),
           ) gained_is number
 
     -- whatever stopped it
@@ -178,7 +183,7 @@ module _ (first : Gauge) (script : List ℕ) (old new : Outside) (status : Statu
         let answers = h.2.0 in
         let fed = h.2.2 in
         halted taken left script_is answers session fed refusal status_is at_read at (
-          (h.0, refl, omega (arith, fed.taken, fed.within)),
+          (h.0, refl, omega (arith, fed.taken, fed.within), omega (arith, fed.short.last, ap length fed.rest)),
           h.2.1,
           line_for (length answers + 1) (omega (arith, fed.answered, h.1)),
           refl,
@@ -204,6 +209,7 @@ module _ (first : Gauge) (script : List ℕ) (old new : Outside) (status : Statu
             omega (arith, ap length whole, fed.taken, fed.within),
             h.0,
             λ blank. h.1.4 (subst IsBlank (sym rest) blank),
+            omega (arith, fed.short.last, ap length rest),
           ),
           h.1.2,
           line_for (length answers + 1) (omega (arith, fed.answered, h.1.5)),

@@ -113,13 +113,13 @@ complete_piece old piece answers new fault stopped valid short within no_overflo
 module _ (first : Gauge) (script : List ℕ) (valid : IsValidScript first script) (old new : Outside) (progress : Progress first script) (now : Gauge)
     (taken left : List ℕ) (script_is : script ≡ taken ++ left) (no_read : Rose old.reads new.reads → ⊥) (no_write : Rose old.writes new.writes → ⊥) (no_overflow : Rose first.overflows now.overflows → ⊥) (no_spent : Rose first.spents now.spents → ⊥) where
   -- the first statement ahead has no cause
-  first_ahead : (refusal : Refusal) (ahead : List (List ℕ)) → progress.ahead ≡ ahead → OfFirst (λ bytes. Refuses (started (record { state = progress.state; meter = progress.meter })) bytes now refusal) ahead → refusal ≡ NoMemory
+  first_ahead : (refusal : Refusal) (ahead : List (List ℕ)) → progress.ahead ≡ ahead → OfFirst (λ bytes. (length bytes ≤ STATEMENT_MAX) × Refuses (started (record { state = progress.state; meter = progress.meter })) bytes now refusal) ahead → refusal ≡ NoMemory
   first_ahead refusal [] is cause = absurd cause
   first_ahead refusal (bytes ∷ later) is cause =
       let split = ap statements (sym (take_all SCRIPT_MAX script valid.within)) ∙ progress.split ∙ ap (λ (l : List (List ℕ)). progress.done ++ l) is in
       let moment : Moment = record { state = progress.state; meter = progress.meter } in
       no_cause_behind first moment bytes now progress.carried
-      (valid.parts.each progress.done bytes later progress.answers moment split progress.run) no_overflow no_spent refusal cause
+      (valid.parts.each progress.done bytes later progress.answers moment split progress.run) no_overflow no_spent refusal cause.1
 
   only_memory : (refusal : Refusal) (place : Place) → place_of refusal ≡ place → HasCause first script progress taken now old new refusal place → refusal ≡ NoMemory
   only_memory refusal at_words at cause = absurd cause

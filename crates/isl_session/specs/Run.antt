@@ -78,13 +78,13 @@ OfFirst P (bytes ∷ later) = P bytes
 abbrev pub HasCause : (first : Gauge) (script : List ℕ) → Progress first script → List ℕ → Gauge → Outside → Outside → Refusal → Place → Type 0
 HasCause first script progress taken now old new refusal at_words = ⊥
 HasCause first script progress taken now old new refusal in_statement =
-    OfFirst (λ bytes. Refuses (started (record { state = progress.state; meter = progress.meter })) bytes now refusal) progress.ahead
+    OfFirst (λ bytes. (length bytes ≤ STATEMENT_MAX) × Refuses (started (record { state = progress.state; meter = progress.meter })) bytes now refusal) progress.ahead
 HasCause first script progress taken now old new refusal too_long = STATEMENT_MAX < length (next_part progress.ahead (rest_of (readable script)))
-HasCause first script progress taken now old new refusal past_limit = (progress.ahead ≡ []) × (length taken ≡ SCRIPT_MAX + 1)
+HasCause first script progress taken now old new refusal past_limit = (progress.ahead ≡ []) × (length taken ≡ SCRIPT_MAX + 1) × (length (rest_of (readable script)) ≤ STATEMENT_MAX)
 HasCause first script progress taken now old new refusal at_end =
-    (progress.ahead ≡ []) × (taken ≡ script) × (length script ≤ SCRIPT_MAX) × IsAtEnd new.left × (IsBlank (rest_of script) → ⊥)
+    (progress.ahead ≡ []) × (taken ≡ script) × (length script ≤ SCRIPT_MAX) × IsAtEnd new.left × (IsBlank (rest_of script) → ⊥) × (length (rest_of script) ≤ STATEMENT_MAX)
 HasCause first script progress taken now old new refusal at_read =
-    Rose old.reads new.reads × (progress.done ≡ statements taken) × (length taken ≤ SCRIPT_MAX)
+    Rose old.reads new.reads × (progress.done ≡ statements taken) × (length taken ≤ SCRIPT_MAX) × (length (rest_of taken) ≤ STATEMENT_MAX)
 HasCause first script progress taken now old new refusal at_write = Rose old.writes new.writes
 HasCause first script progress taken now old new refusal anywhere = Unit {0}
 
