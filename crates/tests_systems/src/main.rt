@@ -100,6 +100,9 @@ fn is_normalised(
 fn is_met(alloc: Global, case: &str, columns: usize) -> Result<bool, Cut> {
     let one = system_of(alloc, case, columns, "row ")?;
     let other = system_of(alloc, case, columns, "with ")?;
+    if one.columns != other.columns || !one.definitions.same(&other.definitions) {
+        return Ok(false);
+    }
     let found = meet(alloc, &one, &other)?;
     let wanted = rows_of(alloc, case, "want ")?;
     Ok(found.columns == columns && found.rows.as_slice() == wanted.as_slice())
