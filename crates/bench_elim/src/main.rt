@@ -1,21 +1,29 @@
-//! Takes a column out of a system again and again, to be timed: `bench_elim KIND COUNT`, where KIND is `stencil` or `skewed`. It prints
-//! how many systems were answered in all.
+//! Takes a column out of a system again and again, or asks whether the system is empty, to be timed: `bench_elim KIND COUNT`, where
+//! KIND is `stencil`, `skewed`, `remainder`, `nested` or `incongruent`. It prints how many systems a turn answered (of an
+//! emptiness: 1 where there is a point), and how many units it used.
 #![tactic(auto)]
 
-ghost use Rattle.std.specs.Prelude.{◌≡◌, ◌<◌, []};
+ghost use Rattle.std.specs.Prelude.{◌<◌};
 ghost use Rattle.isl_piece.specs.System.{IsSystemWithin, free_columns};
 
 mod systems;
 
-use isl_elim::eliminate;
+use isl_elim::{eliminate, is_empty};
 use isl_meter::{Cut, Meter};
 use isl_piece::System;
 use std::alloc::{AllocError, AllocGlobal, Global};
 use std::env;
 use std::env::Env;
 use std::process::ExitCode;
-use systems::{skewed, stencil};
+use systems::{incongruent, nested, remainder, skewed, stencil};
 use tests_made::is_proper;
+
+/// What a turn answered, and what it used.
+#[derive(Clone, Copy)]
+struct Turn {
+    systems: usize,
+    units: u64,
+}
 
 // The words of the command line, but for the program's name.
 fn words_of(rt: &(impl Env + AllocGlobal), alloc: Global) -> Result<Vec<String>, AllocError> {
@@ -25,37 +33,62 @@ fn words_of(rt: &(impl Env + AllocGlobal), alloc: Global) -> Result<Vec<String>,
     }
 }
 
-// How many systems are answered in `count` turns, each with a meter of its own.
-fn answered(alloc: Global, system: &System, col: usize, count: u64) -> Result<u64, Cut>
+// One turn, with a meter of its own.
+fn one_turn(alloc: Global, system: &System, col: Option<usize>) -> Result<Turn, Cut>
     requires system { IsSystemWithin (record { bits = 127; budget = 10000000; units = 0; overflows = 0; spents = 0 }) system.now }
-    requires plain { system.now.definitions ≡ [] }
-    requires col_in { col < free_columns system.now }
 {
-    let mut systems: u64 = 0;
+    let mut meter = Meter::new(127, 10_000_000);
+    let systems = match col {
+        Some(col) if col < system.free() => eliminate(alloc, system, col, &mut meter)?.len(),
+        _ => {
+            if is_empty(alloc, system, &mut meter)? {
+                0
+            } else {
+                1
+            }
+        }
+    };
+    Ok(Turn {
+        systems,
+        units: meter.units(),
+    })
+}
+
+// The last of `count` turns.
+fn turns(alloc: Global, system: &System, col: Option<usize>, count: u64) -> Result<Turn, Cut>
+    requires system { IsSystemWithin (record { bits = 127; budget = 10000000; units = 0; overflows = 0; spents = 0 }) system.now }
+{
+    let mut last = Turn {
+        systems: 0,
+        units: 0,
+    };
     'turns: for _turn in 0..count {
-        let mut meter = Meter::new(127, 10_000_000);
-        let found = eliminate(alloc, system, col, &mut meter)?;
-        systems = systems.saturating_add(found.len() as u64);
+        last = one_turn(alloc, system, col)?;
     }
-    Ok(systems)
+    Ok(last)
 }
 
-// The system of a kind, and the column that is taken out of it.
-fn system_of(alloc: Global, kind: &str) -> Result<(System, usize), AllocError> {
-    if kind == "stencil" {
-        Ok((stencil(alloc)?, 3))
-    } else {
-        Ok((skewed(alloc)?, 0))
+// The system of a kind, and the column that is taken out of it; none where its emptiness is asked.
+fn system_of(alloc: Global, kind: &str) -> Result<(System, Option<usize>), AllocError> {
+    match kind {
+        "stencil" => Ok((stencil(alloc)?, Some(3))),
+        "skewed" => Ok((skewed(alloc)?, Some(0))),
+        "remainder" => Ok((remainder(alloc)?, Some(0))),
+        "nested" => Ok((nested(alloc)?, Some(0))),
+        _ => Ok((incongruent(alloc)?, None)),
     }
 }
 
-fn timed(alloc: Global, kind: &str, count: u64) -> Result<u64, Cut> {
+fn timed(alloc: Global, kind: &str, count: u64) -> Result<Turn, Cut> {
     let (system, col) = system_of(alloc, kind)?;
     let meter = Meter::new(127, 10_000_000);
-    if is_proper(&system, &meter) && system.definitions.is_empty() && col < system.free() {
-        answered(alloc, &system, col, count)
+    if is_proper(&system, &meter) {
+        turns(alloc, &system, col, count)
     } else {
-        Ok(0)
+        Ok(Turn {
+            systems: 0,
+            units: 0,
+        })
     }
 }
 
@@ -71,7 +104,7 @@ fn main(rt: HostRuntime) -> ExitCode {
         return ExitCode::FAILURE;
     };
     match timed(alloc, kind, count) {
-        Ok(systems) => match println!(rt; "{systems}") {
+        Ok(turn) => match println!(rt; "{} systems, {} units", turn.systems, turn.units) {
             Ok(()) => ExitCode::SUCCESS,
             Err(_) => ExitCode::FAILURE,
         },

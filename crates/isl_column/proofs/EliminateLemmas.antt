@@ -1,18 +1,16 @@
 -- One column out of rows: what was pushed is what is left of them.
-use Rattle.std.proofs.Common.{◌≡◌, ◌≢◌, ◌↔◌, Option, Some, None, ◌∙◌, ap, arith, ℕ, zero, suc, ◌-◌, ◌<◌, ◌++◌, ℤ, pos, ◌≤ℤ◌, ◌<ℤ◌, List, [], ◌∷◌, length, get_or, take, ◌+◌, MatchOption}
+use Rattle.std.proofs.Common.{◌≡◌, ◌≢◌, ◌↔◌, arith, ℕ, zero, suc, ◌-◌, ◌<◌, ℤ, pos, ◌≤ℤ◌, ◌<ℤ◌, List, [], ◌∷◌, length, get_or}
 use Rattle.std.specs.List.{All, insert}
-use Rattle.std.proofs.lemmas.List.Elements.{All-head, All-tail, All-more, All-weaker}
+use Rattle.std.proofs.lemmas.List.Elements.{All-head, All-tail, All-weaker}
 use Rattle.isl_math.proofs.Ring.{linear}
 use Rattle.isl_math.proofs.OrderLaws.{positive-*ℤ, product_le}
 use Rattle.isl_math.proofs.ListLaws.{Any-first, Any-later}
 use Rattle.isl_meter.specs.Gauge.{Gauge}
 use Rattle.isl_piece.specs.declared.row.RowKind.TheVariants as kind
 use Rattle.isl_piece.specs.declared.row.Row.{Row}
-use Rattle.isl_piece.specs.Normal.{IsNormal}
 use Rattle.isl_piece.specs.Row.{HoldsRow, IsWellFormed, value_at, coef_at}
-use Rattle.isl_column.specs.Adds.{Adds}
 use Rattle.isl_omega.specs.Congruence.{product_of_divisors, period, product_of_periods}
-use Rattle.isl_column.specs.Column.{HoldAtSome, IsProjectionOf, IsEqualityAt}
+use Rattle.isl_column.specs.Column.{HoldAtSome, IsEqualityAt}
 use Rattle.isl_omega.specs.Equality.{HasEquality, IsSolvedBy}
 use Rattle.isl_column.specs.Residue.{HasNumber, sides_units}
 use Rattle.isl_omega.specs.Column.{IsProper}
@@ -21,10 +19,9 @@ use Rattle.isl_omega.specs.Step.{IsStepOf}
 use Rattle.isl_column.specs.Units.{product_of_moduli, elimination_units}
 use Rattle.isl_omega.specs.declared.sides.Side.TheVariants.{Lower, Upper}
 use Rattle.isl_omega.specs.declared.sides.Sides.{Sides}
-use Rattle.isl_column.proofs.AddsLemmas.{adds_same}
 use Rattle.isl_omega.proofs.PeriodLemmas.{period_short}
 use Rattle.isl_piece.proofs.RowLemmas.{HasModulus-positive}
-use Rattle.isl_omega.proofs.SideLemmas.{LackColumn, lacking_has_none, sides_hold, picked}
+use Rattle.isl_omega.proofs.SideLemmas.{sides_hold, picked}
 use Rattle.isl_column.proofs.UnitLemmas.{AreProducts, units_not_negative, same_lessened, moduli_products, step_cost}
 
 -- ---- no congruence: the step leaves the sides as they are
@@ -56,14 +53,13 @@ step_none g columns col sides s e = record {
 pub formed_of : (g : Gauge) (columns : ℕ) (rows : List Row) → All (IsProper g columns) rows → All (IsWellFormed columns) rows
 formed_of g columns rows w = All-weaker (IsProper g columns) (IsWellFormed columns) (λ r p. p.formed) rows w
 
--- what the sides add is the projection
-pub sides_project : (g : Gauge) (columns : ℕ) (rows : List Row) (col : ℕ) (sides new : Sides) (before after : List (List Row)) → AreSidesOf rows col sides → IsStepOf g columns col sides new → Adds g (columns - 1) (HasNumber new col) before after → Adds g (columns - 1) (HoldAtSome rows col) before after
-sides_project g columns rows col sides new before after s step a = adds_same g (columns - 1) (HasNumber new col) (HoldAtSome rows col) before after
-    (λ point n.
+-- where some number meets the sides that the step left, some number makes the rows hold
+pub sides_project : (g : Gauge) (columns : ℕ) (rows : List Row) (col : ℕ) (sides new : Sides) (point : List ℤ) → length point ≡ columns - 1 → AreSidesOf rows col sides → IsStepOf g columns col sides new → HasNumber new col point ↔ HoldAtSome rows col point
+sides_project g columns rows col sides new point n s step =
     let same = step.same point n in (
       (λ h. let x = same.1 h in (x.0, (sides_hold rows col sides point x.0 s).1 x.1)),
       (λ h. same.0 (h.0, (sides_hold rows col sides point h.0 s).0 h.1)),
-    )) a
+    )
 
 -- and costs no more than the rows' bounds
 pub sides_cost : (g : Gauge) (columns : ℕ) (rows : List Row) (col : ℕ) (sides new : Sides) → All (IsProper g columns) rows → AreSidesOf rows col sides → AreSided g columns col sides → IsStepOf g columns col sides new → sides_units col new ≤ℤ elimination_units rows col
@@ -80,22 +76,6 @@ most_not_negative g columns rows col w =
     (picked g columns col Upper rows (IsUpper g columns col) (λ r p m. record { proper = p; kind = m.0; factor = m.1 }) w)
 
 -- ---- an equality
-abbrev NotAt : ℕ → List Row → ℕ → Type 0
-NotAt col rows at = (d : Row) → (get_or rows at d).kind ≡ kind.Zero → coef_at (get_or rows at d) col ≡ pos 0
-
-pub found_next : (col : ℕ) (rows : List Row) (i : ℕ) (found better : Option ℕ) → i < length rows → MatchOption found (LackColumn col (take i rows)) (IsEqualityAt col rows) → MatchOption better ((found ≡ None) × NotAt col rows i) (IsEqualityAt col rows)
-    → MatchOption better (LackColumn col (take (i + 1) rows)) (IsEqualityAt col rows)
-found_next col rows i found (Some at) l f b = b
-found_next col rows i None None l f b =
-    let d : Row = record { kind = kind.Zero; coefs = []; constant = pos 0; k = pos 1 } in
-    All-more (λ (r : Row). r.kind ≡ kind.Zero → coef_at r col ≡ pos 0) rows i d l f (b.1 d)
-found_next col rows i (Some at) None l f b = let e = b.0 in cc
-
-pub found_none : (col : ℕ) (rows : List Row) (found : Option ℕ) → MatchOption found (LackColumn col rows) (IsEqualityAt col rows)
-    → MatchOption found (¬ HasEquality col rows) (IsEqualityAt col rows)
-found_none col rows None lack = lacking_has_none col rows lack
-found_none col rows (Some at) is = is
-
 abbrev IsEqualityOn : ℕ → Row → Type 0
 IsEqualityOn col r = (r.kind ≡ kind.Zero) × (coef_at r col ≢ pos 0)
 
@@ -113,9 +93,3 @@ solved_projects rows col at fixed point e l f = (
   where
     by : (r : Row) (xs : List ℤ) → r.kind ≡ kind.Zero → HoldsRow r xs → value_at r xs ≡ pos 0
     by r xs e h = rw e at h
-
--- ---- what was pushed on no answer
-pub adds_project : (g : Gauge) (columns : ℕ) (rows : List Row) (col : ℕ) (before after : List (List Row)) → before ≡ [] → Adds g (columns - 1) (HoldAtSome rows col) before after → IsProjectionOf columns rows col after × All (All (IsProper g (columns - 1))) after × All IsNormal after
-adds_project g columns rows col before after e a =
-    let all : after ≡ a.added = a.pushed ∙ ap (λ (xs : List (List Row)). xs ++ a.added) e in
-    rw all (a.points, a.proper, a.normal)

@@ -22,7 +22,7 @@ use Rattle.isl_omega.specs.declared.sides.Side.{Side}
 use Rattle.isl_omega.specs.declared.sides.Side.TheVariants.{Lower, Upper, Divides, NotDivides, Free}
 use Rattle.isl_omega.specs.declared.sides.Sides.{Sides}
 use Rattle.isl_column.proofs.DarkShadowLemmas.{dark_meets}
-use Rattle.isl_omega.proofs.ColumnLemmas.{rows_formed, moduli_of, settled_is}
+use Rattle.isl_omega.proofs.ColumnLemmas.{rows_formed, settled_is}
 use Rattle.isl_column.proofs.EliminateLemmas.{formed_of}
 use Rattle.isl_omega.proofs.ImageLemmas.{free_of_zero, answer_same}
 use Rattle.isl_math.proofs.ListLaws.{All-parts, All-unmapped}

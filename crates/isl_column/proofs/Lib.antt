@@ -1,9 +1,10 @@
-pub mod AddsLemmas
 pub mod CommonPeriods
 pub mod DarkShadowLemmas
 pub mod EliminateLemmas
 pub mod ExactLemmas
+pub mod LeastEquality
 pub mod NeighbourLemmas
+pub mod PartsLemmas
 pub mod ResidueLemmas
 pub mod SmallSides
 pub mod SmallSplinters

@@ -17,14 +17,12 @@ use Rattle.isl_piece.specs.declared.row.Row.{Row}
 use Rattle.isl_piece.specs.Row.{HoldsRow, IsWellFormed, IsRowWithin, value_at, coef_at}
 use Rattle.isl_omega.specs.Column.{IsFree, IsProper}
 use Rattle.isl_omega.specs.Step.{residue_row}
-use Rattle.isl_column.specs.Residue.{IsPeriod, HasNumber, HasResidue, IsResidueOf}
+use Rattle.isl_column.specs.Residue.{IsPeriod, HasNumber, HasResidue, HasResidueBelow, IsResidueOf}
 use Rattle.isl_omega.specs.Sides.{AreSided, SidesHold, IsDivides, IsNotDivides, is_same, side_of, side_of_kind}
 use Rattle.isl_omega.specs.Step.{IsSubstitutionOf, HasFactorsUpTo, IsStepOf}
 use Rattle.isl_omega.specs.Substitution.{IsProgressionOf, substituted}
 use Rattle.isl_omega.specs.declared.sides.Side.TheVariants.{NotDivides}
 use Rattle.isl_omega.specs.declared.sides.Sides.{Sides}
-use Rattle.isl_column.specs.Adds.{Adds}
-use Rattle.isl_column.proofs.AddsLemmas.{adds_none, adds_more, adds_same}
 use Rattle.isl_omega.proofs.MoveLemmas.{substituted_coefficient}
 use Rattle.isl_piece.proofs.RowLemmas.{HasModulus-positive}
 use Rattle.isl_omega.proofs.SideLemmas.{unless_zero, proper_kept}
@@ -182,32 +180,25 @@ residue_is g columns col p t scale offsets old new h = record {
         let n = step_narrowed g columns col r [] scale offsets (with_row old r) new is_step in
         record { lowers = n.lowers; uppers = n.uppers }
 
--- ---- all residues
--- some x meets the sides that leaves less than t when divided by p
-abbrev pub HasResidueBelow : Sides → ℕ → ℤ → ℤ → List ℤ → Type 0
-HasResidueBelow sides col p t point = (x : ℤ) × SidesHold sides col point x × (floor_mod x p <ℤ t)
-
-pub residues_first : (g : Gauge) (columns col : ℕ) (sides : Sides) (p t : ℤ) (old : List (List Row)) → pos 0 <ℤ p → t ≡ pos 0 → Adds g (columns - 1) (HasResidueBelow sides col p t) old old
-residues_first g columns col sides p t old h e = adds_none g (columns - 1) (HasResidueBelow sides col p t) old old refl
-    (λ point n a. by (floor_mod a.0 p) (floor_mod_bounds a.0 p h).0 a.2)
+-- ---- one residue after another
+pub residues_none : (sides : Sides) (col : ℕ) (p t : ℤ) (point : List ℤ) → pos 0 <ℤ p → t ≤ℤ pos 0 → ¬ HasResidueBelow sides col p t point
+residues_none sides col p t point h e a = by (floor_mod a.0 p) (floor_mod_bounds a.0 p h).0 a.2
   where
     by : (m : ℤ) → pos 0 ≤ℤ m → m <ℤ t → ⊥
     by m h k = omega (arith, linear)
 
-pub residues_next : (g : Gauge) (columns col : ℕ) (sides : Sides) (p t u : ℤ) (old new newer : List (List Row)) → pos 0 ≤ℤ t → t <ℤ p → u ≡ t +ℤ pos 1 → Adds g (columns - 1) (HasResidueBelow sides col p t) old new → Adds g (columns - 1) (HasResidue sides col p t) new newer
-    → Adds g (columns - 1) (HasResidueBelow sides col p u) old newer
-residues_next g columns col sides p t u old new newer n l e a b = adds_same g (columns - 1) (λ point. HasResidueBelow sides col p t point ⊎ HasResidue sides col p t point) (HasResidueBelow sides col p u) old newer
-    (λ point _. (
-      (λ h. elim h [
-        | inl a ↦ (a.0, a.1, less (floor_mod a.0 p) a.2)
-        | inr a ↦ (a.0, a.1, same (floor_mod a.0 p) (rest_from a.0 a.2))
-      ]),
-      (λ a. elim (split (floor_mod a.0 p) a.2) [
-        | inl c ↦ inl (a.0, a.1, c)
-        | inr f ↦ inr (a.0, a.1, Divides-same p (a.0 -ℤ floor_mod a.0 p) (a.0 -ℤ t) (ap (λ z. a.0 -ℤ z) f) (IsCongruent-floor_mod p a.0 (omega (arith, linear))))
-      ]),
-    ))
-    (adds_more g (columns - 1) (HasResidueBelow sides col p t) (HasResidue sides col p t) old new newer a b)
+pub residues_next : (sides : Sides) (col : ℕ) (p t u : ℤ) (point : List ℤ) → pos 0 ≤ℤ t → t <ℤ p → t ≡ u -ℤ pos 1
+    → HasResidueBelow sides col p u point ↔ (HasResidue sides col p t point ⊎ HasResidueBelow sides col p t point)
+residues_next sides col p t u point n l e = (
+  (λ a. elim (split (floor_mod a.0 p) a.2) [
+    | inl c ↦ inr (a.0, a.1, c)
+    | inr f ↦ inl (a.0, a.1, Divides-same p (a.0 -ℤ floor_mod a.0 p) (a.0 -ℤ t) (ap (λ z. a.0 -ℤ z) f) (IsCongruent-floor_mod p a.0 (omega (arith, linear))))
+  ]),
+  (λ h. elim h [
+    | inr a ↦ (a.0, a.1, less (floor_mod a.0 p) a.2)
+    | inl a ↦ (a.0, a.1, same (floor_mod a.0 p) (rest_from a.0 a.2))
+  ]),
+)
   where
     less : (m : ℤ) → m <ℤ t → m <ℤ u
     less m h = omega (arith, linear)
@@ -224,15 +215,8 @@ residues_next g columns col sides p t u old new newer n l e a b = adds_same g (c
         nought : (p t : ℤ) → p *ℤ pos 0 +ℤ t ≡ t
         nought p t = omega (arith, linear)
 
-pub residues_done : (g : Gauge) (columns col : ℕ) (sides : Sides) (p t : ℤ) (old new : List (List Row)) → pos 0 <ℤ p → p ≤ℤ t → Adds g (columns - 1) (HasResidueBelow sides col p t) old new → Adds g (columns - 1) (HasNumber sides col) old new
-residues_done g columns col sides p t old new h l a = adds_same g (columns - 1) (HasResidueBelow sides col p t) (HasNumber sides col) old new
-    (λ point n. (
-      (λ a. (a.0, a.1)),
-      (λ a. (a.0, a.1, by (floor_mod a.0 p) (floor_mod_bounds a.0 p h).1)),
-    )) a
-  where
-    by : (m : ℤ) → m <ℤ p → m <ℤ t
-    by m h = omega (arith, linear)
+pub residues_all : (sides : Sides) (col : ℕ) (p : ℤ) (point : List ℤ) → pos 0 <ℤ p → HasResidueBelow sides col p p point ↔ HasNumber sides col point
+residues_all sides col p point h = ((λ a. (a.0, a.1)), (λ a. (a.0, a.1, (floor_mod_bounds a.0 p h).1)))
 
 -- ---- what is said of sides does not depend on what the meter counted
 pub sided_kept : (g h : Gauge) (columns col : ℕ) (s : Sides) → h.bits ≡ g.bits → AreSided h columns col s → AreSided g columns col s

@@ -14,7 +14,9 @@ use Rattle.isl_math.specs.Divide.{floor_div, floor_mod}
 use Rattle.isl_math.proofs.Ring.{expand, linear}
 use Rattle.isl_math.proofs.OrderLaws.{*ℤ-≤ℤ, ≤ℤ-*ℤ, positive-*ℤ, not_negative-*ℤ, product_le, negative-*ℤ}
 use Rattle.isl_math.proofs.DivideLaws.{mod-from_Divides, Divides-zero}
-use Rattle.isl_meter.specs.Gauge.{Gauge}
+use Rattle.isl_meter.specs.Gauge.{Gauge, IsChargedUpTo, IsCutUpTo}
+use Rattle.isl_meter.specs.declared.Cut.{Cut}
+use Rattle.isl_meter.proofs.UnitLemmas.{cut_weaker}
 use Rattle.isl_piece.specs.declared.row.RowKind.{RowKind}
 use Rattle.isl_piece.specs.declared.row.RowKind.TheVariants as kind
 use Rattle.isl_piece.specs.declared.row.Row.{Row}
@@ -24,7 +26,7 @@ use Rattle.isl_omega.specs.Congruence.{product_of_divisors, product_of_periods}
 use Rattle.isl_column.specs.Residue.{splinter_bound, shadow_units, residue_units, residues_units, sides_units, IsPeriod, IsResidueOf}
 use Rattle.isl_omega.specs.Shadow.{splinters}
 use Rattle.isl_omega.specs.Sides.{IsLower, IsUpper, IsNotDivides, AreSided, on_side, side_of, side_of_kind, is_same, unless_multiple}
-use Rattle.isl_omega.specs.Step.{IsStepOf}
+use Rattle.isl_omega.specs.Step.{HasFactorsUpTo, IsStepOf}
 use Rattle.isl_omega.specs.Tighten.{IsLessened}
 use Rattle.isl_column.specs.Units.{greatest_factor, counted_splinters, sum_of_splinters, all_splinters, pairs, modulus_of, product_of_moduli, units_of_bounds}
 use Rattle.isl_column.specs.declared.dark_shadow.DarkShadow.{DarkShadow}
@@ -210,6 +212,14 @@ pairs_narrowed col k lowers uppers fewer lesser zl zu =
     let R : Row → Row → Type 0 = λ a b. IsLessened (k *ℤ coef_at a col) (coef_at b col) in
     let a = length_all_zip R lowers fewer zl in
     let b = length_all_zip R uppers lesser zu in
+    rw (← a, ← b) refl
+
+-- as many pairs as before
+pub pairs_kept : (col : ℕ) (k : ℤ) (old new : Sides) → HasFactorsUpTo col k old new → length new.lowers * length new.uppers ≡ length old.lowers * length old.uppers
+pairs_kept col k old new n =
+    let R : Row → Row → Type 0 = λ a b. IsLessened (k *ℤ coef_at a col) (coef_at b col) in
+    let a = length_all_zip R old.lowers new.lowers n.lowers in
+    let b = length_all_zip R old.uppers new.uppers n.uppers in
     rw (← a, ← b) refl
 
 -- ---- one residue
@@ -443,13 +453,6 @@ residues_units_not_negative g columns col s a =
     let x = residue_units_positive g columns col (product_of_periods col s.not_divides) s p a in
     not_negative-*ℤ (product_of_periods col s.not_divides) (residue_units col (product_of_periods col s.not_divides) s) (omega (arith, linear)) (omega (arith, linear))
 
--- one residue more, of p
-pub residue_turn : (t x p z : ℤ) → pos 0 ≤ℤ x → (t +ℤ pos 1) ≤ℤ p → (p *ℤ x) ≤ℤ z → (t *ℤ x +ℤ x) ≤ℤ z
-residue_turn t x p z n l h = let m = simp expand at (≤ℤ-*ℤ x (t +ℤ pos 1) p n l) in let h' = simp expand at h in simp expand (omega (arith, linear))
-
-pub residue_next : (t u x : ℤ) → u ≡ t +ℤ pos 1 → (t *ℤ x +ℤ x) ≤ℤ (u *ℤ x)
-residue_next t u x e = let e' = simp expand at (ap (λ w. w *ℤ x) e) in simp expand (omega (arith, linear))
-
 pub moduli_positive : (columns col : ℕ) (rows : List Row) → All (IsWellFormed columns) rows → pos 0 <ℤ product_of_moduli col rows
 moduli_positive columns col rows w =
     let m = moduli_products columns col rows w in
@@ -472,3 +475,22 @@ pairs_cost g columns col rows lowers uppers w hl hu =
     let p = moduli_positive columns col rows w in
     let s = all_splinters_not_negative g columns col r lowers uppers p hl hu in
     at_least_once r (pairs lowers uppers) (all_splinters col r lowers uppers) (pairs lowers uppers) p (pairs_not_negative lowers uppers) s (omega (arith, linear))
+
+-- the dark shadow of sides with its splinters
+pub shadow_within : (g h : Gauge) (columns col : ℕ) (s : Sides) (dark_shadow : DarkShadow) → AreSided g columns col s → IsDarkShadowOf g columns col s dark_shadow → HasFewSplinters col s dark_shadow.tails.items
+    → IsChargedUpTo (pos (length s.lowers * length s.uppers)) g h → (pos h.units +ℤ splinter_count dark_shadow.tails.items) ≤ℤ (pos g.units +ℤ shadow_units col s)
+shadow_within g h columns col s dark_shadow a is few charged =
+    let most = tails_bounded g columns col s dark_shadow s.uppers refl a is few in
+    let own = charged.most in
+    omega (arith, linear)
+
+pub shadow_cut : (g h : Gauge) (columns col : ℕ) (s : Sides) (cut : Cut) → AreSided g columns col s → IsCutUpTo (pos (length s.lowers * length s.uppers)) g h cut → IsCutUpTo (shadow_units col s) g h cut
+shadow_cut g h columns col s cut a own =
+    let more = bound_not_negative g columns col (nat_lt 0 (length s.not_divides)) s.lowers s.uppers a.lowers a.uppers in
+    cut_weaker (pos (length s.lowers * length s.uppers)) (shadow_units col s) g h cut (omega (arith, linear)) own
+
+-- the pairs alone are no more
+pub pairs_first : (g : Gauge) (columns col : ℕ) (s : Sides) → AreSided g columns col s → pos (length s.lowers * length s.uppers) ≤ℤ shadow_units col s
+pairs_first g columns col s a =
+    let more = bound_not_negative g columns col (nat_lt 0 (length s.not_divides)) s.lowers s.uppers a.lowers a.uppers in
+    omega (arith, linear)

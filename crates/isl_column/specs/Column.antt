@@ -1,5 +1,5 @@
 -- public: what is left of rows without one of their columns. (Pugh, the Omega test; isl manual, on projections)
-use Rattle.std.specs.Prelude.{◌≡◌, ◌≢◌, ◌↔◌, ℕ, ◌-◌, ◌<◌, ℤ, pos, List, length, All, Any, slice_index_or}
+use Rattle.std.specs.Prelude.{◌≡◌, ◌≢◌, ◌↔◌, ℕ, ◌-◌, ◌<◌, ℤ, pos, List, length, Any, slice_index_or}
 use Rattle.std.specs.List.{insert}
 use Rattle.isl_piece.specs.declared.row.RowKind.TheVariants.{Zero}
 use Rattle.isl_piece.specs.declared.row.Row.{Row}

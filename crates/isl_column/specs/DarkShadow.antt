@@ -1,5 +1,5 @@
 -- inner: the dark shadow of the sides of a column, and splinters. (Pugh, the Omega test)
-use Rattle.std.specs.Prelude.{◌≡◌, ◌≢◌, ◌↔◌, ◌⊎◌, Bool, true, false, map, nat_lt, ℕ, ◌-◌, ℤ, pos, negsuc, neg_ℤ, ◌+ℤ◌, ◌-ℤ◌, ◌≤ℤ◌, ◌<ℤ◌, List, [], ◌∷◌, ◌++◌, length, All, Any, Option, MatchOption, IfSome}
+use Rattle.std.specs.Prelude.{◌≡◌, ◌≢◌, ◌↔◌, ◌⊎◌, Bool, true, false, map, nat_lt, ℕ, ◌-◌, ℤ, pos, negsuc, neg_ℤ, ◌+ℤ◌, ◌-ℤ◌, ◌≤ℤ◌, ◌<ℤ◌, List, [], ◌∷◌, ◌++◌, length, All, Any, Option, None, MatchOption, IfSome}
 use Rattle.std.specs.List.{insert}
 use Rattle.isl_meter.specs.Gauge.{Gauge, IsWithin}
 use Rattle.isl_piece.specs.declared.row.Row.{Row}
@@ -59,6 +59,29 @@ pub record IsDarkShadowOf (g : Gauge) (columns col : ℕ) (sides : Sides) (dark_
   pub is_dark_shadow : IsDarkShadow g columns col dark_shadow
   pub points : (point : List ℤ) → length point ≡ columns - 1 → ((x : ℤ) × SidesHold sides col point x) ↔ HoldsDarkShadow dark_shadow col point
   pub open_above : sides.uppers ≡ [] → dark_shadow.tails.items ≡ []
+
+-- ---- one splinter after another
+-- the splinters without the last
+abbrev pub without_last : Splinters → Splinters
+without_last t = record { lower = t.lower; last = t.last -ℤ pos 1 }
+
+-- the tail was put back without its last splinter
+pub record IsSplit (old : DarkShadow) (t : Splinters) (new : DarkShadow) : Type 0 where
+  pub rows : new.rows ≡ old.rows
+  pub dark : new.dark ≡ old.dark
+  pub tails : new.tails.items ≡ old.tails.items ++ without_last t ∷ []
+
+-- these rows were taken out of a dark shadow
+pub record IsTakenOut (g : Gauge) (columns col : ℕ) (old : DarkShadow) (rows : List Row) (new : DarkShadow) : Type 0 where
+  pub proper : All (IsProper g (columns - 1)) rows
+  pub normal : IsNormal rows
+  pub points : (point : List ℤ) → length point ≡ columns - 1 → HoldsDarkShadow old col point ↔ (HoldRows rows point ⊎ HoldsDarkShadow new col point)
+  pub rest : IsDarkShadow g columns col new
+  pub dark : new.dark ≡ None
+
+-- it holds nowhere
+abbrev pub IsNoDarkShadow : ℕ → ℕ → DarkShadow → Type 0
+IsNoDarkShadow columns col dark_shadow = (point : List ℤ) → length point ≡ columns - 1 → ¬ HoldsDarkShadow dark_shadow col point
 
 -- ---- how many splinters
 -- the splinters of tails

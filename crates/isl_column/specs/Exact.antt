@@ -1,6 +1,6 @@
 -- public: columns whose shadow is exact: wherever a rational number meets the bounds a whole one does, so that their real rows are all that is left.
 -- (Pugh, the Omega test)
-use Rattle.std.specs.Prelude.{◌≡◌, ◌≢◌, ◌⊎◌, ℕ, pos, List, [], ◌∷◌, ◌++◌, ◌*◌, All, length, map, Option, option_to_list}
+use Rattle.std.specs.Prelude.{◌≡◌, ◌≢◌, ◌⊎◌, ℕ, pos, List, [], ◌∷◌, ◌++◌, ◌*◌, All, length, map, Option}
 use Rattle.isl_math.specs.Order.{abs_of}
 use Rattle.isl_meter.specs.Gauge.{Gauge}
 use Rattle.isl_piece.specs.declared.row.Row.{Row}
@@ -35,10 +35,6 @@ rows_left col rows = on_side Free col rows ++ real_rows col (on_side Lower col r
 -- those rows without the column in normal form; none where no point is left
 abbrev pub exact_rows : List Row → ℕ → Option (List Row)
 exact_rows rows col = normal_rows (map (λ r. dropped r col) (rows_left col rows))
-
--- what was answered before, and what is left
-abbrev pub AddsExactly : List Row → ℕ → List (List Row) → List (List Row) → Type 0
-AddsExactly rows col old new = new ≡ old ++ option_to_list (exact_rows rows col)
 
 -- how many pairs of a lower and an upper bound there are
 abbrev pub pairs_on : ℕ → List Row → ℕ

@@ -1,7 +1,14 @@
-pub mod Adds
 pub mod Column
 pub mod DarkShadow
 pub mod Exact
 pub mod Magnitude
+pub mod Parts
 pub mod Residue
+pub mod Solved
 pub mod Units
+pub use Rattle.isl_meter.specs.Gauge
+pub use Rattle.isl_omega.specs.Equality
+pub use Rattle.isl_omega.specs.Sides
+pub use Rattle.isl_piece.specs.Normal
+pub use Rattle.isl_piece.specs.Row
+pub use Rattle.isl_piece.specs.System

@@ -32,6 +32,10 @@ HasNumber sides col point = (x : ℤ) × SidesHold sides col point x
 abbrev pub HasResidue : Sides → ℕ → ℤ → ℤ → List ℤ → Type 0
 HasResidue sides col p t point = (x : ℤ) × SidesHold sides col point x × divide.Divides p (x -ℤ t)
 
+-- some does that leaves less than t when divided by p
+abbrev pub HasResidueBelow : Sides → ℕ → ℤ → ℤ → List ℤ → Type 0
+HasResidueBelow sides col p t point = (x : ℤ) × SidesHold sides col point x × (divide.floor_mod x p <ℤ t)
+
 -- sides with p y + t in the column's place, where p is a period of the rows that divisors must not divide
 pub record IsResidueOf (g : Gauge) (columns col : ℕ) (p t : ℤ) (old new : Sides) : Type 0 where
   pub sided : AreSided g columns col new

@@ -2,8 +2,9 @@
 
 ghost use Rattle.std.specs.Prelude.{◌≡◌, ◌≢◌, ◌⊎◌, ◌<◌, ◌*◌, [], true, false, All, IfOk, length, map, MatchResult, ◌^◌, pos};
 ghost use Rattle.isl_piece.specs.Row.{IsRowWithin, IsRowUpTo};
-ghost use Rattle.isl_meter.specs.Gauge.{IsCutUpTo, IsDone, IsDoneWithin};
+ghost use Rattle.isl_meter.specs.Gauge.{IsCutUpTo, IsDone};
 ghost use Rattle.isl_omega.specs.Magnitude.{IsNoOverflow, IsNoOverflowWith, AreSidesUpTo};
+ghost use Rattle.isl_omega.specs.Units.{IsDoneFor};
 ghost use Rattle.isl_column.specs.Magnitude.{IsSmallDarkShadow};
 
 use isl_meter::{Cut, Meter};
@@ -71,7 +72,7 @@ impl DarkShadow {
     ) -> Result<(Rows, Vec<Splinters>), Cut>
         requires sided { AreSided meter.old columns col sides.now }
         requires col_in { col < columns }
-        ensures exact { IsDoneWithin (pos (length sides.now.lowers * length sides.now.uppers)) meter.old meter.new
+        ensures exact { IsDoneFor (length sides.now.lowers * length sides.now.uppers) meter.old meter.new
             (λ pair. AreShadowsOf meter.old columns col sides.now pair.0 pair.1.items) result }
         ensures no_overflow { meter.old.bits ≡ 127 → AreSidesUpTo (2 ^ 61) sides.now → IsNoOverflow result }
     {
@@ -131,7 +132,7 @@ impl DarkShadow {
         requires not_divides { length sides.now.not_divides < 2 }
         requires uppers { sides.now.uppers ≢ [] }
         requires col_in { col < columns }
-        ensures exact { IsDoneWithin (pos (length sides.now.lowers * length sides.now.uppers)) meter.old meter.new
+        ensures exact { IsDoneFor (length sides.now.lowers * length sides.now.uppers) meter.old meter.new
             (IsDarkShadowWithFewSplinters meter.old columns col sides.now) result }
         ensures no_overflow { meter.old.bits ≡ 127 → AreSidesUpTo (2 ^ 61) sides.now → IsNoOverflowWith IsSmallDarkShadow result }
     {
@@ -155,7 +156,7 @@ impl DarkShadow {
         requires divides { sides.now.divides ≡ [] }
         requires not_divides { length sides.now.not_divides < 2 }
         requires col_in { col < columns }
-        ensures exact { IsDoneWithin (pos (length sides.now.lowers * length sides.now.uppers)) meter.old meter.new
+        ensures exact { IsDoneFor (length sides.now.lowers * length sides.now.uppers) meter.old meter.new
             (IsDarkShadowWithFewSplinters meter.old columns col sides.now) result }
         ensures no_overflow { meter.old.bits ≡ 127 → AreSidesUpTo (2 ^ 61) sides.now → IsNoOverflowWith IsSmallDarkShadow result }
     {

@@ -2,23 +2,23 @@
 
 ghost use Rattle.std.specs.Prelude.{◌≡◌, ◌↔◌, ◌-◌, ◌<◌, ◌∷◌, ◌*◌, ◌^◌, [], All, length, map, IfOk, IsTrue, MatchResult, pos, ◌+◌, ◌≤◌};
 ghost use Rattle.isl_piece.specs.Row.{IsRowWithin, IsRowUpTo};
-ghost use Rattle.isl_column.specs.Adds.{AddsProjection};
-ghost use Rattle.isl_omega.specs.Column.{dropped, IsProper};
+ghost use Rattle.isl_column.specs.Column.{HoldAtSome};
+ghost use Rattle.isl_omega.specs.Column.{dropped, IsAnswerFor, IsProper};
 ghost use Rattle.isl_omega.specs.Equality.{HasEquality};
-ghost use Rattle.isl_column.specs.Exact.{IsExactRow, IsExactColumn, real_rows, rows_left, pairs_on, AddsExactly, AreAdded};
+ghost use Rattle.isl_column.specs.Exact.{IsExactRow, IsExactColumn, real_rows, rows_left, pairs_on, exact_rows, AreAdded};
 ghost use Rattle.isl_omega.specs.Shadow.{real_row};
 ghost use Rattle.isl_omega.specs.Magnitude.{IsNoOverflow};
+ghost use Rattle.isl_omega.specs.Units.{IsDoneFor};
 ghost use Rattle.isl_column.specs.Magnitude.{HaveSmallNumbers};
 ghost use Rattle.isl_omega.specs.Sides.{IsLower, IsUpper, on_side};
 ghost use Rattle.isl_column.specs.Units.{elimination_units};
 ghost use Rattle.isl_meter.specs.Gauge.{IsCutUpTo, IsDoneWithin};
 
-use crate::splinters::push_left;
 use isl_meter::{Cut, Int, Meter};
-use isl_omega::combine::{sum_of, weighted_without};
+use isl_omega::combine::weighted_without;
 use isl_omega::rows::row_without;
 use isl_omega::sides::Side;
-use isl_piece::{Row, RowKind, Rows};
+use isl_piece::{Row, RowKind, Rows, sum_of};
 use std::alloc::Global;
 
 // Whether the row leaves the column exact where the bounds on `side` are to have the factor 1.
@@ -102,7 +102,7 @@ fn push_pair(
     requires lower { IsLower meter.old columns col lower.now }
     requires row { IsProper meter.old columns row.now }
     requires col_in { col < columns }
-    ensures exact { IsDoneWithin (pos (length (on_side Side.Upper col (row.now ∷ [])))) meter.old meter.new
+    ensures exact { IsDoneFor (length (on_side Side.Upper col (row.now ∷ []))) meter.old meter.new
         (λ _. AreAdded meter.old col (map (real_row col lower.now) (on_side Side.Upper col (row.now ∷ []))) short.old short.new) result }
     ensures no_overflow { meter.old.bits ≡ 127 → IsRowUpTo (2 ^ 30) lower.now → IsRowUpTo (2 ^ 30) row.now → IsNoOverflow result }
 {
@@ -128,7 +128,7 @@ fn push_pairs_of(
     requires lower { IsLower meter.old columns col lower.now }
     requires rows { All (IsProper meter.old columns) rows.now }
     requires col_in { col < columns }
-    ensures exact { IsDoneWithin (pos (length (on_side Side.Upper col rows.now))) meter.old meter.new
+    ensures exact { IsDoneFor (length (on_side Side.Upper col rows.now)) meter.old meter.new
         (λ _. AreAdded meter.old col (map (real_row col lower.now) (on_side Side.Upper col rows.now)) short.old short.new) result }
     ensures no_overflow { meter.old.bits ≡ 127 → IsRowUpTo (2 ^ 30) lower.now → All (IsRowUpTo (2 ^ 30)) rows.now → IsNoOverflow result }
 {
@@ -151,8 +151,7 @@ fn push_lower(
     requires row { IsProper meter.old columns row.now }
     requires rows { All (IsProper meter.old columns) rows.now }
     requires col_in { col < columns }
-    ensures exact { IsDoneWithin (pos (length (on_side Side.Lower col (row.now ∷ [])) * length (on_side Side.Upper col rows.now)))
-        meter.old meter.new
+    ensures exact { IsDoneFor (length (on_side Side.Lower col (row.now ∷ [])) * length (on_side Side.Upper col rows.now)) meter.old meter.new
         (λ _. AreAdded meter.old col (real_rows col (on_side Side.Lower col (row.now ∷ [])) (on_side Side.Upper col rows.now))
         short.old short.new) result }
     ensures no_overflow { meter.old.bits ≡ 127 → IsRowUpTo (2 ^ 30) row.now → All (IsRowUpTo (2 ^ 30)) rows.now → IsNoOverflow result }
@@ -174,7 +173,7 @@ fn push_pairs(
 ) -> Result<(), Cut>
     requires rows { All (IsProper meter.old columns) rows.now }
     requires col_in { col < columns }
-    ensures exact { IsDoneWithin (pos (pairs_on col rows.now)) meter.old meter.new
+    ensures exact { IsDoneFor (pairs_on col rows.now) meter.old meter.new
         (λ _. AreAdded meter.old col (real_rows col (on_side Side.Lower col rows.now) (on_side Side.Upper col rows.now))
         short.old short.new) result }
     ensures no_overflow { meter.old.bits ≡ 127 → All (IsRowUpTo (2 ^ 30)) rows.now → IsNoOverflow result }
@@ -237,7 +236,7 @@ fn short_rows(
 ) -> Result<Rows, Cut>
     requires rows { All (IsProper meter.old columns) rows.now }
     requires col_in { col < columns }
-    ensures exact { IsDoneWithin (pos (pairs_on col rows.now)) meter.old meter.new
+    ensures exact { IsDoneFor (pairs_on col rows.now) meter.old meter.new
         (λ short. AreAdded meter.old col (rows_left col rows.now) [] short) result }
     ensures no_overflow { meter.old.bits ≡ 127 → All (IsRowUpTo (2 ^ 30)) rows.now → IsNoOverflow result }
 {
@@ -247,27 +246,25 @@ fn short_rows(
     Ok(short)
 }
 
-/// Pushes what is left where the column is exact: one list of rows, or none where no point is left.
-pub(crate) fn push_exact(
+/// What is left where the column is exact: one list of rows, or none where no point is left.
+pub(crate) fn exact_left(
     alloc: Global,
     rows: &[Row],
     columns: usize,
     col: usize,
-    answers: &mut Vec<Rows>,
     meter: &mut Meter,
-) -> Result<(), Cut>
+) -> Result<Option<Rows>, Cut>
     requires rows { All (IsProper meter.old columns) rows.now }
     requires col_in { col < columns }
     requires none { ¬ HasEquality col rows.now }
     requires exact { IsExactColumn col rows.now }
     ensures exact { IsDoneWithin (elimination_units rows.now col) meter.old meter.new
-        (λ _. AddsProjection meter.old columns rows.now col answers.old.items answers.new.items) result }
-    ensures left { IfOk result (λ _. AddsExactly rows.now col answers.old.items answers.new.items) }
+        (λ left. IsAnswerFor meter.old (columns - 1) (HoldAtSome rows.now col) left) result }
+    ensures left { IfOk result (λ left. left ≡ exact_rows rows.now col) }
+    ensures pairs { IfOk result (λ _. meter.old.units + pairs_on col rows.now ≤ meter.new.units) }
     ensures no_overflow { meter.old.bits ≡ 127 → HaveSmallNumbers rows.now → IsNoOverflow result }
-    ensures counted { IfOk result (λ _. length answers.new.items + meter.old.units ≤ length answers.old.items + meter.new.units + 1) }
 {
     let short = short_rows(alloc, rows, columns, col, meter)?;
     let left = short.normalise(alloc, meter)?;
-    push_left(left, answers)?;
-    Ok(())
+    Ok(left)
 }

@@ -4,8 +4,11 @@
 
 mod dark_shadow;
 mod eliminate;
+mod equality;
 mod exact;
+mod parts;
 mod residue;
 mod splinters;
 
 pub use eliminate::eliminate_rows;
+pub use parts::Parts;

@@ -1,19 +1,17 @@
 //! Several rows of one column that divisors must not divide: one residue after another.
 
-ghost use Rattle.std.specs.Prelude.{◌≡◌, ◌-◌, ◌<◌, ◌<ℤ◌, [], pos, All, length, MatchResult, ◌^◌, ◌+◌, ◌≤◌, IfOk};
+ghost use Rattle.std.specs.Prelude.{◌≡◌, ◌-◌, ◌<◌, ◌<ℤ◌, ◌≤ℤ◌, ◌+ℤ◌, [], pos, All, length, None, IfSome, MatchOption, MatchResult, IfOk, ◌+◌, ◌*◌};
 ghost use Rattle.isl_meter.specs.Gauge.{IsWithin, IsCutUpTo, IsDone, IsDoneWithin};
-ghost use Rattle.isl_column.specs.Adds.{Adds};
 ghost use Rattle.isl_omega.specs.Congruence.{period};
-ghost use Rattle.isl_column.specs.Residue.{IsCommonMultiple, IsPeriod, HasNumber, HasResidue, IsResidueOf, shadow_units, residue_units, residues_units, sides_units};
+ghost use Rattle.isl_column.specs.DarkShadow.{splinter_count};
+ghost use Rattle.isl_column.specs.Residue.{IsCommonMultiple, IsPeriod, IsResidueOf, residue_units};
 ghost use Rattle.isl_omega.specs.Sides.{IsNotDivides, AreSided};
-ghost use Rattle.isl_omega.specs.Magnitude.{IsNoOverflow, AreSidesUpTo};
 
 use crate::dark_shadow::DarkShadow;
-use crate::splinters::push_dark_shadow;
 use isl_meter::{Cut, Int, Meter, Overflow};
 use isl_omega::sides::Sides;
 use isl_omega::step::Progression;
-use isl_piece::{Row, Rows};
+use isl_piece::Row;
 use std::alloc::Global;
 
 // A common multiple, which is at most the product.
@@ -88,102 +86,90 @@ fn residue_of(
     Ok(new)
 }
 
-// Pushes what sides leave that have at most one row that a modulus must not divide.
-fn push_shadow(
-    alloc: Global,
-    sides: &Sides,
-    columns: usize,
-    col: usize,
-    answers: &mut Vec<Rows>,
-    meter: &mut Meter,
-) -> Result<(), Cut>
-    requires sided { AreSided meter.old columns col sides.now }
-    requires divides { sides.now.divides ≡ [] }
-    requires not_divides { length sides.now.not_divides < 2 }
-    requires col_in { col < columns }
-    ensures exact { IsDoneWithin (shadow_units col sides.now) meter.old meter.new
-        (λ _. Adds meter.old (columns - 1) (HasNumber sides.now col) answers.old.items answers.new.items) result }
-    ensures no_overflow { meter.old.bits ≡ 127 → AreSidesUpTo (2 ^ 61) sides.now → IsNoOverflow result }
-    ensures counted { IfOk result (λ _. length answers.new.items + meter.old.units ≤ length answers.old.items + meter.new.units + 1) }
-{
-    let dark_shadow = DarkShadow::of(alloc, sides, columns, col, meter)?;
-    push_dark_shadow(alloc, dark_shadow, columns, col, answers, meter)?;
-    Ok(())
+/// The residues that are still to come, those below `left`, of sides without congruences.
+#[derive(Drop)]
+pub(crate) struct Residues {
+    pub sides: Sides,
+    pub period: Int,
+    pub left: Int,
 }
 
-// Pushes what is left of one residue.
-fn push_residue(
-    alloc: Global,
-    sides: &Sides,
-    period: Int,
-    rest: Int,
-    columns: usize,
-    col: usize,
-    answers: &mut Vec<Rows>,
-    meter: &mut Meter,
-) -> Result<(), Cut>
-    requires sided { AreSided meter.old columns col sides.now }
-    requires divides { sides.now.divides ≡ [] }
-    requires period { IsPeriod col sides.now.not_divides period }
-    requires period_within { IsWithin meter.old period }
-    requires rest_within { IsWithin meter.old rest }
-    requires col_in { col < columns }
-    ensures exact { IsDoneWithin (residue_units col period sides.now) meter.old meter.new
-        (λ _. Adds meter.old (columns - 1) (HasResidue sides.now col period rest) answers.old.items answers.new.items) result }
-    ensures counted { IfOk result (λ _. length answers.new.items + meter.old.units ≤ length answers.old.items + meter.new.units) }
-{
-    meter.unit()?;
-    let residue = residue_of(alloc, sides, period, rest, columns, col, meter)?;
-    push_shadow(alloc, &residue, columns, col, answers, meter)?;
-    Ok(())
-}
+impl Residues {
+    ghost use Rattle.isl_column.specs.Parts.{AreResidues, IsOpened, IsOpenedFrom, IsNoResidue, residues_most, residues_least};
 
-/// Pushes what sides without congruences leave: one residue after another, each of which costs a unit.
-pub(crate) fn push_residues(
-    alloc: Global,
-    sides: &Sides,
-    columns: usize,
-    col: usize,
-    answers: &mut Vec<Rows>,
-    meter: &mut Meter,
-) -> Result<(), Cut>
-    requires sided { AreSided meter.old columns col sides.now }
-    requires divides { sides.now.divides ≡ [] }
-    requires some { 0 < length sides.now.not_divides }
-    requires col_in { col < columns }
-    ensures exact { IsDoneWithin (residues_units col sides.now) meter.old meter.new
-        (λ _. Adds meter.old (columns - 1) (HasNumber sides.now col) answers.old.items answers.new.items) result }
-    ensures counted { IfOk result (λ _. length answers.new.items + meter.old.units ≤ length answers.old.items + meter.new.units) }
-{
-    let period = common_period(sides.not_divides.as_slice(), columns, col, meter)?;
-    let mut rest = Int::ZERO;
-    'residues: while rest < period {
-        push_residue(alloc, sides, period, rest, columns, col, answers, meter)?;
-        rest = rest.add(Int::ONE, meter)?;
+    /// All residues of the sides by a common period of the rows that moduli must not divide.
+    pub(crate) fn of(
+        sides: Sides,
+        columns: usize,
+        col: usize,
+        meter: &mut Meter,
+    ) -> Result<Self, Cut>
+        requires sided { AreSided meter.old columns col sides }
+        requires divides { sides.divides ≡ [] }
+        requires some { 0 < length sides.not_divides }
+        requires col_in { col < columns }
+        ensures { IsDone meter.old meter.new
+            (λ residues. AreResidues meter.old columns col residues × (residues.sides ≡ sides) × (residues.left ≡ residues.period)) result }
+    {
+        let period = common_period(sides.not_divides.as_slice(), columns, col, meter)?;
+        Ok(Residues {
+            sides,
+            period,
+            left: period,
+        })
     }
-    Ok(())
-}
 
-/// Pushes what sides without congruences leave.
-pub(crate) fn push_sides(
-    alloc: Global,
-    sides: &Sides,
-    columns: usize,
-    col: usize,
-    answers: &mut Vec<Rows>,
-    meter: &mut Meter,
-) -> Result<(), Cut>
-    requires sided { AreSided meter.old columns col sides.now }
-    requires divides { sides.now.divides ≡ [] }
-    requires col_in { col < columns }
-    ensures exact { IsDoneWithin (sides_units col sides.now) meter.old meter.new
-        (λ _. Adds meter.old (columns - 1) (HasNumber sides.now col) answers.old.items answers.new.items) result }
-    ensures no_overflow { meter.old.bits ≡ 127 → AreSidesUpTo (2 ^ 61) sides.now → length sides.now.not_divides < 2 → IsNoOverflow result }
-    ensures counted { IfOk result (λ _. length answers.new.items + meter.old.units ≤ length answers.old.items + meter.new.units + 1) }
-{
-    if sides.not_divides.len() < 2 {
-        push_shadow(alloc, sides, columns, col, answers, meter)
-    } else {
-        push_residues(alloc, sides, columns, col, answers, meter)
+    // What the last residue that is still to come leaves, which costs a unit.
+    fn shadow(
+        &mut self,
+        alloc: Global,
+        columns: usize,
+        col: usize,
+        meter: &mut Meter,
+    ) -> Result<DarkShadow, Cut>
+        requires residues { AreResidues meter.old columns col self.old }
+        requires some { pos 0 <ℤ self.old.left }
+        requires col_in { col < columns }
+        ensures exact { IsDoneWithin (residue_units col self.old.period self.old.sides) meter.old meter.new
+            (λ dark_shadow. IsOpened meter.old columns col self.old dark_shadow self.new) result }
+        ensures units { IfOk result (λ dark_shadow. (pos meter.new.units +ℤ splinter_count dark_shadow.tails.items)
+            ≤ℤ (pos meter.old.units +ℤ residue_units col self.old.period self.old.sides)) }
+        ensures used { IfOk result (λ _.
+            meter.old.units + length self.old.sides.lowers * length self.old.sides.uppers < meter.new.units) }
+    {
+        meter.unit()?;
+        let rest = self.left.sub(Int::ONE, meter)?;
+        let sides = residue_of(alloc, &self.sides, self.period, rest, columns, col, meter)?;
+        let dark_shadow = DarkShadow::of(alloc, &sides, columns, col, meter)?;
+        self.left = rest;
+        Ok(dark_shadow)
+    }
+
+    /// What the next of some residues leaves, if one is still to come.
+    pub(crate) fn next(
+        alloc: Global,
+        residues: &mut Option<Residues>,
+        columns: usize,
+        col: usize,
+        meter: &mut Meter,
+    ) -> Result<Option<DarkShadow>, Cut>
+        requires residues { IfSome residues.old (AreResidues meter.old columns col) }
+        requires col_in { col < columns }
+        ensures exact { MatchResult result
+            (λ found. MatchOption found (IsNoResidue columns col residues.old × (residues_least residues.old ≡ 0) × (meter.new ≡ meter.old))
+            (λ dark_shadow. IsOpenedFrom meter.old meter.new columns col residues.old dark_shadow residues.new))
+            (IsCutUpTo (residues_most col residues.old) meter.old meter.new) }
+        ensures none { residues.old ≡ None → MatchResult result (λ found. found ≡ None) (λ _. ⊥) }
+    {
+        match residues {
+            None => Ok(None),
+            Some(residues) => {
+                if !residues.left.is_positive() {
+                    return Ok(None);
+                }
+                let dark_shadow = residues.shadow(alloc, columns, col, meter)?;
+                Ok(Some(dark_shadow))
+            }
+        }
     }
 }

@@ -1,13 +1,12 @@
 //! Splinters: rows in which a lower bound has one of its least values.
 
-ghost use Rattle.std.specs.Prelude.{◌≡◌, ◌-◌, ◌<◌, ◌++◌, ◌+ℤ◌, pos, All, MatchResult, option_to_list, ◌^◌, ◌≤◌, unsigned_abs, ◌+◌, IfOk, length};
-ghost use Rattle.isl_meter.specs.Gauge.{IsDone, IsDoneWithin};
-ghost use Rattle.isl_column.specs.Adds.{Adds};
-ghost use Rattle.isl_column.specs.DarkShadow.{HasValue, HasSplinter, KeepBound, AreSplinters, IsDarkShadow, HoldsDarkShadow, splinter_count};
+ghost use Rattle.std.specs.Prelude.{◌≡◌, ◌-◌, ◌<◌, ◌+ℤ◌, ◌-ℤ◌, ◌≤ℤ◌, pos, [], All, IfSome, MatchOption, MatchResult, ◌^◌, ◌≤◌, unsigned_abs, ◌+◌, IfOk};
+ghost use Rattle.isl_meter.specs.Gauge.{IsWithin, IsDone, IsDoneWithin};
+ghost use Rattle.isl_column.specs.DarkShadow.{HasValue, AreSplinters, IsDarkShadow, IsSplit, IsTakenOut, IsNoDarkShadow, splinter_count};
 ghost use Rattle.isl_omega.specs.Column.{IsAnswerFor, IsProper};
 ghost use Rattle.isl_omega.specs.Sides.{IsLower};
 ghost use Rattle.isl_piece.specs.Row.{IsRowUpTo};
-ghost use Rattle.isl_omega.specs.Magnitude.{IsNoOverflow};
+ghost use Rattle.isl_omega.specs.Magnitude.{IsNoOverflow, IsNoOverflowWith};
 ghost use Rattle.isl_column.specs.Magnitude.{AreSmallSplinters, IsSmallDarkShadow};
 
 use crate::dark_shadow::DarkShadow;
@@ -40,91 +39,75 @@ fn splinter(
     Ok(left)
 }
 
-// Pushes the rows, if there are any.
-pub(crate) fn push_left(left: Option<Rows>, answers: &mut Vec<Rows>) -> Result<(), Cut>
-    ensures pushed { MatchResult result
-        (λ _. answers.new.items ≡ answers.old.items ++ option_to_list left)
-        (λ cut. cut ≡ Cut.NoMemory) }
-    ensures counted { IfOk result (λ _. length answers.new.items ≤ length answers.old.items + 1) }
-{
-    if let Some(rows) = left {
-        answers.push(rows)?;
-    }
-    Ok(())
-}
+impl DarkShadow {
+    ghost use Rattle.isl_column.specs.Parts.{count_of};
 
-// Pushes the splinter at which the bound has the value i.
-fn push_splinter(
-    alloc: Global,
-    rows: &[Row],
-    bound: &Row,
-    i: Int,
-    columns: usize,
-    col: usize,
-    answers: &mut Vec<Rows>,
-    meter: &mut Meter,
-) -> Result<(), Cut>
-    requires rows { All (IsProper meter.old columns) rows.now }
-    requires bound { IsLower meter.old columns col bound.now }
-    requires col_in { col < columns }
-    ensures exact { IsDoneWithin (pos 1) meter.old meter.new
-        (λ _. Adds meter.old (columns - 1) (HasValue rows.now col bound.now i) answers.old.items answers.new.items) result }
-    ensures no_overflow { meter.old.bits ≡ 127 → All (IsRowUpTo (2 ^ 61)) rows.now → IsRowUpTo (2 ^ 61) bound.now → unsigned_abs i ≤ 2 ^ 62 → IsNoOverflow result }
-    ensures counted { IfOk result (λ _. length answers.new.items + meter.old.units ≤ length answers.old.items + meter.new.units) }
-{
-    meter.unit()?;
-    let left = splinter(alloc, rows, bound, i, columns, col, meter)?;
-    push_left(left, answers)?;
-    Ok(())
-}
-
-// Pushes the splinters of a tail.
-fn push_splinters(
-    alloc: Global,
-    rows: &[Row],
-    tail: &Splinters,
-    columns: usize,
-    col: usize,
-    answers: &mut Vec<Rows>,
-    meter: &mut Meter,
-) -> Result<(), Cut>
-    requires rows { All (IsProper meter.old columns) rows.now }
-    requires tail { AreSplinters meter.old columns col tail.now }
-    requires bound { KeepBound columns col rows.now tail.now.lower }
-    requires col_in { col < columns }
-    ensures exact { IsDoneWithin (tail.now.last +ℤ pos 1) meter.old meter.new
-        (λ _. Adds meter.old (columns - 1) (λ point. HasSplinter rows.now col point tail.now) answers.old.items answers.new.items) result }
-    ensures no_overflow { meter.old.bits ≡ 127 → All (IsRowUpTo (2 ^ 61)) rows.now → AreSmallSplinters tail.now → IsNoOverflow result }
-    ensures counted { IfOk result (λ _. length answers.new.items + meter.old.units ≤ length answers.old.items + meter.new.units) }
-{
-    let mut i = Int::ZERO;
-    'values: while i <= tail.last {
-        push_splinter(alloc, rows, &tail.lower, i, columns, col, answers, meter)?;
-        i = i.add(Int::ONE, meter)?;
+    // The splinter at the last value of a tail, which is put back without it.
+    fn split(
+        &mut self,
+        alloc: Global,
+        tail: Splinters,
+        columns: usize,
+        col: usize,
+        meter: &mut Meter,
+    ) -> Result<Option<Rows>, Cut>
+        requires rows { All (IsProper meter.old columns) self.old.rows }
+        requires tail { AreSplinters meter.old columns col tail }
+        requires col_in { col < columns }
+        ensures exact { IsDoneWithin (pos 1) meter.old meter.new
+            (λ left. IsAnswerFor meter.old (columns - 1) (HasValue self.old.rows col tail.lower tail.last) left
+            × IsSplit self.old tail self.new × IsWithin meter.old (tail.last -ℤ pos 1)) result }
+        ensures used { IfOk result (λ _. meter.old.units < meter.new.units) }
+        ensures no_overflow { meter.old.bits ≡ 127 → All (IsRowUpTo (2 ^ 61)) self.old.rows → AreSmallSplinters tail → pos 0 ≤ℤ tail.last
+            → IsNoOverflow result }
+    {
+        let Splinters { lower, last } = tail;
+        meter.unit()?;
+        let left = splinter(
+            alloc,
+            self.rows.as_slice(),
+            &lower,
+            last,
+            columns,
+            col,
+            meter,
+        )?;
+        let last = last.sub(Int::ONE, meter)?;
+        self.tails.push(Splinters { lower, last })?;
+        Ok(left)
     }
-    Ok(())
-}
 
-/// Pushes the rows of a dark shadow and its splinters.
-pub(crate) fn push_dark_shadow(
-    alloc: Global,
-    dark_shadow: DarkShadow,
-    columns: usize,
-    col: usize,
-    answers: &mut Vec<Rows>,
-    meter: &mut Meter,
-) -> Result<(), Cut>
-    requires dark_shadow { IsDarkShadow meter.old columns col dark_shadow }
-    requires col_in { col < columns }
-    ensures exact { IsDoneWithin (splinter_count dark_shadow.tails.items) meter.old meter.new
-        (λ _. Adds meter.old (columns - 1) (HoldsDarkShadow dark_shadow col) answers.old.items answers.new.items) result }
-    ensures no_overflow { meter.old.bits ≡ 127 → IsSmallDarkShadow dark_shadow → IsNoOverflow result }
-    ensures counted { IfOk result (λ _. length answers.new.items + meter.old.units ≤ length answers.old.items + meter.new.units + 1) }
-{
-    let DarkShadow { rows, dark, tails } = dark_shadow;
-    push_left(dark, answers)?;
-    for tail in &tails {
-        push_splinters(alloc, rows.as_slice(), tail, columns, col, answers, meter)?;
+    /// Takes out the dark rows, and then the rows of one splinter after another, of which each costs a unit.
+    pub(crate) fn next(
+        &mut self,
+        alloc: Global,
+        columns: usize,
+        col: usize,
+        meter: &mut Meter,
+    ) -> Result<Option<Rows>, Cut>
+        requires shadow { IsDarkShadow meter.old columns col self.old }
+        requires col_in { col < columns }
+        ensures exact { IsDoneWithin (splinter_count self.old.tails.items) meter.old meter.new
+            (λ found. MatchOption found (IsNoDarkShadow columns col self.old)
+            (λ rows. IsTakenOut meter.old columns col self.old rows self.new)) result }
+        ensures units { IfOk result (λ found. IfSome found (λ _. (pos meter.new.units +ℤ splinter_count self.new.tails.items)
+            ≤ℤ (pos meter.old.units +ℤ splinter_count self.old.tails.items))) }
+        ensures counted { IfOk result (λ found. IfSome found (λ _. meter.old.units + 1 ≤ meter.new.units + count_of self.old.dark)) }
+        ensures alone { self.old.tails.items ≡ [] → IfOk result (λ found. (found ≡ self.old.dark) × (self.new.tails.items ≡ [])) }
+        ensures no_overflow { meter.old.bits ≡ 127 → IsSmallDarkShadow self.old
+            → IsNoOverflowWith (λ found. IfSome found (λ _. IsSmallDarkShadow self.new)) result }
+    {
+        if let Some(rows) = self.dark.take() {
+            return Ok(Some(rows));
+        }
+        while let Some(tail) = self.tails.pop() {
+            if !tail.last.is_negative() {
+                let left = self.split(alloc, tail, columns, col, meter)?;
+                if left.is_some() {
+                    return Ok(left);
+                }
+            }
+        }
+        Ok(None)
     }
-    Ok(())
 }

@@ -18,8 +18,9 @@ use Rattle.isl_column.specs.Column.{HoldAtAny}
 use Rattle.isl_omega.specs.Column.{IsProper}
 use Rattle.isl_elim.specs.Elimination.{without, HoldsAlong, AddsAlong}
 use Rattle.isl_elim.specs.Others.{others_of}
-use Rattle.isl_elim.specs.Parts.{PartsView, AreParts, ArePartsOf, IsNextPart, HoldsPart}
-use Rattle.isl_elim.proofs.PartsLaws.{parts_kept, charged_bits}
+use Rattle.isl_column.specs.Parts.{PartsView, AreParts, ArePartsOf, IsNextPart, HoldsPart}
+use Rattle.isl_column.proofs.PartsLemmas.{parts_kept}
+use Rattle.isl_elim.proofs.PartsLaws.{charged_bits, next_proper, parts_after}
 use Rattle.isl_elim.proofs.EmptinessLaws.{insert-remove}
 use Rattle.isl_elim.proofs.OthersLaws.{among, without_insert, without_none, others_count, others_distinct, others_inside, among_at}
 
@@ -64,11 +65,11 @@ pushed_first g columns cols parts old a = record {
   points = λ point l. ((λ h. inr h), (λ h. elim h [ inl x ↦ absurd (Any-none (λ (r : List Row). HoldRows r point) x) | inr y ↦ y ]));
 }
 
-pub pushed_next : (g h k : Gauge) (columns : ℕ) (cols : List ℕ) (first now next : PartsView) (rows : List Row) (old new newer : List (List Row)) → ArePushed g h columns cols first now old new → IsNextPart h columns now rows next
-    → AddsAlong h columns cols (HoldRows rows) new newer → IsCharged h k → ArePushed g k columns cols first next old newer
-pushed_next g h k columns cols first now next rows old new newer a n b c = record {
-  charged = IsCharged_trans g h k a.charged c;
-  are = parts_kept h k columns next c n.rest;
+pub pushed_next : (g h k m : Gauge) (columns : ℕ) (cols : List ℕ) (first now next : PartsView) (rows : List Row) (old new newer : List (List Row)) → ArePushed g h columns cols first now old new → IsNextPart h columns now rows next
+    → IsCharged h k → AddsAlong k columns cols (HoldRows rows) new newer → IsCharged k m → ArePushed g m columns cols first next old newer
+pushed_next g h k m columns cols first now next rows old new newer a n c b d = record {
+  charged = IsCharged_trans g h m a.charged (IsCharged_trans h k m c d);
+  are = parts_kept h m columns next (IsCharged_trans h k m c d) n.rest;
   added = a.added ++ b.added;
   pushed = b.pushed ∙ ap (λ (xs : List (List Row)). xs ++ b.added) a.pushed ∙ append_assoc old a.added b.added;
   proper = All-append (λ (r : List Row). All (IsProper g (columns - length cols)) r) a.added b.added a.proper (λ i d m. proper_back (get_or b.added i d) (b.proper i d m));
@@ -91,8 +92,8 @@ pushed_next g h k columns cols first now next rows old new newer a n b c = recor
   );
 }
   where
-    proper_back : (r : List Row) → All (IsProper h (columns - length cols)) r → All (IsProper g (columns - length cols)) r
-    proper_back r p = λ i d m. let q = p i d m in record { formed = q.formed; within = row_within_kept g h (get_or r i d) (charged_bits g h a.charged) q.within }
+    proper_back : (r : List Row) → All (IsProper k (columns - length cols)) r → All (IsProper g (columns - length cols)) r
+    proper_back r p = λ i d j. let q = p i d j in record { formed = q.formed; within = row_within_kept g k (get_or r i d) (charged_bits g k (IsCharged_trans g h k a.charged c)) q.within }
 
 pub pushed_all : (g h : Gauge) (columns : ℕ) (cols : List ℕ) (first now : PartsView) (old new : List (List Row)) → ArePushed g h columns cols first now old new → ((point : List ℤ) → length point ≡ columns → ¬ HoldsPart now point) → AddsAlong g columns cols (HoldsPart first) old new
 pushed_all g h columns cols first now old new a none = record {
@@ -147,6 +148,11 @@ pub along_after : {A : Type 0} (g h k : Gauge) (columns col : ℕ) (cols : List 
 along_after g h k columns col cols rows parts old new (Ok v) d m i c a r = (along_column g h columns col cols rows parts old new d m i c a r.0, IsCharged_trans g h k c r.1)
 along_after g h k columns col cols rows parts old new (Err cut) d m i c a r = IsCutBy-after g h k cut c r
 
+-- the columns that are left
+pub columns_after : (n col : ℕ) (cols left : List ℕ) → left ≡ others_of col cols → AllPairs (λ a b. a ≢ b) cols → col < n
+    → All (λ c. c < n) cols → AllPairs (λ a b. a ≢ b) left × All (λ c. c < n - 1) left
+columns_after n col cols left e d i a = rw e (others_distinct col cols d, others_inside n col cols i a)
+
 -- ---- normal rows
 pub along_normal : (g : Gauge) (columns : ℕ) (cols : List ℕ) (rows normal : List Row) (old new : List (List Row)) → ((point : List ℤ) → HoldRows normal point ↔ HoldRows rows point) → AddsAlong g columns cols (HoldRows normal) old new → AddsAlong g columns cols (HoldRows rows) old new
 along_normal g columns cols rows normal old new same a = record {
@@ -172,4 +178,4 @@ along_false g columns cols rows old new e none = record {
 pub proper_rows : (g : Gauge) (columns : ℕ) (rows : List Row) → All (IsWellFormed columns) rows → All (IsRowWithin g) rows → All (IsProper g columns) rows
 proper_rows g columns rows f w = λ k d i. record { formed = f k d i; within = w k d i }
 
-pub ruleset along_steps = (charges, along_none, pushed_first, pushed_next, pushed_all, others_distinct, others_inside, along_normal, along_false, proper_rows)
+pub ruleset along_steps = (charges, next_proper, parts_after, along_none, pushed_first, pushed_next, pushed_all, others_distinct, others_inside, along_normal, along_false, proper_rows)

@@ -1,5 +1,5 @@
 -- Emptiness, one part after another.
-use Rattle.std.proofs.Common.{◌≡◌, ◌≢◌, ◌↔◌, inl, inr, refl, ap, arith, ℕ, zero, suc, ℤ, pos, List, [], ◌∷◌, ◌-◌, ◌<◌, length, get_or, Bool, false}
+use Rattle.std.proofs.Common.{◌≡◌, ◌≢◌, ◌↔◌, inl, inr, refl, ap, arith, ℕ, zero, suc, ℤ, pos, List, [], ◌∷◌, ◌-◌, ◌<◌, length, get_or, Bool, true, false}
 use Rattle.std.specs.Prelude.{IsTrue, is_none, Option, Some, None, MatchOption, Result, MatchResult, Ok, Err}
 use Rattle.std.specs.List.{All, insert, remove}
 use Rattle.std.proofs.lemmas.List.Elements.{All-head}
@@ -13,8 +13,12 @@ use Rattle.isl_piece.specs.Normal.{IsNormal}
 use Rattle.isl_piece.specs.Row.{HoldsRow, IsContingent}
 use Rattle.isl_omega.specs.Column.{IsProper}
 use Rattle.isl_elim.specs.Emptiness.{HoldNowhere}
-use Rattle.isl_elim.specs.Parts.{PartsView, AreParts, ArePartsOf, IsNextPart, HoldsPart}
-use Rattle.isl_elim.proofs.PartsLaws.{parts_kept}
+use Rattle.isl_column.specs.Parts.{PartsView, AreParts, ArePartsOf, IsNextPart, AreNone, HoldsPart}
+use Rattle.isl_column.proofs.PartsLemmas.{parts_kept}
+use Rattle.isl_elim.proofs.PartsLaws.{next_proper, parts_after}
+
+true_not_false : IsTrue false → ⊥
+true_not_false e = grind arith
 
 -- so many zeros
 pub zeros : (k : ℕ) → (whole : List ℤ) × (length whole ≡ k)
@@ -55,6 +59,24 @@ so_far_somewhere g h columns first now next rows s n somewhere nowhere = somewhe
 -- none is left
 pub so_far_none : (g h : Gauge) (columns : ℕ) (first now : PartsView) → IsSoFar g h columns first now → ((point : List ℤ) → length point ≡ columns → ¬ HoldsPart now point) → (point : List ℤ) → length point ≡ columns → ¬ HoldsPart first point
 so_far_none g h columns first now s n point l x = n point l ((s.points point l).0 x)
+
+-- a part holds somewhere, and so the answer is no
+pub some_holds : (g h k m : Gauge) (columns : ℕ) (first now next : PartsView) (rows : List Row) (empty : Bool) → empty ≡ false
+    → IsSoFar g h columns first now → IsNextPart h columns now rows next → IsCharged h k → IsTrue empty ↔ HoldNowhere columns rows
+    → IsCharged k m
+    → (IsTrue false ↔ AreNone columns first) × IsCharged g m
+some_holds g h k m columns first now next rows empty e s n c a d = (
+  (
+    (λ t. absurd (true_not_false t)),
+    (λ nowhere. absurd (so_far_somewhere g h columns first now next rows s n (λ x. true_not_false (rw e at (a.1 x))) nowhere)),
+  ),
+  IsCharged_trans g k m (IsCharged_trans g h k s.charged c) d,
+)
+
+-- nothing is left, and so the answer is yes
+pub none_holds : (g h k : Gauge) (columns : ℕ) (first now : PartsView) → IsSoFar g h columns first now → AreNone columns now → IsCharged h k
+    → (IsTrue true ↔ AreNone columns first) × IsCharged g k
+none_holds g h k columns first now s n c = (((λ t. so_far_none g h columns first now s n), (λ x. refl)), IsCharged_trans g h k s.charged c)
 
 -- ---- the column put in again
 pub insert-remove : (xs : List ℤ) (i : ℕ) → i < length xs → insert (remove xs i) i (get_or xs i (pos 0)) ≡ xs
@@ -110,11 +132,8 @@ column_found g h rows parts new None a f = ((λ t. (parts_nowhere g 1 0 rows par
 column_found g h rows parts new (Some left) a f =
     let both = parts_nowhere g 1 0 rows parts (omega arith) a in
     let none = normal_none h left f.proper f.normal in (
-      (λ t. absurd (true-not-false t)),
+      (λ t. absurd (true_not_false t)),
       (λ n. absurd (none_hold 0 left none (λ point l x. both.1 n point l ((f.points point l).1 (inl x))))),
     )
-  where
-    true-not-false : IsTrue false → ⊥
-    true-not-false e = grind arith
 
-pub ruleset emptiness_steps = (charges, so_far_first, so_far_next, so_far_somewhere, so_far_none, none_hold, some_column, parts_nowhere)
+pub ruleset emptiness_steps = (charges, next_proper, parts_after, so_far_first, so_far_next, so_far_somewhere, so_far_none, none_hold, some_column, parts_nowhere)

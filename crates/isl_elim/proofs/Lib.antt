@@ -1,5 +1,8 @@
 pub mod AlongLaws
+pub mod DefiningLaws
 pub mod EmptinessLaws
+pub mod KeptLaws
+pub mod LeftLaws
 pub mod OpenedLaws
 pub mod OthersLaws
 pub mod PartsLaws

@@ -104,7 +104,7 @@ without_none i [] = refl
 without_none i (x ∷ xs) = ap (λ (ys : List ℤ). x ∷ ys) (without_none (suc i) xs)
 
 -- ---- how many there are
-not_among : (c : ℕ) (cols : List ℕ) → All (λ d. c ≢ d) cols → among c cols ≡ false
+pub not_among : (c : ℕ) (cols : List ℕ) → All (λ d. c ≢ d) cols → among c cols ≡ false
 not_among c [] h = refl
 not_among c (d ∷ cols) h =
     let rest = not_among c cols (All-tail (λ d. c ≢ d) d cols h) in

@@ -1,23 +1,32 @@
 -- Systems of what elimination of rows leaves.
-use Rattle.std.proofs.Common.{◌≡◌, ◌↔◌, inl, inr, refl, sym, ap, ◌∙◌, arith, true, ℕ, ℤ, List, [], ◌∷◌, ◌-◌, ◌<◌, ◌≤◌, length, get_or, map, pos}
-use Rattle.std.specs.Prelude.{Result, Ok, Err, IfOk}
-use Rattle.std.proofs.lemmas.List.{take_all}
+use Rattle.std.proofs.Common.{◌≡◌, ◌≢◌, ◌↔◌, inl, inr, refl, sym, ap, subst, ◌∙◌, arith, true, ℕ, ℤ, List, [], ◌∷◌, ◌++◌, ◌+◌, ◌-◌, ◌<◌, ◌≤◌, length, get_or, map, pos, ◌+ℤ◌, ◌≤ℤ◌}
+use Rattle.std.specs.Prelude.{Option, Result, Ok, Err, IfOk, MatchResult, AllPairs, option_to_list}
+use Rattle.std.proofs.lemmas.List.{append-nil}
 use Rattle.std.specs.List.{All, Any, insert, remove}
 use Rattle.std.proofs.lemmas.List.Edits.{length-remove, length-insert}
 use Rattle.std.proofs.lemmas.List.Elements.{All-nil, All-cons, All-head, All-tail}
-use Rattle.isl_meter.specs.Gauge.{Gauge}
+use Rattle.isl_meter.specs.Gauge.{Gauge, IsCharged, IsCutBy}
+use Rattle.isl_meter.specs.declared.Cut.{Cut}
 use Rattle.isl_math.proofs.ListLaws.{Any-unmapped, Any-none, Any-first, Any-later, Any-cases}
 use Rattle.isl_piece.specs.declared.row.Row.{Row}
 use Rattle.isl_piece.specs.declared.definition.Definition.{Definition}
+use Rattle.isl_piece.specs.Definition.{with_defined}
+use Rattle.isl_piece.proofs.DefinedLaws.{length-with_defined}
 use Rattle.isl_piece.specs.declared.system.System.{System}
 use Rattle.isl_piece.specs.Normal.{IsNormal}
-use Rattle.isl_piece.specs.Row.{IsWellFormed, IsRowWithin}
 use Rattle.isl_piece.specs.System.{HoldRows, HoldsSystem, IsSystemWithin, free_columns}
 use Rattle.isl_omega.specs.Column.{IsProper}
 use Rattle.isl_column.specs.Column.{HoldAtAny, IsProjectionOf}
-use Rattle.isl_elim.specs.Elimination.{plain_system, HoldsAtAny, IsProjection, IsProjectionAlong, AddsAlong, without}
-use Rattle.isl_elim.specs.Opened.{AreOpened}
-use Rattle.isl_elim.specs.Sample.{IsNowhere}
+use Rattle.isl_column.specs.Solved.{solved_rows}
+use Rattle.isl_column.specs.Units.{elimination_units}
+use Rattle.isl_omega.specs.Equality.{HasEquality}
+use Rattle.isl_column.proofs.EliminateLemmas.{most_not_negative}
+use Rattle.isl_math.proofs.Ring.{linear}
+use Rattle.isl_elim.specs.Dependents.{dependents, with_dependents, kept_definitions}
+use Rattle.isl_elim.specs.Elimination.{system_of, HoldsAtAny, HoldsAlong, IsProjection, IsProjectionAlong, AddsAlong, without}
+use Rattle.isl_elim.specs.Opened.{definition_rows, opened_rows}
+use Rattle.isl_elim.proofs.LeftLaws.{count_left, left_forth, left_back}
+use Rattle.isl_elim.proofs.KeptLaws.{only_none}
 use Rattle.isl_elim.proofs.EmptinessLaws.{insert-remove}
 use Rattle.isl_elim.proofs.OthersLaws.{among, among_at, without_insert, without_none, others_same}
 
@@ -29,11 +38,11 @@ all_mapped : {X Y : Type 0} (P : Y → Type 0) (f : X → Y) (xs : List X) → A
 all_mapped P f [] a = All-nil P
 all_mapped P f (x ∷ xs) a = All-cons P (f x) (map f xs) (All-head (λ x. P (f x)) x xs a) (all_mapped P f xs (All-tail (λ x. P (f x)) x xs a))
 
--- the systems hold where the rows do
-systems_hold : (columns : ℕ) (lists : List (List Row)) (point : List ℤ) → HoldsAtAny (map (plain_system columns) lists) point ↔ HoldAtAny lists point
-systems_hold columns lists point = (
-  (λ h. Any-unmapped (λ s. HoldsSystem s point) (plain_system columns) lists h),
-  (λ h. any_mapped (λ s. HoldsSystem s point) (plain_system columns) lists h),
+-- the systems hold where the rows do at the full point
+systems_hold : (columns : ℕ) (definitions : List Definition) (lists : List (List Row)) (point : List ℤ) → HoldsAtAny (map (system_of columns definitions) lists) point ↔ HoldAtAny lists (with_defined definitions point)
+systems_hold columns definitions lists point = (
+  (λ h. Any-unmapped (λ s. HoldsSystem s point) (system_of columns definitions) lists h),
+  (λ h. any_mapped (λ s. HoldsSystem s point) (system_of columns definitions) lists h),
 )
 
 -- a system without definitions holds where its rows do
@@ -43,34 +52,6 @@ plain_holds s point e = ((λ h. rw e at h), (λ h. rw e h))
 pub plain_free : (s : System) → s.definitions ≡ [] → free_columns s ≡ s.columns
 plain_free s e = let n = ap (λ (ds : List Definition). length ds) e in omega (arith, n)
 
-pub systems_within : (g : Gauge) (columns : ℕ) (lists : List (List Row)) → All (All (IsProper g columns)) lists → All (IsSystemWithin g) (map (plain_system columns) lists)
-systems_within g columns lists p = all_mapped (IsSystemWithin g) (plain_system columns) lists (λ k d i. let q = p k d i in record {
-  rows = λ n r j. (q n r j).formed;
-  within = λ n r j. (q n r j).within;
-  count = omega arith;
-  definitions = tt;
-})
-
-pub systems_normal : (columns : ℕ) (lists : List (List Row)) → All IsNormal lists → All (λ s. IsNormal s.rows) (map (plain_system columns) lists)
-systems_normal columns lists n = all_mapped (λ s. IsNormal s.rows) (plain_system columns) lists n
-
-pub systems_plain : (columns : ℕ) (lists : List (List Row)) → All (λ s. s.definitions ≡ []) (map (plain_system columns) lists)
-systems_plain columns lists = all_mapped (λ s. s.definitions ≡ []) (plain_system columns) lists (λ k d i. refl)
-
-systems_free : (n columns : ℕ) (lists : List (List Row)) → n ≡ columns → All (λ s. free_columns s ≡ n) (map (plain_system columns) lists)
-systems_free n columns lists e = all_mapped (λ s. free_columns s ≡ n) (plain_system columns) lists (λ k d i. omega (arith, e))
-
-pub systems_project : (s : System) (col : ℕ) (lists : List (List Row)) → s.definitions ≡ [] → IsProjectionOf s.columns s.rows col lists → IsProjection s col (map (plain_system (s.columns - 1)) lists)
-systems_project s col lists e p = let free = plain_free s e in record {
-  columns = systems_free (free_columns s - 1) (s.columns - 1) lists (omega (arith, free));
-  points = λ point l.
-      let all = systems_hold (s.columns - 1) lists point in
-      let same = p point (omega (arith, l, free)) in (
-        (λ h. let x = same.0 (all.0 h) in (x.0, (plain_holds s (insert point col x.0) e).1 x.1)),
-        (λ h. all.1 (same.1 (h.0, (plain_holds s (insert point col h.0) e).0 h.1))),
-      );
-}
-
 -- ---- several columns
 one_among : (col : ℕ) → among col (col ∷ []) ≡ true
 one_among col = among_at (col ∷ []) 0 (omega arith)
@@ -78,43 +59,106 @@ one_among col = among_at (col ∷ []) 0 (omega arith)
 one_without : (col : ℕ) (point : List ℤ) (x : ℤ) → col ≤ length point → without (col ∷ []) (insert point col x) ≡ point
 one_without col point x i = without_insert (col ∷ []) col point x (one_among col) i ∙ ap (λ (cs : List ℕ). without cs point) (others_same col col [] refl) ∙ without_none 0 point
 
-pub one_along : (s : System) (col : ℕ) (cols : List ℕ) (systems : List System) → cols ≡ col ∷ [] → col < free_columns s → IsProjection s col systems → IsProjectionAlong s cols systems
-one_along s col cols systems e i p = rw e (record {
+one_back : (columns col : ℕ) (P : List ℤ → Type 0) (point : List ℤ) → col < columns → HoldsAlong columns (col ∷ []) P point → (x : ℤ) × P (insert point col x)
+one_back columns col P point i h =
+    let whole = h.0 in
+    let full = h.1 in
+    let again = insert-remove whole col (omega (arith, full, i)) in
+    let short = length-remove whole col (omega (arith, full, i)) in
+    let rest = one_without col (remove whole col) (get_or whole col (pos 0)) (omega (arith, short, full, i)) in
+    let at : point ≡ remove whole col = sym h.2 ∙ ap (without (col ∷ [])) (sym again) ∙ rest in
+    let back : insert point col (get_or whole col (pos 0)) ≡ whole = ap (λ (xs : List ℤ). insert xs col (get_or whole col (pos 0))) at ∙ again in
+    (get_or whole col (pos 0), rw back h.3)
+
+pub along_one : (s : System) (col : ℕ) (systems : List System) → col < free_columns s → IsProjectionAlong s (col ∷ []) systems → IsProjection s col systems
+along_one s col systems i p = record {
   columns = p.columns;
   points = λ point l. let same = p.points point l in (
+    (λ h. one_back (free_columns s) col (HoldsSystem s) point i (same.0 h)),
+    (λ x.
+        let long = length-insert point col x.0 (omega (arith, l, i)) in
+        same.1 (insert point col x.0, omega (arith, long, l, i), one_without col point x.0 (omega (arith, l, i)), x.1)),
+  );
+}
+
+-- the rows without one column
+pub adds_one : (g : Gauge) (columns col : ℕ) (rows : List Row) (lists : List (List Row)) → col < columns → IsProjectionOf columns rows col lists → All (All (IsProper g (columns - 1))) lists → All IsNormal lists
+    → AddsAlong g columns (col ∷ []) (HoldRows rows) [] lists
+adds_one g columns col rows lists i p f n = record {
+  added = lists;
+  pushed = refl;
+  proper = f;
+  normal = n;
+  points = λ point l. let same = p point l in (
     (λ h. let x = same.0 h in
         let long = length-insert point col x.0 (omega (arith, l, i)) in
         (insert point col x.0, omega (arith, long, l, i), one_without col point x.0 (omega (arith, l, i)), x.1)),
-    (λ h.
-        let whole = h.0 in
-        let full = h.1 in
-        let again = insert-remove whole col (omega (arith, full, i)) in
-        let short = length-remove whole col (omega (arith, full, i)) in
-        let rest = one_without col (remove whole col) (get_or whole col (pos 0)) (omega (arith, short, full, i)) in
-        let at : point ≡ remove whole col = sym h.2 ∙ ap (without (col ∷ [])) (sym again) ∙ rest in
-        let back : insert point col (get_or whole col (pos 0)) ≡ whole = ap (λ (xs : List ℤ). insert xs col (get_or whole col (pos 0))) at ∙ again in
-        same.1 (get_or whole col (pos 0), rw back h.3)),
+    (λ h. same.1 (one_back columns col (HoldRows rows) point i h)),
   );
-})
+}
 
-pub systems_along : (g : Gauge) (s : System) (cols : List ℕ) (lists : List (List Row)) → s.definitions ≡ [] → AddsAlong g s.columns cols (HoldRows s.rows) [] lists
-    → IsProjectionAlong s cols (map (plain_system (s.columns - length cols)) lists) × All (IsSystemWithin g) (map (plain_system (s.columns - length cols)) lists) × All (λ t. IsNormal t.rows) (map (plain_system (s.columns - length cols)) lists)
-systems_along g s cols lists e a =
-    let free = plain_free s e in
-    let n = s.columns - length cols in
-    let whole : lists ≡ a.added = a.pushed in (
-      record {
-        columns = systems_free (free_columns s - length cols) n lists (omega (arith, free));
-        points = λ point l.
-            let all = systems_hold n lists point in
-            let same = a.points point (omega (arith, l, free)) in (
-              (λ h. let x = same.0 (rw whole at (all.0 h)) in (x.0, x.1 ∙ sym free, x.2, (plain_holds s x.0 e).1 x.3)),
-              (λ h. all.1 (rw whole (same.1 (h.0, h.1 ∙ free, h.2, (plain_holds s h.0 e).0 h.3)))),
-            );
-      },
-      systems_within g n lists (rw whole a.proper),
-      systems_normal n lists (rw whole a.normal),
-    )
+pub lists_one : (g : Gauge) (s : System) (gone : List ℕ) (col : ℕ) (lists : List (List Row)) → gone ≡ col ∷ [] → col < free_columns s → IsProjectionOf s.columns s.rows col lists → All (All (IsProper g (s.columns - 1))) lists → All IsNormal lists
+    → AddsAlong g s.columns gone (HoldRows (opened_rows s gone)) [] lists
+lists_one g s gone col lists e i p f n =
+    let same : s.rows ≡ opened_rows s (col ∷ []) = sym (ap (λ (ds : List Definition). s.rows ++ definition_rows s.columns ds) (only_none (free_columns s) col s.definitions i) ∙ append-nil s.rows) in
+    rw e (rw same at (adds_one g s.columns col s.rows lists (omega (arith, i)) p f n))
+
+-- the answer for the rows is that for the system
+pub answer_one : {A : Type 0} (items : A → List (List Row)) (g h : Gauge) (s : System) (gone : List ℕ) (col : ℕ) (result : Result A Cut) → gone ≡ col ∷ [] → col < free_columns s
+    → IfOk result (λ a. IsProjectionOf s.columns s.rows col (items a)) → IfOk result (λ a. All (All (IsProper g (s.columns - 1))) (items a)) → IfOk result (λ a. All IsNormal (items a)) → MatchResult result (λ _. IsCharged g h) (IsCutBy g h)
+    → MatchResult result (λ a. AddsAlong g s.columns gone (HoldRows (opened_rows s gone)) [] (items a) × IsCharged g h) (IsCutBy g h)
+answer_one items g h s gone col (Ok a) e i p f n m = (lists_one g s gone col (items a) e i p f n, m)
+answer_one items g h s gone col (Err cut) e i p f n m = m
+
+-- what holds of the rows that solving for a column leaves, said of the column by another name
+pub solved_same : {A : Type 0} (items : A → List (List Row)) (rows : List Row) (i j : ℕ) (result : Result A Cut) → i ≡ j
+    → (HasEquality i rows → IfOk result (λ a. items a ≡ option_to_list (solved_rows rows i)))
+    → HasEquality j rows → IfOk result (λ a. items a ≡ option_to_list (solved_rows rows j))
+solved_same items rows i j result e h =
+    subst (λ (c : ℕ). HasEquality c rows → IfOk result (λ a. items a ≡ option_to_list (solved_rows rows c))) e h
+
+-- ---- the systems that are left
+pub record AreLeft (g : Gauge) (s : System) (cols : List ℕ) (systems : List System) : Type 0 where
+  pub projection : IsProjectionAlong s cols systems
+  pub within : All (IsSystemWithin g) systems
+  pub normal : All (λ t. IsNormal t.rows) systems
+  pub definitions : All (λ t. t.definitions ≡ kept_definitions s cols) systems
+
+pub systems_left : (g : Gauge) (s : System) (cols : List ℕ) (left : System) (lists : List (List Row)) (systems : List System) → IsSystemWithin g s → AllPairs (λ a b. a ≢ b) cols → All (λ c. c < free_columns s) cols
+    → left.definitions ≡ kept_definitions s cols → left.columns ≡ s.columns - length (with_dependents s cols) → IsSystemWithin g left
+    → AddsAlong g s.columns (with_dependents s cols) (HoldRows (opened_rows s (with_dependents s cols))) [] lists → systems ≡ map (system_of left.columns left.definitions) lists → AreLeft g s cols systems
+systems_left g s cols left lists systems w d i k c v a is = rw is (record {
+  projection = record {
+    columns = all_mapped (λ t. free_columns t ≡ free_columns s - length cols) (system_of left.columns left.definitions) lists (λ n z l. omega (arith, count.0, same, c));
+    points = λ point l.
+        let full = length-with_defined left.definitions point in
+        let hold = systems_hold left.columns left.definitions lists point in
+        let added = a.points (with_defined left.definitions point) (omega (arith, full, l, same, count.0, count.1)) in (
+          (λ h. left_forth g s cols w d i point l (rw k at (added.0 (rw whole at (hold.0 h))))),
+          (λ h. hold.1 (rw whole (added.1 (rw k (left_back g s cols w d i point l h))))),
+        );
+  };
+  within = all_mapped (IsSystemWithin g) (system_of left.columns left.definitions) lists (λ n z l. record {
+    rows = λ m r o. rw c ((proper n z l m r o).formed);
+    within = λ m r o. (proper n z l m r o).within;
+    count = v.count;
+    definitions = v.definitions;
+  });
+  normal = all_mapped (λ t. IsNormal t.rows) (system_of left.columns left.definitions) lists (rw whole a.normal);
+  definitions = all_mapped (λ t. t.definitions ≡ kept_definitions s cols) (system_of left.columns left.definitions) lists (λ n z l. k);
+})
+  where
+    whole : lists ≡ a.added
+    whole = a.pushed
+
+    proper : All (λ rows. All (IsProper g (s.columns - length (with_dependents s cols))) rows) lists
+    proper = rw whole a.proper
+
+    count : ((free_columns s - length cols) + length (kept_definitions s cols) ≡ s.columns - length (with_dependents s cols)) × (length cols ≤ free_columns s)
+    count = count_left g s cols w d i
+
+    same : length left.definitions ≡ length (kept_definitions s cols)
+    same = ap (λ (ds : List Definition). length ds) k
 
 pub list_of_one : (xs : List ℕ) → length xs ≡ 1 → xs ≡ get_or xs 0 0 ∷ []
 list_of_one [] e = absurd (omega (arith, e))
@@ -125,16 +169,24 @@ pub if_ok : {A E : Type 0} (P Q : A → Type 0) (r : Result A E) → ((a : A) �
 if_ok P Q (Ok a) f h = f a h
 if_ok P Q (Err e) f h = h
 
--- ---- opened systems
-pub opened_none : (s : System) → s.definitions ≡ [] → ((point : List ℤ) → ¬ HoldRows s.rows point) → IsNowhere (free_columns s) (HoldsSystem s)
-opened_none s e none point l h = none point ((plain_holds s point e).0 h)
+-- ---- one column, on which no definition depends
+pub gone_one : (s : System) (cols : List ℕ) (col : ℕ) → cols ≡ col ∷ [] → dependents s cols ≡ [] → with_dependents s cols ≡ col ∷ []
+gone_one s cols col e none = ap (λ (more : List ℕ). cols ++ more) none ∙ append-nil cols ∙ e
 
-pub opened_some : (g : Gauge) (s : System) (rows : List Row) → s.definitions ≡ [] → All (IsWellFormed s.columns) rows → All (IsRowWithin g) rows → IsNormal rows → ((point : List ℤ) → HoldRows rows point ↔ HoldRows s.rows point) → AreOpened g s rows
-opened_some g s rows e f w n same = let free = plain_free s e in record {
-  proper = λ k d i. record { formed = f k d i; within = w k d i };
-  normal = n;
-  forth = λ whole l h. let all = take_all (free_columns s) whole (omega (arith, l, free)) in rw all ((plain_holds s whole e).1 ((same whole).0 h));
-  back = λ point l h. (point, l ∙ free, (same point).1 ((plain_holds s point e).0 h));
-}
+pub low_one : (s : System) (cols : List ℕ) (col : ℕ) → cols ≡ col ∷ [] → All (λ c. c < free_columns s) cols → col < free_columns s
+low_one s cols col e a = All-head (λ c. c < free_columns s) col [] (rw e at a)
 
-pub ruleset projection_steps = (systems_within, systems_normal, systems_plain, systems_project, plain_free)
+pub left_of_one : (s : System) (cols : List ℕ) (col : ℕ) (found : Option (List Row)) (left : System) (lists : List (List Row)) (systems : List System) → with_dependents s cols ≡ col ∷ [] → left.definitions ≡ kept_definitions s cols
+    → left.columns ≡ s.columns - length (with_dependents s cols) → systems ≡ map (system_of left.columns left.definitions) lists → lists ≡ option_to_list found
+    → systems ≡ map (system_of (s.columns - 1) (kept_definitions s cols)) (option_to_list found)
+left_of_one s cols col found left lists systems one k c is e =
+    let n = ap (λ (cs : List ℕ). length cs) one in
+    let columns : left.columns ≡ s.columns - 1 = omega (arith, c, n) in
+    is ∙ ap (λ (m : ℕ). map (system_of m left.definitions) lists) columns ∙ ap (λ (ds : List Definition). map (system_of (s.columns - 1) ds) lists) k ∙ ap (λ (xs : List (List Row)). map (system_of (s.columns - 1) (kept_definitions s cols)) xs) e
+
+pub none_spent : (g : Gauge) (s : System) (col : ℕ) → IsSystemWithin g s → pos g.units ≤ℤ (pos g.units +ℤ elimination_units s.rows col)
+none_spent g s col w =
+    let most = most_not_negative g s.columns s.rows col (λ k d i. record { formed = w.rows k d i; within = w.within k d i }) in
+    omega (arith, linear)
+
+pub ruleset projection_steps = (plain_free, plain_holds, gone_one, low_one, none_spent)

@@ -12,9 +12,9 @@ use Rattle.isl_piece.specs.declared.row.Row.{Row}
 use Rattle.isl_piece.specs.Row.{IsWellFormed, IsRowWithin}
 use Rattle.isl_piece.specs.System.{HoldRows}
 use Rattle.isl_omega.specs.Column.{IsProper}
-use Rattle.isl_elim.specs.Parts.{PartsView, ArePartsOf, IsNextPart, HoldsPart}
+use Rattle.isl_column.specs.Parts.{PartsView, ArePartsOf, IsNextPart, AreNone, HoldsPart}
 use Rattle.isl_elim.specs.Sample.{IsSample, IsNowhere}
-use Rattle.isl_elim.proofs.PartsLaws.{proper_kept, charged_bits}
+use Rattle.isl_elim.proofs.PartsLaws.{proper_kept, charged_bits, next_proper, parts_after}
 use Rattle.isl_elim.proofs.EmptinessLaws.{IsSoFar, so_far_first, so_far_next, so_far_none, parts_nowhere, some_column}
 
 -- ---- numbers that are tried
@@ -93,4 +93,23 @@ part_sample g h k columns first now next rows point s n p = record {
     within_kept : (g h : Gauge) (xs : List ℤ) → h.bits ≡ g.bits → All (IsWithin g) xs → All (IsWithin h) xs
     within_kept g h xs e w = λ k d i. rw e (w k d i)
 
-pub ruleset sample_steps = (charges, so_far_first, so_far_next, so_far_none, none_sample, parts_none, part_sample, some_column)
+-- nothing is left, and so there is no point
+pub none_sampled : (g h k : Gauge) (columns : ℕ) (first now : PartsView) → IsSoFar g h columns first now → AreNone columns now
+    → IsCharged h k → IsNowhere columns (HoldsPart first) × IsCharged g k
+none_sampled g h k columns first now s n c = (so_far_none g h columns first now s n, IsCharged_trans g h k s.charged c)
+
+-- the part that was taken has a point
+pub some_sampled : (g h k m : Gauge) (columns : ℕ) (first now next : PartsView) (rows : List Row) (point : List ℤ)
+    → IsSoFar g h columns first now → IsNextPart h columns now rows next → IsCharged h k → IsSample k columns (HoldRows rows) point
+    → IsCharged k m
+    → IsSample g columns (HoldsPart first) point × IsCharged g m
+some_sampled g h k m columns first now next rows point s n c p d = (
+  part_sample g h k columns first now next rows point s n (record {
+    width = p.width;
+    within = λ i e l. rw (sym (charged_bits h k c)) (p.within i e l);
+    holds = p.holds;
+  }),
+  IsCharged_trans g k m (IsCharged_trans g h k s.charged c) d,
+)
+
+pub ruleset sample_steps = (charges, next_proper, parts_after, so_far_first, so_far_next, so_far_none, none_sample, parts_none, part_sample, some_column)

@@ -2,6 +2,7 @@
 use Rattle.std.specs.Prelude.{◌≡◌, ◌↔◌, Any, if◌then◌else◌, nat_eq, ℕ, suc, ◌-◌, ℤ, List, [], ◌∷◌, ◌++◌, length, All}
 use Rattle.std.specs.List.{insert, list_any}
 use Rattle.isl_meter.specs.Gauge.{Gauge}
+use Rattle.isl_piece.specs.declared.definition.Definition.{Definition}
 use Rattle.isl_piece.specs.declared.row.Row.{Row}
 use Rattle.isl_piece.specs.declared.system.System.{System}
 use Rattle.isl_piece.specs.Normal.{IsNormal}
@@ -9,8 +10,8 @@ use Rattle.isl_piece.specs.System.{HoldsSystem, free_columns}
 use Rattle.isl_column.specs.Column.{HoldAtAny}
 use Rattle.isl_omega.specs.Column.{IsProper}
 
--- the numbers that stand at none of the columns, in order, where the first stands at the column i
-abbrev pub without_from : ℕ → List ℕ → List ℤ → List ℤ
+-- the elements that stand at none of the columns, in order, where the first stands at the column i
+abbrev pub without_from : {A : Type 0} → ℕ → List ℕ → List A → List A
 without_from i cols [] = []
 without_from i cols (x ∷ xs) = if list_any (λ c. nat_eq c i) cols then without_from (suc i) cols xs else x ∷ without_from (suc i) cols xs
 
@@ -32,9 +33,9 @@ pub record AddsAlong (g : Gauge) (columns : ℕ) (cols : List ℕ) (P : List ℤ
   pub points : (point : List ℤ) → length point ≡ columns - length cols → HoldAtAny added point ↔ HoldsAlong columns cols P point
 
 -- ---- systems
--- the system of the rows in which each column is free
-abbrev pub plain_system : ℕ → List Row → System
-plain_system columns rows = record { columns = columns; definitions = []; rows = rows }
+-- the system of the rows over so many columns, of which the last have the definitions
+abbrev pub system_of : ℕ → List Definition → List Row → System
+system_of columns definitions rows = record { columns = columns; definitions = definitions; rows = rows }
 
 -- some of the systems holds at the point
 abbrev pub HoldsAtAny : List System → List ℤ → Type 0

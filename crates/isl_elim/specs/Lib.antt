@@ -1,6 +1,15 @@
+pub mod Dependents
 pub mod Elimination
 pub mod Emptiness
 pub mod Opened
 pub mod Others
-pub mod Parts
 pub mod Sample
+pub use Rattle.isl_column.specs.Column
+pub use Rattle.isl_column.specs.Exact
+pub use Rattle.isl_column.specs.Magnitude
+pub use Rattle.isl_column.specs.Units
+pub use Rattle.isl_meter.specs.Gauge
+pub use Rattle.isl_omega.specs.Equality
+pub use Rattle.isl_piece.specs.Normal
+pub use Rattle.isl_piece.specs.Row
+pub use Rattle.isl_piece.specs.System

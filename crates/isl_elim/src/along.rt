@@ -7,10 +7,10 @@ ghost use Rattle.isl_piece.specs.System.{HoldRows};
 ghost use Rattle.isl_omega.specs.Column.{IsProper};
 ghost use Rattle.isl_elim.specs.Elimination.{AddsAlong};
 ghost use Rattle.isl_elim.specs.Others.{others_of};
-ghost use Rattle.isl_elim.specs.Parts.{AreParts, HoldsPart};
+ghost use Rattle.isl_column.specs.Parts.{AreParts, HoldsPart};
 
 use crate::choice::cheapest;
-use crate::parts::Parts;
+use isl_column::Parts;
 use isl_meter::{Cut, Meter};
 use isl_piece::Rows;
 use std::alloc::{AllocError, Global};

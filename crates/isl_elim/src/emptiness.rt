@@ -10,11 +10,11 @@ ghost use Rattle.isl_omega.specs.Equality.{HasEquality};
 ghost use Rattle.isl_elim.specs.Emptiness.{HoldNowhere};
 ghost use Rattle.isl_piece.specs.System.{HoldsSystem, IsSystemWithin, free_columns};
 ghost use Rattle.isl_elim.specs.Sample.{IsNowhere};
-ghost use Rattle.isl_elim.specs.Parts.{AreParts, HoldsPart};
+ghost use Rattle.isl_column.specs.Parts.{AreParts, HoldsPart};
 
-use crate::choice::{any_column, cheapest};
+use crate::choice::any_column;
 use crate::opened::opened;
-use crate::parts::Parts;
+use isl_column::Parts;
 use isl_meter::{Cut, Meter};
 use isl_piece::{Rows, System};
 use std::alloc::Global;
@@ -79,8 +79,8 @@ fn are_empty(
     Ok(true)
 }
 
-/// Whether the system, in which no column is defined, holds at no point of whole numbers. Of one column this spends what
-/// `eliminate` does; it spends no unit of its own.
+/// Whether the system holds at no point of whole numbers. Of one column, which is free, this spends what `eliminate` does; it
+/// spends no unit of its own.
 ///
 /// # Errors
 ///
@@ -89,14 +89,13 @@ fn are_empty(
 #[tactic(auto, using(crate::proofs::OpenedLaws::opened_steps))]
 pub fn is_empty(alloc: Global, system: &System, meter: &mut Meter) -> Result<bool, Cut>
     requires well_formed { IsSystemWithin meter.old system.now }
-    requires plain { system.now.definitions ≡ [] }
     ensures exact { IfOk result (λ empty. IsTrue empty ↔ IsNowhere (free_columns system.now) (HoldsSystem system.now)) }
     ensures meter { MatchResult result (λ _. IsCharged meter.old meter.new) (IsCutBy meter.old meter.new) }
-    ensures units { system.now.columns ≡ 1 → pos meter.new.units ≤ℤ (pos meter.old.units +ℤ elimination_units system.now.rows 0) }
-    ensures equality { system.now.columns ≡ 1 → HasEquality 0 system.now.rows → meter.new.units ≡ meter.old.units }
-    ensures magnitude { system.now.columns ≡ 1 → IsSpared meter.old system.now.rows 0 result }
+    ensures units { system.now.definitions ≡ [] → system.now.columns ≡ 1 → pos meter.new.units ≤ℤ (pos meter.old.units +ℤ elimination_units system.now.rows 0) }
+    ensures equality { system.now.definitions ≡ [] → system.now.columns ≡ 1 → HasEquality 0 system.now.rows → meter.new.units ≡ meter.old.units }
+    ensures magnitude { system.now.definitions ≡ [] → system.now.columns ≡ 1 → IsSpared meter.old system.now.rows 0 result }
 {
-    if system.columns == 1 {
+    if system.columns == 1 && system.definitions.is_empty() {
         return column_nowhere(alloc, &system.rows, meter);
     }
     match opened(alloc, system, meter)? {

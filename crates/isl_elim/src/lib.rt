@@ -3,10 +3,10 @@
 
 mod along;
 mod choice;
+mod dependents;
 mod emptiness;
 mod line;
 mod opened;
-mod parts;
 mod progression;
 mod projection;
 mod sample;

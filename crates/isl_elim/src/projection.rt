@@ -3,40 +3,87 @@
 ghost use Rattle.std.specs.Prelude.{◌≡◌, ◌≢◌, ◌<◌, ◌-◌, ◌≤ℤ◌, ◌+ℤ◌, [], ◌∷◌, pos, ℕ, All, AllPairs, map, IfOk, MatchResult, option_to_list};
 ghost use Rattle.isl_meter.specs.Gauge.{IsCharged, IsCutBy};
 ghost use Rattle.isl_piece.specs.Normal.{IsNormal};
-ghost use Rattle.isl_piece.specs.System.{IsSystemWithin, free_columns};
+ghost use Rattle.isl_piece.specs.System.{HoldRows, IsSystemWithin, free_columns};
 ghost use Rattle.isl_column.specs.Exact.{IsExactColumn, exact_rows};
 ghost use Rattle.isl_column.specs.Magnitude.{HaveSmallNumbers, HaveOneCongruence};
+ghost use Rattle.isl_column.specs.Solved.{solved_rows};
 ghost use Rattle.isl_column.specs.Units.{elimination_units};
 ghost use Rattle.isl_omega.specs.Equality.{HasEquality};
-ghost use Rattle.isl_elim.specs.Elimination.{IsProjection, IsProjectionAlong, plain_system};
+ghost use Rattle.isl_elim.specs.Dependents.{dependents, kept_definitions};
+ghost use Rattle.isl_elim.specs.Elimination.{AddsAlong, IsProjection, IsProjectionAlong, system_of};
+ghost use Rattle.isl_elim.specs.Opened.{opened_rows};
 
 use crate::along::rows_without;
+use crate::dependents::{columns_left, with_dependents};
+use crate::opened::opened_rows;
 use isl_column::eliminate_rows;
 use isl_meter::{Cut, Meter};
 use isl_piece::{Rows, System};
 use std::alloc::{AllocError, Global};
 
-// The systems of the rows.
-fn systems_of(alloc: Global, lists: Vec<Rows>, columns: usize) -> Result<Vec<System>, AllocError>
-    ensures { IfOk result (λ systems. systems.items ≡ map (plain_system columns) lists.items) }
+// The systems of the rows, over the columns and with the definitions of `left`.
+fn systems_of(alloc: Global, lists: Vec<Rows>, left: &System) -> Result<Vec<System>, AllocError>
+    ensures { IfOk result (λ systems. systems.items ≡ map (system_of left.now.columns left.now.definitions) lists.items) }
 {
     let mut systems = Vec::with_capacity(alloc, lists.len())?;
     for rows in lists {
-        systems.push(System::from_rows(alloc, columns, rows))?;
+        systems.push(System {
+            columns: left.columns,
+            definitions: left.definitions.copy(alloc)?,
+            rows,
+        })?;
     }
     Ok(systems)
 }
 
-/// The systems without the column `col`, of which some holds at a point exactly where some whole number put at `col` makes
-/// `system`, in which no column is defined, hold. Each is in normal form.
+// What is left of the rows without the columns that go, those of the definitions among them that are opened.
+#[tactic(auto, using(crate::proofs::ProjectionLaws::projection_steps))]
+fn lists_left(
+    alloc: Global,
+    system: &System,
+    gone: &[usize],
+    meter: &mut Meter,
+) -> Result<Vec<Rows>, Cut>
+    requires well_formed { IsSystemWithin meter.old system.now }
+    requires distinct { AllPairs (λ a b. a ≢ b) gone.now }
+    requires gone_in { All (λ col. col < system.now.columns) gone.now }
+    ensures exact { MatchResult result
+        (λ lists. AddsAlong meter.old system.now.columns gone.now (HoldRows (opened_rows system.now gone.now)) [] lists.items × IsCharged meter.old meter.new)
+        (IsCutBy meter.old meter.new) }
+    ensures exact_column { (col : ℕ) → gone.now ≡ col ∷ [] → col < free_columns system.now → IsExactColumn col system.now.rows → ¬ HasEquality col system.now.rows
+        → IfOk result (λ lists. lists.items ≡ option_to_list (exact_rows system.now.rows col)) }
+    ensures solved_column { (col : ℕ) → gone.now ≡ col ∷ [] → col < free_columns system.now → HasEquality col system.now.rows
+        → IfOk result (λ lists. lists.items ≡ option_to_list (solved_rows system.now.rows col)) }
+    ensures units { (col : ℕ) → gone.now ≡ col ∷ [] → col < free_columns system.now → pos meter.new.units ≤ℤ (pos meter.old.units +ℤ elimination_units system.now.rows col) }
+    ensures equality { (col : ℕ) → gone.now ≡ col ∷ [] → col < free_columns system.now → HasEquality col system.now.rows → meter.new.units ≡ meter.old.units }
+    ensures magnitude { (col : ℕ) → gone.now ≡ col ∷ [] → col < free_columns system.now → meter.old.bits ≡ 127 → HaveSmallNumbers system.now.rows
+        → HaveOneCongruence system.now.rows col → result ≢ Err Cut.Overflow }
+{
+    if gone.len() == 1 && gone[0] < system.free() {
+        return eliminate_rows(
+            alloc,
+            system.rows.as_slice(),
+            system.columns,
+            gone[0],
+            meter,
+        );
+    }
+    let rows = opened_rows(alloc, system, gone, meter)?;
+    rows_without(alloc, &rows, system.columns, gone, meter)
+}
+
+/// The systems without the free column `col`, of which some holds at a point of the other free columns exactly where some whole
+/// number put at `col` makes `system` hold. Each is in normal form. The definitions that depend on `col`, directly or through
+/// others, go with it; the others are kept, in order.
 ///
-/// Where an equality has the column, no unit is used; else at most `elimination_units`. Where none has it and the column is
-/// exact, what is answered is a function of the system: at most one system.
+/// Where no definition depends on `col`: if an equality has the column, no unit is used; else at most `elimination_units`; and
+/// if one has it, or the column is exact, what is answered is a function of the system: at most one system.
 ///
 /// # Errors
 ///
-/// `Overflow` where a number passes the limit of the meter, `Budget` where its units are used up, and `NoMemory`. A limit
-/// of 127 bits is not passed where the numbers are at most `2^30` and at most one congruence has the column.
+/// `Overflow` where a number passes the limit of the meter, `Budget` where its units are used up, and `NoMemory`. Where no
+/// definition depends on `col`, a limit of 127 bits is not passed where the numbers of the rows are at most `2^30` and at most
+/// one congruence has the column.
 #[tactic(auto, using(crate::proofs::ProjectionLaws::projection_steps))]
 pub fn eliminate(
     alloc: Global,
@@ -45,26 +92,27 @@ pub fn eliminate(
     meter: &mut Meter,
 ) -> Result<Vec<System>, Cut>
     requires well_formed { IsSystemWithin meter.old system.now }
-    requires plain { system.now.definitions ≡ [] }
     requires col_in { col < free_columns system.now }
     ensures projection { IfOk result (λ systems. IsProjection system.now col systems.items) }
+    ensures definitions { IfOk result (λ systems. All (λ s. s.definitions ≡ kept_definitions system.now (col ∷ [])) systems.items) }
     ensures within { IfOk result (λ systems. All (IsSystemWithin meter.old) systems.items) }
     ensures normal { IfOk result (λ systems. All (λ s. IsNormal s.rows) systems.items) }
-    ensures plain { IfOk result (λ systems. All (λ s. s.definitions ≡ []) systems.items) }
-    ensures exact_column { IsExactColumn col system.now.rows → ¬ HasEquality col system.now.rows
-        → IfOk result (λ systems. systems.items ≡ map (plain_system (system.now.columns - 1)) (option_to_list (exact_rows system.now.rows col))) }
+    ensures exact_column { dependents system.now (col ∷ []) ≡ [] → IsExactColumn col system.now.rows → ¬ HasEquality col system.now.rows
+        → IfOk result (λ systems. systems.items ≡ map (system_of (system.now.columns - 1) (kept_definitions system.now (col ∷ []))) (option_to_list (exact_rows system.now.rows col))) }
+    ensures solved_column { dependents system.now (col ∷ []) ≡ [] → HasEquality col system.now.rows
+        → IfOk result (λ systems. systems.items ≡ map (system_of (system.now.columns - 1) (kept_definitions system.now (col ∷ []))) (option_to_list (solved_rows system.now.rows col))) }
     ensures meter { MatchResult result (λ _. IsCharged meter.old meter.new) (IsCutBy meter.old meter.new) }
-    ensures units { pos meter.new.units ≤ℤ (pos meter.old.units +ℤ elimination_units system.now.rows col) }
-    ensures equality { HasEquality col system.now.rows → meter.new.units ≡ meter.old.units }
-    ensures magnitude { meter.old.bits ≡ 127 → HaveSmallNumbers system.now.rows → HaveOneCongruence system.now.rows col → result ≢ Err Cut.Overflow }
+    ensures units { dependents system.now (col ∷ []) ≡ [] → pos meter.new.units ≤ℤ (pos meter.old.units +ℤ elimination_units system.now.rows col) }
+    ensures equality { dependents system.now (col ∷ []) ≡ [] → HasEquality col system.now.rows → meter.new.units ≡ meter.old.units }
+    ensures magnitude { dependents system.now (col ∷ []) ≡ [] → meter.old.bits ≡ 127 → HaveSmallNumbers system.now.rows → HaveOneCongruence system.now.rows col
+        → result ≢ Err Cut.Overflow }
 {
-    let lists = eliminate_rows(alloc, system.rows.as_slice(), system.columns, col, meter)?;
-    let systems = systems_of(alloc, lists, system.columns - 1)?;
-    Ok(systems)
+    eliminate_all(alloc, system, &[col], meter)
 }
 
-/// The systems without the columns `cols`, of which some holds at a point exactly where some whole numbers put at `cols` make
-/// `system`, in which no column is defined, hold. Each is in normal form. Of one column this is `eliminate`.
+/// The systems without the free columns `cols`, of which some holds at a point of the other free columns exactly where some whole
+/// numbers put at `cols` make `system` hold. Each is in normal form. The definitions that depend on `cols` go with them; the
+/// others are kept, in order. Of one column this is `eliminate`.
 ///
 /// # Errors
 ///
@@ -77,24 +125,25 @@ pub fn eliminate_all(
     meter: &mut Meter,
 ) -> Result<Vec<System>, Cut>
     requires well_formed { IsSystemWithin meter.old system.now }
-    requires plain { system.now.definitions ≡ [] }
     requires distinct { AllPairs (λ a b. a ≢ b) cols.now }
     requires cols_in { All (λ col. col < free_columns system.now) cols.now }
     ensures projection { IfOk result (λ systems. IsProjectionAlong system.now cols.now systems.items) }
+    ensures definitions { IfOk result (λ systems. All (λ s. s.definitions ≡ kept_definitions system.now cols.now) systems.items) }
     ensures within { IfOk result (λ systems. All (IsSystemWithin meter.old) systems.items) }
     ensures normal { IfOk result (λ systems. All (λ s. IsNormal s.rows) systems.items) }
-    ensures plain { IfOk result (λ systems. All (λ s. s.definitions ≡ []) systems.items) }
     ensures meter { MatchResult result (λ _. IsCharged meter.old meter.new) (IsCutBy meter.old meter.new) }
-    ensures exact_column { (col : ℕ) → cols.now ≡ col ∷ [] → IsExactColumn col system.now.rows → ¬ HasEquality col system.now.rows
-        → IfOk result (λ systems. systems.items ≡ map (plain_system (system.now.columns - 1)) (option_to_list (exact_rows system.now.rows col))) }
-    ensures units { (col : ℕ) → cols.now ≡ col ∷ [] → pos meter.new.units ≤ℤ (pos meter.old.units +ℤ elimination_units system.now.rows col) }
-    ensures equality { (col : ℕ) → cols.now ≡ col ∷ [] → HasEquality col system.now.rows → meter.new.units ≡ meter.old.units }
-    ensures magnitude { (col : ℕ) → cols.now ≡ col ∷ [] → meter.old.bits ≡ 127 → HaveSmallNumbers system.now.rows → HaveOneCongruence system.now.rows col → result ≢ Err Cut.Overflow }
+    ensures exact_column { (col : ℕ) → cols.now ≡ col ∷ [] → dependents system.now cols.now ≡ [] → IsExactColumn col system.now.rows → ¬ HasEquality col system.now.rows
+        → IfOk result (λ systems. systems.items ≡ map (system_of (system.now.columns - 1) (kept_definitions system.now cols.now)) (option_to_list (exact_rows system.now.rows col))) }
+    ensures solved_column { (col : ℕ) → cols.now ≡ col ∷ [] → dependents system.now cols.now ≡ [] → HasEquality col system.now.rows
+        → IfOk result (λ systems. systems.items ≡ map (system_of (system.now.columns - 1) (kept_definitions system.now cols.now)) (option_to_list (solved_rows system.now.rows col))) }
+    ensures units { (col : ℕ) → cols.now ≡ col ∷ [] → dependents system.now cols.now ≡ [] → pos meter.new.units ≤ℤ (pos meter.old.units +ℤ elimination_units system.now.rows col) }
+    ensures equality { (col : ℕ) → cols.now ≡ col ∷ [] → dependents system.now cols.now ≡ [] → HasEquality col system.now.rows → meter.new.units ≡ meter.old.units }
+    ensures magnitude { (col : ℕ) → cols.now ≡ col ∷ [] → dependents system.now cols.now ≡ [] → meter.old.bits ≡ 127 → HaveSmallNumbers system.now.rows
+        → HaveOneCongruence system.now.rows col → result ≢ Err Cut.Overflow }
 {
-    if cols.len() == 1 {
-        return eliminate(alloc, system, cols[0], meter);
-    }
-    let lists = rows_without(alloc, &system.rows, system.columns, cols, meter)?;
-    let systems = systems_of(alloc, lists, system.columns.saturating_sub(cols.len()))?;
+    let gone = with_dependents(alloc, system, cols)?;
+    let left = columns_left(alloc, system, cols, gone.as_slice(), meter)?;
+    let lists = lists_left(alloc, system, gone.as_slice(), meter)?;
+    let systems = systems_of(alloc, lists, &left)?;
     Ok(systems)
 }

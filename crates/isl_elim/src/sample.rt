@@ -1,19 +1,19 @@
 //! A point at which rows hold.
 
-ghost use Rattle.std.specs.Prelude.{◌≡◌, ◌+◌, ◌≤◌, length, All, [], IfOk, MatchOption, MatchResult};
+ghost use Rattle.std.specs.Prelude.{◌≡◌, ◌+◌, ◌≤◌, length, All, IfOk, MatchOption, MatchResult};
 ghost use Rattle.std.specs.List.{remove};
 ghost use Rattle.isl_meter.specs.Gauge.{IsCharged, IsCutBy, IsWithin};
 ghost use Rattle.isl_piece.specs.Normal.{IsNormal};
 ghost use Rattle.isl_piece.specs.System.{HoldRows};
 ghost use Rattle.isl_omega.specs.Column.{IsProper};
 ghost use Rattle.isl_piece.specs.System.{HoldsSystem, IsSystemWithin, free_columns};
-ghost use Rattle.isl_elim.specs.Parts.{AreParts, HoldsPart};
+ghost use Rattle.isl_column.specs.Parts.{AreParts, HoldsPart};
 ghost use Rattle.isl_elim.specs.Sample.{IsSample, IsNowhere};
 
 use crate::choice::any_column;
 use crate::line::tries_at;
 use crate::opened::opened;
-use crate::parts::Parts;
+use isl_column::Parts;
 use isl_meter::{Cut, Meter};
 use isl_piece::{Rows, System};
 use std::alloc::Global;
@@ -102,8 +102,8 @@ fn sample_parts(
     Ok(None)
 }
 
-/// A point at which the system, in which no column is defined, holds, with its numbers within the limit of the meter; none
-/// exactly where there is no point.
+/// A point of the free columns at which the system holds, with its numbers within the limit of the meter; none exactly where
+/// there is no point.
 ///
 /// # Errors
 ///
@@ -115,7 +115,6 @@ pub fn sample_point(
     meter: &mut Meter,
 ) -> Result<Option<Vec<i128>>, Cut>
     requires well_formed { IsSystemWithin meter.old system.now }
-    requires plain { system.now.definitions ≡ [] }
     ensures exact { IfOk result (λ sample. MatchOption sample
         (IsNowhere (free_columns system.now) (HoldsSystem system.now))
         (λ point. IsSample meter.old (free_columns system.now) (HoldsSystem system.now) point.items)) }

@@ -15,7 +15,8 @@ use Rattle.isl_statement.specs.Limits.{statement_is_within}
 use Rattle.isl_statement.specs.Read.{NoStatement, judged, IsDueTo, IsDue}
 use Rattle.isl_statement.proofs.ReadLaws.{one_statement}
 use Rattle.isl_eval.specs.State.{Moment}
-use Rattle.isl_eval.specs.Spelled.{BytesSpell, OfTokens, OfStatement, SpellOne, is_unsupported}
+use Rattle.isl_simple.specs.Unsupported.{is_unsupported}
+use Rattle.isl_eval.specs.Spelled.{BytesSpell, OfTokens, OfStatement, SpellOne}
 use Rattle.isl_eval.specs.Causes.{causes, IsThere, FirstGives}
 use Rattle.isl_eval.specs.Evaluation.{IsRead, IsWhyNot}
 use Rattle.isl_eval.proofs.SoundLaws.{spelled_sound}
@@ -40,10 +41,10 @@ of_tokens bytes ts P cut h = subst P (same_tokens bytes h.0 ts h.1 cut) h.2
 pub of_statement : (bytes : List ℕ) (stmt : Stmt) (P : Stmt → Type 0) → BytesSpell bytes stmt → OfStatement bytes P → P stmt
 of_statement bytes stmt P spelled h = subst P (one bytes h.0 stmt h.1 spelled) h.2
 
-is_not : (a : Bool) → a ≡ false → ¬ (a ≡ true)
+pub is_not : (a : Bool) → a ≡ false → ¬ (a ≡ true)
 is_not a not_so so = false≢true (sym not_so ∙ so)
 
-is_so : (a : Bool) → a ≡ true → ¬ (a ≡ false)
+pub is_so : (a : Bool) → a ≡ true → ¬ (a ≡ false)
 is_so a so not_so = false≢true (sym not_so ∙ so)
 
 -- ---- what limits make of a statement

@@ -1,9 +1,8 @@
 -- What is kept of expressions.
-use Rattle.std.proofs.Common.{◌≡◌, ◌∙◌, ◌↔◌, refl, sym, ap, ap₂, subst, ◌-◌, ◌^◌, false, is_some, List, [], ◌∷◌, ◌++◌, get_or, Option, Some, None, option_map}
-use Rattle.std.specs.Prelude.{not, ◌||◌}
-use Rattle.std.specs.List.{All}
+use Rattle.std.proofs.Common.{◌≡◌, ◌∙◌, ◌↔◌, refl, sym, ap, subst, ◌-◌, ◌^◌, ℤ, true, false, is_some, List, [], ◌∷◌, ◌++◌, get_or, Option, Some, None, option_map}
+use Rattle.std.specs.Prelude.{not, ◌||◌, unsigned_abs}
 use Rattle.std.specs.Str.{bytes_eq}
-use Rattle.std.proofs.lemmas.Bool.{false≢true}
+use Rattle.std.proofs.lemmas.Bool.{false≢true, or_parts, not-false}
 use Rattle.std.proofs.lemmas.List.Elements.{All-head}
 use Rattle.std.proofs.lemmas.List.{append-nil}
 use Rattle.indexmap.specs.IndexSet.{insert_all, insert_key}
@@ -16,15 +15,17 @@ use Rattle.isl_space.proofs.NamesLaws.{inserted}
 use Rattle.isl_piece.proofs.RowMagnitudes.{up_to_limit}
 use Rattle.isl_union.specs.KeptValue.{KeptValue, IsKeptValue, Has}
 use Rattle.isl_tree.specs.declared.tree.Literal.{Literal}
+use Rattle.isl_tree.specs.Literal.{LiteralHas}
+use Rattle.isl_tree.specs.Plain.{is_plain}
+use Rattle.isl_tree.specs.Known.{literal_is_known}
 use Rattle.isl_lower.specs.Value.{IsWellFormedLiteral, IsValueWithin, HasSameElements, value_lowered}
-use Rattle.isl_expr.specs.declared.tree.ValueKind.{ValueKind}
 use Rattle.isl_expr.specs.declared.tree.Expr.{Expr}
-use Rattle.isl_expr.specs.declared.tree.Expr.TheVariants as e
-use Rattle.isl_expr.specs.Expr.{literals_of}
-use Rattle.isl_kinds.specs.Typed.{TypeView, params_of, has_unknown, kind_of, declared_of, bound_to}
+use Rattle.isl_expr.specs.declared.tree.Expr as e
+use Rattle.isl_kinds.specs.Typed.{TypeView, ScopeView, params_of, has_unknown, kind_of, declared_of, bound_to}
 use Rattle.isl_eval.specs.State.{Kept, StateView, Moment, kept_of, type_of, scope_of, HasNumbersUpTo, Fits}
+use Rattle.isl_eval.specs.Worked.{kept_value, value_of}
 use Rattle.isl_eval.specs.Selection.{KeptHas, Selects, Keeps}
-use Rattle.isl_eval.specs.Evaluation.{IsOfType}
+use Rattle.isl_eval.specs.Evaluation.{IsOfType, IsSoundExpr, IsValueOf}
 use Rattle.isl_eval.proofs.StateLaws.{bound_at}
 
 -- ---- a list of distinct names, joined to none, is itself
@@ -39,82 +40,79 @@ declared_itself names distinct = inserted_all [] names names distinct refl
 pub value_up_to : (g : Gauge) (value : KeptValue) → IsValueWithin g value → HasNumbersUpTo (2 ^ g.bits - 1) value
 value_up_to g value within i d low = λ j e inside. up_to_limit g (get_or (get_or value.pieces i d).rows j e) (within i d low j e inside)
 
-some_kind : (a b : ValueKind) → Some a ≡ Some b → a ≡ b
-some_kind a b e = cc
-
 -- ---- a name
-module _ (before : Moment) (name : Name) (kept : Kept) (t : TypeView) (there : kept_of before.state name ≡ Some kept) where
-  type_there : bound_to (scope_of before.state) name ≡ Some (type_of kept)
-  type_there = bound_at before.state name ∙ ap (option_map type_of) there
+module _ (state : StateView) (name : Name) (kept : Kept) (there : kept_of state name ≡ Some kept) where
+  type_there : bound_to (scope_of state) name ≡ Some (type_of kept)
+  type_there = bound_at state name ∙ ap (option_map type_of) there
 
-  kind_there : kind_of (scope_of before.state) (e.Name name) ≡ Some kept.kind
+  pub kind_there : kind_of (scope_of state) (e.Name name) ≡ Some kept.kind
   kind_there = ap (option_map (λ (t : TypeView). t.kind)) type_there
 
-  params_there : IsKeptValue kept.value → declared_of (scope_of before.state) (e.Name name) ≡ kept.value.params
+  params_there : IsKeptValue kept.value → declared_of (scope_of state) (e.Name name) ≡ kept.value.params
   params_there sound = ap params_of type_there ∙ declared_itself kept.value.params sound.params.distinct
 
-  selects_there : (valuation : Valuation) (element : Element) → Has kept.value valuation element ↔ Selects before.state (e.Name name) valuation element
+  selects_there : (valuation : Valuation) (element : Element) → Has kept.value valuation element ↔ Selects state (e.Name name) valuation element
   selects_there valuation element = subst (λ (o : Option Kept). Has kept.value valuation element ↔ KeptHas o valuation element) (sym there) ((λ h. h), (λ h. h))
 
-  pub name_keeps : IsKeptValue kept.value → Fits (limit_of before.meter) before.state → Keeps before (e.Name name) kept
-  name_keeps sound fits = record {
-    kind = kind_there;
-    params = params_there sound;
+  pub name_value : (limit : ℤ) → IsKeptValue kept.value → Fits limit state
+      → IsValueOf (value_of state (e.Name name)) (declared_of (scope_of state) (e.Name name)) (Selects state (e.Name name)) (unsigned_abs limit) kept.value
+  name_value limit sound fits = record {
+    written = sym (ap kept_value there);
+    kept = sound;
+    params = sym (params_there sound);
     elements = selects_there;
-    written = there;
     numbers = fits name kept there;
   }
 
-  pub name_type : IsKeptValue kept.value → IsOfType (scope_of before.state) (e.Name name) t → type_of kept ≡ t
-  name_type sound typed =
-      let kinds : kept.kind ≡ t.kind = some_kind kept.kind t.kind (sym kind_there ∙ typed.kind) in
-      let params : kept.value.params ≡ t.params = sym (params_there sound) ∙ typed.params in
-      ap₂ (λ (k : ValueKind) (ps : List Name). let made : TypeView = record { kind = k; params = ps } in made) kinds params
+-- what is made of an expression
+abbrev pub Makes : StateView → ℤ → Expr → KeptValue → Type 0
+Makes state limit expr value = IsValueOf (value_of state expr) (declared_of (scope_of state) expr) (Selects state expr) (unsigned_abs limit) value
+
+pub name_makes : (state : StateView) (limit : ℤ) (expr : Expr) (name : Name) (kept : Kept) (value : KeptValue) → expr ≡ e.Name name → value ≡ kept.value
+    → kept_of state name ≡ Some kept → IsKeptValue kept.value → Fits limit state → Makes state limit expr value
+name_makes state limit expr name kept value is same there sound fits =
+    subst (λ (x : Expr). Makes state limit x value) (sym is)
+    (subst (λ (v : KeptValue). Makes state limit (e.Name name) v) (sym same) (name_value state name kept there limit sound fits))
 
 -- ---- a literal
-module _ (before : Moment) (literal : Literal) (value : KeptValue) (t : TypeView) (formed : IsWellFormedLiteral literal)
-    (is : value ≡ value_lowered literal) (typed : IsOfType (scope_of before.state) (e.Literal literal) t) where
-  made : Kept
-  made = record { kind = t.kind; value = value }
+pub literal_makes : (state : StateView) (limit : ℤ) (expr : Expr) (literal : Literal) (value : KeptValue) → expr ≡ e.Literal literal → IsWellFormedLiteral literal
+    → IsValueOf (value_lowered literal) literal.params (LiteralHas literal) (unsigned_abs limit) value → Makes state limit expr value
+literal_makes state limit expr literal value is formed made =
+    subst (λ (x : Expr). Makes state limit x value) (sym is)
+    (record { written = made.written; kept = made.kept; params = made.params ∙ sym (declared_itself literal.params formed.params.distinct); elements = made.elements; numbers = made.numbers })
 
-  params_made : declared_of (scope_of before.state) (e.Literal literal) ≡ value.params
-  params_made = declared_itself literal.params formed.params.distinct ∙ sym (ap (λ (v : KeptValue). v.params) is)
+pub literal_value : (g : Gauge) (literal : Literal) (value : KeptValue) → value ≡ value_lowered literal → IsKeptValue value → HasSameElements literal value
+    → IsValueWithin g value → IsValueOf (value_lowered literal) literal.params (LiteralHas literal) (2 ^ g.bits - 1) value
+literal_value g literal value is kept same within =
+    record { written = is; kept = kept; params = ap (λ (v : KeptValue). v.params) is; elements = same; numbers = value_up_to g value within }
 
-  pub literal_keeps : HasSameElements literal value → IsValueWithin before.meter value → Keeps before (e.Literal literal) (record { kind = t.kind; value = value })
-  literal_keeps same within = record {
-    kind = typed.kind;
-    params = params_made;
-    elements = same;
-    written = λ plain. is;
-    numbers = value_up_to before.meter value within;
-  }
-
-  pub literal_type : type_of (record { kind = t.kind; value = value }) ≡ t
-  literal_type =
-      let params : value.params ≡ t.params = sym params_made ∙ typed.params in
-      ap (λ (ps : List Name). let built : TypeView = record { kind = t.kind; params = ps } in built) params
-
--- ---- what is selected
+-- ---- a name is bound, and a literal plain and known
 pub never_unbound : (state : StateView) (name : Name) → kept_of state name ≡ None → ¬ (has_unknown (scope_of state) (e.Name name) ≡ false)
 never_unbound state name none known =
     let unbound : bound_to (scope_of state) name ≡ None = bound_at state name ∙ ap (option_map type_of) none in
     false≢true (sym known ∙ ap (λ (o : Option TypeView). not (is_some o) || false) unbound)
 
-pub name_selected : (before : Moment) (expr : Expr) (name : Name) (kept found : Kept) (t : TypeView) → expr ≡ e.Name name → found ≡ kept → kept_of before.state name ≡ Some kept
-    → IsOfType (scope_of before.state) expr t → IsKeptValue kept.value → Fits (limit_of before.meter) before.state → Keeps before expr found × (type_of found ≡ t)
-name_selected before expr name kept found t is same there typed sound fits =
-    subst (λ (x : Expr). Keeps before x found × (type_of found ≡ t)) (sym is)
-    (subst (λ (k : Kept). Keeps before (e.Name name) k × (type_of k ≡ t)) (sym same)
-    (name_keeps before name kept t there sound fits, name_type before name kept t there sound (subst (λ (x : Expr). IsOfType (scope_of before.state) x t) is typed)))
+pub only_literal : (scope : ScopeView) (expr : Expr) (literal : Literal) → expr ≡ e.Literal literal → IsSoundExpr scope expr
+    → (is_plain literal ≡ true) × (literal_is_known literal ≡ true) × IsWellFormedLiteral literal
+only_literal scope expr literal is sound =
+    let of_literal = subst (IsSoundExpr scope) is sound in (
+      not-false (is_plain literal) (or_parts (not (is_plain literal)) false of_literal.supported).0,
+      not-false (literal_is_known literal) (or_parts (not (literal_is_known literal)) false of_literal.known).0,
+      All-head IsWellFormedLiteral literal [] of_literal.literals,
+    )
 
-pub literal_selected : (before : Moment) (expr : Expr) (literal : Literal) (value : KeptValue) (found : Kept) (t : TypeView) → expr ≡ e.Literal literal
-    → found ≡ record { kind = t.kind; value = value } → IsWellFormedLiteral literal → value ≡ value_lowered literal → HasSameElements literal value → IsValueWithin before.meter value
-    → IsOfType (scope_of before.state) expr t → Keeps before expr found × (type_of found ≡ t)
-literal_selected before expr literal value found t is same formed exact elements within typed =
-    let of_literal = subst (λ (x : Expr). IsOfType (scope_of before.state) x t) is typed in
-    subst (λ (x : Expr). Keeps before x found × (type_of found ≡ t)) (sym is)
-    (subst (λ (k : Kept). Keeps before (e.Literal literal) k × (type_of k ≡ t)) (sym same)
-    (literal_keeps before literal value t formed exact of_literal elements within, literal_type before literal value t formed exact of_literal))
-
-pub only_literal : (expr : Expr) (literal : Literal) → expr ≡ e.Literal literal → All IsWellFormedLiteral (literals_of expr) → IsWellFormedLiteral literal
-only_literal expr literal is sound = All-head IsWellFormedLiteral literal [] (subst (λ (x : Expr). All IsWellFormedLiteral (literals_of x)) is sound)
+-- ---- what is kept
+pub made_keeps : (before : Moment) (expr : Expr) (kept : Kept) (value : KeptValue) (t : TypeView) → kept ≡ record { kind = t.kind; value = value }
+    → IsOfType (scope_of before.state) expr t → Makes before.state (limit_of before.meter) expr value → Keeps before expr kept × (type_of kept ≡ t)
+made_keeps before expr kept value t is typed made =
+    subst (λ (k : Kept). Keeps before expr k × (type_of k ≡ t)) (sym is) (
+      record {
+        kind = typed.kind;
+        params = sym made.params;
+        elements = made.elements;
+        written = made.written;
+        well_formed = made.kept;
+        numbers = made.numbers;
+      },
+      ap (λ (ps : List Name). let built : TypeView = record { kind = t.kind; params = ps } in built) (made.params ∙ typed.params),
+    )

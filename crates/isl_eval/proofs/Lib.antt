@@ -1,8 +1,15 @@
 pub mod LexLaws
 pub mod NameLaws
 pub mod LiteralLaws
+pub mod PartLaws
 pub mod SoundLaws
 pub mod CauseLaws
 pub mod StateLaws
 pub mod KeptLaws
+pub mod NarrowLaws
+pub mod RowLaws
+pub mod WorkedLaws
+pub mod PassLaws
+pub mod ValueLaws
+pub mod DepthLaws
 pub mod StepLaws

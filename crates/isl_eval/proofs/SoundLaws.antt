@@ -1,10 +1,10 @@
 -- What a literal that is taken declares and names is what a value may have.
 use Rattle.std.proofs.Common.{◌≡◌, ◌≢◌, ◌∙◌, refl, sym, ℕ, ◌≤◌, true, false, List, [], ◌∷◌, length, get_or, Option, Some, None, arith}
 use Rattle.std.specs.Prelude.{not, ◌&&◌, nat_le}
-use Rattle.std.specs.List.{All, list_all}
+use Rattle.std.specs.List.{All, list_all, list_any}
 use Rattle.std.specs.Str.{bytes_eq}
 use Rattle.std.proofs.lemmas.Bool.{false≢true, and_parts, or_parts, not-true, not-false, leb-true}
-use Rattle.std.proofs.lemmas.List.Elements.{All-nil, All-cons, All-head}
+use Rattle.std.proofs.lemmas.List.Elements.{All-nil, All-cons}
 use Rattle.std.proofs.lemmas.List.Kept.{AllPairs-cons}
 use Rattle.std.proofs.lemmas.Slice.Eq.{bytes_eq-Decides}
 use Rattle.isl_math.proofs.ListLaws.{All-pass}
@@ -26,11 +26,13 @@ use Rattle.isl_text.specs.Limits.{is_within}
 use Rattle.isl_lower.specs.Value.{IsWellFormedLiteral}
 use Rattle.isl_expr.specs.declared.tree.Stmt.{Stmt}
 use Rattle.isl_expr.specs.declared.tree.Stmt.TheVariants.{Empty, Bind, Show}
-use Rattle.isl_expr.specs.declared.tree.Expr.{Expr, Row', Prefix', Any', Last', Post'}
-use Rattle.isl_expr.specs.declared.tree.Expr as e
+use Rattle.isl_expr.specs.declared.tree.Expr.{Expr}
 use Rattle.isl_expr.specs.Expr.{literals_of, statement_literals}
 use Rattle.isl_statement.specs.Limits.{statement_is_within}
-use Rattle.isl_eval.specs.Spelled.{BytesSpell, is_brought, is_unsupported}
+use Rattle.isl_kinds.specs.Parts.{parts_of}
+use Rattle.isl_simple.specs.Unsupported.{is_later, is_unsupported}
+use Rattle.isl_eval.specs.Spelled.{BytesSpell}
+use Rattle.isl_eval.proofs.PartLaws.{each_literal}
 use Rattle.isl_eval.proofs.LexLaws.{lexed}
 use Rattle.isl_eval.proofs.LiteralLaws.{IsSpelled, literals_spelled}
 
@@ -88,21 +90,17 @@ sound literal plain_literal within_literal spelled =
     }
 
 -- the literals of an expression that is taken
-of_expr : (expr : Expr) → is_brought expr ≡ true → list_all is_within (literals_of expr) ≡ true → All IsSpelled (literals_of expr) → All IsWellFormedLiteral (literals_of expr)
-of_expr (e.Name name) brought within spelled = All-nil IsWellFormedLiteral
-of_expr (e.Literal literal) brought within spelled =
-    let fits = and_parts (is_within literal) true within in
-    All-cons IsWellFormedLiteral literal [] (sound literal brought fits.0 (All-head IsSpelled literal [] spelled)) (All-nil IsWellFormedLiteral)
-of_expr (Row' s first t links) brought within spelled = absurd (false≢true brought)
-of_expr (Prefix' word s operand) brought within spelled = absurd (false≢true brought)
-of_expr (Any' r source s sink t schedule) brought within spelled = absurd (false≢true brought)
-of_expr (Last' r source s sink t schedule) brought within spelled = absurd (false≢true brought)
-of_expr (Post' s operand t postfixes) brought within spelled = absurd (false≢true brought)
+of_expr : (expr : Expr) → list_any is_later (parts_of expr) ≡ false → list_all is_within (literals_of expr) ≡ true → All IsSpelled (literals_of expr)
+    → All IsWellFormedLiteral (literals_of expr)
+of_expr expr supported within spelled =
+    let plain = each_literal is_later expr supported in
+    let fits = All-pass is_within (literals_of expr) within in
+    λ i d low. sound (get_or (literals_of expr) i d) (not-false (is_plain (get_or (literals_of expr) i d)) (plain i d low)) (fits i d low) (spelled i d low)
 
 of_statement : (stmt : Stmt) → is_unsupported stmt ≡ false → statement_is_within stmt ≡ true → All IsSpelled (statement_literals stmt) → All IsWellFormedLiteral (statement_literals stmt)
 of_statement Empty supported within spelled = All-nil IsWellFormedLiteral
-of_statement (Bind name expr) supported within spelled = of_expr expr (not-false (is_brought expr) supported) within spelled
-of_statement (Show expr) supported within spelled = of_expr expr (not-false (is_brought expr) supported) within spelled
+of_statement (Bind name expr) supported within spelled = of_expr expr supported within spelled
+of_statement (Show expr) supported within spelled = of_expr expr supported within spelled
 
 pub spelled_sound : (bytes : List ℕ) (stmt : Stmt) → BytesSpell bytes stmt → is_unsupported stmt ≡ false → statement_is_within stmt ≡ true → All IsWellFormedLiteral (statement_literals stmt)
 spelled_sound bytes stmt spelled supported within =

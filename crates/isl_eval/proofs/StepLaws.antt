@@ -1,7 +1,11 @@
 -- One step: what is answered, and what is refused.
-use Rattle.std.proofs.Common.{◌≡◌, ◌≢◌, ◌∙◌, ◌⊎◌, inl, inr, refl, sym, ap, subst, ℕ, Bool, true, false, List, [], ◌∷◌, ◌++◌, Option, Some, None, Result, Ok, Err, arith}
-use Rattle.std.specs.Prelude.{IfOk, MatchResult}
-use Rattle.isl_meter.specs.Gauge.{Gauge, limit_of, overflown, IsCharged, IsKept}
+use Rattle.std.proofs.Common.{◌≡◌, ◌≢◌, ◌∙◌, ◌⊎◌, inl, inr, refl, sym, ap, subst, ◌<◌, ◌≤◌, ◌-◌, ◌^◌, ℕ, ℤ, pos, Bool, true, false, List, [], ◌∷◌, ◌++◌, length, Option, Some, None, Result, Ok, Err, arith}
+use Rattle.std.specs.Prelude.{IfOk, IfErr, MatchResult}
+use Rattle.std.specs.List.{All, list_any}
+use Rattle.std.proofs.lemmas.Bool.{false_from_ne_true}
+use Rattle.isl_meter.specs.Gauge.{Gauge, limit_of, overflown, spent_out, IsCharged, IsKept}
+use Rattle.isl_meter.proofs.CutLemmas.{IsCharged_refl, IsKept_refl, IsKept_trans, IsKept-overflown, IsKept-spent_out, IsKept-charged}
+use Rattle.isl_space.specs.Limits.{most_parameters}
 use Rattle.isl_tree.specs.declared.tree.Literal.{Literal}
 use Rattle.isl_text.specs.declared.refusal.Refusal.{Refusal}
 use Rattle.isl_text.specs.declared.refusal.Refusal.TheVariants as r
@@ -12,28 +16,22 @@ use Rattle.isl_expr.specs.declared.tree.Expr.{Expr}
 use Rattle.isl_expr.specs.Expr.{statement_literals}
 use Rattle.isl_kinds.specs.declared.types.Purpose.{Purpose}
 use Rattle.isl_kinds.specs.declared.types.Purpose.TheVariants as purpose
-use Rattle.isl_kinds.specs.Typed.{TypeView, ScopeView, takes, has_unknown, has_no_item, kind_of, declared_of, kind_for, with_params, type_for, found, type_of_statement}
+use Rattle.isl_kinds.specs.Typed.{TypeView, ScopeView, takes, has_unknown, has_no_item, kind_of, declared_of, kind_for, with_params, type_for, found, type_of_statement, Answers as TypeAnswers}
+use Rattle.isl_kinds.specs.Parts.{parts_of_statement}
+use Rattle.isl_lower.specs.Value.{IsWellFormedLiteral}
+use Rattle.isl_simple.specs.Unsupported.{is_unsupported, mixes_kinds}
 use Rattle.isl_eval.specs.State.{Kept, Moment, StateView, Binds, scope_of, Fits}
-use Rattle.isl_eval.specs.Spelled.{OfStatement}
-use Rattle.isl_eval.specs.Causes.{Cause, no_token, too_deep, no_statement, too_wide, wide_number, unsupported, unknown_name, wrong_kind, no_element, causes, refusal_of, IsThere, FirstGives, IsValid, Refuses}
+use Rattle.isl_eval.specs.Spelled.{BytesSpell, OfStatement}
+use Rattle.isl_eval.specs.Causes.{Cause, no_token, too_deep, no_statement, too_wide, wide_number, unsupported, unknown_name, wrong_kind, no_element, mixed_kinds, wide_join, causes, refusal_of, statement_declared, IsThere, FirstGives, NoneIs, IsValid, Refuses, SparesUnits, uses_units, HasWork}
 use Rattle.isl_eval.specs.Selection.{Keeps}
 use Rattle.isl_eval.specs.Machine.{Answer, Step, Answers, shown}
 use Rattle.isl_eval.specs.declared.step.Tally.{Tally}
 use Rattle.isl_eval.specs.declared.eval.Work.{Work}
 use Rattle.isl_eval.specs.declared.eval.Work.TheVariants as work
-use Rattle.isl_eval.specs.Evaluation.{IsRead, IsWhyNot, IsTyped, IsOfType, IsWork, IsWhyUnmade, IsWhyUnworked, Does}
-use Rattle.isl_eval.proofs.CauseLaws.{of_statement}
+use Rattle.isl_eval.specs.Evaluation.{causes_of_bytes, IsRead, IsWhyNot, IsTyped, IsWorkable, IsWhyUnworkable, IsReady, IsOfType, IsWork, IsWhyUnmade, IsWhyUnworked, Does}
+use Rattle.isl_eval.proofs.CauseLaws.{of_statement, is_not}
 use Rattle.isl_eval.proofs.StateLaws.{fits_bound}
-
--- ---- the meter
-charged_same : (g : Gauge) → IsCharged g g
-charged_same g = record { same = refl; units = omega arith }
-
-pub charged_as : (g now : Gauge) → now ≡ g → IsCharged g now
-charged_as g now is = subst (IsCharged g) (sym is) (charged_same g)
-
-pub kept_as : (g now : Gauge) → now ≡ g → IsKept g now
-kept_as g now is = subst (IsKept g) (sym is) (record { bits = refl; budget = refl; units = omega arith; overflows = omega arith; spents = omega arith })
+use Rattle.isl_eval.proofs.ValueLaws.{same_limit}
 
 -- ---- types
 module _ (scope : ScopeView) (expr : Expr) where
@@ -114,11 +112,70 @@ none_typed before Empty e = tt
 none_typed before (Bind name expr) e = absurd (found_some (type_for purpose.Bound (scope_of before.state) expr) e)
 none_typed before (Show expr) e = absurd (found_some (type_for purpose.Shown (scope_of before.state) expr) e)
 
--- why the expression of a statement with a type was not worked out
-pub unmade_unworked : (scope : ScopeView) (stmt : Stmt) (t : Option TypeView) (literals : List Literal) (old now : Gauge) (refusal : Refusal)
-    → (Ok t ≡ type_of_statement scope stmt) ⊎ (Ok t ≡ Err r.NoMemory) → statement_literals stmt ≡ literals → IsWhyUnmade literals old now refusal → IsWhyUnworked scope stmt old now refusal
-unmade_unworked scope stmt t literals old now refusal typed are why =
-    inr (inl ((t, answered_ok t (type_of_statement scope stmt) typed), subst (λ (ls : List Literal). IsWhyUnmade ls old now refusal) (sym are) why))
+-- what is to be worked out is ready
+pub show_ready : (scope : ScopeView) (expr : Expr) (t : TypeView) → is_unsupported (Show expr) ≡ false → All IsWellFormedLiteral (statement_literals (Show expr))
+    → IsWorkable scope (Show expr) → type_of_statement scope (Show expr) ≡ Ok (Some t) → IsReady scope expr
+show_ready scope expr t supported literals able typed =
+    record { sound = record { supported = supported; known = (show_typed scope expr t typed).known; literals = literals }; narrow = able.narrow }
+
+pub bind_ready : (scope : ScopeView) (name : List ℕ) (expr : Expr) (t : TypeView) → is_unsupported (Bind name expr) ≡ false
+    → All IsWellFormedLiteral (statement_literals (Bind name expr)) → IsWorkable scope (Bind name expr) → type_of_statement scope (Bind name expr) ≡ Ok (Some t) → IsReady scope expr
+bind_ready scope name expr t supported literals able typed =
+    record { sound = record { supported = supported; known = (bind_typed scope name expr t typed).known; literals = literals }; narrow = able.narrow }
+
+-- the same of a statement that is such a one
+pub show_is_ready : (scope s : ScopeView) (stmt : Stmt) (expr : Expr) (o : Option TypeView) → s ≡ scope → stmt ≡ Show expr → is_unsupported stmt ≡ false
+    → All IsWellFormedLiteral (statement_literals stmt) → IsWorkable s stmt × (type_of_statement s stmt ≡ Ok o) → IsReady scope expr
+show_is_ready scope s stmt expr None same is supported literals able =
+    absurd (found_some (type_for purpose.Shown s expr) (subst (λ (x : Stmt). type_of_statement s x ≡ Ok None) is able.1))
+show_is_ready scope s stmt expr (Some t) same is supported literals able =
+    subst (λ (z : ScopeView). IsReady z expr) same (show_ready s expr t (subst (λ (x : Stmt). is_unsupported x ≡ false) is supported)
+    (subst (λ (x : Stmt). All IsWellFormedLiteral (statement_literals x)) is literals) (subst (IsWorkable s) is able.0)
+    (subst (λ (x : Stmt). type_of_statement s x ≡ Ok (Some t)) is able.1))
+
+pub bind_is_ready : (scope s : ScopeView) (stmt : Stmt) (name : List ℕ) (expr : Expr) (o : Option TypeView) → s ≡ scope → stmt ≡ Bind name expr → is_unsupported stmt ≡ false
+    → All IsWellFormedLiteral (statement_literals stmt) → IsWorkable s stmt × (type_of_statement s stmt ≡ Ok o) → IsReady scope expr
+bind_is_ready scope s stmt name expr None same is supported literals able =
+    absurd (found_some (type_for purpose.Bound s expr) (subst (λ (x : Stmt). type_of_statement s x ≡ Ok None) is able.1))
+bind_is_ready scope s stmt name expr (Some t) same is supported literals able =
+    subst (λ (z : ScopeView). IsReady z expr) same (bind_ready s name expr t (subst (λ (x : Stmt). is_unsupported x ≡ false) is supported)
+    (subst (λ (x : Stmt). All IsWellFormedLiteral (statement_literals x)) is literals) (subst (IsWorkable s) is able.0)
+    (subst (λ (x : Stmt). type_of_statement s x ≡ Ok (Some t)) is able.1))
+
+pub bind_is_typed : (scope s : ScopeView) (stmt : Stmt) (name : List ℕ) (expr : Expr) (o : Option TypeView) (t : TypeView) → o ≡ Some t → s ≡ scope → stmt ≡ Bind name expr
+    → IsWorkable s stmt × (type_of_statement s stmt ≡ Ok o) → IsOfType scope expr t
+bind_is_typed scope s stmt name expr o t there same is able =
+    subst (λ (z : ScopeView). IsOfType z expr t) same
+    (bind_typed s name expr t (subst (λ (x : Stmt). type_of_statement s x ≡ Ok (Some t)) is (subst (λ (p : Option TypeView). type_of_statement s stmt ≡ Ok p) there able.1)))
+
+-- why a statement was not worked out
+pub unworkable_unworked : (scope s : ScopeView) (stmt : Stmt) (g : Gauge) (refusal : Refusal) → s ≡ scope → IsWhyUnworkable s stmt refusal → IsWhyUnworked scope stmt g g refusal
+unworkable_unworked scope s stmt g refusal same why = inl (subst (λ (z : ScopeView). IsWhyUnworkable z stmt refusal) same why, refl)
+
+pub unmade_unworked : (scope s : ScopeView) (stmt : Stmt) (o : Option TypeView) (literals : List Literal) (g h : Gauge) (refusal : Refusal) → s ≡ scope
+    → IsWorkable s stmt × (type_of_statement s stmt ≡ Ok o) → statement_literals stmt ≡ literals → IsWhyUnmade literals g h refusal → IsWhyUnworked scope stmt g h refusal
+unmade_unworked scope s stmt o literals g h refusal same able are why =
+    inr (subst (λ (z : ScopeView). IsWorkable z stmt) same able.0, subst (λ (ls : List Literal). IsWhyUnmade ls g h refusal) (sym are) why)
+
+-- the parameters of a statement are those of its type
+pub typed_declares : (scope : ScopeView) (stmt : Stmt) (t : TypeView) → type_of_statement scope stmt ≡ Ok (Some t) → statement_declared scope stmt ≡ t.params
+typed_declares scope Empty t e = let f : Ok None ≡ Ok (Some t) = e in cc
+typed_declares scope (Bind name expr) t e = (bind_typed scope name expr t e).params
+typed_declares scope (Show expr) t e = (show_typed scope expr t e).params
+
+pub untyped_declares : (scope : ScopeView) (stmt : Stmt) → type_of_statement scope stmt ≡ Ok None → statement_declared scope stmt ≡ []
+untyped_declares scope Empty e = refl
+untyped_declares scope (Bind name expr) e = absurd (found_some (type_for purpose.Bound scope expr) e)
+untyped_declares scope (Show expr) e = absurd (found_some (type_for purpose.Shown scope expr) e)
+
+-- whether a statement is to be worked out
+pub workable_ok : (scope : ScopeView) (stmt : Stmt) (t : Option TypeView) (answer : Result (Option TypeView) Refusal) → (answer ≡ Ok t)
+    → TypeAnswers answer (type_of_statement scope stmt) → mixes_kinds scope stmt ≡ false
+    → (type_of_statement scope stmt ≡ Ok t → length (statement_declared scope stmt) ≤ most_parameters)
+    → IsWorkable scope stmt × (type_of_statement scope stmt ≡ Ok t)
+workable_ok scope stmt t answer is typed unmixed narrow =
+    let same = answered_ok t (type_of_statement scope stmt) (subst (λ (o : Result (Option TypeView) Refusal). TypeAnswers o (type_of_statement scope stmt)) is typed) in
+    (record { typed = (t, same); unmixed = unmixed; narrow = narrow same }, same)
 
 -- ---- refusals
 module _ (before : Moment) (bytes : List ℕ) (now : Gauge) (same : now ≡ before.meter) where
@@ -137,6 +194,8 @@ module _ (before : Moment) (bytes : List ℕ) (now : Gauge) (same : now ≡ befo
   by_cause unknown_name h = (h, same)
   by_cause wrong_kind h = (h, same)
   by_cause no_element h = (h, same)
+  by_cause mixed_kinds h = (h, same)
+  by_cause wide_join h = (h, same)
 
   -- some cause of these gives the refusal
   given : (list : List Cause) (refusal : Refusal) → FirstGives (IsThere before bytes) list refusal → (cause : Cause) × (refusal ≡ refusal_of cause)
@@ -151,11 +210,24 @@ module _ (before : Moment) (bytes : List ℕ) (now : Gauge) (same : now ≡ befo
       subst (Refuses before bytes now) (sym cause.1) (by_cause cause.0 (subst Why cause.1 h))
 
   pub memory_refuses : (refusal : Refusal) → refusal ≡ r.NoMemory → Refuses before bytes now refusal
-  memory_refuses refusal is = subst (Refuses before bytes now) (sym is) (charged_as before.meter now same)
+  memory_refuses refusal is = subst (Refuses before bytes now) (sym is) (IsCharged_refl before.meter now same, λ none. ap (λ (g : Gauge). g.units) same)
 
 pub unread_refuses : (before : Moment) (bytes : List ℕ) (refusal : Refusal) → IsWhyNot before bytes refusal → Refuses before bytes before.meter refusal
 unread_refuses before bytes refusal (inl is) = memory_refuses before bytes before.meter refl refusal is
 unread_refuses before bytes refusal (inr h) = first_refuses before bytes before.meter refl refusal h
+
+-- ---- causes that are not there
+none_both : (There : Cause → Type 0) (front back : List Cause) → NoneIs There front → NoneIs There back → NoneIs There (front ++ back)
+none_both There [] back none later = later
+none_both There (cause ∷ front) back none later = (none.0, none_both There front back none.1 later)
+
+first_past : (There : Cause → Type 0) (front back : List Cause) (refusal : Refusal) → NoneIs There front → FirstGives There back refusal → FirstGives There (front ++ back) refusal
+first_past There [] back refusal none later = later
+first_past There (cause ∷ front) back refusal none later = inr (none.0, first_past There front back refusal none.1 later)
+
+-- ---- units
+pub no_work : (bytes : List ℕ) (stmt : Stmt) → BytesSpell bytes stmt → ¬ OfStatement bytes HasWork → list_any uses_units (parts_of_statement stmt) ≡ false
+no_work bytes stmt spelled none = false_from_ne_true (list_any uses_units (parts_of_statement stmt)) (λ work. none (stmt, spelled, work))
 
 -- ---- a statement that was read
 module _ (before : Moment) (bytes : List ℕ) (stmt : Stmt) (read : IsRead before bytes stmt) where
@@ -168,75 +240,95 @@ module _ (before : Moment) (bytes : List ℕ) (stmt : Stmt) (read : IsRead befor
     apart : (refusal : Refusal) → Ok typed.0 ≢ Err refusal
     apart refusal e = cc
 
-    pub valid : IsValid before bytes
-    valid =
-        let n = read.none in
-        let m = n.1 in
-        let l = m.1 in
-        let k = l.1 in
-        let j = k.1 in
-        let i = j.1 in (
-          n.0,
-          (
-            m.0,
-            (
-              l.0,
-              (
-                k.0,
-                (
-                  j.0,
-                  (
-                    i.0,
-                    (
-                      other_type (Ok typed.0) (Err r.UnknownName) typed.1 (apart r.UnknownName),
-                      (other_type (Ok typed.0) (Err r.WrongKind) typed.1 (apart r.WrongKind), (other_type (Ok typed.0) (Err r.NoElement) typed.1 (apart r.NoElement), tt)),
-                    ),
-                  ),
-                ),
-              ),
-            ),
-          ),
-        )
+    typed_none : NoneIs (IsThere before bytes) (unknown_name ∷ wrong_kind ∷ no_element ∷ [])
+    typed_none = (
+      other_type (Ok typed.0) (Err r.UnknownName) typed.1 (apart r.UnknownName),
+      (other_type (Ok typed.0) (Err r.WrongKind) typed.1 (apart r.WrongKind), (other_type (Ok typed.0) (Err r.NoElement) typed.1 (apart r.NoElement), tt)),
+    )
+
+  unmixed_none : mixes_kinds (scope_of before.state) stmt ≡ false → ¬ IsThere before bytes mixed_kinds
+  unmixed_none unmixed there =
+      is_not (mixes_kinds (scope_of before.state) stmt) unmixed (of_statement bytes stmt (λ stmt. mixes_kinds (scope_of before.state) stmt ≡ true) read.spelled there)
+
+  narrow_none : length (statement_declared (scope_of before.state) stmt) ≤ most_parameters → ¬ IsThere before bytes wide_join
+  narrow_none narrow there =
+      let wide = of_statement bytes stmt (λ stmt. most_parameters < length (statement_declared (scope_of before.state) stmt)) read.spelled there in
+      absurd (omega (arith, narrow, wide))
+
+  pub valid : IsWorkable (scope_of before.state) stmt → IsValid before bytes
+  valid able =
+      none_both (IsThere before bytes) causes_of_bytes (unknown_name ∷ wrong_kind ∷ no_element ∷ mixed_kinds ∷ wide_join ∷ []) read.none
+      (none_both (IsThere before bytes) (unknown_name ∷ wrong_kind ∷ no_element ∷ []) (mixed_kinds ∷ wide_join ∷ []) (typed_none able.typed)
+      (unmixed_none able.unmixed, (narrow_none able.narrow, tt)))
 
   -- it has no type
   untyped : (refusal : Refusal) → type_of_statement (scope_of before.state) stmt ≡ Err refusal
-      → ((refusal ≡ r.UnknownName) ⊎ ((refusal ≡ r.WrongKind) ⊎ (refusal ≡ r.NoElement))) → FirstGives (IsThere before bytes) causes refusal
-  untyped refusal is why =
-      let n = read.none in
-      let m = n.1 in
-      let l = m.1 in
-      let k = l.1 in
-      let j = k.1 in
-      let i = j.1 in
-      inr (n.0, inr (m.0, inr (l.0, inr (k.0, inr (j.0, inr (i.0, by why))))))
-    where
-      by : ((refusal ≡ r.UnknownName) ⊎ ((refusal ≡ r.WrongKind) ⊎ (refusal ≡ r.NoElement))) → FirstGives (IsThere before bytes) (unknown_name ∷ wrong_kind ∷ no_element ∷ []) refusal
-      by (inl e) = inl ((stmt, read.spelled, is ∙ ap Err e), e)
-      by (inr (inl e)) = inr (other_type (Err refusal) (Err r.UnknownName) is (λ f. let g : r.WrongKind ≡ r.UnknownName = sym e ∙ (let h = f in cc) in cc), inl ((stmt, read.spelled, is ∙ ap Err e), e))
-      by (inr (inr e)) =
-          inr (
-            other_type (Err refusal) (Err r.UnknownName) is (λ f. let g : r.NoElement ≡ r.UnknownName = sym e ∙ (let h = f in cc) in cc),
-            inr (other_type (Err refusal) (Err r.WrongKind) is (λ f. let g : r.NoElement ≡ r.WrongKind = sym e ∙ (let h = f in cc) in cc), inl ((stmt, read.spelled, is ∙ ap Err e), e)),
-          )
+      → ((refusal ≡ r.UnknownName) ⊎ ((refusal ≡ r.WrongKind) ⊎ (refusal ≡ r.NoElement)))
+      → FirstGives (IsThere before bytes) (unknown_name ∷ wrong_kind ∷ no_element ∷ mixed_kinds ∷ wide_join ∷ []) refusal
+  untyped refusal is (inl e) = inl ((stmt, read.spelled, is ∙ ap Err e), e)
+  untyped refusal is (inr (inl e)) =
+      inr (other_type (Err refusal) (Err r.UnknownName) is (λ f. let g : r.WrongKind ≡ r.UnknownName = sym e ∙ (let h = f in cc) in cc), inl ((stmt, read.spelled, is ∙ ap Err e), e))
+  untyped refusal is (inr (inr e)) =
+      inr (
+        other_type (Err refusal) (Err r.UnknownName) is (λ f. let g : r.NoElement ≡ r.UnknownName = sym e ∙ (let h = f in cc) in cc),
+        inr (other_type (Err refusal) (Err r.WrongKind) is (λ f. let g : r.NoElement ≡ r.WrongKind = sym e ∙ (let h = f in cc) in cc), inl ((stmt, read.spelled, is ∙ ap Err e), e)),
+      )
 
-  pub unworked_refuses : (now : Gauge) (refusal : Refusal) → IsWhyUnworked (scope_of before.state) stmt before.meter now refusal → Refuses before bytes now refusal
-  unworked_refuses now refusal (inl h) = first_refuses before bytes now h.1 refusal (untyped refusal h.0 (no_type (scope_of before.state) stmt refusal h.0))
-  unworked_refuses now refusal (inr (inl h)) = by h.1
+  -- what is bound has a cause
+  bound_cause : (refusal : Refusal) → FirstGives (IsThere before bytes) (unknown_name ∷ wrong_kind ∷ no_element ∷ mixed_kinds ∷ wide_join ∷ []) refusal
+      → FirstGives (IsThere before bytes) causes refusal
+  bound_cause refusal first =
+      first_past (IsThere before bytes) causes_of_bytes (unknown_name ∷ wrong_kind ∷ no_element ∷ mixed_kinds ∷ wide_join ∷ []) refusal read.none first
+
+  typed_cause : (refusal : Refusal) → IsTyped (scope_of before.state) stmt → FirstGives (IsThere before bytes) (mixed_kinds ∷ wide_join ∷ []) refusal
+      → FirstGives (IsThere before bytes) causes refusal
+  typed_cause refusal typed first =
+      bound_cause refusal (first_past (IsThere before bytes) (unknown_name ∷ wrong_kind ∷ no_element ∷ []) (mixed_kinds ∷ wide_join ∷ []) refusal (typed_none typed) first)
+
+  unworkable_refuses : (now : Gauge) (refusal : Refusal) → now ≡ before.meter → IsWhyUnworkable (scope_of before.state) stmt refusal → Refuses before bytes now refusal
+  unworkable_refuses now refusal same (inl h) =
+      first_refuses before bytes now same refusal (bound_cause refusal (untyped refusal h (no_type (scope_of before.state) stmt refusal h)))
+  unworkable_refuses now refusal same (inr (inl h)) =
+      first_refuses before bytes now same refusal (typed_cause refusal h.0 (inl ((stmt, read.spelled, h.1), h.2)))
+  unworkable_refuses now refusal same (inr (inr (inl h))) =
+      first_refuses before bytes now same refusal (typed_cause refusal h.0 (inr (unmixed_none h.1, inl ((stmt, read.spelled, h.2), h.3))))
+  unworkable_refuses now refusal same (inr (inr (inr h))) = memory_refuses before bytes now same refusal h
+
+  -- units are said of the parts, and of the statement
+  abbrev Spares : Gauge → Type 0
+  Spares now = list_any uses_units (parts_of_statement stmt) ≡ false → now.units ≡ before.meter.units
+
+  spares : (now : Gauge) → Spares now → SparesUnits before bytes now
+  spares now free = λ none. free (no_work bytes stmt read.spelled none)
+
+  -- units end only where some are used
+  has_work : (refusal : Refusal) → refusal ≡ r.Budget → (list_any uses_units (parts_of_statement stmt) ≡ false → refusal ≢ r.Budget) → OfStatement bytes HasWork
+  has_work refusal is unspent = by (list_any uses_units (parts_of_statement stmt)) refl
+    where
+      by : (b : Bool) → list_any uses_units (parts_of_statement stmt) ≡ b → OfStatement bytes HasWork
+      by true works = (stmt, read.spelled, works)
+      by false none = absurd (unspent none is)
+
+  pub unworked_refuses : (now : Gauge) (refusal : Refusal) → IsWhyUnworked (scope_of before.state) stmt before.meter now refusal → Spares now
+      → (list_any uses_units (parts_of_statement stmt) ≡ false → refusal ≢ r.Budget) → Refuses before bytes now refusal
+  unworked_refuses now refusal (inl h) free unspent = unworkable_refuses now refusal h.1 h.0
+  unworked_refuses now refusal (inr h) free unspent = by h.1
     where
       by : IsWhyUnmade (statement_literals stmt) before.meter now refusal → Refuses before bytes now refusal
-      by (inl g) = subst (Refuses before bytes now) (sym g.0) (valid h.0, (stmt, read.spelled, g.1), charged_as (overflown before.meter) now g.2)
-      by (inr g) = memory_refuses before bytes now g.1 refusal g.0
-  unworked_refuses now refusal (inr (inr h)) = memory_refuses before bytes now h.1 refusal h.0
+      by (inl g) = subst (Refuses before bytes now) (sym g.0) (valid h.0, (stmt, read.spelled, g.1), g.2, spares now free)
+      by (inr (inl g)) = subst (Refuses before bytes now) (sym g.0) (valid h.0, has_work refusal g.0 unspent, g.1, g.2)
+      by (inr (inr g)) = subst (Refuses before bytes now) (sym g.0) (g.1, spares now free)
 
   -- ---- it is worked out
-  pub answers : (after : Moment) (w : Work) (answer : Answer) → IsTyped (scope_of before.state) stmt → IsWork before stmt w → Does w before.state after.state answer → after.meter ≡ before.meter
-      → Answers before bytes after answer
-  answers after w answer typed is does meter = record {
-    valid = valid typed;
+  pub answers : (after : Moment) (w : Work) (answer : Answer) → IsWorkable (scope_of before.state) stmt → IsWork before stmt w → Does w before.state after.state answer
+      → IsCharged before.meter after.meter → Spares after.meter → Answers before bytes after answer
+  answers after w answer able is does meter free = record {
+    valid = valid able;
     stmt = stmt;
     spelled = read.spelled;
     step = step stmt w is does;
-    meter = charged_as before.meter after.meter meter;
+    meter = meter;
+    units = λ none. free (false_from_ne_true (list_any uses_units (parts_of_statement stmt)) none);
   }
     where
       step : (stmt : Stmt) (w : Work) → IsWork before stmt w → Does w before.state after.state answer → Step before stmt after answer
@@ -251,9 +343,11 @@ module _ (before : Moment) (bytes : List ℕ) (stmt : Stmt) (read : IsRead befor
       step (Bind name expr) (work.Bind bound kept t) is does = ((kept, is.1, subst (λ (n : List ℕ). Binds before.state n kept after.state) is.0 does.0), does.1)
 
 -- an expression is shown
-pub show_answers : (before : Moment) (bytes : List ℕ) (expr : Expr) → IsRead before bytes (Show expr) → (after : Moment) (kept : Kept) (answer : Answer) → IsTyped (scope_of before.state) (Show expr)
-    → Keeps before expr kept → after.state ≡ before.state → answer ≡ shown kept.value → after.meter ≡ before.meter → Answers before bytes after answer
-show_answers before bytes expr read after kept answer typed keeps same is meter = answers before bytes (Show expr) read after (work.Show kept) answer typed keeps (same, is) meter
+pub show_answers : (before : Moment) (bytes : List ℕ) (expr : Expr) → IsRead before bytes (Show expr) → (after : Moment) (kept : Kept) (answer : Answer) → IsWorkable (scope_of before.state) (Show expr)
+    → Keeps before expr kept → after.state ≡ before.state → answer ≡ shown kept.value → IsCharged before.meter after.meter
+    → (list_any uses_units (parts_of_statement (Show expr)) ≡ false → after.meter.units ≡ before.meter.units) → Answers before bytes after answer
+show_answers before bytes expr read after kept answer able keeps same is meter free =
+    answers before bytes (Show expr) read after (work.Show kept) answer able keeps (same, is) meter free
 
 -- ---- what is bound stays within the limit
 pub work_fits : (before : Moment) (stmt : Stmt) (w : Work) (next : StateView) (answer : Answer) → Fits (limit_of before.meter) before.state → IsWork before stmt w → Does w before.state next answer
@@ -276,25 +370,39 @@ Performs w old text new all result = MatchResult result
     (λ refusal. (refusal ≡ r.NoMemory) × (new ≡ old) × (all ≡ text))
 
 module _ (before : Moment) (bytes : List ℕ) (stmt : Stmt) (read : IsRead before bytes stmt) (now : Gauge) (w : Work)
-    (made : IsTyped (scope_of before.state) stmt × IsWork before stmt w × (now ≡ before.meter)) (text : List ℕ) (next : StateView) (all : List ℕ) where
+    (made : IsWorkable (scope_of before.state) stmt × IsWork before stmt w × IsCharged before.meter now) (text : List ℕ) (next : StateView) (all : List ℕ)
+    (free : list_any uses_units (parts_of_statement stmt) ≡ false → now.units ≡ before.meter.units) where
   pub performed_answers : (result : Result Tally Refusal) → Performs w before.state text next all result
       → IfOk result (λ tally. (answer : Answer) × (all ≡ text ++ answer.bytes) × (tally ≡ record { is_true = answer.is_true; elements = answer.elements })
       × Answers before bytes (record { state = next; meter = now }) answer)
   performed_answers (Ok tally) done =
-      (done.0, done.1, done.2, answers before bytes stmt read (record { state = next; meter = now }) w done.0 made.0 made.1 done.3 made.2)
+      (done.0, done.1, done.2, answers before bytes stmt read (record { state = next; meter = now }) w done.0 made.0 made.1 done.3 made.2 free)
   performed_answers (Err refusal) done = tt
 
   pub performed_fits : (result : Result Tally Refusal) → Fits (limit_of before.meter) before.state → Performs w before.state text next all result → Fits (limit_of now) next
   performed_fits (Ok tally) fits done =
-      subst (λ (g : Gauge). Fits (limit_of g) next) (sym made.2) (work_fits before stmt w next done.0 fits made.1 done.3)
-  performed_fits (Err refusal) fits done = subst (λ (g : Gauge). Fits (limit_of g) next) (sym made.2) (subst (Fits (limit_of before.meter)) (sym done.1) fits)
+      subst (λ (z : ℤ). Fits z next) (sym (same_limit before.meter now made.2)) (work_fits before stmt w next done.0 fits made.1 done.3)
+  performed_fits (Err refusal) fits done =
+      subst (λ (z : ℤ). Fits z next) (sym (same_limit before.meter now made.2)) (subst (Fits (limit_of before.meter)) (sym done.1) fits)
 
--- ---- the limit after a refusal
-pub unmade_limit : (scope : ScopeView) (stmt : Stmt) (old now : Gauge) (refusal : Refusal) → IsWhyUnworked scope stmt old now refusal → limit_of now ≡ limit_of old
-unmade_limit scope stmt old now refusal (inl h) = ap limit_of h.1
-unmade_limit scope stmt old now refusal (inr (inl h)) = by h.1
+  -- a refusal after it was worked out is for want of memory
+  pub performed_refuses : (result : Result Tally Refusal) → Performs w before.state text next all result → IfErr result (Refuses before bytes now)
+  performed_refuses (Ok tally) done = tt
+  performed_refuses (Err refusal) done = subst (Refuses before bytes now) (sym done.0) (made.2, λ none. free (no_work bytes stmt read.spelled none))
+
+  pub performed_meter : (result : Result Tally Refusal) → MatchResult result (λ _. IsCharged before.meter now) (λ _. IsKept before.meter now)
+  performed_meter (Ok tally) = made.2
+  performed_meter (Err refusal) = IsKept-charged before.meter now made.2
+
+-- ---- the meter after a refusal
+pub unworked_meter : (scope : ScopeView) (stmt : Stmt) (old now : Gauge) (refusal : Refusal) → IsWhyUnworked scope stmt old now refusal → IsKept old now
+unworked_meter scope stmt old now refusal (inl h) = IsKept_refl old now h.1
+unworked_meter scope stmt old now refusal (inr h) = by h.1
   where
-    by : IsWhyUnmade (statement_literals stmt) old now refusal → limit_of now ≡ limit_of old
-    by (inl g) = ap limit_of g.2
-    by (inr g) = ap limit_of g.1
-unmade_limit scope stmt old now refusal (inr (inr h)) = ap limit_of h.1
+    by : IsWhyUnmade (statement_literals stmt) old now refusal → IsKept old now
+    by (inl g) = IsKept_trans old (overflown old) now (IsKept-overflown old (overflown old) refl) (IsKept-charged (overflown old) now g.2)
+    by (inr (inl g)) = IsKept_trans old (spent_out old) now (IsKept-spent_out old (spent_out old) refl) (IsKept-charged (spent_out old) now g.2)
+    by (inr (inr g)) = IsKept-charged old now g.1
+
+pub unworked_limit : (scope : ScopeView) (stmt : Stmt) (old now : Gauge) (refusal : Refusal) → IsWhyUnworked scope stmt old now refusal → limit_of now ≡ limit_of old
+unworked_limit scope stmt old now refusal why = ap (λ (bits : ℕ). pos (2 ^ bits - 1)) (unworked_meter scope stmt old now refusal why).bits

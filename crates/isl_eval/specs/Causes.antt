@@ -1,19 +1,26 @@
 -- public: why a complete statement is refused.
-use Rattle.std.specs.Prelude.{◌≡◌, ◌⊎◌, ◌≤◌, ℕ, true, false, List, [], ◌∷◌, None, Err, Any}
+use Rattle.std.specs.Prelude.{◌≡◌, ◌⊎◌, ◌<◌, ◌≤◌, ℕ, Bool, true, false, List, [], ◌∷◌, length, None, Err, Any}
+use Rattle.std.specs.List.{list_any}
 use Rattle.isl_meter.specs.Gauge.{Gauge, IsCharged, limit_of, overflown, spent_out}
+use Rattle.isl_space.specs.Limits.{most_parameters}
+use Rattle.isl_space.specs.Name.{Name}
 use Rattle.isl_token.specs.Lex.{tokens}
 use Rattle.isl_token.specs.Depth.{is_too_deep}
 use Rattle.isl_text.specs.declared.refusal.Refusal.{Refusal}
 use Rattle.isl_text.specs.declared.refusal.Refusal.TheVariants as r
 use Rattle.isl_text.specs.Read.{has_wide_number}
 use Rattle.isl_lower.specs.Value.{PiecesPass}
+use Rattle.isl_expr.specs.declared.tree.Binary.TheVariants.{Intersection}
 use Rattle.isl_expr.specs.declared.tree.Stmt.{Stmt}
+use Rattle.isl_expr.specs.declared.tree.Stmt.TheVariants.{Empty, Bind, Show}
 use Rattle.isl_expr.specs.Expr.{statement_literals}
 use Rattle.isl_statement.specs.Limits.{statement_is_within}
 use Rattle.isl_statement.specs.Read.{NoStatement}
-use Rattle.isl_kinds.specs.Typed.{type_of_statement}
+use Rattle.isl_kinds.specs.Parts.{Part, operator, parts_of_statement}
+use Rattle.isl_kinds.specs.Typed.{ScopeView, declared_of, type_of_statement}
+use Rattle.isl_simple.specs.Unsupported.{is_unsupported, mixes_kinds}
 use Rattle.isl_eval.specs.State.{Moment, scope_of}
-use Rattle.isl_eval.specs.Spelled.{OfTokens, OfStatement, is_unsupported}
+use Rattle.isl_eval.specs.Spelled.{OfTokens, OfStatement}
 
 -- what the bytes of a statement are looked at for
 pub data Cause : Type 0 where
@@ -35,10 +42,16 @@ pub data Cause : Type 0 where
   wrong_kind : Cause
   -- a list has no element with that number
   no_element : Cause
+  -- a set and a map stand in the statement, and what joins them is not answered yet
+  mixed_kinds : Cause
+  -- an operation joins more parameters than a value may have
+  wide_join : Cause
 
 -- the causes, in the order in which they are looked for, each in the whole statement before the next
 abbrev pub causes : List Cause
-causes = no_token ∷ too_deep ∷ no_statement ∷ too_wide ∷ wide_number ∷ unsupported ∷ unknown_name ∷ wrong_kind ∷ no_element ∷ []
+causes =
+    no_token ∷ too_deep ∷ no_statement ∷ too_wide ∷ wide_number ∷ unsupported ∷ unknown_name ∷ wrong_kind ∷ no_element ∷ mixed_kinds
+    ∷ wide_join ∷ []
 
 abbrev pub refusal_of : Cause → Refusal
 refusal_of no_token = r.Syntax
@@ -50,6 +63,14 @@ refusal_of unsupported = r.Syntax
 refusal_of unknown_name = r.UnknownName
 refusal_of wrong_kind = r.WrongKind
 refusal_of no_element = r.NoElement
+refusal_of mixed_kinds = r.Syntax
+refusal_of wide_join = r.TooWide
+
+-- the parameters that the operands of a statement declare, joined: those of each operation in it are among them
+abbrev pub statement_declared : ScopeView → Stmt → List Name
+statement_declared scope Empty = []
+statement_declared scope (Bind name expr) = declared_of scope expr
+statement_declared scope (Show expr) = declared_of scope expr
 
 -- the bytes have the cause at this moment
 abbrev pub IsThere : Moment → List ℕ → Cause → Type 0
@@ -62,6 +83,8 @@ IsThere before bytes unsupported = OfStatement bytes (λ stmt. is_unsupported st
 IsThere before bytes unknown_name = OfStatement bytes (λ stmt. type_of_statement (scope_of before.state) stmt ≡ Err r.UnknownName)
 IsThere before bytes wrong_kind = OfStatement bytes (λ stmt. type_of_statement (scope_of before.state) stmt ≡ Err r.WrongKind)
 IsThere before bytes no_element = OfStatement bytes (λ stmt. type_of_statement (scope_of before.state) stmt ≡ Err r.NoElement)
+IsThere before bytes mixed_kinds = OfStatement bytes (λ stmt. mixes_kinds (scope_of before.state) stmt ≡ true)
+IsThere before bytes wide_join = OfStatement bytes (λ stmt. most_parameters < length (statement_declared (scope_of before.state) stmt))
 
 -- the first of these causes that is there gives this refusal
 abbrev pub FirstGives : (Cause → Type 0) → List Cause → Refusal → Type 0
@@ -81,10 +104,23 @@ IsValid before bytes = NoneIs (IsThere before bytes) causes
 abbrev pub HasGreatRow : Gauge → Stmt → Type 0
 HasGreatRow g stmt = Any (λ literal. PiecesPass g literal.params literal.pieces) (statement_literals stmt)
 
+-- the operations that use units: `*`, one for each pair of pieces of one space
+abbrev pub uses_units : Part → Bool
+uses_units (operator Intersection) = true
+uses_units _ = false
+
+-- an operation that uses units stands in the statement
+abbrev pub HasWork : Stmt → Type 0
+HasWork stmt = list_any uses_units (parts_of_statement stmt) ≡ true
+
+-- no unit was used, unless an operation that uses units stands in the statement
+abbrev pub SparesUnits : Moment → List ℕ → Gauge → Type 0
+SparesUnits before bytes now = ¬ OfStatement bytes HasWork → now.units ≡ before.meter.units
+
 -- Why a complete statement is refused, and what it did to the meter until then. Overflow and want of units may come only while a
--- valid statement is worked out, and are counted; memory may end at any time.
+-- valid statement is worked out, want of units only where an operation uses them, and both are counted; memory may end at any time.
 abbrev pub Refuses : Moment → List ℕ → Gauge → Refusal → Type 0
-Refuses before bytes now r.Overflow = IsValid before bytes × OfStatement bytes (HasGreatRow before.meter) × IsCharged (overflown before.meter) now
-Refuses before bytes now r.Budget = IsValid before bytes × (now.budget ≤ now.units) × IsCharged (spent_out before.meter) now
-Refuses before bytes now r.NoMemory = IsCharged before.meter now
+Refuses before bytes now r.Overflow = IsValid before bytes × OfStatement bytes (HasGreatRow before.meter) × IsCharged (overflown before.meter) now × SparesUnits before bytes now
+Refuses before bytes now r.Budget = IsValid before bytes × OfStatement bytes HasWork × (now.budget ≤ now.units) × IsCharged (spent_out before.meter) now
+Refuses before bytes now r.NoMemory = IsCharged before.meter now × SparesUnits before bytes now
 Refuses before bytes now refusal = FirstGives (IsThere before bytes) causes refusal × (now ≡ before.meter)

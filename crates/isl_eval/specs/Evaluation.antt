@@ -1,22 +1,34 @@
 -- inner: what reading and working out a statement leave to the next step.
-use Rattle.std.specs.Prelude.{◌≡◌, ◌⊎◌, ℕ, false, List, [], ◌∷◌, All, Any, Option, Some, Ok, Err}
-use Rattle.isl_meter.specs.Gauge.{Gauge, overflown}
+use Rattle.std.specs.Prelude.{◌≡◌, ◌↔◌, ◌⊎◌, ◌<◌, ◌≤◌, ℕ, true, false, List, [], ◌∷◌, length, All, Any, Option, Some, Ok, Err}
+use Rattle.std.specs.List.{list_any}
+use Rattle.isl_meter.specs.Gauge.{Gauge, IsCharged, overflown, spent_out}
+use Rattle.isl_meter.specs.declared.Cut.{Cut}
+use Rattle.isl_meter.specs.declared.Cut.TheVariants as cut
+use Rattle.isl_space.specs.Limits.{most_parameters}
+use Rattle.isl_space.specs.Name.{Name}
+use Rattle.isl_space.specs.Valuation.{Valuation}
+use Rattle.isl_space.specs.Element.{Element}
+use Rattle.isl_union.specs.KeptValue.{KeptValue, IsKeptValue, Has}
 use Rattle.isl_text.specs.declared.refusal.Refusal.{Refusal}
-use Rattle.isl_text.specs.declared.refusal.Refusal.TheVariants.{Overflow, NoMemory}
+use Rattle.isl_text.specs.declared.refusal.Refusal.TheVariants.{Overflow, Budget, NoMemory, Syntax, TooWide}
 use Rattle.isl_tree.specs.declared.tree.Literal.{Literal}
 use Rattle.isl_lower.specs.Value.{IsWellFormedLiteral, PiecesPass}
+use Rattle.isl_expr.specs.declared.tree.Link.{Link}
+use Rattle.isl_expr.specs.declared.tree.Postfix.{Postfix, Inverse}
 use Rattle.isl_expr.specs.declared.tree.Stmt.{Stmt}
 use Rattle.isl_expr.specs.declared.tree.Stmt.TheVariants.{Empty, Bind, Show}
 use Rattle.isl_expr.specs.declared.tree.Expr.{Expr}
-use Rattle.isl_expr.specs.Expr.{statement_literals}
-use Rattle.isl_kinds.specs.Typed.{TypeView, ScopeView, has_unknown, kind_of, declared_of, type_of_statement}
+use Rattle.isl_expr.specs.Expr.{literals_of, statement_literals}
+use Rattle.isl_kinds.specs.Parts.{operator, parts_of}
+use Rattle.isl_kinds.specs.Typed.{TypeView, ScopeView, has_unknown, kind_of, declared_of, declared_of_row, type_of_statement}
+use Rattle.isl_simple.specs.Unsupported.{is_later, is_unsupported, mixes_kinds}
 use Rattle.isl_eval.specs.declared.eval.Work.{Work}
 use Rattle.isl_eval.specs.declared.eval.Work.TheVariants as work
-use Rattle.isl_eval.specs.State.{StateView, Moment, Binds, type_of}
+use Rattle.isl_eval.specs.State.{StateView, Moment, Binds, type_of, HasNumbersUpTo}
 use Rattle.isl_eval.specs.Selection.{Keeps}
-use Rattle.isl_eval.specs.Spelled.{BytesSpell, is_unsupported}
+use Rattle.isl_eval.specs.Spelled.{BytesSpell}
 use Rattle.isl_eval.specs.Machine.{Answer, nothing, shown}
-use Rattle.isl_eval.specs.Causes.{Cause, no_token, too_deep, no_statement, too_wide, wide_number, unsupported, IsThere, NoneIs, FirstGives, causes}
+use Rattle.isl_eval.specs.Causes.{Cause, no_token, too_deep, no_statement, too_wide, wide_number, unsupported, IsThere, NoneIs, FirstGives, causes, statement_declared}
 
 -- the causes that the bytes alone may have, whatever is bound
 abbrev pub causes_of_bytes : List Cause
@@ -43,6 +55,57 @@ pub record IsOfType (scope : ScopeView) (expr : Expr) (t : TypeView) : Type 0 wh
 abbrev pub IsTyped : ScopeView → Stmt → Type 0
 IsTyped scope stmt = (t : Option TypeView) × (type_of_statement scope stmt ≡ Ok t)
 
+-- no cause is there that comes of what is bound
+pub record IsWorkable (scope : ScopeView) (stmt : Stmt) : Type 0 where
+  pub typed : IsTyped scope stmt
+  pub unmixed : mixes_kinds scope stmt ≡ false
+  pub narrow : length (statement_declared scope stmt) ≤ most_parameters
+
+-- why a statement that was read is not to be worked out: the first of these causes is there, or memory ended
+abbrev pub IsWhyUnworkable : ScopeView → Stmt → Refusal → Type 0
+IsWhyUnworkable scope stmt refusal =
+    (type_of_statement scope stmt ≡ Err refusal)
+    ⊎ ((IsTyped scope stmt × (mixes_kinds scope stmt ≡ true) × (refusal ≡ Syntax))
+    ⊎ ((IsTyped scope stmt × (mixes_kinds scope stmt ≡ false) × (most_parameters < length (statement_declared scope stmt)) × (refusal ≡ TooWide))
+    ⊎ (refusal ≡ NoMemory)))
+
+-- ---- expressions
+
+-- what stands in the expression is answered, known and well formed
+pub record IsSoundExpr (scope : ScopeView) (expr : Expr) : Type 0 where
+  pub supported : list_any is_later (parts_of expr) ≡ false
+  pub known : has_unknown scope expr ≡ false
+  pub literals : All IsWellFormedLiteral (literals_of expr)
+
+-- it is, and its operands do not declare too many parameters
+pub record IsReady (scope : ScopeView) (expr : Expr) : Type 0 where
+  pub sound : IsSoundExpr scope expr
+  pub narrow : length (declared_of scope expr) ≤ most_parameters
+
+-- an operator that is answered, and its operand
+pub record IsSoundLink (scope : ScopeView) (link : Link) : Type 0 where
+  pub supported : is_later (operator link.operator) ≡ false
+  pub operand : IsSoundExpr scope link.operand
+
+-- the same of operators and operands behind one that has these parameters
+pub record AreReady (scope : ScopeView) (params : List Name) (links : List Link) : Type 0 where
+  pub each : All (IsSoundLink scope) links
+  pub narrow : length (declared_of_row scope params links) ≤ most_parameters
+
+-- each of what follows an operand is `^-1`
+abbrev pub AreInverses : List Postfix → Type 0
+AreInverses postfixes = All (λ postfix. postfix ≡ Inverse) postfixes
+
+-- the kept value is this one, with these parameters, these elements at each valuation, and no number above the limit
+pub record IsValueOf (exact : KeptValue) (names : List Name) (Elements : Valuation → Element → Type 0) (limit : ℕ) (value : KeptValue) : Type 0 where
+  pub written : value ≡ exact
+  pub kept : IsKeptValue value
+  pub params : value.params ≡ names
+  pub elements : (valuation : Valuation) (element : Element) → Has value valuation element ↔ Elements valuation element
+  pub numbers : HasNumbersUpTo limit value
+
+-- ---- work
+
 -- what a statement is to do, once its value is made
 abbrev pub IsWork : Moment → Stmt → Work → Type 0
 IsWork before Empty work.Nothing = Unit {0}
@@ -56,18 +119,23 @@ HasItsType work.Nothing = Unit {0}
 HasItsType (work.Show kept) = Unit {0}
 HasItsType (work.Bind name kept t) = t ≡ type_of kept
 
--- why no value was made of literals, and what that did to the meter: a row passes the limit, or memory ended
+-- what refuses a statement whose work was cut
+abbrev pub refusal_of_cut : Cut → Refusal
+refusal_of_cut cut.Overflow = Overflow
+refusal_of_cut cut.Budget = Budget
+refusal_of_cut cut.NoMemory = NoMemory
+
+-- why no value was made, and what that did to the meter: a row of these literals passes the limit, the units ended, or memory
 abbrev pub IsWhyUnmade : List Literal → Gauge → Gauge → Refusal → Type 0
 IsWhyUnmade literals old new refusal =
-    ((refusal ≡ Overflow) × Any (λ literal. PiecesPass old literal.params literal.pieces) literals × (new ≡ overflown old))
-    ⊎ ((refusal ≡ NoMemory) × (new ≡ old))
+    ((refusal ≡ Overflow) × Any (λ literal. PiecesPass old literal.params literal.pieces) literals × IsCharged (overflown old) new)
+    ⊎ (((refusal ≡ Budget) × (new.budget ≤ new.units) × IsCharged (spent_out old) new)
+    ⊎ ((refusal ≡ NoMemory) × IsCharged old new))
 
--- why a statement that was read was not worked out: it has no type, or no value was made, or memory ended before
+-- why a statement that was read was not worked out: it is not to be, or no value was made
 abbrev pub IsWhyUnworked : ScopeView → Stmt → Gauge → Gauge → Refusal → Type 0
 IsWhyUnworked scope stmt old new refusal =
-    ((type_of_statement scope stmt ≡ Err refusal) × (new ≡ old))
-    ⊎ ((IsTyped scope stmt × IsWhyUnmade (statement_literals stmt) old new refusal)
-    ⊎ ((refusal ≡ NoMemory) × (new ≡ old)))
+    (IsWhyUnworkable scope stmt refusal × (new ≡ old)) ⊎ (IsWorkable scope stmt × IsWhyUnmade (statement_literals stmt) old new refusal)
 
 -- what is done to what is bound, and what is answered
 abbrev pub Does : Work → StateView → StateView → Answer → Type 0

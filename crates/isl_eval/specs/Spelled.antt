@@ -1,13 +1,9 @@
 -- public: the statement that bytes spell. (isl manual, the notation of sets and relations; the iscc chapter of the barvinok manual)
-use Rattle.std.specs.Prelude.{◌≡◌, ℕ, Bool, true, false, not, List, Some}
+use Rattle.std.specs.Prelude.{◌≡◌, ℕ, List, Some}
 use Rattle.isl_token.specs.TokenView.{Token}
 use Rattle.isl_token.specs.Lex as lex
 use Rattle.isl_token.specs.Spelling.{Spells}
-use Rattle.isl_tree.specs.Plain.{is_plain}
 use Rattle.isl_expr.specs.declared.tree.Stmt.{Stmt}
-use Rattle.isl_expr.specs.declared.tree.Stmt.TheVariants.{Empty, Bind, Show}
-use Rattle.isl_expr.specs.declared.tree.Expr.{Expr}
-use Rattle.isl_expr.specs.declared.tree.Expr.TheVariants as e
 use Rattle.isl_statement.specs.StatementGrammar.{statement_grammar}
 
 -- the bytes have tokens, and these spell the statement
@@ -27,16 +23,3 @@ OfStatement bytes P = (stmt : Stmt) × BytesSpell bytes stmt × P stmt
 -- the bytes spell at most one statement
 abbrev pub SpellOne : List ℕ → Type 0
 SpellOne bytes = (a b : Stmt) → BytesSpell bytes a → BytesSpell bytes b → a ≡ b
-
--- ---- what is there today: plain literals and names
-
-abbrev pub is_brought : Expr → Bool
-is_brought (e.Name name) = true
-is_brought (e.Literal literal) = is_plain literal
-is_brought expr = false
-
--- a statement that is spelled by the notation, and that the program does not answer yet
-abbrev pub is_unsupported : Stmt → Bool
-is_unsupported Empty = false
-is_unsupported (Bind name expr) = not (is_brought expr)
-is_unsupported (Show expr) = not (is_brought expr)

@@ -1,12 +1,12 @@
 -- public: what statements have bound. (the iscc chapter of the barvinok manual, on assignments)
-use Rattle.std.specs.Prelude.{◌≡◌, ◌≢◌, ℕ, ℤ, List, [], Option, Some, All, map, unsigned_abs}
+use Rattle.std.specs.Prelude.{◌≡◌, ◌≢◌, ℤ, List, [], Option, Some, map, unsigned_abs}
 use Rattle.std.specs.Map.{lookup}
 use Rattle.std.specs.Str.{bytes_eq}
 use Rattle.isl_meter.specs.Gauge.{Gauge}
 use Rattle.isl_space.specs.Name.{Name}
 use Rattle.isl_space.specs.Valuation.{Valuation}
-use Rattle.isl_piece.specs.Row.{IsRowUpTo}
 use Rattle.isl_union.specs.KeptValue.{KeptValue}
+pub use Rattle.isl_union.specs.Numbers.{HasNumbersUpTo}
 use Rattle.isl_expr.specs.declared.tree.ValueKind.{ValueKind}
 use Rattle.isl_kinds.specs.Typed.{TypeView, ScopeView}
 
@@ -43,10 +43,6 @@ pub record Binds (before : StateView) (name : Name) (kept : Kept) (after : State
 -- everything that is kept has P
 abbrev pub EachKept : (Kept → Type 0) → StateView → Type 0
 EachKept P state = (name : Name) (kept : Kept) → kept_of state name ≡ Some kept → P kept
-
--- each number of the value has at most this magnitude
-abbrev pub HasNumbersUpTo : ℕ → KeptValue → Type 0
-HasNumbersUpTo limit value = All (λ piece. All (IsRowUpTo limit) piece.rows) value.pieces
 
 -- all numbers of what is bound are within the limit
 abbrev pub Fits : ℤ → StateView → Type 0

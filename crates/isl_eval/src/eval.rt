@@ -1,25 +1,31 @@
 //! What a statement does that is read.
 
-ghost use Rattle.std.specs.Prelude.{◌≡◌, ◌++◌, ◌∷◌, [], false, All, MatchResult};
-ghost use Rattle.isl_meter.specs.Gauge.{limit_of};
+ghost use Rattle.std.specs.Prelude.{◌≡◌, ◌≢◌, ◌++◌, ◌∷◌, [], false, All, IfErr, MatchResult, Ok};
+ghost use Rattle.std.specs.List.{list_any};
+ghost use Rattle.isl_meter.specs.Gauge.{limit_of, IsCharged};
 ghost use Rattle.isl_print.specs.Printed.{printed};
 ghost use Rattle.isl_text.specs.declared.refusal.Refusal.TheVariants.{NoMemory};
 ghost use Rattle.isl_lower.specs.Value.{IsWellFormedLiteral};
 ghost use Rattle.isl_expr.specs.Expr.{statement_literals};
 ghost use Rattle.isl_eval.specs.State.{scope_of, Fits};
-ghost use Rattle.isl_eval.specs.Spelled.{is_unsupported};
+ghost use Rattle.isl_kinds.specs.Parts.{parts_of_statement};
+ghost use Rattle.isl_kinds.specs.Typed.{type_of_statement};
+ghost use Rattle.isl_simple.specs.Unsupported.{is_unsupported};
+ghost use Rattle.isl_eval.specs.Causes.{uses_units};
 ghost use Rattle.isl_eval.specs.Machine.{Answer};
-ghost use Rattle.isl_eval.specs.Evaluation.{IsTyped, IsWork, HasItsType, IsWhyUnworked, Does};
+ghost use Rattle.isl_eval.specs.Evaluation.{IsWorkable, IsWhyUnworkable, IsWork, HasItsType, IsWhyUnworked, Does};
 
 use crate::State;
 use crate::selected::selected;
 use crate::state::Kept;
 use crate::step::Tally;
 use isl_expr::tree::Stmt;
-use isl_kinds::{Typed, typed_statement};
+use isl_kinds::{Scope, Typed, typed_statement};
 use isl_meter::Meter;
 use isl_print::text_of;
+use isl_simple::mixes_kinds;
 use isl_space::Name;
+use isl_space::limits::MAX_PARAMETERS;
 use isl_text::refusal::Refusal;
 use isl_union::Value;
 use std::alloc::{AllocError, Global};
@@ -32,6 +38,25 @@ pub(crate) enum Work {
     Bind(Name, Kept, Typed),
 }
 
+/// The type of what a statement shows or binds, where it is to be worked out.
+fn workable(alloc: Global, stmt: &Stmt, scope: &Scope) -> Result<Option<Typed>, Refusal>
+    ensures { MatchResult result (λ typed. IsWorkable scope.now stmt.now × (type_of_statement scope.now stmt.now ≡ Ok typed))
+        (IsWhyUnworkable scope.now stmt.now) }
+{
+    let typed = typed_statement(alloc, stmt, scope)?;
+    if mixes_kinds(stmt, scope) {
+        return Err(Refusal::Syntax);
+    }
+    let is_wide = match &typed {
+        Some(found) => found.params().len() > MAX_PARAMETERS,
+        None => false,
+    };
+    if is_wide {
+        return Err(Refusal::TooWide);
+    }
+    Ok(typed)
+}
+
 /// What is to be done for a statement, with the value of its expression.
 pub(crate) fn prepare(
     alloc: Global,
@@ -42,11 +67,14 @@ pub(crate) fn prepare(
     requires supported { is_unsupported stmt.now ≡ false }
     requires sound { All IsWellFormedLiteral (statement_literals stmt.now) }
     requires fits { Fits (limit_of meter.old) state.now }
-    ensures { MatchResult result
-        (λ work. IsTyped (scope_of state.now) stmt.now × IsWork (record { state = state.now; meter = meter.old }) stmt.now work × (meter.new ≡ meter.old))
+    ensures made { MatchResult result
+        (λ work. IsWorkable (scope_of state.now) stmt.now × IsWork (record { state = state.now; meter = meter.old }) stmt.now work
+        × IsCharged meter.old meter.new)
         (IsWhyUnworked (scope_of state.now) stmt.now meter.old meter.new) }
+    ensures free { list_any uses_units (parts_of_statement stmt.now) ≡ false → meter.new.units ≡ meter.old.units }
+    ensures unspent { list_any uses_units (parts_of_statement stmt.now) ≡ false → IfErr result (λ refusal. refusal ≢ Refusal.Budget) }
 {
-    let typed = match typed_statement(alloc, stmt, state.scope()) {
+    let typed = match workable(alloc, stmt, state.scope()) {
         Ok(Some(typed)) => typed,
         Ok(None) => return Ok(Work::Nothing),
         Err(refusal) => return Err(refusal),

@@ -1,27 +1,224 @@
 //! The values of expressions.
 
-ghost use Rattle.std.specs.Prelude.{◌≡◌, true, All, MatchResult};
-ghost use Rattle.isl_meter.specs.Gauge.{limit_of};
-ghost use Rattle.isl_lower.specs.Value.{IsWellFormedLiteral};
-ghost use Rattle.isl_expr.specs.Expr.{literals_of};
-ghost use Rattle.isl_eval.specs.State.{type_of, scope_of, Fits};
-ghost use Rattle.isl_eval.specs.Selection.{Keeps};
-ghost use Rattle.isl_eval.specs.Spelled.{is_brought};
-ghost use Rattle.isl_eval.specs.Evaluation.{IsOfType, IsWhyUnmade};
+ghost use Rattle.std.specs.Prelude.{◌≡◌, ◌≢◌, ◌≤◌, ◌∷◌, [], true, false, IfErr, MatchResult, length, unsigned_abs};
+ghost use Rattle.std.specs.List.{list_any};
+ghost use Rattle.isl_meter.specs.Gauge.{limit_of, IsCharged};
+ghost use Rattle.isl_space.specs.Limits.{most_parameters};
+ghost use Rattle.isl_union.specs.KeptValue.{Has};
+ghost use Rattle.isl_tree.specs.Plain.{is_plain};
+ghost use Rattle.isl_lower.specs.Value.{IsWellFormedLiteral, value_lowered};
+ghost use Rattle.isl_tree.specs.Literal.{LiteralHas};
+ghost use Rattle.isl_tree.specs.Known.{literal_is_known};
+ghost use Rattle.isl_expr.specs.Expr.{literals_of, links_literals};
+ghost use Rattle.isl_expr.specs.declared.tree.Postfix.{Inverse};
+ghost use Rattle.isl_kinds.specs.Parts.{operator as operator_part, parts_of, parts_of_links};
+ghost use Rattle.isl_kinds.specs.Typed.{declared_of, declared_of_row, joined_names};
+ghost use Rattle.isl_simple.specs.Unsupported.{is_later};
+ghost use Rattle.isl_eval.specs.State.{type_of, scope_of, Fits, HasNumbersUpTo};
+ghost use Rattle.isl_eval.specs.Causes.{uses_units};
+ghost use Rattle.isl_eval.specs.Selection.{Keeps, Selects, JoinHas, PostHas, RowSelects, PostfixHas};
+ghost use Rattle.isl_maps.specs.Inverse.{inverse_of};
+ghost use Rattle.isl_eval.specs.Worked.{value_of, join_of, row_value, post_value};
+ghost use Rattle.isl_eval.specs.Evaluation.{IsOfType, IsReady, AreReady, IsValueOf, IsWhyUnmade, AreInverses, refusal_of_cut};
 
 use crate::State;
 use crate::state::Kept;
-use isl_expr::tree::Expr;
+use isl_expr::tree::{Binary, Expr, Link, Postfix};
 use isl_kinds::Typed;
 use isl_lower::lower;
+use isl_maps::inverse;
 use isl_meter::{Cut, Meter};
 use isl_text::refusal::Refusal;
 use isl_tree::tree::Literal;
-use isl_union::Value;
+use isl_union::{OpFault, Value};
 use std::alloc::Global;
 use std::rc::Rc;
 
-/// The value of an expression of this type: of a name what it stands for, of a literal a new one.
+fn refusal_of(cut: Cut) -> Refusal
+    ensures { result ≡ refusal_of_cut cut }
+{
+    match cut {
+        Cut::Overflow => Refusal::Overflow,
+        Cut::Budget => Refusal::Budget,
+        Cut::NoMemory => Refusal::NoMemory,
+    }
+}
+
+/// The rows that a literal writes, as a value.
+fn lowered(alloc: Global, literal: &Literal, meter: &mut Meter) -> Result<Rc<Value>, Refusal>
+    requires plain { is_plain literal.now ≡ true }
+    requires known { literal_is_known literal.now ≡ true }
+    requires well_formed { IsWellFormedLiteral literal.now }
+    ensures made { MatchResult result
+        (λ value. IsValueOf (value_lowered literal.now) literal.now.params (LiteralHas literal.now) (unsigned_abs (limit_of meter.old)) value.value
+        × IsCharged meter.old meter.new)
+        (IsWhyUnmade (literal.now ∷ []) meter.old meter.new) }
+    ensures free { meter.new.units ≡ meter.old.units }
+    ensures unspent { IfErr result (λ refusal. refusal ≢ Refusal.Budget) }
+{
+    match lower(alloc, literal, meter) {
+        Ok(value) => {
+            let _pieces = value.pieces();
+            Ok(Rc::new(alloc, value)?)
+        }
+        Err(cut) => Err(refusal_of(cut)),
+    }
+}
+
+/// Two values as an operator joins them.
+fn joined(
+    alloc: Global,
+    operator: Binary,
+    left: &Value,
+    right: &Value,
+    meter: &mut Meter,
+) -> Result<Rc<Value>, Refusal>
+    requires supported { is_later (operator_part operator) ≡ false }
+    requires narrow { length (joined_names left.now.params right.now.params) ≤ most_parameters }
+    requires left { HasNumbersUpTo (unsigned_abs (limit_of meter.old)) left.now }
+    requires right { HasNumbersUpTo (unsigned_abs (limit_of meter.old)) right.now }
+    ensures made { MatchResult result
+        (λ value. IsValueOf (join_of operator left.now right.now) (joined_names left.now.params right.now.params)
+        (λ valuation element. JoinHas operator (Has left.now valuation) (Has right.now valuation) element) (unsigned_abs (limit_of meter.old)) value.value
+        × IsCharged meter.old meter.new)
+        (IsWhyUnmade [] meter.old meter.new) }
+    ensures free { uses_units (operator_part operator) ≡ false → meter.new.units ≡ meter.old.units }
+    ensures unspent { uses_units (operator_part operator) ≡ false → IfErr result (λ refusal. refusal ≢ Refusal.Budget) }
+{
+    let _names = right.params();
+    let made = match operator {
+        Binary::Union => left.union(alloc, right, meter),
+        Binary::Intersection => left.meet(alloc, right, meter),
+        _ => unreachable!(),
+    };
+    match made {
+        Ok(value) => Ok(Rc::new(alloc, value)?),
+        Err(OpFault::Cut(cut)) => Err(refusal_of(cut)),
+        Err(OpFault::TooWide) => unreachable!(),
+    }
+}
+
+/// The inverse of a value of maps.
+fn inverted(alloc: Global, operand: &Value, meter: &mut Meter) -> Result<Rc<Value>, Refusal>
+    requires { HasNumbersUpTo (unsigned_abs (limit_of meter.old)) operand.now }
+    ensures made { MatchResult result
+        (λ value. IsValueOf (inverse_of operand.now) operand.now.params (λ valuation element. PostfixHas Inverse (Has operand.now valuation) element)
+        (unsigned_abs (limit_of meter.old)) value.value × IsCharged meter.old meter.new)
+        (IsWhyUnmade [] meter.old meter.new) }
+    ensures free { meter.new.units ≡ meter.old.units }
+    ensures unspent { IfErr result (λ refusal. refusal ≢ Refusal.Budget) }
+{
+    match inverse(alloc, operand, meter) {
+        Ok(value) => Ok(Rc::new(alloc, value)?),
+        Err(OpFault::Cut(cut)) => Err(refusal_of(cut)),
+        Err(OpFault::TooWide) => unreachable!(),
+    }
+}
+
+/// What follows an operand, from the left.
+fn past_postfixes(
+    alloc: Global,
+    operand: Rc<Value>,
+    postfixes: &[Postfix],
+    meter: &mut Meter,
+) -> Result<Rc<Value>, Refusal>
+    requires inverses { AreInverses postfixes.now }
+    requires numbers { HasNumbersUpTo (unsigned_abs (limit_of meter.old)) operand.value }
+    ensures made { MatchResult result
+        (λ value. IsValueOf (post_value operand.value postfixes.now) operand.value.params
+        (λ valuation element. PostHas (Has operand.value valuation) postfixes.now element) (unsigned_abs (limit_of meter.old)) value.value × IsCharged meter.old meter.new)
+        (IsWhyUnmade [] meter.old meter.new) }
+    ensures free { meter.new.units ≡ meter.old.units }
+    ensures unspent { IfErr result (λ refusal. refusal ≢ Refusal.Budget) }
+{
+    let _pieces = operand.pieces();
+    let mut left = operand;
+    for postfix in postfixes {
+        let made = match postfix {
+            Postfix::Inverse => inverted(alloc, &left, meter),
+            Postfix::Apply(_) | Postfix::Item(_) => unreachable!(),
+        };
+        left = match made {
+            Ok(made) => made,
+            Err(refusal) => return Err(refusal),
+        };
+    }
+    Ok(left)
+}
+
+/// The value of an expression: of a name what it stands for, and not a copy; of a literal a new one.
+#[cycle(value)]
+fn value_of(
+    alloc: Global,
+    expr: &Expr,
+    state: &State,
+    meter: &mut Meter,
+) -> Result<Rc<Value>, Refusal>
+    requires ready { IsReady (scope_of state.now) expr.now }
+    requires fits { Fits (limit_of meter.old) state.now }
+    ensures made { MatchResult result
+        (λ value. IsValueOf (value_of state.now expr.now) (declared_of (scope_of state.now) expr.now) (Selects state.now expr.now)
+        (unsigned_abs (limit_of meter.old)) value.value × IsCharged meter.old meter.new)
+        (IsWhyUnmade (literals_of expr.now) meter.old meter.new) }
+    ensures free { list_any uses_units (parts_of expr.now) ≡ false → meter.new.units ≡ meter.old.units }
+    ensures unspent { list_any uses_units (parts_of expr.now) ≡ false → IfErr result (λ refusal. refusal ≢ Refusal.Budget) }
+{
+    match expr {
+        Expr::Name(name) => match state.get(name) {
+            Some(kept) => Ok(kept.shared()?),
+            None => unreachable!(),
+        },
+        Expr::Literal(literal) => lowered(alloc, literal, meter),
+        Expr::Row(first, links) => match value_of(alloc, first.get(), state, meter) {
+            Ok(left) => past_links(alloc, left, links.as_slice(), state, meter),
+            Err(refusal) => Err(refusal),
+        },
+        Expr::Post(operand, postfixes) => match value_of(alloc, operand.get(), state, meter) {
+            Ok(left) => past_postfixes(alloc, left, postfixes.as_slice(), meter),
+            Err(refusal) => Err(refusal),
+        },
+        Expr::Prefix(..) => unreachable!(),
+        Expr::Any(..) => unreachable!(),
+        Expr::Last(..) => unreachable!(),
+    }
+}
+
+/// An operand, joined to those behind it, from the left.
+#[cycle(value)]
+fn past_links(
+    alloc: Global,
+    first: Rc<Value>,
+    links: &[Link],
+    state: &State,
+    meter: &mut Meter,
+) -> Result<Rc<Value>, Refusal>
+    requires ready { AreReady (scope_of state.now) first.value.params links.now }
+    requires fits { Fits (limit_of meter.old) state.now }
+    requires numbers { HasNumbersUpTo (unsigned_abs (limit_of meter.old)) first.value }
+    ensures made { MatchResult result
+        (λ value. IsValueOf (row_value state.now first.value links.now) (declared_of_row (scope_of state.now) first.value.params links.now)
+        (λ valuation element. RowSelects state.now valuation (Has first.value valuation) links.now element) (unsigned_abs (limit_of meter.old)) value.value
+        × IsCharged meter.old meter.new)
+        (IsWhyUnmade (links_literals links.now) meter.old meter.new) }
+    ensures free { list_any uses_units (parts_of_links links.now) ≡ false → meter.new.units ≡ meter.old.units }
+    ensures unspent { list_any uses_units (parts_of_links links.now) ≡ false → IfErr result (λ refusal. refusal ≢ Refusal.Budget) }
+{
+    let _pieces = first.pieces();
+    let mut left = first;
+    for link in links {
+        let right = match value_of(alloc, &link.operand, state, meter) {
+            Ok(right) => right,
+            Err(refusal) => return Err(refusal),
+        };
+        left = match joined(alloc, link.operator, &left, &right, meter) {
+            Ok(made) => made,
+            Err(refusal) => return Err(refusal),
+        };
+    }
+    Ok(left)
+}
+
+/// What is kept of an expression of this type.
 pub(crate) fn selected(
     alloc: Global,
     expr: &Expr,
@@ -29,25 +226,17 @@ pub(crate) fn selected(
     state: &State,
     meter: &mut Meter,
 ) -> Result<Kept, Refusal>
-    requires brought { is_brought expr.now ≡ true }
     requires typed { IsOfType (scope_of state.now) expr.now typed.now }
-    requires sound { All IsWellFormedLiteral (literals_of expr.now) }
+    requires ready { IsReady (scope_of state.now) expr.now }
     requires fits { Fits (limit_of meter.old) state.now }
-    ensures { MatchResult result
-        (λ kept. Keeps (record { state = state.now; meter = meter.old }) expr.now kept × (type_of kept ≡ typed.now) × (meter.new ≡ meter.old))
+    ensures made { MatchResult result
+        (λ kept. Keeps (record { state = state.now; meter = meter.old }) expr.now kept × (type_of kept ≡ typed.now) × IsCharged meter.old meter.new)
         (IsWhyUnmade (literals_of expr.now) meter.old meter.new) }
+    ensures free { list_any uses_units (parts_of expr.now) ≡ false → meter.new.units ≡ meter.old.units }
+    ensures unspent { list_any uses_units (parts_of expr.now) ≡ false → IfErr result (λ refusal. refusal ≢ Refusal.Budget) }
 {
-    match expr {
-        Expr::Name(name) => match state.get(name) {
-            Some(kept) => Ok(kept.copy()?),
-            None => unreachable!(),
-        },
-        Expr::Literal(literal) => match lower(alloc, literal, meter) {
-            Ok(value) => Ok(Kept::new(typed.kind(), Rc::new(alloc, value)?)),
-            Err(Cut::Overflow) => Err(Refusal::Overflow),
-            Err(Cut::Budget) => Err(Refusal::Budget),
-            Err(Cut::NoMemory) => Err(Refusal::NoMemory),
-        },
-        _ => unreachable!(),
+    match value_of(alloc, expr, state, meter) {
+        Ok(value) => Ok(Kept::new(typed.kind(), value)),
+        Err(refusal) => Err(refusal),
     }
 }

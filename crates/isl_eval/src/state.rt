@@ -46,16 +46,13 @@ impl Kept {
         &self.value
     }
 
-    /// The same, with the same value in memory.
-    pub(crate) fn copy(&self) -> Result<Kept, AllocError>
-        ensures copy { IfOk result (λ copy. copy ≡ self.now) }
+    /// The value, shared.
+    pub(crate) fn shared(&self) -> Result<Rc<Value>, AllocError>
+        ensures shared { IfOk result (λ value. value.value ≡ self.now.value) }
         ensures kept { IsKeptValue self.now.value }
     {
         let _pieces = self.value.pieces();
-        Ok(Kept {
-            kind: self.kind,
-            value: self.value.clone()?,
-        })
+        self.value.clone()
     }
 }
 

@@ -1,1 +1,2 @@
 pub mod Outside
+pub use Rattle.isl_math.specs.Count

@@ -1,4 +1,4 @@
--- What is seen of the sources and sinks of this crate. A source or a sink over memory is seen whole.
+-- public: what is seen of the sources and sinks of this crate. A source or a sink over memory is seen whole.
 use Rattle.std.specs.Prelude.{ℕ, ◌-◌, List, length}
 
 -- the bytes that a source in memory has left, the most that it gives at once, the numbers of the calls that

@@ -24,7 +24,7 @@ use Rattle.isl_kinds.specs.Typed.{declared_of_row, declared_of_post}
 
 -- ---- joined lists
 
-abbrev has : List Name → Name → Bool
+abbrev pub has : List Name → Name → Bool
 has names n = list_any (bytes_eq n) names
 
 or_true : (a : Bool) → (a || true) ≡ true
@@ -53,7 +53,7 @@ joined_stays names [] n there = there
 joined_stays names (m ∷ others) n there = joined_stays (insert_key bytes_eq names m) others n (stays (has names m) names n m there)
 
 -- a name of the others is there once they are joined
-other_is_there : (names others : List Name) (n : Name) → has others n ≡ true → has (joined_names names others) n ≡ true
+pub other_is_there : (names others : List Name) (n : Name) → has others n ≡ true → has (joined_names names others) n ≡ true
 other_is_there names [] n there = absurd (false_is_true there)
   where
     false_is_true : false ≡ true → ⊥
@@ -129,14 +129,14 @@ declared_of-Prefix : (scope : ScopeView) (word : Word) (operand : Expr)
 unfolding hidden-the_row-Expr-0 denote.Hole.Carrier.hidden
 declared_of-Prefix scope word operand = refl
 
-declared_of-Row : (scope : ScopeView) (first : Expr) (links : List Link)
+pub declared_of-Row : (scope : ScopeView) (first : Expr) (links : List Link)
     → declared_of scope (Row first links) ≡ declared_of_row scope (declared_of scope first) links
 unfolding hidden-the_row-Expr-0 denote.Hole.Carrier.hidden
 declared_of-Row scope first links =
     links_are _ scope (declared_of scope first) (hidden-the_row-Link-1 links)
     ∙ ap (declared_of_row scope (declared_of scope first)) (items_hidden-the_row-Link-1 links)
 
-declared_of-Post : (scope : ScopeView) (operand : Expr) (postfixes : List Postfix)
+pub declared_of-Post : (scope : ScopeView) (operand : Expr) (postfixes : List Postfix)
     → declared_of scope (Post operand postfixes) ≡ declared_of_post scope (declared_of scope operand) postfixes
 unfolding hidden-the_row-Expr-0 denote.Hole.Carrier.hidden
 declared_of-Post scope operand postfixes =

@@ -22,7 +22,8 @@ pub enum Purpose {
     Bound,
 }
 
-fn kind_of_pieces(pieces: &[PieceTree]) -> ValueKind
+/// The kind of a literal with these pieces.
+pub fn kind_of_pieces(pieces: &[PieceTree]) -> ValueKind
     ensures { result ≡ spec.kind_of_pieces pieces.now }
 {
     match pieces {

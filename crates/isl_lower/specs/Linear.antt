@@ -1,4 +1,4 @@
--- Linear terms as rows of numbers: one for each column, and the constant behind them.
+-- public: linear terms as rows of numbers: one for each column, and the constant behind them.
 use Rattle.std.specs.Prelude.{ℕ, ◌+◌, ℤ, pos, neg_ℤ, ◌+ℤ◌, Bool, true, false, not, List, [], ◌∷◌, ◌++◌, map, slice_index_or, slice_set}
 use Rattle.std.specs.Prelude.{replicate, Option, Some, None, if◌then◌else◌}
 use Rattle.isl_tree.specs.declared.tree.Factor.{Name}

@@ -1,4 +1,4 @@
--- What calls that write rows ensure.
+-- inner: what calls that write rows ensure.
 use Rattle.std.specs.Prelude.{◌≡◌, ℕ, ℤ, List, ◌++◌, All, map, Result, MatchResult}
 use Rattle.isl_meter.specs.Gauge.{Gauge, IsWithin, overflown}
 use Rattle.isl_meter.specs.declared.Cut.{Cut}

@@ -1,4 +1,5 @@
--- Where a row that a literal writes passes the limit: in a product, or in a sum at a column, as its amounts are added from the left.
+-- public: where a row that a literal writes passes the limit: in a product, or in a sum at a column, as its amounts are added from the
+-- left.
 use Rattle.std.specs.Prelude.{◌≡◌, ◌⊎◌, ℕ, Option, Some, None, ◌+◌, ◌<◌, ℤ, pos, ◌+ℤ◌, List, [], ◌∷◌, length, take, replicate}
 use Rattle.std.specs.Prelude.{slice_index_or}
 use Rattle.isl_meter.specs.Gauge.{Gauge, IsWithin, overflown}

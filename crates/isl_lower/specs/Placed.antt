@@ -1,4 +1,4 @@
--- Whether the names of plain pieces stand somewhere: the way in which the check of a plain literal goes.
+-- inner: whether the names of plain pieces stand somewhere: the way in which the check of a plain literal goes.
 use Rattle.std.specs.Prelude.{ℕ, Bool, true, is_some, ◌&&◌, ◌||◌, List, [], ◌∷◌, ◌++◌, Option, Some, None}
 use Rattle.std.specs.List.{list_all}
 use Rattle.isl_tree.specs.declared.tree.Entry.{Entry}

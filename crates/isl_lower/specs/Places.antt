@@ -1,4 +1,4 @@
--- Where a name stands: among the parameters, or else at the first entry that consists of it alone.
+-- public: where a name stands: among the parameters, or else at the first entry that consists of it alone.
 use Rattle.std.specs.Prelude.{ℕ, Bool, false, ◌==◌, List, length, Option, Some, None}
 use Rattle.std.specs.Str.{bytes_eq}
 use Rattle.std.specs.List.{position_from}

@@ -1,4 +1,4 @@
--- The points of a piece of a literal.
+-- public: the points of a piece of a literal.
 use Rattle.std.specs.Prelude.{◌≡◌, ◌↔◌, ℕ, ℤ, List, ◌++◌, length}
 use Rattle.isl_space.specs.Valuation.{Valuation, values_of}
 use Rattle.isl_piece.specs.declared.row.Row.{Row}

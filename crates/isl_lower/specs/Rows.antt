@@ -1,4 +1,4 @@
--- The rows that a plain piece writes: one for each entry that is a term, and one for each comparison.
+-- public: the rows that a plain piece writes: one for each entry that is a term, and one for each comparison.
 use Rattle.std.specs.Prelude.{ℕ, Bool, if◌then◌else◌, ◌+◌, pos, List, [], ◌∷◌, ◌++◌, length, map, take, slice_index_or, Option, Some, None}
 use Rattle.isl_piece.specs.declared.row.RowKind.{RowKind}
 use Rattle.isl_piece.specs.declared.row.RowKind.TheVariants.{Zero, AtLeast}

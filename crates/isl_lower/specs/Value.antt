@@ -1,4 +1,4 @@
--- The value that a plain literal writes. (isl manual, on sets, relations and their notation)
+-- public: the value that a plain literal writes. (isl manual, on sets, relations and their notation)
 use Rattle.std.specs.Prelude.{◌↔◌, List, All, Any, Option, option_map}
 use Rattle.std.specs.List.{filter_map}
 use Rattle.isl_meter.specs.Gauge.{Gauge}

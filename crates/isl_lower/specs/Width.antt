@@ -1,4 +1,4 @@
--- The columns of a piece with these names.
+-- public: the columns of a piece with these names.
 use Rattle.isl_tree.specs.declared.tree.Entry.{Entry}
 use Rattle.std.specs.Prelude.{◌⊎◌, Option, ℕ, Bool, ◌+◌, ◌++◌, List, length}
 use Rattle.isl_meter.specs.Gauge.{Gauge}

@@ -1,8 +1,12 @@
 -- What the equality step makes of rows.
-use Rattle.std.proofs.Common.{◌≡◌, ◌≢◌, ◌↔◌, ◌∙◌, Option, Some, None, sym, arith, ℕ, ◌-◌, ◌<◌, ◌≤◌, ℤ, pos, ◌+ℤ◌, ◌*ℤ◌, List, [], ◌∷◌, ◌++◌, length}
+use Rattle.std.proofs.Common.{◌≡◌, ◌≢◌, ◌↔◌, ◌∙◌, Option, Some, None, refl, sym, ap, arith, ℕ, ◌+◌, ◌-◌, ◌<◌, ◌≤◌, ℤ, pos, ◌+ℤ◌, ◌*ℤ◌, List, [], ◌∷◌, ◌++◌, length, map, take, get_or}
 use Rattle.std.specs.List.{All, AllZip, insert}
-use Rattle.std.proofs.lemmas.List.Elements.{All-push}
+use Rattle.std.proofs.lemmas.List.{take_more, map-append}
+use Rattle.std.proofs.lemmas.List.Elements.{All-head, All-tail, All-cons}
 use Rattle.isl_math.specs.Divide as divide
+use Rattle.isl_math.specs.Divide.{floor_div}
+use Rattle.isl_math.specs.Gcd.{gcd_of}
+use Rattle.isl_math.proofs.GcdLaws.{IsGcdOf-gcd_of}
 use Rattle.isl_math.proofs.Ring.{linear}
 use lib.IntN.{*ℤ_comm}
 use Rattle.isl_math.specs.Order.{abs_of, sign_of}
@@ -14,18 +18,25 @@ use Rattle.isl_piece.specs.declared.row.Row.{Row}
 use Rattle.isl_piece.specs.Row.{HoldsRow, value_at, coef_at, IsWellFormed}
 use Rattle.isl_meter.specs.Gauge.{Gauge}
 use Rattle.isl_omega.specs.Column.{IsFree, IsFreeKind, HoldAt, rest_at, AreRowsOf, IsAnswerFor}
-use Rattle.isl_omega.specs.Combine.{combination}
-use Rattle.isl_omega.specs.Equality.{IsImage, IsSolvedBy, solvable}
+use Rattle.isl_piece.specs.Combine.{combination}
+use Rattle.isl_omega.specs.Equality.{AreFactors, IsSolvedBy, solvable, row_factor, equality_factor, image_of, images_of}
 use Rattle.isl_omega.proofs.ColumnLemmas.{value_at-insert, hold_anywhere}
-use Rattle.isl_omega.proofs.CombineLemmas.{value_at-combination, coef_at-combination, holds_scaled, combination_well_formed}
-use Rattle.isl_omega.proofs.EqualityLemmas.{multiple_of_zero, some_solution}
-use Rattle.isl_math.proofs.ListLaws.{All-last, All-zipped, All-zipped_back, AllZip-with}
+use Rattle.isl_piece.proofs.CombineLaws.{value_at-combination, coef_at-combination, holds_scaled, combination_well_formed}
+use Rattle.isl_omega.proofs.EqualityLemmas.{multiple_of_zero, some_solution, AreFactors-from_gcd}
+use Rattle.isl_math.proofs.ListLaws.{All-zipped, All-zipped_back, AllZip-with}
 
 pub free_of_zero : (kind : RowKind) (k c : ℤ) → c ≡ pos 0 → IsFreeKind kind k c
 free_of_zero Zero k c e = e
 free_of_zero AtLeast k c e = e
 free_of_zero Divides k c e = rw e (Divides-zero k)
 free_of_zero NotDivides k c e = rw e (Divides-zero k)
+
+-- `image` is a sum of multiples of the row and of `fixed` in which the column cancels. So where `fixed` is 0, both say the same
+pub record IsImage (fixed : Row) (col : ℕ) (row image : Row) : Type 0 where
+  pub m : ℤ
+  pub n : ℤ
+  pub factors : AreFactors (coef_at fixed col) (coef_at row col) m n
+  pub is : image ≡ combination m row n fixed
 
 -- ---- one row
 pub image_well_formed : (columns : ℕ) (fixed : Row) (col : ℕ) (row image : Row) → IsImage fixed col row image → IsWellFormed columns row → IsWellFormed columns fixed → IsWellFormed columns image
@@ -74,22 +85,24 @@ solvable_free fixed col = abs_divides (coef_at fixed col)
 -- ---- the step
 -- the images and that row hold with any x at the column exactly where some x solves the equality and meets all rows
 pub equality_step_is : (columns : ℕ) (fixed : Row) (col : ℕ) (rows images : List Row) (point : List ℤ) → AllZip (IsImage fixed col) rows images → All (IsWellFormed columns) rows → IsWellFormed columns fixed → col < columns → length point ≡ columns - 1
-    → HoldAt (images ++ solvable fixed col ∷ []) col point (pos 0) ↔ IsSolvedBy rows fixed col point
+    → HoldAt (solvable fixed col ∷ images) col point (pos 0) ↔ IsSolvedBy rows fixed col point
 equality_step_is columns fixed col rows images point z h k l n =
     let wide : col < length fixed.coefs = (let e = k.width in omega arith) in
     let inside : col ≤ length point = omega arith in
     let shape : (x : ℤ) → value_at fixed (insert point col x) ≡ coef_at fixed col *ℤ x +ℤ rest_at fixed col point = λ x. value_at-insert fixed col point x wide inside in (
       (λ a.
-          let parts = All-last (λ r. HoldsRow r (insert point col (pos 0))) images (solvable fixed col) a in
-          let divides = (Divides_abs (coef_at fixed col) (rest_at fixed col point)).0 (nought (abs_of (coef_at fixed col)) (coef_at fixed col) (rest_at fixed col point) (rw shape at parts.1)) in
+          let H : Row → Type 0 = λ r. HoldsRow r (insert point col (pos 0)) in
+          let first = All-head H (solvable fixed col) images a in
+          let others = All-tail H (solvable fixed col) images a in
+          let divides = (Divides_abs (coef_at fixed col) (rest_at fixed col point)).0 (nought (abs_of (coef_at fixed col)) (coef_at fixed col) (rest_at fixed col point) (rw shape at first)) in
           let s = (some_solution (coef_at fixed col) (rest_at fixed col point)).1 divides in
           let zero_there = shape s.0 ∙ s.1 in
-          (s.0, zero_there, (images_same columns fixed col rows images (insert point col s.0) z h k zero_there).0 (hold_anywhere columns col images point (pos 0) s.0 l n (images_well_formed columns fixed col rows images z h k) (images_free columns fixed col rows images z h k l) parts.0))),
+          (s.0, zero_there, (images_same columns fixed col rows images (insert point col s.0) z h k zero_there).0 (hold_anywhere columns col images point (pos 0) s.0 l n (images_well_formed columns fixed col rows images z h k) (images_free columns fixed col rows images z h k l) others))),
       (λ s.
           let divides = (some_solution (coef_at fixed col) (rest_at fixed col point)).0 (s.0, sym (shape s.0) ∙ s.1) in
-          All-push (λ r. HoldsRow r (insert point col (pos 0))) images (solvable fixed col)
-          (hold_anywhere columns col images point s.0 (pos 0) l n (images_well_formed columns fixed col rows images z h k) (images_free columns fixed col rows images z h k l) ((images_same columns fixed col rows images (insert point col s.0) z h k s.1).1 s.2))
-          (rw shape (beside (abs_of (coef_at fixed col)) (coef_at fixed col) (rest_at fixed col point) ((Divides_abs (coef_at fixed col) (rest_at fixed col point)).1 divides)))),
+          All-cons (λ r. HoldsRow r (insert point col (pos 0))) (solvable fixed col) images
+          (rw shape (beside (abs_of (coef_at fixed col)) (coef_at fixed col) (rest_at fixed col point) ((Divides_abs (coef_at fixed col) (rest_at fixed col point)).1 divides)))
+          (hold_anywhere columns col images point s.0 (pos 0) l n (images_well_formed columns fixed col rows images z h k) (images_free columns fixed col rows images z h k l) ((images_same columns fixed col rows images (insert point col s.0) z h k s.1).1 s.2))),
     )
   where
     nought : (k c f : ℤ) → divide.Divides k (c *ℤ pos 0 +ℤ f) → divide.Divides k f
@@ -99,18 +112,38 @@ equality_step_is columns fixed col rows images point z h k l n =
     beside k c f d = Divides-same k f (c *ℤ pos 0 +ℤ f) (omega (arith, linear)) d
 
 -- ---- what the step puts together
-pub step_well_formed : (columns : ℕ) (fixed : Row) (col : ℕ) (rows images out : List Row) → AllZip (IsImage fixed col) rows images → All (IsWellFormed columns) rows → IsWellFormed columns fixed → coef_at fixed col ≢ pos 0 → out ≡ images ++ solvable fixed col ∷ [] → All (IsWellFormed columns) out
-step_well_formed columns fixed col rows images out z h k n e = rw e (All-push (IsWellFormed columns) images (solvable fixed col) (images_well_formed columns fixed col rows images z h k) (solvable_well_formed columns fixed col k n))
+pub is_image : (fixed : Row) (col : ℕ) (row : Row) → coef_at fixed col ≢ pos 0 → IsImage fixed col row (image_of fixed col row)
+is_image fixed col row n =
+    let e = coef_at fixed col in
+    let a = coef_at row col in
+    record { m = row_factor e a; n = equality_factor e a; factors = AreFactors-from_gcd e a (gcd_of e a) (row_factor e a) (floor_div (sign_of e *ℤ a) (gcd_of e a)) (equality_factor e a) n (IsGcdOf-gcd_of e a) refl refl refl; is = refl }
 
-pub step_free : (columns : ℕ) (fixed : Row) (col : ℕ) (rows images out : List Row) → AllZip (IsImage fixed col) rows images → All (IsWellFormed columns) rows → IsWellFormed columns fixed → col < columns → out ≡ images ++ solvable fixed col ∷ [] → All (IsFree col) out
-step_free columns fixed col rows images out z h k l e = rw e (All-push (IsFree col) images (solvable fixed col) (images_free columns fixed col rows images z h k l) (solvable_free fixed col))
+are_images : (fixed : Row) (col : ℕ) (rows : List Row) → coef_at fixed col ≢ pos 0 → AllZip (IsImage fixed col) rows (map (image_of fixed col) rows)
+are_images fixed col [] n = tt
+are_images fixed col (r ∷ rows) n = (is_image fixed col r n, are_images fixed col rows n)
+
+pub step_well_formed : (columns : ℕ) (fixed : Row) (col : ℕ) (rows : List Row) → coef_at fixed col ≢ pos 0 → All (IsWellFormed columns) rows → IsWellFormed columns fixed → All (IsWellFormed columns) (images_of fixed col rows)
+step_well_formed columns fixed col rows n h k =
+    let images = map (image_of fixed col) rows in
+    All-cons (IsWellFormed columns) (solvable fixed col) images (solvable_well_formed columns fixed col k n) (images_well_formed columns fixed col rows images (are_images fixed col rows n) h k)
+
+pub step_free : (columns : ℕ) (fixed : Row) (col : ℕ) (rows : List Row) → coef_at fixed col ≢ pos 0 → All (IsWellFormed columns) rows → IsWellFormed columns fixed → col < columns → All (IsFree col) (images_of fixed col rows)
+step_free columns fixed col rows n h k l =
+    let images = map (image_of fixed col) rows in
+    All-cons (IsFree col) (solvable fixed col) images (solvable_free fixed col) (images_free columns fixed col rows images (are_images fixed col rows n) h k l)
 
 -- what answers one answers the other
 pub answer_same : (g : Gauge) (columns : ℕ) (P Q : List ℤ → Type 0) → ((point : List ℤ) → length point ≡ columns → P point ↔ Q point) → (o : Option (List Row)) → IsAnswerFor g columns P o → IsAnswerFor g columns Q o
 answer_same g columns P Q f None h = λ point n q. h point n ((f point n).1 q)
 answer_same g columns P Q f (Some rows) h = record { proper = h.proper; normal = h.normal; points = λ point n. ((λ a. (f point n).0 ((h.points point n).0 a)), (λ q. (h.points point n).1 ((f point n).1 q))) }
 
-pub step_is : (g : Gauge) (columns : ℕ) (fixed : Row) (col : ℕ) (rows images out : List Row) (o : Option (List Row)) → AllZip (IsImage fixed col) rows images → All (IsWellFormed columns) rows → IsWellFormed columns fixed → col < columns → out ≡ images ++ solvable fixed col ∷ []
-    → IsAnswerFor g (columns - 1) (λ point. HoldAt out col point (pos 0)) o → IsAnswerFor g (columns - 1) (IsSolvedBy rows fixed col) o
-step_is g columns fixed col rows images out o z h k l e s =
-    answer_same g (columns - 1) (λ point. HoldAt out col point (pos 0)) (IsSolvedBy rows fixed col) (λ point n. rw e (equality_step_is columns fixed col rows images point z h k l n)) o s
+pub step_is : (g : Gauge) (columns : ℕ) (fixed : Row) (col : ℕ) (rows : List Row) (o : Option (List Row)) → coef_at fixed col ≢ pos 0 → All (IsWellFormed columns) rows → IsWellFormed columns fixed → col < columns
+    → IsAnswerFor g (columns - 1) (λ point. HoldAt (images_of fixed col rows) col point (pos 0)) o → IsAnswerFor g (columns - 1) (IsSolvedBy rows fixed col) o
+step_is g columns fixed col rows o n h k l s =
+    answer_same g (columns - 1) (λ point. HoldAt (images_of fixed col rows) col point (pos 0)) (IsSolvedBy rows fixed col)
+    (λ point w. equality_step_is columns fixed col rows (map (image_of fixed col) rows) point (are_images fixed col rows n) h k l w) o s
+
+-- one row more
+pub images_more : (fixed : Row) (col : ℕ) (rows : List Row) (i : ℕ) (r : Row) → i < length rows → r ≡ get_or rows i r → images_of fixed col (take (i + 1) rows) ≡ images_of fixed col (take i rows) ++ image_of fixed col r ∷ []
+images_more fixed col rows i r l e =
+    ap (images_of fixed col) (take_more rows i r l ∙ ap (λ (s : Row). take i rows ++ s ∷ []) (sym e)) ∙ ap (λ (rows : List Row). solvable fixed col ∷ rows) (map-append (image_of fixed col) (take i rows) (r ∷ []))

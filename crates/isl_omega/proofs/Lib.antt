@@ -1,7 +1,9 @@
+pub mod CapLemmas
 pub mod ColumnLemmas
 pub mod CombineLemmas
 pub mod CongruenceLemmas
 pub mod EqualityLemmas
+pub mod ExactUnits
 pub mod ImageLemmas
 pub mod MergeLemmas
 pub mod MoveLemmas

@@ -8,7 +8,7 @@ use Rattle.isl_omega.specs.Column.{rest_at}
 use Rattle.isl_omega.specs.Substitution.{substituted, multiplier, IsMovedBound}
 use Rattle.isl_omega.specs.Tighten.{IsTightened}
 use Rattle.isl_omega.proofs.ColumnLemmas.{value_at-insert}
-use Rattle.isl_omega.proofs.CombineLemmas.{value_at-combination, coef_at-combination, combination_formed, holds_scaled}
+use Rattle.isl_piece.proofs.CombineLaws.{value_at-combination, coef_at-combination, combination_formed, holds_scaled}
 
 pub substituted_formed : (columns col : ℕ) (scale : ℤ) (offsets row : Row) → pos 0 <ℤ scale → IsWellFormed columns row → length offsets.coefs ≡ columns → IsWellFormed columns (substituted scale offsets col row)
 substituted_formed columns col scale offsets row p h w = combination_formed columns scale row (coef_at row col) offsets p h w

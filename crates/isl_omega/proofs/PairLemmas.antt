@@ -11,11 +11,11 @@ use Rattle.isl_piece.specs.declared.row.RowKind.TheVariants.{AtLeast}
 use Rattle.isl_piece.specs.declared.row.Row.{Row}
 use Rattle.isl_piece.specs.Row.{HoldsRow, HoldsValue, value_at, coef_at}
 use Rattle.isl_omega.specs.Column.{rest_at}
-use Rattle.isl_omega.specs.Combine.{combination}
+use Rattle.isl_piece.specs.Combine.{combination}
 use Rattle.isl_omega.specs.Shadow.{ceiling, together, lower_at, upper_at, real_row, IsRealRow, IsDarkRow, IsExact}
 use Rattle.isl_omega.specs.Sides.{IsLower, IsUpper}
 use Rattle.isl_omega.proofs.ColumnLemmas.{value_at-insert}
-use Rattle.isl_omega.proofs.CombineLemmas.{value_at-combination, coef_at-combination, combination_formed}
+use Rattle.isl_piece.proofs.CombineLaws.{value_at-combination, coef_at-combination, combination_formed}
 use Rattle.isl_math.proofs.DivideLaws.{exact_quotient, gcd_positive}
 use Rattle.isl_omega.proofs.ImageLemmas.{free_of_zero}
 use Rattle.isl_omega.proofs.Pairs.{real_divided, dark_divided}

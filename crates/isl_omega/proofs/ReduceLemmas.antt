@@ -17,9 +17,9 @@ use Rattle.isl_piece.specs.Row.{HoldsRow, HoldsValue, value_at, coef_at, HasModu
 use Rattle.isl_piece.proofs.NumberLaws.{length-reduced, dot-reduced, All-IsRemainder-reduced}
 use Rattle.isl_piece.proofs.NumberSteps.{reduced-take_more}
 use Rattle.isl_piece.proofs.RowLemmas.{HasModulus-positive}
-use Rattle.isl_omega.specs.Combine.{combination, scaled_divisor}
+use Rattle.isl_piece.specs.Combine.{combination, scaled_divisor}
 use Rattle.isl_omega.specs.Congruence.{reduced_row, IsReducedCongruence, SayTheSame, IsScaledTo, AreMerged, AreJoined}
-use Rattle.isl_omega.proofs.CombineLemmas.{value_at-combination, coef_at-combination}
+use Rattle.isl_piece.proofs.CombineLaws.{value_at-combination, coef_at-combination}
 use Rattle.isl_omega.proofs.CongruenceLemmas.{merge_step}
 use Rattle.isl_omega.proofs.ImageLemmas.{free_of_zero}
 

@@ -21,7 +21,8 @@ use Rattle.isl_omega.specs.Substitution.{offsets_of, substituted, IsMovedBound}
 use Rattle.isl_omega.specs.declared.sides.Side.TheVariants.{NotDivides, Free}
 use Rattle.isl_omega.specs.declared.sides.Sides.{Sides}
 use Rattle.isl_math.proofs.ListLaws.{All-zipped}
-use Rattle.isl_omega.proofs.SmallLemmas.{coef_up_to, combination_up_to}
+use Rattle.isl_omega.proofs.SmallLemmas.{coef_up_to}
+use Rattle.isl_piece.proofs.CombineLaws.{combination_up_to}
 
 -- ---- the substitution
 pub scale_up_to : (b : ℕ) (scale k : ℤ) → pos 0 <ℤ scale → pos 0 <ℤ k → divide.Divides scale k → unsigned_abs k ≤ b → (unsigned_abs scale ≤ b) × (unsigned_abs (k -ℤ scale) ≤ b)

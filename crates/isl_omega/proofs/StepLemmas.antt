@@ -15,7 +15,7 @@ use Rattle.isl_piece.specs.declared.row.Row.{Row}
 use Rattle.isl_piece.specs.System.{HoldRows}
 use Rattle.isl_piece.specs.Row.{HoldsRow, HoldsValue, value_at, HasModulus, IsWellFormed, IsRowWithin, coef_at}
 use Rattle.isl_omega.specs.Column.{IsFree, IsFreeKind, HoldAt, rest_at, IsProper}
-use Rattle.isl_omega.specs.Combine.{scaled_divisor}
+use Rattle.isl_piece.specs.Combine.{scaled_divisor}
 use Rattle.isl_omega.specs.Congruence.{AreMergedTo, product_of_divisors, period, product_of_periods}
 use Rattle.isl_omega.specs.Sides.{AreSided, SidesHold, IsLower, IsUpper, IsDivides, IsNotDivides, IsFreeRow, is_same, side_of, on_side}
 use Rattle.isl_omega.specs.Step.{within_scale, IsSubstitutionOf, HasFactorsUpTo, AreEquisatisfiable, IsStepOf}

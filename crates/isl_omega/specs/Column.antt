@@ -1,4 +1,4 @@
--- inner: rows without one column, and when they say what other rows say of it. (Pugh, the Omega test)
+-- public: rows without one column, and when they say what other rows say of it. (Pugh, the Omega test)
 use Rattle.std.specs.Prelude.{◌≡◌, ◌↔◌, ℕ, ℤ, pos, ◌+ℤ◌, List, length, All, MatchOption, Option}
 use Rattle.std.specs.List.{insert, remove}
 use Rattle.isl_math.specs.Divide as divide

@@ -1,4 +1,4 @@
--- Congruences on one column, made one.
+-- public: congruences on one column, made one.
 use Rattle.std.specs.Prelude.{◌≡◌, ◌↔◌, ℕ, ℤ, pos, ◌*ℤ◌, ◌≤ℤ◌, ◌<ℤ◌, List, [], ◌∷◌, All, length}
 use Rattle.isl_math.specs.Divide.{floor_div, floor_mod, IsRemainder}
 use Rattle.isl_math.specs.Gcd.{gcd_of}

@@ -1,5 +1,4 @@
 pub mod Column
-pub mod Combine
 pub mod Congruence
 pub mod Equality
 pub mod Magnitude
@@ -8,3 +7,7 @@ pub mod Sides
 pub mod Step
 pub mod Substitution
 pub mod Tighten
+pub mod Units
+pub use Rattle.isl_meter.specs.Gauge
+pub use Rattle.isl_piece.specs.Normal
+pub use Rattle.isl_piece.specs.Row

@@ -1,13 +1,10 @@
--- How large the numbers become.
-use Rattle.std.specs.Prelude.{◌≢◌, ℕ, All, Result, IfErr, MatchResult}
+-- public: how large the numbers become.
+use Rattle.std.specs.Prelude.{◌≢◌, ℕ, All, Result, MatchResult}
 use Rattle.isl_meter.specs.declared.Cut.{Cut}
 use Rattle.isl_meter.specs.declared.Cut.TheVariants.{Overflow}
+pub use Rattle.isl_piece.specs.Cut.{IsNoOverflow}
 use Rattle.isl_piece.specs.Row.{IsRowUpTo}
 use Rattle.isl_omega.specs.declared.sides.Sides.{Sides}
-
--- work did not end because a number passed the limit
-abbrev pub IsNoOverflow : {A : Type 0} → Result A Cut → Type 0
-IsNoOverflow result = IfErr result (λ cut. cut ≢ Overflow)
 
 -- a result of P, or work ended for another reason
 abbrev pub IsNoOverflowWith : {A : Type 0} → (A → Type 0) → Result A Cut → Type 0

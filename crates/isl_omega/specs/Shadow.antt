@@ -1,5 +1,5 @@
--- Shadows of bounds on one column (Pugh, the Omega test): what a lower and an upper bound leave without the column.
-use Rattle.std.specs.Prelude.{◌≡◌, ◌↔◌, ◌⊎◌, Bool, true, false, ℕ, ◌-◌, ℤ, pos, negsuc, neg_ℤ, ◌+ℤ◌, ◌-ℤ◌, ◌*ℤ◌, ◌≤ℤ◌, ◌<ℤ◌, List, ◌++◌, length, All, Any}
+-- public: shadows of bounds on one column (Pugh, the Omega test): what a lower and an upper bound leave without the column.
+use Rattle.std.specs.Prelude.{◌≡◌, ◌↔◌, ◌⊎◌, Bool, true, false, ℕ, ◌-◌, ℤ, pos, negsuc, neg_ℤ, ◌+ℤ◌, ◌-ℤ◌, ◌*ℤ◌, ◌≤ℤ◌, ◌<ℤ◌, List, ◌++◌, length, All, Any, Option, IfSome}
 use Rattle.std.specs.List.{AllZip, insert}
 use Rattle.isl_math.specs.Divide.{floor_div}
 use Rattle.isl_meter.specs.Gauge.{Gauge, IsWithin}
@@ -7,7 +7,7 @@ use Rattle.isl_piece.specs.declared.row.RowKind.TheVariants.{AtLeast}
 use Rattle.isl_piece.specs.declared.row.Row.{Row}
 use Rattle.isl_piece.specs.Row.{HoldsRow, IsWellFormed, value_at, coef_at}
 use Rattle.isl_omega.specs.Column.{IsFree, IsProper, HoldAt, rest_at}
-use Rattle.isl_omega.specs.Combine.{combination}
+use Rattle.isl_piece.specs.Combine.{combination}
 use Rattle.isl_omega.specs.declared.shadow.Splinters.{Splinters}
 
 -- a bound on x at a point of the other columns: `rest` is the value of what stands beside x
@@ -86,6 +86,22 @@ pub record IsDarkRow (columns col : ℕ) (lower upper dark : Row) : Type 0 where
 -- wherever the pair is real it is dark
 abbrev pub IsExact : ℕ → ℕ → Row → Row → Type 0
 IsExact columns col lower upper = (point : List ℤ) → length point ≡ columns - 1 → IsReal (lower_at col point lower) (upper_at col point upper) → IsDark (lower_at col point lower) (upper_at col point upper)
+
+-- ---- where the sum of a pair is constant
+-- wherever the bounds are met, the value of the lower one is at most `cap`
+abbrev pub IsCap : ℕ → ℕ → Row → List Row → ℤ → Type 0
+IsCap columns col lower uppers cap =
+    (point : List ℤ) (x : ℤ) → length point ≡ columns - 1 → HoldsRow lower (insert point col x) → HoldAt uppers col point x → value_at lower (insert point col x) ≤ℤ cap
+
+-- the bounds are met nowhere
+abbrev pub AreNeverMet : ℕ → ℕ → List Row → List Row → Type 0
+AreNeverMet columns col lowers uppers = (point : List ℤ) (x : ℤ) → length point ≡ columns - 1 → HoldAt lowers col point x → ¬ HoldAt uppers col point x
+
+-- a last value that is at most the cap, if there is one, but -1 or more
+pub record IsCapped (cap : Option ℤ) (last capped : ℤ) : Type 0 where
+  pub not_below : negsuc 0 ≤ℤ last → negsuc 0 ≤ℤ capped
+  pub small : negsuc 0 ≤ℤ last → capped ≤ℤ last
+  pub covers : (v : ℤ) → v ≤ℤ last → IfSome cap (λ c. v ≤ℤ c) → v ≤ℤ capped
 
 -- ---- what the code makes of a lower bound and all upper bounds
 -- new rows, which hold exactly where the bound is dark with each upper bound; where a pair is not exact, its upper factor is at most

@@ -1,4 +1,4 @@
--- What each row of a system says of one column.
+-- public: what each row of a system says of one column.
 use Rattle.std.specs.Prelude.{◌≡◌, ℕ, zero, suc, Bool, true, false, ℤ, pos, negsuc, ◌<ℤ◌, List, All, filter}
 use Rattle.isl_math.specs.Divide as divide
 use Rattle.isl_math.specs.Divide.{floor_mod}

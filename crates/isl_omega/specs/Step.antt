@@ -1,4 +1,4 @@
--- The congruence step: the sides of a column with its congruences as a substitution.
+-- public: the congruence step: the sides of a column with its congruences as a substitution.
 use Rattle.std.specs.Prelude.{◌≡◌, ◌↔◌, ℕ, ◌-◌, ◌≤◌, ℤ, pos, neg_ℤ, ◌*ℤ◌, ◌≤ℤ◌, ◌<ℤ◌, List, [], ◌∷◌, ◌++◌, All, length, map, replicate, slice_set}
 use Rattle.std.specs.List.{AllZip}
 use Rattle.isl_meter.specs.Gauge.{Gauge, IsWithin}

@@ -1,4 +1,4 @@
--- A congruence on one column as a substitution: the numbers that it allows are a progression.
+-- inner: a congruence on one column as a substitution: the numbers that it allows are a progression.
 use Rattle.std.specs.Prelude.{◌≡◌, ◌↔◌, ℕ, ◌-◌, ◌≤◌, ℤ, pos, ◌+ℤ◌, ◌-ℤ◌, ◌*ℤ◌, ◌<ℤ◌, List, length, unsigned_abs}
 use Rattle.std.specs.List.{insert}
 use Rattle.isl_math.specs.Divide.{Divides, floor_mod}
@@ -8,7 +8,7 @@ use Rattle.isl_piece.specs.declared.row.RowKind.TheVariants.{Zero, AtLeast}
 use Rattle.isl_piece.specs.declared.row.Row.{Row}
 use Rattle.isl_piece.specs.Row.{HoldsRow, IsWellFormed, IsRowUpTo, coef_at}
 use Rattle.isl_omega.specs.Column.{rest_at}
-use Rattle.isl_omega.specs.Combine.{combination}
+use Rattle.isl_piece.specs.Combine.{combination}
 use Rattle.isl_omega.specs.Tighten.{IsLessened}
 
 -- g is the greatest common divisor of a coefficient c and a divisor k, and d is the negative of an inverse of c / g modulo k / g

@@ -7,9 +7,8 @@ ghost use Rattle.isl_piece.specs.Row.{IsWellFormed, IsRowWithin, coef_at};
 ghost use Rattle.isl_piece.specs.declared.row.RowKind.TheVariants.{Divides};
 ghost use Rattle.isl_omega.specs.Congruence.{reduced_row, IsReducedCongruence, SayTheSame, AreMerged, IsScaledTo, AreJoined, AreMergedTo};
 
-use crate::combine::combined;
 use isl_meter::{Cut, Int, Meter};
-use isl_piece::{Coefs, Row, Rows};
+use isl_piece::{Coefs, Row, Rows, combination};
 use std::alloc::{AllocFailed, Global};
 
 // The remainders of the numbers by `k`.
@@ -63,7 +62,7 @@ fn remainder(
         (λ cut. IsCutUpTo (pos 0) meter.old meter.new cut) }
 {
     let times = p.coefs.get(col).floor_div(q.coefs.get(col), meter);
-    let rest = combined(alloc, Int::ONE, p, times.neg(meter), q, meter)?;
+    let rest = combination(alloc, Int::ONE, p, times.neg(meter), q, meter)?;
     Ok(reduced_copy(alloc, &rest, meter)?)
 }
 
@@ -113,7 +112,7 @@ fn scaled_copy(
         (λ scaled. IsScaledTo columns (m *ℤ row.now.k) row.now scaled × IsRowWithin meter.old scaled × (meter.new ≡ meter.old))
         (λ cut. IsCutUpTo (pos 0) meter.old meter.new cut) }
 {
-    let scaled = combined(alloc, m, row, Int::ZERO, row, meter)?;
+    let scaled = combination(alloc, m, row, Int::ZERO, row, meter)?;
     Ok(reduced_copy(alloc, &scaled, meter)?)
 }
 

@@ -1,17 +1,15 @@
 //! Substitution by an equality.
 
-ghost use Rattle.std.specs.Prelude.{◌≡◌, ◌≢◌, ◌-◌, ◌<◌, pos, length, All, IfOk, MatchResult, ◌^◌};
-ghost use Rattle.std.specs.List.{AllZip};
-ghost use Rattle.isl_meter.specs.Gauge.{IsWithin, IsCutUpTo};
+ghost use Rattle.std.specs.Prelude.{◌≡◌, ◌≢◌, ◌-◌, ◌<◌, pos, length, All, IfOk, ◌^◌};
+ghost use Rattle.isl_meter.specs.Gauge.{IsWithin, IsDone};
 ghost use Rattle.isl_piece.specs.Row.{IsRowWithin, IsWellFormed, coef_at, IsRowUpTo};
 ghost use Rattle.isl_omega.specs.Column.{IsAnswerFor};
-ghost use Rattle.isl_omega.specs.Equality.{AreFactors, IsImage, IsSolvedBy, solvable};
+ghost use Rattle.isl_omega.specs.Equality.{AreFactors, IsSolvedBy, solvable, row_factor, equality_factor, image_of, images_of, solved_for};
 ghost use Rattle.isl_omega.specs.Magnitude.{IsNoOverflow};
 
-use crate::combine::combined;
 use crate::rows::settled;
 use isl_meter::{Cut, Int, Meter};
-use isl_piece::{Row, RowKind, Rows};
+use isl_piece::{Row, RowKind, Rows, combination};
 use std::alloc::{AllocError, Global};
 
 // What to multiply a row and an equality by, so that the column cancels.
@@ -19,6 +17,8 @@ fn factors(pivot: Int, own: Int, meter: &Meter) -> (Int, Int)
     requires pivot_within { IsWithin meter.now pivot }
     requires own_within { IsWithin meter.now own }
     requires occurs { pivot ≢ pos 0 }
+    ensures first { result.0 ≡ row_factor pivot own }
+    ensures second { result.1 ≡ equality_factor pivot own }
     ensures cancel { AreFactors pivot own result.0 result.1 }
     ensures first_within { IsWithin meter.now result.0 }
     ensures second_within { IsWithin meter.now result.1 }
@@ -36,40 +36,11 @@ fn image(alloc: Global, row: &Row, fixed: &Row, col: usize, meter: &mut Meter) -
     requires same_width { length row.now.coefs ≡ length fixed.now.coefs }
     requires col_in { col < length fixed.now.coefs }
     requires occurs { coef_at fixed.now col ≢ pos 0 }
-    ensures exact { MatchResult result
-        (λ short. IsImage fixed.now col row.now short × IsRowWithin meter.old short × (meter.new ≡ meter.old))
-        (λ cut. IsCutUpTo (pos 0) meter.old meter.new cut) }
+    ensures exact { IsDone meter.old meter.new (λ short. (short ≡ image_of fixed.now col row.now) × IsRowWithin meter.old short) result }
     ensures no_overflow { meter.old.bits ≡ 127 → IsRowUpTo (2 ^ 61) row.now → IsRowUpTo (2 ^ 63) fixed.now → IsNoOverflow result }
 {
     let (m, n) = factors(fixed.coefs.get(col), row.coefs.get(col), meter);
-    combined(alloc, m, row, n, fixed, meter)
-}
-
-// The rows without the column, where `fixed` is 0.
-fn images(
-    alloc: Global,
-    rows: &[Row],
-    fixed: &Row,
-    columns: usize,
-    col: usize,
-    meter: &mut Meter,
-) -> Result<Rows, Cut>
-    requires rows_formed { All (IsWellFormed columns) rows.now }
-    requires rows_within { All (IsRowWithin meter.old) rows.now }
-    requires fixed_formed { IsWellFormed columns fixed.now }
-    requires fixed_within { IsRowWithin meter.old fixed.now }
-    requires col_in { col < columns }
-    requires occurs { coef_at fixed.now col ≢ pos 0 }
-    ensures exact { MatchResult result
-        (λ short. AllZip (IsImage fixed.now col) rows.now short × All (IsRowWithin meter.old) short × (meter.new ≡ meter.old))
-        (λ cut. IsCutUpTo (pos 0) meter.old meter.new cut) }
-    ensures no_overflow { meter.old.bits ≡ 127 → All (IsRowUpTo (2 ^ 61)) rows.now → IsRowUpTo (2 ^ 63) fixed.now → IsNoOverflow result }
-{
-    let mut short = Rows::new(alloc);
-    for row in rows {
-        short.push(image(alloc, row, fixed, col, meter)?)?;
-    }
-    Ok(short)
+    combination(alloc, m, row, n, fixed, meter)
 }
 
 // The row that says where some whole number makes `fixed` 0.
@@ -87,8 +58,34 @@ fn divisibility(alloc: Global, fixed: &Row, col: usize, meter: &Meter) -> Result
     ))
 }
 
-/// The rows where `fixed` is 0 at some whole number at `col`, without that column; none where no point is left. No unit is used.
-/// (Pugh, the Omega test: substitution by an equality)
+// The rows where `fixed` is 0 at some whole number, in which the column cancels.
+fn images(
+    alloc: Global,
+    rows: &[Row],
+    fixed: &Row,
+    columns: usize,
+    col: usize,
+    meter: &mut Meter,
+) -> Result<Rows, Cut>
+    requires rows_formed { All (IsWellFormed columns) rows.now }
+    requires rows_within { All (IsRowWithin meter.old) rows.now }
+    requires fixed_formed { IsWellFormed columns fixed.now }
+    requires fixed_within { IsRowWithin meter.old fixed.now }
+    requires col_in { col < columns }
+    requires occurs { coef_at fixed.now col ≢ pos 0 }
+    ensures exact { IsDone meter.old meter.new (λ short. (short ≡ images_of fixed.now col rows.now) × All (IsRowWithin meter.old) short) result }
+    ensures no_overflow { meter.old.bits ≡ 127 → All (IsRowUpTo (2 ^ 61)) rows.now → IsRowUpTo (2 ^ 63) fixed.now → IsNoOverflow result }
+{
+    let mut short = Rows::new(alloc);
+    short.push(divisibility(alloc, fixed, col, meter)?)?;
+    for row in rows {
+        short.push(image(alloc, row, fixed, col, meter)?)?;
+    }
+    Ok(short)
+}
+
+/// The rows where `fixed` is 0 at some whole number at `col`, without that column; none where no point is left. They are a function
+/// of the rows and of `fixed`. No unit is used. (Pugh, the Omega test: substitution by an equality)
 ///
 /// # Errors
 ///
@@ -107,13 +104,11 @@ pub fn equality_step(
     requires fixed_within { IsRowWithin meter.old fixed.now }
     requires col_in { col < columns }
     requires occurs { coef_at fixed.now col ≢ pos 0 }
-    ensures exact { MatchResult result
-        (λ left. IsAnswerFor meter.old (columns - 1) (IsSolvedBy rows.now fixed.now col) left × (meter.new ≡ meter.old))
-        (λ cut. IsCutUpTo (pos 0) meter.old meter.new cut) }
+    ensures exact { IsDone meter.old meter.new (IsAnswerFor meter.old (columns - 1) (IsSolvedBy rows.now fixed.now col)) result }
+    ensures function { IfOk result (λ left. left ≡ solved_for fixed.now col rows.now) }
     ensures no_overflow { meter.old.bits ≡ 127 → All (IsRowUpTo (2 ^ 61)) rows.now → IsRowUpTo (2 ^ 63) fixed.now → IsNoOverflow result }
 {
-    let mut short = images(alloc, rows, fixed, columns, col, meter)?;
-    short.push(divisibility(alloc, fixed, col, meter)?)?;
+    let short = images(alloc, rows, fixed, columns, col, meter)?;
     let left = settled(alloc, &short, columns, col, meter)?;
     Ok(left)
 }

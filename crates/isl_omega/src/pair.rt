@@ -1,24 +1,25 @@
 //! What a lower and an upper bound leave without the column.
 
-ghost use Rattle.std.specs.Prelude.{◌≡◌, ◌<◌, pos, ◌-ℤ◌, ◌*ℤ◌, neg_ℤ, ◌<ℤ◌, ℤ, List, IsTrue, IfOk, MatchResult, ◌≢◌, ◌^◌, ◌≤◌, ◌+◌, ℕ, unsigned_abs, IfErr};
-ghost use Rattle.isl_math.specs.Divide.{IsGcdOf};
+ghost use Rattle.std.specs.Prelude.{◌≡◌, ◌<◌, pos, ◌-ℤ◌, ◌*ℤ◌, neg_ℤ, ◌<ℤ◌, ℤ, List, [], ◌∷◌, All, IsTrue, IfOk, IfSome, MatchResult, ◌≢◌, ◌^◌, ◌≤◌, ◌+◌, ℕ, unsigned_abs, IfErr};
+ghost use Rattle.isl_math.specs.Divide.{IsGcdOf, floor_div};
 ghost use Rattle.isl_meter.specs.Gauge.{IsWithin, IsCutUpTo};
 ghost use Rattle.isl_piece.specs.declared.row.RowKind.TheVariants.{AtLeast};
 ghost use Rattle.isl_piece.specs.Row.{HoldsRow, HasModulus, IsRowWithin, coef_at, IsRowUpTo};
-ghost use Rattle.isl_omega.specs.Shadow.{ceiling, IsRealRow, IsDarkRow, IsExact};
+ghost use Rattle.isl_omega.specs.Shadow.{ceiling, IsRealRow, IsDarkRow, IsExact, IsCap};
 ghost use Rattle.isl_omega.specs.Sides.{IsLower, IsUpper};
 ghost use Rattle.isl_omega.specs.Magnitude.{IsNoOverflow};
 
-use crate::combine::combined;
 use isl_meter::{Cut, Int, Meter, Overflow};
-use isl_piece::{Outcome, Row, settle};
+use isl_piece::{Outcome, Row, combination, settle};
 use std::alloc::{AllocError, Global};
 
-/// The row that holds where the pair is dark, and whether it is so wherever the pair is real.
+/// The row that holds where the pair is dark, whether it is so wherever the pair is real, and the greatest value that the lower
+/// bound can have, where the sum of both is constant.
 #[derive(Drop)]
 pub(crate) struct Pair {
     pub dark: Row,
     pub exact: bool,
+    pub cap: Option<Int>,
 }
 
 // (a - 1)(b - 1) / modulus, rounded up.
@@ -85,8 +86,32 @@ fn real_row(
 {
     let m = lower.coefs.get(col).floor_div(modulus, meter);
     let n = upper.coefs.get(col).neg(meter).floor_div(modulus, meter);
-    let real = combined(alloc, n, lower, m, upper, meter)?;
+    let real = combination(alloc, n, lower, m, upper, meter)?;
     Ok(real)
+}
+
+// Whether each of the numbers is 0.
+fn are_zero(numbers: &[Int]) -> bool
+    ensures { IsTrue result → All (λ z. z ≡ pos 0) numbers.now }
+{
+    for number in numbers {
+        if !number.is_zero() {
+            return false;
+        }
+    }
+    true
+}
+
+// The greatest value of a lower bound that was multiplied by `n` in a real row, if that is constant.
+fn cap_of(real: &Row, n: Int, meter: &Meter) -> Option<Int>
+    requires positive { pos 0 <ℤ n }
+    requires within { IsRowWithin meter.now real.now }
+    ensures { IfSome result (λ cap. All (λ z. z ≡ pos 0) real.now.coefs × (cap ≡ floor_div real.now.constant n) × IsWithin meter.now cap) }
+{
+    if !are_zero(real.coefs.as_slice()) {
+        return None;
+    }
+    Some(real.constant().floor_div(n, meter))
 }
 
 /// The row with its constant less `by`.
@@ -120,7 +145,8 @@ impl Pair {
         requires col_in { col < columns }
         ensures exact { MatchResult result
             (λ pair. IsDarkRow columns col lower.now upper.now pair.dark × IsRowWithin meter.old pair.dark
-            × (IsTrue pair.exact → IsExact columns col lower.now upper.now) × (meter.new ≡ meter.old))
+            × (IsTrue pair.exact → IsExact columns col lower.now upper.now)
+            × IfSome pair.cap (λ cap. IsCap columns col lower.now (upper.now ∷ []) cap × IsWithin meter.old cap) × (meter.new ≡ meter.old))
             (λ cut. IsCutUpTo (pos 0) meter.old meter.new cut) }
         ensures no_overflow { meter.old.bits ≡ 127 → IsRowUpTo (2 ^ 62) lower.now → IsRowUpTo (2 ^ 62) upper.now → IsNoOverflow result }
     {
@@ -131,6 +157,7 @@ impl Pair {
         let by = slack(a, b, modulus, meter)?;
         let dark = reduced_by(alloc, &real, by, meter)?;
         let exact = is_tight(alloc, &real, &dark, meter)?;
-        Ok(Pair { dark, exact })
+        let cap = cap_of(&real, b.floor_div(modulus, meter), meter);
+        Ok(Pair { dark, exact, cap })
     }
 }

@@ -2,6 +2,7 @@
 
 ghost use Rattle.std.specs.Prelude.{◌≡◌, ◌-◌, ◌<◌, pos, All, IfOk, OnErr, MatchResult, map};
 ghost use Rattle.std.specs.List.{remove};
+ghost use Rattle.isl_piece.specs.Normal.{normal_rows};
 ghost use Rattle.isl_piece.specs.Row.{IsRowWithin, IsWellFormed};
 ghost use Rattle.isl_meter.specs.Gauge.{IsCutUpTo};
 ghost use Rattle.isl_omega.specs.Column.{dropped, IsFree, IsAnswerFor, HoldAt};
@@ -72,6 +73,7 @@ pub fn settled(
     ensures exact { MatchResult result
         (λ left. IsAnswerFor meter.old (columns - 1) (λ point. HoldAt rows.now col point (pos 0)) left × (meter.new ≡ meter.old))
         (λ cut. IsCutUpTo (pos 0) meter.old meter.new cut) }
+    ensures function { IfOk result (λ left. left ≡ normal_rows (map (λ r. dropped r col) rows.now)) }
     ensures memory { IsNoOverflow result }
 {
     let short = rows_without(alloc, rows.as_slice(), col)?;

@@ -1,11 +1,14 @@
 //! The dark shadow of bounds on a column, and what it leaves out.
 
-ghost use Rattle.std.specs.Prelude.{◌≡◌, ◌≢◌, ◌⊎◌, ◌<◌, pos, negsuc, ◌≤ℤ◌, ◌+ℤ◌, ℤ, ◌*◌, IsTrue, length, All, MatchResult, ◌^◌, ◌≤◌, unsigned_abs, IfErr};
-ghost use Rattle.isl_meter.specs.Gauge.{IsWithin, IsChargedUpTo, IsCutUpTo};
+ghost use Rattle.std.specs.Prelude.{◌≡◌, ◌≢◌, ◌⊎◌, ◌<◌, pos, negsuc, ◌≤ℤ◌, ◌<ℤ◌, ◌+ℤ◌, ℤ, ◌*◌, IsTrue, length, List, [], ◌∷◌, All, IfSome, MatchOption, MatchResult, ◌^◌, ◌≤◌, unsigned_abs, IfErr};
+ghost use Rattle.std.specs.List.{AllZip};
+ghost use Rattle.isl_meter.specs.Gauge.{IsWithin, IsCutUpTo, IsDone};
+ghost use Rattle.isl_piece.specs.declared.row.Row.{Row};
 ghost use Rattle.isl_piece.specs.Row.{IsRowUpTo};
-ghost use Rattle.isl_omega.specs.Shadow.{last_splinter, neighbour_splinters, IsShadowOf, LeavesSplinters, IsShadow};
+ghost use Rattle.isl_omega.specs.Shadow.{last_splinter, neighbour_splinters, IsCapped, AreNeverMet, AreSplintersOf, IsShadowOf, LeavesSplinters, IsShadow};
 ghost use Rattle.isl_omega.specs.Sides.{IsLower, IsUpper};
 ghost use Rattle.isl_omega.specs.Magnitude.{IsNoOverflow};
+ghost use Rattle.isl_omega.specs.Units.{IsDoneFor};
 
 use crate::pair::Pair;
 use isl_meter::{Cut, Int, Meter, Overflow};
@@ -49,7 +52,51 @@ fn last_value(factor: Int, greatest: Int, meter: &mut Meter) -> Result<Int, Over
     factor.sub(Int::ONE, meter)?.add(rest, meter)
 }
 
-// Pushes the dark rows of a lower bound with each upper bound, and answers the last value of its splinters.
+// The lesser of two caps.
+fn least_cap(a: Option<Int>, b: Option<Int>) -> Option<Int>
+    ensures { (result ≡ a) ⊎ (result ≡ b) }
+{
+    match (a, b) {
+        (Some(x), Some(y)) => Some(if y < x { y } else { x }),
+        (None, _) => b,
+        _ => a,
+    }
+}
+
+// What a lower bound leaves with all upper bounds: the last value of its splinters, and whether they are met nowhere.
+#[derive(Drop)]
+struct Remainder {
+    last: Int,
+    never: bool,
+}
+
+// The last value, but at most the cap; -1, so that there is none, where that is below 0: then the bounds are met nowhere.
+fn capped(last: Int, cap: Option<Int>, meter: &mut Meter) -> Result<Remainder, Overflow>
+    requires within { IsWithin meter.old last }
+    requires cap_within { IfSome cap (IsWithin meter.old) }
+    ensures exact { MatchResult result
+        (λ left. IsCapped cap last left.last × (IsTrue left.never → MatchOption cap ⊥ (λ c. c <ℤ pos 0)) × IsWithin meter.old left.last × (meter.new ≡ meter.old))
+        (λ _. IsCutUpTo (pos 0) meter.old meter.new Cut.Overflow) }
+    ensures no_overflow { meter.old.bits ≡ 127 → IfErr result (λ _. ⊥) }
+{
+    let Some(most) = cap else {
+        return Ok(Remainder { last, never: false });
+    };
+    if most.is_negative() {
+        let none = Int::ZERO.sub(Int::ONE, meter)?;
+        return Ok(Remainder {
+            last: none,
+            never: true,
+        });
+    }
+    let least = if most < last { most } else { last };
+    Ok(Remainder {
+        last: least,
+        never: false,
+    })
+}
+
+// Pushes the dark rows of a lower bound with each upper bound, and answers what is left of it.
 fn shadow_of(
     alloc: Global,
     lower: &Row,
@@ -58,25 +105,27 @@ fn shadow_of(
     col: usize,
     rows: &mut Rows,
     meter: &mut Meter,
-) -> Result<Int, Cut>
+) -> Result<Remainder, Cut>
     requires lower { IsLower meter.old columns col lower.now }
     requires uppers { All (IsUpper meter.old columns col) uppers.now }
     requires col_in { col < columns }
-    ensures exact { MatchResult result
-        (λ last. IsShadowOf meter.old columns col lower.now uppers.now rows.old rows.new last × IsWithin meter.old last
-        × IsChargedUpTo (pos (length uppers.now)) meter.old meter.new)
-        (λ cut. IsCutUpTo (pos (length uppers.now)) meter.old meter.new cut) }
+    ensures exact { IsDoneFor (length uppers.now) meter.old meter.new
+        (λ left. IsShadowOf meter.old columns col lower.now uppers.now rows.old rows.new left.last × IsWithin meter.old left.last
+        × (IsTrue left.never → AreNeverMet columns col (lower.now ∷ []) uppers.now)) result }
     ensures no_overflow { meter.old.bits ≡ 127 → IsRowUpTo (2 ^ 62) lower.now → All (IsRowUpTo (2 ^ 62)) uppers.now → IsNoOverflow result }
 {
     let mut greatest = Int::ZERO;
+    let mut cap = None;
     for upper in uppers {
         meter.unit()?;
         let pair = Pair::of(alloc, lower, upper, columns, col, meter)?;
         rows.push(pair.dark)?;
         greatest = widest(greatest, upper.coefs.get(col).neg(meter), pair.exact);
+        cap = least_cap(cap, pair.cap);
     }
-    let last = last_value(lower.coefs.get(col), greatest, meter)?;
-    Ok(last)
+    let full = last_value(lower.coefs.get(col), greatest, meter)?;
+    let left = capped(full, cap, meter)?;
+    Ok(left)
 }
 
 // The last value of a tail: further by the factor where a row must not be divided.
@@ -94,7 +143,7 @@ fn tail_value(last: Int, factor: Int, neighbours: bool, meter: &mut Meter) -> Re
     }
 }
 
-// Pushes the dark rows of a lower bound, and answers its tail.
+// Pushes the dark rows of a lower bound, and answers its tail, and whether the bounds are met nowhere.
 fn tail_of(
     alloc: Global,
     lower: &Row,
@@ -104,26 +153,116 @@ fn tail_of(
     col: usize,
     rows: &mut Rows,
     meter: &mut Meter,
-) -> Result<Splinters, Cut>
+) -> Result<(Splinters, bool), Cut>
     requires lower { IsLower meter.old columns col lower.now }
     requires uppers { All (IsUpper meter.old columns col) uppers.now }
     requires col_in { col < columns }
-    ensures exact { MatchResult result
-        (λ tail. LeavesSplinters meter.old columns col neighbours lower.now uppers.now rows.old rows.new tail
-        × IsChargedUpTo (pos (length uppers.now)) meter.old meter.new)
-        (λ cut. IsCutUpTo (pos (length uppers.now)) meter.old meter.new cut) }
+    ensures exact { IsDoneFor (length uppers.now) meter.old meter.new
+        (λ pair. LeavesSplinters meter.old columns col neighbours lower.now uppers.now rows.old rows.new pair.0
+        × (IsTrue pair.1 → AreNeverMet columns col (lower.now ∷ []) uppers.now)) result }
     ensures no_overflow { meter.old.bits ≡ 127 → IsRowUpTo (2 ^ 62) lower.now → All (IsRowUpTo (2 ^ 62)) uppers.now → IsNoOverflow result }
 {
-    let last = shadow_of(alloc, lower, uppers, columns, col, rows, meter)?;
-    let last = tail_value(last, lower.coefs.get(col), neighbours, meter)?;
+    let left = shadow_of(alloc, lower, uppers, columns, col, rows, meter)?;
+    let last = tail_value(left.last, lower.coefs.get(col), neighbours, meter)?;
+    let tail = Splinters {
+        lower: lower.copy(alloc)?,
+        last,
+    };
+    Ok((tail, left.never))
+}
+
+// The tail of a lower bound without splinters of its own.
+fn least_tail(
+    alloc: Global,
+    lower: &Row,
+    neighbours: bool,
+    columns: usize,
+    col: usize,
+    meter: &mut Meter,
+) -> Result<Splinters, Cut>
+    requires lower { IsLower meter.old columns col lower.now }
+    requires col_in { col < columns }
+    ensures exact { IsDone meter.old meter.new (λ tail. (uppers : List Row) → AreSplintersOf meter.old col neighbours uppers lower.now tail) result }
+    ensures no_overflow { meter.old.bits ≡ 127 → IsRowUpTo (2 ^ 62) lower.now → IsNoOverflow result }
+{
+    let none = Int::ZERO.sub(Int::ONE, meter)?;
+    let last = tail_value(none, lower.coefs.get(col), neighbours, meter)?;
     Ok(Splinters {
         lower: lower.copy(alloc)?,
         last,
     })
 }
 
+// The tails of lower bounds without splinters of their own.
+fn least_tails(
+    alloc: Global,
+    lowers: &[Row],
+    neighbours: bool,
+    columns: usize,
+    col: usize,
+    meter: &mut Meter,
+) -> Result<Vec<Splinters>, Cut>
+    requires lowers { All (IsLower meter.old columns col) lowers.now }
+    requires col_in { col < columns }
+    ensures exact { IsDone meter.old meter.new
+        (λ tails. (uppers : List Row) → AllZip (AreSplintersOf meter.old col neighbours uppers) lowers.now tails.items) result }
+    ensures no_overflow { meter.old.bits ≡ 127 → All (IsRowUpTo (2 ^ 62)) lowers.now → IsNoOverflow result }
+{
+    let mut tails = Vec::new(alloc);
+    for lower in lowers {
+        tails.push(least_tail(alloc, lower, neighbours, columns, col, meter)?)?;
+    }
+    Ok(tails)
+}
+
+// What all pairs leave: their dark rows, a tail for each lower bound, and whether no number meets all bounds anywhere.
+#[derive(Drop)]
+struct Pairs {
+    rows: Rows,
+    tails: Vec<Splinters>,
+    never: bool,
+}
+
+fn either(a: bool, b: bool) -> bool
+    ensures { IsTrue result → IsTrue a ⊎ IsTrue b }
+{
+    a || b
+}
+
+// What all pairs leave.
+fn pairs_of(
+    alloc: Global,
+    lowers: &[Row],
+    uppers: &[Row],
+    neighbours: bool,
+    columns: usize,
+    col: usize,
+    meter: &mut Meter,
+) -> Result<Pairs, Cut>
+    requires lowers { All (IsLower meter.old columns col) lowers.now }
+    requires uppers { All (IsUpper meter.old columns col) uppers.now }
+    requires col_in { col < columns }
+    ensures exact { IsDoneFor (length lowers.now * length uppers.now) meter.old meter.new
+        (λ pairs. IsShadow meter.old columns col neighbours lowers.now uppers.now pairs.rows pairs.tails.items
+        × (IsTrue pairs.never → AreNeverMet columns col lowers.now uppers.now)) result }
+    ensures no_overflow { meter.old.bits ≡ 127 → All (IsRowUpTo (2 ^ 62)) lowers.now → All (IsRowUpTo (2 ^ 62)) uppers.now → IsNoOverflow result }
+{
+    let mut rows = Rows::new(alloc);
+    let mut tails = Vec::new(alloc);
+    let mut never = false;
+    for lower in lowers {
+        let (tail, none) = tail_of(
+            alloc, lower, uppers, neighbours, columns, col, &mut rows, meter,
+        )?;
+        tails.push(tail)?;
+        never = either(never, none);
+    }
+    Ok(Pairs { rows, tails, never })
+}
+
 /// The dark rows of all pairs, and a tail for each lower bound. With `neighbours` the tails go further by the
-/// bound's factor. A pair costs a unit. (Pugh, the Omega test: dark shadow and splinters)
+/// bound's factor. Where the real row of a pair is false, no tail goes further than that. Each pair costs a unit, and nothing else
+/// does. (Pugh, the Omega test: dark shadow and splinters)
 ///
 /// # Errors
 ///
@@ -140,19 +279,16 @@ pub fn shadow(
     requires lowers { All (IsLower meter.old columns col) lowers.now }
     requires uppers { All (IsUpper meter.old columns col) uppers.now }
     requires col_in { col < columns }
-    ensures exact { MatchResult result
-        (λ pair. IsShadow meter.old columns col neighbours lowers.now uppers.now pair.0 pair.1.items
-        × IsChargedUpTo (pos (length lowers.now * length uppers.now)) meter.old meter.new)
-        (λ cut. IsCutUpTo (pos (length lowers.now * length uppers.now)) meter.old meter.new cut) }
+    ensures exact { IsDoneFor (length lowers.now * length uppers.now) meter.old meter.new
+        (λ pair. IsShadow meter.old columns col neighbours lowers.now uppers.now pair.0 pair.1.items) result }
     ensures no_overflow { meter.old.bits ≡ 127 → All (IsRowUpTo (2 ^ 62)) lowers.now → All (IsRowUpTo (2 ^ 62)) uppers.now → IsNoOverflow result }
 {
-    let mut rows = Rows::new(alloc);
-    let mut tails = Vec::new(alloc);
-    for lower in lowers {
-        let tail = tail_of(
-            alloc, lower, uppers, neighbours, columns, col, &mut rows, meter,
-        )?;
-        tails.push(tail)?;
+    let Pairs { rows, tails, never } = pairs_of(
+        alloc, lowers, uppers, neighbours, columns, col, meter,
+    )?;
+    if never {
+        let least = least_tails(alloc, lowers, neighbours, columns, col, meter)?;
+        return Ok((rows, least));
     }
     Ok((rows, tails))
 }

@@ -7,11 +7,10 @@ ghost use Rattle.isl_piece.specs.declared.row.RowKind.TheVariants.{Divides};
 ghost use Rattle.isl_omega.specs.Substitution.{AreProgressionParts, offsets_of, IsProgressionOf, substituted};
 ghost use Rattle.isl_omega.specs.Magnitude.{IsNoOverflow};
 
-use crate::combine::{combined, weighted};
 use crate::congruence::remainders;
 use crate::tighten::tightened;
 use isl_meter::{Cut, Int, Meter};
-use isl_piece::{Row, RowKind, Rows};
+use isl_piece::{Row, RowKind, Rows, combination, weighted_sum};
 use std::alloc::Global;
 
 /// The numbers that a congruence allows at a column: `scale` times each of them is the congruence's
@@ -50,7 +49,7 @@ fn offsets(alloc: Global, factor: Int, one: &Row, meter: &mut Meter) -> Result<R
 {
     let k = one.modulus();
     let numbers = one.coefs.as_slice();
-    let coefs = weighted(alloc, factor, numbers, Int::ZERO, numbers, meter)?;
+    let coefs = weighted_sum(alloc, factor, numbers, Int::ZERO, numbers, meter)?;
     let small = remainders(alloc, coefs.as_slice(), k, meter)?;
     let constant = factor.mul(one.constant(), meter)?.modulo(k, meter);
     Ok(Row::new(RowKind::Zero, small, constant, Int::ONE))
@@ -106,7 +105,7 @@ impl Substitution {
             (λ cut. IsCutUpTo (pos 0) meter.old meter.new cut) }
         ensures no_overflow { meter.old.bits ≡ 127 → unsigned_abs self.now.scale ≤ 2 ^ 30 → IsRowUpTo (2 ^ 30) self.now.offsets → IsRowUpTo (2 ^ 30) row.now → IsNoOverflow result }
     {
-        combined(
+        combination(
             alloc,
             self.scale,
             row,

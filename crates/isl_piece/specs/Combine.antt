@@ -1,4 +1,4 @@
--- Sums of multiples of rows. (Pugh, the Omega test)
+-- public: sums of multiples of rows. (Pugh, the Omega test)
 use Rattle.std.specs.Prelude.{ℤ, ◌+ℤ◌, ◌*ℤ◌}
 use Rattle.isl_math.specs.Dot.{weighted_sum}
 use Rattle.isl_piece.specs.declared.row.RowKind.{RowKind}

@@ -1,4 +1,4 @@
--- How calls are cut.
+-- public: how calls are cut.
 use Rattle.std.specs.Prelude.{◌≡◌, ◌≢◌, Result, IfErr}
 use Rattle.isl_meter.specs.Gauge.{Gauge, overflown}
 use Rattle.isl_meter.specs.declared.Cut.{Cut}

@@ -1,4 +1,4 @@
--- Defined columns: each stands for the floor of a form over the columns before it, divided by a positive number. (isl manual, on
+-- public: defined columns: each stands for the floor of a form over the columns before it, divided by a positive number. (isl manual, on
 -- local spaces and integer divisions)
 use Rattle.std.specs.Prelude.{◌≡◌, ◌<◌, ℕ, suc, ℤ, pos, ◌+ℤ◌, ◌<ℤ◌, List, [], ◌∷◌, ◌++◌, All, fold, length, slice_index_or, take}
 use Rattle.isl_math.specs.Divide.{floor_div}

@@ -11,3 +11,5 @@ pub mod Piece
 pub mod Row
 pub mod Stored
 pub mod System
+pub use Rattle.isl_meter.specs.Gauge
+pub use Rattle.isl_space.specs.SpaceForm

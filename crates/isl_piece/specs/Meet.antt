@@ -1,4 +1,4 @@
--- Two systems over the same free columns as one. Each defined column of the second is found among the columns so far, by its
+-- public: two systems over the same free columns as one. Each defined column of the second is found among the columns so far, by its
 -- definition, or stands behind them. (isl, on the alignment of the integer divisions of two basic sets)
 use Rattle.std.specs.Prelude.{◌≡◌, ◌<◌, All, Bool, ◌&&◌, not, if◌then◌else◌, ℕ, suc, ◌+◌, ℤ, pos, Option, Some, None, List, [], ◌∷◌, ◌++◌, fold, length, map, replicate, take, drop, slice_index_or, slice_set}
 use Rattle.std.specs.Bool.{nat_eq, nat_le}

@@ -1,4 +1,4 @@
--- Rows of which one holds exactly where a row does not.
+-- public: rows of which one holds exactly where a row does not.
 use Rattle.std.specs.Prelude.{ℤ, pos, negsuc, neg_ℤ, ◌-ℤ◌, List, [], ◌∷◌, Any}
 use Rattle.isl_math.specs.Dot.{scaled}
 use Rattle.isl_meter.specs.Gauge.{Gauge, IsWithin}

@@ -1,5 +1,5 @@
--- The normal form of rows, in which values are kept and printed: the least numbers that say the same of each row, and each
--- bound once. (isl manual, on the constraints of basic sets; congruences after Pugh, the Omega test)
+-- public: the normal form of rows, in which values are kept and printed: the least numbers that say the same of each row, and each bound
+-- once. (isl manual, on the constraints of basic sets; congruences after Pugh, the Omega test)
 use Rattle.std.specs.Prelude.{◌≡◌, ◌≢◌, All, AllPairs, Bool, true, false, ◌&&◌, ◌||◌, if◌then◌else◌, Option, Some, None, option_map, ℤ, pos, neg_ℤ, ◌*ℤ◌, int_lt, List, [], ◌∷◌, ◌++◌, map, fold}
 use Rattle.std.specs.Int.{int_min}
 use Rattle.std.specs.Ordering.{int_eq, int_cmp, is_lt}

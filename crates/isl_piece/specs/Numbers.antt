@@ -1,4 +1,4 @@
--- Lists of numbers: the coefficients of a row.
+-- public: lists of numbers: the coefficients of a row.
 use Rattle.std.specs.Prelude.{Bool, if◌then◌else◌, ℤ, pos, neg_ℤ, List, [], ◌∷◌}
 use Rattle.std.specs.Ordering.{int_eq}
 use Rattle.isl_math.specs.Divide.{floor_div, floor_mod}

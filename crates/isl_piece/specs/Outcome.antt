@@ -1,4 +1,4 @@
--- What the code says of a row that it made normal in its place.
+-- inner: what the code says of a row that it made normal in its place.
 use Rattle.std.specs.Prelude.{◌≡◌}
 use Rattle.isl_piece.specs.declared.row.Row.{Row}
 use Rattle.isl_piece.specs.declared.reduction.Outcome.{Outcome}

@@ -1,4 +1,4 @@
--- What contracts see of a piece: its space and its system, by content. How it shares them with other pieces is in no contract.
+-- public: what contracts see of a piece: its space and its system, by content. How it shares them with other pieces is in no contract.
 use Rattle.std.specs.Prelude.{List}
 use Rattle.isl_space.specs.SpaceForm.{SpaceForm}
 use Rattle.isl_piece.specs.declared.row.Row.{Row}

@@ -1,5 +1,5 @@
--- What a row says of a point: equations, inequalities and congruences of linear forms. (isl manual, on basic sets; Pugh,
--- the Omega test)
+-- public: what a row says of a point: equations, inequalities and congruences of linear forms. (isl manual, on basic sets; Pugh, the Omega
+-- test)
 use Rattle.std.specs.Prelude.{◌≡◌, ℕ, ◌+◌, ◌<◌, ◌≤◌, ◌⊎◌, ℤ, pos, ◌+ℤ◌, ◌*ℤ◌, ◌≤ℤ◌, ◌<ℤ◌, List, All, length, take, slice_index_or, unsigned_abs}
 use Rattle.isl_math.specs.Divide as divide
 use Rattle.isl_math.specs.Dot.{dot}

@@ -1,4 +1,4 @@
--- How a piece is stored, which a model asks for: as the tuple of its parts.
+-- inner: how a piece is stored, which a model asks for: as the tuple of its parts.
 use Rattle.std.specs.Prelude.{refl}
 use Rattle.std.specs.Coded.{Coded, code_by, coded×}
 use Rattle.isl_space.specs.SpaceForm.{SpaceForm}

@@ -1,4 +1,4 @@
--- What a system says of a point: the conjunction of its rows, at the numbers of its free columns and those that its definitions
+-- public: what a system says of a point: the conjunction of its rows, at the numbers of its free columns and those that its definitions
 -- give. (isl manual, on basic sets and integer divisions)
 use Rattle.std.specs.Prelude.{ℕ, ◌+◌, ◌-◌, ◌≤◌, ◌⊎◌, ℤ, pos, List, [], ◌∷◌, ◌++◌, All, Any, length, map}
 use Rattle.isl_meter.specs.Gauge.{Gauge}

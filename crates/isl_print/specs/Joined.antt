@@ -1,4 +1,4 @@
--- Texts put together.
+-- public: texts put together.
 use Rattle.std.specs.Prelude.{ℕ, List, [], ◌∷◌, ◌++◌}
 
 abbrev pub Text : Type 0

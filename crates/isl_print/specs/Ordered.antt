@@ -1,4 +1,4 @@
--- Lists put in order.
+-- public: lists put in order.
 use Rattle.std.specs.Prelude.{Bool, List, [], ◌∷◌, if◌then◌else◌}
 
 -- x put into a list that is in order, behind those that stand before it

@@ -1,4 +1,4 @@
--- Values in the order in which they are printed.
+-- inner: values in the order in which they are printed.
 use Rattle.std.specs.Prelude.{map}
 use Rattle.isl_union.specs.KeptValue.{KeptPiece, KeptValue}
 use Rattle.isl_print.specs.Ordered.{in_order}

@@ -1,4 +1,4 @@
--- The order of pieces in printed text.
+-- public: the order of pieces in printed text.
 use Rattle.std.specs.Prelude.{Bool}
 use Rattle.std.specs.Cmp.Lexicographic.{slice_cmp}
 use Rattle.std.specs.Ordering.{nat_cmp, is_lt}

@@ -1,4 +1,4 @@
--- Values as text, in the notation of sets and relations. (isl manual; the iscc chapter of the barvinok manual, on `print`)
+-- public: values as text, in the notation of sets and relations. (isl manual; the iscc chapter of the barvinok manual, on `print`)
 use Rattle.std.specs.Prelude.{List, [], ◌∷◌, ◌++◌, map, codes}
 use Rattle.isl_space.specs.Name.{Name}
 use Rattle.isl_union.specs.KeptValue.{KeptPiece, KeptValue}

@@ -1,4 +1,4 @@
--- The order of rows in printed text.
+-- public: the order of rows in printed text.
 use Rattle.std.specs.Prelude.{ℕ, Bool}
 use Rattle.std.specs.Cmp.Lexicographic.{slice_cmp}
 use Rattle.std.specs.Ordering.{ordering_then, nat_cmp, int_cmp, is_lt}

@@ -1,4 +1,4 @@
--- Rows as text. (isl manual, the notation of sets and relations: affine constraints and remainders)
+-- public: rows as text. (isl manual, the notation of sets and relations: affine constraints and remainders)
 use Rattle.std.specs.Prelude.{List, [], ◌∷◌, ◌++◌, map, codes, unsigned_abs}
 use Rattle.std.specs.Fmt.{decimal}
 use Rattle.isl_space.specs.Name.{Name}

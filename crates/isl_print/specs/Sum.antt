@@ -1,4 +1,4 @@
--- Linear forms as sums of what is above 0, on two sides. (isl manual, the notation of sets and relations: affine constraints)
+-- public: linear forms as sums of what is above 0, on two sides. (isl manual, the notation of sets and relations: affine constraints)
 use Rattle.std.specs.Prelude.{ℕ, suc, ℤ, pos, negsuc, Bool, true, false, ◌==◌, List, [], ◌∷◌, ◌++◌, map, codes, if◌then◌else◌}
 use Rattle.std.specs.Fmt.{decimal}
 use Rattle.isl_space.specs.Name.{Name}

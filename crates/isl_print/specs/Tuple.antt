@@ -1,4 +1,4 @@
--- Tuples as text. (isl manual, on named and nested tuples)
+-- public: tuples as text. (isl manual, on named and nested tuples)
 use Rattle.std.specs.Prelude.{List, ◌++◌, take, drop, codes}
 use Rattle.isl_space.specs.Name.{Name}
 use Rattle.isl_space.specs.Form.{Form, leaf, pair, width_of, name_text}

@@ -19,4 +19,6 @@ pub mod TakenTokens
 pub mod AloneLaws
 pub mod AcceptedLaws
 pub mod LoweredLaws
+pub mod ShapeLaws
+pub mod WorkedLaws
 pub mod TakenLaws

@@ -113,7 +113,7 @@ form_compares AtLeast cs c k h = normal_at_least_by (IfKept (λ r. IsComparison 
 form_compares Divides cs c k h = absurd h
 form_compares NotDivides cs c k h = absurd h
 
-normal_compare : (rows : List Row) → All (λ (r : Row). IsComparison r.kind) rows → IfSome (normal_rows rows) (All (λ (r : Row). IsComparison r.kind))
+pub normal_compare : (rows : List Row) → All (λ (r : Row). IsComparison r.kind) rows → IfSome (normal_rows rows) (All (λ (r : Row). IsComparison r.kind))
 normal_compare rows h = normal_rows_all (λ r. IsComparison r.kind) (λ r. IsComparison r.kind) (λ r. form_compares r.kind r.coefs r.constant r.k) rows h
 
 -- ---- what each piece has that is kept
@@ -137,7 +137,7 @@ kept_space_has space Q (Some rows) h = h
 
 -- ---- the whole value
 
-comparisons : (literal : Literal) → is_plain literal ≡ true → HasComparisons (value_lowered literal)
+pub comparisons : (literal : Literal) → is_plain literal ≡ true → HasComparisons (value_lowered literal)
 comparisons literal plain =
     all_kept literal.params (λ p. All (λ row. IsComparison row.kind) p.rows) literal.pieces (λ i d low.
     let piece = get_or literal.pieces i d in
@@ -152,7 +152,7 @@ flat_of_plain : (piece : PieceTree) (second : Option Tuple) → piece.second ≡
 flat_of_plain piece None is first others = rw is (leaf_of_plain piece.first first)
 flat_of_plain piece (Some second) is first others = rw is (leaf_of_plain piece.first first, leaf_of_plain second others)
 
-flat : (literal : Literal) → is_plain literal ≡ true → IsFlat (value_lowered literal)
+pub flat : (literal : Literal) → is_plain literal ≡ true → IsFlat (value_lowered literal)
 flat literal plain =
     all_kept literal.params (λ p. IsFlatSpace p.space) literal.pieces (λ i d low.
     let piece = get_or literal.pieces i d in
@@ -168,18 +168,24 @@ map_of_some : (piece : PieceTree) (second : Option Tuple) → piece.second ≡ s
 map_of_some piece None is some = absurd (false≢true some)
 map_of_some piece (Some second) is some = rw is tt
 
+pub sets_lowered : (literal : Literal) → are_sets literal.pieces ≡ true → All (λ p. IsSet p.space) (value_lowered literal).pieces
+sets_lowered literal sets = all_kept literal.params (λ p. IsSet p.space) literal.pieces (λ i d low.
+    let piece = get_or literal.pieces i d in
+    kept_space_has (space_of_piece piece) IsSet (normal_rows (rows_written literal.params piece)) (set_of_none piece piece.second refl (All-pass (λ p. is_none p.second) literal.pieces sets i d low)))
+
+pub maps_lowered : (literal : Literal) → are_maps literal.pieces ≡ true → All (λ p. IsMap p.space) (value_lowered literal).pieces
+maps_lowered literal maps = all_kept literal.params (λ p. IsMap p.space) literal.pieces (λ i d low.
+    let piece = get_or literal.pieces i d in
+    kept_space_has (space_of_piece piece) IsMap (normal_rows (rows_written literal.params piece)) (map_of_some piece piece.second refl (All-pass (λ p. is_some p.second) literal.pieces maps i d low)))
+
 uniform : (literal : Literal) → are_alike literal.pieces ≡ true → IsUniform (value_lowered literal)
 uniform literal alike = by (are_sets literal.pieces) refl alike
   where
     by : (b : Bool) → are_sets literal.pieces ≡ b → (b || are_maps literal.pieces) ≡ true → IsUniform (value_lowered literal)
-    by true sets e = inl (all_kept literal.params (λ p. IsSet p.space) literal.pieces (λ i d low.
-        let piece = get_or literal.pieces i d in
-        kept_space_has (space_of_piece piece) IsSet (normal_rows (rows_written literal.params piece)) (set_of_none piece piece.second refl (All-pass (λ p. is_none p.second) literal.pieces sets i d low))))
-    by false sets maps = inr (all_kept literal.params (λ p. IsMap p.space) literal.pieces (λ i d low.
-        let piece = get_or literal.pieces i d in
-        kept_space_has (space_of_piece piece) IsMap (normal_rows (rows_written literal.params piece)) (map_of_some piece piece.second refl (All-pass (λ p. is_some p.second) literal.pieces maps i d low))))
+    by true sets e = inl (sets_lowered literal sets)
+    by false sets maps = inr (maps_lowered literal maps)
 
-kept : (literal : Literal) → is_plain literal ≡ true → IsWellFormedLiteral literal → IsKeptValue (value_lowered literal)
+pub kept : (literal : Literal) → is_plain literal ≡ true → IsWellFormedLiteral literal → IsKeptValue (value_lowered literal)
 kept literal plain formed = record {
   params = formed.params;
   pieces = all_kept literal.params (IsKeptPiece literal.params) literal.pieces (λ i d low.
@@ -203,7 +209,7 @@ kept literal plain formed = record {
         by params piece (normal_rows (rows_written params piece)) space plain_piece (normal_rows_well_formed n (rows_written params piece) rows) (normal_rows_normal (rows_written params piece) (written_moduli params piece (rows_written params piece) refl))
 
 -- numbers up to a limit are up to a greater one
-numbers_more : (m n : ℕ) (value : KeptValue) → m ≤ n → HasNumbersUpTo m value → HasNumbersUpTo n value
+pub numbers_more : (m n : ℕ) (value : KeptValue) → m ≤ n → HasNumbersUpTo m value → HasNumbersUpTo n value
 numbers_more m n value less small i d low = λ j e inside. row_more m n (get_or (get_or value.pieces i d).rows j e) less (small i d low j e inside)
 
 pub shown_writable : (g : Gauge) (literal : Literal) → g.bits ≤ 127 → is_plain literal ≡ true → IsWellFormedLiteral literal → are_alike literal.pieces ≡ true → HasNumbersUpTo (2 ^ g.bits - 1) (value_lowered literal)

@@ -1,10 +1,10 @@
 -- What the program answers, it takes again.
 use Rattle.std.proofs.Common.{◌≡◌, ◌<◌, ◌≤◌, ◌-◌, ◌^◌, ◌∙◌, ℕ, suc, Bool, true, false, List, [], ◌∷◌, ◌++◌, Some, None, Ok, All, ap, sym, subst, refl, arith, pow_mono}
-use Rattle.std.specs.Prelude.{◌&&◌, not}
-use Rattle.std.specs.List.{list_all}
+use Rattle.std.specs.Prelude.{◌&&◌, ◌||◌, not, length}
+use Rattle.std.specs.List.{list_any}
 use Rattle.std.specs.Str.{bytes_eq}
-use Rattle.std.proofs.lemmas.Bool.{and_parts, false≢true, false_from_ne_true, not-false}
-use Rattle.std.proofs.lemmas.List.Elements.{All-map, All-weaker, All-head, All-nil, All-cons}
+use Rattle.std.proofs.lemmas.Bool.{false≢true, false_from_ne_true}
+use Rattle.std.proofs.lemmas.List.Elements.{All-map, All-weaker, All-nil, All-cons}
 use Rattle.std.proofs.lemmas.Slice.Eq.{bytes_eq-Decides}
 use Rattle.isl_meter.specs.Gauge.{Gauge, limit_of, IsCharged}
 use Rattle.isl_space.specs.Name.{Name}
@@ -21,41 +21,46 @@ use Rattle.isl_token.specs.Lex.{tokens}
 use Rattle.isl_token.specs.Spelling.{Spells}
 use Rattle.isl_tree.specs.declared.tree.Literal.{Literal}
 use Rattle.isl_tree.specs.Known.{literal_is_known}
-use Rattle.isl_tree.specs.Plain.{is_plain}
-use Rattle.isl_text.specs.Formed.{are_distinct, are_alike, piece_is_formed}
 use Rattle.isl_text.specs.Read.{has_wide_number}
 use Rattle.isl_lower.specs.Value.{IsWellFormedLiteral, value_lowered}
 use Rattle.isl_lower.proofs.ValueLaws.{same_elements}
 use Rattle.isl_expr.specs.declared.tree.Stmt.{Stmt}
 use Rattle.isl_expr.specs.declared.tree.Stmt.TheVariants.{Empty, Bind, Show}
-use Rattle.isl_expr.specs.declared.tree.Expr.{Expr, Row', Prefix', Any', Last', Post'}
+use Rattle.isl_expr.specs.declared.tree.ValueKind.{ValueKind}
+use Rattle.isl_expr.specs.declared.tree.ValueKind.TheVariants.{Set, Map, List as Pair, Empty as None', Truth, Listing, Code}
+use Rattle.isl_expr.specs.declared.tree.Expr.{Expr}
 use Rattle.isl_expr.specs.declared.tree.Expr as e
 use Rattle.isl_expr.specs.Expr.{literals_of, statement_literals}
-use Rattle.isl_space.specs.Limits.{most_leaves}
+use Rattle.isl_space.specs.Limits.{most_leaves, most_parameters}
+use Rattle.isl_meter.proofs.CutLemmas.{IsCharged_refl}
+use Rattle.isl_kinds.specs.Lines.{is_kind}
+use Rattle.isl_kinds.specs.Parts.{parts_of}
+use Rattle.isl_simple.specs.Unsupported.{is_later, is_unsupported}
 use Rattle.isl_statement.specs.StatementGrammar.{statement_grammar}
 use Rattle.isl_statement.specs.Limits.{statement_is_within}
 use Rattle.isl_statement.specs.Read.{NoStatement}
 use Rattle.isl_kinds.specs.Typed.{ScopeView, kind_of_pieces, declared_of, type_of_statement}
 use Rattle.isl_eval.specs.State.{Kept, Moment, unbound, kept_of, scope_of, HasNumbersUpTo}
 use Rattle.isl_eval.specs.Selection.{Keeps}
-use Rattle.isl_eval.specs.Spelled.{BytesSpell, is_brought, is_unsupported}
+use Rattle.isl_eval.specs.Spelled.{BytesSpell}
 use Rattle.isl_eval.specs.Causes.{IsValid}
 use Rattle.isl_eval.specs.Machine.{Answer, Step, Answers, shown}
 use Rattle.isl_eval.specs.Evaluation.{IsRead}
 use Rattle.isl_eval.proofs.CauseLaws.{of_tokens, of_statement}
 use Rattle.isl_eval.proofs.LexLaws.{lexed}
 use Rattle.isl_eval.proofs.LiteralLaws.{IsSpelled, literals_spelled}
-use Rattle.isl_eval.proofs.SoundLaws.{spelled_sound}
 use Rattle.isl_eval.proofs.KeptLaws.{declared_itself}
 use Rattle.isl_eval.proofs.StepLaws.{show_answers}
 use Rattle.isl_readback.specs.Tree.{printed_tree}
+use Rattle.isl_readback.specs.Written.{IsPlainOf}
 use Rattle.isl_readback.specs.RoundTrip.{IsWritableValue, ReadsAs}
 use Rattle.isl_readback.specs.TakenAgain.{AreWritable, IsShallow, IsShownAgain, IsTakenAgain}
 use Rattle.isl_readback.proofs.ValueTokenLaws.{printed_tokens, tokens-printed}
 use Rattle.isl_readback.proofs.TakenTokens.{narrow}
 use Rattle.isl_readback.proofs.RoundTripLaws.{tree_at, reads_as}
 use Rattle.isl_readback.proofs.AloneLaws.{shown_alone}
-use Rattle.isl_readback.proofs.LoweredLaws.{shown_writable}
+use Rattle.isl_readback.proofs.LoweredLaws.{numbers_more, kept as lowered_kept}
+use Rattle.isl_readback.proofs.WorkedLaws.{worked_plain, plain_writable}
 
 -- the numbers of a value in printed order
 ordered_numbers : (limit : ℕ) (value : KeptValue) → HasNumbersUpTo limit value → HasNumbersUpTo limit (ordered value)
@@ -74,6 +79,16 @@ is_so a so not_so = false≢true (sym not_so ∙ so)
 literal_typed : (scope : ScopeView) (literal : Literal) → literal_is_known literal ≡ true
     → type_of_statement scope (Show (e.Literal literal)) ≡ Ok (Some (record { kind = kind_of_pieces literal.pieces; params = declared_of scope (e.Literal literal) }))
 literal_typed scope literal known = rw known refl
+
+-- one literal is of one kind
+one_kind : (kind : ValueKind) → ((is_kind kind Set || false) && (is_kind kind Map || false)) ≡ false
+one_kind Set = refl
+one_kind Map = refl
+one_kind Pair = refl
+one_kind None' = refl
+one_kind Truth = refl
+one_kind Listing = refl
+one_kind Code = refl
 
 -- ---- the text of a value, and its answer
 module _ (moment : Moment) (bits : moment.meter.bits ≤ 127) (value : KeptValue) (writable : IsWritableValue value)
@@ -94,7 +109,7 @@ module _ (moment : Moment) (bits : moment.meter.bits ≤ 127) (value : KeptValue
   reads = reads_as value writable
 
   supported : is_unsupported (Show (e.Literal (printed_tree value))) ≡ false
-  supported = ap not reads.plain
+  supported = ap (λ (b : Bool). not b || false) reads.plain
 
   within : statement_is_within (Show (e.Literal (printed_tree value))) ≡ true
   within = rw reads.within refl
@@ -128,7 +143,8 @@ module _ (moment : Moment) (bits : moment.meter.bits ≤ 127) (value : KeptValue
     kind = refl;
     params = declared_itself (printed_tree value).params reads.well_formed.params.distinct;
     elements = same_elements (printed_tree value) reads.plain reads.known;
-    written = λ plain. refl;
+    written = refl;
+    well_formed = lowered_kept (printed_tree value) reads.plain reads.well_formed;
     numbers = subst (HasNumbersUpTo (2 ^ moment.meter.bits - 1)) (sym reads.rows) (ordered_numbers (2 ^ moment.meter.bits - 1) value small);
   }
 
@@ -136,9 +152,14 @@ module _ (moment : Moment) (bits : moment.meter.bits ≤ 127) (value : KeptValue
   text_answered answer is shallow =
       show_answers moment (printed value) (e.Literal (printed_tree value)) (none_there shallow) moment
       (record { kind = kind_of_pieces (printed_tree value).pieces; value = value_lowered (printed_tree value) }) answer
-      (Some (record { kind = kind_of_pieces (printed_tree value).pieces; params = declared_of (scope_of moment.state) (e.Literal (printed_tree value)) }), literal_typed (scope_of moment.state) (printed_tree value) reads.known)
+      (record {
+        typed = (Some (record { kind = kind_of_pieces (printed_tree value).pieces; params = declared_of (scope_of moment.state) (e.Literal (printed_tree value)) }), literal_typed (scope_of moment.state) (printed_tree value) reads.known);
+        unmixed = one_kind (kind_of_pieces (printed_tree value).pieces);
+        narrow = subst (λ (names : List Name). length names ≤ most_parameters) (sym (declared_itself (printed_tree value).params reads.well_formed.params.distinct)) reads.well_formed.params.few;
+      })
       keeps_again refl
-      (is ∙ sym (ap (λ (t : List ℕ). let a : Answer = record { bytes = t ++ 10 ∷ []; is_true = false; elements = 0 } in a) reads.again)) refl
+      (is ∙ sym (ap (λ (t : List ℕ). let a : Answer = record { bytes = t ++ 10 ∷ []; is_true = false; elements = 0 } in a) reads.again)) (IsCharged_refl moment.meter moment.meter refl)
+      (λ none. refl)
 
 -- ---- what an answered statement shows or binds can be written
 module _ (before : Moment) (bytes : List ℕ) (bits : before.meter.bits ≤ 127) (all : AreWritable before.state) where
@@ -159,35 +180,27 @@ module _ (before : Moment) (bytes : List ℕ) (bits : before.meter.bits ≤ 127)
       by false is = let m = valid.1 in let l = m.1 in let k = l.1 in absurd (k.0 (stmt, spelled, is))
 
   module _ (valid : IsValid before bytes) (stmt : Stmt) (spelled : BytesSpell bytes stmt) where
-    formed : All IsWellFormedLiteral (statement_literals stmt)
-    formed = spelled_sound bytes stmt spelled (brought stmt valid spelled) (narrow_tree stmt valid spelled)
-
     of_text : All IsSpelled (statement_literals stmt)
     of_text = literals_spelled stmt spelled.tokens (lexed bytes spelled.tokens spelled.cut) spelled.spelled
 
-  literal_writable : (literal : Literal) (kept : Kept) → is_plain literal ≡ true → IsWellFormedLiteral literal → IsSpelled literal → Keeps before (e.Literal literal) kept → IsWritableValue kept.value
-  literal_writable literal kept plain well_formed spelled keeps =
-      let parts = and_parts (are_distinct literal.params && are_alike literal.pieces) (list_all (piece_is_formed literal.params) literal.pieces) spelled.formed in
-      let alike = (and_parts (are_distinct literal.params) (are_alike literal.pieces) parts.0).1 in
-      let is = keeps.written plain in
-      subst IsWritableValue (sym is) (shown_writable before.meter literal bits plain well_formed alike (subst (HasNumbersUpTo (2 ^ before.meter.bits - 1)) is keeps.numbers))
+  writable_numbers : (value : KeptValue) → HasNumbersUpTo (2 ^ before.meter.bits - 1) value → HasNumbersUpTo (too_great - 1) value
+  writable_numbers value small =
+      let large : 2 ^ before.meter.bits ≤ 2 ^ 127 = pow_mono bits in
+      numbers_more (2 ^ before.meter.bits - 1) (too_great - 1) value (omega (arith, large)) small
 
-  expr_writable : (expr : Expr) (kept : Kept) (stmt : Stmt) → statement_literals stmt ≡ literals_of expr → is_brought expr ≡ true → All IsWellFormedLiteral (statement_literals stmt) → All IsSpelled (statement_literals stmt)
-      → Keeps before expr kept → IsWritableValue kept.value
-  expr_writable (e.Name name) kept stmt is there sound spelled keeps = all name kept keeps.written
-  expr_writable (e.Literal literal) kept stmt is there sound spelled keeps =
-      literal_writable literal kept there (All-head IsWellFormedLiteral literal [] (subst (All IsWellFormedLiteral) is sound)) (All-head IsSpelled literal [] (subst (All IsSpelled) is spelled)) keeps
-  expr_writable (Row' s first t links) kept stmt is there sound spelled keeps = absurd (false≢true there)
-  expr_writable (Prefix' word s operand) kept stmt is there sound spelled keeps = absurd (false≢true there)
-  expr_writable (Any' p source s sink t schedule) kept stmt is there sound spelled keeps = absurd (false≢true there)
-  expr_writable (Last' p source s sink t schedule) kept stmt is there sound spelled keeps = absurd (false≢true there)
-  expr_writable (Post' s operand t postfixes) kept stmt is there sound spelled keeps = absurd (false≢true there)
+  expr_plain : (expr : Expr) (kept : Kept) → list_any is_later (parts_of expr) ≡ false → All IsSpelled (literals_of expr) → Keeps before expr kept → IsPlainOf kept.kind kept.value
+  expr_plain expr kept supported spelled keeps =
+      subst (IsPlainOf kept.kind) (sym keeps.written) (worked_plain before.state all expr kept.kind supported spelled keeps.kind)
+
+  expr_writable : (expr : Expr) (kept : Kept) → list_any is_later (parts_of expr) ≡ false → All IsSpelled (literals_of expr) → Keeps before expr kept → IsWritableValue kept.value
+  expr_writable expr kept supported spelled keeps =
+      plain_writable kept.value keeps.well_formed (writable_numbers kept.value keeps.numbers) kept.kind (expr_plain expr kept supported spelled keeps)
 
   show_again : (expr : Expr) (kept : Kept) (after : Moment) (answer : Answer) → IsValid before bytes → BytesSpell bytes (Show expr) → Keeps before expr kept → answer ≡ shown kept.value
       → IsCharged before.meter after.meter → IsShownAgain before expr after answer
   show_again expr kept after answer valid spelled keeps is charged =
       let stmt = Show expr in
-      let writable = expr_writable expr kept (Show expr) refl (not-false (is_brought expr) (brought (Show expr) valid spelled)) (formed valid (Show expr) spelled) (of_text valid (Show expr) spelled) keeps in
+      let writable = expr_writable expr kept (brought (Show expr) valid spelled) (of_text valid (Show expr) spelled) keeps in
       let value = kept.value in
       let reads = reads_as kept.value writable in
       let same : after.meter.bits ≡ before.meter.bits = ap (λ (g : Gauge). g.bits) charged.same in
@@ -214,13 +227,15 @@ module _ (before : Moment) (bytes : List ℕ) (bits : before.meter.bits ≤ 127)
   stays (Show expr) after answer valid spelled step = subst AreWritable (sym step.0) all
   stays (Bind name expr) after answer valid spelled step = λ other found is. by other found is (bytes_eq other name) refl
     where
-      by : (other : Name) (found : Kept) → kept_of after.state other ≡ Some found → (b : Bool) → bytes_eq other name ≡ b → IsWritableValue found.value
+      by : (other : Name) (found : Kept) → kept_of after.state other ≡ Some found → (b : Bool) → bytes_eq other name ≡ b → IsWritableValue found.value × IsPlainOf found.kind found.value
       by other found is true same =
           let made = step.0 in
           let there : kept_of after.state other ≡ Some made.0 = ap (kept_of after.state) ((bytes_eq-Decides other name).0 same) ∙ made.2.named in
           let e : made.0 ≡ found = let f : Some made.0 ≡ Some found = sym there ∙ is in cc in
-          subst (λ (k : Kept). IsWritableValue k.value) e
-          (expr_writable expr made.0 (Bind name expr) refl (not-false (is_brought expr) (brought (Bind name expr) valid spelled)) (formed valid (Bind name expr) spelled) (of_text valid (Bind name expr) spelled) made.1)
+          let supported = brought (Bind name expr) valid spelled in
+          let literals = of_text valid (Bind name expr) spelled in
+          subst (λ (k : Kept). IsWritableValue k.value × IsPlainOf k.kind k.value) e
+          (expr_writable expr made.0 supported literals made.1, expr_plain expr made.0 supported literals made.1)
       by other found is false apart =
           all other found (sym (step.0.2.others other (λ e. false≢true (sym apart ∙ (bytes_eq-Decides other name).1 e))) ∙ is)
 

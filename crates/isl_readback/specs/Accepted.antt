@@ -1,4 +1,4 @@
--- When a printed value keeps what the reader of literals limits: depth and numbers.
+-- public: when a printed value keeps what the reader of literals limits: depth and numbers.
 use Rattle.std.specs.Prelude.{◌≡◌, ℕ, pos, false, List, length, All, Some, IfSome, Result, Ok}
 use Rattle.isl_space.specs.Name.{Name}
 use Rattle.isl_space.specs.Form.{Form, leaf, pair}

@@ -1,4 +1,4 @@
--- What is read where a printed value stands. (isl manual, on the notation of sets and relations)
+-- public: what is read where a printed value stands. (isl manual, on the notation of sets and relations)
 use Rattle.std.specs.Prelude.{◌≡◌, ◌↔◌, true, List, Some}
 use Rattle.isl_space.specs.Valuation.{Valuation}
 use Rattle.isl_space.specs.Element.{Element}

@@ -15,11 +15,12 @@ use Rattle.isl_eval.specs.State.{StateView, Moment, EachKept, Everywhere}
 use Rattle.isl_eval.specs.Selection.{Selects}
 use Rattle.isl_eval.specs.Spelled.{BytesSpell, OfTokens}
 use Rattle.isl_eval.specs.Machine.{Answer, Answers, nothing}
+use Rattle.isl_readback.specs.Written.{IsPlainOf}
 use Rattle.isl_readback.specs.RoundTrip.{IsWritableValue, ReadsAs}
 
--- each value that is bound is one that a plain literal can write
+-- each value that is bound is one that a plain literal of its kind can write
 abbrev pub AreWritable : StateView → Type 0
-AreWritable state = EachKept (λ kept. IsWritableValue kept.value) state
+AreWritable state = EachKept (λ kept. IsWritableValue kept.value × IsPlainOf kept.kind kept.value) state
 
 -- brackets and prefixes are not nested too deeply
 abbrev pub IsShallow : List ℕ → Type 0

@@ -1,4 +1,4 @@
--- The literal that a printed value is. (isl manual, the notation of sets and relations)
+-- public: the literal that a printed value is. (isl manual, the notation of sets and relations)
 use Rattle.std.specs.Prelude.{ℕ, ℤ, pos, false, ◌==◌, List, [], ◌∷◌, ◌++◌, Option, Some, None, map, take, drop, unsigned_abs, if◌then◌else◌}
 use Rattle.isl_space.specs.Name.{Name}
 use Rattle.isl_space.specs.Form.{Form, leaf, pair, width_of}

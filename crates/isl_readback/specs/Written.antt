@@ -1,5 +1,5 @@
--- The value that a plain literal writes.
-use Rattle.std.specs.Prelude.{◌-◌, ◌⊎◌, List, All, map}
+-- public: the value that a plain literal writes.
+use Rattle.std.specs.Prelude.{◌≡◌, ◌-◌, ◌⊎◌, List, [], All, map}
 use Rattle.isl_space.specs.Name.{Name}
 use Rattle.isl_space.specs.Form.{Form, leaf, pair}
 use Rattle.isl_piece.specs.declared.row.RowKind.{RowKind}
@@ -11,6 +11,8 @@ use Rattle.isl_tree.specs.declared.tree.PieceTree.{PieceTree}
 use Rattle.isl_tree.specs.declared.tree.Literal.{Literal}
 use Rattle.isl_tree.specs.Literal.{space_of_piece}
 use Rattle.isl_lower.specs.Rows.{rows_written}
+use Rattle.isl_expr.specs.declared.tree.ValueKind.{ValueKind}
+use Rattle.isl_expr.specs.declared.tree.ValueKind.TheVariants.{Set, Map, List as Pair, Empty, Truth, Listing, Code}
 use Rattle.isl_eval.specs.State.{HasNumbersUpTo}
 
 -- the piece's space, and the rows that its entries and comparisons write
@@ -59,3 +61,24 @@ IsFlatSpace (map_of from to) = IsLeaf from × IsLeaf to
 -- no tuple of the value is a pair
 abbrev pub IsFlat : KeptValue → Type 0
 IsFlat value = All (λ piece. IsFlatSpace piece.space) value.pieces
+
+-- a piece in such a space, with equations and inequalities
+pub record IsPlainPiece (In : SpaceForm → Type 0) (piece : KeptPiece) : Type 0 where
+  pub space : In piece.space
+  pub rows : All (λ row. IsComparison row.kind) piece.rows
+
+abbrev pub IsFlatSet : SpaceForm → Type 0
+IsFlatSet space = IsFlatSpace space × IsSet space
+
+abbrev pub IsFlatMap : SpaceForm → Type 0
+IsFlatMap space = IsFlatSpace space × IsMap space
+
+-- what a plain literal of this kind may write: sets alone, maps alone, or no piece
+abbrev pub IsPlainOf : ValueKind → KeptValue → Type 0
+IsPlainOf Set value = All (IsPlainPiece IsFlatSet) value.pieces
+IsPlainOf Map value = All (IsPlainPiece IsFlatMap) value.pieces
+IsPlainOf Empty value = value.pieces ≡ []
+IsPlainOf Pair value = ⊥
+IsPlainOf Truth value = ⊥
+IsPlainOf Listing value = ⊥
+IsPlainOf Code value = ⊥

@@ -1,5 +1,5 @@
 -- From what the session and the ends say to what a run has done.
-use Rattle.std.proofs.Common.{◌≡◌, ℕ, ◌+◌, ◌-◌, ◌≤◌, List, [], ◌∷◌, ◌++◌, length, take, true, false, refl, sym, ◌∙◌, ap, subst, arith, Option, None, Some, Result, Ok, Err}
+use Rattle.std.proofs.Common.{◌≡◌, ◌⊎◌, ℕ, ◌+◌, ◌-◌, ◌<◌, ◌≤◌, List, [], ◌∷◌, ◌++◌, length, take, true, false, refl, sym, ◌∙◌, ap, subst, arith, Option, None, Some, Result, Ok, Err}
 use Rattle.std.specs.List.{concat}
 use Rattle.std.specs.Result.{OnOk, OnErr, IfErr}
 use mathlib.Core.Logic.{inl, inr}
@@ -14,10 +14,11 @@ use Rattle.isl_eval.specs.Machine.{started}
 use Rattle.isl_session.specs.declared.fault.Fault.{Fault}
 use Rattle.isl_session.specs.declared.TheConstants.{SCRIPT_MAX, STATEMENT_MAX}
 use Rattle.isl_session.specs.Place.{Place, at_words, in_statement, too_long, past_limit, at_end, at_read, at_write, anywhere, place_of}
-use Rattle.isl_session.specs.View.{View, BreaksIn, Fed, IsMeterAt, Stopped, fresh, moment_of}
+use Rattle.isl_session.specs.View.{View, BreaksIn, Fed, IsMeterAt, Stopped, moment_of, opened}
 use Rattle.isl_session.specs.Status.{StatusView}
 use Rattle.isl_session.specs.Lines.{fault_line}
 use Rattle.isl_session.specs.Run.{Answered, Ended, Halts, HasCause, IsScriptOf, OfFirst, Outside, Progress, Tells, Wrote, number_at}
+use Rattle.isl_session.proofs.RunLemmas.{fed_answered}
 use Rattle.isl_session.proofs.AheadLemmas.{ahead_of, readable-append, statements-readable, ahead_end, ahead_full, ahead_first, ahead_long}
 
 -- what was told, unless telling failed
@@ -67,7 +68,7 @@ module _ (first : Gauge) (script : List ℕ) (old new : Outside) (status : Statu
   }
 
   -- the script was answered up to the end of a front
-  module _ (front more : List ℕ) (split : script ≡ front ++ more) (answers : List (List ℕ)) (at_front : View) (fed : Fed (fresh first) front answers at_front) where
+  module _ (front more : List ℕ) (split : script ≡ front ++ more) (answers : List (List ℕ)) (at_front : View) (fed : Fed (opened first) front answers at_front) where
     front_within : length front ≤ SCRIPT_MAX
     front_within = omega (arith, fed.taken, fed.within)
 
@@ -91,7 +92,7 @@ module _ (first : Gauge) (script : List ℕ) (old new : Outside) (status : Statu
         assemble (Some refusal) is progress (subst (λ (p : Place). EndedAt first script progress taken gained session.meter old new refusal p) (sym at) ended)
 
   -- the whole script was taken and answered
-  pub answered_whole : status.refusal ≡ None → left ≡ [] → IsAtEnd new.left → (answers : List (List ℕ)) → gained ≡ concat answers → Fed (fresh first) taken answers session → IsBlank session.rest
+  pub answered_whole : status.refusal ≡ None → left ≡ [] → IsAtEnd new.left → (answers : List (List ℕ)) → gained ≡ concat answers → Fed (opened first) taken answers session → IsBlank session.rest
       → Answered first script old new status
   answered_whole is none end answers gained_is fed blank =
       let whole : taken ≡ script = sym (script_is ∙ ap (λ (l : List ℕ). taken ++ l) none ∙ append-nil taken) in
@@ -114,7 +115,7 @@ module _ (first : Gauge) (script : List ℕ) (old new : Outside) (status : Statu
     line_for k is = subst (λ (n : ℕ). Tells old new (fault_line (fault_of n refusal))) is tells
 
     -- the session was refused at a byte
-    module _ (answers : List (List ℕ)) (gained_is : gained ≡ concat answers) (stopped : Stopped (fresh first) taken answers session (fault_of statement refusal)) where
+    module _ (answers : List (List ℕ)) (gained_is : gained ≡ concat answers) (stopped : Stopped (opened first) taken answers session (fault_of statement refusal)) where
       abbrev more : List ℕ
       more = stopped.behind ++ left
 
@@ -128,13 +129,21 @@ module _ (first : Gauge) (script : List ℕ) (old new : Outside) (status : Statu
       breaks_at place at = subst (λ (p : Place). BreaksIn p stopped.at_front stopped.byte session.meter refusal) at stopped.breaks
 
       number : statement ≡ length answers + 1
-      number = omega (arith, stopped.number, stopped.fed.answered)
+      number = omega (arith, stopped.number, fed_answered (opened first) stopped.front answers stopped.at_front stopped.fed)
 
       halted_at : (place : Place) → place_of refusal ≡ place → HasCause first script so_far taken session.meter old new refusal place → Wrote answers gained place
           → statement ≡ number_at answers place → Answered first script old new status
       halted_at place at cause written k =
           halted stopped.front (stopped.byte ∷ more) split_at answers stopped.at_front stopped.fed refusal status_is place at
           (cause, written, line_for (number_at answers place) k, subst (λ (p : Place). IsMeterAt p stopped.at_front.meter session.meter) at stopped.meter)
+
+      -- what is held needs no memory
+      abbrev Ends : Type 0
+      Ends = (ends stopped.at_front.rest stopped.byte ≡ true) × Refuses (started (moment_of stopped.at_front)) stopped.at_front.rest session.meter refusal
+
+      no_want : Ends ⊎ ((length stopped.at_front.rest < STATEMENT_MAX) × (stopped.at_front.room ≤ length stopped.at_front.rest) × (session.meter ≡ stopped.at_front.meter)) → Ends
+      no_want (inl ended) = ended
+      no_want (inr full) = absurd (omega (arith, full.0, full.1, stopped.fed.room))
 
       refused_in_statement : place_of refusal ≡ in_statement → Answered first script old new status
       refused_in_statement at =
@@ -157,6 +166,17 @@ module _ (first : Gauge) (script : List ℕ) (old new : Outside) (status : Statu
           halted_at too_long at (omega (arith, breaks.2, ap length rest, long, ap (λ (l : List ℕ). length (next_part (ahead_of front (stopped.byte ∷ more)) l)) same))
           gained_is number
 
+      refused_anywhere : place_of refusal ≡ anywhere → Answered first script old new status
+      refused_anywhere at =
+          let breaks = breaks_at anywhere at in
+          let rest = stopped.fed.rest in
+          let want = no_want breaks.1 in
+          let ended = subst (λ (l : List ℕ). ends l stopped.byte ≡ true) rest want.0 in
+          let first_ahead = ahead_first stopped.front stopped.byte more (omega (arith, stopped.fed.taken, breaks.0)) ended in
+          let at_front = stopped.at_front in
+          let P : List ℕ → Type 0 = λ bytes. (length bytes ≤ STATEMENT_MAX) × Refuses (started (moment_of at_front)) bytes session.meter refusal in
+          halted_at anywhere at (subst (OfFirst P) (sym first_ahead.1) (subst P rest (stopped.fed.short.last, want.1))) gained_is number
+
       refused_past_limit : place_of refusal ≡ past_limit → Answered first script old new status
       refused_past_limit at =
           let full = breaks_at past_limit at in
@@ -173,19 +193,19 @@ module _ (first : Gauge) (script : List ℕ) (old new : Outside) (status : Statu
 
     -- whatever stopped it
     pub answered_up_to : (place : Place) → place_of refusal ≡ place → (IsAtEnd new.left → left ≡ [])
-        → Halts (Rose old.reads new.reads) (Rose old.writes new.writes) (IsAtEnd new.left) (fresh first) taken gained session (fault_of statement refusal) place → Answered first script old new status
+        → Halts (Rose old.reads new.reads) (Rose old.writes new.writes) (IsAtEnd new.left) (opened first) taken gained session (fault_of statement refusal) place → Answered first script old new status
     answered_up_to at_words at none_left h = absurd h
     answered_up_to in_statement at none_left h = refused_in_statement h.0 h.1 h.2 at
     answered_up_to too_long at none_left h = refused_too_long h.0 h.1 h.2 at
     answered_up_to past_limit at none_left h = refused_past_limit h.0 h.1 h.2 at
-    answered_up_to anywhere at none_left h = halted_at h.0 h.1 h.2 anywhere at tt h.1 (number h.0 h.1 h.2)
+    answered_up_to anywhere at none_left h = refused_anywhere h.0 h.1 h.2 at
     answered_up_to at_read at none_left h =
         let answers = h.2.0 in
         let fed = h.2.2 in
         halted taken left script_is answers session fed refusal status_is at_read at (
           (h.0, refl, omega (arith, fed.taken, fed.within), omega (arith, fed.short.last, ap length fed.rest)),
           h.2.1,
-          line_for (length answers + 1) (omega (arith, fed.answered, h.1)),
+          line_for (length answers + 1) (omega (arith, fed_answered (opened first) taken answers session fed, h.1)),
           refl,
         )
     answered_up_to at_write at none_left h =
@@ -193,7 +213,7 @@ module _ (first : Gauge) (script : List ℕ) (old new : Outside) (status : Statu
         let answers = h.2.2 in
         let fed = h.2.5 in
         halted front (h.2.1 ++ left) (script_is ∙ ap (λ (l : List ℕ). l ++ left) h.2.3 ∙ append_assoc front h.2.1 left) answers session fed refusal status_is at_write at
-        (h.0, h.2.4, line_for (length answers) (omega (arith, fed.answered, h.1)), refl)
+        (h.0, h.2.4, line_for (length answers) (omega (arith, fed_answered (opened first) front answers session fed, h.1)), refl)
     answered_up_to at_end at none_left h =
         let answers = h.1.0 in
         let before = h.1.1 in
@@ -212,6 +232,6 @@ module _ (first : Gauge) (script : List ℕ) (old new : Outside) (status : Statu
             omega (arith, fed.short.last, ap length rest),
           ),
           h.1.2,
-          line_for (length answers + 1) (omega (arith, fed.answered, h.1.5)),
+          line_for (length answers + 1) (omega (arith, fed_answered (opened first) taken answers before fed, h.1.5)),
           meter,
         )

@@ -1,5 +1,5 @@
 -- A statement that is refused stops its session at the byte that ends it.
-use Rattle.std.proofs.Common.{◌≡◌, ℕ, ◌<◌, List, [], ◌∷◌, true, refl, sym, ◌∙◌, ap, subst, inl, inr, ◌⊎◌}
+use Rattle.std.proofs.Common.{◌≡◌, ℕ, ◌<◌, List, [], ◌∷◌, true, refl, sym, ◌∙◌, ap, subst, inl, inr}
 use Rattle.isl_meter.specs.Gauge.{Gauge, IsKept}
 use Rattle.isl_stmt.specs.Script.{ends}
 use Rattle.isl_text.specs.declared.refusal.Refusal.{Refusal}
@@ -9,8 +9,9 @@ use Rattle.isl_eval.specs.Causes as c
 use Rattle.isl_eval.specs.Causes.{Cause, FirstGives, Refuses, causes, refusal_of}
 use Rattle.isl_eval.specs.Machine.{started}
 use Rattle.isl_session.specs.declared.TheConstants.{SCRIPT_MAX}
-use Rattle.isl_session.specs.Place.{Place, in_statement, anywhere, place_of}
+use Rattle.isl_session.specs.Place.{Place, in_statement, place_of}
 use Rattle.isl_session.specs.View.{View, BreaksIn, IsMeterAt, moment_of}
+use Rattle.isl_session.proofs.MeterLemmas.{carries_started}
 
 -- the causes of a statement's bytes come about where the statement ends
 place_of_cause : (cause : Cause) → place_of (refusal_of cause) ≡ in_statement
@@ -23,6 +24,8 @@ place_of_cause c.unsupported = refl
 place_of_cause c.unknown_name = refl
 place_of_cause c.wrong_kind = refl
 place_of_cause c.no_element = refl
+place_of_cause c.mixed_kinds = refl
+place_of_cause c.wide_join = refl
 
 place_of_first : (There : Cause → Type 0) (all : List Cause) (refusal : Refusal) → FirstGives There all refusal → place_of refusal ≡ in_statement
 place_of_first There [] refusal gives = absurd gives
@@ -33,7 +36,7 @@ pub breaks_in_statement : (refusal : Refusal) (view : View) (byte : ℕ) (now : 
     → Refuses (started (moment_of view)) view.rest now refusal → BreaksIn (place_of refusal) view byte now refusal
 breaks_in_statement Overflow view byte now room ended cause = (room, ended, cause)
 breaks_in_statement Budget view byte now room ended cause = (room, ended, cause)
-breaks_in_statement NoMemory view byte now room ended cause = tt
+breaks_in_statement NoMemory view byte now room ended cause = (room, inl (ended, cause))
 breaks_in_statement refusal view byte now room ended cause =
     subst (λ (p : Place). BreaksIn p view byte now refusal) (sym (place_of_first (c.IsThere (started (moment_of view)) view.rest) causes refusal cause.0)) (room, ended, cause)
 
@@ -42,6 +45,6 @@ pub meter_in_statement : (before : Moment) (bytes : List ℕ) (now : Gauge) (ref
     → IsKept (record before.meter { units = 0 }) now → IsMeterAt (place_of refusal) before.meter now
 meter_in_statement before bytes now Overflow cause kept = kept
 meter_in_statement before bytes now Budget cause kept = kept
-meter_in_statement before bytes now NoMemory cause kept = cause.same
+meter_in_statement before bytes now NoMemory cause kept = carries_started before.meter now cause.0
 meter_in_statement before bytes now refusal cause kept =
     subst (λ (p : Place). IsMeterAt p before.meter now) (sym (place_of_first (c.IsThere (started before) bytes) causes refusal cause.0)) kept

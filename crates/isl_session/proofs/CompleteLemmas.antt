@@ -1,12 +1,12 @@
 -- What is valid is answered, unless memory ends or a count rose.
-use Rattle.std.proofs.Common.{◌≡◌, ℕ, ℤ, ◌+◌, ◌≤◌, List, [], ◌∷◌, ◌++◌, length, refl, sym, ◌∙◌, ap, subst, arith, Option, None, Some}
+use Rattle.std.proofs.Common.{◌≡◌, ℕ, ◌+◌, ◌≤◌, List, [], ◌∷◌, ◌++◌, length, refl, sym, ◌∙◌, ap, subst, arith, Option, None, Some}
 use Rattle.std.proofs.lemmas.List.{append_assoc, length-append, take_all}
 use Rattle.std.proofs.lemmas.List.Elements.{All-head}
 use mathlib.Core.Logic.{inl, inr}
 use Rattle.isl_math.specs.Count.{Rose}
 use Rattle.isl_math.proofs.ListLaws.{All-parts}
-use Rattle.isl_meter.specs.Gauge.{Gauge, IsCharged, overflown, spent_out}
-use Rattle.isl_stmt.specs.Script.{statements, rest_of, readable, next_part, ends}
+use Rattle.isl_meter.specs.Gauge.{Gauge}
+use Rattle.isl_stmt.specs.Script.{statements, rest_of, readable, next_part}
 use Rattle.isl_stmt.proofs.ScriptLaws.{next_part-long, rest-append, statements-append}
 use Rattle.isl_text.specs.declared.refusal.Refusal.{Refusal}
 use Rattle.isl_text.specs.declared.refusal.Refusal.TheVariants.{Usage, TooLong, Unfinished, Overflow, Budget, ReadFault, WriteFault, NoMemory, ScriptTooLong}
@@ -46,7 +46,7 @@ no_cause : (before : Moment) (bytes : List ℕ) (now : Gauge) → IsValid before
     → (refusal : Refusal) → Refuses before bytes now refusal → refusal ≡ NoMemory
 no_cause before bytes now valid no_overflow no_spent NoMemory cause = refl
 no_cause before bytes now valid no_overflow no_spent Overflow cause = absurd (no_overflow (overflow_rose before.meter now cause.2))
-no_cause before bytes now valid no_overflow no_spent Budget cause = absurd (no_spent (spent_rose before.meter now cause.2))
+no_cause before bytes now valid no_overflow no_spent Budget cause = absurd (no_spent (spent_rose before.meter now cause.3))
 no_cause before bytes now valid no_overflow no_spent refusal cause = absurd (no_first (IsThere before bytes) causes refusal valid cause.0)
 
 -- the same, where statements that were answered raised no count
@@ -55,8 +55,8 @@ no_cause_behind : (first : Gauge) (before : Moment) (bytes : List ℕ) (now : Ga
     → (refusal : Refusal) → Refuses (started before) bytes now refusal → refusal ≡ NoMemory
 no_cause_behind first before bytes now carried valid no_overflow no_spent refusal cause =
     no_cause (started before) bytes now valid
-    (subst (λ (n : ℕ). Rose n now.overflows → ⊥) (sym (ap (λ (g : Gauge). g.overflows) carried)) no_overflow)
-    (subst (λ (n : ℕ). Rose n now.spents → ⊥) (sym (ap (λ (g : Gauge). g.spents) carried)) no_spent) refusal cause
+    (subst (λ (n : ℕ). Rose n now.overflows → ⊥) (sym (ap (λ (g : Gauge). g.overflows) carried.same)) no_overflow)
+    (subst (λ (n : ℕ). Rose n now.spents → ⊥) (sym (ap (λ (g : Gauge). g.spents) carried.same)) no_spent) refusal cause
 
 -- the part that comes next is none too long
 short_next : (done ahead : List (List ℕ)) (rest : List ℕ) → AreShort (done ++ ahead) rest → length (next_part ahead rest) ≤ STATEMENT_MAX

@@ -1,15 +1,12 @@
 -- How a session stops, piece after piece.
-use Rattle.std.proofs.Common.{◌≡◌, ℕ, ◌<◌, ◌≤◌, List, [], ◌∷◌, ◌++◌, length, take, refl, sym, ◌∙◌, ap, subst, arith, ◌+◌, Some}
+use Rattle.std.proofs.Common.{◌≡◌, ℕ, ◌<◌, ◌≤◌, List, [], ◌∷◌, ◌++◌, length, take, refl, sym, ◌∙◌, ap, arith}
 use Rattle.std.specs.List.{concat}
 use Rattle.std.proofs.lemmas.List.{append-nil, append_assoc}
 use Rattle.std.proofs.lemmas.List.Folds.{concat-append}
-use Rattle.isl_meter.specs.Gauge.{Gauge, IsKept}
-use Rattle.isl_text.specs.declared.refusal.Refusal.TheVariants.{NoMemory}
 use Rattle.isl_session.specs.declared.fault.Fault.{Fault}
 use Rattle.isl_session.specs.Place.{Place, at_words, in_statement, too_long, past_limit, at_end, at_read, at_write, anywhere, place_of}
-use Rattle.isl_session.specs.View.{View, Fed, IsMeterAt, IsReady, Stopped, BreaksIn}
+use Rattle.isl_session.specs.View.{View, Fed, Stopped, BreaksIn}
 use Rattle.isl_session.specs.Run.{Halts, IsCutShort}
-use Rattle.isl_session.proofs.FedLemmas.{ready_fed}
 use Rattle.isl_session.proofs.RunLemmas.{Fed-append}
 
 -- a session that took a piece, and was refused in the next
@@ -25,6 +22,7 @@ Stopped-append a x ps b y z qs c fault fed stopped = record {
   number = stopped.number;
   same = stopped.same;
   meter = stopped.meter;
+  room = stopped.room;
 }
 
 -- answers that went out whole, and then some of which the last did not

@@ -10,3 +10,4 @@ pub mod SoundLemmas
 pub mod AheadLemmas
 pub mod AnsweredLemmas
 pub mod CompleteLemmas
+pub mod RoomLemmas

@@ -1,3 +1,4 @@
+pub mod Counts
 pub mod Lines
 pub mod Place
 pub mod Run
@@ -5,3 +6,9 @@ pub mod Session
 pub mod Status
 pub mod Valid
 pub mod View
+pub use Rattle.isl_eval.specs.Causes
+pub use Rattle.isl_eval.specs.Machine
+pub use Rattle.isl_eval.specs.State
+pub use Rattle.isl_io.specs.Outside
+pub use Rattle.isl_stmt.specs.Script
+pub use Rattle.isl_text.specs.Refusal

@@ -15,7 +15,7 @@ pub data Place : Type 0 where
   at_end : Place
   at_read : Place
   at_write : Place
-  -- wherever memory is asked for
+  -- wherever memory is asked for: at the end of a statement, or where what is held fills its room
   anywhere : Place
 
 abbrev pub place_of : Refusal → Place

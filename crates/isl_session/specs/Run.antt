@@ -1,12 +1,12 @@
 -- public: how a run over a whole script ends, and what it leaves.
-use Rattle.std.specs.Prelude.{◌≡◌, ◌⊎◌, ℕ, ◌+◌, ◌<◌, ◌≤◌, List, [], ◌∷◌, ◌++◌, All, length, take, Option, Some, None}
+use Rattle.std.specs.Prelude.{◌≡◌, ℕ, ◌+◌, ◌<◌, ◌≤◌, List, [], ◌∷◌, ◌++◌, All, length, take, Option, Some, None}
 use Rattle.std.specs.List.{concat}
 use Rattle.std.specs.Io.KnownBytes.{Appends, Consumes, IsAtEnd}
 use Rattle.isl_math.specs.Count.{Rose}
 use Rattle.isl_meter.specs.Gauge.{Gauge}
 use Rattle.isl_stmt.specs.Script.{statements, rest_of, readable, next_part, IsBlank}
 use Rattle.isl_text.specs.declared.refusal.Refusal.{Refusal}
-use Rattle.isl_eval.specs.State.{StateView, Moment, unbound}
+use Rattle.isl_eval.specs.State.{StateView, unbound}
 use Rattle.isl_eval.specs.Causes.{Refuses}
 use Rattle.isl_eval.specs.Machine.{started}
 use Rattle.isl_session.specs.declared.fault.Fault.{Fault}
@@ -30,12 +30,12 @@ pub record IsCutShort (answers : List (List ℕ)) (gained : List ℕ) : Type 0 w
 abbrev pub Halts : Type 0 → Type 0 → Type 0 → View → List ℕ → List ℕ → View → Fault → Place → Type 0
 Halts read_failed write_failed ended old taken gained new fault at_words = ⊥
 Halts read_failed write_failed ended old taken gained new fault at_read =
-    read_failed × (fault.statement ≡ new.answered + 1) × ((answers : List (List ℕ)) × (gained ≡ concat answers) × Fed old taken answers new)
+    read_failed × (fault.statement ≡ new.counts.statements + 1) × ((answers : List (List ℕ)) × (gained ≡ concat answers) × Fed old taken answers new)
 Halts read_failed write_failed ended old taken gained new fault at_write =
-    write_failed × (fault.statement ≡ new.answered) × ((front : List ℕ) × (behind : List ℕ) × (answers : List (List ℕ)) × (taken ≡ front ++ behind) × IsCutShort answers gained × Fed old front answers new)
+    write_failed × (fault.statement ≡ new.counts.statements) × ((front : List ℕ) × (behind : List ℕ) × (answers : List (List ℕ)) × (taken ≡ front ++ behind) × IsCutShort answers gained × Fed old front answers new)
 Halts read_failed write_failed ended old taken gained new fault at_end =
     ended × ((answers : List (List ℕ)) × (before : View) × (gained ≡ concat answers) × Fed old taken answers before × (IsBlank before.rest → ⊥)
-    × (fault.statement ≡ before.answered + 1) × (new ≡ record before { fault = Some fault }))
+    × (fault.statement ≡ before.counts.statements + 1) × (new ≡ record before { fault = Some fault }))
 Halts read_failed write_failed ended old taken gained new fault in_statement = (answers : List (List ℕ)) × (gained ≡ concat answers) × Stopped old taken answers new fault
 Halts read_failed write_failed ended old taken gained new fault too_long = (answers : List (List ℕ)) × (gained ≡ concat answers) × Stopped old taken answers new fault
 Halts read_failed write_failed ended old taken gained new fault past_limit = (answers : List (List ℕ)) × (gained ≡ concat answers) × Stopped old taken answers new fault
@@ -74,7 +74,8 @@ abbrev pub OfFirst : (List ℕ → Type 0) → List (List ℕ) → Type 0
 OfFirst P [] = ⊥
 OfFirst P (bytes ∷ later) = P bytes
 
--- Why a run ended where it did, by the place of the refusal. `taken` was read, and `now` is the meter at the refusal.
+-- Why a run ended where it did, by the place of the refusal. `taken` was read, and `now` is the meter at the refusal. Memory is asked
+-- for only while a statement is worked on.
 abbrev pub HasCause : (first : Gauge) (script : List ℕ) → Progress first script → List ℕ → Gauge → Outside → Outside → Refusal → Place → Type 0
 HasCause first script progress taken now old new refusal at_words = ⊥
 HasCause first script progress taken now old new refusal in_statement =
@@ -86,7 +87,8 @@ HasCause first script progress taken now old new refusal at_end =
 HasCause first script progress taken now old new refusal at_read =
     Rose old.reads new.reads × (progress.done ≡ statements taken) × (length taken ≤ SCRIPT_MAX) × (length (rest_of taken) ≤ STATEMENT_MAX)
 HasCause first script progress taken now old new refusal at_write = Rose old.writes new.writes
-HasCause first script progress taken now old new refusal anywhere = Unit {0}
+HasCause first script progress taken now old new refusal anywhere =
+    OfFirst (λ bytes. (length bytes ≤ STATEMENT_MAX) × Refuses (started (record { state = progress.state; meter = progress.meter })) bytes now refusal) progress.ahead
 
 -- the whole script was read and answered, and nothing is left of it
 pub record IsDone (script : List ℕ) (ahead : List (List ℕ)) (taken : List ℕ) (new : Outside) : Type 0 where

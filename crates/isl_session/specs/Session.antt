@@ -1,15 +1,16 @@
 -- inner: the fields of a session: what they show, and what they keep.
-use Rattle.std.specs.Prelude.{◌≤◌, length}
+use Rattle.std.specs.Prelude.{◌≤◌, length, vec_capacity}
 use Rattle.isl_meter.specs.Gauge.{limit_of}
 use Rattle.isl_stmt.specs.Script.{IsOpen}
 use Rattle.isl_stmt.specs.Cutter.{IsAt}
 use Rattle.isl_eval.specs.State.{Fits}
 use Rattle.isl_session.specs.declared.session.Session.TheInside.{Inside}
 use Rattle.isl_session.specs.declared.TheConstants.{SCRIPT_MAX, STATEMENT_MAX}
+use Rattle.isl_session.specs.Counts.{AreCounts}
 use Rattle.isl_session.specs.View.{View}
 
 abbrev pub view_of : Inside → View
-view_of s = record { state = s.state; rest = s.rest.items; taken = s.taken; answered = s.answered; fault = s.fault; meter = s.meter }
+view_of s = record { state = s.state; rest = s.rest.items; room = vec_capacity s.rest; taken = s.taken; counts = s.counts; fault = s.fault; meter = s.meter }
 
 pub record IsSound (s : Inside) : Type 0 where
   -- no statement ends in the bytes that are held, and the cutter stands behind them
@@ -18,5 +19,6 @@ pub record IsSound (s : Inside) : Type 0 where
   pub held : length s.rest.items ≤ s.taken
   pub short : length s.rest.items ≤ STATEMENT_MAX
   pub within : s.taken ≤ SCRIPT_MAX
-  pub answered : s.answered ≤ s.taken
+  pub answered : s.counts.statements ≤ s.taken
+  pub counts : AreCounts s.counts
   pub fits : Fits (limit_of s.meter) s.state

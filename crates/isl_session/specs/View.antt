@@ -1,5 +1,5 @@
 -- public: a session as it is seen from outside, and what a piece of a script does to it.
-use Rattle.std.specs.Prelude.{◌≡◌, ℕ, ◌+◌, ◌<◌, ◌≤◌, List, [], ◌∷◌, ◌++◌, All, length, map, Option, Some, None, true, false, Result, MatchResult}
+use Rattle.std.specs.Prelude.{◌≡◌, ◌⊎◌, ℕ, ◌+◌, ◌<◌, ◌≤◌, List, [], ◌∷◌, ◌++◌, All, length, map, Option, Some, None, true, false, Result, MatchResult}
 use Rattle.std.specs.List.{concat}
 use Rattle.isl_meter.specs.Gauge.{Gauge, IsKept}
 use Rattle.isl_stmt.specs.Script.{statements, rest_of, ends, IsBlank, IsOpen}
@@ -8,8 +8,10 @@ use Rattle.isl_text.specs.declared.refusal.Refusal.TheVariants.{Unfinished}
 use Rattle.isl_eval.specs.State.{StateView, Moment, unbound}
 use Rattle.isl_eval.specs.Causes.{Refuses}
 use Rattle.isl_eval.specs.Machine.{Answer, Run, started}
+use Rattle.isl_session.specs.declared.counts.Counts.{Counts}
 use Rattle.isl_session.specs.declared.fault.Fault.{Fault}
 use Rattle.isl_session.specs.declared.TheConstants.{SCRIPT_MAX, STATEMENT_MAX}
+use Rattle.isl_session.specs.Counts.{counted, none}
 use Rattle.isl_session.specs.Place.{Place, at_words, in_statement, too_long, past_limit, at_end, at_read, at_write, anywhere, place_of}
 use Rattle.isl_words.specs.Options.{OptionsView}
 
@@ -22,10 +24,12 @@ pub record View : Type 0 where
   pub state : StateView
   -- the bytes behind the last statement's end
   pub rest : List ℕ
+  -- how many bytes may be held before memory is asked for
+  pub room : ℕ
   -- how many bytes of the script were taken
   pub taken : ℕ
-  -- how many statements were answered
-  pub answered : ℕ
+  -- what was answered
+  pub counts : Counts
   pub fault : Option Fault
   pub meter : Gauge
 
@@ -35,7 +39,11 @@ moment_of view = record { state = view.state; meter = view.meter }
 
 -- a session that has taken nothing
 abbrev pub fresh : Gauge → View
-fresh meter = record { state = unbound; rest = []; taken = 0; answered = 0; fault = None; meter = meter }
+fresh meter = record { state = unbound; rest = []; room = 0; taken = 0; counts = none; fault = None; meter = meter }
+
+-- the session of a run, which has taken nothing and has memory for the longest statement
+abbrev pub opened : Gauge → View
+opened meter = record (fresh meter) { room = STATEMENT_MAX }
 
 -- These statements are answered one after another, with these texts.
 pub record Gives (before : Moment) (parts texts : List (List ℕ)) (after : Moment) : Type 0 where
@@ -43,9 +51,9 @@ pub record Gives (before : Moment) (parts texts : List (List ℕ)) (after : Mome
   pub run : Run before parts answers after
   pub written : texts ≡ map (λ answer. answer.bytes) answers
 
--- a meter that no refusal was counted by since
-abbrev pub Carries : Gauge → Gauge → Type 0
-Carries old new = new ≡ record old { units = new.units }
+-- a meter that counted no refusal since: the units are those of the last statement, which `Answers` says, and the rest is as it was
+pub record Carries (old new : Gauge) : Type 0 where
+  pub same : new ≡ record old { units = new.units }
 
 -- none of these parts of a script has too many bytes, and the rest has not
 pub record AreShort (parts : List (List ℕ)) (rest : List ℕ) : Type 0 where
@@ -59,9 +67,10 @@ pub record Fed (old : View) (piece : List ℕ) (answers : List (List ℕ)) (new 
   pub short : AreShort (statements (old.rest ++ piece)) new.rest
   pub taken : new.taken ≡ old.taken + length piece
   pub within : new.taken ≤ SCRIPT_MAX
-  pub answered : new.answered ≡ old.answered + length answers
+  pub counts : new.counts ≡ counted old.counts run.answers
   pub sound : new.fault ≡ None
   pub meter : Carries old.meter new.meter
+  pub room : old.room ≤ new.room
 
 -- A session without a fault, which holds no whole statement.
 pub record IsReady (view : View) : Type 0 where
@@ -71,33 +80,37 @@ pub record IsReady (view : View) : Type 0 where
   pub sound : view.fault ≡ None
 
 -- Why a byte is not taken, by the place of the refusal: the statement that it ends is refused, or it is one byte too many for a
--- statement or a script. `now` is the meter at the refusal.
+-- statement or a script; memory is asked for where it ends a statement, or where what is held fills its room. `now` is the meter at
+-- the refusal.
 abbrev pub BreaksIn : Place → View → ℕ → Gauge → Refusal → Type 0
 BreaksIn in_statement view byte now refusal =
     (view.taken < SCRIPT_MAX) × (ends view.rest byte ≡ true) × Refuses (started (moment_of view)) view.rest now refusal
 BreaksIn too_long view byte now refusal = (view.taken < SCRIPT_MAX) × (ends view.rest byte ≡ false) × (length view.rest ≡ STATEMENT_MAX)
 BreaksIn past_limit view byte now refusal = view.taken ≡ SCRIPT_MAX
-BreaksIn anywhere view byte now refusal = Unit {0}
+BreaksIn anywhere view byte now refusal =
+    (view.taken < SCRIPT_MAX) × (((ends view.rest byte ≡ true) × Refuses (started (moment_of view)) view.rest now refusal)
+    ⊎ ((length view.rest < STATEMENT_MAX) × (view.room ≤ length view.rest) × (now ≡ view.meter)))
 BreaksIn at_words view byte now refusal = ⊥
 BreaksIn at_end view byte now refusal = ⊥
 BreaksIn at_read view byte now refusal = ⊥
 BreaksIn at_write view byte now refusal = ⊥
 
--- The meter at a refusal, after that of the statements answered. Only the work on a statement, which begins with no unit used and
--- which want of memory may end uncounted, raises a count; limit and budget stay, and no count falls.
+-- The meter at a refusal, after that of the statements answered. Only the work on a statement, which begins with no unit used, and
+-- which want of memory may end uncounted, raises a count; limit and budget stay, and no count falls. The units are said by `Refuses`.
 abbrev pub IsMeterAt : Place → Gauge → Gauge → Type 0
 IsMeterAt in_statement before now = IsKept (record before { units = 0 }) now
 IsMeterAt anywhere before now = Carries before now
 IsMeterAt place before now = now ≡ before
 
--- A session is refused at a byte. Only its meter changes.
+-- A session is refused at a byte. Only its meter changes, and its room does not fall.
 pub record IsRefusedAt (old : View) (byte : ℕ) (refusal : Refusal) (new : View) : Type 0 where
   pub breaks : BreaksIn (place_of refusal) old byte new.meter refusal
-  pub same : new ≡ record old { meter = new.meter }
+  pub same : new ≡ record old { room = new.room; meter = new.meter }
   pub meter : IsMeterAt (place_of refusal) old.meter new.meter
+  pub room : old.room ≤ new.room
 
 -- A session took the front of this piece, was refused at the next byte, and has that fault from then on. Nothing else but its
--- meter changed at that byte.
+-- meter and its room changed at that byte.
 pub record Stopped (old : View) (piece : List ℕ) (answers : List (List ℕ)) (new : View) (fault : Fault) : Type 0 where
   pub front : List ℕ
   pub byte : ℕ
@@ -106,9 +119,17 @@ pub record Stopped (old : View) (piece : List ℕ) (answers : List (List ℕ)) (
   pub at_front : View
   pub fed : Fed old front answers at_front
   pub breaks : BreaksIn (place_of fault.refusal) at_front byte new.meter fault.refusal
-  pub number : fault.statement ≡ at_front.answered + 1
-  pub same : new ≡ record at_front { meter = new.meter; fault = Some fault }
+  pub number : fault.statement ≡ at_front.counts.statements + 1
+  pub same : new ≡ record at_front { room = new.room; meter = new.meter; fault = Some fault }
   pub meter : IsMeterAt (place_of fault.refusal) at_front.meter new.meter
+  pub room : at_front.room ≤ new.room
+
+-- no statement ends in this piece, and what is held behind it is within the room and the limits
+pub record HasRoomFor (view : View) (piece : List ℕ) : Type 0 where
+  pub none : statements (view.rest ++ piece) ≡ []
+  pub room : length (view.rest ++ piece) ≤ view.room
+  pub short : length (view.rest ++ piece) ≤ STATEMENT_MAX
+  pub within : view.taken + length piece ≤ SCRIPT_MAX
 
 -- what a piece does to a session without a fault, and to the text of its answers
 abbrev pub Feeds : View → List ℕ → List ℕ → List ℕ → View → Result (Unit {0}) Fault → Type 0
@@ -120,4 +141,4 @@ Feeds old piece text_before text new result = MatchResult result
 abbrev pub Finishes : View → View → Result (Unit {0}) Fault → Type 0
 Finishes old new result = MatchResult result
     (λ _. IsBlank old.rest × (new ≡ old))
-    (λ fault. (IsBlank old.rest → ⊥) × (fault ≡ record { statement = old.answered + 1; refusal = Unfinished }) × (new ≡ record old { fault = Some fault }))
+    (λ fault. (IsBlank old.rest → ⊥) × (fault ≡ record { statement = old.counts.statements + 1; refusal = Unfinished }) × (new ≡ record old { fault = Some fault }))

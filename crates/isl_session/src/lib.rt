@@ -2,12 +2,14 @@
 //! and two sinks.
 #![tactic(auto)]
 
+mod counts;
 mod fault;
 mod program;
 mod session;
 mod status;
 mod write;
 
+pub use counts::Counts;
 pub use fault::Fault;
 pub use isl_text::refusal::Refusal;
 pub use isl_words::Options;

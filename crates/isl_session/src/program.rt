@@ -9,17 +9,18 @@ ghost use Rattle.isl_stmt.specs.Script.{IsBlank};
 ghost use Rattle.isl_words.specs.Options.{OptionsView};
 ghost use Rattle.isl_words.specs.Taken.{AreTaken};
 ghost use Rattle.isl_session.specs.Place.{place_of};
-ghost use Rattle.isl_session.specs.View.{Fed, IsReady, gauge_of};
+ghost use Rattle.isl_session.specs.View.{Fed, IsReady, gauge_of, opened};
 ghost use Rattle.isl_session.specs.Lines.{fault_line, usage_line};
 ghost use Rattle.isl_session.specs.Run.{Answered, Halts, outside};
 ghost use Rattle.isl_session.specs.Valid.{IsValidScript, IsDoneOrMemory};
 
 use crate::write::{write_all, write_fault, write_usage};
-use crate::{Fault, Options, SCRIPT_MAX, Session, Status};
+use crate::{Fault, SCRIPT_MAX, STATEMENT_MAX, Session, Status};
 use isl_io::{Failed, Sink, Source};
+use isl_meter::Meter;
 use isl_text::refusal::Refusal;
 use isl_words::{WordsFault, read_words};
-use std::alloc::Global;
+use std::alloc::{AllocError, Global};
 
 // How many bytes a read asks for.
 const PIECE: usize = 4096;
@@ -149,15 +150,37 @@ fn run_session<S: Source, K: Sink>(
     session.finish(&mut text)
 }
 
-// Answers the script with these options, and tells a refusal.
+// Tells of a fault. The status is that of its cause, whatever becomes of the line.
+fn refuse<E: Sink>(err: &mut E, fault: Fault, meter: Option<Meter>) -> Status
+    ensures status { result ≡ record { refusal = Some fault.refusal; meter = meter } }
+    ensures line { (Rose (E.faults err.old) (E.faults err.new) → ⊥)
+        → Appends (E.written err.old) (E.written err.new) (fault_line fault) }
+{
+    let _ = write_fault(err, fault);
+    Status::new(Some(fault.refusal), meter)
+}
+
+// Tells how the program is used. The status is that of words which are not taken, whatever becomes of the line.
+fn refuse_usage<E: Sink>(err: &mut E) -> Status
+    ensures status { result ≡ record { refusal = Some Refusal.Usage; meter = None } }
+    ensures line { (Rose (E.faults err.old) (E.faults err.new) → ⊥)
+        → Appends (E.written err.old) (E.written err.new) usage_line }
+{
+    let _ = write_usage(err);
+    Status::new(Some(Refusal::Usage), None)
+}
+
+// Answers the script, and tells a refusal.
 fn run_script<S: Source, K: Sink, E: Sink>(
     alloc: Global,
-    options: Options,
+    session: Session,
     src: &mut S,
     out: &mut K,
     err: &mut E,
 ) -> Status
-    ensures answered { (script : List ℕ) × Answered (gauge_of options) script
+    requires opened { session ≡ opened session.meter }
+    requires uncounted { (session.meter.overflows ≡ 0) × (session.meter.spents ≡ 0) }
+    ensures answered { (script : List ℕ) × Answered session.meter script
         (outside (S.left src.old) (S.faults src.old) (K.written out.old) (K.faults out.old)
         (E.written err.old) (E.faults err.old))
         (outside (S.left src.new) (S.faults src.new) (K.written out.new) (K.faults out.new)
@@ -177,33 +200,27 @@ fn run_script<S: Source, K: Sink, E: Sink>(
     ensures no_usage { result.refusal ≢ Some Refusal.Usage }
     ensures session { IsSome result.meter }
 {
-    let mut session = Session::new(alloc, options);
-    let outcome = run_session(alloc, &mut session, src, out);
+    let mut running = session;
+    let outcome = run_session(alloc, &mut running, src, out);
     match outcome {
-        Ok(()) => Status::new(None, Some(session.into_meter())),
-        Err(fault) => {
-            let _ = write_fault(err, fault);
-            Status::new(Some(fault.refusal), Some(session.into_meter()))
-        }
+        Ok(()) => Status::new(None, Some(running.into_meter())),
+        Err(fault) => refuse(err, fault, Some(running.into_meter())),
     }
 }
 
-/// Tells that memory ended while the words were read. The line speaks of statement 1, since none was answered.
+/// Tells that memory ended before there was a session: while the words were read, or for the room of its longest statement. The line
+/// speaks of statement 1, since none was answered.
 pub fn refuse_words<E: Sink>(err: &mut E) -> Status
     ensures status { result ≡ record { refusal = Some Refusal.NoMemory; meter = None } }
     ensures line { (Rose (E.faults err.old) (E.faults err.new) → ⊥)
         → Appends (E.written err.old) (E.written err.new)
         (fault_line (record { statement = 1; refusal = Refusal.NoMemory })) }
 {
-    let refusal = Refusal::NoMemory;
-    let _ = write_fault(
-        err,
-        Fault {
-            statement: 1,
-            refusal,
-        },
-    );
-    Status::new(Some(refusal), None)
+    let fault = Fault {
+        statement: 1,
+        refusal: Refusal::NoMemory,
+    };
+    refuse(err, fault, None)
 }
 
 /// Does all that the program does: judges the words, answers the script that `src` has left on `out`, and tells
@@ -268,11 +285,11 @@ pub fn run<S: Source, K: Sink, E: Sink>(
         (fault_line (record { statement = 1; refusal = Refusal.NoMemory })) }
 {
     match read_words(alloc, words) {
-        Ok(options) => run_script(alloc, options, src, out, err),
+        Ok(options) => match Session::with_room(alloc, options, STATEMENT_MAX) {
+            Ok(session) => run_script(alloc, session, src, out, err),
+            Err(AllocError) => refuse_words(err),
+        },
         Err(WordsFault::NoMemory) => refuse_words(err),
-        Err(WordsFault::Usage) => {
-            let _ = write_usage(err);
-            Status::new(Some(Refusal::Usage), None)
-        }
+        Err(WordsFault::Usage) => refuse_usage(err),
     }
 }

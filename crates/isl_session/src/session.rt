@@ -1,18 +1,19 @@
 //! A session takes a script in pieces of any length, and answers each statement as soon as it is complete.
 
-ghost use Rattle.std.specs.Prelude.{◌≡◌, ◌+◌, ◌<◌, ◌≤◌, ◌++◌, [], ◌∷◌, ℕ, List, length, take, false, Some, None, IfSome, IfNone, IfErr, IfOk, OnOk};
+ghost use Rattle.std.specs.Prelude.{◌≡◌, ◌+◌, ◌<◌, ◌≤◌, ◌++◌, [], ◌∷◌, ℕ, List, length, take, false, Some, None, IfSome, IfNone, IfErr, IfOk, IsOk, OnOk};
 ghost use Rattle.std.specs.List.{concat};
 ghost use Rattle.isl_math.specs.Count.{Rose};
 ghost use Rattle.isl_stmt.specs.Script.{statements, rest_of};
 ghost use Rattle.isl_session.specs.Valid.{AreValid};
-ghost use Rattle.isl_session.specs.View.{AreShort, Fed, Feeds, Finishes, IsReady, IsRefusedAt, Stopped, fresh, gauge_of, moment_of};
+ghost use Rattle.isl_session.specs.Counts.{AreCounts};
+ghost use Rattle.isl_session.specs.View.{AreShort, Fed, Feeds, Finishes, HasRoomFor, IsReady, IsRefusedAt, Stopped, fresh, gauge_of, moment_of};
 
-use crate::{Fault, Options, SCRIPT_MAX, STATEMENT_MAX};
+use crate::{Counts, Fault, Options, SCRIPT_MAX, STATEMENT_MAX};
 use isl_eval::{State, answer};
 use isl_meter::Meter;
 use isl_stmt::Cutter;
 use isl_text::refusal::Refusal;
-use std::alloc::Global;
+use std::alloc::{AllocError, Global};
 use std::marker::Model;
 
 /// Answers the statements of one script.
@@ -25,7 +26,7 @@ pub struct Session {
     rest: Vec<u8>,
     cutter: Cutter,
     taken: u64,
-    answered: u64,
+    counts: Counts,
     fault: Option<Fault>,
     meter: Meter,
 }
@@ -60,10 +61,22 @@ impl Session {
             rest: Vec::new(alloc),
             cutter: Cutter::new(),
             taken: 0,
-            answered: 0,
+            counts: Counts::none(),
             fault: None,
             meter: Meter::new(bits, budget),
         }
+    }
+
+    /// The same, with memory for so many held bytes.
+    ///
+    /// # Errors
+    /// `AllocError` where that memory is not there.
+    pub fn with_room(alloc: Global, options: Options, bytes: usize) -> Result<Session, AllocError>
+        ensures { IfOk result (λ session. session ≡ record (fresh (gauge_of options)) { room = bytes }) }
+    {
+        let mut session = Session::new(alloc, options);
+        session.rest = Vec::with_capacity(alloc, bytes)?;
+        Ok(session)
     }
 
     // Takes one byte, and tells whether it ended a statement, which is then answered.
@@ -82,18 +95,20 @@ impl Session {
         let mut cutter = self.cutter;
         if cutter.push(byte) {
             self.meter.start();
-            if let Err(refusal) = answer(
+            let tally = match answer(
                 self.alloc,
                 &self.rest,
                 &mut self.state,
                 &mut self.meter,
                 text,
             ) {
-                return Err(refusal);
-            }
+                Ok(tally) => tally,
+                Err(refusal) => return Err(refusal),
+            };
             self.rest.clear();
             self.cutter = cutter;
-            self.answered += 1;
+            let grown = self.counts.plus(tally);
+            self.counts = grown;
             self.taken += 1;
             return Ok(true);
         }
@@ -143,6 +158,10 @@ impl Session {
             → (Rose self.old.meter.overflows self.new.meter.overflows → ⊥)
             → (Rose self.old.meter.spents self.new.meter.spents → ⊥)
             → IfErr result (λ fault. fault.refusal ≡ Refusal.NoMemory)) }
+
+        // Bytes that are only held, within the room, are taken without asking for memory.
+        ensures room { IfNone self.old.fault (HasRoomFor self.old piece.now → IsOk result) }
+        ensures room_kept { self.old.room ≤ self.new.room }
     {
         if let Some(kept) = self.fault {
             return Err(kept);
@@ -176,23 +195,32 @@ impl Session {
     /// Keeps the fault of a session that is refused now: it speaks of the statement behind those that were
     /// answered.
     pub(crate) fn refuse(&mut self, refusal: Refusal) -> Fault
-        ensures fault { result ≡ record { statement = self.old.answered + 1; refusal = refusal } }
+        ensures fault { result ≡ record { statement = self.old.counts.statements + 1; refusal = refusal } }
         ensures kept { self.new ≡ record self.old { fault = Some result } }
     {
         let fault = Fault {
-            statement: self.answered + 1,
+            statement: self.counts.statements + 1,
             refusal,
         };
         self.fault = Some(fault);
         fault
     }
 
-    /// How many statements were answered.
+    /// What was answered.
+    pub fn counts(&self) -> Counts
+        ensures counts { result ≡ self.now.counts }
+        ensures sound { AreCounts result }
+        ensures few { result.statements ≤ SCRIPT_MAX }
+    {
+        self.counts
+    }
+
+    // How many statements were answered.
     pub(crate) fn answered(&self) -> u64
-        ensures count { result ≡ self.now.answered }
+        ensures count { result ≡ self.now.counts.statements }
         ensures few { result ≤ SCRIPT_MAX }
     {
-        self.answered
+        self.counts.statements
     }
 
     /// How many bytes are held: those behind the last statement's end, blanks and comments counted.
@@ -201,6 +229,13 @@ impl Session {
         ensures few { result ≤ STATEMENT_MAX }
     {
         self.rest.len()
+    }
+
+    /// How many bytes may be held before memory is asked for. No call makes them fewer.
+    pub fn room(&self) -> usize
+        ensures { result ≡ self.now.room }
+    {
+        self.rest.capacity()
     }
 
     /// How many bytes of the script were taken.

@@ -1,10 +1,14 @@
 -- public: what the language has and this program has not yet.
-use Rattle.std.specs.Prelude.{Bool, true, false, not}
+use Rattle.std.specs.Prelude.{Bool, true, false, not, ◌&&◌, Option, Some, None}
 use Rattle.std.specs.List.{list_any}
 use Rattle.isl_tree.specs.Plain.{is_plain}
 use Rattle.isl_expr.specs.declared.tree.Binary.TheVariants.{Union, Intersection}
+use Rattle.isl_expr.specs.declared.tree.ValueKind.{ValueKind}
+use Rattle.isl_expr.specs.declared.tree.ValueKind.TheVariants.{Set, Map}
 use Rattle.isl_expr.specs.declared.tree.Stmt.{Stmt}
+use Rattle.isl_kinds.specs.Lines.{is_kind}
 use Rattle.isl_kinds.specs.Parts.{Part, name, literal, operator, inverse, parts_of_statement}
+use Rattle.isl_kinds.specs.Typed.{TypeView, ScopeView, bound_to, kind_of_pieces}
 
 -- the parts of expressions that are supported are names, plain literals, `+`, `*` and `^-1`
 abbrev pub is_later : Part → Bool
@@ -18,3 +22,19 @@ is_later _ = true
 -- something that is not supported stands in the statement
 abbrev pub is_unsupported : Stmt → Bool
 is_unsupported stmt = list_any is_later (parts_of_statement stmt)
+
+-- what is bound is of this kind
+abbrev pub has_kind : ValueKind → Option TypeView → Bool
+has_kind kind None = false
+has_kind kind (Some t) = is_kind t.kind kind
+
+-- a name or a literal of this kind
+abbrev pub is_of_kind : ValueKind → ScopeView → Part → Bool
+is_of_kind kind scope (name n) = has_kind kind (bound_to scope n)
+is_of_kind kind scope (literal l) = is_kind (kind_of_pieces l.pieces) kind
+is_of_kind kind scope _ = false
+
+-- a set and a map stand in one statement: of what is supported only `*` joins them, which is not supported yet
+abbrev pub mixes_kinds : ScopeView → Stmt → Bool
+mixes_kinds scope stmt =
+    list_any (is_of_kind Set scope) (parts_of_statement stmt) && list_any (is_of_kind Map scope) (parts_of_statement stmt)

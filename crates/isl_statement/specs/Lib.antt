@@ -6,3 +6,7 @@ pub mod Statement
 pub mod StatementGrammar
 pub mod Limits
 pub mod Read
+pub use Rattle.isl_expr.specs.Expr
+pub use Rattle.isl_token.specs.Lex
+pub use Rattle.isl_token.specs.Spelling
+pub use Rattle.isl_token.specs.TokenView

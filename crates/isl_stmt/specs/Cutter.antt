@@ -1,4 +1,4 @@
--- What a cutter knows of the part of a script that it is in.
+-- public: what a cutter knows of the part of a script that it is in.
 use Rattle.std.specs.Prelude.{◌≡◌, Bool, IsTrue, ◌↔◌}
 use Rattle.isl_stmt.specs.Script.{Bytes, Place, place_of, IsBlank}
 

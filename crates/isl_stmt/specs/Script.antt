@@ -1,6 +1,6 @@
--- A script is a list of statements: the parts before each `;` outside of comments and brackets (the iscc chapter of the
--- barvinok manual; that brackets of all kinds are counted as one, and that a closing one too many is passed over, is a
--- rule of this project). What follows the last of them is the rest.
+-- public: a script is a list of statements: the parts before each `;` outside of comments and brackets (the iscc chapter of the barvinok
+-- manual; that brackets of all kinds are counted as one, and that a closing one too many is passed over, is a rule of this project). What
+-- follows the last of them is the rest.
 use Rattle.std.specs.Prelude.{◌≡◌, ℕ, ◌+◌, ◌-◌, ◌^◌, Bool, false, IsTrue, not, ◌&&◌, ◌||◌, if◌then◌else◌, ◌==◌, List, [], ◌∷◌, ◌++◌, All, fold, take}
 
 abbrev pub Bytes : Type 0

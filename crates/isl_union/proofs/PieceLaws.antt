@@ -34,11 +34,13 @@ copied_more params pieces made pushed i piece copy low at same is all so_far =
 
 -- all copies, behind the same parameters
 pub copied_all : (pieces made : List PieceView) (i : ℕ) (params copied : List Name) (value : KeptValue) → copied ≡ params
-    → record { params = params; pieces = map kept_piece pieces } ≡ value → length pieces ≤ i → map kept_piece made ≡ map kept_piece (take i pieces)
+    → record { params = params; pieces = map kept_piece pieces } ≡ value → length pieces ≤ i
+    → map kept_piece made ≡ map kept_piece (take i pieces)
     → record { params = copied; pieces = map kept_piece made } ≡ value
 copied_all pieces made i params copied value same is over so_far =
     let whole : map kept_piece made ≡ map kept_piece pieces = so_far ∙ ap (map kept_piece) (take_all i pieces over) in
-    let names : record { params = copied; pieces = map kept_piece made } ≡ record { params = params; pieces = map kept_piece pieces } = cc in
+    let names : record { params = copied; pieces = map kept_piece made } ≡ record { params = params; pieces = map kept_piece pieces } =
+    cc in
     names ∙ is
 
 pub ruleset made = (no_pieces, IsKeptValue-from_pieces)

@@ -1,4 +1,4 @@
--- What a value is: unions of basic sets or basic relations over named spaces. (isl manual, on sets, relations and parameters)
+-- public: what a value is: unions of basic sets or basic relations over named spaces. (isl manual, on sets, relations and parameters)
 use Rattle.std.specs.Prelude.{◌≡◌, ℕ, ◌+◌, ℤ, List, ◌++◌, All, Any, length}
 use Rattle.isl_space.specs.Name.{Name}
 use Rattle.isl_space.specs.Names.{IsParameterList}

@@ -1,6 +1,11 @@
+pub mod Fault
 pub mod KeptValue
+pub mod Meet
+pub mod Moved
+pub mod Numbers
 pub mod Piece
 pub mod Stored
+pub mod Union
 pub use Rattle.isl_space.specs.Element
 pub use Rattle.isl_space.specs.Name
 pub use Rattle.isl_space.specs.Names

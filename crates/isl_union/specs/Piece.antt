@@ -1,4 +1,4 @@
--- A piece by content: what it is when the sharing of its shapes and of its system is forgotten.
+-- public: a piece by content: what it is when the sharing of its shapes and of its system is forgotten.
 use Rattle.std.specs.Prelude.{◌≡◌, List, []}
 use Rattle.isl_space.specs.Name.{Name}
 use Rattle.isl_piece.specs.Piece.{PieceView}

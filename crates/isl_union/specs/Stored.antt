@@ -1,4 +1,4 @@
--- How values are stored, which a model asks for: as the tuples of their parts.
+-- inner: how values are stored, which a model asks for: as the tuples of their parts.
 use Rattle.std.specs.Prelude.{List, refl}
 use Rattle.std.specs.Coded.{Coded, code_by, coded×, coded_list, coded_ℕ}
 use Rattle.isl_space.specs.Name.{Name}
@@ -15,5 +15,5 @@ kept_piece_code =
 
 abbrev pub kept_value_code : Coded KeptValue
 kept_value_code =
-    code_by (List Name × List KeptPiece) (coded× (coded_list (coded_list coded_ℕ)) (coded_list kept_piece_code)) (λ value. (value.params, value.pieces))
-    (λ parts. record { params = parts.0; pieces = parts.1 }) (λ _. refl)
+    code_by (List Name × List KeptPiece) (coded× (coded_list (coded_list coded_ℕ)) (coded_list kept_piece_code))
+    (λ value. (value.params, value.pieces)) (λ parts. record { params = parts.0; pieces = parts.1 }) (λ _. refl)

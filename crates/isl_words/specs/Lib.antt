@@ -4,3 +4,4 @@ pub mod Adding
 pub mod Options
 pub mod Table
 pub mod Taken
+pub use Rattle.isl_space.specs.Name

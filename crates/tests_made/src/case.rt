@@ -1,9 +1,9 @@
 //! Cases, as they are written: lines of a key and what belongs to it, with empty lines between the cases.
 
-use crate::rows::is_row;
+use crate::rows::{is_definition, is_row};
 use std::alloc::{AllocError, Global};
 
-/// What stands behind a key: any text, a number, numbers, a number and a text, or a row.
+/// What stands behind a key: any text, a number, numbers, a number and a text, a row, or the definition of a column.
 #[derive(Clone, Copy)]
 pub enum Form {
     Text,
@@ -11,6 +11,7 @@ pub enum Form {
     Numbers,
     Counted,
     Row,
+    Definition,
 }
 
 fn is_number(text: &str) -> bool {
@@ -26,6 +27,7 @@ fn has_form(text: &str, form: Form) -> bool {
             .split_once(' ')
             .is_some_and(|(count, _)| is_number(count)),
         Form::Row => is_row(text),
+        Form::Definition => is_definition(text),
     }
 }
 

@@ -1,6 +1,6 @@
-//! Rows, as they are written, and whether they may be handed to what works on systems.
+//! Rows and definitions, as they are written, and whether they may be handed to what works on systems.
 
-ghost use Rattle.std.specs.Prelude.{◌≡◌, All, true};
+ghost use Rattle.std.specs.Prelude.{◌≡◌, All, IfOk, IfSome, true};
 ghost use Rattle.isl_meter.specs.Gauge.{IsWithin};
 ghost use Rattle.isl_piece.specs.Row.{HasModulus, IsWellFormed, IsRowWithin};
 ghost use Rattle.isl_piece.specs.System.{IsSystemWithin};
@@ -22,15 +22,20 @@ fn kind_of(word: &str) -> Option<RowKind> {
 /// Whether the text is a row: a kind, and numbers behind it.
 pub(crate) fn is_row(text: &str) -> bool {
     let (word, rest) = text.split_once(' ').unwrap_or((text, ""));
-    if kind_of(word).is_none() || rest.is_empty() {
-        return false;
-    }
-    for word in rest.split(' ') {
-        if word.parse::<i128>().is_err() {
-            return false;
-        }
-    }
-    true
+    kind_of(word).is_some() && !rest.is_empty() && are_numbers(rest)
+}
+
+fn are_numbers(text: &str) -> bool {
+    text.split(' ').all(|word| word.parse::<i128>().is_ok())
+}
+
+/// Whether the text is a definition: numbers, of which the last one is positive.
+pub(crate) fn is_definition(text: &str) -> bool {
+    let last = text
+        .split(' ')
+        .last()
+        .and_then(|word| word.parse::<i128>().ok());
+    are_numbers(text) && last.is_some_and(|divisor| divisor > 0)
 }
 
 fn numbers_of(alloc: Global, text: &str) -> Result<Vec<Int>, AllocError> {
@@ -121,4 +126,81 @@ pub fn is_proper(system: &System, meter: &Meter) -> bool
     ensures { result ≡ true → IsSystemWithin meter.now system.now }
 {
     system.definitions.is_empty() && are_proper(system.rows.as_slice(), system.columns, meter)
+}
+
+// What a definition says: its coefficients, the constant, and what is divided by.
+#[derive(Drop)]
+struct Definition {
+    coefs: Vec<i128>,
+    constant: i128,
+    divisor: i128,
+}
+
+fn read_definition(alloc: Global, text: &str) -> Result<Definition, AllocError> {
+    let mut coefs = Vec::new(alloc);
+    for number in numbers_of(alloc, text)? {
+        coefs.push(number.get())?;
+    }
+    let divisor = coefs.pop().unwrap_or(0);
+    let constant = coefs.pop().unwrap_or(0);
+    Ok(Definition {
+        coefs,
+        constant,
+        divisor,
+    })
+}
+
+fn all_within(numbers: &[i128], meter: &Meter) -> bool
+    ensures { result ≡ true → All (IsWithin meter.now) numbers.now }
+{
+    numbers
+        .iter()
+        .all(|number| is_within(Int::new(*number), meter))
+}
+
+// Adds a column with the definition, where it is one over the system's columns, and answers whether it is.
+fn define(system: &mut System, definition: &Definition, meter: &Meter) -> Result<bool, AllocError>
+    requires { IsSystemWithin meter.now system.old }
+    ensures { IfOk result (λ _. IsSystemWithin meter.now system.new) }
+{
+    let coefs = definition.coefs.as_slice();
+    if coefs.len() != system.columns || definition.divisor <= 0 {
+        return Ok(false);
+    }
+    if !is_within(Int::new(definition.divisor), meter)
+        || !is_within(Int::new(definition.constant), meter)
+        || !all_within(coefs, meter)
+    {
+        return Ok(false);
+    }
+    system.define(coefs, definition.constant, definition.divisor)?;
+    Ok(true)
+}
+
+/// The system over so many free columns that has the definitions and the rows of the lines with these two keys. None where one of
+/// them does not fit, or has a number beyond the limit.
+pub fn system_of(
+    alloc: Global,
+    case: &str,
+    free: usize,
+    keys: (&str, &str),
+    meter: &Meter,
+) -> Result<Option<System>, AllocError>
+    ensures { IfOk result (λ system. IfSome system (IsSystemWithin meter.now)) }
+{
+    let (defined, row) = keys;
+    let mut system = System::new(alloc, free);
+    for line in case.lines() {
+        if let Some(text) = line.strip_prefix(defined) {
+            if !define(&mut system, &read_definition(alloc, text)?, meter)? {
+                return Ok(None);
+            }
+        }
+    }
+    let rows = rows_of(alloc, case, row)?;
+    if !are_proper(rows.as_slice(), system.columns, meter) {
+        return Ok(None);
+    }
+    system.rows = rows;
+    Ok(Some(system))
 }

@@ -6,7 +6,7 @@ use isl_io::{MemSink, MemSource, Source};
 use isl_session::run;
 use std::alloc::{AllocError, Global};
 use std::io;
-use tests_made::{Form, bytes, field, is_case, number, numbers, words};
+use tests_made::{Form, LongScript, bytes, field, is_case, long_script, number, numbers, words};
 
 /// What a run comes to: the status, what was written to both sinks, and whether the source has bytes left, where that is asked.
 #[derive(Debug, Drop, PartialEq)]
@@ -23,10 +23,17 @@ fn text(alloc: Global, bytes: &[u8]) -> Result<String, AllocError> {
     String::from_str(alloc, str::from_utf8(bytes).unwrap_or("(no text)"))
 }
 
+// The long script that a case begins with, and its answers.
+fn long_first(alloc: Global, case: &str) -> Result<LongScript, AllocError> {
+    long_script(alloc, field(case, "made ").unwrap_or(""))
+}
+
 fn wanted(alloc: Global, case: &str) -> Result<Outcome, AllocError> {
+    let mut out = long_first(alloc, case)?.answers;
+    out.push_str(text(alloc, &bytes(alloc, case, "out")?)?.as_str())?;
     Ok(Outcome {
         status: number(case, "status ", 0),
-        out: text(alloc, &bytes(alloc, case, "out")?)?,
+        out,
         err: text(alloc, &bytes(alloc, case, "err")?)?,
         unread: field(case, "unread").is_some(),
     })
@@ -43,7 +50,8 @@ fn sink(alloc: Global, case: &str, at_most: usize) -> Result<MemSink, AllocError
 fn found(alloc: Global, case: &str, at_most: usize) -> Result<Outcome, AllocError> {
     let words = words(alloc, case, "words", "iscc")?;
     let most = number(case, "reads ", ROOM).min(at_most).max(1);
-    let script = bytes(alloc, case, "script")?;
+    let mut script = long_first(alloc, case)?.script.into_bytes();
+    script.extend_from_slice(&bytes(alloc, case, "script")?)?;
     let mut src = MemSource::new(script, most, numbers(alloc, case, "fail-reads ")?);
     let mut out = sink(alloc, case, at_most)?;
     let mut err = MemSink::new(alloc, ROOM, ROOM, numbers(alloc, case, "fail-tells ")?)?;
@@ -69,10 +77,11 @@ fn is_same(rt: &impl Print, alloc: Global, case: &str, at_most: usize) -> io::Re
 }
 
 // The lines of a case.
-const FORMS: [(&str, Form); 20] = [
+const FORMS: [(&str, Form); 21] = [
     ("#", Form::Text),
     ("case ", Form::Text),
     ("words", Form::Text),
+    ("made ", Form::Text),
     ("script ", Form::Text),
     ("script-part ", Form::Text),
     ("script-times ", Form::Counted),

@@ -109,6 +109,47 @@ mod tests {
         Ok(())
     }
 
+    // Pieces, and behind each what was answered so far and what is held.
+    #[test]
+    #[tactic(auto, using(isl_words::proofs::WordsLemmas::none_numbered))]
+    fn sessions_count_and_keep_their_room(rt: HostRuntime) -> Result<(), Fail> {
+        let alloc = rt.alloc();
+        let plain = Session::new(alloc, Options::new(8, 1, Vec::new(alloc), false));
+        assert_eq!(rt; (plain.room(), plain.counts().statements), (0, 0));
+        let options = Options::new(8, 1, Vec::new(alloc), false);
+        let mut session = Session::with_room(alloc, options, 12)?;
+        let mut text = Vec::new(alloc);
+        for (piece, statements, held) in [
+            ("{ };;a := ", 2, 5),
+            ("{ [5] }", 2, 12),
+            (";a;", 4, 0),
+            ("a # a ; that", 4, 12),
+            (" ends none", 4, 22),
+            ("\n;", 5, 0),
+        ] {
+            assert_eq!(rt;
+                session.feed(piece.as_bytes(), &mut text),
+                Ok(()),
+                "{piece}"
+            );
+            let counts = session.counts();
+            assert_eq!(rt;
+                (counts.statements, session.held()),
+                (statements, held),
+                "{piece}"
+            );
+            assert_eq!(rt; (counts.trues, counts.elements), (0, 0), "{piece}");
+            assert!(rt; session.room() >= 12.max(session.held()), "{piece}");
+        }
+        assert!(rt; session.feed(b"x;{ };", &mut text).is_err());
+        assert_eq!(rt;
+            session.counts().statements,
+            5,
+            "a refused statement does not count"
+        );
+        Ok(())
+    }
+
     #[test]
     #[tactic(auto, using(isl_words::proofs::WordsLemmas::none_numbered))]
     fn sessions_refuse(rt: HostRuntime) -> Result<(), Fail> {

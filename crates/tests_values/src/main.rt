@@ -1,58 +1,37 @@
-//! Values of pieces with any rows and nested tuples, and how they print. The cases stand in the file `stdin`, whose head says how
-//! they are written. What differs is printed, and how many cases there were.
+//! Values of pieces with any rows and nested tuples, what operations make of them, and how they print. The cases stand in the file
+//! `stdin`, whose head says how they are written. What differs is printed, and how many cases there were.
 #![tactic(auto)]
 
 ghost use Rattle.std.specs.Prelude.{All, IfOk, IfSome};
-ghost use Rattle.isl_space.specs.Names.{IsParameterList};
 ghost use Rattle.isl_union.specs.Piece.{IsPieceOf};
 
+mod operation;
+mod params;
 mod spaces;
 
+use crate::operation::worked_out;
+use crate::params::params_of;
 use crate::spaces::space_of;
-use isl_meter::Meter;
+use isl_meter::{Cut, Meter};
 use isl_piece::{Piece, System};
 use isl_print::text_of;
-use isl_space::{Name, Params, SpaceFault};
-use isl_union::Value;
+use isl_space::{Params, SpaceFault};
+use isl_union::{OpFault, Value};
 use std::alloc::Global;
 use std::io;
-use tests_made::{Form, are_proper, field, is_case, rows_of};
+use tests_made::{Form, are_proper, field, is_case, number, rows_of};
 
 // The lines of a case.
-const FORMS: [(&str, Form); 6] = [
+const FORMS: [(&str, Form); 8] = [
     ("#", Form::Text),
     ("case ", Form::Text),
     ("params ", Form::Text),
     ("piece ", Form::Text),
     ("row ", Form::Row),
+    ("operation ", Form::Text),
+    ("budget ", Form::Number),
     ("want ", Form::Text),
 ];
-
-// The list of these parameters, where it is one of four.
-fn params_of(alloc: Global, names: &str) -> Result<Option<Params>, SpaceFault>
-    ensures { IfOk result (λ made. IfSome made IsParameterList) }
-{
-    match names {
-        "" => Ok(Some(Params::new(alloc, Vec::new(alloc))?)),
-        "n" => {
-            let list = vec![in alloc; Name::new(alloc, "n")?]?;
-            Ok(Some(Params::new(alloc, list)?))
-        }
-        "n, m" => {
-            let list = vec![in alloc; Name::new(alloc, "n")?, Name::new(alloc, "m")?]?;
-            Ok(Some(Params::new(alloc, list)?))
-        }
-        "i0, i0', o1" => {
-            let list = vec![in alloc;
-                Name::new(alloc, "i0")?,
-                Name::new(alloc, "i0'")?,
-                Name::new(alloc, "o1")?,
-            ]?;
-            Ok(Some(Params::new(alloc, list)?))
-        }
-        _ => Ok(None),
-    }
-}
 
 // The piece that is written so: its space, and then lines of rows. `None` where it is not well written, or a row holds nowhere.
 fn piece_of(alloc: Global, params: &Params, written: &str) -> Result<Option<Piece>, SpaceFault>
@@ -89,22 +68,39 @@ fn pieces_of(alloc: Global, params: &Params, case: &str) -> Result<Option<Vec<Pi
     Ok(Some(pieces))
 }
 
-// The value that a case writes.
-fn value_of(alloc: Global, case: &str) -> Result<Option<Value>, SpaceFault> {
-    let Some(params) = params_of(alloc, field(case, "params ").unwrap_or(""))? else {
+// The value that a part of a case writes.
+fn value_of(alloc: Global, part: &str) -> Result<Option<Value>, SpaceFault> {
+    let Some(params) = params_of(alloc, field(part, "params ").unwrap_or(""))? else {
         return Ok(None);
     };
-    match pieces_of(alloc, &params, case)? {
+    match pieces_of(alloc, &params, part)? {
         Some(pieces) => Ok(Some(Value::from_normal(params, pieces))),
         None => Ok(None),
     }
 }
 
-// How the value of a case prints.
-fn printed(alloc: Global, case: &str) -> Result<Option<String>, SpaceFault> {
-    match value_of(alloc, case)? {
-        Some(value) => Ok(Some(text_of(alloc, &value)?)),
-        None => Ok(None),
+// The value of a case: the one that it writes, or what its operation makes of that one and the one behind it.
+fn result_of(alloc: Global, case: &str) -> Result<Option<Value>, OpFault> {
+    let Some((first, second)) = case.split_once("\noperation ") else {
+        return Ok(value_of(alloc, case)?);
+    };
+    let budget = number(case, "budget ", 1000).clamp(1, 1000) as u64;
+    let mut meter = Meter::new(127, budget);
+    let name = second.lines().next().unwrap_or("");
+    match (value_of(alloc, first)?, value_of(alloc, second)?) {
+        (Some(value), Some(other)) => worked_out(alloc, name, &value, &other, &mut meter),
+        _ => Ok(None),
+    }
+}
+
+// How the value of a case prints, or why there is none.
+fn printed(alloc: Global, case: &str) -> Result<Option<String>, OpFault> {
+    match result_of(alloc, case) {
+        Ok(Some(value)) => Ok(Some(text_of(alloc, &value)?)),
+        Ok(None) => Ok(None),
+        Err(OpFault::TooWide) => Ok(Some(String::from_str(alloc, "too wide")?)),
+        Err(OpFault::Cut(Cut::Budget)) => Ok(Some(String::from_str(alloc, "budget")?)),
+        Err(fault) => Err(fault),
     }
 }
 

@@ -1,23 +1,26 @@
-use Rattle.std.proofs.Common.{◌≡◌, ◌∷◌, ◌++◌, ◌<◌, [], refl, arith, get_or, length, true, List, ℤ}
+use Rattle.std.proofs.Common.{◌≡◌, ◌∷◌, ◌++◌, ◌<◌, ◌-◌, [], refl, arith, get_or, length, true, List, ℤ}
 use Rattle.std.proofs.lemmas.List.{nil_from_length}
 use Rattle.isl_meter.specs.Gauge.{IsCharged}
-use Rattle.isl_meter.proofs.CutLemmas.{IsCharged_refl}
+use Rattle.isl_meter.proofs.CutLemmas.{IsCharged_refl, IsCharged_trans}
 use Rattle.isl_elim.specs.Others.{others_of}
-use Rattle.isl_elim.specs.Parts.{ArePartsOf, HoldsPart}
+use Rattle.isl_column.specs.Parts.{AreParts, ArePartsOf, HoldsPart}
 use Rattle.isl_elim.proofs.OthersLaws.{among, among_at}
-use Rattle.isl_elim.proofs.AlongLaws.{along_none, along_after, pushed_all}
+use Rattle.isl_elim.proofs.AlongLaws.{along_none, along_after, columns_after, pushed_all}
+use Rattle.isl_elim.proofs.PartsLaws.{parts_after}
 use Rattle.isl_elim.proofs.along.+eliminate_all.Goals as goal
 
 pub push_parts-returns : goal.push_parts-returns
 push_parts-returns t c =
     let g = c.args.meter.now in
     let h = c.loop-parts.meter in
+    let k = c.next.new.meter in
     let none : (point : List ℤ) → length point ≡ c.args.columns → ¬ HoldsPart c.loop-parts.parts point = grind arith in
-    let same : c.next.new._meter ≡ h = grind arith in
+    let charged : IsCharged h k = grind arith in
     record {
       exact = (
-        pushed_all g h c.args.columns c.args.cols.now c.args.parts c.loop-parts.parts c.args.lists.now.items c.loop-parts.lists.items c.loop-parts.invariant none,
-        rw same c.loop-parts.invariant.charged,
+        pushed_all g h c.args.columns c.args.cols.now c.args.parts c.loop-parts.parts c.args.lists.now.items c.loop-parts.lists.items
+            c.loop-parts.invariant none,
+        IsCharged_trans g h k c.loop-parts.invariant.charged charged,
       );
     }
 
@@ -27,7 +30,13 @@ push_without-returns-then-is_empty t c =
     let length : length c.args.cols.now ≡ 0 = grind arith in
     let none = nil_from_length c.args.cols.now length in
     let pushed : c.push.new.self.items ≡ c.args.lists.now.items ++ c.args.rows ∷ [] = grind arith in
-    record { exact = (along_none g c.args.columns c.args.cols.now c.args.rows c.args.lists.now.items c.push.new.self.items none c.requires.rows c.requires.normal pushed, IsCharged_refl g g refl) }
+    record {
+      exact = (
+        along_none g c.args.columns c.args.cols.now c.args.rows c.args.lists.now.items c.push.new.self.items none c.requires.rows
+            c.requires.normal pushed,
+        IsCharged_refl g g refl,
+      );
+    }
 
 pub push_without-returns : goal.push_without-returns
 push_without-returns t c =
@@ -44,6 +53,23 @@ push_without-returns t c =
     let left : c.in_ok-left.left.items ≡ others_of col cols = grind arith in
     let slice : c.as_slice-3.result.now ≡ others_of col cols = grind arith in
     record {
-      exact = along_after g h c.push_parts.new.meter c.args.columns col cols c.args.rows c.in_ok-parts.parts c.args.lists.now.items c.push_parts.new.lists.items c.push_parts.result c.requires.distinct among low charged are
+      exact = along_after g h c.push_parts.new.meter c.args.columns col cols c.args.rows c.in_ok-parts.parts c.args.lists.now.items
+          c.push_parts.new.lists.items c.push_parts.result c.requires.distinct among low charged are
           (rw slice at c.push_parts.ensures.exact);
     }
+
+pub push_without-push_parts-requires : goal.push_without-push_parts-requires
+push_without-push_parts-requires t c =
+    let g = c.args.meter.now in
+    let h = c.of.new.meter in
+    let cols = c.args.cols.now in
+    let at = c.cheapest-at.result in
+    let col = get_or cols at 0 in
+    let inside : at < length cols = grind arith in
+    let low = c.requires.cols_in at 0 inside in
+    let are : ArePartsOf g c.args.columns col c.args.rows c.in_ok-parts.parts = grind arith in
+    let parts : AreParts h (c.args.columns - 1) c.in_ok-parts.parts =
+    parts_after g h c.args.columns col c.args.rows c.in_ok-parts.parts c.in_ok-parts.ensures.exact.1 are in
+    let slice : c.as_slice-3.result.now ≡ others_of col cols = grind arith in
+    let left = columns_after c.args.columns col cols c.as_slice-3.result.now slice c.requires.distinct low c.requires.cols_in in
+    (grind arith, (parts, left))

@@ -1,5 +1,5 @@
 use Rattle.std.proofs.Common.{◌+◌, ◌*◌}
-use Rattle.isl_elim.specs.Parts.{most_parts}
+use Rattle.isl_column.specs.Parts.{most_parts}
 use Rattle.isl_elim.proofs.AlongLaws.{ArePushed}
 use Rattle.isl_elim.proofs.along.+eliminate_all.Given as goal
 

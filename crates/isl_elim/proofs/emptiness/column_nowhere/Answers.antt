@@ -1,19 +1,73 @@
-use Rattle.std.proofs.Common.{◌≡◌, List, ℤ, length, MatchOption, arith}
+use Rattle.std.proofs.Common.{◌≡◌, ◌≢◌, ◌∙◌, arith}
 use Rattle.std.specs.Prelude.{is_none}
+use Rattle.isl_math.proofs.Ring.{linear}
 use Rattle.isl_meter.specs.Gauge.{IsCharged}
-use Rattle.isl_elim.specs.Parts.{ArePartsOf, IsNextPart, HoldsPart}
+use Rattle.isl_meter.proofs.CutLemmas.{IsCharged_trans}
+use Rattle.isl_column.specs.Parts.{ArePartsOf, IsFoundIn}
 use Rattle.isl_elim.proofs.EmptinessLaws.{column_found}
+use Rattle.isl_elim.proofs.PartsLaws.{charged_bits, parts_after, units_then}
+use Rattle.isl_meter.specs.declared.Cut.TheVariants.{Overflow}
 use Rattle.isl_elim.proofs.emptiness.column_nowhere.Goals as goal
 
 pub returns-clause-exact : goal.returns-clause-exact
 returns-clause-exact c =
     let g = c.args.meter.now in
     let h = c.of.new.meter in
+    let k = c.next.new.meter in
     let rows = c.args.rows.now in
     let parts = c.in_ok-parts.parts in
     let are : ArePartsOf g 1 0 rows parts = grind arith in
     let charged : IsCharged g h = grind arith in
-    let same : c.next.new._meter ≡ h = grind arith in
-    let found : MatchOption c.in_ok-next.field-0 ((point : List ℤ) → length point ≡ 0 → ¬ HoldsPart parts point) (λ left. IsNextPart h 0 parts left c.next.new.self) = grind arith in
+    let more : IsCharged h k = c.in_ok-next.ensures.exact.1 in
+    let found : IsFoundIn h 0 parts c.in_ok-next.field-0 c.next.new.self = c.in_ok-next.ensures.exact.0 in
     let none : c.is_none.result ≡ is_none c.in_ok-next.field-0 = grind arith in
-    (rw none (column_found g h rows parts c.next.new.self c.in_ok-next.field-0 are found), rw same charged)
+    (rw none (column_found g h rows parts c.next.new.self c.in_ok-next.field-0 are found), IsCharged_trans g h k charged more)
+
+pub returns-clause-units : goal.returns-clause-units
+returns-clause-units c =
+    let rows_are : c.as_slice.result.now ≡ c.args.rows.now = grind arith in
+    units_then c.args.meter.now c.of.new.meter c.next.new.meter c.in_ok-parts.parts c.args.rows.now c.as_slice.result.now 0 rows_are
+    c.in_ok-parts.ensures.units c.in_ok-next.ensures.units
+
+pub returns-in_err-next-clause-units : goal.returns-in_err-next-clause-units
+returns-in_err-next-clause-units c =
+    let rows_are : c.as_slice.result.now ≡ c.args.rows.now = grind arith in
+    units_then c.args.meter.now c.of.new.meter c.next.new.meter c.in_ok-parts.parts c.args.rows.now c.as_slice.result.now 0 rows_are
+    c.in_ok-parts.ensures.units c.in_err-next.ensures.units
+
+pub returns-clause-equality : goal.returns-clause-equality
+returns-clause-equality c = λ q.
+    let rows_are : c.as_slice.result.now ≡ c.args.rows.now = grind arith in
+    let first = (rw rows_are at c.in_ok-parts.ensures.equality) q in
+    let same = first.0 in
+    let none = first.1 in
+    let later = c.in_ok-next.ensures.units in
+    let least = c.in_ok-next.ensures.exact.1.units in
+    omega (arith, linear)
+
+pub returns-in_err-next-clause-equality : goal.returns-in_err-next-clause-equality
+returns-in_err-next-clause-equality c = λ q.
+    let rows_are : c.as_slice.result.now ≡ c.args.rows.now = grind arith in
+    let first = (rw rows_are at c.in_ok-parts.ensures.equality) q in
+    let same = first.0 in
+    let none = first.1 in
+    let later = c.in_err-next.ensures.units in
+    let least = c.in_err-next.ensures.exact.kept.units in
+    omega (arith, linear)
+
+pub returns-in_err-next-clause-magnitude : goal.returns-in_err-next-clause-magnitude
+returns-in_err-next-clause-magnitude c = λ bits small one.
+    let g = c.args.meter.now in
+    let h = c.of.new.meter in
+    let rows_are : c.as_slice.result.now ≡ c.args.rows.now = grind arith in
+    let parts = (rw rows_are at c.in_ok-parts.ensures.magnitude) bits small one in
+    let fact : c.in_err-next.field-0.0 ≢ Overflow =
+    c.in_err-next.ensures.magnitude (charged_bits g h c.in_ok-parts.ensures.exact.1 ∙ bits) parts in
+    grind arith
+
+pub next-requires : goal.next-requires
+next-requires c =
+    let g = c.args.meter.now in
+    let h = c.of.new.meter in
+    let are : ArePartsOf g 1 0 c.args.rows.now c.in_ok-parts.parts = grind arith in
+    record { parts = parts_after g h 1 0 c.args.rows.now c.in_ok-parts.parts c.in_ok-parts.ensures.exact.1 are }

@@ -1,4 +1,4 @@
-use Rattle.std.proofs.Common.{◌≡◌, arith}
+use Rattle.std.proofs.Common.{◌≡◌, [], arith}
 use Rattle.isl_meter.specs.Gauge.{IsCharged, IsCutBy}
 use Rattle.isl_piece.specs.System.{HoldsSystem, free_columns}
 use Rattle.isl_elim.specs.Emptiness.{HoldNowhere}
@@ -7,13 +7,14 @@ use Rattle.isl_elim.specs.Sample.{IsNowhere}
 use Rattle.isl_elim.proofs.OpenedLaws.{decided, opened_nowhere, plain_nowhere}
 use Rattle.isl_elim.proofs.emptiness.is_empty.Goals as goal
 
-pub returns-then-system-eq1-clause-exact : goal.returns-then-system-eq1-clause-exact
-returns-then-system-eq1-clause-exact c =
+pub returns-then-is_empty-clause-exact : goal.returns-then-is_empty-clause-exact
+returns-then-is_empty-clause-exact c =
     let g = c.args.meter.now in
     let h = c.column_nowhere.new.meter in
     let system = c.args.system.now in
     let one : system.columns ≡ 1 = grind arith in
-    decided (HoldNowhere 1 system.rows) (IsNowhere (free_columns system) (HoldsSystem system)) (IsCharged g h) (IsCutBy g h) c.column_nowhere.result (plain_nowhere system 1 c.requires.plain one) c.column_nowhere.ensures.exact
+    let plain : system.definitions ≡ [] = grind arith in
+    decided (HoldNowhere 1 system.rows) (IsNowhere (free_columns system) (HoldsSystem system)) (IsCharged g h) (IsCutBy g h) c.column_nowhere.result (plain_nowhere system 1 plain one) c.column_nowhere.ensures.exact
 
 pub returns-in-Some-clause-exact : goal.returns-in-Some-clause-exact
 returns-in-Some-clause-exact c =

@@ -1,46 +1,132 @@
-use Rattle.std.proofs.Common.{◌≡◌, ◌-◌, [], map, length, get_or, arith, Vec, Global}
-use Rattle.isl_piece.specs.declared.system.System.{System}
-use Rattle.isl_piece.specs.System.{HoldRows}
-use Rattle.isl_elim.specs.Elimination.{plain_system, AddsAlong, IsProjection, IsProjectionAlong}
-use Rattle.isl_elim.proofs.ProjectionLaws.{one_along, systems_along, if_ok, list_of_one}
+use Rattle.std.proofs.Common.{◌≡◌, ◌-◌, ◌+◌, ◌∙◌, map, length, arith}
+use Rattle.isl_column.specs.Exact.{exact_rows}
+use Rattle.isl_column.specs.Solved.{solved_rows}
+use Rattle.isl_piece.specs.System.{free_columns}
+use Rattle.isl_elim.specs.Dependents.{with_dependents, kept_definitions}
+use Rattle.isl_elim.specs.Elimination.{system_of}
+use Rattle.isl_elim.proofs.KeptLaws.{gone_distinct, gone_inside}
+use Rattle.isl_elim.proofs.ProjectionLaws.{systems_left, gone_one, low_one, left_of_one}
 use Rattle.isl_elim.proofs.projection.eliminate_all.Goals as goal
 
-pub returns-then-cols-eq1-clause-projection : goal.returns-then-cols-eq1-clause-projection
-returns-then-cols-eq1-clause-projection c =
-    let system = c.args.system.now in
+pub lists_left-requires-clause-distinct : goal.lists_left-requires-clause-distinct
+lists_left-requires-clause-distinct c =
+    let s = c.args.system.now in
     let cols = c.args.cols.now in
-    let count : length cols ≡ 1 = grind arith in
-    let one = list_of_one cols count in
-    let low = c.requires.cols_in 0 0 (omega (arith, count)) in
-    if_ok (λ (systems : Vec System Global). IsProjection system (get_or cols 0 0) systems.items) (λ (systems : Vec System Global). IsProjectionAlong system cols systems.items) c.eliminate.result
-    (λ systems p. one_along system (get_or cols 0 0) cols systems.items one low p) c.eliminate.ensures.projection
+    let gone : c.as_slice-2.result.now ≡ with_dependents s cols = grind arith in
+    rw gone (gone_distinct (free_columns s) cols s.definitions c.requires.distinct c.requires.cols_in)
 
-pub returns-then-cols-eq1-clause-exact_column : goal.returns-then-cols-eq1-clause-exact_column
-returns-then-cols-eq1-clause-exact_column c = λ col e exact none. (rw e at c.eliminate.ensures.exact_column) exact none
+pub lists_left-requires-clause-gone_in : goal.lists_left-requires-clause-gone_in
+lists_left-requires-clause-gone_in c =
+    let s = c.args.system.now in
+    let cols = c.args.cols.now in
+    let gone : c.as_slice-2.result.now ≡ with_dependents s cols = grind arith in
+    let count = c.requires.well_formed.count in
+    let sum : free_columns s + length s.definitions ≡ s.columns = omega (arith, count) in
+    rw gone (gone_inside (free_columns s) s.columns cols s.definitions sum c.requires.cols_in)
 
 pub returns-clause-projection : goal.returns-clause-projection
 returns-clause-projection c =
-    let system = c.args.system.now in
+    let g = c.args.meter.now in
+    let s = c.args.system.now in
     let cols = c.args.cols.now in
-    let lists = c.in_ok-lists.lists.items in
-    let are : c.in_ok-systems.systems.items ≡ map (plain_system (system.columns - length cols)) lists = grind arith in
-    let added : AddsAlong c.args.meter.now system.columns cols (HoldRows system.rows) [] lists = grind arith in
-    rw are (systems_along c.args.meter.now system cols lists c.requires.plain added).0
+    let gone : c.as_slice-2.result.now ≡ with_dependents s cols = grind arith in
+    let are : c.in_ok-systems.systems.items ≡ map (system_of c.in_ok-left.left.columns c.in_ok-left.left.definitions) c.in_ok-lists.lists.items = grind arith in
+    let kept : c.in_ok-left.left.definitions ≡ kept_definitions s cols = grind arith in
+    let columns : c.in_ok-left.left.columns ≡ s.columns - length (with_dependents s cols) = grind arith in
+    let added = (rw gone at c.in_ok-lists.ensures.exact).0 in
+    (systems_left g s cols c.in_ok-left.left c.in_ok-lists.lists.items c.in_ok-systems.systems.items c.requires.well_formed c.requires.distinct c.requires.cols_in kept columns c.in_ok-left.ensures.within added are).projection
+
+pub returns-clause-definitions : goal.returns-clause-definitions
+returns-clause-definitions c =
+    let g = c.args.meter.now in
+    let s = c.args.system.now in
+    let cols = c.args.cols.now in
+    let gone : c.as_slice-2.result.now ≡ with_dependents s cols = grind arith in
+    let are : c.in_ok-systems.systems.items ≡ map (system_of c.in_ok-left.left.columns c.in_ok-left.left.definitions) c.in_ok-lists.lists.items = grind arith in
+    let kept : c.in_ok-left.left.definitions ≡ kept_definitions s cols = grind arith in
+    let columns : c.in_ok-left.left.columns ≡ s.columns - length (with_dependents s cols) = grind arith in
+    let added = (rw gone at c.in_ok-lists.ensures.exact).0 in
+    (systems_left g s cols c.in_ok-left.left c.in_ok-lists.lists.items c.in_ok-systems.systems.items c.requires.well_formed c.requires.distinct c.requires.cols_in kept columns c.in_ok-left.ensures.within added are).definitions
 
 pub returns-clause-within : goal.returns-clause-within
 returns-clause-within c =
-    let system = c.args.system.now in
+    let g = c.args.meter.now in
+    let s = c.args.system.now in
     let cols = c.args.cols.now in
-    let lists = c.in_ok-lists.lists.items in
-    let are : c.in_ok-systems.systems.items ≡ map (plain_system (system.columns - length cols)) lists = grind arith in
-    let added : AddsAlong c.args.meter.now system.columns cols (HoldRows system.rows) [] lists = grind arith in
-    rw are (systems_along c.args.meter.now system cols lists c.requires.plain added).1
+    let gone : c.as_slice-2.result.now ≡ with_dependents s cols = grind arith in
+    let are : c.in_ok-systems.systems.items ≡ map (system_of c.in_ok-left.left.columns c.in_ok-left.left.definitions) c.in_ok-lists.lists.items = grind arith in
+    let kept : c.in_ok-left.left.definitions ≡ kept_definitions s cols = grind arith in
+    let columns : c.in_ok-left.left.columns ≡ s.columns - length (with_dependents s cols) = grind arith in
+    let added = (rw gone at c.in_ok-lists.ensures.exact).0 in
+    (systems_left g s cols c.in_ok-left.left c.in_ok-lists.lists.items c.in_ok-systems.systems.items c.requires.well_formed c.requires.distinct c.requires.cols_in kept columns c.in_ok-left.ensures.within added are).within
 
 pub returns-clause-normal : goal.returns-clause-normal
 returns-clause-normal c =
-    let system = c.args.system.now in
+    let g = c.args.meter.now in
+    let s = c.args.system.now in
     let cols = c.args.cols.now in
-    let lists = c.in_ok-lists.lists.items in
-    let are : c.in_ok-systems.systems.items ≡ map (plain_system (system.columns - length cols)) lists = grind arith in
-    let added : AddsAlong c.args.meter.now system.columns cols (HoldRows system.rows) [] lists = grind arith in
-    rw are (systems_along c.args.meter.now system cols lists c.requires.plain added).2
+    let gone : c.as_slice-2.result.now ≡ with_dependents s cols = grind arith in
+    let are : c.in_ok-systems.systems.items ≡ map (system_of c.in_ok-left.left.columns c.in_ok-left.left.definitions) c.in_ok-lists.lists.items = grind arith in
+    let kept : c.in_ok-left.left.definitions ≡ kept_definitions s cols = grind arith in
+    let columns : c.in_ok-left.left.columns ≡ s.columns - length (with_dependents s cols) = grind arith in
+    let added = (rw gone at c.in_ok-lists.ensures.exact).0 in
+    (systems_left g s cols c.in_ok-left.left c.in_ok-lists.lists.items c.in_ok-systems.systems.items c.requires.well_formed c.requires.distinct c.requires.cols_in kept columns c.in_ok-left.ensures.within added are).normal
+
+pub returns-clause-exact_column : goal.returns-clause-exact_column
+returns-clause-exact_column c = λ col e none exact no.
+    let s = c.args.system.now in
+    let cols = c.args.cols.now in
+    let gone : c.as_slice-2.result.now ≡ with_dependents s cols = grind arith in
+    let are : c.in_ok-systems.systems.items ≡ map (system_of c.in_ok-left.left.columns c.in_ok-left.left.definitions) c.in_ok-lists.lists.items = grind arith in
+    let kept : c.in_ok-left.left.definitions ≡ kept_definitions s cols = grind arith in
+    let columns : c.in_ok-left.left.columns ≡ s.columns - length (with_dependents s cols) = grind arith in
+    let one = gone_one s cols col e none in
+    let lists = c.in_ok-lists.ensures.exact_column col (gone ∙ one) (low_one s cols col e c.requires.cols_in) exact no in
+    left_of_one s cols col (exact_rows s.rows col) c.in_ok-left.left c.in_ok-lists.lists.items c.in_ok-systems.systems.items one kept columns are lists
+
+pub returns-clause-solved_column : goal.returns-clause-solved_column
+returns-clause-solved_column c = λ col e none equality.
+    let s = c.args.system.now in
+    let cols = c.args.cols.now in
+    let gone : c.as_slice-2.result.now ≡ with_dependents s cols = grind arith in
+    let are : c.in_ok-systems.systems.items ≡ map (system_of c.in_ok-left.left.columns c.in_ok-left.left.definitions) c.in_ok-lists.lists.items = grind arith in
+    let kept : c.in_ok-left.left.definitions ≡ kept_definitions s cols = grind arith in
+    let columns : c.in_ok-left.left.columns ≡ s.columns - length (with_dependents s cols) = grind arith in
+    let one = gone_one s cols col e none in
+    let lists = c.in_ok-lists.ensures.solved_column col (gone ∙ one) (low_one s cols col e c.requires.cols_in) equality in
+    left_of_one s cols col (solved_rows s.rows col) c.in_ok-left.left c.in_ok-lists.lists.items c.in_ok-systems.systems.items one kept columns are lists
+
+pub returns-in_err-lists-clause-units : goal.returns-in_err-lists-clause-units
+returns-in_err-lists-clause-units c = λ col e none.
+    let s = c.args.system.now in
+    let cols = c.args.cols.now in
+    let gone : c.as_slice-2.result.now ≡ with_dependents s cols = grind arith in
+    c.lists_left.ensures.units col (gone ∙ gone_one s cols col e none) (low_one s cols col e c.requires.cols_in)
+
+pub returns-in_err-systems-clause-units : goal.returns-in_err-systems-clause-units
+returns-in_err-systems-clause-units c = λ col e none.
+    let s = c.args.system.now in
+    let cols = c.args.cols.now in
+    let gone : c.as_slice-2.result.now ≡ with_dependents s cols = grind arith in
+    c.lists_left.ensures.units col (gone ∙ gone_one s cols col e none) (low_one s cols col e c.requires.cols_in)
+
+pub returns-in_err-systems-clause-equality : goal.returns-in_err-systems-clause-equality
+returns-in_err-systems-clause-equality c = λ col e none.
+    let s = c.args.system.now in
+    let cols = c.args.cols.now in
+    let gone : c.as_slice-2.result.now ≡ with_dependents s cols = grind arith in
+    c.lists_left.ensures.equality col (gone ∙ gone_one s cols col e none) (low_one s cols col e c.requires.cols_in)
+
+pub returns-clause-units : goal.returns-clause-units
+returns-clause-units c = λ col e none.
+    let s = c.args.system.now in
+    let cols = c.args.cols.now in
+    let gone : c.as_slice-2.result.now ≡ with_dependents s cols = grind arith in
+    c.lists_left.ensures.units col (gone ∙ gone_one s cols col e none) (low_one s cols col e c.requires.cols_in)
+
+pub returns-clause-equality : goal.returns-clause-equality
+returns-clause-equality c = λ col e none.
+    let s = c.args.system.now in
+    let cols = c.args.cols.now in
+    let gone : c.as_slice-2.result.now ≡ with_dependents s cols = grind arith in
+    c.lists_left.ensures.equality col (gone ∙ gone_one s cols col e none) (low_one s cols col e c.requires.cols_in)

@@ -1,5 +1,5 @@
 use Rattle.std.proofs.Common.{◌+◌, ◌*◌}
-use Rattle.isl_elim.specs.Parts.{most_parts}
+use Rattle.isl_column.specs.Parts.{most_parts}
 use Rattle.isl_elim.proofs.EmptinessLaws.{IsSoFar}
 use Rattle.isl_elim.proofs.sample.+sample.Given as goal
 

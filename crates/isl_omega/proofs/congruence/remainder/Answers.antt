@@ -1,7 +1,7 @@
 use Rattle.std.proofs.Common.{◌≡◌, pos, neg_ℤ, arith}
 use Rattle.isl_math.specs.Divide.{floor_div}
 use Rattle.isl_piece.specs.Row.{coef_at}
-use Rattle.isl_omega.specs.Combine.{combination}
+use Rattle.isl_piece.specs.Combine.{combination}
 use Rattle.isl_omega.specs.Congruence.{reduced_row}
 use Rattle.isl_omega.proofs.ReduceLemmas.{IsRemainderRow, remainder_row}
 use Rattle.isl_omega.proofs.congruence.remainder.Goals as goal

@@ -1,5 +1,5 @@
 use Rattle.std.proofs.Common.{◌≡◌, pos, arith}
-use Rattle.isl_omega.specs.Combine.{combination}
+use Rattle.isl_piece.specs.Combine.{combination}
 use Rattle.isl_omega.specs.Congruence.{reduced_row}
 use Rattle.isl_omega.proofs.ReduceLemmas.{scaled_positive, scaled_row}
 use Rattle.isl_omega.proofs.congruence.scaled_copy.Goals as goal

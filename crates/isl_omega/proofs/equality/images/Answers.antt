@@ -1,8 +1,9 @@
-use Rattle.std.proofs.Common.{◌≡◌, ◌<◌, ◌++◌, ◌∷◌, [], length, arith}
+use Rattle.std.proofs.Common.{◌≡◌, ◌<◌, ◌++◌, ◌∷◌, [], length, refl, arith}
 use Rattle.std.proofs.lemmas.Grind.{common_steps}
-use Rattle.std.proofs.lemmas.List.Elements.{all_zip_more, All-push}
+use Rattle.std.proofs.lemmas.List.Elements.{All-push}
 use Rattle.isl_piece.specs.Row.{IsRowWithin}
-use Rattle.isl_omega.specs.Equality.{IsImage}
+use Rattle.isl_omega.specs.Equality.{image_of}
+use Rattle.isl_omega.proofs.ImageLemmas.{images_more}
 use Rattle.isl_omega.proofs.equality.images.Goals as goal
 
 pub loop-row-preserved : goal.loop-row-preserved
@@ -10,10 +11,10 @@ loop-row-preserved c =
     let fixed = c.args.fixed.now in
     let short = c.in_ok-image.field-0 in
     let inside : c.loop-row.row-index < length c.args.rows.now = grind (arith, common_steps) in
-    let is : IsImage fixed c.args.col c.row-item.result short = grind arith in
+    let is : short ≡ image_of fixed c.args.col c.row-item.result = grind arith in
     let within : IsRowWithin c.args.meter.now short = grind arith in
-    let pushed : c.push.new.self ≡ c.loop-row.short ++ short ∷ [] = grind arith in (
-      rw pushed (all_zip_more (IsImage fixed c.args.col) c.args.rows.now c.loop-row.short c.loop-row.row-index c.row-item.result short inside c.row-item.is c.loop-row.invariant.0 is),
+    let pushed : c.push-in-loop-row.new.self ≡ c.loop-row.short ++ short ∷ [] = grind arith in (
+      rw (pushed, is, images_more fixed c.args.col c.args.rows.now c.loop-row.row-index c.row-item.result inside c.row-item.is, c.loop-row.invariant.0) refl,
       rw pushed (All-push (IsRowWithin c.args.meter.now) c.loop-row.short short c.loop-row.invariant.1 within),
       grind arith,
     )

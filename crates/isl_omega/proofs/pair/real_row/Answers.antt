@@ -1,12 +1,12 @@
 use Rattle.std.proofs.Common.{◌≡◌, neg_ℤ, arith, ◌^◌, lit<, lit≤}
 use Rattle.isl_math.specs.Divide.{floor_div}
 use Rattle.isl_piece.specs.Row.{coef_at}
-use Rattle.isl_omega.specs.Combine.{combination}
+use Rattle.isl_piece.specs.Combine.{combination}
 use Rattle.isl_omega.proofs.PairLemmas.{real_row_is}
 use Rattle.std.proofs.lemmas.Result.{err_from_is_err_and}
 use Rattle.isl_math.proofs.DivideLaws.{gcd_positive}
 use Rattle.isl_math.proofs.OrderLaws.{positive_not_zero}
-use Rattle.isl_omega.proofs.SmallLemmas.{combination_up_to}
+use Rattle.isl_piece.proofs.CombineLaws.{combination_up_to}
 use Rattle.isl_omega.proofs.SmallPairs.{real_up_to}
 use Rattle.isl_omega.proofs.pair.real_row.Goals as goal
 

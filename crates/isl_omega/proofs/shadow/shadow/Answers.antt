@@ -1,64 +1,24 @@
-use Rattle.std.proofs.Common.{◌≡◌, ◌+◌, ◌*◌, ◌<◌, ◌++◌, ◌∷◌, [], length, take, refl, sym, ◌∙◌, ap, arith, pos}
-use Rattle.std.proofs.lemmas.Grind.{common_steps}
-use Rattle.std.proofs.lemmas.List.{take_more}
-use Rattle.isl_piece.specs.declared.row.Row.{Row}
-use Rattle.isl_meter.specs.declared.Cut.TheVariants.{NoMemory}
-use Rattle.isl_omega.specs.Shadow.{LeavesSplinters}
-use Rattle.isl_meter.specs.Gauge.{IsChargedUpTo, IsCutUpTo}
-use Rattle.isl_meter.proofs.UnitLemmas.{charged_none, charged_turn, charged_bits, cut_turn, cut_late, no_memory}
-use Rattle.isl_omega.proofs.ShadowLists.{shadow_none, tail_kept, shadow_more}
+use Rattle.std.proofs.Common.{◌≡◌, ◌*◌, ◌∙◌, length, IsTrue, arith, pos}
+use Rattle.std.specs.List.{AllZip}
+use Rattle.isl_meter.proofs.UnitLemmas.{charged_bits}
+use Rattle.isl_omega.specs.Shadow.{IsShadow, AreNeverMet, AreSplintersOf}
+use Rattle.isl_omega.specs.Units.{paid}
+use Rattle.isl_omega.proofs.ExactUnits.{charged_up_to}
+use Rattle.isl_omega.proofs.CapLemmas.{shadow_empty, least_kept}
 use Rattle.isl_omega.proofs.shadow.shadow.Goals as goal
 
-pub loop-lower-init : goal.loop-lower-init
-loop-lower-init c = rw (c.new-rows.ensures, c.new-tails.ensures.items) (record {
-  is_shadow = shadow_none c.args.meter.now c.args.columns c.args.col c.args.neighbours c.args.uppers.now;
-  charged = charged_none (length c.args.uppers.now) c.args.meter.now;
-})
-
-pub loop-lower-preserved : goal.loop-lower-preserved
-loop-lower-preserved c =
+pub returns-then-never-clause-exact : goal.returns-then-never-clause-exact
+returns-then-never-clause-exact c =
+    let g = c.args.meter.now in
+    let h = c.pairs_of.new.meter in
     let lowers = c.args.lowers.now in
     let uppers = c.args.uppers.now in
-    let i = c.loop-lower.lower-index in
-    let l = c.lower-item.result in
-    let g = c.args.meter.now in
-    let h = c.loop-lower.meter in
-    let k = c.tail_of.new.meter in
-    let tail = c.in_ok-tail.tail in
-    let inside : i < length lowers = grind (arith, common_steps) in
-    let charged : IsChargedUpTo (pos (length uppers)) h k = grind arith in
-    let more : LeavesSplinters h c.args.columns c.args.col c.args.neighbours l uppers c.loop-lower.rows c.tail_of.new.rows tail = grind arith in
-    let start = charged_bits (pos (i * length uppers)) g h c.loop-lower.invariant.charged in
-    let pushed : c.push.new.self.items ≡ c.loop-lower.tails.items ++ tail ∷ [] = grind arith in
-    let taken : take (i + 1) lowers ≡ take i lowers ++ l ∷ [] = take_more lowers i l inside ∙ ap (λ (s : Row). take i lowers ++ s ∷ []) (sym c.lower-item.is) in
-    record {
-      is_shadow = rw (taken, pushed) (shadow_more g c.args.columns c.args.col c.args.neighbours (take i lowers) l uppers c.loop-lower.rows c.tail_of.new.rows c.loop-lower.tails.items tail c.loop-lower.invariant.is_shadow
-          (tail_kept g h c.args.columns c.args.col c.args.neighbours l uppers c.loop-lower.rows c.tail_of.new.rows tail start more));
-      charged = charged_turn i (length uppers) g h k c.loop-lower.invariant.charged charged;
-    }
-
-pub returns-in_err-tail-clause-exact : goal.returns-in_err-tail-clause-exact
-returns-in_err-tail-clause-exact c =
-    let lowers = c.args.lowers.now in
-    let uppers = c.args.uppers.now in
-    let i = c.loop-lower.lower-index in
-    let g = c.args.meter.now in
-    let h = c.loop-lower.meter in
-    let k = c.tail_of.new.meter in
-    let inside : i < length lowers = grind (arith, common_steps) in
-    let cut : IsCutUpTo (pos (length uppers)) h k c.in_err-tail.field-0.0 = grind arith in
-    let all = cut_turn i (length lowers) (length uppers) g h k c.in_err-tail.field-0.0 inside c.loop-lower.invariant.charged cut in
-    grind arith
-
-pub returns-in_err-push-clause-exact : goal.returns-in_err-push-clause-exact
-returns-in_err-push-clause-exact c =
-    let lowers = c.args.lowers.now in
-    let uppers = c.args.uppers.now in
-    let i = c.loop-lower.lower-index in
-    let g = c.args.meter.now in
-    let h = c.loop-lower.meter in
-    let k = c.tail_of.new.meter in
-    let inside : i < length lowers = grind (arith, common_steps) in
-    let charged : IsChargedUpTo (pos (length uppers)) h k = grind arith in
-    let all = cut_late i (length lowers) (length uppers) g h k k NoMemory inside c.loop-lower.invariant.charged charged (no_memory k k refl) in
-    grind arith
+    let n = length lowers * length uppers in
+    let made = c.in_ok-rows.ensures.exact in
+    let bits = charged_bits (pos n) g h (charged_up_to n g h made.1) in
+    let zip : AllZip (AreSplintersOf h c.args.col c.args.neighbours uppers) lowers c.in_ok-least.least.items = c.in_ok-least.ensures.exact.0 uppers in
+    let is : IsShadow g c.args.columns c.args.col c.args.neighbours lowers uppers c.in_ok-rows.field-0.rows c.in_ok-rows.field-0.tails.items = grind arith in
+    let yes : IsTrue c.in_ok-rows.field-0.never = grind arith in (
+      shadow_empty g c.args.columns c.args.col c.args.neighbours lowers uppers c.in_ok-rows.field-0.rows c.in_ok-rows.field-0.tails.items c.in_ok-least.least.items is (made.0.1 yes) (least_kept g h c.args.col c.args.neighbours uppers lowers c.in_ok-least.least.items bits zip),
+      grind arith,
+    )

@@ -1,4 +1,4 @@
-use Rattle.std.proofs.Common.{◌≡◌, ◌∙◌, ◌≤◌, ◌+◌, [], ◌++◌, List, ℕ, arith, ap, length, take, refl, sym, subst}
+use Rattle.std.proofs.Common.{◌∙◌, [], ◌++◌, List, ℕ, arith, take, refl, sym, subst}
 use Rattle.std.specs.List.{concat}
 use Rattle.std.specs.Io.KnownBytes.{Appends}
 use Rattle.std.proofs.KnownBytes.{Appends-nil, Appends-trans, Consumes-nil, Consumes-trans}
@@ -6,7 +6,6 @@ use Rattle.std.proofs.lemmas.List.{append-nil, length-append, length-take}
 use Rattle.std.proofs.lemmas.List.Folds.{concat-append}
 use Rattle.isl_math.specs.Count.{Rose}
 use Rattle.isl_math.proofs.CountLaws.{rose_since}
-use Rattle.isl_session.specs.declared.TheConstants.{SCRIPT_MAX}
 use Rattle.isl_session.specs.Place.{place_of}
 use Rattle.isl_session.specs.Run.{Halts}
 use Rattle.isl_session.proofs.FedLemmas.{ready_fed, fed_ready}

@@ -1,14 +1,13 @@
-use Rattle.std.proofs.Common.{None, ◌∙◌, ◌≤◌, ◌+◌, Some, arith, ap, length, refl, subst}
+use Rattle.std.proofs.Common.{None, ◌≤◌, ◌+◌, Some, arith, ap, length, refl, subst}
 use Rattle.std.specs.List.{concat}
-use Rattle.std.specs.Io.KnownBytes.{Appends, IsAtEnd}
+use Rattle.std.specs.Io.KnownBytes.{IsAtEnd}
 use Rattle.isl_math.specs.Count.{Rose}
 use Rattle.isl_session.specs.declared.TheConstants.{SCRIPT_MAX}
 use Rattle.isl_session.specs.Place.{place_of}
-use Rattle.isl_session.specs.View.{View, Fed, gauge_of}
-use Rattle.isl_session.specs.Lines.{fault_line}
+use Rattle.isl_session.specs.View.{View, Fed}
 use Rattle.isl_session.specs.Run.{Halts, outside}
 use Rattle.isl_session.proofs.AheadLemmas.{script_of}
-use Rattle.isl_session.proofs.AnsweredLemmas.{answered_whole, answered_up_to, status_meter, status_refusal, tells_of}
+use Rattle.isl_session.proofs.AnsweredLemmas.{answered_whole, answered_up_to, status_meter, status_refusal}
 use Rattle.isl_session.proofs.program.run_script.Goals as goal
 
 pub returns-in-Ok-clause-answered : goal.returns-in-Ok-clause-answered
@@ -16,7 +15,7 @@ returns-in-Ok-clause-answered g c =
     let ok = c.in-Ok.ensures.ok in
     let run = c.run_session-outcome.new in
     let session = run.session in
-    let fed = subst (λ (v : View). Fed v ok.0 ok.1 session) c.new-session.ensures ok.5 in
+    let fed = subst (λ (v : View). Fed v ok.0 ok.1 session) c.requires.opened ok.5 in
     let left = g.S.Source.left in
     let reads = g.S.Source.faults in
     let written = g.K.Sink.written in
@@ -28,7 +27,7 @@ returns-in-Ok-clause-answered g c =
     let meter_is = status_meter c.new.result None c.into_meter.result c.new.ensures session.meter c.into_meter.ensures in
     let script = script_of (left c.args.src.now) (left run.src) ok.0 ok.2 in (
       script.0,
-      answered_whole (gauge_of c.args.options) script.0 before now c.new.result session meter_is ok.0 script.1 script.2 script.3 ok.2
+      answered_whole c.args.session.meter script.0 before now c.new.result session meter_is ok.0 script.1 script.2 script.3 ok.2
           (omega (arith, fed.taken, fed.within)) (concat ok.1) ok.4
           (status_refusal c.new.result None c.into_meter.result c.new.ensures) (script.4 ok.3) ok.3 ok.1 refl fed ok.6,
     )
@@ -46,16 +45,16 @@ returns-in-Err-clause-answered g c =
     let told = g.E.Sink.written in
     let tells = g.E.Sink.faults in
     let before = outside (left c.args.src.now) (reads c.args.src.now) (written c.args.out.now) (writes c.args.out.now) (told c.args.err.now) (tells c.args.err.now) in
-    let now = outside (left run.src) (reads run.src) (written run.out) (writes run.out) (told c.write_fault.new.err) (tells c.write_fault.new.err) in
+    let now = outside (left run.src) (reads run.src) (written run.out) (writes run.out) (told c.refuse.new.err) (tells c.refuse.new.err) in
     let read_failed = Rose (reads c.args.src.now) (reads run.src) in
     let write_failed = Rose (writes c.args.out.now) (writes run.out) in
-    let halts = subst (λ (v : View). Halts read_failed write_failed (IsAtEnd (left run.src)) v err.0 err.1 session fault (place_of fault.refusal)) c.new-session.ensures err.5 in
-    let few : length err.0 ≤ SCRIPT_MAX + 1 = omega (arith, err.3, ap (λ (v : View). v.taken) c.new-session.ensures) in
-    let meter_is = status_meter c.new-in-Err.result (Some fault.refusal) c.into_meter-in-Err.result c.new-in-Err.ensures session.meter c.into_meter-in-Err.ensures in
+    let halts = subst (λ (v : View). Halts read_failed write_failed (IsAtEnd (left run.src)) v err.0 err.1 session fault (place_of fault.refusal)) c.requires.opened err.5 in
+    let few : length err.0 ≤ SCRIPT_MAX + 1 = omega (arith, err.3, ap (λ (v : View). v.taken) c.requires.opened) in
+    let meter_is = status_meter c.refuse.result (Some fault.refusal) c.into_meter-in-Err.result c.refuse.ensures.status session.meter c.into_meter-in-Err.ensures in
     let script = script_of (left c.args.src.now) (left run.src) err.0 err.2 in (
       script.0,
-      answered_up_to (gauge_of c.args.options) script.0 before now c.new-in-Err.result session meter_is err.0 script.1 script.2 script.3 err.2 few err.1 err.4
-          fault.statement fault.refusal (status_refusal c.new-in-Err.result (Some fault.refusal) c.into_meter-in-Err.result c.new-in-Err.ensures)
-          (tells_of c.write_fault.result (Appends (told c.args.err.now) (told c.write_fault.new.err) (fault_line fault)) (Rose (tells c.args.err.now) (tells c.write_fault.new.err)) c.write_fault.ensures.ok c.write_fault.ensures.fault)
+      answered_up_to c.args.session.meter script.0 before now c.refuse.result session meter_is err.0 script.1 script.2 script.3 err.2 few err.1 err.4
+          fault.statement fault.refusal (status_refusal c.refuse.result (Some fault.refusal) c.into_meter-in-Err.result c.refuse.ensures.status)
+          c.refuse.ensures.line
           (place_of fault.refusal) refl script.4 halts,
     )

@@ -4,9 +4,10 @@ use Rattle.isl_piece.specs.Row.{IsWellFormed, IsRowWithin}
 use Rattle.isl_column.specs.DarkShadow.{rows_of}
 use Rattle.isl_omega.specs.Column.{HoldAt, IsAnswerFor, IsProper}
 use Rattle.isl_column.specs.declared.dark_shadow.DarkShadow.{DarkShadow}
-use Rattle.isl_column.proofs.AddsLemmas.{answer_kept}
+use Rattle.isl_column.proofs.SplinterLemmas.{answer_kept}
 use Rattle.isl_column.proofs.DarkShadowLemmas.{closed_from, closed_is, left_rows}
 use Rattle.isl_meter.proofs.UnitLemmas.{charged_bits}
+use Rattle.isl_omega.proofs.ExactUnits.{charged_up_to}
 use Rattle.isl_piece.proofs.RowMagnitudes.{rows_within_kept}
 use Rattle.isl_column.proofs.SmallSplinters.{rows_small, shadows_small}
 use Rattle.isl_column.proofs.dark_shadow.DarkShadow.closed.Goals as goal
@@ -24,7 +25,7 @@ returns-clause-exact c =
     let same : left ≡ sides.free ++ dark = grind arith in
     let rows : dark_shadow.rows ≡ rows_of sides = grind arith in
     let settled : IsAnswerFor h (c.args.columns - 1) (λ point. HoldAt left c.args.col point (pos 0)) dark_shadow.dark = grind arith in
-    let kept = answer_kept g h (c.args.columns - 1) (λ point. HoldAt left c.args.col point (pos 0)) dark_shadow.dark (charged_bits (pos (length sides.lowers * length sides.uppers)) g h shadows.1) settled in
+    let kept = answer_kept g h (c.args.columns - 1) (λ point. HoldAt left c.args.col point (pos 0)) dark_shadow.dark (charged_bits (pos (length sides.lowers * length sides.uppers)) g h (charged_up_to (length sides.lowers * length sides.uppers) g h shadows.1)) settled in
     let both = closed_is g c.args.columns c.args.col sides dark left dark_shadow c.requires.sided c.requires.divides c.requires.uppers c.requires.col_in closed same rows kept in
     ((both.0, both.1), grind arith)
 
@@ -52,7 +53,7 @@ settled-requires-clause-within c =
     let closed = closed_from g c.args.columns c.args.col sides dark tails c.requires.sided c.requires.col_in c.requires.not_divides shadows.0.0 shadows.0.1 in
     let same : left ≡ sides.free ++ dark = grind arith in
     let within = All-weaker (IsProper g c.args.columns) (IsRowWithin g) (λ r p. p.within) left (left_rows g c.args.columns c.args.col sides dark left tails c.requires.sided closed same).0 in
-    rows_within_kept h g left (sym (charged_bits (pos (length sides.lowers * length sides.uppers)) g h shadows.1)) within
+    rows_within_kept h g left (sym (charged_bits (pos (length sides.lowers * length sides.uppers)) g h (charged_up_to (length sides.lowers * length sides.uppers) g h shadows.1))) within
 
 pub settled-requires-clause-free : goal.settled-requires-clause-free
 settled-requires-clause-free c =

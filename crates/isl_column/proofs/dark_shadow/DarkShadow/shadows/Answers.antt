@@ -1,4 +1,4 @@
-use Rattle.std.proofs.Common.{◌≡◌, ◌≢◌, true, [], length, map, ◌*◌, arith, ◌^◌, ap, ◌∙◌, lit≤, pos}
+use Rattle.std.proofs.Common.{◌≡◌, ◌≢◌, true, [], length, map, ◌*◌, arith, ◌^◌, ap, ◌∙◌, lit≤}
 use Rattle.std.specs.List.{All}
 use Rattle.std.proofs.lemmas.List.{length-map}
 use Rattle.isl_piece.specs.Row.{IsRowWithin, IsRowUpTo}
@@ -7,7 +7,8 @@ use Rattle.isl_omega.specs.Shadow.{IsShadow}
 use Rattle.isl_piece.proofs.RowMagnitudes.{rows_more}
 use Rattle.isl_column.proofs.DarkShadowLemmas.{shifted_upper}
 use Rattle.std.proofs.lemmas.Result.{err_from_is_err_and}
-use Rattle.isl_meter.specs.Gauge.{Gauge, IsChargedUpTo}
+use Rattle.isl_meter.specs.Gauge.{Gauge}
+use Rattle.isl_omega.specs.Units.{paid}
 use Rattle.isl_column.proofs.SmallSplinters.{all_shifted}
 use Rattle.isl_column.proofs.dark_shadow.DarkShadow.shadows.Goals as goal
 
@@ -20,10 +21,11 @@ returns-clause-exact c =
     let within : All (IsRowWithin g) c.in_ok-uppers.uppers = grind arith in
     let some : sides.not_divides ≢ [] = grind arith in
     let shadow : IsShadow g c.args.columns c.args.col true sides.lowers c.in_ok-uppers.uppers c.in_ok-pair-2.pair.0 c.in_ok-pair-2.pair.1.items = grind arith in
-    let charged : IsChargedUpTo (pos (length sides.lowers * length c.in_ok-uppers.uppers)) g c.shadow-2.new.meter = grind arith in
+    let meter : c.shifted.new.meter ≡ g = grind arith in
+    let exact : c.shadow-2.new.meter ≡ paid (length sides.lowers * length c.in_ok-uppers.uppers) c.shifted.new.meter = grind arith in
     let n : length uppers ≡ length sides.uppers = length-map sides.uppers (shifted_row c.args.col) in (
       ((λ e. absurd (some e)), λ _. (shifted_upper g c.args.columns c.args.col sides.uppers c.requires.sided.uppers (rw same at within), rw same at shadow)),
-      rw (same, n) at charged,
+      rw (same, n, meter) at exact,
     )
 
 pub shadow-requires-2-clause-uppers : goal.shadow-requires-2-clause-uppers

@@ -7,4 +7,4 @@ pub returns-clause-no_overflow : goal.returns-clause-no_overflow
 returns-clause-no_overflow c = λ bits scale offsets small.
     let row = c.args.row.now in
     let at : c.get.result ≡ coef_at row c.args.col = grind arith in
-    c.combined.ensures.no_overflow (2 ^ 30) (2 ^ 30) (2 ^ 30) (2 ^ 30) scale (rw at (coef_up_to (2 ^ 30) row c.args.col small)) small offsets (rw bits (lit< tt))
+    c.combination.ensures.no_overflow (2 ^ 30) (2 ^ 30) (2 ^ 30) (2 ^ 30) scale (rw at (coef_up_to (2 ^ 30) row c.args.col small)) small offsets (rw bits (lit< tt))

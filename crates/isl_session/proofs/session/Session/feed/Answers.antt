@@ -10,6 +10,7 @@ use Rattle.isl_session.proofs.SoundLemmas.{sound_ready}
 use Rattle.isl_session.proofs.RunLemmas.{Fed-append}
 use Rattle.isl_session.proofs.HaltLemmas.{Stopped-append}
 use Rattle.isl_session.proofs.CompleteLemmas.{complete_piece}
+use Rattle.isl_session.proofs.RoomLemmas.{is_not_stopped}
 use Rattle.isl_session.proofs.session.Session.feed.Goals as goal
 
 pub loop-at-init : goal.loop-at-init
@@ -63,3 +64,12 @@ pub returns-in-Err-clause-complete : goal.returns-in-Err-clause-complete
 returns-in-Err-clause-complete c =
     if_none c.args.self.now.fault (λ valid short within no_overflow no_spent.
     complete_piece c.args.self.now c.args.piece.now c.loop-at.invariant.0 c.take_front.new.self c.in-Err.fault (stopped_in c) valid short within no_overflow no_spent)
+
+pub returns-in-Err-clause-room : goal.returns-in-Err-clause-room
+returns-in-Err-clause-room c =
+    if_none c.args.self.now.fault (λ room. absurd (is_not_stopped c.args.self.now c.args.piece.now c.loop-at.invariant.0 c.take_front.new.self c.in-Err.fault (stopped_in c) room))
+
+pub returns-in-Err-clause-room_kept : goal.returns-in-Err-clause-room_kept
+returns-in-Err-clause-room_kept c =
+    let stopped = stopped_in c in
+    omega (arith, stopped.fed.room, stopped.room)

@@ -5,6 +5,8 @@ use Rattle.isl_stmt.specs.Cutter.{IsAt}
 use Rattle.isl_stmt.proofs.ScriptLaws.{open_nil}
 use Rattle.isl_eval.specs.State.{StateView, Fits}
 use Rattle.isl_eval.proofs.StateLaws.{fits_unbound}
+use Rattle.isl_session.specs.declared.counts.Counts.{Counts}
+use Rattle.isl_session.specs.Counts.{AreCounts}
 use Rattle.isl_session.proofs.session.Session.new.Goals as goal
 
 pub invariant_of-result : goal.invariant_of-result
@@ -16,6 +18,7 @@ invariant_of-result c =
       held = omega (arith, ap length none);
       short = omega (arith, ap length none);
       within = omega arith;
-      answered = omega arith;
+      answered = omega (arith, ap (λ (n : Counts). n.statements) c.none.ensures);
+      counts = subst AreCounts (sym c.none.ensures) (record { trues = omega arith; elements = omega arith });
       fits = subst (λ (s : StateView). Fits (limit_of c.new-4.result) s) (sym c.new.ensures) (fits_unbound (limit_of c.new-4.result));
     }

@@ -1,4 +1,4 @@
-use Rattle.std.proofs.Common.{◌≡◌, ◌+◌, ◌∷◌, [], ◌++◌, ◌∙◌, List, ℕ, true, false, arith, ap, length, sym, subst, refl}
+use Rattle.std.proofs.Common.{◌≡◌, ◌+◌, ◌∷◌, [], ◌++◌, ◌∙◌, List, ℕ, true, false, arith, ap, length, sym, subst, refl, vec_capacity}
 use Rattle.std.proofs.lemmas.List.{append-nil, length_push}
 use Rattle.isl_meter.specs.Gauge.{Gauge, IsKept, limit_of}
 use Rattle.isl_stmt.specs.Script.{ends, IsOpen, Place}
@@ -7,11 +7,12 @@ use Rattle.isl_stmt.proofs.ScriptLaws.{depth-le-length, open_nil, open_push}
 use Rattle.isl_eval.specs.State.{StateView, Moment, Fits}
 use Rattle.isl_eval.specs.Causes.{Refuses}
 use Rattle.isl_eval.specs.Machine.{Answers, started}
+use Rattle.isl_session.specs.declared.counts.Counts.{Counts}
 use Rattle.isl_session.specs.View.{View, Fed, IsRefusedAt, moment_of}
 use Rattle.isl_session.specs.Session.{view_of}
 use Rattle.isl_session.proofs.MeterLemmas.{carries_started, carries_refl}
 use Rattle.isl_session.proofs.SoundLemmas.{sound_ready}
-use Rattle.isl_session.proofs.FedLemmas.{fed_end, fed_held}
+use Rattle.isl_session.proofs.FedLemmas.{counted-one, fed_end, fed_held}
 use Rattle.isl_session.proofs.BreakLemmas.{breaks_in_statement, meter_in_statement}
 use Rattle.isl_session.proofs.session.Session.take_byte.Goals as goal
 
@@ -33,11 +34,13 @@ returns-in-Err-clause-err c =
     let begun : c.start.new.self ≡ record inside.meter { units = 0 } = c.start.ensures in
     let cause = subst (λ (bytes : List ℕ). Refuses (started (moment_of old)) bytes c.answer.new.meter c.in-Err.refusal) c.deref.ensures.value
     (subst (λ (g : Gauge). let m : Moment = record { state = inside.state; meter = g } in Refuses m c.deref.result.now c.answer.new.meter c.in-Err.refusal) begun c.in-Err.ensures.cause) in
-    let new : View = record { state = c.answer.new.state; rest = rest; taken = inside.taken; answered = inside.answered; fault = inside.fault; meter = c.answer.new.meter } in
+    let room = vec_capacity inside.rest in
+    let new : View = record { state = c.answer.new.state; rest = rest; room = room; taken = inside.taken; counts = inside.counts; fault = inside.fault; meter = c.answer.new.meter } in
     let refused : IsRefusedAt old c.args.byte c.in-Err.refusal new = record {
       breaks = breaks_in_statement c.in-Err.refusal old c.args.byte c.answer.new.meter c.if-self-ge-SCRIPT_MAX.false ends_there cause;
-      same = ap (λ (s : StateView). let v : View = record { state = s; rest = rest; taken = inside.taken; answered = inside.answered; fault = inside.fault; meter = c.answer.new.meter } in v) after_answer.0;
+      same = ap (λ (s : StateView). let v : View = record { state = s; rest = rest; room = room; taken = inside.taken; counts = inside.counts; fault = inside.fault; meter = c.answer.new.meter } in v) after_answer.0;
       meter = meter_in_statement (moment_of old) rest c.answer.new.meter c.in-Err.refusal cause (subst (λ (g : Gauge). IsKept g c.answer.new.meter) begun c.in-Err.ensures.meter);
+      room = omega arith;
     } in
     (after_answer.1, subst (λ (v : View). IsRefusedAt v c.args.byte c.in-Err.refusal new) c.self.view_is refused)
 
@@ -50,7 +53,8 @@ invariant_of-self-then-push c =
       held = omega (arith, ap length none);
       short = omega (arith, ap length none);
       within = omega (arith, c.if-self-ge-SCRIPT_MAX.false);
-      answered = omega (arith, c.self.invariant.answered);
+      answered = omega (arith, c.self.invariant.answered, ap (λ (n : Counts). n.statements) c.plus-grown.ensures.sum);
+      counts = c.plus-grown.ensures.counts;
       fits = c.answer.ensures.fits;
     }
 
@@ -61,15 +65,17 @@ returns-then-push-clause-ok c =
     let rest = inside.rest.items in
     let sound = ap (λ (v : View). v.fault) c.self.view_is ∙ c.requires in
     let ready = sound_ready inside c.self.invariant sound in
-    let one = c.in_default.ensures.ok in
+    let tally = c.in-Ok.tally in
+    let one = c.in-Ok.ensures.ok in
     let ends_there : ends rest c.args.byte ≡ true = sym (c.if-push.ensures.ends rest c.self.invariant.place) in
     let begun : c.start.new.self ≡ record inside.meter { units = 0 } = c.start.ensures in
     let after : Moment = record { state = c.answer.new.state; meter = c.answer.new.meter } in
     let step = subst (λ (bytes : List ℕ). Answers (started (moment_of old)) bytes after one.0) c.deref.ensures.value
     (subst (λ (g : Gauge). let m : Moment = record { state = inside.state; meter = g } in Answers m c.deref.result.now after one.0) begun one.3) in
-    let new : View = record { state = c.answer.new.state; rest = c.clear.new.self.items; taken = inside.taken + 1; answered = inside.answered + 1; fault = inside.fault; meter = c.answer.new.meter } in
+    let new : View = record { state = c.answer.new.state; rest = c.clear.new.self.items; room = vec_capacity c.clear.new.self; taken = inside.taken + 1; counts = c.plus-grown.result; fault = inside.fault; meter = c.answer.new.meter } in
     let carried = carries_started inside.meter c.answer.new.meter step.meter in
-    let fed = fed_end old ready c.args.byte new c.if-self-ge-SCRIPT_MAX.false refl sound carried one.0 ends_there step c.clear.ensures.items refl in (
+    let counts = c.plus-grown.ensures.sum ∙ counted-one inside.counts tally one.0 one.2 in
+    let fed = fed_end old ready c.args.byte new c.if-self-ge-SCRIPT_MAX.false refl sound carried (omega (arith, c.clear.ensures.capacity)) one.0 ends_there step c.clear.ensures.items counts in (
       one.0.bytes ∷ [],
       one.1 ∙ ap (λ (l : List ℕ). c.args.text.now.items ++ l) (sym (append-nil one.0.bytes)),
       subst (λ (v : View). Fed v (c.args.byte ∷ []) (one.0.bytes ∷ []) new) c.self.view_is fed,
@@ -89,6 +95,7 @@ invariant_of-self-2 c =
       short = omega (arith, ap length grown, length_push rest c.args.byte, c.if-len-ge-STATEMENT_MAX.false, c.len.ensures);
       within = omega (arith, c.if-self-ge-SCRIPT_MAX.false);
       answered = omega (arith, c.self.invariant.answered);
+      counts = c.self.invariant.counts;
       fits = c.self.invariant.fits;
     }
 
@@ -100,8 +107,8 @@ returns-clause-ok c =
     let sound = ap (λ (v : View). v.fault) c.self.view_is ∙ c.requires in
     let ready = sound_ready inside c.self.invariant sound in
     let held : ends rest c.args.byte ≡ false = sym (c.if-push.ensures.ends rest c.self.invariant.place) in
-    let new : View = record { state = inside.state; rest = c.push-2.new.self.items; taken = inside.taken + 1; answered = inside.answered; fault = inside.fault; meter = inside.meter } in
-    let fed = fed_held old ready c.args.byte new c.if-self-ge-SCRIPT_MAX.false refl sound (carries_refl inside.meter) held c.in_ok-push.ensures.items refl refl
+    let new : View = record { state = inside.state; rest = c.push-2.new.self.items; room = vec_capacity c.push-2.new.self; taken = inside.taken + 1; counts = inside.counts; fault = inside.fault; meter = inside.meter } in
+    let fed = fed_held old ready c.args.byte new c.if-self-ge-SCRIPT_MAX.false refl sound (carries_refl inside.meter) (omega (arith, c.in_ok-push.ensures.capacity)) held c.in_ok-push.ensures.items refl refl
     (omega (arith, ap length c.in_ok-push.ensures.items, length_push rest c.args.byte, c.if-len-ge-STATEMENT_MAX.false, c.len.ensures)) in (
       [],
       sym (append-nil c.args.text.now.items),

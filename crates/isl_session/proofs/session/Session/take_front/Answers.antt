@@ -40,7 +40,8 @@ returns-in-Err-clause-err c =
     let fault = c.refuse.result in
     let fault_is = c.refuse.ensures.fault in
     let kept = c.refuse.ensures.kept in
-    let meter = ap (λ (v : View). v.meter) kept in (
+    let meter = ap (λ (v : View). v.meter) kept in
+    let room = ap (λ (v : View). v.room) kept in (
       refused.0 ∙ c.loop-i.invariant.same,
       record {
         front = take i xs;
@@ -51,11 +52,13 @@ returns-in-Err-clause-err c =
         fed = c.loop-i.invariant.fed;
         breaks = subst (λ (r : Refusal). BreaksIn (place_of r) at_front byte c.refuse.new.self.meter r) (sym (ap (λ (f : Fault). f.refusal) fault_is))
             (subst (λ (g : Gauge). BreaksIn (place_of c.in-Err.refusal) at_front byte g c.in-Err.refusal) (sym meter) at.breaks);
-        number = omega (arith, ap (λ (f : Fault). f.statement) fault_is, ap (λ (v : View). v.answered) at.same);
+        number = omega (arith, ap (λ (f : Fault). f.statement) fault_is, ap (λ (v : View). v.counts.statements) at.same);
         same = kept ∙ ap (λ (v : View). let w : View = record v { fault = Some fault } in w) at.same
-            ∙ ap (λ (g : Gauge). let w : View = record at_front { meter = g; fault = Some fault } in w) (sym meter);
+            ∙ ap (λ (g : Gauge). let w : View = record at_front { room = c.take_byte.new.self.room; meter = g; fault = Some fault } in w) (sym meter)
+            ∙ ap (λ (n : ℕ). let w : View = record at_front { room = n; meter = c.refuse.new.self.meter; fault = Some fault } in w) (sym room);
         meter = subst (λ (r : Refusal). IsMeterAt (place_of r) at_front.meter c.refuse.new.self.meter) (sym (ap (λ (f : Fault). f.refusal) fault_is))
             (subst (λ (g : Gauge). IsMeterAt (place_of c.in-Err.refusal) at_front.meter g) (sym meter) at.meter);
+        room = omega (arith, room, at.room);
       },
     )
 

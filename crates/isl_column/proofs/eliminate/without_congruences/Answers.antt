@@ -1,8 +1,0 @@
-use Rattle.std.proofs.Common.{◌≡◌, [], refl, arith}
-use Rattle.isl_column.proofs.EliminateLemmas.{step_none}
-use Rattle.isl_column.proofs.eliminate.without_congruences.Goals as goal
-
-pub returns-then-is_empty-clause-exact : goal.returns-then-is_empty-clause-exact
-returns-then-is_empty-clause-exact c =
-    let none : c.args.sides.divides ≡ [] = grind arith in
-    (step_none c.args.meter.now c.args.columns c.args.col c.args.sides c.requires.sided none, refl)

@@ -1,0 +1,257 @@
+//! What is left of rows without one column: one list after another.
+
+ghost use Rattle.std.specs.Prelude.{◌≡◌, ◌<◌, ◌+◌, ◌-◌, ◌*◌, ◌^◌, ◌≤◌, ◌≤ℤ◌, ◌+ℤ◌, pos, [], None, Option, List, All, length, IfOk, IfSome, MatchOption, MatchResult};
+ghost use Rattle.isl_meter.specs.Gauge.{IsCharged, IsCutBy, IsDone, IsDoneWithin};
+ghost use Rattle.isl_piece.specs.declared.row.Row.{Row};
+ghost use Rattle.isl_omega.specs.Column.{IsProper};
+ghost use Rattle.isl_omega.specs.Equality.{HasEquality};
+ghost use Rattle.isl_omega.specs.Sides.{AreSided};
+ghost use Rattle.isl_omega.specs.Step.{IsStepOf};
+ghost use Rattle.isl_omega.specs.Magnitude.{IsNoOverflow, IsNoOverflowWith, AreSidesUpTo};
+ghost use Rattle.isl_column.specs.Column.{HoldAtSome};
+ghost use Rattle.isl_column.specs.Exact.{IsExactColumn, exact_rows, pairs_on};
+ghost use Rattle.isl_column.specs.Magnitude.{HaveSmallNumbers, HaveOneCongruence};
+ghost use Rattle.isl_column.specs.Residue.{HasNumber, sides_units};
+ghost use Rattle.isl_column.specs.Solved.{solved_rows, IsLeastAmong};
+ghost use Rattle.isl_column.specs.Units.{elimination_units};
+
+use crate::dark_shadow::DarkShadow;
+use crate::equality::equality_at;
+use crate::exact::{exact_left, is_exact};
+use crate::residue::Residues;
+use isl_meter::{Cut, Meter};
+use isl_omega::equality::equality_step;
+use isl_omega::sides::Sides;
+use isl_omega::step::congruence_step;
+use isl_piece::{Row, Rows};
+use std::alloc::Global;
+
+// The sides without congruences on the column.
+fn without_congruences(
+    alloc: Global,
+    sides: Sides,
+    columns: usize,
+    col: usize,
+    meter: &mut Meter,
+) -> Result<Sides, Cut>
+    requires sided { AreSided meter.old columns col sides }
+    requires col_in { col < columns }
+    ensures exact { IsDone meter.old meter.new (λ new. IsStepOf meter.old columns col sides new) result }
+    ensures no_overflow { meter.old.bits ≡ 127 → AreSidesUpTo (2 ^ 30) sides → length sides.divides < 2
+        → IsNoOverflowWith (AreSidesUpTo (2 ^ 61)) result }
+{
+    if sides.divides.is_empty() {
+        return Ok(sides);
+    }
+    let new = congruence_step(alloc, &sides, columns, col, meter)?;
+    Ok(new)
+}
+
+/// What is still to come of rows without one column: lists of normal rows, of which some holds at a point exactly where some whole
+/// number put at the column makes the rows hold. The head is built; splinters and residues are built as they are taken.
+#[derive(Drop)]
+pub struct Parts {
+    columns: usize,
+    col: usize,
+    dark_shadow: DarkShadow,
+    residues: Option<Residues>,
+}
+
+impl Parts {
+    ghost use Rattle.isl_column.specs.Parts.{ArePartsOf, AreParts, IsFoundIn, IsHeadAlone, AreSmallParts, AreUnitsUpTo, IsBegun, head_count, most_units, least_units};
+
+    // Nothing but a head.
+    fn head(alloc: Global, left: Option<Rows>, columns: usize, col: usize) -> Parts
+        ensures column { (result.columns ≡ columns) × (result.col ≡ col) }
+        ensures rows { result.dark_shadow.rows ≡ [] }
+        ensures alone { IsHeadAlone left result }
+    {
+        Parts {
+            columns,
+            col,
+            dark_shadow: DarkShadow {
+                rows: Rows::new(alloc),
+                dark: left,
+                tails: Vec::new(alloc),
+            },
+            residues: None,
+        }
+    }
+
+    // Where the row at a place is an equality that has the column.
+    fn solved(
+        alloc: Global,
+        rows: &[Row],
+        at: usize,
+        columns: usize,
+        col: usize,
+        meter: &mut Meter,
+    ) -> Result<Parts, Cut>
+        requires rows { All (IsProper meter.old columns) rows.now }
+        requires col_in { col < columns }
+        requires equality { IsLeastAmong col rows.now (length rows.now) at }
+        ensures exact { IsBegun (pos 0) columns (HoldAtSome rows.now col) meter.old meter.new result }
+        ensures none { IfOk result (λ parts. most_units parts ≡ pos 0) }
+        ensures alone { IfOk result (IsHeadAlone (solved_rows rows.now col)) }
+        ensures no_overflow { meter.old.bits ≡ 127 → HaveSmallNumbers rows.now → IsNoOverflowWith AreSmallParts result }
+    {
+        let left = equality_step(alloc, rows, &rows[at], columns, col, meter)?;
+        Ok(Parts::head(alloc, left, columns, col))
+    }
+
+    // Where the column is exact.
+    fn exact(
+        alloc: Global,
+        rows: &[Row],
+        columns: usize,
+        col: usize,
+        meter: &mut Meter,
+    ) -> Result<Parts, Cut>
+        requires rows { All (IsProper meter.old columns) rows.now }
+        requires col_in { col < columns }
+        requires none { ¬ HasEquality col rows.now }
+        requires exact { IsExactColumn col rows.now }
+        ensures exact { IsBegun (elimination_units rows.now col) columns (HoldAtSome rows.now col) meter.old meter.new result }
+        ensures alone { IfOk result (IsHeadAlone (exact_rows rows.now col)) }
+        ensures pairs { IfOk result (λ parts. meter.old.units + pairs_on col rows.now ≤ meter.new.units + least_units parts) }
+        ensures no_overflow { meter.old.bits ≡ 127 → HaveSmallNumbers rows.now → IsNoOverflowWith AreSmallParts result }
+    {
+        let left = exact_left(alloc, rows, columns, col, meter)?;
+        Ok(Parts::head(alloc, left, columns, col))
+    }
+
+    // Of sides without congruences.
+    fn of_sides(
+        alloc: Global,
+        sides: Sides,
+        columns: usize,
+        col: usize,
+        meter: &mut Meter,
+    ) -> Result<Parts, Cut>
+        requires sided { AreSided meter.old columns col sides }
+        requires divides { sides.divides ≡ [] }
+        requires col_in { col < columns }
+        ensures exact { IsBegun (sides_units col sides) columns (HasNumber sides col) meter.old meter.new result }
+        ensures no_overflow { meter.old.bits ≡ 127 → AreSidesUpTo (2 ^ 61) sides → length sides.not_divides < 2
+            → IsNoOverflowWith AreSmallParts result }
+        ensures pairs { IfOk result (λ parts.
+            meter.old.units + length sides.lowers * length sides.uppers ≤ meter.new.units + least_units parts) }
+    {
+        if sides.not_divides.len() < 2 {
+            let dark_shadow = DarkShadow::of(alloc, &sides, columns, col, meter)?;
+            return Ok(Parts {
+                columns,
+                col,
+                dark_shadow,
+                residues: None,
+            });
+        }
+        let residues = Residues::of(sides, columns, col, meter)?;
+        let mut parts = Parts::head(alloc, None, columns, col);
+        parts.residues = Some(residues);
+        Ok(parts)
+    }
+
+    // Where neither is so.
+    fn by_sides(
+        alloc: Global,
+        rows: &[Row],
+        columns: usize,
+        col: usize,
+        meter: &mut Meter,
+    ) -> Result<Parts, Cut>
+        requires rows { All (IsProper meter.old columns) rows.now }
+        requires col_in { col < columns }
+        requires none { ¬ HasEquality col rows.now }
+        ensures exact { IsBegun (elimination_units rows.now col) columns (HoldAtSome rows.now col) meter.old meter.new result }
+        ensures no_overflow { meter.old.bits ≡ 127 → HaveSmallNumbers rows.now → HaveOneCongruence rows.now col
+            → IsNoOverflowWith AreSmallParts result }
+        ensures pairs { IfOk result (λ parts. meter.old.units + pairs_on col rows.now ≤ meter.new.units + least_units parts) }
+    {
+        let sides = Sides::of(alloc, rows, columns, col, meter)?;
+        let new = without_congruences(alloc, sides, columns, col, meter)?;
+        Parts::of_sides(alloc, new, columns, col, meter)
+    }
+
+    /// What is left of the rows without the column `col`.
+    ///
+    /// Where an equality has the column, no unit is used; else, with those that are used for what is still to come, at most
+    /// `elimination_units`, and at least one for each pair of a lower and an upper bound. Where one has it, or the column is exact,
+    /// there is a head alone, which is a function of the rows.
+    ///
+    /// # Errors
+    ///
+    /// `Overflow` where a number passes the limit of the meter, `Budget` where its units are used up, and `NoMemory`. A limit
+    /// of 127 bits is not passed where the numbers are at most `2^30` and at most one congruence has the column.
+    pub fn of(
+        alloc: Global,
+        rows: &[Row],
+        columns: usize,
+        col: usize,
+        meter: &mut Meter,
+    ) -> Result<Parts, Cut>
+        requires rows { All (IsProper meter.old columns) rows.now }
+        requires col_in { col < columns }
+        ensures exact { MatchResult result
+            (λ parts. ArePartsOf meter.old columns col rows.now parts × IsCharged meter.old meter.new)
+            (IsCutBy meter.old meter.new) }
+        ensures units { MatchResult result (AreUnitsUpTo (elimination_units rows.now col) meter.old meter.new)
+            (λ _. pos meter.new.units ≤ℤ (pos meter.old.units +ℤ elimination_units rows.now col)) }
+        ensures equality { HasEquality col rows.now → (meter.new.units ≡ meter.old.units) × IfOk result (λ parts. most_units parts ≡ pos 0) }
+        ensures exact_column { IsExactColumn col rows.now → ¬ HasEquality col rows.now → IfOk result (IsHeadAlone (exact_rows rows.now col)) }
+        ensures solved_column { HasEquality col rows.now → IfOk result (IsHeadAlone (solved_rows rows.now col)) }
+        ensures magnitude { meter.old.bits ≡ 127 → HaveSmallNumbers rows.now → HaveOneCongruence rows.now col
+            → IsNoOverflowWith AreSmallParts result }
+        ensures pairs { ¬ HasEquality col rows.now
+            → IfOk result (λ parts. meter.old.units + pairs_on col rows.now ≤ meter.new.units + least_units parts) }
+    {
+        if let Some(at) = equality_at(rows, columns, col, meter) {
+            return Parts::solved(alloc, rows, at, columns, col, meter);
+        }
+        if is_exact(rows, columns, col, meter) {
+            Parts::exact(alloc, rows, columns, col, meter)
+        } else {
+            Parts::by_sides(alloc, rows, columns, col, meter)
+        }
+    }
+
+    /// Takes the next list out of them, which is over `columns` columns; none where no point is left. A list that is not the head
+    /// costs a unit or more.
+    ///
+    /// # Errors
+    ///
+    /// `Overflow` where a number passes the limit of the meter, `Budget` where its units are used up, and `NoMemory`.
+    pub fn next(
+        &mut self,
+        alloc: Global,
+        columns: usize,
+        meter: &mut Meter,
+    ) -> Result<Option<Rows>, Cut>
+        requires parts { AreParts meter.old columns self.old }
+        ensures exact { MatchResult result (λ found. IsFoundIn meter.old columns self.old found self.new × IsCharged meter.old meter.new)
+            (IsCutBy meter.old meter.new) }
+        ensures units { pos meter.new.units ≤ℤ (pos meter.old.units +ℤ most_units self.old) }
+        ensures rest { IfOk result (λ found. IfSome found (λ _. AreUnitsUpTo (most_units self.old) meter.old meter.new self.new)) }
+        ensures counted { IfOk result (λ found. IfSome found
+            (λ _. meter.old.units + 1 + head_count self.new ≤ meter.new.units + head_count self.old)) }
+        ensures pairs { IfOk result (λ found. MatchOption found
+            (meter.old.units + least_units self.old ≤ meter.new.units)
+            (λ _. meter.old.units + least_units self.old ≤ meter.new.units + least_units self.new)) }
+        ensures alone { (head : Option (List Row)) → IsHeadAlone head self.old
+            → IfOk result (λ found. (found ≡ head) × IfSome found (λ _. IsHeadAlone None self.new)) }
+        ensures magnitude { meter.old.bits ≡ 127 → AreSmallParts self.old
+            → IsNoOverflowWith (λ found. IfSome found (λ _. AreSmallParts self.new)) result }
+    {
+        let (_, col) = (columns, self.col);
+        loop {
+            let found = self.dark_shadow.next(alloc, self.columns, col, meter)?;
+            if found.is_some() {
+                return Ok(found);
+            }
+            match Residues::next(alloc, &mut self.residues, self.columns, col, meter)? {
+                None => return Ok(None),
+                Some(dark_shadow) => self.dark_shadow = dark_shadow,
+            }
+        }
+    }
+}

@@ -1,0 +1,6 @@
+//! Operations on values that are maps.
+#![tactic(auto)]
+
+mod turned;
+
+pub use turned::inverse;

@@ -1,0 +1,13 @@
+use Rattle.std.proofs.Common.{◌≡◌, ◌*◌, length, take, pos, IsTrue}
+use Rattle.isl_omega.specs.Shadow.{IsShadow, AreNeverMet}
+use Rattle.isl_meter.specs.Gauge.{IsChargedUpTo}
+use Rattle.isl_omega.specs.Units.{paid}
+use Rattle.isl_omega.proofs.shadow.pairs_of.Given as goal
+
+abbrev pub invariant-loop-lower : goal.invariant-loop-lower
+invariant-loop-lower l = record {
+  is_shadow : IsShadow l.fn.meter l.columns l.col l.neighbours (take l.lower-index l.lowers) l.uppers l.rows l.tails.items;
+  never : IsTrue l.never → AreNeverMet l.columns l.col (take l.lower-index l.lowers) l.uppers;
+  charged : IsChargedUpTo (pos (l.lower-index * length l.uppers)) l.fn.meter l.meter;
+  exact : l.meter ≡ paid (l.lower-index * length l.uppers) l.fn.meter;
+}

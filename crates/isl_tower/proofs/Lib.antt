@@ -1,0 +1,4 @@
+pub mod BoundedLaws
+pub mod ClosedLaws
+pub mod EndLaws
+pub mod TowerLaws

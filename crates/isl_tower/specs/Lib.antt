@@ -1,0 +1,5 @@
+pub mod Bounded
+pub mod Closed
+pub mod Ends
+pub mod Level
+pub mod Tower

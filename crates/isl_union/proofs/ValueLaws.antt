@@ -1,0 +1,197 @@
+-- Unions of values, and what values have in common.
+use Rattle.std.proofs.Common.{◌≡◌, ◌↔◌, ◌⊎◌, inl, inr, refl, sym, ap, ap₂, ◌∙◌, arith, subst, ℕ, ◌+◌, ◌<◌, List, [], ◌∷◌, ◌++◌, All, Any}
+use Rattle.std.proofs.Common.{Contains, length, fold, get_or, map, sum_by, take, unsigned_abs}
+use Rattle.std.proofs.lemmas.List.{get_or-map, length-map, map-append, take_more}
+use Rattle.std.proofs.lemmas.List.Elements.{All-append, All-map, All-contains_itself, All-push, Contains-append_left}
+use Rattle.isl_math.proofs.ListLaws.{All-unmapped, Any-left, Any-right, Any-parts}
+use Rattle.isl_meter.specs.Gauge.{Gauge, limit_of}
+use Rattle.isl_space.specs.Element.{Element}
+use Rattle.isl_space.specs.Name.{Name}
+use Rattle.isl_space.specs.Limits.{most_parameters}
+use Rattle.isl_space.specs.declared.fault.SpaceFault.{SpaceFault}
+use Rattle.isl_space.specs.declared.fault.SpaceFault.TheVariants.{TooWide, NoMemory}
+use Rattle.isl_space.specs.Names.{AreDistinct, IsParameterList, joined}
+use Rattle.isl_space.specs.Valuation.{Valuation}
+use Rattle.isl_space.proofs.NamesLaws.{joined-self, joined_distinct, parameters_join}
+use Rattle.isl_piece.specs.Piece.{PieceView}
+use Rattle.isl_piece.specs.Row.{IsRowUpTo, IsRowWithin}
+use Rattle.isl_piece.proofs.RowMagnitudes.{within_limit}
+use Rattle.isl_union.specs.Fault.{fault_of, IsFaultWithin, IsPlainFault}
+use Rattle.isl_union.specs.KeptValue.{KeptPiece, KeptValue, Has, HasElement, IsKeptPiece, IsKeptValue}
+use Rattle.isl_union.specs.Meet.{meet_of, met_pieces, pair_count, pairs_of_one_space, partners}
+use Rattle.isl_union.specs.Moved.{aligned, aligned_pieces}
+use Rattle.isl_union.specs.Numbers.{AreWithinLimit, HasNumbersUpTo, IsWithinLimit}
+use Rattle.isl_union.specs.Piece.{kept_piece, IsPieceOf}
+use Rattle.isl_union.specs.Union.{union_of}
+use Rattle.isl_union.proofs.AlignedLaws.{aligned_has_any, aligned_kept, aligned_pieces-own, aligned_up_to}
+use Rattle.isl_union.proofs.MeetLaws.{pieces_have, pieces_small}
+use Rattle.isl_union.proofs.UnitLaws.{short_memory, used_none}
+
+-- ---- a loop's step: what is made of the i-th piece is put behind the others
+pub moved_more : (f : KeptPiece → KeptPiece) (pieces made pushed : List PieceView) (i : ℕ) (piece x : PieceView) → i < length pieces
+    → piece ≡ get_or pieces i piece
+    → kept_piece x ≡ f (kept_piece piece) → pushed ≡ made ++ x ∷ [] → map kept_piece made ≡ map f (take i (map kept_piece pieces))
+    → map kept_piece pushed ≡ map f (take (i + 1) (map kept_piece pieces))
+moved_more f pieces made pushed i piece x low at made_of is so_far =
+    let here : get_or (map kept_piece pieces) i (kept_piece piece) ≡ kept_piece piece =
+    get_or-map kept_piece pieces i piece (kept_piece piece) low ∙ ap kept_piece (sym at) in
+    let more : take (i + 1) (map kept_piece pieces) ≡ take i (map kept_piece pieces) ++ kept_piece piece ∷ [] =
+    take_more (map kept_piece pieces) i (kept_piece piece) (rw (length-map pieces kept_piece) low) ∙
+    ap (λ p. take i (map kept_piece pieces) ++ p ∷ []) here in
+    ap (map kept_piece) is ∙ map-append kept_piece made (x ∷ []) ∙ ap₂ (λ l p. l ++ p ∷ []) so_far made_of
+    ∙ sym (map-append f (take i (map kept_piece pieces)) (kept_piece piece ∷ [])) ∙ ap (map f) (sym more)
+
+-- ---- pieces within the limit
+pub pieces_within : (g : Gauge) (pieces : List PieceView) (kept : List KeptPiece) → map kept_piece pieces ≡ kept
+    → All (λ piece. All (IsRowUpTo (unsigned_abs (limit_of g))) piece.rows) kept → AreWithinLimit g pieces
+pieces_within g pieces kept is h = λ k d l.
+    let small = All-unmapped (λ (p : KeptPiece). All (IsRowUpTo (unsigned_abs (limit_of g))) p.rows) kept_piece pieces (rw is h) k d l in
+    λ i r low. within_limit g (get_or (get_or pieces k d).system.rows i r) (small i r low)
+
+-- ---- over more parameters
+module _ (all : List Name) (value : KeptValue) (kept : IsKeptValue value) where
+  pub same_pieces : all ≡ value.params → aligned_pieces all value ≡ value.pieces
+  same_pieces same = rw same (aligned_pieces-own value.params kept.params.distinct value.pieces kept.pieces)
+
+  module _ (there : All (Contains all) value.params) where
+    pub aligned_have : (v : Valuation) (e : Element) → Any (HasElement all v e) (aligned_pieces all value) ↔ Has value v e
+    aligned_have v e = aligned_has_any all value.params kept.params.distinct there v e value.pieces kept.pieces
+
+    pub aligned_all_kept : All (IsKeptPiece all) (aligned_pieces all value)
+    aligned_all_kept = All-map (IsKeptPiece all) (aligned all value.params) value.pieces (λ k d l. aligned_kept all value.params
+        kept.params.distinct there (get_or value.pieces k d) (kept.pieces k d l))
+
+    pub aligned_small : (limit : ℕ) → HasNumbersUpTo limit value
+        → All (λ piece. All (IsRowUpTo limit) piece.rows) (aligned_pieces all value)
+    aligned_small limit h =
+        All-map (λ (p : KeptPiece). All (IsRowUpTo limit) p.rows) (aligned all value.params) value.pieces
+        (λ k d l. aligned_up_to all value.params kept.params.distinct there limit (get_or value.pieces k d) (kept.pieces k d l) (h k d l))
+
+-- ---- pairs of one space: pieces over more parameters lie where they lay
+sum_mapped : (f h : KeptPiece → ℕ) (g : KeptPiece → KeptPiece) → ((x : KeptPiece) → f (g x) ≡ h x) → (xs : List KeptPiece) (n : ℕ)
+    → fold (λ a x. a + f x) n (map g xs) ≡ fold (λ a x. a + h x) n xs
+sum_mapped f h g same [] n = refl
+sum_mapped f h g same (x ∷ xs) n = ap (λ m. fold (λ a y. a + f y) (n + m) (map g xs)) (same x) ∙ sum_mapped f h g same xs (n + h x)
+
+count_aligned : (all names others : List Name) (a b : KeptPiece) → pair_count (aligned all names a) (aligned all others b) ≡ pair_count a b
+unfolding aligned
+count_aligned all names others a b = refl
+
+pub pairs_aligned : (all : List Name) (a b : KeptValue) → sum_by (partners (aligned_pieces all b)) (aligned_pieces all a)
+    ≡ pairs_of_one_space a b
+pairs_aligned all a b =
+    sum_mapped (partners (aligned_pieces all b)) (partners b.pieces) (aligned all a.params)
+    (λ piece. sum_mapped (pair_count (aligned all a.params piece)) (pair_count piece) (aligned all b.params) (count_aligned all a.params
+    b.params piece) b.pieces 0) a.pieces 0
+
+pub pairs_are : (all : List Name) (a b : KeptValue) (own others : List PieceView) → map kept_piece own ≡ aligned_pieces all a
+    → map kept_piece others ≡ aligned_pieces all b
+    → sum_by (partners (map kept_piece others)) (map kept_piece own) ≡ pairs_of_one_space a b
+pairs_are all a b own others first second = ap₂ (λ k l. sum_by (partners k) l) second first ∙ pairs_aligned all a b
+
+-- ---- two values
+pub first_in : (names others : List Name) → All (Contains (joined names others)) names
+first_in names others = λ k d l. Contains-append_left names _ (get_or names k d) (All-contains_itself names k d l)
+
+pub second_in : (names others : List Name) → IsParameterList names → IsParameterList others → All (Contains (joined names others)) others
+second_in names others p q = (parameters_join names others (joined names others) p q refl).second
+
+pub plain_fault : (params : List Name) (fault : SpaceFault) → (fault ≡ TooWide → most_parameters < length params)
+    → IsPlainFault params (fault_of fault)
+plain_fault params TooWide h = h refl
+plain_fault params NoMemory h = refl
+
+pub fault_within : (params : List Name) (n : ℕ) (g h : Gauge) (fault : SpaceFault) → h ≡ g
+    → (fault ≡ TooWide → most_parameters < length params) → IsFaultWithin params n g h (fault_of fault)
+fault_within params n g h TooWide same wide = (wide refl, same)
+fault_within params n g h NoMemory same wide = short_memory 0 n g g h (omega arith) (used_none g g refl) same
+
+module _ (a b : KeptValue) (p : IsKeptValue a) (q : IsKeptValue b) where
+  abbrev all : List Name
+  all = joined a.params b.params
+
+  first_there : All (Contains all) a.params
+  first_there = first_in a.params b.params
+
+  second_there : All (Contains all) b.params
+  second_there = second_in a.params b.params p.params q.params
+
+  -- ---- their union
+  pub union_is : (params : List Name) (own others whole : List PieceView) (value : KeptValue) → params ≡ all → whole ≡ own ++ others
+      → map kept_piece own ≡ aligned_pieces params a
+      → map kept_piece others ≡ aligned_pieces params b → value ≡ record { params = params; pieces = map kept_piece whole }
+      → value ≡ union_of a b
+  unfolding union_of
+  union_is params own others whole value names is first second made =
+      let pieces : map kept_piece whole ≡ aligned_pieces all a ++ aligned_pieces all b =
+      ap (map kept_piece) is ∙ map-append kept_piece own others
+      ∙ ap₂ (λ l m. l ++ m) (first ∙ ap (λ l. aligned_pieces l a) names) (second ∙ ap (λ l. aligned_pieces l b) names) in
+      let whole_is : record { params = params; pieces = map kept_piece whole } ≡ record {
+        params = all;
+        pieces = aligned_pieces all a ++ aligned_pieces all b;
+      } = cc in
+      made ∙ whole_is
+
+  pub union_params : (union_of a b).params ≡ all
+  unfolding union_of
+  union_params = refl
+
+  pub union_has : (v : Valuation) (e : Element) → Has (union_of a b) v e ↔ (Has a v e ⊎ Has b v e)
+  unfolding union_of
+  union_has v e =
+      let first = aligned_have all a p first_there v e in
+      let second = aligned_have all b q second_there v e in (
+        (λ h. elim (Any-parts (HasElement all v e) (aligned_pieces all a) (aligned_pieces all b) h) [
+          | inl x ↦ inl (first.0 x)
+          | inr y ↦ inr (second.0 y)
+        ]),
+        (λ h. elim h [
+          | inl x ↦ Any-left (HasElement all v e) (aligned_pieces all a) (aligned_pieces all b) (first.1 x)
+          | inr y ↦ Any-right (HasElement all v e) (aligned_pieces all a) (aligned_pieces all b) (second.1 y)
+        ]),
+      )
+
+  pub union_small : (limit : ℕ) → HasNumbersUpTo limit a → HasNumbersUpTo limit b → HasNumbersUpTo limit (union_of a b)
+  unfolding union_of
+  union_small limit h k =
+      All-append (λ (piece : KeptPiece). All (IsRowUpTo limit) piece.rows) (aligned_pieces all a) (aligned_pieces all b)
+      (aligned_small all a p first_there limit h) (aligned_small all b q second_there limit k)
+
+  pub union_same : a.params ≡ b.params → (union_of a b).pieces ≡ a.pieces ++ b.pieces
+  unfolding union_of
+  union_same same =
+      let first : all ≡ a.params = ap (joined a.params) (sym same) ∙ joined-self a.params in
+      ap₂ (λ l m. l ++ m) (same_pieces all a p first) (same_pieces all b q (first ∙ same))
+
+  -- ---- what they have in common
+  module _ (params : List Name) (own others met : List PieceView) (value : KeptValue) (names : params ≡ all)
+      (first : map kept_piece own ≡ aligned_pieces params a) (second : map kept_piece others ≡ aligned_pieces params b)
+      (is : map kept_piece met ≡ met_pieces (map kept_piece own) (map kept_piece others))
+      (made : value ≡ record { params = params; pieces = map kept_piece met }) where
+    meet_is : value ≡ record { params = all; pieces = met_pieces (aligned_pieces all a) (aligned_pieces all b) }
+    meet_is =
+        let pieces : map kept_piece met ≡ met_pieces (aligned_pieces all a) (aligned_pieces all b) =
+        is ∙ ap₂ met_pieces (first ∙ ap (λ l. aligned_pieces l a) names) (second ∙ ap (λ l. aligned_pieces l b) names) in
+        let whole_is : record { params = params; pieces = map kept_piece met } ≡ record {
+          params = all;
+          pieces = met_pieces (aligned_pieces all a) (aligned_pieces all b);
+        } = cc in
+        made ∙ whole_is
+
+    pub meet_written : value ≡ meet_of a b
+    unfolding meet_of
+    meet_written = meet_is
+
+    pub meet_has : (v : Valuation) (e : Element) → Has value v e ↔ (Has a v e × Has b v e)
+    meet_has v e =
+        let one = aligned_have all a p first_there v e in
+        let other = aligned_have all b q second_there v e in
+        let both = pieces_have all v e (aligned_pieces all a) (aligned_pieces all b) (aligned_all_kept all a p first_there)
+        (aligned_all_kept all b q second_there) in
+        rw meet_is ((λ h. let parts = both.0 h in (one.0 parts.0, other.0 parts.1)), (λ hs. both.1 (one.1 hs.0, other.1 hs.1)))
+
+    pub meet_small : (limit : ℕ) → HasNumbersUpTo limit a → HasNumbersUpTo limit b → HasNumbersUpTo limit value
+    meet_small limit h k =
+        rw meet_is (pieces_small all limit (aligned_pieces all a) (aligned_pieces all b) (aligned_all_kept all a p first_there)
+        (aligned_all_kept all b q second_there)
+        (aligned_small all a p first_there limit h) (aligned_small all b q second_there limit k))

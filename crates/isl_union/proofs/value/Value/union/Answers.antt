@@ -1,0 +1,63 @@
+use Rattle.std.proofs.Common.{◌≡◌, refl, sym, ap, ap₂, ◌∙◌, arith, subst, List}
+use Rattle.std.specs.List.{All, Contains}
+use Rattle.std.proofs.lemmas.List.Elements.{All-append}
+use Rattle.isl_space.specs.Name.{Name}
+use Rattle.isl_space.specs.Names.{IsParameterList, joined}
+use Rattle.isl_union.specs.KeptValue.{KeptValue, IsKeptValue}
+use Rattle.isl_union.specs.Piece.{IsPieceOf}
+use Rattle.isl_union.proofs.PieceLaws.{IsKeptValue-from_pieces}
+use Rattle.isl_union.proofs.ValueLaws.{first_in, second_in, union_is, union_has, union_small, union_same}
+use Rattle.isl_union.proofs.value.Value.union.Goals as goal
+
+pub aligned_pieces-requires-clause-among : goal.aligned_pieces-requires-clause-among
+aligned_pieces-requires-clause-among c =
+    let a = c.args.self.now.params in
+    let b = c.args.other.now.params in
+    let names = c.in_ok-params.ensures.joined ∙ ap₂ joined c.params.ensures.content c.params-2.ensures.content in
+    subst (λ (l : List Name). All (Contains l) a) (sym names) (first_in a b)
+
+pub aligned_pieces-requires-2-clause-among : goal.aligned_pieces-requires-2-clause-among
+aligned_pieces-requires-2-clause-among c =
+    let a = c.args.self.now.params in
+    let b = c.args.other.now.params in
+    let names = c.in_ok-params.ensures.joined ∙ ap₂ joined c.params.ensures.content c.params-2.ensures.content in
+    let first = subst IsParameterList c.params.ensures.content c.params.ensures.well_formed in
+    let second = subst IsParameterList c.params-2.ensures.content c.params-2.ensures.well_formed in
+    subst (λ (l : List Name). All (Contains l) b) (sym names) (second_in a b first second)
+
+pub from_normal-requires-clause-pieces : goal.from_normal-requires-clause-pieces
+from_normal-requires-clause-pieces c =
+    rw c.in_ok-append.ensures
+    (All-append (IsPieceOf c.in_ok-params.params) c.in_ok-pieces.pieces.items c.in_ok-aligned_pieces.field-0.items
+    c.in_ok-pieces.ensures.sound c.in_ok-aligned_pieces.ensures.sound)
+
+pub returns-clause-written : goal.returns-clause-written
+returns-clause-written c =
+    let names = c.in_ok-params.ensures.joined ∙ ap₂ joined c.params.ensures.content c.params-2.ensures.content in
+    union_is c.args.self.now c.args.other.now c.in_ok-pieces.ensures.kept c.in_ok-aligned_pieces.ensures.kept c.in_ok-params.params
+    c.in_ok-pieces.pieces.items c.in_ok-aligned_pieces.field-0.items
+    c.append.new.pieces.items c.from_normal.result names c.in_ok-append.ensures c.in_ok-pieces.ensures.exact
+    c.in_ok-aligned_pieces.ensures.exact c.from_normal.ensures
+
+pub returns-clause-kept : goal.returns-clause-kept
+returns-clause-kept c =
+    subst IsKeptValue (sym c.from_normal.ensures)
+    (IsKeptValue-from_pieces c.in_ok-params.params c.append.new.pieces.items c.in_ok-params.ensures.well_formed
+    (rw c.in_ok-append.ensures
+    (All-append (IsPieceOf c.in_ok-params.params) c.in_ok-pieces.pieces.items c.in_ok-aligned_pieces.field-0.items
+    c.in_ok-pieces.ensures.sound c.in_ok-aligned_pieces.ensures.sound)))
+
+pub returns-clause-same_params : goal.returns-clause-same_params
+returns-clause-same_params c same =
+    ap (λ (v : KeptValue). v.pieces) (returns-clause-written c) ∙ union_same c.args.self.now c.args.other.now c.in_ok-pieces.ensures.kept
+    c.in_ok-aligned_pieces.ensures.kept same
+
+pub returns-clause-elements : goal.returns-clause-elements
+returns-clause-elements c v e =
+    rw (returns-clause-written c) (union_has c.args.self.now c.args.other.now c.in_ok-pieces.ensures.kept
+    c.in_ok-aligned_pieces.ensures.kept v e)
+
+pub returns-clause-numbers : goal.returns-clause-numbers
+returns-clause-numbers c b h k =
+    rw (returns-clause-written c) (union_small c.args.self.now c.args.other.now c.in_ok-pieces.ensures.kept
+    c.in_ok-aligned_pieces.ensures.kept b h k)

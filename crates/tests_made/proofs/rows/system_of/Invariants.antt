@@ -1,0 +1,8 @@
+use Rattle.isl_piece.specs.System.{IsSystemWithin}
+use Rattle.tests_made.proofs.rows.system_of.Given as goal
+
+abbrev pub invariant-loop-line : goal.invariant-loop-line
+invariant-loop-line l =
+    (goal.iterator-loop-line).can_next l.line-iterator ×
+    (goal.iterator-loop-line).is_finite l.line-iterator ×
+    IsSystemWithin l.meter l.system
