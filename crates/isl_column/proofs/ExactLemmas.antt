@@ -1,18 +1,21 @@
 -- Exact columns: some whole number meets the rows exactly where the free rows and the real rows hold.
 use Rattle.std.proofs.Common.{◌≡◌, ◌≢◌, ◌↔◌, ◌⊎◌, inl, inr, Option, MatchOption, true, ◌∙◌, refl, sym, ap, map, arith, ℕ, ◌+◌, ◌-◌, ◌<◌, ◌≤◌, ℤ, pos, neg_ℤ, ◌≤ℤ◌, ◌<ℤ◌, List, [], ◌∷◌, ◌++◌, append_assoc, length, get_or, take, drop}
-use Rattle.std.specs.Prelude.{IfSome}
+use Rattle.std.specs.Prelude.{IfSome, IfOk, Result, Ok, Err}
 use Rattle.std.specs.List.{All, insert}
 use Rattle.std.proofs.lemmas.List.{append-nil, take_more, take-append-drop, map-append, length-append}
 use Rattle.std.proofs.lemmas.List.Elements.{All-nil, All-cons, All-head, All-tail, All-append, All-map, All-filter, All-weaker, filter-append, filter_passes}
 use Rattle.isl_math.specs.Order.{abs_of}
 use Rattle.isl_math.proofs.Ring.{linear}
-use Rattle.isl_meter.specs.Gauge.{Gauge}
+use Rattle.isl_meter.specs.Gauge.{Gauge, IsDoneWithin}
+use Rattle.isl_meter.specs.declared.Cut.{Cut}
+use Rattle.isl_meter.proofs.UnitLemmas.{charged_weaker, cut_weaker}
 use Rattle.isl_piece.specs.declared.row.Row.{Row}
 use Rattle.isl_piece.specs.Normal.{IsNormal}
 use Rattle.isl_piece.specs.Row.{HoldsRow, IsWellFormed, IsRowWithin, value_at, coef_at}
 use Rattle.isl_piece.specs.System.{HoldRows}
 use Rattle.isl_omega.specs.Column.{IsFree, HoldAt, dropped, IsAnswerFor, IsProper}
 use Rattle.isl_column.specs.Column.{HoldAtSome}
+use Rattle.isl_column.specs.RealShadow.{HoldReally}
 use Rattle.isl_column.specs.Exact.{IsExactRow, IsExactColumn, real_rows, rows_left, pairs_on, AreAdded}
 use Rattle.isl_omega.specs.Shadow.{IsReal, lower_at, upper_at, IsRealRow, real_row}
 use Rattle.isl_omega.specs.Equality.{HasEquality}
@@ -22,7 +25,9 @@ use Rattle.isl_omega.specs.declared.sides.Side.{Side}
 use Rattle.isl_omega.specs.declared.sides.Side.TheVariants.{Lower, Upper, Divides, NotDivides, Free}
 use Rattle.isl_omega.specs.declared.sides.Sides.{Sides}
 use Rattle.isl_column.proofs.DarkShadowLemmas.{dark_meets}
+use Rattle.isl_omega.specs.Units.{IsDoneFor}
 use Rattle.isl_omega.proofs.ColumnLemmas.{rows_formed, settled_is}
+use Rattle.isl_omega.proofs.ExactUnits.{charged_up_to}
 use Rattle.isl_column.proofs.EliminateLemmas.{formed_of}
 use Rattle.isl_omega.proofs.ImageLemmas.{free_of_zero, answer_same}
 use Rattle.isl_math.proofs.ListLaws.{All-parts, All-unmapped}
@@ -118,9 +123,26 @@ left_formed g columns col rows l s =
           (all_real (IsFree col) col lowers uppers (λ k d i. λ m b j. real_free g columns col (get_or lowers k d) (get_or uppers m b) (s.lowers k d i) (s.uppers m b j) l)),
     )
 
--- it holds exactly where some x meets the rows
-exact_holds : (g : Gauge) (columns col : ℕ) (rows : List Row) (point : List ℤ) → AreSided g columns col (sides_of col rows) → IsExactColumn col rows → col < columns → length point ≡ columns - 1 → HoldAt (rows_left col rows) col point (pos 0) ↔ ((x : ℤ) × HoldAt rows col point x)
-exact_holds g columns col rows point s e l n = (forth, back)
+-- it holds wherever some x meets the rows
+pub real_rows_hold : (g : Gauge) (columns col : ℕ) (rows : List Row) (point : List ℤ) → AreSided g columns col (sides_of col rows) → col < columns → length point ≡ columns - 1 → (x : ℤ) × HoldAt rows col point x → HoldReally rows col point
+real_rows_hold g columns col rows point s l n a =
+    let lowers = on_side Lower col rows in
+    let uppers = on_side Upper col rows in
+    let free = on_side Free col rows in
+    let P : Row → Type 0 = λ r. HoldsRow r (insert point col (pos 0)) in
+    let x = a.0 in
+    let h = (sides_hold rows col (sides_of col rows) point x (are_sides col rows)).0 a.1 in
+    All-append P free (real_rows col lowers uppers) (free_rows_hold g columns col free point x (pos 0) l n s.free h.free) (all_real P col lowers uppers (λ k d i. λ j b q.
+    let low = get_or lowers k d in
+    let up = get_or uppers j b in
+    let hl = s.lowers k d i in
+    let hu = s.uppers j b q in
+    (real_holds g columns col low up point (pos 0) hl hu l n).1 (real_pair x (lower_at col point low) (upper_at col point up) hl.factor (let f = hu.factor in omega (arith, linear))
+    ((lower_meets g columns col low point x hl l n).0 (h.lowers k d i)) ((upper_meets g columns col up point x hu l n).0 (h.uppers j b q)))))
+
+-- where the column is exact it holds there alone
+exact_holds : (g : Gauge) (columns col : ℕ) (rows : List Row) (point : List ℤ) → AreSided g columns col (sides_of col rows) → IsExactColumn col rows → col < columns → length point ≡ columns - 1 → HoldReally rows col point ↔ ((x : ℤ) × HoldAt rows col point x)
+exact_holds g columns col rows point s e l n = (forth, real_rows_hold g columns col rows point s l n)
   where
     lowers : List Row
     lowers = on_side Lower col rows
@@ -153,41 +175,44 @@ exact_holds g columns col rows point s e l n = (forth, back)
           }),
         )
 
-    back : (x : ℤ) × HoldAt rows col point x → HoldAt (rows_left col rows) col point (pos 0)
-    back a =
-        let x = a.0 in
-        let h = (sides_hold rows col (sides_of col rows) point x (are_sides col rows)).0 a.1 in
-        All-append P free (real_rows col lowers uppers) (free_rows_hold g columns col free point x (pos 0) l n s.free h.free) (all_real P col lowers uppers (λ k d i. λ j b q.
-        let low = get_or lowers k d in
-        let up = get_or uppers j b in
-        let hl = s.lowers k d i in
-        let hu = s.uppers j b q in
-        (real_holds g columns col low up point (pos 0) hl hu l n).1 (real_pair x (lower_at col point low) (upper_at col point up) hl.factor (let f = hu.factor in omega (arith, linear))
-        ((lower_meets g columns col low point x hl l n).0 (h.lowers k d i)) ((upper_meets g columns col up point x hu l n).0 (h.uppers j b q)))))
-
 -- ---- the rows without the column
 pub exact_sided : (g : Gauge) (columns : ℕ) (rows : List Row) (col : ℕ) → All (IsProper g columns) rows → ¬ HasEquality col rows → AreSided g columns col (sides_of col rows)
 exact_sided g columns rows col w none = sides_are g columns col rows (sides_of col rows) (are_sides col rows) w none
-
-pub exact_is : (g k : Gauge) (columns : ℕ) (rows : List Row) (col : ℕ) (short : List Row) (o : Option (List Row)) → All (IsProper g columns) rows → ¬ HasEquality col rows → IsExactColumn col rows → col < columns → AreAdded g col (rows_left col rows) [] short
-    → ((xs : List ℤ) → MatchOption o (¬ HoldRows short xs) (λ kept. HoldRows kept xs ↔ HoldRows short xs))
-    → IfSome o IsNormal → IfSome o (All (IsWellFormed (columns - 1))) → IfSome o (All (IsRowWithin k)) → IsAnswerFor k (columns - 1) (HoldAtSome rows col) o
-exact_is g k columns rows col short o w none e l a points normal shape within =
-    let s = exact_sided g columns rows col w none in
-    let f = left_formed g columns col rows l s in
-    let left = rows_left col rows in
-    answer_same k (columns - 1) (λ point. HoldAt left col point (pos 0)) (HoldAtSome rows col) (λ point n. exact_holds g columns col rows point s e l n) o
-    (settled_is k columns col left short o l f.0 f.1 a.pushed points normal shape within)
-
-pub exact_short : (g : Gauge) (columns : ℕ) (rows : List Row) (col : ℕ) (short : List Row) → All (IsProper g columns) rows → ¬ HasEquality col rows → col < columns → AreAdded g col (rows_left col rows) [] short → All (IsWellFormed (columns - 1)) short × All (IsRowWithin g) short
-exact_short g columns rows col short w none l a =
-    let f = left_formed g columns col rows l (exact_sided g columns rows col w none) in
-    rw a.pushed (rows_formed columns col (rows_left col rows) l f.0, a.within)
 
 pub exact_cost : (g : Gauge) (columns : ℕ) (rows : List Row) (col : ℕ) → All (IsProper g columns) rows → ¬ HasEquality col rows → pos (pairs_on col rows) ≤ℤ elimination_units rows col
 exact_cost g columns rows col w none =
     let s = exact_sided g columns rows col w none in
     pairs_cost g columns col rows (on_side Lower col rows) (on_side Upper col rows) (formed_of g columns rows w) s.lowers s.uppers
+
+-- what is answered for the real rows
+pub real_answer : (g k : Gauge) (columns : ℕ) (rows : List Row) (col : ℕ) (short : List Row) (o : Option (List Row)) → All (IsProper g columns) rows → ¬ HasEquality col rows → col < columns → AreAdded g col (rows_left col rows) [] short
+    → ((xs : List ℤ) → MatchOption o (¬ HoldRows short xs) (λ kept. HoldRows kept xs ↔ HoldRows short xs))
+    → IfSome o IsNormal → IfSome o (All (IsWellFormed (columns - 1))) → IfSome o (All (IsRowWithin k)) → IsAnswerFor k (columns - 1) (HoldReally rows col) o
+real_answer g k columns rows col short o w none l a points normal shape within =
+    let f = left_formed g columns col rows l (exact_sided g columns rows col w none) in
+    settled_is k columns col (rows_left col rows) short o l f.0 f.1 a.pushed points normal shape within
+
+-- where the column is exact, it answers for the rows
+pub exact_from : (g k : Gauge) (columns : ℕ) (rows : List Row) (col : ℕ) (result : Result (Option (List Row)) Cut) → All (IsProper g columns) rows → ¬ HasEquality col rows → IsExactColumn col rows → col < columns
+    → IsDoneFor (pairs_on col rows) g k (IsAnswerFor g (columns - 1) (HoldReally rows col)) result
+    → IsDoneWithin (elimination_units rows col) g k (IsAnswerFor g (columns - 1) (HoldAtSome rows col)) result
+exact_from g k columns rows col (Ok left) w none e l d =
+    let n = pairs_on col rows in
+    let s = exact_sided g columns rows col w none in (
+      answer_same g (columns - 1) (HoldReally rows col) (HoldAtSome rows col) (λ point n. exact_holds g columns col rows point s e l n) left d.0,
+      charged_weaker (pos n) (elimination_units rows col) g k (exact_cost g columns rows col w none) (charged_up_to n g k d.1),
+    )
+exact_from g k columns rows col (Err cut) w none e l d = cut_weaker (pos (pairs_on col rows)) (elimination_units rows col) g k cut (exact_cost g columns rows col w none) d
+
+-- exact units are at least as many
+pub at_least_paid : {A : Type 0} (n : ℕ) (g k : Gauge) (P : A → Type 0) (result : Result A Cut) → IsDoneFor n g k P result → IfOk result (λ _. g.units + n ≤ k.units)
+at_least_paid n g k P (Ok v) d = let e = ap (λ (x : Gauge). x.units) d.1 in omega (arith, e)
+at_least_paid n g k P (Err cut) d = tt
+
+pub exact_short : (g : Gauge) (columns : ℕ) (rows : List Row) (col : ℕ) (short : List Row) → All (IsProper g columns) rows → ¬ HasEquality col rows → col < columns → AreAdded g col (rows_left col rows) [] short → All (IsWellFormed (columns - 1)) short × All (IsRowWithin g) short
+exact_short g columns rows col short w none l a =
+    let f = left_formed g columns col rows l (exact_sided g columns rows col w none) in
+    rw a.pushed (rows_formed columns col (rows_left col rows) l f.0, a.within)
 
 -- ---- rows that are pushed
 pub lower_from : (g : Gauge) (columns col : ℕ) (r : Row) → IsProper g columns r → is_same Lower (side_of col r) ≡ true → IsLower g columns col r

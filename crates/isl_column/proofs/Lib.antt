@@ -5,6 +5,7 @@ pub mod ExactLemmas
 pub mod LeastEquality
 pub mod NeighbourLemmas
 pub mod PartsLemmas
+pub mod RealShadowLemmas
 pub mod ResidueLemmas
 pub mod SmallSides
 pub mod SmallSplinters

@@ -1,12 +1,12 @@
 -- What is still to come: one list after another.
 use Rattle.std.proofs.Common.{◌≡◌, ◌≢◌, ◌↔◌, ◌⊎◌, inl, inr, Option, Some, None, ◌∙◌, refl, sym, ap, arith, Bool, true, false, cond, int_lt, ℕ, ◌+◌, ◌-◌, ◌*◌, ◌<◌, ◌≤◌, ◌^◌, ℤ, pos, ◌+ℤ◌, ◌-ℤ◌, ◌*ℤ◌, ◌≤ℤ◌, ◌<ℤ◌, List, [], ◌∷◌, ◌++◌, length, MatchOption}
-use Rattle.std.specs.Prelude.{IfSome, option_to_list, Result, Ok, Err, MatchResult}
+use Rattle.std.specs.Prelude.{IfSome, IsTrue, option_to_list, Result, Ok, Err, MatchResult}
 use Rattle.std.specs.List.{All}
 use Rattle.std.proofs.lemmas.Bool.{cond-true}
 use Rattle.std.proofs.lemmas.List.{length-append, append-nil}
 use Rattle.std.proofs.lemmas.List.Elements.{All-nil, All-push}
 use Rattle.isl_math.proofs.Ring.{expand, linear}
-use Rattle.isl_math.proofs.OrderLaws.{not_negative-*ℤ, ≤ℤ-*ℤ}
+use Rattle.isl_math.proofs.OrderLaws.{not_negative-*ℤ, positive-*ℤ, ≤ℤ-*ℤ}
 use Rattle.isl_math.proofs.ListLaws.{Any-none, Any-parts, Any-left, Any-right, Any-one, Any-first}
 use Rattle.isl_meter.specs.Gauge.{Gauge, IsCharged, IsChargedUpTo, IsCutBy, IsCutUpTo}
 use Rattle.isl_meter.specs.declared.Cut.{Cut}
@@ -34,7 +34,7 @@ use Rattle.isl_column.specs.Units.{elimination_units}
 use Rattle.isl_column.specs.declared.dark_shadow.DarkShadow.{DarkShadow}
 use Rattle.isl_column.specs.declared.residue.Residues.{Residues}
 use Rattle.isl_column.proofs.ResidueLemmas.{sided_kept, residues_none, residues_next, residues_all}
-use Rattle.isl_column.proofs.SplinterLemmas.{rows_proper_kept, shadow_kept, total_not_negative}
+use Rattle.isl_column.proofs.SplinterLemmas.{rows_proper_kept, shadow_kept, taken_dark, total_not_negative, some_splinters, no_splinters}
 use Rattle.isl_column.proofs.UnitLemmas.{residue_units_positive, residues_units_most}
 
 -- ---- what is said does not depend on what the meter counted
@@ -79,6 +79,52 @@ units_not_negative g columns parts a =
     let tails = total_not_negative g parts.columns parts.col parts.dark_shadow.tails.items a.shadow.tails in
     let residues = residues_not_negative g parts.columns parts.col parts.residues a.residues in
     omega (arith, linear)
+
+-- splinters or residues are still to come exactly where units may still be used
+pub more_units : (g : Gauge) (columns : ℕ) (parts : PartsView) → AreParts g columns parts → ¬ All (λ t. t.last <ℤ pos 0) parts.dark_shadow.tails.items → pos 0 <ℤ most_units parts
+more_units g columns parts a some =
+    let tails = some_splinters g parts.columns parts.col parts.dark_shadow.tails.items a.shadow.tails some in
+    let residues = residues_not_negative g parts.columns parts.col parts.residues a.residues in
+    omega (arith, linear)
+
+pub no_more_units : (g : Gauge) (columns : ℕ) (parts : PartsView) → AreParts g columns parts → All (λ t. t.last <ℤ pos 0) parts.dark_shadow.tails.items → parts.residues ≡ None → ¬ (pos 0 <ℤ most_units parts)
+no_more_units g columns parts a none e some =
+    let tails = no_splinters g parts.columns parts.col parts.dark_shadow.tails.items a.shadow.tails none in
+    let residues : residues_most parts.col parts.residues ≡ pos 0 = rw e refl in
+    omega (arith, linear)
+
+pub residue_more : (g : Gauge) (columns : ℕ) (parts : PartsView) (r : Residues) → AreParts g columns parts → All (λ t. t.last <ℤ pos 0) parts.dark_shadow.tails.items → parts.residues ≡ Some r
+    → (pos 0 <ℤ r.left) ↔ (pos 0 <ℤ most_units parts)
+residue_more g columns parts r a none e =
+    let tails = no_splinters g parts.columns parts.col parts.dark_shadow.tails.items a.shadow.tails none in
+    let are : AreResidues g parts.columns parts.col r = rw e at a.residues in
+    let most : residues_most parts.col parts.residues ≡ r.left *ℤ residue_units parts.col r.period r.sides = rw e refl in
+    let one = residue_units_positive g parts.columns parts.col r.period r.sides are.period.positive are.sided in
+    by r.left (residue_units parts.col r.period r.sides) (most_units parts) are.not_negative (omega (arith, linear)) (omega (arith, linear))
+  where
+    by : (l u m : ℤ) → pos 0 ≤ℤ l → pos 0 <ℤ u → m ≡ l *ℤ u → (pos 0 <ℤ l) ↔ (pos 0 <ℤ m)
+    by l u m n p e = (
+      (λ h. rw e (positive-*ℤ l u h p)),
+      (λ h. let no : ¬ (l ≡ pos 0) = λ z. (let q : m ≡ pos 0 = e ∙ ap (λ (x : ℤ). x *ℤ u) z ∙ simp expand (omega (arith, linear)) in omega (arith, linear)) in omega (arith, linear)),
+    )
+
+true_not_false : IsTrue false → ⊥
+true_not_false e = grind arith
+
+-- what tells whether more is to come, of the tails and of residues
+pub more_if_unspent : (g : Gauge) (columns : ℕ) (parts : PartsView) (spent : Bool) (tails : List Splinters) → tails ≡ parts.dark_shadow.tails.items → IsTrue spent ↔ All (λ t. t.last <ℤ pos 0) tails → spent ≡ false → AreParts g columns parts
+    → IsTrue true ↔ (pos 0 <ℤ most_units parts)
+more_if_unspent g columns parts spent tails e is no_longer a = ((λ t. more_units g columns parts a (λ all. true_not_false (rw no_longer at (is.1 (rw e all))))), (λ m. refl))
+
+pub none_if_spent : (g : Gauge) (columns : ℕ) (parts : PartsView) (spent : Bool) (tails : List Splinters) → tails ≡ parts.dark_shadow.tails.items → IsTrue spent ↔ All (λ t. t.last <ℤ pos 0) tails → spent ≡ true → parts.residues ≡ None → AreParts g columns parts
+    → IsTrue false ↔ (pos 0 <ℤ most_units parts)
+none_if_spent g columns parts spent tails e is all none a = ((λ t. absurd (true_not_false t)), (λ m. absurd (no_more_units g columns parts a (rw e at (is.0 all)) none m)))
+
+pub more_if_residue : (g : Gauge) (columns : ℕ) (parts : PartsView) (spent answer : Bool) (tails : List Splinters) (r : Residues) → tails ≡ parts.dark_shadow.tails.items → IsTrue spent ↔ All (λ t. t.last <ℤ pos 0) tails → spent ≡ true → parts.residues ≡ Some r
+    → IsTrue answer ↔ (pos 0 <ℤ r.left) → AreParts g columns parts → IsTrue answer ↔ (pos 0 <ℤ most_units parts)
+more_if_residue g columns parts spent answer tails r e is all some own a =
+    let more = residue_more g columns parts r a (rw e at (is.0 all)) some in
+    ((λ t. more.0 (own.0 t)), (λ m. own.1 (more.1 m)))
 
 pub head_at_most : (dark : Option (List Row)) → count_of dark ≤ 1
 head_at_most None = omega arith
@@ -314,6 +360,24 @@ parts_taken g h k columns first now next rows s a c t units counted ec el er =
       counted = all;
       pairs = let before = s.pairs in let own = c.units in let same = ap residues_least er in omega arith;
     }
+
+-- the head was taken out of parts
+pub head_next : (g : Gauge) (columns : ℕ) (parts next : PartsView) (rows : List Row) → AreParts g columns parts → parts.dark_shadow.dark ≡ Some rows → next.dark_shadow.dark ≡ None
+    → next.dark_shadow.rows ≡ parts.dark_shadow.rows → next.dark_shadow.tails.items ≡ parts.dark_shadow.tails.items → next.columns ≡ parts.columns → next.col ≡ parts.col → next.residues ≡ parts.residues
+    → IsNextPart g columns parts rows next
+head_next g columns parts next rows a some none er et ec el es =
+    let taken = taken_dark g parts.columns parts.col parts.dark_shadow next.dark_shadow rows a.shadow some none er et in
+    let one = ap count_of some in
+    let tails = ap splinter_count et in
+    (parts_taken g g g columns parts parts next rows (parts_first g columns parts a) a (IsCharged_refl g g refl) taken (omega (arith, linear)) (omega arith) ec el es).next
+
+abbrev with_head : PartsView → Option (List Row) → PartsView
+with_head parts dark = record { columns = parts.columns; col = parts.col; dark_shadow = record { rows = parts.dark_shadow.rows; dark = dark; tails = parts.dark_shadow.tails }; residues = parts.residues }
+
+pub head_taken : (g : Gauge) (columns : ℕ) (parts : PartsView) (after result : Option (List Row)) → AreParts g columns parts → result ≡ parts.dark_shadow.dark → after ≡ None
+    → MatchOption result (with_head parts after ≡ parts) (λ rows. IsNextPart g columns parts rows (with_head parts after))
+head_taken g columns parts after None a e n = ap (with_head parts) (n ∙ e)
+head_taken g columns parts after (Some rows) a e n = head_next g columns parts (with_head parts after) rows a (sym e) n refl refl refl refl refl
 
 -- the next residue was opened
 pub parts_opened : (g h k m : Gauge) (columns : ℕ) (first now next : PartsView) → ArePartsSoFar g h columns first now → IsNoDarkShadow now.columns now.col now.dark_shadow → IsChargedUpTo (splinter_count now.dark_shadow.tails.items) h k

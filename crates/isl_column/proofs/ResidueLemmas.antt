@@ -110,7 +110,7 @@ with_row_holds columns col sides p t point x e l n =
     )
 
 -- ---- no row is left that a modulus must not divide
-none_on_side : (p : Row → Bool) (rows : List Row) → All (λ r. p r ≡ false) rows → filter p rows ≡ []
+pub none_on_side : (p : Row → Bool) (rows : List Row) → All (λ r. p r ≡ false) rows → filter p rows ≡ []
 none_on_side p [] h = refl
 none_on_side p (r ∷ rows) h = rw (All-head (λ r. p r ≡ false) r rows h) (none_on_side p rows (All-tail (λ r. p r ≡ false) r rows h))
 

@@ -3,9 +3,10 @@ use Rattle.std.proofs.Common.{◌≡◌, ◌↔◌, ◌⊎◌, inl, inr, Option,
 use Rattle.std.specs.Prelude.{IfSome, MatchOption}
 use Rattle.std.proofs.lemmas.List.{length-append}
 use Rattle.std.specs.List.{All, Any, insert}
-use Rattle.std.proofs.lemmas.List.Elements.{All-head, All-tail, All-push}
+use Rattle.std.proofs.lemmas.List.Elements.{All-nil, All-cons, All-head, All-tail, All-push}
 use Rattle.isl_math.specs.Dot.{dot}
 use Rattle.isl_math.proofs.Ring.{linear}
+use Rattle.isl_math.proofs.OrderLaws.{cases_ℤ}
 use Rattle.isl_math.proofs.ListLaws.{All-last, Any-none, Any-parts, Any-left, Any-right, Any-one, Any-first}
 use Rattle.isl_meter.specs.Gauge.{Gauge, IsWithin, IsCharged, IsChargedUpTo, IsCutUpTo}
 use Rattle.isl_meter.specs.declared.Cut.{Cut}
@@ -160,6 +161,27 @@ total-push (s ∷ tails) t = let e = total-push tails t in omega (arith, linear)
 pub total_not_negative : (g : Gauge) (columns col : ℕ) (tails : List Splinters) → All (AreSplinters g columns col) tails → pos 0 ≤ℤ splinter_count tails
 total_not_negative g columns col [] h = omega (arith, linear)
 total_not_negative g columns col (t ∷ tails) h = let f = (All-head (AreSplinters g columns col) t tails h).not_below in let r = total_not_negative g columns col tails (All-tail (AreSplinters g columns col) t tails h) in omega (arith, linear)
+
+-- tails whose last values are below 0 have none, and others have some
+pub no_splinters : (g : Gauge) (columns col : ℕ) (tails : List Splinters) → All (AreSplinters g columns col) tails → All (λ t. t.last <ℤ pos 0) tails → splinter_count tails ≡ pos 0
+no_splinters g columns col [] h n = refl
+no_splinters g columns col (t ∷ tails) h n =
+    let low = (All-head (AreSplinters g columns col) t tails h).not_below in
+    let high = All-head (λ t. t.last <ℤ pos 0) t tails n in
+    let rest = no_splinters g columns col tails (All-tail (AreSplinters g columns col) t tails h) (All-tail (λ t. t.last <ℤ pos 0) t tails n) in
+    omega (arith, linear)
+
+pub some_splinters : (g : Gauge) (columns col : ℕ) (tails : List Splinters) → All (AreSplinters g columns col) tails → ¬ All (λ t. t.last <ℤ pos 0) tails → pos 0 <ℤ splinter_count tails
+some_splinters g columns col [] h n = absurd (n (All-nil (λ t. t.last <ℤ pos 0)))
+some_splinters g columns col (t ∷ tails) h n = elim (cases_ℤ t.last (pos 0)) [
+  | inl below ↦
+      let low = (All-head (AreSplinters g columns col) t tails h).not_below in
+      let rest = some_splinters g columns col tails (All-tail (AreSplinters g columns col) t tails h) (λ m. n (All-cons (λ t. t.last <ℤ pos 0) t tails below m)) in
+      omega (arith, linear)
+  | inr above ↦
+      let rest = total_not_negative g columns col tails (All-tail (AreSplinters g columns col) t tails h) in
+      elim above [ inl e ↦ omega (arith, linear) | inr l ↦ omega (arith, linear) ]
+]
 
 -- ---- one list after another
 -- a dark shadow in which some lists were built, after units that with those to come are no more than before

@@ -3,6 +3,7 @@ pub mod DarkShadow
 pub mod Exact
 pub mod Magnitude
 pub mod Parts
+pub mod RealShadow
 pub mod Residue
 pub mod Solved
 pub mod Units

@@ -1,14 +1,20 @@
-//! The equality by which a column is taken out.
+//! The equality by which a column is taken out, and what it leaves.
 
-ghost use Rattle.std.specs.Prelude.{◌≡◌, ◌≢◌, ◌↔◌, ◌<◌, ◌+◌, pos, All, length, take, IsTrue, MatchOption};
+ghost use Rattle.std.specs.Prelude.{◌≡◌, ◌≢◌, ◌↔◌, ◌-◌, ◌<◌, ◌+◌, pos, All, IfOk, length, take, IsTrue, MatchOption};
+ghost use Rattle.isl_meter.specs.Gauge.{IsDone};
 ghost use Rattle.isl_piece.specs.declared.row.RowKind.TheVariants.{Zero};
 ghost use Rattle.isl_piece.specs.Row.{coef_at};
-ghost use Rattle.isl_column.specs.Solved.{IsLeastAmong};
-ghost use Rattle.isl_omega.specs.Column.{IsProper};
+ghost use Rattle.isl_column.specs.Column.{HoldAtSome};
+ghost use Rattle.isl_column.specs.Magnitude.{HaveSmallNumbers};
+ghost use Rattle.isl_column.specs.Solved.{solved_rows, IsLeastAmong};
+ghost use Rattle.isl_omega.specs.Column.{IsAnswerFor, IsProper};
 ghost use Rattle.isl_omega.specs.Equality.{HasEquality};
+ghost use Rattle.isl_omega.specs.Magnitude.{IsNoOverflow};
 
-use isl_meter::Meter;
-use isl_piece::{Row, RowKind};
+use isl_meter::{Cut, Meter};
+use isl_omega::equality::equality_step;
+use isl_piece::{Row, RowKind, Rows};
+use std::alloc::Global;
 
 // Whether the row is an equality that has the column.
 fn is_equality(row: &Row, col: usize) -> bool
@@ -56,4 +62,24 @@ pub(crate) fn equality_at(rows: &[Row], columns: usize, col: usize, meter: &Mete
         found = better(rows, found, i, columns, col, meter);
     }
     found
+}
+
+/// What that equality leaves of the rows: they are a function of the rows, and no unit is used.
+pub(crate) fn solved_left(
+    alloc: Global,
+    rows: &[Row],
+    at: usize,
+    columns: usize,
+    col: usize,
+    meter: &mut Meter,
+) -> Result<Option<Rows>, Cut>
+    requires rows { All (IsProper meter.old columns) rows.now }
+    requires col_in { col < columns }
+    requires equality { IsLeastAmong col rows.now (length rows.now) at }
+    ensures exact { IsDone meter.old meter.new (IsAnswerFor meter.old (columns - 1) (HoldAtSome rows.now col)) result }
+    ensures left { IfOk result (λ left. left ≡ solved_rows rows.now col) }
+    ensures no_overflow { meter.old.bits ≡ 127 → HaveSmallNumbers rows.now → IsNoOverflow result }
+{
+    let left = equality_step(alloc, rows, &rows[at], columns, col, meter)?;
+    Ok(left)
 }

@@ -1,4 +1,5 @@
-//! Columns whose shadow is exact: no splinter, no residue, and no memory but for the rows that are answered.
+//! The real rows of all pairs of bounds. Where a column is exact they are all that is left: no splinter, no residue, and no memory but for
+//! the rows that are answered.
 
 ghost use Rattle.std.specs.Prelude.{◌≡◌, ◌↔◌, ◌-◌, ◌<◌, ◌∷◌, ◌*◌, ◌^◌, [], All, length, map, IfOk, IsTrue, MatchResult, pos, ◌+◌, ◌≤◌};
 ghost use Rattle.isl_piece.specs.Row.{IsRowWithin, IsRowUpTo};
@@ -6,6 +7,7 @@ ghost use Rattle.isl_column.specs.Column.{HoldAtSome};
 ghost use Rattle.isl_omega.specs.Column.{dropped, IsAnswerFor, IsProper};
 ghost use Rattle.isl_omega.specs.Equality.{HasEquality};
 ghost use Rattle.isl_column.specs.Exact.{IsExactRow, IsExactColumn, real_rows, rows_left, pairs_on, exact_rows, AreAdded};
+ghost use Rattle.isl_column.specs.RealShadow.{HoldReally};
 ghost use Rattle.isl_omega.specs.Shadow.{real_row};
 ghost use Rattle.isl_omega.specs.Magnitude.{IsNoOverflow};
 ghost use Rattle.isl_omega.specs.Units.{IsDoneFor};
@@ -246,6 +248,27 @@ fn short_rows(
     Ok(short)
 }
 
+/// The rows that do not depend on the column, and the real rows of all pairs, without it; none where no point is left.
+pub(crate) fn real_left(
+    alloc: Global,
+    rows: &[Row],
+    columns: usize,
+    col: usize,
+    meter: &mut Meter,
+) -> Result<Option<Rows>, Cut>
+    requires rows { All (IsProper meter.old columns) rows.now }
+    requires col_in { col < columns }
+    requires none { ¬ HasEquality col rows.now }
+    ensures exact { IsDoneFor (pairs_on col rows.now) meter.old meter.new
+        (IsAnswerFor meter.old (columns - 1) (HoldReally rows.now col)) result }
+    ensures left { IfOk result (λ left. left ≡ exact_rows rows.now col) }
+    ensures no_overflow { meter.old.bits ≡ 127 → HaveSmallNumbers rows.now → IsNoOverflow result }
+{
+    let short = short_rows(alloc, rows, columns, col, meter)?;
+    let left = short.normalise(alloc, meter)?;
+    Ok(left)
+}
+
 /// What is left where the column is exact: one list of rows, or none where no point is left.
 pub(crate) fn exact_left(
     alloc: Global,
@@ -264,7 +287,5 @@ pub(crate) fn exact_left(
     ensures pairs { IfOk result (λ _. meter.old.units + pairs_on col rows.now ≤ meter.new.units) }
     ensures no_overflow { meter.old.bits ≡ 127 → HaveSmallNumbers rows.now → IsNoOverflow result }
 {
-    let short = short_rows(alloc, rows, columns, col, meter)?;
-    let left = short.normalise(alloc, meter)?;
-    Ok(left)
+    real_left(alloc, rows, columns, col, meter)
 }

@@ -7,8 +7,10 @@ mod eliminate;
 mod equality;
 mod exact;
 mod parts;
+mod real;
 mod residue;
 mod splinters;
 
 pub use eliminate::eliminate_rows;
 pub use parts::Parts;
+pub use real::real_shadow;

@@ -1,7 +1,7 @@
 //! What is left of rows without one column: one list after another.
 
-ghost use Rattle.std.specs.Prelude.{◌≡◌, ◌<◌, ◌+◌, ◌-◌, ◌*◌, ◌^◌, ◌≤◌, ◌≤ℤ◌, ◌+ℤ◌, pos, [], None, Option, List, All, length, IfOk, IfSome, MatchOption, MatchResult};
-ghost use Rattle.isl_meter.specs.Gauge.{IsCharged, IsCutBy, IsDone, IsDoneWithin};
+ghost use Rattle.std.specs.Prelude.{◌≡◌, ◌<◌, ◌+◌, ◌-◌, ◌*◌, ◌^◌, ◌≤◌, ◌↔◌, ◌≤ℤ◌, ◌<ℤ◌, ◌+ℤ◌, pos, ℕ, [], None, Option, List, All, length, IfOk, IfSome, IsTrue, MatchOption, MatchResult};
+ghost use Rattle.isl_meter.specs.Gauge.{Gauge, IsCharged, IsCutBy, IsDone, IsDoneWithin};
 ghost use Rattle.isl_piece.specs.declared.row.Row.{Row};
 ghost use Rattle.isl_omega.specs.Column.{IsProper};
 ghost use Rattle.isl_omega.specs.Equality.{HasEquality};
@@ -16,11 +16,11 @@ ghost use Rattle.isl_column.specs.Solved.{solved_rows, IsLeastAmong};
 ghost use Rattle.isl_column.specs.Units.{elimination_units};
 
 use crate::dark_shadow::DarkShadow;
-use crate::equality::equality_at;
+use crate::equality::{equality_at, solved_left};
 use crate::exact::{exact_left, is_exact};
 use crate::residue::Residues;
+use crate::splinters::are_spent;
 use isl_meter::{Cut, Meter};
-use isl_omega::equality::equality_step;
 use isl_omega::sides::Sides;
 use isl_omega::step::congruence_step;
 use isl_piece::{Row, Rows};
@@ -58,7 +58,7 @@ pub struct Parts {
 }
 
 impl Parts {
-    ghost use Rattle.isl_column.specs.Parts.{ArePartsOf, AreParts, IsFoundIn, IsHeadAlone, AreSmallParts, AreUnitsUpTo, IsBegun, head_count, most_units, least_units};
+    ghost use Rattle.isl_column.specs.Parts.{ArePartsOf, AreParts, IsFoundIn, IsNextPart, IsHeadAlone, AreSmallParts, AreUnitsUpTo, IsBegun, head_count, most_units, least_units};
 
     // Nothing but a head.
     fn head(alloc: Global, left: Option<Rows>, columns: usize, col: usize) -> Parts
@@ -95,7 +95,7 @@ impl Parts {
         ensures alone { IfOk result (IsHeadAlone (solved_rows rows.now col)) }
         ensures no_overflow { meter.old.bits ≡ 127 → HaveSmallNumbers rows.now → IsNoOverflowWith AreSmallParts result }
     {
-        let left = equality_step(alloc, rows, &rows[at], columns, col, meter)?;
+        let left = solved_left(alloc, rows, at, columns, col, meter)?;
         Ok(Parts::head(alloc, left, columns, col))
     }
 
@@ -212,6 +212,27 @@ impl Parts {
             Parts::exact(alloc, rows, columns, col, meter)
         } else {
             Parts::by_sides(alloc, rows, columns, col, meter)
+        }
+    }
+
+    /// Takes the head out of them, if it is still there. No unit is used.
+    pub fn take_head(&mut self) -> Option<Rows>
+        ensures { (g : Gauge) (columns : ℕ) → AreParts g columns self.old
+            → MatchOption result (self.new ≡ self.old) (λ rows. IsNextPart g columns self.old rows self.new) }
+    {
+        self.dark_shadow.dark.take()
+    }
+
+    /// Whether more than a head is still to come: splinters or residues.
+    pub fn has_more(&self) -> bool
+        ensures { (g : Gauge) (columns : ℕ) → AreParts g columns self.now → IsTrue result ↔ (pos 0 <ℤ most_units self.now) }
+    {
+        if !are_spent(self.dark_shadow.tails.as_slice()) {
+            return true;
+        }
+        match &self.residues {
+            None => false,
+            Some(residues) => residues.left.is_positive(),
         }
     }
 

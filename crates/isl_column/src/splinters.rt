@@ -1,6 +1,6 @@
 //! Splinters: rows in which a lower bound has one of its least values.
 
-ghost use Rattle.std.specs.Prelude.{◌≡◌, ◌-◌, ◌<◌, ◌+ℤ◌, ◌-ℤ◌, ◌≤ℤ◌, pos, [], All, IfSome, MatchOption, MatchResult, ◌^◌, ◌≤◌, unsigned_abs, ◌+◌, IfOk};
+ghost use Rattle.std.specs.Prelude.{◌≡◌, ◌↔◌, ◌-◌, ◌<◌, ◌+ℤ◌, ◌-ℤ◌, ◌≤ℤ◌, ◌<ℤ◌, pos, [], All, IfSome, IsTrue, MatchOption, MatchResult, ◌^◌, ◌≤◌, unsigned_abs, ◌+◌, IfOk};
 ghost use Rattle.isl_meter.specs.Gauge.{IsWithin, IsDone, IsDoneWithin};
 ghost use Rattle.isl_column.specs.DarkShadow.{HasValue, AreSplinters, IsDarkShadow, IsSplit, IsTakenOut, IsNoDarkShadow, splinter_count};
 ghost use Rattle.isl_omega.specs.Column.{IsAnswerFor, IsProper};
@@ -16,6 +16,18 @@ use isl_omega::pair::reduced_by;
 use isl_omega::shadow::Splinters;
 use isl_piece::{Row, Rows};
 use std::alloc::Global;
+
+/// Whether no splinter of the tails is still to come.
+pub(crate) fn are_spent(tails: &[Splinters]) -> bool
+    ensures { IsTrue result ↔ All (λ t. t.last <ℤ pos 0) tails.now }
+{
+    for tail in tails {
+        if !tail.last.is_negative() {
+            return false;
+        }
+    }
+    true
+}
 
 // The rows where the bound has the value i, without the column.
 fn splinter(

@@ -1,79 +1,16 @@
-use Rattle.std.proofs.Common.{◌-◌, [], pos, sym, ap, ◌∙◌, refl, List, arith}
-use Rattle.std.specs.List.{All}
-use Rattle.isl_piece.specs.declared.row.Row.{Row}
-use Rattle.isl_piece.specs.Normal.{normal_rows}
-use Rattle.isl_piece.specs.Row.{IsWellFormed, IsRowWithin}
-use Rattle.isl_column.specs.Column.{HoldAtSome}
-use Rattle.isl_column.specs.Exact.{AreAdded, rows_left, pairs_on}
-use Rattle.isl_column.specs.Units.{elimination_units}
-use Rattle.isl_meter.specs.Gauge.{IsChargedUpTo, IsCutUpTo}
-use Rattle.isl_meter.proofs.UnitLemmas.{charged_bits, charged_weaker, cut_weaker, memory_late}
-use Rattle.isl_omega.proofs.ExactUnits.{charged_up_to}
-use Rattle.isl_omega.proofs.ColumnLemmas.{moduli_of}
-use Rattle.isl_piece.proofs.RowMagnitudes.{rows_within_kept}
-use Rattle.isl_column.proofs.ExactLemmas.{exact_short, exact_is, exact_cost}
-use Rattle.isl_column.proofs.SplinterLemmas.{answer_kept}
+use Rattle.std.proofs.Common.{◌-◌}
+use Rattle.isl_omega.specs.Column.{IsAnswerFor}
+use Rattle.isl_column.specs.Exact.{pairs_on}
+use Rattle.isl_column.specs.RealShadow.{HoldReally}
+use Rattle.isl_column.proofs.ExactLemmas.{exact_from, at_least_paid}
 use Rattle.isl_column.proofs.exact.exact_left.Goals as goal
-
-pub returns-in_err-short-clause-exact : goal.returns-in_err-short-clause-exact
-returns-in_err-short-clause-exact c =
-    let g = c.args.meter.now in
-    let k = c.short_rows.new.meter in
-    let columns = c.args.columns in
-    let rows = c.args.rows.now in
-    let e = c.in_err-short.field-0.0 in
-    let own : IsCutUpTo (pos (pairs_on c.args.col rows)) g k e = grind arith in
-    let cut = cut_weaker (pos (pairs_on c.args.col rows)) (elimination_units rows c.args.col) g k e (exact_cost g columns rows c.args.col c.requires.rows c.requires.none) own in
-    grind arith
-
-pub normalise-requires-clause-moduli : goal.normalise-requires-clause-moduli
-normalise-requires-clause-moduli c =
-    let g = c.args.meter.now in
-    let columns = c.args.columns in
-    let rows = c.args.rows.now in
-    let made : AreAdded g c.args.col (rows_left c.args.col rows) [] c.in_ok-short.short = grind arith in
-    moduli_of (columns - 1) c.in_ok-short.short (exact_short g columns rows c.args.col c.in_ok-short.short c.requires.rows c.requires.none c.requires.col_in made).0
-
-pub normalise-requires-clause-within : goal.normalise-requires-clause-within
-normalise-requires-clause-within c =
-    let g = c.args.meter.now in
-    let k = c.short_rows.new.meter in
-    let columns = c.args.columns in
-    let rows = c.args.rows.now in
-    let made : AreAdded g c.args.col (rows_left c.args.col rows) [] c.in_ok-short.short = grind arith in
-    let used : IsChargedUpTo (pos (pairs_on c.args.col rows)) g k = charged_up_to (pairs_on c.args.col rows) g k (grind arith) in
-    rows_within_kept k g c.in_ok-short.short (sym (charged_bits (pos (pairs_on c.args.col rows)) g k used)) (exact_short g columns rows c.args.col c.in_ok-short.short c.requires.rows c.requires.none c.requires.col_in made).1
-
-pub returns-in_err-left-clause-exact : goal.returns-in_err-left-clause-exact
-returns-in_err-left-clause-exact c =
-    let g = c.args.meter.now in
-    let h = c.short_rows.new.meter in
-    let columns = c.args.columns in
-    let rows = c.args.rows.now in
-    let n = pairs_on c.args.col rows in
-    let used : IsChargedUpTo (pos n) g h = charged_up_to n g h (grind arith) in
-    let cut = memory_late (pos n) (elimination_units rows c.args.col) g h h (exact_cost g columns rows c.args.col c.requires.rows c.requires.none) used refl in
-    grind arith
 
 pub returns-clause-exact : goal.returns-clause-exact
 returns-clause-exact c =
-    let g = c.args.meter.now in
-    let h = c.short_rows.new.meter in
-    let columns = c.args.columns in
-    let rows = c.args.rows.now in
-    let left = c.in_ok-left.left in
-    let n = pairs_on c.args.col rows in
-    let P = HoldAtSome rows c.args.col in
-    let made : AreAdded g c.args.col (rows_left c.args.col rows) [] c.in_ok-short.short = grind arith in
-    let charged : IsChargedUpTo (pos n) g h = charged_up_to n g h (grind arith) in
-    let short : All (IsWellFormed (columns - 1)) c.in_ok-short.short × All (IsRowWithin g) c.in_ok-short.short = exact_short g columns rows c.args.col c.in_ok-short.short c.requires.rows c.requires.none c.requires.col_in made in
-    let is = exact_is g h columns rows c.args.col c.in_ok-short.short left c.requires.rows c.requires.none c.requires.exact c.requires.col_in made c.in_ok-left.ensures.points c.in_ok-left.ensures.normal (c.in_ok-left.ensures.shape (columns - 1) short.0) c.in_ok-left.ensures.within in (
-      answer_kept g h (columns - 1) P left (charged_bits (pos n) g h charged) is,
-      charged_weaker (pos n) (elimination_units rows c.args.col) g h (exact_cost g columns rows c.args.col c.requires.rows c.requires.none) charged,
-    )
+    exact_from c.args.meter.now c.real_left.new.meter c.args.columns c.args.rows.now c.args.col c.real_left.result c.requires.rows c.requires.none c.requires.exact c.requires.col_in c.real_left.ensures.exact
 
-pub returns-clause-left : goal.returns-clause-left
-returns-clause-left c =
+pub returns-clause-pairs : goal.returns-clause-pairs
+returns-clause-pairs c =
+    let g = c.args.meter.now in
     let rows = c.args.rows.now in
-    let added : AreAdded c.args.meter.now c.args.col (rows_left c.args.col rows) [] c.in_ok-short.short = grind arith in
-    c.in_ok-left.ensures.exact ∙ ap (λ (rows : List Row). normal_rows rows) added.pushed
+    at_least_paid (pairs_on c.args.col rows) g c.real_left.new.meter (IsAnswerFor g (c.args.columns - 1) (HoldReally rows c.args.col)) c.real_left.result c.real_left.ensures.exact
