@@ -1,12 +1,14 @@
 //! Congruences on one column: several are made one, and that one is a substitution.
 
-ghost use Rattle.std.specs.Prelude.{◌≡◌, ◌<◌, ◌*ℤ◌, ◌<ℤ◌, ℤ, pos, All, IfOk, MatchResult, length, ◌≢◌, []};
-ghost use Rattle.isl_meter.specs.Gauge.{IsWithin, IsCutUpTo};
+ghost use Rattle.std.specs.Prelude.{◌≡◌, ◌<◌, ◌*ℤ◌, ◌<ℤ◌, ℤ, pos, All, IfOk, length, []};
+ghost use Rattle.isl_meter.specs.Gauge.{IsWithin, IsDone};
 ghost use Rattle.isl_piece.specs.Numbers.{reduced};
 ghost use Rattle.isl_piece.specs.Row.{IsWellFormed, IsRowWithin, coef_at};
 ghost use Rattle.isl_piece.specs.declared.row.RowKind.TheVariants.{Divides};
 ghost use Rattle.isl_omega.specs.Congruence.{reduced_row, IsReducedCongruence, SayTheSame, AreMerged, IsScaledTo, AreJoined, AreMergedTo};
+ghost use Rattle.isl_omega.specs.Magnitude.{IsNoOverflowWith};
 
+use crate::column::Column;
 use isl_meter::{Cut, Int, Meter};
 use isl_piece::{Coefs, Row, Rows, combination};
 use std::alloc::{AllocFailed, Global};
@@ -42,26 +44,20 @@ fn reduced_copy(alloc: Global, row: &Row, meter: &Meter) -> Result<Row, AllocFai
 }
 
 // The remainder of one congruence by another, of the same modulus, at the column.
-fn remainder(
-    alloc: Global,
-    p: &Row,
-    q: &Row,
-    columns: usize,
-    col: usize,
-    meter: &mut Meter,
-) -> Result<Row, Cut>
-    requires p_reduced { IsReducedCongruence columns p.now.k p.now }
-    requires q_reduced { IsReducedCongruence columns p.now.k q.now }
+fn remainder(alloc: Global, p: &Row, q: &Row, column: Column, meter: &mut Meter) -> Result<Row, Cut>
+    requires p_reduced { IsReducedCongruence column.columns p.now.k p.now }
+    requires q_reduced { IsReducedCongruence column.columns p.now.k q.now }
     requires within { IsWithin meter.old p.now.k }
     requires positive { pos 0 <ℤ p.now.k }
-    requires col_in { col < columns }
-    requires occurs { pos 0 <ℤ coef_at q.now col }
-    ensures { MatchResult result
-        (λ rest. IsReducedCongruence columns p.now.k rest × SayTheSame p.now q.now q.now rest
-        × (coef_at rest col <ℤ coef_at q.now col) × (meter.new ≡ meter.old))
-        (λ cut. IsCutUpTo (pos 0) meter.old meter.new cut) }
+    requires occurs { pos 0 <ℤ coef_at q.now column.at }
+    ensures { IsDone meter.old meter.new
+        (λ rest. IsReducedCongruence column.columns p.now.k rest × SayTheSame p.now q.now q.now rest
+        × (coef_at rest column.at <ℤ coef_at q.now column.at)) result }
 {
-    let times = p.coefs.get(col).floor_div(q.coefs.get(col), meter);
+    let times = p
+        .coefs
+        .get(column.at)
+        .floor_div(q.coefs.get(column.at), meter);
     let rest = combination(alloc, Int::ONE, p, times.neg(meter), q, meter)?;
     Ok(reduced_copy(alloc, &rest, meter)?)
 }
@@ -72,23 +68,19 @@ fn merged_pair(
     alloc: Global,
     p: Row,
     q: Row,
-    columns: usize,
-    col: usize,
+    column: Column,
     meter: &mut Meter,
 ) -> Result<(Row, Row), Cut>
-    requires p_reduced { IsReducedCongruence columns p.k p }
-    requires q_reduced { IsReducedCongruence columns p.k q }
+    requires p_reduced { IsReducedCongruence column.columns p.k p }
+    requires q_reduced { IsReducedCongruence column.columns p.k q }
     requires within { IsWithin meter.old p.k }
     requires positive { pos 0 <ℤ p.k }
-    requires col_in { col < columns }
-    ensures { MatchResult result
-        (λ pair. AreMerged columns col p.k p q pair.0 pair.1 × (meter.new ≡ meter.old))
-        (λ cut. IsCutUpTo (pos 0) meter.old meter.new cut) }
+    ensures { IsDone meter.old meter.new (λ pair. AreMerged column.columns column.at p.k p q pair.0 pair.1) result }
 {
     let mut first = p;
     let mut second = q;
-    'steps: while !second.coefs.get(col).is_zero() {
-        let rest = remainder(alloc, &first, &second, columns, col, meter)?;
+    'steps: while !second.coefs.get(column.at).is_zero() {
+        let rest = remainder(alloc, &first, &second, column, meter)?;
         first = second;
         second = rest;
     }
@@ -108,9 +100,8 @@ fn scaled_copy(
     requires kind { row.now.kind ≡ Divides }
     requires well_formed { IsWellFormed columns row.now }
     requires within { IsRowWithin meter.old row.now }
-    ensures { MatchResult result
-        (λ scaled. IsScaledTo columns (m *ℤ row.now.k) row.now scaled × IsRowWithin meter.old scaled × (meter.new ≡ meter.old))
-        (λ cut. IsCutUpTo (pos 0) meter.old meter.new cut) }
+    ensures { IsDone meter.old meter.new
+        (λ scaled. IsScaledTo columns (m *ℤ row.now.k) row.now scaled × IsRowWithin meter.old scaled) result }
 {
     let scaled = combination(alloc, m, row, Int::ZERO, row, meter)?;
     Ok(reduced_copy(alloc, &scaled, meter)?)
@@ -121,28 +112,25 @@ fn joined(
     alloc: Global,
     p: &Row,
     q: &Row,
-    columns: usize,
-    col: usize,
+    column: Column,
     meter: &mut Meter,
 ) -> Result<(Row, Row), Cut>
     requires p_kind { p.now.kind ≡ Divides }
     requires q_kind { q.now.kind ≡ Divides }
-    requires p_formed { IsWellFormed columns p.now }
-    requires q_formed { IsWellFormed columns q.now }
+    requires p_formed { IsWellFormed column.columns p.now }
+    requires q_formed { IsWellFormed column.columns q.now }
     requires p_within { IsRowWithin meter.old p.now }
     requires q_within { IsRowWithin meter.old q.now }
-    requires col_in { col < columns }
-    ensures { MatchResult result
-        (λ pair. AreJoined columns col p.now q.now pair.0 pair.1
-        × IsRowWithin meter.old pair.0 × IsRowWithin meter.old pair.1 × (meter.new ≡ meter.old))
-        (λ cut. IsCutUpTo (pos 0) meter.old meter.new cut) }
+    ensures { IsDone meter.old meter.new
+        (λ pair. AreJoined column.columns column.at p.now q.now pair.0 pair.1 × IsRowWithin meter.old pair.0
+        × IsRowWithin meter.old pair.1) result }
 {
     let common = p.modulus().gcd(q.modulus(), meter);
     let m = q.modulus().floor_div(common, meter);
     let n = p.modulus().floor_div(common, meter);
-    let first = scaled_copy(alloc, m, p, columns, meter)?;
-    let second = scaled_copy(alloc, n, q, columns, meter)?;
-    let pair = merged_pair(alloc, first, second, columns, col, meter)?;
+    let first = scaled_copy(alloc, m, p, column.columns, meter)?;
+    let second = scaled_copy(alloc, n, q, column.columns, meter)?;
+    let pair = merged_pair(alloc, first, second, column, meter)?;
     Ok(pair)
 }
 
@@ -150,24 +138,20 @@ fn joined(
 pub(crate) fn merged(
     alloc: Global,
     rows: &[Row],
-    columns: usize,
-    col: usize,
+    column: Column,
     meter: &mut Meter,
 ) -> Result<(Row, Rows), Cut>
     requires some { 0 < length rows.now }
     requires kinds { All (λ r. r.kind ≡ Divides) rows.now }
-    requires well_formed { All (IsWellFormed columns) rows.now }
+    requires well_formed { All (IsWellFormed column.columns) rows.now }
     requires within { All (IsRowWithin meter.old) rows.now }
-    requires col_in { col < columns }
-    ensures exact { MatchResult result
-        (λ pair. AreMergedTo meter.old columns col rows.now pair.0 pair.1 × (meter.new ≡ meter.old))
-        (λ cut. IsCutUpTo (pos 0) meter.old meter.new cut) }
-    ensures no_overflow { length rows.now < 2 → MatchResult result (λ pair. pair.1 ≡ []) (λ cut. cut ≢ Cut.Overflow) }
+    ensures exact { IsDone meter.old meter.new (λ pair. AreMergedTo meter.old column.columns column.at rows.now pair.0 pair.1) result }
+    ensures no_overflow { length rows.now < 2 → IsNoOverflowWith (λ pair. pair.1 ≡ []) result }
 {
     let mut one = reduced_copy(alloc, &rows[0], meter)?;
     let mut others = Rows::new(alloc);
     for i in 1..rows.len() {
-        let (next, other) = joined(alloc, &one, &rows[i], columns, col, meter)?;
+        let (next, other) = joined(alloc, &one, &rows[i], column, meter)?;
         others.push(other)?;
         one = next;
     }

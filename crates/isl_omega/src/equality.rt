@@ -1,12 +1,13 @@
 //! Substitution by an equality.
 
-ghost use Rattle.std.specs.Prelude.{◌≡◌, ◌≢◌, ◌-◌, ◌<◌, pos, length, All, IfOk, ◌^◌};
+ghost use Rattle.std.specs.Prelude.{◌≡◌, ◌≢◌, ◌-◌, pos, length, All, IfOk, ◌^◌};
 ghost use Rattle.isl_meter.specs.Gauge.{IsWithin, IsDone};
 ghost use Rattle.isl_piece.specs.Row.{IsRowWithin, IsWellFormed, coef_at, IsRowUpTo};
 ghost use Rattle.isl_omega.specs.Column.{IsAnswerFor};
 ghost use Rattle.isl_omega.specs.Equality.{AreFactors, IsSolvedBy, solvable, row_factor, equality_factor, image_of, images_of, solved_for};
 ghost use Rattle.isl_omega.specs.Magnitude.{IsNoOverflow};
 
+use crate::column::Column;
 use crate::rows::settled;
 use isl_meter::{Cut, Int, Meter};
 use isl_piece::{Row, RowKind, Rows, combination};
@@ -30,26 +31,38 @@ fn factors(pivot: Int, own: Int, meter: &Meter) -> (Int, Int)
 }
 
 // The row without the column, where `fixed` is 0.
-fn image(alloc: Global, row: &Row, fixed: &Row, col: usize, meter: &mut Meter) -> Result<Row, Cut>
+fn image(
+    alloc: Global,
+    row: &Row,
+    fixed: &Row,
+    column: Column,
+    meter: &mut Meter,
+) -> Result<Row, Cut>
     requires row_within { IsRowWithin meter.old row.now }
     requires fixed_within { IsRowWithin meter.old fixed.now }
-    requires same_width { length row.now.coefs ≡ length fixed.now.coefs }
-    requires col_in { col < length fixed.now.coefs }
-    requires occurs { coef_at fixed.now col ≢ pos 0 }
-    ensures exact { IsDone meter.old meter.new (λ short. (short ≡ image_of fixed.now col row.now) × IsRowWithin meter.old short) result }
+    requires row_width { length row.now.coefs ≡ column.columns }
+    requires fixed_width { length fixed.now.coefs ≡ column.columns }
+    requires occurs { coef_at fixed.now column.at ≢ pos 0 }
+    ensures exact { IsDone meter.old meter.new
+        (λ short. (short ≡ image_of fixed.now column.at row.now) × IsRowWithin meter.old short) result }
     ensures no_overflow { meter.old.bits ≡ 127 → IsRowUpTo (2 ^ 61) row.now → IsRowUpTo (2 ^ 63) fixed.now → IsNoOverflow result }
 {
-    let (m, n) = factors(fixed.coefs.get(col), row.coefs.get(col), meter);
+    let (m, n) = factors(fixed.coefs.get(column.at), row.coefs.get(column.at), meter);
     combination(alloc, m, row, n, fixed, meter)
 }
 
 // The row that says where some whole number makes `fixed` 0.
-fn divisibility(alloc: Global, fixed: &Row, col: usize, meter: &Meter) -> Result<Row, AllocError>
+fn divisibility(
+    alloc: Global,
+    fixed: &Row,
+    column: Column,
+    meter: &Meter,
+) -> Result<Row, AllocError>
     requires fixed_within { IsRowWithin meter.now fixed.now }
-    requires col_in { col < length fixed.now.coefs }
-    ensures { IfOk result (λ row. (row ≡ solvable fixed.now col) × IsRowWithin meter.now row) }
+    requires width { length fixed.now.coefs ≡ column.columns }
+    ensures { IfOk result (λ row. (row ≡ solvable fixed.now column.at) × IsRowWithin meter.now row) }
 {
-    let k = fixed.coefs.get(col).abs(meter);
+    let k = fixed.coefs.get(column.at).abs(meter);
     Ok(Row::new(
         RowKind::Divides,
         fixed.coefs.copy(alloc)?,
@@ -63,23 +76,22 @@ fn images(
     alloc: Global,
     rows: &[Row],
     fixed: &Row,
-    columns: usize,
-    col: usize,
+    column: Column,
     meter: &mut Meter,
 ) -> Result<Rows, Cut>
-    requires rows_formed { All (IsWellFormed columns) rows.now }
+    requires rows_formed { All (IsWellFormed column.columns) rows.now }
     requires rows_within { All (IsRowWithin meter.old) rows.now }
-    requires fixed_formed { IsWellFormed columns fixed.now }
+    requires fixed_formed { IsWellFormed column.columns fixed.now }
     requires fixed_within { IsRowWithin meter.old fixed.now }
-    requires col_in { col < columns }
-    requires occurs { coef_at fixed.now col ≢ pos 0 }
-    ensures exact { IsDone meter.old meter.new (λ short. (short ≡ images_of fixed.now col rows.now) × All (IsRowWithin meter.old) short) result }
+    requires occurs { coef_at fixed.now column.at ≢ pos 0 }
+    ensures exact { IsDone meter.old meter.new
+        (λ short. (short ≡ images_of fixed.now column.at rows.now) × All (IsRowWithin meter.old) short) result }
     ensures no_overflow { meter.old.bits ≡ 127 → All (IsRowUpTo (2 ^ 61)) rows.now → IsRowUpTo (2 ^ 63) fixed.now → IsNoOverflow result }
 {
     let mut short = Rows::new(alloc);
-    short.push(divisibility(alloc, fixed, col, meter)?)?;
+    short.push(divisibility(alloc, fixed, column, meter)?)?;
     for row in rows {
-        short.push(image(alloc, row, fixed, col, meter)?)?;
+        short.push(image(alloc, row, fixed, column, meter)?)?;
     }
     Ok(short)
 }
@@ -94,21 +106,20 @@ pub fn equality_step(
     alloc: Global,
     rows: &[Row],
     fixed: &Row,
-    columns: usize,
-    col: usize,
+    column: Column,
     meter: &mut Meter,
 ) -> Result<Option<Rows>, Cut>
-    requires rows_formed { All (IsWellFormed columns) rows.now }
+    requires rows_formed { All (IsWellFormed column.columns) rows.now }
     requires rows_within { All (IsRowWithin meter.old) rows.now }
-    requires fixed_formed { IsWellFormed columns fixed.now }
+    requires fixed_formed { IsWellFormed column.columns fixed.now }
     requires fixed_within { IsRowWithin meter.old fixed.now }
-    requires col_in { col < columns }
-    requires occurs { coef_at fixed.now col ≢ pos 0 }
-    ensures exact { IsDone meter.old meter.new (IsAnswerFor meter.old (columns - 1) (IsSolvedBy rows.now fixed.now col)) result }
-    ensures function { IfOk result (λ left. left ≡ solved_for fixed.now col rows.now) }
+    requires occurs { coef_at fixed.now column.at ≢ pos 0 }
+    ensures exact { IsDone meter.old meter.new
+        (IsAnswerFor meter.old (column.columns - 1) (IsSolvedBy rows.now fixed.now column.at)) result }
+    ensures function { IfOk result (λ left. left ≡ solved_for fixed.now column.at rows.now) }
     ensures no_overflow { meter.old.bits ≡ 127 → All (IsRowUpTo (2 ^ 61)) rows.now → IsRowUpTo (2 ^ 63) fixed.now → IsNoOverflow result }
 {
-    let short = images(alloc, rows, fixed, columns, col, meter)?;
-    let left = settled(alloc, &short, columns, col, meter)?;
+    let short = images(alloc, rows, fixed, column, meter)?;
+    let left = settled(alloc, &short, column, meter)?;
     Ok(left)
 }

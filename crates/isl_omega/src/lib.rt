@@ -1,6 +1,7 @@
 //! The steps of Pugh's Omega test, which take one column out of rows: equalities, congruences, and the shadows of pairs of bounds.
 #![tactic(auto)]
 
+pub mod column;
 pub mod combine;
 mod congruence;
 pub mod equality;

@@ -1,14 +1,15 @@
 //! What a lower and an upper bound leave without the column.
 
-ghost use Rattle.std.specs.Prelude.{◌≡◌, ◌<◌, pos, ◌-ℤ◌, ◌*ℤ◌, neg_ℤ, ◌<ℤ◌, ℤ, List, [], ◌∷◌, All, IsTrue, IfOk, IfSome, MatchResult, ◌≢◌, ◌^◌, ◌≤◌, ◌+◌, ℕ, unsigned_abs, IfErr};
+ghost use Rattle.std.specs.Prelude.{◌≡◌, ◌<◌, pos, ◌-ℤ◌, ◌*ℤ◌, neg_ℤ, ◌<ℤ◌, ℤ, List, [], ◌∷◌, All, IsTrue, IfOk, IfSome, MatchResult, ◌^◌, ◌≤◌, ◌+◌, ℕ, unsigned_abs, IfErr};
 ghost use Rattle.isl_math.specs.Divide.{IsGcdOf, floor_div};
-ghost use Rattle.isl_meter.specs.Gauge.{IsWithin, IsCutUpTo};
+ghost use Rattle.isl_meter.specs.Gauge.{IsWithin, IsCutUpTo, IsDone};
 ghost use Rattle.isl_piece.specs.declared.row.RowKind.TheVariants.{AtLeast};
 ghost use Rattle.isl_piece.specs.Row.{HoldsRow, HasModulus, IsRowWithin, coef_at, IsRowUpTo};
 ghost use Rattle.isl_omega.specs.Shadow.{ceiling, IsRealRow, IsDarkRow, IsExact, IsCap};
 ghost use Rattle.isl_omega.specs.Sides.{IsLower, IsUpper};
-ghost use Rattle.isl_omega.specs.Magnitude.{IsNoOverflow};
+ghost use Rattle.isl_omega.specs.Magnitude.{IsNoOverflow, IsNoOverflowWith};
 
+use crate::column::Column;
 use isl_meter::{Cut, Int, Meter, Overflow};
 use isl_piece::{Outcome, Row, combination, settle};
 use std::alloc::{AllocError, Global};
@@ -63,30 +64,39 @@ fn is_tight(alloc: Global, real: &Row, dark: &Row, meter: &Meter) -> Result<bool
     }
 }
 
-// The real row of a pair whose coefficients have the greatest common divisor `divisor`.
+// A lower and an upper bound.
+#[derive(Clone, Copy)]
+struct Bounds<'a> {
+    lower: &'a Row,
+    upper: &'a Row,
+}
+
+// The real row of a pair whose coefficients have the greatest common divisor `modulus`.
 fn real_row(
     alloc: Global,
-    lower: &Row,
-    upper: &Row,
-    columns: usize,
-    col: usize,
+    bounds: &Bounds<'_>,
+    column: Column,
     modulus: Int,
     meter: &mut Meter,
 ) -> Result<Row, Cut>
-    requires lower { IsLower meter.old columns col lower.now }
-    requires upper { IsUpper meter.old columns col upper.now }
-    requires col_in { col < columns }
-    requires gcd { IsGcdOf (coef_at lower.now col) (neg_ℤ (coef_at upper.now col)) modulus }
+    requires lower { IsLower meter.old column.columns column.at bounds.now.lower.now }
+    requires upper { IsUpper meter.old column.columns column.at bounds.now.upper.now }
+    requires gcd { IsGcdOf (coef_at bounds.now.lower.now column.at) (neg_ℤ (coef_at bounds.now.upper.now column.at)) modulus }
     requires within { IsWithin meter.old modulus }
-    ensures exact { MatchResult result
-        (λ real. IsRealRow columns col lower.now upper.now modulus real × IsRowWithin meter.old real × (meter.new ≡ meter.old))
-        (λ cut. IsCutUpTo (pos 0) meter.old meter.new cut) }
-    ensures no_overflow { meter.old.bits ≡ 127 → IsRowUpTo (2 ^ 62) lower.now → IsRowUpTo (2 ^ 62) upper.now
-        → MatchResult result (IsRowUpTo (2 ^ 125)) (λ cut. cut ≢ Cut.Overflow) }
+    ensures exact { IsDone meter.old meter.new
+        (λ real. IsRealRow column.columns column.at bounds.now.lower.now bounds.now.upper.now modulus real
+        × IsRowWithin meter.old real) result }
+    ensures no_overflow { meter.old.bits ≡ 127 → IsRowUpTo (2 ^ 62) bounds.now.lower.now → IsRowUpTo (2 ^ 62) bounds.now.upper.now
+        → IsNoOverflowWith (IsRowUpTo (2 ^ 125)) result }
 {
-    let m = lower.coefs.get(col).floor_div(modulus, meter);
-    let n = upper.coefs.get(col).neg(meter).floor_div(modulus, meter);
-    let real = combination(alloc, n, lower, m, upper, meter)?;
+    let m = bounds.lower.coefs.get(column.at).floor_div(modulus, meter);
+    let n = bounds
+        .upper
+        .coefs
+        .get(column.at)
+        .neg(meter)
+        .floor_div(modulus, meter);
+    let real = combination(alloc, n, bounds.lower, m, bounds.upper, meter)?;
     Ok(real)
 }
 
@@ -121,9 +131,8 @@ fn cap_of(real: &Row, n: Int, meter: &Meter) -> Option<Int>
 /// `Overflow` where the constant passes the limit of the meter, and `NoMemory`.
 pub fn reduced_by(alloc: Global, row: &Row, by: Int, meter: &mut Meter) -> Result<Row, Cut>
     requires within { IsRowWithin meter.old row.now }
-    ensures exact { MatchResult result
-        (λ low. (low ≡ record row.now { constant = row.now.constant -ℤ by }) × IsRowWithin meter.old low × (meter.new ≡ meter.old))
-        (λ cut. IsCutUpTo (pos 0) meter.old meter.new cut) }
+    ensures exact { IsDone meter.old meter.new
+        (λ low. (low ≡ record row.now { constant = row.now.constant -ℤ by }) × IsRowWithin meter.old low) result }
     ensures no_overflow { (u w : ℕ) → unsigned_abs by ≤ u → IsRowUpTo w row.now → w + u < 2 ^ meter.old.bits → IsNoOverflow result }
 {
     let constant = row.constant().sub(by, meter)?;
@@ -136,24 +145,21 @@ impl Pair {
         alloc: Global,
         lower: &Row,
         upper: &Row,
-        columns: usize,
-        col: usize,
+        column: Column,
         meter: &mut Meter,
     ) -> Result<Self, Cut>
-        requires lower { IsLower meter.old columns col lower.now }
-        requires upper { IsUpper meter.old columns col upper.now }
-        requires col_in { col < columns }
-        ensures exact { MatchResult result
-            (λ pair. IsDarkRow columns col lower.now upper.now pair.dark × IsRowWithin meter.old pair.dark
-            × (IsTrue pair.exact → IsExact columns col lower.now upper.now)
-            × IfSome pair.cap (λ cap. IsCap columns col lower.now (upper.now ∷ []) cap × IsWithin meter.old cap) × (meter.new ≡ meter.old))
-            (λ cut. IsCutUpTo (pos 0) meter.old meter.new cut) }
+        requires lower { IsLower meter.old column.columns column.at lower.now }
+        requires upper { IsUpper meter.old column.columns column.at upper.now }
+        ensures exact { IsDone meter.old meter.new
+            (λ pair. IsDarkRow column.columns column.at lower.now upper.now pair.dark × IsRowWithin meter.old pair.dark
+            × (IsTrue pair.exact → IsExact column.columns column.at lower.now upper.now)
+            × IfSome pair.cap (λ cap. IsCap column.columns column.at lower.now (upper.now ∷ []) cap × IsWithin meter.old cap)) result }
         ensures no_overflow { meter.old.bits ≡ 127 → IsRowUpTo (2 ^ 62) lower.now → IsRowUpTo (2 ^ 62) upper.now → IsNoOverflow result }
     {
-        let a = lower.coefs.get(col);
-        let b = upper.coefs.get(col).neg(meter);
+        let a = lower.coefs.get(column.at);
+        let b = upper.coefs.get(column.at).neg(meter);
         let modulus = a.gcd(b, meter);
-        let real = real_row(alloc, lower, upper, columns, col, modulus, meter)?;
+        let real = real_row(alloc, &Bounds { lower, upper }, column, modulus, meter)?;
         let by = slack(a, b, modulus, meter)?;
         let dark = reduced_by(alloc, &real, by, meter)?;
         let exact = is_tight(alloc, &real, &dark, meter)?;

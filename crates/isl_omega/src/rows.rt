@@ -1,13 +1,14 @@
 //! Rows without a column.
 
-ghost use Rattle.std.specs.Prelude.{◌≡◌, ◌-◌, ◌<◌, pos, All, IfOk, OnErr, MatchResult, map};
+ghost use Rattle.std.specs.Prelude.{◌≡◌, ◌-◌, pos, All, IfOk, OnErr, map};
 ghost use Rattle.std.specs.List.{remove};
 ghost use Rattle.isl_piece.specs.Normal.{normal_rows};
 ghost use Rattle.isl_piece.specs.Row.{IsRowWithin, IsWellFormed};
-ghost use Rattle.isl_meter.specs.Gauge.{IsCutUpTo};
 ghost use Rattle.isl_omega.specs.Column.{dropped, IsFree, IsAnswerFor, HoldAt};
 ghost use Rattle.isl_omega.specs.Magnitude.{IsNoOverflow};
+ghost use Rattle.isl_meter.specs.Gauge.{IsDone};
 
+use crate::column::Column;
 use isl_meter::{Cut, Int, Meter};
 use isl_piece::{Coefs, Row, Rows};
 use std::alloc::{AllocError, AllocFailed, Global};
@@ -62,20 +63,17 @@ fn rows_without(alloc: Global, rows: &[Row], col: usize) -> Result<Rows, Cut>
 pub fn settled(
     alloc: Global,
     rows: &Rows,
-    columns: usize,
-    col: usize,
+    column: Column,
     meter: &mut Meter,
 ) -> Result<Option<Rows>, Cut>
-    requires col_in { col < columns }
-    requires well_formed { All (IsWellFormed columns) rows.now }
+    requires well_formed { All (IsWellFormed column.columns) rows.now }
     requires within { All (IsRowWithin meter.old) rows.now }
-    requires free { All (IsFree col) rows.now }
-    ensures exact { MatchResult result
-        (λ left. IsAnswerFor meter.old (columns - 1) (λ point. HoldAt rows.now col point (pos 0)) left × (meter.new ≡ meter.old))
-        (λ cut. IsCutUpTo (pos 0) meter.old meter.new cut) }
-    ensures function { IfOk result (λ left. left ≡ normal_rows (map (λ r. dropped r col) rows.now)) }
+    requires free { All (IsFree column.at) rows.now }
+    ensures exact { IsDone meter.old meter.new
+        (IsAnswerFor meter.old (column.columns - 1) (λ point. HoldAt rows.now column.at point (pos 0))) result }
+    ensures function { IfOk result (λ left. left ≡ normal_rows (map (λ r. dropped r column.at) rows.now)) }
     ensures memory { IsNoOverflow result }
 {
-    let short = rows_without(alloc, rows.as_slice(), col)?;
+    let short = rows_without(alloc, rows.as_slice(), column.at)?;
     Ok(short.normalise(alloc, meter)?)
 }

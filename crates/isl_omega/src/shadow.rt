@@ -10,6 +10,7 @@ ghost use Rattle.isl_omega.specs.Sides.{IsLower, IsUpper};
 ghost use Rattle.isl_omega.specs.Magnitude.{IsNoOverflow};
 ghost use Rattle.isl_omega.specs.Units.{IsDoneFor};
 
+use crate::column::Column;
 use crate::pair::Pair;
 use isl_meter::{Cut, Int, Meter, Overflow};
 use isl_piece::{Row, Rows};
@@ -20,6 +21,15 @@ use std::alloc::Global;
 pub struct Splinters {
     pub lower: Row,
     pub last: Int,
+}
+
+/// Upper bounds on a column, to be paired with lower ones. Where rows must not be divided, splinters go to neighbours too: further
+/// by the factor of the lower bound.
+#[derive(Clone, Copy)]
+pub struct Uppers<'a> {
+    pub rows: &'a [Row],
+    pub column: Column,
+    pub neighbours: bool,
 }
 
 // The greatest upper factor of a pair that is not exact.
@@ -75,7 +85,8 @@ fn capped(last: Int, cap: Option<Int>, meter: &mut Meter) -> Result<Remainder, O
     requires within { IsWithin meter.old last }
     requires cap_within { IfSome cap (IsWithin meter.old) }
     ensures exact { MatchResult result
-        (λ left. IsCapped cap last left.last × (IsTrue left.never → MatchOption cap ⊥ (λ c. c <ℤ pos 0)) × IsWithin meter.old left.last × (meter.new ≡ meter.old))
+        (λ left. IsCapped cap last left.last × (IsTrue left.never → MatchOption cap ⊥ (λ c. c <ℤ pos 0)) × IsWithin meter.old left.last
+        × (meter.new ≡ meter.old))
         (λ _. IsCutUpTo (pos 0) meter.old meter.new Cut.Overflow) }
     ensures no_overflow { meter.old.bits ≡ 127 → IfErr result (λ _. ⊥) }
 {
@@ -100,30 +111,34 @@ fn capped(last: Int, cap: Option<Int>, meter: &mut Meter) -> Result<Remainder, O
 fn shadow_of(
     alloc: Global,
     lower: &Row,
-    uppers: &[Row],
-    columns: usize,
-    col: usize,
+    uppers: &Uppers<'_>,
     rows: &mut Rows,
     meter: &mut Meter,
 ) -> Result<Remainder, Cut>
-    requires lower { IsLower meter.old columns col lower.now }
-    requires uppers { All (IsUpper meter.old columns col) uppers.now }
-    requires col_in { col < columns }
-    ensures exact { IsDoneFor (length uppers.now) meter.old meter.new
-        (λ left. IsShadowOf meter.old columns col lower.now uppers.now rows.old rows.new left.last × IsWithin meter.old left.last
-        × (IsTrue left.never → AreNeverMet columns col (lower.now ∷ []) uppers.now)) result }
-    ensures no_overflow { meter.old.bits ≡ 127 → IsRowUpTo (2 ^ 62) lower.now → All (IsRowUpTo (2 ^ 62)) uppers.now → IsNoOverflow result }
+    requires lower { IsLower meter.old uppers.now.column.columns uppers.now.column.at lower.now }
+    requires uppers { All (IsUpper meter.old uppers.now.column.columns uppers.now.column.at) uppers.now.rows.now }
+    ensures exact { IsDoneFor (length uppers.now.rows.now) meter.old meter.new
+        (λ left. IsShadowOf meter.old uppers.now.column.columns uppers.now.column.at lower.now uppers.now.rows.now
+        rows.old rows.new left.last
+        × IsWithin meter.old left.last
+        × (IsTrue left.never → AreNeverMet uppers.now.column.columns uppers.now.column.at (lower.now ∷ []) uppers.now.rows.now)) result }
+    ensures no_overflow { meter.old.bits ≡ 127 → IsRowUpTo (2 ^ 62) lower.now → All (IsRowUpTo (2 ^ 62)) uppers.now.rows.now
+        → IsNoOverflow result }
 {
     let mut greatest = Int::ZERO;
     let mut cap = None;
-    for upper in uppers {
+    for upper in uppers.rows {
         meter.unit()?;
-        let pair = Pair::of(alloc, lower, upper, columns, col, meter)?;
+        let pair = Pair::of(alloc, lower, upper, uppers.column, meter)?;
         rows.push(pair.dark)?;
-        greatest = widest(greatest, upper.coefs.get(col).neg(meter), pair.exact);
+        greatest = widest(
+            greatest,
+            upper.coefs.get(uppers.column.at).neg(meter),
+            pair.exact,
+        );
         cap = least_cap(cap, pair.cap);
     }
-    let full = last_value(lower.coefs.get(col), greatest, meter)?;
+    let full = last_value(lower.coefs.get(uppers.column.at), greatest, meter)?;
     let left = capped(full, cap, meter)?;
     Ok(left)
 }
@@ -147,23 +162,26 @@ fn tail_value(last: Int, factor: Int, neighbours: bool, meter: &mut Meter) -> Re
 fn tail_of(
     alloc: Global,
     lower: &Row,
-    uppers: &[Row],
-    neighbours: bool,
-    columns: usize,
-    col: usize,
+    uppers: &Uppers<'_>,
     rows: &mut Rows,
     meter: &mut Meter,
 ) -> Result<(Splinters, bool), Cut>
-    requires lower { IsLower meter.old columns col lower.now }
-    requires uppers { All (IsUpper meter.old columns col) uppers.now }
-    requires col_in { col < columns }
-    ensures exact { IsDoneFor (length uppers.now) meter.old meter.new
-        (λ pair. LeavesSplinters meter.old columns col neighbours lower.now uppers.now rows.old rows.new pair.0
-        × (IsTrue pair.1 → AreNeverMet columns col (lower.now ∷ []) uppers.now)) result }
-    ensures no_overflow { meter.old.bits ≡ 127 → IsRowUpTo (2 ^ 62) lower.now → All (IsRowUpTo (2 ^ 62)) uppers.now → IsNoOverflow result }
+    requires lower { IsLower meter.old uppers.now.column.columns uppers.now.column.at lower.now }
+    requires uppers { All (IsUpper meter.old uppers.now.column.columns uppers.now.column.at) uppers.now.rows.now }
+    ensures exact { IsDoneFor (length uppers.now.rows.now) meter.old meter.new
+        (λ pair. LeavesSplinters meter.old uppers.now.column.columns uppers.now.column.at uppers.now.neighbours lower.now
+        uppers.now.rows.now rows.old rows.new pair.0
+        × (IsTrue pair.1 → AreNeverMet uppers.now.column.columns uppers.now.column.at (lower.now ∷ []) uppers.now.rows.now)) result }
+    ensures no_overflow { meter.old.bits ≡ 127 → IsRowUpTo (2 ^ 62) lower.now → All (IsRowUpTo (2 ^ 62)) uppers.now.rows.now
+        → IsNoOverflow result }
 {
-    let left = shadow_of(alloc, lower, uppers, columns, col, rows, meter)?;
-    let last = tail_value(left.last, lower.coefs.get(col), neighbours, meter)?;
+    let left = shadow_of(alloc, lower, uppers, rows, meter)?;
+    let last = tail_value(
+        left.last,
+        lower.coefs.get(uppers.column.at),
+        uppers.neighbours,
+        meter,
+    )?;
     let tail = Splinters {
         lower: lower.copy(alloc)?,
         last,
@@ -176,17 +194,16 @@ fn least_tail(
     alloc: Global,
     lower: &Row,
     neighbours: bool,
-    columns: usize,
-    col: usize,
+    column: Column,
     meter: &mut Meter,
 ) -> Result<Splinters, Cut>
-    requires lower { IsLower meter.old columns col lower.now }
-    requires col_in { col < columns }
-    ensures exact { IsDone meter.old meter.new (λ tail. (uppers : List Row) → AreSplintersOf meter.old col neighbours uppers lower.now tail) result }
+    requires lower { IsLower meter.old column.columns column.at lower.now }
+    ensures exact { IsDone meter.old meter.new
+        (λ tail. (uppers : List Row) → AreSplintersOf meter.old column.at neighbours uppers lower.now tail) result }
     ensures no_overflow { meter.old.bits ≡ 127 → IsRowUpTo (2 ^ 62) lower.now → IsNoOverflow result }
 {
     let none = Int::ZERO.sub(Int::ONE, meter)?;
-    let last = tail_value(none, lower.coefs.get(col), neighbours, meter)?;
+    let last = tail_value(none, lower.coefs.get(column.at), neighbours, meter)?;
     Ok(Splinters {
         lower: lower.copy(alloc)?,
         last,
@@ -198,19 +215,17 @@ fn least_tails(
     alloc: Global,
     lowers: &[Row],
     neighbours: bool,
-    columns: usize,
-    col: usize,
+    column: Column,
     meter: &mut Meter,
 ) -> Result<Vec<Splinters>, Cut>
-    requires lowers { All (IsLower meter.old columns col) lowers.now }
-    requires col_in { col < columns }
+    requires lowers { All (IsLower meter.old column.columns column.at) lowers.now }
     ensures exact { IsDone meter.old meter.new
-        (λ tails. (uppers : List Row) → AllZip (AreSplintersOf meter.old col neighbours uppers) lowers.now tails.items) result }
+        (λ tails. (uppers : List Row) → AllZip (AreSplintersOf meter.old column.at neighbours uppers) lowers.now tails.items) result }
     ensures no_overflow { meter.old.bits ≡ 127 → All (IsRowUpTo (2 ^ 62)) lowers.now → IsNoOverflow result }
 {
     let mut tails = Vec::new(alloc);
     for lower in lowers {
-        tails.push(least_tail(alloc, lower, neighbours, columns, col, meter)?)?;
+        tails.push(least_tail(alloc, lower, neighbours, column, meter)?)?;
     }
     Ok(tails)
 }
@@ -233,27 +248,23 @@ fn either(a: bool, b: bool) -> bool
 fn pairs_of(
     alloc: Global,
     lowers: &[Row],
-    uppers: &[Row],
-    neighbours: bool,
-    columns: usize,
-    col: usize,
+    uppers: &Uppers<'_>,
     meter: &mut Meter,
 ) -> Result<Pairs, Cut>
-    requires lowers { All (IsLower meter.old columns col) lowers.now }
-    requires uppers { All (IsUpper meter.old columns col) uppers.now }
-    requires col_in { col < columns }
-    ensures exact { IsDoneFor (length lowers.now * length uppers.now) meter.old meter.new
-        (λ pairs. IsShadow meter.old columns col neighbours lowers.now uppers.now pairs.rows pairs.tails.items
-        × (IsTrue pairs.never → AreNeverMet columns col lowers.now uppers.now)) result }
-    ensures no_overflow { meter.old.bits ≡ 127 → All (IsRowUpTo (2 ^ 62)) lowers.now → All (IsRowUpTo (2 ^ 62)) uppers.now → IsNoOverflow result }
+    requires lowers { All (IsLower meter.old uppers.now.column.columns uppers.now.column.at) lowers.now }
+    requires uppers { All (IsUpper meter.old uppers.now.column.columns uppers.now.column.at) uppers.now.rows.now }
+    ensures exact { IsDoneFor (length lowers.now * length uppers.now.rows.now) meter.old meter.new
+        (λ pairs. IsShadow meter.old uppers.now.column.columns uppers.now.column.at uppers.now.neighbours lowers.now
+        uppers.now.rows.now pairs.rows pairs.tails.items
+        × (IsTrue pairs.never → AreNeverMet uppers.now.column.columns uppers.now.column.at lowers.now uppers.now.rows.now)) result }
+    ensures no_overflow { meter.old.bits ≡ 127 → All (IsRowUpTo (2 ^ 62)) lowers.now → All (IsRowUpTo (2 ^ 62)) uppers.now.rows.now
+        → IsNoOverflow result }
 {
     let mut rows = Rows::new(alloc);
     let mut tails = Vec::new(alloc);
     let mut never = false;
     for lower in lowers {
-        let (tail, none) = tail_of(
-            alloc, lower, uppers, neighbours, columns, col, &mut rows, meter,
-        )?;
+        let (tail, none) = tail_of(alloc, lower, uppers, &mut rows, meter)?;
         tails.push(tail)?;
         never = either(never, none);
     }
@@ -270,24 +281,20 @@ fn pairs_of(
 pub fn shadow(
     alloc: Global,
     lowers: &[Row],
-    uppers: &[Row],
-    neighbours: bool,
-    columns: usize,
-    col: usize,
+    uppers: &Uppers<'_>,
     meter: &mut Meter,
 ) -> Result<(Rows, Vec<Splinters>), Cut>
-    requires lowers { All (IsLower meter.old columns col) lowers.now }
-    requires uppers { All (IsUpper meter.old columns col) uppers.now }
-    requires col_in { col < columns }
-    ensures exact { IsDoneFor (length lowers.now * length uppers.now) meter.old meter.new
-        (λ pair. IsShadow meter.old columns col neighbours lowers.now uppers.now pair.0 pair.1.items) result }
-    ensures no_overflow { meter.old.bits ≡ 127 → All (IsRowUpTo (2 ^ 62)) lowers.now → All (IsRowUpTo (2 ^ 62)) uppers.now → IsNoOverflow result }
+    requires lowers { All (IsLower meter.old uppers.now.column.columns uppers.now.column.at) lowers.now }
+    requires uppers { All (IsUpper meter.old uppers.now.column.columns uppers.now.column.at) uppers.now.rows.now }
+    ensures exact { IsDoneFor (length lowers.now * length uppers.now.rows.now) meter.old meter.new
+        (λ pair. IsShadow meter.old uppers.now.column.columns uppers.now.column.at uppers.now.neighbours lowers.now
+        uppers.now.rows.now pair.0 pair.1.items) result }
+    ensures no_overflow { meter.old.bits ≡ 127 → All (IsRowUpTo (2 ^ 62)) lowers.now → All (IsRowUpTo (2 ^ 62)) uppers.now.rows.now
+        → IsNoOverflow result }
 {
-    let Pairs { rows, tails, never } = pairs_of(
-        alloc, lowers, uppers, neighbours, columns, col, meter,
-    )?;
+    let Pairs { rows, tails, never } = pairs_of(alloc, lowers, uppers, meter)?;
     if never {
-        let least = least_tails(alloc, lowers, neighbours, columns, col, meter)?;
+        let least = least_tails(alloc, lowers, uppers.neighbours, uppers.column, meter)?;
         return Ok((rows, least));
     }
     Ok((rows, tails))

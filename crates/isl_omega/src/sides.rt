@@ -1,8 +1,9 @@
 //! The rows of a system by what they say of one column.
 
-ghost use Rattle.std.specs.Prelude.{◌≡◌, ◌<◌, length, All, IfOk, IfErr};
+ghost use Rattle.std.specs.Prelude.{◌≡◌, All, IfOk, IfErr};
 ghost use Rattle.isl_piece.specs.Row.{IsRowWithin, IsWellFormed};
 
+use crate::column::Column;
 use isl_meter::{Cut, Int, Meter};
 use isl_piece::{Row, RowKind, Rows};
 use std::alloc::{AllocError, Global};
@@ -66,13 +67,12 @@ impl Side {
     }
 
     /// What the row says of the column.
-    pub fn of(row: &Row, col: usize, meter: &Meter) -> Self
-        requires well_formed { IsWellFormed (length row.now.coefs) row.now }
+    pub fn of(row: &Row, column: Column, meter: &Meter) -> Self
+        requires well_formed { IsWellFormed column.columns row.now }
         requires within { IsRowWithin meter.now row.now }
-        requires col_in { col < length row.now.coefs }
-        ensures { result ≡ side_of col row.now }
+        ensures { result ≡ side_of column.at row.now }
     {
-        let coef = row.coefs.get(col);
+        let coef = row.coefs.get(column.at);
         match row.kind {
             RowKind::Zero => Side::Free,
             RowKind::AtLeast => Side::by_sign(coef),
@@ -87,13 +87,12 @@ impl Side {
 
     /// Whether the row is on this side of the column.
     #[tactic(auto, using(std::proofs::lemmas::Grind::common_steps, crate::proofs::SideLemmas::same_true))]
-    pub fn has(self, row: &Row, col: usize, meter: &Meter) -> bool
-        requires well_formed { IsWellFormed (length row.now.coefs) row.now }
+    pub fn has(self, row: &Row, column: Column, meter: &Meter) -> bool
+        requires well_formed { IsWellFormed column.columns row.now }
         requires within { IsRowWithin meter.now row.now }
-        requires col_in { col < length row.now.coefs }
-        ensures { result ≡ is_same self (side_of col row.now) }
+        ensures { result ≡ is_same self (side_of column.at row.now) }
     {
-        self == Side::of(row, col, meter)
+        self == Side::of(row, column, meter)
     }
 
     /// Copies of the rows on this side of the column, in order.
@@ -106,19 +105,17 @@ impl Side {
         self,
         alloc: Global,
         rows: &[Row],
-        columns: usize,
-        col: usize,
+        column: Column,
         meter: &Meter,
     ) -> Result<Rows, Cut>
-        requires well_formed { All (IsWellFormed columns) rows.now }
+        requires well_formed { All (IsWellFormed column.columns) rows.now }
         requires within { All (IsRowWithin meter.now) rows.now }
-        requires col_in { col < columns }
-        ensures ok { IfOk result (λ picked. picked ≡ on_side self col rows.now) }
+        ensures ok { IfOk result (λ picked. picked ≡ on_side self column.at rows.now) }
         ensures err { IfErr result (λ cut. cut ≡ Cut.NoMemory) }
     {
         let mut picked = Rows::new(alloc);
         for row in rows {
-            if self.has(row, col, meter) {
+            if self.has(row, column, meter) {
                 picked.push(row.copy(alloc)?)?;
             }
         }
@@ -134,25 +131,18 @@ impl Sides {
     /// # Errors
     ///
     /// `NoMemory`.
-    pub fn of(
-        alloc: Global,
-        rows: &[Row],
-        columns: usize,
-        col: usize,
-        meter: &Meter,
-    ) -> Result<Self, Cut>
-        requires well_formed { All (IsWellFormed columns) rows.now }
+    pub fn of(alloc: Global, rows: &[Row], column: Column, meter: &Meter) -> Result<Self, Cut>
+        requires well_formed { All (IsWellFormed column.columns) rows.now }
         requires within { All (IsRowWithin meter.now) rows.now }
-        requires col_in { col < columns }
-        ensures ok { IfOk result (AreSidesOf rows.now col) }
+        ensures ok { IfOk result (AreSidesOf rows.now column.at) }
         ensures err { IfErr result (λ cut. cut ≡ Cut.NoMemory) }
     {
         Ok(Sides {
-            lowers: Side::Lower.copied(alloc, rows, columns, col, meter)?,
-            uppers: Side::Upper.copied(alloc, rows, columns, col, meter)?,
-            divides: Side::Divides.copied(alloc, rows, columns, col, meter)?,
-            not_divides: Side::NotDivides.copied(alloc, rows, columns, col, meter)?,
-            free: Side::Free.copied(alloc, rows, columns, col, meter)?,
+            lowers: Side::Lower.copied(alloc, rows, column, meter)?,
+            uppers: Side::Upper.copied(alloc, rows, column, meter)?,
+            divides: Side::Divides.copied(alloc, rows, column, meter)?,
+            not_divides: Side::NotDivides.copied(alloc, rows, column, meter)?,
+            free: Side::Free.copied(alloc, rows, column, meter)?,
         })
     }
 }

@@ -1,13 +1,14 @@
 //! The congruence step: the congruences on a column as a substitution for it.
 
-ghost use Rattle.std.specs.Prelude.{◌≡◌, ◌<◌, ◌++◌, ◌∷◌, [], pos, ◌<ℤ◌, All, length, IfOk, IfErr, MatchResult, ◌≢◌, ◌^◌, ◌≤◌, unsigned_abs};
-ghost use Rattle.isl_meter.specs.Gauge.{IsWithin, IsCutUpTo};
+ghost use Rattle.std.specs.Prelude.{◌≡◌, ◌<◌, ◌++◌, ◌∷◌, [], pos, ◌<ℤ◌, All, length, IfOk, IfErr, ◌^◌, ◌≤◌, unsigned_abs};
+ghost use Rattle.isl_meter.specs.Gauge.{IsWithin, IsDone};
 ghost use Rattle.isl_piece.specs.declared.row.Row.{Row};
 ghost use Rattle.isl_piece.specs.Row.{IsWellFormed, IsRowWithin, IsRowUpTo};
 ghost use Rattle.isl_omega.specs.Sides.{AreSided};
 ghost use Rattle.isl_omega.specs.Step.{IsStepOf};
-ghost use Rattle.isl_omega.specs.Magnitude.{IsNoOverflow, AreSidesUpTo};
+ghost use Rattle.isl_omega.specs.Magnitude.{IsNoOverflow, AreSidesUpTo, IsNoOverflowWith};
 
+use crate::column::Column;
 use crate::congruence::merged;
 use crate::sides::{Side, Sides};
 use crate::substitution::Substitution;
@@ -30,27 +31,19 @@ impl Progression {
     ghost use Rattle.isl_omega.specs.Step.{within_scale, IsSubstitutionOf};
     ghost use Rattle.isl_omega.specs.Substitution.{IsProgressionOf};
 
-    fn of(
-        alloc: Global,
-        divides: &[Row],
-        columns: usize,
-        col: usize,
-        meter: &mut Meter,
-    ) -> Result<Self, Cut>
+    fn of(alloc: Global, divides: &[Row], column: Column, meter: &mut Meter) -> Result<Self, Cut>
         requires some { 0 < length divides.now }
-        requires divides { All (IsDivides meter.old columns) divides.now }
-        requires col_in { col < columns }
-        ensures exact { MatchResult result
-            (λ p. AreMergedTo meter.old columns col divides.now p.merged p.residual
-            × IsProgressionOf columns col p.merged p.substitution.scale p.substitution.offsets
-            × IsWithin meter.old p.substitution.scale × IsRowWithin meter.old p.substitution.offsets × (meter.new ≡ meter.old))
-            (λ cut. IsCutUpTo (pos 0) meter.old meter.new cut) }
-        ensures no_overflow { meter.old.bits ≡ 127 → All (IsRowUpTo (2 ^ 30)) divides.now → length divides.now < 2 → MatchResult result
-            (λ p. IsRowUpTo (2 ^ 30) p.merged × (p.residual ≡ []) × (unsigned_abs p.substitution.scale ≤ 2 ^ 30) × IsRowUpTo (2 ^ 30) p.substitution.offsets)
-            (λ cut. cut ≢ Cut.Overflow) }
+        requires divides { All (IsDivides meter.old column.columns) divides.now }
+        ensures exact { IsDone meter.old meter.new
+            (λ p. AreMergedTo meter.old column.columns column.at divides.now p.merged p.residual
+            × IsProgressionOf column.columns column.at p.merged p.substitution.scale p.substitution.offsets
+            × IsWithin meter.old p.substitution.scale × IsRowWithin meter.old p.substitution.offsets) result }
+        ensures no_overflow { meter.old.bits ≡ 127 → All (IsRowUpTo (2 ^ 30)) divides.now → length divides.now < 2 → IsNoOverflowWith
+            (λ p. IsRowUpTo (2 ^ 30) p.merged × (p.residual ≡ []) × (unsigned_abs p.substitution.scale ≤ 2 ^ 30)
+            × IsRowUpTo (2 ^ 30) p.substitution.offsets) result }
     {
-        let (one, others) = merged(alloc, divides, columns, col, meter)?;
-        let substitution = Substitution::of(alloc, &one, columns, col, meter)?;
+        let (one, others) = merged(alloc, divides, column, meter)?;
+        let substitution = Substitution::of(alloc, &one, column, meter)?;
         Ok(Progression {
             merged: one,
             residual: others,
@@ -67,25 +60,21 @@ impl Progression {
         alloc: Global,
         k: Int,
         rest: Int,
-        columns: usize,
-        col: usize,
+        column: Column,
         meter: &mut Meter,
     ) -> Result<Self, Cut>
         requires positive { pos 0 <ℤ k }
         requires k_within { IsWithin meter.old k }
         requires rest_within { IsWithin meter.old rest }
-        requires col_in { col < columns }
-        ensures { MatchResult result
-            (λ p. (p.merged ≡ residue_row columns col k rest) × (p.residual ≡ [])
-            × IsRowWithin meter.old p.merged
-            × IsProgressionOf columns col p.merged p.substitution.scale p.substitution.offsets
-            × IsWithin meter.old p.substitution.scale × IsRowWithin meter.old p.substitution.offsets × (meter.new ≡ meter.old))
-            (λ cut. IsCutUpTo (pos 0) meter.old meter.new cut) }
+        ensures { IsDone meter.old meter.new
+            (λ p. (p.merged ≡ residue_row column.columns column.at k rest) × (p.residual ≡ []) × IsRowWithin meter.old p.merged
+            × IsProgressionOf column.columns column.at p.merged p.substitution.scale p.substitution.offsets
+            × IsWithin meter.old p.substitution.scale × IsRowWithin meter.old p.substitution.offsets) result }
     {
-        let mut coefs = Coefs::zeros(alloc, columns)?;
-        coefs.set(col, Int::ONE);
+        let mut coefs = Coefs::zeros(alloc, column.columns)?;
+        coefs.set(column.at, Int::ONE);
         let one = Row::new(RowKind::Divides, coefs, rest.neg(meter), k);
-        let substitution = Substitution::of(alloc, &one, columns, col, meter)?;
+        let substitution = Substitution::of(alloc, &one, column, meter)?;
         Ok(Progression {
             merged: one,
             residual: Rows::new(alloc),
@@ -106,24 +95,13 @@ impl Progression {
         ))
     }
 
-    // The rows that are free of the column: of those that were moved, what the congruences say, and those that were.
-    fn free_rows(
-        &self,
-        alloc: Global,
-        moved: &[Row],
-        free: &Rows,
-        columns: usize,
-        col: usize,
-        meter: &Meter,
-    ) -> Result<Rows, Cut>
-        requires well_formed { All (IsWellFormed columns) moved.now }
-        requires within { All (IsRowWithin meter.now) moved.now }
-        requires col_in { col < columns }
-        ensures ok { IfOk result (λ rows. rows ≡ ((on_side Side.Free col moved.now ++ self.now.residual) ++ free.now)
+    // The rows that are free of the column: those of the moved ones, what the congruences say, and those that were.
+    fn free_rows(&self, alloc: Global, moved: Rows, free: &Rows) -> Result<Rows, Cut>
+        ensures ok { IfOk result (λ rows. rows ≡ ((moved ++ self.now.residual) ++ free.now)
             ++ within_scale self.now.merged self.now.substitution.scale ∷ []) }
         ensures err { IfErr result (λ cut. cut ≡ Cut.NoMemory) }
     {
-        let mut rows = Side::Free.copied(alloc, moved, columns, col, meter)?;
+        let mut rows = moved;
         rows.append(alloc, &self.residual)?;
         rows.append(alloc, free)?;
         rows.push(self.within_scale(alloc)?)?;
@@ -139,28 +117,27 @@ impl Progression {
         &self,
         alloc: Global,
         sides: &Sides,
-        columns: usize,
-        col: usize,
+        column: Column,
         meter: &mut Meter,
     ) -> Result<Sides, Cut>
-        requires sided { AreSided meter.old columns col sides.now }
-        requires progression { IsProgressionOf columns col self.now.merged self.now.substitution.scale self.now.substitution.offsets }
+        requires sided { AreSided meter.old column.columns column.at sides.now }
+        requires progression { IsProgressionOf column.columns column.at self.now.merged self.now.substitution.scale self.now.substitution.offsets }
         requires scale_within { IsWithin meter.old self.now.substitution.scale }
         requires offsets_within { IsRowWithin meter.old self.now.substitution.offsets }
-        requires col_in { col < columns }
-        ensures exact { MatchResult result
-            (λ new. IsSubstitutionOf meter.old columns col self.now.merged self.now.residual self.now.substitution.scale self.now.substitution.offsets sides.now new
-            × (meter.new ≡ meter.old))
-            (λ cut. IsCutUpTo (pos 0) meter.old meter.new cut) }
-        ensures no_overflow { meter.old.bits ≡ 127 → unsigned_abs self.now.substitution.scale ≤ 2 ^ 30 → IsRowUpTo (2 ^ 30) self.now.substitution.offsets
+        ensures exact { IsDone meter.old meter.new
+            (IsSubstitutionOf meter.old column.columns column.at self.now.merged self.now.residual
+            self.now.substitution.scale self.now.substitution.offsets sides.now) result }
+        ensures no_overflow { meter.old.bits ≡ 127 → unsigned_abs self.now.substitution.scale ≤ 2 ^ 30
+            → IsRowUpTo (2 ^ 30) self.now.substitution.offsets
             → AreSidesUpTo (2 ^ 30) sides.now → IsNoOverflow result }
     {
         let s = &self.substitution;
-        let lowers = s.bounds(alloc, sides.lowers.as_slice(), columns, col, meter)?;
-        let uppers = s.bounds(alloc, sides.uppers.as_slice(), columns, col, meter)?;
-        let moved = s.rows(alloc, sides.not_divides.as_slice(), columns, col, meter)?;
-        let not_divides = Side::NotDivides.copied(alloc, moved.as_slice(), columns, col, meter)?;
-        let free = self.free_rows(alloc, moved.as_slice(), &sides.free, columns, col, meter)?;
+        let lowers = s.bounds(alloc, sides.lowers.as_slice(), column, meter)?;
+        let uppers = s.bounds(alloc, sides.uppers.as_slice(), column, meter)?;
+        let moved = s.rows(alloc, sides.not_divides.as_slice(), column, meter)?;
+        let not_divides = Side::NotDivides.copied(alloc, moved.as_slice(), column, meter)?;
+        let of_moved = Side::Free.copied(alloc, moved.as_slice(), column, meter)?;
+        let free = self.free_rows(alloc, of_moved, &sides.free)?;
         Ok(Sides {
             lowers,
             uppers,
@@ -179,20 +156,16 @@ impl Progression {
 pub fn congruence_step(
     alloc: Global,
     sides: &Sides,
-    columns: usize,
-    col: usize,
+    column: Column,
     meter: &mut Meter,
 ) -> Result<Sides, Cut>
-    requires sided { AreSided meter.old columns col sides.now }
+    requires sided { AreSided meter.old column.columns column.at sides.now }
     requires some { 0 < length sides.now.divides }
-    requires col_in { col < columns }
-    ensures exact { MatchResult result
-        (λ new. IsStepOf meter.old columns col sides.now new × (meter.new ≡ meter.old))
-        (λ cut. IsCutUpTo (pos 0) meter.old meter.new cut) }
+    ensures exact { IsDone meter.old meter.new (IsStepOf meter.old column.columns column.at sides.now) result }
     ensures no_overflow { meter.old.bits ≡ 127 → AreSidesUpTo (2 ^ 30) sides.now → length sides.now.divides < 2
-        → MatchResult result (AreSidesUpTo (2 ^ 61)) (λ cut. cut ≢ Cut.Overflow) }
+        → IsNoOverflowWith (AreSidesUpTo (2 ^ 61)) result }
 {
-    let progression = Progression::of(alloc, sides.divides.as_slice(), columns, col, meter)?;
-    let new = progression.put(alloc, sides, columns, col, meter)?;
+    let progression = Progression::of(alloc, sides.divides.as_slice(), column, meter)?;
+    let new = progression.put(alloc, sides, column, meter)?;
     Ok(new)
 }

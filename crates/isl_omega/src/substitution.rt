@@ -1,12 +1,13 @@
 //! A congruence as a substitution for its column.
 
-ghost use Rattle.std.specs.Prelude.{◌≡◌, ◌<◌, ◌<ℤ◌, pos, All, length, MatchResult, ◌≢◌, ◌^◌, ◌≤◌, unsigned_abs};
-ghost use Rattle.isl_meter.specs.Gauge.{IsWithin, IsCutUpTo};
+ghost use Rattle.std.specs.Prelude.{◌≡◌, ◌<ℤ◌, pos, All, length, ◌^◌, ◌≤◌, unsigned_abs};
+ghost use Rattle.isl_meter.specs.Gauge.{IsWithin, IsDone};
 ghost use Rattle.isl_piece.specs.Row.{IsRowWithin, IsWellFormed, IsRowUpTo};
 ghost use Rattle.isl_piece.specs.declared.row.RowKind.TheVariants.{Divides};
 ghost use Rattle.isl_omega.specs.Substitution.{AreProgressionParts, offsets_of, IsProgressionOf, substituted};
-ghost use Rattle.isl_omega.specs.Magnitude.{IsNoOverflow};
+ghost use Rattle.isl_omega.specs.Magnitude.{IsNoOverflow, IsNoOverflowWith};
 
+use crate::column::Column;
 use crate::congruence::remainders;
 use crate::tighten::tightened;
 use isl_meter::{Cut, Int, Meter};
@@ -42,9 +43,7 @@ fn offsets(alloc: Global, factor: Int, one: &Row, meter: &mut Meter) -> Result<R
     requires factor_within { IsWithin meter.old factor }
     requires within { IsRowWithin meter.old one.now }
     requires modulus { pos 0 <ℤ one.now.k }
-    ensures exact { MatchResult result
-        (λ row. (row ≡ offsets_of factor one.now) × IsRowWithin meter.old row × (meter.new ≡ meter.old))
-        (λ cut. IsCutUpTo (pos 0) meter.old meter.new cut) }
+    ensures exact { IsDone meter.old meter.new (λ row. (row ≡ offsets_of factor one.now) × IsRowWithin meter.old row) result }
     ensures no_overflow { meter.old.bits ≡ 127 → unsigned_abs factor ≤ 2 ^ 30 → IsRowUpTo (2 ^ 30) one.now → IsNoOverflow result }
 {
     let k = one.modulus();
@@ -60,25 +59,22 @@ impl Substitution {
     pub(crate) fn of(
         alloc: Global,
         one: &Row,
-        columns: usize,
-        col: usize,
+        column: Column,
         meter: &mut Meter,
     ) -> Result<Self, Cut>
         requires kind { one.now.kind ≡ Divides }
-        requires well_formed { IsWellFormed columns one.now }
+        requires well_formed { IsWellFormed column.columns one.now }
         requires within { IsRowWithin meter.old one.now }
-        requires col_in { col < columns }
-        ensures exact { MatchResult result
-            (λ s. IsProgressionOf columns col one.now s.scale s.offsets × IsWithin meter.old s.scale × IsRowWithin meter.old s.offsets
-            × (meter.new ≡ meter.old))
-            (λ cut. IsCutUpTo (pos 0) meter.old meter.new cut) }
-        ensures no_overflow { meter.old.bits ≡ 127 → IsRowUpTo (2 ^ 30) one.now → MatchResult result
-            (λ s. (unsigned_abs s.scale ≤ 2 ^ 30) × IsRowUpTo (2 ^ 30) s.offsets) (λ cut. cut ≢ Cut.Overflow) }
+        ensures exact { IsDone meter.old meter.new
+            (λ s. IsProgressionOf column.columns column.at one.now s.scale s.offsets × IsWithin meter.old s.scale
+            × IsRowWithin meter.old s.offsets) result }
+        ensures no_overflow { meter.old.bits ≡ 127 → IsRowUpTo (2 ^ 30) one.now → IsNoOverflowWith
+            (λ s. (unsigned_abs s.scale ≤ 2 ^ 30) × IsRowUpTo (2 ^ 30) s.offsets) result }
     {
         let k = one.modulus();
-        let (scale, factor) = parts(one.coefs.get(col), k, meter);
+        let (scale, factor) = parts(one.coefs.get(column.at), k, meter);
         let mut row = offsets(alloc, factor, one, meter)?;
-        row.coefs.set(col, k.sub(scale, meter)?);
+        row.coefs.set(column.at, k.sub(scale, meter)?);
         Ok(Substitution {
             scale,
             offsets: row,
@@ -94,50 +90,43 @@ impl Substitution {
     ghost use Rattle.isl_omega.specs.Substitution.{IsMovedBound};
 
     // The row with the progression in the column's place.
-    fn put(&self, alloc: Global, row: &Row, col: usize, meter: &mut Meter) -> Result<Row, Cut>
+    fn put(&self, alloc: Global, row: &Row, column: Column, meter: &mut Meter) -> Result<Row, Cut>
         requires scale_within { IsWithin meter.old self.now.scale }
         requires offsets_within { IsRowWithin meter.old self.now.offsets }
         requires within { IsRowWithin meter.old row.now }
-        requires same_width { length row.now.coefs ≡ length self.now.offsets.coefs }
-        requires col_in { col < length row.now.coefs }
-        ensures exact { MatchResult result
-            (λ moved. (moved ≡ substituted self.now.scale self.now.offsets col row.now) × IsRowWithin meter.old moved × (meter.new ≡ meter.old))
-            (λ cut. IsCutUpTo (pos 0) meter.old meter.new cut) }
-        ensures no_overflow { meter.old.bits ≡ 127 → unsigned_abs self.now.scale ≤ 2 ^ 30 → IsRowUpTo (2 ^ 30) self.now.offsets → IsRowUpTo (2 ^ 30) row.now → IsNoOverflow result }
+        requires row_width { length row.now.coefs ≡ column.columns }
+        requires offsets_width { length self.now.offsets.coefs ≡ column.columns }
+        ensures exact { IsDone meter.old meter.new
+            (λ moved. (moved ≡ substituted self.now.scale self.now.offsets column.at row.now) × IsRowWithin meter.old moved) result }
+        ensures no_overflow { meter.old.bits ≡ 127 → unsigned_abs self.now.scale ≤ 2 ^ 30 → IsRowUpTo (2 ^ 30) self.now.offsets
+            → IsRowUpTo (2 ^ 30) row.now → IsNoOverflow result }
     {
         combination(
             alloc,
             self.scale,
             row,
-            row.coefs.get(col),
+            row.coefs.get(column.at),
             &self.offsets,
             meter,
         )
     }
 
     // The bound with the progression in the column's place, divided as far as it goes.
-    fn bound(
-        &self,
-        alloc: Global,
-        row: &Row,
-        columns: usize,
-        col: usize,
-        meter: &mut Meter,
-    ) -> Result<Row, Cut>
+    fn bound(&self, alloc: Global, row: &Row, column: Column, meter: &mut Meter) -> Result<Row, Cut>
         requires scale { pos 0 <ℤ self.now.scale }
         requires scale_within { IsWithin meter.old self.now.scale }
         requires offsets_within { IsRowWithin meter.old self.now.offsets }
-        requires offsets_width { length self.now.offsets.coefs ≡ columns }
-        requires lower { IsProper meter.old columns row.now }
+        requires offsets_width { length self.now.offsets.coefs ≡ column.columns }
+        requires lower { IsProper meter.old column.columns row.now }
         requires kind { row.now.kind ≡ AtLeast }
-        requires col_in { col < columns }
-        ensures exact { MatchResult result
-            (λ moved. IsMovedBound columns col self.now.scale self.now.offsets row.now moved × IsRowWithin meter.old moved × (meter.new ≡ meter.old))
-            (λ cut. IsCutUpTo (pos 0) meter.old meter.new cut) }
-        ensures no_overflow { meter.old.bits ≡ 127 → unsigned_abs self.now.scale ≤ 2 ^ 30 → IsRowUpTo (2 ^ 30) self.now.offsets → IsRowUpTo (2 ^ 30) row.now → IsNoOverflow result }
+        ensures exact { IsDone meter.old meter.new
+            (λ moved. IsMovedBound column.columns column.at self.now.scale self.now.offsets row.now moved
+            × IsRowWithin meter.old moved) result }
+        ensures no_overflow { meter.old.bits ≡ 127 → unsigned_abs self.now.scale ≤ 2 ^ 30 → IsRowUpTo (2 ^ 30) self.now.offsets
+            → IsRowUpTo (2 ^ 30) row.now → IsNoOverflow result }
     {
-        let moved = self.put(alloc, row, col, meter)?;
-        Ok(tightened(alloc, moved, columns, meter)?)
+        let moved = self.put(alloc, row, column, meter)?;
+        Ok(tightened(alloc, moved, column.columns, meter)?)
     }
 
     /// The bounds with the progression in the column's place, divided as far as they go.
@@ -145,26 +134,24 @@ impl Substitution {
         &self,
         alloc: Global,
         rows: &[Row],
-        columns: usize,
-        col: usize,
+        column: Column,
         meter: &mut Meter,
     ) -> Result<Rows, Cut>
         requires scale { pos 0 <ℤ self.now.scale }
         requires scale_within { IsWithin meter.old self.now.scale }
         requires offsets_within { IsRowWithin meter.old self.now.offsets }
-        requires offsets_width { length self.now.offsets.coefs ≡ columns }
-        requires proper { All (IsProper meter.old columns) rows.now }
+        requires offsets_width { length self.now.offsets.coefs ≡ column.columns }
+        requires proper { All (IsProper meter.old column.columns) rows.now }
         requires kinds { All (λ r. r.kind ≡ AtLeast) rows.now }
-        requires col_in { col < columns }
-        ensures exact { MatchResult result
-            (λ moved. AllZip (IsMovedBound columns col self.now.scale self.now.offsets) rows.now moved
-            × All (IsRowWithin meter.old) moved × (meter.new ≡ meter.old))
-            (λ cut. IsCutUpTo (pos 0) meter.old meter.new cut) }
-        ensures no_overflow { meter.old.bits ≡ 127 → unsigned_abs self.now.scale ≤ 2 ^ 30 → IsRowUpTo (2 ^ 30) self.now.offsets → All (IsRowUpTo (2 ^ 30)) rows.now → IsNoOverflow result }
+        ensures exact { IsDone meter.old meter.new
+            (λ moved. AllZip (IsMovedBound column.columns column.at self.now.scale self.now.offsets) rows.now moved
+            × All (IsRowWithin meter.old) moved) result }
+        ensures no_overflow { meter.old.bits ≡ 127 → unsigned_abs self.now.scale ≤ 2 ^ 30 → IsRowUpTo (2 ^ 30) self.now.offsets
+            → All (IsRowUpTo (2 ^ 30)) rows.now → IsNoOverflow result }
     {
         let mut moved = Rows::new(alloc);
         for row in rows {
-            moved.push(self.bound(alloc, row, columns, col, meter)?)?;
+            moved.push(self.bound(alloc, row, column, meter)?)?;
         }
         Ok(moved)
     }
@@ -174,24 +161,22 @@ impl Substitution {
         &self,
         alloc: Global,
         rows: &[Row],
-        columns: usize,
-        col: usize,
+        column: Column,
         meter: &mut Meter,
     ) -> Result<Rows, Cut>
         requires scale_within { IsWithin meter.old self.now.scale }
         requires offsets_within { IsRowWithin meter.old self.now.offsets }
-        requires offsets_width { length self.now.offsets.coefs ≡ columns }
-        requires proper { All (IsProper meter.old columns) rows.now }
-        requires col_in { col < columns }
-        ensures exact { MatchResult result
-            (λ moved. (moved ≡ map (substituted self.now.scale self.now.offsets col) rows.now)
-            × All (IsRowWithin meter.old) moved × (meter.new ≡ meter.old))
-            (λ cut. IsCutUpTo (pos 0) meter.old meter.new cut) }
-        ensures no_overflow { meter.old.bits ≡ 127 → unsigned_abs self.now.scale ≤ 2 ^ 30 → IsRowUpTo (2 ^ 30) self.now.offsets → All (IsRowUpTo (2 ^ 30)) rows.now → IsNoOverflow result }
+        requires offsets_width { length self.now.offsets.coefs ≡ column.columns }
+        requires proper { All (IsProper meter.old column.columns) rows.now }
+        ensures exact { IsDone meter.old meter.new
+            (λ moved. (moved ≡ map (substituted self.now.scale self.now.offsets column.at) rows.now)
+            × All (IsRowWithin meter.old) moved) result }
+        ensures no_overflow { meter.old.bits ≡ 127 → unsigned_abs self.now.scale ≤ 2 ^ 30 → IsRowUpTo (2 ^ 30) self.now.offsets
+            → All (IsRowUpTo (2 ^ 30)) rows.now → IsNoOverflow result }
     {
         let mut moved = Rows::new(alloc);
         for row in rows {
-            moved.push(self.put(alloc, row, col, meter)?)?;
+            moved.push(self.put(alloc, row, column, meter)?)?;
         }
         Ok(moved)
     }

@@ -5,11 +5,11 @@ use Rattle.isl_omega.proofs.congruence.merged_pair.Given as goal
 
 abbrev pub invariant-steps : goal.invariant-steps
 invariant-steps l = record {
-  first_reduced : IsReducedCongruence l.columns l.fn.p.k l.first;
-  second_reduced : IsReducedCongruence l.columns l.fn.p.k l.second;
+  first_reduced : IsReducedCongruence l.column.columns l.fn.p.k l.first;
+  second_reduced : IsReducedCongruence l.column.columns l.fn.p.k l.second;
   same : SayTheSame l.fn.p l.fn.q l.first l.second;
   kept : l.meter ≡ l.fn.meter;
 }
 
 abbrev pub decreases-steps : goal.decreases-steps
-decreases-steps l = unsigned_abs (coef_at l.second l.col)
+decreases-steps l = unsigned_abs (coef_at l.second l.column.at)

@@ -11,9 +11,9 @@ returns c =
     let p = c.args.p.now in
     let q = c.args.q.now in
     let small = c.in_ok-reduced_copy.field-0 in
-    let times : c.floor_div-times.result ≡ floor_div (coef_at p c.args.col) (coef_at q c.args.col) = grind arith in
+    let times : c.floor_div-times.result ≡ floor_div (coef_at p c.args.column.at) (coef_at q c.args.column.at) = grind arith in
     let rest : c.in_ok-rest.rest ≡ combination (pos 1) p (neg_ℤ c.floor_div-times.result) q = grind arith in
     let is : small ≡ reduced_row c.in_ok-rest.rest = grind arith in
-    let row : IsRemainderRow c.args.columns c.args.col p.k p q small =
-    remainder_row c.args.columns c.args.col p.k c.floor_div-times.result p q c.in_ok-rest.rest small c.requires.p_reduced c.requires.q_reduced c.requires.positive c.requires.col_in c.requires.occurs times rest is in
-    (row.is_reduced, row.same, row.smaller, grind arith)
+    let row : IsRemainderRow c.args.column.columns c.args.column.at p.k p q small =
+    remainder_row c.args.column.columns c.args.column.at p.k c.floor_div-times.result p q c.in_ok-rest.rest small c.requires.p_reduced c.requires.q_reduced c.requires.positive c.args.column.in_range c.requires.occurs times rest is in
+    ((row.is_reduced, row.same, row.smaller), grind arith)

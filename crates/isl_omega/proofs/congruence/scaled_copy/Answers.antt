@@ -15,7 +15,6 @@ returns c =
     let row = c.args.row.now in
     let scaled : c.in_ok-scaled.scaled ≡ combination c.args.m row (pos 0) row = grind arith in
     let small : c.in_ok-reduced_copy.field-0 ≡ reduced_row c.in_ok-scaled.scaled = grind arith in (
-      scaled_row c.args.columns c.args.m row c.in_ok-scaled.scaled c.in_ok-reduced_copy.field-0 c.requires.m_positive c.requires.kind c.requires.well_formed scaled small,
-      grind arith,
+      (scaled_row c.args.columns c.args.m row c.in_ok-scaled.scaled c.in_ok-reduced_copy.field-0 c.requires.m_positive c.requires.kind c.requires.well_formed scaled small, grind arith),
       grind arith,
     )

@@ -11,10 +11,10 @@ loop-row-preserved c =
     let fixed = c.args.fixed.now in
     let short = c.in_ok-image.field-0 in
     let inside : c.loop-row.row-index < length c.args.rows.now = grind (arith, common_steps) in
-    let is : short ≡ image_of fixed c.args.col c.row-item.result = grind arith in
+    let is : short ≡ image_of fixed c.args.column.at c.row-item.result = grind arith in
     let within : IsRowWithin c.args.meter.now short = grind arith in
     let pushed : c.push-in-loop-row.new.self ≡ c.loop-row.short ++ short ∷ [] = grind arith in (
-      rw (pushed, is, images_more fixed c.args.col c.args.rows.now c.loop-row.row-index c.row-item.result inside c.row-item.is, c.loop-row.invariant.0) refl,
+      rw (pushed, is, images_more fixed c.args.column.at c.args.rows.now c.loop-row.row-index c.row-item.result inside c.row-item.is, c.loop-row.invariant.0) refl,
       rw pushed (All-push (IsRowWithin c.args.meter.now) c.loop-row.short short c.loop-row.invariant.1 within),
       grind arith,
     )

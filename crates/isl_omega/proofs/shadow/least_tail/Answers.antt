@@ -13,6 +13,6 @@ returns-clause-exact c =
     let tail : Splinters = record { lower = c.in_ok-copy.field-0; last = c.in_ok-last.last } in
     let same : tail.lower ≡ lower = grind arith in
     let none : c.in_ok-none.none ≡ negsuc 0 = grind arith in
-    let value : tail.last ≡ c.in_ok-none.none +ℤ neighbour_splinters c.args.neighbours (coef_at lower c.args.col) = grind arith in
+    let value : tail.last ≡ c.in_ok-none.none +ℤ neighbour_splinters c.args.neighbours (coef_at lower c.args.column.at) = grind arith in
     let within : IsWithin g tail.last = grind arith in
-    (least_splinters g c.args.columns c.args.col c.args.neighbours lower tail c.in_ok-none.none c.requires.lower same none value within, grind arith)
+    (least_splinters g c.args.column.columns c.args.column.at c.args.neighbours lower tail c.in_ok-none.none c.requires.lower same none value within, grind arith)

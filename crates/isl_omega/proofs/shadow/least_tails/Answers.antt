@@ -19,8 +19,8 @@ loop-lower-preserved c =
     let inside : i < length lowers = grind (arith, common_steps) in
     let taken : take (i + 1) lowers ≡ take i lowers ++ l ∷ [] = take_more lowers i l inside ∙ ap (λ (s : Row). take i lowers ++ s ∷ []) (sym c.lower-item.is) in
     let same : c.loop-lower.meter ≡ g = grind arith in
-    let least : (uppers : List Row) → AreSplintersOf g c.args.col c.args.neighbours uppers l tail = rw same at c.in_ok-least_tail.ensures.exact.0 in
+    let least : (uppers : List Row) → AreSplintersOf g c.args.column.at c.args.neighbours uppers l tail = rw same at c.in_ok-least_tail.ensures.exact.0 in
     let pushed : c.push.new.self.items ≡ c.loop-lower.tails.items ++ tail ∷ [] = grind arith in (
-      (λ uppers. rw (taken, pushed) (AllZip-more (AreSplintersOf g c.args.col c.args.neighbours uppers) (take i lowers) c.loop-lower.tails.items l tail (c.loop-lower.invariant.0 uppers) (least uppers))),
+      (λ uppers. rw (taken, pushed) (AllZip-more (AreSplintersOf g c.args.column.at c.args.neighbours uppers) (take i lowers) c.loop-lower.tails.items l tail (c.loop-lower.invariant.0 uppers) (least uppers))),
       grind arith,
     )

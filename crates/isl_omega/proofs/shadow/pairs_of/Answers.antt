@@ -14,16 +14,16 @@ use Rattle.isl_omega.proofs.shadow.pairs_of.Goals as goal
 
 pub loop-lower-init : goal.loop-lower-init
 loop-lower-init c = rw (c.new-rows.ensures, c.new-tails.ensures.items) (record {
-  is_shadow = shadow_none c.args.meter.now c.args.columns c.args.col c.args.neighbours c.args.uppers.now;
+  is_shadow = shadow_none c.args.meter.now c.args.uppers.now.column.columns c.args.uppers.now.column.at c.args.uppers.now.neighbours c.args.uppers.now.rows.now;
   never = λ t. absurd (grind arith);
-  charged = charged_none (length c.args.uppers.now) c.args.meter.now;
-  exact = no_turn (length c.args.uppers.now) c.args.meter.now;
+  charged = charged_none (length c.args.uppers.now.rows.now) c.args.meter.now;
+  exact = no_turn (length c.args.uppers.now.rows.now) c.args.meter.now;
 })
 
 pub loop-lower-preserved : goal.loop-lower-preserved
 loop-lower-preserved c =
     let lowers = c.args.lowers.now in
-    let uppers = c.args.uppers.now in
+    let uppers = c.args.uppers.now.rows.now in
     let i = c.loop-lower.lower-index in
     let l = c.lower-item.result in
     let g = c.args.meter.now in
@@ -33,17 +33,17 @@ loop-lower-preserved c =
     let inside : i < length lowers = grind (arith, common_steps) in
     let exact : k ≡ paid (length uppers) h = grind arith in
     let used = charged_up_to (length uppers) h k exact in
-    let none : IsTrue c.in_ok-tail.none → AreNeverMet c.args.columns c.args.col (l ∷ []) uppers = c.in_ok-tail.ensures.exact.0.1 in
-    let more : LeavesSplinters h c.args.columns c.args.col c.args.neighbours l uppers c.loop-lower.rows c.tail_of.new.rows tail = grind arith in
+    let none : IsTrue c.in_ok-tail.none → AreNeverMet c.args.uppers.now.column.columns c.args.uppers.now.column.at (l ∷ []) uppers = c.in_ok-tail.ensures.exact.0.1 in
+    let more : LeavesSplinters h c.args.uppers.now.column.columns c.args.uppers.now.column.at c.args.uppers.now.neighbours l uppers c.loop-lower.rows c.tail_of.new.rows tail = grind arith in
     let start = charged_bits (pos (i * length uppers)) g h c.loop-lower.invariant.charged in
     let pushed : c.push.new.self.items ≡ c.loop-lower.tails.items ++ tail ∷ [] = grind arith in
     let taken : take (i + 1) lowers ≡ take i lowers ++ l ∷ [] = take_more lowers i l inside ∙ ap (λ (s : Row). take i lowers ++ s ∷ []) (sym c.lower-item.is) in
     record {
-      is_shadow = rw (taken, pushed) (shadow_more g c.args.columns c.args.col c.args.neighbours (take i lowers) l uppers c.loop-lower.rows c.tail_of.new.rows c.loop-lower.tails.items tail c.loop-lower.invariant.is_shadow
-          (tail_kept g h c.args.columns c.args.col c.args.neighbours l uppers c.loop-lower.rows c.tail_of.new.rows tail start more));
+      is_shadow = rw (taken, pushed) (shadow_more g c.args.uppers.now.column.columns c.args.uppers.now.column.at c.args.uppers.now.neighbours (take i lowers) l uppers c.loop-lower.rows c.tail_of.new.rows c.loop-lower.tails.items tail c.loop-lower.invariant.is_shadow
+          (tail_kept g h c.args.uppers.now.column.columns c.args.uppers.now.column.at c.args.uppers.now.neighbours l uppers c.loop-lower.rows c.tail_of.new.rows tail start more));
       never = λ t. elim (c.either-never.ensures t) [
-        | inl before ↦ rw taken (never_kept c.args.columns c.args.col (take i lowers) l uppers (c.loop-lower.invariant.never before))
-        | inr now ↦ rw taken (never_last c.args.columns c.args.col (take i lowers) l uppers (none now))
+        | inl before ↦ rw taken (never_kept c.args.uppers.now.column.columns c.args.uppers.now.column.at (take i lowers) l uppers (c.loop-lower.invariant.never before))
+        | inr now ↦ rw taken (never_last c.args.uppers.now.column.columns c.args.uppers.now.column.at (take i lowers) l uppers (none now))
       ];
       charged = charged_turn i (length uppers) g h k c.loop-lower.invariant.charged used;
       exact = charged_turns i (length uppers) g h k c.loop-lower.invariant.exact exact;
@@ -52,7 +52,7 @@ loop-lower-preserved c =
 pub returns-in_err-tail-clause-exact : goal.returns-in_err-tail-clause-exact
 returns-in_err-tail-clause-exact c =
     let lowers = c.args.lowers.now in
-    let uppers = c.args.uppers.now in
+    let uppers = c.args.uppers.now.rows.now in
     let i = c.loop-lower.lower-index in
     let g = c.args.meter.now in
     let h = c.loop-lower.meter in
@@ -65,7 +65,7 @@ returns-in_err-tail-clause-exact c =
 pub returns-in_err-push-clause-exact : goal.returns-in_err-push-clause-exact
 returns-in_err-push-clause-exact c =
     let lowers = c.args.lowers.now in
-    let uppers = c.args.uppers.now in
+    let uppers = c.args.uppers.now.rows.now in
     let i = c.loop-lower.lower-index in
     let g = c.args.meter.now in
     let h = c.loop-lower.meter in

@@ -6,8 +6,8 @@ use Rattle.isl_omega.proofs.shadow.pairs_of.Given as goal
 
 abbrev pub invariant-loop-lower : goal.invariant-loop-lower
 invariant-loop-lower l = record {
-  is_shadow : IsShadow l.fn.meter l.columns l.col l.neighbours (take l.lower-index l.lowers) l.uppers l.rows l.tails.items;
-  never : IsTrue l.never → AreNeverMet l.columns l.col (take l.lower-index l.lowers) l.uppers;
-  charged : IsChargedUpTo (pos (l.lower-index * length l.uppers)) l.fn.meter l.meter;
-  exact : l.meter ≡ paid (l.lower-index * length l.uppers) l.fn.meter;
+  is_shadow : IsShadow l.fn.meter l.uppers.column.columns l.uppers.column.at l.uppers.neighbours (take l.lower-index l.lowers) l.uppers.rows.now l.rows l.tails.items;
+  never : IsTrue l.never → AreNeverMet l.uppers.column.columns l.uppers.column.at (take l.lower-index l.lowers) l.uppers.rows.now;
+  charged : IsChargedUpTo (pos (l.lower-index * length l.uppers.rows.now)) l.fn.meter l.meter;
+  exact : l.meter ≡ paid (l.lower-index * length l.uppers.rows.now) l.fn.meter;
 }

@@ -11,11 +11,11 @@ returns-clause-exact c =
     let sides = c.args.sides.now in
     let p = c.in_ok-progression.progression in
     let s = p.substitution in
-    let merged : AreMergedTo c.args.meter.now c.args.columns c.args.col sides.divides p.merged p.residual = grind arith in
-    let progression : IsProgressionOf c.args.columns c.args.col p.merged s.scale s.offsets = grind arith in
-    let moved : IsSubstitutionOf c.args.meter.now c.args.columns c.args.col p.merged p.residual s.scale s.offsets sides c.in_ok-new.new = grind arith in (
-      step_is c.args.meter.now c.args.columns c.args.col p.merged p.residual s.scale s.offsets sides c.in_ok-new.new
-          (record { inside = c.requires.col_in; sided = c.requires.sided; merged = one_from_merged c.args.meter.now c.args.columns c.args.col sides.divides p.merged p.residual merged; progression = progression; moved = moved }),
+    let merged : AreMergedTo c.args.meter.now c.args.column.columns c.args.column.at sides.divides p.merged p.residual = grind arith in
+    let progression : IsProgressionOf c.args.column.columns c.args.column.at p.merged s.scale s.offsets = grind arith in
+    let moved : IsSubstitutionOf c.args.meter.now c.args.column.columns c.args.column.at p.merged p.residual s.scale s.offsets sides c.in_ok-new.new = grind arith in (
+      step_is c.args.meter.now c.args.column.columns c.args.column.at p.merged p.residual s.scale s.offsets sides c.in_ok-new.new
+          (record { inside = c.args.column.in_range; sided = c.requires.sided; merged = one_from_merged c.args.meter.now c.args.column.columns c.args.column.at sides.divides p.merged p.residual merged; progression = progression; moved = moved }),
       grind arith,
     )
 
@@ -24,7 +24,7 @@ returns-clause-no_overflow c = λ bits small few.
     let sides = c.args.sides.now in
     let p = c.in_ok-progression.progression in
     let s = p.substitution in
-    let moved : IsSubstitutionOf c.args.meter.now c.args.columns c.args.col p.merged p.residual s.scale s.offsets sides c.in_ok-new.new = grind arith in
+    let moved : IsSubstitutionOf c.args.meter.now c.args.column.columns c.args.column.at p.merged p.residual s.scale s.offsets sides c.in_ok-new.new = grind arith in
     let divides : c.as_slice.result.now ≡ sides.divides = grind arith in
     let own = c.in_ok-progression.ensures.no_overflow bits (rw divides (small.divides)) (rw divides few) in
-    moved_up_to c.args.meter.now c.args.columns c.args.col p.merged p.residual s.scale s.offsets sides c.in_ok-new.new moved own.0 own.1 own.2 own.3 small
+    moved_up_to c.args.meter.now c.args.column.columns c.args.column.at p.merged p.residual s.scale s.offsets sides c.in_ok-new.new moved own.0 own.1 own.2 own.3 small

@@ -7,12 +7,12 @@ pub copied-requires-clause-well_formed : goal.copied-requires-clause-well_formed
 copied-requires-clause-well_formed c =
     let s = c.args.self.now.substitution in
     let rows = c.args.sides.now.not_divides in
-    let is : c.as_slice-4.result.now ≡ map (substituted s.scale s.offsets c.args.col) rows = grind arith in
-    rw is (moved_formed c.args.meter.now c.args.columns c.args.col s.scale s.offsets rows c.requires.progression.positive c.requires.progression.width c.requires.sided.not_divides)
+    let is : c.as_slice-4.result.now ≡ map (substituted s.scale s.offsets c.args.column.at) rows = grind arith in
+    rw is (moved_formed c.args.meter.now c.args.column.columns c.args.column.at s.scale s.offsets rows c.requires.progression.positive c.requires.progression.width c.requires.sided.not_divides)
 
-pub free_rows-requires-clause-well_formed : goal.free_rows-requires-clause-well_formed
-free_rows-requires-clause-well_formed c =
+pub copied-requires-2-clause-well_formed : goal.copied-requires-2-clause-well_formed
+copied-requires-2-clause-well_formed c =
     let s = c.args.self.now.substitution in
     let rows = c.args.sides.now.not_divides in
-    let is : c.as_slice-5.result.now ≡ map (substituted s.scale s.offsets c.args.col) rows = grind arith in
-    rw is (moved_formed c.args.meter.now c.args.columns c.args.col s.scale s.offsets rows c.requires.progression.positive c.requires.progression.width c.requires.sided.not_divides)
+    let is : c.as_slice-5.result.now ≡ map (substituted s.scale s.offsets c.args.column.at) rows = grind arith in
+    rw is (moved_formed c.args.meter.now c.args.column.columns c.args.column.at s.scale s.offsets rows c.requires.progression.positive c.requires.progression.width c.requires.sided.not_divides)
