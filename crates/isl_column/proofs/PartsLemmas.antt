@@ -58,10 +58,9 @@ some_residues_kept g h columns col (Some r) e a = residues_kept g h columns col 
 
 parts_at : (g h : Gauge) (columns : ℕ) (parts : PartsView) → h.bits ≡ g.bits → AreParts h columns parts → AreParts g columns parts
 parts_at g h columns parts e a = record {
-  column = a.column;
   width = a.width;
-  shadow = shadow_kept g h parts.columns parts.col parts.dark_shadow e a.shadow;
-  residues = some_residues_kept g h parts.columns parts.col parts.residues e a.residues;
+  shadow = shadow_kept g h parts.column.columns parts.column.at parts.dark_shadow e a.shadow;
+  residues = some_residues_kept g h parts.column.columns parts.column.at parts.residues e a.residues;
 }
 
 pub parts_kept : (g h : Gauge) (columns : ℕ) (parts : PartsView) → IsCharged g h → AreParts g columns parts → AreParts h columns parts
@@ -76,31 +75,31 @@ residues_not_negative g columns col (Some r) a =
 
 pub units_not_negative : (g : Gauge) (columns : ℕ) (parts : PartsView) → AreParts g columns parts → pos 0 ≤ℤ most_units parts
 units_not_negative g columns parts a =
-    let tails = total_not_negative g parts.columns parts.col parts.dark_shadow.tails.items a.shadow.tails in
-    let residues = residues_not_negative g parts.columns parts.col parts.residues a.residues in
+    let tails = total_not_negative g parts.column.columns parts.column.at parts.dark_shadow.tails.items a.shadow.tails in
+    let residues = residues_not_negative g parts.column.columns parts.column.at parts.residues a.residues in
     omega (arith, linear)
 
 -- splinters or residues are still to come exactly where units may still be used
 pub more_units : (g : Gauge) (columns : ℕ) (parts : PartsView) → AreParts g columns parts → ¬ All (λ t. t.last <ℤ pos 0) parts.dark_shadow.tails.items → pos 0 <ℤ most_units parts
 more_units g columns parts a some =
-    let tails = some_splinters g parts.columns parts.col parts.dark_shadow.tails.items a.shadow.tails some in
-    let residues = residues_not_negative g parts.columns parts.col parts.residues a.residues in
+    let tails = some_splinters g parts.column.columns parts.column.at parts.dark_shadow.tails.items a.shadow.tails some in
+    let residues = residues_not_negative g parts.column.columns parts.column.at parts.residues a.residues in
     omega (arith, linear)
 
 pub no_more_units : (g : Gauge) (columns : ℕ) (parts : PartsView) → AreParts g columns parts → All (λ t. t.last <ℤ pos 0) parts.dark_shadow.tails.items → parts.residues ≡ None → ¬ (pos 0 <ℤ most_units parts)
 no_more_units g columns parts a none e some =
-    let tails = no_splinters g parts.columns parts.col parts.dark_shadow.tails.items a.shadow.tails none in
-    let residues : residues_most parts.col parts.residues ≡ pos 0 = rw e refl in
+    let tails = no_splinters g parts.column.columns parts.column.at parts.dark_shadow.tails.items a.shadow.tails none in
+    let residues : residues_most parts.column.at parts.residues ≡ pos 0 = rw e refl in
     omega (arith, linear)
 
 pub residue_more : (g : Gauge) (columns : ℕ) (parts : PartsView) (r : Residues) → AreParts g columns parts → All (λ t. t.last <ℤ pos 0) parts.dark_shadow.tails.items → parts.residues ≡ Some r
     → (pos 0 <ℤ r.left) ↔ (pos 0 <ℤ most_units parts)
 residue_more g columns parts r a none e =
-    let tails = no_splinters g parts.columns parts.col parts.dark_shadow.tails.items a.shadow.tails none in
-    let are : AreResidues g parts.columns parts.col r = rw e at a.residues in
-    let most : residues_most parts.col parts.residues ≡ r.left *ℤ residue_units parts.col r.period r.sides = rw e refl in
-    let one = residue_units_positive g parts.columns parts.col r.period r.sides are.period.positive are.sided in
-    by r.left (residue_units parts.col r.period r.sides) (most_units parts) are.not_negative (omega (arith, linear)) (omega (arith, linear))
+    let tails = no_splinters g parts.column.columns parts.column.at parts.dark_shadow.tails.items a.shadow.tails none in
+    let are : AreResidues g parts.column.columns parts.column.at r = rw e at a.residues in
+    let most : residues_most parts.column.at parts.residues ≡ r.left *ℤ residue_units parts.column.at r.period r.sides = rw e refl in
+    let one = residue_units_positive g parts.column.columns parts.column.at r.period r.sides are.period.positive are.sided in
+    by r.left (residue_units parts.column.at r.period r.sides) (most_units parts) are.not_negative (omega (arith, linear)) (omega (arith, linear))
   where
     by : (l u m : ℤ) → pos 0 ≤ℤ l → pos 0 <ℤ u → m ≡ l *ℤ u → (pos 0 <ℤ l) ↔ (pos 0 <ℤ m)
     by l u m n p e = (
@@ -132,15 +131,15 @@ head_at_most (Some rows) = omega arith
 
 -- ---- a head alone
 pub record IsHead (n c : ℕ) (left : Option (List Row)) (parts : PartsView) : Type 0 where
-  pub columns : parts.columns ≡ n
-  pub col : parts.col ≡ c
+  pub columns : parts.column.columns ≡ n
+  pub col : parts.column.at ≡ c
   pub rows : parts.dark_shadow.rows ≡ []
   pub alone : IsHeadAlone left parts
 
 pub head_none : (left : Option (List Row)) (parts : PartsView) → IsHeadAlone left parts → most_units parts ≡ pos 0
 head_none left parts h = by parts.dark_shadow.tails.items parts.residues h.tails h.residues
   where
-    by : (tails : List Splinters) (residues : Option Residues) → tails ≡ [] → residues ≡ None → splinter_count tails +ℤ residues_most parts.col residues ≡ pos 0
+    by : (tails : List Splinters) (residues : Option Residues) → tails ≡ [] → residues ≡ None → splinter_count tails +ℤ residues_most parts.column.at residues ≡ pos 0
     by tails residues t r = rw (t, r) refl
 
 pub head_same : (left other : Option (List Row)) (parts : PartsView) → left ≡ other → IsHeadAlone left parts → IsHeadAlone other parts
@@ -157,17 +156,16 @@ head_dark : (g : Gauge) (columns : ℕ) (P : List ℤ → Type 0) (left : Option
 head_dark g columns P None a = (tt, λ point n. ((λ h. absurd h), (λ p. absurd (a point n p))))
 head_dark g columns P (Some rows) a = ((a.proper, a.normal), a.points)
 
-pub head_begun : (z : ℤ) (g h : Gauge) (columns col : ℕ) (P : List ℤ → Type 0) (left : Option (List Row)) (parts : PartsView) → IsHead columns col left parts → col < columns → IsAnswerFor g (columns - 1) P left → IsChargedUpTo z g h → AreBegun z columns P g h parts
-head_begun z g h columns col P left parts is l a c =
+pub head_begun : (z : ℤ) (g h : Gauge) (columns col : ℕ) (P : List ℤ → Type 0) (left : Option (List Row)) (parts : PartsView) → IsHead columns col left parts → IsAnswerFor g (columns - 1) P left → IsChargedUpTo z g h → AreBegun z columns P g h parts
+head_begun z g h columns col P left parts is a c =
     let dark = head_dark g (columns - 1) P left a in record {
       are = record {
-        column = rw (is.columns, is.col) l;
         width = rw (is.columns) refl;
         shadow = record {
-          rows = rw (is.rows) (All-nil (IsProper g parts.columns));
+          rows = rw (is.rows) (All-nil (IsProper g parts.column.columns));
           dark = rw (is.alone.head, is.columns) dark.0;
-          tails = rw (is.alone.tails) (All-nil (AreSplinters g parts.columns parts.col));
-          bounds = rw (is.alone.tails) (All-nil (λ (t : Splinters). KeepBound parts.columns parts.col parts.dark_shadow.rows t.lower));
+          tails = rw (is.alone.tails) (All-nil (AreSplinters g parts.column.columns parts.column.at));
+          bounds = rw (is.alone.tails) (All-nil (λ (t : Splinters). KeepBound parts.column.columns parts.column.at parts.dark_shadow.rows t.lower));
         };
         residues = rw (is.alone.residues) tt;
       };
@@ -179,18 +177,17 @@ head_begun z g h columns col P left parts is l a c =
     by : (point : List ℤ) (dark : Option (List Row)) (tails : List Splinters) (residues : Option Residues) → dark ≡ left → tails ≡ [] → residues ≡ None → HoldsDark left point ↔ P point → HoldsPart parts point ↔ P point
     by point dark tails residues d t r same = (
       (λ x. elim x.some [
-        | inl y ↦ elim y [ inl u ↦ same.0 (rw is.alone.head at u) | inr v ↦ absurd (Any-none (HasSplinter parts.dark_shadow.rows parts.col point) (rw is.alone.tails at v)) ]
+        | inl y ↦ elim y [ inl u ↦ same.0 (rw is.alone.head at u) | inr v ↦ absurd (Any-none (HasSplinter parts.dark_shadow.rows parts.column.at point) (rw is.alone.tails at v)) ]
         | inr z ↦ absurd (rw is.alone.residues at z)
       ]),
       (λ p. record { some = inl (inl (rw is.alone.head (same.1 p))) }),
     )
 
 -- ---- a dark shadow, and residues
-pub shadow_begun : (z : ℤ) (g h : Gauge) (columns col : ℕ) (P : List ℤ → Type 0) (parts : PartsView) → parts.columns ≡ columns → parts.col ≡ col → parts.residues ≡ None → col < columns → IsDarkShadow g columns col parts.dark_shadow
+pub shadow_begun : (z : ℤ) (g h : Gauge) (columns col : ℕ) (P : List ℤ → Type 0) (parts : PartsView) → parts.column.columns ≡ columns → parts.column.at ≡ col → parts.residues ≡ None → IsDarkShadow g columns col parts.dark_shadow
     → ((point : List ℤ) → length point ≡ columns - 1 → HoldsDarkShadow parts.dark_shadow col point ↔ P point) → IsCharged g h → (pos h.units +ℤ splinter_count parts.dark_shadow.tails.items) ≤ℤ (pos g.units +ℤ z) → AreBegun z columns P g h parts
-shadow_begun z g h columns col P parts a b r l s points c units = record {
+shadow_begun z g h columns col P parts a b r s points c units = record {
   are = record {
-    column = rw (a, b) l;
     width = rw a refl;
     shadow = rw (a, b) s;
     residues = rw r tt;
@@ -203,34 +200,33 @@ shadow_begun z g h columns col P parts a b r l s points c units = record {
   units = let none = no_residues parts.residues r in omega (arith, linear);
 }
   where
-    no_residues : (residues : Option Residues) → residues ≡ None → residues_most parts.col residues ≡ pos 0
+    no_residues : (residues : Option Residues) → residues ≡ None → residues_most parts.column.at residues ≡ pos 0
     no_residues residues e = rw e refl
 
 pub record IsResidual (n c : ℕ) (r : Residues) (parts : PartsView) : Type 0 where
-  pub columns : parts.columns ≡ n
-  pub col : parts.col ≡ c
+  pub columns : parts.column.columns ≡ n
+  pub col : parts.column.at ≡ c
   pub rows : parts.dark_shadow.rows ≡ []
   pub head : parts.dark_shadow.dark ≡ None
   pub tails : parts.dark_shadow.tails.items ≡ []
   pub residues : parts.residues ≡ Some r
 
-pub residues_begun : (g : Gauge) (columns col : ℕ) (sides : Sides) (r : Residues) (parts : PartsView) → IsResidual columns col r parts → col < columns → AreSided g columns col sides → AreResidues g columns col r → r.sides ≡ sides → r.left ≡ r.period → AreBegun (residues_units col sides) columns (HasNumber sides col) g g parts
-residues_begun g columns col sides r parts is l sided a s p = record {
+pub residues_begun : (g : Gauge) (columns col : ℕ) (sides : Sides) (r : Residues) (parts : PartsView) → IsResidual columns col r parts → AreSided g columns col sides → AreResidues g columns col r → r.sides ≡ sides → r.left ≡ r.period → AreBegun (residues_units col sides) columns (HasNumber sides col) g g parts
+residues_begun g columns col sides r parts is sided a s p = record {
   are = record {
-    column = rw (is.columns, is.col) l;
     width = rw (is.columns) refl;
     shadow = record {
-      rows = rw (is.rows) (All-nil (IsProper g parts.columns));
+      rows = rw (is.rows) (All-nil (IsProper g parts.column.columns));
       dark = rw (is.head) tt;
-      tails = rw (is.tails) (All-nil (AreSplinters g parts.columns parts.col));
-      bounds = rw (is.tails) (All-nil (λ (t : Splinters). KeepBound parts.columns parts.col parts.dark_shadow.rows t.lower));
+      tails = rw (is.tails) (All-nil (AreSplinters g parts.column.columns parts.column.at));
+      bounds = rw (is.tails) (All-nil (λ (t : Splinters). KeepBound parts.column.columns parts.column.at parts.dark_shadow.rows t.lower));
     };
     residues = rw (is.residues, is.columns, is.col) a;
   };
   points = λ point n.
       let all = residues_all sides col r.period point a.period.positive in (
         (λ x. elim x.some [
-          | inl y ↦ elim y [ inl u ↦ absurd (rw is.head at u) | inr v ↦ absurd (Any-none (HasSplinter parts.dark_shadow.rows parts.col point) (rw is.tails at v)) ]
+          | inl y ↦ elim y [ inl u ↦ absurd (rw is.head at u) | inr v ↦ absurd (Any-none (HasSplinter parts.dark_shadow.rows parts.column.at point) (rw is.tails at v)) ]
           | inr z ↦ all.0 (rw (is.residues, is.col, s, p) at z)
         ]),
         (λ x. record { some = inr (rw (is.residues, is.col, s, p) (all.1 x)) }),
@@ -238,7 +234,7 @@ residues_begun g columns col sides r parts is l sided a s p = record {
   charged = IsCharged_refl g g refl;
   units =
       let none : splinter_count parts.dark_shadow.tails.items ≡ pos 0 = ap splinter_count is.tails in
-      let own : residues_most parts.col parts.residues ≡ r.period *ℤ residue_units col r.period sides = rw (is.residues, is.col, s, p) refl in
+      let own : residues_most parts.column.at parts.residues ≡ r.period *ℤ residue_units col r.period sides = rw (is.residues, is.col, s, p) refl in
       let most = residues_units_most g columns col r.period sides sided (rw s at a.period) in
       omega (arith, linear);
 }
@@ -287,8 +283,6 @@ begun_none g h columns P (Err cut) b =
 pub record ArePartsSoFar (g h : Gauge) (columns : ℕ) (first now : PartsView) : Type 0 where
   pub charged : IsCharged g h
   pub are : AreParts g columns now
-  pub same_columns : now.columns ≡ first.columns
-  pub same_col : now.col ≡ first.col
   pub points : (point : List ℤ) → length point ≡ columns → HoldsPart first point ↔ HoldsPart now point
   pub units : AreUnitsUpTo (most_units first) g h now
   pub counted : g.units + head_count now ≤ h.units + head_count first
@@ -300,8 +294,6 @@ pub parts_first : (g : Gauge) (columns : ℕ) (first : PartsView) → AreParts g
 parts_first g columns first a = record {
   charged = IsCharged_refl g g refl;
   are = a;
-  same_columns = refl;
-  same_col = refl;
   points = λ point n. ((λ h. h), (λ h. h));
   units = omega (arith, linear);
   counted = omega arith;
@@ -318,19 +310,18 @@ pub record ArePartsTaken (g k : Gauge) (columns : ℕ) (first now : PartsView) (
   pub counted : g.units + 1 + head_count now ≤ k.units + head_count first
   pub pairs : g.units + least_units first ≤ k.units + least_units now
 
-pub parts_taken : (g h k : Gauge) (columns : ℕ) (first now next : PartsView) (rows : List Row) → ArePartsSoFar g h columns first now → AreParts g columns first → IsCharged h k → IsTakenOut h now.columns now.col now.dark_shadow rows next.dark_shadow
+pub parts_taken : (g h k : Gauge) (columns : ℕ) (first now next : PartsView) (rows : List Row) → ArePartsSoFar g h columns first now → AreParts g columns first → IsCharged h k → IsTakenOut h now.column.columns now.column.at now.dark_shadow rows next.dark_shadow
     → (pos k.units +ℤ splinter_count next.dark_shadow.tails.items) ≤ℤ (pos h.units +ℤ splinter_count now.dark_shadow.tails.items) → h.units + 1 ≤ k.units + count_of now.dark_shadow.dark
-    → next.columns ≡ now.columns → next.col ≡ now.col → next.residues ≡ now.residues → ArePartsTaken g k columns first next rows
+    → next.column.columns ≡ now.column.columns → next.column.at ≡ now.column.at → next.residues ≡ now.residues → ArePartsTaken g k columns first next rows
 parts_taken g h k columns first now next rows s a c t units counted ec el er =
     let bits = same_limit g h s.charged in
     let rest : AreParts g columns next = record {
-      column = rw (ec, el) s.are.column;
       width = rw ec s.are.width;
-      shadow = rw (ec, el) (shadow_kept g h now.columns now.col next.dark_shadow bits t.rest);
+      shadow = rw (ec, el) (shadow_kept g h now.column.columns now.column.at next.dark_shadow bits t.rest);
       residues = rw (ec, el, er) s.are.residues;
     } in
     let none : head_count next ≡ 0 = ap count_of t.dark in
-    let same : residues_most next.col next.residues ≡ residues_most now.col now.residues = rw (el, er) refl in
+    let same : residues_most next.column.at next.residues ≡ residues_most now.column.at now.residues = rw (el, er) refl in
     let before = s.units in
     let most : AreUnitsUpTo (most_units first) g k next = omega (arith, linear) in
     let heads = s.counted in
@@ -338,7 +329,7 @@ parts_taken g h k columns first now next rows s a c t units counted ec el er =
     let low = units_not_negative g columns next rest in
     let least = units_not_negative g columns first a in record {
       next = record {
-        proper = rw s.are.width (rows_proper_kept g h (now.columns - 1) rows bits t.proper);
+        proper = rw s.are.width (rows_proper_kept g h (now.column.columns - 1) rows bits t.proper);
         normal = t.normal;
         points = λ point n.
             let old = s.points point n in
@@ -363,16 +354,16 @@ parts_taken g h k columns first now next rows s a c t units counted ec el er =
 
 -- the head was taken out of parts
 pub head_next : (g : Gauge) (columns : ℕ) (parts next : PartsView) (rows : List Row) → AreParts g columns parts → parts.dark_shadow.dark ≡ Some rows → next.dark_shadow.dark ≡ None
-    → next.dark_shadow.rows ≡ parts.dark_shadow.rows → next.dark_shadow.tails.items ≡ parts.dark_shadow.tails.items → next.columns ≡ parts.columns → next.col ≡ parts.col → next.residues ≡ parts.residues
+    → next.dark_shadow.rows ≡ parts.dark_shadow.rows → next.dark_shadow.tails.items ≡ parts.dark_shadow.tails.items → next.column.columns ≡ parts.column.columns → next.column.at ≡ parts.column.at → next.residues ≡ parts.residues
     → IsNextPart g columns parts rows next
 head_next g columns parts next rows a some none er et ec el es =
-    let taken = taken_dark g parts.columns parts.col parts.dark_shadow next.dark_shadow rows a.shadow some none er et in
+    let taken = taken_dark g parts.column.columns parts.column.at parts.dark_shadow next.dark_shadow rows a.shadow some none er et in
     let one = ap count_of some in
     let tails = ap splinter_count et in
     (parts_taken g g g columns parts parts next rows (parts_first g columns parts a) a (IsCharged_refl g g refl) taken (omega (arith, linear)) (omega arith) ec el es).next
 
 abbrev with_head : PartsView → Option (List Row) → PartsView
-with_head parts dark = record { columns = parts.columns; col = parts.col; dark_shadow = record { rows = parts.dark_shadow.rows; dark = dark; tails = parts.dark_shadow.tails }; residues = parts.residues }
+with_head parts dark = record { column = parts.column; dark_shadow = record { rows = parts.dark_shadow.rows; dark = dark; tails = parts.dark_shadow.tails }; residues = parts.residues }
 
 pub head_taken : (g : Gauge) (columns : ℕ) (parts : PartsView) (after result : Option (List Row)) → AreParts g columns parts → result ≡ parts.dark_shadow.dark → after ≡ None
     → MatchOption result (with_head parts after ≡ parts) (λ rows. IsNextPart g columns parts rows (with_head parts after))
@@ -380,8 +371,8 @@ head_taken g columns parts after None a e n = ap (with_head parts) (n ∙ e)
 head_taken g columns parts after (Some rows) a e n = head_next g columns parts (with_head parts after) rows a (sym e) n refl refl refl refl refl
 
 -- the next residue was opened
-pub parts_opened : (g h k m : Gauge) (columns : ℕ) (first now next : PartsView) → ArePartsSoFar g h columns first now → IsNoDarkShadow now.columns now.col now.dark_shadow → IsChargedUpTo (splinter_count now.dark_shadow.tails.items) h k
-    → IsOpenedFrom k m now.columns now.col now.residues next.dark_shadow next.residues → next.columns ≡ now.columns → next.col ≡ now.col → now.residues ≢ None → ArePartsSoFar g m columns first next
+pub parts_opened : (g h k m : Gauge) (columns : ℕ) (first now next : PartsView) → ArePartsSoFar g h columns first now → IsNoDarkShadow now.column.columns now.column.at now.dark_shadow → IsChargedUpTo (splinter_count now.dark_shadow.tails.items) h k
+    → IsOpenedFrom k m now.column.columns now.column.at now.residues next.dark_shadow next.residues → next.column.columns ≡ now.column.columns → next.column.at ≡ now.column.at → now.residues ≢ None → ArePartsSoFar g m columns first next
 parts_opened g h k m columns first now next s n c o ec el some =
     let charged = IsCharged_trans g h k s.charged c.charged in
     let bits = same_limit g k charged in
@@ -394,13 +385,10 @@ parts_opened g h k m columns first now next s n c o ec el some =
     let least = c.charged.units in record {
       charged = IsCharged_trans g k m charged o.charged;
       are = record {
-        column = rw (ec, el) s.are.column;
         width = rw ec s.are.width;
-        shadow = rw (ec, el) (shadow_kept g k now.columns now.col next.dark_shadow bits o.shadow);
-        residues = rw (ec, el) (some_residues_kept g k now.columns now.col next.residues bits o.residues);
+        shadow = rw (ec, el) (shadow_kept g k now.column.columns now.column.at next.dark_shadow bits o.shadow);
+        residues = rw (ec, el) (some_residues_kept g k now.column.columns now.column.at next.residues bits o.residues);
       };
-      same_columns = ec ∙ s.same_columns;
-      same_col = el ∙ s.same_col;
       points = λ point l.
           let old = s.points point l in
           let both = o.points point (l ∙ s.are.width) in (
@@ -419,7 +407,7 @@ parts_opened g h k m columns first now next s n c o ec el some =
 
 -- the units that were used where the dark shadow has no list
 pub parts_spent : (g h k : Gauge) (columns : ℕ) (first now : PartsView) → ArePartsSoFar g h columns first now → IsChargedUpTo (splinter_count now.dark_shadow.tails.items) h k
-    → (pos k.units +ℤ residues_most now.col now.residues) ≤ℤ (pos g.units +ℤ most_units first)
+    → (pos k.units +ℤ residues_most now.column.at now.residues) ≤ℤ (pos g.units +ℤ most_units first)
 parts_spent g h k columns first now s c = let own = c.most in let before = s.units in omega (arith, linear)
 
 pub cut_in_shadow : (g h k : Gauge) (columns : ℕ) (first now : PartsView) (cut : Cut) → ArePartsSoFar g h columns first now → IsCutUpTo (splinter_count now.dark_shadow.tails.items) h k cut → IsCutUpTo (most_units first) g k cut
@@ -428,11 +416,11 @@ cut_in_shadow g h k columns first now cut s c = record {
   most =
       let own = c.most in
       let before = s.units in
-      let rest = residues_not_negative g now.columns now.col now.residues s.are.residues in
+      let rest = residues_not_negative g now.column.columns now.column.at now.residues s.are.residues in
       omega (arith, linear);
 }
 
-pub cut_in_residue : (g h k m : Gauge) (columns : ℕ) (first now : PartsView) (cut : Cut) → ArePartsSoFar g h columns first now → IsChargedUpTo (splinter_count now.dark_shadow.tails.items) h k → IsCutUpTo (residues_most now.col now.residues) k m cut → IsCutUpTo (most_units first) g m cut
+pub cut_in_residue : (g h k m : Gauge) (columns : ℕ) (first now : PartsView) (cut : Cut) → ArePartsSoFar g h columns first now → IsChargedUpTo (splinter_count now.dark_shadow.tails.items) h k → IsCutUpTo (residues_most now.column.at now.residues) k m cut → IsCutUpTo (most_units first) g m cut
 cut_in_residue g h k m columns first now cut s c o = record {
   by = IsCutBy-after g k m cut (IsCharged_trans g h k s.charged c.charged) o.by;
   most =
@@ -442,7 +430,7 @@ cut_in_residue g h k m columns first now cut s c o = record {
 }
 
 -- nothing is left
-pub parts_ended : (g h : Gauge) (columns : ℕ) (first now : PartsView) → ArePartsSoFar g h columns first now → IsNoDarkShadow now.columns now.col now.dark_shadow → IsNoResidue now.columns now.col now.residues → AreNone columns first
+pub parts_ended : (g h : Gauge) (columns : ℕ) (first now : PartsView) → ArePartsSoFar g h columns first now → IsNoDarkShadow now.column.columns now.column.at now.dark_shadow → IsNoResidue now.column.columns now.column.at now.residues → AreNone columns first
 parts_ended g h columns first now s n r point l x = elim ((s.points point l).0 x).some [ inl y ↦ n point (l ∙ s.are.width) y | inr z ↦ r point (l ∙ s.are.width) z ]
 
 -- ---- all lists
@@ -598,9 +586,9 @@ one_in_most g columns col r a some =
 
 -- ---- what was found
 pub parts_found : (g h k : Gauge) (columns : ℕ) (first now next : PartsView) (found : Option (List Row)) → ArePartsSoFar g h columns first now → AreParts g columns first → IsCharged h k
-    → MatchOption found (IsNoDarkShadow now.columns now.col now.dark_shadow) (λ rows. IsTakenOut h now.columns now.col now.dark_shadow rows next.dark_shadow)
+    → MatchOption found (IsNoDarkShadow now.column.columns now.column.at now.dark_shadow) (λ rows. IsTakenOut h now.column.columns now.column.at now.dark_shadow rows next.dark_shadow)
     → IfSome found (λ _. (pos k.units +ℤ splinter_count next.dark_shadow.tails.items) ≤ℤ (pos h.units +ℤ splinter_count now.dark_shadow.tails.items)) → IfSome found (λ _. h.units + 1 ≤ k.units + count_of now.dark_shadow.dark)
-    → next.columns ≡ now.columns → next.col ≡ now.col → next.residues ≡ now.residues → found ≢ None → IsFoundIn g columns first found next × IsCharged g k × AreUnitsUpTo (most_units first) g k next × (g.units + least_units first ≤ k.units + least_units next)
+    → next.column.columns ≡ now.column.columns → next.column.at ≡ now.column.at → next.residues ≡ now.residues → found ≢ None → IsFoundIn g columns first found next × IsCharged g k × AreUnitsUpTo (most_units first) g k next × (g.units + least_units first ≤ k.units + least_units next)
 parts_found g h k columns first now next None s a c t u w ec el er n = absurd (n refl)
 parts_found g h k columns first now next (Some rows) s a c t u w ec el er n =
     let all = parts_taken g h k columns first now next rows s a c t u w ec el er in
@@ -609,7 +597,7 @@ parts_found g h k columns first now next (Some rows) s a c t u w ec el er n =
 pub spent_in_shadow : (g h k : Gauge) (columns : ℕ) (first now : PartsView) → ArePartsSoFar g h columns first now → IsChargedUpTo (splinter_count now.dark_shadow.tails.items) h k → pos k.units ≤ℤ (pos g.units +ℤ most_units first)
 spent_in_shadow g h k columns first now s c =
     let spent = parts_spent g h k columns first now s c in
-    let rest = residues_not_negative g now.columns now.col now.residues s.are.residues in
+    let rest = residues_not_negative g now.column.columns now.column.at now.residues s.are.residues in
     omega (arith, linear)
 
 pub if_some : {X : Type 0} (o : Option X) (Q : Type 0) → Q → IfSome o (λ _. Q)

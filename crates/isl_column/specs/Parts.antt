@@ -26,7 +26,7 @@ HoldsResidue residues col point = MatchOption residues ⊥ (λ r. HasResidueBelo
 
 -- the head holds at the point, or a splinter, or what a residue leaves
 pub record HoldsPart (parts : PartsView) (point : List ℤ) : Type 0 where
-  pub some : HoldsDarkShadow parts.dark_shadow parts.col point ⊎ HoldsResidue parts.residues parts.col point
+  pub some : HoldsDarkShadow parts.dark_shadow parts.column.at point ⊎ HoldsResidue parts.residues parts.column.at point
 
 -- ---- how many
 -- the head, if it is there
@@ -44,7 +44,7 @@ residues_most col (Some r) = r.left *ℤ residue_units col r.period r.sides
 
 -- the most units that all of them use: one for each splinter, and those of each residue
 abbrev pub most_units : PartsView → ℤ
-most_units parts = splinter_count parts.dark_shadow.tails.items +ℤ residues_most parts.col parts.residues
+most_units parts = splinter_count parts.dark_shadow.tails.items +ℤ residues_most parts.column.at parts.residues
 
 -- the least units that residues use: one for each pair of bounds, if one is still to come
 abbrev pub residues_least : Option Residues → ℕ
@@ -71,10 +71,9 @@ pub record AreResidues (g : Gauge) (columns col : ℕ) (r : Residues) : Type 0 w
 
 -- lists over so many columns, once the column was taken out
 pub record AreParts (g : Gauge) (columns : ℕ) (parts : PartsView) : Type 0 where
-  pub column : parts.col < parts.columns
-  pub width : columns ≡ parts.columns - 1
-  pub shadow : IsDarkShadow g parts.columns parts.col parts.dark_shadow
-  pub residues : IfSome parts.residues (AreResidues g parts.columns parts.col)
+  pub width : columns ≡ parts.column.columns - 1
+  pub shadow : IsDarkShadow g parts.column.columns parts.column.at parts.dark_shadow
+  pub residues : IfSome parts.residues (AreResidues g parts.column.columns parts.column.at)
 
 -- they hold together where some whole number at the column makes the rows hold
 pub record ArePartsOf (g : Gauge) (columns col : ℕ) (rows : List Row) (parts : PartsView) : Type 0 where

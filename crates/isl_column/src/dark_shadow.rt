@@ -1,16 +1,17 @@
 //! What elimination makes of the sides of a column.
 
-ghost use Rattle.std.specs.Prelude.{◌≡◌, ◌≢◌, ◌⊎◌, ◌<◌, ◌*◌, [], true, false, All, IfOk, length, map, MatchResult, ◌^◌, pos};
+ghost use Rattle.std.specs.Prelude.{◌≡◌, ◌≢◌, ◌⊎◌, ◌<◌, ◌*◌, [], true, false, All, IfOk, length, map, ◌^◌};
 ghost use Rattle.isl_piece.specs.Row.{IsRowWithin, IsRowUpTo};
-ghost use Rattle.isl_meter.specs.Gauge.{IsCutUpTo, IsDone};
+ghost use Rattle.isl_meter.specs.Gauge.{IsDone};
 ghost use Rattle.isl_omega.specs.Magnitude.{IsNoOverflow, IsNoOverflowWith, AreSidesUpTo};
 ghost use Rattle.isl_omega.specs.Units.{IsDoneFor};
 ghost use Rattle.isl_column.specs.Magnitude.{IsSmallDarkShadow};
 
 use isl_meter::{Cut, Meter};
+use isl_omega::column::Column;
 use isl_omega::pair::reduced_by;
 use isl_omega::rows::settled;
-use isl_omega::shadow::{Splinters, shadow};
+use isl_omega::shadow::{Splinters, Uppers, shadow};
 use isl_omega::sides::Sides;
 use isl_piece::{Row, Rows};
 use std::alloc::{AllocError, Global};
@@ -43,20 +44,17 @@ impl DarkShadow {
     fn shifted(
         alloc: Global,
         uppers: &[Row],
-        columns: usize,
-        col: usize,
+        column: Column,
         meter: &mut Meter,
     ) -> Result<Rows, Cut>
-        requires uppers { All (IsUpper meter.old columns col) uppers.now }
-        requires col_in { col < columns }
-        ensures exact { MatchResult result
-            (λ rows. (rows ≡ map (shifted_row col) uppers.now) × All (IsRowWithin meter.old) rows × (meter.new ≡ meter.old))
-            (λ cut. IsCutUpTo (pos 0) meter.old meter.new cut) }
+        requires uppers { All (IsUpper meter.old column.columns column.at) uppers.now }
+        ensures exact { IsDone meter.old meter.new
+            (λ rows. (rows ≡ map (shifted_row column.at) uppers.now) × All (IsRowWithin meter.old) rows) result }
         ensures no_overflow { meter.old.bits ≡ 127 → All (IsRowUpTo (2 ^ 61)) uppers.now → IsNoOverflow result }
     {
         let mut rows = Rows::new(alloc);
         for upper in uppers {
-            let by = upper.coefs.get(col).neg(meter);
+            let by = upper.coefs.get(column.at).neg(meter);
             rows.push(reduced_by(alloc, upper, by, meter)?)?;
         }
         Ok(rows)
@@ -66,52 +64,45 @@ impl DarkShadow {
     fn shadows(
         alloc: Global,
         sides: &Sides,
-        columns: usize,
-        col: usize,
+        column: Column,
         meter: &mut Meter,
     ) -> Result<(Rows, Vec<Splinters>), Cut>
-        requires sided { AreSided meter.old columns col sides.now }
-        requires col_in { col < columns }
+        requires sided { AreSided meter.old column.columns column.at sides.now }
         ensures exact { IsDoneFor (length sides.now.lowers * length sides.now.uppers) meter.old meter.new
-            (λ pair. AreShadowsOf meter.old columns col sides.now pair.0 pair.1.items) result }
+            (λ pair. AreShadowsOf meter.old column.columns column.at sides.now pair.0 pair.1.items) result }
         ensures no_overflow { meter.old.bits ≡ 127 → AreSidesUpTo (2 ^ 61) sides.now → IsNoOverflow result }
     {
         let lowers = sides.lowers.as_slice();
         if sides.not_divides.is_empty() {
-            let pair = shadow(
-                alloc,
-                lowers,
-                sides.uppers.as_slice(),
-                false,
-                columns,
-                col,
-                meter,
-            )?;
+            let uppers = Uppers {
+                rows: sides.uppers.as_slice(),
+                column,
+                neighbours: false,
+            };
+            let pair = shadow(alloc, lowers, &uppers, meter)?;
             return Ok(pair);
         }
-        let uppers = DarkShadow::shifted(alloc, sides.uppers.as_slice(), columns, col, meter)?;
-        let pair = shadow(alloc, lowers, uppers.as_slice(), true, columns, col, meter)?;
+        let shifted = DarkShadow::shifted(alloc, sides.uppers.as_slice(), column, meter)?;
+        let uppers = Uppers {
+            rows: shifted.as_slice(),
+            column,
+            neighbours: true,
+        };
+        let pair = shadow(alloc, lowers, &uppers, meter)?;
         Ok(pair)
     }
 
     // Where a side has no bound: the rows that do not depend on the column.
-    fn open(
-        alloc: Global,
-        sides: &Sides,
-        columns: usize,
-        col: usize,
-        meter: &mut Meter,
-    ) -> Result<Self, Cut>
-        requires sided { AreSided meter.old columns col sides.now }
+    fn open(alloc: Global, sides: &Sides, column: Column, meter: &mut Meter) -> Result<Self, Cut>
+        requires sided { AreSided meter.old column.columns column.at sides.now }
         requires divides { sides.now.divides ≡ [] }
         requires not_divides { length sides.now.not_divides < 2 }
         requires open { (sides.now.lowers ≡ []) ⊎ (sides.now.uppers ≡ []) }
-        requires col_in { col < columns }
-        ensures exact { IsDone meter.old meter.new (IsDarkShadowWithFewSplinters meter.old columns col sides.now) result }
+        ensures exact { IsDone meter.old meter.new (IsDarkShadowWithFewSplinters meter.old column.columns column.at sides.now) result }
         ensures no_overflow { meter.old.bits ≡ 127 → AreSidesUpTo (2 ^ 61) sides.now → IsNoOverflowWith IsSmallDarkShadow result }
     {
         let rows = DarkShadow::all_rows(alloc, sides)?;
-        let dark = settled(alloc, &sides.free, columns, col, meter)?;
+        let dark = settled(alloc, &sides.free, column, meter)?;
         Ok(DarkShadow {
             rows,
             dark,
@@ -120,49 +111,35 @@ impl DarkShadow {
     }
 
     // Where both sides have bounds: the rows that do not depend on the column, and the dark rows.
-    fn closed(
-        alloc: Global,
-        sides: &Sides,
-        columns: usize,
-        col: usize,
-        meter: &mut Meter,
-    ) -> Result<Self, Cut>
-        requires sided { AreSided meter.old columns col sides.now }
+    fn closed(alloc: Global, sides: &Sides, column: Column, meter: &mut Meter) -> Result<Self, Cut>
+        requires sided { AreSided meter.old column.columns column.at sides.now }
         requires divides { sides.now.divides ≡ [] }
         requires not_divides { length sides.now.not_divides < 2 }
         requires uppers { sides.now.uppers ≢ [] }
-        requires col_in { col < columns }
         ensures exact { IsDoneFor (length sides.now.lowers * length sides.now.uppers) meter.old meter.new
-            (IsDarkShadowWithFewSplinters meter.old columns col sides.now) result }
+            (IsDarkShadowWithFewSplinters meter.old column.columns column.at sides.now) result }
         ensures no_overflow { meter.old.bits ≡ 127 → AreSidesUpTo (2 ^ 61) sides.now → IsNoOverflowWith IsSmallDarkShadow result }
     {
         let rows = DarkShadow::all_rows(alloc, sides)?;
-        let (pairs, tails) = DarkShadow::shadows(alloc, sides, columns, col, meter)?;
+        let (pairs, tails) = DarkShadow::shadows(alloc, sides, column, meter)?;
         let mut left = sides.free.copy(alloc)?;
         left.append(alloc, &pairs)?;
-        let dark = settled(alloc, &left, columns, col, meter)?;
+        let dark = settled(alloc, &left, column, meter)?;
         Ok(DarkShadow { rows, dark, tails })
     }
 
     /// What the sides leave, where no congruence is among them and at most one row that must not be divided.
-    pub fn of(
-        alloc: Global,
-        sides: &Sides,
-        columns: usize,
-        col: usize,
-        meter: &mut Meter,
-    ) -> Result<Self, Cut>
-        requires sided { AreSided meter.old columns col sides.now }
+    pub fn of(alloc: Global, sides: &Sides, column: Column, meter: &mut Meter) -> Result<Self, Cut>
+        requires sided { AreSided meter.old column.columns column.at sides.now }
         requires divides { sides.now.divides ≡ [] }
         requires not_divides { length sides.now.not_divides < 2 }
-        requires col_in { col < columns }
         ensures exact { IsDoneFor (length sides.now.lowers * length sides.now.uppers) meter.old meter.new
-            (IsDarkShadowWithFewSplinters meter.old columns col sides.now) result }
+            (IsDarkShadowWithFewSplinters meter.old column.columns column.at sides.now) result }
         ensures no_overflow { meter.old.bits ≡ 127 → AreSidesUpTo (2 ^ 61) sides.now → IsNoOverflowWith IsSmallDarkShadow result }
     {
         if sides.lowers.is_empty() || sides.uppers.is_empty() {
-            return DarkShadow::open(alloc, sides, columns, col, meter);
+            return DarkShadow::open(alloc, sides, column, meter);
         }
-        DarkShadow::closed(alloc, sides, columns, col, meter)
+        DarkShadow::closed(alloc, sides, column, meter)
     }
 }

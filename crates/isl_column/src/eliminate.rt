@@ -1,6 +1,6 @@
 //! One column out of rows.
 
-ghost use Rattle.std.specs.Prelude.{◌≡◌, ◌≢◌, ◌<◌, ◌-◌, ◌≤ℤ◌, ◌+ℤ◌, pos, All, length, IfOk, option_to_list, MatchResult, ◌+◌, ◌≤◌};
+ghost use Rattle.std.specs.Prelude.{◌≡◌, ◌≢◌, ◌-◌, ◌≤ℤ◌, ◌+ℤ◌, pos, All, length, IfOk, option_to_list, MatchResult, ◌+◌, ◌≤◌};
 ghost use Rattle.isl_meter.specs.Gauge.{IsCharged, IsCutBy};
 ghost use Rattle.isl_piece.specs.Normal.{IsNormal};
 ghost use Rattle.isl_column.specs.Column.{IsProjectionOf};
@@ -13,10 +13,11 @@ ghost use Rattle.isl_column.specs.Magnitude.{HaveSmallNumbers, HaveOneCongruence
 
 use crate::parts::Parts;
 use isl_meter::{Cut, Meter};
+use isl_omega::column::Column;
 use isl_piece::{Row, Rows};
 use std::alloc::Global;
 
-/// The rows without the column `col`: lists of rows, of which one holds at a point exactly where some whole number put at `col`
+/// The rows without the column: lists of rows, of which one holds at a point exactly where some whole number put at the column
 /// makes `rows` hold. Each list is in normal form.
 ///
 /// Where an equality has the column, no unit is used; else at most `elimination_units`, at least one for each pair of a lower and an
@@ -30,28 +31,28 @@ use std::alloc::Global;
 pub fn eliminate_rows(
     alloc: Global,
     rows: &[Row],
-    columns: usize,
-    col: usize,
+    column: Column,
     meter: &mut Meter,
 ) -> Result<Vec<Rows>, Cut>
-    requires rows { All (IsProper meter.old columns) rows.now }
-    requires col_in { col < columns }
-    ensures projection { IfOk result (λ answers. IsProjectionOf columns rows.now col answers.items) }
-    ensures proper { IfOk result (λ answers. All (All (IsProper meter.old (columns - 1))) answers.items) }
+    requires rows { All (IsProper meter.old column.columns) rows.now }
+    ensures projection { IfOk result (λ answers. IsProjectionOf column.columns rows.now column.at answers.items) }
+    ensures proper { IfOk result (λ answers. All (All (IsProper meter.old (column.columns - 1))) answers.items) }
     ensures normal { IfOk result (λ answers. All IsNormal answers.items) }
-    ensures exact_column { IsExactColumn col rows.now → ¬ HasEquality col rows.now
-        → IfOk result (λ answers. answers.items ≡ option_to_list (exact_rows rows.now col)) }
-    ensures solved_column { HasEquality col rows.now → IfOk result (λ answers. answers.items ≡ option_to_list (solved_rows rows.now col)) }
+    ensures exact_column { IsExactColumn column.at rows.now → ¬ HasEquality column.at rows.now
+        → IfOk result (λ answers. answers.items ≡ option_to_list (exact_rows rows.now column.at)) }
+    ensures solved_column { HasEquality column.at rows.now → IfOk result
+        (λ answers. answers.items ≡ option_to_list (solved_rows rows.now column.at)) }
     ensures meter { MatchResult result (λ _. IsCharged meter.old meter.new) (IsCutBy meter.old meter.new) }
-    ensures units { pos meter.new.units ≤ℤ (pos meter.old.units +ℤ elimination_units rows.now col) }
-    ensures equality { HasEquality col rows.now → meter.new.units ≡ meter.old.units }
-    ensures magnitude { meter.old.bits ≡ 127 → HaveSmallNumbers rows.now → HaveOneCongruence rows.now col → result ≢ Err Cut.Overflow }
-    ensures pairs { ¬ HasEquality col rows.now → IfOk result (λ _. meter.old.units + pairs_on col rows.now ≤ meter.new.units) }
+    ensures units { pos meter.new.units ≤ℤ (pos meter.old.units +ℤ elimination_units rows.now column.at) }
+    ensures equality { HasEquality column.at rows.now → meter.new.units ≡ meter.old.units }
+    ensures magnitude { meter.old.bits ≡ 127 → HaveSmallNumbers rows.now → HaveOneCongruence rows.now column.at
+        → result ≢ Err Cut.Overflow }
+    ensures pairs { ¬ HasEquality column.at rows.now → IfOk result (λ _. meter.old.units + pairs_on column.at rows.now ≤ meter.new.units) }
     ensures counted { IfOk result (λ answers. length answers.items + meter.old.units ≤ meter.new.units + 1) }
 {
-    let mut parts = Parts::of(alloc, rows, columns, col, meter)?;
+    let mut parts = Parts::of(alloc, rows, column, meter)?;
     let mut answers = Vec::new(alloc);
-    while let Some(left) = parts.next(alloc, columns - 1, meter)? {
+    while let Some(left) = parts.next(alloc, column.columns - 1, meter)? {
         answers.push(left)?;
     }
     Ok(answers)

@@ -12,16 +12,17 @@ ghost use Rattle.isl_omega.specs.Equality.{HasEquality};
 ghost use Rattle.isl_omega.specs.Magnitude.{IsNoOverflow};
 
 use isl_meter::{Cut, Meter};
+use isl_omega::column::Column;
 use isl_omega::equality::equality_step;
 use isl_piece::{Row, RowKind, Rows};
 use std::alloc::Global;
 
 // Whether the row is an equality that has the column.
-fn is_equality(row: &Row, col: usize) -> bool
-    requires col_in { col < length row.now.coefs }
-    ensures { IsTrue result ↔ ((row.now.kind ≡ Zero) × (coef_at row.now col ≢ pos 0)) }
+fn is_equality(row: &Row, column: Column) -> bool
+    requires width { length row.now.coefs ≡ column.columns }
+    ensures { IsTrue result ↔ ((row.now.kind ≡ Zero) × (coef_at row.now column.at ≢ pos 0)) }
 {
-    row.kind == RowKind::Zero && !row.coefs.get(col).is_zero()
+    row.kind == RowKind::Zero && !row.coefs.get(column.at).is_zero()
 }
 
 // Of an equality that was found and the row at a place, the one with the lesser coefficient, if it is an equality with the column.
@@ -29,22 +30,20 @@ fn better(
     rows: &[Row],
     found: Option<usize>,
     at: usize,
-    columns: usize,
-    col: usize,
+    column: Column,
     meter: &Meter,
 ) -> Option<usize>
-    requires rows { All (IsProper meter.now columns) rows.now }
-    requires found { MatchOption found (¬ HasEquality col (take at rows.now)) (IsLeastAmong col rows.now at) }
+    requires rows { All (IsProper meter.now column.columns) rows.now }
+    requires found { MatchOption found (¬ HasEquality column.at (take at rows.now)) (IsLeastAmong column.at rows.now at) }
     requires at_in { at < length rows.now }
-    requires col_in { col < columns }
-    ensures { MatchOption result (¬ HasEquality col (take (at + 1) rows.now)) (IsLeastAmong col rows.now (at + 1)) }
+    ensures { MatchOption result (¬ HasEquality column.at (take (at + 1) rows.now)) (IsLeastAmong column.at rows.now (at + 1)) }
 {
     let row = &rows[at];
-    if !is_equality(row, col) {
+    if !is_equality(row, column) {
         return found;
     }
     if let Some(old) = found
-        && rows[old].coefs.get(col).abs(meter) <= row.coefs.get(col).abs(meter)
+        && rows[old].coefs.get(column.at).abs(meter) <= row.coefs.get(column.at).abs(meter)
     {
         return found;
     }
@@ -52,14 +51,13 @@ fn better(
 }
 
 /// The place of the first of the equalities with the least coefficient at the column.
-pub(crate) fn equality_at(rows: &[Row], columns: usize, col: usize, meter: &Meter) -> Option<usize>
-    requires rows { All (IsProper meter.now columns) rows.now }
-    requires col_in { col < columns }
-    ensures { MatchOption result (¬ HasEquality col rows.now) (IsLeastAmong col rows.now (length rows.now)) }
+pub(crate) fn equality_at(rows: &[Row], column: Column, meter: &Meter) -> Option<usize>
+    requires rows { All (IsProper meter.now column.columns) rows.now }
+    ensures { MatchOption result (¬ HasEquality column.at rows.now) (IsLeastAmong column.at rows.now (length rows.now)) }
 {
     let mut found = None;
     for i in 0..rows.len() {
-        found = better(rows, found, i, columns, col, meter);
+        found = better(rows, found, i, column, meter);
     }
     found
 }
@@ -69,17 +67,15 @@ pub(crate) fn solved_left(
     alloc: Global,
     rows: &[Row],
     at: usize,
-    columns: usize,
-    col: usize,
+    column: Column,
     meter: &mut Meter,
 ) -> Result<Option<Rows>, Cut>
-    requires rows { All (IsProper meter.old columns) rows.now }
-    requires col_in { col < columns }
-    requires equality { IsLeastAmong col rows.now (length rows.now) at }
-    ensures exact { IsDone meter.old meter.new (IsAnswerFor meter.old (columns - 1) (HoldAtSome rows.now col)) result }
-    ensures left { IfOk result (λ left. left ≡ solved_rows rows.now col) }
+    requires rows { All (IsProper meter.old column.columns) rows.now }
+    requires equality { IsLeastAmong column.at rows.now (length rows.now) at }
+    ensures exact { IsDone meter.old meter.new (IsAnswerFor meter.old (column.columns - 1) (HoldAtSome rows.now column.at)) result }
+    ensures left { IfOk result (λ left. left ≡ solved_rows rows.now column.at) }
     ensures no_overflow { meter.old.bits ≡ 127 → HaveSmallNumbers rows.now → IsNoOverflow result }
 {
-    let left = equality_step(alloc, rows, &rows[at], columns, col, meter)?;
+    let left = equality_step(alloc, rows, &rows[at], column, meter)?;
     Ok(left)
 }

@@ -1,7 +1,7 @@
 //! The real rows of all pairs of bounds. Where a column is exact they are all that is left: no splinter, no residue, and no memory but for
 //! the rows that are answered.
 
-ghost use Rattle.std.specs.Prelude.{◌≡◌, ◌↔◌, ◌-◌, ◌<◌, ◌∷◌, ◌*◌, ◌^◌, [], All, length, map, IfOk, IsTrue, MatchResult, pos, ◌+◌, ◌≤◌};
+ghost use Rattle.std.specs.Prelude.{◌≡◌, ◌↔◌, ◌-◌, ◌∷◌, ◌*◌, ◌^◌, [], All, length, map, IfOk, IsTrue, MatchResult, ◌+◌, ◌≤◌};
 ghost use Rattle.isl_piece.specs.Row.{IsRowWithin, IsRowUpTo};
 ghost use Rattle.isl_column.specs.Column.{HoldAtSome};
 ghost use Rattle.isl_omega.specs.Column.{dropped, IsAnswerFor, IsProper};
@@ -14,35 +14,34 @@ ghost use Rattle.isl_omega.specs.Units.{IsDoneFor};
 ghost use Rattle.isl_column.specs.Magnitude.{HaveSmallNumbers};
 ghost use Rattle.isl_omega.specs.Sides.{IsLower, IsUpper, on_side};
 ghost use Rattle.isl_column.specs.Units.{elimination_units};
-ghost use Rattle.isl_meter.specs.Gauge.{IsCutUpTo, IsDoneWithin};
+ghost use Rattle.isl_meter.specs.Gauge.{IsDone, IsDoneWithin};
 
 use isl_meter::{Cut, Int, Meter};
-use isl_omega::combine::weighted_without;
+use isl_omega::column::Column;
+use isl_omega::combine::{Multiple, weighted_without};
 use isl_omega::rows::row_without;
 use isl_omega::sides::Side;
 use isl_piece::{Row, RowKind, Rows, sum_of};
 use std::alloc::Global;
 
 // Whether the row leaves the column exact where the bounds on `side` are to have the factor 1.
-fn is_exact_row(side: Side, row: &Row, columns: usize, col: usize, meter: &Meter) -> bool
-    requires row { IsProper meter.now columns row.now }
-    requires col_in { col < columns }
-    ensures { IsTrue result ↔ IsExactRow side col row.now }
+fn is_exact_row(side: Side, row: &Row, column: Column, meter: &Meter) -> bool
+    requires row { IsProper meter.now column.columns row.now }
+    ensures { IsTrue result ↔ IsExactRow side column.at row.now }
 {
-    match Side::of(row, col, meter) {
+    match Side::of(row, column, meter) {
         Side::Divides | Side::NotDivides => false,
-        own => own != side || row.coefs.get(col).abs(meter) == Int::ONE,
+        own => own != side || row.coefs.get(column.at).abs(meter) == Int::ONE,
     }
 }
 
 // Whether each of the rows does.
-fn are_exact(side: Side, rows: &[Row], columns: usize, col: usize, meter: &Meter) -> bool
-    requires rows { All (IsProper meter.now columns) rows.now }
-    requires col_in { col < columns }
-    ensures { IsTrue result ↔ All (IsExactRow side col) rows.now }
+fn are_exact(side: Side, rows: &[Row], column: Column, meter: &Meter) -> bool
+    requires rows { All (IsProper meter.now column.columns) rows.now }
+    ensures { IsTrue result ↔ All (IsExactRow side column.at) rows.now }
 {
     for row in rows {
-        if !is_exact_row(side, row, columns, col, meter) {
+        if !is_exact_row(side, row, column, meter) {
             return false;
         }
     }
@@ -50,13 +49,11 @@ fn are_exact(side: Side, rows: &[Row], columns: usize, col: usize, meter: &Meter
 }
 
 /// Whether no congruence depends on the column, and all lower bounds or all upper bounds have the factor 1.
-pub(crate) fn is_exact(rows: &[Row], columns: usize, col: usize, meter: &Meter) -> bool
-    requires rows { All (IsProper meter.now columns) rows.now }
-    requires col_in { col < columns }
-    ensures { IsTrue result ↔ IsExactColumn col rows.now }
+pub(crate) fn is_exact(rows: &[Row], column: Column, meter: &Meter) -> bool
+    requires rows { All (IsProper meter.now column.columns) rows.now }
+    ensures { IsTrue result ↔ IsExactColumn column.at rows.now }
 {
-    are_exact(Side::Lower, rows, columns, col, meter)
-        || are_exact(Side::Upper, rows, columns, col, meter)
+    are_exact(Side::Lower, rows, column, meter) || are_exact(Side::Upper, rows, column, meter)
 }
 
 // The real row of a lower and an upper bound, without the column.
@@ -64,29 +61,26 @@ fn real_row_without(
     alloc: Global,
     lower: &Row,
     upper: &Row,
-    columns: usize,
-    col: usize,
+    column: Column,
     meter: &mut Meter,
 ) -> Result<Row, Cut>
-    requires lower { IsLower meter.old columns col lower.now }
-    requires upper { IsUpper meter.old columns col upper.now }
-    requires col_in { col < columns }
-    ensures exact { MatchResult result
-        (λ row. (row ≡ dropped (real_row col lower.now upper.now) col) × IsRowWithin meter.old row × (meter.new ≡ meter.old))
-        (λ cut. IsCutUpTo (pos 0) meter.old meter.new cut) }
+    requires lower { IsLower meter.old column.columns column.at lower.now }
+    requires upper { IsUpper meter.old column.columns column.at upper.now }
+    ensures exact { IsDone meter.old meter.new
+        (λ row. (row ≡ dropped (real_row column.at lower.now upper.now) column.at) × IsRowWithin meter.old row) result }
     ensures no_overflow { meter.old.bits ≡ 127 → IsRowUpTo (2 ^ 30) lower.now → IsRowUpTo (2 ^ 30) upper.now → IsNoOverflow result }
 {
-    let a = lower.coefs.get(col);
-    let b = upper.coefs.get(col).neg(meter);
-    let coefs = weighted_without(
-        alloc,
-        b,
-        lower.coefs.as_slice(),
-        a,
-        upper.coefs.as_slice(),
-        col,
-        meter,
-    )?;
+    let a = lower.coefs.get(column.at);
+    let b = upper.coefs.get(column.at).neg(meter);
+    let left = Multiple {
+        times: b,
+        numbers: lower.coefs.as_slice(),
+    };
+    let right = Multiple {
+        times: a,
+        numbers: upper.coefs.as_slice(),
+    };
+    let coefs = weighted_without(alloc, &left, &right, column.at, meter)?;
     let constant = sum_of(b, lower.constant(), a, upper.constant(), meter)?;
     Ok(Row::new(RowKind::AtLeast, coefs, constant, Int::ONE))
 }
@@ -96,23 +90,21 @@ fn push_pair(
     alloc: Global,
     lower: &Row,
     row: &Row,
-    columns: usize,
-    col: usize,
+    column: Column,
     short: &mut Rows,
     meter: &mut Meter,
 ) -> Result<(), Cut>
-    requires lower { IsLower meter.old columns col lower.now }
-    requires row { IsProper meter.old columns row.now }
-    requires col_in { col < columns }
-    ensures exact { IsDoneFor (length (on_side Side.Upper col (row.now ∷ []))) meter.old meter.new
-        (λ _. AreAdded meter.old col (map (real_row col lower.now) (on_side Side.Upper col (row.now ∷ []))) short.old short.new) result }
+    requires lower { IsLower meter.old column.columns column.at lower.now }
+    requires row { IsProper meter.old column.columns row.now }
+    ensures exact { IsDoneFor (length (on_side Side.Upper column.at (row.now ∷ []))) meter.old meter.new
+        (λ _. AreAdded meter.old column.at (map (real_row column.at lower.now) (on_side Side.Upper column.at (row.now ∷ []))) short.old short.new) result }
     ensures no_overflow { meter.old.bits ≡ 127 → IsRowUpTo (2 ^ 30) lower.now → IsRowUpTo (2 ^ 30) row.now → IsNoOverflow result }
 {
-    if !Side::Upper.has(row, col, meter) {
+    if !Side::Upper.has(row, column, meter) {
         return Ok(());
     }
     meter.unit()?;
-    let real = real_row_without(alloc, lower, row, columns, col, meter)?;
+    let real = real_row_without(alloc, lower, row, column, meter)?;
     short.push(real)?;
     Ok(())
 }
@@ -122,20 +114,18 @@ fn push_pairs_of(
     alloc: Global,
     lower: &Row,
     rows: &[Row],
-    columns: usize,
-    col: usize,
+    column: Column,
     short: &mut Rows,
     meter: &mut Meter,
 ) -> Result<(), Cut>
-    requires lower { IsLower meter.old columns col lower.now }
-    requires rows { All (IsProper meter.old columns) rows.now }
-    requires col_in { col < columns }
-    ensures exact { IsDoneFor (length (on_side Side.Upper col rows.now)) meter.old meter.new
-        (λ _. AreAdded meter.old col (map (real_row col lower.now) (on_side Side.Upper col rows.now)) short.old short.new) result }
+    requires lower { IsLower meter.old column.columns column.at lower.now }
+    requires rows { All (IsProper meter.old column.columns) rows.now }
+    ensures exact { IsDoneFor (length (on_side Side.Upper column.at rows.now)) meter.old meter.new
+        (λ _. AreAdded meter.old column.at (map (real_row column.at lower.now) (on_side Side.Upper column.at rows.now)) short.old short.new) result }
     ensures no_overflow { meter.old.bits ≡ 127 → IsRowUpTo (2 ^ 30) lower.now → All (IsRowUpTo (2 ^ 30)) rows.now → IsNoOverflow result }
 {
     for row in rows {
-        push_pair(alloc, lower, row, columns, col, short, meter)?;
+        push_pair(alloc, lower, row, column, short, meter)?;
     }
     Ok(())
 }
@@ -145,43 +135,39 @@ fn push_lower(
     alloc: Global,
     row: &Row,
     rows: &[Row],
-    columns: usize,
-    col: usize,
+    column: Column,
     short: &mut Rows,
     meter: &mut Meter,
 ) -> Result<(), Cut>
-    requires row { IsProper meter.old columns row.now }
-    requires rows { All (IsProper meter.old columns) rows.now }
-    requires col_in { col < columns }
-    ensures exact { IsDoneFor (length (on_side Side.Lower col (row.now ∷ [])) * length (on_side Side.Upper col rows.now)) meter.old meter.new
-        (λ _. AreAdded meter.old col (real_rows col (on_side Side.Lower col (row.now ∷ [])) (on_side Side.Upper col rows.now))
+    requires row { IsProper meter.old column.columns row.now }
+    requires rows { All (IsProper meter.old column.columns) rows.now }
+    ensures exact { IsDoneFor (length (on_side Side.Lower column.at (row.now ∷ [])) * length (on_side Side.Upper column.at rows.now)) meter.old meter.new
+        (λ _. AreAdded meter.old column.at (real_rows column.at (on_side Side.Lower column.at (row.now ∷ [])) (on_side Side.Upper column.at rows.now))
         short.old short.new) result }
     ensures no_overflow { meter.old.bits ≡ 127 → IsRowUpTo (2 ^ 30) row.now → All (IsRowUpTo (2 ^ 30)) rows.now → IsNoOverflow result }
 {
-    if !Side::Lower.has(row, col, meter) {
+    if !Side::Lower.has(row, column, meter) {
         return Ok(());
     }
-    push_pairs_of(alloc, row, rows, columns, col, short, meter)
+    push_pairs_of(alloc, row, rows, column, short, meter)
 }
 
 // Pushes the real rows of all pairs.
 fn push_pairs(
     alloc: Global,
     rows: &[Row],
-    columns: usize,
-    col: usize,
+    column: Column,
     short: &mut Rows,
     meter: &mut Meter,
 ) -> Result<(), Cut>
-    requires rows { All (IsProper meter.old columns) rows.now }
-    requires col_in { col < columns }
-    ensures exact { IsDoneFor (pairs_on col rows.now) meter.old meter.new
-        (λ _. AreAdded meter.old col (real_rows col (on_side Side.Lower col rows.now) (on_side Side.Upper col rows.now))
+    requires rows { All (IsProper meter.old column.columns) rows.now }
+    ensures exact { IsDoneFor (pairs_on column.at rows.now) meter.old meter.new
+        (λ _. AreAdded meter.old column.at (real_rows column.at (on_side Side.Lower column.at rows.now) (on_side Side.Upper column.at rows.now))
         short.old short.new) result }
     ensures no_overflow { meter.old.bits ≡ 127 → All (IsRowUpTo (2 ^ 30)) rows.now → IsNoOverflow result }
 {
     for row in rows {
-        push_lower(alloc, row, rows, columns, col, short, meter)?;
+        push_lower(alloc, row, rows, column, short, meter)?;
     }
     Ok(())
 }
@@ -190,19 +176,17 @@ fn push_pairs(
 fn push_row(
     alloc: Global,
     row: &Row,
-    columns: usize,
-    col: usize,
+    column: Column,
     short: &mut Rows,
     meter: &Meter,
 ) -> Result<(), Cut>
-    requires row { IsProper meter.now columns row.now }
-    requires col_in { col < columns }
+    requires row { IsProper meter.now column.columns row.now }
     ensures { MatchResult result
-        (λ _. AreAdded meter.now col (on_side Side.Free col (row.now ∷ [])) short.old short.new)
+        (λ _. AreAdded meter.now column.at (on_side Side.Free column.at (row.now ∷ [])) short.old short.new)
         (λ cut. cut ≡ Cut.NoMemory) }
 {
-    if Side::Free.has(row, col, meter) {
-        short.push(row_without(alloc, row, col)?)?;
+    if Side::Free.has(row, column, meter) {
+        short.push(row_without(alloc, row, column.at)?)?;
     }
     Ok(())
 }
@@ -211,40 +195,31 @@ fn push_row(
 fn push_free(
     alloc: Global,
     rows: &[Row],
-    columns: usize,
-    col: usize,
+    column: Column,
     short: &mut Rows,
     meter: &Meter,
 ) -> Result<(), Cut>
-    requires rows { All (IsProper meter.now columns) rows.now }
-    requires col_in { col < columns }
+    requires rows { All (IsProper meter.now column.columns) rows.now }
     ensures { MatchResult result
-        (λ _. AreAdded meter.now col (on_side Side.Free col rows.now) short.old short.new)
+        (λ _. AreAdded meter.now column.at (on_side Side.Free column.at rows.now) short.old short.new)
         (λ cut. cut ≡ Cut.NoMemory) }
 {
     for row in rows {
-        push_row(alloc, row, columns, col, short, meter)?;
+        push_row(alloc, row, column, short, meter)?;
     }
     Ok(())
 }
 
 // The rows that are left, without the column. At first there is room for as many as there are rows.
-fn short_rows(
-    alloc: Global,
-    rows: &[Row],
-    columns: usize,
-    col: usize,
-    meter: &mut Meter,
-) -> Result<Rows, Cut>
-    requires rows { All (IsProper meter.old columns) rows.now }
-    requires col_in { col < columns }
-    ensures exact { IsDoneFor (pairs_on col rows.now) meter.old meter.new
-        (λ short. AreAdded meter.old col (rows_left col rows.now) [] short) result }
+fn short_rows(alloc: Global, rows: &[Row], column: Column, meter: &mut Meter) -> Result<Rows, Cut>
+    requires rows { All (IsProper meter.old column.columns) rows.now }
+    ensures exact { IsDoneFor (pairs_on column.at rows.now) meter.old meter.new
+        (λ short. AreAdded meter.old column.at (rows_left column.at rows.now) [] short) result }
     ensures no_overflow { meter.old.bits ≡ 127 → All (IsRowUpTo (2 ^ 30)) rows.now → IsNoOverflow result }
 {
     let mut short = Rows::with_capacity(alloc, rows.len())?;
-    push_free(alloc, rows, columns, col, &mut short, meter)?;
-    push_pairs(alloc, rows, columns, col, &mut short, meter)?;
+    push_free(alloc, rows, column, &mut short, meter)?;
+    push_pairs(alloc, rows, column, &mut short, meter)?;
     Ok(short)
 }
 
@@ -252,19 +227,17 @@ fn short_rows(
 pub(crate) fn real_left(
     alloc: Global,
     rows: &[Row],
-    columns: usize,
-    col: usize,
+    column: Column,
     meter: &mut Meter,
 ) -> Result<Option<Rows>, Cut>
-    requires rows { All (IsProper meter.old columns) rows.now }
-    requires col_in { col < columns }
-    requires none { ¬ HasEquality col rows.now }
-    ensures exact { IsDoneFor (pairs_on col rows.now) meter.old meter.new
-        (IsAnswerFor meter.old (columns - 1) (HoldReally rows.now col)) result }
-    ensures left { IfOk result (λ left. left ≡ exact_rows rows.now col) }
+    requires rows { All (IsProper meter.old column.columns) rows.now }
+    requires none { ¬ HasEquality column.at rows.now }
+    ensures exact { IsDoneFor (pairs_on column.at rows.now) meter.old meter.new
+        (IsAnswerFor meter.old (column.columns - 1) (HoldReally rows.now column.at)) result }
+    ensures left { IfOk result (λ left. left ≡ exact_rows rows.now column.at) }
     ensures no_overflow { meter.old.bits ≡ 127 → HaveSmallNumbers rows.now → IsNoOverflow result }
 {
-    let short = short_rows(alloc, rows, columns, col, meter)?;
+    let short = short_rows(alloc, rows, column, meter)?;
     let left = short.normalise(alloc, meter)?;
     Ok(left)
 }
@@ -273,19 +246,17 @@ pub(crate) fn real_left(
 pub(crate) fn exact_left(
     alloc: Global,
     rows: &[Row],
-    columns: usize,
-    col: usize,
+    column: Column,
     meter: &mut Meter,
 ) -> Result<Option<Rows>, Cut>
-    requires rows { All (IsProper meter.old columns) rows.now }
-    requires col_in { col < columns }
-    requires none { ¬ HasEquality col rows.now }
-    requires exact { IsExactColumn col rows.now }
-    ensures exact { IsDoneWithin (elimination_units rows.now col) meter.old meter.new
-        (λ left. IsAnswerFor meter.old (columns - 1) (HoldAtSome rows.now col) left) result }
-    ensures left { IfOk result (λ left. left ≡ exact_rows rows.now col) }
-    ensures pairs { IfOk result (λ _. meter.old.units + pairs_on col rows.now ≤ meter.new.units) }
+    requires rows { All (IsProper meter.old column.columns) rows.now }
+    requires none { ¬ HasEquality column.at rows.now }
+    requires exact { IsExactColumn column.at rows.now }
+    ensures exact { IsDoneWithin (elimination_units rows.now column.at) meter.old meter.new
+        (λ left. IsAnswerFor meter.old (column.columns - 1) (HoldAtSome rows.now column.at) left) result }
+    ensures left { IfOk result (λ left. left ≡ exact_rows rows.now column.at) }
+    ensures pairs { IfOk result (λ _. meter.old.units + pairs_on column.at rows.now ≤ meter.new.units) }
     ensures no_overflow { meter.old.bits ≡ 127 → HaveSmallNumbers rows.now → IsNoOverflow result }
 {
-    real_left(alloc, rows, columns, col, meter)
+    real_left(alloc, rows, column, meter)
 }

@@ -1,13 +1,13 @@
 //! What is left of rows without one column: one list after another.
 
-ghost use Rattle.std.specs.Prelude.{◌≡◌, ◌<◌, ◌+◌, ◌-◌, ◌*◌, ◌^◌, ◌≤◌, ◌↔◌, ◌≤ℤ◌, ◌<ℤ◌, ◌+ℤ◌, pos, ℕ, [], None, Option, List, All, length, IfOk, IfSome, IsTrue, MatchOption, MatchResult};
-ghost use Rattle.isl_meter.specs.Gauge.{Gauge, IsCharged, IsCutBy, IsDone, IsDoneWithin};
+ghost use Rattle.std.specs.Prelude.{◌≡◌, ◌<◌, ◌+◌, ◌*◌, ◌^◌, ◌≤◌, ◌↔◌, ◌≤ℤ◌, ◌<ℤ◌, ◌+ℤ◌, pos, ℕ, [], None, Option, List, All, length, IfOk, IfSome, IsTrue, MatchOption, MatchResult};
+ghost use Rattle.isl_meter.specs.Gauge.{Gauge, IsCharged, IsCutBy, IsDone};
 ghost use Rattle.isl_piece.specs.declared.row.Row.{Row};
 ghost use Rattle.isl_omega.specs.Column.{IsProper};
 ghost use Rattle.isl_omega.specs.Equality.{HasEquality};
 ghost use Rattle.isl_omega.specs.Sides.{AreSided};
 ghost use Rattle.isl_omega.specs.Step.{IsStepOf};
-ghost use Rattle.isl_omega.specs.Magnitude.{IsNoOverflow, IsNoOverflowWith, AreSidesUpTo};
+ghost use Rattle.isl_omega.specs.Magnitude.{IsNoOverflowWith, AreSidesUpTo};
 ghost use Rattle.isl_column.specs.Column.{HoldAtSome};
 ghost use Rattle.isl_column.specs.Exact.{IsExactColumn, exact_rows, pairs_on};
 ghost use Rattle.isl_column.specs.Magnitude.{HaveSmallNumbers, HaveOneCongruence};
@@ -21,6 +21,7 @@ use crate::exact::{exact_left, is_exact};
 use crate::residue::Residues;
 use crate::splinters::are_spent;
 use isl_meter::{Cut, Meter};
+use isl_omega::column::Column;
 use isl_omega::sides::Sides;
 use isl_omega::step::congruence_step;
 use isl_piece::{Row, Rows};
@@ -30,20 +31,18 @@ use std::alloc::Global;
 fn without_congruences(
     alloc: Global,
     sides: Sides,
-    columns: usize,
-    col: usize,
+    column: Column,
     meter: &mut Meter,
 ) -> Result<Sides, Cut>
-    requires sided { AreSided meter.old columns col sides }
-    requires col_in { col < columns }
-    ensures exact { IsDone meter.old meter.new (λ new. IsStepOf meter.old columns col sides new) result }
+    requires sided { AreSided meter.old column.columns column.at sides }
+    ensures exact { IsDone meter.old meter.new (λ new. IsStepOf meter.old column.columns column.at sides new) result }
     ensures no_overflow { meter.old.bits ≡ 127 → AreSidesUpTo (2 ^ 30) sides → length sides.divides < 2
         → IsNoOverflowWith (AreSidesUpTo (2 ^ 61)) result }
 {
     if sides.divides.is_empty() {
         return Ok(sides);
     }
-    let new = congruence_step(alloc, &sides, columns, col, meter)?;
+    let new = congruence_step(alloc, &sides, column, meter)?;
     Ok(new)
 }
 
@@ -51,8 +50,7 @@ fn without_congruences(
 /// number put at the column makes the rows hold. The head is built; splinters and residues are built as they are taken.
 #[derive(Drop)]
 pub struct Parts {
-    columns: usize,
-    col: usize,
+    column: Column,
     dark_shadow: DarkShadow,
     residues: Option<Residues>,
 }
@@ -61,14 +59,13 @@ impl Parts {
     ghost use Rattle.isl_column.specs.Parts.{ArePartsOf, AreParts, IsFoundIn, IsNextPart, IsHeadAlone, AreSmallParts, AreUnitsUpTo, IsBegun, head_count, most_units, least_units};
 
     // Nothing but a head.
-    fn head(alloc: Global, left: Option<Rows>, columns: usize, col: usize) -> Parts
-        ensures column { (result.columns ≡ columns) × (result.col ≡ col) }
+    fn head(alloc: Global, left: Option<Rows>, column: Column) -> Parts
+        ensures column { (result.column.columns ≡ column.columns) × (result.column.at ≡ column.at) }
         ensures rows { result.dark_shadow.rows ≡ [] }
         ensures alone { IsHeadAlone left result }
     {
         Parts {
-            columns,
-            col,
+            column,
             dark_shadow: DarkShadow {
                 rows: Rows::new(alloc),
                 dark: left,
@@ -83,71 +80,59 @@ impl Parts {
         alloc: Global,
         rows: &[Row],
         at: usize,
-        columns: usize,
-        col: usize,
+        column: Column,
         meter: &mut Meter,
     ) -> Result<Parts, Cut>
-        requires rows { All (IsProper meter.old columns) rows.now }
-        requires col_in { col < columns }
-        requires equality { IsLeastAmong col rows.now (length rows.now) at }
-        ensures exact { IsBegun (pos 0) columns (HoldAtSome rows.now col) meter.old meter.new result }
+        requires rows { All (IsProper meter.old column.columns) rows.now }
+        requires equality { IsLeastAmong column.at rows.now (length rows.now) at }
+        ensures exact { IsBegun (pos 0) column.columns (HoldAtSome rows.now column.at) meter.old meter.new result }
         ensures none { IfOk result (λ parts. most_units parts ≡ pos 0) }
-        ensures alone { IfOk result (IsHeadAlone (solved_rows rows.now col)) }
+        ensures alone { IfOk result (IsHeadAlone (solved_rows rows.now column.at)) }
         ensures no_overflow { meter.old.bits ≡ 127 → HaveSmallNumbers rows.now → IsNoOverflowWith AreSmallParts result }
     {
-        let left = solved_left(alloc, rows, at, columns, col, meter)?;
-        Ok(Parts::head(alloc, left, columns, col))
+        let left = solved_left(alloc, rows, at, column, meter)?;
+        Ok(Parts::head(alloc, left, column))
     }
 
     // Where the column is exact.
-    fn exact(
-        alloc: Global,
-        rows: &[Row],
-        columns: usize,
-        col: usize,
-        meter: &mut Meter,
-    ) -> Result<Parts, Cut>
-        requires rows { All (IsProper meter.old columns) rows.now }
-        requires col_in { col < columns }
-        requires none { ¬ HasEquality col rows.now }
-        requires exact { IsExactColumn col rows.now }
-        ensures exact { IsBegun (elimination_units rows.now col) columns (HoldAtSome rows.now col) meter.old meter.new result }
-        ensures alone { IfOk result (IsHeadAlone (exact_rows rows.now col)) }
-        ensures pairs { IfOk result (λ parts. meter.old.units + pairs_on col rows.now ≤ meter.new.units + least_units parts) }
+    fn exact(alloc: Global, rows: &[Row], column: Column, meter: &mut Meter) -> Result<Parts, Cut>
+        requires rows { All (IsProper meter.old column.columns) rows.now }
+        requires none { ¬ HasEquality column.at rows.now }
+        requires exact { IsExactColumn column.at rows.now }
+        ensures exact { IsBegun (elimination_units rows.now column.at) column.columns (HoldAtSome rows.now column.at) meter.old meter.new result }
+        ensures alone { IfOk result (IsHeadAlone (exact_rows rows.now column.at)) }
+        ensures pairs { IfOk result (λ parts. meter.old.units + pairs_on column.at rows.now ≤ meter.new.units + least_units parts) }
         ensures no_overflow { meter.old.bits ≡ 127 → HaveSmallNumbers rows.now → IsNoOverflowWith AreSmallParts result }
     {
-        let left = exact_left(alloc, rows, columns, col, meter)?;
-        Ok(Parts::head(alloc, left, columns, col))
+        let left = exact_left(alloc, rows, column, meter)?;
+        Ok(Parts::head(alloc, left, column))
     }
 
     // Of sides without congruences.
     fn of_sides(
         alloc: Global,
         sides: Sides,
-        columns: usize,
-        col: usize,
+        column: Column,
         meter: &mut Meter,
     ) -> Result<Parts, Cut>
-        requires sided { AreSided meter.old columns col sides }
+        requires sided { AreSided meter.old column.columns column.at sides }
         requires divides { sides.divides ≡ [] }
-        requires col_in { col < columns }
-        ensures exact { IsBegun (sides_units col sides) columns (HasNumber sides col) meter.old meter.new result }
+        ensures exact { IsBegun (sides_units column.at sides) column.columns (HasNumber sides column.at) meter.old meter.new result }
         ensures no_overflow { meter.old.bits ≡ 127 → AreSidesUpTo (2 ^ 61) sides → length sides.not_divides < 2
             → IsNoOverflowWith AreSmallParts result }
         ensures pairs { IfOk result (λ parts.
             meter.old.units + length sides.lowers * length sides.uppers ≤ meter.new.units + least_units parts) }
     {
         if sides.not_divides.len() < 2 {
-            let dark_shadow = DarkShadow::of(alloc, &sides, columns, col, meter)?;
+            let dark_shadow = DarkShadow::of(alloc, &sides, column, meter)?;
             return Ok(Parts {
-                columns,
-                col,
+                column,
                 dark_shadow,
                 residues: None,
             });
         }
-        let residues = Residues::of(sides, columns, col, meter)?;
-        let mut parts = Parts::head(alloc, None, columns, col);
+        let residues = Residues::of(sides, column, meter)?;
+        let mut parts = Parts::head(alloc, None, column);
         parts.residues = Some(residues);
         Ok(parts)
     }
@@ -156,24 +141,22 @@ impl Parts {
     fn by_sides(
         alloc: Global,
         rows: &[Row],
-        columns: usize,
-        col: usize,
+        column: Column,
         meter: &mut Meter,
     ) -> Result<Parts, Cut>
-        requires rows { All (IsProper meter.old columns) rows.now }
-        requires col_in { col < columns }
-        requires none { ¬ HasEquality col rows.now }
-        ensures exact { IsBegun (elimination_units rows.now col) columns (HoldAtSome rows.now col) meter.old meter.new result }
-        ensures no_overflow { meter.old.bits ≡ 127 → HaveSmallNumbers rows.now → HaveOneCongruence rows.now col
+        requires rows { All (IsProper meter.old column.columns) rows.now }
+        requires none { ¬ HasEquality column.at rows.now }
+        ensures exact { IsBegun (elimination_units rows.now column.at) column.columns (HoldAtSome rows.now column.at) meter.old meter.new result }
+        ensures no_overflow { meter.old.bits ≡ 127 → HaveSmallNumbers rows.now → HaveOneCongruence rows.now column.at
             → IsNoOverflowWith AreSmallParts result }
-        ensures pairs { IfOk result (λ parts. meter.old.units + pairs_on col rows.now ≤ meter.new.units + least_units parts) }
+        ensures pairs { IfOk result (λ parts. meter.old.units + pairs_on column.at rows.now ≤ meter.new.units + least_units parts) }
     {
-        let sides = Sides::of(alloc, rows, columns, col, meter)?;
-        let new = without_congruences(alloc, sides, columns, col, meter)?;
-        Parts::of_sides(alloc, new, columns, col, meter)
+        let sides = Sides::of(alloc, rows, column, meter)?;
+        let new = without_congruences(alloc, sides, column, meter)?;
+        Parts::of_sides(alloc, new, column, meter)
     }
 
-    /// What is left of the rows without the column `col`.
+    /// What is left of the rows without the column.
     ///
     /// Where an equality has the column, no unit is used; else, with those that are used for what is still to come, at most
     /// `elimination_units`, and at least one for each pair of a lower and an upper bound. Where one has it, or the column is exact,
@@ -183,35 +166,30 @@ impl Parts {
     ///
     /// `Overflow` where a number passes the limit of the meter, `Budget` where its units are used up, and `NoMemory`. A limit
     /// of 127 bits is not passed where the numbers are at most `2^30` and at most one congruence has the column.
-    pub fn of(
-        alloc: Global,
-        rows: &[Row],
-        columns: usize,
-        col: usize,
-        meter: &mut Meter,
-    ) -> Result<Parts, Cut>
-        requires rows { All (IsProper meter.old columns) rows.now }
-        requires col_in { col < columns }
+    pub fn of(alloc: Global, rows: &[Row], column: Column, meter: &mut Meter) -> Result<Parts, Cut>
+        requires rows { All (IsProper meter.old column.columns) rows.now }
         ensures exact { MatchResult result
-            (λ parts. ArePartsOf meter.old columns col rows.now parts × IsCharged meter.old meter.new)
+            (λ parts. ArePartsOf meter.old column.columns column.at rows.now parts × IsCharged meter.old meter.new)
             (IsCutBy meter.old meter.new) }
-        ensures units { MatchResult result (AreUnitsUpTo (elimination_units rows.now col) meter.old meter.new)
-            (λ _. pos meter.new.units ≤ℤ (pos meter.old.units +ℤ elimination_units rows.now col)) }
-        ensures equality { HasEquality col rows.now → (meter.new.units ≡ meter.old.units) × IfOk result (λ parts. most_units parts ≡ pos 0) }
-        ensures exact_column { IsExactColumn col rows.now → ¬ HasEquality col rows.now → IfOk result (IsHeadAlone (exact_rows rows.now col)) }
-        ensures solved_column { HasEquality col rows.now → IfOk result (IsHeadAlone (solved_rows rows.now col)) }
-        ensures magnitude { meter.old.bits ≡ 127 → HaveSmallNumbers rows.now → HaveOneCongruence rows.now col
+        ensures units { MatchResult result (AreUnitsUpTo (elimination_units rows.now column.at) meter.old meter.new)
+            (λ _. pos meter.new.units ≤ℤ (pos meter.old.units +ℤ elimination_units rows.now column.at)) }
+        ensures equality { HasEquality column.at rows.now → (meter.new.units ≡ meter.old.units) × IfOk result
+            (λ parts. most_units parts ≡ pos 0) }
+        ensures exact_column { IsExactColumn column.at rows.now → ¬ HasEquality column.at rows.now
+            → IfOk result (IsHeadAlone (exact_rows rows.now column.at)) }
+        ensures solved_column { HasEquality column.at rows.now → IfOk result (IsHeadAlone (solved_rows rows.now column.at)) }
+        ensures magnitude { meter.old.bits ≡ 127 → HaveSmallNumbers rows.now → HaveOneCongruence rows.now column.at
             → IsNoOverflowWith AreSmallParts result }
-        ensures pairs { ¬ HasEquality col rows.now
-            → IfOk result (λ parts. meter.old.units + pairs_on col rows.now ≤ meter.new.units + least_units parts) }
+        ensures pairs { ¬ HasEquality column.at rows.now
+            → IfOk result (λ parts. meter.old.units + pairs_on column.at rows.now ≤ meter.new.units + least_units parts) }
     {
-        if let Some(at) = equality_at(rows, columns, col, meter) {
-            return Parts::solved(alloc, rows, at, columns, col, meter);
+        if let Some(at) = equality_at(rows, column, meter) {
+            return Parts::solved(alloc, rows, at, column, meter);
         }
-        if is_exact(rows, columns, col, meter) {
-            Parts::exact(alloc, rows, columns, col, meter)
+        if is_exact(rows, column, meter) {
+            Parts::exact(alloc, rows, column, meter)
         } else {
-            Parts::by_sides(alloc, rows, columns, col, meter)
+            Parts::by_sides(alloc, rows, column, meter)
         }
     }
 
@@ -263,13 +241,13 @@ impl Parts {
         ensures magnitude { meter.old.bits ≡ 127 → AreSmallParts self.old
             → IsNoOverflowWith (λ found. IfSome found (λ _. AreSmallParts self.new)) result }
     {
-        let (_, col) = (columns, self.col);
+        let _ = columns;
         loop {
-            let found = self.dark_shadow.next(alloc, self.columns, col, meter)?;
+            let found = self.dark_shadow.next(alloc, self.column, meter)?;
             if found.is_some() {
                 return Ok(found);
             }
-            match Residues::next(alloc, &mut self.residues, self.columns, col, meter)? {
+            match Residues::next(alloc, &mut self.residues, self.column, meter)? {
                 None => return Ok(None),
                 Some(dark_shadow) => self.dark_shadow = dark_shadow,
             }

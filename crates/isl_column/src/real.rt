@@ -15,6 +15,7 @@ ghost use Rattle.isl_omega.specs.Sides.{AreSided, on_side};
 use crate::equality::{equality_at, solved_left};
 use crate::exact::real_left;
 use isl_meter::{Cut, Meter};
+use isl_omega::column::Column;
 use isl_omega::sides::{Side, Sides};
 use isl_omega::step::congruence_step;
 use isl_piece::{Row, Rows};
@@ -34,43 +35,39 @@ fn bounds_and_free(alloc: Global, sides: &Sides) -> Result<Rows, AllocError>
 fn substituted_shadow(
     alloc: Global,
     sides: &Sides,
-    columns: usize,
-    col: usize,
+    column: Column,
     meter: &mut Meter,
 ) -> Result<Option<Rows>, Cut>
-    requires sided { AreSided meter.old columns col sides.now }
+    requires sided { AreSided meter.old column.columns column.at sides.now }
     requires some { 0 < length sides.now.divides }
-    requires col_in { col < columns }
     ensures { IsDoneFor (length sides.now.lowers * length sides.now.uppers) meter.old meter.new
-        (IsImplied meter.old (columns - 1) (HasNumber sides.now col)) result }
+        (IsImplied meter.old (column.columns - 1) (HasNumber sides.now column.at)) result }
 {
-    let new = congruence_step(alloc, sides, columns, col, meter)?;
+    let new = congruence_step(alloc, sides, column, meter)?;
     let rows = bounds_and_free(alloc, &new)?;
-    real_left(alloc, rows.as_slice(), columns, col, meter)
+    real_left(alloc, rows.as_slice(), column, meter)
 }
 
 // The real shadow where no equality has the column.
 fn bounds_shadow(
     alloc: Global,
     rows: &[Row],
-    columns: usize,
-    col: usize,
+    column: Column,
     meter: &mut Meter,
 ) -> Result<Option<Rows>, Cut>
-    requires rows { All (IsProper meter.old columns) rows.now }
-    requires col_in { col < columns }
-    requires none { ¬ HasEquality col rows.now }
-    ensures exact { IsDoneFor (pairs_on col rows.now) meter.old meter.new (IsImplied meter.old (columns - 1) (HoldAtSome rows.now col)) result }
-    ensures left { on_side Side.Divides col rows.now ≡ [] → IfOk result (λ left. left ≡ exact_rows rows.now col) }
+    requires rows { All (IsProper meter.old column.columns) rows.now }
+    requires none { ¬ HasEquality column.at rows.now }
+    ensures exact { IsDoneFor (pairs_on column.at rows.now) meter.old meter.new (IsImplied meter.old (column.columns - 1) (HoldAtSome rows.now column.at)) result }
+    ensures left { on_side Side.Divides column.at rows.now ≡ [] → IfOk result (λ left. left ≡ exact_rows rows.now column.at) }
 {
-    let sides = Sides::of(alloc, rows, columns, col, meter)?;
+    let sides = Sides::of(alloc, rows, column, meter)?;
     if sides.divides.is_empty() {
-        return real_left(alloc, rows, columns, col, meter);
+        return real_left(alloc, rows, column, meter);
     }
-    substituted_shadow(alloc, &sides, columns, col, meter)
+    substituted_shadow(alloc, &sides, column, meter)
 }
 
-/// The real shadow of the rows, without the column `col`: rows that hold wherever some whole number put at `col` makes `rows` hold, and
+/// The real shadow of the rows, without the column: rows that hold wherever some whole number put at the column makes `rows` hold, and
 /// perhaps elsewhere; none only where no whole numbers make `rows` hold.
 ///
 /// Where an equality has the column, no unit is used, and it is what is left exactly. Else a unit is used for each pair of a lower and an
@@ -82,20 +79,19 @@ fn bounds_shadow(
 pub fn real_shadow(
     alloc: Global,
     rows: &[Row],
-    columns: usize,
-    col: usize,
+    column: Column,
     meter: &mut Meter,
 ) -> Result<Option<Rows>, Cut>
-    requires rows { All (IsProper meter.old columns) rows.now }
-    requires col_in { col < columns }
-    ensures implied { IfOk result (IsImplied meter.old (columns - 1) (HoldAtSome rows.now col)) }
+    requires rows { All (IsProper meter.old column.columns) rows.now }
+    ensures implied { IfOk result (IsImplied meter.old (column.columns - 1) (HoldAtSome rows.now column.at)) }
     ensures meter { MatchResult result (λ _. IsCharged meter.old meter.new) (IsCutBy meter.old meter.new) }
-    ensures equality { HasEquality col rows.now → IsDone meter.old meter.new (λ left. left ≡ solved_rows rows.now col) result }
-    ensures pairs { ¬ HasEquality col rows.now → IsDoneFor (pairs_on col rows.now) meter.old meter.new (λ _. Unit {0}) result }
-    ensures real_rows { ¬ HasEquality col rows.now → on_side Side.Divides col rows.now ≡ [] → IfOk result (λ left. left ≡ exact_rows rows.now col) }
+    ensures equality { HasEquality column.at rows.now → IsDone meter.old meter.new (λ left. left ≡ solved_rows rows.now column.at) result }
+    ensures pairs { ¬ HasEquality column.at rows.now → IsDoneFor (pairs_on column.at rows.now) meter.old meter.new (λ _. Unit {0}) result }
+    ensures real_rows { ¬ HasEquality column.at rows.now → on_side Side.Divides column.at rows.now ≡ [] → IfOk result
+        (λ left. left ≡ exact_rows rows.now column.at) }
 {
-    if let Some(at) = equality_at(rows, columns, col, meter) {
-        return solved_left(alloc, rows, at, columns, col, meter);
+    if let Some(at) = equality_at(rows, column, meter) {
+        return solved_left(alloc, rows, at, column, meter);
     }
-    bounds_shadow(alloc, rows, columns, col, meter)
+    bounds_shadow(alloc, rows, column, meter)
 }

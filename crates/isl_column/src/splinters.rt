@@ -1,6 +1,6 @@
 //! Splinters: rows in which a lower bound has one of its least values.
 
-ghost use Rattle.std.specs.Prelude.{◌≡◌, ◌↔◌, ◌-◌, ◌<◌, ◌+ℤ◌, ◌-ℤ◌, ◌≤ℤ◌, ◌<ℤ◌, pos, [], All, IfSome, IsTrue, MatchOption, MatchResult, ◌^◌, ◌≤◌, unsigned_abs, ◌+◌, IfOk};
+ghost use Rattle.std.specs.Prelude.{◌≡◌, ◌↔◌, ◌-◌, ◌<◌, ◌+ℤ◌, ◌-ℤ◌, ◌≤ℤ◌, ◌<ℤ◌, pos, [], All, IfSome, IsTrue, MatchOption, ◌^◌, ◌≤◌, unsigned_abs, ◌+◌, IfOk};
 ghost use Rattle.isl_meter.specs.Gauge.{IsWithin, IsDone, IsDoneWithin};
 ghost use Rattle.isl_column.specs.DarkShadow.{HasValue, AreSplinters, IsDarkShadow, IsSplit, IsTakenOut, IsNoDarkShadow, splinter_count};
 ghost use Rattle.isl_omega.specs.Column.{IsAnswerFor, IsProper};
@@ -11,6 +11,7 @@ ghost use Rattle.isl_column.specs.Magnitude.{AreSmallSplinters, IsSmallDarkShado
 
 use crate::dark_shadow::DarkShadow;
 use isl_meter::{Cut, Int, Meter};
+use isl_omega::column::Column;
 use isl_omega::equality::equality_step;
 use isl_omega::pair::reduced_by;
 use isl_omega::shadow::Splinters;
@@ -29,25 +30,23 @@ pub(crate) fn are_spent(tails: &[Splinters]) -> bool
     true
 }
 
-// The rows where the bound has the value i, without the column.
+// The rows where the bound has the last value of its splinters, without the column.
 fn splinter(
     alloc: Global,
     rows: &[Row],
-    bound: &Row,
-    i: Int,
-    columns: usize,
-    col: usize,
+    tail: &Splinters,
+    column: Column,
     meter: &mut Meter,
 ) -> Result<Option<Rows>, Cut>
-    requires rows { All (IsProper meter.old columns) rows.now }
-    requires bound { IsLower meter.old columns col bound.now }
-    requires col_in { col < columns }
+    requires rows { All (IsProper meter.old column.columns) rows.now }
+    requires bound { IsLower meter.old column.columns column.at tail.now.lower }
     ensures exact { IsDone meter.old meter.new
-        (λ left. IsAnswerFor meter.old (columns - 1) (HasValue rows.now col bound.now i) left) result }
-    ensures no_overflow { meter.old.bits ≡ 127 → All (IsRowUpTo (2 ^ 61)) rows.now → IsRowUpTo (2 ^ 61) bound.now → unsigned_abs i ≤ 2 ^ 62 → IsNoOverflow result }
+        (λ left. IsAnswerFor meter.old (column.columns - 1) (HasValue rows.now column.at tail.now.lower tail.now.last) left) result }
+    ensures no_overflow { meter.old.bits ≡ 127 → All (IsRowUpTo (2 ^ 61)) rows.now → IsRowUpTo (2 ^ 61) tail.now.lower
+        → unsigned_abs tail.now.last ≤ 2 ^ 62 → IsNoOverflow result }
 {
-    let fixed = reduced_by(alloc, bound, i, meter)?;
-    let left = equality_step(alloc, rows, &fixed, columns, col, meter)?;
+    let fixed = reduced_by(alloc, &tail.lower, tail.last, meter)?;
+    let left = equality_step(alloc, rows, &fixed, column, meter)?;
     Ok(left)
 }
 
@@ -59,31 +58,21 @@ impl DarkShadow {
         &mut self,
         alloc: Global,
         tail: Splinters,
-        columns: usize,
-        col: usize,
+        column: Column,
         meter: &mut Meter,
     ) -> Result<Option<Rows>, Cut>
-        requires rows { All (IsProper meter.old columns) self.old.rows }
-        requires tail { AreSplinters meter.old columns col tail }
-        requires col_in { col < columns }
+        requires rows { All (IsProper meter.old column.columns) self.old.rows }
+        requires tail { AreSplinters meter.old column.columns column.at tail }
         ensures exact { IsDoneWithin (pos 1) meter.old meter.new
-            (λ left. IsAnswerFor meter.old (columns - 1) (HasValue self.old.rows col tail.lower tail.last) left
+            (λ left. IsAnswerFor meter.old (column.columns - 1) (HasValue self.old.rows column.at tail.lower tail.last) left
             × IsSplit self.old tail self.new × IsWithin meter.old (tail.last -ℤ pos 1)) result }
         ensures used { IfOk result (λ _. meter.old.units < meter.new.units) }
         ensures no_overflow { meter.old.bits ≡ 127 → All (IsRowUpTo (2 ^ 61)) self.old.rows → AreSmallSplinters tail → pos 0 ≤ℤ tail.last
             → IsNoOverflow result }
     {
-        let Splinters { lower, last } = tail;
         meter.unit()?;
-        let left = splinter(
-            alloc,
-            self.rows.as_slice(),
-            &lower,
-            last,
-            columns,
-            col,
-            meter,
-        )?;
+        let left = splinter(alloc, self.rows.as_slice(), &tail, column, meter)?;
+        let Splinters { lower, last } = tail;
         let last = last.sub(Int::ONE, meter)?;
         self.tails.push(Splinters { lower, last })?;
         Ok(left)
@@ -93,15 +82,13 @@ impl DarkShadow {
     pub(crate) fn next(
         &mut self,
         alloc: Global,
-        columns: usize,
-        col: usize,
+        column: Column,
         meter: &mut Meter,
     ) -> Result<Option<Rows>, Cut>
-        requires shadow { IsDarkShadow meter.old columns col self.old }
-        requires col_in { col < columns }
+        requires shadow { IsDarkShadow meter.old column.columns column.at self.old }
         ensures exact { IsDoneWithin (splinter_count self.old.tails.items) meter.old meter.new
-            (λ found. MatchOption found (IsNoDarkShadow columns col self.old)
-            (λ rows. IsTakenOut meter.old columns col self.old rows self.new)) result }
+            (λ found. MatchOption found (IsNoDarkShadow column.columns column.at self.old)
+            (λ rows. IsTakenOut meter.old column.columns column.at self.old rows self.new)) result }
         ensures units { IfOk result (λ found. IfSome found (λ _. (pos meter.new.units +ℤ splinter_count self.new.tails.items)
             ≤ℤ (pos meter.old.units +ℤ splinter_count self.old.tails.items))) }
         ensures counted { IfOk result (λ found. IfSome found (λ _. meter.old.units + 1 ≤ meter.new.units + count_of self.old.dark)) }
@@ -114,7 +101,7 @@ impl DarkShadow {
         }
         while let Some(tail) = self.tails.pop() {
             if !tail.last.is_negative() {
-                let left = self.split(alloc, tail, columns, col, meter)?;
+                let left = self.split(alloc, tail, column, meter)?;
                 if left.is_some() {
                     return Ok(left);
                 }

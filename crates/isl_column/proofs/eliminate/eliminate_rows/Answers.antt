@@ -9,7 +9,7 @@ pub loop-answers-init : goal.loop-answers-init
 loop-answers-init c =
     let e = c.in_ok-parts.ensures in
     let none : c.new-answers.result.items ≡ [] = grind arith in
-    rw none (answered_first c.args.meter.now c.of.new.meter c.args.columns c.args.col c.args.rows.now c.in_ok-parts.parts e.exact.0 e.exact.1 e.units e.equality e.magnitude e.exact_column e.solved_column e.pairs)
+    rw none (answered_first c.args.meter.now c.of.new.meter c.args.column.columns c.args.column.at c.args.rows.now c.in_ok-parts.parts e.exact.0 e.exact.1 e.units e.equality e.magnitude e.exact_column e.solved_column e.pairs)
 
 pub returns-in_err-left-clause-units : goal.returns-in_err-left-clause-units
 returns-in_err-left-clause-units c =
@@ -49,7 +49,7 @@ loop-answers-preserved c =
     let pairs = rw found at c.in_ok-left.ensures.pairs in
     let magnitude = rw found at c.in_ok-left.ensures.magnitude in
     let more : c.push.new.self.items ≡ c.loop-answers.answers.items ++ left ∷ [] = grind arith in
-    answered_next g h k c.args.columns c.args.col c.args.rows.now c.loop-answers.answers.items c.push.new.self.items c.loop-answers.parts c.next.new.self left a e.0 e.1 rest counted (λ bits x. magnitude (same_limit g h a.charged ∙ bits) x) alone pairs more
+    answered_next g h k c.args.column.columns c.args.column.at c.args.rows.now c.loop-answers.answers.items c.push.new.self.items c.loop-answers.parts c.next.new.self left a e.0 e.1 rest counted (λ bits x. magnitude (same_limit g h a.charged ∙ bits) x) alone pairs more
 
 pub returns-in_err-push-clause-units : goal.returns-in_err-push-clause-units
 returns-in_err-push-clause-units c =
@@ -82,21 +82,21 @@ returns-clause-projection c =
     let a = c.loop-answers.invariant in
     let found : c.in_ok-left.field-0 ≡ None = grind arith in
     let e = rw found at c.in_ok-left.ensures.exact in
-    answered_all g h c.args.columns c.args.col c.args.rows.now c.loop-answers.answers.items c.loop-answers.parts a e.0
+    answered_all g h c.args.column.columns c.args.column.at c.args.rows.now c.loop-answers.answers.items c.loop-answers.parts a e.0
 
 pub returns-clause-exact_column : goal.returns-clause-exact_column
 returns-clause-exact_column c = λ exact none.
     let rows = c.args.rows.now in
     let found : c.in_ok-left.field-0 ≡ None = grind arith in
     let alone = rw found at c.in_ok-left.ensures.alone in
-    left_all c.loop-answers.answers.items c.loop-answers.parts (exact_rows rows c.args.col) (c.loop-answers.invariant.exact exact none) (λ head x. sym (alone head x).0)
+    left_all c.loop-answers.answers.items c.loop-answers.parts (exact_rows rows c.args.column.at) (c.loop-answers.invariant.exact exact none) (λ head x. sym (alone head x).0)
 
 pub returns-clause-solved_column : goal.returns-clause-solved_column
 returns-clause-solved_column c = λ equality.
     let rows = c.args.rows.now in
     let found : c.in_ok-left.field-0 ≡ None = grind arith in
     let alone = rw found at c.in_ok-left.ensures.alone in
-    left_all c.loop-answers.answers.items c.loop-answers.parts (solved_rows rows c.args.col) (c.loop-answers.invariant.solved equality) (λ head x. sym (alone head x).0)
+    left_all c.loop-answers.answers.items c.loop-answers.parts (solved_rows rows c.args.column.at) (c.loop-answers.invariant.solved equality) (λ head x. sym (alone head x).0)
 
 pub returns-clause-pairs : goal.returns-clause-pairs
 returns-clause-pairs c = λ none.

@@ -8,8 +8,8 @@ pub loop-row-preserved : goal.loop-row-preserved
 loop-row-preserved c =
     let rows = c.args.rows.now in
     let row = c.row-item.result in
-    let own : IsExactRow c.args.side c.args.col row = grind arith in
-    All-more (IsExactRow c.args.side c.args.col) rows c.loop-row.row-index row c.loop-row-test.true c.loop-row.invariant (rw c.row-item.is at own)
+    let own : IsExactRow c.args.side c.args.column.at row = grind arith in
+    All-more (IsExactRow c.args.side c.args.column.at) rows c.loop-row.row-index row c.loop-row-test.true c.loop-row.invariant (rw c.row-item.is at own)
 
 pub returns : goal.returns
 returns c =

@@ -7,10 +7,10 @@ use Rattle.isl_column.proofs.exact.exact_left.Goals as goal
 
 pub returns-clause-exact : goal.returns-clause-exact
 returns-clause-exact c =
-    exact_from c.args.meter.now c.real_left.new.meter c.args.columns c.args.rows.now c.args.col c.real_left.result c.requires.rows c.requires.none c.requires.exact c.requires.col_in c.real_left.ensures.exact
+    exact_from c.args.meter.now c.real_left.new.meter c.args.column.columns c.args.rows.now c.args.column.at c.real_left.result c.requires.rows c.requires.none c.requires.exact c.args.column.in_range c.real_left.ensures.exact
 
 pub returns-clause-pairs : goal.returns-clause-pairs
 returns-clause-pairs c =
     let g = c.args.meter.now in
     let rows = c.args.rows.now in
-    at_least_paid (pairs_on c.args.col rows) g c.real_left.new.meter (IsAnswerFor g (c.args.columns - 1) (HoldReally rows c.args.col)) c.real_left.result c.real_left.ensures.exact
+    at_least_paid (pairs_on c.args.column.at rows) g c.real_left.new.meter (IsAnswerFor g (c.args.column.columns - 1) (HoldReally rows c.args.column.at)) c.real_left.result c.real_left.ensures.exact

@@ -8,7 +8,7 @@ use Rattle.isl_column.proofs.exact.push_free.Goals as goal
 pub loop-row-preserved : goal.loop-row-preserved
 loop-row-preserved c =
     let g = c.args.meter.now in
-    let col = c.args.col in
+    let col = c.args.column.at in
     let rows = c.args.rows.now in
     let i = c.loop-row.row-index in
     let row = c.row-item.result in

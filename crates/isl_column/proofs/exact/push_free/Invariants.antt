@@ -5,4 +5,4 @@ use Rattle.isl_omega.specs.declared.sides.Side.TheVariants.{Free}
 use Rattle.isl_column.proofs.exact.push_free.Given as goal
 
 abbrev pub invariant-loop-row : goal.invariant-loop-row
-invariant-loop-row l = AreAdded l.meter l.col (on_side Free l.col (take l.row-index l.rows)) l.fn.short l.short
+invariant-loop-row l = AreAdded l.meter l.column.at (on_side Free l.column.at (take l.row-index l.rows)) l.fn.short l.short

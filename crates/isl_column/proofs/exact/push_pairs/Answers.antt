@@ -18,13 +18,13 @@ returns-in_err-push_lower-clause-exact c =
     let rows = c.args.rows.now in
     let i = c.loop-row.row-index in
     let row = c.row-item.result in
-    let before = on_side Lower c.args.col (take i rows) in
-    let one = on_side Lower c.args.col (row ∷ []) in
-    let each = length (on_side Upper c.args.col rows) in
+    let before = on_side Lower c.args.column.at (take i rows) in
+    let one = on_side Lower c.args.column.at (row ∷ []) in
+    let each = length (on_side Upper c.args.column.at rows) in
     let e = c.in_err-push_lower.field-0.0 in
     let own : IsCutUpTo (pos (length one * each)) h k e = grind arith in
-    let room = on_side_room Lower c.args.col rows i row c.loop-row-test.true c.row-item.is in
-    let cut = cut_share (length before) (length one) (length (on_side Lower c.args.col rows)) each g h k e room c.loop-row.invariant.charged own in
+    let room = on_side_room Lower c.args.column.at rows i row c.loop-row-test.true c.row-item.is in
+    let cut = cut_share (length before) (length one) (length (on_side Lower c.args.column.at rows)) each g h k e room c.loop-row.invariant.charged own in
     grind arith
 
 pub loop-row-preserved : goal.loop-row-preserved
@@ -32,7 +32,7 @@ loop-row-preserved c =
     let g = c.args.meter.now in
     let h = c.loop-row.meter in
     let k = c.push_lower.new.meter in
-    let col = c.args.col in
+    let col = c.args.column.at in
     let rows = c.args.rows.now in
     let i = c.loop-row.row-index in
     let row = c.row-item.result in

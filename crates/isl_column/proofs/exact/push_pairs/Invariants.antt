@@ -8,7 +8,7 @@ use Rattle.isl_column.proofs.exact.push_pairs.Given as goal
 
 abbrev pub invariant-loop-row : goal.invariant-loop-row
 invariant-loop-row l = record {
-  added : AreAdded l.fn.meter l.col (real_rows l.col (on_side Lower l.col (take l.row-index l.rows)) (on_side Upper l.col l.rows)) l.fn.short l.short;
-  charged : IsChargedUpTo (pos (length (on_side Lower l.col (take l.row-index l.rows)) * length (on_side Upper l.col l.rows))) l.fn.meter l.meter;
-  exact : l.meter ≡ paid (length (on_side Lower l.col (take l.row-index l.rows)) * length (on_side Upper l.col l.rows)) l.fn.meter;
+  added : AreAdded l.fn.meter l.column.at (real_rows l.column.at (on_side Lower l.column.at (take l.row-index l.rows)) (on_side Upper l.column.at l.rows)) l.fn.short l.short;
+  charged : IsChargedUpTo (pos (length (on_side Lower l.column.at (take l.row-index l.rows)) * length (on_side Upper l.column.at l.rows))) l.fn.meter l.meter;
+  exact : l.meter ≡ paid (length (on_side Lower l.column.at (take l.row-index l.rows)) * length (on_side Upper l.column.at l.rows)) l.fn.meter;
 }

@@ -20,12 +20,12 @@ returns-in_err-push_pair-clause-exact c =
     let rows = c.args.rows.now in
     let i = c.loop-row.row-index in
     let row = c.row-item.result in
-    let before = on_side Upper c.args.col (take i rows) in
-    let one = on_side Upper c.args.col (row ∷ []) in
+    let before = on_side Upper c.args.column.at (take i rows) in
+    let one = on_side Upper c.args.column.at (row ∷ []) in
     let e = c.in_err-push_pair.field-0.0 in
     let own : IsCutUpTo (pos (length one)) h k e = grind arith in
-    let room = on_side_room Upper c.args.col rows i row c.loop-row-test.true c.row-item.is in
-    let cut = cut_weaker (pos (length before + length one)) (pos (length (on_side Upper c.args.col rows))) g k e (omega (arith, linear)) (cut_after (pos (length before)) (pos (length one)) g h k e c.loop-row.invariant.charged own) in
+    let room = on_side_room Upper c.args.column.at rows i row c.loop-row-test.true c.row-item.is in
+    let cut = cut_weaker (pos (length before + length one)) (pos (length (on_side Upper c.args.column.at rows))) g k e (omega (arith, linear)) (cut_after (pos (length before)) (pos (length one)) g h k e c.loop-row.invariant.charged own) in
     grind arith
 
 pub loop-row-preserved : goal.loop-row-preserved
@@ -33,7 +33,7 @@ loop-row-preserved c =
     let g = c.args.meter.now in
     let h = c.loop-row.meter in
     let k = c.push_pair.new.meter in
-    let col = c.args.col in
+    let col = c.args.column.at in
     let rows = c.args.rows.now in
     let i = c.loop-row.row-index in
     let row = c.row-item.result in

@@ -9,7 +9,7 @@ use Rattle.isl_column.proofs.exact.push_pairs_of.Given as goal
 
 abbrev pub invariant-loop-row : goal.invariant-loop-row
 invariant-loop-row l = record {
-  added : AreAdded l.fn.meter l.col (map (real_row l.col l.lower) (on_side Upper l.col (take l.row-index l.rows))) l.fn.short l.short;
-  charged : IsChargedUpTo (pos (length (on_side Upper l.col (take l.row-index l.rows)))) l.fn.meter l.meter;
-  exact : l.meter ≡ paid (length (on_side Upper l.col (take l.row-index l.rows))) l.fn.meter;
+  added : AreAdded l.fn.meter l.column.at (map (real_row l.column.at l.lower) (on_side Upper l.column.at (take l.row-index l.rows))) l.fn.short l.short;
+  charged : IsChargedUpTo (pos (length (on_side Upper l.column.at (take l.row-index l.rows)))) l.fn.meter l.meter;
+  exact : l.meter ≡ paid (length (on_side Upper l.column.at (take l.row-index l.rows))) l.fn.meter;
 }

@@ -9,6 +9,6 @@ use Rattle.isl_column.proofs.exact.push_row.Goals as goal
 pub returns-in_ok-push : goal.returns-in_ok-push
 returns-in_ok-push c =
     let row = c.args.row.now in
-    let free : is_same Free (side_of c.args.col row) ≡ true = grind arith in
-    let pushed : c.push.new.self ≡ c.args.short.now ++ dropped row c.args.col ∷ [] = grind arith in
-    rw free (added_one c.args.meter.now c.args.col row c.args.short.now c.push.new.self pushed (row_within_dropped c.args.meter.now c.args.col row c.requires.row.within))
+    let free : is_same Free (side_of c.args.column.at row) ≡ true = grind arith in
+    let pushed : c.push.new.self ≡ c.args.short.now ++ dropped row c.args.column.at ∷ [] = grind arith in
+    rw free (added_one c.args.meter.now c.args.column.at row c.args.short.now c.push.new.self pushed (row_within_dropped c.args.meter.now c.args.column.at row c.requires.row.within))

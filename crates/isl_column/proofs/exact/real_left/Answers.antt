@@ -18,26 +18,26 @@ use Rattle.isl_column.proofs.exact.real_left.Goals as goal
 pub normalise-requires-clause-moduli : goal.normalise-requires-clause-moduli
 normalise-requires-clause-moduli c =
     let g = c.args.meter.now in
-    let columns = c.args.columns in
+    let columns = c.args.column.columns in
     let rows = c.args.rows.now in
-    let made : AreAdded g c.args.col (rows_left c.args.col rows) [] c.in_ok-short.short = grind arith in
-    moduli_of (columns - 1) c.in_ok-short.short (exact_short g columns rows c.args.col c.in_ok-short.short c.requires.rows c.requires.none c.requires.col_in made).0
+    let made : AreAdded g c.args.column.at (rows_left c.args.column.at rows) [] c.in_ok-short.short = grind arith in
+    moduli_of (columns - 1) c.in_ok-short.short (exact_short g columns rows c.args.column.at c.in_ok-short.short c.requires.rows c.requires.none c.args.column.in_range made).0
 
 pub normalise-requires-clause-within : goal.normalise-requires-clause-within
 normalise-requires-clause-within c =
     let g = c.args.meter.now in
     let k = c.short_rows.new.meter in
-    let columns = c.args.columns in
+    let columns = c.args.column.columns in
     let rows = c.args.rows.now in
-    let made : AreAdded g c.args.col (rows_left c.args.col rows) [] c.in_ok-short.short = grind arith in
-    let used : IsChargedUpTo (pos (pairs_on c.args.col rows)) g k = charged_up_to (pairs_on c.args.col rows) g k (grind arith) in
-    rows_within_kept k g c.in_ok-short.short (sym (charged_bits (pos (pairs_on c.args.col rows)) g k used)) (exact_short g columns rows c.args.col c.in_ok-short.short c.requires.rows c.requires.none c.requires.col_in made).1
+    let made : AreAdded g c.args.column.at (rows_left c.args.column.at rows) [] c.in_ok-short.short = grind arith in
+    let used : IsChargedUpTo (pos (pairs_on c.args.column.at rows)) g k = charged_up_to (pairs_on c.args.column.at rows) g k (grind arith) in
+    rows_within_kept k g c.in_ok-short.short (sym (charged_bits (pos (pairs_on c.args.column.at rows)) g k used)) (exact_short g columns rows c.args.column.at c.in_ok-short.short c.requires.rows c.requires.none c.args.column.in_range made).1
 
 pub returns-in_err-left-clause-exact : goal.returns-in_err-left-clause-exact
 returns-in_err-left-clause-exact c =
     let g = c.args.meter.now in
     let h = c.short_rows.new.meter in
-    let n = pairs_on c.args.col c.args.rows.now in
+    let n = pairs_on c.args.column.at c.args.rows.now in
     let used : IsChargedUpTo (pos n) g h = charged_up_to n g h (grind arith) in
     let same : (z : ℤ) → z ≤ℤ z = λ z. omega (arith, linear) in
     let cut = memory_late (pos n) (pos n) g h h (same (pos n)) used refl in
@@ -47,18 +47,18 @@ pub returns-clause-exact : goal.returns-clause-exact
 returns-clause-exact c =
     let g = c.args.meter.now in
     let h = c.short_rows.new.meter in
-    let columns = c.args.columns in
+    let columns = c.args.column.columns in
     let rows = c.args.rows.now in
     let left = c.in_ok-left.left in
-    let n = pairs_on c.args.col rows in
-    let made : AreAdded g c.args.col (rows_left c.args.col rows) [] c.in_ok-short.short = grind arith in
+    let n = pairs_on c.args.column.at rows in
+    let made : AreAdded g c.args.column.at (rows_left c.args.column.at rows) [] c.in_ok-short.short = grind arith in
     let charged : IsChargedUpTo (pos n) g h = charged_up_to n g h (grind arith) in
-    let short : All (IsWellFormed (columns - 1)) c.in_ok-short.short × All (IsRowWithin g) c.in_ok-short.short = exact_short g columns rows c.args.col c.in_ok-short.short c.requires.rows c.requires.none c.requires.col_in made in
-    let is = real_answer g h columns rows c.args.col c.in_ok-short.short left c.requires.rows c.requires.none c.requires.col_in made c.in_ok-left.ensures.points c.in_ok-left.ensures.normal (c.in_ok-left.ensures.shape (columns - 1) short.0) c.in_ok-left.ensures.within in
-    (answer_kept g h (columns - 1) (HoldReally rows c.args.col) left (charged_bits (pos n) g h charged) is, grind arith)
+    let short : All (IsWellFormed (columns - 1)) c.in_ok-short.short × All (IsRowWithin g) c.in_ok-short.short = exact_short g columns rows c.args.column.at c.in_ok-short.short c.requires.rows c.requires.none c.args.column.in_range made in
+    let is = real_answer g h columns rows c.args.column.at c.in_ok-short.short left c.requires.rows c.requires.none c.args.column.in_range made c.in_ok-left.ensures.points c.in_ok-left.ensures.normal (c.in_ok-left.ensures.shape (columns - 1) short.0) c.in_ok-left.ensures.within in
+    (answer_kept g h (columns - 1) (HoldReally rows c.args.column.at) left (charged_bits (pos n) g h charged) is, grind arith)
 
 pub returns-clause-left : goal.returns-clause-left
 returns-clause-left c =
     let rows = c.args.rows.now in
-    let added : AreAdded c.args.meter.now c.args.col (rows_left c.args.col rows) [] c.in_ok-short.short = grind arith in
+    let added : AreAdded c.args.meter.now c.args.column.at (rows_left c.args.column.at rows) [] c.in_ok-short.short = grind arith in
     c.in_ok-left.ensures.exact ∙ ap (λ (rows : List Row). normal_rows rows) added.pushed

@@ -8,7 +8,7 @@ use Rattle.isl_column.proofs.exact.short_rows.Goals as goal
 pub returns-clause-exact : goal.returns-clause-exact
 returns-clause-exact c =
     let g = c.args.meter.now in
-    let col = c.args.col in
+    let col = c.args.column.at in
     let rows = c.args.rows.now in
     let free = on_side Free col rows in
     let real = real_rows col (on_side Lower col rows) (on_side Upper col rows) in

@@ -8,6 +8,6 @@ use Rattle.isl_column.proofs.residue.period_of.Goals as goal
 pub returns-clause-value : goal.returns-clause-value
 returns-clause-value c =
     let row = c.args.row.now in
-    let own : IsGcdOf (coef_at row c.args.col) row.k c.gcd.result = grind arith in
-    let same : c.gcd.result ≡ gcd_of (coef_at row c.args.col) row.k = gcd_of-from_IsGcdOf (coef_at row c.args.col) row.k c.gcd.result own in
+    let own : IsGcdOf (coef_at row c.args.column.at) row.k c.gcd.result = grind arith in
+    let same : c.gcd.result ≡ gcd_of (coef_at row c.args.column.at) row.k = gcd_of-from_IsGcdOf (coef_at row c.args.column.at) row.k c.gcd.result own in
     grind arith

@@ -7,12 +7,12 @@ use Rattle.isl_column.proofs.splinters.splinter.Goals as goal
 
 pub returns-clause-exact : goal.returns-clause-exact
 returns-clause-exact c =
-    let bound = c.args.bound.now in
+    let bound = c.args.tail.now.lower in
     let fixed = c.in_ok-fixed.fixed in
     let g = c.args.meter.now in
-    let same : fixed ≡ lowered_by bound c.args.i = grind arith in
-    let left : IsAnswerFor g (c.args.columns - 1) (IsSolvedBy c.args.rows.now fixed c.args.col) c.in_ok-left.left = grind arith in
-    (splinter_is g c.args.columns c.args.col c.args.rows.now bound fixed c.args.i c.in_ok-left.left same left, grind arith)
+    let same : fixed ≡ lowered_by bound c.args.tail.now.last = grind arith in
+    let left : IsAnswerFor g (c.args.column.columns - 1) (IsSolvedBy c.args.rows.now fixed c.args.column.at) c.in_ok-left.left = grind arith in
+    (splinter_is g c.args.column.columns c.args.column.at c.args.rows.now bound fixed c.args.tail.now.last c.in_ok-left.left same left, grind arith)
 
 pub returns-in_err-fixed-clause-no_overflow : goal.returns-in_err-fixed-clause-no_overflow
 returns-in_err-fixed-clause-no_overflow c = λ bits rows bound i.

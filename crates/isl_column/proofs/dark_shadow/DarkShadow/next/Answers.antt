@@ -16,8 +16,8 @@ returns-in-Some-clause-exact c =
     let new : DarkShadow = record { rows = old.rows; dark = c.take.new.self; tails = old.tails } in
     let some : old.dark ≡ Some c.in-Some.rows = grind arith in
     let none : c.take.new.self ≡ None = grind arith in (
-      taken_dark g c.args.columns c.args.col old new c.in-Some.rows c.requires.shadow some none refl refl,
-      charged_weaker (pos 0) (splinter_count old.tails.items) g g (total_not_negative g c.args.columns c.args.col old.tails.items c.requires.shadow.tails) (charged_same g g refl),
+      taken_dark g c.args.column.columns c.args.column.at old new c.in-Some.rows c.requires.shadow some none refl refl,
+      charged_weaker (pos 0) (splinter_count old.tails.items) g g (total_not_negative g c.args.column.columns c.args.column.at old.tails.items c.requires.shadow.tails) (charged_same g g refl),
     )
 
 pub split-requires-clause-tail : goal.split-requires-clause-tail
@@ -31,7 +31,7 @@ split-requires-clause-tail c =
     let tails : now.tails.items ≡ c.pop.new.self.items ++ tail ∷ [] = grind arith in
     let popped : IsPopped now tail rest = record { rows = refl; dark = c.loop-tail.invariant.kept.dark; tails = tails } in
     let s = c.loop-tail.invariant.kept in
-    tail_at h g c.args.columns c.args.col tail (sym (same_bits g h s.charged)) (popped_tail g c.args.columns c.args.col now tail rest s.are popped).0
+    tail_at h g c.args.column.columns c.args.column.at tail (sym (same_bits g h s.charged)) (popped_tail g c.args.column.columns c.args.column.at now tail rest s.are popped).0
 
 pub returns-in_err-left-clause-exact : goal.returns-in_err-left-clause-exact
 returns-in_err-left-clause-exact c =
@@ -47,7 +47,7 @@ returns-in_err-left-clause-exact c =
     let e = c.in_err-left.field-0.0 in
     let some : pos 0 ≤ℤ tail.last = grind (arith, linear) in
     let own : IsCutUpTo (pos 1) h k e = grind arith in
-    let cut = built_cut g h k c.args.columns c.args.col first now tail rest e c.loop-tail.invariant popped some own in
+    let cut = built_cut g h k c.args.column.columns c.args.column.at first now tail rest e c.loop-tail.invariant popped some own in
     grind arith
 
 pub returns-in_err-left-clause-no_overflow : goal.returns-in_err-left-clause-no_overflow
@@ -78,7 +78,7 @@ returns-then-is_some-clause-exact c =
     let rest : DarkShadow = record { rows = now.rows; dark = now.dark; tails = c.pop.new.self } in
     let tails : now.tails.items ≡ c.pop.new.self.items ++ tail ∷ [] = grind arith in
     let some : pos 0 ≤ℤ tail.last = grind (arith, linear) in
-    let built : IsBuilt g h k c.args.columns c.args.col first now tail rest next left = record {
+    let built : IsBuilt g h k c.args.column.columns c.args.column.at first now tail rest next left = record {
       so_far = c.loop-tail.invariant;
       popped = record { rows = refl; dark = c.loop-tail.invariant.kept.dark; tails = tails };
       some = some;
@@ -88,7 +88,7 @@ returns-then-is_some-clause-exact c =
       charged = c.in_ok-left.ensures.exact.1;
     } in
     let found : left ≢ None = grind arith in
-    (built_found g h k c.args.columns c.args.col first now tail rest next left built found, built_charged g h k c.args.columns c.args.col first now tail rest next left built)
+    (built_found g h k c.args.column.columns c.args.column.at first now tail rest next left built found, built_charged g h k c.args.column.columns c.args.column.at first now tail rest next left built)
 
 pub returns-then-is_some-clause-units : goal.returns-then-is_some-clause-units
 returns-then-is_some-clause-units c =
@@ -103,7 +103,7 @@ returns-then-is_some-clause-units c =
     let rest : DarkShadow = record { rows = now.rows; dark = now.dark; tails = c.pop.new.self } in
     let tails : now.tails.items ≡ c.pop.new.self.items ++ tail ∷ [] = grind arith in
     let some : pos 0 ≤ℤ tail.last = grind (arith, linear) in
-    let built : IsBuilt g h k c.args.columns c.args.col first now tail rest next left = record {
+    let built : IsBuilt g h k c.args.column.columns c.args.column.at first now tail rest next left = record {
       so_far = c.loop-tail.invariant;
       popped = record { rows = refl; dark = c.loop-tail.invariant.kept.dark; tails = tails };
       some = some;
@@ -112,7 +112,7 @@ returns-then-is_some-clause-units c =
       left = c.in_ok-left.ensures.exact.0.0;
       charged = c.in_ok-left.ensures.exact.1;
     } in
-    any_some left ((pos k.units +ℤ splinter_count next.tails.items) ≤ℤ (pos g.units +ℤ splinter_count first.tails.items)) (built_kept g h k c.args.columns c.args.col first now tail rest next left built).units
+    any_some left ((pos k.units +ℤ splinter_count next.tails.items) ≤ℤ (pos g.units +ℤ splinter_count first.tails.items)) (built_kept g h k c.args.column.columns c.args.column.at first now tail rest next left built).units
 
 pub returns-then-is_some-clause-no_overflow : goal.returns-then-is_some-clause-no_overflow
 returns-then-is_some-clause-no_overflow c = λ bits small.
@@ -127,7 +127,7 @@ returns-then-is_some-clause-no_overflow c = λ bits small.
     let rest : DarkShadow = record { rows = now.rows; dark = now.dark; tails = c.pop.new.self } in
     let tails : now.tails.items ≡ c.pop.new.self.items ++ tail ∷ [] = grind arith in
     let some : pos 0 ≤ℤ tail.last = grind (arith, linear) in
-    let built : IsBuilt g h k c.args.columns c.args.col first now tail rest next left = record {
+    let built : IsBuilt g h k c.args.column.columns c.args.column.at first now tail rest next left = record {
       so_far = c.loop-tail.invariant;
       popped = record { rows = refl; dark = c.loop-tail.invariant.kept.dark; tails = tails };
       some = some;
@@ -136,7 +136,7 @@ returns-then-is_some-clause-no_overflow c = λ bits small.
       left = c.in_ok-left.ensures.exact.0.0;
       charged = c.in_ok-left.ensures.exact.1;
     } in
-    any_some left (IsSmallDarkShadow next) ((built_kept g h k c.args.columns c.args.col first now tail rest next left built).small small)
+    any_some left (IsSmallDarkShadow next) ((built_kept g h k c.args.column.columns c.args.column.at first now tail rest next left built).small small)
 
 pub loop-tail-smaller-else-is_some-2 : goal.loop-tail-smaller-else-is_some-2
 loop-tail-smaller-else-is_some-2 c =
@@ -151,7 +151,7 @@ loop-tail-smaller-else-is_some-2 c =
     let rest : DarkShadow = record { rows = now.rows; dark = now.dark; tails = c.pop.new.self } in
     let tails : now.tails.items ≡ c.pop.new.self.items ++ tail ∷ [] = grind arith in
     let some : pos 0 ≤ℤ tail.last = grind (arith, linear) in
-    let built : IsBuilt g h k c.args.columns c.args.col first now tail rest next left = record {
+    let built : IsBuilt g h k c.args.column.columns c.args.column.at first now tail rest next left = record {
       so_far = c.loop-tail.invariant;
       popped = record { rows = refl; dark = c.loop-tail.invariant.kept.dark; tails = tails };
       some = some;
@@ -160,7 +160,7 @@ loop-tail-smaller-else-is_some-2 c =
       left = c.in_ok-left.ensures.exact.0.0;
       charged = c.in_ok-left.ensures.exact.1;
     } in
-    built_fewer g h k c.args.columns c.args.col first now tail rest next left built
+    built_fewer g h k c.args.column.columns c.args.column.at first now tail rest next left built
 
 pub loop-tail-preserved-else-is_some-2 : goal.loop-tail-preserved-else-is_some-2
 loop-tail-preserved-else-is_some-2 c =
@@ -175,7 +175,7 @@ loop-tail-preserved-else-is_some-2 c =
     let rest : DarkShadow = record { rows = now.rows; dark = now.dark; tails = c.pop.new.self } in
     let tails : now.tails.items ≡ c.pop.new.self.items ++ tail ∷ [] = grind arith in
     let some : pos 0 ≤ℤ tail.last = grind (arith, linear) in
-    let built : IsBuilt g h k c.args.columns c.args.col first now tail rest next left = record {
+    let built : IsBuilt g h k c.args.column.columns c.args.column.at first now tail rest next left = record {
       so_far = c.loop-tail.invariant;
       popped = record { rows = refl; dark = c.loop-tail.invariant.kept.dark; tails = tails };
       some = some;
@@ -185,7 +185,7 @@ loop-tail-preserved-else-is_some-2 c =
       charged = c.in_ok-left.ensures.exact.1;
     } in
     let none : left ≡ None = grind arith in
-    built_none g h k c.args.columns c.args.col first now tail rest next (rw none at built)
+    built_none g h k c.args.column.columns c.args.column.at first now tail rest next (rw none at built)
 
 pub loop-tail-smaller-else-not-is_negative : goal.loop-tail-smaller-else-not-is_negative
 loop-tail-smaller-else-not-is_negative c =
@@ -198,7 +198,7 @@ loop-tail-smaller-else-not-is_negative c =
     let tails : now.tails.items ≡ c.pop.new.self.items ++ tail ∷ [] = grind arith in
     let popped : IsPopped now tail rest = record { rows = refl; dark = c.loop-tail.invariant.kept.dark; tails = tails } in
     let below : tail.last <ℤ pos 0 = grind (arith, linear) in
-    popped_fewer g h c.args.columns c.args.col first now tail rest c.loop-tail.invariant popped below
+    popped_fewer g h c.args.column.columns c.args.column.at first now tail rest c.loop-tail.invariant popped below
 
 pub loop-tail-preserved-else-not-is_negative : goal.loop-tail-preserved-else-not-is_negative
 loop-tail-preserved-else-not-is_negative c =
@@ -211,7 +211,7 @@ loop-tail-preserved-else-not-is_negative c =
     let tails : now.tails.items ≡ c.pop.new.self.items ++ tail ∷ [] = grind arith in
     let popped : IsPopped now tail rest = record { rows = refl; dark = c.loop-tail.invariant.kept.dark; tails = tails } in
     let below : tail.last <ℤ pos 0 = grind (arith, linear) in
-    so_far_skipped g h c.args.columns c.args.col first now tail rest c.loop-tail.invariant popped below
+    so_far_skipped g h c.args.column.columns c.args.column.at first now tail rest c.loop-tail.invariant popped below
 
 pub loop-tail-smaller : goal.loop-tail-smaller
 loop-tail-smaller c =
@@ -224,7 +224,7 @@ loop-tail-smaller c =
     let tails : now.tails.items ≡ c.pop.new.self.items ++ tail ∷ [] = grind arith in
     let popped : IsPopped now tail rest = record { rows = refl; dark = c.loop-tail.invariant.kept.dark; tails = tails } in
     let below : tail.last <ℤ pos 0 = grind (arith, linear) in
-    popped_fewer g h c.args.columns c.args.col first now tail rest c.loop-tail.invariant popped below
+    popped_fewer g h c.args.column.columns c.args.column.at first now tail rest c.loop-tail.invariant popped below
 
 pub loop-tail-preserved : goal.loop-tail-preserved
 loop-tail-preserved c =
@@ -237,4 +237,4 @@ loop-tail-preserved c =
     let tails : now.tails.items ≡ c.pop.new.self.items ++ tail ∷ [] = grind arith in
     let popped : IsPopped now tail rest = record { rows = refl; dark = c.loop-tail.invariant.kept.dark; tails = tails } in
     let below : tail.last <ℤ pos 0 = grind (arith, linear) in
-    so_far_skipped g h c.args.columns c.args.col first now tail rest c.loop-tail.invariant popped below
+    so_far_skipped g h c.args.column.columns c.args.column.at first now tail rest c.loop-tail.invariant popped below

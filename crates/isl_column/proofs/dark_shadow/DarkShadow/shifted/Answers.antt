@@ -13,11 +13,11 @@ use Rattle.isl_column.proofs.dark_shadow.DarkShadow.shifted.Goals as goal
 pub returns-in_err-reduced_by-clause-no_overflow : goal.returns-in_err-reduced_by-clause-no_overflow
 returns-in_err-reduced_by-clause-no_overflow c = λ bits small.
     let u = c.upper-item.result in
-    let by : c.neg-by.result ≡ neg_ℤ (coef_at u c.args.col) = grind arith in
+    let by : c.neg-by.result ≡ neg_ℤ (coef_at u c.args.column.at) = grind arith in
     let up : IsRowUpTo (2 ^ 61) u = grind (arith, common_steps, small) in
     let meter : c.loop-upper.meter ≡ c.args.meter.now = grind arith in
     let p = err_from_is_err_and c.from_residual.result c.from_residual.ensures.1 in
-    rw (p.1, p.2) (c.in_err-reduced_by.ensures.no_overflow (2 ^ 61) (2 ^ 61) (rw by (up_to-neg (2 ^ 61) (coef_at u c.args.col) (coef_up_to (2 ^ 61) u c.args.col up))) up (rw (meter, bits) (lit< tt)))
+    rw (p.1, p.2) (c.in_err-reduced_by.ensures.no_overflow (2 ^ 61) (2 ^ 61) (rw by (up_to-neg (2 ^ 61) (coef_at u c.args.column.at) (coef_up_to (2 ^ 61) u c.args.column.at up))) up (rw (meter, bits) (lit< tt)))
 
 pub loop-upper-preserved : goal.loop-upper-preserved
 loop-upper-preserved c =
@@ -26,7 +26,7 @@ loop-upper-preserved c =
     let i = c.loop-upper.upper-index in
     let low = c.in_ok-reduced_by.field-0 in
     let inside : i < length uppers = grind (arith, common_steps) in
-    let is : low ≡ shifted_row c.args.col u = grind arith in
+    let is : low ≡ shifted_row c.args.column.at u = grind arith in
     let within : IsRowWithin c.args.meter.now low = grind arith in
     let pushed : c.push.new.self ≡ c.loop-upper.rows ++ low ∷ [] = grind arith in
     let taken : take (i + 1) uppers ≡ take i uppers ++ u ∷ [] = take_more uppers i u inside ∙ ap (λ (s : Row). take i uppers ++ s ∷ []) (sym c.upper-item.is) in (

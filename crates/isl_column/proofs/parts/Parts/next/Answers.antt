@@ -7,15 +7,15 @@ use Rattle.isl_column.proofs.PartsLemmas.{same_limit, some_residues_kept, parts_
 use Rattle.isl_column.proofs.SplinterLemmas.{shadow_kept}
 use Rattle.isl_column.proofs.parts.Parts.next.Goals as goal
 
-pub next-requires-clause-shadow : goal.next-requires-clause-shadow
-next-requires-clause-shadow c =
+pub next-requires : goal.next-requires
+next-requires c =
     let g = c.args.meter.now in
     let h = c.loop-found.meter in
     let columns = c.args.columns in
     let first = c.args.self.now in
     let now = c.loop-found.self in
     let s = c.loop-found.invariant in
-    rw s.same_col at (shadow_kept h g now.columns now.col now.dark_shadow (sym (same_limit g h s.charged)) s.are.shadow)
+    record { shadow = shadow_kept h g now.column.columns now.column.at now.dark_shadow (sym (same_limit g h s.charged)) s.are.shadow }
 
 pub returns-in_err-found-clause-units : goal.returns-in_err-found-clause-units
 returns-in_err-found-clause-units c =
@@ -39,10 +39,10 @@ returns-then-is_some-clause-exact c =
     let now = c.loop-found.self in
     let s = c.loop-found.invariant in
     let found = c.in_ok-found.found in
-    let next : PartsView = record { columns = now.columns; col = now.col; dark_shadow = c.next.new.self; residues = now.residues } in
+    let next : PartsView = record { column = now.column; dark_shadow = c.next.new.self; residues = now.residues } in
     let some : found ≢ None = grind arith in
     let own : IsChargedUpTo (splinter_count now.dark_shadow.tails.items) h k = c.in_ok-found.ensures.exact.1 in
-    let taken : MatchOption found (IsNoDarkShadow now.columns now.col now.dark_shadow) (λ rows. IsTakenOut h now.columns now.col now.dark_shadow rows next.dark_shadow) = rw s.same_col c.in_ok-found.ensures.exact.0 in
+    let taken : MatchOption found (IsNoDarkShadow now.column.columns now.column.at now.dark_shadow) (λ rows. IsTakenOut h now.column.columns now.column.at now.dark_shadow rows next.dark_shadow) = c.in_ok-found.ensures.exact.0 in
     let all = parts_found g h k columns first now next found s c.requires.parts own.charged taken c.in_ok-found.ensures.units c.in_ok-found.ensures.counted refl refl refl some in
     (all.0, all.1)
 
@@ -67,15 +67,15 @@ returns-then-is_some-clause-rest c =
     let now = c.loop-found.self in
     let s = c.loop-found.invariant in
     let found = c.in_ok-found.found in
-    let next : PartsView = record { columns = now.columns; col = now.col; dark_shadow = c.next.new.self; residues = now.residues } in
+    let next : PartsView = record { column = now.column; dark_shadow = c.next.new.self; residues = now.residues } in
     let some : found ≢ None = grind arith in
     let own : IsChargedUpTo (splinter_count now.dark_shadow.tails.items) h k = c.in_ok-found.ensures.exact.1 in
-    let taken : MatchOption found (IsNoDarkShadow now.columns now.col now.dark_shadow) (λ rows. IsTakenOut h now.columns now.col now.dark_shadow rows next.dark_shadow) = rw s.same_col c.in_ok-found.ensures.exact.0 in
+    let taken : MatchOption found (IsNoDarkShadow now.column.columns now.column.at now.dark_shadow) (λ rows. IsTakenOut h now.column.columns now.column.at now.dark_shadow rows next.dark_shadow) = c.in_ok-found.ensures.exact.0 in
     let all = parts_found g h k columns first now next found s c.requires.parts own.charged taken c.in_ok-found.ensures.units c.in_ok-found.ensures.counted refl refl refl some in
     if_some found (AreUnitsUpTo (most_units first) g k next) all.2
 
-pub next-requires-in-loop-found-clause-residues : goal.next-requires-in-loop-found-clause-residues
-next-requires-in-loop-found-clause-residues c =
+pub next-requires-in-loop-found : goal.next-requires-in-loop-found
+next-requires-in-loop-found c =
     let g = c.args.meter.now in
     let h = c.loop-found.meter in
     let k = c.next.new.meter in
@@ -84,7 +84,7 @@ next-requires-in-loop-found-clause-residues c =
     let now = c.loop-found.self in
     let s = c.loop-found.invariant in
     let charged = IsCharged_trans g h k s.charged c.in_ok-found.ensures.exact.1.charged in
-    rw s.same_col at (some_residues_kept k g now.columns now.col now.residues (sym (same_limit g k charged)) s.are.residues)
+    record { residues = some_residues_kept k g now.column.columns now.column.at now.residues (sym (same_limit g k charged)) s.are.residues }
 
 pub returns-in_err-next-clause-units : goal.returns-in_err-next-clause-units
 returns-in_err-next-clause-units c =
@@ -98,7 +98,7 @@ returns-in_err-next-clause-units c =
     let m = c.next-in-loop-found.new.meter in
     let own : IsChargedUpTo (splinter_count now.dark_shadow.tails.items) h k = c.in_ok-found.ensures.exact.1 in
     let e = c.in_err-next.field-0.0 in
-    let cut : IsCutUpTo (residues_most now.col now.residues) k m e = rw s.same_col c.in_err-next.ensures.exact in
+    let cut : IsCutUpTo (residues_most now.column.at now.residues) k m e = c.in_err-next.ensures.exact in
     (cut_in_residue g h k m columns first now e s own cut).most
 
 pub returns-in_err-next-clause-magnitude : goal.returns-in_err-next-clause-magnitude
@@ -117,10 +117,10 @@ returns-in-None-clause-exact c =
     let m = c.next-in-loop-found.new.meter in
     let own : IsChargedUpTo (splinter_count now.dark_shadow.tails.items) h k = c.in_ok-found.ensures.exact.1 in
     let none : c.in_ok-found.found ≡ None = grind arith in
-    let empty : IsNoDarkShadow now.columns now.col now.dark_shadow = rw s.same_col (rw none at c.in_ok-found.ensures.exact.0) in
+    let empty : IsNoDarkShadow now.column.columns now.column.at now.dark_shadow = rw none at c.in_ok-found.ensures.exact.0 in
     let no : c.in_ok-next.field-0 ≡ None = grind arith in
     let both = rw no at c.in_ok-next.ensures.exact in
-    let left : IsNoResidue now.columns now.col now.residues = rw s.same_col both.0 in
+    let left : IsNoResidue now.column.columns now.column.at now.residues = both.0 in
     (parts_ended g h columns first now s empty left, rw both.2 (IsCharged_trans g h k s.charged own.charged))
 
 pub returns-in-None-clause-units : goal.returns-in-None-clause-units
@@ -150,11 +150,11 @@ loop-found-preserved c =
     let m = c.next-in-loop-found.new.meter in
     let own : IsChargedUpTo (splinter_count now.dark_shadow.tails.items) h k = c.in_ok-found.ensures.exact.1 in
     let none : c.in_ok-found.found ≡ None = grind arith in
-    let empty : IsNoDarkShadow now.columns now.col now.dark_shadow = rw s.same_col (rw none at c.in_ok-found.ensures.exact.0) in
+    let empty : IsNoDarkShadow now.column.columns now.column.at now.dark_shadow = rw none at c.in_ok-found.ensures.exact.0 in
     let dark_shadow = c.in-Some.dark_shadow in
-    let next : PartsView = record { columns = now.columns; col = now.col; dark_shadow = dark_shadow; residues = c.next-in-loop-found.new.residues } in
+    let next : PartsView = record { column = now.column; dark_shadow = dark_shadow; residues = c.next-in-loop-found.new.residues } in
     let yes : c.in_ok-next.field-0 ≡ Some dark_shadow = grind arith in
-    let opened : IsOpenedFrom k m now.columns now.col now.residues dark_shadow next.residues = rw s.same_col (rw yes at c.in_ok-next.ensures.exact) in
+    let opened : IsOpenedFrom k m now.column.columns now.column.at now.residues dark_shadow next.residues = rw yes at c.in_ok-next.ensures.exact in
     let some : now.residues ≢ None = λ n. let x = c.in_ok-next.ensures.none n in cc in
     parts_opened g h k m columns first now next s empty own opened refl refl some
 
@@ -168,10 +168,10 @@ returns-then-is_some-clause-pairs c =
     let now = c.loop-found.self in
     let s = c.loop-found.invariant in
     let found = c.in_ok-found.found in
-    let next : PartsView = record { columns = now.columns; col = now.col; dark_shadow = c.next.new.self; residues = now.residues } in
+    let next : PartsView = record { column = now.column; dark_shadow = c.next.new.self; residues = now.residues } in
     let some : found ≢ None = grind arith in
     let own : IsChargedUpTo (splinter_count now.dark_shadow.tails.items) h k = c.in_ok-found.ensures.exact.1 in
-    let taken : MatchOption found (IsNoDarkShadow now.columns now.col now.dark_shadow) (λ rows. IsTakenOut h now.columns now.col now.dark_shadow rows next.dark_shadow) = rw s.same_col c.in_ok-found.ensures.exact.0 in
+    let taken : MatchOption found (IsNoDarkShadow now.column.columns now.column.at now.dark_shadow) (λ rows. IsTakenOut h now.column.columns now.column.at now.dark_shadow rows next.dark_shadow) = c.in_ok-found.ensures.exact.0 in
     let all = parts_found g h k columns first now next found s c.requires.parts own.charged taken c.in_ok-found.ensures.units c.in_ok-found.ensures.counted refl refl refl some in
     if_found found (g.units + least_units first ≤ k.units) (g.units + least_units first ≤ k.units + least_units next) some all.3
 

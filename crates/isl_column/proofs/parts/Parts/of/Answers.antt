@@ -8,40 +8,40 @@ use Rattle.isl_column.proofs.PartsLemmas.{begun_weaker, begun_exact, begun_units
 use Rattle.isl_column.proofs.parts.Parts.of.Goals as goal
 
 pub returns-in-Some-clause-exact : goal.returns-in-Some-clause-exact
-returns-in-Some-clause-exact c = begun_exact (pos 0) c.args.meter.now c.solved.new.meter c.args.columns c.args.col c.args.rows.now c.solved.result c.solved.ensures.exact
+returns-in-Some-clause-exact c = begun_exact (pos 0) c.args.meter.now c.solved.new.meter c.args.column.columns c.args.column.at c.args.rows.now c.solved.result c.solved.ensures.exact
 
 pub returns-in-Some-clause-units : goal.returns-in-Some-clause-units
 returns-in-Some-clause-units c =
     let g = c.args.meter.now in
     let rows = c.args.rows.now in
-    let P = HoldAtSome rows c.args.col in
-    let z = elimination_units rows c.args.col in
-    begun_units z g c.solved.new.meter c.args.columns P c.solved.result
-    (begun_weaker (pos 0) z g c.solved.new.meter c.args.columns P P c.solved.result (most_not_negative g c.args.columns rows c.args.col c.requires.rows) (λ point n. ((λ x. x), (λ x. x))) c.solved.ensures.exact)
+    let P = HoldAtSome rows c.args.column.at in
+    let z = elimination_units rows c.args.column.at in
+    begun_units z g c.solved.new.meter c.args.column.columns P c.solved.result
+    (begun_weaker (pos 0) z g c.solved.new.meter c.args.column.columns P P c.solved.result (most_not_negative g c.args.column.columns rows c.args.column.at c.requires.rows) (λ point n. ((λ x. x), (λ x. x))) c.solved.ensures.exact)
 
 pub returns-in-Some-clause-equality : goal.returns-in-Some-clause-equality
-returns-in-Some-clause-equality c = λ _. (begun_none c.args.meter.now c.solved.new.meter c.args.columns (HoldAtSome c.args.rows.now c.args.col) c.solved.result c.solved.ensures.exact, c.solved.ensures.none)
+returns-in-Some-clause-equality c = λ _. (begun_none c.args.meter.now c.solved.new.meter c.args.column.columns (HoldAtSome c.args.rows.now c.args.column.at) c.solved.result c.solved.ensures.exact, c.solved.ensures.none)
 
 pub returns-in-Some-clause-exact_column : goal.returns-in-Some-clause-exact_column
 returns-in-Some-clause-exact_column c = λ exact none.
     let rows = c.args.rows.now in
-    let equality : IsLeastAmong c.args.col rows (length rows) c.in-Some.at = grind arith in
-    absurd (none (equality_from c.args.col rows c.in-Some.at (least_equality_at c.args.col rows (length rows) c.in-Some.at equality)))
+    let equality : IsLeastAmong c.args.column.at rows (length rows) c.in-Some.at = grind arith in
+    absurd (none (equality_from c.args.column.at rows c.in-Some.at (least_equality_at c.args.column.at rows (length rows) c.in-Some.at equality)))
 
 pub returns-in-Some-clause-pairs : goal.returns-in-Some-clause-pairs
 returns-in-Some-clause-pairs c = λ none.
     let rows = c.args.rows.now in
-    let equality : IsLeastAmong c.args.col rows (length rows) c.in-Some.at = grind arith in
-    absurd (none (equality_from c.args.col rows c.in-Some.at (least_equality_at c.args.col rows (length rows) c.in-Some.at equality)))
+    let equality : IsLeastAmong c.args.column.at rows (length rows) c.in-Some.at = grind arith in
+    absurd (none (equality_from c.args.column.at rows c.in-Some.at (least_equality_at c.args.column.at rows (length rows) c.in-Some.at equality)))
 
 pub returns-then-is_exact-clause-exact : goal.returns-then-is_exact-clause-exact
-returns-then-is_exact-clause-exact c = begun_exact (elimination_units c.args.rows.now c.args.col) c.args.meter.now c.exact.new.meter c.args.columns c.args.col c.args.rows.now c.exact.result c.exact.ensures.exact
+returns-then-is_exact-clause-exact c = begun_exact (elimination_units c.args.rows.now c.args.column.at) c.args.meter.now c.exact.new.meter c.args.column.columns c.args.column.at c.args.rows.now c.exact.result c.exact.ensures.exact
 
 pub returns-then-is_exact-clause-units : goal.returns-then-is_exact-clause-units
-returns-then-is_exact-clause-units c = begun_units (elimination_units c.args.rows.now c.args.col) c.args.meter.now c.exact.new.meter c.args.columns (HoldAtSome c.args.rows.now c.args.col) c.exact.result c.exact.ensures.exact
+returns-then-is_exact-clause-units c = begun_units (elimination_units c.args.rows.now c.args.column.at) c.args.meter.now c.exact.new.meter c.args.column.columns (HoldAtSome c.args.rows.now c.args.column.at) c.exact.result c.exact.ensures.exact
 
 pub returns-else-is_exact-clause-exact : goal.returns-else-is_exact-clause-exact
-returns-else-is_exact-clause-exact c = begun_exact (elimination_units c.args.rows.now c.args.col) c.args.meter.now c.by_sides.new.meter c.args.columns c.args.col c.args.rows.now c.by_sides.result c.by_sides.ensures.exact
+returns-else-is_exact-clause-exact c = begun_exact (elimination_units c.args.rows.now c.args.column.at) c.args.meter.now c.by_sides.new.meter c.args.column.columns c.args.column.at c.args.rows.now c.by_sides.result c.by_sides.ensures.exact
 
 pub returns-else-is_exact-clause-units : goal.returns-else-is_exact-clause-units
-returns-else-is_exact-clause-units c = begun_units (elimination_units c.args.rows.now c.args.col) c.args.meter.now c.by_sides.new.meter c.args.columns (HoldAtSome c.args.rows.now c.args.col) c.by_sides.result c.by_sides.ensures.exact
+returns-else-is_exact-clause-units c = begun_units (elimination_units c.args.rows.now c.args.column.at) c.args.meter.now c.by_sides.new.meter c.args.column.columns (HoldAtSome c.args.rows.now c.args.column.at) c.by_sides.result c.by_sides.ensures.exact

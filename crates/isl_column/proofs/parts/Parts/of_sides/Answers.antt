@@ -18,7 +18,7 @@ returns-in_err-dark_shadow-clause-exact c =
     let e = c.in_err-dark_shadow.field-0.0 in
     let few : nat_lt (length s.not_divides) 2 ≡ true = grind arith in
     let own : IsCutUpTo (pos (length s.lowers * length s.uppers)) g k e = grind arith in
-    let cut : IsCutUpTo (sides_units c.args.col s) g k e = rw few (shadow_cut g k c.args.columns c.args.col s e c.requires.sided own) in
+    let cut : IsCutUpTo (sides_units c.args.column.at s) g k e = rw few (shadow_cut g k c.args.column.columns c.args.column.at s e c.requires.sided own) in
     grind arith
 
 pub returns-then-len-lt2-clause-exact : goal.returns-then-len-lt2-clause-exact
@@ -26,15 +26,15 @@ returns-then-len-lt2-clause-exact c =
     let g = c.args.meter.now in
     let h = c.of.new.meter in
     let s = c.args.sides in
-    let col = c.args.col in
+    let col = c.args.column.at in
     let dark_shadow = c.in_ok-dark_shadow.dark_shadow in
-    let parts : PartsView = record { columns = c.args.columns; col = col; dark_shadow = dark_shadow; residues = None } in
+    let parts : PartsView = record { column = c.args.column; dark_shadow = dark_shadow; residues = None } in
     let few : nat_lt (length s.not_divides) 2 ≡ true = grind arith in
-    let is : IsDarkShadowOf g c.args.columns col s dark_shadow = grind arith in
+    let is : IsDarkShadowOf g c.args.column.columns col s dark_shadow = grind arith in
     let splinters : HasFewSplinters col s dark_shadow.tails.items = grind arith in
     let own : IsChargedUpTo (pos (length s.lowers * length s.uppers)) g h = charged_up_to (length s.lowers * length s.uppers) g h (grind arith) in
-    let units = shadow_within g h c.args.columns col s dark_shadow c.requires.sided is splinters own in
-    rw few (shadow_begun (shadow_units col s) g h c.args.columns col (HasNumber s col) parts refl refl refl c.requires.col_in is.is_dark_shadow (λ point n. let p = is.points point n in (p.1, p.0)) own.charged units)
+    let units = shadow_within g h c.args.column.columns col s dark_shadow c.requires.sided is splinters own in
+    rw few (shadow_begun (shadow_units col s) g h c.args.column.columns col (HasNumber s col) parts refl refl refl is.is_dark_shadow (λ point n. let p = is.points point n in (p.1, p.0)) own.charged units)
 
 pub returns-in_err-residues-clause-exact : goal.returns-in_err-residues-clause-exact
 returns-in_err-residues-clause-exact c =
@@ -44,23 +44,23 @@ returns-in_err-residues-clause-exact c =
     let e = c.in_err-residues.field-0.0 in
     let many : nat_lt (length s.not_divides) 2 ≡ false = grind arith in
     let own : IsCutUpTo (pos 0) g k e = grind arith in
-    let cut : IsCutUpTo (sides_units c.args.col s) g k e = rw many (cut_weaker (pos 0) (residues_units c.args.col s) g k e (residues_units_not_negative g c.args.columns c.args.col s c.requires.sided) own) in
+    let cut : IsCutUpTo (sides_units c.args.column.at s) g k e = rw many (cut_weaker (pos 0) (residues_units c.args.column.at s) g k e (residues_units_not_negative g c.args.column.columns c.args.column.at s c.requires.sided) own) in
     grind arith
 
 pub returns-clause-exact : goal.returns-clause-exact
 returns-clause-exact c =
     let g = c.args.meter.now in
     let s = c.args.sides in
-    let col = c.args.col in
+    let col = c.args.column.at in
     let r = c.in_ok-residues.residues in
     let head = c.head-parts.result in
-    let parts : PartsView = record { columns = head.columns; col = head.col; dark_shadow = head.dark_shadow; residues = Some r } in
+    let parts : PartsView = record { column = head.column; dark_shadow = head.dark_shadow; residues = Some r } in
     let many : nat_lt (length s.not_divides) 2 ≡ false = grind arith in
     let same : c.of-2.new.meter ≡ g = grind arith in
-    let are : AreResidues g c.args.columns col r = grind arith in
+    let are : AreResidues g c.args.column.columns col r = grind arith in
     let sides : r.sides ≡ s = grind arith in
     let left : r.left ≡ r.period = grind arith in
-    let is : IsResidual c.args.columns col r parts = record {
+    let is : IsResidual c.args.column.columns col r parts = record {
       columns = c.head-parts.ensures.column.0;
       col = c.head-parts.ensures.column.1;
       rows = c.head-parts.ensures.rows;
@@ -68,7 +68,7 @@ returns-clause-exact c =
       tails = c.head-parts.ensures.alone.tails;
       residues = refl;
     } in
-    rw (many, same) (residues_begun g c.args.columns col s r parts is c.requires.col_in c.requires.sided are sides left)
+    rw (many, same) (residues_begun g c.args.column.columns col s r parts is c.requires.sided are sides left)
 
 pub returns-clause-pairs : goal.returns-clause-pairs
 returns-clause-pairs c =
@@ -76,8 +76,8 @@ returns-clause-pairs c =
     let s = c.args.sides in
     let r = c.in_ok-residues.residues in
     let same : c.of-2.new.meter ≡ g = grind arith in
-    let are : AreResidues g c.args.columns c.args.col r = grind arith in
+    let are : AreResidues g c.args.column.columns c.args.column.at r = grind arith in
     let sides : r.sides ≡ s = grind arith in
     let left : r.left ≡ r.period = grind arith in
-    let least = residues_paid g c.args.columns c.args.col s r are sides left in
+    let least = residues_paid g c.args.column.columns c.args.column.at s r are sides left in
     rw same (omega arith)
