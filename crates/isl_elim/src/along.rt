@@ -12,6 +12,7 @@ ghost use Rattle.isl_column.specs.Parts.{AreParts, HoldsPart};
 use crate::choice::cheapest;
 use isl_column::Parts;
 use isl_meter::{Cut, Meter};
+use isl_omega::column::Column;
 use isl_piece::Rows;
 use std::alloc::{AllocError, Global};
 
@@ -57,7 +58,7 @@ fn push_without(
     let at = cheapest(rows.as_slice(), cols);
     let col = cols[at];
     let left = others(alloc, cols, col)?;
-    let parts = Parts::of(alloc, rows.as_slice(), columns, col, meter)?;
+    let parts = Parts::of(alloc, rows.as_slice(), Column { columns, at: col }, meter)?;
     push_parts(alloc, parts, columns - 1, left.as_slice(), lists, meter)
 }
 

@@ -16,6 +16,7 @@ use crate::choice::any_column;
 use crate::opened::opened;
 use isl_column::Parts;
 use isl_meter::{Cut, Meter};
+use isl_omega::column::Column;
 use isl_piece::{Rows, System};
 use std::alloc::Global;
 
@@ -27,7 +28,7 @@ pub(crate) fn column_nowhere(alloc: Global, rows: &Rows, meter: &mut Meter) -> R
     ensures equality { HasEquality 0 rows.now → meter.new.units ≡ meter.old.units }
     ensures magnitude { IsSpared meter.old rows.now 0 result }
 {
-    let mut parts = Parts::of(alloc, rows.as_slice(), 1, 0, meter)?;
+    let mut parts = Parts::of(alloc, rows.as_slice(), Column { columns: 1, at: 0 }, meter)?;
     Ok(parts.next(alloc, 0, meter)?.is_none())
 }
 
@@ -53,7 +54,7 @@ pub(crate) fn hold_nowhere(
         return column_nowhere(alloc, rows, meter);
     }
     let col = any_column(rows.as_slice(), columns);
-    let parts = Parts::of(alloc, rows.as_slice(), columns, col, meter)?;
+    let parts = Parts::of(alloc, rows.as_slice(), Column { columns, at: col }, meter)?;
     are_empty(alloc, parts, columns - 1, meter)
 }
 

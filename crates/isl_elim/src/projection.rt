@@ -18,6 +18,7 @@ use crate::dependents::{columns_left, with_dependents};
 use crate::opened::opened_rows;
 use isl_column::eliminate_rows;
 use isl_meter::{Cut, Meter};
+use isl_omega::column::Column;
 use isl_piece::{Rows, System};
 use std::alloc::{AllocError, Global};
 
@@ -60,13 +61,11 @@ fn lists_left(
         → HaveOneCongruence system.now.rows col → result ≢ Err Cut.Overflow }
 {
     if gone.len() == 1 && gone[0] < system.free() {
-        return eliminate_rows(
-            alloc,
-            system.rows.as_slice(),
-            system.columns,
-            gone[0],
-            meter,
-        );
+        let column = Column {
+            columns: system.columns,
+            at: gone[0],
+        };
+        return eliminate_rows(alloc, system.rows.as_slice(), column, meter);
     }
     let rows = opened_rows(alloc, system, gone, meter)?;
     rows_without(alloc, &rows, system.columns, gone, meter)

@@ -15,6 +15,7 @@ use crate::line::tries_at;
 use crate::opened::opened;
 use isl_column::Parts;
 use isl_meter::{Cut, Meter};
+use isl_omega::column::Column;
 use isl_piece::{Rows, System};
 use std::alloc::Global;
 
@@ -69,7 +70,7 @@ pub(crate) fn sample_rows(
         return Ok(Some(zeros));
     }
     let col = any_column(rows.as_slice(), columns);
-    let parts = Parts::of(alloc, rows.as_slice(), columns, col, meter)?;
+    let parts = Parts::of(alloc, rows.as_slice(), Column { columns, at: col }, meter)?;
     match sample_parts(alloc, parts, columns - 1, meter)? {
         None => Ok(None),
         Some(point) => {
