@@ -13,6 +13,8 @@ use Rattle.isl_piece.specs.Normal.{IsNormal}
 use Rattle.isl_piece.specs.Row.{HoldsRow, IsContingent}
 use Rattle.isl_omega.specs.Column.{IsProper}
 use Rattle.isl_elim.specs.Emptiness.{HoldNowhere}
+use Rattle.isl_column.specs.Column.{HoldAtSome}
+use Rattle.isl_column.specs.RealShadow.{AreImplied, IsImplied}
 use Rattle.isl_column.specs.Parts.{PartsView, AreParts, ArePartsOf, IsNextPart, AreNone, HoldsPart}
 use Rattle.isl_column.proofs.PartsLemmas.{parts_kept}
 use Rattle.isl_elim.proofs.PartsLaws.{next_proper, parts_after}
@@ -111,14 +113,63 @@ some_column g columns [] p n h = absurd (h refl)
 some_column g zero (r ∷ rows) p n h = absurd (no_column r (All-head (IsProper g zero) r rows p).formed.width (All-head IsContingent r rows n.contingent))
 some_column g (suc columns) (r ∷ rows) p n h = omega arith
 
--- the answer for the parts is that for the rows
-pub nowhere_after : (g h k : Gauge) (columns col : ℕ) (rows : List Row) (parts : PartsView) (result : Result Bool Cut) → col < columns → ArePartsOf g columns col rows parts → IsCharged g h
-    → MatchResult result (λ empty. (IsTrue empty ↔ ((point : List ℤ) → length point ≡ columns - 1 → ¬ HoldsPart parts point)) × IsCharged h k) (IsCutBy h k)
-    → MatchResult result (λ empty. (IsTrue empty ↔ HoldNowhere columns rows) × IsCharged g k) (IsCutBy g k)
-nowhere_after g h k columns col rows parts (Ok empty) i a c r =
+-- an answer for P is one for Q
+pub answered_after : (g h k : Gauge) (P Q : Type 0) (result : Result Bool Cut) → P ↔ Q → IsCharged g h → MatchResult result (λ empty. (IsTrue empty ↔ P) × IsCharged h k) (IsCutBy h k)
+    → MatchResult result (λ empty. (IsTrue empty ↔ Q) × IsCharged g k) (IsCutBy g k)
+answered_after g h k P Q (Ok empty) both c r = (((λ t. both.0 (r.0.0 t)), (λ q. r.0.1 (both.1 q))), IsCharged_trans g h k c r.1)
+answered_after g h k P Q (Err cut) both c r = IsCutBy-after g h k cut c r
+
+-- ---- the head, and the rest
+pub head_found : (g : Gauge) (columns : ℕ) (parts rest : PartsView) (found : Option (List Row)) (head : List Row) → found ≡ Some head → MatchOption found (rest ≡ parts) (λ rows. IsNextPart g columns parts rows rest) → IsNextPart g columns parts head rest
+head_found g columns parts rest found head e f = rw e at f
+
+pub head_missing : (g : Gauge) (columns : ℕ) (parts rest : PartsView) (found : Option (List Row)) → found ≡ None → MatchOption found (rest ≡ parts) (λ rows. IsNextPart g columns parts rows rest) → rest ≡ parts
+head_missing g columns parts rest found e f = rw e at f
+
+-- where the head holds nowhere, the rest does where the rows do
+pub rest_nowhere : (g h : Gauge) (columns col : ℕ) (rows head : List Row) (parts rest : PartsView) → col < columns → ArePartsOf g columns col rows parts → IsNextPart h (columns - 1) parts head rest → HoldNowhere (columns - 1) head
+    → AreNone (columns - 1) rest ↔ HoldNowhere columns rows
+rest_nowhere g h columns col rows head parts rest i a n nowhere =
+    let both = parts_nowhere g columns col rows parts i a in (
+      (λ none. both.0 (λ point l x. elim ((n.points point l).0 x) [ inl y ↦ nowhere point l y | inr z ↦ none point l z ])),
+      (λ q point l x. both.1 q point l ((n.points point l).1 (inr x))),
+    )
+
+-- where it holds somewhere, the rows do
+pub head_somewhere : (g h : Gauge) (columns col : ℕ) (rows head : List Row) (parts rest : PartsView) → col < columns → ArePartsOf g columns col rows parts → IsNextPart h (columns - 1) parts head rest → (HoldNowhere (columns - 1) head → ⊥) → HoldNowhere columns rows → ⊥
+head_somewhere g h columns col rows head parts rest i a n somewhere q =
     let both = parts_nowhere g columns col rows parts i a in
-    (((λ t. both.0 (r.0.0 t)), (λ n. r.0.1 (both.1 n))), IsCharged_trans g h k c r.1)
-nowhere_after g h k columns col rows parts (Err cut) i a c r = IsCutBy-after g h k cut c r
+    somewhere (λ point l x. both.1 q point l ((n.points point l).1 (inl x)))
+
+pub head_holds : (g h k m : Gauge) (columns col : ℕ) (rows head : List Row) (parts rest : PartsView) (empty : Bool) → empty ≡ false → col < columns → ArePartsOf g columns col rows parts → IsNextPart h (columns - 1) parts head rest
+    → IsTrue empty ↔ HoldNowhere (columns - 1) head → IsCharged k m → IsCharged g k → (IsTrue false ↔ HoldNowhere columns rows) × IsCharged g m
+head_holds g h k m columns col rows head parts rest empty e i a n answer d c = (
+  ((λ t. absurd (true_not_false t)), (λ q. absurd (head_somewhere g h columns col rows head parts rest i a n (λ x. true_not_false (rw e at (answer.1 x))) q))),
+  IsCharged_trans g k m c d,
+)
+
+-- ---- real shadows
+-- where the shadow has no point, the rows have none
+shadow_none : (columns col : ℕ) (rows : List Row) → col < columns → ((point : List ℤ) → length point ≡ columns - 1 → ¬ HoldAtSome rows col point) → HoldNowhere columns rows
+shadow_none columns col rows i n whole l h =
+    let back = insert-remove whole col (omega arith) in
+    let short = length-remove whole col (omega arith) in
+    n (remove whole col) (omega arith) (get_or whole col (pos 0), rw back h)
+
+pub shadow_missing : (g : Gauge) (columns col : ℕ) (rows slice : List Row) (found : Option (List Row)) → col < columns → slice ≡ rows → found ≡ None → IsImplied g (columns - 1) (HoldAtSome slice col) found → HoldNowhere columns rows
+shadow_missing g columns col rows slice found i s e a = shadow_none columns col rows i (rw (e, s) at a)
+
+pub shadow_found : (g : Gauge) (columns col : ℕ) (rows slice shadow : List Row) (found : Option (List Row)) → slice ≡ rows → found ≡ Some shadow → IsImplied g (columns - 1) (HoldAtSome slice col) found → AreImplied g (columns - 1) (HoldAtSome rows col) shadow
+shadow_found g columns col rows slice shadow found s e a = rw (e, s) at a
+
+shadow_some : (g : Gauge) (columns col : ℕ) (rows shadow : List Row) → col < columns → AreImplied g (columns - 1) (HoldAtSome rows col) shadow → HoldNowhere (columns - 1) shadow → HoldNowhere columns rows
+shadow_some g columns col rows shadow i a n = shadow_none columns col rows i (λ point l h. n point l (a.points point l h))
+
+pub shadow_after : (g h k : Gauge) (columns col : ℕ) (rows shadow : List Row) (result : Result Bool Cut) → col < columns → AreImplied g (columns - 1) (HoldAtSome rows col) shadow → IsCharged g h
+    → MatchResult result (λ empty. (IsTrue empty → HoldNowhere (columns - 1) shadow) × IsCharged h k) (IsCutBy h k)
+    → MatchResult result (λ empty. (IsTrue empty → HoldNowhere columns rows) × IsCharged g k) (IsCutBy g k)
+shadow_after g h k columns col rows shadow (Ok empty) i a c r = ((λ t. shadow_some g columns col rows shadow i a (r.0 t)), IsCharged_trans g h k c r.1)
+shadow_after g h k columns col rows shadow (Err cut) i a c r = IsCutBy-after g h k cut c r
 
 -- the answer for one column
 normal_none : (g : Gauge) (rows : List Row) → All (IsProper g 0) rows → IsNormal rows → rows ≡ []

@@ -1,6 +1,6 @@
 //! Whether rows hold nowhere.
 
-ghost use Rattle.std.specs.Prelude.{◌≡◌, ◌↔◌, ◌+ℤ◌, ◌≤ℤ◌, pos, ℤ, List, length, All, [], IfOk, IsTrue, MatchResult};
+ghost use Rattle.std.specs.Prelude.{◌≡◌, ◌↔◌, ◌-◌, ◌<◌, ◌+ℤ◌, ◌≤ℤ◌, pos, All, [], IfOk, IsTrue, MatchResult};
 ghost use Rattle.isl_meter.specs.Gauge.{IsCharged, IsCutBy};
 ghost use Rattle.isl_piece.specs.Normal.{IsNormal};
 ghost use Rattle.isl_omega.specs.Column.{IsProper};
@@ -10,11 +10,11 @@ ghost use Rattle.isl_omega.specs.Equality.{HasEquality};
 ghost use Rattle.isl_elim.specs.Emptiness.{HoldNowhere};
 ghost use Rattle.isl_piece.specs.System.{HoldsSystem, IsSystemWithin, free_columns};
 ghost use Rattle.isl_elim.specs.Sample.{IsNowhere};
-ghost use Rattle.isl_column.specs.Parts.{AreParts, HoldsPart};
+ghost use Rattle.isl_column.specs.Parts.{AreParts, AreNone};
 
 use crate::choice::any_column;
 use crate::opened::opened;
-use isl_column::Parts;
+use isl_column::{Parts, real_shadow};
 use isl_meter::{Cut, Meter};
 use isl_omega::column::Column;
 use isl_piece::{Rows, System};
@@ -30,6 +30,30 @@ pub(crate) fn column_nowhere(alloc: Global, rows: &Rows, meter: &mut Meter) -> R
 {
     let mut parts = Parts::of(alloc, rows.as_slice(), Column { columns: 1, at: 0 }, meter)?;
     Ok(parts.next(alloc, 0, meter)?.is_none())
+}
+
+// Whether the real shadows of the rows hold nowhere, one column after another. Then no point makes the rows hold; else one may, or none.
+#[cycle(shadows)]
+#[tactic(auto, using(crate::proofs::EmptinessLaws::emptiness_steps))]
+fn shadows_hold_nowhere(
+    alloc: Global,
+    rows: &Rows,
+    columns: usize,
+    meter: &mut Meter,
+) -> Result<bool, Cut>
+    requires rows { All (IsProper meter.old columns) rows.now }
+    ensures exact { MatchResult result
+        (λ empty. (IsTrue empty → HoldNowhere columns rows.now) × IsCharged meter.old meter.new)
+        (IsCutBy meter.old meter.new) }
+{
+    if columns == 0 || rows.is_empty() {
+        return Ok(false);
+    }
+    let col = any_column(rows.as_slice(), columns);
+    match real_shadow(alloc, rows.as_slice(), Column { columns, at: col }, meter)? {
+        None => Ok(true),
+        Some(shadow) => shadows_hold_nowhere(alloc, &shadow, columns - 1, meter),
+    }
 }
 
 // Whether no point makes the rows hold.
@@ -54,7 +78,41 @@ pub(crate) fn hold_nowhere(
         return column_nowhere(alloc, rows, meter);
     }
     let col = any_column(rows.as_slice(), columns);
-    let parts = Parts::of(alloc, rows.as_slice(), Column { columns, at: col }, meter)?;
+    let mut parts = Parts::of(alloc, rows.as_slice(), Column { columns, at: col }, meter)?;
+    let Some(head) = parts.take_head() else {
+        return rest_is_empty(alloc, rows, parts, columns, meter);
+    };
+    if !hold_nowhere(alloc, &head, columns - 1, meter)? {
+        return Ok(false);
+    }
+    rest_is_empty(alloc, rows, parts, columns, meter)
+}
+
+// Whether no point makes some of the parts hold, which are left of the rows without one column. The real shadows of the rows come
+// before splinters and residues.
+#[cycle(emptiness)]
+#[tactic(auto, using(crate::proofs::EmptinessLaws::emptiness_steps))]
+fn rest_is_empty(
+    alloc: Global,
+    rows: &Rows,
+    parts: Parts,
+    columns: usize,
+    meter: &mut Meter,
+) -> Result<bool, Cut>
+    requires rows { All (IsProper meter.old columns) rows.now }
+    requires some { 0 < columns }
+    requires parts { AreParts meter.old (columns - 1) parts }
+    requires left { HoldNowhere columns rows.now → AreNone (columns - 1) parts }
+    ensures exact { MatchResult result
+        (λ empty. (IsTrue empty ↔ AreNone (columns - 1) parts) × IsCharged meter.old meter.new)
+        (IsCutBy meter.old meter.new) }
+{
+    if !parts.has_more() {
+        return are_empty(alloc, parts, columns - 1, meter);
+    }
+    if shadows_hold_nowhere(alloc, rows, columns, meter)? {
+        return Ok(true);
+    }
     are_empty(alloc, parts, columns - 1, meter)
 }
 
@@ -69,7 +127,7 @@ fn are_empty(
 ) -> Result<bool, Cut>
     requires parts { AreParts meter.old columns parts }
     ensures exact { MatchResult result
-        (λ empty. (IsTrue empty ↔ ((point : List ℤ) → length point ≡ columns → ¬ HoldsPart parts point)) × IsCharged meter.old meter.new)
+        (λ empty. (IsTrue empty ↔ AreNone columns parts) × IsCharged meter.old meter.new)
         (IsCutBy meter.old meter.new) }
 {
     while let Some(rows) = parts.next(alloc, columns, meter)? {

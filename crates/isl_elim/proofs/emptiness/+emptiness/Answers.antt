@@ -1,9 +1,11 @@
-use Rattle.std.proofs.Common.{◌≡◌, ◌≢◌, ◌<◌, ◌-◌, [], false, arith}
+use Rattle.std.proofs.Common.{◌≡◌, ◌≢◌, ◌↔◌, ◌<◌, ◌-◌, [], false, arith}
 use Rattle.isl_meter.specs.Gauge.{IsCharged}
 use Rattle.isl_meter.proofs.CutLemmas.{IsCharged_trans}
-use Rattle.isl_column.specs.Parts.{AreParts, ArePartsOf, AreNone}
-use Rattle.isl_elim.proofs.EmptinessLaws.{some_column, nowhere_after, some_holds, none_holds, so_far_next}
-use Rattle.isl_elim.proofs.PartsLaws.{part_found, parts_after}
+use Rattle.isl_column.specs.Parts.{ArePartsOf, AreNone}
+use Rattle.isl_elim.specs.Emptiness.{HoldNowhere}
+use Rattle.isl_column.proofs.PartsLemmas.{parts_kept}
+use Rattle.isl_elim.proofs.EmptinessLaws.{some_column, answered_after, head_found, head_holds, head_missing, parts_nowhere, rest_nowhere, some_holds, none_holds, so_far_next}
+use Rattle.isl_elim.proofs.PartsLaws.{part_found, parts_after, proper_kept}
 use Rattle.isl_elim.proofs.emptiness.+emptiness.Goals as goal
 
 pub hold_nowhere-any_column-col-requires : goal.hold_nowhere-any_column-col-requires
@@ -11,17 +13,124 @@ hold_nowhere-any_column-col-requires t c =
     let some : c.args.rows.now ≢ [] = grind arith in
     some_column c.args.meter.now c.args.columns c.args.rows.now c.requires.rows c.requires.normal some
 
+pub hold_nowhere-rest_is_empty-requires : goal.hold_nowhere-rest_is_empty-requires
+hold_nowhere-rest_is_empty-requires t c =
+    let g = c.args.meter.now in
+    let h = c.of.new.meter in
+    let columns = c.args.columns in
+    let col = c.any_column-col.result in
+    let rows = c.args.rows.now in
+    let parts = c.in_ok-parts.parts in
+    let rest = c.take_head.new.self in
+    let inside : col < columns = grind arith in
+    let are : ArePartsOf g columns col rows parts = grind arith in
+    let charged : IsCharged g h = grind arith in
+    let taken = c.take_head.ensures h (columns - 1) (parts_after g h columns col rows parts charged are) in
+    let same = head_missing h (columns - 1) parts rest c.take_head.result (grind arith) taken in
+    let left : HoldNowhere columns rows → AreNone (columns - 1) rest = rw same (parts_nowhere g columns col rows parts inside are).1 in
+    (grind arith, (proper_kept g h columns rows charged c.requires.rows, (omega arith, (rw same (parts_after g h columns col rows parts charged are), left))))
+
+pub hold_nowhere-returns-in_default : goal.hold_nowhere-returns-in_default
+hold_nowhere-returns-in_default t c =
+    let g = c.args.meter.now in
+    let h = c.of.new.meter in
+    let columns = c.args.columns in
+    let col = c.any_column-col.result in
+    let rows = c.args.rows.now in
+    let parts = c.in_ok-parts.parts in
+    let rest = c.take_head.new.self in
+    let inside : col < columns = grind arith in
+    let are : ArePartsOf g columns col rows parts = grind arith in
+    let charged : IsCharged g h = grind arith in
+    let taken = c.take_head.ensures h (columns - 1) (parts_after g h columns col rows parts charged are) in
+    let same = head_missing h (columns - 1) parts rest c.take_head.result (grind arith) taken in
+    let both : AreNone (columns - 1) rest ↔ HoldNowhere columns rows = rw same (parts_nowhere g columns col rows parts inside are) in
+    record {
+      exact = answered_after g h c.rest_is_empty.new.meter (AreNone (columns - 1) rest) (HoldNowhere columns rows) c.rest_is_empty.result both charged
+          c.rest_is_empty.ensures.exact;
+    }
+
+pub hold_nowhere-hold_nowhere-requires : goal.hold_nowhere-hold_nowhere-requires
+hold_nowhere-hold_nowhere-requires t c =
+    let g = c.args.meter.now in
+    let h = c.of.new.meter in
+    let columns = c.args.columns in
+    let col = c.any_column-col.result in
+    let rows = c.args.rows.now in
+    let parts = c.in_ok-parts.parts in
+    let rest = c.take_head.new.self in
+    let inside : col < columns = grind arith in
+    let are : ArePartsOf g columns col rows parts = grind arith in
+    let charged : IsCharged g h = grind arith in
+    let taken = c.take_head.ensures h (columns - 1) (parts_after g h columns col rows parts charged are) in
+    let head = c.in-Some.head in
+    let next = head_found h (columns - 1) parts rest c.take_head.result head (grind arith) taken in
+    (grind arith, (next.proper, next.normal))
+
+pub hold_nowhere-returns-then-not-branch : goal.hold_nowhere-returns-then-not-branch
+hold_nowhere-returns-then-not-branch t c =
+    let g = c.args.meter.now in
+    let h = c.of.new.meter in
+    let columns = c.args.columns in
+    let col = c.any_column-col.result in
+    let rows = c.args.rows.now in
+    let parts = c.in_ok-parts.parts in
+    let rest = c.take_head.new.self in
+    let inside : col < columns = grind arith in
+    let are : ArePartsOf g columns col rows parts = grind arith in
+    let charged : IsCharged g h = grind arith in
+    let taken = c.take_head.ensures h (columns - 1) (parts_after g h columns col rows parts charged are) in
+    let head = c.in-Some.head in
+    let next = head_found h (columns - 1) parts rest c.take_head.result head (grind arith) taken in
+    let answer = c.in_ok-hold_nowhere.ensures.exact in
+    let somewhere : c.in_ok-hold_nowhere.field-0 ≡ false = grind arith in
+    record {
+      exact = head_holds g h h c.hold_nowhere.new.meter columns col rows head parts rest c.in_ok-hold_nowhere.field-0 somewhere inside are next answer.0
+          answer.1 charged;
+    }
+
+pub hold_nowhere-rest_is_empty-requires-2 : goal.hold_nowhere-rest_is_empty-requires-2
+hold_nowhere-rest_is_empty-requires-2 t c =
+    let g = c.args.meter.now in
+    let h = c.of.new.meter in
+    let columns = c.args.columns in
+    let col = c.any_column-col.result in
+    let rows = c.args.rows.now in
+    let parts = c.in_ok-parts.parts in
+    let rest = c.take_head.new.self in
+    let inside : col < columns = grind arith in
+    let are : ArePartsOf g columns col rows parts = grind arith in
+    let charged : IsCharged g h = grind arith in
+    let taken = c.take_head.ensures h (columns - 1) (parts_after g h columns col rows parts charged are) in
+    let head = c.in-Some.head in
+    let next = head_found h (columns - 1) parts rest c.take_head.result head (grind arith) taken in
+    let k = c.hold_nowhere.new.meter in
+    let answer = c.in_ok-hold_nowhere.ensures.exact in
+    let all = IsCharged_trans g h k charged answer.1 in
+    let both = rest_nowhere g h columns col rows head parts rest inside are next (answer.0.0 (grind arith)) in
+    (grind arith, (proper_kept g k columns rows all c.requires.rows, (omega arith, (parts_kept h k (columns - 1) rest answer.1 next.rest, both.1))))
+
 pub hold_nowhere-returns : goal.hold_nowhere-returns
 hold_nowhere-returns t c =
     let g = c.args.meter.now in
     let h = c.of.new.meter in
+    let columns = c.args.columns in
     let col = c.any_column-col.result in
-    let inside : col < c.args.columns = grind arith in
-    let are : ArePartsOf g c.args.columns col c.args.rows.now c.in_ok-parts.parts = grind arith in
+    let rows = c.args.rows.now in
+    let parts = c.in_ok-parts.parts in
+    let rest = c.take_head.new.self in
+    let inside : col < columns = grind arith in
+    let are : ArePartsOf g columns col rows parts = grind arith in
     let charged : IsCharged g h = grind arith in
+    let taken = c.take_head.ensures h (columns - 1) (parts_after g h columns col rows parts charged are) in
+    let head = c.in-Some.head in
+    let next = head_found h (columns - 1) parts rest c.take_head.result head (grind arith) taken in
+    let k = c.hold_nowhere.new.meter in
+    let answer = c.in_ok-hold_nowhere.ensures.exact in
+    let both = rest_nowhere g h columns col rows head parts rest inside are next (answer.0.0 (grind arith)) in
     record {
-      exact = nowhere_after g h c.are_empty.new.meter c.args.columns col c.args.rows.now c.in_ok-parts.parts c.are_empty.result
-          inside are charged c.are_empty.ensures.exact;
+      exact = answered_after g k c.rest_is_empty-2.new.meter (AreNone (columns - 1) rest) (HoldNowhere columns rows) c.rest_is_empty-2.result both
+          (IsCharged_trans g h k charged answer.1) c.rest_is_empty-2.ensures.exact;
     }
 
 pub hold_nowhere-returns-then-columns-eq1 : goal.hold_nowhere-returns-then-columns-eq1
@@ -68,13 +177,3 @@ are_empty-returns t c =
       exact = none_holds g h k c.args.columns c.args.parts c.loop-parts.parts c.loop-parts.invariant none
           c.in_ok-rows.ensures.exact.1;
     }
-
-pub hold_nowhere-are_empty-requires : goal.hold_nowhere-are_empty-requires
-hold_nowhere-are_empty-requires t c =
-    let g = c.args.meter.now in
-    let h = c.of.new.meter in
-    let col = c.any_column-col.result in
-    let are : ArePartsOf g c.args.columns col c.args.rows.now c.in_ok-parts.parts = grind arith in
-    let parts : AreParts h (c.args.columns - 1) c.in_ok-parts.parts =
-    parts_after g h c.args.columns col c.args.rows.now c.in_ok-parts.parts c.in_ok-parts.ensures.exact.1 are in
-    (grind arith, parts)

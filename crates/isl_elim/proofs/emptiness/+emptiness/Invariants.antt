@@ -1,13 +1,16 @@
-use Rattle.std.proofs.Common.{◌+◌, ◌*◌}
+use Rattle.std.proofs.Common.{◌+◌, ◌-◌, ◌*◌}
 use Rattle.isl_column.specs.Parts.{most_parts}
 use Rattle.isl_elim.proofs.EmptinessLaws.{IsSoFar}
 use Rattle.isl_elim.proofs.emptiness.+emptiness.Given as goal
 
 abbrev pub decreases-hold_nowhere : goal.decreases-hold_nowhere
-decreases-hold_nowhere l = 2 * l.columns
+decreases-hold_nowhere l = 3 * l.columns
+
+abbrev pub decreases-rest_is_empty : goal.decreases-rest_is_empty
+decreases-rest_is_empty l = 3 * l.columns - 1
 
 abbrev pub decreases-are_empty : goal.decreases-are_empty
-decreases-are_empty l = 2 * l.columns + 1
+decreases-are_empty l = 3 * l.columns + 1
 
 abbrev pub invariant-are_empty-loop-parts : goal.invariant-are_empty-loop-parts
 invariant-are_empty-loop-parts l = IsSoFar l.fn.meter l.meter l.columns l.fn.parts l.parts
