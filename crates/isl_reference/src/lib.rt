@@ -12,4 +12,4 @@ mod term;
 pub use element::piece_has;
 pub use known::Wrong;
 pub use script::{Cuts, cuts_of};
-pub use system::{all_hold, holds_somewhere, numbered};
+pub use system::{all_hold, holds_somewhere, numbered, system_holds};

@@ -4,7 +4,7 @@ use crate::known::{Known, Wrong, number_of};
 use isl_tree::tree::{Factor, Signed};
 
 /// The greatest whole number that is no greater than the quotient; 0 where nothing is divided by.
-fn floor_of(number: i128, by: i128) -> i128 {
+pub(crate) fn floor_of(number: i128, by: i128) -> i128 {
     number.checked_div_euclid(by).unwrap_or(0)
 }
 

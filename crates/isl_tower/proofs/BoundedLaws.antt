@@ -1,17 +1,16 @@
 -- A system is bounded exactly where the levels of its tower are closed.
-use Rattle.std.proofs.Common.{◌≡◌, ◌≢◌, ◌↔◌, ◌∙◌, ◌⊎◌, inl, inr, refl, sym, ap, subst, arith, ℕ, zero, suc, ◌+◌, ◌-◌, ◌<◌, ◌≤◌, ℤ, pos}
+use Rattle.std.proofs.Common.{◌≡◌, ◌∙◌, inl, inr, sym, ap, subst, arith, ℕ, zero, suc, ◌+◌, ◌-◌, ◌<◌, ◌≤◌, ℤ, pos}
 use Rattle.std.proofs.Common.{unsigned_abs, List, [], ◌∷◌, ◌++◌, length, get_or, take, drop}
-use Rattle.std.specs.List.{All, Any, Contains, insert}
-use Rattle.std.proofs.lemmas.List.{append-nil, append_assoc, length_push, length-append, length-take-le, length-drop, take-append-drop}
+use Rattle.std.specs.List.{All, Contains, insert}
+use Rattle.std.proofs.lemmas.List.{append-nil, append_assoc, length_push, length-append, length-take-le, take-append-drop}
 use Rattle.std.proofs.lemmas.List.{nil_from_length, take_more, take_all}
 use Rattle.std.proofs.lemmas.List.Edits.{insert_end}
-use Rattle.std.proofs.lemmas.List.Elements.{All-nil, All-cons, All-head, All-append, All-weaker}
+use Rattle.std.proofs.lemmas.List.Elements.{All-nil, All-cons, All-head, All-append}
 use Rattle.isl_math.proofs.ListLaws.{Any-contains, All-parts}
 use Rattle.isl_math.proofs.MagnitudeLaws.{IsUpTo}
 use Rattle.isl_meter.specs.Gauge.{Gauge}
 use Rattle.isl_piece.specs.declared.system.System.{System}
 use Rattle.isl_piece.specs.System.{HoldsSystem, IsSystemWithin, free_columns}
-use Rattle.isl_elim.specs.Elimination.{HoldsAtAny}
 use Rattle.isl_elim.specs.Sample.{IsNowhere}
 use Rattle.isl_elim.proofs.ProjectionLaws.{plain_free, plain_holds}
 use Rattle.isl_tower.specs.Bounded.{AreUpTo, IsBounded}

@@ -1,4 +1,5 @@
 pub mod BoundedLaws
 pub mod ClosedLaws
 pub mod EndLaws
+pub mod NumberLaws
 pub mod TowerLaws

@@ -1,9 +1,9 @@
 -- Towers of projections, from the top downwards.
-use Rattle.std.proofs.Common.{◌≡◌, ◌↔◌, ◌∙◌, inl, inr, refl, sym, ap, subst, arith, ℕ, zero, suc, ◌+◌, ◌-◌, ◌<◌, ◌≤◌, ℤ, List, [], ◌∷◌}
+use Rattle.std.proofs.Common.{◌≡◌, ◌↔◌, ◌∙◌, inl, inr, refl, sym, ap, subst, arith, ℕ, zero, suc, ◌+◌, ◌<◌, ℤ, List, [], ◌∷◌}
 use Rattle.std.proofs.Common.{◌++◌, length, get_or, take}
 use Rattle.std.proofs.Common.{Option, Some, None}
 use Rattle.std.specs.Prelude.{map, option_map}
-use Rattle.std.specs.List.{All, Any, insert}
+use Rattle.std.specs.List.{All, insert}
 use Rattle.std.proofs.lemmas.List.{append-nil, append_assoc, length_push, nil_from_length, take_more}
 use Rattle.std.proofs.lemmas.List.Edits.{insert_end}
 use Rattle.std.proofs.lemmas.List.Elements.{All-nil, All-cons, All-head, All-append}
@@ -17,8 +17,8 @@ use Rattle.isl_piece.specs.Normal.{IsNormal, normal_rows, normal_system}
 use Rattle.isl_piece.specs.System.{HoldsSystem, IsSystemWithin, free_columns}
 use Rattle.isl_piece.proofs.RowMagnitudes.{rows_within_kept}
 use Rattle.isl_elim.specs.Dependents.{kept_definitions, narrowed, with_dependents}
-use Rattle.isl_elim.specs.Elimination.{HoldsAtAny, IsProjection, without_from}
-use Rattle.isl_tower.specs.Tower.{BeginsPoint, IsProjectionOnto, IsTowerOf}
+use Rattle.isl_elim.specs.Elimination.{IsProjection, without_from}
+use Rattle.isl_tower.specs.Tower.{BeginsPoint, IsProjectionOnto}
 use Rattle.isl_tower.specs.Level.{AreOver, AreBelow, AreLevels}
 
 -- ---- numbers that begin a point

@@ -1,15 +1,16 @@
 //! Whether systems are bounded.
 
-ghost use Rattle.std.specs.Prelude.{◌≡◌, ◌↔◌, ◌<◌, ◌≤◌, ℕ, [], All, IfOk, IsTrue, MatchResult};
+ghost use Rattle.std.specs.Prelude.{◌≡◌, ◌↔◌, ◌<◌, ◌≤◌, ℕ, [], All, length, IfOk, IsTrue, MatchResult};
 ghost use Rattle.isl_meter.specs.Gauge.{IsCharged, IsCutBy};
 ghost use Rattle.isl_piece.specs.declared.system.System.{System};
 ghost use Rattle.isl_piece.specs.System.{IsSystemWithin, free_columns};
-ghost use Rattle.isl_tower.specs.Bounded.{IsBounded};
+ghost use Rattle.isl_tower.specs.Bounded.{IsBounded, IsBoundedAt};
 ghost use Rattle.isl_tower.specs.Closed.{IsClosed};
 ghost use Rattle.isl_tower.specs.Tower.{IsTower, IsTowerOf};
 
 use crate::Tower;
 use crate::ends::{has_lower_end, has_upper_end};
+use crate::numbers::system_at;
 use isl_elim::is_empty;
 use isl_meter::{Cut, Meter};
 use isl_piece::System;
@@ -94,4 +95,26 @@ pub fn is_bounded(
 {
     let tower = Tower::of(alloc, system, outer, meter)?;
     tower.is_bounded(alloc, meter)
+}
+
+/// Whether the system, in which no column is defined, is bounded where its first columns have these numbers: whether some number
+/// bounds the magnitudes of the others at all points that they begin.
+///
+/// # Errors
+///
+/// `Overflow` where a number passes the limit of the meter, `Budget` where its units are used up, and `NoMemory`.
+pub fn is_bounded_at(
+    alloc: Global,
+    system: &System,
+    numbers: &[i128],
+    meter: &mut Meter,
+) -> Result<bool, Cut>
+    requires well_formed { IsSystemWithin meter.old system.now }
+    requires plain { system.now.definitions ≡ [] }
+    requires numbers_in { length numbers.now ≤ free_columns system.now }
+    ensures exact { IfOk result (λ bounded. IsTrue bounded ↔ IsBoundedAt system.now numbers.now) }
+    ensures meter { MatchResult result (λ _. IsCharged meter.old meter.new) (IsCutBy meter.old meter.new) }
+{
+    let left = system_at(alloc, system, numbers, meter)?;
+    is_bounded(alloc, &left, 0, meter)
 }

@@ -4,7 +4,8 @@
 mod bounded;
 mod ends;
 mod level;
+mod numbers;
 mod tower;
 
-pub use bounded::is_bounded;
+pub use bounded::{is_bounded, is_bounded_at};
 pub use tower::Tower;

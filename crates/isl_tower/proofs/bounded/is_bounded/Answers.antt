@@ -1,4 +1,4 @@
-use Rattle.std.proofs.Common.{◌≡◌, ◌↔◌, ℕ, Bool}
+use Rattle.std.proofs.Common.{◌↔◌, ℕ, Bool}
 use Rattle.std.specs.Prelude.{IsTrue}
 use Rattle.isl_piece.specs.declared.system.System.{System}
 use Rattle.isl_elim.proofs.ProjectionLaws.{if_ok}

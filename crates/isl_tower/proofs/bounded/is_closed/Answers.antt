@@ -1,6 +1,4 @@
 use Rattle.std.proofs.Common.{◌≡◌, ◌-◌, arith}
-use Rattle.isl_piece.specs.declared.row.Row.{Row}
-use Rattle.std.specs.Prelude.{List}
 use Rattle.isl_piece.specs.System.{free_columns}
 use Rattle.isl_tower.specs.Ends.{HasLowerEnd, HasUpperEnd}
 use Rattle.isl_tower.proofs.ClosedLaws.{closed_where_empty, not_true}

@@ -1,6 +1,5 @@
 use Rattle.std.proofs.Common.{◌≡◌, ◌<◌, ◌≤◌, [], length, get_or, arith, subst, true, false}
 use Rattle.std.specs.List.{All}
-use Rattle.std.proofs.lemmas.Grind.{common_steps}
 use Rattle.isl_meter.specs.Gauge.{IsCharged}
 use Rattle.isl_meter.proofs.CutLemmas.{IsCharged_trans}
 use Rattle.isl_tower.specs.Closed.{IsClosed}

@@ -1,7 +1,7 @@
-use Rattle.std.proofs.Common.{◌≡◌, ◌+◌, ◌-◌, ◌<◌, ◌≤◌, ◌∷◌, [], ℕ, List, refl, arith, length}
+use Rattle.std.proofs.Common.{◌≡◌, ◌+◌, ◌-◌, ◌<◌, ◌∷◌, [], ℕ, List, arith, length}
 use Rattle.std.specs.List.{insert}
 use Rattle.std.proofs.lemmas.Grind.{common_steps}
-use Rattle.isl_meter.specs.Gauge.{Gauge, IsCharged}
+use Rattle.isl_meter.specs.Gauge.{Gauge}
 use Rattle.isl_meter.proofs.CutLemmas.{IsCharged_trans}
 use Rattle.isl_piece.specs.System.{free_columns}
 use Rattle.isl_tower.specs.Level.{AreLevels}

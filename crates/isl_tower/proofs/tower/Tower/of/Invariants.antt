@@ -1,6 +1,5 @@
-use Rattle.std.proofs.Common.{◌≡◌, ◌≤◌, ◌<◌, length}
+use Rattle.std.proofs.Common.{◌≤◌, ◌<◌, length}
 use Rattle.isl_meter.specs.Gauge.{IsCharged}
-use Rattle.isl_piece.specs.System.{free_columns}
 use Rattle.isl_tower.specs.Level.{AreLevels}
 use Rattle.isl_tower.proofs.tower.Tower.of.Given as goal
 

@@ -1,0 +1,9 @@
+use Rattle.std.proofs.Common.{◌≡◌, map, take}
+use Rattle.std.specs.List.{All}
+use Rattle.isl_piece.specs.declared.row.Row.{Row}
+use Rattle.isl_meter.specs.Gauge.{IsWithin}
+use Rattle.isl_tower.specs.Numbers.{row_at}
+use Rattle.isl_tower.proofs.numbers.system_at.Given as goal
+
+abbrev pub invariant-loop-row : goal.invariant-loop-row
+invariant-loop-row l = (l.rows ≡ map (row_at l.numbers) (take l.row-index l.system.rows)) × All (λ (r : Row). IsWithin l.fn.meter r.constant) l.rows × (l.meter ≡ l.fn.meter)
