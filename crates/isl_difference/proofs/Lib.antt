@@ -1,0 +1,6 @@
+pub mod BoundLaws
+pub mod DifferenceLaws
+pub mod LiveLaws
+pub mod PartitionLaws
+pub mod RowCases
+pub mod SplitLaws

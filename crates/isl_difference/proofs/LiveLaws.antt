@@ -1,0 +1,55 @@
+-- Normal systems that have a point.
+use Rattle.std.proofs.Common.{◌≡◌, ◌↔◌, refl, ◌∙◌, sym, arith, Bool, false, ℤ, List, [], ◌∷◌, ◌++◌, append-nil}
+use Rattle.std.specs.Prelude.{IsTrue, Option, Some, None, option_map}
+use Rattle.isl_meter.specs.Gauge.{Gauge}
+use Rattle.isl_piece.specs.declared.row.Row.{Row}
+use Rattle.isl_piece.specs.declared.system.System.{System}
+use Rattle.isl_piece.specs.Normal.{IsNormal, normal_rows, normal_system}
+use Rattle.isl_piece.specs.System.{HoldsSystem, IsSystemWithin, free_columns}
+use Rattle.isl_elim.specs.Sample.{IsNowhere}
+use Rattle.isl_difference.specs.Split.{IsLive, IsLiveFormOf, IsPushed}
+use Rattle.isl_difference.proofs.PartitionLaws.{partition_none, partition_one}
+
+pub not_true : (b : Bool) → b ≡ false → IsTrue b → ⊥
+not_true b e t = grind arith
+
+normal_free : (s kept : System) → Some kept ≡ normal_system s → free_columns kept ≡ free_columns s
+normal_free s kept e = by (normal_rows s.rows) e
+  where
+    by : (found : Option (List Row)) → Some kept ≡ option_map (λ rows. record { columns = s.columns; definitions = s.definitions; rows = rows }) found → free_columns kept ≡ free_columns s
+    by None e = absurd (cc)
+    by (Some rows) e = let f : kept ≡ record { columns = s.columns; definitions = s.definitions; rows = rows } = cc in rw f refl
+
+pub normal_nowhere : (s kept : System) → Some kept ≡ normal_system s → ((point : List ℤ) → HoldsSystem kept point ↔ HoldsSystem s point)
+    → IsNowhere (free_columns kept) (HoldsSystem kept) → IsNowhere (free_columns s) (HoldsSystem s)
+normal_nowhere s kept e same none point l h = none point (l ∙ sym (normal_free s kept e)) ((same point).1 h)
+
+pub normal_live : (g : Gauge) (s kept : System) → Some kept ≡ normal_system s → ((point : List ℤ) → HoldsSystem kept point ↔ HoldsSystem s point)
+    → IsSystemWithin g kept → IsNormal kept.rows → ¬ IsNowhere (free_columns kept) (HoldsSystem kept) → IsLiveFormOf g s kept
+normal_live g s kept e same w n some = record {
+  live = record {
+    free = normal_free s kept e;
+    within = w;
+    normal = n;
+    somewhere = λ none. some (λ point l h. none point (l ∙ normal_free s kept e) h);
+  };
+  points = same;
+}
+
+pub pushed_none : (g : Gauge) (s : System) (old new : List System) → new ≡ old → IsNowhere (free_columns s) (HoldsSystem s) → IsPushed g s old new
+pushed_none g s old new e none = record {
+  added = [];
+  is = e ∙ sym (append-nil old);
+  few = omega arith;
+  partition = partition_none (IsLive g (free_columns s)) (free_columns s) (HoldsSystem s) none;
+}
+
+pub pushed_some : (g : Gauge) (s part : System) (old new : List System) → new ≡ old ++ part ∷ [] → IsLiveFormOf g s part → IsPushed g s old new
+pushed_some g s part old new e f = record {
+  added = part ∷ [];
+  is = e;
+  few = omega arith;
+  partition = partition_one (IsLive g (free_columns s)) (free_columns s) (HoldsSystem s) part f.live (λ point l. f.points point);
+}
+
+pub ruleset live_steps = (pushed_none, pushed_some)

@@ -1,0 +1,361 @@
+-- A system split by rows.
+use Rattle.std.proofs.Common.{◌≡◌, ◌↔◌, ◌⊎◌, inl, inr, refl, sym, ap, ◌∙◌, subst, arith, ℕ, zero, suc, ◌+◌, ◌<◌, ◌≤◌, ℤ, negsuc}
+use Rattle.std.proofs.Common.{List, [], ◌∷◌, ◌++◌, length, get_or, take, length-append}
+use Rattle.std.specs.List.{All, Any, AllPairs}
+use Rattle.std.proofs.lemmas.List.{take_more}
+use Rattle.std.proofs.lemmas.List.Elements.{All-nil, All-cons, All-append, All-push, All-head, All-weaker, All-take}
+use Rattle.isl_math.proofs.ListLaws.{All-parts, All-last, Any-parts, Any-left, Any-right, Any-one, Any-first, Any-none}
+use Rattle.isl_meter.specs.Gauge.{Gauge, IsCharged, IsWithin}
+use Rattle.isl_meter.proofs.CutLemmas.{IsCharged_refl, IsCharged_trans, IsCharged-unit, charges}
+use Rattle.isl_piece.specs.declared.row.Row.{Row}
+use Rattle.isl_piece.specs.declared.definition.Definition.{Definition}
+use Rattle.isl_piece.specs.declared.system.System.{System}
+use Rattle.isl_piece.specs.Definition.{with_defined, IsDefinition, AreDefinitions}
+use Rattle.isl_math.proofs.Ring.{linear}
+use Rattle.isl_math.proofs.DotLaws.{dot-scaled}
+use Rattle.isl_piece.specs.declared.row.RowKind.{RowKind}
+use Rattle.isl_piece.specs.declared.row.RowKind.TheVariants.{Zero, AtLeast, Divides, NotDivides}
+use Rattle.isl_piece.specs.Negation.{above, below, negated_form, negation_of}
+use Rattle.isl_piece.specs.Row.{HoldsRow, IsWellFormed, IsRowWithin}
+use Rattle.isl_piece.specs.System.{HoldRows, HoldsSystem, IsSystemWithin, free_columns}
+use Rattle.isl_piece.proofs.RowMagnitudes.{row_within_kept, rows_within_kept}
+use Rattle.isl_elim.proofs.PartsLaws.{charged_bits}
+use Rattle.isl_difference.specs.Bounds.{ImplyRow}
+use Rattle.isl_difference.specs.Difference.{IsPartition}
+use Rattle.isl_difference.specs.Split.{AreExclusive, ArePaidBy, and_rows, HoldsBut, HoldsWithAny, IsLive, IsPushed}
+use Rattle.isl_difference.proofs.PartitionLaws.{any_before, partition_none, partition_append, partition_same, partition_each}
+use Rattle.isl_difference.proofs.RowCases.{rows_cases}
+
+-- ---- the limit at another time
+definitions_kept : (g h : Gauge) (columns : ℕ) (definitions : List Definition) → h.bits ≡ g.bits → AreDefinitions h columns definitions
+    → AreDefinitions g columns definitions
+definitions_kept g h columns [] e a = tt
+definitions_kept g h columns (d ∷ definitions) e a = (by a.0, definitions_kept g h (suc columns) definitions e a.1)
+  where
+    by : IsDefinition h columns d → IsDefinition g columns d
+    by f = record {
+      width = f.width;
+      modulus = f.modulus;
+      coefs = All-weaker (IsWithin h) (IsWithin g) (λ z v. rw e at v) d.coefs f.coefs;
+      constant = rw e at f.constant;
+      k = rw e at f.k;
+    }
+
+pub system_kept : (g h : Gauge) (s : System) → h.bits ≡ g.bits → IsSystemWithin h s → IsSystemWithin g s
+system_kept g h s e w = record {
+  rows = w.rows;
+  within = rows_within_kept g h s.rows e w.within;
+  count = w.count;
+  definitions = definitions_kept g h (free_columns s) s.definitions e w.definitions;
+}
+
+pub live_kept : (g h : Gauge) (columns : ℕ) (s : System) → h.bits ≡ g.bits → IsLive h columns s → IsLive g columns s
+live_kept g h columns s e p = record { free = p.free; within = system_kept g h s e p.within; normal = p.normal; somewhere = p.somewhere }
+
+-- ---- more rows
+pub and_rows_hold : (s : System) (rows : List Row) (point : List ℤ)
+    → HoldsSystem (and_rows s rows) point ↔ (HoldsSystem s point × HoldRows rows (with_defined s.definitions point))
+and_rows_hold s rows point =
+    let P : Row → Type 0 = λ r. HoldsRow r (with_defined s.definitions point) in
+    ((λ h. All-parts P s.rows rows h), (λ h. All-append P s.rows rows h.0 h.1))
+
+pub and_rows_within : (g : Gauge) (s : System) (rows : List Row) → IsSystemWithin g s → All (IsWellFormed s.columns) rows
+    → All (IsRowWithin g) rows → IsSystemWithin g (and_rows s rows)
+and_rows_within g s rows w f i = record {
+  rows = All-append (IsWellFormed s.columns) s.rows rows w.rows f;
+  within = All-append (IsRowWithin g) s.rows rows w.within i;
+  count = w.count;
+  definitions = w.definitions;
+}
+
+one_row : (r : Row) (xs : List ℤ) → HoldRows (r ∷ []) xs ↔ HoldsRow r xs
+one_row r xs = let P : Row → Type 0 = λ s. HoldsRow s xs in ((λ h. All-head P r [] h), (λ h. All-cons P r [] h (All-nil P)))
+
+-- ---- the rows of a negation, one after another
+pub record IsFailing (g h : Gauge) (s : System) (done : List Row) (parts : List System) : Type 0 where
+  pub charged : IsCharged g h
+  pub paid : ArePaidBy g h done parts
+  pub partition : IsPartition (IsLive g (free_columns s)) (free_columns s) (HoldsWithAny s done) parts
+
+pub failing_first : (g : Gauge) (s : System) (parts : List System) → parts ≡ [] → IsFailing g g s [] parts
+failing_first g s parts e = record {
+  charged = IsCharged_refl g g refl;
+  paid = rw e (record { few = omega arith; units = omega arith });
+  partition = rw e (partition_none (IsLive g (free_columns s)) (free_columns s) (HoldsWithAny s []) (λ point l h. Any-none (λ (r : Row). HoldsRow r (with_defined s.definitions point)) h.1));
+}
+
+-- a row that none of those before it holds with
+exclusive_at : (rows : List Row) (i : ℕ) (r : Row) (xs : List ℤ) → AreExclusive rows → i < length rows → r ≡ get_or rows i r
+    → Any (λ s. HoldsRow s xs) (take i rows) → ¬ HoldsRow r xs
+exclusive_at rows i r xs e l is a h =
+    let x = any_before (λ (t : Row). HoldsRow t xs) (λ (s t : Row). (ys : List ℤ) → HoldsRow s ys → ¬ HoldsRow t ys) rows i r e.apart l is a in
+    x.2 xs x.1 h
+
+module _ (g h j k : Gauge) (s : System) (denied : List Row) (i : ℕ) (r : Row) (parts : List System)
+    (exclusive : AreExclusive denied) (inside : i < length denied) (is : r ≡ get_or denied i r)
+    (so_far : IsFailing g h s (take i denied) parts) (unit : j ≡ record h { units = h.units + 1 }) (charged : IsCharged j k) where
+  all_charged : IsCharged g k
+  all_charged = IsCharged_trans g j k (IsCharged_trans g h j so_far.charged (IsCharged-unit h j unit)) charged
+
+  abbrev free : ℕ
+  free = free_columns s
+
+  abbrev Next : List ℤ → Type 0
+  Next point = HoldsSystem s point × HoldsRow r (with_defined s.definitions point)
+
+  more : take (i + 1) denied ≡ take i denied ++ r ∷ []
+  more = take_more denied i r inside ∙ ap (λ (t : Row). take i denied ++ t ∷ []) (sym is)
+
+  joined : (new : List System) → IsPartition (IsLive g free) free Next new
+      → IsPartition (IsLive g free) free (HoldsWithAny s (take (i + 1) denied)) (parts ++ new)
+  joined new p =
+      rw more (partition_same (IsLive g free) free (λ point. HoldsWithAny s (take i denied) point ⊎ Next point) (HoldsWithAny s (take i denied ++ r ∷ [])) (parts ++ new)
+      (λ point l. let P : Row → Type 0 = λ t. HoldsRow t (with_defined s.definitions point) in (
+        (λ x. elim x [ inl y ↦ (y.0, Any-left P (take i denied) (r ∷ []) y.1) | inr z ↦ (z.0, Any-right P (take i denied) (r ∷ []) (Any-first P r [] z.1)) ]),
+        (λ x. elim (Any-parts P (take i denied) (r ∷ []) x.1) [ inl y ↦ inl (x.0, y) | inr z ↦ inr (x.0, Any-one P r z) ]),
+      ))
+      (partition_append (IsLive g free) free (HoldsWithAny s (take i denied)) Next parts new so_far.partition p
+      (λ point l x y. exclusive_at denied i r (with_defined s.definitions point) exclusive inside is x.1 y.1)))
+
+  more_paid : (new : List System) → length new ≤ 1 → ArePaidBy g k (take i denied ++ r ∷ []) (parts ++ new)
+  more_paid new one =
+      let few = so_far.paid.few in
+      let units = so_far.paid.units in
+      let next : j.units ≡ h.units + 1 = ap (λ (x : Gauge). x.units) unit in
+      let later = charged.units in
+      let all : length (parts ++ new) ≡ length parts + length new = length-append parts new in
+      let rows : length (take i denied ++ r ∷ []) ≡ length (take i denied) + 1 = length-append (take i denied) (r ∷ []) in
+      record { few = omega arith; units = omega arith }
+
+  next_point : (point : List ℤ) → HoldsSystem (and_rows s (r ∷ [])) point ↔ Next point
+  next_point point =
+      let both = and_rows_hold s (r ∷ []) point in
+      let one = one_row r (with_defined s.definitions point) in
+      ((λ x. let y = both.0 x in (y.0, one.0 y.1)), (λ x. both.1 (x.0, one.1 x.1)))
+
+  pub failing_more : (newer : List System) → IsPushed j (and_rows s (r ∷ [])) parts newer → IsFailing g k s (take (i + 1) denied) newer
+  failing_more newer p = record {
+    charged = all_charged;
+    paid = rw (p.is, more) (more_paid p.added p.few);
+    partition = rw (p.is) (joined p.added
+        (partition_same (IsLive g free) free (HoldsSystem (and_rows s (r ∷ []))) Next p.added (λ point l. next_point point)
+        (partition_each (IsLive j free) (IsLive g free) free (HoldsSystem (and_rows s (r ∷ []))) p.added
+        (λ t q. live_kept g j free t (charged_bits g j (IsCharged_trans g h j so_far.charged (IsCharged-unit h j unit))) q)
+        p.partition)));
+  }
+
+-- the rows that were paid for are those of the negation
+pub paid_all : (g h k : Gauge) (rows denied : List Row) (parts : List System) → h ≡ g → denied ≡ rows → ArePaidBy h k denied parts
+    → ArePaidBy g k rows parts
+paid_all g h k rows denied parts e f p = rw (e, f) at p
+
+-- all rows of a negation
+pub failing_all : (g : Gauge) (s : System) (row : Row) (denied : List Row) (parts : List System)
+    → ((point : List ℤ) → Any (λ r. HoldsRow r point) denied ↔ (¬ HoldsRow row point))
+    → IsPartition (IsLive g (free_columns s)) (free_columns s) (HoldsWithAny s denied) parts
+    → IsPartition (IsLive g (free_columns s)) (free_columns s) (HoldsBut s (row ∷ [])) parts
+failing_all g s row denied parts same p =
+    partition_same (IsLive g (free_columns s)) (free_columns s) (HoldsWithAny s denied) (HoldsBut s (row ∷ [])) parts
+    (λ point l. let full = with_defined s.definitions point in (
+      (λ x. (x.0, λ all. (same full).0 x.1 ((one_row row full).0 all))),
+      (λ x. (x.0, (same full).1 (λ one. x.1 ((one_row row full).1 one)))),
+    ))
+    p
+
+-- ---- one row after another
+pub record IsSplitBy (g h : Gauge) (s : System) (done : List Row) (rest : System) (parts : List System) : Type 0 where
+  pub charged : IsCharged g h
+  pub paid : g.units + length parts ≤ h.units
+  pub columns : rest.columns ≡ s.columns
+  pub definitions : rest.definitions ≡ s.definitions
+  pub within : IsSystemWithin h rest
+  pub points : (point : List ℤ) → HoldsSystem rest point ↔ (HoldsSystem s point × HoldRows done (with_defined s.definitions point))
+  pub partition : IsPartition (IsLive g (free_columns s)) (free_columns s) (HoldsBut s done) parts
+
+pub split_first : (g : Gauge) (s rest : System) (parts : List System) → IsSystemWithin g s → rest ≡ s → parts ≡ []
+    → IsSplitBy g g s [] rest parts
+split_first g s rest parts w e n = rw (e, n) (record {
+  charged = IsCharged_refl g g refl;
+  paid = omega arith;
+  columns = refl;
+  definitions = refl;
+  within = w;
+  points = λ point. ((λ h. (h, All-nil (λ (r : Row). HoldsRow r (with_defined s.definitions point)))), (λ h. h.0));
+  partition = partition_none (IsLive g (free_columns s)) (free_columns s) (HoldsBut s []) (λ point l h. h.1 (All-nil (λ (r : Row). HoldsRow r (with_defined s.definitions point))));
+})
+
+module _ (g h : Gauge) (s : System) (done : List Row) (r : Row) (rest : System) (parts : List System) (so_far : IsSplitBy g h s done rest parts) where
+  abbrev full : List ℤ → List ℤ
+  full point = with_defined s.definitions point
+
+  abbrev columns : ℕ
+  columns = free_columns s
+
+  free_same : free_columns rest ≡ free_columns s
+  free_same = let n = ap (length {A = Definition}) so_far.definitions in let m = so_far.columns in omega arith
+
+  -- the rest at the full point of the system
+  there : (point : List ℤ) → HoldsSystem rest point → HoldRows rest.rows (full point)
+  there point x = subst (λ ds. HoldRows rest.rows (with_defined ds point)) so_far.definitions x
+
+  all_but : (point : List ℤ) → HoldRows (done ++ r ∷ []) (full point) → HoldRows done (full point) × HoldsRow r (full point)
+  all_but point x = All-last (λ (t : Row). HoldsRow t (full point)) done r x
+
+  all_with : (point : List ℤ) → HoldRows done (full point) → HoldsRow r (full point) → HoldRows (done ++ r ∷ []) (full point)
+  all_with point x y = All-push (λ (t : Row). HoldsRow t (full point)) done r x y
+
+  pub split_given : ImplyRow rest.rows r → IsSplitBy g h s (done ++ r ∷ []) rest parts
+  split_given implied = record {
+    charged = so_far.charged;
+    paid = so_far.paid;
+    columns = so_far.columns;
+    definitions = so_far.definitions;
+    within = so_far.within;
+    points = λ point. (
+      (λ x. let y = (so_far.points point).0 x in (y.0, all_with point y.1 (implied.holds (full point) (there point x)))),
+      (λ y. (so_far.points point).1 (y.0, (all_but point y.1).0)),
+    );
+    partition = partition_same (IsLive g columns) columns (HoldsBut s done) (HoldsBut s (done ++ r ∷ [])) parts
+        (λ point l. (
+          (λ x. (x.0, λ all. x.1 (all_but point all).0)),
+          (λ x. (x.0, λ all. x.1 (all_with point all (implied.holds (full point) (there point ((so_far.points point).1 (x.0, all))))))),
+        ))
+        so_far.partition;
+  }
+
+  module _ (k : Gauge) (new : List System) (rest2 : System) (parts2 : List System) (charged : IsCharged h k) (paid : ArePaidBy h k (negation_of r) new) (formed : All (IsWellFormed s.columns) (done ++ r ∷ [])) (row_within : IsRowWithin h r)
+      (failing : IsPartition (IsLive h (free_columns rest)) (free_columns rest) (HoldsBut rest (r ∷ [])) new) where
+    abbrev Failing : List ℤ → Type 0
+    Failing point = HoldsSystem rest point × (¬ HoldsRow r (full point))
+
+    forms : All (IsWellFormed s.columns) done × IsWellFormed s.columns r
+    forms = All-last (IsWellFormed s.columns) done r formed
+
+    new_parts : IsPartition (IsLive g columns) columns Failing new
+    new_parts =
+        let one : (point : List ℤ) → HoldsBut rest (r ∷ []) point ↔ Failing point = λ point. (
+          (λ x. (x.0, λ y. x.1 (subst (λ ds. HoldRows (r ∷ []) (with_defined ds point)) (sym so_far.definitions) ((one_row r (full point)).1 y)))),
+          (λ x. (x.0, λ y. x.1 ((one_row r (full point)).0 (subst (λ ds. HoldRows (r ∷ []) (with_defined ds point)) so_far.definitions y)))),
+        ) in
+        let here = subst (λ n. IsPartition (IsLive h n) n (HoldsBut rest (r ∷ [])) new) free_same failing in
+        partition_same (IsLive g columns) columns (HoldsBut rest (r ∷ [])) Failing new (λ point l. one point)
+        (partition_each (IsLive h columns) (IsLive g columns) columns (HoldsBut rest (r ∷ [])) new (λ t p. live_kept g h columns t (charged_bits g h so_far.charged) p) here)
+
+    both_parts : IsPartition (IsLive g columns) columns (HoldsBut s (done ++ r ∷ [])) (parts ++ new)
+    both_parts =
+        partition_same (IsLive g columns) columns (λ point. HoldsBut s done point ⊎ Failing point) (HoldsBut s (done ++ r ∷ [])) (parts ++ new)
+        (λ point l. (
+          (λ x. elim x [
+            | inl y ↦ (y.0, λ all. y.1 (all_but point all).0)
+            | inr z ↦ (((so_far.points point).0 z.0).0, λ all. z.1 (all_but point all).1)
+          ]),
+          (λ x. elim (rows_cases s.columns done (full point) forms.0) [
+            | inl all ↦ inr ((so_far.points point).1 (x.0, all), λ one. x.1 (all_with point all one))
+            | inr some ↦ inl (x.0, some)
+          ]),
+        ))
+        (partition_append (IsLive g columns) columns (HoldsBut s done) Failing parts new so_far.partition new_parts
+        (λ point l x y. x.1 ((so_far.points point).0 y.0).1))
+
+    more_within : IsSystemWithin k (and_rows rest (r ∷ []))
+    more_within =
+        let one = subst (λ n. IsWellFormed n r) (sym so_far.columns) forms.1 in
+        system_kept k h (and_rows rest (r ∷ [])) (sym (charged_bits h k charged))
+        (and_rows_within h rest (r ∷ []) so_far.within (All-cons (IsWellFormed rest.columns) r [] one (All-nil (IsWellFormed rest.columns))) (All-cons (IsRowWithin h) r [] row_within (All-nil (IsRowWithin h))))
+
+    more_points : (point : List ℤ)
+        → HoldsSystem (and_rows rest (r ∷ [])) point ↔ (HoldsSystem s point × HoldRows (done ++ r ∷ []) (full point))
+    more_points point =
+        let both = and_rows_hold rest (r ∷ []) point in (
+          (λ x. let y = both.0 x in let z = (so_far.points point).0 y.0 in
+              (z.0, all_with point z.1 ((one_row r (full point)).0 (subst (λ ds. HoldRows (r ∷ []) (with_defined ds point)) so_far.definitions y.1)))),
+          (λ x. let y = all_but point x.1 in
+              both.1 ((so_far.points point).1 (x.0, y.0), subst (λ ds. HoldRows (r ∷ []) (with_defined ds point)) (sym so_far.definitions) ((one_row r (full point)).1 y.1))),
+        )
+
+    all_paid : g.units + length (parts ++ new) ≤ k.units
+    all_paid =
+        let before = so_far.paid in
+        let few = paid.few in
+        let units = paid.units in
+        let all : length (parts ++ new) ≡ length parts + length new = length-append parts new in
+        omega arith
+
+    pub split_more : rest2 ≡ and_rows rest (r ∷ []) → parts2 ≡ parts ++ new → IsSplitBy g k s (done ++ r ∷ []) rest2 parts2
+    split_more e f = rw (e, f) (record {
+      charged = IsCharged_trans g h k so_far.charged charged;
+      paid = all_paid;
+      columns = so_far.columns;
+      definitions = so_far.definitions;
+      within = more_within;
+      points = more_points;
+      partition = both_parts;
+    })
+
+-- ---- what calls ask for
+pub charged_within : (g h : Gauge) (s : System) → IsCharged g h → IsSystemWithin g s → IsSystemWithin h s
+charged_within g h s c w = system_kept h g s (sym (charged_bits g h c)) w
+
+pub row_formed : (columns : ℕ) (rows : List Row) (i : ℕ) (r : Row) → All (IsWellFormed columns) rows → i < length rows
+    → r ≡ get_or rows i r → IsWellFormed columns r
+row_formed columns rows i r f l is = rw is (f i r l)
+
+pub row_within : (g h : Gauge) (rows : List Row) (i : ℕ) (r : Row) → IsCharged g h → All (IsRowWithin g) rows → i < length rows
+    → r ≡ get_or rows i r → IsRowWithin h r
+row_within g h rows i r c w l is = rw is (row_within_kept h g (get_or rows i r) (sym (charged_bits g h c)) (w i r l))
+
+pub both_within : (g h : Gauge) (s : System) (rows : List Row) (i : ℕ) (r : Row) (both : System) → IsCharged g h → IsSystemWithin g s
+    → All (IsWellFormed s.columns) rows → All (IsRowWithin g) rows → i < length rows → r ≡ get_or rows i r
+    → both ≡ and_rows s (r ∷ []) → IsSystemWithin h both
+both_within g h s rows i r both c w f n l is e =
+    let one = row_formed s.columns rows i r f l is in
+    let now = system_kept h g s (sym (charged_bits g h c)) w in
+    rw e (and_rows_within h s (r ∷ []) now (All-cons (IsWellFormed s.columns) r [] one (All-nil (IsWellFormed s.columns)))
+    (All-cons (IsRowWithin h) r [] (row_within g h rows i r c n l is) (All-nil (IsRowWithin h))))
+
+pub failing_within : (g h j : Gauge) (s : System) (rows : List Row) (i : ℕ) (r : Row) (both : System) (parts : List System)
+    → IsFailing g h s (take i rows) parts → j ≡ record h { units = h.units + 1 } → IsSystemWithin g s → All (IsWellFormed s.columns) rows
+    → All (IsRowWithin g) rows → i < length rows → r ≡ get_or rows i r → both ≡ and_rows s (r ∷ []) → IsSystemWithin j both
+failing_within g h j s rows i r both parts f u w formed within l is e =
+    both_within g j s rows i r both (IsCharged_trans g h j f.charged (IsCharged-unit h j u)) w formed within l is e
+
+-- ---- the rows of a negation
+negation_exclusive : (r : Row) → AreExclusive (negation_of r)
+negation_exclusive r = record { apart = by r.kind r.coefs r.constant r.k }
+  where
+    two : (cs : List ℤ) (c : ℤ) (xs : List ℤ) → HoldsRow (above cs c) xs → ¬ HoldsRow (below cs c) xs
+    two cs c xs h k = let e = dot-scaled (negsuc 0) cs xs in omega (arith, linear)
+
+    by : (kind : RowKind) (cs : List ℤ) (c k : ℤ) → AllPairs (λ a b. (xs : List ℤ) → HoldsRow a xs → ¬ HoldsRow b xs) (negated_form kind cs c k)
+    by Zero cs c k zero zero d low inside = absurd (omega arith)
+    by Zero cs c k zero (suc zero) d low inside = λ xs h n. two cs c xs h n
+    by Zero cs c k zero (suc (suc j)) d low inside = absurd (omega arith)
+    by Zero cs c k (suc i) j d low inside = absurd (omega arith)
+    by AtLeast cs c k i j d low inside = absurd (omega arith)
+    by Divides cs c k i j d low inside = absurd (omega arith)
+    by NotDivides cs c k i j d low inside = absurd (omega arith)
+
+pub denied_exclusive : (r : Row) (denied : List Row) → denied ≡ negation_of r → AreExclusive denied
+denied_exclusive r denied e = rw e (negation_exclusive r)
+
+-- ---- the same, at a place among the rows
+module _ (g h : Gauge) (s : System) (rows : List Row) (i : ℕ) (r : Row) (rest : System) (parts : List System) (inside : i < length rows) (is : r ≡ get_or rows i r) (so_far : IsSplitBy g h s (take i rows) rest parts) where
+  next_rows : take (i + 1) rows ≡ take i rows ++ r ∷ []
+  next_rows = take_more rows i r inside ∙ ap (λ (t : Row). take i rows ++ t ∷ []) (sym is)
+
+  pub given_at : ImplyRow rest.rows r → IsSplitBy g h s (take (i + 1) rows) rest parts
+  given_at implied = rw next_rows (split_given g h s (take i rows) r rest parts so_far implied)
+
+  pub more_at : (k : Gauge) (new : List System) (rest2 : System) (parts2 : List System) → All (IsWellFormed s.columns) rows
+      → All (IsRowWithin g) rows → IsCharged h k → ArePaidBy h k (negation_of r) new
+      → IsPartition (IsLive h (free_columns rest)) (free_columns rest) (HoldsBut rest (r ∷ [])) new → rest2 ≡ and_rows rest (r ∷ []) → parts2 ≡ parts ++ new → IsSplitBy g k s (take (i + 1) rows) rest2 parts2
+  more_at k new rest2 parts2 formed within charged paid failing e f =
+      rw next_rows (split_more g h s (take i rows) r rest parts so_far k new rest2 parts2 charged paid (rw next_rows at (All-take (IsWellFormed s.columns) (i + 1) rows formed))
+      (row_within g h rows i r so_far.charged within inside is) failing e f)
+
+  pub rest_formed : All (IsWellFormed s.columns) rows → IsWellFormed rest.columns r
+  rest_formed f = subst (λ n. IsWellFormed n r) (sym so_far.columns) (row_formed s.columns rows i r f inside is)
+
+pub ruleset failing_steps = (charges, failing_first, failing_more, failing_within, denied_exclusive)
+
+pub ruleset split_steps = (charges, split_first, row_within, rest_formed, given_at, more_at)

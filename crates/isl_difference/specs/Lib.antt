@@ -1,0 +1,4 @@
+pub mod Bounds
+pub mod Difference
+pub mod Split
+pub use Rattle.isl_difference.specs.Difference

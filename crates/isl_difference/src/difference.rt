@@ -1,0 +1,250 @@
+//! One system without others.
+
+ghost use Rattle.std.specs.Prelude.{◌≡◌, ◌≢◌, ◌+◌, ◌≤◌, ◌∷◌, [], All, AllPairs, IfOk, IfSome, IsTrue, MatchOption, MatchResult, length};
+ghost use Rattle.isl_meter.specs.Gauge.{Gauge, IsCharged, IsCutBy};
+ghost use Rattle.isl_piece.specs.System.{HoldsSystem, IsSystemWithin, free_columns};
+ghost use Rattle.isl_elim.specs.Sample.{IsNowhere};
+ghost use Rattle.isl_difference.specs.Difference.{AreDisjoint, IsCounted, IsCovered, IsDifference, IsPartition};
+ghost use Rattle.isl_difference.specs.Split.{frame_of, AreAligned, AreLiveParts, ArePaid, HoldsBeside, IsLeftOfAny};
+
+use crate::bounds::{are_apart, are_implied};
+use crate::live::is_nowhere;
+use crate::split::split;
+use isl_meter::{Cut, Meter};
+use isl_piece::{Rows, System, meet};
+use std::alloc::{AllocError, Global};
+
+// The system without its rows.
+fn frame(alloc: Global, system: &System) -> Result<System, AllocError>
+    ensures { IfOk result (λ made. made ≡ frame_of system.now) }
+{
+    Ok(System {
+        columns: system.columns,
+        definitions: system.definitions.copy(alloc)?,
+        rows: Rows::new(alloc),
+    })
+}
+
+// Live parts of the system in which the other one, over the same columns, does not hold; none where no point is in both.
+// One unit is used where the rows as they are written do not tell, and then those of `split`.
+#[tactic(auto, using(std::proofs::lemmas::Grind::common_steps, crate::proofs::DifferenceLaws::aligned_steps))]
+fn parts_aligned(
+    alloc: Global,
+    system: &System,
+    other: &System,
+    meter: &mut Meter,
+) -> Result<Option<Vec<System>>, Cut>
+    requires within { IsSystemWithin meter.old system.now }
+    requires other_within { IsSystemWithin meter.old other.now }
+    requires columns { other.now.columns ≡ system.now.columns }
+    requires definitions { other.now.definitions ≡ system.now.definitions }
+    ensures exact { MatchResult result
+        (λ found. MatchOption found (AreDisjoint (free_columns system.now) system.now other.now)
+        (λ parts. AreLiveParts meter.old system.now other.now parts.items)
+        × IsCharged meter.old meter.new)
+        (IsCutBy meter.old meter.new) }
+    ensures paid { IfOk result (λ found. IfSome found (λ parts. ArePaid meter.old meter.new parts.items)) }
+{
+    if are_implied(system.rows.as_slice(), other.rows.as_slice()) {
+        return Ok(Some(Vec::new(alloc)));
+    }
+    if are_apart(system.rows.as_slice(), other.rows.as_slice()) {
+        return Ok(None);
+    }
+    meter.unit()?;
+    let both = meet(alloc, system, other)?;
+    if is_nowhere(alloc, &both, meter)? {
+        return Ok(None);
+    }
+    let parts = split(alloc, system, &other.rows, meter)?;
+    Ok(Some(parts))
+}
+
+// Two systems over the same columns.
+#[derive(Drop)]
+struct Aligned {
+    wide: System,
+    moved: System,
+}
+
+// The two systems over the columns of both.
+fn align(alloc: Global, system: &System, other: &System) -> Result<Aligned, AllocError>
+    requires columns { free_columns other.now ≡ free_columns system.now }
+    requires different { system.now.definitions ≢ other.now.definitions }
+    ensures { (g : Gauge) → IsSystemWithin g system.now → IsSystemWithin g other.now
+        → IfOk result (λ both. AreAligned g system.now other.now both.wide both.moved) }
+{
+    let other_frame = frame(alloc, other)?;
+    let own_frame = frame(alloc, system)?;
+    let wide = meet(alloc, system, &other_frame)?;
+    let moved = meet(alloc, &own_frame, other)?;
+    Ok(Aligned { wide, moved })
+}
+
+// The same as `parts_outside`, where the definitions differ.
+fn parts_moved(
+    alloc: Global,
+    system: &System,
+    other: &System,
+    meter: &mut Meter,
+) -> Result<Option<Vec<System>>, Cut>
+    requires within { IsSystemWithin meter.old system.now }
+    requires other_within { IsSystemWithin meter.old other.now }
+    requires columns { free_columns other.now ≡ free_columns system.now }
+    requires different { system.now.definitions ≢ other.now.definitions }
+    ensures exact { MatchResult result
+        (λ found. MatchOption found (AreDisjoint (free_columns system.now) system.now other.now)
+        (λ parts. AreLiveParts meter.old system.now other.now parts.items)
+        × IsCharged meter.old meter.new)
+        (IsCutBy meter.old meter.new) }
+    ensures paid { IfOk result (λ found. IfSome found (λ parts. ArePaid meter.old meter.new parts.items)) }
+{
+    let both = align(alloc, system, other)?;
+    match parts_aligned(alloc, &both.wide, &both.moved, meter)? {
+        None => Ok(None),
+        Some(parts) => Ok(Some(parts)),
+    }
+}
+
+// Live parts of the system in which the other does not hold; none where no point is in both.
+#[tactic(auto, using(std::proofs::lemmas::Grind::common_steps, crate::proofs::DifferenceLaws::outside_steps))]
+fn parts_outside(
+    alloc: Global,
+    system: &System,
+    other: &System,
+    meter: &mut Meter,
+) -> Result<Option<Vec<System>>, Cut>
+    requires within { IsSystemWithin meter.old system.now }
+    requires other_within { IsSystemWithin meter.old other.now }
+    requires columns { free_columns other.now ≡ free_columns system.now }
+    ensures exact { MatchResult result
+        (λ found. MatchOption found (AreDisjoint (free_columns system.now) system.now other.now)
+        (λ parts. AreLiveParts meter.old system.now other.now parts.items)
+        × IsCharged meter.old meter.new)
+        (IsCutBy meter.old meter.new) }
+    ensures paid { IfOk result (λ found. IfSome found (λ parts. ArePaid meter.old meter.new parts.items)) }
+{
+    if system.definitions.same(&other.definitions) {
+        return parts_aligned(alloc, system, other, meter);
+    }
+    parts_moved(alloc, system, other, meter)
+}
+
+/// What is left of the system without the other one: disjoint systems over its free columns, each with a point where the system
+/// has one. Both may have defined columns. Where no point is in both this is the system itself.
+///
+/// No unit is used where the rows, as they are written, say that nothing is left, or that no point is in both; else one for
+/// the question whether a point is in both, and one for each row of the negation of a row of the other.
+///
+/// # Errors
+///
+/// `Overflow` where a number passes the limit of the meter, `Budget` where its units are used up, and `NoMemory`.
+#[tactic(auto, using(std::proofs::lemmas::Grind::common_steps, crate::proofs::DifferenceLaws::subtract_steps))]
+pub fn subtract(
+    alloc: Global,
+    system: &System,
+    other: &System,
+    meter: &mut Meter,
+) -> Result<Vec<System>, Cut>
+    requires within { IsSystemWithin meter.old system.now }
+    requires other_within { IsSystemWithin meter.old other.now }
+    requires columns { free_columns other.now ≡ free_columns system.now }
+    ensures exact { MatchResult result
+        (λ left. IsDifference meter.old system.now (other.now ∷ []) left.items × IsCharged meter.old meter.new)
+        (IsCutBy meter.old meter.new) }
+    ensures counted { IfOk result (λ left. IsCounted meter.old meter.new system.now left.items) }
+{
+    match parts_outside(alloc, system, other, meter)? {
+        Some(parts) => Ok(parts),
+        None => whole(alloc, system),
+    }
+}
+
+// A list of the system alone.
+fn whole(alloc: Global, system: &System) -> Result<Vec<System>, Cut>
+    ensures { MatchResult result (λ left. left.items ≡ system.now ∷ []) (λ cut. cut ≡ Cut.NoMemory) }
+{
+    let mut left = Vec::new(alloc);
+    left.push(system.copy(alloc)?)?;
+    Ok(left)
+}
+
+// What is left of disjoint systems without the other one.
+#[tactic(auto, using(std::proofs::lemmas::Grind::common_steps, crate::proofs::DifferenceLaws::beside_steps))]
+fn all_without(
+    alloc: Global,
+    systems: &[System],
+    other: &System,
+    meter: &mut Meter,
+) -> Result<Vec<System>, Cut>
+    requires within { All (IsSystemWithin meter.old) systems.now }
+    requires other_within { IsSystemWithin meter.old other.now }
+    requires columns { All (λ s. free_columns s ≡ free_columns other.now) systems.now }
+    requires disjoint { AllPairs (AreDisjoint (free_columns other.now)) systems.now }
+    ensures exact { MatchResult result
+        (λ left. IsPartition (IsLeftOfAny meter.old systems.now) (free_columns other.now) (HoldsBeside systems.now other.now) left.items
+        × IsCharged meter.old meter.new)
+        (IsCutBy meter.old meter.new) }
+    ensures counted { IfOk result (λ left. length left.items + meter.old.units ≤ meter.new.units + length systems.now) }
+{
+    let mut left = Vec::new(alloc);
+    for system in systems {
+        let mut parts = subtract(alloc, system, other, meter)?;
+        left.append(&mut parts)?;
+    }
+    Ok(left)
+}
+
+/// What is left of the system without all of the others, as by `subtract` for one after another.
+///
+/// # Errors
+///
+/// `Overflow` where a number passes the limit of the meter, `Budget` where its units are used up, and `NoMemory`.
+#[tactic(auto, using(std::proofs::lemmas::Grind::common_steps, crate::proofs::DifferenceLaws::each_steps))]
+pub fn outside(
+    alloc: Global,
+    system: &System,
+    others: &[System],
+    meter: &mut Meter,
+) -> Result<Vec<System>, Cut>
+    requires within { IsSystemWithin meter.old system.now }
+    requires others_within { All (IsSystemWithin meter.old) others.now }
+    requires columns { All (λ other. free_columns other ≡ free_columns system.now) others.now }
+    ensures exact { MatchResult result
+        (λ left. IsDifference meter.old system.now others.now left.items × IsCharged meter.old meter.new)
+        (IsCutBy meter.old meter.new) }
+    ensures counted { IfOk result (λ left. length left.items + meter.old.units ≤ meter.new.units + 1) }
+{
+    let mut left = whole(alloc, system)?;
+    for other in others {
+        if left.is_empty() {
+            return Ok(left);
+        }
+        left = all_without(alloc, &left, other, meter)?;
+    }
+    Ok(left)
+}
+
+/// Whether each point of the system is one of the others. Of a system without a point the answer may be no.
+///
+/// # Errors
+///
+/// `Overflow` where a number passes the limit of the meter, `Budget` where its units are used up, and `NoMemory`.
+#[tactic(auto, using(std::proofs::lemmas::Grind::common_steps, crate::proofs::DifferenceLaws::covered_steps))]
+pub fn is_covered(
+    alloc: Global,
+    system: &System,
+    others: &[System],
+    meter: &mut Meter,
+) -> Result<bool, Cut>
+    requires within { IsSystemWithin meter.old system.now }
+    requires others_within { All (IsSystemWithin meter.old) others.now }
+    requires columns { All (λ other. free_columns other ≡ free_columns system.now) others.now }
+    ensures covered { IfOk result (λ covered. IsTrue covered → IsCovered system.now others.now) }
+    ensures only { ¬ IsNowhere (free_columns system.now) (HoldsSystem system.now)
+        → IfOk result (λ covered. IsCovered system.now others.now → IsTrue covered) }
+    ensures meter { MatchResult result (λ _. IsCharged meter.old meter.new) (IsCutBy meter.old meter.new) }
+{
+    let left = outside(alloc, system, others, meter)?;
+    Ok(left.is_empty())
+}

@@ -1,0 +1,61 @@
+//! Normal systems that have a point.
+
+ghost use Rattle.std.specs.Prelude.{◌≡◌, ◌↔◌, IfOk, IsTrue, MatchOption, MatchResult};
+ghost use Rattle.isl_meter.specs.Gauge.{IsCharged, IsCutBy};
+ghost use Rattle.isl_piece.specs.System.{HoldsSystem, IsSystemWithin, free_columns};
+ghost use Rattle.isl_elim.specs.Sample.{IsNowhere};
+ghost use Rattle.isl_difference.specs.Split.{IsLiveFormOf, IsPushed};
+
+use isl_elim::is_empty;
+use isl_meter::{Cut, Meter};
+use isl_piece::{System, normalise};
+use std::alloc::Global;
+
+// Whether the system holds at no point.
+pub(crate) fn is_nowhere(alloc: Global, system: &System, meter: &mut Meter) -> Result<bool, Cut>
+    requires { IsSystemWithin meter.old system.now }
+    ensures { MatchResult result
+        (λ empty. (IsTrue empty ↔ IsNowhere (free_columns system.now) (HoldsSystem system.now)) × IsCharged meter.old meter.new)
+        (IsCutBy meter.old meter.new) }
+{
+    is_empty(alloc, system, meter)
+}
+
+// The system in its normal form; none where it holds at no point.
+fn live(alloc: Global, system: System, meter: &mut Meter) -> Result<Option<System>, Cut>
+    requires { IsSystemWithin meter.old system }
+    ensures { MatchResult result
+        (λ found. MatchOption found (IsNowhere (free_columns system) (HoldsSystem system)) (IsLiveFormOf meter.old system)
+        × IsCharged meter.old meter.new)
+        (IsCutBy meter.old meter.new) }
+{
+    let Some(normal) = normalise(alloc, system, meter)? else {
+        return Ok(None);
+    };
+    if is_nowhere(alloc, &normal, meter)? {
+        return Ok(None);
+    }
+    Ok(Some(normal))
+}
+
+/// Puts the system in its normal form to the others, where it has a point.
+#[tactic(auto, using(std::proofs::lemmas::Grind::common_steps, crate::proofs::LiveLaws::live_steps))]
+pub(crate) fn push_live(
+    alloc: Global,
+    system: System,
+    systems: &mut Vec<System>,
+    meter: &mut Meter,
+) -> Result<(), Cut>
+    requires { IsSystemWithin meter.old system }
+    ensures { MatchResult result
+        (λ _. IsPushed meter.old system systems.old.items systems.new.items × IsCharged meter.old meter.new)
+        (IsCutBy meter.old meter.new) }
+{
+    match live(alloc, system, meter)? {
+        None => Ok(()),
+        Some(part) => {
+            systems.push(part)?;
+            Ok(())
+        }
+    }
+}
