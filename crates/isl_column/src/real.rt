@@ -60,7 +60,8 @@ fn bounds_shadow(
     requires rows { All (IsProper meter.old columns) rows.now }
     requires col_in { col < columns }
     requires none { ¬ HasEquality col rows.now }
-    ensures exact { IsDoneFor (pairs_on col rows.now) meter.old meter.new (IsImplied meter.old (columns - 1) (HoldAtSome rows.now col)) result }
+    ensures exact { IsDoneFor (pairs_on col rows.now) meter.old meter.new
+        (IsImplied meter.old (columns - 1) (HoldAtSome rows.now col)) result }
     ensures left { on_side Side.Divides col rows.now ≡ [] → IfOk result (λ left. left ≡ exact_rows rows.now col) }
 {
     let sides = Sides::of(alloc, rows, columns, col, meter)?;
@@ -92,7 +93,8 @@ pub fn real_shadow(
     ensures meter { MatchResult result (λ _. IsCharged meter.old meter.new) (IsCutBy meter.old meter.new) }
     ensures equality { HasEquality col rows.now → IsDone meter.old meter.new (λ left. left ≡ solved_rows rows.now col) result }
     ensures pairs { ¬ HasEquality col rows.now → IsDoneFor (pairs_on col rows.now) meter.old meter.new (λ _. Unit {0}) result }
-    ensures real_rows { ¬ HasEquality col rows.now → on_side Side.Divides col rows.now ≡ [] → IfOk result (λ left. left ≡ exact_rows rows.now col) }
+    ensures real_rows { ¬ HasEquality col rows.now → on_side Side.Divides col rows.now ≡ []
+        → IfOk result (λ left. left ≡ exact_rows rows.now col) }
 {
     if let Some(at) = equality_at(rows, columns, col, meter) {
         return solved_left(alloc, rows, at, columns, col, meter);
