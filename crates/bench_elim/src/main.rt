@@ -1,5 +1,5 @@
 //! Takes a column out of a system again and again, or asks whether the system is empty, to be timed: `bench_elim KIND COUNT`, where
-//! KIND is `stencil`, `skewed`, `remainder`, `nested` or `incongruent`. It prints how many systems a turn answered (of an
+//! KIND is `stencil`, `skewed`, `remainder`, `nested`, `incongruent` or `crossed`. It prints how many systems a turn answered (of an
 //! emptiness: 1 where there is a point), and how many units it used.
 #![tactic(auto)]
 
@@ -15,8 +15,8 @@ use std::alloc::{AllocError, AllocGlobal, Global};
 use std::env;
 use std::env::Env;
 use std::process::ExitCode;
-use systems::{incongruent, nested, remainder, skewed, stencil};
-use tests_made::is_proper;
+use systems::system_of_kind;
+use tests_made::system_of;
 
 /// What a turn answered, and what it used.
 #[derive(Clone, Copy)]
@@ -68,27 +68,24 @@ fn turns(alloc: Global, system: &System, col: Option<usize>, count: u64) -> Resu
     Ok(last)
 }
 
-// The system of a kind, and the column that is taken out of it; none where its emptiness is asked.
-fn system_of(alloc: Global, kind: &str) -> Result<(System, Option<usize>), AllocError> {
+// The column that a kind takes out; none where its emptiness is asked.
+fn column_of(kind: &str) -> Option<usize> {
     match kind {
-        "stencil" => Ok((stencil(alloc)?, Some(3))),
-        "skewed" => Ok((skewed(alloc)?, Some(0))),
-        "remainder" => Ok((remainder(alloc)?, Some(0))),
-        "nested" => Ok((nested(alloc)?, Some(0))),
-        _ => Ok((incongruent(alloc)?, None)),
+        "stencil" => Some(3),
+        "skewed" | "remainder" | "nested" => Some(0),
+        _ => None,
     }
 }
 
 fn timed(alloc: Global, kind: &str, count: u64) -> Result<Turn, Cut> {
-    let (system, col) = system_of(alloc, kind)?;
+    let (text, free) = system_of_kind(alloc, kind)?;
     let meter = Meter::new(127, 10_000_000);
-    if is_proper(&system, &meter) {
-        turns(alloc, &system, col, count)
-    } else {
-        Ok(Turn {
+    match system_of(alloc, &text, free, ("defined ", "row "), &meter)? {
+        Some(system) => turns(alloc, &system, column_of(kind), count),
+        None => Ok(Turn {
             systems: 0,
             units: 0,
-        })
+        }),
     }
 }
 

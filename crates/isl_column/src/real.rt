@@ -57,7 +57,8 @@ fn bounds_shadow(
 ) -> Result<Option<Rows>, Cut>
     requires rows { All (IsProper meter.old column.columns) rows.now }
     requires none { ¬ HasEquality column.at rows.now }
-    ensures exact { IsDoneFor (pairs_on column.at rows.now) meter.old meter.new (IsImplied meter.old (column.columns - 1) (HoldAtSome rows.now column.at)) result }
+    ensures exact { IsDoneFor (pairs_on column.at rows.now) meter.old meter.new
+        (IsImplied meter.old (column.columns - 1) (HoldAtSome rows.now column.at)) result }
     ensures left { on_side Side.Divides column.at rows.now ≡ [] → IfOk result (λ left. left ≡ exact_rows rows.now column.at) }
 {
     let sides = Sides::of(alloc, rows, column, meter)?;
