@@ -3,4 +3,5 @@
 set -eu -o pipefail
 cd "$(dirname "${BASH_SOURCE[0]}")"
 ./elimination.sh
+./statements.sh | tail -n +2
 ./literals.sh | tail -n +2

@@ -11,5 +11,6 @@ pub mod RowLaws
 pub mod WorkedLaws
 pub mod PassLaws
 pub mod ValueLaws
+pub mod UnitLaws
 pub mod DepthLaws
 pub mod StepLaws

@@ -166,14 +166,3 @@ literals_at P (other ∷ links) zero link low is some =
     any_left P (literals_of other.operand) (links_literals links) (subst (λ (l : Link). Any P (literals_of l.operand)) is some)
 literals_at P (other ∷ links) (suc i) link low is some =
     any_right P (literals_of other.operand) (links_literals links) (literals_at P links i link (omega (arith, low)) is some)
-
-pub quiet_at : (test : Part → Bool) (links : List Link) (i : ℕ) (link : Link) → i < length links → link ≡ get_or links i link → list_any test (parts_of_links links) ≡ false
-    → (test (part.operator link.operator) ≡ false) × (list_any test (parts_of link.operand) ≡ false)
-quiet_at test [] i link low is none = absurd (omega (arith, low))
-quiet_at test (other ∷ links) zero link low is none =
-    let sign = or_parts (test (part.operator other.operator)) (list_any test (parts_of other.operand ++ parts_of_links links)) none in
-    let now = quiet_both test (parts_of other.operand) (parts_of_links links) sign.1 in
-    subst (λ (l : Link). (test (part.operator l.operator) ≡ false) × (list_any test (parts_of l.operand) ≡ false)) (sym is) (sign.0, now.0)
-quiet_at test (other ∷ links) (suc i) link low is none =
-    let sign = or_parts (test (part.operator other.operator)) (list_any test (parts_of other.operand ++ parts_of_links links)) none in
-    quiet_at test links i link (omega (arith, low)) is (quiet_both test (parts_of other.operand) (parts_of_links links) sign.1).1

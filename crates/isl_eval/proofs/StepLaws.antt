@@ -1,8 +1,7 @@
 -- One step: what is answered, and what is refused.
-use Rattle.std.proofs.Common.{◌≡◌, ◌≢◌, ◌∙◌, ◌⊎◌, inl, inr, refl, sym, ap, subst, ◌<◌, ◌≤◌, ◌-◌, ◌^◌, ℕ, ℤ, pos, Bool, true, false, List, [], ◌∷◌, ◌++◌, length, Option, Some, None, Result, Ok, Err, arith}
+use Rattle.std.proofs.Common.{◌≡◌, ◌≢◌, ◌∙◌, ◌⊎◌, inl, inr, refl, sym, ap, subst, ◌<◌, ◌≤◌, ◌+◌, ◌-◌, ◌^◌, ℕ, ℤ, pos, Bool, true, false, List, [], ◌∷◌, ◌++◌, length, Option, Some, None, Result, Ok, Err, arith}
 use Rattle.std.specs.Prelude.{IfOk, IfErr, MatchResult}
-use Rattle.std.specs.List.{All, list_any}
-use Rattle.std.proofs.lemmas.Bool.{false_from_ne_true}
+use Rattle.std.specs.List.{All}
 use Rattle.isl_meter.specs.Gauge.{Gauge, limit_of, overflown, spent_out, IsCharged, IsKept}
 use Rattle.isl_meter.proofs.CutLemmas.{IsCharged_refl, IsKept_refl, IsKept_trans, IsKept-overflown, IsKept-spent_out, IsKept-charged}
 use Rattle.isl_space.specs.Limits.{most_parameters}
@@ -17,18 +16,18 @@ use Rattle.isl_expr.specs.Expr.{statement_literals}
 use Rattle.isl_kinds.specs.declared.types.Purpose.{Purpose}
 use Rattle.isl_kinds.specs.declared.types.Purpose.TheVariants as purpose
 use Rattle.isl_kinds.specs.Typed.{TypeView, ScopeView, takes, has_unknown, has_no_item, kind_of, declared_of, kind_for, with_params, type_for, found, type_of_statement, Answers as TypeAnswers}
-use Rattle.isl_kinds.specs.Parts.{parts_of_statement}
 use Rattle.isl_lower.specs.Value.{IsWellFormedLiteral}
 use Rattle.isl_simple.specs.Unsupported.{is_unsupported, mixes_kinds}
 use Rattle.isl_eval.specs.State.{Kept, Moment, StateView, Binds, scope_of, Fits}
-use Rattle.isl_eval.specs.Spelled.{BytesSpell, OfStatement}
-use Rattle.isl_eval.specs.Causes.{Cause, no_token, too_deep, no_statement, too_wide, wide_number, unsupported, unknown_name, wrong_kind, no_element, mixed_kinds, wide_join, causes, refusal_of, statement_declared, IsThere, FirstGives, NoneIs, IsValid, Refuses, SparesUnits, uses_units, HasWork}
+use Rattle.isl_eval.specs.Spelled.{OfStatement}
+use Rattle.isl_eval.specs.Causes.{Cause, no_token, too_deep, no_statement, too_wide, wide_number, unsupported, unknown_name, wrong_kind, no_element, mixed_kinds, wide_join, causes, refusal_of, statement_declared, IsThere, FirstGives, NoneIs, IsValid, Refuses, IsWithinUnits}
+use Rattle.isl_eval.specs.Units.{units_of, statement_units}
 use Rattle.isl_eval.specs.Selection.{Keeps}
 use Rattle.isl_eval.specs.Machine.{Answer, Step, Answers, shown}
 use Rattle.isl_eval.specs.declared.step.Tally.{Tally}
 use Rattle.isl_eval.specs.declared.eval.Work.{Work}
 use Rattle.isl_eval.specs.declared.eval.Work.TheVariants as work
-use Rattle.isl_eval.specs.Evaluation.{causes_of_bytes, IsRead, IsWhyNot, IsTyped, IsWorkable, IsWhyUnworkable, IsReady, IsOfType, IsWork, IsWhyUnmade, IsWhyUnworked, Does}
+use Rattle.isl_eval.specs.Evaluation.{causes_of_bytes, IsRead, IsWhyNot, IsTyped, IsWorkable, IsWhyUnworkable, IsReady, IsOfType, IsWork, IsWhyUnmade, IsWhyUnworked, UsesUpTo, Does}
 use Rattle.isl_eval.proofs.CauseLaws.{of_statement, is_not}
 use Rattle.isl_eval.proofs.StateLaws.{fits_bound}
 use Rattle.isl_eval.proofs.ValueLaws.{same_limit}
@@ -111,6 +110,27 @@ pub none_typed : (before : Moment) (stmt : Stmt) → type_of_statement (scope_of
 none_typed before Empty e = tt
 none_typed before (Bind name expr) e = absurd (found_some (type_for purpose.Bound (scope_of before.state) expr) e)
 none_typed before (Show expr) e = absurd (found_some (type_for purpose.Shown (scope_of before.state) expr) e)
+
+-- a statement without an expression uses none
+pub none_used : (state : StateView) (stmt : Stmt) (g : Gauge) → type_of_statement (scope_of state) stmt ≡ Ok None → g.units ≡ g.units + statement_units state stmt
+none_used state Empty g e = omega arith
+none_used state (Bind name expr) g e = absurd (found_some (type_for purpose.Bound (scope_of state) expr) e)
+none_used state (Show expr) g e = absurd (found_some (type_for purpose.Shown (scope_of state) expr) e)
+
+-- what is not to be worked out uses none, and its units do not end
+not_budget : (refusal : Refusal) → (refusal ≡ r.UnknownName) ⊎ ((refusal ≡ r.WrongKind) ⊎ (refusal ≡ r.NoElement)) → ¬ (refusal ≡ r.Budget)
+not_budget refusal (inl e) budget = let f : r.UnknownName ≡ r.Budget = sym e ∙ budget in cc
+not_budget refusal (inr (inl e)) budget = let f : r.WrongKind ≡ r.Budget = sym e ∙ budget in cc
+not_budget refusal (inr (inr e)) budget = let f : r.NoElement ≡ r.Budget = sym e ∙ budget in cc
+
+unworkable_budget : (scope : ScopeView) (stmt : Stmt) (refusal : Refusal) → IsWhyUnworkable scope stmt refusal → ¬ (refusal ≡ r.Budget)
+unworkable_budget scope stmt refusal (inl h) budget = not_budget refusal (no_type scope stmt refusal h) budget
+unworkable_budget scope stmt refusal (inr (inl h)) budget = let f : r.Syntax ≡ r.Budget = sym h.2 ∙ budget in cc
+unworkable_budget scope stmt refusal (inr (inr (inl h))) budget = let f : r.TooWide ≡ r.Budget = sym h.3 ∙ budget in cc
+unworkable_budget scope stmt refusal (inr (inr (inr h))) budget = let f : r.NoMemory ≡ r.Budget = sym h ∙ budget in cc
+
+pub unworkable_up_to : (scope : ScopeView) (stmt : Stmt) (refusal : Refusal) (n : ℕ) (g : Gauge) → IsWhyUnworkable scope stmt refusal → UsesUpTo n g g refusal
+unworkable_up_to scope stmt refusal n g why = (omega arith, λ budget. absurd (unworkable_budget scope stmt refusal why budget))
 
 -- what is to be worked out is ready
 pub show_ready : (scope : ScopeView) (expr : Expr) (t : TypeView) → is_unsupported (Show expr) ≡ false → All IsWellFormedLiteral (statement_literals (Show expr))
@@ -210,7 +230,7 @@ module _ (before : Moment) (bytes : List ℕ) (now : Gauge) (same : now ≡ befo
       subst (Refuses before bytes now) (sym cause.1) (by_cause cause.0 (subst Why cause.1 h))
 
   pub memory_refuses : (refusal : Refusal) → refusal ≡ r.NoMemory → Refuses before bytes now refusal
-  memory_refuses refusal is = subst (Refuses before bytes now) (sym is) (IsCharged_refl before.meter now same, λ none. ap (λ (g : Gauge). g.units) same)
+  memory_refuses refusal is = subst (Refuses before bytes now) (sym is) (IsCharged_refl before.meter now same, inl (ap (λ (g : Gauge). g.units) same))
 
 pub unread_refuses : (before : Moment) (bytes : List ℕ) (refusal : Refusal) → IsWhyNot before bytes refusal → Refuses before bytes before.meter refusal
 unread_refuses before bytes refusal (inl is) = memory_refuses before bytes before.meter refl refusal is
@@ -224,10 +244,6 @@ none_both There (cause ∷ front) back none later = (none.0, none_both There fro
 first_past : (There : Cause → Type 0) (front back : List Cause) (refusal : Refusal) → NoneIs There front → FirstGives There back refusal → FirstGives There (front ++ back) refusal
 first_past There [] back refusal none later = later
 first_past There (cause ∷ front) back refusal none later = inr (none.0, first_past There front back refusal none.1 later)
-
--- ---- units
-pub no_work : (bytes : List ℕ) (stmt : Stmt) → BytesSpell bytes stmt → ¬ OfStatement bytes HasWork → list_any uses_units (parts_of_statement stmt) ≡ false
-no_work bytes stmt spelled none = false_from_ne_true (list_any uses_units (parts_of_statement stmt)) (λ work. none (stmt, spelled, work))
 
 -- ---- a statement that was read
 module _ (before : Moment) (bytes : List ℕ) (stmt : Stmt) (read : IsRead before bytes stmt) where
@@ -294,41 +310,30 @@ module _ (before : Moment) (bytes : List ℕ) (stmt : Stmt) (read : IsRead befor
       first_refuses before bytes now same refusal (typed_cause refusal h.0 (inr (unmixed_none h.1, inl ((stmt, read.spelled, h.2), h.3))))
   unworkable_refuses now refusal same (inr (inr (inr h))) = memory_refuses before bytes now same refusal h
 
-  -- units are said of the parts, and of the statement
-  abbrev Spares : Gauge → Type 0
-  Spares now = list_any uses_units (parts_of_statement stmt) ≡ false → now.units ≡ before.meter.units
+  -- units are said of the statement
+  within : (now : Gauge) → now.units ≤ before.meter.units + statement_units before.state stmt → IsWithinUnits before bytes now
+  within now most = inr (stmt, read.spelled, most)
 
-  spares : (now : Gauge) → Spares now → SparesUnits before bytes now
-  spares now free = λ none. free (no_work bytes stmt read.spelled none)
-
-  -- units end only where some are used
-  has_work : (refusal : Refusal) → refusal ≡ r.Budget → (list_any uses_units (parts_of_statement stmt) ≡ false → refusal ≢ r.Budget) → OfStatement bytes HasWork
-  has_work refusal is unspent = by (list_any uses_units (parts_of_statement stmt)) refl
-    where
-      by : (b : Bool) → list_any uses_units (parts_of_statement stmt) ≡ b → OfStatement bytes HasWork
-      by true works = (stmt, read.spelled, works)
-      by false none = absurd (unspent none is)
-
-  pub unworked_refuses : (now : Gauge) (refusal : Refusal) → IsWhyUnworked (scope_of before.state) stmt before.meter now refusal → Spares now
-      → (list_any uses_units (parts_of_statement stmt) ≡ false → refusal ≢ r.Budget) → Refuses before bytes now refusal
-  unworked_refuses now refusal (inl h) free unspent = unworkable_refuses now refusal h.1 h.0
-  unworked_refuses now refusal (inr h) free unspent = by h.1
+  pub unworked_refuses : (now : Gauge) (refusal : Refusal) → IsWhyUnworked (scope_of before.state) stmt before.meter now refusal
+      → UsesUpTo (statement_units before.state stmt) before.meter now refusal → Refuses before bytes now refusal
+  unworked_refuses now refusal (inl h) used = unworkable_refuses now refusal h.1 h.0
+  unworked_refuses now refusal (inr h) used = by h.1
     where
       by : IsWhyUnmade (statement_literals stmt) before.meter now refusal → Refuses before bytes now refusal
-      by (inl g) = subst (Refuses before bytes now) (sym g.0) (valid h.0, (stmt, read.spelled, g.1), g.2, spares now free)
-      by (inr (inl g)) = subst (Refuses before bytes now) (sym g.0) (valid h.0, has_work refusal g.0 unspent, g.1, g.2)
-      by (inr (inr g)) = subst (Refuses before bytes now) (sym g.0) (g.1, spares now free)
+      by (inl g) = subst (Refuses before bytes now) (sym g.0) (valid h.0, (stmt, read.spelled, g.1), g.2, within now used.0)
+      by (inr (inl g)) = subst (Refuses before bytes now) (sym g.0) (valid h.0, (stmt, read.spelled, used.1 g.0), g.1, g.2)
+      by (inr (inr g)) = subst (Refuses before bytes now) (sym g.0) (g.1, within now used.0)
 
   -- ---- it is worked out
   pub answers : (after : Moment) (w : Work) (answer : Answer) → IsWorkable (scope_of before.state) stmt → IsWork before stmt w → Does w before.state after.state answer
-      → IsCharged before.meter after.meter → Spares after.meter → Answers before bytes after answer
-  answers after w answer able is does meter free = record {
+      → IsCharged before.meter after.meter → after.meter.units ≡ before.meter.units + statement_units before.state stmt → Answers before bytes after answer
+  answers after w answer able is does meter used = record {
     valid = valid able;
     stmt = stmt;
     spelled = read.spelled;
     step = step stmt w is does;
     meter = meter;
-    units = λ none. free (false_from_ne_true (list_any uses_units (parts_of_statement stmt)) none);
+    units = used;
   }
     where
       step : (stmt : Stmt) (w : Work) → IsWork before stmt w → Does w before.state after.state answer → Step before stmt after answer
@@ -345,9 +350,9 @@ module _ (before : Moment) (bytes : List ℕ) (stmt : Stmt) (read : IsRead befor
 -- an expression is shown
 pub show_answers : (before : Moment) (bytes : List ℕ) (expr : Expr) → IsRead before bytes (Show expr) → (after : Moment) (kept : Kept) (answer : Answer) → IsWorkable (scope_of before.state) (Show expr)
     → Keeps before expr kept → after.state ≡ before.state → answer ≡ shown kept.value → IsCharged before.meter after.meter
-    → (list_any uses_units (parts_of_statement (Show expr)) ≡ false → after.meter.units ≡ before.meter.units) → Answers before bytes after answer
-show_answers before bytes expr read after kept answer able keeps same is meter free =
-    answers before bytes (Show expr) read after (work.Show kept) answer able keeps (same, is) meter free
+    → after.meter.units ≡ before.meter.units + units_of before.state expr → Answers before bytes after answer
+show_answers before bytes expr read after kept answer able keeps same is meter used =
+    answers before bytes (Show expr) read after (work.Show kept) answer able keeps (same, is) meter used
 
 -- ---- what is bound stays within the limit
 pub work_fits : (before : Moment) (stmt : Stmt) (w : Work) (next : StateView) (answer : Answer) → Fits (limit_of before.meter) before.state → IsWork before stmt w → Does w before.state next answer
@@ -371,12 +376,12 @@ Performs w old text new all result = MatchResult result
 
 module _ (before : Moment) (bytes : List ℕ) (stmt : Stmt) (read : IsRead before bytes stmt) (now : Gauge) (w : Work)
     (made : IsWorkable (scope_of before.state) stmt × IsWork before stmt w × IsCharged before.meter now) (text : List ℕ) (next : StateView) (all : List ℕ)
-    (free : list_any uses_units (parts_of_statement stmt) ≡ false → now.units ≡ before.meter.units) where
+    (used : now.units ≡ before.meter.units + statement_units before.state stmt) where
   pub performed_answers : (result : Result Tally Refusal) → Performs w before.state text next all result
       → IfOk result (λ tally. (answer : Answer) × (all ≡ text ++ answer.bytes) × (tally ≡ record { is_true = answer.is_true; elements = answer.elements })
       × Answers before bytes (record { state = next; meter = now }) answer)
   performed_answers (Ok tally) done =
-      (done.0, done.1, done.2, answers before bytes stmt read (record { state = next; meter = now }) w done.0 made.0 made.1 done.3 made.2 free)
+      (done.0, done.1, done.2, answers before bytes stmt read (record { state = next; meter = now }) w done.0 made.0 made.1 done.3 made.2 used)
   performed_answers (Err refusal) done = tt
 
   pub performed_fits : (result : Result Tally Refusal) → Fits (limit_of before.meter) before.state → Performs w before.state text next all result → Fits (limit_of now) next
@@ -388,7 +393,7 @@ module _ (before : Moment) (bytes : List ℕ) (stmt : Stmt) (read : IsRead befor
   -- a refusal after it was worked out is for want of memory
   pub performed_refuses : (result : Result Tally Refusal) → Performs w before.state text next all result → IfErr result (Refuses before bytes now)
   performed_refuses (Ok tally) done = tt
-  performed_refuses (Err refusal) done = subst (Refuses before bytes now) (sym done.0) (made.2, λ none. free (no_work bytes stmt read.spelled none))
+  performed_refuses (Err refusal) done = subst (Refuses before bytes now) (sym done.0) (made.2, within before bytes stmt read now (omega (arith, used)))
 
   pub performed_meter : (result : Result Tally Refusal) → MatchResult result (λ _. IsCharged before.meter now) (λ _. IsKept before.meter now)
   performed_meter (Ok tally) = made.2

@@ -1,7 +1,7 @@
 -- Values of expressions, operand by operand.
 use Rattle.std.proofs.Common.{◌≡◌, ◌∙◌, ◌↔◌, inl, inr, ◌<◌, ◌≤◌, ◌+◌, ℕ, ℤ, false, List, [], ◌++◌, length, get_or, take, refl, sym, ap, ap₂, subst, arith}
 use Rattle.std.specs.Prelude.{unsigned_abs, Result, Ok, Err, IfOk, MatchResult}
-use Rattle.std.specs.List.{Any, list_any}
+use Rattle.std.specs.List.{Any}
 use Rattle.isl_meter.specs.Gauge.{Gauge, limit_of, IsCharged, overflown, spent_out}
 use Rattle.isl_meter.proofs.CutLemmas.{IsCharged_refl, IsCharged_trans}
 use Rattle.isl_space.specs.Limits.{most_parameters}
@@ -17,12 +17,11 @@ use Rattle.isl_expr.specs.declared.tree.Postfix.{Postfix, Inverse}
 use Rattle.isl_expr.specs.declared.tree.Expr.{Expr, Row, Post}
 use Rattle.isl_expr.specs.Expr.{literals_of, links_literals, postfixes_literals}
 use Rattle.isl_expr.proofs.Literals.{literals_of-Row, literals_of-Post}
-use Rattle.isl_kinds.specs.Parts.{operator, parts_of, parts_of_links}
+use Rattle.isl_kinds.specs.Parts.{operator}
 use Rattle.isl_kinds.specs.Typed.{declared_of, declared_of_row, joined_names}
 use Rattle.isl_kinds.proofs.DeclaredLaws.{declared_of-Row, declared_of-Post}
 use Rattle.isl_simple.specs.Unsupported.{is_later}
 use Rattle.isl_eval.specs.State.{StateView, scope_of, HasNumbersUpTo, Fits}
-use Rattle.isl_eval.specs.Causes.{uses_units}
 use Rattle.isl_eval.specs.Selection.{JoinHas, PostfixHas, Selects, RowSelects, PostHas}
 use Rattle.isl_maps.specs.Inverse.{inverse_element, inverse_of}
 use Rattle.isl_union.specs.declared.fault.OpFault.{OpFault}
@@ -32,7 +31,7 @@ use Rattle.isl_space.specs.Names.{AreDistinct, joined}
 use Rattle.isl_expr.specs.declared.tree.Binary.{Binary}
 use Rattle.isl_eval.specs.Worked.{join_of, postfix_of, value_of, row_value, post_value}
 use Rattle.isl_eval.specs.Evaluation.{IsSoundLink, IsReady, AreReady, AreInverses, IsValueOf, IsWhyUnmade}
-use Rattle.isl_eval.proofs.PartLaws.{sound_first, sound_links, sound_operand, row_quiet, post_quiet, inverses, literals_at, quiet_at, any_left, any_right}
+use Rattle.isl_eval.proofs.PartLaws.{sound_first, sound_links, sound_operand, post_quiet, inverses, literals_at, any_left, any_right}
 use Rattle.isl_eval.proofs.NarrowLaws.{joined_is, row_declares, operand_fits, joined_fits, declared_more, post_declares}
 use Rattle.isl_eval.proofs.RowLaws.{Elements, row_more, same_row, selects_of-Row, same_post, post_more, selects_of-Post, same_trans}
 use Rattle.isl_eval.proofs.WorkedLaws.{row_value_more, post_value_more, value_of-Row, value_of-Post}
@@ -136,13 +135,6 @@ module _ (state : StateView) (links : List Link) (i : ℕ) (link : Link) (low : 
         IsCharged_trans g k m later joins.1,
       )
 
-  pub units_next : (g h k m : Gauge) → (list_any uses_units (parts_of_links links) ≡ false → h.units ≡ g.units)
-      → (list_any uses_units (parts_of link.operand) ≡ false → k.units ≡ h.units) → (uses_units (operator link.operator) ≡ false → m.units ≡ k.units)
-      → list_any uses_units (parts_of_links links) ≡ false → m.units ≡ g.units
-  units_next g h k m before operand joins none =
-      let quiet = quiet_at uses_units links i link low is none in
-      joins quiet.0 ∙ operand quiet.1 ∙ before none
-
 turned : (P Q : Elements) → ((x : Element) → P x ↔ Q x) → (x : Element) → Q x ↔ P x
 turned P Q same x = let h = same x in (h.1, h.0)
 
@@ -201,15 +193,6 @@ module _ (state : StateView) (expr first : Expr) (links : List Link) (is : expr 
       (unmade_in g h k (links_literals links) (literals_of first ++ links_literals links) refusal charged
       (any_right (λ (literal : Literal). PiecesPass g literal.params literal.pieces) (literals_of first) (links_literals links)) why)
 
-  pub row_none : list_any uses_units (parts_of expr) ≡ false → (list_any uses_units (parts_of first) ≡ false) × (list_any uses_units (parts_of_links links) ≡ false)
-  row_none none = row_quiet (scope_of state) uses_units first links (sym (ap (λ (x : Expr). list_any uses_units (parts_of x)) is) ∙ none)
-
-  pub row_units : (g h k : Gauge) → (list_any uses_units (parts_of first) ≡ false → h.units ≡ g.units)
-      → (list_any uses_units (parts_of_links links) ≡ false → k.units ≡ h.units) → list_any uses_units (parts_of expr) ≡ false → k.units ≡ g.units
-  row_units g h k before behind none =
-      let quiet = row_none none in
-      behind quiet.1 ∙ before quiet.0
-
 -- ---- an operand with what follows it
 module _ (state : StateView) (expr operand : Expr) (postfixes : List Postfix) (is : expr ≡ Post operand postfixes) (ready : IsReady (scope_of state) expr) where
   of_post : IsReady (scope_of state) (Post operand postfixes)
@@ -262,14 +245,6 @@ module _ (state : StateView) (expr operand : Expr) (postfixes : List Postfix) (i
       subst (λ (ls : List Literal). IsWhyUnmade ls g h refusal) (sym (ap literals_of is ∙ literals_of-Post operand postfixes))
       (unmade_in g g h (literals_of operand) (literals_of operand ++ postfixes_literals postfixes) refusal (IsCharged_refl g g refl)
       (any_left (λ (literal : Literal). PiecesPass g literal.params literal.pieces) (literals_of operand) (postfixes_literals postfixes)) why)
-
-  pub post_none : list_any uses_units (parts_of expr) ≡ false → list_any uses_units (parts_of operand) ≡ false
-  post_none none = (post_quiet (scope_of state) uses_units operand postfixes (sym (ap (λ (x : Expr). list_any uses_units (parts_of x)) is) ∙ none)).0
-
-  pub post_units : (g h k : Gauge) → (list_any uses_units (parts_of operand) ≡ false → h.units ≡ g.units) → k.units ≡ h.units
-      → list_any uses_units (parts_of expr) ≡ false → k.units ≡ g.units
-  post_units g h k before behind none =
-      behind ∙ before (post_none none)
 
 -- one of what follows an operand
 abbrev Followed : List Postfix → KeptValue → ℕ → ℕ → KeptValue → Type 0

@@ -1,6 +1,5 @@
 -- public: why a complete statement is refused.
-use Rattle.std.specs.Prelude.{◌≡◌, ◌⊎◌, ◌<◌, ◌≤◌, ℕ, Bool, true, false, List, [], ◌∷◌, length, None, Err, Any}
-use Rattle.std.specs.List.{list_any}
+use Rattle.std.specs.Prelude.{◌≡◌, ◌⊎◌, ◌<◌, ◌≤◌, ◌+◌, ℕ, true, false, List, [], ◌∷◌, length, None, Err, Any}
 use Rattle.isl_meter.specs.Gauge.{Gauge, IsCharged, limit_of, overflown, spent_out}
 use Rattle.isl_space.specs.Limits.{most_parameters}
 use Rattle.isl_space.specs.Name.{Name}
@@ -10,17 +9,16 @@ use Rattle.isl_text.specs.declared.refusal.Refusal.{Refusal}
 use Rattle.isl_text.specs.declared.refusal.Refusal.TheVariants as r
 use Rattle.isl_text.specs.Read.{has_wide_number}
 use Rattle.isl_lower.specs.Value.{PiecesPass}
-use Rattle.isl_expr.specs.declared.tree.Binary.TheVariants.{Intersection}
 use Rattle.isl_expr.specs.declared.tree.Stmt.{Stmt}
 use Rattle.isl_expr.specs.declared.tree.Stmt.TheVariants.{Empty, Bind, Show}
 use Rattle.isl_expr.specs.Expr.{statement_literals}
 use Rattle.isl_statement.specs.Limits.{statement_is_within}
 use Rattle.isl_statement.specs.Read.{NoStatement}
-use Rattle.isl_kinds.specs.Parts.{Part, operator, parts_of_statement}
 use Rattle.isl_kinds.specs.Typed.{ScopeView, declared_of, type_of_statement}
 use Rattle.isl_simple.specs.Unsupported.{is_unsupported, mixes_kinds}
 use Rattle.isl_eval.specs.State.{Moment, scope_of}
 use Rattle.isl_eval.specs.Spelled.{OfTokens, OfStatement}
+use Rattle.isl_eval.specs.Units.{statement_units}
 
 -- what the bytes of a statement are looked at for
 pub data Cause : Type 0 where
@@ -104,23 +102,18 @@ IsValid before bytes = NoneIs (IsThere before bytes) causes
 abbrev pub HasGreatRow : Gauge → Stmt → Type 0
 HasGreatRow g stmt = Any (λ literal. PiecesPass g literal.params literal.pieces) (statement_literals stmt)
 
--- the operations that use units: `*`, one for each pair of pieces of one space
-abbrev pub uses_units : Part → Bool
-uses_units (operator Intersection) = true
-uses_units _ = false
-
--- an operation that uses units stands in the statement
-abbrev pub HasWork : Stmt → Type 0
-HasWork stmt = list_any uses_units (parts_of_statement stmt) ≡ true
-
--- no unit was used, unless an operation that uses units stands in the statement
-abbrev pub SparesUnits : Moment → List ℕ → Gauge → Type 0
-SparesUnits before bytes now = ¬ OfStatement bytes HasWork → now.units ≡ before.meter.units
+-- no unit was used, or no more than the statement uses that the bytes spell
+abbrev pub IsWithinUnits : Moment → List ℕ → Gauge → Type 0
+IsWithinUnits before bytes now =
+    (now.units ≡ before.meter.units) ⊎ OfStatement bytes (λ stmt. now.units ≤ before.meter.units + statement_units before.state stmt)
 
 -- Why a complete statement is refused, and what it did to the meter until then. Overflow and want of units may come only while a
--- valid statement is worked out, want of units only where an operation uses them, and both are counted; memory may end at any time.
+-- valid statement is worked out, want of units only where it uses more than are left, and both are counted; memory may end at any time.
 abbrev pub Refuses : Moment → List ℕ → Gauge → Refusal → Type 0
-Refuses before bytes now r.Overflow = IsValid before bytes × OfStatement bytes (HasGreatRow before.meter) × IsCharged (overflown before.meter) now × SparesUnits before bytes now
-Refuses before bytes now r.Budget = IsValid before bytes × OfStatement bytes HasWork × (now.budget ≤ now.units) × IsCharged (spent_out before.meter) now
-Refuses before bytes now r.NoMemory = IsCharged before.meter now × SparesUnits before bytes now
+Refuses before bytes now r.Overflow =
+    IsValid before bytes × OfStatement bytes (HasGreatRow before.meter) × IsCharged (overflown before.meter) now × IsWithinUnits before bytes now
+Refuses before bytes now r.Budget =
+    IsValid before bytes × OfStatement bytes (λ stmt. now.units < before.meter.units + statement_units before.state stmt) × (now.budget ≤ now.units)
+    × IsCharged (spent_out before.meter) now
+Refuses before bytes now r.NoMemory = IsCharged before.meter now × IsWithinUnits before bytes now
 Refuses before bytes now refusal = FirstGives (IsThere before bytes) causes refusal × (now ≡ before.meter)

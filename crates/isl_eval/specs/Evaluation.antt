@@ -1,5 +1,5 @@
 -- inner: what reading and working out a statement leave to the next step.
-use Rattle.std.specs.Prelude.{◌≡◌, ◌↔◌, ◌⊎◌, ◌<◌, ◌≤◌, ℕ, true, false, List, [], ◌∷◌, length, All, Any, Option, Some, Ok, Err}
+use Rattle.std.specs.Prelude.{◌≡◌, ◌↔◌, ◌⊎◌, ◌<◌, ◌≤◌, ◌+◌, ℕ, true, false, List, [], ◌∷◌, length, All, Any, Option, Some, Result, Ok, Err, MatchResult}
 use Rattle.std.specs.List.{list_any}
 use Rattle.isl_meter.specs.Gauge.{Gauge, IsCharged, overflown, spent_out}
 use Rattle.isl_meter.specs.declared.Cut.{Cut}
@@ -131,6 +131,14 @@ IsWhyUnmade literals old new refusal =
     ((refusal ≡ Overflow) × Any (λ literal. PiecesPass old literal.params literal.pieces) literals × IsCharged (overflown old) new)
     ⊎ (((refusal ≡ Budget) × (new.budget ≤ new.units) × IsCharged (spent_out old) new)
     ⊎ ((refusal ≡ NoMemory) × IsCharged old new))
+
+-- at most n units were used, and fewer where units ended
+abbrev pub UsesUpTo : ℕ → Gauge → Gauge → Refusal → Type 0
+UsesUpTo n old new refusal = (new.units ≤ old.units + n) × (refusal ≡ Budget → new.units < old.units + n)
+
+-- work of n units: exactly these were used where it was done, else no more
+abbrev pub Uses : {A : Type 0} → ℕ → Gauge → Gauge → Result A Refusal → Type 0
+Uses n old new result = MatchResult result (λ _. new.units ≡ old.units + n) (UsesUpTo n old new)
 
 -- why a statement that was read was not worked out: it is not to be, or no value was made
 abbrev pub IsWhyUnworked : ScopeView → Stmt → Gauge → Gauge → Refusal → Type 0

@@ -1,5 +1,6 @@
 pub mod State
 pub mod Worked
+pub mod Units
 pub mod Selection
 pub mod Spelled
 pub mod Causes

@@ -1,19 +1,17 @@
 //! What a statement does that is read.
 
-ghost use Rattle.std.specs.Prelude.{◌≡◌, ◌≢◌, ◌++◌, ◌∷◌, [], false, All, IfErr, MatchResult, Ok};
-ghost use Rattle.std.specs.List.{list_any};
+ghost use Rattle.std.specs.Prelude.{◌≡◌, ◌++◌, ◌∷◌, [], false, All, MatchResult, Ok};
 ghost use Rattle.isl_meter.specs.Gauge.{limit_of, IsCharged};
 ghost use Rattle.isl_print.specs.Printed.{printed};
 ghost use Rattle.isl_text.specs.declared.refusal.Refusal.TheVariants.{NoMemory};
 ghost use Rattle.isl_lower.specs.Value.{IsWellFormedLiteral};
 ghost use Rattle.isl_expr.specs.Expr.{statement_literals};
 ghost use Rattle.isl_eval.specs.State.{scope_of, Fits};
-ghost use Rattle.isl_kinds.specs.Parts.{parts_of_statement};
 ghost use Rattle.isl_kinds.specs.Typed.{type_of_statement};
 ghost use Rattle.isl_simple.specs.Unsupported.{is_unsupported};
-ghost use Rattle.isl_eval.specs.Causes.{uses_units};
+ghost use Rattle.isl_eval.specs.Units.{statement_units};
 ghost use Rattle.isl_eval.specs.Machine.{Answer};
-ghost use Rattle.isl_eval.specs.Evaluation.{IsWorkable, IsWhyUnworkable, IsWork, HasItsType, IsWhyUnworked, Does};
+ghost use Rattle.isl_eval.specs.Evaluation.{IsWorkable, IsWhyUnworkable, IsWork, HasItsType, IsWhyUnworked, Uses, Does};
 
 use crate::State;
 use crate::selected::selected;
@@ -71,8 +69,7 @@ pub(crate) fn prepare(
         (λ work. IsWorkable (scope_of state.now) stmt.now × IsWork (record { state = state.now; meter = meter.old }) stmt.now work
         × IsCharged meter.old meter.new)
         (IsWhyUnworked (scope_of state.now) stmt.now meter.old meter.new) }
-    ensures free { list_any uses_units (parts_of_statement stmt.now) ≡ false → meter.new.units ≡ meter.old.units }
-    ensures unspent { list_any uses_units (parts_of_statement stmt.now) ≡ false → IfErr result (λ refusal. refusal ≢ Refusal.Budget) }
+    ensures units { Uses (statement_units state.now stmt.now) meter.old meter.new result }
 {
     let typed = match workable(alloc, stmt, state.scope()) {
         Ok(Some(typed)) => typed,

@@ -1,7 +1,6 @@
 //! The values of expressions.
 
 ghost use Rattle.std.specs.Prelude.{◌≡◌, ◌≢◌, ◌≤◌, ◌∷◌, [], true, false, IfErr, MatchResult, length, unsigned_abs};
-ghost use Rattle.std.specs.List.{list_any};
 ghost use Rattle.isl_meter.specs.Gauge.{limit_of, IsCharged};
 ghost use Rattle.isl_space.specs.Limits.{most_parameters};
 ghost use Rattle.isl_union.specs.KeptValue.{Has};
@@ -11,15 +10,15 @@ ghost use Rattle.isl_tree.specs.Literal.{LiteralHas};
 ghost use Rattle.isl_tree.specs.Known.{literal_is_known};
 ghost use Rattle.isl_expr.specs.Expr.{literals_of, links_literals};
 ghost use Rattle.isl_expr.specs.declared.tree.Postfix.{Inverse};
-ghost use Rattle.isl_kinds.specs.Parts.{operator as operator_part, parts_of, parts_of_links};
+ghost use Rattle.isl_kinds.specs.Parts.{operator as operator_part};
 ghost use Rattle.isl_kinds.specs.Typed.{declared_of, declared_of_row, joined_names};
 ghost use Rattle.isl_simple.specs.Unsupported.{is_later};
 ghost use Rattle.isl_eval.specs.State.{type_of, scope_of, Fits, HasNumbersUpTo};
-ghost use Rattle.isl_eval.specs.Causes.{uses_units};
 ghost use Rattle.isl_eval.specs.Selection.{Keeps, Selects, JoinHas, PostHas, RowSelects, PostfixHas};
 ghost use Rattle.isl_maps.specs.Inverse.{inverse_of};
 ghost use Rattle.isl_eval.specs.Worked.{value_of, join_of, row_value, post_value};
-ghost use Rattle.isl_eval.specs.Evaluation.{IsOfType, IsReady, AreReady, IsValueOf, IsWhyUnmade, AreInverses, refusal_of_cut};
+ghost use Rattle.isl_eval.specs.Units.{join_units, units_of, row_units};
+ghost use Rattle.isl_eval.specs.Evaluation.{IsOfType, IsReady, AreReady, IsValueOf, IsWhyUnmade, AreInverses, Uses, refusal_of_cut};
 
 use crate::State;
 use crate::state::Kept;
@@ -82,8 +81,7 @@ fn joined(
         (λ valuation element. JoinHas operator (Has left.now valuation) (Has right.now valuation) element) (unsigned_abs (limit_of meter.old)) value.value
         × IsCharged meter.old meter.new)
         (IsWhyUnmade [] meter.old meter.new) }
-    ensures free { uses_units (operator_part operator) ≡ false → meter.new.units ≡ meter.old.units }
-    ensures unspent { uses_units (operator_part operator) ≡ false → IfErr result (λ refusal. refusal ≢ Refusal.Budget) }
+    ensures units { Uses (join_units operator left.now right.now) meter.old meter.new result }
 {
     let _names = right.params();
     let made = match operator {
@@ -160,8 +158,7 @@ fn value_of(
         (λ value. IsValueOf (value_of state.now expr.now) (declared_of (scope_of state.now) expr.now) (Selects state.now expr.now)
         (unsigned_abs (limit_of meter.old)) value.value × IsCharged meter.old meter.new)
         (IsWhyUnmade (literals_of expr.now) meter.old meter.new) }
-    ensures free { list_any uses_units (parts_of expr.now) ≡ false → meter.new.units ≡ meter.old.units }
-    ensures unspent { list_any uses_units (parts_of expr.now) ≡ false → IfErr result (λ refusal. refusal ≢ Refusal.Budget) }
+    ensures units { Uses (units_of state.now expr.now) meter.old meter.new result }
 {
     match expr {
         Expr::Name(name) => match state.get(name) {
@@ -200,8 +197,7 @@ fn past_links(
         (λ valuation element. RowSelects state.now valuation (Has first.value valuation) links.now element) (unsigned_abs (limit_of meter.old)) value.value
         × IsCharged meter.old meter.new)
         (IsWhyUnmade (links_literals links.now) meter.old meter.new) }
-    ensures free { list_any uses_units (parts_of_links links.now) ≡ false → meter.new.units ≡ meter.old.units }
-    ensures unspent { list_any uses_units (parts_of_links links.now) ≡ false → IfErr result (λ refusal. refusal ≢ Refusal.Budget) }
+    ensures units { Uses (row_units state.now first.value links.now) meter.old meter.new result }
 {
     let _pieces = first.pieces();
     let mut left = first;
@@ -232,8 +228,7 @@ pub(crate) fn selected(
     ensures made { MatchResult result
         (λ kept. Keeps (record { state = state.now; meter = meter.old }) expr.now kept × (type_of kept ≡ typed.now) × IsCharged meter.old meter.new)
         (IsWhyUnmade (literals_of expr.now) meter.old meter.new) }
-    ensures free { list_any uses_units (parts_of expr.now) ≡ false → meter.new.units ≡ meter.old.units }
-    ensures unspent { list_any uses_units (parts_of expr.now) ≡ false → IfErr result (λ refusal. refusal ≢ Refusal.Budget) }
+    ensures units { Uses (units_of state.now expr.now) meter.old meter.new result }
 {
     match value_of(alloc, expr, state, meter) {
         Ok(value) => Ok(Kept::new(typed.kind(), value)),

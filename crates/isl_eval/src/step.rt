@@ -3,8 +3,7 @@
 ghost use Rattle.std.specs.Prelude.{◌≡◌, ◌++◌, IfOk, OnErr, IfErr, MatchResult};
 ghost use Rattle.isl_meter.specs.Gauge.{limit_of, IsCharged, IsKept};
 ghost use Rattle.isl_eval.specs.State.{Fits};
-ghost use Rattle.isl_eval.specs.Spelled.{OfStatement};
-ghost use Rattle.isl_eval.specs.Causes.{HasWork, Refuses};
+ghost use Rattle.isl_eval.specs.Causes.{Refuses};
 ghost use Rattle.isl_eval.specs.Machine.{Answer, Answers};
 
 use crate::State;
@@ -46,7 +45,6 @@ pub fn answer(
     ensures err { OnErr result ((state.new ≡ state.old) × (text.new.items ≡ text.old.items)) }
     ensures cause { IfErr result (Refuses (record { state = state.old; meter = meter.old }) bytes.now meter.new) }
     ensures meter { MatchResult result (λ _. IsCharged meter.old meter.new) (λ _. IsKept meter.old meter.new) }
-    ensures no_units { ¬ OfStatement bytes.now HasWork → meter.new.units ≡ meter.old.units }
 {
     let stmt = match read(alloc, bytes, state, meter) {
         Ok(stmt) => stmt,

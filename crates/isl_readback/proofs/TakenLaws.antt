@@ -159,7 +159,7 @@ module _ (moment : Moment) (bits : moment.meter.bits ≤ 127) (value : KeptValue
       })
       keeps_again refl
       (is ∙ sym (ap (λ (t : List ℕ). let a : Answer = record { bytes = t ++ 10 ∷ []; is_true = false; elements = 0 } in a) reads.again)) (IsCharged_refl moment.meter moment.meter refl)
-      (λ none. refl)
+      (omega arith)
 
 -- ---- what an answered statement shows or binds can be written
 module _ (before : Moment) (bytes : List ℕ) (bits : before.meter.bits ≤ 127) (all : AreWritable before.state) where

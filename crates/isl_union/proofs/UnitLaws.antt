@@ -51,6 +51,7 @@ short_after m n k g h i cut le p q = record {
   by = cut_within (pos n) (pos m) (pos k) g h i cut (omega (arith, linear)) (charged m g h p) q.by;
   no_overflow = q.no_overflow;
   stopped = stopped_after g h i cut (used_charged m g h p) q.stopped;
+  wanted = λ is. let units = ap (λ (x : Gauge). x.units) p.same in let few = q.wanted is in omega (arith, le, units, few);
 }
 
 pub short_memory : (m k : ℕ) (g h i : Gauge) → m ≤ k → HasUsed m g h → i ≡ h → IsShortOf k g i NoMemory
@@ -58,10 +59,11 @@ short_memory m k g h i le p e = record {
   by = memory_late (pos m) (pos k) g h i (omega (arith, linear)) (charged m g h p) e;
   no_overflow = λ f. cc;
   stopped = IsCharged_trans g h i (used_charged m g h p) (IsCharged_refl h i e);
+  wanted = λ is. absurd (let no : ⊥ = cc in no);
 }
 
-pub short_budget : (n : ℕ) (g h : Gauge) → g.units ≡ g.budget → h ≡ spent_out g → IsShortOf n g h Budget
-short_budget n g h full e = record {
+pub short_budget : (n : ℕ) (g h : Gauge) → 0 < n → g.units ≡ g.budget → h ≡ spent_out g → IsShortOf n g h Budget
+short_budget n g h some full e = record {
   by = record { by = IsCutBy-spent_out g h full e; most = let u = ap (λ (x : Gauge). x.units) e in omega (arith, linear) };
   no_overflow = λ f. cc;
   stopped = (
@@ -70,6 +72,7 @@ short_budget n g h full e = record {
         omega (arith, u, v),
     IsCharged_refl (spent_out g) h e,
   );
+  wanted = λ is. let u = ap (λ (x : Gauge). x.units) e in omega (arith, u, some);
 }
 
-pub ruleset unit_steps = (used_none, used_one, used_more, used_bits, short_after, short_memory, short_budget)
+pub ruleset unit_steps = (used_none, used_one, used_more, used_bits, short_after, short_memory)

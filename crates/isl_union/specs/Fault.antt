@@ -30,13 +30,14 @@ IsStopped old new Overflow = ⊥
 IsStopped old new Budget = (new.budget ≤ new.units) × IsCharged (spent_out old) new
 IsStopped old new NoMemory = IsCharged old new
 
--- work was cut after at most n units, by no overflow
+-- work of n units was cut, by no overflow, after at most these; where units ended, one of them at least was not to be had
 pub record IsShortOf (n : ℕ) (old new : Gauge) (cut : Cut) : Type 0 where
   pub by : IsCutUpTo (pos n) old new cut
   pub no_overflow : cut ≢ Overflow
   pub stopped : IsStopped old new cut
+  pub wanted : cut ≡ Budget → new.units < old.units + n
 
--- the parameters are more than the limit, and the meter is as it was; or work was cut after at most n units, by no overflow
+-- the parameters are more than the limit, and the meter is as it was; or work of n units was cut, by no overflow
 abbrev pub IsFaultWithin : List Name → ℕ → Gauge → Gauge → OpFault → Type 0
 IsFaultWithin params n old new op_fault.TooWide = (most_parameters < length params) × (new ≡ old)
 IsFaultWithin params n old new (op_fault.Cut cut) = IsShortOf n old new cut

@@ -1,5 +1,4 @@
 use Rattle.std.proofs.Common.{◌∙◌, ◌<◌, List, length, ap, sym, subst, refl, arith, rules}
-use Rattle.std.specs.List.{list_any}
 use Rattle.std.specs.Option.{option_copied}
 use Rattle.isl_meter.specs.Gauge.{limit_of}
 use Rattle.isl_meter.proofs.CutLemmas.{IsCharged_refl}
@@ -8,16 +7,14 @@ use Rattle.isl_tree.specs.declared.tree.Literal.{Literal}
 use Rattle.isl_expr.specs.declared.tree.Link.{Link}
 use Rattle.isl_expr.specs.declared.tree.Expr.{Expr}
 use Rattle.isl_expr.specs.Expr.{literals_of, links_literals}
-use Rattle.isl_kinds.specs.Parts.{parts_of, parts_of_links}
 use Rattle.isl_kinds.specs.Typed.{has_unknown, declared_of}
 use Rattle.isl_eval.specs.State.{scope_of}
-use Rattle.isl_eval.specs.Causes.{uses_units}
 use Rattle.isl_eval.specs.Evaluation.{IsWhyUnmade}
 use Rattle.isl_eval.proofs.KeptLaws.{name_makes, literal_makes, never_unbound, only_literal}
 use Rattle.isl_eval.proofs.DepthLaws.{first_smaller, links_smaller, operand_smaller, link_smaller}
-use Rattle.isl_eval.proofs.PartLaws.{quiet_at}
-use Rattle.isl_eval.proofs.ValueLaws.{fits_later, numbers_later, unmade_after, link_ready, link_narrow, link_failed, row_step, units_next, first_ready, links_ready, row_ok, first_failed, links_failed, row_units, row_none, post_none}
-use Rattle.isl_eval.proofs.ValueLaws.{post_inverses, operand_ready, post_ok, operand_failed, post_units, match_map}
+use Rattle.isl_eval.proofs.ValueLaws.{fits_later, numbers_later, unmade_after, link_ready, link_narrow, link_failed, row_step, first_ready, links_ready, row_ok, first_failed, links_failed}
+use Rattle.isl_eval.proofs.ValueLaws.{post_inverses, operand_ready, post_ok, operand_failed, match_map}
+use Rattle.isl_eval.proofs.UnitLaws.{name_units, literal_units, row_uses, first_up_to, link_uses, operand_up_to, join_up_to, post_uses, post_up_to}
 use Rattle.isl_eval.proofs.selected.+value.Goals as goal
 
 pub past_links-value_of-requires : goal.past_links-value_of-requires
@@ -36,10 +33,11 @@ past_links-returns-in-Err-clause-made t c =
     link_failed c.args.state.now c.args.links.now c.loop-link.link-index c.link-item.result low c.link-item.is c.args.meter.now c.loop-link.meter c.value_of.new.meter c.in-Err.refusal
     c.loop-link.invariant.1 c.in-Err.ensures.made
 
-pub past_links-returns-in-Err-clause-free : goal.past_links-returns-in-Err-clause-free
-past_links-returns-in-Err-clause-free t c none =
+pub past_links-returns-in-Err-clause-units : goal.past_links-returns-in-Err-clause-units
+past_links-returns-in-Err-clause-units t c =
     let low : c.loop-link.link-index < length c.args.links.now = omega arith in
-    c.in-Err.ensures.free (quiet_at uses_units c.args.links.now c.loop-link.link-index c.link-item.result low c.link-item.is none).1 ∙ c.loop-link.invariant.2 none
+    operand_up_to c.args.state.now c.args.links.now c.loop-link.link-index c.link-item.result low c.link-item.is c.args.first.value c.args.meter.now c.loop-link.meter c.value_of.new.meter
+    c.in-Err.refusal c.loop-link.invariant.2 c.in-Err.ensures.units
 
 pub past_links-joined-requires-clause-narrow : goal.past_links-joined-requires-clause-narrow
 past_links-joined-requires-clause-narrow t c =
@@ -48,11 +46,12 @@ past_links-joined-requires-clause-narrow t c =
     c.deref-in-loop-link-2.result.now.params c.requires.ready (ap (λ (v : KeptValue). v.params) c.deref-in-loop-link.ensures ∙ c.loop-link.invariant.0.params)
     (ap (λ (v : KeptValue). v.params) c.deref-in-loop-link-2.ensures ∙ c.in-Ok.ensures.made.0.params)
 
-pub past_links-returns-in-Err-joined-clause-free : goal.past_links-returns-in-Err-joined-clause-free
-past_links-returns-in-Err-joined-clause-free t c none =
+pub past_links-returns-in-Err-joined-clause-units : goal.past_links-returns-in-Err-joined-clause-units
+past_links-returns-in-Err-joined-clause-units t c =
     let low : c.loop-link.link-index < length c.args.links.now = omega arith in
-    units_next c.args.state.now c.args.links.now c.loop-link.link-index c.link-item.result low c.link-item.is c.args.meter.now c.loop-link.meter c.value_of.new.meter c.joined.new.meter
-    c.loop-link.invariant.2 c.in-Ok.ensures.free c.in-Err-joined.ensures.free none
+    join_up_to c.args.state.now c.args.links.now c.loop-link.link-index c.link-item.result low c.link-item.is c.args.first.value c.args.meter.now c.loop-link.meter c.value_of.new.meter
+    c.joined.new.meter c.deref-in-loop-link.result.now c.deref-in-loop-link-2.result.now c.in-Err-joined.refusal (c.deref-in-loop-link.ensures ∙ c.loop-link.invariant.0.written)
+    (c.deref-in-loop-link-2.ensures ∙ c.in-Ok.ensures.made.0.written) c.loop-link.invariant.2 c.in-Ok.ensures.units c.in-Err-joined.ensures.units
 
 pub past_links-loop-link-preserved : goal.past_links-loop-link-preserved
 past_links-loop-link-preserved t c =
@@ -63,8 +62,9 @@ past_links-loop-link-preserved t c =
     c.deref-in-loop-link-2.ensures so_far.0 so_far.1 c.in-Ok.ensures.made c.in-Ok-joined.ensures.made in (
       step.0,
       step.1,
-      λ none. units_next c.args.state.now c.args.links.now c.loop-link.link-index c.link-item.result low c.link-item.is c.args.meter.now c.loop-link.meter c.value_of.new.meter c.joined.new.meter
-          so_far.2 c.in-Ok.ensures.free c.in-Ok-joined.ensures.free none,
+      link_uses c.args.state.now c.args.links.now c.loop-link.link-index c.link-item.result low c.link-item.is c.args.first.value c.args.meter.now c.loop-link.meter c.value_of.new.meter
+          c.joined.new.meter c.deref-in-loop-link.result.now c.deref-in-loop-link-2.result.now (c.deref-in-loop-link.ensures ∙ so_far.0.written)
+          (c.deref-in-loop-link-2.ensures ∙ c.in-Ok.ensures.made.0.written) so_far.2 c.in-Ok.ensures.units c.in-Ok-joined.ensures.units,
     )
 
 pub value_of-unreachable-requires : goal.value_of-unreachable-requires
@@ -130,21 +130,27 @@ value_of-returns-in-Ok-clause-made t c =
     (λ refusal why. links_failed c.args.state.now c.args.expr.now c.in-Row.first c.in-Row.links c.in-Row.is c.requires.ready g h k refusal one.1
     (subst (λ (ls : List Link). IsWhyUnmade (links_literals ls) h k refusal) c.as_slice.ensures why)) c.past_links.ensures.made
 
-pub value_of-returns-in-Ok-clause-free : goal.value_of-returns-in-Ok-clause-free
-value_of-returns-in-Ok-clause-free t c none =
-    row_units c.args.state.now c.args.expr.now c.in-Row.first c.in-Row.links c.in-Row.is c.requires.ready c.args.meter.now c.value_of.new.meter c.past_links.new.meter
-    (λ quiet. c.in-Ok.ensures.free (ap (λ (x : Expr). list_any uses_units (parts_of x)) c.get-in-Row.ensures ∙ quiet))
-    (λ quiet. c.past_links.ensures.free (ap (λ (ls : List Link). list_any uses_units (parts_of_links ls)) c.as_slice.ensures ∙ quiet)) none
+pub value_of-returns-in_ok-shared-in-Some-clause-units : goal.value_of-returns-in_ok-shared-in-Some-clause-units
+value_of-returns-in_ok-shared-in-Some-clause-units t c = name_units c.args.state.now c.args.expr.now c.in-Name.name c.args.meter.now c.in-Name.is
+
+pub value_of-returns-in-Literal-clause-units : goal.value_of-returns-in-Literal-clause-units
+value_of-returns-in-Literal-clause-units t c =
+    literal_units c.args.state.now c.args.expr.now c.in-Literal.literal c.args.meter.now c.lowered.new.meter c.lowered.result c.in-Literal.is c.lowered.ensures.free c.lowered.ensures.unspent
+
+pub value_of-returns-in-Ok-clause-units : goal.value_of-returns-in-Ok-clause-units
+value_of-returns-in-Ok-clause-units t c =
+    row_uses c.args.state.now c.args.expr.now c.in-Row.first c.in-Row.links c.in-Row.is c.args.meter.now c.value_of.new.meter c.past_links.new.meter c.get-in-Row.result.now c.as_slice.result.now
+    c.in-Ok.left.value c.past_links.result c.get-in-Row.ensures c.as_slice.ensures c.in-Ok.ensures.made.0.written c.in-Ok.ensures.units c.past_links.ensures.units
 
 pub value_of-returns-in-Err-clause-made : goal.value_of-returns-in-Err-clause-made
 value_of-returns-in-Err-clause-made t c =
     first_failed c.args.state.now c.args.expr.now c.in-Row.first c.in-Row.links c.in-Row.is c.requires.ready c.args.meter.now c.value_of.new.meter c.in-Err.refusal
     (subst (λ (x : Expr). IsWhyUnmade (literals_of x) c.args.meter.now c.value_of.new.meter c.in-Err.refusal) c.get-in-Row.ensures c.in-Err.ensures.made)
 
-pub value_of-returns-in-Err-clause-free : goal.value_of-returns-in-Err-clause-free
-value_of-returns-in-Err-clause-free t c none =
-    row_units c.args.state.now c.args.expr.now c.in-Row.first c.in-Row.links c.in-Row.is c.requires.ready c.args.meter.now c.value_of.new.meter c.value_of.new.meter
-    (λ quiet. c.in-Err.ensures.free (ap (λ (x : Expr). list_any uses_units (parts_of x)) c.get-in-Row.ensures ∙ quiet)) (λ quiet. refl) none
+pub value_of-returns-in-Err-clause-units : goal.value_of-returns-in-Err-clause-units
+value_of-returns-in-Err-clause-units t c =
+    first_up_to c.args.state.now c.args.expr.now c.in-Row.first c.in-Row.links c.in-Row.is c.args.meter.now c.value_of.new.meter c.get-in-Row.result.now c.in-Err.refusal c.get-in-Row.ensures
+    c.in-Err.ensures.units
 
 pub value_of-returns-in-Ok-value_of-clause-made : goal.value_of-returns-in-Ok-value_of-clause-made
 value_of-returns-in-Ok-value_of-clause-made t c =
@@ -157,42 +163,17 @@ value_of-returns-in-Ok-value_of-clause-made t c =
     c.in-Ok-value_of.left.value made.value c.get-in-Post.ensures c.as_slice-in-Ok-value_of.ensures one.0 one.1 all)
     (λ refusal why. unmade_after g h k (literals_of c.args.expr.now) refusal one.1 why) c.past_postfixes.ensures.made
 
-pub value_of-returns-in-Ok-value_of-clause-free : goal.value_of-returns-in-Ok-value_of-clause-free
-value_of-returns-in-Ok-value_of-clause-free t c none =
-    post_units c.args.state.now c.args.expr.now c.in-Post.operand c.in-Post.postfixes c.in-Post.is c.requires.ready c.args.meter.now c.value_of-in-Post.new.meter c.past_postfixes.new.meter
-    (λ quiet. c.in-Ok-value_of.ensures.free (ap (λ (x : Expr). list_any uses_units (parts_of x)) c.get-in-Post.ensures ∙ quiet)) c.past_postfixes.ensures.free none
+pub value_of-returns-in-Ok-value_of-clause-units : goal.value_of-returns-in-Ok-value_of-clause-units
+value_of-returns-in-Ok-value_of-clause-units t c =
+    post_uses c.args.state.now c.args.expr.now c.in-Post.operand c.in-Post.postfixes c.in-Post.is c.args.meter.now c.value_of-in-Post.new.meter c.past_postfixes.new.meter c.get-in-Post.result.now
+    c.past_postfixes.result c.get-in-Post.ensures c.in-Ok-value_of.ensures.units c.past_postfixes.ensures.free c.past_postfixes.ensures.unspent
 
 pub value_of-returns-in-Err-value_of-clause-made : goal.value_of-returns-in-Err-value_of-clause-made
 value_of-returns-in-Err-value_of-clause-made t c =
     operand_failed c.args.state.now c.args.expr.now c.in-Post.operand c.in-Post.postfixes c.in-Post.is c.requires.ready c.args.meter.now c.value_of-in-Post.new.meter c.in-Err-value_of.refusal
     (subst (λ (x : Expr). IsWhyUnmade (literals_of x) c.args.meter.now c.value_of-in-Post.new.meter c.in-Err-value_of.refusal) c.get-in-Post.ensures c.in-Err-value_of.ensures.made)
 
-pub value_of-returns-in-Err-value_of-clause-free : goal.value_of-returns-in-Err-value_of-clause-free
-value_of-returns-in-Err-value_of-clause-free t c none =
-    post_units c.args.state.now c.args.expr.now c.in-Post.operand c.in-Post.postfixes c.in-Post.is c.requires.ready c.args.meter.now c.value_of-in-Post.new.meter c.value_of-in-Post.new.meter
-    (λ quiet. c.in-Err-value_of.ensures.free (ap (λ (x : Expr). list_any uses_units (parts_of x)) c.get-in-Post.ensures ∙ quiet)) refl none
-
-pub past_links-returns-in-Err-clause-unspent : goal.past_links-returns-in-Err-clause-unspent
-past_links-returns-in-Err-clause-unspent t c none =
-    let low : c.loop-link.link-index < length c.args.links.now = omega arith in
-    c.in-Err.ensures.unspent (quiet_at uses_units c.args.links.now c.loop-link.link-index c.link-item.result low c.link-item.is none).1
-
-pub past_links-returns-in-Err-joined-clause-unspent : goal.past_links-returns-in-Err-joined-clause-unspent
-past_links-returns-in-Err-joined-clause-unspent t c none =
-    let low : c.loop-link.link-index < length c.args.links.now = omega arith in
-    c.in-Err-joined.ensures.unspent (quiet_at uses_units c.args.links.now c.loop-link.link-index c.link-item.result low c.link-item.is none).0
-
-pub value_of-returns-in-Ok-clause-unspent : goal.value_of-returns-in-Ok-clause-unspent
-value_of-returns-in-Ok-clause-unspent t c none =
-    c.past_links.ensures.unspent (ap (λ (ls : List Link). list_any uses_units (parts_of_links ls)) c.as_slice.ensures
-    ∙ (row_none c.args.state.now c.args.expr.now c.in-Row.first c.in-Row.links c.in-Row.is c.requires.ready none).1)
-
-pub value_of-returns-in-Err-clause-unspent : goal.value_of-returns-in-Err-clause-unspent
-value_of-returns-in-Err-clause-unspent t c none =
-    c.in-Err.ensures.unspent (ap (λ (x : Expr). list_any uses_units (parts_of x)) c.get-in-Row.ensures
-    ∙ (row_none c.args.state.now c.args.expr.now c.in-Row.first c.in-Row.links c.in-Row.is c.requires.ready none).0)
-
-pub value_of-returns-in-Err-value_of-clause-unspent : goal.value_of-returns-in-Err-value_of-clause-unspent
-value_of-returns-in-Err-value_of-clause-unspent t c none =
-    c.in-Err-value_of.ensures.unspent (ap (λ (x : Expr). list_any uses_units (parts_of x)) c.get-in-Post.ensures
-    ∙ post_none c.args.state.now c.args.expr.now c.in-Post.operand c.in-Post.postfixes c.in-Post.is c.requires.ready none)
+pub value_of-returns-in-Err-value_of-clause-units : goal.value_of-returns-in-Err-value_of-clause-units
+value_of-returns-in-Err-value_of-clause-units t c =
+    post_up_to c.args.state.now c.args.expr.now c.in-Post.operand c.in-Post.postfixes c.in-Post.is c.args.meter.now c.value_of-in-Post.new.meter c.get-in-Post.result.now c.in-Err-value_of.refusal
+    c.get-in-Post.ensures c.in-Err-value_of.ensures.units
