@@ -1,23 +1,25 @@
-//! Small systems, with defined columns and without: where they hold, their normal rows, what two of them have together, negations,
-//! and what elimination leaves of them. The cases stand in the file `stdin`, whose head says how they are written. What differs is
-//! printed, and how many cases there were.
+//! Small systems, with defined columns and without: where they hold, their normal rows, what two of them have together, one without
+//! others, negations, and what elimination leaves of them. The cases stand in the file `stdin`, whose head says how they are written.
+//! What differs is printed, and how many cases there were.
 #![tactic(auto)]
 
 mod elimination;
 mod made;
+mod minus;
 mod systems;
 mod wanted;
 
 use elimination::is_eliminated;
 use isl_meter::{Cut, Meter};
 use made::{defined_text, system_text};
+use minus::is_subtracted;
 use std::alloc::Global;
 use std::io;
 use systems::{all_tell, is_met, is_negated, is_normalised};
 use tests_made::{Form, field, is_case, number, rows_of};
 
 // The lines of a case.
-const FORMS: [(&str, Form); 15] = [
+const FORMS: [(&str, Form); 17] = [
     ("#", Form::Text),
     ("case ", Form::Text),
     ("do ", Form::Text),
@@ -26,6 +28,8 @@ const FORMS: [(&str, Form); 15] = [
     ("row ", Form::Row),
     ("with-defined ", Form::Definition),
     ("with ", Form::Row),
+    ("and-defined ", Form::Definition),
+    ("and ", Form::Row),
     ("kept ", Form::Definition),
     ("want ", Form::Row),
     ("never", Form::Text),
@@ -43,6 +47,7 @@ fn is_right(alloc: Global, case: &str) -> Result<bool, Cut> {
         "hold" => all_tell(alloc, case, columns),
         "normalise" => is_normalised(alloc, case, columns, &mut meter),
         "meet" => is_met(alloc, case, columns, &meter),
+        "minus" => is_subtracted(alloc, case, columns),
         "negate" => match rows_of(alloc, case, "row ")?.as_slice() {
             [row] => is_negated(alloc, row, &rows_of(alloc, case, "want ")?, &mut meter),
             _ => Ok(false),
