@@ -1,8 +1,9 @@
 -- Several columns, one after another.
-use Rattle.std.proofs.Common.{◌≡◌, ◌≢◌, ◌↔◌, ◌⊎◌, inl, inr, refl, sym, ap, ◌∙◌, arith, true, ℕ, ℤ, pos, List, [], ◌∷◌, ◌++◌, ◌-◌, ◌<◌, ◌≤◌, length, get_or}
-use Rattle.std.specs.Prelude.{AllPairs, Result, MatchResult, Ok, Err}
+use Rattle.std.proofs.Common.{◌≡◌, ◌≢◌, ◌↔◌, ◌⊎◌, inl, inr, refl, sym, ap, ◌∙◌, arith, true, ℕ, ℤ, pos, List, [], ◌∷◌, ◌++◌, ◌-◌, ◌+◌, ◌<◌, ◌≤◌, length, get_or}
+use Rattle.std.specs.Prelude.{AllPairs, Result, MatchResult, IfOk, Ok, Err, Option, Some, None}
 use Rattle.std.specs.List.{All, insert, remove}
-use Rattle.std.proofs.lemmas.List.{append_assoc, append-nil}
+use Rattle.std.proofs.lemmas.List.{append_assoc, append-nil, length-append}
+use Rattle.std.proofs.lemmas.Result.{IfOk-weaker}
 use Rattle.std.proofs.lemmas.List.Elements.{All-nil, All-cons, All-append}
 use Rattle.std.proofs.lemmas.List.Edits.{length-remove, length-insert}
 use Rattle.isl_meter.specs.Gauge.{Gauge, IsCharged, IsCutBy}
@@ -18,7 +19,7 @@ use Rattle.isl_column.specs.Column.{HoldAtAny}
 use Rattle.isl_omega.specs.Column.{IsProper}
 use Rattle.isl_elim.specs.Elimination.{without, HoldsAlong, AddsAlong}
 use Rattle.isl_elim.specs.Others.{others_of}
-use Rattle.isl_column.specs.Parts.{PartsView, AreParts, ArePartsOf, IsNextPart, HoldsPart}
+use Rattle.isl_column.specs.Parts.{PartsView, AreParts, ArePartsOf, IsNextPart, HoldsPart, head_count, count_of}
 use Rattle.isl_column.proofs.PartsLemmas.{parts_kept}
 use Rattle.isl_elim.proofs.PartsLaws.{charged_bits, next_proper, parts_after}
 use Rattle.isl_elim.proofs.EmptinessLaws.{insert-remove}
@@ -48,6 +49,7 @@ along_none g columns cols rows old new e p n w = rw e (record {
 pub record ArePushed (g h : Gauge) (columns : ℕ) (cols : List ℕ) (first now : PartsView) (old new : List (List Row)) : Type 0 where
   pub charged : IsCharged g h
   pub are : AreParts h columns now
+  pub counted : (g.units + length new) + head_count now ≤ h.units + (length old + head_count first)
   pub added : List (List Row)
   pub pushed : new ≡ old ++ added
   pub proper : All (λ rows. All (IsProper g (columns - length cols)) rows) added
@@ -58,6 +60,7 @@ pub pushed_first : (g : Gauge) (columns : ℕ) (cols : List ℕ) (parts : PartsV
 pushed_first g columns cols parts old a = record {
   charged = IsCharged_refl g g refl;
   are = a;
+  counted = omega arith;
   added = [];
   pushed = sym (append-nil old);
   proper = All-nil (λ (rows : List Row). All (IsProper g (columns - length cols)) rows);
@@ -66,8 +69,10 @@ pushed_first g columns cols parts old a = record {
 }
 
 pub pushed_next : (g h k m : Gauge) (columns : ℕ) (cols : List ℕ) (first now next : PartsView) (rows : List Row) (old new newer : List (List Row)) → ArePushed g h columns cols first now old new → IsNextPart h columns now rows next
-    → IsCharged h k → AddsAlong k columns cols (HoldRows rows) new newer → IsCharged k m → ArePushed g m columns cols first next old newer
-pushed_next g h k m columns cols first now next rows old new newer a n c b d = record {
+    → IsCharged h k → AddsAlong k columns cols (HoldRows rows) new newer → IsCharged k m
+    → (h.units + 1) + head_count next ≤ k.units + head_count now → k.units + length newer ≤ m.units + (length new + 1) → ArePushed g m columns cols first next old newer
+pushed_next g h k m columns cols first now next rows old new newer a n c b d u v = record {
+  counted = let w = a.counted in omega (arith, u, v, w);
   charged = IsCharged_trans g h m a.charged (IsCharged_trans h k m c d);
   are = parts_kept h m columns next (IsCharged_trans h k m c d) n.rest;
   added = a.added ++ b.added;
@@ -147,6 +152,27 @@ pub along_after : {A : Type 0} (g h k : Gauge) (columns col : ℕ) (cols : List 
     → MatchResult result (λ _. AddsAlong g columns cols (HoldRows rows) old new × IsCharged g k) (IsCutBy g k)
 along_after g h k columns col cols rows parts old new (Ok v) d m i c a r = (along_column g h columns col cols rows parts old new d m i c a r.0, IsCharged_trans g h k c r.1)
 along_after g h k columns col cols rows parts old new (Err cut) d m i c a r = IsCutBy-after g h k cut c r
+
+-- ---- how many lists
+-- one list more
+pub one_more : (n : ℕ) (old new : List (List Row)) (rows : List Row) → new ≡ old ++ rows ∷ [] → n + length new ≤ n + (length old + 1)
+one_more n old new rows e =
+    let count = ap (λ (xs : List (List Row)). length xs) e ∙ length-append old (rows ∷ []) in omega (arith, count)
+
+head_one : (parts : PartsView) → head_count parts ≤ 1
+head_one parts = at_most parts.dark_shadow.dark
+  where
+    at_most : (dark : Option (List Row)) → count_of dark ≤ 1
+    at_most None = omega arith
+    at_most (Some rows) = omega arith
+
+pub counted_after : {A : Type 0} (g h k : Gauge) (parts : PartsView) (old new : List (List Row)) (result : Result A Cut) → IsCharged g h
+    → IfOk result (λ _. h.units + length new ≤ k.units + (length old + head_count parts))
+    → IfOk result (λ _. g.units + length new ≤ k.units + (length old + 1))
+counted_after {A} g h k parts old new result c p =
+    IfOk-weaker result (λ _. h.units + length new ≤ k.units + (length old + head_count parts))
+    (λ _. g.units + length new ≤ k.units + (length old + 1))
+    (λ _ w. let u = c.units in let one = head_one parts in omega (arith, w, u, one)) p
 
 -- the columns that are left
 pub columns_after : (n col : ℕ) (cols left : List ℕ) → left ≡ others_of col cols → AllPairs (λ a b. a ≢ b) cols → col < n

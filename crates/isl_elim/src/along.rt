@@ -1,13 +1,13 @@
 //! Several columns out of rows together.
 
-ghost use Rattle.std.specs.Prelude.{◌≡◌, ◌≢◌, ◌<◌, [], All, AllPairs, IfOk, MatchResult};
+ghost use Rattle.std.specs.Prelude.{◌≡◌, ◌≢◌, ◌<◌, ◌≤◌, ◌+◌, [], All, AllPairs, IfOk, MatchResult, length};
 ghost use Rattle.isl_meter.specs.Gauge.{IsCharged, IsCutBy};
 ghost use Rattle.isl_piece.specs.Normal.{IsNormal};
 ghost use Rattle.isl_piece.specs.System.{HoldRows};
 ghost use Rattle.isl_omega.specs.Column.{IsProper};
 ghost use Rattle.isl_elim.specs.Elimination.{AddsAlong};
 ghost use Rattle.isl_elim.specs.Others.{others_of};
-ghost use Rattle.isl_column.specs.Parts.{AreParts, HoldsPart};
+ghost use Rattle.isl_column.specs.Parts.{AreParts, HoldsPart, head_count};
 
 use crate::choice::cheapest;
 use isl_column::Parts;
@@ -50,6 +50,7 @@ fn push_without(
     ensures exact { MatchResult result
         (λ _. AddsAlong meter.old columns cols.now (HoldRows rows) lists.old.items lists.new.items × IsCharged meter.old meter.new)
         (IsCutBy meter.old meter.new) }
+    ensures counted { IfOk result (λ _. meter.old.units + length lists.new.items ≤ meter.new.units + (length lists.old.items + 1)) }
 {
     if cols.is_empty() {
         lists.push(rows)?;
@@ -79,6 +80,7 @@ fn push_parts(
     ensures exact { MatchResult result
         (λ _. AddsAlong meter.old columns cols.now (HoldsPart parts) lists.old.items lists.new.items × IsCharged meter.old meter.new)
         (IsCutBy meter.old meter.new) }
+    ensures counted { IfOk result (λ _. meter.old.units + length lists.new.items ≤ meter.new.units + (length lists.old.items + head_count parts)) }
 {
     while let Some(rows) = parts.next(alloc, columns, meter)? {
         push_without(alloc, rows, columns, cols, lists, meter)?;
@@ -101,6 +103,7 @@ pub(crate) fn rows_without(
     ensures exact { MatchResult result
         (λ lists. AddsAlong meter.old columns cols.now (HoldRows rows.now) [] lists.items × IsCharged meter.old meter.new)
         (IsCutBy meter.old meter.new) }
+    ensures counted { IfOk result (λ lists. meter.old.units + length lists.items ≤ meter.new.units + 1) }
 {
     let copied = rows.copy(alloc)?;
     match copied.normalise(alloc, meter)? {

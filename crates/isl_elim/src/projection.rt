@@ -1,6 +1,6 @@
 //! Columns out of a system: its projections.
 
-ghost use Rattle.std.specs.Prelude.{◌≡◌, ◌≢◌, ◌<◌, ◌-◌, ◌≤ℤ◌, ◌+ℤ◌, [], ◌∷◌, pos, ℕ, All, AllPairs, map, IfOk, MatchResult, option_to_list};
+ghost use Rattle.std.specs.Prelude.{◌≡◌, ◌≢◌, ◌<◌, ◌-◌, ◌+◌, ◌≤◌, ◌≤ℤ◌, ◌+ℤ◌, [], ◌∷◌, pos, length, ℕ, All, AllPairs, map, IfOk, MatchResult, option_to_list};
 ghost use Rattle.isl_meter.specs.Gauge.{IsCharged, IsCutBy};
 ghost use Rattle.isl_piece.specs.Normal.{IsNormal};
 ghost use Rattle.isl_piece.specs.System.{HoldRows, IsSystemWithin, free_columns};
@@ -59,6 +59,7 @@ fn lists_left(
     ensures equality { (col : ℕ) → gone.now ≡ col ∷ [] → col < free_columns system.now → HasEquality col system.now.rows → meter.new.units ≡ meter.old.units }
     ensures magnitude { (col : ℕ) → gone.now ≡ col ∷ [] → col < free_columns system.now → meter.old.bits ≡ 127 → HaveSmallNumbers system.now.rows
         → HaveOneCongruence system.now.rows col → result ≢ Err Cut.Overflow }
+    ensures counted { IfOk result (λ lists. meter.old.units + length lists.items ≤ meter.new.units + 1) }
 {
     if gone.len() == 1 && gone[0] < system.free() {
         let column = Column {
@@ -105,6 +106,7 @@ pub fn eliminate(
     ensures equality { dependents system.now (col ∷ []) ≡ [] → HasEquality col system.now.rows → meter.new.units ≡ meter.old.units }
     ensures magnitude { dependents system.now (col ∷ []) ≡ [] → meter.old.bits ≡ 127 → HaveSmallNumbers system.now.rows → HaveOneCongruence system.now.rows col
         → result ≢ Err Cut.Overflow }
+    ensures counted { IfOk result (λ systems. meter.old.units + length systems.items ≤ meter.new.units + 1) }
 {
     eliminate_all(alloc, system, &[col], meter)
 }
@@ -139,6 +141,7 @@ pub fn eliminate_all(
     ensures equality { (col : ℕ) → cols.now ≡ col ∷ [] → dependents system.now cols.now ≡ [] → HasEquality col system.now.rows → meter.new.units ≡ meter.old.units }
     ensures magnitude { (col : ℕ) → cols.now ≡ col ∷ [] → dependents system.now cols.now ≡ [] → meter.old.bits ≡ 127 → HaveSmallNumbers system.now.rows
         → HaveOneCongruence system.now.rows col → result ≢ Err Cut.Overflow }
+    ensures counted { IfOk result (λ systems. meter.old.units + length systems.items ≤ meter.new.units + 1) }
 {
     let gone = with_dependents(alloc, system, cols)?;
     let left = columns_left(alloc, system, cols, gone.as_slice(), meter)?;

@@ -14,6 +14,7 @@ pub mod PlaceLaws
 pub mod CombineLaws
 pub mod CutLaws
 pub mod DefinedLaws
+pub mod FormedLaws
 pub mod RowsLaws
 pub mod PlacedLaws
 pub mod MeetLaws

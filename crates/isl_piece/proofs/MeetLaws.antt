@@ -1,14 +1,18 @@
 -- Two systems as one: what it says of a point, and that it is a system.
-use Rattle.std.proofs.Common.{◌≡◌, ◌≢◌, ◌↔◌, refl, sym, ap, ◌∙◌, arith, subst, ℕ, zero, suc, ◌+◌, ◌-◌, ◌<◌, ◌≤◌, ℤ, pos, ◌+ℤ◌, List, [], ◌∷◌, ◌++◌, length, get_or, map, take, drop, fold, length-append, append_assoc, append-nil, take-append-drop, Option, Some, None}
+use Rattle.std.proofs.Common.{◌≡◌, ◌≢◌, ◌↔◌, ◌&&◌, inl, inr, true, refl, sym, ap, ap₂, ◌∙◌, unsigned_abs, arith, subst, ℕ, zero, suc, ◌+◌, ◌-◌, ◌<◌, ◌≤◌, ℤ, pos, ◌+ℤ◌, List, [], ◌∷◌, ◌++◌, length, get_or, map, take, drop, fold, length-append, append_assoc, append-nil, take-append-drop, Option, Some, None}
 use Rattle.std.specs.List.{All, range_with_len}
-use Rattle.std.specs.Bool.{nat_eq}
-use Rattle.std.proofs.lemmas.Bool.{eq-eqb}
+use Rattle.std.specs.Bool.{nat_eq, Decides}
+use Rattle.std.specs.Ordering.{int_eq}
+use Rattle.std.specs.Cmp.Lexicographic.{pointwise}
+use Rattle.std.proofs.lemmas.Bool.{eq-eqb, and_parts, cases_Bool, cond-true, cond-false, false≢true, false_from_ne_true}
+use Rattle.std.proofs.lemmas.Bool.Decides.{Decides-int_eq}
+use Rattle.std.proofs.lemmas.Slice.Eq.{slice_eq-Decides}
 use Rattle.std.proofs.lemmas.List.{get_or-append-add, length-take-le}
 use Rattle.std.proofs.lemmas.List.Sums.{fold-append, fold_more}
 use Rattle.std.proofs.lemmas.List.FromFn.{length-range_with_len}
 use Rattle.std.proofs.lemmas.List.Folds.{list_any_at}
 use Rattle.std.proofs.lemmas.List.Quantifiers.{all_pairs_push}
-use Rattle.std.proofs.lemmas.List.Elements.{All-append, All-map, All-push, All-weaker}
+use Rattle.std.proofs.lemmas.List.Elements.{All-append, All-head, All-tail, All-nil, All-map, All-push, All-weaker}
 use Rattle.isl_math.specs.Divide.{floor_div}
 use Rattle.isl_math.specs.Dot.{dot}
 use Rattle.isl_math.proofs.DotLaws.{dot-append}
@@ -21,11 +25,13 @@ use Rattle.isl_piece.specs.declared.definition.Definition.{Definition}
 use Rattle.isl_piece.specs.declared.meeting.Meeting.{Meeting}
 use Rattle.isl_piece.specs.declared.system.System.{System}
 use Rattle.isl_piece.specs.Definition.{defined_value, with_next, with_defined, IsDefinition, AreDefinitions}
-use Rattle.isl_piece.specs.Row.{HoldsRow, HoldsValue, value_at, IsWellFormed, IsRowWithin}
+use Rattle.isl_piece.specs.Row.{HoldsRow, HoldsValue, value_at, IsWellFormed, IsRowUpTo, IsRowWithin}
 use Rattle.isl_piece.specs.System.{HoldRows, HoldsSystem, free_columns, IsSystemWithin}
 use Rattle.isl_piece.specs.Meet.{placed_row, placed_definition, numbers_at, column_with, joined_at, with_column, first_columns, meeting_of, over_same_columns, met, IsPlaced}
+use Rattle.isl_piece.specs.Formed.{IsDefinitionUpTo, IsSystemUpTo}
+use Rattle.isl_piece.specs.Placed.{with_own_column, placing_of, placed_system, both_systems, is_equal_definition, ArePlacesAmong}
 use Rattle.isl_piece.proofs.DefinedLaws.{with_defined_push, length-with_defined, AreDefinitions-push, definition_at}
-use Rattle.isl_piece.proofs.PlacedLaws.{AreApart, length-placed, placed-all, placed_dot, numbers_at-first, numbers_at-push, numbers_at-longer, first_apart, first_inside, IsSameDefinition, IsFound, column_with-found}
+use Rattle.isl_piece.proofs.PlacedLaws.{AreApart, equal_definitions, length-placed, placed-all, placed_dot, numbers_at-first, numbers_at-push, numbers_at-longer, first_apart, first_inside, IsSameDefinition, IsFound, column_with-found}
 
 -- ---- the same definitions
 module _ (a b : System) (definitions : a.definitions ≡ b.definitions) where
@@ -123,15 +129,16 @@ number_of g definitions xs i d all l =
     number_at definitions xs i d l ∙ sym (ap (defined_value one) whole ∙ value_longer one before later.rest wide)
 
 -- ---- both
--- the columns of the first and of some definitions of the second: each column of the second has its number at its place
-pub record IsMeetingOf (g : Gauge) (free : ℕ) (first definitions : List Definition) (m : Meeting) : Type 0 where
+-- the columns of the first and of some definitions of the second, whose free columns stand at the places `start`: each column of the
+-- second has its number at its place
+pub record IsMeetingOf (g : Gauge) (free : ℕ) (start : List ℕ) (first definitions : List Definition) (m : Meeting) : Type 0 where
   pub placed : IsPlaced free m
-  pub count : length m.places ≡ free + length definitions
+  pub count : length m.places ≡ length start + length definitions
   pub apart : AreApart m.places
   pub rest : List Definition
   pub longer : m.definitions ≡ first ++ rest
   pub defined : AreDefinitions g free m.definitions
-  pub same : (xs : List ℤ) → length xs ≡ free → numbers_at m.places (with_defined m.definitions xs) ≡ with_defined definitions xs
+  pub same : (xs : List ℤ) → length xs ≡ free → numbers_at m.places (with_defined m.definitions xs) ≡ with_defined definitions (numbers_at start xs)
 
 apart_push : (places : List ℕ) (place : ℕ) → AreApart places → ((k : ℕ) (d : ℕ) → k < length places → get_or places k d ≢ place) → AreApart (places ++ place ∷ [])
 apart_push places place h free = all_pairs_push (λ p q. p ≢ q) places place h free
@@ -139,7 +146,8 @@ apart_push places place h free = all_pairs_push (λ p q. p ≢ q) places place h
 same_value : (a b : Definition) (q : List ℤ) → IsSameDefinition a b → defined_value a q ≡ defined_value b q
 same_value a b q s = rw (s.form q, s.constant, s.k) refl
 
-module _ (g : Gauge) (free : ℕ) (first definitions : List Definition) (m : Meeting) (d : Definition) (h : IsMeetingOf g free first definitions m) (one : IsDefinition g (free + length definitions) d) where
+module _ (g : Gauge) (free : ℕ) (start : List ℕ) (first definitions : List Definition) (m : Meeting) (d : Definition)
+    (h : IsMeetingOf g free start first definitions m) (one : IsDefinition g (length start + length definitions) d) where
   abbrev moved : Definition
   moved = placed_definition m.columns m.places d
 
@@ -152,7 +160,8 @@ module _ (g : Gauge) (free : ℕ) (first definitions : List Definition) (m : Mee
     k = one.k;
   }
 
-  moved_value : (xs : List ℤ) → length xs ≡ free → defined_value moved (with_defined m.definitions xs) ≡ defined_value d (with_defined definitions xs)
+  moved_value : (xs : List ℤ) → length xs ≡ free → defined_value moved (with_defined m.definitions xs)
+      ≡ defined_value d (with_defined definitions (numbers_at start xs))
   moved_value xs e =
       let full = with_defined m.definitions xs in
       ap (λ z. floor_div (z +ℤ d.constant) d.k) (placed_dot m.columns m.places d.coefs full (one.width ∙ sym h.count) h.apart h.placed.inside ∙ ap (dot d.coefs) (h.same xs e))
@@ -160,7 +169,8 @@ module _ (g : Gauge) (free : ℕ) (first definitions : List Definition) (m : Mee
   wide : (xs : List ℤ) → length xs ≡ free → length (with_defined m.definitions xs) ≡ m.columns
   wide xs e = length-with_defined m.definitions xs ∙ ap (λ n. n + length m.definitions) e ∙ sym h.placed.columns
 
-  joined : (found : Option ℕ) → ((column : ℕ) → found ≡ Some column → IsFound moved m.places free m.definitions column) → IsMeetingOf g free first (definitions ++ d ∷ []) (joined_at m moved found)
+  joined : (found : Option ℕ) → ((column : ℕ) → found ≡ Some column → IsFound moved m.places free m.definitions column)
+      → IsMeetingOf g free start first (definitions ++ d ∷ []) (joined_at m moved found)
   joined None f =
       let places = length-append m.places (m.columns ∷ []) in
       let more = length-append definitions (d ∷ []) in
@@ -181,8 +191,8 @@ module _ (g : Gauge) (free : ℕ) (first definitions : List Definition) (m : Mee
             ap (numbers_at (m.places ++ m.columns ∷ [])) (with_defined_push m.definitions moved xs)
             ∙ numbers_at-push m.places m.columns (full ++ v ∷ [])
             ∙ ap (λ ys. ys ++ get_or (full ++ v ∷ []) m.columns (pos 0) ∷ []) (numbers_at-longer m.places full (v ∷ []) low ∙ h.same xs e)
-            ∙ ap (λ z. with_defined definitions xs ++ z ∷ []) (seam ∙ moved_value xs e)
-            ∙ sym (with_defined_push definitions d xs);
+            ∙ ap (λ z. with_defined definitions (numbers_at start xs) ++ z ∷ []) (seam ∙ moved_value xs e)
+            ∙ sym (with_defined_push definitions d (numbers_at start xs));
       }
   joined (Some column) f =
       let found = f column refl in
@@ -208,35 +218,79 @@ module _ (g : Gauge) (free : ℕ) (first definitions : List Definition) (m : Mee
             ∙ same_value (get_or m.definitions i moved) moved full (found.same moved) in
             numbers_at-push m.places column full
             ∙ ap (λ ys. ys ++ get_or full column (pos 0) ∷ []) (h.same xs e)
-            ∙ ap (λ z. with_defined definitions xs ++ z ∷ []) (number ∙ moved_value xs e)
-            ∙ sym (with_defined_push definitions d xs);
+            ∙ ap (λ z. with_defined definitions (numbers_at start xs) ++ z ∷ []) (number ∙ moved_value xs e)
+            ∙ sym (with_defined_push definitions d (numbers_at start xs));
       }
 
-  IsMeetingOf-more : IsMeetingOf g free first (definitions ++ d ∷ []) (with_column free m d)
+  IsMeetingOf-more : IsMeetingOf g free start first (definitions ++ d ∷ []) (with_column free m d)
   IsMeetingOf-more = joined (column_with moved m.places free m.definitions) (λ column e. column_with-found moved m.places free m.definitions column e)
 
 -- the first places have the first numbers
 first_at : (n : ℕ) (xs ys : List ℤ) → n ≡ length xs → numbers_at (range_with_len 0 n) (xs ++ ys) ≡ xs
 first_at n xs ys e = rw e (numbers_at-first xs ys)
 
-IsMeetingOf-all : (g : Gauge) (free : ℕ) (first before later : List Definition) (m : Meeting) → IsMeetingOf g free first before m → AreDefinitions g (free + length before) later
-    → IsMeetingOf g free first (before ++ later) (fold (with_column free) m later)
-IsMeetingOf-all g free first before [] m h all = rw (append-nil before) h
-IsMeetingOf-all g free first before (d ∷ later) m h all =
+-- a step that keeps this for each definition keeps it for all
+IsMeetingOf-fold : (g : Gauge) (free : ℕ) (start : List ℕ) (first before later : List Definition) (m : Meeting) (step : Meeting → Definition → Meeting)
+    → ((definitions : List Definition) (n : Meeting) (d : Definition) → IsMeetingOf g free start first definitions n
+        → IsDefinition g (length start + length definitions) d → IsMeetingOf g free start first (definitions ++ d ∷ []) (step n d))
+    → IsMeetingOf g free start first before m → AreDefinitions g (length start + length before) later
+    → IsMeetingOf g free start first (before ++ later) (fold step m later)
+IsMeetingOf-fold g free start first before [] m step keeps h all = rw (append-nil before) h
+IsMeetingOf-fold g free start first before (d ∷ later) m step keeps h all =
     let more = length-append before (d ∷ []) in
-    let next : suc (free + length before) ≡ free + length (before ++ d ∷ []) = omega arith in
-    rw (← append_assoc before (d ∷ []) later) (IsMeetingOf-all g free first (before ++ d ∷ []) later (with_column free m d) (IsMeetingOf-more g free first before m d h all.0) (subst (λ n. AreDefinitions g n later) next all.1))
+    let next : suc (length start + length before) ≡ length start + length (before ++ d ∷ []) = omega arith in
+    rw (← append_assoc before (d ∷ []) later) (IsMeetingOf-fold g free start first (before ++ d ∷ []) later (step m d) step keeps
+        (keeps before m d h all.0) (subst (λ n. AreDefinitions g n later) next all.1))
 
-IsMeetingOf-first : (g : Gauge) (free : ℕ) (a : System) → AreDefinitions g free a.definitions → IsMeetingOf g free a.definitions [] (first_columns free a)
+first_numbers-own : (free : ℕ) (xs : List ℤ) → length xs ≡ free → numbers_at (range_with_len 0 free) xs ≡ xs
+first_numbers-own free xs e = ap (numbers_at (range_with_len 0 free)) (sym (append-nil xs)) ∙ first_at free xs [] (sym e)
+
+IsMeetingOf-first : (g : Gauge) (free : ℕ) (a : System) → AreDefinitions g free a.definitions
+    → IsMeetingOf g free (range_with_len 0 free) a.definitions [] (first_columns free a)
 IsMeetingOf-first g free a all = record {
   placed = IsPlaced-first free a;
-  count = length-range_with_len 0 free ∙ omega arith;
+  count = omega arith;
   apart = first_apart free;
   rest = [];
   longer = sym (append-nil a.definitions);
   defined = all;
-  same = λ xs e. let x = extends a.definitions xs in ap (numbers_at (range_with_len 0 free)) x.is ∙ first_at free xs x.rest (sym e);
+  same = λ xs e.
+      let x = extends a.definitions xs in
+      ap (numbers_at (range_with_len 0 free)) x.is ∙ first_at free xs x.rest (sym e) ∙ sym (first_numbers-own free xs e);
 }
+
+IsMeetingOf-placing : (g : Gauge) (columns : ℕ) (places : List ℕ) → ArePlacesAmong columns places
+    → IsMeetingOf g columns places [] [] (record { columns = columns; definitions = []; places = places })
+IsMeetingOf-placing g columns places are = record {
+  placed = record { columns = omega arith; inside = are.inside };
+  count = omega arith;
+  apart = are.apart;
+  rest = [];
+  longer = refl;
+  defined = tt;
+  same = λ xs e. refl;
+}
+
+pub placing_is : (g : Gauge) (columns : ℕ) (places : List ℕ) (definitions : List Definition) → ArePlacesAmong columns places
+    → AreDefinitions g (length places) definitions → IsMeetingOf g columns places [] definitions (placing_of columns places definitions)
+placing_is g columns places definitions are all =
+    let same : length places ≡ length places + 0 = omega arith in
+    IsMeetingOf-fold g columns places [] [] definitions (record { columns = columns; definitions = []; places = places }) with_own_column
+    (λ before m d h one. joined g columns places [] before m d h one None (λ column e. cc))
+    (IsMeetingOf-placing g columns places are) (subst (λ n. AreDefinitions g n definitions) same all)
+
+-- ---- one more column behind the others
+pub IsPlaced-start : (columns : ℕ) (places : List ℕ) → All (λ p. p < columns) places
+    → IsPlaced columns (record { columns = columns; definitions = []; places = places })
+IsPlaced-start columns places inside = record { columns = omega arith; inside = inside }
+
+pub IsPlaced-own : (columns : ℕ) (m : Meeting) (d : Definition) → IsPlaced columns m → IsPlaced columns (with_own_column m d)
+IsPlaced-own columns m d h = IsPlaced-joined columns m (placed_definition m.columns m.places d) None h (λ column e. cc)
+
+pub placing_more : (columns : ℕ) (places : List ℕ) (definitions : List Definition) (i : ℕ) (d : Definition) → i < length definitions
+    → placing_of columns places (take (i + 1) definitions) ≡ with_own_column (placing_of columns places (take i definitions)) (get_or definitions i d)
+placing_more columns places definitions i d l =
+    fold_more with_own_column (record { columns = columns; definitions = []; places = places }) definitions i d l
 
 -- ---- rows at their places
 module _ (g : Gauge) (columns : ℕ) (places : List ℕ) where
@@ -265,10 +319,16 @@ module _ (g : Gauge) (a b : System) (free : free_columns a ≡ free_columns b) (
   abbrev both : Meeting
   both = meeting_of a b.definitions
 
-  columns_of : IsMeetingOf g (free_columns a) a.definitions b.definitions both
+  abbrev start : List ℕ
+  start = range_with_len 0 (free_columns a)
+
+  columns_of : IsMeetingOf g (free_columns a) start a.definitions b.definitions both
   columns_of =
-      let same : free_columns b ≡ free_columns a + 0 = omega arith in
-      IsMeetingOf-all g (free_columns a) a.definitions [] b.definitions (first_columns (free_columns a) a) (IsMeetingOf-first g (free_columns a) a p.definitions) (subst (λ n. AreDefinitions g n b.definitions) same q.definitions)
+      let long = length-range_with_len 0 (free_columns a) in
+      let same : free_columns b ≡ length start + 0 = omega arith in
+      IsMeetingOf-fold g (free_columns a) start a.definitions [] b.definitions (first_columns (free_columns a) a) (with_column (free_columns a))
+      (IsMeetingOf-more g (free_columns a) start a.definitions)
+      (IsMeetingOf-first g (free_columns a) a p.definitions) (subst (λ n. AreDefinitions g n b.definitions) same q.definitions)
 
   own : a.columns ≤ both.columns
   own =
@@ -287,13 +347,14 @@ module _ (g : Gauge) (a b : System) (free : free_columns a ≡ free_columns b) (
       let seconds = map (placed_row both.columns both.places) b.rows in
       let P : Row → Type 0 = λ r. HoldsRow r full in
       let one = placed_hold g both.columns (range_with_len 0 a.columns) (first_apart a.columns) (first_inside a.columns both.columns own) a.columns a.rows full (with_defined a.definitions xs) p.rows (length-range_with_len 0 a.columns) first_numbers in
-      let other = placed_hold g both.columns both.places m.apart m.placed.inside b.columns b.rows full (with_defined b.definitions xs) q.rows wide (m.same xs e) in (
+      let other = placed_hold g both.columns both.places m.apart m.placed.inside b.columns b.rows full (with_defined b.definitions xs) q.rows wide
+          (m.same xs e ∙ ap (with_defined b.definitions) (first_numbers-own (free_columns a) xs e)) in (
         (λ h. let parts = All-parts P firsts seconds h in (one.0 parts.0, other.0 parts.1)),
         (λ h. All-append P firsts seconds (one.1 h.0) (other.1 h.1)),
       )
     where
       wide : length both.places ≡ b.columns
-      wide = let c = columns_of.count in let d = q.count in omega arith
+      wide = let c = columns_of.count in let d = q.count in let long = length-range_with_len 0 (free_columns a) in omega arith
 
       first_numbers : numbers_at (range_with_len 0 a.columns) (with_defined both.definitions xs) ≡ with_defined a.definitions xs
       first_numbers =
@@ -317,3 +378,163 @@ module _ (g : Gauge) (a b : System) (free : free_columns a ≡ free_columns b) (
         count = omega arith;
         definitions = subst (λ n. AreDefinitions g n both.definitions) (sym free) m.defined;
       }
+
+  pub met_free : free_columns (met a b) ≡ free_columns a
+  met_free = let m = columns_of in let columns = m.placed.columns in omega arith
+
+-- ---- one system at other places
+module _ (g : Gauge) (columns : ℕ) (places : List ℕ) (s : System) (are : ArePlacesAmong columns places) (p : IsSystemWithin g s)
+    (free : length places ≡ free_columns s) where
+  abbrev placing : Meeting
+  placing = placing_of columns places s.definitions
+
+  placing_here : IsMeetingOf g columns places [] s.definitions placing
+  placing_here = placing_is g columns places s.definitions are (subst (λ n. AreDefinitions g n s.definitions) (sym free) p.definitions)
+
+  wide_places : length placing.places ≡ s.columns
+  wide_places = let c = placing_here.count in let d = p.count in omega arith
+
+  pub placed_points : (xs : List ℤ) → length xs ≡ columns → HoldsSystem (placed_system columns places s) xs ↔ HoldsSystem s (numbers_at places xs)
+  placed_points xs e =
+      let m = placing_here in
+      placed_hold g placing.columns placing.places m.apart m.placed.inside s.columns s.rows (with_defined placing.definitions xs)
+      (with_defined s.definitions (numbers_at places xs)) p.rows wide_places (m.same xs e)
+
+  pub placed_free : free_columns (placed_system columns places s) ≡ columns
+  placed_free = let c = placing_here.placed.columns in omega arith
+
+  pub placed_system_within : IsSystemWithin g (placed_system columns places s)
+  placed_system_within =
+      let m = placing_here in
+      let c = m.placed.columns in
+      record {
+        rows = placed_formed g placing.columns placing.places s.columns s.rows p.rows;
+        within = placed_within g placing.columns placing.places s.rows p.within;
+        count = omega arith;
+        definitions = subst (λ n. AreDefinitions g n placing.definitions) (sym placed_free) m.defined;
+      }
+
+-- what is made of the columns and the rows
+pub placing_system : (m n : Meeting) (rows made : List Row) → m ≡ n → made ≡ map (placed_row m.columns m.places) rows
+    → (let s : System = record { columns = m.columns; definitions = m.definitions; rows = made } in s)
+        ≡ record { columns = n.columns; definitions = n.definitions; rows = map (placed_row n.columns n.places) rows }
+placing_system m n rows made e is =
+    ap (λ rs. let s : System = record { columns = m.columns; definitions = m.definitions; rows = rs } in s) is
+    ∙ ap (λ (k : Meeting). let s : System = record {
+      columns = k.columns;
+      definitions = k.definitions;
+      rows = map (placed_row k.columns k.places) rows;
+    } in s) e
+
+-- ---- magnitudes
+placed_definition_up_to : (b columns : ℕ) (places : List ℕ) (d : Definition) → IsDefinitionUpTo b d
+    → IsDefinitionUpTo b (placed_definition columns places d)
+placed_definition_up_to b columns places d h = record {
+  coefs = placed-all (λ c. unsigned_abs c ≤ b) columns places d.coefs (omega arith) h.coefs;
+  constant = h.constant;
+  k = h.k;
+}
+
+placed_rows_up_to : (b columns : ℕ) (places : List ℕ) (rows : List Row) → All (IsRowUpTo b) rows
+    → All (IsRowUpTo b) (map (placed_row columns places) rows)
+placed_rows_up_to b columns places rows h = All-map (IsRowUpTo b) (placed_row columns places) rows (λ k d l. record {
+  coefs = placed-all (λ c. unsigned_abs c ≤ b) columns places (get_or rows k d).coefs (omega arith) (h k d l).coefs;
+  constant = (h k d l).constant;
+  k = (h k d l).k;
+})
+
+-- no definition that is put behind the others is greater than those before
+joined_up_to : (b : ℕ) (m : Meeting) (d : Definition) (found : Option ℕ) → All (IsDefinitionUpTo b) m.definitions → IsDefinitionUpTo b d
+    → All (IsDefinitionUpTo b) (joined_at m d found).definitions
+joined_up_to b m d None h one = All-push (IsDefinitionUpTo b) m.definitions d h one
+joined_up_to b m d (Some column) h one = h
+
+fold_up_to : (b : ℕ) (step : Meeting → Definition → Meeting)
+    → ((m : Meeting) (d : Definition) → All (IsDefinitionUpTo b) m.definitions → IsDefinitionUpTo b d → All (IsDefinitionUpTo b) (step m d).definitions)
+    → (m : Meeting) (definitions : List Definition) → All (IsDefinitionUpTo b) m.definitions → All (IsDefinitionUpTo b) definitions
+    → All (IsDefinitionUpTo b) (fold step m definitions).definitions
+fold_up_to b step keeps m [] h all = h
+fold_up_to b step keeps m (d ∷ definitions) h all =
+    fold_up_to b step keeps (step m d) definitions (keeps m d h (All-head (IsDefinitionUpTo b) d definitions all))
+    (All-tail (IsDefinitionUpTo b) d definitions all)
+
+pub placed_up_to : (b columns : ℕ) (places : List ℕ) (s : System) → IsSystemUpTo b s → IsSystemUpTo b (placed_system columns places s)
+placed_up_to b columns places s h =
+    let m = placing_of columns places s.definitions in
+    record {
+      rows = placed_rows_up_to b m.columns m.places s.rows h.rows;
+      definitions = fold_up_to b with_own_column
+          (λ n d all one. joined_up_to b n (placed_definition n.columns n.places d) None all (placed_definition_up_to b n.columns n.places d one))
+          (record { columns = columns; definitions = []; places = places }) s.definitions (All-nil (IsDefinitionUpTo b)) h.definitions;
+    }
+
+pub met_up_to : (b : ℕ) (s t : System) → IsSystemUpTo b s → IsSystemUpTo b t → IsSystemUpTo b (met s t)
+met_up_to b s t h k =
+    let m = meeting_of s t.definitions in
+    let free = free_columns s in
+    record {
+      rows = All-append (IsRowUpTo b) (map (placed_row m.columns (range_with_len 0 s.columns)) s.rows) (map (placed_row m.columns m.places) t.rows)
+          (placed_rows_up_to b m.columns (range_with_len 0 s.columns) s.rows h.rows) (placed_rows_up_to b m.columns m.places t.rows k.rows);
+      definitions = fold_up_to b (with_column free)
+          (λ n d all one.
+          let moved = placed_definition n.columns n.places d in
+          joined_up_to b n moved (column_with moved n.places free n.definitions) all (placed_definition_up_to b n.columns n.places d one))
+          (first_columns free s) t.definitions h.definitions k.definitions;
+    }
+
+pub same_up_to : (b : ℕ) (s t : System) → IsSystemUpTo b s → IsSystemUpTo b t → IsSystemUpTo b (over_same_columns s t)
+same_up_to b s t h k = record { rows = All-append (IsRowUpTo b) s.rows t.rows h.rows k.rows; definitions = h.definitions }
+
+-- ---- whether both define the same columns
+definition_eq : (a d : Definition) → Decides (is_equal_definition a d) (a ≡ d)
+definition_eq a d = (
+  (λ e.
+      let parts = and_parts _ _ e in
+      let front = and_parts _ _ parts.0 in
+      (equal_definitions a d true ((Decides-int_eq a.constant d.constant).0 front.1) ((Decides-int_eq a.k d.k).0 parts.1) (sym front.0)).0 refl),
+  (λ e. subst (λ (x : Definition). is_equal_definition a x ≡ true) e itself),
+)
+  where
+    itself : is_equal_definition a a ≡ true
+    itself =
+        let coefs = (slice_eq-Decides Decides-int_eq a.coefs a.coefs (pointwise int_eq a.coefs a.coefs) refl).1 refl in
+        let constant = (Decides-int_eq a.constant a.constant).1 refl in
+        let k = (Decides-int_eq a.k a.k).1 refl in
+        ap₂ (λ x y. x && y) (ap₂ (λ x y. x && y) coefs constant) k
+
+definitions_eq : (a b : List Definition) → Decides (pointwise is_equal_definition a b) (a ≡ b)
+definitions_eq a b = slice_eq-Decides definition_eq a b (pointwise is_equal_definition a b) refl
+
+pub both_same : (a b : System) → a.definitions ≡ b.definitions → both_systems a b ≡ over_same_columns a b
+both_same a b e =
+    cond-true (pointwise is_equal_definition a.definitions b.definitions) (over_same_columns a b) (met a b)
+    ((definitions_eq a.definitions b.definitions).1 e)
+
+pub both_apart : (a b : System) → a.definitions ≢ b.definitions → both_systems a b ≡ met a b
+both_apart a b n =
+    cond-false (pointwise is_equal_definition a.definitions b.definitions) (over_same_columns a b) (met a b)
+    (false_from_ne_true _ (λ t. n ((definitions_eq a.definitions b.definitions).0 t)))
+
+-- ---- both systems, whichever columns they define
+pub both_case : (P : System → Type 0) (a b : System) → (a.definitions ≡ b.definitions → P (over_same_columns a b))
+    → (a.definitions ≢ b.definitions → P (met a b)) → P (both_systems a b)
+both_case P a b same apart = elim (cases_Bool (pointwise is_equal_definition a.definitions b.definitions)) [
+  | inl t ↦ let e = (definitions_eq a.definitions b.definitions).0 t in subst P (sym (both_same a b e)) (same e)
+  | inr f ↦
+      let n : a.definitions ≢ b.definitions = λ e. false≢true (sym f ∙ (definitions_eq a.definitions b.definitions).1 e) in
+      subst P (sym (both_apart a b n)) (apart n)
+]
+
+pub both_up_to : (n : ℕ) (a b : System) → IsSystemUpTo n a → IsSystemUpTo n b → IsSystemUpTo n (both_systems a b)
+both_up_to n a b h k = both_case (IsSystemUpTo n) a b (λ e. same_up_to n a b h k) (λ e. met_up_to n a b h k)
+
+module _ (g : Gauge) (a b : System) (free : free_columns a ≡ free_columns b) (p : IsSystemWithin g a) (q : IsSystemWithin g b) where
+  pub both_points : (xs : List ℤ) → length xs ≡ free_columns a → HoldsSystem (both_systems a b) xs ↔ (HoldsSystem a xs × HoldsSystem b xs)
+  both_points xs l = both_case (λ s. HoldsSystem s xs ↔ (HoldsSystem a xs × HoldsSystem b xs)) a b (λ e. same_points a b e xs)
+      (λ e. met_points g a b free p q xs l)
+
+  pub both_within : IsSystemWithin g (both_systems a b)
+  both_within = both_case (IsSystemWithin g) a b (λ e. same_within a b e g free p q) (λ e. met_within g a b free p q)
+
+  pub both_free : free_columns (both_systems a b) ≡ free_columns a
+  both_free = both_case (λ s. free_columns s ≡ free_columns a) a b (λ e. refl) (λ e. met_free g a b free p q)

@@ -1,6 +1,7 @@
 pub mod Combine
 pub mod Cut
 pub mod Definition
+pub mod Formed
 pub mod Index
 pub mod Meet
 pub mod Negation
@@ -8,6 +9,7 @@ pub mod Normal
 pub mod Numbers
 pub mod Outcome
 pub mod Piece
+pub mod Placed
 pub mod Row
 pub mod Stored
 pub mod System

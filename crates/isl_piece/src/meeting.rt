@@ -1,11 +1,13 @@
 //! The system that holds where two systems do.
 
-ghost use Rattle.std.specs.Prelude.{◌≡◌, ◌≢◌, ◌↔◌, ◌+◌, ◌<◌, ◌≤◌, ◌^◌, ℕ, ℤ, pos, List, [], ◌∷◌, ◌++◌, All, fold, length, map, replicate, IsTrue, IfOk, OnOk};
+ghost use Rattle.std.specs.Prelude.{◌≡◌, ◌≢◌, ◌↔◌, ◌+◌, ◌<◌, ◌≤◌, ◌^◌, ℕ, ℤ, pos, List, [], ◌∷◌, ◌++◌, All, None, fold, length, map, replicate, IsTrue, IfOk, OnOk};
 ghost use Rattle.std.specs.List.{list_all, list_any, range_with_len};
 ghost use Rattle.std.specs.Bool.{nat_eq};
 ghost use Rattle.std.specs.Ordering.{int_eq};
 ghost use Rattle.isl_meter.specs.Gauge.{Gauge};
-ghost use Rattle.isl_piece.specs.Meet.{placed, placed_row, placed_definition, is_padded, is_same_definition, column_with, with_column, first_columns, meeting_of, over_columns, over_same_columns, met, IsPlaced};
+ghost use Rattle.isl_piece.specs.Meet.{placed, placed_row, placed_definition, is_padded, is_same_definition, column_with, joined_at, with_column, first_columns, meeting_of, over_columns, over_same_columns, met, numbers_at, IsPlaced};
+ghost use Rattle.isl_piece.specs.Formed.{IsSystemUpTo};
+ghost use Rattle.isl_piece.specs.Placed.{placing_of, placed_system, both_systems, ArePlacesAmong};
 ghost use Rattle.isl_piece.specs.System.{HoldsSystem, IsSystemWithin, free_columns};
 
 use crate::{Coefs, Definition, Definitions, Row, Rows, System};
@@ -38,6 +40,14 @@ impl Places {
             items.push(place)?;
         }
         Ok(Places { items })
+    }
+
+    fn from_slice(alloc: Global, places: &[usize]) -> Result<Self, AllocError>
+        ensures { IfOk result (λ made. made ≡ places.now) }
+    {
+        Ok(Places {
+            items: Vec::from_slice(alloc, places)?,
+        })
     }
 
     fn contains(&self, column: usize) -> bool
@@ -176,13 +186,44 @@ impl Meeting {
             .placed_definition(alloc, self.columns, definition)?;
         match column_with(self.definitions.as_slice(), free, &moved, &self.places) {
             Some(column) => self.places.push(column)?,
-            None => {
-                self.places.push(self.columns)?;
-                self.columns = moved.coefs.len() + 1;
-                self.definitions.push(moved)?;
-            }
+            None => self.push(moved)?,
         }
         Ok(())
+    }
+
+    // A column with the definition, behind the others.
+    fn push(&mut self, moved: Definition) -> Result<(), AllocError>
+        requires { length moved.coefs ≡ self.old.columns }
+        ensures { OnOk result (self.new ≡ joined_at self.old moved None) }
+    {
+        self.places.push(self.columns)?;
+        self.columns = moved.coefs.len() + 1;
+        self.definitions.push(moved)?;
+        Ok(())
+    }
+
+    // The free columns at their places among so many, and behind these the defined ones.
+    fn placing(
+        alloc: Global,
+        columns: usize,
+        places: &[usize],
+        definitions: &Definitions,
+    ) -> Result<Self, AllocError>
+        requires { All (λ place. place < columns) places.now }
+        ensures exact { IfOk result (λ meeting. meeting ≡ placing_of columns places.now definitions.now) }
+        ensures placed { IfOk result (IsPlaced columns) }
+    {
+        let mut meeting = Meeting {
+            columns,
+            definitions: Definitions::new(alloc),
+            places: Places::from_slice(alloc, places)?,
+        };
+        for definition in definitions.as_slice() {
+            let columns = meeting.columns;
+            let moved = meeting.places.placed_definition(alloc, columns, definition)?;
+            meeting.push(moved)?;
+        }
+        Ok(meeting)
     }
 
     // The columns of both.
@@ -238,6 +279,40 @@ fn same_columns(alloc: Global, a: &System, b: &System) -> Result<System, AllocEr
     })
 }
 
+impl System {
+    /// The system with its free columns at other places, among so many, and its defined columns behind these.
+    ///
+    /// # Errors
+    ///
+    /// `AllocError` where memory ends.
+    pub fn placed(
+        &self,
+        alloc: Global,
+        columns: usize,
+        places: &[usize],
+    ) -> Result<System, AllocError>
+        requires { All (λ place. place < columns) places.now }
+        ensures exact { IfOk result (λ system. system ≡ placed_system columns places.now self.now) }
+        ensures points { (g : Gauge) (point : List ℤ) → IsSystemWithin g self.now → ArePlacesAmong columns places.now
+            → length places.now ≡ free_columns self.now → length point ≡ columns
+            → IfOk result (λ system. HoldsSystem system point ↔ HoldsSystem self.now (numbers_at places.now point)) }
+        ensures within { (g : Gauge) → IsSystemWithin g self.now → ArePlacesAmong columns places.now → length places.now ≡ free_columns self.now
+            → IfOk result (λ system. IsSystemWithin g system × (free_columns system ≡ columns)) }
+        ensures magnitudes { (most : ℕ) → IsSystemUpTo most self.now → IfOk result (IsSystemUpTo most) }
+    {
+        let placing = Meeting::placing(alloc, columns, places, &self.definitions)?;
+        let mut rows = Rows::with_capacity(alloc, self.rows.len())?;
+        placing
+            .places
+            .append_placed(alloc, placing.columns, &mut rows, &self.rows)?;
+        Ok(System {
+            columns: placing.columns,
+            definitions: placing.definitions,
+            rows,
+        })
+    }
+}
+
 /// The system that holds where both do: the rows of `a`, then those of `b`. Both have the same free columns. Where they have
 /// the same definitions the columns stay as they are; else each defined column of `b` is found among the columns of `a` by its
 /// definition, or stands behind them, so that no column is there twice.
@@ -247,11 +322,15 @@ fn same_columns(alloc: Global, a: &System, b: &System) -> Result<System, AllocEr
 /// `AllocError` where memory ends.
 pub fn meet(alloc: Global, a: &System, b: &System) -> Result<System, AllocError>
     requires { free_columns a.now ≡ free_columns b.now }
+    ensures exact { IfOk result (λ system. system ≡ both_systems a.now b.now) }
     ensures same { a.now.definitions ≡ b.now.definitions → IfOk result (λ system. system ≡ over_same_columns a.now b.now) }
     ensures apart { a.now.definitions ≢ b.now.definitions → IfOk result (λ system. system ≡ met a.now b.now) }
     ensures points { (g : Gauge) (point : List ℤ) → IsSystemWithin g a.now → IsSystemWithin g b.now → length point ≡ free_columns a.now
         → IfOk result (λ system. HoldsSystem system point ↔ (HoldsSystem a.now point × HoldsSystem b.now point)) }
     ensures within { (g : Gauge) → IsSystemWithin g a.now → IsSystemWithin g b.now → IfOk result (IsSystemWithin g) }
+    ensures free { (g : Gauge) → IsSystemWithin g a.now → IsSystemWithin g b.now
+        → IfOk result (λ system. free_columns system ≡ free_columns a.now) }
+    ensures magnitudes { (most : ℕ) → IsSystemUpTo most a.now → IsSystemUpTo most b.now → IfOk result (IsSystemUpTo most) }
 {
     if a.definitions.same(&b.definitions) {
         return same_columns(alloc, a, b);

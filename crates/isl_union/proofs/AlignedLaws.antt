@@ -3,160 +3,144 @@ use Rattle.std.proofs.Common.{◌≡◌, ◌↔◌, refl, sym, ap, ap₂, ◌∙
 use Rattle.std.proofs.Common.{Contains, length, map}
 use Rattle.std.specs.List.{range_with_len}
 use Rattle.std.proofs.lemmas.List.{get_or-map, length-append, length-map}
-use Rattle.std.proofs.lemmas.List.Elements.{All-head, All-tail, All-map}
+use Rattle.std.proofs.lemmas.List.Elements.{All-head, All-tail}
 use Rattle.std.proofs.lemmas.List.FromFn.{length-range_with_len}
 use Rattle.isl_math.proofs.ListLaws.{Any-unmapped, Any-with}
-use Rattle.isl_space.specs.Element.{Element}
+use Rattle.isl_meter.specs.Gauge.{Gauge}
+use Rattle.isl_space.specs.Element.{Element, IsElement}
 use Rattle.isl_space.specs.Name.{Name}
-use Rattle.isl_space.specs.Names.{AreDistinct, IsParameterList}
+use Rattle.isl_space.specs.Names.{AreDistinct}
 use Rattle.isl_space.specs.SpaceForm.{SpaceForm, coordinates_of}
 use Rattle.isl_space.specs.Valuation.{Valuation}
-use Rattle.isl_piece.specs.declared.row.Row.{Row}
+use Rattle.isl_piece.specs.declared.definition.Definition.{Definition}
 use Rattle.isl_piece.specs.declared.system.System.{System}
 use Rattle.isl_piece.specs.Meet.{numbers_at}
+use Rattle.isl_piece.specs.Placed.{ArePlacesAmong, placed_system, placing_of}
 use Rattle.isl_piece.specs.Piece.{PieceView}
-use Rattle.isl_piece.specs.Row.{IsRowUpTo, IsWellFormed}
-use Rattle.isl_piece.specs.System.{HoldRows}
-use Rattle.isl_union.specs.KeptValue.{KeptPiece, KeptValue, HasElement, IsKeptPiece, columns_of, point_of}
-use Rattle.isl_union.specs.Moved.{ArePlacesAmong, aligned, aligned_pieces, column_places, moved_rows, place_in, places_in}
-use Rattle.isl_union.specs.Piece.{kept_piece, IsPieceOf}
-use Rattle.isl_union.proofs.MovedLaws.{moved_formed, moved_normal, moved_up_to, moved_hold, moved-own}
+use Rattle.isl_piece.specs.System.{HoldsSystem, IsSystemWithin, free_columns}
+use Rattle.isl_piece.proofs.MeetLaws.{placed_free, placed_system_within}
+use Rattle.isl_elim.specs.Sample.{IsNowhere}
+use Rattle.isl_union.specs.KeptValue.{KeptPiece, HasElement, IsKeptPiece, columns_of, piece_system, point_of}
+use Rattle.isl_union.specs.Live.{settled}
+use Rattle.isl_union.specs.Moved.{aligned, column_places, moved, place_in, places_in}
+use Rattle.isl_union.specs.Numbers.{IsPieceUpTo}
+use Rattle.isl_union.specs.Piece.{kept_piece, piece_of, IsPieceOf}
+use Rattle.isl_union.proofs.MovedLaws.{live_there, moved_has, moved_kept, moved_up_to, moved-own}
 use Rattle.isl_union.proofs.PlacesLaws.{places_apart, columns_apart, numbers_of_columns, places_of_all, ranges_together}
-
--- ---- a piece that is made of a space, rows and so many columns
-module _ (m : PieceView) (s t : SpaceForm) (system : System) (columns : ℕ) (rows : List Row)
-    (is : m ≡ record { space = s; system = system }) (space : s ≡ t)
-    (made : system ≡ record { columns = columns; definitions = []; rows = rows }) where
-  pub made_kept : kept_piece m ≡ record { space = t; rows = rows }
-  made_kept =
-      let first : m.space ≡ t = ap (λ (x : PieceView). x.space) is ∙ space in
-      let second : m.system.rows ≡ rows = ap (λ (x : PieceView). x.system.rows) is ∙ ap (λ (x : System). x.rows) made in
-      by m.space t m.system.rows rows first second
-    where
-      by : (a b : SpaceForm) (k l : List Row) → a ≡ b → k ≡ l → (let x : KeptPiece = record { space = a; rows = k } in x) ≡ record {
-        space = b;
-        rows = l;
-      }
-      by a b k l e f = rw (e, f) refl
-
-  pub made_sound : (params : List Name) → columns ≡ columns_of params t → IsKeptPiece params (record { space = t; rows = rows })
-      → IsPieceOf params m
-  made_sound params e kept = record {
-    columns = ap (λ (x : PieceView). x.system.columns) is ∙ ap (λ (x : System). x.columns) made ∙ e ∙
-        ap (columns_of params) (sym (ap (λ (x : PieceView). x.space) is ∙ space));
-    free = ap (λ (x : PieceView). x.system.definitions) is ∙ ap (λ (x : System). x.definitions) made;
-    kept = rw made_kept kept;
-  }
+use Rattle.isl_union.proofs.SystemLaws.{free_of_piece, view_free, IsFit}
 
 pub Any-mapped : {X Y : Type 0} (P : Y → Type 0) (f : X → Y) (xs : List X) → Any (λ x. P (f x)) xs → Any P (map f xs)
 Any-mapped P f xs a = (a.0, f a.1, rw (length-map xs f) (a.2), get_or-map f xs a.0 a.1 (f a.1) a.2 ∙ ap f a.3, a.4)
 
+-- the system of a piece that a value may have has a point
+pub piece_somewhere : (params : List Name) (piece : KeptPiece) → IsKeptPiece params piece
+    → ¬ IsNowhere (free_columns (piece_system params piece)) (HoldsSystem (piece_system params piece))
+piece_somewhere params piece kept nowhere = kept.live (λ q l. nowhere q (l ∙ sym (free_of_piece params piece)))
+
 module _ (all names : List Name) (own : AreDistinct names) (there : All (Contains all) names) where
-  pub piece_places : (piece : KeptPiece) → ArePlacesAmong (columns_of all piece.space) (column_places all names piece.space)
-  piece_places piece = columns_apart (length all) (coordinates_of piece.space) (places_in all names) (places_apart all names own there)
+  pub piece_places : (space : SpaceForm) → ArePlacesAmong (columns_of all space) (column_places all names space)
+  piece_places space = columns_apart (length all) (coordinates_of space) (places_in all names) (places_apart all names own there)
 
-  pub piece_formed : (piece : KeptPiece) → IsKeptPiece names piece
-      → All (IsWellFormed (length (column_places all names piece.space))) piece.rows
-  piece_formed piece kept = subst (λ n. All (IsWellFormed n) piece.rows) (sym long) kept.rows
-    where
-      long : length (column_places all names piece.space) ≡ columns_of names piece.space
-      long =
-          length-append (places_in all names) (range_with_len (length all) (coordinates_of piece.space))
-          ∙ ap₂ (λ m n. m + n) (length-map names (place_in all)) (length-range_with_len (length all) (coordinates_of piece.space))
+  pub places_long : (space : SpaceForm) → length (column_places all names space) ≡ columns_of names space
+  places_long space =
+      length-append (places_in all names) (range_with_len (length all) (coordinates_of space))
+      ∙ ap₂ (λ m n. m + n) (length-map names (place_in all)) (length-range_with_len (length all) (coordinates_of space))
 
-  -- a piece over all parameters is one that a value may have
-  pub aligned_kept : (piece : KeptPiece) → IsKeptPiece names piece → IsKeptPiece all (aligned all names piece)
-  unfolding aligned
-  aligned_kept piece kept =
-      let columns = columns_of all piece.space in
-      let places = column_places all names piece.space in record {
-        space = kept.space;
-        rows = moved_formed columns places (piece_places piece) piece.rows (piece_formed piece kept) kept.normal;
-        normal = moved_normal columns places (piece_places piece) piece.rows (piece_formed piece kept) kept.normal;
-      }
+  module _ (g : Gauge) (piece : KeptPiece) (kept : IsKeptPiece names piece) (within : IsSystemWithin g (piece_system names piece)) where
+    long : length (column_places all names piece.space) ≡ free_columns (piece_system names piece)
+    long = places_long piece.space ∙ sym (free_of_piece names piece)
 
-  pub aligned_up_to : (b : ℕ) (piece : KeptPiece) → IsKeptPiece names piece → All (IsRowUpTo b) piece.rows
-      → All (IsRowUpTo b) (aligned all names piece).rows
-  unfolding aligned
-  aligned_up_to b piece kept h = moved_up_to (columns_of all piece.space) (column_places all names piece.space) (piece_places piece)
-      piece.rows (piece_formed piece kept) kept.normal b h
+    -- a piece over all parameters is one that a value may have
+    pub aligned_kept : IsKeptPiece all (aligned all names piece)
+    aligned_kept =
+        moved_kept g (columns_of all piece.space) (column_places all names piece.space) (piece_system names piece) (piece_places piece.space) within
+        long (piece_somewhere names piece kept) all piece.space refl kept.space
 
-  -- and has the elements of the piece
-  pub aligned_has : (v : Valuation) (e : Element) (piece : KeptPiece) → IsKeptPiece names piece
-      → HasElement all v e (aligned all names piece) ↔ HasElement names v e piece
-  unfolding aligned
-  aligned_has v e piece kept = (
-    (λ h. record {
-      numbers = h.numbers;
-      space = h.space;
-      holds = subst (HoldRows piece.rows) (point h.numbers h.space) ((hold h.numbers).0 h.holds);
-    }),
-    (λ h. record {
-      numbers = h.numbers;
-      space = h.space;
-      holds = (hold h.numbers).1 (subst (HoldRows piece.rows) (sym (point h.numbers h.space)) h.holds);
-    }),
-  )
-    where
-      columns : ℕ
-      columns = columns_of all piece.space
+    pub aligned_up_to : (b : ℕ) → IsPieceUpTo b piece → IsPieceUpTo b (aligned all names piece)
+    aligned_up_to b h =
+        moved_up_to g (columns_of all piece.space) (column_places all names piece.space) (piece_system names piece) (piece_places piece.space) within
+        long (piece_somewhere names piece kept) all piece.space refl b (record { rows = h.rows; definitions = h.definitions })
 
-      places : List ℕ
-      places = column_places all names piece.space
+    -- it defines no column where the piece defines none
+    pub aligned_plain : piece.definitions ≡ [] → (aligned all names piece).definitions ≡ []
+    unfolding moved
+    aligned_plain none =
+        ap (λ (ds : List Definition). (placing_of (columns_of all piece.space) (column_places all names piece.space) ds).definitions) none
 
-      hold : length e.coordinates ≡ coordinates_of e.space
-          → HoldRows (moved_rows columns places piece.rows) (point_of all v e) ↔ HoldRows piece.rows (numbers_at places (point_of all v e))
-      hold n = moved_hold columns places (piece_places piece) piece.rows (piece_formed piece kept) kept.normal (point_of all v e)
+    -- and has the elements of the piece
+    pub aligned_has : (v : Valuation) (e : Element) → HasElement all v e (aligned all names piece) ↔ HasElement names v e piece
+    aligned_has v e = (
+      (λ h. let k = has.0 h in record {
+        numbers = k.0;
+        space = k.1;
+        holds = subst (λ xs. HoldsSystem (piece_system names piece) xs) (point k.0 k.1) k.2;
+      }),
+      (λ h. has.1 (h.numbers, h.space, subst (λ xs. HoldsSystem (piece_system names piece) xs) (sym (point h.numbers h.space)) h.holds)),
+    )
+      where
+        has : HasElement all v e (aligned all names piece)
+            ↔ (IsElement e × (piece.space ≡ e.space)
+            × HoldsSystem (piece_system names piece) (numbers_at (column_places all names piece.space) (point_of all v e)))
+        has =
+            moved_has g (columns_of all piece.space) (column_places all names piece.space) (piece_system names piece) (piece_places piece.space)
+            within long (piece_somewhere names piece kept) all piece.space refl v e
 
-      point : length e.coordinates ≡ coordinates_of e.space → piece.space ≡ e.space → numbers_at places (point_of all v e)
-          ≡ point_of names v e
-      point n s = numbers_of_columns all names v e.coordinates (coordinates_of piece.space) there (ap coordinates_of s ∙ sym n)
+        point : length e.coordinates ≡ coordinates_of e.space → piece.space ≡ e.space
+            → numbers_at (column_places all names piece.space) (point_of all v e) ≡ point_of names v e
+        point n s = numbers_of_columns all names v e.coordinates (coordinates_of piece.space) there (ap coordinates_of s ∙ sym n)
 
-  pub aligned_has_any : (v : Valuation) (e : Element) (pieces : List KeptPiece) → All (IsKeptPiece names) pieces
-      → Any (HasElement all v e) (map (aligned all names) pieces) ↔ Any (HasElement names v e) pieces
-  aligned_has_any v e pieces kept = (
-    (λ h. Any-with (λ p. HasElement all v e (aligned all names p)) (IsKeptPiece names) (HasElement names v e)
-        (λ p has k. (aligned_has v e p k).0 has) pieces kept
-        (Any-unmapped (HasElement all v e) (aligned all names) pieces h)),
-    (λ h. Any-mapped (HasElement all v e) (aligned all names) pieces
-        (Any-with (HasElement names v e) (IsKeptPiece names) (λ p. HasElement all v e (aligned all names p))
-        (λ p has k. (aligned_has v e p k).1 has) pieces kept h)),
-  )
+  module _ (g : Gauge) where
+    pub aligned_has_any : (v : Valuation) (e : Element) (pieces : List KeptPiece) → All (IsFit g names) pieces
+        → Any (HasElement all v e) (map (aligned all names) pieces) ↔ Any (HasElement names v e) pieces
+    aligned_has_any v e pieces fit = (
+      (λ h. Any-with (λ p. HasElement all v e (aligned all names p)) (IsFit g names) (HasElement names v e)
+          (λ p has f. (aligned_has g p f.0 f.1 v e).0 has) pieces fit
+          (Any-unmapped (HasElement all v e) (aligned all names) pieces h)),
+      (λ h. Any-mapped (HasElement all v e) (aligned all names) pieces
+          (Any-with (HasElement names v e) (IsFit g names) (λ p. HasElement all v e (aligned all names p))
+          (λ p has f. (aligned_has g p f.0 f.1 v e).1 has) pieces fit h)),
+    )
 
 -- ---- what is made of a piece
-module _ (all names : List Name) (own : AreDistinct names) (there : All (Contains all) names) (piece : KeptPiece) (columns : ℕ)
-    (places : List ℕ)
-    (columns_are : columns ≡ columns_of all piece.space) (places_are : places ≡ column_places all names piece.space) where
+module _ (g : Gauge) (all names : List Name) (own : AreDistinct names) (there : All (Contains all) names) (p : PieceView)
+    (sound : IsPieceOf names p) (within : IsSystemWithin g p.system) (columns : ℕ) (places : List ℕ)
+    (columns_are : columns ≡ columns_of all p.space) (places_are : places ≡ column_places all names p.space) where
   pub made_places : ArePlacesAmong columns places
-  made_places = rw (columns_are, places_are) (piece_places all names own there piece)
+  made_places = rw (columns_are, places_are) (piece_places all names own there p.space)
 
-  pub made_formed : IsKeptPiece names piece → All (IsWellFormed (length places)) piece.rows
-  made_formed kept = rw places_are (piece_formed all names own there piece kept)
+  made_long : length places ≡ free_columns p.system
+  made_long = ap (length {A = ℕ}) places_are ∙ places_long all names own there p.space ∙ sym (view_free names p sound)
 
-  pub made_aligned : (rows : List Row) (made : KeptPiece) → rows ≡ moved_rows columns places piece.rows → made ≡ record {
-    space = piece.space;
-    rows = rows;
-  } → made ≡ aligned all names piece
-  unfolding aligned
-  made_aligned rows made is made_is =
-      made_is
-      ∙ ap (λ rs. let p : KeptPiece = record { space = piece.space; rows = rs } in p)
-      (is ∙ ap (λ n. moved_rows n places piece.rows) columns_are ∙
-      ap (λ ps. moved_rows (columns_of all piece.space) ps piece.rows) places_are)
+  made_somewhere : ¬ IsNowhere (free_columns p.system) (HoldsSystem p.system)
+  made_somewhere nowhere = sound.kept.live (λ q l. nowhere q (l ∙ sym (view_free names p sound)))
+
+  module _ (system : System) (is : system ≡ placed_system columns places p.system) where
+    pub made_within : IsSystemWithin g system
+    made_within = rw is (placed_system_within g columns places p.system made_places within made_long)
+
+    pub made_free : free_columns system ≡ columns_of all p.space
+    made_free = rw is (placed_free g columns places p.system made_places within made_long) ∙ columns_are
+
+    pub made_live : ¬ IsNowhere (free_columns system) (HoldsSystem system)
+    made_live nowhere = live_there g columns places p.system made_places within made_long made_somewhere
+        (λ q l. (rw is at nowhere) q (l ∙ sym (placed_free g columns places p.system made_places within made_long)))
+
+    pub made_aligned : settled (piece_of p.space system) ≡ aligned all names (kept_piece p)
+    unfolding moved
+    made_aligned =
+        ap (λ (s : System). settled (piece_of p.space s)) is
+        ∙ ap (λ n. settled (piece_of p.space (placed_system n places p.system))) columns_are
+        ∙ ap (λ ps. settled (piece_of p.space (placed_system (columns_of all p.space) ps p.system))) places_are
 
 -- over its own parameters a piece stays
 pub aligned-own : (all : List Name) → AreDistinct all → (piece : KeptPiece) → IsKeptPiece all piece → aligned all all piece ≡ piece
-unfolding aligned
 aligned-own all distinct piece kept =
     let n = coordinates_of piece.space in
     let from : length all ≡ 0 + length all = omega arith in
     let places : column_places all all piece.space ≡ range_with_len 0 (columns_of all piece.space) =
     ap (λ ps. ps ++ range_with_len (length all) n) (places_of_all all distinct)
     ∙ ap (λ k. range_with_len 0 (length all) ++ range_with_len k n) from ∙ ranges_together 0 (length all) n in
-    let rows : moved_rows (columns_of all piece.space) (column_places all all piece.space) piece.rows ≡ piece.rows =
-    ap (λ ps. moved_rows (columns_of all piece.space) ps piece.rows) places ∙
-    moved-own (columns_of all piece.space) piece.rows kept.rows kept.normal in
-    ap (λ rs. let p : KeptPiece = record { space = piece.space; rows = rs } in p) rows
+    ap (λ ps. moved piece.space (columns_of all piece.space) ps (piece_system all piece)) places ∙ moved-own all piece kept
 
 pub aligned_pieces-own : (all : List Name) → AreDistinct all → (pieces : List KeptPiece) → All (IsKeptPiece all) pieces
     → map (aligned all all) pieces ≡ pieces

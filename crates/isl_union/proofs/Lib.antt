@@ -1,8 +1,11 @@
-pub mod PieceLaws
 pub mod PlacesLaws
+pub mod SystemLaws
+pub mod PieceLaws
+pub mod LiveLaws
 pub mod MovedLaws
 pub mod AlignedLaws
 pub mod MeetLaws
 pub mod UnitLaws
 pub mod ValueLaws
+pub mod MadeLaws
 pub mod MeetSteps

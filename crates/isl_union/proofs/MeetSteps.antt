@@ -1,29 +1,40 @@
--- Loops over pieces that meet: one more piece.
-use Rattle.std.proofs.Common.{◌≡◌, refl, sym, ap, ap₂, ◌∙◌, arith, subst, ℕ, ◌+◌, ◌<◌, ◌≤◌, Option, Some, None, option_map, option_to_list}
-use Rattle.std.proofs.Common.{IfSome, List, [], ◌∷◌, ◌++◌, All, length, get_or, map, take, sum_by}
+-- Loops over pieces: one more piece.
+use Rattle.std.proofs.Common.{◌≡◌, refl, sym, ap, ap₂, ◌∙◌, arith, subst, ℕ, ◌+◌, ◌<◌, Option, Some, None, option_map, option_to_list}
+use Rattle.std.proofs.Common.{IfSome, List, [], ◌∷◌, ◌++◌, All, length, get_or, map, take, sum_by, filter_map}
 use Rattle.std.proofs.lemmas.List.{get_or-map, length-map, map-append, append-nil}
-use Rattle.std.proofs.lemmas.List.Elements.{All-append, All-push}
-use Rattle.isl_meter.specs.Gauge.{Gauge}
-use Rattle.isl_meter.specs.declared.Cut.{Cut}
-use Rattle.isl_meter.specs.declared.Cut.TheVariants.{NoMemory}
-use Rattle.isl_piece.specs.declared.row.Row.{Row}
+use Rattle.std.proofs.lemmas.List.Elements.{All-push}
+use Rattle.isl_meter.specs.Gauge.{Gauge, IsCharged}
+use Rattle.isl_space.specs.Name.{Name}
 use Rattle.isl_piece.specs.Piece.{PieceView}
-use Rattle.isl_piece.specs.Row.{IsRowWithin}
-use Rattle.isl_piece.proofs.RowMagnitudes.{rows_within_kept}
-use Rattle.isl_union.specs.Fault.{HasUsed, IsShortOf}
+use Rattle.isl_piece.specs.declared.system.System.{System}
+use Rattle.isl_piece.specs.System.{IsSystemWithin}
+use Rattle.isl_piece.proofs.FormedLaws.{system_within_kept}
+use Rattle.isl_union.specs.Fault.{IsChargedFrom}
 use Rattle.isl_union.specs.KeptValue.{KeptPiece}
+use Rattle.isl_union.specs.Live.{normal_of, AreLiveOf, IsLiveOf}
 use Rattle.isl_union.specs.Meet.{met_piece, met_with, met_pieces, pair_count, partners}
 use Rattle.isl_union.specs.Numbers.{AreWithinLimit}
-use Rattle.isl_union.specs.Piece.{kept_piece}
-use Rattle.isl_union.proofs.MeetLaws.{with_more, partners_more, pieces_more, pairs_more, partners_part, pairs_part}
-use Rattle.isl_union.proofs.UnitLaws.{used_bits, used_more, short_after, short_memory}
+use Rattle.isl_union.specs.Piece.{kept_piece, IsPieceOver}
+use Rattle.isl_union.proofs.LiveLaws.{filter_more, live_append, live_one}
+use Rattle.isl_union.proofs.MeetLaws.{with_more, partners_more, pieces_more, pairs_more}
+use Rattle.isl_union.proofs.UnitLaws.{from_more}
 
--- ---- numbers within the limit, after units
-pub rows_later : (n : ℕ) (g h : Gauge) (rows : List Row) → HasUsed n g h → All (IsRowWithin g) rows → All (IsRowWithin h) rows
-rows_later n g h rows used within = rows_within_kept h g rows (sym (used_bits n g h used)) within
+-- ---- within the limit, after units
+pub charged_bits : (g h : Gauge) → IsCharged g h → g.bits ≡ h.bits
+charged_bits g h p = sym (ap (λ (x : Gauge). x.bits) p.same)
 
-pub pieces_later : (n : ℕ) (g h : Gauge) (pieces : List PieceView) → HasUsed n g h → AreWithinLimit g pieces → AreWithinLimit h pieces
-pieces_later n g h pieces used within = λ k d l. rows_later n g h (get_or pieces k d).system.rows used (within k d l)
+pub bits_after_unit : (g h : Gauge) (s : System) → h ≡ record g { units = g.units + 1 } → IsSystemWithin g s → IsSystemWithin h s
+bits_after_unit g h s e within = system_within_kept h g s (sym (ap (λ (x : Gauge). x.bits) e)) within
+
+pub pieces_later : (g h : Gauge) (pieces : List PieceView) → IsCharged g h → AreWithinLimit g pieces → AreWithinLimit h pieces
+pieces_later g h pieces p within = λ k d l. system_within_kept h g (get_or pieces k d).system (charged_bits g h p) (within k d l)
+
+pub over_later : (g h : Gauge) (params : List Name) (piece : PieceView) → IsCharged g h → IsPieceOver g params piece → IsPieceOver h params piece
+over_later g h params piece p over = record {
+  space = over.space;
+  columns = over.columns;
+  within = system_within_kept h g piece.system (charged_bits g h p) over.within;
+}
 
 pub item_has : (P : PieceView → Type 0) (pieces : List PieceView) (i : ℕ) (x : PieceView) → i < length pieces → x ≡ get_or pieces i x
     → All P pieces → P x
@@ -40,6 +51,16 @@ kept_option : (o : Option PieceView) → map kept_piece (option_to_list o) ≡ o
 kept_option None = refl
 kept_option (Some x) = refl
 
+-- one more that may be kept
+pushed_live : (params : List Name) (before : List KeptPiece) (one : Option KeptPiece) (met pushed : List PieceView) (o : Option PieceView)
+    → AreLiveOf params before (map kept_piece met) → IsLiveOf params one (option_map kept_piece o) → pushed ≡ met ++ option_to_list o
+    → AreLiveOf params (before ++ option_to_list one) (map kept_piece pushed)
+pushed_live params before one met pushed o so_far exact is =
+    subst (λ (k : List KeptPiece). AreLiveOf params (before ++ option_to_list one) k)
+    (sym (ap (map kept_piece) is ∙ map-append kept_piece met (option_to_list o) ∙ ap (λ k. map kept_piece met ++ k) (kept_option o)))
+    (live_append params before (map kept_piece met) (option_to_list one) (option_to_list (option_map kept_piece o)) so_far
+    (live_one params one (option_map kept_piece o) exact))
+
 module _ (others : List PieceView) (other : PieceView) (i : ℕ) (low : i < length others) (at : other ≡ get_or others i other) where
   abbrev all : List KeptPiece
   all = map kept_piece others
@@ -50,61 +71,45 @@ module _ (others : List PieceView) (other : PieceView) (i : ℕ) (low : i < leng
   kept_at : get_or all i (kept_piece other) ≡ kept_piece other
   kept_at = get_or-map kept_piece others i other (kept_piece other) low ∙ ap kept_piece (sym at)
 
-  module _ (piece : KeptPiece) where
-    -- what a piece has in common with one more
-    pub with_step : (met pushed : List PieceView) (o : Option PieceView) → option_map kept_piece o ≡ met_piece piece (kept_piece other)
-        → pushed ≡ met ++ option_to_list o
-        → map kept_piece met ≡ met_with (take i all) piece → map kept_piece pushed ≡ met_with (take (i + 1) all) piece
-    with_step met pushed o exact is so_far =
-        ap (map kept_piece) is ∙ map-append kept_piece met (option_to_list o) ∙ ap₂ (λ k l. k ++ l) so_far (kept_option o ∙
-        ap option_to_list exact)
-        ∙ sym (with_more all (kept_piece other) i kept_low kept_at piece)
+  module _ (params : List Name) where
+    -- one more of the pieces of which a value is made
+    pub live_step : (met pushed : List PieceView) (o : Option PieceView) → IsLiveOf params (normal_of (kept_piece other)) (option_map kept_piece o)
+        → pushed ≡ met ++ option_to_list o → AreLiveOf params (filter_map normal_of (take i all)) (map kept_piece met)
+        → AreLiveOf params (filter_map normal_of (take (i + 1) all)) (map kept_piece pushed)
+    live_step met pushed o exact is so_far =
+        rw (filter_more normal_of all i (kept_piece other) kept_low kept_at)
+        (pushed_live params (filter_map normal_of (take i all)) (normal_of (kept_piece other)) met pushed o so_far exact is)
 
-    pub with_used : (g h k : Gauge) → HasUsed (partners (take i all) piece) g h → HasUsed (pair_count piece (kept_piece other)) h k
-        → HasUsed (partners (take (i + 1) all) piece) g k
-    with_used g h k p q = used_more (partners (take i all) piece) (pair_count piece (kept_piece other)) (partners (take (i + 1) all) piece)
-        g h k (partners_more all (kept_piece other) i kept_low kept_at piece) p q
+    module _ (piece : KeptPiece) where
+      -- what a piece has in common with one more
+      pub with_step : (met pushed : List PieceView) (o : Option PieceView)
+          → IsLiveOf params (met_piece params piece (kept_piece other)) (option_map kept_piece o)
+          → pushed ≡ met ++ option_to_list o → AreLiveOf params (met_with params (take i all) piece) (map kept_piece met)
+          → AreLiveOf params (met_with params (take (i + 1) all) piece) (map kept_piece pushed)
+      with_step met pushed o exact is so_far =
+          rw (with_more params all (kept_piece other) i kept_low kept_at piece)
+          (pushed_live params (met_with params (take i all) piece) (met_piece params piece (kept_piece other)) met pushed o so_far exact is)
 
-    pub with_short : (g h k : Gauge) (cut : Cut) → HasUsed (partners (take i all) piece) g h
-        → IsShortOf (pair_count piece (kept_piece other)) h k cut → IsShortOf (partners all piece) g k cut
-    with_short g h k cut p q =
-        let more = partners_more all (kept_piece other) i kept_low kept_at piece in
-        let part = partners_part all piece (i + 1) in
-        short_after (partners (take i all) piece) (pair_count piece (kept_piece other)) (partners all piece) g h k cut (omega arith) p q
+      pub with_used : (g h k : Gauge) → IsChargedFrom (partners (take i all) piece) g h → IsChargedFrom (pair_count piece (kept_piece other)) h k
+          → IsChargedFrom (partners (take (i + 1) all) piece) g k
+      with_used g h k p q =
+          from_more (partners (take i all) piece) (pair_count piece (kept_piece other)) (partners (take (i + 1) all) piece) g h k
+          (partners_more params all (kept_piece other) i kept_low kept_at piece) p q
 
-    pub with_memory : (g h k : Gauge) → HasUsed (partners (take i all) piece) g h → HasUsed (pair_count piece (kept_piece other)) h k
-        → IsShortOf (partners all piece) g k NoMemory
-    with_memory g h k p q = short_memory (partners (take (i + 1) all) piece) (partners all piece) g k k (partners_part all piece (i + 1))
-        (with_used g h k p q) refl
+    module _ (seconds : List KeptPiece) where
+      -- what one more piece has in common with the others
+      pub pieces_step : (met pushed more : List PieceView) → AreLiveOf params (met_with params seconds (kept_piece other)) (map kept_piece more)
+          → pushed ≡ met ++ more → AreLiveOf params (met_pieces params (take i all) seconds) (map kept_piece met)
+          → AreLiveOf params (met_pieces params (take (i + 1) all) seconds) (map kept_piece pushed)
+      pieces_step met pushed more exact is so_far =
+          rw (pieces_more params all (kept_piece other) i kept_low kept_at seconds)
+          (subst (λ (k : List KeptPiece). AreLiveOf params (met_pieces params (take i all) seconds ++ met_with params seconds (kept_piece other)) k)
+          (sym (ap (map kept_piece) is ∙ map-append kept_piece met more))
+          (live_append params (met_pieces params (take i all) seconds) (map kept_piece met) (met_with params seconds (kept_piece other))
+          (map kept_piece more) so_far exact))
 
-  module _ (seconds : List KeptPiece) where
-    -- what one more piece has in common with the others
-    pub pieces_step : (met pushed more : List PieceView) → map kept_piece more ≡ met_with seconds (kept_piece other) → pushed ≡ met ++ more
-        → map kept_piece met ≡ met_pieces (take i all) seconds → map kept_piece pushed ≡ met_pieces (take (i + 1) all) seconds
-    pieces_step met pushed more exact is so_far =
-        ap (map kept_piece) is ∙ map-append kept_piece met more ∙ ap₂ (λ k l. k ++ l) so_far exact
-        ∙ sym (pieces_more all (kept_piece other) i kept_low kept_at seconds)
-
-    pub pieces_used : (g h k : Gauge) → HasUsed (sum_by (partners seconds) (take i all)) g h
-        → HasUsed (partners seconds (kept_piece other)) h k
-        → HasUsed (sum_by (partners seconds) (take (i + 1) all)) g k
-    pieces_used g h k p q =
-        used_more (sum_by (partners seconds) (take i all)) (partners seconds (kept_piece other)) (sum_by (partners seconds)
-        (take (i + 1) all)) g h k
-        (pairs_more all (kept_piece other) i kept_low kept_at seconds) p q
-
-    pub pieces_short : (g h k : Gauge) (cut : Cut) → HasUsed (sum_by (partners seconds) (take i all)) g h
-        → IsShortOf (partners seconds (kept_piece other)) h k cut
-        → IsShortOf (sum_by (partners seconds) all) g k cut
-    pieces_short g h k cut p q =
-        let more = pairs_more all (kept_piece other) i kept_low kept_at seconds in
-        let part = pairs_part all seconds (i + 1) in
-        short_after (sum_by (partners seconds) (take i all)) (partners seconds (kept_piece other)) (sum_by (partners seconds) all) g h k cut
-        (omega arith) p q
-
-    pub pieces_memory : (g h k : Gauge) → HasUsed (sum_by (partners seconds) (take i all)) g h
-        → HasUsed (partners seconds (kept_piece other)) h k
-        → IsShortOf (sum_by (partners seconds) all) g k NoMemory
-    pieces_memory g h k p q =
-        short_memory (sum_by (partners seconds) (take (i + 1) all)) (sum_by (partners seconds) all) g k k (pairs_part all seconds (i + 1))
-        (pieces_used g h k p q) refl
+      pub pieces_used : (g h k : Gauge) → IsChargedFrom (sum_by (partners seconds) (take i all)) g h
+          → IsChargedFrom (partners seconds (kept_piece other)) h k → IsChargedFrom (sum_by (partners seconds) (take (i + 1) all)) g k
+      pieces_used g h k p q =
+          from_more (sum_by (partners seconds) (take i all)) (partners seconds (kept_piece other)) (sum_by (partners seconds) (take (i + 1) all))
+          g h k (pairs_more params all (kept_piece other) i kept_low kept_at seconds) p q

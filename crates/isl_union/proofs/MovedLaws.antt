@@ -1,28 +1,36 @@
--- Normal rows whose columns stand at other places are as many rows again, and hold where the rows did.
-use Rattle.std.proofs.Common.{◌≡◌, ◌≢◌, ◌↔◌, refl, sym, ap, ap₂, ◌∙◌, arith, subst, ℕ, zero, suc, ◌<◌, ◌≤◌, ℤ, pos, ◌+ℤ◌, ◌*ℤ◌, List, []}
-use Rattle.std.proofs.Common.{◌∷◌, ◌++◌, All, AllPairs, Any, length, get_or, set, map, replicate, Option, Some, None, IfSome, IsNone}
-use Rattle.std.proofs.Common.{length-set, get_or-set_other, unsigned_abs}
+-- Systems whose columns stand at other places hold where they did, and pieces of them are pieces again.
+use Rattle.std.proofs.Common.{◌≡◌, ◌≢◌, ◌↔◌, refl, sym, ap, ap₂, ◌∙◌, arith, subst, ℕ, zero, suc, ◌+◌, ◌<◌, ℤ, pos, List, []}
+use Rattle.std.proofs.Common.{◌∷◌, ◌++◌, All, AllPairs, length, get_or, set, map, fold, replicate, length-append, append_assoc}
+use Rattle.std.proofs.Common.{length-set, get_or-set_other}
 use Rattle.std.specs.List.{range_with_len}
-use Rattle.std.specs.Option.{unwrap_or}
 use Rattle.std.proofs.lemmas.List.{append-nil, get_or-set_same, length-replicate}
 use Rattle.std.proofs.lemmas.List.FromFn.{length-range_with_len}
-use Rattle.std.proofs.lemmas.List.Elements.{All-head, All-tail, All-map}
-use Rattle.std.proofs.lemmas.Option.{none-some, same_Some}
-use Rattle.isl_math.specs.Dot.{dot}
-use Rattle.isl_math.proofs.DotLaws.{dot_comm, dot-nil_right}
-use Rattle.isl_math.proofs.ListLaws.{All-unmapped, Any-unmapped}
-use Rattle.isl_math.proofs.Ring.{expand, linear}
-use Rattle.isl_meter.specs.Gauge.{Gauge, IsWithin}
-use Rattle.isl_meter.proofs.LimitLemmas.{IsWithin-zero}
+use Rattle.std.proofs.lemmas.List.Elements.{All-head, All-tail}
+use Rattle.isl_meter.specs.Gauge.{Gauge}
+use Rattle.isl_space.specs.Element.{Element, IsElement}
+use Rattle.isl_space.specs.Name.{Name}
+use Rattle.isl_space.specs.SpaceForm.{SpaceForm, coordinates_of, IsWellFormedSpace}
+use Rattle.isl_space.specs.Valuation.{Valuation, values_of}
+use Rattle.isl_space.proofs.ValuationLaws.{length-values_of}
+use Rattle.isl_piece.specs.declared.definition.Definition.{Definition}
+use Rattle.isl_piece.specs.declared.meeting.Meeting.{Meeting}
 use Rattle.isl_piece.specs.declared.row.Row.{Row}
-use Rattle.isl_piece.specs.Meet.{put_at, placed, placed_row, numbers_at}
-use Rattle.isl_piece.specs.Normal.{normal_rows, IsNormal}
-use Rattle.isl_piece.specs.Row.{HoldsRow, HoldsValue, value_at, HasModulus, IsContingent, IsRowUpTo, IsRowWithin, IsWellFormed}
-use Rattle.isl_piece.specs.System.{HoldRows}
-use Rattle.isl_piece.proofs.NormalLaws.{normal_rows_hold, normal_rows_well_formed, normal_rows_normal, normal_rows_up_to}
-use Rattle.isl_piece.proofs.PlacedLaws.{AreApart, length-placed, placed-all, placed_dot, numbers_at-first, first_apart, first_inside}
-use Rattle.isl_piece.proofs.RowsLaws.{normal_rows_none}
-use Rattle.isl_union.specs.Moved.{ArePlacesAmong, moved_rows}
+use Rattle.isl_piece.specs.declared.system.System.{System}
+use Rattle.isl_piece.specs.Formed.{AreWellFormedDefinitions, IsSystemUpTo}
+use Rattle.isl_piece.specs.Meet.{put_at, placed, placed_row, placed_definition, numbers_at}
+use Rattle.isl_piece.specs.Placed.{ArePlacesAmong, placed_system, with_own_column}
+use Rattle.isl_piece.specs.Row.{IsWellFormed}
+use Rattle.isl_piece.specs.System.{HoldsSystem, IsSystemWithin, free_columns}
+use Rattle.isl_piece.proofs.MeetLaws.{placed_free, placed_points, placed_system_within, placed_up_to}
+use Rattle.isl_piece.proofs.PlacedLaws.{AreApart, length-placed, numbers_at-first, first_apart, first_inside, first_push}
+use Rattle.isl_elim.specs.Sample.{IsNowhere}
+use Rattle.isl_union.specs.KeptValue.{KeptPiece, HasElement, IsKeptPiece, IsLive, columns_of, piece_system, point_of}
+use Rattle.isl_union.specs.Live.{settled}
+use Rattle.isl_union.specs.Moved.{moved}
+use Rattle.isl_union.specs.Numbers.{IsPieceUpTo}
+use Rattle.isl_union.specs.Piece.{piece_of}
+use Rattle.isl_union.proofs.LiveLaws.{settled-own, settled_has, settled_kept, settled_up_to}
+use Rattle.isl_union.proofs.SystemLaws.{columns_from, point_long, system_is}
 
 -- ---- numbers that are put at places are found there
 tail_apart : (place : ℕ) (places : List ℕ) → AreApart (place ∷ places) → AreApart places
@@ -56,123 +64,68 @@ placed-found : (columns : ℕ) (places : List ℕ) (xs : List ℤ) → length xs
 placed-found columns places xs e are = put_at-found (replicate columns (pos 0)) places xs e are.apart (rw (length-replicate columns (pos 0))
     are.inside)
 
--- so many of the numbers, and 0 where there are fewer
-abbrev fit : ℕ → List ℤ → List ℤ
-fit zero xs = []
-fit (suc n) [] = pos 0 ∷ fit n []
-fit (suc n) (x ∷ xs) = x ∷ fit n xs
+-- ---- systems at other places
+module _ (g : Gauge) (columns : ℕ) (places : List ℕ) (s : System) (are : ArePlacesAmong columns places) (within : IsSystemWithin g s)
+    (long : length places ≡ free_columns s) (live : ¬ IsNowhere (free_columns s) (HoldsSystem s)) where
+  -- a system that has a point has one at other places
+  pub live_there : ¬ IsNowhere columns (HoldsSystem (placed_system columns places s))
+  live_there nowhere = live (λ point l h.
+      let q = placed columns places point in
+      let wide = length-placed columns places point in
+      let found : numbers_at places q ≡ point = placed-found columns places point (l ∙ sym long) are in
+      nowhere q wide ((placed_points g columns places s are within long q wide).1 (subst (λ xs. HoldsSystem s xs) (sym found) h)))
 
-length-fit : (n : ℕ) (xs : List ℤ) → length (fit n xs) ≡ n
-length-fit zero xs = refl
-length-fit (suc n) [] = ap suc (length-fit n [])
-length-fit (suc n) (x ∷ xs) = ap suc (length-fit n xs)
+  module _ (params : List Name) (space : SpaceForm) (at : columns ≡ columns_of params space) where
+    abbrev there : KeptPiece
+    there = piece_of space (placed_system columns places s)
 
-dot-fit : (cs xs : List ℤ) → dot cs (fit (length cs) xs) ≡ dot cs xs
-dot-fit [] xs = refl
-dot-fit (c ∷ cs) [] = let rest = dot-fit cs [] in let none = dot-nil_right cs in simp expand (omega (arith, linear))
-dot-fit (c ∷ cs) (x ∷ xs) = ap (λ z. c *ℤ x +ℤ z) (dot-fit cs xs)
+    there_columns : (placed_system columns places s).columns ≡ length (placed_system columns places s).definitions + columns_of params space
+    there_columns = columns_from g params space (placed_system columns places s) (placed_system_within g columns places s are within long)
+        (placed_free g columns places s are within long ∙ at)
 
--- ---- rows at other places
-module _ (columns : ℕ) (places : List ℕ) (are : ArePlacesAmong columns places) where
-  value_there : (r : Row) (q : List ℤ) → IsWellFormed (length places) r → value_at (placed_row columns places r) q
-      ≡ value_at r (numbers_at places q)
-  value_there r q formed = ap (λ z. z +ℤ r.constant) (placed_dot columns places r.coefs q formed.width are.apart are.inside)
+    there_within : IsSystemWithin g (piece_system params there)
+    there_within = subst (IsSystemWithin g) (system_is params space (placed_system columns places s) there_columns)
+        (placed_system_within g columns places s are within long)
 
-  -- a row that holds at some point does so at other places
-  possible_there : (r : Row) → IsWellFormed (length places) r → ((q : List ℤ) → ¬ HoldsRow (placed_row columns places r) q) → (xs : List ℤ)
-      → ¬ HoldsRow r xs
-  possible_there r formed never xs holds =
-      let ys = fit (length r.coefs) xs in
-      let q = placed columns places ys in
-      let found : numbers_at places q ≡ ys = placed-found columns places ys (length-fit (length r.coefs) xs ∙ formed.width) are in
-      let same : value_at (placed_row columns places r) q ≡ value_at r xs =
-      value_there r q formed ∙ ap (λ zs. dot r.coefs zs +ℤ r.constant) found ∙ ap (λ z. z +ℤ r.constant) (dot-fit r.coefs xs) in
-      never q (subst (HoldsValue r.kind r.k) (sym same) holds)
+    there_live : IsLive params there
+    there_live nowhere = live_there (λ q l. nowhere q (l ∙ at))
 
-  module _ (rows : List Row) (formed : All (IsWellFormed (length places)) rows) where
-    abbrev there : List Row
-    there = map (placed_row columns places) rows
+    pub moved_kept : IsWellFormedSpace space → IsKeptPiece params (moved space columns places s)
+    unfolding moved
+    moved_kept formed = settled_kept g params there there_within there_live formed
 
-    there_formed : All (IsWellFormed columns) there
-    there_formed = All-map (IsWellFormed columns) (placed_row columns places) rows (λ k d l. record {
-      width = length-placed columns places (get_or rows k d).coefs;
-      modulus = (formed k d l).modulus;
-    })
+    pub moved_up_to : (b : ℕ) → IsSystemUpTo b s → IsPieceUpTo b (moved space columns places s)
+    unfolding moved
+    moved_up_to b h =
+        let u = placed_up_to b columns places s h in
+        settled_up_to g params there there_within there_live b (record { rows = u.rows; definitions = u.definitions })
 
-    pub there_moduli : All (λ r. HasModulus r.kind r.k) there
-    there_moduli = λ k d l. (there_formed k d l).modulus
+    -- the elements are those whose numbers at the places make the system hold
+    pub moved_has : (v : Valuation) (e : Element)
+        → HasElement params v e (moved space columns places s)
+        ↔ (IsElement e × (space ≡ e.space) × HoldsSystem s (numbers_at places (point_of params v e)))
+    unfolding moved
+    moved_has v e =
+        let own = settled_has g params there there_within there_live v e in (
+          (λ h.
+              let k = own.0 h in
+              let long_enough : length (point_of params v e) ≡ columns = point_long params v e there k ∙ sym at in
+              (k.numbers, k.space, (placed_points g columns places s are within long (point_of params v e) long_enough).0 k.holds)),
+          (λ k. own.1 (record {
+            numbers = k.0;
+            space = k.1;
+            holds = (placed_points g columns places s are within long (point_of params v e) (wide k.0 k.1)).1 k.2;
+          })),
+        )
+      where
+        wide : IsElement e → space ≡ e.space → length (point_of params v e) ≡ columns
+        wide numbers same =
+            let whole = length-append (values_of params v) e.coordinates in
+            let front = length-values_of params v in
+            let is = ap coordinates_of same in
+            omega (arith, whole, front, is, at, numbers)
 
-    there_hold : (q : List ℤ) → HoldRows there q ↔ HoldRows rows (numbers_at places q)
-    there_hold q = (
-      (λ h k d l. subst (HoldsValue (get_or rows k d).kind (get_or rows k d).k) (value_there (get_or rows k d) q (formed k d l))
-          (All-unmapped (λ r. HoldsRow r q) (placed_row columns places) rows h k d l)),
-      (λ h. All-map (λ r. HoldsRow r q) (placed_row columns places) rows (λ k d l. subst (HoldsValue (get_or rows k d).kind
-          (get_or rows k d).k) (sym (value_there (get_or rows k d) q (formed k d l))) (h k d l))),
-    )
-
-    there_up_to : (b : ℕ) → All (IsRowUpTo b) rows → All (IsRowUpTo b) there
-    there_up_to b h = All-map (IsRowUpTo b) (placed_row columns places) rows (λ k d l. record {
-      coefs = placed-all (λ c. unsigned_abs c ≤ b) columns places (get_or rows k d).coefs (omega arith) (h k d l).coefs;
-      constant = (h k d l).constant;
-      k = (h k d l).k;
-    })
-
-    pub there_within : (g : Gauge) → All (IsRowWithin g) rows → All (IsRowWithin g) there
-    there_within g h = All-map (IsRowWithin g) (placed_row columns places) rows (λ k d l. record {
-      coefs = placed-all (IsWithin g) columns places (get_or rows k d).coefs (IsWithin-zero g) (h k d l).coefs;
-      constant = (h k d l).constant;
-      k = (h k d l).k;
-    })
-
-    -- none of the rows can hold nowhere
-    module _ (normal : IsNormal rows) where
-      some_there : ¬ IsNone (normal_rows there)
-      some_there none =
-          let impossible = (normal_rows_none there there_moduli).0 none in
-          let own = Any-unmapped (λ r. (q : List ℤ) → ¬ HoldsRow r q) (placed_row columns places) rows impossible in
-          let r = own.1 in
-          let at = own.3 in
-          let formed_there : IsWellFormed (length places) r = rw at at (formed own.0 r own.2) in
-          let contingent : IsContingent r = rw at at (normal.contingent own.0 r own.2) in
-          contingent.possible (possible_there r formed_there own.4)
-
-      pub moved_is : normal_rows there ≡ Some (moved_rows columns places rows)
-      unfolding moved_rows
-      moved_is = by (normal_rows there) some_there
-        where
-          by : (o : Option (List Row)) → ¬ IsNone o → o ≡ Some (unwrap_or o [])
-          by None n = absurd (n refl)
-          by (Some kept) n = refl
-
-      -- what is answered where the rows are made normal
-      pub moved_answer : (made moved : List Row) (o : Option (List Row)) → o ≡ Some moved → o ≡ normal_rows made → made ≡ there
-          → moved ≡ moved_rows columns places rows
-      moved_answer made moved o is exact made_is = same_Some moved (moved_rows columns places rows) (sym is ∙ exact ∙
-          ap normal_rows made_is ∙ moved_is)
-
-      pub moved_some : (made : List Row) (o : Option (List Row)) → o ≡ None → o ≡ normal_rows made → made ≡ there → ⊥
-      moved_some made o is exact made_is = none-some (moved_rows columns places rows) (sym is ∙ exact ∙ ap normal_rows made_is ∙ moved_is)
-
-      there_all : (P : List Row → Type 0) → IfSome (normal_rows there) P → P (moved_rows columns places rows)
-      there_all P h = rw moved_is at h
-
-      pub moved_formed : All (IsWellFormed columns) (moved_rows columns places rows)
-      moved_formed = there_all (All (IsWellFormed columns)) (normal_rows_well_formed columns there there_formed)
-
-      pub moved_normal : IsNormal (moved_rows columns places rows)
-      moved_normal = there_all IsNormal (normal_rows_normal there there_moduli)
-
-      pub moved_up_to : (b : ℕ) → All (IsRowUpTo b) rows → All (IsRowUpTo b) (moved_rows columns places rows)
-      moved_up_to b h = there_all (All (IsRowUpTo b)) (normal_rows_up_to b there there_moduli (there_up_to b h))
-
-      pub moved_hold : (q : List ℤ) → HoldRows (moved_rows columns places rows) q ↔ HoldRows rows (numbers_at places q)
-      moved_hold q =
-          let kept : HoldRows (moved_rows columns places rows) q ↔ HoldRows there q =
-          rw moved_is at (normal_rows_hold there q there_moduli) in
-          let own = there_hold q in
-          ((λ h. own.0 (kept.0 h)), (λ h. kept.1 (own.1 h)))
-
--- ---- rows at their own places
+-- ---- systems at their own places
 placed-own : (n : ℕ) (cs : List ℤ) → length cs ≡ n → placed n (range_with_len 0 n) cs ≡ cs
 placed-own n cs e =
     let made = placed n (range_with_len 0 n) cs in
@@ -195,7 +148,49 @@ placed_rows-own n (r ∷ rows) formed =
     } in s) (placed-own n r.coefs (All-head (IsWellFormed n) r rows formed).width) in
     ap₂ (λ s rest. s ∷ rest) here (placed_rows-own n rows (All-tail (IsWellFormed n) r rows formed))
 
-pub moved-own : (n : ℕ) (rows : List Row) → All (IsWellFormed n) rows → IsNormal rows → moved_rows n (range_with_len 0 n) rows ≡ rows
-unfolding moved_rows
-moved-own n rows formed normal = ap (λ rs. unwrap_or (normal_rows rs) []) (placed_rows-own n rows formed) ∙
-    ap (λ o. unwrap_or o []) normal.itself
+definition-own : (n : ℕ) (d : Definition) → length d.coefs ≡ n → placed_definition n (range_with_len 0 n) d ≡ d
+definition-own n d e = ap (λ cs. let f : Definition = record { coefs = cs; constant = d.constant; k = d.k } in f) (placed-own n d.coefs e)
+
+same_meeting : (a b : ℕ) (c d : List Definition) (p q : List ℕ) → a ≡ b → c ≡ d → p ≡ q
+    → (let m : Meeting = record { columns = a; definitions = c; places = p } in m) ≡ record { columns = b; definitions = d; places = q }
+same_meeting a b c d p q e f h = rw (e, f, h) refl
+
+-- columns that stand at their own places leave those behind them at theirs
+placing-own : (n : ℕ) (before definitions : List Definition) → AreWellFormedDefinitions n definitions
+    → fold with_own_column (record { columns = n; definitions = before; places = range_with_len 0 n }) definitions
+    ≡ record { columns = n + length definitions; definitions = before ++ definitions; places = range_with_len 0 (n + length definitions) }
+placing-own n before [] h =
+    let none : n ≡ n + 0 = omega arith in
+    same_meeting n (n + 0) before (before ++ []) (range_with_len 0 n) (range_with_len 0 (n + 0)) none (sym (append-nil before)) (ap (range_with_len 0) none)
+placing-own n before (d ∷ definitions) h =
+    let next : n + 1 ≡ suc n = omega arith in
+    let count : n + 1 + length definitions ≡ n + suc (length definitions) = omega arith in
+    let one : with_own_column (record { columns = n; definitions = before; places = range_with_len 0 n }) d
+    ≡ record { columns = n + 1; definitions = before ++ d ∷ []; places = range_with_len 0 (n + 1) } =
+    same_meeting (n + 1) (n + 1) (before ++ placed_definition n (range_with_len 0 n) d ∷ []) (before ++ d ∷ []) (range_with_len 0 n ++ n ∷ [])
+    (range_with_len 0 (n + 1)) refl (ap (λ x. before ++ x ∷ []) (definition-own n d h.0.width)) (sym (first_push n)) in
+    ap (λ (m : Meeting). fold with_own_column m definitions) one
+    ∙ placing-own (n + 1) (before ++ d ∷ []) definitions (subst (λ k. AreWellFormedDefinitions k definitions) (sym next) h.1)
+    ∙ same_meeting (n + 1 + length definitions) (n + suc (length definitions)) ((before ++ d ∷ []) ++ definitions) (before ++ d ∷ definitions)
+    (range_with_len 0 (n + 1 + length definitions)) (range_with_len 0 (n + suc (length definitions))) count
+    (append_assoc before (d ∷ []) definitions) (ap (range_with_len 0) count)
+
+-- a piece whose columns stay is itself
+pub moved-own : (params : List Name) (piece : KeptPiece) → IsKeptPiece params piece
+    → moved piece.space (columns_of params piece.space) (range_with_len 0 (columns_of params piece.space)) (piece_system params piece) ≡ piece
+unfolding moved
+moved-own params piece kept =
+    let n = columns_of params piece.space in
+    let all = n + length piece.definitions in
+    let placing = placing-own n [] piece.definitions kept.definitions in
+    let wide : All (IsWellFormed all) piece.rows = let same : length piece.definitions + n ≡ all = omega arith in
+    subst (λ k. All (IsWellFormed k) piece.rows) same kept.rows in
+    let stays : piece_of piece.space (placed_system n (range_with_len 0 n) (piece_system params piece)) ≡ piece =
+    ap (λ (m : Meeting). let p : KeptPiece = record {
+      space = piece.space;
+      definitions = m.definitions;
+      rows = map (placed_row m.columns m.places) piece.rows;
+    } in p) placing
+    ∙ ap (λ rows. let p : KeptPiece = record { space = piece.space; definitions = piece.definitions; rows = rows } in p)
+    (placed_rows-own all piece.rows wide) in
+    ap settled stays ∙ settled-own piece kept.normal

@@ -1,12 +1,17 @@
 -- Pieces that a value has, by content.
-use Rattle.std.proofs.Common.{◌≡◌, ◌<◌, ◌≤◌, ◌+◌, ℕ, List, [], ◌∷◌, ◌++◌, map, take, length, get_or, sym, ap, ◌∙◌, subst, All}
+use Rattle.std.proofs.Common.{◌≡◌, ◌<◌, ◌≤◌, ◌+◌, ℕ, List, [], ◌∷◌, ◌++◌, map, take, length, get_or, refl, sym, ap, ◌∙◌, ◌↔◌, subst, All, Any}
 use Rattle.std.proofs.lemmas.List.{map_more, map-append, take_all}
-use Rattle.std.proofs.lemmas.List.Elements.{All-map, All-nil, All-push}
+use Rattle.std.proofs.lemmas.List.Elements.{All-head, All-map, All-nil, All-push}
+use Rattle.isl_math.proofs.ListLaws.{Any-first, Any-none}
+use Rattle.isl_space.specs.Element.{Element}
 use Rattle.isl_space.specs.Name.{Name}
 use Rattle.isl_space.specs.Names.{IsParameterList}
+use Rattle.isl_space.specs.Valuation.{Valuation}
 use Rattle.isl_piece.specs.Piece.{PieceView}
-use Rattle.isl_union.specs.KeptValue.{KeptValue, IsKeptPiece, IsKeptValue}
+use Rattle.isl_union.specs.Compare.{IsEmpty}
+use Rattle.isl_union.specs.KeptValue.{KeptPiece, KeptValue, HasElement, IsKeptPiece, IsKeptValue}
 use Rattle.isl_union.specs.Piece.{kept_piece, IsPieceOf}
+use Rattle.isl_union.proofs.SystemLaws.{void_exactly}
 
 pub no_pieces : (params : List Name) → All (IsPieceOf params) []
 no_pieces params = All-nil (IsPieceOf params)
@@ -44,3 +49,15 @@ copied_all pieces made i params copied value same is over so_far =
     names ∙ is
 
 pub ruleset made = (no_pieces, IsKeptValue-from_pieces)
+
+-- ---- values without elements
+-- a value is empty exactly where it has no piece
+pub empty_exactly : (value : KeptValue) → IsKeptValue value → (value.pieces ≡ []) ↔ IsEmpty value
+empty_exactly value kept = ((λ none v e has. Any-none (HasElement value.params v e) (subst (Any (HasElement value.params v e)) none has)), (λ empty. by value.pieces kept.pieces (λ v e a. empty v e a)))
+  where
+    by : (pieces : List KeptPiece) → All (IsKeptPiece value.params) pieces
+        → ((v : Valuation) (e : Element) → ¬ Any (HasElement value.params v e) pieces) → pieces ≡ []
+    by [] kept none = refl
+    by (piece ∷ pieces) all none =
+        absurd ((All-head (IsKeptPiece value.params) piece pieces all).live
+        ((void_exactly value.params piece kept.params.distinct).1 (λ v e has. none v e (Any-first (HasElement value.params v e) piece pieces has))))

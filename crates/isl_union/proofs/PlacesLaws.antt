@@ -19,7 +19,8 @@ use Rattle.isl_space.specs.Valuation.{Valuation, values_of, value_at}
 use Rattle.isl_space.proofs.PlacesLaws.{place_within, places_differ}
 use Rattle.isl_space.proofs.ValuationLaws.{length-values_of, get_or-values_of}
 use Rattle.isl_piece.specs.Meet.{numbers_at}
-use Rattle.isl_union.specs.Moved.{ArePlacesAmong, place_in, places_in}
+use Rattle.isl_piece.specs.Placed.{ArePlacesAmong}
+use Rattle.isl_union.specs.Moved.{place_in, places_in}
 
 -- a name that is there stands at its place
 place_inside : (all : List Name) (n : Name) → Contains all n → place_in all n < length all

@@ -2,30 +2,31 @@
 use Rattle.std.proofs.Common.{◌≡◌, ◌↔◌, ◌⊎◌, inl, inr, refl, sym, ap, ap₂, ◌∙◌, arith, subst, ℕ, ◌+◌, ◌<◌, List, [], ◌∷◌, ◌++◌, All, Any}
 use Rattle.std.proofs.Common.{Contains, length, fold, get_or, map, sum_by, take, unsigned_abs}
 use Rattle.std.proofs.lemmas.List.{get_or-map, length-map, map-append, take_more}
-use Rattle.std.proofs.lemmas.List.Elements.{All-append, All-map, All-contains_itself, All-push, Contains-append_left}
+use Rattle.std.proofs.lemmas.List.Elements.{All-append, All-map, All-contains_itself, Contains-append_left}
 use Rattle.isl_math.proofs.ListLaws.{All-unmapped, Any-left, Any-right, Any-parts}
 use Rattle.isl_meter.specs.Gauge.{Gauge, limit_of}
+use Rattle.isl_meter.proofs.CutLemmas.{IsCharged_refl, IsCutBy-charged}
 use Rattle.isl_space.specs.Element.{Element}
 use Rattle.isl_space.specs.Name.{Name}
 use Rattle.isl_space.specs.Limits.{most_parameters}
 use Rattle.isl_space.specs.declared.fault.SpaceFault.{SpaceFault}
 use Rattle.isl_space.specs.declared.fault.SpaceFault.TheVariants.{TooWide, NoMemory}
-use Rattle.isl_space.specs.Names.{AreDistinct, IsParameterList, joined}
+use Rattle.isl_space.specs.Names.{IsParameterList, joined}
 use Rattle.isl_space.specs.Valuation.{Valuation}
-use Rattle.isl_space.proofs.NamesLaws.{joined-self, joined_distinct, parameters_join}
+use Rattle.isl_space.proofs.NamesLaws.{joined-self, parameters_join}
 use Rattle.isl_piece.specs.Piece.{PieceView}
-use Rattle.isl_piece.specs.Row.{IsRowUpTo, IsRowWithin}
-use Rattle.isl_piece.proofs.RowMagnitudes.{within_limit}
-use Rattle.isl_union.specs.Fault.{fault_of, IsFaultWithin, IsPlainFault}
-use Rattle.isl_union.specs.KeptValue.{KeptPiece, KeptValue, Has, HasElement, IsKeptPiece, IsKeptValue}
-use Rattle.isl_union.specs.Meet.{meet_of, met_pieces, pair_count, pairs_of_one_space, partners}
-use Rattle.isl_union.specs.Moved.{aligned, aligned_pieces}
-use Rattle.isl_union.specs.Numbers.{AreWithinLimit, HasNumbersUpTo, IsWithinLimit}
+use Rattle.isl_union.specs.Fault.{fault_of, IsFaultBy, IsPlainFault}
+use Rattle.isl_union.specs.KeptValue.{KeptPiece, KeptValue, Has, HasElement, HasNoDefinitions, IsKeptValue}
+use Rattle.isl_union.specs.Live.{AreLiveOf}
+use Rattle.isl_union.specs.Meet.{met_pieces, pair_count, pairs_of_one_space, partners, IsMeetOf}
+use Rattle.isl_union.specs.Moved.{aligned, aligned_pieces, moved}
+use Rattle.isl_union.specs.Numbers.{AreWithinLimit, HasNumbersUpTo, IsPieceUpTo, IsWithinLimit}
 use Rattle.isl_union.specs.Piece.{kept_piece, IsPieceOf}
 use Rattle.isl_union.specs.Union.{union_of}
-use Rattle.isl_union.proofs.AlignedLaws.{aligned_has_any, aligned_kept, aligned_pieces-own, aligned_up_to}
-use Rattle.isl_union.proofs.MeetLaws.{pieces_have, pieces_small}
-use Rattle.isl_union.proofs.UnitLaws.{short_memory, used_none}
+use Rattle.isl_union.proofs.AlignedLaws.{aligned_has_any, aligned_kept, aligned_plain, aligned_pieces-own, aligned_up_to}
+use Rattle.isl_union.proofs.LiveLaws.{live_all, live_any}
+use Rattle.isl_union.proofs.MeetLaws.{pieces_have, pieces_plain, pieces_small}
+use Rattle.isl_union.proofs.SystemLaws.{piece_within, view_within, IsFit}
 
 -- ---- a loop's step: what is made of the i-th piece is put behind the others
 pub moved_more : (f : KeptPiece → KeptPiece) (pieces made pushed : List PieceView) (i : ℕ) (piece x : PieceView) → i < length pieces
@@ -42,30 +43,44 @@ moved_more f pieces made pushed i piece x low at made_of is so_far =
     ∙ sym (map-append f (take i (map kept_piece pieces)) (kept_piece piece ∷ [])) ∙ ap (map f) (sym more)
 
 -- ---- pieces within the limit
-pub pieces_within : (g : Gauge) (pieces : List PieceView) (kept : List KeptPiece) → map kept_piece pieces ≡ kept
-    → All (λ piece. All (IsRowUpTo (unsigned_abs (limit_of g))) piece.rows) kept → AreWithinLimit g pieces
-pieces_within g pieces kept is h = λ k d l.
-    let small = All-unmapped (λ (p : KeptPiece). All (IsRowUpTo (unsigned_abs (limit_of g))) p.rows) kept_piece pieces (rw is h) k d l in
-    λ i r low. within_limit g (get_or (get_or pieces k d).system.rows i r) (small i r low)
+pub pieces_within : (g : Gauge) (params : List Name) (pieces : List PieceView) (kept : List KeptPiece) → All (IsPieceOf params) pieces
+    → map kept_piece pieces ≡ kept → All (IsPieceUpTo (unsigned_abs (limit_of g))) kept → AreWithinLimit g pieces
+pieces_within g params pieces kept sound is h = λ k d l.
+    view_within g params (get_or pieces k d) (sound k d l)
+    (All-unmapped (IsPieceUpTo (unsigned_abs (limit_of g))) kept_piece pieces (rw is h) k d l)
+
+pub value_fit : (g : Gauge) (value : KeptValue) → IsKeptValue value → IsWithinLimit g value → All (IsFit g value.params) value.pieces
+value_fit g value kept fits = λ k d l.
+    (kept.pieces k d l, piece_within g value.params (get_or value.pieces k d) (kept.pieces k d l) (fits k d l))
 
 -- ---- over more parameters
-module _ (all : List Name) (value : KeptValue) (kept : IsKeptValue value) where
-  pub same_pieces : all ≡ value.params → aligned_pieces all value ≡ value.pieces
-  same_pieces same = rw same (aligned_pieces-own value.params kept.params.distinct value.pieces kept.pieces)
+pub same_pieces : (all : List Name) (value : KeptValue) → IsKeptValue value → all ≡ value.params → aligned_pieces all value ≡ value.pieces
+same_pieces all value kept same = rw same (aligned_pieces-own value.params kept.params.distinct value.pieces kept.pieces)
 
-  module _ (there : All (Contains all) value.params) where
-    pub aligned_have : (v : Valuation) (e : Element) → Any (HasElement all v e) (aligned_pieces all value) ↔ Has value v e
-    aligned_have v e = aligned_has_any all value.params kept.params.distinct there v e value.pieces kept.pieces
+module _ (g : Gauge) (all : List Name) (value : KeptValue) (kept : IsKeptValue value) (fits : IsWithinLimit g value)
+    (there : All (Contains all) value.params) where
+  pub aligned_have : (v : Valuation) (e : Element) → Any (HasElement all v e) (aligned_pieces all value) ↔ Has value v e
+  aligned_have v e = aligned_has_any all value.params kept.params.distinct there g v e value.pieces (value_fit g value kept fits)
 
-    pub aligned_all_kept : All (IsKeptPiece all) (aligned_pieces all value)
-    aligned_all_kept = All-map (IsKeptPiece all) (aligned all value.params) value.pieces (λ k d l. aligned_kept all value.params
-        kept.params.distinct there (get_or value.pieces k d) (kept.pieces k d l))
+  pub aligned_small : (limit : ℕ) → HasNumbersUpTo limit value → All (IsPieceUpTo limit) (aligned_pieces all value)
+  aligned_small limit h = All-map (IsPieceUpTo limit) (aligned all value.params) value.pieces (λ k d l.
+      let fit = value_fit g value kept fits k d l in
+      aligned_up_to all value.params kept.params.distinct there g (get_or value.pieces k d) fit.0 fit.1 limit (h k d l))
 
-    pub aligned_small : (limit : ℕ) → HasNumbersUpTo limit value
-        → All (λ piece. All (IsRowUpTo limit) piece.rows) (aligned_pieces all value)
-    aligned_small limit h =
-        All-map (λ (p : KeptPiece). All (IsRowUpTo limit) p.rows) (aligned all value.params) value.pieces
-        (λ k d l. aligned_up_to all value.params kept.params.distinct there limit (get_or value.pieces k d) (kept.pieces k d l) (h k d l))
+  pub aligned_all_plain : HasNoDefinitions value → All (λ piece. piece.definitions ≡ []) (aligned_pieces all value)
+  aligned_all_plain h = All-map (λ (p : KeptPiece). p.definitions ≡ []) (aligned all value.params) value.pieces (λ k d l.
+      let fit = value_fit g value kept fits k d l in
+      aligned_plain all value.params kept.params.distinct there g (get_or value.pieces k d) fit.0 fit.1 (h k d l))
+
+  pub aligned_fit : All (IsFit g all) (aligned_pieces all value)
+  aligned_fit = All-map (IsFit g all) (aligned all value.params) value.pieces (λ k d l.
+      let piece = get_or value.pieces k d in
+      let fit = value_fit g value kept fits k d l in
+      let here = aligned_kept all value.params kept.params.distinct there g piece fit.0 fit.1 in (
+        here,
+        piece_within g all (aligned all value.params piece) here
+            (aligned_up_to all value.params kept.params.distinct there g piece fit.0 fit.1 (unsigned_abs (limit_of g)) (fits k d l)),
+      ))
 
 -- ---- pairs of one space: pieces over more parameters lie where they lay
 sum_mapped : (f h : KeptPiece → ℕ) (g : KeptPiece → KeptPiece) → ((x : KeptPiece) → f (g x) ≡ h x) → (xs : List KeptPiece) (n : ℕ)
@@ -74,7 +89,7 @@ sum_mapped f h g same [] n = refl
 sum_mapped f h g same (x ∷ xs) n = ap (λ m. fold (λ a y. a + f y) (n + m) (map g xs)) (same x) ∙ sum_mapped f h g same xs (n + h x)
 
 count_aligned : (all names others : List Name) (a b : KeptPiece) → pair_count (aligned all names a) (aligned all others b) ≡ pair_count a b
-unfolding aligned
+unfolding moved
 count_aligned all names others a b = refl
 
 pub pairs_aligned : (all : List Name) (a b : KeptValue) → sum_by (partners (aligned_pieces all b)) (aligned_pieces all a)
@@ -101,10 +116,10 @@ pub plain_fault : (params : List Name) (fault : SpaceFault) → (fault ≡ TooWi
 plain_fault params TooWide h = h refl
 plain_fault params NoMemory h = refl
 
-pub fault_within : (params : List Name) (n : ℕ) (g h : Gauge) (fault : SpaceFault) → h ≡ g
-    → (fault ≡ TooWide → most_parameters < length params) → IsFaultWithin params n g h (fault_of fault)
-fault_within params n g h TooWide same wide = (wide refl, same)
-fault_within params n g h NoMemory same wide = short_memory 0 n g g h (omega arith) (used_none g g refl) same
+pub fault_by : (params : List Name) (g h : Gauge) (fault : SpaceFault) → h ≡ g
+    → (fault ≡ TooWide → most_parameters < length params) → IsFaultBy params g h (fault_of fault)
+fault_by params g h TooWide same wide = (wide refl, same)
+fault_by params g h NoMemory same wide = (inr refl, IsCutBy-charged g h (IsCharged_refl g h same))
 
 module _ (a b : KeptValue) (p : IsKeptValue a) (q : IsKeptValue b) where
   abbrev all : List Name
@@ -136,62 +151,86 @@ module _ (a b : KeptValue) (p : IsKeptValue a) (q : IsKeptValue b) where
   unfolding union_of
   union_params = refl
 
-  pub union_has : (v : Valuation) (e : Element) → Has (union_of a b) v e ↔ (Has a v e ⊎ Has b v e)
-  unfolding union_of
-  union_has v e =
-      let first = aligned_have all a p first_there v e in
-      let second = aligned_have all b q second_there v e in (
-        (λ h. elim (Any-parts (HasElement all v e) (aligned_pieces all a) (aligned_pieces all b) h) [
-          | inl x ↦ inl (first.0 x)
-          | inr y ↦ inr (second.0 y)
-        ]),
-        (λ h. elim h [
-          | inl x ↦ Any-left (HasElement all v e) (aligned_pieces all a) (aligned_pieces all b) (first.1 x)
-          | inr y ↦ Any-right (HasElement all v e) (aligned_pieces all a) (aligned_pieces all b) (second.1 y)
-        ]),
-      )
-
-  pub union_small : (limit : ℕ) → HasNumbersUpTo limit a → HasNumbersUpTo limit b → HasNumbersUpTo limit (union_of a b)
-  unfolding union_of
-  union_small limit h k =
-      All-append (λ (piece : KeptPiece). All (IsRowUpTo limit) piece.rows) (aligned_pieces all a) (aligned_pieces all b)
-      (aligned_small all a p first_there limit h) (aligned_small all b q second_there limit k)
-
   pub union_same : a.params ≡ b.params → (union_of a b).pieces ≡ a.pieces ++ b.pieces
   unfolding union_of
   union_same same =
       let first : all ≡ a.params = ap (joined a.params) (sym same) ∙ joined-self a.params in
       ap₂ (λ l m. l ++ m) (same_pieces all a p first) (same_pieces all b q (first ∙ same))
 
-  -- ---- what they have in common
-  module _ (params : List Name) (own others met : List PieceView) (value : KeptValue) (names : params ≡ all)
-      (first : map kept_piece own ≡ aligned_pieces params a) (second : map kept_piece others ≡ aligned_pieces params b)
-      (is : map kept_piece met ≡ met_pieces (map kept_piece own) (map kept_piece others))
-      (made : value ≡ record { params = params; pieces = map kept_piece met }) where
-    meet_is : value ≡ record { params = all; pieces = met_pieces (aligned_pieces all a) (aligned_pieces all b) }
-    meet_is =
-        let pieces : map kept_piece met ≡ met_pieces (aligned_pieces all a) (aligned_pieces all b) =
-        is ∙ ap₂ met_pieces (first ∙ ap (λ l. aligned_pieces l a) names) (second ∙ ap (λ l. aligned_pieces l b) names) in
-        let whole_is : record { params = params; pieces = map kept_piece met } ≡ record {
-          params = all;
-          pieces = met_pieces (aligned_pieces all a) (aligned_pieces all b);
-        } = cc in
-        made ∙ whole_is
+  module _ (g : Gauge) (h : IsWithinLimit g a) (k : IsWithinLimit g b) where
+    pub union_has : (v : Valuation) (e : Element) → Has (union_of a b) v e ↔ (Has a v e ⊎ Has b v e)
+    unfolding union_of
+    union_has v e =
+        let first = aligned_have g all a p h first_there v e in
+        let second = aligned_have g all b q k second_there v e in (
+          (λ has. elim (Any-parts (HasElement all v e) (aligned_pieces all a) (aligned_pieces all b) has) [
+            | inl x ↦ inl (first.0 x)
+            | inr y ↦ inr (second.0 y)
+          ]),
+          (λ has. elim has [
+            | inl x ↦ Any-left (HasElement all v e) (aligned_pieces all a) (aligned_pieces all b) (first.1 x)
+            | inr y ↦ Any-right (HasElement all v e) (aligned_pieces all a) (aligned_pieces all b) (second.1 y)
+          ]),
+        )
 
-    pub meet_written : value ≡ meet_of a b
-    unfolding meet_of
-    meet_written = meet_is
+    pub union_small : (limit : ℕ) → HasNumbersUpTo limit a → HasNumbersUpTo limit b → HasNumbersUpTo limit (union_of a b)
+    unfolding union_of
+    union_small limit s t =
+        All-append (IsPieceUpTo limit) (aligned_pieces all a) (aligned_pieces all b) (aligned_small g all a p h first_there limit s)
+        (aligned_small g all b q k second_there limit t)
 
-    pub meet_has : (v : Valuation) (e : Element) → Has value v e ↔ (Has a v e × Has b v e)
-    meet_has v e =
-        let one = aligned_have all a p first_there v e in
-        let other = aligned_have all b q second_there v e in
-        let both = pieces_have all v e (aligned_pieces all a) (aligned_pieces all b) (aligned_all_kept all a p first_there)
-        (aligned_all_kept all b q second_there) in
-        rw meet_is ((λ h. let parts = both.0 h in (one.0 parts.0, other.0 parts.1)), (λ hs. both.1 (one.1 hs.0, other.1 hs.1)))
+    pub union_plain : HasNoDefinitions a → HasNoDefinitions b → HasNoDefinitions (union_of a b)
+    unfolding union_of
+    union_plain s t =
+        All-append (λ (p : KeptPiece). p.definitions ≡ []) (aligned_pieces all a) (aligned_pieces all b)
+        (aligned_all_plain g all a p h first_there s) (aligned_all_plain g all b q k second_there t)
 
-    pub meet_small : (limit : ℕ) → HasNumbersUpTo limit a → HasNumbersUpTo limit b → HasNumbersUpTo limit value
-    meet_small limit h k =
-        rw meet_is (pieces_small all limit (aligned_pieces all a) (aligned_pieces all b) (aligned_all_kept all a p first_there)
-        (aligned_all_kept all b q second_there)
-        (aligned_small all a p first_there limit h) (aligned_small all b q second_there limit k))
+    -- ---- what they have in common
+    pub meet_has : (value : KeptValue) → IsMeetOf a b value → (v : Valuation) (e : Element) → Has value v e ↔ (Has a v e × Has b v e)
+    meet_has value is v e =
+        let params = value.params in
+        let own = aligned_pieces params a in
+        let others = aligned_pieces params b in
+        let first = subst (λ (l : List Name). All (Contains l) a.params) (sym is.params) first_there in
+        let second = subst (λ (l : List Name). All (Contains l) b.params) (sym is.params) second_there in
+        let kept = live_any params v e (met_pieces params own others) value.pieces is.pieces in
+        let both = pieces_have g params v e own others (aligned_fit g params a p h first) (aligned_fit g params b q k second) in
+        let one = aligned_have g params a p h first v e in
+        let other = aligned_have g params b q k second v e in (
+          (λ has. let parts = both.0 (kept.0 has) in (one.0 parts.0, other.0 parts.1)),
+          (λ hs. kept.1 (both.1 (one.1 hs.0, other.1 hs.1))),
+        )
+
+    pub meet_small : (value : KeptValue) → IsMeetOf a b value → (limit : ℕ) → HasNumbersUpTo limit a → HasNumbersUpTo limit b
+        → HasNumbersUpTo limit value
+    meet_small value is limit s t =
+        let params = value.params in
+        let own = aligned_pieces params a in
+        let others = aligned_pieces params b in
+        let first = subst (λ (l : List Name). All (Contains l) a.params) (sym is.params) first_there in
+        let second = subst (λ (l : List Name). All (Contains l) b.params) (sym is.params) second_there in
+        live_all params (IsPieceUpTo limit) (IsPieceUpTo limit) (λ piece small live. small) (met_pieces params own others) value.pieces is.pieces
+        (pieces_small g params limit own others (aligned_fit g params a p h first) (aligned_fit g params b q k second)
+        (aligned_small g params a p h first limit s) (aligned_small g params b q k second limit t))
+
+    pub meet_plain : (value : KeptValue) → IsMeetOf a b value → HasNoDefinitions a → HasNoDefinitions b → HasNoDefinitions value
+    meet_plain value is s t =
+        let P : KeptPiece → Type 0 = λ piece. piece.definitions ≡ [] in
+        let params = value.params in
+        let own = aligned_pieces params a in
+        let others = aligned_pieces params b in
+        let first = subst (λ (l : List Name). All (Contains l) a.params) (sym is.params) first_there in
+        let second = subst (λ (l : List Name). All (Contains l) b.params) (sym is.params) second_there in
+        live_all params P P (λ piece plain live. plain) (met_pieces params own others) value.pieces is.pieces
+        (pieces_plain g params own others (aligned_fit g params a p h first) (aligned_fit g params b q k second)
+        (aligned_all_plain g params a p h first s) (aligned_all_plain g params b q k second t))
+
+  pub meet_written : (params : List Name) (own others met : List PieceView) (value : KeptValue) → params ≡ all
+      → map kept_piece own ≡ aligned_pieces params a → map kept_piece others ≡ aligned_pieces params b
+      → AreLiveOf params (met_pieces params (map kept_piece own) (map kept_piece others)) (map kept_piece met)
+      → value ≡ record { params = params; pieces = map kept_piece met } → IsMeetOf a b value
+  meet_written params own others met value names first second exact made = rw made (record {
+    params = names;
+    pieces = subst (λ (l : List KeptPiece). AreLiveOf params (met_pieces params l (aligned_pieces params b)) (map kept_piece met)) first
+        (subst (λ (l : List KeptPiece). AreLiveOf params (met_pieces params (map kept_piece own) l) (map kept_piece met)) second exact);
+  })

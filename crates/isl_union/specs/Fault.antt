@@ -1,8 +1,8 @@
 -- public: why operations on values have no result.
-use Rattle.std.specs.Prelude.{◌≡◌, ◌≢◌, ◌<◌, ◌≤◌, ◌+◌, ℕ, pos, List, length}
-use Rattle.isl_meter.specs.Gauge.{Gauge, IsCharged, IsCutUpTo, spent_out}
+use Rattle.std.specs.Prelude.{◌≡◌, ◌<◌, ◌≤◌, ◌⊎◌, ◌+◌, ℕ, List, length}
+use Rattle.isl_meter.specs.Gauge.{Gauge, IsCharged, IsCutBy}
 use Rattle.isl_meter.specs.declared.Cut.{Cut}
-use Rattle.isl_meter.specs.declared.Cut.TheVariants.{Overflow, Budget, NoMemory}
+use Rattle.isl_meter.specs.declared.Cut.TheVariants.{NoMemory}
 use Rattle.isl_space.specs.Limits.{most_parameters}
 use Rattle.isl_space.specs.Name.{Name}
 use Rattle.isl_space.specs.declared.fault.SpaceFault.{SpaceFault}
@@ -20,24 +20,17 @@ abbrev pub IsPlainFault : List Name → OpFault → Type 0
 IsPlainFault params op_fault.TooWide = most_parameters < length params
 IsPlainFault params (op_fault.Cut cut) = cut ≡ NoMemory
 
--- n units were used, and nothing else happened
-pub record HasUsed (n : ℕ) (old new : Gauge) : Type 0 where
-  pub same : new ≡ record old { units = old.units + n }
+-- at least n units were used, and nothing else happened
+pub record IsChargedFrom (n : ℕ) (old new : Gauge) : Type 0 where
+  pub charged : IsCharged old new
+  pub least : old.units + n ≤ new.units
 
--- the meter where work was cut for want of units, which was counted, or of memory: units alone were used else
-abbrev pub IsStopped : Gauge → Gauge → Cut → Type 0
-IsStopped old new Overflow = ⊥
-IsStopped old new Budget = (new.budget ≤ new.units) × IsCharged (spent_out old) new
-IsStopped old new NoMemory = IsCharged old new
+-- the parameters are more than the limit, and the meter is as it was; or work was cut, and they are not more, unless memory ended
+abbrev pub IsFaultBy : List Name → Gauge → Gauge → OpFault → Type 0
+IsFaultBy params old new op_fault.TooWide = (most_parameters < length params) × (new ≡ old)
+IsFaultBy params old new (op_fault.Cut cut) = ((length params ≤ most_parameters) ⊎ (cut ≡ NoMemory)) × IsCutBy old new cut
 
--- work of n units was cut, by no overflow, after at most these; where units ended, one of them at least was not to be had
-pub record IsShortOf (n : ℕ) (old new : Gauge) (cut : Cut) : Type 0 where
-  pub by : IsCutUpTo (pos n) old new cut
-  pub no_overflow : cut ≢ Overflow
-  pub stopped : IsStopped old new cut
-  pub wanted : cut ≡ Budget → new.units < old.units + n
-
--- the parameters are more than the limit, and the meter is as it was; or work of n units was cut, by no overflow
-abbrev pub IsFaultWithin : List Name → ℕ → Gauge → Gauge → OpFault → Type 0
-IsFaultWithin params n old new op_fault.TooWide = (most_parameters < length params) × (new ≡ old)
-IsFaultWithin params n old new (op_fault.Cut cut) = IsShortOf n old new cut
+-- work was cut, and nothing is too wide
+abbrev pub IsCutFault : Gauge → Gauge → OpFault → Type 0
+IsCutFault old new op_fault.TooWide = ⊥
+IsCutFault old new (op_fault.Cut cut) = IsCutBy old new cut

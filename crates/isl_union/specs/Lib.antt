@@ -1,9 +1,14 @@
+pub mod Compare
 pub mod Fault
+pub mod Finite
 pub mod KeptValue
+pub mod Live
 pub mod Meet
 pub mod Moved
 pub mod Numbers
 pub mod Piece
+pub mod Project
+pub mod Sample
 pub mod Stored
 pub mod Union
 pub use Rattle.isl_space.specs.Element

@@ -1,13 +1,16 @@
 -- public: which pieces of two values meet. (isl manual, on set and relation operations)
-use Rattle.std.specs.Prelude.{ℕ, Bool, false, ◌&&◌, if◌then◌else◌, Option, None, option_map, List, ◌++◌, sum_by, flat_map, filter_map}
+use Rattle.std.specs.Prelude.{◌≡◌, ℕ, Bool, false, ◌&&◌, if◌then◌else◌, Option, None, List, sum_by, flat_map, filter_map}
 use Rattle.std.specs.Bool.{nat_eq}
 use Rattle.std.specs.Option.{option_eq}
 use Rattle.std.specs.Str.{bytes_eq}
 use Rattle.isl_space.specs.Form.{Form, leaf, pair}
 use Rattle.isl_space.specs.SpaceForm.{SpaceForm, set_of, map_of}
-use Rattle.isl_piece.specs.Normal.{normal_rows}
+use Rattle.isl_space.specs.Name.{Name}
 use Rattle.isl_space.specs.Names.{joined}
-use Rattle.isl_union.specs.KeptValue.{KeptPiece, KeptValue}
+use Rattle.isl_piece.specs.Placed.{both_systems}
+use Rattle.isl_union.specs.KeptValue.{KeptPiece, KeptValue, piece_system}
+use Rattle.isl_union.specs.Live.{normal_of, AreLiveOf}
+use Rattle.isl_union.specs.Piece.{piece_of}
 use Rattle.isl_union.specs.Moved.{aligned_pieces}
 
 -- ---- pieces of one space
@@ -39,23 +42,22 @@ pairs_of_one_space a b = sum_by (partners b.pieces) a.pieces
 
 -- ---- what they have in common
 -- the normal rows of both pieces, which lie in one space; nothing where one of the rows can hold nowhere
-unfoldable pub common_piece : KeptPiece → KeptPiece → Option KeptPiece
-common_piece a b = option_map (λ rows. record { space = a.space; rows = rows }) (normal_rows (a.rows ++ b.rows))
+unfoldable pub common_piece : List Name → KeptPiece → KeptPiece → Option KeptPiece
+common_piece params a b = normal_of (piece_of a.space (both_systems (piece_system params a) (piece_system params b)))
 
 -- nothing also where they lie in two spaces
-abbrev pub met_piece : KeptPiece → KeptPiece → Option KeptPiece
-met_piece a b = if is_same_space a.space b.space then common_piece a b else None
+abbrev pub met_piece : List Name → KeptPiece → KeptPiece → Option KeptPiece
+met_piece params a b = if is_same_space a.space b.space then common_piece params a b else None
 
 -- what a piece has in common with each of the others
-abbrev pub met_with : List KeptPiece → KeptPiece → List KeptPiece
-met_with others piece = filter_map (met_piece piece) others
+abbrev pub met_with : List Name → List KeptPiece → KeptPiece → List KeptPiece
+met_with params others piece = filter_map (met_piece params piece) others
 
-abbrev pub met_pieces : List KeptPiece → List KeptPiece → List KeptPiece
-met_pieces pieces others = flat_map (met_with others) pieces
+abbrev pub met_pieces : List Name → List KeptPiece → List KeptPiece → List KeptPiece
+met_pieces params pieces others = flat_map (met_with params others) pieces
 
--- the joined parameters, and over them what each piece of the first has in common with each of the second
-unfoldable pub meet_of : KeptValue → KeptValue → KeptValue
-meet_of a b = record {
-  params = joined a.params b.params;
-  pieces = met_pieces (aligned_pieces (joined a.params b.params) a) (aligned_pieces (joined a.params b.params) b);
-}
+-- the value has the joined parameters, and over them what each piece of the first has in common with each of the second, where that has
+-- an element at some valuation
+pub record IsMeetOf (a b value : KeptValue) : Type 0 where
+  pub params : value.params ≡ joined a.params b.params
+  pub pieces : AreLiveOf value.params (met_pieces value.params (aligned_pieces value.params a) (aligned_pieces value.params b)) value.pieces

@@ -3,16 +3,16 @@
 ghost use Rattle.std.specs.Prelude.{◌≡◌, ◌↔◌, ◌++◌, All, Contains, IfOk, IsTrue, OnOk, length, map};
 ghost use Rattle.std.specs.List.{range_with_len};
 ghost use Rattle.isl_space.specs.Names.{AreDistinct};
-ghost use Rattle.isl_piece.specs.Row.{IsRowWithin};
+ghost use Rattle.isl_piece.specs.System.{IsSystemWithin};
 ghost use Rattle.isl_union.specs.KeptValue.{IsKeptValue};
 ghost use Rattle.isl_union.specs.Moved.{aligned, aligned_pieces, places_in};
 ghost use Rattle.isl_union.specs.Numbers.{AreWithinLimit, IsWithinLimit};
 ghost use Rattle.isl_union.specs.Piece.{kept_piece, IsPieceOf};
 
 use crate::Value;
-use crate::moved::moved_rows;
+use crate::live::settled_piece;
 use isl_meter::Meter;
-use isl_piece::{Piece, System};
+use isl_piece::Piece;
 use isl_space::Params;
 use std::alloc::{AllocError, Global};
 
@@ -74,25 +74,16 @@ fn aligned_piece(
     requires names { AreDistinct names.now }
     requires among { All (Contains all.now) names.now }
     requires piece { IsPieceOf names.now piece.now }
-    requires within { All (IsRowWithin meter.now) piece.now.system.rows }
+    requires within { IsSystemWithin meter.now piece.now.system }
     ensures exact { IfOk result (λ moved. kept_piece moved ≡ aligned all.now names.now (kept_piece piece.now)) }
     ensures sound { IfOk result (IsPieceOf all.now) }
 {
-    let width = piece.space().width();
-    let columns = all.len() + width as usize;
+    let space = piece.space();
+    let width = space.width();
     let places = column_places(alloc, all, names, width)?;
-    let rows = moved_rows(
-        alloc,
-        columns,
-        places.as_slice(),
-        &piece.system().rows,
-        meter,
-    )?;
-    Piece::new(
-        alloc,
-        piece.space().copy()?,
-        System::from_rows(alloc, columns, rows),
-    )
+    let columns = all.len() + width as usize;
+    let system = piece.system().placed(alloc, columns, places.as_slice())?;
+    settled_piece(alloc, space, system, meter)
 }
 
 // Copies of pieces, which share their systems with them.

@@ -3,11 +3,11 @@
 
 mod aligned;
 mod fault;
+mod live;
 mod meet;
-mod moved;
 mod union;
 mod value;
 
 pub use fault::OpFault;
-pub use moved::moved_rows;
+pub use live::{live_piece, settled_piece};
 pub use value::Value;

@@ -6,7 +6,7 @@ ghost use Rattle.isl_space.specs.Limits.{most_parameters};
 ghost use Rattle.isl_space.specs.Names.{joined};
 ghost use Rattle.isl_space.specs.Valuation.{Valuation};
 ghost use Rattle.isl_union.specs.Fault.{IsPlainFault};
-ghost use Rattle.isl_union.specs.KeptValue.{Has, IsKeptValue};
+ghost use Rattle.isl_union.specs.KeptValue.{Has, HasNoDefinitions, IsKeptValue};
 ghost use Rattle.isl_union.specs.Numbers.{HasNumbersUpTo, IsWithinLimit};
 ghost use Rattle.isl_union.specs.Union.{union_of};
 
@@ -33,7 +33,8 @@ impl Value {
             → IfOk result (λ value. value.pieces ≡ self.now.pieces ++ other.now.pieces) }
         ensures elements { (valuation : Valuation) (element : Element)
             → IfOk result (λ value. Has value valuation element ↔ (Has self.now valuation element ⊎ Has other.now valuation element)) }
-        ensures numbers { (b : ℕ) → HasNumbersUpTo b self.now → HasNumbersUpTo b other.now → IfOk result (HasNumbersUpTo b) }
+        ensures definitions { HasNoDefinitions self.now → HasNoDefinitions other.now → IfOk result HasNoDefinitions }
+        ensures numbers { (most : ℕ) → HasNumbersUpTo most self.now → HasNumbersUpTo most other.now → IfOk result (HasNumbersUpTo most) }
         ensures faults { MatchResult result (λ _. length (joined self.now.params other.now.params) ≤ most_parameters)
             (IsPlainFault (joined self.now.params other.now.params)) }
         ensures meter { meter.new ≡ meter.old }

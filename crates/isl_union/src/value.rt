@@ -1,10 +1,13 @@
 //! Values.
 
-ghost use Rattle.std.specs.Prelude.{◌≡◌, [], All, IfOk, map};
+ghost use Rattle.std.specs.Prelude.{◌≡◌, ◌↔◌, [], All, IfOk, IsTrue, MatchResult, map};
 ghost use Rattle.isl_space.specs.Names.{IsParameterList};
+ghost use Rattle.isl_union.specs.Compare.{IsEmpty};
 ghost use Rattle.isl_union.specs.KeptValue.{IsKeptValue};
 ghost use Rattle.isl_union.specs.Piece.{kept_piece, IsPieceOf};
 
+use crate::OpFault;
+use isl_meter::Meter;
 use isl_piece::Piece;
 use isl_space::Params;
 use std::alloc::{AllocError, Global};
@@ -49,7 +52,7 @@ impl Value {
         }
     }
 
-    /// The value of these pieces, whose rows are normal.
+    /// The value of these pieces, whose rows are normal, and of which each has an element at some valuation.
     pub fn from_normal(params: Params, pieces: Vec<Piece>) -> Value
         requires params { IsParameterList params }
         requires pieces { All (IsPieceOf params) pieces.items }
@@ -74,6 +77,15 @@ impl Value {
         ensures kept { IsKeptValue self.now }
     {
         self.pieces.as_slice()
+    }
+
+    /// Whether the value has no element at any valuation. Each piece has one, so this uses no unit, and has no fault.
+    #[tactic(auto, using(crate::proofs::PieceLaws::made))]
+    pub fn is_empty(&self, meter: &mut Meter) -> Result<bool, OpFault>
+        ensures exact { MatchResult result (λ empty. IsTrue empty ↔ IsEmpty self.now) (λ _. ⊥) }
+        ensures meter { meter.new ≡ meter.old }
+    {
+        Ok(self.pieces.is_empty())
     }
 
     /// The same value, with the same names, shapes and systems in memory.

@@ -5,7 +5,7 @@ use Rattle.isl_meter.proofs.CutLemmas.{IsCharged_refl, IsCharged_trans}
 use Rattle.isl_elim.specs.Others.{others_of}
 use Rattle.isl_column.specs.Parts.{AreParts, ArePartsOf, HoldsPart}
 use Rattle.isl_elim.proofs.OthersLaws.{among, among_at}
-use Rattle.isl_elim.proofs.AlongLaws.{along_none, along_after, columns_after, pushed_all}
+use Rattle.isl_elim.proofs.AlongLaws.{along_none, along_after, columns_after, pushed_all, one_more, counted_after}
 use Rattle.isl_elim.proofs.PartsLaws.{parts_after}
 use Rattle.isl_elim.proofs.along.+eliminate_all.Goals as goal
 
@@ -22,6 +22,7 @@ push_parts-returns t c =
             c.loop-parts.invariant none,
         IsCharged_trans g h k c.loop-parts.invariant.charged charged,
       );
+      counted = let w = c.loop-parts.invariant.counted in let u = charged.units in omega (arith, w, u);
     }
 
 pub push_without-returns-then-is_empty : goal.push_without-returns-then-is_empty
@@ -36,6 +37,7 @@ push_without-returns-then-is_empty t c =
             c.requires.normal pushed,
         IsCharged_refl g g refl,
       );
+      counted = one_more g.units c.args.lists.now.items c.push.new.self.items c.args.rows pushed;
     }
 
 pub push_without-returns : goal.push_without-returns
@@ -56,6 +58,8 @@ push_without-returns t c =
       exact = along_after g h c.push_parts.new.meter c.args.columns col cols c.args.rows c.in_ok-parts.parts c.args.lists.now.items
           c.push_parts.new.lists.items c.push_parts.result c.requires.distinct among low charged are
           (rw slice at c.push_parts.ensures.exact);
+      counted = counted_after g h c.push_parts.new.meter c.in_ok-parts.parts c.args.lists.now.items c.push_parts.new.lists.items c.push_parts.result charged
+          c.push_parts.ensures.counted;
     }
 
 pub push_without-push_parts-requires : goal.push_without-push_parts-requires

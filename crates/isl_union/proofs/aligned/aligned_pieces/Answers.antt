@@ -1,7 +1,6 @@
 use Rattle.std.proofs.Common.{◌≡◌, refl, sym, ap, ◌∙◌, map, subst}
 use Rattle.std.specs.List.{All}
 use Rattle.std.proofs.lemmas.Result.{IfOk-weaker}
-use Rattle.isl_space.specs.Name.{Name}
 use Rattle.isl_union.specs.Moved.{aligned_pieces}
 use Rattle.isl_union.specs.Piece.{kept_piece}
 use Rattle.isl_union.proofs.ValueLaws.{same_pieces, pieces_within}
@@ -18,5 +17,6 @@ returns-then-are_same-clause-exact c =
     c.copies.ensures
 
 pub moved_pieces-requires-clause-within : goal.moved_pieces-requires-clause-within
-moved_pieces-requires-clause-within c = pieces_within c.args.meter.now c.pieces-pieces.result.now c.args.value.now.pieces
-    c.pieces-pieces.ensures.content c.requires.within
+moved_pieces-requires-clause-within c =
+    pieces_within c.args.meter.now c.args.value.now.params c.pieces-pieces.result.now c.args.value.now.pieces
+    c.pieces-pieces.ensures.well_formed c.pieces-pieces.ensures.content c.requires.within

@@ -1,54 +1,105 @@
-use Rattle.std.proofs.Common.{◌≡◌, refl, sym, ◌∙◌, arith, subst}
+use Rattle.std.proofs.Common.{◌≡◌, refl, sym, ap, ap₂, ◌∙◌, subst, option_map, Option, IfSome}
 use Rattle.std.proofs.lemmas.Bool.{false≢true}
-use Rattle.isl_meter.specs.declared.Cut.TheVariants.{Budget, NoMemory}
-use Rattle.isl_union.specs.Fault.{HasUsed, IsShortOf}
-use Rattle.isl_union.specs.Meet.{pair_count}
-use Rattle.isl_union.specs.Piece.{kept_piece}
-use Rattle.isl_union.proofs.MeetLaws.{met_apart, count_apart, met_together, count_together}
-use Rattle.isl_union.proofs.UnitLaws.{used_none, used_one, short_memory, short_budget}
+use Rattle.std.proofs.lemmas.Result.{IfOk-weaker, MatchResult-weaker}
+use Rattle.isl_meter.proofs.CutLemmas.{IsCharged-unit, IsCutBy-after}
+use Rattle.isl_meter.specs.Gauge.{IsCharged, IsCutBy}
+use Rattle.isl_space.specs.Space.{space_form_of}
+use Rattle.isl_space.specs.SpaceForm.{SpaceForm, IsWellFormedSpace}
+use Rattle.isl_piece.specs.declared.system.System.{System}
+use Rattle.isl_piece.specs.Placed.{both_systems}
+use Rattle.isl_piece.specs.System.{IsSystemWithin, free_columns}
+use Rattle.isl_union.specs.Fault.{IsChargedFrom}
+use Rattle.isl_union.specs.KeptValue.{KeptPiece, IsVoid, columns_of}
+use Rattle.isl_union.specs.Live.{normal_of, IsLiveOf}
+use Rattle.isl_union.specs.Meet.{met_piece, pair_count}
+use Rattle.isl_union.specs.Piece.{kept_piece, piece_of, IsPieceOf}
+use Rattle.isl_union.proofs.MeetLaws.{met_apart, count_apart, met_both, count_together}
+use Rattle.isl_union.proofs.MeetSteps.{bits_after_unit}
+use Rattle.isl_union.proofs.SystemLaws.{view_free}
+use Rattle.isl_union.proofs.UnitLaws.{from_none, from_unit}
 use Rattle.isl_union.proofs.meet.met_piece.Goals as goal
 
 pub returns-then-not-same-clause-exact : goal.returns-then-not-same-clause-exact
 returns-then-not-same-clause-exact c =
-    met_apart (kept_piece c.args.a.now) (kept_piece c.args.b.now) (λ e. false≢true (c.if-not-same.ensures.1 (c.space.ensures ∙ e ∙
-    sym c.space-2.ensures)))
+    let params = c.args.params.now in
+    subst (λ (o : Option KeptPiece). IfSome o (IsVoid params))
+    (met_apart params (kept_piece c.args.a.now) (kept_piece c.args.b.now)
+    (λ e. false≢true (c.if-not-same.ensures.1 (c.space-space.ensures ∙ e ∙ sym c.space.ensures)))) tt
 
 pub returns-then-not-same-clause-units : goal.returns-then-not-same-clause-units
 returns-then-not-same-clause-units c =
     let g = c.args.meter.now in
-    subst (λ n. HasUsed n g g) (count_apart (kept_piece c.args.a.now) (kept_piece c.args.b.now)
-    (λ e. false≢true (c.if-not-same.ensures.1 (c.space.ensures ∙ e ∙ sym c.space-2.ensures))))
-    (used_none g g refl)
+    subst (λ n. IsChargedFrom n g g) (count_apart (kept_piece c.args.a.now) (kept_piece c.args.b.now)
+    (λ e. false≢true (c.if-not-same.ensures.1 (c.space-space.ensures ∙ e ∙ sym c.space.ensures))))
+    (from_none g g refl)
 
-pub returns-in_err-unit-clause-units : goal.returns-in_err-unit-clause-units
-returns-in_err-unit-clause-units c =
-    let g = c.args.meter.now in
-    let k = c.unit.new.self in
-    let same : c.args.a.now.space ≡ c.args.b.now.space = sym c.space.ensures ∙ c.if-not-same.ensures.0 refl ∙ c.space-2.ensures in
-    let own : IsShortOf (pair_count (kept_piece c.args.a.now) (kept_piece c.args.b.now)) g k Budget =
-    subst (λ n. IsShortOf n g k Budget) (count_together (kept_piece c.args.a.now) (kept_piece c.args.b.now) same) (short_budget 1 g k
-    (omega arith) c.in_err-unit.ensures.0 c.in_err-unit.ensures.1) in
-    grind arith
+pub meet-requires : goal.meet-requires
+meet-requires c =
+    let params = c.args.params.now in
+    let a = c.args.a.now in
+    let b = c.args.b.now in
+    let same : a.space ≡ b.space = sym c.space-space.ensures ∙ c.if-not-same.ensures.0 refl ∙ c.space.ensures in
+    ap free_columns c.system.ensures ∙ view_free params a c.requires.own ∙ ap (columns_of params) same ∙ sym (view_free params b c.requires.other)
+    ∙ sym (ap free_columns c.system-2.ensures)
 
-pub returns-in_err-common_piece-clause-units : goal.returns-in_err-common_piece-clause-units
-returns-in_err-common_piece-clause-units c =
+pub live_piece-requires : goal.live_piece-requires
+live_piece-requires c =
     let g = c.args.meter.now in
-    let k = c.unit.new.self in
-    let same : c.args.a.now.space ≡ c.args.b.now.space = sym c.space.ensures ∙ c.if-not-same.ensures.0 refl ∙ c.space-2.ensures in
-    let own : IsShortOf (pair_count (kept_piece c.args.a.now) (kept_piece c.args.b.now)) g k NoMemory =
-    subst (λ n. IsShortOf n g k NoMemory) (count_together (kept_piece c.args.a.now) (kept_piece c.args.b.now) same) (short_memory 1 1 g k k
-    (omega arith) (used_one g k c.in_ok-unit.ensures.1) refl) in
-    grind arith
+    let h = c.unit.new.self in
+    c.in_ok-both.ensures.within h
+    (subst (IsSystemWithin h) (sym c.system.ensures) (bits_after_unit g h c.args.a.now.system c.in_ok-unit.ensures.1 c.requires.own_within))
+    (subst (IsSystemWithin h) (sym c.system-2.ensures) (bits_after_unit g h c.args.b.now.system c.in_ok-unit.ensures.1 c.requires.other_within))
 
 pub returns-clause-exact : goal.returns-clause-exact
 returns-clause-exact c =
-    let same : c.args.a.now.space ≡ c.args.b.now.space = sym c.space.ensures ∙ c.if-not-same.ensures.0 refl ∙ c.space-2.ensures in
-    c.in_ok-common_piece.ensures.exact ∙ met_together (kept_piece c.args.a.now) (kept_piece c.args.b.now) same
+    let g = c.args.meter.now in
+    let params = c.args.params.now in
+    let a = c.args.a.now in
+    let b = c.args.b.now in
+    let both = c.in_ok-both.both in
+    let space = space_form_of c.space-space.result.now in
+    let same : a.space ≡ b.space = sym c.space-space.ensures ∙ c.if-not-same.ensures.0 refl ∙ c.space.ensures in
+    let own = subst (IsSystemWithin g) (sym c.system.ensures) c.requires.own_within in
+    let other = subst (IsSystemWithin g) (sym c.system-2.ensures) c.requires.other_within in
+    let free : free_columns both ≡ columns_of params space =
+        c.in_ok-both.ensures.free g own other ∙ ap free_columns c.system.ensures ∙ view_free params a c.requires.own
+        ∙ ap (columns_of params) (sym c.space-space.ensures) in
+    let is = met_both params a b both same c.requires.own c.requires.other
+        (c.in_ok-both.ensures.exact ∙ ap₂ both_systems c.system.ensures c.system-2.ensures) in
+    let whole : normal_of (piece_of space both) ≡ met_piece params (kept_piece a) (kept_piece b) =
+        ap (λ (s : SpaceForm). normal_of (piece_of s both)) c.space-space.ensures ∙ is in
+    IfOk-weaker c.live_piece.result
+    (λ found. IsLiveOf params (normal_of (piece_of space both)) (option_map kept_piece found) × IfSome found (IsPieceOf params))
+    (λ found. IsLiveOf params (met_piece params (kept_piece a) (kept_piece b)) (option_map kept_piece found))
+    (λ found h. subst (λ (o : Option KeptPiece). IsLiveOf params o (option_map kept_piece found)) whole h.0)
+    (c.live_piece.ensures.found params (subst IsWellFormedSpace (sym c.space-space.ensures) c.requires.own.kept.space) free)
+
+pub returns-clause-sound : goal.returns-clause-sound
+returns-clause-sound c =
+    let g = c.args.meter.now in
+    let params = c.args.params.now in
+    let a = c.args.a.now in
+    let both = c.in_ok-both.both in
+    let space = space_form_of c.space-space.result.now in
+    let own = subst (IsSystemWithin g) (sym c.system.ensures) c.requires.own_within in
+    let other = subst (IsSystemWithin g) (sym c.system-2.ensures) c.requires.other_within in
+    let free : free_columns both ≡ columns_of params space =
+        c.in_ok-both.ensures.free g own other ∙ ap free_columns c.system.ensures ∙ view_free params a c.requires.own
+        ∙ ap (columns_of params) (sym c.space-space.ensures) in
+    IfOk-weaker c.live_piece.result
+    (λ found. IsLiveOf params (normal_of (piece_of space both)) (option_map kept_piece found) × IfSome found (IsPieceOf params))
+    (λ found. IfSome found (IsPieceOf params)) (λ found h. h.1)
+    (c.live_piece.ensures.found params (subst IsWellFormedSpace (sym c.space-space.ensures) c.requires.own.kept.space) free)
 
 pub returns-clause-units : goal.returns-clause-units
 returns-clause-units c =
     let g = c.args.meter.now in
-    let k = c.unit.new.self in
-    let same : c.args.a.now.space ≡ c.args.b.now.space = sym c.space.ensures ∙ c.if-not-same.ensures.0 refl ∙ c.space-2.ensures in
-    subst (λ n. HasUsed n g k) (count_together (kept_piece c.args.a.now) (kept_piece c.args.b.now) same)
-    (used_one g k c.in_ok-unit.ensures.1)
+    let h = c.unit.new.self in
+    let k = c.live_piece.new.meter in
+    let e = c.in_ok-unit.ensures.1 in
+    let a = c.args.a.now in
+    let b = c.args.b.now in
+    let same : a.space ≡ b.space = sym c.space-space.ensures ∙ c.if-not-same.ensures.0 refl ∙ c.space.ensures in
+    MatchResult-weaker c.live_piece.result c.live_piece.ensures.meter
+    (λ found p. subst (λ n. IsChargedFrom n g k) (count_together (kept_piece a) (kept_piece b) same) (from_unit g h k e p))
+    (λ cut p. IsCutBy-after g h k cut (IsCharged-unit g h e) p)

@@ -4,12 +4,12 @@ use Rattle.isl_meter.specs.Gauge.{limit_of}
 use Rattle.isl_space.specs.Limits.{most_parameters}
 use Rattle.isl_space.specs.Name.{Name}
 use Rattle.isl_space.specs.Names.{IsParameterList, joined}
-use Rattle.isl_union.specs.Fault.{HasUsed, IsShortOf}
+use Rattle.isl_union.specs.Fault.{IsChargedFrom}
 use Rattle.isl_union.specs.KeptValue.{IsKeptValue}
 use Rattle.isl_union.specs.Meet.{pairs_of_one_space}
 use Rattle.isl_union.specs.Moved.{aligned_pieces}
 use Rattle.isl_union.proofs.PieceLaws.{IsKeptValue-from_pieces}
-use Rattle.isl_union.proofs.ValueLaws.{first_in, second_in, aligned_small, meet_has, meet_small, meet_written, pairs_are, pieces_within}
+use Rattle.isl_union.proofs.ValueLaws.{first_in, second_in, aligned_small, meet_has, meet_plain, meet_small, meet_written, pairs_are, pieces_within}
 use Rattle.isl_union.proofs.value.Value.meet.Goals as goal
 
 pub aligned_pieces-requires-clause-among : goal.aligned_pieces-requires-clause-among
@@ -31,13 +31,13 @@ aligned_pieces-requires-2-clause-among c =
 pub met_pieces-requires-clause-pieces_within : goal.met_pieces-requires-clause-pieces_within
 met_pieces-requires-clause-pieces_within c =
     let a = c.args.self.now in
-    let b = c.args.other.now in
     let g = c.args.meter.now in
     let names = c.in_ok-params.ensures.joined ∙ ap₂ joined c.params.ensures.content c.params-2.ensures.content in
-    let there = subst (λ (l : List Name). All (Contains l) a.params) (sym names) (first_in a.params b.params) in
+    let there = subst (λ (l : List Name). All (Contains l) a.params) (sym names) (first_in a.params c.args.other.now.params) in
     rw c.as_slice.ensures.value
-    (pieces_within g c.in_ok-own.own.items (aligned_pieces c.in_ok-params.params a) c.in_ok-own.ensures.exact
-    (aligned_small c.in_ok-params.params a c.in_ok-own.ensures.kept there (unsigned_abs (limit_of g)) c.requires.own))
+    (pieces_within g c.in_ok-params.params c.in_ok-own.own.items (aligned_pieces c.in_ok-params.params a) c.in_ok-own.ensures.sound
+    c.in_ok-own.ensures.exact
+    (aligned_small g c.in_ok-params.params a c.in_ok-own.ensures.kept c.requires.own there (unsigned_abs (limit_of g)) c.requires.own))
 
 pub met_pieces-requires-clause-others_within : goal.met_pieces-requires-clause-others_within
 met_pieces-requires-clause-others_within c =
@@ -48,20 +48,9 @@ met_pieces-requires-clause-others_within c =
     let there = subst (λ (l : List Name). All (Contains l) b.params) (sym names) (second_in a.params b.params
     c.in_ok-own.ensures.kept.params c.in_ok-others.ensures.kept.params) in
     rw c.as_slice-2.ensures.value
-    (pieces_within g c.in_ok-others.others.items (aligned_pieces c.in_ok-params.params b) c.in_ok-others.ensures.exact
-    (aligned_small c.in_ok-params.params b c.in_ok-others.ensures.kept there (unsigned_abs (limit_of g)) c.requires.other))
-
-pub returns-in_err-met-clause-units : goal.returns-in_err-met-clause-units
-returns-in_err-met-clause-units c =
-    let a = c.args.self.now in
-    let b = c.args.other.now in
-    let pairs = pairs_are c.in_ok-params.params a b c.in_ok-own.own.items c.in_ok-others.others.items c.in_ok-own.ensures.exact
-    c.in_ok-others.ensures.exact in
-    let short = c.in_err-met.ensures.units in
-    let whole = rw (c.as_slice.ensures.value, c.as_slice-2.ensures.value) at short in
-    let own : IsShortOf (pairs_of_one_space a b) c.args.meter.now c.met_pieces.new.meter c.in_err-met.field-0.0 =
-    subst (λ n. IsShortOf n c.args.meter.now c.met_pieces.new.meter c.in_err-met.field-0.0) pairs whole in
-    grind arith
+    (pieces_within g c.in_ok-params.params c.in_ok-others.others.items (aligned_pieces c.in_ok-params.params b) c.in_ok-others.ensures.sound
+    c.in_ok-others.ensures.exact
+    (aligned_small g c.in_ok-params.params b c.in_ok-others.ensures.kept c.requires.other there (unsigned_abs (limit_of g)) c.requires.other))
 
 pub returns-clause-kept : goal.returns-clause-kept
 returns-clause-kept c =
@@ -72,30 +61,20 @@ pub returns-clause-written : goal.returns-clause-written
 returns-clause-written c =
     let names = c.in_ok-params.ensures.joined ∙ ap₂ joined c.params.ensures.content c.params-2.ensures.content in
     let exact = c.in_ok-met.ensures.exact in
-    meet_written c.args.self.now c.args.other.now c.in_ok-own.ensures.kept c.in_ok-others.ensures.kept c.in_ok-params.params c.in_ok-own.own.items c.in_ok-others.others.items c.in_ok-met.met.items
-    c.from_normal.result names c.in_ok-own.ensures.exact c.in_ok-others.ensures.exact (rw (c.as_slice.ensures.value, c.as_slice-2.ensures.value) at exact) c.from_normal.ensures
+    meet_written c.args.self.now c.args.other.now c.in_ok-own.ensures.kept c.in_ok-others.ensures.kept c.in_ok-params.params
+    c.in_ok-own.own.items c.in_ok-others.others.items c.in_ok-met.met.items
+    c.from_normal.result names c.in_ok-own.ensures.exact c.in_ok-others.ensures.exact
+    (rw (c.as_slice.ensures.value, c.as_slice-2.ensures.value) at exact) c.from_normal.ensures
 
 pub returns-clause-elements : goal.returns-clause-elements
 returns-clause-elements c v e =
-    let names = c.in_ok-params.ensures.joined ∙ ap₂ joined c.params.ensures.content c.params-2.ensures.content in
-    let exact = c.in_ok-met.ensures.exact in
-    meet_has c.args.self.now c.args.other.now c.in_ok-own.ensures.kept c.in_ok-others.ensures.kept c.in_ok-params.params
-    c.in_ok-own.own.items c.in_ok-others.others.items c.in_ok-met.met.items
-    c.from_normal.result names c.in_ok-own.ensures.exact c.in_ok-others.ensures.exact (rw (
-      c.as_slice.ensures.value,
-      c.as_slice-2.ensures.value,
-    ) at exact) c.from_normal.ensures v e
+    meet_has c.args.self.now c.args.other.now c.in_ok-own.ensures.kept c.in_ok-others.ensures.kept c.args.meter.now c.requires.own
+    c.requires.other c.from_normal.result (returns-clause-written c) v e
 
 pub returns-clause-numbers : goal.returns-clause-numbers
 returns-clause-numbers c limit h k =
-    let names = c.in_ok-params.ensures.joined ∙ ap₂ joined c.params.ensures.content c.params-2.ensures.content in
-    let exact = c.in_ok-met.ensures.exact in
-    meet_small c.args.self.now c.args.other.now c.in_ok-own.ensures.kept c.in_ok-others.ensures.kept c.in_ok-params.params
-    c.in_ok-own.own.items c.in_ok-others.others.items c.in_ok-met.met.items
-    c.from_normal.result names c.in_ok-own.ensures.exact c.in_ok-others.ensures.exact (rw (
-      c.as_slice.ensures.value,
-      c.as_slice-2.ensures.value,
-    ) at exact) c.from_normal.ensures limit h k
+    meet_small c.args.self.now c.args.other.now c.in_ok-own.ensures.kept c.in_ok-others.ensures.kept c.args.meter.now c.requires.own
+    c.requires.other c.from_normal.result (returns-clause-written c) limit h k
 
 pub returns-clause-units : goal.returns-clause-units
 returns-clause-units c =
@@ -107,5 +86,10 @@ returns-clause-units c =
     let used = c.in_ok-met.ensures.units in
     let whole = rw (c.as_slice.ensures.value, c.as_slice-2.ensures.value) at used in (
       subst (λ (l : List Name). length l ≤ most_parameters) names c.in_ok-params.ensures.well_formed.few,
-      subst (λ n. HasUsed n c.args.meter.now c.met_pieces.new.meter) pairs whole,
+      subst (λ n. IsChargedFrom n c.args.meter.now c.met_pieces.new.meter) pairs whole,
     )
+
+pub returns-clause-definitions : goal.returns-clause-definitions
+returns-clause-definitions c h k =
+    meet_plain c.args.self.now c.args.other.now c.in_ok-own.ensures.kept c.in_ok-others.ensures.kept c.args.meter.now c.requires.own
+    c.requires.other c.from_normal.result (returns-clause-written c) h k

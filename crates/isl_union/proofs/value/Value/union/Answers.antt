@@ -6,7 +6,7 @@ use Rattle.isl_space.specs.Names.{IsParameterList, joined}
 use Rattle.isl_union.specs.KeptValue.{KeptValue, IsKeptValue}
 use Rattle.isl_union.specs.Piece.{IsPieceOf}
 use Rattle.isl_union.proofs.PieceLaws.{IsKeptValue-from_pieces}
-use Rattle.isl_union.proofs.ValueLaws.{first_in, second_in, union_is, union_has, union_small, union_same}
+use Rattle.isl_union.proofs.ValueLaws.{first_in, second_in, union_is, union_has, union_plain, union_small, union_same}
 use Rattle.isl_union.proofs.value.Value.union.Goals as goal
 
 pub aligned_pieces-requires-clause-among : goal.aligned_pieces-requires-clause-among
@@ -55,9 +55,14 @@ returns-clause-same_params c same =
 pub returns-clause-elements : goal.returns-clause-elements
 returns-clause-elements c v e =
     rw (returns-clause-written c) (union_has c.args.self.now c.args.other.now c.in_ok-pieces.ensures.kept
-    c.in_ok-aligned_pieces.ensures.kept v e)
+    c.in_ok-aligned_pieces.ensures.kept c.args.meter.now c.requires.own c.requires.other v e)
 
 pub returns-clause-numbers : goal.returns-clause-numbers
 returns-clause-numbers c b h k =
     rw (returns-clause-written c) (union_small c.args.self.now c.args.other.now c.in_ok-pieces.ensures.kept
-    c.in_ok-aligned_pieces.ensures.kept b h k)
+    c.in_ok-aligned_pieces.ensures.kept c.args.meter.now c.requires.own c.requires.other b h k)
+
+pub returns-clause-definitions : goal.returns-clause-definitions
+returns-clause-definitions c h k =
+    rw (returns-clause-written c) (union_plain c.args.self.now c.args.other.now c.in_ok-pieces.ensures.kept
+    c.in_ok-aligned_pieces.ensures.kept c.args.meter.now c.requires.own c.requires.other h k)

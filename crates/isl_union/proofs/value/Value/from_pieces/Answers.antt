@@ -1,0 +1,46 @@
+use Rattle.std.proofs.Common.{◌≡◌, ◌∙◌, sym, subst, map, get_or}
+use Rattle.std.specs.List.{All}
+use Rattle.std.proofs.lemmas.List.Elements.{All-map}
+use Rattle.isl_union.specs.KeptValue.{IsKeptValue}
+use Rattle.isl_union.specs.Numbers.{IsPieceUpTo}
+use Rattle.isl_union.specs.Piece.{kept_piece}
+use Rattle.isl_union.proofs.MadeLaws.{live_have, live_small, over_here, IsOver}
+use Rattle.isl_union.proofs.PieceLaws.{IsKeptValue-from_pieces}
+use Rattle.isl_union.proofs.value.Value.from_pieces.Goals as goal
+
+pub live_pieces-requires : goal.live_pieces-requires
+live_pieces-requires c = rw c.as_slice.ensures.value c.requires.pieces
+
+pub returns-clause-pieces : goal.returns-clause-pieces
+returns-clause-pieces c =
+    let exact = c.in_ok-kept.ensures.exact in
+    let whole = rw c.as_slice.ensures.value at exact in
+    rw c.from_normal.ensures whole
+
+pub returns-clause-kept : goal.returns-clause-kept
+returns-clause-kept c =
+    subst IsKeptValue (sym c.from_normal.ensures)
+    (IsKeptValue-from_pieces c.args.params c.in_ok-kept.kept.items c.requires.params c.in_ok-kept.ensures.sound)
+
+pub returns-clause-elements : goal.returns-clause-elements
+returns-clause-elements c v e =
+    let g = c.args.meter.now in
+    let params = c.args.params in
+    let pieces = c.args.pieces.items in
+    let exact = c.in_ok-kept.ensures.exact in
+    let whole = rw c.as_slice.ensures.value at exact in
+    rw c.from_normal.ensures
+    (live_have g params v e (map kept_piece pieces) (map kept_piece c.in_ok-kept.kept.items)
+    (All-map (IsOver g params) kept_piece pieces (λ k d l. over_here g params (get_or pieces k d) (c.requires.pieces k d l))) whole)
+
+pub returns-clause-numbers : goal.returns-clause-numbers
+returns-clause-numbers c most h =
+    let g = c.args.meter.now in
+    let params = c.args.params in
+    let pieces = c.args.pieces.items in
+    let exact = c.in_ok-kept.ensures.exact in
+    let whole = rw c.as_slice.ensures.value at exact in
+    rw c.from_normal.ensures
+    (live_small g params most (map kept_piece pieces) (map kept_piece c.in_ok-kept.kept.items)
+    (All-map (IsOver g params) kept_piece pieces (λ k d l. over_here g params (get_or pieces k d) (c.requires.pieces k d l))) whole
+    (All-map (IsPieceUpTo most) kept_piece pieces (λ k d l. record { rows = (h k d l).rows; definitions = (h k d l).definitions })))
