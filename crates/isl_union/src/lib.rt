@@ -9,5 +9,5 @@ mod union;
 mod value;
 
 pub use fault::OpFault;
-pub use live::{live_piece, settled_piece};
+pub use live::{live_piece, push_found, settled_piece};
 pub use value::Value;

@@ -97,7 +97,11 @@ pub fn settled_piece(
 }
 
 /// Puts a piece that is there behind the others.
-pub(crate) fn push_found(kept: &mut Vec<Piece>, found: Option<Piece>) -> Result<(), AllocError>
+///
+/// # Errors
+///
+/// Where memory ends.
+pub fn push_found(kept: &mut Vec<Piece>, found: Option<Piece>) -> Result<(), AllocError>
     ensures { OnOk result (kept.new.items ≡ kept.old.items ++ option_to_list found) }
 {
     if let Some(piece) = found {
