@@ -1,5 +1,5 @@
 -- public: the value that a plain literal writes. (isl manual, on sets, relations and their notation)
-use Rattle.std.specs.Prelude.{◌↔◌, List, All, Any, Option, option_map}
+use Rattle.std.specs.Prelude.{◌≡◌, ◌↔◌, List, [], All, Any, Option}
 use Rattle.std.specs.List.{filter_map}
 use Rattle.isl_meter.specs.Gauge.{Gauge}
 use Rattle.isl_space.specs.Name.{Name}
@@ -7,11 +7,8 @@ use Rattle.isl_space.specs.Names.{IsParameterList}
 use Rattle.isl_space.specs.SpaceForm.{IsWellFormedSpace}
 use Rattle.isl_space.specs.Valuation.{Valuation}
 use Rattle.isl_space.specs.Element.{Element}
-use Rattle.isl_piece.specs.Piece.{PieceView}
-use Rattle.isl_piece.specs.Normal.{normal_rows}
-use Rattle.isl_piece.specs.Row.{IsRowWithin}
 use Rattle.isl_union.specs.KeptValue.{KeptPiece, KeptValue, Has}
-use Rattle.isl_union.specs.Piece.{IsPieceOf}
+use Rattle.isl_union.specs.Live.{normal_of, AreLiveOf}
 use Rattle.isl_tree.specs.declared.tree.PieceTree.{PieceTree}
 use Rattle.isl_tree.specs.declared.tree.Literal.{Literal}
 use Rattle.isl_tree.specs.Literal.{space_of_piece, LiteralHas}
@@ -25,12 +22,16 @@ pub record IsWellFormedLiteral (literal : Literal) : Type 0 where
 
 -- the piece's space with the normal rows of those that it writes; nothing where one of them never holds
 abbrev pub piece_lowered : List Name → PieceTree → Option KeptPiece
-piece_lowered params piece =
-    option_map (λ rows. record { space = space_of_piece piece; rows = rows }) (normal_rows (rows_written params piece))
+piece_lowered params piece = normal_of (record { space = space_of_piece piece; definitions = []; rows = rows_written params piece })
 
--- the declared parameters, and what is kept of each piece
+-- the declared parameters, and the normal pieces that are written. It is no value that may be kept where one of them has no element
 abbrev pub value_lowered : Literal → KeptValue
 value_lowered literal = record { params = literal.params; pieces = filter_map (piece_lowered literal.params) literal.pieces }
+
+-- the value has the declared parameters, and of the normal pieces that are written those that have an element at some valuation
+pub record IsLowered (literal : Literal) (value : KeptValue) : Type 0 where
+  pub params : value.params ≡ literal.params
+  pub pieces : AreLiveOf literal.params (value_lowered literal).pieces value.pieces
 
 -- at every valuation the value has the literal's elements, and no others
 abbrev pub HasSameElements : Literal → KeptValue → Type 0
@@ -40,12 +41,3 @@ HasSameElements literal value =
 -- a row of one of the pieces passes the limit
 abbrev pub PiecesPass : Gauge → List Name → List PieceTree → Type 0
 PiecesPass g params pieces = Any (PiecePasses g params) pieces
-
--- each number of the value's rows is within the limit
-abbrev pub IsValueWithin : Gauge → KeptValue → Type 0
-IsValueWithin g value = All (λ piece. All (IsRowWithin g) piece.rows) value.pieces
-
--- a piece that a value may have, with its numbers within the limit
-pub record IsLoweredPiece (g : Gauge) (params : List Name) (piece : PieceView) : Type 0 where
-  pub sound : IsPieceOf params piece
-  pub within : All (IsRowWithin g) piece.system.rows

@@ -173,21 +173,23 @@ fn declared(alloc: Global, names: &[Name]) -> Result<Params, Cut>
     }
 }
 
-/// The value that a plain literal of known names writes: over the declared parameters a piece for each piece of the literal,
-/// with normal rows, but none where a row never holds. No unit is used. (isl manual, on the notation of sets and relations)
+/// The value that a plain literal of known names writes: over the declared parameters a piece for each piece of the literal that
+/// has an element at some valuation, in order, with its normal rows. The question whether it has one may use units. (isl manual, on
+/// the notation of sets and relations)
 ///
 /// # Errors
 ///
-/// `Overflow` only where a product or a sum of a row that is written passes the limit, and `NoMemory`.
+/// `Overflow` where a number passes the limit of the meter, `Budget` where its units are used up, and `NoMemory`.
 pub fn lower(alloc: Global, literal: &Literal, meter: &mut Meter) -> Result<Value, Cut>
     requires plain { is_plain literal.now ≡ true }
     requires known { literal_is_known literal.now ≡ true }
     requires well_formed { IsWellFormedLiteral literal.now }
-    ensures exact { IfOk result (λ value. value ≡ value_lowered literal.now) }
+    ensures exact { IfOk result (IsLowered literal.now) }
+    ensures kept { IfOk result IsKeptValue }
+    ensures definitions { IfOk result HasNoDefinitions }
     ensures elements { IfOk result (HasSameElements literal.now) }
-    ensures within { IfOk result (IsValueWithin meter.old) }
-    ensures meter { MatchResult result (λ _. meter.new ≡ meter.old)
-        (λ cut. FailsBy (PiecesPass meter.old literal.now.params literal.now.pieces) meter.old meter.new cut) }
+    ensures within { IfOk result (IsWithinLimit meter.old) }
+    ensures meter { MatchResult result (λ _. IsCharged meter.old meter.new) (IsCutBy meter.old meter.new) }
 {
     let _limit = meter.limit();
     let names = literal.params.as_slice();

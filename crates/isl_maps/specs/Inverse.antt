@@ -5,8 +5,8 @@ use Rattle.isl_space.specs.Element.{Element}
 use Rattle.isl_space.specs.Form.{width_of}
 use Rattle.isl_space.specs.Name.{Name}
 use Rattle.isl_space.specs.SpaceForm.{SpaceForm, set_of, map_of}
-use Rattle.isl_union.specs.KeptValue.{KeptPiece, KeptValue, columns_of}
-use Rattle.isl_union.specs.Moved.{moved_rows}
+use Rattle.isl_union.specs.KeptValue.{KeptPiece, KeptValue, columns_of, piece_system}
+use Rattle.isl_union.specs.Moved.{moved}
 
 -- ---- elements
 -- a map's space with its two forms exchanged; that of a set stays
@@ -32,10 +32,8 @@ inverse_places parameters (map_of from to) =
 
 -- a piece turned round
 unfoldable pub inverse_piece : List Name → KeptPiece → KeptPiece
-inverse_piece params piece = record {
-  space = inverse_space piece.space;
-  rows = moved_rows (columns_of params piece.space) (inverse_places (length params) piece.space) piece.rows;
-}
+inverse_piece params piece =
+    moved (inverse_space piece.space) (columns_of params piece.space) (inverse_places (length params) piece.space) (piece_system params piece)
 
 -- its pieces turned round, in their order
 abbrev pub inverse_of : KeptValue → KeptValue

@@ -10,7 +10,7 @@ ghost use Rattle.isl_space.specs.Space.{space_form_of};
 ghost use Rattle.isl_space.specs.SpaceForm.{coordinates_of, map_of};
 ghost use Rattle.isl_space.specs.Valuation.{Valuation};
 ghost use Rattle.isl_piece.specs.Row.{IsRowWithin};
-ghost use Rattle.isl_union.specs.KeptValue.{Has, IsKeptValue};
+ghost use Rattle.isl_union.specs.KeptValue.{Has, HasNoDefinitions, IsKeptValue};
 ghost use Rattle.isl_union.specs.Numbers.{AreWithinLimit, HasNumbersUpTo, IsWithinLimit};
 ghost use Rattle.isl_union.specs.Piece.{kept_piece, IsPieceOf};
 ghost use Rattle.isl_union.specs.declared.fault.OpFault.TheVariants as op_fault;
@@ -142,6 +142,7 @@ pub fn inverse(alloc: Global, a: &Value, meter: &mut Meter) -> Result<Value, OpF
         → length y ≡ width_of to
         → IfOk result (λ value. Has value valuation (record { space = map_of to from; coordinates = y ++ x })
         ↔ Has a.now valuation (record { space = map_of from to; coordinates = x ++ y })) }
+    ensures definitions { HasNoDefinitions a.now → IfOk result HasNoDefinitions }
     ensures numbers { (b : ℕ) → HasNumbersUpTo b a.now → IfOk result (HasNumbersUpTo b) }
     ensures faults { IfErr result (λ fault. fault ≡ op_fault.Cut NoMemory) }
     ensures meter { meter.new ≡ meter.old }

@@ -118,6 +118,7 @@ fn write_params(alloc: Global, out: &mut String, params: &Params) -> Result<(), 
 ///
 /// Where memory ends.
 pub fn text_of(alloc: Global, value: &Value) -> Result<String, AllocError>
+    requires { HasNoDefinitions value.now }
     ensures { IfOk result (λ text. string_bytes text ≡ printed value.now) }
 {
     let mut out = String::new(alloc);
