@@ -1,8 +1,7 @@
 -- What two values have in common: its elements, its numbers, and its units.
-use Rattle.std.proofs.Common.{◌≡◌, ◌↔◌, ◌≢◌, ◌⊎◌, inl, inr, refl, sym, ap, ap₂, ◌∙◌, arith, subst, ℕ, ◌+◌, ◌<◌, ◌≤◌, Bool, true, false}
-use Rattle.std.proofs.Common.{◌&&◌, if◌then◌else◌, Option, Some, None, option_map, IfSome, MatchOption, option_to_list, List, [], ◌∷◌, ◌++◌}
-use Rattle.std.proofs.Common.{All, Any, length, get_or, map, take, filter_map, flat_map, count_by, sum_by, Decides}
-use Rattle.std.specs.Bool.{nat_eq}
+use Rattle.std.proofs.Common.{◌≡◌, ◌↔◌, ◌⊎◌, inl, inr, refl, sym, ap, ap₂, ◌∙◌, subst, ℕ, ◌+◌, ◌<◌, true}
+use Rattle.std.proofs.Common.{◌&&◌, Option, Some, None, option_map, IfSome, option_to_list, List, [], ◌∷◌, ◌++◌}
+use Rattle.std.proofs.Common.{All, Any, length, get_or, take, sum_by}
 use Rattle.std.specs.List.{cons_option}
 use Rattle.std.specs.Option.{option_eq}
 use Rattle.std.specs.Str.{bytes_eq}
@@ -12,7 +11,7 @@ use Rattle.std.proofs.lemmas.Slice.Eq.{bytes_eq-Decides}
 use Rattle.std.proofs.lemmas.List.Elements.{All-nil, All-cons, All-head, All-tail, All-append}
 use Rattle.std.proofs.lemmas.List.{flat_map_more, take_more}
 use Rattle.std.proofs.lemmas.List.Sums.{sum_by_push}
-use Rattle.isl_math.proofs.ListLaws.{Any-none, Any-first, Any-later, Any-cases, Any-parts, Any-left, Any-right, All-parts}
+use Rattle.isl_math.proofs.ListLaws.{Any-none, Any-first, Any-later, Any-cases, Any-parts, Any-left, Any-right}
 use Rattle.isl_space.specs.Element.{Element}
 use Rattle.isl_space.specs.Form.{Form, leaf, pair}
 use Rattle.isl_space.specs.Name.{Name}
@@ -23,7 +22,7 @@ use Rattle.isl_piece.specs.declared.row.Row.{Row}
 use Rattle.isl_piece.specs.declared.system.System.{System}
 use Rattle.isl_piece.specs.Placed.{both_systems}
 use Rattle.isl_piece.specs.Normal.{normal_rows}
-use Rattle.isl_piece.specs.System.{HoldsSystem, IsSystemWithin, free_columns}
+use Rattle.isl_piece.specs.System.{IsSystemWithin, free_columns}
 use Rattle.isl_piece.proofs.MeetLaws.{both_case, both_free, both_points, both_up_to, both_within}
 use Rattle.isl_union.specs.KeptValue.{KeptPiece, HasElement, columns_of, piece_system, point_of}
 use Rattle.isl_union.specs.Live.{normal_of}

@@ -1,6 +1,6 @@
 -- Loops over pieces: one more piece.
-use Rattle.std.proofs.Common.{◌≡◌, refl, sym, ap, ap₂, ◌∙◌, arith, subst, ℕ, ◌+◌, ◌<◌, Option, Some, None, option_map, option_to_list}
-use Rattle.std.proofs.Common.{IfSome, List, [], ◌∷◌, ◌++◌, All, length, get_or, map, take, sum_by, filter_map}
+use Rattle.std.proofs.Common.{◌≡◌, refl, sym, ap, ◌∙◌, subst, ℕ, ◌+◌, ◌<◌, Option, Some, None, option_map, option_to_list}
+use Rattle.std.proofs.Common.{IfSome, List, ◌++◌, All, length, get_or, map, take, sum_by, filter_map}
 use Rattle.std.proofs.lemmas.List.{get_or-map, length-map, map-append, append-nil}
 use Rattle.std.proofs.lemmas.List.Elements.{All-push}
 use Rattle.isl_meter.specs.Gauge.{Gauge, IsCharged}
