@@ -1,12 +1,12 @@
-use Rattle.std.proofs.Common.{◌≡◌, sym, ap, ap₂, ◌∙◌, subst, ℕ, List, ◌+◌, ◌++◌, length}
-use Rattle.std.specs.List.{All, range_with_len}
+use Rattle.std.proofs.Common.{◌≡◌, sym, ap, ap₂, ◌∙◌, subst, ◌+◌, ◌++◌, length}
+use Rattle.std.specs.List.{range_with_len}
 use Rattle.std.proofs.lemmas.Result.{IfOk-weaker}
 use Rattle.isl_space.specs.Space.{space_form_of}
 use Rattle.isl_space.specs.SpaceForm.{SpaceForm, coordinates_of, IsWellFormedSpace}
 use Rattle.isl_piece.specs.Placed.{placed_system}
 use Rattle.isl_union.specs.KeptValue.{columns_of}
 use Rattle.isl_union.specs.Live.{settled}
-use Rattle.isl_union.specs.Moved.{aligned, column_places, places_in}
+use Rattle.isl_union.specs.Moved.{aligned, places_in}
 use Rattle.isl_union.specs.Piece.{kept_piece, piece_of}
 use Rattle.isl_union.proofs.AlignedLaws.{made_places, made_within, made_free, made_live, made_aligned}
 use Rattle.isl_union.proofs.aligned.aligned_piece.Goals as goal

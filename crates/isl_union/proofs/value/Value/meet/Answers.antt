@@ -1,4 +1,4 @@
-use Rattle.std.proofs.Common.{◌≡◌, refl, sym, ap, ap₂, ◌∙◌, arith, subst, ◌≤◌, length, List, unsigned_abs}
+use Rattle.std.proofs.Common.{sym, ap₂, ◌∙◌, subst, ◌≤◌, length, List, unsigned_abs}
 use Rattle.std.specs.List.{All, Contains}
 use Rattle.isl_meter.specs.Gauge.{limit_of}
 use Rattle.isl_space.specs.Limits.{most_parameters}
@@ -6,7 +6,6 @@ use Rattle.isl_space.specs.Name.{Name}
 use Rattle.isl_space.specs.Names.{IsParameterList, joined}
 use Rattle.isl_union.specs.Fault.{IsChargedFrom}
 use Rattle.isl_union.specs.KeptValue.{IsKeptValue}
-use Rattle.isl_union.specs.Meet.{pairs_of_one_space}
 use Rattle.isl_union.specs.Moved.{aligned_pieces}
 use Rattle.isl_union.proofs.PieceLaws.{IsKeptValue-from_pieces}
 use Rattle.isl_union.proofs.ValueLaws.{first_in, second_in, aligned_small, meet_has, meet_plain, meet_small, meet_written, pairs_are, pieces_within}
