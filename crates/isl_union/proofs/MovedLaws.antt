@@ -150,7 +150,8 @@ placed_rows-own n (r ∷ rows) formed =
 definition-own : (n : ℕ) (d : Definition) → length d.coefs ≡ n → placed_definition n (range_with_len 0 n) d ≡ d
 definition-own n d e = ap (λ cs. let f : Definition = record { coefs = cs; constant = d.constant; k = d.k } in f) (placed-own n d.coefs e)
 
-formed_at : (n : ℕ) (definitions : List Definition) (i : ℕ) (d : Definition) → AreWellFormedDefinitions n definitions → i < length definitions
+formed_at : (n : ℕ) (definitions : List Definition) (i : ℕ) (d : Definition) → AreWellFormedDefinitions n definitions
+    → i < length definitions
     → length (get_or definitions i d).coefs ≡ n + i
 formed_at n [] i d h l = absurd (omega arith)
 formed_at n (first ∷ definitions) zero d h l = let w = h.0.width in omega (arith, w)
@@ -197,13 +198,16 @@ same_piece space rows a b c d p q e f h = rw (e, f, h) refl
 
 -- a piece whose columns stay is itself
 pub moved-own : (params : List Name) (piece : KeptPiece) → IsKeptPiece params piece
-    → moved piece.space (columns_of params piece.space) (range_with_len 0 (columns_of params piece.space)) (piece_system params piece) ≡ piece
+    → moved piece.space (columns_of params piece.space) (range_with_len 0 (columns_of params piece.space)) (piece_system params piece)
+    ≡ piece
 unfolding moved
 moved-own params piece kept =
     let n = columns_of params piece.space in
     let all = n + length piece.definitions in
-    let own : AreOwn n piece.definitions (length piece.definitions) = placing-own n piece.definitions kept.definitions (length piece.definitions) (omega arith) in
-    let every : take (length piece.definitions) piece.definitions ≡ piece.definitions = take_all (length piece.definitions) piece.definitions (omega arith) in
+    let own : AreOwn n piece.definitions (length piece.definitions) =
+    placing-own n piece.definitions kept.definitions (length piece.definitions) (omega arith) in
+    let every : take (length piece.definitions) piece.definitions ≡ piece.definitions =
+    take_all (length piece.definitions) piece.definitions (omega arith) in
     let columns : (placing_of n (range_with_len 0 n) piece.definitions).columns ≡ all =
     ap (λ ds. (placing_of n (range_with_len 0 n) ds).columns) (sym every) ∙ own.columns in
     let definitions : (placing_of n (range_with_len 0 n) piece.definitions).definitions ≡ piece.definitions =

@@ -17,7 +17,8 @@ placed-requires c =
     let width = c.width-width.ensures ∙ ap coordinates_of c.space-space.ensures in
     (made_places c.args.meter.now all c.args.names.now c.requires.names c.requires.among c.args.piece.now c.requires.piece c.requires.within
     (c.len.result + c.width-width.result) c.as_slice.result.now (ap₂ (λ m n. m + n) c.len.ensures.len width)
-    (c.as_slice.ensures.value ∙ c.in_ok-places.ensures ∙ ap (λ n. places_in all c.args.names.now ++ range_with_len (length all) n) width)).inside
+    (c.as_slice.ensures.value ∙ c.in_ok-places.ensures ∙ ap (λ n. places_in all c.args.names.now
+    ++ range_with_len (length all) n) width)).inside
 
 pub settled_piece-requires-clause-within : goal.settled_piece-requires-clause-within
 settled_piece-requires-clause-within c =

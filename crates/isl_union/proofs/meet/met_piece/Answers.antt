@@ -37,7 +37,8 @@ meet-requires c =
     let a = c.args.a.now in
     let b = c.args.b.now in
     let same : a.space ≡ b.space = sym c.space-space.ensures ∙ c.if-not-same.ensures.0 refl ∙ c.space.ensures in
-    ap free_columns c.system.ensures ∙ view_free params a c.requires.own ∙ ap (columns_of params) same ∙ sym (view_free params b c.requires.other)
+    ap free_columns c.system.ensures ∙ view_free params a c.requires.own ∙ ap (columns_of params) same
+    ∙ sym (view_free params b c.requires.other)
     ∙ sym (ap free_columns c.system-2.ensures)
 
 pub live_piece-requires : goal.live_piece-requires
@@ -46,7 +47,8 @@ live_piece-requires c =
     let h = c.unit.new.self in
     c.in_ok-both.ensures.within h
     (subst (IsSystemWithin h) (sym c.system.ensures) (bits_after_unit g h c.args.a.now.system c.in_ok-unit.ensures.1 c.requires.own_within))
-    (subst (IsSystemWithin h) (sym c.system-2.ensures) (bits_after_unit g h c.args.b.now.system c.in_ok-unit.ensures.1 c.requires.other_within))
+    (subst (IsSystemWithin h) (sym c.system-2.ensures) (bits_after_unit g h c.args.b.now.system c.in_ok-unit.ensures.1
+    c.requires.other_within))
 
 pub returns-clause-exact : goal.returns-clause-exact
 returns-clause-exact c =
