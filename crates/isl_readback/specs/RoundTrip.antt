@@ -35,8 +35,8 @@ pub record IsWritableValue (value : KeptValue) : Type 0 where
 abbrev pub HasElementsOf : KeptValue → KeptValue → Type 0
 HasElementsOf value other = (valuation : Valuation) (element : Element) → Has value valuation element ↔ Has other valuation element
 
--- the literal can be read as a value, and each value that may be read is the one that was printed, in the order in which it was
--- printed: it is what the literal's normal pieces are. It has the same elements, and the same text
+-- the literal can be read as a value: its normal pieces are those that were printed, in the order in which they were printed, with the
+-- same elements and the same text; and each value that may be read of it has them all
 pub record ReadsAs (literal : Literal) (value : KeptValue) : Type 0 where
   pub plain : is_plain literal ≡ true
   pub within : is_within literal ≡ true
