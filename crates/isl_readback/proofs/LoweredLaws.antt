@@ -21,7 +21,7 @@ use Rattle.isl_piece.proofs.NormalCases.{normal_zero_by, normal_at_least_by}
 use Rattle.isl_piece.proofs.NormalLaws.{normal_rows_all, normal_rows_well_formed, normal_rows_normal}
 use Rattle.isl_piece.proofs.RowMagnitudes.{rows_more}
 use Rattle.isl_piece.proofs.ShapeLaws.{IfKept}
-use Rattle.isl_union.specs.KeptValue.{KeptPiece, KeptValue, HasNoDefinitions, IsKeptPiece, IsKeptValue, IsLive}
+use Rattle.isl_union.specs.KeptValue.{KeptPiece, KeptValue, HasNoDefinitions, IsKeptPiece, IsKeptValue, IsLive, columns_of}
 use Rattle.isl_union.specs.Numbers.{HasNumbersUpTo, IsWithinLimit}
 use Rattle.isl_union.proofs.LiveLaws.{live_all}
 use Rattle.isl_token.specs.Number.{too_great}
@@ -227,13 +227,15 @@ kept literal value plain formed is = record {
         → IfSome o (All (IsWellFormed (piece_width params piece))) → IfSome o IsNormal
         → IfSome (option_map (undefined (space_of_piece piece)) o) (KeptWhere params)
     by params piece None space plain_piece rows normal = tt
-    by params piece (Some kept_rows) space plain_piece rows normal = λ live. record {
-      space = space;
-      definitions = tt;
-      rows = subst (λ (n : ℕ). All (IsWellFormed n) kept_rows) (sym (columns_are params piece plain_piece)) rows;
-      normal = normal;
-      live = live;
-    }
+    by params piece (Some kept_rows) space plain_piece rows normal = λ live.
+        let wide : piece_width params piece ≡ 0 + columns_of params (space_of_piece piece) = omega (arith, columns_are params piece plain_piece) in
+        record {
+          space = space;
+          definitions = tt;
+          rows = subst (λ (n : ℕ). All (IsWellFormed n) kept_rows) wide rows;
+          normal = normal;
+          live = live;
+        }
 
     piece_kept : (params : List Name) (piece : PieceTree) → is_plain_piece piece ≡ true → IsWellFormedSpace (space_of_piece piece)
         → IfSome (piece_lowered params piece) (KeptWhere params)

@@ -15,7 +15,7 @@ use Rattle.isl_piece.specs.declared.row.RowKind.TheVariants.{Zero, AtLeast, Divi
 use Rattle.isl_piece.specs.declared.definition.Definition.{Definition}
 use Rattle.isl_piece.specs.declared.row.Row.{Row}
 use Rattle.isl_piece.specs.Row.{HasModulus}
-use Rattle.isl_union.specs.KeptValue.{KeptPiece, KeptValue, HasNoDefinitions, IsKeptPiece, IsKeptValue, columns_of}
+use Rattle.isl_union.specs.KeptValue.{KeptPiece, KeptValue, HasNoDefinitions, IsKeptPiece, IsKeptValue}
 use Rattle.isl_print.specs.declared.sum.Side.TheVariants.{Left, Right}
 use Rattle.isl_print.specs.Naming.{coordinate_names, column_names}
 use Rattle.isl_print.specs.Ordered.{in_order}
@@ -109,8 +109,7 @@ one_divisor NotDivides k compares divisor = absurd compares
 fit : (params : List Name) (piece : KeptPiece) → IsKeptPiece params piece → piece.definitions ≡ [] → All (λ r. IsComparison r.kind) piece.rows
     → All (Fits (column_names params piece.space)) piece.rows
 fit params piece kept none compares = λ k d low. record {
-  coefs = length-column_names params piece.space
-      ∙ sym ((kept.rows k d low).width ∙ ap (λ (ds : List Definition). length ds + columns_of params piece.space) none);
+  coefs = let w = (kept.rows k d low).width in omega (arith, w, length-column_names params piece.space, ap length none);
   divisor = one_divisor _ _ (compares k d low) (kept.rows k d low).modulus;
 }
 
