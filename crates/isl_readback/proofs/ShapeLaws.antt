@@ -1,5 +1,5 @@
 -- What operations make of values that literals can write: pieces of their kind, with equations and inequalities.
-use Rattle.std.proofs.Common.{◌≡◌, ◌∙◌, ℕ, Bool, true, false, List, [], ◌∷◌, ◌++◌, Option, Some, None, All, IfSome, length, map, sym, ap, subst, refl}
+use Rattle.std.proofs.Common.{ℕ, Bool, true, false, List, [], ◌∷◌, Option, Some, None, All, IfSome, length, map}
 use Rattle.std.specs.Prelude.{if◌then◌else◌, option_map}
 use Rattle.std.specs.Cmp.Lexicographic.{pointwise}
 use Rattle.std.specs.List.{cons_option, range_with_len}
@@ -7,7 +7,7 @@ use Rattle.std.specs.Option.{unwrap_or}
 use Rattle.std.proofs.lemmas.List.Elements.{All-nil, All-cons, All-head, All-tail, All-append, All-map, All-weaker}
 use Rattle.isl_space.specs.Name.{Name}
 use Rattle.isl_space.specs.Names.{joined}
-use Rattle.isl_space.specs.SpaceForm.{SpaceForm, coordinates_of}
+use Rattle.isl_space.specs.SpaceForm.{SpaceForm}
 use Rattle.isl_piece.specs.declared.row.Row.{Row}
 use Rattle.isl_piece.specs.declared.system.System.{System}
 use Rattle.isl_piece.specs.Meet.{met, meeting_of, over_same_columns, placed_row}

@@ -1,10 +1,10 @@
 -- The values of expressions can be written where those of names can.
 use mathlib.Core.Former.{Count}
-use Rattle.std.proofs.Common.{◌≡◌, ◌≤◌, ◌-◌, ◌^◌, ◌∙◌, ℕ, Bool, true, false, List, [], ◌∷◌, ◌++◌, Option, Some, None, All, inl, inr, sym, ap, subst, refl, arith, pow_mono}
+use Rattle.std.proofs.Common.{◌≡◌, ◌-◌, ◌∙◌, Bool, true, false, List, [], ◌∷◌, ◌++◌, Option, Some, None, All, inl, inr, sym, ap, subst, refl}
 use Rattle.std.specs.Prelude.{not, is_some, is_none, ◌&&◌, ◌||◌, option_map}
 use Rattle.std.specs.List.{list_all, list_any, filter_map}
 use Rattle.std.proofs.lemmas.Bool.{and_parts, or_parts, false≢true, not-false}
-use Rattle.std.proofs.lemmas.List.Elements.{All-nil, All-head, All-weaker}
+use Rattle.std.proofs.lemmas.List.Elements.{All-nil, All-head}
 use Rattle.isl_space.specs.Name.{Name}
 use Rattle.isl_space.specs.SpaceForm.{SpaceForm, set_of, map_of}
 use Rattle.isl_union.specs.KeptValue.{KeptPiece, KeptValue, HasNoDefinitions, IsKeptValue}
@@ -27,10 +27,10 @@ use Rattle.isl_expr.specs.declared.tree.Postfix.{Postfix, Inverse, Apply, Item}
 use Rattle.isl_expr.specs.declared.tree.Expr as e
 use Rattle.isl_expr.specs.declared.tree.Expr.{Expr, Row', Prefix', Any', Last', Post', Row_of-Expr, end_of-Expr, more_of-Expr}
 use Rattle.isl_expr.specs.declared.tree.Expr.{Row_of-Link, end_of-Link, more_of-Link, Row_of-Postfix, end_of-Postfix, more_of-Postfix}
-use Rattle.isl_expr.specs.Expr.{literals_of, literals_in, literals_in_links, literals_in_postfixes, literals_in_postfix}
+use Rattle.isl_expr.specs.Expr.{literals_of, literals_in, literals_in_links, literals_in_postfixes}
 use Rattle.isl_kinds.specs.Lines.{joined, inverse}
-use Rattle.isl_kinds.specs.Parts.{operator, parts_of, parts_in, parts_in_links, parts_in_postfixes, parts_of_postfix}
-use Rattle.isl_kinds.specs.Typed.{TypeView, ScopeView, bound_to, by_two, kind_of_pieces, kind_of_image, kind_of, kind_in, kind_past_links, kind_past_postfixes, kind_past}
+use Rattle.isl_kinds.specs.Parts.{operator, parts_of, parts_in, parts_in_links, parts_in_postfixes}
+use Rattle.isl_kinds.specs.Typed.{TypeView, ScopeView, by_two, kind_of_pieces, kind_of_image, kind_of, kind_in, kind_past_links, kind_past_postfixes, kind_past}
 use Rattle.isl_simple.specs.Unsupported.{is_later}
 use Rattle.isl_eval.specs.State.{Kept, StateView, kept_of, scope_of, type_of, HasNumbersUpTo}
 use Rattle.isl_eval.specs.Worked.{IsJoinOf, IsPostfixOf, IsWorked, IsWorkedIn, IsWorkedPastLinks, IsWorkedPastPostfixes}
@@ -290,11 +290,11 @@ module _ (state : StateView) (all : AreWritable state) where
         let signs = or_parts (is_later (operator sign)) (list_any is_later (parts_of operand ++ parts_in_links rest)) supported in
         let quiet = quiet_both is_later (parts_of operand) (parts_in_links rest) signs.1 in
         let right = worked.0 in
-        let made = worked.2 in
-        links_plain _ made.0 value (by_two (joined sign) o (kind_of (scope_of state) operand)) rest kind
-        (λ k e. both_plain sign left right made.0 o (kind_of (scope_of state) operand) k e made.1 before
-        (λ j f. worked_plain operand right j quiet.0 (all_left IsSpelled (literals_of operand) (literals_in_links rest) spelled) f worked.1)) quiet.1
-        (all_right IsSpelled (literals_of operand) (literals_in_links rest) spelled) is made.2
+        let made = worked.1 in
+        links_plain _ made value (by_two (joined sign) o (kind_of (scope_of state) operand)) rest kind
+        (λ k e. both_plain sign left right made o (kind_of (scope_of state) operand) k e worked.3 before
+        (λ j f. worked_plain operand right j quiet.0 (all_left IsSpelled (literals_of operand) (literals_in_links rest) spelled) f worked.2)) quiet.1
+        (all_right IsSpelled (literals_of operand) (literals_in_links rest) spelled) is worked.4
 
     postfixes_plain : (m : Count) (left value : KeptValue) (o : Option ValueKind) (row : Row_of-Postfix m) (kind : ValueKind)
         → ((k : ValueKind) → o ≡ Some k → IsPlainOf k left) → kind_past_postfixes (scope_of state) o row ≡ Some kind
