@@ -21,7 +21,7 @@ use Rattle.isl_piece.proofs.NormalCases.{normal_zero_by, normal_at_least_by}
 use Rattle.isl_piece.proofs.NormalLaws.{normal_rows_all, normal_rows_well_formed, normal_rows_normal}
 use Rattle.isl_piece.proofs.RowMagnitudes.{rows_more}
 use Rattle.isl_piece.proofs.ShapeLaws.{IfKept}
-use Rattle.isl_union.specs.KeptValue.{KeptPiece, KeptValue, HasNoDefinitions, IsKeptPiece, IsKeptValue, IsLive, columns_of}
+use Rattle.isl_union.specs.KeptValue.{KeptPiece, KeptValue, IsKeptPiece, IsKeptValue, IsLive, columns_of}
 use Rattle.isl_union.specs.Numbers.{HasNumbersUpTo, IsWithinLimit}
 use Rattle.isl_union.proofs.LiveLaws.{live_all}
 use Rattle.isl_token.specs.Number.{too_great}
@@ -39,7 +39,7 @@ use Rattle.isl_text.specs.Formed.{are_sets, are_maps, are_alike}
 use Rattle.isl_lower.specs.Linear.{Place}
 use Rattle.isl_lower.specs.Rows.{Written, kind_of_compare, equation, written_entries, written_links, written_chains, written_formula, written_body, written_piece, piece_width, piece_place, added, rows_written}
 use Rattle.isl_lower.specs.Value.{IsLowered, IsWellFormedLiteral, piece_lowered, value_lowered}
-use Rattle.isl_lower.proofs.ValueLaws.{written_formed, written_moduli, columns_are}
+use Rattle.isl_lower.proofs.ValueLaws.{lowered_plain, written_formed, written_moduli, columns_are}
 use Rattle.isl_readback.specs.Written.{IsComparison, HasComparisons, IsSet, IsMap, IsUniform, IsLeaf, IsFlatSpace, IsFlat}
 use Rattle.isl_readback.specs.RoundTrip.{IsWritableValue}
 use Rattle.isl_readback.proofs.WrittenLaws.{undefined}
@@ -142,23 +142,12 @@ kept_space_has : (space : SpaceForm) (Q : SpaceForm → Type 0) (o : Option (Lis
 kept_space_has space Q None h = tt
 kept_space_has space Q (Some rows) h = h
 
--- of the definitions
-kept_none : (space : SpaceForm) (o : Option (List Row)) → IfSome (option_map (undefined space) o) (λ (p : KeptPiece). p.definitions ≡ [])
-kept_none space None = tt
-kept_none space (Some rows) = refl
-
 -- what the normal pieces have, those of them have that are kept
 pub lowered_have : (literal : Literal) (value : KeptValue) (P : KeptPiece → Type 0) → IsLowered literal value → All P (value_lowered literal).pieces
     → All P value.pieces
 lowered_have literal value P is = live_all literal.params P P (λ piece have live. have) (value_lowered literal).pieces value.pieces is.pieces
 
 -- ---- the whole value
-pub undefined_lowered : (literal : Literal) → HasNoDefinitions (value_lowered literal)
-undefined_lowered literal =
-    all_kept literal.params (λ p. p.definitions ≡ []) literal.pieces (λ i d low.
-    let piece = get_or literal.pieces i d in
-    kept_none (space_of_piece piece) (normal_rows (rows_written literal.params piece)))
-
 pub comparisons : (literal : Literal) → is_plain literal ≡ true → HasComparisons (value_lowered literal)
 comparisons literal plain =
     all_kept literal.params (λ p. All (λ row. IsComparison row.kind) p.rows) literal.pieces (λ i d low.
@@ -267,7 +256,7 @@ lowered_writable g literal value bits plain formed alike is small =
     let large : 2 ^ g.bits ≤ 2 ^ 127 = pow_mono bits in
     record {
       kept = kept literal value plain formed is;
-      definitions = lowered_have literal value (λ p. p.definitions ≡ []) is (undefined_lowered literal);
+      definitions = lowered_plain literal value is;
       comparisons = lowered_have literal value (λ p. All (λ row. IsComparison row.kind) p.rows) is (comparisons literal plain);
       numbers = numbers_more (2 ^ g.bits - 1) (too_great - 1) value (omega (arith, large)) small;
       uniform = uniform literal value alike is;

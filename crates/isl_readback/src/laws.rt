@@ -65,15 +65,15 @@ pub fn printed_is_accepted()
         → IsAccepted limit value }
 {}
 
-/// What a plain literal of known names writes can be written: its value, with numbers within the limit of a meter.
+/// What is read of a plain literal of known names can be written, where its numbers are within the limit of a meter.
 pub fn lowered_is_writable()
     ensures { (gauge : Gauge) (literal : Literal) (value : KeptValue) → gauge.bits ≤ 127 → is_plain literal ≡ true → IsWellFormedLiteral literal
         → are_alike literal.pieces ≡ true → IsLowered literal value → IsWithinLimit gauge value → IsWritableValue value }
 {}
 
 /// What the program answers, it takes again: the text of a line that shows a value is a statement, which shows a literal with exactly
-/// the elements that were selected, and whose answer is the same line. It needs that what is bound can be written; this holds where
-/// nothing is bound, and each answered statement keeps it.
+/// the elements that were selected, and whatever answers it answers the same line. It needs that what is bound can be written; this holds
+/// where nothing is bound, and each answered statement keeps it.
 pub fn shown_is_taken_again()
     ensures taken { (before : Moment) (bytes : List ℕ) (after : Moment) (answer : Answer) → before.meter.bits ≤ 127 → AreWritable before.state
         → (answered : Answers before bytes after answer) → IsTakenAgain before answered.stmt after answer }
