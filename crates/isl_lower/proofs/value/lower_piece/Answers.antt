@@ -1,4 +1,4 @@
-use Rattle.std.proofs.Common.{◌≡◌, ◌∙◌, All, IfSome, ap, sym, subst, option_map}
+use Rattle.std.proofs.Common.{All, IfSome, sym, subst, option_map}
 use Rattle.std.proofs.lemmas.Result.{IfOk-weaker}
 use Rattle.isl_meter.specs.Gauge.{Gauge}
 use Rattle.isl_space.specs.Space.{space_form_of}
@@ -19,10 +19,11 @@ live_piece-requires c =
     let h = c.rows_written.new.meter in
     let written = c.in_ok-rows.ensures.rows in
     let s = c.from_rows-system.result in
-    let is = system_made params piece c.requires.plain c.in_ok-rows.rows c.width.result s written.0 c.width.ensures c.from_rows-system.ensures in
+    let plain = c.requires.plain in
+    let is = system_made params piece plain c.in_ok-rows.rows c.width.result s written.0 c.width.ensures c.from_rows-system.ensures in
     let fits : All (IsRowWithin h) (rows_written params piece) =
-        subst (λ (g : Gauge). All (IsRowWithin g) (rows_written params piece)) (sym written.2) (rw written.0 at written.1) in
-    subst (IsSystemWithin h) (sym is) (there_within params piece c.requires.plain h fits)
+    subst (λ (g : Gauge). All (IsRowWithin g) (rows_written params piece)) (sym written.2) (rw written.0 at written.1) in
+    subst (IsSystemWithin h) (sym is) (there_within params piece plain h fits)
 
 pub returns-clause-found : goal.returns-clause-found
 returns-clause-found c =
