@@ -1,0 +1,100 @@
+-- What values say of one another.
+use Rattle.std.proofs.Common.{◌≡◌, ◌↔◌, refl, sym, ap, ◌∙◌, arith, subst, ℕ, ◌+◌, ◌<◌, ℤ, List, [], ◌∷◌, ◌++◌, Any, length, get_or, map, take, drop, take-append-drop}
+use Rattle.std.proofs.Common.{inl, inr}
+use Rattle.std.specs.List.{zip}
+use Rattle.std.proofs.lemmas.List.{length-drop, length-take-le}
+use Rattle.isl_math.proofs.ListLaws.{Any-first, Any-none, Any-one, Any-parts}
+use Rattle.isl_meter.specs.Gauge.{Gauge}
+use Rattle.isl_space.specs.Element.{Element, IsElement}
+use Rattle.isl_space.specs.Name.{Name}
+use Rattle.isl_space.specs.Names.{AreDistinct}
+use Rattle.isl_space.specs.SpaceForm.{SpaceForm}
+use Rattle.isl_space.specs.Valuation.{Valuation, values_of}
+use Rattle.isl_space.proofs.ValuationLaws.{values_of-zip}
+use Rattle.isl_piece.specs.declared.system.System.{System}
+use Rattle.isl_piece.specs.Piece.{PieceView}
+use Rattle.isl_piece.specs.System.{HoldsSystem, free_columns}
+use Rattle.isl_elim.specs.Elimination.{HoldsAtAny}
+use Rattle.isl_difference.specs.Difference.{IsCovered}
+use Rattle.isl_union.specs.Compare.{AreEqual, IsSubset}
+use Rattle.isl_union.specs.KeptValue.{KeptPiece, KeptValue, HasElement, columns_of, point_of}
+use Rattle.isl_union.specs.Minus.{systems_in, AreCovered, ArePiecesOver}
+use Rattle.isl_union.specs.Piece.{kept_piece, IsPieceOf}
+use Rattle.isl_union.proofs.AlignedLaws.{Any-mapped}
+use Rattle.isl_union.proofs.MinusLaws.{element_long, in_space, kept_more}
+use Rattle.isl_union.proofs.SystemLaws.{view_free}
+
+-- ---- each list of numbers is the point of some element at some valuation
+module _ (params : List Name) (space : SpaceForm) (point : List ℤ) (distinct : AreDistinct params)
+    (long : length point ≡ columns_of params space) where
+  abbrev pub valuation_at : Valuation
+  valuation_at = zip params (take (length params) point)
+
+  abbrev pub element_at : Element
+  element_at = record { space = space; coordinates = drop (length params) point }
+
+  pub element_is : IsElement element_at
+  element_is = let behind = length-drop (length params) point in omega (arith, behind, long)
+
+  pub point_at : point_of params valuation_at element_at ≡ point
+  point_at =
+      let n = length params in
+      let front = length-take-le n point (omega (arith, long)) in
+      let named : values_of params valuation_at ≡ take n point = values_of-zip params (take n point) distinct (sym front) in
+      ap (λ xs. xs ++ drop n point) named ∙ take-append-drop n point
+
+-- ---- one piece
+module _ (params : List Name) (p : PieceView) (sound : IsPieceOf params p) (others : List PieceView) (systems : List System)
+    (are : systems ≡ systems_in p.space others) where
+  -- the others have its elements exactly where each point of its system is one of theirs
+  pub covered_from : IsCovered p.system systems → AreCovered params (kept_piece p ∷ []) (map kept_piece others)
+  covered_from covered = record {
+    elements = λ v e a.
+        let own = Any-one (HasElement params v e) (kept_piece p) a in
+        let long = element_long params v e p.space own.numbers own.space ∙ sym (view_free params p sound) in
+        (in_space params v e p.space others own.numbers own.space).0
+        (subst (λ ss. HoldsAtAny ss (point_of params v e)) are (covered (point_of params v e) long own.holds));
+  }
+
+  pub covered_back : AreDistinct params → AreCovered params (kept_piece p ∷ []) (map kept_piece others) → IsCovered p.system systems
+  covered_back distinct covered point l holds =
+      let long = l ∙ view_free params p sound in
+      let v = valuation_at params p.space point distinct long in
+      let e = element_at params p.space point distinct long in
+      let is = point_at params p.space point distinct long in
+      let numbers = element_is params p.space point distinct long in
+      let has = covered.elements v e (Any-first (HasElement params v e) (kept_piece p) []
+      (record { numbers = numbers; space = refl; holds = subst (HoldsSystem p.system) (sym is) holds })) in
+      subst (HoldsAtAny systems) is
+      (subst (λ ss. HoldsAtAny ss (point_of params v e)) (sym are) ((in_space params v e p.space others numbers refl).1 has))
+
+-- ---- one piece after another
+pub covered_first : (params : List Name) (others : List KeptPiece) → AreCovered params [] others
+covered_first params others = record { elements = λ v e a. absurd (Any-none (HasElement params v e) a) }
+
+pub covered_step : (params : List Name) (pieces : List PieceView) (piece : PieceView) (i : ℕ) (others : List KeptPiece) → i < length pieces
+    → piece ≡ get_or pieces i piece → AreCovered params (map kept_piece (take i pieces)) others → AreCovered params (kept_piece piece ∷ []) others
+    → AreCovered params (map kept_piece (take (i + 1) pieces)) others
+covered_step params pieces piece i others low at so_far more = rw (kept_more pieces piece i low at) (record {
+  elements = λ v e a. elim (Any-parts (HasElement params v e) (map kept_piece (take i pieces)) (kept_piece piece ∷ []) a) [
+    | inl x ↦ so_far.elements v e x
+    | inr y ↦ more.elements v e y
+  ];
+})
+
+pub covered_at : (params : List Name) (pieces : List PieceView) (piece : PieceView) (i : ℕ) (others : List KeptPiece) → i < length pieces
+    → piece ≡ get_or pieces i piece → AreCovered params (map kept_piece pieces) others → AreCovered params (kept_piece piece ∷ []) others
+covered_at params pieces piece i others low at all = record {
+  elements = λ v e a.
+      let Q : KeptPiece → Type 0 = HasElement params v e in
+      all.elements v e (Any-mapped Q kept_piece pieces (i, piece, low, sym at, Any-one Q (kept_piece piece) a));
+}
+
+-- ---- values
+module _ (g : Gauge) (params : List Name) (a b : KeptValue) (own others : List PieceView)
+    (p : ArePiecesOver g params a own) (q : ArePiecesOver g params b others) where
+  pub covered_value : AreCovered params (map kept_piece own) (map kept_piece others) ↔ IsSubset a b
+  covered_value = (
+    (λ h v e x. (q.elements v e).0 (h.elements v e ((p.elements v e).1 x))),
+    (λ h. record { elements = λ v e x. (q.elements v e).1 (h v e ((p.elements v e).0 x)) }),
+  )
