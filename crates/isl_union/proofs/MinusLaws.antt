@@ -2,8 +2,8 @@
 use Rattle.std.proofs.Common.{◌≡◌, ◌↔◌, ◌⊎◌, inl, inr, refl, sym, ap, ap₂, ◌∙◌, arith, subst, ℕ, ◌+◌, ◌-◌, ◌^◌, ◌<◌, Bool, true, false}
 use Rattle.std.proofs.Common.{if◌then◌else◌, Option, Some, None, option_to_list, ℤ, List, [], ◌∷◌, ◌++◌, All, Any, length, get_or, map, take, filter_map}
 use Rattle.std.specs.List.{cons_option}
-use Rattle.std.proofs.lemmas.Bool.{false≢true}
-use Rattle.std.proofs.lemmas.List.{map-append, nil_from_length, take_more}
+use Rattle.std.proofs.lemmas.Bool.{false≢true, false_from_ne_true}
+use Rattle.std.proofs.lemmas.List.{append-nil, map-append, take_more}
 use Rattle.std.proofs.lemmas.List.Elements.{All-append, All-cons, All-head, All-map, All-nil, All-push, All-tail}
 use Rattle.isl_math.proofs.ListLaws.{Any-cases, Any-first, Any-later, Any-left, Any-none, Any-one, Any-parts, Any-right}
 use Rattle.isl_meter.specs.Gauge.{Gauge, IsCharged, IsCutBy}
@@ -70,9 +70,27 @@ systems_free params p pieces sound all = systems_all (λ s. free_columns s ≡ f
     view_free params (get_or pieces k d) (all k d l) ∙ ap (columns_of params) same ∙ sym (view_free params p sound))
 
 -- one more of the pieces
-pub systems_more : (space : SpaceForm) (pieces : List PieceView) (piece : PieceView) (i : ℕ) → i < length pieces → piece ≡ get_or pieces i piece
-    → systems_in space (take (i + 1) pieces) ≡ systems_in space (take i pieces) ++ option_to_list (system_in space piece)
-systems_more space pieces piece i low at = filter_more (system_in space) pieces i piece low (sym at)
+module _ (space : SpaceForm) (pieces : List PieceView) (piece : PieceView) (i : ℕ) (low : i < length pieces)
+    (at : piece ≡ get_or pieces i piece) where
+  systems_more : systems_in space (take (i + 1) pieces) ≡ systems_in space (take i pieces) ++ option_to_list (system_in space piece)
+  systems_more = filter_more (system_in space) pieces i piece low (sym at)
+
+  -- that lies in the space
+  pub systems_here : {X : Type 0} (f : X → System) (found pushed : List X) (x : X) → space ≡ piece.space → f x ≡ piece.system
+      → pushed ≡ found ++ x ∷ [] → map f found ≡ systems_in space (take i pieces) → map f pushed ≡ systems_in space (take (i + 1) pieces)
+  systems_here f found pushed x same is made so_far =
+      ap (map f) made ∙ map-append f found (x ∷ []) ∙ ap₂ (λ l s. l ++ s ∷ []) so_far is
+      ∙ ap (λ (b : Bool). systems_in space (take i pieces) ++ option_to_list (if b then Some piece.system else None))
+          (sym (ap (is_same_space space) (sym same) ∙ space_itself space))
+      ∙ sym systems_more
+
+  -- that lies elsewhere
+  pub systems_elsewhere : ¬ (space ≡ piece.space) → systems_in space (take i pieces) ≡ systems_in space (take (i + 1) pieces)
+  systems_elsewhere differ =
+      sym (append-nil (systems_in space (take i pieces)))
+      ∙ ap (λ (b : Bool). systems_in space (take i pieces) ++ option_to_list (if b then Some piece.system else None))
+          (sym (false_from_ne_true (is_same_space space piece.space) (λ e. differ (space_is space piece.space e))))
+      ∙ sym systems_more
 
 module _ (params : List Name) (v : Valuation) (e : Element) where
   abbrev H : KeptPiece → Type 0
