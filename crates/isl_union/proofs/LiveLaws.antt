@@ -1,5 +1,5 @@
 -- Normal pieces, and which of them are kept.
-use Rattle.std.proofs.Common.{◌≡◌, ◌↔◌, ◌⊎◌, inl, inr, refl, sym, ap, ◌∙◌, arith, subst, ℕ, ◌+◌, ◌<◌, ℤ, Option, Some, None, option_map, option_to_list}
+use Rattle.std.proofs.Common.{◌≡◌, ◌↔◌, inl, inr, refl, sym, ap, ◌∙◌, subst, ℕ, ◌+◌, ◌<◌, ℤ, Option, Some, None, option_map, option_to_list}
 use Rattle.std.proofs.Common.{IfSome, List, [], ◌∷◌, ◌++◌, All, Any, length, get_or, take, filter_map}
 use Rattle.std.specs.List.{cons_option}
 use Rattle.std.specs.Option.{unwrap_or}

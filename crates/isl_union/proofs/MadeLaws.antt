@@ -1,11 +1,11 @@
 -- Values that are made of pieces.
-use Rattle.std.proofs.Common.{◌≡◌, ◌↔◌, ◌⊎◌, inl, inr, refl, sym, ap, ap₂, ◌∙◌, arith, subst, ℕ, ◌+◌, ◌<◌, ℤ, Option, Some, None, option_map}
-use Rattle.std.proofs.Common.{Bool, false, IsTrue, IfSome, List, [], ◌∷◌, ◌++◌, All, Any, length, get_or, map, filter_map}
+use Rattle.std.proofs.Common.{◌≡◌, ◌↔◌, inl, inr, refl, sym, ap, ◌∙◌, arith, subst, ℕ, ◌+◌, ℤ, Option, Some, None, option_map}
+use Rattle.std.proofs.Common.{Bool, false, IsTrue, IfSome, List, [], ◌∷◌, All, Any, length, map, filter_map}
 use Rattle.std.specs.List.{cons_option}
 use Rattle.std.specs.Option.{unwrap_or}
 use Rattle.std.proofs.lemmas.List.Elements.{All-cons, All-head, All-nil, All-tail}
 use Rattle.std.proofs.lemmas.Option.{same_Some}
-use Rattle.isl_math.proofs.ListLaws.{Any-cases, Any-first, Any-later, Any-none}
+use Rattle.isl_math.proofs.ListLaws.{Any-cases, Any-first, Any-later}
 use Rattle.isl_meter.specs.Gauge.{Gauge}
 use Rattle.isl_space.specs.Element.{Element}
 use Rattle.isl_space.specs.Name.{Name}
@@ -16,14 +16,13 @@ use Rattle.isl_piece.specs.declared.system.System.{System}
 use Rattle.isl_piece.specs.Normal.{normal_rows, normal_system}
 use Rattle.isl_piece.specs.Piece.{PieceView}
 use Rattle.isl_piece.specs.System.{HoldsSystem, IsSystemWithin, free_columns}
-use Rattle.isl_piece.specs.Formed.{IsSystemUpTo}
 use Rattle.isl_elim.specs.Sample.{IsNowhere}
-use Rattle.isl_union.specs.KeptValue.{KeptPiece, HasElement, IsKeptPiece, IsLive, IsVoid, columns_of, piece_system}
+use Rattle.isl_union.specs.KeptValue.{KeptPiece, HasElement, IsLive, IsVoid, columns_of, piece_system}
 use Rattle.isl_union.specs.Live.{normal_of, settled, AreLiveOf, IsLiveOf}
 use Rattle.isl_union.specs.Numbers.{IsPieceUpTo}
 use Rattle.isl_union.specs.Piece.{kept_piece, piece_of, IsPieceOf, IsPieceOver}
-use Rattle.isl_union.proofs.LiveLaws.{live_all, live_any, none_void, normal_has, normal_kept, normal_up_to, normal_void, settled_has, settled_is, settled_kept, settled_up_to, with_rows}
-use Rattle.isl_union.proofs.SystemLaws.{columns_from, free_of_piece, made_sound, over_is, system_is, void_has}
+use Rattle.isl_union.proofs.LiveLaws.{live_all, live_any, none_void, normal_has, normal_kept, normal_up_to, normal_void, settled_has, settled_kept, settled_up_to, with_rows}
+use Rattle.isl_union.proofs.SystemLaws.{columns_from, made_sound, over_is, system_is, void_has}
 
 -- ---- the normal form of a system
 pub system_case : (P : System → Type 0) (s t : System)

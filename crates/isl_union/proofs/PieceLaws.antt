@@ -1,5 +1,7 @@
 -- Pieces that a value has, by content.
-use Rattle.std.proofs.Common.{◌≡◌, ◌<◌, ◌≤◌, ◌+◌, ℕ, List, [], ◌∷◌, ◌++◌, map, take, length, get_or, refl, sym, ap, ◌∙◌, ◌↔◌, subst, All, Any}
+use Rattle.std.proofs.Common.{◌≡◌, ◌<◌, ◌≤◌, ◌+◌, ℕ, Bool, false, nat_eq, IsTrue, List, [], ◌∷◌, ◌++◌, map, take, length, get_or, refl, sym, ap, ◌∙◌, ◌↔◌}
+use Rattle.std.proofs.Common.{subst, arith, All, Any}
+use Rattle.std.proofs.lemmas.Bool.{false≢true}
 use Rattle.std.proofs.lemmas.List.{map_more, map-append, take_all}
 use Rattle.std.proofs.lemmas.List.Elements.{All-head, All-map, All-nil, All-push}
 use Rattle.isl_math.proofs.ListLaws.{Any-first, Any-none}
@@ -53,7 +55,10 @@ pub ruleset made = (no_pieces, IsKeptValue-from_pieces)
 -- ---- values without elements
 -- a value is empty exactly where it has no piece
 pub empty_exactly : (value : KeptValue) → IsKeptValue value → (value.pieces ≡ []) ↔ IsEmpty value
-empty_exactly value kept = ((λ none v e has. Any-none (HasElement value.params v e) (subst (Any (HasElement value.params v e)) none has)), (λ empty. by value.pieces kept.pieces (λ v e a. empty v e a)))
+empty_exactly value kept = (
+  (λ none v e has. Any-none (HasElement value.params v e) (subst (Any (HasElement value.params v e)) none has)),
+  (λ empty. by value.pieces kept.pieces (λ v e a. empty v e a)),
+)
   where
     by : (pieces : List KeptPiece) → All (IsKeptPiece value.params) pieces
         → ((v : Valuation) (e : Element) → ¬ Any (HasElement value.params v e) pieces) → pieces ≡ []
@@ -61,3 +66,13 @@ empty_exactly value kept = ((λ none v e has. Any-none (HasElement value.params 
     by (piece ∷ pieces) all none =
         absurd ((All-head (IsKeptPiece value.params) piece pieces all).live
         ((void_exactly value.params piece kept.params.distinct).1 (λ v e has. none v e (Any-first (HasElement value.params v e) piece pieces has))))
+
+-- so is it told by the number of its pieces
+pub empty_told : (b : Bool) (pieces : List PieceView) (value : KeptValue) → b ≡ nat_eq (length pieces) 0 → map kept_piece pieces ≡ value.pieces
+    → IsKeptValue value → IsTrue b ↔ IsEmpty value
+empty_told b [] value e is kept = ((λ t. (empty_exactly value kept).0 (sym is)), (λ empty. e))
+empty_told b (piece ∷ pieces) value e is kept =
+    let no : nat_eq (length (piece ∷ pieces)) 0 ≡ false = grind arith in (
+      (λ t. absurd (false≢true (sym no ∙ sym e ∙ t))),
+      (λ empty. absurd (let never = is ∙ (empty_exactly value kept).1 empty in cc)),
+    )

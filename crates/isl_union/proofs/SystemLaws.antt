@@ -1,5 +1,5 @@
 -- Pieces and their systems.
-use Rattle.std.proofs.Common.{◌≡◌, ◌↔◌, refl, sym, ap, ◌∙◌, arith, subst, ℕ, ◌+◌, ◌-◌, ◌^◌, ◌<◌, ◌≤◌, ℤ, List, [], ◌++◌, All, length, take, drop}
+use Rattle.std.proofs.Common.{◌≡◌, ◌↔◌, refl, sym, ap, ◌∙◌, arith, subst, ◌+◌, ◌-◌, ◌^◌, List, ◌++◌, length, take, drop}
 use Rattle.std.proofs.Common.{length-append, take-append-drop}
 use Rattle.std.specs.List.{zip}
 use Rattle.std.proofs.lemmas.List.{length-drop, length-take-le}
@@ -11,14 +11,12 @@ use Rattle.isl_space.specs.Names.{AreDistinct}
 use Rattle.isl_space.specs.SpaceForm.{SpaceForm, coordinates_of, IsWellFormedSpace}
 use Rattle.isl_space.specs.Valuation.{Valuation, values_of}
 use Rattle.isl_space.proofs.ValuationLaws.{length-values_of, values_of-zip}
-use Rattle.isl_piece.specs.declared.definition.Definition.{Definition}
-use Rattle.isl_piece.specs.declared.row.Row.{Row}
 use Rattle.isl_piece.specs.declared.system.System.{System}
 use Rattle.isl_piece.specs.Definition.{AreDefinitions}
 use Rattle.isl_piece.specs.Formed.{AreWellFormedDefinitions}
 use Rattle.isl_piece.specs.Normal.{IsNormal}
 use Rattle.isl_piece.specs.Piece.{PieceView}
-use Rattle.isl_piece.specs.Row.{IsRowUpTo, IsRowWithin, IsWellFormed}
+use Rattle.isl_piece.specs.Row.{IsRowUpTo, IsRowWithin}
 use Rattle.isl_piece.specs.System.{HoldsSystem, IsSystemWithin, free_columns}
 use Rattle.isl_piece.proofs.FormedLaws.{definitions_formed, definitions_within, system_up_to}
 use Rattle.isl_piece.proofs.RowMagnitudes.{within_limit}

@@ -1,5 +1,5 @@
 -- Unions of values, and what values have in common.
-use Rattle.std.proofs.Common.{◌≡◌, ◌↔◌, ◌⊎◌, inl, inr, refl, sym, ap, ap₂, ◌∙◌, arith, subst, ℕ, ◌+◌, ◌<◌, List, [], ◌∷◌, ◌++◌, All, Any}
+use Rattle.std.proofs.Common.{◌≡◌, ◌↔◌, ◌⊎◌, inl, inr, refl, sym, ap, ap₂, ◌∙◌, subst, ℕ, ◌+◌, ◌<◌, List, [], ◌∷◌, ◌++◌, All, Any}
 use Rattle.std.proofs.Common.{Contains, length, fold, get_or, map, sum_by, take, unsigned_abs}
 use Rattle.std.proofs.lemmas.List.{get_or-map, length-map, map-append, take_more}
 use Rattle.std.proofs.lemmas.List.Elements.{All-append, All-map, All-contains_itself, Contains-append_left}

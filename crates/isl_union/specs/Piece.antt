@@ -1,5 +1,5 @@
 -- public: a piece by content: what it is when the sharing of its shapes and of its system is forgotten.
-use Rattle.std.specs.Prelude.{◌≡◌, ◌+◌, length}
+use Rattle.std.specs.Prelude.{◌≡◌, ◌+◌, List, length}
 use Rattle.isl_meter.specs.Gauge.{Gauge}
 use Rattle.isl_space.specs.Name.{Name}
 use Rattle.isl_space.specs.SpaceForm.{SpaceForm, IsWellFormedSpace}

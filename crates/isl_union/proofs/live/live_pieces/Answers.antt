@@ -1,5 +1,4 @@
-use Rattle.std.proofs.Common.{◌≡◌, ◌∙◌, ap, ap₂, arith, sym, subst, ◌<◌, length, option_map, IfSome}
-use Rattle.std.specs.List.{All}
+use Rattle.std.proofs.Common.{◌≡◌, ◌∙◌, ap, ap₂, arith, sym, subst, ◌<◌, length, option_map}
 use Rattle.isl_meter.proofs.CutLemmas.{IsCharged_trans}
 use Rattle.isl_space.specs.Space.{space_form_of}
 use Rattle.isl_space.specs.SpaceForm.{IsWellFormedSpace}

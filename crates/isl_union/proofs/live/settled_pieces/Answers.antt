@@ -1,5 +1,4 @@
 use Rattle.std.proofs.Common.{◌≡◌, ◌∙◌, ap, ap₂, arith, sym, subst, ◌<◌, length}
-use Rattle.std.specs.List.{All}
 use Rattle.std.proofs.lemmas.List.Elements.{All-push}
 use Rattle.isl_space.specs.Space.{space_form_of}
 use Rattle.isl_space.specs.SpaceForm.{IsWellFormedSpace}
@@ -8,7 +7,7 @@ use Rattle.isl_piece.specs.System.{HoldsSystem, IsSystemWithin, free_columns}
 use Rattle.isl_elim.specs.Sample.{IsNowhere}
 use Rattle.isl_union.specs.KeptValue.{columns_of}
 use Rattle.isl_union.specs.Live.{settled}
-use Rattle.isl_union.specs.Piece.{kept_piece, piece_of, IsPieceOf, IsPieceOver}
+use Rattle.isl_union.specs.Piece.{piece_of, IsPieceOf, IsPieceOver}
 use Rattle.isl_union.proofs.MeetSteps.{item_has}
 use Rattle.isl_union.proofs.ValueLaws.{moved_more}
 use Rattle.isl_union.proofs.live.settled_pieces.Goals as goal

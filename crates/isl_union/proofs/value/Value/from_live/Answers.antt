@@ -1,8 +1,6 @@
-use Rattle.std.proofs.Common.{◌≡◌, ◌∙◌, ap, sym, subst, map, get_or, List}
-use Rattle.std.specs.List.{All}
+use Rattle.std.proofs.Common.{◌∙◌, ap, sym, subst, map, get_or, List}
 use Rattle.std.proofs.lemmas.List.Elements.{All-map}
 use Rattle.isl_union.specs.KeptValue.{KeptPiece, KeptValue, IsKeptValue, IsLive}
-use Rattle.isl_union.specs.Live.{settled}
 use Rattle.isl_union.specs.Numbers.{IsPieceUpTo}
 use Rattle.isl_union.specs.Piece.{kept_piece}
 use Rattle.isl_union.proofs.MadeLaws.{settled_have, settled_small, over_here, IsOver}

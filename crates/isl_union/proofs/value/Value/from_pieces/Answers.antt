@@ -1,5 +1,4 @@
-use Rattle.std.proofs.Common.{◌≡◌, ◌∙◌, sym, subst, map, get_or}
-use Rattle.std.specs.List.{All}
+use Rattle.std.proofs.Common.{sym, subst, map, get_or}
 use Rattle.std.proofs.lemmas.List.Elements.{All-map}
 use Rattle.isl_union.specs.KeptValue.{IsKeptValue}
 use Rattle.isl_union.specs.Numbers.{IsPieceUpTo}
