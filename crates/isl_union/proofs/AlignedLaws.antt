@@ -1,5 +1,5 @@
 -- Pieces over more parameters.
-use Rattle.std.proofs.Common.{◌≡◌, ◌↔◌, refl, sym, ap, ap₂, ◌∙◌, arith, subst, ℕ, zero, suc, ◌+◌, ℤ, List, [], ◌∷◌, ◌++◌, All, Any}
+use Rattle.std.proofs.Common.{◌≡◌, ◌↔◌, refl, sym, ap, ap₂, ◌∙◌, arith, subst, ℕ, ◌+◌, List, [], ◌∷◌, ◌++◌, All, Any}
 use Rattle.std.proofs.Common.{Contains, length, map}
 use Rattle.std.specs.List.{range_with_len}
 use Rattle.std.proofs.lemmas.List.{get_or-map, length-append, length-map}
@@ -53,12 +53,14 @@ module _ (all names : List Name) (own : AreDistinct names) (there : All (Contain
     -- a piece over all parameters is one that a value may have
     pub aligned_kept : IsKeptPiece all (aligned all names piece)
     aligned_kept =
-        moved_kept g (columns_of all piece.space) (column_places all names piece.space) (piece_system names piece) (piece_places piece.space) within
+        moved_kept g (columns_of all piece.space) (column_places all names piece.space) (piece_system names piece)
+        (piece_places piece.space) within
         long (piece_somewhere names piece kept) all piece.space refl kept.space
 
     pub aligned_up_to : (b : ℕ) → IsPieceUpTo b piece → IsPieceUpTo b (aligned all names piece)
     aligned_up_to b h =
-        moved_up_to g (columns_of all piece.space) (column_places all names piece.space) (piece_system names piece) (piece_places piece.space) within
+        moved_up_to g (columns_of all piece.space) (column_places all names piece.space) (piece_system names piece)
+        (piece_places piece.space) within
         long (piece_somewhere names piece kept) all piece.space refl b (record { rows = h.rows; definitions = h.definitions })
 
     -- it defines no column where the piece defines none
@@ -82,7 +84,8 @@ module _ (all names : List Name) (own : AreDistinct names) (there : All (Contain
             ↔ (IsElement e × (piece.space ≡ e.space)
             × HoldsSystem (piece_system names piece) (numbers_at (column_places all names piece.space) (point_of all v e)))
         has =
-            moved_has g (columns_of all piece.space) (column_places all names piece.space) (piece_system names piece) (piece_places piece.space)
+            moved_has g (columns_of all piece.space) (column_places all names piece.space) (piece_system names piece)
+            (piece_places piece.space)
             within long (piece_somewhere names piece kept) all piece.space refl v e
 
         point : length e.coordinates ≡ coordinates_of e.space → piece.space ≡ e.space

@@ -1,8 +1,7 @@
 -- What two values have in common: its elements, its numbers, and its units.
-use Rattle.std.proofs.Common.{◌≡◌, ◌↔◌, ◌≢◌, ◌⊎◌, inl, inr, refl, sym, ap, ap₂, ◌∙◌, arith, subst, ℕ, ◌+◌, ◌<◌, ◌≤◌, Bool, true, false}
-use Rattle.std.proofs.Common.{◌&&◌, if◌then◌else◌, Option, Some, None, option_map, IfSome, MatchOption, option_to_list, List, [], ◌∷◌, ◌++◌}
-use Rattle.std.proofs.Common.{All, Any, length, get_or, map, take, filter_map, flat_map, count_by, sum_by, Decides}
-use Rattle.std.specs.Bool.{nat_eq}
+use Rattle.std.proofs.Common.{◌≡◌, ◌↔◌, ◌⊎◌, inl, inr, refl, sym, ap, ap₂, ◌∙◌, subst, ℕ, ◌+◌, ◌<◌, true}
+use Rattle.std.proofs.Common.{◌&&◌, Option, Some, None, option_map, IfSome, option_to_list, List, [], ◌∷◌, ◌++◌}
+use Rattle.std.proofs.Common.{All, Any, length, get_or, take, sum_by}
 use Rattle.std.specs.List.{cons_option}
 use Rattle.std.specs.Option.{option_eq}
 use Rattle.std.specs.Str.{bytes_eq}
@@ -12,7 +11,7 @@ use Rattle.std.proofs.lemmas.Slice.Eq.{bytes_eq-Decides}
 use Rattle.std.proofs.lemmas.List.Elements.{All-nil, All-cons, All-head, All-tail, All-append}
 use Rattle.std.proofs.lemmas.List.{flat_map_more, take_more}
 use Rattle.std.proofs.lemmas.List.Sums.{sum_by_push}
-use Rattle.isl_math.proofs.ListLaws.{Any-none, Any-first, Any-later, Any-cases, Any-parts, Any-left, Any-right, All-parts}
+use Rattle.isl_math.proofs.ListLaws.{Any-none, Any-first, Any-later, Any-cases, Any-parts, Any-left, Any-right}
 use Rattle.isl_space.specs.Element.{Element}
 use Rattle.isl_space.specs.Form.{Form, leaf, pair}
 use Rattle.isl_space.specs.Name.{Name}
@@ -23,7 +22,7 @@ use Rattle.isl_piece.specs.declared.row.Row.{Row}
 use Rattle.isl_piece.specs.declared.system.System.{System}
 use Rattle.isl_piece.specs.Placed.{both_systems}
 use Rattle.isl_piece.specs.Normal.{normal_rows}
-use Rattle.isl_piece.specs.System.{HoldsSystem, IsSystemWithin, free_columns}
+use Rattle.isl_piece.specs.System.{IsSystemWithin, free_columns}
 use Rattle.isl_piece.proofs.MeetLaws.{both_case, both_free, both_points, both_up_to, both_within}
 use Rattle.isl_union.specs.KeptValue.{KeptPiece, HasElement, columns_of, piece_system, point_of}
 use Rattle.isl_union.specs.Live.{normal_of}
@@ -76,7 +75,8 @@ count_apart a b n = sym (cond-false (is_same_space a.space b.space) 1 0 (false_f
 
 -- of one space
 pub met_together : (params : List Name) (a b : KeptPiece) → a.space ≡ b.space → common_piece params a b ≡ met_piece params a b
-met_together params a b same = sym (cond-true (is_same_space a.space b.space) (common_piece params a b) None (ap (is_same_space a.space) (sym same) ∙
+met_together params a b same = sym (cond-true (is_same_space a.space b.space) (common_piece params a b) None
+    (ap (is_same_space a.space) (sym same) ∙
     space_itself a.space))
 
 -- what was found of the system of both is what was to be found of the pieces
@@ -110,7 +110,8 @@ module _ (g : Gauge) (params : List Name) (a b : KeptPiece) (same : a.space ≡ 
   common = piece_of a.space whole
 
   common_within : IsSystemWithin g (piece_system params common)
-  common_within = subst (IsSystemWithin g) (system_is params a.space whole (columns_from g params a.space whole whole_within whole_free)) whole_within
+  common_within = subst (IsSystemWithin g) (system_is params a.space whole (columns_from g params a.space whole whole_within whole_free))
+      whole_within
 
   common_holds : (v : Valuation) (e : Element) → HasElement params v e common ↔ (HasElement params v e a × HasElement params v e b)
   common_holds v e =
@@ -157,7 +158,8 @@ module _ (g : Gauge) (params : List Name) where
             → IsSystemWithin g (piece_system params (common g params a b same p q)) → OptionHas o ↔ (H a × H b)
         by None is both within = (
           (λ n. absurd n),
-          (λ hs. void_has params v e (common g params a b same p q) (none_void g params (common g params a b same p q) within is) (both.1 hs)),
+          (λ hs. void_has params v e (common g params a b same p q) (none_void g params (common g params a b same p q) within is)
+              (both.1 hs)),
         )
         by (Some new) is both within =
             let own = normal_has g params (common g params a b same p q) within new is v e in
@@ -165,7 +167,8 @@ module _ (g : Gauge) (params : List Name) where
 
     met_has : (a b : KeptPiece) → IsFit g params a → IsFit g params b → OptionHas (met_piece params a b) ↔ (H a × H b)
     met_has a b p q = elim (cases_Bool (is_same_space a.space b.space)) [
-      | inl t ↦ rw (cond-true (is_same_space a.space b.space) (common_piece params a b) None t) (common_has a b (space_is a.space b.space t) p q)
+      | inl t ↦ rw (cond-true (is_same_space a.space b.space) (common_piece params a b) None t)
+          (common_has a b (space_is a.space b.space t) p q)
       | inr f ↦ rw (cond-false (is_same_space a.space b.space) (common_piece params a b) None f) (
         (λ n. absurd n),
         (λ hs. let same : a.space ≡ b.space = hs.0.space ∙ sym hs.1.space in false≢true (sym f ∙ ap (is_same_space a.space) (sym same) ∙
@@ -212,10 +215,12 @@ module _ (g : Gauge) (params : List Name) where
 
   -- ---- what all pieces have: if what two have in common has it where they do, so have all that meet
   module _ (P : KeptPiece → Type 0)
-      (one : (a b : KeptPiece) → a.space ≡ b.space → IsFit g params a → IsFit g params b → P a → P b → IfSome (common_piece params a b) P) where
+      (one : (a b : KeptPiece) → a.space ≡ b.space → IsFit g params a → IsFit g params b → P a → P b
+      → IfSome (common_piece params a b) P) where
     met_all : (a b : KeptPiece) → IsFit g params a → IsFit g params b → P a → P b → IfSome (met_piece params a b) P
     met_all a b p q s t = elim (cases_Bool (is_same_space a.space b.space)) [
-      | inl same ↦ rw (cond-true (is_same_space a.space b.space) (common_piece params a b) None same) (one a b (space_is a.space b.space same) p q s t)
+      | inl same ↦ rw (cond-true (is_same_space a.space b.space) (common_piece params a b) None same)
+          (one a b (space_is a.space b.space same) p q s t)
       | inr differ ↦ rw (cond-false (is_same_space a.space b.space) (common_piece params a b) None differ) tt
     ]
 
@@ -273,7 +278,8 @@ module _ (g : Gauge) (params : List Name) where
   pieces_plain = pieces_all (λ piece. piece.definitions ≡ []) common_plain
 
 -- ---- one more of the others
-module _ (params : List Name) (others : List KeptPiece) (other : KeptPiece) (i : ℕ) (low : i < length others) (at : get_or others i other ≡ other) where
+module _ (params : List Name) (others : List KeptPiece) (other : KeptPiece) (i : ℕ) (low : i < length others)
+    (at : get_or others i other ≡ other) where
   one_more : take (i + 1) others ≡ take i others ++ other ∷ []
   one_more = take_more others i other low ∙ ap (λ x. take i others ++ x ∷ []) at
 
@@ -284,7 +290,8 @@ module _ (params : List Name) (others : List KeptPiece) (other : KeptPiece) (i :
   pub partners_more : (piece : KeptPiece) → partners (take (i + 1) others) piece ≡ partners (take i others) piece + pair_count piece other
   partners_more piece = ap (λ l. partners l piece) one_more ∙ sum_by_push (pair_count piece) (take i others) other
 
-  pub pieces_more : (all : List KeptPiece) → met_pieces params (take (i + 1) others) all ≡ met_pieces params (take i others) all ++ met_with params all other
+  pub pieces_more : (all : List KeptPiece) → met_pieces params (take (i + 1) others) all ≡ met_pieces params (take i others) all
+      ++ met_with params all other
   pieces_more all = ap (λ l. met_pieces params l all) one_more ∙ sym (flat_map_more (met_with params all) [] (take i others) other)
 
   pub pairs_more : (all : List KeptPiece) → sum_by (partners all) (take (i + 1) others) ≡ sum_by (partners all) (take i others) + partners

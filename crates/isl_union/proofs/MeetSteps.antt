@@ -1,6 +1,6 @@
 -- Loops over pieces: one more piece.
-use Rattle.std.proofs.Common.{◌≡◌, refl, sym, ap, ap₂, ◌∙◌, arith, subst, ℕ, ◌+◌, ◌<◌, Option, Some, None, option_map, option_to_list}
-use Rattle.std.proofs.Common.{IfSome, List, [], ◌∷◌, ◌++◌, All, length, get_or, map, take, sum_by, filter_map}
+use Rattle.std.proofs.Common.{◌≡◌, refl, sym, ap, ◌∙◌, subst, ℕ, ◌+◌, ◌<◌, Option, Some, None, option_map, option_to_list}
+use Rattle.std.proofs.Common.{IfSome, List, ◌++◌, All, length, get_or, map, take, sum_by, filter_map}
 use Rattle.std.proofs.lemmas.List.{get_or-map, length-map, map-append, append-nil}
 use Rattle.std.proofs.lemmas.List.Elements.{All-push}
 use Rattle.isl_meter.specs.Gauge.{Gauge, IsCharged}
@@ -29,7 +29,8 @@ bits_after_unit g h s e within = system_within_kept h g s (sym (ap (λ (x : Gaug
 pub pieces_later : (g h : Gauge) (pieces : List PieceView) → IsCharged g h → AreWithinLimit g pieces → AreWithinLimit h pieces
 pieces_later g h pieces p within = λ k d l. system_within_kept h g (get_or pieces k d).system (charged_bits g h p) (within k d l)
 
-pub over_later : (g h : Gauge) (params : List Name) (piece : PieceView) → IsCharged g h → IsPieceOver g params piece → IsPieceOver h params piece
+pub over_later : (g h : Gauge) (params : List Name) (piece : PieceView) → IsCharged g h → IsPieceOver g params piece
+    → IsPieceOver h params piece
 over_later g h params piece p over = record {
   space = over.space;
   columns = over.columns;
@@ -73,7 +74,8 @@ module _ (others : List PieceView) (other : PieceView) (i : ℕ) (low : i < leng
 
   module _ (params : List Name) where
     -- one more of the pieces of which a value is made
-    pub live_step : (met pushed : List PieceView) (o : Option PieceView) → IsLiveOf params (normal_of (kept_piece other)) (option_map kept_piece o)
+    pub live_step : (met pushed : List PieceView) (o : Option PieceView)
+        → IsLiveOf params (normal_of (kept_piece other)) (option_map kept_piece o)
         → pushed ≡ met ++ option_to_list o → AreLiveOf params (filter_map normal_of (take i all)) (map kept_piece met)
         → AreLiveOf params (filter_map normal_of (take (i + 1) all)) (map kept_piece pushed)
     live_step met pushed o exact is so_far =
@@ -90,7 +92,8 @@ module _ (others : List PieceView) (other : PieceView) (i : ℕ) (low : i < leng
           rw (with_more params all (kept_piece other) i kept_low kept_at piece)
           (pushed_live params (met_with params (take i all) piece) (met_piece params piece (kept_piece other)) met pushed o so_far exact is)
 
-      pub with_used : (g h k : Gauge) → IsChargedFrom (partners (take i all) piece) g h → IsChargedFrom (pair_count piece (kept_piece other)) h k
+      pub with_used : (g h k : Gauge) → IsChargedFrom (partners (take i all) piece) g h
+          → IsChargedFrom (pair_count piece (kept_piece other)) h k
           → IsChargedFrom (partners (take (i + 1) all) piece) g k
       with_used g h k p q =
           from_more (partners (take i all) piece) (pair_count piece (kept_piece other)) (partners (take (i + 1) all) piece) g h k
@@ -98,12 +101,14 @@ module _ (others : List PieceView) (other : PieceView) (i : ℕ) (low : i < leng
 
     module _ (seconds : List KeptPiece) where
       -- what one more piece has in common with the others
-      pub pieces_step : (met pushed more : List PieceView) → AreLiveOf params (met_with params seconds (kept_piece other)) (map kept_piece more)
+      pub pieces_step : (met pushed more : List PieceView) → AreLiveOf params (met_with params seconds (kept_piece other))
+          (map kept_piece more)
           → pushed ≡ met ++ more → AreLiveOf params (met_pieces params (take i all) seconds) (map kept_piece met)
           → AreLiveOf params (met_pieces params (take (i + 1) all) seconds) (map kept_piece pushed)
       pieces_step met pushed more exact is so_far =
           rw (pieces_more params all (kept_piece other) i kept_low kept_at seconds)
-          (subst (λ (k : List KeptPiece). AreLiveOf params (met_pieces params (take i all) seconds ++ met_with params seconds (kept_piece other)) k)
+          (subst (λ (k : List KeptPiece). AreLiveOf params (met_pieces params (take i all) seconds
+          ++ met_with params seconds (kept_piece other)) k)
           (sym (ap (map kept_piece) is ∙ map-append kept_piece met more))
           (live_append params (met_pieces params (take i all) seconds) (map kept_piece met) (met_with params seconds (kept_piece other))
           (map kept_piece more) so_far exact))
@@ -111,5 +116,6 @@ module _ (others : List PieceView) (other : PieceView) (i : ℕ) (low : i < leng
       pub pieces_used : (g h k : Gauge) → IsChargedFrom (sum_by (partners seconds) (take i all)) g h
           → IsChargedFrom (partners seconds (kept_piece other)) h k → IsChargedFrom (sum_by (partners seconds) (take (i + 1) all)) g k
       pieces_used g h k p q =
-          from_more (sum_by (partners seconds) (take i all)) (partners seconds (kept_piece other)) (sum_by (partners seconds) (take (i + 1) all))
+          from_more (sum_by (partners seconds) (take i all)) (partners seconds (kept_piece other))
+          (sum_by (partners seconds) (take (i + 1) all))
           g h k (pairs_more params all (kept_piece other) i kept_low kept_at seconds) p q

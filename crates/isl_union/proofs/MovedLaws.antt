@@ -1,9 +1,9 @@
 -- Systems whose columns stand at other places hold where they did, and pieces of them are pieces again.
-use Rattle.std.proofs.Common.{◌≡◌, ◌≢◌, ◌↔◌, refl, sym, ap, ap₂, ◌∙◌, arith, subst, ℕ, zero, suc, ◌+◌, ◌<◌, ℤ, pos, List, []}
-use Rattle.std.proofs.Common.{◌∷◌, ◌++◌, All, AllPairs, length, get_or, set, map, fold, replicate, length-append, append_assoc}
+use Rattle.std.proofs.Common.{◌≡◌, ◌≢◌, ◌↔◌, refl, sym, ap, ap₂, ◌∙◌, arith, subst, ℕ, zero, suc, ◌+◌, ◌<◌, ◌≤◌, ℤ, pos, List, []}
+use Rattle.std.proofs.Common.{◌∷◌, ◌++◌, All, length, get_or, set, map, take, replicate, length-append}
 use Rattle.std.proofs.Common.{length-set, get_or-set_other}
 use Rattle.std.specs.List.{range_with_len}
-use Rattle.std.proofs.lemmas.List.{append-nil, get_or-set_same, length-replicate}
+use Rattle.std.proofs.lemmas.List.{append-nil, get_or-set_same, length-replicate, take_all, take_more}
 use Rattle.std.proofs.lemmas.List.FromFn.{length-range_with_len}
 use Rattle.std.proofs.lemmas.List.Elements.{All-head, All-tail}
 use Rattle.isl_meter.specs.Gauge.{Gauge}
@@ -13,15 +13,14 @@ use Rattle.isl_space.specs.SpaceForm.{SpaceForm, coordinates_of, IsWellFormedSpa
 use Rattle.isl_space.specs.Valuation.{Valuation, values_of}
 use Rattle.isl_space.proofs.ValuationLaws.{length-values_of}
 use Rattle.isl_piece.specs.declared.definition.Definition.{Definition}
-use Rattle.isl_piece.specs.declared.meeting.Meeting.{Meeting}
 use Rattle.isl_piece.specs.declared.row.Row.{Row}
 use Rattle.isl_piece.specs.declared.system.System.{System}
 use Rattle.isl_piece.specs.Formed.{AreWellFormedDefinitions, IsSystemUpTo}
 use Rattle.isl_piece.specs.Meet.{put_at, placed, placed_row, placed_definition, numbers_at}
-use Rattle.isl_piece.specs.Placed.{ArePlacesAmong, placed_system, with_own_column}
+use Rattle.isl_piece.specs.Placed.{ArePlacesAmong, placed_system, placing_of}
 use Rattle.isl_piece.specs.Row.{IsWellFormed}
 use Rattle.isl_piece.specs.System.{HoldsSystem, IsSystemWithin, free_columns}
-use Rattle.isl_piece.proofs.MeetLaws.{placed_free, placed_points, placed_system_within, placed_up_to}
+use Rattle.isl_piece.proofs.MeetLaws.{placed_free, placed_points, placed_system_within, placed_up_to, placing_more}
 use Rattle.isl_piece.proofs.PlacedLaws.{AreApart, length-placed, numbers_at-first, first_apart, first_inside, first_push}
 use Rattle.isl_elim.specs.Sample.{IsNowhere}
 use Rattle.isl_union.specs.KeptValue.{KeptPiece, HasElement, IsKeptPiece, IsLive, columns_of, piece_system, point_of}
@@ -151,46 +150,76 @@ placed_rows-own n (r ∷ rows) formed =
 definition-own : (n : ℕ) (d : Definition) → length d.coefs ≡ n → placed_definition n (range_with_len 0 n) d ≡ d
 definition-own n d e = ap (λ cs. let f : Definition = record { coefs = cs; constant = d.constant; k = d.k } in f) (placed-own n d.coefs e)
 
-same_meeting : (a b : ℕ) (c d : List Definition) (p q : List ℕ) → a ≡ b → c ≡ d → p ≡ q
-    → (let m : Meeting = record { columns = a; definitions = c; places = p } in m) ≡ record { columns = b; definitions = d; places = q }
-same_meeting a b c d p q e f h = rw (e, f, h) refl
+formed_at : (n : ℕ) (definitions : List Definition) (i : ℕ) (d : Definition) → AreWellFormedDefinitions n definitions
+    → i < length definitions
+    → length (get_or definitions i d).coefs ≡ n + i
+formed_at n [] i d h l = absurd (omega arith)
+formed_at n (first ∷ definitions) zero d h l = let w = h.0.width in omega (arith, w)
+formed_at n (first ∷ definitions) (suc i) d h l = let w = formed_at (suc n) definitions i d h.1 (omega arith) in omega (arith, w)
 
 -- columns that stand at their own places leave those behind them at theirs
-placing-own : (n : ℕ) (before definitions : List Definition) → AreWellFormedDefinitions n definitions
-    → fold with_own_column (record { columns = n; definitions = before; places = range_with_len 0 n }) definitions
-    ≡ record { columns = n + length definitions; definitions = before ++ definitions; places = range_with_len 0 (n + length definitions) }
-placing-own n before [] h =
+record AreOwn (n : ℕ) (all : List Definition) (i : ℕ) : Type 0 where
+  columns : (placing_of n (range_with_len 0 n) (take i all)).columns ≡ n + i
+  definitions : (placing_of n (range_with_len 0 n) (take i all)).definitions ≡ take i all
+  places : (placing_of n (range_with_len 0 n) (take i all)).places ≡ range_with_len 0 (n + i)
+
+one_own : (n c : ℕ) (places : List ℕ) (d : Definition) → c ≡ n → places ≡ range_with_len 0 n → length d.coefs ≡ n
+    → placed_definition c places d ≡ d
+one_own n c places d e f w = rw (e, f) (definition-own n d w)
+
+placing-own : (n : ℕ) (definitions : List Definition) → AreWellFormedDefinitions n definitions → (i : ℕ) → i ≤ length definitions
+    → AreOwn n definitions i
+placing-own n definitions h zero l =
     let none : n ≡ n + 0 = omega arith in
-    same_meeting n (n + 0) before (before ++ []) (range_with_len 0 n) (range_with_len 0 (n + 0)) none (sym (append-nil before)) (ap (range_with_len 0) none)
-placing-own n before (d ∷ definitions) h =
-    let next : n + 1 ≡ suc n = omega arith in
-    let count : n + 1 + length definitions ≡ n + suc (length definitions) = omega arith in
-    let one : with_own_column (record { columns = n; definitions = before; places = range_with_len 0 n }) d
-    ≡ record { columns = n + 1; definitions = before ++ d ∷ []; places = range_with_len 0 (n + 1) } =
-    same_meeting (n + 1) (n + 1) (before ++ placed_definition n (range_with_len 0 n) d ∷ []) (before ++ d ∷ []) (range_with_len 0 n ++ n ∷ [])
-    (range_with_len 0 (n + 1)) refl (ap (λ x. before ++ x ∷ []) (definition-own n d h.0.width)) (sym (first_push n)) in
-    ap (λ (m : Meeting). fold with_own_column m definitions) one
-    ∙ placing-own (n + 1) (before ++ d ∷ []) definitions (subst (λ k. AreWellFormedDefinitions k definitions) (sym next) h.1)
-    ∙ same_meeting (n + 1 + length definitions) (n + suc (length definitions)) ((before ++ d ∷ []) ++ definitions) (before ++ d ∷ definitions)
-    (range_with_len 0 (n + 1 + length definitions)) (range_with_len 0 (n + suc (length definitions))) count
-    (append_assoc before (d ∷ []) definitions) (ap (range_with_len 0) count)
+    record { columns = none; definitions = refl; places = ap (range_with_len 0) none }
+placing-own n definitions h (suc i) l =
+    let d : Definition = record { coefs = []; constant = pos 0; k = pos 1 } in
+    let one = get_or definitions i d in
+    let before = placing_of n (range_with_len 0 n) (take i definitions) in
+    let so_far = placing-own n definitions h i (omega arith) in
+    let low : i < length definitions = omega arith in
+    let next : n + i + 1 ≡ n + suc i = omega arith in
+    let count : i + 1 ≡ suc i = omega arith in
+    let stays : placed_definition before.columns before.places one ≡ one =
+    one_own (n + i) before.columns before.places one so_far.columns so_far.places (formed_at n definitions i d h low) in
+    let whole : AreOwn n definitions (i + 1) = record {
+      columns = rw (placing_more n (range_with_len 0 n) definitions i d low) (ap (λ c. c + 1) so_far.columns ∙ omega arith);
+      definitions = rw (placing_more n (range_with_len 0 n) definitions i d low)
+          (ap₂ (λ ds x. ds ++ x ∷ []) so_far.definitions stays ∙ sym (take_more definitions i d low));
+      places = rw (placing_more n (range_with_len 0 n) definitions i d low)
+          (ap₂ (λ ps c. ps ++ c ∷ []) so_far.places so_far.columns ∙ sym (first_push (n + i)) ∙ ap (range_with_len 0) (omega arith));
+    } in
+    subst (AreOwn n definitions) count whole
+
+same_piece : (space : SpaceForm) (rows : List Row) (a b : ℕ) (c d : List Definition) (p q : List ℕ) → a ≡ b → c ≡ d → p ≡ q
+    → (let m : KeptPiece = record { space = space; definitions = c; rows = map (placed_row a p) rows } in m)
+    ≡ record { space = space; definitions = d; rows = map (placed_row b q) rows }
+same_piece space rows a b c d p q e f h = rw (e, f, h) refl
 
 -- a piece whose columns stay is itself
 pub moved-own : (params : List Name) (piece : KeptPiece) → IsKeptPiece params piece
-    → moved piece.space (columns_of params piece.space) (range_with_len 0 (columns_of params piece.space)) (piece_system params piece) ≡ piece
+    → moved piece.space (columns_of params piece.space) (range_with_len 0 (columns_of params piece.space)) (piece_system params piece)
+    ≡ piece
 unfolding moved
 moved-own params piece kept =
     let n = columns_of params piece.space in
     let all = n + length piece.definitions in
-    let placing = placing-own n [] piece.definitions kept.definitions in
+    let own : AreOwn n piece.definitions (length piece.definitions) =
+    placing-own n piece.definitions kept.definitions (length piece.definitions) (omega arith) in
+    let every : take (length piece.definitions) piece.definitions ≡ piece.definitions =
+    take_all (length piece.definitions) piece.definitions (omega arith) in
+    let columns : (placing_of n (range_with_len 0 n) piece.definitions).columns ≡ all =
+    ap (λ ds. (placing_of n (range_with_len 0 n) ds).columns) (sym every) ∙ own.columns in
+    let definitions : (placing_of n (range_with_len 0 n) piece.definitions).definitions ≡ piece.definitions =
+    ap (λ ds. (placing_of n (range_with_len 0 n) ds).definitions) (sym every) ∙ own.definitions ∙ every in
+    let places : (placing_of n (range_with_len 0 n) piece.definitions).places ≡ range_with_len 0 all =
+    ap (λ ds. (placing_of n (range_with_len 0 n) ds).places) (sym every) ∙ own.places in
     let wide : All (IsWellFormed all) piece.rows = let same : length piece.definitions + n ≡ all = omega arith in
     subst (λ k. All (IsWellFormed k) piece.rows) same kept.rows in
     let stays : piece_of piece.space (placed_system n (range_with_len 0 n) (piece_system params piece)) ≡ piece =
-    ap (λ (m : Meeting). let p : KeptPiece = record {
-      space = piece.space;
-      definitions = m.definitions;
-      rows = map (placed_row m.columns m.places) piece.rows;
-    } in p) placing
+    same_piece piece.space piece.rows (placing_of n (range_with_len 0 n) piece.definitions).columns all
+    (placing_of n (range_with_len 0 n) piece.definitions).definitions piece.definitions
+    (placing_of n (range_with_len 0 n) piece.definitions).places (range_with_len 0 all) columns definitions places
     ∙ ap (λ rows. let p : KeptPiece = record { space = piece.space; definitions = piece.definitions; rows = rows } in p)
     (placed_rows-own all piece.rows wide) in
     ap settled stays ∙ settled-own piece kept.normal

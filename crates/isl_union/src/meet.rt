@@ -36,7 +36,8 @@ fn met_piece(
     requires other { IsPieceOf params.now b.now }
     requires own_within { IsSystemWithin meter.old a.now.system }
     requires other_within { IsSystemWithin meter.old b.now.system }
-    ensures exact { IfOk result (λ met. IsLiveOf params.now (met_piece params.now (kept_piece a.now) (kept_piece b.now)) (option_map kept_piece met)) }
+    ensures exact { IfOk result
+        (λ met. IsLiveOf params.now (met_piece params.now (kept_piece a.now) (kept_piece b.now)) (option_map kept_piece met)) }
     ensures sound { IfOk result (λ met. IfSome met (IsPieceOf params.now)) }
     ensures units { MatchResult result (λ _. IsChargedFrom (pair_count (kept_piece a.now) (kept_piece b.now)) meter.old meter.new)
         (IsCutBy meter.old meter.new) }
@@ -63,9 +64,11 @@ fn met_with(
     requires others { All (IsPieceOf params.now) others.now }
     requires piece_within { IsSystemWithin meter.old piece.now.system }
     requires others_within { AreWithinLimit meter.old others.now }
-    ensures exact { IfOk result (λ met. AreLiveOf params.now (met_with params.now (map kept_piece others.now) (kept_piece piece.now)) (map kept_piece met.items)) }
+    ensures exact { IfOk result (λ met.
+        AreLiveOf params.now (met_with params.now (map kept_piece others.now) (kept_piece piece.now)) (map kept_piece met.items)) }
     ensures sound { IfOk result (λ met. All (IsPieceOf params.now) met.items) }
-    ensures units { MatchResult result (λ _. IsChargedFrom (partners (map kept_piece others.now) (kept_piece piece.now)) meter.old meter.new)
+    ensures units { MatchResult result
+        (λ _. IsChargedFrom (partners (map kept_piece others.now) (kept_piece piece.now)) meter.old meter.new)
         (IsCutBy meter.old meter.new) }
 {
     let mut met = Vec::new(alloc);
@@ -88,7 +91,8 @@ fn met_pieces(
     requires others { All (IsPieceOf params.now) others.now }
     requires pieces_within { AreWithinLimit meter.old pieces.now }
     requires others_within { AreWithinLimit meter.old others.now }
-    ensures exact { IfOk result (λ met. AreLiveOf params.now (met_pieces params.now (map kept_piece pieces.now) (map kept_piece others.now)) (map kept_piece met.items)) }
+    ensures exact { IfOk result (λ met. AreLiveOf params.now
+        (met_pieces params.now (map kept_piece pieces.now) (map kept_piece others.now)) (map kept_piece met.items)) }
     ensures sound { IfOk result (λ met. All (IsPieceOf params.now) met.items) }
     ensures units { MatchResult result
         (λ _. IsChargedFrom (sum_by (partners (map kept_piece others.now)) (map kept_piece pieces.now)) meter.old meter.new)

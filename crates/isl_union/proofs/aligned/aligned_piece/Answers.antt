@@ -1,12 +1,12 @@
-use Rattle.std.proofs.Common.{◌≡◌, sym, ap, ap₂, ◌∙◌, subst, ℕ, List, ◌+◌, ◌++◌, length}
-use Rattle.std.specs.List.{All, range_with_len}
+use Rattle.std.proofs.Common.{◌≡◌, sym, ap, ap₂, ◌∙◌, subst, ◌+◌, ◌++◌, length}
+use Rattle.std.specs.List.{range_with_len}
 use Rattle.std.proofs.lemmas.Result.{IfOk-weaker}
 use Rattle.isl_space.specs.Space.{space_form_of}
 use Rattle.isl_space.specs.SpaceForm.{SpaceForm, coordinates_of, IsWellFormedSpace}
 use Rattle.isl_piece.specs.Placed.{placed_system}
 use Rattle.isl_union.specs.KeptValue.{columns_of}
 use Rattle.isl_union.specs.Live.{settled}
-use Rattle.isl_union.specs.Moved.{aligned, column_places, places_in}
+use Rattle.isl_union.specs.Moved.{aligned, places_in}
 use Rattle.isl_union.specs.Piece.{kept_piece, piece_of}
 use Rattle.isl_union.proofs.AlignedLaws.{made_places, made_within, made_free, made_live, made_aligned}
 use Rattle.isl_union.proofs.aligned.aligned_piece.Goals as goal
@@ -17,7 +17,8 @@ placed-requires c =
     let width = c.width-width.ensures ∙ ap coordinates_of c.space-space.ensures in
     (made_places c.args.meter.now all c.args.names.now c.requires.names c.requires.among c.args.piece.now c.requires.piece c.requires.within
     (c.len.result + c.width-width.result) c.as_slice.result.now (ap₂ (λ m n. m + n) c.len.ensures.len width)
-    (c.as_slice.ensures.value ∙ c.in_ok-places.ensures ∙ ap (λ n. places_in all c.args.names.now ++ range_with_len (length all) n) width)).inside
+    (c.as_slice.ensures.value ∙ c.in_ok-places.ensures ∙ ap (λ n. places_in all c.args.names.now
+    ++ range_with_len (length all) n) width)).inside
 
 pub settled_piece-requires-clause-within : goal.settled_piece-requires-clause-within
 settled_piece-requires-clause-within c =

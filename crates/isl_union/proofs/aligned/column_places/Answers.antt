@@ -1,4 +1,4 @@
-use Rattle.std.proofs.Common.{◌≡◌, ◌++◌, ◌+◌, ◌∷◌, [], ◌∙◌, ap, length}
+use Rattle.std.proofs.Common.{◌++◌, ◌+◌, ◌∷◌, [], ◌∙◌, ap, length}
 use Rattle.isl_union.specs.Moved.{places_in}
 use Rattle.isl_union.proofs.PlacesLaws.{range_more}
 use Rattle.isl_union.proofs.aligned.column_places.Goals as goal

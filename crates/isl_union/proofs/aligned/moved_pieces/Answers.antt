@@ -1,6 +1,4 @@
-use Rattle.std.proofs.Common.{arith, ◌<◌, ◌≡◌, length, get_or}
-use Rattle.std.specs.List.{All}
-use Rattle.std.proofs.lemmas.Grind.{common_steps}
+use Rattle.std.proofs.Common.{arith, ◌<◌, length}
 use Rattle.std.proofs.lemmas.List.Elements.{All-push}
 use Rattle.isl_union.specs.Moved.{aligned}
 use Rattle.isl_union.specs.Piece.{IsPieceOf}

@@ -2,16 +2,14 @@ use Rattle.std.proofs.Common.{◌≡◌, refl, sym, ap, ap₂, ◌∙◌, subst,
 use Rattle.std.proofs.lemmas.Bool.{false≢true}
 use Rattle.std.proofs.lemmas.Result.{IfOk-weaker, MatchResult-weaker}
 use Rattle.isl_meter.proofs.CutLemmas.{IsCharged-unit, IsCutBy-after}
-use Rattle.isl_meter.specs.Gauge.{IsCharged, IsCutBy}
 use Rattle.isl_space.specs.Space.{space_form_of}
 use Rattle.isl_space.specs.SpaceForm.{SpaceForm, IsWellFormedSpace}
-use Rattle.isl_piece.specs.declared.system.System.{System}
 use Rattle.isl_piece.specs.Placed.{both_systems}
 use Rattle.isl_piece.specs.System.{IsSystemWithin, free_columns}
 use Rattle.isl_union.specs.Fault.{IsChargedFrom}
 use Rattle.isl_union.specs.KeptValue.{KeptPiece, IsVoid, columns_of}
 use Rattle.isl_union.specs.Live.{normal_of, IsLiveOf}
-use Rattle.isl_union.specs.Meet.{met_piece, pair_count}
+use Rattle.isl_union.specs.Meet.{met_piece}
 use Rattle.isl_union.specs.Piece.{kept_piece, piece_of, IsPieceOf}
 use Rattle.isl_union.proofs.MeetLaws.{met_apart, count_apart, met_both, count_together}
 use Rattle.isl_union.proofs.MeetSteps.{bits_after_unit}
@@ -39,7 +37,8 @@ meet-requires c =
     let a = c.args.a.now in
     let b = c.args.b.now in
     let same : a.space ≡ b.space = sym c.space-space.ensures ∙ c.if-not-same.ensures.0 refl ∙ c.space.ensures in
-    ap free_columns c.system.ensures ∙ view_free params a c.requires.own ∙ ap (columns_of params) same ∙ sym (view_free params b c.requires.other)
+    ap free_columns c.system.ensures ∙ view_free params a c.requires.own ∙ ap (columns_of params) same
+    ∙ sym (view_free params b c.requires.other)
     ∙ sym (ap free_columns c.system-2.ensures)
 
 pub live_piece-requires : goal.live_piece-requires
@@ -48,7 +47,8 @@ live_piece-requires c =
     let h = c.unit.new.self in
     c.in_ok-both.ensures.within h
     (subst (IsSystemWithin h) (sym c.system.ensures) (bits_after_unit g h c.args.a.now.system c.in_ok-unit.ensures.1 c.requires.own_within))
-    (subst (IsSystemWithin h) (sym c.system-2.ensures) (bits_after_unit g h c.args.b.now.system c.in_ok-unit.ensures.1 c.requires.other_within))
+    (subst (IsSystemWithin h) (sym c.system-2.ensures) (bits_after_unit g h c.args.b.now.system c.in_ok-unit.ensures.1
+    c.requires.other_within))
 
 pub returns-clause-exact : goal.returns-clause-exact
 returns-clause-exact c =
@@ -62,12 +62,12 @@ returns-clause-exact c =
     let own = subst (IsSystemWithin g) (sym c.system.ensures) c.requires.own_within in
     let other = subst (IsSystemWithin g) (sym c.system-2.ensures) c.requires.other_within in
     let free : free_columns both ≡ columns_of params space =
-        c.in_ok-both.ensures.free g own other ∙ ap free_columns c.system.ensures ∙ view_free params a c.requires.own
-        ∙ ap (columns_of params) (sym c.space-space.ensures) in
+    c.in_ok-both.ensures.free g own other ∙ ap free_columns c.system.ensures ∙ view_free params a c.requires.own
+    ∙ ap (columns_of params) (sym c.space-space.ensures) in
     let is = met_both params a b both same c.requires.own c.requires.other
-        (c.in_ok-both.ensures.exact ∙ ap₂ both_systems c.system.ensures c.system-2.ensures) in
+    (c.in_ok-both.ensures.exact ∙ ap₂ both_systems c.system.ensures c.system-2.ensures) in
     let whole : normal_of (piece_of space both) ≡ met_piece params (kept_piece a) (kept_piece b) =
-        ap (λ (s : SpaceForm). normal_of (piece_of s both)) c.space-space.ensures ∙ is in
+    ap (λ (s : SpaceForm). normal_of (piece_of s both)) c.space-space.ensures ∙ is in
     IfOk-weaker c.live_piece.result
     (λ found. IsLiveOf params (normal_of (piece_of space both)) (option_map kept_piece found) × IfSome found (IsPieceOf params))
     (λ found. IsLiveOf params (met_piece params (kept_piece a) (kept_piece b)) (option_map kept_piece found))
@@ -84,8 +84,8 @@ returns-clause-sound c =
     let own = subst (IsSystemWithin g) (sym c.system.ensures) c.requires.own_within in
     let other = subst (IsSystemWithin g) (sym c.system-2.ensures) c.requires.other_within in
     let free : free_columns both ≡ columns_of params space =
-        c.in_ok-both.ensures.free g own other ∙ ap free_columns c.system.ensures ∙ view_free params a c.requires.own
-        ∙ ap (columns_of params) (sym c.space-space.ensures) in
+    c.in_ok-both.ensures.free g own other ∙ ap free_columns c.system.ensures ∙ view_free params a c.requires.own
+    ∙ ap (columns_of params) (sym c.space-space.ensures) in
     IfOk-weaker c.live_piece.result
     (λ found. IsLiveOf params (normal_of (piece_of space both)) (option_map kept_piece found) × IfSome found (IsPieceOf params))
     (λ found. IfSome found (IsPieceOf params)) (λ found h. h.1)

@@ -1,5 +1,4 @@
 use Rattle.std.proofs.Common.{arith, ◌<◌, length, map}
-use Rattle.std.specs.List.{All}
 use Rattle.std.proofs.lemmas.List.Elements.{All-append}
 use Rattle.isl_piece.specs.System.{IsSystemWithin}
 use Rattle.isl_piece.proofs.FormedLaws.{system_within_kept}
@@ -34,6 +33,7 @@ loop-piece-preserved c =
       met = pieces_step pieces piece i low c.piece-item.is params others met c.append.new.pieces.items more c.in_ok-met_with.ensures.exact
           c.in_ok-append.ensures so_far.met;
       sound = rw c.in_ok-append.ensures (All-append (IsPieceOf params) met more so_far.sound c.in_ok-met_with.ensures.sound);
-      used = pieces_used pieces piece i low c.piece-item.is params others c.args.meter.now c.loop-piece.meter c.met_with.new.meter so_far.used
+      used = pieces_used pieces piece i low c.piece-item.is params others c.args.meter.now c.loop-piece.meter c.met_with.new.meter
+          so_far.used
           c.in_ok-met_with.ensures.units;
     }

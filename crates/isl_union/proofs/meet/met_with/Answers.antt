@@ -1,5 +1,4 @@
-use Rattle.std.proofs.Common.{arith, ◌<◌, length, map}
-use Rattle.std.specs.List.{All}
+use Rattle.std.proofs.Common.{arith, ◌<◌, length}
 use Rattle.isl_piece.specs.System.{IsSystemWithin}
 use Rattle.isl_piece.proofs.FormedLaws.{system_within_kept}
 use Rattle.isl_union.specs.Piece.{kept_piece, IsPieceOf}

@@ -8,7 +8,8 @@ use Rattle.isl_union.proofs.meet.met_with.Given as goal
 
 abbrev pub invariant-loop-other : goal.invariant-loop-other
 invariant-loop-other l = record {
-  met : AreLiveOf l.params (met_with l.params (take l.other-index (map kept_piece l.others)) (kept_piece l.piece)) (map kept_piece l.met.items);
+  met : AreLiveOf l.params (met_with l.params (take l.other-index (map kept_piece l.others)) (kept_piece l.piece))
+      (map kept_piece l.met.items);
   sound : All (IsPieceOf l.params) l.met.items;
   used : IsChargedFrom (partners (take l.other-index (map kept_piece l.others)) (kept_piece l.piece)) l.fn.meter l.meter;
 }

@@ -1,4 +1,4 @@
-use Rattle.std.proofs.Common.{◌≡◌, refl, sym, ap, ap₂, ◌∙◌, arith, subst, ◌≤◌, length, List, unsigned_abs}
+use Rattle.std.proofs.Common.{sym, ap₂, ◌∙◌, subst, ◌≤◌, length, List, unsigned_abs}
 use Rattle.std.specs.List.{All, Contains}
 use Rattle.isl_meter.specs.Gauge.{limit_of}
 use Rattle.isl_space.specs.Limits.{most_parameters}
@@ -6,10 +6,10 @@ use Rattle.isl_space.specs.Name.{Name}
 use Rattle.isl_space.specs.Names.{IsParameterList, joined}
 use Rattle.isl_union.specs.Fault.{IsChargedFrom}
 use Rattle.isl_union.specs.KeptValue.{IsKeptValue}
-use Rattle.isl_union.specs.Meet.{pairs_of_one_space}
 use Rattle.isl_union.specs.Moved.{aligned_pieces}
 use Rattle.isl_union.proofs.PieceLaws.{IsKeptValue-from_pieces}
-use Rattle.isl_union.proofs.ValueLaws.{first_in, second_in, aligned_small, meet_has, meet_plain, meet_small, meet_written, pairs_are, pieces_within}
+use Rattle.isl_union.proofs.ValueLaws.{first_in, second_in, aligned_small, meet_has, meet_plain, meet_small, meet_written, pairs_are}
+use Rattle.isl_union.proofs.ValueLaws.{pieces_within}
 use Rattle.isl_union.proofs.value.Value.meet.Goals as goal
 
 pub aligned_pieces-requires-clause-among : goal.aligned_pieces-requires-clause-among
@@ -50,7 +50,8 @@ met_pieces-requires-clause-others_within c =
     rw c.as_slice-2.ensures.value
     (pieces_within g c.in_ok-params.params c.in_ok-others.others.items (aligned_pieces c.in_ok-params.params b) c.in_ok-others.ensures.sound
     c.in_ok-others.ensures.exact
-    (aligned_small g c.in_ok-params.params b c.in_ok-others.ensures.kept c.requires.other there (unsigned_abs (limit_of g)) c.requires.other))
+    (aligned_small g c.in_ok-params.params b c.in_ok-others.ensures.kept c.requires.other there (unsigned_abs (limit_of g))
+    c.requires.other))
 
 pub returns-clause-kept : goal.returns-clause-kept
 returns-clause-kept c =

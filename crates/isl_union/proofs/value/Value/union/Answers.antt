@@ -1,4 +1,4 @@
-use Rattle.std.proofs.Common.{◌≡◌, refl, sym, ap, ap₂, ◌∙◌, arith, subst, List}
+use Rattle.std.proofs.Common.{sym, ap, ap₂, ◌∙◌, subst, List}
 use Rattle.std.specs.List.{All, Contains}
 use Rattle.std.proofs.lemmas.List.Elements.{All-append}
 use Rattle.isl_space.specs.Name.{Name}
