@@ -1,6 +1,6 @@
 -- What values say of one another.
 use Rattle.std.proofs.Common.{◌≡◌, ◌↔◌, refl, sym, ap, ◌∙◌, arith, subst, ℕ, ◌+◌, ◌<◌, ℤ, List, [], ◌∷◌, ◌++◌, Any, length, get_or, map, take, drop, take-append-drop}
-use Rattle.std.proofs.Common.{inl, inr}
+use Rattle.std.proofs.Common.{inl, inr, Bool, IfOk, IsTrue, Result, Ok, Err}
 use Rattle.std.specs.List.{zip}
 use Rattle.std.proofs.lemmas.List.{length-drop, length-take-le}
 use Rattle.isl_math.proofs.ListLaws.{Any-first, Any-none, Any-one, Any-parts}
@@ -16,7 +16,7 @@ use Rattle.isl_piece.specs.Piece.{PieceView}
 use Rattle.isl_piece.specs.System.{HoldsSystem, free_columns}
 use Rattle.isl_elim.specs.Elimination.{HoldsAtAny}
 use Rattle.isl_difference.specs.Difference.{IsCovered}
-use Rattle.isl_union.specs.Compare.{AreEqual, IsSubset}
+use Rattle.isl_union.specs.Compare.{IsSubset}
 use Rattle.isl_union.specs.KeptValue.{KeptPiece, KeptValue, HasElement, columns_of, point_of}
 use Rattle.isl_union.specs.Minus.{systems_in, AreCovered, ArePiecesOver}
 use Rattle.isl_union.specs.Piece.{kept_piece, IsPieceOf}
@@ -67,6 +67,12 @@ module _ (params : List Name) (p : PieceView) (sound : IsPieceOf params p) (othe
       (record { numbers = numbers; space = refl; holds = subst (HoldsSystem p.system) (sym is) holds })) in
       subst (HoldsAtAny systems) is
       (subst (λ ss. HoldsAtAny ss (point_of params v e)) (sym are) ((in_space params v e p.space others numbers refl).1 has))
+
+-- an answer that is yes only where Q is so, and there, says whether P is so, if P is so exactly where Q is
+pub true_exactly : {E : Type 0} (Q P : Type 0) (r : Result Bool E) → (Q → P) → (P → Q) → IfOk r (λ b. IsTrue b → Q)
+    → IfOk r (λ b. Q → IsTrue b) → IfOk r (λ b. IsTrue b ↔ P)
+true_exactly Q P (Ok b) f k h q = ((λ t. f (h t)), (λ p. q (k p)))
+true_exactly Q P (Err e) f k h q = tt
 
 -- ---- one piece after another
 pub covered_first : (params : List Name) (others : List KeptPiece) → AreCovered params [] others

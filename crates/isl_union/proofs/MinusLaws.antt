@@ -169,7 +169,8 @@ module _ (g : Gauge) (params : List Name) (p : PieceView) (sound : IsPieceOf par
         let point = point_of params v e in
         let Q : KeptPiece → Type 0 = HasElement params v e in
         let both = parts_have params v e p.space parts in
-        let long = λ numbers lies. element_long params v e p.space numbers lies ∙ sym (view_free params p sound) in (
+        let long : IsElement e → p.space ≡ e.space → length point ≡ free_columns p.system = λ numbers lies.
+            element_long params v e p.space numbers lies ∙ sym (view_free params p sound) in (
           (λ a. let h = both.0 a in
               let out = (difference.points point (long h.0 h.1)).0 h.2 in (
                 Any-first Q (kept_piece p) [] (record { numbers = h.0; space = h.1; holds = out.0 }),

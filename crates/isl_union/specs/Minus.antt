@@ -47,8 +47,8 @@ pub record ArePiecesOver (g : Gauge) (params : List Name) (value : KeptValue) (p
       → Any (HasElement params valuation element) (map kept_piece pieces) ↔ Has value valuation element
 
 -- the pieces of the one value and of the other over their joined parameters
-pub record IsAlignedPair (g : Gauge) (a b : KeptValue) (params : List Name) (own others : List PieceView) : Type 0 where
-  pub params : params ≡ joined a.params b.params
-  pub well_formed : IsParameterList params
-  pub own : ArePiecesOver g params a own
-  pub others : ArePiecesOver g params b others
+pub record IsAlignedPair (g : Gauge) (a b : KeptValue) (all : List Name) (firsts seconds : List PieceView) : Type 0 where
+  pub params : all ≡ joined a.params b.params
+  pub well_formed : IsParameterList all
+  pub own : ArePiecesOver g all a firsts
+  pub others : ArePiecesOver g all b seconds

@@ -1,7 +1,7 @@
 use Rattle.std.proofs.Common.{◌≡◌, ◌<◌, arith, length, map}
 use Rattle.std.proofs.lemmas.Grind.{common_steps}
 use Rattle.std.proofs.lemmas.List.{length-map, nil_from_length}
-use Rattle.isl_difference.proofs.DifferenceLaws.{left_disjoint, left_more, left_none, left_within, system_within}
+use Rattle.isl_difference.proofs.DifferenceLaws.{left_columns, left_disjoint, left_more, left_none, left_within, system_within}
 use Rattle.isl_difference.proofs.PartitionLaws.{mapped_at}
 use Rattle.isl_difference.proofs.difference.outside.Goals as goal
 
@@ -16,6 +16,19 @@ all_without-requires-clause-disjoint c =
     let same : c.deref.result.now ≡ c.loop-other.left.items = grind (arith, common_steps) in
     rw same
     (left_disjoint c.args.meter.now c.loop-other.meter c.args.system.now others i c.other-item.result.now c.loop-other.left.items inside
+    is c.requires.columns c.loop-other.invariant)
+
+pub all_without-requires-clause-columns : goal.all_without-requires-clause-columns
+all_without-requires-clause-columns c =
+    let refs = c.args.others.now in
+    let others = map (λ o. o.now) refs in
+    let i = c.loop-other.other-index in
+    let low : i < length refs = grind (arith, common_steps) in
+    let inside : i < length others = rw (length-map refs (λ o. o.now)) low in
+    let is = mapped_at (λ o. o.now) refs i c.other-item.result low c.other-item.is in
+    let same : c.deref.result.now ≡ c.loop-other.left.items = grind (arith, common_steps) in
+    rw same
+    (left_columns c.args.meter.now c.loop-other.meter c.args.system.now others i c.other-item.result.now c.loop-other.left.items inside
     is c.requires.columns c.loop-other.invariant)
 
 pub returns-then-is_empty-clause-exact : goal.returns-then-is_empty-clause-exact
