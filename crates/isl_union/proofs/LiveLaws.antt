@@ -48,7 +48,8 @@ module _ (g : Gauge) (params : List Name) (piece : KeptPiece) (within : IsSystem
   pub none_void : normal_of piece ≡ None → IsVoid params piece
   none_void e point l h = by (normal_rows piece.rows) (hold_where point) e
     where
-      by : (o : Option (List Row)) → HoldWhere o (with_defined piece.definitions point) (HoldRows piece.rows (with_defined piece.definitions point))
+      by : (o : Option (List Row))
+          → HoldWhere o (with_defined piece.definitions point) (HoldRows piece.rows (with_defined piece.definitions point))
           → option_map (with_rows piece) o ≡ None → ⊥
       by None w e = w h
       by (Some rows) w e = none-some (with_rows piece rows) (sym e)
@@ -64,9 +65,10 @@ module _ (g : Gauge) (params : List Name) (piece : KeptPiece) (within : IsSystem
     pub normal_within : IsSystemWithin g (piece_system params new)
     normal_within = normal_case (λ p. IsSystemWithin g (piece_system params p)) piece new
         (λ rows e. record {
-          rows = subst (λ (o : Option (List Row)). IfSome o (All (IsWellFormed (length piece.definitions + columns_of params piece.space)))) e
-              (normal_rows_well_formed (length piece.definitions + columns_of params piece.space) piece.rows within.rows);
-          within = subst (λ (o : Option (List Row)). IfSome o (All (IsRowWithin g))) e (normal_rows_within g piece.rows moduli within.within);
+          rows = let n = length piece.definitions + columns_of params piece.space in
+              subst (λ (o : Option (List Row)). IfSome o (All (IsWellFormed n))) e (normal_rows_well_formed n piece.rows within.rows);
+          within = subst (λ (o : Option (List Row)). IfSome o (All (IsRowWithin g))) e
+              (normal_rows_within g piece.rows moduli within.within);
           count = within.count;
           definitions = within.definitions;
         }) is
@@ -128,8 +130,8 @@ pub settled-own : (piece : KeptPiece) → IsNormal piece.rows → settled piece 
 settled-own piece normal = ap (λ (o : Option (List Row)). with_rows piece (unwrap_or o [])) normal.itself
 
 -- ---- which pieces are kept
-pub live_append : (params : List Name) (pieces kept others more : List KeptPiece) → AreLiveOf params pieces kept → AreLiveOf params others more
-    → AreLiveOf params (pieces ++ others) (kept ++ more)
+pub live_append : (params : List Name) (pieces kept others more : List KeptPiece) → AreLiveOf params pieces kept
+    → AreLiveOf params others more → AreLiveOf params (pieces ++ others) (kept ++ more)
 live_append params [] kept others more is q = subst (λ (k : List KeptPiece). AreLiveOf params others (k ++ more)) (sym is) q
 live_append params (piece ∷ pieces) kept others more (inl p) q = inl (p.0, live_append params pieces kept others more p.1 q)
 live_append params (piece ∷ pieces) kept others more (inr p) q =
@@ -142,7 +144,8 @@ live_one params (Some piece) None h = inl (h, refl)
 live_one params piece (Some found) h = rw h.0 (inr (h.1, [], refl, refl))
 
 -- where each of the pieces has an element, all are kept
-pub live_every : (params : List Name) (pieces kept : List KeptPiece) → AreLiveOf params pieces kept → All (IsLive params) pieces → kept ≡ pieces
+pub live_every : (params : List Name) (pieces kept : List KeptPiece) → AreLiveOf params pieces kept → All (IsLive params) pieces
+    → kept ≡ pieces
 live_every params [] kept is all = is
 live_every params (piece ∷ pieces) kept (inl p) all = absurd (All-head (IsLive params) piece pieces all p.0)
 live_every params (piece ∷ pieces) kept (inr p) all =
@@ -159,7 +162,8 @@ pub live_all : (params : List Name) (P Q : KeptPiece → Type 0) → ((piece : K
 live_all params P Q f [] kept is all = rw is (All-nil Q)
 live_all params P Q f (piece ∷ pieces) kept (inl p) all = live_all params P Q f pieces kept p.1 (All-tail P piece pieces all)
 live_all params P Q f (piece ∷ pieces) kept (inr p) all =
-    rw p.2 (All-cons Q piece p.1 (f piece (All-head P piece pieces all) p.0) (live_all params P Q f pieces p.1 p.3 (All-tail P piece pieces all)))
+    rw p.2
+    (All-cons Q piece p.1 (f piece (All-head P piece pieces all) p.0) (live_all params P Q f pieces p.1 p.3 (All-tail P piece pieces all)))
 
 module _ (params : List Name) (v : Valuation) (e : Element) where
   abbrev H : KeptPiece → Type 0

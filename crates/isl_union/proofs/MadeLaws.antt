@@ -1,9 +1,9 @@
 -- Values that are made of pieces.
 use Rattle.std.proofs.Common.{◌≡◌, ◌↔◌, inl, inr, refl, sym, ap, ◌∙◌, arith, subst, ℕ, ◌+◌, ℤ, Option, Some, None, option_map}
-use Rattle.std.proofs.Common.{Bool, false, IsTrue, IfSome, List, [], ◌∷◌, All, Any, length, map, filter_map}
+use Rattle.std.proofs.Common.{Bool, false, IsTrue, IfSome, List, [], ◌∷◌, All, Any, get_or, length, map, filter_map}
 use Rattle.std.specs.List.{cons_option}
 use Rattle.std.specs.Option.{unwrap_or}
-use Rattle.std.proofs.lemmas.List.Elements.{All-cons, All-head, All-nil, All-tail}
+use Rattle.std.proofs.lemmas.List.Elements.{All-cons, All-head, All-map, All-nil, All-tail}
 use Rattle.std.proofs.lemmas.Option.{same_Some}
 use Rattle.isl_math.proofs.ListLaws.{Any-cases, Any-first, Any-later}
 use Rattle.isl_meter.specs.Gauge.{Gauge}
@@ -13,6 +13,7 @@ use Rattle.isl_space.specs.SpaceForm.{SpaceForm, IsWellFormedSpace}
 use Rattle.isl_space.specs.Valuation.{Valuation}
 use Rattle.isl_piece.specs.declared.row.Row.{Row}
 use Rattle.isl_piece.specs.declared.system.System.{System}
+use Rattle.isl_piece.specs.Formed.{IsSystemUpTo}
 use Rattle.isl_piece.specs.Normal.{normal_rows, normal_system}
 use Rattle.isl_piece.specs.Piece.{PieceView}
 use Rattle.isl_piece.specs.System.{HoldsSystem, IsSystemWithin, free_columns}
@@ -21,7 +22,8 @@ use Rattle.isl_union.specs.KeptValue.{KeptPiece, HasElement, IsLive, IsVoid, col
 use Rattle.isl_union.specs.Live.{normal_of, settled, AreLiveOf, IsLiveOf}
 use Rattle.isl_union.specs.Numbers.{IsPieceUpTo}
 use Rattle.isl_union.specs.Piece.{kept_piece, piece_of, IsPieceOf, IsPieceOver}
-use Rattle.isl_union.proofs.LiveLaws.{live_all, live_any, none_void, normal_has, normal_kept, normal_up_to, normal_void, settled_has, settled_kept, settled_up_to, with_rows}
+use Rattle.isl_union.proofs.LiveLaws.{live_all, live_any, none_void, normal_has, normal_kept, normal_up_to, normal_void, settled_has}
+use Rattle.isl_union.proofs.LiveLaws.{settled_kept, settled_up_to, with_rows}
 use Rattle.isl_union.proofs.SystemLaws.{columns_from, made_sound, over_is, system_is, void_has}
 
 -- ---- the normal form of a system
@@ -31,7 +33,8 @@ pub system_case : (P : System → Type 0) (s t : System)
 system_case P s t f e = by (normal_rows s.rows) refl e
   where
     by : (o : Option (List Row)) → normal_rows s.rows ≡ o
-        → option_map (λ rows. let u : System = record { columns = s.columns; definitions = s.definitions; rows = rows } in u) o ≡ Some t → P t
+        → option_map (λ rows. let u : System = record { columns = s.columns; definitions = s.definitions; rows = rows } in u) o ≡ Some t
+        → P t
     by None is e = cc
     by (Some rows) is e = subst P (same_Some (record { columns = s.columns; definitions = s.definitions; rows = rows }) t e) (f rows is)
 
@@ -47,14 +50,15 @@ pub not_true : (b : Bool) → b ≡ false → IsTrue b → ⊥
 not_true b e t = grind arith
 
 -- a piece that is made of a space and of a system with its normal rows
-pub settled_made : (m : PieceView) (space t : SpaceForm) (s : System) (rows : List Row) (o : Option (List Row)) → o ≡ normal_rows s.rows → o ≡ Some rows
-    → t ≡ space → m ≡ record { space = t; system = record { columns = s.columns; definitions = s.definitions; rows = rows } }
+pub settled_made : (m : PieceView) (space t : SpaceForm) (s : System) (rows : List Row) (o : Option (List Row)) → o ≡ normal_rows s.rows
+    → o ≡ Some rows → t ≡ space
+    → m ≡ record { space = t; system = record { columns = s.columns; definitions = s.definitions; rows = rows } }
     → kept_piece m ≡ settled (piece_of space s)
 settled_made m space t s rows o exact some same is =
     ap (λ (x : PieceView). kept_piece x) is
     ∙ ap (λ (u : SpaceForm). let p : KeptPiece = record { space = u; definitions = s.definitions; rows = rows } in p) same
     ∙ ap (λ (rs : List Row). let p : KeptPiece = record { space = space; definitions = s.definitions; rows = rs } in p)
-        (ap (λ (p : Option (List Row)). unwrap_or p []) (sym some ∙ exact))
+    (ap (λ (p : Option (List Row)). unwrap_or p []) (sym some ∙ exact))
 
 -- ---- one piece
 module _ (g : Gauge) (params : List Name) (space : SpaceForm) (s : System) (within : IsSystemWithin g s)
@@ -102,7 +106,8 @@ module _ (g : Gauge) (params : List Name) (space : SpaceForm) (s : System) (with
         made_sound params m (kept_piece m) refl
         (rw made (system_case (λ u. u.columns ≡ length u.definitions + columns_of params space) s t
         (λ rows e. columns_from g params space s within free) is))
-        (normal_kept g params there here_within (kept_piece m) new_is formed (λ void. new_live ((normal_void g params there here_within (kept_piece m) new_is).1 void)))
+        (normal_kept g params there here_within (kept_piece m) new_is formed
+        (λ void. new_live ((normal_void g params there here_within (kept_piece m) new_is).1 void)))
 
   -- ---- a piece that has elements
   module _ (live : ¬ IsNowhere (free_columns s) (HoldsSystem s)) where
@@ -127,6 +132,17 @@ module _ (g : Gauge) (params : List Name) where
   pub over_here : (p : PieceView) → IsPieceOver g params p → IsOver (kept_piece p)
   over_here p over = (over.space, subst (IsSystemWithin g) (over_is g params p over) over.within)
 
+  pub all_over : (pieces : List PieceView) → All (IsPieceOver g params) pieces → All IsOver (map kept_piece pieces)
+  all_over pieces all = All-map IsOver kept_piece pieces (λ k d l. over_here (get_or pieces k d) (all k d l))
+
+  pub all_live : (pieces : List PieceView) → All (IsPieceOver g params) pieces
+      → All (λ piece. ¬ IsNowhere (free_columns piece.system) (HoldsSystem piece.system)) pieces
+      → All (IsLive params) (map kept_piece pieces)
+  all_live pieces all live = All-map (IsLive params) kept_piece pieces (λ k d l.
+      let piece = get_or pieces k d in
+      let over = all k d l in
+      here_live g params piece.space piece.system over.within over.columns (live k d l))
+
   module _ (v : Valuation) (e : Element) where
     abbrev H : KeptPiece → Type 0
     H = HasElement params v e
@@ -138,7 +154,8 @@ module _ (g : Gauge) (params : List Name) where
         by within (normal_of piece) refl (normal_any pieces (All-tail IsOver piece pieces all))
       where
         by : IsSystemWithin g (piece_system params piece) → (o : Option KeptPiece) → normal_of piece ≡ o
-            → Any H (filter_map normal_of pieces) ↔ Any H pieces → Any H (cons_option o (filter_map normal_of pieces)) ↔ Any H (piece ∷ pieces)
+            → Any H (filter_map normal_of pieces) ↔ Any H pieces
+            → Any H (cons_option o (filter_map normal_of pieces)) ↔ Any H (piece ∷ pieces)
         by within None is rest = (
           (λ a. Any-later H piece pieces (rest.0 a)),
           (λ a. elim (Any-cases H piece pieces a) [
@@ -165,7 +182,8 @@ module _ (g : Gauge) (params : List Name) where
         let other = normal_any pieces all in
         ((λ a. other.0 (one.0 a)), (λ a. one.1 (other.1 a)))
 
-    pub settled_have : (pieces : List KeptPiece) → All IsOver pieces → All (IsLive params) pieces → Any H (map settled pieces) ↔ Any H pieces
+    pub settled_have : (pieces : List KeptPiece) → All IsOver pieces → All (IsLive params) pieces
+        → Any H (map settled pieces) ↔ Any H pieces
     settled_have [] all live = ((λ a. a), (λ a. a))
     settled_have (piece ∷ pieces) all live =
         let own = settled_has g params piece (All-head IsOver piece pieces all).1 (All-head (IsLive params) piece pieces live) v e in
@@ -179,6 +197,11 @@ module _ (g : Gauge) (params : List Name) where
             | inr m ↦ Any-later H (settled piece) (map settled pieces) (rest.1 m)
           ]),
         )
+
+  pub all_small : (b : ℕ) (pieces : List PieceView) → All (λ piece. IsSystemUpTo b piece.system) pieces
+      → All (IsPieceUpTo b) (map kept_piece pieces)
+  all_small b pieces small =
+      All-map (IsPieceUpTo b) kept_piece pieces (λ k d l. record { rows = (small k d l).rows; definitions = (small k d l).definitions })
 
   normal_small : (b : ℕ) (pieces : List KeptPiece) → All IsOver pieces → All (IsPieceUpTo b) pieces
       → All (IsPieceUpTo b) (filter_map normal_of pieces)
@@ -196,7 +219,8 @@ module _ (g : Gauge) (params : List Name) where
   pub live_small : (b : ℕ) (pieces kept : List KeptPiece) → All IsOver pieces → AreLiveOf params (filter_map normal_of pieces) kept
       → All (IsPieceUpTo b) pieces → All (IsPieceUpTo b) kept
   live_small b pieces kept all live small =
-      live_all params (IsPieceUpTo b) (IsPieceUpTo b) (λ piece up l. up) (filter_map normal_of pieces) kept live (normal_small b pieces all small)
+      live_all params (IsPieceUpTo b) (IsPieceUpTo b) (λ piece up l. up) (filter_map normal_of pieces) kept live
+      (normal_small b pieces all small)
 
   pub settled_small : (b : ℕ) (pieces : List KeptPiece) → All IsOver pieces → All (IsLive params) pieces → All (IsPieceUpTo b) pieces
       → All (IsPieceUpTo b) (map settled pieces)

@@ -1,6 +1,6 @@
 -- Pieces that a value has, by content.
-use Rattle.std.proofs.Common.{◌≡◌, ◌<◌, ◌≤◌, ◌+◌, ℕ, Bool, false, nat_eq, IsTrue, List, [], ◌∷◌, ◌++◌, map, take, length, get_or, refl, sym, ap, ◌∙◌, ◌↔◌}
-use Rattle.std.proofs.Common.{subst, arith, All, Any}
+use Rattle.std.proofs.Common.{◌≡◌, ◌<◌, ◌≤◌, ◌+◌, ℕ, Bool, false, nat_eq, IsTrue, List, [], ◌∷◌, ◌++◌}
+use Rattle.std.proofs.Common.{map, take, length, get_or, refl, sym, ap, ◌∙◌, ◌↔◌, subst, arith, All, Any}
 use Rattle.std.proofs.lemmas.Bool.{false≢true}
 use Rattle.std.proofs.lemmas.List.{map_more, map-append, take_all}
 use Rattle.std.proofs.lemmas.List.Elements.{All-head, All-map, All-nil, All-push}
@@ -65,11 +65,12 @@ empty_exactly value kept = (
     by [] kept none = refl
     by (piece ∷ pieces) all none =
         absurd ((All-head (IsKeptPiece value.params) piece pieces all).live
-        ((void_exactly value.params piece kept.params.distinct).1 (λ v e has. none v e (Any-first (HasElement value.params v e) piece pieces has))))
+        ((void_exactly value.params piece kept.params.distinct).1
+        (λ v e has. none v e (Any-first (HasElement value.params v e) piece pieces has))))
 
 -- so is it told by the number of its pieces
-pub empty_told : (b : Bool) (pieces : List PieceView) (value : KeptValue) → b ≡ nat_eq (length pieces) 0 → map kept_piece pieces ≡ value.pieces
-    → IsKeptValue value → IsTrue b ↔ IsEmpty value
+pub empty_told : (b : Bool) (pieces : List PieceView) (value : KeptValue) → b ≡ nat_eq (length pieces) 0
+    → map kept_piece pieces ≡ value.pieces → IsKeptValue value → IsTrue b ↔ IsEmpty value
 empty_told b [] value e is kept = ((λ t. (empty_exactly value kept).0 (sym is)), (λ empty. e))
 empty_told b (piece ∷ pieces) value e is kept =
     let no : nat_eq (length (piece ∷ pieces)) 0 ≡ false = grind arith in (

@@ -209,7 +209,8 @@ module _ (a b : KeptValue) (p : IsKeptValue a) (q : IsKeptValue b) where
         let others = aligned_pieces params b in
         let first = subst (λ (l : List Name). All (Contains l) a.params) (sym is.params) first_there in
         let second = subst (λ (l : List Name). All (Contains l) b.params) (sym is.params) second_there in
-        live_all params (IsPieceUpTo limit) (IsPieceUpTo limit) (λ piece small live. small) (met_pieces params own others) value.pieces is.pieces
+        live_all params (IsPieceUpTo limit) (IsPieceUpTo limit) (λ piece small live. small) (met_pieces params own others) value.pieces
+        is.pieces
         (pieces_small g params limit own others (aligned_fit g params a p h first) (aligned_fit g params b q k second)
         (aligned_small g params a p h first limit s) (aligned_small g params b q k second limit t))
 

@@ -54,7 +54,8 @@ pub fn live_piece(
     meter: &mut Meter,
 ) -> Result<Option<Piece>, Cut>
     requires { IsSystemWithin meter.old system }
-    ensures found { (params : List Name) → IsWellFormedSpace (space_form_of space.now) → free_columns system ≡ columns_of params (space_form_of space.now)
+    ensures found { (params : List Name) → IsWellFormedSpace (space_form_of space.now)
+        → free_columns system ≡ columns_of params (space_form_of space.now)
         → IfOk result (λ found. IsLiveOf params (normal_of (piece_of (space_form_of space.now) system)) (option_map kept_piece found)
         × IfSome found (IsPieceOf params)) }
     ensures meter { MatchResult result (λ _. IsCharged meter.old meter.new) (IsCutBy meter.old meter.new) }
@@ -79,8 +80,8 @@ pub fn settled_piece(
     requires within { IsSystemWithin meter.now system }
     requires live { ¬ IsNowhere (free_columns system) (HoldsSystem system) }
     ensures exact { IfOk result (λ piece. kept_piece piece ≡ settled (piece_of (space_form_of space.now) system)) }
-    ensures sound { (params : List Name) → IsWellFormedSpace (space_form_of space.now) → free_columns system ≡ columns_of params (space_form_of space.now)
-        → IfOk result (IsPieceOf params) }
+    ensures sound { (params : List Name) → IsWellFormedSpace (space_form_of space.now)
+        → free_columns system ≡ columns_of params (space_form_of space.now) → IfOk result (IsPieceOf params) }
 {
     match system.rows.normalise(alloc, meter)? {
         None => unreachable!(),
@@ -119,7 +120,8 @@ fn live_pieces(
     meter: &mut Meter,
 ) -> Result<Vec<Piece>, Cut>
     requires { All (IsPieceOver meter.old params.now) pieces.now }
-    ensures exact { IfOk result (λ kept. AreLiveOf params.now (filter_map normal_of (map kept_piece pieces.now)) (map kept_piece kept.items)) }
+    ensures exact { IfOk result
+        (λ kept. AreLiveOf params.now (filter_map normal_of (map kept_piece pieces.now)) (map kept_piece kept.items)) }
     ensures sound { IfOk result (λ kept. All (IsPieceOf params.now) kept.items) }
     ensures meter { MatchResult result (λ _. IsCharged meter.old meter.new) (IsCutBy meter.old meter.new) }
 {

@@ -18,5 +18,8 @@ returns-in_ok-new-in-Some-clause-found c params formed free =
     let t = c.in-Some.live in
     let m = c.in_ok-new-in-Some.field-0 in
     let form = rw c.in-Some.is at c.in_ok-live_system.ensures.0 in
-    let made = c.in_ok-new-in-Some.ensures ∙ ap (λ (u : SpaceForm). let p : PieceView = record { space = u; system = t } in p) c.in_ok-copy-in-Some.ensures in
-    (found_some g params space s c.requires free t form.0 form.1 m made, found_sound g params space s c.requires free t form.0 form.1 m made formed)
+    let made = c.in_ok-new-in-Some.ensures
+    ∙ ap (λ (u : SpaceForm). let p : PieceView = record { space = u; system = t } in p) c.in_ok-copy-in-Some.ensures in (
+      found_some g params space s c.requires free t form.0 form.1 m made,
+      found_sound g params space s c.requires free t form.0 form.1 m made formed,
+    )

@@ -17,7 +17,7 @@ live_piece-requires c =
     let piece = c.piece-item.result in
     let low : c.loop-piece.piece-index < length c.args.pieces.now = omega arith in
     let over = over_later g h params piece c.loop-piece.invariant.charged
-        (item_has (IsPieceOver g params) c.args.pieces.now c.loop-piece.piece-index piece low c.piece-item.is c.requires) in
+    (item_has (IsPieceOver g params) c.args.pieces.now c.loop-piece.piece-index piece low c.piece-item.is c.requires) in
     subst (IsSystemWithin h) (sym (c.in_ok-system.ensures ∙ c.system.ensures)) over.within
 
 pub loop-piece-preserved : goal.loop-piece-preserved
@@ -36,12 +36,13 @@ loop-piece-preserved c =
     let is : system ≡ piece.system = c.in_ok-system.ensures ∙ c.system.ensures in
     let formed = subst IsWellFormedSpace (sym c.space.ensures) over.space in
     let free : free_columns system ≡ columns_of params (space_form_of c.space.result.now) =
-        ap free_columns is ∙ over.columns ∙ ap (columns_of params) (sym c.space.ensures) in
+    ap free_columns is ∙ over.columns ∙ ap (columns_of params) (sym c.space.ensures) in
     let both = c.in_ok-live_piece.ensures.found params formed free in
     let exact : IsLiveOf params (normal_of (kept_piece piece)) (option_map kept_piece found) =
-        subst (λ (p : KeptPiece). IsLiveOf params (normal_of p) (option_map kept_piece found)) (ap₂ piece_of c.space.ensures is) both.0 in
+    subst (λ (p : KeptPiece). IsLiveOf params (normal_of p) (option_map kept_piece found)) (ap₂ piece_of c.space.ensures is) both.0 in
     record {
-      kept = live_step pieces piece i low c.piece-item.is params kept c.push_found.new.kept.items found exact c.in_ok-push_found.ensures so_far.kept;
+      kept = live_step pieces piece i low c.piece-item.is params kept c.push_found.new.kept.items found exact
+          c.in_ok-push_found.ensures so_far.kept;
       sound = found_sound (IsPieceOf params) kept c.push_found.new.kept.items found so_far.sound both.1 c.in_ok-push_found.ensures;
       charged = IsCharged_trans g c.loop-piece.meter c.live_piece.new.meter so_far.charged c.in_ok-live_piece.ensures.meter;
     }

@@ -22,8 +22,8 @@ returns-clause-exact c =
     let made : System = record { columns = s.columns; definitions = s.definitions; rows = rows } in
     IfOk-weaker c.new.result (λ m. m ≡ record { space = space_form_of c.in_ok-copy-in-Some.field-0; system = made })
     (λ m. kept_piece m ≡ settled (piece_of space s))
-    (λ m is. settled_made m space (space_form_of c.in_ok-copy-in-Some.field-0) s rows c.in_ok-normalise.field-0 c.in_ok-normalise.ensures.exact c.in-Some.is
-    c.in_ok-copy-in-Some.ensures is) c.new.ensures
+    (λ m is. settled_made m space (space_form_of c.in_ok-copy-in-Some.field-0) s rows c.in_ok-normalise.field-0
+    c.in_ok-normalise.ensures.exact c.in-Some.is c.in_ok-copy-in-Some.ensures is) c.new.ensures
 
 pub returns-clause-sound : goal.returns-clause-sound
 returns-clause-sound c params formed free =
@@ -33,5 +33,6 @@ returns-clause-sound c params formed free =
     let made : System = record { columns = s.columns; definitions = s.definitions; rows = rows } in
     IfOk-weaker c.new.result (λ m. m ≡ record { space = space_form_of c.in_ok-copy-in-Some.field-0; system = made }) (IsPieceOf params)
     (λ m is. settled_sound c.args.meter.now params space s c.requires.within free c.requires.live m
-    (settled_made m space (space_form_of c.in_ok-copy-in-Some.field-0) s rows c.in_ok-normalise.field-0 c.in_ok-normalise.ensures.exact c.in-Some.is
-    c.in_ok-copy-in-Some.ensures is) (ap (λ (x : PieceView). x.system.columns) is) formed) c.new.ensures
+    (settled_made m space (space_form_of c.in_ok-copy-in-Some.field-0) s rows c.in_ok-normalise.field-0
+    c.in_ok-normalise.ensures.exact c.in-Some.is c.in_ok-copy-in-Some.ensures is)
+    (ap (λ (x : PieceView). x.system.columns) is) formed) c.new.ensures

@@ -16,8 +16,9 @@ pub settled_piece-requires-clause-within : goal.settled_piece-requires-clause-wi
 settled_piece-requires-clause-within c =
     let piece = c.piece-item.result in
     let low : c.loop-piece.piece-index < length c.args.pieces.now = omega arith in
-    let over = item_has (IsPieceOver c.args.meter.now c.args.params.now) c.args.pieces.now c.loop-piece.piece-index piece low c.piece-item.is
-        c.requires.pieces in
+    let over = item_has (IsPieceOver c.args.meter.now c.args.params.now) c.args.pieces.now c.loop-piece.piece-index piece low
+    c.piece-item.is
+    c.requires.pieces in
     subst (IsSystemWithin c.args.meter.now) (sym (c.in_ok-system.ensures ∙ c.system.ensures)) over.within
 
 pub settled_piece-requires-clause-live : goal.settled_piece-requires-clause-live
@@ -41,10 +42,11 @@ loop-piece-preserved c =
     let is : c.in_ok-system.system ≡ piece.system = c.in_ok-system.ensures ∙ c.system.ensures in
     let formed = subst IsWellFormedSpace (sym c.space.ensures) over.space in
     let free : free_columns c.in_ok-system.system ≡ columns_of params (space_form_of c.space.result.now) =
-        ap free_columns is ∙ over.columns ∙ ap (columns_of params) (sym c.space.ensures) in
+    ap free_columns is ∙ over.columns ∙ ap (columns_of params) (sym c.space.ensures) in
     record {
       kept = moved_more settled pieces kept c.push.new.self.items i piece x low c.piece-item.is
-          (c.in_ok-settled_piece.ensures.exact ∙ ap settled (ap₂ piece_of c.space.ensures is)) c.in_ok-push.ensures.items c.loop-piece.invariant.kept;
+          (c.in_ok-settled_piece.ensures.exact ∙ ap settled (ap₂ piece_of c.space.ensures is))
+          c.in_ok-push.ensures.items c.loop-piece.invariant.kept;
       sound = rw c.in_ok-push.ensures.items (All-push (IsPieceOf params) kept x c.loop-piece.invariant.sound
           (c.in_ok-settled_piece.ensures.sound params formed free));
     }

@@ -1,9 +1,7 @@
-use Rattle.std.proofs.Common.{◌∙◌, ap, sym, subst, map, get_or, List}
-use Rattle.std.proofs.lemmas.List.Elements.{All-map}
-use Rattle.isl_union.specs.KeptValue.{KeptPiece, KeptValue, IsKeptValue, IsLive}
-use Rattle.isl_union.specs.Numbers.{IsPieceUpTo}
+use Rattle.std.proofs.Common.{◌∙◌, ap, sym, subst, map, List}
+use Rattle.isl_union.specs.KeptValue.{KeptPiece, KeptValue, IsKeptValue}
 use Rattle.isl_union.specs.Piece.{kept_piece}
-use Rattle.isl_union.proofs.MadeLaws.{settled_have, settled_small, over_here, IsOver}
+use Rattle.isl_union.proofs.MadeLaws.{all_live, all_over, all_small, settled_have, settled_small}
 use Rattle.isl_union.proofs.PieceLaws.{IsKeptValue-from_pieces}
 use Rattle.isl_union.proofs.value.Value.from_live.Goals as goal
 
@@ -31,8 +29,8 @@ returns-clause-elements c v e =
     let pieces = c.args.pieces.items in
     rw (returns-clause-written c)
     (settled_have g params v e (map kept_piece pieces)
-    (All-map (IsOver g params) kept_piece pieces (λ k d l. over_here g params (get_or pieces k d) (c.requires.pieces k d l)))
-    (All-map (IsLive params) kept_piece pieces (λ k d l void. c.requires.live k d l (λ q m h. void q (m ∙ (c.requires.pieces k d l).columns) h))))
+    (all_over g params pieces c.requires.pieces)
+    (all_live g params pieces c.requires.pieces c.requires.live))
 
 pub returns-clause-numbers : goal.returns-clause-numbers
 returns-clause-numbers c most h =
@@ -41,6 +39,6 @@ returns-clause-numbers c most h =
     let pieces = c.args.pieces.items in
     rw (returns-clause-written c)
     (settled_small g params most (map kept_piece pieces)
-    (All-map (IsOver g params) kept_piece pieces (λ k d l. over_here g params (get_or pieces k d) (c.requires.pieces k d l)))
-    (All-map (IsLive params) kept_piece pieces (λ k d l void. c.requires.live k d l (λ q m j. void q (m ∙ (c.requires.pieces k d l).columns) j)))
-    (All-map (IsPieceUpTo most) kept_piece pieces (λ k d l. record { rows = (h k d l).rows; definitions = (h k d l).definitions })))
+    (all_over g params pieces c.requires.pieces)
+    (all_live g params pieces c.requires.pieces c.requires.live)
+    (all_small g params most pieces h))

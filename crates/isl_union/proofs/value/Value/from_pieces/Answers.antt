@@ -1,9 +1,7 @@
-use Rattle.std.proofs.Common.{sym, subst, map, get_or}
-use Rattle.std.proofs.lemmas.List.Elements.{All-map}
+use Rattle.std.proofs.Common.{sym, subst, map}
 use Rattle.isl_union.specs.KeptValue.{IsKeptValue}
-use Rattle.isl_union.specs.Numbers.{IsPieceUpTo}
 use Rattle.isl_union.specs.Piece.{kept_piece}
-use Rattle.isl_union.proofs.MadeLaws.{live_have, live_small, over_here, IsOver}
+use Rattle.isl_union.proofs.MadeLaws.{all_over, all_small, live_have, live_small}
 use Rattle.isl_union.proofs.PieceLaws.{IsKeptValue-from_pieces}
 use Rattle.isl_union.proofs.value.Value.from_pieces.Goals as goal
 
@@ -30,7 +28,7 @@ returns-clause-elements c v e =
     let whole = rw c.as_slice.ensures.value at exact in
     rw c.from_normal.ensures
     (live_have g params v e (map kept_piece pieces) (map kept_piece c.in_ok-kept.kept.items)
-    (All-map (IsOver g params) kept_piece pieces (λ k d l. over_here g params (get_or pieces k d) (c.requires.pieces k d l))) whole)
+    (all_over g params pieces c.requires.pieces) whole)
 
 pub returns-clause-numbers : goal.returns-clause-numbers
 returns-clause-numbers c most h =
@@ -41,5 +39,5 @@ returns-clause-numbers c most h =
     let whole = rw c.as_slice.ensures.value at exact in
     rw c.from_normal.ensures
     (live_small g params most (map kept_piece pieces) (map kept_piece c.in_ok-kept.kept.items)
-    (All-map (IsOver g params) kept_piece pieces (λ k d l. over_here g params (get_or pieces k d) (c.requires.pieces k d l))) whole
-    (All-map (IsPieceUpTo most) kept_piece pieces (λ k d l. record { rows = (h k d l).rows; definitions = (h k d l).definitions })))
+    (all_over g params pieces c.requires.pieces) whole
+    (all_small g params most pieces h))
