@@ -16,7 +16,7 @@ use Rattle.isl_piece.specs.Piece.{PieceView}
 use Rattle.isl_piece.specs.System.{HoldsSystem, free_columns}
 use Rattle.isl_elim.specs.Elimination.{HoldsAtAny}
 use Rattle.isl_difference.specs.Difference.{IsCovered}
-use Rattle.isl_union.specs.Compare.{IsSubset}
+use Rattle.isl_union.specs.Compare.{AreEqual, IsSubset}
 use Rattle.isl_union.specs.KeptValue.{KeptPiece, KeptValue, HasElement, columns_of, point_of}
 use Rattle.isl_union.specs.Minus.{systems_in, AreCovered, ArePiecesOver}
 use Rattle.isl_union.specs.Piece.{kept_piece, IsPieceOf}
@@ -104,3 +104,21 @@ module _ (g : Gauge) (params : List Name) (a b : KeptValue) (own others : List P
     (λ h v e x. (q.elements v e).0 (h.elements v e ((p.elements v e).1 x))),
     (λ h. record { elements = λ v e x. (q.elements v e).1 (h v e ((p.elements v e).0 x)) }),
   )
+
+  -- an answer that says so of the pieces says so of the values
+  pub subset_value : (r : Bool) → (IsTrue r ↔ AreCovered params (map kept_piece own) (map kept_piece others)) → IsTrue r ↔ IsSubset a b
+  subset_value r h = ((λ t. covered_value.0 (h.0 t)), (λ s. h.1 (covered_value.1 s)))
+
+pub equal_value : (g : Gauge) (params : List Name) (a b : KeptValue) (own others : List PieceView) → ArePiecesOver g params a own
+    → ArePiecesOver g params b others → (r : Bool)
+    → (IsTrue r ↔ (AreCovered params (map kept_piece own) (map kept_piece others) × AreCovered params (map kept_piece others) (map kept_piece own)))
+    → IsTrue r ↔ AreEqual a b
+equal_value g params a b own others p q r h =
+    let one = covered_value g params a b own others p q in
+    let other = covered_value g params b a others own q p in (
+      (λ t. let x = h.0 t in (one.0 x.0, other.0 x.1)),
+      (λ e. h.1 (one.1 e.0, other.1 e.1)),
+    )
+
+pub equal_turned : (a b : KeptValue) (r : Bool) → (IsTrue r ↔ AreEqual b a) → IsTrue r ↔ AreEqual a b
+equal_turned a b r h = ((λ t. let x = h.0 t in (x.1, x.0)), (λ e. h.1 (e.1, e.0)))
