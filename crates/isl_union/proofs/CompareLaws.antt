@@ -1,6 +1,6 @@
 -- What values say of one another.
-use Rattle.std.proofs.Common.{◌≡◌, ◌↔◌, refl, sym, ap, ◌∙◌, arith, subst, ℕ, ◌+◌, ◌<◌, ℤ, List, [], ◌∷◌, ◌++◌, Any, length, get_or, map, take, drop, take-append-drop}
-use Rattle.std.proofs.Common.{inl, inr, Bool, IfOk, IsTrue, Result, Ok, Err}
+use Rattle.std.proofs.Common.{◌≡◌, ◌↔◌, refl, sym, ap, ◌∙◌, arith, subst, ℕ, ◌+◌, ◌<◌, ℤ, List, [], ◌∷◌, ◌++◌, length, get_or}
+use Rattle.std.proofs.Common.{map, take, drop, take-append-drop, inl, inr, Bool, IfOk, IsTrue, Result, Ok, Err}
 use Rattle.std.specs.List.{zip}
 use Rattle.std.proofs.lemmas.List.{length-drop, length-take-le}
 use Rattle.isl_math.proofs.ListLaws.{Any-first, Any-none, Any-one, Any-parts}
@@ -13,14 +13,13 @@ use Rattle.isl_space.specs.Valuation.{Valuation, values_of}
 use Rattle.isl_space.proofs.ValuationLaws.{values_of-zip}
 use Rattle.isl_piece.specs.declared.system.System.{System}
 use Rattle.isl_piece.specs.Piece.{PieceView}
-use Rattle.isl_piece.specs.System.{HoldsSystem, free_columns}
+use Rattle.isl_piece.specs.System.{HoldsSystem}
 use Rattle.isl_elim.specs.Elimination.{HoldsAtAny}
 use Rattle.isl_difference.specs.Difference.{IsCovered}
 use Rattle.isl_union.specs.Compare.{AreEqual, IsSubset}
 use Rattle.isl_union.specs.KeptValue.{KeptPiece, KeptValue, HasElement, columns_of, point_of}
 use Rattle.isl_union.specs.Minus.{systems_in, AreCovered, ArePiecesOver}
 use Rattle.isl_union.specs.Piece.{kept_piece, IsPieceOf}
-use Rattle.isl_union.proofs.AlignedLaws.{Any-mapped}
 use Rattle.isl_union.proofs.MinusLaws.{element_long, in_space, kept_more}
 use Rattle.isl_union.proofs.SystemLaws.{view_free}
 
@@ -79,7 +78,8 @@ pub covered_first : (params : List Name) (others : List KeptPiece) → AreCovere
 covered_first params others = record { elements = λ v e a. absurd (Any-none (HasElement params v e) a) }
 
 pub covered_step : (params : List Name) (pieces : List PieceView) (piece : PieceView) (i : ℕ) (others : List KeptPiece) → i < length pieces
-    → piece ≡ get_or pieces i piece → AreCovered params (map kept_piece (take i pieces)) others → AreCovered params (kept_piece piece ∷ []) others
+    → piece ≡ get_or pieces i piece → AreCovered params (map kept_piece (take i pieces)) others
+    → AreCovered params (kept_piece piece ∷ []) others
     → AreCovered params (map kept_piece (take (i + 1) pieces)) others
 covered_step params pieces piece i others low at so_far more = rw (kept_more pieces piece i low at) (record {
   elements = λ v e a. elim (Any-parts (HasElement params v e) (map kept_piece (take i pieces)) (kept_piece piece ∷ []) a) [
@@ -87,14 +87,6 @@ covered_step params pieces piece i others low at so_far more = rw (kept_more pie
     | inr y ↦ more.elements v e y
   ];
 })
-
-pub covered_at : (params : List Name) (pieces : List PieceView) (piece : PieceView) (i : ℕ) (others : List KeptPiece) → i < length pieces
-    → piece ≡ get_or pieces i piece → AreCovered params (map kept_piece pieces) others → AreCovered params (kept_piece piece ∷ []) others
-covered_at params pieces piece i others low at all = record {
-  elements = λ v e a.
-      let Q : KeptPiece → Type 0 = HasElement params v e in
-      all.elements v e (Any-mapped Q kept_piece pieces (i, piece, low, sym at, Any-one Q (kept_piece piece) a));
-}
 
 -- ---- values
 module _ (g : Gauge) (params : List Name) (a b : KeptValue) (own others : List PieceView)
@@ -111,7 +103,8 @@ module _ (g : Gauge) (params : List Name) (a b : KeptValue) (own others : List P
 
 pub equal_value : (g : Gauge) (params : List Name) (a b : KeptValue) (own others : List PieceView) → ArePiecesOver g params a own
     → ArePiecesOver g params b others → (r : Bool)
-    → (IsTrue r ↔ (AreCovered params (map kept_piece own) (map kept_piece others) × AreCovered params (map kept_piece others) (map kept_piece own)))
+    → (IsTrue r ↔ (AreCovered params (map kept_piece own) (map kept_piece others)
+    × AreCovered params (map kept_piece others) (map kept_piece own)))
     → IsTrue r ↔ AreEqual a b
 equal_value g params a b own others p q r h =
     let one = covered_value g params a b own others p q in

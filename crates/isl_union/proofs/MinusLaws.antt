@@ -1,6 +1,7 @@
 -- What is left of pieces without others.
-use Rattle.std.proofs.Common.{◌≡◌, ◌↔◌, ◌⊎◌, inl, inr, refl, sym, ap, ap₂, ◌∙◌, arith, subst, ℕ, ◌+◌, ◌-◌, ◌^◌, ◌<◌, Bool, true, false}
-use Rattle.std.proofs.Common.{if◌then◌else◌, Option, Some, None, option_to_list, ℤ, List, [], ◌∷◌, ◌++◌, All, Any, length, get_or, map, take, filter_map}
+use Rattle.std.proofs.Common.{◌≡◌, ◌↔◌, inl, inr, refl, sym, ap, ap₂, ◌∙◌, subst, ℕ, ◌+◌, ◌-◌, ◌^◌, ◌<◌, Bool, true, false}
+use Rattle.std.proofs.Common.{if◌then◌else◌, Some, None, option_to_list, List, [], ◌∷◌, ◌++◌, All, Any, length, get_or}
+use Rattle.std.proofs.Common.{map, take}
 use Rattle.std.specs.List.{cons_option}
 use Rattle.std.proofs.lemmas.Bool.{false≢true, false_from_ne_true}
 use Rattle.std.proofs.lemmas.List.{append-nil, map-append, take_more}
@@ -9,7 +10,6 @@ use Rattle.isl_math.proofs.ListLaws.{Any-cases, Any-first, Any-later, Any-left, 
 use Rattle.isl_meter.specs.Gauge.{Gauge, IsCharged, IsCutBy}
 use Rattle.isl_meter.proofs.CutLemmas.{IsCharged_refl, IsCutBy-charged}
 use Rattle.isl_space.specs.Element.{Element, IsElement}
-use Rattle.isl_space.specs.Limits.{most_parameters}
 use Rattle.isl_space.specs.Name.{Name}
 use Rattle.isl_space.specs.SpaceForm.{SpaceForm}
 use Rattle.isl_space.specs.Valuation.{Valuation}
@@ -25,11 +25,10 @@ use Rattle.isl_difference.specs.Difference.{IsDifference, IsLeftOf}
 use Rattle.isl_union.specs.declared.fault.OpFault.{OpFault}
 use Rattle.isl_union.specs.declared.fault.OpFault.TheVariants as op_fault
 use Rattle.isl_union.specs.Fault.{IsFaultBy, IsPlainFault}
-use Rattle.isl_union.specs.KeptValue.{KeptPiece, KeptValue, Has, HasElement, IsKeptPiece, IsKeptValue, columns_of, piece_system, point_of}
+use Rattle.isl_union.specs.KeptValue.{KeptPiece, KeptValue, Has, HasElement, columns_of, point_of}
 use Rattle.isl_union.specs.Meet.{is_same_space}
-use Rattle.isl_union.specs.Minus.{piece_in, system_in, systems_in, AreLeftOf, ArePiecesOver, IsAlignedPair}
-use Rattle.isl_union.specs.Moved.{aligned_pieces}
-use Rattle.isl_union.specs.Numbers.{AreWithinLimit, HasNumbersUpTo, IsPieceUpTo, IsWithinLimit}
+use Rattle.isl_union.specs.Minus.{piece_in, system_in, systems_in, AreLeftOf, IsAlignedPair}
+use Rattle.isl_union.specs.Numbers.{AreWithinLimit, IsPieceUpTo, IsWithinLimit}
 use Rattle.isl_union.specs.Piece.{kept_piece, piece_of, IsPieceOf}
 use Rattle.isl_union.proofs.LiveLaws.{filter_more}
 use Rattle.isl_union.proofs.MeetLaws.{space_is, space_itself}
@@ -247,7 +246,8 @@ kept_more pieces piece i low at =
 
 pub left_step : (g h : Gauge) (params : List Name) (pieces : List PieceView) (piece : PieceView) (i : ℕ) (others : List KeptPiece)
     (left new all : List PieceView) → IsCharged g h → i < length pieces → piece ≡ get_or pieces i piece
-    → AreLeftOf g params (map kept_piece (take i pieces)) others left → AreLeftOf h params (kept_piece piece ∷ []) others new → all ≡ left ++ new
+    → AreLeftOf g params (map kept_piece (take i pieces)) others left → AreLeftOf h params (kept_piece piece ∷ []) others new
+    → all ≡ left ++ new
     → AreLeftOf g params (map kept_piece (take (i + 1) pieces)) others all
 left_step g h params pieces piece i others left new all charged low at so_far more is =
     rw (is, kept_more pieces piece i low at)

@@ -1,5 +1,5 @@
 -- Two values over their joined parameters.
-use Rattle.std.proofs.Common.{◌≡◌, refl, sym, ◌∙◌, subst, List, All, Contains, map, unsigned_abs}
+use Rattle.std.proofs.Common.{◌≡◌, sym, subst, List, All, Contains, map, unsigned_abs}
 use Rattle.isl_meter.specs.Gauge.{Gauge, limit_of}
 use Rattle.isl_space.specs.Name.{Name}
 use Rattle.isl_space.specs.Names.{IsParameterList, joined}
@@ -28,7 +28,8 @@ pub pair_made : (g : Gauge) (a b : KeptValue) (params : List Name) (own others :
 pair_made g a b params own others names well p q h k first sound second other_sound = record {
   params = names;
   well_formed = well;
-  own = over_made g params a own p h (subst (λ (l : List Name). All (Contains l) a.params) (sym names) (first_in a.params b.params)) first sound;
+  own = over_made g params a own p h (subst (λ (l : List Name). All (Contains l) a.params) (sym names) (first_in a.params b.params)) first
+      sound;
   others = over_made g params b others q k (subst (λ (l : List Name). All (Contains l) b.params) (sym names)
       (second_in a.params b.params p.params q.params)) second other_sound;
 }

@@ -26,7 +26,8 @@ abbrev pub systems_in : SpaceForm → List PieceView → List System
 systems_in space pieces = filter_map (system_in space) pieces
 
 -- ---- two lists of pieces over the same parameters
--- pieces that a value may have, within the limit; at each valuation exactly those elements of the pieces are theirs that none of the others has
+-- pieces that a value may have, within the limit; at each valuation exactly those elements of the pieces are theirs that none of the
+-- others has
 pub record AreLeftOf (g : Gauge) (params : List Name) (pieces others : List KeptPiece) (left : List PieceView) : Type 0 where
   pub sound : All (IsPieceOf params) left
   pub within : AreWithinLimit g left

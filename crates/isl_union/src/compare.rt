@@ -34,7 +34,8 @@ fn is_piece_covered(
     requires others { All (IsPieceOf params.now) others.now }
     requires piece_within { IsSystemWithin meter.old piece.now.system }
     requires others_within { AreWithinLimit meter.old others.now }
-    ensures exact { IfOk result (λ covered. IsTrue covered ↔ AreCovered params.now (kept_piece piece.now ∷ []) (map kept_piece others.now)) }
+    ensures exact { IfOk result
+        (λ covered. IsTrue covered ↔ AreCovered params.now (kept_piece piece.now ∷ []) (map kept_piece others.now)) }
     ensures meter { MatchResult result (λ _. IsCharged meter.old meter.new) (IsCutBy meter.old meter.new) }
 {
     let systems = systems_in(alloc, piece.space(), others)?;
@@ -55,7 +56,8 @@ fn are_covered(
     requires others { All (IsPieceOf params.now) others.now }
     requires pieces_within { AreWithinLimit meter.old pieces.now }
     requires others_within { AreWithinLimit meter.old others.now }
-    ensures exact { IfOk result (λ covered. IsTrue covered ↔ AreCovered params.now (map kept_piece pieces.now) (map kept_piece others.now)) }
+    ensures exact { IfOk result
+        (λ covered. IsTrue covered ↔ AreCovered params.now (map kept_piece pieces.now) (map kept_piece others.now)) }
     ensures meter { MatchResult result (λ _. IsCharged meter.old meter.new) (IsCutBy meter.old meter.new) }
 {
     for piece in pieces {

@@ -68,7 +68,8 @@ fn piece_without(
     requires others { All (IsPieceOf params.now) others.now }
     requires piece_within { IsSystemWithin meter.old piece.now.system }
     requires others_within { AreWithinLimit meter.old others.now }
-    ensures exact { IfOk result (λ left. AreLeftOf meter.old params.now (kept_piece piece.now ∷ []) (map kept_piece others.now) left.items) }
+    ensures exact { IfOk result
+        (λ left. AreLeftOf meter.old params.now (kept_piece piece.now ∷ []) (map kept_piece others.now) left.items) }
     ensures alone { systems_in piece.now.space others.now ≡ [] → IfOk result (λ left. left.items ≡ piece.now ∷ []) }
     ensures meter { MatchResult result (λ _. IsCharged meter.old meter.new) (IsCutBy meter.old meter.new) }
 {
@@ -96,7 +97,8 @@ fn pieces_without(
     requires others { All (IsPieceOf params.now) others.now }
     requires pieces_within { AreWithinLimit meter.old pieces.now }
     requires others_within { AreWithinLimit meter.old others.now }
-    ensures exact { IfOk result (λ left. AreLeftOf meter.old params.now (map kept_piece pieces.now) (map kept_piece others.now) left.items) }
+    ensures exact { IfOk result
+        (λ left. AreLeftOf meter.old params.now (map kept_piece pieces.now) (map kept_piece others.now) left.items) }
     ensures meter { MatchResult result (λ _. IsCharged meter.old meter.new) (IsCutBy meter.old meter.new) }
 {
     let mut left = Vec::new(alloc);

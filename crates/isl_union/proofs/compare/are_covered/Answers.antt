@@ -28,8 +28,8 @@ loop-piece-preserved c =
     let so_far = c.loop-piece.invariant in
     let covered : IsTrue c.in_ok-is_piece_covered.field-0 = grind (arith, common_steps) in
     record {
-      covered = covered_step c.args.params.now pieces c.piece-item.result i (map kept_piece c.args.others.now) low c.piece-item.is so_far.covered
-          (c.in_ok-is_piece_covered.ensures.exact.0 covered);
+      covered = covered_step c.args.params.now pieces c.piece-item.result i (map kept_piece c.args.others.now) low c.piece-item.is
+          so_far.covered (c.in_ok-is_piece_covered.ensures.exact.0 covered);
       charged = IsCharged_trans c.args.meter.now c.loop-piece.meter c.is_piece_covered.new.meter so_far.charged
           c.in_ok-is_piece_covered.ensures.meter;
     }

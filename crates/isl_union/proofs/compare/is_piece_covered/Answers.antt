@@ -1,4 +1,4 @@
-use Rattle.std.proofs.Common.{◌≡◌, sym, ap, ◌∙◌, subst, List, ◌∷◌, [], map}
+use Rattle.std.proofs.Common.{◌≡◌, sym, ap, ◌∙◌, subst, ◌∷◌, [], map}
 use Rattle.std.specs.List.{All}
 use Rattle.isl_space.specs.SpaceForm.{SpaceForm}
 use Rattle.isl_piece.specs.declared.system.System.{System}
@@ -13,7 +13,8 @@ use Rattle.isl_union.proofs.compare.is_piece_covered.Goals as goal
 pub is_covered-requires-clause-others_within : goal.is_covered-requires-clause-others_within
 is_covered-requires-clause-others_within c =
     rw c.as_slice.ensures.value
-    (subst (All (IsSystemWithin c.args.meter.now)) (sym c.in_ok-systems.ensures) (systems_within c.args.meter.now _ c.args.others.now c.requires.others_within))
+    (subst (All (IsSystemWithin c.args.meter.now)) (sym c.in_ok-systems.ensures)
+    (systems_within c.args.meter.now _ c.args.others.now c.requires.others_within))
 
 pub is_covered-requires-clause-columns : goal.is_covered-requires-clause-columns
 is_covered-requires-clause-columns c =

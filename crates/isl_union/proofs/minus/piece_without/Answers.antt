@@ -1,11 +1,10 @@
-use Rattle.std.proofs.Common.{◌≡◌, [], sym, ap, ◌∙◌, arith, subst, length, List, map}
+use Rattle.std.proofs.Common.{◌≡◌, [], sym, ap, ◌∙◌, arith, subst, length, map}
 use Rattle.std.specs.List.{All}
 use Rattle.std.proofs.lemmas.Grind.{common_steps}
 use Rattle.std.proofs.lemmas.List.{nil_from_length}
 use Rattle.isl_space.specs.SpaceForm.{SpaceForm}
 use Rattle.isl_piece.specs.declared.system.System.{System}
 use Rattle.isl_piece.specs.System.{IsSystemWithin, free_columns}
-use Rattle.isl_difference.specs.Difference.{IsDifference}
 use Rattle.isl_union.specs.Minus.{piece_in, systems_in}
 use Rattle.isl_union.proofs.MinusLaws.{left_alone, left_over, systems_free, systems_within}
 use Rattle.isl_union.proofs.minus.piece_without.Goals as goal
@@ -24,7 +23,8 @@ returns-then-is_empty-clause-exact c =
 pub outside-requires-clause-others_within : goal.outside-requires-clause-others_within
 outside-requires-clause-others_within c =
     rw c.as_slice.ensures.value
-    (subst (All (IsSystemWithin c.args.meter.now)) (sym c.in_ok-systems.ensures) (systems_within c.args.meter.now _ c.args.others.now c.requires.others_within))
+    (subst (All (IsSystemWithin c.args.meter.now)) (sym c.in_ok-systems.ensures)
+    (systems_within c.args.meter.now _ c.args.others.now c.requires.others_within))
 
 pub outside-requires-clause-columns : goal.outside-requires-clause-columns
 outside-requires-clause-columns c =

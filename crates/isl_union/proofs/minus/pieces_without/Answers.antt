@@ -31,6 +31,7 @@ loop-piece-preserved c =
     let so_far = c.loop-piece.invariant in
     record {
       left = left_step g h c.args.params.now pieces piece i others c.loop-piece.left.items c.in_ok-piece_without.field-0.items
-          c.append.new.pieces.items so_far.charged low c.piece-item.is so_far.left c.in_ok-piece_without.ensures.exact c.in_ok-append.ensures;
+          c.append.new.pieces.items so_far.charged low c.piece-item.is so_far.left c.in_ok-piece_without.ensures.exact
+          c.in_ok-append.ensures;
       charged = IsCharged_trans g h c.piece_without.new.meter so_far.charged c.in_ok-piece_without.ensures.meter;
     }

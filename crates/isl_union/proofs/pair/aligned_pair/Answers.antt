@@ -26,8 +26,8 @@ aligned_pieces-requires-2-clause-among c =
 pub returns-clause-exact : goal.returns-clause-exact
 returns-clause-exact c =
     let names = c.in_ok-params.ensures.joined ∙ ap₂ joined c.params.ensures.content c.params-2.ensures.content in
-    pair_made c.args.meter.now c.args.value.now c.args.other.now c.in_ok-params.params c.in_ok-own.own.items c.in_ok-others.others.items names
-    c.in_ok-params.ensures.well_formed c.in_ok-own.ensures.kept c.in_ok-others.ensures.kept c.requires.own c.requires.other
+    pair_made c.args.meter.now c.args.value.now c.args.other.now c.in_ok-params.params c.in_ok-own.own.items c.in_ok-others.others.items
+    names c.in_ok-params.ensures.well_formed c.in_ok-own.ensures.kept c.in_ok-others.ensures.kept c.requires.own c.requires.other
     c.in_ok-own.ensures.exact c.in_ok-own.ensures.sound c.in_ok-others.ensures.exact c.in_ok-others.ensures.sound
 
 pub returns-clause-faults : goal.returns-clause-faults
