@@ -15,8 +15,8 @@ loop-piece-preserved c =
     let found = c.loop-piece.systems.items in
     elim c.if-same.branch [
       | then-same+in_ok-push w ↦ systems_here space pieces piece i low c.piece-item.is (λ s. s.now) found c.if-same.systems.items
-          w.system.result (c.same.ensures.0 w.if-same.true ∙ c.space.ensures) w.system.ensures (ap (λ v. v.items) w.systems-is ∙ w.in_ok-push.ensures.items)
-          c.loop-piece.invariant
+          w.system.result (c.same.ensures.0 w.if-same.true ∙ c.space.ensures) w.system.ensures
+          (ap (λ v. v.items) w.systems-is ∙ w.in_ok-push.ensures.items) c.loop-piece.invariant
       | else-same w ↦ rw w.systems-is (c.loop-piece.invariant
           ∙ systems_elsewhere space pieces piece i low c.piece-item.is
           (λ e. false≢true (sym w.if-same.false ∙ c.same.ensures.1 (e ∙ sym c.space.ensures))))
