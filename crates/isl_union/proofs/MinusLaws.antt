@@ -80,7 +80,7 @@ module _ (space : SpaceForm) (pieces : List PieceView) (piece : PieceView) (i : 
   systems_here f found pushed x same is made so_far =
       ap (map f) made ∙ map-append f found (x ∷ []) ∙ ap₂ (λ l s. l ++ s ∷ []) so_far is
       ∙ ap (λ (b : Bool). systems_in space (take i pieces) ++ option_to_list (if b then Some piece.system else None))
-          (sym (ap (is_same_space space) (sym same) ∙ space_itself space))
+      (sym (ap (is_same_space space) (sym same) ∙ space_itself space))
       ∙ sym systems_more
 
   -- that lies elsewhere
@@ -88,7 +88,7 @@ module _ (space : SpaceForm) (pieces : List PieceView) (piece : PieceView) (i : 
   systems_elsewhere differ =
       sym (append-nil (systems_in space (take i pieces)))
       ∙ ap (λ (b : Bool). systems_in space (take i pieces) ++ option_to_list (if b then Some piece.system else None))
-          (sym (false_from_ne_true (is_same_space space piece.space) (λ e. differ (space_is space piece.space e))))
+      (sym (false_from_ne_true (is_same_space space piece.space) (λ e. differ (space_is space piece.space e))))
       ∙ sym systems_more
 
 module _ (params : List Name) (v : Valuation) (e : Element) where
@@ -169,15 +169,21 @@ module _ (g : Gauge) (params : List Name) (p : PieceView) (sound : IsPieceOf par
         let Q : KeptPiece → Type 0 = HasElement params v e in
         let both = parts_have params v e p.space parts in
         let long : IsElement e → p.space ≡ e.space → length point ≡ free_columns p.system = λ numbers lies.
-            element_long params v e p.space numbers lies ∙ sym (view_free params p sound) in (
+        element_long params v e p.space numbers lies ∙ sym (view_free params p sound) in (
           (λ a. let h = both.0 a in
               let out = (difference.points point (long h.0 h.1)).0 h.2 in (
                 Any-first Q (kept_piece p) [] (record { numbers = h.0; space = h.1; holds = out.0 }),
                 λ b. out.1 (subst (λ ss. HoldsAtAny ss point) (sym are) ((in_space params v e p.space others h.0 h.1).1 b)),
               )),
           (λ h. let own = Any-one Q (kept_piece p) h.0 in
-              both.1 (own.numbers, own.space, (difference.points point (long own.numbers own.space)).1 (own.holds,
-              λ b. h.1 ((in_space params v e p.space others own.numbers own.space).0 (subst (λ ss. HoldsAtAny ss point) are b))))),
+              both.1 (
+                own.numbers,
+                own.space,
+                (difference.points point (long own.numbers own.space)).1 (
+                  own.holds,
+                  λ b. h.1 ((in_space params v e p.space others own.numbers own.space).0 (subst (λ ss. HoldsAtAny ss point) are b)),
+                ),
+              )),
         );
   })
 

@@ -99,7 +99,12 @@ impl Value {
     ///
     /// `TooWide` exactly where the two together declare more than 16 parameters, unless memory ends: no unit is used then.
     /// `Overflow` where a number passes the limit of the meter, `Budget` where its units are used up, and `NoMemory`.
-    pub fn is_subset(&self, alloc: Global, other: &Value, meter: &mut Meter) -> Result<bool, OpFault>
+    pub fn is_subset(
+        &self,
+        alloc: Global,
+        other: &Value,
+        meter: &mut Meter,
+    ) -> Result<bool, OpFault>
         requires own { IsWithinLimit meter.old self.now }
         requires other { IsWithinLimit meter.old other.now }
         ensures exact { IfOk result (λ subset. IsTrue subset ↔ IsSubset self.now other.now) }

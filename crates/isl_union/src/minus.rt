@@ -41,11 +41,7 @@ pub(crate) fn systems_in<'a>(
 }
 
 // A piece of the space for each of the systems.
-fn pieces_in(
-    alloc: Global,
-    space: &Space,
-    systems: Vec<System>,
-) -> Result<Vec<Piece>, AllocError>
+fn pieces_in(alloc: Global, space: &Space, systems: Vec<System>) -> Result<Vec<Piece>, AllocError>
     ensures { IfOk result (λ pieces. pieces.items ≡ map (piece_in (space_form_of space.now)) systems.items) }
 {
     let mut pieces = Vec::with_capacity(alloc, systems.len())?;
@@ -103,7 +99,10 @@ fn pieces_without(
 {
     let mut left = Vec::new(alloc);
     for piece in pieces {
-        append(&mut left, piece_without(alloc, params, piece, others, meter)?)?;
+        append(
+            &mut left,
+            piece_without(alloc, params, piece, others, meter)?,
+        )?;
     }
     Ok(left)
 }

@@ -15,8 +15,8 @@ returns-then-is_empty-clause-exact c =
     let others = c.args.others.now in
     let count : length c.in_ok-systems.systems.items ≡ 0 = grind (arith, common_steps) in
     let none : systems_in piece.space others ≡ [] =
-        sym (ap (λ (s : SpaceForm). systems_in s others) c.space-space.ensures) ∙ sym c.in_ok-systems.ensures
-        ∙ ap (map (λ s. s.now)) (nil_from_length c.in_ok-systems.systems.items count) in
+    sym (ap (λ (s : SpaceForm). systems_in s others) c.space-space.ensures) ∙ sym c.in_ok-systems.ensures
+    ∙ ap (map (λ s. s.now)) (nil_from_length c.in_ok-systems.systems.items count) in
     left_alone c.args.meter.now c.args.params.now piece c.requires.piece others c.push.new.self.items none c.requires.piece_within
     (grind (arith, common_steps))
 
