@@ -4,6 +4,7 @@ pub mod Finite
 pub mod KeptValue
 pub mod Live
 pub mod Meet
+pub mod Minus
 pub mod Moved
 pub mod Numbers
 pub mod Piece

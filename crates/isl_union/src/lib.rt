@@ -2,9 +2,12 @@
 #![tactic(auto)]
 
 mod aligned;
+mod compare;
 mod fault;
 mod live;
 mod meet;
+mod minus;
+mod pair;
 mod union;
 mod value;
 

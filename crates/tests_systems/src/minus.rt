@@ -108,7 +108,8 @@ fn is_covered_as_said(alloc: Global, case: &str, columns: usize) -> Result<bool,
     let Some(others) = others_of(alloc, case, given.free(), &meter)? else {
         return Ok(false);
     };
-    let covered = is_covered(alloc, &given, references(alloc, &others)?.as_slice(), &mut meter)?;
+    let others = references(alloc, others.as_slice())?;
+    let covered = is_covered(alloc, &given, others.as_slice(), &mut meter)?;
     Ok(covered == field(case, "never").is_some())
 }
 

@@ -36,7 +36,8 @@ returns-then-is_empty-clause-exact c =
     let left = c.loop-other.left.items in
     let count : length left ≡ 0 = grind (arith, common_steps) in
     let none = nil_from_length left count in (
-      left_none c.args.meter.now c.loop-other.meter c.args.system.now (map (λ o. o.now) c.args.others.now) c.loop-other.other-index left none c.loop-other.invariant,
+      left_none c.args.meter.now c.loop-other.meter c.args.system.now (map (λ o. o.now) c.args.others.now) c.loop-other.other-index left
+          none c.loop-other.invariant,
       c.loop-other.invariant.charged,
     )
 
@@ -61,7 +62,8 @@ all_without-requires-clause-other_within c =
     let low : i < length refs = grind (arith, common_steps) in
     let inside : i < length others = rw (length-map refs (λ o. o.now)) low in
     let is = mapped_at (λ o. o.now) refs i c.other-item.result low c.other-item.is in
-    system_within c.args.meter.now c.loop-other.meter others i c.other-item.result.now c.loop-other.invariant.charged c.requires.others_within inside is
+    system_within c.args.meter.now c.loop-other.meter others i c.other-item.result.now c.loop-other.invariant.charged
+    c.requires.others_within inside is
 
 pub loop-other-preserved : goal.loop-other-preserved
 loop-other-preserved c =
