@@ -9,3 +9,6 @@ pub mod UnitLaws
 pub mod ValueLaws
 pub mod MadeLaws
 pub mod MeetSteps
+pub mod PiecesLaws
+pub mod ProjectLaws
+pub mod FlatLaws

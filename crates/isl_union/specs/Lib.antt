@@ -7,6 +7,7 @@ pub mod Meet
 pub mod Moved
 pub mod Numbers
 pub mod Piece
+pub mod Pieces
 pub mod Project
 pub mod Sample
 pub mod Stored

@@ -3,8 +3,11 @@
 
 mod aligned;
 mod fault;
+mod flat;
 mod live;
 mod meet;
+mod pieces;
+mod project;
 mod union;
 mod value;
 

@@ -1,0 +1,149 @@
+-- The pieces of a space with several systems; and pieces that are made of others, one after another.
+use Rattle.std.proofs.Common.{◌≡◌, ◌↔◌, ◌⊎◌, inl, inr, refl, sym, ap, ◌∙◌, arith, subst, ℕ, ◌+◌, ◌-◌, ◌^◌, ◌<◌, Option, Some, None, option_map, option_to_list}
+use Rattle.std.proofs.Common.{IfSome, List, [], ◌∷◌, ◌++◌, All, Any, append_assoc, length, get_or, map, take, filter_map}
+use Rattle.std.specs.List.{cons_option}
+use Rattle.std.proofs.lemmas.List.{append-nil, map-append, map_more}
+use Rattle.std.proofs.lemmas.List.Elements.{All-append, All-cons, All-head, All-map, All-nil, All-tail, filter_map-append}
+use Rattle.isl_math.proofs.ListLaws.{Any-element, Any-first, Any-left, Any-none, Any-one, Any-parts, Any-right, Any-unmapped, Any-weaker}
+use Rattle.isl_meter.specs.Gauge.{Gauge, IsCutBy}
+use Rattle.isl_meter.specs.declared.Cut.{Cut}
+use Rattle.isl_space.specs.Element.{Element}
+use Rattle.isl_space.specs.Name.{Name}
+use Rattle.isl_space.specs.SpaceForm.{SpaceForm, IsWellFormedSpace}
+use Rattle.isl_space.specs.Valuation.{Valuation}
+use Rattle.isl_piece.specs.declared.system.System.{System}
+use Rattle.isl_piece.specs.Piece.{PieceView}
+use Rattle.isl_piece.specs.System.{HoldsSystem, IsSystemWithin, free_columns}
+use Rattle.isl_elim.proofs.ProjectionLaws.{any_mapped}
+use Rattle.isl_union.specs.declared.fault.OpFault.{OpFault}
+use Rattle.isl_union.specs.declared.fault.OpFault.TheVariants as op_fault
+use Rattle.isl_union.specs.Fault.{IsCutFault}
+use Rattle.isl_union.specs.KeptValue.{KeptPiece, HasElement, columns_of, piece_system, point_of}
+use Rattle.isl_union.specs.Live.{normal_of, AreLiveOf, IsLiveOf}
+use Rattle.isl_union.specs.Numbers.{IsPieceUpTo}
+use Rattle.isl_union.specs.Piece.{kept_piece, piece_of}
+use Rattle.isl_union.specs.Pieces.{IsOfAny}
+use Rattle.isl_union.proofs.LiveLaws.{live_all, live_append, live_one, normal_case}
+use Rattle.isl_union.proofs.MadeLaws.{here_within, live_have, live_small, IsOver}
+use Rattle.isl_union.proofs.SystemLaws.{piece_up_to}
+
+-- ---- one more of the systems
+-- so many of the systems were looked at, and the kept pieces are those of the space with them that have elements
+pub record AreLiveSoFar (params : List Name) (space : SpaceForm) (systems rest : List System) (kept : List PieceView) : Type 0 where
+  pub done : List System
+  pub all : systems ≡ done ++ rest
+  pub live : AreLiveOf params (filter_map normal_of (map (piece_of space) done)) (map kept_piece kept)
+
+pub so_far_none : (params : List Name) (space : SpaceForm) (systems : List System) (kept : List PieceView) → kept ≡ []
+    → AreLiveSoFar params space systems systems kept
+so_far_none params space systems kept none = record { done = []; all = refl; live = ap (map kept_piece) none }
+
+filter_one : (piece : KeptPiece) → filter_map normal_of (piece ∷ []) ≡ option_to_list (normal_of piece)
+filter_one piece = by (normal_of piece)
+  where
+    by : (o : Option KeptPiece) → cons_option o [] ≡ option_to_list o
+    by None = refl
+    by (Some p) = refl
+
+pub so_far_more : (params : List Name) (space : SpaceForm) (systems before rest : List System) (s : System) (kept pushed : List PieceView)
+    (o : Option PieceView) → before ≡ s ∷ rest → IsLiveOf params (normal_of (piece_of space s)) (option_map kept_piece o)
+    → pushed ≡ kept ++ option_to_list o → AreLiveSoFar params space systems before kept → AreLiveSoFar params space systems rest pushed
+so_far_more params space systems before rest s kept pushed o next exact is so_far = record {
+  done = so_far.done ++ s ∷ [];
+  all = so_far.all ∙ ap (λ l. so_far.done ++ l) next ∙ sym (append_assoc so_far.done (s ∷ []) rest);
+  live =
+      let pieces = ap (filter_map normal_of) (map-append (piece_of space) so_far.done (s ∷ []))
+          ∙ filter_map-append normal_of (map (piece_of space) so_far.done) (piece_of space s ∷ [])
+          ∙ ap (λ l. filter_map normal_of (map (piece_of space) so_far.done) ++ l) (filter_one (piece_of space s)) in
+      let found = ap (map kept_piece) is ∙ map-append kept_piece kept (option_to_list o) ∙ ap (λ l. map kept_piece kept ++ l) (by o) in
+      rw (pieces, found) (live_append params (filter_map normal_of (map (piece_of space) so_far.done)) (map kept_piece kept)
+      (option_to_list (normal_of (piece_of space s))) (option_to_list (option_map kept_piece o)) so_far.live
+      (live_one params (normal_of (piece_of space s)) (option_map kept_piece o) exact));
+}
+  where
+    by : (o : Option PieceView) → map kept_piece (option_to_list o) ≡ option_to_list (option_map kept_piece o)
+    by None = refl
+    by (Some x) = refl
+
+pub so_far_all : (params : List Name) (space : SpaceForm) (systems rest : List System) (kept : List PieceView) → rest ≡ []
+    → AreLiveSoFar params space systems rest kept → AreLiveOf params (filter_map normal_of (map (piece_of space) systems)) (map kept_piece kept)
+so_far_all params space systems rest kept none so_far =
+    let all : systems ≡ so_far.done = so_far.all ∙ ap (λ l. so_far.done ++ l) none ∙ append-nil so_far.done in
+    rw all so_far.live
+
+-- ---- all of them
+module _ (g : Gauge) (params : List Name) (space : SpaceForm) (systems : List System) (formed : IsWellFormedSpace space)
+    (columns : All (λ s. free_columns s ≡ columns_of params space) systems) (within : All (IsSystemWithin g) systems)
+    (kept : List KeptPiece) (live : AreLiveOf params (filter_map normal_of (map (piece_of space) systems)) kept) where
+  over : All (IsOver g params) (map (piece_of space) systems)
+  over = All-map (IsOver g params) (piece_of space) systems
+      (λ k d l. (formed, here_within g params space (get_or systems k d) (within k d l) (columns k d l)))
+
+  pub pieces_have : (v : Valuation) (e : Element) → Any (HasElement params v e) kept ↔ IsOfAny params space systems v e
+  pieces_have v e =
+      let H = HasElement params v e in
+      let both = live_have g params v e (map (piece_of space) systems) kept over live in (
+        (λ a.
+            let some = Any-unmapped H (piece_of space) systems (both.0 a) in
+            let one = Any-element (λ s. H (piece_of space s)) systems some in record {
+              numbers = one.2.numbers;
+              lies = sym one.2.space;
+              holds = Any-weaker (λ s. H (piece_of space s)) (λ s. HoldsSystem s (point_of params v e)) (λ s h. h.holds) systems some;
+            }),
+        (λ h. both.1 (any_mapped H (piece_of space) systems (Any-weaker (λ s. HoldsSystem s (point_of params v e)) (λ s. H (piece_of space s))
+            (λ s k. record { numbers = h.numbers; space = sym h.lies; holds = k }) systems h.holds))),
+      )
+
+  pub pieces_small : All (IsPieceUpTo (2 ^ g.bits - 1)) kept
+  pieces_small = live_small g params (2 ^ g.bits - 1) (map (piece_of space) systems) kept over live
+      (All-map (IsPieceUpTo (2 ^ g.bits - 1)) (piece_of space) systems (λ k d l.
+      piece_up_to g params (piece_of space (get_or systems k d)) (here_within g params space (get_or systems k d) (within k d l) (columns k d l))))
+
+  pub pieces_plain : All (λ s. s.definitions ≡ []) systems → All (λ piece. piece.definitions ≡ []) kept
+  pieces_plain plain = live_all params P P (λ piece p l. p) (filter_map normal_of (map (piece_of space) systems)) kept live (each systems plain)
+    where
+      P : KeptPiece → Type 0
+      P piece = piece.definitions ≡ []
+
+      each : (ss : List System) → All (λ s. s.definitions ≡ []) ss → All P (filter_map normal_of (map (piece_of space) ss))
+      each [] all = All-nil P
+      each (s ∷ ss) all = by (normal_of (piece_of space s)) refl (each ss (All-tail (λ t. t.definitions ≡ []) s ss all))
+        where
+          by : (o : Option KeptPiece) → normal_of (piece_of space s) ≡ o → All P (filter_map normal_of (map (piece_of space) ss))
+              → All P (cons_option o (filter_map normal_of (map (piece_of space) ss)))
+          by None is rest = rest
+          by (Some new) is rest = All-cons P new (filter_map normal_of (map (piece_of space) ss))
+              (normal_case P (piece_of space s) new (λ rows e. All-head (λ t. t.definitions ≡ []) s ss all) is) rest
+
+-- ---- pieces that are made of others
+-- one more: what is made of it has P where it has Q
+pub any_step : (P Q : KeptPiece → Type 0) (made more done : List KeptPiece) (piece : KeptPiece) → (Any P made ↔ Any Q done)
+    → (Any P more ↔ Q piece) → Any P (made ++ more) ↔ Any Q (done ++ piece ∷ [])
+any_step P Q made more done piece so_far one = (
+  (λ a. elim (Any-parts P made more a) [
+    | inl x ↦ Any-left Q done (piece ∷ []) (so_far.0 x)
+    | inr y ↦ Any-right Q done (piece ∷ []) (Any-first Q piece [] (one.0 y))
+  ]),
+  (λ a. elim (Any-parts Q done (piece ∷ []) a) [
+    | inl x ↦ Any-left P made more (so_far.1 x)
+    | inr y ↦ Any-right P made more (one.1 (Any-one Q piece y))
+  ]),
+)
+
+-- one more, of which nothing is made
+pub any_skip : (P Q : KeptPiece → Type 0) (made done : List KeptPiece) (piece : KeptPiece) → (Any P made ↔ Any Q done) → ¬ Q piece
+    → Any P made ↔ Any Q (done ++ piece ∷ [])
+any_skip P Q made done piece so_far none = (
+  (λ a. Any-left Q done (piece ∷ []) (so_far.0 a)),
+  (λ a. elim (Any-parts Q done (piece ∷ []) a) [ inl x ↦ so_far.1 x | inr y ↦ absurd (none (Any-one Q piece y)) ]),
+)
+
+-- the pieces that were looked at, with the next one
+pub next_piece : (pieces : List PieceView) (i : ℕ) (piece : PieceView) → i < length pieces → piece ≡ get_or pieces i piece
+    → map kept_piece (take (i + 1) pieces) ≡ map kept_piece (take i pieces) ++ kept_piece piece ∷ []
+next_piece pieces i piece low at =
+    map_more kept_piece pieces i piece low ∙ ap (λ p. map kept_piece (take i pieces) ++ kept_piece p ∷ []) (sym at)
+
+-- ---- work that was cut
+pub cut_fault : (g h : Gauge) (cut : Cut) (fault : OpFault) → fault ≡ op_fault.Cut cut → IsCutBy g h cut → IsCutFault g h fault
+cut_fault g h cut fault is by = rw is by
