@@ -17,7 +17,7 @@ ghost use Rattle.isl_union.specs.Project.{IsNarrower, IsProjected};
 use crate::aligned::append;
 use crate::pieces::live_pieces_in;
 use crate::{OpFault, Value};
-use isl_elim::eliminate_all;
+use isl_elim::{columns_between, eliminate_all};
 use isl_meter::{Cut, Meter};
 use isl_piece::System;
 use isl_space::Space;
@@ -39,7 +39,7 @@ fn without_columns(
     ensures within { IfOk result (λ systems. All (IsSystemWithin meter.old) systems.items) }
     ensures meter { MatchResult result (λ _. IsCharged meter.old meter.new) (IsCutBy meter.old meter.new) }
 {
-    let cols: Vec<usize> = (first..first + count).collect(alloc)?;
+    let cols = columns_between(alloc, first, first + count)?;
     eliminate_all(alloc, system, cols.as_slice(), meter)
 }
 
