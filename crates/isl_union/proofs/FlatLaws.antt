@@ -1,6 +1,6 @@
 -- Pieces without definitions.
-use Rattle.std.proofs.Common.{◌≡◌, ◌↔◌, sym, ap, ◌∙◌, arith, ℕ, ◌+◌, ◌-◌, List, [], All, length, length-append}
-use Rattle.isl_space.specs.Element.{Element, IsElement}
+use Rattle.std.proofs.Common.{◌≡◌, ◌↔◌, sym, ap, ◌∙◌, arith, ◌-◌, List, All, length, length-append}
+use Rattle.isl_space.specs.Element.{Element}
 use Rattle.isl_space.specs.Name.{Name}
 use Rattle.isl_space.specs.SpaceForm.{coordinates_of}
 use Rattle.isl_space.specs.Valuation.{Valuation, values_of}

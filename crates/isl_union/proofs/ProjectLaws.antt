@@ -1,6 +1,6 @@
 -- Elements without some of their coordinates.
-use Rattle.std.proofs.Common.{◌≡◌, ◌↔◌, refl, sym, ap, ap₂, ◌∙◌, arith, subst, ℕ, ◌+◌, ◌-◌, ◌<◌, ◌≤◌, ℤ, List, []}
-use Rattle.std.proofs.Common.{◌∷◌, ◌++◌, All, Any, append_assoc, length, length-append, map, take, drop, take-append-drop}
+use Rattle.std.proofs.Common.{◌≡◌, ◌↔◌, refl, sym, ap, ap₂, ◌∙◌, arith, subst, ℕ, ◌+◌, ◌-◌, ℤ, List}
+use Rattle.std.proofs.Common.{◌++◌, All, Any, append_assoc, length, length-append, take, drop, take-append-drop}
 use Rattle.std.specs.List.{range_with_len}
 use Rattle.std.proofs.lemmas.List.{drop_at, length-drop, length-take-le, take_at}
 use Rattle.std.proofs.lemmas.List.FromFn.{length-range_with_len}
@@ -13,9 +13,9 @@ use Rattle.isl_space.proofs.ValuationLaws.{length-values_of}
 use Rattle.isl_piece.specs.declared.system.System.{System}
 use Rattle.isl_piece.specs.Piece.{PieceView}
 use Rattle.isl_piece.specs.System.{HoldsSystem, free_columns}
-use Rattle.isl_elim.specs.Elimination.{HoldsAlong, HoldsAtAny, IsProjectionAlong, without}
+use Rattle.isl_elim.specs.Elimination.{HoldsAlong, IsProjectionAlong, without}
 use Rattle.isl_elim.proofs.RangeLaws.{without_range}
-use Rattle.isl_union.specs.KeptValue.{KeptPiece, KeptValue, Has, HasElement, columns_of, piece_system, point_of}
+use Rattle.isl_union.specs.KeptValue.{KeptPiece, KeptValue, HasElement, columns_of, point_of}
 use Rattle.isl_union.specs.Piece.{kept_piece}
 use Rattle.isl_union.specs.Pieces.{IsOfAny}
 use Rattle.isl_union.specs.Project.{IsNarrower, IsProjected, put_between}
@@ -70,7 +70,10 @@ module _ (params : List Name) (piece : PieceView) (space to : SpaceForm) (from c
   abbrev s : System
   s = piece.system
 
-  gone : length (range_with_len (length params + from) count) ≡ count
+  abbrev cols : List ℕ
+  cols = range_with_len (length params + from) count
+
+  gone : length cols ≡ count
   gone = length-range_with_len (length params + from) count
 
   pub projected_columns : All (λ t. free_columns t ≡ columns_of params to) systems
@@ -108,14 +111,14 @@ module _ (params : List Name) (piece : PieceView) (space to : SpaceForm) (from c
           let some = length-take-le from e.coordinates (omega (arith, long, i, w)) in
           omega (arith, both, names, some)
 
-      point_is : length (point_of params v e) ≡ free_columns s - length (range_with_len (length params + from) count)
+      point_is : length (point_of params v e) ≡ free_columns s - length cols
       point_is =
           let both = length-append (values_of params v) e.coordinates in
           let names = length-values_of params v in
           let w = narrower.left in
           omega (arith, both, names, long, w, free, gone)
 
-      along : HoldsAlong (free_columns s) (range_with_len (length params + from) count) (HoldsSystem s) (front ++ drop from e.coordinates)
+      along : HoldsAlong (free_columns s) cols (HoldsSystem s) (front ++ drop from e.coordinates)
           ↔ ((m : List ℤ) × (length m ≡ count) × HoldsSystem s (front ++ (m ++ drop from e.coordinates)))
       along =
           let behind = length-drop from e.coordinates in
@@ -137,17 +140,23 @@ module _ (params : List Name) (piece : PieceView) (space to : SpaceForm) (from c
     pub projected : IsOfAny params to systems v e ↔ HasBetween params space from count to v e (kept_piece piece)
     projected = (
       (λ h.
-          let k = (along h.numbers h.lies).0 (rw whole at ((projection.points (point_of params v e) (point_is h.numbers h.lies)).0 h.holds)) in (
-            h.numbers, h.lies, k.0, k.1, record {
+          let some = (projection.points (point_of params v e) (point_is h.numbers h.lies)).0 h.holds in
+          let k = (along h.numbers h.lies).0 (subst (HoldsAlong (free_columns s) cols (HoldsSystem s)) whole some) in (
+            h.numbers,
+            h.lies,
+            k.0,
+            k.1,
+            record {
               numbers = put_long h.numbers h.lies k.0 k.1;
               space = lies;
-              holds = rw (between k.0) k.2;
-            })),
+              holds = subst (HoldsSystem s) (sym (between k.0)) k.2;
+            },
+          )),
       (λ h. record {
         numbers = h.0;
         lies = h.1;
-        holds = (projection.points (point_of params v e) (point_is h.0 h.1)).1 (rw whole ((along h.0 h.1).1 (h.2, h.3,
-            rw (between h.2) at h.4.holds)));
+        holds = (projection.points (point_of params v e) (point_is h.0 h.1)).1 (subst (HoldsAlong (free_columns s) cols (HoldsSystem s)) (sym whole)
+            ((along h.0 h.1).1 (h.2, h.3, subst (HoldsSystem s) (between h.2) h.4.holds)));
       }),
     )
 
