@@ -1,5 +1,5 @@
 -- The pieces of a space with several systems; and pieces that are made of others, one after another.
-use Rattle.std.proofs.Common.{◌≡◌, ◌↔◌, inl, inr, refl, sym, ap, ◌∙◌, subst, ℕ, ◌+◌, ◌-◌, ◌^◌, ◌<◌, ◌≤◌, Option, Some, None, option_map, option_to_list}
+use Rattle.std.proofs.Common.{◌≡◌, ◌↔◌, arith, inl, inr, refl, sym, ap, ◌∙◌, subst, ℕ, ◌+◌, ◌-◌, ◌^◌, ◌<◌, ◌≤◌, Option, Some, None, option_map, option_to_list}
 use Rattle.std.proofs.Common.{List, [], ◌∷◌, ◌++◌, All, Any, append_assoc, length, get_or, map, take, filter_map}
 use Rattle.std.specs.List.{cons_option}
 use Rattle.std.proofs.lemmas.List.{append-nil, map-append, map_more, take_all}
@@ -69,11 +69,12 @@ so_far_next P params space systems before rest s kept next so_far all =
     let parts = All-parts P so_far.done (s ∷ rest) (rw (so_far.all ∙ ap (λ l. so_far.done ++ l) next) at all) in
     All-head P s rest parts.1
 
-pub so_far_all : (params : List Name) (space : SpaceForm) (systems rest : List System) (kept : List PieceView) → rest ≡ []
+pub so_far_all : (params : List Name) (space : SpaceForm) (systems rest : List System) (kept : List PieceView) → length rest ≡ 0
     → AreLiveSoFar params space systems rest kept → AreLiveOf params (filter_map normal_of (map (piece_of space) systems)) (map kept_piece kept)
-so_far_all params space systems rest kept none so_far =
-    let all : systems ≡ so_far.done = so_far.all ∙ ap (λ l. so_far.done ++ l) none ∙ append-nil so_far.done in
+so_far_all params space systems [] kept none so_far =
+    let all : systems ≡ so_far.done = so_far.all ∙ append-nil so_far.done in
     rw all so_far.live
+so_far_all params space systems (s ∷ rest) kept none so_far = absurd (omega (arith, none))
 
 -- ---- all of them
 module _ (g : Gauge) (params : List Name) (space : SpaceForm) (systems : List System) (formed : IsWellFormedSpace space)

@@ -87,7 +87,7 @@ module _ (params : List Name) (piece : PieceView) (space to : SpaceForm) (from c
     front = values_of params v ++ take from e.coordinates
 
     -- the point of the element with others between
-    pub between : (middle : List ℤ) → values_of params v ++ put_between from middle e.coordinates ≡ front ++ (middle ++ drop from e.coordinates)
+    between : (middle : List ℤ) → values_of params v ++ put_between from middle e.coordinates ≡ front ++ (middle ++ drop from e.coordinates)
     unfolding front
     between middle = sym (append_assoc (values_of params v) (take from e.coordinates) (middle ++ drop from e.coordinates))
 

@@ -44,10 +44,10 @@ impl Value {
             let system = piece.system();
             if system.definitions.is_empty() {
                 kept.push(piece.copy()?)?;
-            } else {
-                let systems = flatten(alloc, system, meter)?;
-                append(&mut kept, live_pieces_in(alloc, params, piece.space(), systems, meter)?)?;
+                continue;
             }
+            let systems = flatten(alloc, system, meter)?;
+            append(&mut kept, live_pieces_in(alloc, params, piece.space(), systems, meter)?)?;
         }
         Ok(Value::from_normal(params.copy(alloc)?, kept))
     }

@@ -78,10 +78,11 @@ impl Value {
         let pieces = self.pieces();
         let mut kept = Vec::new(alloc);
         for piece in pieces {
-            if piece.space().same(space) {
-                let systems = without_columns(alloc, piece.system(), first, count, meter)?;
-                append(&mut kept, live_pieces_in(alloc, params, to, systems, meter)?)?;
+            if !piece.space().same(space) {
+                continue;
             }
+            let systems = without_columns(alloc, piece.system(), first, count, meter)?;
+            append(&mut kept, live_pieces_in(alloc, params, to, systems, meter)?)?;
         }
         Ok(Value::from_normal(params.copy(alloc)?, kept))
     }
