@@ -1,5 +1,6 @@
 -- Pieces without definitions.
-use Rattle.std.proofs.Common.{◌≡◌, ◌↔◌, sym, ap, ◌∙◌, arith, ◌-◌, List, All, length, length-append}
+use Rattle.std.proofs.Common.{◌≡◌, ◌↔◌, sym, ap, ◌∙◌, arith, subst, Bool, false, IsTrue, ℕ, ◌-◌, ◌<◌, List, [], All, get_or, length, length-append, map}
+use Rattle.isl_math.proofs.ListLaws.{All-unmapped}
 use Rattle.isl_space.specs.Element.{Element}
 use Rattle.isl_space.specs.Name.{Name}
 use Rattle.isl_space.specs.SpaceForm.{coordinates_of}
@@ -10,9 +11,11 @@ use Rattle.isl_piece.specs.declared.system.System.{System}
 use Rattle.isl_piece.specs.Piece.{PieceView}
 use Rattle.isl_piece.specs.System.{free_columns}
 use Rattle.isl_elim.specs.Flatten.{IsFlattening}
-use Rattle.isl_union.specs.KeptValue.{HasElement, columns_of, point_of}
+use Rattle.isl_union.specs.KeptValue.{KeptPiece, HasElement, columns_of, point_of}
 use Rattle.isl_union.specs.Piece.{kept_piece}
 use Rattle.isl_union.specs.Pieces.{IsOfAny}
+use Rattle.isl_union.proofs.MadeLaws.{not_true}
+use Rattle.isl_union.proofs.MeetSteps.{item_has}
 use Rattle.isl_union.proofs.SystemLaws.{point_long}
 
 module _ (params : List Name) (piece : PieceView) (free : free_columns piece.system ≡ columns_of params piece.space) (systems : List System)
@@ -39,3 +42,13 @@ module _ (params : List Name) (piece : PieceView) (free : free_columns piece.sys
       holds = (flat.points (point_of params v e) (point_long params v e (kept_piece piece) h ∙ sym free)).1 h.holds;
     }),
   )
+
+-- a piece of a value without definitions has none
+pub never_opened : (pieces : List PieceView) (kept : List KeptPiece) (i : ℕ) (piece : PieceView) (s : System) (empty : Bool) → i < length pieces
+    → piece ≡ get_or pieces i piece → map kept_piece pieces ≡ kept → s ≡ piece.system → empty ≡ false → (s.definitions ≡ [] → IsTrue empty)
+    → All (λ p. p.definitions ≡ []) kept → ⊥
+never_opened pieces kept i piece s empty low at content is shut yes none =
+    let all = subst (All (λ (p : KeptPiece). p.definitions ≡ [])) (sym content) none in
+    let here = item_has (λ p. p.system.definitions ≡ []) pieces i piece low at
+        (All-unmapped (λ (p : KeptPiece). p.definitions ≡ []) kept_piece pieces all) in
+    not_true empty shut (yes (ap (λ (t : System). t.definitions) is ∙ here))

@@ -1,11 +1,10 @@
 use Rattle.std.proofs.Common.{◌≡◌, ◌↔◌, ◌∙◌, sym, ap, ap₂, arith, subst, false, ◌+◌, ◌^◌, ◌-◌, ◌<◌, ◌≤◌, List, [], ◌∷◌, ◌++◌, length, get_or, map, take}
 use Rattle.std.specs.List.{All, Any}
-use Rattle.std.proofs.lemmas.List.{take_all, take_more}
+use Rattle.std.proofs.lemmas.List.{take_more}
 use Rattle.std.proofs.lemmas.List.Elements.{All-cons, All-nil}
 use Rattle.isl_math.proofs.ListLaws.{All-unmapped, Any-first, Any-one}
 use Rattle.isl_meter.proofs.CutLemmas.{IsCharged_trans}
 use Rattle.isl_space.specs.Name.{Name}
-use Rattle.isl_space.specs.Space.{space_form_of}
 use Rattle.isl_space.specs.SpaceForm.{SpaceForm, IsWellFormedSpace}
 use Rattle.isl_piece.specs.declared.system.System.{System}
 use Rattle.isl_piece.specs.Piece.{PieceView}
@@ -16,8 +15,7 @@ use Rattle.isl_union.specs.KeptValue.{KeptPiece, HasElement, columns_of}
 use Rattle.isl_union.specs.Numbers.{IsPieceUpTo}
 use Rattle.isl_union.specs.Piece.{kept_piece, IsPieceOf}
 use Rattle.isl_union.specs.Pieces.{IsOfAny}
-use Rattle.isl_union.proofs.FlatLaws.{flat_columns, flat_has}
-use Rattle.isl_union.proofs.MadeLaws.{not_true}
+use Rattle.isl_union.proofs.FlatLaws.{flat_columns, flat_has, never_opened}
 use Rattle.isl_union.proofs.MeetSteps.{charged_bits, item_has}
 use Rattle.isl_union.proofs.PiecesLaws.{made_has, made_kept, made_more, made_small, next_piece, plain_more, small_before, through}
 use Rattle.isl_union.proofs.SystemLaws.{view_free}
@@ -33,8 +31,10 @@ flatten-requires c =
     let low : c.loop-piece.piece-index < length pieces = omega arith in
     let all = pieces_within g self.params pieces self.pieces c.pieces-pieces.ensures.well_formed c.pieces-pieces.ensures.content c.requires in
     let here = item_has (λ p. IsSystemWithin g p.system) pieces c.loop-piece.piece-index piece low c.piece-item.is all in
-    subst (IsSystemWithin c.loop-piece.meter) (sym c.system-system.ensures)
-    (system_within_kept c.loop-piece.meter g piece.system (charged_bits g c.loop-piece.meter c.loop-piece.invariant.charged) here)
+    record {
+      well_formed = subst (IsSystemWithin c.loop-piece.meter) (sym c.system-system.ensures)
+          (system_within_kept c.loop-piece.meter g piece.system (charged_bits g c.loop-piece.meter c.loop-piece.invariant.charged) here);
+    }
 
 pub live_pieces_in-requires-clause-space : goal.live_pieces_in-requires-clause-space
 live_pieces_in-requires-clause-space c =
@@ -97,11 +97,9 @@ loop-piece-preserved c =
       plain = plain_more kept more pushed c.in_ok-append.ensures so_far.plain (told.definitions flat.definitions);
       charged = IsCharged_trans g m c.live_pieces_in.new.meter charged told.meter;
       same = λ n.
-          let all = subst (All (λ (p : KeptPiece). p.definitions ≡ [])) (sym c.pieces-pieces.ensures.content) n in
-          let none = item_has (λ p. p.system.definitions ≡ []) pieces i piece low c.piece-item.is
-              (All-unmapped (λ (p : KeptPiece). p.definitions ≡ []) kept_piece pieces all) in
-          let differs : c.is_empty.result ≡ false = grind arith in
-          absurd (not_true c.is_empty.result differs (c.is_empty.ensures.1 (ap (λ (s : System). s.definitions) c.system-system.ensures ∙ none)));
+          let no : c.is_empty.result ≡ false = grind arith in
+          absurd (never_opened pieces c.args.self.now.pieces i piece c.system-system.result.now c.is_empty.result low c.piece-item.is
+          c.pieces-pieces.ensures.content c.system-system.ensures no c.is_empty.ensures.1 n);
     }
 
 pub loop-piece-preserved-then-is_empty : goal.loop-piece-preserved-then-is_empty
@@ -162,3 +160,24 @@ returns-clause-numbers c =
     let end : length pieces ≤ c.loop-piece.piece-index = omega arith in
     made_small c.args.meter.now params (HasElement params) pieces c.loop-piece.kept.items c.loop-piece.piece-index c.args.self.now.pieces
     c.from_normal.result end c.pieces-pieces.ensures.content c.loop-piece.invariant.made (rw c.in_ok-copy-2.ensures at c.from_normal.ensures)
+
+pub returns-in_err-systems-clause-same : goal.returns-in_err-systems-clause-same
+returns-in_err-systems-clause-same c = λ n.
+    let low : c.loop-piece.piece-index < length c.pieces-pieces.result.now = omega arith in
+    let no : c.is_empty.result ≡ false = grind arith in
+    absurd (never_opened c.pieces-pieces.result.now c.args.self.now.pieces c.loop-piece.piece-index c.piece-item.result c.system-system.result.now
+    c.is_empty.result low c.piece-item.is c.pieces-pieces.ensures.content c.system-system.ensures no c.is_empty.ensures.1 n)
+
+pub returns-in_err-live_pieces_in-clause-same : goal.returns-in_err-live_pieces_in-clause-same
+returns-in_err-live_pieces_in-clause-same c = λ n.
+    let low : c.loop-piece.piece-index < length c.pieces-pieces.result.now = omega arith in
+    let no : c.is_empty.result ≡ false = grind arith in
+    absurd (never_opened c.pieces-pieces.result.now c.args.self.now.pieces c.loop-piece.piece-index c.piece-item.result c.system-system.result.now
+    c.is_empty.result low c.piece-item.is c.pieces-pieces.ensures.content c.system-system.ensures no c.is_empty.ensures.1 n)
+
+pub returns-in_err-append-clause-same : goal.returns-in_err-append-clause-same
+returns-in_err-append-clause-same c = λ n.
+    let low : c.loop-piece.piece-index < length c.pieces-pieces.result.now = omega arith in
+    let no : c.is_empty.result ≡ false = grind arith in
+    absurd (never_opened c.pieces-pieces.result.now c.args.self.now.pieces c.loop-piece.piece-index c.piece-item.result c.system-system.result.now
+    c.is_empty.result low c.piece-item.is c.pieces-pieces.ensures.content c.system-system.ensures no c.is_empty.ensures.1 n)

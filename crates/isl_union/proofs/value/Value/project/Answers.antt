@@ -1,13 +1,12 @@
-use Rattle.std.proofs.Common.{◌≡◌, ◌↔◌, ◌∙◌, sym, ap, arith, subst, false, ◌+◌, ◌<◌, ◌≤◌, List, [], length, get_or, map, take}
-use Rattle.std.specs.List.{All, Any, range_with_len}
+use Rattle.std.proofs.Common.{◌≡◌, ◌↔◌, ◌∙◌, sym, ap, arith, subst, false, ◌<◌, ◌≤◌, List, [], length, get_or, map, take}
+use Rattle.std.specs.List.{All, Any}
 use Rattle.isl_math.proofs.ListLaws.{All-unmapped}
 use Rattle.isl_meter.proofs.CutLemmas.{IsCharged_trans}
 use Rattle.isl_space.specs.Name.{Name}
 use Rattle.isl_space.specs.Space.{space_form_of}
 use Rattle.isl_piece.specs.declared.system.System.{System}
-use Rattle.isl_piece.specs.System.{IsSystemWithin, free_columns}
+use Rattle.isl_piece.specs.System.{IsSystemWithin}
 use Rattle.isl_piece.proofs.FormedLaws.{system_within_kept}
-use Rattle.isl_elim.specs.Elimination.{IsProjectionAlong}
 use Rattle.isl_union.specs.KeptValue.{KeptPiece, columns_of}
 use Rattle.isl_union.specs.Piece.{kept_piece, IsPieceOf}
 use Rattle.isl_union.specs.Project.{IsProjected}
