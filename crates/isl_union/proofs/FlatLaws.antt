@@ -1,5 +1,6 @@
 -- Pieces without definitions.
-use Rattle.std.proofs.Common.{◌≡◌, ◌↔◌, sym, ap, ◌∙◌, arith, subst, Bool, false, IsTrue, ℕ, ◌-◌, ◌<◌, List, [], All, get_or, length, length-append, map}
+use Rattle.std.proofs.Common.{◌≡◌, ◌↔◌, sym, ap, ◌∙◌, arith, subst, Bool, false, IsTrue, ℕ, ◌-◌, ◌<◌, List, [], All, get_or, length}
+use Rattle.std.proofs.Common.{length-append, map}
 use Rattle.isl_math.proofs.ListLaws.{All-unmapped}
 use Rattle.isl_space.specs.Element.{Element}
 use Rattle.isl_space.specs.Name.{Name}
@@ -44,11 +45,12 @@ module _ (params : List Name) (piece : PieceView) (free : free_columns piece.sys
   )
 
 -- a piece of a value without definitions has none
-pub never_opened : (pieces : List PieceView) (kept : List KeptPiece) (i : ℕ) (piece : PieceView) (s : System) (empty : Bool) → i < length pieces
+pub never_opened : (pieces : List PieceView) (kept : List KeptPiece) (i : ℕ) (piece : PieceView) (s : System) (empty : Bool)
+    → i < length pieces
     → piece ≡ get_or pieces i piece → map kept_piece pieces ≡ kept → s ≡ piece.system → empty ≡ false → (s.definitions ≡ [] → IsTrue empty)
     → All (λ p. p.definitions ≡ []) kept → ⊥
-never_opened pieces kept i piece s empty low at content is shut yes none =
+never_opened pieces kept i piece s empty low at content is shut test none =
     let all = subst (All (λ (p : KeptPiece). p.definitions ≡ [])) (sym content) none in
     let here = item_has (λ p. p.system.definitions ≡ []) pieces i piece low at
         (All-unmapped (λ (p : KeptPiece). p.definitions ≡ []) kept_piece pieces all) in
-    not_true empty shut (yes (ap (λ (t : System). t.definitions) is ∙ here))
+    not_true empty shut (test (ap (λ (t : System). t.definitions) is ∙ here))

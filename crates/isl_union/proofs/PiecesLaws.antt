@@ -1,10 +1,12 @@
 -- The pieces of a space with several systems; and pieces that are made of others, one after another.
-use Rattle.std.proofs.Common.{◌≡◌, ◌↔◌, arith, inl, inr, refl, sym, ap, ◌∙◌, subst, ℕ, ◌+◌, ◌-◌, ◌^◌, ◌<◌, ◌≤◌, Option, Some, None, option_map, option_to_list}
+use Rattle.std.proofs.Common.{◌≡◌, ◌↔◌, arith, inl, inr, refl, sym, ap, ◌∙◌, subst, ℕ, ◌+◌, ◌-◌, ◌^◌, ◌<◌, ◌≤◌, Option, Some, None}
+use Rattle.std.proofs.Common.{option_map, option_to_list}
 use Rattle.std.proofs.Common.{List, [], ◌∷◌, ◌++◌, All, Any, append_assoc, length, get_or, map, take, filter_map}
 use Rattle.std.specs.List.{cons_option}
 use Rattle.std.proofs.lemmas.List.{append-nil, map-append, map_more, take_all}
 use Rattle.std.proofs.lemmas.List.Elements.{All-append, All-cons, All-head, All-map, All-nil, All-tail, filter_map-append}
-use Rattle.isl_math.proofs.ListLaws.{All-parts, Any-element, Any-first, Any-left, Any-none, Any-one, Any-parts, Any-right, Any-unmapped, Any-weaker}
+use Rattle.isl_math.proofs.ListLaws.{All-parts, Any-element, Any-first, Any-left, Any-none, Any-one, Any-parts, Any-right, Any-unmapped}
+use Rattle.isl_math.proofs.ListLaws.{Any-weaker}
 use Rattle.isl_meter.specs.Gauge.{Gauge, IsCharged, IsCutBy}
 use Rattle.isl_meter.specs.declared.Cut.{Cut}
 use Rattle.isl_space.specs.Element.{Element}
@@ -70,7 +72,8 @@ so_far_next P params space systems before rest s kept next so_far all =
     All-head P s rest parts.1
 
 pub so_far_all : (params : List Name) (space : SpaceForm) (systems rest : List System) (kept : List PieceView) → length rest ≡ 0
-    → AreLiveSoFar params space systems rest kept → AreLiveOf params (filter_map normal_of (map (piece_of space) systems)) (map kept_piece kept)
+    → AreLiveSoFar params space systems rest kept
+        → AreLiveOf params (filter_map normal_of (map (piece_of space) systems)) (map kept_piece kept)
 so_far_all params space systems [] kept none so_far =
     let all : systems ≡ so_far.done = so_far.all ∙ append-nil so_far.done in
     rw all so_far.live
@@ -95,17 +98,20 @@ module _ (g : Gauge) (params : List Name) (space : SpaceForm) (systems : List Sy
               lies = sym one.2.space;
               holds = Any-weaker (λ s. H (piece_of space s)) (λ s. HoldsSystem s (point_of params v e)) (λ s h. h.holds) systems some;
             }),
-        (λ h. both.1 (any_mapped H (piece_of space) systems (Any-weaker (λ s. HoldsSystem s (point_of params v e)) (λ s. H (piece_of space s))
+        (λ h. both.1 (any_mapped H (piece_of space) systems
+            (Any-weaker (λ s. HoldsSystem s (point_of params v e)) (λ s. H (piece_of space s))
             (λ s k. record { numbers = h.numbers; space = sym h.lies; holds = k }) systems h.holds))),
       )
 
   pub pieces_small : All (IsPieceUpTo (2 ^ g.bits - 1)) kept
   pieces_small = live_small g params (2 ^ g.bits - 1) (map (piece_of space) systems) kept over live
       (All-map (IsPieceUpTo (2 ^ g.bits - 1)) (piece_of space) systems (λ k d l.
-      piece_up_to g params (piece_of space (get_or systems k d)) (here_within g params space (get_or systems k d) (within k d l) (columns k d l))))
+      piece_up_to g params (piece_of space (get_or systems k d))
+          (here_within g params space (get_or systems k d) (within k d l) (columns k d l))))
 
   pub pieces_plain : All (λ s. s.definitions ≡ []) systems → All (λ piece. piece.definitions ≡ []) kept
-  pieces_plain plain = live_all params P P (λ piece p l. p) (filter_map normal_of (map (piece_of space) systems)) kept live (each systems plain)
+  pieces_plain plain = live_all params P P (λ piece p l. p) (filter_map normal_of (map (piece_of space) systems)) kept live
+      (each systems plain)
     where
       P : KeptPiece → Type 0
       P piece = piece.definitions ≡ []
@@ -166,7 +172,8 @@ module _ (g : Gauge) (params : List Name) (Q : Valuation → Element → KeptPie
         → All (IsPieceUpTo (2 ^ g.bits - 1)) (map kept_piece more) → AreMade g params Q (others ++ piece ∷ []) pushed
     made_more more pushed is elements sound small = rw is (record {
       elements = λ v e. rw (map-append kept_piece made more)
-          (any_step (HasElement params v e) (Q v e) (map kept_piece made) (map kept_piece more) others piece (so_far.elements v e) (elements v e));
+          (any_step (HasElement params v e) (Q v e) (map kept_piece made) (map kept_piece more) others piece (so_far.elements v e)
+              (elements v e));
       sound = All-append (IsPieceOf params) made more so_far.sound sound;
       small = rw (map-append kept_piece made more)
           (All-append (IsPieceUpTo (2 ^ g.bits - 1)) (map kept_piece made) (map kept_piece more) so_far.small small);

@@ -49,7 +49,8 @@ along_range a b count columns P e = (
       let first = length-append a (m ++ b) in
       let second = length-append m b in
       let long = k.1 in
-      (whole, omega (arith, first, second, long, e), ap (λ n. without (range_with_len (length a) n) whole) (sym long) ∙ without_range a m b, k.2)),
+      (whole, omega (arith, first, second, long, e),
+      ap (λ n. without (range_with_len (length a) n) whole) (sym long) ∙ without_range a m b, k.2)),
 )
 
 -- ---- one piece
@@ -60,7 +61,8 @@ HasBetween params space from count to v e piece =
     × HasElement params v (record { space = space; coordinates = put_between from middle e.coordinates }) piece
 
 -- a piece of another space has none
-pub between_same : (params : List Name) (space : SpaceForm) (from count : ℕ) (to : SpaceForm) (v : Valuation) (e : Element) (piece : KeptPiece)
+pub between_same : (params : List Name) (space : SpaceForm) (from count : ℕ) (to : SpaceForm) (v : Valuation) (e : Element)
+    (piece : KeptPiece)
     → HasBetween params space from count to v e piece → piece.space ≡ space
 between_same params space from count to v e piece h = h.4.space
 
@@ -155,7 +157,8 @@ module _ (params : List Name) (piece : PieceView) (space to : SpaceForm) (from c
       (λ h. record {
         numbers = h.0;
         lies = h.1;
-        holds = (projection.points (point_of params v e) (point_is h.0 h.1)).1 (subst (HoldsAlong (free_columns s) cols (HoldsSystem s)) (sym whole)
+        holds = (projection.points (point_of params v e) (point_is h.0 h.1)).1
+            (subst (HoldsAlong (free_columns s) cols (HoldsSystem s)) (sym whole)
             ((along h.0 h.1).1 (h.2, h.3, subst (HoldsSystem s) (between h.2) h.4.holds)));
       }),
     )
@@ -176,7 +179,8 @@ projected_exactly value space from count to v e =
                 value.pieces one.0 one.1 h.4;
           }),
       (λ p.
-          let one = Any-element (HasElement value.params v (record { space = space; coordinates = put_between from p.middle e.coordinates }))
+          let one = Any-element
+              (HasElement value.params v (record { space = space; coordinates = put_between from p.middle e.coordinates }))
               value.pieces p.whole in
           Any-contains Q value.pieces one.0 one.1 (p.numbers, p.lies, p.middle, p.long, one.2)),
     )

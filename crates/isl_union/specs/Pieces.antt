@@ -9,7 +9,8 @@ use Rattle.isl_elim.specs.Elimination.{HoldsAtAny}
 use Rattle.isl_union.specs.KeptValue.{point_of}
 
 -- the element lies in the space, and one of the systems holds there
-pub record IsOfAny (params : List Name) (space : SpaceForm) (systems : List System) (valuation : Valuation) (element : Element) : Type 0 where
+pub record IsOfAny (params : List Name) (space : SpaceForm) (systems : List System) (valuation : Valuation) (element : Element)
+    : Type 0 where
   pub numbers : IsElement element
   pub lies : element.space ≡ space
   pub holds : HoldsAtAny systems (point_of params valuation element)

@@ -15,7 +15,8 @@ live_piece-requires c =
     let before = c.loop-system.system-iterator.rest.items in
     let next : before ≡ c.in-Some.system ∷ c.next.new.self.rest.items = grind arith in
     system_within_kept c.loop-system.meter g c.in-Some.system (charged_bits g c.loop-system.meter c.loop-system.invariant.charged)
-    (so_far_next (IsSystemWithin g) c.args.params.now (space_form_of c.args.space.now) c.args.systems.items before c.next.new.self.rest.items
+    (so_far_next (IsSystemWithin g) c.args.params.now (space_form_of c.args.space.now) c.args.systems.items before
+        c.next.new.self.rest.items
     c.in-Some.system c.loop-system.kept.items next c.loop-system.invariant.live c.requires.within)
 
 pub loop-system-preserved : goal.loop-system-preserved

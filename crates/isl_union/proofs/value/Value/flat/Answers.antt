@@ -1,4 +1,5 @@
-use Rattle.std.proofs.Common.{◌≡◌, ◌↔◌, ◌∙◌, sym, ap, ap₂, arith, subst, false, ◌+◌, ◌^◌, ◌-◌, ◌<◌, ◌≤◌, List, [], ◌∷◌, ◌++◌, length, get_or, map, take}
+use Rattle.std.proofs.Common.{◌≡◌, ◌↔◌, ◌∙◌, sym, ap, ap₂, arith, subst, false, ◌+◌, ◌^◌, ◌-◌, ◌<◌, ◌≤◌, List, [], ◌∷◌, ◌++◌, length}
+use Rattle.std.proofs.Common.{get_or, map, take}
 use Rattle.std.specs.List.{All, Any}
 use Rattle.std.proofs.lemmas.List.{take_more}
 use Rattle.std.proofs.lemmas.List.Elements.{All-cons, All-nil}
@@ -29,7 +30,8 @@ flatten-requires c =
     let pieces = c.pieces-pieces.result.now in
     let piece = c.piece-item.result in
     let low : c.loop-piece.piece-index < length pieces = omega arith in
-    let all = pieces_within g self.params pieces self.pieces c.pieces-pieces.ensures.well_formed c.pieces-pieces.ensures.content c.requires in
+    let all = pieces_within g self.params pieces self.pieces c.pieces-pieces.ensures.well_formed c.pieces-pieces.ensures.content
+        c.requires in
     let here = item_has (λ p. IsSystemWithin g p.system) pieces c.loop-piece.piece-index piece low c.piece-item.is all in
     record {
       well_formed = subst (IsSystemWithin c.loop-piece.meter) (sym c.system-system.ensures)
@@ -91,7 +93,8 @@ loop-piece-preserved c =
           (made_more g params (HasElement params) (map kept_piece (take i pieces)) (kept_piece piece) kept so_far.made more pushed
           c.in_ok-append.ensures
           (λ v e. through
-          (subst (λ (space : SpaceForm). Any (HasElement params v e) (map kept_piece more) ↔ IsOfAny params space systems v e) c.space.ensures
+          (subst (λ (space : SpaceForm). Any (HasElement params v e) (map kept_piece more) ↔ IsOfAny params space systems v e)
+              c.space.ensures
           (told.elements v e))
           (flat_has params piece free systems flat v e)) told.sound (small_before g m (map kept_piece more) charged told.numbers));
       plain = plain_more kept more pushed c.in_ok-append.ensures so_far.plain (told.definitions flat.definitions);
@@ -123,8 +126,10 @@ loop-piece-preserved-then-is_empty c =
         (All-unmapped (IsPieceUpTo (2 ^ g.bits - 1)) kept_piece pieces all) in
     record {
       made = rw (next_piece pieces i piece low c.piece-item.is)
-          (made_more g params (HasElement params) (map kept_piece (take i pieces)) (kept_piece piece) kept so_far.made (piece ∷ []) pushed is
-          (λ v e. ((λ a. Any-one (HasElement params v e) (kept_piece piece) a), (λ k. Any-first (HasElement params v e) (kept_piece piece) [] k)))
+          (made_more g params (HasElement params) (map kept_piece (take i pieces)) (kept_piece piece) kept so_far.made (piece ∷ [])
+              pushed is
+          (λ v e. ((λ a. Any-one (HasElement params v e) (kept_piece piece) a),
+          (λ k. Any-first (HasElement params v e) (kept_piece piece) [] k)))
           (All-cons (IsPieceOf params) piece [] sound (All-nil (IsPieceOf params)))
           (All-cons (IsPieceUpTo (2 ^ g.bits - 1)) (kept_piece piece) [] small (All-nil (IsPieceUpTo (2 ^ g.bits - 1)))));
       plain = plain_more kept (piece ∷ []) pushed is so_far.plain
@@ -132,7 +137,8 @@ loop-piece-preserved-then-is_empty c =
       charged = so_far.charged;
       same = λ n.
           let before = so_far.same n in
-          (is ∙ ap₂ (λ (l : List PieceView) (p : PieceView). l ++ p ∷ []) before.0 c.piece-item.is ∙ sym (take_more pieces i piece low), before.1);
+          (is ∙ ap₂ (λ (l : List PieceView) (p : PieceView). l ++ p ∷ []) before.0 c.piece-item.is ∙ sym (take_more pieces i piece low),
+              before.1);
     }
 
 pub returns-clause-kept : goal.returns-clause-kept
@@ -141,7 +147,8 @@ returns-clause-kept c =
     let pieces = c.pieces-pieces.result.now in
     let end : length pieces ≤ c.loop-piece.piece-index = omega arith in
     made_kept c.args.meter.now params (HasElement params) pieces c.loop-piece.kept.items c.loop-piece.piece-index c.args.self.now.pieces
-    c.from_normal.result end c.pieces-pieces.ensures.content c.loop-piece.invariant.made (rw c.in_ok-copy-2.ensures at c.from_normal.ensures)
+    c.from_normal.result end c.pieces-pieces.ensures.content c.loop-piece.invariant.made
+        (rw c.in_ok-copy-2.ensures at c.from_normal.ensures)
     c.params-params.ensures.well_formed
 
 pub returns-clause-elements : goal.returns-clause-elements
@@ -159,25 +166,29 @@ returns-clause-numbers c =
     let pieces = c.pieces-pieces.result.now in
     let end : length pieces ≤ c.loop-piece.piece-index = omega arith in
     made_small c.args.meter.now params (HasElement params) pieces c.loop-piece.kept.items c.loop-piece.piece-index c.args.self.now.pieces
-    c.from_normal.result end c.pieces-pieces.ensures.content c.loop-piece.invariant.made (rw c.in_ok-copy-2.ensures at c.from_normal.ensures)
+    c.from_normal.result end c.pieces-pieces.ensures.content c.loop-piece.invariant.made
+        (rw c.in_ok-copy-2.ensures at c.from_normal.ensures)
 
 pub returns-in_err-systems-clause-same : goal.returns-in_err-systems-clause-same
 returns-in_err-systems-clause-same c = λ n.
     let low : c.loop-piece.piece-index < length c.pieces-pieces.result.now = omega arith in
     let no : c.is_empty.result ≡ false = grind arith in
-    absurd (never_opened c.pieces-pieces.result.now c.args.self.now.pieces c.loop-piece.piece-index c.piece-item.result c.system-system.result.now
+    absurd (never_opened c.pieces-pieces.result.now c.args.self.now.pieces c.loop-piece.piece-index c.piece-item.result
+        c.system-system.result.now
     c.is_empty.result low c.piece-item.is c.pieces-pieces.ensures.content c.system-system.ensures no c.is_empty.ensures.1 n)
 
 pub returns-in_err-live_pieces_in-clause-same : goal.returns-in_err-live_pieces_in-clause-same
 returns-in_err-live_pieces_in-clause-same c = λ n.
     let low : c.loop-piece.piece-index < length c.pieces-pieces.result.now = omega arith in
     let no : c.is_empty.result ≡ false = grind arith in
-    absurd (never_opened c.pieces-pieces.result.now c.args.self.now.pieces c.loop-piece.piece-index c.piece-item.result c.system-system.result.now
+    absurd (never_opened c.pieces-pieces.result.now c.args.self.now.pieces c.loop-piece.piece-index c.piece-item.result
+        c.system-system.result.now
     c.is_empty.result low c.piece-item.is c.pieces-pieces.ensures.content c.system-system.ensures no c.is_empty.ensures.1 n)
 
 pub returns-in_err-append-clause-same : goal.returns-in_err-append-clause-same
 returns-in_err-append-clause-same c = λ n.
     let low : c.loop-piece.piece-index < length c.pieces-pieces.result.now = omega arith in
     let no : c.is_empty.result ≡ false = grind arith in
-    absurd (never_opened c.pieces-pieces.result.now c.args.self.now.pieces c.loop-piece.piece-index c.piece-item.result c.system-system.result.now
+    absurd (never_opened c.pieces-pieces.result.now c.args.self.now.pieces c.loop-piece.piece-index c.piece-item.result
+        c.system-system.result.now
     c.is_empty.result low c.piece-item.is c.pieces-pieces.ensures.content c.system-system.ensures no c.is_empty.ensures.1 n)

@@ -12,7 +12,8 @@ use Rattle.isl_union.specs.Piece.{kept_piece, IsPieceOf}
 use Rattle.isl_union.specs.Project.{IsProjected}
 use Rattle.isl_union.proofs.MadeLaws.{not_true}
 use Rattle.isl_union.proofs.MeetSteps.{charged_bits, item_has}
-use Rattle.isl_union.proofs.PiecesLaws.{made_has, made_kept, made_more, made_skip, made_small, next_piece, plain_more, small_before, through}
+use Rattle.isl_union.proofs.PiecesLaws.{made_has, made_kept, made_more, made_skip, made_small, next_piece, plain_more, small_before}
+use Rattle.isl_union.proofs.PiecesLaws.{through}
 use Rattle.isl_union.proofs.ProjectLaws.{between_same, projected, projected_columns, projected_exactly, HasBetween}
 use Rattle.isl_union.proofs.SystemLaws.{view_free}
 use Rattle.isl_union.proofs.ValueLaws.{pieces_within}
@@ -82,7 +83,8 @@ loop-piece-preserved c =
           (made_more g params (HasBetween params space c.args.from c.args.count to) (map kept_piece (take i pieces)) (kept_piece piece) kept
           so_far.made more pushed c.in_ok-append.ensures
           (λ v e. through (told.elements v e)
-          (projected params piece space to c.args.from c.args.count c.requires.narrower lies free c.in_ok-systems.systems.items projection v e))
+          (projected params piece space to c.args.from c.args.count c.requires.narrower lies free c.in_ok-systems.systems.items
+              projection v e))
           told.sound (small_before g m (map kept_piece more) charged told.numbers));
       plain = λ n.
           let all = subst (All (λ (p : KeptPiece). p.definitions ≡ [])) (sym c.pieces-pieces.ensures.content) n in
@@ -119,7 +121,8 @@ returns-clause-kept c =
     let params = c.params-params.result.now in
     let pieces = c.pieces-pieces.result.now in
     let end : length pieces ≤ c.loop-piece.piece-index = omega arith in
-    made_kept c.args.meter.now params (HasBetween params (space_form_of c.args.space.now) c.args.from c.args.count (space_form_of c.args.to.now))
+    made_kept c.args.meter.now params
+        (HasBetween params (space_form_of c.args.space.now) c.args.from c.args.count (space_form_of c.args.to.now))
     pieces c.loop-piece.kept.items c.loop-piece.piece-index c.args.self.now.pieces c.from_normal.result end c.pieces-pieces.ensures.content
     c.loop-piece.invariant.made (rw c.in_ok-copy.ensures at c.from_normal.ensures) c.len.ensures.well_formed
 
@@ -144,6 +147,7 @@ returns-clause-numbers c =
     let params = c.params-params.result.now in
     let pieces = c.pieces-pieces.result.now in
     let end : length pieces ≤ c.loop-piece.piece-index = omega arith in
-    made_small c.args.meter.now params (HasBetween params (space_form_of c.args.space.now) c.args.from c.args.count (space_form_of c.args.to.now))
+    made_small c.args.meter.now params
+        (HasBetween params (space_form_of c.args.space.now) c.args.from c.args.count (space_form_of c.args.to.now))
     pieces c.loop-piece.kept.items c.loop-piece.piece-index c.args.self.now.pieces c.from_normal.result end c.pieces-pieces.ensures.content
     c.loop-piece.invariant.made (rw c.in_ok-copy.ensures at c.from_normal.ensures)
