@@ -1,5 +1,6 @@
 -- What is left of a system once its defined columns are free, and taken out.
-use Rattle.std.proofs.Common.{◌≡◌, ◌↔◌, refl, sym, ap, ap₂, subst, ◌∙◌, arith, true, ℕ, suc, ◌+◌, ◌-◌, ◌<◌, ◌≤◌, ℤ, List, [], ◌∷◌, ◌++◌, length, map, take, drop}
+use Rattle.std.proofs.Common.{◌≡◌, ◌↔◌, refl, sym, ap, ap₂, subst, ◌∙◌, arith, true, ℕ, suc, ◌+◌, ◌-◌, ◌<◌, ◌≤◌, ℤ, List, [], ◌∷◌, ◌++◌}
+use Rattle.std.proofs.Common.{length, map, take, drop}
 use Rattle.std.proofs.Common.{Option, Some, None, option_map, option_to_list, IfSome, take-append-drop}
 use Rattle.std.specs.Prelude.{MatchOption}
 use Rattle.std.specs.List.{All, range_with_len}

@@ -17,7 +17,8 @@ among_inside j a n low high =
     let i = j - a in
     let long = length-range_with_len a n in
     let at = get_or-range_with_len a n i 0 (omega arith) in
-    list_any_at (λ c. nat_eq c j) (range_with_len a n) i 0 (omega (arith, long)) (eq-eqb (get_or (range_with_len a n) i 0) j (omega (arith, at)))
+    list_any_at (λ c. nat_eq c j) (range_with_len a n) i 0 (omega (arith, long))
+        (eq-eqb (get_or (range_with_len a n) i 0) j (omega (arith, at)))
 
 pub among_outside : (j a n : ℕ) → (j < a) ⊎ (a + n ≤ j) → among j (range_with_len a n) ≡ false
 among_outside j a n out = not_among j (range_with_len a n) (λ k d l e.
@@ -62,4 +63,5 @@ without_range a m b =
 
 -- numbers behind others
 pub without_behind : (a m : List ℤ) → without (range_with_len (length a) (length m)) (a ++ m) ≡ a
-without_behind a m = ap (λ xs. without (range_with_len (length a) (length m)) (a ++ xs)) (sym (append-nil m)) ∙ without_range a m [] ∙ append-nil a
+without_behind a m = ap (λ xs. without (range_with_len (length a) (length m)) (a ++ xs)) (sym (append-nil m)) ∙ without_range a m []
+    ∙ append-nil a

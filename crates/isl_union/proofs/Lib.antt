@@ -12,3 +12,6 @@ pub mod MeetSteps
 pub mod MinusLaws
 pub mod PairLaws
 pub mod CompareLaws
+pub mod PiecesLaws
+pub mod ProjectLaws
+pub mod FlatLaws

@@ -8,6 +8,7 @@ pub mod Minus
 pub mod Moved
 pub mod Numbers
 pub mod Piece
+pub mod Pieces
 pub mod Project
 pub mod Sample
 pub mod Stored

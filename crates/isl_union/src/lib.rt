@@ -4,10 +4,13 @@
 mod aligned;
 mod compare;
 mod fault;
+mod flat;
 mod live;
 mod meet;
 mod minus;
 mod pair;
+mod pieces;
+mod project;
 mod union;
 mod value;
 
