@@ -18,7 +18,7 @@ among_inside j a n low high =
     let long = length-range_with_len a n in
     let at = get_or-range_with_len a n i 0 (omega arith) in
     list_any_at (λ c. nat_eq c j) (range_with_len a n) i 0 (omega (arith, long))
-        (eq-eqb (get_or (range_with_len a n) i 0) j (omega (arith, at)))
+    (eq-eqb (get_or (range_with_len a n) i 0) j (omega (arith, at)))
 
 pub among_outside : (j a n : ℕ) → (j < a) ⊎ (a + n ≤ j) → among j (range_with_len a n) ≡ false
 among_outside j a n out = not_among j (range_with_len a n) (λ k d l e.

@@ -52,5 +52,5 @@ pub never_opened : (pieces : List PieceView) (kept : List KeptPiece) (i : ℕ) (
 never_opened pieces kept i piece s empty low at content is shut test none =
     let all = subst (All (λ (p : KeptPiece). p.definitions ≡ [])) (sym content) none in
     let here = item_has (λ p. p.system.definitions ≡ []) pieces i piece low at
-        (All-unmapped (λ (p : KeptPiece). p.definitions ≡ []) kept_piece pieces all) in
+    (All-unmapped (λ (p : KeptPiece). p.definitions ≡ []) kept_piece pieces all) in
     not_true empty shut (test (ap (λ (t : System). t.definitions) is ∙ here))

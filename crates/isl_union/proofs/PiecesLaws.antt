@@ -58,8 +58,8 @@ so_far_more params space systems before rest s kept pushed o next exact is so_fa
   all = so_far.all ∙ ap (λ l. so_far.done ++ l) next ∙ sym (append_assoc so_far.done (s ∷ []) rest);
   live =
       let pieces = ap (filter_map normal_of) (map-append (piece_of space) so_far.done (s ∷ []))
-          ∙ filter_map-append normal_of (map (piece_of space) so_far.done) (piece_of space s ∷ [])
-          ∙ ap (λ l. filter_map normal_of (map (piece_of space) so_far.done) ++ l) (filter_one (piece_of space s)) in
+      ∙ filter_map-append normal_of (map (piece_of space) so_far.done) (piece_of space s ∷ [])
+      ∙ ap (λ l. filter_map normal_of (map (piece_of space) so_far.done) ++ l) (filter_one (piece_of space s)) in
       rw pieces (pushed_live params (filter_map normal_of (map (piece_of space) so_far.done)) (normal_of (piece_of space s)) kept pushed o
       so_far.live exact is);
 }
@@ -73,7 +73,7 @@ so_far_next P params space systems before rest s kept next so_far all =
 
 pub so_far_all : (params : List Name) (space : SpaceForm) (systems rest : List System) (kept : List PieceView) → length rest ≡ 0
     → AreLiveSoFar params space systems rest kept
-        → AreLiveOf params (filter_map normal_of (map (piece_of space) systems)) (map kept_piece kept)
+    → AreLiveOf params (filter_map normal_of (map (piece_of space) systems)) (map kept_piece kept)
 so_far_all params space systems [] kept none so_far =
     let all : systems ≡ so_far.done = so_far.all ∙ append-nil so_far.done in
     rw all so_far.live
@@ -107,7 +107,7 @@ module _ (g : Gauge) (params : List Name) (space : SpaceForm) (systems : List Sy
   pieces_small = live_small g params (2 ^ g.bits - 1) (map (piece_of space) systems) kept over live
       (All-map (IsPieceUpTo (2 ^ g.bits - 1)) (piece_of space) systems (λ k d l.
       piece_up_to g params (piece_of space (get_or systems k d))
-          (here_within g params space (get_or systems k d) (within k d l) (columns k d l))))
+      (here_within g params space (get_or systems k d) (within k d l) (columns k d l))))
 
   pub pieces_plain : All (λ s. s.definitions ≡ []) systems → All (λ piece. piece.definitions ≡ []) kept
   pieces_plain plain = live_all params P P (λ piece p l. p) (filter_map normal_of (map (piece_of space) systems)) kept live
@@ -173,7 +173,7 @@ module _ (g : Gauge) (params : List Name) (Q : Valuation → Element → KeptPie
     made_more more pushed is elements sound small = rw is (record {
       elements = λ v e. rw (map-append kept_piece made more)
           (any_step (HasElement params v e) (Q v e) (map kept_piece made) (map kept_piece more) others piece (so_far.elements v e)
-              (elements v e));
+          (elements v e));
       sound = All-append (IsPieceOf params) made more so_far.sound sound;
       small = rw (map-append kept_piece made more)
           (All-append (IsPieceUpTo (2 ^ g.bits - 1)) (map kept_piece made) (map kept_piece more) so_far.small small);

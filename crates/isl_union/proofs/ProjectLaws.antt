@@ -37,8 +37,8 @@ along_range a b count columns P e = (
       let M_long = length-take-le count rest (omega (arith, behind, long, e)) in
       let parts : w ≡ A ++ (M ++ B) = sym (take-append-drop (length a) w) ∙ ap (λ y. A ++ y) (sym (take-append-drop count rest)) in
       let left : without (range_with_len (length a) count) w ≡ A ++ B =
-          ap₂ (λ i n. without (range_with_len i n) w) (sym A_long) (sym M_long) ∙ ap (without (range_with_len (length A) (length M))) parts
-          ∙ without_range A M B in
+      ap₂ (λ i n. without (range_with_len i n) w) (sym A_long) (sym M_long) ∙ ap (without (range_with_len (length A) (length M))) parts
+      ∙ without_range A M B in
       let same : A ++ B ≡ a ++ b = sym left ∙ h.2 in
       let front : A ≡ a = sym (take_at A B (length a) A_long) ∙ ap (take (length a)) same ∙ take_at a b (length a) refl in
       let back : B ≡ b = sym (drop_at A B (length a) A_long) ∙ ap (drop (length a)) same ∙ drop_at a b (length a) refl in
@@ -48,9 +48,12 @@ along_range a b count columns P e = (
       let whole = a ++ (m ++ b) in
       let first = length-append a (m ++ b) in
       let second = length-append m b in
-      let long = k.1 in
-      (whole, omega (arith, first, second, long, e),
-      ap (λ n. without (range_with_len (length a) n) whole) (sym long) ∙ without_range a m b, k.2)),
+      let long = k.1 in (
+        whole,
+        omega (arith, first, second, long, e),
+        ap (λ n. without (range_with_len (length a) n) whole) (sym long) ∙ without_range a m b,
+        k.2,
+      )),
 )
 
 -- ---- one piece
@@ -180,7 +183,7 @@ projected_exactly value space from count to v e =
           }),
       (λ p.
           let one = Any-element
-              (HasElement value.params v (record { space = space; coordinates = put_between from p.middle e.coordinates }))
-              value.pieces p.whole in
+          (HasElement value.params v (record { space = space; coordinates = put_between from p.middle e.coordinates }))
+          value.pieces p.whole in
           Any-contains Q value.pieces one.0 one.1 (p.numbers, p.lies, p.middle, p.long, one.2)),
     )

@@ -47,7 +47,10 @@ impl Value {
                 continue;
             }
             let systems = flatten(alloc, system, meter)?;
-            append(&mut kept, live_pieces_in(alloc, params, piece.space(), systems, meter)?)?;
+            append(
+                &mut kept,
+                live_pieces_in(alloc, params, piece.space(), systems, meter)?,
+            )?;
         }
         Ok(Value::from_normal(params.copy(alloc)?, kept))
     }

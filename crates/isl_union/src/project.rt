@@ -82,7 +82,10 @@ impl Value {
                 continue;
             }
             let systems = without_columns(alloc, piece.system(), first, count, meter)?;
-            append(&mut kept, live_pieces_in(alloc, params, to, systems, meter)?)?;
+            append(
+                &mut kept,
+                live_pieces_in(alloc, params, to, systems, meter)?,
+            )?;
         }
         Ok(Value::from_normal(params.copy(alloc)?, kept))
     }

@@ -8,7 +8,7 @@ pub returns-clause-points : goal.returns-clause-points
 returns-clause-points c =
     let systems = c.match-branch-3.systems.items in
     let made : systems ≡ option_to_list c.in_ok-normal.field-0 =
-        elim c.match-branch-3.branch [ in-Some+in_ok-push w ↦ grind arith | in_default w ↦ grind arith ] in
+    elim c.match-branch-3.branch [ in-Some+in_ok-push w ↦ grind arith | in_default w ↦ grind arith ] in
     normal_points c.args.system.now c.in_ok-normal.field-0 systems made
     (λ point. rw c.in_ok-copy.ensures at (c.in_ok-normal.ensures.points point))
 
@@ -16,5 +16,5 @@ pub returns-clause-normal : goal.returns-clause-normal
 returns-clause-normal c =
     let systems = c.match-branch-3.systems.items in
     let made : systems ≡ option_to_list c.in_ok-normal.field-0 =
-        elim c.match-branch-3.branch [ in-Some+in_ok-push w ↦ grind arith | in_default w ↦ grind arith ] in
+    elim c.match-branch-3.branch [ in-Some+in_ok-push w ↦ grind arith | in_default w ↦ grind arith ] in
     normal_all (λ s. IsNormal s.rows) c.in_ok-normal.field-0 systems made c.in_ok-normal.ensures.normal

@@ -16,7 +16,7 @@ live_piece-requires c =
     let next : before ≡ c.in-Some.system ∷ c.next.new.self.rest.items = grind arith in
     system_within_kept c.loop-system.meter g c.in-Some.system (charged_bits g c.loop-system.meter c.loop-system.invariant.charged)
     (so_far_next (IsSystemWithin g) c.args.params.now (space_form_of c.args.space.now) c.args.systems.items before
-        c.next.new.self.rest.items
+    c.next.new.self.rest.items
     c.in-Some.system c.loop-system.kept.items next c.loop-system.invariant.live c.requires.within)
 
 pub loop-system-preserved : goal.loop-system-preserved
@@ -34,7 +34,7 @@ loop-system-preserved c =
     let so_far = c.loop-system.invariant in
     let next : before ≡ s ∷ rest = grind arith in
     let free = so_far_next (λ t. free_columns t ≡ columns_of params space) params space systems before rest s kept next so_far.live
-        c.requires.columns in
+    c.requires.columns in
     let both = c.in_ok-live_piece.ensures.found params c.requires.space free in
     record {
       live = so_far_more params space systems before rest s kept pushed found next both.0 c.in_ok-push_found.ensures so_far.live;

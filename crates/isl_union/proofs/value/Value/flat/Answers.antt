@@ -31,7 +31,7 @@ flatten-requires c =
     let piece = c.piece-item.result in
     let low : c.loop-piece.piece-index < length pieces = omega arith in
     let all = pieces_within g self.params pieces self.pieces c.pieces-pieces.ensures.well_formed c.pieces-pieces.ensures.content
-        c.requires in
+    c.requires in
     let here = item_has (λ p. IsSystemWithin g p.system) pieces c.loop-piece.piece-index piece low c.piece-item.is all in
     record {
       well_formed = subst (IsSystemWithin c.loop-piece.meter) (sym c.system-system.ensures)
@@ -44,7 +44,7 @@ live_pieces_in-requires-clause-space c =
     let piece = c.piece-item.result in
     let low : c.loop-piece.piece-index < length pieces = omega arith in
     let own = item_has (IsPieceOf c.args.self.now.params) pieces c.loop-piece.piece-index piece low c.piece-item.is
-        c.pieces-pieces.ensures.well_formed in
+    c.pieces-pieces.ensures.well_formed in
     subst IsWellFormedSpace (sym c.space.ensures) own.kept.space
 
 pub live_pieces_in-requires-clause-columns : goal.live_pieces_in-requires-clause-columns
@@ -55,7 +55,7 @@ live_pieces_in-requires-clause-columns c =
     let systems = c.in_ok-systems.systems.items in
     let low : c.loop-piece.piece-index < length pieces = omega arith in
     let own = item_has (IsPieceOf c.args.self.now.params) pieces c.loop-piece.piece-index piece low c.piece-item.is
-        c.pieces-pieces.ensures.well_formed in
+    c.pieces-pieces.ensures.well_formed in
     let sound = subst (λ (n : List Name). IsPieceOf n piece) (sym c.params-params.ensures.content) own in
     let free = view_free params piece sound in
     let flat = subst (λ (s : System). IsFlattening s systems) c.system-system.ensures c.in_ok-systems.ensures.exact in
@@ -94,7 +94,7 @@ loop-piece-preserved c =
           c.in_ok-append.ensures
           (λ v e. through
           (subst (λ (space : SpaceForm). Any (HasElement params v e) (map kept_piece more) ↔ IsOfAny params space systems v e)
-              c.space.ensures
+          c.space.ensures
           (told.elements v e))
           (flat_has params piece free systems flat v e)) told.sound (small_before g m (map kept_piece more) charged told.numbers));
       plain = plain_more kept more pushed c.in_ok-append.ensures so_far.plain (told.definitions flat.definitions);
@@ -123,22 +123,25 @@ loop-piece-preserved-then-is_empty c =
     let none : piece.system.definitions ≡ [] = ap (λ (s : System). s.definitions) (sym c.system-system.ensures) ∙ empty in
     let all = subst (All (IsPieceUpTo (2 ^ g.bits - 1))) (sym c.pieces-pieces.ensures.content) c.requires in
     let small = item_has (λ p. IsPieceUpTo (2 ^ g.bits - 1) (kept_piece p)) pieces i piece low c.piece-item.is
-        (All-unmapped (IsPieceUpTo (2 ^ g.bits - 1)) kept_piece pieces all) in
+    (All-unmapped (IsPieceUpTo (2 ^ g.bits - 1)) kept_piece pieces all) in
     record {
       made = rw (next_piece pieces i piece low c.piece-item.is)
           (made_more g params (HasElement params) (map kept_piece (take i pieces)) (kept_piece piece) kept so_far.made (piece ∷ [])
-              pushed is
-          (λ v e. ((λ a. Any-one (HasElement params v e) (kept_piece piece) a),
-          (λ k. Any-first (HasElement params v e) (kept_piece piece) [] k)))
+          pushed is
+          (λ v e. (
+            (λ a. Any-one (HasElement params v e) (kept_piece piece) a),
+            (λ k. Any-first (HasElement params v e) (kept_piece piece) [] k),
+          ))
           (All-cons (IsPieceOf params) piece [] sound (All-nil (IsPieceOf params)))
           (All-cons (IsPieceUpTo (2 ^ g.bits - 1)) (kept_piece piece) [] small (All-nil (IsPieceUpTo (2 ^ g.bits - 1)))));
       plain = plain_more kept (piece ∷ []) pushed is so_far.plain
           (All-cons (λ (p : KeptPiece). p.definitions ≡ []) (kept_piece piece) [] none (All-nil (λ (p : KeptPiece). p.definitions ≡ [])));
       charged = so_far.charged;
       same = λ n.
-          let before = so_far.same n in
-          (is ∙ ap₂ (λ (l : List PieceView) (p : PieceView). l ++ p ∷ []) before.0 c.piece-item.is ∙ sym (take_more pieces i piece low),
-              before.1);
+          let before = so_far.same n in (
+            is ∙ ap₂ (λ (l : List PieceView) (p : PieceView). l ++ p ∷ []) before.0 c.piece-item.is ∙ sym (take_more pieces i piece low),
+            before.1,
+          );
     }
 
 pub returns-clause-kept : goal.returns-clause-kept
@@ -148,7 +151,7 @@ returns-clause-kept c =
     let end : length pieces ≤ c.loop-piece.piece-index = omega arith in
     made_kept c.args.meter.now params (HasElement params) pieces c.loop-piece.kept.items c.loop-piece.piece-index c.args.self.now.pieces
     c.from_normal.result end c.pieces-pieces.ensures.content c.loop-piece.invariant.made
-        (rw c.in_ok-copy-2.ensures at c.from_normal.ensures)
+    (rw c.in_ok-copy-2.ensures at c.from_normal.ensures)
     c.params-params.ensures.well_formed
 
 pub returns-clause-elements : goal.returns-clause-elements
@@ -167,14 +170,14 @@ returns-clause-numbers c =
     let end : length pieces ≤ c.loop-piece.piece-index = omega arith in
     made_small c.args.meter.now params (HasElement params) pieces c.loop-piece.kept.items c.loop-piece.piece-index c.args.self.now.pieces
     c.from_normal.result end c.pieces-pieces.ensures.content c.loop-piece.invariant.made
-        (rw c.in_ok-copy-2.ensures at c.from_normal.ensures)
+    (rw c.in_ok-copy-2.ensures at c.from_normal.ensures)
 
 pub returns-in_err-systems-clause-same : goal.returns-in_err-systems-clause-same
 returns-in_err-systems-clause-same c = λ n.
     let low : c.loop-piece.piece-index < length c.pieces-pieces.result.now = omega arith in
     let no : c.is_empty.result ≡ false = grind arith in
     absurd (never_opened c.pieces-pieces.result.now c.args.self.now.pieces c.loop-piece.piece-index c.piece-item.result
-        c.system-system.result.now
+    c.system-system.result.now
     c.is_empty.result low c.piece-item.is c.pieces-pieces.ensures.content c.system-system.ensures no c.is_empty.ensures.1 n)
 
 pub returns-in_err-live_pieces_in-clause-same : goal.returns-in_err-live_pieces_in-clause-same
@@ -182,7 +185,7 @@ returns-in_err-live_pieces_in-clause-same c = λ n.
     let low : c.loop-piece.piece-index < length c.pieces-pieces.result.now = omega arith in
     let no : c.is_empty.result ≡ false = grind arith in
     absurd (never_opened c.pieces-pieces.result.now c.args.self.now.pieces c.loop-piece.piece-index c.piece-item.result
-        c.system-system.result.now
+    c.system-system.result.now
     c.is_empty.result low c.piece-item.is c.pieces-pieces.ensures.content c.system-system.ensures no c.is_empty.ensures.1 n)
 
 pub returns-in_err-append-clause-same : goal.returns-in_err-append-clause-same
@@ -190,5 +193,5 @@ returns-in_err-append-clause-same c = λ n.
     let low : c.loop-piece.piece-index < length c.pieces-pieces.result.now = omega arith in
     let no : c.is_empty.result ≡ false = grind arith in
     absurd (never_opened c.pieces-pieces.result.now c.args.self.now.pieces c.loop-piece.piece-index c.piece-item.result
-        c.system-system.result.now
+    c.system-system.result.now
     c.is_empty.result low c.piece-item.is c.pieces-pieces.ensures.content c.system-system.ensures no c.is_empty.ensures.1 n)

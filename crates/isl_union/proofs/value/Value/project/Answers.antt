@@ -27,7 +27,7 @@ without_columns-requires-clause-within c =
     let piece = c.piece-item.result in
     let low : c.loop-piece.piece-index < length pieces = omega arith in
     let all = pieces_within g self.params pieces self.pieces c.pieces-pieces.ensures.well_formed c.pieces-pieces.ensures.content
-        c.requires.within in
+    c.requires.within in
     let here = item_has (λ p. IsSystemWithin g p.system) pieces c.loop-piece.piece-index piece low c.piece-item.is all in
     subst (IsSystemWithin c.loop-piece.meter) (sym c.system.ensures)
     (system_within_kept c.loop-piece.meter g piece.system (charged_bits g c.loop-piece.meter c.loop-piece.invariant.charged) here)
@@ -40,7 +40,7 @@ live_pieces_in-requires-clause-columns c =
     let space = space_form_of c.args.space.now in
     let low : c.loop-piece.piece-index < length pieces = omega arith in
     let own = item_has (IsPieceOf c.args.self.now.params) pieces c.loop-piece.piece-index piece low c.piece-item.is
-        c.pieces-pieces.ensures.well_formed in
+    c.pieces-pieces.ensures.well_formed in
     let sound = subst (λ (n : List Name). IsPieceOf n piece) (sym c.params-params.ensures.content) own in
     let at : space_form_of c.space.result.now ≡ space = grind arith in
     let lies = sym c.space.ensures ∙ at in
@@ -84,12 +84,12 @@ loop-piece-preserved c =
           so_far.made more pushed c.in_ok-append.ensures
           (λ v e. through (told.elements v e)
           (projected params piece space to c.args.from c.args.count c.requires.narrower lies free c.in_ok-systems.systems.items
-              projection v e))
+          projection v e))
           told.sound (small_before g m (map kept_piece more) charged told.numbers));
       plain = λ n.
           let all = subst (All (λ (p : KeptPiece). p.definitions ≡ [])) (sym c.pieces-pieces.ensures.content) n in
           let none = item_has (λ p. p.system.definitions ≡ []) pieces i piece low c.piece-item.is
-              (All-unmapped (λ (p : KeptPiece). p.definitions ≡ []) kept_piece pieces all) in
+          (All-unmapped (λ (p : KeptPiece). p.definitions ≡ []) kept_piece pieces all) in
           plain_more kept more pushed c.in_ok-append.ensures (so_far.plain n)
           (told.definitions (c.in_ok-systems.ensures.definitions (ap (λ (s : System). s.definitions) c.system.ensures ∙ none)));
       charged = IsCharged_trans g m c.live_pieces_in.new.meter charged told.meter;
@@ -122,7 +122,7 @@ returns-clause-kept c =
     let pieces = c.pieces-pieces.result.now in
     let end : length pieces ≤ c.loop-piece.piece-index = omega arith in
     made_kept c.args.meter.now params
-        (HasBetween params (space_form_of c.args.space.now) c.args.from c.args.count (space_form_of c.args.to.now))
+    (HasBetween params (space_form_of c.args.space.now) c.args.from c.args.count (space_form_of c.args.to.now))
     pieces c.loop-piece.kept.items c.loop-piece.piece-index c.args.self.now.pieces c.from_normal.result end c.pieces-pieces.ensures.content
     c.loop-piece.invariant.made (rw c.in_ok-copy.ensures at c.from_normal.ensures) c.len.ensures.well_formed
 
@@ -148,6 +148,6 @@ returns-clause-numbers c =
     let pieces = c.pieces-pieces.result.now in
     let end : length pieces ≤ c.loop-piece.piece-index = omega arith in
     made_small c.args.meter.now params
-        (HasBetween params (space_form_of c.args.space.now) c.args.from c.args.count (space_form_of c.args.to.now))
+    (HasBetween params (space_form_of c.args.space.now) c.args.from c.args.count (space_form_of c.args.to.now))
     pieces c.loop-piece.kept.items c.loop-piece.piece-index c.args.self.now.pieces c.from_normal.result end c.pieces-pieces.ensures.content
     c.loop-piece.invariant.made (rw c.in_ok-copy.ensures at c.from_normal.ensures)
