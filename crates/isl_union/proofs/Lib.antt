@@ -9,3 +9,4 @@ pub mod UnitLaws
 pub mod ValueLaws
 pub mod MadeLaws
 pub mod MeetSteps
+pub mod SampleLaws

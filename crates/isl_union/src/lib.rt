@@ -5,6 +5,7 @@ mod aligned;
 mod fault;
 mod live;
 mod meet;
+mod sample;
 mod union;
 mod value;
 
