@@ -15,3 +15,4 @@ pub mod CompareLaws
 pub mod PiecesLaws
 pub mod ProjectLaws
 pub mod FlatLaws
+pub mod SampleLaws

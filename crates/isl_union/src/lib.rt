@@ -11,6 +11,7 @@ mod minus;
 mod pair;
 mod pieces;
 mod project;
+mod sample;
 mod union;
 mod value;
 
