@@ -4,7 +4,7 @@ ghost use Rattle.std.specs.Prelude.{◌≡◌, ◌≢◌, ◌<◌, ◌-◌, ◌+
 ghost use Rattle.isl_meter.specs.Gauge.{IsCharged, IsCutBy};
 ghost use Rattle.isl_piece.specs.Normal.{IsNormal};
 ghost use Rattle.isl_piece.specs.System.{HoldRows, IsSystemWithin, free_columns};
-ghost use Rattle.isl_column.specs.Exact.{IsExactColumn, exact_rows};
+ghost use Rattle.isl_column.specs.Exact.{IsExactColumn, exact_rows, pairs_on};
 ghost use Rattle.isl_column.specs.Magnitude.{HaveSmallNumbers, HaveOneCongruence};
 ghost use Rattle.isl_column.specs.Solved.{solved_rows};
 ghost use Rattle.isl_column.specs.Units.{elimination_units};
@@ -63,6 +63,8 @@ fn lists_left(
     ensures equality { (col : ℕ) → gone.now ≡ col ∷ [] → col < free_columns system.now → HasEquality col system.now.rows → meter.new.units ≡ meter.old.units }
     ensures magnitude { (col : ℕ) → gone.now ≡ col ∷ [] → col < free_columns system.now → meter.old.bits ≡ 127 → HaveSmallNumbers system.now.rows
         → HaveOneCongruence system.now.rows col → result ≢ Err Cut.Overflow }
+    ensures pairs { (col : ℕ) → gone.now ≡ col ∷ [] → col < free_columns system.now → ¬ HasEquality col system.now.rows
+        → IfOk result (λ _. meter.old.units + pairs_on col system.now.rows ≤ meter.new.units) }
     ensures counted { IfOk result (λ lists. meter.old.units + length lists.items ≤ meter.new.units + 1) }
 {
     if gone.len() == 1 && gone[0] < system.free() {
@@ -80,8 +82,9 @@ fn lists_left(
 /// number put at `col` makes `system` hold. Each is in normal form. The definitions that depend on `col`, directly or through
 /// others, go with it; the others are kept, in order.
 ///
-/// Where no definition depends on `col`: if an equality has the column, no unit is used; else at most `elimination_units`; and
-/// if one has it, or the column is exact, what is answered is a function of the system: at most one system.
+/// Where no definition depends on `col`: if an equality has the column, no unit is used; else at least one for each pair of
+/// bounds, and at most `elimination_units`; and if one has it, or the column is exact, what is answered is a function of the
+/// system: at most one system.
 ///
 /// # Errors
 ///
@@ -110,6 +113,8 @@ pub fn eliminate(
     ensures equality { dependents system.now (col ∷ []) ≡ [] → HasEquality col system.now.rows → meter.new.units ≡ meter.old.units }
     ensures magnitude { dependents system.now (col ∷ []) ≡ [] → meter.old.bits ≡ 127 → HaveSmallNumbers system.now.rows → HaveOneCongruence system.now.rows col
         → result ≢ Err Cut.Overflow }
+    ensures pairs { dependents system.now (col ∷ []) ≡ [] → ¬ HasEquality col system.now.rows
+        → IfOk result (λ _. meter.old.units + pairs_on col system.now.rows ≤ meter.new.units) }
     ensures counted { IfOk result (λ systems. meter.old.units + length systems.items ≤ meter.new.units + 1) }
 {
     eliminate_all(alloc, system, &[col], meter)
@@ -145,6 +150,8 @@ pub fn eliminate_all(
     ensures equality { (col : ℕ) → cols.now ≡ col ∷ [] → dependents system.now cols.now ≡ [] → HasEquality col system.now.rows → meter.new.units ≡ meter.old.units }
     ensures magnitude { (col : ℕ) → cols.now ≡ col ∷ [] → dependents system.now cols.now ≡ [] → meter.old.bits ≡ 127 → HaveSmallNumbers system.now.rows
         → HaveOneCongruence system.now.rows col → result ≢ Err Cut.Overflow }
+    ensures pairs { (col : ℕ) → cols.now ≡ col ∷ [] → dependents system.now cols.now ≡ [] → ¬ HasEquality col system.now.rows
+        → IfOk result (λ _. meter.old.units + pairs_on col system.now.rows ≤ meter.new.units) }
     ensures counted { IfOk result (λ systems. meter.old.units + length systems.items ≤ meter.new.units + 1) }
 {
     let gone = with_dependents(alloc, system, cols)?;
