@@ -6,6 +6,7 @@ pub mod MovedLaws
 pub mod AlignedLaws
 pub mod MeetLaws
 pub mod UnitLaws
+pub mod CountLaws
 pub mod ValueLaws
 pub mod MadeLaws
 pub mod MeetSteps

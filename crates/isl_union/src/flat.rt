@@ -1,6 +1,6 @@
 //! Values without definitions.
 
-ghost use Rattle.std.specs.Prelude.{◌≡◌, ◌↔◌, IfOk, MatchResult};
+ghost use Rattle.std.specs.Prelude.{◌≡◌, ◌↔◌, ◌+◌, ◌≤◌, IfOk, MatchResult, length};
 ghost use Rattle.isl_meter.specs.Gauge.{IsCharged};
 ghost use Rattle.isl_meter.specs.declared.Cut.TheVariants.{NoMemory};
 ghost use Rattle.isl_space.specs.Element.{Element};
@@ -33,6 +33,7 @@ impl Value {
             → IfOk result (λ value. Has value valuation element ↔ Has self.now valuation element) }
         ensures definitions { IfOk result HasNoDefinitions }
         ensures numbers { IfOk result (IsWithinLimit meter.old) }
+        ensures counted { IfOk result (λ value. length value.pieces + meter.old.units ≤ meter.new.units + length self.now.pieces) }
         ensures same { HasNoDefinitions self.now
             → MatchResult result (λ value. value ≡ self.now) (λ fault. fault ≡ op_fault.Cut NoMemory) × (meter.new ≡ meter.old) }
         ensures meter { MatchResult result (λ _. IsCharged meter.old meter.new) (IsCutFault meter.old meter.new) }

@@ -1,6 +1,6 @@
 //! What one value has and another has not.
 
-ghost use Rattle.std.specs.Prelude.{◌≡◌, ◌↔◌, ◌≤◌, ◌∷◌, [], All, IfOk, MatchResult, length, map};
+ghost use Rattle.std.specs.Prelude.{◌≡◌, ◌↔◌, ◌+◌, ◌≤◌, ◌∷◌, [], All, IfOk, MatchResult, length, map};
 ghost use Rattle.isl_meter.specs.Gauge.{IsCharged, IsCutBy};
 ghost use Rattle.isl_space.specs.Element.{Element};
 ghost use Rattle.isl_space.specs.Limits.{most_parameters};
@@ -67,6 +67,7 @@ fn piece_without(
     ensures exact { IfOk result
         (λ left. AreLeftOf meter.old params.now (kept_piece piece.now ∷ []) (map kept_piece others.now) left.items) }
     ensures alone { systems_in piece.now.space others.now ≡ [] → IfOk result (λ left. left.items ≡ piece.now ∷ []) }
+    ensures counted { IfOk result (λ left. length left.items + meter.old.units ≤ meter.new.units + 1) }
     ensures meter { MatchResult result (λ _. IsCharged meter.old meter.new) (IsCutBy meter.old meter.new) }
 {
     let space = piece.space();
@@ -95,6 +96,7 @@ fn pieces_without(
     requires others_within { AreWithinLimit meter.old others.now }
     ensures exact { IfOk result
         (λ left. AreLeftOf meter.old params.now (map kept_piece pieces.now) (map kept_piece others.now) left.items) }
+    ensures counted { IfOk result (λ left. length left.items + meter.old.units ≤ meter.new.units + length pieces.now) }
     ensures meter { MatchResult result (λ _. IsCharged meter.old meter.new) (IsCutBy meter.old meter.new) }
 {
     let mut left = Vec::new(alloc);
@@ -124,6 +126,7 @@ impl Value {
         ensures elements { (valuation : Valuation) (element : Element)
             → IfOk result (λ value. Has value valuation element ↔ (Has self.now valuation element × ¬ Has other.now valuation element)) }
         ensures numbers { IfOk result (IsWithinLimit meter.old) }
+        ensures counted { IfOk result (λ value. length value.pieces + meter.old.units ≤ meter.new.units + length self.now.pieces) }
         ensures units { MatchResult result
             (λ _. (length (joined self.now.params other.now.params) ≤ most_parameters) × IsCharged meter.old meter.new)
             (IsFaultBy (joined self.now.params other.now.params) meter.old meter.new) }

@@ -1,6 +1,6 @@
 //! Two values over their joined parameters.
 
-ghost use Rattle.std.specs.Prelude.{◌≤◌, IfOk, MatchResult, length};
+ghost use Rattle.std.specs.Prelude.{◌≡◌, ◌≤◌, IfOk, MatchResult, length};
 ghost use Rattle.isl_space.specs.Limits.{most_parameters};
 ghost use Rattle.isl_space.specs.Names.{joined};
 ghost use Rattle.isl_union.specs.Fault.{IsPlainFault};
@@ -32,6 +32,7 @@ pub(crate) fn aligned_pair(
     requires own { IsWithinLimit meter.now value.now }
     requires other { IsWithinLimit meter.now other.now }
     ensures exact { IfOk result (λ pair. IsAlignedPair meter.now value.now other.now pair.params pair.own.items pair.others.items) }
+    ensures count { IfOk result (λ pair. length pair.own.items ≡ length value.now.pieces) }
     ensures faults { MatchResult result (λ _. length (joined value.now.params other.now.params) ≤ most_parameters)
         (IsPlainFault (joined value.now.params other.now.params)) }
 {

@@ -1,6 +1,6 @@
 //! The pieces of a space with several systems.
 
-ghost use Rattle.std.specs.Prelude.{◌≡◌, ◌↔◌, [], All, Any, IfOk, MatchResult, map, unsigned_abs};
+ghost use Rattle.std.specs.Prelude.{◌≡◌, ◌↔◌, ◌≤◌, [], All, Any, IfOk, MatchResult, length, map, unsigned_abs};
 ghost use Rattle.isl_meter.specs.Gauge.{IsCharged, IsCutBy, limit_of};
 ghost use Rattle.isl_space.specs.Element.{Element};
 ghost use Rattle.isl_space.specs.Space.{space_form_of};
@@ -37,6 +37,7 @@ pub(crate) fn live_pieces_in(
     ensures definitions { All (λ s. s.definitions ≡ []) systems.items
         → IfOk result (λ kept. All (λ piece. piece.definitions ≡ []) (map kept_piece kept.items)) }
     ensures numbers { IfOk result (λ kept. All (IsPieceUpTo (unsigned_abs (limit_of meter.old))) (map kept_piece kept.items)) }
+    ensures few { IfOk result (λ kept. length kept.items ≤ length systems.items) }
     ensures meter { MatchResult result (λ _. IsCharged meter.old meter.new) (IsCutBy meter.old meter.new) }
 {
     let mut kept = Vec::with_capacity(alloc, systems.len())?;

@@ -1,6 +1,6 @@
 //! Values without some of their coordinates.
 
-ghost use Rattle.std.specs.Prelude.{◌≡◌, ◌↔◌, ◌<◌, ◌≤◌, ◌+◌, ◌^◌, [], All, IfOk, MatchResult};
+ghost use Rattle.std.specs.Prelude.{◌≡◌, ◌↔◌, ◌<◌, ◌≤◌, ◌+◌, ◌^◌, [], All, IfOk, MatchResult, length};
 ghost use Rattle.std.specs.List.{range_with_len};
 ghost use Rattle.isl_meter.specs.Gauge.{IsCharged, IsCutBy};
 ghost use Rattle.isl_space.specs.Element.{Element};
@@ -37,6 +37,7 @@ fn without_columns(
     ensures projection { IfOk result (λ systems. IsProjectionAlong system.now (range_with_len first count) systems.items) }
     ensures definitions { system.now.definitions ≡ [] → IfOk result (λ systems. All (λ s. s.definitions ≡ []) systems.items) }
     ensures within { IfOk result (λ systems. All (IsSystemWithin meter.old) systems.items) }
+    ensures counted { IfOk result (λ systems. length systems.items + meter.old.units ≤ meter.new.units + 1) }
     ensures meter { MatchResult result (λ _. IsCharged meter.old meter.new) (IsCutBy meter.old meter.new) }
 {
     let cols = columns_between(alloc, first, first + count)?;
@@ -71,6 +72,7 @@ impl Value {
             ↔ IsProjected self.now (space_form_of space.now) from count (space_form_of to.now) valuation element) }
         ensures definitions { HasNoDefinitions self.now → IfOk result HasNoDefinitions }
         ensures numbers { IfOk result (IsWithinLimit meter.old) }
+        ensures counted { IfOk result (λ value. length value.pieces + meter.old.units ≤ meter.new.units + length self.now.pieces) }
         ensures meter { MatchResult result (λ _. IsCharged meter.old meter.new) (IsCutFault meter.old meter.new) }
     {
         let params = self.params();

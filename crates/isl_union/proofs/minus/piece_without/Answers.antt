@@ -6,6 +6,7 @@ use Rattle.isl_space.specs.SpaceForm.{SpaceForm}
 use Rattle.isl_piece.specs.declared.system.System.{System}
 use Rattle.isl_piece.specs.System.{IsSystemWithin, free_columns}
 use Rattle.isl_union.specs.Minus.{piece_in, systems_in}
+use Rattle.isl_union.proofs.CountLaws.{length_mapped}
 use Rattle.isl_union.proofs.MinusLaws.{left_alone, left_over, systems_free, systems_within}
 use Rattle.isl_union.proofs.minus.piece_without.Goals as goal
 
@@ -47,3 +48,9 @@ returns-clause-exact c =
     left_over g c.args.params.now piece c.requires.piece others systems parts left
     (c.in_ok-systems.ensures ∙ ap (λ (s : SpaceForm). systems_in s others) c.space-space.ensures) exact.0
     (c.in_ok-pieces_in.ensures ∙ ap (λ (s : SpaceForm). map (piece_in s) parts) c.space-space.ensures)
+
+pub returns-clause-counted : goal.returns-clause-counted
+returns-clause-counted c =
+    let count = length_mapped _ c.in_ok-left.left.items c.in_ok-pieces_in.field-0.items c.in_ok-pieces_in.ensures in
+    let counted = c.in_ok-left.ensures.counted in
+    omega (arith, count, counted)

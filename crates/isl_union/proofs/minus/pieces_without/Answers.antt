@@ -1,8 +1,10 @@
-use Rattle.std.proofs.Common.{arith, ◌<◌, length, map}
+use Rattle.std.proofs.Common.{arith, ◌<◌, ◌≤◌, length, map}
 use Rattle.isl_meter.proofs.CutLemmas.{IsCharged_trans}
 use Rattle.isl_piece.specs.System.{IsSystemWithin}
 use Rattle.isl_piece.proofs.FormedLaws.{system_within_kept}
 use Rattle.isl_union.specs.Piece.{kept_piece}
+use Rattle.std.proofs.lemmas.List.{take_all}
+use Rattle.isl_union.proofs.CountLaws.{counted_more}
 use Rattle.isl_union.proofs.MeetSteps.{charged_bits, item_has, pieces_later}
 use Rattle.isl_union.proofs.MinusLaws.{left_step}
 use Rattle.isl_union.proofs.minus.pieces_without.Goals as goal
@@ -34,4 +36,11 @@ loop-piece-preserved c =
           c.append.new.pieces.items so_far.charged low c.piece-item.is so_far.left c.in_ok-piece_without.ensures.exact
           c.in_ok-append.ensures;
       charged = IsCharged_trans g h c.piece_without.new.meter so_far.charged c.in_ok-piece_without.ensures.meter;
+      counted = counted_more g h c.piece_without.new.meter pieces piece i c.loop-piece.left.items c.in_ok-piece_without.field-0.items
+          c.append.new.pieces.items low c.in_ok-append.ensures so_far.counted c.in_ok-piece_without.ensures.counted;
     }
+
+pub returns-clause-counted : goal.returns-clause-counted
+returns-clause-counted c =
+    let end : length c.args.pieces.now ≤ c.loop-piece.piece-index = omega arith in
+    rw (take_all c.loop-piece.piece-index c.args.pieces.now end) at c.loop-piece.invariant.counted

@@ -1,10 +1,11 @@
-use Rattle.std.proofs.Common.{◌≡◌, ◌∷◌, ◌∙◌, sym, arith}
+use Rattle.std.proofs.Common.{◌≡◌, ◌∷◌, ◌∙◌, sym, arith, length}
 use Rattle.isl_meter.proofs.CutLemmas.{IsCharged_trans}
 use Rattle.isl_space.specs.Space.{space_form_of}
 use Rattle.isl_piece.specs.System.{IsSystemWithin, free_columns}
 use Rattle.isl_piece.proofs.FormedLaws.{system_within_kept}
 use Rattle.isl_union.specs.KeptValue.{columns_of}
 use Rattle.isl_union.specs.Piece.{IsPieceOf}
+use Rattle.isl_union.proofs.CountLaws.{few_more}
 use Rattle.isl_union.proofs.MeetSteps.{charged_bits, found_sound}
 use Rattle.isl_union.proofs.PiecesLaws.{pieces_have, pieces_plain, pieces_small, so_far_all, so_far_more, so_far_next}
 use Rattle.isl_union.proofs.pieces.live_pieces_in.Goals as goal
@@ -40,6 +41,7 @@ loop-system-preserved c =
       live = so_far_more params space systems before rest s kept pushed found next both.0 c.in_ok-push_found.ensures so_far.live;
       sound = found_sound (IsPieceOf params) kept pushed found so_far.sound both.1 c.in_ok-push_found.ensures;
       charged = IsCharged_trans g c.loop-system.meter c.live_piece.new.meter so_far.charged c.in_ok-live_piece.ensures.meter;
+      few = few_more before rest s kept pushed found (length systems) next c.in_ok-push_found.ensures so_far.few;
     }
 
 pub returns-clause-elements : goal.returns-clause-elements
@@ -65,3 +67,6 @@ returns-clause-numbers c =
     let none = sym c.loop-system.system-iterator.rest.ok.0 ∙ c.in-None.ensures.steps.0 in
     pieces_small c.args.meter.now c.args.params.now space c.args.systems.items c.requires.space c.requires.columns c.requires.within _
     (so_far_all c.args.params.now space c.args.systems.items rest c.loop-system.kept.items none c.loop-system.invariant.live)
+
+pub returns-clause-few : goal.returns-clause-few
+returns-clause-few c = let few = c.loop-system.invariant.few in omega (arith, few)

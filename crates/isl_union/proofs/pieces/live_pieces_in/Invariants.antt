@@ -1,3 +1,4 @@
+use Rattle.std.proofs.Common.{◌+◌, ◌≤◌, length}
 use Rattle.std.specs.List.{All}
 use Rattle.isl_meter.specs.Gauge.{IsCharged}
 use Rattle.isl_space.specs.Space.{space_form_of}
@@ -10,4 +11,5 @@ invariant-loop-system l = record {
   live : AreLiveSoFar l.params (space_form_of l.space) l.fn.systems.items l.system-iterator.rest.items l.kept.items;
   sound : All (IsPieceOf l.params) l.kept.items;
   charged : IsCharged l.fn.meter l.meter;
+  few : length l.kept.items + length l.system-iterator.rest.items ≤ length l.fn.systems.items;
 }

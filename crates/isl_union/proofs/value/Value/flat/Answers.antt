@@ -16,6 +16,7 @@ use Rattle.isl_union.specs.KeptValue.{KeptPiece, HasElement, columns_of}
 use Rattle.isl_union.specs.Numbers.{IsPieceUpTo}
 use Rattle.isl_union.specs.Piece.{kept_piece, IsPieceOf}
 use Rattle.isl_union.specs.Pieces.{IsOfAny}
+use Rattle.isl_union.proofs.CountLaws.{counted_all, counted_more}
 use Rattle.isl_union.proofs.FlatLaws.{flat_columns, flat_has, never_opened}
 use Rattle.isl_union.proofs.MeetSteps.{charged_bits, item_has}
 use Rattle.isl_union.proofs.PiecesLaws.{made_has, made_kept, made_more, made_small, next_piece, plain_more, small_before, through}
@@ -99,6 +100,12 @@ loop-piece-preserved c =
           (flat_has params piece free systems flat v e)) told.sound (small_before g m (map kept_piece more) charged told.numbers));
       plain = plain_more kept more pushed c.in_ok-append.ensures so_far.plain (told.definitions flat.definitions);
       charged = IsCharged_trans g m c.live_pieces_in.new.meter charged told.meter;
+      counted =
+          let here = c.in_ok-systems.ensures.counted in
+          let few = told.few in
+          let later = told.meter.units in
+          counted_more g h c.live_pieces_in.new.meter pieces piece i kept more pushed low c.in_ok-append.ensures so_far.counted
+          (omega (arith, here, few, later));
       same = λ n.
           let no : c.is_empty.result ≡ false = grind arith in
           absurd (never_opened pieces c.args.self.now.pieces i piece c.system-system.result.now c.is_empty.result low c.piece-item.is
@@ -137,6 +144,8 @@ loop-piece-preserved-then-is_empty c =
       plain = plain_more kept (piece ∷ []) pushed is so_far.plain
           (All-cons (λ (p : KeptPiece). p.definitions ≡ []) (kept_piece piece) [] none (All-nil (λ (p : KeptPiece). p.definitions ≡ [])));
       charged = so_far.charged;
+      counted = counted_more g c.loop-piece.meter c.loop-piece.meter pieces piece i kept (piece ∷ []) pushed low is so_far.counted
+          (omega arith);
       same = λ n.
           let before = so_far.same n in (
             is ∙ ap₂ (λ (l : List PieceView) (p : PieceView). l ++ p ∷ []) before.0 c.piece-item.is ∙ sym (take_more pieces i piece low),
@@ -195,3 +204,12 @@ returns-in_err-append-clause-same c = λ n.
     absurd (never_opened c.pieces-pieces.result.now c.args.self.now.pieces c.loop-piece.piece-index c.piece-item.result
     c.system-system.result.now
     c.is_empty.result low c.piece-item.is c.pieces-pieces.ensures.content c.system-system.ensures no c.is_empty.ensures.1 n)
+
+pub returns-clause-counted : goal.returns-clause-counted
+returns-clause-counted c =
+    let params = c.params-params.result.now in
+    let pieces = c.pieces-pieces.result.now in
+    let end : length pieces ≤ c.loop-piece.piece-index = omega arith in
+    counted_all c.args.meter.now c.loop-piece.meter params pieces c.loop-piece.kept.items c.loop-piece.piece-index c.args.self.now.pieces
+    c.from_normal.result end c.pieces-pieces.ensures.content (rw c.in_ok-copy-2.ensures at c.from_normal.ensures)
+    c.loop-piece.invariant.counted

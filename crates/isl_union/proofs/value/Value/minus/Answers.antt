@@ -1,5 +1,6 @@
-use Rattle.std.proofs.Common.{sym, subst}
+use Rattle.std.proofs.Common.{sym, subst, length}
 use Rattle.isl_union.specs.KeptValue.{IsKeptValue}
+use Rattle.isl_union.proofs.CountLaws.{counted_value}
 use Rattle.isl_union.proofs.MinusLaws.{left_numbers, left_value}
 use Rattle.isl_union.proofs.PieceLaws.{IsKeptValue-from_pieces}
 use Rattle.isl_union.proofs.value.Value.minus.Goals as goal
@@ -21,3 +22,9 @@ pub returns-clause-numbers : goal.returns-clause-numbers
 returns-clause-numbers c =
     left_numbers c.args.meter.now c.in_ok-pair.pair.params c.in_ok-left.left.items c.from_normal.result c.in_ok-left.ensures.exact.sound
     c.in_ok-left.ensures.exact.within c.from_normal.ensures
+
+pub returns-clause-counted : goal.returns-clause-counted
+returns-clause-counted c =
+    let counted = rw (c.as_slice.ensures.value, c.in_ok-pair.ensures.count) at c.in_ok-left.ensures.counted in
+    counted_value c.args.meter.now c.pieces_without.new.meter c.in_ok-pair.pair.params c.in_ok-left.left.items c.from_normal.result
+    (length c.args.self.now.pieces) c.from_normal.ensures counted

@@ -10,6 +10,8 @@ use Rattle.isl_piece.proofs.FormedLaws.{system_within_kept}
 use Rattle.isl_union.specs.KeptValue.{KeptPiece, columns_of}
 use Rattle.isl_union.specs.Piece.{kept_piece, IsPieceOf}
 use Rattle.isl_union.specs.Project.{IsProjected}
+use Rattle.std.proofs.lemmas.List.{append-nil}
+use Rattle.isl_union.proofs.CountLaws.{counted_all, counted_more}
 use Rattle.isl_union.proofs.MadeLaws.{not_true}
 use Rattle.isl_union.proofs.MeetSteps.{charged_bits, item_has}
 use Rattle.isl_union.proofs.PiecesLaws.{made_has, made_kept, made_more, made_skip, made_small, next_piece, plain_more, small_before}
@@ -93,6 +95,12 @@ loop-piece-preserved c =
           plain_more kept more pushed c.in_ok-append.ensures (so_far.plain n)
           (told.definitions (c.in_ok-systems.ensures.definitions (ap (λ (s : System). s.definitions) c.system.ensures ∙ none)));
       charged = IsCharged_trans g m c.live_pieces_in.new.meter charged told.meter;
+      counted =
+          let here = c.in_ok-systems.ensures.counted in
+          let few = told.few in
+          let later = told.meter.units in
+          counted_more g h c.live_pieces_in.new.meter pieces piece i kept more pushed low c.in_ok-append.ensures so_far.counted
+          (omega (arith, here, few, later));
     }
 
 pub loop-piece-preserved-then-not-same : goal.loop-piece-preserved-then-not-same
@@ -114,6 +122,8 @@ loop-piece-preserved-then-not-same c =
           (c.same.ensures.1 (c.space.ensures ∙ between_same params space c.args.from c.args.count to v e (kept_piece piece) h))));
       plain = so_far.plain;
       charged = so_far.charged;
+      counted = counted_more c.args.meter.now c.loop-piece.meter c.loop-piece.meter pieces piece i c.loop-piece.kept.items []
+          c.loop-piece.kept.items low (sym (append-nil c.loop-piece.kept.items)) so_far.counted (omega arith);
     }
 
 pub returns-clause-kept : goal.returns-clause-kept
@@ -151,3 +161,12 @@ returns-clause-numbers c =
     (HasBetween params (space_form_of c.args.space.now) c.args.from c.args.count (space_form_of c.args.to.now))
     pieces c.loop-piece.kept.items c.loop-piece.piece-index c.args.self.now.pieces c.from_normal.result end c.pieces-pieces.ensures.content
     c.loop-piece.invariant.made (rw c.in_ok-copy.ensures at c.from_normal.ensures)
+
+pub returns-clause-counted : goal.returns-clause-counted
+returns-clause-counted c =
+    let params = c.params-params.result.now in
+    let pieces = c.pieces-pieces.result.now in
+    let end : length pieces ≤ c.loop-piece.piece-index = omega arith in
+    counted_all c.args.meter.now c.loop-piece.meter params pieces c.loop-piece.kept.items c.loop-piece.piece-index c.args.self.now.pieces
+    c.from_normal.result end c.pieces-pieces.ensures.content (rw c.in_ok-copy.ensures at c.from_normal.ensures)
+    c.loop-piece.invariant.counted

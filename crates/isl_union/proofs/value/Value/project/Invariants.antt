@@ -1,4 +1,4 @@
-use Rattle.std.proofs.Common.{◌≡◌, [], map, take}
+use Rattle.std.proofs.Common.{◌≡◌, ◌+◌, ◌≤◌, [], length, map, take}
 use Rattle.std.specs.List.{All}
 use Rattle.isl_meter.specs.Gauge.{IsCharged}
 use Rattle.isl_space.specs.Space.{space_form_of}
@@ -14,4 +14,5 @@ invariant-loop-piece l = record {
       (map kept_piece (take l.piece-index l.pieces)) l.kept.items;
   plain : HasNoDefinitions l.self → All (λ piece. piece.definitions ≡ []) (map kept_piece l.kept.items);
   charged : IsCharged l.fn.meter l.meter;
+  counted : length l.kept.items + l.fn.meter.units ≤ l.meter.units + length (take l.piece-index l.pieces);
 }
