@@ -10,3 +10,4 @@ pub mod ValueLaws
 pub mod MadeLaws
 pub mod MeetSteps
 pub mod SampleLaws
+pub mod BoundedLaws

@@ -2,6 +2,7 @@
 #![tactic(auto)]
 
 mod aligned;
+mod bounded;
 mod fault;
 mod live;
 mod meet;
