@@ -17,3 +17,4 @@ pub mod PiecesLaws
 pub mod ProjectLaws
 pub mod FlatLaws
 pub mod SampleLaws
+pub mod BoundedLaws

@@ -82,8 +82,8 @@ module _ (n c : ℕ) (z : ℤ) (low : c < n) where
   number_settled =
       let one = unit_lead n c low in
       let r = number_row n c z in
-      zero_kept (unit_form n c) (neg_ℤ z) (pos 1) r (sym (unit_content n c low)) (λ e. absurd (omega (arith, linear))) (one-Divides (neg_ℤ z))
-      (rw (divided_one (unit_form n c), quotient_one (neg_ℤ z)) (upright_stays r refl refl (not_zero (lead r.coefs) one)
+      zero_kept (unit_form n c) (neg_ℤ z) (pos 1) r (sym (unit_content n c low)) (λ e. absurd (omega (arith, linear)))
+      (one-Divides (neg_ℤ z)) (rw (divided_one (unit_form n c), quotient_one (neg_ℤ z)) (upright_stays r refl refl (not_zero (lead r.coefs) one)
       (not_negative (lead r.coefs) one)))
     where
       not_zero : (x : ℤ) → x ≡ pos 1 → x ≢ pos 0

@@ -3,6 +3,7 @@
 
 mod aligned;
 mod compare;
+mod bounded;
 mod fault;
 mod flat;
 mod live;

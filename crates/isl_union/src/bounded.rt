@@ -1,0 +1,173 @@
+//! Whether values have finitely many elements.
+
+ghost use Rattle.std.specs.Prelude.{◌≡◌, ◌↔◌, ◌≤◌, [], All, IfOk, IsTrue, MatchResult, length};
+ghost use Rattle.isl_meter.specs.Gauge.{IsCharged, IsCutBy};
+ghost use Rattle.isl_space.specs.Valuation.{Valuation, values_of};
+ghost use Rattle.isl_piece.specs.System.{IsSystemWithin, free_columns};
+ghost use Rattle.isl_tower.specs.Bounded.{IsBounded, IsBoundedAt};
+ghost use Rattle.isl_union.specs.Fault.{IsCutFault};
+ghost use Rattle.isl_union.specs.Finite.{IsFinite, IsFiniteAt};
+ghost use Rattle.isl_union.specs.Numbers.{AreWithinLimit, IsWithinLimit};
+
+use crate::{OpFault, Value};
+use isl_elim::flatten;
+use isl_meter::{Cut, Meter};
+use isl_piece::{Piece, System};
+use isl_tower::{is_bounded, is_bounded_at};
+use std::alloc::Global;
+
+// Whether each of the systems, which define no column, is bounded in the columns behind its first `outer` ones.
+#[tactic(auto, using(std::proofs::lemmas::Grind::common_steps, isl_meter::proofs::CutLemmas::charges))]
+fn are_bounded(
+    alloc: Global,
+    systems: &[System],
+    outer: usize,
+    meter: &mut Meter,
+) -> Result<bool, Cut>
+    requires within { All (IsSystemWithin meter.old) systems.now }
+    requires plain { All (λ s. s.definitions ≡ []) systems.now }
+    requires columns { All (λ s. outer ≤ free_columns s) systems.now }
+    ensures exact { IfOk result (λ bounded. IsTrue bounded ↔ All (λ s. IsBounded s outer) systems.now) }
+    ensures meter { MatchResult result (λ _. IsCharged meter.old meter.new) (IsCutBy meter.old meter.new) }
+{
+    for system in systems {
+        if !is_bounded(alloc, system, outer, meter)? {
+            return Ok(false);
+        }
+    }
+    Ok(true)
+}
+
+// The same of one system, with defined columns or without.
+#[tactic(auto, using(std::proofs::lemmas::Grind::common_steps, isl_meter::proofs::CutLemmas::charges))]
+fn is_system_bounded(
+    alloc: Global,
+    system: &System,
+    outer: usize,
+    meter: &mut Meter,
+) -> Result<bool, Cut>
+    requires within { IsSystemWithin meter.old system.now }
+    requires columns { outer ≤ free_columns system.now }
+    ensures exact { IfOk result (λ bounded. IsTrue bounded ↔ IsBounded system.now outer) }
+    ensures meter { MatchResult result (λ _. IsCharged meter.old meter.new) (IsCutBy meter.old meter.new) }
+{
+    let systems = flatten(alloc, system, meter)?;
+    are_bounded(alloc, systems.as_slice(), outer, meter)
+}
+
+// The same of the systems of the pieces.
+#[tactic(auto, using(std::proofs::lemmas::Grind::common_steps, isl_meter::proofs::CutLemmas::charges))]
+fn are_pieces_bounded(
+    alloc: Global,
+    pieces: &[Piece],
+    outer: usize,
+    meter: &mut Meter,
+) -> Result<bool, Cut>
+    requires within { AreWithinLimit meter.old pieces.now }
+    requires columns { All (λ piece. outer ≤ free_columns piece.system) pieces.now }
+    ensures exact { IfOk result (λ bounded. IsTrue bounded ↔ All (λ piece. IsBounded piece.system outer) pieces.now) }
+    ensures meter { MatchResult result (λ _. IsCharged meter.old meter.new) (IsCutBy meter.old meter.new) }
+{
+    for piece in pieces {
+        if !is_system_bounded(alloc, piece.system(), outer, meter)? {
+            return Ok(false);
+        }
+    }
+    Ok(true)
+}
+
+// Whether each of the systems, which define no column, is bounded where its first columns have these numbers.
+#[tactic(auto, using(std::proofs::lemmas::Grind::common_steps, isl_meter::proofs::CutLemmas::charges))]
+fn are_bounded_at(
+    alloc: Global,
+    systems: &[System],
+    numbers: &[i128],
+    meter: &mut Meter,
+) -> Result<bool, Cut>
+    requires within { All (IsSystemWithin meter.old) systems.now }
+    requires plain { All (λ s. s.definitions ≡ []) systems.now }
+    requires columns { All (λ s. length numbers.now ≤ free_columns s) systems.now }
+    ensures exact { IfOk result (λ bounded. IsTrue bounded ↔ All (λ s. IsBoundedAt s numbers.now) systems.now) }
+    ensures meter { MatchResult result (λ _. IsCharged meter.old meter.new) (IsCutBy meter.old meter.new) }
+{
+    for system in systems {
+        if !is_bounded_at(alloc, system, numbers, meter)? {
+            return Ok(false);
+        }
+    }
+    Ok(true)
+}
+
+// The same of one system, with defined columns or without.
+#[tactic(auto, using(std::proofs::lemmas::Grind::common_steps, isl_meter::proofs::CutLemmas::charges))]
+fn is_system_bounded_at(
+    alloc: Global,
+    system: &System,
+    numbers: &[i128],
+    meter: &mut Meter,
+) -> Result<bool, Cut>
+    requires within { IsSystemWithin meter.old system.now }
+    requires columns { length numbers.now ≤ free_columns system.now }
+    ensures exact { IfOk result (λ bounded. IsTrue bounded ↔ IsBoundedAt system.now numbers.now) }
+    ensures meter { MatchResult result (λ _. IsCharged meter.old meter.new) (IsCutBy meter.old meter.new) }
+{
+    let systems = flatten(alloc, system, meter)?;
+    are_bounded_at(alloc, systems.as_slice(), numbers, meter)
+}
+
+// The same of the systems of the pieces.
+#[tactic(auto, using(std::proofs::lemmas::Grind::common_steps, isl_meter::proofs::CutLemmas::charges))]
+fn are_pieces_bounded_at(
+    alloc: Global,
+    pieces: &[Piece],
+    numbers: &[i128],
+    meter: &mut Meter,
+) -> Result<bool, Cut>
+    requires within { AreWithinLimit meter.old pieces.now }
+    requires columns { All (λ piece. length numbers.now ≤ free_columns piece.system) pieces.now }
+    ensures exact { IfOk result (λ bounded. IsTrue bounded ↔ All (λ piece. IsBoundedAt piece.system numbers.now) pieces.now) }
+    ensures meter { MatchResult result (λ _. IsCharged meter.old meter.new) (IsCutBy meter.old meter.new) }
+{
+    for piece in pieces {
+        if !is_system_bounded_at(alloc, piece.system(), numbers, meter)? {
+            return Ok(false);
+        }
+    }
+    Ok(true)
+}
+
+impl Value {
+    /// Whether the value has finitely many elements at every valuation. (isl manual, on bounded sets)
+    ///
+    /// # Errors
+    ///
+    /// `Overflow` where a number passes the limit of the meter, `Budget` where its units are used up, and `NoMemory`; never
+    /// `TooWide`.
+    #[tactic(auto, using(std::proofs::lemmas::Grind::common_steps, isl_meter::proofs::CutLemmas::charges))]
+    pub fn bounded(&self, alloc: Global, meter: &mut Meter) -> Result<bool, OpFault>
+        requires { IsWithinLimit meter.old self.now }
+        ensures exact { IfOk result (λ bounded. IsTrue bounded ↔ IsFinite self.now) }
+        ensures meter { MatchResult result (λ _. IsCharged meter.old meter.new) (IsCutFault meter.old meter.new) }
+    {
+        let outer = self.params().len();
+        Ok(are_pieces_bounded(alloc, self.pieces(), outer, meter)?)
+    }
+
+    /// Whether the value has finitely many elements where its parameters have these numbers, in their order. (isl manual, on
+    /// bounded sets)
+    ///
+    /// # Errors
+    ///
+    /// `Overflow` where a number passes the limit of the meter, `Budget` where its units are used up, and `NoMemory`; never
+    /// `TooWide`.
+    #[tactic(auto, using(std::proofs::lemmas::Grind::common_steps, isl_meter::proofs::CutLemmas::charges))]
+    pub fn bounded_at(&self, alloc: Global, at: &[i128], meter: &mut Meter) -> Result<bool, OpFault>
+        requires within { IsWithinLimit meter.old self.now }
+        requires numbers { length at.now ≡ length self.now.params }
+        ensures exact { (valuation : Valuation) → values_of self.now.params valuation ≡ at.now
+            → IfOk result (λ bounded. IsTrue bounded ↔ IsFiniteAt self.now valuation) }
+        ensures meter { MatchResult result (λ _. IsCharged meter.old meter.new) (IsCutFault meter.old meter.new) }
+    {
+        Ok(are_pieces_bounded_at(alloc, self.pieces(), at, meter)?)
+    }
+}
