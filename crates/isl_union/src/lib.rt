@@ -2,8 +2,8 @@
 #![tactic(auto)]
 
 mod aligned;
-mod compare;
 mod bounded;
+mod compare;
 mod fault;
 mod flat;
 mod live;
