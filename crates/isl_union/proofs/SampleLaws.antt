@@ -82,9 +82,10 @@ module _ (n c : ℕ) (z : ℤ) (low : c < n) where
   number_settled =
       let one = unit_lead n c low in
       let r = number_row n c z in
-      zero_kept (unit_form n c) (neg_ℤ z) (pos 1) r (sym (unit_content n c low)) (λ e. absurd (omega (arith, linear)))
-      (one-Divides (neg_ℤ z)) (rw (divided_one (unit_form n c), quotient_one (neg_ℤ z)) (upright_stays r refl refl (not_zero (lead r.coefs) one)
-      (not_negative (lead r.coefs) one)))
+      let upright = upright_stays r refl refl (not_zero (lead r.coefs) one) (not_negative (lead r.coefs) one) in
+      let divides = one-Divides (neg_ℤ z) in
+      zero_kept (unit_form n c) (neg_ℤ z) (pos 1) r (sym (unit_content n c low)) (λ e. absurd (omega (arith, linear))) divides
+      (rw (divided_one (unit_form n c), quotient_one (neg_ℤ z)) upright)
     where
       not_zero : (x : ℤ) → x ≡ pos 1 → x ≢ pos 0
       not_zero x e f = omega (arith, linear)
@@ -255,7 +256,7 @@ module _ (g : Gauge) (value : KeptValue) (kept : IsKeptValue value) where
     first_here : get_or pieces 0 p ≡ p
     first_here = get_or_from_slice_get pieces 0 p p first
 
-    pub first_fit : IsPieceOf value.params p
+    first_fit : IsPieceOf value.params p
     first_fit = subst (IsPieceOf value.params) first_here (sound 0 p first_low)
 
     first_has : (v : Valuation) (e : Element) → HasElement value.params v e (kept_piece p) → Has value v e
