@@ -4,7 +4,7 @@ use Rattle.std.specs.Prelude.{◌≡◌, Bool, false, not, ℕ, ◌^◌, ◌≤�
 use Rattle.std.specs.Ordering.{int_eq}
 use Rattle.isl_meter.specs.Gauge.{Gauge}
 use Rattle.isl_meter.specs.declared.Cut.{Cut}
-use Rattle.isl_omega.specs.Magnitude.{IsNoOverflow}
+use Rattle.isl_omega.specs.Magnitude.{IsNoOverflow, given_magnitude, paired_magnitude, substituted_magnitude}
 use Rattle.isl_piece.specs.declared.row.RowKind.{RowKind}
 use Rattle.isl_piece.specs.declared.row.RowKind.TheVariants.{Zero, AtLeast, Divides, NotDivides}
 use Rattle.isl_piece.specs.declared.row.Row.{Row}
@@ -14,7 +14,7 @@ use Rattle.isl_omega.specs.declared.shadow.Splinters.{Splinters}
 
 -- each number of the rows, their coefficients, constants and moduli, is at most 2^30 in magnitude
 abbrev pub HaveSmallNumbers : List Row → Type 0
-HaveSmallNumbers rows = All (IsRowUpTo (2 ^ 30)) rows
+HaveSmallNumbers rows = All (IsRowUpTo given_magnitude) rows
 
 -- a row of this kind is a congruence that has the column, where c is its coefficient
 abbrev pub has_congruence : RowKind → ℤ → Bool
@@ -38,10 +38,10 @@ IsSpared g rows col result = g.bits ≡ 127 → HaveSmallNumbers rows → HaveOn
 -- ---- inside
 -- a tail with numbers of at most 2^61, and a last value of at most 2^62
 pub record AreSmallSplinters (tail : Splinters) : Type 0 where
-  pub lower : IsRowUpTo (2 ^ 61) tail.lower
-  pub last : unsigned_abs tail.last ≤ 2 ^ 62
+  pub lower : IsRowUpTo substituted_magnitude tail.lower
+  pub last : unsigned_abs tail.last ≤ paired_magnitude
 
 -- a dark_shadow with numbers of at most 2^61 and such tails
 pub record IsSmallDarkShadow (dark_shadow : DarkShadow) : Type 0 where
-  pub rows : All (IsRowUpTo (2 ^ 61)) dark_shadow.rows
+  pub rows : All (IsRowUpTo substituted_magnitude) dark_shadow.rows
   pub tails : All AreSmallSplinters dark_shadow.tails.items

@@ -3,7 +3,7 @@
 ghost use Rattle.std.specs.Prelude.{◌≡◌, ◌≢◌, ◌⊎◌, ◌<◌, ◌*◌, [], true, false, All, IfOk, length, map, ◌^◌};
 ghost use Rattle.isl_piece.specs.Row.{IsRowWithin, IsRowUpTo};
 ghost use Rattle.isl_meter.specs.Gauge.{IsDone};
-ghost use Rattle.isl_omega.specs.Magnitude.{IsNoOverflow, IsNoOverflowWith, AreSidesUpTo};
+ghost use Rattle.isl_omega.specs.Magnitude.{IsNoOverflow, IsNoOverflowWith, AreSidesUpTo, substituted_magnitude};
 ghost use Rattle.isl_omega.specs.Units.{IsDoneFor};
 ghost use Rattle.isl_column.specs.Magnitude.{IsSmallDarkShadow};
 
@@ -50,7 +50,7 @@ impl DarkShadow {
         requires uppers { All (IsUpper meter.old column.columns column.at) uppers.now }
         ensures exact { IsDone meter.old meter.new
             (λ rows. (rows ≡ map (shifted_row column.at) uppers.now) × All (IsRowWithin meter.old) rows) result }
-        ensures no_overflow { meter.old.bits ≡ 127 → All (IsRowUpTo (2 ^ 61)) uppers.now → IsNoOverflow result }
+        ensures no_overflow { meter.old.bits ≡ 127 → All (IsRowUpTo substituted_magnitude) uppers.now → IsNoOverflow result }
     {
         let mut rows = Rows::new(alloc);
         for upper in uppers {
@@ -70,7 +70,7 @@ impl DarkShadow {
         requires sided { AreSided meter.old column.columns column.at sides.now }
         ensures exact { IsDoneFor (length sides.now.lowers * length sides.now.uppers) meter.old meter.new
             (λ pair. AreShadowsOf meter.old column.columns column.at sides.now pair.0 pair.1.items) result }
-        ensures no_overflow { meter.old.bits ≡ 127 → AreSidesUpTo (2 ^ 61) sides.now → IsNoOverflow result }
+        ensures no_overflow { meter.old.bits ≡ 127 → AreSidesUpTo substituted_magnitude sides.now → IsNoOverflow result }
     {
         let lowers = sides.lowers.as_slice();
         if sides.not_divides.is_empty() {
@@ -99,7 +99,7 @@ impl DarkShadow {
         requires not_divides { length sides.now.not_divides < 2 }
         requires open { (sides.now.lowers ≡ []) ⊎ (sides.now.uppers ≡ []) }
         ensures exact { IsDone meter.old meter.new (IsDarkShadowWithFewSplinters meter.old column.columns column.at sides.now) result }
-        ensures no_overflow { meter.old.bits ≡ 127 → AreSidesUpTo (2 ^ 61) sides.now → IsNoOverflowWith IsSmallDarkShadow result }
+        ensures no_overflow { meter.old.bits ≡ 127 → AreSidesUpTo substituted_magnitude sides.now → IsNoOverflowWith IsSmallDarkShadow result }
     {
         let rows = DarkShadow::all_rows(alloc, sides)?;
         let dark = settled(alloc, &sides.free, column, meter)?;
@@ -118,7 +118,7 @@ impl DarkShadow {
         requires uppers { sides.now.uppers ≢ [] }
         ensures exact { IsDoneFor (length sides.now.lowers * length sides.now.uppers) meter.old meter.new
             (IsDarkShadowWithFewSplinters meter.old column.columns column.at sides.now) result }
-        ensures no_overflow { meter.old.bits ≡ 127 → AreSidesUpTo (2 ^ 61) sides.now → IsNoOverflowWith IsSmallDarkShadow result }
+        ensures no_overflow { meter.old.bits ≡ 127 → AreSidesUpTo substituted_magnitude sides.now → IsNoOverflowWith IsSmallDarkShadow result }
     {
         let rows = DarkShadow::all_rows(alloc, sides)?;
         let (pairs, tails) = DarkShadow::shadows(alloc, sides, column, meter)?;
@@ -135,7 +135,7 @@ impl DarkShadow {
         requires not_divides { length sides.now.not_divides < 2 }
         ensures exact { IsDoneFor (length sides.now.lowers * length sides.now.uppers) meter.old meter.new
             (IsDarkShadowWithFewSplinters meter.old column.columns column.at sides.now) result }
-        ensures no_overflow { meter.old.bits ≡ 127 → AreSidesUpTo (2 ^ 61) sides.now → IsNoOverflowWith IsSmallDarkShadow result }
+        ensures no_overflow { meter.old.bits ≡ 127 → AreSidesUpTo substituted_magnitude sides.now → IsNoOverflowWith IsSmallDarkShadow result }
     {
         if sides.lowers.is_empty() || sides.uppers.is_empty() {
             return DarkShadow::open(alloc, sides, column, meter);

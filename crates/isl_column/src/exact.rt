@@ -9,7 +9,7 @@ ghost use Rattle.isl_omega.specs.Equality.{HasEquality};
 ghost use Rattle.isl_column.specs.Exact.{IsExactRow, IsExactColumn, real_rows, rows_left, pairs_on, exact_rows, AreAdded};
 ghost use Rattle.isl_column.specs.RealShadow.{HoldReally};
 ghost use Rattle.isl_omega.specs.Shadow.{real_row};
-ghost use Rattle.isl_omega.specs.Magnitude.{IsNoOverflow};
+ghost use Rattle.isl_omega.specs.Magnitude.{IsNoOverflow, given_magnitude};
 ghost use Rattle.isl_omega.specs.Units.{IsDoneFor};
 ghost use Rattle.isl_column.specs.Magnitude.{HaveSmallNumbers};
 ghost use Rattle.isl_omega.specs.Sides.{IsLower, IsUpper, on_side};
@@ -68,7 +68,7 @@ fn real_row_without(
     requires upper { IsUpper meter.old column.columns column.at upper.now }
     ensures exact { IsDone meter.old meter.new
         (λ row. (row ≡ dropped (real_row column.at lower.now upper.now) column.at) × IsRowWithin meter.old row) result }
-    ensures no_overflow { meter.old.bits ≡ 127 → IsRowUpTo (2 ^ 30) lower.now → IsRowUpTo (2 ^ 30) upper.now → IsNoOverflow result }
+    ensures no_overflow { meter.old.bits ≡ 127 → IsRowUpTo given_magnitude lower.now → IsRowUpTo given_magnitude upper.now → IsNoOverflow result }
 {
     let a = lower.coefs.get(column.at);
     let b = upper.coefs.get(column.at).neg(meter);
@@ -98,7 +98,7 @@ fn push_pair(
     requires row { IsProper meter.old column.columns row.now }
     ensures exact { IsDoneFor (length (on_side Side.Upper column.at (row.now ∷ []))) meter.old meter.new
         (λ _. AreAdded meter.old column.at (map (real_row column.at lower.now) (on_side Side.Upper column.at (row.now ∷ []))) short.old short.new) result }
-    ensures no_overflow { meter.old.bits ≡ 127 → IsRowUpTo (2 ^ 30) lower.now → IsRowUpTo (2 ^ 30) row.now → IsNoOverflow result }
+    ensures no_overflow { meter.old.bits ≡ 127 → IsRowUpTo given_magnitude lower.now → IsRowUpTo given_magnitude row.now → IsNoOverflow result }
 {
     if !Side::Upper.has(row, column, meter) {
         return Ok(());
@@ -122,7 +122,7 @@ fn push_pairs_of(
     requires rows { All (IsProper meter.old column.columns) rows.now }
     ensures exact { IsDoneFor (length (on_side Side.Upper column.at rows.now)) meter.old meter.new
         (λ _. AreAdded meter.old column.at (map (real_row column.at lower.now) (on_side Side.Upper column.at rows.now)) short.old short.new) result }
-    ensures no_overflow { meter.old.bits ≡ 127 → IsRowUpTo (2 ^ 30) lower.now → All (IsRowUpTo (2 ^ 30)) rows.now → IsNoOverflow result }
+    ensures no_overflow { meter.old.bits ≡ 127 → IsRowUpTo given_magnitude lower.now → All (IsRowUpTo given_magnitude) rows.now → IsNoOverflow result }
 {
     for row in rows {
         push_pair(alloc, lower, row, column, short, meter)?;
@@ -144,7 +144,7 @@ fn push_lower(
     ensures exact { IsDoneFor (length (on_side Side.Lower column.at (row.now ∷ [])) * length (on_side Side.Upper column.at rows.now)) meter.old meter.new
         (λ _. AreAdded meter.old column.at (real_rows column.at (on_side Side.Lower column.at (row.now ∷ [])) (on_side Side.Upper column.at rows.now))
         short.old short.new) result }
-    ensures no_overflow { meter.old.bits ≡ 127 → IsRowUpTo (2 ^ 30) row.now → All (IsRowUpTo (2 ^ 30)) rows.now → IsNoOverflow result }
+    ensures no_overflow { meter.old.bits ≡ 127 → IsRowUpTo given_magnitude row.now → All (IsRowUpTo given_magnitude) rows.now → IsNoOverflow result }
 {
     if !Side::Lower.has(row, column, meter) {
         return Ok(());
@@ -164,7 +164,7 @@ fn push_pairs(
     ensures exact { IsDoneFor (pairs_on column.at rows.now) meter.old meter.new
         (λ _. AreAdded meter.old column.at (real_rows column.at (on_side Side.Lower column.at rows.now) (on_side Side.Upper column.at rows.now))
         short.old short.new) result }
-    ensures no_overflow { meter.old.bits ≡ 127 → All (IsRowUpTo (2 ^ 30)) rows.now → IsNoOverflow result }
+    ensures no_overflow { meter.old.bits ≡ 127 → All (IsRowUpTo given_magnitude) rows.now → IsNoOverflow result }
 {
     for row in rows {
         push_lower(alloc, row, rows, column, short, meter)?;
@@ -215,7 +215,7 @@ fn short_rows(alloc: Global, rows: &[Row], column: Column, meter: &mut Meter) ->
     requires rows { All (IsProper meter.old column.columns) rows.now }
     ensures exact { IsDoneFor (pairs_on column.at rows.now) meter.old meter.new
         (λ short. AreAdded meter.old column.at (rows_left column.at rows.now) [] short) result }
-    ensures no_overflow { meter.old.bits ≡ 127 → All (IsRowUpTo (2 ^ 30)) rows.now → IsNoOverflow result }
+    ensures no_overflow { meter.old.bits ≡ 127 → All (IsRowUpTo given_magnitude) rows.now → IsNoOverflow result }
 {
     let mut short = Rows::with_capacity(alloc, rows.len())?;
     push_free(alloc, rows, column, &mut short, meter)?;

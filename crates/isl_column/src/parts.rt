@@ -7,7 +7,7 @@ ghost use Rattle.isl_omega.specs.Column.{IsProper};
 ghost use Rattle.isl_omega.specs.Equality.{HasEquality};
 ghost use Rattle.isl_omega.specs.Sides.{AreSided};
 ghost use Rattle.isl_omega.specs.Step.{IsStepOf};
-ghost use Rattle.isl_omega.specs.Magnitude.{IsNoOverflowWith, AreSidesUpTo};
+ghost use Rattle.isl_omega.specs.Magnitude.{IsNoOverflowWith, AreSidesUpTo, given_magnitude, substituted_magnitude};
 ghost use Rattle.isl_column.specs.Column.{HoldAtSome};
 ghost use Rattle.isl_column.specs.Exact.{IsExactColumn, exact_rows, pairs_on};
 ghost use Rattle.isl_column.specs.Magnitude.{HaveSmallNumbers, HaveOneCongruence};
@@ -36,8 +36,8 @@ fn without_congruences(
 ) -> Result<Sides, Cut>
     requires sided { AreSided meter.old column.columns column.at sides }
     ensures exact { IsDone meter.old meter.new (λ new. IsStepOf meter.old column.columns column.at sides new) result }
-    ensures no_overflow { meter.old.bits ≡ 127 → AreSidesUpTo (2 ^ 30) sides → length sides.divides < 2
-        → IsNoOverflowWith (AreSidesUpTo (2 ^ 61)) result }
+    ensures no_overflow { meter.old.bits ≡ 127 → AreSidesUpTo given_magnitude sides → length sides.divides < 2
+        → IsNoOverflowWith (AreSidesUpTo substituted_magnitude) result }
 {
     if sides.divides.is_empty() {
         return Ok(sides);
@@ -118,7 +118,7 @@ impl Parts {
         requires sided { AreSided meter.old column.columns column.at sides }
         requires divides { sides.divides ≡ [] }
         ensures exact { IsBegun (sides_units column.at sides) column.columns (HasNumber sides column.at) meter.old meter.new result }
-        ensures no_overflow { meter.old.bits ≡ 127 → AreSidesUpTo (2 ^ 61) sides → length sides.not_divides < 2
+        ensures no_overflow { meter.old.bits ≡ 127 → AreSidesUpTo substituted_magnitude sides → length sides.not_divides < 2
             → IsNoOverflowWith AreSmallParts result }
         ensures pairs { IfOk result (λ parts.
             meter.old.units + length sides.lowers * length sides.uppers ≤ meter.new.units + least_units parts) }
@@ -195,7 +195,8 @@ impl Parts {
 
     /// Takes the head out of them, if it is still there. No unit is used.
     pub fn take_head(&mut self) -> Option<Rows>
-        ensures { (g : Gauge) (columns : ℕ) → AreParts g columns self.old
+        ensures head { result ≡ self.old.dark_shadow.dark }
+        ensures part { (g : Gauge) (columns : ℕ) → AreParts g columns self.old
             → MatchOption result (self.new ≡ self.old) (λ rows. IsNextPart g columns self.old rows self.new) }
     {
         self.dark_shadow.dark.take()

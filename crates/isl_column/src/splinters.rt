@@ -6,7 +6,7 @@ ghost use Rattle.isl_column.specs.DarkShadow.{HasValue, AreSplinters, IsDarkShad
 ghost use Rattle.isl_omega.specs.Column.{IsAnswerFor, IsProper};
 ghost use Rattle.isl_omega.specs.Sides.{IsLower};
 ghost use Rattle.isl_piece.specs.Row.{IsRowUpTo};
-ghost use Rattle.isl_omega.specs.Magnitude.{IsNoOverflow, IsNoOverflowWith};
+ghost use Rattle.isl_omega.specs.Magnitude.{IsNoOverflow, IsNoOverflowWith, paired_magnitude, substituted_magnitude};
 ghost use Rattle.isl_column.specs.Magnitude.{AreSmallSplinters, IsSmallDarkShadow};
 
 use crate::dark_shadow::DarkShadow;
@@ -42,8 +42,8 @@ fn splinter(
     requires bound { IsLower meter.old column.columns column.at tail.now.lower }
     ensures exact { IsDone meter.old meter.new
         (λ left. IsAnswerFor meter.old (column.columns - 1) (HasValue rows.now column.at tail.now.lower tail.now.last) left) result }
-    ensures no_overflow { meter.old.bits ≡ 127 → All (IsRowUpTo (2 ^ 61)) rows.now → IsRowUpTo (2 ^ 61) tail.now.lower
-        → unsigned_abs tail.now.last ≤ 2 ^ 62 → IsNoOverflow result }
+    ensures no_overflow { meter.old.bits ≡ 127 → All (IsRowUpTo substituted_magnitude) rows.now → IsRowUpTo substituted_magnitude tail.now.lower
+        → unsigned_abs tail.now.last ≤ paired_magnitude → IsNoOverflow result }
 {
     let fixed = reduced_by(alloc, &tail.lower, tail.last, meter)?;
     let left = equality_step(alloc, rows, &fixed, column, meter)?;
@@ -67,7 +67,7 @@ impl DarkShadow {
             (λ left. IsAnswerFor meter.old (column.columns - 1) (HasValue self.old.rows column.at tail.lower tail.last) left
             × IsSplit self.old tail self.new × IsWithin meter.old (tail.last -ℤ pos 1)) result }
         ensures used { IfOk result (λ _. meter.old.units < meter.new.units) }
-        ensures no_overflow { meter.old.bits ≡ 127 → All (IsRowUpTo (2 ^ 61)) self.old.rows → AreSmallSplinters tail → pos 0 ≤ℤ tail.last
+        ensures no_overflow { meter.old.bits ≡ 127 → All (IsRowUpTo substituted_magnitude) self.old.rows → AreSmallSplinters tail → pos 0 ≤ℤ tail.last
             → IsNoOverflow result }
     {
         meter.unit()?;

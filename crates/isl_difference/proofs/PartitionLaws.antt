@@ -1,9 +1,10 @@
 -- Partitions: of no point, of one system, joined, and of the same points.
 use Rattle.std.proofs.Common.{◌≡◌, ◌↔◌, ◌⊎◌, inl, inr, refl, sym, ◌∙◌, subst, arith, ℕ, ◌-◌, ◌<◌, ℤ, List, [], ◌∷◌, ◌++◌, length, get_or}
-use Rattle.std.proofs.Common.{take, drop, length-append}
+use Rattle.std.proofs.Common.{ap, map, take, drop, length-append}
 use Rattle.std.specs.List.{Any, AllPairs}
 use Rattle.std.proofs.lemmas.Bool.{cases_lt}
 use Rattle.std.proofs.lemmas.List.{get_or_append_left, get_or-append_right, get_or_default, get_or-take, length-take-le, take-append-drop}
+use Rattle.std.proofs.lemmas.List.{get_or-map}
 use Rattle.std.proofs.lemmas.List.Elements.{All-nil, All-cons, All-append, All-weaker}
 use Rattle.isl_math.proofs.ListLaws.{Any-parts, Any-left, Any-right, Any-one, Any-first, Any-none}
 use Rattle.isl_piece.specs.declared.system.System.{System}
@@ -26,6 +27,11 @@ pairs_append R xs ys p q cross i j d below inside =
 -- the element at i, whatever stands for none
 pub any_at : {X : Type 0} (P : X → Type 0) (xs : List X) (i : ℕ) (d : X) → i < length xs → P (get_or xs i d) → Any P xs
 any_at P xs i d l p = (i, get_or xs i d, l, get_or_default xs i (get_or xs i d) d l, p)
+
+-- what f makes of the element at i
+pub mapped_at : {X Y : Type 0} (f : X → Y) (xs : List X) (i : ℕ) (x : X) → i < length xs → x ≡ get_or xs i x
+    → f x ≡ get_or (map f xs) i (f x)
+mapped_at f xs i x low is = ap f is ∙ sym (get_or-map f xs i x (f x) low)
 
 -- each element in front of the one at i is related to it
 pub any_before : {X : Type 0} (P : X → Type 0) (R : X → X → Type 0) (xs : List X) (i : ℕ) (x : X) → AllPairs R xs → i < length xs

@@ -1,6 +1,7 @@
 //! One system without others.
 
 ghost use Rattle.std.specs.Prelude.{◌≡◌, ◌≢◌, ◌+◌, ◌≤◌, ◌∷◌, [], All, AllPairs, IfOk, IfSome, IsTrue, MatchOption, MatchResult, length};
+ghost use Rattle.std.specs.Prelude.{map};
 ghost use Rattle.isl_meter.specs.Gauge.{Gauge, IsCharged, IsCutBy};
 ghost use Rattle.isl_piece.specs.System.{HoldsSystem, IsSystemWithin, free_columns};
 ghost use Rattle.isl_elim.specs.Sample.{IsNowhere};
@@ -204,14 +205,14 @@ fn all_without(
 pub fn outside(
     alloc: Global,
     system: &System,
-    others: &[System],
+    others: &[&System],
     meter: &mut Meter,
 ) -> Result<Vec<System>, Cut>
     requires within { IsSystemWithin meter.old system.now }
-    requires others_within { All (IsSystemWithin meter.old) others.now }
-    requires columns { All (λ other. free_columns other ≡ free_columns system.now) others.now }
+    requires others_within { All (IsSystemWithin meter.old) (map (λ other. other.now) others.now) }
+    requires columns { All (λ other. free_columns other ≡ free_columns system.now) (map (λ other. other.now) others.now) }
     ensures exact { MatchResult result
-        (λ left. IsDifference meter.old system.now others.now left.items × IsCharged meter.old meter.new)
+        (λ left. IsDifference meter.old system.now (map (λ other. other.now) others.now) left.items × IsCharged meter.old meter.new)
         (IsCutBy meter.old meter.new) }
     ensures counted { IfOk result (λ left. length left.items + meter.old.units ≤ meter.new.units + 1) }
 {
@@ -234,15 +235,15 @@ pub fn outside(
 pub fn is_covered(
     alloc: Global,
     system: &System,
-    others: &[System],
+    others: &[&System],
     meter: &mut Meter,
 ) -> Result<bool, Cut>
     requires within { IsSystemWithin meter.old system.now }
-    requires others_within { All (IsSystemWithin meter.old) others.now }
-    requires columns { All (λ other. free_columns other ≡ free_columns system.now) others.now }
-    ensures covered { IfOk result (λ covered. IsTrue covered → IsCovered system.now others.now) }
+    requires others_within { All (IsSystemWithin meter.old) (map (λ other. other.now) others.now) }
+    requires columns { All (λ other. free_columns other ≡ free_columns system.now) (map (λ other. other.now) others.now) }
+    ensures covered { IfOk result (λ covered. IsTrue covered → IsCovered system.now (map (λ other. other.now) others.now)) }
     ensures only { ¬ IsNowhere (free_columns system.now) (HoldsSystem system.now)
-        → IfOk result (λ covered. IsCovered system.now others.now → IsTrue covered) }
+        → IfOk result (λ covered. IsCovered system.now (map (λ other. other.now) others.now) → IsTrue covered) }
     ensures meter { MatchResult result (λ _. IsCharged meter.old meter.new) (IsCutBy meter.old meter.new) }
 {
     let left = outside(alloc, system, others, meter)?;

@@ -131,9 +131,10 @@ all_opened g s whole w l h =
     let full : with_defined s.definitions xs ≡ whole = defined_by s.definitions xs zs defined ∙ join in
     rw full rows.0
 
-pub all_opened_back : (g : Gauge) (s : System) (point : List ℤ) → IsSystemWithin g s → length point ≡ free_columns s → HoldsSystem s point
-    → (whole : List ℤ) × (length whole ≡ s.columns) × HoldRows (s.rows ++ definition_rows s.columns s.definitions) whole
-all_opened_back g s point w l h =
+-- and they hold at the numbers of a point with what the definitions give behind them, where the system holds at the point
+pub all_opened_at : (g : Gauge) (s : System) (point : List ℤ) → IsSystemWithin g s → length point ≡ free_columns s → HoldsSystem s point
+    → (length (point ++ defined_numbers s.definitions point) ≡ s.columns) × HoldRows (s.rows ++ definition_rows s.columns s.definitions) (point ++ defined_numbers s.definitions point)
+all_opened_at g s point w l h =
     let zs = defined_numbers s.definitions point in
     let are = defined_numbers-are s.definitions point in
     let count = length-defined_by s.definitions point zs are in
@@ -141,7 +142,11 @@ all_opened_back g s point w l h =
     let sum = length-append point zs in
     let c = w.count in
     let rows = (defining_all g s.columns s.definitions point zs (rw l w.definitions) count).1 are in
-    (point ++ zs, omega (arith, sum, count, l, c), All-append (λ r. HoldsRow r (point ++ zs)) s.rows (definition_rows s.columns s.definitions) (rw full at h) rows)
+    (omega (arith, sum, count, l, c), All-append (λ r. HoldsRow r (point ++ zs)) s.rows (definition_rows s.columns s.definitions) (rw full at h) rows)
+
+pub all_opened_back : (g : Gauge) (s : System) (point : List ℤ) → IsSystemWithin g s → length point ≡ free_columns s → HoldsSystem s point
+    → (whole : List ℤ) × (length whole ≡ s.columns) × HoldRows (s.rows ++ definition_rows s.columns s.definitions) whole
+all_opened_back g s point w l h = let k = all_opened_at g s point w l h in (point ++ defined_numbers s.definitions point, k.0, k.1)
 
 pub definition_rows-append : (columns : ℕ) (definitions : List Definition) (d : Definition) → definition_rows columns (definitions ++ d ∷ []) ≡ definition_rows columns definitions ++ least_row columns d ∷ most_row columns d ∷ []
 definition_rows-append columns [] d = refl

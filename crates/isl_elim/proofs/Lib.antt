@@ -1,10 +1,12 @@
 pub mod AlongLaws
 pub mod DefiningLaws
 pub mod EmptinessLaws
+pub mod FlattenLaws
 pub mod KeptLaws
 pub mod LeftLaws
 pub mod OpenedLaws
 pub mod OthersLaws
 pub mod PartsLaws
 pub mod ProjectionLaws
+pub mod RangeLaws
 pub mod SampleLaws

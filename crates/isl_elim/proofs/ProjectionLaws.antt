@@ -30,16 +30,16 @@ use Rattle.isl_elim.proofs.KeptLaws.{only_none}
 use Rattle.isl_elim.proofs.EmptinessLaws.{insert-remove}
 use Rattle.isl_elim.proofs.OthersLaws.{among, among_at, without_insert, without_none, others_same}
 
-any_mapped : {X Y : Type 0} (P : Y → Type 0) (f : X → Y) (xs : List X) → Any (λ x. P (f x)) xs → Any P (map f xs)
+pub any_mapped : {X Y : Type 0} (P : Y → Type 0) (f : X → Y) (xs : List X) → Any (λ x. P (f x)) xs → Any P (map f xs)
 any_mapped P f [] a = absurd (Any-none (λ x. P (f x)) a)
 any_mapped P f (x ∷ xs) a = elim (Any-cases (λ x. P (f x)) x xs a) [ inl h ↦ Any-first P (f x) (map f xs) h | inr h ↦ Any-later P (f x) (map f xs) (any_mapped P f xs h) ]
 
-all_mapped : {X Y : Type 0} (P : Y → Type 0) (f : X → Y) (xs : List X) → All (λ x. P (f x)) xs → All P (map f xs)
+pub all_mapped : {X Y : Type 0} (P : Y → Type 0) (f : X → Y) (xs : List X) → All (λ x. P (f x)) xs → All P (map f xs)
 all_mapped P f [] a = All-nil P
 all_mapped P f (x ∷ xs) a = All-cons P (f x) (map f xs) (All-head (λ x. P (f x)) x xs a) (all_mapped P f xs (All-tail (λ x. P (f x)) x xs a))
 
 -- the systems hold where the rows do at the full point
-systems_hold : (columns : ℕ) (definitions : List Definition) (lists : List (List Row)) (point : List ℤ) → HoldsAtAny (map (system_of columns definitions) lists) point ↔ HoldAtAny lists (with_defined definitions point)
+pub systems_hold : (columns : ℕ) (definitions : List Definition) (lists : List (List Row)) (point : List ℤ) → HoldsAtAny (map (system_of columns definitions) lists) point ↔ HoldAtAny lists (with_defined definitions point)
 systems_hold columns definitions lists point = (
   (λ h. Any-unmapped (λ s. HoldsSystem s point) (system_of columns definitions) lists h),
   (λ h. any_mapped (λ s. HoldsSystem s point) (system_of columns definitions) lists h),

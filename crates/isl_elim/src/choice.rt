@@ -37,7 +37,7 @@ impl Bounds {
 
 /// How rows have a column.
 #[derive(Clone, Copy)]
-struct Column {
+struct ColumnUse {
     at: usize,
     equality: Option<u128>,
     has_congruence: bool,
@@ -50,13 +50,13 @@ fn number_at(row: &Row, col: usize) -> i128 {
     row.coefs.as_slice().get(col).map_or(0, |c| c.get())
 }
 
-impl Column {
-    fn of(rows: &[Row], at: usize) -> Column {
+impl ColumnUse {
+    fn of(rows: &[Row], at: usize) -> ColumnUse {
         let none = Bounds {
             count: 0,
             greatest: 0,
         };
-        let mut column = Column {
+        let mut column = ColumnUse {
             at,
             equality: None,
             has_congruence: false,
@@ -69,29 +69,29 @@ impl Column {
         column
     }
 
-    fn with(self, row: &Row) -> Column {
+    fn with(self, row: &Row) -> ColumnUse {
         let number = number_at(row, self.at);
         let magnitude = number.unsigned_abs();
         if number == 0 {
             return self;
         }
         match row.kind {
-            RowKind::Zero => Column {
+            RowKind::Zero => ColumnUse {
                 equality: Some(
                     self.equality
                         .map_or(magnitude, |least| least.min(magnitude)),
                 ),
                 ..self
             },
-            RowKind::AtLeast if number > 0 => Column {
+            RowKind::AtLeast if number > 0 => ColumnUse {
                 lowers: self.lowers.with(magnitude),
                 ..self
             },
-            RowKind::AtLeast => Column {
+            RowKind::AtLeast => ColumnUse {
                 uppers: self.uppers.with(magnitude),
                 ..self
             },
-            RowKind::Divides | RowKind::NotDivides => Column {
+            RowKind::Divides | RowKind::NotDivides => ColumnUse {
                 has_congruence: true,
                 ..self
             },
@@ -151,7 +151,7 @@ pub(crate) fn cheapest(rows: &[Row], cols: &[usize]) -> usize
     let mut best = 0;
     let mut least = None;
     for i in 0..cols.len() {
-        let cost = Column::of(rows, cols[i]).cost(rows);
+        let cost = ColumnUse::of(rows, cols[i]).cost(rows);
         if least.is_none_or(|old| cost < old) {
             best = i;
             least = Some(cost);
@@ -168,7 +168,7 @@ pub(crate) fn any_column(rows: &[Row], columns: usize) -> usize
     let mut best = 0;
     let mut least = None;
     for col in 0..columns {
-        let cost = Column::of(rows, col).cost(rows);
+        let cost = ColumnUse::of(rows, col).cost(rows);
         if least.is_none_or(|old| cost < old) {
             best = col;
             least = Some(cost);

@@ -3,14 +3,18 @@
 
 mod along;
 mod choice;
+mod columns;
 mod dependents;
 mod emptiness;
+mod flat;
 mod line;
 mod opened;
 mod progression;
 mod projection;
 mod sample;
 
+pub use columns::columns_between;
 pub use emptiness::is_empty;
+pub use flat::flatten;
 pub use projection::{eliminate, eliminate_all};
 pub use sample::sample_point;

@@ -22,8 +22,12 @@ use isl_omega::column::Column;
 use isl_piece::{Rows, System};
 use std::alloc::{AllocError, Global};
 
-// The systems of the rows, over the columns and with the definitions of `left`.
-fn systems_of(alloc: Global, lists: Vec<Rows>, left: &System) -> Result<Vec<System>, AllocError>
+/// The systems of the rows, over the columns and with the definitions of `left`.
+pub(crate) fn systems_of(
+    alloc: Global,
+    lists: Vec<Rows>,
+    left: &System,
+) -> Result<Vec<System>, AllocError>
     ensures { IfOk result (λ systems. systems.items ≡ map (system_of left.now.columns left.now.definitions) lists.items) }
 {
     let mut systems = Vec::with_capacity(alloc, lists.len())?;

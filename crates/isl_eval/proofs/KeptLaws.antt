@@ -1,6 +1,7 @@
 -- What is kept of expressions.
-use Rattle.std.proofs.Common.{◌≡◌, ◌∙◌, ◌↔◌, refl, sym, ap, subst, ◌-◌, ◌^◌, ℤ, true, false, is_some, List, [], ◌∷◌, ◌++◌, get_or, Option, Some, None, option_map}
+use Rattle.std.proofs.Common.{◌≡◌, ◌∙◌, ◌↔◌, refl, sym, ap, subst, ℕ, ℤ, true, false, is_some, List, [], ◌∷◌, ◌++◌, Option, Some, None, option_map}
 use Rattle.std.specs.Prelude.{not, ◌||◌, unsigned_abs}
+use Rattle.std.specs.List.{list_any}
 use Rattle.std.specs.Str.{bytes_eq}
 use Rattle.std.proofs.lemmas.Bool.{false≢true, or_parts, not-false}
 use Rattle.std.proofs.lemmas.List.Elements.{All-head}
@@ -12,20 +13,22 @@ use Rattle.isl_space.specs.Names.{AreDistinct}
 use Rattle.isl_space.specs.Valuation.{Valuation}
 use Rattle.isl_space.specs.Element.{Element}
 use Rattle.isl_space.proofs.NamesLaws.{inserted}
-use Rattle.isl_piece.proofs.RowMagnitudes.{up_to_limit}
-use Rattle.isl_union.specs.KeptValue.{KeptValue, IsKeptValue, Has}
+use Rattle.isl_union.specs.KeptValue.{KeptValue, Has, HasNoDefinitions, IsKeptValue}
+use Rattle.isl_text.specs.declared.refusal.Refusal.{Refusal}
 use Rattle.isl_tree.specs.declared.tree.Literal.{Literal}
 use Rattle.isl_tree.specs.Literal.{LiteralHas}
 use Rattle.isl_tree.specs.Plain.{is_plain}
 use Rattle.isl_tree.specs.Known.{literal_is_known}
-use Rattle.isl_lower.specs.Value.{IsWellFormedLiteral, IsValueWithin, HasSameElements, value_lowered}
+use Rattle.isl_lower.specs.Value.{HasSameElements, IsLowered, IsWellFormedLiteral}
 use Rattle.isl_expr.specs.declared.tree.Expr.{Expr}
 use Rattle.isl_expr.specs.declared.tree.Expr as e
+use Rattle.isl_kinds.specs.Parts.{parts_of}
 use Rattle.isl_kinds.specs.Typed.{TypeView, ScopeView, params_of, has_unknown, kind_of, declared_of, bound_to}
 use Rattle.isl_eval.specs.State.{Kept, StateView, Moment, kept_of, type_of, scope_of, HasNumbersUpTo, Fits}
-use Rattle.isl_eval.specs.Worked.{kept_value, value_of}
+use Rattle.isl_eval.specs.Causes.{uses_units}
+use Rattle.isl_eval.specs.Worked.{IsWorked}
 use Rattle.isl_eval.specs.Selection.{KeptHas, Selects, Keeps}
-use Rattle.isl_eval.specs.Evaluation.{IsOfType, IsSoundExpr, IsValueOf}
+use Rattle.isl_eval.specs.Evaluation.{IsOfType, IsPaid, IsSoundExpr, IsValueOf, IsWhyUnmade}
 use Rattle.isl_eval.proofs.StateLaws.{bound_at}
 
 -- ---- a list of distinct names, joined to none, is itself
@@ -35,10 +38,6 @@ inserted_all done (name ∷ rest) names distinct is = inserted_all (insert_key b
 
 pub declared_itself : (names : List Name) → AreDistinct names → insert_all bytes_eq [] names ≡ names
 declared_itself names distinct = inserted_all [] names names distinct refl
-
--- ---- numbers
-pub value_up_to : (g : Gauge) (value : KeptValue) → IsValueWithin g value → HasNumbersUpTo (2 ^ g.bits - 1) value
-value_up_to g value within i d low = λ j e inside. up_to_limit g (get_or (get_or value.pieces i d).rows j e) (within i d low j e inside)
 
 -- ---- a name
 module _ (state : StateView) (name : Name) (kept : Kept) (there : kept_of state name ≡ Some kept) where
@@ -54,37 +53,52 @@ module _ (state : StateView) (name : Name) (kept : Kept) (there : kept_of state 
   selects_there : (valuation : Valuation) (element : Element) → Has kept.value valuation element ↔ Selects state (e.Name name) valuation element
   selects_there valuation element = subst (λ (o : Option Kept). Has kept.value valuation element ↔ KeptHas o valuation element) (sym there) ((λ h. h), (λ h. h))
 
-  pub name_value : (limit : ℤ) → IsKeptValue kept.value → Fits limit state
-      → IsValueOf (value_of state (e.Name name)) (declared_of (scope_of state) (e.Name name)) (Selects state (e.Name name)) (unsigned_abs limit) kept.value
-  name_value limit sound fits = record {
-    written = sym (ap kept_value there);
+  pub name_value : (limit : ℤ) → IsKeptValue kept.value → HasNoDefinitions kept.value → Fits limit state
+      → IsValueOf (IsWorked state (e.Name name)) (declared_of (scope_of state) (e.Name name)) (Selects state (e.Name name)) (unsigned_abs limit) kept.value
+  name_value limit sound plain fits = record {
+    written = (kept, there, refl);
     kept = sound;
     params = sym (params_there sound);
     elements = selects_there;
     numbers = fits name kept there;
+    definitions = plain;
   }
 
 -- what is made of an expression
 abbrev pub Makes : StateView → ℤ → Expr → KeptValue → Type 0
-Makes state limit expr value = IsValueOf (value_of state expr) (declared_of (scope_of state) expr) (Selects state expr) (unsigned_abs limit) value
+Makes state limit expr value = IsValueOf (IsWorked state expr) (declared_of (scope_of state) expr) (Selects state expr) (unsigned_abs limit) value
 
 pub name_makes : (state : StateView) (limit : ℤ) (expr : Expr) (name : Name) (kept : Kept) (value : KeptValue) → expr ≡ e.Name name → value ≡ kept.value
-    → kept_of state name ≡ Some kept → IsKeptValue kept.value → Fits limit state → Makes state limit expr value
-name_makes state limit expr name kept value is same there sound fits =
+    → kept_of state name ≡ Some kept → IsKeptValue kept.value → HasNoDefinitions kept.value → Fits limit state → Makes state limit expr value
+name_makes state limit expr name kept value is same there sound plain fits =
     subst (λ (x : Expr). Makes state limit x value) (sym is)
-    (subst (λ (v : KeptValue). Makes state limit (e.Name name) v) (sym same) (name_value state name kept there limit sound fits))
+    (subst (λ (v : KeptValue). Makes state limit (e.Name name) v) (sym same) (name_value state name kept there limit sound plain fits))
 
 -- ---- a literal
 pub literal_makes : (state : StateView) (limit : ℤ) (expr : Expr) (literal : Literal) (value : KeptValue) → expr ≡ e.Literal literal → IsWellFormedLiteral literal
-    → IsValueOf (value_lowered literal) literal.params (LiteralHas literal) (unsigned_abs limit) value → Makes state limit expr value
+    → IsValueOf (IsLowered literal) literal.params (LiteralHas literal) (unsigned_abs limit) value → Makes state limit expr value
 literal_makes state limit expr literal value is formed made =
     subst (λ (x : Expr). Makes state limit x value) (sym is)
-    (record { written = made.written; kept = made.kept; params = made.params ∙ sym (declared_itself literal.params formed.params.distinct); elements = made.elements; numbers = made.numbers })
+    (record {
+      written = made.written;
+      kept = made.kept;
+      params = made.params ∙ sym (declared_itself literal.params formed.params.distinct);
+      elements = made.elements;
+      numbers = made.numbers;
+      definitions = made.definitions;
+    })
 
-pub literal_value : (g : Gauge) (literal : Literal) (value : KeptValue) → value ≡ value_lowered literal → IsKeptValue value → HasSameElements literal value
-    → IsValueWithin g value → IsValueOf (value_lowered literal) literal.params (LiteralHas literal) (2 ^ g.bits - 1) value
-literal_value g literal value is kept same within =
-    record { written = is; kept = kept; params = ap (λ (v : KeptValue). v.params) is; elements = same; numbers = value_up_to g value within }
+pub literal_value : (limit : ℕ) (literal : Literal) (value : KeptValue) → IsLowered literal value → IsKeptValue value → HasNoDefinitions value
+    → HasSameElements literal value → HasNumbersUpTo limit value → IsValueOf (IsLowered literal) literal.params (LiteralHas literal) limit value
+literal_value limit literal value is kept plain same small =
+    record { written = is; kept = kept; params = is.params; elements = same; numbers = small; definitions = plain }
+
+pub literal_paid : (expr : Expr) (literal : Literal) (g h : Gauge) → expr ≡ e.Literal literal → IsPaid true g h → IsPaid (list_any uses_units (parts_of expr)) g h
+literal_paid expr literal g h is paid = subst (λ (x : Expr). IsPaid (list_any uses_units (parts_of x)) g h) (sym is) paid
+
+pub literal_unmade : (expr : Expr) (literal : Literal) (g h : Gauge) (refusal : Refusal) → expr ≡ e.Literal literal → IsWhyUnmade true g h refusal
+    → IsWhyUnmade (list_any uses_units (parts_of expr)) g h refusal
+literal_unmade expr literal g h refusal is why = subst (λ (x : Expr). IsWhyUnmade (list_any uses_units (parts_of x)) g h refusal) (sym is) why
 
 -- ---- a name is bound, and a literal plain and known
 pub never_unbound : (state : StateView) (name : Name) → kept_of state name ≡ None → ¬ (has_unknown (scope_of state) (e.Name name) ≡ false)
@@ -113,6 +127,7 @@ made_keeps before expr kept value t is typed made =
         written = made.written;
         well_formed = made.kept;
         numbers = made.numbers;
+        definitions = made.definitions;
       },
       ap (λ (ps : List Name). let built : TypeView = record { kind = t.kind; params = ps } in built) (made.params ∙ typed.params),
     )

@@ -9,8 +9,6 @@ pub mod KeptLaws
 pub mod NarrowLaws
 pub mod RowLaws
 pub mod WorkedLaws
-pub mod PassLaws
 pub mod ValueLaws
-pub mod UnitLaws
 pub mod DepthLaws
 pub mod StepLaws

@@ -1,9 +1,8 @@
 -- What stands in an expression, operand by operand.
 use mathlib.Core.Former.{Count}
 use Rattle.std.proofs.Common.{◌≡◌, ◌∙◌, ◌<◌, ℕ, zero, suc, Bool, false, List, [], ◌∷◌, ◌++◌, length, get_or, refl, sym, ap, subst, arith}
-use Rattle.std.specs.List.{All, Any, list_any}
+use Rattle.std.specs.List.{All, list_any}
 use Rattle.std.proofs.lemmas.Bool.{or_parts, false≢true}
-use Rattle.std.proofs.lemmas.List.{get_or_append_left, length-append}
 use Rattle.std.proofs.lemmas.List.Elements.{All-nil, All-cons, All-append, All-head, All-tail}
 use Rattle.std.proofs.lemmas.List.Folds.{list_any-append}
 use Rattle.isl_tree.specs.declared.tree.Literal.{Literal}
@@ -22,20 +21,8 @@ use Rattle.isl_kinds.proofs.PartLaws.{parts_of-Row, parts_of-Post}
 use Rattle.isl_simple.specs.Unsupported.{is_later}
 use Rattle.isl_eval.specs.Evaluation.{IsSoundExpr, IsSoundLink, AreInverses}
 
--- ---- some of a list, and all of it
+-- ---- all of a list
 module _ {X : Type 0} (P : X → Type 0) where
-  pub any_left : (xs ys : List X) → Any P xs → Any P (xs ++ ys)
-  any_left xs ys h =
-      let low = h.2 in
-      (h.0, h.1, omega (arith, low, length-append xs ys), get_or_append_left xs ys h.1 h.0 h.2 ∙ h.3, h.4)
-
-  any_behind : (x : X) (xs : List X) → Any P xs → Any P (x ∷ xs)
-  any_behind x xs h = let low = h.2 in (suc h.0, h.1, omega (arith, low), h.3, h.4)
-
-  pub any_right : (xs ys : List X) → Any P ys → Any P (xs ++ ys)
-  any_right [] ys h = h
-  any_right (x ∷ xs) ys h = any_behind x (xs ++ ys) (any_right xs ys h)
-
   pub all_left : (xs ys : List X) → All P (xs ++ ys) → All P xs
   all_left [] ys all = All-nil P
   all_left (x ∷ xs) ys all = All-cons P x xs (All-head P x (xs ++ ys) all) (all_left xs ys (All-tail P x (xs ++ ys) all))
@@ -159,10 +146,13 @@ inverses (postfix ∷ postfixes) none =
     All-cons (λ postfix. postfix ≡ Inverse) postfix postfixes (inverse_alone postfix both.0) (inverses postfixes both.1)
 
 -- ---- the operand at a place
-pub literals_at : (P : Literal → Type 0) (links : List Link) (i : ℕ) (link : Link) → i < length links → link ≡ get_or links i link → Any P (literals_of link.operand)
-    → Any P (links_literals links)
-literals_at P [] i link low is some = absurd (omega (arith, low))
-literals_at P (other ∷ links) zero link low is some =
-    any_left P (literals_of other.operand) (links_literals links) (subst (λ (l : Link). Any P (literals_of l.operand)) is some)
-literals_at P (other ∷ links) (suc i) link low is some =
-    any_right P (literals_of other.operand) (links_literals links) (literals_at P links i link (omega (arith, low)) is some)
+pub quiet_at : (test : Part → Bool) (links : List Link) (i : ℕ) (link : Link) → i < length links → link ≡ get_or links i link → list_any test (parts_of_links links) ≡ false
+    → (test (part.operator link.operator) ≡ false) × (list_any test (parts_of link.operand) ≡ false)
+quiet_at test [] i link low is none = absurd (omega (arith, low))
+quiet_at test (other ∷ links) zero link low is none =
+    let sign = or_parts (test (part.operator other.operator)) (list_any test (parts_of other.operand ++ parts_of_links links)) none in
+    let now = quiet_both test (parts_of other.operand) (parts_of_links links) sign.1 in
+    subst (λ (l : Link). (test (part.operator l.operator) ≡ false) × (list_any test (parts_of l.operand) ≡ false)) (sym is) (sign.0, now.0)
+quiet_at test (other ∷ links) (suc i) link low is none =
+    let sign = or_parts (test (part.operator other.operator)) (list_any test (parts_of other.operand ++ parts_of_links links)) none in
+    quiet_at test links i link (omega (arith, low)) is (quiet_both test (parts_of other.operand) (parts_of_links links) sign.1).1

@@ -1,11 +1,13 @@
 -- One step: what is answered, and what is refused.
-use Rattle.std.proofs.Common.{◌≡◌, ◌≢◌, ◌∙◌, ◌⊎◌, inl, inr, refl, sym, ap, subst, ◌<◌, ◌≤◌, ◌+◌, ◌-◌, ◌^◌, ℕ, ℤ, pos, Bool, true, false, List, [], ◌∷◌, ◌++◌, length, Option, Some, None, Result, Ok, Err, arith}
+use Rattle.std.proofs.Common.{◌≡◌, ◌≢◌, ◌∙◌, ◌⊎◌, inl, inr, refl, sym, ap, subst, ◌<◌, ◌≤◌, ◌-◌, ◌^◌, ℕ, ℤ, pos, Bool, true, false, List, [], ◌∷◌, ◌++◌, length, Option, Some, None, Result, Ok, Err, arith}
 use Rattle.std.specs.Prelude.{IfOk, IfErr, MatchResult}
-use Rattle.std.specs.List.{All}
-use Rattle.isl_meter.specs.Gauge.{Gauge, limit_of, overflown, spent_out, IsCharged, IsKept}
-use Rattle.isl_meter.proofs.CutLemmas.{IsCharged_refl, IsKept_refl, IsKept_trans, IsKept-overflown, IsKept-spent_out, IsKept-charged}
+use Rattle.std.specs.List.{All, list_any}
+use Rattle.std.proofs.lemmas.Bool.{false_from_ne_true}
+use Rattle.isl_meter.specs.Gauge.{Gauge, limit_of, IsCharged, IsCutBy, IsKept}
+use Rattle.isl_meter.specs.declared.Cut.{Cut}
+use Rattle.isl_meter.specs.declared.Cut.TheVariants as cuts
+use Rattle.isl_meter.proofs.CutLemmas.{IsKept_refl, IsKept-charged}
 use Rattle.isl_space.specs.Limits.{most_parameters}
-use Rattle.isl_tree.specs.declared.tree.Literal.{Literal}
 use Rattle.isl_text.specs.declared.refusal.Refusal.{Refusal}
 use Rattle.isl_text.specs.declared.refusal.Refusal.TheVariants as r
 use Rattle.isl_expr.specs.declared.tree.ValueKind.{ValueKind}
@@ -15,19 +17,19 @@ use Rattle.isl_expr.specs.declared.tree.Expr.{Expr}
 use Rattle.isl_expr.specs.Expr.{statement_literals}
 use Rattle.isl_kinds.specs.declared.types.Purpose.{Purpose}
 use Rattle.isl_kinds.specs.declared.types.Purpose.TheVariants as purpose
+use Rattle.isl_kinds.specs.Parts.{parts_of, parts_of_statement}
 use Rattle.isl_kinds.specs.Typed.{TypeView, ScopeView, takes, has_unknown, has_no_item, kind_of, declared_of, kind_for, with_params, type_for, found, type_of_statement, Answers as TypeAnswers}
 use Rattle.isl_lower.specs.Value.{IsWellFormedLiteral}
 use Rattle.isl_simple.specs.Unsupported.{is_unsupported, mixes_kinds}
 use Rattle.isl_eval.specs.State.{Kept, Moment, StateView, Binds, scope_of, Fits}
-use Rattle.isl_eval.specs.Spelled.{OfStatement}
-use Rattle.isl_eval.specs.Causes.{Cause, no_token, too_deep, no_statement, too_wide, wide_number, unsupported, unknown_name, wrong_kind, no_element, mixed_kinds, wide_join, causes, refusal_of, statement_declared, IsThere, FirstGives, NoneIs, IsValid, Refuses, IsWithinUnits}
-use Rattle.isl_eval.specs.Units.{units_of, statement_units}
+use Rattle.isl_eval.specs.Spelled.{BytesSpell, OfStatement}
+use Rattle.isl_eval.specs.Causes.{Cause, no_token, too_deep, no_statement, too_wide, wide_number, unsupported, unknown_name, wrong_kind, no_element, mixed_kinds, wide_join, causes, refusal_of, statement_declared, IsThere, FirstGives, NoneIs, IsValid, Refuses, HasWork, uses_units}
 use Rattle.isl_eval.specs.Selection.{Keeps}
 use Rattle.isl_eval.specs.Machine.{Answer, Step, Answers, shown}
 use Rattle.isl_eval.specs.declared.step.Tally.{Tally}
 use Rattle.isl_eval.specs.declared.eval.Work.{Work}
 use Rattle.isl_eval.specs.declared.eval.Work.TheVariants as work
-use Rattle.isl_eval.specs.Evaluation.{causes_of_bytes, IsRead, IsWhyNot, IsTyped, IsWorkable, IsWhyUnworkable, IsReady, IsOfType, IsWork, IsWhyUnmade, IsWhyUnworked, UsesUpTo, Does}
+use Rattle.isl_eval.specs.Evaluation.{causes_of_bytes, IsRead, IsWhyNot, IsTyped, IsWorkable, IsWhyUnworkable, IsReady, IsOfType, IsWork, IsPaid, IsWhyUnmade, IsWhyUnworked, Does, refusal_of_cut}
 use Rattle.isl_eval.proofs.CauseLaws.{of_statement, is_not}
 use Rattle.isl_eval.proofs.StateLaws.{fits_bound}
 use Rattle.isl_eval.proofs.ValueLaws.{same_limit}
@@ -111,27 +113,6 @@ none_typed before Empty e = tt
 none_typed before (Bind name expr) e = absurd (found_some (type_for purpose.Bound (scope_of before.state) expr) e)
 none_typed before (Show expr) e = absurd (found_some (type_for purpose.Shown (scope_of before.state) expr) e)
 
--- a statement without an expression uses none
-pub none_used : (state : StateView) (stmt : Stmt) (g : Gauge) → type_of_statement (scope_of state) stmt ≡ Ok None → g.units ≡ g.units + statement_units state stmt
-none_used state Empty g e = omega arith
-none_used state (Bind name expr) g e = absurd (found_some (type_for purpose.Bound (scope_of state) expr) e)
-none_used state (Show expr) g e = absurd (found_some (type_for purpose.Shown (scope_of state) expr) e)
-
--- what is not to be worked out uses none, and its units do not end
-not_budget : (refusal : Refusal) → (refusal ≡ r.UnknownName) ⊎ ((refusal ≡ r.WrongKind) ⊎ (refusal ≡ r.NoElement)) → ¬ (refusal ≡ r.Budget)
-not_budget refusal (inl e) budget = let f : r.UnknownName ≡ r.Budget = sym e ∙ budget in cc
-not_budget refusal (inr (inl e)) budget = let f : r.WrongKind ≡ r.Budget = sym e ∙ budget in cc
-not_budget refusal (inr (inr e)) budget = let f : r.NoElement ≡ r.Budget = sym e ∙ budget in cc
-
-unworkable_budget : (scope : ScopeView) (stmt : Stmt) (refusal : Refusal) → IsWhyUnworkable scope stmt refusal → ¬ (refusal ≡ r.Budget)
-unworkable_budget scope stmt refusal (inl h) budget = not_budget refusal (no_type scope stmt refusal h) budget
-unworkable_budget scope stmt refusal (inr (inl h)) budget = let f : r.Syntax ≡ r.Budget = sym h.2 ∙ budget in cc
-unworkable_budget scope stmt refusal (inr (inr (inl h))) budget = let f : r.TooWide ≡ r.Budget = sym h.3 ∙ budget in cc
-unworkable_budget scope stmt refusal (inr (inr (inr h))) budget = let f : r.NoMemory ≡ r.Budget = sym h ∙ budget in cc
-
-pub unworkable_up_to : (scope : ScopeView) (stmt : Stmt) (refusal : Refusal) (n : ℕ) (g : Gauge) → IsWhyUnworkable scope stmt refusal → UsesUpTo n g g refusal
-unworkable_up_to scope stmt refusal n g why = (omega arith, λ budget. absurd (unworkable_budget scope stmt refusal why budget))
-
 -- what is to be worked out is ready
 pub show_ready : (scope : ScopeView) (expr : Expr) (t : TypeView) → is_unsupported (Show expr) ≡ false → All IsWellFormedLiteral (statement_literals (Show expr))
     → IsWorkable scope (Show expr) → type_of_statement scope (Show expr) ≡ Ok (Some t) → IsReady scope expr
@@ -172,10 +153,11 @@ bind_is_typed scope s stmt name expr o t there same is able =
 pub unworkable_unworked : (scope s : ScopeView) (stmt : Stmt) (g : Gauge) (refusal : Refusal) → s ≡ scope → IsWhyUnworkable s stmt refusal → IsWhyUnworked scope stmt g g refusal
 unworkable_unworked scope s stmt g refusal same why = inl (subst (λ (z : ScopeView). IsWhyUnworkable z stmt refusal) same why, refl)
 
-pub unmade_unworked : (scope s : ScopeView) (stmt : Stmt) (o : Option TypeView) (literals : List Literal) (g h : Gauge) (refusal : Refusal) → s ≡ scope
-    → IsWorkable s stmt × (type_of_statement s stmt ≡ Ok o) → statement_literals stmt ≡ literals → IsWhyUnmade literals g h refusal → IsWhyUnworked scope stmt g h refusal
-unmade_unworked scope s stmt o literals g h refusal same able are why =
-    inr (subst (λ (z : ScopeView). IsWorkable z stmt) same able.0, subst (λ (ls : List Literal). IsWhyUnmade ls g h refusal) (sym are) why)
+pub unmade_unworked : (scope s : ScopeView) (stmt : Stmt) (o : Option TypeView) (works : Bool) (g h : Gauge) (refusal : Refusal) → s ≡ scope
+    → IsWorkable s stmt × (type_of_statement s stmt ≡ Ok o) → list_any uses_units (parts_of_statement stmt) ≡ works → IsWhyUnmade works g h refusal
+    → IsWhyUnworked scope stmt g h refusal
+unmade_unworked scope s stmt o works g h refusal same able are why =
+    inr (subst (λ (z : ScopeView). IsWorkable z stmt) same able.0, subst (λ (b : Bool). IsWhyUnmade b g h refusal) (sym are) why)
 
 -- the parameters of a statement are those of its type
 pub typed_declares : (scope : ScopeView) (stmt : Stmt) (t : TypeView) → type_of_statement scope stmt ≡ Ok (Some t) → statement_declared scope stmt ≡ t.params
@@ -230,7 +212,7 @@ module _ (before : Moment) (bytes : List ℕ) (now : Gauge) (same : now ≡ befo
       subst (Refuses before bytes now) (sym cause.1) (by_cause cause.0 (subst Why cause.1 h))
 
   pub memory_refuses : (refusal : Refusal) → refusal ≡ r.NoMemory → Refuses before bytes now refusal
-  memory_refuses refusal is = subst (Refuses before bytes now) (sym is) (IsCharged_refl before.meter now same, inl (ap (λ (g : Gauge). g.units) same))
+  memory_refuses refusal is = subst (Refuses before bytes now) (sym is) (IsKept_refl before.meter now same, λ none. same)
 
 pub unread_refuses : (before : Moment) (bytes : List ℕ) (refusal : Refusal) → IsWhyNot before bytes refusal → Refuses before bytes before.meter refusal
 unread_refuses before bytes refusal (inl is) = memory_refuses before bytes before.meter refl refusal is
@@ -244,6 +226,17 @@ none_both There (cause ∷ front) back none later = (none.0, none_both There fro
 first_past : (There : Cause → Type 0) (front back : List Cause) (refusal : Refusal) → NoneIs There front → FirstGives There back refusal → FirstGives There (front ++ back) refusal
 first_past There [] back refusal none later = later
 first_past There (cause ∷ front) back refusal none later = inr (none.0, first_past There front back refusal none.1 later)
+
+-- ---- work
+pub no_work : (bytes : List ℕ) (stmt : Stmt) → BytesSpell bytes stmt → ¬ OfStatement bytes HasWork → list_any uses_units (parts_of_statement stmt) ≡ false
+no_work bytes stmt spelled none = false_from_ne_true (list_any uses_units (parts_of_statement stmt)) (λ work. none (stmt, spelled, work))
+
+has_work : (bytes : List ℕ) (stmt : Stmt) → BytesSpell bytes stmt → ¬ (list_any uses_units (parts_of_statement stmt) ≡ false) → OfStatement bytes HasWork
+has_work bytes stmt spelled some = by (list_any uses_units (parts_of_statement stmt)) refl
+  where
+    by : (b : Bool) → list_any uses_units (parts_of_statement stmt) ≡ b → OfStatement bytes HasWork
+    by true works = (stmt, spelled, works)
+    by false none = absurd (some none)
 
 -- ---- a statement that was read
 module _ (before : Moment) (bytes : List ℕ) (stmt : Stmt) (read : IsRead before bytes stmt) where
@@ -310,30 +303,32 @@ module _ (before : Moment) (bytes : List ℕ) (stmt : Stmt) (read : IsRead befor
       first_refuses before bytes now same refusal (typed_cause refusal h.0 (inr (unmixed_none h.1, inl ((stmt, read.spelled, h.2), h.3))))
   unworkable_refuses now refusal same (inr (inr (inr h))) = memory_refuses before bytes now same refusal h
 
-  -- units are said of the statement
-  within : (now : Gauge) → now.units ≤ before.meter.units + statement_units before.state stmt → IsWithinUnits before bytes now
-  within now most = inr (stmt, read.spelled, most)
+  abbrev Works : Bool
+  Works = list_any uses_units (parts_of_statement stmt)
 
-  pub unworked_refuses : (now : Gauge) (refusal : Refusal) → IsWhyUnworked (scope_of before.state) stmt before.meter now refusal
-      → UsesUpTo (statement_units before.state stmt) before.meter now refusal → Refuses before bytes now refusal
-  unworked_refuses now refusal (inl h) used = unworkable_refuses now refusal h.1 h.0
-  unworked_refuses now refusal (inr h) used = by h.1
-    where
-      by : IsWhyUnmade (statement_literals stmt) before.meter now refusal → Refuses before bytes now refusal
-      by (inl g) = subst (Refuses before bytes now) (sym g.0) (valid h.0, (stmt, read.spelled, g.1), g.2, within now used.0)
-      by (inr (inl g)) = subst (Refuses before bytes now) (sym g.0) (valid h.0, (stmt, read.spelled, used.1 g.0), g.1, g.2)
-      by (inr (inr g)) = subst (Refuses before bytes now) (sym g.0) (g.1, within now used.0)
+  -- it was worked on, and cut
+  cut_refuses : (now : Gauge) (what : Cut) → IsValid before bytes → IsCutBy before.meter now what → (Works ≡ false → (what ≡ cuts.NoMemory) × (now ≡ before.meter))
+      → Refuses before bytes now (refusal_of_cut what)
+  cut_refuses now cuts.Overflow able by free =
+      (able, has_work bytes stmt read.spelled (λ none. let bad : cuts.Overflow ≡ cuts.NoMemory = (free none).0 in absurd (let no : ⊥ = cc in no)), by)
+  cut_refuses now cuts.Budget able by free =
+      (able, has_work bytes stmt read.spelled (λ none. let bad : cuts.Budget ≡ cuts.NoMemory = (free none).0 in absurd (let no : ⊥ = cc in no)), by)
+  cut_refuses now cuts.NoMemory able by free = (by.kept, λ none. (free (no_work bytes stmt read.spelled none)).1)
+
+  pub unworked_refuses : (now : Gauge) (refusal : Refusal) → IsWhyUnworked (scope_of before.state) stmt before.meter now refusal → Refuses before bytes now refusal
+  unworked_refuses now refusal (inl h) = unworkable_refuses now refusal h.1 h.0
+  unworked_refuses now refusal (inr h) = subst (Refuses before bytes now) (sym h.1.is) (cut_refuses now h.1.cut (valid h.0) h.1.by h.1.free)
 
   -- ---- it is worked out
   pub answers : (after : Moment) (w : Work) (answer : Answer) → IsWorkable (scope_of before.state) stmt → IsWork before stmt w → Does w before.state after.state answer
-      → IsCharged before.meter after.meter → after.meter.units ≡ before.meter.units + statement_units before.state stmt → Answers before bytes after answer
-  answers after w answer able is does meter used = record {
+      → IsPaid Works before.meter after.meter → Answers before bytes after answer
+  answers after w answer able is does paid = record {
     valid = valid able;
     stmt = stmt;
     spelled = read.spelled;
     step = step stmt w is does;
-    meter = meter;
-    units = used;
+    meter = paid.charged;
+    units = λ none. ap (λ (g : Gauge). g.units) (paid.free (false_from_ne_true Works none));
   }
     where
       step : (stmt : Stmt) (w : Work) → IsWork before stmt w → Does w before.state after.state answer → Step before stmt after answer
@@ -349,10 +344,10 @@ module _ (before : Moment) (bytes : List ℕ) (stmt : Stmt) (read : IsRead befor
 
 -- an expression is shown
 pub show_answers : (before : Moment) (bytes : List ℕ) (expr : Expr) → IsRead before bytes (Show expr) → (after : Moment) (kept : Kept) (answer : Answer) → IsWorkable (scope_of before.state) (Show expr)
-    → Keeps before expr kept → after.state ≡ before.state → answer ≡ shown kept.value → IsCharged before.meter after.meter
-    → after.meter.units ≡ before.meter.units + units_of before.state expr → Answers before bytes after answer
-show_answers before bytes expr read after kept answer able keeps same is meter used =
-    answers before bytes (Show expr) read after (work.Show kept) answer able keeps (same, is) meter used
+    → Keeps before expr kept → after.state ≡ before.state → answer ≡ shown kept.value
+    → IsPaid (list_any uses_units (parts_of expr)) before.meter after.meter → Answers before bytes after answer
+show_answers before bytes expr read after kept answer able keeps same is paid =
+    answers before bytes (Show expr) read after (work.Show kept) answer able keeps (same, is) paid
 
 -- ---- what is bound stays within the limit
 pub work_fits : (before : Moment) (stmt : Stmt) (w : Work) (next : StateView) (answer : Answer) → Fits (limit_of before.meter) before.state → IsWork before stmt w → Does w before.state next answer
@@ -375,39 +370,35 @@ Performs w old text new all result = MatchResult result
     (λ refusal. (refusal ≡ r.NoMemory) × (new ≡ old) × (all ≡ text))
 
 module _ (before : Moment) (bytes : List ℕ) (stmt : Stmt) (read : IsRead before bytes stmt) (now : Gauge) (w : Work)
-    (made : IsWorkable (scope_of before.state) stmt × IsWork before stmt w × IsCharged before.meter now) (text : List ℕ) (next : StateView) (all : List ℕ)
-    (used : now.units ≡ before.meter.units + statement_units before.state stmt) where
+    (made : IsWorkable (scope_of before.state) stmt × IsWork before stmt w × IsPaid (list_any uses_units (parts_of_statement stmt)) before.meter now)
+    (text : List ℕ) (next : StateView) (all : List ℕ) where
   pub performed_answers : (result : Result Tally Refusal) → Performs w before.state text next all result
       → IfOk result (λ tally. (answer : Answer) × (all ≡ text ++ answer.bytes) × (tally ≡ record { is_true = answer.is_true; elements = answer.elements })
       × Answers before bytes (record { state = next; meter = now }) answer)
   performed_answers (Ok tally) done =
-      (done.0, done.1, done.2, answers before bytes stmt read (record { state = next; meter = now }) w done.0 made.0 made.1 done.3 made.2 used)
+      (done.0, done.1, done.2, answers before bytes stmt read (record { state = next; meter = now }) w done.0 made.0 made.1 done.3 made.2)
   performed_answers (Err refusal) done = tt
 
   pub performed_fits : (result : Result Tally Refusal) → Fits (limit_of before.meter) before.state → Performs w before.state text next all result → Fits (limit_of now) next
   performed_fits (Ok tally) fits done =
-      subst (λ (z : ℤ). Fits z next) (sym (same_limit before.meter now made.2)) (work_fits before stmt w next done.0 fits made.1 done.3)
+      subst (λ (z : ℤ). Fits z next) (sym (same_limit before.meter now made.2.charged)) (work_fits before stmt w next done.0 fits made.1 done.3)
   performed_fits (Err refusal) fits done =
-      subst (λ (z : ℤ). Fits z next) (sym (same_limit before.meter now made.2)) (subst (Fits (limit_of before.meter)) (sym done.1) fits)
+      subst (λ (z : ℤ). Fits z next) (sym (same_limit before.meter now made.2.charged)) (subst (Fits (limit_of before.meter)) (sym done.1) fits)
 
   -- a refusal after it was worked out is for want of memory
   pub performed_refuses : (result : Result Tally Refusal) → Performs w before.state text next all result → IfErr result (Refuses before bytes now)
   performed_refuses (Ok tally) done = tt
-  performed_refuses (Err refusal) done = subst (Refuses before bytes now) (sym done.0) (made.2, within before bytes stmt read now (omega (arith, used)))
+  performed_refuses (Err refusal) done = subst (Refuses before bytes now) (sym done.0)
+      (IsKept-charged before.meter now made.2.charged, λ none. made.2.free (no_work bytes stmt read.spelled none))
 
   pub performed_meter : (result : Result Tally Refusal) → MatchResult result (λ _. IsCharged before.meter now) (λ _. IsKept before.meter now)
-  performed_meter (Ok tally) = made.2
-  performed_meter (Err refusal) = IsKept-charged before.meter now made.2
+  performed_meter (Ok tally) = made.2.charged
+  performed_meter (Err refusal) = IsKept-charged before.meter now made.2.charged
 
 -- ---- the meter after a refusal
 pub unworked_meter : (scope : ScopeView) (stmt : Stmt) (old now : Gauge) (refusal : Refusal) → IsWhyUnworked scope stmt old now refusal → IsKept old now
 unworked_meter scope stmt old now refusal (inl h) = IsKept_refl old now h.1
-unworked_meter scope stmt old now refusal (inr h) = by h.1
-  where
-    by : IsWhyUnmade (statement_literals stmt) old now refusal → IsKept old now
-    by (inl g) = IsKept_trans old (overflown old) now (IsKept-overflown old (overflown old) refl) (IsKept-charged (overflown old) now g.2)
-    by (inr (inl g)) = IsKept_trans old (spent_out old) now (IsKept-spent_out old (spent_out old) refl) (IsKept-charged (spent_out old) now g.2)
-    by (inr (inr g)) = IsKept-charged old now g.1
+unworked_meter scope stmt old now refusal (inr h) = h.1.by.kept
 
 pub unworked_limit : (scope : ScopeView) (stmt : Stmt) (old now : Gauge) (refusal : Refusal) → IsWhyUnworked scope stmt old now refusal → limit_of now ≡ limit_of old
 unworked_limit scope stmt old now refusal why = ap (λ (bits : ℕ). pos (2 ^ bits - 1)) (unworked_meter scope stmt old now refusal why).bits

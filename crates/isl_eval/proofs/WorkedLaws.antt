@@ -1,6 +1,6 @@
--- The value of an expression, operand by operand.
+-- The values that are worked out of an expression, operand by operand.
 use mathlib.Core.Former.{Count}
-use Rattle.std.proofs.Common.{◌≡◌, ◌∙◌, ◌<◌, ◌+◌, ℕ, List, [], ◌∷◌, ◌++◌, length, get_or, take, refl, sym, ap}
+use Rattle.std.proofs.Common.{◌≡◌, ◌∙◌, ◌<◌, ◌+◌, ℕ, List, [], ◌∷◌, ◌++◌, length, get_or, take, refl, sym, ap, subst}
 use Rattle.std.proofs.lemmas.List.{take_more}
 use Rattle.isl_union.specs.KeptValue.{KeptValue}
 use Rattle.isl_expr.specs.declared.tree.Link.{Link}
@@ -10,43 +10,65 @@ use Rattle.isl_expr.specs.declared.tree.Expr.{Row_of-Postfix, end_of-Postfix, mo
 use Rattle.isl_expr.specs.declared.tree.Expr.{items_hidden-the_row-Link-1, items_hidden-the_row-Postfix-2}
 use Rattle.isl_expr.specs.declared.tree.Expr.TheBlock.{hidden-the_row-Expr-0, hidden-the_row-Link-1, hidden-the_row-Postfix-2}
 use Rattle.isl_eval.specs.State.{StateView}
-use Rattle.isl_eval.specs.Worked.{join_of, postfix_of, value_of, value_past_links, value_past_postfixes, row_value, post_value}
+use Rattle.isl_eval.specs.Worked.{IsJoinOf, IsPostfixOf, IsWorked, IsWorkedPastLinks, IsWorkedPastPostfixes, IsWorkedPost, IsWorkedRow}
 
-links_are : (m : Count) (state : StateView) (left : KeptValue) (row : Row_of-Link m) → value_past_links state left row ≡ row_value state left (items-the_row-Link m row)
-links_are m state left end_of-Link = refl
-links_are m state left (more_of-Link operator operand row) = links_are _ state (join_of operator left (value_of state operand)) row
+-- ---- rows
+links_are : (m : Count) (state : StateView) (left value : KeptValue) (row : Row_of-Link m) → IsWorkedRow state left (items-the_row-Link m row) value
+    → IsWorkedPastLinks state left row value
+links_are m state left value end_of-Link h = h
+links_are m state left value (more_of-Link operator operand row) h = (h.0, h.1, h.2, h.3, links_are _ state h.1 value row h.4)
 
-postfixes_are : (m : Count) (operand : KeptValue) (row : Row_of-Postfix m) → value_past_postfixes operand row ≡ post_value operand (items-the_row-Postfix m row)
-postfixes_are m operand end_of-Postfix = refl
-postfixes_are m operand (more_of-Postfix postfix row) = postfixes_are _ (postfix_of postfix operand) row
-
-pub value_of-Row : (state : StateView) (first : Expr) (links : List Link) → value_of state (Row first links) ≡ row_value state (value_of state first) links
+pub worked_of-Row : (state : StateView) (first : Expr) (links : List Link) (left value : KeptValue) → IsWorked state first left
+    → IsWorkedRow state left links value → IsWorked state (Row first links) value
 unfolding hidden-the_row-Expr-0 denote.Hole.Carrier.hidden
-value_of-Row state first links =
-    links_are _ state (value_of state first) (hidden-the_row-Link-1 links)
-    ∙ ap (row_value state (value_of state first)) (items_hidden-the_row-Link-1 links)
+worked_of-Row state first links left value one all = (
+  left,
+  one,
+  links_are _ state left value (hidden-the_row-Link-1 links)
+      (subst (λ (ls : List Link). IsWorkedRow state left ls value) (sym (items_hidden-the_row-Link-1 links)) all),
+)
 
-pub value_of-Post : (state : StateView) (operand : Expr) (postfixes : List Postfix) → value_of state (Post operand postfixes) ≡ post_value (value_of state operand) postfixes
+row_push : (state : StateView) (first left right made : KeptValue) (links : List Link) (link : Link) → IsWorkedRow state first links left
+    → IsWorked state link.operand right → IsJoinOf link.operator left right made → IsWorkedRow state first (links ++ link ∷ []) made
+row_push state first left right made [] link before behind joins =
+    (right, made, behind, subst (λ (v : KeptValue). IsJoinOf link.operator v right made) before joins, refl)
+row_push state first left right made (other ∷ links) link before behind joins =
+    (before.0, before.1, before.2, before.3, row_push state before.1 left right made links link before.4 behind joins)
+
+pub row_worked_more : (state : StateView) (first left right made : KeptValue) (links : List Link) (i : ℕ) (link : Link) → i < length links
+    → link ≡ get_or links i link → IsWorkedRow state first (take i links) left → IsWorked state link.operand right → IsJoinOf link.operator left right made
+    → IsWorkedRow state first (take (i + 1) links) made
+row_worked_more state first left right made links i link low is before behind joins =
+    subst (λ (ls : List Link). IsWorkedRow state first ls made)
+    (sym (take_more links i link low ∙ ap (λ (l : Link). take i links ++ l ∷ []) (sym is)))
+    (row_push state first left right made (take i links) link before behind joins)
+
+-- ---- what follows an operand
+postfixes_are : (m : Count) (operand value : KeptValue) (row : Row_of-Postfix m) → IsWorkedPost operand (items-the_row-Postfix m row) value
+    → IsWorkedPastPostfixes operand row value
+postfixes_are m operand value end_of-Postfix h = h
+postfixes_are m operand value (more_of-Postfix postfix row) h = (h.0, h.1, postfixes_are _ h.0 value row h.2)
+
+pub worked_of-Post : (state : StateView) (operand : Expr) (postfixes : List Postfix) (left value : KeptValue) → IsWorked state operand left
+    → IsWorkedPost left postfixes value → IsWorked state (Post operand postfixes) value
 unfolding hidden-the_row-Expr-0 denote.Hole.Carrier.hidden
-value_of-Post state operand postfixes =
-    postfixes_are _ (value_of state operand) (hidden-the_row-Postfix-2 postfixes)
-    ∙ ap (post_value (value_of state operand)) (items_hidden-the_row-Postfix-2 postfixes)
+worked_of-Post state operand postfixes left value one all = (
+  left,
+  one,
+  postfixes_are _ left value (hidden-the_row-Postfix-2 postfixes)
+      (subst (λ (ps : List Postfix). IsWorkedPost left ps value) (sym (items_hidden-the_row-Postfix-2 postfixes)) all),
+)
 
-row_push : (state : StateView) (left : KeptValue) (links : List Link) (link : Link)
-    → row_value state left (links ++ link ∷ []) ≡ join_of link.operator (row_value state left links) (value_of state link.operand)
-row_push state left [] link = refl
-row_push state left (first ∷ links) link = row_push state (join_of first.operator left (value_of state first.operand)) links link
+post_push : (operand left made : KeptValue) (postfixes : List Postfix) (postfix : Postfix) → IsWorkedPost operand postfixes left
+    → IsPostfixOf postfix left made → IsWorkedPost operand (postfixes ++ postfix ∷ []) made
+post_push operand left made [] postfix before one = (made, subst (λ (v : KeptValue). IsPostfixOf postfix v made) before one, refl)
+post_push operand left made (other ∷ postfixes) postfix before one =
+    (before.0, before.1, post_push before.0 left made postfixes postfix before.2 one)
 
-pub row_value_more : (state : StateView) (left : KeptValue) (links : List Link) (i : ℕ) (link : Link) → i < length links → link ≡ get_or links i link
-    → row_value state left (take (i + 1) links) ≡ join_of link.operator (row_value state left (take i links)) (value_of state link.operand)
-row_value_more state left links i link low is =
-    ap (row_value state left) (take_more links i link low ∙ ap (λ (l : Link). take i links ++ l ∷ []) (sym is)) ∙ row_push state left (take i links) link
-
-post_push : (operand : KeptValue) (postfixes : List Postfix) (postfix : Postfix) → post_value operand (postfixes ++ postfix ∷ []) ≡ postfix_of postfix (post_value operand postfixes)
-post_push operand [] postfix = refl
-post_push operand (first ∷ postfixes) postfix = post_push (postfix_of first operand) postfixes postfix
-
-pub post_value_more : (operand : KeptValue) (postfixes : List Postfix) (i : ℕ) (postfix : Postfix) → i < length postfixes → postfix ≡ get_or postfixes i postfix
-    → post_value operand (take (i + 1) postfixes) ≡ postfix_of postfix (post_value operand (take i postfixes))
-post_value_more operand postfixes i postfix low is =
-    ap (post_value operand) (take_more postfixes i postfix low ∙ ap (λ (p : Postfix). take i postfixes ++ p ∷ []) (sym is)) ∙ post_push operand (take i postfixes) postfix
+pub post_worked_more : (operand left made : KeptValue) (postfixes : List Postfix) (i : ℕ) (postfix : Postfix) → i < length postfixes
+    → postfix ≡ get_or postfixes i postfix → IsWorkedPost operand (take i postfixes) left → IsPostfixOf postfix left made
+    → IsWorkedPost operand (take (i + 1) postfixes) made
+post_worked_more operand left made postfixes i postfix low is before one =
+    subst (λ (ps : List Postfix). IsWorkedPost operand ps made)
+    (sym (take_more postfixes i postfix low ∙ ap (λ (p : Postfix). take i postfixes ++ p ∷ []) (sym is)))
+    (post_push operand left made (take i postfixes) postfix before one)

@@ -1,6 +1,8 @@
 -- public: why a complete statement is refused.
-use Rattle.std.specs.Prelude.{◌≡◌, ◌⊎◌, ◌<◌, ◌≤◌, ◌+◌, ℕ, true, false, List, [], ◌∷◌, length, None, Err, Any}
-use Rattle.isl_meter.specs.Gauge.{Gauge, IsCharged, limit_of, overflown, spent_out}
+use Rattle.std.specs.Prelude.{◌≡◌, ◌⊎◌, ◌<◌, ℕ, Bool, true, false, List, [], ◌∷◌, length, None, Err}
+use Rattle.std.specs.List.{list_any}
+use Rattle.isl_meter.specs.Gauge.{Gauge, IsCutBy, IsKept, limit_of}
+use Rattle.isl_meter.specs.declared.Cut.TheVariants as cut
 use Rattle.isl_space.specs.Limits.{most_parameters}
 use Rattle.isl_space.specs.Name.{Name}
 use Rattle.isl_token.specs.Lex.{tokens}
@@ -8,17 +10,16 @@ use Rattle.isl_token.specs.Depth.{is_too_deep}
 use Rattle.isl_text.specs.declared.refusal.Refusal.{Refusal}
 use Rattle.isl_text.specs.declared.refusal.Refusal.TheVariants as r
 use Rattle.isl_text.specs.Read.{has_wide_number}
-use Rattle.isl_lower.specs.Value.{PiecesPass}
+use Rattle.isl_expr.specs.declared.tree.Binary.TheVariants.{Intersection}
 use Rattle.isl_expr.specs.declared.tree.Stmt.{Stmt}
 use Rattle.isl_expr.specs.declared.tree.Stmt.TheVariants.{Empty, Bind, Show}
-use Rattle.isl_expr.specs.Expr.{statement_literals}
 use Rattle.isl_statement.specs.Limits.{statement_is_within}
 use Rattle.isl_statement.specs.Read.{NoStatement}
+use Rattle.isl_kinds.specs.Parts.{Part, literal, operator, parts_of_statement}
 use Rattle.isl_kinds.specs.Typed.{ScopeView, declared_of, type_of_statement}
 use Rattle.isl_simple.specs.Unsupported.{is_unsupported, mixes_kinds}
 use Rattle.isl_eval.specs.State.{Moment, scope_of}
 use Rattle.isl_eval.specs.Spelled.{OfTokens, OfStatement}
-use Rattle.isl_eval.specs.Units.{statement_units}
 
 -- what the bytes of a statement are looked at for
 pub data Cause : Type 0 where
@@ -98,22 +99,24 @@ NoneIs There (cause ∷ later) = ¬ There cause × NoneIs There later
 abbrev pub IsValid : Moment → List ℕ → Type 0
 IsValid before bytes = NoneIs (IsThere before bytes) causes
 
--- a product or a sum of a row of one of its literals passes the limit
-abbrev pub HasGreatRow : Gauge → Stmt → Type 0
-HasGreatRow g stmt = Any (λ literal. PiecesPass g literal.params literal.pieces) (statement_literals stmt)
+-- the parts that may use units: `*`, and a literal, since it is asked whether what it writes has an element
+abbrev pub uses_units : Part → Bool
+uses_units (literal l) = true
+uses_units (operator Intersection) = true
+uses_units part = false
 
--- no unit was used, or no more than the statement uses that the bytes spell
-abbrev pub IsWithinUnits : Moment → List ℕ → Gauge → Type 0
-IsWithinUnits before bytes now =
-    (now.units ≡ before.meter.units) ⊎ OfStatement bytes (λ stmt. now.units ≤ before.meter.units + statement_units before.state stmt)
+-- an operation that uses units stands in the statement, or a literal does
+abbrev pub HasWork : Stmt → Type 0
+HasWork stmt = list_any uses_units (parts_of_statement stmt) ≡ true
+
+-- the meter is as it was, unless work stands in the statement
+abbrev pub SparesUnits : Moment → List ℕ → Gauge → Type 0
+SparesUnits before bytes now = ¬ OfStatement bytes HasWork → now ≡ before.meter
 
 -- Why a complete statement is refused, and what it did to the meter until then. Overflow and want of units may come only while a
--- valid statement is worked out, want of units only where it uses more than are left, and both are counted; memory may end at any time.
+-- valid statement is worked out in which work stands, and both are counted; memory may end at any time.
 abbrev pub Refuses : Moment → List ℕ → Gauge → Refusal → Type 0
-Refuses before bytes now r.Overflow =
-    IsValid before bytes × OfStatement bytes (HasGreatRow before.meter) × IsCharged (overflown before.meter) now × IsWithinUnits before bytes now
-Refuses before bytes now r.Budget =
-    IsValid before bytes × OfStatement bytes (λ stmt. now.units < before.meter.units + statement_units before.state stmt) × (now.budget ≤ now.units)
-    × IsCharged (spent_out before.meter) now
-Refuses before bytes now r.NoMemory = IsCharged before.meter now × IsWithinUnits before bytes now
+Refuses before bytes now r.Overflow = IsValid before bytes × OfStatement bytes HasWork × IsCutBy before.meter now cut.Overflow
+Refuses before bytes now r.Budget = IsValid before bytes × OfStatement bytes HasWork × IsCutBy before.meter now cut.Budget
+Refuses before bytes now r.NoMemory = IsKept before.meter now × SparesUnits before bytes now
 Refuses before bytes now refusal = FirstGives (IsThere before bytes) causes refusal × (now ≡ before.meter)

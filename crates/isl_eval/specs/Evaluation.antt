@@ -1,25 +1,24 @@
 -- inner: what reading and working out a statement leave to the next step.
-use Rattle.std.specs.Prelude.{◌≡◌, ◌↔◌, ◌⊎◌, ◌<◌, ◌≤◌, ◌+◌, ℕ, true, false, List, [], ◌∷◌, length, All, Any, Option, Some, Result, Ok, Err, MatchResult}
+use Rattle.std.specs.Prelude.{◌≡◌, ◌↔◌, ◌⊎◌, ◌<◌, ◌≤◌, ℕ, Bool, true, false, List, [], ◌∷◌, length, All, Option, Some, Ok, Err}
 use Rattle.std.specs.List.{list_any}
-use Rattle.isl_meter.specs.Gauge.{Gauge, IsCharged, overflown, spent_out}
+use Rattle.isl_meter.specs.Gauge.{Gauge, IsCharged, IsCutBy}
 use Rattle.isl_meter.specs.declared.Cut.{Cut}
-use Rattle.isl_meter.specs.declared.Cut.TheVariants as cut
+use Rattle.isl_meter.specs.declared.Cut.TheVariants as cuts
 use Rattle.isl_space.specs.Limits.{most_parameters}
 use Rattle.isl_space.specs.Name.{Name}
 use Rattle.isl_space.specs.Valuation.{Valuation}
 use Rattle.isl_space.specs.Element.{Element}
-use Rattle.isl_union.specs.KeptValue.{KeptValue, IsKeptValue, Has}
+use Rattle.isl_union.specs.KeptValue.{KeptValue, Has, HasNoDefinitions, IsKeptValue}
 use Rattle.isl_text.specs.declared.refusal.Refusal.{Refusal}
 use Rattle.isl_text.specs.declared.refusal.Refusal.TheVariants.{Overflow, Budget, NoMemory, Syntax, TooWide}
-use Rattle.isl_tree.specs.declared.tree.Literal.{Literal}
-use Rattle.isl_lower.specs.Value.{IsWellFormedLiteral, PiecesPass}
+use Rattle.isl_lower.specs.Value.{IsWellFormedLiteral}
 use Rattle.isl_expr.specs.declared.tree.Link.{Link}
 use Rattle.isl_expr.specs.declared.tree.Postfix.{Postfix, Inverse}
 use Rattle.isl_expr.specs.declared.tree.Stmt.{Stmt}
 use Rattle.isl_expr.specs.declared.tree.Stmt.TheVariants.{Empty, Bind, Show}
 use Rattle.isl_expr.specs.declared.tree.Expr.{Expr}
 use Rattle.isl_expr.specs.Expr.{literals_of, statement_literals}
-use Rattle.isl_kinds.specs.Parts.{operator, parts_of}
+use Rattle.isl_kinds.specs.Parts.{operator, parts_of, parts_of_statement}
 use Rattle.isl_kinds.specs.Typed.{TypeView, ScopeView, has_unknown, kind_of, declared_of, declared_of_row, type_of_statement}
 use Rattle.isl_simple.specs.Unsupported.{is_later, is_unsupported, mixes_kinds}
 use Rattle.isl_eval.specs.declared.eval.Work.{Work}
@@ -28,7 +27,8 @@ use Rattle.isl_eval.specs.State.{StateView, Moment, Binds, type_of, HasNumbersUp
 use Rattle.isl_eval.specs.Selection.{Keeps}
 use Rattle.isl_eval.specs.Spelled.{BytesSpell}
 use Rattle.isl_eval.specs.Machine.{Answer, nothing, shown}
-use Rattle.isl_eval.specs.Causes.{Cause, no_token, too_deep, no_statement, too_wide, wide_number, unsupported, IsThere, NoneIs, FirstGives, causes, statement_declared}
+use Rattle.isl_eval.specs.Causes.{Cause, no_token, too_deep, no_statement, too_wide, wide_number, unsupported, causes}
+use Rattle.isl_eval.specs.Causes.{IsThere, NoneIs, FirstGives, statement_declared, uses_units}
 
 -- the causes that the bytes alone may have, whatever is bound
 abbrev pub causes_of_bytes : List Cause
@@ -96,13 +96,16 @@ pub record AreReady (scope : ScopeView) (params : List Name) (links : List Link)
 abbrev pub AreInverses : List Postfix → Type 0
 AreInverses postfixes = All (λ postfix. postfix ≡ Inverse) postfixes
 
--- the kept value is this one, with these parameters, these elements at each valuation, and no number above the limit
-pub record IsValueOf (exact : KeptValue) (names : List Name) (Elements : Valuation → Element → Type 0) (limit : ℕ) (value : KeptValue) : Type 0 where
-  pub written : value ≡ exact
+-- The kept value is one of these, with these parameters, these elements at each valuation, no number above the limit, and no column
+-- that is defined.
+pub record IsValueOf (Exact : KeptValue → Type 0) (names : List Name) (Elements : Valuation → Element → Type 0) (limit : ℕ)
+    (value : KeptValue) : Type 0 where
+  pub written : Exact value
   pub kept : IsKeptValue value
   pub params : value.params ≡ names
   pub elements : (valuation : Valuation) (element : Element) → Has value valuation element ↔ Elements valuation element
   pub numbers : HasNumbersUpTo limit value
+  pub definitions : HasNoDefinitions value
 
 -- ---- work
 
@@ -121,29 +124,27 @@ HasItsType (work.Bind name kept t) = t ≡ type_of kept
 
 -- what refuses a statement whose work was cut
 abbrev pub refusal_of_cut : Cut → Refusal
-refusal_of_cut cut.Overflow = Overflow
-refusal_of_cut cut.Budget = Budget
-refusal_of_cut cut.NoMemory = NoMemory
+refusal_of_cut cuts.Overflow = Overflow
+refusal_of_cut cuts.Budget = Budget
+refusal_of_cut cuts.NoMemory = NoMemory
 
--- why no value was made, and what that did to the meter: a row of these literals passes the limit, the units ended, or memory
-abbrev pub IsWhyUnmade : List Literal → Gauge → Gauge → Refusal → Type 0
-IsWhyUnmade literals old new refusal =
-    ((refusal ≡ Overflow) × Any (λ literal. PiecesPass old literal.params literal.pieces) literals × IsCharged (overflown old) new)
-    ⊎ (((refusal ≡ Budget) × (new.budget ≤ new.units) × IsCharged (spent_out old) new)
-    ⊎ ((refusal ≡ NoMemory) × IsCharged old new))
+-- units alone were used, and where nothing uses units the meter is as it was
+pub record IsPaid (works : Bool) (old new : Gauge) : Type 0 where
+  pub charged : IsCharged old new
+  pub free : works ≡ false → new ≡ old
 
--- at most n units were used, and fewer where units ended
-abbrev pub UsesUpTo : ℕ → Gauge → Gauge → Refusal → Type 0
-UsesUpTo n old new refusal = (new.units ≤ old.units + n) × (refusal ≡ Budget → new.units < old.units + n)
-
--- work of n units: exactly these were used where it was done, else no more
-abbrev pub Uses : {A : Type 0} → ℕ → Gauge → Gauge → Result A Refusal → Type 0
-Uses n old new result = MatchResult result (λ _. new.units ≡ old.units + n) (UsesUpTo n old new)
+-- why no value was made: work was cut; where nothing uses units memory ended, and the meter is as it was
+pub record IsWhyUnmade (works : Bool) (old new : Gauge) (refusal : Refusal) : Type 0 where
+  pub cut : Cut
+  pub is : refusal ≡ refusal_of_cut cut
+  pub by : IsCutBy old new cut
+  pub free : works ≡ false → (cut ≡ cuts.NoMemory) × (new ≡ old)
 
 -- why a statement that was read was not worked out: it is not to be, or no value was made
 abbrev pub IsWhyUnworked : ScopeView → Stmt → Gauge → Gauge → Refusal → Type 0
 IsWhyUnworked scope stmt old new refusal =
-    (IsWhyUnworkable scope stmt refusal × (new ≡ old)) ⊎ (IsWorkable scope stmt × IsWhyUnmade (statement_literals stmt) old new refusal)
+    (IsWhyUnworkable scope stmt refusal × (new ≡ old))
+    ⊎ (IsWorkable scope stmt × IsWhyUnmade (list_any uses_units (parts_of_statement stmt)) old new refusal)
 
 -- what is done to what is bound, and what is answered
 abbrev pub Does : Work → StateView → StateView → Answer → Type 0

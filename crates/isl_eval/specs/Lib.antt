@@ -1,6 +1,5 @@
 pub mod State
 pub mod Worked
-pub mod Units
 pub mod Selection
 pub mod Spelled
 pub mod Causes

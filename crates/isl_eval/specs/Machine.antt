@@ -1,5 +1,5 @@
 -- public: what statements do, one after another. (the iscc chapter of the barvinok manual)
-use Rattle.std.specs.Prelude.{◌≡◌, ◌+◌, ℕ, Bool, false, List, [], ◌∷◌, ◌++◌}
+use Rattle.std.specs.Prelude.{◌≡◌, ℕ, Bool, false, List, [], ◌∷◌, ◌++◌}
 use Rattle.isl_meter.specs.Gauge.{IsCharged}
 use Rattle.isl_union.specs.KeptValue.{KeptValue}
 use Rattle.isl_print.specs.Printed.{printed}
@@ -8,8 +8,7 @@ use Rattle.isl_expr.specs.declared.tree.Stmt.TheVariants.{Empty, Bind, Show}
 use Rattle.isl_eval.specs.State.{Kept, Moment, Binds}
 use Rattle.isl_eval.specs.Selection.{Keeps}
 use Rattle.isl_eval.specs.Spelled.{BytesSpell}
-use Rattle.isl_eval.specs.Units.{statement_units}
-use Rattle.isl_eval.specs.Causes.{IsValid}
+use Rattle.isl_eval.specs.Causes.{IsValid, HasWork}
 
 -- the bytes of an answer, whether it is `True`, and how many elements it lists
 pub record Answer : Type 0 where
@@ -31,14 +30,14 @@ Step before Empty after answer = (after.state ≡ before.state) × (answer ≡ n
 Step before (Show expr) after answer = (after.state ≡ before.state) × ((kept : Kept) × Keeps before expr kept × (answer ≡ shown kept.value))
 Step before (Bind name expr) after answer = ((kept : Kept) × Keeps before expr kept × Binds before.state name kept after.state) × (answer ≡ nothing)
 
--- The bytes of a statement are answered, and exactly the units that it uses were used.
+-- The bytes of a statement are answered. No unit was used, unless work stands in it.
 pub record Answers (before : Moment) (bytes : List ℕ) (after : Moment) (answer : Answer) : Type 0 where
   pub valid : IsValid before bytes
   pub stmt : Stmt
   pub spelled : BytesSpell bytes stmt
   pub step : Step before stmt after answer
   pub meter : IsCharged before.meter after.meter
-  pub units : after.meter.units ≡ before.meter.units + statement_units before.state stmt
+  pub units : ¬ HasWork stmt → after.meter.units ≡ before.meter.units
 
 -- a statement begins with the whole budget
 abbrev pub started : Moment → Moment

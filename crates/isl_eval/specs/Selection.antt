@@ -3,7 +3,7 @@ use Rattle.std.specs.Prelude.{◌≡◌, ◌↔◌, ◌⊎◌, List, [], ◌∷�
 use Rattle.isl_meter.specs.Gauge.{limit_of}
 use Rattle.isl_space.specs.Valuation.{Valuation}
 use Rattle.isl_space.specs.Element.{Element}
-use Rattle.isl_union.specs.KeptValue.{Has, IsKeptValue}
+use Rattle.isl_union.specs.KeptValue.{Has, HasNoDefinitions, IsKeptValue}
 use Rattle.isl_maps.specs.Inverse.{inverse_element}
 use Rattle.isl_tree.specs.Literal.{LiteralHas}
 use Rattle.isl_expr.specs.declared.tree.Binary.{Binary}
@@ -15,7 +15,7 @@ use Rattle.isl_expr.specs.declared.tree.Expr.{Row_of-Link, end_of-Link, more_of-
 use Rattle.isl_expr.specs.declared.tree.Expr as e
 use Rattle.isl_kinds.specs.Typed.{kind_of, declared_of}
 use Rattle.isl_eval.specs.State.{Kept, StateView, Moment, kept_of, scope_of, HasNumbersUpTo, Everywhere}
-use Rattle.isl_eval.specs.Worked.{value_of}
+use Rattle.isl_eval.specs.Worked.{IsWorked}
 
 -- what a name stands for has the element
 abbrev pub KeptHas : Option Kept → Valuation → Element → Type 0
@@ -86,11 +86,13 @@ PostHas Operand [] element = Operand element
 PostHas Operand (postfix ∷ postfixes) element = PostHas (λ x. PostfixHas postfix Operand x) postfixes element
 
 -- This is kept of an expression: the kind and the parameters that it declares, and exactly the elements that it selects, at
--- every valuation; of the values with these elements it is the one that is worked out, with numbers within the limit.
+-- every valuation; of the values with these elements it is one that is worked out, with numbers within the limit, and no column of it
+-- is defined.
 pub record Keeps (before : Moment) (expr : Expr) (kept : Kept) : Type 0 where
   pub kind : kind_of (scope_of before.state) expr ≡ Some kept.kind
   pub params : declared_of (scope_of before.state) expr ≡ kept.value.params
   pub elements : Everywhere before.state (λ valuation. (element : Element) → Has kept.value valuation element ↔ Selects before.state expr valuation element)
-  pub written : kept.value ≡ value_of before.state expr
+  pub written : IsWorked before.state expr kept.value
   pub well_formed : IsKeptValue kept.value
   pub numbers : HasNumbersUpTo (unsigned_abs (limit_of before.meter)) kept.value
+  pub definitions : HasNoDefinitions kept.value

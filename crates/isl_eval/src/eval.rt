@@ -1,17 +1,20 @@
 //! What a statement does that is read.
 
 ghost use Rattle.std.specs.Prelude.{◌≡◌, ◌++◌, ◌∷◌, [], false, All, MatchResult, Ok};
-ghost use Rattle.isl_meter.specs.Gauge.{limit_of, IsCharged};
+ghost use Rattle.std.specs.List.{list_any};
+ghost use Rattle.isl_meter.specs.Gauge.{limit_of};
+ghost use Rattle.isl_union.specs.KeptValue.{HasNoDefinitions};
 ghost use Rattle.isl_print.specs.Printed.{printed};
 ghost use Rattle.isl_text.specs.declared.refusal.Refusal.TheVariants.{NoMemory};
 ghost use Rattle.isl_lower.specs.Value.{IsWellFormedLiteral};
 ghost use Rattle.isl_expr.specs.Expr.{statement_literals};
 ghost use Rattle.isl_eval.specs.State.{scope_of, Fits};
+ghost use Rattle.isl_kinds.specs.Parts.{parts_of_statement};
 ghost use Rattle.isl_kinds.specs.Typed.{type_of_statement};
 ghost use Rattle.isl_simple.specs.Unsupported.{is_unsupported};
-ghost use Rattle.isl_eval.specs.Units.{statement_units};
+ghost use Rattle.isl_eval.specs.Causes.{uses_units};
 ghost use Rattle.isl_eval.specs.Machine.{Answer};
-ghost use Rattle.isl_eval.specs.Evaluation.{IsWorkable, IsWhyUnworkable, IsWork, HasItsType, IsWhyUnworked, Uses, Does};
+ghost use Rattle.isl_eval.specs.Evaluation.{IsWorkable, IsWhyUnworkable, IsWork, HasItsType, IsPaid, IsWhyUnworked, Does};
 
 use crate::State;
 use crate::selected::selected;
@@ -65,11 +68,10 @@ pub(crate) fn prepare(
     requires supported { is_unsupported stmt.now ≡ false }
     requires sound { All IsWellFormedLiteral (statement_literals stmt.now) }
     requires fits { Fits (limit_of meter.old) state.now }
-    ensures made { MatchResult result
+    ensures { MatchResult result
         (λ work. IsWorkable (scope_of state.now) stmt.now × IsWork (record { state = state.now; meter = meter.old }) stmt.now work
-        × IsCharged meter.old meter.new)
+        × IsPaid (list_any uses_units (parts_of_statement stmt.now)) meter.old meter.new)
         (IsWhyUnworked (scope_of state.now) stmt.now meter.old meter.new) }
-    ensures units { Uses (statement_units state.now stmt.now) meter.old meter.new result }
 {
     let typed = match workable(alloc, stmt, state.scope()) {
         Ok(Some(typed)) => typed,
@@ -94,6 +96,7 @@ pub(crate) fn prepare(
 
 // Appends the line that shows a value, whole or not at all.
 fn write_line(alloc: Global, value: &Value, text: &mut Vec<u8>) -> Result<(), AllocError>
+    requires { HasNoDefinitions value.now }
     ensures { MatchResult result
         (λ _. text.new.items ≡ text.old.items ++ (printed value.now ++ 10 ∷ []))
         (λ _. text.new.items ≡ text.old.items) }

@@ -1,24 +1,23 @@
 //! The values of expressions.
 
-ghost use Rattle.std.specs.Prelude.{◌≡◌, ◌≢◌, ◌≤◌, ◌∷◌, [], true, false, IfErr, MatchResult, length, unsigned_abs};
-ghost use Rattle.isl_meter.specs.Gauge.{limit_of, IsCharged};
+ghost use Rattle.std.specs.Prelude.{◌≡◌, ◌≤◌, true, false, IfErr, IfOk, MatchResult, length, unsigned_abs};
+ghost use Rattle.std.specs.List.{list_any};
+ghost use Rattle.isl_meter.specs.Gauge.{limit_of};
 ghost use Rattle.isl_space.specs.Limits.{most_parameters};
-ghost use Rattle.isl_union.specs.KeptValue.{Has};
+ghost use Rattle.isl_union.specs.KeptValue.{Has, HasNoDefinitions};
 ghost use Rattle.isl_tree.specs.Plain.{is_plain};
-ghost use Rattle.isl_lower.specs.Value.{IsWellFormedLiteral, value_lowered};
+ghost use Rattle.isl_lower.specs.Value.{IsWellFormedLiteral, IsLowered};
 ghost use Rattle.isl_tree.specs.Literal.{LiteralHas};
 ghost use Rattle.isl_tree.specs.Known.{literal_is_known};
-ghost use Rattle.isl_expr.specs.Expr.{literals_of, links_literals};
 ghost use Rattle.isl_expr.specs.declared.tree.Postfix.{Inverse};
-ghost use Rattle.isl_kinds.specs.Parts.{operator as operator_part};
+ghost use Rattle.isl_kinds.specs.Parts.{operator as operator_part, parts_of, parts_of_links};
 ghost use Rattle.isl_kinds.specs.Typed.{declared_of, declared_of_row, joined_names};
 ghost use Rattle.isl_simple.specs.Unsupported.{is_later};
 ghost use Rattle.isl_eval.specs.State.{type_of, scope_of, Fits, HasNumbersUpTo};
+ghost use Rattle.isl_eval.specs.Causes.{uses_units};
 ghost use Rattle.isl_eval.specs.Selection.{Keeps, Selects, JoinHas, PostHas, RowSelects, PostfixHas};
-ghost use Rattle.isl_maps.specs.Inverse.{inverse_of};
-ghost use Rattle.isl_eval.specs.Worked.{value_of, join_of, row_value, post_value};
-ghost use Rattle.isl_eval.specs.Units.{join_units, units_of, row_units};
-ghost use Rattle.isl_eval.specs.Evaluation.{IsOfType, IsReady, AreReady, IsValueOf, IsWhyUnmade, AreInverses, Uses, refusal_of_cut};
+ghost use Rattle.isl_eval.specs.Worked.{IsJoinOf, IsPostfixOf, IsWorked, IsWorkedPost, IsWorkedRow};
+ghost use Rattle.isl_eval.specs.Evaluation.{IsOfType, IsReady, AreReady, IsValueOf, IsPaid, IsWhyUnmade, AreInverses, refusal_of_cut};
 
 use crate::State;
 use crate::state::Kept;
@@ -43,23 +42,18 @@ fn refusal_of(cut: Cut) -> Refusal
     }
 }
 
-/// The rows that a literal writes, as a value.
+/// What a literal writes, as a value.
 fn lowered(alloc: Global, literal: &Literal, meter: &mut Meter) -> Result<Rc<Value>, Refusal>
     requires plain { is_plain literal.now ≡ true }
     requires known { literal_is_known literal.now ≡ true }
     requires well_formed { IsWellFormedLiteral literal.now }
-    ensures made { MatchResult result
-        (λ value. IsValueOf (value_lowered literal.now) literal.now.params (LiteralHas literal.now) (unsigned_abs (limit_of meter.old)) value.value
-        × IsCharged meter.old meter.new)
-        (IsWhyUnmade (literal.now ∷ []) meter.old meter.new) }
-    ensures free { meter.new.units ≡ meter.old.units }
-    ensures unspent { IfErr result (λ refusal. refusal ≢ Refusal.Budget) }
+    ensures { MatchResult result
+        (λ value. IsValueOf (IsLowered literal.now) literal.now.params (LiteralHas literal.now)
+        (unsigned_abs (limit_of meter.old)) value.value × IsPaid true meter.old meter.new)
+        (IsWhyUnmade true meter.old meter.new) }
 {
     match lower(alloc, literal, meter) {
-        Ok(value) => {
-            let _pieces = value.pieces();
-            Ok(Rc::new(alloc, value)?)
-        }
+        Ok(value) => Ok(Rc::new(alloc, value)?),
         Err(cut) => Err(refusal_of(cut)),
     }
 }
@@ -76,12 +70,13 @@ fn joined(
     requires narrow { length (joined_names left.now.params right.now.params) ≤ most_parameters }
     requires left { HasNumbersUpTo (unsigned_abs (limit_of meter.old)) left.now }
     requires right { HasNumbersUpTo (unsigned_abs (limit_of meter.old)) right.now }
-    ensures made { MatchResult result
-        (λ value. IsValueOf (join_of operator left.now right.now) (joined_names left.now.params right.now.params)
-        (λ valuation element. JoinHas operator (Has left.now valuation) (Has right.now valuation) element) (unsigned_abs (limit_of meter.old)) value.value
-        × IsCharged meter.old meter.new)
-        (IsWhyUnmade [] meter.old meter.new) }
-    ensures units { Uses (join_units operator left.now right.now) meter.old meter.new result }
+    requires left_definitions { HasNoDefinitions left.now }
+    requires right_definitions { HasNoDefinitions right.now }
+    ensures { MatchResult result
+        (λ value. IsValueOf (λ made. IsJoinOf operator left.now right.now made) (joined_names left.now.params right.now.params)
+        (λ valuation element. JoinHas operator (Has left.now valuation) (Has right.now valuation) element)
+        (unsigned_abs (limit_of meter.old)) value.value × IsPaid (uses_units (operator_part operator)) meter.old meter.new)
+        (IsWhyUnmade (uses_units (operator_part operator)) meter.old meter.new) }
 {
     let _names = right.params();
     let made = match operator {
@@ -98,13 +93,13 @@ fn joined(
 
 /// The inverse of a value of maps.
 fn inverted(alloc: Global, operand: &Value, meter: &mut Meter) -> Result<Rc<Value>, Refusal>
-    requires { HasNumbersUpTo (unsigned_abs (limit_of meter.old)) operand.now }
-    ensures made { MatchResult result
-        (λ value. IsValueOf (inverse_of operand.now) operand.now.params (λ valuation element. PostfixHas Inverse (Has operand.now valuation) element)
-        (unsigned_abs (limit_of meter.old)) value.value × IsCharged meter.old meter.new)
-        (IsWhyUnmade [] meter.old meter.new) }
-    ensures free { meter.new.units ≡ meter.old.units }
-    ensures unspent { IfErr result (λ refusal. refusal ≢ Refusal.Budget) }
+    requires numbers { HasNumbersUpTo (unsigned_abs (limit_of meter.old)) operand.now }
+    requires definitions { HasNoDefinitions operand.now }
+    ensures made { IfOk result
+        (λ value. IsValueOf (λ made. IsPostfixOf Inverse operand.now made) operand.now.params
+        (λ valuation element. PostfixHas Inverse (Has operand.now valuation) element) (unsigned_abs (limit_of meter.old)) value.value) }
+    ensures faults { IfErr result (λ refusal. refusal ≡ Refusal.NoMemory) }
+    ensures meter { meter.new ≡ meter.old }
 {
     match inverse(alloc, operand, meter) {
         Ok(value) => Ok(Rc::new(alloc, value)?),
@@ -122,12 +117,13 @@ fn past_postfixes(
 ) -> Result<Rc<Value>, Refusal>
     requires inverses { AreInverses postfixes.now }
     requires numbers { HasNumbersUpTo (unsigned_abs (limit_of meter.old)) operand.value }
-    ensures made { MatchResult result
-        (λ value. IsValueOf (post_value operand.value postfixes.now) operand.value.params
-        (λ valuation element. PostHas (Has operand.value valuation) postfixes.now element) (unsigned_abs (limit_of meter.old)) value.value × IsCharged meter.old meter.new)
-        (IsWhyUnmade [] meter.old meter.new) }
-    ensures free { meter.new.units ≡ meter.old.units }
-    ensures unspent { IfErr result (λ refusal. refusal ≢ Refusal.Budget) }
+    requires definitions { HasNoDefinitions operand.value }
+    ensures made { IfOk result
+        (λ value. IsValueOf (IsWorkedPost operand.value postfixes.now) operand.value.params
+        (λ valuation element. PostHas (Has operand.value valuation) postfixes.now element)
+        (unsigned_abs (limit_of meter.old)) value.value) }
+    ensures faults { IfErr result (λ refusal. refusal ≡ Refusal.NoMemory) }
+    ensures meter { meter.new ≡ meter.old }
 {
     let _pieces = operand.pieces();
     let mut left = operand;
@@ -154,11 +150,10 @@ fn value_of(
 ) -> Result<Rc<Value>, Refusal>
     requires ready { IsReady (scope_of state.now) expr.now }
     requires fits { Fits (limit_of meter.old) state.now }
-    ensures made { MatchResult result
-        (λ value. IsValueOf (value_of state.now expr.now) (declared_of (scope_of state.now) expr.now) (Selects state.now expr.now)
-        (unsigned_abs (limit_of meter.old)) value.value × IsCharged meter.old meter.new)
-        (IsWhyUnmade (literals_of expr.now) meter.old meter.new) }
-    ensures units { Uses (units_of state.now expr.now) meter.old meter.new result }
+    ensures { MatchResult result
+        (λ value. IsValueOf (IsWorked state.now expr.now) (declared_of (scope_of state.now) expr.now) (Selects state.now expr.now)
+        (unsigned_abs (limit_of meter.old)) value.value × IsPaid (list_any uses_units (parts_of expr.now)) meter.old meter.new)
+        (IsWhyUnmade (list_any uses_units (parts_of expr.now)) meter.old meter.new) }
 {
     match expr {
         Expr::Name(name) => match state.get(name) {
@@ -192,12 +187,13 @@ fn past_links(
     requires ready { AreReady (scope_of state.now) first.value.params links.now }
     requires fits { Fits (limit_of meter.old) state.now }
     requires numbers { HasNumbersUpTo (unsigned_abs (limit_of meter.old)) first.value }
-    ensures made { MatchResult result
-        (λ value. IsValueOf (row_value state.now first.value links.now) (declared_of_row (scope_of state.now) first.value.params links.now)
-        (λ valuation element. RowSelects state.now valuation (Has first.value valuation) links.now element) (unsigned_abs (limit_of meter.old)) value.value
-        × IsCharged meter.old meter.new)
-        (IsWhyUnmade (links_literals links.now) meter.old meter.new) }
-    ensures units { Uses (row_units state.now first.value links.now) meter.old meter.new result }
+    requires definitions { HasNoDefinitions first.value }
+    ensures { MatchResult result
+        (λ value. IsValueOf (IsWorkedRow state.now first.value links.now)
+        (declared_of_row (scope_of state.now) first.value.params links.now)
+        (λ valuation element. RowSelects state.now valuation (Has first.value valuation) links.now element)
+        (unsigned_abs (limit_of meter.old)) value.value × IsPaid (list_any uses_units (parts_of_links links.now)) meter.old meter.new)
+        (IsWhyUnmade (list_any uses_units (parts_of_links links.now)) meter.old meter.new) }
 {
     let _pieces = first.pieces();
     let mut left = first;
@@ -225,10 +221,10 @@ pub(crate) fn selected(
     requires typed { IsOfType (scope_of state.now) expr.now typed.now }
     requires ready { IsReady (scope_of state.now) expr.now }
     requires fits { Fits (limit_of meter.old) state.now }
-    ensures made { MatchResult result
-        (λ kept. Keeps (record { state = state.now; meter = meter.old }) expr.now kept × (type_of kept ≡ typed.now) × IsCharged meter.old meter.new)
-        (IsWhyUnmade (literals_of expr.now) meter.old meter.new) }
-    ensures units { Uses (units_of state.now expr.now) meter.old meter.new result }
+    ensures { MatchResult result
+        (λ kept. Keeps (record { state = state.now; meter = meter.old }) expr.now kept × (type_of kept ≡ typed.now)
+        × IsPaid (list_any uses_units (parts_of expr.now)) meter.old meter.new)
+        (IsWhyUnmade (list_any uses_units (parts_of expr.now)) meter.old meter.new) }
 {
     match value_of(alloc, expr, state, meter) {
         Ok(value) => Ok(Kept::new(typed.kind(), value)),

@@ -2,7 +2,7 @@
 
 ghost use Rattle.std.specs.Prelude.{◌≡◌, IfOk, OnOk, OnErr};
 ghost use Rattle.std.specs.Option.{option_copied};
-ghost use Rattle.isl_union.specs.KeptValue.{IsKeptValue};
+ghost use Rattle.isl_union.specs.KeptValue.{HasNoDefinitions, IsKeptValue};
 ghost use Rattle.isl_eval.specs.State.{unbound, kept_of, type_of, scope_of, Binds};
 
 use indexmap::IndexMap;
@@ -14,7 +14,7 @@ use std::alloc::{AllocError, Global};
 use std::marker::Model;
 use std::rc::Rc;
 
-/// What a name stands for: a kind, and a value that may have several names.
+/// What a name stands for: a kind, and a value that may have several names. None of its columns is defined.
 #[derive(Drop)]
 pub(crate) struct Kept {
     kind: ValueKind,
@@ -29,11 +29,16 @@ impl Model for Kept {
 
     ghost coded = { kept_code };
 
+    ghost use Rattle.isl_union.specs.KeptValue.{HasNoDefinitions};
+
     ghost view = { λ k. record { kind = k.kind; value = k.value.value } };
+
+    ghost invariant = { λ k. HasNoDefinitions k.value.value };
 }
 
 impl Kept {
     pub(crate) fn new(kind: ValueKind, value: Rc<Value>) -> Kept
+        requires { HasNoDefinitions value.value }
         ensures { result ≡ record { kind = kind; value = value.value } }
     {
         Kept { kind, value }
@@ -41,7 +46,8 @@ impl Kept {
 
     /// The value.
     pub(crate) fn value(&self) -> &Value
-        ensures { result.now ≡ self.now.value }
+        ensures content { result.now ≡ self.now.value }
+        ensures definitions { HasNoDefinitions result.now }
     {
         &self.value
     }
@@ -50,6 +56,7 @@ impl Kept {
     pub(crate) fn shared(&self) -> Result<Rc<Value>, AllocError>
         ensures shared { IfOk result (λ value. value.value ≡ self.now.value) }
         ensures kept { IsKeptValue self.now.value }
+        ensures definitions { HasNoDefinitions self.now.value }
     {
         let _pieces = self.value.pieces();
         self.value.clone()

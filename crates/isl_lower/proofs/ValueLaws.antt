@@ -1,26 +1,36 @@
 -- The value that a plain literal writes has the literal's elements.
 use Rattle.std.proofs.Common.{◌≡◌, ◌↔◌, ◌∙◌, inl, inr, refl, sym, ap, ap₂, subst, ℕ, suc, ℤ, ◌+◌, ◌<◌, pos, true, ◌&&◌, List, [], ◌∷◌, ◌++◌}
-use Rattle.std.proofs.Common.{length, get_or, map, take, Option, Some, None, option_map, MatchOption, IfSome, arith}
+use Rattle.std.proofs.Common.{length, get_or, map, take, Option, Some, None, option_map, MatchOption, IfSome, unsigned_abs, arith}
 use Rattle.std.specs.List.{All, Any, filter_map, cons_option, list_all}
 use Rattle.std.specs.Option.{option_to_list}
-use Rattle.std.proofs.lemmas.List.{length-append, length-take-le, length-replicate, take_more, append-nil, map-append}
-use Rattle.std.proofs.lemmas.List.Elements.{All-map, All-push, All-weaker, filter_map-append}
+use Rattle.std.proofs.lemmas.Bool.{false≢true}
+use Rattle.std.proofs.lemmas.List.{length-append, length-take-le, length-replicate}
+use Rattle.std.proofs.lemmas.List.Elements.{All-cons, All-map, All-nil, All-weaker}
+use Rattle.isl_math.proofs.ListLaws.{Any-none, Any-first, Any-later, Any-cases}
+use Rattle.isl_meter.specs.Gauge.{Gauge, limit_of, IsCutBy}
+use Rattle.isl_meter.specs.declared.Cut.{Cut}
+use Rattle.isl_meter.specs.declared.Cut.TheVariants.{Overflow, Budget, NoMemory}
+use Rattle.isl_meter.proofs.CutLemmas.{IsCharged_refl, IsCutBy-charged, IsCutBy-overflown}
+use Rattle.isl_space.specs.Form.{width_of}
 use Rattle.isl_space.specs.Valuation.{Valuation, values_of}
 use Rattle.isl_space.specs.Element.{Element, IsElement}
-use Rattle.isl_space.specs.SpaceForm.{SpaceForm, coordinates_of, IsWellFormedSpace}
+use Rattle.isl_space.specs.SpaceForm.{SpaceForm, coordinates_of}
 use Rattle.isl_piece.specs.declared.row.RowKind.{RowKind}
 use Rattle.isl_piece.specs.declared.row.RowKind.TheVariants.{Zero, AtLeast, Divides, NotDivides}
 use Rattle.isl_piece.specs.declared.row.Row.{Row}
-use Rattle.isl_meter.specs.Gauge.{Gauge, overflown}
-use Rattle.isl_meter.specs.declared.Cut.{Cut}
-use Rattle.isl_meter.specs.declared.Cut.TheVariants.{Overflow, Budget, NoMemory}
+use Rattle.isl_piece.specs.declared.system.System.{System}
 use Rattle.isl_piece.specs.Piece.{PieceView}
 use Rattle.isl_piece.specs.Row.{HasModulus, IsWellFormed, IsRowWithin}
-use Rattle.isl_piece.specs.System.{HoldRows}
-use Rattle.isl_piece.specs.Normal.{normal_rows, IsNormal}
+use Rattle.isl_piece.specs.System.{HoldRows, IsSystemWithin, free_columns}
+use Rattle.isl_piece.specs.Normal.{normal_rows}
 use Rattle.isl_piece.proofs.NormalLaws.{HoldWhere, normal_rows_hold}
-use Rattle.isl_union.specs.KeptValue.{KeptPiece, HasElement, columns_of}
-use Rattle.isl_union.specs.Piece.{kept_piece, IsPieceOf}
+use Rattle.isl_union.specs.KeptValue.{KeptPiece, KeptValue, HasElement, HasNoDefinitions, columns_of, piece_system}
+use Rattle.isl_union.specs.Live.{normal_of, AreLiveOf, IsLiveOf}
+use Rattle.isl_union.specs.Numbers.{AreWithinLimit, IsPieceUpTo}
+use Rattle.isl_union.specs.Piece.{kept_piece, piece_of, IsPieceOf}
+use Rattle.isl_union.proofs.LiveLaws.{filter_more, live_all, live_any, normal_within, with_rows}
+use Rattle.isl_union.proofs.MeetSteps.{pushed_live}
+use Rattle.isl_union.proofs.SystemLaws.{free_of_piece, piece_up_to, view_is}
 use Rattle.isl_tree.specs.declared.tree.Tuple.{Tuple, Leaf, Pair'}
 use Rattle.isl_tree.specs.declared.tree.PieceTree.{PieceTree}
 use Rattle.isl_tree.specs.declared.tree.Literal.{Literal}
@@ -29,16 +39,13 @@ use Rattle.isl_tree.specs.Environment.{Environment}
 use Rattle.isl_tree.specs.Literal.{entries_of, piece_entries, form_of_tuple, space_of_piece, piece_environment, EntriesEqual, PieceHas}
 use Rattle.isl_tree.specs.Known.{piece_is_known, literal_is_known}
 use Rattle.isl_tree.specs.Plain.{is_plain_tuple, second_is_plain, body_is_plain, is_plain_piece, is_plain}
-use Rattle.isl_space.specs.Form.{width_of}
 use Rattle.isl_lower.specs.Linear.{row_of}
 use Rattle.isl_lower.specs.Rows.{Written, added, piece_width, rows_written, written_piece}
-use Rattle.isl_lower.specs.Passes.{PiecePasses, FailsBy}
-use Rattle.isl_lower.specs.Value.{piece_lowered, value_lowered, HasSameElements, PiecesPass, IsLoweredPiece}
-use Rattle.isl_math.proofs.ListLaws.{Any-none, Any-first, Any-later, Any-cases}
+use Rattle.isl_lower.specs.Passes.{FailsBy}
+use Rattle.isl_lower.specs.Value.{piece_lowered, value_lowered, HasSameElements, IsLowered}
 use Rattle.isl_lower.proofs.AmountLaws.{length-with_amounts}
-use Rattle.isl_lower.proofs.TermLaws.{both_true}
 use Rattle.isl_lower.proofs.PieceLaws.{points_are}
-use Rattle.std.proofs.lemmas.Bool.{false≢true}
+use Rattle.isl_lower.proofs.TermLaws.{both_true}
 
 -- ---- the rows are rows over the columns
 divisor_of_one : (kind : RowKind) → HasModulus kind (pos 1)
@@ -121,8 +128,8 @@ module _ (params : List (List ℕ)) (piece : PieceTree) (valuation : Valuation) 
   Keeps : Option (List Row) → Type 0
   Keeps kept =
       MatchOption kept (¬ PieceHas params valuation element piece)
-      (λ rows. HasElement params valuation element (record { space = space_of_piece piece; rows = rows }) ↔ PieceHas params valuation
-      element piece)
+      (λ rows. HasElement params valuation element (record { space = space_of_piece piece; definitions = []; rows = rows })
+      ↔ PieceHas params valuation element piece)
 
   keeps : Keeps (normal_rows (rows_written params piece))
   unfolding Keeps
@@ -158,7 +165,7 @@ pieces_have params (piece ∷ pieces) valuation element plain known =
         → Any (HasElement params valuation element) (filter_map (piece_lowered params) pieces) ↔ Any (PieceHas params valuation element)
         pieces
         → Any (HasElement params valuation element)
-        (cons_option (option_map (λ rows. record { space = space_of_piece piece; rows = rows }) kept)
+        (cons_option (option_map (λ rows. record { space = space_of_piece piece; definitions = []; rows = rows }) kept)
         (filter_map (piece_lowered params) pieces))
         ↔ Any (PieceHas params valuation element) (piece ∷ pieces)
     by one known_one None never more = (
@@ -183,81 +190,107 @@ same_elements literal plain known valuation element = pieces_have literal.params
 
 -- ---- what the code makes
 -- the written rows have moduli of their kinds
-pub written_moduli : (params : List (List ℕ)) (piece : PieceTree) (rows : List Row) → rows ≡ rows_written params piece → All (λ r. HasModulus r.kind r.k) rows
+pub written_moduli : (params : List (List ℕ)) (piece : PieceTree) (rows : List Row) → rows ≡ rows_written params piece
+    → All (λ r. HasModulus r.kind r.k) rows
 written_moduli params piece rows is =
     subst (All (λ (r : Row). HasModulus r.kind r.k)) (sym is)
-    (All-weaker (IsWellFormed (piece_width params piece)) (λ (r : Row). HasModulus r.kind r.k) (λ r formed. formed.modulus) (rows_written params piece) (written_formed params piece))
+    (All-weaker (IsWellFormed (piece_width params piece)) (λ (r : Row). HasModulus r.kind r.k) (λ r formed. formed.modulus)
+    (rows_written params piece) (written_formed params piece))
 
--- the piece over so many columns with the kept rows
-abbrev pub made_piece : SpaceForm → ℕ → List Row → PieceView
-made_piece space columns kept = record { space = space; system = record { columns = columns; definitions = []; rows = kept } }
+-- why a row was not made is why work was cut
+pub fails_cut : (passes : Type 0) (old new : Gauge) (cut : Cut) → FailsBy passes old new cut → IsCutBy old new cut
+fails_cut passes old new Overflow h = IsCutBy-overflown old new h.1
+fails_cut passes old new Budget h = absurd h
+fails_cut passes old new NoMemory h = IsCutBy-charged old new (IsCharged_refl old new h)
 
--- what the normal rows and the space make is what is kept of the piece
-pub piece_made : (params : List (List ℕ)) (piece : PieceTree) (rows kept : List Row) (columns : ℕ) (space : SpaceForm) (made : PieceView)
-    → rows ≡ rows_written params piece → Some kept ≡ normal_rows rows → space ≡ space_of_piece piece → made ≡ made_piece space columns kept
-    → Some (kept_piece made) ≡ piece_lowered params piece
-piece_made params piece rows kept columns space made is found same whole =
-    ap (λ (p : PieceView). Some (kept_piece p)) whole
-    ∙ ap (λ (f : SpaceForm). Some (record { space = f; rows = kept })) same
-    ∙ ap (option_map (λ (rs : List Row). record { space = space_of_piece piece; rows = rs })) (found ∙ ap normal_rows is)
+pub ruleset cuts = (fails_cut)
 
-pub piece_of_value : (params : List (List ℕ)) (piece : PieceTree) (kept : List Row) (columns : ℕ) (space : SpaceForm) (made : PieceView)
-    → is_plain_piece piece ≡ true → columns ≡ piece_width params piece → All (IsWellFormed columns) kept → IsNormal kept → space ≡ space_of_piece piece
-    → IsWellFormedSpace (space_of_piece piece) → made ≡ made_piece space columns kept → IsPieceOf params made
-piece_of_value params piece kept columns space made plain wide rows normal same formed whole =
-    let width : columns ≡ columns_of params space = wide ∙ sym (columns_are params piece plain) ∙ ap (columns_of params) (sym same) in
-    subst (IsPieceOf params) (sym whole) (record {
-      columns = width;
-      free = refl;
-      kept = record {
-        space = subst IsWellFormedSpace (sym same) formed;
-        rows = subst (λ (n : ℕ). All (IsWellFormed n) kept) width rows;
-        normal = normal;
-      };
-    })
+-- the piece with the rows that are written
+abbrev pub piece_with_rows : List (List ℕ) → PieceTree → KeptPiece
+piece_with_rows params piece = record { space = space_of_piece piece; definitions = []; rows = rows_written params piece }
 
+module _ (params : List (List ℕ)) (piece : PieceTree) (plain : is_plain_piece piece ≡ true) where
+  abbrev pub there : KeptPiece
+  there = piece_with_rows params piece
+
+  there_columns : piece_width params piece ≡ (piece_system params there).columns
+  there_columns = let wide = columns_are params piece plain in omega (arith, wide)
+
+  -- the system that the rows make
+  pub system_made : (rows : List Row) (columns : ℕ) (s : System) → rows ≡ rows_written params piece → columns ≡ piece_width params piece
+      → s ≡ record { columns = columns; definitions = []; rows = rows } → s ≡ piece_system params there
+  system_made rows columns s is wide made =
+      made ∙ ap₂ (λ (n : ℕ) (rs : List Row). let t : System = record { columns = n; definitions = []; rows = rs } in t)
+      (wide ∙ there_columns) is
+
+  module _ (space : SpaceForm) (s : System) (same : space ≡ space_of_piece piece) (is : s ≡ piece_system params there) where
+    pub made_free : free_columns s ≡ columns_of params space
+    made_free = ap free_columns is ∙ free_of_piece params there ∙ ap (columns_of params) (sym same)
+
+    pub made_lowered : (found : Option KeptPiece) → IsLiveOf params (normal_of (piece_of space s)) found
+        → IsLiveOf params (piece_lowered params piece) found
+    made_lowered found = subst (λ (p : KeptPiece). IsLiveOf params (normal_of p) found) (ap₂ piece_of same is)
+
+  module _ (g : Gauge) (fits : All (IsRowWithin g) (rows_written params piece)) where
+    pub there_within : IsSystemWithin g (piece_system params there)
+    there_within = record {
+      rows = subst (λ (n : ℕ). All (IsWellFormed n) (rows_written params piece)) there_columns (written_formed params piece);
+      within = fits;
+      count = omega arith;
+      definitions = tt;
+    }
+
+    pub found_within : (found : Option PieceView) → IsLiveOf params (piece_lowered params piece) (option_map kept_piece found)
+        → IfSome found (IsPieceOf params) → IfSome found (λ kept. IsSystemWithin g kept.system)
+    found_within None live sound = tt
+    found_within (Some kept) live sound =
+        subst (IsSystemWithin g) (sym (view_is params kept sound)) (normal_within g params there there_within (kept_piece kept) live.0)
+
+-- ---- the pieces that are kept
 -- a loop's step
-lowered_more : (params : List (List ℕ)) (pieces : List PieceTree) (i : ℕ) (piece : PieceTree) (kept : Option KeptPiece) → i < length pieces
-    → piece ≡ get_or pieces i piece → kept ≡ piece_lowered params piece
-    → filter_map (piece_lowered params) (take (i + 1) pieces) ≡ filter_map (piece_lowered params) (take i pieces) ++ cons_option kept []
-lowered_more params pieces i piece kept low at is =
-    ap (filter_map (piece_lowered params)) (take_more pieces i piece low ∙ ap (λ (p : PieceTree). take i pieces ++ p ∷ []) (sym at))
-    ∙ filter_map-append (piece_lowered params) (take i pieces) (piece ∷ [])
-    ∙ ap (λ (o : Option KeptPiece). filter_map (piece_lowered params) (take i pieces) ++ cons_option o []) (sym is)
+pub lowered_step : (params : List (List ℕ)) (pieces : List PieceTree) (i : ℕ) (piece : PieceTree) → i < length pieces
+    → piece ≡ get_or pieces i piece → (made pushed : List PieceView) (found : Option PieceView)
+    → IsLiveOf params (piece_lowered params piece) (option_map kept_piece found)
+    → pushed ≡ made ++ option_to_list found → AreLiveOf params (filter_map (piece_lowered params) (take i pieces)) (map kept_piece made)
+    → AreLiveOf params (filter_map (piece_lowered params) (take (i + 1) pieces)) (map kept_piece pushed)
+lowered_step params pieces i piece low at made pushed found exact is so_far =
+    rw (filter_more (piece_lowered params) pieces i piece low (sym at))
+    (pushed_live params (filter_map (piece_lowered params) (take i pieces)) (piece_lowered params piece) made pushed found so_far exact is)
 
-pub lowered_step : (P : PieceView → Type 0) (params : List (List ℕ)) (pieces : List PieceTree) (i : ℕ) (piece : PieceTree)
-    (made pushed : List PieceView) (found : Option PieceView) → i < length pieces → piece ≡ get_or pieces i piece
-    → option_map kept_piece found ≡ piece_lowered params piece → IfSome found P → pushed ≡ made ++ option_to_list found
-    → (map kept_piece made ≡ filter_map (piece_lowered params) (take i pieces)) × All P made →
-    (map kept_piece pushed ≡ filter_map (piece_lowered params) (take (i + 1) pieces)) × All P pushed
-lowered_step P params pieces i piece made pushed None low at is sound more so_far =
-    let same : pushed ≡ made = more ∙ append-nil made in (
-      ap (map kept_piece) same ∙ so_far.0 ∙ sym (append-nil (filter_map (piece_lowered params) (take i pieces)))
-          ∙ sym (lowered_more params pieces i piece None low at is),
-      subst (All P) (sym same) so_far.1,
-    )
-lowered_step P params pieces i piece made pushed (Some kept) low at is sound more so_far = (
-  ap (map kept_piece) more ∙ map-append kept_piece made (kept ∷ []) ∙ ap (λ (l : List KeptPiece). l ++ kept_piece kept ∷ []) so_far.0
-      ∙ sym (lowered_more params pieces i piece (Some (kept_piece kept)) low at is),
-  subst (All P) (sym more) (All-push P made kept so_far.1 sound),
-)
+-- what is written defines no column
+pub written_plain : (params : List (List ℕ)) (pieces : List PieceTree)
+    → All (λ piece. piece.definitions ≡ []) (filter_map (piece_lowered params) pieces)
+written_plain params [] = All-nil (λ (piece : KeptPiece). piece.definitions ≡ [])
+written_plain params (piece ∷ pieces) = by (normal_rows (rows_written params piece)) (written_plain params pieces)
+  where
+    by : (kept : Option (List Row)) → All (λ (p : KeptPiece). p.definitions ≡ []) (filter_map (piece_lowered params) pieces)
+        → All (λ (p : KeptPiece). p.definitions ≡ [])
+        (cons_option (option_map (with_rows (piece_with_rows params piece)) kept) (filter_map (piece_lowered params) pieces))
+    by None more = more
+    by (Some rows) more =
+        All-cons (λ (p : KeptPiece). p.definitions ≡ []) (with_rows (piece_with_rows params piece) rows)
+        (filter_map (piece_lowered params) pieces) refl more
 
--- the pieces of the value
-pub all_sound : (g : Gauge) (params : List (List ℕ)) (made : List PieceView) → All (IsLoweredPiece g params) made → All (IsPieceOf params) made
-all_sound g params made all k d low = (all k d low).sound
+module _ (literal : Literal) (value : KeptValue) (is : IsLowered literal value) where
+  pub lowered_plain : HasNoDefinitions value
+  lowered_plain =
+      let P : KeptPiece → Type 0 = λ piece. piece.definitions ≡ [] in
+      live_all literal.params P P (λ piece plain live. plain) (value_lowered literal).pieces value.pieces is.pieces
+      (written_plain literal.params literal.pieces)
 
-pub value_within : (g : Gauge) (params : List (List ℕ)) (made : List PieceView) (pieces : List KeptPiece) → pieces ≡ map kept_piece made
-    → All (IsLoweredPiece g params) made → All (λ piece. All (IsRowWithin g) piece.rows) pieces
-value_within g params made pieces is all =
-    subst (All (λ (piece : KeptPiece). All (IsRowWithin g) piece.rows)) (sym is)
-    (All-map (λ (piece : KeptPiece). All (IsRowWithin g) piece.rows) kept_piece made (λ k d low. (all k d low).within))
+  -- a plain literal of known names, and the value that it is made
+  pub lowered_elements : is_plain literal ≡ true → literal_is_known literal ≡ true → HasSameElements literal value
+  lowered_elements plain known valuation element =
+      let has : List (List ℕ) → Type 0 = λ names. Any (HasElement names valuation element) value.pieces in
+      let kept = live_any literal.params valuation element (value_lowered literal).pieces value.pieces is.pieces in
+      let same = same_elements literal plain known valuation element in (
+        (λ h. same.0 (kept.0 (subst has is.params h))),
+        (λ h. subst has (sym is.params) (kept.1 (same.1 h))),
+      )
 
--- a cause of one piece is one of all
-pub cause_of_pieces : (g loop now : Gauge) (params : List (List ℕ)) (pieces : List PieceTree) (i : ℕ) (piece : PieceTree) (cut : Cut)
-    → loop ≡ g → i < length pieces → piece ≡ get_or pieces i piece → FailsBy (PiecePasses loop params piece) loop now cut
-    → FailsBy (PiecesPass g params pieces) g now cut
-cause_of_pieces g loop now params pieces i piece Overflow same low at h =
-    let passes = subst (λ (m : Gauge). PiecePasses m params piece) same h.0 in
-    ((i, piece, low, sym at, passes), subst (λ (m : Gauge). now ≡ overflown m) same h.1)
-cause_of_pieces g loop now params pieces i piece Budget same low at h = h
-cause_of_pieces g loop now params pieces i piece NoMemory same low at h = h ∙ same
+-- ---- the numbers of the value
+pub pieces_up_to : (g : Gauge) (params : List (List ℕ)) (made : List PieceView) → All (IsPieceOf params) made → AreWithinLimit g made
+    → All (IsPieceUpTo (unsigned_abs (limit_of g))) (map kept_piece made)
+pieces_up_to g params made sound within = All-map (IsPieceUpTo (unsigned_abs (limit_of g))) kept_piece made (λ k d low.
+    let one = get_or made k d in
+    piece_up_to g params (kept_piece one) (subst (IsSystemWithin g) (view_is params one (sound k d low)) (within k d low)))

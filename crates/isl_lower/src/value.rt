@@ -1,8 +1,8 @@
 //! Plain literals as values.
 
-ghost use Rattle.std.specs.Option.{option_to_list};
-ghost use Rattle.std.specs.Prelude.{◌≡◌, ◌≤◌, ◌++◌, All, IfOk, IfSome, MatchResult, option_map, map, true};
+ghost use Rattle.std.specs.Prelude.{◌≡◌, ◌≤◌, All, IfOk, IfSome, MatchResult, option_map, map, true};
 ghost use Rattle.std.specs.List.{filter_map, list_all};
+ghost use Rattle.isl_meter.specs.Gauge.{IsCharged, IsCutBy};
 ghost use Rattle.isl_meter.specs.declared.Cut.TheVariants.{NoMemory};
 ghost use Rattle.isl_space.specs.Limits.{most_coordinates};
 ghost use Rattle.isl_space.specs.Names.{IsParameterList};
@@ -10,14 +10,16 @@ ghost use Rattle.isl_space.specs.Form.{IsNamed, width_of};
 ghost use Rattle.isl_space.specs.Shape.{form_of};
 ghost use Rattle.isl_space.specs.Space.{space_form_of};
 ghost use Rattle.isl_space.specs.SpaceForm.{IsWellFormedSpace};
-ghost use Rattle.isl_union.specs.Piece.{kept_piece};
+ghost use Rattle.isl_piece.specs.System.{IsSystemWithin};
+ghost use Rattle.isl_union.specs.KeptValue.{HasNoDefinitions, IsKeptValue};
+ghost use Rattle.isl_union.specs.Live.{AreLiveOf, IsLiveOf};
+ghost use Rattle.isl_union.specs.Numbers.{AreWithinLimit, IsWithinLimit};
+ghost use Rattle.isl_union.specs.Piece.{kept_piece, IsPieceOf};
 ghost use Rattle.isl_tree.specs.Known.{literal_is_known};
 ghost use Rattle.isl_tree.specs.Literal.{form_of_tuple, space_of_piece};
 ghost use Rattle.isl_tree.specs.Plain.{is_plain_tuple, is_plain_piece, is_plain};
 ghost use Rattle.isl_lower.specs.Rows.{piece_width};
-ghost use Rattle.isl_lower.specs.Passes.{FailsBy, PiecePasses};
-ghost use Rattle.isl_lower.specs.Value.{piece_lowered, value_lowered, IsWellFormedLiteral, HasSameElements, PiecesPass, IsLoweredPiece};
-ghost use Rattle.isl_lower.specs.Value.{IsValueWithin};
+ghost use Rattle.isl_lower.specs.Value.{piece_lowered, IsLowered, IsWellFormedLiteral, HasSameElements};
 
 use crate::known::{leaf_entries, second_entries};
 use crate::lowered::rows_written;
@@ -25,7 +27,7 @@ use isl_meter::{Cut, Meter};
 use isl_piece::{Piece, System};
 use isl_space::{Name, Params, Shape, Space, SpaceFault};
 use isl_tree::tree::{Literal, PieceTree, Tuple};
-use isl_union::Value;
+use isl_union::{Value, live_piece, push_found};
 use std::alloc::{AllocError, Global};
 use std::rc::Rc;
 
@@ -82,7 +84,8 @@ fn width(params: &[Name], piece: &PieceTree) -> usize
     params.len() + leaf_entries(&piece.first).len() + second_entries(&piece.second).len()
 }
 
-// What is kept of a piece: `None` where one of its rows never holds.
+// The piece with its normal rows; none where it has no element at any valuation.
+#[tactic(auto, using(std::proofs::lemmas::Grind::common_steps, isl_meter::proofs::CutLemmas::charges, crate::proofs::ValueLaws::cuts))]
 fn lower_piece(
     alloc: Global,
     params: &[Name],
@@ -92,44 +95,18 @@ fn lower_piece(
     requires bits { 8 ≤ meter.old.bits }
     requires plain { is_plain_piece piece.now ≡ true }
     requires well_formed { IsWellFormedSpace (space_of_piece piece.now) }
-    ensures { MatchResult result
-        (λ kept. (option_map kept_piece kept ≡ piece_lowered params.now piece.now)
-        × IfSome kept (IsLoweredPiece meter.old params.now) × (meter.new ≡ meter.old))
-        (λ cut. FailsBy (PiecePasses meter.old params.now piece.now) meter.old meter.new cut) }
+    ensures found { IfOk result (λ found. IsLiveOf params.now (piece_lowered params.now piece.now) (option_map kept_piece found)
+        × IfSome found (IsPieceOf params.now) × IfSome found (λ kept. IsSystemWithin meter.old kept.system)) }
+    ensures meter { MatchResult result (λ _. IsCharged meter.old meter.new) (IsCutBy meter.old meter.new) }
 {
-    let rows = match rows_written(alloc, params, piece, meter) {
-        Ok(rows) => rows,
-        Err(cut) => return Err(cut),
-    };
-    let kept = match rows.normalise(alloc, meter) {
-        Ok(Some(kept)) => kept,
-        Ok(None) => return Ok(None),
-        Err(_) => return Err(Cut::NoMemory),
-    };
-    let space = match space_of(alloc, piece) {
-        Ok(space) => space,
-        Err(cut) => return Err(cut),
-    };
-    let system = System::from_rows(alloc, width(params, piece), kept);
-    match Piece::new(alloc, space, system) {
-        Ok(piece) => Ok(Some(piece)),
-        Err(_) => Err(Cut::NoMemory),
-    }
+    let rows = rows_written(alloc, params, piece, meter)?;
+    let space = space_of(alloc, piece)?;
+    let system = System::from_rows(alloc, width(params, piece), rows);
+    live_piece(alloc, &space, system, meter)
 }
 
-// Puts a piece that is there behind the others.
-fn push_found(kept: &mut Vec<Piece>, found: Option<Piece>) -> Result<(), Cut>
-    ensures { MatchResult result (λ _. kept.new.items ≡ kept.old.items ++ option_to_list found) (λ cut. cut ≡ NoMemory) }
-{
-    if let Some(piece) = found {
-        if kept.push(piece).is_err() {
-            return Err(Cut::NoMemory);
-        }
-    }
-    Ok(())
-}
-
-// What is kept of pieces, in order.
+// The pieces that have an element at some valuation, in order, with their normal rows.
+#[tactic(auto, using(std::proofs::lemmas::Grind::common_steps, isl_meter::proofs::CutLemmas::charges))]
 fn lower_pieces(
     alloc: Global,
     params: &[Name],
@@ -139,20 +116,15 @@ fn lower_pieces(
     requires bits { 8 ≤ meter.old.bits }
     requires plain { list_all is_plain_piece pieces.now ≡ true }
     requires well_formed { All (λ piece. IsWellFormedSpace (space_of_piece piece)) pieces.now }
-    ensures { MatchResult result
-        (λ kept. (map kept_piece kept.items ≡ filter_map (piece_lowered params.now) pieces.now)
-        × All (IsLoweredPiece meter.old params.now) kept.items × (meter.new ≡ meter.old))
-        (λ cut. FailsBy (PiecesPass meter.old params.now pieces.now) meter.old meter.new cut) }
+    ensures exact { IfOk result
+        (λ kept. AreLiveOf params.now (filter_map (piece_lowered params.now) pieces.now) (map kept_piece kept.items)) }
+    ensures sound { IfOk result (λ kept. All (IsPieceOf params.now) kept.items) }
+    ensures within { IfOk result (λ kept. AreWithinLimit meter.old kept.items) }
+    ensures meter { MatchResult result (λ _. IsCharged meter.old meter.new) (IsCutBy meter.old meter.new) }
 {
     let mut kept = Vec::with_capacity(alloc, pieces.len())?;
     for piece in pieces {
-        let found = match lower_piece(alloc, params, piece, meter) {
-            Ok(found) => found,
-            Err(cut) => return Err(cut),
-        };
-        if let Err(cut) = push_found(&mut kept, found) {
-            return Err(cut);
-        }
+        push_found(&mut kept, lower_piece(alloc, params, piece, meter)?)?;
     }
     Ok(kept)
 }
@@ -193,12 +165,7 @@ pub fn lower(alloc: Global, literal: &Literal, meter: &mut Meter) -> Result<Valu
 {
     let _limit = meter.limit();
     let names = literal.params.as_slice();
-    let params = match declared(alloc, names) {
-        Ok(params) => params,
-        Err(cut) => return Err(cut),
-    };
-    match lower_pieces(alloc, names, literal.pieces.as_slice(), meter) {
-        Ok(pieces) => Ok(Value::from_normal(params, pieces)),
-        Err(cut) => Err(cut),
-    }
+    let params = declared(alloc, names)?;
+    let pieces = lower_pieces(alloc, names, literal.pieces.as_slice(), meter)?;
+    Ok(Value::from_normal(params, pieces))
 }

@@ -1,6 +1,6 @@
 -- Where columns stand when a piece is turned round, and the numbers that are found there.
-use Rattle.std.proofs.Common.{◌≡◌, ◌≢◌, ◌⊎◌, inl, inr, refl, sym, ap, ap₂, ◌∙◌, arith, subst, ℕ, ◌+◌, ◌-◌, ◌<◌, ◌≤◌, ℤ, pos, List, [], ◌++◌}
-use Rattle.std.proofs.Common.{All, AllPairs, length, length-append, append_assoc, get_or, drop, take}
+use Rattle.std.proofs.Common.{◌≡◌, ◌≢◌, ◌⊎◌, inl, inr, refl, sym, ap, ap₂, ◌∙◌, arith, ℕ, ◌+◌, ◌-◌, ◌<◌, ◌≤◌, ℤ, pos, List, [], ◌++◌}
+use Rattle.std.proofs.Common.{All, length, length-append, append_assoc, get_or, drop, take}
 use Rattle.std.specs.List.{range_with_len}
 use Rattle.std.proofs.lemmas.Bool.{cases_lt}
 use Rattle.std.proofs.lemmas.List.{append-nil, drop_at, get_or_append_left, get_or-append-add, length-drop, length-take-le, map-append}
@@ -10,8 +10,8 @@ use Rattle.std.proofs.lemmas.List.FromFn.{length-range_with_len, get_or-range_wi
 use Rattle.isl_space.specs.Form.{width_of}
 use Rattle.isl_space.specs.SpaceForm.{SpaceForm, set_of, map_of, coordinates_of}
 use Rattle.isl_piece.specs.Meet.{numbers_at}
+use Rattle.isl_piece.specs.Placed.{ArePlacesAmong}
 use Rattle.isl_piece.proofs.PlacedLaws.{AreApart, first_apart, first_inside, numbers_at-first, numbers_at-longer}
-use Rattle.isl_union.specs.Moved.{ArePlacesAmong}
 use Rattle.isl_union.proofs.PlacesLaws.{numbers_behind}
 use Rattle.isl_maps.specs.Inverse.{inverse_space, inverse_numbers, inverse_places}
 

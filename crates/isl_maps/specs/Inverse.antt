@@ -33,7 +33,8 @@ inverse_places parameters (map_of from to) =
 -- a piece turned round
 unfoldable pub inverse_piece : List Name → KeptPiece → KeptPiece
 inverse_piece params piece =
-    moved (inverse_space piece.space) (columns_of params piece.space) (inverse_places (length params) piece.space) (piece_system params piece)
+    moved (inverse_space piece.space) (columns_of params piece.space) (inverse_places (length params) piece.space)
+    (piece_system params piece)
 
 -- its pieces turned round, in their order
 abbrev pub inverse_of : KeptValue → KeptValue

@@ -9,7 +9,7 @@ ghost use Rattle.isl_space.specs.Limits.{most_coordinates, most_parameters};
 ghost use Rattle.isl_space.specs.Space.{space_form_of};
 ghost use Rattle.isl_space.specs.SpaceForm.{coordinates_of, map_of};
 ghost use Rattle.isl_space.specs.Valuation.{Valuation};
-ghost use Rattle.isl_piece.specs.Row.{IsRowWithin};
+ghost use Rattle.isl_piece.specs.System.{IsSystemWithin};
 ghost use Rattle.isl_union.specs.KeptValue.{Has, HasNoDefinitions, IsKeptValue};
 ghost use Rattle.isl_union.specs.Numbers.{AreWithinLimit, HasNumbersUpTo, IsWithinLimit};
 ghost use Rattle.isl_union.specs.Piece.{kept_piece, IsPieceOf};
@@ -17,9 +17,9 @@ ghost use Rattle.isl_union.specs.declared.fault.OpFault.TheVariants as op_fault;
 ghost use Rattle.isl_maps.specs.Inverse.{inverse_element, inverse_of, inverse_piece, inverse_places, inverse_space};
 
 use isl_meter::Meter;
-use isl_piece::{Piece, System};
+use isl_piece::Piece;
 use isl_space::{Params, Space};
-use isl_union::{OpFault, Value, moved_rows};
+use isl_union::{OpFault, Value, settled_piece};
 use std::alloc::{AllocError, Global};
 
 // Puts so many places from the first on behind the others.
@@ -89,21 +89,15 @@ fn inverse_piece(
     meter: &Meter,
 ) -> Result<Piece, AllocError>
     requires piece { IsPieceOf params.now piece.now }
-    requires within { All (IsRowWithin meter.now) piece.now.system.rows }
+    requires within { IsSystemWithin meter.now piece.now.system }
     ensures exact { IfOk result (λ turned. kept_piece turned ≡ inverse_piece params.now (kept_piece piece.now)) }
     ensures sound { IfOk result (IsPieceOf params.now) }
 {
-    let columns = piece.system().columns;
+    let own = piece.system();
     let places = inverse_places(alloc, params.len() as u32, piece.space())?;
-    let rows = moved_rows(
-        alloc,
-        columns,
-        places.as_slice(),
-        &piece.system().rows,
-        meter,
-    )?;
-    let system = System::from_rows(alloc, columns, rows);
-    Piece::new(alloc, inverse_space(piece.space())?, system)
+    let system = own.placed(alloc, own.free(), places.as_slice())?;
+    let space = inverse_space(piece.space())?;
+    settled_piece(alloc, &space, system, meter)
 }
 
 // Pieces turned round.

@@ -1,10 +1,26 @@
 -- public: how large the numbers become.
-use Rattle.std.specs.Prelude.{◌≢◌, ℕ, All, Result, MatchResult}
+use Rattle.std.specs.Prelude.{◌≢◌, ◌^◌, ℕ, All, Result, MatchResult}
 use Rattle.isl_meter.specs.declared.Cut.{Cut}
 use Rattle.isl_meter.specs.declared.Cut.TheVariants.{Overflow}
 pub use Rattle.isl_piece.specs.Cut.{IsNoOverflow}
 use Rattle.isl_piece.specs.Row.{IsRowUpTo}
 use Rattle.isl_omega.specs.declared.sides.Sides.{Sides}
+
+-- the numbers of rows that are given
+abbrev pub given_magnitude : ℕ
+given_magnitude = 2 ^ 30
+
+-- those of rows into which a progression was put, or that an equation has gone through
+abbrev pub substituted_magnitude : ℕ
+substituted_magnitude = 2 ^ 61
+
+-- those of rows that are paired, and of the last value of a lower bound
+abbrev pub paired_magnitude : ℕ
+paired_magnitude = 2 ^ 62
+
+-- those of a lower bound that is fixed at one of its values
+abbrev pub fixed_magnitude : ℕ
+fixed_magnitude = 2 ^ 63
 
 -- a result of P, or work ended for another reason
 abbrev pub IsNoOverflowWith : {A : Type 0} → (A → Type 0) → Result A Cut → Type 0

@@ -5,7 +5,7 @@ ghost use Rattle.isl_meter.specs.Gauge.{IsWithin, IsDone};
 ghost use Rattle.isl_piece.specs.Row.{IsRowWithin, IsWellFormed, coef_at, IsRowUpTo};
 ghost use Rattle.isl_omega.specs.Column.{IsAnswerFor};
 ghost use Rattle.isl_omega.specs.Equality.{AreFactors, IsSolvedBy, solvable, row_factor, equality_factor, image_of, images_of, solved_for};
-ghost use Rattle.isl_omega.specs.Magnitude.{IsNoOverflow};
+ghost use Rattle.isl_omega.specs.Magnitude.{IsNoOverflow, fixed_magnitude, substituted_magnitude};
 
 use crate::column::Column;
 use crate::rows::settled;
@@ -45,7 +45,7 @@ fn image(
     requires occurs { coef_at fixed.now column.at ≢ pos 0 }
     ensures exact { IsDone meter.old meter.new
         (λ short. (short ≡ image_of fixed.now column.at row.now) × IsRowWithin meter.old short) result }
-    ensures no_overflow { meter.old.bits ≡ 127 → IsRowUpTo (2 ^ 61) row.now → IsRowUpTo (2 ^ 63) fixed.now → IsNoOverflow result }
+    ensures no_overflow { meter.old.bits ≡ 127 → IsRowUpTo substituted_magnitude row.now → IsRowUpTo fixed_magnitude fixed.now → IsNoOverflow result }
 {
     let (m, n) = factors(fixed.coefs.get(column.at), row.coefs.get(column.at), meter);
     combination(alloc, m, row, n, fixed, meter)
@@ -86,7 +86,7 @@ fn images(
     requires occurs { coef_at fixed.now column.at ≢ pos 0 }
     ensures exact { IsDone meter.old meter.new
         (λ short. (short ≡ images_of fixed.now column.at rows.now) × All (IsRowWithin meter.old) short) result }
-    ensures no_overflow { meter.old.bits ≡ 127 → All (IsRowUpTo (2 ^ 61)) rows.now → IsRowUpTo (2 ^ 63) fixed.now → IsNoOverflow result }
+    ensures no_overflow { meter.old.bits ≡ 127 → All (IsRowUpTo substituted_magnitude) rows.now → IsRowUpTo fixed_magnitude fixed.now → IsNoOverflow result }
 {
     let mut short = Rows::new(alloc);
     short.push(divisibility(alloc, fixed, column, meter)?)?;
@@ -117,7 +117,7 @@ pub fn equality_step(
     ensures exact { IsDone meter.old meter.new
         (IsAnswerFor meter.old (column.columns - 1) (IsSolvedBy rows.now fixed.now column.at)) result }
     ensures function { IfOk result (λ left. left ≡ solved_for fixed.now column.at rows.now) }
-    ensures no_overflow { meter.old.bits ≡ 127 → All (IsRowUpTo (2 ^ 61)) rows.now → IsRowUpTo (2 ^ 63) fixed.now → IsNoOverflow result }
+    ensures no_overflow { meter.old.bits ≡ 127 → All (IsRowUpTo substituted_magnitude) rows.now → IsRowUpTo fixed_magnitude fixed.now → IsNoOverflow result }
 {
     let short = images(alloc, rows, fixed, column, meter)?;
     let left = settled(alloc, &short, column, meter)?;

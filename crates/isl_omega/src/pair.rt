@@ -7,7 +7,7 @@ ghost use Rattle.isl_piece.specs.declared.row.RowKind.TheVariants.{AtLeast};
 ghost use Rattle.isl_piece.specs.Row.{HoldsRow, HasModulus, IsRowWithin, coef_at, IsRowUpTo};
 ghost use Rattle.isl_omega.specs.Shadow.{ceiling, IsRealRow, IsDarkRow, IsExact, IsCap};
 ghost use Rattle.isl_omega.specs.Sides.{IsLower, IsUpper};
-ghost use Rattle.isl_omega.specs.Magnitude.{IsNoOverflow, IsNoOverflowWith};
+ghost use Rattle.isl_omega.specs.Magnitude.{IsNoOverflow, IsNoOverflowWith, paired_magnitude};
 
 use crate::column::Column;
 use isl_meter::{Cut, Int, Meter, Overflow};
@@ -30,7 +30,7 @@ fn slack(a: Int, b: Int, modulus: Int, meter: &mut Meter) -> Result<Int, Overflo
     ensures exact { MatchResult result
         (λ s. (s ≡ ceiling ((a -ℤ pos 1) *ℤ (b -ℤ pos 1)) modulus) × IsWithin meter.old s × (meter.new ≡ meter.old))
         (λ _. IsCutUpTo (pos 0) meter.old meter.new Cut.Overflow) }
-    ensures no_overflow { meter.old.bits ≡ 127 → unsigned_abs a ≤ 2 ^ 62 → unsigned_abs b ≤ 2 ^ 62 → IfErr result (λ _. ⊥) }
+    ensures no_overflow { meter.old.bits ≡ 127 → unsigned_abs a ≤ paired_magnitude → unsigned_abs b ≤ paired_magnitude → IfErr result (λ _. ⊥) }
 {
     let m = a.sub(Int::ONE, meter)?;
     let n = b.sub(Int::ONE, meter)?;
@@ -86,7 +86,7 @@ fn real_row(
     ensures exact { IsDone meter.old meter.new
         (λ real. IsRealRow column.columns column.at bounds.now.lower.now bounds.now.upper.now modulus real
         × IsRowWithin meter.old real) result }
-    ensures no_overflow { meter.old.bits ≡ 127 → IsRowUpTo (2 ^ 62) bounds.now.lower.now → IsRowUpTo (2 ^ 62) bounds.now.upper.now
+    ensures no_overflow { meter.old.bits ≡ 127 → IsRowUpTo paired_magnitude bounds.now.lower.now → IsRowUpTo paired_magnitude bounds.now.upper.now
         → IsNoOverflowWith (IsRowUpTo (2 ^ 125)) result }
 {
     let m = bounds.lower.coefs.get(column.at).floor_div(modulus, meter);
@@ -154,7 +154,7 @@ impl Pair {
             (λ pair. IsDarkRow column.columns column.at lower.now upper.now pair.dark × IsRowWithin meter.old pair.dark
             × (IsTrue pair.exact → IsExact column.columns column.at lower.now upper.now)
             × IfSome pair.cap (λ cap. IsCap column.columns column.at lower.now (upper.now ∷ []) cap × IsWithin meter.old cap)) result }
-        ensures no_overflow { meter.old.bits ≡ 127 → IsRowUpTo (2 ^ 62) lower.now → IsRowUpTo (2 ^ 62) upper.now → IsNoOverflow result }
+        ensures no_overflow { meter.old.bits ≡ 127 → IsRowUpTo paired_magnitude lower.now → IsRowUpTo paired_magnitude upper.now → IsNoOverflow result }
     {
         let a = lower.coefs.get(column.at);
         let b = upper.coefs.get(column.at).neg(meter);

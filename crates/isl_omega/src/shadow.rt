@@ -7,7 +7,7 @@ ghost use Rattle.isl_piece.specs.declared.row.Row.{Row};
 ghost use Rattle.isl_piece.specs.Row.{IsRowUpTo};
 ghost use Rattle.isl_omega.specs.Shadow.{last_splinter, neighbour_splinters, IsCapped, AreNeverMet, AreSplintersOf, IsShadowOf, LeavesSplinters, IsShadow};
 ghost use Rattle.isl_omega.specs.Sides.{IsLower, IsUpper};
-ghost use Rattle.isl_omega.specs.Magnitude.{IsNoOverflow};
+ghost use Rattle.isl_omega.specs.Magnitude.{IsNoOverflow, paired_magnitude};
 ghost use Rattle.isl_omega.specs.Units.{IsDoneFor};
 
 use crate::column::Column;
@@ -53,7 +53,7 @@ fn last_value(factor: Int, greatest: Int, meter: &mut Meter) -> Result<Int, Over
         (λ last. (greatest ≡ pos 0 → last ≡ negsuc 0) × (greatest ≢ pos 0 → last ≡ last_splinter factor greatest)
         × IsWithin meter.old last × (meter.new ≡ meter.old))
         (λ _. IsCutUpTo (pos 0) meter.old meter.new Cut.Overflow) }
-    ensures no_overflow { meter.old.bits ≡ 127 → unsigned_abs factor ≤ 2 ^ 62 → IfErr result (λ _. ⊥) }
+    ensures no_overflow { meter.old.bits ≡ 127 → unsigned_abs factor ≤ paired_magnitude → IfErr result (λ _. ⊥) }
 {
     if greatest.is_zero() {
         return Int::ZERO.sub(Int::ONE, meter);
@@ -122,7 +122,7 @@ fn shadow_of(
         rows.old rows.new left.last
         × IsWithin meter.old left.last
         × (IsTrue left.never → AreNeverMet uppers.now.column.columns uppers.now.column.at (lower.now ∷ []) uppers.now.rows.now)) result }
-    ensures no_overflow { meter.old.bits ≡ 127 → IsRowUpTo (2 ^ 62) lower.now → All (IsRowUpTo (2 ^ 62)) uppers.now.rows.now
+    ensures no_overflow { meter.old.bits ≡ 127 → IsRowUpTo paired_magnitude lower.now → All (IsRowUpTo paired_magnitude) uppers.now.rows.now
         → IsNoOverflow result }
 {
     let mut greatest = Int::ZERO;
@@ -149,7 +149,7 @@ fn tail_value(last: Int, factor: Int, neighbours: bool, meter: &mut Meter) -> Re
     ensures exact { MatchResult result
         (λ value. (value ≡ last +ℤ neighbour_splinters neighbours factor) × IsWithin meter.old value × (meter.new ≡ meter.old))
         (λ _. IsCutUpTo (pos 0) meter.old meter.new Cut.Overflow) }
-    ensures no_overflow { meter.old.bits ≡ 127 → unsigned_abs last ≤ 2 ^ 62 → unsigned_abs factor ≤ 2 ^ 62 → IfErr result (λ _. ⊥) }
+    ensures no_overflow { meter.old.bits ≡ 127 → unsigned_abs last ≤ paired_magnitude → unsigned_abs factor ≤ paired_magnitude → IfErr result (λ _. ⊥) }
 {
     if neighbours {
         last.add(factor, meter)
@@ -172,7 +172,7 @@ fn tail_of(
         (λ pair. LeavesSplinters meter.old uppers.now.column.columns uppers.now.column.at uppers.now.neighbours lower.now
         uppers.now.rows.now rows.old rows.new pair.0
         × (IsTrue pair.1 → AreNeverMet uppers.now.column.columns uppers.now.column.at (lower.now ∷ []) uppers.now.rows.now)) result }
-    ensures no_overflow { meter.old.bits ≡ 127 → IsRowUpTo (2 ^ 62) lower.now → All (IsRowUpTo (2 ^ 62)) uppers.now.rows.now
+    ensures no_overflow { meter.old.bits ≡ 127 → IsRowUpTo paired_magnitude lower.now → All (IsRowUpTo paired_magnitude) uppers.now.rows.now
         → IsNoOverflow result }
 {
     let left = shadow_of(alloc, lower, uppers, rows, meter)?;
@@ -200,7 +200,7 @@ fn least_tail(
     requires lower { IsLower meter.old column.columns column.at lower.now }
     ensures exact { IsDone meter.old meter.new
         (λ tail. (uppers : List Row) → AreSplintersOf meter.old column.at neighbours uppers lower.now tail) result }
-    ensures no_overflow { meter.old.bits ≡ 127 → IsRowUpTo (2 ^ 62) lower.now → IsNoOverflow result }
+    ensures no_overflow { meter.old.bits ≡ 127 → IsRowUpTo paired_magnitude lower.now → IsNoOverflow result }
 {
     let none = Int::ZERO.sub(Int::ONE, meter)?;
     let last = tail_value(none, lower.coefs.get(column.at), neighbours, meter)?;
@@ -221,7 +221,7 @@ fn least_tails(
     requires lowers { All (IsLower meter.old column.columns column.at) lowers.now }
     ensures exact { IsDone meter.old meter.new
         (λ tails. (uppers : List Row) → AllZip (AreSplintersOf meter.old column.at neighbours uppers) lowers.now tails.items) result }
-    ensures no_overflow { meter.old.bits ≡ 127 → All (IsRowUpTo (2 ^ 62)) lowers.now → IsNoOverflow result }
+    ensures no_overflow { meter.old.bits ≡ 127 → All (IsRowUpTo paired_magnitude) lowers.now → IsNoOverflow result }
 {
     let mut tails = Vec::new(alloc);
     for lower in lowers {
@@ -257,7 +257,7 @@ fn pairs_of(
         (λ pairs. IsShadow meter.old uppers.now.column.columns uppers.now.column.at uppers.now.neighbours lowers.now
         uppers.now.rows.now pairs.rows pairs.tails.items
         × (IsTrue pairs.never → AreNeverMet uppers.now.column.columns uppers.now.column.at lowers.now uppers.now.rows.now)) result }
-    ensures no_overflow { meter.old.bits ≡ 127 → All (IsRowUpTo (2 ^ 62)) lowers.now → All (IsRowUpTo (2 ^ 62)) uppers.now.rows.now
+    ensures no_overflow { meter.old.bits ≡ 127 → All (IsRowUpTo paired_magnitude) lowers.now → All (IsRowUpTo paired_magnitude) uppers.now.rows.now
         → IsNoOverflow result }
 {
     let mut rows = Rows::new(alloc);
@@ -289,7 +289,7 @@ pub fn shadow(
     ensures exact { IsDoneFor (length lowers.now * length uppers.now.rows.now) meter.old meter.new
         (λ pair. IsShadow meter.old uppers.now.column.columns uppers.now.column.at uppers.now.neighbours lowers.now
         uppers.now.rows.now pair.0 pair.1.items) result }
-    ensures no_overflow { meter.old.bits ≡ 127 → All (IsRowUpTo (2 ^ 62)) lowers.now → All (IsRowUpTo (2 ^ 62)) uppers.now.rows.now
+    ensures no_overflow { meter.old.bits ≡ 127 → All (IsRowUpTo paired_magnitude) lowers.now → All (IsRowUpTo paired_magnitude) uppers.now.rows.now
         → IsNoOverflow result }
 {
     let Pairs { rows, tails, never } = pairs_of(alloc, lowers, uppers, meter)?;

@@ -6,7 +6,7 @@ ghost use Rattle.isl_piece.specs.declared.row.Row.{Row};
 ghost use Rattle.isl_piece.specs.Row.{IsWellFormed, IsRowWithin, IsRowUpTo};
 ghost use Rattle.isl_omega.specs.Sides.{AreSided};
 ghost use Rattle.isl_omega.specs.Step.{IsStepOf};
-ghost use Rattle.isl_omega.specs.Magnitude.{IsNoOverflow, AreSidesUpTo, IsNoOverflowWith};
+ghost use Rattle.isl_omega.specs.Magnitude.{IsNoOverflow, AreSidesUpTo, IsNoOverflowWith, given_magnitude, substituted_magnitude};
 
 use crate::column::Column;
 use crate::congruence::merged;
@@ -38,9 +38,9 @@ impl Progression {
             (λ p. AreMergedTo meter.old column.columns column.at divides.now p.merged p.residual
             × IsProgressionOf column.columns column.at p.merged p.substitution.scale p.substitution.offsets
             × IsWithin meter.old p.substitution.scale × IsRowWithin meter.old p.substitution.offsets) result }
-        ensures no_overflow { meter.old.bits ≡ 127 → All (IsRowUpTo (2 ^ 30)) divides.now → length divides.now < 2 → IsNoOverflowWith
-            (λ p. IsRowUpTo (2 ^ 30) p.merged × (p.residual ≡ []) × (unsigned_abs p.substitution.scale ≤ 2 ^ 30)
-            × IsRowUpTo (2 ^ 30) p.substitution.offsets) result }
+        ensures no_overflow { meter.old.bits ≡ 127 → All (IsRowUpTo given_magnitude) divides.now → length divides.now < 2 → IsNoOverflowWith
+            (λ p. IsRowUpTo given_magnitude p.merged × (p.residual ≡ []) × (unsigned_abs p.substitution.scale ≤ given_magnitude)
+            × IsRowUpTo given_magnitude p.substitution.offsets) result }
     {
         let (one, others) = merged(alloc, divides, column, meter)?;
         let substitution = Substitution::of(alloc, &one, column, meter)?;
@@ -127,9 +127,9 @@ impl Progression {
         ensures exact { IsDone meter.old meter.new
             (IsSubstitutionOf meter.old column.columns column.at self.now.merged self.now.residual
             self.now.substitution.scale self.now.substitution.offsets sides.now) result }
-        ensures no_overflow { meter.old.bits ≡ 127 → unsigned_abs self.now.substitution.scale ≤ 2 ^ 30
-            → IsRowUpTo (2 ^ 30) self.now.substitution.offsets
-            → AreSidesUpTo (2 ^ 30) sides.now → IsNoOverflow result }
+        ensures no_overflow { meter.old.bits ≡ 127 → unsigned_abs self.now.substitution.scale ≤ given_magnitude
+            → IsRowUpTo given_magnitude self.now.substitution.offsets
+            → AreSidesUpTo given_magnitude sides.now → IsNoOverflow result }
     {
         let s = &self.substitution;
         let lowers = s.bounds(alloc, sides.lowers.as_slice(), column, meter)?;
@@ -162,8 +162,8 @@ pub fn congruence_step(
     requires sided { AreSided meter.old column.columns column.at sides.now }
     requires some { 0 < length sides.now.divides }
     ensures exact { IsDone meter.old meter.new (IsStepOf meter.old column.columns column.at sides.now) result }
-    ensures no_overflow { meter.old.bits ≡ 127 → AreSidesUpTo (2 ^ 30) sides.now → length sides.now.divides < 2
-        → IsNoOverflowWith (AreSidesUpTo (2 ^ 61)) result }
+    ensures no_overflow { meter.old.bits ≡ 127 → AreSidesUpTo given_magnitude sides.now → length sides.now.divides < 2
+        → IsNoOverflowWith (AreSidesUpTo substituted_magnitude) result }
 {
     let progression = Progression::of(alloc, sides.divides.as_slice(), column, meter)?;
     let new = progression.put(alloc, sides, column, meter)?;

@@ -5,7 +5,7 @@ ghost use Rattle.isl_meter.specs.Gauge.{IsWithin, IsDone};
 ghost use Rattle.isl_piece.specs.Row.{IsRowWithin, IsWellFormed, IsRowUpTo};
 ghost use Rattle.isl_piece.specs.declared.row.RowKind.TheVariants.{Divides};
 ghost use Rattle.isl_omega.specs.Substitution.{AreProgressionParts, offsets_of, IsProgressionOf, substituted};
-ghost use Rattle.isl_omega.specs.Magnitude.{IsNoOverflow, IsNoOverflowWith};
+ghost use Rattle.isl_omega.specs.Magnitude.{IsNoOverflow, IsNoOverflowWith, given_magnitude};
 
 use crate::column::Column;
 use crate::congruence::remainders;
@@ -44,7 +44,7 @@ fn offsets(alloc: Global, factor: Int, one: &Row, meter: &mut Meter) -> Result<R
     requires within { IsRowWithin meter.old one.now }
     requires modulus { pos 0 <ℤ one.now.k }
     ensures exact { IsDone meter.old meter.new (λ row. (row ≡ offsets_of factor one.now) × IsRowWithin meter.old row) result }
-    ensures no_overflow { meter.old.bits ≡ 127 → unsigned_abs factor ≤ 2 ^ 30 → IsRowUpTo (2 ^ 30) one.now → IsNoOverflow result }
+    ensures no_overflow { meter.old.bits ≡ 127 → unsigned_abs factor ≤ given_magnitude → IsRowUpTo given_magnitude one.now → IsNoOverflow result }
 {
     let k = one.modulus();
     let numbers = one.coefs.as_slice();
@@ -68,8 +68,8 @@ impl Substitution {
         ensures exact { IsDone meter.old meter.new
             (λ s. IsProgressionOf column.columns column.at one.now s.scale s.offsets × IsWithin meter.old s.scale
             × IsRowWithin meter.old s.offsets) result }
-        ensures no_overflow { meter.old.bits ≡ 127 → IsRowUpTo (2 ^ 30) one.now → IsNoOverflowWith
-            (λ s. (unsigned_abs s.scale ≤ 2 ^ 30) × IsRowUpTo (2 ^ 30) s.offsets) result }
+        ensures no_overflow { meter.old.bits ≡ 127 → IsRowUpTo given_magnitude one.now → IsNoOverflowWith
+            (λ s. (unsigned_abs s.scale ≤ given_magnitude) × IsRowUpTo given_magnitude s.offsets) result }
     {
         let k = one.modulus();
         let (scale, factor) = parts(one.coefs.get(column.at), k, meter);
@@ -98,8 +98,8 @@ impl Substitution {
         requires offsets_width { length self.now.offsets.coefs ≡ column.columns }
         ensures exact { IsDone meter.old meter.new
             (λ moved. (moved ≡ substituted self.now.scale self.now.offsets column.at row.now) × IsRowWithin meter.old moved) result }
-        ensures no_overflow { meter.old.bits ≡ 127 → unsigned_abs self.now.scale ≤ 2 ^ 30 → IsRowUpTo (2 ^ 30) self.now.offsets
-            → IsRowUpTo (2 ^ 30) row.now → IsNoOverflow result }
+        ensures no_overflow { meter.old.bits ≡ 127 → unsigned_abs self.now.scale ≤ given_magnitude → IsRowUpTo given_magnitude self.now.offsets
+            → IsRowUpTo given_magnitude row.now → IsNoOverflow result }
     {
         combination(
             alloc,
@@ -122,8 +122,8 @@ impl Substitution {
         ensures exact { IsDone meter.old meter.new
             (λ moved. IsMovedBound column.columns column.at self.now.scale self.now.offsets row.now moved
             × IsRowWithin meter.old moved) result }
-        ensures no_overflow { meter.old.bits ≡ 127 → unsigned_abs self.now.scale ≤ 2 ^ 30 → IsRowUpTo (2 ^ 30) self.now.offsets
-            → IsRowUpTo (2 ^ 30) row.now → IsNoOverflow result }
+        ensures no_overflow { meter.old.bits ≡ 127 → unsigned_abs self.now.scale ≤ given_magnitude → IsRowUpTo given_magnitude self.now.offsets
+            → IsRowUpTo given_magnitude row.now → IsNoOverflow result }
     {
         let moved = self.put(alloc, row, column, meter)?;
         Ok(tightened(alloc, moved, column.columns, meter)?)
@@ -146,8 +146,8 @@ impl Substitution {
         ensures exact { IsDone meter.old meter.new
             (λ moved. AllZip (IsMovedBound column.columns column.at self.now.scale self.now.offsets) rows.now moved
             × All (IsRowWithin meter.old) moved) result }
-        ensures no_overflow { meter.old.bits ≡ 127 → unsigned_abs self.now.scale ≤ 2 ^ 30 → IsRowUpTo (2 ^ 30) self.now.offsets
-            → All (IsRowUpTo (2 ^ 30)) rows.now → IsNoOverflow result }
+        ensures no_overflow { meter.old.bits ≡ 127 → unsigned_abs self.now.scale ≤ given_magnitude → IsRowUpTo given_magnitude self.now.offsets
+            → All (IsRowUpTo given_magnitude) rows.now → IsNoOverflow result }
     {
         let mut moved = Rows::new(alloc);
         for row in rows {
@@ -171,8 +171,8 @@ impl Substitution {
         ensures exact { IsDone meter.old meter.new
             (λ moved. (moved ≡ map (substituted self.now.scale self.now.offsets column.at) rows.now)
             × All (IsRowWithin meter.old) moved) result }
-        ensures no_overflow { meter.old.bits ≡ 127 → unsigned_abs self.now.scale ≤ 2 ^ 30 → IsRowUpTo (2 ^ 30) self.now.offsets
-            → All (IsRowUpTo (2 ^ 30)) rows.now → IsNoOverflow result }
+        ensures no_overflow { meter.old.bits ≡ 127 → unsigned_abs self.now.scale ≤ given_magnitude → IsRowUpTo given_magnitude self.now.offsets
+            → All (IsRowUpTo given_magnitude) rows.now → IsNoOverflow result }
     {
         let mut moved = Rows::new(alloc);
         for row in rows {

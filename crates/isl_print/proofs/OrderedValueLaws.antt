@@ -1,6 +1,6 @@
 -- A value in printed order is the same value, with the same text.
-use Rattle.std.proofs.Common.{◌≡◌, ◌↔◌, inl, inr, ◌∙◌, ℤ, Bool, true, false, List, [], ◌∷◌, ◌++◌, Option, Some, None, All, Any, map, ap}
-use Rattle.std.proofs.Common.{sym, subst, refl, arith}
+use Rattle.std.proofs.Common.{◌≡◌, ◌↔◌, inl, inr, ◌∙◌, ◌+◌, ℤ, Bool, true, false, List, [], ◌∷◌, ◌++◌, Option, Some, None, All, Any, map}
+use Rattle.std.proofs.Common.{ap, length, sym, subst, refl, arith}
 use Rattle.std.specs.Prelude.{if◌then◌else◌, option_map, IfSome}
 use Rattle.std.specs.List.Sorted.{IsPermutation}
 use Rattle.std.specs.Cmp.{IsStrictWeakOrder}
@@ -13,11 +13,13 @@ use Rattle.isl_space.specs.Name.{Name}
 use Rattle.isl_space.specs.Valuation.{Valuation}
 use Rattle.isl_space.specs.Element.{Element}
 use Rattle.isl_piece.specs.declared.row.Row.{Row}
+use Rattle.isl_piece.specs.Definition.{with_defined}
 use Rattle.isl_piece.specs.Row.{HoldsRow, IsWellFormed, HasModulus}
 use Rattle.isl_piece.specs.Normal.{normal_row, normal_rows, kept_rows, merged, same_bound, IsNormal, Kept}
 use Rattle.isl_piece.proofs.MergeLaws.{SameBound, same_bound-true, same_bound-from, AreApart, fold_apart}
 use Rattle.isl_piece.proofs.NormalLaws.{IsNormal-from}
-use Rattle.isl_union.specs.KeptValue.{KeptPiece, KeptValue, HasElement, Has, point_of, columns_of, IsKeptPiece, IsKeptValue}
+use Rattle.isl_union.specs.KeptValue.{KeptPiece, KeptValue, HasElement, Has, HasNoDefinitions, IsKeptPiece, IsKeptValue}
+use Rattle.isl_union.specs.KeptValue.{point_of, columns_of}
 use Rattle.isl_print.specs.Naming.{coordinate_names, column_names}
 use Rattle.isl_print.specs.Ordered.{placed, in_order}
 use Rattle.isl_print.specs.OrderedValue.{ordered_piece, ordered}
@@ -122,11 +124,17 @@ normal_in_order rows divisors normal =
 
 -- ---- pieces and values
 kept_in_order : (params : List Name) (piece : KeptPiece) → IsKeptPiece params piece → IsKeptPiece params (ordered_piece piece)
-kept_in_order params piece kept = record {
-  space = kept.space;
-  rows = All-in_order row_before (IsWellFormed (columns_of params piece.space)) piece.rows kept.rows;
-  normal = normal_in_order piece.rows (All-weaker (IsWellFormed (columns_of params piece.space)) (λ r. HasModulus r.kind r.k) (λ r h. h.modulus) piece.rows kept.rows) kept.normal;
-}
+kept_in_order params piece kept =
+    let formed : Row → Type 0 = IsWellFormed (length piece.definitions + columns_of params piece.space) in
+    record {
+      space = kept.space;
+      definitions = kept.definitions;
+      rows = All-in_order row_before formed piece.rows kept.rows;
+      normal = normal_in_order piece.rows (All-weaker formed (λ r. HasModulus r.kind r.k) (λ r h. h.modulus) piece.rows kept.rows)
+          kept.normal;
+      live = λ void. kept.live (λ point long holds.
+          void point long (All-in_order row_before (λ r. HoldsRow r (with_defined piece.definitions point)) piece.rows holds));
+    }
 
 pub IsKeptValue-ordered : (value : KeptValue) → IsKeptValue value → IsKeptValue (ordered value)
 IsKeptValue-ordered value kept = record {
@@ -135,6 +143,11 @@ IsKeptValue-ordered value kept = record {
       (All-weaker (IsKeptPiece value.params) (λ p. IsKeptPiece value.params (ordered_piece p)) (kept_in_order value.params) (in_order piece_before value.pieces)
       (All-in_order piece_before (IsKeptPiece value.params) value.pieces kept.pieces));
 }
+
+pub HasNoDefinitions-ordered : (value : KeptValue) → HasNoDefinitions value → HasNoDefinitions (ordered value)
+HasNoDefinitions-ordered value none =
+    let P : KeptPiece → Type 0 = λ piece. piece.definitions ≡ [] in
+    All-map P ordered_piece (in_order piece_before value.pieces) (All-in_order piece_before P value.pieces none)
 
 piece_text-ordered : (params : List Name) (piece : KeptPiece) → piece_text params (ordered_piece piece) ≡ piece_text params piece
 piece_text-ordered params piece =
@@ -155,17 +168,19 @@ printed-ordered value =
     ∙ ap (λ ts. params_text value.params ++ pieces_text ts) (piece_texts-ordered value.params pieces)
 
 module _ (params : List Name) (valuation : Valuation) (element : Element) where
-  abbrev point : List ℤ
-  point = point_of params valuation element
+  abbrev point : KeptPiece → List ℤ
+  point piece = with_defined piece.definitions (point_of params valuation element)
 
   in_ordered : (piece : KeptPiece) → HasElement params valuation element piece → HasElement params valuation element (ordered_piece piece)
   in_ordered piece has =
-      record { numbers = has.numbers; space = has.space; holds = All-in_order row_before (λ r. HoldsRow r point) piece.rows has.holds }
+      let holds = All-in_order row_before (λ r. HoldsRow r (point piece)) piece.rows has.holds in
+      record { numbers = has.numbers; space = has.space; holds = holds }
 
   out_of_ordered : (piece : KeptPiece) → HasElement params valuation element (ordered_piece piece)
       → HasElement params valuation element piece
   out_of_ordered piece has =
-      record { numbers = has.numbers; space = has.space; holds = All-out_of_order row_before (λ r. HoldsRow r point) piece.rows has.holds }
+      let holds = All-out_of_order row_before (λ r. HoldsRow r (point piece)) piece.rows has.holds in
+      record { numbers = has.numbers; space = has.space; holds = holds }
 
 pub Has-ordered : (value : KeptValue) (valuation : Valuation) (element : Element)
     → Has (ordered value) valuation element ↔ Has value valuation element

@@ -9,9 +9,10 @@ use Rattle.std.proofs.lemmas.List.Elements.{All-from_recursion, recursion_from_A
 use Rattle.isl_space.specs.Name.{Name}
 use Rattle.isl_space.specs.Form.{width_of}
 use Rattle.isl_space.specs.SpaceForm.{SpaceForm, set_of, map_of, coordinates_of}
+use Rattle.isl_piece.specs.declared.definition.Definition.{Definition}
 use Rattle.isl_piece.specs.declared.row.Row.{Row}
 use Rattle.isl_piece.specs.Row.{IsWellFormed}
-use Rattle.isl_union.specs.KeptValue.{KeptPiece, KeptValue, columns_of}
+use Rattle.isl_union.specs.KeptValue.{KeptPiece, KeptValue, IsKeptPiece, columns_of}
 use Rattle.isl_print.specs.Joined.{Text, each_after}
 use Rattle.isl_print.specs.Naming.{numbered, coordinate_names, column_names}
 use Rattle.isl_print.specs.Ordered.{placed, in_order}
@@ -69,6 +70,14 @@ pub All-map_back : {X Y : Type 0} (f : X → Y) (P : Y → Type 0) (xs : List X)
     → All (λ x. P (f x)) xs
 All-map_back f P xs ys is all =
     All-from_recursion (λ x. P (f x)) xs (all_map_back f P xs (recursion_from_All P (map f xs) (subst (All P) (sym is) all)))
+
+-- where a piece defines no column, its rows are over the parameters and coordinates alone
+pub rows_formed : (params : List Name) (piece : KeptPiece) → IsKeptPiece params piece → piece.definitions ≡ []
+    → All (IsWellFormed (columns_of params piece.space)) piece.rows
+rows_formed params piece kept none =
+    let count = ap (length {A = Definition}) none in
+    let wide : length piece.definitions + columns_of params piece.space ≡ columns_of params piece.space = omega (arith, count) in
+    subst (λ n. All (IsWellFormed n) piece.rows) wide kept.rows
 
 -- each row has a name for each of its coefficients
 pub rows_enough : {A : Type 0} (f : A → Row) (params names : List Name) (space : SpaceForm) (rows : List Row) (ordered : List A)

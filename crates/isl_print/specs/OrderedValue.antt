@@ -7,7 +7,7 @@ use Rattle.isl_print.specs.RowOrder.{row_before}
 
 -- the piece with its rows in order
 abbrev pub ordered_piece : KeptPiece → KeptPiece
-ordered_piece piece = record { space = piece.space; rows = in_order row_before piece.rows }
+ordered_piece piece = record { space = piece.space; definitions = piece.definitions; rows = in_order row_before piece.rows }
 
 -- the value with its pieces in order, and the rows of each
 abbrev pub ordered : KeptValue → KeptValue

@@ -6,7 +6,7 @@ ghost use Rattle.isl_space.specs.Names.{AreDistinct, IsParameterList};
 ghost use Rattle.isl_space.specs.SpaceForm.{SpaceForm, IsNarrowSpace};
 ghost use Rattle.isl_space.specs.Valuation.{Valuation};
 ghost use Rattle.isl_space.specs.Element.{Element};
-ghost use Rattle.isl_union.specs.KeptValue.{KeptValue, Has, IsKeptValue};
+ghost use Rattle.isl_union.specs.KeptValue.{KeptValue, Has, HasNoDefinitions, IsKeptValue};
 ghost use Rattle.isl_print.specs.Naming.{column_names};
 ghost use Rattle.isl_print.specs.OrderedValue.{ordered};
 ghost use Rattle.isl_print.specs.Printed.{printed};
@@ -20,6 +20,7 @@ pub fn columns_have_names()
 /// The order in which a value is printed changes neither its elements nor its text.
 pub fn order_keeps_values()
     ensures kept { (value : KeptValue) → IsKeptValue value → IsKeptValue (ordered value) }
+    ensures definitions { (value : KeptValue) → HasNoDefinitions value → HasNoDefinitions (ordered value) }
     ensures elements { (value : KeptValue) (valuation : Valuation) (element : Element) → Has (ordered value) valuation element ↔ Has value valuation element }
     ensures text { (value : KeptValue) → printed (ordered value) ≡ printed value }
 {}

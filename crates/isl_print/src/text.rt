@@ -1,7 +1,7 @@
 //! Values as text.
 
-ghost use Rattle.std.specs.Prelude.{◌≡◌, ◌≤◌, ◌++◌, All, length, map, codes, IfOk, OnOk, string_bytes};
-ghost use Rattle.isl_union.specs.KeptValue.{IsKeptPiece};
+ghost use Rattle.std.specs.Prelude.{◌≡◌, ◌≤◌, [], ◌++◌, All, length, map, codes, IfOk, OnOk, string_bytes};
+ghost use Rattle.isl_union.specs.KeptValue.{HasNoDefinitions, IsKeptPiece};
 ghost use Rattle.isl_union.specs.Piece.{kept_piece};
 ghost use Rattle.isl_print.specs.Joined.{each_after};
 ghost use Rattle.isl_print.specs.RowText.{row_text, conjunction_text};
@@ -50,7 +50,8 @@ fn write_piece(
     params: &Params,
     piece: &Piece,
 ) -> Result<(), AllocError>
-    requires { IsKeptPiece params.now (kept_piece piece.now) }
+    requires kept { IsKeptPiece params.now (kept_piece piece.now) }
+    requires definitions { piece.now.system.definitions ≡ [] }
     ensures { OnOk result (string_bytes out.new ≡ string_bytes out.old ++ piece_text params.now (kept_piece piece.now)) }
 {
     let space = piece.space();
@@ -68,7 +69,8 @@ fn write_rest_of_pieces(
     params: &Params,
     pieces: &[Titled],
 ) -> Result<(), AllocError>
-    requires { All (λ titled. IsKeptPiece params.now (kept_piece titled.piece.now)) pieces.now }
+    requires kept { All (λ titled. IsKeptPiece params.now (kept_piece titled.piece.now)) pieces.now }
+    requires definitions { All (λ titled. titled.piece.now.system.definitions ≡ []) pieces.now }
     ensures { OnOk result (string_bytes out.new ≡ string_bytes out.old ++ each_after (codes "; ") (map (λ titled. piece_text params.now (kept_piece titled.piece.now)) pieces.now)) }
 {
     for titled in pieces {
@@ -85,7 +87,8 @@ fn write_pieces(
     params: &Params,
     pieces: &[Titled],
 ) -> Result<(), AllocError>
-    requires { All (λ titled. IsKeptPiece params.now (kept_piece titled.piece.now)) pieces.now }
+    requires kept { All (λ titled. IsKeptPiece params.now (kept_piece titled.piece.now)) pieces.now }
+    requires definitions { All (λ titled. titled.piece.now.system.definitions ≡ []) pieces.now }
     ensures { OnOk result (string_bytes out.new ≡ string_bytes out.old ++ pieces_text (map (λ titled. piece_text params.now (kept_piece titled.piece.now)) pieces.now)) }
 {
     match pieces {

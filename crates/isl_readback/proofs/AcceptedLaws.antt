@@ -11,7 +11,7 @@ use Rattle.isl_tree.specs.declared.tree.Literal.{Literal}
 use Rattle.isl_text.specs.Limits.{is_within}
 use Rattle.isl_text.specs.Literal.{literal_grammar}
 use Rattle.isl_text.specs.Read.{Answers, IsLiteralAt, has_wide_number, judged}
-use Rattle.isl_eval.specs.State.{HasNumbersUpTo}
+use Rattle.isl_union.specs.Numbers.{HasNumbersUpTo}
 use Rattle.isl_readback.specs.Tree.{printed_tree}
 use Rattle.isl_readback.specs.RoundTrip.{IsWritableValue}
 use Rattle.isl_readback.specs.Accepted.{HasQuietNames, IsAccepted}

@@ -14,7 +14,7 @@ use Rattle.isl_token.specs.TokenView.{Token}
 use Rattle.isl_token.specs.declared.token.Kind.{Kind}
 use Rattle.isl_token.specs.Token.{word_kind, sign_kind}
 use Rattle.isl_token.specs.Depth.{stacking_words, step_by, step, start, depths}
-use Rattle.isl_eval.specs.State.{HasNumbersUpTo}
+use Rattle.isl_union.specs.Numbers.{HasNumbersUpTo}
 use Rattle.isl_readback.specs.Accepted.{IsQuiet, IsQuietForm, IsQuietSpace, HasQuietNames}
 use Rattle.isl_readback.specs.RoundTrip.{IsWritableValue}
 use Rattle.isl_readback.proofs.TokenLaws.{Tokens, sign, word, number}

@@ -1,23 +1,29 @@
 -- The value of a plain literal is one that a plain literal can write.
 use mathlib.Core.Former.{Count}
 use Rattle.std.proofs.Common.{◌≡◌, inl, inr, ◌≤◌, ◌+◌, ◌-◌, ◌^◌, ℕ, ℤ, Bool, true, false, List, [], ◌∷◌, Option, Some, None, option_map, IfSome, length, get_or, sym, subst, refl, arith, pow_mono}
-use Rattle.std.specs.Prelude.{◌&&◌, ◌||◌, is_some, is_none}
+use Rattle.std.specs.Prelude.{◌&&◌, ◌||◌, is_some, is_none, unsigned_abs}
 use Rattle.std.specs.List.{All, filter_map, cons_option}
 use Rattle.std.proofs.lemmas.Bool.{and_parts, false≢true}
-use Rattle.std.proofs.lemmas.List.Elements.{All-nil, All-cons, All-head, All-tail, All-append, All-map}
+use Rattle.std.proofs.lemmas.List.Elements.{All-nil, All-cons, All-head, All-tail, All-append, All-map, All-weaker}
 use Rattle.isl_math.proofs.ListLaws.{All-pass}
 use Rattle.isl_meter.specs.Gauge.{Gauge}
+use Rattle.isl_space.specs.Name.{Name}
+use Rattle.isl_space.specs.Names.{IsParameterList}
 use Rattle.isl_space.specs.SpaceForm.{SpaceForm, IsWellFormedSpace}
+use Rattle.isl_piece.specs.declared.definition.Definition.{Definition}
 use Rattle.isl_piece.specs.declared.row.RowKind.{RowKind}
 use Rattle.isl_piece.specs.declared.row.RowKind.TheVariants.{Zero, AtLeast, Divides, NotDivides}
 use Rattle.isl_piece.specs.declared.row.Row.{Row}
+use Rattle.isl_piece.specs.Formed.{IsDefinitionUpTo}
 use Rattle.isl_piece.specs.Row.{IsWellFormed}
 use Rattle.isl_piece.specs.Normal.{normal_form, normal_rows, IsNormal}
 use Rattle.isl_piece.proofs.NormalCases.{normal_zero_by, normal_at_least_by}
 use Rattle.isl_piece.proofs.NormalLaws.{normal_rows_all, normal_rows_well_formed, normal_rows_normal}
-use Rattle.isl_piece.proofs.RowMagnitudes.{row_more}
+use Rattle.isl_piece.proofs.RowMagnitudes.{rows_more}
 use Rattle.isl_piece.proofs.ShapeLaws.{IfKept}
-use Rattle.isl_union.specs.KeptValue.{KeptPiece, KeptValue, IsKeptPiece, IsKeptValue}
+use Rattle.isl_union.specs.KeptValue.{KeptPiece, KeptValue, IsKeptPiece, IsKeptValue, IsLive, columns_of}
+use Rattle.isl_union.specs.Numbers.{HasNumbersUpTo, IsWithinLimit}
+use Rattle.isl_union.proofs.LiveLaws.{live_all}
 use Rattle.isl_token.specs.Number.{too_great}
 use Rattle.isl_tree.specs.declared.tree.Signed.{Signed}
 use Rattle.isl_tree.specs.declared.tree.Compare.{Compare}
@@ -32,12 +38,11 @@ use Rattle.isl_tree.specs.Plain.{is_plain_tuple, second_is_plain, is_plain_formu
 use Rattle.isl_text.specs.Formed.{are_sets, are_maps, are_alike}
 use Rattle.isl_lower.specs.Linear.{Place}
 use Rattle.isl_lower.specs.Rows.{Written, kind_of_compare, equation, written_entries, written_links, written_chains, written_formula, written_body, written_piece, piece_width, piece_place, added, rows_written}
-use Rattle.isl_lower.specs.Value.{IsWellFormedLiteral, piece_lowered, value_lowered, IsValueWithin}
-use Rattle.isl_lower.proofs.ValueLaws.{written_formed, written_moduli, columns_are}
-use Rattle.isl_eval.specs.State.{HasNumbersUpTo}
-use Rattle.isl_eval.proofs.KeptLaws.{value_up_to}
+use Rattle.isl_lower.specs.Value.{IsLowered, IsWellFormedLiteral, piece_lowered, value_lowered}
+use Rattle.isl_lower.proofs.ValueLaws.{lowered_plain, written_formed, written_moduli, columns_are}
 use Rattle.isl_readback.specs.Written.{IsComparison, HasComparisons, IsSet, IsMap, IsUniform, IsLeaf, IsFlatSpace, IsFlat}
 use Rattle.isl_readback.specs.RoundTrip.{IsWritableValue}
+use Rattle.isl_readback.proofs.WrittenLaws.{undefined}
 
 -- ---- each row that is written is an equation or an inequality
 Compares : Written → Type 0
@@ -126,17 +131,23 @@ all_kept params P (piece ∷ pieces) h = by (piece_lowered params piece) (All-he
     by (Some kept) p more = All-cons P kept (filter_map (piece_lowered params) pieces) p more
 
 -- of the rows
-kept_rows_have : (space : SpaceForm) (Q : List Row → Type 0) (o : Option (List Row)) → IfSome o Q → IfSome (option_map (λ (rows : List Row). record { space = space; rows = rows }) o) (λ (p : KeptPiece). Q p.rows)
+kept_rows_have : (space : SpaceForm) (Q : List Row → Type 0) (o : Option (List Row)) → IfSome o Q
+    → IfSome (option_map (undefined space) o) (λ (p : KeptPiece). Q p.rows)
 kept_rows_have space Q None h = tt
 kept_rows_have space Q (Some rows) h = h
 
 -- of the space
-kept_space_has : (space : SpaceForm) (Q : SpaceForm → Type 0) (o : Option (List Row)) → Q space → IfSome (option_map (λ (rows : List Row). record { space = space; rows = rows }) o) (λ (p : KeptPiece). Q p.space)
+kept_space_has : (space : SpaceForm) (Q : SpaceForm → Type 0) (o : Option (List Row)) → Q space
+    → IfSome (option_map (undefined space) o) (λ (p : KeptPiece). Q p.space)
 kept_space_has space Q None h = tt
 kept_space_has space Q (Some rows) h = h
 
--- ---- the whole value
+-- what the normal pieces have, those of them have that are kept
+pub lowered_have : (literal : Literal) (value : KeptValue) (P : KeptPiece → Type 0) → IsLowered literal value → All P (value_lowered literal).pieces
+    → All P value.pieces
+lowered_have literal value P is = live_all literal.params P P (λ piece have live. have) (value_lowered literal).pieces value.pieces is.pieces
 
+-- ---- the whole value
 pub comparisons : (literal : Literal) → is_plain literal ≡ true → HasComparisons (value_lowered literal)
 comparisons literal plain =
     all_kept literal.params (λ p. All (λ row. IsComparison row.kind) p.rows) literal.pieces (λ i d low.
@@ -178,51 +189,76 @@ maps_lowered literal maps = all_kept literal.params (λ p. IsMap p.space) litera
     let piece = get_or literal.pieces i d in
     kept_space_has (space_of_piece piece) IsMap (normal_rows (rows_written literal.params piece)) (map_of_some piece piece.second refl (All-pass (λ p. is_some p.second) literal.pieces maps i d low)))
 
-uniform : (literal : Literal) → are_alike literal.pieces ≡ true → IsUniform (value_lowered literal)
-uniform literal alike = by (are_sets literal.pieces) refl alike
+uniform : (literal : Literal) (value : KeptValue) → are_alike literal.pieces ≡ true → IsLowered literal value → IsUniform value
+uniform literal value alike is = by (are_sets literal.pieces) refl alike
   where
-    by : (b : Bool) → are_sets literal.pieces ≡ b → (b || are_maps literal.pieces) ≡ true → IsUniform (value_lowered literal)
-    by true sets e = inl (sets_lowered literal sets)
-    by false sets maps = inr (maps_lowered literal maps)
+    by : (b : Bool) → are_sets literal.pieces ≡ b → (b || are_maps literal.pieces) ≡ true → IsUniform value
+    by true sets e = inl (lowered_have literal value (λ p. IsSet p.space) is (sets_lowered literal sets))
+    by false sets maps = inr (lowered_have literal value (λ p. IsMap p.space) is (maps_lowered literal maps))
 
-pub kept : (literal : Literal) → is_plain literal ≡ true → IsWellFormedLiteral literal → IsKeptValue (value_lowered literal)
-kept literal plain formed = record {
-  params = formed.params;
-  pieces = all_kept literal.params (IsKeptPiece literal.params) literal.pieces (λ i d low.
+-- a normal piece may be kept where it has an element
+KeptWhere : List Name → KeptPiece → Type 0
+KeptWhere params piece = IsLive params piece → IsKeptPiece params piece
+
+kept : (literal : Literal) (value : KeptValue) → is_plain literal ≡ true → IsWellFormedLiteral literal → IsLowered literal value → IsKeptValue value
+unfolding KeptWhere
+kept literal value plain formed is = record {
+  params = subst IsParameterList (sym is.params) formed.params;
+  pieces = subst (λ (names : List Name). All (IsKeptPiece names) value.pieces) (sym is.params)
+      (live_all literal.params (KeptWhere literal.params) (IsKeptPiece literal.params) (λ piece have live. have live) (value_lowered literal).pieces
+      value.pieces is.pieces
+      (all_kept literal.params (KeptWhere literal.params) literal.pieces (λ i d low.
       let piece = get_or literal.pieces i d in
-      piece_kept literal.params piece (All-pass is_plain_piece literal.pieces plain i d low) (formed.spaces i d low));
+      piece_kept literal.params piece (All-pass is_plain_piece literal.pieces plain i d low) (formed.spaces i d low))));
 }
   where
-    by : (params : List (List ℕ)) (piece : PieceTree) (o : Option (List Row)) → IsWellFormedSpace (space_of_piece piece) → is_plain_piece piece ≡ true → IfSome o (All (IsWellFormed (piece_width params piece))) → IfSome o IsNormal
-        → IfSome (option_map (λ (rows : List Row). record { space = space_of_piece piece; rows = rows }) o) (IsKeptPiece params)
+    by : (params : List Name) (piece : PieceTree) (o : Option (List Row)) → IsWellFormedSpace (space_of_piece piece) → is_plain_piece piece ≡ true
+        → IfSome o (All (IsWellFormed (piece_width params piece))) → IfSome o IsNormal
+        → IfSome (option_map (undefined (space_of_piece piece)) o) (KeptWhere params)
     by params piece None space plain_piece rows normal = tt
-    by params piece (Some kept_rows) space plain_piece rows normal = record {
-      space = space;
-      rows = subst (λ (n : ℕ). All (IsWellFormed n) kept_rows) (sym (columns_are params piece plain_piece)) rows;
-      normal = normal;
-    }
+    by params piece (Some kept_rows) space plain_piece rows normal = λ live.
+        let wide : piece_width params piece ≡ 0 + columns_of params (space_of_piece piece) = omega (arith, columns_are params piece plain_piece) in
+        record {
+          space = space;
+          definitions = tt;
+          rows = subst (λ (n : ℕ). All (IsWellFormed n) kept_rows) wide rows;
+          normal = normal;
+          live = live;
+        }
 
-    piece_kept : (params : List (List ℕ)) (piece : PieceTree) → is_plain_piece piece ≡ true → IsWellFormedSpace (space_of_piece piece) → IfSome (piece_lowered params piece) (IsKeptPiece params)
+    piece_kept : (params : List Name) (piece : PieceTree) → is_plain_piece piece ≡ true → IsWellFormedSpace (space_of_piece piece)
+        → IfSome (piece_lowered params piece) (KeptWhere params)
     piece_kept params piece plain_piece space =
         let n = piece_width params piece in
-        let rows = written_formed params piece in
-        by params piece (normal_rows (rows_written params piece)) space plain_piece (normal_rows_well_formed n (rows_written params piece) rows) (normal_rows_normal (rows_written params piece) (written_moduli params piece (rows_written params piece) refl))
+        let rows = rows_written params piece in
+        by params piece (normal_rows rows) space plain_piece (normal_rows_well_formed n rows (written_formed params piece))
+        (normal_rows_normal rows (written_moduli params piece rows refl))
 
 -- numbers up to a limit are up to a greater one
-pub numbers_more : (m n : ℕ) (value : KeptValue) → m ≤ n → HasNumbersUpTo m value → HasNumbersUpTo n value
-numbers_more m n value less small i d low = λ j e inside. row_more m n (get_or (get_or value.pieces i d).rows j e) less (small i d low j e inside)
+definition_more : (m n : ℕ) (d : Definition) → m ≤ n → IsDefinitionUpTo m d → IsDefinitionUpTo n d
+definition_more m n d less small = record {
+  coefs = All-weaker (λ c. unsigned_abs c ≤ m) (λ c. unsigned_abs c ≤ n) (λ c p. omega (arith, p, less)) d.coefs small.coefs;
+  constant = let p = small.constant in omega (arith, p, less);
+  k = let p = small.k in omega (arith, p, less);
+}
 
-pub shown_writable : (g : Gauge) (literal : Literal) → g.bits ≤ 127 → is_plain literal ≡ true → IsWellFormedLiteral literal → are_alike literal.pieces ≡ true → HasNumbersUpTo (2 ^ g.bits - 1) (value_lowered literal)
-    → IsWritableValue (value_lowered literal)
-shown_writable g literal bits plain formed alike small =
-    let large : 2 ^ g.bits ≤ 2 ^ 127 = pow_mono bits in
-    record {
-      kept = kept literal plain formed;
-      comparisons = comparisons literal plain;
-      numbers = numbers_more (2 ^ g.bits - 1) (too_great - 1) (value_lowered literal) (omega (arith, large)) small;
-      uniform = uniform literal alike;
-      flat = flat literal plain;
+pub numbers_more : (m n : ℕ) (value : KeptValue) → m ≤ n → HasNumbersUpTo m value → HasNumbersUpTo n value
+numbers_more m n value less small i d low =
+    let piece = get_or value.pieces i d in record {
+      rows = rows_more m n piece.rows less (small i d low).rows;
+      definitions = All-weaker (IsDefinitionUpTo m) (IsDefinitionUpTo n) (λ e p. definition_more m n e less p) piece.definitions
+          (small i d low).definitions;
     }
 
-pub lowered_writable : (g : Gauge) (literal : Literal) → g.bits ≤ 127 → is_plain literal ≡ true → IsWellFormedLiteral literal → are_alike literal.pieces ≡ true → IsValueWithin g (value_lowered literal) → IsWritableValue (value_lowered literal)
-lowered_writable g literal bits plain formed alike within = shown_writable g literal bits plain formed alike (value_up_to g (value_lowered literal) within)
+pub lowered_writable : (g : Gauge) (literal : Literal) (value : KeptValue) → g.bits ≤ 127 → is_plain literal ≡ true → IsWellFormedLiteral literal
+    → are_alike literal.pieces ≡ true → IsLowered literal value → IsWithinLimit g value → IsWritableValue value
+lowered_writable g literal value bits plain formed alike is small =
+    let large : 2 ^ g.bits ≤ 2 ^ 127 = pow_mono bits in
+    record {
+      kept = kept literal value plain formed is;
+      definitions = lowered_plain literal value is;
+      comparisons = lowered_have literal value (λ p. All (λ row. IsComparison row.kind) p.rows) is (comparisons literal plain);
+      numbers = numbers_more (2 ^ g.bits - 1) (too_great - 1) value (omega (arith, large)) small;
+      uniform = uniform literal value alike is;
+      flat = lowered_have literal value (λ p. IsFlatSpace p.space) is (flat literal plain);
+    }

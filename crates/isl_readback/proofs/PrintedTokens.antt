@@ -23,7 +23,7 @@ use Rattle.isl_print.specs.RowOrder.{row_before}
 use Rattle.isl_print.specs.Sum.{share, terms_of}
 use Rattle.isl_print.proofs.TextLaws.{All-in_order}
 use Rattle.isl_token.specs.TokenView as token
-use Rattle.isl_eval.specs.State.{HasNumbersUpTo}
+use Rattle.isl_union.specs.Numbers.{HasNumbersUpTo}
 use Rattle.isl_readback.specs.Written.{IsComparison, IsLeaf, IsFlatSpace}
 use Rattle.isl_readback.specs.RoundTrip.{IsWritableValue}
 use Rattle.isl_readback.proofs.TokenLaws.{Tokens, sign, word, number, each_tokens, joined_tokens, term_tokens, constant_tokens, sum_tokens, side_tokens, relation_tokens, kind_tokens, row_tokens, conjunction_tokens, name_tokens, names_tokens, tuple_tokens, tuples_tokens}
@@ -250,7 +250,7 @@ module _ (limit : ℕ) (IsCalm : Name → Type 0) where
         let pieces = in_order piece_before value.pieces in
         let declared = recursion_from_All IsCalm value.params params in
         let calm : All (IsCalmPiece value.params) value.pieces =
-        λ i d low. record { compares = writable.comparisons i d low; numbers = numbers i d low; flat = writable.flat i d low; names = names i d low } in
+        λ i d low. record { compares = writable.comparisons i d low; numbers = (numbers i d low).rows; flat = writable.flat i d low; names = names i d low } in
         let each = recursion_from_All (IsCalmPiece value.params) pieces (All-in_order piece_before (IsCalmPiece value.params) value.pieces calm) in
         outside.both (params_tokens value.params) (pieces_tokens (map (piece_tokens value.params) pieces)) (params_outside value.params declared)
         (braces_outside (map (piece_tokens value.params) pieces) (pieces_inside value.params pieces declared each))

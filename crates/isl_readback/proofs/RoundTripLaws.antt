@@ -1,5 +1,5 @@
 -- What is read of a printed value is the value again.
-use Rattle.std.proofs.Common.{◌≡◌, ◌∙◌, ◌≤◌, suc, List, [], ◌∷◌, Some, All, map, ap, sym, subst, refl, arith}
+use Rattle.std.proofs.Common.{◌≡◌, ◌∙◌, ◌≤◌, suc, List, [], ◌∷◌, Some, All, map, ap, ap₂, sym, subst, refl, arith}
 use Rattle.std.specs.Prelude.{option_map}
 use Rattle.std.specs.List.{filter_map, cons_option, AllByRecursion}
 use Rattle.std.proofs.lemmas.List.Elements.{recursion_from_All, All-map, All-weaker}
@@ -9,7 +9,8 @@ use Rattle.isl_space.specs.Names.{IsParameterList}
 use Rattle.isl_space.specs.SpaceForm.{SpaceForm, IsWellFormedSpace}
 use Rattle.isl_piece.specs.declared.row.Row.{Row}
 use Rattle.isl_piece.specs.Normal.{normal_rows}
-use Rattle.isl_union.specs.KeptValue.{KeptPiece, KeptValue, IsKeptPiece, IsKeptValue}
+use Rattle.isl_union.specs.KeptValue.{KeptPiece, KeptValue, HasNoDefinitions, IsKeptPiece, IsKeptValue}
+use Rattle.isl_union.proofs.LiveLaws.{live_every}
 use Rattle.isl_print.specs.Joined.{Text}
 use Rattle.isl_print.specs.Ordered.{in_order}
 use Rattle.isl_print.specs.OrderedValue.{ordered_piece, ordered}
@@ -27,13 +28,13 @@ use Rattle.isl_text.proofs.LiteralLaws.{literal_taken, literal_again}
 use Rattle.isl_tree.specs.declared.tree.PieceTree.{PieceTree}
 use Rattle.isl_tree.specs.declared.tree.Literal.{Literal}
 use Rattle.isl_tree.specs.Literal.{space_of_piece}
-use Rattle.isl_lower.specs.Value.{IsWellFormedLiteral, piece_lowered, value_lowered}
+use Rattle.isl_lower.specs.Value.{IsLowered, IsWellFormedLiteral, piece_lowered, value_lowered}
 use Rattle.isl_readback.specs.Tree.{piece_tree, printed_tree}
 use Rattle.isl_readback.specs.Written.{IsComparison, HasComparisons, HasWritableNumbers, IsUniform}
 use Rattle.isl_readback.specs.RoundTrip.{Writes, IsWritableValue, HasElementsOf, ReadsAs, ReadsBack}
 use Rattle.isl_readback.proofs.KnownLaws.{printed_tree_known}
 use Rattle.isl_readback.proofs.TupleLaws.{space-piece_tree}
-use Rattle.isl_readback.proofs.WrittenLaws.{rows-piece_tree}
+use Rattle.isl_readback.proofs.WrittenLaws.{rows-piece_tree, undefined, undefined-ordered}
 use Rattle.isl_readback.proofs.ValueTokenLaws.{printed_tokens, tokens-printed}
 use Rattle.isl_readback.proofs.ValueSpelled.{outline_spelled}
 use Rattle.isl_readback.proofs.FormedTree.{tree_formed}
@@ -60,33 +61,43 @@ one_tree text a b x y =
     spells_one literal literal_grammar always literal_taken literal_again refl x.0 a b x.2 (subst (λ (ts : List Token). Spells literal_grammar b ts) same y.2)
 
 -- ---- the rows are kept
-abbrev kept_with : SpaceForm → List Row → KeptPiece
-kept_with space rows = record { space = space; rows = rows }
-
-piece_kept : (params : List Name) (piece : KeptPiece) → IsParameterList params → IsKeptPiece params piece → IsKeptPiece params (ordered_piece piece) → All (λ r. IsComparison r.kind) piece.rows
-    → piece_lowered params (piece_tree params piece) ≡ Some (ordered_piece piece)
-piece_kept params piece list kept again compares =
+piece_kept : (params : List Name) (piece : KeptPiece) → IsParameterList params → IsKeptPiece params piece → IsKeptPiece params (ordered_piece piece)
+    → piece.definitions ≡ [] → All (λ r. IsComparison r.kind) piece.rows → piece_lowered params (piece_tree params piece) ≡ Some (ordered_piece piece)
+piece_kept params piece list kept again none compares =
     let tree = piece_tree params piece in
-    ap (λ rows. option_map (kept_with (space_of_piece tree)) (normal_rows rows)) (rows-piece_tree params piece list kept compares)
-    ∙ ap (option_map (kept_with (space_of_piece tree))) again.normal.itself
-    ∙ ap (λ space. Some (kept_with space (in_order row_before piece.rows))) (space-piece_tree params piece)
+    ap (λ (rows : List Row). option_map (undefined (space_of_piece tree)) (normal_rows rows)) (rows-piece_tree params piece list kept none compares)
+    ∙ ap (option_map (undefined (space_of_piece tree))) again.normal.itself
+    ∙ ap (λ (space : SpaceForm). Some (undefined space (in_order row_before piece.rows))) (space-piece_tree params piece)
+    ∙ ap (λ (p : KeptPiece). Some p) (undefined-ordered piece none)
 
-pieces_kept : (params : List Name) (pieces : List KeptPiece) → IsParameterList params → AllByRecursion (IsKeptPiece params) pieces → AllByRecursion (IsKeptPiece params) (map ordered_piece pieces)
-    → AllByRecursion (λ p. All (λ r. IsComparison r.kind) p.rows) pieces → filter_map (piece_lowered params) (map (piece_tree params) pieces) ≡ map ordered_piece pieces
-pieces_kept params [] list kept again compare = refl
-pieces_kept params (piece ∷ pieces) list kept again compare =
-    ap (λ o. cons_option o (filter_map (piece_lowered params) (map (piece_tree params) pieces))) (piece_kept params piece list kept.0 again.0 compare.0)
-    ∙ ap (λ ps. ordered_piece piece ∷ ps) (pieces_kept params pieces list kept.1 again.1 compare.1)
+pieces_kept : (params : List Name) (pieces : List KeptPiece) → IsParameterList params → AllByRecursion (IsKeptPiece params) pieces
+    → AllByRecursion (IsKeptPiece params) (map ordered_piece pieces) → AllByRecursion (λ p. p.definitions ≡ []) pieces
+    → AllByRecursion (λ p. All (λ r. IsComparison r.kind) p.rows) pieces
+    → filter_map (piece_lowered params) (map (piece_tree params) pieces) ≡ map ordered_piece pieces
+pieces_kept params [] list kept again none compare = refl
+pieces_kept params (piece ∷ pieces) list kept again none compare =
+    ap (λ o. cons_option o (filter_map (piece_lowered params) (map (piece_tree params) pieces)))
+    (piece_kept params piece list kept.0 again.0 none.0 compare.0)
+    ∙ ap (λ ps. ordered_piece piece ∷ ps) (pieces_kept params pieces list kept.1 again.1 none.1 compare.1)
 
-pub tree_kept : (value : KeptValue) → IsKeptValue value → HasComparisons value → value_lowered (printed_tree value) ≡ ordered value
-tree_kept value kept compare =
+pub tree_kept : (value : KeptValue) → IsKeptValue value → HasNoDefinitions value → HasComparisons value → value_lowered (printed_tree value) ≡ ordered value
+tree_kept value kept none compare =
     let pieces = in_order piece_before value.pieces in
     let again = IsKeptValue-ordered value kept in
     ap (λ ps. let v : KeptValue = record { params = value.params; pieces = ps } in v)
     (pieces_kept value.params pieces kept.params
     (recursion_from_All (IsKeptPiece value.params) pieces (All-in_order piece_before (IsKeptPiece value.params) value.pieces kept.pieces))
     (recursion_from_All (IsKeptPiece value.params) (map ordered_piece pieces) again.pieces)
+    (recursion_from_All (λ p. p.definitions ≡ []) pieces (All-in_order piece_before (λ p. p.definitions ≡ []) value.pieces none))
     (recursion_from_All (λ p. All (λ r. IsComparison r.kind) p.rows) pieces (All-in_order piece_before (λ p. All (λ r. IsComparison r.kind) p.rows) value.pieces compare)))
+
+-- each of the normal pieces has an element, so that what is read has them all
+read_whole : (value other : KeptValue) (tree : Literal) → IsKeptValue value → value_lowered tree ≡ ordered value → IsLowered tree other → other ≡ ordered value
+read_whole value other tree kept rows low =
+    let again : IsKeptValue (value_lowered tree) = subst IsKeptValue (sym rows) (IsKeptValue-ordered value kept) in
+    ap₂ (λ (names : List Name) (pieces : List KeptPiece). let v : KeptValue = record { params = names; pieces = pieces } in v) low.params
+    (live_every tree.params (value_lowered tree).pieces other.pieces low.pieces (λ i d l. (again.pieces i d l).live))
+    ∙ rows
 
 -- ---- what is declared
 pub tree_well_formed : (value : KeptValue) → IsKeptValue value → IsWellFormedLiteral (printed_tree value)
@@ -102,13 +113,14 @@ tree_well_formed value kept =
 -- ---- all together
 pub reads_as : (value : KeptValue) → IsWritableValue value → ReadsAs (printed_tree value) value
 reads_as value writable =
-    let rows = tree_kept value writable.kept writable.comparisons in
+    let rows = tree_kept value writable.kept writable.definitions writable.comparisons in
     record {
       plain = tree_plain value writable.comparisons writable.flat;
       within = tree_within value writable.kept writable.comparisons;
       known = printed_tree_known value writable.kept;
       well_formed = tree_well_formed value writable.kept;
       rows = rows;
+      read = λ other low. read_whole value other (printed_tree value) writable.kept rows low;
       elements = subst (λ (v : KeptValue). HasElementsOf v value) (sym rows) (Has-ordered value);
       again = ap printed rows ∙ printed-ordered value;
     }

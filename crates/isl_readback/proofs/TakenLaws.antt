@@ -4,25 +4,22 @@ use Rattle.std.specs.Prelude.{◌&&◌, ◌||◌, not, length}
 use Rattle.std.specs.List.{list_any}
 use Rattle.std.specs.Str.{bytes_eq}
 use Rattle.std.proofs.lemmas.Bool.{false≢true, false_from_ne_true}
-use Rattle.std.proofs.lemmas.List.Elements.{All-map, All-weaker, All-nil, All-cons}
+use Rattle.std.proofs.lemmas.List.Elements.{All-nil, All-cons}
 use Rattle.std.proofs.lemmas.Slice.Eq.{bytes_eq-Decides}
 use Rattle.isl_meter.specs.Gauge.{Gauge, limit_of, IsCharged}
 use Rattle.isl_space.specs.Name.{Name}
-use Rattle.isl_piece.specs.Row.{IsRowUpTo}
-use Rattle.isl_union.specs.KeptValue.{KeptPiece, KeptValue}
-use Rattle.isl_print.specs.Ordered.{in_order}
-use Rattle.isl_print.specs.OrderedValue.{ordered_piece, ordered}
-use Rattle.isl_print.specs.PieceOrder.{piece_before}
+use Rattle.isl_union.specs.KeptValue.{KeptValue}
+use Rattle.isl_union.specs.Numbers.{HasNumbersUpTo}
+use Rattle.isl_print.specs.OrderedValue.{ordered}
 use Rattle.isl_print.specs.Printed.{printed}
-use Rattle.isl_print.specs.RowOrder.{row_before}
-use Rattle.isl_print.proofs.TextLaws.{All-in_order}
+use Rattle.isl_print.proofs.OrderedValueLaws.{printed-ordered}
 use Rattle.isl_token.specs.Number.{too_great}
 use Rattle.isl_token.specs.Lex.{tokens}
 use Rattle.isl_token.specs.Spelling.{Spells}
 use Rattle.isl_tree.specs.declared.tree.Literal.{Literal}
 use Rattle.isl_tree.specs.Known.{literal_is_known}
 use Rattle.isl_text.specs.Read.{has_wide_number}
-use Rattle.isl_lower.specs.Value.{IsWellFormedLiteral, value_lowered}
+use Rattle.isl_lower.specs.Value.{IsWellFormedLiteral}
 use Rattle.isl_lower.proofs.ValueLaws.{same_elements}
 use Rattle.isl_expr.specs.declared.tree.Stmt.{Stmt}
 use Rattle.isl_expr.specs.declared.tree.Stmt.TheVariants.{Empty, Bind, Show}
@@ -32,7 +29,6 @@ use Rattle.isl_expr.specs.declared.tree.Expr.{Expr}
 use Rattle.isl_expr.specs.declared.tree.Expr as e
 use Rattle.isl_expr.specs.Expr.{literals_of, statement_literals}
 use Rattle.isl_space.specs.Limits.{most_leaves, most_parameters}
-use Rattle.isl_meter.proofs.CutLemmas.{IsCharged_refl}
 use Rattle.isl_kinds.specs.Lines.{is_kind}
 use Rattle.isl_kinds.specs.Parts.{parts_of}
 use Rattle.isl_simple.specs.Unsupported.{is_later, is_unsupported}
@@ -40,17 +36,17 @@ use Rattle.isl_statement.specs.StatementGrammar.{statement_grammar}
 use Rattle.isl_statement.specs.Limits.{statement_is_within}
 use Rattle.isl_statement.specs.Read.{NoStatement}
 use Rattle.isl_kinds.specs.Typed.{ScopeView, kind_of_pieces, declared_of, type_of_statement}
-use Rattle.isl_eval.specs.State.{Kept, Moment, unbound, kept_of, scope_of, HasNumbersUpTo}
+use Rattle.isl_eval.specs.State.{Kept, Moment, unbound, kept_of, scope_of}
 use Rattle.isl_eval.specs.Selection.{Keeps}
 use Rattle.isl_eval.specs.Spelled.{BytesSpell}
 use Rattle.isl_eval.specs.Causes.{IsValid}
 use Rattle.isl_eval.specs.Machine.{Answer, Step, Answers, shown}
-use Rattle.isl_eval.specs.Evaluation.{IsRead}
-use Rattle.isl_eval.proofs.CauseLaws.{of_tokens, of_statement}
+use Rattle.isl_eval.specs.Evaluation.{IsRead, IsWorkable}
+use Rattle.isl_eval.proofs.CauseLaws.{of_tokens, of_statement, one as one_spelled}
 use Rattle.isl_eval.proofs.LexLaws.{lexed}
 use Rattle.isl_eval.proofs.LiteralLaws.{IsSpelled, literals_spelled}
 use Rattle.isl_eval.proofs.KeptLaws.{declared_itself}
-use Rattle.isl_eval.proofs.StepLaws.{show_answers}
+use Rattle.isl_eval.proofs.StepLaws.{valid as valid_of_workable}
 use Rattle.isl_readback.specs.Tree.{printed_tree}
 use Rattle.isl_readback.specs.Written.{IsPlainOf}
 use Rattle.isl_readback.specs.RoundTrip.{IsWritableValue, ReadsAs}
@@ -59,21 +55,18 @@ use Rattle.isl_readback.proofs.ValueTokenLaws.{printed_tokens, tokens-printed}
 use Rattle.isl_readback.proofs.TakenTokens.{narrow}
 use Rattle.isl_readback.proofs.RoundTripLaws.{tree_at, reads_as}
 use Rattle.isl_readback.proofs.AloneLaws.{shown_alone}
-use Rattle.isl_readback.proofs.LoweredLaws.{numbers_more, kept as lowered_kept}
+use Rattle.isl_readback.proofs.LoweredLaws.{numbers_more}
 use Rattle.isl_readback.proofs.WorkedLaws.{worked_plain, plain_writable}
-
--- the numbers of a value in printed order
-ordered_numbers : (limit : ℕ) (value : KeptValue) → HasNumbersUpTo limit value → HasNumbersUpTo limit (ordered value)
-ordered_numbers limit value small =
-    let P : KeptPiece → Type 0 = λ p. All (IsRowUpTo limit) p.rows in
-    let pieces = in_order piece_before value.pieces in
-    All-map P ordered_piece pieces (All-weaker P (λ p. P (ordered_piece p)) (λ p rows. All-in_order row_before (IsRowUpTo limit) p.rows rows) pieces (All-in_order piece_before P value.pieces small))
 
 is_not : (a : Bool) → a ≡ false → ¬ (a ≡ true)
 is_not a not_so so = false≢true (sym not_so ∙ so)
 
 is_so : (a : Bool) → a ≡ true → ¬ (a ≡ false)
 is_so a so not_so = false≢true (sym not_so ∙ so)
+
+-- the answer that is this text
+abbrev line : List ℕ → Answer
+line text = record { bytes = text ++ 10 ∷ []; is_true = false; elements = 0 }
 
 -- ---- a literal of known names has a type
 literal_typed : (scope : ScopeView) (literal : Literal) → literal_is_known literal ≡ true
@@ -138,28 +131,31 @@ module _ (moment : Moment) (bits : moment.meter.bits ≤ 127) (value : KeptValue
     sound = All-cons IsWellFormedLiteral (printed_tree value) [] reads.well_formed (All-nil IsWellFormedLiteral);
   }
 
-  keeps_again : Keeps moment (e.Literal (printed_tree value)) (record { kind = kind_of_pieces (printed_tree value).pieces; value = value_lowered (printed_tree value) })
-  keeps_again = record {
-    kind = refl;
-    params = declared_itself (printed_tree value).params reads.well_formed.params.distinct;
-    elements = same_elements (printed_tree value) reads.plain reads.known;
-    written = refl;
-    well_formed = lowered_kept (printed_tree value) reads.plain reads.well_formed;
-    numbers = subst (HasNumbersUpTo (2 ^ moment.meter.bits - 1)) (sym reads.rows) (ordered_numbers (2 ^ moment.meter.bits - 1) value small);
-  }
+  workable : IsWorkable (scope_of moment.state) (Show (e.Literal (printed_tree value)))
+  workable =
+      let kind = kind_of_pieces (printed_tree value).pieces in
+      let declared = declared_of (scope_of moment.state) (e.Literal (printed_tree value)) in
+      let itself = declared_itself (printed_tree value).params reads.well_formed.params.distinct in
+      record {
+        typed = (Some (record { kind = kind; params = declared }), literal_typed (scope_of moment.state) (printed_tree value) reads.known);
+        unmixed = one_kind kind;
+        narrow = subst (λ (names : List Name). length names ≤ most_parameters) (sym itself) reads.well_formed.params.few;
+      }
 
-  pub text_answered : (answer : Answer) → answer ≡ shown value → IsShallow (printed value) → Answers moment (printed value) moment answer
-  text_answered answer is shallow =
-      show_answers moment (printed value) (e.Literal (printed_tree value)) (none_there shallow) moment
-      (record { kind = kind_of_pieces (printed_tree value).pieces; value = value_lowered (printed_tree value) }) answer
-      (record {
-        typed = (Some (record { kind = kind_of_pieces (printed_tree value).pieces; params = declared_of (scope_of moment.state) (e.Literal (printed_tree value)) }), literal_typed (scope_of moment.state) (printed_tree value) reads.known);
-        unmixed = one_kind (kind_of_pieces (printed_tree value).pieces);
-        narrow = subst (λ (names : List Name). length names ≤ most_parameters) (sym (declared_itself (printed_tree value).params reads.well_formed.params.distinct)) reads.well_formed.params.few;
-      })
-      keeps_again refl
-      (is ∙ sym (ap (λ (t : List ℕ). let a : Answer = record { bytes = t ++ 10 ∷ []; is_true = false; elements = 0 } in a) reads.again)) (IsCharged_refl moment.meter moment.meter refl)
-      (omega arith)
+  pub text_valid : IsShallow (printed value) → IsValid moment (printed value)
+  text_valid shallow = valid_of_workable moment (printed value) (Show (e.Literal (printed_tree value))) (none_there shallow) workable
+
+  -- the text spells no other statement, and each value that is read of it has the same text
+  pub text_answered : (answer : Answer) → answer ≡ shown value → (last : Moment) (other : Answer) → Answers moment (printed value) last other
+      → other ≡ answer
+  text_answered answer is last other answers = by answers.stmt (one_spelled (printed value) answers.stmt (Show (e.Literal (printed_tree value))) answers.spelled text_spells)
+      answers.step
+    where
+      by : (stmt : Stmt) → stmt ≡ Show (e.Literal (printed_tree value)) → Step moment stmt last other → other ≡ answer
+      by stmt same step =
+          let made = (subst (λ (s : Stmt). Step moment s last other) same step).1 in
+          let ordered_again : made.0.value ≡ ordered value = reads.read made.0.value made.1.written in
+          made.2 ∙ ap shown ordered_again ∙ ap line (printed-ordered value) ∙ sym is
 
 -- ---- what an answered statement shows or binds can be written
 module _ (before : Moment) (bytes : List ℕ) (bits : before.meter.bits ≤ 127) (all : AreWritable before.state) where
@@ -189,12 +185,12 @@ module _ (before : Moment) (bytes : List ℕ) (bits : before.meter.bits ≤ 127)
       numbers_more (2 ^ before.meter.bits - 1) (too_great - 1) value (omega (arith, large)) small
 
   expr_plain : (expr : Expr) (kept : Kept) → list_any is_later (parts_of expr) ≡ false → All IsSpelled (literals_of expr) → Keeps before expr kept → IsPlainOf kept.kind kept.value
-  expr_plain expr kept supported spelled keeps =
-      subst (IsPlainOf kept.kind) (sym keeps.written) (worked_plain before.state all expr kept.kind supported spelled keeps.kind)
+  expr_plain expr kept supported spelled keeps = worked_plain before.state all expr kept.value kept.kind supported spelled keeps.kind keeps.written
 
   expr_writable : (expr : Expr) (kept : Kept) → list_any is_later (parts_of expr) ≡ false → All IsSpelled (literals_of expr) → Keeps before expr kept → IsWritableValue kept.value
   expr_writable expr kept supported spelled keeps =
-      plain_writable kept.value keeps.well_formed (writable_numbers kept.value keeps.numbers) kept.kind (expr_plain expr kept supported spelled keeps)
+      plain_writable kept.value keeps.well_formed keeps.definitions (writable_numbers kept.value keeps.numbers) kept.kind
+      (expr_plain expr kept supported spelled keeps)
 
   show_again : (expr : Expr) (kept : Kept) (after : Moment) (answer : Answer) → IsValid before bytes → BytesSpell bytes (Show expr) → Keeps before expr kept → answer ≡ shown kept.value
       → IsCharged before.meter after.meter → IsShownAgain before expr after answer
@@ -219,6 +215,7 @@ module _ (before : Moment) (bytes : List ℕ) (bits : before.meter.bits ≤ 127)
         value = kept.value;
         is_text = refl;
         reads = reads;
+        valid = text_valid after bits_after kept.value writable small;
         answered = text_answered after bits_after kept.value writable small answer is;
       }
 

@@ -16,7 +16,7 @@ use Rattle.isl_token.specs.Number.{too_great}
 use Rattle.isl_token.proofs.Prints.{value_of-decimal}
 use Rattle.isl_text.specs.Limits.{is_wide}
 use Rattle.isl_text.specs.Read.{has_wide_number}
-use Rattle.isl_eval.specs.State.{HasNumbersUpTo}
+use Rattle.isl_union.specs.Numbers.{HasNumbersUpTo}
 use Rattle.isl_readback.specs.RoundTrip.{IsWritableValue}
 use Rattle.isl_readback.proofs.TokenLaws.{Tokens, sign, number}
 use Rattle.isl_readback.proofs.ValueTokenLaws.{printed_tokens}

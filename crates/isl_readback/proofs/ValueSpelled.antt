@@ -1,5 +1,5 @@
 -- The tokens of a printed value spell its tree.
-use Rattle.std.proofs.Common.{◌≡◌, ◌≢◌, ◌≤◌, ◌∙◌, ℕ, ℤ, pos, negsuc, suc, List, [], ◌∷◌, ◌++◌, Option, Some, None, All, map, inl, inr, ap, sym, refl, arith}
+use Rattle.std.proofs.Common.{◌≡◌, ◌≢◌, ◌≤◌, ◌+◌, ◌∙◌, ℕ, ℤ, pos, negsuc, suc, List, [], ◌∷◌, ◌++◌, Option, Some, None, All, length, map, inl, inr, ap, sym, refl, arith}
 use Rattle.std.specs.Prelude.{codes, drop, unsigned_abs, ◌-◌}
 use Rattle.std.specs.List.{AllByRecursion}
 use Rattle.std.proofs.lemmas.List.{append_assoc, append-nil}
@@ -161,7 +161,7 @@ module _ (n : ℕ) where
       let rows = in_order row_before piece.rows in
       let all = named_from columns (columns_named params piece.space names (omega (arith, few))) in
       let writable = writable_rows rows (recursion_from_All (IsRowUpTo (too_great - 1)) rows (All-in_order row_before (IsRowUpTo (too_great - 1)) piece.rows numbers)) in
-      let some : All (HasSomeDivisor n) piece.rows = All-weaker (IsWellFormed (columns_of params piece.space)) (HasSomeDivisor n) (λ r w. some_divisor r.kind r.k w.modulus) piece.rows kept.rows in
+      let some : All (HasSomeDivisor n) piece.rows = All-weaker (IsWellFormed (length piece.definitions + columns_of params piece.space)) (HasSomeDivisor n) (λ r w. some_divisor r.kind r.k w.modulus) piece.rows kept.rows in
       let divisors = recursion_from_All (HasSomeDivisor n) rows (All-in_order row_before (HasSomeDivisor n) piece.rows some) in
       tuples_spelled piece.space (coordinate_names params piece.space) (conjunction_tree (map (row_tree columns) rows)) (conjunction_tokens (map (row_tokens columns) rows)) (omega (arith, leaves, deep))
       (named_space piece.space kept.space.named) (named_from (coordinate_names params piece.space) (coordinates_named params piece.space (omega (arith, few))))
@@ -210,7 +210,7 @@ module _ (n : ℕ) where
       let tss = map (piece_tokens value.params) pieces in
       let each = pieces_spelled value.params pieces kept.params.named
       (recursion_from_All (IsKeptPiece value.params) pieces (All-in_order piece_before (IsKeptPiece value.params) value.pieces kept.pieces))
-      (recursion_from_All (λ p. All (IsRowUpTo (too_great - 1)) p.rows) pieces (All-in_order piece_before (λ p. All (IsRowUpTo (too_great - 1)) p.rows) value.pieces numbers)) deep in (
+      (recursion_from_All (λ p. All (IsRowUpTo (too_great - 1)) p.rows) pieces (All-in_order piece_before (λ p. All (IsRowUpTo (too_great - 1)) p.rows) value.pieces (λ i d low. (numbers i d low).rows))) deep in (
         value.params,
         params_tokens value.params,
         pieces_tokens tss,

@@ -143,7 +143,7 @@ tokens-printed value kept numbers =
     let each = pieces_print_each value.params pieces kept.params.named
     (recursion_from_All (IsKeptPiece value.params) pieces (All-in_order piece_before (IsKeptPiece value.params) value.pieces kept.pieces))
     (recursion_from_All (λ p. All (IsRowUpTo (too_great - 1)) p.rows) pieces
-    (All-in_order piece_before (λ p. All (IsRowUpTo (too_great - 1)) p.rows) value.pieces numbers)) in
+    (All-in_order piece_before (λ p. All (IsRowUpTo (too_great - 1)) p.rows) value.pieces (λ i d low. (numbers i d low).rows))) in
     prints_whole (printed value) (printed_tokens value) any
     (loose_prints (params_text value.params) (pieces_text (map (piece_text value.params) pieces)) (params_tokens value.params)
     (pieces_tokens (map (piece_tokens value.params) pieces)) any

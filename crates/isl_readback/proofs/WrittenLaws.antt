@@ -12,9 +12,10 @@ use Rattle.isl_space.specs.Names.{IsParameterList}
 use Rattle.isl_space.specs.SpaceForm.{SpaceForm}
 use Rattle.isl_piece.specs.declared.row.RowKind.{RowKind}
 use Rattle.isl_piece.specs.declared.row.RowKind.TheVariants.{Zero, AtLeast, Divides, NotDivides}
+use Rattle.isl_piece.specs.declared.definition.Definition.{Definition}
 use Rattle.isl_piece.specs.declared.row.Row.{Row}
 use Rattle.isl_piece.specs.Row.{HasModulus}
-use Rattle.isl_union.specs.KeptValue.{KeptPiece, KeptValue, IsKeptPiece, IsKeptValue}
+use Rattle.isl_union.specs.KeptValue.{KeptPiece, KeptValue, HasNoDefinitions, IsKeptPiece, IsKeptValue}
 use Rattle.isl_print.specs.declared.sum.Side.TheVariants.{Left, Right}
 use Rattle.isl_print.specs.Naming.{coordinate_names, column_names}
 use Rattle.isl_print.specs.Ordered.{in_order}
@@ -105,15 +106,16 @@ one_divisor AtLeast k compares divisor = divisor
 one_divisor Divides k compares divisor = absurd compares
 one_divisor NotDivides k compares divisor = absurd compares
 
-fit : (params : List Name) (piece : KeptPiece) → IsKeptPiece params piece → All (λ r. IsComparison r.kind) piece.rows → All (Fits (column_names params piece.space)) piece.rows
-fit params piece kept compares = λ k d low. record {
-  coefs = length-column_names params piece.space ∙ sym (kept.rows k d low).width;
+fit : (params : List Name) (piece : KeptPiece) → IsKeptPiece params piece → piece.definitions ≡ [] → All (λ r. IsComparison r.kind) piece.rows
+    → All (Fits (column_names params piece.space)) piece.rows
+fit params piece kept none compares = λ k d low. record {
+  coefs = let w = (kept.rows k d low).width in omega (arith, w, length-column_names params piece.space, ap length none);
   divisor = one_divisor _ _ (compares k d low) (kept.rows k d low).modulus;
 }
 
-pub rows-piece_tree : (params : List Name) (piece : KeptPiece) → IsParameterList params → IsKeptPiece params piece → All (λ r. IsComparison r.kind) piece.rows
-    → rows_written params (piece_tree params piece) ≡ in_order row_before piece.rows
-rows-piece_tree params piece list kept compares =
+pub rows-piece_tree : (params : List Name) (piece : KeptPiece) → IsParameterList params → IsKeptPiece params piece → piece.definitions ≡ []
+    → All (λ r. IsComparison r.kind) piece.rows → rows_written params (piece_tree params piece) ≡ in_order row_before piece.rows
+rows-piece_tree params piece list kept none compares =
     let tree = piece_tree params piece in
     let coordinates = coordinate_names params piece.space in
     let names = column_names params piece.space in
@@ -130,24 +132,37 @@ rows-piece_tree params piece list kept compares =
     ∙ ap (λ ws. map (added n) (ws ++ written_body n place tree.body)) (entries_write_nothing n place params coordinates (length params) distinct apart)
     ∙ ap (map (added n)) (body_writes n place names rows ∙ rows_write n place names rows (recursion_from_All (λ r. IsComparison r.kind) rows (All-in_order row_before (λ r. IsComparison r.kind) piece.rows compares)))
     ∙ rows_added n place names rows (columns_placed params coordinates n (distinct_from params list.distinct) distinct apart) count
-    (recursion_from_All (Fits names) rows (All-in_order row_before (Fits names) piece.rows (fit params piece kept compares)))
+    (recursion_from_All (Fits names) rows (All-in_order row_before (Fits names) piece.rows (fit params piece kept none compares)))
 
-piece-piece_tree : (params : List Name) (piece : KeptPiece) → IsParameterList params → IsKeptPiece params piece → All (λ r. IsComparison r.kind) piece.rows
-    → piece_written params (piece_tree params piece) ≡ ordered_piece piece
-piece-piece_tree params piece list kept compares =
-    ap₂ (λ (space : SpaceForm) (rows : List Row). let p : KeptPiece = record { space = space; rows = rows } in p) (space-piece_tree params piece) (rows-piece_tree params piece list kept compares)
+-- the piece that defines no column
+abbrev pub undefined : SpaceForm → List Row → KeptPiece
+undefined space rows = record { space = space; definitions = []; rows = rows }
 
-pieces-piece_tree : (params : List Name) (pieces : List KeptPiece) → IsParameterList params → AllByRecursion (IsKeptPiece params) pieces → AllByRecursion (λ p. All (λ r. IsComparison r.kind) p.rows) pieces
+pub undefined-ordered : (piece : KeptPiece) → piece.definitions ≡ [] → undefined piece.space (in_order row_before piece.rows) ≡ ordered_piece piece
+undefined-ordered piece none =
+    ap (λ (ds : List Definition). let p : KeptPiece = record { space = piece.space; definitions = ds; rows = in_order row_before piece.rows } in p)
+    (sym none)
+
+piece-piece_tree : (params : List Name) (piece : KeptPiece) → IsParameterList params → IsKeptPiece params piece → piece.definitions ≡ []
+    → All (λ r. IsComparison r.kind) piece.rows → piece_written params (piece_tree params piece) ≡ ordered_piece piece
+piece-piece_tree params piece list kept none compares =
+    ap₂ undefined (space-piece_tree params piece) (rows-piece_tree params piece list kept none compares) ∙ undefined-ordered piece none
+
+pieces-piece_tree : (params : List Name) (pieces : List KeptPiece) → IsParameterList params → AllByRecursion (IsKeptPiece params) pieces
+    → AllByRecursion (λ p. p.definitions ≡ []) pieces → AllByRecursion (λ p. All (λ r. IsComparison r.kind) p.rows) pieces
     → map (piece_written params) (map (piece_tree params) pieces) ≡ map ordered_piece pieces
-pieces-piece_tree params [] list kept compare = refl
-pieces-piece_tree params (piece ∷ pieces) list kept compare =
-    ap₂ (λ (p : KeptPiece) (ps : List KeptPiece). p ∷ ps) (piece-piece_tree params piece list kept.0 compare.0) (pieces-piece_tree params pieces list kept.1 compare.1)
+pieces-piece_tree params [] list kept none compare = refl
+pieces-piece_tree params (piece ∷ pieces) list kept none compare =
+    ap₂ (λ (p : KeptPiece) (ps : List KeptPiece). p ∷ ps) (piece-piece_tree params piece list kept.0 none.0 compare.0)
+    (pieces-piece_tree params pieces list kept.1 none.1 compare.1)
 
 -- ---- values
-pub value-printed_tree : (value : KeptValue) → IsKeptValue value → HasComparisons value → value_written (printed_tree value) ≡ ordered value
-value-printed_tree value kept compare =
+pub value-printed_tree : (value : KeptValue) → IsKeptValue value → HasNoDefinitions value → HasComparisons value
+    → value_written (printed_tree value) ≡ ordered value
+value-printed_tree value kept none compare =
     let pieces = in_order piece_before value.pieces in
     ap (λ ps. let v : KeptValue = record { params = value.params; pieces = ps } in v)
     (pieces-piece_tree value.params pieces kept.params
     (recursion_from_All (IsKeptPiece value.params) pieces (All-in_order piece_before (IsKeptPiece value.params) value.pieces kept.pieces))
+    (recursion_from_All (λ p. p.definitions ≡ []) pieces (All-in_order piece_before (λ p. p.definitions ≡ []) value.pieces none))
     (recursion_from_All (λ p. All (λ r. IsComparison r.kind) p.rows) pieces (All-in_order piece_before (λ p. All (λ r. IsComparison r.kind) p.rows) value.pieces compare)))

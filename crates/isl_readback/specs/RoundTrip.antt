@@ -2,7 +2,7 @@
 use Rattle.std.specs.Prelude.{◌≡◌, ◌↔◌, true, List, Some}
 use Rattle.isl_space.specs.Valuation.{Valuation}
 use Rattle.isl_space.specs.Element.{Element}
-use Rattle.isl_union.specs.KeptValue.{KeptValue, Has, IsKeptValue}
+use Rattle.isl_union.specs.KeptValue.{KeptValue, Has, HasNoDefinitions, IsKeptValue}
 use Rattle.isl_print.specs.Joined.{Text}
 use Rattle.isl_print.specs.OrderedValue.{ordered}
 use Rattle.isl_print.specs.Printed.{printed}
@@ -14,7 +14,7 @@ use Rattle.isl_text.specs.Literal.{literal_grammar}
 use Rattle.isl_tree.specs.declared.tree.Literal.{Literal}
 use Rattle.isl_tree.specs.Known.{literal_is_known}
 use Rattle.isl_tree.specs.Plain.{is_plain}
-use Rattle.isl_lower.specs.Value.{IsWellFormedLiteral, value_lowered}
+use Rattle.isl_lower.specs.Value.{IsLowered, IsWellFormedLiteral, value_lowered}
 use Rattle.isl_readback.specs.Written.{HasComparisons, HasWritableNumbers, IsUniform, IsFlat}
 
 -- the text has tokens, and they spell the literal
@@ -22,9 +22,10 @@ abbrev pub Writes : Text → Literal → Type 0
 Writes text literal = (ts : List Token) × (tokens text ≡ Some ts) × Spells literal_grammar literal ts
 
 -- a kept value that one plain literal can write: sets or maps alone, with equations and inequalities of numbers that a literal
--- may write, and no pair among its tuples
+-- may write, no defined column, and no pair among its tuples
 pub record IsWritableValue (value : KeptValue) : Type 0 where
   pub kept : IsKeptValue value
+  pub definitions : HasNoDefinitions value
   pub comparisons : HasComparisons value
   pub numbers : HasWritableNumbers value
   pub uniform : IsUniform value
@@ -34,14 +35,15 @@ pub record IsWritableValue (value : KeptValue) : Type 0 where
 abbrev pub HasElementsOf : KeptValue → KeptValue → Type 0
 HasElementsOf value other = (valuation : Valuation) (element : Element) → Has value valuation element ↔ Has other valuation element
 
--- the literal can be read as a value, and the value that is read is the one that was printed, in the order in which it was printed;
--- it has the same elements, and the same text
+-- the literal can be read as a value: its normal pieces are those that were printed, in the order in which they were printed, with the
+-- same elements and the same text; and each value that may be read of it has them all
 pub record ReadsAs (literal : Literal) (value : KeptValue) : Type 0 where
   pub plain : is_plain literal ≡ true
   pub within : is_within literal ≡ true
   pub known : literal_is_known literal ≡ true
   pub well_formed : IsWellFormedLiteral literal
   pub rows : value_lowered literal ≡ ordered value
+  pub read : (other : KeptValue) → IsLowered literal other → other ≡ ordered value
   pub elements : HasElementsOf (value_lowered literal) value
   pub again : printed (value_lowered literal) ≡ printed value
 

@@ -14,6 +14,7 @@ use Rattle.isl_expr.specs.declared.tree.Expr.TheVariants as e
 use Rattle.isl_eval.specs.State.{StateView, Moment, EachKept, Everywhere}
 use Rattle.isl_eval.specs.Selection.{Selects}
 use Rattle.isl_eval.specs.Spelled.{BytesSpell, OfTokens}
+use Rattle.isl_eval.specs.Causes.{IsValid}
 use Rattle.isl_eval.specs.Machine.{Answer, Answers, nothing}
 use Rattle.isl_readback.specs.Written.{IsPlainOf}
 use Rattle.isl_readback.specs.RoundTrip.{IsWritableValue, ReadsAs}
@@ -31,7 +32,8 @@ abbrev pub HasSelected : Literal → StateView → Expr → Type 0
 HasSelected literal state expr = Everywhere state (λ valuation. (element : Element) → LiteralHas literal valuation element ↔ Selects state expr valuation element)
 
 -- The answer is a line that shows a value. Its text is a statement, which shows a literal that has exactly the elements that were selected, and that
--- reads as the value. Where the text is not too deep, its answer is the same line.
+-- reads as the value. Where the text is not too deep, nothing that it says is a cause to refuse it; and where it is answered, which takes the units
+-- of asking whether its pieces have elements, its answer is the same line.
 pub record IsShownAgain (before : Moment) (expr : Expr) (after : Moment) (answer : Answer) : Type 0 where
   pub text : List ℕ
   pub line : answer.bytes ≡ text ++ 10 ∷ []
@@ -41,7 +43,8 @@ pub record IsShownAgain (before : Moment) (expr : Expr) (after : Moment) (answer
   pub value : KeptValue
   pub is_text : text ≡ printed value
   pub reads : ReadsAs again value
-  pub answered : IsShallow text → Answers after text after answer
+  pub valid : IsShallow text → IsValid after text
+  pub answered : (last : Moment) (other : Answer) → Answers after text last other → other ≡ answer
 
 -- a binding and the empty statement answer nothing
 abbrev pub IsTakenAgain : Moment → Stmt → Moment → Answer → Type 0

@@ -13,11 +13,11 @@ use Rattle.isl_tree.specs.Literal.{space_of_piece}
 use Rattle.isl_lower.specs.Rows.{rows_written}
 use Rattle.isl_expr.specs.declared.tree.ValueKind.{ValueKind}
 use Rattle.isl_expr.specs.declared.tree.ValueKind.TheVariants.{Set, Map, List as Pair, Empty, Truth, Listing, Code}
-use Rattle.isl_eval.specs.State.{HasNumbersUpTo}
+use Rattle.isl_union.specs.Numbers.{HasNumbersUpTo}
 
--- the piece's space, and the rows that its entries and comparisons write
+-- the piece's space, and the rows that its entries and comparisons write; it defines no columns
 abbrev pub piece_written : List Name → PieceTree → KeptPiece
-piece_written params piece = record { space = space_of_piece piece; rows = rows_written params piece }
+piece_written params piece = record { space = space_of_piece piece; definitions = []; rows = rows_written params piece }
 
 abbrev pub value_written : Literal → KeptValue
 value_written literal = record { params = literal.params; pieces = map (piece_written literal.params) literal.pieces }

@@ -2,7 +2,8 @@
 
 ghost use Rattle.std.specs.Prelude.{◌≡◌, ◌<◌, ◌≤◌, ℕ, List, true};
 ghost use Rattle.isl_meter.specs.Gauge.{Gauge};
-ghost use Rattle.isl_union.specs.KeptValue.{KeptValue, IsKeptValue};
+ghost use Rattle.isl_union.specs.KeptValue.{KeptValue, HasNoDefinitions, IsKeptValue};
+ghost use Rattle.isl_union.specs.Numbers.{HasNumbersUpTo, IsWithinLimit};
 ghost use Rattle.isl_print.specs.OrderedValue.{ordered};
 ghost use Rattle.isl_print.specs.Printed.{printed};
 ghost use Rattle.isl_text.specs.Formed.{are_alike};
@@ -11,8 +12,8 @@ ghost use Rattle.isl_token.specs.Number.{too_great};
 ghost use Rattle.isl_tree.specs.declared.tree.Literal.{Literal};
 ghost use Rattle.isl_tree.specs.Known.{literal_is_known};
 ghost use Rattle.isl_tree.specs.Plain.{is_plain};
-ghost use Rattle.isl_lower.specs.Value.{IsWellFormedLiteral, IsValueWithin, value_lowered};
-ghost use Rattle.isl_eval.specs.State.{HasNumbersUpTo, Moment, unbound};
+ghost use Rattle.isl_lower.specs.Value.{IsLowered, IsWellFormedLiteral, value_lowered};
+ghost use Rattle.isl_eval.specs.State.{Moment, unbound};
 ghost use Rattle.isl_eval.specs.Machine.{Answer, Answers};
 ghost use Rattle.isl_readback.specs.Accepted.{HasQuietNames, IsAccepted};
 ghost use Rattle.isl_readback.specs.Tree.{printed_tree};
@@ -45,8 +46,10 @@ pub fn printed_tree_is_known()
 /// The rows that the printed tree writes are those of the value, in the order in which they are printed, and they are their
 /// own normal rows.
 pub fn printed_tree_is_kept()
-    ensures written { (value : KeptValue) → IsKeptValue value → HasComparisons value → value_written (printed_tree value) ≡ ordered value }
-    ensures normal { (value : KeptValue) → IsKeptValue value → HasComparisons value → value_lowered (printed_tree value) ≡ ordered value }
+    ensures written { (value : KeptValue) → IsKeptValue value → HasNoDefinitions value → HasComparisons value
+        → value_written (printed_tree value) ≡ ordered value }
+    ensures normal { (value : KeptValue) → IsKeptValue value → HasNoDefinitions value → HasComparisons value
+        → value_lowered (printed_tree value) ≡ ordered value }
 {}
 
 /// The text of a value that one plain literal can write is that literal; what is read of it is the value again, with the
@@ -62,15 +65,15 @@ pub fn printed_is_accepted()
         → IsAccepted limit value }
 {}
 
-/// What a plain literal of known names writes can be written: its value, with numbers within the limit of a meter.
+/// What is read of a plain literal of known names can be written, where its numbers are within the limit of a meter.
 pub fn lowered_is_writable()
-    ensures { (gauge : Gauge) (literal : Literal) → gauge.bits ≤ 127 → is_plain literal ≡ true → IsWellFormedLiteral literal → are_alike literal.pieces ≡ true
-        → IsValueWithin gauge (value_lowered literal) → IsWritableValue (value_lowered literal) }
+    ensures { (gauge : Gauge) (literal : Literal) (value : KeptValue) → gauge.bits ≤ 127 → is_plain literal ≡ true → IsWellFormedLiteral literal
+        → are_alike literal.pieces ≡ true → IsLowered literal value → IsWithinLimit gauge value → IsWritableValue value }
 {}
 
 /// What the program answers, it takes again: the text of a line that shows a value is a statement, which shows a literal with exactly
-/// the elements that were selected, and whose answer is the same line. It needs that what is bound can be written; this holds where
-/// nothing is bound, and each answered statement keeps it.
+/// the elements that were selected, and whatever answers it answers the same line. It needs that what is bound can be written; this holds
+/// where nothing is bound, and each answered statement keeps it.
 pub fn shown_is_taken_again()
     ensures taken { (before : Moment) (bytes : List ℕ) (after : Moment) (answer : Answer) → before.meter.bits ≤ 127 → AreWritable before.state
         → (answered : Answers before bytes after answer) → IsTakenAgain before answered.stmt after answer }

@@ -11,7 +11,6 @@ use Rattle.isl_eval.specs.Machine.{started}
 use Rattle.isl_session.specs.declared.TheConstants.{SCRIPT_MAX}
 use Rattle.isl_session.specs.Place.{Place, in_statement, place_of}
 use Rattle.isl_session.specs.View.{View, BreaksIn, IsMeterAt, moment_of}
-use Rattle.isl_session.proofs.MeterLemmas.{carries_started}
 
 -- the causes of a statement's bytes come about where the statement ends
 place_of_cause : (cause : Cause) → place_of (refusal_of cause) ≡ in_statement
@@ -45,6 +44,6 @@ pub meter_in_statement : (before : Moment) (bytes : List ℕ) (now : Gauge) (ref
     → IsKept (record before.meter { units = 0 }) now → IsMeterAt (place_of refusal) before.meter now
 meter_in_statement before bytes now Overflow cause kept = kept
 meter_in_statement before bytes now Budget cause kept = kept
-meter_in_statement before bytes now NoMemory cause kept = carries_started before.meter now cause.0
+meter_in_statement before bytes now NoMemory cause kept = kept
 meter_in_statement before bytes now refusal cause kept =
     subst (λ (p : Place). IsMeterAt p before.meter now) (sym (place_of_first (c.IsThere (started before) bytes) causes refusal cause.0)) kept

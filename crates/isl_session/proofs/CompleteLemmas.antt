@@ -20,7 +20,6 @@ use Rattle.isl_session.specs.View.{View, AreShort, BreaksIn, Carries, Stopped, m
 use Rattle.isl_session.specs.Status.{StatusView}
 use Rattle.isl_session.specs.Run.{Answered, Ended, HasCause, OfFirst, Outside, Progress}
 use Rattle.isl_session.specs.Valid.{AreValid, IsDoneOrMemory, IsValidScript}
-use Rattle.isl_session.proofs.MeterLemmas.{overflow_rose, spent_rose}
 use Rattle.isl_session.proofs.ScriptLemmas.{statements-ended}
 use Rattle.isl_session.proofs.FedLemmas.{fed_ready}
 
@@ -45,8 +44,8 @@ no_first There (cause ∷ later) refusal none (inr behind) = no_first There late
 no_cause : (before : Moment) (bytes : List ℕ) (now : Gauge) → IsValid before bytes → (Rose before.meter.overflows now.overflows → ⊥) → (Rose before.meter.spents now.spents → ⊥)
     → (refusal : Refusal) → Refuses before bytes now refusal → refusal ≡ NoMemory
 no_cause before bytes now valid no_overflow no_spent NoMemory cause = refl
-no_cause before bytes now valid no_overflow no_spent Overflow cause = absurd (no_overflow (overflow_rose before.meter now cause.2))
-no_cause before bytes now valid no_overflow no_spent Budget cause = absurd (no_spent (spent_rose before.meter now cause.3))
+no_cause before bytes now valid no_overflow no_spent Overflow cause = absurd (no_overflow cause.2.cause)
+no_cause before bytes now valid no_overflow no_spent Budget cause = absurd (no_spent cause.2.cause.1)
 no_cause before bytes now valid no_overflow no_spent refusal cause = absurd (no_first (IsThere before bytes) causes refusal valid cause.0)
 
 -- the same, where statements that were answered raised no count

@@ -51,7 +51,7 @@ pub record Gives (before : Moment) (parts texts : List (List ℕ)) (after : Mome
   pub run : Run before parts answers after
   pub written : texts ≡ map (λ answer. answer.bytes) answers
 
--- a meter that counted no refusal since: the units are those of the last statement, which `Answers` says, and the rest is as it was
+-- a meter that counted no refusal since: the units are those of the last statement, and the rest is as it was
 pub record Carries (old new : Gauge) : Type 0 where
   pub same : new ≡ record old { units = new.units }
 
@@ -96,10 +96,10 @@ BreaksIn at_read view byte now refusal = ⊥
 BreaksIn at_write view byte now refusal = ⊥
 
 -- The meter at a refusal, after that of the statements answered. Only the work on a statement, which begins with no unit used, and
--- which want of memory may end uncounted, raises a count; limit and budget stay, and no count falls. The units are said by `Refuses`.
+-- which want of memory may end uncounted, raises a count; limit and budget stay, and no count falls.
 abbrev pub IsMeterAt : Place → Gauge → Gauge → Type 0
 IsMeterAt in_statement before now = IsKept (record before { units = 0 }) now
-IsMeterAt anywhere before now = Carries before now
+IsMeterAt anywhere before now = IsKept (record before { units = 0 }) now
 IsMeterAt place before now = now ≡ before
 
 -- A session is refused at a byte. Only its meter changes, and its room does not fall.

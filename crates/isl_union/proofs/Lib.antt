@@ -9,3 +9,10 @@ pub mod UnitLaws
 pub mod ValueLaws
 pub mod MadeLaws
 pub mod MeetSteps
+pub mod MinusLaws
+pub mod PairLaws
+pub mod CompareLaws
+pub mod PiecesLaws
+pub mod ProjectLaws
+pub mod FlatLaws
+pub mod SampleLaws

@@ -51,7 +51,8 @@ not_true b e t = grind arith
 
 -- a piece that is made of a space and of a system with its normal rows
 pub settled_made : (m : PieceView) (space t : SpaceForm) (s : System) (rows : List Row) (o : Option (List Row)) → o ≡ normal_rows s.rows
-    → o ≡ Some rows → t ≡ space → m ≡ record { space = t; system = record { columns = s.columns; definitions = s.definitions; rows = rows } }
+    → o ≡ Some rows → t ≡ space
+    → m ≡ record { space = t; system = record { columns = s.columns; definitions = s.definitions; rows = rows } }
     → kept_piece m ≡ settled (piece_of space s)
 settled_made m space t s rows o exact some same is =
     ap (λ (x : PieceView). kept_piece x) is
@@ -135,7 +136,8 @@ module _ (g : Gauge) (params : List Name) where
   all_over pieces all = All-map IsOver kept_piece pieces (λ k d l. over_here (get_or pieces k d) (all k d l))
 
   pub all_live : (pieces : List PieceView) → All (IsPieceOver g params) pieces
-      → All (λ piece. ¬ IsNowhere (free_columns piece.system) (HoldsSystem piece.system)) pieces → All (IsLive params) (map kept_piece pieces)
+      → All (λ piece. ¬ IsNowhere (free_columns piece.system) (HoldsSystem piece.system)) pieces
+      → All (IsLive params) (map kept_piece pieces)
   all_live pieces all live = All-map (IsLive params) kept_piece pieces (λ k d l.
       let piece = get_or pieces k d in
       let over = all k d l in

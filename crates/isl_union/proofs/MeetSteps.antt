@@ -53,9 +53,9 @@ kept_option None = refl
 kept_option (Some x) = refl
 
 -- one more that may be kept
-pub pushed_live : (params : List Name) (before : List KeptPiece) (one : Option KeptPiece) (met pushed : List PieceView) (o : Option PieceView)
-    → AreLiveOf params before (map kept_piece met) → IsLiveOf params one (option_map kept_piece o) → pushed ≡ met ++ option_to_list o
-    → AreLiveOf params (before ++ option_to_list one) (map kept_piece pushed)
+pub pushed_live : (params : List Name) (before : List KeptPiece) (one : Option KeptPiece) (met pushed : List PieceView)
+    → (o : Option PieceView) → AreLiveOf params before (map kept_piece met) → IsLiveOf params one (option_map kept_piece o)
+    → pushed ≡ met ++ option_to_list o → AreLiveOf params (before ++ option_to_list one) (map kept_piece pushed)
 pushed_live params before one met pushed o so_far exact is =
     subst (λ (k : List KeptPiece). AreLiveOf params (before ++ option_to_list one) k)
     (sym (ap (map kept_piece) is ∙ map-append kept_piece met (option_to_list o) ∙ ap (λ k. map kept_piece met ++ k) (kept_option o)))

@@ -4,9 +4,11 @@ pub mod Finite
 pub mod KeptValue
 pub mod Live
 pub mod Meet
+pub mod Minus
 pub mod Moved
 pub mod Numbers
 pub mod Piece
+pub mod Pieces
 pub mod Project
 pub mod Sample
 pub mod Stored

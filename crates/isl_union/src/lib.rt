@@ -2,9 +2,16 @@
 #![tactic(auto)]
 
 mod aligned;
+mod compare;
 mod fault;
+mod flat;
 mod live;
 mod meet;
+mod minus;
+mod pair;
+mod pieces;
+mod project;
+mod sample;
 mod union;
 mod value;
 

@@ -55,7 +55,8 @@ pub fn live_piece(
 ) -> Result<Option<Piece>, Cut>
     requires { IsSystemWithin meter.old system }
     ensures found { (params : List Name) → IsWellFormedSpace (space_form_of space.now)
-        → free_columns system ≡ columns_of params (space_form_of space.now) → IfOk result (λ found. IsLiveOf params (normal_of (piece_of (space_form_of space.now) system)) (option_map kept_piece found)
+        → free_columns system ≡ columns_of params (space_form_of space.now)
+        → IfOk result (λ found. IsLiveOf params (normal_of (piece_of (space_form_of space.now) system)) (option_map kept_piece found)
         × IfSome found (IsPieceOf params)) }
     ensures meter { MatchResult result (λ _. IsCharged meter.old meter.new) (IsCutBy meter.old meter.new) }
 {

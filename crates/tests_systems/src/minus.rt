@@ -1,6 +1,6 @@
 //! Systems without others, and whether these cover them.
 
-ghost use Rattle.std.specs.Prelude.{◌≡◌, All, IfOk, IfSome};
+ghost use Rattle.std.specs.Prelude.{◌≡◌, All, IfOk, IfSome, map};
 ghost use Rattle.isl_piece.specs.System.{IsSystemWithin, free_columns};
 
 use crate::wanted::{FIRST, GIVEN, OTHER, SIDE, is_listed, points};
@@ -46,6 +46,17 @@ fn are_left(
     Ok(same)
 }
 
+// References to the systems.
+fn references<'a>(alloc: Global, systems: &'a [System]) -> Result<Vec<&'a System>, AllocError>
+    ensures { IfOk result (λ found. map (λ system. system.now) found.items ≡ systems.now) }
+{
+    let mut found = Vec::with_capacity(alloc, systems.len())?;
+    for system in systems {
+        found.push(system)?;
+    }
+    Ok(found)
+}
+
 // What is left of the given system without one other, or without several.
 fn left_of(
     alloc: Global,
@@ -59,7 +70,7 @@ fn left_of(
 {
     match others.as_slice() {
         [other] => subtract(alloc, given, other, meter),
-        several => outside(alloc, given, several, meter),
+        several => outside(alloc, given, references(alloc, several)?.as_slice(), meter),
     }
 }
 
@@ -97,6 +108,7 @@ fn is_covered_as_said(alloc: Global, case: &str, columns: usize) -> Result<bool,
     let Some(others) = others_of(alloc, case, given.free(), &meter)? else {
         return Ok(false);
     };
+    let others = references(alloc, others.as_slice())?;
     let covered = is_covered(alloc, &given, others.as_slice(), &mut meter)?;
     Ok(covered == field(case, "never").is_some())
 }

@@ -20,8 +20,10 @@ returns-in-None c =
     let same : c.in_ok-copied.copied ≡ c.args.rows.now = grind arith in
     let points : (point : List ℤ) → ¬ HoldRows c.args.rows.now point = λ point. rw same at (rw c.in-None.is at (c.in_ok-normalise.ensures.points point)) in
     let none : c.new.result.items ≡ [] = grind arith in
-    record { exact = (along_false g c.args.columns c.args.cols.now c.args.rows.now [] c.new.result.items none points, IsCharged_refl g g refl);
-      counted = let n = ap length none in omega (arith, n) }
+    record {
+      exact = (along_false g c.args.columns c.args.cols.now c.args.rows.now [] c.new.result.items none points, IsCharged_refl g g refl);
+      counted = let n = ap length none in omega (arith, n);
+    }
 
 pub returns-in_ok-push_without-in-Some : goal.returns-in_ok-push_without-in-Some
 returns-in_ok-push_without-in-Some c =
@@ -32,5 +34,7 @@ returns-in_ok-push_without-in-Some c =
     let none : c.new-lists.result.items ≡ [] = grind arith in
     let added : AddsAlong g c.args.columns c.args.cols.now (HoldRows normal) c.new-lists.result.items c.push_without.new.lists.items = grind arith in
     let charged : IsCharged g c.push_without.new.meter = grind arith in
-    record { exact = (along_normal g c.args.columns c.args.cols.now c.args.rows.now normal [] c.push_without.new.lists.items points (rw none at added), charged);
-      counted = let w : g.units + length c.push_without.new.lists.items ≤ c.push_without.new.meter.units + (length c.new-lists.result.items + 1) = grind arith in let n = ap length none in omega (arith, w, n) }
+    record {
+      exact = (along_normal g c.args.columns c.args.cols.now c.args.rows.now normal [] c.push_without.new.lists.items points (rw none at added), charged);
+      counted = let w : g.units + length c.push_without.new.lists.items ≤ c.push_without.new.meter.units + (length c.new-lists.result.items + 1) = grind arith in let n = ap length none in omega (arith, w, n);
+    }

@@ -18,7 +18,7 @@ returns-in-Nothing c = (
 pub returns-in_ok-write_line-in-Show : goal.returns-in_ok-write_line-in-Show
 returns-in_ok-write_line-in-Show c = (
   shown c.in-Show.kept.value,
-  c.in_ok-write_line-in-Show.ensures ∙ ap (λ (v : KeptValue). c.args.text.now.items ++ (printed v ++ 10 ∷ [])) c.value.ensures,
+  c.in_ok-write_line-in-Show.ensures ∙ ap (λ (v : KeptValue). c.args.text.now.items ++ (printed v ++ 10 ∷ [])) c.value.ensures.content,
   refl,
   subst (λ (w : Work). Does w c.args.state.now c.args.state.now (shown c.in-Show.kept.value)) (sym c.in-Show.is) (refl, refl),
 )

@@ -1,13 +1,14 @@
 use Rattle.std.proofs.Common.{◌≡◌, take}
 use Rattle.std.specs.Prelude.{unsigned_abs}
-use Rattle.isl_meter.specs.Gauge.{limit_of, IsCharged}
+use Rattle.isl_meter.specs.Gauge.{limit_of}
 use Rattle.isl_union.specs.KeptValue.{Has}
 use Rattle.isl_eval.specs.Selection.{PostHas}
-use Rattle.isl_eval.specs.Worked.{post_value}
+use Rattle.isl_eval.specs.Worked.{IsWorkedPost}
 use Rattle.isl_eval.specs.Evaluation.{IsValueOf}
 use Rattle.isl_eval.proofs.selected.past_postfixes.Given as goal
 
 abbrev pub invariant-loop-postfix : goal.invariant-loop-postfix
 invariant-loop-postfix l =
-    IsValueOf (post_value l.initial.left.value (take l.postfix-index l.postfixes)) l.initial.left.value.params (λ v x. PostHas (Has l.initial.left.value v) (take l.postfix-index l.postfixes) x) (unsigned_abs (limit_of l.fn.meter)) l.left.value
-    × IsCharged l.fn.meter l.meter × (l.meter.units ≡ l.fn.meter.units)
+    IsValueOf (IsWorkedPost l.initial.left.value (take l.postfix-index l.postfixes)) l.initial.left.value.params
+    (λ v x. PostHas (Has l.initial.left.value v) (take l.postfix-index l.postfixes) x) (unsigned_abs (limit_of l.fn.meter)) l.left.value
+    × (l.meter ≡ l.fn.meter)

@@ -10,36 +10,36 @@ returns-in-Err-clause-cause c =
 pub returns-in-Ok-prepare-clause-fits : goal.returns-in-Ok-prepare-clause-fits
 returns-in-Ok-prepare-clause-fits c =
     performed_fits (record { state = c.args.state.now; meter = c.args.meter.now }) c.args.bytes.now c.in-Ok.stmt c.in-Ok.ensures c.prepare.new.meter
-    c.in-Ok-prepare.work c.in-Ok-prepare.ensures.made c.args.text.now.items c.perform.new.state c.perform.new.text.items c.in-Ok-prepare.ensures.units c.perform.result c.requires
+    c.in-Ok-prepare.work c.in-Ok-prepare.ensures c.args.text.now.items c.perform.new.state c.perform.new.text.items c.perform.result c.requires
     c.perform.ensures
 
 pub returns-in-Ok-prepare-clause-ok : goal.returns-in-Ok-prepare-clause-ok
 returns-in-Ok-prepare-clause-ok c =
     performed_answers (record { state = c.args.state.now; meter = c.args.meter.now }) c.args.bytes.now c.in-Ok.stmt c.in-Ok.ensures c.prepare.new.meter
-    c.in-Ok-prepare.work c.in-Ok-prepare.ensures.made c.args.text.now.items c.perform.new.state c.perform.new.text.items c.in-Ok-prepare.ensures.units c.perform.result
+    c.in-Ok-prepare.work c.in-Ok-prepare.ensures c.args.text.now.items c.perform.new.state c.perform.new.text.items c.perform.result
     c.perform.ensures
 
 pub returns-in-Ok-prepare-clause-cause : goal.returns-in-Ok-prepare-clause-cause
 returns-in-Ok-prepare-clause-cause c =
     performed_refuses (record { state = c.args.state.now; meter = c.args.meter.now }) c.args.bytes.now c.in-Ok.stmt c.in-Ok.ensures c.prepare.new.meter
-    c.in-Ok-prepare.work c.in-Ok-prepare.ensures.made c.args.text.now.items c.perform.new.state c.perform.new.text.items c.in-Ok-prepare.ensures.units c.perform.result
+    c.in-Ok-prepare.work c.in-Ok-prepare.ensures c.args.text.now.items c.perform.new.state c.perform.new.text.items c.perform.result
     c.perform.ensures
 
 pub returns-in-Ok-prepare-clause-meter : goal.returns-in-Ok-prepare-clause-meter
 returns-in-Ok-prepare-clause-meter c =
     performed_meter (record { state = c.args.state.now; meter = c.args.meter.now }) c.args.bytes.now c.in-Ok.stmt c.in-Ok.ensures c.prepare.new.meter
-    c.in-Ok-prepare.work c.in-Ok-prepare.ensures.made c.args.text.now.items c.perform.new.state c.perform.new.text.items c.in-Ok-prepare.ensures.units c.perform.result
+    c.in-Ok-prepare.work c.in-Ok-prepare.ensures c.args.text.now.items c.perform.new.state c.perform.new.text.items c.perform.result
 
 pub returns-clause-fits : goal.returns-clause-fits
 returns-clause-fits c =
-    let same = unworked_limit (scope_of c.args.state.now) c.in-Ok.stmt c.args.meter.now c.prepare.new.meter c.in-Err-prepare.refusal c.in-Err-prepare.ensures.made in
+    let same = unworked_limit (scope_of c.args.state.now) c.in-Ok.stmt c.args.meter.now c.prepare.new.meter c.in-Err-prepare.refusal c.in-Err-prepare.ensures in
     subst (λ (z : _). Fits z c.args.state.now) (sym same) c.requires
 
 pub returns-clause-cause : goal.returns-clause-cause
 returns-clause-cause c =
     unworked_refuses (record { state = c.args.state.now; meter = c.args.meter.now }) c.args.bytes.now c.in-Ok.stmt c.in-Ok.ensures c.prepare.new.meter
-    c.in-Err-prepare.refusal c.in-Err-prepare.ensures.made c.in-Err-prepare.ensures.units
+    c.in-Err-prepare.refusal c.in-Err-prepare.ensures
 
 pub returns-clause-meter : goal.returns-clause-meter
 returns-clause-meter c =
-    unworked_meter (scope_of c.args.state.now) c.in-Ok.stmt c.args.meter.now c.prepare.new.meter c.in-Err-prepare.refusal c.in-Err-prepare.ensures.made
+    unworked_meter (scope_of c.args.state.now) c.in-Ok.stmt c.args.meter.now c.prepare.new.meter c.in-Err-prepare.refusal c.in-Err-prepare.ensures

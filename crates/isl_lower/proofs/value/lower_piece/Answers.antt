@@ -1,33 +1,47 @@
-use Rattle.std.proofs.Common.{◌≡◌, ◌∙◌, ap, All, subst}
+use Rattle.std.proofs.Common.{All, IfSome, sym, subst, option_map}
+use Rattle.std.proofs.lemmas.Result.{IfOk-weaker}
 use Rattle.isl_meter.specs.Gauge.{Gauge}
 use Rattle.isl_space.specs.Space.{space_form_of}
-use Rattle.isl_piece.specs.Piece.{PieceView}
-use Rattle.isl_piece.specs.Row.{IsWellFormed, IsRowWithin}
-use Rattle.isl_lower.specs.Rows.{piece_width}
-use Rattle.isl_lower.proofs.ValueLaws.{written_moduli, written_formed, made_piece, piece_made, piece_of_value}
+use Rattle.isl_space.specs.SpaceForm.{IsWellFormedSpace}
+use Rattle.isl_piece.specs.Row.{IsRowWithin}
+use Rattle.isl_piece.specs.System.{IsSystemWithin}
+use Rattle.isl_union.specs.Live.{normal_of, IsLiveOf}
+use Rattle.isl_union.specs.Piece.{kept_piece, piece_of, IsPieceOf}
+use Rattle.isl_lower.specs.Rows.{rows_written}
+use Rattle.isl_lower.specs.Value.{piece_lowered}
+use Rattle.isl_lower.proofs.ValueLaws.{found_within, made_free, made_lowered, system_made, there_within}
 use Rattle.isl_lower.proofs.value.lower_piece.Goals as goal
 
-pub normalise-requires-clause-moduli : goal.normalise-requires-clause-moduli
-normalise-requires-clause-moduli c = written_moduli c.args.params.now c.args.piece.now c.in-Ok.rows c.in-Ok.ensures.rows.0
-
-pub returns-in-Ok-new : goal.returns-in-Ok-new
-returns-in-Ok-new c =
+pub live_piece-requires : goal.live_piece-requires
+live_piece-requires c =
     let params = c.args.params.now in
     let piece = c.args.piece.now in
-    let kept = c.in-Ok-Some.kept in
-    let columns = c.width.result in
-    let space = space_form_of c.in-Ok-space_of.space in
-    let made = c.in-Ok-new.piece in
-    let written = c.in-Ok.ensures.rows in
-    let exact = rw (c.in-Ok-Some.field-0-is) at c.in-Ok-Some.ensures.exact in
-    let normal = rw (c.in-Ok-Some.field-0-is) at c.in-Ok-Some.ensures.normal in
-    let within = rw (c.in-Ok-Some.field-0-is) at c.in-Ok-Some.ensures.within in
-    let formed = rw (c.in-Ok-Some.field-0-is) at (c.in-Ok-Some.ensures.shape columns (rw (written.0, c.width.ensures) (written_formed params piece))) in
-    let whole : made ≡ made_piece space columns kept = c.in-Ok-new.ensures ∙ ap (λ s. let p : PieceView = record { space = space; system = s } in p) c.from_rows-system.ensures in (
-      piece_made params piece c.in-Ok.rows kept columns space made written.0 exact c.in-Ok-space_of.ensures whole,
-      record {
-        sound = piece_of_value params piece kept columns space made c.requires.plain c.width.ensures formed normal c.in-Ok-space_of.ensures c.requires.well_formed whole;
-        within = rw whole (subst (λ (g : Gauge). All (IsRowWithin g) kept) written.2 within);
-      },
-      written.2,
-    )
+    let h = c.rows_written.new.meter in
+    let written = c.in_ok-rows.ensures.rows in
+    let s = c.from_rows-system.result in
+    let plain = c.requires.plain in
+    let is = system_made params piece plain c.in_ok-rows.rows c.width.result s written.0 c.width.ensures c.from_rows-system.ensures in
+    let fits : All (IsRowWithin h) (rows_written params piece) =
+    subst (λ (g : Gauge). All (IsRowWithin g) (rows_written params piece)) (sym written.2) (rw written.0 at written.1) in
+    subst (IsSystemWithin h) (sym is) (there_within params piece plain h fits)
+
+pub returns-clause-found : goal.returns-clause-found
+returns-clause-found c =
+    let g = c.args.meter.now in
+    let params = c.args.params.now in
+    let piece = c.args.piece.now in
+    let plain = c.requires.plain in
+    let written = c.in_ok-rows.ensures.rows in
+    let s = c.from_rows-system.result in
+    let space = space_form_of c.in_ok-space.space in
+    let same = c.in_ok-space.ensures in
+    let is = system_made params piece plain c.in_ok-rows.rows c.width.result s written.0 c.width.ensures c.from_rows-system.ensures in
+    let fits = rw written.0 at written.1 in
+    let formed = subst IsWellFormedSpace (sym same) c.requires.well_formed in
+    IfOk-weaker c.live_piece.result
+    (λ found. IsLiveOf params (normal_of (piece_of space s)) (option_map kept_piece found) × IfSome found (IsPieceOf params))
+    (λ found. IsLiveOf params (piece_lowered params piece) (option_map kept_piece found) × IfSome found (IsPieceOf params)
+    × IfSome found (λ kept. IsSystemWithin g kept.system))
+    (λ found h. let exact = made_lowered params piece plain space s same is (option_map kept_piece found) h.0 in
+    (exact, h.1, found_within params piece plain g fits found exact h.1))
+    (c.live_piece.ensures.found params formed (made_free params piece plain space s same is))

@@ -1,44 +1,77 @@
-use Rattle.std.proofs.Common.{◌≡◌, sym, ap, ◌∙◌, ◌+◌, length}
+use Rattle.std.proofs.Common.{◌≡◌, ap, ◌∙◌}
 use Rattle.std.proofs.lemmas.Result.{IfOk-weaker}
 use Rattle.isl_space.specs.Space.{space_form_of}
-use Rattle.isl_space.specs.SpaceForm.{SpaceForm}
-use Rattle.isl_piece.specs.declared.system.System.{System}
-use Rattle.isl_union.specs.Piece.{kept_piece}
-use Rattle.isl_union.proofs.AlignedLaws.{made_kept}
+use Rattle.isl_piece.specs.Placed.{placed_system}
+use Rattle.isl_piece.specs.System.{free_columns}
+use Rattle.isl_union.specs.Live.{settled}
+use Rattle.isl_union.specs.Piece.{kept_piece, piece_of}
 use Rattle.isl_maps.specs.Inverse.{inverse_piece, inverse_places, inverse_space}
-use Rattle.isl_maps.proofs.InverseLaws.{turned_places, turned_formed, turned_is}
+use Rattle.isl_maps.proofs.InverseLaws.{made_formed, made_free, made_live, made_places, made_turned, made_within}
 use Rattle.isl_maps.proofs.turned.inverse_piece.Goals as goal
 
-pub moved_rows-requires-clause-places : goal.moved_rows-requires-clause-places
-moved_rows-requires-clause-places c =
+pub placed-requires : goal.placed-requires
+placed-requires c =
     let piece = c.args.piece.now in
-    turned_places c.args.params.now (kept_piece piece) c.requires.piece.kept c.system.result.now.columns c.as_slice.result.now
-    (ap (λ (s : System). s.columns) c.system.ensures ∙ c.requires.piece.columns)
-    (c.as_slice.ensures.value ∙ c.in_ok-places.ensures ∙ ap (λ (s : SpaceForm). inverse_places c.len.result s) c.space.ensures ∙
-    ap (λ n. inverse_places n piece.space) c.len.ensures.len)
+    let columns = c.free.result in
+    let places = c.as_slice.result.now in
+    let wide = c.free.ensures ∙ ap free_columns c.system-own.ensures in
+    let at = c.as_slice.ensures.value ∙ c.in_ok-places.ensures ∙ ap (inverse_places c.len.result) c.space.ensures
+    ∙ ap (λ n. inverse_places n piece.space) c.len.ensures.len in
+    (made_places c.args.meter.now c.args.params.now piece c.requires.piece c.requires.within columns places wide at).inside
 
-pub moved_rows-requires-clause-formed : goal.moved_rows-requires-clause-formed
-moved_rows-requires-clause-formed c =
+pub settled_piece-requires-clause-within : goal.settled_piece-requires-clause-within
+settled_piece-requires-clause-within c =
     let piece = c.args.piece.now in
-    rw c.system-2.ensures
-    (turned_formed c.args.params.now (kept_piece piece) c.requires.piece.kept c.as_slice.result.now
-    (c.as_slice.ensures.value ∙ c.in_ok-places.ensures ∙ ap (λ (s : SpaceForm). inverse_places c.len.result s) c.space.ensures ∙
-    ap (λ n. inverse_places n piece.space) c.len.ensures.len))
+    let columns = c.free.result in
+    let places = c.as_slice.result.now in
+    let wide = c.free.ensures ∙ ap free_columns c.system-own.ensures in
+    let at = c.as_slice.ensures.value ∙ c.in_ok-places.ensures ∙ ap (inverse_places c.len.result) c.space.ensures
+    ∙ ap (λ n. inverse_places n piece.space) c.len.ensures.len in
+    let space = c.in_ok-space.ensures ∙ ap inverse_space c.space-2.ensures in
+    let system = c.in_ok-system.ensures.exact ∙ ap (placed_system columns places) c.system-own.ensures in
+    made_within c.args.meter.now c.args.params.now piece c.requires.piece c.requires.within columns places wide at
+    (space_form_of c.in_ok-space.space) c.in_ok-system.system space system
+
+pub settled_piece-requires-clause-live : goal.settled_piece-requires-clause-live
+settled_piece-requires-clause-live c =
+    let piece = c.args.piece.now in
+    let columns = c.free.result in
+    let places = c.as_slice.result.now in
+    let wide = c.free.ensures ∙ ap free_columns c.system-own.ensures in
+    let at = c.as_slice.ensures.value ∙ c.in_ok-places.ensures ∙ ap (inverse_places c.len.result) c.space.ensures
+    ∙ ap (λ n. inverse_places n piece.space) c.len.ensures.len in
+    let space = c.in_ok-space.ensures ∙ ap inverse_space c.space-2.ensures in
+    let system = c.in_ok-system.ensures.exact ∙ ap (placed_system columns places) c.system-own.ensures in
+    made_live c.args.meter.now c.args.params.now piece c.requires.piece c.requires.within columns places wide at
+    (space_form_of c.in_ok-space.space) c.in_ok-system.system space system
 
 pub returns-clause-exact : goal.returns-clause-exact
 returns-clause-exact c =
     let piece = c.args.piece.now in
-    let columns = c.system.result.now.columns in
-    let exact = c.in_ok-rows.ensures.exact in
-    IfOk-weaker c.new.result (λ m. m ≡ record { space = space_form_of c.in_ok-inverse_space.field-0; system = c.from_rows-system.result })
-    (λ m. kept_piece m ≡ inverse_piece c.args.params.now (kept_piece piece))
-    (λ m is.
-    turned_is c.args.params.now (kept_piece piece) c.requires.piece.kept columns c.as_slice.result.now c.in_ok-rows.rows (kept_piece m)
-    (ap (λ (s : System). s.columns) c.system.ensures ∙ c.requires.piece.columns)
-    (c.as_slice.ensures.value ∙ c.in_ok-places.ensures ∙ ap (λ (s : SpaceForm). inverse_places c.len.result s) c.space.ensures ∙
-    ap (λ n. inverse_places n piece.space) c.len.ensures.len)
-    (rw c.system-2.ensures at exact)
-    (made_kept m (space_form_of c.in_ok-inverse_space.field-0) (inverse_space piece.space) c.from_rows-system.result columns
-    c.in_ok-rows.rows is
-    (c.in_ok-inverse_space.ensures ∙ ap inverse_space c.space-2.ensures) c.from_rows-system.ensures))
-    c.new.ensures
+    let columns = c.free.result in
+    let places = c.as_slice.result.now in
+    let wide = c.free.ensures ∙ ap free_columns c.system-own.ensures in
+    let at = c.as_slice.ensures.value ∙ c.in_ok-places.ensures ∙ ap (inverse_places c.len.result) c.space.ensures
+    ∙ ap (λ n. inverse_places n piece.space) c.len.ensures.len in
+    let space = c.in_ok-space.ensures ∙ ap inverse_space c.space-2.ensures in
+    let system = c.in_ok-system.ensures.exact ∙ ap (placed_system columns places) c.system-own.ensures in
+    let is = made_turned c.args.meter.now c.args.params.now piece c.requires.piece c.requires.within columns places wide at
+    (space_form_of c.in_ok-space.space) c.in_ok-system.system space system in
+    IfOk-weaker c.settled_piece.result (λ m. kept_piece m ≡ settled (piece_of (space_form_of c.in_ok-space.space) c.in_ok-system.system))
+    (λ m. kept_piece m ≡ inverse_piece c.args.params.now (kept_piece piece)) (λ m e. e ∙ is) c.settled_piece.ensures.exact
+
+pub returns-clause-sound : goal.returns-clause-sound
+returns-clause-sound c =
+    let piece = c.args.piece.now in
+    let columns = c.free.result in
+    let places = c.as_slice.result.now in
+    let wide = c.free.ensures ∙ ap free_columns c.system-own.ensures in
+    let at = c.as_slice.ensures.value ∙ c.in_ok-places.ensures ∙ ap (inverse_places c.len.result) c.space.ensures
+    ∙ ap (λ n. inverse_places n piece.space) c.len.ensures.len in
+    let space = c.in_ok-space.ensures ∙ ap inverse_space c.space-2.ensures in
+    let system = c.in_ok-system.ensures.exact ∙ ap (placed_system columns places) c.system-own.ensures in
+    let formed = made_formed c.args.meter.now c.args.params.now piece c.requires.piece c.requires.within columns places wide at
+    (space_form_of c.in_ok-space.space) c.in_ok-system.system space system in
+    let free = made_free c.args.meter.now c.args.params.now piece c.requires.piece c.requires.within columns places wide at
+    (space_form_of c.in_ok-space.space) c.in_ok-system.system space system in
+    c.settled_piece.ensures.sound c.args.params.now formed free

@@ -34,4 +34,5 @@ returns-clause-sound c params formed free =
     IfOk-weaker c.new.result (λ m. m ≡ record { space = space_form_of c.in_ok-copy-in-Some.field-0; system = made }) (IsPieceOf params)
     (λ m is. settled_sound c.args.meter.now params space s c.requires.within free c.requires.live m
     (settled_made m space (space_form_of c.in_ok-copy-in-Some.field-0) s rows c.in_ok-normalise.field-0
-    c.in_ok-normalise.ensures.exact c.in-Some.is c.in_ok-copy-in-Some.ensures is) (ap (λ (x : PieceView). x.system.columns) is) formed) c.new.ensures
+    c.in_ok-normalise.ensures.exact c.in-Some.is c.in_ok-copy-in-Some.ensures is)
+    (ap (λ (x : PieceView). x.system.columns) is) formed) c.new.ensures

@@ -1,0 +1,40 @@
+use Rattle.std.proofs.Common.{◌≡◌, sym, ap, ◌∙◌, subst, ◌∷◌, [], map}
+use Rattle.std.specs.List.{All}
+use Rattle.isl_space.specs.SpaceForm.{SpaceForm}
+use Rattle.isl_piece.specs.declared.system.System.{System}
+use Rattle.isl_piece.specs.System.{IsSystemWithin, free_columns}
+use Rattle.isl_difference.specs.Difference.{IsCovered}
+use Rattle.isl_union.specs.Minus.{systems_in, AreCovered}
+use Rattle.isl_union.specs.Piece.{kept_piece}
+use Rattle.isl_union.proofs.CompareLaws.{covered_back, covered_from, true_exactly}
+use Rattle.isl_union.proofs.MinusLaws.{systems_free, systems_within, view_somewhere}
+use Rattle.isl_union.proofs.compare.is_piece_covered.Goals as goal
+
+pub is_covered-requires-clause-others_within : goal.is_covered-requires-clause-others_within
+is_covered-requires-clause-others_within c =
+    rw c.as_slice.ensures.value
+    (subst (All (IsSystemWithin c.args.meter.now)) (sym c.in_ok-systems.ensures)
+    (systems_within c.args.meter.now _ c.args.others.now c.requires.others_within))
+
+pub is_covered-requires-clause-columns : goal.is_covered-requires-clause-columns
+is_covered-requires-clause-columns c =
+    let piece = c.args.piece.now in
+    let others = c.args.others.now in
+    let are = c.in_ok-systems.ensures ∙ ap (λ (s : SpaceForm). systems_in s others) c.space.ensures in
+    rw (c.as_slice.ensures.value, c.system.ensures)
+    (subst (All (λ (s : System). free_columns s ≡ free_columns piece.system)) (sym are)
+    (systems_free c.args.params.now piece others c.requires.piece c.requires.others))
+
+pub returns-clause-exact : goal.returns-clause-exact
+returns-clause-exact c =
+    let params = c.args.params.now in
+    let piece = c.args.piece.now in
+    let others = c.args.others.now in
+    let systems = map (λ s. s.now) c.in_ok-systems.systems.items in
+    let are = c.in_ok-systems.ensures ∙ ap (λ (s : SpaceForm). systems_in s others) c.space.ensures in
+    let covered = rw (c.as_slice.ensures.value, c.system.ensures) at c.is_covered.ensures.covered in
+    let only = rw (c.as_slice.ensures.value, c.system.ensures) at c.is_covered.ensures.only in
+    true_exactly (IsCovered piece.system systems) (AreCovered params (kept_piece piece ∷ []) (map kept_piece others)) c.is_covered.result
+    (covered_from params piece c.requires.piece others systems are)
+    (covered_back params piece c.requires.piece others systems are c.requires.names) covered
+    (only (view_somewhere params piece c.requires.piece))

@@ -1,0 +1,49 @@
+use Rattle.std.proofs.Common.{◌≡◌, [], sym, ap, ◌∙◌, arith, subst, length, map}
+use Rattle.std.specs.List.{All}
+use Rattle.std.proofs.lemmas.Grind.{common_steps}
+use Rattle.std.proofs.lemmas.List.{nil_from_length}
+use Rattle.isl_space.specs.SpaceForm.{SpaceForm}
+use Rattle.isl_piece.specs.declared.system.System.{System}
+use Rattle.isl_piece.specs.System.{IsSystemWithin, free_columns}
+use Rattle.isl_union.specs.Minus.{piece_in, systems_in}
+use Rattle.isl_union.proofs.MinusLaws.{left_alone, left_over, systems_free, systems_within}
+use Rattle.isl_union.proofs.minus.piece_without.Goals as goal
+
+pub returns-then-is_empty-clause-exact : goal.returns-then-is_empty-clause-exact
+returns-then-is_empty-clause-exact c =
+    let piece = c.args.piece.now in
+    let others = c.args.others.now in
+    let count : length c.in_ok-systems.systems.items ≡ 0 = grind (arith, common_steps) in
+    let none : systems_in piece.space others ≡ [] =
+    sym (ap (λ (s : SpaceForm). systems_in s others) c.space-space.ensures) ∙ sym c.in_ok-systems.ensures
+    ∙ ap (map (λ s. s.now)) (nil_from_length c.in_ok-systems.systems.items count) in
+    left_alone c.args.meter.now c.args.params.now piece c.requires.piece others c.push.new.self.items none c.requires.piece_within
+    (grind (arith, common_steps))
+
+pub outside-requires-clause-others_within : goal.outside-requires-clause-others_within
+outside-requires-clause-others_within c =
+    rw c.as_slice.ensures.value
+    (subst (All (IsSystemWithin c.args.meter.now)) (sym c.in_ok-systems.ensures)
+    (systems_within c.args.meter.now _ c.args.others.now c.requires.others_within))
+
+pub outside-requires-clause-columns : goal.outside-requires-clause-columns
+outside-requires-clause-columns c =
+    let piece = c.args.piece.now in
+    let others = c.args.others.now in
+    let are = c.in_ok-systems.ensures ∙ ap (λ (s : SpaceForm). systems_in s others) c.space-space.ensures in
+    rw (c.as_slice.ensures.value, c.system.ensures)
+    (subst (All (λ (s : System). free_columns s ≡ free_columns piece.system)) (sym are)
+    (systems_free c.args.params.now piece others c.requires.piece c.requires.others))
+
+pub returns-clause-exact : goal.returns-clause-exact
+returns-clause-exact c =
+    let g = c.args.meter.now in
+    let piece = c.args.piece.now in
+    let others = c.args.others.now in
+    let systems = map (λ s. s.now) c.in_ok-systems.systems.items in
+    let parts = c.in_ok-left.left.items in
+    let left = c.in_ok-pieces_in.field-0.items in
+    let exact = rw (c.as_slice.ensures.value, c.system.ensures) at c.in_ok-left.ensures.exact in
+    left_over g c.args.params.now piece c.requires.piece others systems parts left
+    (c.in_ok-systems.ensures ∙ ap (λ (s : SpaceForm). systems_in s others) c.space-space.ensures) exact.0
+    (c.in_ok-pieces_in.ensures ∙ ap (λ (s : SpaceForm). map (piece_in s) parts) c.space-space.ensures)

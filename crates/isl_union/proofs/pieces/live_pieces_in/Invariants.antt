@@ -1,0 +1,13 @@
+use Rattle.std.specs.List.{All}
+use Rattle.isl_meter.specs.Gauge.{IsCharged}
+use Rattle.isl_space.specs.Space.{space_form_of}
+use Rattle.isl_union.specs.Piece.{IsPieceOf}
+use Rattle.isl_union.proofs.PiecesLaws.{AreLiveSoFar}
+use Rattle.isl_union.proofs.pieces.live_pieces_in.Given as goal
+
+abbrev pub invariant-loop-system : goal.invariant-loop-system
+invariant-loop-system l = record {
+  live : AreLiveSoFar l.params (space_form_of l.space) l.fn.systems.items l.system-iterator.rest.items l.kept.items;
+  sound : All (IsPieceOf l.params) l.kept.items;
+  charged : IsCharged l.fn.meter l.meter;
+}

@@ -1,0 +1,23 @@
+use Rattle.std.proofs.Common.{sym, subst}
+use Rattle.isl_union.specs.KeptValue.{IsKeptValue}
+use Rattle.isl_union.proofs.MinusLaws.{left_numbers, left_value}
+use Rattle.isl_union.proofs.PieceLaws.{IsKeptValue-from_pieces}
+use Rattle.isl_union.proofs.value.Value.minus.Goals as goal
+
+pub returns-clause-kept : goal.returns-clause-kept
+returns-clause-kept c =
+    subst IsKeptValue (sym c.from_normal.ensures)
+    (IsKeptValue-from_pieces c.in_ok-pair.pair.params c.in_ok-left.left.items c.in_ok-pair.ensures.exact.well_formed
+    c.in_ok-left.ensures.exact.sound)
+
+pub returns-clause-elements : goal.returns-clause-elements
+returns-clause-elements c =
+    let exact = rw (c.as_slice.ensures.value, c.as_slice-2.ensures.value) at c.in_ok-left.ensures.exact in
+    let pair = c.in_ok-pair.pair in
+    left_value c.args.meter.now c.args.self.now c.args.other.now c.from_normal.result pair.params pair.own.items pair.others.items
+    c.in_ok-left.left.items c.in_ok-pair.ensures.exact exact c.from_normal.ensures
+
+pub returns-clause-numbers : goal.returns-clause-numbers
+returns-clause-numbers c =
+    left_numbers c.args.meter.now c.in_ok-pair.pair.params c.in_ok-left.left.items c.from_normal.result c.in_ok-left.ensures.exact.sound
+    c.in_ok-left.ensures.exact.within c.from_normal.ensures

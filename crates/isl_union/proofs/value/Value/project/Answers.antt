@@ -1,0 +1,153 @@
+use Rattle.std.proofs.Common.{◌≡◌, ◌↔◌, ◌∙◌, sym, ap, arith, subst, false, ◌<◌, ◌≤◌, List, [], length, get_or, map, take}
+use Rattle.std.specs.List.{All, Any}
+use Rattle.isl_math.proofs.ListLaws.{All-unmapped}
+use Rattle.isl_meter.proofs.CutLemmas.{IsCharged_trans}
+use Rattle.isl_space.specs.Name.{Name}
+use Rattle.isl_space.specs.Space.{space_form_of}
+use Rattle.isl_piece.specs.declared.system.System.{System}
+use Rattle.isl_piece.specs.System.{IsSystemWithin}
+use Rattle.isl_piece.proofs.FormedLaws.{system_within_kept}
+use Rattle.isl_union.specs.KeptValue.{KeptPiece, columns_of}
+use Rattle.isl_union.specs.Piece.{kept_piece, IsPieceOf}
+use Rattle.isl_union.specs.Project.{IsProjected}
+use Rattle.isl_union.proofs.MadeLaws.{not_true}
+use Rattle.isl_union.proofs.MeetSteps.{charged_bits, item_has}
+use Rattle.isl_union.proofs.PiecesLaws.{made_has, made_kept, made_more, made_skip, made_small, next_piece, plain_more, small_before}
+use Rattle.isl_union.proofs.PiecesLaws.{through}
+use Rattle.isl_union.proofs.ProjectLaws.{between_same, projected, projected_columns, projected_exactly, HasBetween}
+use Rattle.isl_union.proofs.SystemLaws.{view_free}
+use Rattle.isl_union.proofs.ValueLaws.{pieces_within}
+use Rattle.isl_union.proofs.value.Value.project.Goals as goal
+
+pub without_columns-requires-clause-within : goal.without_columns-requires-clause-within
+without_columns-requires-clause-within c =
+    let g = c.args.meter.now in
+    let self = c.args.self.now in
+    let pieces = c.pieces-pieces.result.now in
+    let piece = c.piece-item.result in
+    let low : c.loop-piece.piece-index < length pieces = omega arith in
+    let all = pieces_within g self.params pieces self.pieces c.pieces-pieces.ensures.well_formed c.pieces-pieces.ensures.content
+    c.requires.within in
+    let here = item_has (λ p. IsSystemWithin g p.system) pieces c.loop-piece.piece-index piece low c.piece-item.is all in
+    subst (IsSystemWithin c.loop-piece.meter) (sym c.system.ensures)
+    (system_within_kept c.loop-piece.meter g piece.system (charged_bits g c.loop-piece.meter c.loop-piece.invariant.charged) here)
+
+pub live_pieces_in-requires-clause-columns : goal.live_pieces_in-requires-clause-columns
+live_pieces_in-requires-clause-columns c =
+    let params = c.params-params.result.now in
+    let pieces = c.pieces-pieces.result.now in
+    let piece = c.piece-item.result in
+    let space = space_form_of c.args.space.now in
+    let low : c.loop-piece.piece-index < length pieces = omega arith in
+    let own = item_has (IsPieceOf c.args.self.now.params) pieces c.loop-piece.piece-index piece low c.piece-item.is
+    c.pieces-pieces.ensures.well_formed in
+    let sound = subst (λ (n : List Name). IsPieceOf n piece) (sym c.params-params.ensures.content) own in
+    let at : space_form_of c.space.result.now ≡ space = grind arith in
+    let lies = sym c.space.ensures ∙ at in
+    let free = view_free params piece sound ∙ ap (columns_of params) lies in
+    let projection = rw (c.system.ensures, c.len.ensures.len) at c.in_ok-systems.ensures.projection in
+    projected_columns params piece space (space_form_of c.args.to.now) c.args.from c.args.count c.requires.narrower lies free
+    c.in_ok-systems.systems.items projection
+
+pub live_pieces_in-requires-clause-within : goal.live_pieces_in-requires-clause-within
+live_pieces_in-requires-clause-within c = λ k d l.
+    system_within_kept c.without_columns.new.meter c.loop-piece.meter (get_or c.in_ok-systems.systems.items k d)
+    (charged_bits c.loop-piece.meter c.without_columns.new.meter c.in_ok-systems.ensures.meter) (c.in_ok-systems.ensures.within k d l)
+
+pub loop-piece-preserved : goal.loop-piece-preserved
+loop-piece-preserved c =
+    let g = c.args.meter.now in
+    let h = c.loop-piece.meter in
+    let m = c.without_columns.new.meter in
+    let params = c.params-params.result.now in
+    let pieces = c.pieces-pieces.result.now in
+    let i = c.loop-piece.piece-index in
+    let piece = c.piece-item.result in
+    let space = space_form_of c.args.space.now in
+    let to = space_form_of c.args.to.now in
+    let kept = c.loop-piece.kept.items in
+    let more = c.in_ok-live_pieces_in.field-0.items in
+    let pushed = c.append.new.pieces.items in
+    let so_far = c.loop-piece.invariant in
+    let told = c.in_ok-live_pieces_in.ensures in
+    let low : i < length pieces = omega arith in
+    let own = item_has (IsPieceOf c.args.self.now.params) pieces i piece low c.piece-item.is c.pieces-pieces.ensures.well_formed in
+    let sound = subst (λ (n : List Name). IsPieceOf n piece) (sym c.params-params.ensures.content) own in
+    let at : space_form_of c.space.result.now ≡ space = grind arith in
+    let lies = sym c.space.ensures ∙ at in
+    let free = view_free params piece sound ∙ ap (columns_of params) lies in
+    let projection = rw (c.system.ensures, c.len.ensures.len) at c.in_ok-systems.ensures.projection in
+    let charged = IsCharged_trans g h m so_far.charged c.in_ok-systems.ensures.meter in
+    record {
+      made = rw (next_piece pieces i piece low c.piece-item.is)
+          (made_more g params (HasBetween params space c.args.from c.args.count to) (map kept_piece (take i pieces)) (kept_piece piece) kept
+          so_far.made more pushed c.in_ok-append.ensures
+          (λ v e. through (told.elements v e)
+          (projected params piece space to c.args.from c.args.count c.requires.narrower lies free c.in_ok-systems.systems.items
+          projection v e))
+          told.sound (small_before g m (map kept_piece more) charged told.numbers));
+      plain = λ n.
+          let all = subst (All (λ (p : KeptPiece). p.definitions ≡ [])) (sym c.pieces-pieces.ensures.content) n in
+          let none = item_has (λ p. p.system.definitions ≡ []) pieces i piece low c.piece-item.is
+          (All-unmapped (λ (p : KeptPiece). p.definitions ≡ []) kept_piece pieces all) in
+          plain_more kept more pushed c.in_ok-append.ensures (so_far.plain n)
+          (told.definitions (c.in_ok-systems.ensures.definitions (ap (λ (s : System). s.definitions) c.system.ensures ∙ none)));
+      charged = IsCharged_trans g m c.live_pieces_in.new.meter charged told.meter;
+    }
+
+pub loop-piece-preserved-then-not-same : goal.loop-piece-preserved-then-not-same
+loop-piece-preserved-then-not-same c =
+    let params = c.params-params.result.now in
+    let pieces = c.pieces-pieces.result.now in
+    let i = c.loop-piece.piece-index in
+    let piece = c.piece-item.result in
+    let space = space_form_of c.args.space.now in
+    let to = space_form_of c.args.to.now in
+    let so_far = c.loop-piece.invariant in
+    let low : i < length pieces = omega arith in
+    let differs : c.same.result ≡ false = grind arith in
+    record {
+      made = rw (next_piece pieces i piece low c.piece-item.is)
+          (made_skip c.args.meter.now params (HasBetween params space c.args.from c.args.count to) (map kept_piece (take i pieces))
+          (kept_piece piece) c.loop-piece.kept.items so_far.made
+          (λ v e h. not_true c.same.result differs
+          (c.same.ensures.1 (c.space.ensures ∙ between_same params space c.args.from c.args.count to v e (kept_piece piece) h))));
+      plain = so_far.plain;
+      charged = so_far.charged;
+    }
+
+pub returns-clause-kept : goal.returns-clause-kept
+returns-clause-kept c =
+    let params = c.params-params.result.now in
+    let pieces = c.pieces-pieces.result.now in
+    let end : length pieces ≤ c.loop-piece.piece-index = omega arith in
+    made_kept c.args.meter.now params
+    (HasBetween params (space_form_of c.args.space.now) c.args.from c.args.count (space_form_of c.args.to.now))
+    pieces c.loop-piece.kept.items c.loop-piece.piece-index c.args.self.now.pieces c.from_normal.result end c.pieces-pieces.ensures.content
+    c.loop-piece.invariant.made (rw c.in_ok-copy.ensures at c.from_normal.ensures) c.len.ensures.well_formed
+
+pub returns-clause-elements : goal.returns-clause-elements
+returns-clause-elements c v e =
+    let self = c.args.self.now in
+    let params = c.params-params.result.now in
+    let pieces = c.pieces-pieces.result.now in
+    let space = space_form_of c.args.space.now in
+    let to = space_form_of c.args.to.now in
+    let end : length pieces ≤ c.loop-piece.piece-index = omega arith in
+    through
+    (made_has c.args.meter.now params (HasBetween params space c.args.from c.args.count to) pieces c.loop-piece.kept.items
+    c.loop-piece.piece-index self.pieces c.from_normal.result end c.pieces-pieces.ensures.content c.loop-piece.invariant.made
+    (rw c.in_ok-copy.ensures at c.from_normal.ensures) v e)
+    (subst (λ (n : List Name). Any (HasBetween n space c.args.from c.args.count to v e) self.pieces
+    ↔ IsProjected self space c.args.from c.args.count to v e) (sym c.params-params.ensures.content)
+    (projected_exactly self space c.args.from c.args.count to v e))
+
+pub returns-clause-numbers : goal.returns-clause-numbers
+returns-clause-numbers c =
+    let params = c.params-params.result.now in
+    let pieces = c.pieces-pieces.result.now in
+    let end : length pieces ≤ c.loop-piece.piece-index = omega arith in
+    made_small c.args.meter.now params
+    (HasBetween params (space_form_of c.args.space.now) c.args.from c.args.count (space_form_of c.args.to.now))
+    pieces c.loop-piece.kept.items c.loop-piece.piece-index c.args.self.now.pieces c.from_normal.result end c.pieces-pieces.ensures.content
+    c.loop-piece.invariant.made (rw c.in_ok-copy.ensures at c.from_normal.ensures)

@@ -1,0 +1,57 @@
+//! Values without definitions.
+
+ghost use Rattle.std.specs.Prelude.{◌≡◌, ◌↔◌, IfOk, MatchResult};
+ghost use Rattle.isl_meter.specs.Gauge.{IsCharged};
+ghost use Rattle.isl_meter.specs.declared.Cut.TheVariants.{NoMemory};
+ghost use Rattle.isl_space.specs.Element.{Element};
+ghost use Rattle.isl_space.specs.Valuation.{Valuation};
+ghost use Rattle.isl_union.specs.Fault.{IsCutFault};
+ghost use Rattle.isl_union.specs.KeptValue.{Has, HasNoDefinitions, IsKeptValue};
+ghost use Rattle.isl_union.specs.Numbers.{IsWithinLimit};
+ghost use Rattle.isl_union.specs.declared.fault.OpFault.TheVariants as op_fault;
+
+use crate::aligned::append;
+use crate::pieces::live_pieces_in;
+use crate::{OpFault, Value};
+use isl_elim::flatten;
+use isl_meter::Meter;
+use std::alloc::Global;
+
+impl Value {
+    /// The same elements at every valuation, in pieces that define no column. The pieces of this value that define none stay as
+    /// they are, and a value with no others is answered itself; no unit is used then. (isl manual, on integer divisions)
+    ///
+    /// # Errors
+    ///
+    /// `Overflow` where a number passes the limit of the meter, `Budget` where its units are used up, and `NoMemory`; never
+    /// `TooWide`.
+    pub fn flat(&self, alloc: Global, meter: &mut Meter) -> Result<Value, OpFault>
+        requires { IsWithinLimit meter.old self.now }
+        ensures kept { IfOk result IsKeptValue }
+        ensures params { IfOk result (λ value. value.params ≡ self.now.params) }
+        ensures elements { (valuation : Valuation) (element : Element)
+            → IfOk result (λ value. Has value valuation element ↔ Has self.now valuation element) }
+        ensures definitions { IfOk result HasNoDefinitions }
+        ensures numbers { IfOk result (IsWithinLimit meter.old) }
+        ensures same { HasNoDefinitions self.now
+            → MatchResult result (λ value. value ≡ self.now) (λ fault. fault ≡ op_fault.Cut NoMemory) × (meter.new ≡ meter.old) }
+        ensures meter { MatchResult result (λ _. IsCharged meter.old meter.new) (IsCutFault meter.old meter.new) }
+    {
+        let params = self.params();
+        let pieces = self.pieces();
+        let mut kept = Vec::with_capacity(alloc, pieces.len())?;
+        for piece in pieces {
+            let system = piece.system();
+            if system.definitions.is_empty() {
+                kept.push(piece.copy()?)?;
+                continue;
+            }
+            let systems = flatten(alloc, system, meter)?;
+            append(
+                &mut kept,
+                live_pieces_in(alloc, params, piece.space(), systems, meter)?,
+            )?;
+        }
+        Ok(Value::from_normal(params.copy(alloc)?, kept))
+    }
+}

@@ -1,0 +1,141 @@
+//! What one value has and another has not.
+
+ghost use Rattle.std.specs.Prelude.{◌≡◌, ◌↔◌, ◌≤◌, ◌∷◌, [], All, IfOk, MatchResult, length, map};
+ghost use Rattle.isl_meter.specs.Gauge.{IsCharged, IsCutBy};
+ghost use Rattle.isl_space.specs.Element.{Element};
+ghost use Rattle.isl_space.specs.Limits.{most_parameters};
+ghost use Rattle.isl_space.specs.Names.{joined};
+ghost use Rattle.isl_space.specs.Space.{space_form_of};
+ghost use Rattle.isl_space.specs.Valuation.{Valuation};
+ghost use Rattle.isl_piece.specs.System.{IsSystemWithin};
+ghost use Rattle.isl_union.specs.Fault.{IsFaultBy};
+ghost use Rattle.isl_union.specs.KeptValue.{Has, IsKeptValue};
+ghost use Rattle.isl_union.specs.Minus.{piece_in, systems_in, AreLeftOf};
+ghost use Rattle.isl_union.specs.Numbers.{AreWithinLimit, IsWithinLimit};
+ghost use Rattle.isl_union.specs.Piece.{kept_piece, IsPieceOf};
+
+use crate::aligned::append;
+use crate::pair::aligned_pair;
+use crate::{OpFault, Value};
+use isl_difference::outside;
+use isl_meter::{Cut, Meter};
+use isl_piece::{Piece, System};
+use isl_space::{Params, Space};
+use std::alloc::{AllocError, Global};
+
+/// The systems of those pieces that lie in the space.
+pub(crate) fn systems_in<'a>(
+    alloc: Global,
+    space: &Space,
+    pieces: &'a [Piece],
+) -> Result<Vec<&'a System>, AllocError>
+    ensures { IfOk result (λ systems. map (λ system. system.now) systems.items ≡ systems_in (space_form_of space.now) pieces.now) }
+{
+    let mut systems = Vec::new(alloc);
+    for piece in pieces {
+        if space.same(piece.space()) {
+            systems.push(piece.system())?;
+        }
+    }
+    Ok(systems)
+}
+
+// A piece of the space for each of the systems.
+fn pieces_in(alloc: Global, space: &Space, systems: Vec<System>) -> Result<Vec<Piece>, AllocError>
+    ensures { IfOk result (λ pieces. pieces.items ≡ map (piece_in (space_form_of space.now)) systems.items) }
+{
+    let mut pieces = Vec::with_capacity(alloc, systems.len())?;
+    for system in systems {
+        pieces.push(Piece::new(alloc, space.copy()?, system)?)?;
+    }
+    Ok(pieces)
+}
+
+// What is left of the piece without the others.
+#[tactic(auto, using(std::proofs::lemmas::Grind::common_steps, isl_meter::proofs::CutLemmas::charges))]
+fn piece_without(
+    alloc: Global,
+    params: &Params,
+    piece: &Piece,
+    others: &[Piece],
+    meter: &mut Meter,
+) -> Result<Vec<Piece>, Cut>
+    requires piece { IsPieceOf params.now piece.now }
+    requires others { All (IsPieceOf params.now) others.now }
+    requires piece_within { IsSystemWithin meter.old piece.now.system }
+    requires others_within { AreWithinLimit meter.old others.now }
+    ensures exact { IfOk result
+        (λ left. AreLeftOf meter.old params.now (kept_piece piece.now ∷ []) (map kept_piece others.now) left.items) }
+    ensures alone { systems_in piece.now.space others.now ≡ [] → IfOk result (λ left. left.items ≡ piece.now ∷ []) }
+    ensures meter { MatchResult result (λ _. IsCharged meter.old meter.new) (IsCutBy meter.old meter.new) }
+{
+    let space = piece.space();
+    let systems = systems_in(alloc, space, others)?;
+    if systems.is_empty() {
+        let mut whole = Vec::new(alloc);
+        whole.push(piece.copy()?)?;
+        return Ok(whole);
+    }
+    let left = outside(alloc, piece.system(), systems.as_slice(), meter)?;
+    Ok(pieces_in(alloc, space, left)?)
+}
+
+// What is left of the pieces without the others.
+#[tactic(auto, using(std::proofs::lemmas::Grind::common_steps, isl_meter::proofs::CutLemmas::charges))]
+fn pieces_without(
+    alloc: Global,
+    params: &Params,
+    pieces: &[Piece],
+    others: &[Piece],
+    meter: &mut Meter,
+) -> Result<Vec<Piece>, Cut>
+    requires pieces { All (IsPieceOf params.now) pieces.now }
+    requires others { All (IsPieceOf params.now) others.now }
+    requires pieces_within { AreWithinLimit meter.old pieces.now }
+    requires others_within { AreWithinLimit meter.old others.now }
+    ensures exact { IfOk result
+        (λ left. AreLeftOf meter.old params.now (map kept_piece pieces.now) (map kept_piece others.now) left.items) }
+    ensures meter { MatchResult result (λ _. IsCharged meter.old meter.new) (IsCutBy meter.old meter.new) }
+{
+    let mut left = Vec::new(alloc);
+    for piece in pieces {
+        append(
+            &mut left,
+            piece_without(alloc, params, piece, others, meter)?,
+        )?;
+    }
+    Ok(left)
+}
+
+impl Value {
+    /// The elements of this value that the other has not, over the joined parameters: of each piece of this value what is left of
+    /// it without the pieces of the other that lie in its space, as pieces that have an element at some valuation. A piece whose
+    /// space no piece of the other has stays as it is. (isl manual, on set and relation operations)
+    ///
+    /// # Errors
+    ///
+    /// `TooWide` exactly where the two together declare more than 16 parameters, unless memory ends: no unit is used then.
+    /// `Overflow` where a number passes the limit of the meter, `Budget` where its units are used up, and `NoMemory`.
+    pub fn minus(&self, alloc: Global, other: &Value, meter: &mut Meter) -> Result<Value, OpFault>
+        requires own { IsWithinLimit meter.old self.now }
+        requires other { IsWithinLimit meter.old other.now }
+        ensures kept { IfOk result IsKeptValue }
+        ensures params { IfOk result (λ value. value.params ≡ joined self.now.params other.now.params) }
+        ensures elements { (valuation : Valuation) (element : Element)
+            → IfOk result (λ value. Has value valuation element ↔ (Has self.now valuation element × ¬ Has other.now valuation element)) }
+        ensures numbers { IfOk result (IsWithinLimit meter.old) }
+        ensures units { MatchResult result
+            (λ _. (length (joined self.now.params other.now.params) ≤ most_parameters) × IsCharged meter.old meter.new)
+            (IsFaultBy (joined self.now.params other.now.params) meter.old meter.new) }
+    {
+        let pair = aligned_pair(alloc, self, other, meter)?;
+        let left = pieces_without(
+            alloc,
+            &pair.params,
+            pair.own.as_slice(),
+            pair.others.as_slice(),
+            meter,
+        )?;
+        Ok(Value::from_normal(pair.params, left))
+    }
+}

@@ -1,0 +1,47 @@
+//! The pieces of a space with several systems.
+
+ghost use Rattle.std.specs.Prelude.{◌≡◌, ◌↔◌, [], All, Any, IfOk, MatchResult, map, unsigned_abs};
+ghost use Rattle.isl_meter.specs.Gauge.{IsCharged, IsCutBy, limit_of};
+ghost use Rattle.isl_space.specs.Element.{Element};
+ghost use Rattle.isl_space.specs.Space.{space_form_of};
+ghost use Rattle.isl_space.specs.SpaceForm.{IsWellFormedSpace};
+ghost use Rattle.isl_space.specs.Valuation.{Valuation};
+ghost use Rattle.isl_piece.specs.System.{IsSystemWithin, free_columns};
+ghost use Rattle.isl_union.specs.KeptValue.{HasElement, columns_of};
+ghost use Rattle.isl_union.specs.Numbers.{IsPieceUpTo};
+ghost use Rattle.isl_union.specs.Piece.{kept_piece, IsPieceOf};
+ghost use Rattle.isl_union.specs.Pieces.{IsOfAny};
+
+use crate::live::{live_piece, push_found};
+use isl_meter::{Cut, Meter};
+use isl_piece::{Piece, System};
+use isl_space::{Params, Space};
+use std::alloc::Global;
+
+/// The pieces of the space with the systems' normal rows; none for a system that holds at no point.
+#[tactic(auto, using(std::proofs::lemmas::Grind::common_steps, isl_meter::proofs::CutLemmas::charges))]
+pub(crate) fn live_pieces_in(
+    alloc: Global,
+    params: &Params,
+    space: &Space,
+    systems: Vec<System>,
+    meter: &mut Meter,
+) -> Result<Vec<Piece>, Cut>
+    requires space { IsWellFormedSpace (space_form_of space.now) }
+    requires columns { All (λ s. free_columns s ≡ columns_of params.now (space_form_of space.now)) systems.items }
+    requires within { All (IsSystemWithin meter.old) systems.items }
+    ensures elements { (valuation : Valuation) (element : Element)
+        → IfOk result (λ kept. Any (HasElement params.now valuation element) (map kept_piece kept.items)
+        ↔ IsOfAny params.now (space_form_of space.now) systems.items valuation element) }
+    ensures sound { IfOk result (λ kept. All (IsPieceOf params.now) kept.items) }
+    ensures definitions { All (λ s. s.definitions ≡ []) systems.items
+        → IfOk result (λ kept. All (λ piece. piece.definitions ≡ []) (map kept_piece kept.items)) }
+    ensures numbers { IfOk result (λ kept. All (IsPieceUpTo (unsigned_abs (limit_of meter.old))) (map kept_piece kept.items)) }
+    ensures meter { MatchResult result (λ _. IsCharged meter.old meter.new) (IsCutBy meter.old meter.new) }
+{
+    let mut kept = Vec::with_capacity(alloc, systems.len())?;
+    for system in systems {
+        push_found(&mut kept, live_piece(alloc, space, system, meter)?)?;
+    }
+    Ok(kept)
+}

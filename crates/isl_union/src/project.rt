@@ -1,0 +1,92 @@
+//! Values without some of their coordinates.
+
+ghost use Rattle.std.specs.Prelude.{◌≡◌, ◌↔◌, ◌<◌, ◌≤◌, ◌+◌, ◌^◌, [], All, IfOk, MatchResult};
+ghost use Rattle.std.specs.List.{range_with_len};
+ghost use Rattle.isl_meter.specs.Gauge.{IsCharged, IsCutBy};
+ghost use Rattle.isl_space.specs.Element.{Element};
+ghost use Rattle.isl_space.specs.Space.{space_form_of};
+ghost use Rattle.isl_space.specs.SpaceForm.{IsWellFormedSpace};
+ghost use Rattle.isl_space.specs.Valuation.{Valuation};
+ghost use Rattle.isl_piece.specs.System.{IsSystemWithin, free_columns};
+ghost use Rattle.isl_elim.specs.Elimination.{IsProjectionAlong};
+ghost use Rattle.isl_union.specs.Fault.{IsCutFault};
+ghost use Rattle.isl_union.specs.KeptValue.{Has, HasNoDefinitions, IsKeptValue};
+ghost use Rattle.isl_union.specs.Numbers.{IsWithinLimit};
+ghost use Rattle.isl_union.specs.Project.{IsNarrower, IsProjected};
+
+use crate::aligned::append;
+use crate::pieces::live_pieces_in;
+use crate::{OpFault, Value};
+use isl_elim::{columns_between, eliminate_all};
+use isl_meter::{Cut, Meter};
+use isl_piece::System;
+use isl_space::Space;
+use std::alloc::Global;
+
+// The systems that are left of this one without so many columns from one on.
+fn without_columns(
+    alloc: Global,
+    system: &System,
+    first: usize,
+    count: usize,
+    meter: &mut Meter,
+) -> Result<Vec<System>, Cut>
+    requires within { IsSystemWithin meter.old system.now }
+    requires inside { first + count ≤ free_columns system.now }
+    requires fits { first + count < 2 ^ 64 }
+    ensures projection { IfOk result (λ systems. IsProjectionAlong system.now (range_with_len first count) systems.items) }
+    ensures definitions { system.now.definitions ≡ [] → IfOk result (λ systems. All (λ s. s.definitions ≡ []) systems.items) }
+    ensures within { IfOk result (λ systems. All (IsSystemWithin meter.old) systems.items) }
+    ensures meter { MatchResult result (λ _. IsCharged meter.old meter.new) (IsCutBy meter.old meter.new) }
+{
+    let cols = columns_between(alloc, first, first + count)?;
+    eliminate_all(alloc, system, cols.as_slice(), meter)
+}
+
+impl Value {
+    /// The elements of `space` without the `count` coordinates from `from` on, in the space `to`, over the same parameters: those
+    /// that some whole numbers at these coordinates make elements of the value. Pieces of other spaces are left out. (isl manual,
+    /// on projecting out)
+    ///
+    /// # Errors
+    ///
+    /// `Overflow` where a number passes the limit of the meter, `Budget` where its units are used up, and `NoMemory`; never
+    /// `TooWide`.
+    pub fn project(
+        &self,
+        alloc: Global,
+        space: &Space,
+        from: usize,
+        count: usize,
+        to: &Space,
+        meter: &mut Meter,
+    ) -> Result<Value, OpFault>
+        requires within { IsWithinLimit meter.old self.now }
+        requires narrower { IsNarrower (space_form_of space.now) from count (space_form_of to.now) }
+        requires formed { IsWellFormedSpace (space_form_of to.now) }
+        ensures kept { IfOk result IsKeptValue }
+        ensures params { IfOk result (λ value. value.params ≡ self.now.params) }
+        ensures elements { (valuation : Valuation) (element : Element)
+            → IfOk result (λ value. Has value valuation element
+            ↔ IsProjected self.now (space_form_of space.now) from count (space_form_of to.now) valuation element) }
+        ensures definitions { HasNoDefinitions self.now → IfOk result HasNoDefinitions }
+        ensures numbers { IfOk result (IsWithinLimit meter.old) }
+        ensures meter { MatchResult result (λ _. IsCharged meter.old meter.new) (IsCutFault meter.old meter.new) }
+    {
+        let params = self.params();
+        let first = params.len() + from;
+        let pieces = self.pieces();
+        let mut kept = Vec::new(alloc);
+        for piece in pieces {
+            if !piece.space().same(space) {
+                continue;
+            }
+            let systems = without_columns(alloc, piece.system(), first, count, meter)?;
+            append(
+                &mut kept,
+                live_pieces_in(alloc, params, to, systems, meter)?,
+            )?;
+        }
+        Ok(Value::from_normal(params.copy(alloc)?, kept))
+    }
+}

@@ -1,0 +1,94 @@
+//! Values of one element.
+
+ghost use Rattle.std.specs.Prelude.{◌≡◌, ◌<◌, ℤ, List, All, IfOk, MatchResult, length};
+ghost use Rattle.isl_meter.specs.Gauge.{IsCharged, IsCutBy, IsWithin};
+ghost use Rattle.isl_piece.specs.System.{HoldsSystem, IsSystemWithin, free_columns};
+ghost use Rattle.isl_elim.specs.Sample.{IsNowhere, IsSample};
+ghost use Rattle.isl_union.specs.Fault.{IsCutFault};
+ghost use Rattle.isl_union.specs.KeptValue.{HasNoDefinitions, IsKeptValue};
+ghost use Rattle.isl_union.specs.Numbers.{IsWithinLimit};
+ghost use Rattle.isl_union.specs.Sample.{number_row, number_rows, point_system, IsSampleOf};
+
+use crate::{OpFault, Value};
+use isl_elim::sample_point;
+use isl_meter::{Cut, Int, Meter};
+use isl_piece::{Coefs, Piece, Row, RowKind, Rows, System};
+use std::alloc::{AllocError, Global};
+
+// The row over so many columns that says that one of them is this number.
+fn number_row(
+    alloc: Global,
+    columns: usize,
+    column: usize,
+    number: i128,
+    meter: &Meter,
+) -> Result<Row, AllocError>
+    requires column_in { column < columns }
+    requires within { IsWithin meter.now number }
+    ensures { IfOk result (λ row. row ≡ number_row columns column number) }
+{
+    let mut coefs = Coefs::zeros(alloc, columns)?;
+    coefs.set(column, Int::ONE);
+    let constant = Int::new(number).neg(meter);
+    Ok(Row::new(RowKind::Zero, coefs, constant, Int::ONE))
+}
+
+// The system of this point alone.
+fn point_system(alloc: Global, point: &[i128], meter: &Meter) -> Result<System, AllocError>
+    requires { All (IsWithin meter.now) point.now }
+    ensures { IfOk result (λ system. system ≡ point_system point.now) }
+{
+    let columns = point.len();
+    let mut rows = Rows::with_capacity(alloc, columns)?;
+    for column in 0..columns {
+        rows.push(number_row(alloc, columns, column, point[column], meter)?)?;
+    }
+    Ok(System::from_rows(alloc, columns, rows))
+}
+
+// The piece of one point of this one alone.
+#[tactic(auto, using(std::proofs::lemmas::Grind::common_steps, isl_meter::proofs::CutLemmas::charges))]
+fn point_piece(alloc: Global, piece: &Piece, meter: &mut Meter) -> Result<Piece, Cut>
+    requires within { IsSystemWithin meter.old piece.now.system }
+    requires live { ¬ IsNowhere (free_columns piece.now.system) (HoldsSystem piece.now.system) }
+    ensures exact { IfOk result (λ only. (point : List ℤ)
+        × IsSample meter.old (free_columns piece.now.system) (HoldsSystem piece.now.system) point
+        × (only ≡ record { space = piece.now.space; system = point_system point })) }
+    ensures meter { MatchResult result (λ _. IsCharged meter.old meter.new) (IsCutBy meter.old meter.new) }
+{
+    match sample_point(alloc, piece.system(), meter)? {
+        None => unreachable!(),
+        Some(point) => {
+            let system = point_system(alloc, point.as_slice(), meter)?;
+            Ok(Piece::new(alloc, piece.space().copy()?, system)?)
+        }
+    }
+}
+
+impl Value {
+    /// A value of one element of this one, at one valuation: a piece with a row for each parameter and each coordinate, which
+    /// says what number it is; no piece exactly where this value has no element at any valuation. (isl manual, on samples)
+    ///
+    /// # Errors
+    ///
+    /// `Overflow` where a number passes the limit of the meter, `Budget` where its units are used up, and `NoMemory`; never
+    /// `TooWide`.
+    #[tactic(auto, using(std::proofs::lemmas::Grind::common_steps, isl_meter::proofs::CutLemmas::charges))]
+    pub fn sample(&self, alloc: Global, meter: &mut Meter) -> Result<Value, OpFault>
+        requires { IsWithinLimit meter.old self.now }
+        ensures exact { IfOk result (IsSampleOf self.now) }
+        ensures kept { IfOk result IsKeptValue }
+        ensures definitions { IfOk result HasNoDefinitions }
+        ensures within { IfOk result (IsWithinLimit meter.old) }
+        ensures meter { MatchResult result (λ _. IsCharged meter.old meter.new) (IsCutFault meter.old meter.new) }
+    {
+        let params = self.params().copy(alloc)?;
+        let Some(first) = self.pieces().first() else {
+            return Ok(Value::empty(alloc, params));
+        };
+        let _limit = meter.limit();
+        let mut pieces = Vec::new(alloc);
+        pieces.push(point_piece(alloc, first, meter)?)?;
+        Ok(Value::from_normal(params, pieces))
+    }
+}
