@@ -4,4 +4,5 @@ set -eu -o pipefail
 cd "$(dirname "${BASH_SOURCE[0]}")"
 ./elimination.sh
 ./statements.sh | tail -n +2
+./values.sh | tail -n +2
 ./literals.sh | tail -n +2

@@ -6,7 +6,7 @@ ghost use Rattle.isl_piece.specs.Row.{HasModulus, IsWellFormed, IsRowWithin};
 ghost use Rattle.isl_piece.specs.System.{IsSystemWithin};
 
 use isl_meter::{Int, Meter};
-use isl_piece::{Coefs, Row, RowKind, Rows, System};
+use isl_piece::{Coefs, Definition, Row, RowKind, Rows, System};
 use std::alloc::{AllocError, Global};
 
 fn kind_of(word: &str) -> Option<RowKind> {
@@ -121,6 +121,27 @@ pub fn are_proper(rows: &[Row], columns: usize, meter: &Meter) -> bool
     rows.iter().all(|row| is_proper_row(row, columns, meter))
 }
 
+fn is_definition_within(definition: &Definition, meter: &Meter) -> bool
+    ensures coefs { result ≡ true → All (IsWithin meter.now) definition.now.coefs }
+    ensures constant { result ≡ true → IsWithin meter.now definition.now.constant }
+    ensures modulus { result ≡ true → IsWithin meter.now definition.now.k }
+{
+    is_within(Int::new(definition.constant), meter)
+        && is_within(Int::new(definition.k), meter)
+        && are_within(definition.coefs.as_slice(), meter)
+}
+
+/// Whether the numbers of the definitions are within the limit.
+pub fn are_definitions_within(definitions: &[Definition], meter: &Meter) -> bool
+    ensures coefs { result ≡ true → All (λ d. All (IsWithin meter.now) d.coefs) definitions.now }
+    ensures constants { result ≡ true → All (λ d. IsWithin meter.now d.constant) definitions.now }
+    ensures moduli { result ≡ true → All (λ d. IsWithin meter.now d.k) definitions.now }
+{
+    definitions
+        .iter()
+        .all(|definition| is_definition_within(definition, meter))
+}
+
 /// Whether the system has no defined columns, and the rows are such rows over its columns.
 pub fn is_proper(system: &System, meter: &Meter) -> bool
     ensures { result ≡ true → IsSystemWithin meter.now system.now }
@@ -130,20 +151,20 @@ pub fn is_proper(system: &System, meter: &Meter) -> bool
 
 // What a definition says: its coefficients, the constant, and what is divided by.
 #[derive(Drop)]
-struct Definition {
+struct Division {
     coefs: Vec<i128>,
     constant: i128,
     divisor: i128,
 }
 
-fn read_definition(alloc: Global, text: &str) -> Result<Definition, AllocError> {
+fn read_definition(alloc: Global, text: &str) -> Result<Division, AllocError> {
     let mut coefs = Vec::new(alloc);
     for number in numbers_of(alloc, text)? {
         coefs.push(number.get())?;
     }
     let divisor = coefs.pop().unwrap_or(0);
     let constant = coefs.pop().unwrap_or(0);
-    Ok(Definition {
+    Ok(Division {
         coefs,
         constant,
         divisor,
@@ -159,7 +180,7 @@ fn all_within(numbers: &[i128], meter: &Meter) -> bool
 }
 
 // Adds a column with the definition, where it is one over the system's columns, and answers whether it is.
-fn define(system: &mut System, definition: &Definition, meter: &Meter) -> Result<bool, AllocError>
+fn define(system: &mut System, definition: &Division, meter: &Meter) -> Result<bool, AllocError>
     requires { IsSystemWithin meter.now system.old }
     ensures { IfOk result (λ _. IsSystemWithin meter.now system.new) }
 {

@@ -83,7 +83,7 @@ fn some_rows_hold(alloc: Global, literal: &Literal, point: &[i128]) -> Result<bo
 // The literal that the program prints.
 #[tactic(auto, using(isl_words::proofs::WordsLemmas::none_numbered))]
 fn printed(alloc: Global, text: &str) -> Result<Literal, Wrong> {
-    let mut session = Session::new(alloc, Options::new(127, 1, Vec::new(alloc), false));
+    let mut session = Session::new(alloc, Options::new(127, 1_000_000, Vec::new(alloc), false));
     let mut answer = Vec::new(alloc);
     let mut statement = String::from_str(alloc, text)?;
     statement.push(';')?;

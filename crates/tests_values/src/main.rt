@@ -1,66 +1,78 @@
-//! Values of pieces with any rows and nested tuples, what operations make of them, and how they print. The cases stand in the file
-//! `stdin`, whose head says how they are written. What differs is printed, and how many cases there were.
+//! Values of pieces with any rows, defined columns and nested tuples, what operations answer of them, and how they print. The cases
+//! stand in the file `stdin`, whose head says how they are written. What differs is printed, and how many cases there were.
 #![tactic(auto)]
 
 ghost use Rattle.std.specs.Prelude.{All, IfOk, IfSome};
-ghost use Rattle.isl_union.specs.Piece.{IsPieceOf};
+ghost use Rattle.isl_union.specs.Piece.{IsPieceOver};
 
+mod limit;
 mod operation;
 mod params;
 mod spaces;
 
-use crate::operation::worked_out;
+use crate::limit::is_within;
+use crate::operation::{Answer, worked_out};
 use crate::params::params_of;
 use crate::spaces::space_of;
 use isl_meter::{Cut, Meter};
-use isl_piece::{Piece, System};
+use isl_piece::Piece;
 use isl_print::text_of;
 use isl_space::{Params, SpaceFault};
 use isl_union::{OpFault, Value};
 use std::alloc::Global;
 use std::io;
-use tests_made::{Form, are_proper, field, is_case, number, rows_of};
+use tests_made::{Form, field, is_case, number, system_of};
 
 // The lines of a case.
-const FORMS: [(&str, Form); 8] = [
+const FORMS: [(&str, Form); 11] = [
     ("#", Form::Text),
     ("case ", Form::Text),
     ("params ", Form::Text),
     ("piece ", Form::Text),
+    ("defined ", Form::Definition),
     ("row ", Form::Row),
     ("operation ", Form::Text),
+    ("before ", Form::Text),
+    ("turns ", Form::Number),
     ("budget ", Form::Number),
     ("want ", Form::Text),
 ];
 
-// The piece that is written so: its space, and then lines of rows. `None` where it is not well written, or a row holds nowhere.
-fn piece_of(alloc: Global, params: &Params, written: &str) -> Result<Option<Piece>, SpaceFault>
-    ensures { IfOk result (λ made. IfSome made (IsPieceOf params.now)) }
+// The piece that is written so: its space, and then lines of definitions and rows. `None` where it is not well written.
+fn piece_of(
+    alloc: Global,
+    params: &Params,
+    written: &str,
+    meter: &Meter,
+) -> Result<Option<Piece>, SpaceFault>
+    ensures { IfOk result (λ made. IfSome made (IsPieceOver meter.now params.now)) }
 {
     let (space, rows) = written.split_once('\n').unwrap_or((written, ""));
-    let rows = rows_of(alloc, rows, "row ")?;
     let Some(space) = space_of(alloc, space)? else {
         return Ok(None);
     };
     let columns = params.len() + space.width() as usize;
-    let meter = Meter::new(127, 1);
-    if !are_proper(rows.as_slice(), columns, &meter) {
-        return Ok(None);
-    }
-    let Some(rows) = rows.normalise(alloc, &meter)? else {
+    let Some(system) = system_of(alloc, rows, columns, ("defined ", "row "), meter)? else {
         return Ok(None);
     };
-    let system = System::from_rows(alloc, columns, rows);
+    if system.free() != columns {
+        return Ok(None);
+    }
     Ok(Some(Piece::new(alloc, space, system)?))
 }
 
 // The pieces that a case writes.
-fn pieces_of(alloc: Global, params: &Params, case: &str) -> Result<Option<Vec<Piece>>, SpaceFault>
-    ensures { IfOk result (λ made. IfSome made (λ pieces. All (IsPieceOf params.now) pieces.items)) }
+fn pieces_of(
+    alloc: Global,
+    params: &Params,
+    case: &str,
+    meter: &Meter,
+) -> Result<Option<Vec<Piece>>, SpaceFault>
+    ensures { IfOk result (λ made. IfSome made (λ pieces. All (IsPieceOver meter.now params.now) pieces.items)) }
 {
     let mut pieces = Vec::new(alloc);
     for written in case.split("\npiece ").skip(1) {
-        let Some(piece) = piece_of(alloc, params, written)? else {
+        let Some(piece) = piece_of(alloc, params, written, meter)? else {
             return Ok(None);
         };
         pieces.push(piece)?;
@@ -69,34 +81,86 @@ fn pieces_of(alloc: Global, params: &Params, case: &str) -> Result<Option<Vec<Pi
 }
 
 // The value that a part of a case writes.
-fn value_of(alloc: Global, part: &str) -> Result<Option<Value>, SpaceFault> {
+fn value_of(alloc: Global, part: &str) -> Result<Option<Value>, OpFault> {
+    let mut meter = Meter::new(127, 1_000_000);
     let Some(params) = params_of(alloc, field(part, "params ").unwrap_or(""))? else {
         return Ok(None);
     };
-    match pieces_of(alloc, &params, part)? {
-        Some(pieces) => Ok(Some(Value::from_normal(params, pieces))),
+    match pieces_of(alloc, &params, part, &meter)? {
+        Some(pieces) => Ok(Some(Value::from_pieces(alloc, params, pieces, &mut meter)?)),
         None => Ok(None),
     }
 }
 
-// The value of a case: the one that it writes, or what its operation makes of that one and the one behind it.
-fn result_of(alloc: Global, case: &str) -> Result<Option<Value>, OpFault> {
-    let Some((first, second)) = case.split_once("\noperation ") else {
-        return Ok(value_of(alloc, case)?);
-    };
-    let budget = number(case, "budget ", 1000).clamp(1, 1000) as u64;
+// What an operation of this name answers of two values within the budget of the case.
+fn worked_within(
+    alloc: Global,
+    case: &str,
+    said: &str,
+    value: &Value,
+    other: &Value,
+) -> Result<Option<Answer>, OpFault> {
+    let budget = number(case, "budget ", 1_000_000).clamp(1, 1_000_000) as u64;
     let mut meter = Meter::new(127, budget);
-    let name = second.lines().next().unwrap_or("");
-    match (value_of(alloc, first)?, value_of(alloc, second)?) {
-        (Some(value), Some(other)) => worked_out(alloc, name, &value, &other, &mut meter),
-        _ => Ok(None),
+    worked_out(alloc, said, value, other, &mut meter)
+}
+
+// What an operation of a case answers of two values. Before it another one may be worked out of them, and it itself many times.
+fn turned(
+    alloc: Global,
+    case: &str,
+    said: &str,
+    value: &Value,
+    other: &Value,
+) -> Result<Option<Answer>, OpFault> {
+    if let Some(before) = field(case, "before ") {
+        let _gone = worked_within(alloc, case, before, value, other)?;
+    }
+    let mut last = None;
+    'turns: for _turn in 0..number(case, "turns ", 1) {
+        last = worked_within(alloc, case, said, value, other)?;
+    }
+    Ok(last)
+}
+
+// What the operation that a part of a case begins with answers of the value, and of the one that the part writes.
+fn asked(alloc: Global, case: &str, part: &str, value: &Value) -> Result<Option<Answer>, OpFault> {
+    let said = part.lines().next().unwrap_or("");
+    match value_of(alloc, part)? {
+        Some(other) => turned(alloc, case, said, value, &other),
+        None => Ok(None),
     }
 }
 
-// How the value of a case prints, or why there is none.
+// What a case answers last: the value that it writes, or what each operation answers of the value before it.
+fn answer_of(alloc: Global, case: &str) -> Result<Option<Answer>, OpFault> {
+    let (first, _rest) = case.split_once("\noperation ").unwrap_or((case, ""));
+    let mut answer = value_of(alloc, first)?.map(|value| Answer::Made(value));
+    for part in case.split("\noperation ").skip(1) {
+        answer = match answer {
+            Some(Answer::Made(value)) => asked(alloc, case, part, &value)?,
+            _ => None,
+        };
+    }
+    Ok(answer)
+}
+
+// The text of the value without definitions.
+fn value_text(alloc: Global, value: &Value) -> Result<Option<String>, OpFault> {
+    let mut meter = Meter::new(127, 1_000_000);
+    if !is_within(value, &meter) {
+        return Ok(None);
+    }
+    let flat = value.flat(alloc, &mut meter)?;
+    Ok(Some(text_of(alloc, &flat)?))
+}
+
+// How the answer of a case prints, or why there is none.
 fn printed(alloc: Global, case: &str) -> Result<Option<String>, OpFault> {
-    match result_of(alloc, case) {
-        Ok(Some(value)) => Ok(Some(text_of(alloc, &value)?)),
+    match answer_of(alloc, case) {
+        Ok(Some(Answer::Made(value))) => value_text(alloc, &value),
+        Ok(Some(Answer::Told(true))) => Ok(Some(String::from_str(alloc, "true")?)),
+        Ok(Some(Answer::Told(false))) => Ok(Some(String::from_str(alloc, "false")?)),
         Ok(None) => Ok(None),
         Err(OpFault::TooWide) => Ok(Some(String::from_str(alloc, "too wide")?)),
         Err(OpFault::Cut(Cut::Budget)) => Ok(Some(String::from_str(alloc, "budget")?)),

@@ -1,55 +1,139 @@
-//! What operations make of values.
+//! What operations answer.
 
-ghost use Rattle.std.specs.Prelude.{◌≡◌, All, true};
-ghost use Rattle.isl_piece.specs.Row.{IsRowWithin};
-ghost use Rattle.isl_union.specs.Numbers.{AreWithinLimit, IsWithinLimit};
+ghost use Rattle.isl_union.specs.Numbers.{IsWithinLimit};
 
+use crate::limit::is_within;
+use crate::spaces::space_of;
 use isl_maps::inverse;
 use isl_meter::Meter;
-use isl_piece::Piece;
 use isl_union::{OpFault, Value};
-use std::alloc::Global;
-use tests_made::are_proper;
+use std::alloc::{AllocError, Global};
 
-fn is_piece_within(piece: &Piece, meter: &Meter) -> bool
-    ensures { result ≡ true → All (IsRowWithin meter.now) piece.now.system.rows }
-{
-    let system = piece.system();
-    are_proper(system.rows.as_slice(), system.columns, meter)
+/// What an operation answers: a value, or whether something is so.
+#[derive(Drop)]
+pub(crate) enum Answer {
+    Made(Value),
+    Told(bool),
 }
 
-fn are_within(pieces: &[Piece], meter: &Meter) -> bool
-    ensures { result ≡ true → AreWithinLimit meter.now pieces.now }
+// The value without some coordinates: `FROM COUNT SPACE to SPACE`.
+fn projected(
+    alloc: Global,
+    said: &str,
+    value: &Value,
+    meter: &mut Meter,
+) -> Result<Option<Value>, OpFault>
+    requires { IsWithinLimit meter.old value.now }
 {
-    pieces.iter().all(|piece| is_piece_within(piece, meter))
+    let (from, rest) = said.split_once(' ').unwrap_or((said, ""));
+    let (count, spaces) = rest.split_once(' ').unwrap_or((rest, ""));
+    let (space, to) = spaces.split_once(" to ").unwrap_or((spaces, ""));
+    let (Some(space), Some(to)) = (space_of(alloc, space)?, space_of(alloc, to)?) else {
+        return Ok(None);
+    };
+    let from = from.parse::<u32>().unwrap_or(0) as usize;
+    let count = count.parse::<u32>().unwrap_or(0) as usize;
+    let width = space.width() as usize;
+    if from + count > width || to.width() as usize + count != width {
+        return Ok(None);
+    }
+    let value = value.project(alloc, &space, from, count, &to, meter)?;
+    Ok(Some(value))
 }
 
-// Whether each number of the value is within the limit.
-fn is_within(value: &Value, meter: &Meter) -> bool
-    ensures { result ≡ true → IsWithinLimit meter.now value.now }
-{
-    are_within(value.pieces(), meter)
+fn numbers_of(alloc: Global, said: &str) -> Result<Vec<i128>, AllocError> {
+    said.split_whitespace()
+        .filter_map(|word| word.parse::<i128>().ok())
+        .collect(alloc)
 }
 
-/// What an operation of this name makes of the value, and of the other. `None` where there is no such operation.
+// Whether the value is bounded where its parameters have these numbers: `N ..`.
+fn told_at(
+    alloc: Global,
+    said: &str,
+    value: &Value,
+    meter: &mut Meter,
+) -> Result<Option<bool>, OpFault>
+    requires { IsWithinLimit meter.old value.now }
+{
+    let at = numbers_of(alloc, said)?;
+    if at.len() != value.params().len() {
+        return Ok(None);
+    }
+    let bounded = value.bounded_at(alloc, at.as_slice(), meter)?;
+    Ok(Some(bounded))
+}
+
+// What an operation of this name makes of the value, and of the other.
+fn made(
+    alloc: Global,
+    said: &str,
+    value: &Value,
+    other: &Value,
+    meter: &mut Meter,
+) -> Result<Option<Value>, OpFault>
+    requires own { IsWithinLimit meter.old value.now }
+    requires other { IsWithinLimit meter.old other.now }
+{
+    let (name, rest) = said.split_once(' ').unwrap_or((said, ""));
+    match name {
+        "union" => Ok(Some(value.union(alloc, other, meter)?)),
+        "meet" => Ok(Some(value.meet(alloc, other, meter)?)),
+        "minus" => Ok(Some(value.minus(alloc, other, meter)?)),
+        "inverse" => Ok(Some(inverse(alloc, value, meter)?)),
+        "flat" => Ok(Some(value.flat(alloc, meter)?)),
+        "sample" => Ok(Some(value.sample(alloc, meter)?)),
+        "project" => projected(alloc, rest, value, meter),
+        _ => Ok(None),
+    }
+}
+
+// Whether what the name says is so of the value, and of the other.
+fn told(
+    alloc: Global,
+    said: &str,
+    value: &Value,
+    other: &Value,
+    meter: &mut Meter,
+) -> Result<Option<bool>, OpFault>
+    requires own { IsWithinLimit meter.old value.now }
+    requires other { IsWithinLimit meter.old other.now }
+{
+    let (name, rest) = said.split_once(' ').unwrap_or((said, ""));
+    match name {
+        "subset" => Ok(Some(value.is_subset(alloc, other, meter)?)),
+        "equal" => Ok(Some(value.is_equal(alloc, other, meter)?)),
+        "empty" => Ok(Some(value.is_empty(meter)?)),
+        "bounded" => Ok(Some(value.bounded(alloc, meter)?)),
+        "bounded-at" => told_at(alloc, rest, value, meter),
+        _ => Ok(None),
+    }
+}
+
+fn is_question(said: &str) -> bool {
+    matches!(said, "subset" | "equal" | "empty" | "bounded") || said.starts_with("bounded-at")
+}
+
+/// What an operation of this name answers of the value, and of the other. `None` where there is no such operation.
 ///
 /// # Errors
 ///
 /// As the operation.
 pub(crate) fn worked_out(
     alloc: Global,
-    name: &str,
+    said: &str,
     value: &Value,
     other: &Value,
     meter: &mut Meter,
-) -> Result<Option<Value>, OpFault> {
+) -> Result<Option<Answer>, OpFault> {
     if !is_within(value, meter) || !is_within(other, meter) {
         return Ok(None);
     }
-    match name {
-        "union" => Ok(Some(value.union(alloc, other, meter)?)),
-        "meet" => Ok(Some(value.meet(alloc, other, meter)?)),
-        "inverse" => Ok(Some(inverse(alloc, value, meter)?)),
-        _ => Ok(None),
+    if is_question(said) {
+        let told = told(alloc, said, value, other, meter)?;
+        Ok(told.map(|so| Answer::Told(so)))
+    } else {
+        let made = made(alloc, said, value, other, meter)?;
+        Ok(made.map(|value| Answer::Made(value)))
     }
 }
