@@ -2,9 +2,10 @@
 use Rattle.std.proofs.Common.{◌≡◌, ◌≢◌, ◌↔◌, ◌⊎◌, inl, inr, refl, sym, ap, ◌∙◌, subst, arith, ℕ, zero, suc, ◌+◌, ◌<◌, ◌≤◌, ℤ, pos, List, [], ◌∷◌}
 use Rattle.std.proofs.Common.{◌++◌, length, length-append, get_or, take}
 use Rattle.std.specs.List.{All, Any, AllPairs}
+use Rattle.std.specs.Prelude.{IfOk, MatchResult, Result, Ok, Err}
 use Rattle.std.proofs.lemmas.List.{take_more, take_all}
-use Rattle.std.proofs.lemmas.List.Elements.{All-nil, All-append}
-use Rattle.isl_math.proofs.ListLaws.{Any-parts, Any-left, Any-right, Any-one, Any-first, Any-none}
+use Rattle.std.proofs.lemmas.List.Elements.{All-nil, All-cons, All-append}
+use Rattle.isl_math.proofs.ListLaws.{All-last, Any-parts, Any-left, Any-right, Any-one, Any-first, Any-none}
 use Rattle.isl_meter.specs.Gauge.{Gauge, IsCharged}
 use Rattle.isl_meter.proofs.CutLemmas.{IsCharged_refl, IsCharged_trans, charges}
 use Rattle.isl_piece.specs.declared.row.Row.{Row}
@@ -196,10 +197,26 @@ pub system_within : (g h : Gauge) (systems : List System) (i : ℕ) (s : System)
     → i < length systems → s ≡ get_or systems i s → IsSystemWithin h s
 system_within g h systems i s c w l is = charged_within g h s c (system_at (IsSystemWithin g) systems i s w l is)
 
+pub ok_from : {T E : Type 0} (P : T → Type 0) (Q : E → Type 0) (R : T → Type 0) (r : Result T E) → MatchResult r P Q
+    → ((x : T) → P x → R x) → IfOk r R
+ok_from P Q R (Ok x) h f = f x h
+ok_from P Q R (Err y) h f = tt
+
+-- ---- systems that define no column
+abbrev pub IsPlain : System → Type 0
+IsPlain s = s.definitions ≡ []
+
+pub all_none : (P : System → Type 0) (parts : List System) → parts ≡ [] → All P parts
+all_none P parts e = rw e (All-nil P)
+
+pub all_one : (P : System → Type 0) (s : System) (left : List System) → left ≡ s ∷ [] → P s → All P left
+all_one P s left e p = rw e (All-cons P s [] p (All-nil P))
+
 -- ---- one system after another
 pub record AreBeside (g h : Gauge) (systems done : List System) (other : System) (left : List System) : Type 0 where
   pub charged : IsCharged g h
   pub counted : length left + g.units ≤ h.units + length done
+  pub plain : All IsPlain done → IsPlain other → All IsPlain left
   pub parts : IsPartition (IsLeftOfAny g systems) (free_columns other) (HoldsBeside done other) left
 
 pub beside_first : (g : Gauge) (systems : List System) (other : System) (left : List System) → left ≡ []
@@ -207,6 +224,7 @@ pub beside_first : (g : Gauge) (systems : List System) (other : System) (left : 
 beside_first g systems other left e = record {
   charged = IsCharged_refl g g refl;
   counted = rw e (omega arith);
+  plain = λ all o. all_none IsPlain left e;
   parts = rw e (partition_none (IsLeftOfAny g systems) (free_columns other) (HoldsBeside [] other) (λ point l h. Any-none (λ (t : System). HoldsSystem t point) h.0));
 }
 
@@ -233,10 +251,13 @@ module _ (g h k : Gauge) (systems : List System) (other : System) (i : ℕ) (s :
       omega arith
 
   pub beside_more : (newer : List System) → IsDifference h s (other ∷ []) parts → IsCounted h k s parts → IsCharged h k
-      → newer ≡ left ++ parts → AreBeside g k systems (take (i + 1) systems) other newer
-  beside_more newer d p c e = record {
+      → (IsPlain s → IsPlain other → All IsPlain parts) → newer ≡ left ++ parts → AreBeside g k systems (take (i + 1) systems) other newer
+  beside_more newer d p c plain e = record {
     charged = IsCharged_trans g h k so_far.charged c;
     counted = rw (e, more) (all_counted c p);
+    plain = rw (e, more) (λ all o.
+        let both = All-last IsPlain (take i systems) s all in
+        All-append IsPlain left parts (so_far.plain both.0 o) (plain both.1 o));
     parts = rw (e, more) (partition_same (IsLeftOfAny g systems) n (λ point. HoldsBeside (take i systems) other point ⊎ IsOutside s (other ∷ []) point) (HoldsBeside (take i systems ++ s ∷ []) other) (left ++ parts)
         (λ point l. let P : System → Type 0 = λ t. HoldsSystem t point in (
           (λ x. elim x [ inl y ↦ (Any-left P (take i systems) (s ∷ []) y.0, y.1) | inr z ↦ (Any-right P (take i systems) (s ∷ []) (Any-first P s [] z.0), λ a. z.1 (Any-first P other [] a)) ]),
@@ -252,10 +273,16 @@ module _ (g h k : Gauge) (systems : List System) (other : System) (i : ℕ) (s :
 pub record AreLeft (g h : Gauge) (s : System) (done left : List System) : Type 0 where
   pub charged : IsCharged g h
   pub counted : length left + g.units ≤ h.units + 1
+  pub plain : IsPlain s → All IsPlain done → All IsPlain left
   pub difference : IsDifference g s done left
 
 pub left_first : (g : Gauge) (s : System) (left : List System) → IsSystemWithin g s → left ≡ s ∷ [] → AreLeft g g s [] left
-left_first g s left w e = record { charged = IsCharged_refl g g refl; counted = rw e (omega arith); difference = difference_none g s left w e }
+left_first g s left w e = record {
+  charged = IsCharged_refl g g refl;
+  counted = rw e (omega arith);
+  plain = λ p all. all_one IsPlain s left e p;
+  difference = difference_none g s left w e;
+}
 
 pub other_free : (s : System) (others : List System) (i : ℕ) (other : System) → All (λ t. free_columns t ≡ free_columns s) others
     → i < length others → other ≡ get_or others i other → free_columns other ≡ free_columns s
@@ -297,10 +324,15 @@ module _ (g h : Gauge) (s : System) (others : List System) (i : ℕ) (other : Sy
       (subst (λ m. IsPartition (IsLeftOfAny h left) m (HoldsBeside left other) next) free p)))
 
   pub left_more : (k : Gauge) (next : List System) → IsCharged h k → length next + h.units ≤ k.units + length left
+      → (All IsPlain left → IsPlain other → All IsPlain next)
       → IsPartition (IsLeftOfAny h left) (free_columns other) (HoldsBeside left other) next → AreLeft g k s (take (i + 1) others) next
-  left_more k next c few p = record {
+  left_more k next c few plain p = record {
     charged = IsCharged_trans g h k so_far.charged c;
     counted = let before = so_far.counted in omega arith;
+    plain = λ own all.
+        let more = take_more others i other inside ∙ ap (λ (t : System). take i others ++ t ∷ []) (sym is) in
+        let both = All-last IsPlain (take i others) other (rw more at all) in
+        plain (so_far.plain own both.0) both.1;
     difference = difference_more next p;
   }
 

@@ -1,5 +1,6 @@
 -- Normal systems that have a point.
 use Rattle.std.proofs.Common.{◌≡◌, ◌↔◌, refl, ◌∙◌, sym, arith, Bool, false, ℤ, List, [], ◌∷◌, ◌++◌, append-nil}
+use Rattle.std.proofs.lemmas.List.Elements.{All-nil, All-cons}
 use Rattle.std.specs.Prelude.{IsTrue, Option, Some, None, option_map}
 use Rattle.isl_meter.specs.Gauge.{Gauge}
 use Rattle.isl_piece.specs.declared.row.Row.{Row}
@@ -20,6 +21,15 @@ normal_free s kept e = by (normal_rows s.rows) e
     by None e = absurd (cc)
     by (Some rows) e = let f : kept ≡ record { columns = s.columns; definitions = s.definitions; rows = rows } = cc in rw f refl
 
+normal_definitions : (s kept : System) → Some kept ≡ normal_system s → kept.definitions ≡ s.definitions
+normal_definitions s kept e = by (normal_rows s.rows) e
+  where
+    by : (found : Option (List Row))
+        → Some kept ≡ option_map (λ rows. record { columns = s.columns; definitions = s.definitions; rows = rows }) found
+        → kept.definitions ≡ s.definitions
+    by None e = absurd (cc)
+    by (Some rows) e = let f : kept ≡ record { columns = s.columns; definitions = s.definitions; rows = rows } = cc in rw f refl
+
 pub normal_nowhere : (s kept : System) → Some kept ≡ normal_system s → ((point : List ℤ) → HoldsSystem kept point ↔ HoldsSystem s point)
     → IsNowhere (free_columns kept) (HoldsSystem kept) → IsNowhere (free_columns s) (HoldsSystem s)
 normal_nowhere s kept e same none point l h = none point (l ∙ sym (normal_free s kept e)) ((same point).1 h)
@@ -34,6 +44,7 @@ normal_live g s kept e same w n some = record {
     somewhere = λ none. some (λ point l h. none point (l ∙ normal_free s kept e) h);
   };
   points = same;
+  definitions = normal_definitions s kept e;
 }
 
 pub pushed_none : (g : Gauge) (s : System) (old new : List System) → new ≡ old → IsNowhere (free_columns s) (HoldsSystem s) → IsPushed g s old new
@@ -41,6 +52,7 @@ pushed_none g s old new e none = record {
   added = [];
   is = e ∙ sym (append-nil old);
   few = omega arith;
+  definitions = All-nil (λ (t : System). t.definitions ≡ s.definitions);
   partition = partition_none (IsLive g (free_columns s)) (free_columns s) (HoldsSystem s) none;
 }
 
@@ -49,6 +61,9 @@ pushed_some g s part old new e f = record {
   added = part ∷ [];
   is = e;
   few = omega arith;
+  definitions =
+      let P : System → Type 0 = λ t. t.definitions ≡ s.definitions in
+      All-cons P part [] f.definitions (All-nil P);
   partition = partition_one (IsLive g (free_columns s)) (free_columns s) (HoldsSystem s) part f.live (λ point l. f.points point);
 }
 

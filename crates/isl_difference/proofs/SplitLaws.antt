@@ -75,12 +75,14 @@ one_row r xs = let P : Row → Type 0 = λ s. HoldsRow s xs in ((λ h. All-head 
 pub record IsFailing (g h : Gauge) (s : System) (done : List Row) (parts : List System) : Type 0 where
   pub charged : IsCharged g h
   pub paid : ArePaidBy g h done parts
+  pub definitions : All (λ t. t.definitions ≡ s.definitions) parts
   pub partition : IsPartition (IsLive g (free_columns s)) (free_columns s) (HoldsWithAny s done) parts
 
 pub failing_first : (g : Gauge) (s : System) (parts : List System) → parts ≡ [] → IsFailing g g s [] parts
 failing_first g s parts e = record {
   charged = IsCharged_refl g g refl;
   paid = rw e (record { few = omega arith; units = omega arith });
+  definitions = rw e (All-nil (λ (t : System). t.definitions ≡ s.definitions));
   partition = rw e (partition_none (IsLive g (free_columns s)) (free_columns s) (HoldsWithAny s []) (λ point l h. Any-none (λ (r : Row). HoldsRow r (with_defined s.definitions point)) h.1));
 }
 
@@ -137,6 +139,7 @@ module _ (g h j k : Gauge) (s : System) (denied : List Row) (i : ℕ) (r : Row) 
   failing_more newer p = record {
     charged = all_charged;
     paid = rw (p.is, more) (more_paid p.added p.few);
+    definitions = rw (p.is) (All-append (λ (t : System). t.definitions ≡ s.definitions) parts p.added so_far.definitions p.definitions);
     partition = rw (p.is) (joined p.added
         (partition_same (IsLive g free) free (HoldsSystem (and_rows s (r ∷ []))) Next p.added (λ point l. next_point point)
         (partition_each (IsLive j free) (IsLive g free) free (HoldsSystem (and_rows s (r ∷ []))) p.added
@@ -170,6 +173,7 @@ pub record IsSplitBy (g h : Gauge) (s : System) (done : List Row) (rest : System
   pub definitions : rest.definitions ≡ s.definitions
   pub within : IsSystemWithin h rest
   pub points : (point : List ℤ) → HoldsSystem rest point ↔ (HoldsSystem s point × HoldRows done (with_defined s.definitions point))
+  pub alike : All (λ t. t.definitions ≡ s.definitions) parts
   pub partition : IsPartition (IsLive g (free_columns s)) (free_columns s) (HoldsBut s done) parts
 
 pub split_first : (g : Gauge) (s rest : System) (parts : List System) → IsSystemWithin g s → rest ≡ s → parts ≡ []
@@ -181,6 +185,7 @@ split_first g s rest parts w e n = rw (e, n) (record {
   definitions = refl;
   within = w;
   points = λ point. ((λ h. (h, All-nil (λ (r : Row). HoldsRow r (with_defined s.definitions point)))), (λ h. h.0));
+  alike = All-nil (λ (t : System). t.definitions ≡ s.definitions);
   partition = partition_none (IsLive g (free_columns s)) (free_columns s) (HoldsBut s []) (λ point l h. h.1 (All-nil (λ (r : Row). HoldsRow r (with_defined s.definitions point))));
 })
 
@@ -215,6 +220,7 @@ module _ (g h : Gauge) (s : System) (done : List Row) (r : Row) (rest : System) 
       (λ x. let y = (so_far.points point).0 x in (y.0, all_with point y.1 (implied.holds (full point) (there point x)))),
       (λ y. (so_far.points point).1 (y.0, (all_but point y.1).0)),
     );
+    alike = so_far.alike;
     partition = partition_same (IsLive g columns) columns (HoldsBut s done) (HoldsBut s (done ++ r ∷ [])) parts
         (λ point l. (
           (λ x. (x.0, λ all. x.1 (all_but point all).0)),
@@ -224,6 +230,7 @@ module _ (g h : Gauge) (s : System) (done : List Row) (r : Row) (rest : System) 
   }
 
   module _ (k : Gauge) (new : List System) (rest2 : System) (parts2 : List System) (charged : IsCharged h k) (paid : ArePaidBy h k (negation_of r) new) (formed : All (IsWellFormed s.columns) (done ++ r ∷ [])) (row_within : IsRowWithin h r)
+      (same_columns : All (λ t. t.definitions ≡ rest.definitions) new)
       (failing : IsPartition (IsLive h (free_columns rest)) (free_columns rest) (HoldsBut rest (r ∷ [])) new) where
     abbrev Failing : List ℤ → Type 0
     Failing point = HoldsSystem rest point × (¬ HoldsRow r (full point))
@@ -281,6 +288,11 @@ module _ (g h : Gauge) (s : System) (done : List Row) (r : Row) (rest : System) 
         let all : length (parts ++ new) ≡ length parts + length new = length-append parts new in
         omega arith
 
+    all_alike : All (λ t. t.definitions ≡ s.definitions) (parts ++ new)
+    all_alike =
+        All-append (λ (t : System). t.definitions ≡ s.definitions) parts new so_far.alike
+        (subst (λ ds. All (λ (t : System). t.definitions ≡ ds) new) so_far.definitions same_columns)
+
     pub split_more : rest2 ≡ and_rows rest (r ∷ []) → parts2 ≡ parts ++ new → IsSplitBy g k s (done ++ r ∷ []) rest2 parts2
     split_more e f = rw (e, f) (record {
       charged = IsCharged_trans g h k so_far.charged charged;
@@ -289,6 +301,7 @@ module _ (g h : Gauge) (s : System) (done : List Row) (r : Row) (rest : System) 
       definitions = so_far.definitions;
       within = more_within;
       points = more_points;
+      alike = all_alike;
       partition = both_parts;
     })
 
@@ -348,10 +361,11 @@ module _ (g h : Gauge) (s : System) (rows : List Row) (i : ℕ) (r : Row) (rest 
 
   pub more_at : (k : Gauge) (new : List System) (rest2 : System) (parts2 : List System) → All (IsWellFormed s.columns) rows
       → All (IsRowWithin g) rows → IsCharged h k → ArePaidBy h k (negation_of r) new
+      → All (λ t. t.definitions ≡ rest.definitions) new
       → IsPartition (IsLive h (free_columns rest)) (free_columns rest) (HoldsBut rest (r ∷ [])) new → rest2 ≡ and_rows rest (r ∷ []) → parts2 ≡ parts ++ new → IsSplitBy g k s (take (i + 1) rows) rest2 parts2
-  more_at k new rest2 parts2 formed within charged paid failing e f =
+  more_at k new rest2 parts2 formed within charged paid same_columns failing e f =
       rw next_rows (split_more g h s (take i rows) r rest parts so_far k new rest2 parts2 charged paid (rw next_rows at (All-take (IsWellFormed s.columns) (i + 1) rows formed))
-      (row_within g h rows i r so_far.charged within inside is) failing e f)
+      (row_within g h rows i r so_far.charged within inside is) same_columns failing e f)
 
   pub rest_formed : All (IsWellFormed s.columns) rows → IsWellFormed rest.columns r
   rest_formed f = subst (λ n. IsWellFormed n r) (sym so_far.columns) (row_formed s.columns rows i r f inside is)

@@ -1,5 +1,5 @@
 -- inner: a system split by rows over its columns. (isl, on subtracting one basic set after another)
-use Rattle.std.specs.Prelude.{◌≡◌, ◌↔◌, ◌⊎◌, ◌++◌, AllPairs, Any, ℕ, ◌+◌, ◌<◌, ◌≤◌, ℤ, List, [], ◌∷◌, length}
+use Rattle.std.specs.Prelude.{◌≡◌, ◌↔◌, ◌⊎◌, ◌++◌, All, AllPairs, Any, ℕ, ◌+◌, ◌<◌, ◌≤◌, ℤ, List, [], ◌∷◌, length}
 use Rattle.isl_meter.specs.Gauge.{Gauge}
 use Rattle.isl_piece.specs.declared.row.Row.{Row}
 use Rattle.isl_piece.specs.declared.system.System.{System}
@@ -38,16 +38,18 @@ pub record IsLive (g : Gauge) (columns : ℕ) (s : System) : Type 0 where
   pub normal : IsNormal s.rows
   pub somewhere : ¬ IsNowhere columns (HoldsSystem s)
 
--- the live system that holds where the old one does
+-- the live system that holds where the old one does, and defines the same columns
 pub record IsLiveFormOf (g : Gauge) (old new : System) : Type 0 where
   pub live : IsLive g (free_columns old) new
   pub points : (point : List ℤ) → HoldsSystem new point ↔ HoldsSystem old point
+  pub definitions : new.definitions ≡ old.definitions
 
 -- to the systems the live form of one was put; none where it has no point
 pub record IsPushed (g : Gauge) (s : System) (old new : List System) : Type 0 where
   pub added : List System
   pub is : new ≡ old ++ added
   pub few : length added ≤ 1
+  pub definitions : All (λ t. t.definitions ≡ s.definitions) added
   pub partition : IsPartition (IsLive g (free_columns s)) (free_columns s) (HoldsSystem s) added
 
 -- a unit was used for each of the rows, of which no more parts came

@@ -44,6 +44,7 @@ fn parts_aligned(
         (λ parts. AreLiveParts meter.old system.now other.now parts.items)
         × IsCharged meter.old meter.new)
         (IsCutBy meter.old meter.new) }
+    ensures definitions { IfOk result (λ found. IfSome found (λ parts. All (λ s. s.definitions ≡ system.now.definitions) parts.items)) }
     ensures paid { IfOk result (λ found. IfSome found (λ parts. ArePaid meter.old meter.new parts.items)) }
 {
     if are_implied(system.rows.as_slice(), other.rows.as_slice()) {
@@ -123,6 +124,8 @@ fn parts_outside(
         (λ parts. AreLiveParts meter.old system.now other.now parts.items)
         × IsCharged meter.old meter.new)
         (IsCutBy meter.old meter.new) }
+    ensures definitions { system.now.definitions ≡ [] → other.now.definitions ≡ []
+        → IfOk result (λ found. IfSome found (λ parts. All (λ s. s.definitions ≡ []) parts.items)) }
     ensures paid { IfOk result (λ found. IfSome found (λ parts. ArePaid meter.old meter.new parts.items)) }
 {
     if system.definitions.same(&other.definitions) {
@@ -153,6 +156,8 @@ pub fn subtract(
     ensures exact { MatchResult result
         (λ left. IsDifference meter.old system.now (other.now ∷ []) left.items × IsCharged meter.old meter.new)
         (IsCutBy meter.old meter.new) }
+    ensures definitions { system.now.definitions ≡ [] → other.now.definitions ≡ []
+        → IfOk result (λ left. All (λ s. s.definitions ≡ []) left.items) }
     ensures counted { IfOk result (λ left. IsCounted meter.old meter.new system.now left.items) }
 {
     match parts_outside(alloc, system, other, meter)? {
@@ -186,6 +191,8 @@ fn all_without(
         (λ left. IsPartition (IsLeftOfAny meter.old systems.now) (free_columns other.now) (HoldsBeside systems.now other.now) left.items
         × IsCharged meter.old meter.new)
         (IsCutBy meter.old meter.new) }
+    ensures definitions { All (λ s. s.definitions ≡ []) systems.now → other.now.definitions ≡ []
+        → IfOk result (λ left. All (λ s. s.definitions ≡ []) left.items) }
     ensures counted { IfOk result (λ left. length left.items + meter.old.units ≤ meter.new.units + length systems.now) }
 {
     let mut left = Vec::new(alloc);
@@ -214,6 +221,8 @@ pub fn outside(
     ensures exact { MatchResult result
         (λ left. IsDifference meter.old system.now (map (λ other. other.now) others.now) left.items × IsCharged meter.old meter.new)
         (IsCutBy meter.old meter.new) }
+    ensures definitions { system.now.definitions ≡ [] → All (λ other. other.definitions ≡ []) (map (λ other. other.now) others.now)
+        → IfOk result (λ left. All (λ s. s.definitions ≡ []) left.items) }
     ensures counted { IfOk result (λ left. length left.items + meter.old.units ≤ meter.new.units + 1) }
 {
     let mut left = whole(alloc, system)?;

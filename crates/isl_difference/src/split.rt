@@ -40,6 +40,7 @@ fn holding(
         (HoldsWithAny system.now rows.now) parts.items
         × IsCharged meter.old meter.new)
         (IsCutBy meter.old meter.new) }
+    ensures definitions { IfOk result (λ parts. All (λ s. s.definitions ≡ system.now.definitions) parts.items) }
     ensures paid { IfOk result (λ parts. ArePaidBy meter.old meter.new rows.now parts.items) }
 {
     let mut parts = Vec::new(alloc);
@@ -62,6 +63,7 @@ fn failing(alloc: Global, system: &System, row: &Row, meter: &mut Meter) -> Resu
         (HoldsBut system.now (row.now ∷ [])) parts.items
         × IsCharged meter.old meter.new)
         (IsCutBy meter.old meter.new) }
+    ensures definitions { IfOk result (λ parts. All (λ s. s.definitions ≡ system.now.definitions) parts.items) }
     ensures paid { IfOk result (λ parts. ArePaidBy meter.old meter.new (negation_of row.now) parts.items) }
 {
     let denied = negate(alloc, row, meter)?;
@@ -86,6 +88,7 @@ pub(crate) fn split(
         (HoldsBut system.now rows.now) parts.items
         × IsCharged meter.old meter.new)
         (IsCutBy meter.old meter.new) }
+    ensures definitions { IfOk result (λ parts. All (λ s. s.definitions ≡ system.now.definitions) parts.items) }
     ensures paid { IfOk result (λ parts. meter.old.units + length parts.items ≤ meter.new.units) }
 {
     let mut rest = system.copy(alloc)?;

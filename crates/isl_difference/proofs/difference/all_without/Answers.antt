@@ -1,7 +1,8 @@
 use Rattle.std.proofs.Common.{◌≡◌, ◌<◌, ◌++◌, arith, length}
 use Rattle.std.proofs.lemmas.Grind.{common_steps}
+use Rattle.std.proofs.lemmas.List.Elements.{All-take}
 use Rattle.isl_piece.specs.System.{free_columns}
-use Rattle.isl_difference.proofs.DifferenceLaws.{system_at, system_within, beside_more}
+use Rattle.isl_difference.proofs.DifferenceLaws.{system_at, system_within, beside_more, IsPlain}
 use Rattle.isl_difference.proofs.SplitLaws.{charged_within}
 use Rattle.isl_difference.proofs.difference.all_without.Goals as goal
 
@@ -30,4 +31,9 @@ loop-system-preserved c =
     let free = system_at (λ t. free_columns t ≡ free_columns other) systems i s c.requires.columns inside c.system-item.is in
     let all : c.append.new.self.items ≡ left ++ parts = c.in_ok-append.ensures.items in
     beside_more c.args.meter.now c.loop-system.meter c.subtract.new.meter systems other i s left parts c.requires.disjoint inside c.system-item.is
-    free c.loop-system.invariant c.append.new.self.items exact.0 c.in_ok-parts.ensures.counted exact.1 all
+    free c.loop-system.invariant c.append.new.self.items exact.0 c.in_ok-parts.ensures.counted exact.1
+    c.in_ok-parts.ensures.definitions all
+
+pub returns-clause-definitions : goal.returns-clause-definitions
+returns-clause-definitions c = λ all o.
+    c.loop-system.invariant.plain (All-take IsPlain c.loop-system.system-index c.args.systems.now all) o

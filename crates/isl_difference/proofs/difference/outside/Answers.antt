@@ -1,7 +1,9 @@
 use Rattle.std.proofs.Common.{◌≡◌, ◌<◌, arith, length, map}
 use Rattle.std.proofs.lemmas.Grind.{common_steps}
 use Rattle.std.proofs.lemmas.List.{length-map, nil_from_length}
-use Rattle.isl_difference.proofs.DifferenceLaws.{left_columns, left_disjoint, left_more, left_none, left_within, system_within}
+use Rattle.std.proofs.lemmas.List.Elements.{All-take}
+use Rattle.isl_difference.proofs.DifferenceLaws.{all_none, left_columns, left_disjoint, left_more, left_none, left_within, system_within}
+use Rattle.isl_difference.proofs.DifferenceLaws.{IsPlain}
 use Rattle.isl_difference.proofs.PartitionLaws.{mapped_at}
 use Rattle.isl_difference.proofs.difference.outside.Goals as goal
 
@@ -77,4 +79,15 @@ loop-other-preserved c =
     let exact = rw same at c.in_ok-left-2.ensures.exact in
     let counted = rw same at c.in_ok-left-2.ensures.counted in
     left_more c.args.meter.now c.loop-other.meter c.args.system.now others i c.other-item.result.now c.loop-other.left.items inside
-    is c.requires.columns c.loop-other.invariant c.all_without.new.meter c.in_ok-left-2.left.items exact.1 counted exact.0
+    is c.requires.columns c.loop-other.invariant c.all_without.new.meter c.in_ok-left-2.left.items exact.1 counted
+    (rw same at c.in_ok-left-2.ensures.definitions) exact.0
+
+pub returns-then-is_empty-clause-definitions : goal.returns-then-is_empty-clause-definitions
+returns-then-is_empty-clause-definitions c = λ own all.
+    let left = c.loop-other.left.items in
+    let count : length left ≡ 0 = grind (arith, common_steps) in
+    all_none IsPlain left (nil_from_length left count)
+
+pub returns-clause-definitions : goal.returns-clause-definitions
+returns-clause-definitions c = λ own all.
+    c.loop-other.invariant.plain own (All-take IsPlain c.loop-other.other-index (map (λ o. o.now) c.args.others.now) all)

@@ -33,4 +33,5 @@ loop-row-preserved c =
     let next : System = record { columns = rest.columns; definitions = rest.definitions; rows = c.push.new.self } in
     let same : next ≡ and_rows rest (r ∷ []) = rw more refl in
     more_at c.args.meter.now c.loop-row.meter c.args.system.now rows i r rest parts inside is c.loop-row.invariant c.failing.new.meter new next
-    c.append.new.self.items c.requires.formed c.requires.rows_within found.1 c.in_ok-new.ensures.paid found.0 same all
+    c.append.new.self.items c.requires.formed c.requires.rows_within found.1 c.in_ok-new.ensures.paid
+    c.in_ok-new.ensures.definitions found.0 same all

@@ -1,0 +1,11 @@
+use Rattle.std.proofs.Common.{◌≢◌, ◌∙◌, sym, arith}
+use Rattle.std.proofs.lemmas.Grind.{common_steps}
+use Rattle.isl_difference.proofs.difference.parts_outside.Goals as goal
+
+pub returns-then-same-clause-definitions : goal.returns-then-same-clause-definitions
+returns-then-same-clause-definitions c = λ own other. rw own at c.parts_aligned.ensures.definitions
+
+pub returns-clause-definitions : goal.returns-clause-definitions
+returns-clause-definitions c = λ own other.
+    let differ : c.args.system.now.definitions ≢ c.args.other.now.definitions = grind (arith, common_steps) in
+    absurd (differ (own ∙ sym other))
