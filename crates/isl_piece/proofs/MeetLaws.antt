@@ -232,7 +232,7 @@ first_at n xs ys e = rw e (numbers_at-first xs ys)
 -- a step that keeps this for each definition keeps it for all
 IsMeetingOf-fold : (g : Gauge) (free : ℕ) (start : List ℕ) (first before later : List Definition) (m : Meeting) (step : Meeting → Definition → Meeting)
     → ((definitions : List Definition) (n : Meeting) (d : Definition) → IsMeetingOf g free start first definitions n
-        → IsDefinition g (length start + length definitions) d → IsMeetingOf g free start first (definitions ++ d ∷ []) (step n d))
+    → IsDefinition g (length start + length definitions) d → IsMeetingOf g free start first (definitions ++ d ∷ []) (step n d))
     → IsMeetingOf g free start first before m → AreDefinitions g (length start + length before) later
     → IsMeetingOf g free start first (before ++ later) (fold step m later)
 IsMeetingOf-fold g free start first before [] m step keeps h all = rw (append-nil before) h
@@ -240,7 +240,7 @@ IsMeetingOf-fold g free start first before (d ∷ later) m step keeps h all =
     let more = length-append before (d ∷ []) in
     let next : suc (length start + length before) ≡ length start + length (before ++ d ∷ []) = omega arith in
     rw (← append_assoc before (d ∷ []) later) (IsMeetingOf-fold g free start first (before ++ d ∷ []) later (step m d) step keeps
-        (keeps before m d h all.0) (subst (λ n. AreDefinitions g n later) next all.1))
+    (keeps before m d h all.0) (subst (λ n. AreDefinitions g n later) next all.1))
 
 first_numbers-own : (free : ℕ) (xs : List ℤ) → length xs ≡ free → numbers_at (range_with_len 0 free) xs ≡ xs
 first_numbers-own free xs e = ap (numbers_at (range_with_len 0 free)) (sym (append-nil xs)) ∙ first_at free xs [] (sym e)
@@ -348,7 +348,7 @@ module _ (g : Gauge) (a b : System) (free : free_columns a ≡ free_columns b) (
       let P : Row → Type 0 = λ r. HoldsRow r full in
       let one = placed_hold g both.columns (range_with_len 0 a.columns) (first_apart a.columns) (first_inside a.columns both.columns own) a.columns a.rows full (with_defined a.definitions xs) p.rows (length-range_with_len 0 a.columns) first_numbers in
       let other = placed_hold g both.columns both.places m.apart m.placed.inside b.columns b.rows full (with_defined b.definitions xs) q.rows wide
-          (m.same xs e ∙ ap (with_defined b.definitions) (first_numbers-own (free_columns a) xs e)) in (
+      (m.same xs e ∙ ap (with_defined b.definitions) (first_numbers-own (free_columns a) xs e)) in (
         (λ h. let parts = All-parts P firsts seconds h in (one.0 parts.0, other.0 parts.1)),
         (λ h. All-append P firsts seconds (one.1 h.0) (other.1 h.1)),
       )
@@ -417,7 +417,7 @@ module _ (g : Gauge) (columns : ℕ) (places : List ℕ) (s : System) (are : Are
 -- what is made of the columns and the rows
 pub placing_system : (m n : Meeting) (rows made : List Row) → m ≡ n → made ≡ map (placed_row m.columns m.places) rows
     → (let s : System = record { columns = m.columns; definitions = m.definitions; rows = made } in s)
-        ≡ record { columns = n.columns; definitions = n.definitions; rows = map (placed_row n.columns n.places) rows }
+    ≡ record { columns = n.columns; definitions = n.definitions; rows = map (placed_row n.columns n.places) rows }
 placing_system m n rows made e is =
     ap (λ rs. let s : System = record { columns = m.columns; definitions = m.definitions; rows = rs } in s) is
     ∙ ap (λ (k : Meeting). let s : System = record {

@@ -220,7 +220,9 @@ impl Meeting {
         };
         for definition in definitions.as_slice() {
             let columns = meeting.columns;
-            let moved = meeting.places.placed_definition(alloc, columns, definition)?;
+            let moved = meeting
+                .places
+                .placed_definition(alloc, columns, definition)?;
             meeting.push(moved)?;
         }
         Ok(meeting)

@@ -7,6 +7,4 @@ mod rows;
 
 pub use case::{Form, bytes, field, is_case, number, numbers, words};
 pub use long::{LongScript, long_script};
-pub use rows::{
-    are_definitions_within, are_proper, is_proper, is_proper_row, rows_of, system_of,
-};
+pub use rows::{are_definitions_within, are_proper, is_proper, is_proper_row, rows_of, system_of};
