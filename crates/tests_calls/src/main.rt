@@ -16,8 +16,11 @@ fn main(rt: HostRuntime) -> io::Result<()> {
         ("pairs", spaces::pairs_are_right(alloc)),
         ("maps", spaces::maps_are_right(alloc)),
         ("names", spaces::names_are_right(alloc)),
-        ("copies of values", values::copy_is_right(alloc)),
-        ("copies of empty values", values::empty_copy_is_right(alloc)),
+        ("copies of values", values::copies_are_right(alloc)),
+        ("pieces of values", values::pieces_are_right(alloc)),
+        ("projections", values::projections_are_right(alloc)),
+        ("bounds", values::bounds_are_right(alloc)),
+        ("samples", values::samples_are_right(alloc)),
         ("division", numbers::division_is_right()),
         ("inverses", numbers::inverses_are_right()),
         ("the widest limit", numbers::widest_limit_is_right()),
@@ -31,5 +34,5 @@ fn main(rt: HostRuntime) -> io::Result<()> {
             differ = differ.saturating_add(1);
         }
     }
-    println!(&rt; "13 kinds of calls, {differ} differ")
+    println!(&rt; "16 kinds of calls, {differ} differ")
 }
