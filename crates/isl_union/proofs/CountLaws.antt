@@ -24,9 +24,9 @@ few_more before rest s kept pushed (Some x) n next is so_far =
     omega (arith, first, second, both, so_far)
 
 -- what is made of one more of the pieces: at most one for each unit, and one
-pub counted_more : (g h k : Gauge) (pieces : List PieceView) (piece : PieceView) (i : ℕ) (kept more pushed : List PieceView) → i < length pieces
-    → pushed ≡ kept ++ more → length kept + g.units ≤ h.units + length (take i pieces) → length more + h.units ≤ k.units + 1
-    → length pushed + g.units ≤ k.units + length (take (i + 1) pieces)
+pub counted_more : (g h k : Gauge) (pieces : List PieceView) (piece : PieceView) (i : ℕ) (kept more pushed : List PieceView)
+    → i < length pieces → pushed ≡ kept ++ more → length kept + g.units ≤ h.units + length (take i pieces)
+    → length more + h.units ≤ k.units + 1 → length pushed + g.units ≤ k.units + length (take (i + 1) pieces)
 counted_more g h k pieces piece i kept more pushed low is so_far here =
     let all = ap length is in
     let both = length-append kept more in

@@ -1,15 +1,16 @@
 -- Two values over their joined parameters.
-use Rattle.std.proofs.Common.{◌≡◌, sym, subst, List, All, Contains, map, unsigned_abs}
+use Rattle.std.proofs.Common.{◌≡◌, sym, subst, List, [], All, Contains, map, unsigned_abs}
+use Rattle.isl_math.proofs.ListLaws.{All-unmapped}
 use Rattle.isl_meter.specs.Gauge.{Gauge, limit_of}
 use Rattle.isl_space.specs.Name.{Name}
 use Rattle.isl_space.specs.Names.{IsParameterList, joined}
 use Rattle.isl_piece.specs.Piece.{PieceView}
-use Rattle.isl_union.specs.KeptValue.{KeptValue, IsKeptValue}
+use Rattle.isl_union.specs.KeptValue.{KeptPiece, KeptValue, IsKeptValue}
 use Rattle.isl_union.specs.Minus.{ArePiecesOver, IsAlignedPair}
 use Rattle.isl_union.specs.Moved.{aligned_pieces}
 use Rattle.isl_union.specs.Numbers.{IsWithinLimit}
 use Rattle.isl_union.specs.Piece.{kept_piece, IsPieceOf}
-use Rattle.isl_union.proofs.ValueLaws.{aligned_have, aligned_small, first_in, pieces_within, second_in}
+use Rattle.isl_union.proofs.ValueLaws.{aligned_all_plain, aligned_have, aligned_small, first_in, pieces_within, second_in}
 
 over_made : (g : Gauge) (params : List Name) (value : KeptValue) (pieces : List PieceView) → IsKeptValue value → IsWithinLimit g value
     → All (Contains params) value.params → map kept_piece pieces ≡ aligned_pieces params value → All (IsPieceOf params) pieces
@@ -19,6 +20,9 @@ over_made g params value pieces kept fits there is sound = record {
   within = pieces_within g params pieces (aligned_pieces params value) sound is
       (aligned_small g params value kept fits there (unsigned_abs (limit_of g)) fits);
   elements = λ v e. rw is (aligned_have g params value kept fits there v e);
+  definitions = λ none.
+      All-unmapped (λ (p : KeptPiece). p.definitions ≡ []) kept_piece pieces
+      (rw is (aligned_all_plain g params value kept fits there none));
 }
 
 pub pair_made : (g : Gauge) (a b : KeptValue) (params : List Name) (own others : List PieceView) → params ≡ joined a.params b.params

@@ -1,5 +1,5 @@
 -- inner: what is left of pieces without others, and which pieces have the elements of others.
-use Rattle.std.specs.Prelude.{◌≡◌, ◌↔◌, if◌then◌else◌, Option, Some, None, List, All, Any, filter_map, map}
+use Rattle.std.specs.Prelude.{◌≡◌, ◌↔◌, if◌then◌else◌, Option, Some, None, List, [], All, Any, filter_map, map}
 use Rattle.isl_meter.specs.Gauge.{Gauge}
 use Rattle.isl_space.specs.Element.{Element}
 use Rattle.isl_space.specs.Name.{Name}
@@ -8,7 +8,7 @@ use Rattle.isl_space.specs.SpaceForm.{SpaceForm}
 use Rattle.isl_space.specs.Valuation.{Valuation}
 use Rattle.isl_piece.specs.Piece.{PieceView}
 use Rattle.isl_piece.specs.declared.system.System.{System}
-use Rattle.isl_union.specs.KeptValue.{KeptPiece, KeptValue, Has, HasElement}
+use Rattle.isl_union.specs.KeptValue.{KeptPiece, KeptValue, Has, HasElement, HasNoDefinitions}
 use Rattle.isl_union.specs.Meet.{is_same_space}
 use Rattle.isl_union.specs.Numbers.{AreWithinLimit}
 use Rattle.isl_union.specs.Piece.{kept_piece, IsPieceOf}
@@ -40,12 +40,13 @@ pub record AreCovered (params : List Name) (pieces others : List KeptPiece) : Ty
       → Any (HasElement params valuation element) pieces → Any (HasElement params valuation element) others
 
 -- ---- two values over their joined parameters
--- pieces over the parameters, within the limit, that have the elements of the value
+-- pieces over the parameters, within the limit, that have the elements of the value, and define no column where it defines none
 pub record ArePiecesOver (g : Gauge) (params : List Name) (value : KeptValue) (pieces : List PieceView) : Type 0 where
   pub sound : All (IsPieceOf params) pieces
   pub within : AreWithinLimit g pieces
   pub elements : (valuation : Valuation) (element : Element)
       → Any (HasElement params valuation element) (map kept_piece pieces) ↔ Has value valuation element
+  pub definitions : HasNoDefinitions value → All (λ piece. piece.system.definitions ≡ []) pieces
 
 -- the pieces of the one value and of the other over their joined parameters
 pub record IsAlignedPair (g : Gauge) (a b : KeptValue) (all : List Name) (firsts seconds : List PieceView) : Type 0 where

@@ -19,7 +19,8 @@ use std::alloc::Global;
 
 impl Value {
     /// The same elements at every valuation, in pieces that define no column. The pieces of this value that define none stay as
-    /// they are, and a value with no others is answered itself; no unit is used then. (isl manual, on integer divisions)
+    /// they are, and a value with no others is answered itself; no unit is used then. There are no more pieces than in this value,
+    /// but for one for each unit that was used. (isl manual, on integer divisions)
     ///
     /// # Errors
     ///

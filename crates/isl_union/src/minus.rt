@@ -9,7 +9,7 @@ ghost use Rattle.isl_space.specs.Space.{space_form_of};
 ghost use Rattle.isl_space.specs.Valuation.{Valuation};
 ghost use Rattle.isl_piece.specs.System.{IsSystemWithin};
 ghost use Rattle.isl_union.specs.Fault.{IsFaultBy};
-ghost use Rattle.isl_union.specs.KeptValue.{Has, IsKeptValue};
+ghost use Rattle.isl_union.specs.KeptValue.{Has, HasNoDefinitions, IsKeptValue};
 ghost use Rattle.isl_union.specs.Minus.{piece_in, systems_in, AreLeftOf};
 ghost use Rattle.isl_union.specs.Numbers.{AreWithinLimit, IsWithinLimit};
 ghost use Rattle.isl_union.specs.Piece.{kept_piece, IsPieceOf};
@@ -67,6 +67,8 @@ fn piece_without(
     ensures exact { IfOk result
         (λ left. AreLeftOf meter.old params.now (kept_piece piece.now ∷ []) (map kept_piece others.now) left.items) }
     ensures alone { systems_in piece.now.space others.now ≡ [] → IfOk result (λ left. left.items ≡ piece.now ∷ []) }
+    ensures definitions { piece.now.system.definitions ≡ [] → All (λ other. other.system.definitions ≡ []) others.now
+        → IfOk result (λ left. All (λ part. part.system.definitions ≡ []) left.items) }
     ensures counted { IfOk result (λ left. length left.items + meter.old.units ≤ meter.new.units + 1) }
     ensures meter { MatchResult result (λ _. IsCharged meter.old meter.new) (IsCutBy meter.old meter.new) }
 {
@@ -96,6 +98,8 @@ fn pieces_without(
     requires others_within { AreWithinLimit meter.old others.now }
     ensures exact { IfOk result
         (λ left. AreLeftOf meter.old params.now (map kept_piece pieces.now) (map kept_piece others.now) left.items) }
+    ensures definitions { All (λ piece. piece.system.definitions ≡ []) pieces.now → All (λ other. other.system.definitions ≡ []) others.now
+        → IfOk result (λ left. All (λ part. part.system.definitions ≡ []) left.items) }
     ensures counted { IfOk result (λ left. length left.items + meter.old.units ≤ meter.new.units + length pieces.now) }
     ensures meter { MatchResult result (λ _. IsCharged meter.old meter.new) (IsCutBy meter.old meter.new) }
 {
@@ -112,7 +116,8 @@ fn pieces_without(
 impl Value {
     /// The elements of this value that the other has not, over the joined parameters: of each piece of this value what is left of
     /// it without the pieces of the other that lie in its space, as pieces that have an element at some valuation. A piece whose
-    /// space no piece of the other has stays as it is. (isl manual, on set and relation operations)
+    /// space no piece of the other has stays as it is. There are no more pieces than in this value, but for one for each unit
+    /// that was used. (isl manual, on set and relation operations)
     ///
     /// # Errors
     ///
@@ -125,6 +130,7 @@ impl Value {
         ensures params { IfOk result (λ value. value.params ≡ joined self.now.params other.now.params) }
         ensures elements { (valuation : Valuation) (element : Element)
             → IfOk result (λ value. Has value valuation element ↔ (Has self.now valuation element × ¬ Has other.now valuation element)) }
+        ensures definitions { HasNoDefinitions self.now → HasNoDefinitions other.now → IfOk result HasNoDefinitions }
         ensures numbers { IfOk result (IsWithinLimit meter.old) }
         ensures counted { IfOk result (λ value. length value.pieces + meter.old.units ≤ meter.new.units + length self.now.pieces) }
         ensures units { MatchResult result

@@ -46,8 +46,8 @@ fn without_columns(
 
 impl Value {
     /// The elements of `space` without the `count` coordinates from `from` on, in the space `to`, over the same parameters: those
-    /// that some whole numbers at these coordinates make elements of the value. Pieces of other spaces are left out. (isl manual,
-    /// on projecting out)
+    /// that some whole numbers at these coordinates make elements of the value. Pieces of other spaces are left out. There are no
+    /// more pieces than in this value, but for one for each unit that was used. (isl manual, on projecting out)
     ///
     /// # Errors
     ///

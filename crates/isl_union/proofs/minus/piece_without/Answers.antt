@@ -1,13 +1,15 @@
-use Rattle.std.proofs.Common.{◌≡◌, [], sym, ap, ◌∙◌, arith, subst, length, map}
+use Rattle.std.proofs.Common.{◌≡◌, [], sym, ap, ◌∙◌, arith, subst, ◌∷◌, length, map}
 use Rattle.std.specs.List.{All}
 use Rattle.std.proofs.lemmas.Grind.{common_steps}
 use Rattle.std.proofs.lemmas.List.{nil_from_length}
+use Rattle.std.proofs.lemmas.List.Elements.{All-cons, All-map, All-nil}
+use Rattle.isl_piece.specs.Piece.{PieceView}
 use Rattle.isl_space.specs.SpaceForm.{SpaceForm}
 use Rattle.isl_piece.specs.declared.system.System.{System}
 use Rattle.isl_piece.specs.System.{IsSystemWithin, free_columns}
 use Rattle.isl_union.specs.Minus.{piece_in, systems_in}
 use Rattle.isl_union.proofs.CountLaws.{length_mapped}
-use Rattle.isl_union.proofs.MinusLaws.{left_alone, left_over, systems_free, systems_within}
+use Rattle.isl_union.proofs.MinusLaws.{left_alone, left_over, systems_all, systems_free, systems_within}
 use Rattle.isl_union.proofs.minus.piece_without.Goals as goal
 
 pub returns-then-is_empty-clause-exact : goal.returns-then-is_empty-clause-exact
@@ -54,3 +56,21 @@ returns-clause-counted c =
     let count = length_mapped _ c.in_ok-left.left.items c.in_ok-pieces_in.field-0.items c.in_ok-pieces_in.ensures in
     let counted = c.in_ok-left.ensures.counted in
     omega (arith, count, counted)
+
+pub returns-then-is_empty-clause-definitions : goal.returns-then-is_empty-clause-definitions
+returns-then-is_empty-clause-definitions c = λ own others.
+    let P : PieceView → Type 0 = λ p. p.system.definitions ≡ [] in
+    let is : c.push.new.self.items ≡ c.args.piece.now ∷ [] = grind (arith, common_steps) in
+    subst (All P) (sym is) (All-cons P c.args.piece.now [] own (All-nil P))
+
+pub returns-clause-definitions : goal.returns-clause-definitions
+returns-clause-definitions c = λ own others.
+    let P : System → Type 0 = λ s. s.definitions ≡ [] in
+    let Q : PieceView → Type 0 = λ p. p.system.definitions ≡ [] in
+    let space = c.args.piece.now.space in
+    let parts = c.in_ok-left.left.items in
+    let are = c.in_ok-systems.ensures ∙ ap (λ (s : SpaceForm). systems_in s c.args.others.now) c.space-space.ensures in
+    let all = subst (All P) (sym are) (systems_all P space c.args.others.now (λ k d l same. others k d l)) in
+    let left = (rw (c.as_slice.ensures.value, c.system.ensures) at c.in_ok-left.ensures.definitions) own all in
+    let made = c.in_ok-pieces_in.ensures ∙ ap (λ (s : SpaceForm). map (piece_in s) parts) c.space-space.ensures in
+    subst (All Q) (sym made) (All-map Q (piece_in space) parts (λ k d l. left k d l))

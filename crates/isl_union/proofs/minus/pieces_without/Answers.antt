@@ -1,9 +1,11 @@
-use Rattle.std.proofs.Common.{arith, ◌<◌, ◌≤◌, length, map}
+use Rattle.std.proofs.Common.{◌≡◌, sym, subst, arith, ◌<◌, ◌≤◌, [], All, length, map}
 use Rattle.isl_meter.proofs.CutLemmas.{IsCharged_trans}
 use Rattle.isl_piece.specs.System.{IsSystemWithin}
 use Rattle.isl_piece.proofs.FormedLaws.{system_within_kept}
 use Rattle.isl_union.specs.Piece.{kept_piece}
 use Rattle.std.proofs.lemmas.List.{take_all}
+use Rattle.std.proofs.lemmas.List.Elements.{All-append}
+use Rattle.isl_piece.specs.Piece.{PieceView}
 use Rattle.isl_union.proofs.CountLaws.{counted_more}
 use Rattle.isl_union.proofs.MeetSteps.{charged_bits, item_has, pieces_later}
 use Rattle.isl_union.proofs.MinusLaws.{left_step}
@@ -35,6 +37,12 @@ loop-piece-preserved c =
       left = left_step g h c.args.params.now pieces piece i others c.loop-piece.left.items c.in_ok-piece_without.field-0.items
           c.append.new.pieces.items so_far.charged low c.piece-item.is so_far.left c.in_ok-piece_without.ensures.exact
           c.in_ok-append.ensures;
+      definitions = λ own none.
+          let P : PieceView → Type 0 = λ p. p.system.definitions ≡ [] in
+          let here = item_has P pieces i piece low c.piece-item.is own in
+          subst (All P) (sym c.in_ok-append.ensures)
+          (All-append P c.loop-piece.left.items c.in_ok-piece_without.field-0.items (so_far.definitions own none)
+          (c.in_ok-piece_without.ensures.definitions here none));
       charged = IsCharged_trans g h c.piece_without.new.meter so_far.charged c.in_ok-piece_without.ensures.meter;
       counted = counted_more g h c.piece_without.new.meter pieces piece i c.loop-piece.left.items c.in_ok-piece_without.field-0.items
           c.append.new.pieces.items low c.in_ok-append.ensures so_far.counted c.in_ok-piece_without.ensures.counted;
@@ -44,3 +52,6 @@ pub returns-clause-counted : goal.returns-clause-counted
 returns-clause-counted c =
     let end : length c.args.pieces.now ≤ c.loop-piece.piece-index = omega arith in
     rw (take_all c.loop-piece.piece-index c.args.pieces.now end) at c.loop-piece.invariant.counted
+
+pub returns-clause-definitions : goal.returns-clause-definitions
+returns-clause-definitions c = λ own others. c.loop-piece.invariant.definitions own others

@@ -1,4 +1,4 @@
-use Rattle.std.proofs.Common.{◌+◌, ◌≤◌, length, map, take}
+use Rattle.std.proofs.Common.{◌≡◌, ◌+◌, ◌≤◌, [], All, length, map, take}
 use Rattle.isl_meter.specs.Gauge.{IsCharged}
 use Rattle.isl_union.specs.Minus.{AreLeftOf}
 use Rattle.isl_union.specs.Piece.{kept_piece}
@@ -7,6 +7,8 @@ use Rattle.isl_union.proofs.minus.pieces_without.Given as goal
 abbrev pub invariant-loop-piece : goal.invariant-loop-piece
 invariant-loop-piece l = record {
   left : AreLeftOf l.fn.meter l.params (map kept_piece (take l.piece-index l.pieces)) (map kept_piece l.others) l.left.items;
+  definitions : All (λ piece. piece.system.definitions ≡ []) l.pieces → All (λ other. other.system.definitions ≡ []) l.others
+      → All (λ part. part.system.definitions ≡ []) l.left.items;
   charged : IsCharged l.fn.meter l.meter;
   counted : length l.left.items + l.fn.meter.units ≤ l.meter.units + length (take l.piece-index l.pieces);
 }

@@ -1,5 +1,7 @@
-use Rattle.std.proofs.Common.{sym, subst, length}
-use Rattle.isl_union.specs.KeptValue.{IsKeptValue}
+use Rattle.std.proofs.Common.{◌≡◌, sym, subst, [], length}
+use Rattle.std.proofs.lemmas.List.Elements.{All-map}
+use Rattle.isl_union.specs.KeptValue.{KeptPiece, HasNoDefinitions, IsKeptValue}
+use Rattle.isl_union.specs.Piece.{kept_piece}
 use Rattle.isl_union.proofs.CountLaws.{counted_value}
 use Rattle.isl_union.proofs.MinusLaws.{left_numbers, left_value}
 use Rattle.isl_union.proofs.PieceLaws.{IsKeptValue-from_pieces}
@@ -28,3 +30,11 @@ returns-clause-counted c =
     let counted = rw (c.as_slice.ensures.value, c.in_ok-pair.ensures.count) at c.in_ok-left.ensures.counted in
     counted_value c.args.meter.now c.pieces_without.new.meter c.in_ok-pair.pair.params c.in_ok-left.left.items c.from_normal.result
     (length c.args.self.now.pieces) c.from_normal.ensures counted
+
+pub returns-clause-definitions : goal.returns-clause-definitions
+returns-clause-definitions c = λ own other.
+    let P : KeptPiece → Type 0 = λ p. p.definitions ≡ [] in
+    let pair = c.in_ok-pair.ensures.exact in
+    let none = (rw (c.as_slice.ensures.value, c.as_slice-2.ensures.value) at c.in_ok-left.ensures.definitions)
+    (pair.own.definitions own) (pair.others.definitions other) in
+    subst HasNoDefinitions (sym c.from_normal.ensures) (All-map P kept_piece c.in_ok-left.left.items (λ k d l. none k d l))
