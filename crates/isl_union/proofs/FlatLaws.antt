@@ -1,5 +1,5 @@
 -- Pieces without definitions.
-use Rattle.std.proofs.Common.{◌≡◌, ◌↔◌, sym, ap, ◌∙◌, arith, subst, Bool, false, IsTrue, ℕ, ◌-◌, ◌<◌, List, [], All, get_or, length}
+use Rattle.std.proofs.Common.{◌≡◌, ◌↔◌, sym, ap, ◌∙◌, arith, subst, Bool, false, IsTrue, ℕ, ◌<◌, List, [], All, get_or, length}
 use Rattle.std.proofs.Common.{length-append, map}
 use Rattle.isl_math.proofs.ListLaws.{All-unmapped}
 use Rattle.isl_space.specs.Element.{Element}

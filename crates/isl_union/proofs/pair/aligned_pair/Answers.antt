@@ -1,4 +1,4 @@
-use Rattle.std.proofs.Common.{sym, ap, ap₂, ◌∙◌, subst, ◌≤◌, length, List}
+use Rattle.std.proofs.Common.{sym, ap₂, ◌∙◌, subst, ◌≤◌, length, List}
 use Rattle.std.specs.List.{All, Contains}
 use Rattle.isl_space.specs.Limits.{most_parameters}
 use Rattle.isl_space.specs.Name.{Name}
