@@ -1,20 +1,18 @@
 //! Values without definitions.
 
 ghost use Rattle.std.specs.Prelude.{◌≡◌, ◌↔◌, ◌+◌, ◌≤◌, IfOk, MatchResult, length};
-ghost use Rattle.isl_meter.specs.Gauge.{IsCharged};
+ghost use Rattle.isl_meter.specs.Gauge.{IsCharged, IsCutBy};
 ghost use Rattle.isl_meter.specs.declared.Cut.TheVariants.{NoMemory};
 ghost use Rattle.isl_space.specs.Element.{Element};
 ghost use Rattle.isl_space.specs.Valuation.{Valuation};
-ghost use Rattle.isl_union.specs.Fault.{IsCutFault};
 ghost use Rattle.isl_union.specs.KeptValue.{Has, HasNoDefinitions, IsKeptValue};
 ghost use Rattle.isl_union.specs.Numbers.{IsWithinLimit};
-ghost use Rattle.isl_union.specs.declared.fault.OpFault.TheVariants as op_fault;
 
 use crate::aligned::append;
 use crate::pieces::live_pieces_in;
-use crate::{OpFault, Value};
+use crate::Value;
 use isl_elim::flatten;
-use isl_meter::Meter;
+use isl_meter::{Cut, Meter};
 use std::alloc::Global;
 
 impl Value {
@@ -24,9 +22,8 @@ impl Value {
     ///
     /// # Errors
     ///
-    /// `Overflow` where a number passes the limit of the meter, `Budget` where its units are used up, and `NoMemory`; never
-    /// `TooWide`.
-    pub fn flat(&self, alloc: Global, meter: &mut Meter) -> Result<Value, OpFault>
+    /// `Overflow` where a number passes the limit of the meter, `Budget` where its units are used up, and `NoMemory`.
+    pub fn flat(&self, alloc: Global, meter: &mut Meter) -> Result<Value, Cut>
         requires { IsWithinLimit meter.old self.now }
         ensures kept { IfOk result IsKeptValue }
         ensures params { IfOk result (λ value. value.params ≡ self.now.params) }
@@ -36,8 +33,8 @@ impl Value {
         ensures numbers { IfOk result (IsWithinLimit meter.old) }
         ensures counted { IfOk result (λ value. length value.pieces + meter.old.units ≤ meter.new.units + length self.now.pieces) }
         ensures same { HasNoDefinitions self.now
-            → MatchResult result (λ value. value ≡ self.now) (λ fault. fault ≡ op_fault.Cut NoMemory) × (meter.new ≡ meter.old) }
-        ensures meter { MatchResult result (λ _. IsCharged meter.old meter.new) (IsCutFault meter.old meter.new) }
+            → MatchResult result (λ value. value ≡ self.now) (λ cut. cut ≡ NoMemory) × (meter.new ≡ meter.old) }
+        ensures meter { MatchResult result (λ _. IsCharged meter.old meter.new) (IsCutBy meter.old meter.new) }
     {
         let params = self.params();
         let pieces = self.pieces();
