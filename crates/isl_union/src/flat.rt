@@ -8,9 +8,9 @@ ghost use Rattle.isl_space.specs.Valuation.{Valuation};
 ghost use Rattle.isl_union.specs.KeptValue.{Has, HasNoDefinitions, IsKeptValue};
 ghost use Rattle.isl_union.specs.Numbers.{IsWithinLimit};
 
+use crate::Value;
 use crate::aligned::append;
 use crate::pieces::live_pieces_in;
-use crate::Value;
 use isl_elim::flatten;
 use isl_meter::{Cut, Meter};
 use std::alloc::Global;
