@@ -51,11 +51,11 @@ pub record IsCharged (old new : Gauge) : Type 0 where
   pub units : old.units ≤ new.units
 
 -- why work was cut: a number passed the limit; or the units reached the budget, and one more was
--- refused; want of memory leaves no mark on a meter
+-- refused; want of memory leaves no mark on a meter but the units that were used before it
 abbrev pub HasCause : Gauge → Gauge → Cut → Type 0
 HasCause old new Overflow = Rose old.overflows new.overflows
 HasCause old new Budget = (new.budget ≤ new.units) × Rose old.spents new.spents
-HasCause old new NoMemory = Unit {0}
+HasCause old new NoMemory = IsCharged old new
 
 -- the meter was kept, and the cut has its cause
 pub record IsCutBy (old new : Gauge) (cut : Cut) : Type 0 where
