@@ -1,16 +1,1 @@
-pub mod AgreeLaws
-pub mod AmountLaws
-pub mod BringLaws
-pub mod ChainLaws
-pub mod Columns
-pub mod EntryLaws
-pub mod FormulaLaws
-pub mod KnownLaws
-pub mod LiteralLaws
-pub mod LoweredLaws
-pub mod PassLaws
-pub mod PieceLaws
-pub mod PlaceLaws
-pub mod PlainLaws
-pub mod TermLaws
 pub mod ValueLaws

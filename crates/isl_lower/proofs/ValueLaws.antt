@@ -39,13 +39,13 @@ use Rattle.isl_tree.specs.Environment.{Environment}
 use Rattle.isl_tree.specs.Literal.{entries_of, piece_entries, form_of_tuple, space_of_piece, piece_environment, EntriesEqual, PieceHas}
 use Rattle.isl_tree.specs.Known.{piece_is_known, literal_is_known}
 use Rattle.isl_tree.specs.Plain.{is_plain_tuple, second_is_plain, body_is_plain, is_plain_piece, is_plain}
-use Rattle.isl_lower.specs.Linear.{row_of}
-use Rattle.isl_lower.specs.Rows.{Written, added, piece_width, rows_written, written_piece}
-use Rattle.isl_lower.specs.Passes.{FailsBy}
+use Rattle.isl_linear.specs.Linear.{row_of}
+use Rattle.isl_linear.specs.Rows.{Written, added, piece_width, rows_written, written_piece}
+use Rattle.isl_linear.specs.Passes.{FailsBy}
 use Rattle.isl_lower.specs.Value.{piece_lowered, value_lowered, HasSameElements, IsLowered}
-use Rattle.isl_lower.proofs.AmountLaws.{length-with_amounts}
-use Rattle.isl_lower.proofs.PieceLaws.{points_are}
-use Rattle.isl_lower.proofs.TermLaws.{both_true}
+use Rattle.isl_linear.proofs.AmountLaws.{length-with_amounts}
+use Rattle.isl_linear.proofs.PieceLaws.{points_are}
+use Rattle.isl_linear.proofs.TermLaws.{both_true}
 
 -- ---- the rows are rows over the columns
 divisor_of_one : (kind : RowKind) → HasModulus kind (pos 1)

@@ -1,14 +1,6 @@
-pub mod Linear
-pub mod Passes
-pub mod Placed
-pub mod Places
-pub mod Points
-pub mod Rows
-pub mod Outcome
 pub mod Value
-pub mod Width
 pub use Rattle.isl_meter.specs.Gauge
-pub use Rattle.isl_piece.specs.Row
+pub use Rattle.isl_linear.specs.Rows
 pub use Rattle.isl_space.specs.Valuation
 pub use Rattle.isl_tree.specs.Known
 pub use Rattle.isl_tree.specs.Literal

@@ -12,8 +12,8 @@ use Rattle.isl_union.specs.Live.{normal_of, AreLiveOf}
 use Rattle.isl_tree.specs.declared.tree.PieceTree.{PieceTree}
 use Rattle.isl_tree.specs.declared.tree.Literal.{Literal}
 use Rattle.isl_tree.specs.Literal.{space_of_piece, LiteralHas}
-use Rattle.isl_lower.specs.Rows.{rows_written}
-use Rattle.isl_lower.specs.Passes.{PiecePasses}
+use Rattle.isl_linear.specs.Rows.{rows_written}
+use Rattle.isl_linear.specs.Passes.{PiecePasses}
 
 -- what a literal declares and names is what a value may have
 pub record IsWellFormedLiteral (literal : Literal) : Type 0 where

@@ -18,11 +18,10 @@ ghost use Rattle.isl_union.specs.Piece.{kept_piece, IsPieceOf};
 ghost use Rattle.isl_tree.specs.Known.{literal_is_known};
 ghost use Rattle.isl_tree.specs.Literal.{form_of_tuple, space_of_piece};
 ghost use Rattle.isl_tree.specs.Plain.{is_plain_tuple, is_plain_piece, is_plain};
-ghost use Rattle.isl_lower.specs.Rows.{piece_width};
+ghost use Rattle.isl_linear.specs.Rows.{piece_width};
 ghost use Rattle.isl_lower.specs.Value.{piece_lowered, IsLowered, IsWellFormedLiteral, HasSameElements};
 
-use crate::known::{leaf_entries, second_entries};
-use crate::lowered::rows_written;
+use isl_linear::{leaf_entries, rows_written, second_entries};
 use isl_meter::{Cut, Meter};
 use isl_piece::{Piece, System};
 use isl_space::{Name, Params, Shape, Space, SpaceFault};

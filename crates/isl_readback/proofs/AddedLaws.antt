@@ -11,8 +11,8 @@ use Rattle.isl_print.specs.declared.sum.Side.{Side}
 use Rattle.isl_print.specs.declared.sum.Side.TheVariants.{Left, Right}
 use Rattle.isl_print.specs.Sum.{share, terms_of}
 use Rattle.isl_tree.specs.declared.tree.Signed.{Signed}
-use Rattle.isl_lower.specs.Linear.{Amount, Place, amount_of, amounts_of, turned, with_amount, with_amounts, row_of, difference}
-use Rattle.isl_lower.specs.Rows.{added}
+use Rattle.isl_linear.specs.Linear.{Amount, Place, amount_of, amounts_of, turned, with_amount, with_amounts, row_of, difference}
+use Rattle.isl_linear.specs.Rows.{added}
 use Rattle.isl_tree.specs.Term.{product_of}
 use Rattle.isl_readback.specs.Tree.{term_tree, number_tree, constant_trees, sum_tree, side_tree}
 

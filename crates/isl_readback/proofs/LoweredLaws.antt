@@ -36,8 +36,8 @@ use Rattle.isl_tree.specs.declared.tree.Literal.{Literal}
 use Rattle.isl_tree.specs.Literal.{new_name, known_after, form_of_tuple, piece_entries, space_of_piece}
 use Rattle.isl_tree.specs.Plain.{is_plain_tuple, second_is_plain, is_plain_formula, are_plain_chains, body_is_plain, is_plain_piece, is_plain}
 use Rattle.isl_text.specs.Formed.{are_sets, are_maps, are_alike}
-use Rattle.isl_lower.specs.Linear.{Place}
-use Rattle.isl_lower.specs.Rows.{Written, kind_of_compare, equation, written_entries, written_links, written_chains, written_formula, written_body, written_piece, piece_width, piece_place, added, rows_written}
+use Rattle.isl_linear.specs.Linear.{Place}
+use Rattle.isl_linear.specs.Rows.{Written, kind_of_compare, equation, written_entries, written_links, written_chains, written_formula, written_body, written_piece, piece_width, piece_place, added, rows_written}
 use Rattle.isl_lower.specs.Value.{IsLowered, IsWellFormedLiteral, piece_lowered, value_lowered}
 use Rattle.isl_lower.proofs.ValueLaws.{lowered_plain, written_formed, written_moduli, columns_are}
 use Rattle.isl_readback.specs.Written.{IsComparison, HasComparisons, IsSet, IsMap, IsUniform, IsLeaf, IsFlatSpace, IsFlat}

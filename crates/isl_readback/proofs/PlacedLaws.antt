@@ -6,8 +6,8 @@ use Rattle.std.proofs.lemmas.Bool.{false_from_ne_true}
 use Rattle.std.proofs.lemmas.Slice.Eq.{bytes_eq-Decides}
 use Rattle.isl_space.specs.Name.{Name}
 use Rattle.isl_space.proofs.DistinctLaws.{Differs, Distinct, Apart}
-use Rattle.isl_lower.specs.Linear.{Place}
-use Rattle.isl_lower.specs.Places.{entry_from, first_some, or_else, place_among}
+use Rattle.isl_linear.specs.Linear.{Place}
+use Rattle.isl_linear.specs.Places.{entry_from, first_some, or_else, place_among}
 use Rattle.isl_readback.specs.Tree.{name_entry}
 use Rattle.isl_readback.proofs.AddedLaws.{PlacedFrom}
 

@@ -24,7 +24,7 @@ use Rattle.isl_tree.specs.declared.tree.Compare.{Compare}
 use Rattle.isl_tree.specs.declared.tree.Compare.TheVariants.{Equal, GreaterEqual}
 use Rattle.isl_tree.specs.declared.tree.Formula.TheVariants as formula
 use Rattle.isl_tree.specs.Plain.{is_linear, is_plain_entry, is_plain_compare, is_plain_chain, is_plain_formula, is_plain_tuple, second_is_plain, body_is_plain, is_plain_piece, is_plain}
-use Rattle.isl_lower.proofs.PlainLaws.{plain_and}
+use Rattle.isl_linear.proofs.PlainLaws.{plain_and}
 use Rattle.isl_readback.specs.Tree.{term_tree, number_tree, constant_trees, sum_tree, side_tree, comparison_tree, kind_tree, row_tree, conjunction_tree, name_entry, tuple_tree, first_tree, second_tree, piece_tree, printed_tree}
 use Rattle.isl_readback.specs.Written.{IsComparison, HasComparisons, IsLeaf, IsFlatSpace, IsFlat}
 

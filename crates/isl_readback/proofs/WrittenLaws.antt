@@ -26,10 +26,10 @@ use Rattle.isl_space.proofs.DistinctLaws.{Distinct, Apart, distinct_from}
 use Rattle.isl_print.proofs.DistinctLaws.{coordinates_distinct, coordinates_apart}
 use Rattle.isl_print.proofs.TextLaws.{length-column_names, All-in_order}
 use Rattle.isl_tree.specs.Literal.{is_among, new_name, known_after, piece_entries}
-use Rattle.isl_lower.specs.Linear.{Place, difference}
-use Rattle.isl_lower.specs.Places.{place_among}
-use Rattle.isl_lower.specs.Rows.{Written, added, equation, written_entries, written_chain, written_formula, written_list, written_body, rows_written}
-use Rattle.isl_lower.proofs.ChainLaws.{written-And}
+use Rattle.isl_linear.specs.Linear.{Place, difference}
+use Rattle.isl_linear.specs.Places.{place_among}
+use Rattle.isl_linear.specs.Rows.{Written, added, equation, written_entries, written_chain, written_formula, written_list, written_body, rows_written}
+use Rattle.isl_linear.proofs.ChainLaws.{written-And}
 use Rattle.isl_readback.specs.Tree.{side_tree, kind_tree, row_tree, conjunction_tree, name_entry, piece_tree, printed_tree}
 use Rattle.isl_readback.specs.Written.{IsComparison, HasComparisons, value_written, piece_written}
 use Rattle.isl_readback.proofs.AddedLaws.{PlacedFrom, row_added}

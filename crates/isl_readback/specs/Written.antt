@@ -10,7 +10,7 @@ use Rattle.isl_union.specs.KeptValue.{KeptPiece, KeptValue}
 use Rattle.isl_tree.specs.declared.tree.PieceTree.{PieceTree}
 use Rattle.isl_tree.specs.declared.tree.Literal.{Literal}
 use Rattle.isl_tree.specs.Literal.{space_of_piece}
-use Rattle.isl_lower.specs.Rows.{rows_written}
+use Rattle.isl_linear.specs.Rows.{rows_written}
 use Rattle.isl_expr.specs.declared.tree.ValueKind.{ValueKind}
 use Rattle.isl_expr.specs.declared.tree.ValueKind.TheVariants.{Set, Map, List as Pair, Empty, Truth, Listing, Code}
 use Rattle.isl_union.specs.Numbers.{HasNumbersUpTo}

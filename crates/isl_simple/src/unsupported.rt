@@ -7,7 +7,7 @@ ghost use Rattle.isl_simple.specs.Unsupported as spec;
 ghost use Rattle.isl_simple.specs.Unsupported.{is_later};
 
 use isl_expr::tree::{Binary, Expr, Link, Postfix, Stmt};
-use isl_lower::is_plain;
+use isl_linear::is_plain;
 
 fn is_later_operator(sign: Binary) -> bool
     ensures { result ≡ is_later (operator sign) }

@@ -2,7 +2,7 @@
 
 ghost use Rattle.std.specs.Prelude.{◌≤ℤ◌, pos};
 
-use isl_lower::{is_plain_piece, rows_written};
+use isl_linear::{is_plain_piece, rows_written};
 use isl_meter::{Cut, Meter};
 use isl_piece::{System, normalise};
 use isl_reference::{Wrong, all_hold, numbered, piece_has};
