@@ -32,11 +32,11 @@ pub(crate) fn systems_of(
 {
     let mut systems = Vec::with_capacity(alloc, lists.len())?;
     for rows in lists {
-        systems.push(System {
-            columns: left.columns,
-            definitions: left.definitions.copy(alloc)?,
+        systems.push(System::over(
+            left.columns,
+            left.definitions.copy(alloc)?,
             rows,
-        })?;
+        ))?;
     }
     Ok(systems)
 }

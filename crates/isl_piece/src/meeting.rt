@@ -259,11 +259,7 @@ fn over_columns(
     meeting
         .places
         .append_placed(alloc, meeting.columns, &mut rows, &b.rows)?;
-    Ok(System {
-        columns: meeting.columns,
-        definitions: meeting.definitions,
-        rows,
-    })
+    Ok(System::over(meeting.columns, meeting.definitions, rows))
 }
 
 // The system of both where they have the same columns.
@@ -274,11 +270,7 @@ fn same_columns(alloc: Global, a: &System, b: &System) -> Result<System, AllocEr
     let mut rows = Rows::with_capacity(alloc, count)?;
     rows.append(alloc, &a.rows)?;
     rows.append(alloc, &b.rows)?;
-    Ok(System {
-        columns: a.columns,
-        definitions: a.definitions.copy(alloc)?,
-        rows,
-    })
+    Ok(System::over(a.columns, a.definitions.copy(alloc)?, rows))
 }
 
 impl System {
@@ -307,11 +299,7 @@ impl System {
         placing
             .places
             .append_placed(alloc, placing.columns, &mut rows, &self.rows)?;
-        Ok(System {
-            columns: placing.columns,
-            definitions: placing.definitions,
-            rows,
-        })
+        Ok(System::over(placing.columns, placing.definitions, rows))
     }
 }
 

@@ -29,25 +29,32 @@ impl System {
         System::from_rows(alloc, columns, Rows::new(alloc))
     }
 
+    /// The system of the rows over so many columns, of which the last have the definitions.
+    pub fn over(columns: usize, definitions: Definitions, rows: Rows) -> Self
+        ensures { result ≡ record { columns = columns; definitions = definitions; rows = rows } }
+    {
+        System {
+            columns,
+            definitions,
+            rows,
+        }
+    }
+
     /// The system of the rows, in which each column is free. It takes no memory: the allocator is kept by the definitions.
     pub fn from_rows(alloc: Global, columns: usize, rows: Rows) -> Self
         ensures { result ≡ record { columns = columns; definitions = []; rows = rows } }
     {
-        System {
-            columns,
-            definitions: Definitions::new(alloc),
-            rows,
-        }
+        System::over(columns, Definitions::new(alloc), rows)
     }
 
     pub fn copy(&self, alloc: Global) -> Result<Self, AllocError>
         ensures { IfOk result (λ system. system ≡ self.now) }
     {
-        Ok(System {
-            columns: self.columns,
-            definitions: self.definitions.copy(alloc)?,
-            rows: self.rows.copy(alloc)?,
-        })
+        Ok(System::over(
+            self.columns,
+            self.definitions.copy(alloc)?,
+            self.rows.copy(alloc)?,
+        ))
     }
 
     /// The number of columns with a definition.
@@ -166,11 +173,7 @@ pub fn normalise(
     ensures meter { meter.new ≡ meter.old }
 {
     match system.rows.normalise(alloc, meter)? {
-        Some(rows) => Ok(Some(System {
-            columns: system.columns,
-            definitions: system.definitions,
-            rows,
-        })),
+        Some(rows) => Ok(Some(System::over(system.columns, system.definitions, rows))),
         None => Ok(None),
     }
 }

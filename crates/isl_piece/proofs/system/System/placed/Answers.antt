@@ -12,7 +12,7 @@ pub returns-clause-exact : goal.returns-clause-exact
 returns-clause-exact c =
     let s = c.args.self.now in
     let m = c.in_ok-placing.placing in
-    placing_system m (placing_of c.args.columns c.args.places.now s.definitions) s.rows c.append_placed.new.rows c.in_ok-placing.ensures.exact
+    c.over.ensures ∙ placing_system m (placing_of c.args.columns c.args.places.now s.definitions) s.rows c.append_placed.new.rows c.in_ok-placing.ensures.exact
     (c.in_ok-append_placed.ensures ∙ ap (λ (rows : List Row). rows ++ map (placed_row m.columns m.places) s.rows) c.in_ok-rows.ensures)
 
 pub returns-clause-points : goal.returns-clause-points
