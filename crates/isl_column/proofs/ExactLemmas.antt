@@ -1,5 +1,5 @@
 -- Exact columns: some whole number meets the rows exactly where the free rows and the real rows hold.
-use Rattle.std.proofs.Common.{◌≡◌, ◌≢◌, ◌↔◌, ◌⊎◌, inl, inr, Option, MatchOption, true, ◌∙◌, refl, sym, ap, map, arith, ℕ, ◌+◌, ◌-◌, ◌<◌, ◌≤◌, ℤ, pos, neg_ℤ, ◌≤ℤ◌, ◌<ℤ◌, List, [], ◌∷◌, ◌++◌, append_assoc, length, get_or, take, drop}
+use Rattle.std.proofs.Common.{◌≡◌, ◌≢◌, ◌↔◌, ◌⊎◌, inl, inr, Option, MatchOption, Bool, true, ◌∙◌, refl, sym, ap, map, arith, ℕ, ◌+◌, ◌-◌, ◌<◌, ◌≤◌, ℤ, pos, neg_ℤ, ◌≤ℤ◌, ◌<ℤ◌, List, [], ◌∷◌, ◌++◌, append_assoc, length, get_or, take, drop}
 use Rattle.std.specs.Prelude.{IfSome, IfOk, Result, Ok, Err}
 use Rattle.std.specs.List.{All, insert}
 use Rattle.std.proofs.lemmas.List.{append-nil, take_more, take-append-drop, map-append, length-append}
@@ -37,7 +37,7 @@ use Rattle.isl_omega.proofs.ShadowLemmas.{real_pair, exact_pair}
 use Rattle.isl_omega.proofs.ShadowRows.{lower_meets, upper_meets}
 use Rattle.isl_omega.proofs.SideLemmas.{free_rows_hold, same_from, means_of, sides_are, sides_hold}
 use Rattle.isl_column.proofs.UnitLemmas.{pairs_cost}
-use Rattle.isl_piece.proofs.RowMagnitudes.{rows_within_kept}
+use Rattle.isl_piece.proofs.RowMagnitudes.{row_within_kept, rows_within_kept}
 
 -- ---- one pair
 real_is : (g : Gauge) (columns col : ℕ) (lower upper : Row) → IsLower g columns col lower → IsUpper g columns col upper → col < columns → IsRealRow columns col lower upper (pos 1) (real_row col lower upper)
@@ -221,6 +221,19 @@ lower_from g columns col r p e = let m = means_of columns col Lower r p.formed e
 pub upper_from : (g : Gauge) (columns col : ℕ) (r : Row) → IsProper g columns r → is_same Upper (side_of col r) ≡ true → IsUpper g columns col r
 upper_from g columns col r p e = let m = means_of columns col Upper r p.formed e in record { proper = p; kind = m.0; factor = m.1 }
 
+-- the upper bounds among rows
+pub uppers_are : (g : Gauge) (columns col : ℕ) (rows : List Row) → All (IsProper g columns) rows → All (IsUpper g columns col) (on_side Upper col rows)
+uppers_are g columns col rows h = λ k d i.
+    let p : Row → Bool = λ r. is_same Upper (side_of col r) in
+    upper_from g columns col (get_or (on_side Upper col rows) k d) (All-filter p (IsProper g columns) rows h k d i) (filter_passes p rows k d i)
+
+pub upper_kept : (g h : Gauge) (columns col : ℕ) (r : Row) → h.bits ≡ g.bits → IsUpper g columns col r → IsUpper h columns col r
+upper_kept g h columns col r e u = record {
+  proper = record { formed = u.proper.formed; within = row_within_kept h g r (sym e) u.proper.within };
+  kind = u.kind;
+  factor = u.factor;
+}
+
 pub added_none : (g : Gauge) (col : ℕ) (old : List Row) → AreAdded g col [] old old
 added_none g col old = record { pushed = sym (append-nil old); within = All-nil (IsRowWithin g) }
 
@@ -240,6 +253,13 @@ pub added_kept : (g h : Gauge) (col : ℕ) (rows old new : List Row) → h.bits 
 added_kept g h col rows old new e a = record { pushed = a.pushed; within = rows_within_kept g h (map (λ r. dropped r col) rows) e a.within }
 
 -- ---- the loops over rows
+pub mapped_next : {A : Type 0} {B : Type 0} (f : A → B) (xs : List A) (i : ℕ) (x : A) → i < length xs → x ≡ get_or xs i x → map f (take (i + 1) xs) ≡ map f (take i xs) ++ f x ∷ []
+mapped_next f xs i x l e = ap (map f) (take_more xs i x l ∙ ap (λ y. take i xs ++ y ∷ []) (sym e)) ∙ map-append f (take i xs) (x ∷ [])
+
+-- what holds of all images holds of one
+pub mapped_one : {A : Type 0} {B : Type 0} (P : B → Type 0) (f : A → B) (xs : List A) (i : ℕ) (x : A) → i < length xs → x ≡ get_or xs i x → All P (map f xs) → P (f x)
+mapped_one P f xs i x l e h = rw (← e) at (All-unmapped P f xs h i x l)
+
 pub on_side_next : (side : Side) (col : ℕ) (rows : List Row) (i : ℕ) (r : Row) → i < length rows → r ≡ get_or rows i r → on_side side col (take (i + 1) rows) ≡ on_side side col (take i rows) ++ on_side side col (r ∷ [])
 on_side_next side col rows i r l e =
     ap (on_side side col) (take_more rows i r l ∙ ap (λ (s : Row). take i rows ++ s ∷ []) (sym e)) ∙ filter-append (λ r. is_same side (side_of col r)) (take i rows) (r ∷ [])

@@ -27,7 +27,7 @@ use Rattle.isl_column.specs.Column.{HoldAtSome, HoldAtAny, IsProjectionOf}
 use Rattle.isl_column.specs.DarkShadow.{HoldsDark, HasSplinter, KeepBound, AreSplinters, IsDarkShadow, HoldsDarkShadow, IsTakenOut, IsNoDarkShadow, splinter_count}
 use Rattle.isl_column.specs.Exact.{IsExactColumn, exact_rows, pairs_on}
 use Rattle.isl_column.specs.Magnitude.{AreSmallSplinters, HaveSmallNumbers, HaveOneCongruence}
-use Rattle.isl_column.specs.Parts.{PartsView, HoldsPart, count_of, head_count, residues_most, most_units, residues_least, least_units, AreResidues, AreParts, ArePartsOf, IsNextPart, AreNone, IsFoundIn, AreUnitsUpTo, IsHeadAlone, AreSmallParts, AreBegun, IsBegun, IsOpened, IsOpenedFrom, IsNoResidue}
+use Rattle.isl_column.specs.Parts.{PartsView, HoldsPart, count_of, head_count, residues_most, most_units, residues_least, least_units, least_units_of, AreResidues, AreParts, ArePartsOf, IsNextPart, AreNone, IsFoundIn, AreUnitsUpTo, IsHeadAlone, AreSmallParts, AreBegun, IsBegun, IsOpened, IsOpenedFrom, IsNoResidue}
 use Rattle.isl_column.specs.Residue.{HasNumber, residue_units, residues_units}
 use Rattle.isl_column.specs.Solved.{solved_rows}
 use Rattle.isl_column.specs.Units.{elimination_units}
@@ -308,12 +308,30 @@ pub record ArePartsTaken (g k : Gauge) (columns : ℕ) (first now : PartsView) (
   pub charged : IsCharged g k
   pub units : AreUnitsUpTo (most_units first) g k now
   pub counted : g.units + 1 + head_count now ≤ k.units + head_count first
-  pub pairs : g.units + least_units first ≤ k.units + least_units now
+  pub pairs : g.units + least_units first ≤ k.units
+
+-- a list that is taken out of the dark shadow is paid for itself
+pub least_none : (dark : Option (List Row)) (tails : List Splinters) (residues : Option Residues) (rows : List Row) → (tails ≡ [] → Some rows ≡ dark) → least_units_of dark tails residues ≡ 0
+least_none None [] residues rows f = let e = f refl in absurd (grind arith)
+least_none None (t ∷ tails) residues rows f = refl
+least_none (Some r) tails residues rows f = refl
+
+least_below : (dark : Option (List Row)) (tails : List Splinters) (residues : Option Residues) → least_units_of dark tails residues ≤ residues_least residues
+least_below None [] residues = omega arith
+least_below None (t ∷ tails) residues = omega arith
+least_below (Some r) tails residues = omega arith
+
+pub least_at_most_residues : (parts : PartsView) → least_units parts ≤ residues_least parts.residues
+least_at_most_residues parts = least_below parts.dark_shadow.dark parts.dark_shadow.tails.items parts.residues
+
+-- where nothing but residues is still to come
+pub least_of_residues : (parts : PartsView) → parts.dark_shadow.dark ≡ None → parts.dark_shadow.tails.items ≡ [] → least_units parts ≡ residues_least parts.residues
+least_of_residues parts d t = rw (d, t) refl
 
 pub parts_taken : (g h k : Gauge) (columns : ℕ) (first now next : PartsView) (rows : List Row) → ArePartsSoFar g h columns first now → AreParts g columns first → IsCharged h k → IsTakenOut h now.column.columns now.column.at now.dark_shadow rows next.dark_shadow
     → (pos k.units +ℤ splinter_count next.dark_shadow.tails.items) ≤ℤ (pos h.units +ℤ splinter_count now.dark_shadow.tails.items) → h.units + 1 ≤ k.units + count_of now.dark_shadow.dark
-    → next.column.columns ≡ now.column.columns → next.column.at ≡ now.column.at → next.residues ≡ now.residues → ArePartsTaken g k columns first next rows
-parts_taken g h k columns first now next rows s a c t units counted ec el er =
+    → next.column.columns ≡ now.column.columns → next.column.at ≡ now.column.at → next.residues ≡ now.residues → least_units now ≡ 0 → ArePartsTaken g k columns first next rows
+parts_taken g h k columns first now next rows s a c t units counted ec el er owed =
     let bits = same_limit g h s.charged in
     let rest : AreParts g columns next = record {
       width = rw ec s.are.width;
@@ -349,7 +367,7 @@ parts_taken g h k columns first now next rows s a c t units counted ec el er =
       charged = IsCharged_trans g h k s.charged c;
       units = most;
       counted = all;
-      pairs = let before = s.pairs in let own = c.units in let same = ap residues_least er in omega arith;
+      pairs = let before = s.pairs in let own = c.units in omega arith;
     }
 
 -- the head was taken out of parts
@@ -360,7 +378,8 @@ head_next g columns parts next rows a some none er et ec el es =
     let taken = taken_dark g parts.column.columns parts.column.at parts.dark_shadow next.dark_shadow rows a.shadow some none er et in
     let one = ap count_of some in
     let tails = ap splinter_count et in
-    (parts_taken g g g columns parts parts next rows (parts_first g columns parts a) a (IsCharged_refl g g refl) taken (omega (arith, linear)) (omega arith) ec el es).next
+    (parts_taken g g g columns parts parts next rows (parts_first g columns parts a) a (IsCharged_refl g g refl) taken (omega (arith, linear)) (omega arith) ec el es
+    (least_none parts.dark_shadow.dark parts.dark_shadow.tails.items parts.residues rows (λ e. sym some))).next
 
 abbrev with_head : PartsView → Option (List Row) → PartsView
 with_head parts dark = record { column = parts.column; dark_shadow = record { rows = parts.dark_shadow.rows; dark = dark; tails = parts.dark_shadow.tails }; residues = parts.residues }
@@ -400,7 +419,7 @@ parts_opened g h k m columns first now next s n c o ec el some =
           );
       units = rw el (omega (arith, linear));
       counted = omega arith;
-      pairs = let before = s.pairs in omega arith;
+      pairs = let before = s.pairs in let own = least_at_most_residues now in omega arith;
       small = λ x. absurd (some ((s.small x).residues));
       alone = λ x. absurd (some (ap (λ (p : PartsView). p.residues) (s.alone x) ∙ x));
     }
@@ -495,7 +514,7 @@ answered_first g h columns col rows parts a c u e m x y p = record {
 }
 
 pub answered_next : (g h k : Gauge) (columns col : ℕ) (rows : List Row) (answers more : List (List Row)) (now next : PartsView) (left : List Row) → AreAnswered g h columns col rows answers now → IsNextPart h (columns - 1) now left next → IsCharged h k
-    → AreUnitsUpTo (most_units now) h k next → h.units + 1 + head_count next ≤ k.units + head_count now → (g.bits ≡ 127 → AreSmallParts now → AreSmallParts next) → ((head : Option (List Row)) → IsHeadAlone head now → (Some left ≡ head) × IsHeadAlone None next) → h.units + least_units now ≤ k.units + least_units next → more ≡ answers ++ left ∷ []
+    → AreUnitsUpTo (most_units now) h k next → h.units + 1 + head_count next ≤ k.units + head_count now → (g.bits ≡ 127 → AreSmallParts now → AreSmallParts next) → ((head : Option (List Row)) → IsHeadAlone head now → (Some left ≡ head) × IsHeadAlone None next) → h.units + least_units now ≤ k.units → more ≡ answers ++ left ∷ []
     → AreAnswered g k columns col rows more next
 answered_next g h k columns col rows answers more now next left a n c u counted m x p e = rw e (record {
   charged = IsCharged_trans g h k a.charged c;
@@ -588,10 +607,11 @@ one_in_most g columns col r a some =
 pub parts_found : (g h k : Gauge) (columns : ℕ) (first now next : PartsView) (found : Option (List Row)) → ArePartsSoFar g h columns first now → AreParts g columns first → IsCharged h k
     → MatchOption found (IsNoDarkShadow now.column.columns now.column.at now.dark_shadow) (λ rows. IsTakenOut h now.column.columns now.column.at now.dark_shadow rows next.dark_shadow)
     → IfSome found (λ _. (pos k.units +ℤ splinter_count next.dark_shadow.tails.items) ≤ℤ (pos h.units +ℤ splinter_count now.dark_shadow.tails.items)) → IfSome found (λ _. h.units + 1 ≤ k.units + count_of now.dark_shadow.dark)
-    → next.column.columns ≡ now.column.columns → next.column.at ≡ now.column.at → next.residues ≡ now.residues → found ≢ None → IsFoundIn g columns first found next × IsCharged g k × AreUnitsUpTo (most_units first) g k next × (g.units + least_units first ≤ k.units + least_units next)
-parts_found g h k columns first now next None s a c t u w ec el er n = absurd (n refl)
-parts_found g h k columns first now next (Some rows) s a c t u w ec el er n =
-    let all = parts_taken g h k columns first now next rows s a c t u w ec el er in
+    → next.column.columns ≡ now.column.columns → next.column.at ≡ now.column.at → next.residues ≡ now.residues → (now.dark_shadow.tails.items ≡ [] → found ≡ now.dark_shadow.dark) → found ≢ None
+    → IsFoundIn g columns first found next × IsCharged g k × AreUnitsUpTo (most_units first) g k next × (g.units + least_units first ≤ k.units)
+parts_found g h k columns first now next None s a c t u w ec el er own n = absurd (n refl)
+parts_found g h k columns first now next (Some rows) s a c t u w ec el er own n =
+    let all = parts_taken g h k columns first now next rows s a c t u w ec el er (least_none now.dark_shadow.dark now.dark_shadow.tails.items now.residues rows own) in
     (all.next, all.charged, all.units, all.pairs)
 
 pub spent_in_shadow : (g h k : Gauge) (columns : ℕ) (first now : PartsView) → ArePartsSoFar g h columns first now → IsChargedUpTo (splinter_count now.dark_shadow.tails.items) h k → pos k.units ≤ℤ (pos g.units +ℤ most_units first)

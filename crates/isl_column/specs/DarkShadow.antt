@@ -1,4 +1,4 @@
--- inner: the dark shadow of the sides of a column, and splinters. (Pugh, the Omega test)
+-- public: the dark shadow of rows, which is without the column, and splinters: what a number at the column meets beside it. (Pugh, the Omega test)
 use Rattle.std.specs.Prelude.{◌≡◌, ◌≢◌, ◌↔◌, ◌⊎◌, Bool, true, false, map, nat_lt, ℕ, ◌-◌, ℤ, pos, negsuc, neg_ℤ, ◌+ℤ◌, ◌-ℤ◌, ◌≤ℤ◌, ◌<ℤ◌, List, [], ◌∷◌, ◌++◌, length, All, Any, Option, None, MatchOption, IfSome}
 use Rattle.std.specs.List.{insert}
 use Rattle.isl_meter.specs.Gauge.{Gauge, IsWithin}
@@ -13,21 +13,9 @@ use Rattle.isl_column.specs.declared.dark_shadow.DarkShadow.{DarkShadow}
 use Rattle.isl_omega.specs.declared.shadow.Splinters.{Splinters}
 use Rattle.isl_omega.specs.declared.sides.Sides.{Sides}
 
--- the rows of all sides but the congruences
-abbrev pub rows_of : Sides → List Row
-rows_of sides = ((sides.lowers ++ sides.uppers) ++ sides.not_divides) ++ sides.free
-
--- an upper bound that holds with x at the column where the old one holds with x + 1 too
-abbrev pub shifted_row : ℕ → Row → Row
-shifted_row col u = record { kind = u.kind; coefs = u.coefs; constant = u.constant -ℤ neg_ℤ (coef_at u col); k = u.k }
-
 -- the rows of the dark shadow hold at the point
 abbrev pub HoldsDark : Option (List Row) → List ℤ → Type 0
 HoldsDark dark point = MatchOption dark ⊥ (λ rows. HoldRows rows point)
-
--- some x at the column makes the rows hold, with the value i of the bound
-abbrev pub HasValue : List Row → ℕ → Row → ℤ → List ℤ → Type 0
-HasValue rows col bound i point = (x : ℤ) × HoldAt rows col point x × (value_at bound (insert point col x) ≡ i)
 
 -- some x at the column makes the rows hold, with the value of the tail's bound within the tail
 abbrev pub HasSplinter : List Row → ℕ → List ℤ → Splinters → Type 0
@@ -53,6 +41,24 @@ pub record IsDarkShadow (g : Gauge) (columns col : ℕ) (dark_shadow : DarkShado
 -- the dark shadow holds, or some lower bound has a splinter
 abbrev pub HoldsDarkShadow : DarkShadow → ℕ → List ℤ → Type 0
 HoldsDarkShadow dark_shadow col point = HoldsDark dark_shadow.dark point ⊎ Any (HasSplinter dark_shadow.rows col point) dark_shadow.tails.items
+
+-- how many splinters tails have
+abbrev pub splinter_count : List Splinters → ℤ
+splinter_count [] = pos 0
+splinter_count (t ∷ tails) = (t.last +ℤ pos 1) +ℤ splinter_count tails
+
+-- ---- inside
+-- the rows of all sides but the congruences
+abbrev pub rows_of : Sides → List Row
+rows_of sides = ((sides.lowers ++ sides.uppers) ++ sides.not_divides) ++ sides.free
+
+-- an upper bound that holds with x at the column where the old one holds with x + 1 too
+abbrev pub shifted_row : ℕ → Row → Row
+shifted_row col u = record { kind = u.kind; coefs = u.coefs; constant = u.constant -ℤ neg_ℤ (coef_at u col); k = u.k }
+
+-- some x at the column makes the rows hold, with the value i of the bound
+abbrev pub HasValue : List Row → ℕ → Row → ℤ → List ℤ → Type 0
+HasValue rows col bound i point = (x : ℤ) × HoldAt rows col point x × (value_at bound (insert point col x) ≡ i)
 
 -- some x meets the sides exactly where it holds
 pub record IsDarkShadowOf (g : Gauge) (columns col : ℕ) (sides : Sides) (dark_shadow : DarkShadow) : Type 0 where
@@ -83,12 +89,7 @@ pub record IsTakenOut (g : Gauge) (columns col : ℕ) (old : DarkShadow) (rows :
 abbrev pub IsNoDarkShadow : ℕ → ℕ → DarkShadow → Type 0
 IsNoDarkShadow columns col dark_shadow = (point : List ℤ) → length point ≡ columns - 1 → ¬ HoldsDarkShadow dark_shadow col point
 
--- ---- how many splinters
--- the splinters of tails
-abbrev pub splinter_count : List Splinters → ℤ
-splinter_count [] = pos 0
-splinter_count (t ∷ tails) = (t.last +ℤ pos 1) +ℤ splinter_count tails
-
+-- ---- how many splinters bounds ask for
 -- the splinters of lower bounds under a greatest upper factor m
 abbrev pub splinter_total : Bool → ℤ → ℕ → List Row → ℤ
 splinter_total neighbours m col [] = pos 0

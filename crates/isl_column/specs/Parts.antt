@@ -1,6 +1,6 @@
 -- public: what is left of rows without one column, of which one list after another is taken: a head that is built, splinters and residues that are
 -- described. (Pugh, the Omega test)
-use Rattle.std.specs.Prelude.{◌≡◌, ◌↔◌, ◌⊎◌, ◌<◌, ◌+◌, ◌-◌, ◌*◌, if◌then◌else◌, int_lt, ℕ, ℤ, pos, ◌+ℤ◌, ◌-ℤ◌, ◌*ℤ◌, ◌≤ℤ◌, List, [], All, length, unsigned_abs, IfSome, MatchOption, MatchResult, Option, Some, None, Result}
+use Rattle.std.specs.Prelude.{◌≡◌, ◌↔◌, ◌⊎◌, ◌<◌, ◌+◌, ◌-◌, ◌*◌, if◌then◌else◌, int_lt, ℕ, ℤ, pos, ◌+ℤ◌, ◌-ℤ◌, ◌*ℤ◌, ◌≤ℤ◌, List, [], ◌∷◌, All, length, unsigned_abs, IfSome, MatchOption, MatchResult, Option, Some, None, Result}
 use Rattle.isl_meter.specs.Gauge.{Gauge, IsWithin, IsCharged, IsCutUpTo}
 use Rattle.isl_meter.specs.declared.Cut.{Cut}
 use Rattle.isl_piece.specs.declared.row.Row.{Row}
@@ -15,6 +15,7 @@ use Rattle.isl_column.specs.Residue.{IsPeriod, HasResidue, HasResidueBelow, resi
 use Rattle.isl_column.specs.declared.dark_shadow.DarkShadow.{DarkShadow}
 use Rattle.isl_column.specs.declared.parts.Parts.{Parts}
 use Rattle.isl_column.specs.declared.residue.Residues.{Residues}
+use Rattle.isl_omega.specs.declared.shadow.Splinters.{Splinters}
 
 -- what is still to come: the head and the splinters of a dark shadow, and residues
 abbrev pub PartsView : Type 0
@@ -51,9 +52,14 @@ abbrev pub residues_least : Option Residues → ℕ
 residues_least None = 0
 residues_least (Some r) = if int_lt (pos 0) r.left then length r.sides.lowers * length r.sides.uppers else 0
 
--- the least units that all of them use
+-- the least units that all of them use: those of residues, where nothing else is still to come
+abbrev pub least_units_of : Option (List Row) → List Splinters → Option Residues → ℕ
+least_units_of None [] residues = residues_least residues
+least_units_of None (t ∷ tails) residues = 0
+least_units_of (Some rows) tails residues = 0
+
 abbrev pub least_units : PartsView → ℕ
-least_units parts = residues_least parts.residues
+least_units parts = least_units_of parts.dark_shadow.dark parts.dark_shadow.tails.items parts.residues
 
 -- the most lists: the head, and one for each of those units
 abbrev pub most_parts : PartsView → ℕ

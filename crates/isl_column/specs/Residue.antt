@@ -1,4 +1,4 @@
--- inner: several rows of one column that divisors must not divide: what they say depends on a residue alone. (Pugh, the Omega test)
+-- public: several rows of one column that moduli must not divide: what they say of a number depends on its residue alone. (Pugh, the Omega test)
 use Rattle.std.specs.Prelude.{◌≡◌, ◌↔◌, Bool, if◌then◌else◌, nat_lt, ℕ, ◌-◌, ℤ, pos, ◌+ℤ◌, ◌-ℤ◌, ◌*ℤ◌, ◌≤ℤ◌, ◌<ℤ◌, List, [], ◌∷◌, length, All}
 use Rattle.isl_math.specs.Divide as divide
 use Rattle.isl_meter.specs.Gauge.{Gauge}
@@ -11,6 +11,25 @@ use Rattle.isl_omega.specs.Step.{HasFactorsUpTo}
 use Rattle.isl_column.specs.Units.{greatest_factor, all_splinters, pairs}
 use Rattle.isl_omega.specs.declared.sides.Sides.{Sides}
 
+-- each row says the same of x and of x + p
+pub record IsPeriod (col : ℕ) (rows : List Row) (p : ℤ) : Type 0 where
+  pub positive : pos 0 <ℤ p
+  pub small : p ≤ℤ product_of_periods col rows
+  pub multiples : All (λ r. divide.Divides r.k (coef_at r col *ℤ p)) rows
+
+-- some whole number at the column meets the sides, and leaves t when divided by p
+abbrev pub HasResidue : Sides → ℕ → ℤ → ℤ → List ℤ → Type 0
+HasResidue sides col p t point = (x : ℤ) × SidesHold sides col point x × divide.Divides p (x -ℤ t)
+
+-- some does, and leaves less than t when divided by p
+abbrev pub HasResidueBelow : Sides → ℕ → ℤ → ℤ → List ℤ → Type 0
+HasResidueBelow sides col p t point = (x : ℤ) × SidesHold sides col point x × (divide.floor_mod x p <ℤ t)
+
+-- the most units for one residue of the period p
+abbrev pub residue_units : ℕ → ℤ → Sides → ℤ
+residue_units col p sides = pos 1 +ℤ pairs sides.lowers sides.uppers +ℤ all_splinters col p sides.lowers sides.uppers
+
+-- ---- inside
 -- both divide m, which is at most their product
 pub record IsCommonMultiple (a b m : ℤ) : Type 0 where
   pub positive : pos 0 <ℤ m
@@ -18,23 +37,9 @@ pub record IsCommonMultiple (a b m : ℤ) : Type 0 where
   pub first : divide.Divides a m
   pub second : divide.Divides b m
 
--- each row says the same of x and of x + p
-pub record IsPeriod (col : ℕ) (rows : List Row) (p : ℤ) : Type 0 where
-  pub positive : pos 0 <ℤ p
-  pub small : p ≤ℤ product_of_periods col rows
-  pub multiples : All (λ r. divide.Divides r.k (coef_at r col *ℤ p)) rows
-
 -- some whole number at the column meets the sides
 abbrev pub HasNumber : Sides → ℕ → List ℤ → Type 0
 HasNumber sides col point = (x : ℤ) × SidesHold sides col point x
-
--- some does that leaves t when divided by p
-abbrev pub HasResidue : Sides → ℕ → ℤ → ℤ → List ℤ → Type 0
-HasResidue sides col p t point = (x : ℤ) × SidesHold sides col point x × divide.Divides p (x -ℤ t)
-
--- some does that leaves less than t when divided by p
-abbrev pub HasResidueBelow : Sides → ℕ → ℤ → ℤ → List ℤ → Type 0
-HasResidueBelow sides col p t point = (x : ℤ) × SidesHold sides col point x × (divide.floor_mod x p <ℤ t)
 
 -- sides with p y + t in the column's place, where p is a period of the rows that divisors must not divide
 pub record IsResidueOf (g : Gauge) (columns col : ℕ) (p t : ℤ) (old new : Sides) : Type 0 where
@@ -53,10 +58,6 @@ splinter_bound neighbours col lowers (u ∷ uppers) = splinter_total neighbours 
 -- the units for sides with at most one row that a modulus must not divide
 abbrev pub shadow_units : ℕ → Sides → ℤ
 shadow_units col sides = pairs sides.lowers sides.uppers +ℤ splinter_bound (nat_lt 0 (length sides.not_divides)) col sides.lowers sides.uppers
-
--- the units for one residue of the period p
-abbrev pub residue_units : ℕ → ℤ → Sides → ℤ
-residue_units col p sides = pos 1 +ℤ pairs sides.lowers sides.uppers +ℤ all_splinters col p sides.lowers sides.uppers
 
 -- the units for several such rows
 abbrev pub residues_units : ℕ → Sides → ℤ

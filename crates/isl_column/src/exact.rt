@@ -22,7 +22,7 @@ use isl_omega::combine::{Multiple, weighted_without};
 use isl_omega::rows::row_without;
 use isl_omega::sides::Side;
 use isl_piece::{Row, RowKind, Rows, sum_of};
-use std::alloc::Global;
+use std::alloc::{AllocError, Global};
 
 // Whether the row leaves the column exact where the bounds on `side` are to have the factor 1.
 fn is_exact_row(side: Side, row: &Row, column: Column, meter: &Meter) -> bool
@@ -85,89 +85,110 @@ fn real_row_without(
     Ok(Row::new(RowKind::AtLeast, coefs, constant, Int::ONE))
 }
 
-// Pushes the real row of a lower bound with the row, if that is an upper bound. A pair costs a unit.
+// The upper bounds among the rows.
+fn uppers_of<'a>(
+    alloc: Global,
+    rows: &'a [Row],
+    column: Column,
+    meter: &Meter,
+) -> Result<Vec<&'a Row>, AllocError>
+    requires rows { All (IsProper meter.now column.columns) rows.now }
+    ensures { IfOk result (λ uppers. map (λ row. row.now) uppers.items ≡ on_side Side.Upper column.at rows.now) }
+{
+    let mut uppers = Vec::new(alloc);
+    for row in rows {
+        if Side::Upper.has(row, column, meter) {
+            uppers.push(row)?;
+        }
+    }
+    Ok(uppers)
+}
+
+// Pushes the real row of a lower bound with an upper bound. It costs a unit.
 fn push_pair(
     alloc: Global,
     lower: &Row,
-    row: &Row,
+    upper: &Row,
     column: Column,
     short: &mut Rows,
     meter: &mut Meter,
 ) -> Result<(), Cut>
     requires lower { IsLower meter.old column.columns column.at lower.now }
-    requires row { IsProper meter.old column.columns row.now }
-    ensures exact { IsDoneFor (length (on_side Side.Upper column.at (row.now ∷ []))) meter.old meter.new
-        (λ _. AreAdded meter.old column.at (map (real_row column.at lower.now) (on_side Side.Upper column.at (row.now ∷ []))) short.old short.new) result }
-    ensures no_overflow { meter.old.bits ≡ 127 → IsRowUpTo given_magnitude lower.now → IsRowUpTo given_magnitude row.now → IsNoOverflow result }
+    requires upper { IsUpper meter.old column.columns column.at upper.now }
+    ensures exact { IsDoneFor 1 meter.old meter.new
+        (λ _. AreAdded meter.old column.at (real_row column.at lower.now upper.now ∷ []) short.old short.new) result }
+    ensures no_overflow { meter.old.bits ≡ 127 → IsRowUpTo given_magnitude lower.now → IsRowUpTo given_magnitude upper.now → IsNoOverflow result }
 {
-    if !Side::Upper.has(row, column, meter) {
-        return Ok(());
-    }
     meter.unit()?;
-    let real = real_row_without(alloc, lower, row, column, meter)?;
+    let real = real_row_without(alloc, lower, upper, column, meter)?;
     short.push(real)?;
     Ok(())
 }
 
-// Pushes the real rows of a lower bound with the upper bounds among the rows.
+// Pushes the real rows of a lower bound with the upper bounds.
 fn push_pairs_of(
     alloc: Global,
     lower: &Row,
-    rows: &[Row],
+    uppers: &[&Row],
     column: Column,
     short: &mut Rows,
     meter: &mut Meter,
 ) -> Result<(), Cut>
     requires lower { IsLower meter.old column.columns column.at lower.now }
-    requires rows { All (IsProper meter.old column.columns) rows.now }
-    ensures exact { IsDoneFor (length (on_side Side.Upper column.at rows.now)) meter.old meter.new
-        (λ _. AreAdded meter.old column.at (map (real_row column.at lower.now) (on_side Side.Upper column.at rows.now)) short.old short.new) result }
-    ensures no_overflow { meter.old.bits ≡ 127 → IsRowUpTo given_magnitude lower.now → All (IsRowUpTo given_magnitude) rows.now → IsNoOverflow result }
+    requires uppers { All (IsUpper meter.old column.columns column.at) (map (λ row. row.now) uppers.now) }
+    ensures exact { IsDoneFor (length uppers.now) meter.old meter.new
+        (λ _. AreAdded meter.old column.at (map (real_row column.at lower.now) (map (λ row. row.now) uppers.now)) short.old short.new) result }
+    ensures no_overflow { meter.old.bits ≡ 127 → IsRowUpTo given_magnitude lower.now → All (IsRowUpTo given_magnitude) (map (λ row. row.now) uppers.now)
+        → IsNoOverflow result }
 {
-    for row in rows {
-        push_pair(alloc, lower, row, column, short, meter)?;
+    for upper in uppers {
+        push_pair(alloc, lower, upper, column, short, meter)?;
     }
     Ok(())
 }
 
-// Pushes the real rows of the row with the upper bounds among the rows, if it is a lower bound.
+// Pushes the real rows of the row with the upper bounds, if it is a lower bound.
 fn push_lower(
     alloc: Global,
     row: &Row,
-    rows: &[Row],
+    uppers: &[&Row],
     column: Column,
     short: &mut Rows,
     meter: &mut Meter,
 ) -> Result<(), Cut>
     requires row { IsProper meter.old column.columns row.now }
-    requires rows { All (IsProper meter.old column.columns) rows.now }
-    ensures exact { IsDoneFor (length (on_side Side.Lower column.at (row.now ∷ [])) * length (on_side Side.Upper column.at rows.now)) meter.old meter.new
-        (λ _. AreAdded meter.old column.at (real_rows column.at (on_side Side.Lower column.at (row.now ∷ [])) (on_side Side.Upper column.at rows.now))
+    requires uppers { All (IsUpper meter.old column.columns column.at) (map (λ row. row.now) uppers.now) }
+    ensures exact { IsDoneFor (length (on_side Side.Lower column.at (row.now ∷ [])) * length uppers.now) meter.old meter.new
+        (λ _. AreAdded meter.old column.at (real_rows column.at (on_side Side.Lower column.at (row.now ∷ [])) (map (λ row. row.now) uppers.now))
         short.old short.new) result }
-    ensures no_overflow { meter.old.bits ≡ 127 → IsRowUpTo given_magnitude row.now → All (IsRowUpTo given_magnitude) rows.now → IsNoOverflow result }
+    ensures no_overflow { meter.old.bits ≡ 127 → IsRowUpTo given_magnitude row.now → All (IsRowUpTo given_magnitude) (map (λ row. row.now) uppers.now)
+        → IsNoOverflow result }
 {
     if !Side::Lower.has(row, column, meter) {
         return Ok(());
     }
-    push_pairs_of(alloc, row, rows, column, short, meter)
+    push_pairs_of(alloc, row, uppers, column, short, meter)
 }
 
-// Pushes the real rows of all pairs.
+// Pushes the real rows of the lower bounds among the rows with the upper bounds.
 fn push_pairs(
     alloc: Global,
     rows: &[Row],
+    uppers: &[&Row],
     column: Column,
     short: &mut Rows,
     meter: &mut Meter,
 ) -> Result<(), Cut>
     requires rows { All (IsProper meter.old column.columns) rows.now }
-    ensures exact { IsDoneFor (pairs_on column.at rows.now) meter.old meter.new
-        (λ _. AreAdded meter.old column.at (real_rows column.at (on_side Side.Lower column.at rows.now) (on_side Side.Upper column.at rows.now))
+    requires uppers { All (IsUpper meter.old column.columns column.at) (map (λ row. row.now) uppers.now) }
+    ensures exact { IsDoneFor (length (on_side Side.Lower column.at rows.now) * length uppers.now) meter.old meter.new
+        (λ _. AreAdded meter.old column.at (real_rows column.at (on_side Side.Lower column.at rows.now) (map (λ row. row.now) uppers.now))
         short.old short.new) result }
-    ensures no_overflow { meter.old.bits ≡ 127 → All (IsRowUpTo given_magnitude) rows.now → IsNoOverflow result }
+    ensures no_overflow { meter.old.bits ≡ 127 → All (IsRowUpTo given_magnitude) rows.now → All (IsRowUpTo given_magnitude) (map (λ row. row.now) uppers.now)
+        → IsNoOverflow result }
 {
     for row in rows {
-        push_lower(alloc, row, rows, column, short, meter)?;
+        push_lower(alloc, row, uppers, column, short, meter)?;
     }
     Ok(())
 }
@@ -219,7 +240,8 @@ fn short_rows(alloc: Global, rows: &[Row], column: Column, meter: &mut Meter) ->
 {
     let mut short = Rows::with_capacity(alloc, rows.len())?;
     push_free(alloc, rows, column, &mut short, meter)?;
-    push_pairs(alloc, rows, column, &mut short, meter)?;
+    let uppers = uppers_of(alloc, rows, column, meter)?;
+    push_pairs(alloc, rows, uppers.as_slice(), column, &mut short, meter)?;
     Ok(short)
 }
 

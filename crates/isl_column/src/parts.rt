@@ -216,7 +216,7 @@ impl Parts {
     }
 
     /// Takes the next list out of them, which is over `columns` columns; none where no point is left. A list that is not the head
-    /// costs a unit or more.
+    /// costs a unit or more; where nothing but residues is still to come, at least one for each pair of bounds.
     ///
     /// # Errors
     ///
@@ -234,9 +234,7 @@ impl Parts {
         ensures rest { IfOk result (λ found. IfSome found (λ _. AreUnitsUpTo (most_units self.old) meter.old meter.new self.new)) }
         ensures counted { IfOk result (λ found. IfSome found
             (λ _. meter.old.units + 1 + head_count self.new ≤ meter.new.units + head_count self.old)) }
-        ensures pairs { IfOk result (λ found. MatchOption found
-            (meter.old.units + least_units self.old ≤ meter.new.units)
-            (λ _. meter.old.units + least_units self.old ≤ meter.new.units + least_units self.new)) }
+        ensures pairs { IfOk result (λ _. meter.old.units + least_units self.old ≤ meter.new.units) }
         ensures alone { (head : Option (List Row)) → IsHeadAlone head self.old
             → IfOk result (λ found. (found ≡ head) × IfSome found (λ _. IsHeadAlone None self.new)) }
         ensures magnitude { meter.old.bits ≡ 127 → AreSmallParts self.old

@@ -4,6 +4,7 @@ pub mod Emptiness
 pub mod Flatten
 pub mod Opened
 pub mod Others
+pub mod Pairs
 pub mod Sample
 pub use Rattle.isl_column.specs.Column
 pub use Rattle.isl_column.specs.Exact

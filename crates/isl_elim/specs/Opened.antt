@@ -1,4 +1,4 @@
--- inner: the rows of a system in which defined columns are free. (isl manual, on integer divisions)
+-- public: the rows of a system in which defined columns are free. (isl manual, on integer divisions)
 use Rattle.std.specs.Prelude.{◌≡◌, if◌then◌else◌, nat_eq, ℕ, suc, ◌-◌, ℤ, pos, negsuc, neg_ℤ, ◌-ℤ◌, List, [], ◌∷◌, ◌++◌, All, length, replicate, take}
 use Rattle.std.specs.List.{list_any}
 use Rattle.isl_math.specs.Dot.{scaled}
@@ -37,7 +37,11 @@ only_from i cols (x ∷ xs) = if list_any (λ c. nat_eq c i) cols then x ∷ onl
 abbrev pub opened_rows : System → List ℕ → List Row
 opened_rows s cols = s.rows ++ definition_rows s.columns (only_from (free_columns s) cols s.definitions)
 
--- ---- opened systems
+-- those of the system and of all its definitions
+abbrev pub all_opened_rows : System → List Row
+all_opened_rows s = s.rows ++ definition_rows s.columns s.definitions
+
+-- ---- inside
 -- normal rows over all columns, which hold at some numbers with these in front exactly where the system holds
 pub record AreOpened (g : Gauge) (s : System) (rows : List Row) : Type 0 where
   pub proper : All (IsProper g s.columns) rows

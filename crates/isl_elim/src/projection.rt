@@ -9,9 +9,10 @@ ghost use Rattle.isl_column.specs.Magnitude.{HaveSmallNumbers, HaveOneCongruence
 ghost use Rattle.isl_column.specs.Solved.{solved_rows};
 ghost use Rattle.isl_column.specs.Units.{elimination_units};
 ghost use Rattle.isl_omega.specs.Equality.{HasEquality};
-ghost use Rattle.isl_elim.specs.Dependents.{dependents, kept_definitions};
+ghost use Rattle.isl_elim.specs.Dependents.{dependents, kept_definitions, with_dependents};
 ghost use Rattle.isl_elim.specs.Elimination.{AddsAlong, IsProjection, IsProjectionAlong, system_of};
 ghost use Rattle.isl_elim.specs.Opened.{opened_rows};
+ghost use Rattle.isl_elim.specs.Pairs.{HavePairs};
 
 use crate::along::rows_without;
 use crate::dependents::{columns_left, with_dependents};
@@ -32,11 +33,7 @@ pub(crate) fn systems_of(
 {
     let mut systems = Vec::with_capacity(alloc, lists.len())?;
     for rows in lists {
-        systems.push(System::over(
-            left.columns,
-            left.definitions.copy(alloc)?,
-            rows,
-        ))?;
+        systems.push(System::over(left.columns, left.definitions.copy(alloc)?, rows))?;
     }
     Ok(systems)
 }
@@ -66,6 +63,8 @@ fn lists_left(
     ensures pairs { (col : ℕ) → gone.now ≡ col ∷ [] → col < free_columns system.now → ¬ HasEquality col system.now.rows
         → IfOk result (λ _. meter.old.units + pairs_on col system.now.rows ≤ meter.new.units) }
     ensures counted { IfOk result (λ lists. meter.old.units + length lists.items ≤ meter.new.units + 1) }
+    ensures all_pairs { (n : ℕ) → 1 < length gone.now → HavePairs n gone.now (opened_rows system.now gone.now)
+        → IfOk result (λ _. meter.old.units + n ≤ meter.new.units) }
 {
     if gone.len() == 1 && gone[0] < system.free() {
         let column = Column {
@@ -116,13 +115,17 @@ pub fn eliminate(
     ensures pairs { dependents system.now (col ∷ []) ≡ [] → ¬ HasEquality col system.now.rows
         → IfOk result (λ _. meter.old.units + pairs_on col system.now.rows ≤ meter.new.units) }
     ensures counted { IfOk result (λ systems. meter.old.units + length systems.items ≤ meter.new.units + 1) }
+    ensures all_pairs { (n : ℕ) → dependents system.now (col ∷ []) ≢ []
+        → HavePairs n (with_dependents system.now (col ∷ [])) (opened_rows system.now (with_dependents system.now (col ∷ [])))
+        → IfOk result (λ _. meter.old.units + n ≤ meter.new.units) }
 {
     eliminate_all(alloc, system, &[col], meter)
 }
 
 /// The systems without the free columns `cols`, of which some holds at a point of the other free columns exactly where some whole
 /// numbers put at `cols` make `system` hold. Each is in normal form. The definitions that depend on `cols` go with them; the
-/// others are kept, in order. Of one column this is `eliminate`.
+/// others are kept, in order. Of one column this is `eliminate`. Where more than one column goes, at least as many units are used as
+/// each of them has pairs of bounds, where no equality is left.
 ///
 /// # Errors
 ///
@@ -153,6 +156,9 @@ pub fn eliminate_all(
     ensures pairs { (col : ℕ) → cols.now ≡ col ∷ [] → dependents system.now cols.now ≡ [] → ¬ HasEquality col system.now.rows
         → IfOk result (λ _. meter.old.units + pairs_on col system.now.rows ≤ meter.new.units) }
     ensures counted { IfOk result (λ systems. meter.old.units + length systems.items ≤ meter.new.units + 1) }
+    ensures all_pairs { (n : ℕ) → 1 < length (with_dependents system.now cols.now)
+        → HavePairs n (with_dependents system.now cols.now) (opened_rows system.now (with_dependents system.now cols.now))
+        → IfOk result (λ _. meter.old.units + n ≤ meter.new.units) }
 {
     let gone = with_dependents(alloc, system, cols)?;
     let left = columns_left(alloc, system, cols, gone.as_slice(), meter)?;

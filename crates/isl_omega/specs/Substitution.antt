@@ -1,4 +1,4 @@
--- inner: a congruence on one column as a substitution: the numbers that it allows are a progression.
+-- public: a congruence on one column as a substitution: the numbers that it allows are a progression.
 use Rattle.std.specs.Prelude.{◌≡◌, ◌↔◌, ℕ, ◌-◌, ◌≤◌, ℤ, pos, ◌+ℤ◌, ◌-ℤ◌, ◌*ℤ◌, ◌<ℤ◌, List, length, unsigned_abs}
 use Rattle.std.specs.List.{insert}
 use Rattle.isl_math.specs.Divide.{Divides, floor_mod}

@@ -1,4 +1,4 @@
--- inner: rows that are at least 0, divided as far as they go.
+-- public: rows that are at least 0, divided as far as they go.
 use Rattle.std.specs.Prelude.{◌≡◌, ◌↔◌, ℕ, ◌<◌, ◌≤◌, ℤ, pos, ◌<ℤ◌, List, unsigned_abs}
 use Rattle.isl_piece.specs.declared.row.RowKind.TheVariants.{AtLeast}
 use Rattle.isl_piece.specs.declared.row.Row.{Row}

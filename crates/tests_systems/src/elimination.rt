@@ -76,12 +76,20 @@ fn have_kept(
     }
 }
 
-fn is_called_empty(alloc: Global, case: &str, columns: usize) -> Result<bool, Cut> {
+// Whether the meter has used the units that the case names, if it names some.
+fn has_used(case: &str, key: &str, meter: &Meter) -> bool {
+    let used = meter.units() as usize;
+    number(case, key, used) == used
+}
+
+// Whether the system is called empty; none where that does not cost what is wanted.
+fn is_called_empty(alloc: Global, case: &str, columns: usize) -> Result<Option<bool>, Cut> {
     let mut meter = Meter::new(127, 1_000_000);
     let Some(system) = system_of(alloc, case, columns, GIVEN, &meter)? else {
-        return Ok(false);
+        return Ok(None);
     };
-    is_empty(alloc, &system, &mut meter)
+    let empty = is_empty(alloc, &system, &mut meter)?;
+    Ok(has_used(case, "empty-units ", &meter).then_some(empty))
 }
 
 // Whether the sample is a point at which the system holds; where there is none, whether a search finds none either.
@@ -90,15 +98,17 @@ fn sample_is_right(alloc: Global, case: &str, columns: usize, empty: bool) -> Re
     let Some(system) = system_of(alloc, case, columns, GIVEN, &meter)? else {
         return Ok(false);
     };
-    match sample_point(alloc, &system, &mut meter)? {
+    let sample = sample_point(alloc, &system, &mut meter)?;
+    let paid = has_used(case, "sample-units ", &meter);
+    match sample {
         Some(point) => {
             let holds = system_holds(alloc, &system, &point)?;
-            Ok(!empty && point.len() == columns && holds)
+            Ok(paid && !empty && point.len() == columns && holds)
         }
         None => {
             let all: Vec<usize> = (0..columns).collect(alloc)?;
             let found = holds_somewhere(alloc, &system, &[], &all)?;
-            Ok(empty && !found)
+            Ok(paid && empty && !found)
         }
     }
 }
@@ -121,7 +131,9 @@ fn nothing_is_left(alloc: Global, case: &str, columns: usize) -> Result<bool, Cu
 // Whether the system is called empty exactly where it has no sample, and nothing is left of it without its columns. It is to be
 // empty where the case says `never`.
 fn is_decided(alloc: Global, case: &str, columns: usize) -> Result<bool, Cut> {
-    let empty = is_called_empty(alloc, case, columns)?;
+    let Some(empty) = is_called_empty(alloc, case, columns)? else {
+        return Ok(false);
+    };
     let right = sample_is_right(alloc, case, columns, empty)?;
     let gone = nothing_is_left(alloc, case, columns)?;
     Ok(right && gone == empty && (empty || field(case, "never").is_none()))
@@ -151,7 +163,7 @@ pub(crate) fn is_eliminated(alloc: Global, case: &str, columns: usize) -> Result
     };
     Ok(
         number(case, "systems ", left.len()) == left.len()
-            && number(case, "units ", meter.units() as usize) == meter.units() as usize
+            && has_used(case, "units ", &meter)
             && have_kept(alloc, case, free, &left, &meter)?
             && are_found(alloc, case, &given, &gone, &left)?
             && is_decided(alloc, case, columns)?,

@@ -19,7 +19,7 @@ use systems::{all_tell, is_met, is_negated, is_normalised};
 use tests_made::{Form, field, is_case, number, rows_of};
 
 // The lines of a case.
-const FORMS: [(&str, Form); 17] = [
+const FORMS: [(&str, Form); 19] = [
     ("#", Form::Text),
     ("case ", Form::Text),
     ("do ", Form::Text),
@@ -37,6 +37,8 @@ const FORMS: [(&str, Form); 17] = [
     ("at ", Form::Text),
     ("systems ", Form::Number),
     ("units ", Form::Number),
+    ("empty-units ", Form::Number),
+    ("sample-units ", Form::Number),
 ];
 
 // Whether a case comes to what is wanted.

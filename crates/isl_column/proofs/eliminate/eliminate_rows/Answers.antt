@@ -46,7 +46,7 @@ loop-answers-preserved c =
     let rest = rw found at c.in_ok-left.ensures.rest in
     let counted = rw found at c.in_ok-left.ensures.counted in
     let alone = rw found at c.in_ok-left.ensures.alone in
-    let pairs = rw found at c.in_ok-left.ensures.pairs in
+    let pairs = c.in_ok-left.ensures.pairs in
     let magnitude = rw found at c.in_ok-left.ensures.magnitude in
     let more : c.push.new.self.items ≡ c.loop-answers.answers.items ++ left ∷ [] = grind arith in
     answered_next g h k c.args.column.columns c.args.column.at c.args.rows.now c.loop-answers.answers.items c.push.new.self.items c.loop-answers.parts c.next.new.self left a e.0 e.1 rest counted (λ bits x. magnitude (same_limit g h a.charged ∙ bits) x) alone pairs more
@@ -100,8 +100,7 @@ returns-clause-solved_column c = λ equality.
 
 pub returns-clause-pairs : goal.returns-clause-pairs
 returns-clause-pairs c = λ none.
-    let found : c.in_ok-left.field-0 ≡ None = grind arith in
-    let own = rw found at c.in_ok-left.ensures.pairs in
+    let own = c.in_ok-left.ensures.pairs in
     let before = c.loop-answers.invariant.pairs none in
     omega arith
 

@@ -1,11 +1,11 @@
-use Rattle.std.proofs.Common.{◌≡◌, ◌*◌, ◌∷◌, [], length, take, arith, pos}
+use Rattle.std.proofs.Common.{◌≡◌, ◌*◌, ◌∷◌, [], length, map, take, arith, pos}
 use Rattle.std.proofs.lemmas.List.{length-append}
 use Rattle.isl_column.specs.Exact.{AreAdded, real_rows}
 use Rattle.isl_omega.specs.Sides.{on_side}
 use Rattle.isl_meter.specs.Gauge.{IsCutUpTo}
 use Rattle.isl_omega.specs.Units.{paid}
 use Rattle.isl_meter.proofs.UnitLemmas.{charged_bits, charged_share, cut_share}
-use Rattle.isl_omega.specs.declared.sides.Side.TheVariants.{Lower, Upper}
+use Rattle.isl_omega.specs.declared.sides.Side.TheVariants.{Lower}
 use Rattle.isl_omega.proofs.ExactUnits.{charged_up_to, charged_share_for}
 use Rattle.isl_column.proofs.ExactLemmas.{on_side_next, on_side_room, added_more, added_kept, real_rows-append}
 use Rattle.isl_column.proofs.exact.push_pairs.Goals as goal
@@ -20,7 +20,7 @@ returns-in_err-push_lower-clause-exact c =
     let row = c.row-item.result in
     let before = on_side Lower c.args.column.at (take i rows) in
     let one = on_side Lower c.args.column.at (row ∷ []) in
-    let each = length (on_side Upper c.args.column.at rows) in
+    let each = length c.args.uppers.now in
     let e = c.in_err-push_lower.field-0.0 in
     let own : IsCutUpTo (pos (length one * each)) h k e = grind arith in
     let room = on_side_room Lower c.args.column.at rows i row c.loop-row-test.true c.row-item.is in
@@ -38,14 +38,15 @@ loop-row-preserved c =
     let row = c.row-item.result in
     let before = on_side Lower col (take i rows) in
     let one = on_side Lower col (row ∷ []) in
-    let uppers = on_side Upper col rows in
+    let refs = c.args.uppers.now in
+    let uppers = map (λ row. row.now) refs in
     let more : AreAdded h col (real_rows col one uppers) c.loop-row.short c.push_lower.new.short = grind arith in
-    let exact : k ≡ paid (length one * length uppers) h = grind arith in
-    let used = charged_up_to (length one * length uppers) h k exact in
-    let kept = added_kept g h col (real_rows col one uppers) c.loop-row.short c.push_lower.new.short (charged_bits (pos (length before * length uppers)) g h c.loop-row.invariant.charged) more in
+    let exact : k ≡ paid (length one * length refs) h = grind arith in
+    let used = charged_up_to (length one * length refs) h k exact in
+    let kept = added_kept g h col (real_rows col one uppers) c.loop-row.short c.push_lower.new.short (charged_bits (pos (length before * length refs)) g h c.loop-row.invariant.charged) more in
     let next = on_side_next Lower col rows i row c.loop-row-test.true c.row-item.is in
     record {
       added = rw (next, real_rows-append col before one uppers) (added_more g col (real_rows col before uppers) (real_rows col one uppers) c.args.short.now c.loop-row.short c.push_lower.new.short c.loop-row.invariant.added kept);
-      charged = rw (next, length-append before one) (charged_share (length before) (length one) (length uppers) g h k c.loop-row.invariant.charged used);
-      exact = rw (next, length-append before one) (charged_share_for (length before) (length one) (length uppers) g h k c.loop-row.invariant.exact exact);
+      charged = rw (next, length-append before one) (charged_share (length before) (length one) (length refs) g h k c.loop-row.invariant.charged used);
+      exact = rw (next, length-append before one) (charged_share_for (length before) (length one) (length refs) g h k c.loop-row.invariant.exact exact);
     }

@@ -1,5 +1,6 @@
-use Rattle.std.proofs.Common.{◌∷◌, [], refl, Vec, Global}
+use Rattle.std.proofs.Common.{◌≢◌, ◌<◌, ◌∷◌, [], ℕ, suc, List, length, arith, refl, Vec, Global}
 use Rattle.isl_piece.specs.declared.system.System.{System}
+use Rattle.isl_elim.specs.Dependents.{dependents}
 use Rattle.isl_elim.specs.Elimination.{IsProjection, IsProjectionAlong}
 use Rattle.isl_elim.proofs.ProjectionLaws.{along_one, if_ok}
 use Rattle.isl_elim.proofs.projection.eliminate.Goals as goal
@@ -16,3 +17,10 @@ returns-clause-exact_column c = λ none exact no. c.eliminate_all.ensures.exact_
 
 pub returns-clause-solved_column : goal.returns-clause-solved_column
 returns-clause-solved_column c = λ none equality. c.eliminate_all.ensures.solved_column c.args.col refl none equality
+
+pub returns-clause-all_pairs : goal.returns-clause-all_pairs
+returns-clause-all_pairs c = λ n some h. c.eliminate_all.ensures.all_pairs n (some_more (dependents c.args.system.now (c.args.col ∷ [])) some) h
+  where
+    some_more : (cols : List ℕ) → cols ≢ [] → 1 < suc (length cols)
+    some_more [] n = absurd (n refl)
+    some_more (c ∷ cols) n = omega arith

@@ -137,3 +137,10 @@ returns-clause-pairs c = λ col e none no.
     let cols = c.args.cols.now in
     let gone : c.as_slice-2.result.now ≡ with_dependents s cols = grind arith in
     c.in_ok-lists.ensures.pairs col (gone ∙ gone_one s cols col e none) (low_one s cols col e c.requires.cols_in) no
+
+pub returns-clause-all_pairs : goal.returns-clause-all_pairs
+returns-clause-all_pairs c = λ n more h.
+    let s = c.args.system.now in
+    let cols = c.args.cols.now in
+    let gone : c.as_slice-2.result.now ≡ with_dependents s cols = grind arith in
+    (rw gone at c.in_ok-lists.ensures.all_pairs) n more h

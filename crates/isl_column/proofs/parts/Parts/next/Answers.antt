@@ -1,9 +1,9 @@
-use Rattle.std.proofs.Common.{◌≡◌, ◌≢◌, ◌+◌, ◌≤◌, Some, None, MatchOption, sym, refl, arith}
+use Rattle.std.proofs.Common.{◌≡◌, ◌≢◌, [], Some, None, MatchOption, sym, refl, arith}
 use Rattle.isl_meter.specs.Gauge.{IsChargedUpTo, IsCutUpTo}
 use Rattle.isl_meter.proofs.CutLemmas.{IsCharged_trans}
 use Rattle.isl_column.specs.DarkShadow.{IsTakenOut, IsNoDarkShadow, splinter_count}
-use Rattle.isl_column.specs.Parts.{PartsView, AreUnitsUpTo, IsNoResidue, IsOpenedFrom, most_units, least_units, residues_most, residues_least}
-use Rattle.isl_column.proofs.PartsLemmas.{same_limit, some_residues_kept, parts_found, parts_opened, parts_ended, spent_in_shadow, cut_in_shadow, cut_in_residue, if_some, if_found}
+use Rattle.isl_column.specs.Parts.{PartsView, AreUnitsUpTo, IsNoResidue, IsOpenedFrom, most_units, residues_most, residues_least}
+use Rattle.isl_column.proofs.PartsLemmas.{same_limit, some_residues_kept, parts_found, parts_opened, parts_ended, spent_in_shadow, cut_in_shadow, cut_in_residue, if_some, least_at_most_residues}
 use Rattle.isl_column.proofs.SplinterLemmas.{shadow_kept}
 use Rattle.isl_column.proofs.parts.Parts.next.Goals as goal
 
@@ -43,7 +43,8 @@ returns-then-is_some-clause-exact c =
     let some : found ≢ None = grind arith in
     let own : IsChargedUpTo (splinter_count now.dark_shadow.tails.items) h k = c.in_ok-found.ensures.exact.1 in
     let taken : MatchOption found (IsNoDarkShadow now.column.columns now.column.at now.dark_shadow) (λ rows. IsTakenOut h now.column.columns now.column.at now.dark_shadow rows next.dark_shadow) = c.in_ok-found.ensures.exact.0 in
-    let all = parts_found g h k columns first now next found s c.requires.parts own.charged taken c.in_ok-found.ensures.units c.in_ok-found.ensures.counted refl refl refl some in
+    let alone : now.dark_shadow.tails.items ≡ [] → found ≡ now.dark_shadow.dark = λ e. (c.in_ok-found.ensures.alone e).0 in
+    let all = parts_found g h k columns first now next found s c.requires.parts own.charged taken c.in_ok-found.ensures.units c.in_ok-found.ensures.counted refl refl refl alone some in
     (all.0, all.1)
 
 pub returns-then-is_some-clause-units : goal.returns-then-is_some-clause-units
@@ -71,7 +72,8 @@ returns-then-is_some-clause-rest c =
     let some : found ≢ None = grind arith in
     let own : IsChargedUpTo (splinter_count now.dark_shadow.tails.items) h k = c.in_ok-found.ensures.exact.1 in
     let taken : MatchOption found (IsNoDarkShadow now.column.columns now.column.at now.dark_shadow) (λ rows. IsTakenOut h now.column.columns now.column.at now.dark_shadow rows next.dark_shadow) = c.in_ok-found.ensures.exact.0 in
-    let all = parts_found g h k columns first now next found s c.requires.parts own.charged taken c.in_ok-found.ensures.units c.in_ok-found.ensures.counted refl refl refl some in
+    let alone : now.dark_shadow.tails.items ≡ [] → found ≡ now.dark_shadow.dark = λ e. (c.in_ok-found.ensures.alone e).0 in
+    let all = parts_found g h k columns first now next found s c.requires.parts own.charged taken c.in_ok-found.ensures.units c.in_ok-found.ensures.counted refl refl refl alone some in
     if_some found (AreUnitsUpTo (most_units first) g k next) all.2
 
 pub next-requires-in-loop-found : goal.next-requires-in-loop-found
@@ -172,8 +174,9 @@ returns-then-is_some-clause-pairs c =
     let some : found ≢ None = grind arith in
     let own : IsChargedUpTo (splinter_count now.dark_shadow.tails.items) h k = c.in_ok-found.ensures.exact.1 in
     let taken : MatchOption found (IsNoDarkShadow now.column.columns now.column.at now.dark_shadow) (λ rows. IsTakenOut h now.column.columns now.column.at now.dark_shadow rows next.dark_shadow) = c.in_ok-found.ensures.exact.0 in
-    let all = parts_found g h k columns first now next found s c.requires.parts own.charged taken c.in_ok-found.ensures.units c.in_ok-found.ensures.counted refl refl refl some in
-    if_found found (g.units + least_units first ≤ k.units) (g.units + least_units first ≤ k.units + least_units next) some all.3
+    let alone : now.dark_shadow.tails.items ≡ [] → found ≡ now.dark_shadow.dark = λ e. (c.in_ok-found.ensures.alone e).0 in
+    let all = parts_found g h k columns first now next found s c.requires.parts own.charged taken c.in_ok-found.ensures.units c.in_ok-found.ensures.counted refl refl refl alone some in
+    all.3
 
 pub returns-in-None-clause-pairs : goal.returns-in-None-clause-pairs
 returns-in-None-clause-pairs c =
@@ -188,4 +191,5 @@ returns-in-None-clause-pairs c =
     let none : residues_least now.residues ≡ 0 = both.1 in
     let before = s.pairs in
     let more = own.charged.units in
+    let least = least_at_most_residues now in
     rw both.2 (omega arith)

@@ -6,7 +6,7 @@ use Rattle.isl_omega.proofs.ExactUnits.{charged_up_to}
 use Rattle.isl_column.specs.DarkShadow.{IsDarkShadowOf, HasFewSplinters}
 use Rattle.isl_column.specs.Parts.{PartsView, AreResidues}
 use Rattle.isl_column.specs.Residue.{HasNumber, shadow_units, residues_units, sides_units}
-use Rattle.isl_column.proofs.PartsLemmas.{IsResidual, shadow_begun, residues_begun, residues_paid}
+use Rattle.isl_column.proofs.PartsLemmas.{IsResidual, shadow_begun, residues_begun, residues_paid, least_of_residues}
 use Rattle.isl_column.proofs.UnitLemmas.{shadow_cut, shadow_within, residues_units_not_negative}
 use Rattle.isl_column.proofs.parts.Parts.of_sides.Goals as goal
 
@@ -79,5 +79,8 @@ returns-clause-pairs c =
     let are : AreResidues g c.args.column.columns c.args.column.at r = grind arith in
     let sides : r.sides ≡ s = grind arith in
     let left : r.left ≡ r.period = grind arith in
+    let head = c.head-parts.result in
+    let parts : PartsView = record { column = head.column; dark_shadow = head.dark_shadow; residues = Some r } in
+    let owed = least_of_residues parts c.head-parts.ensures.alone.head c.head-parts.ensures.alone.tails in
     let least = residues_paid g c.args.column.columns c.args.column.at s r are sides left in
     rw same (omega arith)
