@@ -11,9 +11,8 @@ use Rattle.isl_tree.specs.declared.tree.Entry.TheVariants.{Plain, Named}
 use Rattle.isl_tree.specs.Literal.{is_among, lone_name, unless_known, new_name, known_after}
 use Rattle.isl_tree.specs.Known.{known_behind}
 use Rattle.isl_tree.specs.Plain.{is_plain_entry}
-use Rattle.isl_linear.specs.Linear.{Place}
 use Rattle.isl_linear.specs.Places.{entry_name, is_name, entry_from, param_from, first_some, place_of, is_at, brings_name, brings}
-use Rattle.isl_linear.specs.Rows.{Written, equation, written_entries, placed_entry, placed_entries}
+use Rattle.isl_linear.specs.Rows.{Written, written_entry, written_entries, placed_entry, placed_entries}
 use Rattle.isl_linear.proofs.TermLaws.{both_true}
 use Rattle.isl_linear.proofs.PlainLaws.{all_of_both}
 use Rattle.isl_linear.proofs.PlaceLaws.{place_is, from_append}
@@ -125,30 +124,30 @@ behind_one : (known : List (List ℕ)) (before : List Entry) (entry : Entry)
 behind_one known [] entry = refl
 behind_one known (x ∷ before) entry = behind_one (known_after known (new_name known x)) before entry
 
-one_placed : (n : ℕ) (place : Place) (test : Entry → ℕ → Bool) (entry : Entry) (at : ℕ) (found : Option (List ℕ))
-    → test entry at ≡ is_some found → placed_entry n place test entry at ≡ equation n place entry at found
-one_placed n place test entry at None e = cond-false _ _ _ e
-one_placed n place test entry at (Some name) e = cond-true _ _ _ e
+one_placed : (test : Entry → ℕ → Bool) (entry : Entry) (at : ℕ) (found : Option (List ℕ)) → test entry at ≡ is_some found
+    → placed_entry test entry at ≡ written_entry entry at found
+one_placed test entry at None e = cond-false _ _ _ e
+one_placed test entry at (Some name) e = cond-true _ _ _ e
 
 -- the rows of entries, told by the columns of their names
-pub placed_are : (n : ℕ) (place : Place) (params : List (List ℕ)) (before entries : List Entry) → list_all is_plain_entry before ≡ true
+pub placed_are : (params : List (List ℕ)) (before entries : List Entry) → list_all is_plain_entry before ≡ true
     → list_all is_plain_entry entries ≡ true
-    → placed_entries n place (brings params (before ++ entries)) entries (length params + length before) ≡ written_entries n place
+    → placed_entries (brings params (before ++ entries)) entries (length params + length before) ≡ written_entries
     (known_behind params before) entries (length params + length before)
-placed_are n place params before [] plain_before plain = refl
-placed_are n place params before (entry ∷ entries) plain_before plain =
+placed_are params before [] plain_before plain = refl
+placed_are params before (entry ∷ entries) plain_before plain =
     let each = both_true (is_plain_entry entry) (list_all is_plain_entry entries) plain in
     let at = length params + length before in
-    let one = one_placed n place (brings params (before ++ entry ∷ entries)) entry at (new_name (known_behind params before) entry)
+    let one = one_placed (brings params (before ++ entry ∷ entries)) entry at (new_name (known_behind params before) entry)
     (brings_is params before entry entries plain_before each.0) in
-    let more = placed_are n place params (before ++ entry ∷ []) entries
+    let more = placed_are params (before ++ entry ∷ []) entries
     (all_of_both before (entry ∷ []) plain_before (ap (λ (b : Bool). b && true) each.0)) each.1 in
     let next : length params + length (before ++ entry ∷ []) ≡ at + 1 = omega (arith, length-append before (entry ∷ [])) in
     let known = known_behind params before in
-    let rest : placed_entries n place (brings params (before ++ entry ∷ entries)) entries (at + 1)
-    ≡ written_entries n place (known_after known (new_name known entry)) entries (at + 1) =
-    ap (λ (k : ℕ). placed_entries n place (brings params (before ++ entry ∷ entries)) entries k) (sym next)
-    ∙ ap (λ (l : List Entry). placed_entries n place (brings params l) entries (length params + length (before ++ entry ∷ [])))
+    let rest : placed_entries (brings params (before ++ entry ∷ entries)) entries (at + 1)
+    ≡ written_entries (known_after known (new_name known entry)) entries (at + 1) =
+    ap (λ (k : ℕ). placed_entries (brings params (before ++ entry ∷ entries)) entries k) (sym next)
+    ∙ ap (λ (l : List Entry). placed_entries (brings params l) entries (length params + length (before ++ entry ∷ [])))
     (sym (append_assoc before (entry ∷ []) entries))
-    ∙ more ∙ ap₂ (λ (known : List (List ℕ)) (k : ℕ). written_entries n place known entries k) (behind_one params before entry) next in
+    ∙ more ∙ ap₂ (λ (known : List (List ℕ)) (k : ℕ). written_entries known entries k) (behind_one params before entry) next in
     ap₂ (λ (xs ys : List Written). xs ++ ys) one rest

@@ -21,7 +21,7 @@ use Rattle.isl_tree.specs.Known.{term_names, term_is_known, entry_is_known, entr
 use Rattle.isl_tree.specs.Plain.{is_plain_entry, is_linear}
 use Rattle.isl_piece.specs.Row.{HoldsValue}
 use Rattle.isl_linear.specs.Linear.{Place, Amount, amounts_of, turned, difference}
-use Rattle.isl_linear.specs.Rows.{Written, equation, written_entries}
+use Rattle.isl_linear.specs.Rows.{Written, written_entry, written_entries}
 use Rattle.isl_linear.proofs.AmountLaws.{total}
 use Rattle.isl_linear.proofs.TermLaws.{Agrees, term_at, both_true, total-append}
 use Rattle.isl_linear.proofs.AgreeLaws.{StandsAt, value_here, value_further}
@@ -84,15 +84,20 @@ kept_value (entry ∷ entries) (y ∷ ys) known env name plain among =
     one None e plain = refl
     one (Some m) e plain = value_further m y env name (other_name known m name (plain_is_new known entry m plain e) among)
 
--- each written row holds at a point
-abbrev pub AllWritten : List ℤ → List Written → Type 0
-AllWritten xs [] = Unit {0}
-AllWritten xs (w ∷ ws) = HoldsValue w.0 (pos 1) (total xs w.1) × AllWritten xs ws
+-- what a written row says of a point
+abbrev pub HoldsWritten : ℕ → Place → List ℤ → Written → Type 0
+HoldsWritten n place xs w = HoldsValue w.kind w.modulus (total xs (difference n place w.greater w.less w.last))
 
-pub all_written_append : (xs : List ℤ) (ws vs : List Written) → AllWritten xs (ws ++ vs) ↔ (AllWritten xs ws × AllWritten xs vs)
-all_written_append xs [] vs = (λ h. (tt, h), λ h. h.1)
-all_written_append xs (w ∷ ws) vs =
-    let more = all_written_append xs ws vs in
+-- each written row holds at a point
+abbrev pub AllWritten : ℕ → Place → List ℤ → List Written → Type 0
+AllWritten n place xs [] = Unit {0}
+AllWritten n place xs (w ∷ ws) = HoldsWritten n place xs w × AllWritten n place xs ws
+
+pub all_written_append : (n : ℕ) (place : Place) (xs : List ℤ) (ws vs : List Written)
+    → AllWritten n place xs (ws ++ vs) ↔ (AllWritten n place xs ws × AllWritten n place xs vs)
+all_written_append n place xs [] vs = (λ h. (tt, h), λ h. h.1)
+all_written_append n place xs (w ∷ ws) vs =
+    let more = all_written_append n place xs ws vs in
     (λ h. ((h.0, (more.0 h.1).0), (more.0 h.1).1), λ h. (h.0.0, more.1 (h.0.1, h.1)))
 
 pub no_name : (name : List ℕ) → None ≡ Some name → ⊥
@@ -194,7 +199,7 @@ module _ (n : ℕ) (xs : List ℤ) (place : Place) (env : Environment) (known : 
       → list_all is_plain_entry entries ≡ true → entries_are_known before entries ≡ true →
       ((name : List ℕ) → is_among (known_behind before entries) name ≡ true → is_among known name ≡ true)
       → env ≡ with_coordinates before entries ys env0 → StandsAt xs at ys → length entries ≡ length ys
-      → EntriesEqual entries ys env ↔ AllWritten xs (written_entries n place before entries at)
+      → EntriesEqual entries ys env ↔ AllWritten n place xs (written_entries before entries at)
   entries_hold [] [] before env0 at plain are_known within is stands same = (λ h. h, λ h. h)
   entries_hold [] (y ∷ ys) before env0 at plain are_known within is stands same = absurd (omega arith)
   entries_hold (entry ∷ entries) [] before env0 at plain are_known within is stands same = absurd (omega arith)
@@ -208,9 +213,9 @@ module _ (n : ℕ) (xs : List ℤ) (place : Place) (env : Environment) (known : 
     where
       step : (found : Option (List ℕ)) → new_name before entry ≡ found → is_plain_entry entry ≡ true
           → list_all is_plain_entry entries ≡ true → entry_is_known before entry ≡ true
-          → (EntriesEqual entries ys env ↔ AllWritten xs (written_entries n place (known_after before found) entries (at + 1)))
-          → EntriesEqual (entry ∷ entries) (y ∷ ys) env ↔ AllWritten xs
-          (equation n place entry at found ++ written_entries n place (known_after before found) entries (at + 1))
+          → (EntriesEqual entries ys env ↔ AllWritten n place xs (written_entries (known_after before found) entries (at + 1)))
+          → EntriesEqual (entry ∷ entries) (y ∷ ys) env ↔ AllWritten n place xs
+          (written_entry entry at found ++ written_entries (known_after before found) entries (at + 1))
       step None e plain plains is_known more =
           let names = all_more (is_among before) (is_among known)
           (λ name among. within name (among_behind (entry ∷ entries) before name among)) (term_names (entry_term entry))

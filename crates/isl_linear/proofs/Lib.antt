@@ -5,10 +5,13 @@ pub mod ChainLaws
 pub mod Columns
 pub mod EntryLaws
 pub mod FormulaLaws
-pub mod LiteralLaws
+pub mod JoinLaws
 pub mod LoweredLaws
+pub mod ModulusLaws
 pub mod PassLaws
 pub mod PieceLaws
 pub mod PlaceLaws
 pub mod PlainLaws
+pub mod RemainderLaws
 pub mod TermLaws
+pub mod TupleLaws

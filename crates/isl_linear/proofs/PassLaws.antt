@@ -8,11 +8,10 @@ use Rattle.isl_meter.specs.Gauge.{Gauge, IsWithin, overflown}
 use mathlib.Core.Logic.{inl, inr}
 use Rattle.std.specs.List.{remove}
 use Rattle.std.proofs.Common.{◌≤◌}
-use Rattle.isl_meter.proofs.LimitLemmas.{IsWithin-small}
 use Rattle.isl_piece.specs.declared.row.RowKind.{RowKind}
 use Rattle.isl_piece.specs.declared.row.Row.{Row}
 use Rattle.isl_piece.specs.Row.{IsRowWithin}
-use Rattle.isl_linear.specs.Rows.{added}
+use Rattle.isl_linear.specs.Rows.{Written, added}
 use Rattle.std.proofs.Common.{map, drop, subst, ◌⊎◌, Result, Ok, Err, Option}
 use Rattle.std.specs.Result.{MatchResult}
 use Rattle.isl_linear.proofs.AmountLaws.{length-with_amounts}
@@ -22,6 +21,7 @@ use Rattle.isl_linear.specs.Linear.{Place, Amount, turned, signed_product, is_ta
 use Rattle.isl_linear.specs.Linear.{numbers_of, one_less, difference, row_of}
 use Rattle.isl_linear.specs.Passes.{ProductPasses, PartsPass, SumPasses, DifferencePasses}
 use Rattle.isl_math.proofs.Ring.{expand, linear}
+use Rattle.std.proofs.Common.{◌+ℤ◌}
 use Rattle.isl_tree.specs.Term.{Term, product_of}
 use Rattle.std.proofs.lemmas.List.{take_more}
 
@@ -186,22 +186,30 @@ module _ (g : Gauge) (n : ℕ) (place : Place) (row : List ℤ) (greater less : 
 pub remove_last : (xs : List ℤ) (n : ℕ) → length xs ≡ n + 1 → remove xs n ≡ take n xs
 remove_last xs n long = ap (λ (l : List ℤ). take n xs ++ l) (drop_all (suc n) xs (omega arith)) ∙ append-nil (take n xs)
 
-pub added_is : (kind : RowKind) (n c : ℕ) (row : List ℤ) (amounts : List Amount) (r : Row) → c ≡ n → row ≡ row_of n amounts
-    → r ≡ record { kind = kind; coefs = take c row; constant = get_or row c (pos 0); k = pos 1 } → r ≡ added n (kind, amounts)
-added_is kind n c row amounts r columns is made =
-    made ∙ ap (λ (k : ℕ). finished_row kind k row) columns ∙ ap (finished_row kind n) is
-  where
-    finished_row : RowKind → ℕ → List ℤ → Row
-    finished_row kind k row = record { kind = kind; coefs = take k row; constant = get_or row k (pos 0); k = pos 1 }
+abbrev finished_row : RowKind → ℤ → ℕ → List ℤ → Row
+finished_row kind k c row = record { kind = kind; coefs = take c row; constant = get_or row c (pos 0); k = k }
 
-pub row_within : (g : Gauge) (kind : RowKind) (c : ℕ) (row : List ℤ) (r : Row) → 8 ≤ g.bits → All (IsWithin g) row → length row ≡ c + 1
-    → r ≡ record { kind = kind; coefs = take c row; constant = get_or row c (pos 0); k = pos 1 } → IsRowWithin g r
-row_within g kind c row r bits all long made = subst (IsRowWithin g) (sym made) (record {
+pub added_is : (w : Written) (m : ℤ) (n c : ℕ) (place : Place) (row : List ℤ) (r : Row) → c ≡ n → m ≡ w.modulus
+    → row ≡ row_of n (difference n place w.greater w.less w.last)
+    → r ≡ record { kind = w.kind; coefs = take c row; constant = get_or row c (pos 0); k = m } → r ≡ added n place w
+added_is w m n c place row r columns modulus is made =
+    made ∙ ap (λ (k : ℕ). finished_row w.kind m k row) columns ∙ ap (λ (z : ℤ). finished_row w.kind z n row) modulus
+    ∙ ap (finished_row w.kind w.modulus n) is
+
+pub row_within : (g : Gauge) (kind : RowKind) (m : ℤ) (c : ℕ) (row : List ℤ) (r : Row) → IsWithin g m → All (IsWithin g) row
+    → length row ≡ c + 1
+    → r ≡ record { kind = kind; coefs = take c row; constant = get_or row c (pos 0); k = m } → IsRowWithin g r
+row_within g kind m c row r modulus all long made = subst (IsRowWithin g) (sym made) (record {
   coefs = All-take (IsWithin g) c row all;
   constant = all c (pos 0) (omega arith);
-  k = IsWithin-small g (pos 1) bits (omega arith);
+  k = modulus;
 })
 
 pub place_inside : (last : Option ℕ) (n long : ℕ) → long ≡ n + 1 → IfSome last (λ at. at ≤ n) → IfSome last (λ at. at < long)
 place_inside None n long is inside = inside
 place_inside (Some at) n long is inside = omega arith
+
+pub add_nothing : (z : ℤ) → z +ℤ pos 0 ≡ z
+add_nothing z = omega (arith, linear)
+
+pub ruleset measured = (add_nothing)

@@ -1,8 +1,9 @@
 -- A plain piece has the points of the rows that it writes.
-use Rattle.std.proofs.Common.{◌≡◌, ◌∙◌, refl, sym, ap, subst, ◌↔◌, ℕ, zero, suc, ◌+◌, ◌<◌, ◌≤◌, ℤ, pos, ◌+ℤ◌, true, ◌&&◌, List, [], ◌∷◌}
+use Rattle.std.proofs.Common.{◌≡◌, ◌∙◌, refl, sym, ap, subst, ◌↔◌, ℕ, zero, suc, ◌+◌, ◌<◌, ◌≤◌, ℤ, pos, ◌+ℤ◌, true, List, [], ◌∷◌}
 use Rattle.std.proofs.Common.{◌++◌, length, get_or, map, take, arith, Result, Ok, Err}
 use Rattle.std.specs.Result.{MatchResult, IfOk}
 use Rattle.std.proofs.lemmas.Bool.{false≢true, cases_Bool}
+use Rattle.std.specs.List.{list_all}
 use Rattle.std.specs.Str.{bytes_eq}
 use Rattle.std.proofs.lemmas.List.{append_assoc, length-append, length-map}
 use mathlib.Core.Logic.{inl, inr}
@@ -15,9 +16,9 @@ use Rattle.isl_tree.specs.declared.tree.PieceTree.{PieceTree}
 use Rattle.isl_tree.specs.Environment.{Environment, value_in}
 use Rattle.isl_tree.specs.Literal.{piece_entries, piece_environment, EntriesEqual, BodyHolds}
 use Rattle.isl_tree.specs.Known.{entries_are_known, known_behind, body_is_known, piece_is_known}
-use Rattle.isl_tree.specs.Plain.{is_plain_tuple, second_is_plain, body_is_plain, is_plain_piece}
+use Rattle.isl_tree.specs.Plain.{is_plain_entry, body_is_plain, is_plain_piece}
 use Rattle.isl_linear.proofs.Columns.{column_of, columns_from, with_columns}
-use Rattle.isl_linear.specs.Linear.{row_of}
+use Rattle.isl_linear.specs.Linear.{Place, difference, row_of}
 use Rattle.isl_linear.specs.Rows.{Written, added, piece_width, piece_place, written_entries, written_body, written_piece, rows_written}
 use Rattle.isl_linear.proofs.AmountLaws.{total, row_at}
 use Rattle.isl_linear.proofs.PlaceLaws.{place_is}
@@ -76,15 +77,17 @@ AllRows [] xs = Unit {0}
 AllRows (row ∷ rows) xs = HoldsRow row xs × AllRows rows xs
 
 -- written rows hold where the rows that they add up to do
-all_added : (n : ℕ) (xs : List ℤ) (ws : List Written) → n ≡ length xs → AllWritten (xs ++ pos 1 ∷ []) ws ↔ AllRows (map (added n) ws) xs
-all_added n xs [] same = (λ h. h, λ h. h)
-all_added n xs (w ∷ ws) same =
-    let more = all_added n xs ws same in
-    let value : value_at (added n w) xs ≡ total (xs ++ pos 1 ∷ []) w.1 = ap
-    (λ (k : ℕ). dot (take k (row_of k w.1)) xs +ℤ get_or (row_of k w.1) k (pos 0)) same ∙ row_at xs w.1 in (
-      λ h. (subst (λ (z : ℤ). HoldsValue w.0 (pos 1) z) (sym value) h.0, more.0 h.1),
+all_added : (n : ℕ) (place : Place) (xs : List ℤ) (ws : List Written) → n ≡ length xs
+    → AllWritten n place (xs ++ pos 1 ∷ []) ws ↔ AllRows (map (added n place) ws) xs
+all_added n place xs [] same = (λ h. h, λ h. h)
+all_added n place xs (w ∷ ws) same =
+    let more = all_added n place xs ws same in
+    let amounts = difference n place w.greater w.less w.last in
+    let value : value_at (added n place w) xs ≡ total (xs ++ pos 1 ∷ []) amounts = ap
+    (λ (k : ℕ). dot (take k (row_of k amounts)) xs +ℤ get_or (row_of k amounts) k (pos 0)) same ∙ row_at xs amounts in (
+      λ h. (subst (λ (z : ℤ). HoldsValue w.kind w.modulus z) (sym value) h.0, more.0 h.1),
       λ h.
-          (subst (λ (z : ℤ). HoldsValue w.0 (pos 1) z) value h.0, more.1 h.1),
+          (subst (λ (z : ℤ). HoldsValue w.kind w.modulus z) value h.0, more.1 h.1),
     )
 
 last_is : (xs : List ℤ) → get_or (xs ++ pos 1 ∷ []) (length xs) (pos 0) ≡ pos 1
@@ -119,13 +122,13 @@ piece_holds params piece env ys plain are_known same =
     (λ name. (place_is n params entries name entries_plain).0)
     (agrees_entries n xs entries ys params (columns_from 0 params) env (length params) given second same (omega arith)) in
     let one : get_or xs n (pos 0) ≡ pos 1 = ap (λ (k : ℕ). get_or xs k (pos 0)) long ∙ last_is point in
-    let plains = both_true (is_plain_tuple piece.first && second_is_plain piece.second) (body_is_plain piece.body) plain in
+    let plains = both_true (list_all is_plain_entry entries) (body_is_plain piece.body) plain in
     let knowns = both_true (entries_are_known params entries) (body_is_known known piece.body) are_known in
     let in_entries = entries_hold n xs place inner known agrees one entries ys params env (length params) entries_plain knowns.0
     (λ name among. among) refl second same in
     let in_body = body_holds n xs place inner known agrees one piece.body plains.1 knowns.1 in
-    let split = all_written_append xs (written_entries n place params entries (length params)) (written_body n place piece.body) in
-    let rows = all_added n point (written_piece params piece) long in (
+    let split = all_written_append n place xs (written_entries params entries (length params)) (written_body n piece.body) in
+    let rows = all_added n place point (written_piece params piece) long in (
       λ h. rows.0 (split.1 (in_entries.0 h.0, in_body.0 h.1)),
       λ h. let parts = split.0
           (rows.1 h) in (in_entries.1 parts.0, in_body.1 parts.1),

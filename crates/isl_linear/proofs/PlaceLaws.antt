@@ -1,6 +1,7 @@
 -- Where a name stands among the columns.
 use Rattle.std.proofs.Common.{◌≡◌, ◌∙◌, refl, sym, ap, ℕ, ◌+◌, Bool, true, false, ◌||◌, List, [], ◌∷◌, ◌++◌, length, arith, Option, None}
-use Rattle.std.proofs.Common.{Some}
+use Rattle.std.proofs.Common.{Some, map, cond}
+use Rattle.std.proofs.lemmas.List.{length-map}
 use Rattle.std.specs.Prelude.{is_some}
 use Rattle.std.specs.Option.{option_map}
 use Rattle.std.specs.List.{position_from, list_all}
@@ -210,41 +211,31 @@ pub from_zero : {A : Type 0} (test : A → Bool) (k : ℕ) (xs : List A)
     → position_from test k xs ≡ option_map (λ j. j + k) (position_from test 0 xs)
 from_zero test k xs = ap (λ (n : ℕ). position_from test n xs) (let e : k ≡ 0 + k = omega arith in e) ∙ from_shifted test 0 k xs
 
--- the places of a name of two lists of entries, as they are found one after the other
+-- the place of a name, as it is found: among the parameters, or else among the entries
 pub place-param : (params : List (List ℕ)) (entries : List Entry) (name : List ℕ) (at : ℕ) → Some at ≡ param_from 0 params name
     → Some at ≡ place_of params entries name
 place-param params entries name at e = ap (λ (o : Option ℕ). first_some o (entry_from (length params) entries name)) e
 
-pub place-first : (params : List (List ℕ)) (first second : List Entry) (name : List ℕ) (at : ℕ) → None ≡ param_from 0 params name
-    → Some at ≡ entry_from 0 first name → Some (at + length params) ≡ place_of params (first ++ second) name
-place-first params first second name at none e =
-    let found : Some (at + length params) ≡ entry_from (length params) first name = ap (option_map (λ j. j + length params)) e ∙ sym
-    (from_zero (λ entry. is_name (entry_name entry) name) (length params) first) in
-    ap (λ (o : Option ℕ). first_some o (entry_from (length params + length first) second name)) found
-    ∙ sym (from_append (λ entry. is_name (entry_name entry) name) (length params) first second)
-    ∙ ap (λ (o : Option ℕ). first_some o (entry_from (length params) (first ++ second) name)) none
+place-found : (params : List (List ℕ)) (entries : List Entry) (name : List ℕ) (found : Option ℕ) → None ≡ param_from 0 params name
+    → found ≡ entry_from 0 entries name → option_map (λ j. j + length params) found ≡ place_of params entries name
+place-found params entries name found none e =
+    ap (option_map (λ j. j + length params)) e ∙ sym (from_zero (λ entry. is_name (entry_name entry) name) (length params) entries)
+    ∙ ap (λ (o : Option ℕ). first_some o (entry_from (length params) entries name)) none
 
-pub place-second : (params : List (List ℕ)) (first second : List Entry) (name : List ℕ) (found : Option ℕ) → None ≡ param_from 0 params name
-    → None ≡ entry_from 0 first name → found ≡ entry_from 0 second name
-    → option_map (λ j. j + (length params + length first)) found ≡ place_of params (first ++ second) name
-place-second params first second name found none none_first e =
-    let test = λ (entry : Entry). is_name (entry_name entry) name in
-    let missed : None ≡ entry_from (length params) first name = ap (option_map (λ j. j + length params)) none_first ∙ sym
-    (from_zero test (length params) first) in
-    ap (option_map (λ j. j + (length params + length first))) e ∙ sym (from_zero test (length params + length first) second)
-    ∙ ap (λ (o : Option ℕ). first_some o (entry_from (length params + length first) second name)) missed
-    ∙ sym (from_append test (length params) first second)
-    ∙ ap (λ (o : Option ℕ). first_some o (entry_from (length params) (first ++ second) name)) none
+pub place-entry : (params : List (List ℕ)) (entries : List Entry) (name : List ℕ) (at : ℕ) → None ≡ param_from 0 params name
+    → Some at ≡ entry_from 0 entries name → Some (at + length params) ≡ place_of params entries name
+place-entry params entries name at none e = place-found params entries name (Some at) none e
 
-pub place-some : (params : List (List ℕ)) (first second : List Entry) (name : List ℕ) (at n : ℕ) → None ≡ param_from 0 params name
-    → None ≡ entry_from 0 first name → Some at ≡ entry_from 0 second name → n ≡ length params + length first
-    → Some (at + n) ≡ place_of params (first ++ second) name
-place-some params first second name at n none none_first e is =
-    ap (λ (k : ℕ). Some (at + k)) is ∙ place-second params first second name (Some at) none none_first e
+pub place-none : (params : List (List ℕ)) (entries : List Entry) (name : List ℕ) → None ≡ param_from 0 params name
+    → None ≡ entry_from 0 entries name → None ≡ place_of params entries name
+place-none params entries name none e = place-found params entries name None none e
 
-pub place-none : (params : List (List ℕ)) (first second : List Entry) (name : List ℕ) → None ≡ param_from 0 params name
-    → None ≡ entry_from 0 first name → None ≡ entry_from 0 second name
-    → None ≡ place_of params (first ++ second) name
-place-none params first second name none none_first e = place-second params first second name None none none_first e
+pub ruleset places = (place-param, place-entry, place-none, length-map)
 
-pub ruleset places = (place-param, place-first, place-some, place-none)
+-- entries that are handed over by reference
+pub from_mapped : {A B : Type 0} (test : B → Bool) (f : A → B) (i : ℕ) (xs : List A)
+    → position_from test i (map f xs) ≡ position_from (λ x. test (f x)) i xs
+from_mapped test f i [] = refl
+from_mapped test f i (x ∷ xs) = ap (λ (o : Option ℕ). cond (test (f x)) (Some i) o) (from_mapped test f (i + 1) xs)
+
+pub ruleset widths = (length-map)

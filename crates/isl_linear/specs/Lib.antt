@@ -1,6 +1,6 @@
+pub mod Code
 pub mod Linear
 pub mod Passes
-pub mod Placed
 pub mod Places
 pub mod Points
 pub mod Rows

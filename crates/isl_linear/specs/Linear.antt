@@ -4,8 +4,6 @@ use Rattle.std.specs.Prelude.{replicate, Option, Some, None, if◌then◌else◌
 use Rattle.isl_tree.specs.declared.tree.Factor.{Name}
 use Rattle.isl_tree.specs.declared.tree.Signed.{Signed, Signed'}
 use Rattle.isl_tree.specs.declared.tree.Product.{Product', Some'}
-use Rattle.isl_tree.specs.declared.tree.Compare.{Compare}
-use Rattle.isl_tree.specs.declared.tree.Compare.TheVariants.{Equal, Less, LessEqual, Greater, GreaterEqual, Differs}
 use Rattle.isl_tree.specs.Term.{Term, product_of}
 
 -- an amount that is added at a column; the constant stands behind the last one
@@ -78,12 +76,3 @@ one_less (Some at) = (at, neg_ℤ (pos 1)) ∷ []
 abbrev pub difference : ℕ → Place → Term → Term → Option ℕ → List Amount
 difference n place greater less last =
     map (turned false) (amounts_of n place greater) ++ map (turned true) (amounts_of n place less) ++ one_less last
-
--- what is added up for `left compare right`: the side that is to be greater, less the other, less one where they may not be equal
-abbrev pub compared : ℕ → Place → Compare → Term → Term → List Amount
-compared n place Equal left right = difference n place left right None
-compared n place GreaterEqual left right = difference n place left right None
-compared n place Greater left right = difference n place left right (Some n)
-compared n place LessEqual left right = difference n place right left None
-compared n place Less left right = difference n place right left (Some n)
-compared n place Differs left right = difference n place left right None

@@ -1,19 +1,20 @@
--- public: the columns of a piece with these names.
-use Rattle.isl_tree.specs.declared.tree.Entry.{Entry}
-use Rattle.std.specs.Prelude.{◌⊎◌, Option, ℕ, Bool, ◌+◌, ◌++◌, List, length}
+-- inner: the columns of a piece with these names.
+use Rattle.std.specs.Prelude.{ℕ, ◌+◌, ◌++◌, Bool, List, length, map, Option}
 use Rattle.isl_meter.specs.Gauge.{Gauge}
+use Rattle.isl_piece.specs.declared.row.Row.{Row}
+use Rattle.isl_tree.specs.declared.tree.Entry.{Entry}
 use Rattle.isl_tree.specs.declared.tree.Formula.{Formula}
 use Rattle.isl_linear.specs.Places.{place_among, brings}
-use Rattle.isl_linear.specs.Rows.{Written, placed_entries, written_body}
-use Rattle.isl_linear.specs.Passes.{EntriesPass, BodyPasses}
+use Rattle.isl_linear.specs.Rows.{Written, added, placed_entries, written_body}
+use Rattle.isl_linear.specs.Passes.{WrittenPasses}
 use Rattle.isl_linear.specs.declared.places.Places.{Places}
 
--- the entries of both tuples
+-- the entries of the tuples, from the left
 abbrev pub entries_in : Places → List Entry
-entries_in places = places.first.now ++ places.second.now
+entries_in places = map (λ entry. entry.now) places.entries.now
 
 abbrev pub width_of : Places → ℕ
-width_of places = length places.params.now + length places.first.now + length places.second.now
+width_of places = length places.params.now + length (entries_in places)
 
 abbrev pub place_in : Places → List ℕ → ℕ
 place_in places = place_among places.params.now (entries_in places) (width_of places)
@@ -21,17 +22,14 @@ place_in places = place_among places.params.now (entries_in places) (width_of pl
 abbrev pub brings_in : Places → Entry → ℕ → Bool
 brings_in places = brings places.params.now (entries_in places)
 
--- the rows of the entries of both tuples, and of a body
+-- a row over these columns, added up; and where it passes the limit
+abbrev pub added_in : Places → Written → Row
+added_in places = added (width_of places) (place_in places)
+
+abbrev pub PassesIn : Gauge → Places → Written → Type 0
+PassesIn g places = WrittenPasses g (width_of places) (place_in places)
+
+-- the rows of the entries, and of a body
 abbrev pub placed_rows : Places → Option Formula → List Written
 placed_rows places body =
-    (placed_entries (width_of places) (place_in places) (brings_in places) places.first.now (length places.params.now)
-    ++ placed_entries (width_of places) (place_in places) (brings_in places) places.second.now
-    (length places.params.now + length places.first.now))
-    ++ written_body (width_of places) (place_in places) body
-
--- one of them passes the limit
-abbrev pub RowsPass : Gauge → Places → Option Formula → Type 0
-RowsPass g places body =
-    (EntriesPass g (width_of places) (place_in places) places.first.now (length places.params.now)
-    ⊎ EntriesPass g (width_of places) (place_in places) places.second.now (length places.params.now + length places.first.now))
-    ⊎ BodyPasses g (width_of places) (place_in places) body
+    placed_entries (brings_in places) (entries_in places) (length places.params.now) ++ written_body (width_of places) body

@@ -1,19 +1,25 @@
 //! The rows of chains of comparisons.
 
-ghost use Rattle.std.specs.Prelude.{◌≤◌, [], ◌∷◌, All};
+ghost use Rattle.std.specs.Prelude.{◌≤◌, All};
 ghost use Rattle.isl_piece.specs.Row.{IsRowWithin};
-ghost use Rattle.isl_linear.specs.Rows.{written_links, written_chain, written_list, written_formula, written_body};
-ghost use Rattle.isl_linear.specs.Passes.{LinksPass, ChainPasses, ChainsPass, FormulaPasses, BodyPasses};
+ghost use Rattle.isl_tree.specs.Plain.{lone_remainder};
+ghost use Rattle.isl_linear.specs.Rows.{written_links, written_remainder, written_from, written_sides, written_chain, written_list};
+ghost use Rattle.isl_linear.specs.Rows.{written_formula, written_body};
+ghost use Rattle.isl_linear.specs.Code.{remainder_of};
+ghost use Rattle.isl_linear.specs.Width.{width_of};
 ghost use Rattle.isl_linear.specs.Outcome.{PutsRows};
 
 use crate::places::Places;
-use crate::rows::compare_row;
+use crate::remainder::{Remainder, lone_remainder};
+use crate::rows::push_row;
+use crate::written::{compared, divided};
 use isl_meter::{Cut, Meter};
 use isl_piece::Rows;
 use isl_tree::tree::{Formula, Link, Signed, Term};
 use std::alloc::Global;
 
 // Puts the row of each neighbouring pair of a chain of single terms behind the others.
+#[tactic(auto, using(std::proofs::lemmas::Grind::common_steps, crate::proofs::JoinLaws::joins))]
 fn push_links(
     alloc: Global,
     rows: &mut Rows,
@@ -22,11 +28,8 @@ fn push_links(
     places: &Places<'_>,
     meter: &mut Meter,
 ) -> Result<(), Cut>
-    requires bits { 8 ≤ meter.old.bits }
     requires within { All (IsRowWithin meter.old) rows.old }
-    ensures { PutsRows meter.old meter.new rows.old rows.new places.now
-        (λ n place. written_links n place (first.now ∷ []) links.now) (λ n place. LinksPass meter.old n place (first.now ∷ []) links.now)
-        result }
+    ensures { PutsRows meter.old meter.new rows.old rows.new places.now (written_links (width_of places.now) first.now links.now) result }
 {
     let mut left = first;
     for i in 0..links.len() {
@@ -34,16 +37,51 @@ fn push_links(
             return Ok(());
         };
         let right = right.as_slice();
-        let row = match compare_row(alloc, links[i].0, left, right, places, meter) {
-            Ok(row) => row,
-            Err(cut) => return Err(cut),
-        };
-        if rows.push(row).is_err() {
-            return Err(Cut::NoMemory);
+        let row = compared(places.width(), links[i].0, left, right);
+        if let Err(cut) = push_row(alloc, rows, row, places, meter) {
+            return Err(cut);
         }
         left = right;
     }
     Ok(())
+}
+
+// Puts the row of a remainder that is compared with 0 behind the others.
+fn push_remainder(
+    alloc: Global,
+    rows: &mut Rows,
+    remainder: Remainder<'_>,
+    links: &[Link],
+    places: &Places<'_>,
+    meter: &mut Meter,
+) -> Result<(), Cut>
+    requires within { All (IsRowWithin meter.old) rows.old }
+    ensures { PutsRows meter.old meter.new rows.old rows.new places.now
+        (written_remainder (remainder_of remainder.entry) links.now) result }
+{
+    match links {
+        [link, ..] => push_row(alloc, rows, divided(remainder, link.0), places, meter),
+        [] => Ok(()),
+    }
+}
+
+// The same of a chain that begins with one term, a remainder or another one.
+fn push_from(
+    alloc: Global,
+    rows: &mut Rows,
+    left: &[Signed],
+    links: &[Link],
+    places: &Places<'_>,
+    meter: &mut Meter,
+) -> Result<(), Cut>
+    requires within { All (IsRowWithin meter.old) rows.old }
+    ensures { PutsRows meter.old meter.new rows.old rows.new places.now
+        (written_from (width_of places.now) (lone_remainder left.now) left.now links.now) result }
+{
+    match lone_remainder(left) {
+        Some(remainder) => push_remainder(alloc, rows, remainder, links, places, meter),
+        None => push_links(alloc, rows, left, links, places, meter),
+    }
 }
 
 // The same of a chain that may begin with several terms, and then writes no row.
@@ -55,13 +93,12 @@ fn push_sides(
     places: &Places<'_>,
     meter: &mut Meter,
 ) -> Result<(), Cut>
-    requires bits { 8 ≤ meter.old.bits }
     requires within { All (IsRowWithin meter.old) rows.old }
     ensures { PutsRows meter.old meter.new rows.old rows.new places.now
-        (λ n place. written_links n place first.now links.now) (λ n place. LinksPass meter.old n place first.now links.now) result }
+        (written_sides (width_of places.now) first.now links.now) result }
 {
     match first {
-        [left] => push_links(alloc, rows, left.as_slice(), links, places, meter),
+        [left] => push_from(alloc, rows, left.as_slice(), links, places, meter),
         _ => Ok(()),
     }
 }
@@ -74,10 +111,8 @@ fn push_chain(
     places: &Places<'_>,
     meter: &mut Meter,
 ) -> Result<(), Cut>
-    requires bits { 8 ≤ meter.old.bits }
     requires within { All (IsRowWithin meter.old) rows.old }
-    ensures { PutsRows meter.old meter.new rows.old rows.new places.now
-        (λ n place. written_chain n place formula.now) (λ n place. ChainPasses meter.old n place formula.now) result }
+    ensures { PutsRows meter.old meter.new rows.old rows.new places.now (written_chain (width_of places.now) formula.now) result }
 {
     match formula {
         Formula::Chain(first, links) => push_sides(
@@ -93,6 +128,7 @@ fn push_chain(
 }
 
 // The same of a list of chains.
+#[tactic(auto, using(std::proofs::lemmas::Grind::common_steps, crate::proofs::JoinLaws::joins))]
 fn push_chains(
     alloc: Global,
     rows: &mut Rows,
@@ -100,10 +136,8 @@ fn push_chains(
     places: &Places<'_>,
     meter: &mut Meter,
 ) -> Result<(), Cut>
-    requires bits { 8 ≤ meter.old.bits }
     requires within { All (IsRowWithin meter.old) rows.old }
-    ensures { PutsRows meter.old meter.new rows.old rows.new places.now
-        (λ n place. written_list n place formulas.now) (λ n place. ChainsPass meter.old n place formulas.now) result }
+    ensures { PutsRows meter.old meter.new rows.old rows.new places.now (written_list (width_of places.now) formulas.now) result }
 {
     for i in 0..formulas.len() {
         if let Err(cut) = push_chain(alloc, rows, &formulas[i], places, meter) {
@@ -122,10 +156,8 @@ fn push_formula(
     places: &Places<'_>,
     meter: &mut Meter,
 ) -> Result<(), Cut>
-    requires bits { 8 ≤ meter.old.bits }
     requires within { All (IsRowWithin meter.old) rows.old }
-    ensures { PutsRows meter.old meter.new rows.old rows.new places.now
-        (λ n place. written_formula n place formula.now) (λ n place. FormulaPasses meter.old n place formula.now) result }
+    ensures { PutsRows meter.old meter.new rows.old rows.new places.now (written_formula (width_of places.now) formula.now) result }
 {
     match formula {
         Formula::And(parts) => push_chains(alloc, rows, parts.as_slice(), places, meter),
@@ -149,10 +181,8 @@ pub(crate) fn push_body(
     places: &Places<'_>,
     meter: &mut Meter,
 ) -> Result<(), Cut>
-    requires bits { 8 ≤ meter.old.bits }
     requires within { All (IsRowWithin meter.old) rows.old }
-    ensures { PutsRows meter.old meter.new rows.old rows.new places.now
-        (λ n place. written_body n place body.now) (λ n place. BodyPasses meter.old n place body.now) result }
+    ensures { PutsRows meter.old meter.new rows.old rows.new places.now (written_body (width_of places.now) body.now) result }
 {
     match body {
         Some(formula) => push_formula(alloc, rows, formula, places, meter),

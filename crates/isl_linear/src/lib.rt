@@ -6,8 +6,11 @@ mod entries;
 mod lowered;
 mod places;
 mod plain;
+mod remainder;
 mod rows;
+mod tuples;
+mod written;
 
 pub use lowered::rows_written;
-pub use places::{leaf_entries, second_entries};
 pub use plain::{is_plain, is_plain_piece};
+pub use tuples::piece_entries;

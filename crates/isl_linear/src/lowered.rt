@@ -1,16 +1,19 @@
 //! The rows of plain pieces.
 
-ghost use Rattle.std.specs.Prelude.{◌≡◌, ◌≤◌, All, IfOk, true};
+ghost use Rattle.std.specs.Prelude.{◌≡◌, All, Any, IfOk, MatchResult, map, true};
 ghost use Rattle.isl_piece.specs.Row.{IsRowWithin};
 ghost use Rattle.isl_tree.specs.Plain.{is_plain_piece};
-ghost use Rattle.isl_linear.specs.Width.{placed_rows, RowsPass};
+ghost use Rattle.isl_linear.specs.Width.{added_in, placed_rows, PassesIn};
+ghost use Rattle.isl_linear.specs.Passes.{FailsBy};
 ghost use Rattle.isl_linear.specs.Outcome.{PutsRows, WritesPiece};
 ghost use Rattle.isl_linear.specs.Points.{HasPoints};
 ghost use Rattle.isl_tree.specs.Known.{piece_is_known};
+ghost use Rattle.isl_tree.specs.Literal.{piece_entries};
 
 use crate::chains::push_body;
 use crate::entries::push_entries;
-use crate::places::{Places, entry_name, leaf_entries, second_entries};
+use crate::places::{Places, entry_name};
+use crate::tuples::piece_entries;
 use isl_meter::{Cut, Meter};
 use isl_piece::Rows;
 use isl_space::Name;
@@ -18,6 +21,7 @@ use isl_tree::tree::{Entry, Formula, PieceTree};
 use std::alloc::Global;
 
 // The rows that a piece with these names writes: those of the entries of its tuples, and those of its body.
+#[tactic(auto, using(std::proofs::lemmas::Grind::common_steps, crate::proofs::JoinLaws::joins))]
 fn push_rows(
     alloc: Global,
     rows: &mut Rows,
@@ -25,17 +29,10 @@ fn push_rows(
     places: &Places<'_>,
     meter: &mut Meter,
 ) -> Result<(), Cut>
-    requires bits { 8 ≤ meter.old.bits }
     requires within { All (IsRowWithin meter.old) rows.old }
-    ensures { PutsRows meter.old meter.new rows.old rows.new places.now
-        (λ _ _. placed_rows places.now piece.now.body) (λ _ _. RowsPass meter.old places.now piece.now.body) result }
+    ensures { PutsRows meter.old meter.new rows.old rows.new places.now (placed_rows places.now piece.now.body) result }
 {
-    let params = places.params.len();
-    if let Err(cut) = push_entries(alloc, rows, places.first, params, places, meter) {
-        return Err(cut);
-    }
-    let behind = params + places.first.len();
-    if let Err(cut) = push_entries(alloc, rows, places.second, behind, places, meter) {
+    if let Err(cut) = push_entries(alloc, rows, places, meter) {
         return Err(cut);
     }
     push_body(alloc, rows, &piece.body, places, meter)
@@ -66,40 +63,67 @@ fn body_count(body: &Option<Formula>) -> usize {
 
 // How many rows are made room for: one for each entry that is no name alone, and one for each comparison.
 fn row_count(places: &Places<'_>, body: &Option<Formula>) -> usize {
-    let terms = |entries: &[Entry]| entries
+    let terms = places
+        .entries
         .iter()
         .filter(|entry| entry_name(entry).is_none())
         .count();
-    terms(places.first)
-        .saturating_add(terms(places.second))
-        .saturating_add(body_count(body))
+    terms.saturating_add(body_count(body))
+}
+
+// The same rows, in a list of their own.
+fn rows_in(
+    alloc: Global,
+    piece: &PieceTree,
+    places: &Places<'_>,
+    meter: &mut Meter,
+) -> Result<Rows, Cut>
+    ensures { MatchResult result
+        (λ rows. (rows ≡ map (added_in places.now) (placed_rows places.now piece.now.body))
+        × All (IsRowWithin meter.old) rows × (meter.new ≡ meter.old))
+        (FailsBy (Any (PassesIn meter.old places.now) (placed_rows places.now piece.now.body)) meter.old meter.new) }
+{
+    let mut rows = match Rows::with_capacity(alloc, row_count(places, &piece.body)) {
+        Ok(rows) => rows,
+        Err(_) => return Err(Cut::NoMemory),
+    };
+    match push_rows(alloc, &mut rows, piece, places, meter) {
+        Ok(()) => Ok(rows),
+        Err(cut) => Err(cut),
+    }
+}
+
+// The rows of a piece with these entries.
+fn entry_rows(
+    alloc: Global,
+    params: &[Name],
+    entries: &[&Entry],
+    piece: &PieceTree,
+    meter: &mut Meter,
+) -> Result<Rows, Cut>
+    requires plain { is_plain_piece piece.now ≡ true }
+    requires entries { map (λ entry. entry.now) entries.now ≡ piece_entries piece.now }
+    ensures { WritesPiece meter.old meter.new params.now piece.now result }
+{
+    let places = Places { params, entries };
+    rows_in(alloc, piece, &places, meter)
 }
 
 // The rows of a piece, with its names in place.
-#[tactic(auto, using(std::proofs::lemmas::Grind::common_steps, crate::proofs::LoweredLaws::rows_are))]
 fn made_rows(
     alloc: Global,
     params: &[Name],
     piece: &PieceTree,
     meter: &mut Meter,
 ) -> Result<Rows, Cut>
-    requires bits { 8 ≤ meter.old.bits }
     requires plain { is_plain_piece piece.now ≡ true }
     ensures { WritesPiece meter.old meter.new params.now piece.now result }
 {
-    let places = Places {
-        params,
-        first: leaf_entries(&piece.first),
-        second: second_entries(&piece.second),
-    };
-    let mut rows = match Rows::with_capacity(alloc, row_count(&places, &piece.body)) {
-        Ok(rows) => rows,
+    let entries = match piece_entries(alloc, piece) {
+        Ok(entries) => entries,
         Err(_) => return Err(Cut::NoMemory),
     };
-    match push_rows(alloc, &mut rows, piece, &places, meter) {
-        Ok(()) => Ok(rows),
-        Err(cut) => Err(cut),
-    }
+    entry_rows(alloc, params, entries.as_slice(), piece, meter)
 }
 
 /// The rows that a plain piece writes, over the parameters and then the coordinates: one for each entry that is a
@@ -114,7 +138,6 @@ pub fn rows_written(
     piece: &PieceTree,
     meter: &mut Meter,
 ) -> Result<Rows, Cut>
-    requires bits { 8 ≤ meter.old.bits }
     requires plain { is_plain_piece piece.now ≡ true }
     ensures rows { WritesPiece meter.old meter.new params.now piece.now result }
     ensures points { piece_is_known params.now piece.now ≡ true → IfOk result (HasPoints params.now piece.now) }

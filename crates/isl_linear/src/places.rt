@@ -1,14 +1,14 @@
 //! Where the names of a piece stand among its columns.
 
-ghost use Rattle.std.specs.Prelude.{◌≡◌, ◌<◌, IfSome, length};
+ghost use Rattle.std.specs.Prelude.{◌≡◌, ◌<◌, IfSome, length, map};
+ghost use Rattle.std.specs.List.{position_from};
 ghost use Rattle.std.specs.Option.{option_copied};
 ghost use Rattle.isl_tree.specs.Literal.{lone_name};
 ghost use Rattle.isl_linear.specs.Linear.{part_name};
-ghost use Rattle.isl_linear.specs.Placed.{leaf_entries, second_leaf_entries};
 ghost use Rattle.isl_linear.specs.Places.{entry_name, entry_from, param_from, is_name, place_of, brings};
 
 use isl_space::Name;
-use isl_tree::tree::{Entry, Factor, Signed, Tuple};
+use isl_tree::tree::{Entry, Factor, Signed};
 
 // The name that a term consists of, where it is a name alone.
 fn lone_name(term: &[Signed]) -> Option<&Name>
@@ -45,12 +45,19 @@ fn is_entry_of(entry: &Entry, name: &Name) -> bool
     }
 }
 
-// The place of the first entry that consists of this name alone.
-fn first_entry(entries: &[Entry], name: &Name) -> Option<usize>
-    ensures place { result ≡ entry_from 0 entries.now name.now }
+fn entry_position(entries: &[&Entry], name: &Name) -> Option<usize>
+    ensures place { result ≡ position_from (λ entry. is_name (entry_name entry.now) name.now) 0 entries.now }
     ensures inside { IfSome result (λ at. at < length entries.now) }
 {
     entries.iter().position(|entry| is_entry_of(entry, name))
+}
+
+// The place of the first entry that consists of this name alone.
+fn first_entry(entries: &[&Entry], name: &Name) -> Option<usize>
+    ensures place { result ≡ entry_from 0 (map (λ entry. entry.now) entries.now) name.now }
+    ensures inside { IfSome result (λ at. at < length entries.now) }
+{
+    entry_position(entries, name)
 }
 
 fn first_param(params: &[Name], name: &Name) -> Option<usize>
@@ -73,41 +80,22 @@ pub(crate) fn part_name(part: &Signed) -> Option<&Name>
     }
 }
 
-/// The entries of a tuple that is no pair.
-pub(crate) fn leaf_entries(tuple: &Tuple) -> &[Entry]
-    ensures { result.now ≡ leaf_entries tuple.now }
-{
-    match tuple {
-        Tuple::Leaf { entries, .. } => entries.as_slice(),
-        Tuple::Pair(..) => &[],
-    }
-}
-
-pub(crate) fn second_entries(second: &Option<Tuple>) -> &[Entry]
-    ensures { result.now ≡ second_leaf_entries second.now }
-{
-    match second {
-        Some(tuple) => leaf_entries(tuple),
-        None => &[],
-    }
-}
-
-/// The names of a piece: the parameters, and the entries of its tuples.
+/// The names of a piece: the parameters, and the entries of its tuples from the left.
 #[derive(Clone, Copy)]
 pub struct Places<'a> {
     pub params: &'a [Name],
-    pub first: &'a [Entry],
-    pub second: &'a [Entry],
+    pub entries: &'a [&'a Entry],
 }
 
 impl Places<'_> {
     ghost use Rattle.isl_linear.specs.Width.{entries_in, width_of};
 
     /// How many columns a piece with these names has.
+    #[tactic(auto, using(std::proofs::lemmas::Grind::common_steps, crate::proofs::PlaceLaws::widths))]
     pub fn width(&self) -> usize
         ensures { result ≡ width_of self.now }
     {
-        self.params.len() + self.first.len() + self.second.len()
+        self.params.len() + self.entries.len()
     }
 
     /// The column of a name, or `None` where the name is unknown.
@@ -119,13 +107,8 @@ impl Places<'_> {
         if let Some(at) = first_param(self.params, name) {
             return Some(at);
         }
-        let params = self.params.len();
-        if let Some(at) = first_entry(self.first, name) {
-            return Some(at + params);
-        }
-        let behind = params + self.first.len();
-        if let Some(at) = first_entry(self.second, name) {
-            return Some(at + behind);
+        if let Some(at) = first_entry(self.entries, name) {
+            return Some(at + self.params.len());
         }
         None
     }

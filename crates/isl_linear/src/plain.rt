@@ -1,11 +1,13 @@
-//! Whether a literal is plain: linear terms, compared in chains that are joined by `and`.
+//! Whether a literal is plain: linear terms, compared in chains, and their remainders, compared with 0, that are joined by `and`.
 
-ghost use Rattle.std.specs.Prelude.{◌≡◌, ◌++◌, true};
+ghost use Rattle.std.specs.Prelude.{◌≡◌};
 ghost use Rattle.std.specs.List.{list_all};
 ghost use Rattle.isl_tree.specs.Plain.{is_linear_part, is_linear, is_plain_entry, is_plain_side, is_plain_compare, are_plain_links};
-ghost use Rattle.isl_tree.specs.Plain.{is_plain_chain, is_plain_formula, is_plain_tuple, second_is_plain, body_is_plain, is_plain_piece};
-ghost use Rattle.isl_tree.specs.Plain.{is_plain};
+ghost use Rattle.isl_tree.specs.Plain.{is_zero, tells_equality, is_plain_remainder, are_plain_sides};
+ghost use Rattle.isl_tree.specs.Plain.{is_plain_chain, is_plain_formula, is_plain_tuple, body_is_plain, is_plain_piece, is_plain};
+ghost use Rattle.isl_linear.specs.Code.{remainder_of};
 
+use crate::remainder::{Remainder, lone_remainder};
 use isl_tree::tree::{
     Compare, Entry, Factor, Formula, Link, Literal, PieceTree, Signed, Term, Tuple,
 };
@@ -61,13 +63,60 @@ fn are_plain_links(links: &[Link]) -> bool
     links.iter().all(|link| is_plain_compare(link.0) && is_plain_side(link.1.as_slice()))
 }
 
+fn is_zero(term: &[Signed]) -> bool
+    ensures { result ≡ is_zero term.now }
+{
+    match term {
+        [part] if !part.negative && part.product.inner.is_none() => {
+            match part.product.numbers.as_slice() {
+                [number] => *number == 0,
+                _ => false,
+            }
+        }
+        _ => false,
+    }
+}
+
+fn tells_equality(compare: Compare) -> bool
+    ensures { result ≡ tells_equality compare }
+{
+    matches!(compare, Compare::Equal | Compare::Differs)
+}
+
+fn is_plain_remainder(remainder: Remainder<'_>, links: &[Link]) -> bool
+    ensures { result ≡ is_plain_remainder (remainder_of remainder.entry) links.now }
+{
+    match links {
+        [link] => match link.1.as_slice() {
+            [right] => {
+                is_linear(remainder.term)
+                    && remainder.modulus > 0
+                    && tells_equality(link.0)
+                    && is_zero(right.as_slice())
+            }
+            _ => false,
+        },
+        _ => false,
+    }
+}
+
+fn are_plain_sides(first: &[Term], links: &[Link]) -> bool
+    ensures { result ≡ are_plain_sides first.now links.now }
+{
+    match first {
+        [left] => match lone_remainder(left.as_slice()) {
+            Some(remainder) => is_plain_remainder(remainder, links),
+            None => is_linear(left.as_slice()) && are_plain_links(links),
+        },
+        _ => false,
+    }
+}
+
 fn is_plain_chain(formula: &Formula) -> bool
     ensures { result ≡ is_plain_chain formula.now }
 {
     match formula {
-        Formula::Chain(first, links) => {
-            is_plain_side(first.as_slice()) && are_plain_links(links.as_slice())
-        }
+        Formula::Chain(first, links) => are_plain_sides(first.as_slice(), links.as_slice()),
         _ => false,
     }
 }
@@ -84,38 +133,44 @@ fn is_plain_formula(formula: &Formula) -> bool
 {
     match formula {
         Formula::And(parts) => are_plain_chains(parts.as_slice()),
-        Formula::Chain(first, links) => {
-            is_plain_side(first.as_slice()) && are_plain_links(links.as_slice())
-        }
+        Formula::Chain(first, links) => are_plain_sides(first.as_slice(), links.as_slice()),
         _ => false,
     }
 }
 
+#[tactic(auto, using(crate::proofs::PlainLaws::plain_pair))]
 fn is_plain_tuple(tuple: &Tuple) -> bool
     ensures { result ≡ is_plain_tuple tuple.now }
 {
     match tuple {
         Tuple::Leaf { entries, .. } => are_plain_entries(entries.as_slice()),
-        Tuple::Pair(..) => false,
+        Tuple::Pair(left, right) => is_plain_tuple(left.get()) & is_plain_tuple(right.get()),
+    }
+}
+
+fn is_plain_body(body: &Option<Formula>) -> bool
+    ensures { result ≡ body_is_plain body.now }
+{
+    match body {
+        Some(formula) => is_plain_formula(formula),
+        None => true,
     }
 }
 
 /// Whether a piece of a literal is plain.
+#[tactic(auto, using(crate::proofs::PlainLaws::plain_pieces))]
 pub fn is_plain_piece(piece: &PieceTree) -> bool
     ensures { result ≡ is_plain_piece piece.now }
 {
-    is_plain_tuple(&piece.first)
-        && match &piece.second {
-            Some(tuple) => is_plain_tuple(tuple),
-            None => true,
+    match &piece.second {
+        Some(second) => {
+            is_plain_tuple(&piece.first) & is_plain_tuple(second) & is_plain_body(&piece.body)
         }
-        && match &piece.body {
-            Some(formula) => is_plain_formula(formula),
-            None => true,
-        }
+        None => is_plain_tuple(&piece.first) & is_plain_body(&piece.body),
+    }
 }
 
-/// Whether a literal is plain: linear terms, compared in chains that are joined by `and`.
+/// Whether a literal is plain: linear terms, compared in chains, and remainders of such terms, compared with 0, joined by `and`.
 pub fn is_plain(literal: &Literal) -> bool
     ensures { result ≡ is_plain literal.now }
 {

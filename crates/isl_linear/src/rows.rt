@@ -3,18 +3,21 @@
 ghost use Rattle.std.specs.Prelude.{◌≡◌, All, IfSome, Some, [], ◌∷◌, ◌⊎◌, ◌<◌, ◌≤◌, ◌+◌, ◌+ℤ◌, ◌++◌, ℕ, pos, length, map, take, replicate};
 ghost use Rattle.std.specs.Prelude.{slice_index_or, MatchResult};
 ghost use Rattle.isl_meter.specs.Gauge.{IsWithin, overflown};
-ghost use Rattle.isl_linear.specs.Rows.{written_compare};
+ghost use Rattle.isl_piece.specs.Row.{IsRowWithin};
 ghost use Rattle.isl_tree.specs.Term.{product_of};
-ghost use Rattle.isl_linear.specs.Linear.{amount_of, amounts_of, signed_product, turned, with_amount, with_amounts, numbers_of, is_negative};
+ghost use Rattle.isl_linear.specs.Linear.{amount_of, amounts_of, signed_product, turned};
+ghost use Rattle.isl_linear.specs.Linear.{with_amount, with_amounts, numbers_of, is_negative};
 ghost use Rattle.isl_linear.specs.Linear.{part_name, named_place, is_taken, one_less, difference};
-ghost use Rattle.isl_linear.specs.Passes.{ProductPasses, PartsPass, SumPasses, DifferencePasses, ComparePasses};
-ghost use Rattle.isl_linear.specs.Width.{width_of, place_in};
-ghost use Rattle.isl_linear.specs.Outcome.{SumsUp, MakesRow};
+ghost use Rattle.isl_linear.specs.Passes.{ProductPasses, PartsPass, SumPasses, DifferencePasses};
+ghost use Rattle.isl_linear.specs.Code.{written_of};
+ghost use Rattle.isl_linear.specs.Width.{width_of, place_in, PassesIn};
+ghost use Rattle.isl_linear.specs.Outcome.{SumsUp, MakesRow, PutsRows};
 
 use crate::places::{Places, part_name};
+use crate::written::Written;
 use isl_meter::{Cut, Int, Meter, Overflow};
-use isl_piece::{Coefs, Row, RowKind};
-use isl_tree::tree::{Compare, Signed};
+use isl_piece::{Coefs, Row, RowKind, Rows};
+use isl_tree::tree::Signed;
 use std::alloc::Global;
 
 // The product of numbers, from the left.
@@ -170,101 +173,96 @@ fn add_difference(
     take_one(row, last, meter)
 }
 
+// A number that is no sum or product, within the limit.
+#[tactic(auto, using(std::proofs::lemmas::Grind::common_steps, crate::proofs::PassLaws::measured))]
+fn within(number: i128, meter: &mut Meter) -> Result<Int, Overflow>
+    ensures { MatchResult result
+        (λ v. (v ≡ number) × IsWithin meter.old number × (meter.new ≡ meter.old))
+        (λ _. (¬ IsWithin meter.old number) × (meter.new ≡ overflown meter.old)) }
+{
+    Int::new(number).add(Int::ZERO, meter)
+}
+
 // The row of a kind whose numbers these are, the constant last.
 #[tactic(auto, using(std::proofs::lemmas::Grind::common_steps, crate::proofs::PassLaws::remove_last))]
-fn finished(kind: RowKind, row: Coefs, columns: usize) -> Row
+fn finished(kind: RowKind, modulus: Int, row: Coefs, columns: usize) -> Row
     requires { length row ≡ columns + 1 }
-    ensures { result ≡ record { kind = kind; coefs = take columns row; constant = slice_index_or row columns (pos 0); k = pos 1 } }
+    ensures { result ≡ record { kind = kind; coefs = take columns row; constant = slice_index_or row columns (pos 0); k = modulus } }
 {
     let mut coefs = row;
     let constant = coefs.remove(columns);
-    Row::new(kind, coefs, constant, Int::ONE)
+    Row::new(kind, coefs, constant, modulus)
 }
 
-// The row of a term less another one, and less a one at a place where that is asked for.
+// The row that a written one with this modulus is, added up.
 fn difference_row(
     alloc: Global,
-    kind: RowKind,
-    greater: &[Signed],
-    less: &[Signed],
-    last: Option<usize>,
+    written: Written<'_>,
+    modulus: Int,
     places: &Places<'_>,
     meter: &mut Meter,
 ) -> Result<Row, Cut>
-    requires bits { 8 ≤ meter.old.bits }
-    requires inside { IfSome last (λ at. at ≤ width_of places.now) }
-    ensures { MakesRow meter.old meter.new places.now (λ n place. (kind, difference n place greater.now less.now last))
-        (λ n place. DifferencePasses meter.old n place (replicate (n + 1) (pos 0)) greater.now less.now last) result }
+    requires modulus { modulus ≡ written.modulus }
+    requires small { IsWithin meter.old modulus }
+    requires inside { IfSome written.last (λ at. at ≤ width_of places.now) }
+    ensures { let w = written_of written.entry in let n = width_of places.now in
+        MakesRow meter.old meter.new places.now w
+        (DifferencePasses meter.old n (place_in places.now) (replicate (n + 1) (pos 0)) w.greater w.less w.last) result }
 {
     let columns = places.width();
     let mut row = match Coefs::zeros(alloc, columns + 1) {
         Ok(row) => row,
         Err(_) => return Err(Cut::NoMemory),
     };
-    match add_difference(&mut row, greater, less, last, places, meter) {
-        Ok(()) => Ok(finished(kind, row, columns)),
+    match add_difference(
+        &mut row,
+        written.greater,
+        written.less,
+        written.last,
+        places,
+        meter,
+    ) {
+        Ok(()) => Ok(finished(written.kind, modulus, row, columns)),
         Err(Overflow) => Err(Cut::Overflow),
     }
 }
 
-/// The row of a comparison of two terms.
-pub(crate) fn compare_row(
+// The row that a written one is, added up.
+fn made_row(
     alloc: Global,
-    compare: Compare,
-    left: &[Signed],
-    right: &[Signed],
+    written: Written<'_>,
     places: &Places<'_>,
     meter: &mut Meter,
 ) -> Result<Row, Cut>
-    requires bits { 8 ≤ meter.old.bits }
-    ensures { MakesRow meter.old meter.new places.now (λ n place. written_compare n place compare left.now right.now)
-        (λ n place. ComparePasses meter.old n place compare left.now right.now) result }
+    requires inside { IfSome written.last (λ at. at ≤ width_of places.now) }
+    ensures { MakesRow meter.old meter.new places.now (written_of written.entry)
+        (PassesIn meter.old places.now (written_of written.entry)) result }
 {
-    let constant = Some(places.width());
-    match compare {
-        Compare::Equal => difference_row(alloc, RowKind::Zero, left, right, None, places, meter),
-        Compare::GreaterEqual => {
-            difference_row(alloc, RowKind::AtLeast, left, right, None, places, meter)
-        }
-        Compare::Greater => difference_row(
-            alloc,
-            RowKind::AtLeast,
-            left,
-            right,
-            constant,
-            places,
-            meter,
-        ),
-        Compare::LessEqual => {
-            difference_row(alloc, RowKind::AtLeast, right, left, None, places, meter)
-        }
-        Compare::Less => difference_row(
-            alloc,
-            RowKind::AtLeast,
-            right,
-            left,
-            constant,
-            places,
-            meter,
-        ),
-        Compare::Differs => {
-            difference_row(alloc, RowKind::AtLeast, left, right, None, places, meter)
-        }
-    }
+    let modulus = match within(written.modulus, meter) {
+        Ok(modulus) => modulus,
+        Err(Overflow) => return Err(Cut::Overflow),
+    };
+    difference_row(alloc, written, modulus, places, meter)
 }
 
-/// The row of an entry that is a term: the term equals the coordinate at its column.
-pub(crate) fn entry_row(
+/// Puts the row that a written one is behind the others.
+pub(crate) fn push_row(
     alloc: Global,
-    term: &[Signed],
-    at: usize,
+    rows: &mut Rows,
+    written: Written<'_>,
     places: &Places<'_>,
     meter: &mut Meter,
-) -> Result<Row, Cut>
-    requires bits { 8 ≤ meter.old.bits }
-    requires inside { at < width_of places.now }
-    ensures { MakesRow meter.old meter.new places.now (λ n place. (RowKind.Zero, difference n place term.now [] (Some at)))
-        (λ n place. DifferencePasses meter.old n place (replicate (n + 1) (pos 0)) term.now [] (Some at)) result }
+) -> Result<(), Cut>
+    requires within { All (IsRowWithin meter.old) rows.old }
+    requires inside { IfSome written.last (λ at. at ≤ width_of places.now) }
+    ensures { PutsRows meter.old meter.new rows.old rows.new places.now (written_of written.entry ∷ []) result }
 {
-    difference_row(alloc, RowKind::Zero, term, &[], Some(at), places, meter)
+    let row = match made_row(alloc, written, places, meter) {
+        Ok(row) => row,
+        Err(cut) => return Err(cut),
+    };
+    match rows.push(row) {
+        Ok(()) => Ok(()),
+        Err(_) => Err(Cut::NoMemory),
+    }
 }

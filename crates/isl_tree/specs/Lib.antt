@@ -4,6 +4,7 @@ pub mod Formula
 pub mod Literal
 pub mod Known
 pub mod Plain
+pub mod Divisors
 pub use Rattle.isl_math.specs.Divide
 pub use Rattle.isl_space.specs.Element
 pub use Rattle.isl_space.specs.Form

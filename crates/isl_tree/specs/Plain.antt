@@ -1,19 +1,22 @@
--- public: plain literals: linear terms, compared in chains that are joined by `and`. What the printed form of a set or map is made of.
-use Rattle.std.specs.Prelude.{Bool, true, false, ◌&&◌, List, [], ◌∷◌, Option, Some, None}
+-- public: plain literals: linear terms, compared in chains, and their remainders, compared with 0, joined by `and`. What the printed form
+-- of a set or map is made of.
+use Rattle.std.specs.Prelude.{ℤ, pos, int_lt, Bool, true, false, ◌&&◌, List, [], ◌∷◌, Option, Some, None}
 use Rattle.std.specs.List.{list_all}
-use Rattle.isl_tree.specs.declared.tree.Factor.{Name}
+use Rattle.std.specs.Ordering.{int_eq}
+use Rattle.isl_tree.specs.declared.tree.Factor.{Factor, Name, Inner', Row_of-Signed, end_of-Signed, more_of-Signed}
 use Rattle.isl_tree.specs.declared.tree.Signed.{Signed, Signed'}
 use Rattle.isl_tree.specs.declared.tree.Product.{Product', None', Some'}
 use Rattle.isl_tree.specs.declared.tree.Compare.{Compare}
-use Rattle.isl_tree.specs.declared.tree.Compare.TheVariants.{Differs}
+use Rattle.isl_tree.specs.declared.tree.Compare.TheVariants.{Equal, Differs}
 use Rattle.isl_tree.specs.declared.tree.Formula.{Formula, And', Chain, Row_of-Formula, end_of-Formula, more_of-Formula}
 use Rattle.isl_tree.specs.declared.tree.Entry.{Entry}
 use Rattle.isl_tree.specs.declared.tree.Entry.TheVariants.{Plain, Named}
-use Rattle.isl_tree.specs.declared.tree.Tuple.{Tuple, Leaf, Pair'}
+use Rattle.isl_tree.specs.declared.tree.Tuple.{Tuple}
 use Rattle.isl_tree.specs.declared.tree.PieceTree.{PieceTree}
 use Rattle.isl_tree.specs.declared.tree.Literal.{Literal}
 use Rattle.isl_tree.specs.Term.{Term}
 use Rattle.isl_tree.specs.Formula.{Side, Link}
+use Rattle.isl_tree.specs.Literal.{entries_of, piece_entries}
 
 -- a number, or a number times a name
 abbrev pub is_linear_part : Signed → Bool
@@ -42,9 +45,51 @@ is_plain_compare _ = true
 abbrev pub are_plain_links : List Link → Bool
 are_plain_links links = list_all (λ link. is_plain_compare link.0 && is_plain_side link.1) links
 
--- a chain of comparisons of single linear terms
+-- the parts of a term in brackets
+abbrev pub parts_in : {m : _} → Row_of-Signed m → Term
+parts_in end_of-Signed = []
+parts_in (more_of-Signed part rest) = part ∷ parts_in rest
+
+-- a term, and the number that it is divided by
+abbrev pub Remainder : Type 0
+Remainder = Term × ℤ
+
+-- the remainder that a term is: `(term) mod k` alone
+abbrev pub remainder_by : Factor → List ℤ → Option Remainder
+remainder_by (Inner' s row) (k ∷ []) = Some (parts_in row, k)
+remainder_by _ _ = None
+
+abbrev pub lone_remainder : Term → Option Remainder
+lone_remainder (Signed' false (Product' [] (Some' factor moduli)) ∷ []) = remainder_by factor moduli
+lone_remainder _ = None
+
+-- the number 0 alone
+abbrev pub is_zero : Term → Bool
+is_zero (Signed' false (Product' (z ∷ []) None') ∷ []) = int_eq z (pos 0)
+is_zero _ = false
+
+-- `=` and `!=`
+abbrev pub tells_equality : Compare → Bool
+tells_equality Equal = true
+tells_equality Differs = true
+tells_equality _ = false
+
+-- the remainder of a linear term by a positive number, compared with 0 by `=` or `!=`
+abbrev pub is_plain_remainder : Remainder → List Link → Bool
+is_plain_remainder r ((c, right ∷ []) ∷ []) = is_linear r.0 && int_lt (pos 0) r.1 && tells_equality c && is_zero right
+is_plain_remainder r _ = false
+
+-- such a remainder, or a chain of comparisons of single linear terms
+abbrev pub is_plain_comparison : Option Remainder → Term → List Link → Bool
+is_plain_comparison None left links = is_linear left && are_plain_links links
+is_plain_comparison (Some r) left links = is_plain_remainder r links
+
+abbrev pub are_plain_sides : Side → List Link → Bool
+are_plain_sides (left ∷ []) links = is_plain_comparison (lone_remainder left) left links
+are_plain_sides _ links = false
+
 abbrev pub is_plain_chain : Formula → Bool
-is_plain_chain (Chain first links) = is_plain_side first && are_plain_links links
+is_plain_chain (Chain first links) = are_plain_sides first links
 is_plain_chain _ = false
 
 abbrev pub are_plain_chains : {m : _} → Row_of-Formula m → Bool
@@ -53,25 +98,20 @@ are_plain_chains (more_of-Formula formula rest) = is_plain_chain formula && are_
 
 -- a chain, or chains joined by `and`
 abbrev pub is_plain_formula : Formula → Bool
-is_plain_formula (Chain first links) = is_plain_side first && are_plain_links links
+is_plain_formula (Chain first links) = are_plain_sides first links
 is_plain_formula (And' s row) = are_plain_chains row
 is_plain_formula _ = false
 
--- a tuple that is no pair, of linear terms
+-- each entry is a linear term, also those of pairs of tuples
 abbrev pub is_plain_tuple : Tuple → Bool
-is_plain_tuple (Leaf name entries) = list_all is_plain_entry entries
-is_plain_tuple (Pair' s left t right) = false
-
-abbrev pub second_is_plain : Option Tuple → Bool
-second_is_plain None = true
-second_is_plain (Some tuple) = is_plain_tuple tuple
+is_plain_tuple tuple = list_all is_plain_entry (entries_of tuple)
 
 abbrev pub body_is_plain : Option Formula → Bool
 body_is_plain None = true
 body_is_plain (Some formula) = is_plain_formula formula
 
 abbrev pub is_plain_piece : PieceTree → Bool
-is_plain_piece piece = is_plain_tuple piece.first && second_is_plain piece.second && body_is_plain piece.body
+is_plain_piece piece = list_all is_plain_entry (piece_entries piece) && body_is_plain piece.body
 
 abbrev pub is_plain : Literal → Bool
 is_plain literal = list_all is_plain_piece literal.pieces
