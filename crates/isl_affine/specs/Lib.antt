@@ -1,0 +1,12 @@
+pub mod Comparison
+pub mod Extends
+pub mod Form
+pub mod Parts
+pub mod Rows
+pub mod Scope
+pub mod Size
+pub use Rattle.isl_meter.specs.Gauge
+pub use Rattle.isl_piece.specs.System
+pub use Rattle.isl_space.specs.Valuation
+pub use Rattle.isl_tree.specs.Known
+pub use Rattle.isl_tree.specs.Literal
