@@ -20,20 +20,19 @@ use Rattle.isl_elim.specs.Elimination.{HoldsAtAny}
 use Rattle.isl_elim.specs.Sample.{IsNowhere}
 use Rattle.isl_elim.proofs.PartsLaws.{charged_bits}
 use Rattle.isl_difference.specs.Bounds.{ImplyRows, AreApartRows}
-use Rattle.isl_difference.specs.Difference.{AreDisjoint, IsPartition, IsLeftOf, IsOutside, IsDifference, IsCovered, IsCounted}
+use Rattle.isl_difference.specs.Difference.{AreDisjoint, IsPartition, IsLeftOf, IsOutside, IsDifference, IsCounted}
 use Rattle.isl_difference.specs.Split.{AreAligned, frame_of, HoldsBut, IsLive, AreLiveParts, ArePaid, HoldsBeside, IsLeftOfAny}
 use Rattle.isl_difference.proofs.PartitionLaws.{any_at, any_before, any_taken, partition_none, partition_one, partition_append}
 use Rattle.isl_difference.proofs.PartitionLaws.{partition_same, partition_each}
-use Rattle.isl_difference.proofs.RowCases.{systems_cases}
 use Rattle.isl_difference.proofs.SplitLaws.{system_kept, live_kept, charged_within}
 
 -- ---- two systems over the same columns
 module _ (s other : System) (definitions : other.definitions ≡ s.definitions) where
   -- the other holds where its rows do at the full point of the first
-  there : (point : List ℤ) → HoldsSystem other point → HoldRows other.rows (with_defined s.definitions point)
+  pub there : (point : List ℤ) → HoldsSystem other point → HoldRows other.rows (with_defined s.definitions point)
   there point h = subst (λ ds. HoldRows other.rows (with_defined ds point)) definitions h
 
-  back : (point : List ℤ) → HoldRows other.rows (with_defined s.definitions point) → HoldsSystem other point
+  pub back : (point : List ℤ) → HoldRows other.rows (with_defined s.definitions point) → HoldsSystem other point
   back point h = subst (λ ds. HoldRows other.rows (with_defined ds point)) (sym definitions) h
 
   pub nothing_left : (g : Gauge) (parts : List System) → ImplyRows s.rows other.rows → parts ≡ [] → AreLiveParts g s other parts
@@ -343,26 +342,6 @@ left_none g h s others i left e d = rw e (partition_none (IsLeftOf g s) (free_co
     let P : System → Type 0 = λ t. HoldsSystem t point in
     Any-none P (subst (Any P) e ((d.difference.points point l).1 (x.0, λ a. x.1 (any_taken P i others a))))))
 
--- ---- nothing is left where each point is one of the others
-pub covered_none : (g : Gauge) (s : System) (others left : List System) → All (IsSystemWithin g) others → IsDifference g s others left
-    → left ≡ [] → IsCovered s others
-covered_none g s others left w d e point l h =
-    let P : System → Type 0 = λ t. HoldsSystem t point in
-    elim (systems_cases g others point w) [
-      | inl a ↦ a
-      | inr n ↦ absurd (Any-none P (subst (Any P) e ((d.points point l).1 (h, n))))
-    ]
-
-pub covered_only : (g : Gauge) (s : System) (others left : List System) → IsDifference g s others left
-    → ¬ IsNowhere (free_columns s) (HoldsSystem s) → IsCovered s others → left ≡ []
-covered_only g s others [] d live covered = refl
-covered_only g s others (t ∷ left) d live covered =
-    let first = d.each 0 t (omega arith) in
-    absurd (first.live live (λ point l h.
-    let at : length point ≡ free_columns s = l ∙ first.columns in
-    let out = (d.points point at).0 (Any-first (λ (u : System). HoldsSystem u point) t left h) in
-    out.1 (covered point at out.0)))
-
 pub ruleset aligned_steps = (charges, charged_within, nothing_left, all_left, none_common, split_left, parts_paid)
 
 pub ruleset outside_steps = (charges, frame_within, aligned_apart, aligned_parts)
@@ -372,5 +351,3 @@ pub ruleset subtract_steps = (charges, difference_parts, difference_whole, count
 pub ruleset beside_steps = (charges, charged_within, beside_first, beside_more)
 
 pub ruleset each_steps = (charges, left_first, other_free, left_within, left_columns, left_more, left_none)
-
-pub ruleset covered_steps = (charges, covered_none, covered_only)

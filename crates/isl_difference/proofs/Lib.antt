@@ -1,4 +1,5 @@
 pub mod BoundLaws
+pub mod CoverLaws
 pub mod DifferenceLaws
 pub mod LiveLaws
 pub mod PartitionLaws

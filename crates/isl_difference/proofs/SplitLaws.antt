@@ -2,7 +2,7 @@
 use Rattle.std.proofs.Common.{◌≡◌, ◌↔◌, ◌⊎◌, inl, inr, refl, sym, ap, ◌∙◌, subst, arith, ℕ, zero, suc, ◌+◌, ◌<◌, ◌≤◌, ℤ, negsuc}
 use Rattle.std.proofs.Common.{List, [], ◌∷◌, ◌++◌, length, get_or, take, length-append}
 use Rattle.std.specs.List.{All, Any, AllPairs}
-use Rattle.std.proofs.lemmas.List.{take_more}
+use Rattle.std.proofs.lemmas.List.{take_all, take_more}
 use Rattle.std.proofs.lemmas.List.Elements.{All-nil, All-cons, All-append, All-push, All-head, All-weaker, All-take}
 use Rattle.isl_math.proofs.ListLaws.{All-parts, All-last, Any-parts, Any-left, Any-right, Any-one, Any-first, Any-none}
 use Rattle.isl_meter.specs.Gauge.{Gauge, IsCharged, IsWithin}
@@ -19,6 +19,7 @@ use Rattle.isl_piece.specs.Negation.{above, below, negated_form, negation_of}
 use Rattle.isl_piece.specs.Row.{HoldsRow, IsWellFormed, IsRowWithin}
 use Rattle.isl_piece.specs.System.{HoldRows, HoldsSystem, IsSystemWithin, free_columns}
 use Rattle.isl_piece.proofs.RowMagnitudes.{row_within_kept, rows_within_kept}
+use Rattle.isl_elim.specs.Sample.{IsNowhere}
 use Rattle.isl_elim.proofs.PartsLaws.{charged_bits}
 use Rattle.isl_difference.specs.Bounds.{ImplyRow}
 use Rattle.isl_difference.specs.Difference.{IsPartition}
@@ -369,6 +370,34 @@ module _ (g h : Gauge) (s : System) (rows : List Row) (i : ℕ) (r : Row) (rest 
 
   pub rest_formed : All (IsWellFormed s.columns) rows → IsWellFormed rest.columns r
   rest_formed f = subst (λ n. IsWellFormed n r) (sym so_far.columns) (row_formed s.columns rows i r f inside is)
+
+-- ---- rows that hold throughout
+-- no part is left
+pub throughout : (g h : Gauge) (s : System) (rows : List Row) (i : ℕ) (rest : System) → length rows ≤ i
+    → IsSplitBy g h s (take i rows) rest [] → IsNowhere (free_columns s) (HoldsBut s rows)
+throughout g h s rows i rest end so_far point l x =
+    let p = subst (λ (done : List Row). IsPartition (IsLive g (free_columns s)) (free_columns s) (HoldsBut s done) []) (take_all i rows end)
+    so_far.partition in
+    Any-none (λ (t : System). HoldsSystem t point) ((p.points point l).1 x)
+
+-- a part is left
+pub not_throughout : (g h : Gauge) (s : System) (rows : List Row) (i : ℕ) (r : Row) (rest : System) (failed : List System) → i < length rows
+    → r ≡ get_or rows i r → IsSplitBy g h s (take i rows) rest []
+    → IsPartition (IsLive h (free_columns rest)) (free_columns rest) (HoldsBut rest (r ∷ [])) failed → 0 < length failed
+    → ¬ IsNowhere (free_columns s) (HoldsBut s rows)
+not_throughout g h s rows i r rest [] low is so_far p some nowhere = absurd (omega arith)
+not_throughout g h s rows i r rest (t ∷ failed) low is so_far p some nowhere =
+    let first = p.each 0 t (omega arith) in
+    first.somewhere (λ point l x.
+    let but = (p.points point l).0 (Any-first (λ (u : System). HoldsSystem u point) t failed x) in
+    let full = with_defined s.definitions point in
+    let here = (so_far.points point).0 but.0 in
+    nowhere point (l ∙ free_same g h s (take i rows) r rest [] so_far) (
+      here.0,
+      λ all.
+          let holds : HoldsRow r full = rw is (all i r low) in
+          but.1 (subst (λ ds. HoldRows (r ∷ []) (with_defined ds point)) (sym so_far.definitions) ((one_row r full).1 holds)),
+    ))
 
 pub ruleset failing_steps = (charges, failing_first, failing_more, failing_within, denied_exclusive)
 

@@ -1,4 +1,5 @@
 pub mod Bounds
+pub mod Cover
 pub mod Difference
 pub mod Split
 pub use Rattle.isl_difference.specs.Difference

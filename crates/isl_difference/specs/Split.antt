@@ -1,4 +1,4 @@
--- inner: a system split by rows over its columns. (isl, on subtracting one basic set after another)
+-- public: a system split by rows over its columns. (isl, on subtracting one basic set after another)
 use Rattle.std.specs.Prelude.{◌≡◌, ◌↔◌, ◌⊎◌, ◌++◌, All, AllPairs, Any, ℕ, ◌+◌, ◌<◌, ◌≤◌, ℤ, List, [], ◌∷◌, length}
 use Rattle.isl_meter.specs.Gauge.{Gauge}
 use Rattle.isl_piece.specs.declared.row.Row.{Row}

@@ -1,11 +1,10 @@
 //! One system without others.
 
-ghost use Rattle.std.specs.Prelude.{◌≡◌, ◌≢◌, ◌+◌, ◌≤◌, ◌∷◌, [], All, AllPairs, IfOk, IfSome, IsTrue, MatchOption, MatchResult, length};
+ghost use Rattle.std.specs.Prelude.{◌≡◌, ◌≢◌, ◌+◌, ◌≤◌, ◌∷◌, [], All, AllPairs, IfOk, IfSome, MatchOption, MatchResult, length};
 ghost use Rattle.std.specs.Prelude.{map};
 ghost use Rattle.isl_meter.specs.Gauge.{Gauge, IsCharged, IsCutBy};
 ghost use Rattle.isl_piece.specs.System.{HoldsSystem, IsSystemWithin, free_columns};
-ghost use Rattle.isl_elim.specs.Sample.{IsNowhere};
-ghost use Rattle.isl_difference.specs.Difference.{AreDisjoint, IsCounted, IsCovered, IsDifference, IsPartition};
+ghost use Rattle.isl_difference.specs.Difference.{AreDisjoint, IsCounted, IsDifference, IsPartition};
 ghost use Rattle.isl_difference.specs.Split.{frame_of, AreAligned, AreLiveParts, ArePaid, HoldsBeside, IsLeftOfAny};
 
 use crate::bounds::{are_apart, are_implied};
@@ -19,11 +18,11 @@ use std::alloc::{AllocError, Global};
 fn frame(alloc: Global, system: &System) -> Result<System, AllocError>
     ensures { IfOk result (λ made. made ≡ frame_of system.now) }
 {
-    Ok(System {
-        columns: system.columns,
-        definitions: system.definitions.copy(alloc)?,
-        rows: Rows::new(alloc),
-    })
+    Ok(System::over(
+        system.columns,
+        system.definitions.copy(alloc)?,
+        Rows::new(alloc),
+    ))
 }
 
 // Live parts of the system in which the other one, over the same columns, does not hold; none where no point is in both.
@@ -62,15 +61,15 @@ fn parts_aligned(
     Ok(Some(parts))
 }
 
-// Two systems over the same columns.
+/// Two systems over the same columns.
 #[derive(Drop)]
-struct Aligned {
-    wide: System,
-    moved: System,
+pub(crate) struct Aligned {
+    pub(crate) wide: System,
+    pub(crate) moved: System,
 }
 
-// The two systems over the columns of both.
-fn align(alloc: Global, system: &System, other: &System) -> Result<Aligned, AllocError>
+/// The two systems over the columns of both.
+pub(crate) fn align(alloc: Global, system: &System, other: &System) -> Result<Aligned, AllocError>
     requires columns { free_columns other.now ≡ free_columns system.now }
     requires different { system.now.definitions ≢ other.now.definitions }
     ensures { (g : Gauge) → IsSystemWithin g system.now → IsSystemWithin g other.now
@@ -233,28 +232,4 @@ pub fn outside(
         left = all_without(alloc, &left, other, meter)?;
     }
     Ok(left)
-}
-
-/// Whether each point of the system is one of the others. Of a system without a point the answer may be no.
-///
-/// # Errors
-///
-/// `Overflow` where a number passes the limit of the meter, `Budget` where its units are used up, and `NoMemory`.
-#[tactic(auto, using(std::proofs::lemmas::Grind::common_steps, crate::proofs::DifferenceLaws::covered_steps))]
-pub fn is_covered(
-    alloc: Global,
-    system: &System,
-    others: &[&System],
-    meter: &mut Meter,
-) -> Result<bool, Cut>
-    requires within { IsSystemWithin meter.old system.now }
-    requires others_within { All (IsSystemWithin meter.old) (map (λ other. other.now) others.now) }
-    requires columns { All (λ other. free_columns other ≡ free_columns system.now) (map (λ other. other.now) others.now) }
-    ensures covered { IfOk result (λ covered. IsTrue covered → IsCovered system.now (map (λ other. other.now) others.now)) }
-    ensures only { ¬ IsNowhere (free_columns system.now) (HoldsSystem system.now)
-        → IfOk result (λ covered. IsCovered system.now (map (λ other. other.now) others.now) → IsTrue covered) }
-    ensures meter { MatchResult result (λ _. IsCharged meter.old meter.new) (IsCutBy meter.old meter.new) }
-{
-    let left = outside(alloc, system, others, meter)?;
-    Ok(left.is_empty())
 }

@@ -2,8 +2,11 @@
 #![tactic(auto)]
 
 mod bounds;
+mod cover;
 mod difference;
 mod live;
 mod split;
 
-pub use difference::{is_covered, outside, subtract};
+pub use cover::is_covered;
+pub use difference::{outside, subtract};
+pub use live::live_form;

@@ -21,8 +21,12 @@ pub(crate) fn is_nowhere(alloc: Global, system: &System, meter: &mut Meter) -> R
     is_empty(alloc, system, meter)
 }
 
-// The system in its normal form; none where it holds at no point.
-fn live(alloc: Global, system: System, meter: &mut Meter) -> Result<Option<System>, Cut>
+/// The system in its normal form; none where it holds at no point.
+///
+/// # Errors
+///
+/// `Overflow` where a number passes the limit of the meter, `Budget` where its units are used up, and `NoMemory`.
+pub fn live_form(alloc: Global, system: System, meter: &mut Meter) -> Result<Option<System>, Cut>
     requires { IsSystemWithin meter.old system }
     ensures { MatchResult result
         (λ found. MatchOption found (IsNowhere (free_columns system) (HoldsSystem system)) (IsLiveFormOf meter.old system)
@@ -51,7 +55,7 @@ pub(crate) fn push_live(
         (λ _. IsPushed meter.old system systems.old.items systems.new.items × IsCharged meter.old meter.new)
         (IsCutBy meter.old meter.new) }
 {
-    match live(alloc, system, meter)? {
+    match live_form(alloc, system, meter)? {
         None => Ok(()),
         Some(part) => {
             systems.push(part)?;

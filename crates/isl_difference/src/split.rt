@@ -1,10 +1,11 @@
 //! The parts of a system in which rows do not hold.
 
-ghost use Rattle.std.specs.Prelude.{◌≡◌, ◌+◌, ◌≤◌, ◌∷◌, [], All, IfOk, MatchResult, length};
+ghost use Rattle.std.specs.Prelude.{◌≡◌, ◌↔◌, ◌+◌, ◌≤◌, ◌∷◌, [], All, IfOk, IsTrue, MatchResult, length};
 ghost use Rattle.isl_meter.specs.Gauge.{IsCharged, IsCutBy};
 ghost use Rattle.isl_piece.specs.Negation.{negation_of};
 ghost use Rattle.isl_piece.specs.Row.{IsRowWithin, IsWellFormed};
 ghost use Rattle.isl_piece.specs.System.{IsSystemWithin, free_columns};
+ghost use Rattle.isl_elim.specs.Sample.{IsNowhere};
 ghost use Rattle.isl_difference.specs.Difference.{IsPartition};
 ghost use Rattle.isl_difference.specs.Split.{AreExclusive, ArePaidBy, and_rows, HoldsBut, HoldsWithAny, IsLive};
 
@@ -102,4 +103,33 @@ pub(crate) fn split(
         rest.rows.push(row.copy(alloc)?)?;
     }
     Ok(parts)
+}
+
+/// Whether the rows, which are over its columns, hold at each point of the system. Nothing is asked behind the first row that fails
+/// somewhere. One unit is used for each row of the negation of a row that is not said already.
+#[tactic(auto, using(std::proofs::lemmas::Grind::common_steps, crate::proofs::SplitLaws::split_steps))]
+pub(crate) fn hold_throughout(
+    alloc: Global,
+    system: &System,
+    rows: &Rows,
+    meter: &mut Meter,
+) -> Result<bool, Cut>
+    requires within { IsSystemWithin meter.old system.now }
+    requires formed { All (IsWellFormed system.now.columns) rows.now }
+    requires rows_within { All (IsRowWithin meter.old) rows.now }
+    ensures exact { IfOk result (λ all. IsTrue all ↔ IsNowhere (free_columns system.now) (HoldsBut system.now rows.now)) }
+    ensures meter { MatchResult result (λ _. IsCharged meter.old meter.new) (IsCutBy meter.old meter.new) }
+{
+    let mut rest = system.copy(alloc)?;
+    for row in rows.as_slice() {
+        if is_implied(rest.rows.as_slice(), row) {
+            continue;
+        }
+        let failed = failing(alloc, &rest, row, meter)?;
+        if !failed.is_empty() {
+            return Ok(false);
+        }
+        rest.rows.push(row.copy(alloc)?)?;
+    }
+    Ok(true)
 }

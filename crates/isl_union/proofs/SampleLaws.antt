@@ -179,6 +179,10 @@ numbers_more n point i z low at =
     (let l = length-take-le i point (omega arith) in omega (arith, l))
 
 -- ---- the piece of a point
+-- the piece with the first of its rows
+abbrev pub numbers_piece : SpaceForm → ℕ → List Row → PieceView
+numbers_piece space columns rows = record { space = space; system = record { columns = columns; definitions = []; rows = rows } }
+
 module _ (params : List Name) (space : SpaceForm) (point : List ℤ) (long : length point ≡ columns_of params space) where
   pub point_kept : IsWellFormedSpace space → IsKeptPiece params (piece_of space (point_system point))
   point_kept formed = record {

@@ -1,4 +1,4 @@
--- inner: the elements at which one of several systems holds.
+-- public: the elements at which one of several systems holds.
 use Rattle.std.specs.Prelude.{◌≡◌, List}
 use Rattle.isl_space.specs.Name.{Name}
 use Rattle.isl_space.specs.SpaceForm.{SpaceForm}

@@ -18,4 +18,5 @@ mod value;
 
 pub use fault::OpFault;
 pub use live::{live_piece, push_found, settled_piece};
+pub use pieces::live_pieces_in;
 pub use value::Value;

@@ -88,11 +88,7 @@ pub fn settled_piece(
         Some(rows) => Piece::new(
             alloc,
             space.copy()?,
-            System {
-                columns: system.columns,
-                definitions: system.definitions,
-                rows,
-            },
+            System::over(system.columns, system.definitions, rows),
         ),
     }
 }

@@ -19,8 +19,12 @@ use isl_space::{Params, Space};
 use std::alloc::Global;
 
 /// The pieces of the space with the systems' normal rows; none for a system that holds at no point.
+///
+/// # Errors
+///
+/// `Overflow` where a number passes the limit of the meter, `Budget` where its units are used up, and `NoMemory`.
 #[tactic(auto, using(std::proofs::lemmas::Grind::common_steps, isl_meter::proofs::CutLemmas::charges))]
-pub(crate) fn live_pieces_in(
+pub fn live_pieces_in(
     alloc: Global,
     params: &Params,
     space: &Space,

@@ -2,6 +2,7 @@
 
 ghost use Rattle.std.specs.Prelude.{◌≡◌, ◌<◌, ℤ, List, All, IfOk, MatchResult, length};
 ghost use Rattle.isl_meter.specs.Gauge.{IsCharged, IsCutBy, IsWithin};
+ghost use Rattle.isl_space.specs.Space.{space_form_of};
 ghost use Rattle.isl_piece.specs.System.{HoldsSystem, IsSystemWithin, free_columns};
 ghost use Rattle.isl_elim.specs.Sample.{IsNowhere, IsSample};
 ghost use Rattle.isl_union.specs.Fault.{IsCutFault};
@@ -12,7 +13,8 @@ ghost use Rattle.isl_union.specs.Sample.{number_row, number_rows, point_system, 
 use crate::{OpFault, Value};
 use isl_elim::sample_point;
 use isl_meter::{Cut, Int, Meter};
-use isl_piece::{Coefs, Piece, Row, RowKind, Rows, System};
+use isl_piece::{Coefs, Piece, Row, RowKind, System};
+use isl_space::Space;
 use std::alloc::{AllocError, Global};
 
 // The row over so many columns that says that one of them is this number.
@@ -33,17 +35,22 @@ fn number_row(
     Ok(Row::new(RowKind::Zero, coefs, constant, Int::ONE))
 }
 
-// The system of this point alone.
-fn point_system(alloc: Global, point: &[i128], meter: &Meter) -> Result<System, AllocError>
+// The piece of the space with the system of this point alone.
+fn only_piece(
+    alloc: Global,
+    space: &Space,
+    point: &[i128],
+    meter: &Meter,
+) -> Result<Piece, AllocError>
     requires { All (IsWithin meter.now) point.now }
-    ensures { IfOk result (λ system. system ≡ point_system point.now) }
+    ensures { IfOk result (λ only. only ≡ record { space = space_form_of space.now; system = point_system point.now }) }
 {
     let columns = point.len();
-    let mut rows = Rows::with_capacity(alloc, columns)?;
+    let mut only = Piece::new(alloc, space.copy()?, System::new(alloc, columns))?;
     for column in 0..columns {
-        rows.push(number_row(alloc, columns, column, point[column], meter)?)?;
+        only.push_row(number_row(alloc, columns, column, point[column], meter)?)?;
     }
-    Ok(System::from_rows(alloc, columns, rows))
+    Ok(only)
 }
 
 // The piece of one point of this one alone.
@@ -58,10 +65,7 @@ fn point_piece(alloc: Global, piece: &Piece, meter: &mut Meter) -> Result<Piece,
 {
     match sample_point(alloc, piece.system(), meter)? {
         None => unreachable!(),
-        Some(point) => {
-            let system = point_system(alloc, point.as_slice(), meter)?;
-            Ok(Piece::new(alloc, piece.space().copy()?, system)?)
-        }
+        Some(point) => Ok(only_piece(alloc, piece.space(), point.as_slice(), meter)?),
     }
 }
 

@@ -23,7 +23,7 @@ returns-clause-exact c =
     IfOk-weaker c.new.result (λ m. m ≡ record { space = space_form_of c.in_ok-copy-in-Some.field-0; system = made })
     (λ m. kept_piece m ≡ settled (piece_of space s))
     (λ m is. settled_made m space (space_form_of c.in_ok-copy-in-Some.field-0) s rows c.in_ok-normalise.field-0
-    c.in_ok-normalise.ensures.exact c.in-Some.is c.in_ok-copy-in-Some.ensures is) c.new.ensures
+    c.in_ok-normalise.ensures.exact c.in-Some.is c.in_ok-copy-in-Some.ensures is) (rw c.over.ensures at c.new.ensures)
 
 pub returns-clause-sound : goal.returns-clause-sound
 returns-clause-sound c params formed free =
@@ -35,4 +35,4 @@ returns-clause-sound c params formed free =
     (λ m is. settled_sound c.args.meter.now params space s c.requires.within free c.requires.live m
     (settled_made m space (space_form_of c.in_ok-copy-in-Some.field-0) s rows c.in_ok-normalise.field-0
     c.in_ok-normalise.ensures.exact c.in-Some.is c.in_ok-copy-in-Some.ensures is)
-    (ap (λ (x : PieceView). x.system.columns) is) formed) c.new.ensures
+    (ap (λ (x : PieceView). x.system.columns) is) formed) (rw c.over.ensures at c.new.ensures)

@@ -1,4 +1,4 @@
-use Rattle.std.proofs.Common.{◌≡◌, ◌∙◌, ap, ap₂, subst}
+use Rattle.std.proofs.Common.{◌∙◌, ap₂, subst, ℤ, List}
 use Rattle.isl_space.specs.SpaceForm.{SpaceForm}
 use Rattle.isl_piece.specs.declared.system.System.{System}
 use Rattle.isl_piece.specs.Piece.{PieceView}
@@ -16,10 +16,8 @@ pub returns-clause-exact : goal.returns-clause-exact
 returns-clause-exact c =
     let exact = rw c.in-Some.is at c.in_ok-sample_point.ensures.exact in
     let point = c.in-Some.point.items in
-    let made : c.in_ok-system-in-Some.system ≡ point_system point =
-    c.in_ok-system-in-Some.ensures ∙ ap point_system c.as_slice.ensures.value in
-    let piece : SpaceForm → System → PieceView = λ u t. record { space = u; system = t } in (
+    let piece : SpaceForm → List ℤ → PieceView = λ u xs. record { space = u; system = point_system xs } in (
       point,
       subst (λ (s : System). IsSample c.args.meter.now (free_columns s) (HoldsSystem s) point) c.system.ensures exact,
-      c.in_ok-new-in-Some.ensures ∙ ap₂ piece (c.in_ok-copy-in-Some.ensures ∙ c.space.ensures) made,
+      c.in_ok-only_piece-in-Some.ensures ∙ ap₂ piece c.space.ensures c.as_slice.ensures.value,
     )

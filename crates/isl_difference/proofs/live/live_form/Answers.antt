@@ -3,7 +3,7 @@ use Rattle.std.specs.Prelude.{Some}
 use Rattle.isl_meter.proofs.CutLemmas.{charges}
 use Rattle.isl_piece.specs.Normal.{normal_system}
 use Rattle.isl_difference.proofs.LiveLaws.{not_true, normal_nowhere, normal_live}
-use Rattle.isl_difference.proofs.live.live.Goals as goal
+use Rattle.isl_difference.proofs.live.live_form.Goals as goal
 
 pub returns-then-branch : goal.returns-then-branch
 returns-then-branch c =
