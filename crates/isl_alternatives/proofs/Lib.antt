@@ -1,0 +1,6 @@
+mod RestrictedLaws
+mod ScopeLaws
+mod ChainLaws
+mod BoundLaws
+mod FormulaLaws
+mod SizeLaws

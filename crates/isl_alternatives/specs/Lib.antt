@@ -1,0 +1,10 @@
+pub mod Chain
+pub mod Known
+pub mod Restricted
+pub mod Size
+pub use Rattle.isl_affine.specs.Scope
+pub use Rattle.isl_tree.specs.Divisors
+pub use Rattle.isl_elim.specs.Elimination
+pub use Rattle.isl_meter.specs.Gauge
+pub use Rattle.isl_piece.specs.System
+pub use Rattle.isl_tree.specs.Formula

@@ -1,0 +1,175 @@
+//! Lists of systems: copied, met with others, without others, and without those that hold nowhere.
+
+ghost use Rattle.std.specs.Prelude.{◌≡◌, ◌⊎◌, ◌+◌, ◌≤◌, ◌++◌, [], All, IfOk, MatchResult, length, map};
+ghost use Rattle.isl_meter.specs.Gauge.{Gauge, IsCharged, IsCutBy};
+ghost use Rattle.isl_piece.specs.System.{HoldsSystem, free_columns};
+ghost use Rattle.isl_elim.specs.Elimination.{HoldsAtAny};
+ghost use Rattle.isl_affine.specs.Scope.{Scope as Names};
+ghost use Rattle.isl_alternatives.specs.Restricted.{AreRestricted, HoldsAs, IsOver};
+
+use isl_affine::Scope;
+use isl_difference::{live_form, outside};
+use isl_meter::{Cut, Meter};
+use isl_piece::{System, meet};
+use std::alloc::{AllocError, Global};
+
+/// Copies of the systems.
+pub(crate) fn copies(alloc: Global, systems: &[System]) -> Result<Vec<System>, AllocError>
+    ensures { IfOk result (λ copies. copies.items ≡ systems.now) }
+{
+    let mut copies = Vec::with_capacity(alloc, systems.len())?;
+    for system in systems {
+        copies.push(system.copy(alloc)?)?;
+    }
+    Ok(copies)
+}
+
+// Uses a unit for each of the systems where something is found already.
+#[tactic(auto, using(std::proofs::lemmas::Grind::common_steps, isl_meter::proofs::CutLemmas::charges))]
+fn pay(systems: &[System], found: &[System], meter: &mut Meter) -> Result<(), Cut>
+    ensures { MatchResult result
+        (λ _. ((found.now ≡ []) ⊎ (meter.old.units + length systems.now ≤ meter.new.units)) × IsCharged meter.old meter.new)
+        (IsCutBy meter.old meter.new) }
+{
+    if !found.is_empty() {
+        for _turn in 0..systems.len() {
+            meter.unit()?;
+        }
+    }
+    Ok(())
+}
+
+/// Copies of the systems, of which alternatives come beside those that are found: a unit for each but of the first.
+#[tactic(auto, using(std::proofs::lemmas::Grind::common_steps, isl_meter::proofs::CutLemmas::charges))]
+pub(crate) fn begun(
+    alloc: Global,
+    systems: &[System],
+    found: &[System],
+    meter: &mut Meter,
+) -> Result<Vec<System>, Cut>
+    ensures { MatchResult result
+        (λ copies. (copies.items ≡ systems.now)
+        × ((found.now ≡ []) ⊎ (meter.old.units + length systems.now ≤ meter.new.units)) × IsCharged meter.old meter.new)
+        (IsCutBy meter.old meter.new) }
+{
+    pay(systems, found, meter)?;
+    Ok(copies(alloc, systems)?)
+}
+
+// Each of the systems together with the other.
+#[tactic(auto, using(std::proofs::lemmas::Grind::common_steps, isl_meter::proofs::CutLemmas::charges))]
+fn met_with(alloc: Global, systems: &[System], other: &System) -> Result<Vec<System>, AllocError>
+    requires columns { All (λ s. free_columns s ≡ free_columns other.now) systems.now }
+    ensures { (g : Gauge) (scope : Names) → All (IsOver g scope) systems.now → IsOver g scope other.now
+        → IfOk result (λ met. AreRestricted g g scope systems.now (λ point env. HoldsSystem other.now point) met.items) }
+{
+    let mut met = Vec::with_capacity(alloc, systems.len())?;
+    for system in systems {
+        let both = meet(alloc, system, other)?;
+        met.push(both)?;
+    }
+    Ok(met)
+}
+
+// The systems together with some of the others, over the columns of the scope: one unit for each pair but those of the first other.
+#[tactic(auto, using(std::proofs::lemmas::Grind::common_steps, isl_meter::proofs::CutLemmas::charges))]
+fn met(
+    alloc: Global,
+    systems: &[System],
+    others: &[System],
+    scope: &Scope,
+    meter: &mut Meter,
+) -> Result<Vec<System>, Cut>
+    requires over { All (IsOver meter.old scope.now) systems.now }
+    requires others_over { All (IsOver meter.old scope.now) others.now }
+    ensures { MatchResult result
+        (λ met. AreRestricted meter.old meter.new scope.now systems.now (λ point env. HoldsAtAny others.now point) met.items)
+        (IsCutBy meter.old meter.new) }
+{
+    let mut found = Vec::new(alloc);
+    for other in others {
+        pay(systems, found.as_slice(), meter)?;
+        let mut more = met_with(alloc, systems, other)?;
+        found.append(&mut more)?;
+    }
+    Ok(found)
+}
+
+fn references<'a>(alloc: Global, systems: &'a [System]) -> Result<Vec<&'a System>, AllocError>
+    ensures { IfOk result (λ list. map (λ system. system.now) list.items ≡ systems.now) }
+{
+    let mut list = Vec::with_capacity(alloc, systems.len())?;
+    for system in systems {
+        list.push(system)?;
+    }
+    Ok(list)
+}
+
+// The systems without the others, over the columns of the scope.
+#[tactic(auto, using(std::proofs::lemmas::Grind::common_steps, isl_meter::proofs::CutLemmas::charges))]
+fn without(
+    alloc: Global,
+    systems: &[System],
+    others: &[System],
+    scope: &Scope,
+    meter: &mut Meter,
+) -> Result<Vec<System>, Cut>
+    requires over { All (IsOver meter.old scope.now) systems.now }
+    requires others_over { All (IsOver meter.old scope.now) others.now }
+    ensures { MatchResult result
+        (λ left. AreRestricted meter.old meter.new scope.now systems.now (λ point env. ¬ HoldsAtAny others.now point) left.items)
+        (IsCutBy meter.old meter.new) }
+{
+    let list = references(alloc, others)?;
+    let mut found = Vec::new(alloc);
+    for system in systems {
+        let mut left = outside(alloc, system, list.as_slice(), meter)?;
+        found.append(&mut left)?;
+    }
+    Ok(found)
+}
+
+/// The systems together with some of the others, or without all of them.
+pub(crate) fn selected(
+    alloc: Global,
+    systems: &[System],
+    others: &[System],
+    holds: bool,
+    scope: &Scope,
+    meter: &mut Meter,
+) -> Result<Vec<System>, Cut>
+    requires over { All (IsOver meter.old scope.now) systems.now }
+    requires others_over { All (IsOver meter.old scope.now) others.now }
+    ensures { MatchResult result
+        (λ new. AreRestricted meter.old meter.new scope.now systems.now
+        (λ point env. HoldsAs holds (λ e. HoldsAtAny others.now point) point env) new.items)
+        (IsCutBy meter.old meter.new) }
+{
+    if holds {
+        return met(alloc, systems, others, scope, meter);
+    }
+    without(alloc, systems, others, scope, meter)
+}
+
+/// The systems that hold somewhere, in their normal form.
+#[tactic(auto, using(std::proofs::lemmas::Grind::common_steps, isl_meter::proofs::CutLemmas::charges))]
+pub(crate) fn live(
+    alloc: Global,
+    systems: Vec<System>,
+    scope: &Scope,
+    meter: &mut Meter,
+) -> Result<Vec<System>, Cut>
+    requires over { All (IsOver meter.old scope.now) systems.items }
+    ensures { MatchResult result
+        (λ live. AreRestricted meter.old meter.new scope.now systems.items (λ point env. Unit {0}) live.items)
+        (IsCutBy meter.old meter.new) }
+{
+    let mut live = Vec::new(alloc);
+    for system in systems {
+        let found = live_form(alloc, system, meter)?;
+        if let Some(part) = found {
+            live.push(part)?;
+        }
+    }
+    Ok(live)
+}
