@@ -1,3 +1,4 @@
+pub mod Made
 pub mod Value
 pub use Rattle.isl_meter.specs.Gauge
 pub use Rattle.isl_linear.specs.Rows

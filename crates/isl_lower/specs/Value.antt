@@ -1,5 +1,5 @@
--- public: the value that a plain literal writes. (isl manual, on sets, relations and their notation)
-use Rattle.std.specs.Prelude.{◌≡◌, ◌↔◌, List, [], All, Any, Option}
+-- public: the value that a literal writes. (isl manual, on sets, relations and their notation)
+use Rattle.std.specs.Prelude.{◌≡◌, ◌↔◌, List, [], All, Any, Option, true}
 use Rattle.std.specs.List.{filter_map}
 use Rattle.isl_meter.specs.Gauge.{Gauge}
 use Rattle.isl_space.specs.Name.{Name}
@@ -11,32 +11,38 @@ use Rattle.isl_union.specs.KeptValue.{KeptPiece, KeptValue, Has}
 use Rattle.isl_union.specs.Live.{normal_of, AreLiveOf}
 use Rattle.isl_tree.specs.declared.tree.PieceTree.{PieceTree}
 use Rattle.isl_tree.specs.declared.tree.Literal.{Literal}
+use Rattle.isl_tree.specs.Divisors.{ArePositive, piece_divisors}
 use Rattle.isl_tree.specs.Literal.{space_of_piece, LiteralHas}
+use Rattle.isl_tree.specs.Plain.{is_plain}
 use Rattle.isl_linear.specs.Rows.{rows_written}
 use Rattle.isl_linear.specs.Passes.{PiecePasses}
 
--- what a literal declares and names is what a value may have
+-- what a literal declares and names is what a value may have, and what it divides by is at least 1
 pub record IsWellFormedLiteral (literal : Literal) : Type 0 where
   pub params : IsParameterList literal.params
   pub spaces : All (λ piece. IsWellFormedSpace (space_of_piece piece)) literal.pieces
+  pub divisors : All (λ piece. ArePositive (piece_divisors piece)) literal.pieces
 
--- the piece's space with the normal rows of those that it writes; nothing where one of them never holds
+-- the space of a plain piece with the normal rows of those that it writes; nothing where one of them never holds
 abbrev pub piece_lowered : List Name → PieceTree → Option KeptPiece
 piece_lowered params piece = normal_of (record { space = space_of_piece piece; definitions = []; rows = rows_written params piece })
 
--- the declared parameters, and the normal pieces that are written. It is no value that may be kept where one of them has no element
+-- the declared parameters, and the normal pieces that a plain literal writes. It is no value that may be kept where one of them has no
+-- element
 abbrev pub value_lowered : Literal → KeptValue
 value_lowered literal = record { params = literal.params; pieces = filter_map (piece_lowered literal.params) literal.pieces }
-
--- the value has the declared parameters, and of the normal pieces that are written those that have an element at some valuation
-pub record IsLowered (literal : Literal) (value : KeptValue) : Type 0 where
-  pub params : value.params ≡ literal.params
-  pub pieces : AreLiveOf literal.params (value_lowered literal).pieces value.pieces
 
 -- at every valuation the value has the literal's elements, and no others
 abbrev pub HasSameElements : Literal → KeptValue → Type 0
 HasSameElements literal value =
     (valuation : Valuation) (element : Element) → Has value valuation element ↔ LiteralHas literal valuation element
+
+-- the value has the declared parameters and the literal's elements. That of a plain literal has, of the normal pieces that are written,
+-- those that have an element at some valuation
+pub record IsLowered (literal : Literal) (value : KeptValue) : Type 0 where
+  pub params : value.params ≡ literal.params
+  pub elements : HasSameElements literal value
+  pub plain : is_plain literal ≡ true → AreLiveOf literal.params (value_lowered literal).pieces value.pieces
 
 -- a row of one of the pieces passes the limit
 abbrev pub PiecesPass : Gauge → List Name → List PieceTree → Type 0

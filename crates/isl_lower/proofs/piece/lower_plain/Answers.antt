@@ -9,18 +9,19 @@ use Rattle.isl_union.specs.Live.{normal_of, IsLiveOf}
 use Rattle.isl_union.specs.Piece.{kept_piece, piece_of, IsPieceOf}
 use Rattle.isl_linear.specs.Rows.{rows_written}
 use Rattle.isl_lower.specs.Value.{piece_lowered}
-use Rattle.isl_lower.proofs.ValueLaws.{found_within, made_free, made_lowered, system_made, there_within}
-use Rattle.isl_lower.proofs.value.lower_piece.Goals as goal
+use Rattle.isl_lower.proofs.ValueLaws.{found_within, made_free, made_lowered, system_made, there_within, width_made}
+use Rattle.isl_lower.proofs.piece.lower_plain.Goals as goal
 
 pub live_piece-requires : goal.live_piece-requires
 live_piece-requires c =
     let params = c.args.params.now in
     let piece = c.args.piece.now in
+    let plain = c.requires.plain in
     let h = c.rows_written.new.meter in
     let written = c.in_ok-rows.ensures.rows in
     let s = c.from_rows-system.result in
-    let plain = c.requires.plain in
-    let is = system_made params piece plain c.in_ok-rows.rows c.width.result s written.0 c.width.ensures c.from_rows-system.ensures in
+    let wide = width_made params piece plain (space_form_of c.in_ok-space.space) c.width.result c.in_ok-space.ensures c.width.ensures in
+    let is = system_made params piece plain c.in_ok-rows.rows _ s written.0 wide c.from_rows-system.ensures in
     let fits : All (IsRowWithin h) (rows_written params piece) =
     subst (λ (g : Gauge). All (IsRowWithin g) (rows_written params piece)) (sym written.2) (rw written.0 at written.1) in
     subst (IsSystemWithin h) (sym is) (there_within params piece plain h fits)
@@ -35,7 +36,8 @@ returns-clause-found c =
     let s = c.from_rows-system.result in
     let space = space_form_of c.in_ok-space.space in
     let same = c.in_ok-space.ensures in
-    let is = system_made params piece plain c.in_ok-rows.rows c.width.result s written.0 c.width.ensures c.from_rows-system.ensures in
+    let wide = width_made params piece plain space c.width.result same c.width.ensures in
+    let is = system_made params piece plain c.in_ok-rows.rows _ s written.0 wide c.from_rows-system.ensures in
     let fits = rw written.0 at written.1 in
     let formed = subst IsWellFormedSpace (sym same) c.requires.well_formed in
     IfOk-weaker c.live_piece.result

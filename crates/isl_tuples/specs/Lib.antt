@@ -1,0 +1,10 @@
+pub mod Entries
+pub mod Names
+pub mod Tuples
+pub use Rattle.isl_tree.specs.Divisors
+pub use Rattle.isl_affine.specs.Scope
+pub use Rattle.isl_meter.specs.Gauge
+pub use Rattle.isl_piece.specs.System
+pub use Rattle.isl_space.specs.Valuation
+pub use Rattle.isl_tree.specs.Known
+pub use Rattle.isl_tree.specs.Literal
