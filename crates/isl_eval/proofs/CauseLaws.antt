@@ -118,7 +118,7 @@ module _ (before : Moment) (bytes : List ℕ) where
           ),
         );
         supported = supported;
-        sound = spelled_sound bytes stmt spelled supported within;
+        sound = spelled_sound bytes stmt spelled within;
       }
 
       err_of : (refusal : Refusal) → Judged (limit_of before.meter) ts stmt (Err refusal) → FirstGives (IsThere before bytes) causes refusal

@@ -1,6 +1,6 @@
 -- What is kept of expressions.
 use Rattle.std.proofs.Common.{◌≡◌, ◌∙◌, ◌↔◌, refl, sym, ap, subst, ℕ, ℤ, true, false, is_some, List, [], ◌∷◌, ◌++◌, Option, Some, None, option_map}
-use Rattle.std.specs.Prelude.{not, ◌||◌, unsigned_abs}
+use Rattle.std.specs.Prelude.{not, ◌||◌, unsigned_abs, Result, Ok, Err, IfOk, MatchResult}
 use Rattle.std.specs.List.{list_any}
 use Rattle.std.specs.Str.{bytes_eq}
 use Rattle.std.proofs.lemmas.Bool.{false≢true, or_parts, not-false}
@@ -8,6 +8,8 @@ use Rattle.std.proofs.lemmas.List.Elements.{All-head}
 use Rattle.std.proofs.lemmas.List.{append-nil}
 use Rattle.indexmap.specs.IndexSet.{insert_all, insert_key}
 use Rattle.isl_meter.specs.Gauge.{Gauge, limit_of}
+use Rattle.isl_meter.specs.declared.Cut.{Cut}
+use Rattle.isl_meter.specs.declared.Cut.TheVariants.{NoMemory}
 use Rattle.isl_space.specs.Name.{Name}
 use Rattle.isl_space.specs.Names.{AreDistinct}
 use Rattle.isl_space.specs.Valuation.{Valuation}
@@ -19,7 +21,8 @@ use Rattle.isl_tree.specs.declared.tree.Literal.{Literal}
 use Rattle.isl_tree.specs.Literal.{LiteralHas}
 use Rattle.isl_tree.specs.Plain.{is_plain}
 use Rattle.isl_tree.specs.Known.{literal_is_known}
-use Rattle.isl_lower.specs.Value.{HasSameElements, IsLowered, IsWellFormedLiteral}
+use Rattle.isl_union.specs.Live.{AreLiveOf}
+use Rattle.isl_lower.specs.Value.{value_lowered, IsLowered, IsWellFormedLiteral}
 use Rattle.isl_expr.specs.declared.tree.Expr.{Expr}
 use Rattle.isl_expr.specs.declared.tree.Expr as e
 use Rattle.isl_kinds.specs.Parts.{parts_of}
@@ -89,9 +92,26 @@ literal_makes state limit expr literal value is formed made =
     })
 
 pub literal_value : (limit : ℕ) (literal : Literal) (value : KeptValue) → IsLowered literal value → IsKeptValue value → HasNoDefinitions value
-    → HasSameElements literal value → HasNumbersUpTo limit value → IsValueOf (IsLowered literal) literal.params (LiteralHas literal) limit value
-literal_value limit literal value is kept plain same small =
-    record { written = is; kept = kept; params = is.params; elements = same; numbers = small; definitions = plain }
+    → HasNumbersUpTo limit value → IsValueOf (IsLowered literal) literal.params (LiteralHas literal) limit value
+literal_value limit literal value is kept plain small =
+    record { written = is; kept = kept; params = is.params; elements = is.elements; numbers = small; definitions = plain }
+
+-- without its definitions it is still what the literal writes
+pub flat_lowered : (literal : Literal) (value flat : KeptValue) → IsLowered literal value → (is_plain literal ≡ true → HasNoDefinitions value) → flat.params ≡ value.params
+    → ((valuation : Valuation) (element : Element) → Has flat valuation element ↔ Has value valuation element) → (HasNoDefinitions value → flat ≡ value) → IsLowered literal flat
+flat_lowered literal value flat is none params same itself = record {
+  params = params ∙ is.params;
+  elements = λ valuation element.
+      ((λ h. (is.elements valuation element).0 ((same valuation element).0 h)), (λ h. (same valuation element).1 ((is.elements valuation element).1 h)));
+  plain = λ plain. subst (λ (v : KeptValue). AreLiveOf literal.params (value_lowered literal).pieces v.pieces) (sym (itself (none plain))) (is.plain plain);
+}
+
+-- the same of what the call leaves that makes it
+pub flat_result : (literal : Literal) (value : KeptValue) (g h : Gauge) (result : Result KeptValue Cut) → IsLowered literal value → (is_plain literal ≡ true → HasNoDefinitions value)
+    → IfOk result (λ flat. flat.params ≡ value.params) → ((valuation : Valuation) (element : Element) → IfOk result (λ flat. Has flat valuation element ↔ Has value valuation element))
+    → (HasNoDefinitions value → MatchResult result (λ flat. flat ≡ value) (λ cut. cut ≡ NoMemory) × (h ≡ g)) → IfOk result (IsLowered literal)
+flat_result literal value g h (Ok flat) is none params same itself = flat_lowered literal value flat is none params same (λ plain. (itself plain).0)
+flat_result literal value g h (Err cut) is none params same itself = tt
 
 pub literal_paid : (expr : Expr) (literal : Literal) (g h : Gauge) → expr ≡ e.Literal literal → IsPaid true g h → IsPaid (list_any uses_units (parts_of expr)) g h
 literal_paid expr literal g h is paid = subst (λ (x : Expr). IsPaid (list_any uses_units (parts_of x)) g h) (sym is) paid
@@ -100,17 +120,16 @@ pub literal_unmade : (expr : Expr) (literal : Literal) (g h : Gauge) (refusal : 
     → IsWhyUnmade (list_any uses_units (parts_of expr)) g h refusal
 literal_unmade expr literal g h refusal is why = subst (λ (x : Expr). IsWhyUnmade (list_any uses_units (parts_of x)) g h refusal) (sym is) why
 
--- ---- a name is bound, and a literal plain and known
+-- ---- a name is bound, and a literal known
 pub never_unbound : (state : StateView) (name : Name) → kept_of state name ≡ None → ¬ (has_unknown (scope_of state) (e.Name name) ≡ false)
 never_unbound state name none known =
     let unbound : bound_to (scope_of state) name ≡ None = bound_at state name ∙ ap (option_map type_of) none in
     false≢true (sym known ∙ ap (λ (o : Option TypeView). not (is_some o) || false) unbound)
 
 pub only_literal : (scope : ScopeView) (expr : Expr) (literal : Literal) → expr ≡ e.Literal literal → IsSoundExpr scope expr
-    → (is_plain literal ≡ true) × (literal_is_known literal ≡ true) × IsWellFormedLiteral literal
+    → (literal_is_known literal ≡ true) × IsWellFormedLiteral literal
 only_literal scope expr literal is sound =
     let of_literal = subst (IsSoundExpr scope) is sound in (
-      not-false (is_plain literal) (or_parts (not (is_plain literal)) false of_literal.supported).0,
       not-false (literal_is_known literal) (or_parts (not (literal_is_known literal)) false of_literal.known).0,
       All-head IsWellFormedLiteral literal [] of_literal.literals,
     )

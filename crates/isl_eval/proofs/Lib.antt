@@ -2,6 +2,7 @@ pub mod LexLaws
 pub mod NameLaws
 pub mod LiteralLaws
 pub mod PartLaws
+pub mod SizeLaws
 pub mod SoundLaws
 pub mod CauseLaws
 pub mod StateLaws

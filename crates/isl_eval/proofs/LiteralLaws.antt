@@ -27,15 +27,18 @@ use Rattle.isl_statement.specs.declared.word.Role.TheVariants as role
 use Rattle.isl_statement.specs.Expression.{row_of, post_of, dependence}
 use Rattle.isl_statement.specs.ExpressionGrammar as g
 use Rattle.isl_statement.specs.StatementGrammar as statement
-use Rattle.isl_eval.proofs.NameLaws.{Has, IsNamedLiteral, whatever, pure_has, bind_has, then_has, either_has, many_has, outline_has}
+use Rattle.isl_formula.proofs.SpelledLaws.{Has, whatever, pure_has, bind_has, then_has, either_has, many_has}
+use Rattle.isl_text.proofs.DivisorLaws.{IsDivided, outline_divided}
+use Rattle.isl_eval.proofs.NameLaws.{IsNamedLiteral, outline_has}
 
--- a literal by its grammar: named, and formed
+-- a literal by its grammar: named, and formed, with divisors that are at least 1
 pub record IsSpelled (literal : Literal) : Type 0 where
   pub named : IsNamedLiteral literal
   pub formed : is_formed literal ≡ true
+  pub divided : IsDivided literal
 
 literal_has : (n : ℕ) → Has IsSpelled (literal_grammar n)
-literal_has n = record { by = λ a ts tokens l. record { named = (outline_has n).by a ts tokens l.0; formed = l.1 } }
+literal_has n = record { by = λ a ts tokens l. record { named = (outline_has n).by a ts tokens l.0; formed = l.1; divided = (outline_divided n).by a ts tokens l.0 } }
 
 Spelled : List Literal → Type 0
 Spelled literals = All IsSpelled literals

@@ -6,7 +6,7 @@ use Rattle.std.proofs.lemmas.Bool.{false_from_ne_true}
 use Rattle.isl_meter.specs.Gauge.{Gauge, limit_of, IsCharged, IsCutBy, IsKept}
 use Rattle.isl_meter.specs.declared.Cut.{Cut}
 use Rattle.isl_meter.specs.declared.Cut.TheVariants as cuts
-use Rattle.isl_meter.proofs.CutLemmas.{IsKept_refl, IsKept-charged}
+use Rattle.isl_meter.proofs.CutLemmas.{IsCharged_refl, IsKept_refl, IsKept-charged}
 use Rattle.isl_space.specs.Limits.{most_parameters}
 use Rattle.isl_text.specs.declared.refusal.Refusal.{Refusal}
 use Rattle.isl_text.specs.declared.refusal.Refusal.TheVariants as r
@@ -212,7 +212,7 @@ module _ (before : Moment) (bytes : List ℕ) (now : Gauge) (same : now ≡ befo
       subst (Refuses before bytes now) (sym cause.1) (by_cause cause.0 (subst Why cause.1 h))
 
   pub memory_refuses : (refusal : Refusal) → refusal ≡ r.NoMemory → Refuses before bytes now refusal
-  memory_refuses refusal is = subst (Refuses before bytes now) (sym is) (IsKept_refl before.meter now same, λ none. same)
+  memory_refuses refusal is = subst (Refuses before bytes now) (sym is) (IsCharged_refl before.meter now same, λ none. same)
 
 pub unread_refuses : (before : Moment) (bytes : List ℕ) (refusal : Refusal) → IsWhyNot before bytes refusal → Refuses before bytes before.meter refusal
 unread_refuses before bytes refusal (inl is) = memory_refuses before bytes before.meter refl refusal is
@@ -313,7 +313,7 @@ module _ (before : Moment) (bytes : List ℕ) (stmt : Stmt) (read : IsRead befor
       (able, has_work bytes stmt read.spelled (λ none. let bad : cuts.Overflow ≡ cuts.NoMemory = (free none).0 in absurd (let no : ⊥ = cc in no)), by)
   cut_refuses now cuts.Budget able by free =
       (able, has_work bytes stmt read.spelled (λ none. let bad : cuts.Budget ≡ cuts.NoMemory = (free none).0 in absurd (let no : ⊥ = cc in no)), by)
-  cut_refuses now cuts.NoMemory able by free = (by.kept, λ none. (free (no_work bytes stmt read.spelled none)).1)
+  cut_refuses now cuts.NoMemory able by free = (by.cause, λ none. (free (no_work bytes stmt read.spelled none)).1)
 
   pub unworked_refuses : (now : Gauge) (refusal : Refusal) → IsWhyUnworked (scope_of before.state) stmt before.meter now refusal → Refuses before bytes now refusal
   unworked_refuses now refusal (inl h) = unworkable_refuses now refusal h.1 h.0
@@ -389,7 +389,7 @@ module _ (before : Moment) (bytes : List ℕ) (stmt : Stmt) (read : IsRead befor
   pub performed_refuses : (result : Result Tally Refusal) → Performs w before.state text next all result → IfErr result (Refuses before bytes now)
   performed_refuses (Ok tally) done = tt
   performed_refuses (Err refusal) done = subst (Refuses before bytes now) (sym done.0)
-      (IsKept-charged before.meter now made.2.charged, λ none. made.2.free (no_work bytes stmt read.spelled none))
+      (made.2.charged, λ none. made.2.free (no_work bytes stmt read.spelled none))
 
   pub performed_meter : (result : Result Tally Refusal) → MatchResult result (λ _. IsCharged before.meter now) (λ _. IsKept before.meter now)
   performed_meter (Ok tally) = made.2.charged

@@ -1,7 +1,7 @@
 -- public: why a complete statement is refused.
 use Rattle.std.specs.Prelude.{◌≡◌, ◌⊎◌, ◌<◌, ℕ, Bool, true, false, List, [], ◌∷◌, length, None, Err}
 use Rattle.std.specs.List.{list_any}
-use Rattle.isl_meter.specs.Gauge.{Gauge, IsCutBy, IsKept, limit_of}
+use Rattle.isl_meter.specs.Gauge.{Gauge, IsCharged, IsCutBy, limit_of}
 use Rattle.isl_meter.specs.declared.Cut.TheVariants as cut
 use Rattle.isl_space.specs.Limits.{most_parameters}
 use Rattle.isl_space.specs.Name.{Name}
@@ -114,9 +114,9 @@ abbrev pub SparesUnits : Moment → List ℕ → Gauge → Type 0
 SparesUnits before bytes now = ¬ OfStatement bytes HasWork → now ≡ before.meter
 
 -- Why a complete statement is refused, and what it did to the meter until then. Overflow and want of units may come only while a
--- valid statement is worked out in which work stands, and both are counted; memory may end at any time.
+-- valid statement is worked out in which work stands, and both are counted. Memory may end at any time, and that counts nothing.
 abbrev pub Refuses : Moment → List ℕ → Gauge → Refusal → Type 0
 Refuses before bytes now r.Overflow = IsValid before bytes × OfStatement bytes HasWork × IsCutBy before.meter now cut.Overflow
 Refuses before bytes now r.Budget = IsValid before bytes × OfStatement bytes HasWork × IsCutBy before.meter now cut.Budget
-Refuses before bytes now r.NoMemory = IsKept before.meter now × SparesUnits before bytes now
+Refuses before bytes now r.NoMemory = IsCharged before.meter now × SparesUnits before bytes now
 Refuses before bytes now refusal = FirstGives (IsThere before bytes) causes refusal × (now ≡ before.meter)

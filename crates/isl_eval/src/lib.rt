@@ -1,6 +1,6 @@
 //! One statement of a script: what it answers and what it binds, or why it is refused.
 //!
-//! A statement is empty, or it binds or shows what names and plain literals come to by `+`, `*` and `^-1`.
+//! A statement is empty, or it binds or shows what names and literals come to by `+`, `*` and `^-1`.
 #![tactic(auto)]
 
 mod eval;

@@ -2,10 +2,10 @@
 
 ghost use Rattle.std.specs.Prelude.{◌≡◌, ◌≤◌, true, false, IfErr, IfOk, MatchResult, length, unsigned_abs};
 ghost use Rattle.std.specs.List.{list_any};
-ghost use Rattle.isl_meter.specs.Gauge.{limit_of};
+ghost use Rattle.isl_meter.specs.Gauge.{limit_of, IsCharged, IsCutBy};
 ghost use Rattle.isl_space.specs.Limits.{most_parameters};
-ghost use Rattle.isl_union.specs.KeptValue.{Has, HasNoDefinitions};
-ghost use Rattle.isl_tree.specs.Plain.{is_plain};
+ghost use Rattle.isl_union.specs.KeptValue.{Has, HasNoDefinitions, IsKeptValue};
+ghost use Rattle.isl_union.specs.Numbers.{IsWithinLimit};
 ghost use Rattle.isl_lower.specs.Value.{IsWellFormedLiteral, IsLowered};
 ghost use Rattle.isl_tree.specs.Literal.{LiteralHas};
 ghost use Rattle.isl_tree.specs.Known.{literal_is_known};
@@ -42,9 +42,23 @@ fn refusal_of(cut: Cut) -> Refusal
     }
 }
 
+/// What a literal writes, in pieces that define no column.
+#[tactic(auto, using(std::proofs::lemmas::Grind::common_steps, isl_meter::proofs::CutLemmas::charges))]
+fn flat_value(alloc: Global, literal: &Literal, meter: &mut Meter) -> Result<Value, Cut>
+    requires known { literal_is_known literal.now ≡ true }
+    requires well_formed { IsWellFormedLiteral literal.now }
+    ensures exact { IfOk result (IsLowered literal.now) }
+    ensures kept { IfOk result IsKeptValue }
+    ensures definitions { IfOk result HasNoDefinitions }
+    ensures within { IfOk result (IsWithinLimit meter.old) }
+    ensures meter { MatchResult result (λ _. IsCharged meter.old meter.new) (IsCutBy meter.old meter.new) }
+{
+    let value = lower(alloc, literal, meter)?;
+    value.flat(alloc, meter)
+}
+
 /// What a literal writes, as a value.
 fn lowered(alloc: Global, literal: &Literal, meter: &mut Meter) -> Result<Rc<Value>, Refusal>
-    requires plain { is_plain literal.now ≡ true }
     requires known { literal_is_known literal.now ≡ true }
     requires well_formed { IsWellFormedLiteral literal.now }
     ensures { MatchResult result
@@ -52,7 +66,7 @@ fn lowered(alloc: Global, literal: &Literal, meter: &mut Meter) -> Result<Rc<Val
         (unsigned_abs (limit_of meter.old)) value.value × IsPaid true meter.old meter.new)
         (IsWhyUnmade true meter.old meter.new) }
 {
-    match lower(alloc, literal, meter) {
+    match flat_value(alloc, literal, meter) {
         Ok(value) => Ok(Rc::new(alloc, value)?),
         Err(cut) => Err(refusal_of(cut)),
     }

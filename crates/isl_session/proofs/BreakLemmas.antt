@@ -44,6 +44,6 @@ pub meter_in_statement : (before : Moment) (bytes : List ℕ) (now : Gauge) (ref
     → IsKept (record before.meter { units = 0 }) now → IsMeterAt (place_of refusal) before.meter now
 meter_in_statement before bytes now Overflow cause kept = kept
 meter_in_statement before bytes now Budget cause kept = kept
-meter_in_statement before bytes now NoMemory cause kept = kept
+meter_in_statement before bytes now NoMemory cause kept = cause.0
 meter_in_statement before bytes now refusal cause kept =
     subst (λ (p : Place). IsMeterAt p before.meter now) (sym (place_of_first (c.IsThere (started before) bytes) causes refusal cause.0)) kept

@@ -1,5 +1,5 @@
 -- A session's meter over one statement after another.
-use Rattle.std.proofs.Common.{◌≡◌, refl}
+use Rattle.std.proofs.Common.{◌≡◌, refl, arith}
 use Rattle.isl_meter.specs.Gauge.{Gauge, IsCharged}
 use Rattle.isl_session.specs.View.{Carries}
 
@@ -15,3 +15,7 @@ carries_trans g h k first second = record { same = same_on g h k first.same seco
 -- a statement that begins with the whole budget
 pub carries_started : (g h : Gauge) → IsCharged (record g { units = 0 }) h → Carries g h
 carries_started g h charged = record { same = charged.same }
+
+-- a meter that is as it was has used units alone since a statement's start
+pub charged_from_start : (g h : Gauge) → h ≡ g → IsCharged (record g { units = 0 }) h
+charged_from_start g h e = rw e (record { same = refl; units = omega arith })

@@ -1,7 +1,7 @@
 -- public: a session as it is seen from outside, and what a piece of a script does to it.
 use Rattle.std.specs.Prelude.{◌≡◌, ◌⊎◌, ℕ, ◌+◌, ◌<◌, ◌≤◌, List, [], ◌∷◌, ◌++◌, All, length, map, Option, Some, None, true, false, Result, MatchResult}
 use Rattle.std.specs.List.{concat}
-use Rattle.isl_meter.specs.Gauge.{Gauge, IsKept}
+use Rattle.isl_meter.specs.Gauge.{Gauge, IsCharged, IsKept}
 use Rattle.isl_stmt.specs.Script.{statements, rest_of, ends, IsBlank, IsOpen}
 use Rattle.isl_text.specs.declared.refusal.Refusal.{Refusal}
 use Rattle.isl_text.specs.declared.refusal.Refusal.TheVariants.{Unfinished}
@@ -95,11 +95,11 @@ BreaksIn at_end view byte now refusal = ⊥
 BreaksIn at_read view byte now refusal = ⊥
 BreaksIn at_write view byte now refusal = ⊥
 
--- The meter at a refusal, after that of the statements answered. Only the work on a statement, which begins with no unit used, and
--- which want of memory may end uncounted, raises a count; limit and budget stay, and no count falls.
+-- The meter at a refusal, after that of the statements answered. Only the work on a statement, which begins with no unit used, may
+-- use units and count a refusal; limit and budget stay, and no count falls. Want of memory counts nothing.
 abbrev pub IsMeterAt : Place → Gauge → Gauge → Type 0
 IsMeterAt in_statement before now = IsKept (record before { units = 0 }) now
-IsMeterAt anywhere before now = IsKept (record before { units = 0 }) now
+IsMeterAt anywhere before now = IsCharged (record before { units = 0 }) now
 IsMeterAt place before now = now ≡ before
 
 -- A session is refused at a byte. Only its meter changes, and its room does not fall.

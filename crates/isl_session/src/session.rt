@@ -80,6 +80,7 @@ impl Session {
     }
 
     // Takes one byte, and tells whether it ended a statement, which is then answered.
+    #[tactic(auto, using(std::proofs::lemmas::Grind::common_steps, crate::proofs::MeterLemmas::charged_from_start))]
     fn take_byte(&mut self, byte: u8, text: &mut Vec<u8>) -> Result<bool, Refusal>
         requires { self.old.fault ≡ None }
         ensures ok { IfOk result (λ ended. (answers : List (List ℕ))

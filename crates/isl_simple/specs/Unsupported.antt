@@ -1,7 +1,6 @@
 -- public: what the language has and this program has not yet.
-use Rattle.std.specs.Prelude.{Bool, true, false, not, ◌&&◌, Option, Some, None}
+use Rattle.std.specs.Prelude.{Bool, true, false, ◌&&◌, Option, Some, None}
 use Rattle.std.specs.List.{list_any}
-use Rattle.isl_tree.specs.Plain.{is_plain}
 use Rattle.isl_expr.specs.declared.tree.Binary.TheVariants.{Union, Intersection}
 use Rattle.isl_expr.specs.declared.tree.ValueKind.{ValueKind}
 use Rattle.isl_expr.specs.declared.tree.ValueKind.TheVariants.{Set, Map}
@@ -10,10 +9,10 @@ use Rattle.isl_kinds.specs.Lines.{is_kind}
 use Rattle.isl_kinds.specs.Parts.{Part, name, literal, operator, inverse, parts_of_statement}
 use Rattle.isl_kinds.specs.Typed.{TypeView, ScopeView, bound_to, kind_of_pieces}
 
--- the parts of expressions that are supported are names, plain literals, `+`, `*` and `^-1`
+-- the parts of expressions that are supported are names, literals, `+`, `*` and `^-1`
 abbrev pub is_later : Part → Bool
 is_later (name n) = false
-is_later (literal l) = not (is_plain l)
+is_later (literal l) = false
 is_later (operator Union) = false
 is_later (operator Intersection) = false
 is_later inverse = false

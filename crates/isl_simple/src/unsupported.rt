@@ -7,7 +7,6 @@ ghost use Rattle.isl_simple.specs.Unsupported as spec;
 ghost use Rattle.isl_simple.specs.Unsupported.{is_later};
 
 use isl_expr::tree::{Binary, Expr, Link, Postfix, Stmt};
-use isl_linear::is_plain;
 
 fn is_later_operator(sign: Binary) -> bool
     ensures { result ≡ is_later (operator sign) }
@@ -21,8 +20,7 @@ fn is_later_expression(expr: &Expr) -> bool
     ensures { result ≡ list_any is_later (parts_of expr.now) }
 {
     match expr {
-        Expr::Name(_) => false,
-        Expr::Literal(literal) => !is_plain(literal),
+        Expr::Name(_) | Expr::Literal(_) => false,
         Expr::Row(first, links) => {
             is_later_expression(first.get()) | are_later_links(links.as_slice())
         }

@@ -69,7 +69,7 @@ value_of-unreachable-requires t c =
 
 pub value_of-lowered-requires-clause-well_formed : goal.value_of-lowered-requires-clause-well_formed
 value_of-lowered-requires-clause-well_formed t c =
-    (only_literal (scope_of c.args.state.now) c.args.expr.now c.in-Literal.literal c.in-Literal.is c.requires.ready.sound).2
+    (only_literal (scope_of c.args.state.now) c.args.expr.now c.in-Literal.literal c.in-Literal.is c.requires.ready.sound).1
 
 pub value_of-value_of-requires : goal.value_of-value_of-requires
 value_of-value_of-requires t c = (
@@ -117,7 +117,7 @@ value_of-returns-in_ok-shared-in-Some t c = (
 
 pub value_of-returns-in-Literal : goal.value_of-returns-in-Literal
 value_of-returns-in-Literal t c =
-    let formed = (only_literal (scope_of c.args.state.now) c.args.expr.now c.in-Literal.literal c.in-Literal.is c.requires.ready.sound).2 in
+    let formed = (only_literal (scope_of c.args.state.now) c.args.expr.now c.in-Literal.literal c.in-Literal.is c.requires.ready.sound).1 in
     match_map c.lowered.result _ _ _ _
     (λ made one. (
       literal_makes c.args.state.now (limit_of c.args.meter.now) c.args.expr.now c.in-Literal.literal made.value c.in-Literal.is formed one.0,
