@@ -13,6 +13,7 @@ use Rattle.isl_text.specs.Literal.{literal_grammar}
 use Rattle.isl_text.specs.Read.{Answers, IsLiteralAt, has_wide_number, judged}
 use Rattle.isl_union.specs.Numbers.{HasNumbersUpTo}
 use Rattle.isl_readback.specs.Tree.{printed_tree}
+use Rattle.isl_readback.specs.Written.{HasFewRemainders}
 use Rattle.isl_readback.specs.RoundTrip.{IsWritableValue}
 use Rattle.isl_readback.specs.Accepted.{HasQuietNames, IsAccepted}
 use Rattle.isl_readback.proofs.TokenLaws.{Tokens}
@@ -28,8 +29,8 @@ whole_range ts = take_all (length ts - 0) ts (omega arith)
 not_refused : (limit : ℕ) (ts : List Token) (literal : Literal) (next : ℕ) → is_within literal ≡ true → has_wide_number (pos limit) ts ≡ false → judged (pos limit) ts literal next ≡ Ok (literal, next)
 not_refused limit ts literal next within small = rw (within, small) refl
 
-pub printed_accepted : (limit : ℕ) (value : KeptValue) → limit < too_great → IsWritableValue value → HasNumbersUpTo limit value → HasQuietNames value → IsAccepted limit value
-printed_accepted limit value below writable numbers quiet ts result lexed exactly =
+pub printed_accepted : (limit : ℕ) (value : KeptValue) → limit < too_great → IsWritableValue value → HasFewRemainders value → HasNumbersUpTo limit value → HasQuietNames value → IsAccepted limit value
+printed_accepted limit value below writable few numbers quiet ts result lexed exactly =
     let written = tree_spelled value writable.kept writable.numbers writable.uniform in
     let same : printed_tokens value ≡ ts = some_same (printed_tokens value) ts (sym (tokens-printed value writable.kept writable.numbers) ∙ lexed) in
     let read : written.0 ≡ ts = some_same written.0 ts (sym written.1 ∙ lexed) in
@@ -40,4 +41,4 @@ printed_accepted limit value below writable numbers quiet ts result lexed exactl
     let answer = exactly.some shallow (printed_tree value) (length ts) stands in
     let small : has_wide_number (pos limit) (slice_range ts 0 (length ts)) ≡ false =
     ap (has_wide_number (pos limit)) (whole ∙ sym same) ∙ narrow limit below value writable numbers in
-    subst (Answers result) (not_refused limit (slice_range ts 0 (length ts)) (printed_tree value) (length ts) (tree_within value writable.kept writable.comparisons) small) answer
+    subst (Answers result) (not_refused limit (slice_range ts 0 (length ts)) (printed_tree value) (length ts) (tree_within value writable.kept few) small) answer

@@ -78,23 +78,33 @@ level limit d low = let small : d ≤ 200 = omega (arith, low) in record {
   semicolon = one_leads (at d) (sign (codes ";")) d small refl;
   arrow = one_leads (at d) (sign (codes "->")) d small refl;
   conjunction = one_leads (at d) (word (codes "and")) d small refl;
+  differs = one_leads (at d) (sign (codes "!=")) d small refl;
+  remainder = one_leads (at d) (word (codes "mod")) d small refl;
   names = name_level d low;
   numbers = λ n few. one_leads (at d) (number n) d small refl;
 }
 
 -- ---- brackets
-open_square : (d : ℕ) → d ≤ 98 → Leads (at d) (sign (codes "[") ∷ []) (at (d + 1))
-unfolding sign_kind
-open_square d low = one_leads (at d) (sign (codes "[")) (d + 1) (omega (arith, low)) refl
-
-close_square : (d : ℕ) → d ≤ 98 → Leads (at (d + 1)) (sign (codes "]") ∷ []) (at d)
-unfolding sign_kind
-close_square d low = let back : d + 1 - 1 ≡ d = omega arith in one_leads (at (d + 1)) (sign (codes "]")) d (omega (arith, low)) (ap at back)
+-- between what opens a bracket and what closes it
+enclosed : (d : ℕ) (first last : Token) (ts : Tokens) → Leads (at d) (first ∷ []) (at (d + 1)) → Leads (at (d + 1)) (last ∷ []) (at d)
+    → Level (d + 1) ts → Level d (first ∷ (ts ++ last ∷ []))
+enclosed d first last ts opens closes inside =
+    leads-append (at d) (at (d + 1)) (at d) (first ∷ []) (ts ++ last ∷ []) opens
+    (leads-append (at (d + 1)) (at (d + 1)) (at d) ts (last ∷ []) inside closes)
 
 in_squares : (d : ℕ) → d ≤ 98 → (ts : Tokens) → Level (d + 1) ts → Level d (sign (codes "[") ∷ (ts ++ sign (codes "]") ∷ []))
+unfolding sign_kind
 in_squares d low ts inside =
-    leads-append (at d) (at (d + 1)) (at d) (sign (codes "[") ∷ []) (ts ++ sign (codes "]") ∷ []) (open_square d low)
-    (leads-append (at (d + 1)) (at (d + 1)) (at d) ts (sign (codes "]") ∷ []) inside (close_square d low))
+    let back : d + 1 - 1 ≡ d = omega arith in
+    enclosed d (sign (codes "[")) (sign (codes "]")) ts (one_leads (at d) (sign (codes "[")) (d + 1) (omega (arith, low)) refl)
+    (one_leads (at (d + 1)) (sign (codes "]")) d (omega (arith, low)) (ap at back)) inside
+
+in_rounds : (d : ℕ) → d ≤ 98 → (ts : Tokens) → Level (d + 1) ts → Level d (sign (codes "(") ∷ (ts ++ sign (codes ")") ∷ []))
+unfolding sign_kind
+in_rounds d low ts inside =
+    let back : d + 1 - 1 ≡ d = omega arith in
+    enclosed d (sign (codes "(")) (sign (codes ")")) ts (one_leads (at d) (sign (codes "(")) (d + 1) (omega (arith, low)) refl)
+    (one_leads (at (d + 1)) (sign (codes ")")) d (omega (arith, low)) (ap at back)) inside
 
 in_braces : (ts : Tokens) → Level 1 ts → Level 0 (sign (codes "{") ∷ (ts ++ sign (codes "}") ∷ []))
 unfolding sign_kind
@@ -102,8 +112,8 @@ in_braces ts inside =
     leads-append (at 0) (at 1) (at 0) (sign (codes "{") ∷ []) (ts ++ sign (codes "}") ∷ []) (one_leads (at 0) (sign (codes "{")) 1 (omega arith) refl)
     (leads-append (at 1) (at 1) (at 0) ts (sign (codes "}") ∷ []) inside (one_leads (at 1) (sign (codes "}")) 0 (omega arith) refl))
 
-levels : Encloses (Level 0) (Level 1) (Level 1) (Level 2)
-levels = record { declared = in_squares 0 (omega arith); listed = in_squares 1 (omega arith); braced = in_braces }
+levels : Encloses Level
+levels = record { squares = in_squares; rounds = in_rounds; braces = in_braces }
 
 -- ---- values
 calm_form : (form : Form) → IsNamed form → IsQuietForm form → IsCalmForm IsCalm form
@@ -130,5 +140,5 @@ piece_calm params piece kept quiet =
 
 pub printed_leads : (limit : ℕ) (value : KeptValue) → IsWritableValue value → HasNumbersUpTo limit value → HasQuietNames value → Leads (at 0) (printed_tokens value) (at 0)
 printed_leads limit value writable numbers quiet =
-    printed_outside limit IsCalm (Level 0) (Level 1) (Level 1) (Level 2) (level limit 0 (omega arith)) (level limit 1 (omega arith)) (level limit 1 (omega arith)) (level limit 2 (omega arith)) levels value writable numbers
+    printed_outside limit IsCalm Level (level limit) levels value writable.kept numbers
     (λ i d low. (writable.kept.params.named i d low, quiet.params i d low)) (λ i d low. piece_calm value.params _ (writable.kept.pieces i d low) (quiet.spaces i d low))

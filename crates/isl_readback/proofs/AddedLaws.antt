@@ -1,6 +1,7 @@
 -- What the two sides of a printed form add up to.
-use Rattle.std.proofs.Common.{◌≡◌, ◌+◌, ◌∙◌, ℕ, suc, ℤ, pos, negsuc, neg_ℤ, ◌+ℤ◌, ◌*ℤ◌, Bool, true, false, List, [], ◌∷◌, ◌++◌, None, length, set, take, map, replicate, ap, sym, subst, refl, arith}
+use Rattle.std.proofs.Common.{◌≡◌, ◌+◌, ◌∙◌, ℕ, suc, ℤ, pos, negsuc, neg_ℤ, ◌+ℤ◌, ◌*ℤ◌, ◌≤ℤ◌, Bool, true, false, List, [], ◌∷◌, ◌++◌, None, length, set, take, map, replicate, ap, sym, subst, refl, arith}
 use Rattle.std.specs.Prelude.{◌==◌, if◌then◌else◌, slice_index_or}
+use Rattle.std.specs.List.{AllByRecursion}
 use Rattle.std.proofs.lemmas.Bool.{eqb-true}
 use Rattle.std.proofs.lemmas.List.{append_assoc, append-nil, length-append, length-replicate, get_or_at, set_at, replicate_more, take-append-le, take_all}
 use Rattle.isl_math.proofs.Ring.{expand, linear}
@@ -12,7 +13,7 @@ use Rattle.isl_print.specs.declared.sum.Side.TheVariants.{Left, Right}
 use Rattle.isl_print.specs.Sum.{share, terms_of}
 use Rattle.isl_tree.specs.declared.tree.Signed.{Signed}
 use Rattle.isl_linear.specs.Linear.{Amount, Place, amount_of, amounts_of, turned, with_amount, with_amounts, row_of, difference}
-use Rattle.isl_linear.specs.Rows.{added}
+use Rattle.isl_linear.specs.Rows.{Written, numbers_in, added}
 use Rattle.isl_tree.specs.Term.{product_of}
 use Rattle.isl_readback.specs.Tree.{term_tree, number_tree, constant_trees, sum_tree, side_tree}
 
@@ -171,20 +172,64 @@ form_added n place names numbers constant placed same width =
     ∙ ap (λ k. plus (plus (replicate k (pos 0)) (shares false Left numbers)) (shares true Right numbers) ++ constant ∷ []) width
     ∙ ap (λ l. l ++ constant ∷ []) (whole_numbers numbers)
 
--- and so the two sides write the row
-pub row_added : (n : ℕ) (place : Place) (names : List Name) (row : Row) (kind : RowKind) → PlacedFrom place 0 names → length names ≡ length row.coefs → n ≡ length row.coefs
-    → row.kind ≡ kind → row.k ≡ pos 1
-    → added n (kind, difference n place (side_tree Left names row.coefs row.constant) (side_tree Right names row.coefs row.constant) None) ≡ row
-row_added n place names row kind placed same width is one =
-    let form = form_added n place names row.coefs row.constant placed same width in
+-- a form without negative numbers stands on the left whole
+NotNegative : ℤ → Type 0
+NotNegative z = pos 0 ≤ℤ z
+
+left_number : (z : ℤ) → NotNegative z → pos 0 +ℤ signed_share false Left z ≡ z
+unfolding NotNegative
+left_number (pos n) large = omega (arith, linear)
+left_number (negsuc n) large = absurd (omega (arith, linear, large))
+
+left_numbers : (numbers : List ℤ) → AllByRecursion NotNegative numbers → plus (replicate (length numbers) (pos 0)) (shares false Left numbers) ≡ numbers
+left_numbers [] all = refl
+left_numbers (c ∷ numbers) all =
+    ap (λ z. z ∷ plus (replicate (length numbers) (pos 0)) (shares false Left numbers)) (left_number c all.0) ∙ ap (λ l. c ∷ l) (left_numbers numbers all.1)
+
+left_added : (n : ℕ) (place : Place) (names : List Name) (numbers : List ℤ) (constant : ℤ) → PlacedFrom place 0 names → length names ≡ length numbers → n ≡ length numbers
+    → AllByRecursion NotNegative numbers → NotNegative constant
+    → row_of n (difference n place (side_tree Left names numbers constant) [] None) ≡ numbers ++ constant ∷ []
+left_added n place names numbers constant placed same width all large =
+    let zeros = replicate n (pos 0) in
+    let left = map (turned false) (amounts_of n place (side_tree Left names numbers constant)) in
+    let long : length zeros ≡ length numbers = length-replicate n (pos 0) ∙ width in
+    ap (λ row. with_amounts row (left ++ [] ++ [])) (sym (replicate_more n (pos 0)))
+    ∙ ap (with_amounts (zeros ++ pos 0 ∷ [])) (append-nil (left ++ []) ∙ append-nil left)
+    ∙ side_added n place false Left names numbers constant zeros (pos 0) placed same width long
+    ∙ ap (λ c. plus zeros (shares false Left numbers) ++ c ∷ []) (left_number constant large)
+    ∙ ap (λ k. plus (replicate k (pos 0)) (shares false Left numbers) ++ constant ∷ []) width
+    ∙ ap (λ l. l ++ constant ∷ []) (left_numbers numbers all)
+
+-- a row whose numbers are those of another is that row
+row_is : (n : ℕ) (place : Place) (w : Written) (row : Row) → n ≡ length row.coefs → w.kind ≡ row.kind → w.modulus ≡ row.k
+    → numbers_in n place w ≡ row.coefs ++ row.constant ∷ [] → added n place w ≡ row
+row_is n place w row width kind modulus form =
     let columns : take n (row.coefs ++ row.constant ∷ []) ≡ row.coefs = take-append-le n row.coefs (row.constant ∷ []) (omega (arith, width)) ∙ take_all n row.coefs (omega (arith, width)) in
     let last : slice_index_or (row.coefs ++ row.constant ∷ []) n (pos 0) ≡ row.constant = get_or_at row.coefs row.constant [] (pos 0) n (sym width) in
-    ap (λ l. let x : Row = record { kind = kind; coefs = take n l; constant = slice_index_or l n (pos 0); k = pos 1 } in x) form
-    ∙ made row kind (take n (row.coefs ++ row.constant ∷ [])) (slice_index_or (row.coefs ++ row.constant ∷ []) n (pos 0)) is one columns last
+    ap (λ l. let x : Row = record { kind = w.kind; coefs = take n l; constant = slice_index_or l n (pos 0); k = w.modulus } in x) form
+    ∙ made row w.kind (take n (row.coefs ++ row.constant ∷ [])) (slice_index_or (row.coefs ++ row.constant ∷ []) n (pos 0)) w.modulus kind columns last modulus
   where
-    made : (r : Row) (kind : RowKind) (cs : List ℤ) (c : ℤ) → r.kind ≡ kind → r.k ≡ pos 1 → cs ≡ r.coefs → c ≡ r.constant → record { kind = kind; coefs = cs; constant = c; k = pos 1 } ≡ r
-    made r kind cs c a b d e =
-        ap (λ l. let x : Row = record { kind = kind; coefs = l; constant = c; k = pos 1 } in x) d
-        ∙ ap (λ z. let x : Row = record { kind = kind; coefs = r.coefs; constant = z; k = pos 1 } in x) e
-        ∙ ap (λ q. let x : Row = record { kind = q; coefs = r.coefs; constant = r.constant; k = pos 1 } in x) (sym a)
-        ∙ ap (λ z. let x : Row = record { kind = r.kind; coefs = r.coefs; constant = r.constant; k = z } in x) (sym b)
+    made : (r : Row) (kind : RowKind) (cs : List ℤ) (c k : ℤ) → kind ≡ r.kind → cs ≡ r.coefs → c ≡ r.constant → k ≡ r.k → record { kind = kind; coefs = cs; constant = c; k = k } ≡ r
+    made r kind cs c k a d e b =
+        ap (λ l. let x : Row = record { kind = kind; coefs = l; constant = c; k = k } in x) d
+        ∙ ap (λ z. let x : Row = record { kind = kind; coefs = r.coefs; constant = z; k = k } in x) e
+        ∙ ap (λ q. let x : Row = record { kind = q; coefs = r.coefs; constant = r.constant; k = k } in x) a
+        ∙ ap (λ z. let x : Row = record { kind = r.kind; coefs = r.coefs; constant = r.constant; k = z } in x) b
+
+-- and so the two sides write the row
+pub row_added : (n : ℕ) (place : Place) (names : List Name) (row : Row) (w : Written) → PlacedFrom place 0 names → length names ≡ length row.coefs → n ≡ length row.coefs
+    → w.kind ≡ row.kind → w.modulus ≡ row.k → w.greater ≡ side_tree Left names row.coefs row.constant
+    → w.less ≡ side_tree Right names row.coefs row.constant → w.last ≡ None → added n place w ≡ row
+row_added n place names row w placed same width kind modulus greater less last =
+    row_is n place w row width kind modulus
+    (rw (greater, less, last) (form_added n place names row.coefs row.constant placed same width))
+
+-- and the left side alone, where no number is negative
+pub left_row_added : (n : ℕ) (place : Place) (names : List Name) (row : Row) (w : Written) → PlacedFrom place 0 names → length names ≡ length row.coefs → n ≡ length row.coefs
+    → AllByRecursion (λ c. pos 0 ≤ℤ c) row.coefs → pos 0 ≤ℤ row.constant
+    → w.kind ≡ row.kind → w.modulus ≡ row.k → w.greater ≡ side_tree Left names row.coefs row.constant
+    → w.less ≡ [] → w.last ≡ None → added n place w ≡ row
+unfolding NotNegative
+left_row_added n place names row w placed same width all large kind modulus greater less last =
+    row_is n place w row width kind modulus
+    (rw (greater, less, last) (left_added n place names row.coefs row.constant placed same width all large))

@@ -1,18 +1,19 @@
 -- What all tokens of a printed value have, where its signs, its names and its numbers have it.
-use Rattle.std.proofs.Common.{◌≤◌, ℕ, zero, suc, ℤ, pos, negsuc, Bool, true, false, List, [], ◌∷◌, ◌++◌, Option, Some, None, IfSome, All, map, take, drop, ap, sym, subst, ◌≡◌, ◌∙◌, arith}
+use Rattle.std.proofs.Common.{◌≤◌, ◌+◌, ℕ, zero, suc, ℤ, pos, negsuc, Bool, true, false, List, [], ◌∷◌, ◌++◌, Option, Some, None, IfSome, All, map, take, drop, ap, sym, subst, ◌≡◌, ◌∙◌, arith}
 use Rattle.std.specs.Prelude.{codes, if◌then◌else◌, ◌==◌, unsigned_abs}
 use Rattle.std.specs.List.{AllByRecursion}
 use Rattle.std.proofs.lemmas.Fmt.{decimal_digit}
 use Rattle.std.proofs.lemmas.List.{append_assoc}
 use Rattle.std.proofs.lemmas.List.Elements.{recursion_from_All}
 use Rattle.isl_space.specs.Name.{Name}
-use Rattle.isl_space.specs.Form.{Form, leaf, pair, width_of}
-use Rattle.isl_space.specs.SpaceForm.{SpaceForm, set_of, map_of}
+use Rattle.isl_space.specs.Form.{Form, leaf, pair, width_of, leaves_of}
+use Rattle.isl_space.specs.Limits.{most_leaves}
+use Rattle.isl_space.specs.SpaceForm.{SpaceForm, set_of, map_of, space_leaves_of}
 use Rattle.isl_piece.specs.declared.row.RowKind.{RowKind}
 use Rattle.isl_piece.specs.declared.row.RowKind.TheVariants.{Zero, AtLeast, Divides, NotDivides}
 use Rattle.isl_piece.specs.declared.row.Row.{Row}
 use Rattle.isl_piece.specs.Row.{IsRowUpTo}
-use Rattle.isl_union.specs.KeptValue.{KeptPiece, KeptValue}
+use Rattle.isl_union.specs.KeptValue.{KeptPiece, KeptValue, IsKeptValue}
 use Rattle.isl_print.specs.declared.sum.Side.{Side}
 use Rattle.isl_print.specs.declared.sum.Side.TheVariants.{Left, Right}
 use Rattle.isl_print.specs.Joined.{Text}
@@ -24,9 +25,7 @@ use Rattle.isl_print.specs.Sum.{share, terms_of}
 use Rattle.isl_print.proofs.TextLaws.{All-in_order}
 use Rattle.isl_token.specs.TokenView as token
 use Rattle.isl_union.specs.Numbers.{HasNumbersUpTo}
-use Rattle.isl_readback.specs.Written.{IsComparison, IsLeaf, IsFlatSpace}
-use Rattle.isl_readback.specs.RoundTrip.{IsWritableValue}
-use Rattle.isl_readback.proofs.TokenLaws.{Tokens, sign, word, number, each_tokens, joined_tokens, term_tokens, constant_tokens, sum_tokens, side_tokens, relation_tokens, kind_tokens, row_tokens, conjunction_tokens, name_tokens, names_tokens, tuple_tokens, tuples_tokens}
+use Rattle.isl_readback.proofs.TokenLaws.{Tokens, sign, word, number, each_tokens, joined_tokens, term_tokens, constant_tokens, sum_tokens, side_tokens, relation_tokens, remainder_tokens, compared_tokens, kind_tokens, row_tokens, conjunction_tokens, name_tokens, names_tokens, tuple_tokens, tuples_tokens}
 use Rattle.isl_readback.proofs.ValueTokenLaws.{piece_tokens, params_tokens, pieces_tokens, printed_tokens}
 
 -- these stand at some place of a text, one behind another: signs, names and numbers up to the limit
@@ -41,14 +40,16 @@ pub record Stands (limit : ℕ) (IsCalm : Name → Type 0) (Level : Tokens → T
   pub semicolon : Level (sign (codes ";") ∷ [])
   pub arrow : Level (sign (codes "->") ∷ [])
   pub conjunction : Level (word (codes "and") ∷ [])
+  pub differs : Level (sign (codes "!=") ∷ [])
+  pub remainder : Level (word (codes "mod") ∷ [])
   pub names : (name : Name) → IsCalm name → Level (word name ∷ [])
   pub numbers : (n : ℕ) → n ≤ limit → Level (number n ∷ [])
 
--- what stands in brackets: declared names, a tuple's names, and pieces in braces
-pub record Encloses (Outside Declared Braced Listed : Tokens → Type 0) : Type 0 where
-  pub declared : (ts : Tokens) → Declared ts → Outside (sign (codes "[") ∷ (ts ++ sign (codes "]") ∷ []))
-  pub listed : (ts : Tokens) → Listed ts → Braced (sign (codes "[") ∷ (ts ++ sign (codes "]") ∷ []))
-  pub braced : (ts : Tokens) → Braced ts → Outside (sign (codes "{") ∷ (ts ++ sign (codes "}") ∷ []))
+-- with so many brackets open, what stands in one more
+pub record Encloses (Level : ℕ → Tokens → Type 0) : Type 0 where
+  pub squares : (depth : ℕ) → depth ≤ 98 → (ts : Tokens) → Level (depth + 1) ts → Level depth (sign (codes "[") ∷ (ts ++ sign (codes "]") ∷ []))
+  pub rounds : (depth : ℕ) → depth ≤ 98 → (ts : Tokens) → Level (depth + 1) ts → Level depth (sign (codes "(") ∷ (ts ++ sign (codes ")") ∷ []))
+  pub braces : (ts : Tokens) → Level 1 ts → Level 0 (sign (codes "{") ∷ (ts ++ sign (codes "}") ∷ []))
 
 -- ---- names
 abbrev pub IsCalmForm : (Name → Type 0) → Form → Type 0
@@ -63,6 +64,11 @@ IsCalmSpace IsCalm (map_of from to) = IsCalmForm IsCalm from × IsCalmForm IsCal
 pub record HasCalmNames (IsCalm : Name → Type 0) (params : List Name) (piece : KeptPiece) : Type 0 where
   pub titles : IsCalmSpace IsCalm piece.space
   pub coordinates : AllByRecursion IsCalm (coordinate_names params piece.space)
+
+-- a form has a leaf
+leaves_some : (form : Form) → 1 ≤ leaves_of form
+leaves_some (leaf name width) = omega arith
+leaves_some (pair left right) = let some = leaves_some left in omega (arith, some)
 
 module _ (limit : ℕ) (IsCalm : Name → Type 0) where
   calm-append : (xs ys : List Name) → AllByRecursion IsCalm xs → AllByRecursion IsCalm ys → AllByRecursion IsCalm (xs ++ ys)
@@ -81,15 +87,15 @@ module _ (limit : ℕ) (IsCalm : Name → Type 0) where
 
   -- a row whose numbers are up to the limit
   record IsSmallRow (row : Row) : Type 0 where
-    compares : IsComparison row.kind
     coefs : AllByRecursion (λ z. unsigned_abs z ≤ limit) row.coefs
     constant : unsigned_abs row.constant ≤ limit
+    modulus : unsigned_abs row.k ≤ limit
 
-  small_rows : (rows : List Row) → AllByRecursion (λ r. IsComparison r.kind) rows → AllByRecursion (IsRowUpTo limit) rows → AllByRecursion IsSmallRow rows
-  small_rows [] compare small = tt
-  small_rows (row ∷ rows) compare small = (
-    record { compares = compare.0; coefs = recursion_from_All (λ z. unsigned_abs z ≤ limit) row.coefs small.0.coefs; constant = small.0.constant },
-    small_rows rows compare.1 small.1,
+  small_rows : (rows : List Row) → AllByRecursion (IsRowUpTo limit) rows → AllByRecursion IsSmallRow rows
+  small_rows [] small = tt
+  small_rows (row ∷ rows) small = (
+    record { coefs = recursion_from_All (λ z. unsigned_abs z ≤ limit) row.coefs small.0.coefs; constant = small.0.constant; modulus = small.0.k },
+    small_rows rows small.1,
   )
 
   share_small : (side : Side) (z : ℤ) → unsigned_abs z ≤ limit → share side z ≤ limit
@@ -159,16 +165,6 @@ module _ (limit : ℕ) (IsCalm : Name → Type 0) where
         (stands.both left (sign relation ∷ []) (side_level Left names row.coefs row.constant calm small.coefs small.constant) between)
         (side_level Right names row.coefs row.constant calm small.coefs small.constant)
 
-    row_level : (names : List Name) (row : Row) (kind : RowKind) → IsComparison kind → AllByRecursion IsCalm names → IsSmallRow row → Level (kind_tokens kind names row)
-    row_level names row Zero compares calm small = relation_level (codes "=") names row stands.equal calm small
-    row_level names row AtLeast compares calm small = relation_level (codes ">=") names row stands.at_least calm small
-    row_level names row Divides compares calm small = absurd compares
-    row_level names row NotDivides compares calm small = absurd compares
-
-    rows_level : (names : List Name) (rows : List Row) → AllByRecursion IsCalm names → AllByRecursion IsSmallRow rows → AllByRecursion Level (map (row_tokens names) rows)
-    rows_level names [] calm all = tt
-    rows_level names (row ∷ rows) calm all = (row_level names row row.kind all.0.compares calm all.0, rows_level names rows calm all.1)
-
     conjunction_level : (tss : List Tokens) → AllByRecursion Level tss → Level (conjunction_tokens tss)
     conjunction_level [] all = stands.none
     conjunction_level (ts ∷ tss) all =
@@ -189,68 +185,108 @@ module _ (limit : ℕ) (IsCalm : Name → Type 0) where
   -- ---- in brackets
   -- what is asked of a piece
   record IsCalmPiece (params : List Name) (piece : KeptPiece) : Type 0 where
-    compares : All (λ r. IsComparison r.kind) piece.rows
     numbers : All (IsRowUpTo limit) piece.rows
-    flat : IsFlatSpace piece.space
+    leaves : space_leaves_of piece.space ≤ most_leaves
     names : HasCalmNames IsCalm params piece
 
-  module _ (Outside Declared Braced Listed : Tokens → Type 0) (outside : Stands limit IsCalm Outside) (among : Stands limit IsCalm Declared) (inside : Stands limit IsCalm Braced) (within : Stands limit IsCalm Listed)
-      (encloses : Encloses Outside Declared Braced Listed) where
-    tuple_inside : (form : Form) (names : List Name) → IsLeaf form → IsCalmForm IsCalm form → AllByRecursion IsCalm names → Braced (tuple_tokens form names)
-    tuple_inside (leaf title width) names flat calm all =
+  module _ (Level : ℕ → Tokens → Type 0) (stands : (depth : ℕ) → depth ≤ 100 → Stands limit IsCalm (Level depth)) (encloses : Encloses Level) where
+    outside : Stands limit IsCalm (Level 0)
+    outside = stands 0 (omega arith)
+
+    inside : Stands limit IsCalm (Level 1)
+    inside = stands 1 (omega arith)
+
+    -- rows
+    compared_inside : (relation : Text) (names : List Name) (row : Row) → Level 1 (sign relation ∷ []) → AllByRecursion IsCalm names → IsSmallRow row
+        → Level 1 (compared_tokens relation names row)
+    compared_inside relation names row between calm small =
+        let side = side_tokens Left names row.coefs row.constant in
+        let close = sign (codes ")") ∷ [] in
+        let modulo = word (codes "mod") ∷ [] in
+        let zero = token.Number (codes "0") ∷ [] in
+        let enclosed = encloses.rounds 1 (omega arith) side (side_level (Level 2) (stands 2 (omega arith)) Left names row.coefs row.constant calm small.coefs small.constant) in
+        let begun = inside.both (sign (codes "(") ∷ (side ++ close)) modulo enclosed inside.remainder in
+        let grouped : sign (codes "(") ∷ ((side ++ close) ++ modulo) ≡ sign (codes "(") ∷ (side ++ (sign (codes ")") ∷ modulo)) =
+        ap (λ l. sign (codes "(") ∷ l) (append_assoc side close modulo) in
+        inside.both (remainder_tokens names row) (sign relation ∷ zero)
+        (inside.both (sign (codes "(") ∷ (side ++ (sign (codes ")") ∷ modulo))) (number (unsigned_abs row.k) ∷ []) (subst (Level 1) grouped begun)
+        (inside.numbers (unsigned_abs row.k) small.modulus))
+        (inside.both (sign relation ∷ []) zero between (zero_level (Level 1) inside))
+
+    row_inside : (names : List Name) (row : Row) (kind : RowKind) → AllByRecursion IsCalm names → IsSmallRow row → Level 1 (kind_tokens kind names row)
+    row_inside names row Zero calm small = relation_level (Level 1) inside (codes "=") names row inside.equal calm small
+    row_inside names row AtLeast calm small = relation_level (Level 1) inside (codes ">=") names row inside.at_least calm small
+    row_inside names row Divides calm small = compared_inside (codes "=") names row inside.equal calm small
+    row_inside names row NotDivides calm small = compared_inside (codes "!=") names row inside.differs calm small
+
+    rows_inside : (names : List Name) (rows : List Row) → AllByRecursion IsCalm names → AllByRecursion IsSmallRow rows → AllByRecursion (Level 1) (map (row_tokens names) rows)
+    rows_inside names [] calm all = tt
+    rows_inside names (row ∷ rows) calm all = (row_inside names row row.kind calm all.0, rows_inside names rows calm all.1)
+
+    -- tuples
+    tuple_inside : (form : Form) (names : List Name) (depth : ℕ) → depth + leaves_of form ≤ 98 → IsCalmForm IsCalm form → AllByRecursion IsCalm names → Level depth (tuple_tokens form names)
+    tuple_inside (leaf title width) names depth low calm all =
+        let here = stands depth (omega (arith, low)) in
         let inner = names_tokens (take width names) in
         let close = sign (codes "]") ∷ [] in
         let grouped : name_tokens title ++ sign (codes "[") ∷ [] ++ inner ++ close ≡ name_tokens title ++ (sign (codes "[") ∷ (inner ++ close)) =
         ap (λ l. l ++ close) (append_assoc (name_tokens title) (sign (codes "[") ∷ []) inner) ∙ append_assoc (name_tokens title) (sign (codes "[") ∷ inner) close in
-        subst Braced (sym grouped)
-        (inside.both (name_tokens title) (sign (codes "[") ∷ (inner ++ close)) (title_level Braced inside title calm)
-        (encloses.listed inner (names_level Listed within (take width names) (calm_take width names all))))
-    tuple_inside (pair left right) names flat calm all = absurd flat
+        subst (Level depth) (sym grouped)
+        (here.both (name_tokens title) (sign (codes "[") ∷ (inner ++ close)) (title_level (Level depth) here title calm)
+        (encloses.squares depth (omega (arith, low)) inner (names_level (Level (depth + 1)) (stands (depth + 1) (omega (arith, low))) (take width names) (calm_take width names all))))
+    tuple_inside (pair left right) names depth low calm all =
+        let below = stands (depth + 1) (omega (arith, low, leaves_some left, leaves_some right)) in
+        let rest = drop (width_of left) names in
+        let first = tuple_inside left names (depth + 1) (omega (arith, low, leaves_some right)) calm.0 all in
+        let second = tuple_inside right rest (depth + 1) (omega (arith, low, leaves_some left)) calm.1 (calm_drop (width_of left) names all) in
+        encloses.squares depth (omega (arith, low)) (tuple_tokens left names ++ sign (codes "->") ∷ [] ++ tuple_tokens right rest)
+        (below.both (tuple_tokens left names ++ sign (codes "->") ∷ []) (tuple_tokens right rest)
+        (below.both (tuple_tokens left names) (sign (codes "->") ∷ []) first below.arrow) second)
 
-    tuples_inside : (space : SpaceForm) (names : List Name) → IsFlatSpace space → IsCalmSpace IsCalm space → AllByRecursion IsCalm names → Braced (tuples_tokens space names)
-    tuples_inside (set_of form) names flat calm all = tuple_inside form names flat calm all
-    tuples_inside (map_of from to) names flat calm all =
+    tuples_inside : (space : SpaceForm) (names : List Name) → space_leaves_of space ≤ most_leaves → IsCalmSpace IsCalm space → AllByRecursion IsCalm names → Level 1 (tuples_tokens space names)
+    tuples_inside (set_of form) names few calm all = tuple_inside form names 1 (omega (arith, few)) calm all
+    tuples_inside (map_of from to) names few calm all =
         let rest = drop (width_of from) names in
         inside.both (tuple_tokens from names ++ sign (codes "->") ∷ []) (tuple_tokens to rest)
-        (inside.both (tuple_tokens from names) (sign (codes "->") ∷ []) (tuple_inside from names flat.0 calm.0 all) inside.arrow) (tuple_inside to rest flat.1 calm.1 (calm_drop (width_of from) names all))
+        (inside.both (tuple_tokens from names) (sign (codes "->") ∷ []) (tuple_inside from names 1 (omega (arith, few)) calm.0 all) inside.arrow)
+        (tuple_inside to rest 1 (omega (arith, few)) calm.1 (calm_drop (width_of from) names all))
 
     -- pieces
-    piece_inside : (params : List Name) (piece : KeptPiece) → AllByRecursion IsCalm params → IsCalmPiece params piece → Braced (piece_tokens params piece)
+    piece_inside : (params : List Name) (piece : KeptPiece) → AllByRecursion IsCalm params → IsCalmPiece params piece → Level 1 (piece_tokens params piece)
     piece_inside params piece declared calm =
         let coordinates = coordinate_names params piece.space in
         let columns = column_names params piece.space in
         let rows = in_order row_before piece.rows in
-        let small = small_rows rows (recursion_from_All (λ r. IsComparison r.kind) rows (All-in_order row_before (λ r. IsComparison r.kind) piece.rows calm.compares))
-        (recursion_from_All (IsRowUpTo limit) rows (All-in_order row_before (IsRowUpTo limit) piece.rows calm.numbers)) in
+        let small = small_rows rows (recursion_from_All (IsRowUpTo limit) rows (All-in_order row_before (IsRowUpTo limit) piece.rows calm.numbers)) in
         inside.both (tuples_tokens piece.space coordinates) (conjunction_tokens (map (row_tokens columns) rows))
-        (tuples_inside piece.space coordinates calm.flat calm.names.titles calm.names.coordinates)
-        (conjunction_level Braced inside (map (row_tokens columns) rows) (rows_level Braced inside columns rows (calm-append params coordinates declared calm.names.coordinates) small))
+        (tuples_inside piece.space coordinates calm.leaves calm.names.titles calm.names.coordinates)
+        (conjunction_level (Level 1) inside (map (row_tokens columns) rows) (rows_inside columns rows (calm-append params coordinates declared calm.names.coordinates) small))
 
-    pieces_inside : (params : List Name) (pieces : List KeptPiece) → AllByRecursion IsCalm params → AllByRecursion (IsCalmPiece params) pieces → AllByRecursion Braced (map (piece_tokens params) pieces)
+    pieces_inside : (params : List Name) (pieces : List KeptPiece) → AllByRecursion IsCalm params → AllByRecursion (IsCalmPiece params) pieces → AllByRecursion (Level 1) (map (piece_tokens params) pieces)
     pieces_inside params [] declared all = tt
     pieces_inside params (piece ∷ pieces) declared all = (piece_inside params piece declared all.0, pieces_inside params pieces declared all.1)
 
-    braces_outside : (tss : List Tokens) → AllByRecursion Braced tss → Outside (pieces_tokens tss)
-    braces_outside [] all = encloses.braced [] inside.none
-    braces_outside (ts ∷ tss) all = encloses.braced (joined_tokens (sign (codes ";") ∷ []) (ts ∷ tss)) (joined_level Braced inside (sign (codes ";") ∷ []) (ts ∷ tss) inside.semicolon all)
+    braces_outside : (tss : List Tokens) → AllByRecursion (Level 1) tss → Level 0 (pieces_tokens tss)
+    braces_outside [] all = encloses.braces [] inside.none
+    braces_outside (ts ∷ tss) all = encloses.braces (joined_tokens (sign (codes ";") ∷ []) (ts ∷ tss)) (joined_level (Level 1) inside (sign (codes ";") ∷ []) (ts ∷ tss) inside.semicolon all)
 
     -- the declared names
-    params_outside : (names : List Name) → AllByRecursion IsCalm names → Outside (params_tokens names)
+    params_outside : (names : List Name) → AllByRecursion IsCalm names → Level 0 (params_tokens names)
     params_outside [] calm = outside.none
     params_outside (name ∷ names) calm =
         let inner = names_tokens (name ∷ names) in
         let arrow = sign (codes "->") ∷ [] in
         let grouped : sign (codes "[") ∷ (inner ++ (sign (codes "]") ∷ arrow)) ≡ (sign (codes "[") ∷ (inner ++ sign (codes "]") ∷ [])) ++ arrow =
         ap (λ l. sign (codes "[") ∷ l) (sym (append_assoc inner (sign (codes "]") ∷ []) arrow)) in
-        subst Outside (sym grouped)
-        (outside.both (sign (codes "[") ∷ (inner ++ sign (codes "]") ∷ [])) arrow (encloses.declared inner (names_level Declared among (name ∷ names) calm)) outside.arrow)
+        subst (Level 0) (sym grouped)
+        (outside.both (sign (codes "[") ∷ (inner ++ sign (codes "]") ∷ [])) arrow (encloses.squares 0 (omega arith) inner (names_level (Level 1) inside (name ∷ names) calm)) outside.arrow)
 
-    pub printed_outside : (value : KeptValue) → IsWritableValue value → HasNumbersUpTo limit value → All IsCalm value.params → All (HasCalmNames IsCalm value.params) value.pieces → Outside (printed_tokens value)
-    printed_outside value writable numbers params names =
+    pub printed_outside : (value : KeptValue) → IsKeptValue value → HasNumbersUpTo limit value → All IsCalm value.params → All (HasCalmNames IsCalm value.params) value.pieces → Level 0 (printed_tokens value)
+    printed_outside value kept numbers params names =
         let pieces = in_order piece_before value.pieces in
         let declared = recursion_from_All IsCalm value.params params in
         let calm : All (IsCalmPiece value.params) value.pieces =
-        λ i d low. record { compares = writable.comparisons i d low; numbers = (numbers i d low).rows; flat = writable.flat i d low; names = names i d low } in
+        λ i d low. record { numbers = (numbers i d low).rows; leaves = (kept.pieces i d low).space.narrow.leaves; names = names i d low } in
         let each = recursion_from_All (IsCalmPiece value.params) pieces (All-in_order piece_before (IsCalmPiece value.params) value.pieces calm) in
         outside.both (params_tokens value.params) (pieces_tokens (map (piece_tokens value.params) pieces)) (params_outside value.params declared)
         (braces_outside (map (piece_tokens value.params) pieces) (pieces_inside value.params pieces declared each))

@@ -1,9 +1,8 @@
 -- What the program answers, it takes again.
 use Rattle.std.proofs.Common.{◌≡◌, ◌<◌, ◌≤◌, ◌-◌, ◌^◌, ◌∙◌, ℕ, suc, Bool, true, false, List, [], ◌∷◌, ◌++◌, Some, None, Ok, All, ap, sym, subst, refl, arith, pow_mono}
-use Rattle.std.specs.Prelude.{◌&&◌, ◌||◌, not, length}
-use Rattle.std.specs.List.{list_any}
+use Rattle.std.specs.Prelude.{◌&&◌, ◌||◌, length}
 use Rattle.std.specs.Str.{bytes_eq}
-use Rattle.std.proofs.lemmas.Bool.{false≢true, false_from_ne_true}
+use Rattle.std.proofs.lemmas.Bool.{false≢true}
 use Rattle.std.proofs.lemmas.List.Elements.{All-nil, All-cons}
 use Rattle.std.proofs.lemmas.Slice.Eq.{bytes_eq-Decides}
 use Rattle.isl_meter.specs.Gauge.{Gauge, limit_of, IsCharged}
@@ -30,8 +29,7 @@ use Rattle.isl_expr.specs.declared.tree.Expr as e
 use Rattle.isl_expr.specs.Expr.{literals_of, statement_literals}
 use Rattle.isl_space.specs.Limits.{most_leaves, most_parameters}
 use Rattle.isl_kinds.specs.Lines.{is_kind}
-use Rattle.isl_kinds.specs.Parts.{parts_of}
-use Rattle.isl_simple.specs.Unsupported.{is_later, is_unsupported}
+use Rattle.isl_simple.specs.Unsupported.{is_unsupported}
 use Rattle.isl_statement.specs.StatementGrammar.{statement_grammar}
 use Rattle.isl_statement.specs.Limits.{statement_is_within}
 use Rattle.isl_statement.specs.Read.{NoStatement}
@@ -48,15 +46,15 @@ use Rattle.isl_eval.proofs.LiteralLaws.{IsSpelled, literals_spelled}
 use Rattle.isl_eval.proofs.KeptLaws.{declared_itself}
 use Rattle.isl_eval.proofs.StepLaws.{valid as valid_of_workable}
 use Rattle.isl_readback.specs.Tree.{printed_tree}
-use Rattle.isl_readback.specs.Written.{IsPlainOf}
+use Rattle.isl_readback.specs.Written.{HasFewRemainders, IsOfKind}
 use Rattle.isl_readback.specs.RoundTrip.{IsWritableValue, ReadsAs}
 use Rattle.isl_readback.specs.TakenAgain.{AreWritable, IsShallow, IsShownAgain, IsTakenAgain}
 use Rattle.isl_readback.proofs.ValueTokenLaws.{printed_tokens, tokens-printed}
 use Rattle.isl_readback.proofs.TakenTokens.{narrow}
 use Rattle.isl_readback.proofs.RoundTripLaws.{tree_at, reads_as}
 use Rattle.isl_readback.proofs.AloneLaws.{shown_alone}
-use Rattle.isl_readback.proofs.LoweredLaws.{numbers_more}
-use Rattle.isl_readback.proofs.WorkedLaws.{worked_plain, plain_writable}
+use Rattle.isl_readback.proofs.KindLaws.{value_kind, selected_kind, of_kind_uniform}
+use Rattle.isl_readback.proofs.WritableLaws.{writable_numbers}
 
 is_not : (a : Bool) → a ≡ false → ¬ (a ≡ true)
 is_not a not_so so = false≢true (sym not_so ∙ so)
@@ -102,13 +100,13 @@ module _ (moment : Moment) (bits : moment.meter.bits ≤ 127) (value : KeptValue
   reads = reads_as value writable
 
   supported : is_unsupported (Show (e.Literal (printed_tree value))) ≡ false
-  supported = ap (λ (b : Bool). not b || false) reads.plain
+  supported = refl
 
-  within : statement_is_within (Show (e.Literal (printed_tree value))) ≡ true
-  within = rw reads.within refl
+  within : HasFewRemainders value → statement_is_within (Show (e.Literal (printed_tree value))) ≡ true
+  within few = rw (reads.within few) refl
 
-  none_there : IsShallow (printed value) → IsRead moment (printed value) (Show (e.Literal (printed_tree value)))
-  none_there shallow = record {
+  none_there : IsShallow (printed value) → HasFewRemainders value → IsRead moment (printed value) (Show (e.Literal (printed_tree value)))
+  none_there shallow few = record {
     spelled = text_spells;
     none = (
       (λ none. let f : Some (printed_tokens value) ≡ None = sym lexes ∙ none in cc),
@@ -117,7 +115,7 @@ module _ (moment : Moment) (bits : moment.meter.bits ≤ 127) (value : KeptValue
         (
           (λ there. of_tokens (printed value) (printed_tokens value) NoStatement lexes there (Show (e.Literal (printed_tree value))) spells),
           (
-            (λ there. is_so _ within (of_statement (printed value) _ (λ stmt. statement_is_within stmt ≡ false) text_spells there)),
+            (λ there. is_so _ (within few) (of_statement (printed value) _ (λ stmt. statement_is_within stmt ≡ false) text_spells there)),
             (
               (λ there. is_not _ (narrow (2 ^ moment.meter.bits - 1) below value writable small)
                   (of_tokens (printed value) (printed_tokens value) (λ ts. has_wide_number (limit_of moment.meter) ts ≡ true) lexes there)),
@@ -142,8 +140,8 @@ module _ (moment : Moment) (bits : moment.meter.bits ≤ 127) (value : KeptValue
         narrow = subst (λ (names : List Name). length names ≤ most_parameters) (sym itself) reads.well_formed.params.few;
       }
 
-  pub text_valid : IsShallow (printed value) → IsValid moment (printed value)
-  text_valid shallow = valid_of_workable moment (printed value) (Show (e.Literal (printed_tree value))) (none_there shallow) workable
+  pub text_valid : IsShallow (printed value) → HasFewRemainders value → IsValid moment (printed value)
+  text_valid shallow few = valid_of_workable moment (printed value) (Show (e.Literal (printed_tree value))) (none_there shallow few) workable
 
   -- the text spells no other statement, and each value that is read of it has the same text
   pub text_answered : (answer : Answer) → answer ≡ shown value → (last : Moment) (other : Answer) → Answers moment (printed value) last other
@@ -159,44 +157,26 @@ module _ (moment : Moment) (bits : moment.meter.bits ≤ 127) (value : KeptValue
 
 -- ---- what an answered statement shows or binds can be written
 module _ (before : Moment) (bytes : List ℕ) (bits : before.meter.bits ≤ 127) (all : AreWritable before.state) where
-  -- what is there today
-  brought : (stmt : Stmt) → IsValid before bytes → BytesSpell bytes stmt → is_unsupported stmt ≡ false
-  brought stmt valid spelled =
-      let m = valid.1 in
-      let l = m.1 in
-      let k = l.1 in
-      let j = k.1 in
-      false_from_ne_true (is_unsupported stmt) (λ un. j.1.0 (stmt, spelled, un))
+  of_text : (stmt : Stmt) → BytesSpell bytes stmt → All IsSpelled (statement_literals stmt)
+  of_text stmt spelled = literals_spelled stmt spelled.tokens (lexed bytes spelled.tokens spelled.cut) spelled.spelled
 
-  narrow_tree : (stmt : Stmt) → IsValid before bytes → BytesSpell bytes stmt → statement_is_within stmt ≡ true
-  narrow_tree stmt valid spelled = by (statement_is_within stmt) refl
-    where
-      by : (b : Bool) → statement_is_within stmt ≡ b → statement_is_within stmt ≡ true
-      by true is = is
-      by false is = let m = valid.1 in let l = m.1 in let k = l.1 in absurd (k.0 (stmt, spelled, is))
+  expr_kind : (expr : Expr) (kept : Kept) → All IsSpelled (literals_of expr) → Keeps before expr kept → IsOfKind kept.kind kept.value
+  expr_kind expr kept spelled keeps =
+      value_kind kept.kind kept.value keeps.well_formed (λ valuation element has.
+      (selected_kind before.state valuation all expr spelled).lies kept.kind element keeps.kind ((keeps.elements valuation element).0 has))
 
-  module _ (valid : IsValid before bytes) (stmt : Stmt) (spelled : BytesSpell bytes stmt) where
-    of_text : All IsSpelled (statement_literals stmt)
-    of_text = literals_spelled stmt spelled.tokens (lexed bytes spelled.tokens spelled.cut) spelled.spelled
+  expr_writable : (expr : Expr) (kept : Kept) → All IsSpelled (literals_of expr) → Keeps before expr kept → IsWritableValue kept.value
+  expr_writable expr kept spelled keeps = record {
+    kept = keeps.well_formed;
+    definitions = keeps.definitions;
+    numbers = writable_numbers before.meter kept.value bits keeps.numbers;
+    uniform = of_kind_uniform kept.value kept.kind (expr_kind expr kept spelled keeps);
+  }
 
-  writable_numbers : (value : KeptValue) → HasNumbersUpTo (2 ^ before.meter.bits - 1) value → HasNumbersUpTo (too_great - 1) value
-  writable_numbers value small =
-      let large : 2 ^ before.meter.bits ≤ 2 ^ 127 = pow_mono bits in
-      numbers_more (2 ^ before.meter.bits - 1) (too_great - 1) value (omega (arith, large)) small
-
-  expr_plain : (expr : Expr) (kept : Kept) → list_any is_later (parts_of expr) ≡ false → All IsSpelled (literals_of expr) → Keeps before expr kept → IsPlainOf kept.kind kept.value
-  expr_plain expr kept supported spelled keeps = worked_plain before.state all expr kept.value kept.kind supported spelled keeps.kind keeps.written
-
-  expr_writable : (expr : Expr) (kept : Kept) → list_any is_later (parts_of expr) ≡ false → All IsSpelled (literals_of expr) → Keeps before expr kept → IsWritableValue kept.value
-  expr_writable expr kept supported spelled keeps =
-      plain_writable kept.value keeps.well_formed keeps.definitions (writable_numbers kept.value keeps.numbers) kept.kind
-      (expr_plain expr kept supported spelled keeps)
-
-  show_again : (expr : Expr) (kept : Kept) (after : Moment) (answer : Answer) → IsValid before bytes → BytesSpell bytes (Show expr) → Keeps before expr kept → answer ≡ shown kept.value
+  show_again : (expr : Expr) (kept : Kept) (after : Moment) (answer : Answer) → BytesSpell bytes (Show expr) → Keeps before expr kept → answer ≡ shown kept.value
       → IsCharged before.meter after.meter → IsShownAgain before expr after answer
-  show_again expr kept after answer valid spelled keeps is charged =
-      let stmt = Show expr in
-      let writable = expr_writable expr kept (brought (Show expr) valid spelled) (of_text valid (Show expr) spelled) keeps in
+  show_again expr kept after answer spelled keeps is charged =
+      let writable = expr_writable expr kept (of_text (Show expr) spelled) keeps in
       let value = kept.value in
       let reads = reads_as kept.value writable in
       let same : after.meter.bits ≡ before.meter.bits = ap (λ (g : Gauge). g.bits) charged.same in
@@ -219,33 +199,32 @@ module _ (before : Moment) (bytes : List ℕ) (bits : before.meter.bits ≤ 127)
         answered = text_answered after bits_after kept.value writable small answer is;
       }
 
-  pub stays : (stmt : Stmt) (after : Moment) (answer : Answer) → IsValid before bytes → BytesSpell bytes stmt → Step before stmt after answer → AreWritable after.state
-  stays Empty after answer valid spelled step = subst AreWritable (sym step.0) all
-  stays (Show expr) after answer valid spelled step = subst AreWritable (sym step.0) all
-  stays (Bind name expr) after answer valid spelled step = λ other found is. by other found is (bytes_eq other name) refl
+  pub stays : (stmt : Stmt) (after : Moment) (answer : Answer) → BytesSpell bytes stmt → Step before stmt after answer → AreWritable after.state
+  stays Empty after answer spelled step = subst AreWritable (sym step.0) all
+  stays (Show expr) after answer spelled step = subst AreWritable (sym step.0) all
+  stays (Bind name expr) after answer spelled step = λ other found is. by other found is (bytes_eq other name) refl
     where
-      by : (other : Name) (found : Kept) → kept_of after.state other ≡ Some found → (b : Bool) → bytes_eq other name ≡ b → IsWritableValue found.value × IsPlainOf found.kind found.value
+      by : (other : Name) (found : Kept) → kept_of after.state other ≡ Some found → (b : Bool) → bytes_eq other name ≡ b → IsOfKind found.kind found.value × IsWritableValue found.value
       by other found is true same =
           let made = step.0 in
           let there : kept_of after.state other ≡ Some made.0 = ap (kept_of after.state) ((bytes_eq-Decides other name).0 same) ∙ made.2.named in
           let e : made.0 ≡ found = let f : Some made.0 ≡ Some found = sym there ∙ is in cc in
-          let supported = brought (Bind name expr) valid spelled in
-          let literals = of_text valid (Bind name expr) spelled in
-          subst (λ (k : Kept). IsWritableValue k.value × IsPlainOf k.kind k.value) e
-          (expr_writable expr made.0 supported literals made.1, expr_plain expr made.0 supported literals made.1)
+          let literals = of_text (Bind name expr) spelled in
+          subst (λ (k : Kept). IsOfKind k.kind k.value × IsWritableValue k.value) e
+          (expr_kind expr made.0 literals made.1, expr_writable expr made.0 literals made.1)
       by other found is false apart =
           all other found (sym (step.0.2.others other (λ e. false≢true (sym apart ∙ (bytes_eq-Decides other name).1 e))) ∙ is)
 
-  pub again : (stmt : Stmt) (after : Moment) (answer : Answer) → IsValid before bytes → BytesSpell bytes stmt → Step before stmt after answer → IsCharged before.meter after.meter → IsTakenAgain before stmt after answer
-  again Empty after answer valid spelled step charged = step.1
-  again (Bind name expr) after answer valid spelled step charged = step.1
-  again (Show expr) after answer valid spelled step charged = show_again expr step.1.0 after answer valid spelled step.1.1 step.1.2 charged
+  pub again : (stmt : Stmt) (after : Moment) (answer : Answer) → BytesSpell bytes stmt → Step before stmt after answer → IsCharged before.meter after.meter → IsTakenAgain before stmt after answer
+  again Empty after answer spelled step charged = step.1
+  again (Bind name expr) after answer spelled step charged = step.1
+  again (Show expr) after answer spelled step charged = show_again expr step.1.0 after answer spelled step.1.1 step.1.2 charged
 
 pub taken_again : (before : Moment) (bytes : List ℕ) (after : Moment) (answer : Answer) → before.meter.bits ≤ 127 → AreWritable before.state → (answered : Answers before bytes after answer) → IsTakenAgain before answered.stmt after answer
-taken_again before bytes after answer bits all answered = again before bytes bits all answered.stmt after answer answered.valid answered.spelled answered.step answered.meter
+taken_again before bytes after answer bits all answered = again before bytes bits all answered.stmt after answer answered.spelled answered.step answered.meter
 
 pub stays_writable : (before : Moment) (bytes : List ℕ) (after : Moment) (answer : Answer) → before.meter.bits ≤ 127 → AreWritable before.state → Answers before bytes after answer → AreWritable after.state
-stays_writable before bytes after answer bits all answered = stays before bytes bits all answered.stmt after answer answered.valid answered.spelled answered.step
+stays_writable before bytes after answer bits all answered = stays before bytes bits all answered.stmt after answer answered.spelled answered.step
 
 pub starts_writable : AreWritable unbound
 starts_writable = λ name kept is. let f : None ≡ Some kept = is in cc

@@ -52,6 +52,8 @@ module _ (limit : ℕ) where
     semicolon = refl;
     arrow = refl;
     conjunction = refl;
+    differs = refl;
+    remainder = refl;
     names = λ name named. refl;
     numbers = number_level below;
   }
@@ -62,17 +64,17 @@ module _ (limit : ℕ) where
       either_false (is_wide (pos limit) first) (has_wide_number (pos limit) (ts ++ last ∷ [])) small
       (both_level ts (last ∷ []) inside (either_false (is_wide (pos limit) last) false also refl))
 
-  levels : Encloses Level Level Level Level
+  levels : Encloses (λ depth. Level)
   levels = record {
-    declared = λ ts inside. enclosed (sign (codes "[")) (sign (codes "]")) ts refl refl inside;
-    listed = λ ts inside. enclosed (sign (codes "[")) (sign (codes "]")) ts refl refl inside;
-    braced = λ ts inside. enclosed (sign (codes "{")) (sign (codes "}")) ts refl refl inside;
+    squares = λ depth low ts inside. enclosed (sign (codes "[")) (sign (codes "]")) ts refl refl inside;
+    rounds = λ depth low ts inside. enclosed (sign (codes "(")) (sign (codes ")")) ts refl refl inside;
+    braces = λ ts inside. enclosed (sign (codes "{")) (sign (codes "}")) ts refl refl inside;
   }
 
   pub narrow : limit < too_great → (value : KeptValue) → IsWritableValue value → HasNumbersUpTo limit value → has_wide_number (pos limit) (printed_tokens value) ≡ false
   unfolding Level
   narrow below value writable numbers =
-      printed_outside limit IsLiteralName Level Level Level Level (level below) (level below) (level below) (level below) levels value writable numbers
+      printed_outside limit IsLiteralName (λ depth. Level) (λ depth low. level below) levels value writable.kept numbers
       writable.kept.params.named (λ i d low. piece_calm value.params _ (writable.kept.pieces i d low))
     where
       form_calm : (form : Form) → IsNamed form → IsCalmForm IsLiteralName form

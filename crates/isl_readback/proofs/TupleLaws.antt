@@ -12,11 +12,8 @@ use Rattle.isl_tree.specs.declared.tree.Tuple.{Tuple}
 use Rattle.isl_tree.specs.declared.tree.Tuple.TheVariants.{Pair}
 use Rattle.isl_tree.specs.declared.tree.Tuple.TheBlock.{hidden-the_row-Tuple-0}
 use Rattle.isl_tree.specs.Literal.{entries_of, second_entries, piece_entries, form_of_tuple, space_of_tuples, space_of_piece}
+use Rattle.isl_linear.proofs.TupleLaws.{entries_of-Pair}
 use Rattle.isl_readback.specs.Tree.{name_entry, tuple_tree, first_tree, second_tree, piece_tree}
-
-entries-Pair : (first second : Tuple) → entries_of (Pair first second) ≡ entries_of first ++ entries_of second
-unfolding hidden-the_row-Tuple-0 denote.Hole.Carrier.hidden
-entries-Pair first second = ap₂ (λ (xs ys : List Entry). xs ++ ys) (append-nil (entries_of first)) (append-nil (entries_of second))
 
 form-Pair : (first second : Tuple) → form_of_tuple (Pair first second) ≡ pair (form_of_tuple first) (form_of_tuple second)
 unfolding hidden-the_row-Tuple-0 denote.Hole.Carrier.hidden
@@ -35,7 +32,7 @@ take_both (suc m) n (name ∷ names) = let more : suc m + n ≡ suc (m + n) = om
 entries_of_tree : (form : Form) (names : List Name) → entries_of (tuple_tree form names) ≡ map name_entry (take (width_of form) names)
 entries_of_tree (leaf name width) names = refl
 entries_of_tree (pair left right) names =
-    entries-Pair (tuple_tree left names) (tuple_tree right (drop (width_of left) names))
+    entries_of-Pair (tuple_tree left names) (tuple_tree right (drop (width_of left) names))
     ∙ ap₂ (λ (xs ys : List Entry). xs ++ ys) (entries_of_tree left names) (entries_of_tree right (drop (width_of left) names))
     ∙ sym (map-append name_entry (take (width_of left) names) (take (width_of right) (drop (width_of left) names)))
     ∙ ap (map name_entry) (take_both (width_of left) (width_of right) names)

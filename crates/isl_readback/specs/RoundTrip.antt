@@ -15,31 +15,29 @@ use Rattle.isl_tree.specs.declared.tree.Literal.{Literal}
 use Rattle.isl_tree.specs.Known.{literal_is_known}
 use Rattle.isl_tree.specs.Plain.{is_plain}
 use Rattle.isl_lower.specs.Value.{IsLowered, IsWellFormedLiteral, value_lowered}
-use Rattle.isl_readback.specs.Written.{HasComparisons, HasWritableNumbers, IsUniform, IsFlat}
+use Rattle.isl_readback.specs.Written.{HasFewRemainders, HasWritableNumbers, IsUniform}
 
 -- the text has tokens, and they spell the literal
 abbrev pub Writes : Text → Literal → Type 0
 Writes text literal = (ts : List Token) × (tokens text ≡ Some ts) × Spells literal_grammar literal ts
 
--- a kept value that one plain literal can write: sets or maps alone, with equations and inequalities of numbers that a literal
--- may write, no defined column, and no pair among its tuples
+-- a kept value that one plain literal can write: sets or maps alone, with numbers that a literal may write and no defined column
 pub record IsWritableValue (value : KeptValue) : Type 0 where
   pub kept : IsKeptValue value
   pub definitions : HasNoDefinitions value
-  pub comparisons : HasComparisons value
   pub numbers : HasWritableNumbers value
   pub uniform : IsUniform value
-  pub flat : IsFlat value
 
 -- the elements of both are the same at every valuation
 abbrev pub HasElementsOf : KeptValue → KeptValue → Type 0
 HasElementsOf value other = (valuation : Valuation) (element : Element) → Has value valuation element ↔ Has other valuation element
 
 -- the literal can be read as a value: its normal pieces are those that were printed, in the order in which they were printed, with the
--- same elements and the same text; and each value that may be read of it has them all
+-- same elements and the same text; and each value that may be read of it has them all. It is within the limits of the reader where no
+-- piece has more remainders than they allow
 pub record ReadsAs (literal : Literal) (value : KeptValue) : Type 0 where
   pub plain : is_plain literal ≡ true
-  pub within : is_within literal ≡ true
+  pub within : HasFewRemainders value → is_within literal ≡ true
   pub known : literal_is_known literal ≡ true
   pub well_formed : IsWellFormedLiteral literal
   pub rows : value_lowered literal ≡ ordered value

@@ -55,13 +55,17 @@ comparison_tree left compare right = formula.Chain (left ∷ []) ((compare, righ
 
 -- the two sides of a row's form
 abbrev pub relation_tree : Compare → List Name → Row → Formula
-relation_tree compare names row = comparison_tree (side_tree Left names row.coefs row.constant) compare (side_tree Right names row.coefs row.constant)
+relation_tree compare names row =
+    comparison_tree (side_tree Left names row.coefs row.constant) compare (side_tree Right names row.coefs row.constant)
+
+-- the remainder of a term by a number
+abbrev pub remainder_part : List Signed → ℕ → Signed
+remainder_part term k = Signed' false (Product' [] (Some' (factor.Inner term) (pos k ∷ [])))
 
 -- the remainder of a row's form, and 0
 abbrev pub remainder_tree : Compare → List Name → Row → Formula
 remainder_tree compare names row =
-    comparison_tree (Signed' false (Product' [] (Some' (factor.Inner (side_tree Left names row.coefs row.constant)) (pos (unsigned_abs row.k) ∷ []))) ∷ []) compare
-    (number_tree 0 ∷ [])
+    comparison_tree (remainder_part (side_tree Left names row.coefs row.constant) (unsigned_abs row.k) ∷ []) compare (number_tree 0 ∷ [])
 
 abbrev pub kind_tree : RowKind → List Name → Row → Formula
 kind_tree Zero names row = relation_tree Equal names row

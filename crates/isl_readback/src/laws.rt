@@ -12,12 +12,12 @@ ghost use Rattle.isl_token.specs.Number.{too_great};
 ghost use Rattle.isl_tree.specs.declared.tree.Literal.{Literal};
 ghost use Rattle.isl_tree.specs.Known.{literal_is_known};
 ghost use Rattle.isl_tree.specs.Plain.{is_plain};
-ghost use Rattle.isl_lower.specs.Value.{IsLowered, IsWellFormedLiteral, value_lowered};
+ghost use Rattle.isl_lower.specs.Value.{HasSameElements, IsWellFormedLiteral, value_lowered};
 ghost use Rattle.isl_eval.specs.State.{Moment, unbound};
 ghost use Rattle.isl_eval.specs.Machine.{Answer, Answers};
 ghost use Rattle.isl_readback.specs.Accepted.{HasQuietNames, IsAccepted};
 ghost use Rattle.isl_readback.specs.Tree.{printed_tree};
-ghost use Rattle.isl_readback.specs.Written.{HasComparisons, HasWritableNumbers, IsFlat, IsUniform, value_written};
+ghost use Rattle.isl_readback.specs.Written.{HasFewRemainders, HasWritableNumbers, IsUniform, value_written};
 ghost use Rattle.isl_readback.specs.RoundTrip.{IsWritableValue, ReadsBack, Writes};
 ghost use Rattle.isl_readback.specs.TakenAgain.{AreWritable, IsTakenAgain};
 
@@ -29,12 +29,12 @@ pub fn printed_tree_is_spelled()
 
 /// The printed tree is plain.
 pub fn printed_tree_is_plain()
-    ensures { (value : KeptValue) → HasComparisons value → IsFlat value → is_plain (printed_tree value) ≡ true }
+    ensures { (value : KeptValue) → IsKeptValue value → is_plain (printed_tree value) ≡ true }
 {}
 
-/// The printed tree keeps the limits of literals.
+/// The printed tree keeps the limits of literals, where no piece has more remainders than they allow.
 pub fn printed_tree_is_within()
-    ensures { (value : KeptValue) → IsKeptValue value → HasComparisons value → is_within (printed_tree value) ≡ true }
+    ensures { (value : KeptValue) → IsKeptValue value → HasFewRemainders value → is_within (printed_tree value) ≡ true }
 {}
 
 /// Each name of the printed tree is known, and what it declares is what a value may have.
@@ -46,9 +46,9 @@ pub fn printed_tree_is_known()
 /// The rows that the printed tree writes are those of the value, in the order in which they are printed, and they are their
 /// own normal rows.
 pub fn printed_tree_is_kept()
-    ensures written { (value : KeptValue) → IsKeptValue value → HasNoDefinitions value → HasComparisons value
+    ensures written { (value : KeptValue) → IsKeptValue value → HasNoDefinitions value
         → value_written (printed_tree value) ≡ ordered value }
-    ensures normal { (value : KeptValue) → IsKeptValue value → HasNoDefinitions value → HasComparisons value
+    ensures normal { (value : KeptValue) → IsKeptValue value → HasNoDefinitions value
         → value_lowered (printed_tree value) ≡ ordered value }
 {}
 
@@ -59,25 +59,28 @@ pub fn round_trip()
 {}
 
 /// A reader of literals that keeps the contract of `read_literal` accepts the text of such a value: it answers the printed
-/// tree, unless memory runs out, where no number is above the limit and no name adds to the depth of the text.
+/// tree, unless memory runs out, where no number is above the limit, no piece has more remainders than a literal's may have, and no name
+/// adds to the depth of the text.
 pub fn printed_is_accepted()
-    ensures { (limit : ℕ) (value : KeptValue) → limit < too_great → IsWritableValue value → HasNumbersUpTo limit value → HasQuietNames value
-        → IsAccepted limit value }
+    ensures { (limit : ℕ) (value : KeptValue) → limit < too_great → IsWritableValue value → HasFewRemainders value
+        → HasNumbersUpTo limit value → HasQuietNames value → IsAccepted limit value }
 {}
 
-/// What is read of a plain literal of known names can be written, where its numbers are within the limit of a meter.
+/// A kept value with the elements of a literal, whose pieces are alike, can be written where it defines no column and its numbers are
+/// within the limit of a meter.
 pub fn lowered_is_writable()
-    ensures { (gauge : Gauge) (literal : Literal) (value : KeptValue) → gauge.bits ≤ 127 → is_plain literal ≡ true → IsWellFormedLiteral literal
-        → are_alike literal.pieces ≡ true → IsLowered literal value → IsWithinLimit gauge value → IsWritableValue value }
+    ensures { (gauge : Gauge) (literal : Literal) (value : KeptValue) → gauge.bits ≤ 127 → are_alike literal.pieces ≡ true
+        → IsKeptValue value → HasNoDefinitions value → HasSameElements literal value → IsWithinLimit gauge value
+        → IsWritableValue value }
 {}
 
 /// What the program answers, it takes again: the text of a line that shows a value is a statement, which shows a literal with exactly
 /// the elements that were selected, and whatever answers it answers the same line. It needs that what is bound can be written; this holds
 /// where nothing is bound, and each answered statement keeps it.
 pub fn shown_is_taken_again()
-    ensures taken { (before : Moment) (bytes : List ℕ) (after : Moment) (answer : Answer) → before.meter.bits ≤ 127 → AreWritable before.state
-        → (answered : Answers before bytes after answer) → IsTakenAgain before answered.stmt after answer }
-    ensures kept { (before : Moment) (bytes : List ℕ) (after : Moment) (answer : Answer) → before.meter.bits ≤ 127 → AreWritable before.state
-        → Answers before bytes after answer → AreWritable after.state }
+    ensures taken { (before : Moment) (bytes : List ℕ) (after : Moment) (answer : Answer) → before.meter.bits ≤ 127
+        → AreWritable before.state → (answered : Answers before bytes after answer) → IsTakenAgain before answered.stmt after answer }
+    ensures kept { (before : Moment) (bytes : List ℕ) (after : Moment) (answer : Answer) → before.meter.bits ≤ 127
+        → AreWritable before.state → Answers before bytes after answer → AreWritable after.state }
     ensures start { AreWritable unbound }
 {}

@@ -1,4 +1,4 @@
-use Rattle.isl_readback.proofs.LoweredLaws.{lowered_writable}
+use Rattle.isl_readback.proofs.WritableLaws.{lowered_writable}
 use Rattle.isl_readback.proofs.laws.lowered_is_writable.Goals as goal
 
 pub returns : goal.returns

@@ -1,0 +1,339 @@
+-- What an expression selects lies in spaces of its kind, and so do the pieces of a kept value with these elements.
+use mathlib.Core.Former.{Count}
+use Rattle.std.proofs.Common.{◌≡◌, ◌∙◌, inl, inr, Bool, true, false, List, [], ◌∷◌, Option, Some, None, All, sym, ap, subst, refl}
+use Rattle.std.specs.Prelude.{is_some, is_none, ◌&&◌, ◌||◌, option_map, Any}
+use Rattle.std.specs.List.{list_all}
+use Rattle.std.proofs.lemmas.Bool.{and_parts, false≢true}
+use Rattle.std.proofs.lemmas.List.Elements.{All-nil, All-cons, All-head, All-tail, All-weaker}
+use Rattle.isl_math.proofs.ListLaws.{Any-none, Any-first, Any-later, Any-cases}
+use Rattle.isl_space.specs.Name.{Name}
+use Rattle.isl_space.specs.Names.{AreDistinct}
+use Rattle.isl_space.specs.SpaceForm.{SpaceForm, set_of, map_of}
+use Rattle.isl_space.specs.Element.{Element}
+use Rattle.isl_space.specs.Valuation.{Valuation}
+use Rattle.isl_piece.specs.System.{HoldsSystem}
+use Rattle.isl_union.specs.KeptValue.{KeptPiece, KeptValue, Has, HasElement, IsKeptPiece, IsKeptValue, piece_system}
+use Rattle.isl_union.proofs.CompareLaws.{valuation_at, element_at, element_is, point_at}
+use Rattle.isl_maps.specs.Inverse.{inverse_space, inverse_element}
+use Rattle.isl_tree.specs.declared.tree.PieceTree.{PieceTree}
+use Rattle.isl_tree.specs.declared.tree.Literal.{Literal}
+use Rattle.isl_tree.specs.declared.tree.Tuple.{Tuple}
+use Rattle.isl_tree.specs.Literal.{PieceHas, space_of_piece}
+use Rattle.isl_text.specs.Formed.{are_distinct, are_alike, are_sets, are_maps, piece_is_formed}
+use Rattle.isl_expr.specs.declared.tree.ValueKind.{ValueKind}
+use Rattle.isl_expr.specs.declared.tree.ValueKind.TheVariants.{Set, Map, List as Pair, Empty, Truth, Listing, Code}
+use Rattle.isl_expr.specs.declared.tree.Binary.{Binary}
+use Rattle.isl_expr.specs.declared.tree.Binary.TheVariants as b
+use Rattle.isl_expr.specs.declared.tree.Postfix.{Postfix, Inverse, Apply, Item}
+use Rattle.isl_expr.specs.declared.tree.Expr as e
+use Rattle.isl_expr.specs.declared.tree.Expr.{Expr, Row', Prefix', Any', Last', Post', Row_of-Expr, end_of-Expr, more_of-Expr}
+use Rattle.isl_expr.specs.declared.tree.Expr.{Row_of-Link, end_of-Link, more_of-Link, Row_of-Postfix, end_of-Postfix, more_of-Postfix}
+use Rattle.isl_expr.specs.Expr.{literals_of, literals_in, literals_in_links, literals_in_postfixes}
+use Rattle.isl_kinds.specs.Lines.{joined, inverse}
+use Rattle.isl_kinds.specs.Typed.{TypeView, ScopeView, by_two, kind_of_pieces, kind_of_image, kind_of, kind_in, kind_past_links, kind_past_postfixes, kind_past}
+use Rattle.isl_eval.specs.State.{Kept, StateView, kept_of, scope_of, type_of}
+use Rattle.isl_eval.specs.Selection.{KeptHas, JoinHas, PostfixHas, Selects, SelectsIn, SelectsPastLinks, PastPostfixesHas}
+use Rattle.isl_eval.proofs.StateLaws.{bound_at}
+use Rattle.isl_eval.proofs.PartLaws.{all_left, all_right}
+use Rattle.isl_eval.proofs.LiteralLaws.{IsSpelled}
+use Rattle.isl_readback.specs.Written.{IsSet, IsMap, IsUniform, IsSpaceOf, IsOfKind}
+use Rattle.isl_readback.specs.TakenAgain.{AreWritable}
+
+-- ---- kinds
+some_same : (a b : ValueKind) → Some a ≡ Some b → a ≡ b
+some_same a b e = cc
+
+none_some : {A : Type 0} (k : ValueKind) → None ≡ Some k → A
+none_some k e = absurd (let f : None ≡ Some k = e in cc)
+
+as_kind : (space : SpaceForm) (made kind : ValueKind) → Some made ≡ Some kind → IsSpaceOf made space → IsSpaceOf kind space
+as_kind space made kind is lies = subst (λ (k : ValueKind). IsSpaceOf k space) (some_same made kind is) lies
+
+-- what is not without a space of its kind has one
+stable : (kind : ValueKind) (space : SpaceForm) → ¬ (¬ IsSpaceOf kind space) → IsSpaceOf kind space
+stable Set (set_of form) there = tt
+stable Set (map_of from to) there = absurd (there (λ h. h))
+stable Map (set_of form) there = absurd (there (λ h. h))
+stable Map (map_of from to) there = tt
+stable Empty space there = absurd (there (λ h. h))
+stable Pair space there = absurd (there (λ h. h))
+stable Truth space there = absurd (there (λ h. h))
+stable Listing space there = absurd (there (λ h. h))
+stable Code space there = absurd (there (λ h. h))
+
+-- ---- the pieces of a value with elements in such spaces
+module _ (kind : ValueKind) where
+  pub has_kind : (params : List Name) (valuation : Valuation) (element : Element) (pieces : List KeptPiece)
+      → All (λ piece. IsSpaceOf kind piece.space) pieces → Any (HasElement params valuation element) pieces → IsSpaceOf kind element.space
+  has_kind params valuation element [] all has = absurd (Any-none (HasElement params valuation element) has)
+  has_kind params valuation element (piece ∷ pieces) all has = elim (Any-cases (HasElement params valuation element) piece pieces has) [
+    | inl here ↦ subst (IsSpaceOf kind) here.space (All-head (λ (p : KeptPiece). IsSpaceOf kind p.space) piece pieces all)
+    | inr there ↦ has_kind params valuation element pieces (All-tail (λ (p : KeptPiece). IsSpaceOf kind p.space) piece pieces all) there
+  ]
+
+  -- a piece has an element
+  piece_kind : (params : List Name) (piece : KeptPiece) → AreDistinct params → IsKeptPiece params piece
+      → ((valuation : Valuation) (element : Element) → HasElement params valuation element piece → IsSpaceOf kind element.space)
+      → IsSpaceOf kind piece.space
+  piece_kind params piece distinct kept have = stable kind piece.space (λ none. kept.live (λ point long holds. none (
+      have (valuation_at params piece.space point distinct long) (element_at params piece.space point distinct long) (record {
+        numbers = element_is params piece.space point distinct long;
+        space = refl;
+        holds = subst (HoldsSystem (piece_system params piece)) (sym (point_at params piece.space point distinct long)) holds;
+      }))))
+
+  pieces_kind : (params : List Name) (pieces : List KeptPiece) → AreDistinct params → All (IsKeptPiece params) pieces
+      → ((valuation : Valuation) (element : Element) → Any (HasElement params valuation element) pieces → IsSpaceOf kind element.space)
+      → All (λ piece. IsSpaceOf kind piece.space) pieces
+  pieces_kind params [] distinct kept have = All-nil (λ (p : KeptPiece). IsSpaceOf kind p.space)
+  pieces_kind params (piece ∷ pieces) distinct kept have =
+      All-cons (λ (p : KeptPiece). IsSpaceOf kind p.space) piece pieces
+      (piece_kind params piece distinct (All-head (IsKeptPiece params) piece pieces kept)
+      (λ valuation element h. have valuation element (Any-first (HasElement params valuation element) piece pieces h)))
+      (pieces_kind params pieces distinct (All-tail (IsKeptPiece params) piece pieces kept)
+      (λ valuation element h. have valuation element (Any-later (HasElement params valuation element) piece pieces h)))
+
+  pub value_kind : (value : KeptValue) → IsKeptValue value
+      → ((valuation : Valuation) (element : Element) → Has value valuation element → IsSpaceOf kind element.space) → IsOfKind kind value
+  value_kind value kept have = pieces_kind value.params value.pieces kept.params.distinct kept.pieces have
+
+-- ---- literals
+module _ (params : List Name) (valuation : Valuation) (element : Element) where
+  set_piece : (piece : PieceTree) (second : Option Tuple) → piece.second ≡ second → is_none second ≡ true → IsSet (space_of_piece piece)
+  set_piece piece None is none = rw is tt
+  set_piece piece (Some second) is none = absurd (false≢true none)
+
+  map_piece : (piece : PieceTree) (second : Option Tuple) → piece.second ≡ second → is_some second ≡ true → IsMap (space_of_piece piece)
+  map_piece piece None is some = absurd (false≢true some)
+  map_piece piece (Some second) is some = rw is tt
+
+  in_sets : (pieces : List PieceTree) → are_sets pieces ≡ true → Any (PieceHas params valuation element) pieces → IsSet element.space
+  in_sets [] sets has = absurd (Any-none (PieceHas params valuation element) has)
+  in_sets (piece ∷ pieces) sets has =
+      let both = and_parts (is_none piece.second) (are_sets pieces) sets in
+      elim (Any-cases (PieceHas params valuation element) piece pieces has) [
+        | inl here ↦ subst IsSet here.space (set_piece piece piece.second refl both.0)
+        | inr there ↦ in_sets pieces both.1 there
+      ]
+
+  in_maps : (pieces : List PieceTree) → are_maps pieces ≡ true → Any (PieceHas params valuation element) pieces → IsMap element.space
+  in_maps [] maps has = absurd (Any-none (PieceHas params valuation element) has)
+  in_maps (piece ∷ pieces) maps has =
+      let both = and_parts (is_some piece.second) (are_maps pieces) maps in
+      elim (Any-cases (PieceHas params valuation element) piece pieces has) [
+        | inl here ↦ subst IsMap here.space (map_piece piece piece.second refl both.0)
+        | inr there ↦ in_maps pieces both.1 there
+      ]
+
+  pub in_pieces : (pieces : List PieceTree) → are_alike pieces ≡ true → Any (PieceHas params valuation element) pieces
+      → IsSpaceOf (kind_of_pieces pieces) element.space
+  in_pieces [] alike has = absurd (Any-none (PieceHas params valuation element) has)
+  in_pieces (piece ∷ pieces) alike has = by piece.second refl (are_sets (piece ∷ pieces)) refl
+    where
+      by : (second : Option Tuple) → piece.second ≡ second → (c : Bool) → are_sets (piece ∷ pieces) ≡ c
+          → IsSpaceOf (kind_of_image piece.second) element.space
+      by None is true so = rw is (in_sets (piece ∷ pieces) so has)
+      by None is false so =
+          let m : are_maps (piece ∷ pieces) ≡ true = sym (ap (λ (b : Bool). b || are_maps (piece ∷ pieces)) so) ∙ alike in
+          absurd (false≢true (sym (ap (λ (o : Option Tuple). is_some o) is) ∙ (and_parts (is_some piece.second) (are_maps pieces) m).0))
+      by (Some second) is true so =
+          absurd (false≢true (sym (ap (λ (o : Option Tuple). is_none o) is) ∙ (and_parts (is_none piece.second) (are_sets pieces) so).0))
+      by (Some second) is false so =
+          rw is (in_maps (piece ∷ pieces) (sym (ap (λ (b : Bool). b || are_maps (piece ∷ pieces)) so) ∙ alike) has)
+
+alike_of : (literal : Literal) → IsSpelled literal → are_alike literal.pieces ≡ true
+alike_of literal spelled =
+    let parts = and_parts (are_distinct literal.params && are_alike literal.pieces) (list_all (piece_is_formed literal.params) literal.pieces) spelled.formed in
+    (and_parts (are_distinct literal.params) (are_alike literal.pieces) parts.0).1
+
+-- ---- operators
+module _ (space : SpaceForm) where
+  of_union_left : (a c kind : ValueKind) → joined b.Union a c ≡ Some kind → IsSpaceOf a space → IsSpaceOf kind space
+  of_union_left Set Set kind is x = as_kind space Set kind is x
+  of_union_left Set Empty kind is x = as_kind space Set kind is x
+  of_union_left Set Map kind is x = none_some kind is
+  of_union_left Set Pair kind is x = none_some kind is
+  of_union_left Set Truth kind is x = none_some kind is
+  of_union_left Set Listing kind is x = none_some kind is
+  of_union_left Set Code kind is x = none_some kind is
+  of_union_left Map Set kind is x = none_some kind is
+  of_union_left Map Empty kind is x = as_kind space Map kind is x
+  of_union_left Map Map kind is x = as_kind space Map kind is x
+  of_union_left Map Pair kind is x = none_some kind is
+  of_union_left Map Truth kind is x = none_some kind is
+  of_union_left Map Listing kind is x = none_some kind is
+  of_union_left Map Code kind is x = none_some kind is
+  of_union_left Empty c kind is x = absurd x
+  of_union_left Pair c kind is x = absurd x
+  of_union_left Truth c kind is x = absurd x
+  of_union_left Listing c kind is x = absurd x
+  of_union_left Code c kind is x = absurd x
+
+  of_union_right : (a c kind : ValueKind) → joined b.Union a c ≡ Some kind → IsSpaceOf c space → IsSpaceOf kind space
+  of_union_right Set Set kind is x = as_kind space Set kind is x
+  of_union_right Empty Set kind is x = as_kind space Set kind is x
+  of_union_right Map Set kind is x = none_some kind is
+  of_union_right Pair Set kind is x = none_some kind is
+  of_union_right Truth Set kind is x = none_some kind is
+  of_union_right Listing Set kind is x = none_some kind is
+  of_union_right Code Set kind is x = none_some kind is
+  of_union_right Set Map kind is x = none_some kind is
+  of_union_right Empty Map kind is x = as_kind space Map kind is x
+  of_union_right Map Map kind is x = as_kind space Map kind is x
+  of_union_right Pair Map kind is x = none_some kind is
+  of_union_right Truth Map kind is x = none_some kind is
+  of_union_right Listing Map kind is x = none_some kind is
+  of_union_right Code Map kind is x = none_some kind is
+  of_union_right a Empty kind is x = absurd x
+  of_union_right a Pair kind is x = absurd x
+  of_union_right a Truth kind is x = absurd x
+  of_union_right a Listing kind is x = absurd x
+  of_union_right a Code kind is x = absurd x
+
+  of_meet : (a c kind : ValueKind) → joined b.Intersection a c ≡ Some kind → IsSpaceOf a space → IsSpaceOf c space → IsSpaceOf kind space
+  of_meet Set Set kind is x y = as_kind space Set kind is x
+  of_meet Set Map kind is x y = none_some kind is
+  of_meet Map Map kind is x y = as_kind space Map kind is x
+  of_meet Map Set kind is x y = as_kind space Map kind is x
+  of_meet Empty c kind is x y = absurd x
+  of_meet Pair c kind is x y = absurd x
+  of_meet Truth c kind is x y = absurd x
+  of_meet Listing c kind is x y = absurd x
+  of_meet Code c kind is x y = absurd x
+  of_meet Set Empty kind is x y = absurd y
+  of_meet Set Pair kind is x y = absurd y
+  of_meet Set Truth kind is x y = absurd y
+  of_meet Set Listing kind is x y = absurd y
+  of_meet Set Code kind is x y = absurd y
+  of_meet Map Empty kind is x y = absurd y
+  of_meet Map Pair kind is x y = absurd y
+  of_meet Map Truth kind is x y = absurd y
+  of_meet Map Listing kind is x y = absurd y
+  of_meet Map Code kind is x y = absurd y
+
+  turned_map : IsMap (inverse_space space) → IsMap space
+  turned_map lies = by space lies
+    where
+      by : (s : SpaceForm) → IsMap (inverse_space s) → IsMap s
+      by (set_of form) h = h
+      by (map_of from to) h = tt
+
+  of_inverse : (a kind : ValueKind) → inverse a ≡ Some kind → IsSpaceOf a (inverse_space space) → IsSpaceOf kind space
+  of_inverse Set kind is x = none_some kind is
+  of_inverse Map kind is x = as_kind space Map kind is (turned_map x)
+  of_inverse Empty kind is x = absurd x
+  of_inverse Pair kind is x = absurd x
+  of_inverse Truth kind is x = absurd x
+  of_inverse Listing kind is x = absurd x
+  of_inverse Code kind is x = absurd x
+
+-- the elements are in spaces of this kind, if there is one
+pub record AreIn (P : Element → Type 0) (o : Option ValueKind) : Type 1 where
+  pub lies : (kind : ValueKind) (element : Element) → o ≡ Some kind → P element → IsSpaceOf kind element.space
+
+module _ (Left Right : Element → Type 0) where
+  join_kind : (sign : Binary) (a c kind : ValueKind) (element : Element) → joined sign a c ≡ Some kind
+      → (Left element → IsSpaceOf a element.space) → (Right element → IsSpaceOf c element.space)
+      → JoinHas sign Left Right element → IsSpaceOf kind element.space
+  join_kind b.Union a c kind element is x y (inl h) = of_union_left element.space a c kind is (x h)
+  join_kind b.Union a c kind element is x y (inr h) = of_union_right element.space a c kind is (y h)
+  join_kind b.Intersection a c kind element is x y has = of_meet element.space a c kind is (x has.0) (y has.1)
+  join_kind b.Difference a c kind element is x y has = absurd has
+  join_kind b.RangeDifference a c kind element is x y has = absurd has
+  join_kind b.RangeIntersection a c kind element is x y has = absurd has
+  join_kind b.Gist a c kind element is x y has = absurd has
+  join_kind b.Cross a c kind element is x y has = absurd has
+  join_kind b.Join a c kind element is x y has = absurd has
+  join_kind b.Universal a c kind element is x y has = absurd has
+  join_kind b.LexLess a c kind element is x y has = absurd has
+  join_kind b.LexLessEqual a c kind element is x y has = absurd has
+  join_kind b.LexGreater a c kind element is x y has = absurd has
+  join_kind b.LexGreaterEqual a c kind element is x y has = absurd has
+  join_kind b.Equal a c kind element is x y has = absurd has
+  join_kind b.ProperSubset a c kind element is x y has = absurd has
+  join_kind b.Subset a c kind element is x y has = absurd has
+  join_kind b.ProperSuperset a c kind element is x y has = absurd has
+  join_kind b.Superset a c kind element is x y has = absurd has
+
+  both_kind : (sign : Binary) (o p : Option ValueKind) → AreIn Left o → AreIn Right p → AreIn (λ x. JoinHas sign Left Right x) (by_two (joined sign) o p)
+  both_kind sign None p left right = record { lies = λ kind element is has. none_some kind is }
+  both_kind sign (Some a) None left right = record { lies = λ kind element is has. none_some kind is }
+  both_kind sign (Some a) (Some c) left right = record {
+    lies = λ kind element is has. join_kind sign a c kind element is (left.lies a element refl) (right.lies c element refl) has;
+  }
+
+followed_kind : (scope : ScopeView) (Left : Element → Type 0) (postfix : Postfix) (o : Option ValueKind) → AreIn Left o
+    → AreIn (λ x. PostfixHas postfix Left x) (kind_past scope o postfix)
+followed_kind scope Left Inverse None left = record { lies = λ kind element is has. none_some kind is }
+followed_kind scope Left Inverse (Some a) left = record {
+  lies = λ kind element is has. of_inverse element.space a kind is (left.lies a (inverse_element element) refl has);
+}
+followed_kind scope Left (Apply argument) o left = record { lies = λ kind element is has. absurd has }
+followed_kind scope Left (Item number) o left = record { lies = λ kind element is has. absurd has }
+
+-- ---- expressions
+module _ (state : StateView) (valuation : Valuation) (all : AreWritable state) where
+  named_kind : (name : Name) (kind : ValueKind) (element : Element) → kind_of (scope_of state) (e.Name name) ≡ Some kind
+      → Selects state (e.Name name) valuation element → IsSpaceOf kind element.space
+  named_kind name kind element is has = by (kept_of state name) refl has
+    where
+      by : (o : Option Kept) → kept_of state name ≡ o → KeptHas o valuation element → IsSpaceOf kind element.space
+      by None none has = absurd has
+      by (Some kept) there has =
+          let same : kept.kind ≡ kind = some_same kept.kind kind
+          (sym (ap (option_map (λ (t : TypeView). t.kind)) (bound_at state name ∙ ap (option_map type_of) there)) ∙ is) in
+          subst (λ (k : ValueKind). IsSpaceOf k element.space) same
+          (has_kind kept.kind kept.value.params valuation element kept.value.pieces (all name kept there).0 has)
+
+  mutual
+    pub selected_kind : (expr : Expr) → All IsSpelled (literals_of expr)
+        → AreIn (λ x. Selects state expr valuation x) (kind_of (scope_of state) expr)
+    selected_kind (e.Name name) spelled = record { lies = λ kind element is has. named_kind name kind element is has }
+    selected_kind (e.Literal literal) spelled = record {
+      lies = λ kind element is has. as_kind element.space (kind_of_pieces literal.pieces) kind is
+          (in_pieces literal.params valuation element literal.pieces (alike_of literal (All-head IsSpelled literal [] spelled)) has);
+    }
+    selected_kind (Row' s first t links) spelled =
+        links_kind _ (λ x. SelectsIn state first valuation x) (kind_in (scope_of state) first) links
+        (in_kind _ first (all_left IsSpelled (literals_in first) (literals_in_links links) spelled))
+        (all_right IsSpelled (literals_in first) (literals_in_links links) spelled)
+    selected_kind (Prefix' word s operand) spelled = record { lies = λ kind element is has. absurd has }
+    selected_kind (Any' p source s sink t schedule) spelled = record { lies = λ kind element is has. absurd has }
+    selected_kind (Last' p source s sink t schedule) spelled = record { lies = λ kind element is has. absurd has }
+    selected_kind (Post' s operand t postfixes) spelled =
+        postfixes_kind _ (λ x. SelectsIn state operand valuation x) (kind_in (scope_of state) operand) postfixes
+        (in_kind _ operand (all_left IsSpelled (literals_in operand) (literals_in_postfixes postfixes) spelled))
+
+    in_kind : (m : Count) (row : Row_of-Expr m) → All IsSpelled (literals_in row)
+        → AreIn (λ x. SelectsIn state row valuation x) (kind_in (scope_of state) row)
+    in_kind m end_of-Expr spelled = record { lies = λ kind element is has. absurd has }
+    in_kind m (more_of-Expr expr rest) spelled = record {
+      lies = λ kind element is has. (selected_kind expr spelled).lies kind element is has;
+    }
+
+    links_kind : (m : Count) (Left : Element → Type 0) (o : Option ValueKind) (row : Row_of-Link m) → AreIn Left o
+        → All IsSpelled (literals_in_links row)
+        → AreIn (λ x. SelectsPastLinks state valuation Left row x) (kind_past_links (scope_of state) o row)
+    links_kind m Left o end_of-Link before spelled = record { lies = λ kind element is has. before.lies kind element is has }
+    links_kind m Left o (more_of-Link sign operand rest) before spelled =
+        links_kind _ (λ x. JoinHas sign Left (λ y. Selects state operand valuation y) x) (by_two (joined sign) o (kind_of (scope_of state) operand)) rest
+        (both_kind Left (λ y. Selects state operand valuation y) sign o (kind_of (scope_of state) operand) before
+        (selected_kind operand (all_left IsSpelled (literals_of operand) (literals_in_links rest) spelled)))
+        (all_right IsSpelled (literals_of operand) (literals_in_links rest) spelled)
+
+    postfixes_kind : (m : Count) (Left : Element → Type 0) (o : Option ValueKind) (row : Row_of-Postfix m) → AreIn Left o
+        → AreIn (λ x. PastPostfixesHas Left row x) (kind_past_postfixes (scope_of state) o row)
+    postfixes_kind m Left o end_of-Postfix before = record { lies = λ kind element is has. before.lies kind element is has }
+    postfixes_kind m Left o (more_of-Postfix postfix rest) before =
+        postfixes_kind _ (λ x. PostfixHas postfix Left x) (kind_past (scope_of state) o postfix) rest
+        (followed_kind (scope_of state) Left postfix o before)
+
+-- ---- what is of a kind can be written
+pub of_kind_uniform : (value : KeptValue) (kind : ValueKind) → IsOfKind kind value → IsUniform value
+of_kind_uniform value Set all = inl all
+of_kind_uniform value Map all = inr all
+of_kind_uniform value Empty all = inl (All-weaker (λ (p : KeptPiece). IsSpaceOf Empty p.space) (λ (p : KeptPiece). IsSet p.space) (λ p h. absurd h) value.pieces all)
+of_kind_uniform value Pair all = inl (All-weaker (λ (p : KeptPiece). IsSpaceOf Pair p.space) (λ (p : KeptPiece). IsSet p.space) (λ p h. absurd h) value.pieces all)
+of_kind_uniform value Truth all = inl (All-weaker (λ (p : KeptPiece). IsSpaceOf Truth p.space) (λ (p : KeptPiece). IsSet p.space) (λ p h. absurd h) value.pieces all)
+of_kind_uniform value Listing all = inl (All-weaker (λ (p : KeptPiece). IsSpaceOf Listing p.space) (λ (p : KeptPiece). IsSet p.space) (λ p h. absurd h) value.pieces all)
+of_kind_uniform value Code all = inl (All-weaker (λ (p : KeptPiece). IsSpaceOf Code p.space) (λ (p : KeptPiece). IsSet p.space) (λ p h. absurd h) value.pieces all)
