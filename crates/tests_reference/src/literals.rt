@@ -2,7 +2,7 @@
 
 ghost use Rattle.std.specs.Prelude.{◌≤ℤ◌, pos};
 
-use isl_linear::{is_plain_piece, rows_written};
+use isl_linear::{is_plain, is_plain_piece, rows_written};
 use isl_meter::{Cut, Meter};
 use isl_piece::{System, normalise};
 use isl_reference::{Wrong, all_hold, numbered, piece_has};
@@ -138,7 +138,21 @@ fn has_listed(alloc: Global, literal: &Literal, case: &str, columns: usize) -> R
     Ok(same && met == list_len(case))
 }
 
-// Whether the literal's rows, and what is printed of it, have the points that it has.
+// Whether the rows of a plain literal have the points that it has.
+fn has_its_rows(alloc: Global, literal: &Literal, columns: usize) -> Result<bool, Wrong> {
+    if !is_plain(literal) {
+        return Ok(true);
+    }
+    let mut same = true;
+    for at in 0..points(columns) {
+        let point = numbered(alloc, at, columns, FIRST, SIDE)?;
+        let has = literal_has(alloc, literal, &point)?;
+        same = same && some_rows_hold(alloc, literal, &point)? == has;
+    }
+    Ok(same)
+}
+
+// Whether what is printed of the literal has the points that it has.
 fn is_answered(
     alloc: Global,
     literal: &Literal,
@@ -150,24 +164,52 @@ fn is_answered(
     for at in 0..points(columns) {
         let point = numbered(alloc, at, columns, FIRST, SIDE)?;
         let has = literal_has(alloc, literal, &point)?;
-        same = same
-            && some_rows_hold(alloc, literal, &point)? == has
-            && literal_has(alloc, &other, &point)? == has;
+        same = same && literal_has(alloc, &other, &point)? == has;
     }
     Ok(same)
 }
 
-/// Whether the literal of a case has the points that the case lists, and is answered so, unless that is to come.
+fn columns_of(case: &str) -> usize {
+    number(case, "columns ", 1).min(4)
+}
+
+/// Whether the literal of a case has the points that the case lists, and is answered so.
 pub(crate) fn literal_is_right(alloc: Global, case: &str, text: &str) -> Result<bool, Wrong> {
     let literal = read(alloc, text)?;
-    let columns = number(case, "columns ", 1).min(4);
-    if !has_listed(alloc, &literal, case, columns)? {
-        return Ok(false);
+    let columns = columns_of(case);
+    Ok(
+        has_listed(alloc, &literal, case, columns)?
+            && has_its_rows(alloc, &literal, columns)?
+            && is_answered(alloc, &literal, text, columns)?,
+    )
+}
+
+// Whether the literal that begins so and goes on with this formula is answered with the points that it has.
+fn formula_is_right(
+    alloc: Global,
+    begin: &str,
+    formula: &str,
+    columns: usize,
+) -> Result<bool, Wrong> {
+    let mut text = String::from_str(alloc, begin)?;
+    text.push_str(" ")?;
+    text.push_str(formula)?;
+    text.push_str(" }")?;
+    let literal = read(alloc, &text)?;
+    is_answered(alloc, &literal, &text, columns)
+}
+
+/// Whether each formula of a case is answered with the points at which it holds; the first that is not is told.
+pub(crate) fn wrong_formula<'a>(alloc: Global, case: &'a str, begin: &str) -> Option<&'a str> {
+    let columns = columns_of(case);
+    for line in case.lines() {
+        if let Some(formula) = line.strip_prefix("formula ") {
+            if formula_is_right(alloc, begin, formula, columns) != Ok(true) {
+                return Some(formula);
+            }
+        }
     }
-    if field(case, "later").is_some() {
-        return Ok(field(case, "has ").is_some() || field(case, "none").is_some());
-    }
-    is_answered(alloc, &literal, text, columns)
+    None
 }
 
 // Why the text is no literal within its limits; nothing where it is one.

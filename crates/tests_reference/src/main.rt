@@ -5,14 +5,14 @@
 mod literals;
 mod scripts;
 
-use literals::{literal_is_right, text_is_right};
+use literals::{literal_is_right, text_is_right, wrong_formula};
 use scripts::{script_is_right, short_script_is_right};
 use std::alloc::Global;
 use std::io;
 use tests_made::{Form, field, is_case};
 
 // The lines of a case.
-const FORMS: [(&str, Form); 15] = [
+const FORMS: [(&str, Form); 16] = [
     ("#", Form::Text),
     ("case ", Form::Text),
     ("literal ", Form::Text),
@@ -22,7 +22,8 @@ const FORMS: [(&str, Form); 15] = [
     ("script", Form::Text),
     ("ends ", Form::Numbers),
     ("rest", Form::Text),
-    ("later", Form::Text),
+    ("within ", Form::Text),
+    ("formula ", Form::Text),
     ("text ", Form::Text),
     ("text-part ", Form::Text),
     ("text-times ", Form::Counted),
@@ -36,6 +37,9 @@ fn is_right(alloc: Global, case: &str) -> bool {
     }
     if let Some(text) = field(case, "literal ") {
         return literal_is_right(alloc, case, text) == Ok(true);
+    }
+    if let Some(begin) = field(case, "within ") {
+        return field(case, "formula ").is_some() && wrong_formula(alloc, case, begin).is_none();
     }
     if field(case, "text").is_some() {
         return text_is_right(alloc, case) == Ok(true);
