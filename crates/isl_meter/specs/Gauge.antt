@@ -50,11 +50,11 @@ pub record IsCharged (old new : Gauge) : Type 0 where
   pub same : new ≡ record old { units = new.units }
   pub units : old.units ≤ new.units
 
--- why work was cut: a number passed the limit; or the units reached the budget, and one more was
--- refused; want of memory leaves no mark on a meter but the units that were used before it
+-- why work was cut: a number passed the limit, and no unit was refused; or the units reached the budget, and one more was refused,
+-- and no number passed the limit; want of memory leaves no mark on a meter but the units that were used before it
 abbrev pub HasCause : Gauge → Gauge → Cut → Type 0
-HasCause old new Overflow = Rose old.overflows new.overflows
-HasCause old new Budget = (new.budget ≤ new.units) × Rose old.spents new.spents
+HasCause old new Overflow = Rose old.overflows new.overflows × (new.spents ≡ old.spents)
+HasCause old new Budget = (new.budget ≤ new.units) × Rose old.spents new.spents × (new.overflows ≡ old.overflows)
 HasCause old new NoMemory = IsCharged old new
 
 -- the meter was kept, and the cut has its cause

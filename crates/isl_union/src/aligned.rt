@@ -119,8 +119,12 @@ fn moved_pieces(
     Ok(moved)
 }
 
-// The pieces of the value, as ones over all parameters.
-pub(crate) fn aligned_pieces(
+/// The pieces of the value, as ones over all parameters, in their order.
+///
+/// # Errors
+///
+/// Where memory ends.
+pub fn aligned_pieces(
     alloc: Global,
     all: &Params,
     value: &Value,
@@ -141,8 +145,12 @@ pub(crate) fn aligned_pieces(
     }
 }
 
-// Puts more pieces behind these.
-pub(crate) fn append(pieces: &mut Vec<Piece>, more: Vec<Piece>) -> Result<(), AllocError>
+/// Puts more pieces behind these.
+///
+/// # Errors
+///
+/// Where memory ends.
+pub fn append(pieces: &mut Vec<Piece>, more: Vec<Piece>) -> Result<(), AllocError>
     ensures { OnOk result (pieces.new.items ≡ pieces.old.items ++ more.items) }
 {
     for piece in more {

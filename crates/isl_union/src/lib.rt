@@ -16,7 +16,9 @@ mod sample;
 mod union;
 mod value;
 
+pub use aligned::{aligned_pieces, append};
 pub use fault::OpFault;
 pub use live::{live_piece, push_found, settled_piece};
+pub use pair::{AlignedPair, aligned_pair};
 pub use pieces::live_pieces_in;
 pub use value::Value;

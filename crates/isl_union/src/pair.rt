@@ -16,14 +16,21 @@ use std::alloc::Global;
 
 /// The joined parameters of two values, and the pieces of both over them.
 #[derive(Drop)]
-pub(crate) struct AlignedPair {
-    pub(crate) params: Params,
-    pub(crate) own: Vec<Piece>,
-    pub(crate) others: Vec<Piece>,
+pub struct AlignedPair {
+    /// The joined parameters.
+    pub params: Params,
+    /// The pieces of the first value.
+    pub own: Vec<Piece>,
+    /// The pieces of the second value.
+    pub others: Vec<Piece>,
 }
 
 /// The pieces of this value and of the other over the joined parameters.
-pub(crate) fn aligned_pair(
+///
+/// # Errors
+///
+/// `TooWide` where the two together declare more than 16 parameters, and `NoMemory`.
+pub fn aligned_pair(
     alloc: Global,
     value: &Value,
     other: &Value,
