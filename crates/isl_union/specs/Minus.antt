@@ -1,4 +1,5 @@
--- inner: what is left of pieces without others, and which pieces have the elements of others.
+-- public: what is left of pieces without others, which pieces have the elements of others, and two values over their joined parameters. (isl
+-- manual, on subtracting sets and on the alignment of parameters)
 use Rattle.std.specs.Prelude.{◌≡◌, ◌↔◌, if◌then◌else◌, Option, Some, None, List, [], All, Any, filter_map, map}
 use Rattle.isl_meter.specs.Gauge.{Gauge}
 use Rattle.isl_space.specs.Element.{Element}
