@@ -1,0 +1,10 @@
+pub mod Point
+pub mod Sets
+pub mod Maps
+pub mod Pairs
+pub mod Formed
+pub mod Wide
+pub use Rattle.isl_space.specs.Element
+pub use Rattle.isl_space.specs.Form
+pub use Rattle.isl_space.specs.SpaceForm
+pub use Rattle.isl_union.specs.KeptValue

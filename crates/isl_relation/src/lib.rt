@@ -1,0 +1,2 @@
+//! What operations on sets and relations select: definitions alone.
+#![tactic(auto)]
