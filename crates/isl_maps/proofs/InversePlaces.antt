@@ -14,6 +14,7 @@ use Rattle.isl_piece.specs.Placed.{ArePlacesAmong}
 use Rattle.isl_piece.proofs.PlacedLaws.{AreApart, first_apart, first_inside, numbers_at-first, numbers_at-longer}
 use Rattle.isl_union.proofs.PlacesLaws.{numbers_behind}
 use Rattle.isl_maps.specs.Inverse.{inverse_space, inverse_numbers, inverse_places}
+use Rattle.isl_maps.specs.Places.{exchanged_places}
 
 -- ---- places that are apart
 apart_append : (xs ys : List ℕ) → AreApart xs → AreApart ys → ((i j d : ℕ) → i < length xs → j < length ys → get_or xs i d ≢ get_or ys j d)
@@ -109,15 +110,16 @@ length-inverse_places p (map_of from to) =
 
 -- ---- the numbers that are found there
 -- those that stand between others
-numbers_between : (xs ys zs : List ℤ) (a n : ℕ) → a ≡ length xs → n ≡ length ys → numbers_at (range_with_len a n) (xs ++ (ys ++ zs)) ≡ ys
+pub numbers_between : (xs ys zs : List ℤ) (a n : ℕ) → a ≡ length xs → n ≡ length ys
+    → numbers_at (range_with_len a n) (xs ++ (ys ++ zs)) ≡ ys
 numbers_between xs ys zs a n first second =
     ap (numbers_at (range_with_len a n)) (sym (append_assoc xs ys zs))
     ∙ numbers_at-longer (range_with_len a n) (xs ++ ys) zs (range_inside a n (length (xs ++ ys)) (let l = length-append xs ys in
     omega arith))
     ∙ ap (λ k. numbers_at (range_with_len k n) (xs ++ ys)) first ∙ numbers_behind xs ys n second
 
-exchanged : (ps ys zs : List ℤ) (p m n : ℕ) → p ≡ length ps → m ≡ length zs → n ≡ length ys
-    → numbers_at (range_with_len 0 p ++ (range_with_len (p + n) m ++ range_with_len p n)) (ps ++ (ys ++ zs)) ≡ ps ++ (zs ++ ys)
+pub exchanged : (ps ys zs : List ℤ) (p m n : ℕ) → p ≡ length ps → m ≡ length zs → n ≡ length ys
+    → numbers_at (exchanged_places p m n) (ps ++ (ys ++ zs)) ≡ ps ++ (zs ++ ys)
 exchanged ps ys zs p m n first second third =
     let all = ps ++ (ys ++ zs) in
     let f : ℕ → ℤ = λ q. get_or all q (pos 0) in

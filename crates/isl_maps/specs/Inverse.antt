@@ -7,6 +7,7 @@ use Rattle.isl_space.specs.Name.{Name}
 use Rattle.isl_space.specs.SpaceForm.{SpaceForm, set_of, map_of}
 use Rattle.isl_union.specs.KeptValue.{KeptPiece, KeptValue, columns_of, piece_system}
 use Rattle.isl_union.specs.Moved.{moved}
+use Rattle.isl_maps.specs.Places.{exchanged_places}
 
 -- ---- elements
 -- a map's space with its two forms exchanged; that of a set stays
@@ -27,8 +28,7 @@ inverse_element element = record { space = inverse_space element.space; coordina
 -- where the columns of a piece stand when it is turned round: parameters stay, and the coordinates of the two forms are exchanged
 abbrev pub inverse_places : ℕ → SpaceForm → List ℕ
 inverse_places parameters (set_of form) = range_with_len 0 (parameters + width_of form)
-inverse_places parameters (map_of from to) =
-    range_with_len 0 parameters ++ (range_with_len (parameters + width_of to) (width_of from) ++ range_with_len parameters (width_of to))
+inverse_places parameters (map_of from to) = exchanged_places parameters (width_of from) (width_of to)
 
 -- a piece turned round
 unfoldable pub inverse_piece : List Name → KeptPiece → KeptPiece

@@ -1,7 +1,6 @@
 //! Maps turned round.
 
-ghost use Rattle.std.specs.Prelude.{◌≡◌, ◌↔◌, ◌+◌, ◌++◌, ◌<◌, ◌≤◌, ◌^◌, ℕ, ℤ, List, All, IfOk, IfErr, OnOk, length, map};
-ghost use Rattle.std.specs.List.{range_with_len};
+ghost use Rattle.std.specs.Prelude.{◌≡◌, ◌↔◌, ◌++◌, ◌≤◌, ℕ, ℤ, List, All, IfOk, IfErr, length, map};
 ghost use Rattle.isl_meter.specs.declared.Cut.TheVariants.{NoMemory};
 ghost use Rattle.isl_space.specs.Element.{Element};
 ghost use Rattle.isl_space.specs.Form.{Form, width_of};
@@ -16,58 +15,27 @@ ghost use Rattle.isl_union.specs.Piece.{kept_piece, IsPieceOf};
 ghost use Rattle.isl_union.specs.declared.fault.OpFault.TheVariants as op_fault;
 ghost use Rattle.isl_maps.specs.Inverse.{inverse_element, inverse_of, inverse_piece, inverse_places, inverse_space};
 
+use crate::places::{exchanged_places, own_places};
 use isl_meter::Meter;
 use isl_piece::Piece;
 use isl_space::{Params, Space};
 use isl_union::{OpFault, Value, settled_piece};
 use std::alloc::{AllocError, Global};
 
-// Puts so many places from the first on behind the others.
-fn push_places(places: &mut Vec<usize>, first: usize, count: u32) -> Result<(), AllocError>
-    requires { first + count < 2 ^ 64 }
-    ensures { OnOk result (places.new.items ≡ places.old.items ++ range_with_len first count) }
-{
-    for offset in 0..count as usize {
-        places.push(first + offset)?;
-    }
-    Ok(())
-}
-
-// So many columns, each at its own place.
-fn own_places(alloc: Global, count: u32) -> Result<Vec<usize>, AllocError>
-    ensures { IfOk result (λ places. places.items ≡ range_with_len 0 count) }
-{
-    let mut places = Vec::new(alloc);
-    push_places(&mut places, 0, count)?;
-    Ok(places)
-}
-
-// The places of so many parameters, and behind them the coordinates of a map's two places, exchanged.
-fn exchanged_places(
-    alloc: Global,
-    parameters: u32,
-    from: u32,
-    to: u32,
-) -> Result<Vec<usize>, AllocError>
-    ensures { IfOk result (λ places. places.items
-        ≡ range_with_len 0 parameters ++ (range_with_len (parameters + to) from ++ range_with_len parameters to)) }
-{
-    let behind = parameters as usize + to as usize;
-    let mut places = own_places(alloc, parameters)?;
-    push_places(&mut places, behind, from)?;
-    push_places(&mut places, parameters as usize, to)?;
-    Ok(places)
-}
-
 // Where the columns of a piece of this space stand when it is turned round.
-fn inverse_places(alloc: Global, parameters: u32, space: &Space) -> Result<Vec<usize>, AllocError>
+fn inverse_places(alloc: Global, parameters: usize, space: &Space) -> Result<Vec<usize>, AllocError>
     requires parameters { parameters ≤ most_parameters }
     requires space { coordinates_of (space_form_of space.now) ≤ most_coordinates }
     ensures { IfOk result (λ places. places.items ≡ inverse_places parameters (space_form_of space.now)) }
 {
     match space {
-        Space::Set(shape) => own_places(alloc, parameters + shape.width()),
-        Space::Map(from, to) => exchanged_places(alloc, parameters, from.width(), to.width()),
+        Space::Set(shape) => own_places(alloc, parameters + shape.width() as usize),
+        Space::Map(from, to) => exchanged_places(
+            alloc,
+            parameters,
+            from.width() as usize,
+            to.width() as usize,
+        ),
     }
 }
 
@@ -94,7 +62,7 @@ fn inverse_piece(
     ensures sound { IfOk result (IsPieceOf params.now) }
 {
     let own = piece.system();
-    let places = inverse_places(alloc, params.len() as u32, piece.space())?;
+    let places = inverse_places(alloc, params.len(), piece.space())?;
     let system = own.placed(alloc, own.free(), places.as_slice())?;
     let space = inverse_space(piece.space())?;
     settled_piece(alloc, &space, system, meter)

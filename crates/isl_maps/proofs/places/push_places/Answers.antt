@@ -1,5 +1,5 @@
 use Rattle.isl_union.proofs.PlacesLaws.{range_more}
-use Rattle.isl_maps.proofs.turned.push_places.Goals as goal
+use Rattle.isl_maps.proofs.places.push_places.Goals as goal
 
 pub loop-offset-preserved : goal.loop-offset-preserved
 loop-offset-preserved c =

@@ -1,0 +1,13 @@
+pub mod Differences
+pub mod Image
+pub mod Made
+pub mod Pairing
+pub mod Shadow
+pub mod Shift
+pub use Rattle.isl_relation.specs.Formed
+pub use Rattle.isl_relation.specs.Maps
+pub use Rattle.isl_relation.specs.Point
+pub use Rattle.isl_relation.specs.Wide
+pub use Rattle.isl_union.specs.Fault
+pub use Rattle.isl_union.specs.KeptValue
+pub use Rattle.isl_union.specs.Numbers

@@ -1,0 +1,21 @@
+-- inner: the operations of this crate on two values, as one.
+use Rattle.isl_space.specs.Element.{Element}
+use Rattle.isl_space.specs.SpaceForm.{SpaceForm, IsTooWideSpace}
+use Rattle.isl_relation.specs.Formed.{FormsJoin}
+use Rattle.isl_relation.specs.Maps.{ApplyHas, JoinHas}
+use Rattle.isl_images.specs.declared.pairing.Pairing.{Pairing}
+use Rattle.isl_images.specs.declared.pairing.Pairing.TheVariants.{Apply, Join}
+
+-- the elements that are made of a map and a set, or of two maps
+abbrev pub PairHas : Pairing → (Element → Type 0) → (Element → Type 0) → Element → Type 0
+PairHas Apply M N element = ApplyHas M N element
+PairHas Join M N element = JoinHas M N element
+
+-- two maps meet in one form, and the space of their join is too wide
+abbrev pub IsWideJoin : SpaceForm → SpaceForm → Type 0
+IsWideJoin s t = (formed : SpaceForm) × FormsJoin s t formed × IsTooWideSpace formed
+
+-- no space that is formed of two is too wide; that of a map's image is as narrow as the map's own
+abbrev pub IsNarrowPair : Pairing → SpaceForm → SpaceForm → Type 0
+IsNarrowPair Apply s t = Unit {0}
+IsNarrowPair Join s t = ¬ IsWideJoin s t

@@ -1,0 +1,7 @@
+pub mod PickLaws
+pub mod PlaceLaws
+pub mod LayoutLaws
+pub mod PairLaws
+pub mod WideLaws
+pub mod HasLaws
+pub mod RemoveLaws

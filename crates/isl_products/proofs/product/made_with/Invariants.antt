@@ -1,0 +1,15 @@
+use Rattle.std.proofs.Common.{◌≡◌, [], All, map, take}
+use Rattle.isl_meter.specs.Gauge.{IsCharged}
+use Rattle.isl_union.specs.Piece.{kept_piece}
+use Rattle.isl_union.proofs.PiecesLaws.{AreMade}
+use Rattle.isl_products.specs.Made.{IsMadeOf}
+use Rattle.isl_products.proofs.product.made_with.Given as goal
+
+abbrev pub invariant-loop-other : goal.invariant-loop-other
+invariant-loop-other l = record {
+  made : AreMade l.fn.meter l.params (λ v e b. IsMadeOf l.product l.params v e (kept_piece l.piece) b)
+      (map kept_piece (take l.other-index l.others)) l.made.items;
+  definitions : l.piece.system.definitions ≡ [] → All (λ other. other.system.definitions ≡ []) l.others
+      → All (λ piece. piece.definitions ≡ []) (map kept_piece l.made.items);
+  charged : IsCharged l.fn.meter l.meter;
+}

@@ -1,0 +1,49 @@
+use Rattle.std.proofs.Common.{map}
+use Rattle.isl_union.specs.KeptValue.{Has}
+use Rattle.isl_union.specs.Minus.{IsAlignedPair}
+use Rattle.isl_union.specs.Piece.{kept_piece}
+use Rattle.isl_union.proofs.PiecesLaws.{through}
+use Rattle.isl_products.specs.Made.{AreWide, IsWidePair, ProductHas}
+use Rattle.isl_products.proofs.PairLaws.{product_has, value_has, value_kept, value_numbers}
+use Rattle.isl_products.proofs.WideLaws.{over_narrow, wide_pieces}
+use Rattle.isl_products.proofs.product.product_of.Goals as goal
+
+pub all_made-requires-clause-narrow : goal.all_made-requires-clause-narrow
+all_made-requires-clause-narrow c =
+    let g = c.args.meter.now in
+    let a = c.args.a.now in
+    let b = c.args.b.now in
+    let params = c.in_ok-pair.pair.params in
+    let own = c.as_slice-own.result.now in
+    let others = c.as_slice-others.result.now in
+    let pair : IsAlignedPair g a b params own others =
+    rw (c.as_slice-own.ensures.value, c.as_slice-others.ensures.value) c.in_ok-pair.ensures.exact in
+    let none : ¬ IsWidePair c.args.product a b = λ w.
+    let wide : AreWide c.args.product (map kept_piece c.pieces-pieces.result.now) (map kept_piece c.pieces.result.now) =
+    rw (c.pieces-pieces.ensures.content, c.pieces.ensures.content) ((wide_pieces c.args.product a b).1 w) in
+    c.in_ok-ask_spaces.ensures.ok wide in
+    over_narrow g params c.args.product a b own others pair.well_formed.distinct pair.own pair.others none
+
+pub returns-clause-kept : goal.returns-clause-kept
+returns-clause-kept c =
+    value_kept c.in_ok-pair.pair.params c.in_ok-made.made.items c.from_normal.result c.from_normal.ensures
+    c.in_ok-pair.ensures.exact.well_formed c.in_ok-made.ensures.sound
+
+pub returns-clause-elements : goal.returns-clause-elements
+returns-clause-elements c v e =
+    let g = c.args.meter.now in
+    let a = c.args.a.now in
+    let b = c.args.b.now in
+    let params = c.in_ok-pair.pair.params in
+    let own = c.as_slice-own.result.now in
+    let others = c.as_slice-others.result.now in
+    let pair : IsAlignedPair g a b params own others =
+    rw (c.as_slice-own.ensures.value, c.as_slice-others.ensures.value) c.in_ok-pair.ensures.exact in
+    value_has params c.in_ok-made.made.items c.from_normal.result c.from_normal.ensures v e
+    (ProductHas c.args.product (Has a v) (Has b v) e)
+    (through (c.in_ok-made.ensures.elements v e) (product_has g c.args.product a b params own others pair v e))
+
+pub returns-clause-numbers : goal.returns-clause-numbers
+returns-clause-numbers c =
+    value_numbers c.in_ok-pair.pair.params c.in_ok-made.made.items c.from_normal.result c.from_normal.ensures c.args.meter.now
+    c.in_ok-made.ensures.numbers

@@ -1,0 +1,30 @@
+use Rattle.isl_union.specs.KeptValue.{Has}
+use Rattle.isl_union.specs.Minus.{IsAlignedPair}
+use Rattle.isl_union.proofs.PiecesLaws.{through}
+use Rattle.isl_products.specs.Made.{RemoveHas}
+use Rattle.isl_products.proofs.PairLaws.{value_has, value_kept, value_numbers}
+use Rattle.isl_products.proofs.RemoveLaws.{remove_has}
+use Rattle.isl_products.proofs.remove.remove.Goals as goal
+
+pub returns-clause-kept : goal.returns-clause-kept
+returns-clause-kept c =
+    value_kept c.in_ok-pair.pair.params c.in_ok-left.left.items c.from_normal.result c.from_normal.ensures
+    c.in_ok-pair.ensures.exact.well_formed c.in_ok-left.ensures.sound
+
+pub returns-clause-elements : goal.returns-clause-elements
+returns-clause-elements c v e =
+    let g = c.args.meter.now in
+    let a = c.args.map.now in
+    let b = c.args.set.now in
+    let params = c.in_ok-pair.pair.params in
+    let own = c.as_slice-own.result.now in
+    let others = c.as_slice-others.result.now in
+    let pair : IsAlignedPair g a b params own others =
+    rw (c.as_slice-own.ensures.value, c.as_slice-others.ensures.value) c.in_ok-pair.ensures.exact in
+    value_has params c.in_ok-left.left.items c.from_normal.result c.from_normal.ensures v e (RemoveHas c.args.place (Has a v) (Has b v) e)
+    (through (c.in_ok-left.ensures.elements v e) (remove_has g c.args.place a b params own others pair v e))
+
+pub returns-clause-numbers : goal.returns-clause-numbers
+returns-clause-numbers c =
+    value_numbers c.in_ok-pair.pair.params c.in_ok-left.left.items c.from_normal.result c.from_normal.ensures c.args.meter.now
+    c.in_ok-left.ensures.numbers

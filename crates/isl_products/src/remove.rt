@@ -1,0 +1,243 @@
+//! Maps without what sets have at one of their places.
+
+ghost use Rattle.std.specs.Prelude.{◌≡◌, ◌↔◌, ◌≤◌, List, [], All, Any, IfOk, MatchResult, length, map, unsigned_abs};
+ghost use Rattle.isl_meter.specs.Gauge.{Gauge, IsCharged, IsCutBy, limit_of};
+ghost use Rattle.isl_space.specs.Element.{Element};
+ghost use Rattle.isl_space.specs.Limits.{most_parameters};
+ghost use Rattle.isl_space.specs.Name.{Name};
+ghost use Rattle.isl_space.specs.Names.{joined};
+ghost use Rattle.isl_space.specs.Space.{space_form_of};
+ghost use Rattle.isl_space.specs.Valuation.{Valuation};
+ghost use Rattle.isl_piece.specs.System.{IsSystemWithin, free_columns};
+ghost use Rattle.isl_relation.specs.Maps.{RemoveDomainHas, RemoveRangeHas};
+ghost use Rattle.isl_union.specs.Fault.{IsFaultBy};
+ghost use Rattle.isl_union.specs.KeptValue.{Has, HasElement, HasNoDefinitions, IsKeptValue};
+ghost use Rattle.isl_union.specs.Minus.{piece_in};
+ghost use Rattle.isl_union.specs.Numbers.{AreWithinLimit, IsPieceUpTo, IsWithinLimit};
+ghost use Rattle.isl_union.specs.Piece.{kept_piece, IsPieceOf};
+ghost use Rattle.isl_products.specs.Made.{AreBeside, AreLeft, IsApartFrom, RemoveHas};
+
+use crate::layout::{Place, Product, layout_of};
+use crate::placed::placed;
+use isl_difference::outside;
+use isl_meter::{Cut, Meter};
+use isl_piece::{Piece, System};
+use isl_space::{Params, Space};
+use isl_union::{OpFault, Value, aligned_pair, append};
+use std::alloc::{AllocError, Global};
+
+// The systems that hold at those elements of the piece that have at the place what the others have.
+fn systems_beside(
+    alloc: Global,
+    place: Place,
+    params: &Params,
+    piece: &Piece,
+    others: &[Piece],
+) -> Result<Vec<System>, AllocError>
+    requires piece { IsPieceOf params.now piece.now }
+    requires others { All (IsPieceOf params.now) others.now }
+    ensures { (g : Gauge) → AreWithinLimit g others.now
+        → IfOk result (λ systems. AreBeside g place params.now piece.now others.now systems.items) }
+{
+    let mut systems = Vec::new(alloc);
+    for other in others {
+        let product = Product::Restrict(place);
+        if let Some(layout) = layout_of(alloc, product, piece.space(), other.space())? {
+            systems.push(placed(alloc, params, &layout.space, layout.other, other)?)?;
+        }
+    }
+    Ok(systems)
+}
+
+// References to the systems.
+fn references<'a>(alloc: Global, systems: &'a [System]) -> Result<Vec<&'a System>, AllocError>
+    ensures { IfOk result (λ found. map (λ system. system.now) found.items ≡ systems.now) }
+{
+    let mut found = Vec::with_capacity(alloc, systems.len())?;
+    for system in systems {
+        found.push(system)?;
+    }
+    Ok(found)
+}
+
+// A piece of the space for each of the systems.
+fn pieces_in(alloc: Global, space: &Space, systems: Vec<System>) -> Result<Vec<Piece>, AllocError>
+    ensures { IfOk result (λ pieces. pieces.items ≡ map (piece_in (space_form_of space.now)) systems.items) }
+{
+    let mut pieces = Vec::with_capacity(alloc, systems.len())?;
+    for system in systems {
+        pieces.push(Piece::new(alloc, space.copy()?, system)?)?;
+    }
+    Ok(pieces)
+}
+
+// What is left of the piece without the elements at which one of the systems holds.
+#[tactic(auto, using(std::proofs::lemmas::Grind::common_steps, isl_meter::proofs::CutLemmas::charges))]
+fn left_of(
+    alloc: Global,
+    piece: &Piece,
+    systems: &[System],
+    meter: &mut Meter,
+) -> Result<Vec<Piece>, Cut>
+    requires within { IsSystemWithin meter.old piece.now.system }
+    requires others { All (IsSystemWithin meter.old) systems.now }
+    requires columns { All (λ s. free_columns s ≡ free_columns piece.now.system) systems.now }
+    ensures exact { (params : List Name) → IsPieceOf params piece.now
+        → IfOk result (λ left. AreLeft meter.old params piece.now systems.now left.items) }
+    ensures meter { MatchResult result (λ _. IsCharged meter.old meter.new) (IsCutBy meter.old meter.new) }
+{
+    if systems.is_empty() {
+        let mut whole = Vec::new(alloc);
+        whole.push(piece.copy()?)?;
+        return Ok(whole);
+    }
+    let others = references(alloc, systems)?;
+    let left = outside(alloc, piece.system(), others.as_slice(), meter)?;
+    Ok(pieces_in(alloc, piece.space(), left)?)
+}
+
+// What is left of the piece, if it is one of a map, without what the others have at the place.
+#[tactic(auto, using(std::proofs::lemmas::Grind::common_steps, isl_meter::proofs::CutLemmas::charges))]
+fn piece_without(
+    alloc: Global,
+    place: Place,
+    params: &Params,
+    piece: &Piece,
+    others: &[Piece],
+    meter: &mut Meter,
+) -> Result<Vec<Piece>, Cut>
+    requires piece { IsPieceOf params.now piece.now }
+    requires others { All (IsPieceOf params.now) others.now }
+    requires piece_within { IsSystemWithin meter.old piece.now.system }
+    requires others_within { AreWithinLimit meter.old others.now }
+    ensures elements { (v : Valuation) (e : Element)
+        → IfOk result (λ left. Any (HasElement params.now v e) (map kept_piece left.items)
+        ↔ IsApartFrom place params.now (map kept_piece others.now) v e (kept_piece piece.now)) }
+    ensures sound { IfOk result (λ left. All (IsPieceOf params.now) left.items) }
+    ensures definitions { piece.now.system.definitions ≡ [] → All (λ other. other.system.definitions ≡ []) others.now
+        → IfOk result (λ left. All (λ part. part.definitions ≡ []) (map kept_piece left.items)) }
+    ensures numbers { IfOk result (λ left. All (IsPieceUpTo (unsigned_abs (limit_of meter.old))) (map kept_piece left.items)) }
+    ensures meter { MatchResult result (λ _. IsCharged meter.old meter.new) (IsCutBy meter.old meter.new) }
+{
+    let Space::Map(_, _) = piece.space() else {
+        return Ok(Vec::new(alloc));
+    };
+    let systems = systems_beside(alloc, place, params, piece, others)?;
+    left_of(alloc, piece, systems.as_slice(), meter)
+}
+
+// What is left of those of the pieces that are ones of a map, without what the others have at the place.
+#[tactic(auto, using(std::proofs::lemmas::Grind::common_steps, isl_meter::proofs::CutLemmas::charges))]
+fn pieces_without(
+    alloc: Global,
+    place: Place,
+    params: &Params,
+    pieces: &[Piece],
+    others: &[Piece],
+    meter: &mut Meter,
+) -> Result<Vec<Piece>, Cut>
+    requires pieces { All (IsPieceOf params.now) pieces.now }
+    requires others { All (IsPieceOf params.now) others.now }
+    requires pieces_within { AreWithinLimit meter.old pieces.now }
+    requires others_within { AreWithinLimit meter.old others.now }
+    ensures elements { (v : Valuation) (e : Element)
+        → IfOk result (λ left. Any (HasElement params.now v e) (map kept_piece left.items)
+        ↔ Any (IsApartFrom place params.now (map kept_piece others.now) v e) (map kept_piece pieces.now)) }
+    ensures sound { IfOk result (λ left. All (IsPieceOf params.now) left.items) }
+    ensures definitions { All (λ piece. piece.system.definitions ≡ []) pieces.now → All (λ other. other.system.definitions ≡ []) others.now
+        → IfOk result (λ left. All (λ part. part.definitions ≡ []) (map kept_piece left.items)) }
+    ensures numbers { IfOk result (λ left. All (IsPieceUpTo (unsigned_abs (limit_of meter.old))) (map kept_piece left.items)) }
+    ensures meter { MatchResult result (λ _. IsCharged meter.old meter.new) (IsCutBy meter.old meter.new) }
+{
+    let mut left = Vec::new(alloc);
+    for piece in pieces {
+        append(
+            &mut left,
+            piece_without(alloc, place, params, piece, others, meter)?,
+        )?;
+    }
+    Ok(left)
+}
+
+// Those x → y of the map of which the set has not the one at the place, over the joined parameters.
+fn remove(
+    alloc: Global,
+    place: Place,
+    map: &Value,
+    set: &Value,
+    meter: &mut Meter,
+) -> Result<Value, OpFault>
+    requires own { IsWithinLimit meter.old map.now }
+    requires other { IsWithinLimit meter.old set.now }
+    ensures kept { IfOk result IsKeptValue }
+    ensures params { IfOk result (λ value. value.params ≡ joined map.now.params set.now.params) }
+    ensures elements { (v : Valuation) (e : Element)
+        → IfOk result (λ value. Has value v e ↔ RemoveHas place (Has map.now v) (Has set.now v) e) }
+    ensures definitions { HasNoDefinitions map.now → HasNoDefinitions set.now → IfOk result HasNoDefinitions }
+    ensures numbers { IfOk result (IsWithinLimit meter.old) }
+    ensures units { MatchResult result
+        (λ _. (length (joined map.now.params set.now.params) ≤ most_parameters) × IsCharged meter.old meter.new)
+        (IsFaultBy (joined map.now.params set.now.params) meter.old meter.new) }
+{
+    let pair = aligned_pair(alloc, map, set, meter)?;
+    let own = pair.own.as_slice();
+    let others = pair.others.as_slice();
+    let left = pieces_without(alloc, place, &pair.params, own, others, meter)?;
+    Ok(Value::from_normal(pair.params, left))
+}
+
+/// Those x → y of the map whose x is not in the set, over the joined parameters. A piece of the map whose x no piece of the set
+/// has as its form stays as it is. (the iscc chapter of the barvinok manual)
+///
+/// # Errors
+///
+/// `TooWide` exactly where the two together declare more than 16 parameters, unless memory ends: no unit is used then.
+/// `Overflow` where a number passes the limit of the meter, `Budget` where its units are used up, and `NoMemory`.
+pub fn remove_domain(
+    alloc: Global,
+    map: &Value,
+    set: &Value,
+    meter: &mut Meter,
+) -> Result<Value, OpFault>
+    requires own { IsWithinLimit meter.old map.now }
+    requires other { IsWithinLimit meter.old set.now }
+    ensures kept { IfOk result IsKeptValue }
+    ensures params { IfOk result (λ value. value.params ≡ joined map.now.params set.now.params) }
+    ensures elements { (valuation : Valuation) (element : Element)
+        → IfOk result (λ value. Has value valuation element ↔ RemoveDomainHas (Has map.now valuation) (Has set.now valuation) element) }
+    ensures definitions { HasNoDefinitions map.now → HasNoDefinitions set.now → IfOk result HasNoDefinitions }
+    ensures numbers { IfOk result (IsWithinLimit meter.old) }
+    ensures units { MatchResult result
+        (λ _. (length (joined map.now.params set.now.params) ≤ most_parameters) × IsCharged meter.old meter.new)
+        (IsFaultBy (joined map.now.params set.now.params) meter.old meter.new) }
+{
+    remove(alloc, Place::Domain, map, set, meter)
+}
+
+/// Those x → y of the map whose y is not in the set, over the joined parameters. A piece of the map whose y no piece of the set
+/// has as its form stays as it is. (the iscc chapter of the barvinok manual)
+///
+/// # Errors
+///
+/// `TooWide` exactly where the two together declare more than 16 parameters, unless memory ends: no unit is used then.
+/// `Overflow` where a number passes the limit of the meter, `Budget` where its units are used up, and `NoMemory`.
+pub fn remove_range(
+    alloc: Global,
+    map: &Value,
+    set: &Value,
+    meter: &mut Meter,
+) -> Result<Value, OpFault>
+    requires own { IsWithinLimit meter.old map.now }
+    requires other { IsWithinLimit meter.old set.now }
+    ensures kept { IfOk result IsKeptValue }
+    ensures params { IfOk result (λ value. value.params ≡ joined map.now.params set.now.params) }
+    ensures elements { (valuation : Valuation) (element : Element)
+        → IfOk result (λ value. Has value valuation element ↔ RemoveRangeHas (Has map.now valuation) (Has set.now valuation) element) }
+    ensures definitions { HasNoDefinitions map.now → HasNoDefinitions set.now → IfOk result HasNoDefinitions }
+    ensures numbers { IfOk result (IsWithinLimit meter.old) }
+    ensures units { MatchResult result
+        (λ _. (length (joined map.now.params set.now.params) ≤ most_parameters) × IsCharged meter.old meter.new)
+        (IsFaultBy (joined map.now.params set.now.params) meter.old meter.new) }
+{
+    remove(alloc, Place::Range, map, set, meter)
+}
