@@ -1,4 +1,4 @@
--- inner: rows and systems with numbers in the place of their first columns. (isl manual, on fixing values)
+-- public: rows and systems with numbers in the place of their first columns. (isl manual, on fixing values)
 use Rattle.std.specs.Prelude.{◌-◌, ℤ, ◌+ℤ◌, List, [], length, map, take, drop}
 use Rattle.isl_math.specs.Dot.{dot}
 use Rattle.isl_piece.specs.declared.row.Row.{Row}

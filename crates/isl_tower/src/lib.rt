@@ -8,4 +8,5 @@ mod numbers;
 mod tower;
 
 pub use bounded::{is_bounded, is_bounded_at};
+pub use numbers::system_at;
 pub use tower::Tower;

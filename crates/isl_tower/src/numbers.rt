@@ -28,9 +28,13 @@ fn row_at(alloc: Global, row: &Row, numbers: &[i128], meter: &mut Meter) -> Resu
     Ok(Row::new(row.kind, left, constant, row.modulus()))
 }
 
-/// The system over the other columns.
+/// The system over the other columns, in which these numbers stand for the first ones; no column of it is defined.
+///
+/// # Errors
+///
+/// `Overflow` where a number passes the limit of the meter, and `NoMemory`.
 #[tactic(auto, using(crate::proofs::NumberLaws::number_steps))]
-pub(crate) fn system_at(
+pub fn system_at(
     alloc: Global,
     system: &System,
     numbers: &[i128],

@@ -1,0 +1,9 @@
+pub mod BoundLaws
+pub mod CongruenceLaws
+pub mod LineLaws
+pub mod ListLaws
+pub mod LongerLaws
+pub mod PointsLaws
+pub mod PrefixLaws
+pub mod SortedLaws
+pub mod WalkLaws

@@ -1,0 +1,7 @@
+pub mod Ends
+pub mod Exclusion
+pub mod Interval
+pub mod Level
+pub mod Line
+pub mod Points
+pub mod Progression

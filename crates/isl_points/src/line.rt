@@ -1,0 +1,177 @@
+//! Lines: the numbers that rows over one column leave.
+
+ghost use Rattle.std.specs.Prelude.{◌≡◌, ◌↔◌, ◌⊎◌, ◌+◌, ◌+ℤ◌, ◌<ℤ◌, ◌≤ℤ◌, ◌<◌, ℤ};
+ghost use Rattle.std.specs.Prelude.{pos, [], ◌∷◌, ◌++◌, length, All, IsTrue, MatchOption, MatchResult};
+ghost use Rattle.isl_meter.specs.Gauge.{IsCharged, IsCutBy, IsWithin, overflown};
+ghost use Rattle.isl_piece.specs.System.{HoldRows};
+ghost use Rattle.isl_omega.specs.Column.{IsProper};
+ghost use Rattle.isl_points.specs.Exclusion.{IsTried, MeetsExclusion};
+ghost use Rattle.isl_tower.specs.Ends.{HasLowerEnd, HasUpperEnd};
+
+use crate::interval::Interval;
+use crate::progression::Progression;
+use isl_meter::{Cut, Int, Meter, Overflow};
+use isl_piece::{Row, RowKind};
+use std::alloc::Global;
+
+/// The numbers from `low` to `high` on a progression.
+#[derive(Clone, Copy)]
+pub(crate) struct Line {
+    pub low: Int,
+    pub high: Int,
+    pub steps: Progression,
+}
+
+// The sum, where it is at most `high`.
+fn up_to(x: Int, by: Int, high: Int) -> Option<Int>
+    requires { pos 0 ≤ℤ by }
+    ensures { MatchOption result (high <ℤ (x +ℤ by)) (λ sum. (sum ≡ x +ℤ by) × sum ≤ℤ high) }
+{
+    match x.get().checked_add(by.get()) {
+        Some(sum) if sum <= high.get() => Some(Int::new(sum)),
+        _ => None,
+    }
+}
+
+// Whether the row holds at the number, where its modulus must not divide.
+fn allows(row: &Row, x: Int, meter: &mut Meter) -> Result<bool, Overflow>
+    requires { IsProper meter.old 1 row.now }
+    ensures { MatchResult result
+        (λ allowed. (IsTrue allowed ↔ MeetsExclusion x row.now) × (meter.new ≡ meter.old))
+        (λ _. meter.new ≡ overflown meter.old) }
+{
+    match row.kind {
+        RowKind::NotDivides => {
+            let point = [x.get()];
+            row.holds_at(&point, meter)
+        }
+        RowKind::Zero | RowKind::AtLeast | RowKind::Divides => Ok(true),
+    }
+}
+
+fn all_allow(rows: &[Row], x: Int, meter: &mut Meter) -> Result<bool, Overflow>
+    requires { All (IsProper meter.old 1) rows.now }
+    ensures { MatchResult result
+        (λ allowed. (IsTrue allowed ↔ All (MeetsExclusion x) rows.now) × (meter.new ≡ meter.old))
+        (λ _. meter.new ≡ overflown meter.old) }
+{
+    for row in rows {
+        if !allows(row, x, meter)? {
+            return Ok(false);
+        }
+    }
+    Ok(true)
+}
+
+// Whether a row that does not depend on the number excludes all numbers.
+fn excludes_all(rows: &[Row], meter: &mut Meter) -> Result<bool, Overflow>
+    requires { All (IsProper meter.old 1) rows.now }
+    ensures { MatchResult result
+        (λ none. (IsTrue none → (x : ℤ) → ¬ All (MeetsExclusion x) rows.now) × (meter.new ≡ meter.old))
+        (λ _. meter.new ≡ overflown meter.old) }
+{
+    for row in rows {
+        if row.coefs.get(0).is_zero() && !allows(row, Int::ZERO, meter)? {
+            return Ok(true);
+        }
+    }
+    Ok(false)
+}
+
+// Uses a unit, and puts the number behind the others where the rows allow it.
+fn try_number(found: &mut Vec<Int>, rows: &[Row], x: Int, meter: &mut Meter) -> Result<(), Cut>
+    requires { All (IsProper meter.old 1) rows.now }
+    ensures { MatchResult result
+        (λ _. IsTried (All (MeetsExclusion x) rows.now) x found.old.items found.new.items
+        × (meter.new ≡ record meter.old { units = meter.old.units + 1 }) × (meter.old.units < meter.old.budget))
+        (IsCutBy meter.old meter.new) }
+{
+    meter.unit()?;
+    if all_allow(rows, x, meter)? {
+        found.push(x)?;
+    }
+    Ok(())
+}
+
+impl Line {
+    ghost use Rattle.isl_points.specs.Line.{IsIn, IsLeft, IsLineWithin, IsListing, IsNext};
+
+    /// What the rows over one column leave, up to the rows that their modulus must not divide. None where they hold nowhere, or
+    /// where the numbers have no end on one side.
+    ///
+    /// # Errors
+    ///
+    /// `Overflow` where a number passes the limit of the meter.
+    pub(crate) fn of(rows: &[Row], meter: &mut Meter) -> Result<Option<Line>, Overflow>
+        requires { All (IsProper meter.old 1) rows.now }
+        ensures { MatchResult result
+            (λ found. MatchOption found
+            (HasLowerEnd 0 rows.now → HasUpperEnd 0 rows.now → (x : ℤ) → ¬ HoldRows rows.now (x ∷ []))
+            (λ line. IsLineWithin meter.old line × ((x : ℤ) → IsLeft line rows.now x ↔ HoldRows rows.now (x ∷ [])))
+            × (meter.new ≡ meter.old))
+            (λ _. meter.new ≡ overflown meter.old) }
+    {
+        if excludes_all(rows, meter)? {
+            return Ok(None);
+        }
+        let interval = Interval::of(rows, meter);
+        let (Some(low), Some(high)) = (interval.low, interval.high) else {
+            return Ok(None);
+        };
+        match Progression::of(rows, meter)? {
+            None => Ok(None),
+            Some(steps) => Ok(Some(Line { low, high, steps })),
+        }
+    }
+
+    // The least number of the line.
+    fn first(&self, meter: &mut Meter) -> Result<Option<Int>, Overflow>
+        requires { IsLineWithin meter.old self.now }
+        ensures { MatchResult result
+            (λ found. MatchOption found ((x : ℤ) → ¬ IsIn self.now x) (λ y. IsIn self.now y × ((x : ℤ) → IsIn self.now x → y ≤ℤ x))
+            × (meter.new ≡ meter.old))
+            (λ _. meter.new ≡ overflown meter.old) }
+    {
+        let step = self.steps.step;
+        let first = self.steps.first.modulo(step, meter);
+        let low = self.low.modulo(step, meter);
+        let ahead = first.sub(low, meter)?.modulo(step, meter);
+        Ok(up_to(self.low, ahead, self.high))
+    }
+
+    // The number of the line behind this one.
+    fn after(&self, x: Int) -> Option<Int>
+        requires step { pos 0 <ℤ self.now.steps.step }
+        requires x_in { IsIn self.now x }
+        ensures { IsNext (IsIn self.now) x result }
+    {
+        up_to(x, self.steps.step, self.high)
+    }
+
+    /// The numbers of the line at which no row is one that its modulus must not divide, in ascending order. A unit is used for
+    /// each number of the line.
+    ///
+    /// # Errors
+    ///
+    /// `Overflow` where a number passes the limit of the meter, `Budget` where its units are used up, and `NoMemory`.
+    pub(crate) fn list(
+        &self,
+        alloc: Global,
+        rows: &[Row],
+        meter: &mut Meter,
+    ) -> Result<Vec<Int>, Cut>
+        requires line { IsLineWithin meter.old self.now }
+        requires rows { All (IsProper meter.old 1) rows.now }
+        ensures exact { MatchResult result
+            (λ found. IsListing meter.old meter.new (IsLeft self.now rows.now) found.items)
+            (IsCutBy meter.old meter.new) }
+    {
+        let mut found = Vec::new(alloc);
+        let mut next = self.first(meter)?;
+        while let Some(x) = next {
+            try_number(&mut found, rows, x, meter)?;
+            next = self.after(x);
+        }
+        Ok(found)
+    }
+}

@@ -1,0 +1,172 @@
+-- The elements of pieces where the parameters have given numbers.
+use Rattle.std.proofs.Common.{◌≡◌, ◌∙◌, inl, inr, ◌+◌, ◌-◌, ◌^◌, ◌<◌, ℕ, ℤ, List, [], ◌∷◌, ◌++◌, length, get_or, take, map}
+use Rattle.std.proofs.Common.{ap, sym, subst, arith, All, Any}
+use Rattle.std.specs.Prelude.{◌↔◌}
+use Rattle.std.specs.List.{Contains}
+use Rattle.std.proofs.lemmas.List.{take_more}
+use Rattle.isl_math.proofs.ListLaws.{All-unmapped, Any-cases, Any-first, Any-later, Any-left, Any-none, Any-one, Any-parts, Any-right}
+use Rattle.isl_math.proofs.ListLaws.{Any-unmapped, Any-with}
+use Rattle.isl_meter.specs.Gauge.{Gauge, IsCharged}
+use Rattle.isl_space.specs.Element.{Element}
+use Rattle.isl_space.specs.Name.{Name}
+use Rattle.isl_space.specs.SpaceForm.{SpaceForm, coordinates_of}
+use Rattle.isl_space.specs.Valuation.{Valuation, values_of}
+use Rattle.isl_space.proofs.ValuationLaws.{length-values_of}
+use Rattle.isl_piece.specs.Piece.{PieceView}
+use Rattle.isl_piece.specs.declared.system.System.{System}
+use Rattle.isl_piece.specs.System.{HoldsSystem}
+use Rattle.isl_piece.proofs.FormedLaws.{system_within_kept}
+use Rattle.isl_points.specs.Points.{ArePointsAt}
+use Rattle.isl_union.specs.Finite.{IsFiniteAt}
+use Rattle.isl_union.specs.KeptValue.{KeptPiece, KeptValue, Has, HasElement, HasNoDefinitions, point_of}
+use Rattle.isl_union.specs.Numbers.{HasNumbersUpTo, IsWithinLimit}
+use Rattle.isl_union.specs.Piece.{kept_piece, IsPieceOf}
+use Rattle.isl_union.proofs.BoundedLaws.{finite_value_at, pieces_within}
+use Rattle.isl_union.proofs.MeetSteps.{charged_bits}
+use Rattle.isl_union.proofs.SystemLaws.{view_free, view_is}
+use Rattle.isl_scan.specs.declared.group.Group.{Group}
+use Rattle.isl_scan.specs.Gathered.{AreGathered, HasAt, IsListable}
+use Rattle.isl_scan.specs.Groups.{elements_in, elements_of, space_in, IsAdded}
+use Rattle.isl_scan.specs.Listing.{IsListingOf}
+use Rattle.isl_scan.proofs.GroupLaws.{contains_in, elements_ordered}
+
+-- ---- one piece
+module _ (g : Gauge) (numbers : List ℤ) (piece : PieceView) (listable : IsListable g numbers piece) where
+  -- the points of its system are its elements there
+  points_have : (points : List (List ℤ)) → ArePointsAt piece.system numbers points
+      → (e : Element) → Contains (elements_in piece.space points) e ↔ HasAt numbers e piece
+  points_have points are e = (
+    (λ c.
+        let there = (contains_in piece.space points e).0 c in
+        let point = (are.exact e.coordinates).0 there.1 in
+        let columns = listable.columns in
+        let long = point.0 in
+        let count : length e.coordinates ≡ coordinates_of piece.space = omega (arith, columns, long) in
+        record { counted = count ∙ ap coordinates_of there.0; space = there.0; holds = point.1 }),
+    (λ h.
+        let columns = listable.columns in
+        let count = h.counted ∙ ap coordinates_of (sym h.space) in
+        (contains_in piece.space points e).1 (h.space, (are.exact e.coordinates).1 (omega (arith, columns, count), h.holds))),
+  )
+
+  pub group_has : (s : System) (space : SpaceForm) (points items : List (List ℤ)) → s ≡ piece.system → space ≡ piece.space → items ≡ points
+      → ArePointsAt s numbers points → (e : Element) → Contains (elements_in space items) e ↔ HasAt numbers e piece
+  group_has s space points items of_system of_space same are e =
+      subst (λ ps. Contains (elements_in space ps) e ↔ HasAt numbers e piece) (sym same)
+      (subst (λ f. Contains (elements_in f points) e ↔ HasAt numbers e piece) (sym of_space)
+      (points_have points (subst (λ t. ArePointsAt t numbers points) of_system are) e))
+
+-- what may be listed may be listed later
+pub listable_later : (g h : Gauge) (numbers : List ℤ) (pieces : List PieceView) → IsCharged g h → All (IsListable g numbers) pieces
+    → All (IsListable h numbers) pieces
+listable_later g h numbers pieces charged all = λ i d low. (
+    let one = all i d low in
+    record {
+      space = one.space;
+      within = system_within_kept h g (get_or pieces i d).system (charged_bits g h charged) one.within;
+      plain = one.plain;
+      columns = one.columns;
+      bounded = one.bounded;
+    })
+
+-- ---- one piece after another
+pub gathered_none : (numbers : List ℤ) (groups : List Group) → groups ≡ [] → AreGathered numbers [] groups
+gathered_none numbers groups none = subst (AreGathered numbers []) (sym none) (record {
+  sound = record { sound = λ i d low. absurd (omega arith); ordered = λ i j d l low. absurd (omega arith) };
+  exact = λ e. ((λ c. absurd (let h = c.1 in omega arith)), (λ a. absurd (Any-none (HasAt numbers e) a)));
+})
+
+pub gathered_more : (numbers : List ℤ) (pieces : List PieceView) (i : ℕ) (piece : PieceView) (olds news : List Group) (group : Group)
+    → i < length pieces → piece ≡ get_or pieces i piece → AreGathered numbers (take i pieces) olds
+    → ((e : Element) → Contains (elements_in (space_in group) group.points.items) e ↔ HasAt numbers e piece)
+    → IsAdded olds group news → AreGathered numbers (take (i + 1) pieces) news
+gathered_more numbers pieces i piece olds news group low at so_far has added =
+    subst (λ ps. AreGathered numbers ps news) (sym (take_more pieces i piece low ∙ ap (λ p. take i pieces ++ p ∷ []) (sym at))) (record {
+      sound = added.sound;
+      exact = λ e. (
+        (λ c. elim ((added.exact e).0 c) [
+          | inl old ↦ Any-left (HasAt numbers e) (take i pieces) (piece ∷ []) ((so_far.exact e).0 old)
+          | inr new ↦ Any-right (HasAt numbers e) (take i pieces) (piece ∷ []) (Any-first (HasAt numbers e) piece [] ((has e).0 new))
+        ]),
+        (λ a. (added.exact e).1 (elim (Any-parts (HasAt numbers e) (take i pieces) (piece ∷ []) a) [
+          | inl old ↦ inl ((so_far.exact e).1 old)
+          | inr new ↦ inr ((has e).1 (Any-one (HasAt numbers e) piece new))
+        ])),
+      );
+    })
+
+-- ---- a value and its pieces
+Any-mapped : {X Y : Type 0} (P : Y → Type 0) (f : X → Y) (xs : List X) → Any (λ x. P (f x)) xs → Any P (map f xs)
+Any-mapped P f [] a = absurd (Any-none (λ x. P (f x)) a)
+Any-mapped P f (x ∷ xs) a = elim (Any-cases (λ x. P (f x)) x xs a) [
+  | inl p ↦ Any-first P (f x) (map f xs) p
+  | inr b ↦ Any-later P (f x) (map f xs) (Any-mapped P f xs b)
+]
+
+module _ (params : List Name) (v : Valuation) (numbers : List ℤ) (named : values_of params v ≡ numbers) where
+  has_at : (e : Element) (p : PieceView) → IsPieceOf params p → HasAt numbers e p ↔ HasElement params v e (kept_piece p)
+  has_at e p sound = (
+    (λ h. record {
+      numbers = h.counted;
+      space = h.space;
+      holds = subst (λ s. HoldsSystem s (point_of params v e)) (view_is params p sound)
+          (subst (λ ns. HoldsSystem p.system (ns ++ e.coordinates)) (sym named) h.holds);
+    }),
+    (λ h. record {
+      counted = h.numbers;
+      space = h.space;
+      holds = subst (λ ns. HoldsSystem p.system (ns ++ e.coordinates)) named
+          (subst (λ s. HoldsSystem s (point_of params v e)) (sym (view_is params p sound)) h.holds);
+    }),
+  )
+
+  any_has : (e : Element) (pieces : List PieceView) → All (IsPieceOf params) pieces
+      → Any (HasAt numbers e) pieces ↔ Any (HasElement params v e) (map kept_piece pieces)
+  any_has e pieces sound = (
+    (λ a. Any-mapped (HasElement params v e) kept_piece pieces
+        (Any-with (HasAt numbers e) (IsPieceOf params) (λ p. HasElement params v e (kept_piece p)) (λ p h is. (has_at e p is).0 h)
+        pieces sound a)),
+    (λ a. Any-with (λ p. HasElement params v e (kept_piece p)) (IsPieceOf params) (HasAt numbers e) (λ p h is. (has_at e p is).1 h)
+        pieces sound
+        (Any-unmapped (HasElement params v e) kept_piece pieces a)),
+  )
+
+-- the elements of a value that has the same ones as another
+module _ (value flat : KeptValue) (pieces : List PieceView) (sound : All (IsPieceOf flat.params) pieces)
+    (same : map kept_piece pieces ≡ flat.pieces) where
+  pub listed : (groups : List Group) (numbers : List ℤ) (v : Valuation) → values_of flat.params v ≡ numbers
+      → ((e : Element) → Has flat v e ↔ Has value v e) → AreGathered numbers pieces groups → IsListingOf value v (elements_of groups)
+  listed groups numbers v named alike are = record {
+    exact = λ e.
+        let has = any_has flat.params v numbers named e pieces sound in (
+          (λ c. (alike e).0 (subst (Any (HasElement flat.params v e)) same (has.0 ((are.exact e).0 c)))),
+          (λ h. (are.exact e).1 (has.1 (subst (Any (HasElement flat.params v e)) (sym same) ((alike e).1 h)))),
+        );
+    ordered = elements_ordered groups are.sound;
+  }
+
+-- pieces of a value that has finitely many elements may be listed
+pub listable : (g : Gauge) (value : KeptValue) (pieces : List PieceView) → All (IsPieceOf value.params) pieces
+    → map kept_piece pieces ≡ value.pieces → (numbers : List ℤ) (v : Valuation) → values_of value.params v ≡ numbers
+    → IsWithinLimit g value → HasNoDefinitions value → IsFiniteAt value v → All (IsListable g numbers) pieces
+listable g value pieces sound same numbers v named within none finite =
+    let bounded = (finite_value_at g value pieces sound same v numbers named).1 finite in
+    let systems = pieces_within g value pieces sound same within in
+    let plain = All-unmapped (λ (p : KeptPiece). p.definitions ≡ []) kept_piece pieces
+    (subst (All (λ (p : KeptPiece). p.definitions ≡ [])) (sym same) none) in
+    let long : length numbers ≡ length value.params = ap length (sym named) ∙ length-values_of value.params v in
+    (λ i d low.
+    let free = view_free value.params (get_or pieces i d) (sound i d low) in
+    record {
+      space = (sound i d low).kept.space;
+      within = systems i d low;
+      plain = plain i d low;
+      columns = omega (arith, free, long);
+      bounded = bounded i d low;
+    })
+
+pub finite_same : (a b : KeptValue) (v : Valuation) → ((e : Element) → Has a v e ↔ Has b v e) → IsFiniteAt b v → IsFiniteAt a v
+finite_same a b v alike finite = (finite.0, λ e h. finite.1 e ((alike e).0 h))
+
+pub within_later : (g h : Gauge) (value : KeptValue) → IsCharged g h → IsWithinLimit g value → IsWithinLimit h value
+within_later g h value charged within = subst (λ b. HasNumbersUpTo (2 ^ b - 1) value) (charged_bits g h charged) within

@@ -1,0 +1,6 @@
+mod GatheredLaws
+mod GroupLaws
+mod MergeLaws
+mod PairLaws
+mod SpaceTextLaws
+mod TextLaws

@@ -1,0 +1,12 @@
+pub mod Fault
+pub mod Gathered
+pub mod Groups
+pub mod Listing
+pub mod ListingText
+pub mod Merged
+pub mod Rest
+pub mod Stored
+pub use Rattle.isl_space.specs.Element
+pub use Rattle.isl_space.specs.Valuation
+pub use Rattle.isl_union.specs.Finite
+pub use Rattle.isl_union.specs.KeptValue
