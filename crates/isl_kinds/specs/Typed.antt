@@ -1,6 +1,7 @@
 -- public: the kind of an expression and the parameters that it declares, and why it has none.
 use Rattle.std.specs.Prelude.{◌≡◌, ◌⊎◌, pos, int_lt, Bool, true, false, not, is_some, List, [], ◌∷◌, Option, Some, None, Result, Ok}
 use Rattle.std.specs.Prelude.{Err, if◌then◌else◌}
+use Rattle.std.specs.Bool.{nat_eq}
 use Rattle.std.specs.Option.{option_map, option_and_then}
 use Rattle.std.specs.List.{list_any}
 use Rattle.std.specs.Map.{lookup}
@@ -35,6 +36,11 @@ pub record TypeView : Type 0 where
 -- the bound names, each with its kind and its declared parameters
 abbrev pub ScopeView : Type 0
 ScopeView = List (Name × TypeView)
+
+-- a name that no script has, since it begins with `$`
+abbrev pub is_dollar : Name → Bool
+is_dollar [] = false
+is_dollar (byte ∷ others) = nat_eq byte 36
 
 -- what a name is bound to
 abbrev pub bound_to : ScopeView → Name → Option TypeView

@@ -9,5 +9,5 @@ mod scope;
 mod sought;
 mod types;
 
-pub use scope::{Scope, Typed};
+pub use scope::{Scope, Typed, is_dollar};
 pub use types::{kind_of_pieces, typed, typed_statement};

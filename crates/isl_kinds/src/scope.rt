@@ -1,10 +1,10 @@
 //! What names are bound to: kinds and declared parameters.
 
-ghost use Rattle.std.specs.Prelude.{◌≡◌, IfOk, OnOk, OnErr, []};
+ghost use Rattle.std.specs.Prelude.{◌≡◌, IfOk, OnOk, OnErr, [], filter, not};
 ghost use Rattle.std.specs.Option.{option_copied};
 ghost use Rattle.std.specs.Str.{bytes_eq};
 ghost use Rattle.indexmap.specs.IndexMap.{insert_entry};
-ghost use Rattle.isl_kinds.specs.Typed.{bound_to};
+ghost use Rattle.isl_kinds.specs.Typed.{bound_to, is_dollar};
 
 use indexmap::{IndexMap, IndexSet};
 use isl_expr::tree::ValueKind;
@@ -49,6 +49,13 @@ impl Typed {
     }
 }
 
+/// Whether no script has the name, since it begins with `$`.
+pub fn is_dollar(name: &Name) -> bool
+    ensures { result ≡ is_dollar name.now }
+{
+    name.as_str().as_bytes().first() == Some(&b'$')
+}
+
 /// The bound names, each with its kind and its declared parameters.
 #[derive(Drop)]
 pub struct Scope {
@@ -87,5 +94,12 @@ impl Scope {
     {
         self.bound.insert(name, typed)?;
         Ok(())
+    }
+
+    /// Forgets the names that begin with `$`. It takes no memory.
+    pub fn forget(&mut self)
+        ensures { self.new ≡ filter (λ entry. not (is_dollar entry.0)) self.old }
+    {
+        self.bound.retain(|name, _| !is_dollar(name));
     }
 }

@@ -26,11 +26,11 @@ gist_is m end_of-Link = refl
 gist_is m (more_of-Link operator operand end_of-Link) = refl
 gist_is m (more_of-Link operator operand (more_of-Link next other row)) = refl
 
-is_chosen-Row : (first : Expr) (links : List Link) → is_chosen (Row first links) ≡ is_gist_alone links
+pub is_chosen-Row : (first : Expr) (links : List Link) → is_chosen (Row first links) ≡ is_gist_alone links
 unfolding hidden-the_row-Expr-0 denote.Hole.Carrier.hidden
 is_chosen-Row first links = gist_is _ (hidden-the_row-Link-1 links) ∙ ap is_gist_alone (items_hidden-the_row-Link-1 links)
 
-is_chosen-Prefix : (word : Word) (operand : Expr) → is_chosen (Prefix word operand) ≡ is_sample word
+pub is_chosen-Prefix : (word : Word) (operand : Expr) → is_chosen (Prefix word operand) ≡ is_sample word
 unfolding hidden-the_row-Expr-0 denote.Hole.Carrier.hidden
 is_chosen-Prefix word operand = refl
 

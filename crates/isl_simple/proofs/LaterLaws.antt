@@ -1,5 +1,5 @@
 -- What is not supported in an expression, at the constructors of the code.
-use Rattle.std.proofs.Common.{◌≡◌, ◌∙◌, Bool, true, false, ◌||◌, List, ◌∷◌, refl, sym, ap}
+use Rattle.std.proofs.Common.{◌≡◌, ◌∙◌, Bool, true, false, ◌||◌, List, ◌∷◌, refl, sym, ap, ap₂}
 use Rattle.std.specs.List.{list_any}
 use Rattle.std.proofs.lemmas.List.Folds.{list_any-append}
 use Rattle.isl_expr.specs.declared.tree.Prefix.{Prefix as Word}
@@ -10,8 +10,11 @@ use Rattle.isl_kinds.specs.Parts as part
 use Rattle.isl_kinds.proofs.PartLaws.{at-Row, at-Post, parts_of-Prefix, parts_of-Any, parts_of-Last}
 use Rattle.isl_simple.specs.Unsupported.{is_later}
 
-pub later-Prefix : (x operand : Expr) (word : Word) → x ≡ Prefix word operand → true ≡ list_any is_later (parts_of x)
-later-Prefix x operand word is = sym (ap (λ y. list_any is_later (parts_of y)) is ∙ ap (list_any is_later) (parts_of-Prefix word operand))
+pub later-Prefix : (x operand : Expr) (word : Word) (a b : Bool) → x ≡ Prefix word operand → a ≡ is_later (part.prefix word)
+    → b ≡ list_any is_later (parts_of operand) → (a || b) ≡ list_any is_later (parts_of x)
+later-Prefix x operand word a b is left right =
+    ap₂ (λ (p q : Bool). p || q) left right
+    ∙ sym (ap (λ y. list_any is_later (parts_of y)) is ∙ ap (list_any is_later) (parts_of-Prefix word operand))
 
 pub later-Any : (x a b c : Expr) → x ≡ Any a b c → true ≡ list_any is_later (parts_of x)
 later-Any x a b c is = sym (ap (λ y. list_any is_later (parts_of y)) is ∙ ap (list_any is_later) (parts_of-Any a b c))

@@ -2,16 +2,32 @@
 
 ghost use Rattle.std.specs.Prelude.{◌≡◌};
 ghost use Rattle.std.specs.List.{list_any};
-ghost use Rattle.isl_kinds.specs.Parts.{operator, parts_of, parts_of_links, parts_of_postfixes};
+ghost use Rattle.isl_kinds.specs.Parts.{operator, prefix, parts_of, parts_of_links, parts_of_postfixes};
 ghost use Rattle.isl_simple.specs.Unsupported as spec;
 ghost use Rattle.isl_simple.specs.Unsupported.{is_later};
 
-use isl_expr::tree::{Binary, Expr, Link, Postfix, Stmt};
+use isl_expr::tree::{Binary, Expr, Link, Postfix, Prefix, Stmt};
 
 fn is_later_operator(sign: Binary) -> bool
     ensures { result ≡ is_later (operator sign) }
 {
-    !matches!(sign, Binary::Union | Binary::Intersection)
+    !matches!(
+        sign,
+        Binary::Union
+            | Binary::Intersection
+            | Binary::Difference
+            | Binary::Equal
+            | Binary::ProperSubset
+            | Binary::Subset
+            | Binary::ProperSuperset
+            | Binary::Superset
+    )
+}
+
+fn is_later_word(word: Prefix) -> bool
+    ensures { result ≡ is_later (prefix word) }
+{
+    !matches!(word, Prefix::Sample | Prefix::Scan)
 }
 
 #[cycle(later)]
@@ -24,7 +40,7 @@ fn is_later_expression(expr: &Expr) -> bool
         Expr::Row(first, links) => {
             is_later_expression(first.get()) | are_later_links(links.as_slice())
         }
-        Expr::Prefix(..) => true,
+        Expr::Prefix(word, operand) => is_later_word(*word) | is_later_expression(operand.get()),
         Expr::Any(..) => true,
         Expr::Last(..) => true,
         Expr::Post(operand, postfixes) => {

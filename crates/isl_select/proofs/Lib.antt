@@ -1,0 +1,10 @@
+pub mod PartLaws
+pub mod StateLaws
+pub mod ForgetLaws
+pub mod KeptLaws
+pub mod NarrowLaws
+pub mod RowLaws
+pub mod WorkedLaws
+pub mod JoinLaws
+pub mod ValueLaws
+pub mod DepthLaws

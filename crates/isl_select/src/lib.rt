@@ -1,0 +1,8 @@
+//! What an expression selects, over what is bound: values that are worked out.
+#![tactic(auto)]
+
+mod state;
+mod values;
+
+pub use state::{Kept, State};
+pub use values::{joined_past, value_of};

@@ -1,0 +1,2 @@
+pub mod LexLaws
+pub mod NameLaws

@@ -1,0 +1,2 @@
+pub mod Names
+pub use Rattle.isl_simple.specs.Simple
