@@ -1,7 +1,7 @@
 -- Which causes the bytes of a statement have.
 use Rattle.std.proofs.Common.{◌≡◌, ◌∙◌, ◌⊎◌, inl, inr, refl, sym, ap, subst, ℕ, ℤ, Bool, true, false, List, Some, None, Result, Ok, Err}
 use Rattle.std.proofs.lemmas.Bool.{false≢true}
-use Rattle.isl_meter.specs.Gauge.{limit_of}
+use Rattle.isl_meter.specs.Gauge.{Gauge, limit_of}
 use Rattle.isl_token.specs.TokenView.{Token}
 use Rattle.isl_token.specs.Lex.{tokens}
 use Rattle.isl_token.specs.Depth.{is_too_deep}
@@ -14,7 +14,7 @@ use Rattle.isl_statement.specs.StatementGrammar.{statement_grammar}
 use Rattle.isl_statement.specs.Limits.{statement_is_within}
 use Rattle.isl_statement.specs.Read.{NoStatement, judged, IsDueTo, IsDue}
 use Rattle.isl_statement.proofs.ReadLaws.{one_statement}
-use Rattle.isl_eval.specs.State.{Moment}
+use Rattle.isl_select.specs.State.{Moment}
 use Rattle.isl_simple.specs.Unsupported.{is_unsupported}
 use Rattle.isl_eval.specs.Spelled.{BytesSpell, OfTokens, OfStatement, SpellOne}
 use Rattle.isl_eval.specs.Causes.{causes, IsThere, FirstGives}
@@ -30,7 +30,8 @@ same_tokens bytes a b x y = some_same a b (sym x ∙ y)
 
 pub one : (bytes : List ℕ) → SpellOne bytes
 one bytes a b x y =
-    one_statement x.tokens a b x.spelled (subst (λ (ts : List Token). Spells statement_grammar b ts) (same_tokens bytes y.tokens x.tokens y.cut x.cut) y.spelled)
+    one_statement x.tokens a b x.spelled (subst (λ (ts : List Token). Spells statement_grammar b ts)
+    (same_tokens bytes y.tokens x.tokens y.cut x.cut) y.spelled)
 
 no_tokens : (bytes : List ℕ) (ts : List Token) → tokens bytes ≡ Some ts → ¬ (tokens bytes ≡ None)
 no_tokens bytes ts cut none = let e : Some ts ≡ None = sym cut ∙ none in cc
@@ -53,7 +54,8 @@ data Judged (limit : ℤ) (ts : List Token) (found : Stmt) (answer : Result Stmt
   wide_token : statement_is_within found ≡ true → has_wide_number limit ts ≡ true → answer ≡ Err r.WideNumber → Judged limit ts found answer
   taken : statement_is_within found ≡ true → has_wide_number limit ts ≡ false → answer ≡ Ok found → Judged limit ts found answer
 
-judged_as : (limit : ℤ) (ts : List Token) (found : Stmt) (answer : Result Stmt Refusal) → answer ≡ judged limit ts found → Judged limit ts found answer
+judged_as : (limit : ℤ) (ts : List Token) (found : Stmt) (answer : Result Stmt Refusal) → answer ≡ judged limit ts found
+    → Judged limit ts found answer
 judged_as limit ts found answer is = by (statement_is_within found) refl (has_wide_number limit ts) refl
   where
     by : (b : Bool) → statement_is_within found ≡ b → (c : Bool) → has_wide_number limit ts ≡ c → Judged limit ts found answer
@@ -84,21 +86,37 @@ module _ (before : Moment) (bytes : List ℕ) where
       wide_why wide = inr (no_tokens bytes ts cut, inr (shallow flat, inr (some_statement, inl ((stmt, spelled, wide), refl))))
 
       narrow_tree : statement_is_within stmt ≡ true → ¬ OfStatement bytes (λ stmt. statement_is_within stmt ≡ false)
-      narrow_tree within there = is_so (statement_is_within stmt) within (of_statement bytes stmt (λ stmt. statement_is_within stmt ≡ false) spelled there)
+      narrow_tree within there = is_so (statement_is_within stmt) within
+          (of_statement bytes stmt (λ stmt. statement_is_within stmt ≡ false) spelled there)
 
-      number_why : statement_is_within stmt ≡ true → has_wide_number (limit_of before.meter) ts ≡ true → FirstGives (IsThere before bytes) causes r.WideNumber
-      number_why within wide = inr (no_tokens bytes ts cut, inr (shallow flat, inr (some_statement, inr (narrow_tree within, inl ((ts, cut, wide), refl)))))
+      number_why : statement_is_within stmt ≡ true → has_wide_number (limit_of before.meter) ts ≡ true
+          → FirstGives (IsThere before bytes) causes r.WideNumber
+      number_why within wide = inr (
+        no_tokens bytes ts cut,
+        inr
+            (shallow flat, inr (some_statement, inr (narrow_tree within, inl ((ts, cut, wide), refl)))),
+      )
 
-      narrow_tokens : has_wide_number (limit_of before.meter) ts ≡ false → ¬ OfTokens bytes (λ ts. has_wide_number (limit_of before.meter) ts ≡ true)
+      narrow_tokens : has_wide_number (limit_of before.meter) ts ≡ false
+          → ¬ OfTokens bytes (λ ts. has_wide_number (limit_of before.meter) ts ≡ true)
       narrow_tokens small there =
-          is_not (has_wide_number (limit_of before.meter) ts) small (of_tokens bytes ts (λ ts. has_wide_number (limit_of before.meter) ts ≡ true) cut there)
+          is_not (has_wide_number (limit_of before.meter) ts) small
+          (of_tokens bytes ts (λ ts. has_wide_number (limit_of before.meter) ts ≡ true) cut there)
 
       unsupported_why : statement_is_within stmt ≡ true → has_wide_number (limit_of before.meter) ts ≡ false → is_unsupported stmt ≡ true
           → FirstGives (IsThere before bytes) causes r.Syntax
       unsupported_why within small un =
-          inr (no_tokens bytes ts cut, inr (shallow flat, inr (some_statement, inr (narrow_tree within, inr (narrow_tokens small, inl ((stmt, spelled, un), refl))))))
+          inr (
+            no_tokens bytes ts cut,
+            inr (
+              shallow flat,
+              inr
+                  (some_statement, inr (narrow_tree within, inr (narrow_tokens small, inl ((stmt, spelled, un), refl)))),
+            ),
+          )
 
-      read : statement_is_within stmt ≡ true → has_wide_number (limit_of before.meter) ts ≡ false → is_unsupported stmt ≡ false → IsRead before bytes stmt
+      read : statement_is_within stmt ≡ true → has_wide_number (limit_of before.meter) ts ≡ false → is_unsupported stmt ≡ false
+          → IsRead before bytes stmt
       read within small supported = record {
         spelled = spelled;
         none = (
@@ -111,7 +129,11 @@ module _ (before : Moment) (bytes : List ℕ) where
                 narrow_tree within,
                 (
                   narrow_tokens small,
-                  ((λ there. is_not (is_unsupported stmt) supported (of_statement bytes stmt (λ stmt. is_unsupported stmt ≡ true) spelled there)), tt),
+                  (
+                    (λ there. is_not (is_unsupported stmt) supported
+                        (of_statement bytes stmt (λ stmt. is_unsupported stmt ≡ true) spelled there)),
+                    tt,
+                  ),
                 ),
               ),
             ),
@@ -122,7 +144,8 @@ module _ (before : Moment) (bytes : List ℕ) where
       }
 
       err_of : (refusal : Refusal) → Judged (limit_of before.meter) ts stmt (Err refusal) → FirstGives (IsThere before bytes) causes refusal
-      err_of refusal (wide_tree within is) = let e : refusal ≡ r.TooWide = cc in subst (FirstGives (IsThere before bytes) causes) (sym e) (wide_why within)
+      err_of refusal (wide_tree within is) = let e : refusal ≡ r.TooWide = cc in subst (FirstGives (IsThere before bytes) causes) (sym e)
+          (wide_why within)
       err_of refusal (wide_token within wide is) =
           let e : refusal ≡ r.WideNumber = cc in subst (FirstGives (IsThere before bytes) causes) (sym e) (number_why within wide)
       err_of refusal (taken within small is) = let e : Err refusal ≡ Ok stmt = is in cc
@@ -134,18 +157,22 @@ module _ (before : Moment) (bytes : List ℕ) where
           let e : found ≡ stmt = cc in
           subst (IsRead before bytes) (sym e) (read within small (sym (ap is_unsupported e) ∙ supported))
 
-      un_of : (found : Stmt) → Judged (limit_of before.meter) ts stmt (Ok found) → is_unsupported found ≡ true → FirstGives (IsThere before bytes) causes r.Syntax
+      un_of : (found : Stmt) → Judged (limit_of before.meter) ts stmt (Ok found) → is_unsupported found ≡ true
+          → FirstGives (IsThere before bytes) causes r.Syntax
       un_of found (wide_tree within is) un = let e : Ok found ≡ Err r.TooWide = is in cc
       un_of found (wide_token within wide is) un = let e : Ok found ≡ Err r.WideNumber = is in cc
       un_of found (taken within small is) un = let e : found ≡ stmt = cc in unsupported_why within small (sym (ap is_unsupported e) ∙ un)
 
-  pub due_refused : (refusal : Refusal) → IsDue bytes (limit_of before.meter) (Err refusal) → FirstGives (IsThere before bytes) causes refusal
+  pub due_refused : (refusal : Refusal) → IsDue bytes (limit_of before.meter) (Err refusal)
+      → FirstGives (IsThere before bytes) causes refusal
   due_refused refusal (inl h) = let e : refusal ≡ r.Syntax = let w = h.1 in cc in inl (h.0, e)
   due_refused refusal (inr h) = by h.2
     where
       by : IsDueTo h.0 (limit_of before.meter) (Err refusal) → FirstGives (IsThere before bytes) causes refusal
-      by (inl d) = let e : refusal ≡ r.TooDeep = let w = d.1 in cc in subst (FirstGives (IsThere before bytes) causes) (sym e) (deep_why h.0 h.1 d.0)
-      by (inr (inl d)) = let e : refusal ≡ r.Syntax = let w = d.2 in cc in subst (FirstGives (IsThere before bytes) causes) (sym e) (none_why h.0 h.1 d.0 d.1)
+      by (inl d) = let e : refusal ≡ r.TooDeep = let w = d.1 in cc in subst (FirstGives (IsThere before bytes) causes) (sym e)
+          (deep_why h.0 h.1 d.0)
+      by (inr (inl d)) = let e : refusal ≡ r.Syntax = let w = d.2 in cc in subst (FirstGives (IsThere before bytes) causes) (sym e)
+          (none_why h.0 h.1 d.0 d.1)
       by (inr (inr d)) = err_of h.0 h.1 d.0 d.1 d.2 refusal (judged_as (limit_of before.meter) h.0 d.1 (Err refusal) d.3)
 
   pub due_read : (found : Stmt) → IsDue bytes (limit_of before.meter) (Ok found) → is_unsupported found ≡ false → IsRead before bytes found
@@ -157,7 +184,8 @@ module _ (before : Moment) (bytes : List ℕ) where
       by (inr (inl d)) = let e = d.2 in cc
       by (inr (inr d)) = ok_of h.0 h.1 d.0 d.1 d.2 found (judged_as (limit_of before.meter) h.0 d.1 (Ok found) d.3) supported
 
-  pub due_unsupported : (found : Stmt) → IsDue bytes (limit_of before.meter) (Ok found) → is_unsupported found ≡ true → FirstGives (IsThere before bytes) causes r.Syntax
+  pub due_unsupported : (found : Stmt) → IsDue bytes (limit_of before.meter) (Ok found) → is_unsupported found ≡ true
+      → FirstGives (IsThere before bytes) causes r.Syntax
   due_unsupported found (inl h) un = let e = h.1 in cc
   due_unsupported found (inr h) un = by h.2
     where
@@ -170,18 +198,24 @@ abbrev failed : Refusal → Result Stmt Refusal
 failed refusal = Err refusal
 
 -- ---- what reading answers, as its contract has it: what is due, or that memory ended
-module _ (before : Moment) (bytes : List ℕ) (limit : ℤ) (same : limit ≡ limit_of before.meter) where
+module _ (before : Moment) (bytes : List ℕ) (limit : ℤ) (meter : Gauge) (at : before.meter ≡ meter) (is : limit ≡ limit_of meter) where
+  same : limit ≡ limit_of before.meter
+  same = is ∙ ap limit_of (sym at)
+
   at_limit : (answer : Result Stmt Refusal) → IsDue bytes limit answer → IsDue bytes (limit_of before.meter) answer
   at_limit answer due = subst (λ (z : ℤ). IsDue bytes z answer) same due
 
-  pub read_ok : (found : Stmt) → (Ok found ≡ Err r.NoMemory) ⊎ IsDue bytes limit (Ok found) → is_unsupported found ≡ false → IsRead before bytes found
+  pub read_ok : (found : Stmt) → (Ok found ≡ Err r.NoMemory) ⊎ IsDue bytes limit (Ok found) → is_unsupported found ≡ false
+      → IsRead before bytes found
   read_ok found (inl e) supported = let f : Ok found ≡ Err r.NoMemory = e in cc
   read_ok found (inr due) supported = due_read before bytes found (at_limit (Ok found) due) supported
 
-  pub read_unsupported : (found : Stmt) → (Ok found ≡ Err r.NoMemory) ⊎ IsDue bytes limit (Ok found) → is_unsupported found ≡ true → IsWhyNot before bytes r.Syntax
+  pub read_unsupported : (found : Stmt) → (Ok found ≡ Err r.NoMemory) ⊎ IsDue bytes limit (Ok found) → is_unsupported found ≡ true
+      → IsWhyNot before bytes r.Syntax
   read_unsupported found (inl e) un = let f : Ok found ≡ Err r.NoMemory = e in cc
   read_unsupported found (inr due) un = inr (due_unsupported before bytes found (at_limit (Ok found) due) un)
 
-  pub read_err : (refusal : Refusal) → (failed refusal ≡ Err r.NoMemory) ⊎ IsDue bytes limit (failed refusal) → IsWhyNot before bytes refusal
+  pub read_err : (refusal : Refusal) → (failed refusal ≡ Err r.NoMemory) ⊎ IsDue bytes limit (failed refusal)
+      → IsWhyNot before bytes refusal
   read_err refusal (inl e) = inl cc
   read_err refusal (inr due) = inr (due_refused before bytes refusal (at_limit (Err refusal) due))

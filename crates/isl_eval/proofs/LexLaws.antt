@@ -27,7 +27,8 @@ of_rest left [] = All-nil IsToken
 of_rest (suc left) (b ∷ z) = of_rest left z
 of_rest zero (b ∷ z) =
     let c = cut (b ∷ z) in
-    of_both (tokens_of c.0 (take c.1 (b ∷ z))) (tokens_from (c.1 - 1) z) (of_piece c.0 (take c.1 (b ∷ z)) (front_piece (b ∷ z))) (of_rest (c.1 - 1) z)
+    of_both (tokens_of c.0 (take c.1 (b ∷ z))) (tokens_from (c.1 - 1) z) (of_piece c.0 (take c.1 (b ∷ z)) (front_piece (b ∷ z)))
+    (of_rest (c.1 - 1) z)
 
 pub lexed : (text : Text) (ts : List Token) → tokens text ≡ Some ts → All IsToken ts
 unfolding tokens

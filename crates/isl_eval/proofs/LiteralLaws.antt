@@ -38,7 +38,14 @@ pub record IsSpelled (literal : Literal) : Type 0 where
   pub divided : IsDivided literal
 
 literal_has : (n : ℕ) → Has IsSpelled (literal_grammar n)
-literal_has n = record { by = λ a ts tokens l. record { named = (outline_has n).by a ts tokens l.0; formed = l.1; divided = (outline_divided n).by a ts tokens l.0 } }
+literal_has n = record {
+  by = λ a ts tokens l. record {
+    named = (outline_has n).by a ts tokens l.0;
+    formed = l.1;
+    divided =
+        (outline_divided n).by a ts tokens l.0;
+  };
+}
 
 Spelled : List Literal → Type 0
 Spelled literals = All IsSpelled literals
@@ -56,7 +63,8 @@ links_spelled : (links : List Link) → All InsideLink links → Spelled (links_
 unfolding Spelled InsideLink Inside
 links_spelled [] h = All-nil IsSpelled
 links_spelled (link ∷ links) h =
-    All-append IsSpelled (literals_of link.operand) (links_literals links) (All-head InsideLink link links h) (links_spelled links (All-tail InsideLink link links h))
+    All-append IsSpelled (literals_of link.operand) (links_literals links) (All-head InsideLink link links h)
+    (links_spelled links (All-tail InsideLink link links h))
 
 postfixes_spelled : (postfixes : List Postfix) → All InsidePostfix postfixes → Spelled (postfixes_literals postfixes)
 unfolding Spelled InsidePostfix
@@ -72,12 +80,14 @@ row_inside first (link ∷ links) one more =
     subst Spelled (sym (literals_of-Row first (link ∷ links)))
     (All-append IsSpelled (literals_of first) (links_literals (link ∷ links)) one (links_spelled (link ∷ links) more))
 
-post_inside : (operand : Expr) (postfixes : List Postfix) → Inside operand → All InsidePostfix postfixes → Inside (post_of operand postfixes)
+post_inside : (operand : Expr) (postfixes : List Postfix) → Inside operand → All InsidePostfix postfixes
+    → Inside (post_of operand postfixes)
 unfolding Inside Spelled
 post_inside operand [] one more = one
 post_inside operand (postfix ∷ postfixes) one more =
     subst Spelled (sym (literals_of-Post operand (postfix ∷ postfixes)))
-    (All-append IsSpelled (literals_of operand) (postfixes_literals (postfix ∷ postfixes)) one (postfixes_spelled (postfix ∷ postfixes) more))
+    (All-append IsSpelled (literals_of operand) (postfixes_literals (postfix ∷ postfixes)) one
+    (postfixes_spelled (postfix ∷ postfixes) more))
 
 prefix_inside : (word : _) (operand : Expr) → Inside operand → Inside (e.Prefix word operand)
 unfolding Inside
@@ -116,10 +126,12 @@ item_inside number = All-nil IsSpelled
 module _ (p : Precedence) (item : Grammar Expr) (each : Has Inside item) where
   link_has : Has InsideLink (g.link p item)
   unfolding InsideLink
-  link_has = bind_has (λ _. Unit {0}) InsideLink _ _ (whatever _) (λ binary _. bind_has Inside InsideLink _ _ each (λ operand one. pure_has InsideLink _ one))
+  link_has = bind_has (λ _. Unit {0}) InsideLink _ _ (whatever _)
+      (λ binary _. bind_has Inside InsideLink _ _ each (λ operand one. pure_has InsideLink _ one))
 
   rows_has : Has Inside (g.rows p item)
-  rows_has = bind_has Inside Inside _ _ each (λ first one. bind_has (All InsideLink) Inside _ _ (many_has InsideLink _ link_has) (λ more all.
+  rows_has = bind_has Inside Inside _ _ each
+      (λ first one. bind_has (All InsideLink) Inside _ _ (many_has InsideLink _ link_has) (λ more all.
       pure_has Inside (row_of first more) (row_inside first more one all)))
 
 expr_has : (pre : Grammar Expr) → Has Inside pre → Has Inside (g.expr_with pre)
@@ -128,7 +140,8 @@ expr_has pre h = rows_has Test _ (rows_has Universal _ (rows_has Sum _ (rows_has
 -- ---- operands
 module _ (literal : Grammar Literal) (nested : Grammar Expr) (literals : Has IsSpelled literal) (inner : Has Inside nested) where
   enclosed_has : Has Inside (g.enclosed nested)
-  enclosed_has = then_has Inside _ _ (bind_has Inside Inside _ _ (expr_has nested inner) (λ found one. then_has Inside _ _ (pure_has Inside found one)))
+  enclosed_has = then_has Inside _ _ (bind_has Inside Inside _ _ (expr_has nested inner)
+      (λ found one. then_has Inside _ _ (pure_has Inside found one)))
 
   lone_has : Has Inside g.lone
   lone_has = bind_has (λ _. Unit {0}) Inside _ _ (whatever _) (λ name _. pure_has Inside (e.Name name) (name_inside name))
@@ -141,16 +154,20 @@ module _ (literal : Grammar Literal) (nested : Grammar Expr) (literals : Has IsS
 
   postfix_has : Has InsidePostfix (g.postfix nested)
   postfix_has = either_has InsidePostfix _ _ (then_has InsidePostfix _ _ (pure_has InsidePostfix Inverse inverse_inside))
-      (either_has InsidePostfix _ _ (bind_has Inside InsidePostfix _ _ enclosed_has (λ argument one. pure_has InsidePostfix (Apply argument) (apply_inside argument one)))
-      (then_has InsidePostfix _ _ (bind_has (λ _. Unit {0}) InsidePostfix _ _ (whatever _) (λ at _. then_has InsidePostfix _ _ (pure_has InsidePostfix (Item at) (item_inside at))))))
+      (either_has InsidePostfix _ _ (bind_has Inside InsidePostfix _ _ enclosed_has
+      (λ argument one. pure_has InsidePostfix (Apply argument) (apply_inside argument one)))
+      (then_has InsidePostfix _ _ (bind_has (λ _. Unit {0}) InsidePostfix _ _ (whatever _)
+      (λ at _. then_has InsidePostfix _ _ (pure_has InsidePostfix (Item at) (item_inside at))))))
 
   post_has : Has Inside (g.post literal nested)
-  post_has = bind_has Inside Inside _ _ atom_has (λ operand one. bind_has (All InsidePostfix) Inside _ _ (many_has InsidePostfix _ postfix_has) (λ more all.
+  post_has = bind_has Inside Inside _ _ atom_has
+      (λ operand one. bind_has (All InsidePostfix) Inside _ _ (many_has InsidePostfix _ postfix_has) (λ more all.
       pure_has Inside (post_of operand more) (post_inside operand more one all)))
 
   flows_has : (first : Role) (found : Flow) → Has Inside (g.flows literal nested first found)
   flows_has first found =
-      then_has Inside _ _ (bind_has Inside Inside _ _ post_has (λ a x. then_has Inside _ _ (bind_has Inside Inside _ _ post_has (λ b y. then_has Inside _ _
+      then_has Inside _ _ (bind_has Inside Inside _ _ post_has
+      (λ a x. then_has Inside _ _ (bind_has Inside Inside _ _ post_has (λ b y. then_has Inside _ _
       (bind_has Inside Inside _ _ post_has (λ c z. pure_has Inside (dependence found a b c) (flow_inside found a b c x y z)))))))
 
   prefixed_has : Has Inside (g.prefixed nested)
@@ -158,7 +175,8 @@ module _ (literal : Grammar Literal) (nested : Grammar Expr) (literals : Has IsS
       pure_has Inside (e.Prefix word operand) (prefix_inside word operand one)))
 
   level_has : Has Inside (g.pre_level literal nested)
-  level_has = either_has Inside _ _ prefixed_has (either_has Inside _ _ (flows_has role.Any flow.Any) (either_has Inside _ _ (flows_has role.Last flow.Last) post_has))
+  level_has = either_has Inside _ _ prefixed_has
+      (either_has Inside _ _ (flows_has role.Any flow.Any) (either_has Inside _ _ (flows_has role.Last flow.Last) post_has))
 
 pre_has : (n : ℕ) → Has Inside (g.pre n)
 unfolding g.pre
@@ -186,9 +204,12 @@ statement_has n =
     let inside = expr_has (g.pre n) (pre_has n) in
     let shows = bind_has Inside InsideStmt _ _ inside (λ expr one. pure_has InsideStmt (Show expr) (show_inside expr one)) in
     either_has InsideStmt _ _ (pure_has InsideStmt Empty empty_inside) (either_has InsideStmt _ _
-    (bind_has (λ _. Unit {0}) InsideStmt _ _ (whatever _) (λ name _. then_has InsideStmt _ _ (bind_has Inside InsideStmt _ _ inside (λ expr one. pure_has InsideStmt (Bind name expr) (bind_inside name expr one)))))
+    (bind_has (λ _. Unit {0}) InsideStmt _ _ (whatever _)
+    (λ name _. then_has InsideStmt _ _ (bind_has Inside InsideStmt _ _ inside
+    (λ expr one. pure_has InsideStmt (Bind name expr) (bind_inside name expr one)))))
     (either_has InsideStmt _ _ (then_has InsideStmt _ _ shows) shows))
 
-pub literals_spelled : (stmt : Stmt) (ts : List Token) → All IsToken ts → s.Spells statement.statement_grammar stmt ts → All IsSpelled (statement_literals stmt)
+pub literals_spelled : (stmt : Stmt) (ts : List Token) → All IsToken ts → s.Spells statement.statement_grammar stmt ts
+    → All IsSpelled (statement_literals stmt)
 unfolding InsideStmt Spelled
 literals_spelled stmt ts tokens spelled = (statement_has spelled.depth).by stmt ts tokens spelled.spelled

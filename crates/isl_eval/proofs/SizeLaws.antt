@@ -1,5 +1,5 @@
 -- The space of a piece of a literal has the coordinates and the leaves of its tuples.
-use Rattle.std.proofs.Common.{◌≡◌, ◌∙◌, ◌+◌, ◌≤◌, ℕ, true, List, [], ◌++◌, length, Option, Some, None, refl, sym, ap, ap₂, arith}
+use Rattle.std.proofs.Common.{◌≡◌, ◌∙◌, ◌+◌, ℕ, true, [], ◌++◌, length, Option, Some, None, refl, sym, ap, ap₂, arith}
 use Rattle.std.specs.Prelude.{◌&&◌, nat_le}
 use Rattle.std.proofs.lemmas.Bool.{and_parts, leb-true}
 use Rattle.std.proofs.lemmas.List.{length-append, append-nil}
@@ -28,12 +28,14 @@ tuple_leaves (Pair' s (more_of-Tuple a end_of-Tuple) t (more_of-Tuple b end_of-T
     omega (arith, one, two)
 
 -- ---- pieces
-space_width : (first : Tuple) (second : Option Tuple) → coordinates_of (space_of_tuples (form_of_tuple first) second) ≡ length (entries_of first ++ second_entries second)
+space_width : (first : Tuple) (second : Option Tuple)
+    → coordinates_of (space_of_tuples (form_of_tuple first) second) ≡ length (entries_of first ++ second_entries second)
 space_width first None = tuple_width first ∙ ap length (sym (append-nil (entries_of first)))
 space_width first (Some second) =
     ap₂ (λ (m n : ℕ). m + n) (tuple_width first) (tuple_width second) ∙ sym (length-append (entries_of first) (entries_of second))
 
-space_leaves : (first : Tuple) (second : Option Tuple) → space_leaves_of (space_of_tuples (form_of_tuple first) second) ≡ leaves_in first + leaves_in_image second
+space_leaves : (first : Tuple) (second : Option Tuple)
+    → space_leaves_of (space_of_tuples (form_of_tuple first) second) ≡ leaves_in first + leaves_in_image second
 space_leaves first None = let one = tuple_leaves first in omega (arith, one)
 space_leaves first (Some second) = ap₂ (λ (m n : ℕ). m + n) (tuple_leaves first) (tuple_leaves second)
 

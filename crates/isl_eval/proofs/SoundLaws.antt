@@ -1,5 +1,5 @@
 -- What a literal that is taken declares and names is what a value may have.
-use Rattle.std.proofs.Common.{◌≡◌, ◌≢◌, ◌∙◌, refl, sym, ℕ, ◌≤◌, true, false, List, [], ◌∷◌, length, get_or, arith}
+use Rattle.std.proofs.Common.{◌≡◌, ◌≢◌, ◌∙◌, sym, ℕ, true, false, List, [], ◌∷◌, length, get_or, arith}
 use Rattle.std.specs.Prelude.{not, ◌&&◌, nat_le}
 use Rattle.std.specs.List.{All, list_all}
 use Rattle.std.specs.Str.{bytes_eq}
@@ -28,7 +28,8 @@ each_apart : (name : Name) (names : List Name) → is_among names name ≡ false
 each_apart name [] none = All-nil (λ other. name ≢ other)
 each_apart name (other ∷ names) none =
     let parts = or_parts (bytes_eq other name) (is_among names name) none in
-    All-cons (λ m. name ≢ m) other names (λ e. false≢true (sym parts.0 ∙ (bytes_eq-Decides other name).1 (sym e))) (each_apart name names parts.1)
+    All-cons (λ m. name ≢ m) other names (λ e. false≢true (sym parts.0 ∙ (bytes_eq-Decides other name).1 (sym e)))
+    (each_apart name names parts.1)
 
 distinct_from : (names : List Name) → are_distinct names ≡ true → AreDistinct names
 distinct_from [] e = λ i j d low high. absurd (omega arith)
@@ -39,7 +40,8 @@ distinct_from (name ∷ names) e =
 -- ---- what is taken is sound
 pub sound : (literal : Literal) → is_within literal ≡ true → IsSpelled literal → IsWellFormedLiteral literal
 sound literal within_literal spelled =
-    let formed = and_parts (are_distinct literal.params && are_alike literal.pieces) (list_all (piece_is_formed literal.params) literal.pieces) spelled.formed in
+    let formed = and_parts (are_distinct literal.params && are_alike literal.pieces)
+    (list_all (piece_is_formed literal.params) literal.pieces) spelled.formed in
     let distinct = and_parts (are_distinct literal.params) (are_alike literal.pieces) formed.0 in
     let sizes = and_parts (nat_le (length literal.params) 16) (list_all piece_is_within literal.pieces) within_literal in
     let within = All-pass piece_is_within literal.pieces sizes.1 in record {
@@ -53,7 +55,8 @@ sound literal within_literal spelled =
     }
 
 -- the literals of a statement that is taken
-pub spelled_sound : (bytes : List ℕ) (stmt : Stmt) → BytesSpell bytes stmt → statement_is_within stmt ≡ true → All IsWellFormedLiteral (statement_literals stmt)
+pub spelled_sound : (bytes : List ℕ) (stmt : Stmt) → BytesSpell bytes stmt → statement_is_within stmt ≡ true
+    → All IsWellFormedLiteral (statement_literals stmt)
 spelled_sound bytes stmt spelled within =
     let all = literals_spelled stmt spelled.tokens (lexed bytes spelled.tokens spelled.cut) spelled.spelled in
     let fits = All-pass is_within (statement_literals stmt) within in

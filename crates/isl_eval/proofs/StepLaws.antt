@@ -1,404 +1,443 @@
--- One step: what is answered, and what is refused.
-use Rattle.std.proofs.Common.{◌≡◌, ◌≢◌, ◌∙◌, ◌⊎◌, inl, inr, refl, sym, ap, subst, ◌<◌, ◌≤◌, ◌-◌, ◌^◌, ℕ, ℤ, pos, Bool, true, false, List, [], ◌∷◌, ◌++◌, length, Option, Some, None, Result, Ok, Err, arith}
-use Rattle.std.specs.Prelude.{IfOk, IfErr, MatchResult}
-use Rattle.std.specs.List.{All, list_any}
-use Rattle.std.proofs.lemmas.Bool.{false_from_ne_true}
+-- One simple statement after another: what is answered, and what is refused.
+use Rattle.std.proofs.Common.{◌≡◌, ◌∙◌, ◌<◌, ◌+◌, inl, inr, refl, sym, ap, ap₂, subst, arith, ◌^◌, ◌-◌, ℕ, zero, suc, length}
+use Rattle.std.proofs.Common.{take, drop, get_or, ℤ, pos, true, false, List, []}
+use Rattle.std.proofs.Common.{◌∷◌, ◌++◌, append_assoc, Option, Some, Result, Ok, Err, option_map}
+use Rattle.std.specs.Prelude.{unsigned_abs, IfOk, IfErr, OnErr, MatchResult}
+use Rattle.std.specs.List.{list_any}
+use Rattle.std.proofs.lemmas.Bool.{or_parts, false_from_ne_true}
+use Rattle.std.proofs.Math.Seq.{take-length, drop-length}
+use Rattle.std.proofs.lemmas.List.{append-nil, take_more, take-append-drop}
+use Rattle.std.proofs.lemmas.List.Folds.{list_any_none, list_any-append}
 use Rattle.isl_meter.specs.Gauge.{Gauge, limit_of, IsCharged, IsCutBy, IsKept}
 use Rattle.isl_meter.specs.declared.Cut.{Cut}
 use Rattle.isl_meter.specs.declared.Cut.TheVariants as cuts
-use Rattle.isl_meter.proofs.CutLemmas.{IsCharged_refl, IsKept_refl, IsKept-charged}
-use Rattle.isl_space.specs.Limits.{most_parameters}
+use Rattle.isl_meter.proofs.CutLemmas.{IsCharged_trans, IsKept-charged}
 use Rattle.isl_text.specs.declared.refusal.Refusal.{Refusal}
-use Rattle.isl_text.specs.declared.refusal.Refusal.TheVariants as r
 use Rattle.isl_expr.specs.declared.tree.ValueKind.{ValueKind}
 use Rattle.isl_expr.specs.declared.tree.Stmt.{Stmt}
 use Rattle.isl_expr.specs.declared.tree.Stmt.TheVariants.{Empty, Bind, Show}
 use Rattle.isl_expr.specs.declared.tree.Expr.{Expr}
-use Rattle.isl_expr.specs.Expr.{statement_literals}
-use Rattle.isl_kinds.specs.declared.types.Purpose.{Purpose}
-use Rattle.isl_kinds.specs.declared.types.Purpose.TheVariants as purpose
-use Rattle.isl_kinds.specs.Parts.{parts_of, parts_of_statement}
-use Rattle.isl_kinds.specs.Typed.{TypeView, ScopeView, takes, has_unknown, has_no_item, kind_of, declared_of, kind_for, with_params, type_for, found, type_of_statement, Answers as TypeAnswers}
-use Rattle.isl_lower.specs.Value.{IsWellFormedLiteral}
-use Rattle.isl_simple.specs.Unsupported.{is_unsupported, mixes_kinds}
-use Rattle.isl_eval.specs.State.{Kept, Moment, StateView, Binds, scope_of, Fits}
-use Rattle.isl_eval.specs.Spelled.{BytesSpell, OfStatement}
-use Rattle.isl_eval.specs.Causes.{Cause, no_token, too_deep, no_statement, too_wide, wide_number, unsupported, unknown_name, wrong_kind, no_element, mixed_kinds, wide_join, causes, refusal_of, statement_declared, IsThere, FirstGives, NoneIs, IsValid, Refuses, HasWork, uses_units}
-use Rattle.isl_eval.specs.Selection.{Keeps}
-use Rattle.isl_eval.specs.Machine.{Answer, Step, Answers, shown}
+use Rattle.isl_kinds.specs.Typed.{TypeView, is_dollar, kind_of, type_of_statement}
+use Rattle.isl_simple.specs.Flat.{flat}
+use Rattle.isl_simple.specs.Simple.{BindsIn}
+use Rattle.isl_simple.proofs.SimpleLaws.{parts_kept}
+use Rattle.isl_spelled.specs.Names.{binds_dollar}
+use Rattle.isl_select.specs.State.{Kept, Moment, StateView, Binds, Fits, HasNumbersUpTo, IsSettled, type_of, scope_of, forgotten}
+use Rattle.isl_select.specs.Selection.{Keeps}
+use Rattle.isl_select.specs.Made.{IsPaid, refusal_of_cut, uses_units}
+use Rattle.isl_select.proofs.StateLaws.{bound_at, fits_bound}
+use Rattle.isl_select.proofs.ForgetLaws.{forgotten_itself, forgotten_settled, fits_forgotten}
+use Rattle.isl_select.proofs.ValueLaws.{same_limit, paid_same, paid_after, unmade_after}
 use Rattle.isl_eval.specs.declared.step.Tally.{Tally}
-use Rattle.isl_eval.specs.declared.eval.Work.{Work}
-use Rattle.isl_eval.specs.declared.eval.Work.TheVariants as work
-use Rattle.isl_eval.specs.Evaluation.{causes_of_bytes, IsRead, IsWhyNot, IsTyped, IsWorkable, IsWhyUnworkable, IsReady, IsOfType, IsWork, IsPaid, IsWhyUnmade, IsWhyUnworked, Does, refusal_of_cut}
-use Rattle.isl_eval.proofs.CauseLaws.{of_statement, is_not}
-use Rattle.isl_eval.proofs.StateLaws.{fits_bound}
-use Rattle.isl_eval.proofs.ValueLaws.{same_limit}
+use Rattle.isl_eval.specs.Machine.{Answer, Does, Step, Steps, behind, nothing}
+use Rattle.isl_eval.specs.Causes.{AreDone, IsInfinite, IsValid, Refuses, Stops}
+use Rattle.isl_eval.specs.Run.{Answers}
+use Rattle.isl_eval.specs.Evaluated.{IsEvaluable, IsWhyEnded, works}
+use Rattle.isl_eval.specs.Evaluation.{AreEvaluable, AreLeft, IsRead, IsTaken, IsWhyStopped, IsWorkable}
+use Rattle.isl_eval.proofs.ChainLaws.{one_alone, one_of}
+use Rattle.isl_eval.proofs.CauseLaws.{of_statement}
+use Rattle.isl_eval.proofs.TypeLaws.{bind_typed}
+use Rattle.isl_eval.proofs.RefusalLaws.{clear, has_work, no_work}
 
--- ---- types
-module _ (scope : ScopeView) (expr : Expr) where
-  kind_typed : (p : Purpose) (t : TypeView) (kind : Option ValueKind) → kind_of scope expr ≡ kind → has_unknown scope expr ≡ false
-      → with_params (declared_of scope expr) (kind_for p expr kind) ≡ Ok t → IsOfType scope expr t
-  kind_typed p t None is known e = let f : Err r.WrongKind ≡ Ok t = e in cc
-  kind_typed p t (Some kind) is known e = by (takes p kind) refl (has_no_item expr) refl
-    where
-      by : (b : Bool) → takes p kind ≡ b → (c : Bool) → has_no_item expr ≡ c → IsOfType scope expr t
-      by false q c w = let f : Err r.WrongKind ≡ Ok t = sym (rw q refl) ∙ e in cc
-      by true q true w = let f : Err r.NoElement ≡ Ok t = sym (rw (q, w) refl) ∙ e in cc
-      by true q false w =
-          let made : TypeView = record { kind = kind; params = declared_of scope expr } in
-          let f : Ok made ≡ Ok t = sym (rw (q, w) refl) ∙ e in
-          let same : made ≡ t = cc in
-          record { known = known; kind = is ∙ ap (λ (u : TypeView). Some u.kind) same; params = ap (λ (u : TypeView). u.params) same }
+-- ---- units
+works_both : (done left : List Stmt) → list_any works (done ++ left) ≡ false → (list_any works done ≡ false) × (list_any works left ≡ false)
+works_both done left none = or_parts (list_any works done) (list_any works left) (sym (list_any-append works done left) ∙ none)
 
-  pub of_type : (p : Purpose) (t : TypeView) → type_for p scope expr ≡ Ok t → IsOfType scope expr t
-  of_type p t e = by (has_unknown scope expr) refl
-    where
-      by : (b : Bool) → has_unknown scope expr ≡ b → IsOfType scope expr t
-      by true q = let f : Err r.UnknownName ≡ Ok t = sym (rw q refl) ∙ e in cc
-      by false q = kind_typed p t (kind_of scope expr) refl q (sym (rw q refl) ∙ e)
+works_at : (done : List Stmt) (stmt : Stmt) (left : List Stmt) → list_any works (done ++ stmt ∷ left) ≡ false
+    → (list_any works done ≡ false) × (works stmt ≡ false)
+works_at done stmt left none =
+    let both = works_both done (stmt ∷ left) none in
+    (both.0, (or_parts (works stmt) (list_any works left) both.1).0)
 
-  -- an expression without a type has one of three causes
-  wrong_kind_of : (p : Purpose) (kind : Option ValueKind) (refusal : Refusal) → with_params (declared_of scope expr) (kind_for p expr kind) ≡ Err refusal
-      → (refusal ≡ r.WrongKind) ⊎ (refusal ≡ r.NoElement)
-  wrong_kind_of p None refusal e = inl cc
-  wrong_kind_of p (Some kind) refusal e = by (takes p kind) refl (has_no_item expr) refl
-    where
-      by : (b : Bool) → takes p kind ≡ b → (c : Bool) → has_no_item expr ≡ c → (refusal ≡ r.WrongKind) ⊎ (refusal ≡ r.NoElement)
-      by false q c w = let f : Err r.WrongKind ≡ Err refusal = sym (rw q refl) ∙ e in inl cc
-      by true q true w = let f : Err r.NoElement ≡ Err refusal = sym (rw (q, w) refl) ∙ e in inr cc
-      by true q false w =
-          let made : TypeView = record { kind = kind; params = declared_of scope expr } in
-          let f : Ok made ≡ Err refusal = sym (rw (q, w) refl) ∙ e in cc
+-- ---- one more is done
+pub done_more : (before now next : Moment) (done : List Stmt) (stmt : Stmt) → AreDone before done now → Step now stmt next nothing
+    → AreDone before (done ++ stmt ∷ []) next
+unfolding AreDone
+done_more before now next [] stmt is step = (next, subst (λ (m : Moment). Step m stmt next nothing) is step, refl)
+done_more before now next (first ∷ done) stmt h step = (h.0, h.1, done_more h.0 now next done stmt h.2 step)
 
-  without_type : (p : Purpose) (refusal : Refusal) → type_for p scope expr ≡ Err refusal
-      → (refusal ≡ r.UnknownName) ⊎ ((refusal ≡ r.WrongKind) ⊎ (refusal ≡ r.NoElement))
-  without_type p refusal e = by (has_unknown scope expr) refl
-    where
-      by : (b : Bool) → has_unknown scope expr ≡ b → (refusal ≡ r.UnknownName) ⊎ ((refusal ≡ r.WrongKind) ⊎ (refusal ≡ r.NoElement))
-      by true q = let f : Err r.UnknownName ≡ Err refusal = sym (rw q refl) ∙ e in inl cc
-      by false q = inr (wrong_kind_of p (kind_of scope expr) refusal (sym (rw q refl) ∙ e))
+pub last_done : (before now after : Moment) (done : List Stmt) (last : Stmt) (answer : Answer) → AreDone before done now
+    → Step now last after answer
+    → Steps before (done ++ last ∷ []) after answer
+unfolding AreDone Steps
+last_done before now after [] last answer is step = subst (λ (m : Moment). Step m last after answer) is step
+last_done before now after (first ∷ []) last answer h step =
+    (h.0, h.1, subst (λ (m : Moment). Step m last after answer) h.2 step)
+last_done before now after (first ∷ next ∷ done) last answer h step =
+    (h.0, h.1, last_done h.0 now after (next ∷ done) last answer h.2 step)
 
--- what a function that finds a type answers
-pub answered_ok : (t : Option TypeView) (answer : Result (Option TypeView) Refusal) → (Ok t ≡ answer) ⊎ (Ok t ≡ Err r.NoMemory) → answer ≡ Ok t
-answered_ok t answer (inl e) = sym e
-answered_ok t answer (inr e) = let f : Ok t ≡ Err r.NoMemory = e in cc
+-- ---- bindings
+kind_same : (a b : ValueKind) (o : Option ValueKind) → o ≡ Some a → o ≡ Some b → a ≡ b
+kind_same a b o x y = let e : Some a ≡ Some b = sym x ∙ y in cc
 
-found_err : (t : Result TypeView Refusal) (refusal : Refusal) → found t ≡ Err refusal → t ≡ Err refusal
-found_err (Ok t) refusal e = let f : Ok (Some t) ≡ Err refusal = e in cc
-found_err (Err other) refusal e = cc
+kept_type : (now : Moment) (name : List ℕ) (expr : Expr) (t : TypeView) (kept : Kept)
+    → type_of_statement (scope_of now.state) (Bind name expr) ≡ Ok (Some t)
+    → Keeps now expr kept → type_of kept ≡ t
+kept_type now name expr t kept typed keeps =
+    let is = bind_typed (scope_of now.state) name expr t typed in
+    ap₂ (λ (k : ValueKind) (p : List (List ℕ)). record { kind = k; params = p })
+    (kind_same kept.kind t.kind (kind_of (scope_of now.state) expr) keeps.kind is.kind)
+    (sym keeps.params ∙ is.params)
 
-found_ok : (t : Result TypeView Refusal) (u : TypeView) → found t ≡ Ok (Some u) → t ≡ Ok u
-found_ok (Ok t) u e = cc
-found_ok (Err other) u e = let f : Err other ≡ Ok (Some u) = e in cc
+binds_in : (now next : Moment) (name : List ℕ) (kept : Kept) (t : TypeView) → type_of kept ≡ t → Binds now.state name kept next.state
+    → BindsIn (scope_of now.state) name t (scope_of next.state)
+binds_in now next name kept t same binds = record {
+  bound = bound_at next.state name ∙ ap (option_map type_of) binds.named ∙ ap Some same;
+  others = λ other apart. bound_at next.state other ∙ ap (option_map type_of) (binds.others other apart) ∙ sym (bound_at now.state other);
+}
 
-found_some : (t : Result TypeView Refusal) → ¬ (found t ≡ Ok None)
-found_some (Ok t) e = cc
-found_some (Err other) e = let f : Err other ≡ Ok None = e in cc
+numbers_at : (g h : Gauge) (kept : Kept) → IsCharged g h → HasNumbersUpTo (unsigned_abs (limit_of h)) kept.value
+    → HasNumbersUpTo (unsigned_abs (limit_of g)) kept.value
+numbers_at g h kept charged small = subst (λ (z : ℤ). HasNumbersUpTo (unsigned_abs z) kept.value) (same_limit g h charged) small
 
-no_type : (scope : ScopeView) (stmt : Stmt) (refusal : Refusal) → type_of_statement scope stmt ≡ Err refusal
-    → (refusal ≡ r.UnknownName) ⊎ ((refusal ≡ r.WrongKind) ⊎ (refusal ≡ r.NoElement))
-no_type scope Empty refusal e = let f : Ok None ≡ Err refusal = e in cc
-no_type scope (Bind name expr) refusal e = without_type scope expr purpose.Bound refusal (found_err (type_for purpose.Bound scope expr) refusal e)
-no_type scope (Show expr) refusal e = without_type scope expr purpose.Shown refusal (found_err (type_for purpose.Shown scope expr) refusal e)
+-- what is bound after a step is within the limit
+step_fits : (limit : ℤ) (before : Moment) (stmt : Stmt) (after : Moment) (answer : Answer) → limit_of before.meter ≡ limit
+    → Fits limit before.state
+    → Does before stmt after answer → Fits limit after.state
+step_fits limit before Empty after answer is fits does = subst (Fits limit) (sym does.0) fits
+step_fits limit before (Show expr) after answer is fits does = subst (Fits limit) (sym does.0) fits
+step_fits limit before (Bind name expr) after answer is fits does =
+    let kept = does.0.0 in
+    fits_bound limit before.state name kept after.state fits does.0.2
+    (subst (λ (z : ℤ). HasNumbersUpTo (unsigned_abs z) kept.value) is does.0.1.numbers)
 
--- what a statement with a type has
-pub show_typed : (scope : ScopeView) (expr : Expr) (t : TypeView) → type_of_statement scope (Show expr) ≡ Ok (Some t) → IsOfType scope expr t
-show_typed scope expr t e = of_type scope expr purpose.Shown t (found_ok (type_for purpose.Shown scope expr) t e)
+pub steps_fit : (limit : ℤ) (before : Moment) (statements : List Stmt) (after : Moment) (answer : Answer) → limit_of before.meter ≡ limit
+    → Fits limit before.state → Steps before statements after answer → Fits limit after.state
+unfolding Steps
+steps_fit limit before [] after answer is fits steps = absurd steps
+steps_fit limit before (stmt ∷ []) after answer is fits step = step_fits limit before stmt after answer is fits step.does
+steps_fit limit before (stmt ∷ other ∷ more) after answer is fits steps =
+    steps_fit limit steps.0 (other ∷ more) after answer (same_limit before.meter steps.0.meter steps.1.meter ∙ is)
+    (step_fits limit before stmt steps.0 nothing is fits steps.1.does) steps.2
 
-pub bind_typed : (scope : ScopeView) (name : List ℕ) (expr : Expr) (t : TypeView) → type_of_statement scope (Bind name expr) ≡ Ok (Some t) → IsOfType scope expr t
-bind_typed scope name expr t e = of_type scope expr purpose.Bound t (found_ok (type_for purpose.Bound scope expr) t e)
+-- ---- what is left
+pub left_start : (before : Moment) (statements : List Stmt) → AreEvaluable (scope_of before.state) statements
+    → Fits (limit_of before.meter) before.state
+    → AreLeft before before [] statements
+unfolding AreDone
+left_start before statements ready fits = record {
+  ready = ready;
+  steps = refl;
+  fits = fits;
+  others = refl;
+  paid = paid_same false before.meter before.meter refl;
+  at = refl;
+}
 
-pub none_typed : (before : Moment) (stmt : Stmt) → type_of_statement (scope_of before.state) stmt ≡ Ok None → IsWork before stmt work.Nothing
-none_typed before Empty e = tt
-none_typed before (Bind name expr) e = absurd (found_some (type_for purpose.Bound (scope_of before.state) expr) e)
-none_typed before (Show expr) e = absurd (found_some (type_for purpose.Shown (scope_of before.state) expr) e)
+pub left_next : (before now next : Moment) (done : List Stmt) (stmt : Stmt) (other : Stmt) (left : List Stmt) (answer : Answer)
+    → AreLeft before now done (stmt ∷ other ∷ left) → Step now stmt next answer → IsPaid (works stmt) now.meter next.meter
+    → ((name : List ℕ) (expr : Expr) → stmt ≡ Bind name expr → is_dollar name ≡ true → forgotten next.state ≡ forgotten now.state)
+    → AreLeft before next (done ++ stmt ∷ []) (other ∷ left) × (answer ≡ nothing)
+left_next before now next done (Bind name expr) other left answer h step paid dollar =
+    let kept = step.does.0.0 in
+    let keeps = step.does.0.1 in
+    let binds = step.does.0.2 in (
+      record {
+        ready = h.ready.4 (scope_of next.state)
+            (binds_in now next name kept h.ready.0 (kept_type now name expr h.ready.0 kept h.ready.1 keeps) binds);
+        steps = done_more before now next done (Bind name expr) h.steps
+            (subst (λ (a : Answer). Step now (Bind name expr) next a) step.does.1 step);
+        fits = fits_bound (limit_of before.meter) now.state name kept next.state h.fits binds
+            (numbers_at before.meter now.meter kept h.paid.charged keeps.numbers);
+        others = dollar name expr refl h.ready.2 ∙ h.others;
+        paid = paid_after (list_any works (done ++ Bind name expr ∷ [])) (list_any works done)
+            (works (Bind name expr)) before.meter now.meter next.meter
+            (λ none. works_at done (Bind name expr) [] none) h.paid paid;
+        at = step.at ∙ h.at;
+      },
+      step.does.1,
+    )
+left_next before now next done Empty other left answer h step paid dollar = absurd h.ready
+left_next before now next done (Show expr) other left answer h step paid dollar = absurd h.ready
 
--- what is to be worked out is ready
-pub show_ready : (scope : ScopeView) (expr : Expr) (t : TypeView) → is_unsupported (Show expr) ≡ false → All IsWellFormedLiteral (statement_literals (Show expr))
-    → IsWorkable scope (Show expr) → type_of_statement scope (Show expr) ≡ Ok (Some t) → IsReady scope expr
-show_ready scope expr t supported literals able typed =
-    record { sound = record { supported = supported; known = (show_typed scope expr t typed).known; literals = literals }; narrow = able.narrow }
-
-pub bind_ready : (scope : ScopeView) (name : List ℕ) (expr : Expr) (t : TypeView) → is_unsupported (Bind name expr) ≡ false
-    → All IsWellFormedLiteral (statement_literals (Bind name expr)) → IsWorkable scope (Bind name expr) → type_of_statement scope (Bind name expr) ≡ Ok (Some t) → IsReady scope expr
-bind_ready scope name expr t supported literals able typed =
-    record { sound = record { supported = supported; known = (bind_typed scope name expr t typed).known; literals = literals }; narrow = able.narrow }
-
--- the same of a statement that is such a one
-pub show_is_ready : (scope s : ScopeView) (stmt : Stmt) (expr : Expr) (o : Option TypeView) → s ≡ scope → stmt ≡ Show expr → is_unsupported stmt ≡ false
-    → All IsWellFormedLiteral (statement_literals stmt) → IsWorkable s stmt × (type_of_statement s stmt ≡ Ok o) → IsReady scope expr
-show_is_ready scope s stmt expr None same is supported literals able =
-    absurd (found_some (type_for purpose.Shown s expr) (subst (λ (x : Stmt). type_of_statement s x ≡ Ok None) is able.1))
-show_is_ready scope s stmt expr (Some t) same is supported literals able =
-    subst (λ (z : ScopeView). IsReady z expr) same (show_ready s expr t (subst (λ (x : Stmt). is_unsupported x ≡ false) is supported)
-    (subst (λ (x : Stmt). All IsWellFormedLiteral (statement_literals x)) is literals) (subst (IsWorkable s) is able.0)
-    (subst (λ (x : Stmt). type_of_statement s x ≡ Ok (Some t)) is able.1))
-
-pub bind_is_ready : (scope s : ScopeView) (stmt : Stmt) (name : List ℕ) (expr : Expr) (o : Option TypeView) → s ≡ scope → stmt ≡ Bind name expr → is_unsupported stmt ≡ false
-    → All IsWellFormedLiteral (statement_literals stmt) → IsWorkable s stmt × (type_of_statement s stmt ≡ Ok o) → IsReady scope expr
-bind_is_ready scope s stmt name expr None same is supported literals able =
-    absurd (found_some (type_for purpose.Bound s expr) (subst (λ (x : Stmt). type_of_statement s x ≡ Ok None) is able.1))
-bind_is_ready scope s stmt name expr (Some t) same is supported literals able =
-    subst (λ (z : ScopeView). IsReady z expr) same (bind_ready s name expr t (subst (λ (x : Stmt). is_unsupported x ≡ false) is supported)
-    (subst (λ (x : Stmt). All IsWellFormedLiteral (statement_literals x)) is literals) (subst (IsWorkable s) is able.0)
-    (subst (λ (x : Stmt). type_of_statement s x ≡ Ok (Some t)) is able.1))
-
-pub bind_is_typed : (scope s : ScopeView) (stmt : Stmt) (name : List ℕ) (expr : Expr) (o : Option TypeView) (t : TypeView) → o ≡ Some t → s ≡ scope → stmt ≡ Bind name expr
-    → IsWorkable s stmt × (type_of_statement s stmt ≡ Ok o) → IsOfType scope expr t
-bind_is_typed scope s stmt name expr o t there same is able =
-    subst (λ (z : ScopeView). IsOfType z expr t) same
-    (bind_typed s name expr t (subst (λ (x : Stmt). type_of_statement s x ≡ Ok (Some t)) is (subst (λ (p : Option TypeView). type_of_statement s stmt ≡ Ok p) there able.1)))
-
--- why a statement was not worked out
-pub unworkable_unworked : (scope s : ScopeView) (stmt : Stmt) (g : Gauge) (refusal : Refusal) → s ≡ scope → IsWhyUnworkable s stmt refusal → IsWhyUnworked scope stmt g g refusal
-unworkable_unworked scope s stmt g refusal same why = inl (subst (λ (z : ScopeView). IsWhyUnworkable z stmt refusal) same why, refl)
-
-pub unmade_unworked : (scope s : ScopeView) (stmt : Stmt) (o : Option TypeView) (works : Bool) (g h : Gauge) (refusal : Refusal) → s ≡ scope
-    → IsWorkable s stmt × (type_of_statement s stmt ≡ Ok o) → list_any uses_units (parts_of_statement stmt) ≡ works → IsWhyUnmade works g h refusal
-    → IsWhyUnworked scope stmt g h refusal
-unmade_unworked scope s stmt o works g h refusal same able are why =
-    inr (subst (λ (z : ScopeView). IsWorkable z stmt) same able.0, subst (λ (b : Bool). IsWhyUnmade b g h refusal) (sym are) why)
-
--- the parameters of a statement are those of its type
-pub typed_declares : (scope : ScopeView) (stmt : Stmt) (t : TypeView) → type_of_statement scope stmt ≡ Ok (Some t) → statement_declared scope stmt ≡ t.params
-typed_declares scope Empty t e = let f : Ok None ≡ Ok (Some t) = e in cc
-typed_declares scope (Bind name expr) t e = (bind_typed scope name expr t e).params
-typed_declares scope (Show expr) t e = (show_typed scope expr t e).params
-
-pub untyped_declares : (scope : ScopeView) (stmt : Stmt) → type_of_statement scope stmt ≡ Ok None → statement_declared scope stmt ≡ []
-untyped_declares scope Empty e = refl
-untyped_declares scope (Bind name expr) e = absurd (found_some (type_for purpose.Bound scope expr) e)
-untyped_declares scope (Show expr) e = absurd (found_some (type_for purpose.Shown scope expr) e)
-
--- whether a statement is to be worked out
-pub workable_ok : (scope : ScopeView) (stmt : Stmt) (t : Option TypeView) (answer : Result (Option TypeView) Refusal) → (answer ≡ Ok t)
-    → TypeAnswers answer (type_of_statement scope stmt) → mixes_kinds scope stmt ≡ false
-    → (type_of_statement scope stmt ≡ Ok t → length (statement_declared scope stmt) ≤ most_parameters)
-    → IsWorkable scope stmt × (type_of_statement scope stmt ≡ Ok t)
-workable_ok scope stmt t answer is typed unmixed narrow =
-    let same = answered_ok t (type_of_statement scope stmt) (subst (λ (o : Result (Option TypeView) Refusal). TypeAnswers o (type_of_statement scope stmt)) is typed) in
-    (record { typed = (t, same); unmixed = unmixed; narrow = narrow same }, same)
-
--- ---- refusals
-module _ (before : Moment) (bytes : List ℕ) (now : Gauge) (same : now ≡ before.meter) where
-  Why : Refusal → Type 0
-  Why refusal = FirstGives (IsThere before bytes) causes refusal
-
-  -- the refusals of the table are refusals by it
-  by_cause : (cause : Cause) → Why (refusal_of cause) → Refuses before bytes now (refusal_of cause)
-  unfolding Why
-  by_cause no_token h = (h, same)
-  by_cause too_deep h = (h, same)
-  by_cause no_statement h = (h, same)
-  by_cause too_wide h = (h, same)
-  by_cause wide_number h = (h, same)
-  by_cause unsupported h = (h, same)
-  by_cause unknown_name h = (h, same)
-  by_cause wrong_kind h = (h, same)
-  by_cause no_element h = (h, same)
-  by_cause mixed_kinds h = (h, same)
-  by_cause wide_join h = (h, same)
-
-  -- some cause of these gives the refusal
-  given : (list : List Cause) (refusal : Refusal) → FirstGives (IsThere before bytes) list refusal → (cause : Cause) × (refusal ≡ refusal_of cause)
-  given [] refusal h = absurd h
-  given (cause ∷ later) refusal (inl h) = (cause, h.1)
-  given (cause ∷ later) refusal (inr h) = given later refusal h.1
-
-  pub first_refuses : (refusal : Refusal) → FirstGives (IsThere before bytes) causes refusal → Refuses before bytes now refusal
-  unfolding Why
-  first_refuses refusal h =
-      let cause = given causes refusal h in
-      subst (Refuses before bytes now) (sym cause.1) (by_cause cause.0 (subst Why cause.1 h))
-
-  pub memory_refuses : (refusal : Refusal) → refusal ≡ r.NoMemory → Refuses before bytes now refusal
-  memory_refuses refusal is = subst (Refuses before bytes now) (sym is) (IsCharged_refl before.meter now same, λ none. same)
-
-pub unread_refuses : (before : Moment) (bytes : List ℕ) (refusal : Refusal) → IsWhyNot before bytes refusal → Refuses before bytes before.meter refusal
-unread_refuses before bytes refusal (inl is) = memory_refuses before bytes before.meter refl refusal is
-unread_refuses before bytes refusal (inr h) = first_refuses before bytes before.meter refl refusal h
-
--- ---- causes that are not there
-none_both : (There : Cause → Type 0) (front back : List Cause) → NoneIs There front → NoneIs There back → NoneIs There (front ++ back)
-none_both There [] back none later = later
-none_both There (cause ∷ front) back none later = (none.0, none_both There front back none.1 later)
-
-first_past : (There : Cause → Type 0) (front back : List Cause) (refusal : Refusal) → NoneIs There front → FirstGives There back refusal → FirstGives There (front ++ back) refusal
-first_past There [] back refusal none later = later
-first_past There (cause ∷ front) back refusal none later = inr (none.0, first_past There front back refusal none.1 later)
-
--- ---- work
-pub no_work : (bytes : List ℕ) (stmt : Stmt) → BytesSpell bytes stmt → ¬ OfStatement bytes HasWork → list_any uses_units (parts_of_statement stmt) ≡ false
-no_work bytes stmt spelled none = false_from_ne_true (list_any uses_units (parts_of_statement stmt)) (λ work. none (stmt, spelled, work))
-
-has_work : (bytes : List ℕ) (stmt : Stmt) → BytesSpell bytes stmt → ¬ (list_any uses_units (parts_of_statement stmt) ≡ false) → OfStatement bytes HasWork
-has_work bytes stmt spelled some = by (list_any uses_units (parts_of_statement stmt)) refl
+-- what is left may be evaluated first
+pub left_first : (before now : Moment) (done : List Stmt) (stmt : Stmt) (left : List Stmt) → AreLeft before now done (stmt ∷ left)
+    → IsEvaluable (scope_of now.state) stmt × Fits (limit_of now.meter) now.state
+left_first before now done stmt left h = (
+  ready stmt left h.ready,
+  subst (λ (z : ℤ). Fits z now.state)
+      (sym (same_limit before.meter now.meter h.paid.charged)) h.fits,
+)
   where
-    by : (b : Bool) → list_any uses_units (parts_of_statement stmt) ≡ b → OfStatement bytes HasWork
-    by true works = (stmt, spelled, works)
-    by false none = absurd (some none)
+    ready : (stmt : Stmt) (left : List Stmt) → AreEvaluable (scope_of now.state) (stmt ∷ left) → IsEvaluable (scope_of now.state) stmt
+    ready stmt [] h = h
+    ready (Bind name expr) (other ∷ left) h = h.3
+    ready Empty (other ∷ left) h = absurd h
+    ready (Show expr) (other ∷ left) h = absurd h
+
+-- the last is answered
+pub left_answered : (before now after : Moment) (done : List Stmt) (last : Stmt) (answer : Answer) → AreLeft before now done (last ∷ [])
+    → Step now last after answer
+    → IsPaid (works last) now.meter after.meter
+    → Steps before (done ++ last ∷ []) after answer × IsPaid (list_any works (done ++ last ∷ [])) before.meter after.meter
+left_answered before now after done last answer h step paid = (
+  last_done before now after done last answer h.steps step,
+  paid_after (list_any works (done ++ last ∷ [])) (list_any works done) (works last) before.meter now.meter after.meter
+      (λ none. works_at done last [] none) h.paid paid,
+)
+
+-- one is not
+pub left_stopped : (before now : Moment) (done : List Stmt) (stmt : Stmt) (left : List Stmt) (gauge : Gauge) (refusal : Refusal)
+    → AreLeft before now done (stmt ∷ left) → IsWhyEnded now stmt gauge refusal → IsWhyStopped before (done ++ stmt ∷ left) gauge refusal
+left_stopped before now done stmt left gauge refusal h (inl why) =
+    inl (unmade_after (list_any works (done ++ stmt ∷ left)) (list_any works done) (works stmt) before.meter now.meter gauge refusal
+    (λ none. works_at done stmt left none) h.paid why)
+left_stopped before now done stmt left gauge refusal h (inr why) =
+    inr (why.0, IsCharged_trans before.meter now.meter gauge h.paid.charged why.2, (done, stmt, left, refl, (now, h.steps, why.1)))
+
+-- where there is one statement alone
+pub turn_alone : {A : Type 0} (statements others : List Stmt) (last only : Stmt) (i : ℕ) → statements ≡ others ++ last ∷ []
+    → statements ≡ only ∷ []
+    → i < length others → A
+turn_alone statements others last only i split is low =
+    let none = (one_alone others last only (sym split ∙ is)).0 in
+    let size = ap length none in
+    absurd (omega (arith, low, size))
+
+none_done : (before now : Moment) (done : List Stmt) → done ≡ [] → AreDone before done now → now ≡ before
+unfolding AreDone
+none_done before now done none steps = subst (λ (s : List Stmt). AreDone before s now) none steps
+
+pub alone_settled : (before now : Moment) (statements others : List Stmt) (last only : Stmt) (after : StateView)
+    → statements ≡ others ++ last ∷ []
+    → statements ≡ only ∷ [] → AreLeft before now others (last ∷ []) → binds_dollar only ≡ false → IsSettled before.state
+    → (binds_dollar last ≡ false → IsSettled now.state → IsSettled after) → IsSettled after
+alone_settled before now statements others last only after split is h plain settled ends =
+    let alone = one_alone others last only (sym split ∙ is) in
+    ends (ap binds_dollar alone.1 ∙ plain) (subst (λ (m : Moment). IsSettled m.state)
+    (sym (none_done before now others alone.0 h.steps)) settled)
+
+pub forgotten_alone : (state : StateView) (statements : List Stmt) → ((only : Stmt) → statements ≡ only ∷ [] → IsSettled state)
+    → length statements ≡ 1 → state ≡ forgotten state
+forgotten_alone state statements settled one =
+    let only = one_of statements one in sym (forgotten_itself state (settled only.0 only.1))
+
+-- the end of the loop
+pub residual_cause : (result : Result Tally Refusal) (P : Refusal → Type 0) (refusal : Refusal) → result ≡ Err refusal → P refusal
+    → IfErr result P
+residual_cause result P refusal is h = subst (λ (o : Result Tally Refusal). IfErr o P) (sym is) h
+
+abbrev Counted : Tally → Answer → Type 0
+Counted tally answer = tally ≡ record { is_true = answer.is_true; elements = answer.elements }
+
+abbrev pub Ends : List ℕ → List ℕ → (Answer → Type 0) → Result Tally Refusal → Type 0
+Ends text all P result = IfOk result (λ tally. (answer : Answer) × (all ≡ text ++ answer.bytes) × Counted tally answer × P answer)
+
+pub answered_last : (before now after : Moment) (statements others : List Stmt) (last : Stmt) (old text all : List ℕ)
+    (result : Result Tally Refusal)
+    → statements ≡ others ++ last ∷ [] → AreLeft before now others (last ∷ []) → text ≡ old → Ends text all (Step now last after) result
+    → MatchResult result (λ _. IsPaid (works last) now.meter after.meter) (λ _. IsKept now.meter after.meter)
+    → Ends old all (Steps before statements after) result
+answered_last before now after statements others last old text all (Ok tally) split h same ends paid =
+    let all_done = left_answered before now after others last ends.0 h ends.3 paid in (
+      ends.0,
+      ends.1 ∙ ap (λ (t : List ℕ). t ++ ends.0.bytes) same,
+      ends.2,
+      subst (λ (s : List Stmt). Steps before s after ends.0)
+          (sym split) all_done.0,
+    )
+answered_last before now after statements others last old text all (Err refusal) split h same ends paid = tt
+
+pub stopped_last : (before now : Moment) (statements others : List Stmt) (last : Stmt) (gauge : Gauge) (result : Result Tally Refusal)
+    → statements ≡ others ++ last ∷ [] → AreLeft before now others (last ∷ []) → IfErr result (IsWhyEnded now last gauge)
+    → IfErr result (IsWhyStopped before statements gauge)
+stopped_last before now statements others last gauge (Ok tally) split h why = tt
+stopped_last before now statements others last gauge (Err refusal) split h why =
+    subst (λ (s : List Stmt). IsWhyStopped before s gauge refusal) (sym split) (left_stopped before now others last [] gauge refusal h why)
 
 -- ---- a statement that was read
-module _ (before : Moment) (bytes : List ℕ) (stmt : Stmt) (read : IsRead before bytes stmt) where
-  -- it has one type
-  other_type : (a b : Result (Option TypeView) Refusal) → type_of_statement (scope_of before.state) stmt ≡ a → a ≢ b → ¬ OfStatement bytes (λ stmt. type_of_statement (scope_of before.state) stmt ≡ b)
-  other_type a b is apart there =
-      apart (sym is ∙ of_statement bytes stmt (λ stmt. type_of_statement (scope_of before.state) stmt ≡ b) read.spelled there)
+module _ (before : Moment) (bytes : List ℕ) (stmt : Stmt) (read : IsRead before bytes stmt)
+    (able : IsWorkable (scope_of before.state) before.at stmt) where
+  idle : works stmt ≡ false → list_any works (flat stmt) ≡ false
+  idle none = list_any_none works (flat stmt) (parts_kept uses_units (λ n. refl) stmt none)
 
-  module _ (typed : IsTyped (scope_of before.state) stmt) where
-    apart : (refusal : Refusal) → Ok typed.0 ≢ Err refusal
-    apart refusal e = cc
+  -- it is answered
+  pub answered : (now : Moment) (after : Moment) (answer : Answer) → Steps before (flat stmt) now answer
+      → IsPaid (list_any works (flat stmt)) before.meter now.meter → now.at ≡ before.at → after ≡ behind now
+      → Answers before bytes after answer
+  answered now after answer steps paid at is =
+      let meter : after.meter ≡ now.meter = ap (λ (m : Moment). m.meter) is in
+      record {
+        clear = clear before bytes stmt read able;
+        stmt = stmt;
+        spelled = read.spelled;
+        performed = (now, steps, is);
+        meter = subst (IsCharged before.meter) (sym meter) paid.charged;
+        at = ap (λ (m : Moment). m.at) is ∙ at;
+        units = λ none. ap (λ (g : Gauge). g.units) (meter ∙ paid.free (idle (false_from_ne_true (works stmt) none)));
+      }
 
-    typed_none : NoneIs (IsThere before bytes) (unknown_name ∷ wrong_kind ∷ no_element ∷ [])
-    typed_none = (
-      other_type (Ok typed.0) (Err r.UnknownName) typed.1 (apart r.UnknownName),
-      (other_type (Ok typed.0) (Err r.WrongKind) typed.1 (apart r.WrongKind), (other_type (Ok typed.0) (Err r.NoElement) typed.1 (apart r.NoElement), tt)),
-    )
+  cut_refuses : (now : Gauge) (what : Cut) → IsCutBy before.meter now what
+      → (list_any works (flat stmt) ≡ false → (what ≡ cuts.NoMemory) × (now ≡ before.meter))
+      → Refuses before bytes now (refusal_of_cut what)
+  cut_refuses now cuts.Overflow by free = (
+    clear before bytes stmt read able,
+    has_work bytes stmt read.spelled (λ none. let bad : cuts.Overflow ≡ cuts.NoMemory = (free (idle none)).0 in absurd
+        (let no : ⊥ = cc in no)),
+    by,
+  )
+  cut_refuses now cuts.Budget by free = (
+    clear before bytes stmt read able,
+    has_work bytes stmt read.spelled (λ none. let bad : cuts.Budget ≡ cuts.NoMemory = (free (idle none)).0 in absurd
+        (let no : ⊥ = cc in no)),
+    by,
+  )
+  cut_refuses now cuts.NoMemory by free = (by.cause, λ none. (free (idle (no_work bytes stmt read.spelled none))).1)
 
-  unmixed_none : mixes_kinds (scope_of before.state) stmt ≡ false → ¬ IsThere before bytes mixed_kinds
-  unmixed_none unmixed there =
-      is_not (mixes_kinds (scope_of before.state) stmt) unmixed (of_statement bytes stmt (λ stmt. mixes_kinds (scope_of before.state) stmt ≡ true) read.spelled there)
-
-  narrow_none : length (statement_declared (scope_of before.state) stmt) ≤ most_parameters → ¬ IsThere before bytes wide_join
-  narrow_none narrow there =
-      let wide = of_statement bytes stmt (λ stmt. most_parameters < length (statement_declared (scope_of before.state) stmt)) read.spelled there in
-      absurd (omega (arith, narrow, wide))
-
-  pub valid : IsWorkable (scope_of before.state) stmt → IsValid before bytes
-  valid able =
-      none_both (IsThere before bytes) causes_of_bytes (unknown_name ∷ wrong_kind ∷ no_element ∷ mixed_kinds ∷ wide_join ∷ []) read.none
-      (none_both (IsThere before bytes) (unknown_name ∷ wrong_kind ∷ no_element ∷ []) (mixed_kinds ∷ wide_join ∷ []) (typed_none able.typed)
-      (unmixed_none able.unmixed, (narrow_none able.narrow, tt)))
-
-  -- it has no type
-  untyped : (refusal : Refusal) → type_of_statement (scope_of before.state) stmt ≡ Err refusal
-      → ((refusal ≡ r.UnknownName) ⊎ ((refusal ≡ r.WrongKind) ⊎ (refusal ≡ r.NoElement)))
-      → FirstGives (IsThere before bytes) (unknown_name ∷ wrong_kind ∷ no_element ∷ mixed_kinds ∷ wide_join ∷ []) refusal
-  untyped refusal is (inl e) = inl ((stmt, read.spelled, is ∙ ap Err e), e)
-  untyped refusal is (inr (inl e)) =
-      inr (other_type (Err refusal) (Err r.UnknownName) is (λ f. let g : r.WrongKind ≡ r.UnknownName = sym e ∙ (let h = f in cc) in cc), inl ((stmt, read.spelled, is ∙ ap Err e), e))
-  untyped refusal is (inr (inr e)) =
-      inr (
-        other_type (Err refusal) (Err r.UnknownName) is (λ f. let g : r.NoElement ≡ r.UnknownName = sym e ∙ (let h = f in cc) in cc),
-        inr (other_type (Err refusal) (Err r.WrongKind) is (λ f. let g : r.NoElement ≡ r.WrongKind = sym e ∙ (let h = f in cc) in cc), inl ((stmt, read.spelled, is ∙ ap Err e), e)),
+  -- it is not
+  pub stopped_refuses : (now : Gauge) (refusal : Refusal) → IsWhyStopped before (flat stmt) now refusal → Refuses before bytes now refusal
+  stopped_refuses now refusal (inl why) = subst (Refuses before bytes now) (sym why.is) (cut_refuses now why.cut why.by why.free)
+  stopped_refuses now refusal (inr why) =
+      subst (Refuses before bytes now) (sym why.0) (
+        clear before bytes stmt read able,
+        (
+          stmt,
+          read.spelled,
+          record {
+            done = why.2.0;
+            next = why.2.1;
+            later = why.2.2;
+            split = why.2.3;
+            now = why.2.4.0;
+            steps = why.2.4.1;
+            stops = why.2.4.2;
+          },
+        ),
+        why.1,
       )
 
-  -- what is bound has a cause
-  bound_cause : (refusal : Refusal) → FirstGives (IsThere before bytes) (unknown_name ∷ wrong_kind ∷ no_element ∷ mixed_kinds ∷ wide_join ∷ []) refusal
-      → FirstGives (IsThere before bytes) causes refusal
-  bound_cause refusal first =
-      first_past (IsThere before bytes) causes_of_bytes (unknown_name ∷ wrong_kind ∷ no_element ∷ mixed_kinds ∷ wide_join ∷ []) refusal read.none first
+-- a statement without causes, whatever it chooses
+pub valid : (before : Moment) (bytes : List ℕ) (stmt : Stmt) → IsRead before bytes stmt → IsWorkable (scope_of before.state) before.at stmt
+    → ¬ Stops before stmt IsInfinite → IsValid before bytes
+valid before bytes stmt read able bounded = record {
+  clear = clear before bytes stmt read able;
+  bounded = λ there. bounded (of_statement bytes stmt (λ found. Stops before found IsInfinite) read.spelled there);
+}
 
-  typed_cause : (refusal : Refusal) → IsTyped (scope_of before.state) stmt → FirstGives (IsThere before bytes) (mixed_kinds ∷ wide_join ∷ []) refusal
-      → FirstGives (IsThere before bytes) causes refusal
-  typed_cause refusal typed first =
-      bound_cause refusal (first_past (IsThere before bytes) (unknown_name ∷ wrong_kind ∷ no_element ∷ []) (mixed_kinds ∷ wide_join ∷ []) refusal (typed_none typed) first)
+-- the meter after statements that were not answered
+pub stopped_meter : (before : Moment) (statements : List Stmt) (now : Gauge) (refusal : Refusal)
+    → IsWhyStopped before statements now refusal → IsKept before.meter now
+stopped_meter before statements now refusal (inl why) = why.by.kept
+stopped_meter before statements now refusal (inr why) = IsKept-charged before.meter now why.1
 
-  unworkable_refuses : (now : Gauge) (refusal : Refusal) → now ≡ before.meter → IsWhyUnworkable (scope_of before.state) stmt refusal → Refuses before bytes now refusal
-  unworkable_refuses now refusal same (inl h) =
-      first_refuses before bytes now same refusal (bound_cause refusal (untyped refusal h (no_type (scope_of before.state) stmt refusal h)))
-  unworkable_refuses now refusal same (inr (inl h)) =
-      first_refuses before bytes now same refusal (typed_cause refusal h.0 (inl ((stmt, read.spelled, h.1), h.2)))
-  unworkable_refuses now refusal same (inr (inr (inl h))) =
-      first_refuses before bytes now same refusal (typed_cause refusal h.0 (inr (unmixed_none h.1, inl ((stmt, read.spelled, h.2), h.3))))
-  unworkable_refuses now refusal same (inr (inr (inr h))) = memory_refuses before bytes now same refusal h
+pub kept_limit : (g h : Gauge) → IsKept g h → limit_of h ≡ limit_of g
+kept_limit g h kept = ap (λ (bits : ℕ). pos (2 ^ bits - 1)) kept.bits
 
-  abbrev Works : Bool
-  Works = list_any uses_units (parts_of_statement stmt)
+-- ---- the loop
+drop_head : (xs : List Stmt) (i : ℕ) (x : Stmt) → i < length xs → x ≡ get_or xs i x → drop i xs ≡ x ∷ drop (i + 1) xs
+drop_head [] i x low is = absurd (omega (arith, low))
+drop_head (y ∷ xs) zero x low is = ap (λ (z : Stmt). z ∷ xs) (sym is)
+drop_head (y ∷ xs) (suc i) x low is =
+    drop_head xs i x (omega (arith, low)) is ∙ ap (λ (n : ℕ). x ∷ drop n (y ∷ xs)) (next i)
+  where
+    next : (n : ℕ) → suc (n + 1) ≡ suc n + 1
+    next n = omega arith
 
-  -- it was worked on, and cut
-  cut_refuses : (now : Gauge) (what : Cut) → IsValid before bytes → IsCutBy before.meter now what → (Works ≡ false → (what ≡ cuts.NoMemory) × (now ≡ before.meter))
-      → Refuses before bytes now (refusal_of_cut what)
-  cut_refuses now cuts.Overflow able by free =
-      (able, has_work bytes stmt read.spelled (λ none. let bad : cuts.Overflow ≡ cuts.NoMemory = (free none).0 in absurd (let no : ⊥ = cc in no)), by)
-  cut_refuses now cuts.Budget able by free =
-      (able, has_work bytes stmt read.spelled (λ none. let bad : cuts.Budget ≡ cuts.NoMemory = (free none).0 in absurd (let no : ⊥ = cc in no)), by)
-  cut_refuses now cuts.NoMemory able by free = (by.cause, λ none. (free (no_work bytes stmt read.spelled none)).1)
+pub loop_first : (before now : Moment) (done others : List Stmt) (last stmt : Stmt) (i : ℕ) → i < length others
+    → stmt ≡ get_or others i stmt
+    → AreLeft before now done (drop i others ++ last ∷ []) → AreLeft before now done (stmt ∷ (drop (i + 1) others ++ last ∷ []))
+loop_first before now done others last stmt i low is h =
+    subst (λ (s : List Stmt). AreLeft before now done (s ++ last ∷ [])) (drop_head others i stmt low is) h
 
-  pub unworked_refuses : (now : Gauge) (refusal : Refusal) → IsWhyUnworked (scope_of before.state) stmt before.meter now refusal → Refuses before bytes now refusal
-  unworked_refuses now refusal (inl h) = unworkable_refuses now refusal h.1 h.0
-  unworked_refuses now refusal (inr h) = subst (Refuses before bytes now) (sym h.1.is) (cut_refuses now h.1.cut (valid h.0) h.1.by h.1.free)
+next_left : (before now next : Moment) (done : List Stmt) (stmt : Stmt) (rest : List Stmt) (last : Stmt) (answer : Answer)
+    → AreLeft before now done (stmt ∷ (rest ++ last ∷ [])) → Step now stmt next answer → IsPaid (works stmt) now.meter next.meter
+    → ((name : List ℕ) (expr : Expr) → stmt ≡ Bind name expr → is_dollar name ≡ true → forgotten next.state ≡ forgotten now.state)
+    → AreLeft before next (done ++ stmt ∷ []) (rest ++ last ∷ []) × (answer ≡ nothing)
+next_left before now next done stmt [] last answer h step paid dollar =
+    left_next before now next done stmt last [] answer h step paid dollar
+next_left before now next done stmt (other ∷ rest) last answer h step paid dollar =
+    left_next before now next done stmt other (rest ++ last ∷ []) answer h step paid dollar
 
-  -- ---- it is worked out
-  pub answers : (after : Moment) (w : Work) (answer : Answer) → IsWorkable (scope_of before.state) stmt → IsWork before stmt w → Does w before.state after.state answer
-      → IsPaid Works before.meter after.meter → Answers before bytes after answer
-  answers after w answer able is does paid = record {
-    valid = valid able;
-    stmt = stmt;
-    spelled = read.spelled;
-    step = step stmt w is does;
-    meter = paid.charged;
-    units = λ none. ap (λ (g : Gauge). g.units) (paid.free (false_from_ne_true Works none));
-  }
-    where
-      step : (stmt : Stmt) (w : Work) → IsWork before stmt w → Does w before.state after.state answer → Step before stmt after answer
-      step Empty work.Nothing is does = does
-      step Empty (work.Show kept) is does = absurd is
-      step Empty (work.Bind name kept t) is does = absurd is
-      step (Show expr) work.Nothing is does = absurd is
-      step (Show expr) (work.Show kept) is does = (does.0, (kept, is, does.1))
-      step (Show expr) (work.Bind name kept t) is does = absurd is
-      step (Bind name expr) work.Nothing is does = absurd is
-      step (Bind name expr) (work.Show kept) is does = absurd is
-      step (Bind name expr) (work.Bind bound kept t) is does = ((kept, is.1, subst (λ (n : List ℕ). Binds before.state n kept after.state) is.0 does.0), does.1)
+-- one turn
+pub loop_next : (before now next : Moment) (others : List Stmt) (last stmt : Stmt) (i : ℕ) (old text all : List ℕ) (answer : Answer)
+    → i < length others → stmt ≡ get_or others i stmt → AreLeft before now (take i others) (drop i others ++ last ∷ [])
+    → Step now stmt next answer
+    → IsPaid (works stmt) now.meter next.meter
+    → ((name : List ℕ) (expr : Expr) → stmt ≡ Bind name expr → is_dollar name ≡ true → forgotten next.state ≡ forgotten now.state)
+    → text ≡ old → all ≡ text ++ answer.bytes
+    → AreLeft before next (take (i + 1) others) (drop (i + 1) others ++ last ∷ []) × (all ≡ old)
+loop_next before now next others last stmt i old text all answer low is h step paid dollar same grown =
+    let first = loop_first before now (take i others) others last stmt i low is h in
+    let then = next_left before now next (take i others) stmt (drop (i + 1) others) last answer first step paid dollar in
+    let taken : take i others ++ stmt ∷ [] ≡ take (i + 1) others =
+    ap (λ (s : Stmt). take i others ++ s ∷ []) is ∙ sym (take_more others i stmt low) in (
+      subst (λ (done : List Stmt). AreLeft before next done (drop (i + 1) others ++ last ∷ [])) taken then.0,
+      grown ∙ ap (λ (a : Answer). text ++ a.bytes) then.1 ∙ append-nil text ∙ same,
+    )
 
--- an expression is shown
-pub show_answers : (before : Moment) (bytes : List ℕ) (expr : Expr) → IsRead before bytes (Show expr) → (after : Moment) (kept : Kept) (answer : Answer) → IsWorkable (scope_of before.state) (Show expr)
-    → Keeps before expr kept → after.state ≡ before.state → answer ≡ shown kept.value
-    → IsPaid (list_any uses_units (parts_of expr)) before.meter after.meter → Answers before bytes after answer
-show_answers before bytes expr read after kept answer able keeps same is paid =
-    answers before bytes (Show expr) read after (work.Show kept) answer able keeps (same, is) paid
+-- a turn that ends
+pub loop_stopped : (before now : Moment) (statements others : List Stmt) (last stmt : Stmt) (i : ℕ) (gauge : Gauge) (refusal : Refusal)
+    → statements ≡ others ++ last ∷ [] → i < length others → stmt ≡ get_or others i stmt
+    → AreLeft before now (take i others) (drop i others ++ last ∷ []) → IsWhyEnded now stmt gauge refusal
+    → IsWhyStopped before statements gauge refusal
+loop_stopped before now statements others last stmt i gauge refusal split low is h why =
+    let first = loop_first before now (take i others) others last stmt i low is h in
+    let all : take i others ++ stmt ∷ (drop (i + 1) others ++ last ∷ []) ≡ statements =
+    ap (λ (s : List Stmt). take i others ++ (s ++ last ∷ [])) (sym (drop_head others i stmt low is))
+    ∙ sym (append_assoc (take i others) (drop i others) (last ∷ [])) ∙ ap (λ (s : List Stmt). s ++ last ∷ []) (take-append-drop i others)
+    ∙ sym split in
+    subst (λ (s : List Stmt). IsWhyStopped before s gauge refusal) all
+    (left_stopped before now (take i others) stmt (drop (i + 1) others ++ last ∷ []) gauge refusal first why)
 
--- ---- what is bound stays within the limit
-pub work_fits : (before : Moment) (stmt : Stmt) (w : Work) (next : StateView) (answer : Answer) → Fits (limit_of before.meter) before.state → IsWork before stmt w → Does w before.state next answer
-    → Fits (limit_of before.meter) next
-work_fits before Empty work.Nothing next answer fits is does = subst (Fits (limit_of before.meter)) (sym does.0) fits
-work_fits before Empty (work.Show kept) next answer fits is does = absurd is
-work_fits before Empty (work.Bind name kept t) next answer fits is does = absurd is
-work_fits before (Show expr) work.Nothing next answer fits is does = absurd is
-work_fits before (Show expr) (work.Show kept) next answer fits is does = subst (Fits (limit_of before.meter)) (sym does.0) fits
-work_fits before (Show expr) (work.Bind name kept t) next answer fits is does = absurd is
-work_fits before (Bind name expr) work.Nothing next answer fits is does = absurd is
-work_fits before (Bind name expr) (work.Show kept) next answer fits is does = absurd is
-work_fits before (Bind name expr) (work.Bind bound kept t) next answer fits is does = fits_bound (limit_of before.meter) before.state bound kept next fits does.0 is.1.numbers
+-- the last
+pub loop_last : (before now : Moment) (others : List Stmt) (last : Stmt) (i : ℕ) → i ≡ length others
+    → AreLeft before now (take i others) (drop i others ++ last ∷ []) → AreLeft before now others (last ∷ [])
+loop_last before now others last i end h =
+    subst (λ (done : List Stmt). AreLeft before now done (last ∷ [])) (ap (λ (n : ℕ). take n others) end ∙ take-length others)
+    (subst (λ (left : List Stmt). AreLeft before now (take i others) (left ++ last ∷ [])) (ap (λ (n : ℕ). drop n others) end
+    ∙ drop-length others) h)
 
--- ---- what each part leaves, at once
--- what performing the work ensures
-abbrev Performs : Work → StateView → List ℕ → StateView → List ℕ → Result Tally Refusal → Type 0
-Performs w old text new all result = MatchResult result
-    (λ tally. (answer : Answer) × (all ≡ text ++ answer.bytes) × (tally ≡ record { is_true = answer.is_true; elements = answer.elements }) × Does w old new answer)
-    (λ refusal. (refusal ≡ r.NoMemory) × (new ≡ old) × (all ≡ text))
+-- ---- the answer of the bytes
 
-module _ (before : Moment) (bytes : List ℕ) (stmt : Stmt) (read : IsRead before bytes stmt) (now : Gauge) (w : Work)
-    (made : IsWorkable (scope_of before.state) stmt × IsWork before stmt w × IsPaid (list_any uses_units (parts_of_statement stmt)) before.meter now)
-    (text : List ℕ) (next : StateView) (all : List ℕ) where
-  pub performed_answers : (result : Result Tally Refusal) → Performs w before.state text next all result
-      → IfOk result (λ tally. (answer : Answer) × (all ≡ text ++ answer.bytes) × (tally ≡ record { is_true = answer.is_true; elements = answer.elements })
-      × Answers before bytes (record { state = next; meter = now }) answer)
-  performed_answers (Ok tally) done =
-      (done.0, done.1, done.2, answers before bytes stmt read (record { state = next; meter = now }) w done.0 made.0 made.1 done.3 made.2)
-  performed_answers (Err refusal) done = tt
+module _ (before : Moment) (bytes : List ℕ) (statements : List Stmt) (taken : IsTaken before bytes statements)
+    (settled : IsSettled before.state)
+    (fits : Fits (limit_of before.meter) before.state) (now after : Moment) (at : now.at ≡ before.at) (is : after ≡ behind now)
+    (text all : List ℕ) where
+  pub finished_ok : (result : Result Tally Refusal) → Ends text all (Steps before statements now) result
+      → MatchResult result (λ _. IsPaid (list_any works statements) before.meter now.meter) (λ _. IsKept before.meter now.meter)
+      → Ends text all (Answers before bytes after) result
+  finished_ok (Ok tally) h paid = (
+    h.0,
+    h.1,
+    h.2,
+    answered before bytes taken.stmt taken.read taken.able now after h.0
+        (subst (λ (s : List Stmt). Steps before s now h.0) taken.simple h.3)
+        (subst (λ (s : List Stmt). IsPaid (list_any works s) before.meter now.meter) taken.simple paid) at is,
+  )
+  finished_ok (Err refusal) h paid = tt
 
-  pub performed_fits : (result : Result Tally Refusal) → Fits (limit_of before.meter) before.state → Performs w before.state text next all result → Fits (limit_of now) next
-  performed_fits (Ok tally) fits done =
-      subst (λ (z : ℤ). Fits z next) (sym (same_limit before.meter now made.2.charged)) (work_fits before stmt w next done.0 fits made.1 done.3)
-  performed_fits (Err refusal) fits done =
-      subst (λ (z : ℤ). Fits z next) (sym (same_limit before.meter now made.2.charged)) (subst (Fits (limit_of before.meter)) (sym done.1) fits)
+  same_state : after.state ≡ forgotten now.state
+  same_state = ap (λ (m : Moment). m.state) is
 
-  -- a refusal after it was worked out is for want of memory
-  pub performed_refuses : (result : Result Tally Refusal) → Performs w before.state text next all result → IfErr result (Refuses before bytes now)
-  performed_refuses (Ok tally) done = tt
-  performed_refuses (Err refusal) done = subst (Refuses before bytes now) (sym done.0)
-      (made.2.charged, λ none. made.2.free (no_work bytes stmt read.spelled none))
+  pub finished_err : (result : Result Tally Refusal) → OnErr result ((forgotten now.state ≡ forgotten before.state) × (all ≡ text))
+      → OnErr result ((after.state ≡ before.state) × (all ≡ text))
+  finished_err (Ok tally) h = tt
+  finished_err (Err refusal) h = (same_state ∙ h.0 ∙ forgotten_itself before.state settled, h.1)
 
-  pub performed_meter : (result : Result Tally Refusal) → MatchResult result (λ _. IsCharged before.meter now) (λ _. IsKept before.meter now)
-  performed_meter (Ok tally) = made.2.charged
-  performed_meter (Err refusal) = IsKept-charged before.meter now made.2.charged
+  pub finished_fits : (result : Result Tally Refusal) → Ends text all (Steps before statements now) result
+      → OnErr result ((forgotten now.state ≡ forgotten before.state) × (all ≡ text))
+      → MatchResult result (λ _. IsPaid (list_any works statements) before.meter now.meter) (λ _. IsKept before.meter now.meter)
+      → Fits (limit_of now.meter) after.state
+  finished_fits (Ok tally) h failed paid =
+      subst (λ (z : ℤ). Fits z after.state) (sym (same_limit before.meter now.meter paid.charged))
+      (subst (Fits (limit_of before.meter)) (sym same_state)
+      (fits_forgotten (limit_of before.meter) now.state (steps_fit (limit_of before.meter) before statements now h.0 refl fits h.3)))
+  finished_fits (Err refusal) h failed kept =
+      subst (λ (z : ℤ). Fits z after.state) (sym (kept_limit before.meter now.meter kept))
+      (subst (Fits (limit_of before.meter)) (sym (same_state ∙ failed.0 ∙ forgotten_itself before.state settled)) fits)
 
--- ---- the meter after a refusal
-pub unworked_meter : (scope : ScopeView) (stmt : Stmt) (old now : Gauge) (refusal : Refusal) → IsWhyUnworked scope stmt old now refusal → IsKept old now
-unworked_meter scope stmt old now refusal (inl h) = IsKept_refl old now h.1
-unworked_meter scope stmt old now refusal (inr h) = h.1.by.kept
+  pub finished_settled : IsSettled after.state
+  finished_settled = subst IsSettled (sym same_state) (forgotten_settled now.state)
 
-pub unworked_limit : (scope : ScopeView) (stmt : Stmt) (old now : Gauge) (refusal : Refusal) → IsWhyUnworked scope stmt old now refusal → limit_of now ≡ limit_of old
-unworked_limit scope stmt old now refusal why = ap (λ (bits : ℕ). pos (2 ^ bits - 1)) (unworked_meter scope stmt old now refusal why).bits
+  pub finished_cause : (result : Result Tally Refusal) → IfErr result (IsWhyStopped before statements now.meter)
+      → IfErr result (Refuses before bytes now.meter)
+  finished_cause (Ok tally) why = tt
+  finished_cause (Err refusal) why =
+      stopped_refuses before bytes taken.stmt taken.read taken.able now.meter refusal
+      (subst (λ (s : List Stmt). IsWhyStopped before s now.meter refusal) taken.simple why)
+
+  pub finished_meter : (result : Result Tally Refusal)
+      → MatchResult result (λ _. IsPaid (list_any works statements) before.meter now.meter) (λ _. IsKept before.meter now.meter)
+      → MatchResult result (λ _. IsCharged before.meter now.meter) (λ _. IsKept before.meter now.meter)
+  finished_meter (Ok tally) paid = paid.charged
+  finished_meter (Err refusal) kept = kept

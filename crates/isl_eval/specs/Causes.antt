@@ -1,24 +1,33 @@
 -- public: why a complete statement is refused.
-use Rattle.std.specs.Prelude.{◌≡◌, ◌⊎◌, ◌<◌, ℕ, Bool, true, false, List, [], ◌∷◌, length, None, Err}
+use Rattle.std.specs.Prelude.{◌≡◌, ◌⊎◌, ◌<◌, ℕ, Bool, true, false, not, List, [], ◌∷◌, ◌++◌, length, None, Err}
 use Rattle.std.specs.List.{list_any}
+use Rattle.std.specs.Str.{bytes_eq}
 use Rattle.isl_meter.specs.Gauge.{Gauge, IsCharged, IsCutBy, limit_of}
 use Rattle.isl_meter.specs.declared.Cut.TheVariants as cut
 use Rattle.isl_space.specs.Limits.{most_parameters}
 use Rattle.isl_space.specs.Name.{Name}
+use Rattle.isl_space.specs.Valuation.{Valuation}
 use Rattle.isl_token.specs.Lex.{tokens}
 use Rattle.isl_token.specs.Depth.{is_too_deep}
 use Rattle.isl_text.specs.declared.refusal.Refusal.{Refusal}
 use Rattle.isl_text.specs.declared.refusal.Refusal.TheVariants as r
 use Rattle.isl_text.specs.Read.{has_wide_number}
-use Rattle.isl_expr.specs.declared.tree.Binary.TheVariants.{Intersection}
+use Rattle.isl_expr.specs.declared.tree.Prefix.TheVariants as p
+use Rattle.isl_expr.specs.declared.tree.Expr.{Prefix'}
 use Rattle.isl_expr.specs.declared.tree.Stmt.{Stmt}
-use Rattle.isl_expr.specs.declared.tree.Stmt.TheVariants.{Empty, Bind, Show}
+use Rattle.isl_expr.specs.declared.tree.Stmt.TheVariants.{Show}
 use Rattle.isl_statement.specs.Limits.{statement_is_within}
 use Rattle.isl_statement.specs.Read.{NoStatement}
-use Rattle.isl_kinds.specs.Parts.{Part, literal, operator, parts_of_statement}
-use Rattle.isl_kinds.specs.Typed.{ScopeView, declared_of, type_of_statement}
+use Rattle.isl_kinds.specs.Parts.{parts_of_statement}
+use Rattle.isl_kinds.specs.Typed.{ScopeView, declared_in, type_of_statement}
+use Rattle.isl_simple.specs.Flat.{flat}
+use Rattle.isl_simple.specs.Simple.{statement_declared}
 use Rattle.isl_simple.specs.Unsupported.{is_unsupported, mixes_kinds}
-use Rattle.isl_eval.specs.State.{Moment, scope_of}
+use Rattle.isl_select.specs.State.{Moment, scope_of}
+use Rattle.isl_select.specs.Selection.{SelectsIn}
+use Rattle.isl_select.specs.Made.{uses_units}
+use Rattle.isl_eval.specs.Listed.{AreFinite}
+use Rattle.isl_eval.specs.Machine.{Step, nothing}
 use Rattle.isl_eval.specs.Spelled.{OfTokens, OfStatement}
 
 -- what the bytes of a statement are looked at for
@@ -43,6 +52,8 @@ pub data Cause : Type 0 where
   no_element : Cause
   -- a set and a map stand in the statement, and what joins them is not answered yet
   mixed_kinds : Cause
+  -- elements are to be listed, and a declared parameter has no number
+  parametric : Cause
   -- an operation joins more parameters than a value may have
   wide_join : Cause
 
@@ -50,7 +61,7 @@ pub data Cause : Type 0 where
 abbrev pub causes : List Cause
 causes =
     no_token ∷ too_deep ∷ no_statement ∷ too_wide ∷ wide_number ∷ unsupported ∷ unknown_name ∷ wrong_kind ∷ no_element ∷ mixed_kinds
-    ∷ wide_join ∷ []
+    ∷ parametric ∷ wide_join ∷ []
 
 abbrev pub refusal_of : Cause → Refusal
 refusal_of no_token = r.Syntax
@@ -63,13 +74,17 @@ refusal_of unknown_name = r.UnknownName
 refusal_of wrong_kind = r.WrongKind
 refusal_of no_element = r.NoElement
 refusal_of mixed_kinds = r.Syntax
+refusal_of parametric = r.Parametric
 refusal_of wide_join = r.TooWide
 
--- the parameters that the operands of a statement declare, joined: those of each operation in it are among them
-abbrev pub statement_declared : ScopeView → Stmt → List Name
-statement_declared scope Empty = []
-statement_declared scope (Bind name expr) = declared_of scope expr
-statement_declared scope (Show expr) = declared_of scope expr
+-- whether the name is given a number
+abbrev pub is_given : Valuation → Name → Bool
+is_given at name = list_any (λ given. bytes_eq given.0 name) at
+
+-- elements are to be listed of what declares a parameter that is given no number
+abbrev pub is_parametric : ScopeView → Valuation → Stmt → Bool
+is_parametric scope at (Show (Prefix' p.Scan s operand)) = list_any (λ name. not (is_given at name)) (declared_in scope operand)
+is_parametric scope at stmt = false
 
 -- the bytes have the cause at this moment
 abbrev pub IsThere : Moment → List ℕ → Cause → Type 0
@@ -83,6 +98,7 @@ IsThere before bytes unknown_name = OfStatement bytes (λ stmt. type_of_statemen
 IsThere before bytes wrong_kind = OfStatement bytes (λ stmt. type_of_statement (scope_of before.state) stmt ≡ Err r.WrongKind)
 IsThere before bytes no_element = OfStatement bytes (λ stmt. type_of_statement (scope_of before.state) stmt ≡ Err r.NoElement)
 IsThere before bytes mixed_kinds = OfStatement bytes (λ stmt. mixes_kinds (scope_of before.state) stmt ≡ true)
+IsThere before bytes parametric = OfStatement bytes (λ stmt. is_parametric (scope_of before.state) before.at stmt ≡ true)
 IsThere before bytes wide_join = OfStatement bytes (λ stmt. most_parameters < length (statement_declared (scope_of before.state) stmt))
 
 -- the first of these causes that is there gives this refusal
@@ -96,16 +112,40 @@ NoneIs There [] = Unit {0}
 NoneIs There (cause ∷ later) = ¬ There cause × NoneIs There later
 
 -- what the bytes say is no cause to refuse them
-abbrev pub IsValid : Moment → List ℕ → Type 0
-IsValid before bytes = NoneIs (IsThere before bytes) causes
+abbrev pub IsClear : Moment → List ℕ → Type 0
+IsClear before bytes = NoneIs (IsThere before bytes) causes
 
--- the parts that may use units: `*`, and a literal, since it is asked whether what it writes has an element
-abbrev pub uses_units : Part → Bool
-uses_units (literal l) = true
-uses_units (operator Intersection) = true
-uses_units part = false
+-- ---- causes that show while a statement is worked out
+-- these simple statements are done, and answer nothing
+unfoldable pub AreDone : Moment → List Stmt → Moment → Type 0
+AreDone before [] now = now ≡ before
+AreDone before (stmt ∷ more) now = (next : Moment) × Step before stmt next nothing × AreDone next more now
 
--- an operation that uses units stands in the statement, or a literal does
+-- the first simple statements of a statement are done, in one of the ways in which they may choose, and the next has P
+pub record Stops (before : Moment) (stmt : Stmt) (P : Moment → Stmt → Type 0) : Type 0 where
+  pub done : List Stmt
+  pub next : Stmt
+  pub later : List Stmt
+  pub split : flat stmt ≡ done ++ next ∷ later
+  pub now : Moment
+  pub steps : AreDone before done now
+  pub stops : P now next
+
+-- elements are to be listed, and there are infinitely many of them where parameters have their given numbers
+abbrev pub IsInfinite : Moment → Stmt → Type 0
+IsInfinite now (Show (Prefix' p.Scan s operand)) = ¬ AreFinite (λ element. SelectsIn now.state operand now.at element)
+IsInfinite now stmt = ⊥
+
+abbrev pub IsUnbounded : Moment → List ℕ → Type 0
+IsUnbounded before bytes = OfStatement bytes (λ stmt. Stops before stmt IsInfinite)
+
+-- no cause is there to refuse the bytes of a statement, whatever it chooses
+pub record IsValid (before : Moment) (bytes : List ℕ) : Type 0 where
+  pub clear : IsClear before bytes
+  pub bounded : ¬ IsUnbounded before bytes
+
+-- ---- units
+-- a part that may use units stands in the statement: anything but names, `+` and `^-1`
 abbrev pub HasWork : Stmt → Type 0
 HasWork stmt = list_any uses_units (parts_of_statement stmt) ≡ true
 
@@ -114,9 +154,11 @@ abbrev pub SparesUnits : Moment → List ℕ → Gauge → Type 0
 SparesUnits before bytes now = ¬ OfStatement bytes HasWork → now ≡ before.meter
 
 -- Why a complete statement is refused, and what it did to the meter until then. Overflow and want of units may come only while a
--- valid statement is worked out in which work stands, and both are counted. Memory may end at any time, and that counts nothing.
+-- statement without any of the causes is worked out in which work stands, and both are counted. Memory may end at any time, and that
+-- counts nothing.
 abbrev pub Refuses : Moment → List ℕ → Gauge → Refusal → Type 0
-Refuses before bytes now r.Overflow = IsValid before bytes × OfStatement bytes HasWork × IsCutBy before.meter now cut.Overflow
-Refuses before bytes now r.Budget = IsValid before bytes × OfStatement bytes HasWork × IsCutBy before.meter now cut.Budget
+Refuses before bytes now r.Overflow = IsClear before bytes × OfStatement bytes HasWork × IsCutBy before.meter now cut.Overflow
+Refuses before bytes now r.Budget = IsClear before bytes × OfStatement bytes HasWork × IsCutBy before.meter now cut.Budget
 Refuses before bytes now r.NoMemory = IsCharged before.meter now × SparesUnits before bytes now
+Refuses before bytes now r.Unbounded = IsClear before bytes × IsUnbounded before bytes × IsCharged before.meter now
 Refuses before bytes now refusal = FirstGives (IsThere before bytes) causes refusal × (now ≡ before.meter)

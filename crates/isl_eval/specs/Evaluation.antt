@@ -1,34 +1,44 @@
--- inner: what reading and working out a statement leave to the next step.
-use Rattle.std.specs.Prelude.{◌≡◌, ◌↔◌, ◌⊎◌, ◌<◌, ◌≤◌, ℕ, Bool, true, false, List, [], ◌∷◌, length, All, Option, Some, Ok, Err}
+-- inner: what the steps from bytes to an answer leave to one another.
+use Rattle.std.specs.Prelude.{◌≡◌, ◌⊎◌, ◌<◌, ◌≤◌, ℕ, ℤ, Bool, true, false, List, []}
+use Rattle.std.specs.Prelude.{◌∷◌, ◌++◌, length, All, Option, None, Some, Ok, Err, string_bytes}
 use Rattle.std.specs.List.{list_any}
-use Rattle.isl_meter.specs.Gauge.{Gauge, IsCharged, IsCutBy}
-use Rattle.isl_meter.specs.declared.Cut.{Cut}
-use Rattle.isl_meter.specs.declared.Cut.TheVariants as cuts
+use Rattle.isl_meter.specs.Gauge.{Gauge, IsCharged, limit_of}
 use Rattle.isl_space.specs.Limits.{most_parameters}
 use Rattle.isl_space.specs.Name.{Name}
 use Rattle.isl_space.specs.Valuation.{Valuation}
-use Rattle.isl_space.specs.Element.{Element}
-use Rattle.isl_union.specs.KeptValue.{KeptValue, Has, HasNoDefinitions, IsKeptValue}
+use Rattle.isl_union.specs.KeptValue.{KeptValue, HasNoDefinitions, IsKeptValue}
+use Rattle.isl_union.specs.Sample.{IsSampleOf}
+use Rattle.isl_scan.specs.declared.fault.ScanFault.{ScanFault}
+use Rattle.isl_scan.specs.declared.fault.ScanFault.TheVariants as scan_fault
 use Rattle.isl_text.specs.declared.refusal.Refusal.{Refusal}
-use Rattle.isl_text.specs.declared.refusal.Refusal.TheVariants.{Overflow, Budget, NoMemory, Syntax, TooWide}
+use Rattle.isl_text.specs.declared.refusal.Refusal.TheVariants.{NoMemory, Syntax, TooWide, Parametric, Unbounded}
 use Rattle.isl_lower.specs.Value.{IsWellFormedLiteral}
+use Rattle.isl_expr.specs.declared.tree.Prefix.{Prefix}
+use Rattle.isl_expr.specs.declared.tree.Prefix.TheVariants as p
+use Rattle.isl_expr.specs.declared.tree.Expr.{Expr, Row', Prefix'}
 use Rattle.isl_expr.specs.declared.tree.Link.{Link}
-use Rattle.isl_expr.specs.declared.tree.Postfix.{Postfix, Inverse}
 use Rattle.isl_expr.specs.declared.tree.Stmt.{Stmt}
-use Rattle.isl_expr.specs.declared.tree.Stmt.TheVariants.{Empty, Bind, Show}
-use Rattle.isl_expr.specs.declared.tree.Expr.{Expr}
+use Rattle.isl_expr.specs.declared.tree.Stmt.TheVariants.{Bind}
+use Rattle.isl_expr.specs.declared.tree.ValueKind.{ValueKind}
 use Rattle.isl_expr.specs.Expr.{literals_of, statement_literals}
-use Rattle.isl_kinds.specs.Parts.{operator, parts_of, parts_of_statement}
-use Rattle.isl_kinds.specs.Typed.{TypeView, ScopeView, has_unknown, kind_of, declared_of, declared_of_row, type_of_statement}
-use Rattle.isl_simple.specs.Unsupported.{is_later, is_unsupported, mixes_kinds}
-use Rattle.isl_eval.specs.declared.eval.Work.{Work}
-use Rattle.isl_eval.specs.declared.eval.Work.TheVariants as work
-use Rattle.isl_eval.specs.State.{StateView, Moment, Binds, type_of, HasNumbersUpTo}
-use Rattle.isl_eval.specs.Selection.{Keeps}
+use Rattle.isl_kinds.specs.Typed.{TypeView, ScopeView, is_dollar, has_unknown, kind_of}
+use Rattle.isl_kinds.specs.Typed.{declared_of, declared_of_row, joined_names, type_of_statement}
+use Rattle.isl_simple.specs.Flat.{flat}
+use Rattle.isl_simple.specs.Simple.{BindsIn, statement_declared}
+use Rattle.isl_simple.specs.Unsupported.{is_unsupported, mixes_kinds}
+use Rattle.isl_select.specs.State.{Moment, StateView, Fits, HasNumbersUpTo, scope_of, forgotten}
+use Rattle.isl_select.specs.Selection.{IsSelected, Keeps, Selects, RowSelects}
+use Rattle.isl_select.specs.Made.{is_foreign, AreReady, IsReady, IsPaid, IsWhyUnmade, refusal_of_cut}
+use Rattle.isl_eval.specs.declared.shown.Line.{Line}
 use Rattle.isl_eval.specs.Spelled.{BytesSpell}
-use Rattle.isl_eval.specs.Machine.{Answer, nothing, shown}
+use Rattle.isl_eval.specs.Tests.{Elements, is_test}
+use Rattle.isl_eval.specs.Tests.{ends_with_test as row_ends_with_test}
+use Rattle.isl_eval.specs.Machine.{Answer}
 use Rattle.isl_eval.specs.Causes.{Cause, no_token, too_deep, no_statement, too_wide, wide_number, unsupported, causes}
-use Rattle.isl_eval.specs.Causes.{IsThere, NoneIs, FirstGives, statement_declared, uses_units}
+use Rattle.isl_eval.specs.Causes.{IsThere, NoneIs, FirstGives, AreDone, IsInfinite, is_parametric}
+use Rattle.isl_eval.specs.Evaluated.{IsTyped, IsEvaluable, made_parts, works}
+
+-- ---- reading
 
 -- the causes that the bytes alone may have, whatever is bound
 abbrev pub causes_of_bytes : List Cause
@@ -45,109 +55,132 @@ pub record IsRead (before : Moment) (bytes : List ℕ) (stmt : Stmt) : Type 0 wh
 abbrev pub IsWhyNot : Moment → List ℕ → Refusal → Type 0
 IsWhyNot before bytes refusal = (refusal ≡ NoMemory) ⊎ FirstGives (IsThere before bytes) causes refusal
 
--- the expression has a type in the scope
-pub record IsOfType (scope : ScopeView) (expr : Expr) (t : TypeView) : Type 0 where
-  pub known : has_unknown scope expr ≡ false
-  pub kind : kind_of scope expr ≡ Some t.kind
-  pub params : declared_of scope expr ≡ t.params
+-- ---- causes of what is bound
 
--- the statement has a type in the scope
-abbrev pub IsTyped : ScopeView → Stmt → Type 0
-IsTyped scope stmt = (t : Option TypeView) × (type_of_statement scope stmt ≡ Ok t)
+-- the parameters of a type, where there is one
+abbrev pub names_of : Option TypeView → List Name
+names_of None = []
+names_of (Some t) = t.params
 
--- no cause is there that comes of what is bound
-pub record IsWorkable (scope : ScopeView) (stmt : Stmt) : Type 0 where
+-- no cause is there that comes of what is bound, or of the numbers that parameters are given
+pub record IsWorkable (scope : ScopeView) (at : Valuation) (stmt : Stmt) : Type 0 where
   pub typed : IsTyped scope stmt
   pub unmixed : mixes_kinds scope stmt ≡ false
+  pub given : is_parametric scope at stmt ≡ false
   pub narrow : length (statement_declared scope stmt) ≤ most_parameters
 
 -- why a statement that was read is not to be worked out: the first of these causes is there, or memory ended
-abbrev pub IsWhyUnworkable : ScopeView → Stmt → Refusal → Type 0
-IsWhyUnworkable scope stmt refusal =
+abbrev pub IsWhyUnworkable : ScopeView → Valuation → Stmt → Refusal → Type 0
+IsWhyUnworkable scope at stmt refusal =
     (type_of_statement scope stmt ≡ Err refusal)
     ⊎ ((IsTyped scope stmt × (mixes_kinds scope stmt ≡ true) × (refusal ≡ Syntax))
-    ⊎ ((IsTyped scope stmt × (mixes_kinds scope stmt ≡ false) × (most_parameters < length (statement_declared scope stmt)) × (refusal ≡ TooWide))
-    ⊎ (refusal ≡ NoMemory)))
+    ⊎ ((IsTyped scope stmt × (mixes_kinds scope stmt ≡ false) × (is_parametric scope at stmt ≡ true) × (refusal ≡ Parametric))
+    ⊎ ((IsTyped scope stmt × (mixes_kinds scope stmt ≡ false) × (is_parametric scope at stmt ≡ false)
+    × (most_parameters < length (statement_declared scope stmt)) × (refusal ≡ TooWide))
+    ⊎ (refusal ≡ NoMemory))))
 
--- ---- expressions
+-- ---- what is kept and shown
 
--- what stands in the expression is answered, known and well formed
-pub record IsSoundExpr (scope : ScopeView) (expr : Expr) : Type 0 where
-  pub supported : list_any is_later (parts_of expr) ≡ false
+-- the answer of a line
+abbrev pub answer_of : Line → Answer
+answer_of line = record { bytes = string_bytes line.text; is_true = line.tally.is_true; elements = line.tally.elements }
+
+-- the value is kept of the expression, with the expression's kind
+abbrev pub IsKeptOf : StateView → ℤ → Expr → KeptValue → Type 0
+IsKeptOf state limit expr value =
+    (before : Moment) (kind : ValueKind) → before.state ≡ state → limit_of before.meter ≡ limit → kind_of (scope_of state) expr ≡ Some kind
+    → Keeps before expr (record { kind = kind; value = value })
+
+-- what is kept of an expression can be worked out
+pub record IsMakeable (scope : ScopeView) (expr : Expr) : Type 0 where
+  pub plain : list_any is_foreign (made_parts expr) ≡ false
   pub known : has_unknown scope expr ≡ false
   pub literals : All IsWellFormedLiteral (literals_of expr)
-
--- it is, and its operands do not declare too many parameters
-pub record IsReady (scope : ScopeView) (expr : Expr) : Type 0 where
-  pub sound : IsSoundExpr scope expr
   pub narrow : length (declared_of scope expr) ≤ most_parameters
 
--- an operator that is answered, and its operand
-pub record IsSoundLink (scope : ScopeView) (link : Link) : Type 0 where
-  pub supported : is_later (operator link.operator) ≡ false
-  pub operand : IsSoundExpr scope link.operand
-
--- the same of operators and operands behind one that has these parameters
-pub record AreReady (scope : ScopeView) (params : List Name) (links : List Link) : Type 0 where
-  pub each : All (IsSoundLink scope) links
-  pub narrow : length (declared_of_row scope params links) ≤ most_parameters
-
--- each of what follows an operand is `^-1`
-abbrev pub AreInverses : List Postfix → Type 0
-AreInverses postfixes = All (λ postfix. postfix ≡ Inverse) postfixes
-
--- The kept value is one of these, with these parameters, these elements at each valuation, no number above the limit, and no column
--- that is defined.
-pub record IsValueOf (Exact : KeptValue → Type 0) (names : List Name) (Elements : Valuation → Element → Type 0) (limit : ℕ)
-    (value : KeptValue) : Type 0 where
-  pub written : Exact value
+-- a value of one element of what the operand selects, or of none
+pub record IsSampled (state : StateView) (operand : Expr) (limit : ℕ) (value : KeptValue) : Type 0 where
+  pub chosen : (argument : KeptValue) × IsSelected state operand argument × IsSampleOf argument value
   pub kept : IsKeptValue value
-  pub params : value.params ≡ names
-  pub elements : (valuation : Valuation) (element : Element) → Has value valuation element ↔ Elements valuation element
+  pub params : value.params ≡ declared_of (scope_of state) operand
   pub numbers : HasNumbersUpTo limit value
   pub definitions : HasNoDefinitions value
 
--- ---- work
+-- what refuses a statement whose scan ended without a listing
+abbrev pub refusal_of_fault : ScanFault → Refusal
+refusal_of_fault (scan_fault.Cut cut) = refusal_of_cut cut
+refusal_of_fault scan_fault.Unbounded = Unbounded
 
--- what a statement is to do, once its value is made
-abbrev pub IsWork : Moment → Stmt → Work → Type 0
-IsWork before Empty work.Nothing = Unit {0}
-IsWork before (Show expr) (work.Show kept) = Keeps before expr kept
-IsWork before (Bind name expr) (work.Bind bound kept t) = (bound ≡ name) × Keeps before expr kept × (type_of kept ≡ t)
-IsWork before stmt work = ⊥
+-- ---- what is asked for
 
--- what is bound is of the type beside it
-abbrev pub HasItsType : Work → Type 0
-HasItsType work.Nothing = Unit {0}
-HasItsType (work.Show kept) = Unit {0}
-HasItsType (work.Bind name kept t) = t ≡ type_of kept
+abbrev pub is_scan : Prefix → Bool
+is_scan p.Scan = true
+is_scan _ = false
 
--- what refuses a statement whose work was cut
-abbrev pub refusal_of_cut : Cut → Refusal
-refusal_of_cut cuts.Overflow = Overflow
-refusal_of_cut cuts.Budget = Budget
-refusal_of_cut cuts.NoMemory = NoMemory
+-- elements are asked for
+abbrev pub is_listing : Expr → Bool
+is_listing (Prefix' word s operand) = is_scan word
+is_listing _ = false
 
--- units alone were used, and where nothing uses units the meter is as it was
-pub record IsPaid (works : Bool) (old new : Gauge) : Type 0 where
-  pub charged : IsCharged old new
-  pub free : works ≡ false → new ≡ old
+-- elements or a truth are asked for
+abbrev pub is_asked : Expr → Bool
+is_asked (Prefix' word s operand) = is_scan word
+is_asked (Row' s first t links) = row_ends_with_test links
+is_asked _ = false
 
--- why no value was made: work was cut; where nothing uses units memory ended, and the meter is as it was
-pub record IsWhyUnmade (works : Bool) (old new : Gauge) (refusal : Refusal) : Type 0 where
-  pub cut : Cut
-  pub is : refusal ≡ refusal_of_cut cut
-  pub by : IsCutBy old new cut
-  pub free : works ≡ false → (cut ≡ cuts.NoMemory) × (new ≡ old)
+-- ---- tests
 
--- why a statement that was read was not worked out: it is not to be, or no value was made
-abbrev pub IsWhyUnworked : ScopeView → Stmt → Gauge → Gauge → Refusal → Type 0
-IsWhyUnworked scope stmt old new refusal =
-    (IsWhyUnworkable scope stmt refusal × (new ≡ old))
-    ⊎ (IsWorkable scope stmt × IsWhyUnmade (list_any uses_units (parts_of_statement stmt)) old new refusal)
+-- the last operator of a row, as a list, is a test
+abbrev pub ends_with_test : List Link → Bool
+ends_with_test [] = false
+ends_with_test (link ∷ []) = is_test link.operator
+ends_with_test (link ∷ next ∷ more) = ends_with_test (next ∷ more)
 
--- what is done to what is bound, and what is answered
-abbrev pub Does : Work → StateView → StateView → Answer → Type 0
-Does work.Nothing old new answer = (new ≡ old) × (answer ≡ nothing)
-Does (work.Show kept) old new answer = (new ≡ old) × (answer ≡ shown kept.value)
-Does (work.Bind name kept t) old new answer = Binds old name kept new × (answer ≡ nothing)
+-- what the operators before a test make of the operands on its left
+abbrev pub past_row : StateView → Expr → List Link → Elements
+past_row state first before valuation element = RowSelects state valuation (Selects state first valuation) before element
+
+-- what stands around a test can be worked out
+pub record IsReadyTest (scope : ScopeView) (first : Expr) (before : List Link) (last : Link) : Type 0 where
+  pub left : IsReady scope first
+  pub others : AreReady scope (declared_of scope first) before
+  pub right : IsReady scope last.operand
+  pub test : is_test last.operator ≡ true
+  pub narrow : length (joined_names (declared_of_row scope (declared_of scope first) before)
+      (declared_of scope last.operand)) ≤ most_parameters
+
+-- ---- one simple statement after another
+
+-- Each may be evaluated when those before it are done, whatever they chose; each but the last binds a name that no script has.
+abbrev pub AreEvaluable : ScopeView → List Stmt → Type 0
+AreEvaluable scope [] = ⊥
+AreEvaluable scope (stmt ∷ []) = IsEvaluable scope stmt
+AreEvaluable scope (Bind name expr ∷ next ∷ rest) =
+    (t : TypeView) × (type_of_statement scope (Bind name expr) ≡ Ok (Some t)) × (is_dollar name ≡ true) × IsEvaluable scope (Bind name expr)
+    × ((later : ScopeView) → BindsIn scope name t later → AreEvaluable later (next ∷ rest))
+AreEvaluable scope (_ ∷ next ∷ rest) = ⊥
+
+-- the simple statements of a statement that was read and may be worked out
+pub record IsTaken (before : Moment) (bytes : List ℕ) (statements : List Stmt) : Type 0 where
+  pub stmt : Stmt
+  pub read : IsRead before bytes stmt
+  pub able : IsWorkable (scope_of before.state) before.at stmt
+  pub simple : statements ≡ flat stmt
+  pub ready : AreEvaluable (scope_of before.state) statements
+
+-- from one moment to another some of the statements were done, and the others are left
+pub record AreLeft (before now : Moment) (done left : List Stmt) : Type 0 where
+  pub ready : AreEvaluable (scope_of now.state) left
+  pub steps : AreDone before done now
+  pub fits : Fits (limit_of before.meter) now.state
+  pub others : forgotten now.state ≡ forgotten before.state
+  pub paid : IsPaid (list_any works done) before.meter now.meter
+  pub at : now.at ≡ before.at
+
+-- why the statements were not answered: work was cut; or some were done, and infinitely many elements are to be listed by the next
+abbrev pub IsWhyStopped : Moment → List Stmt → Gauge → Refusal → Type 0
+IsWhyStopped before statements now refusal =
+    IsWhyUnmade (list_any works statements) before.meter now refusal
+    ⊎ ((refusal ≡ Unbounded) × IsCharged before.meter now
+    × ((done : List Stmt) × (next : Stmt) × (later : List Stmt) × (statements ≡ done ++ next ∷ later)
+    × ((moment : Moment) × AreDone before done moment × IsInfinite moment next)))

@@ -1,15 +1,21 @@
--- public: what statements do, one after another. (the iscc chapter of the barvinok manual)
-use Rattle.std.specs.Prelude.{◌≡◌, ℕ, Bool, false, List, [], ◌∷◌, ◌++◌}
+-- public: what simple statements do, and a statement by them. (the iscc chapter of the barvinok manual)
+use Rattle.std.specs.Prelude.{◌≡◌, ◌↔◌, ℕ, Bool, true, false, IsTrue, if◌then◌else◌, List, [], ◌∷◌, ◌++◌, codes, length}
 use Rattle.isl_meter.specs.Gauge.{IsCharged}
+use Rattle.isl_space.specs.Element.{Element}
 use Rattle.isl_union.specs.KeptValue.{KeptValue}
 use Rattle.isl_print.specs.Printed.{printed}
+use Rattle.isl_scan.specs.ListingText.{listing_text}
+use Rattle.isl_expr.specs.declared.tree.Prefix.TheVariants as p
+use Rattle.isl_expr.specs.declared.tree.Expr.{Expr, Row', Prefix'}
 use Rattle.isl_expr.specs.declared.tree.Stmt.{Stmt}
 use Rattle.isl_expr.specs.declared.tree.Stmt.TheVariants.{Empty, Bind, Show}
-use Rattle.isl_eval.specs.State.{Kept, Moment, Binds}
-use Rattle.isl_eval.specs.Selection.{Keeps}
-use Rattle.isl_eval.specs.Spelled.{BytesSpell}
-use Rattle.isl_eval.specs.Causes.{IsValid, HasWork}
+use Rattle.isl_simple.specs.Flat.{flat}
+use Rattle.isl_select.specs.State.{Kept, Moment, Binds, forgotten}
+use Rattle.isl_select.specs.Selection.{Keeps, SelectsIn}
+use Rattle.isl_eval.specs.Tests.{ends_with_test, RowHolds}
+use Rattle.isl_eval.specs.Listed.{IsListed}
 
+-- ---- answers
 -- the bytes of an answer, whether it is `True`, and how many elements it lists
 pub record Answer : Type 0 where
   pub bytes : List ℕ
@@ -24,28 +30,55 @@ nothing = record { bytes = []; is_true = false; elements = 0 }
 abbrev pub shown : KeptValue → Answer
 shown value = record { bytes = printed value ++ 10 ∷ []; is_true = false; elements = 0 }
 
--- From one moment a statement leads to another, with this answer.
-abbrev pub Step : Moment → Stmt → Moment → Answer → Type 0
-Step before Empty after answer = (after.state ≡ before.state) × (answer ≡ nothing)
-Step before (Show expr) after answer = (after.state ≡ before.state) × ((kept : Kept) × Keeps before expr kept × (answer ≡ shown kept.value))
-Step before (Bind name expr) after answer = ((kept : Kept) × Keeps before expr kept × Binds before.state name kept after.state) × (answer ≡ nothing)
+-- the line that answers a test
+abbrev pub told : Bool → Answer
+told holds = record { bytes = (if holds then codes "True" else codes "False") ++ 10 ∷ []; is_true = holds; elements = 0 }
 
--- The bytes of a statement are answered. No unit was used, unless work stands in it.
-pub record Answers (before : Moment) (bytes : List ℕ) (after : Moment) (answer : Answer) : Type 0 where
-  pub valid : IsValid before bytes
-  pub stmt : Stmt
-  pub spelled : BytesSpell bytes stmt
-  pub step : Step before stmt after answer
+-- the line that lists elements
+abbrev pub listed : List Element → Answer
+listed elements = record { bytes = listing_text elements ++ 10 ∷ []; is_true = false; elements = length elements }
+
+-- ---- what is shown of an expression
+abbrev pub ShowsValue : Moment → Expr → Answer → Type 0
+ShowsValue before expr answer = (kept : Kept) × Keeps before expr kept × (answer ≡ shown kept.value)
+
+-- whether a test holds; the elements that the operand of `scan` selects where parameters have their given numbers; else the value
+abbrev pub ShowsRow : Bool → Type 0 → Moment → Expr → Answer → Type 0
+ShowsRow true Holds before expr answer = (holds : Bool) × (IsTrue holds ↔ Holds) × (answer ≡ told holds)
+ShowsRow false Holds before expr answer = ShowsValue before expr answer
+
+abbrev pub Shows : Moment → Expr → Answer → Type 0
+Shows before (Prefix' p.Scan s operand) answer =
+    (elements : List Element) × IsListed (λ element. SelectsIn before.state operand before.at element) elements × (answer ≡ listed elements)
+Shows before (Row' s first t links) answer = ShowsRow (ends_with_test links) (RowHolds before.state first links) before
+    (Row' s first t links) answer
+Shows before expr answer = ShowsValue before expr answer
+
+-- ---- simple statements
+-- what is done to what is bound, and what is answered
+abbrev pub Does : Moment → Stmt → Moment → Answer → Type 0
+Does before Empty after answer = (after.state ≡ before.state) × (answer ≡ nothing)
+Does before (Show expr) after answer = (after.state ≡ before.state) × Shows before expr answer
+Does before (Bind name expr) after answer = ((kept : Kept) × Keeps before expr kept × Binds before.state name kept after.state)
+    × (answer ≡ nothing)
+
+-- From one moment a simple statement leads to another, with this answer. Units alone were used.
+pub record Step (before : Moment) (stmt : Stmt) (after : Moment) (answer : Answer) : Type 0 where
+  pub does : Does before stmt after answer
   pub meter : IsCharged before.meter after.meter
-  pub units : ¬ HasWork stmt → after.meter.units ≡ before.meter.units
+  pub at : after.at ≡ before.at
 
--- a statement begins with the whole budget
-abbrev pub started : Moment → Moment
-started before = record before { meter = record before.meter { units = 0 } }
+-- ---- statements
+-- One after another, the last with this answer, and the others with none.
+unfoldable pub Steps : Moment → List Stmt → Moment → Answer → Type 0
+Steps before [] after answer = ⊥
+Steps before (stmt ∷ []) after answer = Step before stmt after answer
+Steps before (stmt ∷ more) after answer = (next : Moment) × Step before stmt next nothing × Steps next more after answer
 
--- These statements are answered one after another, each with its answer.
-unfoldable pub Run : Moment → List (List ℕ) → List Answer → Moment → Type 0
-Run before [] [] after = after ≡ before
-Run before (bytes ∷ more) (answer ∷ answers) after = (next : Moment) × Answers (started before) bytes next answer × Run next more answers after
-Run before [] (answer ∷ answers) after = ⊥
-Run before (bytes ∷ more) [] after = ⊥
+-- the names of what was chosen once are forgotten
+abbrev pub behind : Moment → Moment
+behind now = record now { state = forgotten now.state }
+
+-- A statement does what its simple statements do, one after another; the names that these bind for what is chosen once are gone then.
+abbrev pub Performs : Moment → Stmt → Moment → Answer → Type 0
+Performs before stmt after answer = (now : Moment) × Steps before (flat stmt) now answer × (after ≡ behind now)

@@ -1,14 +1,17 @@
 //! One statement of a script: what it answers and what it binds, or why it is refused.
 //!
-//! A statement is empty, or it binds or shows what names and literals come to by `+`, `*` and `^-1`.
+//! A statement is empty, or it binds or shows what names and literals come to by `+`, `*`, `-`, `^-1` and `sample`; or it tells whether
+//! a test holds, or lists elements by `scan`. It is taken apart into simple statements, in which what is chosen once has a name, and
+//! each of these is one step.
 #![tactic(auto)]
 
-mod eval;
-mod selected;
+mod shown;
+mod simple;
 mod spelled;
-mod state;
 mod step;
+mod test;
+mod workable;
 
+pub use simple::eval;
 pub use spelled::one_statement;
-pub use state::State;
 pub use step::{Tally, answer};

@@ -1,10 +1,10 @@
 //! The statement that bytes spell.
 
 ghost use Rattle.std.specs.Prelude.{◌≡◌, ℕ, List, MatchResult};
+ghost use Rattle.isl_select.specs.State.{Moment};
 ghost use Rattle.isl_eval.specs.Spelled.{SpellOne};
 ghost use Rattle.isl_eval.specs.Evaluation.{IsRead, IsWhyNot};
 
-use crate::State;
 use isl_expr::tree::Stmt;
 use isl_meter::Meter;
 use isl_simple::is_unsupported;
@@ -13,16 +13,10 @@ use isl_text::refusal::Refusal;
 use std::alloc::Global;
 
 /// The statement that the bytes spell, where it is one that is answered.
-pub(crate) fn read(
-    alloc: Global,
-    bytes: &[u8],
-    state: &State,
-    meter: &Meter,
-) -> Result<Stmt, Refusal>
-    ensures { MatchResult result (IsRead (record { state = state.now; meter = meter.now }) bytes.now)
-        (IsWhyNot (record { state = state.now; meter = meter.now }) bytes.now) }
+pub(crate) fn read(alloc: Global, bytes: &[u8], meter: &Meter) -> Result<Stmt, Refusal>
+    ensures { (before : Moment) → before.meter ≡ meter.now
+        → MatchResult result (IsRead before bytes.now) (IsWhyNot before bytes.now) }
 {
-    let _state = state;
     match read_statement(alloc, bytes, meter.limit()) {
         Ok(stmt) => {
             if is_unsupported(&stmt) {

@@ -1,45 +1,76 @@
-use Rattle.std.proofs.Common.{sym, subst}
-use Rattle.isl_eval.specs.State.{Fits, scope_of}
-use Rattle.isl_eval.proofs.StepLaws.{unread_refuses, unworked_refuses, performed_answers, performed_fits, performed_refuses, performed_meter, unworked_limit, unworked_meter}
+use Rattle.std.proofs.Common.{◌∙◌, ap, refl, subst, sym}
+use Rattle.isl_select.specs.State.{StateView}
+use Rattle.isl_eval.specs.Evaluation.{IsTaken}
+use Rattle.isl_eval.proofs.ShownLaws.{moment_of}
+use Rattle.isl_eval.proofs.ChainLaws.{alone_plain}
+use Rattle.isl_eval.proofs.StepLaws.{finished_cause, finished_err, finished_fits, finished_ok, finished_settled}
 use Rattle.isl_eval.proofs.step.answer.Goals as goal
 
-pub returns-in-Err-clause-cause : goal.returns-in-Err-clause-cause
-returns-in-Err-clause-cause c =
-    unread_refuses (record { state = c.args.state.now; meter = c.args.meter.now }) c.args.bytes.now c.in-Err.refusal c.in-Err.ensures
-
-pub returns-in-Ok-prepare-clause-fits : goal.returns-in-Ok-prepare-clause-fits
-returns-in-Ok-prepare-clause-fits c =
-    performed_fits (record { state = c.args.state.now; meter = c.args.meter.now }) c.args.bytes.now c.in-Ok.stmt c.in-Ok.ensures c.prepare.new.meter
-    c.in-Ok-prepare.work c.in-Ok-prepare.ensures c.args.text.now.items c.perform.new.state c.perform.new.text.items c.perform.result c.requires
-    c.perform.ensures
-
-pub returns-in-Ok-prepare-clause-ok : goal.returns-in-Ok-prepare-clause-ok
-returns-in-Ok-prepare-clause-ok c =
-    performed_answers (record { state = c.args.state.now; meter = c.args.meter.now }) c.args.bytes.now c.in-Ok.stmt c.in-Ok.ensures c.prepare.new.meter
-    c.in-Ok-prepare.work c.in-Ok-prepare.ensures c.args.text.now.items c.perform.new.state c.perform.new.text.items c.perform.result
-    c.perform.ensures
-
-pub returns-in-Ok-prepare-clause-cause : goal.returns-in-Ok-prepare-clause-cause
-returns-in-Ok-prepare-clause-cause c =
-    performed_refuses (record { state = c.args.state.now; meter = c.args.meter.now }) c.args.bytes.now c.in-Ok.stmt c.in-Ok.ensures c.prepare.new.meter
-    c.in-Ok-prepare.work c.in-Ok-prepare.ensures c.args.text.now.items c.perform.new.state c.perform.new.text.items c.perform.result
-    c.perform.ensures
-
-pub returns-in-Ok-prepare-clause-meter : goal.returns-in-Ok-prepare-clause-meter
-returns-in-Ok-prepare-clause-meter c =
-    performed_meter (record { state = c.args.state.now; meter = c.args.meter.now }) c.args.bytes.now c.in-Ok.stmt c.in-Ok.ensures c.prepare.new.meter
-    c.in-Ok-prepare.work c.in-Ok-prepare.ensures c.args.text.now.items c.perform.new.state c.perform.new.text.items c.perform.result
+pub evaluate-answered-requires-clause-evaluable : goal.evaluate-answered-requires-clause-evaluable
+evaluate-answered-requires-clause-evaluable c =
+    let before = moment_of c.args.state.now c.args.meter.now c.args.at.now in
+    (subst (IsTaken before c.args.bytes.now) (sym c.as_slice.ensures.value) (c.in-Ok.ensures before refl)).ready
 
 pub returns-clause-fits : goal.returns-clause-fits
 returns-clause-fits c =
-    let same = unworked_limit (scope_of c.args.state.now) c.in-Ok.stmt c.args.meter.now c.prepare.new.meter c.in-Err-prepare.refusal c.in-Err-prepare.ensures in
-    subst (λ (z : _). Fits z c.args.state.now) (sym same) c.requires
+    let before = moment_of c.args.state.now c.args.meter.now c.args.at.now in
+    finished_fits before c.args.bytes.now c.as_slice.result.now
+    (subst (IsTaken before c.args.bytes.now) (sym c.as_slice.ensures.value) (c.in-Ok.ensures before refl)) c.requires.settled
+    c.requires.fits
+    (moment_of c.evaluate-answered.new.state c.evaluate-answered.new.meter c.args.at.now)
+    (moment_of c.forget_after.new.state c.evaluate-answered.new.meter c.args.at.now) refl
+    (ap (λ (s : StateView). moment_of s c.evaluate-answered.new.meter c.args.at.now) c.forget_after.ensures) c.args.text.now.items
+    c.evaluate-answered.new.text.items c.evaluate-answered.result c.evaluate-answered.ensures.ok c.evaluate-answered.ensures.err
+    c.evaluate-answered.ensures.meter
+
+pub returns-clause-settled : goal.returns-clause-settled
+returns-clause-settled c =
+    let before = moment_of c.args.state.now c.args.meter.now c.args.at.now in
+    finished_settled before c.args.bytes.now c.as_slice.result.now
+    (subst (IsTaken before c.args.bytes.now) (sym c.as_slice.ensures.value) (c.in-Ok.ensures before refl)) c.requires.settled
+    c.requires.fits
+    (moment_of c.evaluate-answered.new.state c.evaluate-answered.new.meter c.args.at.now)
+    (moment_of c.forget_after.new.state c.evaluate-answered.new.meter c.args.at.now) refl
+    (ap (λ (s : StateView). moment_of s c.evaluate-answered.new.meter c.args.at.now) c.forget_after.ensures) c.args.text.now.items
+    c.evaluate-answered.new.text.items
+
+pub returns-clause-ok : goal.returns-clause-ok
+returns-clause-ok c =
+    let before = moment_of c.args.state.now c.args.meter.now c.args.at.now in
+    finished_ok before c.args.bytes.now c.as_slice.result.now
+    (subst (IsTaken before c.args.bytes.now) (sym c.as_slice.ensures.value) (c.in-Ok.ensures before refl)) c.requires.settled
+    c.requires.fits
+    (moment_of c.evaluate-answered.new.state c.evaluate-answered.new.meter c.args.at.now)
+    (moment_of c.forget_after.new.state c.evaluate-answered.new.meter c.args.at.now) refl
+    (ap (λ (s : StateView). moment_of s c.evaluate-answered.new.meter c.args.at.now) c.forget_after.ensures) c.args.text.now.items
+    c.evaluate-answered.new.text.items c.evaluate-answered.result c.evaluate-answered.ensures.ok c.evaluate-answered.ensures.meter
+
+pub returns-clause-err : goal.returns-clause-err
+returns-clause-err c =
+    let before = moment_of c.args.state.now c.args.meter.now c.args.at.now in
+    finished_err before c.args.bytes.now c.as_slice.result.now
+    (subst (IsTaken before c.args.bytes.now) (sym c.as_slice.ensures.value) (c.in-Ok.ensures before refl)) c.requires.settled
+    c.requires.fits
+    (moment_of c.evaluate-answered.new.state c.evaluate-answered.new.meter c.args.at.now)
+    (moment_of c.forget_after.new.state c.evaluate-answered.new.meter c.args.at.now) refl
+    (ap (λ (s : StateView). moment_of s c.evaluate-answered.new.meter c.args.at.now) c.forget_after.ensures) c.args.text.now.items
+    c.evaluate-answered.new.text.items c.evaluate-answered.result c.evaluate-answered.ensures.err
 
 pub returns-clause-cause : goal.returns-clause-cause
 returns-clause-cause c =
-    unworked_refuses (record { state = c.args.state.now; meter = c.args.meter.now }) c.args.bytes.now c.in-Ok.stmt c.in-Ok.ensures c.prepare.new.meter
-    c.in-Err-prepare.refusal c.in-Err-prepare.ensures
+    let before = moment_of c.args.state.now c.args.meter.now c.args.at.now in
+    finished_cause before c.args.bytes.now c.as_slice.result.now
+    (subst (IsTaken before c.args.bytes.now) (sym c.as_slice.ensures.value) (c.in-Ok.ensures before refl)) c.requires.settled
+    c.requires.fits
+    (moment_of c.evaluate-answered.new.state c.evaluate-answered.new.meter c.args.at.now)
+    (moment_of c.forget_after.new.state c.evaluate-answered.new.meter c.args.at.now) refl
+    (ap (λ (s : StateView). moment_of s c.evaluate-answered.new.meter c.args.at.now) c.forget_after.ensures) c.args.text.now.items
+    c.evaluate-answered.new.text.items c.evaluate-answered.result c.evaluate-answered.ensures.cause
 
-pub returns-clause-meter : goal.returns-clause-meter
-returns-clause-meter c =
-    unworked_meter (scope_of c.args.state.now) c.in-Ok.stmt c.args.meter.now c.prepare.new.meter c.in-Err-prepare.refusal c.in-Err-prepare.ensures
+pub forget_after-requires : goal.forget_after-requires
+forget_after-requires c =
+    let before = moment_of c.args.state.now c.args.meter.now c.args.at.now in
+    λ only is.
+    let all = sym c.as_slice-2.ensures.value ∙ is in
+    c.evaluate-answered.ensures.settled only (c.as_slice.ensures.value ∙ all)
+    (alone_plain before c.args.bytes.now _ only (c.in-Ok.ensures before refl) all) c.requires.settled

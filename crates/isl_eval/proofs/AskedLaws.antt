@@ -1,0 +1,50 @@
+-- What is asked for, at the constructors of the code.
+use Rattle.std.proofs.Common.{◌≡◌, ◌∙◌, refl, sym, ap, Bool, true, false, List, [], ◌∷◌, ◌++◌, length}
+use Rattle.std.proofs.lemmas.List.{nil_from_length}
+use Rattle.isl_expr.specs.declared.tree.Prefix.{Prefix as Word}
+use Rattle.isl_expr.specs.declared.tree.Prefix.TheVariants as p
+use Rattle.isl_expr.specs.declared.tree.Link.{Link}
+use Rattle.isl_expr.specs.declared.tree.Expr.{Expr, Row, items_hidden-the_row-Link-1}
+use Rattle.isl_expr.specs.declared.tree.Expr.TheBlock.{hidden-the_row-Expr-0, hidden-the_row-Link-1}
+use Rattle.isl_expr.specs.declared.tree.Expr as e
+use Rattle.isl_eval.specs.Tests.{is_test}
+use Rattle.isl_eval.specs.Evaluation.{ends_with_test, is_scan, is_listing, is_asked}
+use Rattle.isl_eval.proofs.TestLaws.{ends_are, ends_at}
+
+listing_of-Prefix : (word : Word) (operand : Expr) → is_listing (e.Prefix word operand) ≡ is_scan word
+unfolding hidden-the_row-Expr-0 denote.Hole.Carrier.hidden
+listing_of-Prefix word operand = refl
+
+pub asked_of-Prefix : (word : Word) (operand : Expr) → is_asked (e.Prefix word operand) ≡ is_scan word
+unfolding hidden-the_row-Expr-0 denote.Hole.Carrier.hidden
+asked_of-Prefix word operand = refl
+
+pub asked_of-Row : (first : Expr) (links : List Link) → is_asked (Row first links) ≡ ends_with_test links
+unfolding hidden-the_row-Expr-0 denote.Hole.Carrier.hidden
+asked_of-Row first links = ends_are _ (hidden-the_row-Link-1 links) ∙ ap ends_with_test (items_hidden-the_row-Link-1 links)
+
+pub listing-Prefix : (x operand : Expr) (word : Word) (b : Bool) → x ≡ e.Prefix word operand → b ≡ is_scan word → b ≡ is_listing x
+listing-Prefix x operand word b is scan = scan ∙ sym (ap is_listing is ∙ listing_of-Prefix word operand)
+
+pub asked-Prefix : (x operand : Expr) (word : Word) (b : Bool) → x ≡ e.Prefix word operand → b ≡ is_scan word → b ≡ is_asked x
+asked-Prefix x operand word b is scan = scan ∙ sym (ap is_asked is ∙ asked_of-Prefix word operand)
+
+pub asked-Row : (x first : Expr) (links : List Link) (b : Bool) → x ≡ Row first links → b ≡ ends_with_test links → b ≡ is_asked x
+asked-Row x first links b is ends = ends ∙ sym (ap is_asked is ∙ asked_of-Row first links)
+
+pub ruleset listing = (listing-Prefix)
+
+pub ruleset asked = (asked-Prefix, asked-Row)
+
+-- ---- the end of a row
+pub ends_some : (links before : List Link) (last : Link) (b : Bool) → links ≡ before ++ last ∷ [] → b ≡ is_test last.operator
+    → b ≡ ends_with_test links
+ends_some links before last b is test = test ∙ sym (ap ends_with_test is ∙ ends_at before last)
+
+pub ends_none : (links : List Link) → length links ≡ 0 → false ≡ ends_with_test links
+ends_none links none = sym (ap ends_with_test (nil_from_length links none))
+
+-- what is asked for by a word, and by a row
+pub scan_word : (word : Word) → is_scan word ≡ true → word ≡ p.Scan
+scan_word p.Scan is = refl
+scan_word _ is = let no : false ≡ true = is in cc

@@ -1,0 +1,213 @@
+-- The simple statements of a statement that may be worked out, one after another.
+use Rattle.std.proofs.Common.{◌≡◌, ◌∙◌, inl, inr, refl, sym, ap, subst, arith, ◌≤◌, ◌^◌, ℕ, suc}
+use Rattle.std.proofs.Common.{Bool, true, false, List, [], ◌∷◌, ◌++◌, length, get_or, Option, Some, Ok, Err}
+use Rattle.std.specs.List.{All, list_any}
+use Rattle.std.proofs.lemmas.Bool.{false≢true}
+use Rattle.std.proofs.lemmas.List.Elements.{All-nil, All-cons, All-append}
+use Rattle.isl_space.specs.Limits.{most_parameters}
+use Rattle.isl_space.specs.Name.{Name}
+use Rattle.isl_text.specs.declared.refusal.Refusal.TheVariants as r
+use Rattle.isl_lower.specs.Value.{IsWellFormedLiteral}
+use Rattle.isl_expr.specs.declared.tree.Binary.TheVariants.{Gist}
+use Rattle.isl_expr.specs.declared.tree.Prefix.TheVariants.{Sample}
+use Rattle.isl_expr.specs.declared.tree.ValueKind.{ValueKind}
+use Rattle.isl_expr.specs.declared.tree.ValueKind.TheVariants as k
+use Rattle.isl_expr.specs.declared.tree.Stmt.{Stmt}
+use Rattle.isl_expr.specs.declared.tree.Stmt.TheVariants.{Empty, Bind, Show}
+use Rattle.isl_expr.specs.declared.tree.Expr.{Expr}
+use Rattle.isl_expr.specs.declared.tree.Expr.TheBlock.{hidden-the_row-Expr-0}
+use Rattle.isl_expr.specs.declared.tree.Expr as e
+use Rattle.isl_expr.specs.Expr.{statement_literals}
+use Rattle.isl_kinds.specs.declared.types.Purpose.TheVariants as purpose
+use Rattle.isl_kinds.specs.Parts.{parts_of, parts_of_statement}
+use Rattle.isl_kinds.specs.Typed.{TypeView, ScopeView, is_dollar, has_unknown, kind_of}
+use Rattle.isl_kinds.specs.Typed.{declared_of, kind_for, with_params, type_for, type_of_statement}
+use Rattle.isl_kinds.proofs.PartLaws.{parts_of-Row}
+use Rattle.isl_simple.specs.Flat.{flat, link_of}
+use Rattle.isl_simple.specs.Simple.{bindings_of, last_of, BindFrom, IsSimple, IsSimpleExpr, HasType, AreTyped, statement_declared}
+use Rattle.isl_simple.specs.Unsupported.{is_later}
+use Rattle.isl_simple.proofs.SimpleLaws.{flat_ends, parts_kept, literals_kept, flat_is_simple, bindings_are_numbered}
+use Rattle.isl_simple.proofs.TypedLaws.{flat_is_typed}
+use Rattle.isl_spelled.specs.Names.{HasNoDollar, binds_dollar}
+use Rattle.isl_spelled.proofs.NameLaws.{bytes_spell_no_dollar}
+use Rattle.isl_select.specs.State.{Moment, scope_of}
+use Rattle.isl_select.specs.Made.{is_foreign}
+use Rattle.isl_eval.specs.Evaluated.{made_parts, shown_parts, worked_parts, IsEvaluable}
+use Rattle.isl_eval.specs.Evaluation.{IsRead, IsTaken, IsWorkable, AreEvaluable}
+use Rattle.isl_eval.specs.Spelled.{BytesSpell}
+use Rattle.isl_eval.proofs.LexLaws.{lexed}
+use Rattle.isl_eval.proofs.TypeLaws.{found_is, of_type}
+use Rattle.isl_eval.proofs.PlainLaws.{is_value, is_lone, bound_plain, shown_plain}
+use Rattle.isl_eval.proofs.FullLaws.{spelled_full, outermost_full}
+
+-- ---- the kinds of statements with types
+taken_value : (expr : Expr) (params : List Name) (kind : ValueKind) (u : TypeView)
+    → with_params params (kind_for purpose.Bound expr (Some kind)) ≡ Ok u → is_value kind ≡ true
+taken_value expr params k.Truth u is = let f : Err r.WrongKind ≡ Ok u = is in cc
+taken_value expr params k.Listing u is = let f : Err r.WrongKind ≡ Ok u = is in cc
+taken_value expr params k.Code u is = let f : Err r.WrongKind ≡ Ok u = is in cc
+taken_value expr params _ u is = refl
+
+bound_value : (scope : ScopeView) (expr : Expr) (u : TypeView) → type_for purpose.Bound scope expr ≡ Ok u → is_value u.kind ≡ true
+bound_value scope expr u is = by (has_unknown scope expr) refl
+  where
+    kind_is : kind_of scope expr ≡ Some u.kind
+    kind_is = (of_type scope expr purpose.Bound u is).kind
+
+    by : (b : Bool) → has_unknown scope expr ≡ b → is_value u.kind ≡ true
+    by true q = let f : Err r.UnknownName ≡ Ok u = sym (rw q refl) ∙ is in cc
+    by false q =
+        let made : with_params (declared_of scope expr) (kind_for purpose.Bound expr (kind_of scope expr)) ≡ Ok u = sym (rw q refl) ∙ is in
+        taken_value expr (declared_of scope expr) u.kind u
+        (sym (ap (λ (o : Option ValueKind). with_params (declared_of scope expr) (kind_for purpose.Bound expr o)) kind_is) ∙ made)
+
+-- ---- what is chosen
+sample_made : (name : Name) → list_any is_foreign (made_parts (e.Prefix Sample (e.Name name))) ≡ false
+unfolding hidden-the_row-Expr-0 denote.Hole.Carrier.hidden
+sample_made name = refl
+
+sample_shown : (name : Name) → list_any is_foreign (shown_parts (e.Prefix Sample (e.Name name))) ≡ false
+unfolding hidden-the_row-Expr-0 denote.Hole.Carrier.hidden
+sample_shown name = refl
+
+gist_later : (left right : Name) → list_any is_later (parts_of (e.Row (e.Name left) (link_of Gist (e.Name right) ∷ []))) ≡ true
+gist_later left right = ap (list_any is_later) (parts_of-Row (e.Name left) (link_of Gist (e.Name right) ∷ []))
+
+no_gist : {A : Type 0} (expr : Expr) (left right : Name) → expr ≡ e.Row (e.Name left) (link_of Gist (e.Name right) ∷ [])
+    → list_any is_later (parts_of expr) ≡ false → A
+no_gist expr left right is supported =
+    absurd (false≢true (sym supported ∙ ap (λ (x : Expr). list_any is_later (parts_of x)) is ∙ gist_later left right))
+
+bound_simple : (scope : ScopeView) (expr : Expr) (kind : ValueKind) → kind_of scope expr ≡ Some kind → is_value kind ≡ true
+    → list_any is_later (parts_of expr) ≡ false → IsSimpleExpr expr → list_any is_foreign (made_parts expr) ≡ false
+bound_simple scope expr kind is value supported (inl quiet) = bound_plain scope expr kind is value
+    (record { supported = supported; unchosen = quiet })
+bound_simple scope expr kind is value supported (inr (inl h)) =
+    ap (λ (x : Expr). list_any is_foreign (made_parts x)) h.1 ∙ sample_made h.0
+bound_simple scope expr kind is value supported (inr (inr h)) = no_gist expr h.0 h.1 h.2 supported
+
+shown_simple : (scope : ScopeView) (expr : Expr) (kind : ValueKind) → kind_of scope expr ≡ Some kind → is_lone expr ≡ false
+    → list_any is_later (parts_of expr) ≡ false → IsSimpleExpr expr → list_any is_foreign (shown_parts expr) ≡ false
+shown_simple scope expr kind is full supported (inl quiet) = shown_plain scope expr kind is full
+    (record { supported = supported; unchosen = quiet })
+shown_simple scope expr kind is full supported (inr (inl h)) =
+    ap (λ (x : Expr). list_any is_foreign (shown_parts x)) h.1 ∙ sample_shown h.0
+shown_simple scope expr kind is full supported (inr (inr h)) = no_gist expr h.0 h.1 h.2 supported
+
+-- ---- one simple statement
+abbrev pub FullStmt : Stmt → Type 0
+FullStmt (Show expr) = is_lone expr ≡ false
+FullStmt _ = Unit {0}
+
+plain : (scope : ScopeView) (stmt : Stmt) (t : Option TypeView) → type_of_statement scope stmt ≡ Ok t → FullStmt stmt
+    → list_any is_later (parts_of_statement stmt) ≡ false → IsSimple stmt → list_any is_foreign (worked_parts stmt) ≡ false
+plain scope Empty t typed full supported simple = refl
+plain scope (Bind name expr) t typed full supported simple =
+    let u = found_is (type_for purpose.Bound scope expr) t typed in
+    bound_simple scope expr u.0.kind (of_type scope expr purpose.Bound u.0 u.1).kind (bound_value scope expr u.0 u.1) supported simple
+plain scope (Show expr) t typed full supported simple =
+    let u = found_is (type_for purpose.Shown scope expr) t typed in
+    shown_simple scope expr u.0.kind (of_type scope expr purpose.Shown u.0 u.1).kind full supported simple
+
+abbrev MayBe : ℕ → Stmt → Type 0
+MayBe most stmt = (scope : ScopeView) (t : Option TypeView) → HasType most scope stmt t → IsEvaluable scope stmt
+
+may_be : (most : ℕ) (stmt : Stmt) → most ≤ most_parameters → FullStmt stmt → list_any is_later (parts_of_statement stmt) ≡ false
+    → All IsWellFormedLiteral (statement_literals stmt) → IsSimple stmt → MayBe most stmt
+may_be most stmt few full supported literals simple = λ scope t has. record {
+  typed = (t, has.typed);
+  plain = plain scope stmt t has.typed full supported simple;
+  literals = literals;
+  narrow = let least = has.few in omega (arith, least, few);
+}
+
+-- ---- one after another
+chain : (most n : ℕ) (scope : ScopeView) (bindings : List Stmt) (last : Stmt) (t : Option TypeView)
+    → AreTyped most scope (bindings ++ last ∷ []) t
+    → BindFrom n bindings → All (MayBe most) (bindings ++ last ∷ []) → AreEvaluable scope (bindings ++ last ∷ [])
+chain most n scope [] last t typed from all = all 0 last (omega arith) scope t typed
+chain most n scope (Bind name expr ∷ []) last t typed from all = (
+  typed.0,
+  typed.1.typed,
+  ap is_dollar from.0,
+  all 0 last (omega arith) scope (Some typed.0) typed.1,
+  (λ later binds. all 1 last (omega arith) later t (typed.2 later binds)),
+)
+chain most n scope (Bind name expr ∷ next ∷ more) last t typed from all = (
+  typed.0,
+  typed.1.typed,
+  ap is_dollar from.0,
+  all 0 last (omega arith) scope (Some typed.0) typed.1,
+  (λ later binds. chain most (suc n) later (next ∷ more) last t (typed.2 later binds) from.1
+      (λ i d low. all (suc i) d (omega (arith, low)))),
+)
+chain most n scope (Empty ∷ more) last t typed from all = absurd from
+chain most n scope (Show expr ∷ more) last t typed from all = absurd from
+
+full_bindings : (n : ℕ) (bindings : List Stmt) → BindFrom n bindings → All FullStmt bindings
+full_bindings n [] from = All-nil FullStmt
+full_bindings n (Bind name expr ∷ more) from = All-cons FullStmt (Bind name expr) more tt (full_bindings (suc n) more from.1)
+full_bindings n (Empty ∷ more) from = absurd from
+full_bindings n (Show expr ∷ more) from = absurd from
+
+full_last : (stmt : Stmt) → FullStmt stmt → FullStmt (last_of stmt)
+full_last Empty full = tt
+full_last (Bind name expr) full = tt
+full_last (Show expr) full = outermost_full expr full
+
+all_full : (stmt : Stmt) → FullStmt stmt → All FullStmt (flat stmt)
+all_full stmt full =
+    subst (All FullStmt) (sym (flat_ends stmt))
+    (All-append FullStmt (bindings_of stmt) (last_of stmt ∷ []) (full_bindings 1 (bindings_of stmt) (bindings_are_numbered stmt))
+    (All-cons FullStmt (last_of stmt) [] (full_last stmt full) (All-nil FullStmt)))
+
+full_spelled : (bytes : List ℕ) (stmt : Stmt) → BytesSpell bytes stmt → FullStmt stmt
+full_spelled bytes Empty spelled = tt
+full_spelled bytes (Bind name expr) spelled = tt
+full_spelled bytes (Show expr) spelled = spelled_full expr spelled.tokens (lexed bytes spelled.tokens spelled.cut) spelled.spelled
+
+pub no_dollar : (bytes : List ℕ) (stmt : Stmt) → BytesSpell bytes stmt → HasNoDollar stmt
+no_dollar bytes stmt spelled = bytes_spell_no_dollar bytes stmt spelled.tokens spelled.cut spelled.spelled
+
+-- the simple statements of a statement that was read and may be worked out
+pub evaluable : (before : Moment) (bytes : List ℕ) (stmt : Stmt) (statements : List Stmt) → IsRead before bytes stmt
+    → IsWorkable (scope_of before.state) before.at stmt → statements ≡ flat stmt → length statements ≤ 2 ^ 64
+    → AreEvaluable (scope_of before.state) statements
+evaluable before bytes stmt statements read able is short =
+    let most = length (statement_declared (scope_of before.state) stmt) in
+    let typed = flat_is_typed (scope_of before.state) stmt able.typed.0 (no_dollar bytes stmt read.spelled).inside
+    (subst (λ (s : List Stmt). length s ≤ 2 ^ 64) is short) able.typed.1 in
+    let supported = parts_kept is_later (λ n. refl) stmt read.supported in
+    let literals = literals_kept IsWellFormedLiteral stmt read.sound in
+    let simple = flat_is_simple stmt in
+    let full = all_full stmt (full_spelled bytes stmt read.spelled) in
+    let each : All (MayBe most) (flat stmt) = λ i d low.
+    may_be most (get_or (flat stmt) i d) able.narrow (full i d low) (supported i d low) (literals i d low) (simple i d low) in
+    subst (AreEvaluable (scope_of before.state)) (sym (is ∙ flat_ends stmt))
+    (chain most 1 (scope_of before.state) (bindings_of stmt) (last_of stmt) able.typed.0
+    (subst (λ (s : List Stmt). AreTyped most (scope_of before.state) s able.typed.0) (flat_ends stmt) typed) (bindings_are_numbered stmt)
+    (subst (All (MayBe most)) (flat_ends stmt) each))
+
+-- ---- one simple statement alone
+pub one_alone : (others : List Stmt) (x only : Stmt) → others ++ x ∷ [] ≡ only ∷ [] → (others ≡ []) × (x ≡ only)
+one_alone [] x only is = (refl, let e : (x ∷ []) ≡ (only ∷ []) = is in cc)
+one_alone (y ∷ []) x only is = let e : (y ∷ x ∷ []) ≡ (only ∷ []) = is in cc
+one_alone (y ∷ z ∷ others) x only is = let e : (y ∷ z ∷ (others ++ x ∷ [])) ≡ (only ∷ []) = is in cc
+
+pub one_of : (statements : List Stmt) → length statements ≡ 1 → (only : Stmt) × (statements ≡ only ∷ [])
+one_of [] one = let no : 0 ≡ 1 = one in cc
+one_of (x ∷ []) one = (x, refl)
+one_of (x ∷ y ∷ more) one = absurd (omega (arith, one))
+
+last_binds : (stmt : Stmt) → binds_dollar stmt ≡ false → binds_dollar (last_of stmt) ≡ false
+last_binds Empty none = refl
+last_binds (Bind name expr) none = none
+last_binds (Show expr) none = refl
+
+-- it binds no name that no script has
+pub alone_plain : (before : Moment) (bytes : List ℕ) (statements : List Stmt) (only : Stmt) → IsTaken before bytes statements
+    → statements ≡ only ∷ []
+    → binds_dollar only ≡ false
+alone_plain before bytes statements only taken is =
+    let same = one_alone (bindings_of taken.stmt) (last_of taken.stmt) only (sym (flat_ends taken.stmt) ∙ sym taken.simple ∙ is) in
+    sym (ap binds_dollar same.1) ∙ last_binds taken.stmt (no_dollar bytes taken.stmt taken.read.spelled).bound

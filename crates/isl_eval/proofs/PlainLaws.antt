@@ -1,0 +1,397 @@
+-- A test and `scan` stand outermost where there is a kind, so values are worked out of nothing foreign where nothing is chosen.
+use mathlib.Core.Former.{Count}
+use Rattle.std.proofs.Common.{◌≡◌, ◌∙◌, refl, sym, ap, subst, Bool, true, false, List, [], ◌∷◌, ◌++◌, Option, Some, None}
+use Rattle.std.specs.Prelude.{◌&&◌, if◌then◌else◌}
+use Rattle.std.specs.List.{list_any}
+use Rattle.std.specs.Option.{option_and_then}
+use Rattle.std.proofs.lemmas.Bool.{false≢true, or_parts}
+use Rattle.std.proofs.lemmas.List.Folds.{list_any-append}
+use Rattle.isl_expr.specs.declared.tree.Binary.{Binary}
+use Rattle.isl_expr.specs.declared.tree.Binary.TheVariants as b
+use Rattle.isl_expr.specs.declared.tree.Prefix.{Prefix as Word}
+use Rattle.isl_expr.specs.declared.tree.Prefix.TheVariants as p
+use Rattle.isl_expr.specs.declared.tree.ValueKind.{ValueKind}
+use Rattle.isl_expr.specs.declared.tree.ValueKind.TheVariants.{Set, Map, List as Pair, Empty, Truth, Listing, Code}
+use Rattle.isl_expr.specs.declared.tree.Postfix.{Postfix, Inverse, Apply, Item}
+use Rattle.isl_expr.specs.declared.tree.Expr as e
+use Rattle.isl_expr.specs.declared.tree.Expr.{Expr, Row', Prefix', Any', Last', Post', Row_of-Expr, end_of-Expr, more_of-Expr}
+use Rattle.isl_expr.specs.declared.tree.Expr.{Row_of-Link, end_of-Link, more_of-Link, Row_of-Postfix, end_of-Postfix, more_of-Postfix}
+use Rattle.isl_kinds.specs.Lines.{Line, is_kind, fits, made, by_lines, joined, prefixed, inverse, is_set_or_map}
+use Rattle.isl_kinds.specs.Parts.{Part, parts_of, parts_in, parts_in_links, parts_in_postfixes, parts_of_postfix}
+use Rattle.isl_kinds.specs.Parts as part
+use Rattle.isl_kinds.specs.Typed.{ScopeView, by_two, kind_of, kind_in, kind_past_links, kind_past_postfixes, kind_past}
+use Rattle.isl_simple.specs.Simple.{chooses}
+use Rattle.isl_simple.specs.Unsupported.{is_later}
+use Rattle.isl_select.specs.Made.{is_foreign}
+use Rattle.isl_select.proofs.PartLaws.{quiet_both}
+use Rattle.isl_eval.specs.Tests.{is_test, ends_with_test}
+use Rattle.isl_eval.specs.Evaluated.{parts_around_test, made_parts, shown_parts}
+
+-- ---- kinds of values
+abbrev pub is_value : ValueKind → Bool
+is_value Truth = false
+is_value Listing = false
+is_value Code = false
+is_value _ = true
+
+fits_value : (given asked : ValueKind) → is_set_or_map asked ≡ true → fits given asked ≡ true → is_value given ≡ true
+fits_value Set asked which fit = refl
+fits_value Map asked which fit = refl
+fits_value Empty asked which fit = refl
+fits_value Pair asked which fit = refl
+fits_value Truth Set which fit = absurd (false≢true fit)
+fits_value Truth Map which fit = absurd (false≢true fit)
+fits_value Truth _ which fit = absurd (false≢true which)
+fits_value Listing Set which fit = absurd (false≢true fit)
+fits_value Listing Map which fit = absurd (false≢true fit)
+fits_value Listing _ which fit = absurd (false≢true which)
+fits_value Code Set which fit = absurd (false≢true fit)
+fits_value Code Map which fit = absurd (false≢true fit)
+fits_value Code _ which fit = absurd (false≢true which)
+
+-- ---- lines of two operands
+-- each line asks for sets or maps, and makes a kind with P
+abbrev OfValues : (ValueKind → Type 0) → List Line → Type 0
+OfValues P [] = Unit {0}
+OfValues P (line ∷ lines) = (is_set_or_map line.0 ≡ true) × (is_set_or_map line.1 ≡ true)
+    × ((all_empty : Bool) → P (made all_empty line.2)) × OfValues P lines
+
+abbrev IsJoined : (ValueKind → Type 0) → ValueKind → ValueKind → ValueKind → Type 0
+IsJoined P l r m = (is_value l ≡ true) × (is_value r ≡ true) × P m
+
+by_lines_of : (P : ValueKind → Type 0) (lines : List Line) (l r m : ValueKind) → OfValues P lines → by_lines lines l r ≡ Some m
+    → IsJoined P l r m
+by_lines_of P [] l r m all is = let e : None ≡ Some m = is in cc
+by_lines_of P (line ∷ lines) l r m all is = by (fits l line.0) refl (fits r line.1) refl (by_lines_of P lines l r m all.3)
+  where
+    by : (x : Bool) → fits l line.0 ≡ x → (y : Bool) → fits r line.1 ≡ y → (by_lines lines l r ≡ Some m → IsJoined P l r m)
+        → IsJoined P l r m
+    by true p true q later =
+        let found : ValueKind = made (is_kind l Empty && is_kind r Empty) line.2 in
+        let e : Some found ≡ Some m = sym (rw (p, q) refl) ∙ is in
+        let same : found ≡ m = cc in
+        (fits_value l line.0 all.0 p, fits_value r line.1 all.1 q, subst P same (all.2 (is_kind l Empty && is_kind r Empty)))
+    by true p false q later = later (sym (rw (p, q) refl) ∙ is)
+    by false p y q later = later (sym (rw p refl) ∙ is)
+
+-- what an operator that is supported does
+abbrev MadeBy : Binary → ValueKind → Type 0
+MadeBy operator k = (is_test operator ≡ true → k ≡ Truth) × (is_test operator ≡ false → is_foreign (part.operator operator) ≡ false)
+
+abbrev Joins : Binary → ValueKind → ValueKind → ValueKind → Type 0
+Joins operator l r m = IsJoined (MadeBy operator) l r m
+
+no_test : {A : Type 0} → false ≡ true → A
+no_test e = absurd (false≢true e)
+
+no_other : {A : Type 0} → true ≡ false → A
+no_other e = absurd (false≢true (sym e))
+
+truth_made : (all_empty : Bool) → made all_empty Truth ≡ Truth
+truth_made true = refl
+truth_made false = refl
+
+joins : (operator : Binary) (l r m : ValueKind) → is_later (part.operator operator) ≡ false → joined operator l r ≡ Some m
+    → Joins operator l r m
+joins b.Union l r m low is = by_lines_of (MadeBy b.Union) ((Set, Set, Set) ∷ (Map, Map, Map) ∷ []) l r m
+    (refl, refl, (λ e. (no_test, λ _. refl)), (refl, refl, (λ e. (no_test, λ _. refl)), tt)) is
+joins b.Difference l r m low is =
+    by_lines_of (MadeBy b.Difference) ((Set, Set, Set) ∷ (Map, Map, Map) ∷ (Map, Set, Map) ∷ []) l r m
+    (refl, refl, (λ e. (no_test, λ _. refl)), (refl, refl, (λ e. (no_test, λ _. refl)), (refl, refl, (λ e. (no_test, λ _. refl)), tt))) is
+joins b.Intersection l r m low is =
+    by_lines_of (MadeBy b.Intersection) ((Set, Set, Set) ∷ (Map, Map, Map) ∷ (Map, Set, Map) ∷ []) l r m
+    (refl, refl, (λ e. (no_test, λ _. refl)), (refl, refl, (λ e. (no_test, λ _. refl)), (refl, refl, (λ e. (no_test, λ _. refl)), tt))) is
+joins b.Equal l r m low is = by_lines_of (MadeBy b.Equal) ((Set, Set, Truth) ∷ (Map, Map, Truth) ∷ []) l r m
+    (refl, refl, (λ e. ((λ _. truth_made e), no_other)), (refl, refl, (λ e. ((λ _. truth_made e), no_other)), tt)) is
+joins b.ProperSubset l r m low is = by_lines_of (MadeBy b.ProperSubset) ((Set, Set, Truth) ∷ (Map, Map, Truth) ∷ []) l r m
+    (refl, refl, (λ e. ((λ _. truth_made e), no_other)), (refl, refl, (λ e. ((λ _. truth_made e), no_other)), tt)) is
+joins b.Subset l r m low is = by_lines_of (MadeBy b.Subset) ((Set, Set, Truth) ∷ (Map, Map, Truth) ∷ []) l r m
+    (refl, refl, (λ e. ((λ _. truth_made e), no_other)), (refl, refl, (λ e. ((λ _. truth_made e), no_other)), tt)) is
+joins b.ProperSuperset l r m low is = by_lines_of (MadeBy b.ProperSuperset) ((Set, Set, Truth) ∷ (Map, Map, Truth) ∷ []) l r m
+    (refl, refl, (λ e. ((λ _. truth_made e), no_other)), (refl, refl, (λ e. ((λ _. truth_made e), no_other)), tt)) is
+joins b.Superset l r m low is = by_lines_of (MadeBy b.Superset) ((Set, Set, Truth) ∷ (Map, Map, Truth) ∷ []) l r m
+    (refl, refl, (λ e. ((λ _. truth_made e), no_other)), (refl, refl, (λ e. ((λ _. truth_made e), no_other)), tt)) is
+joins _ l r m low is = absurd (false≢true (sym low))
+
+-- ---- lines of one operand
+scan_lists : (k m : ValueKind) → prefixed p.Scan k ≡ Some m → (is_value k ≡ true) × (is_value m ≡ false)
+scan_lists Set m is = (refl, let e : Some Listing ≡ Some m = is in let same : Listing ≡ m = cc in ap is_value (sym same))
+scan_lists Map m is = (refl, let e : Some Listing ≡ Some m = is in let same : Listing ≡ m = cc in ap is_value (sym same))
+scan_lists Empty m is = (refl, let e : Some Listing ≡ Some m = is in let same : Listing ≡ m = cc in ap is_value (sym same))
+scan_lists Pair m is = let e : None ≡ Some m = is in cc
+scan_lists Truth m is = let e : None ≡ Some m = is in cc
+scan_lists Listing m is = let e : None ≡ Some m = is in cc
+scan_lists Code m is = let e : None ≡ Some m = is in cc
+
+inverts : (k m : ValueKind) → inverse k ≡ Some m → (is_value k ≡ true) × (is_value m ≡ true)
+inverts Map m is = (refl, let e : Some Map ≡ Some m = is in let same : Map ≡ m = cc in ap is_value (sym same))
+inverts Empty m is = (refl, let e : Some Empty ≡ Some m = is in let same : Empty ≡ m = cc in ap is_value (sym same))
+inverts _ m is = let e : None ≡ Some m = is in cc
+
+-- ---- what has a kind
+abbrev IsValue : Option ValueKind → Type 0
+IsValue o = (k : ValueKind) × (o ≡ Some k) × (is_value k ≡ true)
+
+-- two operands with a kind
+abbrev Two : Binary → Option ValueKind → Option ValueKind → ValueKind → Type 0
+Two operator left right m = (l : ValueKind) × (r : ValueKind) × (left ≡ Some l) × (right ≡ Some r) × (joined operator l r ≡ Some m)
+
+two_of : (operator : Binary) (left right : Option ValueKind) (m : ValueKind) → by_two (joined operator) left right ≡ Some m
+    → Two operator left right m
+two_of operator None right m is = let e : None ≡ Some m = is in cc
+two_of operator (Some l) None m is = let e : None ≡ Some m = is in cc
+two_of operator (Some l) (Some r) m is = (l, r, refl, refl, is)
+
+-- nothing of this is unsupported, and nothing chosen
+pub record IsCalm (ps : List Part) : Type 0 where
+  pub supported : list_any is_later ps ≡ false
+  pub unchosen : list_any chooses ps ≡ false
+
+calm_left : (xs ys : List Part) → IsCalm (xs ++ ys) → IsCalm xs
+calm_left xs ys calm = record {
+  supported = (quiet_both is_later xs ys calm.supported).0;
+  unchosen =
+      (quiet_both chooses xs ys calm.unchosen).0;
+}
+
+calm_right : (xs ys : List Part) → IsCalm (xs ++ ys) → IsCalm ys
+calm_right xs ys calm = record {
+  supported = (quiet_both is_later xs ys calm.supported).1;
+  unchosen =
+      (quiet_both chooses xs ys calm.unchosen).1;
+}
+
+calm_head : (part : Part) (ps : List Part) → IsCalm (part ∷ ps) → (is_later part ≡ false) × (chooses part ≡ false)
+calm_head part ps calm =
+    ((or_parts (is_later part) (list_any is_later ps) calm.supported).0, (or_parts (chooses part) (list_any chooses ps) calm.unchosen).0)
+
+calm_tail : (part : Part) (ps : List Part) → IsCalm (part ∷ ps) → IsCalm ps
+calm_tail part ps calm = record {
+  supported = (or_parts (is_later part) (list_any is_later ps) calm.supported).1;
+  unchosen = (or_parts (chooses part) (list_any chooses ps) calm.unchosen).1;
+}
+
+none_both : (xs ys : List Part) → list_any is_foreign xs ≡ false → list_any is_foreign ys ≡ false → list_any is_foreign (xs ++ ys) ≡ false
+none_both xs ys one two = list_any-append is_foreign xs ys ∙ rw (one, two) refl
+
+none_link : (sign : Part) (xs ys : List Part) → is_foreign sign ≡ false → list_any is_foreign xs ≡ false → list_any is_foreign ys ≡ false
+    → list_any is_foreign (sign ∷ (xs ++ ys)) ≡ false
+none_link sign xs ys own one two = rw (own, none_both xs ys one two) refl
+
+abbrev around_test : {m : _} → Row_of-Link m → List Part
+around_test row = if ends_with_test row then parts_around_test row else parts_in_links row
+
+-- a row with a test at its end tells a truth
+row_truth : (m : Count) (scope : ScopeView) (left : Option ValueKind) (row : Row_of-Link m) (k : ValueKind)
+    → kind_past_links scope left row ≡ Some k
+    → IsCalm (parts_in_links row) → ends_with_test row ≡ true → k ≡ Truth
+row_truth m scope left end_of-Link k is calm test = absurd (false≢true test)
+row_truth m scope left (more_of-Link operator operand end_of-Link) k is calm test =
+    let two = two_of operator left (kind_of scope operand) k is in
+    (joins operator two.0 two.1 k (calm_head (part.operator operator) (parts_of operand ++ []) calm).0 two.4).2.0 test
+row_truth m scope left (more_of-Link operator operand (more_of-Link next other rest)) k is calm test =
+    row_truth _ scope (by_two (joined operator) left (kind_of scope operand)) (more_of-Link next other rest) k is
+    (calm_right (parts_of operand) (parts_in_links (more_of-Link next other rest))
+    (calm_tail (part.operator operator) (parts_of operand ++ parts_in_links (more_of-Link next other rest)) calm)) test
+
+not_truth : (k : ValueKind) → is_value k ≡ true → ¬ (k ≡ Truth)
+not_truth k value is = false≢true (sym (ap is_value is) ∙ value)
+
+inverted : (left : Option ValueKind) (m : ValueKind) → option_and_then inverse left ≡ Some m → IsValue left
+inverted None m is = let f : None ≡ Some m = is in cc
+inverted (Some k) m is = (k, refl, (inverts k m is).0)
+
+no_word : (word : Word) (operand : Option ValueKind) (k : ValueKind) → (is_later (part.prefix word) ≡ false)
+    × (chooses (part.prefix word) ≡ false)
+    → option_and_then (prefixed word) operand ≡ Some k → ¬ (is_value k ≡ true)
+no_word p.Scan None k own is value = let f : None ≡ Some k = is in cc
+no_word p.Scan (Some m) k own is value = false≢true (sym (scan_lists m k is).1 ∙ value)
+no_word p.Sample operand k own is value = false≢true (sym own.1)
+no_word _ operand k own is value = false≢true (sym own.0)
+
+-- what is on the left of a row of operators
+abbrev LeftIs : {m : _} → Option ValueKind → Row_of-Link m → Type 0
+LeftIs left end_of-Link = Unit {0}
+LeftIs left (more_of-Link operator operand rest) = IsValue left
+
+left_value : (m : Count) (scope : ScopeView) (left : Option ValueKind) (row : Row_of-Link m) (k : ValueKind)
+    → kind_past_links scope left row ≡ Some k
+    → is_value k ≡ true → LeftIs left row → IsValue left
+left_value m scope left end_of-Link k is value given = (k, is, value)
+left_value m scope left (more_of-Link operator operand rest) k is value given = given
+
+-- a row of the kind of a value has no test at its end
+without_test : (m : Count) (scope : ScopeView) (left : Option ValueKind) (row : Row_of-Link m) (k : ValueKind)
+    → kind_past_links scope left row ≡ Some k
+    → is_value k ≡ true → IsCalm (parts_in_links row) → list_any is_foreign (around_test row) ≡ false
+    → list_any is_foreign (parts_in_links row) ≡ false
+without_test m scope left row k is value calm none = by (ends_with_test row) refl (row_truth m scope left row k is calm)
+  where
+    by : (ends : Bool) → ends_with_test row ≡ ends → (ends_with_test row ≡ true → k ≡ Truth)
+        → list_any is_foreign (parts_in_links row) ≡ false
+    by true q truth = absurd (not_truth k value (truth q))
+    by false q truth = sym (ap (λ (x : Bool). list_any is_foreign (if x then parts_around_test row else parts_in_links row)) q) ∙ none
+
+sign_plain : (operator : Binary) (made : ValueKind) → is_value made ≡ true → MadeBy operator made
+    → is_foreign (part.operator operator) ≡ false
+sign_plain operator made value each = by (is_test operator) refl
+  where
+    by : (test : Bool) → is_test operator ≡ test → is_foreign (part.operator operator) ≡ false
+    by true q = absurd (not_truth made value (each.0 q))
+    by false q = each.1 q
+
+last_plain : (operator : Binary) (operand : Expr) (made : ValueKind) → MadeBy operator made → list_any is_foreign (parts_of operand) ≡ false
+    → list_any is_foreign (if is_test operator then parts_of operand else part.operator operator ∷ (parts_of operand ++ [])) ≡ false
+last_plain operator operand made each plain = by (is_test operator) refl
+  where
+    by : (test : Bool) → is_test operator ≡ test
+        → list_any is_foreign (if test then parts_of operand else part.operator operator ∷ (parts_of operand ++ [])) ≡ false
+    by true q = plain
+    by false q = none_link (part.operator operator) (parts_of operand) [] (each.1 q) plain refl
+
+more_plain : (sign : Part) (xs ys zs : List Part) (ends : Bool) → is_foreign sign ≡ false → list_any is_foreign xs ≡ false
+    → list_any is_foreign (if ends then ys else zs) ≡ false
+    → list_any is_foreign (if ends then sign ∷ (xs ++ ys) else sign ∷ (xs ++ zs)) ≡ false
+more_plain sign xs ys zs true own one two = none_link sign xs ys own one two
+more_plain sign xs ys zs false own one two = none_link sign xs zs own one two
+
+mutual
+  -- no test and no word stands in what has the kind of a value
+  pub value_plain : (scope : ScopeView) (expr : Expr) (k : ValueKind) → kind_of scope expr ≡ Some k → is_value k ≡ true
+      → IsCalm (parts_of expr)
+      → list_any is_foreign (parts_of expr) ≡ false
+  value_plain scope (e.Name name) k is value calm = refl
+  value_plain scope (e.Literal literal) k is value calm = refl
+  value_plain scope (Row' s first t links) k is value calm =
+      let behind = calm_right (parts_in first) (parts_in_links links) calm in
+      let fine = row_fine _ scope (kind_in scope first) links k is behind in
+      let left = left_value _ scope (kind_in scope first) links k is value fine.0 in
+      none_both (parts_in first) (parts_in_links links)
+      (in_plain _ scope first left.0 left.1 left.2 (calm_left (parts_in first) (parts_in_links links) calm))
+      (without_test _ scope (kind_in scope first) links k is value behind fine.1)
+  value_plain scope (Prefix' word s operand) k is value calm =
+      absurd (no_word word (kind_in scope operand) k (calm_head (part.prefix word) (parts_in operand) calm) is value)
+  value_plain scope (Any' r source s sink t schedule) k is value calm = absurd (false≢true (sym calm.supported))
+  value_plain scope (Last' r source s sink t schedule) k is value calm = absurd (false≢true (sym calm.supported))
+  value_plain scope (Post' s operand t postfixes) k is value calm =
+      let post = post_fine _ scope (kind_in scope operand) postfixes k is value
+      (calm_right (parts_in operand) (parts_in_postfixes postfixes) calm) in
+      none_both (parts_in operand) (parts_in_postfixes postfixes)
+      (in_plain _ scope operand post.0.0 post.0.1 post.0.2 (calm_left (parts_in operand) (parts_in_postfixes postfixes) calm)) post.1
+
+  in_plain : (m : Count) (scope : ScopeView) (row : Row_of-Expr m) (k : ValueKind) → kind_in scope row ≡ Some k → is_value k ≡ true
+      → IsCalm (parts_in row)
+      → list_any is_foreign (parts_in row) ≡ false
+  in_plain m scope end_of-Expr k is value calm = refl
+  in_plain m scope (more_of-Expr expr rest) k is value calm = value_plain scope expr k is value calm
+
+  -- around a test at the end of a row, and everywhere in another row
+  row_fine : (m : Count) (scope : ScopeView) (left : Option ValueKind) (row : Row_of-Link m) (k : ValueKind)
+      → kind_past_links scope left row ≡ Some k
+      → IsCalm (parts_in_links row) → LeftIs left row × (list_any is_foreign (around_test row) ≡ false)
+  row_fine m scope left end_of-Link k is calm = (tt, refl)
+  row_fine m scope left (more_of-Link operator operand end_of-Link) k is calm =
+      let two = two_of operator left (kind_of scope operand) k is in
+      let own = calm_head (part.operator operator) (parts_of operand ++ []) calm in
+      let kinds = joins operator two.0 two.1 k own.0 two.4 in
+      let inner = calm_left (parts_of operand) [] (calm_tail (part.operator operator) (parts_of operand ++ []) calm) in
+      ((two.0, two.2, kinds.0), last_plain operator operand k kinds.2 (value_plain scope operand two.1 two.3 kinds.1 inner))
+  row_fine m scope left (more_of-Link operator operand (more_of-Link next other rest)) k is calm =
+      let row = more_of-Link next other rest in
+      let later = calm_tail (part.operator operator) (parts_of operand ++ parts_in_links row) calm in
+      let fine = row_fine _ scope (by_two (joined operator) left (kind_of scope operand)) (more_of-Link next other rest) k is
+      (calm_right (parts_of operand) (parts_in_links row) later) in
+      let two = two_of operator left (kind_of scope operand) fine.0.0 fine.0.1 in
+      let own = calm_head (part.operator operator) (parts_of operand ++ parts_in_links row) calm in
+      let kinds = joins operator two.0 two.1 fine.0.0 own.0 two.4 in
+      let plain = value_plain scope operand two.1 two.3 kinds.1 (calm_left (parts_of operand) (parts_in_links row) later) in (
+        (two.0, two.2, kinds.0),
+        more_plain (part.operator operator) (parts_of operand) (parts_around_test row) (parts_in_links row) (ends_with_test row)
+            (sign_plain operator fine.0.0 fine.0.2 kinds.2) plain fine.1,
+      )
+
+  post_fine : (m : Count) (scope : ScopeView) (left : Option ValueKind) (row : Row_of-Postfix m) (k : ValueKind)
+      → kind_past_postfixes scope left row ≡ Some k
+      → is_value k ≡ true → IsCalm (parts_in_postfixes row) → IsValue left × (list_any is_foreign (parts_in_postfixes row) ≡ false)
+  post_fine m scope left end_of-Postfix k is value calm = ((k, is, value), refl)
+  post_fine m scope left (more_of-Postfix Inverse rest) k is value calm =
+      let fine = post_fine _ scope (kind_past scope left Inverse) rest k is value
+      (calm_right (part.inverse ∷ []) (parts_in_postfixes rest) calm) in
+      (inverted left fine.0.0 fine.0.1, fine.1)
+  post_fine m scope left (more_of-Postfix (Apply argument) rest) k is value calm = absurd (false≢true (sym calm.supported))
+  post_fine m scope left (more_of-Postfix (Item number) rest) k is value calm = absurd (false≢true (sym calm.supported))
+
+-- `^-1` makes a value
+post_value : (m : Count) (scope : ScopeView) (left : Option ValueKind) (postfix : Postfix) (rest : Row_of-Postfix m) (k : ValueKind)
+    → kind_past_postfixes scope (kind_past scope left postfix) rest ≡ Some k → IsCalm (parts_of_postfix postfix ++ parts_in_postfixes rest)
+    → is_value k ≡ true
+post_value m scope None Inverse end_of-Postfix k is calm = let f : None ≡ Some k = is in cc
+post_value m scope (Some l) Inverse end_of-Postfix k is calm = (inverts l k is).1
+post_value m scope left Inverse (more_of-Postfix next rest) k is calm =
+    post_value _ scope (kind_past scope left Inverse) next rest k is
+    (calm_right (part.inverse ∷ []) (parts_in_postfixes (more_of-Postfix next rest)) calm)
+post_value m scope left (Apply argument) rest k is calm = absurd (false≢true (sym calm.supported))
+post_value m scope left (Item number) rest k is calm = absurd (false≢true (sym calm.supported))
+
+-- ---- statements
+
+-- a row of one operand, or an operand that nothing follows
+abbrev pub is_end : {m : _} → Row_of-Link m → Bool
+is_end end_of-Link = true
+is_end (more_of-Link operator operand rest) = false
+
+abbrev pub is_bare : {m : _} → Row_of-Postfix m → Bool
+is_bare end_of-Postfix = true
+is_bare (more_of-Postfix postfix rest) = false
+
+abbrev pub is_lone : Expr → Bool
+is_lone (Row' s first t links) = is_end links
+is_lone (Post' s operand t postfixes) = is_bare postfixes
+is_lone _ = false
+
+made_quiet : (test : Part → Bool) (expr : Expr) → list_any test (parts_of expr) ≡ false → list_any test (made_parts expr) ≡ false
+made_quiet test (Prefix' p.Sample s operand) none = (or_parts (test (part.prefix p.Sample)) (list_any test (parts_in operand)) none).1
+made_quiet test _ none = none
+
+-- what is bound where nothing is chosen
+pub bound_plain : (scope : ScopeView) (expr : Expr) (k : ValueKind) → kind_of scope expr ≡ Some k → is_value k ≡ true
+    → IsCalm (parts_of expr)
+    → list_any is_foreign (made_parts expr) ≡ false
+bound_plain scope expr k is value calm = made_quiet is_foreign expr (value_plain scope expr k is value calm)
+
+listed_plain : (m : Count) (scope : ScopeView) (operand : Row_of-Expr m) (o : Option ValueKind) → kind_in scope operand ≡ o
+    → (k : ValueKind)
+    → option_and_then (prefixed p.Scan) o ≡ Some k → IsCalm (parts_in operand) → list_any is_foreign (parts_in operand) ≡ false
+listed_plain m scope operand None there k is calm = let f : None ≡ Some k = is in cc
+listed_plain m scope operand (Some l) there k is calm = in_plain _ scope operand l there (scan_lists l k is).0 calm
+
+full_left : (m : Count) (left : Option ValueKind) (row : Row_of-Link m) → is_end row ≡ false → LeftIs left row → IsValue left
+full_left m left end_of-Link full given = absurd (false≢true (sym full))
+full_left m left (more_of-Link operator operand rest) full given = given
+
+full_post : (m : Count) (scope : ScopeView) (left : Option ValueKind) (row : Row_of-Postfix m) (k : ValueKind)
+    → kind_past_postfixes scope left row ≡ Some k
+    → is_bare row ≡ false → IsCalm (parts_in_postfixes row) → is_value k ≡ true
+full_post m scope left end_of-Postfix k is full calm = absurd (false≢true (sym full))
+full_post m scope left (more_of-Postfix postfix rest) k is full calm = post_value _ scope left postfix rest k is calm
+
+-- what is shown where nothing is chosen
+pub shown_plain : (scope : ScopeView) (expr : Expr) (k : ValueKind) → kind_of scope expr ≡ Some k → is_lone expr ≡ false
+    → IsCalm (parts_of expr)
+    → list_any is_foreign (shown_parts expr) ≡ false
+shown_plain scope (e.Name name) k is full calm = refl
+shown_plain scope (e.Literal literal) k is full calm = refl
+shown_plain scope (Row' s first t links) k is full calm =
+    let fine = row_fine _ scope (kind_in scope first) links k is (calm_right (parts_in first) (parts_in_links links) calm) in
+    let left = full_left _ (kind_in scope first) links full fine.0 in
+    none_both (parts_in first) (around_test links)
+    (in_plain _ scope first left.0 left.1 left.2 (calm_left (parts_in first) (parts_in_links links) calm)) fine.1
+shown_plain scope (Prefix' p.Scan s operand) k is full calm = listed_plain _ scope operand (kind_in scope operand) refl k is
+    (calm_tail (part.prefix p.Scan) (parts_in operand) calm)
+shown_plain scope (Prefix' p.Sample s operand) k is full calm = absurd (false≢true (sym calm.unchosen))
+shown_plain scope (Prefix' _ s operand) k is full calm = absurd (false≢true (sym calm.supported))
+shown_plain scope (Any' r source s sink t schedule) k is full calm = absurd (false≢true (sym calm.supported))
+shown_plain scope (Last' r source s sink t schedule) k is full calm = absurd (false≢true (sym calm.supported))
+shown_plain scope (Post' s operand t postfixes) k is full calm =
+    value_plain scope (Post' s operand t postfixes) k is
+    (full_post _ scope (kind_in scope operand) postfixes k is full (calm_right (parts_in operand) (parts_in_postfixes postfixes) calm)) calm

@@ -1,0 +1,186 @@
+-- Which causes a statement has that was read, and what that refuses.
+use Rattle.std.proofs.Common.{◌≡◌, ◌≢◌, ◌∙◌, ◌⊎◌, inl, inr, refl, sym, ap, subst, ◌<◌, ◌≤◌, ℕ}
+use Rattle.std.proofs.Common.{Bool, true, false, List, [], ◌∷◌, ◌++◌, length, Option, Result, Ok, Err, arith}
+use Rattle.std.specs.List.{list_any}
+use Rattle.std.proofs.lemmas.Bool.{false_from_ne_true}
+use Rattle.isl_meter.specs.Gauge.{Gauge}
+use Rattle.isl_meter.proofs.CutLemmas.{IsCharged_refl}
+use Rattle.isl_space.specs.Limits.{most_parameters}
+use Rattle.isl_text.specs.declared.refusal.Refusal.{Refusal}
+use Rattle.isl_text.specs.declared.refusal.Refusal.TheVariants as r
+use Rattle.isl_expr.specs.declared.tree.Stmt.{Stmt}
+use Rattle.isl_kinds.specs.Typed.{TypeView, type_of_statement}
+use Rattle.isl_kinds.specs.Parts.{parts_of_statement}
+use Rattle.isl_simple.specs.Simple.{statement_declared}
+use Rattle.isl_simple.specs.Unsupported.{mixes_kinds}
+use Rattle.isl_select.specs.Made.{uses_units}
+use Rattle.isl_select.specs.State.{Moment, scope_of}
+use Rattle.isl_eval.specs.Spelled.{BytesSpell, OfStatement}
+use Rattle.isl_eval.specs.Causes.{Cause, no_token, too_deep, no_statement, too_wide}
+use Rattle.isl_eval.specs.Causes.{wide_number, unsupported, unknown_name, wrong_kind, no_element}
+use Rattle.isl_eval.specs.Causes.{mixed_kinds, parametric, wide_join, causes, refusal_of, is_parametric}
+use Rattle.isl_eval.specs.Causes.{IsThere, FirstGives, NoneIs, IsClear, Refuses, HasWork}
+use Rattle.isl_eval.specs.Evaluated.{IsTyped}
+use Rattle.isl_eval.specs.Evaluation.{causes_of_bytes, IsRead, IsWhyNot, IsWorkable, IsWhyUnworkable}
+use Rattle.isl_eval.proofs.CauseLaws.{of_statement, is_not}
+use Rattle.isl_eval.proofs.TypeLaws.{no_type}
+
+-- ---- refusals
+module _ (before : Moment) (bytes : List ℕ) (now : Gauge) (same : now ≡ before.meter) where
+  Why : Refusal → Type 0
+  Why refusal = FirstGives (IsThere before bytes) causes refusal
+
+  -- the refusals of the table are refusals by it
+  by_cause : (cause : Cause) → Why (refusal_of cause) → Refuses before bytes now (refusal_of cause)
+  unfolding Why
+  by_cause no_token h = (h, same)
+  by_cause too_deep h = (h, same)
+  by_cause no_statement h = (h, same)
+  by_cause too_wide h = (h, same)
+  by_cause wide_number h = (h, same)
+  by_cause unsupported h = (h, same)
+  by_cause unknown_name h = (h, same)
+  by_cause wrong_kind h = (h, same)
+  by_cause no_element h = (h, same)
+  by_cause mixed_kinds h = (h, same)
+  by_cause parametric h = (h, same)
+  by_cause wide_join h = (h, same)
+
+  -- some cause of these gives the refusal
+  given : (list : List Cause) (refusal : Refusal) → FirstGives (IsThere before bytes) list refusal → (cause : Cause)
+      × (refusal ≡ refusal_of cause)
+  given [] refusal h = absurd h
+  given (cause ∷ later) refusal (inl h) = (cause, h.1)
+  given (cause ∷ later) refusal (inr h) = given later refusal h.1
+
+  pub first_refuses : (refusal : Refusal) → FirstGives (IsThere before bytes) causes refusal → Refuses before bytes now refusal
+  unfolding Why
+  first_refuses refusal h =
+      let cause = given causes refusal h in
+      subst (Refuses before bytes now) (sym cause.1) (by_cause cause.0 (subst Why cause.1 h))
+
+  pub memory_refuses : (refusal : Refusal) → refusal ≡ r.NoMemory → Refuses before bytes now refusal
+  memory_refuses refusal is = subst (Refuses before bytes now) (sym is) (IsCharged_refl before.meter now same, λ none. same)
+
+pub unread_refuses : (before : Moment) (bytes : List ℕ) (refusal : Refusal) → IsWhyNot before bytes refusal
+    → Refuses before bytes before.meter refusal
+unread_refuses before bytes refusal (inl is) = memory_refuses before bytes before.meter refl refusal is
+unread_refuses before bytes refusal (inr h) = first_refuses before bytes before.meter refl refusal h
+
+-- ---- causes that are not there
+none_both : (There : Cause → Type 0) (front back : List Cause) → NoneIs There front → NoneIs There back → NoneIs There (front ++ back)
+none_both There [] back none later = later
+none_both There (cause ∷ front) back none later = (none.0, none_both There front back none.1 later)
+
+first_past : (There : Cause → Type 0) (front back : List Cause) (refusal : Refusal) → NoneIs There front → FirstGives There back refusal
+    → FirstGives There (front ++ back) refusal
+first_past There [] back refusal none later = later
+first_past There (cause ∷ front) back refusal none later = inr (none.0, first_past There front back refusal none.1 later)
+
+-- ---- work
+pub no_work : (bytes : List ℕ) (stmt : Stmt) → BytesSpell bytes stmt → ¬ OfStatement bytes HasWork
+    → list_any uses_units (parts_of_statement stmt) ≡ false
+no_work bytes stmt spelled none = false_from_ne_true (list_any uses_units (parts_of_statement stmt)) (λ work. none (stmt, spelled, work))
+
+pub has_work : (bytes : List ℕ) (stmt : Stmt) → BytesSpell bytes stmt → ¬ (list_any uses_units (parts_of_statement stmt) ≡ false)
+    → OfStatement bytes HasWork
+has_work bytes stmt spelled some = by (list_any uses_units (parts_of_statement stmt)) refl
+  where
+    by : (b : Bool) → list_any uses_units (parts_of_statement stmt) ≡ b → OfStatement bytes HasWork
+    by true works = (stmt, spelled, works)
+    by false none = absurd (some none)
+
+-- ---- a statement that was read
+module _ (before : Moment) (bytes : List ℕ) (stmt : Stmt) (read : IsRead before bytes stmt) where
+  -- it has one type
+  other_type : (a b : Result (Option TypeView) Refusal) → type_of_statement (scope_of before.state) stmt ≡ a → a ≢ b
+      → ¬ OfStatement bytes (λ stmt. type_of_statement (scope_of before.state) stmt ≡ b)
+  other_type a b is apart there =
+      apart (sym is ∙ of_statement bytes stmt (λ stmt. type_of_statement (scope_of before.state) stmt ≡ b) read.spelled there)
+
+  module _ (typed : IsTyped (scope_of before.state) stmt) where
+    apart : (refusal : Refusal) → Ok typed.0 ≢ Err refusal
+    apart refusal e = cc
+
+    typed_none : NoneIs (IsThere before bytes) (unknown_name ∷ wrong_kind ∷ no_element ∷ [])
+    typed_none = (
+      other_type (Ok typed.0) (Err r.UnknownName) typed.1 (apart r.UnknownName),
+      (
+        other_type (Ok typed.0) (Err r.WrongKind) typed.1 (apart r.WrongKind),
+        (other_type (Ok typed.0) (Err r.NoElement) typed.1 (apart r.NoElement), tt),
+      ),
+    )
+
+  unmixed_none : mixes_kinds (scope_of before.state) stmt ≡ false → ¬ IsThere before bytes mixed_kinds
+  unmixed_none unmixed there =
+      is_not (mixes_kinds (scope_of before.state) stmt) unmixed
+      (of_statement bytes stmt (λ stmt. mixes_kinds (scope_of before.state) stmt ≡ true) read.spelled there)
+
+  given_none : is_parametric (scope_of before.state) before.at stmt ≡ false → ¬ IsThere before bytes parametric
+  given_none given there =
+      is_not (is_parametric (scope_of before.state) before.at stmt) given
+      (of_statement bytes stmt (λ stmt. is_parametric (scope_of before.state) before.at stmt ≡ true) read.spelled there)
+
+  narrow_none : length (statement_declared (scope_of before.state) stmt) ≤ most_parameters → ¬ IsThere before bytes wide_join
+  narrow_none narrow there =
+      let wide = of_statement bytes stmt (λ stmt. most_parameters < length (statement_declared (scope_of before.state) stmt)) read.spelled
+      there in
+      absurd (omega (arith, narrow, wide))
+
+  pub clear : IsWorkable (scope_of before.state) before.at stmt → IsClear before bytes
+  clear able =
+      none_both (IsThere before bytes) causes_of_bytes
+      (unknown_name ∷ wrong_kind ∷ no_element ∷ mixed_kinds ∷ parametric ∷ wide_join ∷ []) read.none
+      (none_both (IsThere before bytes) (unknown_name ∷ wrong_kind ∷ no_element ∷ []) (mixed_kinds ∷ parametric ∷ wide_join ∷ [])
+      (typed_none able.typed)
+      (unmixed_none able.unmixed, (given_none able.given, (narrow_none able.narrow, tt))))
+
+  -- it has no type
+  untyped : (refusal : Refusal) → type_of_statement (scope_of before.state) stmt ≡ Err refusal
+      → ((refusal ≡ r.UnknownName) ⊎ ((refusal ≡ r.WrongKind) ⊎ (refusal ≡ r.NoElement)))
+      → FirstGives (IsThere before bytes) (unknown_name ∷ wrong_kind ∷ no_element ∷ mixed_kinds ∷ parametric ∷ wide_join ∷ []) refusal
+  untyped refusal is (inl e) = inl ((stmt, read.spelled, is ∙ ap Err e), e)
+  untyped refusal is (inr (inl e)) =
+      inr (
+        other_type (Err refusal) (Err r.UnknownName) is (λ f. let g : r.WrongKind ≡ r.UnknownName = sym e ∙ (let h = f in cc) in cc),
+        inl ((stmt, read.spelled, is ∙ ap Err e), e),
+      )
+  untyped refusal is (inr (inr e)) =
+      inr (
+        other_type (Err refusal) (Err r.UnknownName) is (λ f. let g : r.NoElement ≡ r.UnknownName = sym e ∙ (let h = f in cc) in cc),
+        inr (
+          other_type (Err refusal) (Err r.WrongKind) is (λ f. let g : r.NoElement ≡ r.WrongKind = sym e ∙ (let h = f in cc) in cc),
+          inl
+              ((stmt, read.spelled, is ∙ ap Err e), e),
+        ),
+      )
+
+  -- what is bound has a cause
+  bound_cause : (refusal : Refusal) → FirstGives (IsThere before bytes)
+      (unknown_name ∷ wrong_kind ∷ no_element ∷ mixed_kinds ∷ parametric ∷ wide_join ∷ []) refusal
+      → FirstGives (IsThere before bytes) causes refusal
+  bound_cause refusal first =
+      first_past (IsThere before bytes) causes_of_bytes
+      (unknown_name ∷ wrong_kind ∷ no_element ∷ mixed_kinds ∷ parametric ∷ wide_join ∷ []) refusal read.none first
+
+  typed_cause : (refusal : Refusal) → IsTyped (scope_of before.state) stmt
+      → FirstGives (IsThere before bytes) (mixed_kinds ∷ parametric ∷ wide_join ∷ []) refusal
+      → FirstGives (IsThere before bytes) causes refusal
+  typed_cause refusal typed first =
+      bound_cause refusal (first_past (IsThere before bytes) (unknown_name ∷ wrong_kind ∷ no_element ∷ [])
+      (mixed_kinds ∷ parametric ∷ wide_join ∷ []) refusal (typed_none typed) first)
+
+  pub unworkable_refuses : (refusal : Refusal) → IsWhyUnworkable (scope_of before.state) before.at stmt refusal
+      → Refuses before bytes before.meter refusal
+  unworkable_refuses refusal (inl h) =
+      first_refuses before bytes before.meter refl refusal
+      (bound_cause refusal (untyped refusal h (no_type (scope_of before.state) stmt refusal h)))
+  unworkable_refuses refusal (inr (inl h)) =
+      first_refuses before bytes before.meter refl refusal (typed_cause refusal h.0 (inl ((stmt, read.spelled, h.1), h.2)))
+  unworkable_refuses refusal (inr (inr (inl h))) =
+      first_refuses before bytes before.meter refl refusal
+      (typed_cause refusal h.0 (inr (unmixed_none h.1, inl ((stmt, read.spelled, h.2), h.3))))
+  unworkable_refuses refusal (inr (inr (inr (inl h)))) =
+      first_refuses before bytes before.meter refl refusal
+      (typed_cause refusal h.0 (inr (unmixed_none h.1, inr (given_none h.2, inl ((stmt, read.spelled, h.3), h.4)))))
+  unworkable_refuses refusal (inr (inr (inr (inr h)))) = memory_refuses before bytes before.meter refl refusal h

@@ -1,0 +1,307 @@
+-- Rows with a test at their end, at the constructors of the code.
+use mathlib.Core.Former.{Count}
+use Rattle.std.proofs.Common.{◌≡◌, ◌∙◌, ◌↔◌, ◌≤◌, refl, sym, ap, ap₂, subst, arith}
+use Rattle.std.proofs.Common.{Bool, true, false, List, [], ◌∷◌, ◌++◌, length, cond, Result}
+use Rattle.std.specs.Prelude.{unsigned_abs, IsTrue, IfOk, if◌then◌else◌, not, ◌||◌, filter}
+use Rattle.std.specs.List.{list_any}
+use Rattle.std.specs.Str.{bytes_eq}
+use Rattle.std.specs.Cmp.Lexicographic.{nat_list_eq_equiv}
+use Rattle.std.proofs.lemmas.Bool.{or_parts, false≢true}
+use Rattle.std.proofs.lemmas.List.Folds.{list_any-append}
+use Rattle.std.proofs.lemmas.Map.Made.{length-le_from_is_member, IsDistinct-from_AllPairs}
+use Rattle.std.proofs.lemmas.Slice.Eq.{bytes_eq-Decides}
+use Rattle.isl_meter.specs.Gauge.{Gauge, limit_of, IsCharged, IsCutBy}
+use Rattle.isl_meter.specs.declared.Cut.{Cut}
+use Rattle.isl_meter.proofs.CutLemmas.{IsCutBy-after}
+use Rattle.isl_space.specs.Limits.{most_parameters}
+use Rattle.isl_space.specs.Name.{Name}
+use Rattle.isl_space.specs.Names.{AreDistinct, is_among, joined}
+use Rattle.isl_space.proofs.NamesLaws.{joined_distinct}
+use Rattle.isl_union.specs.KeptValue.{KeptValue, Has, IsKeptValue}
+use Rattle.isl_text.specs.declared.refusal.Refusal.{Refusal}
+use Rattle.isl_space.specs.Element.{Element}
+use Rattle.isl_space.specs.Valuation.{Valuation}
+use Rattle.isl_expr.specs.declared.tree.Binary.{Binary}
+use Rattle.isl_expr.specs.declared.tree.Binary.TheVariants as b
+use Rattle.isl_expr.specs.declared.tree.Link.{Link}
+use Rattle.isl_expr.specs.declared.tree.Expr.{Expr, Row, Row_of-Link, end_of-Link}
+use Rattle.isl_expr.specs.declared.tree.Expr.{more_of-Link, items-the_row-Link, items_hidden-the_row-Link-1}
+use Rattle.isl_expr.specs.declared.tree.Expr.TheBlock.{hidden-the_row-Expr-0, hidden-the_row-Link-1}
+use Rattle.isl_kinds.specs.Parts.{Part, parts_of, parts_of_links, parts_in_links}
+use Rattle.isl_kinds.specs.Parts as part
+use Rattle.isl_kinds.specs.Typed.{ScopeView, declared_of, declared_of_row}
+use Rattle.isl_kinds.proofs.PartLaws.{parts_of-Row, any_in_link}
+use Rattle.isl_kinds.proofs.DeclaredLaws.{other_is_there}
+use Rattle.isl_select.specs.State.{StateView, Moment, HasNumbersUpTo}
+use Rattle.isl_select.specs.Selection.{Selects, RowSelects, JoinHas}
+use Rattle.isl_select.specs.Made.{IsWhyUnmade, refusal_of_cut}
+use Rattle.isl_select.proofs.PartLaws.{quiet_both}
+use Rattle.isl_select.proofs.NarrowLaws.{declared_distinct, joined_is}
+use Rattle.isl_select.proofs.RowLaws.{same_row, same_trans}
+use Rattle.isl_select.proofs.ValueLaws.{numbers_later}
+use Rattle.isl_eval.specs.Tests.{Elements, is_test, ends_with_test, IsPartOf, TestHolds, HoldsPastLinks}
+use Rattle.isl_eval.specs.Machine.{Answer, Shows, ShowsRow, ShowsValue, told}
+use Rattle.isl_eval.specs.Evaluated.{shown_parts, parts_around_test}
+use Rattle.isl_eval.specs.Evaluation.{IsReadyTest, past_row}
+use Rattle.isl_eval.specs.Evaluation.{ends_with_test as ends}
+
+-- ---- the same of lists
+
+abbrev pub around : List Link → List Part
+around [] = []
+around (link ∷ []) = parts_of link.operand
+around (link ∷ next ∷ more) = part.operator link.operator ∷ (parts_of link.operand ++ around (next ∷ more))
+
+abbrev HoldsPast : StateView → Elements → List Link → Type 0
+HoldsPast state Left [] = ⊥
+HoldsPast state Left (link ∷ []) = TestHolds state link.operator Left (λ v x. Selects state link.operand v x)
+HoldsPast state Left (link ∷ next ∷ more) =
+    HoldsPast state (λ v x. JoinHas link.operator (Left v) (λ y. Selects state link.operand v y) x) (next ∷ more)
+
+pub ends_are : (m : Count) (row : Row_of-Link m) → ends_with_test row ≡ ends (items-the_row-Link m row)
+ends_are m end_of-Link = refl
+ends_are m (more_of-Link operator operand end_of-Link) = refl
+ends_are m (more_of-Link operator operand (more_of-Link next other row)) = ends_are _ (more_of-Link next other row)
+
+around_are : (m : Count) (row : Row_of-Link m) → parts_around_test row ≡ around (items-the_row-Link m row)
+around_are m end_of-Link = refl
+around_are m (more_of-Link operator operand end_of-Link) = refl
+around_are m (more_of-Link operator operand (more_of-Link next other row)) =
+    ap (λ ps. part.operator operator ∷ (parts_of operand ++ ps)) (around_are _ (more_of-Link next other row))
+
+links_are : (m : Count) (row : Row_of-Link m) → parts_in_links row ≡ parts_of_links (items-the_row-Link m row)
+links_are m end_of-Link = refl
+links_are m (more_of-Link operator operand row) = ap (λ ps. part.operator operator ∷ (parts_of operand ++ ps)) (links_are _ row)
+
+holds_are : (m : Count) (state : StateView) (Left : Elements) (row : Row_of-Link m)
+    → HoldsPastLinks state Left row ↔ HoldsPast state Left (items-the_row-Link m row)
+holds_are m state Left end_of-Link = ((λ h. h), (λ h. h))
+holds_are m state Left (more_of-Link operator operand end_of-Link) = ((λ h. h), (λ h. h))
+holds_are m state Left (more_of-Link operator operand (more_of-Link next other row)) =
+    holds_are _ state (λ v x. JoinHas operator (Left v) (λ y. Selects state operand v y) x) (more_of-Link next other row)
+
+-- ---- the last link
+
+pub ends_at : (before : List Link) (last : Link) → ends (before ++ last ∷ []) ≡ is_test last.operator
+ends_at [] last = refl
+ends_at (link ∷ []) last = refl
+ends_at (link ∷ next ∷ before) last = ends_at (next ∷ before) last
+
+around_link : (test : Part → Bool) (link : Link) (links : List Link) → test (part.operator link.operator) ≡ false
+    → list_any test (parts_of link.operand) ≡ false → list_any test (parts_of_links links) ≡ false
+    → list_any test (parts_of_links (link ∷ links)) ≡ false
+around_link test link links sign operand rest =
+    any_in_link test link links sign ∙ ap₂ (λ (a b : Bool). a || b) operand rest
+
+pub around_at : (test : Part → Bool) (before : List Link) (last : Link) → list_any test (around (before ++ last ∷ [])) ≡ false
+    → (list_any test (parts_of_links before) ≡ false) × (list_any test (parts_of last.operand) ≡ false)
+around_at test [] last none = (refl, none)
+around_at test (link ∷ []) last none =
+    let sign = or_parts (test (part.operator link.operator)) (list_any test (parts_of link.operand ++ parts_of last.operand)) none in
+    let both = quiet_both test (parts_of link.operand) (parts_of last.operand) sign.1 in
+    (around_link test link [] sign.0 both.0 refl, both.1)
+around_at test (link ∷ next ∷ before) last none =
+    let sign = or_parts (test (part.operator link.operator))
+    (list_any test (parts_of link.operand ++ around (next ∷ (before ++ last ∷ [])))) none in
+    let both = quiet_both test (parts_of link.operand) (around (next ∷ (before ++ last ∷ []))) sign.1 in
+    let rest = around_at test (next ∷ before) last both.1 in
+    (around_link test link (next ∷ before) sign.0 both.0 rest.0, rest.1)
+
+holds_at : (state : StateView) (Left : Elements) (before : List Link) (last : Link)
+    → HoldsPast state Left (before ++ last ∷ [])
+    ↔ TestHolds state last.operator (λ v x. RowSelects state v (Left v) before x) (λ v x. Selects state last.operand v x)
+holds_at state Left [] last = ((λ h. h), (λ h. h))
+holds_at state Left (link ∷ []) last = ((λ h. h), (λ h. h))
+holds_at state Left (link ∷ next ∷ before) last =
+    holds_at state (λ v x. JoinHas link.operator (Left v) (λ y. Selects state link.operand v y) x) (next ∷ before) last
+
+-- ---- rows of the code
+
+shown_of-Row : (first : Expr) (links : List Link)
+    → shown_parts (Row first links) ≡ parts_of first ++ (if ends links then around links else parts_of_links links)
+unfolding hidden-the_row-Expr-0 denote.Hole.Carrier.hidden
+shown_of-Row first links =
+    let row = hidden-the_row-Link-1 links in
+    let are = items_hidden-the_row-Link-1 links in
+    ap (λ (b : Bool). parts_of first ++ (if b then parts_around_test row else parts_in_links row)) (ends_are _ row ∙ ap ends are)
+    ∙ ap (λ (ps : List Part). parts_of first ++ (if ends links then ps else parts_in_links row)) (around_are _ row ∙ ap around are)
+    ∙ ap (λ (ps : List Part). parts_of first ++ (if ends links then around links else ps)) (links_are _ row ∙ ap parts_of_links are)
+
+-- what stands around a test
+pub test_parts : (test : Part → Bool) (first : Expr) (before : List Link) (last : Link) → is_test last.operator ≡ true
+    → list_any test (shown_parts (Row first (before ++ last ∷ []))) ≡ false
+    → (list_any test (parts_of first) ≡ false) × (list_any test (parts_of_links before) ≡ false)
+    × (list_any test (parts_of last.operand) ≡ false)
+test_parts test first before last is none =
+    let links = before ++ last ∷ [] in
+    let at_end : (if ends links then around links else parts_of_links links) ≡ around links =
+    ap (λ (b : Bool). if b then around links else parts_of_links links) (ends_at before last ∙ is) in
+    let both = quiet_both test (parts_of first) (around links)
+    (sym (ap (list_any test) (shown_of-Row first links ∙ ap (λ (ps : List Part). parts_of first ++ ps) at_end)) ∙ none) in
+    let rest = around_at test before last both.1 in
+    (both.0, rest.0, rest.1)
+
+-- a row without a test at its end is shown whole
+pub plain_row : (first : Expr) (links : List Link) → ends links ≡ false → shown_parts (Row first links) ≡ parts_of (Row first links)
+plain_row first links none =
+    shown_of-Row first links
+    ∙ ap (λ (b : Bool). parts_of first ++ (if b then around links else parts_of_links links)) none
+    ∙ sym (parts_of-Row first links)
+
+-- ---- answers
+
+row_shown : (before : Moment) (first : Expr) (links : List Link) (answer : Answer) (is : Bool) → ends links ≡ is
+    → ((Holds : Type 0) → (HoldsPast before.state (λ v x. Selects before.state first v x) links ↔ Holds)
+    → ShowsRow is Holds before (Row first links) answer)
+    → Shows before (Row first links) answer
+unfolding hidden-the_row-Expr-0 denote.Hole.Carrier.hidden
+row_shown before first links answer is ending shows =
+    let row = hidden-the_row-Link-1 links in
+    let are = items_hidden-the_row-Link-1 links in
+    let Holds = HoldsPastLinks before.state (λ v x. Selects before.state first v x) row in
+    subst (λ (b : Bool). ShowsRow b Holds before (Row first links) answer) (sym (ends_are _ row ∙ ap ends are ∙ ending))
+    (shows Holds
+    (subst (λ (ls : List Link). HoldsPast before.state (λ v x. Selects before.state first v x) ls ↔ Holds) are
+    (let h = holds_are _ before.state (λ v x. Selects before.state first v x) row in (h.1, h.0))))
+
+pub shows_test : (before : Moment) (x first : Expr) (links around : List Link) (last : Link) (answer : Answer) (holds : Bool)
+    → x ≡ Row first links → links ≡ around ++ last ∷ [] → is_test last.operator ≡ true
+    → (IsTrue holds ↔ TestHolds before.state last.operator (past_row before.state first around)
+    (λ v y. Selects before.state last.operand v y))
+    → answer ≡ told holds → Shows before x answer
+shows_test before x first links around last answer holds is are test iff told_is =
+    subst (λ (y : Expr). Shows before y answer) (sym is)
+    (row_shown before first links answer true (ap ends are ∙ ends_at around last ∙ test)
+    (λ Holds same.
+    let at = holds_at before.state (λ v y. Selects before.state first v y) around last in
+    let here = subst (λ (ls : List Link). HoldsPast before.state (λ v y. Selects before.state first v y) ls ↔ Holds) are same in
+    (holds, ((λ t. here.0 (at.1 (iff.0 t))), (λ h. iff.1 (at.0 (here.1 h)))), told_is)))
+
+pub shows_row : (before : Moment) (x first : Expr) (links : List Link) (answer : Answer) → x ≡ Row first links → ends links ≡ false
+    → ShowsValue before x answer → Shows before x answer
+shows_row before x first links answer is none value =
+    subst (λ (y : Expr). Shows before y answer) (sym is)
+    (row_shown before first links answer false none (λ Holds same. subst (λ (y : Expr). ShowsValue before y answer) is value))
+
+-- ---- tests of the same elements
+
+abbrev SamePart : Elements → Elements → Type 0
+SamePart P Q = (v : Valuation) (x : Element) → P v x ↔ Q v x
+
+part_same : (state : StateView) (P Q R S : Elements) → SamePart P R → SamePart Q S → IsPartOf state P Q ↔ IsPartOf state R S
+part_same state P Q R S left right =
+    ((λ part v x h. (right v x).0 (part v x ((left v x).1 h))), (λ part v x h. (right v x).1 (part v x ((left v x).0 h))))
+
+both_same : (A B C D : Type 0) → A ↔ C → B ↔ D → (A × B) ↔ (C × D)
+both_same A B C D one two = ((λ h. (one.0 h.0, two.0 h.1)), (λ h. (one.1 h.0, two.1 h.1)))
+
+not_same : (A B : Type 0) → A ↔ B → (¬ A) ↔ (¬ B)
+not_same A B one = ((λ no h. no (one.1 h)), (λ no h. no (one.0 h)))
+
+pub test_same : (state : StateView) (operator : Binary) (P Q R S : Elements) → ((v : Valuation) (x : Element) → P v x ↔ R v x)
+    → ((v : Valuation) (x : Element) → Q v x ↔ S v x) → TestHolds state operator P Q ↔ TestHolds state operator R S
+test_same state b.Equal P Q R S left right = both_same _ _ _ _ (part_same state P Q R S left right) (part_same state Q P S R right left)
+test_same state b.Subset P Q R S left right = part_same state P Q R S left right
+test_same state b.ProperSubset P Q R S left right =
+    both_same _ _ _ _ (part_same state P Q R S left right) (not_same _ _ (part_same state Q P S R right left))
+test_same state b.Superset P Q R S left right = part_same state Q P S R right left
+test_same state b.ProperSuperset P Q R S left right =
+    both_same _ _ _ _ (part_same state Q P S R right left) (not_same _ _ (part_same state P Q R S left right))
+test_same state _ P Q R S left right = ((λ h. h), (λ h. h))
+
+-- ---- what a test of values is
+pub at_test : {E : Type 0} (result : Result Bool E) (state : StateView) (operator word : Binary) (P Q : Elements) (Holds : Type 0)
+    → operator ≡ word
+    → IfOk result (λ holds. IsTrue holds ↔ Holds) → TestHolds state word P Q ≡ Holds
+    → IfOk result (λ holds. IsTrue holds ↔ TestHolds state operator P Q)
+at_test result state operator word P Q Holds is exact same =
+    subst (λ (o : Binary). IfOk result (λ holds. IsTrue holds ↔ TestHolds state o P Q)) (sym is)
+    (subst (λ (H : Type 0). IfOk result (λ holds. IsTrue holds ↔ H)) (sym same) exact)
+
+-- ---- parameters in the other order
+from_filter : (test : Name → Bool) (names : List Name) (n : Name) → is_among (filter test names) n ≡ true → is_among names n ≡ true
+from_filter test [] n there = there
+from_filter test (m ∷ names) n there = by (test m) (bytes_eq n m) refl there (from_filter test names n)
+  where
+    by : (keeps : Bool) (here : Bool) → bytes_eq n m ≡ here → is_among (cond keeps (m ∷ filter test names) (filter test names)) n ≡ true
+        → (is_among (filter test names) n ≡ true → is_among names n ≡ true) → (bytes_eq n m || is_among names n) ≡ true
+    by keeps true is there rest = rw is refl
+    by true false is there rest = rw is (rest (sym (ap (λ (b : Bool). b || is_among (filter test names) n) is) ∙ there))
+    by false false is there rest = rw is (rest there)
+
+among_turned : (left right : List Name) → AreDistinct right → (n : Name) → is_among (joined right left) n ≡ true
+    → is_among (joined left right) n ≡ true
+among_turned left right distinct n there = by (is_among right n) refl
+  where
+    new : List Name
+    new = filter (λ m. not (is_among right m)) left
+
+    in_left : is_among left n ≡ true → is_among (joined left right) n ≡ true
+    in_left h =
+        list_any-append (bytes_eq n) left (filter (λ m. not (is_among left m)) right)
+        ∙ ap (λ (b : Bool). b || is_among (filter (λ m. not (is_among left m)) right) n) h
+
+    by : (b : Bool) → is_among right n ≡ b → is_among (joined left right) n ≡ true
+    by true h = ap (λ (names : List Name). is_among names n) (joined_is left right distinct) ∙ other_is_there left right n h
+    by false h =
+        in_left (from_filter (λ m. not (is_among right m)) left n
+        (sym (ap (λ (b : Bool). b || is_among new n) h) ∙ (sym (list_any-append (bytes_eq n) right new) ∙ there)))
+
+pub turned_fits : (left right : List Name) → AreDistinct left → AreDistinct right → length (joined right left) ≤ length (joined left right)
+turned_fits left right one two =
+    length-le_from_is_member nat_list_eq_equiv (joined right left) (joined left right)
+    (IsDistinct-from_AllPairs bytes_eq-Decides (joined right left) (joined_distinct right left two one))
+    (λ n there. among_turned left right two n there)
+
+-- what is left of two operands and the row before them
+pub test_narrow : (scope : ScopeView) (first : Expr) (before : List Link) (last : Link) (one left right : KeptValue) (l r : KeptValue)
+    → IsReadyTest scope first before last → one.params ≡ declared_of scope first → left.params ≡ declared_of_row scope one.params before
+    → right.params ≡ declared_of scope last.operand → l ≡ left → r ≡ right → length (joined l.params r.params) ≤ most_parameters
+test_narrow scope first before last one left right l r ready first_is left_is right_is l_is r_is =
+    let names : l.params ≡ declared_of_row scope (declared_of scope first) before =
+    ap (λ (v : KeptValue). v.params) l_is ∙ left_is ∙ ap (λ (ps : List Name). declared_of_row scope ps before) first_is in
+    let others : r.params ≡ declared_of scope last.operand = ap (λ (v : KeptValue). v.params) r_is ∙ right_is in
+    let is = ap₂ joined names others
+    ∙ joined_is (declared_of_row scope (declared_of scope first) before) (declared_of scope last.operand)
+    (declared_distinct scope last.operand) in
+    subst (λ (ps : List Name). length ps ≤ most_parameters) (sym is) ready.narrow
+
+pub test_turned : (left right l r : KeptValue) → IsKeptValue left → IsKeptValue right → l ≡ left → r ≡ right
+    → length (joined l.params r.params) ≤ most_parameters → length (joined r.params l.params) ≤ most_parameters
+test_turned left right l r one two l_is r_is narrow =
+    let distinct_l = subst (λ (v : KeptValue). AreDistinct v.params) (sym l_is) one.params.distinct in
+    let distinct_r = subst (λ (v : KeptValue). AreDistinct v.params) (sym r_is) two.params.distinct in
+    let few = turned_fits l.params r.params distinct_l distinct_r in
+    omega (arith, few, narrow)
+
+-- the test of the values is the test of what is selected
+pub tested_is : (state : StateView) (operator : Binary) (first operand : Expr) (before : List Link) (one left right l r : KeptValue)
+    (holds : Bool)
+    → ((v : Valuation) (x : Element) → Has one v x ↔ Selects state first v x)
+    → ((v : Valuation) (x : Element) → Has left v x ↔ RowSelects state v (Has one v) before x)
+    → ((v : Valuation) (x : Element) → Has right v x ↔ Selects state operand v x) → l ≡ left → r ≡ right
+    → (IsTrue holds ↔ TestHolds state operator (Has l) (Has r))
+    → IsTrue holds ↔ TestHolds state operator (past_row state first before) (λ v x. Selects state operand v x)
+tested_is state operator first operand before one left right l r holds first_has left_has right_has l_is r_is exact =
+    let e = test_same state operator (Has l) (Has r) (past_row state first before) (λ v x. Selects state operand v x)
+    (λ v. subst (λ (k : KeptValue). (x : Element) → Has k v x ↔ past_row state first before v x) (sym l_is)
+    (same_trans (Has left v) (RowSelects state v (Has one v) before) (past_row state first before v) (left_has v)
+    (same_row state v (Has one v) (Selects state first v) before (first_has v))))
+    (λ v. subst (λ (k : KeptValue). (x : Element) → Has k v x ↔ Selects state operand v x) (sym r_is) (right_has v)) in
+    ((λ h. e.0 (exact.0 h)), (λ h. exact.1 (e.1 h)))
+
+-- ---- work that is paid, where units may be used
+pub unmade_by : (g h k : Gauge) (cut : Cut) (refusal : Refusal) → IsCharged g h → IsCutBy h k cut → refusal ≡ refusal_of_cut cut
+    → IsWhyUnmade true g k refusal
+unmade_by g h k cut refusal charged by is =
+    record { cut = cut; is = is; by = IsCutBy-after g h k cut charged by; free = λ none. absurd (false≢true (sym none)) }
+
+pub unmade_on : (works : Bool) (g h k : Gauge) (refusal : Refusal) → IsCharged g h → IsWhyUnmade works h k refusal
+    → IsWhyUnmade true g k refusal
+unmade_on works g h k refusal charged why = unmade_by g h k why.cut refusal charged why.by why.is
+
+-- a value behind a pointer is within the limit later
+pub at_deref : (g h : Gauge) (value v : KeptValue) → IsCharged g h → v ≡ value → HasNumbersUpTo (unsigned_abs (limit_of g)) value
+    → HasNumbersUpTo (unsigned_abs (limit_of h)) v
+at_deref g h value v charged is small =
+    subst (λ (k : KeptValue). HasNumbersUpTo (unsigned_abs (limit_of h)) k) (sym is) (numbers_later g h value charged small)

@@ -1,9 +1,0 @@
-use Rattle.std.proofs.Common.{rules}
-use Rattle.isl_eval.proofs.ValueLaws.{inverse_made}
-use Rattle.isl_eval.proofs.selected.inverted.Goals as goal
-
-pub returns-in_ok-new-in-Ok-clause-made : goal.returns-in_ok-new-in-Ok-clause-made
-returns-in_ok-new-in-Ok-clause-made c =
-    let e = c.in-Ok.ensures in
-    inverse_made c.args.operand.now c.in-Ok.value c.in_ok-new-in-Ok.field-0.value _ (search rules) e.written e.kept e.elements (e.numbers _ c.requires.numbers)
-    (e.definitions c.requires.definitions)

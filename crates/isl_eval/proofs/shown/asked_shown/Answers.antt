@@ -1,0 +1,61 @@
+use Rattle.std.proofs.Common.{inl, refl, sym}
+use Rattle.isl_select.specs.State.{scope_of}
+use Rattle.isl_select.proofs.ValueLaws.{match_map}
+use Rattle.isl_eval.specs.Evaluation.{answer_of}
+use Rattle.isl_eval.proofs.TestLaws.{shows_test}
+use Rattle.isl_eval.proofs.ShownLaws.{asked_none, asked_scan, asked_test, moment_of, paid_working}
+use Rattle.isl_eval.proofs.ShownLaws.{row_is, scan_ended, scan_ready, scan_shows, scan_works}
+use Rattle.isl_eval.proofs.ShownLaws.{test_ready, test_works, unmade_working}
+use Rattle.isl_eval.proofs.shown.asked_shown.Goals as goal
+
+pub listed-requires-clause-ready : goal.listed-requires-clause-ready
+listed-requires-clause-ready c =
+    scan_ready (scope_of c.args.state.now) c.args.expr.now c.in-Prefix.operand c.get.result.now _ c.in-Prefix.is
+    (asked_scan c.args.expr.now c.in-Prefix.operand _ c.in-Prefix.is c.requires.asked) c.get.ensures c.requires.evaluable
+
+pub returns-in-Prefix : goal.returns-in-Prefix
+returns-in-Prefix c =
+    let before = moment_of c.args.state.now c.args.meter.now c.args.at.now in
+    let which = asked_scan c.args.expr.now c.in-Prefix.operand _ c.in-Prefix.is c.requires.asked in
+    let works = scan_works (scope_of c.args.state.now) c.args.expr.now c.in-Prefix.operand c.get.result.now _ c.in-Prefix.is which
+    c.get.ensures in
+    match_map c.listed.result _ _ _ _
+    (λ line h. (
+      scan_shows before c.args.expr.now c.in-Prefix.operand c.get.result.now _ c.in-Prefix.is which c.get.ensures (answer_of line) h.0,
+      paid_working _ c.args.meter.now c.listed.new.meter works h.1,
+    ))
+    (λ refusal h. scan_ended before c.args.expr.now c.in-Prefix.operand c.get.result.now _ c.in-Prefix.is which c.get.ensures
+    c.listed.new.meter refusal h)
+    c.listed.ensures
+
+pub truth_shown-requires-clause-ready : goal.truth_shown-requires-clause-ready
+truth_shown-requires-clause-ready c =
+    test_ready (scope_of c.args.state.now) c.args.expr.now _ c.get-in-Some.result.now _ c.as_slice.result.now c.in-Some.before.now
+    c.in-Some.last.now
+    c.in-Row.is c.get-in-Some.ensures c.as_slice.ensures c.in-Some.ensures.cases.0
+    (asked_test c.args.expr.now _ _ c.as_slice.result.now c.in-Some.before.now c.in-Some.last.now c.in-Row.is c.as_slice.ensures
+    c.in-Some.ensures.cases.0
+    c.requires.asked) c.requires.evaluable
+
+pub returns-in-Some : goal.returns-in-Some
+returns-in-Some c =
+    let before = moment_of c.args.state.now c.args.meter.now c.args.at.now in
+    let test = asked_test c.args.expr.now _ _ c.as_slice.result.now c.in-Some.before.now c.in-Some.last.now c.in-Row.is c.as_slice.ensures
+    c.in-Some.ensures.cases.0 c.requires.asked in
+    let row = row_is c.args.expr.now _ c.get-in-Some.result.now _ c.as_slice.result.now c.in-Some.before.now c.in-Some.last.now c.in-Row.is
+    c.get-in-Some.ensures c.as_slice.ensures c.in-Some.ensures.cases.0 in
+    let works = test_works c.args.expr.now _ _ c.as_slice.result.now c.in-Some.before.now c.in-Some.last.now c.in-Row.is c.as_slice.ensures
+    c.in-Some.ensures.cases.0 test in
+    match_map c.truth_shown.result _ _ _ _
+    (λ line h. (
+      shows_test before c.args.expr.now c.get-in-Some.result.now _ c.in-Some.before.now c.in-Some.last.now (answer_of line) h.0.0 row refl
+          (sym test)
+          h.0.1 h.0.2,
+      paid_working _ c.args.meter.now c.truth_shown.new.meter works h.1,
+    ))
+    (λ refusal h. inl (unmade_working _ c.args.meter.now c.truth_shown.new.meter refusal works h)) c.truth_shown.ensures
+
+pub unreachable-requires : goal.unreachable-requires
+unreachable-requires c =
+    asked_none c.args.expr.now c.in-Row.first c.in-Row.links c.as_slice.result.now c.in-Row.is c.as_slice.ensures c.in-None.ensures.cases
+    c.requires.asked

@@ -1,0 +1,23 @@
+use Rattle.std.proofs.Common.{◌∙◌, inl, refl, sym}
+use Rattle.isl_select.specs.State.{scope_of}
+use Rattle.isl_select.proofs.ValueLaws.{match_map}
+use Rattle.isl_eval.specs.Evaluation.{answer_of}
+use Rattle.isl_eval.proofs.ShownLaws.{moment_of, show_makeable, shown_kind, shows_value}
+use Rattle.isl_eval.proofs.shown.shown.Goals as goal
+
+pub value_shown-requires-clause-makeable : goal.value_shown-requires-clause-makeable
+value_shown-requires-clause-makeable c =
+    show_makeable (scope_of c.args.state.now) c.args.expr.now (sym c.is_asked.ensures ∙ c.if-is_asked.false) c.requires.evaluable
+
+pub value_shown-requires-clause-kind : goal.value_shown-requires-clause-kind
+value_shown-requires-clause-kind c = shown_kind (scope_of c.args.state.now) c.args.expr.now c.requires.evaluable
+
+pub returns-else-is_asked : goal.returns-else-is_asked
+returns-else-is_asked c =
+    let before = moment_of c.args.state.now c.args.meter.now c.args.at.now in
+    match_map c.value_shown.result _ _ _ _
+    (λ line h. (
+      shows_value before c.args.expr.now (answer_of line) (sym c.is_asked.ensures ∙ c.if-is_asked.false) (h.0 before refl refl),
+      h.1,
+    ))
+    (λ refusal h. inl h) c.value_shown.ensures

@@ -1,0 +1,70 @@
+-- public: what one simple statement is evaluated for, and why it ends without an answer. (the iscc chapter of the barvinok manual)
+use Rattle.std.specs.Prelude.{◌≡◌, ◌⊎◌, ◌≤◌, Bool, false, List, [], ◌∷◌, ◌++◌, length, All, Option, Ok, if◌then◌else◌}
+use Rattle.std.specs.List.{list_any}
+use Rattle.isl_meter.specs.Gauge.{Gauge, IsCharged}
+use Rattle.isl_space.specs.Limits.{most_parameters}
+use Rattle.isl_text.specs.declared.refusal.Refusal.{Refusal}
+use Rattle.isl_text.specs.declared.refusal.Refusal.TheVariants.{Unbounded}
+use Rattle.isl_lower.specs.Value.{IsWellFormedLiteral}
+use Rattle.isl_expr.specs.declared.tree.Prefix.TheVariants as p
+use Rattle.isl_expr.specs.declared.tree.Stmt.{Stmt}
+use Rattle.isl_expr.specs.declared.tree.Stmt.TheVariants.{Empty, Bind, Show}
+use Rattle.isl_expr.specs.declared.tree.Expr.{Expr, Row', Prefix', Row_of-Link, end_of-Link, more_of-Link}
+use Rattle.isl_expr.specs.Expr.{statement_literals}
+use Rattle.isl_kinds.specs.Parts.{Part, operator, parts_of, parts_in, parts_in_links, parts_of_statement}
+use Rattle.isl_kinds.specs.Typed.{TypeView, ScopeView, type_of_statement}
+use Rattle.isl_simple.specs.Simple.{statement_declared}
+use Rattle.isl_select.specs.State.{Moment}
+use Rattle.isl_select.specs.Made.{is_foreign, uses_units, IsWhyUnmade}
+use Rattle.isl_eval.specs.Tests.{ends_with_test}
+use Rattle.isl_eval.specs.Causes.{IsInfinite}
+
+-- ---- what values are worked out of
+
+-- of `sample` its operand, else the whole
+abbrev pub made_parts : Expr → List Part
+made_parts (Prefix' p.Sample s operand) = parts_in operand
+made_parts expr = parts_of expr
+
+-- the links of a row without the test at its end
+abbrev pub parts_around_test : {m : _} → Row_of-Link m → List Part
+parts_around_test end_of-Link = []
+parts_around_test (more_of-Link sign operand end_of-Link) = parts_of operand
+parts_around_test (more_of-Link sign operand rest) = operator sign ∷ (parts_of operand ++ parts_around_test rest)
+
+-- of `scan` its operand, of a row with a test at its end what stands around the test
+abbrev pub shown_parts : Expr → List Part
+shown_parts (Prefix' p.Scan s operand) = parts_in operand
+shown_parts (Row' s first t links) =
+    parts_in first ++ (if ends_with_test links then parts_around_test links else parts_in_links links)
+shown_parts expr = made_parts expr
+
+abbrev pub worked_parts : Stmt → List Part
+worked_parts Empty = []
+worked_parts (Bind name expr) = made_parts expr
+worked_parts (Show expr) = shown_parts expr
+
+-- ---- what is asked for
+
+-- the statement has a type in the scope
+abbrev pub IsTyped : ScopeView → Stmt → Type 0
+IsTyped scope stmt = (t : Option TypeView) × (type_of_statement scope stmt ≡ Ok t)
+
+-- it has a type; its tests and words stand outermost; its literals are well formed, and its operands declare few parameters
+pub record IsEvaluable (scope : ScopeView) (stmt : Stmt) : Type 0 where
+  pub typed : IsTyped scope stmt
+  pub plain : list_any is_foreign (worked_parts stmt) ≡ false
+  pub literals : All IsWellFormedLiteral (statement_literals stmt)
+  pub narrow : length (statement_declared scope stmt) ≤ most_parameters
+
+-- ---- what is left
+
+-- a part that may use units stands in it
+abbrev pub works : Stmt → Bool
+works stmt = list_any uses_units (parts_of_statement stmt)
+
+-- why it is not answered: work was cut, or infinitely many elements are to be listed; where nothing uses units memory ended, and the
+-- meter is as it was
+abbrev pub IsWhyEnded : Moment → Stmt → Gauge → Refusal → Type 0
+IsWhyEnded before stmt now refusal =
+    IsWhyUnmade (works stmt) before.meter now refusal ⊎ ((refusal ≡ Unbounded) × IsInfinite before stmt × IsCharged before.meter now)

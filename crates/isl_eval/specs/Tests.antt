@@ -1,0 +1,51 @@
+-- public: when tests hold. (isl manual, on comparing sets and relations; the iscc chapter of the barvinok manual)
+use Rattle.std.specs.Prelude.{Bool, true, false}
+use Rattle.isl_space.specs.Valuation.{Valuation}
+use Rattle.isl_space.specs.Element.{Element}
+use Rattle.isl_expr.specs.declared.tree.Binary.{Binary}
+use Rattle.isl_expr.specs.declared.tree.Binary.TheVariants as b
+use Rattle.isl_expr.specs.declared.tree.Expr.{Row_of-Expr, Row_of-Link, end_of-Link, more_of-Link}
+use Rattle.isl_select.specs.State.{StateView, Everywhere}
+use Rattle.isl_select.specs.Selection.{Selects, SelectsIn, JoinHas}
+
+abbrev pub is_test : Binary → Bool
+is_test b.Equal = true
+is_test b.ProperSubset = true
+is_test b.Subset = true
+is_test b.ProperSuperset = true
+is_test b.Superset = true
+is_test _ = false
+
+-- the last operator of a row is a test
+abbrev pub ends_with_test : {m : _} → Row_of-Link m → Bool
+ends_with_test end_of-Link = false
+ends_with_test (more_of-Link operator operand end_of-Link) = is_test operator
+ends_with_test (more_of-Link operator operand rest) = ends_with_test rest
+
+-- which elements there are at each valuation
+abbrev pub Elements : Type 1
+Elements = Valuation → Element → Type 0
+
+-- at every valuation each element of the one is one of the other
+abbrev pub IsPartOf : StateView → Elements → Elements → Type 0
+IsPartOf state P Q = Everywhere state (λ valuation. (element : Element) → P valuation element → Q valuation element)
+
+-- `=`: the same elements; `<=`: each of the one is one of the other; `<`: that, and they are not the same; `>` and `>=` turned round
+abbrev pub TestHolds : StateView → Binary → Elements → Elements → Type 0
+TestHolds state b.Equal P Q = IsPartOf state P Q × IsPartOf state Q P
+TestHolds state b.Subset P Q = IsPartOf state P Q
+TestHolds state b.ProperSubset P Q = IsPartOf state P Q × (¬ IsPartOf state Q P)
+TestHolds state b.Superset P Q = IsPartOf state Q P
+TestHolds state b.ProperSuperset P Q = IsPartOf state Q P × (¬ IsPartOf state P Q)
+TestHolds state operator P Q = ⊥
+
+-- The test at the end of a row holds of what the operators before it make of the operands, from the left, and of the last operand.
+abbrev pub HoldsPastLinks : {m : _} → StateView → Elements → Row_of-Link m → Type 0
+HoldsPastLinks state Left end_of-Link = ⊥
+HoldsPastLinks state Left (more_of-Link operator operand end_of-Link) =
+    TestHolds state operator Left (λ valuation element. Selects state operand valuation element)
+HoldsPastLinks state Left (more_of-Link operator operand rest) =
+    HoldsPastLinks state (λ valuation x. JoinHas operator (Left valuation) (λ y. Selects state operand valuation y) x) rest
+
+abbrev pub RowHolds : {m n : _} → StateView → Row_of-Expr m → Row_of-Link n → Type 0
+RowHolds state first links = HoldsPastLinks state (λ valuation x. SelectsIn state first valuation x) links

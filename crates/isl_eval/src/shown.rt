@@ -1,0 +1,309 @@
+//! What is answered to an expression that is shown, and what is kept of one.
+
+ghost use Rattle.std.specs.Prelude.{◌≡◌, ◌⊎◌, ◌↔◌, true, Bool, List, IfOk, IsTrue, MatchResult, unsigned_abs};
+ghost use Rattle.std.specs.List.{list_any};
+ghost use Rattle.isl_meter.specs.Gauge.{IsCharged, limit_of};
+ghost use Rattle.isl_space.specs.Element.{Element};
+ghost use Rattle.isl_space.specs.Valuation as valuation;
+ghost use Rattle.isl_union.specs.KeptValue.{HasNoDefinitions};
+ghost use Rattle.isl_text.specs.declared.refusal.Refusal.TheVariants.{Unbounded};
+ghost use Rattle.isl_expr.specs.declared.tree.Stmt.TheVariants as s;
+ghost use Rattle.isl_expr.specs.declared.tree.ValueKind.{ValueKind};
+ghost use Rattle.isl_kinds.specs.Parts.{parts_of};
+ghost use Rattle.isl_kinds.specs.Typed.{kind_of};
+ghost use Rattle.isl_select.specs.State.{Moment, scope_of, Fits};
+ghost use Rattle.isl_select.specs.Made.{IsPaid, IsReady, IsWhyUnmade, refusal_of_cut, uses_units};
+ghost use Rattle.isl_select.specs.Selection.{Selects};
+ghost use Rattle.isl_eval.specs.Listed.{AreFinite, IsListed};
+ghost use Rattle.isl_eval.specs.Machine.{Shows, ShowsValue, listed, shown, told};
+ghost use Rattle.isl_eval.specs.Evaluated.{IsEvaluable, IsWhyEnded};
+ghost use Rattle.isl_eval.specs.Tests.{TestHolds};
+ghost use Rattle.isl_eval.specs.Evaluation as spec;
+ghost use Rattle.isl_eval.specs.Evaluation.{IsKeptOf, IsMakeable, IsReadyTest, IsSampled, answer_of, past_row};
+
+use crate::step::Tally;
+use crate::test::{ends_with_test, tested};
+use isl_expr::tree::{Expr, Link, Prefix};
+use isl_meter::{Cut, Meter};
+use isl_print::text_of;
+use isl_scan::{Listing, ScanFault, scan};
+use isl_select::{State, value_of};
+use isl_space::{Name, Params};
+use isl_text::refusal::Refusal;
+use isl_union::{OpFault, Value};
+use std::alloc::{AllocError, Global};
+use std::rc::Rc;
+
+pub(crate) fn refusal_of(cut: Cut) -> Refusal
+    ensures { result ≡ refusal_of_cut cut }
+{
+    match cut {
+        Cut::Overflow => Refusal::Overflow,
+        Cut::Budget => Refusal::Budget,
+        Cut::NoMemory => Refusal::NoMemory,
+    }
+}
+
+/// A line that is answered, and what it adds to the counts.
+#[derive(Drop)]
+pub(crate) struct Line {
+    pub(crate) text: String,
+    pub(crate) tally: Tally,
+}
+
+impl Line {
+    fn of_value(alloc: Global, value: &Value) -> Result<Line, AllocError>
+        requires { HasNoDefinitions value.now }
+        ensures { IfOk result (λ line. answer_of line ≡ shown value.now) }
+    {
+        let mut text = text_of(alloc, value)?;
+        text.push('\n')?;
+        Ok(Line {
+            text,
+            tally: Tally::NOTHING,
+        })
+    }
+
+    fn of_truth(alloc: Global, holds: bool) -> Result<Line, AllocError>
+        ensures { IfOk result (λ line. answer_of line ≡ told holds) }
+    {
+        let word = if holds { "True\n" } else { "False\n" };
+        let text = String::from_str(alloc, word)?;
+        Ok(Line {
+            text,
+            tally: Tally {
+                is_true: holds,
+                elements: 0,
+            },
+        })
+    }
+
+    fn of_listing(alloc: Global, listing: &Listing) -> Result<Line, AllocError>
+        ensures { IfOk result (λ line. answer_of line ≡ listed listing.now) }
+    {
+        let mut text = listing.text(alloc)?;
+        text.push('\n')?;
+        Ok(Line {
+            text,
+            tally: Tally {
+                is_true: false,
+                elements: listing.len(),
+            },
+        })
+    }
+}
+
+/// The number that a name is given, or 0.
+fn number_of(name: &Name, at: &[(Name, i128)]) -> i128
+    ensures { result ≡ valuation.value_at at.now name.now }
+{
+    for given in at {
+        if given.0 == *name {
+            return given.1;
+        }
+    }
+    0
+}
+
+/// The numbers that parameters are given.
+fn numbers_of(alloc: Global, params: &Params, at: &[(Name, i128)]) -> Result<Vec<i128>, AllocError>
+    ensures { IfOk result (λ numbers. numbers.items ≡ valuation.values_of params.now at.now) }
+{
+    let mut numbers = Vec::new(alloc);
+    for place in 0..params.len() {
+        numbers.push(number_of(params.name(place), at))?;
+    }
+    Ok(numbers)
+}
+
+fn refusal_of_fault(fault: ScanFault) -> Refusal
+    ensures { result ≡ spec.refusal_of_fault fault }
+{
+    match fault {
+        ScanFault::Cut(cut) => refusal_of(cut),
+        ScanFault::Unbounded => Refusal::Unbounded,
+    }
+}
+
+/// The elements that an operand selects where its parameters have these numbers.
+fn listed(
+    alloc: Global,
+    operand: &Expr,
+    state: &State,
+    at: &[(Name, i128)],
+    meter: &mut Meter,
+) -> Result<Line, Refusal>
+    requires ready { IsReady (scope_of state.now) operand.now }
+    requires fits { Fits (limit_of meter.old) state.now }
+    ensures { MatchResult result
+        (λ line. ((elements : List Element) × IsListed (λ element. Selects state.now operand.now at.now element) elements
+        × (answer_of line ≡ listed elements)) × IsCharged meter.old meter.new)
+        (λ refusal. IsWhyUnmade true meter.old meter.new refusal
+        ⊎ ((refusal ≡ Unbounded) × (¬ AreFinite (λ element. Selects state.now operand.now at.now element))
+        × IsCharged meter.old meter.new)) }
+{
+    let value = value_of(alloc, operand, state, meter)?;
+    let numbers = numbers_of(alloc, value.params(), at)?;
+    match scan(alloc, &value, numbers.as_slice(), meter) {
+        Ok(listing) => Ok(Line::of_listing(alloc, &listing)?),
+        Err(fault) => Err(refusal_of_fault(fault)),
+    }
+}
+
+/// A value of one element of an operand.
+fn sampled(
+    alloc: Global,
+    operand: &Expr,
+    state: &State,
+    meter: &mut Meter,
+) -> Result<Rc<Value>, Refusal>
+    requires ready { IsReady (scope_of state.now) operand.now }
+    requires fits { Fits (limit_of meter.old) state.now }
+    ensures { MatchResult result
+        (λ value. IsSampled state.now operand.now (unsigned_abs (limit_of meter.old)) value.value × IsCharged meter.old meter.new)
+        (IsWhyUnmade true meter.old meter.new) }
+{
+    let value = value_of(alloc, operand, state, meter)?;
+    match value.sample(alloc, meter) {
+        Ok(sample) => Ok(Rc::new(alloc, sample)?),
+        Err(OpFault::Cut(cut)) => Err(refusal_of(cut)),
+        Err(OpFault::TooWide) => unreachable!(),
+    }
+}
+
+/// What is kept of an expression that selects.
+fn selected(
+    alloc: Global,
+    expr: &Expr,
+    state: &State,
+    meter: &mut Meter,
+) -> Result<Rc<Value>, Refusal>
+    requires ready { IsReady (scope_of state.now) expr.now }
+    requires fits { Fits (limit_of meter.old) state.now }
+    ensures { MatchResult result
+        (λ value. IsKeptOf state.now (limit_of meter.old) expr.now value.value
+        × IsPaid (list_any uses_units (parts_of expr.now)) meter.old meter.new)
+        (IsWhyUnmade (list_any uses_units (parts_of expr.now)) meter.old meter.new) }
+{
+    value_of(alloc, expr, state, meter)
+}
+
+/// What is kept of an expression: of `sample` a value of one element, which is chosen once; else what it selects.
+pub(crate) fn content(
+    alloc: Global,
+    expr: &Expr,
+    state: &State,
+    meter: &mut Meter,
+) -> Result<Rc<Value>, Refusal>
+    requires makeable { IsMakeable (scope_of state.now) expr.now }
+    requires fits { Fits (limit_of meter.old) state.now }
+    ensures { MatchResult result
+        (λ value. IsKeptOf state.now (limit_of meter.old) expr.now value.value
+        × IsPaid (list_any uses_units (parts_of expr.now)) meter.old meter.new)
+        (IsWhyUnmade (list_any uses_units (parts_of expr.now)) meter.old meter.new) }
+{
+    match expr {
+        Expr::Prefix(_, operand) => sampled(alloc, operand.get(), state, meter),
+        _ => selected(alloc, expr, state, meter),
+    }
+}
+
+/// The line that shows what is kept of an expression.
+fn value_shown(
+    alloc: Global,
+    expr: &Expr,
+    state: &State,
+    meter: &mut Meter,
+) -> Result<Line, Refusal>
+    requires makeable { IsMakeable (scope_of state.now) expr.now }
+    requires kind { (kind : ValueKind) × (kind_of (scope_of state.now) expr.now ≡ Some kind) }
+    requires fits { Fits (limit_of meter.old) state.now }
+    ensures { MatchResult result
+        (λ line. ((before : Moment) → before.state ≡ state.now → limit_of before.meter ≡ limit_of meter.old
+        → ShowsValue before expr.now (answer_of line))
+        × IsPaid (list_any uses_units (parts_of expr.now)) meter.old meter.new)
+        (IsWhyUnmade (list_any uses_units (parts_of expr.now)) meter.old meter.new) }
+{
+    let value = content(alloc, expr, state, meter)?;
+    Ok(Line::of_value(alloc, &value)?)
+}
+
+/// The line that tells whether a test holds.
+fn truth_shown(
+    alloc: Global,
+    first: &Expr,
+    before: &[Link],
+    last: &Link,
+    state: &State,
+    meter: &mut Meter,
+) -> Result<Line, Refusal>
+    requires ready { IsReadyTest (scope_of state.now) first.now before.now last.now }
+    requires fits { Fits (limit_of meter.old) state.now }
+    ensures { MatchResult result
+        (λ line. ((holds : Bool) × (IsTrue holds ↔ TestHolds state.now last.now.operator (past_row state.now first.now before.now)
+        (Selects state.now last.now.operand)) × (answer_of line ≡ told holds)) × IsCharged meter.old meter.new)
+        (IsWhyUnmade true meter.old meter.new) }
+{
+    let holds = tested(alloc, first, before, last, state, meter)?;
+    Ok(Line::of_truth(alloc, holds)?)
+}
+
+/// Whether elements or a truth are asked for.
+#[tactic(auto, using(crate::proofs::AskedLaws::asked))]
+fn is_asked(expr: &Expr) -> bool
+    ensures { result ≡ spec.is_asked expr.now }
+{
+    match expr {
+        Expr::Prefix(word, _) => matches!(word, Prefix::Scan),
+        Expr::Row(_, links) => ends_with_test(links.as_slice()),
+        _ => false,
+    }
+}
+
+/// The line that lists elements, or that tells whether a test holds.
+fn asked_shown(
+    alloc: Global,
+    expr: &Expr,
+    state: &State,
+    at: &[(Name, i128)],
+    meter: &mut Meter,
+) -> Result<Line, Refusal>
+    requires asked { spec.is_asked expr.now ≡ true }
+    requires evaluable { IsEvaluable (scope_of state.now) (s.Show expr.now) }
+    requires fits { Fits (limit_of meter.old) state.now }
+    ensures { MatchResult result
+        (λ line. Shows (record { state = state.now; meter = meter.old; at = at.now }) expr.now (answer_of line)
+        × IsPaid (list_any uses_units (parts_of expr.now)) meter.old meter.new)
+        (IsWhyEnded (record { state = state.now; meter = meter.old; at = at.now }) (s.Show expr.now) meter.new) }
+{
+    match expr {
+        Expr::Prefix(_, operand) => listed(alloc, operand.get(), state, at, meter),
+        Expr::Row(first, links) => match links.as_slice().split_last() {
+            Some((last, before)) => truth_shown(alloc, first.get(), before, last, state, meter),
+            None => unreachable!(),
+        },
+        _ => unreachable!(),
+    }
+}
+
+/// The line that answers an expression.
+pub(crate) fn shown(
+    alloc: Global,
+    expr: &Expr,
+    state: &State,
+    at: &[(Name, i128)],
+    meter: &mut Meter,
+) -> Result<Line, Refusal>
+    requires evaluable { IsEvaluable (scope_of state.now) (s.Show expr.now) }
+    requires fits { Fits (limit_of meter.old) state.now }
+    ensures { MatchResult result
+        (λ line. Shows (record { state = state.now; meter = meter.old; at = at.now }) expr.now (answer_of line)
+        × IsPaid (list_any uses_units (parts_of expr.now)) meter.old meter.new)
+        (IsWhyEnded (record { state = state.now; meter = meter.old; at = at.now }) (s.Show expr.now) meter.new) }
+{
+    if is_asked(expr) {
+        asked_shown(alloc, expr, state, at, meter)
+    } else {
+        value_shown(alloc, expr, state, meter)
+    }
+}

@@ -1,0 +1,100 @@
+//! One simple statement: one step of the machine.
+
+ghost use Rattle.std.specs.Prelude.{◌≡◌, ◌++◌, true, false, Some, Ok, IfErr, IfOk, MatchResult, OnErr, OnOk};
+ghost use Rattle.std.specs.List.{list_any};
+ghost use Rattle.isl_meter.specs.Gauge.{IsKept, limit_of};
+ghost use Rattle.isl_space.specs.Name.{Name as NameView};
+ghost use Rattle.isl_expr.specs.declared.tree.Expr as trees;
+ghost use Rattle.isl_expr.specs.declared.tree.Stmt.TheVariants as s;
+ghost use Rattle.isl_kinds.specs.Parts.{parts_of};
+ghost use Rattle.isl_kinds.specs.Typed.{is_dollar};
+ghost use Rattle.isl_spelled.specs.Names.{binds_dollar};
+ghost use Rattle.isl_select.specs.State.{Binds, Kept as KeptView, Moment, forgotten, scope_of, Fits, IsSettled};
+ghost use Rattle.isl_select.specs.Made.{IsPaid, IsWhyUnmade, uses_units};
+ghost use Rattle.isl_select.specs.Selection.{Keeps};
+ghost use Rattle.isl_eval.specs.Machine.{Answer, Step};
+ghost use Rattle.isl_eval.specs.Evaluated.{IsEvaluable, IsWhyEnded, works};
+
+use crate::shown::{content, shown};
+use crate::step::Tally;
+use isl_expr::tree::{Expr, Stmt};
+use isl_kinds::typed_statement;
+use isl_meter::Meter;
+use isl_select::{Kept, State};
+use isl_simple::SimpleStmt;
+use isl_space::Name;
+use isl_text::refusal::Refusal;
+use std::alloc::Global;
+
+/// Binds the name to what is kept of the expression.
+fn bound(
+    alloc: Global,
+    stmt: &Stmt,
+    name: &Name,
+    expr: &Expr,
+    state: &mut State,
+    meter: &mut Meter,
+) -> Result<(), Refusal>
+    requires stmt { stmt.now ≡ s.Bind name.now expr.now }
+    requires evaluable { IsEvaluable (scope_of state.old) stmt.now }
+    requires fits { Fits (limit_of meter.old) state.old }
+    ensures made { MatchResult result
+        (λ _. ((before : Moment) → before.state ≡ state.old → limit_of before.meter ≡ limit_of meter.old
+        → (kept : KeptView) × Keeps before expr.now kept × Binds state.old name.now kept state.new)
+        × IsPaid (works stmt.now) meter.old meter.new)
+        (λ refusal. IsWhyUnmade (works stmt.now) meter.old meter.new refusal × (state.new ≡ state.old)) }
+    ensures dollar { OnOk result (is_dollar name.now ≡ true → forgotten state.new ≡ forgotten state.old) }
+    ensures settled { OnOk result (is_dollar name.now ≡ false → IsSettled state.old → IsSettled state.new) }
+{
+    let name = name.copy()?;
+    let typed = match typed_statement(alloc, stmt, state.scope()) {
+        Ok(Some(typed)) => typed,
+        Ok(None) => unreachable!(),
+        Err(refusal) => return Err(refusal),
+    };
+    let value = content(alloc, expr, state, meter)?;
+    state.bind(name, Kept::new(typed.kind(), value), typed)?;
+    Ok(())
+}
+
+/// Evaluates a simple statement. A parameter that is given no number counts as 0 where elements are listed.
+///
+/// `Ok` appends the bytes of one whole answer, which may be none, and changes what is bound. A refusal appends nothing and
+/// leaves what is bound. (the iscc chapter of the barvinok manual)
+///
+/// # Errors
+/// `Overflow` and `Budget` where the meter counted them; `Unbounded` where infinitely many elements are to be listed; and `NoMemory`.
+pub fn eval(
+    alloc: Global,
+    state: &mut State,
+    stmt: &SimpleStmt,
+    at: &[(Name, i128)],
+    meter: &mut Meter,
+    text: &mut Vec<u8>,
+) -> Result<Tally, Refusal>
+    requires evaluable { IsEvaluable (scope_of state.old) stmt.now }
+    requires fits { Fits (limit_of meter.old) state.old }
+    ensures ok { IfOk result (λ tally. (answer : Answer) × (text.new.items ≡ text.old.items ++ answer.bytes)
+        × (tally ≡ record { is_true = answer.is_true; elements = answer.elements })
+        × Step (record { state = state.old; meter = meter.old; at = at.now }) stmt.now
+        (record { state = state.new; meter = meter.new; at = at.now }) answer) }
+    ensures err { OnErr result ((state.new ≡ state.old) × (text.new.items ≡ text.old.items)) }
+    ensures cause { IfErr result (IsWhyEnded (record { state = state.old; meter = meter.old; at = at.now }) stmt.now meter.new) }
+    ensures meter { MatchResult result (λ _. IsPaid (works stmt.now) meter.old meter.new) (λ _. IsKept meter.old meter.new) }
+    ensures dollar { (name : NameView) (expr : trees.Expr) → stmt.now ≡ s.Bind name expr → is_dollar name ≡ true
+        → forgotten state.new ≡ forgotten state.old }
+    ensures settled { binds_dollar stmt.now ≡ false → IsSettled state.old → IsSettled state.new }
+{
+    match stmt {
+        Stmt::Empty => Ok(Tally::NOTHING),
+        Stmt::Bind(name, expr) => {
+            bound(alloc, stmt, name, expr, state, meter)?;
+            Ok(Tally::NOTHING)
+        }
+        Stmt::Show(expr) => {
+            let line = shown(alloc, expr, state, at, meter)?;
+            text.extend_from_slice(line.text.as_bytes())?;
+            Ok(line.tally)
+        }
+    }
+}

@@ -1,0 +1,84 @@
+//! What a statement is refused for before any of it is worked out.
+
+ghost use Rattle.std.specs.Prelude.{◌≡◌, MatchResult, not};
+ghost use Rattle.std.specs.List.{list_any};
+ghost use Rattle.isl_kinds.specs.Typed.{ScopeView};
+ghost use Rattle.isl_simple.specs.Simple.{statement_declared};
+ghost use Rattle.isl_eval.specs.Causes as spec;
+ghost use Rattle.isl_eval.specs.Evaluation.{is_listing, names_of, IsWorkable, IsWhyUnworkable};
+
+use isl_expr::tree::{Expr, Prefix, Stmt};
+use isl_kinds::{Scope, Typed, typed_statement};
+use isl_simple::mixes_kinds;
+use isl_space::Name;
+use isl_space::limits::MAX_PARAMETERS;
+use isl_text::refusal::Refusal;
+use std::alloc::Global;
+
+fn is_given(at: &[(Name, i128)], name: &Name) -> bool
+    ensures { result ≡ spec.is_given at.now name.now }
+{
+    at.iter().any(|given| given.0 == *name)
+}
+
+/// Whether some name is given no number.
+fn lacks_number(names: &[Name], at: &[(Name, i128)]) -> bool
+    ensures { result ≡ list_any (λ name. not (spec.is_given at.now name)) names.now }
+{
+    names.iter().any(|name| !is_given(at, name))
+}
+
+#[tactic(auto, using(crate::proofs::AskedLaws::listing))]
+fn is_listing(expr: &Expr) -> bool
+    ensures { result ≡ is_listing expr.now }
+{
+    match expr {
+        Expr::Prefix(word, _) => matches!(word, Prefix::Scan),
+        _ => false,
+    }
+}
+
+/// Whether elements are to be listed of what declares a parameter that is given no number.
+#[tactic(auto, using(crate::proofs::CheckLaws::parametric))]
+fn is_parametric(stmt: &Stmt, declared: &[Name], at: &[(Name, i128)]) -> bool
+    ensures { (scope : ScopeView) → declared.now ≡ statement_declared scope stmt.now
+        → result ≡ spec.is_parametric scope at.now stmt.now }
+{
+    match stmt {
+        Stmt::Show(expr) => is_listing(expr) && lacks_number(declared, at),
+        _ => false,
+    }
+}
+
+/// The parameters that are declared, where there is a type.
+fn declared_by(typed: &Option<Typed>) -> &[Name]
+    ensures { result.now ≡ names_of typed.now }
+{
+    match typed {
+        Some(typed) => typed.params(),
+        None => &[],
+    }
+}
+
+/// Looks for the causes that come of what is bound, and of the numbers that parameters are given.
+pub(crate) fn check(
+    alloc: Global,
+    stmt: &Stmt,
+    scope: &Scope,
+    at: &[(Name, i128)],
+) -> Result<(), Refusal>
+    ensures { MatchResult result (λ _. IsWorkable scope.now at.now stmt.now) (IsWhyUnworkable scope.now at.now stmt.now) }
+{
+    let typed = typed_statement(alloc, stmt, scope)?;
+    if mixes_kinds(stmt, scope) {
+        return Err(Refusal::Syntax);
+    }
+    let declared = declared_by(&typed);
+    if is_parametric(stmt, declared, at) {
+        return Err(Refusal::Parametric);
+    }
+    if declared.len() > MAX_PARAMETERS {
+        return Err(Refusal::TooWide);
+    }
+    Ok(())
+}
