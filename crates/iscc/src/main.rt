@@ -2,19 +2,19 @@
 #![tactic(auto)]
 
 use isl_io::{StdSink, StdSource};
-use isl_session::{refuse_words, run};
-use std::alloc::{AllocError, AllocGlobal, Global};
+use isl_session::{WordsFault, refuse_words, run};
+use std::alloc::{AllocGlobal, Global};
 use std::env;
 use std::env::Env;
 use std::io::ErrorKind;
 use std::process::ExitCode;
 
-// The words of the command line, the program's name first. Where they are no text there are none, which is refused.
-fn words_of(rt: &(impl Env + AllocGlobal), alloc: Global) -> Result<Vec<String>, AllocError> {
+// The words of the command line, the program's name first. Words that are no text choose nothing.
+fn words_of(rt: &(impl Env + AllocGlobal), alloc: Global) -> Result<Vec<String>, WordsFault> {
     match env::args(rt) {
-        Ok(words) => words.collect(alloc),
-        Err(error) if error.kind() == ErrorKind::OutOfMemory => Err(AllocError),
-        Err(_) => Ok(Vec::new(alloc)),
+        Ok(words) => Ok(words.collect(alloc)?),
+        Err(error) if error.kind() == ErrorKind::OutOfMemory => Err(WordsFault::NoMemory),
+        Err(_) => Err(WordsFault::Usage),
     }
 }
 
@@ -25,7 +25,7 @@ fn main(rt: HostRuntime) -> ExitCode {
     let mut err = StdSink::new(rt.stderr());
     let status = match words_of(&rt, alloc) {
         Ok(words) => run(alloc, &words, &mut src, &mut out, &mut err),
-        Err(AllocError) => refuse_words(&mut err),
+        Err(fault) => refuse_words(&mut err, fault),
     };
     ExitCode::from(status.code())
 }

@@ -1,7 +1,8 @@
 -- What an expression selects lies in spaces of its kind, and so do the pieces of a kept value with these elements.
 use mathlib.Core.Former.{Count}
-use Rattle.std.proofs.Common.{◌≡◌, ◌∙◌, inl, inr, Bool, true, false, List, [], ◌∷◌, Option, Some, None, All, sym, ap, subst, refl}
+use Rattle.std.proofs.Common.{◌≡◌, ◌∙◌, inl, inr, ◌⊎◌, Bool, true, false, List, [], ◌∷◌, Option, Some, None, All, sym, ap, subst, refl}
 use Rattle.std.specs.Prelude.{is_some, is_none, ◌&&◌, ◌||◌, option_map, Any}
+use Rattle.std.specs.Option.{option_and_then}
 use Rattle.std.specs.List.{list_all}
 use Rattle.std.proofs.lemmas.Bool.{and_parts, false≢true}
 use Rattle.std.proofs.lemmas.List.Elements.{All-nil, All-cons, All-head, All-tail, All-weaker}
@@ -13,6 +14,8 @@ use Rattle.isl_space.specs.Element.{Element}
 use Rattle.isl_space.specs.Valuation.{Valuation}
 use Rattle.isl_piece.specs.System.{HoldsSystem}
 use Rattle.isl_union.specs.KeptValue.{KeptPiece, KeptValue, Has, HasElement, IsKeptPiece, IsKeptValue, piece_system}
+use Rattle.isl_union.specs.Compare.{IsEmpty}
+use Rattle.isl_union.specs.Sample.{IsSampleOf, only_piece}
 use Rattle.isl_union.proofs.CompareLaws.{valuation_at, element_at, element_is, point_at}
 use Rattle.isl_maps.specs.Inverse.{inverse_space, inverse_element}
 use Rattle.isl_tree.specs.declared.tree.PieceTree.{PieceTree}
@@ -24,17 +27,19 @@ use Rattle.isl_expr.specs.declared.tree.ValueKind.{ValueKind}
 use Rattle.isl_expr.specs.declared.tree.ValueKind.TheVariants.{Set, Map, List as Pair, Empty, Truth, Listing, Code}
 use Rattle.isl_expr.specs.declared.tree.Binary.{Binary}
 use Rattle.isl_expr.specs.declared.tree.Binary.TheVariants as b
+use Rattle.isl_expr.specs.declared.tree.Prefix.TheVariants as p
 use Rattle.isl_expr.specs.declared.tree.Postfix.{Postfix, Inverse, Apply, Item}
 use Rattle.isl_expr.specs.declared.tree.Expr as e
 use Rattle.isl_expr.specs.declared.tree.Expr.{Expr, Row', Prefix', Any', Last', Post', Row_of-Expr, end_of-Expr, more_of-Expr}
 use Rattle.isl_expr.specs.declared.tree.Expr.{Row_of-Link, end_of-Link, more_of-Link, Row_of-Postfix, end_of-Postfix, more_of-Postfix}
 use Rattle.isl_expr.specs.Expr.{literals_of, literals_in, literals_in_links, literals_in_postfixes}
-use Rattle.isl_kinds.specs.Lines.{joined, inverse}
+use Rattle.isl_kinds.specs.Lines.{joined, inverse, prefixed}
 use Rattle.isl_kinds.specs.Typed.{TypeView, ScopeView, by_two, kind_of_pieces, kind_of_image, kind_of, kind_in, kind_past_links, kind_past_postfixes, kind_past}
-use Rattle.isl_eval.specs.State.{Kept, StateView, kept_of, scope_of, type_of}
-use Rattle.isl_eval.specs.Selection.{KeptHas, JoinHas, PostfixHas, Selects, SelectsIn, SelectsPastLinks, PastPostfixesHas}
-use Rattle.isl_eval.proofs.StateLaws.{bound_at}
-use Rattle.isl_eval.proofs.PartLaws.{all_left, all_right}
+use Rattle.isl_select.specs.State.{Kept, StateView, kept_of, scope_of, type_of}
+use Rattle.isl_select.specs.Selection.{KeptHas, JoinHas, PostfixHas, Selects, SelectsIn, SelectsPastLinks, PastPostfixesHas}
+use Rattle.isl_select.specs.Selection.{IsContentOf, IsSelected, IsSelectedIn}
+use Rattle.isl_select.proofs.StateLaws.{bound_at}
+use Rattle.isl_select.proofs.PartLaws.{all_left, all_right}
 use Rattle.isl_eval.proofs.LiteralLaws.{IsSpelled}
 use Rattle.isl_readback.specs.Written.{IsSet, IsMap, IsUniform, IsSpaceOf, IsOfKind}
 use Rattle.isl_readback.specs.TakenAgain.{AreWritable}
@@ -211,6 +216,27 @@ module _ (space : SpaceForm) where
   of_meet Map Listing kind is x y = absurd y
   of_meet Map Code kind is x y = absurd y
 
+  of_difference : (a c kind : ValueKind) → joined b.Difference a c ≡ Some kind → IsSpaceOf a space → IsSpaceOf kind space
+  of_difference Set Set kind is x = as_kind space Set kind is x
+  of_difference Set Map kind is x = none_some kind is
+  of_difference Set Empty kind is x = as_kind space Set kind is x
+  of_difference Set Pair kind is x = none_some kind is
+  of_difference Set Truth kind is x = none_some kind is
+  of_difference Set Listing kind is x = none_some kind is
+  of_difference Set Code kind is x = none_some kind is
+  of_difference Map Set kind is x = as_kind space Map kind is x
+  of_difference Map Map kind is x = as_kind space Map kind is x
+  of_difference Map Empty kind is x = as_kind space Map kind is x
+  of_difference Map Pair kind is x = none_some kind is
+  of_difference Map Truth kind is x = none_some kind is
+  of_difference Map Listing kind is x = none_some kind is
+  of_difference Map Code kind is x = none_some kind is
+  of_difference Empty c kind is x = absurd x
+  of_difference Pair c kind is x = absurd x
+  of_difference Truth c kind is x = absurd x
+  of_difference Listing c kind is x = absurd x
+  of_difference Code c kind is x = absurd x
+
   turned_map : IsMap (inverse_space space) → IsMap space
   turned_map lies = by space lies
     where
@@ -238,7 +264,7 @@ module _ (Left Right : Element → Type 0) where
   join_kind b.Union a c kind element is x y (inl h) = of_union_left element.space a c kind is (x h)
   join_kind b.Union a c kind element is x y (inr h) = of_union_right element.space a c kind is (y h)
   join_kind b.Intersection a c kind element is x y has = of_meet element.space a c kind is (x has.0) (y has.1)
-  join_kind b.Difference a c kind element is x y has = absurd has
+  join_kind b.Difference a c kind element is x y has = of_difference element.space a c kind is (x has.0)
   join_kind b.RangeDifference a c kind element is x y has = absurd has
   join_kind b.RangeIntersection a c kind element is x y has = absurd has
   join_kind b.Gist a c kind element is x y has = absurd has
@@ -327,6 +353,79 @@ module _ (state : StateView) (valuation : Valuation) (all : AreWritable state) w
     postfixes_kind m Left o (more_of-Postfix postfix rest) before =
         postfixes_kind _ (λ x. PostfixHas postfix Left x) (kind_past (scope_of state) o postfix) rest
         (followed_kind (scope_of state) Left postfix o before)
+
+-- ---- what is kept
+-- a sample is of the kind of its operand
+sample_same : (k kind : ValueKind) → prefixed p.Sample k ≡ Some kind → k ≡ kind
+sample_same Set kind is = some_same Set kind is
+sample_same Map kind is = some_same Map kind is
+sample_same Empty kind is = some_same Empty kind is
+sample_same Pair kind is = none_some kind is
+sample_same Truth kind is = none_some kind is
+sample_same Listing kind is = none_some kind is
+sample_same Code kind is = none_some kind is
+
+module _ (state : StateView) (all : AreWritable state) where
+  sample_kind : (m : Count) (operand : Row_of-Expr m) → All IsSpelled (literals_in operand) → (argument value : KeptValue)
+      → IsSelectedIn state operand argument → IsSampleOf argument value → (kind : ValueKind)
+      → option_and_then (prefixed p.Sample) (kind_in (scope_of state) operand) ≡ Some kind → (valuation : Valuation) (element : Element)
+      → Has value valuation element → IsSpaceOf kind element.space
+  sample_kind m operand spelled argument value selected sample kind is valuation element has = by (kind_in (scope_of state) operand) refl sample.pieces
+    where
+      HasIt : List KeptPiece → Type 0
+      HasIt pieces = Any (HasElement value.params valuation element) pieces
+
+      by : (o : Option ValueKind) → kind_in (scope_of state) operand ≡ o
+          → ((IsEmpty argument × (value.pieces ≡ []))
+          ⊎ ((v : Valuation) × (x : Element) × Has argument v x × (value.pieces ≡ only_piece argument.params v x ∷ [])))
+          → IsSpaceOf kind element.space
+      by o there (inl none) = absurd (Any-none (HasElement value.params valuation element) (subst HasIt none.1 has))
+      by None there (inr one) = none_some kind (sym (ap (option_and_then (prefixed p.Sample)) there) ∙ is)
+      by (Some k) there (inr one) =
+          let piece = only_piece argument.params one.0 one.1 in
+          let same = sample_same k kind (sym (ap (option_and_then (prefixed p.Sample)) there) ∙ is) in
+          let lies : IsSpaceOf k one.1.space = (in_kind state one.0 all m operand spelled).lies k one.1 there ((selected.0 one.0 one.1).0 one.2) in
+          elim (Any-cases (HasElement value.params valuation element) piece [] (subst HasIt one.3 has)) [
+            | inl here ↦ subst (λ (j : ValueKind). IsSpaceOf j element.space) same (subst (IsSpaceOf k) here.space lies)
+            | inr later ↦ absurd (Any-none (HasElement value.params valuation element) later)
+          ]
+
+  abbrev selected_at : (expr : Expr) (value : KeptValue) → All IsSpelled (literals_of expr) → IsSelected state expr value → (kind : ValueKind)
+      → kind_of (scope_of state) expr ≡ Some kind → (valuation : Valuation) (element : Element) → Has value valuation element
+      → IsSpaceOf kind element.space
+  selected_at expr value spelled selected kind is valuation element has =
+      (selected_kind state valuation all expr spelled).lies kind element is ((selected.elements valuation element).0 has)
+
+  -- what is kept of an expression is of its kind
+  pub content_kind : (expr : Expr) (value : KeptValue) → All IsSpelled (literals_of expr) → IsContentOf state expr value → (kind : ValueKind)
+      → kind_of (scope_of state) expr ≡ Some kind → (valuation : Valuation) (element : Element) → Has value valuation element
+      → IsSpaceOf kind element.space
+  content_kind (Prefix' p.Sample s operand) value spelled content kind is valuation element has =
+      sample_kind _ operand spelled content.0 value content.1 content.2 kind is valuation element has
+  content_kind (Prefix' p.Domain s operand) value spelled content kind is valuation element has = absurd ((content.elements valuation element).0 has)
+  content_kind (Prefix' p.Range s operand) value spelled content kind is valuation element has = absurd ((content.elements valuation element).0 has)
+  content_kind (Prefix' p.Deltas s operand) value spelled content kind is valuation element has = absurd ((content.elements valuation element).0 has)
+  content_kind (Prefix' p.Identity s operand) value spelled content kind is valuation element has = absurd ((content.elements valuation element).0 has)
+  content_kind (Prefix' p.Wrap s operand) value spelled content kind is valuation element has = absurd ((content.elements valuation element).0 has)
+  content_kind (Prefix' p.Unwrap s operand) value spelled content kind is valuation element has = absurd ((content.elements valuation element).0 has)
+  content_kind (Prefix' p.Zip s operand) value spelled content kind is valuation element has = absurd ((content.elements valuation element).0 has)
+  content_kind (Prefix' p.DomainMap s operand) value spelled content kind is valuation element has = absurd ((content.elements valuation element).0 has)
+  content_kind (Prefix' p.RangeMap s operand) value spelled content kind is valuation element has = absurd ((content.elements valuation element).0 has)
+  content_kind (Prefix' p.LexMin s operand) value spelled content kind is valuation element has = absurd ((content.elements valuation element).0 has)
+  content_kind (Prefix' p.LexMax s operand) value spelled content kind is valuation element has = absurd ((content.elements valuation element).0 has)
+  content_kind (Prefix' p.Coalesce s operand) value spelled content kind is valuation element has = absurd ((content.elements valuation element).0 has)
+  content_kind (Prefix' p.Scan s operand) value spelled content kind is valuation element has = absurd ((content.elements valuation element).0 has)
+  content_kind (Prefix' p.Codegen s operand) value spelled content kind is valuation element has = absurd ((content.elements valuation element).0 has)
+  content_kind (e.Name name) value spelled content kind is valuation element has =
+      selected_at (e.Name name) value spelled content kind is valuation element has
+  content_kind (e.Literal literal) value spelled content kind is valuation element has =
+      selected_at (e.Literal literal) value spelled content kind is valuation element has
+  content_kind (Row' s first t links) value spelled content kind is valuation element has =
+      selected_at (Row' s first t links) value spelled content kind is valuation element has
+  content_kind (Any' q source s sink t schedule) value spelled content kind is valuation element has = absurd ((content.elements valuation element).0 has)
+  content_kind (Last' q source s sink t schedule) value spelled content kind is valuation element has = absurd ((content.elements valuation element).0 has)
+  content_kind (Post' s operand t postfixes) value spelled content kind is valuation element has =
+      selected_at (Post' s operand t postfixes) value spelled content kind is valuation element has
 
 -- ---- what is of a kind can be written
 pub of_kind_uniform : (value : KeptValue) (kind : ValueKind) → IsOfKind kind value → IsUniform value

@@ -1,9 +1,11 @@
 -- What the program answers, it takes again.
-use Rattle.std.proofs.Common.{◌≡◌, ◌<◌, ◌≤◌, ◌-◌, ◌^◌, ◌∙◌, ℕ, suc, Bool, true, false, List, [], ◌∷◌, ◌++◌, Some, None, Ok, All, ap, sym, subst, refl, arith, pow_mono}
+use Rattle.std.proofs.Common.{◌≡◌, ◌<◌, ◌≤◌, ◌-◌, ◌^◌, ◌∙◌, ℕ, suc, Bool, true, false, List, [], ◌∷◌, ◌++◌, Some, None, Result, Ok, Err, All, ap, sym, subst, refl, arith, pow_mono}
 use Rattle.std.specs.Prelude.{◌&&◌, ◌||◌, length}
 use Rattle.std.specs.Str.{bytes_eq}
 use Rattle.std.proofs.lemmas.Bool.{false≢true}
-use Rattle.std.proofs.lemmas.List.Elements.{All-nil, All-cons}
+use Rattle.std.proofs.lemmas.List.Elements.{All-nil, All-cons, All-head, All-tail}
+use Rattle.std.proofs.lemmas.List.{length-append}
+use Rattle.isl_math.proofs.ListLaws.{All-parts}
 use Rattle.std.proofs.lemmas.Slice.Eq.{bytes_eq-Decides}
 use Rattle.isl_meter.specs.Gauge.{Gauge, limit_of, IsCharged}
 use Rattle.isl_space.specs.Name.{Name}
@@ -29,31 +31,36 @@ use Rattle.isl_expr.specs.declared.tree.Expr as e
 use Rattle.isl_expr.specs.Expr.{literals_of, statement_literals}
 use Rattle.isl_space.specs.Limits.{most_leaves, most_parameters}
 use Rattle.isl_kinds.specs.Lines.{is_kind}
-use Rattle.isl_simple.specs.Unsupported.{is_unsupported}
+use Rattle.isl_simple.specs.Unsupported.{is_unsupported, mixes_kinds}
+use Rattle.isl_simple.proofs.SimpleLaws.{literals_kept}
 use Rattle.isl_statement.specs.StatementGrammar.{statement_grammar}
 use Rattle.isl_statement.specs.Limits.{statement_is_within}
 use Rattle.isl_statement.specs.Read.{NoStatement}
-use Rattle.isl_kinds.specs.Typed.{ScopeView, kind_of_pieces, declared_of, type_of_statement}
-use Rattle.isl_eval.specs.State.{Kept, Moment, unbound, kept_of, scope_of}
-use Rattle.isl_eval.specs.Selection.{Keeps}
-use Rattle.isl_eval.specs.Spelled.{BytesSpell}
-use Rattle.isl_eval.specs.Causes.{IsValid}
-use Rattle.isl_eval.specs.Machine.{Answer, Step, Answers, shown}
-use Rattle.isl_eval.specs.Evaluation.{IsRead, IsWorkable}
+use Rattle.isl_kinds.specs.Typed.{ScopeView, is_dollar, kind_of_pieces, declared_of, type_of_statement}
+use Rattle.isl_text.specs.declared.refusal.Refusal.{Refusal}
+use Rattle.isl_text.specs.declared.refusal.Refusal.TheVariants.{UnknownName, WrongKind, NoElement}
+use Rattle.isl_select.specs.State.{Kept, Moment, StateView, Binds, unbound, kept_of, scope_of, forgotten}
+use Rattle.isl_select.specs.Selection.{Keeps}
+use Rattle.isl_eval.specs.Spelled.{BytesSpell, OfStatement}
+use Rattle.isl_simple.specs.Flat.{flat}
+use Rattle.isl_simple.specs.Simple.{statement_declared}
+use Rattle.isl_eval.specs.Causes.{AreDone, IsClear, IsInfinite, IsUnbounded, IsValid, Stops, is_parametric}
+use Rattle.isl_eval.specs.Machine.{Answer, Step, Steps, nothing, shown}
+use Rattle.isl_eval.specs.Run.{Answers}
 use Rattle.isl_eval.proofs.CauseLaws.{of_tokens, of_statement, one as one_spelled}
 use Rattle.isl_eval.proofs.LexLaws.{lexed}
 use Rattle.isl_eval.proofs.LiteralLaws.{IsSpelled, literals_spelled}
-use Rattle.isl_eval.proofs.KeptLaws.{declared_itself}
-use Rattle.isl_eval.proofs.StepLaws.{valid as valid_of_workable}
+use Rattle.isl_select.proofs.KeptLaws.{declared_itself}
+use Rattle.isl_select.proofs.ForgetLaws.{kept_of_dollar, kept_of_forgotten}
 use Rattle.isl_readback.specs.Tree.{printed_tree}
 use Rattle.isl_readback.specs.Written.{HasFewRemainders, IsOfKind}
 use Rattle.isl_readback.specs.RoundTrip.{IsWritableValue, ReadsAs}
-use Rattle.isl_readback.specs.TakenAgain.{AreWritable, IsShallow, IsShownAgain, IsTakenAgain}
+use Rattle.isl_readback.specs.TakenAgain.{AreWritable, IsShallow, IsShownAgain, IsTakenAgain, ShowsKept}
 use Rattle.isl_readback.proofs.ValueTokenLaws.{printed_tokens, tokens-printed}
 use Rattle.isl_readback.proofs.TakenTokens.{narrow}
 use Rattle.isl_readback.proofs.RoundTripLaws.{tree_at, reads_as}
 use Rattle.isl_readback.proofs.AloneLaws.{shown_alone}
-use Rattle.isl_readback.proofs.KindLaws.{value_kind, selected_kind, of_kind_uniform}
+use Rattle.isl_readback.proofs.KindLaws.{value_kind, content_kind, of_kind_uniform}
 use Rattle.isl_readback.proofs.WritableLaws.{writable_numbers}
 
 is_not : (a : Bool) → a ≡ false → ¬ (a ≡ true)
@@ -81,6 +88,14 @@ one_kind Truth = refl
 one_kind Listing = refl
 one_kind Code = refl
 
+ok_err : {A E : Type 0} {x : A} {y : E} → ◌≡◌ {A = Result A E} (Ok x) (Err y) → ⊥
+ok_err e = cc
+
+-- the only statement of a list
+next_alone : (x : Stmt) (done later : List Stmt) (next : Stmt) → x ∷ [] ≡ done ++ next ∷ later → next ≡ x
+next_alone x [] later next is = cc
+next_alone x (first ∷ more) later next is = absurd (omega (arith, ap length is, length-append more (next ∷ later)))
+
 -- ---- the text of a value, and its answer
 module _ (moment : Moment) (bits : moment.meter.bits ≤ 127) (value : KeptValue) (writable : IsWritableValue value)
     (small : HasNumbersUpTo (2 ^ moment.meter.bits - 1) value) where
@@ -105,65 +120,100 @@ module _ (moment : Moment) (bits : moment.meter.bits ≤ 127) (value : KeptValue
   within : HasFewRemainders value → statement_is_within (Show (e.Literal (printed_tree value))) ≡ true
   within few = rw (reads.within few) refl
 
-  none_there : IsShallow (printed value) → HasFewRemainders value → IsRead moment (printed value) (Show (e.Literal (printed_tree value)))
-  none_there shallow few = record {
-    spelled = text_spells;
-    none = (
-      (λ none. let f : Some (printed_tokens value) ≡ None = sym lexes ∙ none in cc),
+  -- none of the causes is there
+  at_text : (P : Stmt → Type 0) → OfStatement (printed value) P → P (Show (e.Literal (printed_tree value)))
+  at_text P there = of_statement (printed value) (Show (e.Literal (printed_tree value))) P text_spells there
+
+  typed : type_of_statement (scope_of moment.state) (Show (e.Literal (printed_tree value)))
+      ≡ Ok (Some (record {
+        kind = kind_of_pieces (printed_tree value).pieces;
+        params = declared_of (scope_of moment.state) (e.Literal (printed_tree value));
+      }))
+  typed = literal_typed (scope_of moment.state) (printed_tree value) reads.known
+
+  no_error : (refusal : Refusal) → ¬ OfStatement (printed value) (λ stmt. type_of_statement (scope_of moment.state) stmt ≡ Err refusal)
+  no_error refusal there = ok_err (sym typed ∙ at_text (λ stmt. type_of_statement (scope_of moment.state) stmt ≡ Err refusal) there)
+
+  few_declared : length (declared_of (scope_of moment.state) (e.Literal (printed_tree value))) ≤ most_parameters
+  few_declared =
+      let itself = declared_itself (printed_tree value).params reads.well_formed.params.distinct in
+      subst (λ (names : List Name). length names ≤ most_parameters) (sym itself) reads.well_formed.params.few
+
+  text_clear : IsShallow (printed value) → HasFewRemainders value → IsClear moment (printed value)
+  text_clear shallow few = (
+    (λ none. let f : Some (printed_tokens value) ≡ None = sym lexes ∙ none in cc),
+    (
+      shallow,
       (
-        shallow,
+        (λ there. of_tokens (printed value) (printed_tokens value) NoStatement lexes there (Show (e.Literal (printed_tree value))) spells),
         (
-          (λ there. of_tokens (printed value) (printed_tokens value) NoStatement lexes there (Show (e.Literal (printed_tree value))) spells),
+          (λ there. is_so _ (within few) (at_text (λ stmt. statement_is_within stmt ≡ false) there)),
           (
-            (λ there. is_so _ (within few) (of_statement (printed value) _ (λ stmt. statement_is_within stmt ≡ false) text_spells there)),
+            (λ there. is_not _ (narrow (2 ^ moment.meter.bits - 1) below value writable small) (of_tokens (printed value) (printed_tokens value) (λ ts. has_wide_number (limit_of moment.meter) ts ≡ true) lexes there)),
             (
-              (λ there. is_not _ (narrow (2 ^ moment.meter.bits - 1) below value writable small)
-                  (of_tokens (printed value) (printed_tokens value) (λ ts. has_wide_number (limit_of moment.meter) ts ≡ true) lexes there)),
-              ((λ there. is_not _ supported (of_statement (printed value) _ (λ stmt. is_unsupported stmt ≡ true) text_spells there)), tt),
+              (λ there. is_not _ supported (at_text (λ stmt. is_unsupported stmt ≡ true) there)),
+              (
+                no_error UnknownName,
+                (
+                  no_error WrongKind,
+                  (
+                    no_error NoElement,
+                    (
+                      (λ there. is_not _ (one_kind (kind_of_pieces (printed_tree value).pieces)) (at_text (λ stmt. mixes_kinds (scope_of moment.state) stmt ≡ true) there)),
+                      (
+                        (λ there. is_not _ refl (at_text (λ stmt. is_parametric (scope_of moment.state) moment.at stmt ≡ true) there)),
+                        (
+                          (λ there. let wide = at_text (λ stmt. most_parameters < length (statement_declared (scope_of moment.state) stmt)) there in absurd (omega (arith, few_declared, wide))),
+                          tt,
+                        ),
+                      ),
+                    ),
+                  ),
+                ),
+              ),
             ),
           ),
         ),
       ),
-    );
-    supported = supported;
-    sound = All-cons IsWellFormedLiteral (printed_tree value) [] reads.well_formed (All-nil IsWellFormedLiteral);
-  }
+    ),
+  )
 
-  workable : IsWorkable (scope_of moment.state) (Show (e.Literal (printed_tree value)))
-  workable =
-      let kind = kind_of_pieces (printed_tree value).pieces in
-      let declared = declared_of (scope_of moment.state) (e.Literal (printed_tree value)) in
-      let itself = declared_itself (printed_tree value).params reads.well_formed.params.distinct in
-      record {
-        typed = (Some (record { kind = kind; params = declared }), literal_typed (scope_of moment.state) (printed_tree value) reads.known);
-        unmixed = one_kind kind;
-        narrow = subst (λ (names : List Name). length names ≤ most_parameters) (sym itself) reads.well_formed.params.few;
-      }
+  -- a literal lists nothing
+  text_bounded : ¬ IsUnbounded moment (printed value)
+  text_bounded there =
+      let stops = at_text (λ stmt. Stops moment stmt IsInfinite) there in
+      subst (IsInfinite stops.now) (next_alone (Show (e.Literal (printed_tree value))) stops.done stops.later stops.next stops.split) stops.stops
 
   pub text_valid : IsShallow (printed value) → HasFewRemainders value → IsValid moment (printed value)
-  text_valid shallow few = valid_of_workable moment (printed value) (Show (e.Literal (printed_tree value))) (none_there shallow few) workable
+  text_valid shallow few = record { clear = text_clear shallow few; bounded = text_bounded }
 
   -- the text spells no other statement, and each value that is read of it has the same text
   pub text_answered : (answer : Answer) → answer ≡ shown value → (last : Moment) (other : Answer) → Answers moment (printed value) last other
       → other ≡ answer
+  unfolding Steps
   text_answered answer is last other answers = by answers.stmt (one_spelled (printed value) answers.stmt (Show (e.Literal (printed_tree value))) answers.spelled text_spells)
-      answers.step
+      answers.performed.1
     where
-      by : (stmt : Stmt) → stmt ≡ Show (e.Literal (printed_tree value)) → Step moment stmt last other → other ≡ answer
-      by stmt same step =
-          let made = (subst (λ (s : Stmt). Step moment s last other) same step).1 in
-          let ordered_again : made.0.value ≡ ordered value = reads.read made.0.value made.1.written in
+      by : (stmt : Stmt) → stmt ≡ Show (e.Literal (printed_tree value)) → Steps moment (flat stmt) answers.performed.0 other → other ≡ answer
+      by stmt same steps =
+          let step : Step moment (Show (e.Literal (printed_tree value))) answers.performed.0 other =
+          subst (λ (s : Stmt). Steps moment (flat s) answers.performed.0 other) same steps in
+          let made = step.does.1 in
+          let ordered_again : made.0.value ≡ ordered value = reads.read made.0.value made.1.content.written in
           made.2 ∙ ap shown ordered_again ∙ ap line (printed-ordered value) ∙ sym is
 
 -- ---- what an answered statement shows or binds can be written
-module _ (before : Moment) (bytes : List ℕ) (bits : before.meter.bits ≤ 127) (all : AreWritable before.state) where
-  of_text : (stmt : Stmt) → BytesSpell bytes stmt → All IsSpelled (statement_literals stmt)
-  of_text stmt spelled = literals_spelled stmt spelled.tokens (lexed bytes spelled.tokens spelled.cut) spelled.spelled
+abbrev AreSpelled : Stmt → Type 0
+AreSpelled stmt = All IsSpelled (statement_literals stmt)
 
+abbrev IsWritten : Kept → Type 0
+IsWritten kept = IsOfKind kept.kind kept.value × IsWritableValue kept.value
+
+module _ (before : Moment) (bits : before.meter.bits ≤ 127) (all : AreWritable before.state) where
   expr_kind : (expr : Expr) (kept : Kept) → All IsSpelled (literals_of expr) → Keeps before expr kept → IsOfKind kept.kind kept.value
   expr_kind expr kept spelled keeps =
-      value_kind kept.kind kept.value keeps.well_formed (λ valuation element has.
-      (selected_kind before.state valuation all expr spelled).lies kept.kind element keeps.kind ((keeps.elements valuation element).0 has))
+      value_kind kept.kind kept.value keeps.well_formed
+      (λ valuation element has. content_kind before.state all expr kept.value spelled keeps.content kept.kind keeps.kind valuation element has)
 
   expr_writable : (expr : Expr) (kept : Kept) → All IsSpelled (literals_of expr) → Keeps before expr kept → IsWritableValue kept.value
   expr_writable expr kept spelled keeps = record {
@@ -173,58 +223,112 @@ module _ (before : Moment) (bytes : List ℕ) (bits : before.meter.bits ≤ 127)
     uniform = of_kind_uniform kept.value kept.kind (expr_kind expr kept spelled keeps);
   }
 
-  show_again : (expr : Expr) (kept : Kept) (after : Moment) (answer : Answer) → BytesSpell bytes (Show expr) → Keeps before expr kept → answer ≡ shown kept.value
-      → IsCharged before.meter after.meter → IsShownAgain before expr after answer
-  show_again expr kept after answer spelled keeps is charged =
-      let writable = expr_writable expr kept (of_text (Show expr) spelled) keeps in
-      let value = kept.value in
+  show_again : (expr : Expr) (kept : Kept) (after : Moment) (answer : Answer) → All IsSpelled (literals_of expr) → Keeps before expr kept
+      → answer ≡ shown kept.value → after.meter.bits ≡ before.meter.bits → IsShownAgain after kept.value answer
+  show_again expr kept after answer spelled keeps is same =
+      let writable = expr_writable expr kept spelled keeps in
       let reads = reads_as kept.value writable in
-      let same : after.meter.bits ≡ before.meter.bits = ap (λ (g : Gauge). g.bits) charged.same in
       let bits_after : after.meter.bits ≤ 127 = subst (λ (n : ℕ). n ≤ 127) (sym same) bits in
       let small : HasNumbersUpTo (2 ^ after.meter.bits - 1) kept.value = subst (λ (n : ℕ). HasNumbersUpTo (2 ^ n - 1) kept.value) (sym same) keeps.numbers in
       record {
-        text = printed kept.value;
         line = ap (λ (a : Answer). a.bytes) is;
         again = printed_tree kept.value;
         spelled = text_spells after bits_after kept.value writable small;
         elements = λ valuation element.
             let now = same_elements (printed_tree kept.value) reads.plain reads.known valuation element in
             let values = reads.elements valuation element in
-            let chosen = keeps.elements valuation element in
-            ((λ h. chosen.0 (values.0 (now.1 h))), (λ h. now.0 (values.1 (chosen.1 h))));
-        value = kept.value;
-        is_text = refl;
+            ((λ h. values.0 (now.1 h)), (λ h. now.0 (values.1 h)));
         reads = reads;
         valid = text_valid after bits_after kept.value writable small;
         answered = text_answered after bits_after kept.value writable small answer is;
       }
 
-  pub stays : (stmt : Stmt) (after : Moment) (answer : Answer) → BytesSpell bytes stmt → Step before stmt after answer → AreWritable after.state
-  stays Empty after answer spelled step = subst AreWritable (sym step.0) all
-  stays (Show expr) after answer spelled step = subst AreWritable (sym step.0) all
-  stays (Bind name expr) after answer spelled step = λ other found is. by other found is (bytes_eq other name) refl
+  bound_writable : (name : Name) (expr : Expr) (kept : Kept) (after : StateView) → All IsSpelled (literals_of expr) → Keeps before expr kept
+      → Binds before.state name kept after → AreWritable after
+  bound_writable name expr kept after spelled keeps binds = λ other found is. by other found is (bytes_eq other name) refl
     where
-      by : (other : Name) (found : Kept) → kept_of after.state other ≡ Some found → (b : Bool) → bytes_eq other name ≡ b → IsOfKind found.kind found.value × IsWritableValue found.value
+      by : (other : Name) (found : Kept) → kept_of after other ≡ Some found → (b : Bool) → bytes_eq other name ≡ b → IsWritten found
       by other found is true same =
-          let made = step.0 in
-          let there : kept_of after.state other ≡ Some made.0 = ap (kept_of after.state) ((bytes_eq-Decides other name).0 same) ∙ made.2.named in
-          let e : made.0 ≡ found = let f : Some made.0 ≡ Some found = sym there ∙ is in cc in
-          let literals = of_text (Bind name expr) spelled in
-          subst (λ (k : Kept). IsOfKind k.kind k.value × IsWritableValue k.value) e
-          (expr_kind expr made.0 literals made.1, expr_writable expr made.0 literals made.1)
+          let there : kept_of after other ≡ Some kept = ap (kept_of after) ((bytes_eq-Decides other name).0 same) ∙ binds.named in
+          let e : kept ≡ found = let f : Some kept ≡ Some found = sym there ∙ is in cc in
+          subst IsWritten e (expr_kind expr kept spelled keeps, expr_writable expr kept spelled keeps)
       by other found is false apart =
-          all other found (sym (step.0.2.others other (λ e. false≢true (sym apart ∙ (bytes_eq-Decides other name).1 e))) ∙ is)
+          all other found (sym (binds.others other (λ e. false≢true (sym apart ∙ (bytes_eq-Decides other name).1 e))) ∙ is)
 
-  pub again : (stmt : Stmt) (after : Moment) (answer : Answer) → BytesSpell bytes stmt → Step before stmt after answer → IsCharged before.meter after.meter → IsTakenAgain before stmt after answer
-  again Empty after answer spelled step charged = step.1
-  again (Bind name expr) after answer spelled step charged = step.1
-  again (Show expr) after answer spelled step charged = show_again expr step.1.0 after answer spelled step.1.1 step.1.2 charged
+  step_writable : (stmt : Stmt) (after : Moment) (answer : Answer) → AreSpelled stmt → Step before stmt after answer → AreWritable after.state
+  step_writable Empty after answer spelled step = subst AreWritable (sym step.does.0) all
+  step_writable (Show expr) after answer spelled step = subst AreWritable (sym step.does.0) all
+  step_writable (Bind name expr) after answer spelled step =
+      let made = step.does.0 in bound_writable name expr made.0 after.state spelled made.1 made.2
 
-pub taken_again : (before : Moment) (bytes : List ℕ) (after : Moment) (answer : Answer) → before.meter.bits ≤ 127 → AreWritable before.state → (answered : Answers before bytes after answer) → IsTakenAgain before answered.stmt after answer
-taken_again before bytes after answer bits all answered = again before bytes bits all answered.stmt after answer answered.spelled answered.step answered.meter
+same_bits : (g h : Gauge) → IsCharged g h → h.bits ≡ g.bits
+same_bits g h charged = ap (λ (m : Gauge). m.bits) charged.same
 
-pub stays_writable : (before : Moment) (bytes : List ℕ) (after : Moment) (answer : Answer) → before.meter.bits ≤ 127 → AreWritable before.state → Answers before bytes after answer → AreWritable after.state
-stays_writable before bytes after answer bits all answered = stays before bytes bits all answered.stmt after answer answered.spelled answered.step
+-- simple statements that are done, one after another
+done_writable : (before : Moment) (done : List Stmt) (now : Moment) → before.meter.bits ≤ 127 → AreWritable before.state → All AreSpelled done
+    → AreDone before done now → AreWritable now.state × (now.meter.bits ≡ before.meter.bits)
+unfolding AreDone
+done_writable before [] now bits all spelled done =
+    (subst (λ (m : Moment). AreWritable m.state) (sym done) all, ap (λ (m : Moment). m.meter.bits) done)
+done_writable before (stmt ∷ more) now bits all spelled done =
+    let next = done.0 in
+    let kept = same_bits before.meter next.meter done.1.meter in
+    let written = step_writable before bits all stmt next nothing (All-head AreSpelled stmt more spelled) done.1 in
+    let rest = done_writable next more now (subst (λ (n : ℕ). n ≤ 127) (sym kept) bits) written (All-tail AreSpelled stmt more spelled) done.2 in
+    (rest.0, rest.1 ∙ kept)
+
+steps_writable : (before : Moment) (stmts : List Stmt) (after : Moment) (answer : Answer) → before.meter.bits ≤ 127 → AreWritable before.state
+    → All AreSpelled stmts → Steps before stmts after answer → AreWritable after.state
+unfolding Steps
+steps_writable before [] after answer bits all spelled steps = absurd steps
+steps_writable before (stmt ∷ []) after answer bits all spelled steps =
+    step_writable before bits all stmt after answer (All-head AreSpelled stmt [] spelled) steps
+steps_writable before (stmt ∷ second ∷ more) after answer bits all spelled steps =
+    let next = steps.0 in
+    let kept = same_bits before.meter next.meter steps.1.meter in
+    let written = step_writable before bits all stmt next nothing (All-head AreSpelled stmt (second ∷ more) spelled) steps.1 in
+    steps_writable next (second ∷ more) after answer (subst (λ (n : ℕ). n ≤ 127) (sym kept) bits) written
+    (All-tail AreSpelled stmt (second ∷ more) spelled) steps.2
+
+-- the literals of a statement, and of its simple statements, are spelled
+of_text : (bytes : List ℕ) (stmt : Stmt) → BytesSpell bytes stmt → AreSpelled stmt
+of_text bytes stmt spelled = literals_spelled stmt spelled.tokens (lexed bytes spelled.tokens spelled.cut) spelled.spelled
+
+of_simple : (bytes : List ℕ) (stmt : Stmt) → BytesSpell bytes stmt → All AreSpelled (flat stmt)
+of_simple bytes stmt spelled = literals_kept IsSpelled stmt (of_text bytes stmt spelled)
+
+-- what is shown of a kept value
+shows_again : (now : Moment) (stmt : Stmt) (kept : Kept) (after : Moment) (answer : Answer) → now.meter.bits ≤ 127 → AreWritable now.state
+    → AreSpelled stmt → ShowsKept kept now stmt → answer ≡ shown kept.value → after.meter.bits ≡ now.meter.bits → IsShownAgain after kept.value answer
+shows_again now (Show expr) kept after answer bits all spelled keeps is same = show_again now bits all expr kept after answer spelled keeps is same
+shows_again now Empty kept after answer bits all spelled keeps is same = absurd keeps
+shows_again now (Bind name expr) kept after answer bits all spelled keeps is same = absurd keeps
+
+pub taken_again : (before : Moment) (bytes : List ℕ) (after : Moment) (answer : Answer) → before.meter.bits ≤ 127 → AreWritable before.state
+    → (answered : Answers before bytes after answer) → IsTakenAgain before answered.stmt after answer
+taken_again before bytes after answer bits all answered kept stops is =
+    let spelled = subst (All AreSpelled) stops.split (of_simple bytes answered.stmt answered.spelled) in
+    let parts = All-parts AreSpelled stops.done (stops.next ∷ stops.later) spelled in
+    let now = done_writable before stops.done stops.now bits all parts.0 stops.steps in
+    shows_again stops.now stops.next kept after answer (subst (λ (n : ℕ). n ≤ 127) (sym now.1) bits) now.0
+    (All-head AreSpelled stops.next stops.later parts.1) stops.stops is (same_bits before.meter after.meter answered.meter ∙ sym now.1)
+
+kept_before : (state : StateView) (name : Name) (kept : Kept) → kept_of (forgotten state) name ≡ Some kept → kept_of state name ≡ Some kept
+kept_before state name kept is = by (is_dollar name) refl
+  where
+    by : (b : Bool) → is_dollar name ≡ b → kept_of state name ≡ Some kept
+    by true dollar = let f : None ≡ Some kept = sym (kept_of_dollar state name dollar) ∙ is in cc
+    by false plain = sym (kept_of_forgotten state name plain) ∙ is
+
+forgotten_writable : (state : StateView) → AreWritable state → AreWritable (forgotten state)
+forgotten_writable state all = λ name kept is. all name kept (kept_before state name kept is)
+
+pub stays_writable : (before : Moment) (bytes : List ℕ) (after : Moment) (answer : Answer) → before.meter.bits ≤ 127 → AreWritable before.state
+    → Answers before bytes after answer → AreWritable after.state
+stays_writable before bytes after answer bits all answered =
+    let now = answered.performed.0 in
+    let written = steps_writable before (flat answered.stmt) now answer bits all (of_simple bytes answered.stmt answered.spelled) answered.performed.1 in
+    subst (λ (m : Moment). AreWritable m.state) (sym answered.performed.2) (forgotten_writable now.state written)
 
 pub starts_writable : AreWritable unbound
 starts_writable = λ name kept is. let f : None ≡ Some kept = is in cc

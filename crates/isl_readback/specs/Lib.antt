@@ -4,7 +4,7 @@ pub mod RoundTrip
 pub mod Accepted
 pub mod TakenAgain
 pub use Rattle.isl_eval.specs.Machine
-pub use Rattle.isl_eval.specs.State
+pub use Rattle.isl_select.specs.State
 pub use Rattle.isl_lower.specs.Value
 pub use Rattle.isl_print.specs.Printed
 pub use Rattle.isl_union.specs.KeptValue

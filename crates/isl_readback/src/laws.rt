@@ -13,8 +13,9 @@ ghost use Rattle.isl_tree.specs.declared.tree.Literal.{Literal};
 ghost use Rattle.isl_tree.specs.Known.{literal_is_known};
 ghost use Rattle.isl_tree.specs.Plain.{is_plain};
 ghost use Rattle.isl_lower.specs.Value.{HasSameElements, IsWellFormedLiteral, value_lowered};
-ghost use Rattle.isl_eval.specs.State.{Moment, unbound};
-ghost use Rattle.isl_eval.specs.Machine.{Answer, Answers};
+ghost use Rattle.isl_select.specs.State.{Moment, unbound};
+ghost use Rattle.isl_eval.specs.Machine.{Answer};
+ghost use Rattle.isl_eval.specs.Run.{Answers};
 ghost use Rattle.isl_readback.specs.Accepted.{HasQuietNames, IsAccepted};
 ghost use Rattle.isl_readback.specs.Tree.{printed_tree};
 ghost use Rattle.isl_readback.specs.Written.{HasFewRemainders, HasWritableNumbers, IsUniform, value_written};
@@ -74,8 +75,8 @@ pub fn lowered_is_writable()
         → IsWritableValue value }
 {}
 
-/// What the program answers, it takes again: the text of a line that shows a value is a statement, which shows a literal with exactly
-/// the elements that were selected, and whatever answers it answers the same line. It needs that what is bound can be written; this holds
+/// What the program shows of a value, it takes again: the text of the line is a statement, which shows a literal with exactly the
+/// elements of the value, and whatever answers it answers the same line. It needs that what is bound can be written; this holds
 /// where nothing is bound, and each answered statement keeps it.
 pub fn shown_is_taken_again()
     ensures taken { (before : Moment) (bytes : List ℕ) (after : Moment) (answer : Answer) → before.meter.bits ≤ 127

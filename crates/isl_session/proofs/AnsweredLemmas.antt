@@ -7,14 +7,16 @@ use Rattle.std.specs.Io.KnownBytes.{Appends, Consumes, IsAtEnd}
 use Rattle.std.proofs.lemmas.List.{append-nil, append_assoc, length-append}
 use Rattle.isl_math.specs.Count.{Rose}
 use Rattle.isl_meter.specs.Gauge.{Gauge}
+use Rattle.isl_space.specs.Valuation.{Valuation}
+use Rattle.isl_select.specs.State.{Moment}
 use Rattle.isl_stmt.specs.Script.{statements, rest_of, readable, next_part, ends, IsBlank}
 use Rattle.isl_text.specs.declared.refusal.Refusal.{Refusal}
 use Rattle.isl_eval.specs.Causes.{Refuses}
-use Rattle.isl_eval.specs.Machine.{started}
+use Rattle.isl_eval.specs.Run.{started}
 use Rattle.isl_session.specs.declared.fault.Fault.{Fault}
 use Rattle.isl_session.specs.declared.TheConstants.{SCRIPT_MAX, STATEMENT_MAX}
 use Rattle.isl_session.specs.Place.{Place, at_words, in_statement, too_long, past_limit, at_end, at_read, at_write, anywhere, place_of}
-use Rattle.isl_session.specs.View.{View, BreaksIn, Fed, IsMeterAt, Stopped, moment_of, opened}
+use Rattle.isl_session.specs.View.{View, BreaksIn, Fed, Gives, IsMeterAt, Stopped, moment_of, opened}
 use Rattle.isl_session.specs.Status.{StatusView}
 use Rattle.isl_session.specs.Lines.{fault_line}
 use Rattle.isl_session.specs.Run.{Answered, Ended, Halts, HasCause, IsScriptOf, OfFirst, Outside, Progress, Tells, Wrote, number_at}
@@ -42,13 +44,18 @@ abbrev fault_of : ℕ → Refusal → Fault
 fault_of statement refusal = record { statement = statement; refusal = refusal }
 
 -- why a run ended at this place, what it wrote and what it told
-abbrev EndedAt : (first : Gauge) (script : List ℕ) → Progress first script → List ℕ → List ℕ → Gauge → Outside → Outside → Refusal → Place → Type 0
+abbrev EndedAt : (first : Moment) (script : List ℕ) → Progress first script → List ℕ → List ℕ → Gauge → Outside → Outside → Refusal → Place → Type 0
 EndedAt first script progress taken gained now old new refusal place =
     HasCause first script progress taken now old new refusal place × Wrote progress.answers gained place
     × Tells old new (fault_line (fault_of (number_at progress.answers place) refusal)) × IsMeterAt place progress.meter now
 
+-- the moment of a session that began at another
+moment_in : (first : Moment) (view : View) → view.at ≡ first.at
+    → moment_of view ≡ record { state = view.state; meter = view.meter; at = first.at }
+moment_in first view at = ap (λ (v : Valuation). let m : Moment = record { state = view.state; meter = view.meter; at = v } in m) at
+
 -- A run that took this front of a script, and after which the session and its meter are so.
-module _ (first : Gauge) (script : List ℕ) (old new : Outside) (status : StatusView) (session : View) (meter_is : status.meter ≡ Some session.meter)
+module _ (first : Moment) (script : List ℕ) (old new : Outside) (status : StatusView) (session : View) (meter_is : status.meter ≡ Some session.meter)
     (taken left : List ℕ) (script_is : script ≡ taken ++ left) (told : IsScriptOf old.left taken script) (took : Consumes old.left new.left taken) (few : length taken ≤ SCRIPT_MAX + 1)
     (gained : List ℕ) (wrote : Appends old.written new.written gained) where
   assemble : (refusal : Option Refusal) → status.refusal ≡ refusal → (progress : Progress first script) → Ended first script progress taken gained session.meter old new refusal → Answered first script old new status
@@ -79,7 +86,7 @@ module _ (first : Gauge) (script : List ℕ) (old new : Outside) (status : Statu
       split = ap (λ (l : List ℕ). statements (take SCRIPT_MAX l)) split ∙ statements-readable front more front_within;
       answers = answers;
       state = at_front.state;
-      run = fed.run;
+      run = subst (λ (m : Moment). Gives first (statements front) answers m) (moment_in first at_front fed.at) fed.run;
       meter = at_front.meter;
       carried = fed.meter;
       short = fed.short.each;
@@ -145,6 +152,18 @@ module _ (first : Gauge) (script : List ℕ) (old new : Outside) (status : Statu
       no_want (inl ended) = ended
       no_want (inr full) = absurd (omega (arith, full.0, full.1, stopped.fed.room))
 
+      -- the statement that is ahead is refused at that moment
+      abbrev refused_here : View → List ℕ → Type 0
+      refused_here at_front bytes =
+          (length bytes ≤ STATEMENT_MAX)
+          × Refuses (started (record { state = at_front.state; meter = at_front.meter; at = first.at })) bytes session.meter refusal
+
+      from_first : Refuses (started (moment_of stopped.at_front)) stopped.at_front.rest session.meter refusal
+          → Refuses (started (record { state = stopped.at_front.state; meter = stopped.at_front.meter; at = first.at })) stopped.at_front.rest
+          session.meter refusal
+      from_first refuses =
+          subst (λ (m : Moment). Refuses (started m) stopped.at_front.rest session.meter refusal) (moment_in first stopped.at_front stopped.fed.at) refuses
+
       refused_in_statement : place_of refusal ≡ in_statement → Answered first script old new status
       refused_in_statement at =
           let breaks = breaks_at in_statement at in
@@ -152,8 +171,8 @@ module _ (first : Gauge) (script : List ℕ) (old new : Outside) (status : Statu
           let ended = subst (λ (l : List ℕ). ends l stopped.byte ≡ true) rest breaks.1 in
           let first_ahead = ahead_first stopped.front stopped.byte more (omega (arith, stopped.fed.taken, breaks.0)) ended in
           let at_front = stopped.at_front in
-          let P : List ℕ → Type 0 = λ bytes. (length bytes ≤ STATEMENT_MAX) × Refuses (started (moment_of at_front)) bytes session.meter refusal in
-          halted_at in_statement at (subst (OfFirst P) (sym first_ahead.1) (subst P rest (stopped.fed.short.last, breaks.2))) gained_is number
+          let P : List ℕ → Type 0 = refused_here at_front in
+          halted_at in_statement at (subst (OfFirst P) (sym first_ahead.1) (subst P rest (stopped.fed.short.last, from_first breaks.2))) gained_is number
 
       refused_too_long : place_of refusal ≡ too_long → Answered first script old new status
       refused_too_long at =
@@ -174,8 +193,8 @@ module _ (first : Gauge) (script : List ℕ) (old new : Outside) (status : Statu
           let ended = subst (λ (l : List ℕ). ends l stopped.byte ≡ true) rest want.0 in
           let first_ahead = ahead_first stopped.front stopped.byte more (omega (arith, stopped.fed.taken, breaks.0)) ended in
           let at_front = stopped.at_front in
-          let P : List ℕ → Type 0 = λ bytes. (length bytes ≤ STATEMENT_MAX) × Refuses (started (moment_of at_front)) bytes session.meter refusal in
-          halted_at anywhere at (subst (OfFirst P) (sym first_ahead.1) (subst P rest (stopped.fed.short.last, want.1))) gained_is number
+          let P : List ℕ → Type 0 = refused_here at_front in
+          halted_at anywhere at (subst (OfFirst P) (sym first_ahead.1) (subst P rest (stopped.fed.short.last, from_first want.1))) gained_is number
 
       refused_past_limit : place_of refusal ≡ past_limit → Answered first script old new status
       refused_past_limit at =

@@ -9,10 +9,10 @@ use Rattle.isl_meter.specs.Gauge.{Gauge}
 use Rattle.isl_stmt.specs.Script.{statements, rest_of, readable, next_part}
 use Rattle.isl_stmt.proofs.ScriptLaws.{next_part-long, rest-append, statements-append}
 use Rattle.isl_text.specs.declared.refusal.Refusal.{Refusal}
-use Rattle.isl_text.specs.declared.refusal.Refusal.TheVariants.{Usage, TooLong, Unfinished, Overflow, Budget, ReadFault, WriteFault, NoMemory, ScriptTooLong}
-use Rattle.isl_eval.specs.State.{Moment}
+use Rattle.isl_text.specs.declared.refusal.Refusal.TheVariants.{Usage, TooLong, Unfinished, Overflow, Budget, ReadFault, WriteFault, NoMemory, ScriptTooLong, Unbounded}
+use Rattle.isl_select.specs.State.{Moment}
 use Rattle.isl_eval.specs.Causes.{Cause, FirstGives, IsThere, IsValid, NoneIs, Refuses, causes}
-use Rattle.isl_eval.specs.Machine.{started}
+use Rattle.isl_eval.specs.Run.{started}
 use Rattle.isl_session.specs.declared.fault.Fault.{Fault}
 use Rattle.isl_session.specs.declared.TheConstants.{SCRIPT_MAX, STATEMENT_MAX}
 use Rattle.isl_session.specs.Place.{Place, at_words, in_statement, too_long, past_limit, at_end, at_read, at_write, anywhere, place_of}
@@ -44,9 +44,10 @@ no_first There (cause ∷ later) refusal none (inr behind) = no_first There late
 no_cause : (before : Moment) (bytes : List ℕ) (now : Gauge) → IsValid before bytes → (Rose before.meter.overflows now.overflows → ⊥) → (Rose before.meter.spents now.spents → ⊥)
     → (refusal : Refusal) → Refuses before bytes now refusal → refusal ≡ NoMemory
 no_cause before bytes now valid no_overflow no_spent NoMemory cause = refl
-no_cause before bytes now valid no_overflow no_spent Overflow cause = absurd (no_overflow cause.2.cause)
+no_cause before bytes now valid no_overflow no_spent Overflow cause = absurd (no_overflow cause.2.cause.0)
 no_cause before bytes now valid no_overflow no_spent Budget cause = absurd (no_spent cause.2.cause.1)
-no_cause before bytes now valid no_overflow no_spent refusal cause = absurd (no_first (IsThere before bytes) causes refusal valid cause.0)
+no_cause before bytes now valid no_overflow no_spent Unbounded cause = absurd (valid.bounded cause.1)
+no_cause before bytes now valid no_overflow no_spent refusal cause = absurd (no_first (IsThere before bytes) causes refusal valid.clear cause.0)
 
 -- the same, where statements that were answered raised no count
 no_cause_behind : (first : Gauge) (before : Moment) (bytes : List ℕ) (now : Gauge) → Carries first before.meter → IsValid (started before) bytes
@@ -109,15 +110,16 @@ complete_piece old piece answers new fault stopped valid short within no_overflo
         no_cause_behind old.meter (moment_of stopped.at_front) rest new.meter fed.meter
         (valid.each (statements (old.rest ++ stopped.front)) rest later answers (moment_of stopped.at_front) split fed.run) no_overflow no_spent fault.refusal breaks.2
 
-module _ (first : Gauge) (script : List ℕ) (valid : IsValidScript first script) (old new : Outside) (progress : Progress first script) (now : Gauge)
-    (taken left : List ℕ) (script_is : script ≡ taken ++ left) (no_read : Rose old.reads new.reads → ⊥) (no_write : Rose old.writes new.writes → ⊥) (no_overflow : Rose first.overflows now.overflows → ⊥) (no_spent : Rose first.spents now.spents → ⊥) where
+module _ (first : Moment) (script : List ℕ) (valid : IsValidScript first script) (old new : Outside) (progress : Progress first script) (now : Gauge)
+    (taken left : List ℕ) (script_is : script ≡ taken ++ left) (no_read : Rose old.reads new.reads → ⊥) (no_write : Rose old.writes new.writes → ⊥) (no_overflow : Rose first.meter.overflows now.overflows → ⊥)
+    (no_spent : Rose first.meter.spents now.spents → ⊥) where
   -- the first statement ahead has no cause
-  first_ahead : (refusal : Refusal) (ahead : List (List ℕ)) → progress.ahead ≡ ahead → OfFirst (λ bytes. (length bytes ≤ STATEMENT_MAX) × Refuses (started (record { state = progress.state; meter = progress.meter })) bytes now refusal) ahead → refusal ≡ NoMemory
+  first_ahead : (refusal : Refusal) (ahead : List (List ℕ)) → progress.ahead ≡ ahead → OfFirst (λ bytes. (length bytes ≤ STATEMENT_MAX) × Refuses (started (record { state = progress.state; meter = progress.meter; at = first.at })) bytes now refusal) ahead → refusal ≡ NoMemory
   first_ahead refusal [] is cause = absurd cause
   first_ahead refusal (bytes ∷ later) is cause =
       let split = ap statements (sym (take_all SCRIPT_MAX script valid.within)) ∙ progress.split ∙ ap (λ (l : List (List ℕ)). progress.done ++ l) is in
-      let moment : Moment = record { state = progress.state; meter = progress.meter } in
-      no_cause_behind first moment bytes now progress.carried
+      let moment : Moment = record { state = progress.state; meter = progress.meter; at = first.at } in
+      no_cause_behind first.meter moment bytes now progress.carried
       (valid.parts.each progress.done bytes later progress.answers moment split progress.run) no_overflow no_spent refusal cause.1
 
   only_memory : (refusal : Refusal) (place : Place) → place_of refusal ≡ place → HasCause first script progress taken now old new refusal place → refusal ≡ NoMemory
@@ -138,7 +140,8 @@ module _ (first : Gauge) (script : List ℕ) (valid : IsValidScript first script
   complete gained None ended = inl refl
   complete gained (Some refusal) ended = inr (ap Some (only_memory refusal (place_of refusal) refl ended.0))
 
-pub complete_run : (first : Gauge) (script : List ℕ) (old new : Outside) (status : StatusView) → Answered first script old new status → IsValidScript first script
-    → (Rose old.reads new.reads → ⊥) → (Rose old.writes new.writes → ⊥) → ((meter : Gauge) → status.meter ≡ Some meter → (Rose first.overflows meter.overflows → ⊥) × (Rose first.spents meter.spents → ⊥)) → IsDoneOrMemory status.refusal
+pub complete_run : (first : Moment) (script : List ℕ) (old new : Outside) (status : StatusView) → Answered first script old new status → IsValidScript first script
+    → (Rose old.reads new.reads → ⊥) → (Rose old.writes new.writes → ⊥) → ((meter : Gauge) → status.meter ≡ Some meter → (Rose first.meter.overflows meter.overflows → ⊥)
+    × (Rose first.meter.spents meter.spents → ⊥)) → IsDoneOrMemory status.refusal
 complete_run first script old new status run valid no_read no_write no_count =
     complete first script valid old new run.progress run.meter run.taken run.left run.script_is no_read no_write (no_count run.meter run.meter_is).0 (no_count run.meter run.meter_is).1 run.gained status.refusal run.ended

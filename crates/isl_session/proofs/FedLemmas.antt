@@ -7,7 +7,8 @@ use Rattle.std.specs.Prelude.{All}
 use Rattle.isl_stmt.specs.Script.{statements, rest_of, ends, IsOpen}
 use Rattle.isl_stmt.proofs.ScriptLaws.{open_rest, rest-open, statements-open}
 use Rattle.isl_eval.specs.declared.step.Tally.{Tally}
-use Rattle.isl_eval.specs.Machine.{Answer, Answers, started}
+use Rattle.isl_eval.specs.Machine.{Answer}
+use Rattle.isl_eval.specs.Run.{Answers, started}
 use Rattle.isl_session.specs.declared.TheConstants.{SCRIPT_MAX, STATEMENT_MAX}
 use Rattle.isl_session.specs.declared.counts.Counts.{Counts}
 use Rattle.isl_session.specs.Counts.{counted}
@@ -39,6 +40,7 @@ ready_fed view ready = record {
   sound = ready.sound;
   meter = carries_refl view.meter;
   room = omega arith;
+  at = refl;
 }
 
 -- a session that took a piece
@@ -51,7 +53,8 @@ fed_ready a x ps b fed =
       sound = fed.sound;
     }
 
-module _ (old : View) (ready : IsReady old) (byte : ℕ) (new : View) (within : old.taken < SCRIPT_MAX) (taken : new.taken ≡ old.taken + 1) (sound : new.fault ≡ None) (meter : Carries old.meter new.meter) (room : old.room ≤ new.room) where
+module _ (old : View) (ready : IsReady old) (byte : ℕ) (new : View) (within : old.taken < SCRIPT_MAX) (taken : new.taken ≡ old.taken + 1) (sound : new.fault ≡ None) (meter : Carries old.meter new.meter) (room : old.room ≤ new.room)
+    (at : new.at ≡ old.at) where
   -- a byte that ends a statement
   pub fed_end : (answer : Answer) → ends old.rest byte ≡ true → Answers (started (moment_of old)) old.rest (moment_of new) answer → new.rest ≡ [] → new.counts ≡ counted old.counts (answer ∷ []) → Fed old (byte ∷ []) (answer.bytes ∷ []) new
   fed_end answer is one rest counts = record {
@@ -65,6 +68,7 @@ module _ (old : View) (ready : IsReady old) (byte : ℕ) (new : View) (within : 
     sound = sound;
     meter = meter;
     room = room;
+    at = at;
   }
 
   -- another byte
@@ -80,6 +84,7 @@ module _ (old : View) (ready : IsReady old) (byte : ℕ) (new : View) (within : 
     sound = sound;
     meter = meter;
     room = room;
+    at = at;
   }
 
 pub if_none : {A P : Type 0} (o : Option A) → P → IfNone o P

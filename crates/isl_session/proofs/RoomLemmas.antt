@@ -8,7 +8,7 @@ use Rattle.isl_session.specs.declared.fault.Fault.{Fault}
 use Rattle.isl_session.specs.declared.TheConstants.{STATEMENT_MAX}
 use Rattle.isl_session.specs.Place.{Place, at_words, in_statement, too_long, past_limit, at_end, at_read, at_write, anywhere, place_of}
 use Rattle.isl_eval.specs.Causes.{Refuses}
-use Rattle.isl_eval.specs.Machine.{started}
+use Rattle.isl_eval.specs.Run.{started}
 use Rattle.isl_session.specs.View.{View, BreaksIn, HasRoomFor, Stopped, moment_of}
 use Rattle.isl_session.proofs.ScriptLemmas.{statements-ended}
 use Rattle.isl_session.proofs.FedLemmas.{fed_ready}

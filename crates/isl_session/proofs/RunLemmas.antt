@@ -7,8 +7,9 @@ use Rattle.std.specs.Prelude.{All}
 use Rattle.isl_session.specs.declared.TheConstants.{STATEMENT_MAX}
 use Rattle.isl_stmt.specs.Script.{statements, rest_of}
 use Rattle.isl_stmt.proofs.ScriptLaws.{statements-append, rest-append}
-use Rattle.isl_eval.specs.State.{Moment}
-use Rattle.isl_eval.specs.Machine.{Answer, Answers, Run, started}
+use Rattle.isl_select.specs.State.{Moment}
+use Rattle.isl_eval.specs.Machine.{Answer}
+use Rattle.isl_eval.specs.Run.{Answers, Run, started}
 use Rattle.isl_session.specs.declared.counts.Counts.{Counts}
 use Rattle.isl_session.specs.Counts.{counted}
 use Rattle.isl_session.specs.View.{View, Fed, Gives, moment_of}
@@ -94,6 +95,7 @@ Fed-append a x ps b y qs c first second =
       sound = second.sound;
       meter = carries_trans a.meter b.meter c.meter first.meter second.meter;
       room = omega (arith, first.room, second.room);
+      at = second.at ∙ first.at;
     }
 
 -- each statement of a piece that is answered is counted

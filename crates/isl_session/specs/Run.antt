@@ -6,9 +6,9 @@ use Rattle.isl_math.specs.Count.{Rose}
 use Rattle.isl_meter.specs.Gauge.{Gauge}
 use Rattle.isl_stmt.specs.Script.{statements, rest_of, readable, next_part, IsBlank}
 use Rattle.isl_text.specs.declared.refusal.Refusal.{Refusal}
-use Rattle.isl_eval.specs.State.{StateView, unbound}
+use Rattle.isl_select.specs.State.{StateView, Moment}
 use Rattle.isl_eval.specs.Causes.{Refuses}
-use Rattle.isl_eval.specs.Machine.{started}
+use Rattle.isl_eval.specs.Run.{started}
 use Rattle.isl_session.specs.declared.fault.Fault.{Fault}
 use Rattle.isl_session.specs.declared.TheConstants.{SCRIPT_MAX, STATEMENT_MAX}
 use Rattle.isl_session.specs.Place.{Place, at_words, in_statement, too_long, past_limit, at_end, at_read, at_write, anywhere, place_of}
@@ -57,7 +57,7 @@ abbrev pub outside : Option (List ℕ) → ℕ → Option (List ℕ) → ℕ →
 outside left reads written writes told tells = record { left = left; reads = reads; written = written; writes = writes; told = told; tells = tells }
 
 -- How far a script was answered: its statements one after another, up to those that are ahead.
-pub record Progress (first : Gauge) (script : List ℕ) : Type 0 where
+pub record Progress (first : Moment) (script : List ℕ) : Type 0 where
   pub done : List (List ℕ)
   pub ahead : List (List ℕ)
   pub split : statements (readable script) ≡ done ++ ahead
@@ -65,8 +65,8 @@ pub record Progress (first : Gauge) (script : List ℕ) : Type 0 where
   pub state : StateView
   -- the meter behind them
   pub meter : Gauge
-  pub run : Gives (record { state = unbound; meter = first }) done answers (record { state = state; meter = meter })
-  pub carried : Carries first meter
+  pub run : Gives first done answers (record { state = state; meter = meter; at = first.at })
+  pub carried : Carries first.meter meter
   pub short : All (λ part. length part ≤ STATEMENT_MAX) done
 
 -- the first of these statements has P
@@ -76,10 +76,10 @@ OfFirst P (bytes ∷ later) = P bytes
 
 -- Why a run ended where it did, by the place of the refusal. `taken` was read, and `now` is the meter at the refusal. Memory is asked
 -- for only while a statement is worked on.
-abbrev pub HasCause : (first : Gauge) (script : List ℕ) → Progress first script → List ℕ → Gauge → Outside → Outside → Refusal → Place → Type 0
+abbrev pub HasCause : (first : Moment) (script : List ℕ) → Progress first script → List ℕ → Gauge → Outside → Outside → Refusal → Place → Type 0
 HasCause first script progress taken now old new refusal at_words = ⊥
 HasCause first script progress taken now old new refusal in_statement =
-    OfFirst (λ bytes. (length bytes ≤ STATEMENT_MAX) × Refuses (started (record { state = progress.state; meter = progress.meter })) bytes now refusal) progress.ahead
+    OfFirst (λ bytes. (length bytes ≤ STATEMENT_MAX) × Refuses (started (record { state = progress.state; meter = progress.meter; at = first.at })) bytes now refusal) progress.ahead
 HasCause first script progress taken now old new refusal too_long = STATEMENT_MAX < length (next_part progress.ahead (rest_of (readable script)))
 HasCause first script progress taken now old new refusal past_limit = (progress.ahead ≡ []) × (length taken ≡ SCRIPT_MAX + 1) × (length (rest_of (readable script)) ≤ STATEMENT_MAX)
 HasCause first script progress taken now old new refusal at_end =
@@ -88,7 +88,7 @@ HasCause first script progress taken now old new refusal at_read =
     Rose old.reads new.reads × (progress.done ≡ statements taken) × (length taken ≤ SCRIPT_MAX) × (length (rest_of taken) ≤ STATEMENT_MAX)
 HasCause first script progress taken now old new refusal at_write = Rose old.writes new.writes
 HasCause first script progress taken now old new refusal anywhere =
-    OfFirst (λ bytes. (length bytes ≤ STATEMENT_MAX) × Refuses (started (record { state = progress.state; meter = progress.meter })) bytes now refusal) progress.ahead
+    OfFirst (λ bytes. (length bytes ≤ STATEMENT_MAX) × Refuses (started (record { state = progress.state; meter = progress.meter; at = first.at })) bytes now refusal) progress.ahead
 
 -- the whole script was read and answered, and nothing is left of it
 pub record IsDone (script : List ℕ) (ahead : List (List ℕ)) (taken : List ℕ) (new : Outside) : Type 0 where
@@ -115,7 +115,7 @@ abbrev pub Tells : Outside → Outside → List ℕ → Type 0
 Tells old new line = (Rose old.tells new.tells → ⊥) → Appends old.told new.told line
 
 -- Why a run ended, what it wrote and what it told, and the meter as it left it.
-abbrev pub Ended : (first : Gauge) (script : List ℕ) → Progress first script → List ℕ → List ℕ → Gauge → Outside → Outside → Option Refusal → Type 0
+abbrev pub Ended : (first : Moment) (script : List ℕ) → Progress first script → List ℕ → List ℕ → Gauge → Outside → Outside → Option Refusal → Type 0
 Ended first script progress taken gained now old new None = IsDone script progress.ahead taken new × (gained ≡ concat progress.answers) × (now ≡ progress.meter)
 Ended first script progress taken gained now old new (Some refusal) =
     HasCause first script progress taken now old new refusal (place_of refusal) × Wrote progress.answers gained (place_of refusal)
@@ -129,7 +129,7 @@ IsScriptOf (Some bytes) taken script = script ≡ bytes
 
 -- What a run over a script has done. It read a front of the script, answered its statements one after another up to the first
 -- refused one, and wrote their answers and nothing else.
-pub record Answered (first : Gauge) (script : List ℕ) (old new : Outside) (status : StatusView) : Type 0 where
+pub record Answered (first : Moment) (script : List ℕ) (old new : Outside) (status : StatusView) : Type 0 where
   pub taken : List ℕ
   pub left : List ℕ
   pub script_is : script ≡ taken ++ left

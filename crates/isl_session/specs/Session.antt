@@ -3,14 +3,14 @@ use Rattle.std.specs.Prelude.{◌≤◌, length, vec_capacity}
 use Rattle.isl_meter.specs.Gauge.{limit_of}
 use Rattle.isl_stmt.specs.Script.{IsOpen}
 use Rattle.isl_stmt.specs.Cutter.{IsAt}
-use Rattle.isl_eval.specs.State.{Fits}
+use Rattle.isl_select.specs.State.{Fits, IsSettled}
 use Rattle.isl_session.specs.declared.session.Session.TheInside.{Inside}
 use Rattle.isl_session.specs.declared.TheConstants.{SCRIPT_MAX, STATEMENT_MAX}
 use Rattle.isl_session.specs.Counts.{AreCounts}
 use Rattle.isl_session.specs.View.{View}
 
 abbrev pub view_of : Inside → View
-view_of s = record { state = s.state; rest = s.rest.items; room = vec_capacity s.rest; taken = s.taken; counts = s.counts; fault = s.fault; meter = s.meter }
+view_of s = record { state = s.state; rest = s.rest.items; room = vec_capacity s.rest; taken = s.taken; counts = s.counts; fault = s.fault; meter = s.meter; at = s.options.at }
 
 pub record IsSound (s : Inside) : Type 0 where
   -- no statement ends in the bytes that are held, and the cutter stands behind them
@@ -22,3 +22,4 @@ pub record IsSound (s : Inside) : Type 0 where
   pub answered : s.counts.statements ≤ s.taken
   pub counts : AreCounts s.counts
   pub fits : Fits (limit_of s.meter) s.state
+  pub settled : IsSettled s.state

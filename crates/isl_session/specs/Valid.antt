@@ -1,12 +1,11 @@
 -- public: when statements must be answered.
 use Rattle.std.specs.Prelude.{◌≡◌, ◌⊎◌, ℕ, ◌≤◌, List, ◌∷◌, ◌++◌, length, Option, Some, None}
-use Rattle.isl_meter.specs.Gauge.{Gauge}
 use Rattle.isl_stmt.specs.Script.{statements, rest_of, IsBlank}
 use Rattle.isl_text.specs.declared.refusal.Refusal.{Refusal}
 use Rattle.isl_text.specs.declared.refusal.Refusal.TheVariants.{NoMemory}
-use Rattle.isl_eval.specs.State.{Moment, unbound}
+use Rattle.isl_select.specs.State.{Moment}
 use Rattle.isl_eval.specs.Causes.{IsValid}
-use Rattle.isl_eval.specs.Machine.{started}
+use Rattle.isl_eval.specs.Run.{started}
 use Rattle.isl_session.specs.declared.TheConstants.{SCRIPT_MAX}
 use Rattle.isl_session.specs.View.{AreShort, Gives}
 
@@ -16,8 +15,8 @@ pub record AreValid (before : Moment) (parts : List (List ℕ)) : Type 0 where
       → parts ≡ done ++ bytes ∷ ahead → Gives before done texts next → IsValid (started next) bytes
 
 -- the statements of the script are valid, and what follows the last is blank
-pub record IsValidScript (first : Gauge) (script : List ℕ) : Type 0 where
-  pub parts : AreValid (record { state = unbound; meter = first }) (statements script)
+pub record IsValidScript (first : Moment) (script : List ℕ) : Type 0 where
+  pub parts : AreValid first (statements script)
   pub blank : IsBlank (rest_of script)
   pub short : AreShort (statements script) (rest_of script)
   pub within : length script ≤ SCRIPT_MAX

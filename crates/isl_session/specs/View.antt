@@ -2,12 +2,14 @@
 use Rattle.std.specs.Prelude.{◌≡◌, ◌⊎◌, ℕ, ◌+◌, ◌<◌, ◌≤◌, List, [], ◌∷◌, ◌++◌, All, length, map, Option, Some, None, true, false, Result, MatchResult}
 use Rattle.std.specs.List.{concat}
 use Rattle.isl_meter.specs.Gauge.{Gauge, IsCharged, IsKept}
+use Rattle.isl_space.specs.Valuation.{Valuation}
 use Rattle.isl_stmt.specs.Script.{statements, rest_of, ends, IsBlank, IsOpen}
 use Rattle.isl_text.specs.declared.refusal.Refusal.{Refusal}
 use Rattle.isl_text.specs.declared.refusal.Refusal.TheVariants.{Unfinished}
-use Rattle.isl_eval.specs.State.{StateView, Moment, unbound}
+use Rattle.isl_select.specs.State.{StateView, Moment, unbound}
 use Rattle.isl_eval.specs.Causes.{Refuses}
-use Rattle.isl_eval.specs.Machine.{Answer, Run, started}
+use Rattle.isl_eval.specs.Machine.{Answer}
+use Rattle.isl_eval.specs.Run.{Run, started}
 use Rattle.isl_session.specs.declared.counts.Counts.{Counts}
 use Rattle.isl_session.specs.declared.fault.Fault.{Fault}
 use Rattle.isl_session.specs.declared.TheConstants.{SCRIPT_MAX, STATEMENT_MAX}
@@ -32,18 +34,25 @@ pub record View : Type 0 where
   pub counts : Counts
   pub fault : Option Fault
   pub meter : Gauge
+  -- the numbers that are given to parameters
+  pub at : Valuation
 
--- what is bound, and the meter
+-- what is bound, the meter, and the numbers of parameters
 abbrev pub moment_of : View → Moment
-moment_of view = record { state = view.state; meter = view.meter }
+moment_of view = record { state = view.state; meter = view.meter; at = view.at }
+
+-- the moment at which a run with these options begins: no name is bound, and nothing is counted
+abbrev pub begun : OptionsView → Moment
+begun options = record { state = unbound; meter = gauge_of options; at = options.at }
 
 -- a session that has taken nothing
-abbrev pub fresh : Gauge → View
-fresh meter = record { state = unbound; rest = []; room = 0; taken = 0; counts = none; fault = None; meter = meter }
+abbrev pub fresh : Moment → View
+fresh first =
+    record { state = first.state; rest = []; room = 0; taken = 0; counts = none; fault = None; meter = first.meter; at = first.at }
 
 -- the session of a run, which has taken nothing and has memory for the longest statement
-abbrev pub opened : Gauge → View
-opened meter = record (fresh meter) { room = STATEMENT_MAX }
+abbrev pub opened : Moment → View
+opened first = record (fresh first) { room = STATEMENT_MAX }
 
 -- These statements are answered one after another, with these texts.
 pub record Gives (before : Moment) (parts texts : List (List ℕ)) (after : Moment) : Type 0 where
@@ -71,6 +80,7 @@ pub record Fed (old : View) (piece : List ℕ) (answers : List (List ℕ)) (new 
   pub sound : new.fault ≡ None
   pub meter : Carries old.meter new.meter
   pub room : old.room ≤ new.room
+  pub at : new.at ≡ old.at
 
 -- A session without a fault, which holds no whole statement.
 pub record IsReady (view : View) : Type 0 where

@@ -12,7 +12,7 @@ mod write;
 pub use counts::Counts;
 pub use fault::Fault;
 pub use isl_text::refusal::Refusal;
-pub use isl_words::Options;
+pub use isl_words::{Options, WordsFault};
 pub use program::{refuse_words, run};
 pub use session::Session;
 pub use status::Status;

@@ -9,8 +9,8 @@ ghost use Rattle.isl_stmt.specs.Script.{IsBlank};
 ghost use Rattle.isl_words.specs.Options.{OptionsView};
 ghost use Rattle.isl_words.specs.Taken.{AreTaken};
 ghost use Rattle.isl_session.specs.Place.{place_of};
-ghost use Rattle.isl_session.specs.View.{Fed, IsReady, gauge_of, opened};
-ghost use Rattle.isl_session.specs.Lines.{fault_line, usage_line};
+ghost use Rattle.isl_session.specs.View.{Fed, IsReady, begun, moment_of, opened};
+ghost use Rattle.isl_session.specs.Lines.{fault_line, usage_line, words_line, words_refusal};
 ghost use Rattle.isl_session.specs.Run.{Answered, Halts, outside};
 ghost use Rattle.isl_session.specs.Valid.{IsValidScript, IsDoneOrMemory};
 
@@ -178,9 +178,9 @@ fn run_script<S: Source, K: Sink, E: Sink>(
     out: &mut K,
     err: &mut E,
 ) -> Status
-    requires opened { session ≡ opened session.meter }
+    requires opened { session ≡ opened (moment_of session) }
     requires uncounted { (session.meter.overflows ≡ 0) × (session.meter.spents ≡ 0) }
-    ensures answered { (script : List ℕ) × Answered session.meter script
+    ensures answered { (script : List ℕ) × Answered (moment_of session) script
         (outside (S.left src.old) (S.faults src.old) (K.written out.old) (K.faults out.old)
         (E.written err.old) (E.faults err.old))
         (outside (S.left src.new) (S.faults src.new) (K.written out.new) (K.faults out.new)
@@ -208,9 +208,9 @@ fn run_script<S: Source, K: Sink, E: Sink>(
     }
 }
 
-/// Tells that memory ended before there was a session: while the words were read, or for the room of its longest statement. The line
-/// speaks of statement 1, since none was answered.
-pub fn refuse_words<E: Sink>(err: &mut E) -> Status
+// Tells that memory ended before there was a session: while the words were read, or for the room of its longest statement. The line
+// speaks of statement 1, since none was answered.
+fn refuse_memory<E: Sink>(err: &mut E) -> Status
     ensures status { result ≡ record { refusal = Some Refusal.NoMemory; meter = None } }
     ensures line { (Rose (E.faults err.old) (E.faults err.new) → ⊥)
         → Appends (E.written err.old) (E.written err.new)
@@ -223,11 +223,23 @@ pub fn refuse_words<E: Sink>(err: &mut E) -> Status
     refuse(err, fault, None)
 }
 
+/// Tells that there are no words to run with: they are no text, or memory ended while they were handed over. Nothing is read.
+pub fn refuse_words<E: Sink>(err: &mut E, fault: WordsFault) -> Status
+    ensures status { result ≡ record { refusal = Some (words_refusal fault); meter = None } }
+    ensures line { (Rose (E.faults err.old) (E.faults err.new) → ⊥)
+        → Appends (E.written err.old) (E.written err.new) (words_line fault) }
+{
+    match fault {
+        WordsFault::Usage => refuse_usage(err),
+        WordsFault::NoMemory => refuse_memory(err),
+    }
+}
+
 /// Does all that the program does: judges the words, answers the script that `src` has left on `out`, and tells
 /// a refusal on `err`.
 ///
-/// The words, of which the first is the program's name, choose the options of the session. What they give to
-/// parameters, and whether loops are run, has no effect yet. Each statement is answered as soon as it is read, before the bytes behind it
+/// The words, of which the first is the program's name, choose the options of the session. Whether loops are run has no effect yet. Each
+/// statement is answered as soon as it is read, before the bytes behind it
 /// are taken; no more than 2^30 + 1 bytes are read.
 pub fn run<S: Source, K: Sink, E: Sink>(
     alloc: Global,
@@ -238,7 +250,7 @@ pub fn run<S: Source, K: Sink, E: Sink>(
 ) -> Status
     // For every script, however its bytes arrive, and whatever the ends tell.
     ensures answered { (options : OptionsView) → AreTaken (map string_bytes words.now) options → IsSome result.meter
-        → (script : List ℕ) × Answered (gauge_of options) script
+        → (script : List ℕ) × Answered (begun options) script
         (outside (S.left src.old) (S.faults src.old) (K.written out.old) (K.faults out.old)
         (E.written err.old) (E.faults err.old))
         (outside (S.left src.new) (S.faults src.new) (K.written out.new) (K.faults out.new)
@@ -249,7 +261,7 @@ pub fn run<S: Source, K: Sink, E: Sink>(
     // A valid script is answered whole, unless memory ends or a count rises.
     ensures complete { (options : OptionsView) → AreTaken (map string_bytes words.now) options
         → (script : List ℕ) → S.left src.old ≡ Some script
-        → IsValidScript (gauge_of options) script
+        → IsValidScript (begun options) script
         → (Rose (S.faults src.old) (S.faults src.new) → ⊥)
         → (Rose (K.faults out.old) (K.faults out.new) → ⊥)
         → ((meter : Gauge) → result.meter ≡ Some meter → (Rose 0 meter.overflows → ⊥) × (Rose 0 meter.spents → ⊥))
@@ -287,9 +299,9 @@ pub fn run<S: Source, K: Sink, E: Sink>(
     match read_words(alloc, words) {
         Ok(options) => match Session::with_room(alloc, options, STATEMENT_MAX) {
             Ok(session) => run_script(alloc, session, src, out, err),
-            Err(AllocError) => refuse_words(err),
+            Err(AllocError) => refuse_memory(err),
         },
-        Err(WordsFault::NoMemory) => refuse_words(err),
+        Err(WordsFault::NoMemory) => refuse_memory(err),
         Err(WordsFault::Usage) => refuse_usage(err),
     }
 }

@@ -6,11 +6,12 @@ ghost use Rattle.isl_math.specs.Count.{Rose};
 ghost use Rattle.isl_stmt.specs.Script.{statements, rest_of};
 ghost use Rattle.isl_session.specs.Valid.{AreValid};
 ghost use Rattle.isl_session.specs.Counts.{AreCounts};
-ghost use Rattle.isl_session.specs.View.{AreShort, Fed, Feeds, Finishes, HasRoomFor, IsReady, IsRefusedAt, Stopped, fresh, gauge_of, moment_of};
+ghost use Rattle.isl_session.specs.View.{AreShort, Fed, Feeds, Finishes, HasRoomFor, IsReady, IsRefusedAt, Stopped, begun, fresh, moment_of};
 
 use crate::{Counts, Fault, Options, SCRIPT_MAX, STATEMENT_MAX};
-use isl_eval::{State, answer};
+use isl_eval::answer;
 use isl_meter::Meter;
+use isl_select::State;
 use isl_stmt::Cutter;
 use isl_text::refusal::Refusal;
 use std::alloc::{AllocError, Global};
@@ -22,6 +23,7 @@ use std::marker::Model;
 #[derive(Drop)]
 pub struct Session {
     alloc: Global,
+    options: Options,
     state: State,
     rest: Vec<u8>,
     cutter: Cutter,
@@ -37,7 +39,7 @@ impl Model for Session {
     ghost Value = { View };
 
     ghost use Rattle.std.specs.Coded.{codes};
-    ghost use Rattle.isl_eval.specs.Stored.{state_code};
+    ghost use Rattle.isl_select.specs.Stored.{state_code};
 
     ghost coded = { Prim.hlevel (codes, state_code) };
 
@@ -51,12 +53,13 @@ impl Model for Session {
 impl Session {
     /// Nothing is taken yet and nothing is bound.
     pub fn new(alloc: Global, options: Options) -> Session
-        ensures { result ≡ fresh (gauge_of options) }
+        ensures { result ≡ fresh (begun options) }
     {
         let bits = options.bits();
         let budget = options.budget();
         Session {
             alloc,
+            options,
             state: State::new(alloc),
             rest: Vec::new(alloc),
             cutter: Cutter::new(),
@@ -72,7 +75,7 @@ impl Session {
     /// # Errors
     /// `AllocError` where that memory is not there.
     pub fn with_room(alloc: Global, options: Options, bytes: usize) -> Result<Session, AllocError>
-        ensures { IfOk result (λ session. session ≡ record (fresh (gauge_of options)) { room = bytes }) }
+        ensures { IfOk result (λ session. session ≡ record (fresh (begun options)) { room = bytes }) }
     {
         let mut session = Session::new(alloc, options);
         session.rest = Vec::with_capacity(alloc, bytes)?;
@@ -100,6 +103,7 @@ impl Session {
                 self.alloc,
                 &self.rest,
                 &mut self.state,
+                self.options.at(),
                 &mut self.meter,
                 text,
             ) {

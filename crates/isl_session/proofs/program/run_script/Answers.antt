@@ -4,7 +4,7 @@ use Rattle.std.specs.Io.KnownBytes.{IsAtEnd}
 use Rattle.isl_math.specs.Count.{Rose}
 use Rattle.isl_session.specs.declared.TheConstants.{SCRIPT_MAX}
 use Rattle.isl_session.specs.Place.{place_of}
-use Rattle.isl_session.specs.View.{View, Fed}
+use Rattle.isl_session.specs.View.{View, Fed, moment_of}
 use Rattle.isl_session.specs.Run.{Halts, outside}
 use Rattle.isl_session.proofs.AheadLemmas.{script_of}
 use Rattle.isl_session.proofs.AnsweredLemmas.{answered_whole, answered_up_to, status_meter, status_refusal}
@@ -27,7 +27,7 @@ returns-in-Ok-clause-answered g c =
     let meter_is = status_meter c.new.result None c.into_meter.result c.new.ensures session.meter c.into_meter.ensures in
     let script = script_of (left c.args.src.now) (left run.src) ok.0 ok.2 in (
       script.0,
-      answered_whole c.args.session.meter script.0 before now c.new.result session meter_is ok.0 script.1 script.2 script.3 ok.2
+      answered_whole (moment_of c.args.session) script.0 before now c.new.result session meter_is ok.0 script.1 script.2 script.3 ok.2
           (omega (arith, fed.taken, fed.within)) (concat ok.1) ok.4
           (status_refusal c.new.result None c.into_meter.result c.new.ensures) (script.4 ok.3) ok.3 ok.1 refl fed ok.6,
     )
@@ -53,7 +53,7 @@ returns-in-Err-clause-answered g c =
     let meter_is = status_meter c.refuse.result (Some fault.refusal) c.into_meter-in-Err.result c.refuse.ensures.status session.meter c.into_meter-in-Err.ensures in
     let script = script_of (left c.args.src.now) (left run.src) err.0 err.2 in (
       script.0,
-      answered_up_to c.args.session.meter script.0 before now c.refuse.result session meter_is err.0 script.1 script.2 script.3 err.2 few err.1 err.4
+      answered_up_to (moment_of c.args.session) script.0 before now c.refuse.result session meter_is err.0 script.1 script.2 script.3 err.2 few err.1 err.4
           fault.statement fault.refusal (status_refusal c.refuse.result (Some fault.refusal) c.into_meter-in-Err.result c.refuse.ensures.status)
           c.refuse.ensures.line
           (place_of fault.refusal) refl script.4 halts,

@@ -3,8 +3,9 @@ use Rattle.isl_meter.specs.Gauge.{limit_of}
 use Rattle.isl_stmt.specs.Script.{IsOpen}
 use Rattle.isl_stmt.specs.Cutter.{IsAt}
 use Rattle.isl_stmt.proofs.ScriptLaws.{open_nil}
-use Rattle.isl_eval.specs.State.{StateView, Fits}
-use Rattle.isl_eval.proofs.StateLaws.{fits_unbound}
+use Rattle.isl_select.specs.State.{StateView, Fits, IsSettled}
+use Rattle.isl_select.proofs.StateLaws.{fits_unbound}
+use Rattle.isl_session.proofs.SoundLemmas.{settled_unbound}
 use Rattle.isl_session.specs.declared.counts.Counts.{Counts}
 use Rattle.isl_session.specs.Counts.{AreCounts}
 use Rattle.isl_session.proofs.session.Session.new.Goals as goal
@@ -21,4 +22,5 @@ invariant_of-result c =
       answered = omega (arith, ap (λ (n : Counts). n.statements) c.none.ensures);
       counts = subst AreCounts (sym c.none.ensures) (record { trues = omega arith; elements = omega arith });
       fits = subst (λ (s : StateView). Fits (limit_of c.new-4.result) s) (sym c.new.ensures) (fits_unbound (limit_of c.new-4.result));
+      settled = subst IsSettled (sym c.new.ensures) settled_unbound;
     }

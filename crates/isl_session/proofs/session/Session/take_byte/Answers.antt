@@ -4,9 +4,10 @@ use Rattle.isl_meter.specs.Gauge.{Gauge, IsKept, limit_of}
 use Rattle.isl_stmt.specs.Script.{ends, IsOpen, Place}
 use Rattle.isl_stmt.specs.Cutter.{IsAt}
 use Rattle.isl_stmt.proofs.ScriptLaws.{depth-le-length, open_nil, open_push}
-use Rattle.isl_eval.specs.State.{StateView, Moment, Fits}
+use Rattle.isl_space.specs.Valuation.{Valuation}
+use Rattle.isl_select.specs.State.{StateView, Moment, Fits}
 use Rattle.isl_eval.specs.Causes.{Refuses}
-use Rattle.isl_eval.specs.Machine.{Answers, started}
+use Rattle.isl_eval.specs.Run.{Answers, started}
 use Rattle.isl_session.specs.declared.counts.Counts.{Counts}
 use Rattle.isl_session.specs.View.{View, Fed, IsRefusedAt, moment_of}
 use Rattle.isl_session.specs.Session.{view_of}
@@ -22,7 +23,10 @@ push-requires c =
     omega (arith, depth, depth-le-length c.self.inside.rest.items, c.self.invariant.held, c.if-self-ge-SCRIPT_MAX.false)
 
 pub answer-requires : goal.answer-requires
-answer-requires c = subst (λ (g : Gauge). Fits (limit_of g) c.self.inside.state) (sym c.start.ensures) c.self.invariant.fits
+answer-requires c = record {
+  fits = subst (λ (g : Gauge). Fits (limit_of g) c.self.inside.state) (sym c.start.ensures) c.self.invariant.fits;
+  settled = c.self.invariant.settled;
+}
 
 pub returns-in-Err-clause-err : goal.returns-in-Err-clause-err
 returns-in-Err-clause-err c =
@@ -32,13 +36,15 @@ returns-in-Err-clause-err c =
     let after_answer = c.in-Err.ensures.err in
     let ends_there : ends rest c.args.byte ≡ true = sym (c.if-push.ensures.ends rest c.self.invariant.place) in
     let begun : c.start.new.self ≡ record inside.meter { units = 0 } = c.start.ensures in
+    let given = subst (λ (v : Valuation). let m : Moment = record { state = inside.state; meter = c.start.new.self; at = v } in
+    Refuses m c.deref.result.now c.answer.new.meter c.in-Err.refusal) c.at.ensures c.in-Err.ensures.cause in
     let cause = subst (λ (bytes : List ℕ). Refuses (started (moment_of old)) bytes c.answer.new.meter c.in-Err.refusal) c.deref.ensures.value
-    (subst (λ (g : Gauge). let m : Moment = record { state = inside.state; meter = g } in Refuses m c.deref.result.now c.answer.new.meter c.in-Err.refusal) begun c.in-Err.ensures.cause) in
+    (subst (λ (g : Gauge). let m : Moment = record { state = inside.state; meter = g; at = inside.options.at } in Refuses m c.deref.result.now c.answer.new.meter c.in-Err.refusal) begun given) in
     let room = vec_capacity inside.rest in
-    let new : View = record { state = c.answer.new.state; rest = rest; room = room; taken = inside.taken; counts = inside.counts; fault = inside.fault; meter = c.answer.new.meter } in
+    let new : View = record { state = c.answer.new.state; rest = rest; room = room; taken = inside.taken; counts = inside.counts; fault = inside.fault; meter = c.answer.new.meter; at = inside.options.at } in
     let refused : IsRefusedAt old c.args.byte c.in-Err.refusal new = record {
       breaks = breaks_in_statement c.in-Err.refusal old c.args.byte c.answer.new.meter c.if-self-ge-SCRIPT_MAX.false ends_there cause;
-      same = ap (λ (s : StateView). let v : View = record { state = s; rest = rest; room = room; taken = inside.taken; counts = inside.counts; fault = inside.fault; meter = c.answer.new.meter } in v) after_answer.0;
+      same = ap (λ (s : StateView). let v : View = record { state = s; rest = rest; room = room; taken = inside.taken; counts = inside.counts; fault = inside.fault; meter = c.answer.new.meter; at = inside.options.at } in v) after_answer.0;
       meter = meter_in_statement (moment_of old) rest c.answer.new.meter c.in-Err.refusal cause (subst (λ (g : Gauge). IsKept g c.answer.new.meter) begun c.in-Err.ensures.meter);
       room = omega arith;
     } in
@@ -56,6 +62,7 @@ invariant_of-self-then-push c =
       answered = omega (arith, c.self.invariant.answered, ap (λ (n : Counts). n.statements) c.plus-grown.ensures.sum);
       counts = c.plus-grown.ensures.counts;
       fits = c.answer.ensures.fits;
+      settled = c.answer.ensures.settled;
     }
 
 pub returns-then-push-clause-ok : goal.returns-then-push-clause-ok
@@ -69,13 +76,15 @@ returns-then-push-clause-ok c =
     let one = c.in-Ok.ensures.ok in
     let ends_there : ends rest c.args.byte ≡ true = sym (c.if-push.ensures.ends rest c.self.invariant.place) in
     let begun : c.start.new.self ≡ record inside.meter { units = 0 } = c.start.ensures in
-    let after : Moment = record { state = c.answer.new.state; meter = c.answer.new.meter } in
+    let after : Moment = record { state = c.answer.new.state; meter = c.answer.new.meter; at = inside.options.at } in
+    let given = subst (λ (v : Valuation). let m : Moment = record { state = inside.state; meter = c.start.new.self; at = v } in
+    let n : Moment = record { state = c.answer.new.state; meter = c.answer.new.meter; at = v } in Answers m c.deref.result.now n one.0) c.at.ensures one.3 in
     let step = subst (λ (bytes : List ℕ). Answers (started (moment_of old)) bytes after one.0) c.deref.ensures.value
-    (subst (λ (g : Gauge). let m : Moment = record { state = inside.state; meter = g } in Answers m c.deref.result.now after one.0) begun one.3) in
-    let new : View = record { state = c.answer.new.state; rest = c.clear.new.self.items; room = vec_capacity c.clear.new.self; taken = inside.taken + 1; counts = c.plus-grown.result; fault = inside.fault; meter = c.answer.new.meter } in
+    (subst (λ (g : Gauge). let m : Moment = record { state = inside.state; meter = g; at = inside.options.at } in Answers m c.deref.result.now after one.0) begun given) in
+    let new : View = record { state = c.answer.new.state; rest = c.clear.new.self.items; room = vec_capacity c.clear.new.self; taken = inside.taken + 1; counts = c.plus-grown.result; fault = inside.fault; meter = c.answer.new.meter; at = inside.options.at } in
     let carried = carries_started inside.meter c.answer.new.meter step.meter in
     let counts = c.plus-grown.ensures.sum ∙ counted-one inside.counts tally one.0 one.2 in
-    let fed = fed_end old ready c.args.byte new c.if-self-ge-SCRIPT_MAX.false refl sound carried (omega (arith, c.clear.ensures.capacity)) one.0 ends_there step c.clear.ensures.items counts in (
+    let fed = fed_end old ready c.args.byte new c.if-self-ge-SCRIPT_MAX.false refl sound carried (omega (arith, c.clear.ensures.capacity)) refl one.0 ends_there step c.clear.ensures.items counts in (
       one.0.bytes ∷ [],
       one.1 ∙ ap (λ (l : List ℕ). c.args.text.now.items ++ l) (sym (append-nil one.0.bytes)),
       subst (λ (v : View). Fed v (c.args.byte ∷ []) (one.0.bytes ∷ []) new) c.self.view_is fed,
@@ -97,6 +106,7 @@ invariant_of-self-2 c =
       answered = omega (arith, c.self.invariant.answered);
       counts = c.self.invariant.counts;
       fits = c.self.invariant.fits;
+      settled = c.self.invariant.settled;
     }
 
 pub returns-clause-ok : goal.returns-clause-ok
@@ -107,8 +117,8 @@ returns-clause-ok c =
     let sound = ap (λ (v : View). v.fault) c.self.view_is ∙ c.requires in
     let ready = sound_ready inside c.self.invariant sound in
     let held : ends rest c.args.byte ≡ false = sym (c.if-push.ensures.ends rest c.self.invariant.place) in
-    let new : View = record { state = inside.state; rest = c.push-2.new.self.items; room = vec_capacity c.push-2.new.self; taken = inside.taken + 1; counts = inside.counts; fault = inside.fault; meter = inside.meter } in
-    let fed = fed_held old ready c.args.byte new c.if-self-ge-SCRIPT_MAX.false refl sound (carries_refl inside.meter) (omega (arith, c.in_ok-push.ensures.capacity)) held c.in_ok-push.ensures.items refl refl
+    let new : View = record { state = inside.state; rest = c.push-2.new.self.items; room = vec_capacity c.push-2.new.self; taken = inside.taken + 1; counts = inside.counts; fault = inside.fault; meter = inside.meter; at = inside.options.at } in
+    let fed = fed_held old ready c.args.byte new c.if-self-ge-SCRIPT_MAX.false refl sound (carries_refl inside.meter) (omega (arith, c.in_ok-push.ensures.capacity)) refl held c.in_ok-push.ensures.items refl refl
     (omega (arith, ap length c.in_ok-push.ensures.items, length_push rest c.args.byte, c.if-len-ge-STATEMENT_MAX.false, c.len.ensures)) in (
       [],
       sym (append-nil c.args.text.now.items),
