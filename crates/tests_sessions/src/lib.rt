@@ -6,7 +6,7 @@ ghost use Rattle.std.specs.Prelude.{None};
 #[cfg(test)]
 mod tests {
     use isl_io::{CleanSink, Failed, MemSink, Sink, Source};
-    use isl_session::{Options, Refusal, Session, refuse_words, run};
+    use isl_session::{Options, Refusal, Session, WordsFault, refuse_words, run};
     use std::cell::Cell;
     use std::test::Fail;
 
@@ -76,11 +76,13 @@ mod tests {
     #[test]
     fn want_of_memory_for_words_is_told(rt: HostRuntime) -> Result<(), Fail> {
         let mut err = MemSink::new(rt.alloc(), 100, 100, Vec::new(rt.alloc()))?;
-        let status = refuse_words(&mut err);
+        let status = refuse_words(&mut err, WordsFault::NoMemory);
         assert_eq!(rt; (status.code(), status.meter().is_none()), (21, true));
         let want = "iscc: statement 1: out of memory\n";
         assert_eq!(rt; err.bytes(), want.as_bytes());
-        assert_eq!(rt; refuse_words(&mut CleanSink::new()).code(), 21);
+        let untold = &mut CleanSink::new();
+        assert_eq!(rt; refuse_words(untold, WordsFault::NoMemory).code(), 21);
+        assert_eq!(rt; refuse_words(untold, WordsFault::Usage).code(), 2);
         Ok(())
     }
 
@@ -116,16 +118,18 @@ mod tests {
         let alloc = rt.alloc();
         let plain = Session::new(alloc, Options::new(8, 1, Vec::new(alloc), false));
         assert_eq!(rt; (plain.room(), plain.counts().statements), (0, 0));
-        let options = Options::new(8, 1, Vec::new(alloc), false);
+        let options = Options::new(8, 1000, Vec::new(alloc), false);
         let mut session = Session::with_room(alloc, options, 12)?;
         let mut text = Vec::new(alloc);
-        for (piece, statements, held) in [
-            ("{ };;a := ", 2, 5),
-            ("{ [5] }", 2, 12),
-            (";a;", 4, 0),
-            ("a # a ; that", 4, 12),
-            (" ends none", 4, 22),
-            ("\n;", 5, 0),
+        for (piece, held, statements, trues, elements) in [
+            ("{ };;a := ", 5, 2, 0, 0),
+            ("{ [5] }", 12, 2, 0, 0),
+            (";a;", 0, 4, 0, 0),
+            ("a # a ; that", 12, 4, 0, 0),
+            (" ends none", 22, 4, 0, 0),
+            ("\n;a = a;a < a;", 0, 7, 1, 0),
+            ("scan a;a <= a;scan { };", 0, 10, 2, 1),
+            ("scan { [i] : 0 <= i < 5 };", 0, 11, 2, 6),
         ] {
             assert_eq!(rt;
                 session.feed(piece.as_bytes(), &mut text),
@@ -134,17 +138,21 @@ mod tests {
             );
             let counts = session.counts();
             assert_eq!(rt;
-                (counts.statements, session.held()),
-                (statements, held),
+                (session.held(), counts.statements),
+                (held, statements),
                 "{piece}"
             );
-            assert_eq!(rt; (counts.trues, counts.elements), (0, 0), "{piece}");
+            assert_eq!(rt;
+                (counts.trues, counts.elements),
+                (trues, elements),
+                "{piece}"
+            );
             assert!(rt; session.room() >= 12.max(session.held()), "{piece}");
         }
         assert!(rt; session.feed(b"x;{ };", &mut text).is_err());
         assert_eq!(rt;
             session.counts().statements,
-            5,
+            11,
             "a refused statement does not count"
         );
         Ok(())

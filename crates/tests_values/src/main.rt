@@ -8,6 +8,7 @@ ghost use Rattle.isl_union.specs.Piece.{IsPieceOver};
 mod limit;
 mod operation;
 mod params;
+mod relations;
 mod spaces;
 
 use crate::limit::is_within;

@@ -3,8 +3,8 @@
 ghost use Rattle.isl_union.specs.Numbers.{IsWithinLimit};
 
 use crate::limit::is_within;
+use crate::relations::related;
 use crate::spaces::space_of;
-use isl_maps::inverse;
 use isl_meter::Meter;
 use isl_union::{OpFault, Value};
 use std::alloc::{AllocError, Global};
@@ -80,11 +80,10 @@ fn made(
         "union" => Ok(Some(value.union(alloc, other, meter)?)),
         "meet" => Ok(Some(value.meet(alloc, other, meter)?)),
         "minus" => Ok(Some(value.minus(alloc, other, meter)?)),
-        "inverse" => Ok(Some(inverse(alloc, value, meter)?)),
         "flat" => Ok(Some(value.flat(alloc, meter)?)),
         "sample" => Ok(Some(value.sample(alloc, meter)?)),
         "project" => projected(alloc, rest, value, meter),
-        _ => Ok(None),
+        _ => related(alloc, name, value, other, meter),
     }
 }
 
