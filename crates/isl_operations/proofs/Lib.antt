@@ -1,0 +1,6 @@
+pub mod NamesLaws
+pub mod ElementLaws
+pub mod WideLaws
+pub mod FaultLaws
+pub mod SpaceLaws
+pub mod MadeLaws

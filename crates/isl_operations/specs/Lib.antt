@@ -1,0 +1,9 @@
+pub mod Operations
+pub mod Formed
+pub mod Made
+pub use Rattle.isl_relation.specs.Maps
+pub use Rattle.isl_relation.specs.Pairs
+pub use Rattle.isl_relation.specs.Point
+pub use Rattle.isl_relation.specs.Sets
+pub use Rattle.isl_union.specs.KeptValue
+pub use Rattle.isl_union.specs.Numbers
