@@ -5,9 +5,9 @@ use Rattle.std.proofs.lemmas.List.Folds.{list_any-append}
 use Rattle.isl_expr.specs.declared.tree.Prefix.{Prefix as Word}
 use Rattle.isl_expr.specs.declared.tree.Link.{Link}
 use Rattle.isl_expr.specs.declared.tree.Expr.{Expr, Prefix, Any, Last}
-use Rattle.isl_kinds.specs.Parts.{parts_of, parts_of_links, parts_of_postfix, parts_of_postfixes}
+use Rattle.isl_kinds.specs.Parts.{parts_of, parts_of_links}
 use Rattle.isl_kinds.specs.Parts as part
-use Rattle.isl_kinds.proofs.PartLaws.{at-Row, at-Post, parts_of-Prefix, parts_of-Any, parts_of-Last}
+use Rattle.isl_kinds.proofs.PartLaws.{at-Row, at-Post, any_in_postfix, parts_of-Prefix, parts_of-Any, parts_of-Last}
 use Rattle.isl_simple.specs.Unsupported.{is_later}
 
 pub later-Prefix : (x operand : Expr) (word : Word) (a b : Bool) → x ≡ Prefix word operand → a ≡ is_later (part.prefix word)
@@ -35,4 +35,4 @@ later_link link links =
     ∙ or_left (is_later (part.operator link.operator)) (list_any is_later (parts_of link.operand))
     (list_any is_later (parts_of_links links))
 
-pub ruleset lists = (later_link)
+pub ruleset lists = (later_link, any_in_postfix)

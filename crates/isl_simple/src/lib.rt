@@ -2,10 +2,8 @@
 #![tactic(auto)]
 
 mod flattening;
-mod mixed;
 mod partial;
 mod unsupported;
 
 pub use flattening::{SimpleStmt, flatten};
-pub use mixed::mixes_kinds;
 pub use unsupported::is_unsupported;

@@ -2,7 +2,7 @@
 
 ghost use Rattle.std.specs.Prelude.{◌≡◌};
 ghost use Rattle.std.specs.List.{list_any};
-ghost use Rattle.isl_kinds.specs.Parts.{operator, prefix, parts_of, parts_of_links, parts_of_postfixes};
+ghost use Rattle.isl_kinds.specs.Parts.{operator, prefix, parts_of, parts_of_links, parts_of_postfix, parts_of_postfixes};
 ghost use Rattle.isl_simple.specs.Unsupported as spec;
 ghost use Rattle.isl_simple.specs.Unsupported.{is_later};
 
@@ -11,23 +11,23 @@ use isl_expr::tree::{Binary, Expr, Link, Postfix, Prefix, Stmt};
 fn is_later_operator(sign: Binary) -> bool
     ensures { result ≡ is_later (operator sign) }
 {
-    !matches!(
+    matches!(
         sign,
-        Binary::Union
-            | Binary::Intersection
-            | Binary::Difference
-            | Binary::Equal
-            | Binary::ProperSubset
-            | Binary::Subset
-            | Binary::ProperSuperset
-            | Binary::Superset
+        Binary::Gist
+            | Binary::LexLess
+            | Binary::LexLessEqual
+            | Binary::LexGreater
+            | Binary::LexGreaterEqual
     )
 }
 
 fn is_later_word(word: Prefix) -> bool
     ensures { result ≡ is_later (prefix word) }
 {
-    !matches!(word, Prefix::Sample | Prefix::Scan)
+    matches!(
+        word,
+        Prefix::LexMin | Prefix::LexMax | Prefix::Coalesce | Prefix::Codegen
+    )
 }
 
 #[cycle(later)]
@@ -62,11 +62,24 @@ fn are_later_links(links: &[Link]) -> bool
     false
 }
 
+#[cycle(later)]
+fn is_later_postfix(postfix: &Postfix) -> bool
+    ensures { result ≡ list_any is_later (parts_of_postfix postfix.now) }
+{
+    match postfix {
+        Postfix::Inverse => false,
+        Postfix::Apply(argument) => is_later_expression(argument),
+        Postfix::Item(_) => true,
+    }
+}
+
+#[cycle(later)]
+#[tactic(auto, using(crate::proofs::LaterLaws::lists))]
 fn are_later_postfixes(postfixes: &[Postfix]) -> bool
     ensures { result ≡ list_any is_later (parts_of_postfixes postfixes.now) }
 {
     for postfix in postfixes {
-        if !matches!(postfix, Postfix::Inverse) {
+        if is_later_postfix(postfix) {
             return true;
         }
     }
