@@ -1,5 +1,5 @@
--- What is kept of expressions.
-use Rattle.std.proofs.Common.{◌≡◌, ◌∙◌, ◌↔◌, refl, sym, ap, subst, ℕ, ℤ, true, false, is_some, List, [], ◌∷◌, ◌++◌, Option, Some, None}
+-- Values of names and literals.
+use Rattle.std.proofs.Common.{◌≡◌, ◌∙◌, ◌↔◌, inl, refl, sym, ap, subst, ℕ, ℤ, true, false, is_some, List, [], ◌∷◌, ◌++◌, Option, Some, None}
 use Rattle.std.proofs.Common.{option_map}
 use Rattle.std.specs.Prelude.{not, ◌||◌, unsigned_abs, Result, Ok, Err, IfOk, MatchResult}
 use Rattle.std.specs.List.{list_any}
@@ -8,7 +8,7 @@ use Rattle.std.proofs.lemmas.Bool.{false≢true, or_parts, not-false}
 use Rattle.std.proofs.lemmas.List.Elements.{All-head}
 use Rattle.std.proofs.lemmas.List.{append-nil}
 use Rattle.indexmap.specs.IndexSet.{insert_all, insert_key}
-use Rattle.isl_meter.specs.Gauge.{Gauge, limit_of}
+use Rattle.isl_meter.specs.Gauge.{Gauge}
 use Rattle.isl_meter.specs.declared.Cut.{Cut}
 use Rattle.isl_meter.specs.declared.Cut.TheVariants.{NoMemory}
 use Rattle.isl_space.specs.Name.{Name}
@@ -28,10 +28,11 @@ use Rattle.isl_expr.specs.declared.tree.Expr.{Expr, Row', Prefix', Any', Last', 
 use Rattle.isl_expr.specs.declared.tree.Expr as e
 use Rattle.isl_kinds.specs.Parts.{parts_of}
 use Rattle.isl_kinds.specs.Typed.{TypeView, ScopeView, params_of, has_unknown, declared_of, bound_to}
-use Rattle.isl_select.specs.State.{Kept, StateView, Moment, kept_of, type_of, scope_of, HasNumbersUpTo, Fits}
+use Rattle.isl_select.specs.State.{Kept, StateView, kept_of, type_of, scope_of, HasNumbersUpTo, Fits}
 use Rattle.isl_select.specs.Worked.{IsWorked}
-use Rattle.isl_select.specs.Selection.{KeptHas, Selects, IsSelected, IsContentOf, Keeps}
-use Rattle.isl_select.specs.Made.{is_foreign, uses_units, IsOfType, IsSoundExpr, IsValueOf, IsPaid, IsWhyUnmade}
+use Rattle.isl_select.specs.Formed.{IsTooWide}
+use Rattle.isl_select.specs.Selection.{KeptHas, Selects}
+use Rattle.isl_select.specs.Made.{uses_units, IsSoundExpr, IsValueOf, IsPaid, IsWhyUnmade, IsWhyUnworked}
 use Rattle.isl_select.proofs.StateLaws.{bound_at}
 
 -- ---- a list of distinct names, joined to none, is itself
@@ -133,11 +134,18 @@ pub literal_paid : (expr : Expr) (literal : Literal) (g h : Gauge) → expr ≡ 
     → IsPaid (list_any uses_units (parts_of expr)) g h
 literal_paid expr literal g h is paid = subst (λ (x : Expr). IsPaid (list_any uses_units (parts_of x)) g h) (sym is) paid
 
-pub literal_unmade : (expr : Expr) (literal : Literal) (g h : Gauge) (refusal : Refusal) → expr ≡ e.Literal literal
+pub literal_unmade : (expr : Expr) (literal : Literal) (Wide : Type 0) (g h : Gauge) (refusal : Refusal) → expr ≡ e.Literal literal
     → IsWhyUnmade true g h refusal
-    → IsWhyUnmade (list_any uses_units (parts_of expr)) g h refusal
-literal_unmade expr literal g h refusal is why =
-    subst (λ (x : Expr). IsWhyUnmade (list_any uses_units (parts_of x)) g h refusal) (sym is) why
+    → IsWhyUnworked (list_any uses_units (parts_of expr)) Wide g h refusal
+literal_unmade expr literal Wide g h refusal is why =
+    inl (subst (λ (x : Expr). IsWhyUnmade (list_any uses_units (parts_of x)) g h refusal) (sym is) why)
+
+-- a name, or a literal, forms no space
+pub literal_narrow : (state : StateView) (expr : Expr) (literal : Literal) → expr ≡ e.Literal literal → ¬ IsTooWide state expr
+literal_narrow state expr literal is wide = subst (IsTooWide state) is wide
+
+pub name_narrow : (state : StateView) (expr : Expr) (name : Name) → expr ≡ e.Name name → ¬ IsTooWide state expr
+name_narrow state expr name is wide = subst (IsTooWide state) is wide
 
 -- ---- a name is bound, and a literal known
 pub never_unbound : (state : StateView) (name : Name) → kept_of state name ≡ None → ¬ (has_unknown (scope_of state) (e.Name name) ≡ false)
@@ -151,34 +159,4 @@ only_literal scope expr literal is sound =
     let of_literal = subst (IsSoundExpr scope) is sound in (
       not-false (literal_is_known literal) (or_parts (not (literal_is_known literal)) false of_literal.known).0,
       All-head IsWellFormedLiteral literal [] of_literal.literals,
-    )
-
--- ---- what is kept
--- no word stands in the expression, so all is kept that it selects
-pub all_is_content : (state : StateView) (expr : Expr) (value : KeptValue) → list_any is_foreign (parts_of expr) ≡ false
-    → IsSelected state expr value
-    → IsContentOf state expr value
-all_is_content state (e.Name name) value none all = all
-all_is_content state (e.Literal literal) value none all = all
-all_is_content state (Row' s first t links) value none all = all
-all_is_content state (Prefix' word s operand) value none all = absurd (false≢true (sym none))
-all_is_content state (Any' r source s sink t schedule) value none all = all
-all_is_content state (Last' r source s sink t schedule) value none all = all
-all_is_content state (Post' s operand t postfixes) value none all = all
-
-pub made_keeps : (before : Moment) (expr : Expr) (kept : Kept) (value : KeptValue) (t : TypeView)
-    → kept ≡ record { kind = t.kind; value = value }
-    → IsOfType (scope_of before.state) expr t → list_any is_foreign (parts_of expr) ≡ false
-    → Makes before.state (limit_of before.meter) expr value → Keeps before expr kept × (type_of kept ≡ t)
-made_keeps before expr kept value t is typed none made =
-    subst (λ (k : Kept). Keeps before expr k × (type_of k ≡ t)) (sym is) (
-      record {
-        kind = typed.kind;
-        params = sym made.params;
-        content = all_is_content before.state expr value none (record { elements = made.elements; written = made.written });
-        well_formed = made.kept;
-        numbers = made.numbers;
-        definitions = made.definitions;
-      },
-      ap (λ (ps : List Name). let built : TypeView = record { kind = t.kind; params = ps } in built) (made.params ∙ typed.params),
     )

@@ -3,8 +3,13 @@ pub mod StateLaws
 pub mod ForgetLaws
 pub mod KeptLaws
 pub mod NarrowLaws
+pub mod SameLaws
 pub mod RowLaws
+pub mod FormedLaws
 pub mod WorkedLaws
-pub mod JoinLaws
 pub mod ValueLaws
+pub mod OutcomeLaws
+pub mod LinkLaws
+pub mod PostfixLaws
+pub mod OperandLaws
 pub mod DepthLaws

@@ -14,13 +14,14 @@ use Rattle.indexmap.specs.IndexSet.{insert_all, insert_key}
 use Rattle.isl_space.specs.Name.{Name}
 use Rattle.isl_space.specs.Names.{AreDistinct, is_among, joined}
 use Rattle.isl_space.proofs.NamesLaws.{joined_distinct, joined-nil, absent_before}
+use Rattle.isl_expr.specs.declared.tree.Prefix.{Prefix as Word}
 use Rattle.isl_expr.specs.declared.tree.Link.{Link}
-use Rattle.isl_expr.specs.declared.tree.Postfix.{Postfix, Inverse}
-use Rattle.isl_expr.specs.declared.tree.Expr.{Expr, Row}
+use Rattle.isl_expr.specs.declared.tree.Postfix.{Postfix, Inverse, Apply, Item}
+use Rattle.isl_expr.specs.declared.tree.Expr.{Expr, Row, Prefix, Post}
+use Rattle.isl_expr.specs.declared.tree.Expr.TheBlock.{hidden-the_row-Expr-0}
 use Rattle.isl_kinds.specs.Typed.{ScopeView, declared_of, declared_of_row, declared_of_post, declared_past, joined_names}
-use Rattle.isl_kinds.proofs.DeclaredLaws.{once, other_is_there, declared_of-Row}
-use Rattle.isl_select.specs.Made.{AreInverses}
-use Rattle.std.proofs.lemmas.List.Elements.{All-head, All-tail, All-filter, filter-append}
+use Rattle.isl_kinds.proofs.DeclaredLaws.{once, other_is_there, declared_of-Row, declared_of-Post}
+use Rattle.std.proofs.lemmas.List.Elements.{All-filter, filter-append}
 
 -- ---- equality of names
 same_both : (x y : Name) → bytes_eq x y ≡ bytes_eq y x
@@ -176,13 +177,57 @@ row_declares scope first links most narrow =
     let longer = row_fits scope (declared_of scope first) links in
     omega (arith, is, longer, narrow)
 
-past_inverse : (scope : ScopeView) (left : List Name) (postfix : Postfix) → postfix ≡ Inverse → declared_past scope left postfix ≡ left
-past_inverse scope left postfix is = ap (declared_past scope left) is
+pub declared_of-Prefix : (scope : ScopeView) (word : Word) (operand : Expr)
+    → declared_of scope (Prefix word operand) ≡ declared_of scope operand
+unfolding hidden-the_row-Expr-0 denote.Hole.Carrier.hidden
+declared_of-Prefix scope word operand = refl
 
-pub post_declares : (scope : ScopeView) (left : List Name) (postfixes : List Postfix) → AreInverses postfixes
-    → declared_of_post scope left postfixes ≡ left
-post_declares scope left [] all = refl
-post_declares scope left (postfix ∷ postfixes) all =
-    ap (λ (ns : List Name). declared_of_post scope ns postfixes)
-    (past_inverse scope left postfix (All-head (λ p. p ≡ Inverse) postfix postfixes all))
-    ∙ post_declares scope left postfixes (All-tail (λ p. p ≡ Inverse) postfix postfixes all)
+-- ---- what follows an operand
+past_fits : (scope : ScopeView) (left : List Name) (postfix : Postfix) → length left ≤ length (declared_past scope left postfix)
+past_fits scope left Inverse = omega arith
+past_fits scope left (Apply argument) = first_fits left (declared_of scope argument)
+past_fits scope left (Item number) = omega arith
+
+post_fits : (scope : ScopeView) (left : List Name) (postfixes : List Postfix) → length left ≤ length (declared_of_post scope left postfixes)
+post_fits scope left [] = omega arith
+post_fits scope left (postfix ∷ postfixes) =
+    let one = past_fits scope left postfix in
+    let rest = post_fits scope (declared_past scope left postfix) postfixes in
+    omega (arith, one, rest)
+
+push_past : (scope : ScopeView) (left : List Name) (postfixes : List Postfix) (postfix : Postfix)
+    → declared_of_post scope left (postfixes ++ postfix ∷ []) ≡ declared_past scope (declared_of_post scope left postfixes) postfix
+push_past scope left [] postfix = refl
+push_past scope left (first ∷ postfixes) postfix = push_past scope (declared_past scope left first) postfixes postfix
+
+pub past_more : (scope : ScopeView) (left : List Name) (postfixes : List Postfix) (i : ℕ) (postfix : Postfix) → i < length postfixes
+    → postfix ≡ get_or postfixes i postfix
+    → declared_of_post scope left (take (i + 1) postfixes) ≡ declared_past scope (declared_of_post scope left (take i postfixes)) postfix
+past_more scope left postfixes i postfix low is =
+    ap (declared_of_post scope left) (take_more postfixes i postfix low ∙ ap (λ (p : Postfix). take i postfixes ++ p ∷ []) (sym is))
+    ∙ push_past scope left (take i postfixes) postfix
+
+pub past_narrow : (scope : ScopeView) (left : List Name) (postfixes : List Postfix) (i : ℕ) (postfix : Postfix) → i < length postfixes
+    → postfix ≡ get_or postfixes i postfix
+    → length (declared_past scope (declared_of_post scope left (take i postfixes)) postfix) ≤ length (declared_of_post scope left postfixes)
+past_narrow scope left [] i postfix low is = absurd (omega (arith, low))
+past_narrow scope left (first ∷ postfixes) zero postfix low is =
+    subst (λ (p : Postfix). length (declared_past scope left p) ≤ length (declared_of_post scope left (first ∷ postfixes))) (sym is)
+    (post_fits scope (declared_past scope left first) postfixes)
+past_narrow scope left (first ∷ postfixes) (suc i) postfix low is =
+    past_narrow scope (declared_past scope left first) postfixes i postfix (omega (arith, low)) is
+
+pub post_declares : (scope : ScopeView) (operand : Expr) (postfixes : List Postfix) (most : ℕ)
+    → length (declared_of scope (Post operand postfixes)) ≤ most
+    → length (declared_of scope operand) ≤ most
+post_declares scope operand postfixes most narrow =
+    let is = ap length (declared_of-Post scope operand postfixes) in
+    let longer = post_fits scope (declared_of scope operand) postfixes in
+    omega (arith, is, longer, narrow)
+
+pub argument_fits : (scope : ScopeView) (left : List Name) (argument : Expr) (most : ℕ)
+    → length (joined_names left (declared_of scope argument)) ≤ most
+    → length (declared_of scope argument) ≤ most
+argument_fits scope left argument most narrow =
+    let operand = second_fits left (declared_of scope argument) (declared_distinct scope argument) in
+    omega (arith, operand, narrow)

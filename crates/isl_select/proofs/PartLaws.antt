@@ -1,20 +1,21 @@
 -- What stands in an expression, operand by operand.
-use Rattle.std.proofs.Common.{◌≡◌, ◌∙◌, ◌<◌, ℕ, zero, suc, Bool, false, List, [], ◌∷◌, ◌++◌, length, get_or, refl, sym, ap, subst, arith}
+use Rattle.std.proofs.Common.{◌≡◌, ◌∙◌, ◌<◌, ℕ, zero, suc, Bool, false, List, [], ◌∷◌, ◌++◌, length, get_or, sym, ap, subst, arith}
 use Rattle.std.specs.List.{All, list_any}
 use Rattle.std.proofs.lemmas.Bool.{or_parts, false≢true}
 use Rattle.std.proofs.lemmas.List.Elements.{All-nil, All-cons, All-head, All-tail}
 use Rattle.std.proofs.lemmas.List.Folds.{list_any-append}
 use Rattle.isl_lower.specs.Value.{IsWellFormedLiteral}
+use Rattle.isl_expr.specs.declared.tree.Prefix.{Prefix as Word}
 use Rattle.isl_expr.specs.declared.tree.Link.{Link}
 use Rattle.isl_expr.specs.declared.tree.Postfix.{Postfix, Inverse, Apply, Item}
-use Rattle.isl_expr.specs.declared.tree.Expr.{Expr, Row, Post}
-use Rattle.isl_expr.specs.Expr.{literals_of, links_literals, postfixes_literals}
-use Rattle.isl_expr.proofs.Literals.{literals_of-Row, literals_of-Post}
+use Rattle.isl_expr.specs.declared.tree.Expr.{Expr, Row, Prefix, Post}
+use Rattle.isl_expr.specs.Expr.{literals_of, literals_in_postfix, links_literals, postfixes_literals}
+use Rattle.isl_expr.proofs.Literals.{literals_of-Row, literals_of-Prefix, literals_of-Post}
 use Rattle.isl_kinds.specs.Parts.{Part, parts_of, parts_of_postfix, parts_of_links, parts_of_postfixes}
 use Rattle.isl_kinds.specs.Parts as part
 use Rattle.isl_kinds.specs.Typed.{ScopeView, is_unknown}
-use Rattle.isl_kinds.proofs.PartLaws.{parts_of-Row, parts_of-Post}
-use Rattle.isl_select.specs.Made.{is_foreign, IsSoundExpr, IsSoundLink, AreInverses}
+use Rattle.isl_kinds.proofs.PartLaws.{parts_of-Row, parts_of-Prefix, parts_of-Post}
+use Rattle.isl_select.specs.Made.{is_foreign, IsSoundExpr, IsSoundLink, IsSoundPostfix}
 
 -- ---- all of a list
 module _ {X : Type 0} (P : X → Type 0) where
@@ -43,6 +44,11 @@ module _ (scope : ScopeView) where
       → (list_any test (parts_of operand) ≡ false) × (list_any test (parts_of_postfixes postfixes) ≡ false)
   post_quiet test operand postfixes none =
       quiet_both test (parts_of operand) (parts_of_postfixes postfixes) (sym (ap (list_any test) (parts_of-Post operand postfixes)) ∙ none)
+
+  pub word_quiet : (test : Part → Bool) (word : Word) (operand : Expr) → list_any test (parts_of (Prefix word operand)) ≡ false
+      → (test (part.prefix word) ≡ false) × (list_any test (parts_of operand) ≡ false)
+  word_quiet test word operand none =
+      or_parts (test (part.prefix word)) (list_any test (parts_of operand)) (sym (ap (list_any test) (parts_of-Prefix word operand)) ∙ none)
 
   pub sound_first : (first : Expr) (links : List Link) → IsSoundExpr scope (Row first links) → IsSoundExpr scope first
   sound_first first links sound = record {
@@ -86,16 +92,40 @@ module _ (scope : ScopeView) where
         (subst (All IsWellFormedLiteral) (literals_of-Post operand postfixes) sound.literals);
   }
 
-inverse_alone : (postfix : Postfix) → list_any is_foreign (parts_of_postfix postfix) ≡ false → postfix ≡ Inverse
-inverse_alone Inverse none = refl
-inverse_alone (Apply argument) none = absurd (false≢true (sym none))
-inverse_alone (Item number) none = absurd (false≢true (sym none))
+  postfix_sound : (postfix : Postfix) → list_any is_foreign (parts_of_postfix postfix) ≡ false
+      → list_any (is_unknown scope) (parts_of_postfix postfix) ≡ false
+      → All IsWellFormedLiteral (literals_in_postfix postfix) → IsSoundPostfix scope postfix
+  postfix_sound Inverse supported known literals = tt
+  postfix_sound (Apply argument) supported known literals = record { supported = supported; known = known; literals = literals }
+  postfix_sound (Item number) supported known literals = absurd (false≢true (sym supported))
 
-pub inverses : (postfixes : List Postfix) → list_any is_foreign (parts_of_postfixes postfixes) ≡ false → AreInverses postfixes
-inverses [] none = All-nil (λ postfix. postfix ≡ Inverse)
-inverses (postfix ∷ postfixes) none =
-    let both = quiet_both is_foreign (parts_of_postfix postfix) (parts_of_postfixes postfixes) none in
-    All-cons (λ postfix. postfix ≡ Inverse) postfix postfixes (inverse_alone postfix both.0) (inverses postfixes both.1)
+  postfixes_sound : (postfixes : List Postfix) → list_any is_foreign (parts_of_postfixes postfixes) ≡ false
+      → list_any (is_unknown scope) (parts_of_postfixes postfixes) ≡ false
+      → All IsWellFormedLiteral (postfixes_literals postfixes) → All (IsSoundPostfix scope) postfixes
+  postfixes_sound [] supported known literals = All-nil (IsSoundPostfix scope)
+  postfixes_sound (postfix ∷ postfixes) supported known literals =
+      let now = quiet_both is_foreign (parts_of_postfix postfix) (parts_of_postfixes postfixes) supported in
+      let there = quiet_both (is_unknown scope) (parts_of_postfix postfix) (parts_of_postfixes postfixes) known in
+      All-cons (IsSoundPostfix scope) postfix postfixes
+      (postfix_sound postfix now.0 there.0
+      (all_left IsWellFormedLiteral (literals_in_postfix postfix) (postfixes_literals postfixes) literals))
+      (postfixes_sound postfixes now.1 there.1
+      (all_right IsWellFormedLiteral (literals_in_postfix postfix) (postfixes_literals postfixes) literals))
+
+  pub sound_postfixes : (operand : Expr) (postfixes : List Postfix) → IsSoundExpr scope (Post operand postfixes)
+      → All (IsSoundPostfix scope) postfixes
+  sound_postfixes operand postfixes sound =
+      postfixes_sound postfixes (post_quiet is_foreign operand postfixes sound.supported).1
+      (post_quiet (is_unknown scope) operand postfixes sound.known).1
+      (all_right IsWellFormedLiteral (literals_of operand) (postfixes_literals postfixes)
+      (subst (All IsWellFormedLiteral) (literals_of-Post operand postfixes) sound.literals))
+
+  pub sound_argument : (word : Word) (operand : Expr) → IsSoundExpr scope (Prefix word operand) → IsSoundExpr scope operand
+  sound_argument word operand sound = record {
+    supported = (word_quiet is_foreign word operand sound.supported).1;
+    known = (word_quiet (is_unknown scope) word operand sound.known).1;
+    literals = subst (All IsWellFormedLiteral) (literals_of-Prefix word operand) sound.literals;
+  }
 
 -- ---- the operand at a place
 pub quiet_at : (test : Part → Bool) (links : List Link) (i : ℕ) (link : Link) → i < length links → link ≡ get_or links i link
@@ -109,3 +139,14 @@ quiet_at test (other ∷ links) zero link low is none =
 quiet_at test (other ∷ links) (suc i) link low is none =
     let sign = or_parts (test (part.operator other.operator)) (list_any test (parts_of other.operand ++ parts_of_links links)) none in
     quiet_at test links i link (omega (arith, low)) is (quiet_both test (parts_of other.operand) (parts_of_links links) sign.1).1
+
+pub quiet_in : (test : Part → Bool) (postfixes : List Postfix) (i : ℕ) (postfix : Postfix) → i < length postfixes
+    → postfix ≡ get_or postfixes i postfix
+    → list_any test (parts_of_postfixes postfixes) ≡ false → list_any test (parts_of_postfix postfix) ≡ false
+quiet_in test [] i postfix low is none = absurd (omega (arith, low))
+quiet_in test (other ∷ postfixes) zero postfix low is none =
+    subst (λ (p : Postfix). list_any test (parts_of_postfix p) ≡ false) (sym is)
+    (quiet_both test (parts_of_postfix other) (parts_of_postfixes postfixes) none).0
+quiet_in test (other ∷ postfixes) (suc i) postfix low is none =
+    quiet_in test postfixes i postfix (omega (arith, low)) is
+    (quiet_both test (parts_of_postfix other) (parts_of_postfixes postfixes) none).1

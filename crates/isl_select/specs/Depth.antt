@@ -1,13 +1,15 @@
 -- inner: how much stands in an expression that a value is worked out of: what working it out counts down.
 use Rattle.std.specs.Prelude.{ℕ, ◌+◌, List, [], ◌∷◌}
 use Rattle.isl_expr.specs.declared.tree.Link.{Link}
-use Rattle.isl_expr.specs.declared.tree.Expr.{Expr, Row', Post', Row_of-Expr, end_of-Expr, more_of-Expr}
-use Rattle.isl_expr.specs.declared.tree.Expr.{Row_of-Link, end_of-Link, more_of-Link}
+use Rattle.isl_expr.specs.declared.tree.Postfix.{Postfix, Apply}
+use Rattle.isl_expr.specs.declared.tree.Expr.{Expr, Row', Prefix', Post', Row_of-Expr, end_of-Expr, more_of-Expr}
+use Rattle.isl_expr.specs.declared.tree.Expr.{Row_of-Link, end_of-Link, more_of-Link, Row_of-Postfix, end_of-Postfix, more_of-Postfix}
 
 abbrev mutual
   pub depth_of : Expr → ℕ
   depth_of (Row' s first t links) = 1 + (depth_in first + depth_in_links links)
-  depth_of (Post' s operand t postfixes) = 1 + depth_in operand
+  depth_of (Prefix' word s operand) = 1 + depth_in operand
+  depth_of (Post' s operand t postfixes) = 1 + (depth_in operand + depth_in_postfixes postfixes)
   depth_of _ = 0
 
   -- an operand in a box is a row of one
@@ -19,7 +21,19 @@ abbrev mutual
   depth_in_links end_of-Link = 0
   depth_in_links (more_of-Link operator operand rest) = 1 + (depth_of operand + depth_in_links rest)
 
--- the same of a list
+  pub depth_in_postfixes : {m : _} → Row_of-Postfix m → ℕ
+  depth_in_postfixes end_of-Postfix = 0
+  depth_in_postfixes (more_of-Postfix postfix rest) = 1 + (depth_of_postfix postfix + depth_in_postfixes rest)
+
+  pub depth_of_postfix : Postfix → ℕ
+  depth_of_postfix (Apply argument) = 1 + depth_of argument
+  depth_of_postfix _ = 0
+
+-- the same of lists
 abbrev pub depth_of_links : List Link → ℕ
 depth_of_links [] = 0
 depth_of_links (link ∷ links) = 1 + (depth_of link.operand + depth_of_links links)
+
+abbrev pub depth_of_postfixes : List Postfix → ℕ
+depth_of_postfixes [] = 0
+depth_of_postfixes (postfix ∷ postfixes) = 1 + (depth_of_postfix postfix + depth_of_postfixes postfixes)

@@ -3,6 +3,8 @@ pub mod Worked
 pub mod Selection
 pub mod Stored
 pub mod Made
+pub mod Formed
 pub mod Depth
 pub use Rattle.isl_kinds.specs.Typed
 pub use Rattle.isl_lower.specs.Value
+pub use Rattle.isl_operations.specs.Operations

@@ -1,7 +1,7 @@
 -- public: what values are worked out of expressions, for whom, and what that does to the meter.
-use Rattle.std.specs.Prelude.{◌≡◌, ◌↔◌, ◌<◌, ◌≤◌, ℕ, Bool, true, false, List, length, All, Some}
+use Rattle.std.specs.Prelude.{◌≡◌, ◌↔◌, ◌⊎◌, ◌≤◌, ℕ, Bool, true, false, not, List, length, All, Some}
 use Rattle.std.specs.List.{list_any}
-use Rattle.isl_meter.specs.Gauge.{Gauge, IsCharged, IsCutBy}
+use Rattle.isl_meter.specs.Gauge.{Gauge, IsCutBy}
 use Rattle.isl_meter.specs.declared.Cut.{Cut}
 use Rattle.isl_meter.specs.declared.Cut.TheVariants as cuts
 use Rattle.isl_space.specs.Limits.{most_parameters}
@@ -12,31 +12,35 @@ use Rattle.isl_union.specs.KeptValue.{KeptValue, Has, HasNoDefinitions, IsKeptVa
 use Rattle.isl_union.specs.declared.fault.OpFault.{OpFault}
 use Rattle.isl_union.specs.declared.fault.OpFault.TheVariants as op_fault
 use Rattle.isl_text.specs.declared.refusal.Refusal.{Refusal}
-use Rattle.isl_text.specs.declared.refusal.Refusal.TheVariants.{Overflow, Budget, NoMemory}
+use Rattle.isl_text.specs.declared.refusal.Refusal.TheVariants.{Overflow, Budget, NoMemory, TooWide}
 use Rattle.isl_lower.specs.Value.{IsWellFormedLiteral}
-use Rattle.isl_expr.specs.declared.tree.Binary.TheVariants.{Union, Intersection, Difference}
 use Rattle.isl_expr.specs.declared.tree.Link.{Link}
-use Rattle.isl_expr.specs.declared.tree.Postfix.{Postfix, Inverse}
+use Rattle.isl_expr.specs.declared.tree.Postfix.{Postfix, Inverse, Apply, Item}
 use Rattle.isl_expr.specs.declared.tree.Expr.{Expr}
 use Rattle.isl_expr.specs.Expr.{literals_of}
-use Rattle.isl_kinds.specs.Parts.{Part, name, literal, operator, inverse, parts_of}
-use Rattle.isl_kinds.specs.Typed.{TypeView, ScopeView, has_unknown, kind_of, declared_of, declared_of_row}
+use Rattle.isl_kinds.specs.Parts.{Part, name, literal, operator, prefix, inverse, application, parts_of}
+use Rattle.isl_kinds.specs.Typed.{TypeView, ScopeView, has_unknown, kind_of, declared_of, declared_of_row, declared_of_post}
+use Rattle.isl_operations.specs.Operations.{is_operation, is_operation_word}
+use Rattle.isl_operations.specs.Made.{operator_works, word_works}
+pub use Rattle.isl_operations.specs.Made.{IsPaid}
 use Rattle.isl_select.specs.State.{HasNumbersUpTo}
 
--- what stands in no operand that a value is worked out of: tests, words before operands, and what is not answered yet
+-- what stands in no operand that a value is worked out of: tests, `scan`, `sample`, and what is not answered yet
 abbrev pub is_foreign : Part → Bool
 is_foreign (name n) = false
 is_foreign (literal l) = false
-is_foreign (operator Union) = false
-is_foreign (operator Intersection) = false
-is_foreign (operator Difference) = false
+is_foreign (operator sign) = not (is_operation sign)
+is_foreign (prefix word) = not (is_operation_word word)
 is_foreign inverse = false
+is_foreign application = false
 is_foreign _ = true
 
--- the parts that may use units: all but names, `+` and `^-1`; a literal is asked whether what it writes has an element
+-- the parts that may use units: all but names, `+`, `^-1` and the words that only move columns; a literal is asked whether what it writes
+-- has an element
 abbrev pub uses_units : Part → Bool
 uses_units (name n) = false
-uses_units (operator Union) = false
+uses_units (operator sign) = operator_works sign
+uses_units (prefix word) = word_works word
 uses_units inverse = false
 uses_units _ = true
 
@@ -67,9 +71,16 @@ pub record AreReady (scope : ScopeView) (params : List Name) (links : List Link)
   pub each : All (IsSoundLink scope) links
   pub narrow : length (declared_of_row scope params links) ≤ most_parameters
 
--- each of what follows an operand is `^-1`
-abbrev pub AreInverses : List Postfix → Type 0
-AreInverses postfixes = All (λ postfix. postfix ≡ Inverse) postfixes
+-- what follows an operand is answered, and what it is applied to is sound
+abbrev pub IsSoundPostfix : ScopeView → Postfix → Type 0
+IsSoundPostfix scope Inverse = Unit {0}
+IsSoundPostfix scope (Apply argument) = IsSoundExpr scope argument
+IsSoundPostfix scope (Item number) = ⊥
+
+-- the same of all that follows an operand that has these parameters
+pub record AreReadyBehind (scope : ScopeView) (params : List Name) (postfixes : List Postfix) : Type 0 where
+  pub each : All (IsSoundPostfix scope) postfixes
+  pub narrow : length (declared_of_post scope params postfixes) ≤ most_parameters
 
 -- The kept value is one of these, with these parameters, these elements at each valuation, no number above the limit, and no column
 -- that is defined.
@@ -90,16 +101,10 @@ refusal_of_cut cuts.Overflow = Overflow
 refusal_of_cut cuts.Budget = Budget
 refusal_of_cut cuts.NoMemory = NoMemory
 
--- why an operator made no value of two: they have more parameters than a value may have, or work was cut; where nothing uses units memory
--- ended, and the meter is as it was
-abbrev pub IsWhyUnjoined : List Name → Bool → Gauge → Gauge → OpFault → Type 0
-IsWhyUnjoined params works old new op_fault.TooWide = most_parameters < length params
-IsWhyUnjoined params works old new (op_fault.Cut cut) = IsCutBy old new cut × (works ≡ false → (cut ≡ cuts.NoMemory) × (new ≡ old))
-
--- units alone were used, and where nothing uses units the meter is as it was
-pub record IsPaid (works : Bool) (old new : Gauge) : Type 0 where
-  pub charged : IsCharged old new
-  pub free : works ≡ false → new ≡ old
+-- what refuses one of which an operation made no value
+abbrev pub refusal_of_fault : OpFault → Refusal
+refusal_of_fault op_fault.TooWide = TooWide
+refusal_of_fault (op_fault.Cut cut) = refusal_of_cut cut
 
 -- why no value was made: work was cut; where nothing uses units memory ended, and the meter is as it was
 pub record IsWhyUnmade (works : Bool) (old new : Gauge) (refusal : Refusal) : Type 0 where
@@ -107,3 +112,7 @@ pub record IsWhyUnmade (works : Bool) (old new : Gauge) (refusal : Refusal) : Ty
   pub is : refusal ≡ refusal_of_cut cut
   pub by : IsCutBy old new cut
   pub free : works ≡ false → (cut ≡ cuts.NoMemory) × (new ≡ old)
+
+-- why no value was worked out: none was made; or a space that an operation forms is too wide, and units alone were used
+abbrev pub IsWhyUnworked : Bool → Type 0 → Gauge → Gauge → Refusal → Type 0
+IsWhyUnworked works Wide old new refusal = IsWhyUnmade works old new refusal ⊎ ((refusal ≡ TooWide) × Wide × IsPaid works old new)

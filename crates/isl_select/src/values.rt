@@ -1,31 +1,36 @@
 //! The values of expressions.
 
-ghost use Rattle.std.specs.Prelude.{◌≡◌, ◌↔◌, ◌≤◌, true, false, IfErr, IfOk, MatchResult, length, unsigned_abs};
+ghost use Rattle.std.specs.Prelude.{◌≡◌, ◌↔◌, ◌≤◌, true, false, IfErr, IfOk, MatchResult, Ok, length, unsigned_abs};
 ghost use Rattle.std.specs.List.{list_any};
 ghost use Rattle.isl_meter.specs.Gauge.{limit_of, IsCharged, IsCutBy};
 ghost use Rattle.isl_space.specs.Limits.{most_parameters};
 ghost use Rattle.isl_space.specs.Element.{Element};
-ghost use Rattle.isl_space.specs.Names.{joined};
 ghost use Rattle.isl_space.specs.Valuation.{Valuation};
 ghost use Rattle.isl_union.specs.KeptValue.{Has, HasNoDefinitions, IsKeptValue};
 ghost use Rattle.isl_union.specs.Numbers.{IsWithinLimit};
 ghost use Rattle.isl_lower.specs.Value.{IsWellFormedLiteral, IsLowered};
 ghost use Rattle.isl_tree.specs.Literal.{LiteralHas};
 ghost use Rattle.isl_tree.specs.Known.{literal_is_known};
-ghost use Rattle.isl_expr.specs.declared.tree.Postfix.{Inverse};
-ghost use Rattle.isl_kinds.specs.Parts.{operator as operator_part, parts_of, parts_of_links};
-ghost use Rattle.isl_kinds.specs.Typed.{declared_of, declared_of_row, joined_names};
+ghost use Rattle.isl_maps.specs.Inverse.{inverse_element, inverse_of};
+ghost use Rattle.isl_operations.specs.Operations.{OperatorHas, WordHas, ApplicationHas};
+ghost use Rattle.isl_operations.specs.Formed.{OperatorForms, WordForms, ApplicationForms, FormsWide, PairsWide};
+ghost use Rattle.isl_operations.specs.Made.{IsOperatorOf, IsWordOf, IsApplicationOf, operator_works, word_works};
+ghost use Rattle.isl_kinds.specs.Parts.{operator as operator_part, prefix as prefix_part, parts_of, parts_of_links};
+ghost use Rattle.isl_kinds.specs.Parts.{parts_of_postfix, parts_of_postfixes};
+ghost use Rattle.isl_kinds.specs.Typed.{declared_of, declared_of_post, declared_of_row, declared_past, joined_names};
 ghost use Rattle.isl_select.specs.State.{scope_of, Fits, HasNumbersUpTo};
-ghost use Rattle.isl_select.specs.Selection.{Selects, JoinHas, PostHas, RowSelects, PostfixHas};
-ghost use Rattle.isl_select.specs.Worked.{IsJoinOf, IsPostfixOf, IsWorked, IsWorkedPost, IsWorkedRow};
-ghost use Rattle.isl_select.specs.Made.{is_foreign, uses_units, IsReady, AreReady, AreInverses, IsValueOf};
-ghost use Rattle.isl_select.specs.Made.{refusal_of_cut, IsWhyUnjoined, IsPaid, IsWhyUnmade};
+ghost use Rattle.isl_select.specs.Selection.{Selects, PostSelects, RowSelects, PostfixHas};
+ghost use Rattle.isl_select.specs.Worked.{IsPostfixOf, IsWorked, IsWorkedPost, IsWorkedRow};
+ghost use Rattle.isl_select.specs.Formed.{IsTooWide, IsTooWidePost, IsTooWidePostfix, IsTooWideRow};
+ghost use Rattle.isl_select.specs.Made.{is_foreign, uses_units, IsReady, IsSoundPostfix, AreReady, AreReadyBehind, IsValueOf};
+ghost use Rattle.isl_select.specs.Made.{refusal_of_cut, refusal_of_fault, IsPaid, IsWhyUnmade, IsWhyUnworked};
 
 use crate::State;
-use isl_expr::tree::{Binary, Expr, Link, Postfix};
+use isl_expr::tree::{Binary, Expr, Link, Postfix, Prefix};
 use isl_lower::lower;
 use isl_maps::inverse;
 use isl_meter::{Cut, Meter};
+use isl_operations::{applied, combined, transformed};
 use isl_text::refusal::Refusal;
 use isl_tree::tree::Literal;
 use isl_union::{OpFault, Value};
@@ -72,33 +77,15 @@ fn lowered(alloc: Global, literal: &Literal, meter: &mut Meter) -> Result<Rc<Val
     }
 }
 
-/// What an operator makes of two values.
-#[tactic(auto, using(crate::proofs::JoinLaws::arms))]
-fn made_by(
-    alloc: Global,
-    operator: Binary,
-    left: &Value,
-    right: &Value,
-    meter: &mut Meter,
-) -> Result<Value, OpFault>
-    requires supported { is_foreign (operator_part operator) ≡ false }
-    requires left { IsWithinLimit meter.old left.now }
-    requires right { IsWithinLimit meter.old right.now }
-    ensures written { IfOk result (IsJoinOf operator left.now right.now) }
-    ensures kept { IfOk result IsKeptValue }
-    ensures params { IfOk result (λ value. value.params ≡ joined left.now.params right.now.params) }
-    ensures elements { (valuation : Valuation) (element : Element)
-        → IfOk result (λ value. Has value valuation element ↔ JoinHas operator (Has left.now valuation) (Has right.now valuation) element) }
-    ensures numbers { IfOk result (IsWithinLimit meter.old) }
-    ensures definitions { HasNoDefinitions left.now → HasNoDefinitions right.now → IfOk result HasNoDefinitions }
-    ensures units { MatchResult result (λ _. IsPaid (uses_units (operator_part operator)) meter.old meter.new)
-        (IsWhyUnjoined (joined left.now.params right.now.params) (uses_units (operator_part operator)) meter.old meter.new) }
+/// What an operation made, to be shared, or what refuses it.
+fn answered(alloc: Global, outcome: Result<Value, OpFault>) -> Result<Rc<Value>, Refusal>
+    ensures { MatchResult result (λ value. outcome ≡ Ok value.value)
+        (λ refusal. MatchResult outcome (λ _. refusal ≡ Refusal.NoMemory) (λ fault. refusal ≡ refusal_of_fault fault)) }
 {
-    match operator {
-        Binary::Union => left.union(alloc, right, meter),
-        Binary::Intersection => left.meet(alloc, right, meter),
-        Binary::Difference => left.minus(alloc, right, meter),
-        _ => unreachable!(),
+    match outcome {
+        Ok(value) => Ok(Rc::new(alloc, value)?),
+        Err(OpFault::Cut(cut)) => Err(refusal_of(cut)),
+        Err(OpFault::TooWide) => Err(Refusal::TooWide),
     }
 }
 
@@ -116,18 +103,59 @@ fn joined(
     requires right { HasNumbersUpTo (unsigned_abs (limit_of meter.old)) right.now }
     requires left_definitions { HasNoDefinitions left.now }
     requires right_definitions { HasNoDefinitions right.now }
-    ensures { MatchResult result
-        (λ value. IsValueOf (λ made. IsJoinOf operator left.now right.now made) (joined_names left.now.params right.now.params)
-        (λ valuation element. JoinHas operator (Has left.now valuation) (Has right.now valuation) element)
-        (unsigned_abs (limit_of meter.old)) value.value × IsPaid (uses_units (operator_part operator)) meter.old meter.new)
-        (IsWhyUnmade (uses_units (operator_part operator)) meter.old meter.new) }
+    ensures made { MatchResult result
+        (λ value. IsValueOf (λ made. IsOperatorOf operator left.now right.now made) (joined_names left.now.params right.now.params)
+        (λ valuation element. OperatorHas operator (Has left.now valuation) (Has right.now valuation) element)
+        (unsigned_abs (limit_of meter.old)) value.value × IsPaid (operator_works operator) meter.old meter.new)
+        (IsWhyUnworked (operator_works operator) (PairsWide (OperatorForms operator) (Has left.now) (Has right.now)) meter.old meter.new) }
+    ensures narrow { IfOk result (λ _. ¬ PairsWide (OperatorForms operator) (Has left.now) (Has right.now)) }
 {
     let _names = right.params();
-    match made_by(alloc, operator, left, right, meter) {
-        Ok(value) => Ok(Rc::new(alloc, value)?),
-        Err(OpFault::Cut(cut)) => Err(refusal_of(cut)),
-        Err(OpFault::TooWide) => unreachable!(),
-    }
+    answered(alloc, combined(alloc, operator, left, right, meter))
+}
+
+/// What a word makes of a value.
+fn worded(
+    alloc: Global,
+    word: Prefix,
+    operand: &Value,
+    meter: &mut Meter,
+) -> Result<Rc<Value>, Refusal>
+    requires supported { is_foreign (prefix_part word) ≡ false }
+    requires numbers { HasNumbersUpTo (unsigned_abs (limit_of meter.old)) operand.now }
+    requires definitions { HasNoDefinitions operand.now }
+    ensures made { MatchResult result
+        (λ value. IsValueOf (λ made. IsWordOf word operand.now made) operand.now.params
+        (λ valuation element. WordHas word (Has operand.now valuation) element) (unsigned_abs (limit_of meter.old)) value.value
+        × IsPaid (word_works word) meter.old meter.new)
+        (IsWhyUnworked (word_works word) (FormsWide (WordForms word) (Has operand.now)) meter.old meter.new) }
+    ensures narrow { IfOk result (λ _. ¬ FormsWide (WordForms word) (Has operand.now)) }
+{
+    let _names = operand.params();
+    answered(alloc, transformed(alloc, word, operand, meter))
+}
+
+/// A map applied to a value, where the two have few enough parameters.
+fn applied_to(
+    alloc: Global,
+    map: &Value,
+    argument: &Value,
+    meter: &mut Meter,
+) -> Result<Rc<Value>, Refusal>
+    requires narrow { length (joined_names map.now.params argument.now.params) ≤ most_parameters }
+    requires map { HasNumbersUpTo (unsigned_abs (limit_of meter.old)) map.now }
+    requires argument { HasNumbersUpTo (unsigned_abs (limit_of meter.old)) argument.now }
+    requires map_definitions { HasNoDefinitions map.now }
+    requires argument_definitions { HasNoDefinitions argument.now }
+    ensures made { MatchResult result
+        (λ value. IsValueOf (λ made. IsApplicationOf map.now argument.now made) (joined_names map.now.params argument.now.params)
+        (λ valuation element. ApplicationHas (Has map.now valuation) (Has argument.now valuation) element)
+        (unsigned_abs (limit_of meter.old)) value.value × IsPaid true meter.old meter.new)
+        (IsWhyUnworked true (PairsWide ApplicationForms (Has map.now) (Has argument.now)) meter.old meter.new) }
+    ensures narrow { IfOk result (λ _. ¬ PairsWide ApplicationForms (Has map.now) (Has argument.now)) }
+{
+    let _names = argument.params();
+    answered(alloc, applied(alloc, map, argument, meter))
 }
 
 /// The inverse of a value of maps.
@@ -135,43 +163,74 @@ fn inverted(alloc: Global, operand: &Value, meter: &mut Meter) -> Result<Rc<Valu
     requires numbers { HasNumbersUpTo (unsigned_abs (limit_of meter.old)) operand.now }
     requires definitions { HasNoDefinitions operand.now }
     ensures made { IfOk result
-        (λ value. IsValueOf (λ made. IsPostfixOf Inverse operand.now made) operand.now.params
-        (λ valuation element. PostfixHas Inverse (Has operand.now valuation) element) (unsigned_abs (limit_of meter.old)) value.value) }
+        (λ value. IsValueOf (λ made. made ≡ inverse_of operand.now) operand.now.params
+        (λ valuation element. Has operand.now valuation (inverse_element element)) (unsigned_abs (limit_of meter.old)) value.value) }
     ensures faults { IfErr result (λ refusal. refusal ≡ Refusal.NoMemory) }
     ensures meter { meter.new ≡ meter.old }
 {
-    match inverse(alloc, operand, meter) {
-        Ok(value) => Ok(Rc::new(alloc, value)?),
-        Err(OpFault::Cut(cut)) => Err(refusal_of(cut)),
-        Err(OpFault::TooWide) => unreachable!(),
+    answered(alloc, inverse(alloc, operand, meter))
+}
+
+/// What follows an operand, made of its value.
+#[cycle(value)]
+fn followed(
+    alloc: Global,
+    operand: &Value,
+    postfix: &Postfix,
+    state: &State,
+    meter: &mut Meter,
+) -> Result<Rc<Value>, Refusal>
+    requires sound { IsSoundPostfix (scope_of state.now) postfix.now }
+    requires narrow { length (declared_past (scope_of state.now) operand.now.params postfix.now) ≤ most_parameters }
+    requires fits { Fits (limit_of meter.old) state.now }
+    requires numbers { HasNumbersUpTo (unsigned_abs (limit_of meter.old)) operand.now }
+    requires definitions { HasNoDefinitions operand.now }
+    ensures made { MatchResult result
+        (λ value. IsValueOf (IsPostfixOf state.now postfix.now operand.now)
+        (declared_past (scope_of state.now) operand.now.params postfix.now)
+        (λ valuation element. PostfixHas state.now valuation (Has operand.now valuation) postfix.now element)
+        (unsigned_abs (limit_of meter.old)) value.value × IsPaid (list_any uses_units (parts_of_postfix postfix.now)) meter.old meter.new)
+        (IsWhyUnworked (list_any uses_units (parts_of_postfix postfix.now)) (IsTooWidePostfix state.now (Has operand.now) postfix.now)
+        meter.old meter.new) }
+    ensures narrow { IfOk result (λ _. ¬ IsTooWidePostfix state.now (Has operand.now) postfix.now) }
+{
+    match postfix {
+        Postfix::Inverse => inverted(alloc, operand, meter),
+        Postfix::Apply(expr) => match value_of(alloc, expr, state, meter) {
+            Ok(argument) => applied_to(alloc, operand, &argument, meter),
+            Err(refusal) => Err(refusal),
+        },
+        Postfix::Item(_) => unreachable!(),
     }
 }
 
-/// What follows an operand, from the left.
+/// The value of an operand with all that follows it, from the left.
+#[cycle(value)]
 fn past_postfixes(
     alloc: Global,
     operand: Rc<Value>,
     postfixes: &[Postfix],
+    state: &State,
     meter: &mut Meter,
 ) -> Result<Rc<Value>, Refusal>
-    requires inverses { AreInverses postfixes.now }
+    requires ready { AreReadyBehind (scope_of state.now) operand.value.params postfixes.now }
+    requires fits { Fits (limit_of meter.old) state.now }
     requires numbers { HasNumbersUpTo (unsigned_abs (limit_of meter.old)) operand.value }
     requires definitions { HasNoDefinitions operand.value }
-    ensures made { IfOk result
-        (λ value. IsValueOf (IsWorkedPost operand.value postfixes.now) operand.value.params
-        (λ valuation element. PostHas (Has operand.value valuation) postfixes.now element)
-        (unsigned_abs (limit_of meter.old)) value.value) }
-    ensures faults { IfErr result (λ refusal. refusal ≡ Refusal.NoMemory) }
-    ensures meter { meter.new ≡ meter.old }
+    ensures made { MatchResult result
+        (λ value. IsValueOf (IsWorkedPost state.now operand.value postfixes.now)
+        (declared_of_post (scope_of state.now) operand.value.params postfixes.now)
+        (λ valuation element. PostSelects state.now valuation (Has operand.value valuation) postfixes.now element)
+        (unsigned_abs (limit_of meter.old)) value.value
+        × IsPaid (list_any uses_units (parts_of_postfixes postfixes.now)) meter.old meter.new)
+        (IsWhyUnworked (list_any uses_units (parts_of_postfixes postfixes.now)) (IsTooWidePost state.now (Has operand.value) postfixes.now)
+        meter.old meter.new) }
+    ensures narrow { IfOk result (λ _. ¬ IsTooWidePost state.now (Has operand.value) postfixes.now) }
 {
     let _pieces = operand.pieces();
     let mut left = operand;
     for postfix in postfixes {
-        let made = match postfix {
-            Postfix::Inverse => inverted(alloc, &left, meter),
-            Postfix::Apply(_) | Postfix::Item(_) => unreachable!(),
-        };
-        left = match made {
+        left = match followed(alloc, &left, postfix, state, meter) {
             Ok(made) => made,
             Err(refusal) => return Err(refusal),
         };
@@ -183,7 +242,8 @@ fn past_postfixes(
 /// chapter of the barvinok manual)
 ///
 /// # Errors
-/// What cut the work: `Overflow`, `Budget` or `NoMemory`. Where nothing in the expression uses units, only memory can end.
+/// `TooWide` where an operation in it forms a space that is too wide, and else what cut the work: `Overflow`, `Budget` or `NoMemory`.
+/// Where nothing in the expression uses units, no unit is used, and of these only memory can end.
 #[cycle(value)]
 pub fn value_of(
     alloc: Global,
@@ -193,10 +253,11 @@ pub fn value_of(
 ) -> Result<Rc<Value>, Refusal>
     requires ready { IsReady (scope_of state.now) expr.now }
     requires fits { Fits (limit_of meter.old) state.now }
-    ensures { MatchResult result
+    ensures made { MatchResult result
         (λ value. IsValueOf (IsWorked state.now expr.now) (declared_of (scope_of state.now) expr.now) (Selects state.now expr.now)
         (unsigned_abs (limit_of meter.old)) value.value × IsPaid (list_any uses_units (parts_of expr.now)) meter.old meter.new)
-        (IsWhyUnmade (list_any uses_units (parts_of expr.now)) meter.old meter.new) }
+        (IsWhyUnworked (list_any uses_units (parts_of expr.now)) (IsTooWide state.now expr.now) meter.old meter.new) }
+    ensures narrow { IfOk result (λ _. ¬ IsTooWide state.now expr.now) }
 {
     match expr {
         Expr::Name(name) => match state.get(name) {
@@ -209,10 +270,13 @@ pub fn value_of(
             Err(refusal) => Err(refusal),
         },
         Expr::Post(operand, postfixes) => match value_of(alloc, operand.get(), state, meter) {
-            Ok(left) => past_postfixes(alloc, left, postfixes.as_slice(), meter),
+            Ok(left) => past_postfixes(alloc, left, postfixes.as_slice(), state, meter),
             Err(refusal) => Err(refusal),
         },
-        Expr::Prefix(..) => unreachable!(),
+        Expr::Prefix(word, operand) => match value_of(alloc, operand.get(), state, meter) {
+            Ok(argument) => worded(alloc, *word, &argument, meter),
+            Err(refusal) => Err(refusal),
+        },
         Expr::Any(..) => unreachable!(),
         Expr::Last(..) => unreachable!(),
     }
@@ -221,7 +285,7 @@ pub fn value_of(
 /// The value of an operand, joined to those behind it, from the left.
 ///
 /// # Errors
-/// What cut the work: `Overflow`, `Budget` or `NoMemory`. Where nothing behind the operand uses units, only memory can end.
+/// As of `value_of`, for what stands behind the operand.
 #[cycle(value)]
 pub fn joined_past(
     alloc: Global,
@@ -234,12 +298,14 @@ pub fn joined_past(
     requires fits { Fits (limit_of meter.old) state.now }
     requires numbers { HasNumbersUpTo (unsigned_abs (limit_of meter.old)) first.value }
     requires definitions { HasNoDefinitions first.value }
-    ensures { MatchResult result
+    ensures made { MatchResult result
         (λ value. IsValueOf (IsWorkedRow state.now first.value links.now)
         (declared_of_row (scope_of state.now) first.value.params links.now)
         (λ valuation element. RowSelects state.now valuation (Has first.value valuation) links.now element)
         (unsigned_abs (limit_of meter.old)) value.value × IsPaid (list_any uses_units (parts_of_links links.now)) meter.old meter.new)
-        (IsWhyUnmade (list_any uses_units (parts_of_links links.now)) meter.old meter.new) }
+        (IsWhyUnworked (list_any uses_units (parts_of_links links.now)) (IsTooWideRow state.now (Has first.value) links.now)
+        meter.old meter.new) }
+    ensures narrow { IfOk result (λ _. ¬ IsTooWideRow state.now (Has first.value) links.now) }
 {
     let _pieces = first.pieces();
     let mut left = first;

@@ -1,33 +1,25 @@
-use Rattle.std.proofs.Common.{subst, rules}
-use Rattle.isl_space.specs.Names.{IsParameterList, joined}
-use Rattle.isl_kinds.specs.Parts.{operator}
-use Rattle.isl_select.specs.Made.{uses_units, IsWhyUnjoined}
-use Rattle.isl_select.proofs.ValueLaws.{joined_made, not_wide, unjoined}
+use Rattle.std.proofs.Common.{subst}
+use Rattle.std.proofs.lemmas.Bool.{not-false}
+use Rattle.isl_space.specs.Names.{IsParameterList}
+use Rattle.isl_operations.specs.Operations.{is_operation}
+use Rattle.isl_select.proofs.OutcomeLaws.{answered_made, answered_ok, both_few, both_names, outcome_value}
 use Rattle.isl_select.proofs.values.joined.Goals as goal
 
-pub unreachable-requires : goal.unreachable-requires
-unreachable-requires c =
+pub combined-requires-clause-operation : goal.combined-requires-clause-operation
+combined-requires-clause-operation c = not-false (is_operation c.args.operator) c.requires.supported
+
+pub returns-clause-made : goal.returns-clause-made
+returns-clause-made c =
     let left = c.args.left.now in
     let right = c.args.right.now in
     let names = subst IsParameterList c.params-names.ensures.content c.params-names.ensures.well_formed in
-    not_wide left right names.distinct c.requires.narrow
-    (subst (IsWhyUnjoined (joined left.params right.params) (uses_units (operator c.args.operator)) c.args.meter.now c.made_by.new.meter)
-    c.in-Err-TooWide.field-0-is c.in-Err-TooWide.ensures.units)
+    let e = c.combined.ensures in
+    answered_made _ _ _ _ _ (both_few left right names.distinct c.requires.narrow) _ c.combined.result c.answered.result _
+    c.answered.ensures
+    (outcome_value c.combined.result _ _ _ _ _ (both_names left right names.distinct) e.written e.kept e.params e.elements
+    (e.definitions c.requires.left_definitions c.requires.right_definitions)
+    e.numbers)
+    e.units
 
-pub returns-in_ok-new-in-Ok : goal.returns-in_ok-new-in-Ok
-returns-in_ok-new-in-Ok c =
-    let left = c.args.left.now in
-    let right = c.args.right.now in
-    let names = subst IsParameterList c.params-names.ensures.content c.params-names.ensures.well_formed in
-    let e = c.in-Ok.ensures in (
-      joined_made left right names.distinct c.args.operator c.in-Ok.value c.in_ok-new-in-Ok.field-0.value _
-          (search rules) e.written e.kept e.params e.elements
-          e.numbers (e.definitions c.requires.left_definitions c.requires.right_definitions),
-      e.units,
-    )
-
-pub returns-in-Err-Cut : goal.returns-in-Err-Cut
-returns-in-Err-Cut c =
-    unjoined (uses_units (operator c.args.operator)) c.args.meter.now c.made_by.new.meter
-    (joined c.args.left.now.params c.args.right.now.params) _
-    c.in-Err-Cut.field-0 c.refusal_of.result (search rules) c.refusal_of.ensures c.in-Err-Cut.ensures.units
+pub returns-clause-narrow : goal.returns-clause-narrow
+returns-clause-narrow c = answered_ok _ c.combined.result c.answered.result _ c.answered.ensures c.combined.ensures.narrow
