@@ -7,6 +7,7 @@ use Rattle.isl_expr.specs.declared.tree.Link.{Link}
 use Rattle.isl_expr.specs.declared.tree.Expr.{Expr, Row, items_hidden-the_row-Link-1}
 use Rattle.isl_expr.specs.declared.tree.Expr.TheBlock.{hidden-the_row-Expr-0, hidden-the_row-Link-1}
 use Rattle.isl_expr.specs.declared.tree.Expr as e
+use Rattle.isl_simple.specs.Flat.{is_sample}
 use Rattle.isl_eval.specs.Tests.{is_test}
 use Rattle.isl_eval.specs.Evaluation.{ends_with_test, is_scan, is_listing, is_asked}
 use Rattle.isl_eval.proofs.TestLaws.{ends_are, ends_at}
@@ -44,7 +45,11 @@ ends_some links before last b is test = test ∙ sym (ap ends_with_test is ∙ e
 pub ends_none : (links : List Link) → length links ≡ 0 → false ≡ ends_with_test links
 ends_none links none = sym (ap ends_with_test (nil_from_length links none))
 
--- what is asked for by a word, and by a row
+-- ---- the word of what lists, and of what chooses
 pub scan_word : (word : Word) → is_scan word ≡ true → word ≡ p.Scan
 scan_word p.Scan is = refl
 scan_word _ is = let no : false ≡ true = is in cc
+
+pub sample_word : (word : Word) → is_sample word ≡ true → word ≡ p.Sample
+sample_word p.Sample is = refl
+sample_word _ is = let no : false ≡ true = is in cc

@@ -195,7 +195,7 @@ one_alone (y ∷ []) x only is = let e : (y ∷ x ∷ []) ≡ (only ∷ []) = is
 one_alone (y ∷ z ∷ others) x only is = let e : (y ∷ z ∷ (others ++ x ∷ [])) ≡ (only ∷ []) = is in cc
 
 pub one_of : (statements : List Stmt) → length statements ≡ 1 → (only : Stmt) × (statements ≡ only ∷ [])
-one_of [] one = let no : 0 ≡ 1 = one in cc
+one_of [] one = absurd (omega (arith, one))
 one_of (x ∷ []) one = (x, refl)
 one_of (x ∷ y ∷ more) one = absurd (omega (arith, one))
 

@@ -13,7 +13,6 @@ use Rattle.isl_expr.specs.declared.tree.Expr.{Expr, Prefix'}
 use Rattle.isl_text.specs.declared.refusal.Refusal.TheVariants as r
 use Rattle.isl_kinds.specs.Typed.{TypeView, ScopeView, declared_of, type_of_statement, Answers as TypeAnswers}
 use Rattle.isl_simple.specs.Simple.{statement_declared}
-use Rattle.isl_simple.specs.Unsupported.{mixes_kinds}
 use Rattle.isl_eval.specs.Causes.{is_given, is_parametric}
 use Rattle.isl_eval.specs.Evaluated.{IsTyped}
 use Rattle.isl_eval.specs.Evaluation.{is_listing, names_of, IsWorkable, IsWhyUnworkable}
@@ -47,13 +46,13 @@ declared_is scope stmt (Some t) names typed is = is
 
 module _ (scope : ScopeView) (at : Valuation) (stmt : Stmt) (o : Option TypeView) (names : List Name)
     (typed : TypeAnswers (Ok o) (type_of_statement scope stmt))
-    (is : names ≡ names_of o) (unmixed : mixes_kinds scope stmt ≡ false) (b : Bool)
+    (is : names ≡ names_of o) (b : Bool)
     (found : (scope : ScopeView) → names ≡ statement_declared scope stmt → b ≡ is_parametric scope at stmt) where
   has_type : IsTyped scope stmt
   has_type = (o, answered_ok o (type_of_statement scope stmt) typed)
 
   pub parametric_why : b ≡ true → IsWhyUnworkable scope at stmt r.Parametric
-  parametric_why lacking = inr (inr (inl (has_type, unmixed, sym (found scope (declared_is scope stmt o names typed is)) ∙ lacking, refl)))
+  parametric_why lacking = inr (inl (has_type, sym (found scope (declared_is scope stmt o names typed is)) ∙ lacking, refl))
 
   module _ (given : b ≡ false) where
     is_given_all : is_parametric scope at stmt ≡ false
@@ -61,18 +60,16 @@ module _ (scope : ScopeView) (at : Valuation) (stmt : Stmt) (o : Option TypeView
 
     pub wide_why : most_parameters < length names → IsWhyUnworkable scope at stmt r.TooWide
     wide_why wide =
-        inr (inr (inr (inl (
+        inr (inr (inl (
           has_type,
-          unmixed,
           is_given_all,
           subst (λ (ps : List Name). most_parameters < length ps) (declared_is scope stmt o names typed is) wide,
           refl,
-        ))))
+        )))
 
     pub workable_is : length names ≤ most_parameters → IsWorkable scope at stmt
     workable_is narrow = record {
       typed = has_type;
-      unmixed = unmixed;
       given = is_given_all;
       narrow = subst (λ (ps : List Name). length ps ≤ most_parameters) (declared_is scope stmt o names typed is) narrow;
     }

@@ -6,6 +6,7 @@ pub mod SoundLaws
 pub mod CauseLaws
 pub mod TypeLaws
 pub mod TestLaws
+pub mod WideLaws
 pub mod PlainLaws
 pub mod RefusalLaws
 pub mod FullLaws

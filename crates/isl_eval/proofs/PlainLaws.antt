@@ -1,10 +1,11 @@
 -- A test and `scan` stand outermost where there is a kind, so values are worked out of nothing foreign where nothing is chosen.
 use mathlib.Core.Former.{Count}
-use Rattle.std.proofs.Common.{◌≡◌, ◌∙◌, refl, sym, ap, subst, Bool, true, false, List, [], ◌∷◌, ◌++◌, Option, Some, None}
-use Rattle.std.specs.Prelude.{◌&&◌, if◌then◌else◌}
-use Rattle.std.specs.List.{list_any}
+use Rattle.std.proofs.Common.{◌≡◌, ◌∙◌, ◌⊎◌, inl, inr, refl, sym, ap, ap₂, subst}
+use Rattle.std.proofs.Common.{Bool, true, false, List, [], ◌∷◌, ◌++◌, Option, Some, None}
+use Rattle.std.specs.Prelude.{◌&&◌, ◌||◌, if◌then◌else◌}
+use Rattle.std.specs.List.{list_all, list_any}
 use Rattle.std.specs.Option.{option_and_then}
-use Rattle.std.proofs.lemmas.Bool.{false≢true, or_parts}
+use Rattle.std.proofs.lemmas.Bool.{false≢true, and_parts, or_parts}
 use Rattle.std.proofs.lemmas.List.Folds.{list_any-append}
 use Rattle.isl_expr.specs.declared.tree.Binary.{Binary}
 use Rattle.isl_expr.specs.declared.tree.Binary.TheVariants as b
@@ -16,7 +17,8 @@ use Rattle.isl_expr.specs.declared.tree.Postfix.{Postfix, Inverse, Apply, Item}
 use Rattle.isl_expr.specs.declared.tree.Expr as e
 use Rattle.isl_expr.specs.declared.tree.Expr.{Expr, Row', Prefix', Any', Last', Post', Row_of-Expr, end_of-Expr, more_of-Expr}
 use Rattle.isl_expr.specs.declared.tree.Expr.{Row_of-Link, end_of-Link, more_of-Link, Row_of-Postfix, end_of-Postfix, more_of-Postfix}
-use Rattle.isl_kinds.specs.Lines.{Line, is_kind, fits, made, by_lines, joined, prefixed, inverse, is_set_or_map}
+use Rattle.isl_kinds.specs.Lines.{Line, is_kind, is_set_or_map, fits, made, by_lines, by_short_lines}
+use Rattle.isl_kinds.specs.Lines.{joined, applied, prefixed, inverse}
 use Rattle.isl_kinds.specs.Parts.{Part, parts_of, parts_in, parts_in_links, parts_in_postfixes, parts_of_postfix}
 use Rattle.isl_kinds.specs.Parts as part
 use Rattle.isl_kinds.specs.Typed.{ScopeView, by_two, kind_of, kind_in, kind_past_links, kind_past_postfixes, kind_past}
@@ -91,37 +93,95 @@ truth_made : (all_empty : Bool) → made all_empty Truth ≡ Truth
 truth_made true = refl
 truth_made false = refl
 
+abbrev asks_values : Line → Bool
+asks_values line = is_set_or_map line.0 && is_set_or_map line.1
+
+-- an operator that makes a value
+values_joined : (operator : Binary) (lines : List Line) (l r m : ValueKind) → list_all asks_values lines ≡ true
+    → is_test operator ≡ false → is_foreign (part.operator operator) ≡ false → by_lines lines l r ≡ Some m → Joins operator l r m
+values_joined operator lines l r m ask none plain is = by_lines_of (MadeBy operator) lines l r m (each lines ask) is
+  where
+    each : (lines : List Line) → list_all asks_values lines ≡ true → OfValues (MadeBy operator) lines
+    each [] ask = tt
+    each (line ∷ lines) ask =
+        let all = and_parts (asks_values line) (list_all asks_values lines) ask in
+        let own = and_parts (is_set_or_map line.0) (is_set_or_map line.1) all.0 in
+        (own.0, own.1, (λ e. ((λ test. no_test (sym none ∙ test)), (λ _. plain))), each lines all.1)
+
+-- a test, which tells a truth
+truth_joined : (operator : Binary) (l r m : ValueKind) → is_test operator ≡ true
+    → by_lines ((Set, Set, Truth) ∷ (Map, Map, Truth) ∷ []) l r ≡ Some m → Joins operator l r m
+truth_joined operator l r m test is =
+    by_lines_of (MadeBy operator) ((Set, Set, Truth) ∷ (Map, Map, Truth) ∷ []) l r m (refl, refl, line, (refl, refl, line, tt)) is
+  where
+    line : (all_empty : Bool) → MadeBy operator (made all_empty Truth)
+    line all_empty = ((λ _. truth_made all_empty), (λ none. no_other (sym test ∙ none)))
+
 joins : (operator : Binary) (l r m : ValueKind) → is_later (part.operator operator) ≡ false → joined operator l r ≡ Some m
     → Joins operator l r m
-joins b.Union l r m low is = by_lines_of (MadeBy b.Union) ((Set, Set, Set) ∷ (Map, Map, Map) ∷ []) l r m
-    (refl, refl, (λ e. (no_test, λ _. refl)), (refl, refl, (λ e. (no_test, λ _. refl)), tt)) is
+joins b.Union l r m low is = values_joined b.Union ((Set, Set, Set) ∷ (Map, Map, Map) ∷ []) l r m refl refl refl is
 joins b.Difference l r m low is =
-    by_lines_of (MadeBy b.Difference) ((Set, Set, Set) ∷ (Map, Map, Map) ∷ (Map, Set, Map) ∷ []) l r m
-    (refl, refl, (λ e. (no_test, λ _. refl)), (refl, refl, (λ e. (no_test, λ _. refl)), (refl, refl, (λ e. (no_test, λ _. refl)), tt))) is
+    values_joined b.Difference ((Set, Set, Set) ∷ (Map, Map, Map) ∷ (Map, Set, Map) ∷ []) l r m refl refl refl is
 joins b.Intersection l r m low is =
-    by_lines_of (MadeBy b.Intersection) ((Set, Set, Set) ∷ (Map, Map, Map) ∷ (Map, Set, Map) ∷ []) l r m
-    (refl, refl, (λ e. (no_test, λ _. refl)), (refl, refl, (λ e. (no_test, λ _. refl)), (refl, refl, (λ e. (no_test, λ _. refl)), tt))) is
-joins b.Equal l r m low is = by_lines_of (MadeBy b.Equal) ((Set, Set, Truth) ∷ (Map, Map, Truth) ∷ []) l r m
-    (refl, refl, (λ e. ((λ _. truth_made e), no_other)), (refl, refl, (λ e. ((λ _. truth_made e), no_other)), tt)) is
-joins b.ProperSubset l r m low is = by_lines_of (MadeBy b.ProperSubset) ((Set, Set, Truth) ∷ (Map, Map, Truth) ∷ []) l r m
-    (refl, refl, (λ e. ((λ _. truth_made e), no_other)), (refl, refl, (λ e. ((λ _. truth_made e), no_other)), tt)) is
-joins b.Subset l r m low is = by_lines_of (MadeBy b.Subset) ((Set, Set, Truth) ∷ (Map, Map, Truth) ∷ []) l r m
-    (refl, refl, (λ e. ((λ _. truth_made e), no_other)), (refl, refl, (λ e. ((λ _. truth_made e), no_other)), tt)) is
-joins b.ProperSuperset l r m low is = by_lines_of (MadeBy b.ProperSuperset) ((Set, Set, Truth) ∷ (Map, Map, Truth) ∷ []) l r m
-    (refl, refl, (λ e. ((λ _. truth_made e), no_other)), (refl, refl, (λ e. ((λ _. truth_made e), no_other)), tt)) is
-joins b.Superset l r m low is = by_lines_of (MadeBy b.Superset) ((Set, Set, Truth) ∷ (Map, Map, Truth) ∷ []) l r m
-    (refl, refl, (λ e. ((λ _. truth_made e), no_other)), (refl, refl, (λ e. ((λ _. truth_made e), no_other)), tt)) is
+    values_joined b.Intersection ((Set, Set, Set) ∷ (Map, Map, Map) ∷ (Map, Set, Map) ∷ []) l r m refl refl refl is
+joins b.RangeDifference l r m low is = values_joined b.RangeDifference ((Map, Set, Map) ∷ []) l r m refl refl refl is
+joins b.RangeIntersection l r m low is = values_joined b.RangeIntersection ((Map, Set, Map) ∷ []) l r m refl refl refl is
+joins b.Cross l r m low is = values_joined b.Cross ((Set, Set, Set) ∷ (Map, Map, Map) ∷ []) l r m refl refl refl is
+joins b.Join l r m low is = values_joined b.Join ((Map, Map, Map) ∷ []) l r m refl refl refl is
+joins b.Universal l r m low is = values_joined b.Universal ((Set, Set, Map) ∷ []) l r m refl refl refl is
+joins b.Equal l r m low is = truth_joined b.Equal l r m refl is
+joins b.ProperSubset l r m low is = truth_joined b.ProperSubset l r m refl is
+joins b.Subset l r m low is = truth_joined b.Subset l r m refl is
+joins b.ProperSuperset l r m low is = truth_joined b.ProperSuperset l r m refl is
+joins b.Superset l r m low is = truth_joined b.Superset l r m refl is
 joins _ l r m low is = absurd (false≢true (sym low))
 
+value_made : (kind : ValueKind) → is_set_or_map kind ≡ true → (all_empty : Bool) → is_value (made all_empty kind) ≡ true
+value_made Set which true = refl
+value_made Set which false = refl
+value_made Map which true = refl
+value_made Map which false = refl
+value_made _ which all_empty = absurd (false≢true which)
+
+-- an application takes values, and makes one
+applies : (l r m : ValueKind) → applied l r ≡ Some m → IsJoined (λ k. is_value k ≡ true) l r m
+applies l r m is = by_lines_of (λ k. is_value k ≡ true) ((Map, Set, Set) ∷ (Map, Map, Map) ∷ []) l r m
+    (refl, refl, value_made Set refl, (refl, refl, value_made Map refl, tt)) is
+
 -- ---- lines of one operand
-scan_lists : (k m : ValueKind) → prefixed p.Scan k ≡ Some m → (is_value k ≡ true) × (is_value m ≡ false)
-scan_lists Set m is = (refl, let e : Some Listing ≡ Some m = is in let same : Listing ≡ m = cc in ap is_value (sym same))
-scan_lists Map m is = (refl, let e : Some Listing ≡ Some m = is in let same : Listing ≡ m = cc in ap is_value (sym same))
-scan_lists Empty m is = (refl, let e : Some Listing ≡ Some m = is in let same : Listing ≡ m = cc in ap is_value (sym same))
-scan_lists Pair m is = let e : None ≡ Some m = is in cc
-scan_lists Truth m is = let e : None ≡ Some m = is in cc
-scan_lists Listing m is = let e : None ≡ Some m = is in cc
-scan_lists Code m is = let e : None ≡ Some m = is in cc
+short_lines_of : (lines : List (ValueKind × ValueKind)) (k m : ValueKind) → list_all (λ line. is_set_or_map line.0) lines ≡ true
+    → by_short_lines lines k ≡ Some m → is_value k ≡ true
+short_lines_of [] k m all is = let e : None ≡ Some m = is in cc
+short_lines_of (line ∷ lines) k m all is = by (fits k line.0) refl (short_lines_of lines k m asked.1)
+  where
+    asked : (is_set_or_map line.0 ≡ true) × (list_all (λ line. is_set_or_map line.0) lines ≡ true)
+    asked = and_parts (is_set_or_map line.0) (list_all (λ line. is_set_or_map line.0) lines) all
+
+    by : (x : Bool) → fits k line.0 ≡ x → (by_short_lines lines k ≡ Some m → is_value k ≡ true) → is_value k ≡ true
+    by true p later = fits_value k line.0 asked.0 p
+    by false p later = later (sym (rw p refl) ∙ is)
+
+-- a word takes a value
+word_takes : (word : Word) (k m : ValueKind) → prefixed word k ≡ Some m → is_value k ≡ true
+word_takes p.Domain k m is = short_lines_of ((Map, Set) ∷ []) k m refl is
+word_takes p.Range k m is = short_lines_of ((Map, Set) ∷ []) k m refl is
+word_takes p.Deltas k m is = short_lines_of ((Map, Set) ∷ []) k m refl is
+word_takes p.Identity k m is = short_lines_of ((Set, Map) ∷ []) k m refl is
+word_takes p.Wrap k m is = short_lines_of ((Map, Set) ∷ []) k m refl is
+word_takes p.Unwrap k m is = short_lines_of ((Set, Map) ∷ []) k m refl is
+word_takes p.Zip k m is = short_lines_of ((Map, Map) ∷ []) k m refl is
+word_takes p.DomainMap k m is = short_lines_of ((Map, Map) ∷ []) k m refl is
+word_takes p.RangeMap k m is = short_lines_of ((Map, Map) ∷ []) k m refl is
+word_takes p.Scan k m is = short_lines_of ((Set, Listing) ∷ (Map, Listing) ∷ []) k m refl is
+word_takes p.Codegen k m is = short_lines_of ((Set, Code) ∷ (Map, Code) ∷ []) k m refl is
+word_takes _ k m is = short_lines_of ((Set, Set) ∷ (Map, Map) ∷ []) k m refl is
+
+-- `scan` makes no value
+scan_lists : (k m : ValueKind) → prefixed p.Scan k ≡ Some m → is_value m ≡ false
+scan_lists Set m is = let e : Some Listing ≡ Some m = is in let same : Listing ≡ m = cc in ap is_value (sym same)
+scan_lists Map m is = let e : Some Listing ≡ Some m = is in let same : Listing ≡ m = cc in ap is_value (sym same)
+scan_lists Empty m is = let e : Some Listing ≡ Some m = is in let same : Listing ≡ m = cc in ap is_value (sym same)
+scan_lists _ m is = let e : None ≡ Some m = is in cc
 
 inverts : (k m : ValueKind) → inverse k ≡ Some m → (is_value k ≡ true) × (is_value m ≡ true)
 inverts Map m is = (refl, let e : Some Map ≡ Some m = is in let same : Map ≡ m = cc in ap is_value (sym same))
@@ -133,14 +193,14 @@ abbrev IsValue : Option ValueKind → Type 0
 IsValue o = (k : ValueKind) × (o ≡ Some k) × (is_value k ≡ true)
 
 -- two operands with a kind
-abbrev Two : Binary → Option ValueKind → Option ValueKind → ValueKind → Type 0
-Two operator left right m = (l : ValueKind) × (r : ValueKind) × (left ≡ Some l) × (right ≡ Some r) × (joined operator l r ≡ Some m)
+abbrev Two : (ValueKind → ValueKind → Option ValueKind) → Option ValueKind → Option ValueKind → ValueKind → Type 0
+Two line left right m = (l : ValueKind) × (r : ValueKind) × (left ≡ Some l) × (right ≡ Some r) × (line l r ≡ Some m)
 
-two_of : (operator : Binary) (left right : Option ValueKind) (m : ValueKind) → by_two (joined operator) left right ≡ Some m
-    → Two operator left right m
-two_of operator None right m is = let e : None ≡ Some m = is in cc
-two_of operator (Some l) None m is = let e : None ≡ Some m = is in cc
-two_of operator (Some l) (Some r) m is = (l, r, refl, refl, is)
+two_of : (line : ValueKind → ValueKind → Option ValueKind) (left right : Option ValueKind) (m : ValueKind)
+    → by_two line left right ≡ Some m → Two line left right m
+two_of line None right m is = let e : None ≡ Some m = is in cc
+two_of line (Some l) None m is = let e : None ≡ Some m = is in cc
+two_of line (Some l) (Some r) m is = (l, r, refl, refl, is)
 
 -- nothing of this is unsupported, and nothing chosen
 pub record IsCalm (ps : List Part) : Type 0 where
@@ -187,7 +247,7 @@ row_truth : (m : Count) (scope : ScopeView) (left : Option ValueKind) (row : Row
     → IsCalm (parts_in_links row) → ends_with_test row ≡ true → k ≡ Truth
 row_truth m scope left end_of-Link k is calm test = absurd (false≢true test)
 row_truth m scope left (more_of-Link operator operand end_of-Link) k is calm test =
-    let two = two_of operator left (kind_of scope operand) k is in
+    let two = two_of (joined operator) left (kind_of scope operand) k is in
     (joins operator two.0 two.1 k (calm_head (part.operator operator) (parts_of operand ++ []) calm).0 two.4).2.0 test
 row_truth m scope left (more_of-Link operator operand (more_of-Link next other rest)) k is calm test =
     row_truth _ scope (by_two (joined operator) left (kind_of scope operand)) (more_of-Link next other rest) k is
@@ -197,17 +257,48 @@ row_truth m scope left (more_of-Link operator operand (more_of-Link next other r
 not_truth : (k : ValueKind) → is_value k ≡ true → ¬ (k ≡ Truth)
 not_truth k value is = false≢true (sym (ap is_value is) ∙ value)
 
-inverted : (left : Option ValueKind) (m : ValueKind) → option_and_then inverse left ≡ Some m → IsValue left
-inverted None m is = let f : None ≡ Some m = is in cc
-inverted (Some k) m is = (k, refl, (inverts k m is).0)
+-- what follows an operand makes a value of it
+pub record IsPassed (left : Option ValueKind) (m : ValueKind) : Type 0 where
+  pub from : IsValue left
+  pub to : is_value m ≡ true
 
-no_word : (word : Word) (operand : Option ValueKind) (k : ValueKind) → (is_later (part.prefix word) ≡ false)
-    × (chooses (part.prefix word) ≡ false)
-    → option_and_then (prefixed word) operand ≡ Some k → ¬ (is_value k ≡ true)
-no_word p.Scan None k own is value = let f : None ≡ Some k = is in cc
-no_word p.Scan (Some m) k own is value = false≢true (sym (scan_lists m k is).1 ∙ value)
-no_word p.Sample operand k own is value = false≢true (sym own.1)
-no_word _ operand k own is value = false≢true (sym own.0)
+inverted : (left : Option ValueKind) (m : ValueKind) → option_and_then inverse left ≡ Some m → IsPassed left m
+inverted None m is = let f : None ≡ Some m = is in cc
+inverted (Some k) m is = record { from = (k, refl, (inverts k m is).0); to = (inverts k m is).1 }
+
+word_operand : (word : Word) (operand : Option ValueKind) (k : ValueKind) → option_and_then (prefixed word) operand ≡ Some k
+    → IsValue operand
+word_operand word None k is = let f : None ≡ Some k = is in cc
+word_operand word (Some m) k is = (m, refl, word_takes word m k is)
+
+no_scan : (operand : Option ValueKind) (k : ValueKind) → option_and_then (prefixed p.Scan) operand ≡ Some k → ¬ (is_value k ≡ true)
+no_scan None k is value = let f : None ≡ Some k = is in cc
+no_scan (Some m) k is value = false≢true (sym (scan_lists m k is) ∙ value)
+
+-- a word that is supported and chooses nothing lists elements, or is not foreign
+word_plain : (word : Word) → (is_later (part.prefix word) ≡ false) × (chooses (part.prefix word) ≡ false)
+    → (word ≡ p.Scan) ⊎ (is_foreign (part.prefix word) ≡ false)
+word_plain p.Scan own = inl refl
+word_plain p.Sample own = absurd (false≢true (sym own.1))
+word_plain p.LexMin own = absurd (false≢true (sym own.0))
+word_plain p.LexMax own = absurd (false≢true (sym own.0))
+word_plain p.Coalesce own = absurd (false≢true (sym own.0))
+word_plain p.Codegen own = absurd (false≢true (sym own.0))
+word_plain _ own = inr refl
+
+word_value : (word : Word) (operand : Option ValueKind) (k : ValueKind)
+    → (is_later (part.prefix word) ≡ false) × (chooses (part.prefix word) ≡ false) → option_and_then (prefixed word) operand ≡ Some k
+    → is_value k ≡ true → is_foreign (part.prefix word) ≡ false
+word_value word operand k own is value = by (word_plain word own)
+  where
+    by : (word ≡ p.Scan) ⊎ (is_foreign (part.prefix word) ≡ false) → is_foreign (part.prefix word) ≡ false
+    by (inl scan) =
+        absurd (no_scan operand k (subst (λ (w : Word). option_and_then (prefixed w) operand ≡ Some k) scan is) value)
+    by (inr plain) = plain
+
+none_head : (part : Part) (ps : List Part) → is_foreign part ≡ false → list_any is_foreign ps ≡ false
+    → list_any is_foreign (part ∷ ps) ≡ false
+none_head part ps own rest = ap₂ (λ (x y : Bool). x || y) own rest
 
 -- what is on the left of a row of operators
 abbrev LeftIs : {m : _} → Option ValueKind → Row_of-Link m → Type 0
@@ -270,7 +361,10 @@ mutual
       (in_plain _ scope first left.0 left.1 left.2 (calm_left (parts_in first) (parts_in_links links) calm))
       (without_test _ scope (kind_in scope first) links k is value behind fine.1)
   value_plain scope (Prefix' word s operand) k is value calm =
-      absurd (no_word word (kind_in scope operand) k (calm_head (part.prefix word) (parts_in operand) calm) is value)
+      let taken = word_operand word (kind_in scope operand) k is in
+      none_head (part.prefix word) (parts_in operand)
+      (word_value word (kind_in scope operand) k (calm_head (part.prefix word) (parts_in operand) calm) is value)
+      (in_plain _ scope operand taken.0 taken.1 taken.2 (calm_tail (part.prefix word) (parts_in operand) calm))
   value_plain scope (Any' r source s sink t schedule) k is value calm = absurd (false≢true (sym calm.supported))
   value_plain scope (Last' r source s sink t schedule) k is value calm = absurd (false≢true (sym calm.supported))
   value_plain scope (Post' s operand t postfixes) k is value calm =
@@ -291,7 +385,7 @@ mutual
       → IsCalm (parts_in_links row) → LeftIs left row × (list_any is_foreign (around_test row) ≡ false)
   row_fine m scope left end_of-Link k is calm = (tt, refl)
   row_fine m scope left (more_of-Link operator operand end_of-Link) k is calm =
-      let two = two_of operator left (kind_of scope operand) k is in
+      let two = two_of (joined operator) left (kind_of scope operand) k is in
       let own = calm_head (part.operator operator) (parts_of operand ++ []) calm in
       let kinds = joins operator two.0 two.1 k own.0 two.4 in
       let inner = calm_left (parts_of operand) [] (calm_tail (part.operator operator) (parts_of operand ++ []) calm) in
@@ -301,7 +395,7 @@ mutual
       let later = calm_tail (part.operator operator) (parts_of operand ++ parts_in_links row) calm in
       let fine = row_fine _ scope (by_two (joined operator) left (kind_of scope operand)) (more_of-Link next other rest) k is
       (calm_right (parts_of operand) (parts_in_links row) later) in
-      let two = two_of operator left (kind_of scope operand) fine.0.0 fine.0.1 in
+      let two = two_of (joined operator) left (kind_of scope operand) fine.0.0 fine.0.1 in
       let own = calm_head (part.operator operator) (parts_of operand ++ parts_in_links row) calm in
       let kinds = joins operator two.0 two.1 fine.0.0 own.0 two.4 in
       let plain = value_plain scope operand two.1 two.3 kinds.1 (calm_left (parts_of operand) (parts_in_links row) later) in (
@@ -314,24 +408,33 @@ mutual
       → kind_past_postfixes scope left row ≡ Some k
       → is_value k ≡ true → IsCalm (parts_in_postfixes row) → IsValue left × (list_any is_foreign (parts_in_postfixes row) ≡ false)
   post_fine m scope left end_of-Postfix k is value calm = ((k, is, value), refl)
-  post_fine m scope left (more_of-Postfix Inverse rest) k is value calm =
-      let fine = post_fine _ scope (kind_past scope left Inverse) rest k is value
-      (calm_right (part.inverse ∷ []) (parts_in_postfixes rest) calm) in
-      (inverted left fine.0.0 fine.0.1, fine.1)
-  post_fine m scope left (more_of-Postfix (Apply argument) rest) k is value calm = absurd (false≢true (sym calm.supported))
-  post_fine m scope left (more_of-Postfix (Item number) rest) k is value calm = absurd (false≢true (sym calm.supported))
+  post_fine m scope left (more_of-Postfix postfix rest) k is value calm =
+      let fine = post_fine _ scope (kind_past scope left postfix) rest k is value
+      (calm_right (parts_of_postfix postfix) (parts_in_postfixes rest) calm) in
+      let one = postfix_fine scope left postfix fine.0.0 fine.0.1 (calm_left (parts_of_postfix postfix) (parts_in_postfixes rest) calm) in
+      (one.0.from, none_both (parts_of_postfix postfix) (parts_in_postfixes rest) one.1 fine.1)
 
--- `^-1` makes a value
+  postfix_fine : (scope : ScopeView) (left : Option ValueKind) (postfix : Postfix) (k : ValueKind)
+      → kind_past scope left postfix ≡ Some k → IsCalm (parts_of_postfix postfix)
+      → IsPassed left k × (list_any is_foreign (parts_of_postfix postfix) ≡ false)
+  postfix_fine scope left Inverse k is calm = (inverted left k is, refl)
+  postfix_fine scope left (Apply argument) k is calm =
+      let two = two_of applied left (kind_of scope argument) k is in
+      let kinds = applies two.0 two.1 k two.4 in (
+        record { from = (two.0, two.2, kinds.0); to = kinds.2 },
+        value_plain scope argument two.1 two.3 kinds.1 (calm_tail part.application (parts_of argument) calm),
+      )
+  postfix_fine scope left (Item number) k is calm = absurd (false≢true (sym calm.supported))
+
+-- what follows an operand makes a value
 post_value : (m : Count) (scope : ScopeView) (left : Option ValueKind) (postfix : Postfix) (rest : Row_of-Postfix m) (k : ValueKind)
     → kind_past_postfixes scope (kind_past scope left postfix) rest ≡ Some k → IsCalm (parts_of_postfix postfix ++ parts_in_postfixes rest)
     → is_value k ≡ true
-post_value m scope None Inverse end_of-Postfix k is calm = let f : None ≡ Some k = is in cc
-post_value m scope (Some l) Inverse end_of-Postfix k is calm = (inverts l k is).1
-post_value m scope left Inverse (more_of-Postfix next rest) k is calm =
-    post_value _ scope (kind_past scope left Inverse) next rest k is
-    (calm_right (part.inverse ∷ []) (parts_in_postfixes (more_of-Postfix next rest)) calm)
-post_value m scope left (Apply argument) rest k is calm = absurd (false≢true (sym calm.supported))
-post_value m scope left (Item number) rest k is calm = absurd (false≢true (sym calm.supported))
+post_value m scope left postfix end_of-Postfix k is calm =
+    (postfix_fine scope left postfix k is (calm_left (parts_of_postfix postfix) [] calm)).0.to
+post_value m scope left postfix (more_of-Postfix next rest) k is calm =
+    post_value _ scope (kind_past scope left postfix) next rest k is
+    (calm_right (parts_of_postfix postfix) (parts_in_postfixes (more_of-Postfix next rest)) calm)
 
 -- ---- statements
 
@@ -359,11 +462,13 @@ pub bound_plain : (scope : ScopeView) (expr : Expr) (k : ValueKind) → kind_of 
     → list_any is_foreign (made_parts expr) ≡ false
 bound_plain scope expr k is value calm = made_quiet is_foreign expr (value_plain scope expr k is value calm)
 
-listed_plain : (m : Count) (scope : ScopeView) (operand : Row_of-Expr m) (o : Option ValueKind) → kind_in scope operand ≡ o
-    → (k : ValueKind)
-    → option_and_then (prefixed p.Scan) o ≡ Some k → IsCalm (parts_in operand) → list_any is_foreign (parts_in operand) ≡ false
-listed_plain m scope operand None there k is calm = let f : None ≡ Some k = is in cc
-listed_plain m scope operand (Some l) there k is calm = in_plain _ scope operand l there (scan_lists l k is).0 calm
+-- what a word stands before
+operand_plain : (m : Count) (scope : ScopeView) (word : Word) (operand : Row_of-Expr m) (k : ValueKind)
+    → option_and_then (prefixed word) (kind_in scope operand) ≡ Some k → IsCalm (part.prefix word ∷ parts_in operand)
+    → list_any is_foreign (parts_in operand) ≡ false
+operand_plain m scope word operand k is calm =
+    let taken = word_operand word (kind_in scope operand) k is in
+    in_plain _ scope operand taken.0 taken.1 taken.2 (calm_tail (part.prefix word) (parts_in operand) calm)
 
 full_left : (m : Count) (left : Option ValueKind) (row : Row_of-Link m) → is_end row ≡ false → LeftIs left row → IsValue left
 full_left m left end_of-Link full given = absurd (false≢true (sym full))
@@ -386,10 +491,13 @@ shown_plain scope (Row' s first t links) k is full calm =
     let left = full_left _ (kind_in scope first) links full fine.0 in
     none_both (parts_in first) (around_test links)
     (in_plain _ scope first left.0 left.1 left.2 (calm_left (parts_in first) (parts_in_links links) calm)) fine.1
-shown_plain scope (Prefix' p.Scan s operand) k is full calm = listed_plain _ scope operand (kind_in scope operand) refl k is
-    (calm_tail (part.prefix p.Scan) (parts_in operand) calm)
+shown_plain scope (Prefix' p.Scan s operand) k is full calm = operand_plain _ scope p.Scan operand k is calm
 shown_plain scope (Prefix' p.Sample s operand) k is full calm = absurd (false≢true (sym calm.unchosen))
-shown_plain scope (Prefix' _ s operand) k is full calm = absurd (false≢true (sym calm.supported))
+shown_plain scope (Prefix' p.LexMin s operand) k is full calm = absurd (false≢true (sym calm.supported))
+shown_plain scope (Prefix' p.LexMax s operand) k is full calm = absurd (false≢true (sym calm.supported))
+shown_plain scope (Prefix' p.Coalesce s operand) k is full calm = absurd (false≢true (sym calm.supported))
+shown_plain scope (Prefix' p.Codegen s operand) k is full calm = absurd (false≢true (sym calm.supported))
+shown_plain scope (Prefix' word s operand) k is full calm = operand_plain _ scope word operand k is calm
 shown_plain scope (Any' r source s sink t schedule) k is full calm = absurd (false≢true (sym calm.supported))
 shown_plain scope (Last' r source s sink t schedule) k is full calm = absurd (false≢true (sym calm.supported))
 shown_plain scope (Post' s operand t postfixes) k is full calm =

@@ -12,13 +12,12 @@ use Rattle.isl_expr.specs.declared.tree.Stmt.{Stmt}
 use Rattle.isl_kinds.specs.Typed.{TypeView, type_of_statement}
 use Rattle.isl_kinds.specs.Parts.{parts_of_statement}
 use Rattle.isl_simple.specs.Simple.{statement_declared}
-use Rattle.isl_simple.specs.Unsupported.{mixes_kinds}
 use Rattle.isl_select.specs.Made.{uses_units}
 use Rattle.isl_select.specs.State.{Moment, scope_of}
 use Rattle.isl_eval.specs.Spelled.{BytesSpell, OfStatement}
 use Rattle.isl_eval.specs.Causes.{Cause, no_token, too_deep, no_statement, too_wide}
 use Rattle.isl_eval.specs.Causes.{wide_number, unsupported, unknown_name, wrong_kind, no_element}
-use Rattle.isl_eval.specs.Causes.{mixed_kinds, parametric, wide_join, causes, refusal_of, is_parametric}
+use Rattle.isl_eval.specs.Causes.{parametric, wide_join, causes, refusal_of, is_parametric}
 use Rattle.isl_eval.specs.Causes.{IsThere, FirstGives, NoneIs, IsClear, Refuses, HasWork}
 use Rattle.isl_eval.specs.Evaluated.{IsTyped}
 use Rattle.isl_eval.specs.Evaluation.{causes_of_bytes, IsRead, IsWhyNot, IsWorkable, IsWhyUnworkable}
@@ -36,15 +35,14 @@ module _ (before : Moment) (bytes : List ℕ) (now : Gauge) (same : now ≡ befo
   by_cause no_token h = (h, same)
   by_cause too_deep h = (h, same)
   by_cause no_statement h = (h, same)
-  by_cause too_wide h = (h, same)
+  by_cause too_wide h = inl (h, same)
   by_cause wide_number h = (h, same)
   by_cause unsupported h = (h, same)
   by_cause unknown_name h = (h, same)
   by_cause wrong_kind h = (h, same)
   by_cause no_element h = (h, same)
-  by_cause mixed_kinds h = (h, same)
   by_cause parametric h = (h, same)
-  by_cause wide_join h = (h, same)
+  by_cause wide_join h = inl (h, same)
 
   -- some cause of these gives the refusal
   given : (list : List Cause) (refusal : Refusal) → FirstGives (IsThere before bytes) list refusal → (cause : Cause)
@@ -111,11 +109,6 @@ module _ (before : Moment) (bytes : List ℕ) (stmt : Stmt) (read : IsRead befor
       ),
     )
 
-  unmixed_none : mixes_kinds (scope_of before.state) stmt ≡ false → ¬ IsThere before bytes mixed_kinds
-  unmixed_none unmixed there =
-      is_not (mixes_kinds (scope_of before.state) stmt) unmixed
-      (of_statement bytes stmt (λ stmt. mixes_kinds (scope_of before.state) stmt ≡ true) read.spelled there)
-
   given_none : is_parametric (scope_of before.state) before.at stmt ≡ false → ¬ IsThere before bytes parametric
   given_none given there =
       is_not (is_parametric (scope_of before.state) before.at stmt) given
@@ -130,15 +123,15 @@ module _ (before : Moment) (bytes : List ℕ) (stmt : Stmt) (read : IsRead befor
   pub clear : IsWorkable (scope_of before.state) before.at stmt → IsClear before bytes
   clear able =
       none_both (IsThere before bytes) causes_of_bytes
-      (unknown_name ∷ wrong_kind ∷ no_element ∷ mixed_kinds ∷ parametric ∷ wide_join ∷ []) read.none
-      (none_both (IsThere before bytes) (unknown_name ∷ wrong_kind ∷ no_element ∷ []) (mixed_kinds ∷ parametric ∷ wide_join ∷ [])
+      (unknown_name ∷ wrong_kind ∷ no_element ∷ parametric ∷ wide_join ∷ []) read.none
+      (none_both (IsThere before bytes) (unknown_name ∷ wrong_kind ∷ no_element ∷ []) (parametric ∷ wide_join ∷ [])
       (typed_none able.typed)
-      (unmixed_none able.unmixed, (given_none able.given, (narrow_none able.narrow, tt))))
+      (given_none able.given, (narrow_none able.narrow, tt)))
 
   -- it has no type
   untyped : (refusal : Refusal) → type_of_statement (scope_of before.state) stmt ≡ Err refusal
       → ((refusal ≡ r.UnknownName) ⊎ ((refusal ≡ r.WrongKind) ⊎ (refusal ≡ r.NoElement)))
-      → FirstGives (IsThere before bytes) (unknown_name ∷ wrong_kind ∷ no_element ∷ mixed_kinds ∷ parametric ∷ wide_join ∷ []) refusal
+      → FirstGives (IsThere before bytes) (unknown_name ∷ wrong_kind ∷ no_element ∷ parametric ∷ wide_join ∷ []) refusal
   untyped refusal is (inl e) = inl ((stmt, read.spelled, is ∙ ap Err e), e)
   untyped refusal is (inr (inl e)) =
       inr (
@@ -157,18 +150,18 @@ module _ (before : Moment) (bytes : List ℕ) (stmt : Stmt) (read : IsRead befor
 
   -- what is bound has a cause
   bound_cause : (refusal : Refusal) → FirstGives (IsThere before bytes)
-      (unknown_name ∷ wrong_kind ∷ no_element ∷ mixed_kinds ∷ parametric ∷ wide_join ∷ []) refusal
+      (unknown_name ∷ wrong_kind ∷ no_element ∷ parametric ∷ wide_join ∷ []) refusal
       → FirstGives (IsThere before bytes) causes refusal
   bound_cause refusal first =
       first_past (IsThere before bytes) causes_of_bytes
-      (unknown_name ∷ wrong_kind ∷ no_element ∷ mixed_kinds ∷ parametric ∷ wide_join ∷ []) refusal read.none first
+      (unknown_name ∷ wrong_kind ∷ no_element ∷ parametric ∷ wide_join ∷ []) refusal read.none first
 
   typed_cause : (refusal : Refusal) → IsTyped (scope_of before.state) stmt
-      → FirstGives (IsThere before bytes) (mixed_kinds ∷ parametric ∷ wide_join ∷ []) refusal
+      → FirstGives (IsThere before bytes) (parametric ∷ wide_join ∷ []) refusal
       → FirstGives (IsThere before bytes) causes refusal
   typed_cause refusal typed first =
       bound_cause refusal (first_past (IsThere before bytes) (unknown_name ∷ wrong_kind ∷ no_element ∷ [])
-      (mixed_kinds ∷ parametric ∷ wide_join ∷ []) refusal (typed_none typed) first)
+      (parametric ∷ wide_join ∷ []) refusal (typed_none typed) first)
 
   pub unworkable_refuses : (refusal : Refusal) → IsWhyUnworkable (scope_of before.state) before.at stmt refusal
       → Refuses before bytes before.meter refusal
@@ -179,8 +172,5 @@ module _ (before : Moment) (bytes : List ℕ) (stmt : Stmt) (read : IsRead befor
       first_refuses before bytes before.meter refl refusal (typed_cause refusal h.0 (inl ((stmt, read.spelled, h.1), h.2)))
   unworkable_refuses refusal (inr (inr (inl h))) =
       first_refuses before bytes before.meter refl refusal
-      (typed_cause refusal h.0 (inr (unmixed_none h.1, inl ((stmt, read.spelled, h.2), h.3))))
-  unworkable_refuses refusal (inr (inr (inr (inl h)))) =
-      first_refuses before bytes before.meter refl refusal
-      (typed_cause refusal h.0 (inr (unmixed_none h.1, inr (given_none h.2, inl ((stmt, read.spelled, h.3), h.4)))))
-  unworkable_refuses refusal (inr (inr (inr (inr h)))) = memory_refuses before bytes before.meter refl refusal h
+      (typed_cause refusal h.0 (inr (given_none h.1, inl ((stmt, read.spelled, h.2), h.3))))
+  unworkable_refuses refusal (inr (inr (inr h))) = memory_refuses before bytes before.meter refl refusal h

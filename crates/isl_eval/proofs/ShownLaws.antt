@@ -52,10 +52,11 @@ use Rattle.isl_kinds.proofs.PartLaws.{parts_of-Prefix, parts_of-Row}
 use Rattle.isl_select.specs.State.{Binds, Kept, Moment, StateView, HasNumbersUpTo, scope_of, type_of}
 use Rattle.isl_select.specs.Worked.{IsWorked}
 use Rattle.isl_select.specs.Selection.{Selects, IsContentOf, IsSelected, Keeps}
-use Rattle.isl_select.specs.Made.{is_foreign, uses_units, IsReady, IsOfType, IsSoundExpr, IsValueOf, IsPaid, IsWhyUnmade}
-use Rattle.isl_select.proofs.NarrowLaws.{row_declares, operand_fits}
+use Rattle.isl_select.specs.Made.{is_foreign, uses_units, IsReady, IsOfType, IsSoundExpr, IsValueOf, IsPaid, IsWhyUnworked}
+use Rattle.isl_select.specs.Formed.{FormsTooWide, IsTooWide}
+use Rattle.isl_select.proofs.NarrowLaws.{declared_of-Prefix, row_declares, operand_fits}
 use Rattle.isl_select.proofs.PartLaws.{all_left, all_right, quiet_both, sound_links}
-use Rattle.isl_select.proofs.ValueLaws.{same_limit}
+use Rattle.isl_select.proofs.ValueLaws.{same_limit, unworked_in}
 use Rattle.isl_eval.specs.Listed.{IsListed, AreFinite}
 use Rattle.isl_eval.specs.Machine.{Answer, Does, Shows, ShowsRow, ShowsValue, Step, listed, nothing, shown}
 use Rattle.isl_eval.specs.Causes.{IsInfinite}
@@ -65,14 +66,15 @@ use Rattle.isl_eval.specs.Evaluation.{ends_with_test, is_asked, refusal_of_fault
 use Rattle.isl_eval.specs.Evaluation.{IsKeptOf, IsMakeable, IsReadyTest, IsSampled}
 use Rattle.isl_eval.proofs.TypeLaws.{answered_ok, found_is, bind_typed, of_type}
 use Rattle.isl_eval.proofs.TestLaws.{ends_at, test_parts, unmade_by}
+use Rattle.isl_eval.proofs.WideLaws.{word_wide, word_narrow}
 use Rattle.isl_eval.proofs.AskedLaws.{asked_of-Prefix, asked_of-Row, ends_none, scan_word}
 
 -- ---- what is kept of an expression that selects
--- no word stands outermost where nothing is foreign
+-- `sample` does not stand outermost where nothing is foreign
 selected_content : (state : StateView) (expr : Expr) (value : KeptValue) → list_any is_foreign (parts_of expr) ≡ false
     → IsSelected state expr value
     → IsContentOf state expr value
-selected_content state (Prefix' word s operand) value plain is = absurd (false≢true (sym plain))
+selected_content state (Prefix' p.Sample s operand) value plain is = absurd (false≢true (sym plain))
 selected_content state _ value plain is = is
 
 module _ (state : StateView) (limit : ℤ) (expr : Expr) (value : KeptValue) where
@@ -119,10 +121,6 @@ sample_content : (state : StateView) (operand : Expr) (value argument : KeptValu
 unfolding hidden-the_row-Expr-0 denote.Hole.Carrier.hidden
 sample_content state operand value argument selected chosen = (argument, (selected.elements, selected.written), chosen)
 
-prefix_declares : (scope : ScopeView) (word : Word) (operand : Expr) → declared_of scope (e.Prefix word operand) ≡ declared_of scope operand
-unfolding hidden-the_row-Expr-0 denote.Hole.Carrier.hidden
-prefix_declares scope word operand = refl
-
 made_of-Sample : (operand : Expr) → made_parts (e.Prefix p.Sample operand) ≡ parts_of operand
 unfolding hidden-the_row-Expr-0 denote.Hole.Carrier.hidden
 made_of-Sample operand = refl
@@ -142,44 +140,50 @@ word_ready scope word operand plain known literals narrow = record {
         (sym (ap (list_any (is_unknown scope)) (parts_of-Prefix word operand)) ∙ known)).1;
     literals = subst (All IsWellFormedLiteral) (literals_of-Prefix word operand) literals;
   };
-  narrow = subst (λ (ps : List Name). length ps ≤ most_parameters) (prefix_declares scope word operand) narrow;
+  narrow = subst (λ (ps : List Name). length ps ≤ most_parameters) (declared_of-Prefix scope word operand) narrow;
 }
 
-module _ (scope : ScopeView) (expr operand x : Expr) (word : Word) (is : expr ≡ e.Prefix word operand) (which : word ≡ p.Sample)
-    (same : x ≡ operand) where
-  sample_is : expr ≡ e.Prefix p.Sample operand
-  sample_is = is ∙ ap (λ (w : Word). e.Prefix w operand) which
+at_word : (known word : Word) (expr operand x : Expr) → expr ≡ e.Prefix word operand → word ≡ known → x ≡ operand
+    → expr ≡ e.Prefix known x
+at_word known word expr operand x is which same =
+    is ∙ ap (λ (w : Word). e.Prefix w operand) which ∙ ap (e.Prefix known) (sym same)
 
-  pub sample_ready : IsMakeable scope expr → IsReady scope x
+module _ (state : StateView) (expr operand x : Expr) (word : Word) (is : expr ≡ e.Prefix word operand) (which : word ≡ p.Sample)
+    (same : x ≡ operand) where
+  sample_is : expr ≡ e.Prefix p.Sample x
+  sample_is = at_word p.Sample word expr operand x is which same
+
+  pub sample_ready : IsMakeable (scope_of state) expr → IsReady (scope_of state) x
   sample_ready able =
-      let here = subst (IsMakeable scope) sample_is able in
-      subst (IsReady scope) (sym same)
-      (word_ready scope p.Sample operand (sym (ap (list_any is_foreign) (made_of-Sample operand))
-      ∙ here.plain) here.known here.literals here.narrow)
+      let here = subst (IsMakeable (scope_of state)) sample_is able in
+      word_ready (scope_of state) p.Sample x (sym (ap (list_any is_foreign) (made_of-Sample x)) ∙ here.plain) here.known here.literals
+      here.narrow
 
   pub sample_works : true ≡ list_any uses_units (parts_of expr)
   sample_works = sym (ap (λ (y : Expr). list_any uses_units (parts_of y)) sample_is
-      ∙ ap (list_any uses_units) (parts_of-Prefix p.Sample operand))
+      ∙ ap (list_any uses_units) (parts_of-Prefix p.Sample x))
 
-pub sample_kept : (state : StateView) (limit : ℤ) (expr operand x : Expr) (word : Word) (value : KeptValue) → expr ≡ e.Prefix word operand
-    → word ≡ p.Sample
-    → x ≡ operand → IsSampled state x (unsigned_abs limit) value → IsKeptOf state limit expr value
-sample_kept state limit expr operand x word value is which same sampled =
-    let there : expr ≡ e.Prefix p.Sample operand = is ∙ ap (λ (w : Word). e.Prefix w operand) which in
-    let of = subst (λ (y : Expr). IsSampled state y (unsigned_abs limit) value) same sampled in
-    subst (λ (y : Expr). IsKeptOf state limit y value) (sym there)
-    (λ before kind same_state at kind_is.
-    keeps state limit (e.Prefix p.Sample operand) value before kind same_state at kind_is
-    (sample_content state operand value of.chosen.0 of.chosen.1 of.chosen.2) (of.params
-    ∙ sym (prefix_declares (scope_of state) p.Sample operand))
-    of.kept of.numbers of.definitions)
+  pub sample_wide : IsTooWide state x → IsTooWide state expr
+  sample_wide wide = subst (IsTooWide state) (sym sample_is) (word_wide state p.Sample x wide)
+
+  pub sample_narrow : ¬ IsTooWide state x → ¬ IsTooWide state expr
+  sample_narrow narrow wide = word_narrow state p.Sample x (λ s formed h. h) narrow (subst (IsTooWide state) sample_is wide)
+
+  pub sample_kept : (limit : ℤ) (value : KeptValue) → IsSampled state x (unsigned_abs limit) value → IsKeptOf state limit expr value
+  sample_kept limit value of =
+      subst (λ (y : Expr). IsKeptOf state limit y value) (sym sample_is)
+      (λ before kind same_state at kind_is.
+      keeps state limit (e.Prefix p.Sample x) value before kind same_state at kind_is
+      (sample_content state x value of.chosen.0 of.chosen.1 of.chosen.2)
+      (of.params ∙ sym (declared_of-Prefix (scope_of state) p.Sample x)) of.kept of.numbers of.definitions)
 
 pub paid_working : (works : Bool) (g h : Gauge) → true ≡ works → IsCharged g h → IsPaid works g h
 paid_working works g h is charged = record { charged = charged; free = λ none. absurd (false≢true (sym none ∙ sym is)) }
 
-pub unmade_working : (works : Bool) (g h : Gauge) (refusal : Refusal) → true ≡ works → IsWhyUnmade true g h refusal
-    → IsWhyUnmade works g h refusal
-unmade_working works g h refusal is why = subst (λ (b : Bool). IsWhyUnmade b g h refusal) is why
+pub unworked_working : (works : Bool) (Wide Whole : Type 0) (g h : Gauge) (refusal : Refusal) → true ≡ works → (Wide → Whole)
+    → IsWhyUnworked true Wide g h refusal → IsWhyUnworked works Whole g h refusal
+unworked_working works Wide Whole g h refusal is wider why =
+    unworked_in works true Wide Whole g h refusal (λ none. absurd (false≢true (sym none ∙ sym is))) wider why
 
 -- ---- what is shown
 -- the moment of a state and a meter
@@ -221,21 +225,6 @@ show_kind scope expr typed =
     let u = found_is (type_for purpose.Shown scope expr) typed.0 typed.1 in
     (u.0, of_type scope expr purpose.Shown u.0 u.1)
 
-module _ (scope : ScopeView) (expr operand x : Expr) (word : Word) (is : expr ≡ e.Prefix word operand) (which : word ≡ p.Scan)
-    (same : x ≡ operand) where
-  scan_is : expr ≡ e.Prefix p.Scan operand
-  scan_is = is ∙ ap (λ (w : Word). e.Prefix w operand) which
-
-  pub scan_ready : IsEvaluable scope (Show expr) → IsReady scope x
-  scan_ready able =
-      let here = subst (λ (y : Expr). IsEvaluable scope (Show y)) scan_is able in
-      subst (IsReady scope) (sym same)
-      (word_ready scope p.Scan operand (sym (ap (list_any is_foreign) (shown_of-Scan operand)) ∙ here.plain)
-      (show_kind scope (e.Prefix p.Scan operand) here.typed).1.known here.literals here.narrow)
-
-  pub scan_works : true ≡ list_any uses_units (parts_of expr)
-  scan_works = sym (ap (λ (y : Expr). list_any uses_units (parts_of y)) scan_is ∙ ap (list_any uses_units) (parts_of-Prefix p.Scan operand))
-
 Listing : Moment → Expr → Answer → Type 0
 Listing before operand answer =
     (elements : List Element) × IsListed (λ x. Selects before.state operand before.at x) elements × (answer ≡ listed elements)
@@ -245,31 +234,49 @@ shows_of-Scan : (before : Moment) (operand : Expr) (answer : Answer) → Listing
 unfolding Listing hidden-the_row-Expr-0 denote.Hole.Carrier.hidden
 shows_of-Scan before operand answer h = h
 
-infinite_of-Scan : (before : Moment) (operand : Expr) → ¬ AreFinite (λ x. Selects before.state operand before.at x)
+-- there are infinitely many elements, and nothing on the way to them is too wide
+abbrev Endless : StateView → Expr → Valuation → Type 0
+Endless state operand at = (¬ AreFinite (λ x. Selects state operand at x)) × (¬ IsTooWide state operand)
+
+infinite_of-Scan : (before : Moment) (operand : Expr) → Endless before.state operand before.at
     → IsInfinite before (Show (e.Prefix p.Scan operand))
 unfolding hidden-the_row-Expr-0 denote.Hole.Carrier.hidden
 infinite_of-Scan before operand h = h
 
 module _ (before : Moment) (expr operand x : Expr) (word : Word) (is : expr ≡ e.Prefix word operand) (which : word ≡ p.Scan)
     (same : x ≡ operand) where
-  there : expr ≡ e.Prefix p.Scan x
-  there = is ∙ ap (λ (w : Word). e.Prefix w operand) which ∙ ap (e.Prefix p.Scan) (sym same)
+  scan_is : expr ≡ e.Prefix p.Scan x
+  scan_is = at_word p.Scan word expr operand x is which same
+
+  pub scan_ready : IsEvaluable (scope_of before.state) (Show expr) → IsReady (scope_of before.state) x
+  scan_ready able =
+      let here = subst (λ (y : Expr). IsEvaluable (scope_of before.state) (Show y)) scan_is able in
+      word_ready (scope_of before.state) p.Scan x (sym (ap (list_any is_foreign) (shown_of-Scan x)) ∙ here.plain)
+      (show_kind (scope_of before.state) (e.Prefix p.Scan x) here.typed).1.known here.literals here.narrow
+
+  pub scan_works : true ≡ list_any uses_units (parts_of expr)
+  scan_works = sym (ap (λ (y : Expr). list_any uses_units (parts_of y)) scan_is ∙ ap (list_any uses_units) (parts_of-Prefix p.Scan x))
 
   pub scan_shows : (answer : Answer) → (elements : List Element) × IsListed (λ y. Selects before.state x before.at y) elements
       × (answer ≡ listed elements)
       → Shows before expr answer
   unfolding Listing
-  scan_shows answer h = subst (λ (y : Expr). Shows before y answer) (sym there) (shows_of-Scan before x answer h)
+  scan_shows answer h = subst (λ (y : Expr). Shows before y answer) (sym scan_is) (shows_of-Scan before x answer h)
+
+  pub scan_narrow : ¬ IsTooWide before.state x → ¬ IsTooWide before.state expr
+  scan_narrow narrow wide = word_narrow before.state p.Scan x (λ s formed h. h) narrow (subst (IsTooWide before.state) scan_is wide)
 
   pub scan_ended : (now : Gauge) (refusal : Refusal)
-      → IsWhyUnmade true before.meter now refusal
-      ⊎ ((refusal ≡ r.Unbounded) × (¬ AreFinite (λ y. Selects before.state x before.at y)) × IsCharged before.meter now)
+      → IsWhyUnworked true (IsTooWide before.state x) before.meter now refusal
+      ⊎ ((refusal ≡ r.Unbounded) × ((¬ AreFinite (λ y. Selects before.state x before.at y)) × (¬ IsTooWide before.state x))
+      × IsCharged before.meter now)
       → IsWhyEnded before (Show expr) now refusal
   scan_ended now refusal (inl why) =
-      inl (unmade_working (list_any uses_units (parts_of expr)) before.meter now refusal
-      (scan_works (scope_of before.state) expr operand x word is which same) why)
+      inl (unworked_working (list_any uses_units (parts_of expr)) (IsTooWide before.state x) (IsTooWide before.state expr) before.meter now
+      refusal scan_works
+      (λ wide. subst (IsTooWide before.state) (sym scan_is) (word_wide before.state p.Scan x wide)) why)
   scan_ended now refusal (inr why) =
-      inr (why.0, subst (λ (y : Expr). IsInfinite before (Show y)) (sym there) (infinite_of-Scan before x why.1), why.2)
+      inr (why.0, subst (λ (y : Expr). IsInfinite before (Show y)) (sym scan_is) (infinite_of-Scan before x why.1), why.2)
 
 -- ---- what is around a test
 end_at : (before : List Link) (last : Link) → last ≡ get_or (before ++ last ∷ []) (length before) last
@@ -457,16 +464,6 @@ pub asked_test : (expr first : Expr) (links list before : List Link) (last : Lin
 asked_test expr first links list before last is are split asked =
     sym asked ∙ ap is_asked is ∙ asked_of-Row first links ∙ ap ends_with_test (sym are ∙ split) ∙ ends_at before last
 
--- ---- a plain word is `sample`
-sample_word : (word : Word) (operand : Expr) → list_any is_foreign (made_parts (e.Prefix word operand)) ≡ false → word ≡ p.Sample
-unfolding hidden-the_row-Expr-0 denote.Hole.Carrier.hidden
-sample_word p.Sample operand plain = refl
-sample_word _ operand plain = absurd (false≢true (sym plain))
-
-pub made_sample : (expr operand : Expr) (word : Word) → expr ≡ e.Prefix word operand → list_any is_foreign (made_parts expr) ≡ false
-    → word ≡ p.Sample
-made_sample expr operand word is plain = sample_word word operand (sym (ap (λ (x : Expr). list_any is_foreign (made_parts x)) is) ∙ plain)
-
 -- ---- numbers of parameters
 pub numbers_next : (params : List Name) (at : Valuation) (place : ℕ) (name : Name) (items new : List ℤ) (number : ℤ)
     → slice_get params place ≡ Some name
@@ -490,12 +487,12 @@ pub scan_failed : {A : Type 0} (result : Result A ScanFault) (state : StateView)
     (fault : ScanFault) (refusal : Refusal) → result ≡ Err fault
     → ((w : Valuation) (x : Element) → Has value w x ↔ Selects state operand w x) → v ≡ value → IsCharged g h
     → (result ≡ Err scan_fault.Unbounded → ¬ IsFiniteAt v at) → IsScanFault h k fault → refusal ≡ refusal_of_fault fault
-    → IsWhyUnmade true g k refusal
-    ⊎ ((refusal ≡ r.Unbounded) × (¬ AreFinite (λ x. Selects state operand at x)) × IsCharged g k)
-scan_failed result state operand at value v g h k (scan_fault.Cut cut) refusal found has same charged endless by is =
-    inl (unmade_by g h k cut refusal charged by is)
-scan_failed result state operand at value v g h k scan_fault.Unbounded refusal found has same charged endless by is =
-    inr (is, infinite_is state operand at value v has same (endless found), IsCharged_trans g h k charged by)
+    → ¬ IsTooWide state operand → IsWhyUnworked true (IsTooWide state operand) g k refusal
+    ⊎ ((refusal ≡ r.Unbounded) × ((¬ AreFinite (λ x. Selects state operand at x)) × (¬ IsTooWide state operand)) × IsCharged g k)
+scan_failed result state operand at value v g h k (scan_fault.Cut cut) refusal found has same charged endless by is narrow =
+    inl (inl (unmade_by g h k cut refusal charged by is))
+scan_failed result state operand at value v g h k scan_fault.Unbounded refusal found has same charged endless by is narrow =
+    inr (is, (infinite_is state operand at value v has same (endless found), narrow), IsCharged_trans g h k charged by)
 
 -- ---- a row that is asked for
 pub row_is : (expr first x : Expr) (links list before : List Link) (last : Link) → expr ≡ Row first links → x ≡ first → list ≡ links
@@ -535,23 +532,26 @@ module _ (before : Moment) (stmt : Stmt) where
   pub empty_step : stmt ≡ Empty → Step before stmt before nothing
   empty_step is = record {
     does = subst (λ (x : Stmt). Does before x before nothing) (sym is) (refl, refl);
+    narrow = subst (λ (x : Stmt). ¬ FormsTooWide before.state x) (sym is) (λ wide. wide);
     meter = IsCharged_refl before.meter before.meter refl;
     at = refl;
   }
 
   pub show_step : (after : Moment) (expr : Expr) (answer : Answer) → stmt ≡ Show expr → after.state ≡ before.state → after.at ≡ before.at
-      → IsCharged before.meter after.meter → Shows before expr answer → Step before stmt after answer
-  show_step after expr answer is same at charged shows = record {
+      → IsCharged before.meter after.meter → ¬ IsTooWide before.state expr → Shows before expr answer → Step before stmt after answer
+  show_step after expr answer is same at charged narrow shows = record {
     does = subst (λ (x : Stmt). Does before x after answer) (sym is) (same, shows);
+    narrow = subst (λ (x : Stmt). ¬ FormsTooWide before.state x) (sym is) narrow;
     meter = charged;
     at = at;
   }
 
   pub bind_step : (after : Moment) (name : Name) (expr : Expr) → stmt ≡ Bind name expr → after.at ≡ before.at
-      → IsCharged before.meter after.meter
+      → IsCharged before.meter after.meter → ¬ FormsTooWide before.state stmt
       → (kept : Kept) × Keeps before expr kept × Binds before.state name kept after.state → Step before stmt after nothing
-  bind_step after name expr is at charged kept = record {
+  bind_step after name expr is at charged narrow kept = record {
     does = subst (λ (x : Stmt). Does before x after nothing) (sym is) (kept, refl);
+    narrow = narrow;
     meter = charged;
     at = at;
   }

@@ -11,7 +11,7 @@ use Rattle.std.proofs.lemmas.List.Folds.{list_any_none, list_any-append}
 use Rattle.isl_meter.specs.Gauge.{Gauge, limit_of, IsCharged, IsCutBy, IsKept}
 use Rattle.isl_meter.specs.declared.Cut.{Cut}
 use Rattle.isl_meter.specs.declared.Cut.TheVariants as cuts
-use Rattle.isl_meter.proofs.CutLemmas.{IsCharged_trans, IsKept-charged}
+use Rattle.isl_meter.proofs.CutLemmas.{IsCharged_trans}
 use Rattle.isl_text.specs.declared.refusal.Refusal.{Refusal}
 use Rattle.isl_expr.specs.declared.tree.ValueKind.{ValueKind}
 use Rattle.isl_expr.specs.declared.tree.Stmt.{Stmt}
@@ -24,18 +24,19 @@ use Rattle.isl_simple.proofs.SimpleLaws.{parts_kept}
 use Rattle.isl_spelled.specs.Names.{binds_dollar}
 use Rattle.isl_select.specs.State.{Kept, Moment, StateView, Binds, Fits, HasNumbersUpTo, IsSettled, type_of, scope_of, forgotten}
 use Rattle.isl_select.specs.Selection.{Keeps}
+use Rattle.isl_select.specs.Formed.{FormsTooWide}
 use Rattle.isl_select.specs.Made.{IsPaid, refusal_of_cut, uses_units}
 use Rattle.isl_select.proofs.StateLaws.{bound_at, fits_bound}
 use Rattle.isl_select.proofs.ForgetLaws.{forgotten_itself, forgotten_settled, fits_forgotten}
-use Rattle.isl_select.proofs.ValueLaws.{same_limit, paid_same, paid_after, unmade_after}
+use Rattle.isl_select.proofs.ValueLaws.{same_limit, paid_same, paid_after, unworked_after}
 use Rattle.isl_eval.specs.declared.step.Tally.{Tally}
 use Rattle.isl_eval.specs.Machine.{Answer, Does, Step, Steps, behind, nothing}
-use Rattle.isl_eval.specs.Causes.{AreDone, IsInfinite, IsValid, Refuses, Stops}
+use Rattle.isl_eval.specs.Spelled.{OfStatement}
+use Rattle.isl_eval.specs.Causes.{AreDone, IsInfinite, Refuses, Stops}
 use Rattle.isl_eval.specs.Run.{Answers}
 use Rattle.isl_eval.specs.Evaluated.{IsEvaluable, IsWhyEnded, works}
-use Rattle.isl_eval.specs.Evaluation.{AreEvaluable, AreLeft, IsRead, IsTaken, IsWhyStopped, IsWorkable}
+use Rattle.isl_eval.specs.Evaluation.{AreEvaluable, AreLeft, IsRead, IsTaken, IsWhyStopped, IsWorkable, StopsAt}
 use Rattle.isl_eval.proofs.ChainLaws.{one_alone, one_of}
-use Rattle.isl_eval.proofs.CauseLaws.{of_statement}
 use Rattle.isl_eval.proofs.TypeLaws.{bind_typed}
 use Rattle.isl_eval.proofs.RefusalLaws.{clear, has_work, no_work}
 
@@ -176,12 +177,17 @@ left_answered before now after done last answer h step paid = (
       (λ none. works_at done last [] none) h.paid paid,
 )
 
+-- a simple statement forms a space that is too wide
+abbrev pub IsFormedBy : Moment → Stmt → Type 0
+IsFormedBy moment next = FormsTooWide moment.state next
+
 -- one is not
 pub left_stopped : (before now : Moment) (done : List Stmt) (stmt : Stmt) (left : List Stmt) (gauge : Gauge) (refusal : Refusal)
     → AreLeft before now done (stmt ∷ left) → IsWhyEnded now stmt gauge refusal → IsWhyStopped before (done ++ stmt ∷ left) gauge refusal
 left_stopped before now done stmt left gauge refusal h (inl why) =
-    inl (unmade_after (list_any works (done ++ stmt ∷ left)) (list_any works done) (works stmt) before.meter now.meter gauge refusal
-    (λ none. works_at done stmt left none) h.paid why)
+    inl (unworked_after (list_any works (done ++ stmt ∷ left)) (list_any works done) (works stmt) (FormsTooWide now.state stmt)
+    (StopsAt before (done ++ stmt ∷ left) IsFormedBy) before.meter now.meter gauge refusal (λ none. works_at done stmt left none)
+    (λ wide. (done, stmt, left, refl, (now, h.steps, wide))) h.paid why)
 left_stopped before now done stmt left gauge refusal h (inr why) =
     inr (why.0, IsCharged_trans before.meter now.meter gauge h.paid.charged why.2, (done, stmt, left, refl, (now, h.steps, why.1)))
 
@@ -213,10 +219,6 @@ forgotten_alone state statements settled one =
     let only = one_of statements one in sym (forgotten_itself state (settled only.0 only.1))
 
 -- the end of the loop
-pub residual_cause : (result : Result Tally Refusal) (P : Refusal → Type 0) (refusal : Refusal) → result ≡ Err refusal → P refusal
-    → IfErr result P
-residual_cause result P refusal is h = subst (λ (o : Result Tally Refusal). IfErr o P) (sym is) h
-
 abbrev Counted : Tally → Answer → Type 0
 Counted tally answer = tally ≡ record { is_true = answer.is_true; elements = answer.elements }
 
@@ -284,41 +286,27 @@ module _ (before : Moment) (bytes : List ℕ) (stmt : Stmt) (read : IsRead befor
   )
   cut_refuses now cuts.NoMemory by free = (by.cause, λ none. (free (idle (no_work bytes stmt read.spelled none))).1)
 
+  -- some of its simple statements were done, and the next has P
+  stops_in : (P : Moment → Stmt → Type 0) → StopsAt before (flat stmt) P → OfStatement bytes (λ found. Stops before found P)
+  stops_in P h = (
+    stmt,
+    read.spelled,
+    record { done = h.0; next = h.1; later = h.2; split = h.3; now = h.4.0; steps = h.4.1; stops = h.4.2 },
+  )
+
   -- it is not
   pub stopped_refuses : (now : Gauge) (refusal : Refusal) → IsWhyStopped before (flat stmt) now refusal → Refuses before bytes now refusal
-  stopped_refuses now refusal (inl why) = subst (Refuses before bytes now) (sym why.is) (cut_refuses now why.cut why.by why.free)
-  stopped_refuses now refusal (inr why) =
-      subst (Refuses before bytes now) (sym why.0) (
+  stopped_refuses now refusal (inl (inl why)) =
+      subst (Refuses before bytes now) (sym why.is) (cut_refuses now why.cut why.by why.free)
+  stopped_refuses now refusal (inl (inr why)) =
+      subst (Refuses before bytes now) (sym why.0) (inr (
         clear before bytes stmt read able,
-        (
-          stmt,
-          read.spelled,
-          record {
-            done = why.2.0;
-            next = why.2.1;
-            later = why.2.2;
-            split = why.2.3;
-            now = why.2.4.0;
-            steps = why.2.4.1;
-            stops = why.2.4.2;
-          },
-        ),
-        why.1,
-      )
-
--- a statement without causes, whatever it chooses
-pub valid : (before : Moment) (bytes : List ℕ) (stmt : Stmt) → IsRead before bytes stmt → IsWorkable (scope_of before.state) before.at stmt
-    → ¬ Stops before stmt IsInfinite → IsValid before bytes
-valid before bytes stmt read able bounded = record {
-  clear = clear before bytes stmt read able;
-  bounded = λ there. bounded (of_statement bytes stmt (λ found. Stops before found IsInfinite) read.spelled there);
-}
-
--- the meter after statements that were not answered
-pub stopped_meter : (before : Moment) (statements : List Stmt) (now : Gauge) (refusal : Refusal)
-    → IsWhyStopped before statements now refusal → IsKept before.meter now
-stopped_meter before statements now refusal (inl why) = why.by.kept
-stopped_meter before statements now refusal (inr why) = IsKept-charged before.meter now why.1
+        stops_in IsFormedBy why.1,
+        why.2.charged,
+        (λ none. why.2.free (idle (no_work bytes stmt read.spelled none))),
+      ))
+  stopped_refuses now refusal (inr why) =
+      subst (Refuses before bytes now) (sym why.0) (clear before bytes stmt read able, stops_in IsInfinite why.2, why.1)
 
 pub kept_limit : (g h : Gauge) → IsKept g h → limit_of h ≡ limit_of g
 kept_limit g h kept = ap (λ (bits : ℕ). pos (2 ^ bits - 1)) kept.bits

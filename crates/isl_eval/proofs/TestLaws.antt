@@ -1,22 +1,16 @@
 -- Rows with a test at their end, at the constructors of the code.
 use mathlib.Core.Former.{Count}
 use Rattle.std.proofs.Common.{◌≡◌, ◌∙◌, ◌↔◌, ◌≤◌, refl, sym, ap, ap₂, subst, arith}
-use Rattle.std.proofs.Common.{Bool, true, false, List, [], ◌∷◌, ◌++◌, length, cond, Result}
-use Rattle.std.specs.Prelude.{unsigned_abs, IsTrue, IfOk, if◌then◌else◌, not, ◌||◌, filter}
+use Rattle.std.proofs.Common.{Bool, true, false, List, [], ◌∷◌, ◌++◌, length, Result, Err}
+use Rattle.std.specs.Prelude.{unsigned_abs, IsTrue, IfOk, MatchResult, if◌then◌else◌, ◌||◌}
 use Rattle.std.specs.List.{list_any}
-use Rattle.std.specs.Str.{bytes_eq}
-use Rattle.std.specs.Cmp.Lexicographic.{nat_list_eq_equiv}
 use Rattle.std.proofs.lemmas.Bool.{or_parts, false≢true}
-use Rattle.std.proofs.lemmas.List.Folds.{list_any-append}
-use Rattle.std.proofs.lemmas.Map.Made.{length-le_from_is_member, IsDistinct-from_AllPairs}
-use Rattle.std.proofs.lemmas.Slice.Eq.{bytes_eq-Decides}
 use Rattle.isl_meter.specs.Gauge.{Gauge, limit_of, IsCharged, IsCutBy}
 use Rattle.isl_meter.specs.declared.Cut.{Cut}
 use Rattle.isl_meter.proofs.CutLemmas.{IsCutBy-after}
 use Rattle.isl_space.specs.Limits.{most_parameters}
 use Rattle.isl_space.specs.Name.{Name}
-use Rattle.isl_space.specs.Names.{AreDistinct, is_among, joined}
-use Rattle.isl_space.proofs.NamesLaws.{joined_distinct}
+use Rattle.isl_space.specs.Names.{AreDistinct, joined}
 use Rattle.isl_union.specs.KeptValue.{KeptValue, Has, IsKeptValue}
 use Rattle.isl_text.specs.declared.refusal.Refusal.{Refusal}
 use Rattle.isl_space.specs.Element.{Element}
@@ -31,14 +25,15 @@ use Rattle.isl_kinds.specs.Parts.{Part, parts_of, parts_of_links, parts_in_links
 use Rattle.isl_kinds.specs.Parts as part
 use Rattle.isl_kinds.specs.Typed.{ScopeView, declared_of, declared_of_row}
 use Rattle.isl_kinds.proofs.PartLaws.{parts_of-Row, any_in_link}
-use Rattle.isl_kinds.proofs.DeclaredLaws.{other_is_there}
 use Rattle.isl_select.specs.State.{StateView, Moment, HasNumbersUpTo}
-use Rattle.isl_select.specs.Selection.{Selects, RowSelects, JoinHas}
-use Rattle.isl_select.specs.Made.{IsWhyUnmade, refusal_of_cut}
+use Rattle.isl_operations.specs.Operations.{OperatorHas}
+use Rattle.isl_operations.proofs.NamesLaws.{turned_fits}
+use Rattle.isl_select.specs.Selection.{Selects, RowSelects}
+use Rattle.isl_select.specs.Made.{IsWhyUnmade, IsWhyUnworked, refusal_of_cut}
 use Rattle.isl_select.proofs.PartLaws.{quiet_both}
 use Rattle.isl_select.proofs.NarrowLaws.{declared_distinct, joined_is}
 use Rattle.isl_select.proofs.RowLaws.{same_row, same_trans}
-use Rattle.isl_select.proofs.ValueLaws.{numbers_later}
+use Rattle.isl_select.proofs.ValueLaws.{numbers_later, paid_works, unworked_after}
 use Rattle.isl_eval.specs.Tests.{Elements, is_test, ends_with_test, IsPartOf, TestHolds, HoldsPastLinks}
 use Rattle.isl_eval.specs.Machine.{Answer, Shows, ShowsRow, ShowsValue, told}
 use Rattle.isl_eval.specs.Evaluated.{shown_parts, parts_around_test}
@@ -56,7 +51,7 @@ abbrev HoldsPast : StateView → Elements → List Link → Type 0
 HoldsPast state Left [] = ⊥
 HoldsPast state Left (link ∷ []) = TestHolds state link.operator Left (λ v x. Selects state link.operand v x)
 HoldsPast state Left (link ∷ next ∷ more) =
-    HoldsPast state (λ v x. JoinHas link.operator (Left v) (λ y. Selects state link.operand v y) x) (next ∷ more)
+    HoldsPast state (λ v x. OperatorHas link.operator (Left v) (λ y. Selects state link.operand v y) x) (next ∷ more)
 
 pub ends_are : (m : Count) (row : Row_of-Link m) → ends_with_test row ≡ ends (items-the_row-Link m row)
 ends_are m end_of-Link = refl
@@ -78,7 +73,7 @@ holds_are : (m : Count) (state : StateView) (Left : Elements) (row : Row_of-Link
 holds_are m state Left end_of-Link = ((λ h. h), (λ h. h))
 holds_are m state Left (more_of-Link operator operand end_of-Link) = ((λ h. h), (λ h. h))
 holds_are m state Left (more_of-Link operator operand (more_of-Link next other row)) =
-    holds_are _ state (λ v x. JoinHas operator (Left v) (λ y. Selects state operand v y) x) (more_of-Link next other row)
+    holds_are _ state (λ v x. OperatorHas operator (Left v) (λ y. Selects state operand v y) x) (more_of-Link next other row)
 
 -- ---- the last link
 
@@ -113,7 +108,7 @@ holds_at : (state : StateView) (Left : Elements) (before : List Link) (last : Li
 holds_at state Left [] last = ((λ h. h), (λ h. h))
 holds_at state Left (link ∷ []) last = ((λ h. h), (λ h. h))
 holds_at state Left (link ∷ next ∷ before) last =
-    holds_at state (λ v x. JoinHas link.operator (Left v) (λ y. Selects state link.operand v y) x) (next ∷ before) last
+    holds_at state (λ v x. OperatorHas link.operator (Left v) (λ y. Selects state link.operand v y) x) (next ∷ before) last
 
 -- ---- rows of the code
 
@@ -219,40 +214,6 @@ at_test result state operator word P Q Holds is exact same =
     (subst (λ (H : Type 0). IfOk result (λ holds. IsTrue holds ↔ H)) (sym same) exact)
 
 -- ---- parameters in the other order
-from_filter : (test : Name → Bool) (names : List Name) (n : Name) → is_among (filter test names) n ≡ true → is_among names n ≡ true
-from_filter test [] n there = there
-from_filter test (m ∷ names) n there = by (test m) (bytes_eq n m) refl there (from_filter test names n)
-  where
-    by : (keeps : Bool) (here : Bool) → bytes_eq n m ≡ here → is_among (cond keeps (m ∷ filter test names) (filter test names)) n ≡ true
-        → (is_among (filter test names) n ≡ true → is_among names n ≡ true) → (bytes_eq n m || is_among names n) ≡ true
-    by keeps true is there rest = rw is refl
-    by true false is there rest = rw is (rest (sym (ap (λ (b : Bool). b || is_among (filter test names) n) is) ∙ there))
-    by false false is there rest = rw is (rest there)
-
-among_turned : (left right : List Name) → AreDistinct right → (n : Name) → is_among (joined right left) n ≡ true
-    → is_among (joined left right) n ≡ true
-among_turned left right distinct n there = by (is_among right n) refl
-  where
-    new : List Name
-    new = filter (λ m. not (is_among right m)) left
-
-    in_left : is_among left n ≡ true → is_among (joined left right) n ≡ true
-    in_left h =
-        list_any-append (bytes_eq n) left (filter (λ m. not (is_among left m)) right)
-        ∙ ap (λ (b : Bool). b || is_among (filter (λ m. not (is_among left m)) right) n) h
-
-    by : (b : Bool) → is_among right n ≡ b → is_among (joined left right) n ≡ true
-    by true h = ap (λ (names : List Name). is_among names n) (joined_is left right distinct) ∙ other_is_there left right n h
-    by false h =
-        in_left (from_filter (λ m. not (is_among right m)) left n
-        (sym (ap (λ (b : Bool). b || is_among new n) h) ∙ (sym (list_any-append (bytes_eq n) right new) ∙ there)))
-
-pub turned_fits : (left right : List Name) → AreDistinct left → AreDistinct right → length (joined right left) ≤ length (joined left right)
-turned_fits left right one two =
-    length-le_from_is_member nat_list_eq_equiv (joined right left) (joined left right)
-    (IsDistinct-from_AllPairs bytes_eq-Decides (joined right left) (joined_distinct right left two one))
-    (λ n there. among_turned left right two n there)
-
 -- what is left of two operands and the row before them
 pub test_narrow : (scope : ScopeView) (first : Expr) (before : List Link) (last : Link) (one left right : KeptValue) (l r : KeptValue)
     → IsReadyTest scope first before last → one.params ≡ declared_of scope first → left.params ≡ declared_of_row scope one.params before
@@ -296,9 +257,15 @@ pub unmade_by : (g h k : Gauge) (cut : Cut) (refusal : Refusal) → IsCharged g 
 unmade_by g h k cut refusal charged by is =
     record { cut = cut; is = is; by = IsCutBy-after g h k cut charged by; free = λ none. absurd (false≢true (sym none)) }
 
-pub unmade_on : (works : Bool) (g h k : Gauge) (refusal : Refusal) → IsCharged g h → IsWhyUnmade works h k refusal
-    → IsWhyUnmade true g k refusal
-unmade_on works g h k refusal charged why = unmade_by g h k why.cut refusal charged why.by why.is
+pub unworked_on : (works : Bool) (Wide Whole : Type 0) (g h k : Gauge) (refusal : Refusal) → (Wide → Whole) → IsCharged g h
+    → IsWhyUnworked works Wide h k refusal → IsWhyUnworked true Whole g k refusal
+unworked_on works Wide Whole g h k refusal wider charged why =
+    unworked_after true true works Wide Whole g h k refusal (λ none. absurd (false≢true (sym none))) wider (paid_works g h charged) why
+
+-- what is returned where a call was refused
+pub refused : {A : Type 0} (result : Result A Refusal) (P : A → Type 0) (Q : Refusal → Type 0) (refusal : Refusal) → result ≡ Err refusal
+    → Q refusal → MatchResult result P Q
+refused result P Q refusal is why = subst (λ (r : Result _ Refusal). MatchResult r P Q) (sym is) why
 
 -- a value behind a pointer is within the limit later
 pub at_deref : (g h : Gauge) (value v : KeptValue) → IsCharged g h → v ≡ value → HasNumbersUpTo (unsigned_abs (limit_of g)) value

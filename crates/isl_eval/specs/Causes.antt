@@ -22,9 +22,10 @@ use Rattle.isl_kinds.specs.Parts.{parts_of_statement}
 use Rattle.isl_kinds.specs.Typed.{ScopeView, declared_in, type_of_statement}
 use Rattle.isl_simple.specs.Flat.{flat}
 use Rattle.isl_simple.specs.Simple.{statement_declared}
-use Rattle.isl_simple.specs.Unsupported.{is_unsupported, mixes_kinds}
+use Rattle.isl_simple.specs.Unsupported.{is_unsupported}
 use Rattle.isl_select.specs.State.{Moment, scope_of}
 use Rattle.isl_select.specs.Selection.{SelectsIn}
+use Rattle.isl_select.specs.Formed.{FormsTooWide, IsTooWideIn}
 use Rattle.isl_select.specs.Made.{uses_units}
 use Rattle.isl_eval.specs.Listed.{AreFinite}
 use Rattle.isl_eval.specs.Machine.{Step, nothing}
@@ -50,8 +51,6 @@ pub data Cause : Type 0 where
   wrong_kind : Cause
   -- a list has no element with that number
   no_element : Cause
-  -- a set and a map stand in the statement, and what joins them is not answered yet
-  mixed_kinds : Cause
   -- elements are to be listed, and a declared parameter has no number
   parametric : Cause
   -- an operation joins more parameters than a value may have
@@ -60,8 +59,8 @@ pub data Cause : Type 0 where
 -- the causes, in the order in which they are looked for, each in the whole statement before the next
 abbrev pub causes : List Cause
 causes =
-    no_token ∷ too_deep ∷ no_statement ∷ too_wide ∷ wide_number ∷ unsupported ∷ unknown_name ∷ wrong_kind ∷ no_element ∷ mixed_kinds
-    ∷ parametric ∷ wide_join ∷ []
+    no_token ∷ too_deep ∷ no_statement ∷ too_wide ∷ wide_number ∷ unsupported ∷ unknown_name ∷ wrong_kind ∷ no_element ∷ parametric
+    ∷ wide_join ∷ []
 
 abbrev pub refusal_of : Cause → Refusal
 refusal_of no_token = r.Syntax
@@ -73,7 +72,6 @@ refusal_of unsupported = r.Syntax
 refusal_of unknown_name = r.UnknownName
 refusal_of wrong_kind = r.WrongKind
 refusal_of no_element = r.NoElement
-refusal_of mixed_kinds = r.Syntax
 refusal_of parametric = r.Parametric
 refusal_of wide_join = r.TooWide
 
@@ -97,7 +95,6 @@ IsThere before bytes unsupported = OfStatement bytes (λ stmt. is_unsupported st
 IsThere before bytes unknown_name = OfStatement bytes (λ stmt. type_of_statement (scope_of before.state) stmt ≡ Err r.UnknownName)
 IsThere before bytes wrong_kind = OfStatement bytes (λ stmt. type_of_statement (scope_of before.state) stmt ≡ Err r.WrongKind)
 IsThere before bytes no_element = OfStatement bytes (λ stmt. type_of_statement (scope_of before.state) stmt ≡ Err r.NoElement)
-IsThere before bytes mixed_kinds = OfStatement bytes (λ stmt. mixes_kinds (scope_of before.state) stmt ≡ true)
 IsThere before bytes parametric = OfStatement bytes (λ stmt. is_parametric (scope_of before.state) before.at stmt ≡ true)
 IsThere before bytes wide_join = OfStatement bytes (λ stmt. most_parameters < length (statement_declared (scope_of before.state) stmt))
 
@@ -131,21 +128,28 @@ pub record Stops (before : Moment) (stmt : Stmt) (P : Moment → Stmt → Type 0
   pub steps : AreDone before done now
   pub stops : P now next
 
--- elements are to be listed, and there are infinitely many of them where parameters have their given numbers
+-- elements are to be listed of what forms no space that is too wide, and there are infinitely many of them where parameters have their
+-- given numbers
 abbrev pub IsInfinite : Moment → Stmt → Type 0
-IsInfinite now (Show (Prefix' p.Scan s operand)) = ¬ AreFinite (λ element. SelectsIn now.state operand now.at element)
+IsInfinite now (Show (Prefix' p.Scan s operand)) =
+    (¬ AreFinite (λ element. SelectsIn now.state operand now.at element)) × (¬ IsTooWideIn now.state operand)
 IsInfinite now stmt = ⊥
 
 abbrev pub IsUnbounded : Moment → List ℕ → Type 0
 IsUnbounded before bytes = OfStatement bytes (λ stmt. Stops before stmt IsInfinite)
 
+-- an operation forms a space that is too wide of those in which its operands select elements
+abbrev pub IsFormedTooWide : Moment → List ℕ → Type 0
+IsFormedTooWide before bytes = OfStatement bytes (λ stmt. Stops before stmt (λ now next. FormsTooWide now.state next))
+
 -- no cause is there to refuse the bytes of a statement, whatever it chooses
 pub record IsValid (before : Moment) (bytes : List ℕ) : Type 0 where
   pub clear : IsClear before bytes
   pub bounded : ¬ IsUnbounded before bytes
+  pub narrow : ¬ IsFormedTooWide before bytes
 
 -- ---- units
--- a part that may use units stands in the statement: anything but names, `+` and `^-1`
+-- a part that may use units stands in the statement: anything but names, `+`, `^-1` and the words that only move columns
 abbrev pub HasWork : Stmt → Type 0
 HasWork stmt = list_any uses_units (parts_of_statement stmt) ≡ true
 
@@ -154,11 +158,14 @@ abbrev pub SparesUnits : Moment → List ℕ → Gauge → Type 0
 SparesUnits before bytes now = ¬ OfStatement bytes HasWork → now ≡ before.meter
 
 -- Why a complete statement is refused, and what it did to the meter until then. Overflow and want of units may come only while a
--- statement without any of the causes is worked out in which work stands, and both are counted. Memory may end at any time, and that
--- counts nothing.
+-- statement without any of the causes is worked out in which work stands, and both are counted. So may a space that is too wide, which
+-- counts nothing. Memory may end at any time, and that counts nothing.
 abbrev pub Refuses : Moment → List ℕ → Gauge → Refusal → Type 0
 Refuses before bytes now r.Overflow = IsClear before bytes × OfStatement bytes HasWork × IsCutBy before.meter now cut.Overflow
 Refuses before bytes now r.Budget = IsClear before bytes × OfStatement bytes HasWork × IsCutBy before.meter now cut.Budget
 Refuses before bytes now r.NoMemory = IsCharged before.meter now × SparesUnits before bytes now
+Refuses before bytes now r.TooWide =
+    (FirstGives (IsThere before bytes) causes r.TooWide × (now ≡ before.meter))
+    ⊎ (IsClear before bytes × IsFormedTooWide before bytes × IsCharged before.meter now × SparesUnits before bytes now)
 Refuses before bytes now r.Unbounded = IsClear before bytes × IsUnbounded before bytes × IsCharged before.meter now
 Refuses before bytes now refusal = FirstGives (IsThere before bytes) causes refusal × (now ≡ before.meter)

@@ -15,7 +15,8 @@ use Rattle.isl_kinds.specs.Parts.{Part, operator, parts_of, parts_in, parts_in_l
 use Rattle.isl_kinds.specs.Typed.{TypeView, ScopeView, type_of_statement}
 use Rattle.isl_simple.specs.Simple.{statement_declared}
 use Rattle.isl_select.specs.State.{Moment}
-use Rattle.isl_select.specs.Made.{is_foreign, uses_units, IsWhyUnmade}
+use Rattle.isl_select.specs.Made.{is_foreign, uses_units, IsWhyUnworked}
+use Rattle.isl_select.specs.Formed.{FormsTooWide}
 use Rattle.isl_eval.specs.Tests.{ends_with_test}
 use Rattle.isl_eval.specs.Causes.{IsInfinite}
 
@@ -63,8 +64,9 @@ pub record IsEvaluable (scope : ScopeView) (stmt : Stmt) : Type 0 where
 abbrev pub works : Stmt → Bool
 works stmt = list_any uses_units (parts_of_statement stmt)
 
--- why it is not answered: work was cut, or infinitely many elements are to be listed; where nothing uses units memory ended, and the
--- meter is as it was
+-- why it is not answered: work was cut, or an operation forms a space that is too wide, or infinitely many elements are to be listed;
+-- where nothing uses units the meter is as it was
 abbrev pub IsWhyEnded : Moment → Stmt → Gauge → Refusal → Type 0
 IsWhyEnded before stmt now refusal =
-    IsWhyUnmade (works stmt) before.meter now refusal ⊎ ((refusal ≡ Unbounded) × IsInfinite before stmt × IsCharged before.meter now)
+    IsWhyUnworked (works stmt) (FormsTooWide before.state stmt) before.meter now refusal
+    ⊎ ((refusal ≡ Unbounded) × IsInfinite before stmt × IsCharged before.meter now)

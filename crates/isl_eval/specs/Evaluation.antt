@@ -11,7 +11,7 @@ use Rattle.isl_union.specs.Sample.{IsSampleOf}
 use Rattle.isl_scan.specs.declared.fault.ScanFault.{ScanFault}
 use Rattle.isl_scan.specs.declared.fault.ScanFault.TheVariants as scan_fault
 use Rattle.isl_text.specs.declared.refusal.Refusal.{Refusal}
-use Rattle.isl_text.specs.declared.refusal.Refusal.TheVariants.{NoMemory, Syntax, TooWide, Parametric, Unbounded}
+use Rattle.isl_text.specs.declared.refusal.Refusal.TheVariants.{NoMemory, TooWide, Parametric, Unbounded}
 use Rattle.isl_lower.specs.Value.{IsWellFormedLiteral}
 use Rattle.isl_expr.specs.declared.tree.Prefix.{Prefix}
 use Rattle.isl_expr.specs.declared.tree.Prefix.TheVariants as p
@@ -25,10 +25,11 @@ use Rattle.isl_kinds.specs.Typed.{TypeView, ScopeView, is_dollar, has_unknown, k
 use Rattle.isl_kinds.specs.Typed.{declared_of, declared_of_row, joined_names, type_of_statement}
 use Rattle.isl_simple.specs.Flat.{flat}
 use Rattle.isl_simple.specs.Simple.{BindsIn, statement_declared}
-use Rattle.isl_simple.specs.Unsupported.{is_unsupported, mixes_kinds}
+use Rattle.isl_simple.specs.Unsupported.{is_unsupported}
 use Rattle.isl_select.specs.State.{Moment, StateView, Fits, HasNumbersUpTo, scope_of, forgotten}
 use Rattle.isl_select.specs.Selection.{IsSelected, Keeps, Selects, RowSelects}
-use Rattle.isl_select.specs.Made.{is_foreign, AreReady, IsReady, IsPaid, IsWhyUnmade, refusal_of_cut}
+use Rattle.isl_select.specs.Formed.{FormsTooWide, IsTooWide, IsTooWideRow}
+use Rattle.isl_select.specs.Made.{is_foreign, AreReady, IsReady, IsPaid, IsWhyUnworked, refusal_of_cut}
 use Rattle.isl_eval.specs.declared.shown.Line.{Line}
 use Rattle.isl_eval.specs.Spelled.{BytesSpell}
 use Rattle.isl_eval.specs.Tests.{Elements, is_test}
@@ -65,7 +66,6 @@ names_of (Some t) = t.params
 -- no cause is there that comes of what is bound, or of the numbers that parameters are given
 pub record IsWorkable (scope : ScopeView) (at : Valuation) (stmt : Stmt) : Type 0 where
   pub typed : IsTyped scope stmt
-  pub unmixed : mixes_kinds scope stmt ≡ false
   pub given : is_parametric scope at stmt ≡ false
   pub narrow : length (statement_declared scope stmt) ≤ most_parameters
 
@@ -73,11 +73,10 @@ pub record IsWorkable (scope : ScopeView) (at : Valuation) (stmt : Stmt) : Type 
 abbrev pub IsWhyUnworkable : ScopeView → Valuation → Stmt → Refusal → Type 0
 IsWhyUnworkable scope at stmt refusal =
     (type_of_statement scope stmt ≡ Err refusal)
-    ⊎ ((IsTyped scope stmt × (mixes_kinds scope stmt ≡ true) × (refusal ≡ Syntax))
-    ⊎ ((IsTyped scope stmt × (mixes_kinds scope stmt ≡ false) × (is_parametric scope at stmt ≡ true) × (refusal ≡ Parametric))
-    ⊎ ((IsTyped scope stmt × (mixes_kinds scope stmt ≡ false) × (is_parametric scope at stmt ≡ false)
-    × (most_parameters < length (statement_declared scope stmt)) × (refusal ≡ TooWide))
-    ⊎ (refusal ≡ NoMemory))))
+    ⊎ ((IsTyped scope stmt × (is_parametric scope at stmt ≡ true) × (refusal ≡ Parametric))
+    ⊎ ((IsTyped scope stmt × (is_parametric scope at stmt ≡ false) × (most_parameters < length (statement_declared scope stmt))
+    × (refusal ≡ TooWide))
+    ⊎ (refusal ≡ NoMemory)))
 
 -- ---- what is kept and shown
 
@@ -149,6 +148,12 @@ pub record IsReadyTest (scope : ScopeView) (first : Expr) (before : List Link) (
   pub narrow : length (joined_names (declared_of_row scope (declared_of scope first) before)
       (declared_of scope last.operand)) ≤ most_parameters
 
+-- what stands around a test forms a space that is too wide
+abbrev pub IsTooWideTest : StateView → Expr → List Link → Link → Type 0
+IsTooWideTest state first before last =
+    IsTooWide state first
+    ⊎ (IsTooWideRow state (λ valuation element. Selects state first valuation element) before ⊎ IsTooWide state last.operand)
+
 -- ---- one simple statement after another
 
 -- Each may be evaluated when those before it are done, whatever they chose; each but the last binds a name that no script has.
@@ -177,10 +182,16 @@ pub record AreLeft (before now : Moment) (done left : List Stmt) : Type 0 where
   pub paid : IsPaid (list_any works done) before.meter now.meter
   pub at : now.at ≡ before.at
 
--- why the statements were not answered: work was cut; or some were done, and infinitely many elements are to be listed by the next
+-- some of the statements were done, and the next has P
+abbrev pub StopsAt : Moment → List Stmt → (Moment → Stmt → Type 0) → Type 0
+StopsAt before statements P =
+    (done : List Stmt) × (next : Stmt) × (later : List Stmt) × (statements ≡ done ++ next ∷ later)
+    × ((moment : Moment) × AreDone before done moment × P moment next)
+
+-- Why the statements were not answered: work was cut; or some were done, and by the next infinitely many elements are to be listed, or a
+-- space is formed that is too wide.
 abbrev pub IsWhyStopped : Moment → List Stmt → Gauge → Refusal → Type 0
 IsWhyStopped before statements now refusal =
-    IsWhyUnmade (list_any works statements) before.meter now refusal
-    ⊎ ((refusal ≡ Unbounded) × IsCharged before.meter now
-    × ((done : List Stmt) × (next : Stmt) × (later : List Stmt) × (statements ≡ done ++ next ∷ later)
-    × ((moment : Moment) × AreDone before done moment × IsInfinite moment next)))
+    IsWhyUnworked (list_any works statements) (StopsAt before statements (λ moment next. FormsTooWide moment.state next)) before.meter now
+    refusal
+    ⊎ ((refusal ≡ Unbounded) × IsCharged before.meter now × StopsAt before statements IsInfinite)

@@ -12,6 +12,7 @@ use Rattle.isl_expr.specs.declared.tree.Stmt.TheVariants.{Empty, Bind, Show}
 use Rattle.isl_simple.specs.Flat.{flat}
 use Rattle.isl_select.specs.State.{Kept, Moment, Binds, forgotten}
 use Rattle.isl_select.specs.Selection.{Keeps, SelectsIn}
+use Rattle.isl_select.specs.Formed.{FormsTooWide}
 use Rattle.isl_eval.specs.Tests.{ends_with_test, RowHolds}
 use Rattle.isl_eval.specs.Listed.{IsListed}
 
@@ -62,9 +63,11 @@ Does before (Show expr) after answer = (after.state ≡ before.state) × Shows b
 Does before (Bind name expr) after answer = ((kept : Kept) × Keeps before expr kept × Binds before.state name kept after.state)
     × (answer ≡ nothing)
 
--- From one moment a simple statement leads to another, with this answer. Units alone were used.
+-- From one moment a simple statement leads to another, with this answer. No operation in it forms a space that is too wide, and units
+-- alone were used.
 pub record Step (before : Moment) (stmt : Stmt) (after : Moment) (answer : Answer) : Type 0 where
   pub does : Does before stmt after answer
+  pub narrow : ¬ FormsTooWide before.state stmt
   pub meter : IsCharged before.meter after.meter
   pub at : after.at ≡ before.at
 

@@ -5,8 +5,9 @@ use Rattle.isl_space.specs.Element.{Element}
 use Rattle.isl_expr.specs.declared.tree.Binary.{Binary}
 use Rattle.isl_expr.specs.declared.tree.Binary.TheVariants as b
 use Rattle.isl_expr.specs.declared.tree.Expr.{Row_of-Expr, Row_of-Link, end_of-Link, more_of-Link}
+use Rattle.isl_operations.specs.Operations.{OperatorHas}
 use Rattle.isl_select.specs.State.{StateView, Everywhere}
-use Rattle.isl_select.specs.Selection.{Selects, SelectsIn, JoinHas}
+use Rattle.isl_select.specs.Selection.{Selects, SelectsIn}
 
 abbrev pub is_test : Binary → Bool
 is_test b.Equal = true
@@ -45,7 +46,7 @@ HoldsPastLinks state Left end_of-Link = ⊥
 HoldsPastLinks state Left (more_of-Link operator operand end_of-Link) =
     TestHolds state operator Left (λ valuation element. Selects state operand valuation element)
 HoldsPastLinks state Left (more_of-Link operator operand rest) =
-    HoldsPastLinks state (λ valuation x. JoinHas operator (Left valuation) (λ y. Selects state operand valuation y) x) rest
+    HoldsPastLinks state (λ valuation x. OperatorHas operator (Left valuation) (λ y. Selects state operand valuation y) x) rest
 
 abbrev pub RowHolds : {m n : _} → StateView → Row_of-Expr m → Row_of-Link n → Type 0
 RowHolds state first links = HoldsPastLinks state (λ valuation x. SelectsIn state first valuation x) links

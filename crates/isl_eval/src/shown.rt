@@ -11,15 +11,17 @@ ghost use Rattle.isl_expr.specs.declared.tree.Stmt.TheVariants as s;
 ghost use Rattle.isl_expr.specs.declared.tree.ValueKind.{ValueKind};
 ghost use Rattle.isl_kinds.specs.Parts.{parts_of};
 ghost use Rattle.isl_kinds.specs.Typed.{kind_of};
+ghost use Rattle.isl_simple.specs.Flat.{is_sample};
 ghost use Rattle.isl_select.specs.State.{Moment, scope_of, Fits};
-ghost use Rattle.isl_select.specs.Made.{IsPaid, IsReady, IsWhyUnmade, refusal_of_cut, uses_units};
+ghost use Rattle.isl_select.specs.Made.{IsPaid, IsReady, IsWhyUnworked, refusal_of_cut, uses_units};
+ghost use Rattle.isl_select.specs.Formed.{IsTooWide};
 ghost use Rattle.isl_select.specs.Selection.{Selects};
 ghost use Rattle.isl_eval.specs.Listed.{AreFinite, IsListed};
 ghost use Rattle.isl_eval.specs.Machine.{Shows, ShowsValue, listed, shown, told};
 ghost use Rattle.isl_eval.specs.Evaluated.{IsEvaluable, IsWhyEnded};
 ghost use Rattle.isl_eval.specs.Tests.{TestHolds};
 ghost use Rattle.isl_eval.specs.Evaluation as spec;
-ghost use Rattle.isl_eval.specs.Evaluation.{IsKeptOf, IsMakeable, IsReadyTest, IsSampled, answer_of, past_row};
+ghost use Rattle.isl_eval.specs.Evaluation.{IsKeptOf, IsMakeable, IsReadyTest, IsSampled, IsTooWideTest, answer_of, past_row};
 
 use crate::step::Tally;
 use crate::test::{ends_with_test, tested};
@@ -135,12 +137,13 @@ fn listed(
 ) -> Result<Line, Refusal>
     requires ready { IsReady (scope_of state.now) operand.now }
     requires fits { Fits (limit_of meter.old) state.now }
-    ensures { MatchResult result
+    ensures made { MatchResult result
         (λ line. ((elements : List Element) × IsListed (λ element. Selects state.now operand.now at.now element) elements
         × (answer_of line ≡ listed elements)) × IsCharged meter.old meter.new)
-        (λ refusal. IsWhyUnmade true meter.old meter.new refusal
-        ⊎ ((refusal ≡ Unbounded) × (¬ AreFinite (λ element. Selects state.now operand.now at.now element))
-        × IsCharged meter.old meter.new)) }
+        (λ refusal. IsWhyUnworked true (IsTooWide state.now operand.now) meter.old meter.new refusal
+        ⊎ ((refusal ≡ Unbounded) × ((¬ AreFinite (λ element. Selects state.now operand.now at.now element))
+        × (¬ IsTooWide state.now operand.now)) × IsCharged meter.old meter.new)) }
+    ensures narrow { IfOk result (λ _. ¬ IsTooWide state.now operand.now) }
 {
     let value = value_of(alloc, operand, state, meter)?;
     let numbers = numbers_of(alloc, value.params(), at)?;
@@ -159,9 +162,10 @@ fn sampled(
 ) -> Result<Rc<Value>, Refusal>
     requires ready { IsReady (scope_of state.now) operand.now }
     requires fits { Fits (limit_of meter.old) state.now }
-    ensures { MatchResult result
+    ensures made { MatchResult result
         (λ value. IsSampled state.now operand.now (unsigned_abs (limit_of meter.old)) value.value × IsCharged meter.old meter.new)
-        (IsWhyUnmade true meter.old meter.new) }
+        (IsWhyUnworked true (IsTooWide state.now operand.now) meter.old meter.new) }
+    ensures narrow { IfOk result (λ _. ¬ IsTooWide state.now operand.now) }
 {
     let value = value_of(alloc, operand, state, meter)?;
     match value.sample(alloc, meter) {
@@ -180,12 +184,19 @@ fn selected(
 ) -> Result<Rc<Value>, Refusal>
     requires ready { IsReady (scope_of state.now) expr.now }
     requires fits { Fits (limit_of meter.old) state.now }
-    ensures { MatchResult result
+    ensures made { MatchResult result
         (λ value. IsKeptOf state.now (limit_of meter.old) expr.now value.value
         × IsPaid (list_any uses_units (parts_of expr.now)) meter.old meter.new)
-        (IsWhyUnmade (list_any uses_units (parts_of expr.now)) meter.old meter.new) }
+        (IsWhyUnworked (list_any uses_units (parts_of expr.now)) (IsTooWide state.now expr.now) meter.old meter.new) }
+    ensures narrow { IfOk result (λ _. ¬ IsTooWide state.now expr.now) }
 {
     value_of(alloc, expr, state, meter)
+}
+
+fn is_sample(word: Prefix) -> bool
+    ensures { result ≡ is_sample word }
+{
+    matches!(word, Prefix::Sample)
 }
 
 /// What is kept of an expression: of `sample` a value of one element, which is chosen once; else what it selects.
@@ -197,13 +208,16 @@ pub(crate) fn content(
 ) -> Result<Rc<Value>, Refusal>
     requires makeable { IsMakeable (scope_of state.now) expr.now }
     requires fits { Fits (limit_of meter.old) state.now }
-    ensures { MatchResult result
+    ensures made { MatchResult result
         (λ value. IsKeptOf state.now (limit_of meter.old) expr.now value.value
         × IsPaid (list_any uses_units (parts_of expr.now)) meter.old meter.new)
-        (IsWhyUnmade (list_any uses_units (parts_of expr.now)) meter.old meter.new) }
+        (IsWhyUnworked (list_any uses_units (parts_of expr.now)) (IsTooWide state.now expr.now) meter.old meter.new) }
+    ensures narrow { IfOk result (λ _. ¬ IsTooWide state.now expr.now) }
 {
     match expr {
-        Expr::Prefix(_, operand) => sampled(alloc, operand.get(), state, meter),
+        Expr::Prefix(word, operand) if is_sample(*word) => {
+            sampled(alloc, operand.get(), state, meter)
+        }
         _ => selected(alloc, expr, state, meter),
     }
 }
@@ -218,11 +232,12 @@ fn value_shown(
     requires makeable { IsMakeable (scope_of state.now) expr.now }
     requires kind { (kind : ValueKind) × (kind_of (scope_of state.now) expr.now ≡ Some kind) }
     requires fits { Fits (limit_of meter.old) state.now }
-    ensures { MatchResult result
+    ensures made { MatchResult result
         (λ line. ((before : Moment) → before.state ≡ state.now → limit_of before.meter ≡ limit_of meter.old
         → ShowsValue before expr.now (answer_of line))
         × IsPaid (list_any uses_units (parts_of expr.now)) meter.old meter.new)
-        (IsWhyUnmade (list_any uses_units (parts_of expr.now)) meter.old meter.new) }
+        (IsWhyUnworked (list_any uses_units (parts_of expr.now)) (IsTooWide state.now expr.now) meter.old meter.new) }
+    ensures narrow { IfOk result (λ _. ¬ IsTooWide state.now expr.now) }
 {
     let value = content(alloc, expr, state, meter)?;
     Ok(Line::of_value(alloc, &value)?)
@@ -239,10 +254,11 @@ fn truth_shown(
 ) -> Result<Line, Refusal>
     requires ready { IsReadyTest (scope_of state.now) first.now before.now last.now }
     requires fits { Fits (limit_of meter.old) state.now }
-    ensures { MatchResult result
+    ensures made { MatchResult result
         (λ line. ((holds : Bool) × (IsTrue holds ↔ TestHolds state.now last.now.operator (past_row state.now first.now before.now)
         (Selects state.now last.now.operand)) × (answer_of line ≡ told holds)) × IsCharged meter.old meter.new)
-        (IsWhyUnmade true meter.old meter.new) }
+        (IsWhyUnworked true (IsTooWideTest state.now first.now before.now last.now) meter.old meter.new) }
+    ensures narrow { IfOk result (λ _. ¬ IsTooWideTest state.now first.now before.now last.now) }
 {
     let holds = tested(alloc, first, before, last, state, meter)?;
     Ok(Line::of_truth(alloc, holds)?)
@@ -271,10 +287,11 @@ fn asked_shown(
     requires asked { spec.is_asked expr.now ≡ true }
     requires evaluable { IsEvaluable (scope_of state.now) (s.Show expr.now) }
     requires fits { Fits (limit_of meter.old) state.now }
-    ensures { MatchResult result
+    ensures made { MatchResult result
         (λ line. Shows (record { state = state.now; meter = meter.old; at = at.now }) expr.now (answer_of line)
         × IsPaid (list_any uses_units (parts_of expr.now)) meter.old meter.new)
         (IsWhyEnded (record { state = state.now; meter = meter.old; at = at.now }) (s.Show expr.now) meter.new) }
+    ensures narrow { IfOk result (λ _. ¬ IsTooWide state.now expr.now) }
 {
     match expr {
         Expr::Prefix(_, operand) => listed(alloc, operand.get(), state, at, meter),
@@ -296,10 +313,11 @@ pub(crate) fn shown(
 ) -> Result<Line, Refusal>
     requires evaluable { IsEvaluable (scope_of state.now) (s.Show expr.now) }
     requires fits { Fits (limit_of meter.old) state.now }
-    ensures { MatchResult result
+    ensures made { MatchResult result
         (λ line. Shows (record { state = state.now; meter = meter.old; at = at.now }) expr.now (answer_of line)
         × IsPaid (list_any uses_units (parts_of expr.now)) meter.old meter.new)
         (IsWhyEnded (record { state = state.now; meter = meter.old; at = at.now }) (s.Show expr.now) meter.new) }
+    ensures narrow { IfOk result (λ _. ¬ IsTooWide state.now expr.now) }
 {
     if is_asked(expr) {
         asked_shown(alloc, expr, state, at, meter)

@@ -10,7 +10,8 @@ ghost use Rattle.isl_kinds.specs.Parts.{parts_of};
 ghost use Rattle.isl_kinds.specs.Typed.{is_dollar};
 ghost use Rattle.isl_spelled.specs.Names.{binds_dollar};
 ghost use Rattle.isl_select.specs.State.{Binds, Kept as KeptView, Moment, forgotten, scope_of, Fits, IsSettled};
-ghost use Rattle.isl_select.specs.Made.{IsPaid, IsWhyUnmade, uses_units};
+ghost use Rattle.isl_select.specs.Made.{IsPaid, IsWhyUnworked, uses_units};
+ghost use Rattle.isl_select.specs.Formed.{FormsTooWide};
 ghost use Rattle.isl_select.specs.Selection.{Keeps};
 ghost use Rattle.isl_eval.specs.Machine.{Answer, Step};
 ghost use Rattle.isl_eval.specs.Evaluated.{IsEvaluable, IsWhyEnded, works};
@@ -42,7 +43,9 @@ fn bound(
         (λ _. ((before : Moment) → before.state ≡ state.old → limit_of before.meter ≡ limit_of meter.old
         → (kept : KeptView) × Keeps before expr.now kept × Binds state.old name.now kept state.new)
         × IsPaid (works stmt.now) meter.old meter.new)
-        (λ refusal. IsWhyUnmade (works stmt.now) meter.old meter.new refusal × (state.new ≡ state.old)) }
+        (λ refusal. IsWhyUnworked (works stmt.now) (FormsTooWide state.old stmt.now) meter.old meter.new refusal
+        × (state.new ≡ state.old)) }
+    ensures narrow { OnOk result (¬ FormsTooWide state.old stmt.now) }
     ensures dollar { OnOk result (is_dollar name.now ≡ true → forgotten state.new ≡ forgotten state.old) }
     ensures settled { OnOk result (is_dollar name.now ≡ false → IsSettled state.old → IsSettled state.new) }
 {
@@ -63,7 +66,8 @@ fn bound(
 /// leaves what is bound. (the iscc chapter of the barvinok manual)
 ///
 /// # Errors
-/// `Overflow` and `Budget` where the meter counted them; `Unbounded` where infinitely many elements are to be listed; and `NoMemory`.
+/// `TooWide` where an operation in it forms a space that is too wide; `Unbounded` where infinitely many elements are to be listed;
+/// `Overflow` and `Budget` where the meter counted them; and `NoMemory`.
 pub fn eval(
     alloc: Global,
     state: &mut State,

@@ -106,8 +106,9 @@ fn forget_after(state: &mut State, statements: &[SimpleStmt])
 /// leaves what is bound. (the iscc chapter of the barvinok manual)
 ///
 /// # Errors
-/// The refusal of the first cause that the bytes have, as the table of causes lists them; `Unbounded` where infinitely many elements
-/// are to be listed; `Overflow` and `Budget` only where the meter counted them; and `NoMemory`.
+/// The refusal of the first cause that the bytes have, as the table of causes lists them; where they have none, `TooWide` where an
+/// operation forms a space that is too wide, and `Unbounded` where infinitely many elements are to be listed; `Overflow` and `Budget`
+/// only where the meter counted them; and `NoMemory`.
 pub fn answer(
     alloc: Global,
     bytes: &[u8],

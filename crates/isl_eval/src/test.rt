@@ -8,10 +8,10 @@ ghost use Rattle.isl_union.specs.Compare.{AreEqual, IsSubset};
 ghost use Rattle.isl_union.specs.KeptValue.{Has};
 ghost use Rattle.isl_union.specs.Numbers.{IsWithinLimit};
 ghost use Rattle.isl_select.specs.State.{StateView, scope_of, Fits};
-ghost use Rattle.isl_select.specs.Made.{IsWhyUnmade};
+ghost use Rattle.isl_select.specs.Made.{IsWhyUnworked};
 ghost use Rattle.isl_select.specs.Selection.{Selects};
 ghost use Rattle.isl_eval.specs.Tests.{is_test, TestHolds};
-ghost use Rattle.isl_eval.specs.Evaluation.{ends_with_test, IsReadyTest, past_row};
+ghost use Rattle.isl_eval.specs.Evaluation.{ends_with_test, IsReadyTest, IsTooWideTest, past_row};
 
 use crate::shown::refusal_of;
 use isl_expr::tree::{Binary, Expr, Link};
@@ -132,11 +132,12 @@ pub(crate) fn tested(
 ) -> Result<bool, Refusal>
     requires ready { IsReadyTest (scope_of state.now) first.now before.now last.now }
     requires fits { Fits (limit_of meter.old) state.now }
-    ensures { MatchResult result
+    ensures made { MatchResult result
         (λ holds. (IsTrue holds ↔ TestHolds state.now last.now.operator (past_row state.now first.now before.now)
         (Selects state.now last.now.operand))
         × IsCharged meter.old meter.new)
-        (IsWhyUnmade true meter.old meter.new) }
+        (IsWhyUnworked true (IsTooWideTest state.now first.now before.now last.now) meter.old meter.new) }
+    ensures narrow { IfOk result (λ _. ¬ IsTooWideTest state.now first.now before.now last.now) }
 {
     let left = value_of(alloc, first, state, meter)?;
     let left = joined_past(alloc, left, before, state, meter)?;

@@ -9,7 +9,6 @@ ghost use Rattle.isl_eval.specs.Evaluation.{is_listing, names_of, IsWorkable, Is
 
 use isl_expr::tree::{Expr, Prefix, Stmt};
 use isl_kinds::{Scope, Typed, typed_statement};
-use isl_simple::mixes_kinds;
 use isl_space::Name;
 use isl_space::limits::MAX_PARAMETERS;
 use isl_text::refusal::Refusal;
@@ -70,9 +69,6 @@ pub(crate) fn check(
     ensures { MatchResult result (λ _. IsWorkable scope.now at.now stmt.now) (IsWhyUnworkable scope.now at.now stmt.now) }
 {
     let typed = typed_statement(alloc, stmt, scope)?;
-    if mixes_kinds(stmt, scope) {
-        return Err(Refusal::Syntax);
-    }
     let declared = declared_by(&typed);
     if is_parametric(stmt, declared, at) {
         return Err(Refusal::Parametric);

@@ -3,7 +3,7 @@ use Rattle.std.proofs.Common.{◌≡◌, ℕ, ◌<◌, List, [], ◌∷◌, true
 use Rattle.isl_meter.specs.Gauge.{Gauge, IsKept}
 use Rattle.isl_stmt.specs.Script.{ends}
 use Rattle.isl_text.specs.declared.refusal.Refusal.{Refusal}
-use Rattle.isl_text.specs.declared.refusal.Refusal.TheVariants.{Overflow, Budget, NoMemory, Unbounded}
+use Rattle.isl_text.specs.declared.refusal.Refusal.TheVariants.{Overflow, Budget, NoMemory, TooWide, Unbounded}
 use Rattle.isl_select.specs.State.{Moment}
 use Rattle.isl_eval.specs.Causes as c
 use Rattle.isl_eval.specs.Causes.{Cause, FirstGives, Refuses, causes, refusal_of}
@@ -23,7 +23,6 @@ place_of_cause c.unsupported = refl
 place_of_cause c.unknown_name = refl
 place_of_cause c.wrong_kind = refl
 place_of_cause c.no_element = refl
-place_of_cause c.mixed_kinds = refl
 place_of_cause c.parametric = refl
 place_of_cause c.wide_join = refl
 
@@ -37,6 +36,7 @@ pub breaks_in_statement : (refusal : Refusal) (view : View) (byte : ℕ) (now : 
 breaks_in_statement Overflow view byte now room ended cause = (room, ended, cause)
 breaks_in_statement Budget view byte now room ended cause = (room, ended, cause)
 breaks_in_statement NoMemory view byte now room ended cause = (room, inl (ended, cause))
+breaks_in_statement TooWide view byte now room ended cause = (room, ended, cause)
 breaks_in_statement Unbounded view byte now room ended cause = (room, ended, cause)
 breaks_in_statement refusal view byte now room ended cause =
     subst (λ (p : Place). BreaksIn p view byte now refusal) (sym (place_of_first (c.IsThere (started (moment_of view)) view.rest) causes refusal cause.0)) (room, ended, cause)
@@ -47,6 +47,7 @@ pub meter_in_statement : (before : Moment) (bytes : List ℕ) (now : Gauge) (ref
 meter_in_statement before bytes now Overflow cause kept = kept
 meter_in_statement before bytes now Budget cause kept = kept
 meter_in_statement before bytes now NoMemory cause kept = cause.0
+meter_in_statement before bytes now TooWide cause kept = kept
 meter_in_statement before bytes now Unbounded cause kept = kept
 meter_in_statement before bytes now refusal cause kept =
     subst (λ (p : Place). IsMeterAt p before.meter now) (sym (place_of_first (c.IsThere (started before) bytes) causes refusal cause.0)) kept

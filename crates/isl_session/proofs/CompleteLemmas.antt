@@ -9,7 +9,8 @@ use Rattle.isl_meter.specs.Gauge.{Gauge}
 use Rattle.isl_stmt.specs.Script.{statements, rest_of, readable, next_part}
 use Rattle.isl_stmt.proofs.ScriptLaws.{next_part-long, rest-append, statements-append}
 use Rattle.isl_text.specs.declared.refusal.Refusal.{Refusal}
-use Rattle.isl_text.specs.declared.refusal.Refusal.TheVariants.{Usage, TooLong, Unfinished, Overflow, Budget, ReadFault, WriteFault, NoMemory, ScriptTooLong, Unbounded}
+use Rattle.isl_text.specs.declared.refusal.Refusal.TheVariants.{Usage, TooLong, Unfinished, Overflow, Budget, ReadFault, WriteFault}
+use Rattle.isl_text.specs.declared.refusal.Refusal.TheVariants.{NoMemory, ScriptTooLong, TooWide, Unbounded}
 use Rattle.isl_select.specs.State.{Moment}
 use Rattle.isl_eval.specs.Causes.{Cause, FirstGives, IsThere, IsValid, NoneIs, Refuses, causes}
 use Rattle.isl_eval.specs.Run.{started}
@@ -47,6 +48,9 @@ no_cause before bytes now valid no_overflow no_spent NoMemory cause = refl
 no_cause before bytes now valid no_overflow no_spent Overflow cause = absurd (no_overflow cause.2.cause.0)
 no_cause before bytes now valid no_overflow no_spent Budget cause = absurd (no_spent cause.2.cause.1)
 no_cause before bytes now valid no_overflow no_spent Unbounded cause = absurd (valid.bounded cause.1)
+no_cause before bytes now valid no_overflow no_spent TooWide (inl cause) =
+    absurd (no_first (IsThere before bytes) causes TooWide valid.clear cause.0)
+no_cause before bytes now valid no_overflow no_spent TooWide (inr cause) = absurd (valid.narrow cause.1)
 no_cause before bytes now valid no_overflow no_spent refusal cause = absurd (no_first (IsThere before bytes) causes refusal valid.clear cause.0)
 
 -- the same, where statements that were answered raised no count

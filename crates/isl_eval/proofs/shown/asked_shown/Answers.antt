@@ -1,23 +1,27 @@
-use Rattle.std.proofs.Common.{inl, refl, sym}
+use Rattle.std.proofs.Common.{inl, refl, subst, sym}
+use Rattle.std.proofs.lemmas.Result.{IfOk-weaker}
 use Rattle.isl_select.specs.State.{scope_of}
+use Rattle.isl_select.specs.Formed.{IsTooWide}
 use Rattle.isl_select.proofs.ValueLaws.{match_map}
-use Rattle.isl_eval.specs.Evaluation.{answer_of}
+use Rattle.isl_eval.specs.Evaluation.{IsTooWideTest, answer_of}
 use Rattle.isl_eval.proofs.TestLaws.{shows_test}
 use Rattle.isl_eval.proofs.ShownLaws.{asked_none, asked_scan, asked_test, moment_of, paid_working}
-use Rattle.isl_eval.proofs.ShownLaws.{row_is, scan_ended, scan_ready, scan_shows, scan_works}
-use Rattle.isl_eval.proofs.ShownLaws.{test_ready, test_works, unmade_working}
+use Rattle.isl_eval.proofs.ShownLaws.{row_is, scan_ended, scan_narrow, scan_ready, scan_shows, scan_works}
+use Rattle.isl_eval.proofs.ShownLaws.{test_ready, test_works, unworked_working}
+use Rattle.isl_eval.proofs.WideLaws.{test_formed, test_wide}
 use Rattle.isl_eval.proofs.shown.asked_shown.Goals as goal
 
 pub listed-requires-clause-ready : goal.listed-requires-clause-ready
 listed-requires-clause-ready c =
-    scan_ready (scope_of c.args.state.now) c.args.expr.now c.in-Prefix.operand c.get.result.now _ c.in-Prefix.is
+    scan_ready (moment_of c.args.state.now c.args.meter.now c.args.at.now) c.args.expr.now c.in-Prefix.operand
+    c.get.result.now _ c.in-Prefix.is
     (asked_scan c.args.expr.now c.in-Prefix.operand _ c.in-Prefix.is c.requires.asked) c.get.ensures c.requires.evaluable
 
-pub returns-in-Prefix : goal.returns-in-Prefix
-returns-in-Prefix c =
+pub returns-in-Prefix-clause-made : goal.returns-in-Prefix-clause-made
+returns-in-Prefix-clause-made c =
     let before = moment_of c.args.state.now c.args.meter.now c.args.at.now in
     let which = asked_scan c.args.expr.now c.in-Prefix.operand _ c.in-Prefix.is c.requires.asked in
-    let works = scan_works (scope_of c.args.state.now) c.args.expr.now c.in-Prefix.operand c.get.result.now _ c.in-Prefix.is which
+    let works = scan_works before c.args.expr.now c.in-Prefix.operand c.get.result.now _ c.in-Prefix.is which
     c.get.ensures in
     match_map c.listed.result _ _ _ _
     (λ line h. (
@@ -26,7 +30,15 @@ returns-in-Prefix c =
     ))
     (λ refusal h. scan_ended before c.args.expr.now c.in-Prefix.operand c.get.result.now _ c.in-Prefix.is which c.get.ensures
     c.listed.new.meter refusal h)
-    c.listed.ensures
+    c.listed.ensures.made
+
+pub returns-in-Prefix-clause-narrow : goal.returns-in-Prefix-clause-narrow
+returns-in-Prefix-clause-narrow c =
+    let before = moment_of c.args.state.now c.args.meter.now c.args.at.now in
+    let which = asked_scan c.args.expr.now c.in-Prefix.operand _ c.in-Prefix.is c.requires.asked in
+    IfOk-weaker c.listed.result _ _
+    (λ line narrow. scan_narrow before c.args.expr.now c.in-Prefix.operand c.get.result.now _ c.in-Prefix.is which c.get.ensures narrow)
+    c.listed.ensures.narrow
 
 pub truth_shown-requires-clause-ready : goal.truth_shown-requires-clause-ready
 truth_shown-requires-clause-ready c =
@@ -37,8 +49,8 @@ truth_shown-requires-clause-ready c =
     c.in-Some.ensures.cases.0
     c.requires.asked) c.requires.evaluable
 
-pub returns-in-Some : goal.returns-in-Some
-returns-in-Some c =
+pub returns-in-Some-clause-made : goal.returns-in-Some-clause-made
+returns-in-Some-clause-made c =
     let before = moment_of c.args.state.now c.args.meter.now c.args.at.now in
     let test = asked_test c.args.expr.now _ _ c.as_slice.result.now c.in-Some.before.now c.in-Some.last.now c.in-Row.is c.as_slice.ensures
     c.in-Some.ensures.cases.0 c.requires.asked in
@@ -53,7 +65,21 @@ returns-in-Some c =
           h.0.1 h.0.2,
       paid_working _ c.args.meter.now c.truth_shown.new.meter works h.1,
     ))
-    (λ refusal h. inl (unmade_working _ c.args.meter.now c.truth_shown.new.meter refusal works h)) c.truth_shown.ensures
+    (λ refusal h. inl (unworked_working _
+    (IsTooWideTest c.args.state.now c.get-in-Some.result.now c.in-Some.before.now c.in-Some.last.now)
+    (IsTooWide c.args.state.now c.args.expr.now) c.args.meter.now c.truth_shown.new.meter refusal works
+    (λ wide. subst (IsTooWide c.args.state.now) (sym row)
+    (test_wide c.args.state.now c.get-in-Some.result.now c.in-Some.before.now c.in-Some.last.now wide)) h)) c.truth_shown.ensures.made
+
+pub returns-in-Some-clause-narrow : goal.returns-in-Some-clause-narrow
+returns-in-Some-clause-narrow c =
+    let test = asked_test c.args.expr.now _ _ c.as_slice.result.now c.in-Some.before.now c.in-Some.last.now c.in-Row.is c.as_slice.ensures
+    c.in-Some.ensures.cases.0 c.requires.asked in
+    let row = row_is c.args.expr.now _ c.get-in-Some.result.now _ c.as_slice.result.now c.in-Some.before.now c.in-Some.last.now c.in-Row.is
+    c.get-in-Some.ensures c.as_slice.ensures c.in-Some.ensures.cases.0 in
+    IfOk-weaker c.truth_shown.result _ _
+    (λ line narrow wide. narrow (test_formed c.args.state.now c.get-in-Some.result.now c.in-Some.before.now c.in-Some.last.now (sym test)
+    (subst (IsTooWide c.args.state.now) row wide))) c.truth_shown.ensures.narrow
 
 pub unreachable-requires : goal.unreachable-requires
 unreachable-requires c =

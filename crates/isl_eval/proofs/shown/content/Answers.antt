@@ -1,23 +1,37 @@
+use Rattle.std.proofs.Common.{◌∙◌, sym}
+use Rattle.std.proofs.lemmas.Result.{IfOk-weaker}
 use Rattle.isl_meter.specs.Gauge.{limit_of}
-use Rattle.isl_select.specs.State.{scope_of}
+use Rattle.isl_select.specs.Formed.{IsTooWide}
 use Rattle.isl_select.proofs.ValueLaws.{match_map}
-use Rattle.isl_eval.proofs.ShownLaws.{made_sample, sample_ready, sample_kept, sample_works, paid_working, unmade_working}
+use Rattle.isl_eval.proofs.ShownLaws.{paid_working, sample_kept, sample_narrow, sample_ready, sample_wide, sample_works, unworked_working}
+use Rattle.isl_eval.proofs.AskedLaws.{sample_word}
 use Rattle.isl_eval.proofs.shown.content.Goals as goal
 
 pub sampled-requires-clause-ready : goal.sampled-requires-clause-ready
 sampled-requires-clause-ready c =
-    sample_ready (scope_of c.args.state.now) c.args.expr.now c.in-Prefix.operand c.get.result.now _ c.in-Prefix.is
-    (made_sample c.args.expr.now c.in-Prefix.operand _ c.in-Prefix.is c.requires.makeable.plain) c.get.ensures c.requires.makeable
+    sample_ready c.args.state.now c.args.expr.now c.in-Prefix.operand c.get.result.now _
+    c.in-Prefix.is (sample_word c.in-Prefix.word (sym c.is_sample.ensures ∙ c.if-is_sample.true)) c.get.ensures c.requires.makeable
 
-pub returns-in-Prefix : goal.returns-in-Prefix
-returns-in-Prefix c =
-    let which = made_sample c.args.expr.now c.in-Prefix.operand _ c.in-Prefix.is c.requires.makeable.plain in
-    let works = sample_works (scope_of c.args.state.now) c.args.expr.now c.in-Prefix.operand c.get.result.now _ c.in-Prefix.is which
-    c.get.ensures in
+pub returns-in-Prefix-clause-made : goal.returns-in-Prefix-clause-made
+returns-in-Prefix-clause-made c =
+    let which = sample_word c.in-Prefix.word (sym c.is_sample.ensures ∙ c.if-is_sample.true) in
+    let works = sample_works c.args.state.now c.args.expr.now c.in-Prefix.operand c.get.result.now _
+    c.in-Prefix.is which c.get.ensures in
     match_map c.sampled.result _ _ _ _
     (λ value h. (
-      sample_kept c.args.state.now (limit_of c.args.meter.now) c.args.expr.now c.in-Prefix.operand c.get.result.now _ value.value
-          c.in-Prefix.is which c.get.ensures h.0,
+      sample_kept c.args.state.now c.args.expr.now c.in-Prefix.operand c.get.result.now _ c.in-Prefix.is which c.get.ensures
+          (limit_of c.args.meter.now) value.value h.0,
       paid_working _ c.args.meter.now c.sampled.new.meter works h.1,
     ))
-    (λ refusal h. unmade_working _ c.args.meter.now c.sampled.new.meter refusal works h) c.sampled.ensures
+    (λ refusal h. unworked_working _ (IsTooWide c.args.state.now c.get.result.now) (IsTooWide c.args.state.now c.args.expr.now)
+    c.args.meter.now c.sampled.new.meter refusal works
+    (sample_wide c.args.state.now c.args.expr.now c.in-Prefix.operand c.get.result.now _ c.in-Prefix.is which
+    c.get.ensures) h)
+    c.sampled.ensures.made
+
+pub returns-in-Prefix-clause-narrow : goal.returns-in-Prefix-clause-narrow
+returns-in-Prefix-clause-narrow c =
+    IfOk-weaker c.sampled.result _ _
+    (λ value. sample_narrow c.args.state.now c.args.expr.now c.in-Prefix.operand c.get.result.now _
+    c.in-Prefix.is (sample_word c.in-Prefix.word (sym c.is_sample.ensures ∙ c.if-is_sample.true)) c.get.ensures)
+    c.sampled.ensures.narrow

@@ -12,12 +12,12 @@ value_shown-requires-clause-makeable c =
 pub value_shown-requires-clause-kind : goal.value_shown-requires-clause-kind
 value_shown-requires-clause-kind c = shown_kind (scope_of c.args.state.now) c.args.expr.now c.requires.evaluable
 
-pub returns-else-is_asked : goal.returns-else-is_asked
-returns-else-is_asked c =
+pub returns-else-is_asked-clause-made : goal.returns-else-is_asked-clause-made
+returns-else-is_asked-clause-made c =
     let before = moment_of c.args.state.now c.args.meter.now c.args.at.now in
     match_map c.value_shown.result _ _ _ _
     (λ line h. (
       shows_value before c.args.expr.now (answer_of line) (sym c.is_asked.ensures ∙ c.if-is_asked.false) (h.0 before refl refl),
       h.1,
     ))
-    (λ refusal h. inl h) c.value_shown.ensures
+    (λ refusal h. inl h) c.value_shown.ensures.made

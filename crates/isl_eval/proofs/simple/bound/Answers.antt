@@ -18,14 +18,15 @@ new-requires c =
     c.in-Ok-Some.field-0 c.scope.ensures c.in-Ok-Some.ensures (search rules) in
     kept_plain c.args.state.now c.args.meter.now c.args.expr.now c.in_ok-value.value.value c.in_ok-value.value.value
     c.in-Ok-Some.typed.kind typed.kind
-    c.in_ok-value.ensures.0 refl
+    c.in_ok-value.ensures.made.0 refl
 
 pub bind-requires : goal.bind-requires
 bind-requires c =
     let typed = bind_type (scope_of c.args.state.now) c.scope.result.now c.args.stmt.now c.args.name.now c.args.expr.now c.requires.stmt
     c.in-Ok-Some.typed
     c.in-Ok-Some.field-0 c.scope.ensures c.in-Ok-Some.ensures (search rules) in
-    kept_type c.args.state.now c.args.meter.now c.args.expr.now c.in_ok-value.value.value c.in-Ok-Some.typed typed c.in_ok-value.ensures.0
+    kept_type c.args.state.now c.args.meter.now c.args.expr.now c.in_ok-value.value.value c.in-Ok-Some.typed typed
+    c.in_ok-value.ensures.made.0
     ∙ ap type_of (sym (kind_of_type c.in-Ok-Some.typed c.new.result c.in_ok-value.value.value c.kind.result c.new.ensures c.kind.ensures))
 
 pub returns-clause-made : goal.returns-clause-made
@@ -35,12 +36,12 @@ returns-clause-made c =
     c.in-Ok-Some.field-0 c.scope.ensures c.in-Ok-Some.ensures (search rules) in (
       (λ before here at. bound_kept before c.args.state.now c.bind.new.self
           (limit_of c.args.meter.now) c.args.name.now c.in_ok-name.name c.args.expr.now
-          c.in_ok-value.value.value c.in-Ok-Some.typed c.new.result here at typed c.in_ok-value.ensures.0
+          c.in_ok-value.value.value c.in-Ok-Some.typed c.new.result here at typed c.in_ok-value.ensures.made.0
           (kind_of_type c.in-Ok-Some.typed c.new.result c.in_ok-value.value.value c.kind.result c.new.ensures c.kind.ensures)
           c.in_ok-name.ensures
           c.in_ok-bind.ensures.ok),
       bind_paid c.args.stmt.now c.args.name.now c.args.expr.now c.args.meter.now c.content.new.meter c.requires.stmt
-          c.in_ok-value.ensures.1,
+          c.in_ok-value.ensures.made.1,
     )
 
 pub returns-clause-dollar : goal.returns-clause-dollar

@@ -2,8 +2,9 @@ use Rattle.std.proofs.Common.{◌<◌, ◌∷◌, ◌++◌, arith, length, refl,
 use Rattle.isl_select.specs.State.{scope_of}
 use Rattle.isl_eval.specs.Evaluation.{AreEvaluable}
 use Rattle.isl_eval.proofs.ShownLaws.{moment_of}
+use Rattle.isl_eval.proofs.TestLaws.{refused}
 use Rattle.isl_eval.proofs.StepLaws.{alone_settled, turn_alone, left_first, left_start, loop_first, loop_last}
-use Rattle.isl_eval.proofs.StepLaws.{loop_next, loop_stopped, residual_cause, stopped_last, answered_last}
+use Rattle.isl_eval.proofs.StepLaws.{loop_next, loop_stopped, stopped_last, answered_last}
 use Rattle.isl_eval.proofs.step.evaluate.Goals as goal
 
 pub loop-stmt-init : goal.loop-stmt-init
@@ -46,7 +47,7 @@ loop-stmt-preserved c =
 pub returns-in_err-eval-clause-cause : goal.returns-in_err-eval-clause-cause
 returns-in_err-eval-clause-cause c =
     let low : c.loop-stmt.stmt-index < length c.in-Some.others.now = omega arith in
-    residual_cause c.from_residual.result _ c.in_err-eval.field-0.0 (search rules)
+    refused c.from_residual.result _ _ c.in_err-eval.field-0.0 (search rules)
     (loop_stopped (moment_of c.args.state.now c.args.meter.now c.args.at.now)
     (moment_of c.loop-stmt.state c.loop-stmt.meter c.args.at.now) c.args.statements.now
     c.in-Some.others.now c.in-Some.last.now c.stmt-item.result c.loop-stmt.stmt-index c.eval.new.meter c.in_err-eval.field-0.0

@@ -1,4 +1,4 @@
-use Rattle.std.proofs.Common.{◌∙◌, sym, rules}
+use Rattle.std.proofs.Common.{rules}
 use Rattle.isl_eval.proofs.CheckLaws.{wide_why}
 use Rattle.isl_eval.proofs.workable.check.Goals as goal
 
@@ -6,5 +6,5 @@ pub returns-then-declared-gt-MAX_PARAMETERS : goal.returns-then-declared-gt-MAX_
 returns-then-declared-gt-MAX_PARAMETERS c =
     wide_why c.args.scope.now c.args.at.now c.args.stmt.now c.in_ok-typed.typed c.declared_by-declared.result.now c.in_ok-typed.ensures
     c.declared_by-declared.ensures
-    (sym c.mixes_kinds.ensures ∙ c.if-mixes_kinds.false) c.is_parametric.result c.is_parametric.ensures c.if-is_parametric.false
+    c.is_parametric.result c.is_parametric.ensures c.if-is_parametric.false
     (search rules)
