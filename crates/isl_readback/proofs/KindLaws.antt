@@ -17,54 +17,40 @@ use Rattle.isl_union.specs.KeptValue.{KeptPiece, KeptValue, Has, HasElement, IsK
 use Rattle.isl_union.specs.Compare.{IsEmpty}
 use Rattle.isl_union.specs.Sample.{IsSampleOf, only_piece}
 use Rattle.isl_union.proofs.CompareLaws.{valuation_at, element_at, element_is, point_at}
-use Rattle.isl_maps.specs.Inverse.{inverse_space, inverse_element}
 use Rattle.isl_tree.specs.declared.tree.PieceTree.{PieceTree}
 use Rattle.isl_tree.specs.declared.tree.Literal.{Literal}
 use Rattle.isl_tree.specs.declared.tree.Tuple.{Tuple}
 use Rattle.isl_tree.specs.Literal.{PieceHas, space_of_piece}
 use Rattle.isl_text.specs.Formed.{are_distinct, are_alike, are_sets, are_maps, piece_is_formed}
 use Rattle.isl_expr.specs.declared.tree.ValueKind.{ValueKind}
-use Rattle.isl_expr.specs.declared.tree.ValueKind.TheVariants.{Set, Map, List as Pair, Empty, Truth, Listing, Code}
-use Rattle.isl_expr.specs.declared.tree.Binary.{Binary}
-use Rattle.isl_expr.specs.declared.tree.Binary.TheVariants as b
+use Rattle.isl_expr.specs.declared.tree.ValueKind.TheVariants.{Set, Map}
 use Rattle.isl_expr.specs.declared.tree.Prefix.TheVariants as p
 use Rattle.isl_expr.specs.declared.tree.Postfix.{Postfix, Inverse, Apply, Item}
 use Rattle.isl_expr.specs.declared.tree.Expr as e
 use Rattle.isl_expr.specs.declared.tree.Expr.{Expr, Row', Prefix', Any', Last', Post', Row_of-Expr, end_of-Expr, more_of-Expr}
 use Rattle.isl_expr.specs.declared.tree.Expr.{Row_of-Link, end_of-Link, more_of-Link, Row_of-Postfix, end_of-Postfix, more_of-Postfix}
-use Rattle.isl_expr.specs.Expr.{literals_of, literals_in, literals_in_links, literals_in_postfixes}
-use Rattle.isl_kinds.specs.Lines.{joined, inverse, prefixed}
-use Rattle.isl_kinds.specs.Typed.{TypeView, ScopeView, by_two, kind_of_pieces, kind_of_image, kind_of, kind_in, kind_past_links, kind_past_postfixes, kind_past}
+use Rattle.isl_expr.specs.Expr.{literals_of, literals_in, literals_in_links, literals_in_postfixes, literals_in_postfix}
+use Rattle.isl_operations.specs.Operations.{OperatorHas}
+use Rattle.isl_kinds.specs.Lines.{joined, prefixed, item}
+use Rattle.isl_kinds.specs.Typed.{TypeView, by_two, kind_of_pieces, kind_of_image}
+use Rattle.isl_kinds.specs.Typed.{kind_of, kind_in, kind_past_links, kind_past_postfixes, kind_past}
 use Rattle.isl_select.specs.State.{Kept, StateView, kept_of, scope_of, type_of}
-use Rattle.isl_select.specs.Selection.{KeptHas, JoinHas, PostfixHas, Selects, SelectsIn, SelectsPastLinks, PastPostfixesHas}
-use Rattle.isl_select.specs.Selection.{IsContentOf, IsSelected, IsSelectedIn}
+use Rattle.isl_select.specs.Selection.{KeptHas, PostfixHas, Selects, SelectsIn, SelectsPastLinks, SelectsPastPostfixes}
+use Rattle.isl_select.specs.Selection.{IsContentOf, IsSelectedIn}
 use Rattle.isl_select.proofs.StateLaws.{bound_at}
 use Rattle.isl_select.proofs.PartLaws.{all_left, all_right}
 use Rattle.isl_eval.proofs.LiteralLaws.{IsSpelled}
 use Rattle.isl_readback.specs.Written.{IsSet, IsMap, IsUniform, IsSpaceOf, IsOfKind}
 use Rattle.isl_readback.specs.TakenAgain.{AreWritable}
+use Rattle.isl_readback.proofs.KindOfOperations.{AreOfKind, some_same, none_some, as_kind, no_element}
+use Rattle.isl_readback.proofs.KindOfOperations.{of_inverse, of_word, of_operator, of_application}
 
 -- ---- kinds
-some_same : (a b : ValueKind) → Some a ≡ Some b → a ≡ b
-some_same a b e = cc
-
-none_some : {A : Type 0} (k : ValueKind) → None ≡ Some k → A
-none_some k e = absurd (let f : None ≡ Some k = e in cc)
-
-as_kind : (space : SpaceForm) (made kind : ValueKind) → Some made ≡ Some kind → IsSpaceOf made space → IsSpaceOf kind space
-as_kind space made kind is lies = subst (λ (k : ValueKind). IsSpaceOf k space) (some_same made kind is) lies
-
 -- what is not without a space of its kind has one
 stable : (kind : ValueKind) (space : SpaceForm) → ¬ (¬ IsSpaceOf kind space) → IsSpaceOf kind space
 stable Set (set_of form) there = tt
-stable Set (map_of from to) there = absurd (there (λ h. h))
-stable Map (set_of form) there = absurd (there (λ h. h))
 stable Map (map_of from to) there = tt
-stable Empty space there = absurd (there (λ h. h))
-stable Pair space there = absurd (there (λ h. h))
-stable Truth space there = absurd (there (λ h. h))
-stable Listing space there = absurd (there (λ h. h))
-stable Code space there = absurd (there (λ h. h))
+stable kind space there = absurd (there (λ h. h))
 
 -- ---- the pieces of a value with elements in such spaces
 module _ (kind : ValueKind) where
@@ -148,154 +134,9 @@ module _ (params : List Name) (valuation : Valuation) (element : Element) where
 
 alike_of : (literal : Literal) → IsSpelled literal → are_alike literal.pieces ≡ true
 alike_of literal spelled =
-    let parts = and_parts (are_distinct literal.params && are_alike literal.pieces) (list_all (piece_is_formed literal.params) literal.pieces) spelled.formed in
+    let each = list_all (piece_is_formed literal.params) literal.pieces in
+    let parts = and_parts (are_distinct literal.params && are_alike literal.pieces) each spelled.formed in
     (and_parts (are_distinct literal.params) (are_alike literal.pieces) parts.0).1
-
--- ---- operators
-module _ (space : SpaceForm) where
-  of_union_left : (a c kind : ValueKind) → joined b.Union a c ≡ Some kind → IsSpaceOf a space → IsSpaceOf kind space
-  of_union_left Set Set kind is x = as_kind space Set kind is x
-  of_union_left Set Empty kind is x = as_kind space Set kind is x
-  of_union_left Set Map kind is x = none_some kind is
-  of_union_left Set Pair kind is x = none_some kind is
-  of_union_left Set Truth kind is x = none_some kind is
-  of_union_left Set Listing kind is x = none_some kind is
-  of_union_left Set Code kind is x = none_some kind is
-  of_union_left Map Set kind is x = none_some kind is
-  of_union_left Map Empty kind is x = as_kind space Map kind is x
-  of_union_left Map Map kind is x = as_kind space Map kind is x
-  of_union_left Map Pair kind is x = none_some kind is
-  of_union_left Map Truth kind is x = none_some kind is
-  of_union_left Map Listing kind is x = none_some kind is
-  of_union_left Map Code kind is x = none_some kind is
-  of_union_left Empty c kind is x = absurd x
-  of_union_left Pair c kind is x = absurd x
-  of_union_left Truth c kind is x = absurd x
-  of_union_left Listing c kind is x = absurd x
-  of_union_left Code c kind is x = absurd x
-
-  of_union_right : (a c kind : ValueKind) → joined b.Union a c ≡ Some kind → IsSpaceOf c space → IsSpaceOf kind space
-  of_union_right Set Set kind is x = as_kind space Set kind is x
-  of_union_right Empty Set kind is x = as_kind space Set kind is x
-  of_union_right Map Set kind is x = none_some kind is
-  of_union_right Pair Set kind is x = none_some kind is
-  of_union_right Truth Set kind is x = none_some kind is
-  of_union_right Listing Set kind is x = none_some kind is
-  of_union_right Code Set kind is x = none_some kind is
-  of_union_right Set Map kind is x = none_some kind is
-  of_union_right Empty Map kind is x = as_kind space Map kind is x
-  of_union_right Map Map kind is x = as_kind space Map kind is x
-  of_union_right Pair Map kind is x = none_some kind is
-  of_union_right Truth Map kind is x = none_some kind is
-  of_union_right Listing Map kind is x = none_some kind is
-  of_union_right Code Map kind is x = none_some kind is
-  of_union_right a Empty kind is x = absurd x
-  of_union_right a Pair kind is x = absurd x
-  of_union_right a Truth kind is x = absurd x
-  of_union_right a Listing kind is x = absurd x
-  of_union_right a Code kind is x = absurd x
-
-  of_meet : (a c kind : ValueKind) → joined b.Intersection a c ≡ Some kind → IsSpaceOf a space → IsSpaceOf c space → IsSpaceOf kind space
-  of_meet Set Set kind is x y = as_kind space Set kind is x
-  of_meet Set Map kind is x y = none_some kind is
-  of_meet Map Map kind is x y = as_kind space Map kind is x
-  of_meet Map Set kind is x y = as_kind space Map kind is x
-  of_meet Empty c kind is x y = absurd x
-  of_meet Pair c kind is x y = absurd x
-  of_meet Truth c kind is x y = absurd x
-  of_meet Listing c kind is x y = absurd x
-  of_meet Code c kind is x y = absurd x
-  of_meet Set Empty kind is x y = absurd y
-  of_meet Set Pair kind is x y = absurd y
-  of_meet Set Truth kind is x y = absurd y
-  of_meet Set Listing kind is x y = absurd y
-  of_meet Set Code kind is x y = absurd y
-  of_meet Map Empty kind is x y = absurd y
-  of_meet Map Pair kind is x y = absurd y
-  of_meet Map Truth kind is x y = absurd y
-  of_meet Map Listing kind is x y = absurd y
-  of_meet Map Code kind is x y = absurd y
-
-  of_difference : (a c kind : ValueKind) → joined b.Difference a c ≡ Some kind → IsSpaceOf a space → IsSpaceOf kind space
-  of_difference Set Set kind is x = as_kind space Set kind is x
-  of_difference Set Map kind is x = none_some kind is
-  of_difference Set Empty kind is x = as_kind space Set kind is x
-  of_difference Set Pair kind is x = none_some kind is
-  of_difference Set Truth kind is x = none_some kind is
-  of_difference Set Listing kind is x = none_some kind is
-  of_difference Set Code kind is x = none_some kind is
-  of_difference Map Set kind is x = as_kind space Map kind is x
-  of_difference Map Map kind is x = as_kind space Map kind is x
-  of_difference Map Empty kind is x = as_kind space Map kind is x
-  of_difference Map Pair kind is x = none_some kind is
-  of_difference Map Truth kind is x = none_some kind is
-  of_difference Map Listing kind is x = none_some kind is
-  of_difference Map Code kind is x = none_some kind is
-  of_difference Empty c kind is x = absurd x
-  of_difference Pair c kind is x = absurd x
-  of_difference Truth c kind is x = absurd x
-  of_difference Listing c kind is x = absurd x
-  of_difference Code c kind is x = absurd x
-
-  turned_map : IsMap (inverse_space space) → IsMap space
-  turned_map lies = by space lies
-    where
-      by : (s : SpaceForm) → IsMap (inverse_space s) → IsMap s
-      by (set_of form) h = h
-      by (map_of from to) h = tt
-
-  of_inverse : (a kind : ValueKind) → inverse a ≡ Some kind → IsSpaceOf a (inverse_space space) → IsSpaceOf kind space
-  of_inverse Set kind is x = none_some kind is
-  of_inverse Map kind is x = as_kind space Map kind is (turned_map x)
-  of_inverse Empty kind is x = absurd x
-  of_inverse Pair kind is x = absurd x
-  of_inverse Truth kind is x = absurd x
-  of_inverse Listing kind is x = absurd x
-  of_inverse Code kind is x = absurd x
-
--- the elements are in spaces of this kind, if there is one
-pub record AreIn (P : Element → Type 0) (o : Option ValueKind) : Type 1 where
-  pub lies : (kind : ValueKind) (element : Element) → o ≡ Some kind → P element → IsSpaceOf kind element.space
-
-module _ (Left Right : Element → Type 0) where
-  join_kind : (sign : Binary) (a c kind : ValueKind) (element : Element) → joined sign a c ≡ Some kind
-      → (Left element → IsSpaceOf a element.space) → (Right element → IsSpaceOf c element.space)
-      → JoinHas sign Left Right element → IsSpaceOf kind element.space
-  join_kind b.Union a c kind element is x y (inl h) = of_union_left element.space a c kind is (x h)
-  join_kind b.Union a c kind element is x y (inr h) = of_union_right element.space a c kind is (y h)
-  join_kind b.Intersection a c kind element is x y has = of_meet element.space a c kind is (x has.0) (y has.1)
-  join_kind b.Difference a c kind element is x y has = of_difference element.space a c kind is (x has.0)
-  join_kind b.RangeDifference a c kind element is x y has = absurd has
-  join_kind b.RangeIntersection a c kind element is x y has = absurd has
-  join_kind b.Gist a c kind element is x y has = absurd has
-  join_kind b.Cross a c kind element is x y has = absurd has
-  join_kind b.Join a c kind element is x y has = absurd has
-  join_kind b.Universal a c kind element is x y has = absurd has
-  join_kind b.LexLess a c kind element is x y has = absurd has
-  join_kind b.LexLessEqual a c kind element is x y has = absurd has
-  join_kind b.LexGreater a c kind element is x y has = absurd has
-  join_kind b.LexGreaterEqual a c kind element is x y has = absurd has
-  join_kind b.Equal a c kind element is x y has = absurd has
-  join_kind b.ProperSubset a c kind element is x y has = absurd has
-  join_kind b.Subset a c kind element is x y has = absurd has
-  join_kind b.ProperSuperset a c kind element is x y has = absurd has
-  join_kind b.Superset a c kind element is x y has = absurd has
-
-  both_kind : (sign : Binary) (o p : Option ValueKind) → AreIn Left o → AreIn Right p → AreIn (λ x. JoinHas sign Left Right x) (by_two (joined sign) o p)
-  both_kind sign None p left right = record { lies = λ kind element is has. none_some kind is }
-  both_kind sign (Some a) None left right = record { lies = λ kind element is has. none_some kind is }
-  both_kind sign (Some a) (Some c) left right = record {
-    lies = λ kind element is has. join_kind sign a c kind element is (left.lies a element refl) (right.lies c element refl) has;
-  }
-
-followed_kind : (scope : ScopeView) (Left : Element → Type 0) (postfix : Postfix) (o : Option ValueKind) → AreIn Left o
-    → AreIn (λ x. PostfixHas postfix Left x) (kind_past scope o postfix)
-followed_kind scope Left Inverse None left = record { lies = λ kind element is has. none_some kind is }
-followed_kind scope Left Inverse (Some a) left = record {
-  lies = λ kind element is has. of_inverse element.space a kind is (left.lies a (inverse_element element) refl has);
-}
-followed_kind scope Left (Apply argument) o left = record { lies = λ kind element is has. absurd has }
-followed_kind scope Left (Item number) o left = record { lies = λ kind element is has. absurd has }
 
 -- ---- expressions
 module _ (state : StateView) (valuation : Valuation) (all : AreWritable state) where
@@ -313,64 +154,75 @@ module _ (state : StateView) (valuation : Valuation) (all : AreWritable state) w
 
   mutual
     pub selected_kind : (expr : Expr) → All IsSpelled (literals_of expr)
-        → AreIn (λ x. Selects state expr valuation x) (kind_of (scope_of state) expr)
-    selected_kind (e.Name name) spelled = record { lies = λ kind element is has. named_kind name kind element is has }
+        → AreOfKind (λ x. Selects state expr valuation x) (kind_of (scope_of state) expr)
+    selected_kind (e.Name name) spelled = record { lies = λ kind is element has. named_kind name kind element is has }
     selected_kind (e.Literal literal) spelled = record {
-      lies = λ kind element is has. as_kind element.space (kind_of_pieces literal.pieces) kind is
+      lies = λ kind is element has. as_kind element.space (kind_of_pieces literal.pieces) kind is
           (in_pieces literal.params valuation element literal.pieces (alike_of literal (All-head IsSpelled literal [] spelled)) has);
     }
     selected_kind (Row' s first t links) spelled =
         links_kind _ (λ x. SelectsIn state first valuation x) (kind_in (scope_of state) first) links
         (in_kind _ first (all_left IsSpelled (literals_in first) (literals_in_links links) spelled))
         (all_right IsSpelled (literals_in first) (literals_in_links links) spelled)
-    selected_kind (Prefix' word s operand) spelled = record { lies = λ kind element is has. absurd has }
-    selected_kind (Any' p source s sink t schedule) spelled = record { lies = λ kind element is has. absurd has }
-    selected_kind (Last' p source s sink t schedule) spelled = record { lies = λ kind element is has. absurd has }
+    selected_kind (Prefix' word s operand) spelled =
+        of_word word (λ x. SelectsIn state operand valuation x) (kind_in (scope_of state) operand) (in_kind _ operand spelled)
+    selected_kind (Any' p source s sink t schedule) spelled = no_element (kind_of (scope_of state) (Any' p source s sink t schedule))
+    selected_kind (Last' p source s sink t schedule) spelled = no_element (kind_of (scope_of state) (Last' p source s sink t schedule))
     selected_kind (Post' s operand t postfixes) spelled =
         postfixes_kind _ (λ x. SelectsIn state operand valuation x) (kind_in (scope_of state) operand) postfixes
         (in_kind _ operand (all_left IsSpelled (literals_in operand) (literals_in_postfixes postfixes) spelled))
+        (all_right IsSpelled (literals_in operand) (literals_in_postfixes postfixes) spelled)
 
     in_kind : (m : Count) (row : Row_of-Expr m) → All IsSpelled (literals_in row)
-        → AreIn (λ x. SelectsIn state row valuation x) (kind_in (scope_of state) row)
-    in_kind m end_of-Expr spelled = record { lies = λ kind element is has. absurd has }
+        → AreOfKind (λ x. SelectsIn state row valuation x) (kind_in (scope_of state) row)
+    in_kind m end_of-Expr spelled = no_element None
     in_kind m (more_of-Expr expr rest) spelled = record {
-      lies = λ kind element is has. (selected_kind expr spelled).lies kind element is has;
+      lies = λ kind is element has. (selected_kind expr spelled).lies kind is element has;
     }
 
-    links_kind : (m : Count) (Left : Element → Type 0) (o : Option ValueKind) (row : Row_of-Link m) → AreIn Left o
+    links_kind : (m : Count) (Left : Element → Type 0) (o : Option ValueKind) (row : Row_of-Link m) → AreOfKind Left o
         → All IsSpelled (literals_in_links row)
-        → AreIn (λ x. SelectsPastLinks state valuation Left row x) (kind_past_links (scope_of state) o row)
-    links_kind m Left o end_of-Link before spelled = record { lies = λ kind element is has. before.lies kind element is has }
+        → AreOfKind (λ x. SelectsPastLinks state valuation Left row x) (kind_past_links (scope_of state) o row)
+    links_kind m Left o end_of-Link before spelled = record { lies = λ kind is element has. before.lies kind is element has }
     links_kind m Left o (more_of-Link sign operand rest) before spelled =
-        links_kind _ (λ x. JoinHas sign Left (λ y. Selects state operand valuation y) x) (by_two (joined sign) o (kind_of (scope_of state) operand)) rest
-        (both_kind Left (λ y. Selects state operand valuation y) sign o (kind_of (scope_of state) operand) before
-        (selected_kind operand (all_left IsSpelled (literals_of operand) (literals_in_links rest) spelled)))
+        links_kind _ (λ x. OperatorHas sign Left (λ y. Selects state operand valuation y) x)
+        (by_two (joined sign) o (kind_of (scope_of state) operand)) rest
+        (of_operator Left (λ y. Selects state operand valuation y) o (kind_of (scope_of state) operand) before
+        (selected_kind operand (all_left IsSpelled (literals_of operand) (literals_in_links rest) spelled)) sign)
         (all_right IsSpelled (literals_of operand) (literals_in_links rest) spelled)
 
-    postfixes_kind : (m : Count) (Left : Element → Type 0) (o : Option ValueKind) (row : Row_of-Postfix m) → AreIn Left o
-        → AreIn (λ x. PastPostfixesHas Left row x) (kind_past_postfixes (scope_of state) o row)
-    postfixes_kind m Left o end_of-Postfix before = record { lies = λ kind element is has. before.lies kind element is has }
-    postfixes_kind m Left o (more_of-Postfix postfix rest) before =
-        postfixes_kind _ (λ x. PostfixHas postfix Left x) (kind_past (scope_of state) o postfix) rest
-        (followed_kind (scope_of state) Left postfix o before)
+    postfixes_kind : (m : Count) (Operand : Element → Type 0) (o : Option ValueKind) (row : Row_of-Postfix m) → AreOfKind Operand o
+        → All IsSpelled (literals_in_postfixes row)
+        → AreOfKind (λ x. SelectsPastPostfixes state valuation Operand row x) (kind_past_postfixes (scope_of state) o row)
+    postfixes_kind m Operand o end_of-Postfix before spelled = record { lies = λ kind is element has. before.lies kind is element has }
+    postfixes_kind m Operand o (more_of-Postfix postfix rest) before spelled =
+        postfixes_kind _ (λ x. PostfixHas state valuation Operand postfix x) (kind_past (scope_of state) o postfix) rest
+        (postfix_kind Operand o postfix before
+        (all_left IsSpelled (literals_in_postfix postfix) (literals_in_postfixes rest) spelled))
+        (all_right IsSpelled (literals_in_postfix postfix) (literals_in_postfixes rest) spelled)
+
+    postfix_kind : (Operand : Element → Type 0) (o : Option ValueKind) (postfix : Postfix) → AreOfKind Operand o
+        → All IsSpelled (literals_in_postfix postfix)
+        → AreOfKind (λ x. PostfixHas state valuation Operand postfix x) (kind_past (scope_of state) o postfix)
+    postfix_kind Operand o Inverse before spelled = of_inverse Operand o before
+    postfix_kind Operand o (Apply argument) before spelled =
+        of_application Operand (λ y. Selects state argument valuation y) o (kind_of (scope_of state) argument) before
+        (selected_kind argument spelled)
+    postfix_kind Operand o (Item number) before spelled = no_element (option_and_then item o)
 
 -- ---- what is kept
 -- a sample is of the kind of its operand
 sample_same : (k kind : ValueKind) → prefixed p.Sample k ≡ Some kind → k ≡ kind
-sample_same Set kind is = some_same Set kind is
-sample_same Map kind is = some_same Map kind is
-sample_same Empty kind is = some_same Empty kind is
-sample_same Pair kind is = none_some kind is
-sample_same Truth kind is = none_some kind is
-sample_same Listing kind is = none_some kind is
-sample_same Code kind is = none_some kind is
+sample_same Set kind is = cc
+sample_same k kind is = cc
 
 module _ (state : StateView) (all : AreWritable state) where
   sample_kind : (m : Count) (operand : Row_of-Expr m) → All IsSpelled (literals_in operand) → (argument value : KeptValue)
       → IsSelectedIn state operand argument → IsSampleOf argument value → (kind : ValueKind)
       → option_and_then (prefixed p.Sample) (kind_in (scope_of state) operand) ≡ Some kind → (valuation : Valuation) (element : Element)
       → Has value valuation element → IsSpaceOf kind element.space
-  sample_kind m operand spelled argument value selected sample kind is valuation element has = by (kind_in (scope_of state) operand) refl sample.pieces
+  sample_kind m operand spelled argument value selected sample kind is valuation element has =
+      by (kind_in (scope_of state) operand) refl sample.pieces
     where
       HasIt : List KeptPiece → Type 0
       HasIt pieces = Any (HasElement value.params valuation element) pieces
@@ -384,55 +236,25 @@ module _ (state : StateView) (all : AreWritable state) where
       by (Some k) there (inr one) =
           let piece = only_piece argument.params one.0 one.1 in
           let same = sample_same k kind (sym (ap (option_and_then (prefixed p.Sample)) there) ∙ is) in
-          let lies : IsSpaceOf k one.1.space = (in_kind state one.0 all m operand spelled).lies k one.1 there ((selected.0 one.0 one.1).0 one.2) in
+          let lies : IsSpaceOf k one.1.space =
+          (in_kind state one.0 all m operand spelled).lies k there one.1 ((selected.0 one.0 one.1).0 one.2) in
           elim (Any-cases (HasElement value.params valuation element) piece [] (subst HasIt one.3 has)) [
             | inl here ↦ subst (λ (j : ValueKind). IsSpaceOf j element.space) same (subst (IsSpaceOf k) here.space lies)
             | inr later ↦ absurd (Any-none (HasElement value.params valuation element) later)
           ]
 
-  abbrev selected_at : (expr : Expr) (value : KeptValue) → All IsSpelled (literals_of expr) → IsSelected state expr value → (kind : ValueKind)
-      → kind_of (scope_of state) expr ≡ Some kind → (valuation : Valuation) (element : Element) → Has value valuation element
-      → IsSpaceOf kind element.space
-  selected_at expr value spelled selected kind is valuation element has =
-      (selected_kind state valuation all expr spelled).lies kind element is ((selected.elements valuation element).0 has)
-
   -- what is kept of an expression is of its kind
-  pub content_kind : (expr : Expr) (value : KeptValue) → All IsSpelled (literals_of expr) → IsContentOf state expr value → (kind : ValueKind)
-      → kind_of (scope_of state) expr ≡ Some kind → (valuation : Valuation) (element : Element) → Has value valuation element
-      → IsSpaceOf kind element.space
+  pub content_kind : (expr : Expr) (value : KeptValue) → All IsSpelled (literals_of expr) → IsContentOf state expr value
+      → (kind : ValueKind) → kind_of (scope_of state) expr ≡ Some kind → (valuation : Valuation) (element : Element)
+      → Has value valuation element → IsSpaceOf kind element.space
   content_kind (Prefix' p.Sample s operand) value spelled content kind is valuation element has =
       sample_kind _ operand spelled content.0 value content.1 content.2 kind is valuation element has
-  content_kind (Prefix' p.Domain s operand) value spelled content kind is valuation element has = absurd ((content.elements valuation element).0 has)
-  content_kind (Prefix' p.Range s operand) value spelled content kind is valuation element has = absurd ((content.elements valuation element).0 has)
-  content_kind (Prefix' p.Deltas s operand) value spelled content kind is valuation element has = absurd ((content.elements valuation element).0 has)
-  content_kind (Prefix' p.Identity s operand) value spelled content kind is valuation element has = absurd ((content.elements valuation element).0 has)
-  content_kind (Prefix' p.Wrap s operand) value spelled content kind is valuation element has = absurd ((content.elements valuation element).0 has)
-  content_kind (Prefix' p.Unwrap s operand) value spelled content kind is valuation element has = absurd ((content.elements valuation element).0 has)
-  content_kind (Prefix' p.Zip s operand) value spelled content kind is valuation element has = absurd ((content.elements valuation element).0 has)
-  content_kind (Prefix' p.DomainMap s operand) value spelled content kind is valuation element has = absurd ((content.elements valuation element).0 has)
-  content_kind (Prefix' p.RangeMap s operand) value spelled content kind is valuation element has = absurd ((content.elements valuation element).0 has)
-  content_kind (Prefix' p.LexMin s operand) value spelled content kind is valuation element has = absurd ((content.elements valuation element).0 has)
-  content_kind (Prefix' p.LexMax s operand) value spelled content kind is valuation element has = absurd ((content.elements valuation element).0 has)
-  content_kind (Prefix' p.Coalesce s operand) value spelled content kind is valuation element has = absurd ((content.elements valuation element).0 has)
-  content_kind (Prefix' p.Scan s operand) value spelled content kind is valuation element has = absurd ((content.elements valuation element).0 has)
-  content_kind (Prefix' p.Codegen s operand) value spelled content kind is valuation element has = absurd ((content.elements valuation element).0 has)
-  content_kind (e.Name name) value spelled content kind is valuation element has =
-      selected_at (e.Name name) value spelled content kind is valuation element has
-  content_kind (e.Literal literal) value spelled content kind is valuation element has =
-      selected_at (e.Literal literal) value spelled content kind is valuation element has
-  content_kind (Row' s first t links) value spelled content kind is valuation element has =
-      selected_at (Row' s first t links) value spelled content kind is valuation element has
-  content_kind (Any' q source s sink t schedule) value spelled content kind is valuation element has = absurd ((content.elements valuation element).0 has)
-  content_kind (Last' q source s sink t schedule) value spelled content kind is valuation element has = absurd ((content.elements valuation element).0 has)
-  content_kind (Post' s operand t postfixes) value spelled content kind is valuation element has =
-      selected_at (Post' s operand t postfixes) value spelled content kind is valuation element has
+  content_kind expr value spelled content kind is valuation element has =
+      (selected_kind state valuation all expr spelled).lies kind is element ((content.elements valuation element).0 has)
 
 -- ---- what is of a kind can be written
 pub of_kind_uniform : (value : KeptValue) (kind : ValueKind) → IsOfKind kind value → IsUniform value
 of_kind_uniform value Set all = inl all
 of_kind_uniform value Map all = inr all
-of_kind_uniform value Empty all = inl (All-weaker (λ (p : KeptPiece). IsSpaceOf Empty p.space) (λ (p : KeptPiece). IsSet p.space) (λ p h. absurd h) value.pieces all)
-of_kind_uniform value Pair all = inl (All-weaker (λ (p : KeptPiece). IsSpaceOf Pair p.space) (λ (p : KeptPiece). IsSet p.space) (λ p h. absurd h) value.pieces all)
-of_kind_uniform value Truth all = inl (All-weaker (λ (p : KeptPiece). IsSpaceOf Truth p.space) (λ (p : KeptPiece). IsSet p.space) (λ p h. absurd h) value.pieces all)
-of_kind_uniform value Listing all = inl (All-weaker (λ (p : KeptPiece). IsSpaceOf Listing p.space) (λ (p : KeptPiece). IsSet p.space) (λ p h. absurd h) value.pieces all)
-of_kind_uniform value Code all = inl (All-weaker (λ (p : KeptPiece). IsSpaceOf Code p.space) (λ (p : KeptPiece). IsSet p.space) (λ p h. absurd h) value.pieces all)
+of_kind_uniform value kind all =
+    inl (All-weaker (λ (p : KeptPiece). IsSpaceOf kind p.space) (λ (p : KeptPiece). IsSet p.space) (λ p h. absurd h) value.pieces all)

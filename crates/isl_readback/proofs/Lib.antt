@@ -5,6 +5,7 @@ pub mod AloneLaws
 pub mod DividedTree
 pub mod FormedTree
 pub mod KindLaws
+pub mod KindOfOperations
 pub mod KnownLaws
 pub mod LeftLaws
 pub mod LiteralSpelled

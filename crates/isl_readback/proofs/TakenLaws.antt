@@ -1,6 +1,7 @@
 -- What the program answers, it takes again.
-use Rattle.std.proofs.Common.{◌≡◌, ◌<◌, ◌≤◌, ◌-◌, ◌^◌, ◌∙◌, ℕ, suc, Bool, true, false, List, [], ◌∷◌, ◌++◌, Some, None, Result, Ok, Err, All, ap, sym, subst, refl, arith, pow_mono}
-use Rattle.std.specs.Prelude.{◌&&◌, ◌||◌, length}
+use Rattle.std.proofs.Common.{◌≡◌, ◌<◌, ◌≤◌, ◌-◌, ◌^◌, ◌∙◌, ℕ, suc, Bool, true, false, List, [], ◌∷◌, ◌++◌, Some, None, Result, Ok, Err}
+use Rattle.std.proofs.Common.{All, ap, sym, subst, refl, arith, pow_mono}
+use Rattle.std.specs.Prelude.{length}
 use Rattle.std.specs.Str.{bytes_eq}
 use Rattle.std.proofs.lemmas.Bool.{false≢true}
 use Rattle.std.proofs.lemmas.List.Elements.{All-nil, All-cons, All-head, All-tail}
@@ -24,14 +25,11 @@ use Rattle.isl_lower.specs.Value.{IsWellFormedLiteral}
 use Rattle.isl_lower.proofs.ValueLaws.{same_elements}
 use Rattle.isl_expr.specs.declared.tree.Stmt.{Stmt}
 use Rattle.isl_expr.specs.declared.tree.Stmt.TheVariants.{Empty, Bind, Show}
-use Rattle.isl_expr.specs.declared.tree.ValueKind.{ValueKind}
-use Rattle.isl_expr.specs.declared.tree.ValueKind.TheVariants.{Set, Map, List as Pair, Empty as None', Truth, Listing, Code}
 use Rattle.isl_expr.specs.declared.tree.Expr.{Expr}
 use Rattle.isl_expr.specs.declared.tree.Expr as e
 use Rattle.isl_expr.specs.Expr.{literals_of, statement_literals}
 use Rattle.isl_space.specs.Limits.{most_leaves, most_parameters}
-use Rattle.isl_kinds.specs.Lines.{is_kind}
-use Rattle.isl_simple.specs.Unsupported.{is_unsupported, mixes_kinds}
+use Rattle.isl_simple.specs.Unsupported.{is_unsupported}
 use Rattle.isl_simple.proofs.SimpleLaws.{literals_kept}
 use Rattle.isl_statement.specs.StatementGrammar.{statement_grammar}
 use Rattle.isl_statement.specs.Limits.{statement_is_within}
@@ -41,10 +39,11 @@ use Rattle.isl_text.specs.declared.refusal.Refusal.{Refusal}
 use Rattle.isl_text.specs.declared.refusal.Refusal.TheVariants.{UnknownName, WrongKind, NoElement}
 use Rattle.isl_select.specs.State.{Kept, Moment, StateView, Binds, unbound, kept_of, scope_of, forgotten}
 use Rattle.isl_select.specs.Selection.{Keeps}
-use Rattle.isl_eval.specs.Spelled.{BytesSpell, OfStatement}
+use Rattle.isl_select.specs.Formed.{FormsTooWide}
+use Rattle.isl_eval.specs.Spelled.{BytesSpell, OfStatement, OfTokens}
 use Rattle.isl_simple.specs.Flat.{flat}
 use Rattle.isl_simple.specs.Simple.{statement_declared}
-use Rattle.isl_eval.specs.Causes.{AreDone, IsClear, IsInfinite, IsUnbounded, IsValid, Stops, is_parametric}
+use Rattle.isl_eval.specs.Causes.{AreDone, IsClear, IsFormedTooWide, IsInfinite, IsUnbounded, IsValid, Stops, is_parametric}
 use Rattle.isl_eval.specs.Machine.{Answer, Step, Steps, nothing, shown}
 use Rattle.isl_eval.specs.Run.{Answers}
 use Rattle.isl_eval.proofs.CauseLaws.{of_tokens, of_statement, one as one_spelled}
@@ -75,18 +74,9 @@ line text = record { bytes = text ++ 10 ∷ []; is_true = false; elements = 0 }
 
 -- ---- a literal of known names has a type
 literal_typed : (scope : ScopeView) (literal : Literal) → literal_is_known literal ≡ true
-    → type_of_statement scope (Show (e.Literal literal)) ≡ Ok (Some (record { kind = kind_of_pieces literal.pieces; params = declared_of scope (e.Literal literal) }))
+    → type_of_statement scope (Show (e.Literal literal))
+    ≡ Ok (Some (record { kind = kind_of_pieces literal.pieces; params = declared_of scope (e.Literal literal) }))
 literal_typed scope literal known = rw known refl
-
--- one literal is of one kind
-one_kind : (kind : ValueKind) → ((is_kind kind Set || false) && (is_kind kind Map || false)) ≡ false
-one_kind Set = refl
-one_kind Map = refl
-one_kind Pair = refl
-one_kind None' = refl
-one_kind Truth = refl
-one_kind Listing = refl
-one_kind Code = refl
 
 ok_err : {A E : Type 0} {x : A} {y : E} → ◌≡◌ {A = Result A E} (Ok x) (Err y) → ⊥
 ok_err e = cc
@@ -106,7 +96,9 @@ module _ (moment : Moment) (bits : moment.meter.bits ≤ 127) (value : KeptValue
   lexes = tokens-printed value writable.kept writable.numbers
 
   spells : Spells statement_grammar (Show (e.Literal (printed_tree value))) (printed_tokens value)
-  spells = shown_alone (suc most_leaves) (printed_tree value) (printed_tokens value) (tree_at value writable.kept writable.numbers writable.uniform)
+  spells =
+      shown_alone (suc most_leaves) (printed_tree value) (printed_tokens value)
+      (tree_at value writable.kept writable.numbers writable.uniform)
 
   pub text_spells : BytesSpell (printed value) (Show (e.Literal (printed_tree value)))
   text_spells = record { tokens = printed_tokens value; cut = lexes; spelled = spells }
@@ -139,6 +131,16 @@ module _ (moment : Moment) (bits : moment.meter.bits ≤ 127) (value : KeptValue
       let itself = declared_itself (printed_tree value).params reads.well_formed.params.distinct in
       subst (λ (names : List Name). length names ≤ most_parameters) (sym itself) reads.well_formed.params.few
 
+  not_wide : ¬ OfStatement (printed value) (λ stmt. most_parameters < length (statement_declared (scope_of moment.state) stmt))
+  not_wide there =
+      let wide = at_text (λ stmt. most_parameters < length (statement_declared (scope_of moment.state) stmt)) there in
+      absurd (omega (arith, few_declared, wide))
+
+  small_numbers : ¬ OfTokens (printed value) (λ ts. has_wide_number (limit_of moment.meter) ts ≡ true)
+  small_numbers there =
+      is_not _ (narrow (2 ^ moment.meter.bits - 1) below value writable small)
+      (of_tokens (printed value) (printed_tokens value) (λ ts. has_wide_number (limit_of moment.meter) ts ≡ true) lexes there)
+
   text_clear : IsShallow (printed value) → HasFewRemainders value → IsClear moment (printed value)
   text_clear shallow few = (
     (λ none. let f : Some (printed_tokens value) ≡ None = sym lexes ∙ none in cc),
@@ -149,7 +151,7 @@ module _ (moment : Moment) (bits : moment.meter.bits ≤ 127) (value : KeptValue
         (
           (λ there. is_so _ (within few) (at_text (λ stmt. statement_is_within stmt ≡ false) there)),
           (
-            (λ there. is_not _ (narrow (2 ^ moment.meter.bits - 1) below value writable small) (of_tokens (printed value) (printed_tokens value) (λ ts. has_wide_number (limit_of moment.meter) ts ≡ true) lexes there)),
+            small_numbers,
             (
               (λ there. is_not _ supported (at_text (λ stmt. is_unsupported stmt ≡ true) there)),
               (
@@ -159,14 +161,8 @@ module _ (moment : Moment) (bits : moment.meter.bits ≤ 127) (value : KeptValue
                   (
                     no_error NoElement,
                     (
-                      (λ there. is_not _ (one_kind (kind_of_pieces (printed_tree value).pieces)) (at_text (λ stmt. mixes_kinds (scope_of moment.state) stmt ≡ true) there)),
-                      (
-                        (λ there. is_not _ refl (at_text (λ stmt. is_parametric (scope_of moment.state) moment.at stmt ≡ true) there)),
-                        (
-                          (λ there. let wide = at_text (λ stmt. most_parameters < length (statement_declared (scope_of moment.state) stmt)) there in absurd (omega (arith, few_declared, wide))),
-                          tt,
-                        ),
-                      ),
+                      (λ there. is_not _ refl (at_text (λ stmt. is_parametric (scope_of moment.state) moment.at stmt ≡ true) there)),
+                      (not_wide, tt),
                     ),
                   ),
                 ),
@@ -178,23 +174,34 @@ module _ (moment : Moment) (bits : moment.meter.bits ≤ 127) (value : KeptValue
     ),
   )
 
-  -- a literal lists nothing
+  -- the text stops only at the literal, which lists nothing, and forms no space
+  at_next : (P : Moment → Stmt → Type 0) → OfStatement (printed value) (λ stmt. Stops moment stmt P)
+      → (now : Moment) × P now (Show (e.Literal (printed_tree value)))
+  at_next P there =
+      let stops = at_text (λ stmt. Stops moment stmt P) there in
+      let literal = next_alone (Show (e.Literal (printed_tree value))) stops.done stops.later stops.next stops.split in
+      (stops.now, subst (P stops.now) literal stops.stops)
+
   text_bounded : ¬ IsUnbounded moment (printed value)
-  text_bounded there =
-      let stops = at_text (λ stmt. Stops moment stmt IsInfinite) there in
-      subst (IsInfinite stops.now) (next_alone (Show (e.Literal (printed_tree value))) stops.done stops.later stops.next stops.split) stops.stops
+  text_bounded there = (at_next IsInfinite there).1
+
+  text_narrow : ¬ IsFormedTooWide moment (printed value)
+  text_narrow there = (at_next (λ now next. FormsTooWide now.state next) there).1
 
   pub text_valid : IsShallow (printed value) → HasFewRemainders value → IsValid moment (printed value)
-  text_valid shallow few = record { clear = text_clear shallow few; bounded = text_bounded }
+  text_valid shallow few = record { clear = text_clear shallow few; bounded = text_bounded; narrow = text_narrow }
 
   -- the text spells no other statement, and each value that is read of it has the same text
-  pub text_answered : (answer : Answer) → answer ≡ shown value → (last : Moment) (other : Answer) → Answers moment (printed value) last other
-      → other ≡ answer
+  pub text_answered : (answer : Answer) → answer ≡ shown value → (last : Moment) (other : Answer)
+      → Answers moment (printed value) last other → other ≡ answer
   unfolding Steps
-  text_answered answer is last other answers = by answers.stmt (one_spelled (printed value) answers.stmt (Show (e.Literal (printed_tree value))) answers.spelled text_spells)
+  text_answered answer is last other answers =
+      by answers.stmt
+      (one_spelled (printed value) answers.stmt (Show (e.Literal (printed_tree value))) answers.spelled text_spells)
       answers.performed.1
     where
-      by : (stmt : Stmt) → stmt ≡ Show (e.Literal (printed_tree value)) → Steps moment (flat stmt) answers.performed.0 other → other ≡ answer
+      by : (stmt : Stmt) → stmt ≡ Show (e.Literal (printed_tree value)) → Steps moment (flat stmt) answers.performed.0 other
+          → other ≡ answer
       by stmt same steps =
           let step : Step moment (Show (e.Literal (printed_tree value))) answers.performed.0 other =
           subst (λ (s : Stmt). Steps moment (flat s) answers.performed.0 other) same steps in
@@ -213,7 +220,8 @@ module _ (before : Moment) (bits : before.meter.bits ≤ 127) (all : AreWritable
   expr_kind : (expr : Expr) (kept : Kept) → All IsSpelled (literals_of expr) → Keeps before expr kept → IsOfKind kept.kind kept.value
   expr_kind expr kept spelled keeps =
       value_kind kept.kind kept.value keeps.well_formed
-      (λ valuation element has. content_kind before.state all expr kept.value spelled keeps.content kept.kind keeps.kind valuation element has)
+      (λ valuation element has.
+      content_kind before.state all expr kept.value spelled keeps.content kept.kind keeps.kind valuation element has)
 
   expr_writable : (expr : Expr) (kept : Kept) → All IsSpelled (literals_of expr) → Keeps before expr kept → IsWritableValue kept.value
   expr_writable expr kept spelled keeps = record {
@@ -229,7 +237,8 @@ module _ (before : Moment) (bits : before.meter.bits ≤ 127) (all : AreWritable
       let writable = expr_writable expr kept spelled keeps in
       let reads = reads_as kept.value writable in
       let bits_after : after.meter.bits ≤ 127 = subst (λ (n : ℕ). n ≤ 127) (sym same) bits in
-      let small : HasNumbersUpTo (2 ^ after.meter.bits - 1) kept.value = subst (λ (n : ℕ). HasNumbersUpTo (2 ^ n - 1) kept.value) (sym same) keeps.numbers in
+      let small : HasNumbersUpTo (2 ^ after.meter.bits - 1) kept.value =
+      subst (λ (n : ℕ). HasNumbersUpTo (2 ^ n - 1) kept.value) (sym same) keeps.numbers in
       record {
         line = ap (λ (a : Answer). a.bytes) is;
         again = printed_tree kept.value;
@@ -255,7 +264,8 @@ module _ (before : Moment) (bits : before.meter.bits ≤ 127) (all : AreWritable
       by other found is false apart =
           all other found (sym (binds.others other (λ e. false≢true (sym apart ∙ (bytes_eq-Decides other name).1 e))) ∙ is)
 
-  step_writable : (stmt : Stmt) (after : Moment) (answer : Answer) → AreSpelled stmt → Step before stmt after answer → AreWritable after.state
+  step_writable : (stmt : Stmt) (after : Moment) (answer : Answer) → AreSpelled stmt → Step before stmt after answer
+      → AreWritable after.state
   step_writable Empty after answer spelled step = subst AreWritable (sym step.does.0) all
   step_writable (Show expr) after answer spelled step = subst AreWritable (sym step.does.0) all
   step_writable (Bind name expr) after answer spelled step =
@@ -265,8 +275,8 @@ same_bits : (g h : Gauge) → IsCharged g h → h.bits ≡ g.bits
 same_bits g h charged = ap (λ (m : Gauge). m.bits) charged.same
 
 -- simple statements that are done, one after another
-done_writable : (before : Moment) (done : List Stmt) (now : Moment) → before.meter.bits ≤ 127 → AreWritable before.state → All AreSpelled done
-    → AreDone before done now → AreWritable now.state × (now.meter.bits ≡ before.meter.bits)
+done_writable : (before : Moment) (done : List Stmt) (now : Moment) → before.meter.bits ≤ 127 → AreWritable before.state
+    → All AreSpelled done → AreDone before done now → AreWritable now.state × (now.meter.bits ≡ before.meter.bits)
 unfolding AreDone
 done_writable before [] now bits all spelled done =
     (subst (λ (m : Moment). AreWritable m.state) (sym done) all, ap (λ (m : Moment). m.meter.bits) done)
@@ -274,11 +284,12 @@ done_writable before (stmt ∷ more) now bits all spelled done =
     let next = done.0 in
     let kept = same_bits before.meter next.meter done.1.meter in
     let written = step_writable before bits all stmt next nothing (All-head AreSpelled stmt more spelled) done.1 in
-    let rest = done_writable next more now (subst (λ (n : ℕ). n ≤ 127) (sym kept) bits) written (All-tail AreSpelled stmt more spelled) done.2 in
+    let rest = done_writable next more now (subst (λ (n : ℕ). n ≤ 127) (sym kept) bits) written
+    (All-tail AreSpelled stmt more spelled) done.2 in
     (rest.0, rest.1 ∙ kept)
 
-steps_writable : (before : Moment) (stmts : List Stmt) (after : Moment) (answer : Answer) → before.meter.bits ≤ 127 → AreWritable before.state
-    → All AreSpelled stmts → Steps before stmts after answer → AreWritable after.state
+steps_writable : (before : Moment) (stmts : List Stmt) (after : Moment) (answer : Answer) → before.meter.bits ≤ 127
+    → AreWritable before.state → All AreSpelled stmts → Steps before stmts after answer → AreWritable after.state
 unfolding Steps
 steps_writable before [] after answer bits all spelled steps = absurd steps
 steps_writable before (stmt ∷ []) after answer bits all spelled steps =
@@ -299,8 +310,10 @@ of_simple bytes stmt spelled = literals_kept IsSpelled stmt (of_text bytes stmt 
 
 -- what is shown of a kept value
 shows_again : (now : Moment) (stmt : Stmt) (kept : Kept) (after : Moment) (answer : Answer) → now.meter.bits ≤ 127 → AreWritable now.state
-    → AreSpelled stmt → ShowsKept kept now stmt → answer ≡ shown kept.value → after.meter.bits ≡ now.meter.bits → IsShownAgain after kept.value answer
-shows_again now (Show expr) kept after answer bits all spelled keeps is same = show_again now bits all expr kept after answer spelled keeps is same
+    → AreSpelled stmt → ShowsKept kept now stmt → answer ≡ shown kept.value → after.meter.bits ≡ now.meter.bits
+    → IsShownAgain after kept.value answer
+shows_again now (Show expr) kept after answer bits all spelled keeps is same =
+    show_again now bits all expr kept after answer spelled keeps is same
 shows_again now Empty kept after answer bits all spelled keeps is same = absurd keeps
 shows_again now (Bind name expr) kept after answer bits all spelled keeps is same = absurd keeps
 
@@ -323,11 +336,12 @@ kept_before state name kept is = by (is_dollar name) refl
 forgotten_writable : (state : StateView) → AreWritable state → AreWritable (forgotten state)
 forgotten_writable state all = λ name kept is. all name kept (kept_before state name kept is)
 
-pub stays_writable : (before : Moment) (bytes : List ℕ) (after : Moment) (answer : Answer) → before.meter.bits ≤ 127 → AreWritable before.state
-    → Answers before bytes after answer → AreWritable after.state
+pub stays_writable : (before : Moment) (bytes : List ℕ) (after : Moment) (answer : Answer) → before.meter.bits ≤ 127
+    → AreWritable before.state → Answers before bytes after answer → AreWritable after.state
 stays_writable before bytes after answer bits all answered =
     let now = answered.performed.0 in
-    let written = steps_writable before (flat answered.stmt) now answer bits all (of_simple bytes answered.stmt answered.spelled) answered.performed.1 in
+    let written = steps_writable before (flat answered.stmt) now answer bits all
+    (of_simple bytes answered.stmt answered.spelled) answered.performed.1 in
     subst (λ (m : Moment). AreWritable m.state) (sym answered.performed.2) (forgotten_writable now.state written)
 
 pub starts_writable : AreWritable unbound
