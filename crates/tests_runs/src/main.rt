@@ -46,12 +46,21 @@ fn sink(alloc: Global, case: &str, at_most: usize) -> Result<MemSink, AllocError
     MemSink::new(alloc, room, most, numbers(alloc, case, "fail-writes ")?)
 }
 
-// What the program comes to, with so many bytes of a read or a write at most.
-fn found(alloc: Global, case: &str, at_most: usize) -> Result<Outcome, AllocError> {
-    let words = words(alloc, case, "words", "iscc")?;
-    let most = number(case, "reads ", ROOM).min(at_most).max(1);
+fn script(alloc: Global, case: &str) -> Result<Vec<u8>, AllocError> {
     let mut script = long_first(alloc, case)?.script.into_bytes();
     script.extend_from_slice(&bytes(alloc, case, "script")?)?;
+    Ok(script)
+}
+
+// What the program comes to on a script, with so many bytes of a read or a write at most.
+fn found(
+    alloc: Global,
+    case: &str,
+    script: Vec<u8>,
+    at_most: usize,
+) -> Result<Outcome, AllocError> {
+    let words = words(alloc, case, "words", "iscc")?;
+    let most = number(case, "reads ", ROOM).min(at_most).max(1);
     let mut src = MemSource::new(script, most, numbers(alloc, case, "fail-reads ")?);
     let mut out = sink(alloc, case, at_most)?;
     let mut err = MemSink::new(alloc, ROOM, ROOM, numbers(alloc, case, "fail-tells ")?)?;
@@ -68,7 +77,7 @@ fn found(alloc: Global, case: &str, at_most: usize) -> Result<Outcome, AllocErro
 // Whether a case comes to what is wanted.
 fn is_same(rt: &impl Print, alloc: Global, case: &str, at_most: usize) -> io::Result<bool> {
     let wanted = wanted(alloc, case)?;
-    let found = found(alloc, case, at_most)?;
+    let found = found(alloc, case, script(alloc, case)?, at_most)?;
     if found != wanted {
         println!(rt; "{case}\n  {found:?}\n  wanted {wanted:?}")?;
         return Ok(false);
@@ -76,8 +85,32 @@ fn is_same(rt: &impl Print, alloc: Global, case: &str, at_most: usize) -> io::Re
     Ok(true)
 }
 
+// Whether the first bytes of a script come to a beginning of what is wanted of the whole.
+fn begins(found: &Outcome, wanted: &Outcome) -> bool {
+    let is_status = found.status == 0 || found.status == 16 || found.status == wanted.status;
+    is_status && wanted.out.as_str().starts_with(found.out.as_str())
+}
+
+// Whether each beginning of a case's script comes to a beginning of what is wanted.
+fn is_begun(rt: &impl Print, alloc: Global, case: &str) -> io::Result<bool> {
+    let wanted = wanted(alloc, case)?;
+    let mut beginning = Vec::new(alloc);
+    for byte in script(alloc, case)? {
+        let found = found(alloc, case, beginning.clone()?, ROOM)?;
+        if !begins(&found, &wanted) {
+            println!(rt;
+                "{case}\n  {found:?}\n  of the first {} bytes",
+                beginning.len()
+            )?;
+            return Ok(false);
+        }
+        beginning.push(byte)?;
+    }
+    Ok(true)
+}
+
 // The lines of a case.
-const FORMS: [(&str, Form); 21] = [
+const FORMS: [(&str, Form); 22] = [
     ("#", Form::Text),
     ("case ", Form::Text),
     ("words", Form::Text),
@@ -98,6 +131,7 @@ const FORMS: [(&str, Form); 21] = [
     ("out-times ", Form::Counted),
     ("err ", Form::Text),
     ("err-part ", Form::Text),
+    ("beginnings", Form::Text),
     ("unread", Form::Text),
 ];
 
@@ -108,7 +142,11 @@ fn holds(rt: &impl Print, alloc: Global, case: &str) -> io::Result<bool> {
         return Ok(false);
     }
     let fails = field(case, "fail-").is_some() || field(case, "room ").is_some();
-    Ok(is_same(rt, alloc, case, ROOM)? && (fails || is_same(rt, alloc, case, 1)?))
+    Ok(
+        is_same(rt, alloc, case, ROOM)?
+            && (fails || is_same(rt, alloc, case, 1)?)
+            && (field(case, "beginnings").is_none() || is_begun(rt, alloc, case)?),
+    )
 }
 
 fn main(rt: HostRuntime) -> io::Result<()> {
