@@ -5,5 +5,6 @@ cd "$(dirname "${BASH_SOURCE[0]}")"
 ./elimination.sh
 ./statements.sh | tail -n +2
 ./decisions.sh | tail -n +2
+./operations.sh | tail -n +2
 ./values.sh | tail -n +2
 ./literals.sh | tail -n +2
