@@ -1,7 +1,7 @@
 //! Formulas on lists of systems.
 
 ghost use Rattle.std.specs.Prelude.{◌≡◌, ◌↔◌, ◌+◌, ◌≤◌, ◌∷◌, [], ℤ, List, All, MatchResult, IfOk, length};
-ghost use Rattle.isl_meter.specs.Gauge.{IsCharged, IsCutBy};
+ghost use Rattle.isl_meter.specs.Gauge.{IsCutBy, IsMetered};
 ghost use Rattle.isl_piece.specs.System.{HoldsSystem, IsSystemWithin, free_columns};
 ghost use Rattle.isl_elim.specs.Elimination.{HoldsAtAny};
 ghost use Rattle.isl_affine.specs.Scope.{IsNumbered};
@@ -284,7 +284,7 @@ pub fn alternatives(
         → IsNumbered scope.now point env → HoldsAtAny found.items point ↔ (HoldsSystem system point × FormulaHolds formula.now env)) }
     ensures within { IfOk result (λ found. All (λ s. IsSystemWithin meter.old s × (free_columns s ≡ free_columns system)) found.items) }
     ensures counted { IfOk result (λ found. length found.items + meter.old.units ≤ meter.new.units + 1) }
-    ensures meter { MatchResult result (λ _. IsCharged meter.old meter.new) (IsCutBy meter.old meter.new) }
+    ensures meter { IsMetered meter.old meter.new result }
 {
     let mut systems = Vec::new(alloc);
     systems.push(system)?;

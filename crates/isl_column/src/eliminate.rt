@@ -1,7 +1,7 @@
 //! One column out of rows.
 
-ghost use Rattle.std.specs.Prelude.{◌≡◌, ◌≢◌, ◌-◌, ◌≤ℤ◌, ◌+ℤ◌, pos, All, length, IfOk, option_to_list, MatchResult, ◌+◌, ◌≤◌};
-ghost use Rattle.isl_meter.specs.Gauge.{IsCharged, IsCutBy};
+ghost use Rattle.std.specs.Prelude.{◌≡◌, ◌≢◌, ◌-◌, ◌≤ℤ◌, ◌+ℤ◌, pos, All, length, IfOk, option_to_list, ◌+◌, ◌≤◌};
+ghost use Rattle.isl_meter.specs.Gauge.{IsMetered};
 ghost use Rattle.isl_piece.specs.Normal.{IsNormal};
 ghost use Rattle.isl_column.specs.Column.{IsProjectionOf};
 ghost use Rattle.isl_column.specs.Exact.{IsExactColumn, exact_rows, pairs_on};
@@ -42,7 +42,7 @@ pub fn eliminate_rows(
         → IfOk result (λ answers. answers.items ≡ option_to_list (exact_rows rows.now column.at)) }
     ensures solved_column { HasEquality column.at rows.now → IfOk result
         (λ answers. answers.items ≡ option_to_list (solved_rows rows.now column.at)) }
-    ensures meter { MatchResult result (λ _. IsCharged meter.old meter.new) (IsCutBy meter.old meter.new) }
+    ensures meter { IsMetered meter.old meter.new result }
     ensures units { pos meter.new.units ≤ℤ (pos meter.old.units +ℤ elimination_units rows.now column.at) }
     ensures equality { HasEquality column.at rows.now → meter.new.units ≡ meter.old.units }
     ensures magnitude { meter.old.bits ≡ 127 → HaveSmallNumbers rows.now → HaveOneCongruence rows.now column.at

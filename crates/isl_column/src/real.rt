@@ -1,7 +1,7 @@
 //! The real shadow of a column: what its bounds say of the other columns where any number may stand there.
 
-ghost use Rattle.std.specs.Prelude.{◌≡◌, ◌-◌, ◌<◌, ◌*◌, [], All, length, IfOk, MatchResult};
-ghost use Rattle.isl_meter.specs.Gauge.{IsCharged, IsCutBy, IsDone};
+ghost use Rattle.std.specs.Prelude.{◌≡◌, ◌-◌, ◌<◌, ◌*◌, [], All, length, IfOk};
+ghost use Rattle.isl_meter.specs.Gauge.{IsDone, IsMetered};
 ghost use Rattle.isl_omega.specs.Column.{IsProper};
 ghost use Rattle.isl_omega.specs.Equality.{HasEquality};
 ghost use Rattle.isl_omega.specs.Units.{IsDoneFor};
@@ -85,7 +85,7 @@ pub fn real_shadow(
 ) -> Result<Option<Rows>, Cut>
     requires rows { All (IsProper meter.old column.columns) rows.now }
     ensures implied { IfOk result (IsImplied meter.old (column.columns - 1) (HoldAtSome rows.now column.at)) }
-    ensures meter { MatchResult result (λ _. IsCharged meter.old meter.new) (IsCutBy meter.old meter.new) }
+    ensures meter { IsMetered meter.old meter.new result }
     ensures equality { HasEquality column.at rows.now → IsDone meter.old meter.new (λ left. left ≡ solved_rows rows.now column.at) result }
     ensures pairs { ¬ HasEquality column.at rows.now → IsDoneFor (pairs_on column.at rows.now) meter.old meter.new (λ _. Unit {0}) result }
     ensures real_rows { ¬ HasEquality column.at rows.now → on_side Side.Divides column.at rows.now ≡ [] → IfOk result

@@ -1,7 +1,7 @@
 //! Whether each point of one system is one of others.
 
-ghost use Rattle.std.specs.Prelude.{◌≡◌, ◌≢◌, ◌∷◌, [], All, IfOk, IsTrue, MatchResult, map};
-ghost use Rattle.isl_meter.specs.Gauge.{IsCharged, IsCutBy};
+ghost use Rattle.std.specs.Prelude.{◌≡◌, ◌≢◌, ◌∷◌, [], All, IfOk, IsTrue, map};
+ghost use Rattle.isl_meter.specs.Gauge.{IsMetered};
 ghost use Rattle.isl_piece.specs.System.{HoldsSystem, IsSystemWithin, free_columns};
 ghost use Rattle.isl_elim.specs.Sample.{IsNowhere};
 ghost use Rattle.isl_difference.specs.Cover.{AreInside, IsInside};
@@ -27,7 +27,7 @@ fn is_inside_aligned(
     requires columns { other.now.columns ≡ system.now.columns }
     requires definitions { other.now.definitions ≡ system.now.definitions }
     ensures exact { IfOk result (IsInside system.now other.now) }
-    ensures meter { MatchResult result (λ _. IsCharged meter.old meter.new) (IsCutBy meter.old meter.new) }
+    ensures meter { IsMetered meter.old meter.new result }
 {
     if are_implied(system.rows.as_slice(), other.rows.as_slice()) {
         return Ok(true);
@@ -51,7 +51,7 @@ fn is_inside_moved(
     requires columns { free_columns other.now ≡ free_columns system.now }
     requires different { system.now.definitions ≢ other.now.definitions }
     ensures exact { IfOk result (IsInside system.now other.now) }
-    ensures meter { MatchResult result (λ _. IsCharged meter.old meter.new) (IsCutBy meter.old meter.new) }
+    ensures meter { IsMetered meter.old meter.new result }
 {
     let both = align(alloc, system, other)?;
     is_inside_aligned(alloc, &both.wide, &both.moved, meter)
@@ -64,7 +64,7 @@ fn is_inside(alloc: Global, system: &System, other: &System, meter: &mut Meter) 
     requires other_within { IsSystemWithin meter.old other.now }
     requires columns { free_columns other.now ≡ free_columns system.now }
     ensures exact { IfOk result (IsInside system.now other.now) }
-    ensures meter { MatchResult result (λ _. IsCharged meter.old meter.new) (IsCutBy meter.old meter.new) }
+    ensures meter { IsMetered meter.old meter.new result }
 {
     if system.definitions.same(&other.definitions) {
         return is_inside_aligned(alloc, system, other, meter);
@@ -84,7 +84,7 @@ fn are_inside(
     requires other_within { IsSystemWithin meter.old other.now }
     requires columns { All (λ s. free_columns s ≡ free_columns other.now) systems.now }
     ensures exact { IfOk result (AreInside systems.now other.now) }
-    ensures meter { MatchResult result (λ _. IsCharged meter.old meter.new) (IsCutBy meter.old meter.new) }
+    ensures meter { IsMetered meter.old meter.new result }
 {
     for system in systems {
         if !is_inside(alloc, system, other, meter)? {
@@ -113,7 +113,7 @@ pub fn is_covered(
     ensures covered { IfOk result (λ covered. IsTrue covered → IsCovered system.now (map (λ other. other.now) others.now)) }
     ensures only { ¬ IsNowhere (free_columns system.now) (HoldsSystem system.now)
         → IfOk result (λ covered. IsCovered system.now (map (λ other. other.now) others.now) → IsTrue covered) }
-    ensures meter { MatchResult result (λ _. IsCharged meter.old meter.new) (IsCutBy meter.old meter.new) }
+    ensures meter { IsMetered meter.old meter.new result }
 {
     if others.is_empty() {
         return Ok(false);

@@ -1,7 +1,7 @@
 //! The parts of a system in which rows do not hold.
 
 ghost use Rattle.std.specs.Prelude.{◌≡◌, ◌↔◌, ◌+◌, ◌≤◌, ◌∷◌, [], All, IfOk, IsTrue, MatchResult, length};
-ghost use Rattle.isl_meter.specs.Gauge.{IsCharged, IsCutBy};
+ghost use Rattle.isl_meter.specs.Gauge.{IsCharged, IsCutBy, IsMetered};
 ghost use Rattle.isl_piece.specs.Negation.{negation_of};
 ghost use Rattle.isl_piece.specs.Row.{IsRowWithin, IsWellFormed};
 ghost use Rattle.isl_piece.specs.System.{IsSystemWithin, free_columns};
@@ -118,7 +118,7 @@ pub(crate) fn hold_throughout(
     requires formed { All (IsWellFormed system.now.columns) rows.now }
     requires rows_within { All (IsRowWithin meter.old) rows.now }
     ensures exact { IfOk result (λ all. IsTrue all ↔ IsNowhere (free_columns system.now) (HoldsBut system.now rows.now)) }
-    ensures meter { MatchResult result (λ _. IsCharged meter.old meter.new) (IsCutBy meter.old meter.new) }
+    ensures meter { IsMetered meter.old meter.new result }
 {
     let mut rest = system.copy(alloc)?;
     for row in rows.as_slice() {

@@ -23,9 +23,6 @@ dependents_from column cols (d ∷ definitions) =
 abbrev pub dependents : System → List ℕ → List ℕ
 dependents s cols = dependents_from (free_columns s) cols s.definitions
 
-abbrev pub DependsOn : System → ℕ → ℕ → Type 0
-DependsOn s defined col = Contains (dependents s (col ∷ [])) defined
-
 -- the columns, and those that depend on them
 abbrev pub with_dependents : System → List ℕ → List ℕ
 with_dependents s cols = cols ++ dependents s cols

@@ -1,7 +1,7 @@
 //! Whether rows hold nowhere.
 
 ghost use Rattle.std.specs.Prelude.{◌≡◌, ◌↔◌, ◌+◌, ◌-◌, ◌<◌, ◌≤◌, ◌+ℤ◌, ◌≤ℤ◌, ℕ, pos, All, [], IfOk, IsTrue, MatchResult};
-ghost use Rattle.isl_meter.specs.Gauge.{IsCharged, IsCutBy};
+ghost use Rattle.isl_meter.specs.Gauge.{IsCharged, IsCutBy, IsMetered};
 ghost use Rattle.isl_piece.specs.Normal.{IsNormal};
 ghost use Rattle.isl_omega.specs.Column.{IsProper};
 ghost use Rattle.isl_column.specs.Units.{elimination_units};
@@ -162,7 +162,7 @@ fn are_empty(
 pub fn is_empty(alloc: Global, system: &System, meter: &mut Meter) -> Result<bool, Cut>
     requires well_formed { IsSystemWithin meter.old system.now }
     ensures exact { IfOk result (λ empty. IsTrue empty ↔ IsNowhere (free_columns system.now) (HoldsSystem system.now)) }
-    ensures meter { MatchResult result (λ _. IsCharged meter.old meter.new) (IsCutBy meter.old meter.new) }
+    ensures meter { IsMetered meter.old meter.new result }
     ensures units { system.now.definitions ≡ [] → system.now.columns ≡ 1 → pos meter.new.units ≤ℤ (pos meter.old.units +ℤ elimination_units system.now.rows 0) }
     ensures equality { system.now.definitions ≡ [] → system.now.columns ≡ 1 → HasEquality 0 system.now.rows → meter.new.units ≡ meter.old.units }
     ensures magnitude { system.now.definitions ≡ [] → system.now.columns ≡ 1 → IsSpared meter.old system.now.rows 0 result }

@@ -1,7 +1,7 @@
 //! Systems without definitions.
 
-ghost use Rattle.std.specs.Prelude.{◌≡◌, ◌↔◌, ◌+◌, ◌≤◌, [], length, ℤ, List, All, IfOk, MatchResult, option_to_list};
-ghost use Rattle.isl_meter.specs.Gauge.{IsCharged, IsCutBy};
+ghost use Rattle.std.specs.Prelude.{◌≡◌, ◌↔◌, ◌+◌, ◌≤◌, [], length, ℤ, List, All, IfOk, option_to_list};
+ghost use Rattle.isl_meter.specs.Gauge.{IsMetered};
 ghost use Rattle.isl_piece.specs.Normal.{IsNormal, normal_system};
 ghost use Rattle.isl_piece.specs.System.{HoldsSystem, IsSystemWithin};
 ghost use Rattle.isl_elim.specs.Elimination.{HoldsAtAny};
@@ -47,7 +47,7 @@ pub fn flatten(alloc: Global, system: &System, meter: &mut Meter) -> Result<Vec<
     ensures exact { IfOk result (λ systems. IsFlattening system.now systems.items) }
     ensures within { IfOk result (λ systems. All (IsSystemWithin meter.old) systems.items) }
     ensures normal { IfOk result (λ systems. All (λ s. IsNormal s.rows) systems.items) }
-    ensures meter { MatchResult result (λ _. IsCharged meter.old meter.new) (IsCutBy meter.old meter.new) }
+    ensures meter { IsMetered meter.old meter.new result }
     ensures itself { system.now.definitions ≡ [] → IfOk result (λ systems. systems.items ≡ option_to_list (normal_system system.now)) }
     ensures units { system.now.definitions ≡ [] → meter.new.units ≡ meter.old.units }
     ensures counted { IfOk result (λ systems. meter.old.units + length systems.items ≤ meter.new.units + 1) }

@@ -1,7 +1,7 @@
 //! Columns out of a system: its projections.
 
 ghost use Rattle.std.specs.Prelude.{◌≡◌, ◌≢◌, ◌<◌, ◌-◌, ◌+◌, ◌≤◌, ◌≤ℤ◌, ◌+ℤ◌, [], ◌∷◌, pos, length, ℕ, All, AllPairs, map, IfOk, MatchResult, option_to_list};
-ghost use Rattle.isl_meter.specs.Gauge.{IsCharged, IsCutBy};
+ghost use Rattle.isl_meter.specs.Gauge.{IsCharged, IsCutBy, IsMetered};
 ghost use Rattle.isl_piece.specs.Normal.{IsNormal};
 ghost use Rattle.isl_piece.specs.System.{HoldRows, IsSystemWithin, free_columns};
 ghost use Rattle.isl_column.specs.Exact.{IsExactColumn, exact_rows, pairs_on};
@@ -107,7 +107,7 @@ pub fn eliminate(
         → IfOk result (λ systems. systems.items ≡ map (system_of (system.now.columns - 1) (kept_definitions system.now (col ∷ []))) (option_to_list (exact_rows system.now.rows col))) }
     ensures solved_column { dependents system.now (col ∷ []) ≡ [] → HasEquality col system.now.rows
         → IfOk result (λ systems. systems.items ≡ map (system_of (system.now.columns - 1) (kept_definitions system.now (col ∷ []))) (option_to_list (solved_rows system.now.rows col))) }
-    ensures meter { MatchResult result (λ _. IsCharged meter.old meter.new) (IsCutBy meter.old meter.new) }
+    ensures meter { IsMetered meter.old meter.new result }
     ensures units { dependents system.now (col ∷ []) ≡ [] → pos meter.new.units ≤ℤ (pos meter.old.units +ℤ elimination_units system.now.rows col) }
     ensures equality { dependents system.now (col ∷ []) ≡ [] → HasEquality col system.now.rows → meter.new.units ≡ meter.old.units }
     ensures magnitude { dependents system.now (col ∷ []) ≡ [] → meter.old.bits ≡ 127 → HaveSmallNumbers system.now.rows → HaveOneCongruence system.now.rows col
@@ -144,7 +144,7 @@ pub fn eliminate_all(
     ensures definitions { IfOk result (λ systems. All (λ s. s.definitions ≡ kept_definitions system.now cols.now) systems.items) }
     ensures within { IfOk result (λ systems. All (IsSystemWithin meter.old) systems.items) }
     ensures normal { IfOk result (λ systems. All (λ s. IsNormal s.rows) systems.items) }
-    ensures meter { MatchResult result (λ _. IsCharged meter.old meter.new) (IsCutBy meter.old meter.new) }
+    ensures meter { IsMetered meter.old meter.new result }
     ensures exact_column { (col : ℕ) → cols.now ≡ col ∷ [] → dependents system.now cols.now ≡ [] → IsExactColumn col system.now.rows → ¬ HasEquality col system.now.rows
         → IfOk result (λ systems. systems.items ≡ map (system_of (system.now.columns - 1) (kept_definitions system.now cols.now)) (option_to_list (exact_rows system.now.rows col))) }
     ensures solved_column { (col : ℕ) → cols.now ≡ col ∷ [] → dependents system.now cols.now ≡ [] → HasEquality col system.now.rows

@@ -2,7 +2,7 @@
 
 ghost use Rattle.std.specs.Prelude.{◌≡◌, ◌+◌, ◌<◌, ◌≤◌, ℕ, length, All, IfOk, MatchOption, MatchResult};
 ghost use Rattle.std.specs.List.{range_with_len, remove};
-ghost use Rattle.isl_meter.specs.Gauge.{IsCharged, IsCutBy, IsWithin};
+ghost use Rattle.isl_meter.specs.Gauge.{IsCharged, IsCutBy, IsMetered, IsWithin};
 ghost use Rattle.isl_piece.specs.Normal.{IsNormal};
 ghost use Rattle.isl_piece.specs.System.{HoldRows};
 ghost use Rattle.isl_omega.specs.Column.{IsProper};
@@ -125,7 +125,7 @@ pub fn sample_point(
     ensures exact { IfOk result (λ sample. MatchOption sample
         (IsNowhere (free_columns system.now) (HoldsSystem system.now))
         (λ point. IsSample meter.old (free_columns system.now) (HoldsSystem system.now) point.items)) }
-    ensures meter { MatchResult result (λ _. IsCharged meter.old meter.new) (IsCutBy meter.old meter.new) }
+    ensures meter { IsMetered meter.old meter.new result }
     ensures all_pairs { (n : ℕ) → 0 < system.now.columns → HavePairs n (range_with_len 0 system.now.columns) (all_opened_rows system.now)
         → IfOk result (λ _. meter.old.units + n ≤ meter.new.units) }
 {

@@ -7,7 +7,7 @@ use Rattle.isl_expr.specs.declared.tree.Link.{Link}
 use Rattle.isl_expr.specs.declared.tree.Expr.{Expr, Row, items_hidden-the_row-Link-1}
 use Rattle.isl_expr.specs.declared.tree.Expr.TheBlock.{hidden-the_row-Expr-0, hidden-the_row-Link-1}
 use Rattle.isl_expr.specs.declared.tree.Expr as e
-use Rattle.isl_simple.specs.Flat.{is_sample}
+use Rattle.isl_flat.specs.Flat.{is_sample}
 use Rattle.isl_eval.specs.Tests.{is_test}
 use Rattle.isl_eval.specs.Evaluation.{ends_with_test, is_scan, is_listing, is_asked}
 use Rattle.isl_eval.proofs.TestLaws.{ends_are, ends_at}

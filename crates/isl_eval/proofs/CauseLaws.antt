@@ -10,12 +10,12 @@ use Rattle.isl_text.specs.declared.refusal.Refusal.{Refusal}
 use Rattle.isl_text.specs.declared.refusal.Refusal.TheVariants as r
 use Rattle.isl_text.specs.Read.{has_wide_number}
 use Rattle.isl_expr.specs.declared.tree.Stmt.{Stmt}
-use Rattle.isl_statement.specs.StatementGrammar.{statement_grammar}
-use Rattle.isl_statement.specs.Limits.{statement_is_within}
-use Rattle.isl_statement.specs.Read.{NoStatement, judged, IsDueTo, IsDue}
-use Rattle.isl_statement.proofs.ReadLaws.{one_statement}
-use Rattle.isl_select.specs.State.{Moment}
-use Rattle.isl_simple.specs.Unsupported.{is_unsupported}
+use Rattle.isl_stmt.specs.StatementGrammar.{statement_grammar}
+use Rattle.isl_stmt.specs.Limits.{statement_is_within}
+use Rattle.isl_stmt.specs.Read.{NoStatement, judged, IsDueTo, IsDue}
+use Rattle.isl_stmt.proofs.ReadLaws.{one_statement}
+use Rattle.isl_values.specs.State.{Moment}
+use Rattle.isl_flat.specs.Unsupported.{is_unsupported}
 use Rattle.isl_eval.specs.Spelled.{BytesSpell, OfTokens, OfStatement, SpellOne}
 use Rattle.isl_eval.specs.Causes.{causes, IsThere, FirstGives}
 use Rattle.isl_eval.specs.Evaluation.{IsRead, IsWhyNot}

@@ -23,15 +23,15 @@ use Rattle.isl_kinds.specs.Parts.{parts_of, parts_of_statement}
 use Rattle.isl_kinds.specs.Typed.{TypeView, ScopeView, is_dollar, has_unknown, kind_of}
 use Rattle.isl_kinds.specs.Typed.{declared_of, kind_for, with_params, type_for, type_of_statement}
 use Rattle.isl_kinds.proofs.PartLaws.{parts_of-Row}
-use Rattle.isl_simple.specs.Flat.{flat, link_of}
-use Rattle.isl_simple.specs.Simple.{bindings_of, last_of, BindFrom, IsSimple, IsSimpleExpr, HasType, AreTyped, statement_declared}
-use Rattle.isl_simple.specs.Unsupported.{is_later}
-use Rattle.isl_simple.proofs.SimpleLaws.{flat_ends, parts_kept, literals_kept, flat_is_simple, bindings_are_numbered}
-use Rattle.isl_simple.proofs.TypedLaws.{flat_is_typed}
-use Rattle.isl_spelled.specs.Names.{HasNoDollar, binds_dollar}
-use Rattle.isl_spelled.proofs.NameLaws.{bytes_spell_no_dollar}
-use Rattle.isl_select.specs.State.{Moment, scope_of}
-use Rattle.isl_select.specs.Made.{is_foreign}
+use Rattle.isl_flat.specs.Flat.{flat, link_of}
+use Rattle.isl_flat.specs.Simple.{bindings_of, last_of, BindFrom, IsSimple, IsSimpleExpr, HasType, AreTyped, statement_declared}
+use Rattle.isl_flat.specs.Unsupported.{is_later}
+use Rattle.isl_flat.proofs.SimpleLaws.{flat_ends, parts_kept, literals_kept, flat_is_simple, bindings_are_numbered}
+use Rattle.isl_flat.proofs.TypedLaws.{flat_is_typed}
+use Rattle.isl_stmt.specs.Names.{HasNoDollar, binds_dollar}
+use Rattle.isl_stmt.proofs.NameLaws.{bytes_spell_no_dollar}
+use Rattle.isl_values.specs.State.{Moment, scope_of}
+use Rattle.isl_values.specs.Made.{is_foreign}
 use Rattle.isl_eval.specs.Evaluated.{made_parts, shown_parts, worked_parts, IsEvaluable}
 use Rattle.isl_eval.specs.Evaluation.{IsRead, IsTaken, IsWorkable, AreEvaluable}
 use Rattle.isl_eval.specs.Spelled.{BytesSpell}

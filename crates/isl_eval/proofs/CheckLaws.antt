@@ -12,7 +12,7 @@ use Rattle.isl_expr.specs.declared.tree.Stmt.TheVariants.{Show}
 use Rattle.isl_expr.specs.declared.tree.Expr.{Expr, Prefix'}
 use Rattle.isl_text.specs.declared.refusal.Refusal.TheVariants as r
 use Rattle.isl_kinds.specs.Typed.{TypeView, ScopeView, declared_of, type_of_statement, Answers as TypeAnswers}
-use Rattle.isl_simple.specs.Simple.{statement_declared}
+use Rattle.isl_flat.specs.Simple.{statement_declared}
 use Rattle.isl_eval.specs.Causes.{is_given, is_parametric}
 use Rattle.isl_eval.specs.Evaluated.{IsTyped}
 use Rattle.isl_eval.specs.Evaluation.{is_listing, names_of, IsWorkable, IsWhyUnworkable}

@@ -20,18 +20,18 @@ use Rattle.isl_expr.specs.declared.tree.Expr.{Row_of-Postfix, end_of-Postfix, mo
 use Rattle.isl_expr.specs.declared.tree.Expr.{items_hidden-the_row-Link-1, items_hidden-the_row-Postfix-2}
 use Rattle.isl_expr.specs.declared.tree.Expr.TheBlock.{hidden-the_row-Expr-0, hidden-the_row-Link-1, hidden-the_row-Postfix-2}
 use Rattle.isl_expr.specs.declared.tree.Expr as e
-use Rattle.isl_statement.specs.declared.expression.Flow.{Flow}
-use Rattle.isl_statement.specs.declared.expression.Flow.TheVariants as flow
-use Rattle.isl_statement.specs.declared.operator.Precedence.{Precedence}
-use Rattle.isl_statement.specs.declared.operator.Precedence.TheVariants.{Test, Universal, Sum, Product, Join}
-use Rattle.isl_statement.specs.declared.word.Role.{Role}
-use Rattle.isl_statement.specs.declared.word.Role.TheVariants as role
-use Rattle.isl_statement.specs.Expression.{row_of, post_of, dependence}
-use Rattle.isl_statement.specs.ExpressionGrammar as g
-use Rattle.isl_statement.specs.StatementGrammar as statement
+use Rattle.isl_stmt.specs.declared.expression.Flow.{Flow}
+use Rattle.isl_stmt.specs.declared.expression.Flow.TheVariants as flow
+use Rattle.isl_stmt.specs.declared.operator.Precedence.{Precedence}
+use Rattle.isl_stmt.specs.declared.operator.Precedence.TheVariants.{Test, Universal, Sum, Product, Join}
+use Rattle.isl_stmt.specs.declared.word.Role.{Role}
+use Rattle.isl_stmt.specs.declared.word.Role.TheVariants as role
+use Rattle.isl_stmt.specs.Expression.{row_of, post_of, dependence}
+use Rattle.isl_stmt.specs.ExpressionGrammar as g
+use Rattle.isl_stmt.specs.StatementGrammar as statement
 use Rattle.isl_formula.proofs.SpelledLaws.{Has, whatever, pure_has, bind_has, then_has, either_has}
-use Rattle.isl_simple.specs.Flat.{Flattened, Partial, Followed, whole, is_gist, begun, settled_row, gist, with_link}
-use Rattle.isl_simple.specs.Flat.{nested, nested_in, outermost, past_links, past_postfixes, nested_postfix, followed_by, unfollowed}
+use Rattle.isl_flat.specs.Flat.{Flattened, Partial, Followed, whole, is_gist, begun, settled_row, gist, with_link}
+use Rattle.isl_flat.specs.Flat.{nested, nested_in, outermost, past_links, past_postfixes, nested_postfix, followed_by, unfollowed}
 use Rattle.isl_eval.proofs.PlainLaws.{is_end, is_bare, is_lone}
 
 -- ---- at the constructors of the code

@@ -18,15 +18,15 @@ use Rattle.isl_expr.specs.declared.tree.Expr.{Expr}
 use Rattle.isl_expr.specs.declared.tree.Expr.TheVariants as e
 use Rattle.isl_expr.specs.Expr.{literals_of, links_literals, postfixes_literals, literals_in_postfix, statement_literals}
 use Rattle.isl_expr.proofs.Literals.{literals_of-Prefix, literals_of-Row, literals_of-Post, literals_of-Any, literals_of-Last}
-use Rattle.isl_statement.specs.declared.expression.Flow.{Flow}
-use Rattle.isl_statement.specs.declared.expression.Flow.TheVariants as flow
-use Rattle.isl_statement.specs.declared.operator.Precedence.{Precedence}
-use Rattle.isl_statement.specs.declared.operator.Precedence.TheVariants.{Test, Universal, Sum, Product, Join}
-use Rattle.isl_statement.specs.declared.word.Role.{Role}
-use Rattle.isl_statement.specs.declared.word.Role.TheVariants as role
-use Rattle.isl_statement.specs.Expression.{row_of, post_of, dependence}
-use Rattle.isl_statement.specs.ExpressionGrammar as g
-use Rattle.isl_statement.specs.StatementGrammar as statement
+use Rattle.isl_stmt.specs.declared.expression.Flow.{Flow}
+use Rattle.isl_stmt.specs.declared.expression.Flow.TheVariants as flow
+use Rattle.isl_stmt.specs.declared.operator.Precedence.{Precedence}
+use Rattle.isl_stmt.specs.declared.operator.Precedence.TheVariants.{Test, Universal, Sum, Product, Join}
+use Rattle.isl_stmt.specs.declared.word.Role.{Role}
+use Rattle.isl_stmt.specs.declared.word.Role.TheVariants as role
+use Rattle.isl_stmt.specs.Expression.{row_of, post_of, dependence}
+use Rattle.isl_stmt.specs.ExpressionGrammar as g
+use Rattle.isl_stmt.specs.StatementGrammar as statement
 use Rattle.isl_formula.proofs.SpelledLaws.{Has, whatever, pure_has, bind_has, then_has, either_has, many_has}
 use Rattle.isl_text.proofs.DivisorLaws.{IsDivided, outline_divided}
 use Rattle.isl_eval.proofs.NameLaws.{IsNamedLiteral, outline_has}

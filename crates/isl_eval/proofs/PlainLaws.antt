@@ -22,10 +22,10 @@ use Rattle.isl_kinds.specs.Lines.{joined, applied, prefixed, inverse}
 use Rattle.isl_kinds.specs.Parts.{Part, parts_of, parts_in, parts_in_links, parts_in_postfixes, parts_of_postfix}
 use Rattle.isl_kinds.specs.Parts as part
 use Rattle.isl_kinds.specs.Typed.{ScopeView, by_two, kind_of, kind_in, kind_past_links, kind_past_postfixes, kind_past}
-use Rattle.isl_simple.specs.Simple.{chooses}
-use Rattle.isl_simple.specs.Unsupported.{is_later}
-use Rattle.isl_select.specs.Made.{is_foreign}
-use Rattle.isl_select.proofs.PartLaws.{quiet_both}
+use Rattle.isl_flat.specs.Simple.{chooses}
+use Rattle.isl_flat.specs.Unsupported.{is_later}
+use Rattle.isl_values.specs.Made.{is_foreign}
+use Rattle.isl_values.proofs.PartLaws.{quiet_both}
 use Rattle.isl_eval.specs.Tests.{is_test, ends_with_test}
 use Rattle.isl_eval.specs.Evaluated.{parts_around_test, made_parts, shown_parts}
 

@@ -11,9 +11,9 @@ use Rattle.isl_text.specs.declared.refusal.Refusal.TheVariants as r
 use Rattle.isl_expr.specs.declared.tree.Stmt.{Stmt}
 use Rattle.isl_kinds.specs.Typed.{TypeView, type_of_statement}
 use Rattle.isl_kinds.specs.Parts.{parts_of_statement}
-use Rattle.isl_simple.specs.Simple.{statement_declared}
-use Rattle.isl_select.specs.Made.{uses_units}
-use Rattle.isl_select.specs.State.{Moment, scope_of}
+use Rattle.isl_flat.specs.Simple.{statement_declared}
+use Rattle.isl_values.specs.Made.{uses_units}
+use Rattle.isl_values.specs.State.{Moment, scope_of}
 use Rattle.isl_eval.specs.Spelled.{BytesSpell, OfStatement}
 use Rattle.isl_eval.specs.Causes.{Cause, no_token, too_deep, no_statement, too_wide}
 use Rattle.isl_eval.specs.Causes.{wide_number, unsupported, unknown_name, wrong_kind, no_element}

@@ -49,14 +49,14 @@ use Rattle.isl_kinds.specs.Typed.{TypeView, ScopeView, has_unknown, is_unknown, 
 use Rattle.isl_kinds.specs.Typed.{declared_of_row, joined_names, type_for, type_of_statement, Answers as TypeAnswers}
 use Rattle.isl_kinds.proofs.DeclaredLaws.{declared_of-Row}
 use Rattle.isl_kinds.proofs.PartLaws.{parts_of-Prefix, parts_of-Row}
-use Rattle.isl_select.specs.State.{Binds, Kept, Moment, StateView, HasNumbersUpTo, scope_of, type_of}
-use Rattle.isl_select.specs.Worked.{IsWorked}
-use Rattle.isl_select.specs.Selection.{Selects, IsContentOf, IsSelected, Keeps}
-use Rattle.isl_select.specs.Made.{is_foreign, uses_units, IsReady, IsOfType, IsSoundExpr, IsValueOf, IsPaid, IsWhyUnworked}
-use Rattle.isl_select.specs.Formed.{FormsTooWide, IsTooWide}
-use Rattle.isl_select.proofs.NarrowLaws.{declared_of-Prefix, row_declares, operand_fits}
-use Rattle.isl_select.proofs.PartLaws.{all_left, all_right, quiet_both, sound_links}
-use Rattle.isl_select.proofs.ValueLaws.{same_limit, unworked_in}
+use Rattle.isl_values.specs.State.{Binds, Kept, Moment, StateView, HasNumbersUpTo, scope_of, type_of}
+use Rattle.isl_values.specs.Worked.{IsWorked}
+use Rattle.isl_values.specs.Selection.{Selects, IsContentOf, IsSelected, Keeps}
+use Rattle.isl_values.specs.Made.{is_foreign, uses_units, IsReady, IsOfType, IsSoundExpr, IsValueOf, IsPaid, IsWhyUnworked}
+use Rattle.isl_values.specs.Formed.{FormsTooWide, IsTooWide}
+use Rattle.isl_values.proofs.NarrowLaws.{declared_of-Prefix, row_declares, operand_fits}
+use Rattle.isl_values.proofs.PartLaws.{all_left, all_right, quiet_both, sound_links}
+use Rattle.isl_values.proofs.ValueLaws.{same_limit, unworked_in}
 use Rattle.isl_eval.specs.Listed.{IsListed, AreFinite}
 use Rattle.isl_eval.specs.Machine.{Answer, Does, Shows, ShowsRow, ShowsValue, Step, listed, nothing, shown}
 use Rattle.isl_eval.specs.Causes.{IsInfinite}

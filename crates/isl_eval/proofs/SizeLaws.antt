@@ -42,9 +42,9 @@ space_leaves first (Some second) = ap₂ (λ (m n : ℕ). m + n) (tuple_leaves f
 -- a piece within its limits lies in a space that is none too wide
 pub narrow : (piece : PieceTree) → piece_is_within piece ≡ true → IsNarrowSpace (space_of_piece piece)
 narrow piece within =
-    let sizes = and_parts (nat_le (coordinates piece) 32 && nat_le (leaves_of_piece piece) 64) (nat_le (bound_in piece) 64) within in
-    let both = and_parts (nat_le (coordinates piece) 32) (nat_le (leaves_of_piece piece) 64) sizes.0 in
-    let wide = leb-true (coordinates piece) 32 both.0 in
+    let sizes = and_parts (nat_le (coordinates piece) 64 && nat_le (leaves_of_piece piece) 64) (nat_le (bound_in piece) 64) within in
+    let both = and_parts (nat_le (coordinates piece) 64) (nat_le (leaves_of_piece piece) 64) sizes.0 in
+    let wide = leb-true (coordinates piece) 64 both.0 in
     let many = leb-true (leaves_of_piece piece) 64 both.1 in
     record {
       coordinates = rw (space_width piece.first piece.second) wide;

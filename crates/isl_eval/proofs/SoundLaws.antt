@@ -17,7 +17,7 @@ use Rattle.isl_text.specs.Limits.{is_within, piece_is_within}
 use Rattle.isl_lower.specs.Value.{IsWellFormedLiteral}
 use Rattle.isl_expr.specs.declared.tree.Stmt.{Stmt}
 use Rattle.isl_expr.specs.Expr.{statement_literals}
-use Rattle.isl_statement.specs.Limits.{statement_is_within}
+use Rattle.isl_stmt.specs.Limits.{statement_is_within}
 use Rattle.isl_eval.specs.Spelled.{BytesSpell}
 use Rattle.isl_eval.proofs.LexLaws.{lexed}
 use Rattle.isl_eval.proofs.LiteralLaws.{IsSpelled, literals_spelled}

@@ -18,17 +18,17 @@ use Rattle.isl_expr.specs.declared.tree.Stmt.{Stmt}
 use Rattle.isl_expr.specs.declared.tree.Stmt.TheVariants.{Empty, Bind, Show}
 use Rattle.isl_expr.specs.declared.tree.Expr.{Expr}
 use Rattle.isl_kinds.specs.Typed.{TypeView, is_dollar, kind_of, type_of_statement}
-use Rattle.isl_simple.specs.Flat.{flat}
-use Rattle.isl_simple.specs.Simple.{BindsIn}
-use Rattle.isl_simple.proofs.SimpleLaws.{parts_kept}
-use Rattle.isl_spelled.specs.Names.{binds_dollar}
-use Rattle.isl_select.specs.State.{Kept, Moment, StateView, Binds, Fits, HasNumbersUpTo, IsSettled, type_of, scope_of, forgotten}
-use Rattle.isl_select.specs.Selection.{Keeps}
-use Rattle.isl_select.specs.Formed.{FormsTooWide}
-use Rattle.isl_select.specs.Made.{IsPaid, refusal_of_cut, uses_units}
-use Rattle.isl_select.proofs.StateLaws.{bound_at, fits_bound}
-use Rattle.isl_select.proofs.ForgetLaws.{forgotten_itself, forgotten_settled, fits_forgotten}
-use Rattle.isl_select.proofs.ValueLaws.{same_limit, paid_same, paid_after, unworked_after}
+use Rattle.isl_flat.specs.Flat.{flat}
+use Rattle.isl_flat.specs.Simple.{BindsIn}
+use Rattle.isl_flat.proofs.SimpleLaws.{parts_kept}
+use Rattle.isl_stmt.specs.Names.{binds_dollar}
+use Rattle.isl_values.specs.State.{Kept, Moment, StateView, Binds, Fits, HasNumbersUpTo, IsSettled, type_of, scope_of, forgotten}
+use Rattle.isl_values.specs.Selection.{Keeps}
+use Rattle.isl_values.specs.Formed.{FormsTooWide}
+use Rattle.isl_values.specs.Made.{IsPaid, refusal_of_cut, uses_units}
+use Rattle.isl_values.proofs.StateLaws.{bound_at, fits_bound}
+use Rattle.isl_values.proofs.ForgetLaws.{forgotten_itself, forgotten_settled, fits_forgotten}
+use Rattle.isl_values.proofs.ValueLaws.{same_limit, paid_same, paid_after, unworked_after}
 use Rattle.isl_eval.specs.declared.step.Tally.{Tally}
 use Rattle.isl_eval.specs.Machine.{Answer, Does, Step, Steps, behind, nothing}
 use Rattle.isl_eval.specs.Spelled.{OfStatement}

@@ -6,8 +6,8 @@ use Rattle.isl_text.specs.declared.refusal.Refusal.{Refusal}
 use Rattle.isl_text.specs.declared.refusal.Refusal.TheVariants as r
 use Rattle.isl_expr.specs.declared.tree.Stmt.{Stmt}
 use Rattle.isl_kinds.specs.Typed.{ScopeView}
-use Rattle.isl_simple.specs.Flat.{flat}
-use Rattle.isl_select.specs.State.{Moment, StateView, scope_of}
+use Rattle.isl_flat.specs.Flat.{flat}
+use Rattle.isl_values.specs.State.{Moment, StateView, scope_of}
 use Rattle.isl_eval.specs.Causes.{Refuses}
 use Rattle.isl_eval.specs.Evaluation.{IsRead, IsTaken, IsWhyNot, IsWhyUnworkable, IsWorkable}
 use Rattle.isl_eval.proofs.ChainLaws.{evaluable}

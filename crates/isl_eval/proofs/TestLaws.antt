@@ -25,15 +25,15 @@ use Rattle.isl_kinds.specs.Parts.{Part, parts_of, parts_of_links, parts_in_links
 use Rattle.isl_kinds.specs.Parts as part
 use Rattle.isl_kinds.specs.Typed.{ScopeView, declared_of, declared_of_row}
 use Rattle.isl_kinds.proofs.PartLaws.{parts_of-Row, any_in_link}
-use Rattle.isl_select.specs.State.{StateView, Moment, HasNumbersUpTo}
-use Rattle.isl_operations.specs.Operations.{OperatorHas}
-use Rattle.isl_operations.proofs.NamesLaws.{turned_fits}
-use Rattle.isl_select.specs.Selection.{Selects, RowSelects}
-use Rattle.isl_select.specs.Made.{IsWhyUnmade, IsWhyUnworked, refusal_of_cut}
-use Rattle.isl_select.proofs.PartLaws.{quiet_both}
-use Rattle.isl_select.proofs.NarrowLaws.{declared_distinct, joined_is}
-use Rattle.isl_select.proofs.RowLaws.{same_row, same_trans}
-use Rattle.isl_select.proofs.ValueLaws.{numbers_later, paid_works, unworked_after}
+use Rattle.isl_values.specs.State.{StateView, Moment, HasNumbersUpTo}
+use Rattle.isl_operators.specs.Operations.{OperatorHas}
+use Rattle.isl_operators.proofs.NamesLaws.{turned_fits}
+use Rattle.isl_values.specs.Selection.{Selects, RowSelects}
+use Rattle.isl_values.specs.Made.{IsWhyUnmade, IsWhyUnworked, refusal_of_cut}
+use Rattle.isl_values.proofs.PartLaws.{quiet_both}
+use Rattle.isl_values.proofs.NarrowLaws.{declared_distinct, joined_is}
+use Rattle.isl_values.proofs.RowLaws.{same_row, same_trans}
+use Rattle.isl_values.proofs.ValueLaws.{numbers_later, paid_works, unworked_after}
 use Rattle.isl_eval.specs.Tests.{Elements, is_test, ends_with_test, IsPartOf, TestHolds, HoldsPastLinks}
 use Rattle.isl_eval.specs.Machine.{Answer, Shows, ShowsRow, ShowsValue, told}
 use Rattle.isl_eval.specs.Evaluated.{shown_parts, parts_around_test}

@@ -10,8 +10,8 @@ use Rattle.isl_kinds.specs.declared.types.Purpose.{Purpose}
 use Rattle.isl_kinds.specs.declared.types.Purpose.TheVariants as purpose
 use Rattle.isl_kinds.specs.Typed.{TypeView, ScopeView, takes, has_unknown, has_no_item, kind_of}
 use Rattle.isl_kinds.specs.Typed.{declared_of, kind_for, with_params, type_for, found, type_of_statement}
-use Rattle.isl_simple.specs.Simple.{statement_declared}
-use Rattle.isl_select.specs.Made.{IsOfType}
+use Rattle.isl_flat.specs.Simple.{statement_declared}
+use Rattle.isl_values.specs.Made.{IsOfType}
 
 -- ---- types
 module _ (scope : ScopeView) (expr : Expr) where

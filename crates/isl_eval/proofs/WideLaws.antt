@@ -10,12 +10,12 @@ use Rattle.isl_expr.specs.declared.tree.Binary.TheVariants as b
 use Rattle.isl_expr.specs.declared.tree.Prefix.{Prefix as Word}
 use Rattle.isl_expr.specs.declared.tree.Link.{Link}
 use Rattle.isl_expr.specs.declared.tree.Expr.{Expr, Prefix, Row}
-use Rattle.isl_operations.specs.Operations.{OperatorHas}
-use Rattle.isl_operations.specs.Formed.{OperatorForms, WordForms, FormsWide}
-use Rattle.isl_select.specs.State.{StateView}
-use Rattle.isl_select.specs.Selection.{Selects}
-use Rattle.isl_select.specs.Formed.{IsTooWide, IsTooWideRow}
-use Rattle.isl_select.proofs.FormedLaws.{wide_of-Prefix, wide_of-Row, wide_row}
+use Rattle.isl_operators.specs.Operations.{OperatorHas}
+use Rattle.isl_operators.specs.Formed.{OperatorForms, WordForms, FormsWide}
+use Rattle.isl_values.specs.State.{StateView}
+use Rattle.isl_values.specs.Selection.{Selects}
+use Rattle.isl_values.specs.Formed.{IsTooWide, IsTooWideRow}
+use Rattle.isl_values.proofs.FormedLaws.{wide_of-Prefix, wide_of-Row, wide_row}
 use Rattle.isl_eval.specs.Tests.{Elements, is_test}
 use Rattle.isl_eval.specs.Evaluation.{IsTooWideTest}
 

@@ -16,17 +16,17 @@ use Rattle.isl_expr.specs.declared.tree.Prefix.TheVariants as p
 use Rattle.isl_expr.specs.declared.tree.Expr.{Prefix'}
 use Rattle.isl_expr.specs.declared.tree.Stmt.{Stmt}
 use Rattle.isl_expr.specs.declared.tree.Stmt.TheVariants.{Show}
-use Rattle.isl_statement.specs.Limits.{statement_is_within}
-use Rattle.isl_statement.specs.Read.{NoStatement}
+use Rattle.isl_stmt.specs.Limits.{statement_is_within}
+use Rattle.isl_stmt.specs.Read.{NoStatement}
 use Rattle.isl_kinds.specs.Parts.{parts_of_statement}
 use Rattle.isl_kinds.specs.Typed.{ScopeView, declared_in, type_of_statement}
-use Rattle.isl_simple.specs.Flat.{flat}
-use Rattle.isl_simple.specs.Simple.{statement_declared}
-use Rattle.isl_simple.specs.Unsupported.{is_unsupported}
-use Rattle.isl_select.specs.State.{Moment, scope_of}
-use Rattle.isl_select.specs.Selection.{SelectsIn}
-use Rattle.isl_select.specs.Formed.{FormsTooWide, IsTooWideIn}
-use Rattle.isl_select.specs.Made.{uses_units}
+use Rattle.isl_flat.specs.Flat.{flat}
+use Rattle.isl_flat.specs.Simple.{statement_declared}
+use Rattle.isl_flat.specs.Unsupported.{is_unsupported}
+use Rattle.isl_values.specs.State.{Moment, scope_of}
+use Rattle.isl_values.specs.Selection.{SelectsIn}
+use Rattle.isl_values.specs.Formed.{FormsTooWide, IsTooWideIn}
+use Rattle.isl_values.specs.Made.{uses_units}
 use Rattle.isl_eval.specs.Listed.{AreFinite}
 use Rattle.isl_eval.specs.Machine.{Step, nothing}
 use Rattle.isl_eval.specs.Spelled.{OfTokens, OfStatement}

@@ -13,10 +13,10 @@ use Rattle.isl_expr.specs.declared.tree.Expr.{Expr, Row', Prefix', Row_of-Link, 
 use Rattle.isl_expr.specs.Expr.{statement_literals}
 use Rattle.isl_kinds.specs.Parts.{Part, operator, parts_of, parts_in, parts_in_links, parts_of_statement}
 use Rattle.isl_kinds.specs.Typed.{TypeView, ScopeView, type_of_statement}
-use Rattle.isl_simple.specs.Simple.{statement_declared}
-use Rattle.isl_select.specs.State.{Moment}
-use Rattle.isl_select.specs.Made.{is_foreign, uses_units, IsWhyUnworked}
-use Rattle.isl_select.specs.Formed.{FormsTooWide}
+use Rattle.isl_flat.specs.Simple.{statement_declared}
+use Rattle.isl_values.specs.State.{Moment}
+use Rattle.isl_values.specs.Made.{is_foreign, uses_units, IsWhyUnworked}
+use Rattle.isl_values.specs.Formed.{FormsTooWide}
 use Rattle.isl_eval.specs.Tests.{ends_with_test}
 use Rattle.isl_eval.specs.Causes.{IsInfinite}
 

@@ -23,13 +23,13 @@ use Rattle.isl_expr.specs.declared.tree.ValueKind.{ValueKind}
 use Rattle.isl_expr.specs.Expr.{literals_of, statement_literals}
 use Rattle.isl_kinds.specs.Typed.{TypeView, ScopeView, is_dollar, has_unknown, kind_of}
 use Rattle.isl_kinds.specs.Typed.{declared_of, declared_of_row, joined_names, type_of_statement}
-use Rattle.isl_simple.specs.Flat.{flat}
-use Rattle.isl_simple.specs.Simple.{BindsIn, statement_declared}
-use Rattle.isl_simple.specs.Unsupported.{is_unsupported}
-use Rattle.isl_select.specs.State.{Moment, StateView, Fits, HasNumbersUpTo, scope_of, forgotten}
-use Rattle.isl_select.specs.Selection.{IsSelected, Keeps, Selects, RowSelects}
-use Rattle.isl_select.specs.Formed.{FormsTooWide, IsTooWide, IsTooWideRow}
-use Rattle.isl_select.specs.Made.{is_foreign, AreReady, IsReady, IsPaid, IsWhyUnworked, refusal_of_cut}
+use Rattle.isl_flat.specs.Flat.{flat}
+use Rattle.isl_flat.specs.Simple.{BindsIn, statement_declared}
+use Rattle.isl_flat.specs.Unsupported.{is_unsupported}
+use Rattle.isl_values.specs.State.{Moment, StateView, Fits, HasNumbersUpTo, scope_of, forgotten}
+use Rattle.isl_values.specs.Selection.{IsSelected, Keeps, Selects, RowSelects}
+use Rattle.isl_values.specs.Formed.{FormsTooWide, IsTooWide, IsTooWideRow}
+use Rattle.isl_values.specs.Made.{is_foreign, AreReady, IsReady, IsPaid, IsWhyUnworked, refusal_of_cut}
 use Rattle.isl_eval.specs.declared.shown.Line.{Line}
 use Rattle.isl_eval.specs.Spelled.{BytesSpell}
 use Rattle.isl_eval.specs.Tests.{Elements, is_test}

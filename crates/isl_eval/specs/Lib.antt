@@ -10,8 +10,8 @@ pub use Rattle.isl_kinds.specs.Typed
 pub use Rattle.isl_lower.specs.Value
 pub use Rattle.isl_print.specs.Printed
 pub use Rattle.isl_scan.specs.ListingText
-pub use Rattle.isl_select.specs.Selection
-pub use Rattle.isl_select.specs.State
-pub use Rattle.isl_statement.specs.StatementGrammar
+pub use Rattle.isl_values.specs.Selection
+pub use Rattle.isl_values.specs.State
+pub use Rattle.isl_stmt.specs.StatementGrammar
 pub use Rattle.isl_tree.specs.Literal
 pub use Rattle.isl_union.specs.KeptValue

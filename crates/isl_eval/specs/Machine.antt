@@ -9,10 +9,10 @@ use Rattle.isl_expr.specs.declared.tree.Prefix.TheVariants as p
 use Rattle.isl_expr.specs.declared.tree.Expr.{Expr, Row', Prefix'}
 use Rattle.isl_expr.specs.declared.tree.Stmt.{Stmt}
 use Rattle.isl_expr.specs.declared.tree.Stmt.TheVariants.{Empty, Bind, Show}
-use Rattle.isl_simple.specs.Flat.{flat}
-use Rattle.isl_select.specs.State.{Kept, Moment, Binds, forgotten}
-use Rattle.isl_select.specs.Selection.{Keeps, SelectsIn}
-use Rattle.isl_select.specs.Formed.{FormsTooWide}
+use Rattle.isl_flat.specs.Flat.{flat}
+use Rattle.isl_values.specs.State.{Kept, Moment, Binds, forgotten}
+use Rattle.isl_values.specs.Selection.{Keeps, SelectsIn}
+use Rattle.isl_values.specs.Formed.{FormsTooWide}
 use Rattle.isl_eval.specs.Tests.{ends_with_test, RowHolds}
 use Rattle.isl_eval.specs.Listed.{IsListed}
 

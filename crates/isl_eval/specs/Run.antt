@@ -2,7 +2,7 @@
 use Rattle.std.specs.Prelude.{◌≡◌, ℕ, List, [], ◌∷◌}
 use Rattle.isl_meter.specs.Gauge.{IsCharged}
 use Rattle.isl_expr.specs.declared.tree.Stmt.{Stmt}
-use Rattle.isl_select.specs.State.{Moment}
+use Rattle.isl_values.specs.State.{Moment}
 use Rattle.isl_eval.specs.Machine.{Answer, Performs}
 use Rattle.isl_eval.specs.Spelled.{BytesSpell}
 use Rattle.isl_eval.specs.Causes.{IsClear, HasWork}

@@ -4,7 +4,7 @@ use Rattle.isl_token.specs.TokenView.{Token}
 use Rattle.isl_token.specs.Lex as lex
 use Rattle.isl_token.specs.Spelling.{Spells}
 use Rattle.isl_expr.specs.declared.tree.Stmt.{Stmt}
-use Rattle.isl_statement.specs.StatementGrammar.{statement_grammar}
+use Rattle.isl_stmt.specs.StatementGrammar.{statement_grammar}
 
 -- the bytes have tokens, and these spell the statement
 pub record BytesSpell (bytes : List ℕ) (stmt : Stmt) : Type 0 where

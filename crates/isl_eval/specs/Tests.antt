@@ -5,9 +5,9 @@ use Rattle.isl_space.specs.Element.{Element}
 use Rattle.isl_expr.specs.declared.tree.Binary.{Binary}
 use Rattle.isl_expr.specs.declared.tree.Binary.TheVariants as b
 use Rattle.isl_expr.specs.declared.tree.Expr.{Row_of-Expr, Row_of-Link, end_of-Link, more_of-Link}
-use Rattle.isl_operations.specs.Operations.{OperatorHas}
-use Rattle.isl_select.specs.State.{StateView, Everywhere}
-use Rattle.isl_select.specs.Selection.{Selects, SelectsIn}
+use Rattle.isl_operators.specs.Operations.{OperatorHas}
+use Rattle.isl_values.specs.State.{StateView, Everywhere}
+use Rattle.isl_values.specs.Selection.{Selects, SelectsIn}
 
 abbrev pub is_test : Binary → Bool
 is_test b.Equal = true

@@ -1,14 +1,14 @@
 //! The statement that bytes spell.
 
 ghost use Rattle.std.specs.Prelude.{◌≡◌, ℕ, List, MatchResult};
-ghost use Rattle.isl_select.specs.State.{Moment};
+ghost use Rattle.isl_values.specs.State.{Moment};
 ghost use Rattle.isl_eval.specs.Spelled.{SpellOne};
 ghost use Rattle.isl_eval.specs.Evaluation.{IsRead, IsWhyNot};
 
 use isl_expr::tree::Stmt;
 use isl_meter::Meter;
-use isl_simple::is_unsupported;
-use isl_statement::read_statement;
+use isl_flat::is_unsupported;
+use isl_stmt::read_statement;
 use isl_text::refusal::Refusal;
 use std::alloc::Global;
 

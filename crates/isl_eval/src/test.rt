@@ -1,22 +1,22 @@
 //! Tests: what values say of one another.
 
 ghost use Rattle.std.specs.Prelude.{◌≡◌, ◌↔◌, ◌≤◌, true, IfOk, IsTrue, MatchResult, length};
-ghost use Rattle.isl_meter.specs.Gauge.{IsCharged, IsCutBy, limit_of};
+ghost use Rattle.isl_meter.specs.Gauge.{IsCharged, IsMetered, limit_of};
 ghost use Rattle.isl_space.specs.Limits.{most_parameters};
 ghost use Rattle.isl_space.specs.Names.{joined};
 ghost use Rattle.isl_union.specs.Compare.{AreEqual, IsSubset};
 ghost use Rattle.isl_union.specs.KeptValue.{Has};
 ghost use Rattle.isl_union.specs.Numbers.{IsWithinLimit};
-ghost use Rattle.isl_select.specs.State.{StateView, scope_of, Fits};
-ghost use Rattle.isl_select.specs.Made.{IsWhyUnworked};
-ghost use Rattle.isl_select.specs.Selection.{Selects};
+ghost use Rattle.isl_values.specs.State.{StateView, scope_of, Fits};
+ghost use Rattle.isl_values.specs.Made.{IsWhyUnworked};
+ghost use Rattle.isl_values.specs.Selection.{Selects};
 ghost use Rattle.isl_eval.specs.Tests.{is_test, TestHolds};
 ghost use Rattle.isl_eval.specs.Evaluation.{ends_with_test, IsReadyTest, IsTooWideTest, past_row};
 
 use crate::shown::refusal_of;
 use isl_expr::tree::{Binary, Expr, Link};
 use isl_meter::{Cut, Meter};
-use isl_select::{State, joined_past, value_of};
+use isl_values::{State, joined_past, value_of};
 use isl_text::refusal::Refusal;
 use isl_union::{OpFault, Value};
 use std::alloc::Global;
@@ -50,7 +50,7 @@ fn is_part(alloc: Global, left: &Value, right: &Value, meter: &mut Meter) -> Res
     requires left { IsWithinLimit meter.old left.now }
     requires right { IsWithinLimit meter.old right.now }
     ensures exact { IfOk result (λ holds. IsTrue holds ↔ IsSubset left.now right.now) }
-    ensures meter { MatchResult result (λ _. IsCharged meter.old meter.new) (IsCutBy meter.old meter.new) }
+    ensures meter { IsMetered meter.old meter.new result }
 {
     match left.is_subset(alloc, right, meter) {
         Ok(holds) => Ok(holds),
@@ -64,7 +64,7 @@ fn are_equal(alloc: Global, left: &Value, right: &Value, meter: &mut Meter) -> R
     requires left { IsWithinLimit meter.old left.now }
     requires right { IsWithinLimit meter.old right.now }
     ensures exact { IfOk result (λ holds. IsTrue holds ↔ AreEqual left.now right.now) }
-    ensures meter { MatchResult result (λ _. IsCharged meter.old meter.new) (IsCutBy meter.old meter.new) }
+    ensures meter { IsMetered meter.old meter.new result }
 {
     match left.is_equal(alloc, right, meter) {
         Ok(holds) => Ok(holds),
@@ -86,7 +86,7 @@ fn is_proper_part(
     requires left { IsWithinLimit meter.old left.now }
     requires right { IsWithinLimit meter.old right.now }
     ensures exact { IfOk result (λ holds. IsTrue holds ↔ (IsSubset left.now right.now × (¬ IsSubset right.now left.now))) }
-    ensures meter { MatchResult result (λ _. IsCharged meter.old meter.new) (IsCutBy meter.old meter.new) }
+    ensures meter { IsMetered meter.old meter.new result }
 {
     if !is_part(alloc, left, right, meter)? {
         return Ok(false);
@@ -109,7 +109,7 @@ fn holds(
     requires left { IsWithinLimit meter.old left.now }
     requires right { IsWithinLimit meter.old right.now }
     ensures exact { (state : StateView) → IfOk result (λ holds. IsTrue holds ↔ TestHolds state test (Has left.now) (Has right.now)) }
-    ensures meter { MatchResult result (λ _. IsCharged meter.old meter.new) (IsCutBy meter.old meter.new) }
+    ensures meter { IsMetered meter.old meter.new result }
 {
     match test {
         Binary::Equal => are_equal(alloc, left, right, meter),

@@ -3,7 +3,7 @@
 ghost use Rattle.std.specs.Prelude.{◌≡◌, MatchResult, not};
 ghost use Rattle.std.specs.List.{list_any};
 ghost use Rattle.isl_kinds.specs.Typed.{ScopeView};
-ghost use Rattle.isl_simple.specs.Simple.{statement_declared};
+ghost use Rattle.isl_flat.specs.Simple.{statement_declared};
 ghost use Rattle.isl_eval.specs.Causes as spec;
 ghost use Rattle.isl_eval.specs.Evaluation.{is_listing, names_of, IsWorkable, IsWhyUnworkable};
 

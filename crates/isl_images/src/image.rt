@@ -1,7 +1,7 @@
 //! What is made of the pieces of one value.
 
 ghost use Rattle.std.specs.Prelude.{◌≡◌, ◌↔◌, [], All, IfOk, MatchResult};
-ghost use Rattle.isl_meter.specs.Gauge.{IsCharged, IsCutBy};
+ghost use Rattle.isl_meter.specs.Gauge.{IsCharged, IsMetered};
 ghost use Rattle.isl_space.specs.Element.{Element};
 ghost use Rattle.isl_space.specs.Shape.{form_of};
 ghost use Rattle.isl_space.specs.SpaceForm.{map_of};
@@ -49,7 +49,7 @@ fn piece_domain(
     requires space { piece.now.space ≡ map_of (form_of from.now.value) (form_of to.now.value) }
     ensures made { IfOk result (λ made. ArePiecesOf meter.old params.now (IsPlain piece.now)
         (λ valuation. DomainHas (elements_of params.now piece.now valuation)) made.items) }
-    ensures meter { MatchResult result (λ _. IsCharged meter.old meter.new) (IsCutBy meter.old meter.new) }
+    ensures meter { IsMetered meter.old meter.new result }
 {
     let space = Space::Set(from.clone()?);
     let gap = Gap {
@@ -73,7 +73,7 @@ fn piece_range(
     requires space { piece.now.space ≡ map_of (form_of from.now.value) (form_of to.now.value) }
     ensures made { IfOk result (λ made. ArePiecesOf meter.old params.now (IsPlain piece.now)
         (λ valuation. RangeHas (elements_of params.now piece.now valuation)) made.items) }
-    ensures meter { MatchResult result (λ _. IsCharged meter.old meter.new) (IsCutBy meter.old meter.new) }
+    ensures meter { IsMetered meter.old meter.new result }
 {
     let space = Space::Set(to.clone()?);
     let gap = Gap {
@@ -98,7 +98,7 @@ fn piece_deltas(
     requires space { piece.now.space ≡ map_of (form_of from.now.value) (form_of to.now.value) }
     ensures made { IfOk result (λ made. ArePiecesOf meter.old params.now (IsPlain piece.now)
         (λ valuation. DeltasHas (elements_of params.now piece.now valuation)) made.items) }
-    ensures meter { MatchResult result (λ _. IsCharged meter.old meter.new) (IsCutBy meter.old meter.new) }
+    ensures meter { IsMetered meter.old meter.new result }
 {
     if !from.same(to) {
         return Ok(Vec::new(alloc));
@@ -126,7 +126,7 @@ fn piece_image(
     requires within { IsSystemWithin meter.old piece.now.system }
     ensures made { IfOk result (λ made. ArePiecesOf meter.old params.now (IsPlain piece.now)
         (λ valuation. ImageHas image (elements_of params.now piece.now valuation)) made.items) }
-    ensures meter { MatchResult result (λ _. IsCharged meter.old meter.new) (IsCutBy meter.old meter.new) }
+    ensures meter { IsMetered meter.old meter.new result }
 {
     let Space::Map(from, to) = piece.space() else {
         return Ok(Vec::new(alloc));
@@ -151,7 +151,7 @@ fn piece_images(
     requires within { AreWithinLimit meter.old pieces.now }
     ensures made { IfOk result (λ made. ArePiecesOf meter.old params.now (All IsPlain pieces.now)
         (λ valuation. ImageHas image (elements_of_all params.now pieces.now valuation)) made.items) }
-    ensures meter { MatchResult result (λ _. IsCharged meter.old meter.new) (IsCutBy meter.old meter.new) }
+    ensures meter { IsMetered meter.old meter.new result }
 {
     let mut made = Vec::new(alloc);
     for piece in pieces {

@@ -1,7 +1,7 @@
 //! What is made of the pieces of two values.
 
-ghost use Rattle.std.specs.Prelude.{◌≡◌, [], All, IfOk, MatchResult};
-ghost use Rattle.isl_meter.specs.Gauge.{IsCharged, IsCutBy};
+ghost use Rattle.std.specs.Prelude.{◌≡◌, [], All, IfOk};
+ghost use Rattle.isl_meter.specs.Gauge.{IsMetered};
 ghost use Rattle.isl_space.specs.Space.{space_form_of};
 ghost use Rattle.isl_space.specs.Shape.{form_of};
 ghost use Rattle.isl_space.specs.SpaceForm.{map_of, set_of};
@@ -45,7 +45,7 @@ fn applied(
     requires set_within { IsSystemWithin meter.old set.now.system }
     ensures made { IfOk result (λ made. ArePiecesOf meter.old params.now (IsPlain map.now × IsPlain set.now)
         (λ valuation. ApplyHas (elements_of params.now map.now valuation) (elements_of params.now set.now valuation)) made.items) }
-    ensures meter { MatchResult result (λ _. IsCharged meter.old meter.new) (IsCutBy meter.old meter.new) }
+    ensures meter { IsMetered meter.old meter.new result }
 {
     let (Space::Map(from, to), Space::Set(shape)) = (map.space(), set.space()) else {
         return Ok(Vec::new(alloc));
@@ -79,7 +79,7 @@ fn joined(
     requires narrow { IsNarrowPair Pairing.Join first.now.space second.now.space }
     ensures made { IfOk result (λ made. ArePiecesOf meter.old params.now (IsPlain first.now × IsPlain second.now)
         (λ valuation. JoinHas (elements_of params.now first.now valuation) (elements_of params.now second.now valuation)) made.items) }
-    ensures meter { MatchResult result (λ _. IsCharged meter.old meter.new) (IsCutBy meter.old meter.new) }
+    ensures meter { IsMetered meter.old meter.new result }
 {
     let (Space::Map(from, middle), Space::Map(other, to)) = (first.space(), second.space()) else {
         return Ok(Vec::new(alloc));
@@ -115,7 +115,7 @@ fn pair_pieces(
     ensures made { IfOk result (λ made. ArePiecesOf meter.old params.now (IsPlain first.now × IsPlain second.now)
         (λ valuation. PairHas pairing (elements_of params.now first.now valuation) (elements_of params.now second.now valuation))
         made.items) }
-    ensures meter { MatchResult result (λ _. IsCharged meter.old meter.new) (IsCutBy meter.old meter.new) }
+    ensures meter { IsMetered meter.old meter.new result }
 {
     match pairing {
         Pairing::Apply => applied(alloc, params, first, second, meter),
@@ -141,7 +141,7 @@ fn pieces_with(
     ensures made { IfOk result (λ made. ArePiecesOf meter.old params.now (IsPlain piece.now × All IsPlain others.now)
         (λ valuation. PairHas pairing (elements_of params.now piece.now valuation) (elements_of_all params.now others.now valuation))
         made.items) }
-    ensures meter { MatchResult result (λ _. IsCharged meter.old meter.new) (IsCutBy meter.old meter.new) }
+    ensures meter { IsMetered meter.old meter.new result }
 {
     let mut made = Vec::new(alloc);
     for other in others {
@@ -171,7 +171,7 @@ pub(crate) fn all_pairs(
     ensures made { IfOk result (λ made. ArePiecesOf meter.old params.now (All IsPlain pieces.now × All IsPlain others.now)
         (λ valuation. PairHas pairing (elements_of_all params.now pieces.now valuation) (elements_of_all params.now others.now valuation))
         made.items) }
-    ensures meter { MatchResult result (λ _. IsCharged meter.old meter.new) (IsCutBy meter.old meter.new) }
+    ensures meter { IsMetered meter.old meter.new result }
 {
     let mut made = Vec::new(alloc);
     for piece in pieces {

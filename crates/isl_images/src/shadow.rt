@@ -1,7 +1,7 @@
 //! What is left of systems without some of their coordinates.
 
-ghost use Rattle.std.specs.Prelude.{◌≡◌, ◌≤◌, [], IfOk, MatchResult, length};
-ghost use Rattle.isl_meter.specs.Gauge.{IsCharged, IsCutBy};
+ghost use Rattle.std.specs.Prelude.{◌≡◌, ◌≤◌, [], IfOk, length};
+ghost use Rattle.isl_meter.specs.Gauge.{IsMetered};
 ghost use Rattle.isl_space.specs.Space.{space_form_of};
 ghost use Rattle.isl_space.specs.SpaceForm.{IsWellFormedSpace};
 ghost use Rattle.isl_piece.specs.System.{IsSystemWithin};
@@ -37,7 +37,7 @@ pub(crate) fn pieces_without(
     requires gap { HasGap params.now (space_form_of space.now) system.now gap }
     ensures made { IfOk result (λ pieces. ArePiecesOf meter.old params.now (system.now.definitions ≡ [])
         (IsShadow params.now (space_form_of space.now) system.now gap) pieces.items) }
-    ensures meter { MatchResult result (λ _. IsCharged meter.old meter.new) (IsCutBy meter.old meter.new) }
+    ensures meter { IsMetered meter.old meter.new result }
 {
     let _free = system.free();
     let first = params.len() + gap.from;

@@ -1,3 +1,9 @@
+pub mod EntryLaws
+pub mod NameLaws
+pub mod PointLaws
+pub mod SizeLaws
+pub mod SpaceLaws
+pub mod WidthLaws
 pub mod MadeLaws
 pub mod SystemLaws
 pub mod ValueLaws

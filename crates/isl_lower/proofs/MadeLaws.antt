@@ -27,7 +27,7 @@ use Rattle.isl_tree.specs.declared.tree.Literal.{Literal}
 use Rattle.isl_tree.specs.Known.{piece_is_known}
 use Rattle.isl_tree.specs.Literal.{piece_entries, space_of_piece, piece_environment, PieceHas}
 use Rattle.isl_tree.specs.Plain.{is_plain_piece}
-use Rattle.isl_tuples.proofs.WidthLaws.{coordinates_are}
+use Rattle.isl_lower.proofs.WidthLaws.{coordinates_are}
 use Rattle.isl_lower.specs.Value.{piece_lowered, IsLowered}
 use Rattle.isl_lower.specs.Made.{AreSystemsOf, AreMadeOf}
 use Rattle.isl_lower.proofs.ValueLaws.{entries_count, pieces_have, pieces_up_to}

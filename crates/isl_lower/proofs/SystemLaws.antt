@@ -23,11 +23,11 @@ use Rattle.isl_tree.specs.Known.{entries_are_known, known_behind, body_is_known,
 use Rattle.isl_tree.specs.Literal.{entry_term, piece_entries, piece_environment, space_of_piece, BodyHolds}
 use Rattle.isl_affine.specs.Scope.{IsNumbered}
 use Rattle.isl_alternatives.specs.Known.{IsFormulaKnown}
-use Rattle.isl_tuples.specs.Names.{piece_names}
-use Rattle.isl_tuples.specs.Tuples.{AreFormed, IsTuplesSystem}
-use Rattle.isl_tuples.proofs.WidthLaws.{coordinates_are}
-use Rattle.isl_tuples.proofs.PointLaws.{piece_knows, piece_numbered}
-use Rattle.isl_linear.proofs.TermLaws.{both_true}
+use Rattle.isl_lower.specs.Names.{piece_names}
+use Rattle.isl_lower.specs.Tuples.{AreFormed, IsTuplesSystem}
+use Rattle.isl_lower.proofs.WidthLaws.{coordinates_are}
+use Rattle.isl_lower.proofs.PointLaws.{piece_knows, piece_numbered}
+use Rattle.isl_plain.proofs.TermLaws.{both_true}
 use Rattle.isl_lower.specs.Made.{AreSystemsOf}
 
 each_divides : (entries : List Entry) → ArePositive (entries_divisors entries) → All (λ entry. HasDivisors (entry_term entry)) entries

@@ -32,15 +32,15 @@ use Rattle.isl_tree.specs.Environment.{Environment}
 use Rattle.isl_tree.specs.Literal.{piece_entries, space_of_piece, piece_environment, EntriesEqual, PieceHas}
 use Rattle.isl_tree.specs.Known.{piece_is_known, literal_is_known}
 use Rattle.isl_tree.specs.Plain.{is_plain_piece, is_plain}
-use Rattle.isl_linear.specs.Linear.{Place, difference}
-use Rattle.isl_linear.specs.Rows.{Written, added, numbers_in, piece_place, piece_width, rows_written, written_piece}
-use Rattle.isl_linear.specs.Passes.{FailsBy}
+use Rattle.isl_plain.specs.Linear.{Place, difference}
+use Rattle.isl_plain.specs.Rows.{Written, added, numbers_in, piece_place, piece_width, rows_written, written_piece}
+use Rattle.isl_plain.specs.Passes.{FailsBy}
 use Rattle.isl_lower.specs.Value.{piece_lowered, value_lowered, HasSameElements, IsLowered}
-use Rattle.isl_tuples.proofs.WidthLaws.{coordinates_are}
-use Rattle.isl_linear.proofs.ModulusLaws.{HasOwnModulus, moduli_are}
-use Rattle.isl_linear.proofs.AmountLaws.{length-with_amounts}
-use Rattle.isl_linear.proofs.PieceLaws.{points_are}
-use Rattle.isl_linear.proofs.TermLaws.{both_true}
+use Rattle.isl_lower.proofs.WidthLaws.{coordinates_are}
+use Rattle.isl_plain.proofs.ModulusLaws.{HasOwnModulus, moduli_are}
+use Rattle.isl_plain.proofs.AmountLaws.{length-with_amounts}
+use Rattle.isl_plain.proofs.PieceLaws.{points_are}
+use Rattle.isl_plain.proofs.TermLaws.{both_true}
 
 -- ---- the rows are rows over the columns
 pub added_formed : (n : ℕ) (place : Place) (w : Written) → HasOwnModulus w → IsWellFormed n (added n place w)

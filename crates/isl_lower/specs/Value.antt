@@ -14,8 +14,8 @@ use Rattle.isl_tree.specs.declared.tree.Literal.{Literal}
 use Rattle.isl_tree.specs.Divisors.{ArePositive, piece_divisors}
 use Rattle.isl_tree.specs.Literal.{space_of_piece, LiteralHas}
 use Rattle.isl_tree.specs.Plain.{is_plain}
-use Rattle.isl_linear.specs.Rows.{rows_written}
-use Rattle.isl_linear.specs.Passes.{PiecePasses}
+use Rattle.isl_plain.specs.Rows.{rows_written}
+use Rattle.isl_plain.specs.Passes.{PiecePasses}
 
 -- what a literal declares and names is what a value may have, and what it divides by is at least 1
 pub record IsWellFormedLiteral (literal : Literal) : Type 0 where
@@ -43,7 +43,3 @@ pub record IsLowered (literal : Literal) (value : KeptValue) : Type 0 where
   pub params : value.params ≡ literal.params
   pub elements : HasSameElements literal value
   pub plain : is_plain literal ≡ true → AreLiveOf literal.params (value_lowered literal).pieces value.pieces
-
--- a row of one of the pieces passes the limit
-abbrev pub PiecesPass : Gauge → List Name → List PieceTree → Type 0
-PiecesPass g params pieces = Any (PiecePasses g params) pieces

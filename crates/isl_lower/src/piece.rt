@@ -1,7 +1,7 @@
 //! Pieces of literals as pieces of values.
 
-ghost use Rattle.std.specs.Prelude.{◌≡◌, ◌≤◌, ◌∷◌, [], IfOk, IfSome, MatchResult, false, option_map, option_to_list, true};
-ghost use Rattle.isl_meter.specs.Gauge.{IsCharged, IsCutBy};
+ghost use Rattle.std.specs.Prelude.{◌≡◌, ◌≤◌, ◌∷◌, [], IfOk, IfSome, false, option_map, option_to_list, true};
+ghost use Rattle.isl_meter.specs.Gauge.{IsMetered};
 ghost use Rattle.isl_space.specs.Names.{IsParameterList};
 ghost use Rattle.isl_space.specs.SpaceForm.{IsWellFormedSpace};
 ghost use Rattle.isl_piece.specs.System.{IsSystemWithin};
@@ -15,12 +15,12 @@ ghost use Rattle.isl_lower.specs.Made.{AreMadeOf};
 ghost use Rattle.isl_lower.specs.Value.{piece_lowered};
 
 use crate::systems::systems_of;
-use isl_linear::{is_plain_piece, rows_written};
+use isl_plain::{is_plain_piece, rows_written};
 use isl_meter::{Cut, Meter};
 use isl_piece::{Piece, System};
 use isl_space::{Name, Params};
 use isl_tree::tree::PieceTree;
-use isl_tuples::space_of;
+use crate::space::space_of;
 use isl_union::{live_piece, live_pieces_in};
 use std::alloc::{AllocError, Global};
 
@@ -36,7 +36,7 @@ fn lower_plain(
     requires well_formed { IsWellFormedSpace (space_of_piece piece.now) }
     ensures found { IfOk result (λ found. IsLiveOf params.now (piece_lowered params.now piece.now) (option_map kept_piece found)
         × IfSome found (IsPieceOf params.now) × IfSome found (λ kept. IsSystemWithin meter.old kept.system)) }
-    ensures meter { MatchResult result (λ _. IsCharged meter.old meter.new) (IsCutBy meter.old meter.new) }
+    ensures meter { IsMetered meter.old meter.new result }
 {
     let rows = rows_written(alloc, params, piece, meter)?;
     let space = space_of(alloc, piece)?;
@@ -67,7 +67,7 @@ fn plain_pieces(
     requires known { piece_is_known names.now piece.now ≡ true }
     requires well_formed { IsWellFormedSpace (space_of_piece piece.now) }
     ensures made { IfOk result (λ made. AreMadeOf meter.old meter.new names.now (piece.now ∷ []) made.items) }
-    ensures meter { MatchResult result (λ _. IsCharged meter.old meter.new) (IsCutBy meter.old meter.new) }
+    ensures meter { IsMetered meter.old meter.new result }
 {
     let found = lower_plain(alloc, names, piece, meter)?;
     let made = found_one(alloc, found)?;
@@ -90,7 +90,7 @@ fn other_pieces(
     requires well_formed { IsWellFormedSpace (space_of_piece piece.now) }
     requires divisors { ArePositive (piece_divisors piece.now) }
     ensures made { IfOk result (λ made. AreMadeOf meter.old meter.new names.now (piece.now ∷ []) made.items) }
-    ensures meter { MatchResult result (λ _. IsCharged meter.old meter.new) (IsCutBy meter.old meter.new) }
+    ensures meter { IsMetered meter.old meter.new result }
 {
     let space = space_of(alloc, piece)?;
     let systems = systems_of(alloc, names, piece, meter)?;
@@ -118,7 +118,7 @@ pub(crate) fn lower_piece(
     requires well_formed { IsWellFormedSpace (space_of_piece piece.now) }
     requires divisors { ArePositive (piece_divisors piece.now) }
     ensures made { IfOk result (λ made. AreMadeOf meter.old meter.new names.now (piece.now ∷ []) made.items) }
-    ensures meter { MatchResult result (λ _. IsCharged meter.old meter.new) (IsCutBy meter.old meter.new) }
+    ensures meter { IsMetered meter.old meter.new result }
 {
     if is_plain_piece(piece) {
         plain_pieces(alloc, names, piece, meter)

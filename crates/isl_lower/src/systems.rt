@@ -1,7 +1,7 @@
 //! The systems that a piece of a literal writes.
 
-ghost use Rattle.std.specs.Prelude.{◌≡◌, ◌∷◌, ◌+◌, ◌≤◌, [], IfOk, MatchResult, length, true};
-ghost use Rattle.isl_meter.specs.Gauge.{IsCharged, IsCutBy};
+ghost use Rattle.std.specs.Prelude.{◌≡◌, ◌∷◌, ◌+◌, ◌≤◌, [], IfOk, length, true};
+ghost use Rattle.isl_meter.specs.Gauge.{IsMetered};
 ghost use Rattle.isl_space.specs.Names.{IsParameterList};
 ghost use Rattle.isl_space.specs.SpaceForm.{IsWellFormedSpace};
 ghost use Rattle.isl_tree.specs.Divisors.{ArePositive, piece_divisors};
@@ -14,7 +14,8 @@ use isl_meter::{Cut, Meter};
 use isl_piece::System;
 use isl_space::Name;
 use isl_tree::tree::PieceTree;
-use isl_tuples::{scope_of, tuples_system};
+use crate::names::scope_of;
+use crate::system::tuples_system;
 use std::alloc::{AllocError, Global};
 
 fn alone(alloc: Global, system: System) -> Result<Vec<System>, AllocError>
@@ -44,7 +45,7 @@ pub(crate) fn systems_of(
     requires divisors { ArePositive (piece_divisors piece.now) }
     ensures systems { IfOk result (λ systems. AreSystemsOf meter.old params.now piece.now systems.items) }
     ensures counted { IfOk result (λ systems. length systems.items + meter.old.units ≤ meter.new.units + 1) }
-    ensures meter { MatchResult result (λ _. IsCharged meter.old meter.new) (IsCutBy meter.old meter.new) }
+    ensures meter { IsMetered meter.old meter.new result }
 {
     let scope = scope_of(alloc, params, piece)?;
     let system = tuples_system(alloc, params, piece, &scope, meter)?;

@@ -2,7 +2,7 @@
 
 ghost use Rattle.std.specs.Prelude.{◌≡◌, ◌+◌, ◌≤◌, All, IfOk, MatchResult, length, true};
 ghost use Rattle.std.specs.List.{list_all};
-ghost use Rattle.isl_meter.specs.Gauge.{IsCharged, IsCutBy};
+ghost use Rattle.isl_meter.specs.Gauge.{IsMetered};
 ghost use Rattle.isl_meter.specs.declared.Cut.TheVariants.{NoMemory};
 ghost use Rattle.isl_space.specs.Names.{IsParameterList};
 ghost use Rattle.isl_space.specs.SpaceForm.{IsWellFormedSpace};
@@ -38,7 +38,7 @@ fn lower_pieces(
     requires well_formed { All (λ piece. IsWellFormedSpace (space_of_piece piece)) pieces.now }
     requires divisors { All (λ piece. ArePositive (piece_divisors piece)) pieces.now }
     ensures made { IfOk result (λ made. AreMadeOf meter.old meter.new names.now pieces.now made.items) }
-    ensures meter { MatchResult result (λ _. IsCharged meter.old meter.new) (IsCutBy meter.old meter.new) }
+    ensures meter { IsMetered meter.old meter.new result }
 {
     let mut made = Vec::with_capacity(alloc, pieces.len())?;
     for piece in pieces {
@@ -80,7 +80,7 @@ pub fn lower(alloc: Global, literal: &Literal, meter: &mut Meter) -> Result<Valu
     ensures within { IfOk result (IsWithinLimit meter.old) }
     ensures counted { IfOk result
         (λ value. length value.pieces + meter.old.units ≤ meter.new.units + length literal.now.pieces) }
-    ensures meter { MatchResult result (λ _. IsCharged meter.old meter.new) (IsCutBy meter.old meter.new) }
+    ensures meter { IsMetered meter.old meter.new result }
 {
     let names = literal.params.as_slice();
     let params = declared(alloc, names)?;

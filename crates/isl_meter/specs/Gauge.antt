@@ -1,5 +1,5 @@
 -- public: what a meter shows, and what calls with a meter do to it.
-use Rattle.std.specs.Prelude.{◌≡◌, ℕ, ◌-◌, ◌^◌, ◌<◌, ◌≤◌, ℤ, pos, ◌+ℤ◌, ◌≤ℤ◌, unsigned_abs, Result, MatchResult}
+use Rattle.std.specs.Prelude.{◌≡◌, ℕ, ◌-◌, ◌^◌, ◌<◌, ◌≤◌, ℤ, pos, ◌+ℤ◌, ◌≤ℤ◌, unsigned_abs, ◌+◌, Result, IfErr, MatchResult}
 use Rattle.isl_math.specs.Count.{risen, Rose}
 use Rattle.isl_meter.specs.declared.Cut.{Cut}
 use Rattle.isl_meter.specs.declared.Cut.TheVariants.{Overflow, Budget, NoMemory}
@@ -62,6 +62,10 @@ pub record IsCutBy (old new : Gauge) (cut : Cut) : Type 0 where
   pub kept : IsKept old new
   pub cause : HasCause old new cut
 
+-- what a call leaves that works under a meter: an answer, and units alone were used; or work was cut, for a cause that the meter shows
+abbrev pub IsMetered : {A : Type 0} → Gauge → Gauge → Result A Cut → Type 0
+IsMetered old new result = MatchResult result (λ _. IsCharged old new) (IsCutBy old new)
+
 -- ---- units
 -- units alone were used, at most z. A bound is a whole number, since a proof may not know it to be 0 or more
 pub record IsChargedUpTo (z : ℤ) (old new : Gauge) : Type 0 where
@@ -72,6 +76,11 @@ pub record IsChargedUpTo (z : ℤ) (old new : Gauge) : Type 0 where
 pub record IsCutUpTo (z : ℤ) (old new : Gauge) (cut : Cut) : Type 0 where
   pub by : IsCutBy old new cut
   pub most : pos new.units ≤ℤ (pos old.units +ℤ z)
+
+-- at most `most` units were used; and where so many were left, a call that ended without an answer ended for want of memory alone
+pub record IsAnsweredWithin {A : Type 0} (most : ℕ) (old new : Gauge) (result : Result A Cut) : Type 0 where
+  pub units : new.units ≤ old.units + most
+  pub answered : old.units + most ≤ old.budget → IfErr result (λ cut. cut ≡ NoMemory)
 
 -- ---- what a call that may be cut leaves
 -- a result of P, and the meter is as it was; or work was cut, and no unit was used

@@ -1,7 +1,7 @@
 //! The points of a system at numbers for its first columns.
 
-ghost use Rattle.std.specs.Prelude.{◌≡◌, ◌↔◌, ◌+◌, ◌≤◌, [], length, All, IfOk, IfSome, IsNone, MatchResult};
-ghost use Rattle.isl_meter.specs.Gauge.{IsCharged, IsCutBy, IsWithin};
+ghost use Rattle.std.specs.Prelude.{◌≡◌, ◌↔◌, ◌+◌, ◌≤◌, [], length, All, IfOk, IfSome, IsNone};
+ghost use Rattle.isl_meter.specs.Gauge.{IsMetered, IsWithin};
 ghost use Rattle.isl_piece.specs.System.{IsSystemWithin, free_columns};
 ghost use Rattle.isl_tower.specs.Bounded.{IsBoundedAt};
 ghost use Rattle.isl_points.specs.Points.{ArePointsAt};
@@ -32,7 +32,7 @@ pub fn points_at(
     ensures within { IfOk result (λ found. IfSome found (λ points. All (All (IsWithin meter.old)) points)) }
     ensures infinite { IfOk result (λ found. IsNone found ↔ (¬ IsBoundedAt system.now numbers.now)) }
     ensures counted { IfOk result (λ found. IfSome found (λ points. meter.old.units + length points ≤ meter.new.units)) }
-    ensures meter { MatchResult result (λ _. IsCharged meter.old meter.new) (IsCutBy meter.old meter.new) }
+    ensures meter { IsMetered meter.old meter.new result }
 {
     let left = system_at(alloc, system, numbers, meter)?;
     let tower = Tower::of(alloc, &left, 0, meter)?;

@@ -1,7 +1,7 @@
 //! Up a tower, level by level.
 
 ghost use Rattle.std.specs.Prelude.{◌≡◌, ◌↔◌, ◌⊎◌, ◌+◌, ◌-◌, ◌≤◌, [], ◌∷◌, length, All, IfOk, IsTrue, MatchResult};
-ghost use Rattle.isl_meter.specs.Gauge.{IsCharged, IsCutBy, IsWithin};
+ghost use Rattle.isl_meter.specs.Gauge.{IsCutBy, IsMetered, IsWithin};
 ghost use Rattle.isl_elim.specs.Elimination.{HoldsAtAny};
 ghost use Rattle.isl_piece.specs.declared.system.System.{System};
 ghost use Rattle.isl_tower.specs.Level.{AreOver};
@@ -66,7 +66,7 @@ pub(crate) fn points_of(alloc: Global, tower: &Tower, meter: &mut Meter) -> Resu
     ensures exact { IfOk result (λ points. (s : System) → IsTowerOf s 0 tower.now → AreBeginnings s (length tower.now - 1) points) }
     ensures within { IfOk result (All (All (IsWithin meter.old))) }
     ensures counted { IfOk result (λ points. meter.old.units + length points ≤ meter.new.units) }
-    ensures meter { MatchResult result (λ _. IsCharged meter.old meter.new) (IsCutBy meter.old meter.new) }
+    ensures meter { IsMetered meter.old meter.new result }
 {
     let mut points = lowest(alloc, tower.level(0), meter)?;
     for height in 1..tower.levels() {

@@ -1,7 +1,7 @@
 //! What is put together of elements of two values.
 
 ghost use Rattle.std.specs.Prelude.{◌≡◌, ◌↔◌, ◌≤◌, [], All, Any, IfOk, MatchResult, length, map, unsigned_abs};
-ghost use Rattle.isl_meter.specs.Gauge.{IsCharged, IsCutBy, limit_of};
+ghost use Rattle.isl_meter.specs.Gauge.{IsCharged, IsMetered, limit_of};
 ghost use Rattle.isl_space.specs.Element.{Element};
 ghost use Rattle.isl_space.specs.Limits.{most_parameters};
 ghost use Rattle.isl_space.specs.Names.{joined};
@@ -46,7 +46,7 @@ fn made_of(
     ensures definitions { a.now.system.definitions ≡ [] → b.now.system.definitions ≡ []
         → IfOk result (λ made. All (λ piece. piece.definitions ≡ []) (map kept_piece made.items)) }
     ensures numbers { IfOk result (λ made. All (IsPieceUpTo (unsigned_abs (limit_of meter.old))) (map kept_piece made.items)) }
-    ensures meter { MatchResult result (λ _. IsCharged meter.old meter.new) (IsCutBy meter.old meter.new) }
+    ensures meter { IsMetered meter.old meter.new result }
 {
     let Some(layout) = layout_of(alloc, product, a.space(), b.space())? else {
         return Ok(Vec::new(alloc));
@@ -79,7 +79,7 @@ fn made_with(
     ensures definitions { piece.now.system.definitions ≡ [] → All (λ other. other.system.definitions ≡ []) others.now
         → IfOk result (λ made. All (λ piece. piece.definitions ≡ []) (map kept_piece made.items)) }
     ensures numbers { IfOk result (λ made. All (IsPieceUpTo (unsigned_abs (limit_of meter.old))) (map kept_piece made.items)) }
-    ensures meter { MatchResult result (λ _. IsCharged meter.old meter.new) (IsCutBy meter.old meter.new) }
+    ensures meter { IsMetered meter.old meter.new result }
 {
     let mut made = Vec::new(alloc);
     for other in others {
@@ -113,7 +113,7 @@ fn all_made(
     ensures definitions { All (λ piece. piece.system.definitions ≡ []) pieces.now → All (λ other. other.system.definitions ≡ []) others.now
         → IfOk result (λ made. All (λ piece. piece.definitions ≡ []) (map kept_piece made.items)) }
     ensures numbers { IfOk result (λ made. All (IsPieceUpTo (unsigned_abs (limit_of meter.old))) (map kept_piece made.items)) }
-    ensures meter { MatchResult result (λ _. IsCharged meter.old meter.new) (IsCutBy meter.old meter.new) }
+    ensures meter { IsMetered meter.old meter.new result }
 {
     let mut made = Vec::new(alloc);
     for piece in pieces {

@@ -1,7 +1,7 @@
 //! Maps without what sets have at one of their places.
 
 ghost use Rattle.std.specs.Prelude.{◌≡◌, ◌↔◌, ◌≤◌, List, [], All, Any, IfOk, MatchResult, length, map, unsigned_abs};
-ghost use Rattle.isl_meter.specs.Gauge.{Gauge, IsCharged, IsCutBy, limit_of};
+ghost use Rattle.isl_meter.specs.Gauge.{Gauge, IsCharged, IsMetered, limit_of};
 ghost use Rattle.isl_space.specs.Element.{Element};
 ghost use Rattle.isl_space.specs.Limits.{most_parameters};
 ghost use Rattle.isl_space.specs.Name.{Name};
@@ -84,7 +84,7 @@ fn left_of(
     requires columns { All (λ s. free_columns s ≡ free_columns piece.now.system) systems.now }
     ensures exact { (params : List Name) → IsPieceOf params piece.now
         → IfOk result (λ left. AreLeft meter.old params piece.now systems.now left.items) }
-    ensures meter { MatchResult result (λ _. IsCharged meter.old meter.new) (IsCutBy meter.old meter.new) }
+    ensures meter { IsMetered meter.old meter.new result }
 {
     if systems.is_empty() {
         let mut whole = Vec::new(alloc);
@@ -117,7 +117,7 @@ fn piece_without(
     ensures definitions { piece.now.system.definitions ≡ [] → All (λ other. other.system.definitions ≡ []) others.now
         → IfOk result (λ left. All (λ part. part.definitions ≡ []) (map kept_piece left.items)) }
     ensures numbers { IfOk result (λ left. All (IsPieceUpTo (unsigned_abs (limit_of meter.old))) (map kept_piece left.items)) }
-    ensures meter { MatchResult result (λ _. IsCharged meter.old meter.new) (IsCutBy meter.old meter.new) }
+    ensures meter { IsMetered meter.old meter.new result }
 {
     let Space::Map(_, _) = piece.space() else {
         return Ok(Vec::new(alloc));
@@ -147,7 +147,7 @@ fn pieces_without(
     ensures definitions { All (λ piece. piece.system.definitions ≡ []) pieces.now → All (λ other. other.system.definitions ≡ []) others.now
         → IfOk result (λ left. All (λ part. part.definitions ≡ []) (map kept_piece left.items)) }
     ensures numbers { IfOk result (λ left. All (IsPieceUpTo (unsigned_abs (limit_of meter.old))) (map kept_piece left.items)) }
-    ensures meter { MatchResult result (λ _. IsCharged meter.old meter.new) (IsCutBy meter.old meter.new) }
+    ensures meter { IsMetered meter.old meter.new result }
 {
     let mut left = Vec::new(alloc);
     for piece in pieces {

@@ -1,7 +1,7 @@
 //! The elements of a value at one valuation.
 
 ghost use Rattle.std.specs.Prelude.{◌≡◌, ◌↔◌, ◌+◌, ◌≤◌, All, Contains, IfOk, IsTrue, MatchResult, length};
-ghost use Rattle.isl_meter.specs.Gauge.{IsCharged, IsCutBy};
+ghost use Rattle.isl_meter.specs.Gauge.{IsCharged, IsMetered};
 ghost use Rattle.isl_space.specs.Element.{Element};
 ghost use Rattle.isl_space.specs.Valuation.{Valuation, values_of};
 ghost use Rattle.isl_union.specs.Finite.{IsFiniteAt};
@@ -26,7 +26,7 @@ fn is_finite(alloc: Global, value: &Value, at: &[i128], meter: &mut Meter) -> Re
     requires numbers { length at.now ≡ length value.now.params }
     ensures exact { (valuation : Valuation) → values_of value.now.params valuation ≡ at.now
         → IfOk result (λ finite. IsTrue finite ↔ IsFiniteAt value.now valuation) }
-    ensures meter { MatchResult result (λ _. IsCharged meter.old meter.new) (IsCutBy meter.old meter.new) }
+    ensures meter { IsMetered meter.old meter.new result }
 {
     match value.bounded_at(alloc, at, meter) {
         Ok(finite) => Ok(finite),
@@ -43,7 +43,7 @@ fn group_at(alloc: Global, piece: &Piece, at: &[i128], meter: &mut Meter) -> Res
     ensures exact { (element : Element) → IfOk result
         (λ group. Contains (elements_in (space_in group) group.points.items) element ↔ HasAt at.now element piece.now) }
     ensures counted { IfOk result (λ group. length group.points.items + meter.old.units ≤ meter.new.units) }
-    ensures meter { MatchResult result (λ _. IsCharged meter.old meter.new) (IsCutBy meter.old meter.new) }
+    ensures meter { IsMetered meter.old meter.new result }
 {
     let space = piece.space().copy()?;
     let title = space.text(alloc)?;
@@ -68,7 +68,7 @@ fn groups_at(
     requires { All (IsListable meter.old at.now) pieces.now }
     ensures exact { IfOk result (λ groups. AreGathered at.now pieces.now groups.items) }
     ensures counted { IfOk result (λ groups. length (elements_of groups.items) + meter.old.units ≤ meter.new.units) }
-    ensures meter { MatchResult result (λ _. IsCharged meter.old meter.new) (IsCutBy meter.old meter.new) }
+    ensures meter { IsMetered meter.old meter.new result }
 {
     let mut groups = Vec::new(alloc);
     for piece in pieces {

@@ -3,10 +3,10 @@ use Rattle.std.proofs.Common.{◌≡◌, ℕ, zero, suc, ◌+◌, ◌-◌, ◌<�
 use Rattle.std.specs.Io.KnownBytes.{Consumes, IsAtEnd}
 use Rattle.std.proofs.lemmas.List.{append-nil, append_assoc}
 use Rattle.std.proofs.Math.Seq.{take-append-add}
-use Rattle.isl_stmt.specs.Script.{statements, rest_of, next_part, ends}
-use Rattle.isl_stmt.proofs.ScriptLaws.{open_rest, next_part-long, rest-append, statements-append, statements-open}
+use Rattle.isl_script.specs.Script.{statements, rest_of, next_part, ends}
+use Rattle.isl_script.proofs.ScriptLaws.{open_rest, next_part-long, rest-append, statements-append, statements-open}
 use Rattle.isl_session.specs.declared.TheConstants.{SCRIPT_MAX}
-use Rattle.isl_stmt.specs.Script.{readable}
+use Rattle.isl_script.specs.Script.{readable}
 use Rattle.isl_session.specs.Run.{IsScriptOf}
 use Rattle.isl_session.proofs.ScriptLemmas.{statements-ended}
 

@@ -8,8 +8,8 @@ use Rattle.std.proofs.lemmas.List.{append-nil, append_assoc, length-append}
 use Rattle.isl_math.specs.Count.{Rose}
 use Rattle.isl_meter.specs.Gauge.{Gauge}
 use Rattle.isl_space.specs.Valuation.{Valuation}
-use Rattle.isl_select.specs.State.{Moment}
-use Rattle.isl_stmt.specs.Script.{statements, rest_of, readable, next_part, ends, IsBlank}
+use Rattle.isl_values.specs.State.{Moment}
+use Rattle.isl_script.specs.Script.{statements, rest_of, readable, next_part, ends, IsBlank}
 use Rattle.isl_text.specs.declared.refusal.Refusal.{Refusal}
 use Rattle.isl_eval.specs.Causes.{Refuses}
 use Rattle.isl_eval.specs.Run.{started}

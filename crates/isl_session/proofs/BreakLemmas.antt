@@ -1,10 +1,10 @@
 -- A statement that is refused stops its session at the byte that ends it.
 use Rattle.std.proofs.Common.{◌≡◌, ℕ, ◌<◌, List, [], ◌∷◌, true, refl, sym, ◌∙◌, ap, subst, inl, inr}
 use Rattle.isl_meter.specs.Gauge.{Gauge, IsKept}
-use Rattle.isl_stmt.specs.Script.{ends}
+use Rattle.isl_script.specs.Script.{ends}
 use Rattle.isl_text.specs.declared.refusal.Refusal.{Refusal}
 use Rattle.isl_text.specs.declared.refusal.Refusal.TheVariants.{Overflow, Budget, NoMemory, TooWide, Unbounded}
-use Rattle.isl_select.specs.State.{Moment}
+use Rattle.isl_values.specs.State.{Moment}
 use Rattle.isl_eval.specs.Causes as c
 use Rattle.isl_eval.specs.Causes.{Cause, FirstGives, Refuses, causes, refusal_of}
 use Rattle.isl_eval.specs.Run.{started}

@@ -6,12 +6,12 @@ use mathlib.Core.Logic.{inl, inr}
 use Rattle.isl_math.specs.Count.{Rose}
 use Rattle.isl_math.proofs.ListLaws.{All-parts}
 use Rattle.isl_meter.specs.Gauge.{Gauge}
-use Rattle.isl_stmt.specs.Script.{statements, rest_of, readable, next_part}
-use Rattle.isl_stmt.proofs.ScriptLaws.{next_part-long, rest-append, statements-append}
+use Rattle.isl_script.specs.Script.{statements, rest_of, readable, next_part}
+use Rattle.isl_script.proofs.ScriptLaws.{next_part-long, rest-append, statements-append}
 use Rattle.isl_text.specs.declared.refusal.Refusal.{Refusal}
 use Rattle.isl_text.specs.declared.refusal.Refusal.TheVariants.{Usage, TooLong, Unfinished, Overflow, Budget, ReadFault, WriteFault}
 use Rattle.isl_text.specs.declared.refusal.Refusal.TheVariants.{NoMemory, ScriptTooLong, TooWide, Unbounded}
-use Rattle.isl_select.specs.State.{Moment}
+use Rattle.isl_values.specs.State.{Moment}
 use Rattle.isl_eval.specs.Causes.{Cause, FirstGives, IsThere, IsValid, NoneIs, Refuses, causes}
 use Rattle.isl_eval.specs.Run.{started}
 use Rattle.isl_session.specs.declared.fault.Fault.{Fault}

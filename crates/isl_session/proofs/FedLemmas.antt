@@ -4,8 +4,8 @@ use Rattle.std.specs.Option.{IfNone}
 use Rattle.std.proofs.lemmas.List.{append-nil}
 use Rattle.std.proofs.lemmas.List.Elements.{All-nil, All-cons}
 use Rattle.std.specs.Prelude.{All}
-use Rattle.isl_stmt.specs.Script.{statements, rest_of, ends, IsOpen}
-use Rattle.isl_stmt.proofs.ScriptLaws.{open_rest, rest-open, statements-open}
+use Rattle.isl_script.specs.Script.{statements, rest_of, ends, IsOpen}
+use Rattle.isl_script.proofs.ScriptLaws.{open_rest, rest-open, statements-open}
 use Rattle.isl_eval.specs.declared.step.Tally.{Tally}
 use Rattle.isl_eval.specs.Machine.{Answer}
 use Rattle.isl_eval.specs.Run.{Answers, started}

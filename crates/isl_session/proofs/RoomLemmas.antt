@@ -2,8 +2,8 @@
 use Rattle.std.proofs.Common.{◌≡◌, ◌⊎◌, ℕ, ◌<◌, ◌≤◌, List, [], ◌∷◌, ◌++◌, length, true, refl, sym, ◌∙◌, ap, arith}
 use mathlib.Core.Logic.{inl, inr}
 use Rattle.std.proofs.lemmas.List.{append_assoc, length-append}
-use Rattle.isl_stmt.specs.Script.{statements, rest_of, with_ends, ends}
-use Rattle.isl_stmt.proofs.ScriptLaws.{is_cut, statements-append}
+use Rattle.isl_script.specs.Script.{statements, rest_of, with_ends, ends}
+use Rattle.isl_script.proofs.ScriptLaws.{is_cut, statements-append}
 use Rattle.isl_session.specs.declared.fault.Fault.{Fault}
 use Rattle.isl_session.specs.declared.TheConstants.{STATEMENT_MAX}
 use Rattle.isl_session.specs.Place.{Place, at_words, in_statement, too_long, past_limit, at_end, at_read, at_write, anywhere, place_of}

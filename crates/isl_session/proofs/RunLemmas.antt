@@ -5,9 +5,9 @@ use Rattle.std.proofs.lemmas.List.Elements.{All-append}
 use Rattle.std.proofs.lemmas.List.Sums.{sum_by-append}
 use Rattle.std.specs.Prelude.{All}
 use Rattle.isl_session.specs.declared.TheConstants.{STATEMENT_MAX}
-use Rattle.isl_stmt.specs.Script.{statements, rest_of}
-use Rattle.isl_stmt.proofs.ScriptLaws.{statements-append, rest-append}
-use Rattle.isl_select.specs.State.{Moment}
+use Rattle.isl_script.specs.Script.{statements, rest_of}
+use Rattle.isl_script.proofs.ScriptLaws.{statements-append, rest-append}
+use Rattle.isl_values.specs.State.{Moment}
 use Rattle.isl_eval.specs.Machine.{Answer}
 use Rattle.isl_eval.specs.Run.{Answers, Run, started}
 use Rattle.isl_session.specs.declared.counts.Counts.{Counts}

@@ -1,7 +1,7 @@
 -- One byte behind the bytes that a session holds.
 use Rattle.std.proofs.Common.{◌≡◌, ℕ, true, false, List, [], ◌∷◌, ◌++◌, sym, ◌∙◌, ap, subst}
-use Rattle.isl_stmt.specs.Script.{statements, rest_of, ends, IsOpen}
-use Rattle.isl_stmt.proofs.ScriptLaws.{rest-end, rest-hold, rest-open, statements-end, statements-hold, statements-open}
+use Rattle.isl_script.specs.Script.{statements, rest_of, ends, IsOpen}
+use Rattle.isl_script.proofs.ScriptLaws.{rest-end, rest-hold, rest-open, statements-end, statements-hold, statements-open}
 
 module _ (rest : List ℕ) (byte : ℕ) (is_open : IsOpen rest) where
   -- a byte that ends nothing is held

@@ -3,7 +3,7 @@ use Rattle.std.proofs.Common.{◌≡◌, false, None}
 use Rattle.std.proofs.lemmas.List.Elements.{All-nil}
 use Rattle.isl_space.specs.Name.{Name}
 use Rattle.isl_kinds.specs.Typed.{is_dollar}
-use Rattle.isl_select.specs.State.{Kept, IsSettled, unbound}
+use Rattle.isl_values.specs.State.{Kept, IsSettled, unbound}
 use Rattle.isl_session.specs.declared.session.Session.TheInside.{Inside}
 use Rattle.isl_session.specs.View.{IsReady}
 use Rattle.isl_session.specs.Session.{view_of, IsSound}

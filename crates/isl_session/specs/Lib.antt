@@ -8,7 +8,7 @@ pub mod Valid
 pub mod View
 pub use Rattle.isl_eval.specs.Causes
 pub use Rattle.isl_eval.specs.Machine
-pub use Rattle.isl_select.specs.State
+pub use Rattle.isl_values.specs.State
 pub use Rattle.isl_io.specs.Outside
-pub use Rattle.isl_stmt.specs.Script
+pub use Rattle.isl_script.specs.Script
 pub use Rattle.isl_text.specs.Refusal

@@ -4,9 +4,9 @@ use Rattle.std.specs.List.{concat}
 use Rattle.std.specs.Io.KnownBytes.{Appends, Consumes, IsAtEnd}
 use Rattle.isl_math.specs.Count.{Rose}
 use Rattle.isl_meter.specs.Gauge.{Gauge}
-use Rattle.isl_stmt.specs.Script.{statements, rest_of, readable, next_part, IsBlank}
+use Rattle.isl_script.specs.Script.{statements, rest_of, readable, next_part, IsBlank}
 use Rattle.isl_text.specs.declared.refusal.Refusal.{Refusal}
-use Rattle.isl_select.specs.State.{StateView, Moment}
+use Rattle.isl_values.specs.State.{StateView, Moment}
 use Rattle.isl_eval.specs.Causes.{Refuses}
 use Rattle.isl_eval.specs.Run.{started}
 use Rattle.isl_session.specs.declared.fault.Fault.{Fault}

@@ -1,9 +1,9 @@
 -- inner: the fields of a session: what they show, and what they keep.
 use Rattle.std.specs.Prelude.{◌≤◌, length, vec_capacity}
 use Rattle.isl_meter.specs.Gauge.{limit_of}
-use Rattle.isl_stmt.specs.Script.{IsOpen}
-use Rattle.isl_stmt.specs.Cutter.{IsAt}
-use Rattle.isl_select.specs.State.{Fits, IsSettled}
+use Rattle.isl_script.specs.Script.{IsOpen}
+use Rattle.isl_script.specs.Cutter.{IsAt}
+use Rattle.isl_values.specs.State.{Fits, IsSettled}
 use Rattle.isl_session.specs.declared.session.Session.TheInside.{Inside}
 use Rattle.isl_session.specs.declared.TheConstants.{SCRIPT_MAX, STATEMENT_MAX}
 use Rattle.isl_session.specs.Counts.{AreCounts}

@@ -1,9 +1,9 @@
 -- public: when statements must be answered.
 use Rattle.std.specs.Prelude.{◌≡◌, ◌⊎◌, ℕ, ◌≤◌, List, ◌∷◌, ◌++◌, length, Option, Some, None}
-use Rattle.isl_stmt.specs.Script.{statements, rest_of, IsBlank}
+use Rattle.isl_script.specs.Script.{statements, rest_of, IsBlank}
 use Rattle.isl_text.specs.declared.refusal.Refusal.{Refusal}
 use Rattle.isl_text.specs.declared.refusal.Refusal.TheVariants.{NoMemory}
-use Rattle.isl_select.specs.State.{Moment}
+use Rattle.isl_values.specs.State.{Moment}
 use Rattle.isl_eval.specs.Causes.{IsValid}
 use Rattle.isl_eval.specs.Run.{started}
 use Rattle.isl_session.specs.declared.TheConstants.{SCRIPT_MAX}

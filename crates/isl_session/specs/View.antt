@@ -3,10 +3,10 @@ use Rattle.std.specs.Prelude.{◌≡◌, ◌⊎◌, ℕ, ◌+◌, ◌<◌, ◌�
 use Rattle.std.specs.List.{concat}
 use Rattle.isl_meter.specs.Gauge.{Gauge, IsCharged, IsKept}
 use Rattle.isl_space.specs.Valuation.{Valuation}
-use Rattle.isl_stmt.specs.Script.{statements, rest_of, ends, IsBlank, IsOpen}
+use Rattle.isl_script.specs.Script.{statements, rest_of, ends, IsBlank, IsOpen}
 use Rattle.isl_text.specs.declared.refusal.Refusal.{Refusal}
 use Rattle.isl_text.specs.declared.refusal.Refusal.TheVariants.{Unfinished}
-use Rattle.isl_select.specs.State.{StateView, Moment, unbound}
+use Rattle.isl_values.specs.State.{StateView, Moment, unbound}
 use Rattle.isl_eval.specs.Causes.{Refuses}
 use Rattle.isl_eval.specs.Machine.{Answer}
 use Rattle.isl_eval.specs.Run.{Run, started}

@@ -3,7 +3,7 @@
 ghost use Rattle.std.specs.Prelude.{◌≡◌, ◌+◌, ◌<◌, ◌≤◌, ◌++◌, [], ◌∷◌, ℕ, List, length, take, false, Some, None, IfSome, IfNone, IfErr, IfOk, IsOk, OnOk};
 ghost use Rattle.std.specs.List.{concat};
 ghost use Rattle.isl_math.specs.Count.{Rose};
-ghost use Rattle.isl_stmt.specs.Script.{statements, rest_of};
+ghost use Rattle.isl_script.specs.Script.{statements, rest_of};
 ghost use Rattle.isl_session.specs.Valid.{AreValid};
 ghost use Rattle.isl_session.specs.Counts.{AreCounts};
 ghost use Rattle.isl_session.specs.View.{AreShort, Fed, Feeds, Finishes, HasRoomFor, IsReady, IsRefusedAt, Stopped, begun, fresh, moment_of};
@@ -11,8 +11,8 @@ ghost use Rattle.isl_session.specs.View.{AreShort, Fed, Feeds, Finishes, HasRoom
 use crate::{Counts, Fault, Options, SCRIPT_MAX, STATEMENT_MAX};
 use isl_eval::answer;
 use isl_meter::Meter;
-use isl_select::State;
-use isl_stmt::Cutter;
+use isl_values::State;
+use isl_script::Cutter;
 use isl_text::refusal::Refusal;
 use std::alloc::{AllocError, Global};
 use std::marker::Model;
@@ -39,7 +39,7 @@ impl Model for Session {
     ghost Value = { View };
 
     ghost use Rattle.std.specs.Coded.{codes};
-    ghost use Rattle.isl_select.specs.Stored.{state_code};
+    ghost use Rattle.isl_values.specs.Stored.{state_code};
 
     ghost coded = { Prim.hlevel (codes, state_code) };
 

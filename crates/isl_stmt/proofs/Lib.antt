@@ -1,3 +1,12 @@
-pub mod ByteLaws
-pub mod CutterLaws
-pub mod ScriptLaws
+pub mod Depth
+pub mod Operands
+pub mod WordReads
+pub mod Words
+pub mod ExpressionTaken
+pub mod StatementTaken
+pub mod ExpressionAgain
+pub mod StatementAgain
+pub mod LimitLaws
+pub mod ReadLaws
+pub mod LexLaws
+pub mod NameLaws

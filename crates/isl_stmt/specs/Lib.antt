@@ -1,2 +1,14 @@
-pub mod Cutter
-pub mod Script
+pub mod Word
+pub mod Operator
+pub mod Expression
+pub mod ExpressionGrammar
+pub mod Statement
+pub mod StatementGrammar
+pub mod Limits
+pub mod Read
+pub mod Names
+pub use Rattle.isl_expr.specs.Expr
+pub use Rattle.isl_token.specs.Lex
+pub use Rattle.isl_token.specs.Spelling
+pub use Rattle.isl_token.specs.TokenView
+pub use Rattle.isl_flat.specs.Simple

@@ -1,8 +1,17 @@
-//! Statements: how a script is cut into them.
+//! Statements: how a script is cut into them, how tokens spell them, how they are read, and when a text is refused; their kinds and their
+//! simple statements.
 #![tactic(auto)]
 
-mod cutter;
-mod script;
+mod expression;
+mod limits;
+mod names;
+mod operator;
+mod read;
+mod statement;
+mod word;
 
-pub use cutter::Cutter;
-pub use script::scripts_are_cut;
+pub use isl_flat::{SimpleStmt, flatten};
+pub use isl_kinds::{Scope, Typed, typed};
+pub use isl_script::Cutter;
+pub use names::spelled_names;
+pub use read::{one_statement, read_statement};

@@ -1,6 +1,7 @@
 -- public: the limits of literals.
 use Rattle.std.specs.Prelude.{ℕ, ℤ, pos, ◌+◌, Bool, false, ◌&&◌, nat_le, int_lt, List, [], ◌∷◌, length, Option, Some, None}
 use Rattle.std.specs.List.{list_all}
+use Rattle.isl_space.specs.Limits.{most_parameters, most_coordinates, most_leaves, most_bound}
 use Rattle.isl_token.specs.TokenView.{Token}
 use Rattle.isl_token.specs.TokenView as token
 use Rattle.isl_token.specs.Number.{value_of}
@@ -31,16 +32,16 @@ leaves_in_image (Some tuple) = leaves_in tuple
 abbrev pub leaves_of : PieceTree → ℕ
 leaves_of piece = leaves_in piece.first + leaves_in_image piece.second
 
--- at most 32 coordinates, 64 leaves and 64 bound variables
+-- at most 64 coordinates, 64 leaves and 64 bound variables
 abbrev pub piece_is_within : PieceTree → Bool
-piece_is_within piece = nat_le (coordinates piece) 32 && nat_le (leaves_of piece) 64 && nat_le (bound_in piece) 64
+piece_is_within piece = nat_le (coordinates piece) most_coordinates && nat_le (leaves_of piece) most_leaves && nat_le (bound_in piece) most_bound
 
 abbrev pub pieces_are_within : List PieceTree → Bool
 pieces_are_within pieces = list_all piece_is_within pieces
 
 -- at most 16 parameters, and each piece within its limits
 abbrev pub is_within : Literal → Bool
-is_within literal = nat_le (length literal.params) 16 && pieces_are_within literal.pieces
+is_within literal = nat_le (length literal.params) most_parameters && pieces_are_within literal.pieces
 
 -- a number above the limit
 abbrev pub is_wide : ℤ → Token → Bool

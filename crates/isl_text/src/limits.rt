@@ -6,19 +6,8 @@ ghost use Rattle.isl_text.specs.Bound.{capped};
 ghost use Rattle.isl_text.specs.Limits as spec;
 
 use crate::bound::{added, bound_in};
+use isl_space::limits::{MAX_BOUND, MAX_COORDINATES, MAX_LEAVES, MAX_PARAMETERS};
 use isl_tree::tree::{Literal, PieceTree, Tuple};
-
-/// The parameters that a literal may have.
-pub const MAX_PARAMETERS: usize = 16;
-
-/// The coordinates that a piece may have in all.
-pub const MAX_COORDINATES: usize = 32;
-
-/// The leaves that a piece may have in all.
-pub const MAX_LEAVES: usize = 64;
-
-/// The variables that a piece may bind.
-pub const MAX_BOUND: usize = 64;
 
 /// The coordinates of a tuple, counted as bound variables are.
 #[tactic(auto, using(crate::proofs::LimitLaws::widths))]
@@ -66,8 +55,8 @@ fn leaves_of(piece: &PieceTree) -> usize
 fn piece_is_within(piece: &PieceTree) -> bool
     ensures { result ≡ spec.piece_is_within piece.now }
 {
-    coordinates(piece) <= MAX_COORDINATES
-        && leaves_of(piece) <= MAX_LEAVES
+    coordinates(piece) <= MAX_COORDINATES as usize
+        && leaves_of(piece) <= MAX_LEAVES as usize
         && bound_in(piece) <= MAX_BOUND
 }
 
@@ -77,7 +66,7 @@ fn pieces_are_within(pieces: &[PieceTree]) -> bool
     pieces.iter().all(|piece| piece_is_within(piece))
 }
 
-/// Whether a literal has at most 16 parameters, and each piece at most 32 coordinates, 64 leaves and 64 bound variables.
+/// Whether a literal has at most 16 parameters, and each piece at most 64 coordinates, 64 leaves and 64 bound variables.
 pub fn is_within(literal: &Literal) -> bool
     ensures { result ≡ spec.is_within literal.now }
 {

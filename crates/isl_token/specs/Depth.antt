@@ -2,6 +2,7 @@
 use Rattle.std.specs.Prelude.{ℕ, ◌+◌, ◌-◌, Bool, false, nat_lt, List, [], ◌∷◌, codes, if◌then◌else◌}
 use Rattle.std.specs.List.{list_any}
 use Rattle.std.specs.Str.{bytes_eq}
+use Rattle.isl_space.specs.Limits.{most_depth}
 use Rattle.isl_token.specs.declared.depth.Place.{Place}
 use Rattle.isl_token.specs.TokenView.{Token}
 use Rattle.isl_token.specs.TokenView as token
@@ -54,4 +55,4 @@ depths p (t ∷ ts) = ((step p t).brackets + (step p t).words) ∷ depths (step 
 
 -- the depth is above 200 at some token
 abbrev pub is_too_deep : List Token → Bool
-is_too_deep ts = list_any (nat_lt 200) (depths start ts)
+is_too_deep ts = list_any (nat_lt most_depth) (depths start ts)

@@ -8,9 +8,7 @@ ghost use Rattle.isl_token.specs.Reading as reading;
 
 use crate::marks::{Rest, Tokens};
 use crate::token::Kind;
-
-/// The depth that a text may have.
-pub const MAX_DEPTH: usize = 200;
+use isl_space::limits::MAX_DEPTH;
 
 /// The words that stand before an operand, so that they can stand in a row.
 const STACKING: [&[u8]; 21] = [

@@ -1,7 +1,7 @@
 //! Whether systems are bounded.
 
 ghost use Rattle.std.specs.Prelude.{◌≡◌, ◌↔◌, ◌<◌, ◌≤◌, ℕ, [], All, length, IfOk, IsTrue, MatchResult};
-ghost use Rattle.isl_meter.specs.Gauge.{IsCharged, IsCutBy};
+ghost use Rattle.isl_meter.specs.Gauge.{IsCharged, IsCutBy, IsMetered};
 ghost use Rattle.isl_piece.specs.declared.system.System.{System};
 ghost use Rattle.isl_piece.specs.System.{IsSystemWithin, free_columns};
 ghost use Rattle.isl_tower.specs.Bounded.{IsBounded, IsBoundedAt};
@@ -23,7 +23,7 @@ fn is_closed(alloc: Global, system: &System, meter: &mut Meter) -> Result<bool, 
     requires plain { system.now.definitions ≡ [] }
     requires some_column { 0 < free_columns system.now }
     ensures exact { IfOk result (λ closed. IsTrue closed ↔ IsClosed system.now) }
-    ensures meter { MatchResult result (λ _. IsCharged meter.old meter.new) (IsCutBy meter.old meter.new) }
+    ensures meter { IsMetered meter.old meter.new result }
 {
     let last = system.free() - 1;
     let rows = system.rows.as_slice();
@@ -64,7 +64,7 @@ impl Tower {
         requires plain { All (All (λ s. s.definitions ≡ [])) self.now }
         ensures exact { IfOk result (λ bounded. (s : System) (outer : ℕ)
             → IsTowerOf s outer self.now → IsTrue bounded ↔ IsBounded s outer) }
-        ensures meter { MatchResult result (λ _. IsCharged meter.old meter.new) (IsCutBy meter.old meter.new) }
+        ensures meter { IsMetered meter.old meter.new result }
     {
         for height in 1..self.levels() {
             if !are_closed(alloc, self.level(height), meter)? {
@@ -91,7 +91,7 @@ pub fn is_bounded(
     requires plain { system.now.definitions ≡ [] }
     requires outer_in { outer ≤ free_columns system.now }
     ensures exact { IfOk result (λ bounded. IsTrue bounded ↔ IsBounded system.now outer) }
-    ensures meter { MatchResult result (λ _. IsCharged meter.old meter.new) (IsCutBy meter.old meter.new) }
+    ensures meter { IsMetered meter.old meter.new result }
 {
     let tower = Tower::of(alloc, system, outer, meter)?;
     tower.is_bounded(alloc, meter)
@@ -113,7 +113,7 @@ pub fn is_bounded_at(
     requires plain { system.now.definitions ≡ [] }
     requires numbers_in { length numbers.now ≤ free_columns system.now }
     ensures exact { IfOk result (λ bounded. IsTrue bounded ↔ IsBoundedAt system.now numbers.now) }
-    ensures meter { MatchResult result (λ _. IsCharged meter.old meter.new) (IsCutBy meter.old meter.new) }
+    ensures meter { IsMetered meter.old meter.new result }
 {
     let left = system_at(alloc, system, numbers, meter)?;
     is_bounded(alloc, &left, 0, meter)

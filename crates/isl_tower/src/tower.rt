@@ -1,7 +1,7 @@
 //! Towers of projections.
 
-ghost use Rattle.std.specs.Prelude.{◌≡◌, ◌<◌, ◌≤◌, [], length, slice_index_or, All, IfOk, MatchResult};
-ghost use Rattle.isl_meter.specs.Gauge.{IsCharged, IsCutBy};
+ghost use Rattle.std.specs.Prelude.{◌≡◌, ◌<◌, ◌≤◌, [], length, slice_index_or, All, IfOk};
+ghost use Rattle.isl_meter.specs.Gauge.{IsMetered};
 ghost use Rattle.isl_piece.specs.Normal.{IsNormal};
 ghost use Rattle.isl_piece.specs.System.{IsSystemWithin, free_columns};
 ghost use Rattle.isl_tower.specs.Tower.{IsTowerOf};
@@ -44,7 +44,7 @@ impl Tower {
         ensures within { IfOk result (All (All (IsSystemWithin meter.old))) }
         ensures plain { IfOk result (All (All (λ s. s.definitions ≡ []))) }
         ensures normal { IfOk result (All (All (λ s. IsNormal s.rows))) }
-        ensures meter { MatchResult result (λ _. IsCharged meter.old meter.new) (IsCutBy meter.old meter.new) }
+        ensures meter { IsMetered meter.old meter.new result }
     {
         let top = Level::top(alloc, system, meter)?;
         let mut levels = Vec::new(alloc);

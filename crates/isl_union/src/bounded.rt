@@ -1,7 +1,7 @@
 //! Whether values have finitely many elements.
 
 ghost use Rattle.std.specs.Prelude.{◌≡◌, ◌↔◌, ◌≤◌, [], All, IfOk, IsTrue, MatchResult, length};
-ghost use Rattle.isl_meter.specs.Gauge.{IsCharged, IsCutBy};
+ghost use Rattle.isl_meter.specs.Gauge.{IsCharged, IsMetered};
 ghost use Rattle.isl_space.specs.Valuation.{Valuation, values_of};
 ghost use Rattle.isl_piece.specs.System.{IsSystemWithin, free_columns};
 ghost use Rattle.isl_tower.specs.Bounded.{IsBounded, IsBoundedAt};
@@ -28,7 +28,7 @@ fn are_bounded(
     requires plain { All (λ s. s.definitions ≡ []) systems.now }
     requires columns { All (λ s. outer ≤ free_columns s) systems.now }
     ensures exact { IfOk result (λ bounded. IsTrue bounded ↔ All (λ s. IsBounded s outer) systems.now) }
-    ensures meter { MatchResult result (λ _. IsCharged meter.old meter.new) (IsCutBy meter.old meter.new) }
+    ensures meter { IsMetered meter.old meter.new result }
 {
     for system in systems {
         if !is_bounded(alloc, system, outer, meter)? {
@@ -49,7 +49,7 @@ fn is_system_bounded(
     requires within { IsSystemWithin meter.old system.now }
     requires columns { outer ≤ free_columns system.now }
     ensures exact { IfOk result (λ bounded. IsTrue bounded ↔ IsBounded system.now outer) }
-    ensures meter { MatchResult result (λ _. IsCharged meter.old meter.new) (IsCutBy meter.old meter.new) }
+    ensures meter { IsMetered meter.old meter.new result }
 {
     let systems = flatten(alloc, system, meter)?;
     are_bounded(alloc, systems.as_slice(), outer, meter)
@@ -66,7 +66,7 @@ fn are_pieces_bounded(
     requires within { AreWithinLimit meter.old pieces.now }
     requires columns { All (λ piece. outer ≤ free_columns piece.system) pieces.now }
     ensures exact { IfOk result (λ bounded. IsTrue bounded ↔ All (λ piece. IsBounded piece.system outer) pieces.now) }
-    ensures meter { MatchResult result (λ _. IsCharged meter.old meter.new) (IsCutBy meter.old meter.new) }
+    ensures meter { IsMetered meter.old meter.new result }
 {
     for piece in pieces {
         if !is_system_bounded(alloc, piece.system(), outer, meter)? {
@@ -88,7 +88,7 @@ fn are_bounded_at(
     requires plain { All (λ s. s.definitions ≡ []) systems.now }
     requires columns { All (λ s. length numbers.now ≤ free_columns s) systems.now }
     ensures exact { IfOk result (λ bounded. IsTrue bounded ↔ All (λ s. IsBoundedAt s numbers.now) systems.now) }
-    ensures meter { MatchResult result (λ _. IsCharged meter.old meter.new) (IsCutBy meter.old meter.new) }
+    ensures meter { IsMetered meter.old meter.new result }
 {
     for system in systems {
         if !is_bounded_at(alloc, system, numbers, meter)? {
@@ -109,7 +109,7 @@ fn is_system_bounded_at(
     requires within { IsSystemWithin meter.old system.now }
     requires columns { length numbers.now ≤ free_columns system.now }
     ensures exact { IfOk result (λ bounded. IsTrue bounded ↔ IsBoundedAt system.now numbers.now) }
-    ensures meter { MatchResult result (λ _. IsCharged meter.old meter.new) (IsCutBy meter.old meter.new) }
+    ensures meter { IsMetered meter.old meter.new result }
 {
     let systems = flatten(alloc, system, meter)?;
     are_bounded_at(alloc, systems.as_slice(), numbers, meter)
@@ -126,7 +126,7 @@ fn are_pieces_bounded_at(
     requires within { AreWithinLimit meter.old pieces.now }
     requires columns { All (λ piece. length numbers.now ≤ free_columns piece.system) pieces.now }
     ensures exact { IfOk result (λ bounded. IsTrue bounded ↔ All (λ piece. IsBoundedAt piece.system numbers.now) pieces.now) }
-    ensures meter { MatchResult result (λ _. IsCharged meter.old meter.new) (IsCutBy meter.old meter.new) }
+    ensures meter { IsMetered meter.old meter.new result }
 {
     for piece in pieces {
         if !is_system_bounded_at(alloc, piece.system(), numbers, meter)? {

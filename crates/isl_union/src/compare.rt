@@ -1,7 +1,7 @@
 //! What values say of one another.
 
 ghost use Rattle.std.specs.Prelude.{◌↔◌, ◌≤◌, ◌∷◌, [], All, IfOk, IsTrue, MatchResult, length, map};
-ghost use Rattle.isl_meter.specs.Gauge.{IsCharged, IsCutBy};
+ghost use Rattle.isl_meter.specs.Gauge.{IsCharged, IsMetered};
 ghost use Rattle.isl_space.specs.Limits.{most_parameters};
 ghost use Rattle.isl_space.specs.Names.{joined, AreDistinct};
 ghost use Rattle.isl_piece.specs.System.{IsSystemWithin};
@@ -36,7 +36,7 @@ fn is_piece_covered(
     requires others_within { AreWithinLimit meter.old others.now }
     ensures exact { IfOk result
         (λ covered. IsTrue covered ↔ AreCovered params.now (kept_piece piece.now ∷ []) (map kept_piece others.now)) }
-    ensures meter { MatchResult result (λ _. IsCharged meter.old meter.new) (IsCutBy meter.old meter.new) }
+    ensures meter { IsMetered meter.old meter.new result }
 {
     let systems = systems_in(alloc, piece.space(), others)?;
     is_covered(alloc, piece.system(), systems.as_slice(), meter)
@@ -58,7 +58,7 @@ fn are_covered(
     requires others_within { AreWithinLimit meter.old others.now }
     ensures exact { IfOk result
         (λ covered. IsTrue covered ↔ AreCovered params.now (map kept_piece pieces.now) (map kept_piece others.now)) }
-    ensures meter { MatchResult result (λ _. IsCharged meter.old meter.new) (IsCutBy meter.old meter.new) }
+    ensures meter { IsMetered meter.old meter.new result }
 {
     for piece in pieces {
         if !is_piece_covered(alloc, params, piece, others, meter)? {
@@ -84,7 +84,7 @@ fn are_mutual(
     requires others_within { AreWithinLimit meter.old others.now }
     ensures exact { IfOk result (λ same. IsTrue same ↔ (AreCovered params.now (map kept_piece pieces.now) (map kept_piece others.now)
         × AreCovered params.now (map kept_piece others.now) (map kept_piece pieces.now))) }
-    ensures meter { MatchResult result (λ _. IsCharged meter.old meter.new) (IsCutBy meter.old meter.new) }
+    ensures meter { IsMetered meter.old meter.new result }
 {
     if !are_covered(alloc, params, pieces, others, meter)? {
         return Ok(false);

@@ -1,7 +1,7 @@
 //! Values without definitions.
 
 ghost use Rattle.std.specs.Prelude.{◌≡◌, ◌↔◌, ◌+◌, ◌≤◌, IfOk, MatchResult, length};
-ghost use Rattle.isl_meter.specs.Gauge.{IsCharged, IsCutBy};
+ghost use Rattle.isl_meter.specs.Gauge.{IsMetered};
 ghost use Rattle.isl_meter.specs.declared.Cut.TheVariants.{NoMemory};
 ghost use Rattle.isl_space.specs.Element.{Element};
 ghost use Rattle.isl_space.specs.Valuation.{Valuation};
@@ -34,7 +34,7 @@ impl Value {
         ensures counted { IfOk result (λ value. length value.pieces + meter.old.units ≤ meter.new.units + length self.now.pieces) }
         ensures same { HasNoDefinitions self.now
             → MatchResult result (λ value. value ≡ self.now) (λ cut. cut ≡ NoMemory) × (meter.new ≡ meter.old) }
-        ensures meter { MatchResult result (λ _. IsCharged meter.old meter.new) (IsCutBy meter.old meter.new) }
+        ensures meter { IsMetered meter.old meter.new result }
     {
         let params = self.params();
         let pieces = self.pieces();

@@ -1,7 +1,7 @@
 //! Pieces that have elements, and the values that are made of pieces.
 
 ghost use Rattle.std.specs.Prelude.{◌≡◌, ◌↔◌, ◌++◌, ℕ, List, All, Any, IfOk, IfSome, MatchResult, OnOk, map, option_map, option_to_list};
-ghost use Rattle.isl_meter.specs.Gauge.{IsCharged, IsCutBy};
+ghost use Rattle.isl_meter.specs.Gauge.{IsCharged, IsCutBy, IsMetered};
 ghost use Rattle.isl_space.specs.Element.{Element};
 ghost use Rattle.isl_space.specs.Name.{Name};
 ghost use Rattle.isl_space.specs.Names.{IsParameterList};
@@ -58,7 +58,7 @@ pub fn live_piece(
         → free_columns system ≡ columns_of params (space_form_of space.now)
         → IfOk result (λ found. IsLiveOf params (normal_of (piece_of (space_form_of space.now) system)) (option_map kept_piece found)
         × IfSome found (IsPieceOf params)) }
-    ensures meter { MatchResult result (λ _. IsCharged meter.old meter.new) (IsCutBy meter.old meter.new) }
+    ensures meter { IsMetered meter.old meter.new result }
 {
     match live_system(alloc, system, meter)? {
         None => Ok(None),
@@ -119,7 +119,7 @@ fn live_pieces(
     ensures exact { IfOk result
         (λ kept. AreLiveOf params.now (filter_map normal_of (map kept_piece pieces.now)) (map kept_piece kept.items)) }
     ensures sound { IfOk result (λ kept. All (IsPieceOf params.now) kept.items) }
-    ensures meter { MatchResult result (λ _. IsCharged meter.old meter.new) (IsCutBy meter.old meter.new) }
+    ensures meter { IsMetered meter.old meter.new result }
 {
     let mut kept = Vec::with_capacity(alloc, pieces.len())?;
     for piece in pieces {
@@ -169,7 +169,7 @@ impl Value {
         ensures elements { (valuation : Valuation) (element : Element)
             → IfOk result (λ value. Has value valuation element ↔ Any (HasElement params valuation element) (map kept_piece pieces.items)) }
         ensures numbers { (most : ℕ) → All (λ piece. IsSystemUpTo most piece.system) pieces.items → IfOk result (HasNumbersUpTo most) }
-        ensures meter { MatchResult result (λ _. IsCharged meter.old meter.new) (IsCutBy meter.old meter.new) }
+        ensures meter { IsMetered meter.old meter.new result }
     {
         let kept = live_pieces(alloc, &params, pieces.as_slice(), meter)?;
         Ok(Value::from_normal(params, kept))

@@ -1,7 +1,7 @@
 //! What one value has and another has not.
 
 ghost use Rattle.std.specs.Prelude.{◌≡◌, ◌↔◌, ◌+◌, ◌≤◌, ◌∷◌, [], All, IfOk, MatchResult, length, map};
-ghost use Rattle.isl_meter.specs.Gauge.{IsCharged, IsCutBy};
+ghost use Rattle.isl_meter.specs.Gauge.{IsCharged, IsMetered};
 ghost use Rattle.isl_space.specs.Element.{Element};
 ghost use Rattle.isl_space.specs.Limits.{most_parameters};
 ghost use Rattle.isl_space.specs.Names.{joined};
@@ -70,7 +70,7 @@ fn piece_without(
     ensures definitions { piece.now.system.definitions ≡ [] → All (λ other. other.system.definitions ≡ []) others.now
         → IfOk result (λ left. All (λ part. part.system.definitions ≡ []) left.items) }
     ensures counted { IfOk result (λ left. length left.items + meter.old.units ≤ meter.new.units + 1) }
-    ensures meter { MatchResult result (λ _. IsCharged meter.old meter.new) (IsCutBy meter.old meter.new) }
+    ensures meter { IsMetered meter.old meter.new result }
 {
     let space = piece.space();
     let systems = systems_in(alloc, space, others)?;
@@ -101,7 +101,7 @@ fn pieces_without(
     ensures definitions { All (λ piece. piece.system.definitions ≡ []) pieces.now → All (λ other. other.system.definitions ≡ []) others.now
         → IfOk result (λ left. All (λ part. part.system.definitions ≡ []) left.items) }
     ensures counted { IfOk result (λ left. length left.items + meter.old.units ≤ meter.new.units + length pieces.now) }
-    ensures meter { MatchResult result (λ _. IsCharged meter.old meter.new) (IsCutBy meter.old meter.new) }
+    ensures meter { IsMetered meter.old meter.new result }
 {
     let mut left = Vec::new(alloc);
     for piece in pieces {

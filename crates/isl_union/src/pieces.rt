@@ -1,7 +1,7 @@
 //! The pieces of a space with several systems.
 
-ghost use Rattle.std.specs.Prelude.{◌≡◌, ◌↔◌, ◌≤◌, [], All, Any, IfOk, MatchResult, length, map, unsigned_abs};
-ghost use Rattle.isl_meter.specs.Gauge.{IsCharged, IsCutBy, limit_of};
+ghost use Rattle.std.specs.Prelude.{◌≡◌, ◌↔◌, ◌≤◌, [], All, Any, IfOk, length, map, unsigned_abs};
+ghost use Rattle.isl_meter.specs.Gauge.{IsMetered, limit_of};
 ghost use Rattle.isl_space.specs.Element.{Element};
 ghost use Rattle.isl_space.specs.Space.{space_form_of};
 ghost use Rattle.isl_space.specs.SpaceForm.{IsWellFormedSpace};
@@ -42,7 +42,7 @@ pub fn live_pieces_in(
         → IfOk result (λ kept. All (λ piece. piece.definitions ≡ []) (map kept_piece kept.items)) }
     ensures numbers { IfOk result (λ kept. All (IsPieceUpTo (unsigned_abs (limit_of meter.old))) (map kept_piece kept.items)) }
     ensures few { IfOk result (λ kept. length kept.items ≤ length systems.items) }
-    ensures meter { MatchResult result (λ _. IsCharged meter.old meter.new) (IsCutBy meter.old meter.new) }
+    ensures meter { IsMetered meter.old meter.new result }
 {
     let mut kept = Vec::with_capacity(alloc, systems.len())?;
     for system in systems {

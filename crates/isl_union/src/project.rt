@@ -2,7 +2,7 @@
 
 ghost use Rattle.std.specs.Prelude.{◌≡◌, ◌↔◌, ◌<◌, ◌≤◌, ◌+◌, ◌^◌, [], All, IfOk, MatchResult, length};
 ghost use Rattle.std.specs.List.{range_with_len};
-ghost use Rattle.isl_meter.specs.Gauge.{IsCharged, IsCutBy};
+ghost use Rattle.isl_meter.specs.Gauge.{IsCharged, IsMetered};
 ghost use Rattle.isl_space.specs.Element.{Element};
 ghost use Rattle.isl_space.specs.Space.{space_form_of};
 ghost use Rattle.isl_space.specs.SpaceForm.{IsWellFormedSpace};
@@ -38,7 +38,7 @@ fn without_columns(
     ensures definitions { system.now.definitions ≡ [] → IfOk result (λ systems. All (λ s. s.definitions ≡ []) systems.items) }
     ensures within { IfOk result (λ systems. All (IsSystemWithin meter.old) systems.items) }
     ensures counted { IfOk result (λ systems. length systems.items + meter.old.units ≤ meter.new.units + 1) }
-    ensures meter { MatchResult result (λ _. IsCharged meter.old meter.new) (IsCutBy meter.old meter.new) }
+    ensures meter { IsMetered meter.old meter.new result }
 {
     let cols = columns_between(alloc, first, first + count)?;
     eliminate_all(alloc, system, cols.as_slice(), meter)

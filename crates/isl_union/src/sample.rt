@@ -1,7 +1,7 @@
 //! Values of one element.
 
 ghost use Rattle.std.specs.Prelude.{◌≡◌, ◌<◌, ℤ, List, All, IfOk, MatchResult, length};
-ghost use Rattle.isl_meter.specs.Gauge.{IsCharged, IsCutBy, IsWithin};
+ghost use Rattle.isl_meter.specs.Gauge.{IsCharged, IsMetered, IsWithin};
 ghost use Rattle.isl_space.specs.Space.{space_form_of};
 ghost use Rattle.isl_piece.specs.System.{HoldsSystem, IsSystemWithin, free_columns};
 ghost use Rattle.isl_elim.specs.Sample.{IsNowhere, IsSample};
@@ -61,7 +61,7 @@ fn point_piece(alloc: Global, piece: &Piece, meter: &mut Meter) -> Result<Piece,
     ensures exact { IfOk result (λ only. (point : List ℤ)
         × IsSample meter.old (free_columns piece.now.system) (HoldsSystem piece.now.system) point
         × (only ≡ record { space = piece.now.space; system = point_system point })) }
-    ensures meter { MatchResult result (λ _. IsCharged meter.old meter.new) (IsCutBy meter.old meter.new) }
+    ensures meter { IsMetered meter.old meter.new result }
 {
     match sample_point(alloc, piece.system(), meter)? {
         None => unreachable!(),

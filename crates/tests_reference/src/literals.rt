@@ -2,10 +2,10 @@
 
 ghost use Rattle.std.specs.Prelude.{◌≤ℤ◌, pos};
 
-use isl_linear::{is_plain, is_plain_piece, rows_written};
+use isl_plain::{is_plain, is_plain_piece, rows_written};
 use isl_meter::{Cut, Meter};
 use isl_piece::{System, normalise};
-use isl_reference::{Wrong, all_hold, numbered, piece_has};
+use tests_reference_model::{Wrong, all_hold, numbered, piece_has};
 use isl_session::{Options, Session};
 use isl_space::Name;
 use isl_text::read::{read_literal, tokens};

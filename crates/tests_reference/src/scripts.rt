@@ -2,8 +2,8 @@
 
 ghost use Rattle.std.specs.Prelude.{◌<◌, length};
 
-use isl_reference::{Cuts, cuts_of};
-use isl_stmt::Cutter;
+use tests_reference_model::{Cuts, cuts_of};
+use isl_script::Cutter;
 use std::alloc::{AllocError, Global};
 use tests_made::{bytes, field};
 

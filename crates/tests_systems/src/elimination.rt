@@ -6,7 +6,7 @@ use crate::wanted::{FIRST, GIVEN, SIDE, WANTED, is_listed, points};
 use isl_elim::{eliminate, eliminate_all, is_empty, sample_point};
 use isl_meter::{Cut, Meter};
 use isl_piece::System;
-use isl_reference::{holds_somewhere, numbered, system_holds};
+use tests_reference_model::{holds_somewhere, numbered, system_holds};
 use std::alloc::{AllocError, Global};
 use tests_made::{field, number, numbers, system_of};
 

@@ -7,7 +7,7 @@ use crate::wanted::{FIRST, GIVEN, OTHER, SIDE, is_listed, points};
 use isl_difference::{is_covered, outside, subtract};
 use isl_meter::{Cut, Meter};
 use isl_piece::System;
-use isl_reference::{numbered, system_holds};
+use tests_reference_model::{numbered, system_holds};
 use std::alloc::{AllocError, Global};
 use tests_made::{field, number, system_of};
 

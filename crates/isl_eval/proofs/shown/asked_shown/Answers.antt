@@ -1,8 +1,8 @@
 use Rattle.std.proofs.Common.{inl, refl, subst, sym}
 use Rattle.std.proofs.lemmas.Result.{IfOk-weaker}
-use Rattle.isl_select.specs.State.{scope_of}
-use Rattle.isl_select.specs.Formed.{IsTooWide}
-use Rattle.isl_select.proofs.ValueLaws.{match_map}
+use Rattle.isl_values.specs.State.{scope_of}
+use Rattle.isl_values.specs.Formed.{IsTooWide}
+use Rattle.isl_values.proofs.ValueLaws.{match_map}
 use Rattle.isl_eval.specs.Evaluation.{IsTooWideTest, answer_of}
 use Rattle.isl_eval.proofs.TestLaws.{shows_test}
 use Rattle.isl_eval.proofs.ShownLaws.{asked_none, asked_scan, asked_test, moment_of, paid_working}

@@ -1,8 +1,8 @@
 use Rattle.std.proofs.Common.{◌∙◌, sym}
 use Rattle.std.proofs.lemmas.Result.{IfOk-weaker}
 use Rattle.isl_meter.specs.Gauge.{limit_of}
-use Rattle.isl_select.specs.Formed.{IsTooWide}
-use Rattle.isl_select.proofs.ValueLaws.{match_map}
+use Rattle.isl_values.specs.Formed.{IsTooWide}
+use Rattle.isl_values.proofs.ValueLaws.{match_map}
 use Rattle.isl_eval.proofs.ShownLaws.{paid_working, sample_kept, sample_narrow, sample_ready, sample_wide, sample_works, unworked_working}
 use Rattle.isl_eval.proofs.AskedLaws.{sample_word}
 use Rattle.isl_eval.proofs.shown.content.Goals as goal

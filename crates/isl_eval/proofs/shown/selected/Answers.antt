@@ -1,5 +1,5 @@
 use Rattle.isl_meter.specs.Gauge.{limit_of}
-use Rattle.isl_select.proofs.ValueLaws.{match_map}
+use Rattle.isl_values.proofs.ValueLaws.{match_map}
 use Rattle.isl_eval.proofs.ShownLaws.{selected_kept}
 use Rattle.isl_eval.proofs.shown.selected.Goals as goal
 

@@ -1,6 +1,6 @@
 use Rattle.std.proofs.Common.{◌∙◌, inl, refl, sym}
-use Rattle.isl_select.specs.State.{scope_of}
-use Rattle.isl_select.proofs.ValueLaws.{match_map}
+use Rattle.isl_values.specs.State.{scope_of}
+use Rattle.isl_values.proofs.ValueLaws.{match_map}
 use Rattle.isl_eval.specs.Evaluation.{answer_of}
 use Rattle.isl_eval.proofs.ShownLaws.{moment_of, show_makeable, shown_kind, shows_value}
 use Rattle.isl_eval.proofs.shown.shown.Goals as goal

@@ -1,7 +1,7 @@
 use Rattle.std.proofs.Common.{◌∙◌, ap, refl, sym, rules}
 use Rattle.isl_meter.specs.Gauge.{limit_of}
-use Rattle.isl_select.specs.State.{scope_of, type_of}
-use Rattle.isl_select.proofs.ForgetLaws.{forgotten_dollar, settled_bound}
+use Rattle.isl_values.specs.State.{scope_of, type_of}
+use Rattle.isl_values.proofs.ForgetLaws.{forgotten_dollar, settled_bound}
 use Rattle.isl_kinds.specs.Typed.{is_dollar}
 use Rattle.isl_eval.proofs.ShownLaws.{bind_makeable, bind_paid, bind_type, bound_kept, kept_plain, kept_type, kind_of_type}
 use Rattle.isl_eval.proofs.simple.bound.Goals as goal

@@ -1,6 +1,6 @@
 use Rattle.std.proofs.Common.{◌∙◌, ◌++◌, ap, refl, sym, ℕ, List}
 use Rattle.std.proofs.lemmas.List.{append-nil}
-use Rattle.isl_spelled.specs.Names.{binds_dollar}
+use Rattle.isl_stmt.specs.Names.{binds_dollar}
 use Rattle.isl_eval.specs.Machine.{nothing}
 use Rattle.isl_eval.specs.Evaluation.{answer_of}
 use Rattle.isl_eval.proofs.ShownLaws.{bind_step, empty_step, moment_of, show_step}

@@ -1,5 +1,5 @@
 use Rattle.std.proofs.Common.{◌∙◌, ap, refl, subst, sym}
-use Rattle.isl_select.specs.State.{StateView}
+use Rattle.isl_values.specs.State.{StateView}
 use Rattle.isl_eval.specs.Evaluation.{IsTaken}
 use Rattle.isl_eval.proofs.ShownLaws.{moment_of}
 use Rattle.isl_eval.proofs.ChainLaws.{alone_plain}

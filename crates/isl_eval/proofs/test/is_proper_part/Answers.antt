@@ -1,4 +1,4 @@
-use Rattle.isl_select.proofs.ValueLaws.{numbers_later}
+use Rattle.isl_values.proofs.ValueLaws.{numbers_later}
 use Rattle.isl_eval.proofs.test.is_proper_part.Goals as goal
 
 pub is_part-requires-2-clause-left : goal.is_part-requires-2-clause-left

@@ -1,9 +1,9 @@
 use Rattle.std.proofs.Common.{rules}
 use Rattle.isl_union.specs.KeptValue.{Has}
-use Rattle.isl_select.specs.Formed.{IsTooWideRow}
-use Rattle.isl_select.proofs.ValueLaws.{fits_later, numbers_later}
+use Rattle.isl_values.specs.Formed.{IsTooWideRow}
+use Rattle.isl_values.proofs.ValueLaws.{fits_later, numbers_later}
 use Rattle.isl_meter.proofs.CutLemmas.{IsCharged_trans}
-use Rattle.isl_select.specs.State.{scope_of}
+use Rattle.isl_values.specs.State.{scope_of}
 use Rattle.isl_eval.specs.Evaluation.{IsTooWideTest}
 use Rattle.isl_eval.proofs.TestLaws.{at_deref, refused, test_narrow, test_turned, tested_is, unworked_on}
 use Rattle.isl_eval.proofs.WideLaws.{all_narrow, past_wide}

@@ -7,7 +7,7 @@ use Rattle.isl_piece.specs.Row.{IsRowWithin}
 use Rattle.isl_piece.specs.System.{IsSystemWithin}
 use Rattle.isl_union.specs.Live.{normal_of, IsLiveOf}
 use Rattle.isl_union.specs.Piece.{kept_piece, piece_of, IsPieceOf}
-use Rattle.isl_linear.specs.Rows.{rows_written}
+use Rattle.isl_plain.specs.Rows.{rows_written}
 use Rattle.isl_lower.specs.Value.{piece_lowered}
 use Rattle.isl_lower.proofs.ValueLaws.{found_within, made_free, made_lowered, system_made, there_within, width_made}
 use Rattle.isl_lower.proofs.piece.lower_plain.Goals as goal

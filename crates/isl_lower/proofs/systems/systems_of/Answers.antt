@@ -4,8 +4,8 @@ use Rattle.isl_elim.specs.Elimination.{HoldsAtAny}
 use Rattle.isl_tree.specs.Environment.{Environment}
 use Rattle.isl_tree.specs.Formula.{FormulaHolds}
 use Rattle.isl_affine.specs.Scope.{IsNumbered}
-use Rattle.isl_tuples.specs.Names.{piece_names}
-use Rattle.isl_tuples.proofs.NameLaws.{piece_names_length}
+use Rattle.isl_lower.specs.Names.{piece_names}
+use Rattle.isl_lower.proofs.NameLaws.{piece_names_length}
 use Rattle.isl_lower.specs.Made.{AreSystemsOf}
 use Rattle.isl_lower.proofs.SystemLaws.{alone_systems, both_ok, entries_formed, formula_known, formula_systems}
 use Rattle.isl_lower.proofs.systems.systems_of.Goals as goal

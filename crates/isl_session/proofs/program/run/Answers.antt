@@ -1,5 +1,5 @@
 use Rattle.std.proofs.Common.{◌≡◌, ◌∙◌, ap, List, ℕ, Option, map, string_bytes, sym, subst}
-use Rattle.isl_select.specs.State.{Moment}
+use Rattle.isl_values.specs.State.{Moment}
 use Rattle.isl_words.proofs.WordsLemmas.{taken_once}
 use Rattle.isl_session.specs.Run.{Answered, IsScriptOf, outside}
 use Rattle.isl_session.specs.Valid.{IsValidScript}

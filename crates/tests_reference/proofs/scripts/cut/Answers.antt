@@ -1,7 +1,7 @@
 use Rattle.std.proofs.Common.{ℕ, ◌+◌, ◌≤◌, Bool, true, false, MatchBool, [], ◌∷◌, ◌++◌, length, length-append, arith}
-use Rattle.isl_stmt.specs.Script.{Bytes}
-use Rattle.isl_stmt.specs.Cutter.{Known, IsAt}
-use Rattle.isl_stmt.proofs.CutterLaws.{at-depth-le}
+use Rattle.isl_script.specs.Script.{Bytes}
+use Rattle.isl_script.specs.Cutter.{Known, IsAt}
+use Rattle.isl_script.proofs.CutterLaws.{at-depth-le}
 use Rattle.tests_reference.proofs.scripts.cut.Goals as goal
 
 -- after one more byte the part is at most a byte longer

@@ -1,5 +1,5 @@
 use Rattle.std.proofs.Common.{ℕ, List, ◌≤◌, length}
-use Rattle.isl_stmt.specs.Cutter.{IsAt}
+use Rattle.isl_script.specs.Cutter.{IsAt}
 use Rattle.tests_reference.proofs.scripts.cut.Given as goal
 
 abbrev pub invariant-loop-byte : goal.invariant-loop-byte

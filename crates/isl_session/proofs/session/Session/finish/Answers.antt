@@ -1,5 +1,5 @@
 use Rattle.std.proofs.Common.{refl, subst}
-use Rattle.isl_stmt.specs.Script.{IsBlank}
+use Rattle.isl_script.specs.Script.{IsBlank}
 use Rattle.isl_session.specs.View.{View}
 use Rattle.isl_session.proofs.FedLemmas.{if_none}
 use Rattle.isl_session.proofs.session.Session.finish.Goals as goal

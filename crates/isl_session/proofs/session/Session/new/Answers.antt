@@ -1,10 +1,10 @@
 use Rattle.std.proofs.Common.{List, ℕ, ap, arith, length, subst, sym}
 use Rattle.isl_meter.specs.Gauge.{limit_of}
-use Rattle.isl_stmt.specs.Script.{IsOpen}
-use Rattle.isl_stmt.specs.Cutter.{IsAt}
-use Rattle.isl_stmt.proofs.ScriptLaws.{open_nil}
-use Rattle.isl_select.specs.State.{StateView, Fits, IsSettled}
-use Rattle.isl_select.proofs.StateLaws.{fits_unbound}
+use Rattle.isl_script.specs.Script.{IsOpen}
+use Rattle.isl_script.specs.Cutter.{IsAt}
+use Rattle.isl_script.proofs.ScriptLaws.{open_nil}
+use Rattle.isl_values.specs.State.{StateView, Fits, IsSettled}
+use Rattle.isl_values.proofs.StateLaws.{fits_unbound}
 use Rattle.isl_session.proofs.SoundLemmas.{settled_unbound}
 use Rattle.isl_session.specs.declared.counts.Counts.{Counts}
 use Rattle.isl_session.specs.Counts.{AreCounts}

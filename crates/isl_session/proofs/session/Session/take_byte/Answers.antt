@@ -1,11 +1,11 @@
 use Rattle.std.proofs.Common.{◌≡◌, ◌+◌, ◌∷◌, [], ◌++◌, ◌∙◌, List, ℕ, true, false, arith, ap, length, sym, subst, refl, vec_capacity}
 use Rattle.std.proofs.lemmas.List.{append-nil, length_push}
 use Rattle.isl_meter.specs.Gauge.{Gauge, IsKept, limit_of}
-use Rattle.isl_stmt.specs.Script.{ends, IsOpen, Place}
-use Rattle.isl_stmt.specs.Cutter.{IsAt}
-use Rattle.isl_stmt.proofs.ScriptLaws.{depth-le-length, open_nil, open_push}
+use Rattle.isl_script.specs.Script.{ends, IsOpen, Place}
+use Rattle.isl_script.specs.Cutter.{IsAt}
+use Rattle.isl_script.proofs.ScriptLaws.{depth-le-length, open_nil, open_push}
 use Rattle.isl_space.specs.Valuation.{Valuation}
-use Rattle.isl_select.specs.State.{StateView, Moment, Fits}
+use Rattle.isl_values.specs.State.{StateView, Moment, Fits}
 use Rattle.isl_eval.specs.Causes.{Refuses}
 use Rattle.isl_eval.specs.Run.{Answers, started}
 use Rattle.isl_session.specs.declared.counts.Counts.{Counts}

@@ -1,0 +1,92 @@
+-- What a call says of an operator, a word or an application, where it is that one.
+use Rattle.std.proofs.Common.{◌≡◌, ◌↔◌, ◌⊎◌, inl, inr, sym, subst, List}
+use Rattle.std.specs.Prelude.{Result, Ok, Err, IfOk, MatchResult}
+use Rattle.isl_meter.specs.Gauge.{Gauge}
+use Rattle.isl_space.specs.Element.{Element}
+use Rattle.isl_space.specs.Name.{Name}
+use Rattle.isl_space.specs.Names.{joined}
+use Rattle.isl_space.specs.Valuation.{Valuation}
+use Rattle.isl_union.specs.KeptValue.{KeptValue, Has}
+use Rattle.isl_union.specs.Meet.{IsMeetOf}
+use Rattle.isl_union.specs.declared.fault.OpFault.{OpFault}
+use Rattle.isl_expr.specs.declared.tree.Binary.{Binary}
+use Rattle.isl_expr.specs.declared.tree.Binary.TheVariants as b
+use Rattle.isl_expr.specs.declared.tree.Prefix.{Prefix}
+use Rattle.isl_operators.specs.Operations.{OperatorHas, WordHas}
+use Rattle.isl_operators.specs.Formed.{FormsWide, OperatorForms, PairsWide, WordForms}
+use Rattle.isl_operators.specs.Made.{HasMaps, HasSets, IsIntersectionOf, IsOperatorOf, IsOver, IsPaid, IsWhyNone, IsWordOf}
+use Rattle.isl_operators.specs.Made.{operator_works, word_works}
+
+-- ---- one result
+pub over : (names : List Name) (Elements : Valuation → Element → Type 0) (r : Result KeptValue OpFault)
+    → IfOk r (λ value. value.params ≡ names)
+    → ((valuation : Valuation) (element : Element) → IfOk r (λ value. Has value valuation element ↔ Elements valuation element))
+    → IfOk r (IsOver names Elements)
+over names Elements (Ok value) params elements = record { params = params; elements = elements }
+over names Elements (Err fault) params elements = tt
+
+pub intersection_of : (left right : KeptValue) (r : Result KeptValue OpFault)
+    → IfOk r (λ value. value.params ≡ joined left.params right.params)
+    → ((valuation : Valuation) (element : Element)
+    → IfOk r (λ value. Has value valuation element ↔ OperatorHas b.Intersection (Has left valuation) (Has right valuation) element))
+    → (¬ (HasMaps left × HasSets right) → IfOk r (IsMeetOf left right)) → IfOk r (IsIntersectionOf left right)
+intersection_of left right (Ok value) params elements pieces = record {
+  any = record { params = params; elements = elements };
+  pieces = pieces;
+}
+intersection_of left right (Err fault) params elements pieces = tt
+
+-- one or the other of what is the same
+pub either_same : (A B C D Has : Type 0) → A ↔ C → B ↔ D → Has ↔ (A ⊎ B) → Has ↔ (C ⊎ D)
+either_same A B C D Has one other either = (
+  (λ has. elim (either.0 has) [ inl a ↦ inl (one.0 a) | inr b ↦ inr (other.0 b) ]),
+  (λ both. elim both [ inl c ↦ either.1 (inl (one.1 c)) | inr d ↦ either.1 (inr (other.1 d)) ]),
+)
+
+-- what is so whatever the value
+pub always : {A E : Type 0} (r : Result A E) (P : Type 0) → P → IfOk r (λ _. P)
+always (Ok value) P holds = holds
+always (Err fault) P holds = tt
+
+pub formed_narrow : {A E : Type 0} (r : Result A E) (Few Forms Charged Wide : Type 0) (Q : E → Type 0) → (¬ Forms → ¬ Wide)
+    → MatchResult r (λ _. Few × (¬ Forms) × Charged) Q → IfOk r (λ _. ¬ Wide)
+formed_narrow (Ok value) Few Forms Charged Wide Q narrow done = narrow done.1
+formed_narrow (Err fault) Few Forms Charged Wide Q narrow done = tt
+
+-- ---- words
+module _ (operand : KeptValue) (g h : Gauge) (r : Result KeptValue OpFault) where
+  abbrev WordSays : Prefix → Type 0
+  WordSays word =
+      IfOk r (IsWordOf word operand)
+      × ((valuation : Valuation) (element : Element)
+      → IfOk r (λ value. Has value valuation element ↔ WordHas word (Has operand valuation) element))
+      × IfOk r (λ _. ¬ FormsWide (WordForms word) (Has operand))
+      × MatchResult r (λ _. IsPaid (word_works word) g h)
+      (IsWhyNone operand.params (FormsWide (WordForms word) (Has operand)) (word_works word) g h)
+
+  -- what is said of one word is said of the word that is that one
+  pub word_says : (word one : Prefix) → word ≡ one → IfOk r (λ value. value.params ≡ operand.params)
+      → ((valuation : Valuation) (element : Element)
+      → IfOk r (λ value. Has value valuation element ↔ WordHas one (Has operand valuation) element))
+      → IfOk r (λ _. ¬ FormsWide (WordForms one) (Has operand))
+      → MatchResult r (λ _. IsPaid (word_works one) g h)
+      (IsWhyNone operand.params (FormsWide (WordForms one) (Has operand)) (word_works one) g h)
+      → WordSays word
+  word_says word one is params elements narrow units =
+      subst WordSays (sym is)
+      (over operand.params (λ valuation element. WordHas one (Has operand valuation) element) r params elements, elements, narrow, units)
+
+-- ---- operators
+module _ (left right : KeptValue) (g h : Gauge) (r : Result KeptValue OpFault) where
+  abbrev OperatorSays : Binary → Type 0
+  OperatorSays operator =
+      IfOk r (IsOperatorOf operator left right)
+      × ((valuation : Valuation) (element : Element)
+      → IfOk r (λ value. Has value valuation element ↔ OperatorHas operator (Has left valuation) (Has right valuation) element))
+      × IfOk r (λ _. ¬ PairsWide (OperatorForms operator) (Has left) (Has right))
+      × MatchResult r (λ _. IsPaid (operator_works operator) g h)
+      (IsWhyNone (joined left.params right.params) (PairsWide (OperatorForms operator) (Has left) (Has right)) (operator_works operator)
+      g h)
+
+  pub operator_says : (operator one : Binary) → operator ≡ one → OperatorSays one → OperatorSays operator
+  operator_says operator one is says = subst OperatorSays (sym is) says

@@ -1,0 +1,115 @@
+use Rattle.std.proofs.Common.{◌≡◌, ◌∙◌, ap₂, true}
+use Rattle.std.proofs.lemmas.Result.{err_from_is_err_and, IfOk-weaker}
+use Rattle.isl_meter.proofs.CutLemmas.{IsCharged_trans}
+use Rattle.isl_space.specs.Names.{joined}
+use Rattle.isl_union.specs.KeptValue.{KeptValue, Has}
+use Rattle.isl_relation.specs.Formed.{FormsJoin}
+use Rattle.isl_relation.specs.Wide.{PairsTooWide}
+use Rattle.isl_operators.specs.Operations.{ApplicationHas}
+use Rattle.isl_operators.specs.Formed.{ApplicationForms, PairsWide}
+use Rattle.isl_operators.proofs.FaultLaws.{later_units, plain_units, why_after, why_formed, why_narrow, why_wider}
+use Rattle.isl_operators.proofs.FaultLaws.{within_before, within_later}
+use Rattle.isl_operators.proofs.MadeLaws.{always, either_same, over}
+use Rattle.isl_operators.proofs.NamesLaws.{joined-turned, turned_fits}
+use Rattle.isl_operators.proofs.WideLaws.{pairs_narrow, pairs_wide, turned_narrow, turned_wide}
+use Rattle.isl_operators.proofs.application.applied.Goals as goal
+
+pub returns-in_err-images-clause-units : goal.returns-in_err-images-clause-units
+returns-in_err-images-clause-units c =
+    let map = c.args.map.now in
+    let argument = c.args.argument.now in
+    let p = err_from_is_err_and c.from_residual.result c.from_residual.ensures.1 in
+    rw (p.1, p.2)
+    (why_narrow (joined map.params argument.params) (PairsWide ApplicationForms (Has map) (Has argument)) c.args.meter.now c.apply.new.meter
+    c.in_err-images.field-0.0 c.in_err-images.ensures.units)
+
+pub join-requires-clause-first : goal.join-requires-clause-first
+join-requires-clause-first c =
+    within_later c.args.meter.now c.apply.new.meter c.args.argument.now c.in_ok-images.ensures.units.1 c.requires.argument
+
+pub join-requires-clause-second : goal.join-requires-clause-second
+join-requires-clause-second c =
+    within_later c.args.meter.now c.apply.new.meter c.args.map.now c.in_ok-images.ensures.units.1 c.requires.map
+
+pub returns-in_err-followed-clause-units : goal.returns-in_err-followed-clause-units
+returns-in_err-followed-clause-units c =
+    let map = c.args.map.now in
+    let argument = c.args.argument.now in
+    let one = c.pieces-map.ensures.kept in
+    let two = c.pieces-argument.ensures.kept in
+    let names = joined map.params argument.params in
+    let turned = joined argument.params map.params in
+    let Wide = PairsWide ApplicationForms (Has map) (Has argument) in
+    let wider = λ (wide : PairsTooWide FormsJoin argument map).
+    turned_wide FormsJoin (Has map) (Has argument) (pairs_wide FormsJoin argument map two one wide) in
+    let few = turned_fits map.params argument.params one.params.distinct two.params.distinct in
+    let fault = c.in_err-followed.field-0.0 in
+    let p = err_from_is_err_and c.from_residual-in_err-followed.result c.from_residual-in_err-followed.ensures.1 in
+    rw (p.1, p.2)
+    (why_after names Wide true c.args.meter.now c.apply.new.meter c.join.new.meter fault c.in_ok-images.ensures.units.1
+    (why_wider turned names Wide Wide true c.apply.new.meter c.join.new.meter fault few (λ wide. wide)
+    (why_formed turned Wide c.apply.new.meter c.join.new.meter _ wider fault c.in_err-followed.ensures.units)))
+
+pub union-requires-clause-own : goal.union-requires-clause-own
+union-requires-clause-own c =
+    let charged = IsCharged_trans c.args.meter.now c.apply.new.meter c.join.new.meter c.in_ok-images.ensures.units.1
+    c.in_ok-followed.ensures.units.2 in
+    within_later c.args.meter.now c.join.new.meter c.in_ok-images.images charged c.in_ok-images.ensures.numbers
+
+pub union-requires-clause-other : goal.union-requires-clause-other
+union-requires-clause-other c =
+    within_later c.apply.new.meter c.join.new.meter c.in_ok-followed.followed c.in_ok-followed.ensures.units.2
+    c.in_ok-followed.ensures.numbers
+
+-- ---- the value
+pub returns-clause-params : goal.returns-clause-params
+returns-clause-params c =
+    let map = c.args.map.now.params in
+    let argument = c.args.argument.now.params in
+    let one = c.pieces-map.ensures.kept.params.distinct in
+    let two = c.pieces-argument.ensures.kept.params.distinct in
+    let same = ap₂ joined c.in_ok-images.ensures.params c.in_ok-followed.ensures.params ∙ joined-turned map argument one two in
+    IfOk-weaker c.union.result (λ (value : KeptValue). value.params ≡ joined c.in_ok-images.images.params c.in_ok-followed.followed.params)
+    (λ (value : KeptValue). value.params ≡ joined map argument) (λ value is. is ∙ same) c.union.ensures.params
+
+pub returns-clause-elements : goal.returns-clause-elements
+returns-clause-elements c = λ v e.
+    let images = c.in_ok-images.ensures.elements v e in
+    let followed = c.in_ok-followed.ensures.elements v e in
+    IfOk-weaker c.union.result _ _ (λ value both. either_same _ _ _ _ _ images followed both) (c.union.ensures.elements v e)
+
+pub returns-clause-written : goal.returns-clause-written
+returns-clause-written c =
+    let map = c.args.map.now in
+    let argument = c.args.argument.now in
+    over (joined map.params argument.params) (λ valuation element. ApplicationHas (Has map valuation) (Has argument valuation) element)
+    c.union.result (returns-clause-params c) (returns-clause-elements c)
+
+pub returns-clause-numbers : goal.returns-clause-numbers
+returns-clause-numbers c =
+    c.union.ensures.numbers _ c.in_ok-images.ensures.numbers
+    (within_before c.args.meter.now c.apply.new.meter c.in_ok-followed.followed c.in_ok-images.ensures.units.1
+    c.in_ok-followed.ensures.numbers)
+
+pub returns-clause-narrow : goal.returns-clause-narrow
+returns-clause-narrow c =
+    let map = c.args.map.now in
+    let argument = c.args.argument.now in
+    always c.union.result (¬ PairsWide ApplicationForms (Has map) (Has argument))
+    (turned_narrow FormsJoin (Has map) (Has argument) (pairs_narrow FormsJoin argument map c.in_ok-followed.ensures.units.1))
+
+pub returns-clause-units : goal.returns-clause-units
+returns-clause-units c =
+    let map = c.args.map.now in
+    let argument = c.args.argument.now in
+    let one = c.pieces-map.ensures.kept.params.distinct in
+    let two = c.pieces-argument.ensures.kept.params.distinct in
+    let names = joined map.params argument.params in
+    let joint = joined c.in_ok-images.images.params c.in_ok-followed.followed.params in
+    let Wide = PairsWide ApplicationForms (Has map) (Has argument) in
+    let same : joint ≡ names =
+    ap₂ joined c.in_ok-images.ensures.params c.in_ok-followed.ensures.params ∙ joined-turned map.params argument.params one two in
+    let charged = IsCharged_trans c.args.meter.now c.apply.new.meter c.join.new.meter c.in_ok-images.ensures.units.1
+    c.in_ok-followed.ensures.units.2 in
+    later_units names joint Wide true c.args.meter.now c.join.new.meter c.union.new.meter c.union.result charged same
+    (plain_units joint Wide c.join.new.meter c.union.new.meter true _ c.union.result c.union.ensures.meter c.union.ensures.faults)

@@ -1,5 +1,0 @@
-use Rattle.isl_readback.proofs.PlainTree.{tree_plain}
-use Rattle.isl_readback.proofs.laws.printed_tree_is_plain.Goals as goal
-
-pub returns : goal.returns
-returns c = tree_plain

@@ -1,5 +1,0 @@
-use Rattle.isl_readback.proofs.RoundTripLaws.{tree_spelled}
-use Rattle.isl_readback.proofs.laws.printed_tree_is_spelled.Goals as goal
-
-pub returns : goal.returns
-returns c = tree_spelled

@@ -1,0 +1,260 @@
+-- What an expression selects lies in spaces of its kind, and so do the pieces of a kept value with these elements.
+use mathlib.Core.Former.{Count}
+use Rattle.std.proofs.Common.{◌≡◌, ◌∙◌, inl, inr, ◌⊎◌, Bool, true, false, List, [], ◌∷◌, Option, Some, None, All, sym, ap, subst, refl}
+use Rattle.std.specs.Prelude.{is_some, is_none, ◌&&◌, ◌||◌, option_map, Any}
+use Rattle.std.specs.Option.{option_and_then}
+use Rattle.std.specs.List.{list_all}
+use Rattle.std.proofs.lemmas.Bool.{and_parts, false≢true}
+use Rattle.std.proofs.lemmas.List.Elements.{All-nil, All-cons, All-head, All-tail, All-weaker}
+use Rattle.isl_math.proofs.ListLaws.{Any-none, Any-first, Any-later, Any-cases}
+use Rattle.isl_space.specs.Name.{Name}
+use Rattle.isl_space.specs.Names.{AreDistinct}
+use Rattle.isl_space.specs.SpaceForm.{SpaceForm, set_of, map_of}
+use Rattle.isl_space.specs.Element.{Element}
+use Rattle.isl_space.specs.Valuation.{Valuation}
+use Rattle.isl_piece.specs.System.{HoldsSystem}
+use Rattle.isl_union.specs.KeptValue.{KeptPiece, KeptValue, Has, HasElement, IsKeptPiece, IsKeptValue, piece_system}
+use Rattle.isl_union.specs.Compare.{IsEmpty}
+use Rattle.isl_union.specs.Sample.{IsSampleOf, only_piece}
+use Rattle.isl_union.proofs.CompareLaws.{valuation_at, element_at, element_is, point_at}
+use Rattle.isl_tree.specs.declared.tree.PieceTree.{PieceTree}
+use Rattle.isl_tree.specs.declared.tree.Literal.{Literal}
+use Rattle.isl_tree.specs.declared.tree.Tuple.{Tuple}
+use Rattle.isl_tree.specs.Literal.{PieceHas, space_of_piece}
+use Rattle.isl_text.specs.Formed.{are_distinct, are_alike, are_sets, are_maps, piece_is_formed}
+use Rattle.isl_expr.specs.declared.tree.ValueKind.{ValueKind}
+use Rattle.isl_expr.specs.declared.tree.ValueKind.TheVariants.{Set, Map}
+use Rattle.isl_expr.specs.declared.tree.Prefix.TheVariants as p
+use Rattle.isl_expr.specs.declared.tree.Postfix.{Postfix, Inverse, Apply, Item}
+use Rattle.isl_expr.specs.declared.tree.Expr as e
+use Rattle.isl_expr.specs.declared.tree.Expr.{Expr, Row', Prefix', Any', Last', Post', Row_of-Expr, end_of-Expr, more_of-Expr}
+use Rattle.isl_expr.specs.declared.tree.Expr.{Row_of-Link, end_of-Link, more_of-Link, Row_of-Postfix, end_of-Postfix, more_of-Postfix}
+use Rattle.isl_expr.specs.Expr.{literals_of, literals_in, literals_in_links, literals_in_postfixes, literals_in_postfix}
+use Rattle.isl_operators.specs.Operations.{OperatorHas}
+use Rattle.isl_kinds.specs.Lines.{joined, prefixed, item}
+use Rattle.isl_kinds.specs.Typed.{TypeView, by_two, kind_of_pieces, kind_of_image}
+use Rattle.isl_kinds.specs.Typed.{kind_of, kind_in, kind_past_links, kind_past_postfixes, kind_past}
+use Rattle.isl_values.specs.State.{Kept, StateView, kept_of, scope_of, type_of}
+use Rattle.isl_values.specs.Selection.{KeptHas, PostfixHas, Selects, SelectsIn, SelectsPastLinks, SelectsPastPostfixes}
+use Rattle.isl_values.specs.Selection.{IsContentOf, IsSelectedIn}
+use Rattle.isl_values.proofs.StateLaws.{bound_at}
+use Rattle.isl_values.proofs.PartLaws.{all_left, all_right}
+use Rattle.isl_eval.proofs.LiteralLaws.{IsSpelled}
+use Rattle.isl_round_trip.specs.Written.{IsSet, IsMap, IsUniform, IsSpaceOf, IsOfKind}
+use Rattle.isl_round_trip.specs.TakenAgain.{AreWritable}
+use Rattle.isl_round_trip.proofs.KindOfOperations.{AreOfKind, some_same, none_some, as_kind, no_element}
+use Rattle.isl_round_trip.proofs.KindOfOperations.{of_inverse, of_word, of_operator, of_application}
+
+-- ---- kinds
+-- what is not without a space of its kind has one
+stable : (kind : ValueKind) (space : SpaceForm) → ¬ (¬ IsSpaceOf kind space) → IsSpaceOf kind space
+stable Set (set_of form) there = tt
+stable Map (map_of from to) there = tt
+stable kind space there = absurd (there (λ h. h))
+
+-- ---- the pieces of a value with elements in such spaces
+module _ (kind : ValueKind) where
+  pub has_kind : (params : List Name) (valuation : Valuation) (element : Element) (pieces : List KeptPiece)
+      → All (λ piece. IsSpaceOf kind piece.space) pieces → Any (HasElement params valuation element) pieces → IsSpaceOf kind element.space
+  has_kind params valuation element [] all has = absurd (Any-none (HasElement params valuation element) has)
+  has_kind params valuation element (piece ∷ pieces) all has = elim (Any-cases (HasElement params valuation element) piece pieces has) [
+    | inl here ↦ subst (IsSpaceOf kind) here.space (All-head (λ (p : KeptPiece). IsSpaceOf kind p.space) piece pieces all)
+    | inr there ↦ has_kind params valuation element pieces (All-tail (λ (p : KeptPiece). IsSpaceOf kind p.space) piece pieces all) there
+  ]
+
+  -- a piece has an element
+  piece_kind : (params : List Name) (piece : KeptPiece) → AreDistinct params → IsKeptPiece params piece
+      → ((valuation : Valuation) (element : Element) → HasElement params valuation element piece → IsSpaceOf kind element.space)
+      → IsSpaceOf kind piece.space
+  piece_kind params piece distinct kept have = stable kind piece.space (λ none. kept.live (λ point long holds. none (
+      have (valuation_at params piece.space point distinct long) (element_at params piece.space point distinct long) (record {
+        numbers = element_is params piece.space point distinct long;
+        space = refl;
+        holds = subst (HoldsSystem (piece_system params piece)) (sym (point_at params piece.space point distinct long)) holds;
+      }))))
+
+  pieces_kind : (params : List Name) (pieces : List KeptPiece) → AreDistinct params → All (IsKeptPiece params) pieces
+      → ((valuation : Valuation) (element : Element) → Any (HasElement params valuation element) pieces → IsSpaceOf kind element.space)
+      → All (λ piece. IsSpaceOf kind piece.space) pieces
+  pieces_kind params [] distinct kept have = All-nil (λ (p : KeptPiece). IsSpaceOf kind p.space)
+  pieces_kind params (piece ∷ pieces) distinct kept have =
+      All-cons (λ (p : KeptPiece). IsSpaceOf kind p.space) piece pieces
+      (piece_kind params piece distinct (All-head (IsKeptPiece params) piece pieces kept)
+      (λ valuation element h. have valuation element (Any-first (HasElement params valuation element) piece pieces h)))
+      (pieces_kind params pieces distinct (All-tail (IsKeptPiece params) piece pieces kept)
+      (λ valuation element h. have valuation element (Any-later (HasElement params valuation element) piece pieces h)))
+
+  pub value_kind : (value : KeptValue) → IsKeptValue value
+      → ((valuation : Valuation) (element : Element) → Has value valuation element → IsSpaceOf kind element.space) → IsOfKind kind value
+  value_kind value kept have = pieces_kind value.params value.pieces kept.params.distinct kept.pieces have
+
+-- ---- literals
+module _ (params : List Name) (valuation : Valuation) (element : Element) where
+  set_piece : (piece : PieceTree) (second : Option Tuple) → piece.second ≡ second → is_none second ≡ true → IsSet (space_of_piece piece)
+  set_piece piece None is none = rw is tt
+  set_piece piece (Some second) is none = absurd (false≢true none)
+
+  map_piece : (piece : PieceTree) (second : Option Tuple) → piece.second ≡ second → is_some second ≡ true → IsMap (space_of_piece piece)
+  map_piece piece None is some = absurd (false≢true some)
+  map_piece piece (Some second) is some = rw is tt
+
+  in_sets : (pieces : List PieceTree) → are_sets pieces ≡ true → Any (PieceHas params valuation element) pieces → IsSet element.space
+  in_sets [] sets has = absurd (Any-none (PieceHas params valuation element) has)
+  in_sets (piece ∷ pieces) sets has =
+      let both = and_parts (is_none piece.second) (are_sets pieces) sets in
+      elim (Any-cases (PieceHas params valuation element) piece pieces has) [
+        | inl here ↦ subst IsSet here.space (set_piece piece piece.second refl both.0)
+        | inr there ↦ in_sets pieces both.1 there
+      ]
+
+  in_maps : (pieces : List PieceTree) → are_maps pieces ≡ true → Any (PieceHas params valuation element) pieces → IsMap element.space
+  in_maps [] maps has = absurd (Any-none (PieceHas params valuation element) has)
+  in_maps (piece ∷ pieces) maps has =
+      let both = and_parts (is_some piece.second) (are_maps pieces) maps in
+      elim (Any-cases (PieceHas params valuation element) piece pieces has) [
+        | inl here ↦ subst IsMap here.space (map_piece piece piece.second refl both.0)
+        | inr there ↦ in_maps pieces both.1 there
+      ]
+
+  pub in_pieces : (pieces : List PieceTree) → are_alike pieces ≡ true → Any (PieceHas params valuation element) pieces
+      → IsSpaceOf (kind_of_pieces pieces) element.space
+  in_pieces [] alike has = absurd (Any-none (PieceHas params valuation element) has)
+  in_pieces (piece ∷ pieces) alike has = by piece.second refl (are_sets (piece ∷ pieces)) refl
+    where
+      by : (second : Option Tuple) → piece.second ≡ second → (c : Bool) → are_sets (piece ∷ pieces) ≡ c
+          → IsSpaceOf (kind_of_image piece.second) element.space
+      by None is true so = rw is (in_sets (piece ∷ pieces) so has)
+      by None is false so =
+          let m : are_maps (piece ∷ pieces) ≡ true = sym (ap (λ (b : Bool). b || are_maps (piece ∷ pieces)) so) ∙ alike in
+          absurd (false≢true (sym (ap (λ (o : Option Tuple). is_some o) is) ∙ (and_parts (is_some piece.second) (are_maps pieces) m).0))
+      by (Some second) is true so =
+          absurd (false≢true (sym (ap (λ (o : Option Tuple). is_none o) is) ∙ (and_parts (is_none piece.second) (are_sets pieces) so).0))
+      by (Some second) is false so =
+          rw is (in_maps (piece ∷ pieces) (sym (ap (λ (b : Bool). b || are_maps (piece ∷ pieces)) so) ∙ alike) has)
+
+alike_of : (literal : Literal) → IsSpelled literal → are_alike literal.pieces ≡ true
+alike_of literal spelled =
+    let each = list_all (piece_is_formed literal.params) literal.pieces in
+    let parts = and_parts (are_distinct literal.params && are_alike literal.pieces) each spelled.formed in
+    (and_parts (are_distinct literal.params) (are_alike literal.pieces) parts.0).1
+
+-- ---- expressions
+module _ (state : StateView) (valuation : Valuation) (all : AreWritable state) where
+  named_kind : (name : Name) (kind : ValueKind) (element : Element) → kind_of (scope_of state) (e.Name name) ≡ Some kind
+      → Selects state (e.Name name) valuation element → IsSpaceOf kind element.space
+  named_kind name kind element is has = by (kept_of state name) refl has
+    where
+      by : (o : Option Kept) → kept_of state name ≡ o → KeptHas o valuation element → IsSpaceOf kind element.space
+      by None none has = absurd has
+      by (Some kept) there has =
+          let same : kept.kind ≡ kind = some_same kept.kind kind
+          (sym (ap (option_map (λ (t : TypeView). t.kind)) (bound_at state name ∙ ap (option_map type_of) there)) ∙ is) in
+          subst (λ (k : ValueKind). IsSpaceOf k element.space) same
+          (has_kind kept.kind kept.value.params valuation element kept.value.pieces (all name kept there).0 has)
+
+  mutual
+    pub selected_kind : (expr : Expr) → All IsSpelled (literals_of expr)
+        → AreOfKind (λ x. Selects state expr valuation x) (kind_of (scope_of state) expr)
+    selected_kind (e.Name name) spelled = record { lies = λ kind is element has. named_kind name kind element is has }
+    selected_kind (e.Literal literal) spelled = record {
+      lies = λ kind is element has. as_kind element.space (kind_of_pieces literal.pieces) kind is
+          (in_pieces literal.params valuation element literal.pieces (alike_of literal (All-head IsSpelled literal [] spelled)) has);
+    }
+    selected_kind (Row' s first t links) spelled =
+        links_kind _ (λ x. SelectsIn state first valuation x) (kind_in (scope_of state) first) links
+        (in_kind _ first (all_left IsSpelled (literals_in first) (literals_in_links links) spelled))
+        (all_right IsSpelled (literals_in first) (literals_in_links links) spelled)
+    selected_kind (Prefix' word s operand) spelled =
+        of_word word (λ x. SelectsIn state operand valuation x) (kind_in (scope_of state) operand) (in_kind _ operand spelled)
+    selected_kind (Any' p source s sink t schedule) spelled = no_element (kind_of (scope_of state) (Any' p source s sink t schedule))
+    selected_kind (Last' p source s sink t schedule) spelled = no_element (kind_of (scope_of state) (Last' p source s sink t schedule))
+    selected_kind (Post' s operand t postfixes) spelled =
+        postfixes_kind _ (λ x. SelectsIn state operand valuation x) (kind_in (scope_of state) operand) postfixes
+        (in_kind _ operand (all_left IsSpelled (literals_in operand) (literals_in_postfixes postfixes) spelled))
+        (all_right IsSpelled (literals_in operand) (literals_in_postfixes postfixes) spelled)
+
+    in_kind : (m : Count) (row : Row_of-Expr m) → All IsSpelled (literals_in row)
+        → AreOfKind (λ x. SelectsIn state row valuation x) (kind_in (scope_of state) row)
+    in_kind m end_of-Expr spelled = no_element None
+    in_kind m (more_of-Expr expr rest) spelled = record {
+      lies = λ kind is element has. (selected_kind expr spelled).lies kind is element has;
+    }
+
+    links_kind : (m : Count) (Left : Element → Type 0) (o : Option ValueKind) (row : Row_of-Link m) → AreOfKind Left o
+        → All IsSpelled (literals_in_links row)
+        → AreOfKind (λ x. SelectsPastLinks state valuation Left row x) (kind_past_links (scope_of state) o row)
+    links_kind m Left o end_of-Link before spelled = record { lies = λ kind is element has. before.lies kind is element has }
+    links_kind m Left o (more_of-Link sign operand rest) before spelled =
+        links_kind _ (λ x. OperatorHas sign Left (λ y. Selects state operand valuation y) x)
+        (by_two (joined sign) o (kind_of (scope_of state) operand)) rest
+        (of_operator Left (λ y. Selects state operand valuation y) o (kind_of (scope_of state) operand) before
+        (selected_kind operand (all_left IsSpelled (literals_of operand) (literals_in_links rest) spelled)) sign)
+        (all_right IsSpelled (literals_of operand) (literals_in_links rest) spelled)
+
+    postfixes_kind : (m : Count) (Operand : Element → Type 0) (o : Option ValueKind) (row : Row_of-Postfix m) → AreOfKind Operand o
+        → All IsSpelled (literals_in_postfixes row)
+        → AreOfKind (λ x. SelectsPastPostfixes state valuation Operand row x) (kind_past_postfixes (scope_of state) o row)
+    postfixes_kind m Operand o end_of-Postfix before spelled = record { lies = λ kind is element has. before.lies kind is element has }
+    postfixes_kind m Operand o (more_of-Postfix postfix rest) before spelled =
+        postfixes_kind _ (λ x. PostfixHas state valuation Operand postfix x) (kind_past (scope_of state) o postfix) rest
+        (postfix_kind Operand o postfix before
+        (all_left IsSpelled (literals_in_postfix postfix) (literals_in_postfixes rest) spelled))
+        (all_right IsSpelled (literals_in_postfix postfix) (literals_in_postfixes rest) spelled)
+
+    postfix_kind : (Operand : Element → Type 0) (o : Option ValueKind) (postfix : Postfix) → AreOfKind Operand o
+        → All IsSpelled (literals_in_postfix postfix)
+        → AreOfKind (λ x. PostfixHas state valuation Operand postfix x) (kind_past (scope_of state) o postfix)
+    postfix_kind Operand o Inverse before spelled = of_inverse Operand o before
+    postfix_kind Operand o (Apply argument) before spelled =
+        of_application Operand (λ y. Selects state argument valuation y) o (kind_of (scope_of state) argument) before
+        (selected_kind argument spelled)
+    postfix_kind Operand o (Item number) before spelled = no_element (option_and_then item o)
+
+-- ---- what is kept
+-- a sample is of the kind of its operand
+sample_same : (k kind : ValueKind) → prefixed p.Sample k ≡ Some kind → k ≡ kind
+sample_same Set kind is = cc
+sample_same k kind is = cc
+
+module _ (state : StateView) (all : AreWritable state) where
+  sample_kind : (m : Count) (operand : Row_of-Expr m) → All IsSpelled (literals_in operand) → (argument value : KeptValue)
+      → IsSelectedIn state operand argument → IsSampleOf argument value → (kind : ValueKind)
+      → option_and_then (prefixed p.Sample) (kind_in (scope_of state) operand) ≡ Some kind → (valuation : Valuation) (element : Element)
+      → Has value valuation element → IsSpaceOf kind element.space
+  sample_kind m operand spelled argument value selected sample kind is valuation element has =
+      by (kind_in (scope_of state) operand) refl sample.pieces
+    where
+      HasIt : List KeptPiece → Type 0
+      HasIt pieces = Any (HasElement value.params valuation element) pieces
+
+      by : (o : Option ValueKind) → kind_in (scope_of state) operand ≡ o
+          → ((IsEmpty argument × (value.pieces ≡ []))
+          ⊎ ((v : Valuation) × (x : Element) × Has argument v x × (value.pieces ≡ only_piece argument.params v x ∷ [])))
+          → IsSpaceOf kind element.space
+      by o there (inl none) = absurd (Any-none (HasElement value.params valuation element) (subst HasIt none.1 has))
+      by None there (inr one) = none_some kind (sym (ap (option_and_then (prefixed p.Sample)) there) ∙ is)
+      by (Some k) there (inr one) =
+          let piece = only_piece argument.params one.0 one.1 in
+          let same = sample_same k kind (sym (ap (option_and_then (prefixed p.Sample)) there) ∙ is) in
+          let lies : IsSpaceOf k one.1.space =
+          (in_kind state one.0 all m operand spelled).lies k there one.1 ((selected.0 one.0 one.1).0 one.2) in
+          elim (Any-cases (HasElement value.params valuation element) piece [] (subst HasIt one.3 has)) [
+            | inl here ↦ subst (λ (j : ValueKind). IsSpaceOf j element.space) same (subst (IsSpaceOf k) here.space lies)
+            | inr later ↦ absurd (Any-none (HasElement value.params valuation element) later)
+          ]
+
+  -- what is kept of an expression is of its kind
+  pub content_kind : (expr : Expr) (value : KeptValue) → All IsSpelled (literals_of expr) → IsContentOf state expr value
+      → (kind : ValueKind) → kind_of (scope_of state) expr ≡ Some kind → (valuation : Valuation) (element : Element)
+      → Has value valuation element → IsSpaceOf kind element.space
+  content_kind (Prefix' p.Sample s operand) value spelled content kind is valuation element has =
+      sample_kind _ operand spelled content.0 value content.1 content.2 kind is valuation element has
+  content_kind expr value spelled content kind is valuation element has =
+      (selected_kind state valuation all expr spelled).lies kind is element ((content.elements valuation element).0 has)
+
+-- ---- what is of a kind can be written
+pub of_kind_uniform : (value : KeptValue) (kind : ValueKind) → IsOfKind kind value → IsUniform value
+of_kind_uniform value Set all = inl all
+of_kind_uniform value Map all = inr all
+of_kind_uniform value kind all =
+    inl (All-weaker (λ (p : KeptPiece). IsSpaceOf kind p.space) (λ (p : KeptPiece). IsSet p.space) (λ p h. absurd h) value.pieces all)

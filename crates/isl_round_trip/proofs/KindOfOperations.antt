@@ -1,0 +1,198 @@
+-- What operations make of elements in spaces of a kind lies in spaces of the kind that the table of kinds tells.
+use Rattle.std.proofs.Common.{◌≡◌, ◌∙◌, inl, inr, Option, Some, None, sym, ap, subst, refl}
+use Rattle.std.specs.Option.{option_and_then}
+use Rattle.isl_space.specs.Form.{Form}
+use Rattle.isl_space.specs.SpaceForm.{SpaceForm, set_of, map_of}
+use Rattle.isl_space.specs.Element.{Element}
+use Rattle.isl_maps.specs.Inverse.{inverse_space, inverse_element}
+use Rattle.isl_relation.specs.Point.{Point, HasPoint, Relates, set_element, map_element, paired}
+use Rattle.isl_expr.specs.declared.tree.ValueKind.{ValueKind}
+use Rattle.isl_expr.specs.declared.tree.ValueKind.TheVariants.{Set, Map}
+use Rattle.isl_expr.specs.declared.tree.Binary.{Binary}
+use Rattle.isl_expr.specs.declared.tree.Binary.TheVariants as b
+use Rattle.isl_expr.specs.declared.tree.Prefix.{Prefix}
+use Rattle.isl_expr.specs.declared.tree.Prefix.TheVariants as p
+use Rattle.isl_operators.specs.Operations.{OperatorHas, WordHas, ApplicationHas}
+use Rattle.isl_kinds.specs.Lines.{joined, applied, prefixed, inverse}
+use Rattle.isl_kinds.specs.Typed.{by_two}
+use Rattle.isl_round_trip.specs.Written.{IsMap, IsSpaceOf}
+
+-- ---- kinds
+pub some_same : (a b : ValueKind) → Some a ≡ Some b → a ≡ b
+some_same a b e = cc
+
+pub none_some : {A : Type 0} (k : ValueKind) → None ≡ Some k → A
+none_some k e = absurd (let f : None ≡ Some k = e in cc)
+
+pub as_kind : (space : SpaceForm) (made kind : ValueKind) → Some made ≡ Some kind → IsSpaceOf made space → IsSpaceOf kind space
+as_kind space made kind is lies = subst (λ (k : ValueKind). IsSpaceOf k space) (some_same made kind is) lies
+
+-- the elements are in spaces of this kind, if there is one
+pub record AreOfKind (P : Element → Type 0) (o : Option ValueKind) : Type 1 where
+  pub lies : (kind : ValueKind) → o ≡ Some kind → (element : Element) → P element → IsSpaceOf kind element.space
+
+-- there is no kind, or no element
+no_kind : (P : Element → Type 0) → AreOfKind P None
+no_kind P = record { lies = λ kind is element has. none_some kind is }
+
+pub no_element : (o : Option ValueKind) → AreOfKind (λ x. ⊥) o
+no_element o = record { lies = λ kind is element has. absurd has }
+
+-- a kind that has an element of a set is that of sets, and one that has an element of a map is that of maps
+is_set : (kind : ValueKind) (form : Form) → IsSpaceOf kind (set_of form) → kind ≡ Set
+is_set Set form lies = refl
+is_set kind form lies = absurd lies
+
+is_map : (kind : ValueKind) (from to : Form) → IsSpaceOf kind (map_of from to) → kind ≡ Map
+is_map Map from to lies = refl
+is_map kind from to lies = absurd lies
+
+-- what is made is an element in a space of the kind that a line tells
+made_in : (made kind : ValueKind) (element other : Element) → Some made ≡ Some kind → element ≡ other → IsSpaceOf made other.space
+    → IsSpaceOf kind element.space
+made_in made kind element other is same lies =
+    as_kind element.space made kind is (subst (λ (x : Element). IsSpaceOf made x.space) (sym same) lies)
+
+-- ---- the table, where one operand alone is known to have elements
+-- `+` keeps the kind of each operand that has elements
+union_left : (a c kind : ValueKind) (space : SpaceForm) → IsSpaceOf a space → joined b.Union a c ≡ Some kind → Some a ≡ Some kind
+union_left Set Set kind space lies is = is
+union_left Set c kind space lies is = cc
+union_left Map Map kind space lies is = is
+union_left Map c kind space lies is = cc
+union_left a c kind space lies is = absurd lies
+
+union_right : (a c kind : ValueKind) (space : SpaceForm) → IsSpaceOf c space → joined b.Union a c ≡ Some kind → Some c ≡ Some kind
+union_right Set Set kind space lies is = is
+union_right a Set kind space lies is = cc
+union_right Map Map kind space lies is = is
+union_right a Map kind space lies is = cc
+union_right a c kind space lies is = absurd lies
+
+-- `*` and `-`, which have the same lines, keep that of the left one
+part_left : (a c kind : ValueKind) (space : SpaceForm) → IsSpaceOf a space → joined b.Intersection a c ≡ Some kind → Some a ≡ Some kind
+part_left Set Set kind space lies is = is
+part_left Set c kind space lies is = cc
+part_left Map Map kind space lies is = is
+part_left Map c kind space lies is = cc
+part_left a c kind space lies is = absurd lies
+
+-- `->-` makes maps of maps
+removed_map : (c kind : ValueKind) → joined b.RangeDifference Map c ≡ Some kind → Some Map ≡ Some kind
+removed_map Set kind is = is
+removed_map c kind is = cc
+
+-- ---- words
+module _ (Operand : Element → Type 0) (a : ValueKind) (all : (element : Element) → Operand element → IsSpaceOf a element.space) where
+  of_sets : (x : Point) → HasPoint Operand x → a ≡ Set
+  of_sets x has = is_set a x.form (all (set_element x) has.has)
+
+  of_maps : (x y : Point) → Relates Operand x y → a ≡ Map
+  of_maps x y has = is_map a x.form y.form (all (map_element x y) has.has)
+
+  -- a line at the kind that the operand has
+  set_line : (line : ValueKind → Option ValueKind) (kind : ValueKind) (x : Point) → HasPoint Operand x → line a ≡ Some kind
+      → line Set ≡ Some kind
+  set_line line kind x has is = sym (ap line (of_sets x has)) ∙ is
+
+  map_line : (line : ValueKind → Option ValueKind) (kind : ValueKind) (x y : Point) → Relates Operand x y → line a ≡ Some kind
+      → line Map ≡ Some kind
+  map_line line kind x y has is = sym (ap line (of_maps x y has)) ∙ is
+
+  word_kind : (word : Prefix) (kind : ValueKind) (element : Element) → prefixed word a ≡ Some kind → WordHas word Operand element
+      → IsSpaceOf kind element.space
+  word_kind p.Domain kind element is h = made_in Set kind element _ (map_line (prefixed p.Domain) kind h.0 h.1 h.2 is) h.3 tt
+  word_kind p.Range kind element is h = made_in Set kind element _ (map_line (prefixed p.Range) kind h.0 h.1 h.2 is) h.3 tt
+  word_kind p.Deltas kind element is h = made_in Set kind element _ (map_line (prefixed p.Deltas) kind h.0 h.1 h.2 is) h.4 tt
+  word_kind p.Identity kind element is h = made_in Map kind element _ (set_line (prefixed p.Identity) kind h.0 h.1 is) h.2 tt
+  word_kind p.Wrap kind element is h = made_in Set kind element _ (map_line (prefixed p.Wrap) kind h.0 h.1 h.2 is) h.3 tt
+  word_kind p.Unwrap kind element is h = made_in Map kind element _ (set_line (prefixed p.Unwrap) kind (paired h.0 h.1) h.4 is) h.5 tt
+  word_kind p.Zip kind element is h =
+      made_in Map kind element _ (map_line (prefixed p.Zip) kind (paired h.0 h.1) (paired h.2 h.3) h.8 is) h.9 tt
+  word_kind p.DomainMap kind element is h = made_in Map kind element _ (map_line (prefixed p.DomainMap) kind h.0 h.1 h.2 is) h.3 tt
+  word_kind p.RangeMap kind element is h = made_in Map kind element _ (map_line (prefixed p.RangeMap) kind h.0 h.1 h.2 is) h.3 tt
+  word_kind word kind element is h = absurd h
+
+-- ---- operators and applications
+module _ (Left Right : Element → Type 0) (a c : ValueKind) (left : (element : Element) → Left element → IsSpaceOf a element.space)
+    (right : (element : Element) → Right element → IsSpaceOf c element.space) where
+  -- a line of two sets, of two maps, and of a map and a set
+  sets_line : (line : ValueKind → ValueKind → Option ValueKind) (kind : ValueKind) (x y : Point) → HasPoint Left x → HasPoint Right y
+      → line a c ≡ Some kind → line Set Set ≡ Some kind
+  sets_line line kind x y h k is = set_line Right c right (line Set) kind y k (set_line Left a left (λ j. line j c) kind x h is)
+
+  maps_line : (line : ValueKind → ValueKind → Option ValueKind) (kind : ValueKind) (x y u w : Point) → Relates Left x y → Relates Right u w
+      → line a c ≡ Some kind → line Map Map ≡ Some kind
+  maps_line line kind x y u w h k is = map_line Right c right (line Map) kind u w k (map_line Left a left (λ j. line j c) kind x y h is)
+
+  map_set_line : (line : ValueKind → ValueKind → Option ValueKind) (kind : ValueKind) (x y z : Point) → Relates Left x y → HasPoint Right z
+      → line a c ≡ Some kind → line Map Set ≡ Some kind
+  map_set_line line kind x y z h k is = set_line Right c right (line Map) kind z k (map_line Left a left (λ j. line j c) kind x y h is)
+
+  operator_kind : (sign : Binary) (kind : ValueKind) (element : Element) → joined sign a c ≡ Some kind
+      → OperatorHas sign Left Right element → IsSpaceOf kind element.space
+  operator_kind b.Union kind element is (inl h) =
+      let lies = left element h in as_kind element.space a kind (union_left a c kind element.space lies is) lies
+  operator_kind b.Union kind element is (inr h) =
+      let lies = right element h in as_kind element.space c kind (union_right a c kind element.space lies is) lies
+  operator_kind b.Intersection kind element is h =
+      let lies = left element h.0 in as_kind element.space a kind (part_left a c kind element.space lies is) lies
+  operator_kind b.Difference kind element is h =
+      let lies = left element h.0 in as_kind element.space a kind (part_left a c kind element.space lies is) lies
+  operator_kind b.RangeIntersection kind element is h =
+      made_in Map kind element _ (map_set_line (joined b.RangeIntersection) kind h.0 h.1 h.1 h.2 h.3 is) h.4 tt
+  operator_kind b.RangeDifference kind element is h =
+      made_in Map kind element _ (removed_map c kind (map_line Left a left (λ j. joined b.RangeDifference j c) kind h.0 h.1 h.2 is)) h.4 tt
+  operator_kind b.Cross kind element is (inl h) = made_in Set kind element _ (sets_line (joined b.Cross) kind h.0 h.1 h.2 h.3 is) h.4 tt
+  operator_kind b.Cross kind element is (inr h) =
+      made_in Map kind element _ (maps_line (joined b.Cross) kind h.0 h.1 h.2 h.3 h.4 h.5 is) h.6 tt
+  operator_kind b.Join kind element is h = made_in Map kind element _ (maps_line (joined b.Join) kind h.0 h.1 h.1 h.2 h.3 h.4 is) h.5 tt
+  operator_kind b.Universal kind element is h = made_in Map kind element _ (sets_line (joined b.Universal) kind h.0 h.1 h.2 h.3 is) h.4 tt
+  operator_kind sign kind element is h = absurd h
+
+  application_kind : (kind : ValueKind) (element : Element) → applied a c ≡ Some kind → ApplicationHas Left Right element
+      → IsSpaceOf kind element.space
+  application_kind kind element is (inl h) = made_in Set kind element _ (map_set_line applied kind h.0 h.1 h.0 h.2 h.3 is) h.4 tt
+  application_kind kind element is (inr h) = made_in Map kind element _ (maps_line applied kind h.1 h.2 h.0 h.1 h.4 h.3 is) h.5 tt
+
+-- ---- elements turned round
+turned_map : (space : SpaceForm) → IsMap (inverse_space space) → IsMap space
+turned_map (set_of form) lies = lies
+turned_map (map_of from to) lies = tt
+
+inverse_kind : (a kind : ValueKind) (space : SpaceForm) → inverse a ≡ Some kind → IsSpaceOf a (inverse_space space) → IsSpaceOf kind space
+inverse_kind Map kind space is lies = as_kind space Map kind is (turned_map space lies)
+inverse_kind Set kind space is lies = none_some kind is
+inverse_kind a kind space is lies = absurd lies
+
+-- ---- where operands may have no kind
+pub of_inverse : (Operand : Element → Type 0) (o : Option ValueKind) → AreOfKind Operand o
+    → AreOfKind (λ x. Operand (inverse_element x)) (option_and_then inverse o)
+of_inverse Operand None before = no_kind (λ x. Operand (inverse_element x))
+of_inverse Operand (Some a) before = record {
+  lies = λ kind is element has. inverse_kind a kind element.space is (before.lies a refl (inverse_element element) has);
+}
+
+pub of_word : (word : Prefix) (Operand : Element → Type 0) (o : Option ValueKind) → AreOfKind Operand o
+    → AreOfKind (λ x. WordHas word Operand x) (option_and_then (prefixed word) o)
+of_word word Operand None before = no_kind (λ x. WordHas word Operand x)
+of_word word Operand (Some a) before = record {
+  lies = λ kind is element has. word_kind Operand a (before.lies a refl) word kind element is has;
+}
+
+of_two : (line : ValueKind → ValueKind → Option ValueKind) (Made : Element → Type 0) (o p : Option ValueKind)
+    → ((a c kind : ValueKind) → o ≡ Some a → p ≡ Some c → line a c ≡ Some kind → (element : Element) → Made element
+    → IsSpaceOf kind element.space)
+    → AreOfKind Made (by_two line o p)
+of_two line Made None p made = no_kind Made
+of_two line Made (Some a) None made = no_kind Made
+of_two line Made (Some a) (Some c) made = record { lies = λ kind is element has. made a c kind refl refl is element has }
+
+module _ (Left Right : Element → Type 0) (o p : Option ValueKind) (left : AreOfKind Left o) (right : AreOfKind Right p) where
+  pub of_operator : (sign : Binary) → AreOfKind (λ x. OperatorHas sign Left Right x) (by_two (joined sign) o p)
+  of_operator sign = of_two (joined sign) (λ x. OperatorHas sign Left Right x) o p (λ a c kind first second is element has.
+      operator_kind Left Right a c (left.lies a first) (right.lies c second) sign kind element is has)
+
+  pub of_application : AreOfKind (λ x. ApplicationHas Left Right x) (by_two applied o p)
+  of_application = of_two applied (λ x. ApplicationHas Left Right x) o p (λ a c kind first second is element has.
+      application_kind Left Right a c (left.lies a first) (right.lies c second) kind element is has)

@@ -1,0 +1,10 @@
+pub mod Tree
+pub mod Written
+pub mod RoundTrip
+pub mod Accepted
+pub mod TakenAgain
+pub use Rattle.isl_eval.specs.Machine
+pub use Rattle.isl_values.specs.State
+pub use Rattle.isl_lower.specs.Value
+pub use Rattle.isl_print.specs.Printed
+pub use Rattle.isl_union.specs.KeptValue

@@ -1,0 +1,52 @@
+-- public: what the program answers, it takes again. (isl manual, the notation of sets and relations; the iscc chapter of the barvinok
+-- manual)
+use Rattle.std.specs.Prelude.{◌≡◌, ◌↔◌, ℕ, true, List, [], ◌∷◌, ◌++◌}
+use Rattle.isl_space.specs.Element.{Element}
+use Rattle.isl_space.specs.Valuation.{Valuation}
+use Rattle.isl_union.specs.KeptValue.{KeptValue, Has}
+use Rattle.isl_print.specs.Printed.{printed}
+use Rattle.isl_token.specs.Depth.{is_too_deep}
+use Rattle.isl_tree.specs.declared.tree.Literal.{Literal}
+use Rattle.isl_tree.specs.Literal.{LiteralHas}
+use Rattle.isl_expr.specs.declared.tree.Stmt.{Stmt}
+use Rattle.isl_expr.specs.declared.tree.Stmt.TheVariants.{Show}
+use Rattle.isl_expr.specs.declared.tree.Expr.TheVariants as e
+use Rattle.isl_values.specs.State.{Kept, StateView, Moment, EachKept}
+use Rattle.isl_values.specs.Selection.{Keeps}
+use Rattle.isl_eval.specs.Spelled.{BytesSpell, OfTokens}
+use Rattle.isl_eval.specs.Causes.{IsValid, Stops}
+use Rattle.isl_eval.specs.Machine.{Answer, shown}
+use Rattle.isl_eval.specs.Run.{Answers}
+use Rattle.isl_round_trip.specs.Written.{HasFewRemainders, IsOfKind}
+use Rattle.isl_round_trip.specs.RoundTrip.{IsWritableValue, ReadsAs}
+
+-- each value that is bound is of its kind, and one that a plain literal can write
+abbrev pub AreWritable : StateView → Type 0
+AreWritable state = EachKept (λ kept. IsOfKind kept.kind kept.value × IsWritableValue kept.value) state
+
+-- brackets and prefixes are not nested too deeply
+abbrev pub IsShallow : List ℕ → Type 0
+IsShallow text = ¬ OfTokens text (λ ts. is_too_deep ts ≡ true)
+
+-- The answer is a line that shows the value. Its text is a statement, which shows a literal that has exactly the elements of the value, and
+-- that reads as the value. Where the text is not too deep, and no piece has more remainders than a literal's may have, nothing that it
+-- says is a cause to refuse it; and where it is answered, which takes the units of asking whether its pieces have elements, its answer is
+-- the same line.
+pub record IsShownAgain (after : Moment) (value : KeptValue) (answer : Answer) : Type 0 where
+  pub line : answer.bytes ≡ printed value ++ 10 ∷ []
+  pub again : Literal
+  pub spelled : BytesSpell (printed value) (Show (e.Literal again))
+  pub elements : (valuation : Valuation) (element : Element) → LiteralHas again valuation element ↔ Has value valuation element
+  pub reads : ReadsAs again value
+  pub valid : IsShallow (printed value) → HasFewRemainders value → IsValid after (printed value)
+  pub answered : (last : Moment) (other : Answer) → Answers after (printed value) last other → other ≡ answer
+
+-- a simple statement that shows an expression of which this is kept
+abbrev pub ShowsKept : Kept → Moment → Stmt → Type 0
+ShowsKept kept now (Show expr) = Keeps now expr kept
+ShowsKept kept now stmt = ⊥
+
+-- whatever value the statement shows, where it is what is answered, is shown again
+abbrev pub IsTakenAgain : Moment → Stmt → Moment → Answer → Type 0
+IsTakenAgain before stmt after answer =
+    (kept : Kept) → Stops before stmt (ShowsKept kept) → answer ≡ shown kept.value → IsShownAgain after kept.value answer

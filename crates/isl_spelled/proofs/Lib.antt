@@ -1,2 +1,0 @@
-pub mod LexLaws
-pub mod NameLaws

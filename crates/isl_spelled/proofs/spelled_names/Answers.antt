@@ -1,5 +1,0 @@
-use Rattle.isl_spelled.proofs.NameLaws.{bytes_spell_no_dollar}
-use Rattle.isl_spelled.proofs.spelled_names.Goals as goal
-
-pub returns : goal.returns
-returns c = bytes_spell_no_dollar

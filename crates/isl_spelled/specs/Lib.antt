@@ -1,2 +1,0 @@
-pub mod Names
-pub use Rattle.isl_simple.specs.Simple

@@ -1,0 +1,41 @@
+-- inner: how statements are read.
+use Rattle.std.specs.Prelude.{ℕ, Bool, ◌&&◌, nat_eq, List, length, Some, if◌then◌else◌}
+use Rattle.isl_token.specs.TokenView.{Token}
+use Rattle.isl_token.specs.declared.token.Kind.TheVariants as k
+use Rattle.isl_token.specs.Token.{is_kind}
+use Rattle.isl_token.specs.Reading.{Parser, ◌>>=◌, ◌>>◌, pure, second_kind, skip, expect}
+use Rattle.isl_expr.specs.declared.tree.Expr.{Expr}
+use Rattle.isl_expr.specs.declared.tree.Stmt.{Stmt}
+use Rattle.isl_expr.specs.declared.tree.Stmt.TheVariants.{Empty, Bind, Show}
+use Rattle.isl_stmt.specs.declared.word.Role.TheVariants as role
+use Rattle.isl_stmt.specs.Word.{is_role, head_role, variable}
+use Rattle.isl_stmt.specs.Expression.{expression}
+
+-- a name and `:=`
+abbrev pub sees_binding : List Token → Bool
+sees_binding ts = is_role (head_role ts) role.Name && is_kind (second_kind ts) k.Assign
+
+-- The parameter reads an expression.
+module _ (expr : Parser Expr) where
+  unfoldable pub bound : Parser Stmt
+  bound = do
+    name ← variable
+    expect k.Assign
+    value ← expr
+    pure (Bind name value)
+
+  unfoldable pub shown : Parser Stmt
+  shown = expr >>= λ value. pure (Show value)
+
+  -- after `print`, which may be missing
+  abbrev pub answered : Parser Stmt
+  answered = λ ts. if is_role (head_role ts) role.Print then (skip >> shown) ts else shown ts
+
+  abbrev pub some_statement : Parser Stmt
+  some_statement = λ ts. if sees_binding ts then bound ts else answered ts
+
+  unfoldable pub statement_with : Parser Stmt
+  statement_with = λ ts. if nat_eq (length ts) 0 then Some (Empty, ts) else some_statement ts
+
+abbrev pub statement : ℕ → Parser Stmt
+statement n = statement_with (expression n)

@@ -1,0 +1,34 @@
+-- public: the grammar of statements. (barvinok manual, iscc)
+use Rattle.std.specs.Prelude.{ℕ}
+use Rattle.isl_token.specs.declared.token.Kind.TheVariants as k
+use Rattle.isl_token.specs.Spelling.{Grammar, ◌>>=◌, ◌>>◌, ◌∪◌, pure, word}
+use Rattle.isl_expr.specs.declared.tree.Expr.{Expr}
+use Rattle.isl_expr.specs.declared.tree.Stmt.{Stmt}
+use Rattle.isl_expr.specs.declared.tree.Stmt.TheVariants.{Empty, Bind, Show}
+use Rattle.isl_stmt.specs.declared.word.Role.TheVariants as role
+use Rattle.isl_stmt.specs.ExpressionGrammar.{said, variable, expression}
+
+module _ (expr : Grammar Expr) where
+  -- name ":=" expr
+  abbrev pub bound : Grammar Stmt
+  bound = do
+    name ← variable
+    word k.Assign
+    value ← expr
+    pure (Bind name value)
+
+  -- expr
+  abbrev pub shown : Grammar Stmt
+  shown = expr >>= λ value. pure (Show value)
+
+  -- "print" expr
+  abbrev pub printed : Grammar Stmt
+  printed = said role.Print >> shown
+
+  -- [name ":=" expr | "print" expr | expr]
+  abbrev pub statement_with : Grammar Stmt
+  statement_with = pure Empty ∪ bound ∪ printed ∪ shown
+
+-- with brackets nested less deep than the number
+abbrev pub statement_grammar : ℕ → Grammar Stmt
+statement_grammar n = statement_with (expression n)

@@ -1,6 +1,0 @@
-pub mod EntryLaws
-pub mod NameLaws
-pub mod PointLaws
-pub mod SizeLaws
-pub mod SpaceLaws
-pub mod WidthLaws

@@ -1,5 +1,0 @@
-use Rattle.isl_tuples.proofs.SizeLaws.{size_of}
-use Rattle.isl_tuples.proofs.entries.+width.Given as goal
-
-abbrev pub decreases-width : goal.decreases-width
-decreases-width l = size_of l.tuple.now

@@ -1,5 +1,0 @@
-use Rattle.isl_tuples.proofs.EntryLaws.{divisors_one}
-use Rattle.isl_tuples.proofs.entries.with_equation.Goals as goal
-
-pub with_entry-requires-clause-divisors : goal.with_entry-requires-clause-divisors
-with_entry-requires-clause-divisors c = rw c.entry_term-term.ensures (divisors_one c.args.entry.now c.requires.divisors)

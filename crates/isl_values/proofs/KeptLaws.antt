@@ -1,0 +1,162 @@
+-- Values of names and literals.
+use Rattle.std.proofs.Common.{◌≡◌, ◌∙◌, ◌↔◌, inl, refl, sym, ap, subst, ℕ, ℤ, true, false, is_some, List, [], ◌∷◌, ◌++◌, Option, Some, None}
+use Rattle.std.proofs.Common.{option_map}
+use Rattle.std.specs.Prelude.{not, ◌||◌, unsigned_abs, Result, Ok, Err, IfOk, MatchResult}
+use Rattle.std.specs.List.{list_any}
+use Rattle.std.specs.Str.{bytes_eq}
+use Rattle.std.proofs.lemmas.Bool.{false≢true, or_parts, not-false}
+use Rattle.std.proofs.lemmas.List.Elements.{All-head}
+use Rattle.std.proofs.lemmas.List.{append-nil}
+use Rattle.indexmap.specs.IndexSet.{insert_all, insert_key}
+use Rattle.isl_meter.specs.Gauge.{Gauge}
+use Rattle.isl_meter.specs.declared.Cut.{Cut}
+use Rattle.isl_meter.specs.declared.Cut.TheVariants.{NoMemory}
+use Rattle.isl_space.specs.Name.{Name}
+use Rattle.isl_space.specs.Names.{AreDistinct}
+use Rattle.isl_space.specs.Valuation.{Valuation}
+use Rattle.isl_space.specs.Element.{Element}
+use Rattle.isl_space.proofs.NamesLaws.{inserted}
+use Rattle.isl_union.specs.KeptValue.{KeptValue, Has, HasNoDefinitions, IsKeptValue}
+use Rattle.isl_text.specs.declared.refusal.Refusal.{Refusal}
+use Rattle.isl_tree.specs.declared.tree.Literal.{Literal}
+use Rattle.isl_tree.specs.Literal.{LiteralHas}
+use Rattle.isl_tree.specs.Plain.{is_plain}
+use Rattle.isl_tree.specs.Known.{literal_is_known}
+use Rattle.isl_union.specs.Live.{AreLiveOf}
+use Rattle.isl_lower.specs.Value.{value_lowered, IsLowered, IsWellFormedLiteral}
+use Rattle.isl_expr.specs.declared.tree.Expr.{Expr, Row', Prefix', Any', Last', Post'}
+use Rattle.isl_expr.specs.declared.tree.Expr as e
+use Rattle.isl_kinds.specs.Parts.{parts_of}
+use Rattle.isl_kinds.specs.Typed.{TypeView, ScopeView, params_of, has_unknown, declared_of, bound_to}
+use Rattle.isl_values.specs.State.{Kept, StateView, kept_of, type_of, scope_of, HasNumbersUpTo, Fits}
+use Rattle.isl_values.specs.Worked.{IsWorked}
+use Rattle.isl_values.specs.Formed.{IsTooWide}
+use Rattle.isl_values.specs.Selection.{KeptHas, Selects}
+use Rattle.isl_values.specs.Made.{uses_units, IsSoundExpr, IsValueOf, IsPaid, IsWhyUnmade, IsWhyUnworked}
+use Rattle.isl_values.proofs.StateLaws.{bound_at}
+
+-- ---- a list of distinct names, joined to none, is itself
+inserted_all : (done rest names : List Name) → AreDistinct names → done ++ rest ≡ names → insert_all bytes_eq done rest ≡ names
+inserted_all done [] names distinct is = sym (append-nil done) ∙ is
+inserted_all done (name ∷ rest) names distinct is =
+    inserted_all (insert_key bytes_eq done name) rest names distinct (inserted names done rest name distinct is)
+
+pub declared_itself : (names : List Name) → AreDistinct names → insert_all bytes_eq [] names ≡ names
+declared_itself names distinct = inserted_all [] names names distinct refl
+
+-- ---- a name
+module _ (state : StateView) (name : Name) (kept : Kept) (there : kept_of state name ≡ Some kept) where
+  type_there : bound_to (scope_of state) name ≡ Some (type_of kept)
+  type_there = bound_at state name ∙ ap (option_map type_of) there
+
+  params_there : IsKeptValue kept.value → declared_of (scope_of state) (e.Name name) ≡ kept.value.params
+  params_there sound = ap params_of type_there ∙ declared_itself kept.value.params sound.params.distinct
+
+  selects_there : (valuation : Valuation) (element : Element)
+      → Has kept.value valuation element ↔ Selects state (e.Name name) valuation element
+  selects_there valuation element =
+      subst (λ (o : Option Kept). Has kept.value valuation element ↔ KeptHas o valuation element) (sym there) ((λ h. h), (λ h. h))
+
+  pub name_value : (limit : ℤ) → IsKeptValue kept.value → HasNoDefinitions kept.value → Fits limit state
+      → IsValueOf (IsWorked state (e.Name name)) (declared_of (scope_of state) (e.Name name)) (Selects state (e.Name name))
+      (unsigned_abs limit) kept.value
+  name_value limit sound plain fits = record {
+    written = (kept, there, refl);
+    kept = sound;
+    params = sym (params_there sound);
+    elements = selects_there;
+    numbers = fits name kept there;
+    definitions = plain;
+  }
+
+-- what is made of an expression
+abbrev pub Makes : StateView → ℤ → Expr → KeptValue → Type 0
+Makes state limit expr value =
+    IsValueOf (IsWorked state expr) (declared_of (scope_of state) expr) (Selects state expr) (unsigned_abs limit) value
+
+pub name_makes : (state : StateView) (limit : ℤ) (expr : Expr) (name : Name) (kept : Kept) (value : KeptValue) → expr ≡ e.Name name
+    → value ≡ kept.value
+    → kept_of state name ≡ Some kept → IsKeptValue kept.value → HasNoDefinitions kept.value → Fits limit state
+    → Makes state limit expr value
+name_makes state limit expr name kept value is same there sound plain fits =
+    subst (λ (x : Expr). Makes state limit x value) (sym is)
+    (subst (λ (v : KeptValue). Makes state limit (e.Name name) v) (sym same) (name_value state name kept there limit sound plain fits))
+
+-- ---- a literal
+pub literal_makes : (state : StateView) (limit : ℤ) (expr : Expr) (literal : Literal) (value : KeptValue) → expr ≡ e.Literal literal
+    → IsWellFormedLiteral literal
+    → IsValueOf (IsLowered literal) literal.params (LiteralHas literal) (unsigned_abs limit) value → Makes state limit expr value
+literal_makes state limit expr literal value is formed made =
+    subst (λ (x : Expr). Makes state limit x value) (sym is)
+    (record {
+      written = made.written;
+      kept = made.kept;
+      params = made.params ∙ sym (declared_itself literal.params formed.params.distinct);
+      elements = made.elements;
+      numbers = made.numbers;
+      definitions = made.definitions;
+    })
+
+pub literal_value : (limit : ℕ) (literal : Literal) (value : KeptValue) → IsLowered literal value → IsKeptValue value
+    → HasNoDefinitions value
+    → HasNumbersUpTo limit value → IsValueOf (IsLowered literal) literal.params (LiteralHas literal) limit value
+literal_value limit literal value is kept plain small =
+    record { written = is; kept = kept; params = is.params; elements = is.elements; numbers = small; definitions = plain }
+
+-- without its definitions it is still what the literal writes
+pub flat_lowered : (literal : Literal) (value flat : KeptValue) → IsLowered literal value
+    → (is_plain literal ≡ true → HasNoDefinitions value) → flat.params ≡ value.params
+    → ((valuation : Valuation) (element : Element) → Has flat valuation element ↔ Has value valuation element)
+    → (HasNoDefinitions value → flat ≡ value) → IsLowered literal flat
+flat_lowered literal value flat is none params same itself = record {
+  params = params ∙ is.params;
+  elements = λ valuation element. (
+    (λ h. (is.elements valuation element).0 ((same valuation element).0 h)),
+    (λ h. (same valuation element).1 ((is.elements valuation element).1 h)),
+  );
+  plain =
+      λ plain. subst (λ (v : KeptValue). AreLiveOf literal.params (value_lowered literal).pieces v.pieces) (sym (itself (none plain)))
+      (is.plain plain);
+}
+
+-- the same of what the call leaves that makes it
+pub flat_result : (literal : Literal) (value : KeptValue) (g h : Gauge) (result : Result KeptValue Cut) → IsLowered literal value
+    → (is_plain literal ≡ true → HasNoDefinitions value)
+    → IfOk result (λ flat. flat.params ≡ value.params) → ((valuation : Valuation) (element : Element)
+    → IfOk result (λ flat. Has flat valuation element ↔ Has value valuation element))
+    → (HasNoDefinitions value → MatchResult result (λ flat. flat ≡ value) (λ cut. cut ≡ NoMemory) × (h ≡ g))
+    → IfOk result (IsLowered literal)
+flat_result literal value g h (Ok flat) is none params same itself =
+    flat_lowered literal value flat is none params same (λ plain. (itself plain).0)
+flat_result literal value g h (Err cut) is none params same itself = tt
+
+pub literal_paid : (expr : Expr) (literal : Literal) (g h : Gauge) → expr ≡ e.Literal literal → IsPaid true g h
+    → IsPaid (list_any uses_units (parts_of expr)) g h
+literal_paid expr literal g h is paid = subst (λ (x : Expr). IsPaid (list_any uses_units (parts_of x)) g h) (sym is) paid
+
+pub literal_unmade : (expr : Expr) (literal : Literal) (Wide : Type 0) (g h : Gauge) (refusal : Refusal) → expr ≡ e.Literal literal
+    → IsWhyUnmade true g h refusal
+    → IsWhyUnworked (list_any uses_units (parts_of expr)) Wide g h refusal
+literal_unmade expr literal Wide g h refusal is why =
+    inl (subst (λ (x : Expr). IsWhyUnmade (list_any uses_units (parts_of x)) g h refusal) (sym is) why)
+
+-- a name, or a literal, forms no space
+pub literal_narrow : (state : StateView) (expr : Expr) (literal : Literal) → expr ≡ e.Literal literal → ¬ IsTooWide state expr
+literal_narrow state expr literal is wide = subst (IsTooWide state) is wide
+
+pub name_narrow : (state : StateView) (expr : Expr) (name : Name) → expr ≡ e.Name name → ¬ IsTooWide state expr
+name_narrow state expr name is wide = subst (IsTooWide state) is wide
+
+-- ---- a name is bound, and a literal known
+pub never_unbound : (state : StateView) (name : Name) → kept_of state name ≡ None → ¬ (has_unknown (scope_of state) (e.Name name) ≡ false)
+never_unbound state name none known =
+    let unbound : bound_to (scope_of state) name ≡ None = bound_at state name ∙ ap (option_map type_of) none in
+    false≢true (sym known ∙ ap (λ (o : Option TypeView). not (is_some o) || false) unbound)
+
+pub only_literal : (scope : ScopeView) (expr : Expr) (literal : Literal) → expr ≡ e.Literal literal → IsSoundExpr scope expr
+    → (literal_is_known literal ≡ true) × IsWellFormedLiteral literal
+only_literal scope expr literal is sound =
+    let of_literal = subst (IsSoundExpr scope) is sound in (
+      not-false (literal_is_known literal) (or_parts (not (literal_is_known literal)) false of_literal.known).0,
+      All-head IsWellFormedLiteral literal [] of_literal.literals,
+    )

@@ -1,0 +1,204 @@
+-- What follows an operand, one after another.
+use Rattle.std.proofs.Common.{◌≡◌, ◌∙◌, inl, inr, ◌<◌, ◌≤◌, ◌+◌, ℕ, Bool, true, false, List, length, get_or, take, sym, ap, subst, arith}
+use Rattle.std.specs.Prelude.{unsigned_abs}
+use Rattle.isl_meter.specs.Gauge.{Gauge, limit_of}
+use Rattle.isl_space.specs.Limits.{most_parameters}
+use Rattle.isl_space.specs.Name.{Name}
+use Rattle.isl_union.specs.KeptValue.{KeptValue, Has}
+use Rattle.isl_text.specs.declared.refusal.Refusal.{Refusal}
+use Rattle.isl_text.specs.declared.refusal.Refusal.TheVariants.{NoMemory}
+use Rattle.isl_maps.specs.Inverse.{inverse_element, inverse_of}
+use Rattle.isl_expr.specs.declared.tree.Expr.{Expr}
+use Rattle.isl_expr.specs.declared.tree.Postfix.{Postfix, Inverse, Apply}
+use Rattle.isl_operators.specs.Operations.{ApplicationHas}
+use Rattle.isl_operators.specs.Formed.{ApplicationForms, PairsWide}
+use Rattle.isl_operators.specs.Made.{IsApplicationOf}
+use Rattle.isl_kinds.specs.Parts.{parts_of, parts_of_postfix, parts_of_postfixes}
+use Rattle.isl_kinds.specs.Typed.{declared_of, declared_past, declared_of_post, joined_names}
+use Rattle.isl_values.specs.State.{StateView, scope_of}
+use Rattle.isl_values.specs.Selection.{Selects, PostfixHas, PostSelects}
+use Rattle.isl_values.specs.Worked.{IsPostfixOf, IsWorkedPost}
+use Rattle.isl_values.specs.Formed.{IsTooWide, IsTooWidePostfix, IsTooWidePost}
+use Rattle.isl_values.specs.Made.{uses_units, IsReady, IsSoundPostfix, AreReadyBehind, IsValueOf, IsPaid, IsWhyUnworked}
+use Rattle.isl_values.proofs.PartLaws.{quiet_in}
+use Rattle.isl_values.proofs.NarrowLaws.{argument_fits, past_more, past_narrow}
+use Rattle.isl_values.proofs.SameLaws.{itself, same_application, same_trans}
+use Rattle.isl_values.proofs.RowLaws.{post_more}
+use Rattle.isl_values.proofs.FormedLaws.{pairs_wide, wide_postfix, post_wide_at, post_narrow_more}
+use Rattle.isl_values.proofs.WorkedLaws.{post_worked_more}
+use Rattle.isl_values.proofs.ValueLaws.{IsMade, work, value_before, paid_same, paid_after, unmade_memory, unworked_after, unworked_in}
+
+-- what one postfix makes of a value
+abbrev pub IsFollowed : StateView → Postfix → KeptValue → Gauge → Gauge → KeptValue → Type 0
+IsFollowed state postfix left g h value =
+    IsValueOf (IsPostfixOf state postfix left) (declared_past (scope_of state) left.params postfix)
+    (λ v x. PostfixHas state v (Has left v) postfix x) (unsigned_abs (limit_of g)) value
+    × IsPaid (work (parts_of_postfix postfix)) g h
+
+-- why it makes none
+abbrev pub IsWhyNotFollowed : StateView → Postfix → KeptValue → Gauge → Gauge → Refusal → Type 0
+IsWhyNotFollowed state postfix left g h refusal =
+    IsWhyUnworked (work (parts_of_postfix postfix)) (IsTooWidePostfix state (Has left) postfix) g h refusal
+
+-- ---- the inverse
+module _ (state : StateView) (postfix : Postfix) (left : KeptValue) (g h : Gauge) (is : postfix ≡ Inverse) (kept : h ≡ g) where
+  pub inverse_followed : (value : KeptValue)
+      → IsValueOf (λ made. made ≡ inverse_of left) left.params (λ v x. Has left v (inverse_element x)) (unsigned_abs (limit_of g)) value
+      → IsFollowed state postfix left g h value
+  inverse_followed value made =
+      subst (λ (p : Postfix). IsFollowed state p left g h value) (sym is) (
+        record {
+          written = made.written;
+          kept = made.kept;
+          params = made.params;
+          elements = made.elements;
+          numbers = made.numbers;
+          definitions = made.definitions;
+        },
+        paid_same false g h kept,
+      )
+
+  pub inverse_failed : (refusal : Refusal) → refusal ≡ NoMemory → IsWhyNotFollowed state postfix left g h refusal
+  inverse_failed refusal memory =
+      inl (unmade_memory (work (parts_of_postfix postfix)) g h refusal memory (paid_same (work (parts_of_postfix postfix)) g h kept))
+
+  pub inverse_narrow : ¬ IsTooWidePostfix state (Has left) postfix
+  inverse_narrow wide = subst (IsTooWidePostfix state (Has left)) is wide
+
+-- ---- an application
+module _ (state : StateView) (postfix : Postfix) (expr : Expr) (is : postfix ≡ Apply expr) where
+  pub applied_ready : (params : List Name) → IsSoundPostfix (scope_of state) postfix
+      → length (declared_past (scope_of state) params postfix) ≤ most_parameters
+      → IsReady (scope_of state) expr
+  applied_ready params sound narrow = record {
+    sound = subst (IsSoundPostfix (scope_of state)) is sound;
+    narrow = argument_fits (scope_of state) params expr most_parameters
+        (subst (λ (p : Postfix). length (declared_past (scope_of state) params p) ≤ most_parameters) is narrow);
+  }
+
+  pub applied_narrow : (params own argument : List Name) → length (declared_past (scope_of state) params postfix) ≤ most_parameters
+      → argument ≡ declared_of (scope_of state) expr → own ≡ argument → length (joined_names params own) ≤ most_parameters
+  applied_narrow params own argument narrow declared same =
+      subst (λ (ps : List Name). length (joined_names params ps) ≤ most_parameters) (sym (same ∙ declared))
+      (subst (λ (p : Postfix). length (declared_past (scope_of state) params p) ≤ most_parameters) is narrow)
+
+  -- the argument has no value
+  pub argument_failed : (left : KeptValue) (g h : Gauge) (refusal : Refusal)
+      → IsWhyUnworked (work (parts_of expr)) (IsTooWide state expr) g h refusal
+      → IsWhyNotFollowed state postfix left g h refusal
+  argument_failed left g h refusal why =
+      subst (λ (p : Postfix). IsWhyNotFollowed state p left g h refusal) (sym is)
+      (unworked_in true (work (parts_of expr)) (IsTooWide state expr) (IsTooWidePostfix state (Has left) (Apply expr)) g h refusal
+      (λ none. absurd (let no : ⊥ = cc in no)) inl why)
+
+  module _ (left argument one : KeptValue) (g h k : Gauge) (made_of : IsMade state expr g h argument) (same : one ≡ argument) where
+    abbrev WidePair : Type 0
+    WidePair = PairsWide ApplicationForms (Has left) (Has one)
+
+    own : IsMade state expr g h one
+    own = subst (IsMade state expr g h) (sym same) made_of
+
+    pub application_followed : (value : KeptValue)
+        → IsValueOf (λ made. IsApplicationOf left one made) (joined_names left.params one.params)
+        (λ v x. ApplicationHas (Has left v) (Has one v) x) (unsigned_abs (limit_of h)) value
+        × IsPaid true h k
+        → IsFollowed state postfix left g k value
+    application_followed value made =
+        subst (λ (p : Postfix). IsFollowed state p left g k value) (sym is) (
+          value_before g h (IsPostfixOf state (Apply expr) left) (declared_past (scope_of state) left.params (Apply expr))
+              (λ v x. PostfixHas state v (Has left v) (Apply expr) x) value own.1.charged
+              (record {
+                written = (one, own.0.written, made.0.written);
+                kept = made.0.kept;
+                params = made.0.params ∙ ap (joined_names left.params) own.0.params;
+                elements = λ v. same_trans (Has value v) (ApplicationHas (Has left v) (Has one v))
+                    (λ x. PostfixHas state v (Has left v) (Apply expr) x) (made.0.elements v)
+                    (same_application (Has left v) (Has left v) (Has one v) (λ x. Selects state expr v x) (itself (Has left v))
+                    (own.0.elements v));
+                numbers = made.0.numbers;
+                definitions = made.0.definitions;
+              }),
+          paid_after true (work (parts_of expr)) true g h k (λ none. absurd (let no : ⊥ = cc in no)) own.1 made.1,
+        )
+
+    selected_pair : WidePair → PairsWide ApplicationForms (Has left) (λ v x. Selects state expr v x)
+    selected_pair wide =
+        pairs_wide ApplicationForms (Has left) (Has left) (Has one) (λ v x. Selects state expr v x) (λ v. itself (Has left v))
+        own.0.elements wide
+
+    -- the map is not applied to it
+    pub application_failed : (refusal : Refusal) → IsWhyUnworked true WidePair h k refusal → IsWhyNotFollowed state postfix left g k refusal
+    application_failed refusal why =
+        subst (λ (p : Postfix). IsWhyNotFollowed state p left g k refusal) (sym is)
+        (unworked_after true (work (parts_of expr)) true WidePair (IsTooWidePostfix state (Has left) (Apply expr)) g h k refusal
+        (λ none. absurd (let no : ⊥ = cc in no))
+        (λ wide. inr (selected_pair wide)) own.1 why)
+
+    pub application_narrow : ¬ IsTooWide state expr → ¬ WidePair → ¬ IsTooWidePostfix state (Has left) postfix
+    application_narrow argument_narrow pair_narrow wide =
+        let had = λ (h : PairsWide ApplicationForms (Has left) (λ v x. Selects state expr v x)).
+        pairs_wide ApplicationForms (Has left) (Has left) (λ v x. Selects state expr v x) (Has one) (λ v. itself (Has left v))
+        (λ v x. let alike = own.0.elements v x in (alike.1, alike.0)) h in
+        let found : IsTooWidePostfix state (Has left) (Apply expr) = subst (IsTooWidePostfix state (Has left)) is wide in
+        elim found [ inl h ↦ argument_narrow h | inr h ↦ pair_narrow (had h) ]
+
+-- ---- one of what follows an operand
+-- the value of an operand and of so many that follow it, over units of them all
+pub record IsPostTo (state : StateView) (postfixes : List Postfix) (first : KeptValue) (n : ℕ) (g h : Gauge) (value : KeptValue)
+    : Type 0 where
+  pub made :
+      IsValueOf (IsWorkedPost state first (take n postfixes)) (declared_of_post (scope_of state) first.params (take n postfixes))
+      (λ v x. PostSelects state v (Has first v) (take n postfixes) x) (unsigned_abs (limit_of g)) value
+  pub paid : IsPaid (work (parts_of_postfixes postfixes)) g h
+  pub narrow : ¬ IsTooWidePost state (Has first) (take n postfixes)
+
+module _ (state : StateView) (postfixes : List Postfix) (i : ℕ) (postfix : Postfix) (low : i < length postfixes)
+    (is : postfix ≡ get_or postfixes i postfix) where
+  pub postfix_sound : (params : List Name) → AreReadyBehind (scope_of state) params postfixes → IsSoundPostfix (scope_of state) postfix
+  postfix_sound params ready = subst (IsSoundPostfix (scope_of state)) (sym is) (ready.each i postfix low)
+
+  pub postfix_narrow : (params left : List Name) → AreReadyBehind (scope_of state) params postfixes
+      → left ≡ declared_of_post (scope_of state) params (take i postfixes)
+      → length (declared_past (scope_of state) left postfix) ≤ most_parameters
+  postfix_narrow params left ready before =
+      let fits = past_narrow (scope_of state) params postfixes i postfix low is in
+      let narrow = ready.narrow in
+      rw before (omega (arith, fits, narrow))
+
+  abbrev Works : Bool
+  Works = work (parts_of_postfixes postfixes)
+
+  with_postfix : Works ≡ false → (Works ≡ false) × (work (parts_of_postfix postfix) ≡ false)
+  with_postfix none = (none, quiet_in uses_units postfixes i postfix low is none)
+
+  module _ (first : KeptValue) (g h : Gauge) (left : KeptValue) (before : IsPostTo state postfixes first i g h left) where
+    pub postfix_failed : (k : Gauge) (refusal : Refusal) → IsWhyNotFollowed state postfix left h k refusal
+        → IsWhyUnworked Works (IsTooWidePost state (Has first) postfixes) g k refusal
+    postfix_failed k refusal why =
+        unworked_after Works Works (work (parts_of_postfix postfix)) (IsTooWidePostfix state (Has left) postfix)
+        (IsTooWidePost state (Has first) postfixes) g h k refusal with_postfix
+        (λ wide. post_wide_at state (Has first) postfixes i postfix low is
+        (wide_postfix state (Has left) (λ v x. PostSelects state v (Has first v) (take i postfixes) x) postfix before.made.elements wide))
+        before.paid why
+
+    pub post_step : (k : Gauge) (made : KeptValue) → IsFollowed state postfix left h k made → ¬ IsTooWidePostfix state (Has left) postfix
+        → IsPostTo state postfixes first (i + 1) g k made
+    post_step k made one narrow = record {
+      made = value_before g h (IsWorkedPost state first (take (i + 1) postfixes))
+          (declared_of_post (scope_of state) first.params (take (i + 1) postfixes))
+          (λ v x. PostSelects state v (Has first v) (take (i + 1) postfixes) x) made before.paid.charged
+          (record {
+            written = post_worked_more state first left made postfixes i postfix low is before.made.written one.0.written;
+            kept = one.0.kept;
+            params = one.0.params ∙ ap (λ (ps : List Name). declared_past (scope_of state) ps postfix) before.made.params
+                ∙ sym (past_more (scope_of state) first.params postfixes i postfix low is);
+            elements = λ v. post_more state v (Has first v) (Has left v) (Has made v) postfixes i postfix low is (before.made.elements v)
+                (one.0.elements v);
+            numbers = one.0.numbers;
+            definitions = one.0.definitions;
+          });
+      paid = paid_after Works Works (work (parts_of_postfix postfix)) g h k with_postfix before.paid one.1;
+      narrow = post_narrow_more state (Has first) postfixes i postfix low is before.narrow
+          (λ wide. narrow (wide_postfix state (λ v x. PostSelects state v (Has first v) (take i postfixes) x) (Has left) postfix
+          (λ v x. let alike = before.made.elements v x in (alike.1, alike.0)) wide));
+    }

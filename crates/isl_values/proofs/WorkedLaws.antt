@@ -1,0 +1,89 @@
+-- The values that are worked out of an expression, operand by operand.
+use mathlib.Core.Former.{Count}
+use Rattle.std.proofs.Common.{◌≡◌, ◌∙◌, ◌<◌, ◌+◌, ℕ, true, List, [], ◌∷◌, ◌++◌, length, get_or, take, refl, sym, ap, subst}
+use Rattle.std.proofs.lemmas.List.{take_more}
+use Rattle.isl_union.specs.KeptValue.{KeptValue}
+use Rattle.isl_expr.specs.declared.tree.Prefix.{Prefix as Word}
+use Rattle.isl_expr.specs.declared.tree.Link.{Link}
+use Rattle.isl_expr.specs.declared.tree.Postfix.{Postfix}
+use Rattle.isl_expr.specs.declared.tree.Expr.{Expr, Row, Prefix, Post, Row_of-Link, end_of-Link, more_of-Link}
+use Rattle.isl_expr.specs.declared.tree.Expr.{Row_of-Postfix, end_of-Postfix, more_of-Postfix, items-the_row-Link, items-the_row-Postfix}
+use Rattle.isl_expr.specs.declared.tree.Expr.{items_hidden-the_row-Link-1, items_hidden-the_row-Postfix-2}
+use Rattle.isl_expr.specs.declared.tree.Expr.TheBlock.{hidden-the_row-Expr-0, hidden-the_row-Link-1, hidden-the_row-Postfix-2}
+use Rattle.isl_operators.specs.Operations.{is_operation_word}
+use Rattle.isl_operators.specs.Made.{IsOperatorOf, IsWordOf}
+use Rattle.isl_values.specs.State.{StateView}
+use Rattle.isl_values.specs.Worked.{IsPostfixOf, IsWorked, IsWorkedPastLinks, IsWorkedPastPostfixes, IsWorkedPost, IsWorkedRow}
+
+-- ---- rows
+links_are : (m : Count) (state : StateView) (left value : KeptValue) (row : Row_of-Link m)
+    → IsWorkedRow state left (items-the_row-Link m row) value
+    → IsWorkedPastLinks state left row value
+links_are m state left value end_of-Link h = h
+links_are m state left value (more_of-Link operator operand row) h = (h.0, h.1, h.2, h.3, links_are _ state h.1 value row h.4)
+
+pub worked_of-Row : (state : StateView) (first : Expr) (links : List Link) (left value : KeptValue) → IsWorked state first left
+    → IsWorkedRow state left links value → IsWorked state (Row first links) value
+unfolding hidden-the_row-Expr-0 denote.Hole.Carrier.hidden
+worked_of-Row state first links left value one all = (
+  left,
+  one,
+  links_are _ state left value (hidden-the_row-Link-1 links)
+      (subst (λ (ls : List Link). IsWorkedRow state left ls value) (sym (items_hidden-the_row-Link-1 links)) all),
+)
+
+row_push : (state : StateView) (first left right made : KeptValue) (links : List Link) (link : Link) → IsWorkedRow state first links left
+    → IsWorked state link.operand right → IsOperatorOf link.operator left right made → IsWorkedRow state first (links ++ link ∷ []) made
+row_push state first left right made [] link before behind joins =
+    (right, made, behind, subst (λ (v : KeptValue). IsOperatorOf link.operator v right made) before joins, refl)
+row_push state first left right made (other ∷ links) link before behind joins =
+    (before.0, before.1, before.2, before.3, row_push state before.1 left right made links link before.4 behind joins)
+
+pub row_worked_more : (state : StateView) (first left right made : KeptValue) (links : List Link) (i : ℕ) (link : Link) → i < length links
+    → link ≡ get_or links i link → IsWorkedRow state first (take i links) left → IsWorked state link.operand right
+    → IsOperatorOf link.operator left right made
+    → IsWorkedRow state first (take (i + 1) links) made
+row_worked_more state first left right made links i link low is before behind joins =
+    subst (λ (ls : List Link). IsWorkedRow state first ls made)
+    (sym (take_more links i link low ∙ ap (λ (l : Link). take i links ++ l ∷ []) (sym is)))
+    (row_push state first left right made (take i links) link before behind joins)
+
+-- ---- a word before an operand
+pub worked_of-Prefix : (state : StateView) (word : Word) (operand : Expr) (argument value : KeptValue) → IsWorked state operand argument
+    → is_operation_word word ≡ true → IsWordOf word argument value → IsWorked state (Prefix word operand) value
+unfolding hidden-the_row-Expr-0 denote.Hole.Carrier.hidden
+worked_of-Prefix state word operand argument value one is made = (argument, one, is, made)
+
+-- ---- what follows an operand
+postfixes_are : (m : Count) (state : StateView) (operand value : KeptValue) (row : Row_of-Postfix m)
+    → IsWorkedPost state operand (items-the_row-Postfix m row) value
+    → IsWorkedPastPostfixes state operand row value
+postfixes_are m state operand value end_of-Postfix h = h
+postfixes_are m state operand value (more_of-Postfix postfix row) h = (h.0, h.1, postfixes_are _ state h.0 value row h.2)
+
+pub worked_of-Post : (state : StateView) (operand : Expr) (postfixes : List Postfix) (left value : KeptValue) → IsWorked state operand left
+    → IsWorkedPost state left postfixes value → IsWorked state (Post operand postfixes) value
+unfolding hidden-the_row-Expr-0 denote.Hole.Carrier.hidden
+worked_of-Post state operand postfixes left value one all = (
+  left,
+  one,
+  postfixes_are _ state left value (hidden-the_row-Postfix-2 postfixes)
+      (subst (λ (ps : List Postfix). IsWorkedPost state left ps value) (sym (items_hidden-the_row-Postfix-2 postfixes)) all),
+)
+
+post_push : (state : StateView) (operand left made : KeptValue) (postfixes : List Postfix) (postfix : Postfix)
+    → IsWorkedPost state operand postfixes left
+    → IsPostfixOf state postfix left made → IsWorkedPost state operand (postfixes ++ postfix ∷ []) made
+post_push state operand left made [] postfix before one =
+    (made, subst (λ (v : KeptValue). IsPostfixOf state postfix v made) before one, refl)
+post_push state operand left made (other ∷ postfixes) postfix before one =
+    (before.0, before.1, post_push state before.0 left made postfixes postfix before.2 one)
+
+pub post_worked_more : (state : StateView) (operand left made : KeptValue) (postfixes : List Postfix) (i : ℕ) (postfix : Postfix)
+    → i < length postfixes
+    → postfix ≡ get_or postfixes i postfix → IsWorkedPost state operand (take i postfixes) left → IsPostfixOf state postfix left made
+    → IsWorkedPost state operand (take (i + 1) postfixes) made
+post_worked_more state operand left made postfixes i postfix low is before one =
+    subst (λ (ps : List Postfix). IsWorkedPost state operand ps made)
+    (sym (take_more postfixes i postfix low ∙ ap (λ (p : Postfix). take i postfixes ++ p ∷ []) (sym is)))
+    (post_push state operand left made (take i postfixes) postfix before one)

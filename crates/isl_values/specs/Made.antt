@@ -1,0 +1,118 @@
+-- public: what values are worked out of expressions, for whom, and what that does to the meter.
+use Rattle.std.specs.Prelude.{◌≡◌, ◌↔◌, ◌⊎◌, ◌≤◌, ℕ, Bool, true, false, not, List, length, All, Some}
+use Rattle.std.specs.List.{list_any}
+use Rattle.isl_meter.specs.Gauge.{Gauge, IsCutBy}
+use Rattle.isl_meter.specs.declared.Cut.{Cut}
+use Rattle.isl_meter.specs.declared.Cut.TheVariants as cuts
+use Rattle.isl_space.specs.Limits.{most_parameters}
+use Rattle.isl_space.specs.Name.{Name}
+use Rattle.isl_space.specs.Valuation.{Valuation}
+use Rattle.isl_space.specs.Element.{Element}
+use Rattle.isl_union.specs.KeptValue.{KeptValue, Has, HasNoDefinitions, IsKeptValue}
+use Rattle.isl_union.specs.declared.fault.OpFault.{OpFault}
+use Rattle.isl_union.specs.declared.fault.OpFault.TheVariants as op_fault
+use Rattle.isl_text.specs.declared.refusal.Refusal.{Refusal}
+use Rattle.isl_text.specs.declared.refusal.Refusal.TheVariants.{Overflow, Budget, NoMemory, TooWide}
+use Rattle.isl_lower.specs.Value.{IsWellFormedLiteral}
+use Rattle.isl_expr.specs.declared.tree.Link.{Link}
+use Rattle.isl_expr.specs.declared.tree.Postfix.{Postfix, Inverse, Apply, Item}
+use Rattle.isl_expr.specs.declared.tree.Expr.{Expr}
+use Rattle.isl_expr.specs.Expr.{literals_of}
+use Rattle.isl_kinds.specs.Parts.{Part, name, literal, operator, prefix, inverse, application, parts_of}
+use Rattle.isl_kinds.specs.Typed.{TypeView, ScopeView, has_unknown, kind_of, declared_of, declared_of_row, declared_of_post}
+use Rattle.isl_operators.specs.Operations.{is_operation, is_operation_word}
+use Rattle.isl_operators.specs.Made.{operator_works, word_works}
+pub use Rattle.isl_operators.specs.Made.{IsPaid}
+use Rattle.isl_values.specs.State.{HasNumbersUpTo}
+
+-- what stands in no operand that a value is worked out of: tests, `scan`, `sample`, and what is not answered yet
+abbrev pub is_foreign : Part → Bool
+is_foreign (name n) = false
+is_foreign (literal l) = false
+is_foreign (operator sign) = not (is_operation sign)
+is_foreign (prefix word) = not (is_operation_word word)
+is_foreign inverse = false
+is_foreign application = false
+is_foreign _ = true
+
+-- the parts that may use units: all but names, `+`, `^-1` and the words that only move columns; a literal is asked whether what it writes
+-- has an element
+abbrev pub uses_units : Part → Bool
+uses_units (name n) = false
+uses_units (operator sign) = operator_works sign
+uses_units (prefix word) = word_works word
+uses_units inverse = false
+uses_units _ = true
+
+-- the expression has a type in the scope
+pub record IsOfType (scope : ScopeView) (expr : Expr) (t : TypeView) : Type 0 where
+  pub known : has_unknown scope expr ≡ false
+  pub kind : kind_of scope expr ≡ Some t.kind
+  pub params : declared_of scope expr ≡ t.params
+
+-- what stands in the expression is answered, known and well formed
+pub record IsSoundExpr (scope : ScopeView) (expr : Expr) : Type 0 where
+  pub supported : list_any is_foreign (parts_of expr) ≡ false
+  pub known : has_unknown scope expr ≡ false
+  pub literals : All IsWellFormedLiteral (literals_of expr)
+
+-- it is, and its operands do not declare too many parameters
+pub record IsReady (scope : ScopeView) (expr : Expr) : Type 0 where
+  pub sound : IsSoundExpr scope expr
+  pub narrow : length (declared_of scope expr) ≤ most_parameters
+
+-- an operator that is answered, and its operand
+pub record IsSoundLink (scope : ScopeView) (link : Link) : Type 0 where
+  pub supported : is_foreign (operator link.operator) ≡ false
+  pub operand : IsSoundExpr scope link.operand
+
+-- the same of operators and operands behind one that has these parameters
+pub record AreReady (scope : ScopeView) (params : List Name) (links : List Link) : Type 0 where
+  pub each : All (IsSoundLink scope) links
+  pub narrow : length (declared_of_row scope params links) ≤ most_parameters
+
+-- what follows an operand is answered, and what it is applied to is sound
+abbrev pub IsSoundPostfix : ScopeView → Postfix → Type 0
+IsSoundPostfix scope Inverse = Unit {0}
+IsSoundPostfix scope (Apply argument) = IsSoundExpr scope argument
+IsSoundPostfix scope (Item number) = ⊥
+
+-- the same of all that follows an operand that has these parameters
+pub record AreReadyBehind (scope : ScopeView) (params : List Name) (postfixes : List Postfix) : Type 0 where
+  pub each : All (IsSoundPostfix scope) postfixes
+  pub narrow : length (declared_of_post scope params postfixes) ≤ most_parameters
+
+-- The kept value is one of these, with these parameters, these elements at each valuation, no number above the limit, and no column
+-- that is defined.
+pub record IsValueOf (Exact : KeptValue → Type 0) (names : List Name) (Elements : Valuation → Element → Type 0) (limit : ℕ)
+    (value : KeptValue) : Type 0 where
+  pub written : Exact value
+  pub kept : IsKeptValue value
+  pub params : value.params ≡ names
+  pub elements : (valuation : Valuation) (element : Element) → Has value valuation element ↔ Elements valuation element
+  pub numbers : HasNumbersUpTo limit value
+  pub definitions : HasNoDefinitions value
+
+-- ---- units and cuts
+
+-- what refuses a statement whose work was cut
+abbrev pub refusal_of_cut : Cut → Refusal
+refusal_of_cut cuts.Overflow = Overflow
+refusal_of_cut cuts.Budget = Budget
+refusal_of_cut cuts.NoMemory = NoMemory
+
+-- what refuses one of which an operation made no value
+abbrev pub refusal_of_fault : OpFault → Refusal
+refusal_of_fault op_fault.TooWide = TooWide
+refusal_of_fault (op_fault.Cut cut) = refusal_of_cut cut
+
+-- why no value was made: work was cut; where nothing uses units memory ended, and the meter is as it was
+pub record IsWhyUnmade (works : Bool) (old new : Gauge) (refusal : Refusal) : Type 0 where
+  pub cut : Cut
+  pub is : refusal ≡ refusal_of_cut cut
+  pub by : IsCutBy old new cut
+  pub free : works ≡ false → (cut ≡ cuts.NoMemory) × (new ≡ old)
+
+-- why no value was worked out: none was made; or a space that an operation forms is too wide, and units alone were used
+abbrev pub IsWhyUnworked : Bool → Type 0 → Gauge → Gauge → Refusal → Type 0
+IsWhyUnworked works Wide old new refusal = IsWhyUnmade works old new refusal ⊎ ((refusal ≡ TooWide) × Wide × IsPaid works old new)

@@ -1,0 +1,323 @@
+//! The values of expressions.
+
+ghost use Rattle.std.specs.Prelude.{◌≡◌, ◌↔◌, ◌≤◌, true, false, IfErr, IfOk, MatchResult, Ok, length, unsigned_abs};
+ghost use Rattle.std.specs.List.{list_any};
+ghost use Rattle.isl_meter.specs.Gauge.{IsMetered, limit_of};
+ghost use Rattle.isl_space.specs.Limits.{most_parameters};
+ghost use Rattle.isl_space.specs.Element.{Element};
+ghost use Rattle.isl_space.specs.Valuation.{Valuation};
+ghost use Rattle.isl_union.specs.KeptValue.{Has, HasNoDefinitions, IsKeptValue};
+ghost use Rattle.isl_union.specs.Numbers.{IsWithinLimit};
+ghost use Rattle.isl_lower.specs.Value.{IsWellFormedLiteral, IsLowered};
+ghost use Rattle.isl_tree.specs.Literal.{LiteralHas};
+ghost use Rattle.isl_tree.specs.Known.{literal_is_known};
+ghost use Rattle.isl_maps.specs.Inverse.{inverse_element, inverse_of};
+ghost use Rattle.isl_operators.specs.Operations.{OperatorHas, WordHas, ApplicationHas};
+ghost use Rattle.isl_operators.specs.Formed.{OperatorForms, WordForms, ApplicationForms, FormsWide, PairsWide};
+ghost use Rattle.isl_operators.specs.Made.{IsOperatorOf, IsWordOf, IsApplicationOf, operator_works, word_works};
+ghost use Rattle.isl_kinds.specs.Parts.{operator as operator_part, prefix as prefix_part, parts_of, parts_of_links};
+ghost use Rattle.isl_kinds.specs.Parts.{parts_of_postfix, parts_of_postfixes};
+ghost use Rattle.isl_kinds.specs.Typed.{declared_of, declared_of_post, declared_of_row, declared_past, joined_names};
+ghost use Rattle.isl_values.specs.State.{scope_of, Fits, HasNumbersUpTo};
+ghost use Rattle.isl_values.specs.Selection.{Selects, PostSelects, RowSelects, PostfixHas};
+ghost use Rattle.isl_values.specs.Worked.{IsPostfixOf, IsWorked, IsWorkedPost, IsWorkedRow};
+ghost use Rattle.isl_values.specs.Formed.{IsTooWide, IsTooWidePost, IsTooWidePostfix, IsTooWideRow};
+ghost use Rattle.isl_values.specs.Made.{is_foreign, uses_units, IsReady, IsSoundPostfix, AreReady, AreReadyBehind, IsValueOf};
+ghost use Rattle.isl_values.specs.Made.{refusal_of_cut, refusal_of_fault, IsPaid, IsWhyUnmade, IsWhyUnworked};
+
+use crate::State;
+use isl_expr::tree::{Binary, Expr, Link, Postfix, Prefix};
+use isl_lower::lower;
+use isl_maps::inverse;
+use isl_meter::{Cut, Meter};
+use isl_operators::{applied, combined, transformed};
+use isl_text::refusal::Refusal;
+use isl_tree::tree::Literal;
+use isl_union::{OpFault, Value};
+use std::alloc::Global;
+use std::rc::Rc;
+
+fn refusal_of(cut: Cut) -> Refusal
+    ensures { result ≡ refusal_of_cut cut }
+{
+    match cut {
+        Cut::Overflow => Refusal::Overflow,
+        Cut::Budget => Refusal::Budget,
+        Cut::NoMemory => Refusal::NoMemory,
+    }
+}
+
+/// What a literal writes, in pieces that define no column.
+#[tactic(auto, using(std::proofs::lemmas::Grind::common_steps, isl_meter::proofs::CutLemmas::charges))]
+fn flat_value(alloc: Global, literal: &Literal, meter: &mut Meter) -> Result<Value, Cut>
+    requires known { literal_is_known literal.now ≡ true }
+    requires well_formed { IsWellFormedLiteral literal.now }
+    ensures exact { IfOk result (IsLowered literal.now) }
+    ensures kept { IfOk result IsKeptValue }
+    ensures definitions { IfOk result HasNoDefinitions }
+    ensures within { IfOk result (IsWithinLimit meter.old) }
+    ensures meter { IsMetered meter.old meter.new result }
+{
+    let value = lower(alloc, literal, meter)?;
+    value.flat(alloc, meter)
+}
+
+/// What a literal writes, as a value.
+fn lowered(alloc: Global, literal: &Literal, meter: &mut Meter) -> Result<Rc<Value>, Refusal>
+    requires known { literal_is_known literal.now ≡ true }
+    requires well_formed { IsWellFormedLiteral literal.now }
+    ensures { MatchResult result
+        (λ value. IsValueOf (IsLowered literal.now) literal.now.params (LiteralHas literal.now)
+        (unsigned_abs (limit_of meter.old)) value.value × IsPaid true meter.old meter.new)
+        (IsWhyUnmade true meter.old meter.new) }
+{
+    match flat_value(alloc, literal, meter) {
+        Ok(value) => Ok(Rc::new(alloc, value)?),
+        Err(cut) => Err(refusal_of(cut)),
+    }
+}
+
+/// What an operation made, to be shared, or what refuses it.
+fn answered(alloc: Global, outcome: Result<Value, OpFault>) -> Result<Rc<Value>, Refusal>
+    ensures { MatchResult result (λ value. outcome ≡ Ok value.value)
+        (λ refusal. MatchResult outcome (λ _. refusal ≡ Refusal.NoMemory) (λ fault. refusal ≡ refusal_of_fault fault)) }
+{
+    match outcome {
+        Ok(value) => Ok(Rc::new(alloc, value)?),
+        Err(OpFault::Cut(cut)) => Err(refusal_of(cut)),
+        Err(OpFault::TooWide) => Err(Refusal::TooWide),
+    }
+}
+
+/// What an operator makes of two values that have few enough parameters.
+fn joined(
+    alloc: Global,
+    operator: Binary,
+    left: &Value,
+    right: &Value,
+    meter: &mut Meter,
+) -> Result<Rc<Value>, Refusal>
+    requires supported { is_foreign (operator_part operator) ≡ false }
+    requires narrow { length (joined_names left.now.params right.now.params) ≤ most_parameters }
+    requires left { HasNumbersUpTo (unsigned_abs (limit_of meter.old)) left.now }
+    requires right { HasNumbersUpTo (unsigned_abs (limit_of meter.old)) right.now }
+    requires left_definitions { HasNoDefinitions left.now }
+    requires right_definitions { HasNoDefinitions right.now }
+    ensures made { MatchResult result
+        (λ value. IsValueOf (λ made. IsOperatorOf operator left.now right.now made) (joined_names left.now.params right.now.params)
+        (λ valuation element. OperatorHas operator (Has left.now valuation) (Has right.now valuation) element)
+        (unsigned_abs (limit_of meter.old)) value.value × IsPaid (operator_works operator) meter.old meter.new)
+        (IsWhyUnworked (operator_works operator) (PairsWide (OperatorForms operator) (Has left.now) (Has right.now)) meter.old meter.new) }
+    ensures narrow { IfOk result (λ _. ¬ PairsWide (OperatorForms operator) (Has left.now) (Has right.now)) }
+{
+    let _names = right.params();
+    answered(alloc, combined(alloc, operator, left, right, meter))
+}
+
+/// What a word makes of a value.
+fn worded(
+    alloc: Global,
+    word: Prefix,
+    operand: &Value,
+    meter: &mut Meter,
+) -> Result<Rc<Value>, Refusal>
+    requires supported { is_foreign (prefix_part word) ≡ false }
+    requires numbers { HasNumbersUpTo (unsigned_abs (limit_of meter.old)) operand.now }
+    requires definitions { HasNoDefinitions operand.now }
+    ensures made { MatchResult result
+        (λ value. IsValueOf (λ made. IsWordOf word operand.now made) operand.now.params
+        (λ valuation element. WordHas word (Has operand.now valuation) element) (unsigned_abs (limit_of meter.old)) value.value
+        × IsPaid (word_works word) meter.old meter.new)
+        (IsWhyUnworked (word_works word) (FormsWide (WordForms word) (Has operand.now)) meter.old meter.new) }
+    ensures narrow { IfOk result (λ _. ¬ FormsWide (WordForms word) (Has operand.now)) }
+{
+    let _names = operand.params();
+    answered(alloc, transformed(alloc, word, operand, meter))
+}
+
+/// A map applied to a value, where the two have few enough parameters.
+fn applied_to(
+    alloc: Global,
+    map: &Value,
+    argument: &Value,
+    meter: &mut Meter,
+) -> Result<Rc<Value>, Refusal>
+    requires narrow { length (joined_names map.now.params argument.now.params) ≤ most_parameters }
+    requires map { HasNumbersUpTo (unsigned_abs (limit_of meter.old)) map.now }
+    requires argument { HasNumbersUpTo (unsigned_abs (limit_of meter.old)) argument.now }
+    requires map_definitions { HasNoDefinitions map.now }
+    requires argument_definitions { HasNoDefinitions argument.now }
+    ensures made { MatchResult result
+        (λ value. IsValueOf (λ made. IsApplicationOf map.now argument.now made) (joined_names map.now.params argument.now.params)
+        (λ valuation element. ApplicationHas (Has map.now valuation) (Has argument.now valuation) element)
+        (unsigned_abs (limit_of meter.old)) value.value × IsPaid true meter.old meter.new)
+        (IsWhyUnworked true (PairsWide ApplicationForms (Has map.now) (Has argument.now)) meter.old meter.new) }
+    ensures narrow { IfOk result (λ _. ¬ PairsWide ApplicationForms (Has map.now) (Has argument.now)) }
+{
+    let _names = argument.params();
+    answered(alloc, applied(alloc, map, argument, meter))
+}
+
+/// The inverse of a value of maps.
+fn inverted(alloc: Global, operand: &Value, meter: &mut Meter) -> Result<Rc<Value>, Refusal>
+    requires numbers { HasNumbersUpTo (unsigned_abs (limit_of meter.old)) operand.now }
+    requires definitions { HasNoDefinitions operand.now }
+    ensures made { IfOk result
+        (λ value. IsValueOf (λ made. made ≡ inverse_of operand.now) operand.now.params
+        (λ valuation element. Has operand.now valuation (inverse_element element)) (unsigned_abs (limit_of meter.old)) value.value) }
+    ensures faults { IfErr result (λ refusal. refusal ≡ Refusal.NoMemory) }
+    ensures meter { meter.new ≡ meter.old }
+{
+    answered(alloc, inverse(alloc, operand, meter))
+}
+
+/// What follows an operand, made of its value.
+#[cycle(value)]
+fn followed(
+    alloc: Global,
+    operand: &Value,
+    postfix: &Postfix,
+    state: &State,
+    meter: &mut Meter,
+) -> Result<Rc<Value>, Refusal>
+    requires sound { IsSoundPostfix (scope_of state.now) postfix.now }
+    requires narrow { length (declared_past (scope_of state.now) operand.now.params postfix.now) ≤ most_parameters }
+    requires fits { Fits (limit_of meter.old) state.now }
+    requires numbers { HasNumbersUpTo (unsigned_abs (limit_of meter.old)) operand.now }
+    requires definitions { HasNoDefinitions operand.now }
+    ensures made { MatchResult result
+        (λ value. IsValueOf (IsPostfixOf state.now postfix.now operand.now)
+        (declared_past (scope_of state.now) operand.now.params postfix.now)
+        (λ valuation element. PostfixHas state.now valuation (Has operand.now valuation) postfix.now element)
+        (unsigned_abs (limit_of meter.old)) value.value × IsPaid (list_any uses_units (parts_of_postfix postfix.now)) meter.old meter.new)
+        (IsWhyUnworked (list_any uses_units (parts_of_postfix postfix.now)) (IsTooWidePostfix state.now (Has operand.now) postfix.now)
+        meter.old meter.new) }
+    ensures narrow { IfOk result (λ _. ¬ IsTooWidePostfix state.now (Has operand.now) postfix.now) }
+{
+    match postfix {
+        Postfix::Inverse => inverted(alloc, operand, meter),
+        Postfix::Apply(expr) => match value_of(alloc, expr, state, meter) {
+            Ok(argument) => applied_to(alloc, operand, &argument, meter),
+            Err(refusal) => Err(refusal),
+        },
+        Postfix::Item(_) => unreachable!(),
+    }
+}
+
+/// The value of an operand with all that follows it, from the left.
+#[cycle(value)]
+fn past_postfixes(
+    alloc: Global,
+    operand: Rc<Value>,
+    postfixes: &[Postfix],
+    state: &State,
+    meter: &mut Meter,
+) -> Result<Rc<Value>, Refusal>
+    requires ready { AreReadyBehind (scope_of state.now) operand.value.params postfixes.now }
+    requires fits { Fits (limit_of meter.old) state.now }
+    requires numbers { HasNumbersUpTo (unsigned_abs (limit_of meter.old)) operand.value }
+    requires definitions { HasNoDefinitions operand.value }
+    ensures made { MatchResult result
+        (λ value. IsValueOf (IsWorkedPost state.now operand.value postfixes.now)
+        (declared_of_post (scope_of state.now) operand.value.params postfixes.now)
+        (λ valuation element. PostSelects state.now valuation (Has operand.value valuation) postfixes.now element)
+        (unsigned_abs (limit_of meter.old)) value.value
+        × IsPaid (list_any uses_units (parts_of_postfixes postfixes.now)) meter.old meter.new)
+        (IsWhyUnworked (list_any uses_units (parts_of_postfixes postfixes.now)) (IsTooWidePost state.now (Has operand.value) postfixes.now)
+        meter.old meter.new) }
+    ensures narrow { IfOk result (λ _. ¬ IsTooWidePost state.now (Has operand.value) postfixes.now) }
+{
+    let _pieces = operand.pieces();
+    let mut left = operand;
+    for postfix in postfixes {
+        left = match followed(alloc, &left, postfix, state, meter) {
+            Ok(made) => made,
+            Err(refusal) => return Err(refusal),
+        };
+    }
+    Ok(left)
+}
+
+/// The value that is worked out of an expression: of a name what it stands for, and not a copy; of a literal a new one. (the iscc
+/// chapter of the barvinok manual)
+///
+/// # Errors
+/// `TooWide` where an operation in it forms a space that is too wide, and else what cut the work: `Overflow`, `Budget` or `NoMemory`.
+/// Where nothing in the expression uses units, no unit is used, and of these only memory can end.
+#[cycle(value)]
+pub fn value_of(
+    alloc: Global,
+    expr: &Expr,
+    state: &State,
+    meter: &mut Meter,
+) -> Result<Rc<Value>, Refusal>
+    requires ready { IsReady (scope_of state.now) expr.now }
+    requires fits { Fits (limit_of meter.old) state.now }
+    ensures made { MatchResult result
+        (λ value. IsValueOf (IsWorked state.now expr.now) (declared_of (scope_of state.now) expr.now) (Selects state.now expr.now)
+        (unsigned_abs (limit_of meter.old)) value.value × IsPaid (list_any uses_units (parts_of expr.now)) meter.old meter.new)
+        (IsWhyUnworked (list_any uses_units (parts_of expr.now)) (IsTooWide state.now expr.now) meter.old meter.new) }
+    ensures narrow { IfOk result (λ _. ¬ IsTooWide state.now expr.now) }
+{
+    match expr {
+        Expr::Name(name) => match state.get(name) {
+            Some(kept) => Ok(kept.shared()?),
+            None => unreachable!(),
+        },
+        Expr::Literal(literal) => lowered(alloc, literal, meter),
+        Expr::Row(first, links) => match value_of(alloc, first.get(), state, meter) {
+            Ok(left) => joined_past(alloc, left, links.as_slice(), state, meter),
+            Err(refusal) => Err(refusal),
+        },
+        Expr::Post(operand, postfixes) => match value_of(alloc, operand.get(), state, meter) {
+            Ok(left) => past_postfixes(alloc, left, postfixes.as_slice(), state, meter),
+            Err(refusal) => Err(refusal),
+        },
+        Expr::Prefix(word, operand) => match value_of(alloc, operand.get(), state, meter) {
+            Ok(argument) => worded(alloc, *word, &argument, meter),
+            Err(refusal) => Err(refusal),
+        },
+        Expr::Any(..) => unreachable!(),
+        Expr::Last(..) => unreachable!(),
+    }
+}
+
+/// The value of an operand, joined to those behind it, from the left.
+///
+/// # Errors
+/// As of `value_of`, for what stands behind the operand.
+#[cycle(value)]
+pub fn joined_past(
+    alloc: Global,
+    first: Rc<Value>,
+    links: &[Link],
+    state: &State,
+    meter: &mut Meter,
+) -> Result<Rc<Value>, Refusal>
+    requires ready { AreReady (scope_of state.now) first.value.params links.now }
+    requires fits { Fits (limit_of meter.old) state.now }
+    requires numbers { HasNumbersUpTo (unsigned_abs (limit_of meter.old)) first.value }
+    requires definitions { HasNoDefinitions first.value }
+    ensures made { MatchResult result
+        (λ value. IsValueOf (IsWorkedRow state.now first.value links.now)
+        (declared_of_row (scope_of state.now) first.value.params links.now)
+        (λ valuation element. RowSelects state.now valuation (Has first.value valuation) links.now element)
+        (unsigned_abs (limit_of meter.old)) value.value × IsPaid (list_any uses_units (parts_of_links links.now)) meter.old meter.new)
+        (IsWhyUnworked (list_any uses_units (parts_of_links links.now)) (IsTooWideRow state.now (Has first.value) links.now)
+        meter.old meter.new) }
+    ensures narrow { IfOk result (λ _. ¬ IsTooWideRow state.now (Has first.value) links.now) }
+{
+    let _pieces = first.pieces();
+    let mut left = first;
+    for link in links {
+        let right = match value_of(alloc, &link.operand, state, meter) {
+            Ok(right) => right,
+            Err(refusal) => return Err(refusal),
+        };
+        left = match joined(alloc, link.operator, &left, &right, meter) {
+            Ok(made) => made,
+            Err(refusal) => return Err(refusal),
+        };
+    }
+    Ok(left)
+}
