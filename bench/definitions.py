@@ -1,0 +1,55 @@
+#!/usr/bin/env python3
+"""Whether the documents speak of what is there, and how many words they have.
+
+A word that begins an item of docs/DEFINITIONS.md must stand in `specs/` of a crate that the item or its head names. A crate, a path or an edit
+that a page names must be there. Prints each page's words, and what is not there.
+"""
+import glob
+import os
+import re
+import sys
+
+os.chdir(os.path.join(os.path.dirname(os.path.abspath(__file__)), ".."))
+CRATES = {os.path.basename(folder) for folder in glob.glob("crates/*")}
+EDITS = {os.path.basename(path)[: -len(".edit")] for path in glob.glob("crates/*/must-fail/*.edit")}
+
+
+def defined(crate):
+    """The public words of a crate's definitions."""
+    text = "".join(open(path).read() for path in glob.glob(f"crates/{crate}/specs/*.antt"))
+    return set(re.findall(r"\bpub (?:abbrev |record |data )?([\w']+)", text))
+
+
+def missing_words(text):
+    """Words of the items that no crate defines which the item or its head names."""
+    head = []
+    for line in text.splitlines():
+        begin = line.split(":")[0]
+        crates = re.findall(r"`(isl_\w+)`", begin)
+        if line.startswith("## "):
+            head = crates
+        elif line.startswith("- "):
+            known = CRATES.union(*map(defined, head + crates))
+            yield from (f"no word {word}" for word in re.findall(r"`([A-Za-z_]\w*)", begin) if word not in known)
+
+
+def missing_things(text):
+    """Crates and paths that a page names and the repository does not have; what is built is not asked."""
+    yield from (f"no crate {name}" for name in re.findall(r"`((?:isl|tests|bench)_[a-z_]+)`", text) if name not in CRATES)
+    for path in re.findall(r"`((?:docs|bench|examples|crates)/[a-z_./]+)`", text):
+        if "/out/" not in path and not os.path.exists(path):
+            yield f"no path {path}"
+
+
+found = []
+for page in ["README.md", *sorted(glob.glob("docs/*.md"))]:
+    with open(page) as file:
+        text = file.read()
+    print(f"{len(text.split()):6} {page}")
+    found += [f"{page}: {what}" for what in missing_things(text)]
+    if page == "docs/DEFINITIONS.md":
+        found += [f"{page}: {what}" for what in missing_words(text)]
+    if page == "docs/EDITS.md":
+        found += [f"{page}: no edit {name}" for name in re.findall(r"^\| `(\w+)`", text, re.M) if name not in EDITS]
+print("\n".join(sorted(set(found))) or "all is there")
+sys.exit(bool(found))
