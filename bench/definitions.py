@@ -36,8 +36,8 @@ def missing_words(text):
 def missing_things(text):
     """Crates and paths that a page names and the repository does not have; what is built is not asked."""
     yield from (f"no crate {name}" for name in re.findall(r"`((?:isl|tests|bench)_[a-z_]+)`", text) if name not in CRATES)
-    for path in re.findall(r"`((?:docs|bench|examples|crates)/[a-z_./]+)`", text):
-        if "/out/" not in path and not os.path.exists(path):
+    for path in re.findall(r"`((?:docs|bench|examples|crates|isl_\w+)/[\w./]+)`", text):
+        if not (re.search("/out/|NAME", path) or os.path.exists(path) or os.path.exists(f"crates/{path}")):
             yield f"no path {path}"
 
 
