@@ -4,10 +4,10 @@ use Rattle.std.proofs.Common.{ap₂, arith, Option, None, Some}
 use Rattle.std.specs.Io.KnownBytes.{Consumes, IsAtEnd}
 use Rattle.std.proofs.lemmas.List.{append-nil, append_assoc}
 use Rattle.std.proofs.Math.Seq.{take-append-add}
-use Rattle.isl_script.specs.Script.{statements, rest_of, next_part, ends}
+use Rattle.isl_script.specs.Script.{statements, rest_of, readable, next_part, ends}
 use Rattle.isl_script.proofs.ScriptLaws.{open_rest, next_part-long, rest-append, statements-append, statements-open}
 use Rattle.isl_space.specs.Limits.{most_script_bytes}
-use Rattle.isl_session.specs.Run.{IsScriptOf, readable}
+use Rattle.isl_session.specs.Run.{IsScriptOf}
 use Rattle.isl_session.proofs.ScriptLemmas.{statements-ended}
 
 -- The script that bytes were taken from, and what is left of it.

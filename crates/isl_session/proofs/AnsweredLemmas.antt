@@ -10,7 +10,7 @@ use Rattle.isl_math.specs.Count.{Rose}
 use Rattle.isl_meter.specs.Gauge.{Gauge}
 use Rattle.isl_space.specs.Valuation.{Valuation}
 use Rattle.isl_values.specs.State.{Moment}
-use Rattle.isl_script.specs.Script.{statements, rest_of, next_part, ends, IsBlank}
+use Rattle.isl_script.specs.Script.{statements, rest_of, readable, next_part, ends, IsBlank}
 use Rattle.isl_text.specs.declared.refusal.Refusal.{Refusal}
 use Rattle.isl_eval.specs.Causes.{Refuses}
 use Rattle.isl_eval.specs.Run.{started}
@@ -21,7 +21,6 @@ use Rattle.isl_session.specs.View.{View, BreaksIn, Fed, Gives, IsMeterAt, Stoppe
 use Rattle.isl_session.specs.Status.{StatusView}
 use Rattle.isl_session.specs.Lines.{fault_line}
 use Rattle.isl_session.specs.Run.{Answered, Ended, Halts, HasCause, IsScriptOf, OfFirst, Outside, Progress, Tells, Wrote, number_at}
-use Rattle.isl_session.specs.Run.{readable}
 use Rattle.isl_session.proofs.RunLemmas.{fed_answered}
 use Rattle.isl_session.proofs.AheadLemmas.{ahead_of, readable-append, statements-readable, ahead_end, ahead_full, ahead_first, ahead_long}
 

@@ -6,7 +6,7 @@ use mathlib.Core.Logic.{inl, inr}
 use Rattle.isl_math.specs.Count.{Rose}
 use Rattle.isl_math.proofs.ListLaws.{All-parts}
 use Rattle.isl_meter.specs.Gauge.{Gauge}
-use Rattle.isl_script.specs.Script.{statements, rest_of, next_part}
+use Rattle.isl_script.specs.Script.{statements, rest_of, readable, next_part}
 use Rattle.isl_script.proofs.ScriptLaws.{next_part-long, rest-append, statements-append}
 use Rattle.isl_text.specs.declared.refusal.Refusal.{Refusal}
 use Rattle.isl_text.specs.declared.refusal.Refusal.TheVariants.{Usage, TooLong, Unfinished, Overflow, Budget, ReadFault, WriteFault}
@@ -19,7 +19,7 @@ use Rattle.isl_space.specs.Limits.{most_script_bytes, most_statement_bytes}
 use Rattle.isl_session.specs.Place.{Place, at_words, in_statement, too_long, past_limit, at_end, at_read, at_write, anywhere, place_of}
 use Rattle.isl_session.specs.View.{View, AreShort, BreaksIn, Carries, Stopped, moment_of}
 use Rattle.isl_session.specs.Status.{StatusView}
-use Rattle.isl_session.specs.Run.{Answered, Ended, HasCause, OfFirst, Outside, Progress, readable}
+use Rattle.isl_session.specs.Run.{Answered, Ended, HasCause, OfFirst, Outside, Progress}
 use Rattle.isl_session.specs.Valid.{AreValid, IsDoneOrMemory, IsValidScript}
 use Rattle.isl_session.proofs.ScriptLemmas.{statements-ended}
 use Rattle.isl_session.proofs.FedLemmas.{fed_ready}

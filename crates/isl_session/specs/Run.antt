@@ -4,7 +4,7 @@ use Rattle.std.specs.List.{concat}
 use Rattle.std.specs.Io.KnownBytes.{Appends, Consumes, IsAtEnd}
 use Rattle.isl_math.specs.Count.{Rose}
 use Rattle.isl_meter.specs.Gauge.{Gauge}
-use Rattle.isl_script.specs.Script.{statements, rest_of, next_part, IsBlank}
+use Rattle.isl_script.specs.Script.{statements, rest_of, readable, next_part, IsBlank}
 use Rattle.isl_text.specs.declared.refusal.Refusal.{Refusal}
 use Rattle.isl_values.specs.State.{StateView, Moment}
 use Rattle.isl_eval.specs.Causes.{Refuses}
@@ -70,10 +70,6 @@ outside left reads written writes told tells = record {
   told = told;
   tells = tells;
 }
-
--- the bytes of a script that belong to its statements and its rest
-abbrev pub readable : List ℕ → List ℕ
-readable script = take most_script_bytes script
 
 -- How far a script was answered: its statements one after another, up to those that are ahead.
 pub record Progress (first : Moment) (script : List ℕ) : Type 0 where
