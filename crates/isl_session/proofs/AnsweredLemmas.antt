@@ -1,5 +1,6 @@
 -- From what the session and the ends say to what a run has done.
-use Rattle.std.proofs.Common.{◌≡◌, ◌⊎◌, ℕ, ◌+◌, ◌-◌, ◌<◌, ◌≤◌, List, [], ◌∷◌, ◌++◌, length, take, true, false, refl, sym, ◌∙◌, ap, subst, arith, Option, None, Some, Result, Ok, Err}
+use Rattle.std.proofs.Common.{◌≡◌, ◌⊎◌, ℕ, ◌+◌, ◌-◌, ◌<◌, ◌≤◌, List, [], ◌∷◌, ◌++◌, length, take, true, false, refl, sym, ◌∙◌, ap, subst}
+use Rattle.std.proofs.Common.{arith, Option, None, Some, Result, Ok, Err}
 use Rattle.std.specs.List.{concat}
 use Rattle.std.specs.Result.{OnOk, OnErr, IfErr}
 use mathlib.Core.Logic.{inl, inr}
@@ -14,7 +15,7 @@ use Rattle.isl_text.specs.declared.refusal.Refusal.{Refusal}
 use Rattle.isl_eval.specs.Causes.{Refuses}
 use Rattle.isl_eval.specs.Run.{started}
 use Rattle.isl_session.specs.declared.fault.Fault.{Fault}
-use Rattle.isl_session.specs.declared.TheConstants.{SCRIPT_MAX, STATEMENT_MAX}
+use Rattle.isl_space.specs.Limits.{most_script_bytes, most_statement_bytes}
 use Rattle.isl_session.specs.Place.{Place, at_words, in_statement, too_long, past_limit, at_end, at_read, at_write, anywhere, place_of}
 use Rattle.isl_session.specs.View.{View, BreaksIn, Fed, Gives, IsMeterAt, Stopped, moment_of, opened}
 use Rattle.isl_session.specs.Status.{StatusView}
@@ -33,7 +34,8 @@ err_of (Ok x) on err = tt
 err_of (Err e) on err = on e err
 
 -- the parts of a status
-module _ (status : StatusView) (refusal : Option Refusal) (meter : Gauge) (is : status ≡ record { refusal = refusal; meter = Some meter }) where
+module _ (status : StatusView) (refusal : Option Refusal) (meter : Gauge)
+    (is : status ≡ record { refusal = refusal; meter = Some meter }) where
   pub status_refusal : status.refusal ≡ refusal
   status_refusal = ap (λ (s : StatusView). s.refusal) is
 
@@ -44,7 +46,8 @@ abbrev fault_of : ℕ → Refusal → Fault
 fault_of statement refusal = record { statement = statement; refusal = refusal }
 
 -- why a run ended at this place, what it wrote and what it told
-abbrev EndedAt : (first : Moment) (script : List ℕ) → Progress first script → List ℕ → List ℕ → Gauge → Outside → Outside → Refusal → Place → Type 0
+abbrev EndedAt : (first : Moment) (script : List ℕ) → Progress first script → List ℕ → List ℕ → Gauge → Outside → Outside → Refusal → Place
+    → Type 0
 EndedAt first script progress taken gained now old new refusal place =
     HasCause first script progress taken now old new refusal place × Wrote progress.answers gained place
     × Tells old new (fault_line (fault_of (number_at progress.answers place) refusal)) × IsMeterAt place progress.meter now
@@ -55,10 +58,13 @@ moment_in : (first : Moment) (view : View) → view.at ≡ first.at
 moment_in first view at = ap (λ (v : Valuation). let m : Moment = record { state = view.state; meter = view.meter; at = v } in m) at
 
 -- A run that took this front of a script, and after which the session and its meter are so.
-module _ (first : Moment) (script : List ℕ) (old new : Outside) (status : StatusView) (session : View) (meter_is : status.meter ≡ Some session.meter)
-    (taken left : List ℕ) (script_is : script ≡ taken ++ left) (told : IsScriptOf old.left taken script) (took : Consumes old.left new.left taken) (few : length taken ≤ SCRIPT_MAX + 1)
+module _ (first : Moment) (script : List ℕ) (old new : Outside) (status : StatusView) (session : View)
+    (meter_is : status.meter ≡ Some session.meter)
+    (taken left : List ℕ) (script_is : script ≡ taken ++ left) (told : IsScriptOf old.left taken script)
+    (took : Consumes old.left new.left taken) (few : length taken ≤ most_script_bytes + 1)
     (gained : List ℕ) (wrote : Appends old.written new.written gained) where
-  assemble : (refusal : Option Refusal) → status.refusal ≡ refusal → (progress : Progress first script) → Ended first script progress taken gained session.meter old new refusal → Answered first script old new status
+  assemble : (refusal : Option Refusal) → status.refusal ≡ refusal → (progress : Progress first script)
+      → Ended first script progress taken gained session.meter old new refusal → Answered first script old new status
   assemble refusal is progress ended = record {
     taken = taken;
     left = left;
@@ -75,15 +81,16 @@ module _ (first : Moment) (script : List ℕ) (old new : Outside) (status : Stat
   }
 
   -- the script was answered up to the end of a front
-  module _ (front more : List ℕ) (split : script ≡ front ++ more) (answers : List (List ℕ)) (at_front : View) (fed : Fed (opened first) front answers at_front) where
-    front_within : length front ≤ SCRIPT_MAX
+  module _ (front more : List ℕ) (split : script ≡ front ++ more) (answers : List (List ℕ)) (at_front : View)
+      (fed : Fed (opened first) front answers at_front) where
+    front_within : length front ≤ most_script_bytes
     front_within = omega (arith, fed.taken, fed.within)
 
     abbrev progress : Progress first script
     progress = record {
       done = statements front;
       ahead = ahead_of front more;
-      split = ap (λ (l : List ℕ). statements (take SCRIPT_MAX l)) split ∙ statements-readable front more front_within;
+      split = ap (λ (l : List ℕ). statements (take most_script_bytes l)) split ∙ statements-readable front more front_within;
       answers = answers;
       state = at_front.state;
       run = subst (λ (m : Moment). Gives first (statements front) answers m) (moment_in first at_front fed.at) fed.run;
@@ -96,10 +103,12 @@ module _ (first : Moment) (script : List ℕ) (old new : Outside) (status : Stat
     halted : (refusal : Refusal) → status.refusal ≡ Some refusal → (place : Place) → place_of refusal ≡ place
         → EndedAt first script progress taken gained session.meter old new refusal place → Answered first script old new status
     halted refusal is place at ended =
-        assemble (Some refusal) is progress (subst (λ (p : Place). EndedAt first script progress taken gained session.meter old new refusal p) (sym at) ended)
+        assemble (Some refusal) is progress
+        (subst (λ (p : Place). EndedAt first script progress taken gained session.meter old new refusal p) (sym at) ended)
 
   -- the whole script was taken and answered
-  pub answered_whole : status.refusal ≡ None → left ≡ [] → IsAtEnd new.left → (answers : List (List ℕ)) → gained ≡ concat answers → Fed (opened first) taken answers session → IsBlank session.rest
+  pub answered_whole : status.refusal ≡ None → left ≡ [] → IsAtEnd new.left → (answers : List (List ℕ)) → gained ≡ concat answers
+      → Fed (opened first) taken answers session → IsBlank session.rest
       → Answered first script old new status
   answered_whole is none end answers gained_is fed blank =
       let whole : taken ≡ script = sym (script_is ∙ ap (λ (l : List ℕ). taken ++ l) none ∙ append-nil taken) in
@@ -117,12 +126,14 @@ module _ (first : Moment) (script : List ℕ) (old new : Outside) (status : Stat
       )
 
   -- a refusal
-  module _ (statement : ℕ) (refusal : Refusal) (status_is : status.refusal ≡ Some refusal) (tells : Tells old new (fault_line (fault_of statement refusal))) where
+  module _ (statement : ℕ) (refusal : Refusal) (status_is : status.refusal ≡ Some refusal)
+      (tells : Tells old new (fault_line (fault_of statement refusal))) where
     line_for : (k : ℕ) → statement ≡ k → Tells old new (fault_line (fault_of k refusal))
     line_for k is = subst (λ (n : ℕ). Tells old new (fault_line (fault_of n refusal))) is tells
 
     -- the session was refused at a byte
-    module _ (answers : List (List ℕ)) (gained_is : gained ≡ concat answers) (stopped : Stopped (opened first) taken answers session (fault_of statement refusal)) where
+    module _ (answers : List (List ℕ)) (gained_is : gained ≡ concat answers)
+        (stopped : Stopped (opened first) taken answers session (fault_of statement refusal)) where
       abbrev more : List ℕ
       more = stopped.behind ++ left
 
@@ -138,31 +149,41 @@ module _ (first : Moment) (script : List ℕ) (old new : Outside) (status : Stat
       number : statement ≡ length answers + 1
       number = omega (arith, stopped.number, fed_answered (opened first) stopped.front answers stopped.at_front stopped.fed)
 
-      halted_at : (place : Place) → place_of refusal ≡ place → HasCause first script so_far taken session.meter old new refusal place → Wrote answers gained place
+      halted_at : (place : Place) → place_of refusal ≡ place → HasCause first script so_far taken session.meter old new refusal place
+          → Wrote answers gained place
           → statement ≡ number_at answers place → Answered first script old new status
       halted_at place at cause written k =
-          halted stopped.front (stopped.byte ∷ more) split_at answers stopped.at_front stopped.fed refusal status_is place at
-          (cause, written, line_for (number_at answers place) k, subst (λ (p : Place). IsMeterAt p stopped.at_front.meter session.meter) at stopped.meter)
+          halted stopped.front (stopped.byte ∷ more) split_at answers stopped.at_front stopped.fed refusal status_is place at (
+            cause,
+            written,
+            line_for (number_at answers place) k,
+            subst
+                (λ (p : Place). IsMeterAt p stopped.at_front.meter session.meter) at stopped.meter,
+          )
 
       -- what is held needs no memory
       abbrev Ends : Type 0
-      Ends = (ends stopped.at_front.rest stopped.byte ≡ true) × Refuses (started (moment_of stopped.at_front)) stopped.at_front.rest session.meter refusal
+      Ends = (ends stopped.at_front.rest stopped.byte ≡ true) × Refuses
+          (started (moment_of stopped.at_front)) stopped.at_front.rest session.meter refusal
 
-      no_want : Ends ⊎ ((length stopped.at_front.rest < STATEMENT_MAX) × (stopped.at_front.room ≤ length stopped.at_front.rest) × (session.meter ≡ stopped.at_front.meter)) → Ends
+      no_want : Ends ⊎ ((length stopped.at_front.rest < most_statement_bytes) × (stopped.at_front.room ≤ length stopped.at_front.rest)
+          × (session.meter ≡ stopped.at_front.meter)) → Ends
       no_want (inl ended) = ended
       no_want (inr full) = absurd (omega (arith, full.0, full.1, stopped.fed.room))
 
       -- the statement that is ahead is refused at that moment
       abbrev refused_here : View → List ℕ → Type 0
       refused_here at_front bytes =
-          (length bytes ≤ STATEMENT_MAX)
+          (length bytes ≤ most_statement_bytes)
           × Refuses (started (record { state = at_front.state; meter = at_front.meter; at = first.at })) bytes session.meter refusal
 
       from_first : Refuses (started (moment_of stopped.at_front)) stopped.at_front.rest session.meter refusal
-          → Refuses (started (record { state = stopped.at_front.state; meter = stopped.at_front.meter; at = first.at })) stopped.at_front.rest
+          → Refuses (started (record { state = stopped.at_front.state; meter = stopped.at_front.meter; at = first.at }))
+          stopped.at_front.rest
           session.meter refusal
       from_first refuses =
-          subst (λ (m : Moment). Refuses (started m) stopped.at_front.rest session.meter refusal) (moment_in first stopped.at_front stopped.fed.at) refuses
+          subst (λ (m : Moment). Refuses (started m) stopped.at_front.rest session.meter refusal)
+          (moment_in first stopped.at_front stopped.fed.at) refuses
 
       refused_in_statement : place_of refusal ≡ in_statement → Answered first script old new status
       refused_in_statement at =
@@ -172,7 +193,8 @@ module _ (first : Moment) (script : List ℕ) (old new : Outside) (status : Stat
           let first_ahead = ahead_first stopped.front stopped.byte more (omega (arith, stopped.fed.taken, breaks.0)) ended in
           let at_front = stopped.at_front in
           let P : List ℕ → Type 0 = refused_here at_front in
-          halted_at in_statement at (subst (OfFirst P) (sym first_ahead.1) (subst P rest (stopped.fed.short.last, from_first breaks.2))) gained_is number
+          halted_at in_statement at (subst (OfFirst P) (sym first_ahead.1)
+          (subst P rest (stopped.fed.short.last, from_first breaks.2))) gained_is number
 
       refused_too_long : place_of refusal ≡ too_long → Answered first script old new status
       refused_too_long at =
@@ -181,8 +203,15 @@ module _ (first : Moment) (script : List ℕ) (old new : Outside) (status : Stat
           let rest = stopped.fed.rest in
           let held = subst (λ (l : List ℕ). ends l stopped.byte ≡ false) rest breaks.1 in
           let long = ahead_long front stopped.byte more (omega (arith, stopped.fed.taken, breaks.0)) held in
-          let same : rest_of (readable (front ++ stopped.byte ∷ more)) ≡ rest_of (readable script) = ap (λ (l : List ℕ). rest_of (readable l)) (sym split_at) in
-          halted_at too_long at (omega (arith, breaks.2, ap length rest, long, ap (λ (l : List ℕ). length (next_part (ahead_of front (stopped.byte ∷ more)) l)) same))
+          let same : rest_of (readable (front ++ stopped.byte ∷ more)) ≡ rest_of (readable script) =
+          ap (λ (l : List ℕ). rest_of (readable l)) (sym split_at) in
+          halted_at too_long at (omega (
+            arith,
+            breaks.2,
+            ap length rest,
+            long,
+            ap (λ (l : List ℕ). length (next_part (ahead_of front (stopped.byte ∷ more)) l)) same,
+          ))
           gained_is number
 
       refused_anywhere : place_of refusal ≡ anywhere → Answered first script old new status
@@ -194,16 +223,19 @@ module _ (first : Moment) (script : List ℕ) (old new : Outside) (status : Stat
           let first_ahead = ahead_first stopped.front stopped.byte more (omega (arith, stopped.fed.taken, breaks.0)) ended in
           let at_front = stopped.at_front in
           let P : List ℕ → Type 0 = refused_here at_front in
-          halted_at anywhere at (subst (OfFirst P) (sym first_ahead.1) (subst P rest (stopped.fed.short.last, from_first want.1))) gained_is number
+          halted_at anywhere at (subst (OfFirst P) (sym first_ahead.1)
+          (subst P rest (stopped.fed.short.last, from_first want.1))) gained_is number
 
       refused_past_limit : place_of refusal ≡ past_limit → Answered first script old new status
       refused_past_limit at =
           let full = breaks_at past_limit at in
           let front = stopped.front in
-          let none : SCRIPT_MAX - length front ≡ 0 = omega (arith, stopped.fed.taken, full) in
+          let none : most_script_bytes - length front ≡ 0 = omega (arith, stopped.fed.taken, full) in
           let cut : readable (front ++ stopped.byte ∷ more) ≡ front =
-          readable-append front (stopped.byte ∷ more) (omega (arith, stopped.fed.taken, full)) ∙ ap (λ (k : ℕ). front ++ take k (stopped.byte ∷ more)) none ∙ append-nil front in
-          let same : rest_of (readable script) ≡ stopped.at_front.rest = ap (λ (l : List ℕ). rest_of (readable l)) split_at ∙ ap rest_of cut ∙ sym stopped.fed.rest in
+          readable-append front (stopped.byte ∷ more) (omega (arith, stopped.fed.taken, full))
+          ∙ ap (λ (k : ℕ). front ++ take k (stopped.byte ∷ more)) none ∙ append-nil front in
+          let same : rest_of (readable script) ≡ stopped.at_front.rest = ap (λ (l : List ℕ). rest_of (readable l)) split_at ∙ ap rest_of cut
+          ∙ sym stopped.fed.rest in
           halted_at past_limit at (
             ahead_full front (stopped.byte ∷ more) (omega (arith, stopped.fed.taken, full)),
             omega (arith, few, ap length stopped.split, length-append front (stopped.byte ∷ stopped.behind), stopped.fed.taken, full),
@@ -212,7 +244,8 @@ module _ (first : Moment) (script : List ℕ) (old new : Outside) (status : Stat
 
     -- whatever stopped it
     pub answered_up_to : (place : Place) → place_of refusal ≡ place → (IsAtEnd new.left → left ≡ [])
-        → Halts (Rose old.reads new.reads) (Rose old.writes new.writes) (IsAtEnd new.left) (opened first) taken gained session (fault_of statement refusal) place → Answered first script old new status
+        → Halts (Rose old.reads new.reads) (Rose old.writes new.writes) (IsAtEnd new.left) (opened first) taken gained session
+        (fault_of statement refusal) place → Answered first script old new status
     answered_up_to at_words at none_left h = absurd h
     answered_up_to in_statement at none_left h = refused_in_statement h.0 h.1 h.2 at
     answered_up_to too_long at none_left h = refused_too_long h.0 h.1 h.2 at
@@ -231,7 +264,8 @@ module _ (first : Moment) (script : List ℕ) (old new : Outside) (status : Stat
         let front = h.2.0 in
         let answers = h.2.2 in
         let fed = h.2.5 in
-        halted front (h.2.1 ++ left) (script_is ∙ ap (λ (l : List ℕ). l ++ left) h.2.3 ∙ append_assoc front h.2.1 left) answers session fed refusal status_is at_write at
+        halted front (h.2.1 ++ left) (script_is ∙ ap (λ (l : List ℕ). l ++ left) h.2.3
+        ∙ append_assoc front h.2.1 left) answers session fed refusal status_is at_write at
         (h.0, h.2.4, line_for (length answers) (omega (arith, fed_answered (opened first) front answers session fed, h.1)), refl)
     answered_up_to at_end at none_left h =
         let answers = h.1.0 in

@@ -8,7 +8,7 @@ use Rattle.isl_values.specs.State.{Moment}
 use Rattle.isl_eval.specs.Causes as c
 use Rattle.isl_eval.specs.Causes.{Cause, FirstGives, Refuses, causes, refusal_of}
 use Rattle.isl_eval.specs.Run.{started}
-use Rattle.isl_session.specs.declared.TheConstants.{SCRIPT_MAX}
+use Rattle.isl_space.specs.Limits.{most_script_bytes}
 use Rattle.isl_session.specs.Place.{Place, in_statement, place_of}
 use Rattle.isl_session.specs.View.{View, BreaksIn, IsMeterAt, moment_of}
 
@@ -26,12 +26,14 @@ place_of_cause c.no_element = refl
 place_of_cause c.parametric = refl
 place_of_cause c.wide_join = refl
 
-place_of_first : (There : Cause → Type 0) (all : List Cause) (refusal : Refusal) → FirstGives There all refusal → place_of refusal ≡ in_statement
+place_of_first : (There : Cause → Type 0) (all : List Cause) (refusal : Refusal) → FirstGives There all refusal
+    → place_of refusal ≡ in_statement
 place_of_first There [] refusal gives = absurd gives
 place_of_first There (cause ∷ later) refusal (inl here) = ap place_of here.1 ∙ place_of_cause cause
 place_of_first There (cause ∷ later) refusal (inr behind) = place_of_first There later refusal behind.1
 
-pub breaks_in_statement : (refusal : Refusal) (view : View) (byte : ℕ) (now : Gauge) → view.taken < SCRIPT_MAX → ends view.rest byte ≡ true
+pub breaks_in_statement : (refusal : Refusal) (view : View) (byte : ℕ) (now : Gauge) → view.taken < most_script_bytes
+    → ends view.rest byte ≡ true
     → Refuses (started (moment_of view)) view.rest now refusal → BreaksIn (place_of refusal) view byte now refusal
 breaks_in_statement Overflow view byte now room ended cause = (room, ended, cause)
 breaks_in_statement Budget view byte now room ended cause = (room, ended, cause)
@@ -39,7 +41,8 @@ breaks_in_statement NoMemory view byte now room ended cause = (room, inl (ended,
 breaks_in_statement TooWide view byte now room ended cause = (room, ended, cause)
 breaks_in_statement Unbounded view byte now room ended cause = (room, ended, cause)
 breaks_in_statement refusal view byte now room ended cause =
-    subst (λ (p : Place). BreaksIn p view byte now refusal) (sym (place_of_first (c.IsThere (started (moment_of view)) view.rest) causes refusal cause.0)) (room, ended, cause)
+    subst (λ (p : Place). BreaksIn p view byte now refusal)
+    (sym (place_of_first (c.IsThere (started (moment_of view)) view.rest) causes refusal cause.0)) (room, ended, cause)
 
 -- the meter of a statement that is refused
 pub meter_in_statement : (before : Moment) (bytes : List ℕ) (now : Gauge) (refusal : Refusal) → Refuses (started before) bytes now refusal
@@ -50,4 +53,5 @@ meter_in_statement before bytes now NoMemory cause kept = cause.0
 meter_in_statement before bytes now TooWide cause kept = kept
 meter_in_statement before bytes now Unbounded cause kept = kept
 meter_in_statement before bytes now refusal cause kept =
-    subst (λ (p : Place). IsMeterAt p before.meter now) (sym (place_of_first (c.IsThere (started before) bytes) causes refusal cause.0)) kept
+    subst (λ (p : Place). IsMeterAt p before.meter now)
+    (sym (place_of_first (c.IsThere (started before) bytes) causes refusal cause.0)) kept

@@ -1,5 +1,6 @@
 -- Pieces of a text that is written in turn.
-use Rattle.std.proofs.Common.{◌≡◌, ℕ, zero, suc, ◌+◌, ◌-◌, List, [], ◌∷◌, ◌++◌, length, take, drop, sym, ◌∙◌, ap, subst, arith, Option, None, Some}
+use Rattle.std.proofs.Common.{◌≡◌, ℕ, zero, suc, ◌+◌, ◌-◌, List, [], ◌∷◌, ◌++◌, length, take, drop, sym, ◌∙◌, ap, subst, arith, Option}
+use Rattle.std.proofs.Common.{None, Some}
 use Rattle.std.specs.Io.KnownBytes.{Consumes, Keeps}
 use Rattle.std.proofs.lemmas.List.{take_rest}
 
@@ -8,7 +9,8 @@ pub take_join : (at n : ℕ) (xs : List ℕ) → take at xs ++ take n (drop at x
 take_join zero n xs = let same : n ≡ 0 + n = omega arith in ap (λ (k : ℕ). take k xs) same
 take_join (suc at) zero [] = let same : suc at ≡ suc at + 0 = omega arith in ap (λ (k : ℕ). take k []) same
 take_join (suc at) (suc n) [] = let same : suc (at + suc n) ≡ suc at + suc n = omega arith in ap (λ (k : ℕ). take k []) same
-take_join (suc at) n (x ∷ xs) = let same : suc (at + n) ≡ suc at + n = omega arith in ap (λ (l : List ℕ). x ∷ l) (take_join at n xs) ∙ ap (λ (k : ℕ). take k (x ∷ xs)) same
+take_join (suc at) n (x ∷ xs) = let same : suc (at + n) ≡ suc at + n = omega arith in ap (λ (l : List ℕ). x ∷ l) (take_join at n xs)
+    ∙ ap (λ (k : ℕ). take k (x ∷ xs)) same
 
 pub take_on : (at n : ℕ) (xs : List ℕ) → take at xs ++ take n (take (length xs - at) (drop at xs)) ≡ take (at + n) xs
 take_on at n xs = ap (λ (l : List ℕ). take at xs ++ take n l) (take_rest xs at) ∙ take_join at n xs

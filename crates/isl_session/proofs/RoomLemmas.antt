@@ -5,7 +5,7 @@ use Rattle.std.proofs.lemmas.List.{append_assoc, length-append}
 use Rattle.isl_script.specs.Script.{statements, rest_of, with_ends, ends}
 use Rattle.isl_script.proofs.ScriptLaws.{is_cut, statements-append}
 use Rattle.isl_session.specs.declared.fault.Fault.{Fault}
-use Rattle.isl_session.specs.declared.TheConstants.{STATEMENT_MAX}
+use Rattle.isl_space.specs.Limits.{most_statement_bytes}
 use Rattle.isl_session.specs.Place.{Place, at_words, in_statement, too_long, past_limit, at_end, at_read, at_write, anywhere, place_of}
 use Rattle.isl_eval.specs.Causes.{Refuses}
 use Rattle.isl_eval.specs.Run.{started}
@@ -25,7 +25,8 @@ none_behind : (xs ys : List (List ℕ)) → xs ++ ys ≡ [] → ys ≡ []
 none_behind [] ys is = is
 none_behind (x ∷ xs) ys is = absurd (omega (arith, ap length is))
 
-module _ (old : View) (piece : List ℕ) (answers : List (List ℕ)) (new : View) (fault : Fault) (stopped : Stopped old piece answers new fault) (room : HasRoomFor old piece) where
+module _ (old : View) (piece : List ℕ) (answers : List (List ℕ)) (new : View) (fault : Fault)
+    (stopped : Stopped old piece answers new fault) (room : HasRoomFor old piece) where
   abbrev before : List ℕ
   before = old.rest ++ stopped.front
 
@@ -40,7 +41,8 @@ module _ (old : View) (piece : List ℕ) (answers : List (List ℕ)) (new : View
 
   none_there : statements before ++ statements (rest ++ tail) ≡ []
   none_there =
-      ap (λ (l : List ℕ). statements before ++ statements (l ++ tail)) stopped.fed.rest ∙ sym (statements-append before tail) ∙ ap statements (sym joined) ∙ room.none
+      ap (λ (l : List ℕ). statements before ++ statements (l ++ tail)) stopped.fed.rest ∙ sym (statements-append before tail)
+      ∙ ap statements (sym joined) ∙ room.none
 
   rest_is : before ≡ rest
   rest_is = rest_whole before (none_before (statements before) (statements (rest ++ tail)) none_there) ∙ sym stopped.fed.rest
@@ -59,7 +61,7 @@ module _ (old : View) (piece : List ℕ) (answers : List (List ℕ)) (new : View
       omega (arith, ap length first, ap length (none_behind (statements before) (statements (rest ++ tail)) none_there))
 
   no_want : ((ends rest stopped.byte ≡ true) × Refuses (started (moment_of stopped.at_front)) rest new.meter fault.refusal)
-      ⊎ ((length rest < STATEMENT_MAX) × (stopped.at_front.room ≤ length rest) × (new.meter ≡ stopped.at_front.meter)) → ⊥
+      ⊎ ((length rest < most_statement_bytes) × (stopped.at_front.room ≤ length rest) × (new.meter ≡ stopped.at_front.meter)) → ⊥
   no_want (inl is) = no_end is.0
   no_want (inr full) = omega (arith, full.1, stopped.fed.room, shorter, room.room)
 

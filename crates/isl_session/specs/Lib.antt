@@ -11,4 +11,5 @@ pub use Rattle.isl_eval.specs.Machine
 pub use Rattle.isl_values.specs.State
 pub use Rattle.isl_io.specs.Outside
 pub use Rattle.isl_script.specs.Script
+pub use Rattle.isl_space.specs.Limits
 pub use Rattle.isl_text.specs.Refusal

@@ -10,7 +10,7 @@ use Rattle.isl_values.specs.State.{StateView, Moment}
 use Rattle.isl_eval.specs.Causes.{Refuses}
 use Rattle.isl_eval.specs.Run.{started}
 use Rattle.isl_session.specs.declared.fault.Fault.{Fault}
-use Rattle.isl_session.specs.declared.TheConstants.{SCRIPT_MAX, STATEMENT_MAX}
+use Rattle.isl_space.specs.Limits.{most_script_bytes, most_statement_bytes}
 use Rattle.isl_session.specs.Place.{Place, at_words, in_statement, too_long, past_limit, at_end, at_read, at_write, anywhere, place_of}
 use Rattle.isl_session.specs.View.{View, Carries, Fed, Gives, IsMeterAt, Stopped}
 use Rattle.isl_session.specs.Status.{StatusView}
@@ -25,21 +25,29 @@ pub record IsCutShort (answers : List (List ℕ)) (gained : List ℕ) : Type 0 w
   pub short : count < length final
   pub is : gained ≡ concat earlier ++ take count final
 
+-- a session was refused at a byte, and wrote what it had answered
+abbrev pub StopsIn : View → List ℕ → List ℕ → View → Fault → Type 0
+StopsIn old taken gained new fault = (answers : List (List ℕ)) × (gained ≡ concat answers) × Stopped old taken answers new fault
+
 -- Between the session and the outside: how the session ends while these bytes are taken and this much is written, by the place of
 -- the refusal. The first three say that a read failed, that a write failed, and that nothing is left to read.
 abbrev pub Halts : Type 0 → Type 0 → Type 0 → View → List ℕ → List ℕ → View → Fault → Place → Type 0
 Halts read_failed write_failed ended old taken gained new fault at_words = ⊥
 Halts read_failed write_failed ended old taken gained new fault at_read =
-    read_failed × (fault.statement ≡ new.counts.statements + 1) × ((answers : List (List ℕ)) × (gained ≡ concat answers) × Fed old taken answers new)
+    read_failed × (fault.statement ≡ new.counts.statements + 1)
+    × ((answers : List (List ℕ)) × (gained ≡ concat answers) × Fed old taken answers new)
 Halts read_failed write_failed ended old taken gained new fault at_write =
-    write_failed × (fault.statement ≡ new.counts.statements) × ((front : List ℕ) × (behind : List ℕ) × (answers : List (List ℕ)) × (taken ≡ front ++ behind) × IsCutShort answers gained × Fed old front answers new)
+    write_failed × (fault.statement ≡ new.counts.statements)
+    × ((front : List ℕ) × (behind : List ℕ) × (answers : List (List ℕ)) × (taken ≡ front ++ behind) × IsCutShort answers gained
+    × Fed old front answers new)
 Halts read_failed write_failed ended old taken gained new fault at_end =
-    ended × ((answers : List (List ℕ)) × (before : View) × (gained ≡ concat answers) × Fed old taken answers before × (IsBlank before.rest → ⊥)
+    ended
+    × ((answers : List (List ℕ)) × (before : View) × (gained ≡ concat answers) × Fed old taken answers before × (¬ IsBlank before.rest)
     × (fault.statement ≡ before.counts.statements + 1) × (new ≡ record before { fault = Some fault }))
-Halts read_failed write_failed ended old taken gained new fault in_statement = (answers : List (List ℕ)) × (gained ≡ concat answers) × Stopped old taken answers new fault
-Halts read_failed write_failed ended old taken gained new fault too_long = (answers : List (List ℕ)) × (gained ≡ concat answers) × Stopped old taken answers new fault
-Halts read_failed write_failed ended old taken gained new fault past_limit = (answers : List (List ℕ)) × (gained ≡ concat answers) × Stopped old taken answers new fault
-Halts read_failed write_failed ended old taken gained new fault anywhere = (answers : List (List ℕ)) × (gained ≡ concat answers) × Stopped old taken answers new fault
+Halts read_failed write_failed ended old taken gained new fault in_statement = StopsIn old taken gained new fault
+Halts read_failed write_failed ended old taken gained new fault too_long = StopsIn old taken gained new fault
+Halts read_failed write_failed ended old taken gained new fault past_limit = StopsIn old taken gained new fault
+Halts read_failed write_failed ended old taken gained new fault anywhere = StopsIn old taken gained new fault
 
 -- The two ends of a program, and where it tells of a fault, as one moment sees them.
 pub record Outside : Type 0 where
@@ -54,7 +62,14 @@ pub record Outside : Type 0 where
   pub tells : ℕ
 
 abbrev pub outside : Option (List ℕ) → ℕ → Option (List ℕ) → ℕ → Option (List ℕ) → ℕ → Outside
-outside left reads written writes told tells = record { left = left; reads = reads; written = written; writes = writes; told = told; tells = tells }
+outside left reads written writes told tells = record {
+  left = left;
+  reads = reads;
+  written = written;
+  writes = writes;
+  told = told;
+  tells = tells;
+}
 
 -- How far a script was answered: its statements one after another, up to those that are ahead.
 pub record Progress (first : Moment) (script : List ℕ) : Type 0 where
@@ -67,36 +82,45 @@ pub record Progress (first : Moment) (script : List ℕ) : Type 0 where
   pub meter : Gauge
   pub run : Gives first done answers (record { state = state; meter = meter; at = first.at })
   pub carried : Carries first.meter meter
-  pub short : All (λ part. length part ≤ STATEMENT_MAX) done
+  pub short : All (λ part. length part ≤ most_statement_bytes) done
 
 -- the first of these statements has P
 abbrev pub OfFirst : (List ℕ → Type 0) → List (List ℕ) → Type 0
 OfFirst P [] = ⊥
 OfFirst P (bytes ∷ later) = P bytes
 
+-- the first statement that is ahead is none too long, and is refused
+abbrev pub IsRefusedNext : (first : Moment) (script : List ℕ) → Progress first script → Gauge → Refusal → Type 0
+IsRefusedNext first script progress now refusal =
+    let before : Moment = record { state = progress.state; meter = progress.meter; at = first.at } in
+    OfFirst (λ bytes. (length bytes ≤ most_statement_bytes) × Refuses (started before) bytes now refusal) progress.ahead
+
 -- Why a run ended where it did, by the place of the refusal. `taken` was read, and `now` is the meter at the refusal. Memory is asked
 -- for only while a statement is worked on.
-abbrev pub HasCause : (first : Moment) (script : List ℕ) → Progress first script → List ℕ → Gauge → Outside → Outside → Refusal → Place → Type 0
+abbrev pub HasCause : (first : Moment) (script : List ℕ) → Progress first script
+    → List ℕ → Gauge → Outside → Outside → Refusal → Place → Type 0
 HasCause first script progress taken now old new refusal at_words = ⊥
-HasCause first script progress taken now old new refusal in_statement =
-    OfFirst (λ bytes. (length bytes ≤ STATEMENT_MAX) × Refuses (started (record { state = progress.state; meter = progress.meter; at = first.at })) bytes now refusal) progress.ahead
-HasCause first script progress taken now old new refusal too_long = STATEMENT_MAX < length (next_part progress.ahead (rest_of (readable script)))
-HasCause first script progress taken now old new refusal past_limit = (progress.ahead ≡ []) × (length taken ≡ SCRIPT_MAX + 1) × (length (rest_of (readable script)) ≤ STATEMENT_MAX)
+HasCause first script progress taken now old new refusal in_statement = IsRefusedNext first script progress now refusal
+HasCause first script progress taken now old new refusal too_long =
+    most_statement_bytes < length (next_part progress.ahead (rest_of (readable script)))
+HasCause first script progress taken now old new refusal past_limit =
+    (progress.ahead ≡ []) × (length taken ≡ most_script_bytes + 1) × (length (rest_of (readable script)) ≤ most_statement_bytes)
 HasCause first script progress taken now old new refusal at_end =
-    (progress.ahead ≡ []) × (taken ≡ script) × (length script ≤ SCRIPT_MAX) × IsAtEnd new.left × (IsBlank (rest_of script) → ⊥) × (length (rest_of script) ≤ STATEMENT_MAX)
+    (progress.ahead ≡ []) × (taken ≡ script) × (length script ≤ most_script_bytes) × IsAtEnd new.left × (¬ IsBlank (rest_of script))
+    × (length (rest_of script) ≤ most_statement_bytes)
 HasCause first script progress taken now old new refusal at_read =
-    Rose old.reads new.reads × (progress.done ≡ statements taken) × (length taken ≤ SCRIPT_MAX) × (length (rest_of taken) ≤ STATEMENT_MAX)
+    Rose old.reads new.reads × (progress.done ≡ statements taken) × (length taken ≤ most_script_bytes)
+    × (length (rest_of taken) ≤ most_statement_bytes)
 HasCause first script progress taken now old new refusal at_write = Rose old.writes new.writes
-HasCause first script progress taken now old new refusal anywhere =
-    OfFirst (λ bytes. (length bytes ≤ STATEMENT_MAX) × Refuses (started (record { state = progress.state; meter = progress.meter; at = first.at })) bytes now refusal) progress.ahead
+HasCause first script progress taken now old new refusal anywhere = IsRefusedNext first script progress now refusal
 
 -- the whole script was read and answered, and nothing is left of it
 pub record IsDone (script : List ℕ) (ahead : List (List ℕ)) (taken : List ℕ) (new : Outside) : Type 0 where
   pub answered : ahead ≡ []
   pub whole : taken ≡ script
-  pub within : length script ≤ SCRIPT_MAX
+  pub within : length script ≤ most_script_bytes
   pub blank : IsBlank (rest_of script)
-  pub short : length (rest_of script) ≤ STATEMENT_MAX
+  pub short : length (rest_of script) ≤ most_statement_bytes
   pub end : IsAtEnd new.left
 
 -- what was written of the answers: all of them, or where a write failed all but a part of the last
@@ -112,11 +136,13 @@ number_at answers place = length answers + 1
 
 -- this line was told, unless telling failed
 abbrev pub Tells : Outside → Outside → List ℕ → Type 0
-Tells old new line = (Rose old.tells new.tells → ⊥) → Appends old.told new.told line
+Tells old new line = ¬ (Rose old.tells new.tells) → Appends old.told new.told line
 
 -- Why a run ended, what it wrote and what it told, and the meter as it left it.
-abbrev pub Ended : (first : Moment) (script : List ℕ) → Progress first script → List ℕ → List ℕ → Gauge → Outside → Outside → Option Refusal → Type 0
-Ended first script progress taken gained now old new None = IsDone script progress.ahead taken new × (gained ≡ concat progress.answers) × (now ≡ progress.meter)
+abbrev pub Ended : (first : Moment) (script : List ℕ) → Progress first script
+    → List ℕ → List ℕ → Gauge → Outside → Outside → Option Refusal → Type 0
+Ended first script progress taken gained now old new None =
+    IsDone script progress.ahead taken new × (gained ≡ concat progress.answers) × (now ≡ progress.meter)
 Ended first script progress taken gained now old new (Some refusal) =
     HasCause first script progress taken now old new refusal (place_of refusal) × Wrote progress.answers gained (place_of refusal)
     × Tells old new (fault_line (record { statement = number_at progress.answers (place_of refusal); refusal = refusal }))
@@ -135,7 +161,7 @@ pub record Answered (first : Moment) (script : List ℕ) (old new : Outside) (st
   pub script_is : script ≡ taken ++ left
   pub told : IsScriptOf old.left taken script
   pub took : Consumes old.left new.left taken
-  pub few : length taken ≤ SCRIPT_MAX + 1
+  pub few : length taken ≤ most_script_bytes + 1
   pub progress : Progress first script
   pub gained : List ℕ
   pub wrote : Appends old.written new.written gained

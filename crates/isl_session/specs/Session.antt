@@ -5,20 +5,29 @@ use Rattle.isl_script.specs.Script.{IsOpen}
 use Rattle.isl_script.specs.Cutter.{IsAt}
 use Rattle.isl_values.specs.State.{Fits, IsSettled}
 use Rattle.isl_session.specs.declared.session.Session.TheInside.{Inside}
-use Rattle.isl_session.specs.declared.TheConstants.{SCRIPT_MAX, STATEMENT_MAX}
+use Rattle.isl_space.specs.Limits.{most_script_bytes, most_statement_bytes}
 use Rattle.isl_session.specs.Counts.{AreCounts}
 use Rattle.isl_session.specs.View.{View}
 
 abbrev pub view_of : Inside → View
-view_of s = record { state = s.state; rest = s.rest.items; room = vec_capacity s.rest; taken = s.taken; counts = s.counts; fault = s.fault; meter = s.meter; at = s.options.at }
+view_of s = record {
+  state = s.state;
+  rest = s.rest.items;
+  room = vec_capacity s.rest;
+  taken = s.taken;
+  counts = s.counts;
+  fault = s.fault;
+  meter = s.meter;
+  at = s.options.at;
+}
 
 pub record IsSound (s : Inside) : Type 0 where
   -- no statement ends in the bytes that are held, and the cutter stands behind them
   pub open_rest : IsOpen s.rest.items
   pub place : IsAt s.cutter s.rest.items
   pub held : length s.rest.items ≤ s.taken
-  pub short : length s.rest.items ≤ STATEMENT_MAX
-  pub within : s.taken ≤ SCRIPT_MAX
+  pub short : length s.rest.items ≤ most_statement_bytes
+  pub within : s.taken ≤ most_script_bytes
   pub answered : s.counts.statements ≤ s.taken
   pub counts : AreCounts s.counts
   pub fits : Fits (limit_of s.meter) s.state

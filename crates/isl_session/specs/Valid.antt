@@ -6,7 +6,7 @@ use Rattle.isl_text.specs.declared.refusal.Refusal.TheVariants.{NoMemory}
 use Rattle.isl_values.specs.State.{Moment}
 use Rattle.isl_eval.specs.Causes.{IsValid}
 use Rattle.isl_eval.specs.Run.{started}
-use Rattle.isl_session.specs.declared.TheConstants.{SCRIPT_MAX}
+use Rattle.isl_space.specs.Limits.{most_script_bytes}
 use Rattle.isl_session.specs.View.{AreShort, Gives}
 
 -- each of these statements is valid with what is bound before it
@@ -19,7 +19,7 @@ pub record IsValidScript (first : Moment) (script : List ℕ) : Type 0 where
   pub parts : AreValid first (statements script)
   pub blank : IsBlank (rest_of script)
   pub short : AreShort (statements script) (rest_of script)
-  pub within : length script ≤ SCRIPT_MAX
+  pub within : length script ≤ most_script_bytes
 
 -- only want of memory comes in the place of status 0
 abbrev pub IsDoneOrMemory : Option Refusal → Type 0

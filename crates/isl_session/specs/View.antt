@@ -1,5 +1,6 @@
 -- public: a session as it is seen from outside, and what a piece of a script does to it.
-use Rattle.std.specs.Prelude.{◌≡◌, ◌⊎◌, ℕ, ◌+◌, ◌<◌, ◌≤◌, List, [], ◌∷◌, ◌++◌, All, length, map, Option, Some, None, true, false, Result, MatchResult}
+use Rattle.std.specs.Prelude.{◌≡◌, ◌⊎◌, ℕ, ◌+◌, ◌<◌, ◌≤◌, List, [], ◌∷◌, ◌++◌, All, length, map, Option, Some, None, true, false, Result}
+use Rattle.std.specs.Prelude.{MatchResult}
 use Rattle.std.specs.List.{concat}
 use Rattle.isl_meter.specs.Gauge.{Gauge, IsCharged, IsKept}
 use Rattle.isl_space.specs.Valuation.{Valuation}
@@ -12,7 +13,7 @@ use Rattle.isl_eval.specs.Machine.{Answer}
 use Rattle.isl_eval.specs.Run.{Run, started}
 use Rattle.isl_session.specs.declared.counts.Counts.{Counts}
 use Rattle.isl_session.specs.declared.fault.Fault.{Fault}
-use Rattle.isl_session.specs.declared.TheConstants.{SCRIPT_MAX, STATEMENT_MAX}
+use Rattle.isl_space.specs.Limits.{most_script_bytes, most_statement_bytes}
 use Rattle.isl_session.specs.Counts.{counted, none}
 use Rattle.isl_session.specs.Place.{Place, at_words, in_statement, too_long, past_limit, at_end, at_read, at_write, anywhere, place_of}
 use Rattle.isl_words.specs.Options.{OptionsView}
@@ -52,7 +53,7 @@ fresh first =
 
 -- the session of a run, which has taken nothing and has memory for the longest statement
 abbrev pub opened : Moment → View
-opened first = record (fresh first) { room = STATEMENT_MAX }
+opened first = record (fresh first) { room = most_statement_bytes }
 
 -- These statements are answered one after another, with these texts.
 pub record Gives (before : Moment) (parts texts : List (List ℕ)) (after : Moment) : Type 0 where
@@ -66,8 +67,8 @@ pub record Carries (old new : Gauge) : Type 0 where
 
 -- none of these parts of a script has too many bytes, and the rest has not
 pub record AreShort (parts : List (List ℕ)) (rest : List ℕ) : Type 0 where
-  pub each : All (λ part. length part ≤ STATEMENT_MAX) parts
-  pub last : length rest ≤ STATEMENT_MAX
+  pub each : All (λ part. length part ≤ most_statement_bytes) parts
+  pub last : length rest ≤ most_statement_bytes
 
 -- A session took this piece, and answered each statement that the piece completed.
 pub record Fed (old : View) (piece : List ℕ) (answers : List (List ℕ)) (new : View) : Type 0 where
@@ -75,7 +76,7 @@ pub record Fed (old : View) (piece : List ℕ) (answers : List (List ℕ)) (new 
   pub rest : new.rest ≡ rest_of (old.rest ++ piece)
   pub short : AreShort (statements (old.rest ++ piece)) new.rest
   pub taken : new.taken ≡ old.taken + length piece
-  pub within : new.taken ≤ SCRIPT_MAX
+  pub within : new.taken ≤ most_script_bytes
   pub counts : new.counts ≡ counted old.counts run.answers
   pub sound : new.fault ≡ None
   pub meter : Carries old.meter new.meter
@@ -85,8 +86,8 @@ pub record Fed (old : View) (piece : List ℕ) (answers : List (List ℕ)) (new 
 -- A session without a fault, which holds no whole statement.
 pub record IsReady (view : View) : Type 0 where
   pub open_rest : IsOpen view.rest
-  pub short : length view.rest ≤ STATEMENT_MAX
-  pub within : view.taken ≤ SCRIPT_MAX
+  pub short : length view.rest ≤ most_statement_bytes
+  pub within : view.taken ≤ most_script_bytes
   pub sound : view.fault ≡ None
 
 -- Why a byte is not taken, by the place of the refusal: the statement that it ends is refused, or it is one byte too many for a
@@ -94,12 +95,13 @@ pub record IsReady (view : View) : Type 0 where
 -- the refusal.
 abbrev pub BreaksIn : Place → View → ℕ → Gauge → Refusal → Type 0
 BreaksIn in_statement view byte now refusal =
-    (view.taken < SCRIPT_MAX) × (ends view.rest byte ≡ true) × Refuses (started (moment_of view)) view.rest now refusal
-BreaksIn too_long view byte now refusal = (view.taken < SCRIPT_MAX) × (ends view.rest byte ≡ false) × (length view.rest ≡ STATEMENT_MAX)
-BreaksIn past_limit view byte now refusal = view.taken ≡ SCRIPT_MAX
+    (view.taken < most_script_bytes) × (ends view.rest byte ≡ true) × Refuses (started (moment_of view)) view.rest now refusal
+BreaksIn too_long view byte now refusal = (view.taken < most_script_bytes) × (ends view.rest byte ≡ false)
+    × (length view.rest ≡ most_statement_bytes)
+BreaksIn past_limit view byte now refusal = view.taken ≡ most_script_bytes
 BreaksIn anywhere view byte now refusal =
-    (view.taken < SCRIPT_MAX) × (((ends view.rest byte ≡ true) × Refuses (started (moment_of view)) view.rest now refusal)
-    ⊎ ((length view.rest < STATEMENT_MAX) × (view.room ≤ length view.rest) × (now ≡ view.meter)))
+    (view.taken < most_script_bytes) × (((ends view.rest byte ≡ true) × Refuses (started (moment_of view)) view.rest now refusal)
+    ⊎ ((length view.rest < most_statement_bytes) × (view.room ≤ length view.rest) × (now ≡ view.meter)))
 BreaksIn at_words view byte now refusal = ⊥
 BreaksIn at_end view byte now refusal = ⊥
 BreaksIn at_read view byte now refusal = ⊥
@@ -138,8 +140,8 @@ pub record Stopped (old : View) (piece : List ℕ) (answers : List (List ℕ)) (
 pub record HasRoomFor (view : View) (piece : List ℕ) : Type 0 where
   pub none : statements (view.rest ++ piece) ≡ []
   pub room : length (view.rest ++ piece) ≤ view.room
-  pub short : length (view.rest ++ piece) ≤ STATEMENT_MAX
-  pub within : view.taken + length piece ≤ SCRIPT_MAX
+  pub short : length (view.rest ++ piece) ≤ most_statement_bytes
+  pub within : view.taken + length piece ≤ most_script_bytes
 
 -- what a piece does to a session without a fault, and to the text of its answers
 abbrev pub Feeds : View → List ℕ → List ℕ → List ℕ → View → Result (Unit {0}) Fault → Type 0
@@ -151,4 +153,5 @@ Feeds old piece text_before text new result = MatchResult result
 abbrev pub Finishes : View → View → Result (Unit {0}) Fault → Type 0
 Finishes old new result = MatchResult result
     (λ _. IsBlank old.rest × (new ≡ old))
-    (λ fault. (IsBlank old.rest → ⊥) × (fault ≡ record { statement = old.counts.statements + 1; refusal = Unfinished }) × (new ≡ record old { fault = Some fault }))
+    (λ fault. (¬ IsBlank old.rest) × (fault ≡ record { statement = old.counts.statements + 1; refusal = Unfinished })
+    × (new ≡ record old { fault = Some fault }))

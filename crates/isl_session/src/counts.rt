@@ -1,9 +1,9 @@
 //! What a session has answered, in numbers.
 
 ghost use Rattle.std.specs.Prelude.{◌≡◌, ◌+◌, ◌≤◌, ◌<◌, ◌^◌, if◌then◌else◌};
+ghost use Rattle.isl_space.specs.Limits.{most_script_bytes};
 ghost use Rattle.isl_session.specs.Counts.{AreCounts, none};
 
-use crate::SCRIPT_MAX;
 use isl_eval::Tally;
 
 /// How many statements were answered, how many of the answers are `True`, and how many elements they list. The counts are exact:
@@ -29,7 +29,7 @@ impl Counts {
 
     // With one more answer.
     pub(crate) fn plus(self, tally: Tally) -> Counts
-        requires few { self.statements < SCRIPT_MAX }
+        requires few { self.statements < most_script_bytes }
         requires counts { AreCounts self }
         ensures sum { result ≡ record {
           statements = self.statements + 1;

@@ -16,9 +16,3 @@ pub use isl_words::{Options, WordsFault};
 pub use program::{refuse_words, run};
 pub use session::Session;
 pub use status::Status;
-
-/// The most bytes of a statement, blanks and comments counted and its `;` not, and of the rest.
-pub const STATEMENT_MAX: usize = 1 << 20;
-
-/// The most bytes of a script that belong to its statements and its rest.
-pub const SCRIPT_MAX: u64 = 1 << 30;

@@ -1,10 +1,12 @@
 //! The whole program over a source and two sinks.
 
-ghost use Rattle.std.specs.Prelude.{◌≡◌, ◌≢◌, ◌⊎◌, ◌+◌, ◌<◌, ◌≤◌, ℕ, List, [], length, map, string_bytes, Err, Some, None, OnOk, IfErr, IfSome, IsNone, IsSome};
+ghost use Rattle.std.specs.Prelude.{◌≡◌, ◌≢◌, ◌⊎◌, ◌+◌, ◌<◌, ◌≤◌, ℕ, List, [], length, map, string_bytes, Err, Some, None, OnOk};
+ghost use Rattle.std.specs.Prelude.{IfErr, IfSome, IsNone, IsSome};
 ghost use Rattle.std.specs.List.{concat};
 ghost use Rattle.std.specs.Io.KnownBytes.{Appends, Consumes, IsAtEnd};
 ghost use Rattle.isl_math.specs.Count.{Rose};
 ghost use Rattle.isl_meter.specs.Gauge.{Gauge};
+ghost use Rattle.isl_space.specs.Limits.{most_script_bytes};
 ghost use Rattle.isl_script.specs.Script.{IsBlank};
 ghost use Rattle.isl_words.specs.Options.{OptionsView};
 ghost use Rattle.isl_words.specs.Taken.{AreTaken};
@@ -15,9 +17,10 @@ ghost use Rattle.isl_session.specs.Run.{Answered, Halts, outside};
 ghost use Rattle.isl_session.specs.Valid.{IsValidScript, IsDoneOrMemory};
 
 use crate::write::{write_all, write_fault, write_usage};
-use crate::{Fault, SCRIPT_MAX, STATEMENT_MAX, Session, Status};
+use crate::{Fault, Session, Status};
 use isl_io::{Failed, Sink, Source};
 use isl_meter::Meter;
+use isl_space::limits::{SCRIPT_MAX, STATEMENT_MAX};
 use isl_text::refusal::Refusal;
 use isl_words::{WordsFault, read_words};
 use std::alloc::{AllocError, Global};
@@ -64,10 +67,10 @@ fn answer_piece<K: Sink>(
 // behind the last that a script may have.
 fn room_for(taken: u64, most: usize) -> usize
     requires room { 0 < most }
-    requires within { taken ≤ SCRIPT_MAX }
+    requires within { taken ≤ most_script_bytes }
     ensures some { 0 < result }
     ensures most { result ≤ most }
-    ensures few { taken + result ≤ SCRIPT_MAX + 1 }
+    ensures few { taken + result ≤ most_script_bytes + 1 }
 {
     let left = SCRIPT_MAX + 1 - taken;
     left.min(most as u64) as usize
@@ -91,7 +94,7 @@ fn answer_all<S: Source, K: Sink>(
         × Fed session.old taken answers session.new) }
     ensures err { IfErr result (λ fault. (taken : List ℕ) × (gained : List ℕ)
         × Consumes (S.left src.old) (S.left src.new) taken
-        × (length taken ≤ SCRIPT_MAX + 1)
+        × (length taken ≤ most_script_bytes + 1)
         × Appends (K.written out.old) (K.written out.new) gained
         × Halts (Rose (S.faults src.old) (S.faults src.new)) (Rose (K.faults out.old) (K.faults out.new)) ⊥
         session.old taken gained session.new fault (place_of fault.refusal)) }
@@ -134,7 +137,7 @@ fn run_session<S: Source, K: Sink>(
         × Fed session.old taken answers session.new × IsBlank session.new.rest) }
     ensures err { IfErr result (λ fault. (taken : List ℕ) × (gained : List ℕ)
         × Consumes (S.left src.old) (S.left src.new) taken
-        × (length taken ≤ SCRIPT_MAX + 1)
+        × (length taken ≤ most_script_bytes + 1)
         × Appends (K.written out.old) (K.written out.new) gained
         × Halts (Rose (S.faults src.old) (S.faults src.new)) (Rose (K.faults out.old) (K.faults out.new))
         (IsAtEnd (S.left src.new)) session.old taken gained session.new fault (place_of fault.refusal)) }
@@ -153,7 +156,7 @@ fn run_session<S: Source, K: Sink>(
 // Tells of a fault. The status is that of its cause, whatever becomes of the line.
 fn refuse<E: Sink>(err: &mut E, fault: Fault, meter: Option<Meter>) -> Status
     ensures status { result ≡ record { refusal = Some fault.refusal; meter = meter } }
-    ensures line { (Rose (E.faults err.old) (E.faults err.new) → ⊥)
+    ensures line { ¬ (Rose (E.faults err.old) (E.faults err.new))
         → Appends (E.written err.old) (E.written err.new) (fault_line fault) }
 {
     let _ = write_fault(err, fault);
@@ -163,7 +166,7 @@ fn refuse<E: Sink>(err: &mut E, fault: Fault, meter: Option<Meter>) -> Status
 // Tells how the program is used. The status is that of words which are not taken, whatever becomes of the line.
 fn refuse_usage<E: Sink>(err: &mut E) -> Status
     ensures status { result ≡ record { refusal = Some Refusal.Usage; meter = None } }
-    ensures line { (Rose (E.faults err.old) (E.faults err.new) → ⊥)
+    ensures line { ¬ (Rose (E.faults err.old) (E.faults err.new))
         → Appends (E.written err.old) (E.written err.new) usage_line }
 {
     let _ = write_usage(err);
@@ -187,16 +190,22 @@ fn run_script<S: Source, K: Sink, E: Sink>(
         (E.written err.new) (E.faults err.new))
         result }
     ensures quiet { result.refusal ≡ None → err.new ≡ err.old }
+
+    // Each fault of the status was counted.
     ensures read_fault { result.refusal ≡ Some Refusal.ReadFault
         → Rose (S.faults src.old) (S.faults src.new) }
     ensures write_fault { result.refusal ≡ Some Refusal.WriteFault
         → Rose (K.faults out.old) (K.faults out.new) }
-    ensures reads { result.refusal ≢ Some Refusal.ReadFault → S.faults src.new ≡ S.faults src.old }
-    ensures writes { result.refusal ≢ Some Refusal.WriteFault → K.faults out.new ≡ K.faults out.old }
     ensures overflow { result.refusal ≡ Some Refusal.Overflow
         → IfSome result.meter (λ meter. Rose 0 meter.overflows) }
     ensures budget { result.refusal ≡ Some Refusal.Budget
         → IfSome result.meter (λ meter. (meter.budget ≤ meter.units) × Rose 0 meter.spents) }
+
+    // A read that failed is what the status tells, and so is a failed write of an answer.
+    ensures reads { result.refusal ≢ Some Refusal.ReadFault → S.faults src.new ≡ S.faults src.old }
+    ensures writes { result.refusal ≢ Some Refusal.WriteFault → K.faults out.new ≡ K.faults out.old }
+
+    // The words were taken, and there is a session.
     ensures no_usage { result.refusal ≢ Some Refusal.Usage }
     ensures session { IsSome result.meter }
 {
@@ -212,7 +221,7 @@ fn run_script<S: Source, K: Sink, E: Sink>(
 // speaks of statement 1, since none was answered.
 fn refuse_memory<E: Sink>(err: &mut E) -> Status
     ensures status { result ≡ record { refusal = Some Refusal.NoMemory; meter = None } }
-    ensures line { (Rose (E.faults err.old) (E.faults err.new) → ⊥)
+    ensures line { ¬ (Rose (E.faults err.old) (E.faults err.new))
         → Appends (E.written err.old) (E.written err.new)
         (fault_line (record { statement = 1; refusal = Refusal.NoMemory })) }
 {
@@ -226,7 +235,7 @@ fn refuse_memory<E: Sink>(err: &mut E) -> Status
 /// Tells that there are no words to run with: they are no text, or memory ended while they were handed over. Nothing is read.
 pub fn refuse_words<E: Sink>(err: &mut E, fault: WordsFault) -> Status
     ensures status { result ≡ record { refusal = Some (words_refusal fault); meter = None } }
-    ensures line { (Rose (E.faults err.old) (E.faults err.new) → ⊥)
+    ensures line { ¬ (Rose (E.faults err.old) (E.faults err.new))
         → Appends (E.written err.old) (E.written err.new) (words_line fault) }
 {
     match fault {
@@ -239,8 +248,7 @@ pub fn refuse_words<E: Sink>(err: &mut E, fault: WordsFault) -> Status
 /// a refusal on `err`.
 ///
 /// The words, of which the first is the program's name, choose the options of the session. Whether loops are run has no effect yet. Each
-/// statement is answered as soon as it is read, before the bytes behind it
-/// are taken; no more than 2^30 + 1 bytes are read.
+/// statement is answered as soon as it is read, before the bytes behind it are taken; no more than 2^30 + 1 bytes are read.
 pub fn run<S: Source, K: Sink, E: Sink>(
     alloc: Global,
     words: &[String],
@@ -248,7 +256,7 @@ pub fn run<S: Source, K: Sink, E: Sink>(
     out: &mut K,
     err: &mut E,
 ) -> Status
-    // For every script, however its bytes arrive, and whatever the ends tell.
+    // Who hands over a script: what is read of it, answered, written and told, however its bytes arrive and whatever the ends tell.
     ensures answered { (options : OptionsView) → AreTaken (map string_bytes words.now) options → IsSome result.meter
         → (script : List ℕ) × Answered (begun options) script
         (outside (S.left src.old) (S.faults src.old) (K.written out.old) (K.faults out.old)
@@ -258,16 +266,16 @@ pub fn run<S: Source, K: Sink, E: Sink>(
         result }
     ensures quiet { result.refusal ≡ None → err.new ≡ err.old }
 
-    // A valid script is answered whole, unless memory ends or a count rises.
+    // Who hands over a valid one: it is answered whole, unless memory ends or a count rises.
     ensures complete { (options : OptionsView) → AreTaken (map string_bytes words.now) options
         → (script : List ℕ) → S.left src.old ≡ Some script
         → IsValidScript (begun options) script
-        → (Rose (S.faults src.old) (S.faults src.new) → ⊥)
-        → (Rose (K.faults out.old) (K.faults out.new) → ⊥)
-        → ((meter : Gauge) → result.meter ≡ Some meter → (Rose 0 meter.overflows → ⊥) × (Rose 0 meter.spents → ⊥))
+        → ¬ (Rose (S.faults src.old) (S.faults src.new))
+        → ¬ (Rose (K.faults out.old) (K.faults out.new))
+        → ((meter : Gauge) → result.meter ≡ Some meter → (¬ Rose 0 meter.overflows) × (¬ Rose 0 meter.spents))
         → IsDoneOrMemory result.refusal }
 
-    // The counted faults.
+    // Who reads the status: each fault that it can tell by was counted, in this run and at its own place.
     ensures read_fault { result.refusal ≡ Some Refusal.ReadFault
         → Rose (S.faults src.old) (S.faults src.new) }
     ensures write_fault { result.refusal ≡ Some Refusal.WriteFault
@@ -277,11 +285,11 @@ pub fn run<S: Source, K: Sink, E: Sink>(
     ensures budget { result.refusal ≡ Some Refusal.Budget
         → IfSome result.meter (λ meter. (meter.budget ≤ meter.units) × Rose 0 meter.spents) }
 
-    // A read that failed ends the run, and so does a failed write of an answer.
+    // Who owns the ends: a read that failed is what the status tells, and so is a failed write of an answer.
     ensures reads { result.refusal ≢ Some Refusal.ReadFault → S.faults src.new ≡ S.faults src.old }
     ensures writes { result.refusal ≢ Some Refusal.WriteFault → K.faults out.new ≡ K.faults out.old }
 
-    // Other words are refused before anything is read, and the usage line is told, unless memory ends while they are read.
+    // Who writes the words: others are refused before anything is read, and the usage line is told, unless memory ends before.
     ensures usage { ((options : OptionsView) → ¬ (AreTaken (map string_bytes words.now) options))
         → IsNone result.meter }
     ensures only_usage { result.refusal ≡ Some Refusal.Usage
@@ -289,10 +297,10 @@ pub fn run<S: Source, K: Sink, E: Sink>(
     ensures session { IsNone result.meter → (src.new ≡ src.old) × (out.new ≡ out.old)
         × ((result.refusal ≡ Some Refusal.Usage) ⊎ (result.refusal ≡ Some Refusal.NoMemory)) }
     ensures usage_line { result.refusal ≡ Some Refusal.Usage
-        → (Rose (E.faults err.old) (E.faults err.new) → ⊥)
+        → ¬ (Rose (E.faults err.old) (E.faults err.new))
         → Appends (E.written err.old) (E.written err.new) usage_line }
     ensures memory_line { IsNone result.meter → result.refusal ≡ Some Refusal.NoMemory
-        → (Rose (E.faults err.old) (E.faults err.new) → ⊥)
+        → ¬ (Rose (E.faults err.old) (E.faults err.new))
         → Appends (E.written err.old) (E.written err.new)
         (fault_line (record { statement = 1; refusal = Refusal.NoMemory })) }
 {

@@ -1,19 +1,23 @@
 //! A session takes a script in pieces of any length, and answers each statement as soon as it is complete.
 
-ghost use Rattle.std.specs.Prelude.{◌≡◌, ◌+◌, ◌<◌, ◌≤◌, ◌++◌, [], ◌∷◌, ℕ, List, length, take, false, Some, None, IfSome, IfNone, IfErr, IfOk, IsOk, OnOk};
+ghost use Rattle.std.specs.Prelude.{◌≡◌, ◌+◌, ◌<◌, ◌≤◌, ◌++◌, [], ◌∷◌, ℕ, List, length, take, false, Some, None, IfSome, IfNone, IfErr};
+ghost use Rattle.std.specs.Prelude.{IfOk, IsOk, OnOk};
 ghost use Rattle.std.specs.List.{concat};
 ghost use Rattle.isl_math.specs.Count.{Rose};
+ghost use Rattle.isl_space.specs.Limits.{most_script_bytes, most_statement_bytes};
 ghost use Rattle.isl_script.specs.Script.{statements, rest_of};
 ghost use Rattle.isl_session.specs.Valid.{AreValid};
 ghost use Rattle.isl_session.specs.Counts.{AreCounts};
-ghost use Rattle.isl_session.specs.View.{AreShort, Fed, Feeds, Finishes, HasRoomFor, IsReady, IsRefusedAt, Stopped, begun, fresh, moment_of};
+ghost use Rattle.isl_session.specs.View.{AreShort, Fed, Feeds, Finishes, HasRoomFor, IsReady, IsRefusedAt, Stopped};
+ghost use Rattle.isl_session.specs.View.{begun, fresh, moment_of};
 
-use crate::{Counts, Fault, Options, SCRIPT_MAX, STATEMENT_MAX};
+use crate::{Counts, Fault, Options};
 use isl_eval::answer;
 use isl_meter::Meter;
-use isl_values::State;
 use isl_script::Cutter;
+use isl_space::limits::{SCRIPT_MAX, STATEMENT_MAX};
 use isl_text::refusal::Refusal;
+use isl_values::State;
 use std::alloc::{AllocError, Global};
 use std::marker::Model;
 
@@ -126,8 +130,8 @@ impl Session {
         Ok(false)
     }
 
-    /// Takes the front of a piece up to the first end of a statement in it, or all of it, and appends the answer
-    /// of that statement. It tells how many bytes it took.
+    // Takes the front of a piece up to the first end of a statement in it, or all of it, and appends the answer
+    // of that statement. It tells how many bytes it took.
     pub(crate) fn take_front(&mut self, piece: &[u8], text: &mut Vec<u8>) -> Result<usize, Fault>
         requires { IsReady self.old }
         ensures ok { IfOk result (λ n. (n ≤ length piece.now) × (0 < length piece.now → 0 < n)
@@ -159,9 +163,9 @@ impl Session {
         ensures complete { IfNone self.old.fault
             (AreValid (moment_of self.old) (statements (self.old.rest ++ piece.now))
             → AreShort (statements (self.old.rest ++ piece.now)) (rest_of (self.old.rest ++ piece.now))
-            → self.old.taken + length piece.now ≤ SCRIPT_MAX
-            → (Rose self.old.meter.overflows self.new.meter.overflows → ⊥)
-            → (Rose self.old.meter.spents self.new.meter.spents → ⊥)
+            → self.old.taken + length piece.now ≤ most_script_bytes
+            → ¬ (Rose self.old.meter.overflows self.new.meter.overflows)
+            → ¬ (Rose self.old.meter.spents self.new.meter.spents)
             → IfErr result (λ fault. fault.refusal ≡ Refusal.NoMemory)) }
 
         // Bytes that are only held, within the room, are taken without asking for memory.
@@ -197,8 +201,8 @@ impl Session {
         Err(self.refuse(Refusal::Unfinished))
     }
 
-    /// Keeps the fault of a session that is refused now: it speaks of the statement behind those that were
-    /// answered.
+    // Keeps the fault of a session that is refused now: it speaks of the statement behind those that were
+    // answered.
     pub(crate) fn refuse(&mut self, refusal: Refusal) -> Fault
         ensures fault { result ≡ record { statement = self.old.counts.statements + 1; refusal = refusal } }
         ensures kept { self.new ≡ record self.old { fault = Some result } }
@@ -215,7 +219,7 @@ impl Session {
     pub fn counts(&self) -> Counts
         ensures counts { result ≡ self.now.counts }
         ensures sound { AreCounts result }
-        ensures few { result.statements ≤ SCRIPT_MAX }
+        ensures few { result.statements ≤ most_script_bytes }
     {
         self.counts
     }
@@ -223,7 +227,7 @@ impl Session {
     // How many statements were answered.
     pub(crate) fn answered(&self) -> u64
         ensures count { result ≡ self.now.counts.statements }
-        ensures few { result ≤ SCRIPT_MAX }
+        ensures few { result ≤ most_script_bytes }
     {
         self.counts.statements
     }
@@ -231,7 +235,7 @@ impl Session {
     /// How many bytes are held: those behind the last statement's end, blanks and comments counted.
     pub fn held(&self) -> usize
         ensures count { result ≡ length self.now.rest }
-        ensures few { result ≤ STATEMENT_MAX }
+        ensures few { result ≤ most_statement_bytes }
     {
         self.rest.len()
     }
@@ -243,10 +247,10 @@ impl Session {
         self.rest.capacity()
     }
 
-    /// How many bytes of the script were taken.
+    // How many bytes of the script were taken.
     pub(crate) fn taken(&self) -> u64
         ensures count { result ≡ self.now.taken }
-        ensures few { result ≤ SCRIPT_MAX }
+        ensures few { result ≤ most_script_bytes }
     {
         self.taken
     }
@@ -258,7 +262,7 @@ impl Session {
         &self.meter
     }
 
-    /// Gives the session up, and keeps its meter.
+    // Gives the session up, and keeps its meter.
     pub(crate) fn into_meter(self) -> Meter
         ensures { result ≡ self.meter }
     {

@@ -11,7 +11,7 @@ use isl_io::{Failed, Sink};
 use isl_text::refusal::Refusal;
 use itoa::Buffer;
 
-/// Writes the whole text. Where a write fails, a front of it was written.
+// Writes the whole text. Where a write fails, a front of it was written.
 pub(crate) fn write_all<K: Sink>(out: &mut K, text: &[u8]) -> Result<(), Failed>
     ensures ok { OnOk result (Appends (K.written out.old) (K.written out.new) text.now) }
     ensures err { OnErr result ((n : ℕ) × (n < length text.now)
@@ -27,7 +27,7 @@ pub(crate) fn write_all<K: Sink>(out: &mut K, text: &[u8]) -> Result<(), Failed>
     Ok(())
 }
 
-/// A line on the stack, with room for each that is told.
+// A line on the stack, with room for each that is told.
 type Line = ArrayVec<u8, 128>;
 
 fn push(line: &mut Line, text: &[u8])
@@ -51,7 +51,7 @@ fn line_of(fault: Fault) -> Line
     line
 }
 
-/// Writes the line that tells of a fault, at once where the sink takes it whole. It takes no memory.
+// Writes the line that tells of a fault, at once where the sink takes it whole. It takes no memory.
 pub(crate) fn write_fault<E: Sink>(err: &mut E, fault: Fault) -> Result<(), Failed>
     ensures ok { OnOk result (Appends (E.written err.old) (E.written err.new) (fault_line fault)) }
     ensures no_fewer_faults { E.faults err.old ≤ E.faults err.new }
@@ -60,7 +60,7 @@ pub(crate) fn write_fault<E: Sink>(err: &mut E, fault: Fault) -> Result<(), Fail
     write_all(err, line_of(fault).as_slice())
 }
 
-/// Writes the usage line, at once where the sink takes it whole. It takes no memory.
+// Writes the usage line, at once where the sink takes it whole. It takes no memory.
 pub(crate) fn write_usage<E: Sink>(err: &mut E) -> Result<(), Failed>
     ensures ok { OnOk result (Appends (E.written err.old) (E.written err.new) usage_line) }
     ensures no_fewer_faults { E.faults err.old ≤ E.faults err.new }

@@ -8,6 +8,7 @@ use Rattle.clap.specs.Simple.{matches_of}
 use Rattle.isl_space.specs.Name.{IsLiteralName}
 use Rattle.isl_words.specs.Binding.{is_comma}
 use Rattle.isl_words.specs.Options.{OptionsView, AreNumbers, IsChoice}
+use Rattle.isl_words.specs.Options.{least_bits, most_bits, usual_bits, least_budget, most_budget, usual_budget}
 use Rattle.isl_words.specs.Taken.{AreGiven, AreTaken, Chooses, chosen}
 use Rattle.isl_words.specs.Table.{table}
 use Rattle.isl_words.proofs.NumberLemmas.{some_same, number_range}
@@ -55,8 +56,8 @@ taken_once words a b first second = chooses_once (matches_of table words) a b fi
 
 chooses_choice : (rows : List Row) (a : OptionsView) → Chooses rows a → IsChoice a
 chooses_choice rows a is = record {
-  bits = chosen_range 8 127 127 (first_of (codes "bits") rows) a.bits (omega arith) (omega arith) is.bits;
-  budget = chosen_range 1 (10 ^ 12) (10 ^ 7) (first_of (codes "budget") rows) a.budget (omega arith) (omega arith) is.budget;
+  bits = chosen_range least_bits most_bits usual_bits (first_of (codes "bits") rows) a.bits (omega arith) (omega arith) is.bits;
+  budget = chosen_range least_budget most_budget usual_budget (first_of (codes "budget") rows) a.budget (omega arith) (omega arith) is.budget;
   at = given_numbers (2 ^ a.bits - 1) (first_of (codes "at") rows) a.at is.at;
 }
 

@@ -3,6 +3,26 @@ use Rattle.std.specs.Prelude.{ℕ, ℤ, ◌-◌, ◌^◌, ◌≤◌, Bool, List,
 use Rattle.isl_space.specs.Name.{Name, IsLiteralName}
 use Rattle.isl_space.specs.Names.{AreDistinct}
 
+-- the fewest and the most bits that the magnitudes of numbers may have, and how many they have where none are chosen
+abbrev pub least_bits : ℕ
+least_bits = 8
+
+abbrev pub most_bits : ℕ
+most_bits = 127
+
+abbrev pub usual_bits : ℕ
+usual_bits = 127
+
+-- the fewest and the most units of work that a statement may be given, and how many it has where none are chosen
+abbrev pub least_budget : ℕ
+least_budget = 1
+
+abbrev pub most_budget : ℕ
+most_budget = 10 ^ 12
+
+abbrev pub usual_budget : ℕ
+usual_budget = 10 ^ 7
+
 -- the bits of numbers; the units that a statement may use; the numbers of parameters; whether loops are run
 pub record OptionsView : Type 0 where
   pub bits : ℕ
@@ -18,6 +38,6 @@ pub record AreNumbers (limit : ℕ) (at : List (Name × ℤ)) : Type 0 where
 
 -- what may be chosen: the numbers of parameters are within the limit of the bits
 pub record IsChoice (options : OptionsView) : Type 0 where
-  pub bits : (8 ≤ options.bits) × (options.bits ≤ 127)
-  pub budget : (1 ≤ options.budget) × (options.budget ≤ 10 ^ 12)
+  pub bits : (least_bits ≤ options.bits) × (options.bits ≤ most_bits)
+  pub budget : (least_budget ≤ options.budget) × (options.budget ≤ most_budget)
   pub at : AreNumbers (2 ^ options.bits - 1) options.at

@@ -7,19 +7,19 @@ use Rattle.clap.specs.Simple.{matches_of}
 use Rattle.clap.specs.Faults.{fault_of}
 use Rattle.isl_words.specs.Number.{number}
 use Rattle.isl_words.specs.Binding.{AreBindings}
-use Rattle.isl_words.specs.Options.{OptionsView}
+use Rattle.isl_words.specs.Options.{OptionsView, least_bits, most_bits, usual_bits, least_budget, most_budget, usual_budget}
 use Rattle.isl_words.specs.Table.{table}
 
 -- the number between the two that is given, or the usual one where none is given
 abbrev pub chosen : ℕ → ℕ → ℕ → Option Text → Option ℕ
 chosen low high usual given = option_map_or (number low high) given (Some usual)
 
--- B of `--bits B`, 127 where it is left out; N of `--budget N`, 10^7 where it is left out
+-- B of `--bits B`, the usual bits where it is left out; N of `--budget N`, the usual budget where it is left out
 abbrev pub bits_of : Option Text → Option ℕ
-bits_of given = chosen 8 127 127 given
+bits_of given = chosen least_bits most_bits usual_bits given
 
 abbrev pub budget_of : Option Text → Option ℕ
-budget_of given = chosen 1 (10 ^ 12) (10 ^ 7) given
+budget_of given = chosen least_budget most_budget usual_budget given
 
 -- the bindings of `--at NAME=INT,..`, none where it is left out
 abbrev pub AreGiven : ℕ → Option Text → List (List ℕ × ℤ) → Type 0

@@ -6,6 +6,20 @@ ghost use Rattle.isl_words.specs.Options.{IsChoice};
 use isl_space::Name;
 use std::marker::Model;
 
+// The fewest and the most bits that the magnitudes of numbers may have, and how many they have where none are chosen.
+pub(crate) const MIN_BITS: u128 = 8;
+
+pub(crate) const MAX_BITS: u128 = 127;
+
+pub(crate) const USUAL_BITS: u128 = 127;
+
+// The fewest and the most units of work that a statement may be given, and how many it has where none are chosen.
+pub(crate) const MIN_BUDGET: u128 = 1;
+
+pub(crate) const MAX_BUDGET: u128 = 1_000_000_000_000;
+
+pub(crate) const USUAL_BUDGET: u128 = 10_000_000;
+
 /// What a session works with.
 #[derive(Drop)]
 pub struct Options {

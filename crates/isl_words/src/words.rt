@@ -3,14 +3,16 @@
 ghost use Rattle.std.specs.Prelude.{◌≡◌, ◌-◌, ◌<◌, ◌≤◌, ◌^◌, ℕ, ℤ, List, Err, IfOk, IfSome, map, string_bytes};
 ghost use Rattle.std.specs.Option.{option_copied};
 ghost use Rattle.clap.specs.Words.{Text, first_of, rows_of, found_of};
-ghost use Rattle.isl_words.specs.Options.{OptionsView, AreNumbers, IsChoice};
+ghost use Rattle.isl_words.specs.Options.{OptionsView, AreNumbers, IsChoice, most_bits};
 ghost use Rattle.isl_words.specs.Taken.{AreGiven, AreTaken, Chooses, chosen, is_set};
 
 use crate::binding::read_bindings;
 use crate::command::parse;
 use crate::fault::WordsFault;
 use crate::number::read_number;
-use crate::options::Options;
+use crate::options::{
+    MAX_BITS, MAX_BUDGET, MIN_BITS, MIN_BUDGET, Options, USUAL_BITS, USUAL_BUDGET,
+};
 use clap::ArgMatches;
 use clap::error::ErrorKind;
 use isl_space::Name;
@@ -69,7 +71,7 @@ fn is_set(given: Option<&str>) -> bool
 
 // The greatest magnitude of numbers with these bits.
 fn limit_of(bits: u32) -> u128
-    requires { bits ≤ 127 }
+    requires { bits ≤ most_bits }
     ensures value { result ≡ 2 ^ bits - 1 }
     ensures small { result < 2 ^ 127 }
 {
@@ -83,11 +85,11 @@ fn options_in(alloc: Global, matches: &ArgMatches<'_>) -> Result<Options, WordsF
         → (options : OptionsView) → ¬ (Chooses (rows_of (found_of matches.now)) options) }
 {
     let bits_given = value_of(matches, "bits");
-    let Some(bits) = number_or(bits_given, 8, 127, 127) else {
+    let Some(bits) = number_or(bits_given, MIN_BITS, MAX_BITS, USUAL_BITS) else {
         return Err(WordsFault::Usage);
     };
     let budget_given = value_of(matches, "budget");
-    let Some(budget) = number_or(budget_given, 1, 1_000_000_000_000, 10_000_000) else {
+    let Some(budget) = number_or(budget_given, MIN_BUDGET, MAX_BUDGET, USUAL_BUDGET) else {
         return Err(WordsFault::Usage);
     };
     let bits = bits as u32;

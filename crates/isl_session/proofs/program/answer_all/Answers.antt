@@ -14,7 +14,15 @@ use Rattle.isl_session.proofs.HaltLemmas.{halts_on}
 use Rattle.isl_session.proofs.program.answer_all.Goals as goal
 
 pub reads-init : goal.reads-init
-reads-init g c = ([], [], Consumes-nil (g.S.Source.left c.args.src.now), Appends-nil (g.K.Sink.written c.args.out.now), ready_fed c.args.session.now c.requires.ready, refl, refl)
+reads-init g c = (
+  [],
+  [],
+  Consumes-nil (g.S.Source.left c.args.src.now),
+  Appends-nil (g.K.Sink.written c.args.out.now),
+  ready_fed c.args.session.now c.requires.ready,
+  refl,
+  refl,
+)
 
 pub answer_piece-requires : goal.answer_piece-requires
 answer_piece-requires g c =
@@ -39,10 +47,24 @@ returns-in-Err-answer_piece-clause-err g c =
       so_far.0 ++ piece,
       concat so_far.1 ++ err.0,
       Consumes-trans _ _ _ _ _ so_far.2 c.in-Ok.ensures.bytes.0,
-      omega (arith, length-append so_far.0 piece, length-take c.in-Ok.n c.read.new.buf, c.in-Ok.ensures.fits, c.read.auto.buf, room, so_far.4.taken, c.requires.first, c.taken.ensures.count, c.room_for-room.ensures.few, c.room_for-room.ensures.most),
+      omega (
+        arith,
+        length-append so_far.0 piece,
+        length-take c.in-Ok.n c.read.new.buf,
+        c.in-Ok.ensures.fits,
+        c.read.auto.buf,
+        room,
+        so_far.4.taken,
+        c.requires.first,
+        c.taken.ensures.count,
+        c.room_for-room.ensures.few,
+        c.room_for-room.ensures.most,
+      ),
       Appends-trans _ _ _ _ _ so_far.3 err.1,
-      subst (λ (l : List ℕ). Halts read_failed write_failed ⊥ old (so_far.0 ++ l) (concat so_far.1 ++ err.0) new fault (place_of fault.refusal)) (append-nil piece)
-          (halts_on read_failed write_failed ⊥ failed_now later old so_far.0 so_far.1 c.reads.session piece [] err.0 new fault so_far.4 (place_of fault.refusal) err.2),
+      subst (λ (l : List ℕ). Halts read_failed write_failed ⊥ old (so_far.0 ++ l) (concat so_far.1 ++ err.0) new fault
+          (place_of fault.refusal)) (append-nil piece)
+          (halts_on read_failed write_failed ⊥ failed_now later old so_far.0 so_far.1 c.reads.session piece [] err.0 new fault so_far.4
+          (place_of fault.refusal) err.2),
     )
 
 pub reads-preserved : goal.reads-preserved
@@ -54,7 +76,8 @@ reads-preserved g c =
       so_far.0 ++ piece,
       so_far.1 ++ ok.0,
       Consumes-trans _ _ _ _ _ so_far.2 c.in-Ok.ensures.bytes.0,
-      subst (λ (l : List ℕ). Appends (written c.args.out.now) (written c.answer_piece.new.out) l) (sym (concat-append so_far.1 ok.0)) (Appends-trans _ _ _ _ _ so_far.3 ok.1),
+      subst (λ (l : List ℕ). Appends (written c.args.out.now) (written c.answer_piece.new.out) l) (sym (concat-append so_far.1 ok.0))
+          (Appends-trans _ _ _ _ _ so_far.3 ok.1),
       Fed-append c.args.session.now so_far.0 so_far.1 c.reads.session piece ok.0 c.answer_piece.new.session so_far.4 ok.2,
       c.in-Ok.ensures.kept ∙ so_far.5,
       c.in_default.ensures.kept ∙ so_far.6,

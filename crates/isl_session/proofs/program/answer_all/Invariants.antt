@@ -1,7 +1,7 @@
 use Rattle.std.proofs.Common.{◌≡◌, ◌+◌, ◌-◌, List, ℕ}
 use Rattle.std.specs.List.{concat}
 use Rattle.std.specs.Io.KnownBytes.{Appends, Consumes}
-use Rattle.isl_session.specs.declared.TheConstants.{SCRIPT_MAX}
+use Rattle.isl_space.specs.Limits.{most_script_bytes}
 use Rattle.isl_session.specs.View.{Fed}
 use Rattle.isl_session.proofs.program.answer_all.Given as goal
 
@@ -13,4 +13,4 @@ invariant-reads g l = (taken : List ℕ) × (answers : List (List ℕ)) × Consu
     × (g.K.Sink.faults l.out ≡ g.K.Sink.faults l.fn.out)
 
 abbrev pub decreases-reads : goal.decreases-reads
-decreases-reads g l = SCRIPT_MAX + 1 - l.session.taken
+decreases-reads g l = most_script_bytes + 1 - l.session.taken

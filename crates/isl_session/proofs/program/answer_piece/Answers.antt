@@ -32,11 +32,14 @@ returns-in-Err-clause-err g c =
     let new = c.take_front.new.self in
     let writes = Rose (g.K.Sink.faults c.args.out.now) (g.K.Sink.faults c.loop-at.out) in
     let stopped = subst (λ (l : List ℕ). Stopped c.loop-at.session l [] new fault) (take_rest xs at) c.in-Err.ensures.err.1 in
-    let whole : take at xs ++ (drop at xs ++ []) ≡ xs = ap (λ (l : List ℕ). take at xs ++ l) (append-nil (drop at xs)) ∙ take-append-drop at xs in (
+    let whole : take at xs ++ (drop at xs ++ []) ≡ xs = ap (λ (l : List ℕ). take at xs ++ l) (append-nil (drop at xs))
+    ∙ take-append-drop at xs in (
       concat so_far.0 ++ [],
-      subst (λ (l : List ℕ). Appends (g.K.Sink.written c.args.out.now) (g.K.Sink.written c.loop-at.out) l) (sym (append-nil (concat so_far.0))) so_far.1,
+      subst (λ (l : List ℕ). Appends (g.K.Sink.written c.args.out.now) (g.K.Sink.written c.loop-at.out) l)
+          (sym (append-nil (concat so_far.0))) so_far.1,
       subst (λ (l : List ℕ). Halts ⊥ writes ⊥ c.args.session.now l (concat so_far.0 ++ []) new fault (place_of fault.refusal)) whole
-          (halts_on ⊥ writes ⊥ ⊥ (λ no. absurd no) c.args.session.now (take at xs) so_far.0 c.loop-at.session (drop at xs) [] [] new fault so_far.2 (place_of fault.refusal)
+          (halts_on ⊥ writes ⊥ ⊥ (λ no. absurd no) c.args.session.now (take at xs) so_far.0 c.loop-at.session
+          (drop at xs) [] [] new fault so_far.2 (place_of fault.refusal)
           (halts_stopped ⊥ ⊥ ⊥ c.loop-at.session (drop at xs) [] [] new fault refl stopped)),
     )
 
@@ -51,19 +54,23 @@ returns-in-Err-write_all-clause-err g c =
     let written = g.K.Sink.written in
     let faults = g.K.Sink.faults in
     let fed = subst (λ (l : List ℕ). Fed c.loop-at.session (take n l) one.0 new) (take_rest xs at) one.2 in
-    let text : c.deref.result.now ≡ concat one.0 = text_added c.deref.result.now c.take_front.new.text.items c.clear.new.self.items (concat one.0) c.deref.ensures.value one.1 c.clear.ensures.items in
+    let text : c.deref.result.now ≡ concat one.0 = text_added c.deref.result.now c.take_front.new.text.items c.clear.new.self.items
+    (concat one.0) c.deref.ensures.value one.1 c.clear.ensures.items in
     let cut = c.in-Err-write_all.ensures.err in
     let short = cut_one one.0 cut.0 one.3 (omega (arith, cut.1, ap length text)) in (
       concat so_far.0 ++ take cut.0 (concat one.0),
-      Appends-trans _ _ _ _ _ so_far.1 (subst (λ (l : List ℕ). Appends (written c.loop-at.out) (written c.write_all.new.out) (take cut.0 l)) text cut.2),
+      Appends-trans _ _ _ _ _ so_far.1
+          (subst (λ (l : List ℕ). Appends (written c.loop-at.out) (written c.write_all.new.out) (take cut.0 l)) text cut.2),
       (
-        rose_since (faults c.args.out.now) (faults c.loop-at.out) (faults c.write_all.new.out) (omega (arith, so_far.3)) c.in-Err-write_all.ensures.fault,
+        rose_since (faults c.args.out.now) (faults c.loop-at.out) (faults c.write_all.new.out)
+            (omega (arith, so_far.3)) c.in-Err-write_all.ensures.fault,
         c.answered.ensures.count,
         (
           take at xs ++ take n (drop at xs),
           drop n (drop at xs),
           so_far.0 ++ one.0,
-          sym (append_assoc (take at xs) (take n (drop at xs)) (drop n (drop at xs)) ∙ ap (λ (l : List ℕ). take at xs ++ l) (take-append-drop n (drop at xs)) ∙ take-append-drop at xs),
+          sym (append_assoc (take at xs) (take n (drop at xs)) (drop n (drop at xs))
+              ∙ ap (λ (l : List ℕ). take at xs ++ l) (take-append-drop n (drop at xs)) ∙ take-append-drop at xs),
           CutShort-append so_far.0 one.0 (take cut.0 (concat one.0)) short,
           Fed-append c.args.session.now (take at xs) so_far.0 c.loop-at.session (take n (drop at xs)) one.0 new so_far.2 fed,
         ),
@@ -81,10 +88,12 @@ loop-at-preserved g c =
     let new = c.take_front.new.self in
     let written = g.K.Sink.written in
     let fed = subst (λ (l : List ℕ). Fed c.loop-at.session (take n l) one.0 new) (take_rest xs at) one.2 in
-    let text : c.deref.result.now ≡ concat one.0 = text_added c.deref.result.now c.take_front.new.text.items c.clear.new.self.items (concat one.0) c.deref.ensures.value one.1 c.clear.ensures.items in
+    let text : c.deref.result.now ≡ concat one.0 = text_added c.deref.result.now c.take_front.new.text.items c.clear.new.self.items
+    (concat one.0) c.deref.ensures.value one.1 c.clear.ensures.items in
     let wrote = subst (λ (l : List ℕ). Appends (written c.loop-at.out) (written c.write_all.new.out) l) text c.in_default.ensures.ok in (
       so_far.0 ++ one.0,
-      subst (λ (l : List ℕ). Appends (written c.args.out.now) (written c.write_all.new.out) l) (sym (concat-append so_far.0 one.0)) (Appends-trans _ _ _ _ _ so_far.1 wrote),
+      subst (λ (l : List ℕ). Appends (written c.args.out.now) (written c.write_all.new.out) l) (sym (concat-append so_far.0 one.0))
+          (Appends-trans _ _ _ _ _ so_far.1 wrote),
       subst (λ (l : List ℕ). Fed c.args.session.now l (so_far.0 ++ one.0) new) (take_join at n xs)
           (Fed-append c.args.session.now (take at xs) so_far.0 c.loop-at.session (take n (drop at xs)) one.0 new so_far.2 fed),
       c.in_default.ensures.kept ∙ so_far.3,

@@ -11,8 +11,10 @@ pub returns-in-Ok-with_room-clause-answered : goal.returns-in-Ok-with_room-claus
 returns-in-Ok-with_room-clause-answered g c options taken made =
     let new = c.run_script.new in
     let run = c.run_script.ensures.answered in
-    let before = outside (g.S.Source.left c.args.src.now) (g.S.Source.faults c.args.src.now) (g.K.Sink.written c.args.out.now) (g.K.Sink.faults c.args.out.now) (g.E.Sink.written c.args.err.now) (g.E.Sink.faults c.args.err.now) in
-    let now = outside (g.S.Source.left new.src) (g.S.Source.faults new.src) (g.K.Sink.written new.out) (g.K.Sink.faults new.out) (g.E.Sink.written new.err) (g.E.Sink.faults new.err) in
+    let before = outside (g.S.Source.left c.args.src.now) (g.S.Source.faults c.args.src.now) (g.K.Sink.written c.args.out.now)
+    (g.K.Sink.faults c.args.out.now) (g.E.Sink.written c.args.err.now) (g.E.Sink.faults c.args.err.now) in
+    let now = outside (g.S.Source.left new.src) (g.S.Source.faults new.src) (g.K.Sink.written new.out) (g.K.Sink.faults new.out)
+    (g.E.Sink.written new.err) (g.E.Sink.faults new.err) in
     let same = taken_once (map string_bytes c.args.words.now) c.in-Ok.options options c.in-Ok.ensures.taken taken in
     let first : moment_of c.in-Ok-with_room.session ≡ begun options =
     ap moment_of {y = opened (begun c.in-Ok.options)} c.in-Ok-with_room.ensures ∙ ap begun same in
@@ -22,8 +24,10 @@ pub returns-in-Ok-with_room-clause-complete : goal.returns-in-Ok-with_room-claus
 returns-in-Ok-with_room-clause-complete g c options taken script left valid no_read no_write no_overflow =
     let new = c.run_script.new in
     let run = c.run_script.ensures.answered in
-    let before = outside (g.S.Source.left c.args.src.now) (g.S.Source.faults c.args.src.now) (g.K.Sink.written c.args.out.now) (g.K.Sink.faults c.args.out.now) (g.E.Sink.written c.args.err.now) (g.E.Sink.faults c.args.err.now) in
-    let now = outside (g.S.Source.left new.src) (g.S.Source.faults new.src) (g.K.Sink.written new.out) (g.K.Sink.faults new.out) (g.E.Sink.written new.err) (g.E.Sink.faults new.err) in
+    let before = outside (g.S.Source.left c.args.src.now) (g.S.Source.faults c.args.src.now) (g.K.Sink.written c.args.out.now)
+    (g.K.Sink.faults c.args.out.now) (g.E.Sink.written c.args.err.now) (g.E.Sink.faults c.args.err.now) in
+    let now = outside (g.S.Source.left new.src) (g.S.Source.faults new.src) (g.K.Sink.written new.out) (g.K.Sink.faults new.out)
+    (g.E.Sink.written new.err) (g.E.Sink.faults new.err) in
     let same = taken_once (map string_bytes c.args.words.now) c.in-Ok.options options c.in-Ok.ensures.taken taken in
     let first : moment_of c.in-Ok-with_room.session ≡ begun options =
     ap moment_of {y = opened (begun c.in-Ok.options)} c.in-Ok-with_room.ensures ∙ ap begun same in

@@ -17,7 +17,8 @@ pub loop-at-init : goal.loop-at-init
 loop-at-init c = (
   [],
   sym (append-nil c.args.text.now.items),
-  subst (λ (v : View). Fed v [] [] v) c.self.view_is (ready_fed (view_of c.self.inside) (sound_ready c.self.inside c.self.invariant c.in_default.is)),
+  subst (λ (v : View). Fed v [] [] v) c.self.view_is (ready_fed (view_of c.self.inside)
+      (sound_ready c.self.inside c.self.invariant c.in_default.is)),
   omega arith,
 )
 
@@ -37,7 +38,8 @@ loop-at-preserved c =
     let behind = take_rest xs at in
     let fed = subst (λ (l : List ℕ). Fed c.loop-at.self (take n l) one.0 c.take_front.new.self) behind one.2 in (
       so_far.0 ++ one.0,
-      one.1 ∙ ap (λ (l : List ℕ). l ++ concat one.0) so_far.1 ∙ append_assoc c.args.text.now.items (concat so_far.0) (concat one.0) ∙ ap (λ (l : List ℕ). c.args.text.now.items ++ l) (sym (concat-append so_far.0 one.0)),
+      one.1 ∙ ap (λ (l : List ℕ). l ++ concat one.0) so_far.1 ∙ append_assoc c.args.text.now.items (concat so_far.0) (concat one.0)
+          ∙ ap (λ (l : List ℕ). c.args.text.now.items ++ l) (sym (concat-append so_far.0 one.0)),
       subst (λ (l : List ℕ). Fed c.args.self.now l (so_far.0 ++ one.0) c.take_front.new.self) (take_join at n xs)
           (Fed-append c.args.self.now (take at xs) so_far.0 c.loop-at.self (take n (drop at xs)) one.0 c.take_front.new.self so_far.2 fed),
       omega (arith, ok.0, ap length behind, length-drop at xs, so_far.3),
@@ -49,11 +51,14 @@ stopped_in c =
     let so_far = c.loop-at.invariant in
     let xs = c.args.piece.now in
     let at = c.loop-at.at in
-    let stopped = subst (λ (l : List ℕ). Stopped c.loop-at.self l [] c.take_front.new.self c.in-Err.fault) (take_rest xs at) c.in-Err.ensures.err.1 in
-    let whole : take at xs ++ (drop at xs ++ []) ≡ xs = ap (λ (l : List ℕ). take at xs ++ l) (append-nil (drop at xs)) ∙ take-append-drop at xs in
+    let stopped = subst (λ (l : List ℕ). Stopped c.loop-at.self l [] c.take_front.new.self c.in-Err.fault)
+    (take_rest xs at) c.in-Err.ensures.err.1 in
+    let whole : take at xs ++ (drop at xs ++ []) ≡ xs = ap (λ (l : List ℕ). take at xs ++ l) (append-nil (drop at xs))
+    ∙ take-append-drop at xs in
     subst (λ (l : List (List ℕ)). Stopped c.args.self.now xs l c.take_front.new.self c.in-Err.fault) (append-nil so_far.0)
     (subst (λ (l : List ℕ). Stopped c.args.self.now l (so_far.0 ++ []) c.take_front.new.self c.in-Err.fault) whole
-    (Stopped-append c.args.self.now (take at xs) so_far.0 c.loop-at.self (drop at xs) [] [] c.take_front.new.self c.in-Err.fault so_far.2 stopped))
+    (Stopped-append c.args.self.now (take at xs) so_far.0 c.loop-at.self
+    (drop at xs) [] [] c.take_front.new.self c.in-Err.fault so_far.2 stopped))
 
 pub returns-in-Err-clause-fed : goal.returns-in-Err-clause-fed
 returns-in-Err-clause-fed c =
@@ -63,11 +68,13 @@ returns-in-Err-clause-fed c =
 pub returns-in-Err-clause-complete : goal.returns-in-Err-clause-complete
 returns-in-Err-clause-complete c =
     if_none c.args.self.now.fault (λ valid short within no_overflow no_spent.
-    complete_piece c.args.self.now c.args.piece.now c.loop-at.invariant.0 c.take_front.new.self c.in-Err.fault (stopped_in c) valid short within no_overflow no_spent)
+    complete_piece c.args.self.now c.args.piece.now c.loop-at.invariant.0 c.take_front.new.self c.in-Err.fault
+    (stopped_in c) valid short within no_overflow no_spent)
 
 pub returns-in-Err-clause-room : goal.returns-in-Err-clause-room
 returns-in-Err-clause-room c =
-    if_none c.args.self.now.fault (λ room. absurd (is_not_stopped c.args.self.now c.args.piece.now c.loop-at.invariant.0 c.take_front.new.self c.in-Err.fault (stopped_in c) room))
+    if_none c.args.self.now.fault (λ room. absurd
+    (is_not_stopped c.args.self.now c.args.piece.now c.loop-at.invariant.0 c.take_front.new.self c.in-Err.fault (stopped_in c) room))
 
 pub returns-in-Err-clause-room_kept : goal.returns-in-Err-clause-room_kept
 returns-in-Err-clause-room_kept c =

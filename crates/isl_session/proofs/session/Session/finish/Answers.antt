@@ -13,5 +13,9 @@ returns-then-blank-clause-finished c =
 pub returns-clause-finished : goal.returns-clause-finished
 returns-clause-finished c =
     let rest = c.self.inside.rest.items in
-    let not_blank : IsBlank rest → ⊥ = λ blank. let is = (c.if-blank.ensures rest c.self.invariant.place).1 blank in cc in
-    if_none c.args.self.now.fault (subst (λ (v : View). IsBlank v.rest → ⊥) c.self.view_is not_blank, c.refuse.ensures.fault, c.refuse.ensures.kept)
+    let not_blank : ¬ IsBlank rest = λ blank. let is = (c.if-blank.ensures rest c.self.invariant.place).1 blank in cc in
+    if_none c.args.self.now.fault (
+      subst (λ (v : View). ¬ IsBlank v.rest) c.self.view_is not_blank,
+      c.refuse.ensures.fault,
+      c.refuse.ensures.kept,
+    )

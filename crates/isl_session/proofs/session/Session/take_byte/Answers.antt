@@ -38,14 +38,35 @@ returns-in-Err-clause-err c =
     let begun : c.start.new.self ≡ record inside.meter { units = 0 } = c.start.ensures in
     let given = subst (λ (v : Valuation). let m : Moment = record { state = inside.state; meter = c.start.new.self; at = v } in
     Refuses m c.deref.result.now c.answer.new.meter c.in-Err.refusal) c.at.ensures c.in-Err.ensures.cause in
-    let cause = subst (λ (bytes : List ℕ). Refuses (started (moment_of old)) bytes c.answer.new.meter c.in-Err.refusal) c.deref.ensures.value
-    (subst (λ (g : Gauge). let m : Moment = record { state = inside.state; meter = g; at = inside.options.at } in Refuses m c.deref.result.now c.answer.new.meter c.in-Err.refusal) begun given) in
+    let cause = subst (λ (bytes : List ℕ). Refuses (started (moment_of old)) bytes c.answer.new.meter c.in-Err.refusal)
+    c.deref.ensures.value
+    (subst (λ (g : Gauge). let m : Moment = record { state = inside.state; meter = g; at = inside.options.at } in
+    Refuses m c.deref.result.now c.answer.new.meter c.in-Err.refusal) begun given) in
     let room = vec_capacity inside.rest in
-    let new : View = record { state = c.answer.new.state; rest = rest; room = room; taken = inside.taken; counts = inside.counts; fault = inside.fault; meter = c.answer.new.meter; at = inside.options.at } in
+    let new : View = record {
+      state = c.answer.new.state;
+      rest = rest;
+      room = room;
+      taken = inside.taken;
+      counts = inside.counts;
+      fault = inside.fault;
+      meter = c.answer.new.meter;
+      at = inside.options.at;
+    } in
     let refused : IsRefusedAt old c.args.byte c.in-Err.refusal new = record {
       breaks = breaks_in_statement c.in-Err.refusal old c.args.byte c.answer.new.meter c.if-self-ge-SCRIPT_MAX.false ends_there cause;
-      same = ap (λ (s : StateView). let v : View = record { state = s; rest = rest; room = room; taken = inside.taken; counts = inside.counts; fault = inside.fault; meter = c.answer.new.meter; at = inside.options.at } in v) after_answer.0;
-      meter = meter_in_statement (moment_of old) rest c.answer.new.meter c.in-Err.refusal cause (subst (λ (g : Gauge). IsKept g c.answer.new.meter) begun c.in-Err.ensures.meter);
+      same = ap (λ (s : StateView). let v : View = record {
+        state = s;
+        rest = rest;
+        room = room;
+        taken = inside.taken;
+        counts = inside.counts;
+        fault = inside.fault;
+        meter = c.answer.new.meter;
+        at = inside.options.at;
+      } in v) after_answer.0;
+      meter = meter_in_statement (moment_of old) rest c.answer.new.meter c.in-Err.refusal cause
+          (subst (λ (g : Gauge). IsKept g c.answer.new.meter) begun c.in-Err.ensures.meter);
       room = omega arith;
     } in
     (after_answer.1, subst (λ (v : View). IsRefusedAt v c.args.byte c.in-Err.refusal new) c.self.view_is refused)
@@ -55,7 +76,8 @@ invariant_of-self-then-push c =
     let none = c.clear.ensures.items in
     record {
       open_rest = subst IsOpen (sym none) open_nil;
-      place = subst (λ (l : List ℕ). IsAt c.push.new.self l) (sym none) (c.if-push.ensures.part c.self.inside.rest.items c.self.invariant.place);
+      place = subst (λ (l : List ℕ). IsAt c.push.new.self l) (sym none)
+          (c.if-push.ensures.part c.self.inside.rest.items c.self.invariant.place);
       held = omega (arith, ap length none);
       short = omega (arith, ap length none);
       within = omega (arith, c.if-self-ge-SCRIPT_MAX.false);
@@ -78,13 +100,25 @@ returns-then-push-clause-ok c =
     let begun : c.start.new.self ≡ record inside.meter { units = 0 } = c.start.ensures in
     let after : Moment = record { state = c.answer.new.state; meter = c.answer.new.meter; at = inside.options.at } in
     let given = subst (λ (v : Valuation). let m : Moment = record { state = inside.state; meter = c.start.new.self; at = v } in
-    let n : Moment = record { state = c.answer.new.state; meter = c.answer.new.meter; at = v } in Answers m c.deref.result.now n one.0) c.at.ensures one.3 in
+    let n : Moment = record { state = c.answer.new.state; meter = c.answer.new.meter; at = v } in
+    Answers m c.deref.result.now n one.0) c.at.ensures one.3 in
     let step = subst (λ (bytes : List ℕ). Answers (started (moment_of old)) bytes after one.0) c.deref.ensures.value
-    (subst (λ (g : Gauge). let m : Moment = record { state = inside.state; meter = g; at = inside.options.at } in Answers m c.deref.result.now after one.0) begun given) in
-    let new : View = record { state = c.answer.new.state; rest = c.clear.new.self.items; room = vec_capacity c.clear.new.self; taken = inside.taken + 1; counts = c.plus-grown.result; fault = inside.fault; meter = c.answer.new.meter; at = inside.options.at } in
+    (subst (λ (g : Gauge). let m : Moment = record { state = inside.state; meter = g; at = inside.options.at } in
+    Answers m c.deref.result.now after one.0) begun given) in
+    let new : View = record {
+      state = c.answer.new.state;
+      rest = c.clear.new.self.items;
+      room = vec_capacity c.clear.new.self;
+      taken = inside.taken + 1;
+      counts = c.plus-grown.result;
+      fault = inside.fault;
+      meter = c.answer.new.meter;
+      at = inside.options.at;
+    } in
     let carried = carries_started inside.meter c.answer.new.meter step.meter in
     let counts = c.plus-grown.ensures.sum ∙ counted-one inside.counts tally one.0 one.2 in
-    let fed = fed_end old ready c.args.byte new c.if-self-ge-SCRIPT_MAX.false refl sound carried (omega (arith, c.clear.ensures.capacity)) refl one.0 ends_there step c.clear.ensures.items counts in (
+    let fed = fed_end old ready c.args.byte new c.if-self-ge-SCRIPT_MAX.false refl sound carried
+    (omega (arith, c.clear.ensures.capacity)) refl one.0 ends_there step c.clear.ensures.items counts in (
       one.0.bytes ∷ [],
       one.1 ∙ ap (λ (l : List ℕ). c.args.text.now.items ++ l) (sym (append-nil one.0.bytes)),
       subst (λ (v : View). Fed v (c.args.byte ∷ []) (one.0.bytes ∷ []) new) c.self.view_is fed,
@@ -117,8 +151,18 @@ returns-clause-ok c =
     let sound = ap (λ (v : View). v.fault) c.self.view_is ∙ c.requires in
     let ready = sound_ready inside c.self.invariant sound in
     let held : ends rest c.args.byte ≡ false = sym (c.if-push.ensures.ends rest c.self.invariant.place) in
-    let new : View = record { state = inside.state; rest = c.push-2.new.self.items; room = vec_capacity c.push-2.new.self; taken = inside.taken + 1; counts = inside.counts; fault = inside.fault; meter = inside.meter; at = inside.options.at } in
-    let fed = fed_held old ready c.args.byte new c.if-self-ge-SCRIPT_MAX.false refl sound (carries_refl inside.meter) (omega (arith, c.in_ok-push.ensures.capacity)) refl held c.in_ok-push.ensures.items refl refl
+    let new : View = record {
+      state = inside.state;
+      rest = c.push-2.new.self.items;
+      room = vec_capacity c.push-2.new.self;
+      taken = inside.taken + 1;
+      counts = inside.counts;
+      fault = inside.fault;
+      meter = inside.meter;
+      at = inside.options.at;
+    } in
+    let fed = fed_held old ready c.args.byte new c.if-self-ge-SCRIPT_MAX.false refl sound (carries_refl inside.meter)
+    (omega (arith, c.in_ok-push.ensures.capacity)) refl held c.in_ok-push.ensures.items refl refl
     (omega (arith, ap length c.in_ok-push.ensures.items, length_push rest c.args.byte, c.if-len-ge-STATEMENT_MAX.false, c.len.ensures)) in (
       [],
       sym (append-nil c.args.text.now.items),

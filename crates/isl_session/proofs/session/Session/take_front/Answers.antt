@@ -24,7 +24,8 @@ returns-in-Ok-true-clause-ok c =
         one.0,
         one.1 ∙ ap (λ (l : List ℕ). l ++ concat one.0) c.loop-i.invariant.same,
         subst (λ (l : List ℕ). Fed c.args.self.now l one.0 c.take_byte.new.self) (sym (take_more xs i 0 c.loop-i-test.true))
-            (Fed-append c.args.self.now (take i xs) [] c.loop-i.self (get_or xs i 0 ∷ []) one.0 c.take_byte.new.self c.loop-i.invariant.fed one.2),
+            (Fed-append c.args.self.now (take i xs) [] c.loop-i.self
+            (get_or xs i 0 ∷ []) one.0 c.take_byte.new.self c.loop-i.invariant.fed one.2),
         one.3,
       ),
     )
@@ -50,13 +51,17 @@ returns-in-Err-clause-err c =
         split = sym (take-append-drop i xs) ∙ ap (λ (l : List ℕ). take i xs ++ l) (drop_more xs i 0 c.loop-i-test.true);
         at_front = at_front;
         fed = c.loop-i.invariant.fed;
-        breaks = subst (λ (r : Refusal). BreaksIn (place_of r) at_front byte c.refuse.new.self.meter r) (sym (ap (λ (f : Fault). f.refusal) fault_is))
+        breaks = subst (λ (r : Refusal). BreaksIn (place_of r) at_front byte c.refuse.new.self.meter r)
+            (sym (ap (λ (f : Fault). f.refusal) fault_is))
             (subst (λ (g : Gauge). BreaksIn (place_of c.in-Err.refusal) at_front byte g c.in-Err.refusal) (sym meter) at.breaks);
         number = omega (arith, ap (λ (f : Fault). f.statement) fault_is, ap (λ (v : View). v.counts.statements) at.same);
         same = kept ∙ ap (λ (v : View). let w : View = record v { fault = Some fault } in w) at.same
-            ∙ ap (λ (g : Gauge). let w : View = record at_front { room = c.take_byte.new.self.room; meter = g; fault = Some fault } in w) (sym meter)
-            ∙ ap (λ (n : ℕ). let w : View = record at_front { room = n; meter = c.refuse.new.self.meter; fault = Some fault } in w) (sym room);
-        meter = subst (λ (r : Refusal). IsMeterAt (place_of r) at_front.meter c.refuse.new.self.meter) (sym (ap (λ (f : Fault). f.refusal) fault_is))
+            ∙ ap (λ (g : Gauge). let w : View = record at_front { room = c.take_byte.new.self.room; meter = g; fault = Some fault } in w)
+            (sym meter)
+            ∙ ap (λ (n : ℕ). let w : View = record at_front { room = n; meter = c.refuse.new.self.meter; fault = Some fault } in w)
+            (sym room);
+        meter = subst (λ (r : Refusal). IsMeterAt (place_of r) at_front.meter c.refuse.new.self.meter)
+            (sym (ap (λ (f : Fault). f.refusal) fault_is))
             (subst (λ (g : Gauge). IsMeterAt (place_of c.in-Err.refusal) at_front.meter g) (sym meter) at.meter);
         room = omega (arith, room, at.room);
       },
@@ -69,7 +74,8 @@ loop-i-preserved c =
     let one = c.in-Ok-false.ensures.ok in
     let none = one.4 c.in-Ok-false.field-0-test in
     record {
-      same = one.1 ∙ ap (λ (l : List (List ℕ)). c.loop-i.text.items ++ concat l) none ∙ append-nil c.loop-i.text.items ∙ c.loop-i.invariant.same;
+      same = one.1 ∙ ap (λ (l : List (List ℕ)). c.loop-i.text.items ++ concat l) none ∙ append-nil c.loop-i.text.items
+          ∙ c.loop-i.invariant.same;
       fed = subst (λ (l : List ℕ). Fed c.args.self.now l [] c.take_byte.new.self) (sym (take_more xs i 0 c.loop-i-test.true))
           (Fed-append c.args.self.now (take i xs) [] c.loop-i.self (get_or xs i 0 ∷ []) [] c.take_byte.new.self c.loop-i.invariant.fed
           (subst (λ (l : List (List ℕ)). Fed c.loop-i.self (get_or xs i 0 ∷ []) l c.take_byte.new.self) none one.2));
