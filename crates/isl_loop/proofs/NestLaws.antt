@@ -1,8 +1,10 @@
 -- Lists of calls put together: none, one, two lists, one turn after another; and that such a list is good.
-use Rattle.std.proofs.Common.{◌≡◌, ◌≢◌, ◌↔◌, ◌⊎◌, ◌∙◌, inl, inr, refl, sym, ap, subst, arith, ℕ, zero, suc, ◌+◌, ◌<◌, ℤ, ◌<ℤ◌, List, [], ◌∷◌, ◌++◌, length, map, get_or}
-use Rattle.std.specs.List.{All, AllPairs, Contains}
+use Rattle.std.proofs.Common.{◌≡◌, ◌↔◌, ◌⊎◌, ◌∙◌, inl, inr, refl, sym, ap, subst, arith, suc, ◌<◌, ℤ, ◌<ℤ◌, List, []}
+use Rattle.std.proofs.Common.{◌∷◌, ◌++◌, length, get_or}
+use Rattle.std.specs.List.{AllPairs, Contains}
 use Rattle.std.proofs.lemmas.List.{map-append, length-map, get_or-map}
-use Rattle.std.proofs.lemmas.List.Elements.{Contains-append_left, Contains-append_right, Contains-append_cases, Contains-push, Contains-get_or}
+use Rattle.std.proofs.lemmas.List.Elements.{Contains-append_left, Contains-append_right, Contains-append_cases, Contains-push}
+use Rattle.std.proofs.lemmas.List.Elements.{Contains-get_or}
 use Rattle.isl_math.specs.Order.{IsBefore}
 use Rattle.isl_loop.specs.Run.{Event, each_in}
 use Rattle.isl_loop.specs.Nest.{Timed, MayPrecede, Lists}
@@ -86,8 +88,11 @@ good At calls l one = rw (sym l.called) (record {
         (t.0, subst (λ d. At d t.0) is ((l.exact t).0 (Contains-get_or l.timed c.0 (no_time e) inside)))),
     (λ z.
         let c = (l.exact (z.0, e)).1 z.1 in
-        let n = length-map l.timed (λ (t : Timed). t.1) in
-        (c.0, (let m = c.1 in omega (arith, m, n)), get_or-map (λ (u : Timed). u.1) l.timed c.0 (z.0, e) e c.1 ∙ ap (λ (u : Timed). u.1) c.2)),
+        let n = length-map l.timed (λ (t : Timed). t.1) in (
+          c.0,
+          (let m = c.1 in omega (arith, m, n)),
+          get_or-map (λ (u : Timed). u.1) l.timed c.0 (z.0, e) e c.1 ∙ ap (λ (u : Timed). u.1) c.2,
+        )),
   );
   once = λ i j d below inside.
       let n = length-map l.timed (λ (t : Timed). t.1) in

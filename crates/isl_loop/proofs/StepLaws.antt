@@ -1,10 +1,10 @@
 -- What each form of loop lists.
-use Rattle.std.proofs.Common.{◌≡◌, ◌↔◌, ◌⊎◌, inl, inr, refl, sym, subst, arith, ℕ, ℤ, pos, ◌+ℤ◌, ◌*ℤ◌, ◌<ℤ◌, ◌≤ℤ◌, Bool, true, false, List, [], ◌∷◌, ◌++◌}
+use Rattle.std.proofs.Common.{◌≡◌, ◌↔◌, ◌⊎◌, refl, ℤ, pos, ◌<ℤ◌, Bool, true, false}
+use Rattle.std.proofs.Common.{List, [], ◌∷◌, ◌++◌}
 use Rattle.std.specs.List.{Contains}
-use Rattle.isl_math.specs.Order.{IsBefore}
 use Rattle.isl_piece.specs.declared.row.Row.{Row}
 use Rattle.isl_loop.specs.declared.tree.Expr.{Expr}
-use Rattle.isl_loop.specs.declared.tree.Loop.{Loop, Block', For', If', Call, Row_of-Loop, end_of-Loop, more_of-Loop}
+use Rattle.isl_loop.specs.declared.tree.Loop.{Loop, For', If', Row_of-Loop, more_of-Loop}
 use Rattle.isl_loop.specs.Expr.{expr_value}
 use Rattle.isl_loop.specs.Turns.{turns, turn_count}
 use Rattle.isl_loop.specs.Run.{Event, each_in, trace, traces, rows_hold}
@@ -23,7 +23,8 @@ for_lists P Q low high step m body loop point e p turn across is =
     let f : ℤ → List Event = λ x. traces body (point ++ x ∷ []) in
     let xs = turns (expr_value low point) (expr_value high point) step in
     rw e (lists_same (λ t. (x : ℤ) × Contains xs x × Q x t) P (each_in f xs) is
-    (each_lists Q f xs (from_up (expr_value low point) step (turn_count (expr_value low point) (expr_value high point) step) p) turn across))
+    (each_lists Q f xs
+    (from_up (expr_value low point) step (turn_count (expr_value low point) (expr_value high point) step) p) turn across))
 
 -- under rows, what is listed where they hold; nothing may be there where they don't
 pub if_lists : (P : Timed → Type 0) (rows : List Row) (m : _) (body : _) (loop : Loop) (point : List ℤ) → loop ≡ If' rows m body
@@ -37,5 +38,6 @@ if_lists P rows m body loop point is holds fails = rw is (by (rows_hold rows poi
 
 -- parts that may stand one before the other
 pub parts_list : (P Q : Timed → Type 0) (m : _) (part : Loop) (rest : Row_of-Loop m) (point : List ℤ) → Lists P (trace part point)
-    → Lists Q (traces rest point) → ((s t : Timed) → P s → Q t → MayPrecede s t) → Lists (λ t. P t ⊎ Q t) (traces (more_of-Loop part rest) point)
+    → Lists Q (traces rest point) → ((s t : Timed) → P s → Q t → MayPrecede s t)
+    → Lists (λ t. P t ⊎ Q t) (traces (more_of-Loop part rest) point)
 parts_list P Q m part rest point first more cross = lists_append P Q (trace part point) (traces rest point) first more cross

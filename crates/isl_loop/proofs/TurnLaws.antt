@@ -1,13 +1,14 @@
 -- The turns of a loop, and what is listed turn by turn.
-use Rattle.std.proofs.Common.{◌≡◌, ◌↔◌, ◌⊎◌, ◌∙◌, inl, inr, refl, sym, ap, subst, arith, ℕ, zero, suc, ◌+◌}
+use Rattle.std.proofs.Common.{◌≡◌, ◌↔◌, ◌⊎◌, inl, inr, refl, sym, ap, subst, arith, ℕ, zero, suc, ◌+◌}
 use Rattle.std.proofs.Common.{◌-◌, ◌<◌, ℤ, pos, negsuc, ◌+ℤ◌, ◌-ℤ◌, ◌*ℤ◌, ◌<ℤ◌, ◌≤ℤ◌, List, [], ◌∷◌, ◌++◌, length, get_or, length-append}
-use Rattle.std.specs.List.{All, AllPairs, Contains}
+use Rattle.std.specs.List.{AllPairs, Contains}
 use Rattle.std.proofs.lemmas.Bool.{cases_lt}
 use Rattle.std.proofs.lemmas.List.{get_or_append_left, get_or-append_right}
-use Rattle.std.proofs.lemmas.List.Elements.{Contains-append_left, Contains-append_right, Contains-append_cases, Contains-push, Contains-push_cases, Contains-get_or}
-use Rattle.isl_math.specs.Divide.{floor_div}
+use Rattle.std.proofs.lemmas.List.Elements.{Contains-append_left, Contains-append_right, Contains-append_cases, Contains-push}
+use Rattle.std.proofs.lemmas.List.Elements.{Contains-push_cases, Contains-get_or}
+use Rattle.isl_math.specs.Divide.{floor_div, floor_mod}
 use Rattle.isl_math.proofs.Ring.{expand, linear}
-use Rattle.isl_math.proofs.DivideLaws.{at_most_floor}
+use Rattle.isl_math.proofs.DivideLaws.{at_most_floor, floor_mod_bounds, floor_split, floor_unique}
 use Rattle.isl_math.proofs.OrderLaws.{*ℤ-≤ℤ}
 use Rattle.isl_loop.specs.Run.{each_in}
 use Rattle.isl_loop.specs.Turns.{numbers_from, at_least_none, turn_count, turns}
@@ -45,7 +46,11 @@ each_exact Q f [] h t = ((λ c. absurd (nothing t c)), (λ z. absurd (nothing z.
 each_exact Q f (x ∷ xs) h t =
     let more = each_exact Q f xs (λ y c. h y (Contains-append_right (x ∷ []) xs y c)) t in (
       (λ c. elim (Contains-append_cases (f x) (each_in f xs) t c) [
-        | inl now ↦ (x, Contains-append_left (x ∷ []) xs x (Contains-push [] x), (h x (Contains-append_left (x ∷ []) xs x (Contains-push [] x)) t).0 now)
+        | inl now ↦ (
+          x,
+          Contains-append_left (x ∷ []) xs x (Contains-push [] x),
+          (h x (Contains-append_left (x ∷ []) xs x (Contains-push [] x)) t).0 now,
+        )
         | inr later ↦ let z = more.0 later in (z.0, Contains-append_right (x ∷ []) xs z.0 z.1, z.2)
       ]),
       (λ z. elim (Contains-append_cases (x ∷ []) xs z.0 z.1) [
@@ -68,7 +73,8 @@ each_pairs Q R f (x ∷ xs) h up within across =
     let first : Contains (x ∷ xs) x = Contains-append_left (x ∷ []) xs x (Contains-push [] x) in
     let later : (y : ℤ) → Contains xs y → Contains (x ∷ xs) y = λ y c. Contains-append_right (x ∷ []) xs y c in
     pairs_append R (f x) (each_in f xs) (within x first)
-    (each_pairs Q R f xs (λ y c. h y (later y c)) (λ i j d below inside. up (suc i) (suc j) d (omega (arith, below)) (omega (arith, inside)))
+    (each_pairs Q R f xs (λ y c. h y (later y c))
+    (λ i j d below inside. up (suc i) (suc j) d (omega (arith, below)) (omega (arith, inside)))
     (λ y c. within y (later y c)) across)
     (λ s t i j. let z = (each_exact Q f xs (λ y c. h y (later y c)) t).0 j in
     across x z.0 s t (above x xs up z.0 z.1) ((h x first s).0 i) z.2)
@@ -140,3 +146,46 @@ turns_exact low high step x p = (
         by : (r : ℤ) → q +ℤ pos 1 ≡ r → n < at_least_none r
         by (pos m) e = omega (arith, linear, e, l)
         by (negsuc m) e = absurd (omega (arith, linear, e, l))
+
+-- ---- the first turn, and those behind it
+pub turns_first : (x high step : ℤ) → pos 0 <ℤ step → x ≤ℤ high → turns x high step ≡ x ∷ turns (x +ℤ step) high step
+turns_first x high step p l =
+    let q = floor_div (high -ℤ x) step in
+    let split = floor_split (high -ℤ x) step p in
+    let bounds = floor_mod_bounds (high -ℤ x) step p in
+    let low = bounds.0 in
+    let small = bounds.1 in
+    let one_less : q -ℤ pos 1 ≡ floor_div (high -ℤ (x +ℤ step)) step =
+    (floor_unique (high -ℤ (x +ℤ step)) step (q -ℤ pos 1) (floor_mod (high -ℤ x) step)
+    (simp expand (omega (arith, linear, split))) low small).0 in
+    let some : pos 0 ≤ℤ q = (at_most_floor (high -ℤ x) step (pos 0) p).1 (omega (arith, linear, l)) in
+    ap (λ (n : ℕ). numbers_from x step n)
+    (count_more (q +ℤ pos 1) (floor_div (high -ℤ (x +ℤ step)) step +ℤ pos 1)
+    (omega (arith, linear, one_less, some)) (omega (arith, linear, one_less)))
+  where
+    count_more : (a b : ℤ) → pos 0 ≤ℤ b → a ≡ b +ℤ pos 1 → at_least_none a ≡ suc (at_least_none b)
+    count_more (pos m) (pos n) l e = omega (arith, linear, e)
+    count_more (negsuc m) (pos n) l e = absurd (omega (arith, linear, e))
+    count_more a (negsuc n) l e = absurd (omega (arith, linear, l))
+
+pub turns_none : (low high step : ℤ) → pos 0 <ℤ step → high <ℤ low → turns low high step ≡ []
+turns_none low high step p l =
+    ap (λ (n : ℕ). numbers_from low step n) (count_none (floor_div (high -ℤ low) step) (few (floor_div (high -ℤ low) step) refl))
+  where
+    at_least_or_below : (q : ℤ) → (pos 0 ≤ℤ q) ⊎ (q <ℤ pos 0)
+    at_least_or_below (pos n) = inl (omega (arith, linear))
+    at_least_or_below (negsuc n) = inr (omega (arith, linear))
+
+    few : (q : ℤ) → q ≡ floor_div (high -ℤ low) step → q <ℤ pos 0
+    few q e = elim (at_least_or_below q) [
+      | inl more ↦ let zero_most = (at_most_floor (high -ℤ low) step (pos 0) p).0 (rw e at more) in
+          absurd (omega (arith, linear, zero_most, l))
+      | inr less ↦ less
+    ]
+
+    count_none : (q : ℤ) → q <ℤ pos 0 → at_least_none (q +ℤ pos 1) ≡ 0
+    count_none q l = by (q +ℤ pos 1) refl
+      where
+        by : (r : ℤ) → q +ℤ pos 1 ≡ r → at_least_none r ≡ 0
+        by (pos m) e = omega (arith, linear, e, l)
+        by (negsuc m) e = refl

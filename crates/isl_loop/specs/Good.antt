@@ -1,5 +1,5 @@
 -- public: good loops: each call of what has a time once, in the order of their times. (isl manual, on abstract syntax trees)
-use Rattle.std.specs.Prelude.{◌≡◌, ◌↔◌, ◌≢◌, ℤ, List, AllPairs, Contains}
+use Rattle.std.specs.Prelude.{◌↔◌, ◌≢◌, ℤ, List, AllPairs, Contains}
 use Rattle.isl_math.specs.Order.{IsBefore}
 use Rattle.isl_loop.specs.Run.{Event}
 

@@ -2,6 +2,7 @@ pub mod Expr
 pub mod Turns
 pub mod Run
 pub mod Formed
+pub mod Lists
 pub mod Nest
 pub mod Good
 pub use Rattle.isl_math.specs.Order

@@ -72,7 +72,8 @@ abbrev mutual
   pub idle_of : Loop → List ℤ → ℕ
   idle_of (Block' s row) point = idle_in row point
   idle_of (For' low high step s body) point =
-      sum_by (λ x. idle_turn (traces body (point ++ x ∷ [])) + idle_in body (point ++ x ∷ [])) (turns (expr_value low point) (expr_value high point) step)
+      sum_by (λ x. idle_turn (traces body (point ++ x ∷ [])) + idle_in body (point ++ x ∷ []))
+      (turns (expr_value low point) (expr_value high point) step)
   idle_of (If' rows s body) point = if rows_hold rows point then idle_in body point else 0
   idle_of (Call name args) point = 0
 
