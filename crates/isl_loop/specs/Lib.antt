@@ -1,0 +1,11 @@
+pub mod Expr
+pub mod Turns
+pub mod Run
+pub mod Formed
+pub mod Lists
+pub mod Nest
+pub mod Good
+pub use Rattle.isl_math.specs.Order
+pub use Rattle.isl_meter.specs.Gauge
+pub use Rattle.isl_piece.specs.Row
+pub use Rattle.isl_piece.specs.System

@@ -1,0 +1,6 @@
+//! Loops: their trees, and what they execute.
+#![tactic(auto)]
+
+mod tree;
+
+pub use tree::{Atom, Expr, Item, Loop};
