@@ -15,7 +15,7 @@ use Rattle.isl_stmt.specs.Limits.{statement_is_within}
 use Rattle.isl_stmt.specs.Read.{NoStatement, judged, IsDueTo, IsDue}
 use Rattle.isl_stmt.proofs.ReadLaws.{one_statement}
 use Rattle.isl_values.specs.State.{Moment}
-use Rattle.isl_flat.specs.Unsupported.{is_unsupported}
+use Rattle.isl_eval.specs.Unsupported.{is_unsupported}
 use Rattle.isl_eval.specs.Spelled.{BytesSpell, OfTokens, OfStatement, SpellOne}
 use Rattle.isl_eval.specs.Causes.{causes, IsThere, FirstGives}
 use Rattle.isl_eval.specs.Evaluation.{IsRead, IsWhyNot}

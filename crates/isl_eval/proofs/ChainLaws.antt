@@ -25,7 +25,7 @@ use Rattle.isl_kinds.specs.Typed.{declared_of, kind_for, with_params, type_for, 
 use Rattle.isl_kinds.proofs.PartLaws.{parts_of-Row}
 use Rattle.isl_flat.specs.Flat.{flat, link_of}
 use Rattle.isl_flat.specs.Simple.{bindings_of, last_of, BindFrom, IsSimple, IsSimpleExpr, HasType, AreTyped, statement_declared}
-use Rattle.isl_flat.specs.Unsupported.{is_later}
+use Rattle.isl_eval.specs.Unsupported.{is_unsupported_part}
 use Rattle.isl_flat.proofs.SimpleLaws.{flat_ends, parts_kept, literals_kept, flat_is_simple, bindings_are_numbered}
 use Rattle.isl_flat.proofs.TypedLaws.{flat_is_typed}
 use Rattle.isl_stmt.specs.Names.{HasNoDollar, binds_dollar}
@@ -35,7 +35,7 @@ use Rattle.isl_values.specs.Made.{is_foreign}
 use Rattle.isl_eval.specs.Evaluated.{made_parts, shown_parts, worked_parts, IsEvaluable}
 use Rattle.isl_eval.specs.Evaluation.{IsRead, IsTaken, IsWorkable, AreEvaluable}
 use Rattle.isl_eval.specs.Spelled.{BytesSpell}
-use Rattle.isl_eval.proofs.LexLaws.{lexed}
+use Rattle.isl_token.proofs.LexLaws.{lexed}
 use Rattle.isl_eval.proofs.TypeLaws.{found_is, of_type}
 use Rattle.isl_eval.proofs.PlainLaws.{is_value, is_lone, bound_plain, shown_plain}
 use Rattle.isl_eval.proofs.FullLaws.{spelled_full, outermost_full}
@@ -70,16 +70,18 @@ sample_shown : (name : Name) → list_any is_foreign (shown_parts (e.Prefix Samp
 unfolding hidden-the_row-Expr-0 denote.Hole.Carrier.hidden
 sample_shown name = refl
 
-gist_later : (left right : Name) → list_any is_later (parts_of (e.Row (e.Name left) (link_of Gist (e.Name right) ∷ []))) ≡ true
-gist_later left right = ap (list_any is_later) (parts_of-Row (e.Name left) (link_of Gist (e.Name right) ∷ []))
+gist_unsupported : (left right : Name)
+    → list_any is_unsupported_part (parts_of (e.Row (e.Name left) (link_of Gist (e.Name right) ∷ []))) ≡ true
+gist_unsupported left right = ap (list_any is_unsupported_part) (parts_of-Row (e.Name left) (link_of Gist (e.Name right) ∷ []))
 
 no_gist : {A : Type 0} (expr : Expr) (left right : Name) → expr ≡ e.Row (e.Name left) (link_of Gist (e.Name right) ∷ [])
-    → list_any is_later (parts_of expr) ≡ false → A
+    → list_any is_unsupported_part (parts_of expr) ≡ false → A
 no_gist expr left right is supported =
-    absurd (false≢true (sym supported ∙ ap (λ (x : Expr). list_any is_later (parts_of x)) is ∙ gist_later left right))
+    absurd
+    (false≢true (sym supported ∙ ap (λ (x : Expr). list_any is_unsupported_part (parts_of x)) is ∙ gist_unsupported left right))
 
 bound_simple : (scope : ScopeView) (expr : Expr) (kind : ValueKind) → kind_of scope expr ≡ Some kind → is_value kind ≡ true
-    → list_any is_later (parts_of expr) ≡ false → IsSimpleExpr expr → list_any is_foreign (made_parts expr) ≡ false
+    → list_any is_unsupported_part (parts_of expr) ≡ false → IsSimpleExpr expr → list_any is_foreign (made_parts expr) ≡ false
 bound_simple scope expr kind is value supported (inl quiet) = bound_plain scope expr kind is value
     (record { supported = supported; unchosen = quiet })
 bound_simple scope expr kind is value supported (inr (inl h)) =
@@ -87,7 +89,7 @@ bound_simple scope expr kind is value supported (inr (inl h)) =
 bound_simple scope expr kind is value supported (inr (inr h)) = no_gist expr h.0 h.1 h.2 supported
 
 shown_simple : (scope : ScopeView) (expr : Expr) (kind : ValueKind) → kind_of scope expr ≡ Some kind → is_lone expr ≡ false
-    → list_any is_later (parts_of expr) ≡ false → IsSimpleExpr expr → list_any is_foreign (shown_parts expr) ≡ false
+    → list_any is_unsupported_part (parts_of expr) ≡ false → IsSimpleExpr expr → list_any is_foreign (shown_parts expr) ≡ false
 shown_simple scope expr kind is full supported (inl quiet) = shown_plain scope expr kind is full
     (record { supported = supported; unchosen = quiet })
 shown_simple scope expr kind is full supported (inr (inl h)) =
@@ -100,7 +102,7 @@ FullStmt (Show expr) = is_lone expr ≡ false
 FullStmt _ = Unit {0}
 
 plain : (scope : ScopeView) (stmt : Stmt) (t : Option TypeView) → type_of_statement scope stmt ≡ Ok t → FullStmt stmt
-    → list_any is_later (parts_of_statement stmt) ≡ false → IsSimple stmt → list_any is_foreign (worked_parts stmt) ≡ false
+    → list_any is_unsupported_part (parts_of_statement stmt) ≡ false → IsSimple stmt → list_any is_foreign (worked_parts stmt) ≡ false
 plain scope Empty t typed full supported simple = refl
 plain scope (Bind name expr) t typed full supported simple =
     let u = found_is (type_for purpose.Bound scope expr) t typed in
@@ -112,7 +114,7 @@ plain scope (Show expr) t typed full supported simple =
 abbrev MayBe : ℕ → Stmt → Type 0
 MayBe most stmt = (scope : ScopeView) (t : Option TypeView) → HasType most scope stmt t → IsEvaluable scope stmt
 
-may_be : (most : ℕ) (stmt : Stmt) → most ≤ most_parameters → FullStmt stmt → list_any is_later (parts_of_statement stmt) ≡ false
+may_be : (most : ℕ) (stmt : Stmt) → most ≤ most_parameters → FullStmt stmt → list_any is_unsupported_part (parts_of_statement stmt) ≡ false
     → All IsWellFormedLiteral (statement_literals stmt) → IsSimple stmt → MayBe most stmt
 may_be most stmt few full supported literals simple = λ scope t has. record {
   typed = (t, has.typed);
@@ -177,7 +179,7 @@ evaluable before bytes stmt statements read able is short =
     let most = length (statement_declared (scope_of before.state) stmt) in
     let typed = flat_is_typed (scope_of before.state) stmt able.typed.0 (no_dollar bytes stmt read.spelled).inside
     (subst (λ (s : List Stmt). length s ≤ 2 ^ 64) is short) able.typed.1 in
-    let supported = parts_kept is_later (λ n. refl) stmt read.supported in
+    let supported = parts_kept is_unsupported_part (λ n. refl) stmt read.supported in
     let literals = literals_kept IsWellFormedLiteral stmt read.sound in
     let simple = flat_is_simple stmt in
     let full = all_full stmt (full_spelled bytes stmt read.spelled) in

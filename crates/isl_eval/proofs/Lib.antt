@@ -1,4 +1,4 @@
-pub mod LexLaws
+pub mod UnsupportedLaws
 pub mod NameLaws
 pub mod LiteralLaws
 pub mod SizeLaws

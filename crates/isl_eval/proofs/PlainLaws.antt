@@ -23,7 +23,7 @@ use Rattle.isl_kinds.specs.Parts.{Part, parts_of, parts_in, parts_in_links, part
 use Rattle.isl_kinds.specs.Parts as part
 use Rattle.isl_kinds.specs.Typed.{ScopeView, by_two, kind_of, kind_in, kind_past_links, kind_past_postfixes, kind_past}
 use Rattle.isl_flat.specs.Simple.{chooses}
-use Rattle.isl_flat.specs.Unsupported.{is_later}
+use Rattle.isl_eval.specs.Unsupported.{is_unsupported_part}
 use Rattle.isl_values.specs.Made.{is_foreign}
 use Rattle.isl_values.proofs.PartLaws.{quiet_both}
 use Rattle.isl_eval.specs.Tests.{is_test, ends_with_test}
@@ -117,7 +117,7 @@ truth_joined operator l r m test is =
     line : (all_empty : Bool) → MadeBy operator (made all_empty Truth)
     line all_empty = ((λ _. truth_made all_empty), (λ none. no_other (sym test ∙ none)))
 
-joins : (operator : Binary) (l r m : ValueKind) → is_later (part.operator operator) ≡ false → joined operator l r ≡ Some m
+joins : (operator : Binary) (l r m : ValueKind) → is_unsupported_part (part.operator operator) ≡ false → joined operator l r ≡ Some m
     → Joins operator l r m
 joins b.Union l r m low is = values_joined b.Union ((Set, Set, Set) ∷ (Map, Map, Map) ∷ []) l r m refl refl refl is
 joins b.Difference l r m low is =
@@ -204,30 +204,32 @@ two_of line (Some l) (Some r) m is = (l, r, refl, refl, is)
 
 -- nothing of this is unsupported, and nothing chosen
 pub record IsCalm (ps : List Part) : Type 0 where
-  pub supported : list_any is_later ps ≡ false
+  pub supported : list_any is_unsupported_part ps ≡ false
   pub unchosen : list_any chooses ps ≡ false
 
 calm_left : (xs ys : List Part) → IsCalm (xs ++ ys) → IsCalm xs
 calm_left xs ys calm = record {
-  supported = (quiet_both is_later xs ys calm.supported).0;
+  supported = (quiet_both is_unsupported_part xs ys calm.supported).0;
   unchosen =
       (quiet_both chooses xs ys calm.unchosen).0;
 }
 
 calm_right : (xs ys : List Part) → IsCalm (xs ++ ys) → IsCalm ys
 calm_right xs ys calm = record {
-  supported = (quiet_both is_later xs ys calm.supported).1;
+  supported = (quiet_both is_unsupported_part xs ys calm.supported).1;
   unchosen =
       (quiet_both chooses xs ys calm.unchosen).1;
 }
 
-calm_head : (part : Part) (ps : List Part) → IsCalm (part ∷ ps) → (is_later part ≡ false) × (chooses part ≡ false)
-calm_head part ps calm =
-    ((or_parts (is_later part) (list_any is_later ps) calm.supported).0, (or_parts (chooses part) (list_any chooses ps) calm.unchosen).0)
+calm_head : (part : Part) (ps : List Part) → IsCalm (part ∷ ps) → (is_unsupported_part part ≡ false) × (chooses part ≡ false)
+calm_head part ps calm = (
+  (or_parts (is_unsupported_part part) (list_any is_unsupported_part ps) calm.supported).0,
+  (or_parts (chooses part) (list_any chooses ps) calm.unchosen).0,
+)
 
 calm_tail : (part : Part) (ps : List Part) → IsCalm (part ∷ ps) → IsCalm ps
 calm_tail part ps calm = record {
-  supported = (or_parts (is_later part) (list_any is_later ps) calm.supported).1;
+  supported = (or_parts (is_unsupported_part part) (list_any is_unsupported_part ps) calm.supported).1;
   unchosen = (or_parts (chooses part) (list_any chooses ps) calm.unchosen).1;
 }
 
@@ -276,7 +278,7 @@ no_scan None k is value = let f : None ≡ Some k = is in cc
 no_scan (Some m) k is value = false≢true (sym (scan_lists m k is) ∙ value)
 
 -- a word that is supported and chooses nothing lists elements, or is not foreign
-word_plain : (word : Word) → (is_later (part.prefix word) ≡ false) × (chooses (part.prefix word) ≡ false)
+word_plain : (word : Word) → (is_unsupported_part (part.prefix word) ≡ false) × (chooses (part.prefix word) ≡ false)
     → (word ≡ p.Scan) ⊎ (is_foreign (part.prefix word) ≡ false)
 word_plain p.Scan own = inl refl
 word_plain p.Sample own = absurd (false≢true (sym own.1))
@@ -287,8 +289,8 @@ word_plain p.Codegen own = absurd (false≢true (sym own.0))
 word_plain _ own = inr refl
 
 word_value : (word : Word) (operand : Option ValueKind) (k : ValueKind)
-    → (is_later (part.prefix word) ≡ false) × (chooses (part.prefix word) ≡ false) → option_and_then (prefixed word) operand ≡ Some k
-    → is_value k ≡ true → is_foreign (part.prefix word) ≡ false
+    → (is_unsupported_part (part.prefix word) ≡ false) × (chooses (part.prefix word) ≡ false)
+    → option_and_then (prefixed word) operand ≡ Some k → is_value k ≡ true → is_foreign (part.prefix word) ≡ false
 word_value word operand k own is value = by (word_plain word own)
   where
     by : (word ≡ p.Scan) ⊎ (is_foreign (part.prefix word) ≡ false) → is_foreign (part.prefix word) ≡ false

@@ -3,19 +3,16 @@ use Rattle.std.proofs.Common.{◌≡◌, ◌∙◌, ◌↔◌, ◌⊎◌, ◌≤
 use Rattle.std.proofs.Common.{ℕ, ℤ, Bool, true, false, List, [], ◌∷◌, ◌++◌, length, Option, Some, Result, Ok, Err}
 use Rattle.std.specs.Prelude.{unsigned_abs, ◌||◌, if◌then◌else◌}
 use Rattle.std.specs.List.{All, list_any}
-use Rattle.std.specs.Str.{bytes_eq}
 use Rattle.std.proofs.lemmas.Bool.{false≢true, or_parts}
 use Rattle.std.specs.List.{slice_get}
 use Rattle.std.proofs.lemmas.List.{length-append, map-append, take_more}
 use Rattle.std.proofs.lemmas.Option.{get_or_from_slice_get, slice_get_within}
 use Rattle.std.proofs.lemmas.List.Elements.{All-nil, All-append}
 use Rattle.std.proofs.lemmas.List.Folds.{list_any-append}
-use Rattle.indexmap.specs.IndexSet.{insert_key}
 use Rattle.isl_meter.specs.Gauge.{Gauge, limit_of, IsCharged}
 use Rattle.isl_meter.proofs.CutLemmas.{IsCharged_refl, IsCharged_trans}
 use Rattle.isl_space.specs.Limits.{most_parameters}
 use Rattle.isl_space.specs.Name.{Name}
-use Rattle.isl_space.specs.Names.{is_among}
 use Rattle.isl_space.specs.Element.{Element}
 use Rattle.isl_space.specs.Valuation.{Valuation, value_at, values_of}
 use Rattle.isl_union.specs.Finite.{IsFiniteAt}
@@ -47,14 +44,15 @@ use Rattle.isl_kinds.specs.Parts.{Part, parts_of, parts_in, parts_in_links, part
 use Rattle.isl_kinds.specs.Parts as part
 use Rattle.isl_kinds.specs.Typed.{TypeView, ScopeView, has_unknown, is_unknown, kind_of, declared_of}
 use Rattle.isl_kinds.specs.Typed.{declared_of_row, joined_names, type_for, type_of_statement, Answers as TypeAnswers}
-use Rattle.isl_kinds.proofs.DeclaredLaws.{declared_of-Row}
+use Rattle.isl_kinds.proofs.DeclaredLaws.{declared_of-Prefix, declared_of-Row}
+use Rattle.isl_kinds.proofs.JoinedNamesLaws.{declared_with, first_fits}
 use Rattle.isl_kinds.proofs.PartLaws.{parts_of-Prefix, parts_of-Row}
 use Rattle.isl_values.specs.State.{Binds, Kept, Moment, StateView, HasNumbersUpTo, scope_of, type_of}
 use Rattle.isl_values.specs.Worked.{IsWorked}
 use Rattle.isl_values.specs.Selection.{Selects, IsContentOf, IsSelected, Keeps}
 use Rattle.isl_values.specs.Made.{is_foreign, uses_units, IsReady, IsOfType, IsSoundExpr, IsValueOf, IsPaid, IsWhyUnworked}
 use Rattle.isl_values.specs.Formed.{FormsTooWide, IsTooWide}
-use Rattle.isl_values.proofs.NarrowLaws.{declared_of-Prefix, row_declares, operand_fits}
+use Rattle.isl_values.proofs.NarrowLaws.{row_declares, operand_fits}
 use Rattle.isl_values.proofs.PartLaws.{all_left, all_right, quiet_both, sound_links}
 use Rattle.isl_values.proofs.ValueLaws.{same_limit, unworked_in}
 use Rattle.isl_eval.specs.Listed.{IsListed, AreFinite}
@@ -283,22 +281,6 @@ end_at : (before : List Link) (last : Link) → last ≡ get_or (before ++ last 
 end_at [] last = refl
 end_at (link ∷ before) last = end_at before last
 
-added_longer : (b : Bool) (names : List Name) (n : Name) → length names ≤ length (if b then names else names ++ n ∷ [])
-added_longer true names n = omega arith
-added_longer false names n = omega (arith, length-append names (n ∷ []))
-
-first_fits : (names others : List Name) → length names ≤ length (joined_names names others)
-first_fits names [] = omega arith
-first_fits names (n ∷ others) =
-    let one = added_longer (is_among names n) names n in
-    let rest = first_fits (insert_key bytes_eq names n) others in
-    omega (arith, one, rest)
-
-push_declared : (scope : ScopeView) (left : List Name) (links : List Link) (link : Link)
-    → declared_of_row scope left (links ++ link ∷ []) ≡ joined_names (declared_of_row scope left links) (declared_of scope link.operand)
-push_declared scope left [] link = refl
-push_declared scope left (first ∷ links) link = push_declared scope (joined_names left (declared_of scope first.operand)) links link
-
 none_both : (test : Part → Bool) (xs ys : List Part) → list_any test xs ≡ false → list_any test ys ≡ false
     → list_any test (xs ++ ys) ≡ false
 none_both test xs ys one two = list_any-append test xs ys ∙ ap₂ (λ (a b : Bool). a || b) one two
@@ -344,7 +326,7 @@ test_ready scope expr first x links list before last is same are split test able
     let narrow : length (declared_of_row scope names whole) ≤ most_parameters =
     subst (λ (ps : List Name). length ps ≤ most_parameters) (declared_of-Row scope x whole) here.narrow in
     let joins : length (joined_names (declared_of_row scope names before) (declared_of scope last.operand)) ≤ most_parameters =
-    subst (λ (ps : List Name). length ps ≤ most_parameters) (push_declared scope names before last) narrow in
+    subst (λ (ps : List Name). length ps ≤ most_parameters) (declared_with scope names before last) narrow in
     let shorter = first_fits (declared_of_row scope names before) (declared_of scope last.operand) in
     let row_sound : IsSoundExpr scope (Row x before) = record {
       supported = ap (list_any is_foreign) (parts_of-Row x before)

@@ -19,7 +19,7 @@ use Rattle.isl_expr.specs.declared.tree.Stmt.{Stmt}
 use Rattle.isl_expr.specs.Expr.{statement_literals}
 use Rattle.isl_stmt.specs.Limits.{statement_is_within}
 use Rattle.isl_eval.specs.Spelled.{BytesSpell}
-use Rattle.isl_eval.proofs.LexLaws.{lexed}
+use Rattle.isl_token.proofs.LexLaws.{lexed}
 use Rattle.isl_eval.proofs.LiteralLaws.{IsSpelled, literals_spelled}
 use Rattle.isl_eval.proofs.SizeLaws.{narrow}
 

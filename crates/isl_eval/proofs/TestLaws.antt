@@ -24,14 +24,14 @@ use Rattle.isl_expr.specs.declared.tree.Expr.TheBlock.{hidden-the_row-Expr-0, hi
 use Rattle.isl_kinds.specs.Parts.{Part, parts_of, parts_of_links, parts_in_links}
 use Rattle.isl_kinds.specs.Parts as part
 use Rattle.isl_kinds.specs.Typed.{ScopeView, declared_of, declared_of_row}
-use Rattle.isl_kinds.proofs.PartLaws.{parts_of-Row, any_in_link}
+use Rattle.isl_kinds.proofs.JoinedNamesLaws.{declared_distinct, joined_is}
+use Rattle.isl_kinds.proofs.PartLaws.{links_are, parts_of-Row, any_in_link}
 use Rattle.isl_values.specs.State.{StateView, Moment, HasNumbersUpTo}
 use Rattle.isl_operators.specs.Operations.{OperatorHas}
 use Rattle.isl_operators.proofs.NamesLaws.{turned_fits}
 use Rattle.isl_values.specs.Selection.{Selects, RowSelects}
 use Rattle.isl_values.specs.Made.{IsWhyUnmade, IsWhyUnworked, refusal_of_cut}
 use Rattle.isl_values.proofs.PartLaws.{quiet_both}
-use Rattle.isl_values.proofs.NarrowLaws.{declared_distinct, joined_is}
 use Rattle.isl_values.proofs.RowLaws.{same_row, same_trans}
 use Rattle.isl_values.proofs.ValueLaws.{numbers_later, paid_works, unworked_after}
 use Rattle.isl_eval.specs.Tests.{Elements, is_test, ends_with_test, IsPartOf, TestHolds, HoldsPastLinks}
@@ -63,10 +63,6 @@ around_are m end_of-Link = refl
 around_are m (more_of-Link operator operand end_of-Link) = refl
 around_are m (more_of-Link operator operand (more_of-Link next other row)) =
     ap (λ ps. part.operator operator ∷ (parts_of operand ++ ps)) (around_are _ (more_of-Link next other row))
-
-links_are : (m : Count) (row : Row_of-Link m) → parts_in_links row ≡ parts_of_links (items-the_row-Link m row)
-links_are m end_of-Link = refl
-links_are m (more_of-Link operator operand row) = ap (λ ps. part.operator operator ∷ (parts_of operand ++ ps)) (links_are _ row)
 
 holds_are : (m : Count) (state : StateView) (Left : Elements) (row : Row_of-Link m)
     → HoldsPastLinks state Left row ↔ HoldsPast state Left (items-the_row-Link m row)

@@ -22,7 +22,7 @@ use Rattle.isl_kinds.specs.Parts.{parts_of_statement}
 use Rattle.isl_kinds.specs.Typed.{ScopeView, declared_in, type_of_statement}
 use Rattle.isl_flat.specs.Flat.{flat}
 use Rattle.isl_flat.specs.Simple.{statement_declared}
-use Rattle.isl_flat.specs.Unsupported.{is_unsupported}
+use Rattle.isl_eval.specs.Unsupported.{is_unsupported}
 use Rattle.isl_values.specs.State.{Moment, scope_of}
 use Rattle.isl_values.specs.Selection.{SelectsIn}
 use Rattle.isl_values.specs.Formed.{FormsTooWide, IsTooWideIn}

@@ -25,7 +25,7 @@ use Rattle.isl_kinds.specs.Typed.{TypeView, ScopeView, is_dollar, has_unknown, k
 use Rattle.isl_kinds.specs.Typed.{declared_of, declared_of_row, joined_names, type_of_statement}
 use Rattle.isl_flat.specs.Flat.{flat}
 use Rattle.isl_flat.specs.Simple.{BindsIn, statement_declared}
-use Rattle.isl_flat.specs.Unsupported.{is_unsupported}
+use Rattle.isl_eval.specs.Unsupported.{is_unsupported}
 use Rattle.isl_values.specs.State.{Moment, StateView, Fits, HasNumbersUpTo, scope_of, forgotten}
 use Rattle.isl_values.specs.Selection.{IsSelected, Keeps, Selects, RowSelects}
 use Rattle.isl_values.specs.Formed.{FormsTooWide, IsTooWide, IsTooWideRow}

@@ -2,6 +2,7 @@ pub mod Tests
 pub mod Listed
 pub mod Spelled
 pub mod Machine
+pub mod Unsupported
 pub mod Causes
 pub mod Run
 pub mod Evaluated

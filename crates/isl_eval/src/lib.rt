@@ -11,8 +11,10 @@ mod simple;
 mod spelled;
 mod step;
 mod test;
+mod unsupported;
 mod workable;
 
 pub use simple::eval;
 pub use spelled::one_statement;
 pub use step::{Tally, answer};
+pub use unsupported::is_unsupported;

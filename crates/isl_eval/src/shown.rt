@@ -13,7 +13,7 @@ ghost use Rattle.isl_kinds.specs.Parts.{parts_of};
 ghost use Rattle.isl_kinds.specs.Typed.{kind_of};
 ghost use Rattle.isl_flat.specs.Flat.{is_sample};
 ghost use Rattle.isl_values.specs.State.{Moment, scope_of, Fits};
-ghost use Rattle.isl_values.specs.Made.{IsPaid, IsReady, IsWhyUnworked, refusal_of_cut, uses_units};
+ghost use Rattle.isl_values.specs.Made.{IsPaid, IsReady, IsWhyUnworked, uses_units};
 ghost use Rattle.isl_values.specs.Formed.{IsTooWide};
 ghost use Rattle.isl_values.specs.Selection.{Selects};
 ghost use Rattle.isl_eval.specs.Listed.{AreFinite, IsListed};
@@ -26,25 +26,15 @@ ghost use Rattle.isl_eval.specs.Evaluation.{IsKeptOf, IsMakeable, IsReadyTest, I
 use crate::step::Tally;
 use crate::test::{ends_with_test, tested};
 use isl_expr::tree::{Expr, Link, Prefix};
-use isl_meter::{Cut, Meter};
+use isl_meter::Meter;
 use isl_print::text_of;
 use isl_scan::{Listing, ScanFault, scan};
-use isl_values::{State, value_of};
 use isl_space::{Name, Params};
 use isl_text::refusal::Refusal;
 use isl_union::{OpFault, Value};
+use isl_values::{State, refusal_of, value_of};
 use std::alloc::{AllocError, Global};
 use std::rc::Rc;
-
-pub(crate) fn refusal_of(cut: Cut) -> Refusal
-    ensures { result ≡ refusal_of_cut cut }
-{
-    match cut {
-        Cut::Overflow => Refusal::Overflow,
-        Cut::Budget => Refusal::Budget,
-        Cut::NoMemory => Refusal::NoMemory,
-    }
-}
 
 /// A line that is answered, and what it adds to the counts.
 #[derive(Drop)]
@@ -95,7 +85,7 @@ impl Line {
     }
 }
 
-/// The number that a name is given, or 0.
+// The number that a name is given, or 0.
 fn number_of(name: &Name, at: &[(Name, i128)]) -> i128
     ensures { result ≡ valuation.value_at at.now name.now }
 {
@@ -107,7 +97,7 @@ fn number_of(name: &Name, at: &[(Name, i128)]) -> i128
     0
 }
 
-/// The numbers that parameters are given.
+// The numbers that parameters are given.
 fn numbers_of(alloc: Global, params: &Params, at: &[(Name, i128)]) -> Result<Vec<i128>, AllocError>
     ensures { IfOk result (λ numbers. numbers.items ≡ valuation.values_of params.now at.now) }
 {
@@ -127,7 +117,7 @@ fn refusal_of_fault(fault: ScanFault) -> Refusal
     }
 }
 
-/// The elements that an operand selects where its parameters have these numbers.
+// The elements that an operand selects where its parameters have these numbers.
 fn listed(
     alloc: Global,
     operand: &Expr,
@@ -153,7 +143,7 @@ fn listed(
     }
 }
 
-/// A value of one element of an operand.
+// A value of one element of an operand.
 fn sampled(
     alloc: Global,
     operand: &Expr,
@@ -175,7 +165,7 @@ fn sampled(
     }
 }
 
-/// What is kept of an expression that selects.
+// What is kept of an expression that selects.
 fn selected(
     alloc: Global,
     expr: &Expr,
@@ -222,7 +212,7 @@ pub(crate) fn content(
     }
 }
 
-/// The line that shows what is kept of an expression.
+// The line that shows what is kept of an expression.
 fn value_shown(
     alloc: Global,
     expr: &Expr,
@@ -243,7 +233,7 @@ fn value_shown(
     Ok(Line::of_value(alloc, &value)?)
 }
 
-/// The line that tells whether a test holds.
+// The line that tells whether a test holds.
 fn truth_shown(
     alloc: Global,
     first: &Expr,
@@ -264,7 +254,7 @@ fn truth_shown(
     Ok(Line::of_truth(alloc, holds)?)
 }
 
-/// Whether elements or a truth are asked for.
+// Whether elements or a truth are asked for.
 #[tactic(auto, using(crate::proofs::AskedLaws::asked))]
 fn is_asked(expr: &Expr) -> bool
     ensures { result ≡ spec.is_asked expr.now }
@@ -276,7 +266,7 @@ fn is_asked(expr: &Expr) -> bool
     }
 }
 
-/// The line that lists elements, or that tells whether a test holds.
+// The line that lists elements, or that tells whether a test holds.
 fn asked_shown(
     alloc: Global,
     expr: &Expr,

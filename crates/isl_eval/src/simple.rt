@@ -19,15 +19,15 @@ ghost use Rattle.isl_eval.specs.Evaluated.{IsEvaluable, IsWhyEnded, works};
 use crate::shown::{content, shown};
 use crate::step::Tally;
 use isl_expr::tree::{Expr, Stmt};
+use isl_flat::SimpleStmt;
 use isl_kinds::typed_statement;
 use isl_meter::Meter;
-use isl_values::{Kept, State};
-use isl_flat::SimpleStmt;
 use isl_space::Name;
 use isl_text::refusal::Refusal;
+use isl_values::{Kept, State};
 use std::alloc::Global;
 
-/// Binds the name to what is kept of the expression.
+// Binds the name to what is kept of the expression.
 fn bound(
     alloc: Global,
     stmt: &Stmt,

@@ -5,9 +5,9 @@ ghost use Rattle.isl_values.specs.State.{Moment};
 ghost use Rattle.isl_eval.specs.Spelled.{SpellOne};
 ghost use Rattle.isl_eval.specs.Evaluation.{IsRead, IsWhyNot};
 
+use crate::is_unsupported;
 use isl_expr::tree::Stmt;
 use isl_meter::Meter;
-use isl_flat::is_unsupported;
 use isl_stmt::read_statement;
 use isl_text::refusal::Refusal;
 use std::alloc::Global;

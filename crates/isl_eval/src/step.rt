@@ -16,11 +16,11 @@ ghost use Rattle.isl_eval.specs.Evaluation.{AreEvaluable, IsTaken, IsWhyStopped}
 use crate::simple::eval;
 use crate::spelled::read;
 use crate::workable::check;
-use isl_meter::Meter;
-use isl_values::State;
 use isl_flat::{SimpleStmt, flatten};
+use isl_meter::Meter;
 use isl_space::Name;
 use isl_text::refusal::Refusal;
+use isl_values::State;
 use std::alloc::Global;
 
 /// What an answer adds to the counts of a session.
@@ -39,7 +39,7 @@ impl Tally {
     };
 }
 
-/// The simple statements of the statement that the bytes spell, where it is to be answered.
+// The simple statements of the statement that the bytes spell, where it is to be answered.
 fn statements_of(
     alloc: Global,
     bytes: &[u8],
@@ -60,7 +60,7 @@ fn statements_of(
     }
 }
 
-/// Evaluates simple statements, one after another. A refusal leaves the names that those before it bound.
+// Evaluates simple statements, one after another. A refusal leaves the names that those before it bound.
 fn evaluate(
     alloc: Global,
     state: &mut State,
@@ -90,7 +90,7 @@ fn evaluate(
     eval(alloc, state, last, at, meter, text)
 }
 
-/// Forgets the names that the simple statements of a statement bound, where there are several.
+// Forgets the names that the simple statements of a statement bound, where there are several.
 fn forget_after(state: &mut State, statements: &[SimpleStmt])
     requires { (only : trees.Stmt) → statements.now ≡ only ∷ [] → IsSettled state.old }
     ensures { state.new ≡ forgotten state.old }

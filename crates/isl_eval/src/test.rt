@@ -13,15 +13,14 @@ ghost use Rattle.isl_values.specs.Selection.{Selects};
 ghost use Rattle.isl_eval.specs.Tests.{is_test, TestHolds};
 ghost use Rattle.isl_eval.specs.Evaluation.{ends_with_test, IsReadyTest, IsTooWideTest, past_row};
 
-use crate::shown::refusal_of;
 use isl_expr::tree::{Binary, Expr, Link};
 use isl_meter::{Cut, Meter};
-use isl_values::{State, joined_past, value_of};
 use isl_text::refusal::Refusal;
 use isl_union::{OpFault, Value};
+use isl_values::{State, joined_past, refusal_of, value_of};
 use std::alloc::Global;
 
-/// Whether the operator tests its operands.
+// Whether the operator tests its operands.
 fn is_test(operator: Binary) -> bool
     ensures { result ≡ is_test operator }
 {
@@ -73,7 +72,7 @@ fn are_equal(alloc: Global, left: &Value, right: &Value, meter: &mut Meter) -> R
     }
 }
 
-/// Whether each element of the left is one of the right, and they are not the same.
+// Whether each element of the left is one of the right, and they are not the same.
 #[tactic(auto, using(std::proofs::lemmas::Grind::common_steps, isl_meter::proofs::CutLemmas::charges))]
 fn is_proper_part(
     alloc: Global,
@@ -95,7 +94,7 @@ fn is_proper_part(
     Ok(!turned)
 }
 
-/// Whether a test holds of two values.
+// Whether a test holds of two values.
 fn holds(
     alloc: Global,
     test: Binary,

@@ -20,7 +20,7 @@ fn is_given(at: &[(Name, i128)], name: &Name) -> bool
     at.iter().any(|given| given.0 == *name)
 }
 
-/// Whether some name is given no number.
+// Whether some name is given no number.
 fn lacks_number(names: &[Name], at: &[(Name, i128)]) -> bool
     ensures { result ≡ list_any (λ name. not (spec.is_given at.now name)) names.now }
 {
@@ -37,7 +37,7 @@ fn is_listing(expr: &Expr) -> bool
     }
 }
 
-/// Whether elements are to be listed of what declares a parameter that is given no number.
+// Whether elements are to be listed of what declares a parameter that is given no number.
 #[tactic(auto, using(crate::proofs::CheckLaws::parametric))]
 fn is_parametric(stmt: &Stmt, declared: &[Name], at: &[(Name, i128)]) -> bool
     ensures { (scope : ScopeView) → declared.now ≡ statement_declared scope stmt.now
@@ -49,7 +49,7 @@ fn is_parametric(stmt: &Stmt, declared: &[Name], at: &[(Name, i128)]) -> bool
     }
 }
 
-/// The parameters that are declared, where there is a type.
+// The parameters that are declared, where there is a type.
 fn declared_by(typed: &Option<Typed>) -> &[Name]
     ensures { result.now ≡ names_of typed.now }
 {

@@ -2,7 +2,6 @@
 use mathlib.Core.Former.{Count}
 use Rattle.std.proofs.Common.{◌≡◌, ◌∙◌, true, List, [], ◌∷◌, ◌++◌, Option, Some, refl, sym, ap}
 use Rattle.std.proofs.lemmas.Bool.{false≢true}
-use Rattle.isl_space.specs.Name.{Name}
 use Rattle.isl_expr.specs.declared.tree.ValueKind.{ValueKind}
 use Rattle.isl_expr.specs.declared.tree.ValueKind.TheVariants.{Set, Map, Empty}
 use Rattle.isl_expr.specs.declared.tree.Binary.{Binary}
@@ -11,13 +10,11 @@ use Rattle.isl_expr.specs.declared.tree.Prefix.{Prefix as Word}
 use Rattle.isl_expr.specs.declared.tree.Prefix.TheVariants.{Sample, Coalesce}
 use Rattle.isl_expr.specs.declared.tree.Link.{Link}
 use Rattle.isl_expr.specs.declared.tree.Postfix.{Postfix}
-use Rattle.isl_expr.specs.declared.tree.Expr.{Expr, Prefix, Any, Last, Row', Prefix'}
+use Rattle.isl_expr.specs.declared.tree.Expr.{Expr, Row', Prefix'}
 use Rattle.isl_expr.specs.declared.tree.Expr.{Row_of-Link, end_of-Link, more_of-Link}
-use Rattle.isl_expr.specs.declared.tree.Expr.TheBlock.{hidden-the_row-Expr-0}
 use Rattle.isl_kinds.specs.declared.types.Purpose.TheVariants.{Bound}
 use Rattle.isl_kinds.specs.Lines.{joined, prefixed}
 use Rattle.isl_kinds.specs.Typed.{ScopeView, kind_of, kind_in, kind_past_links, kind_of_row, kind_of_post, kind_past, by_two, takes}
-use Rattle.isl_kinds.specs.Typed.{declared_of, declared_of_row, declared_of_post, declared_past, joined_names}
 use Rattle.isl_flat.specs.declared.flattening.Standing.{Standing}
 use Rattle.isl_flat.specs.declared.flattening.Standing.TheVariants.{Outermost, Inside}
 use Rattle.isl_flat.specs.Flat.{is_gist, is_gist_row, is_gist_alone, is_chosen, whole, names_operand}
@@ -92,23 +89,6 @@ pub alone_is_chosen : (first : Expr) (links : List Link) → is_gist_alone links
 alone_is_chosen first [] alone = absurd (false≢true alone)
 alone_is_chosen first (link ∷ links) alone = is_chosen-Row first (link ∷ links) ∙ alone
 
--- ---- what is declared, at the constructors of the code
-
-pub declared_of-Prefix : (scope : ScopeView) (word : Word) (operand : Expr)
-    → declared_of scope (Prefix word operand) ≡ declared_of scope operand
-unfolding hidden-the_row-Expr-0 denote.Hole.Carrier.hidden
-declared_of-Prefix scope word operand = refl
-
-pub declared_of-Any : (scope : ScopeView) (source sink schedule : Expr) → declared_of scope (Any source sink schedule) ≡
-    joined_names (joined_names (declared_of scope source) (declared_of scope sink)) (declared_of scope schedule)
-unfolding hidden-the_row-Expr-0 denote.Hole.Carrier.hidden
-declared_of-Any scope source sink schedule = refl
-
-pub declared_of-Last : (scope : ScopeView) (source sink schedule : Expr) → declared_of scope (Last source sink schedule) ≡
-    joined_names (joined_names (declared_of scope source) (declared_of scope sink)) (declared_of scope schedule)
-unfolding hidden-the_row-Expr-0 denote.Hole.Carrier.hidden
-declared_of-Last scope source sink schedule = refl
-
 -- ---- the last of a list
 
 pub kind_with : (scope : ScopeView) (left : Option ValueKind) (links : List Link) (link : Link)
@@ -117,17 +97,7 @@ pub kind_with : (scope : ScopeView) (left : Option ValueKind) (links : List Link
 kind_with scope left [] link = refl
 kind_with scope left (other ∷ links) link = kind_with scope (by_two (joined other.operator) left (kind_of scope other.operand)) links link
 
-pub declared_with : (scope : ScopeView) (left : List Name) (links : List Link) (link : Link)
-    → declared_of_row scope left (links ++ link ∷ []) ≡ joined_names (declared_of_row scope left links) (declared_of scope link.operand)
-declared_with scope left [] link = refl
-declared_with scope left (other ∷ links) link = declared_with scope (joined_names left (declared_of scope other.operand)) links link
-
 pub kind_followed : (scope : ScopeView) (left : Option ValueKind) (postfixes : List Postfix) (postfix : Postfix)
     → kind_of_post scope left (postfixes ++ postfix ∷ []) ≡ kind_past scope (kind_of_post scope left postfixes) postfix
 kind_followed scope left [] postfix = refl
 kind_followed scope left (other ∷ postfixes) postfix = kind_followed scope (kind_past scope left other) postfixes postfix
-
-pub declared_followed : (scope : ScopeView) (left : List Name) (postfixes : List Postfix) (postfix : Postfix)
-    → declared_of_post scope left (postfixes ++ postfix ∷ []) ≡ declared_past scope (declared_of_post scope left postfixes) postfix
-declared_followed scope left [] postfix = refl
-declared_followed scope left (other ∷ postfixes) postfix = declared_followed scope (declared_past scope left other) postfixes postfix

@@ -1,11 +1,9 @@
 pub mod SizeLaws
 pub mod FlatLaws
-pub mod LaterLaws
 pub mod EachLaws
 pub mod KeptLaws
 pub mod LiteralLaws
 pub mod SimpleLaws
-pub mod FitLaws
 pub mod ViewLaws
 pub mod ScopeLaws
 pub mod ChosenLaws

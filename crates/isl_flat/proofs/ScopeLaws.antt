@@ -14,8 +14,9 @@ use Rattle.isl_expr.specs.declared.tree.Expr as e
 use Rattle.isl_kinds.specs.declared.types.Purpose.{Purpose}
 use Rattle.isl_kinds.specs.declared.types.Purpose.TheVariants.{Bound}
 use Rattle.isl_kinds.specs.Parts.{parts_of}
-use Rattle.isl_kinds.specs.Typed.{ScopeView, TypeView, kind_of, declared_of, joined_names, params_of, has_unknown, has_no_item}
+use Rattle.isl_kinds.specs.Typed.{ScopeView, TypeView, kind_of, declared_of, params_of, has_unknown, has_no_item}
 use Rattle.isl_kinds.specs.Typed.{takes, kind_for, with_params, type_for, found}
+use Rattle.isl_kinds.proofs.DeclaredLaws.{IsOnce}
 use Rattle.isl_flat.specs.Flat.{Flattened, dollar, bound, is_name, named}
 use Rattle.isl_flat.specs.Simple.{HasType, BindsIn, AreTyped}
 use Rattle.isl_flat.proofs.EachLaws.{Each}
@@ -162,9 +163,6 @@ frame_with first j k F G low frame stable = record {
   stable = λ before later agree h. (frame.stable before later (agree_up j k before later low agree) h.0, stable before later agree h.1);
   base = λ scope h. frame.base scope h.0;
 }
-
-abbrev pub IsOnce : List Name → Type 0
-IsOnce names = joined_names [] names ≡ names
 
 -- ---- bindings of what has a type
 

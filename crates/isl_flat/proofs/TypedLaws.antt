@@ -32,7 +32,10 @@ use Rattle.isl_kinds.specs.Typed.{ScopeView, TypeView, kind_of, kind_in, kind_pa
 use Rattle.isl_kinds.specs.Typed.{kind_of_row, kind_of_post, by_two, by_three, declared_of, declared_in, declared_past_links}
 use Rattle.isl_kinds.specs.Typed.{declared_past_postfixes, declared_past, declared_of_row, declared_of_post, joined_names, params_of}
 use Rattle.isl_kinds.specs.Typed.{is_dollar, is_unknown, is_no_item, type_for, type_of_statement, found}
-use Rattle.isl_kinds.proofs.DeclaredLaws.{once, joined_joined, declared_of-Row, declared_of-Post}
+use Rattle.isl_kinds.proofs.DeclaredLaws.{IsOnce, once, once_joined, once_past, declared_of-Row, declared_of-Post}
+use Rattle.isl_kinds.proofs.DeclaredLaws.{declared_of-Prefix, declared_of-Any, declared_of-Last}
+use Rattle.isl_kinds.proofs.JoinedNamesLaws.{declared_with, declared_followed, first_fits, second_fits, links_fit}
+use Rattle.isl_kinds.proofs.JoinedNamesLaws.{postfixes_fit}
 use Rattle.isl_kinds.proofs.KindLaws.{kind_of-Row, kind_of-Post, kind_of-Prefix, kind_of-Any, kind_of-Last}
 use Rattle.isl_flat.specs.declared.flattening.Standing.{Standing}
 use Rattle.isl_flat.specs.declared.flattening.Standing.TheVariants.{Outermost, Inside}
@@ -44,14 +47,12 @@ use Rattle.isl_flat.specs.Simple.{chooses, names_dollar, has_dollar, statement_d
 use Rattle.isl_flat.proofs.EachLaws.{Each, each_weaker, each_zip, each_quiet, each_left, each_right}
 use Rattle.isl_flat.proofs.KeptLaws as kept
 use Rattle.isl_flat.proofs.KeptLaws.{IsSteady, gist_or_not}
-use Rattle.isl_flat.proofs.FitLaws.{first_fits, second_fits, links_fit, postfixes_fit}
 use Rattle.isl_flat.proofs.ViewLaws.{IsClear, clear_up, clear_dollar, clear_blank, Agree, same_row, same_post, no_kind, then_some}
 use Rattle.isl_flat.proofs.ViewLaws.{three_some}
 use Rattle.isl_flat.proofs.ViewLaws.{same, bound_links, bound_postfixes, known, items_there}
-use Rattle.isl_flat.proofs.ScopeLaws.{Leave, leave_map, Stable, Sees, sees_stable, Frame, frame_up, frame_with, IsOnce, Typed}
+use Rattle.isl_flat.proofs.ScopeLaws.{Leave, leave_map, Stable, Sees, sees_stable, Frame, frame_up, frame_with, Typed}
 use Rattle.isl_flat.proofs.ScopeLaws.{bound_typed, named_typed, all_typed, TypeParts, type_parts, type_made}
-use Rattle.isl_flat.proofs.ChosenLaws.{named_operand, gisted, chosen_bindable, alone_is_chosen, declared_of-Prefix, declared_of-Any}
-use Rattle.isl_flat.proofs.ChosenLaws.{declared_of-Last, kind_with, declared_with, kind_followed, declared_followed}
+use Rattle.isl_flat.proofs.ChosenLaws.{named_operand, gisted, chosen_bindable, alone_is_chosen, kind_with, kind_followed}
 
 -- ---- what is made of clear parts
 
@@ -127,14 +128,6 @@ post_stable k kind names operand postfixes clear behind before later agree sees 
       kind_is = ap (λ (o : Option ValueKind). kind_of_post later o postfixes) one.0 ∙ more.0 ∙ sees.kind_is;
       params = ap (λ (ns : List Name). declared_of_post later ns postfixes) one.1 ∙ more.1 ∙ sees.params;
     }
-
-once_joined : (names others : List Name) → IsOnce names → IsOnce (joined_names names others)
-once_joined names others is = joined_joined [] names others ∙ ap (λ (ns : List Name). joined_names ns others) is
-
-once_past : (scope : ScopeView) (left : List Name) (postfix : Postfix) → IsOnce left → IsOnce (declared_past scope left postfix)
-once_past scope left Inverse is = is
-once_past scope left (Apply argument) is = once_joined left (declared_of scope argument) is
-once_past scope left (Item number) is = is
 
 once_in : (m : Count) (scope : ScopeView) (row : Row_of-Expr m) → IsOnce (declared_in scope row)
 once_in m scope end_of-Expr = refl

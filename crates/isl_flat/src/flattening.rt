@@ -11,7 +11,7 @@ use sqlite_items::{Boxed, Items};
 use std::alloc::{AllocError, Global};
 use std::marker::Model;
 
-/// Where an expression stands.
+// Where an expression stands.
 #[derive(Clone, Copy)]
 enum Standing {
     /// It is what its statement binds or shows.
@@ -20,7 +20,7 @@ enum Standing {
 }
 
 impl Standing {
-    /// Whether the word wants a name as its operand.
+    // Whether the word wants a name as its operand.
     fn names_operand(self, word: Prefix) -> bool
         ensures { result ≡ spec.names_operand self word }
     {
@@ -32,7 +32,7 @@ impl Standing {
     }
 }
 
-/// `$1`, `$2`, ..
+// `$1`, `$2`, ..
 fn dollar(alloc: Global, number: usize) -> Result<Name, AllocError>
     ensures { IfOk result (λ name. name ≡ dollar number) }
 {
@@ -46,7 +46,7 @@ fn is_name(expr: &Expr) -> bool
     matches!(expr, Expr::Name(_))
 }
 
-/// Whether the value is chosen once.
+// Whether the value is chosen once.
 #[tactic(auto, using(crate::proofs::FlatLaws::chosen))]
 fn is_chosen(expr: &Expr) -> bool
     ensures { result ≡ spec.is_chosen expr.now }
@@ -61,7 +61,7 @@ fn is_chosen(expr: &Expr) -> bool
 /// A statement as flattening leaves it: its names may be `$1`, `$2`, ..
 pub type SimpleStmt = Stmt;
 
-/// The statements that were made so far.
+// The statements that were made so far.
 #[derive(Drop)]
 struct Flattening {
     alloc: Global,
@@ -82,7 +82,7 @@ impl Model for Flattening {
 }
 
 impl Flattening {
-    /// Binds the next name to the expression, and answers the name.
+    // Binds the next name to the expression, and answers the name.
     fn bind(&mut self, value: Expr) -> Result<Expr, AllocError>
         ensures { Leaves (spec.bound (self.old, value)) result self.new }
     {
@@ -91,7 +91,7 @@ impl Flattening {
         Ok(Expr::Name(name))
     }
 
-    /// An operand that is no name gets one.
+    // An operand that is no name gets one.
     fn named(&mut self, operand: Expr) -> Result<Expr, AllocError>
         ensures { Leaves (spec.named (self.old, operand)) result self.new }
     {
@@ -102,7 +102,7 @@ impl Flattening {
         }
     }
 
-    /// What is chosen once and stands inside an expression gets a name.
+    // What is chosen once and stands inside an expression gets a name.
     fn settled(&mut self, value: Expr) -> Result<Expr, AllocError>
         ensures { Leaves (spec.settled (self.old, value)) result self.new }
     {
@@ -113,7 +113,7 @@ impl Flattening {
         }
     }
 
-    /// A row that is the left operand of what comes next.
+    // A row that is the left operand of what comes next.
     fn settled_row(&mut self, row: Row) -> Result<Row, AllocError>
         ensures { LeavesRow (spec.settled_row (partial self.old row)) result self.new }
     {
@@ -128,7 +128,7 @@ impl Flattening {
         })
     }
 
-    /// `%` between two names.
+    // `%` between two names.
     fn gist(&mut self, left: Expr, right: Expr) -> Result<Row, AllocError>
         ensures { LeavesRow (spec.gist left right self.old) result self.new }
     {
@@ -142,7 +142,7 @@ impl Flattening {
         Ok(Row { first, links })
     }
 
-    /// An operator and its operand, which is flattened, come behind the row.
+    // An operator and its operand, which is flattened, come behind the row.
     fn with_link(&mut self, row: Row, operator: Binary, operand: Expr) -> Result<Row, AllocError>
         ensures { LeavesRow (spec.with_link operator (partial self.old row) (self.old, operand)) result self.new }
     {
@@ -218,7 +218,7 @@ impl Flattening {
         Ok(Expr::Post(Boxed::new(self.alloc, operand)?, kept))
     }
 
-    /// The operand of a word.
+    // The operand of a word.
     #[cycle(flat)]
     #[tactic(auto, using(crate::proofs::SizeLaws::sizes))]
     fn operand(
@@ -237,7 +237,7 @@ impl Flattening {
         }
     }
 
-    /// What an expression is inside another.
+    // What an expression is inside another.
     #[cycle(flat)]
     #[tactic(auto, using(crate::proofs::SizeLaws::sizes))]
     fn nested(&mut self, expr: Expr) -> Result<Expr, AllocError>
@@ -247,7 +247,7 @@ impl Flattening {
         self.settled(value)
     }
 
-    /// An expression in which what is chosen inside it has names, and so have the operands of what it chooses.
+    // An expression in which what is chosen inside it has names, and so have the operands of what it chooses.
     #[cycle(flat)]
     #[tactic(auto, using(crate::proofs::SizeLaws::sizes))]
     fn flattened(&mut self, expr: Expr, standing: Standing) -> Result<Expr, AllocError>
@@ -278,7 +278,7 @@ impl Flattening {
     }
 }
 
-/// The statements that were made, and a last one.
+// The statements that were made, and a last one.
 fn ended_by(flattening: Flattening, last: Stmt) -> Result<Vec<Stmt>, AllocError>
     ensures { IfOk result (λ made. made.items ≡ flattening ++ last ∷ []) }
 {

@@ -1,9 +1,7 @@
-//! Statements as the machine takes them: simple ones, and which are not supported yet.
+//! Statements as the machine takes them: simple ones, one after another.
 #![tactic(auto)]
 
 mod flattening;
 mod partial;
-mod unsupported;
 
 pub use flattening::{SimpleStmt, flatten};
-pub use unsupported::is_unsupported;

@@ -124,7 +124,7 @@ post_behind scope names left (postfix ∷ postfixes) =
 
 -- ---- at the constructors of the code
 
-declared_of-Prefix : (scope : ScopeView) (word : Word) (operand : Expr)
+pub declared_of-Prefix : (scope : ScopeView) (word : Word) (operand : Expr)
     → declared_of scope (Prefix word operand) ≡ declared_of scope operand
 unfolding hidden-the_row-Expr-0 denote.Hole.Carrier.hidden
 declared_of-Prefix scope word operand = refl
@@ -143,22 +143,22 @@ declared_of-Post scope operand postfixes =
     postfixes_are _ scope (declared_of scope operand) (hidden-the_row-Postfix-2 postfixes)
     ∙ ap (declared_of_post scope (declared_of scope operand)) (items_hidden-the_row-Postfix-2 postfixes)
 
-declared_of-Any : (scope : ScopeView) (source sink schedule : Expr) → declared_of scope (Any source sink schedule) ≡
+pub declared_of-Any : (scope : ScopeView) (source sink schedule : Expr) → declared_of scope (Any source sink schedule) ≡
     joined_names (joined_names (declared_of scope source) (declared_of scope sink)) (declared_of scope schedule)
 unfolding hidden-the_row-Expr-0 denote.Hole.Carrier.hidden
 declared_of-Any scope source sink schedule = refl
 
-declared_of-Last : (scope : ScopeView) (source sink schedule : Expr) → declared_of scope (Last source sink schedule) ≡
+pub declared_of-Last : (scope : ScopeView) (source sink schedule : Expr) → declared_of scope (Last source sink schedule) ≡
     joined_names (joined_names (declared_of scope source) (declared_of scope sink)) (declared_of scope schedule)
 unfolding hidden-the_row-Expr-0 denote.Hole.Carrier.hidden
 declared_of-Last scope source sink schedule = refl
 
 -- ---- each name stands once
 
-abbrev IsOnce : List Name → Type 0
+abbrev pub IsOnce : List Name → Type 0
 IsOnce names = joined_names [] names ≡ names
 
-once_joined : (names others : List Name) → IsOnce names → IsOnce (joined_names names others)
+pub once_joined : (names others : List Name) → IsOnce names → IsOnce (joined_names names others)
 once_joined names others is = joined_joined [] names others ∙ ap (λ ns. joined_names ns others) is
 
 once_leaf : (others : List Name) → IsOnce (joined_names [] others)
@@ -174,7 +174,7 @@ once_past_links m scope left end_of-Link is = is
 once_past_links m scope left (more_of-Link operator operand row) is =
     once_past_links _ scope (joined_names left (declared_of scope operand)) row (once_joined left (declared_of scope operand) is)
 
-once_past : (scope : ScopeView) (left : List Name) (postfix : Postfix) → IsOnce left → IsOnce (declared_past scope left postfix)
+pub once_past : (scope : ScopeView) (left : List Name) (postfix : Postfix) → IsOnce left → IsOnce (declared_past scope left postfix)
 once_past scope left Inverse is = is
 once_past scope left (Apply argument) is = once_joined left (declared_of scope argument) is
 once_past scope left (Item number) is = is

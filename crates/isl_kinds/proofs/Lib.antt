@@ -3,3 +3,4 @@ pub mod KindLaws
 pub mod DeclaredLaws
 pub mod PlaceLaws
 pub mod KnownLaws
+pub mod JoinedNamesLaws

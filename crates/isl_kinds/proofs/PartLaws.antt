@@ -15,7 +15,7 @@ use Rattle.isl_kinds.specs.Parts as part
 
 -- ---- the parts at the constructors of the code
 
-links_are : (m : Count) (row : Row_of-Link m) → parts_in_links row ≡ parts_of_links (items-the_row-Link m row)
+pub links_are : (m : Count) (row : Row_of-Link m) → parts_in_links row ≡ parts_of_links (items-the_row-Link m row)
 links_are m end_of-Link = refl
 links_are m (more_of-Link operator operand row) = ap (λ ps. part.operator operator ∷ (parts_of operand ++ ps)) (links_are _ row)
 

@@ -73,7 +73,7 @@ fn value_is_known(value: &Option<Term>, place: &Place<'_>) -> bool
     }
 }
 
-/// Whether each binder's term knows the binders before it.
+// Whether each binder's term knows the binders before it.
 #[tactic(auto, using(crate::proofs::KnownLaws::binders_next))]
 fn binders_are_known<'a>(binders: &'a [Binder], place: &'a Place<'a>) -> bool
     ensures { result ≡ spec.binders_are_known (names_at place.now) binders.now }
@@ -120,7 +120,7 @@ fn are_formulas_known<'a>(formulas: &'a [Formula], place: &'a Place<'a>) -> bool
     true
 }
 
-/// Whether an entry is a new name, or knows the names of its term.
+// Whether an entry is a new name, or knows the names of its term.
 fn entry_is_known(entry: &Entry, place: &Place<'_>) -> bool
     ensures { result ≡ spec.entry_is_known (names_at place.now) entry.now }
 {

@@ -10,4 +10,4 @@ mod sought;
 mod types;
 
 pub use scope::{Scope, Typed, is_dollar};
-pub use types::{kind_of_pieces, typed, typed_statement};
+pub use types::{typed, typed_statement};

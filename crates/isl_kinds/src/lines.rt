@@ -5,7 +5,7 @@ ghost use Rattle.isl_kinds.specs.Lines as spec;
 
 use isl_expr::tree::{Binary, Prefix, ValueKind};
 
-/// Kinds of two operands, and the kind of what is made of them.
+// Kinds of two operands, and the kind of what is made of them.
 type Line = (ValueKind, ValueKind, ValueKind);
 
 const SETS: Line = (ValueKind::Set, ValueKind::Set, ValueKind::Set);
@@ -22,7 +22,7 @@ const TRUTH_OF_SETS: Line = (ValueKind::Set, ValueKind::Set, ValueKind::Truth);
 
 const TRUTH_OF_MAPS: Line = (ValueKind::Map, ValueKind::Map, ValueKind::Truth);
 
-/// Whether what is given may stand where a kind is asked for: `Empty` is a set and a map.
+// Whether what is given may stand where a kind is asked for: `Empty` is a set and a map.
 fn fits(given: ValueKind, asked: ValueKind) -> bool
     ensures { result ≡ spec.fits given asked }
 {
@@ -30,7 +30,7 @@ fn fits(given: ValueKind, asked: ValueKind) -> bool
         || (given == ValueKind::Empty && matches!(asked, ValueKind::Set | ValueKind::Map))
 }
 
-/// The kind of a result: a set or a map that is made of nothing but empty operands is empty.
+// The kind of a result: a set or a map that is made of nothing but empty operands is empty.
 fn made(all_empty: bool, kind: ValueKind) -> ValueKind
     ensures { result ≡ spec.made all_empty kind }
 {
@@ -41,7 +41,7 @@ fn made(all_empty: bool, kind: ValueKind) -> ValueKind
     }
 }
 
-/// What the first line that fits makes of two operands.
+// What the first line that fits makes of two operands.
 fn by_lines(lines: &[Line], left: ValueKind, right: ValueKind) -> Option<ValueKind>
     ensures { result ≡ spec.by_lines lines.now left right }
 {
@@ -86,7 +86,7 @@ pub fn applied(map: ValueKind, argument: ValueKind) -> Option<ValueKind>
     by_lines(&[IMAGE, MAPS], map, argument)
 }
 
-/// What the first line that fits makes of one operand.
+// What the first line that fits makes of one operand.
 fn by_short_lines(lines: &[(ValueKind, ValueKind)], operand: ValueKind) -> Option<ValueKind>
     ensures { result ≡ spec.by_short_lines lines.now operand }
 {

@@ -10,7 +10,7 @@ use isl_expr::tree::{Expr, Link, Postfix};
 use isl_space::Name;
 use std::alloc::{AllocError, Global};
 
-/// Puts those of the others that are new behind the names.
+// Puts those of the others that are new behind the names.
 fn join(names: &mut IndexSet<Name>, others: &[Name]) -> Result<(), AllocError>
     ensures { OnOk result (names.new.keys ≡ joined_names names.old.keys others.now) }
 {

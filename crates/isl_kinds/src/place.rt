@@ -42,7 +42,7 @@ pub(crate) fn lone(term: &[Signed]) -> Option<&Name>
     }
 }
 
-/// Whether the name stands alone at the entry, or before `=`.
+// Whether the name stands alone at the entry, or before `=`.
 fn stands_at(name: &Name, entry: &Entry) -> bool
     ensures { result ≡ stands_at name.now entry.now }
 {

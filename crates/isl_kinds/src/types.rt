@@ -22,8 +22,8 @@ pub enum Purpose {
     Bound,
 }
 
-/// The kind of a literal with these pieces.
-pub fn kind_of_pieces(pieces: &[PieceTree]) -> ValueKind
+// The kind of a literal with these pieces.
+fn kind_of_pieces(pieces: &[PieceTree]) -> ValueKind
     ensures { result ≡ spec.kind_of_pieces pieces.now }
 {
     match pieces {
@@ -33,21 +33,21 @@ pub fn kind_of_pieces(pieces: &[PieceTree]) -> ValueKind
     }
 }
 
-/// What a word makes of an operand that may have no kind.
+// What a word makes of an operand that may have no kind.
 fn of_one(word: Prefix, operand: Option<ValueKind>) -> Option<ValueKind>
     ensures { result ≡ option_and_then (lines.prefixed word) operand }
 {
     prefixed(word, operand?)
 }
 
-/// What an operator makes of two operands that may have no kind.
+// What an operator makes of two operands that may have no kind.
 fn of_two(operator: Binary, left: Option<ValueKind>, right: Option<ValueKind>) -> Option<ValueKind>
     ensures { result ≡ spec.by_two (lines.joined operator) left right }
 {
     joined(operator, left?, right?)
 }
 
-/// What is made of three operands that may have no kind.
+// What is made of three operands that may have no kind.
 fn of_three(
     made: ValueKind,
     source: Option<ValueKind>,
@@ -59,7 +59,7 @@ fn of_three(
     dependence(made, source?, sink?, schedule?)
 }
 
-/// The kind of an expression, where for each operation some line of the table fits.
+// The kind of an expression, where for each operation some line of the table fits.
 #[cycle(kind)]
 fn kind(expr: &Expr, scope: &Scope) -> Option<ValueKind>
     ensures { result ≡ spec.kind_of scope.now expr.now }
@@ -151,12 +151,7 @@ fn kind_for(purpose: Purpose, expr: &Expr, scope: &Scope) -> Result<ValueKind, R
     }
 }
 
-/// The kind of an expression and its declared parameters, where its value is for this purpose.
-///
-/// # Errors
-/// In this order: `UnknownName` where a name is unbound, or an identifier of a literal unknown; `WrongKind` where an operation
-/// takes no operands of such kinds, or where a value of this kind may not be bound; `NoElement` where an element of a list is
-/// asked for that no list has. And `NoMemory`.
+// The kind of an expression and its declared parameters, where its value is for this purpose.
 fn type_for(alloc: Global, purpose: Purpose, expr: &Expr, scope: &Scope) -> Result<Typed, Refusal>
     ensures { Answers result (spec.type_for purpose scope.now expr.now) }
 {

@@ -29,7 +29,7 @@ use Rattle.isl_expr.specs.declared.tree.Expr.{Expr}
 use Rattle.isl_expr.specs.declared.tree.Expr as e
 use Rattle.isl_expr.specs.Expr.{literals_of, statement_literals}
 use Rattle.isl_space.specs.Limits.{most_leaves, most_parameters}
-use Rattle.isl_flat.specs.Unsupported.{is_unsupported}
+use Rattle.isl_eval.specs.Unsupported.{is_unsupported}
 use Rattle.isl_flat.proofs.SimpleLaws.{literals_kept}
 use Rattle.isl_stmt.specs.StatementGrammar.{statement_grammar}
 use Rattle.isl_stmt.specs.Limits.{statement_is_within}
@@ -47,7 +47,7 @@ use Rattle.isl_eval.specs.Causes.{AreDone, IsClear, IsFormedTooWide, IsInfinite,
 use Rattle.isl_eval.specs.Machine.{Answer, Step, Steps, nothing, shown}
 use Rattle.isl_eval.specs.Run.{Answers}
 use Rattle.isl_eval.proofs.CauseLaws.{of_tokens, of_statement, one as one_spelled}
-use Rattle.isl_eval.proofs.LexLaws.{lexed}
+use Rattle.isl_token.proofs.LexLaws.{lexed}
 use Rattle.isl_eval.proofs.LiteralLaws.{IsSpelled, literals_spelled}
 use Rattle.isl_values.proofs.KeptLaws.{declared_itself}
 use Rattle.isl_values.proofs.ForgetLaws.{kept_of_dollar, kept_of_forgotten}

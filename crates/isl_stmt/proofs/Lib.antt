@@ -8,5 +8,4 @@ pub mod ExpressionAgain
 pub mod StatementAgain
 pub mod LimitLaws
 pub mod ReadLaws
-pub mod LexLaws
 pub mod NameLaws

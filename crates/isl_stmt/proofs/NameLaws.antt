@@ -37,7 +37,7 @@ use Rattle.isl_stmt.specs.Expression.{row_of, post_of, dependence}
 use Rattle.isl_stmt.specs.ExpressionGrammar as g
 use Rattle.isl_stmt.specs.StatementGrammar as statement
 use Rattle.isl_stmt.specs.Names.{HasNoDollar}
-use Rattle.isl_stmt.proofs.LexLaws.{lexed}
+use Rattle.isl_token.proofs.LexLaws.{lexed}
 
 -- ---- words
 

@@ -12,3 +12,4 @@ pub mod Prints
 pub mod SignPrints
 pub mod SignLaws
 pub mod WordLaws
+pub mod LexLaws

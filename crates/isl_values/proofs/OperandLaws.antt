@@ -15,7 +15,7 @@ use Rattle.isl_operators.specs.Formed.{WordForms, FormsWide}
 use Rattle.isl_operators.specs.Made.{IsWordOf, word_works}
 use Rattle.isl_kinds.specs.Parts.{prefix, parts_of, parts_of_links, parts_of_postfixes}
 use Rattle.isl_kinds.specs.Typed.{declared_of, declared_of_row, declared_of_post}
-use Rattle.isl_kinds.proofs.DeclaredLaws.{declared_of-Row, declared_of-Post}
+use Rattle.isl_kinds.proofs.DeclaredLaws.{declared_of-Prefix, declared_of-Row, declared_of-Post}
 use Rattle.std.proofs.lemmas.Bool.{not-false}
 use Rattle.isl_values.specs.State.{StateView, scope_of}
 use Rattle.isl_values.specs.Selection.{Selects, RowSelects, PostSelects}
@@ -24,7 +24,7 @@ use Rattle.isl_values.specs.Formed.{IsTooWide, IsTooWideRow, IsTooWidePost}
 use Rattle.isl_values.specs.Made.{is_foreign, uses_units, IsReady, AreReady, AreReadyBehind, IsValueOf, IsPaid, IsWhyUnworked}
 use Rattle.isl_values.proofs.PartLaws.{sound_first, sound_links, sound_operand, sound_postfixes, sound_argument}
 use Rattle.isl_values.proofs.PartLaws.{row_quiet, post_quiet, word_quiet}
-use Rattle.isl_values.proofs.NarrowLaws.{row_declares, post_declares, declared_of-Prefix}
+use Rattle.isl_values.proofs.NarrowLaws.{row_declares, post_declares}
 use Rattle.isl_values.proofs.SameLaws.{turned, same_trans, same_word}
 use Rattle.isl_values.proofs.RowLaws.{same_row, selects_of-Row, same_post, selects_of-Post, selects_of-Prefix}
 use Rattle.isl_values.proofs.FormedLaws.{forms_wide, wide_row, wide_of-Row, wide_post, wide_of-Post, wide_of-Prefix}

@@ -15,9 +15,9 @@ use Rattle.isl_text.specs.declared.refusal.Refusal.{Refusal}
 use Rattle.isl_text.specs.declared.refusal.Refusal.TheVariants.{NoMemory}
 use Rattle.isl_operators.specs.Made.{IsWhyNone}
 use Rattle.isl_kinds.specs.Typed.{joined_names}
+use Rattle.isl_kinds.proofs.JoinedNamesLaws.{joined_is}
 use Rattle.isl_values.specs.State.{HasNumbersUpTo}
 use Rattle.isl_values.specs.Made.{refusal_of_fault, IsValueOf, IsPaid, IsWhyUnworked}
-use Rattle.isl_values.proofs.NarrowLaws.{joined_is}
 use Rattle.isl_values.proofs.ValueLaws.{unmade_memory}
 
 -- ---- the value of an outcome

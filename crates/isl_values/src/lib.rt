@@ -5,4 +5,4 @@ mod state;
 mod values;
 
 pub use state::{Kept, State};
-pub use values::{joined_past, value_of};
+pub use values::{joined_past, refusal_of, value_of};

@@ -37,7 +37,8 @@ use isl_union::{OpFault, Value};
 use std::alloc::Global;
 use std::rc::Rc;
 
-fn refusal_of(cut: Cut) -> Refusal
+/// Why a statement is refused whose work was cut so.
+pub fn refusal_of(cut: Cut) -> Refusal
     ensures { result ≡ refusal_of_cut cut }
 {
     match cut {
@@ -47,7 +48,7 @@ fn refusal_of(cut: Cut) -> Refusal
     }
 }
 
-/// What a literal writes, in pieces that define no column.
+// What a literal writes, in pieces that define no column.
 #[tactic(auto, using(std::proofs::lemmas::Grind::common_steps, isl_meter::proofs::CutLemmas::charges))]
 fn flat_value(alloc: Global, literal: &Literal, meter: &mut Meter) -> Result<Value, Cut>
     requires known { literal_is_known literal.now ≡ true }
@@ -62,7 +63,7 @@ fn flat_value(alloc: Global, literal: &Literal, meter: &mut Meter) -> Result<Val
     value.flat(alloc, meter)
 }
 
-/// What a literal writes, as a value.
+// What a literal writes, as a value.
 fn lowered(alloc: Global, literal: &Literal, meter: &mut Meter) -> Result<Rc<Value>, Refusal>
     requires known { literal_is_known literal.now ≡ true }
     requires well_formed { IsWellFormedLiteral literal.now }
@@ -77,7 +78,7 @@ fn lowered(alloc: Global, literal: &Literal, meter: &mut Meter) -> Result<Rc<Val
     }
 }
 
-/// What an operation made, to be shared, or what refuses it.
+// What an operation made, to be shared, or what refuses it.
 fn answered(alloc: Global, outcome: Result<Value, OpFault>) -> Result<Rc<Value>, Refusal>
     ensures { MatchResult result (λ value. outcome ≡ Ok value.value)
         (λ refusal. MatchResult outcome (λ _. refusal ≡ Refusal.NoMemory) (λ fault. refusal ≡ refusal_of_fault fault)) }
@@ -89,7 +90,7 @@ fn answered(alloc: Global, outcome: Result<Value, OpFault>) -> Result<Rc<Value>,
     }
 }
 
-/// What an operator makes of two values that have few enough parameters.
+// What an operator makes of two values that have few enough parameters.
 fn joined(
     alloc: Global,
     operator: Binary,
@@ -114,7 +115,7 @@ fn joined(
     answered(alloc, combined(alloc, operator, left, right, meter))
 }
 
-/// What a word makes of a value.
+// What a word makes of a value.
 fn worded(
     alloc: Global,
     word: Prefix,
@@ -135,7 +136,7 @@ fn worded(
     answered(alloc, transformed(alloc, word, operand, meter))
 }
 
-/// A map applied to a value, where the two have few enough parameters.
+// A map applied to a value, where the two have few enough parameters.
 fn applied_to(
     alloc: Global,
     map: &Value,
@@ -158,7 +159,7 @@ fn applied_to(
     answered(alloc, applied(alloc, map, argument, meter))
 }
 
-/// The inverse of a value of maps.
+// The inverse of a value of maps.
 fn inverted(alloc: Global, operand: &Value, meter: &mut Meter) -> Result<Rc<Value>, Refusal>
     requires numbers { HasNumbersUpTo (unsigned_abs (limit_of meter.old)) operand.now }
     requires definitions { HasNoDefinitions operand.now }
@@ -171,7 +172,7 @@ fn inverted(alloc: Global, operand: &Value, meter: &mut Meter) -> Result<Rc<Valu
     answered(alloc, inverse(alloc, operand, meter))
 }
 
-/// What follows an operand, made of its value.
+// What follows an operand, made of its value.
 #[cycle(value)]
 fn followed(
     alloc: Global,
@@ -204,7 +205,7 @@ fn followed(
     }
 }
 
-/// The value of an operand with all that follows it, from the left.
+// The value of an operand with all that follows it, from the left.
 #[cycle(value)]
 fn past_postfixes(
     alloc: Global,
