@@ -1,5 +1,6 @@
 -- Two values over their joined parameters.
-use Rattle.std.proofs.Common.{◌≡◌, sym, subst, List, [], All, Contains, map, unsigned_abs}
+use Rattle.std.proofs.Common.{◌≡◌, sym, ap, ◌∙◌, subst, List, [], All, Contains, map, unsigned_abs}
+use Rattle.std.proofs.lemmas.Simd.{map-map}
 use Rattle.isl_math.proofs.ListLaws.{All-unmapped}
 use Rattle.isl_meter.specs.Gauge.{Gauge, limit_of}
 use Rattle.isl_space.specs.Name.{Name}
@@ -7,10 +8,16 @@ use Rattle.isl_space.specs.Names.{IsParameterList, joined}
 use Rattle.isl_piece.specs.Piece.{PieceView}
 use Rattle.isl_union.specs.KeptValue.{KeptPiece, KeptValue, IsKeptValue}
 use Rattle.isl_union.specs.Minus.{ArePiecesOver, IsAlignedPair}
-use Rattle.isl_union.specs.Moved.{aligned_pieces}
+use Rattle.isl_union.specs.Moved.{aligned, aligned_pieces, moved}
 use Rattle.isl_union.specs.Numbers.{IsWithinLimit}
 use Rattle.isl_union.specs.Piece.{kept_piece, IsPieceOf}
 use Rattle.isl_union.proofs.ValueLaws.{aligned_all_plain, aligned_have, aligned_small, first_in, pieces_within, second_in}
+
+-- pieces over more parameters lie where they lay
+aligned_spaces : (all : List Name) (value : KeptValue)
+    → map (λ (p : KeptPiece). p.space) (aligned_pieces all value) ≡ map (λ (p : KeptPiece). p.space) value.pieces
+unfolding moved
+aligned_spaces all value = map-map (λ (p : KeptPiece). p.space) (aligned all value.params) value.pieces
 
 over_made : (g : Gauge) (params : List Name) (value : KeptValue) (pieces : List PieceView) → IsKeptValue value → IsWithinLimit g value
     → All (Contains params) value.params → map kept_piece pieces ≡ aligned_pieces params value → All (IsPieceOf params) pieces
@@ -23,6 +30,8 @@ over_made g params value pieces kept fits there is sound = record {
   definitions = λ none.
       All-unmapped (λ (p : KeptPiece). p.definitions ≡ []) kept_piece pieces
       (rw is (aligned_all_plain g params value kept fits there none));
+  spaces = sym (map-map (λ (p : KeptPiece). p.space) kept_piece pieces) ∙ ap (map (λ (p : KeptPiece). p.space)) is
+      ∙ aligned_spaces params value;
 }
 
 pub pair_made : (g : Gauge) (a b : KeptValue) (params : List Name) (own others : List PieceView) → params ≡ joined a.params b.params

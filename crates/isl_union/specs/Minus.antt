@@ -41,13 +41,15 @@ pub record AreCovered (params : List Name) (pieces others : List KeptPiece) : Ty
       → Any (HasElement params valuation element) pieces → Any (HasElement params valuation element) others
 
 -- ---- two values over their joined parameters
--- pieces over the parameters, within the limit, that have the elements of the value, and define no column where it defines none
+-- pieces over the parameters, within the limit, that have the elements of the value, and define no column where it defines none; one for each
+-- of the value's, in its space
 pub record ArePiecesOver (g : Gauge) (params : List Name) (value : KeptValue) (pieces : List PieceView) : Type 0 where
   pub sound : All (IsPieceOf params) pieces
   pub within : AreWithinLimit g pieces
   pub elements : (valuation : Valuation) (element : Element)
       → Any (HasElement params valuation element) (map kept_piece pieces) ↔ Has value valuation element
   pub definitions : HasNoDefinitions value → All (λ piece. piece.system.definitions ≡ []) pieces
+  pub spaces : map (λ piece. piece.space) pieces ≡ map (λ piece. piece.space) value.pieces
 
 -- the pieces of the one value and of the other over their joined parameters
 pub record IsAlignedPair (g : Gauge) (a b : KeptValue) (all : List Name) (firsts seconds : List PieceView) : Type 0 where
