@@ -1,7 +1,7 @@
 use Rattle.std.proofs.Common.{arith, pos}
 use Rattle.isl_math.proofs.Ring.{linear}
 use Rattle.isl_math.proofs.DivideLaws.{coprime_from_sum}
-use Rattle.tests_calls.proofs.numbers.inverses_are_right.Goals as goal
+use Rattle.tests_values.proofs.numbers.inverses_are_right.Goals as goal
 
 -- 2 * -3 + 7 is 1
 pub inverse-requires-clause-coprime : goal.inverse-requires-clause-coprime

@@ -1,8 +1,8 @@
 use Rattle.std.proofs.Common.{ap, ◌∙◌}
 use Rattle.isl_piece.specs.Piece.{PieceView}
 use Rattle.isl_piece.specs.declared.system.System.{System}
-use Rattle.tests_calls.proofs.Everywhere.{holds_somewhere}
-use Rattle.tests_calls.proofs.values.piece.Goals as goal
+use Rattle.tests_values.proofs.Everywhere.{holds_somewhere}
+use Rattle.tests_values.proofs.calls.piece.Goals as goal
 
 pub returns-clause-live : goal.returns-clause-live
 returns-clause-live c =

@@ -1,6 +1,6 @@
-//! At which points rows and systems hold.
+//! At which points rows and systems hold, said once more: plainly, slowly, and without contracts. It shares no definition with what is
+//! tested, so that the two can disagree.
 
-use crate::term::floor_of;
 use isl_piece::{Coefs, Definition, Row, RowKind, System};
 use std::alloc::{AllocError, Global};
 
@@ -27,8 +27,13 @@ fn holds(row: &Row, point: &[i128]) -> bool {
 }
 
 /// Whether each row holds at the point.
-pub fn all_hold(rows: &[Row], point: &[i128]) -> bool {
+pub(crate) fn all_hold(rows: &[Row], point: &[i128]) -> bool {
     rows.iter().all(|row| holds(row, point))
+}
+
+// The greatest whole number that is no greater than the quotient; 0 where nothing is divided by.
+fn floor_of(number: i128, by: i128) -> i128 {
+    number.checked_div_euclid(by).unwrap_or(0)
 }
 
 // Puts the numbers of the defined columns behind those of the free ones.
@@ -50,7 +55,11 @@ fn holds_within(system: &System, point: &mut Vec<i128>) -> Result<bool, AllocErr
 }
 
 /// Whether the system holds where its free columns have these numbers.
-pub fn system_holds(alloc: Global, system: &System, point: &[i128]) -> Result<bool, AllocError> {
+pub(crate) fn system_holds(
+    alloc: Global,
+    system: &System,
+    point: &[i128],
+) -> Result<bool, AllocError> {
     holds_within(system, &mut point.to_vec(alloc)?)
 }
 
@@ -60,7 +69,7 @@ fn number_at(place: u32, first: i128, side: u32) -> i128 {
 }
 
 /// The point with so many coordinates from `first` on, `side` numbers each, that has this number among them.
-pub fn numbered(
+pub(crate) fn numbered(
     alloc: Global,
     number: u32,
     columns: usize,
@@ -89,7 +98,7 @@ fn put(point: &mut [i128], columns: &[usize], number: u32) {
 
 /// Whether the system holds somewhere where its other free columns have these numbers, and those at `columns`, in order, some from
 /// -20 to 20.
-pub fn holds_somewhere(
+pub(crate) fn holds_somewhere(
     alloc: Global,
     system: &System,
     others: &[i128],

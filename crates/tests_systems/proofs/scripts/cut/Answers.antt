@@ -2,7 +2,7 @@ use Rattle.std.proofs.Common.{ℕ, ◌+◌, ◌≤◌, Bool, true, false, MatchB
 use Rattle.isl_script.specs.Script.{Bytes}
 use Rattle.isl_script.specs.Cutter.{Known, IsAt}
 use Rattle.isl_script.proofs.CutterLaws.{at-depth-le}
-use Rattle.tests_reference.proofs.scripts.cut.Goals as goal
+use Rattle.tests_systems.proofs.scripts.cut.Goals as goal
 
 -- after one more byte the part is at most a byte longer
 after_push : (ended : Bool) (known : Known) (part : Bytes) (b n : ℕ) → MatchBool ended (IsAt known []) (IsAt known (part ++ b ∷ [])) → length part ≤ n

@@ -1,13 +1,11 @@
-//! Calls of values and of pieces, once each, with ample memory.
+//! Calls of values and of pieces that no table can name.
 
-ghost use Rattle.std.specs.Prelude.{ℕ, All, IfOk};
+ghost use Rattle.std.specs.Prelude.{All, IfOk};
 ghost use Rattle.isl_space.specs.Names.{IsParameterList};
 ghost use Rattle.isl_space.specs.Space.{space_form_of};
 ghost use Rattle.isl_space.specs.SpaceForm.{IsWellFormedSpace};
-ghost use Rattle.isl_piece.specs.Formed.{IsSystemUpTo};
 ghost use Rattle.isl_piece.specs.System.{HoldsSystem, free_columns};
 ghost use Rattle.isl_elim.specs.Sample.{IsNowhere};
-ghost use Rattle.isl_union.specs.Numbers.{HasNumbersUpTo};
 ghost use Rattle.isl_union.specs.Piece.{IsPieceOver};
 
 use isl_meter::{Int, Meter};
@@ -34,7 +32,6 @@ fn space(alloc: Global, width: u32) -> Result<Space, SpaceFault>
 fn piece(alloc: Global, params: &Params, meter: &Meter) -> Result<Piece, SpaceFault>
     ensures over { IfOk result (IsPieceOver meter.now params.now) }
     ensures live { IfOk result (λ piece. ¬ IsNowhere (free_columns piece.system) (HoldsSystem piece.system)) }
-    ensures small { (most : ℕ) → IfOk result (λ piece. IsSystemUpTo most piece.system) }
 {
     let space = space(alloc, 2)?;
     let columns = params.len() + space.width() as usize;
@@ -46,19 +43,10 @@ fn piece(alloc: Global, params: &Params, meter: &Meter) -> Result<Piece, SpaceFa
 fn pieces(alloc: Global, params: &Params, meter: &Meter) -> Result<Vec<Piece>, SpaceFault>
     ensures over { IfOk result (λ pieces. All (IsPieceOver meter.now params.now) pieces.items) }
     ensures live { IfOk result (λ pieces. All (λ piece. ¬ IsNowhere (free_columns piece.system) (HoldsSystem piece.system)) pieces.items) }
-    ensures small { (most : ℕ) → IfOk result (λ pieces. All (λ piece. IsSystemUpTo most piece.system) pieces.items) }
 {
     let mut pieces = Vec::new(alloc);
     pieces.push(piece(alloc, params, meter)?)?;
     Ok(pieces)
-}
-
-fn value(alloc: Global, meter: &mut Meter) -> Result<Value, OpFault>
-    ensures { (most : ℕ) → IfOk result (HasNumbersUpTo most) }
-{
-    let params = params(alloc)?;
-    let pieces = pieces(alloc, &params, meter)?;
-    Ok(Value::from_pieces(alloc, params, pieces, meter)?)
 }
 
 fn live_value(alloc: Global, meter: &mut Meter) -> Result<Value, OpFault> {
@@ -79,59 +67,12 @@ fn is_all_of(value: &Value, pieces: usize, width: usize) -> bool {
     found.len() == pieces && found.iter().all(|piece| is_all(piece, width))
 }
 
-fn copied(alloc: Global) -> Result<bool, OpFault> {
-    let mut meter = Meter::new(127, 1000);
-    let value = value(alloc, &mut meter)?;
-    let copy = value.copy(alloc)?;
-    Ok(is_all_of(&copy, 1, 2) && is_all_of(&value, 1, 2))
-}
-
-fn empty_copied(alloc: Global) -> Result<bool, OpFault> {
-    let copy = Value::empty(alloc, params(alloc)?).copy(alloc)?;
-    Ok(is_all_of(&copy, 0, 2))
-}
-
+// Whether a value that is made of live pieces has these, and so has its copy.
 fn made_of_live(alloc: Global) -> Result<bool, OpFault> {
     let mut meter = Meter::new(127, 1000);
     let value = live_value(alloc, &mut meter)?;
-    Ok(is_all_of(&value, 1, 2) && meter.units() == 0)
-}
-
-fn projected(alloc: Global) -> Result<bool, OpFault> {
-    let mut meter = Meter::new(127, 1000);
-    let value = value(alloc, &mut meter)?;
-    let (from, to) = (space(alloc, 2)?, space(alloc, 1)?);
-    if to.width() + 1 != from.width() {
-        return Ok(false);
-    }
-    let left = value.project(alloc, &from, 0, 1, &to, &mut Meter::new(127, 1000))?;
-    Ok(is_all_of(&left, 1, 1) && is_all_of(&value, 1, 2))
-}
-
-fn bounded(alloc: Global) -> Result<bool, OpFault> {
-    let mut meter = Meter::new(127, 1000);
-    let value = value(alloc, &mut meter)?;
-    let is_bounded = value.bounded(alloc, &mut Meter::new(127, 1000))?;
-    Ok(!is_bounded)
-}
-
-fn bounded_at(alloc: Global) -> Result<bool, OpFault> {
-    let mut meter = Meter::new(127, 1000);
-    let value = value(alloc, &mut meter)?;
-    let at = Vec::from_elem(alloc, 0, value.params().len())?;
-    let is_bounded = value.bounded_at(alloc, at.as_slice(), &mut Meter::new(127, 1000))?;
-    Ok(!is_bounded)
-}
-
-fn sampled(alloc: Global) -> Result<bool, OpFault> {
-    let mut meter = Meter::new(127, 1000);
-    let value = value(alloc, &mut meter)?;
-    let sample = value.sample(alloc, &mut Meter::new(127, 1000))?;
-    let [piece] = sample.pieces() else {
-        return Ok(false);
-    };
-    let rows = piece.system().rows.as_slice();
-    Ok(rows.len() == 2 && rows.iter().all(|row| row.kind == RowKind::Zero))
+    let copy = value.copy(alloc)?;
+    Ok(is_all_of(&value, 1, 2) && is_all_of(&copy, 1, 2) && meter.units() == 0)
 }
 
 // The row that says that all numbers have a sum with 1 of at least 0, or of 0.
@@ -159,22 +100,10 @@ fn changed_alone(alloc: Global) -> Result<bool, SpaceFault> {
     Ok(is_pushed && is_replaced && copy.system().rows.is_empty() && is_all(&piece, 2))
 }
 
+pub(crate) fn live_pieces_are_right(alloc: Global) -> bool {
+    made_of_live(alloc) == Ok(true)
+}
+
 pub(crate) fn copies_are_right(alloc: Global) -> bool {
-    copied(alloc) == Ok(true) && empty_copied(alloc) == Ok(true)
-}
-
-pub(crate) fn pieces_are_right(alloc: Global) -> bool {
-    made_of_live(alloc) == Ok(true) && changed_alone(alloc) == Ok(true)
-}
-
-pub(crate) fn projections_are_right(alloc: Global) -> bool {
-    projected(alloc) == Ok(true)
-}
-
-pub(crate) fn bounds_are_right(alloc: Global) -> bool {
-    bounded(alloc) == Ok(true) && bounded_at(alloc) == Ok(true)
-}
-
-pub(crate) fn samples_are_right(alloc: Global) -> bool {
-    sampled(alloc) == Ok(true)
+    changed_alone(alloc) == Ok(true)
 }
