@@ -1,10 +1,10 @@
-//! What programs of tests read: cases, systems whose preconditions are looked at when they run, and long scripts.
+//! What programs of tests read and print: cases, systems whose preconditions are looked at when they run, and how many cases differ.
 #![tactic(auto)]
 
 mod case;
-mod long;
+mod count;
 mod rows;
 
 pub use case::{Form, bytes, field, is_case, number, numbers, words};
-pub use long::{LongScript, long_script};
-pub use rows::{are_definitions_within, are_proper, is_proper, is_proper_row, rows_of, system_of};
+pub use count::Count;
+pub use rows::{are_definitions_within, are_proper, is_proper_row, rows_of, system_of};

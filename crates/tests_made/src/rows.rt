@@ -142,13 +142,6 @@ pub fn are_definitions_within(definitions: &[Definition], meter: &Meter) -> bool
         .all(|definition| is_definition_within(definition, meter))
 }
 
-/// Whether the system has no defined columns, and the rows are such rows over its columns.
-pub fn is_proper(system: &System, meter: &Meter) -> bool
-    ensures { result ≡ true → IsSystemWithin meter.now system.now }
-{
-    system.definitions.is_empty() && are_proper(system.rows.as_slice(), system.columns, meter)
-}
-
 // What a definition says: its coefficients, the constant, and what is divided by.
 #[derive(Drop)]
 struct Division {

@@ -2,11 +2,11 @@
 
 ghost use Rattle.isl_piece.specs.System.{IsSystemWithin};
 
+use crate::reference::{holds_somewhere, numbered, system_holds};
 use crate::wanted::{FIRST, GIVEN, SIDE, WANTED, is_listed, points};
 use isl_elim::{eliminate, eliminate_all, is_empty, sample_point};
 use isl_meter::{Cut, Meter};
 use isl_piece::System;
-use tests_reference_model::{holds_somewhere, numbered, system_holds};
 use std::alloc::{AllocError, Global};
 use tests_made::{field, number, numbers, system_of};
 

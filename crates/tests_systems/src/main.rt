@@ -1,25 +1,30 @@
 //! Small systems, with defined columns and without: where they hold, their normal rows, what two of them have together, one without
-//! others, negations, and what elimination leaves of them. The cases stand in the file `stdin`, whose head says how they are written.
-//! What differs is printed, and how many cases there were.
+//! others, negations, and what elimination leaves of them; and where the statements of scripts end. The cases stand in the file `stdin`, whose head
+//! says how they are written. What differs is printed, and how many cases there were.
 #![tactic(auto)]
 
 mod elimination;
 mod made;
 mod minus;
+mod reference;
+mod scripts;
 mod systems;
+mod timed;
 mod wanted;
 
 use elimination::is_eliminated;
 use isl_meter::{Cut, Meter};
 use made::{defined_text, system_text};
 use minus::is_subtracted;
+use scripts::{script_is_right, short_scripts_are_right};
 use std::alloc::Global;
 use std::io;
 use systems::{all_tell, is_met, is_negated, is_normalised};
-use tests_made::{Form, field, is_case, number, rows_of};
+use tests_made::{Count, Form, field, is_case, number, rows_of};
+use timed::is_timed;
 
 // The lines of a case.
-const FORMS: [(&str, Form); 19] = [
+const FORMS: [(&str, Form); 23] = [
     ("#", Form::Text),
     ("case ", Form::Text),
     ("do ", Form::Text),
@@ -39,6 +44,10 @@ const FORMS: [(&str, Form); 19] = [
     ("units ", Form::Number),
     ("empty-units ", Form::Number),
     ("sample-units ", Form::Number),
+    ("turns ", Form::Number),
+    ("script", Form::Text),
+    ("ends ", Form::Numbers),
+    ("rest", Form::Text),
 ];
 
 // Whether a case comes to what is wanted.
@@ -55,6 +64,9 @@ fn is_right(alloc: Global, case: &str) -> Result<bool, Cut> {
             _ => Ok(false),
         },
         "eliminate" => is_eliminated(alloc, case, columns),
+        "time" => is_timed(alloc, case, number(case, "columns ", 2)),
+        "cut" => Ok(script_is_right(alloc, case)?),
+        "cut-short" => Ok(short_scripts_are_right(alloc)?),
         _ => Ok(false),
     }
 }
@@ -68,22 +80,27 @@ fn holds(rt: &impl Print, alloc: Global, case: &str) -> io::Result<bool> {
     Ok(right)
 }
 
+// The systems that no table has.
+fn made_hold(rt: &impl Print, alloc: Global, count: &mut Count) -> io::Result<()> {
+    for at in 0..378 {
+        count.add(holds(rt, alloc, &system_text(alloc, at)?)?);
+    }
+    for at in 0..540 {
+        count.add(holds(rt, alloc, &defined_text(alloc, at)?)?);
+    }
+    Ok(())
+}
+
 fn main(rt: HostRuntime) -> io::Result<()> {
     let alloc = rt.alloc();
     let text = io::read_to_string(alloc, rt.reader())?;
-    let mut cases = 0u32;
-    let mut differ = 0u32;
+    let mut count = Count::new();
     for case in text.as_str().split("\n\n").skip(1) {
-        cases = cases.saturating_add(1);
-        differ = differ.saturating_add(u32::from(!holds(&rt, alloc, case)?));
+        if field(case, "do ") == Some("made") {
+            made_hold(&rt, alloc, &mut count)?;
+        } else {
+            count.add(holds(&rt, alloc, case)?);
+        }
     }
-    for at in 0..378 {
-        cases = cases.saturating_add(1);
-        differ = differ.saturating_add(u32::from(!holds(&rt, alloc, &system_text(alloc, at)?)?));
-    }
-    for at in 0..540 {
-        cases = cases.saturating_add(1);
-        differ = differ.saturating_add(u32::from(!holds(&rt, alloc, &defined_text(alloc, at)?)?));
-    }
-    println!(&rt; "{cases} cases, {differ} differ")
+    count.print(&rt)
 }

@@ -3,11 +3,11 @@
 ghost use Rattle.std.specs.Prelude.{◌≡◌, All, IfOk, IfSome, map};
 ghost use Rattle.isl_piece.specs.System.{IsSystemWithin, free_columns};
 
+use crate::reference::{numbered, system_holds};
 use crate::wanted::{FIRST, GIVEN, OTHER, SIDE, is_listed, points};
 use isl_difference::{is_covered, outside, subtract};
 use isl_meter::{Cut, Meter};
 use isl_piece::System;
-use tests_reference_model::{numbered, system_holds};
 use std::alloc::{AllocError, Global};
 use tests_made::{field, number, system_of};
 

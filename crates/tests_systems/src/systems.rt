@@ -1,9 +1,9 @@
 //! Where systems hold, their normal rows, what two of them have together, and negations.
 
+use crate::reference::{all_hold, numbered, system_holds};
 use crate::wanted::{FIRST, GIVEN, OTHER, SIDE, WANTED, is_listed, points};
 use isl_meter::{Cut, Meter};
 use isl_piece::{Row, Rows, System, meet, negate, normalise};
-use tests_reference_model::{all_hold, numbered, system_holds};
 use std::alloc::{AllocError, Global};
 use std::slice;
 use tests_made::{field, is_proper_row, system_of};

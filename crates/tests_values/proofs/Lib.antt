@@ -1,1 +1,2 @@
+mod Everywhere
 mod Within

@@ -1,11 +1,15 @@
 //! Values of pieces with any rows, defined columns and nested tuples, what operations answer of them, and how they print. The cases
-//! stand in the file `stdin`, whose head says how they are written. What differs is printed, and how many cases there were.
+//! stand in the file `stdin`, whose head says how they are written. Behind them come calls that no table can name. What differs is printed,
+//! and how many cases there were.
 #![tactic(auto)]
 
 ghost use Rattle.std.specs.Prelude.{All, IfOk, IfSome};
 ghost use Rattle.isl_union.specs.Piece.{IsPieceOver};
 
+mod calls;
+mod ends;
 mod limit;
+mod numbers;
 mod operation;
 mod params;
 mod relations;
@@ -22,7 +26,7 @@ use isl_space::{Params, SpaceFault};
 use isl_union::{OpFault, Value};
 use std::alloc::Global;
 use std::io;
-use tests_made::{Form, field, is_case, number, system_of};
+use tests_made::{Count, Form, field, is_case, number, system_of};
 
 // The lines of a case.
 const FORMS: [(&str, Form); 11] = [
@@ -182,14 +186,34 @@ fn holds(rt: &impl Print, alloc: Global, case: &str) -> io::Result<bool> {
     Ok(right)
 }
 
+// Calls that no table can name, each with its name.
+fn calls_hold(rt: &impl Print, alloc: Global, count: &mut Count) -> io::Result<()> {
+    for (name, right) in [
+        ("values of live pieces", calls::live_pieces_are_right(alloc)),
+        ("copies of pieces", calls::copies_are_right(alloc)),
+        ("division", numbers::division_is_right()),
+        ("inverses", numbers::inverses_are_right()),
+        ("the widest limit", numbers::widest_limit_is_right()),
+        ("the least limit", numbers::least_limit_is_right()),
+        ("the budget", numbers::budget_is_right()),
+        ("ends over other streams", ends::streams_are_passed_on()),
+        ("clean ends", ends::clean_ends_take_all(alloc)),
+    ] {
+        if !right {
+            println!(rt; "{name} differ")?;
+        }
+        count.add(right);
+    }
+    Ok(())
+}
+
 fn main(rt: HostRuntime) -> io::Result<()> {
     let alloc = rt.alloc();
     let text = io::read_to_string(alloc, rt.reader())?;
-    let mut cases = 0u32;
-    let mut differ = 0u32;
+    let mut count = Count::new();
     for case in text.as_str().split("\n\n").skip(1) {
-        cases = cases.saturating_add(1);
-        differ = differ.saturating_add(u32::from(!holds(&rt, alloc, case)?));
+        count.add(holds(&rt, alloc, case)?);
     }
-    println!(&rt; "{cases} cases, {differ} differ")
+    calls_hold(&rt, alloc, &mut count)?;
+    count.print(&rt)
 }
