@@ -3,6 +3,7 @@ pub mod DarkShadowLemmas
 pub mod EliminateLemmas
 pub mod ExactLemmas
 pub mod LeastEquality
+pub mod MirrorLaws
 pub mod NeighbourLemmas
 pub mod PartsLemmas
 pub mod RealShadowLemmas

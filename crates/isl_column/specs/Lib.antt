@@ -2,6 +2,7 @@ pub mod Column
 pub mod DarkShadow
 pub mod Exact
 pub mod Magnitude
+pub mod Mirror
 pub mod Parts
 pub mod RealShadow
 pub mod Residue

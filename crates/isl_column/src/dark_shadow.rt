@@ -7,6 +7,7 @@ ghost use Rattle.isl_omega.specs.Magnitude.{IsNoOverflow, IsNoOverflowWith, AreS
 ghost use Rattle.isl_omega.specs.Units.{IsDoneFor};
 ghost use Rattle.isl_column.specs.Magnitude.{IsSmallDarkShadow};
 
+use crate::mirror::{ask_for_fewer, mirrored_sides};
 use isl_meter::{Cut, Meter};
 use isl_omega::column::Column;
 use isl_omega::pair::reduced_by;
@@ -128,6 +129,25 @@ impl DarkShadow {
         Ok(DarkShadow { rows, dark, tails })
     }
 
+    // Where both sides have bounds, from the side that asks for fewer splinters: some whole number stands at the column exactly where
+    // its opposite stands at the column negated.
+    fn cheaper(alloc: Global, sides: &Sides, column: Column, meter: &mut Meter) -> Result<Self, Cut>
+        requires sided { AreSided meter.old column.columns column.at sides.now }
+        requires divides { sides.now.divides ≡ [] }
+        requires not_divides { length sides.now.not_divides < 2 }
+        requires lowers { sides.now.lowers ≢ [] }
+        requires uppers { sides.now.uppers ≢ [] }
+        ensures exact { IsDoneFor (length sides.now.lowers * length sides.now.uppers) meter.old meter.new
+            (IsDarkShadowWithFewSplinters meter.old column.columns column.at sides.now) result }
+        ensures no_overflow { meter.old.bits ≡ 127 → AreSidesUpTo substituted_magnitude sides.now → IsNoOverflowWith IsSmallDarkShadow result }
+    {
+        if sides.not_divides.is_empty() && ask_for_fewer(sides, column, meter)? {
+            let mirrored = mirrored_sides(alloc, sides, column, meter)?;
+            return DarkShadow::closed(alloc, &mirrored, column, meter);
+        }
+        DarkShadow::closed(alloc, sides, column, meter)
+    }
+
     /// What the sides leave, where no congruence is among them and at most one row that must not be divided.
     pub fn of(alloc: Global, sides: &Sides, column: Column, meter: &mut Meter) -> Result<Self, Cut>
         requires sided { AreSided meter.old column.columns column.at sides.now }
@@ -140,6 +160,6 @@ impl DarkShadow {
         if sides.lowers.is_empty() || sides.uppers.is_empty() {
             return DarkShadow::open(alloc, sides, column, meter);
         }
-        DarkShadow::closed(alloc, sides, column, meter)
+        DarkShadow::cheaper(alloc, sides, column, meter)
     }
 }

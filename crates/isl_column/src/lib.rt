@@ -6,6 +6,7 @@ mod dark_shadow;
 mod eliminate;
 mod equality;
 mod exact;
+mod mirror;
 mod parts;
 mod real;
 mod residue;
