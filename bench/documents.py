@@ -1,8 +1,8 @@
 #!/usr/bin/env python3
 """Whether the documents speak of what is there, and how many words they have.
 
-A word that begins an item of docs/DEFINITIONS.md must stand in `specs/` of a crate that the item or its head names. A crate, a path or an edit
-that a page names must be there. Prints each page's words, and what is not there.
+A word that begins an item of docs/DEFINITIONS.md must stand in `specs/` of a crate that the item or its head names. A crate, a path or
+an edit that a page names must be there. Prints each page's words, and what is not there.
 """
 import glob
 import os
