@@ -21,7 +21,10 @@ use Rattle.isl_elim.specs.Elimination.{HoldsAtAny}
 use Rattle.isl_elim.specs.Flatten.{IsFlattening}
 use Rattle.isl_elim.proofs.ProjectionLaws.{plain_free}
 use Rattle.isl_tower.specs.Bounded.{AreUpTo, IsBounded, IsBoundedAt}
+use Rattle.isl_union.specs.declared.bounded.Front.{Front}
+use Rattle.isl_union.specs.declared.bounded.Front.TheVariants.{Each, At}
 use Rattle.isl_union.specs.Finite.{IsFinite, IsFiniteAt}
+use Rattle.isl_union.specs.Front.{IsBoundedBehind}
 use Rattle.isl_union.specs.KeptValue.{KeptPiece, KeptValue, HasElement, piece_system}
 use Rattle.isl_union.specs.Numbers.{AreWithinLimit, IsPieceUpTo, IsWithinLimit}
 use Rattle.isl_union.specs.Piece.{kept_piece, IsPieceOf}
@@ -89,6 +92,10 @@ module _ (s : System) (plain : List System) (flat : IsFlattening s plain) where
     (λ all front l. (flat_bounded_at front).0 (λ i t low. all i t low front l)),
     (λ whole i t low front l. (flat_bounded_at front).1 (whole front l) i t low),
   )
+
+  pub flat_behind : (front : Front) → All (IsBoundedBehind front) plain ↔ IsBoundedBehind front s
+  flat_behind (Each outer) = flat_bounded outer
+  flat_behind (At numbers) = flat_bounded_at numbers.now
 
 -- ---- a value has finitely many elements exactly where each of its pieces has
 module _ (params : List Name) (v : Valuation) where

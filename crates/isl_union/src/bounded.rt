@@ -4,9 +4,9 @@ ghost use Rattle.std.specs.Prelude.{◌≡◌, ◌↔◌, ◌≤◌, [], All, If
 ghost use Rattle.isl_meter.specs.Gauge.{IsCharged, IsMetered};
 ghost use Rattle.isl_space.specs.Valuation.{Valuation, values_of};
 ghost use Rattle.isl_piece.specs.System.{IsSystemWithin, free_columns};
-ghost use Rattle.isl_tower.specs.Bounded.{IsBounded, IsBoundedAt};
 ghost use Rattle.isl_union.specs.Fault.{IsCutFault};
 ghost use Rattle.isl_union.specs.Finite.{IsFinite, IsFiniteAt};
+ghost use Rattle.isl_union.specs.Front.{front_width, IsBoundedBehind};
 ghost use Rattle.isl_union.specs.Numbers.{AreWithinLimit, IsWithinLimit};
 
 use crate::{OpFault, Value};
@@ -16,22 +16,49 @@ use isl_piece::{Piece, System};
 use isl_tower::{is_bounded, is_bounded_at};
 use std::alloc::Global;
 
-// Whether each of the systems, which define no column, is bounded in the columns behind its first `outer` ones.
+// The numbers at the front of points, behind which others are asked to be bounded: all lists of so many, or this one.
+#[derive(Clone, Copy)]
+enum Front<'a> {
+    Each(usize),
+    At(&'a [i128]),
+}
+
+// Whether the system, which defines no column, is bounded behind the front.
+#[tactic(auto, using(std::proofs::lemmas::Grind::common_steps, isl_meter::proofs::CutLemmas::charges))]
+fn is_plain_bounded(
+    alloc: Global,
+    system: &System,
+    front: &Front<'_>,
+    meter: &mut Meter,
+) -> Result<bool, Cut>
+    requires within { IsSystemWithin meter.old system.now }
+    requires plain { system.now.definitions ≡ [] }
+    requires columns { front_width front.now ≤ free_columns system.now }
+    ensures exact { IfOk result (λ bounded. IsTrue bounded ↔ IsBoundedBehind front.now system.now) }
+    ensures meter { IsMetered meter.old meter.new result }
+{
+    match *front {
+        Front::Each(outer) => is_bounded(alloc, system, outer, meter),
+        Front::At(numbers) => is_bounded_at(alloc, system, numbers, meter),
+    }
+}
+
+// Whether each of the systems, which define no column, is bounded behind the front.
 #[tactic(auto, using(std::proofs::lemmas::Grind::common_steps, isl_meter::proofs::CutLemmas::charges))]
 fn are_bounded(
     alloc: Global,
     systems: &[System],
-    outer: usize,
+    front: &Front<'_>,
     meter: &mut Meter,
 ) -> Result<bool, Cut>
     requires within { All (IsSystemWithin meter.old) systems.now }
     requires plain { All (λ s. s.definitions ≡ []) systems.now }
-    requires columns { All (λ s. outer ≤ free_columns s) systems.now }
-    ensures exact { IfOk result (λ bounded. IsTrue bounded ↔ All (λ s. IsBounded s outer) systems.now) }
+    requires columns { All (λ s. front_width front.now ≤ free_columns s) systems.now }
+    ensures exact { IfOk result (λ bounded. IsTrue bounded ↔ All (IsBoundedBehind front.now) systems.now) }
     ensures meter { IsMetered meter.old meter.new result }
 {
     for system in systems {
-        if !is_bounded(alloc, system, outer, meter)? {
+        if !is_plain_bounded(alloc, system, front, meter)? {
             return Ok(false);
         }
     }
@@ -43,16 +70,16 @@ fn are_bounded(
 fn is_system_bounded(
     alloc: Global,
     system: &System,
-    outer: usize,
+    front: &Front<'_>,
     meter: &mut Meter,
 ) -> Result<bool, Cut>
     requires within { IsSystemWithin meter.old system.now }
-    requires columns { outer ≤ free_columns system.now }
-    ensures exact { IfOk result (λ bounded. IsTrue bounded ↔ IsBounded system.now outer) }
+    requires columns { front_width front.now ≤ free_columns system.now }
+    ensures exact { IfOk result (λ bounded. IsTrue bounded ↔ IsBoundedBehind front.now system.now) }
     ensures meter { IsMetered meter.old meter.new result }
 {
     let systems = flatten(alloc, system, meter)?;
-    are_bounded(alloc, systems.as_slice(), outer, meter)
+    are_bounded(alloc, systems.as_slice(), front, meter)
 }
 
 // The same of the systems of the pieces.
@@ -60,76 +87,16 @@ fn is_system_bounded(
 fn are_pieces_bounded(
     alloc: Global,
     pieces: &[Piece],
-    outer: usize,
+    front: &Front<'_>,
     meter: &mut Meter,
 ) -> Result<bool, Cut>
     requires within { AreWithinLimit meter.old pieces.now }
-    requires columns { All (λ piece. outer ≤ free_columns piece.system) pieces.now }
-    ensures exact { IfOk result (λ bounded. IsTrue bounded ↔ All (λ piece. IsBounded piece.system outer) pieces.now) }
+    requires columns { All (λ piece. front_width front.now ≤ free_columns piece.system) pieces.now }
+    ensures exact { IfOk result (λ bounded. IsTrue bounded ↔ All (λ piece. IsBoundedBehind front.now piece.system) pieces.now) }
     ensures meter { IsMetered meter.old meter.new result }
 {
     for piece in pieces {
-        if !is_system_bounded(alloc, piece.system(), outer, meter)? {
-            return Ok(false);
-        }
-    }
-    Ok(true)
-}
-
-// Whether each of the systems, which define no column, is bounded where its first columns have these numbers.
-#[tactic(auto, using(std::proofs::lemmas::Grind::common_steps, isl_meter::proofs::CutLemmas::charges))]
-fn are_bounded_at(
-    alloc: Global,
-    systems: &[System],
-    numbers: &[i128],
-    meter: &mut Meter,
-) -> Result<bool, Cut>
-    requires within { All (IsSystemWithin meter.old) systems.now }
-    requires plain { All (λ s. s.definitions ≡ []) systems.now }
-    requires columns { All (λ s. length numbers.now ≤ free_columns s) systems.now }
-    ensures exact { IfOk result (λ bounded. IsTrue bounded ↔ All (λ s. IsBoundedAt s numbers.now) systems.now) }
-    ensures meter { IsMetered meter.old meter.new result }
-{
-    for system in systems {
-        if !is_bounded_at(alloc, system, numbers, meter)? {
-            return Ok(false);
-        }
-    }
-    Ok(true)
-}
-
-// The same of one system, with defined columns or without.
-#[tactic(auto, using(std::proofs::lemmas::Grind::common_steps, isl_meter::proofs::CutLemmas::charges))]
-fn is_system_bounded_at(
-    alloc: Global,
-    system: &System,
-    numbers: &[i128],
-    meter: &mut Meter,
-) -> Result<bool, Cut>
-    requires within { IsSystemWithin meter.old system.now }
-    requires columns { length numbers.now ≤ free_columns system.now }
-    ensures exact { IfOk result (λ bounded. IsTrue bounded ↔ IsBoundedAt system.now numbers.now) }
-    ensures meter { IsMetered meter.old meter.new result }
-{
-    let systems = flatten(alloc, system, meter)?;
-    are_bounded_at(alloc, systems.as_slice(), numbers, meter)
-}
-
-// The same of the systems of the pieces.
-#[tactic(auto, using(std::proofs::lemmas::Grind::common_steps, isl_meter::proofs::CutLemmas::charges))]
-fn are_pieces_bounded_at(
-    alloc: Global,
-    pieces: &[Piece],
-    numbers: &[i128],
-    meter: &mut Meter,
-) -> Result<bool, Cut>
-    requires within { AreWithinLimit meter.old pieces.now }
-    requires columns { All (λ piece. length numbers.now ≤ free_columns piece.system) pieces.now }
-    ensures exact { IfOk result (λ bounded. IsTrue bounded ↔ All (λ piece. IsBoundedAt piece.system numbers.now) pieces.now) }
-    ensures meter { IsMetered meter.old meter.new result }
-{
-    for piece in pieces {
-        if !is_system_bounded_at(alloc, piece.system(), numbers, meter)? {
+        if !is_system_bounded(alloc, piece.system(), front, meter)? {
             return Ok(false);
         }
     }
@@ -149,8 +116,8 @@ impl Value {
         ensures exact { IfOk result (λ bounded. IsTrue bounded ↔ IsFinite self.now) }
         ensures meter { MatchResult result (λ _. IsCharged meter.old meter.new) (IsCutFault meter.old meter.new) }
     {
-        let outer = self.params().len();
-        Ok(are_pieces_bounded(alloc, self.pieces(), outer, meter)?)
+        let front = Front::Each(self.params().len());
+        Ok(are_pieces_bounded(alloc, self.pieces(), &front, meter)?)
     }
 
     /// Whether the value has finitely many elements where its parameters have these numbers, in their order. (isl manual, on
@@ -168,6 +135,7 @@ impl Value {
             → IfOk result (λ bounded. IsTrue bounded ↔ IsFiniteAt self.now valuation) }
         ensures meter { MatchResult result (λ _. IsCharged meter.old meter.new) (IsCutFault meter.old meter.new) }
     {
-        Ok(are_pieces_bounded_at(alloc, self.pieces(), at, meter)?)
+        let front = Front::At(at);
+        Ok(are_pieces_bounded(alloc, self.pieces(), &front, meter)?)
     }
 }

@@ -9,7 +9,6 @@ ghost use Rattle.isl_union.specs.KeptValue.{Has, HasNoDefinitions, IsKeptValue};
 ghost use Rattle.isl_union.specs.Numbers.{IsWithinLimit};
 
 use crate::Value;
-use crate::aligned::append;
 use crate::pieces::live_pieces_in;
 use isl_elim::flatten;
 use isl_meter::{Cut, Meter};
@@ -46,10 +45,8 @@ impl Value {
                 continue;
             }
             let systems = flatten(alloc, system, meter)?;
-            append(
-                &mut kept,
-                live_pieces_in(alloc, params, piece.space(), systems, meter)?,
-            )?;
+            let mut more = live_pieces_in(alloc, params, piece.space(), systems, meter)?;
+            kept.append(&mut more)?;
         }
         Ok(Value::from_normal(params.copy(alloc)?, kept))
     }

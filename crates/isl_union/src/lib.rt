@@ -20,5 +20,5 @@ pub use aligned::{aligned_pieces, append};
 pub use fault::OpFault;
 pub use live::{live_piece, push_found, settled_piece};
 pub use pair::{AlignedPair, aligned_pair};
-pub use pieces::live_pieces_in;
+pub use pieces::{live_pieces_in, pieces_in};
 pub use value::Value;

@@ -15,7 +15,7 @@ ghost use Rattle.isl_union.specs.Meet.{met_piece, met_pieces, met_with, pair_cou
 ghost use Rattle.isl_union.specs.Numbers.{AreWithinLimit, HasNumbersUpTo, IsWithinLimit};
 ghost use Rattle.isl_union.specs.Piece.{kept_piece, IsPieceOf};
 
-use crate::aligned::{aligned_pieces, append};
+use crate::aligned::aligned_pieces;
 use crate::live::{live_piece, push_found};
 use crate::{OpFault, Value};
 use isl_meter::{Cut, Meter};
@@ -100,7 +100,8 @@ fn met_pieces(
 {
     let mut met = Vec::new(alloc);
     for piece in pieces {
-        append(&mut met, met_with(alloc, params, piece, others, meter)?)?;
+        let mut more = met_with(alloc, params, piece, others, meter)?;
+        met.append(&mut more)?;
     }
     Ok(met)
 }

@@ -10,12 +10,12 @@ ghost use Rattle.isl_space.specs.Valuation.{Valuation};
 ghost use Rattle.isl_piece.specs.System.{IsSystemWithin};
 ghost use Rattle.isl_union.specs.Fault.{IsFaultBy};
 ghost use Rattle.isl_union.specs.KeptValue.{Has, HasNoDefinitions, IsKeptValue};
-ghost use Rattle.isl_union.specs.Minus.{piece_in, systems_in, AreLeftOf};
+ghost use Rattle.isl_union.specs.Minus.{systems_in, AreLeftOf};
 ghost use Rattle.isl_union.specs.Numbers.{AreWithinLimit, IsWithinLimit};
 ghost use Rattle.isl_union.specs.Piece.{kept_piece, IsPieceOf};
 
-use crate::aligned::append;
 use crate::pair::aligned_pair;
+use crate::pieces::pieces_in;
 use crate::{OpFault, Value};
 use isl_difference::outside;
 use isl_meter::{Cut, Meter};
@@ -38,17 +38,6 @@ pub(crate) fn systems_in<'a>(
         }
     }
     Ok(systems)
-}
-
-// A piece of the space for each of the systems.
-fn pieces_in(alloc: Global, space: &Space, systems: Vec<System>) -> Result<Vec<Piece>, AllocError>
-    ensures { IfOk result (λ pieces. pieces.items ≡ map (piece_in (space_form_of space.now)) systems.items) }
-{
-    let mut pieces = Vec::with_capacity(alloc, systems.len())?;
-    for system in systems {
-        pieces.push(Piece::new(alloc, space.copy()?, system)?)?;
-    }
-    Ok(pieces)
 }
 
 // What is left of the piece without the others.
@@ -105,10 +94,8 @@ fn pieces_without(
 {
     let mut left = Vec::new(alloc);
     for piece in pieces {
-        append(
-            &mut left,
-            piece_without(alloc, params, piece, others, meter)?,
-        )?;
+        let mut parts = piece_without(alloc, params, piece, others, meter)?;
+        left.append(&mut parts)?;
     }
     Ok(left)
 }

@@ -8,6 +8,7 @@ ghost use Rattle.isl_space.specs.SpaceForm.{IsWellFormedSpace};
 ghost use Rattle.isl_space.specs.Valuation.{Valuation};
 ghost use Rattle.isl_piece.specs.System.{IsSystemWithin, free_columns};
 ghost use Rattle.isl_union.specs.KeptValue.{HasElement, columns_of};
+ghost use Rattle.isl_union.specs.Minus.{piece_in};
 ghost use Rattle.isl_union.specs.Numbers.{IsPieceUpTo};
 ghost use Rattle.isl_union.specs.Piece.{kept_piece, IsPieceOf};
 ghost use Rattle.isl_union.specs.Pieces.{IsOfAny};
@@ -16,7 +17,26 @@ use crate::live::{live_piece, push_found};
 use isl_meter::{Cut, Meter};
 use isl_piece::{Piece, System};
 use isl_space::{Params, Space};
-use std::alloc::Global;
+use std::alloc::{AllocError, Global};
+
+/// A piece of the space for each of the systems, in their order.
+///
+/// # Errors
+///
+/// Where memory ends.
+pub fn pieces_in(
+    alloc: Global,
+    space: &Space,
+    systems: Vec<System>,
+) -> Result<Vec<Piece>, AllocError>
+    ensures { IfOk result (λ pieces. pieces.items ≡ map (piece_in (space_form_of space.now)) systems.items) }
+{
+    let mut pieces = Vec::with_capacity(alloc, systems.len())?;
+    for system in systems {
+        pieces.push(Piece::new(alloc, space.copy()?, system)?)?;
+    }
+    Ok(pieces)
+}
 
 /// The pieces of the space with the systems' normal rows; none for a system that holds at no point.
 ///

@@ -14,7 +14,6 @@ ghost use Rattle.isl_union.specs.KeptValue.{Has, HasNoDefinitions, IsKeptValue};
 ghost use Rattle.isl_union.specs.Numbers.{IsWithinLimit};
 ghost use Rattle.isl_union.specs.Project.{IsNarrower, IsProjected};
 
-use crate::aligned::append;
 use crate::pieces::live_pieces_in;
 use crate::{OpFault, Value};
 use isl_elim::{columns_between, eliminate_all};
@@ -84,10 +83,8 @@ impl Value {
                 continue;
             }
             let systems = without_columns(alloc, piece.system(), first, count, meter)?;
-            append(
-                &mut kept,
-                live_pieces_in(alloc, params, to, systems, meter)?,
-            )?;
+            let mut more = live_pieces_in(alloc, params, to, systems, meter)?;
+            kept.append(&mut more)?;
         }
         Ok(Value::from_normal(params.copy(alloc)?, kept))
     }

@@ -10,7 +10,7 @@ ghost use Rattle.isl_union.specs.KeptValue.{Has, HasNoDefinitions, IsKeptValue};
 ghost use Rattle.isl_union.specs.Numbers.{HasNumbersUpTo, IsWithinLimit};
 ghost use Rattle.isl_union.specs.Union.{union_of};
 
-use crate::aligned::{aligned_pieces, append};
+use crate::aligned::aligned_pieces;
 use crate::{OpFault, Value};
 use isl_meter::Meter;
 use std::alloc::Global;
@@ -41,7 +41,8 @@ impl Value {
     {
         let (params, _places) = self.params().align(alloc, other.params())?;
         let mut pieces = aligned_pieces(alloc, &params, self, meter)?;
-        append(&mut pieces, aligned_pieces(alloc, &params, other, meter)?)?;
+        let mut others = aligned_pieces(alloc, &params, other, meter)?;
+        pieces.append(&mut others)?;
         Ok(Value::from_normal(params, pieces))
     }
 }

@@ -7,7 +7,7 @@ use Rattle.isl_meter.proofs.CutLemmas.{IsCharged_trans}
 use Rattle.isl_piece.specs.Piece.{PieceView}
 use Rattle.isl_piece.specs.declared.system.System.{System}
 use Rattle.isl_piece.specs.System.{IsSystemWithin, free_columns}
-use Rattle.isl_tower.specs.Bounded.{IsBounded}
+use Rattle.isl_union.specs.Front.{front_width, IsBoundedBehind}
 use Rattle.isl_union.proofs.BoundedLaws.{all_have, one_has, one_lacks, one_more}
 use Rattle.isl_union.proofs.MeetSteps.{pieces_later}
 use Rattle.isl_union.proofs.bounded.are_pieces_bounded.Goals as goal
@@ -21,10 +21,11 @@ loop-piece-preserved c =
     let i = c.loop-piece.piece-index in
     let piece = c.piece-item.result in
     let low : i < length pieces = grind (arith, common_steps) in
-    let told : IsBounded c.system.result.now c.args.outer = grind arith in
-    let holds = subst (λ (s : System). IsBounded s c.args.outer) c.system.ensures told in
+    let told : IsBoundedBehind c.args.front.now c.system.result.now = grind arith in
+    let holds = subst (IsBoundedBehind c.args.front.now) c.system.ensures told in
     let charged : IsCharged h k = grind arith in (
-      one_more (λ (p : PieceView). IsBounded p.system c.args.outer) pieces i piece low c.piece-item.is holds c.loop-piece.invariant.0,
+      one_more (λ (p : PieceView). IsBoundedBehind c.args.front.now p.system) pieces i piece low c.piece-item.is holds
+          c.loop-piece.invariant.0,
       IsCharged_trans g h k c.loop-piece.invariant.1 charged,
     )
 
@@ -41,14 +42,14 @@ is_system_bounded-requires c =
       within = subst (IsSystemWithin h) (sym c.system.ensures)
           (one_has (λ (p : PieceView). IsSystemWithin h p.system) pieces i piece low at
           (pieces_later g h pieces c.loop-piece.invariant.1 c.requires.within));
-      columns = subst (λ (s : System). c.args.outer ≤ free_columns s) (sym c.system.ensures)
-          (one_has (λ (p : PieceView). c.args.outer ≤ free_columns p.system) pieces i piece low at c.requires.columns);
+      columns = subst (λ (s : System). front_width c.args.front.now ≤ free_columns s) (sym c.system.ensures)
+          (one_has (λ (p : PieceView). front_width c.args.front.now ≤ free_columns p.system) pieces i piece low at c.requires.columns);
     }
 
 pub returns-clause-exact : goal.returns-clause-exact
 returns-clause-exact c =
     let pieces = c.args.pieces.now in
-    let P : PieceView → Type 0 = λ p. IsBounded p.system c.args.outer in
+    let P : PieceView → Type 0 = λ p. IsBoundedBehind c.args.front.now p.system in
     let whole : take c.loop-piece.piece-index pieces ≡ pieces = grind (arith, common_steps) in
     all_have P pieces (subst (All P) whole c.loop-piece.invariant.0)
 
@@ -59,6 +60,6 @@ returns-then-not-branch-clause-exact c =
     let piece = c.piece-item.result in
     let low : i < length pieces = grind (arith, common_steps) in
     let not_so : c.in_ok-is_system_bounded.field-0 ≡ false = grind (arith, common_steps) in
-    one_lacks (λ (p : PieceView). IsBounded p.system c.args.outer) pieces i piece low c.piece-item.is
+    one_lacks (λ (p : PieceView). IsBoundedBehind c.args.front.now p.system) pieces i piece low c.piece-item.is
     (λ h. false≢true (sym not_so ∙ c.in_ok-is_system_bounded.ensures.exact.1
-    (subst (λ (s : System). IsBounded s c.args.outer) (sym c.system.ensures) h)))
+    (subst (IsBoundedBehind c.args.front.now) (sym c.system.ensures) h)))

@@ -26,14 +26,14 @@ loop-piece-preserved c =
     let params = c.args.params.now in
     let others = map kept_piece c.args.others.now in
     let low : i < length pieces = omega arith in
-    let more = c.in_ok-met_with.field-0.items in
+    let more = c.in_ok-more.more.items in
     let met = c.loop-piece.met.items in
     let so_far = c.loop-piece.invariant in
     record {
-      met = pieces_step pieces piece i low c.piece-item.is params others met c.append.new.pieces.items more c.in_ok-met_with.ensures.exact
-          c.in_ok-append.ensures so_far.met;
-      sound = rw c.in_ok-append.ensures (All-append (IsPieceOf params) met more so_far.sound c.in_ok-met_with.ensures.sound);
+      met = pieces_step pieces piece i low c.piece-item.is params others met c.append.new.self.items more c.in_ok-more.ensures.exact
+          c.in_ok-append.ensures.items so_far.met;
+      sound = rw c.in_ok-append.ensures.items (All-append (IsPieceOf params) met more so_far.sound c.in_ok-more.ensures.sound);
       used = pieces_used pieces piece i low c.piece-item.is params others c.args.meter.now c.loop-piece.meter c.met_with.new.meter
           so_far.used
-          c.in_ok-met_with.ensures.units;
+          c.in_ok-more.ensures.units;
     }

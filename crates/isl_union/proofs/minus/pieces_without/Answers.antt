@@ -34,18 +34,18 @@ loop-piece-preserved c =
     let low : i < length pieces = omega arith in
     let so_far = c.loop-piece.invariant in
     record {
-      left = left_step g h c.args.params.now pieces piece i others c.loop-piece.left.items c.in_ok-piece_without.field-0.items
-          c.append.new.pieces.items so_far.charged low c.piece-item.is so_far.left c.in_ok-piece_without.ensures.exact
-          c.in_ok-append.ensures;
+      left = left_step g h c.args.params.now pieces piece i others c.loop-piece.left.items c.in_ok-parts.parts.items
+          c.append.new.self.items so_far.charged low c.piece-item.is so_far.left c.in_ok-parts.ensures.exact
+          c.in_ok-append.ensures.items;
       definitions = λ own none.
           let P : PieceView → Type 0 = λ p. p.system.definitions ≡ [] in
           let here = item_has P pieces i piece low c.piece-item.is own in
-          subst (All P) (sym c.in_ok-append.ensures)
-          (All-append P c.loop-piece.left.items c.in_ok-piece_without.field-0.items (so_far.definitions own none)
-          (c.in_ok-piece_without.ensures.definitions here none));
-      charged = IsCharged_trans g h c.piece_without.new.meter so_far.charged c.in_ok-piece_without.ensures.meter;
-      counted = counted_more g h c.piece_without.new.meter pieces piece i c.loop-piece.left.items c.in_ok-piece_without.field-0.items
-          c.append.new.pieces.items low c.in_ok-append.ensures so_far.counted c.in_ok-piece_without.ensures.counted;
+          subst (All P) (sym c.in_ok-append.ensures.items)
+          (All-append P c.loop-piece.left.items c.in_ok-parts.parts.items (so_far.definitions own none)
+          (c.in_ok-parts.ensures.definitions here none));
+      charged = IsCharged_trans g h c.piece_without.new.meter so_far.charged c.in_ok-parts.ensures.meter;
+      counted = counted_more g h c.piece_without.new.meter pieces piece i c.loop-piece.left.items c.in_ok-parts.parts.items
+          c.append.new.self.items low c.in_ok-append.ensures.items so_far.counted c.in_ok-parts.ensures.counted;
     }
 
 pub returns-clause-counted : goal.returns-clause-counted

@@ -14,15 +14,15 @@ are_pieces_bounded-requires c =
     let same = c.pieces.ensures.content in
     record {
       within = pieces_within g value pieces sound same c.requires;
-      columns = pieces_wide g value pieces sound same c.len-outer.result (c.len-outer.ensures.len ∙ ap length c.params.ensures.content);
+      columns = pieces_wide g value pieces sound same c.len.result (c.len.ensures.len ∙ ap length c.params.ensures.content);
     }
 
 pub returns-clause-exact : goal.returns-clause-exact
 returns-clause-exact c =
     let value = c.args.self.now in
     let pieces = c.pieces.result.now in
-    let outer = c.len-outer.result in
-    let names : outer ≡ length value.params = c.len-outer.ensures.len ∙ ap length c.params.ensures.content in
+    let outer = c.len.result in
+    let names : outer ≡ length value.params = c.len.ensures.len ∙ ap length c.params.ensures.content in
     told (All (λ p. IsBounded p.system outer) pieces) (IsFinite value) c.in_ok-are_pieces_bounded.field-0
     (subst (λ n. All (λ p. IsBounded p.system n) pieces ↔ IsFinite value) (sym names)
     (finite_value c.args.meter.now value pieces c.pieces.ensures.well_formed c.pieces.ensures.content

@@ -4,8 +4,8 @@ use Rattle.isl_union.specs.Finite.{IsFiniteAt}
 use Rattle.isl_union.proofs.BoundedLaws.{finite_value_at, pieces_wide, pieces_within, told}
 use Rattle.isl_union.proofs.value.Value.bounded_at.Goals as goal
 
-pub are_pieces_bounded_at-requires : goal.are_pieces_bounded_at-requires
-are_pieces_bounded_at-requires c =
+pub are_pieces_bounded-requires : goal.are_pieces_bounded-requires
+are_pieces_bounded-requires c =
     let g = c.args.meter.now in
     let value = c.args.self.now in
     let pieces = c.pieces.result.now in
@@ -21,6 +21,6 @@ returns-clause-exact c v named =
     let value = c.args.self.now in
     let pieces = c.pieces.result.now in
     let numbers = c.args.at.now in
-    told (All (λ p. IsBoundedAt p.system numbers) pieces) (IsFiniteAt value v) c.in_ok-are_pieces_bounded_at.field-0
+    told (All (λ p. IsBoundedAt p.system numbers) pieces) (IsFiniteAt value v) c.in_ok-are_pieces_bounded.field-0
     (finite_value_at c.args.meter.now value pieces c.pieces.ensures.well_formed c.pieces.ensures.content v numbers named)
-    c.in_ok-are_pieces_bounded_at.ensures.exact
+    c.in_ok-are_pieces_bounded.ensures.exact

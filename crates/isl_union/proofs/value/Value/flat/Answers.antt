@@ -79,10 +79,10 @@ loop-piece-preserved c =
     let piece = c.piece-item.result in
     let kept = c.loop-piece.kept.items in
     let systems = c.in_ok-systems.systems.items in
-    let more = c.in_ok-live_pieces_in.field-0.items in
-    let pushed = c.append.new.pieces.items in
+    let more = c.in_ok-more.more.items in
+    let pushed = c.append.new.self.items in
     let so_far = c.loop-piece.invariant in
-    let told = c.in_ok-live_pieces_in.ensures in
+    let told = c.in_ok-more.ensures in
     let low : i < length pieces = omega arith in
     let own = item_has (IsPieceOf c.args.self.now.params) pieces i piece low c.piece-item.is c.pieces-pieces.ensures.well_formed in
     let sound = subst (λ (n : List Name). IsPieceOf n piece) (sym c.params-params.ensures.content) own in
@@ -92,19 +92,19 @@ loop-piece-preserved c =
     record {
       made = rw (next_piece pieces i piece low c.piece-item.is)
           (made_more g params (HasElement params) (map kept_piece (take i pieces)) (kept_piece piece) kept so_far.made more pushed
-          c.in_ok-append.ensures
+          c.in_ok-append.ensures.items
           (λ v e. through
           (subst (λ (space : SpaceForm). Any (HasElement params v e) (map kept_piece more) ↔ IsOfAny params space systems v e)
           c.space.ensures
           (told.elements v e))
           (flat_has params piece free systems flat v e)) told.sound (small_before g m (map kept_piece more) charged told.numbers));
-      plain = plain_more kept more pushed c.in_ok-append.ensures so_far.plain (told.definitions flat.definitions);
+      plain = plain_more kept more pushed c.in_ok-append.ensures.items so_far.plain (told.definitions flat.definitions);
       charged = IsCharged_trans g m c.live_pieces_in.new.meter charged told.meter;
       counted =
           let here = c.in_ok-systems.ensures.counted in
           let few = told.few in
           let later = told.meter.units in
-          counted_more g h c.live_pieces_in.new.meter pieces piece i kept more pushed low c.in_ok-append.ensures so_far.counted
+          counted_more g h c.live_pieces_in.new.meter pieces piece i kept more pushed low c.in_ok-append.ensures.items so_far.counted
           (omega (arith, here, few, later));
       same = λ n.
           let no : c.is_empty.result ≡ false = grind arith in
@@ -189,8 +189,8 @@ returns-in_err-systems-clause-same c = λ n.
     c.system-system.result.now
     c.is_empty.result low c.piece-item.is c.pieces-pieces.ensures.content c.system-system.ensures no c.is_empty.ensures.1 n)
 
-pub returns-in_err-live_pieces_in-clause-same : goal.returns-in_err-live_pieces_in-clause-same
-returns-in_err-live_pieces_in-clause-same c = λ n.
+pub returns-in_err-more-clause-same : goal.returns-in_err-more-clause-same
+returns-in_err-more-clause-same c = λ n.
     let low : c.loop-piece.piece-index < length c.pieces-pieces.result.now = omega arith in
     let no : c.is_empty.result ≡ false = grind arith in
     absurd (never_opened c.pieces-pieces.result.now c.args.self.now.pieces c.loop-piece.piece-index c.piece-item.result

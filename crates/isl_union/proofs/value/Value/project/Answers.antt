@@ -68,10 +68,10 @@ loop-piece-preserved c =
     let space = space_form_of c.args.space.now in
     let to = space_form_of c.args.to.now in
     let kept = c.loop-piece.kept.items in
-    let more = c.in_ok-live_pieces_in.field-0.items in
-    let pushed = c.append.new.pieces.items in
+    let more = c.in_ok-more.more.items in
+    let pushed = c.append.new.self.items in
     let so_far = c.loop-piece.invariant in
-    let told = c.in_ok-live_pieces_in.ensures in
+    let told = c.in_ok-more.ensures in
     let low : i < length pieces = omega arith in
     let own = item_has (IsPieceOf c.args.self.now.params) pieces i piece low c.piece-item.is c.pieces-pieces.ensures.well_formed in
     let sound = subst (λ (n : List Name). IsPieceOf n piece) (sym c.params-params.ensures.content) own in
@@ -83,7 +83,7 @@ loop-piece-preserved c =
     record {
       made = rw (next_piece pieces i piece low c.piece-item.is)
           (made_more g params (HasBetween params space c.args.from c.args.count to) (map kept_piece (take i pieces)) (kept_piece piece) kept
-          so_far.made more pushed c.in_ok-append.ensures
+          so_far.made more pushed c.in_ok-append.ensures.items
           (λ v e. through (told.elements v e)
           (projected params piece space to c.args.from c.args.count c.requires.narrower lies free c.in_ok-systems.systems.items
           projection v e))
@@ -92,14 +92,14 @@ loop-piece-preserved c =
           let all = subst (All (λ (p : KeptPiece). p.definitions ≡ [])) (sym c.pieces-pieces.ensures.content) n in
           let none = item_has (λ p. p.system.definitions ≡ []) pieces i piece low c.piece-item.is
           (All-unmapped (λ (p : KeptPiece). p.definitions ≡ []) kept_piece pieces all) in
-          plain_more kept more pushed c.in_ok-append.ensures (so_far.plain n)
+          plain_more kept more pushed c.in_ok-append.ensures.items (so_far.plain n)
           (told.definitions (c.in_ok-systems.ensures.definitions (ap (λ (s : System). s.definitions) c.system.ensures ∙ none)));
       charged = IsCharged_trans g m c.live_pieces_in.new.meter charged told.meter;
       counted =
           let here = c.in_ok-systems.ensures.counted in
           let few = told.few in
           let later = told.meter.units in
-          counted_more g h c.live_pieces_in.new.meter pieces piece i kept more pushed low c.in_ok-append.ensures so_far.counted
+          counted_more g h c.live_pieces_in.new.meter pieces piece i kept more pushed low c.in_ok-append.ensures.items so_far.counted
           (omega (arith, here, few, later));
     }
 

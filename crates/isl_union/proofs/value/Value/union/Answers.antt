@@ -27,42 +27,42 @@ aligned_pieces-requires-2-clause-among c =
 
 pub from_normal-requires-clause-pieces : goal.from_normal-requires-clause-pieces
 from_normal-requires-clause-pieces c =
-    rw c.in_ok-append.ensures
-    (All-append (IsPieceOf c.in_ok-params.params) c.in_ok-pieces.pieces.items c.in_ok-aligned_pieces.field-0.items
-    c.in_ok-pieces.ensures.sound c.in_ok-aligned_pieces.ensures.sound)
+    rw c.in_ok-append.ensures.items
+    (All-append (IsPieceOf c.in_ok-params.params) c.in_ok-pieces.pieces.items c.in_ok-others.others.items
+    c.in_ok-pieces.ensures.sound c.in_ok-others.ensures.sound)
 
 pub returns-clause-written : goal.returns-clause-written
 returns-clause-written c =
     let names = c.in_ok-params.ensures.joined ∙ ap₂ joined c.params.ensures.content c.params-2.ensures.content in
-    union_is c.args.self.now c.args.other.now c.in_ok-pieces.ensures.kept c.in_ok-aligned_pieces.ensures.kept c.in_ok-params.params
-    c.in_ok-pieces.pieces.items c.in_ok-aligned_pieces.field-0.items
-    c.append.new.pieces.items c.from_normal.result names c.in_ok-append.ensures c.in_ok-pieces.ensures.exact
-    c.in_ok-aligned_pieces.ensures.exact c.from_normal.ensures
+    union_is c.args.self.now c.args.other.now c.in_ok-pieces.ensures.kept c.in_ok-others.ensures.kept c.in_ok-params.params
+    c.in_ok-pieces.pieces.items c.in_ok-others.others.items
+    c.append.new.self.items c.from_normal.result names c.in_ok-append.ensures.items c.in_ok-pieces.ensures.exact
+    c.in_ok-others.ensures.exact c.from_normal.ensures
 
 pub returns-clause-kept : goal.returns-clause-kept
 returns-clause-kept c =
     subst IsKeptValue (sym c.from_normal.ensures)
-    (IsKeptValue-from_pieces c.in_ok-params.params c.append.new.pieces.items c.in_ok-params.ensures.well_formed
-    (rw c.in_ok-append.ensures
-    (All-append (IsPieceOf c.in_ok-params.params) c.in_ok-pieces.pieces.items c.in_ok-aligned_pieces.field-0.items
-    c.in_ok-pieces.ensures.sound c.in_ok-aligned_pieces.ensures.sound)))
+    (IsKeptValue-from_pieces c.in_ok-params.params c.append.new.self.items c.in_ok-params.ensures.well_formed
+    (rw c.in_ok-append.ensures.items
+    (All-append (IsPieceOf c.in_ok-params.params) c.in_ok-pieces.pieces.items c.in_ok-others.others.items
+    c.in_ok-pieces.ensures.sound c.in_ok-others.ensures.sound)))
 
 pub returns-clause-same_params : goal.returns-clause-same_params
 returns-clause-same_params c same =
     ap (λ (v : KeptValue). v.pieces) (returns-clause-written c) ∙ union_same c.args.self.now c.args.other.now c.in_ok-pieces.ensures.kept
-    c.in_ok-aligned_pieces.ensures.kept same
+    c.in_ok-others.ensures.kept same
 
 pub returns-clause-elements : goal.returns-clause-elements
 returns-clause-elements c v e =
     rw (returns-clause-written c) (union_has c.args.self.now c.args.other.now c.in_ok-pieces.ensures.kept
-    c.in_ok-aligned_pieces.ensures.kept c.args.meter.now c.requires.own c.requires.other v e)
+    c.in_ok-others.ensures.kept c.args.meter.now c.requires.own c.requires.other v e)
 
 pub returns-clause-numbers : goal.returns-clause-numbers
 returns-clause-numbers c b h k =
     rw (returns-clause-written c) (union_small c.args.self.now c.args.other.now c.in_ok-pieces.ensures.kept
-    c.in_ok-aligned_pieces.ensures.kept c.args.meter.now c.requires.own c.requires.other b h k)
+    c.in_ok-others.ensures.kept c.args.meter.now c.requires.own c.requires.other b h k)
 
 pub returns-clause-definitions : goal.returns-clause-definitions
 returns-clause-definitions c h k =
     rw (returns-clause-written c) (union_plain c.args.self.now c.args.other.now c.in_ok-pieces.ensures.kept
-    c.in_ok-aligned_pieces.ensures.kept c.args.meter.now c.requires.own c.requires.other h k)
+    c.in_ok-others.ensures.kept c.args.meter.now c.requires.own c.requires.other h k)

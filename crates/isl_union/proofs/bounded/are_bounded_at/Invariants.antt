@@ -1,8 +1,0 @@
-use Rattle.std.proofs.Common.{take}
-use Rattle.std.specs.List.{All}
-use Rattle.isl_meter.specs.Gauge.{IsCharged}
-use Rattle.isl_tower.specs.Bounded.{IsBoundedAt}
-use Rattle.isl_union.proofs.bounded.are_bounded_at.Given as goal
-
-abbrev pub invariant-loop-system : goal.invariant-loop-system
-invariant-loop-system l = All (λ s. IsBoundedAt s l.numbers) (take l.system-index l.systems) × IsCharged l.fn.meter l.meter
