@@ -20,17 +20,17 @@ use Rattle.isl_piece.proofs.MergeLaws.{SameBound, same_bound-true, same_bound-fr
 use Rattle.isl_piece.proofs.NormalLaws.{IsNormal-from}
 use Rattle.isl_union.specs.KeptValue.{KeptPiece, KeptValue, HasElement, Has, HasNoDefinitions, IsKeptPiece, IsKeptValue}
 use Rattle.isl_union.specs.KeptValue.{point_of, columns_of}
-use Rattle.isl_print.specs.Naming.{coordinate_names, column_names}
-use Rattle.isl_print.specs.Ordered.{placed, in_order}
+use Rattle.isl_row_text.specs.Naming.{coordinate_names, column_names}
+use Rattle.isl_row_text.specs.Ordered.{placed, in_order}
 use Rattle.isl_print.specs.OrderedValue.{ordered_piece, ordered}
 use Rattle.isl_print.specs.PieceOrder.{piece_before}
 use Rattle.isl_print.specs.Printed.{piece_text, pieces_text, params_text, printed}
-use Rattle.isl_print.specs.RowOrder.{row_before}
-use Rattle.isl_print.specs.RowText.{row_text, conjunction_text}
+use Rattle.isl_row_text.specs.RowOrder.{row_before}
+use Rattle.isl_row_text.specs.RowText.{row_text, conjunction_text}
 use Rattle.isl_print.specs.Tuple.{tuples_text}
-use Rattle.isl_print.proofs.OrderedLaws.{Rises, Least, rises_in_order, map-in_order}
+use Rattle.isl_row_text.proofs.OrderedLaws.{Rises, Least, rises_in_order, map-in_order}
 use Rattle.isl_print.proofs.PieceOrderLaws.{piece_cmp_total}
-use Rattle.isl_print.proofs.RowOrderLaws.{row_cmp_total}
+use Rattle.isl_row_text.proofs.RowOrderLaws.{row_cmp_total}
 use Rattle.isl_print.proofs.TextLaws.{All-in_order}
 
 rows_ranked : IsStrictWeakOrder row_before

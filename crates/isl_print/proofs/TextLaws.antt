@@ -9,24 +9,19 @@ use Rattle.std.proofs.lemmas.List.Elements.{All-from_recursion, recursion_from_A
 use Rattle.isl_space.specs.Name.{Name}
 use Rattle.isl_space.specs.Form.{width_of}
 use Rattle.isl_space.specs.SpaceForm.{SpaceForm, set_of, map_of, coordinates_of}
-use Rattle.isl_piece.specs.declared.definition.Definition.{Definition}
 use Rattle.isl_piece.specs.declared.row.Row.{Row}
-use Rattle.isl_piece.specs.Row.{IsWellFormed}
-use Rattle.isl_union.specs.KeptValue.{KeptPiece, KeptValue, IsKeptPiece, columns_of}
-use Rattle.isl_print.specs.Joined.{Text, each_after}
-use Rattle.isl_print.specs.Naming.{numbered, coordinate_names, column_names}
-use Rattle.isl_print.specs.Ordered.{placed, in_order}
-use Rattle.isl_print.specs.RowOrder.{row_before}
-use Rattle.isl_print.specs.RowText.{row_text, conjunction_text, rows_text}
+use Rattle.isl_union.specs.KeptValue.{KeptPiece, KeptValue, columns_of}
+use Rattle.isl_row_text.specs.Joined.{Text, each_after}
+use Rattle.isl_row_text.specs.Naming.{numbered, coordinate_names, column_names}
+use Rattle.isl_row_text.specs.Ordered.{placed, in_order}
+use Rattle.isl_row_text.specs.RowOrder.{row_before}
+use Rattle.isl_row_text.specs.RowText.{row_text, conjunction_text, rows_text}
+use Rattle.isl_row_text.proofs.NamingLaws.{length-numbered}
 use Rattle.isl_print.specs.PieceOrder.{piece_before}
 use Rattle.isl_print.specs.Printed.{piece_text, pieces_text, params_text, printed}
 use Rattle.isl_print.specs.Tuple.{tuples_text}
 
 -- ---- how many names there are
-length-numbered : (params : List Name) (letter : Name) (first count : ℕ) → length (numbered params letter first count) ≡ count
-length-numbered params letter first zero = refl
-length-numbered params letter first (suc count) = ap suc (length-numbered params letter (first + 1) count)
-
 pub length-coordinate_names : (params : List Name) (space : SpaceForm) → length (coordinate_names params space) ≡ coordinates_of space
 length-coordinate_names params (set_of form) = length-numbered params (codes "i") 0 (width_of form)
 length-coordinate_names params (map_of from to) =
@@ -70,23 +65,6 @@ pub All-map_back : {X Y : Type 0} (f : X → Y) (P : Y → Type 0) (xs : List X)
     → All (λ x. P (f x)) xs
 All-map_back f P xs ys is all =
     All-from_recursion (λ x. P (f x)) xs (all_map_back f P xs (recursion_from_All P (map f xs) (subst (All P) (sym is) all)))
-
--- where a piece defines no column, its rows are over the parameters and coordinates alone
-pub rows_formed : (params : List Name) (piece : KeptPiece) → IsKeptPiece params piece → piece.definitions ≡ []
-    → All (IsWellFormed (columns_of params piece.space)) piece.rows
-rows_formed params piece kept none =
-    let count = ap (length {A = Definition}) none in
-    let wide : length piece.definitions + columns_of params piece.space ≡ columns_of params piece.space = omega (arith, count) in
-    subst (λ n. All (IsWellFormed n) piece.rows) wide kept.rows
-
--- each row has a name for each of its coefficients
-pub rows_enough : {A : Type 0} (f : A → Row) (params names : List Name) (space : SpaceForm) (rows : List Row) (ordered : List A)
-    → All (IsWellFormed (columns_of params space)) rows
-    → names ≡ column_names params space → map f ordered ≡ in_order row_before rows → All (λ a. length (f a).coefs ≤ length names) ordered
-rows_enough f params names space rows ordered all is sorted =
-    let len : length names ≡ columns_of params space = ap length is ∙ length-column_names params space in
-    let each : All (λ (r : Row). length r.coefs ≤ length names) rows = λ k d low. let w = (all k d low).width in omega (arith, w, len) in
-    All-map_back f (λ (r : Row). length r.coefs ≤ length names) ordered (in_order row_before rows) sorted (All-in_order row_before (λ (r : Row). length r.coefs ≤ length names) rows each)
 
 -- what is read of elements, and then its text
 map_map : {A X Y : Type 0} (g : X → Y) (f : A → X) (l : List A) → map g (map f l) ≡ map (λ a. g (f a)) l

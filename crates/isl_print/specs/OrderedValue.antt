@@ -1,9 +1,9 @@
 -- inner: values in the order in which they are printed.
 use Rattle.std.specs.Prelude.{map}
 use Rattle.isl_union.specs.KeptValue.{KeptPiece, KeptValue}
-use Rattle.isl_print.specs.Ordered.{in_order}
+use Rattle.isl_row_text.specs.Ordered.{in_order}
 use Rattle.isl_print.specs.PieceOrder.{piece_before}
-use Rattle.isl_print.specs.RowOrder.{row_before}
+use Rattle.isl_row_text.specs.RowOrder.{row_before}
 
 -- the piece with its rows in order
 abbrev pub ordered_piece : KeptPiece → KeptPiece

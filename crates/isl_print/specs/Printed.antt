@@ -2,11 +2,11 @@
 use Rattle.std.specs.Prelude.{List, [], ◌∷◌, ◌++◌, map, codes}
 use Rattle.isl_space.specs.Name.{Name}
 use Rattle.isl_union.specs.KeptValue.{KeptPiece, KeptValue}
-use Rattle.isl_print.specs.Joined.{Text, joined_by}
-use Rattle.isl_print.specs.Naming.{coordinate_names, column_names}
-use Rattle.isl_print.specs.Ordered.{in_order}
+use Rattle.isl_row_text.specs.Joined.{Text, joined_by}
+use Rattle.isl_row_text.specs.Naming.{coordinate_names, column_names}
+use Rattle.isl_row_text.specs.Ordered.{in_order}
 use Rattle.isl_print.specs.PieceOrder.{piece_before}
-use Rattle.isl_print.specs.RowText.{rows_text}
+use Rattle.isl_row_text.specs.RowText.{rows_text}
 use Rattle.isl_print.specs.Tuple.{tuples_text}
 
 -- the tuples, and the rows where there are some

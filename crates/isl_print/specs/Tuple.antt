@@ -3,7 +3,7 @@ use Rattle.std.specs.Prelude.{List, ◌++◌, take, drop, codes}
 use Rattle.isl_space.specs.Name.{Name}
 use Rattle.isl_space.specs.Form.{Form, leaf, pair, width_of, name_text}
 use Rattle.isl_space.specs.SpaceForm.{SpaceForm, set_of, map_of}
-use Rattle.isl_print.specs.Joined.{Text, joined_by}
+use Rattle.isl_row_text.specs.Joined.{Text, joined_by}
 
 -- a tuple of the first of the names: a leaf is its name and the names in brackets, a pair is `[left -> right]`
 abbrev pub tuple_text : Form → List Name → Text

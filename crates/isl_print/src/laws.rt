@@ -7,7 +7,7 @@ ghost use Rattle.isl_space.specs.SpaceForm.{SpaceForm, IsNarrowSpace};
 ghost use Rattle.isl_space.specs.Valuation.{Valuation};
 ghost use Rattle.isl_space.specs.Element.{Element};
 ghost use Rattle.isl_union.specs.KeptValue.{KeptValue, Has, HasNoDefinitions, IsKeptValue};
-ghost use Rattle.isl_print.specs.Naming.{column_names};
+ghost use Rattle.isl_row_text.specs.Naming.{column_names};
 ghost use Rattle.isl_print.specs.OrderedValue.{ordered};
 ghost use Rattle.isl_print.specs.Printed.{printed};
 

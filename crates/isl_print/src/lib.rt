@@ -2,12 +2,9 @@
 #![tactic(auto)]
 
 pub mod laws;
-mod names;
 mod order;
-mod row;
-mod sum;
 mod text;
 mod tuple;
 
-pub use sum::Side;
+pub use isl_row_text::Side;
 pub use text::text_of;

@@ -1,25 +1,23 @@
 //! Values as text.
 
-ghost use Rattle.std.specs.Prelude.{◌≡◌, ◌≤◌, [], ◌++◌, All, length, map, codes, IfOk, OnOk, string_bytes};
+ghost use Rattle.std.specs.Prelude.{◌≡◌, ◌++◌, All, map, codes, IfOk, OnOk, string_bytes};
 ghost use Rattle.isl_union.specs.KeptValue.{HasNoDefinitions, IsKeptPiece};
 ghost use Rattle.isl_union.specs.Piece.{kept_piece};
-ghost use Rattle.isl_print.specs.Joined.{each_after};
-ghost use Rattle.isl_print.specs.RowText.{row_text, conjunction_text};
+ghost use Rattle.isl_row_text.specs.Joined.{each_after};
+ghost use Rattle.isl_row_text.specs.RowText.{row_text, conjunction_text};
 ghost use Rattle.isl_print.specs.Printed.{piece_text, pieces_text, params_text, printed};
 
-use crate::names::{column_names, param_names};
-use crate::order::{Titled, ordered_pieces, ordered_rows};
-use crate::row::write_row;
+use crate::order::{Titled, ordered_pieces};
 use crate::tuple::{write_names, write_tuples};
 use isl_piece::{Piece, Row};
+use isl_row_text::{column_names, ordered_rows, param_names, write_row};
 use isl_space::{Name, Params};
 use isl_union::Value;
 use std::alloc::{AllocError, Global};
 
 // Rows, with `and` before each.
-#[tactic(auto, using(std::proofs::lemmas::Grind::common_steps, crate::proofs::JoinedLaws::each_steps))]
+#[tactic(auto, using(std::proofs::lemmas::Grind::common_steps, isl_row_text::proofs::JoinedLaws::each_steps))]
 fn write_rest_of_rows(out: &mut String, names: &[Name], rows: &[&Row]) -> Result<(), AllocError>
-    requires { All (λ row. length row.now.coefs ≤ length names.now) rows.now }
     ensures { OnOk result (string_bytes out.new ≡ string_bytes out.old ++ each_after (codes " and ") (map (λ row. row_text names.now row.now) rows.now)) }
 {
     for row in rows {
@@ -31,7 +29,6 @@ fn write_rest_of_rows(out: &mut String, names: &[Name], rows: &[&Row]) -> Result
 
 // Rows, where there are some.
 fn write_conjunction(out: &mut String, names: &[Name], rows: &[&Row]) -> Result<(), AllocError>
-    requires { All (λ row. length row.now.coefs ≤ length names.now) rows.now }
     ensures { OnOk result (string_bytes out.new ≡ string_bytes out.old ++ conjunction_text (map (λ row. row_text names.now row.now) rows.now)) }
 {
     match rows {
@@ -50,8 +47,7 @@ fn write_piece(
     params: &Params,
     piece: &Piece,
 ) -> Result<(), AllocError>
-    requires kept { IsKeptPiece params.now (kept_piece piece.now) }
-    requires definitions { piece.now.system.definitions ≡ [] }
+    requires { IsKeptPiece params.now (kept_piece piece.now) }
     ensures { OnOk result (string_bytes out.new ≡ string_bytes out.old ++ piece_text params.now (kept_piece piece.now)) }
 {
     let space = piece.space();
@@ -62,15 +58,14 @@ fn write_piece(
 }
 
 // Pieces, with `;` before each.
-#[tactic(auto, using(std::proofs::lemmas::Grind::common_steps, crate::proofs::JoinedLaws::each_steps))]
+#[tactic(auto, using(std::proofs::lemmas::Grind::common_steps, isl_row_text::proofs::JoinedLaws::each_steps))]
 fn write_rest_of_pieces(
     alloc: Global,
     out: &mut String,
     params: &Params,
     pieces: &[Titled],
 ) -> Result<(), AllocError>
-    requires kept { All (λ titled. IsKeptPiece params.now (kept_piece titled.piece.now)) pieces.now }
-    requires definitions { All (λ titled. titled.piece.now.system.definitions ≡ []) pieces.now }
+    requires { All (λ titled. IsKeptPiece params.now (kept_piece titled.piece.now)) pieces.now }
     ensures { OnOk result (string_bytes out.new ≡ string_bytes out.old ++ each_after (codes "; ") (map (λ titled. piece_text params.now (kept_piece titled.piece.now)) pieces.now)) }
 {
     for titled in pieces {
@@ -87,8 +82,7 @@ fn write_pieces(
     params: &Params,
     pieces: &[Titled],
 ) -> Result<(), AllocError>
-    requires kept { All (λ titled. IsKeptPiece params.now (kept_piece titled.piece.now)) pieces.now }
-    requires definitions { All (λ titled. titled.piece.now.system.definitions ≡ []) pieces.now }
+    requires { All (λ titled. IsKeptPiece params.now (kept_piece titled.piece.now)) pieces.now }
     ensures { OnOk result (string_bytes out.new ≡ string_bytes out.old ++ pieces_text (map (λ titled. piece_text params.now (kept_piece titled.piece.now)) pieces.now)) }
 {
     match pieces {

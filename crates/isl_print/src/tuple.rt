@@ -5,14 +5,14 @@ ghost use Rattle.isl_space.specs.Form.{width_of, name_text};
 ghost use Rattle.isl_space.specs.Shape.{form_of};
 ghost use Rattle.isl_space.specs.SpaceForm.{coordinates_of};
 ghost use Rattle.isl_space.specs.Space.{space_form_of};
-ghost use Rattle.isl_print.specs.Joined.{joined_by, each_after};
+ghost use Rattle.isl_row_text.specs.Joined.{joined_by, each_after};
 ghost use Rattle.isl_print.specs.Tuple.{tuple_text, tuples_text};
 
 use isl_space::{Name, Shape, Space};
 use std::alloc::AllocError;
 
 // Names, with a comma before each.
-#[tactic(auto, using(std::proofs::lemmas::Grind::common_steps, crate::proofs::JoinedLaws::names_steps))]
+#[tactic(auto, using(std::proofs::lemmas::Grind::common_steps, isl_row_text::proofs::JoinedLaws::names_steps))]
 fn write_more_names(out: &mut String, names: &[Name]) -> Result<(), AllocError>
     ensures { OnOk result (string_bytes out.new ≡ string_bytes out.old ++ each_after (codes ", ") names.now) }
 {

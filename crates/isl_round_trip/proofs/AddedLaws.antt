@@ -8,8 +8,8 @@ use Rattle.isl_math.proofs.Ring.{expand, linear}
 use Rattle.isl_space.specs.Name.{Name}
 use Rattle.isl_piece.specs.declared.row.RowKind.{RowKind}
 use Rattle.isl_piece.specs.declared.row.Row.{Row}
-use Rattle.isl_print.specs.declared.sum.Side.{Side}
-use Rattle.isl_print.specs.declared.sum.Side.TheVariants.{Left, Right}
+use Rattle.isl_row_text.specs.declared.sum.Side.{Side}
+use Rattle.isl_row_text.specs.declared.sum.Side.TheVariants.{Left, Right}
 use Rattle.isl_print.specs.Sum.{share, terms_of}
 use Rattle.isl_tree.specs.declared.tree.Signed.{Signed}
 use Rattle.isl_plain.specs.Linear.{Amount, Place, amount_of, amounts_of, turned, with_amount, with_amounts, row_of, difference}

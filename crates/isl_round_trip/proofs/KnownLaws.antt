@@ -12,15 +12,15 @@ use Rattle.isl_piece.specs.declared.row.RowKind.{RowKind}
 use Rattle.isl_piece.specs.declared.row.RowKind.TheVariants.{Zero, AtLeast, Divides, NotDivides}
 use Rattle.isl_piece.specs.declared.row.Row.{Row}
 use Rattle.isl_union.specs.KeptValue.{KeptPiece, KeptValue, IsKeptPiece, IsKeptValue}
-use Rattle.isl_print.specs.declared.sum.Side.{Side}
-use Rattle.isl_print.specs.declared.sum.Side.TheVariants.{Left, Right}
+use Rattle.isl_row_text.specs.declared.sum.Side.{Side}
+use Rattle.isl_row_text.specs.declared.sum.Side.TheVariants.{Left, Right}
 use Rattle.isl_print.specs.Naming.{coordinate_names, column_names}
 use Rattle.isl_print.specs.Ordered.{in_order}
 use Rattle.isl_print.specs.PieceOrder.{piece_before}
 use Rattle.isl_print.specs.RowOrder.{row_before}
 use Rattle.isl_print.specs.Sum.{share, terms_of}
 use Rattle.isl_space.proofs.DistinctLaws.{Distinct, Apart}
-use Rattle.isl_print.proofs.DistinctLaws.{coordinates_distinct, coordinates_apart}
+use Rattle.isl_row_text.proofs.DistinctLaws.{coordinates_distinct, coordinates_apart}
 use Rattle.isl_print.proofs.TextLaws.{All-in_order}
 use Rattle.std.proofs.lemmas.List.Elements.{recursion_from_All}
 use Rattle.isl_tree.specs.declared.tree.Signed.{Signed}

@@ -8,7 +8,7 @@ use Rattle.isl_space.specs.Form.{Form, leaf, pair, width_of, leaves_of}
 use Rattle.isl_piece.specs.declared.row.RowKind.{RowKind}
 use Rattle.isl_piece.specs.declared.row.RowKind.TheVariants.{Zero, AtLeast, Divides, NotDivides}
 use Rattle.isl_piece.specs.declared.row.Row.{Row}
-use Rattle.isl_print.specs.declared.sum.Side.TheVariants.{Left, Right}
+use Rattle.isl_row_text.specs.declared.sum.Side.TheVariants.{Left, Right}
 use Rattle.isl_print.specs.Joined.{Text}
 use Rattle.isl_token.specs.TokenView.{Token}
 use Rattle.isl_token.specs.TokenView as token

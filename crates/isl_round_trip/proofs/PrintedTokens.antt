@@ -14,8 +14,8 @@ use Rattle.isl_piece.specs.declared.row.RowKind.TheVariants.{Zero, AtLeast, Divi
 use Rattle.isl_piece.specs.declared.row.Row.{Row}
 use Rattle.isl_piece.specs.Row.{IsRowUpTo}
 use Rattle.isl_union.specs.KeptValue.{KeptPiece, KeptValue, IsKeptValue}
-use Rattle.isl_print.specs.declared.sum.Side.{Side}
-use Rattle.isl_print.specs.declared.sum.Side.TheVariants.{Left, Right}
+use Rattle.isl_row_text.specs.declared.sum.Side.{Side}
+use Rattle.isl_row_text.specs.declared.sum.Side.TheVariants.{Left, Right}
 use Rattle.isl_print.specs.Joined.{Text}
 use Rattle.isl_print.specs.Naming.{coordinate_names, column_names}
 use Rattle.isl_print.specs.Ordered.{in_order}

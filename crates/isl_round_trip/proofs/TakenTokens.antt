@@ -10,7 +10,7 @@ use Rattle.isl_space.specs.SpaceForm.{SpaceForm, set_of, map_of, IsNamedSpace}
 use Rattle.isl_piece.proofs.NormalCases.{int_lt-false}
 use Rattle.isl_union.specs.KeptValue.{KeptPiece, KeptValue, IsKeptPiece}
 use Rattle.isl_print.specs.Naming.{coordinate_names}
-use Rattle.isl_print.proofs.LiteralNameLaws.{coordinates_named}
+use Rattle.isl_row_text.proofs.LiteralNameLaws.{coordinates_named}
 use Rattle.isl_token.specs.TokenView.{Token}
 use Rattle.isl_token.specs.Number.{too_great}
 use Rattle.isl_token.proofs.Prints.{value_of-decimal}

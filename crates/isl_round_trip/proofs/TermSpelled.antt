@@ -9,7 +9,7 @@ use Rattle.std.proofs.lemmas.Fmt.{decimal_digit}
 use Rattle.std.proofs.lemmas.List.{append_assoc, append-nil}
 use Rattle.std.proofs.lemmas.Slice.Eq.{bytes_eq-Decides}
 use Rattle.isl_space.specs.Name.{Name, is_identifier, is_reserved, IsLiteralName}
-use Rattle.isl_print.specs.declared.sum.Side.{Side}
+use Rattle.isl_row_text.specs.declared.sum.Side.{Side}
 use Rattle.isl_print.specs.Joined.{Text}
 use Rattle.isl_print.specs.Sum.{Term, share, terms_of}
 use Rattle.isl_token.specs.TokenView.{Token}

@@ -10,8 +10,8 @@ use Rattle.isl_space.specs.SpaceForm.{SpaceForm, set_of, map_of}
 use Rattle.isl_piece.specs.declared.row.RowKind.{RowKind}
 use Rattle.isl_piece.specs.declared.row.RowKind.TheVariants.{Zero, AtLeast, Divides, NotDivides}
 use Rattle.isl_piece.specs.declared.row.Row.{Row}
-use Rattle.isl_print.specs.declared.sum.Side.{Side}
-use Rattle.isl_print.specs.declared.sum.Side.TheVariants.{Left, Right}
+use Rattle.isl_row_text.specs.declared.sum.Side.{Side}
+use Rattle.isl_row_text.specs.declared.sum.Side.TheVariants.{Left, Right}
 use Rattle.isl_print.specs.Joined.{Text, each_after, joined_by}
 use Rattle.isl_print.specs.Sum.{Term, share, terms_of, term_text, constant_texts, sum_of, side_text}
 use Rattle.isl_print.specs.RowText.{relation_text, remainder_text, kind_text, row_text, conjunction_text}

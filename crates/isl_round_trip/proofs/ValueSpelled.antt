@@ -17,7 +17,7 @@ use Rattle.isl_print.specs.Naming.{coordinate_names, column_names}
 use Rattle.isl_print.specs.Ordered.{in_order}
 use Rattle.isl_print.specs.PieceOrder.{piece_before}
 use Rattle.isl_print.specs.RowOrder.{row_before}
-use Rattle.isl_print.proofs.LiteralNameLaws.{coordinates_named, columns_named}
+use Rattle.isl_row_text.proofs.LiteralNameLaws.{coordinates_named, columns_named}
 use Rattle.isl_print.proofs.TextLaws.{All-in_order}
 use Rattle.isl_token.specs.declared.token.Kind.TheVariants as k
 use Rattle.isl_token.specs.Token.{kind_of, sign_kind}

@@ -17,7 +17,7 @@ use Rattle.isl_print.specs.RowOrder.{row_before}
 use Rattle.isl_print.specs.RowText.{row_text, conjunction_text}
 use Rattle.isl_print.specs.Tuple.{tuples_text}
 use Rattle.isl_print.specs.Printed.{piece_text, params_text, pieces_text, printed}
-use Rattle.isl_print.proofs.LiteralNameLaws.{coordinates_named, columns_named}
+use Rattle.isl_row_text.proofs.LiteralNameLaws.{coordinates_named, columns_named}
 use Rattle.isl_print.proofs.TextLaws.{All-in_order}
 use Rattle.isl_token.specs.Lex.{tokens}
 use Rattle.isl_token.specs.Number.{too_great}

@@ -13,8 +13,8 @@ use Rattle.isl_piece.specs.declared.row.RowKind.{RowKind}
 use Rattle.isl_piece.specs.declared.row.RowKind.TheVariants.{Zero, AtLeast, Divides, NotDivides}
 use Rattle.isl_piece.specs.declared.row.Row.{Row}
 use Rattle.isl_union.specs.KeptValue.{KeptPiece, KeptValue, IsKeptPiece, IsKeptValue}
-use Rattle.isl_print.specs.declared.sum.Side.{Side}
-use Rattle.isl_print.specs.declared.sum.Side.TheVariants.{Left, Right}
+use Rattle.isl_row_text.specs.declared.sum.Side.{Side}
+use Rattle.isl_row_text.specs.declared.sum.Side.TheVariants.{Left, Right}
 use Rattle.isl_print.specs.Naming.{coordinate_names, column_names}
 use Rattle.isl_print.specs.Ordered.{placed, in_order}
 use Rattle.isl_print.specs.PieceOrder.{piece_before}

@@ -17,14 +17,14 @@ use Rattle.isl_piece.specs.declared.row.Row.{Row}
 use Rattle.isl_piece.specs.Row.{HasModulus}
 use Rattle.isl_piece.specs.Normal.{Kept, normal_row}
 use Rattle.isl_union.specs.KeptValue.{KeptPiece, KeptValue, HasNoDefinitions, IsKeptPiece, IsKeptValue}
-use Rattle.isl_print.specs.declared.sum.Side.TheVariants.{Left, Right}
+use Rattle.isl_row_text.specs.declared.sum.Side.TheVariants.{Left, Right}
 use Rattle.isl_print.specs.Naming.{coordinate_names, column_names}
 use Rattle.isl_print.specs.Ordered.{in_order}
 use Rattle.isl_print.specs.OrderedValue.{ordered_piece, ordered}
 use Rattle.isl_print.specs.PieceOrder.{piece_before}
 use Rattle.isl_print.specs.RowOrder.{row_before}
 use Rattle.isl_space.proofs.DistinctLaws.{Distinct, Apart, distinct_from}
-use Rattle.isl_print.proofs.DistinctLaws.{coordinates_distinct, coordinates_apart}
+use Rattle.isl_row_text.proofs.DistinctLaws.{coordinates_distinct, coordinates_apart}
 use Rattle.isl_print.proofs.TextLaws.{length-column_names, All-in_order}
 use Rattle.isl_tree.specs.Literal.{is_among, new_name, known_after, piece_entries}
 use Rattle.isl_tree.specs.declared.tree.Signed.{Signed}

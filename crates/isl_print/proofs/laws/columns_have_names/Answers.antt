@@ -1,6 +1,6 @@
 use Rattle.std.proofs.Common.{arith}
-use Rattle.isl_print.proofs.DistinctLaws.{columns_are_distinct}
-use Rattle.isl_print.proofs.LiteralNameLaws.{columns_named}
+use Rattle.isl_row_text.proofs.DistinctLaws.{columns_are_distinct}
+use Rattle.isl_row_text.proofs.LiteralNameLaws.{columns_named}
 use Rattle.isl_print.proofs.laws.columns_have_names.Goals as goal
 
 pub returns-clause-distinct : goal.returns-clause-distinct

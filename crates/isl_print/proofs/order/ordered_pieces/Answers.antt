@@ -1,9 +1,9 @@
 use Rattle.std.proofs.Common.{rules, map, ap, ◌∙◌}
 use Rattle.std.proofs.lemmas.List.{take_all}
 use Rattle.isl_union.specs.Piece.{kept_piece}
-use Rattle.isl_print.specs.Ordered.{in_order}
+use Rattle.isl_row_text.specs.Ordered.{in_order}
 use Rattle.isl_print.specs.PieceOrder.{piece_cmp, piece_before}
-use Rattle.isl_print.proofs.OrderedLaws.{in_order-from_sort_by}
+use Rattle.isl_row_text.proofs.OrderedLaws.{in_order-from_sort_by}
 use Rattle.isl_print.proofs.PieceOrderLaws.{piece_cmp_total}
 use Rattle.isl_print.proofs.order.ordered_pieces.Goals as goal
 

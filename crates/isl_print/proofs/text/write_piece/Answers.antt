@@ -4,21 +4,13 @@ use Rattle.std.proofs.lemmas.Grind.{common_steps}
 use Rattle.std.proofs.lemmas.Result.{on_ok_weaker}
 use Rattle.isl_space.specs.Space.{space_form_of}
 use Rattle.isl_union.specs.Piece.{kept_piece}
-use Rattle.isl_print.specs.Naming.{column_names}
-use Rattle.isl_print.proofs.TextLaws.{names_enough, rows_enough, rows_formed, piece_written}
+use Rattle.isl_row_text.specs.Naming.{column_names}
+use Rattle.isl_print.proofs.TextLaws.{names_enough, piece_written}
 use Rattle.isl_print.proofs.text.write_piece.Goals as goal
 
 pub write_tuples-requires-clause-enough : goal.write_tuples-requires-clause-enough
 write_tuples-requires-clause-enough c =
     names_enough c.args.params.now _ (space_form_of c.space-space.result.now) _ (grind (arith, common_steps)) c.len.ensures.len
-
-pub write_conjunction-requires : goal.write_conjunction-requires
-write_conjunction-requires c =
-    let piece = c.args.piece.now in
-    let params = c.args.params.now in
-    let formed = rows_formed params (kept_piece piece) c.requires.kept c.requires.definitions in
-    rows_enough (λ row. row.now) params c.as_slice-3.result.now piece.space piece.system.rows c.as_slice-4.result.now formed
-    (grind (arith, common_steps)) (grind (arith, common_steps))
 
 pub returns : goal.returns
 returns c =

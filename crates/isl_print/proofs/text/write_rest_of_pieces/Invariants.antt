@@ -1,7 +1,7 @@
 use Rattle.std.proofs.Common.{◌≡◌, ◌++◌, drop, map}
 use Rattle.std.specs.Prelude.{codes, string_bytes}
 use Rattle.isl_union.specs.Piece.{kept_piece}
-use Rattle.isl_print.specs.Joined.{each_after}
+use Rattle.isl_row_text.specs.Joined.{each_after}
 use Rattle.isl_print.specs.Printed.{piece_text}
 use Rattle.isl_print.proofs.text.write_rest_of_pieces.Given as goal
 

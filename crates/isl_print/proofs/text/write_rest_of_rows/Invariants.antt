@@ -1,7 +1,7 @@
 use Rattle.std.proofs.Common.{◌≡◌, ◌++◌, drop, map}
 use Rattle.std.specs.Prelude.{codes, string_bytes}
-use Rattle.isl_print.specs.Joined.{each_after}
-use Rattle.isl_print.specs.RowText.{row_text}
+use Rattle.isl_row_text.specs.Joined.{each_after}
+use Rattle.isl_row_text.specs.RowText.{row_text}
 use Rattle.isl_print.proofs.text.write_rest_of_rows.Given as goal
 
 abbrev pub invariant-loop-row : goal.invariant-loop-row

@@ -1,6 +1,6 @@
 use Rattle.std.proofs.Common.{◌≡◌, ◌++◌, drop}
 use Rattle.std.specs.Prelude.{codes, string_bytes}
-use Rattle.isl_print.specs.Joined.{each_after}
+use Rattle.isl_row_text.specs.Joined.{each_after}
 use Rattle.isl_print.proofs.tuple.write_more_names.Given as goal
 
 abbrev pub invariant-loop-name : goal.invariant-loop-name

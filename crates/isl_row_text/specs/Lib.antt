@@ -1,0 +1,9 @@
+pub mod Joined
+pub mod Naming
+pub mod Ordered
+pub mod RowOrder
+pub mod RowText
+pub mod Sum
+pub use Rattle.isl_space.specs.Name
+pub use Rattle.isl_space.specs.Names
+pub use Rattle.isl_space.specs.SpaceForm
