@@ -14,13 +14,13 @@ ghost use Rattle.isl_tree.specs.Plain.{is_plain_piece};
 ghost use Rattle.isl_lower.specs.Made.{AreMadeOf};
 ghost use Rattle.isl_lower.specs.Value.{piece_lowered};
 
+use crate::space::space_of;
 use crate::systems::systems_of;
-use isl_plain::{is_plain_piece, rows_written};
 use isl_meter::{Cut, Meter};
 use isl_piece::{Piece, System};
+use isl_plain::{is_plain_piece, rows_written};
 use isl_space::{Name, Params};
 use isl_tree::tree::PieceTree;
-use crate::space::space_of;
 use isl_union::{live_piece, live_pieces_in};
 use std::alloc::{AllocError, Global};
 

@@ -9,13 +9,13 @@ ghost use Rattle.isl_tree.specs.Known.{piece_is_known};
 ghost use Rattle.isl_tree.specs.Literal.{space_of_piece};
 ghost use Rattle.isl_lower.specs.Made.{AreSystemsOf};
 
+use crate::names::scope_of;
+use crate::system::tuples_system;
 use isl_alternatives::alternatives;
 use isl_meter::{Cut, Meter};
 use isl_piece::System;
 use isl_space::Name;
 use isl_tree::tree::PieceTree;
-use crate::names::scope_of;
-use crate::system::tuples_system;
 use std::alloc::{AllocError, Global};
 
 fn alone(alloc: Global, system: System) -> Result<Vec<System>, AllocError>
