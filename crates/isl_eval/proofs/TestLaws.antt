@@ -168,12 +168,6 @@ shows_test before x first links around last answer holds is are test iff told_is
     let here = subst (λ (ls : List Link). HoldsPast before.state (λ v y. Selects before.state first v y) ls ↔ Holds) are same in
     (holds, ((λ t. here.0 (at.1 (iff.0 t))), (λ h. iff.1 (at.0 (here.1 h)))), told_is)))
 
-pub shows_row : (before : Moment) (x first : Expr) (links : List Link) (answer : Answer) → x ≡ Row first links → ends links ≡ false
-    → ShowsValue before x answer → Shows before x answer
-shows_row before x first links answer is none value =
-    subst (λ (y : Expr). Shows before y answer) (sym is)
-    (row_shown before first links answer false none (λ Holds same. subst (λ (y : Expr). ShowsValue before y answer) is value))
-
 -- ---- tests of the same elements
 
 abbrev SamePart : Elements → Elements → Type 0
