@@ -1,13 +1,15 @@
 -- Lists of systems restricted to where a condition holds: one after the other, beside one another, and of the same points.
 use Rattle.std.proofs.Common.{◌≡◌, ◌↔◌, ◌⊎◌, inl, inr, refl, sym, ap, ◌∙◌, subst, arith, ℕ, ◌+◌, ◌<◌, ◌≤◌, ℤ, List, [], ◌∷◌, ◌++◌, length, length-append, get_or, take}
 use Rattle.std.specs.List.{All, Any}
-use Rattle.std.specs.Prelude.{Result, Ok, Err, MatchResult}
+use Rattle.std.specs.Prelude.{Result, Ok, Err, MatchResult, Option, Some, None, option_map}
 use Rattle.std.proofs.lemmas.List.{take_more, take_all, append_assoc, append-nil}
 use Rattle.std.proofs.lemmas.List.Elements.{All-nil, All-cons, All-append, All-head}
 use Rattle.isl_math.proofs.ListLaws.{All-parts, Any-parts, Any-left, Any-right, Any-one, Any-first, Any-none}
 use Rattle.isl_meter.specs.Gauge.{Gauge, IsCharged}
 use Rattle.isl_meter.proofs.CutLemmas.{IsCharged_refl, IsCharged_trans, charges}
 use Rattle.isl_piece.specs.declared.system.System.{System}
+use Rattle.isl_piece.specs.declared.row.Row.{Row}
+use Rattle.isl_piece.specs.Normal.{normal_rows, normal_system}
 use Rattle.isl_piece.specs.System.{HoldsSystem, IsSystemWithin, free_columns}
 use Rattle.isl_elim.specs.Elimination.{HoldsAtAny}
 use Rattle.isl_elim.specs.Sample.{IsNowhere}
@@ -353,6 +355,36 @@ live_formed g k scope s t o c f =
           let S : System → Type 0 = λ u. HoldsSystem u point in (
             (λ h. (Any-first S s [] ((f.points point).0 (Any-one S t h)), tt)),
             (λ h. Any-first S t [] ((f.points point).1 (Any-one S s h.0))),
+          );
+    }
+
+pub normal_left_out : (g k : Gauge) (scope : Scope) (s : System) → IsOver g scope s → IsCharged g k
+    → ((point : List ℤ) → ¬ HoldsSystem s point)
+    → AreRestricted g k scope (s ∷ []) (λ point env. Unit {0}) []
+normal_left_out g k scope s o c none = live_left_out g k scope s o c (λ point l. none point)
+
+normal_free : (s form : System) → Some form ≡ normal_system s → free_columns form ≡ free_columns s
+normal_free s form e = by (normal_rows s.rows) e
+  where
+    by : (found : Option (List Row))
+        → Some form ≡ option_map (λ rows. record { columns = s.columns; definitions = s.definitions; rows = rows }) found
+        → free_columns form ≡ free_columns s
+    by None e = absurd (cc)
+    by (Some rows) e = let f : form ≡ record { columns = s.columns; definitions = s.definitions; rows = rows } = cc in rw f refl
+
+pub normal_formed : (g k : Gauge) (scope : Scope) (s t : System) → IsOver g scope s → IsCharged g k → Some t ≡ normal_system s
+    → IsSystemWithin g t → ((point : List ℤ) → HoldsSystem t point ↔ HoldsSystem s point)
+    → AreRestricted g k scope (s ∷ []) (λ point env. Unit {0}) (t ∷ [])
+normal_formed g k scope s t o c e w same =
+    let over : IsOver g scope t = record { within = w; columns = normal_free s t e ∙ o.columns } in
+    record {
+      charged = c;
+      over = All-cons (IsOver g scope) t [] over (All-nil (IsOver g scope));
+      counted = let later = c.units in omega arith;
+      points = λ point env l n.
+          let S : System → Type 0 = λ u. HoldsSystem u point in (
+            (λ h. (Any-first S s [] ((same point).0 (Any-one S t h)), tt)),
+            (λ h. Any-first S t [] ((same point).1 (Any-one S s h.0))),
           );
     }
 

@@ -2,6 +2,7 @@
 
 ghost use Rattle.std.specs.Prelude.{◌≡◌, ◌↔◌, ◌<◌, ◌≤◌, ℤ, pos, List, All, IfOk, IfSome, MatchResult, length, slice_index_or};
 ghost use Rattle.isl_meter.specs.Gauge.{IsCharged, IsCutBy};
+ghost use Rattle.isl_piece.specs.Normal.{IsNormal};
 ghost use Rattle.isl_piece.specs.System.{HoldsSystem, IsSystemWithin, free_columns};
 ghost use Rattle.isl_tree.specs.Divisors.{HasDivisors};
 ghost use Rattle.isl_affine.specs.Scope.{IsNumbered, IsTermKnown};
@@ -75,7 +76,7 @@ pub(crate) fn bound(
     })
 }
 
-/// The systems without the columns from `first` on, over the scope.
+/// The systems, which are normal, without the columns behind those of the outer scope.
 #[tactic(auto, using(std::proofs::lemmas::Grind::common_steps, isl_meter::proofs::CutLemmas::charges))]
 pub(crate) fn projected(
     alloc: Global,
@@ -85,6 +86,7 @@ pub(crate) fn projected(
     meter: &mut Meter,
 ) -> Result<Vec<System>, Cut>
     requires over { All (IsOver meter.old inner.now) systems.now }
+    requires normal { All (λ s. IsNormal s.rows) systems.now }
     requires columns { length outer.now ≤ length inner.now }
     ensures { MatchResult result
         (λ found. AreProjected meter.old meter.new outer.now inner.now systems.now found.items)

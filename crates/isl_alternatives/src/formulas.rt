@@ -12,7 +12,7 @@ ghost use Rattle.isl_alternatives.specs.Restricted.{AreRestricted, AreWhere, Hol
 
 use crate::bound::{bound, projected};
 use crate::chains::{Chain, with_chain};
-use crate::lists::{begun, live, selected};
+use crate::lists::{begun, live, normal_forms, selected};
 use isl_affine::Scope;
 use isl_meter::{Cut, Meter};
 use isl_piece::System;
@@ -26,10 +26,24 @@ struct Polarity {
     outermost: bool,
 }
 
+impl Polarity {
+    ghost use Rattle.std.specs.Prelude.{not};
+
+    // How a formula is meant that is denied.
+    fn denied(self) -> Self
+        ensures { result ≡ record { holds = not self.holds; outermost = self.outermost } }
+    {
+        Polarity {
+            holds: !self.holds,
+            outermost: self.outermost,
+        }
+    }
+}
+
 // The systems where the formula holds, or where it does not.
 #[cycle(formula)]
 #[tactic(auto, using(std::proofs::lemmas::Grind::common_steps, isl_meter::proofs::CutLemmas::charges))]
-fn conjunction(
+fn restricted(
     alloc: Global,
     systems: Vec<System>,
     formula: &Formula,
@@ -47,52 +61,21 @@ fn conjunction(
         Formula::And(parts) if polarity.holds => {
             each_of(alloc, systems, parts.as_slice(), polarity, scope, meter)
         }
-        Formula::And(parts) => any_of(
-            alloc,
-            systems.as_slice(),
-            parts.as_slice(),
-            false,
-            scope,
-            meter,
-        ),
+        Formula::And(parts) => any_of(alloc, systems, parts.as_slice(), false, scope, meter),
         Formula::Or(parts) if polarity.holds => {
-            any_of(
-                alloc,
-                systems.as_slice(),
-                parts.as_slice(),
-                true,
-                scope,
-                meter,
-            )
+            any_of(alloc, systems, parts.as_slice(), true, scope, meter)
         }
         Formula::Or(parts) => each_of(alloc, systems, parts.as_slice(), polarity, scope, meter),
         Formula::Not(inner) => {
-            let turned = Polarity {
-                holds: !polarity.holds,
-                outermost: polarity.outermost,
-            };
-            conjunction(alloc, systems, inner.get(), turned, scope, meter)
+            restricted(alloc, systems, inner.get(), polarity.denied(), scope, meter)
         }
         Formula::Implies(parts) => {
-            implied(
-                alloc,
-                systems,
-                parts.as_slice(),
-                polarity.holds,
-                scope,
-                meter,
-            )
+            let holds = polarity.holds;
+            implied(alloc, systems, parts.as_slice(), holds, scope, meter)
         }
-        Formula::True => Ok(if polarity.holds {
-            systems
-        } else {
-            Vec::new(alloc)
-        }),
-        Formula::False => Ok(if polarity.holds {
-            Vec::new(alloc)
-        } else {
-            systems
-        }),
+        Formula::True if polarity.holds => Ok(systems),
+        Formula::False if !polarity.holds => Ok(systems),
+        Formula::True | Formula::False => Ok(Vec::new(alloc)),
         Formula::Exists(binders, body) => {
             let found = exists(alloc, binders.as_slice(), body.get(), scope, meter)?;
             let all = systems.as_slice();
@@ -128,7 +111,7 @@ fn narrowed(
         (IsCutBy meter.old meter.new) }
 {
     let before = systems.len();
-    let new = conjunction(alloc, systems, formula, polarity, scope, meter)?;
+    let new = restricted(alloc, systems, formula, polarity, scope, meter)?;
     if polarity.outermost && before < new.len() {
         let kept = live(alloc, new, scope, meter)?;
         return Ok(kept);
@@ -164,16 +147,16 @@ fn each_of(
 #[tactic(auto, using(std::proofs::lemmas::Grind::common_steps, isl_meter::proofs::CutLemmas::charges))]
 fn any_of(
     alloc: Global,
-    systems: &[System],
+    systems: Vec<System>,
     formulas: &[Formula],
     holds: bool,
     scope: &Scope,
     meter: &mut Meter,
 ) -> Result<Vec<System>, Cut>
-    requires over { All (IsOver meter.old scope.now) systems.now }
+    requires over { All (IsOver meter.old scope.now) systems.items }
     requires known { All (IsFormulaKnown scope.now) formulas.now }
     ensures { MatchResult result
-        (λ new. AreRestricted meter.old meter.new scope.now systems.now (AnyAs holds formulas.now) new.items)
+        (λ new. AreRestricted meter.old meter.new scope.now systems.items (AnyAs holds formulas.now) new.items)
         (IsCutBy meter.old meter.new) }
 {
     let polarity = Polarity {
@@ -182,8 +165,8 @@ fn any_of(
     };
     let mut found = Vec::new(alloc);
     for formula in formulas {
-        let base = begun(alloc, systems, found.as_slice(), meter)?;
-        let mut more = conjunction(alloc, base, formula, polarity, scope, meter)?;
+        let base = begun(alloc, systems.as_slice(), found.as_slice(), meter)?;
+        let mut more = restricted(alloc, base, formula, polarity, scope, meter)?;
         found.append(&mut more)?;
     }
     Ok(found)
@@ -218,10 +201,10 @@ fn implied(
         };
         if holds {
             let base = begun(alloc, systems.as_slice(), systems.as_slice(), meter)?;
-            let mut more = conjunction(alloc, base, &formulas[count], polarity, scope, meter)?;
+            let mut more = restricted(alloc, base, &formulas[count], polarity, scope, meter)?;
             found.append(&mut more)?;
         } else {
-            systems = conjunction(alloc, systems, &formulas[count], polarity, scope, meter)?;
+            systems = restricted(alloc, systems, &formulas[count], polarity, scope, meter)?;
         }
         holds = !holds;
         count -= 1;
@@ -230,7 +213,7 @@ fn implied(
         holds,
         outermost: false,
     };
-    let mut first = conjunction(alloc, systems, &formulas[0], polarity, scope, meter)?;
+    let mut first = restricted(alloc, systems, &formulas[0], polarity, scope, meter)?;
     found.append(&mut first)?;
     Ok(found)
 }
@@ -258,8 +241,9 @@ fn exists(
         holds: true,
         outermost: true,
     };
-    let bodies = conjunction(alloc, whole, body, polarity, &inner.scope, meter)?;
-    let found = projected(alloc, bodies.as_slice(), scope, &inner.scope, meter)?;
+    let bodies = restricted(alloc, whole, body, polarity, &inner.scope, meter)?;
+    let forms = normal_forms(alloc, bodies, &inner.scope, meter)?;
+    let found = projected(alloc, forms.as_slice(), scope, &inner.scope, meter)?;
     Ok(found)
 }
 
@@ -292,6 +276,6 @@ pub fn alternatives(
         holds: true,
         outermost: true,
     };
-    let found = conjunction(alloc, systems, formula, polarity, scope, meter)?;
+    let found = restricted(alloc, systems, formula, polarity, scope, meter)?;
     Ok(found)
 }

@@ -1,7 +1,8 @@
-//! Lists of systems: copied, met with others, without others, and without those that hold nowhere.
+//! Lists of systems: copied, met with others, without others, in their normal form, and without those that hold nowhere.
 
 ghost use Rattle.std.specs.Prelude.{◌≡◌, ◌⊎◌, ◌+◌, ◌≤◌, ◌++◌, [], All, IfOk, MatchResult, length, map};
 ghost use Rattle.isl_meter.specs.Gauge.{Gauge, IsCharged, IsCutBy};
+ghost use Rattle.isl_piece.specs.Normal.{IsNormal};
 ghost use Rattle.isl_piece.specs.System.{HoldsSystem, free_columns};
 ghost use Rattle.isl_elim.specs.Elimination.{HoldsAtAny};
 ghost use Rattle.isl_affine.specs.Scope.{Scope as Names};
@@ -10,7 +11,7 @@ ghost use Rattle.isl_alternatives.specs.Restricted.{AreRestricted, HoldsAs, IsOv
 use isl_affine::Scope;
 use isl_difference::{live_form, outside};
 use isl_meter::{Cut, Meter};
-use isl_piece::{System, meet};
+use isl_piece::{System, meet, normalise};
 use std::alloc::{AllocError, Global};
 
 /// Copies of the systems.
@@ -149,6 +150,30 @@ pub(crate) fn selected(
         return met(alloc, systems, others, scope, meter);
     }
     without(alloc, systems, others, scope, meter)
+}
+
+/// The systems in their normal form, without those of which a row holds nowhere. No unit is used.
+#[tactic(auto, using(std::proofs::lemmas::Grind::common_steps, isl_meter::proofs::CutLemmas::charges))]
+pub(crate) fn normal_forms(
+    alloc: Global,
+    systems: Vec<System>,
+    scope: &Scope,
+    meter: &mut Meter,
+) -> Result<Vec<System>, AllocError>
+    requires over { All (IsOver meter.old scope.now) systems.items }
+    ensures exact { IfOk result
+        (λ forms. AreRestricted meter.old meter.new scope.now systems.items (λ point env. Unit {0}) forms.items) }
+    ensures normal { IfOk result (λ forms. All (λ s. IsNormal s.rows) forms.items) }
+    ensures meter { meter.new ≡ meter.old }
+{
+    let mut forms = Vec::new(alloc);
+    for system in systems {
+        let found = normalise(alloc, system, meter)?;
+        if let Some(form) = found {
+            forms.push(form)?;
+        }
+    }
+    Ok(forms)
 }
 
 /// The systems that hold somewhere, in their normal form.

@@ -8,7 +8,8 @@ abbrev pub invariant-each_of-loop-formula : goal.invariant-each_of-loop-formula
 invariant-each_of-loop-formula l = AreRestricted l.fn.meter l.meter l.scope l.fn.systems.items (AllAs l.polarity.holds (take l.formula-index l.formulas)) l.systems.items
 
 abbrev pub invariant-any_of-loop-formula : goal.invariant-any_of-loop-formula
-invariant-any_of-loop-formula l = AreRestricted l.fn.meter l.meter l.scope l.systems (AnyAs l.holds (take l.formula-index l.formulas)) l.found.items
+invariant-any_of-loop-formula l = AreRestricted l.fn.meter l.meter l.scope l.systems.items (AnyAs l.holds (take l.formula-index l.formulas))
+    l.found.items
 
 abbrev pub invariant-implied-loop-count : goal.invariant-implied-loop-count
 invariant-implied-loop-count l = IsImpliedSoFar l.fn.meter l.meter l.scope l.fn.systems.items l.fn.holds l.formulas l.count l.holds l.systems.items l.found.items
@@ -16,8 +17,8 @@ invariant-implied-loop-count l = IsImpliedSoFar l.fn.meter l.meter l.scope l.fn.
 abbrev pub decreases-implied-loop-count : goal.decreases-implied-loop-count
 decreases-implied-loop-count l = l.count
 
-abbrev pub decreases-conjunction : goal.decreases-conjunction
-decreases-conjunction l = size_of l.formula.now
+abbrev pub decreases-restricted : goal.decreases-restricted
+decreases-restricted l = size_of l.formula.now
 
 abbrev pub decreases-narrowed : goal.decreases-narrowed
 decreases-narrowed l = 1 + size_of l.formula.now
