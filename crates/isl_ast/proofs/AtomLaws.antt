@@ -15,7 +15,8 @@ use Rattle.isl_loop.proofs.TreeLaws.{value_of-Ceil, value_of-Floor, value_of-Max
 use Rattle.isl_ast.specs.Value.{IsValued}
 
 -- ---- quotients
-pub floor_over : (g : Gauge) (n : ℕ) (x : Atom) (e inner : Expr) (k : ℤ) → x ≡ Floor e k → inner ≡ e → IsAtomOver g n x → IsExprOver g n inner
+pub floor_over : (g : Gauge) (n : ℕ) (x : Atom) (e inner : Expr) (k : ℤ) → x ≡ Floor e k → inner ≡ e → IsAtomOver g n x
+    → IsExprOver g n inner
 floor_over g n x e inner k is same over = subst (IsExprOver g n) (sym same) (over-Floor g n e k (subst (IsAtomOver g n) is over)).0
 
 pub floor_value : (x : Atom) (e inner : Expr) (k m : ℤ) (point : List ℤ) (number result : ℤ) → x ≡ Floor e k → inner ≡ e
@@ -30,7 +31,8 @@ pub floor_past : (g h : Gauge) (point : List ℤ) (x : Atom) (e inner : Expr) (k
 floor_past g h point x e inner k is same p =
     (subst (AtomPasses g point) (sym is) (passes-Floor g point e k (subst (ExprPasses g point) same p.0)), p.1)
 
-pub ceiling_over : (g : Gauge) (n : ℕ) (x : Atom) (e inner : Expr) (k : ℤ) → x ≡ Ceil e k → inner ≡ e → IsAtomOver g n x → IsExprOver g n inner
+pub ceiling_over : (g : Gauge) (n : ℕ) (x : Atom) (e inner : Expr) (k : ℤ) → x ≡ Ceil e k → inner ≡ e → IsAtomOver g n x
+    → IsExprOver g n inner
 ceiling_over g n x e inner k is same over = subst (IsExprOver g n) (sym same) (over-Ceil g n e k (subst (IsAtomOver g n) is over)).0
 
 pub ceiling_value : (x : Atom) (e inner : Expr) (k m : ℤ) (point : List ℤ) (number result : ℤ) → x ≡ Ceil e k → inner ≡ e
@@ -46,7 +48,8 @@ ceiling_past g h point x e inner k is same p =
     (subst (AtomPasses g point) (sym is) (passes-Ceil g point e k (subst (ExprPasses g point) same p.0)), p.1)
 
 -- ---- the least, and the greatest
-pub least_over : (g : Gauge) (n : ℕ) (x : Atom) (es slice : List Expr) → x ≡ Min es → slice ≡ es → IsAtomOver g n x → All (IsExprOver g n) slice
+pub least_over : (g : Gauge) (n : ℕ) (x : Atom) (es slice : List Expr) → x ≡ Min es → slice ≡ es → IsAtomOver g n x
+    → All (IsExprOver g n) slice
 least_over g n x es slice is same over =
     subst (All (IsExprOver g n)) (sym same) (over-Min g n es (subst (IsAtomOver g n) is over)).0
 
@@ -65,7 +68,8 @@ pub greatest_over : (g : Gauge) (n : ℕ) (x : Atom) (es slice : List Expr) → 
 greatest_over g n x es slice is same over =
     subst (All (IsExprOver g n)) (sym same) (over-Max g n es (subst (IsAtomOver g n) is over)).0
 
-pub greatest_is : {E : Type 0} (g h : Gauge) (point : List ℤ) (x : Atom) (es slice : List Expr) (result : Result ℤ E) → x ≡ Max es → slice ≡ es
+pub greatest_is : {E : Type 0} (g h : Gauge) (point : List ℤ) (x : Atom) (es slice : List Expr) (result : Result ℤ E) → x ≡ Max es
+    → slice ≡ es
     → IsValued g h (extreme_in int_max slice point) (Any (ExprPasses g point) slice) result
     → IsValued g h (atom_value x point) (AtomPasses g point x) result
 greatest_is g h point x es slice (Ok v) is same p = (

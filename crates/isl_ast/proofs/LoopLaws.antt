@@ -16,7 +16,8 @@ use Rattle.isl_loop.specs.Lists.{calls_of, turns_through}
 use Rattle.isl_loop.specs.Run.{Event, rows_hold, trace, turns_of}
 use Rattle.isl_loop.specs.Turns.{turns}
 use Rattle.isl_loop.proofs.RowLaws.{rows_tell}
-use Rattle.isl_loop.proofs.TreeLaws.{over-Block, over-For, over-If, passes-Block, passes-For, passes-If, trace_of-Block, trace_of-For, trace_of-If}
+use Rattle.isl_loop.proofs.TreeLaws.{over-Block, over-For, over-If, passes-Block, passes-For, passes-If, trace_of-Block, trace_of-For}
+use Rattle.isl_loop.proofs.TreeLaws.{trace_of-If}
 use Rattle.isl_loop.proofs.TreeLaws.{turns_of-Block, turns_of-For, turns_of-If}
 use Rattle.isl_ast.specs.Run.{charged, turn_calls, turn_units, IsAppended, TurnsPass}
 use Rattle.isl_ast.proofs.RunLaws.{ended-weaker}
@@ -35,7 +36,8 @@ pub block_over : (g : Gauge) (n : ℕ) (x : Loop) (parts slice : List Loop) → 
 block_over g n x parts slice is same over =
     subst (All (IsLoopOver g n)) (sym same) (over-Block g n parts (subst (IsLoopOver g n) is over))
 
-pub block_is : {A : Type 0} (g h : Gauge) (before now : List Event) (point : List ℤ) (x : Loop) (parts slice : List Loop) (result : Result A Cut)
+pub block_is : {A : Type 0} (g h : Gauge) (before now : List Event) (point : List ℤ) (x : Loop) (parts slice : List Loop)
+    (result : Result A Cut)
     → x ≡ Block parts → slice ≡ parts
     → IsAppended g h before now (calls_of slice point) (turns_through slice point) (Any (RunPasses g point) slice) result
     → IsAppended g h before now (trace x point) (turns_of x point) (RunPasses g point x) result
@@ -80,7 +82,8 @@ moduli : (g : Gauge) (n : ℕ) (x : Loop) (rows : List Row) (body : Loop) → x 
     → All (λ r. HasModulus r.kind r.k) rows
 moduli g n x rows body is over = λ i d l. ((over-If g n rows body (subst (IsLoopOver g n) is over)).0 i d l).shape.modulus
 
-pub then_is : {A : Type 0} (g mid h : Gauge) (n : ℕ) (before now : List Event) (point : List ℤ) (x : Loop) (rows : List Row) (body inner : Loop)
+pub then_is : {A : Type 0} (g mid h : Gauge) (n : ℕ) (before now : List Event) (point : List ℤ) (x : Loop) (rows : List Row)
+    (body inner : Loop)
     (result : Result A Cut) → x ≡ If rows body → inner ≡ body → mid ≡ g → IsLoopOver g n x → HoldRows rows point
     → IsAppended mid h before now (trace inner point) (turns_of inner point) (RunPasses mid point inner) result
     → IsAppended g h before now (trace x point) (turns_of x point) (RunPasses g point x) result

@@ -160,7 +160,8 @@ pub next_within : (x high step : ℤ) (after : Option ℤ) → MatchOption after
 next_within x high step None later = tt
 next_within x high step (Some y) later = later.1
 
-pub turn_ended : (g h mid k : Gauge) (before now : List Event) (body : Loop) (point pushed : List ℤ) (x high step : ℤ) (all : List ℤ) (cut : Cut)
+pub turn_ended : (g h mid k : Gauge) (before now : List Event) (body : Loop) (point pushed : List ℤ) (x high step : ℤ) (all : List ℤ)
+    (cut : Cut)
     → pos 0 <ℤ step → x ≤ℤ high → IsTurned g h before now body point (turns x high step) all
     → mid ≡ record h { units = h.units + 1 } → pushed ≡ point ++ x ∷ []
     → IsEnded mid k (turns_of body pushed) (RunPasses mid pushed body) cut
@@ -195,7 +196,8 @@ turns_start g before body point low high step next p first =
 pub turns_end : (g h : Gauge) (before now : List Event) (body : Loop) (point all : List ℤ) → IsTurned g h before now body point [] all
     → (now ≡ before ++ turn_calls body point all) × (h ≡ charged g (turn_units body point all))
 turns_end g h before now body point all s =
-    so_far-end g h before now (turn_calls body point all) (turn_units body point all) (TurnsPass g body point []) (TurnsPass g body point all) s
+    so_far-end g h before now (turn_calls body point all) (turn_units body point all) (TurnsPass g body point [])
+    (TurnsPass g body point all) s
 
 -- ---- one part, as the code finds it
 parts_left : {X : Type 0} (xs : List X) (i : ℕ) (x : X) → i < length xs → x ≡ get_or xs i x → drop i xs ≡ x ∷ drop (i + 1) xs
@@ -227,5 +229,6 @@ pub parts_end : (g h : Gauge) (before now : List Event) (point : List ℤ) (part
     → ArePassed g h before now point (drop i parts) parts
     → (now ≡ before ++ calls_of parts point) × (h ≡ charged g (turns_through parts point))
 parts_end g h before now point parts i long s =
-    so_far-end g h before now (calls_of parts point) (turns_through parts point) (Any (RunPasses g point) []) (Any (RunPasses g point) parts)
+    so_far-end g h before now (calls_of parts point) (turns_through parts point) (Any (RunPasses g point) [])
+    (Any (RunPasses g point) parts)
     (subst (λ (rest : List Loop). ArePassed g h before now point rest parts) (drop_all i parts long) s)

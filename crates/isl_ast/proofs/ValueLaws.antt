@@ -64,7 +64,8 @@ item_over g h n items i item all low is same =
     subst (λ (m : Gauge). IsAtomOver m n item.atom) (sym same)
     (subst (λ (x : Item). IsAtomOver g n x.atom) (sym is) (all i item low).atom)
 
-pub total_more : (g : Gauge) (point : List ℤ) (items : List Item) (i : ℕ) (item : Item) (sum number coef product next : ℤ) → i < length items
+pub total_more : (g : Gauge) (point : List ℤ) (items : List Item) (i : ℕ) (item : Item) (sum number coef product next : ℤ)
+    → i < length items
     → item ≡ get_or items i item → IsSummed g point items sum (drop i items) → number ≡ atom_value item.atom point
     → coef ≡ item.coef → product ≡ coef *ℤ number → next ≡ sum +ℤ product → IsSummed g point items next (drop (i + 1) items)
 total_more g point items i item sum number coef product next low is s value own times plus =
@@ -164,14 +165,16 @@ pub expr_is : (x : Expr) (point : List ℤ) (items : List Item) (sum number : �
 expr_is x point items sum number is total plus =
     plus ∙ ap (λ (z : ℤ). z +ℤ (out-Expr x).constant) (total ∙ ap (λ (l : List Item). sum_of l point) is) ∙ sym (value_of-Expr x point)
 
-pub expr_items : (g : Gauge) (n : ℕ) (x : Expr) (items : List Item) → items ≡ (out-Expr x).items → IsExprOver g n x → All (IsItemOver g n) items
+pub expr_items : (g : Gauge) (n : ℕ) (x : Expr) (items : List Item) → items ≡ (out-Expr x).items → IsExprOver g n x
+    → All (IsItemOver g n) items
 expr_items g n x items is over = subst (All (IsItemOver g n)) (sym is) (over-Expr g n x over).0
 
 pub expr_total : (g k : Gauge) (point : List ℤ) (x : Expr) (items : List Item) → items ≡ (out-Expr x).items
     → ItemsPass g point (pos 0) items × (k ≡ overflown g) → ExprPasses g point x × (k ≡ overflown g)
 expr_total g k point x items is e = (passes-Expr g point x (inl (subst (ItemsPass g point (pos 0)) is e.0)), e.1)
 
-pub expr_sum : (g h k : Gauge) (point : List ℤ) (x : Expr) (items : List Item) (sum : ℤ) → items ≡ (out-Expr x).items → sum ≡ sum_of items point
+pub expr_sum : (g h k : Gauge) (point : List ℤ) (x : Expr) (items : List Item) (sum : ℤ) → items ≡ (out-Expr x).items
+    → sum ≡ sum_of items point
     → h ≡ g → (¬ IsWithin h (sum +ℤ (out-Expr x).constant)) × (k ≡ overflown h) → ExprPasses g point x × (k ≡ overflown g)
 expr_sum g h k point x items sum is total same e = (
   passes-Expr g point x (inr (λ (w : IsWithin g (expr_value x point)). e.0

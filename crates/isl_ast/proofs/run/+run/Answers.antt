@@ -1,4 +1,5 @@
-use Rattle.std.proofs.Common.{◌≡◌, ◌∙◌, ◌+◌, ◌<◌, ◌++◌, ◌∷◌, [], ◌≤ℤ◌, length, arith, rules, refl, sym, ap, subst, true, false, List, ℤ, pos, ◌<ℤ◌, to_z-of_z}
+use Rattle.std.proofs.Common.{◌≡◌, ◌∙◌, ◌+◌, ◌<◌, ◌++◌, ◌∷◌, [], ◌≤ℤ◌, length, arith, rules, refl, sym, ap, subst, true, false, List, ℤ}
+use Rattle.std.proofs.Common.{pos, ◌<ℤ◌, to_z-of_z}
 use Rattle.std.proofs.lemmas.Grind.{common_steps}
 use Rattle.std.proofs.lemmas.Bool.{false≢true}
 use Rattle.isl_piece.specs.System.{HoldRows}
@@ -23,7 +24,8 @@ pub repeat-returns-in_err-unit-clause-run : goal.repeat-returns-in_err-unit-clau
 repeat-returns-in_err-unit-clause-run t c =
     let high : c.in-Some.x ≤ℤ c.args.range.high = rw c.in-Some.is at c.loop-next.invariant.next in
     let all = turns c.args.range.low c.args.range.high c.args.range.step in
-    let found = unit_ended c.args.meter.now c.loop-next.meter c.unit.new.self c.args.run.now.calls.items c.loop-next.run.calls.items c.args.body.now
+    let found = unit_ended c.args.meter.now c.loop-next.meter c.unit.new.self c.args.run.now.calls.items c.loop-next.run.calls.items
+    c.args.body.now
     c.args.run.now.point.items c.in-Some.x c.args.range.high c.args.range.step all c.requires.step high
     (rw c.in-Some.is at c.loop-next.invariant.so_far) c.in_err-unit.ensures.0 c.in_err-unit.ensures.1 in
     search (rules, found)
@@ -34,8 +36,10 @@ repeat-returns-in_err-append-clause-run t c =
     let all = turns c.args.range.low c.args.range.high c.args.range.step in
     let mid : c.unit.new.self ≡ record c.loop-next.meter { units = c.loop-next.meter.units + 1 } = c.in_ok-unit.ensures.1 in
     let pushed : c.push.new.self.items ≡ c.args.run.now.point.items ++ c.in-Some.x ∷ [] = grind (arith, common_steps) in
-    let found = turn_ended c.args.meter.now c.loop-next.meter c.unit.new.self c.append.new.meter c.args.run.now.calls.items c.loop-next.run.calls.items
-    c.args.body.now c.args.run.now.point.items c.push.new.self.items c.in-Some.x c.args.range.high c.args.range.step all c.in_err-append.field-0.0
+    let found = turn_ended c.args.meter.now c.loop-next.meter c.unit.new.self c.append.new.meter c.args.run.now.calls.items
+    c.loop-next.run.calls.items
+    c.args.body.now c.args.run.now.point.items c.push.new.self.items c.in-Some.x c.args.range.high c.args.range.step all
+    c.in_err-append.field-0.0
     c.requires.step high (rw c.in-Some.is at c.loop-next.invariant.so_far) mid pushed c.in_err-append.ensures.run in
     search (rules, found)
 
@@ -49,7 +53,8 @@ repeat-loop-next-preserved t c =
       so_far = turn_next c.args.meter.now c.loop-next.meter c.unit.new.self c.append.new.meter c.args.run.now.calls.items
           c.loop-next.run.calls.items c.append.new.run.calls.items c.args.body.now c.args.run.now.point.items c.push.new.self.items
           c.in-Some.x c.args.range.high c.args.range.step c.after-next.result all c.requires.step high
-          (rw c.in-Some.is at c.loop-next.invariant.so_far) mid pushed c.in_ok-append.ensures.run.0 c.in_ok-append.ensures.run.1 c.after-next.ensures;
+          (rw c.in-Some.is at c.loop-next.invariant.so_far) mid pushed c.in_ok-append.ensures.run.0 c.in_ok-append.ensures.run.1
+          c.after-next.ensures;
       next = next_within c.in-Some.x c.args.range.high c.args.range.step c.after-next.result c.after-next.ensures;
       point = grind (arith, common_steps);
     }
@@ -99,9 +104,11 @@ append-returns-in-Block-clause-run t c =
 pub append-repeat-requires : goal.append-repeat-requires
 append-repeat-requires t c =
     let own : c.new-step.result ≡ c.in-For.step = grind (arith, common_steps, to_z-of_z) in
-    let both = for_over c.args.meter.now c.value-in-For.new.meter (length c.args.run.now.point.items) c.args.tree.now c.in-For.low c.in-For.high
+    let both = for_over c.args.meter.now c.value-in-For.new.meter (length c.args.run.now.point.items) c.args.tree.now c.in-For.low
+    c.in-For.high
     c.in-For.step c.in-For.body c.get.result.now c.in-For.is c.get.ensures (grind (arith, common_steps)) c.requires in
-    let less = body_smaller c.args.tree.now c.in-For.low c.in-For.high c.in-For.step c.in-For.body c.get.result.now c.in-For.is c.get.ensures in
+    let less = body_smaller c.args.tree.now c.in-For.low c.in-For.high c.in-For.step c.in-For.body c.get.result.now c.in-For.is
+    c.get.ensures in
     (search (rules, less), (both.0, subst (λ (z : ℤ). pos 0 <ℤ z) (sym own) both.1))
 
 pub append-append-requires : goal.append-append-requires

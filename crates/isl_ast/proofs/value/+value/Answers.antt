@@ -2,8 +2,10 @@ use Rattle.std.proofs.Common.{◌∙◌, ◌<◌, length, arith, rules, to_z-of_
 use Rattle.std.proofs.lemmas.Grind.{common_steps}
 use Rattle.isl_ast.proofs.AtomLaws.{ceiling_over, ceiling_past, ceiling_value, floor_over, floor_past, floor_value}
 use Rattle.isl_ast.proofs.AtomLaws.{greatest_is, greatest_over, least_is, least_over}
-use Rattle.isl_ast.proofs.SizeLaws.{ceiling_smaller, expr_smaller, floor_smaller, greatest_smaller, item_smaller, items_smaller, least_smaller}
-use Rattle.isl_ast.proofs.ValueLaws.{best_more, best_past, expr_answer, expr_items, expr_over, expr_total, item_over, total_atom, total_more, total_product, total_sum}
+use Rattle.isl_ast.proofs.SizeLaws.{ceiling_smaller, expr_smaller, floor_smaller, greatest_smaller, item_smaller, items_smaller}
+use Rattle.isl_ast.proofs.SizeLaws.{least_smaller}
+use Rattle.isl_ast.proofs.ValueLaws.{best_more, best_past, expr_answer, expr_items, expr_over, expr_total, item_over, total_atom}
+use Rattle.isl_ast.proofs.ValueLaws.{total_more, total_product, total_sum}
 use Rattle.isl_ast.specs.Value.{better}
 use Rattle.isl_ast.proofs.value.+value.Goals as goal
 
@@ -20,23 +22,27 @@ total-loop-item-preserved t c =
     let low : c.loop-item.item-index < length c.args.items.now = omega arith in (
       total_more c.args.meter.now c.args.point.now c.args.items.now c.loop-item.item-index
           c.item-item.result c.loop-item.sum c.in_ok-number.number c.new.result c.in_ok-product.product c.in_ok-next.next low c.item-item.is
-          c.loop-item.invariant.0 c.in_ok-number.ensures.0 (grind (arith, common_steps, to_z-of_z)) c.in_ok-product.ensures.0 c.in_ok-next.ensures.0,
+          c.loop-item.invariant.0 c.in_ok-number.ensures.0 (grind (arith, common_steps, to_z-of_z)) c.in_ok-product.ensures.0
+          c.in_ok-next.ensures.0,
       c.in_ok-next.ensures.2 ∙ c.in_ok-product.ensures.2 ∙ c.in_ok-number.ensures.1 ∙ c.loop-item.invariant.1,
     )
 
 pub total-returns-in_err-number : goal.total-returns-in_err-number
 total-returns-in_err-number t c =
     let low : c.loop-item.item-index < length c.args.items.now = omega arith in
-    let found = total_atom c.args.meter.now c.loop-item.meter c.atom_value.new.meter c.args.point.now c.args.items.now c.loop-item.item-index
+    let found = total_atom c.args.meter.now c.loop-item.meter c.atom_value.new.meter c.args.point.now c.args.items.now
+    c.loop-item.item-index
     c.item-item.result c.loop-item.sum low c.item-item.is c.loop-item.invariant.0 c.loop-item.invariant.1 c.in_err-number.ensures in
     search (rules, found)
 
 pub total-returns-in_err-product : goal.total-returns-in_err-product
 total-returns-in_err-product t c =
     let low : c.loop-item.item-index < length c.args.items.now = omega arith in
-    let found = total_product c.args.meter.now c.atom_value.new.meter c.mul.new.meter c.args.point.now c.args.items.now c.loop-item.item-index
+    let found = total_product c.args.meter.now c.atom_value.new.meter c.mul.new.meter c.args.point.now c.args.items.now
+    c.loop-item.item-index
     c.item-item.result c.loop-item.sum c.in_ok-number.number c.new.result low c.item-item.is c.loop-item.invariant.0
-    (c.in_ok-number.ensures.1 ∙ c.loop-item.invariant.1) c.in_ok-number.ensures.0 (grind (arith, common_steps, to_z-of_z)) c.in_err-product.ensures in
+    (c.in_ok-number.ensures.1 ∙ c.loop-item.invariant.1) c.in_ok-number.ensures.0 (grind (arith, common_steps, to_z-of_z))
+    c.in_err-product.ensures in
     search (rules, found)
 
 pub total-returns-in_err-next : goal.total-returns-in_err-next
@@ -100,7 +106,8 @@ atom_value-value-requires t c = (
 
 pub atom_value-returns-in_err-number-in-Floor : goal.atom_value-returns-in_err-number-in-Floor
 atom_value-returns-in_err-number-in-Floor t c =
-    let found = floor_past c.args.meter.now c.value.new.meter c.args.point.now c.args.atom.now c.in-Floor.dividend c.get.result.now c.in-Floor.k
+    let found = floor_past c.args.meter.now c.value.new.meter c.args.point.now c.args.atom.now c.in-Floor.dividend c.get.result.now
+    c.in-Floor.k
     c.in-Floor.is c.get.ensures c.in_err-number-in-Floor.ensures.value in
     search (rules, found)
 
@@ -114,14 +121,19 @@ atom_value-returns-in_ok-number-in-Floor t c = (
 
 pub atom_value-value-requires-in-Ceil : goal.atom_value-value-requires-in-Ceil
 atom_value-value-requires-in-Ceil t c = (
-  search (rules, ceiling_smaller c.args.atom.now c.in-Ceil.dividend c.get-in-Ceil.result.now c.in-Ceil.k c.in-Ceil.is c.get-in-Ceil.ensures),
+  search (
+    rules,
+    ceiling_smaller c.args.atom.now c.in-Ceil.dividend c.get-in-Ceil.result.now c.in-Ceil.k c.in-Ceil.is
+        c.get-in-Ceil.ensures,
+  ),
   ceiling_over c.args.meter.now (length c.args.point.now) c.args.atom.now c.in-Ceil.dividend c.get-in-Ceil.result.now c.in-Ceil.k
       c.in-Ceil.is c.get-in-Ceil.ensures c.requires,
 )
 
 pub atom_value-returns-in_err-number-in-Ceil : goal.atom_value-returns-in_err-number-in-Ceil
 atom_value-returns-in_err-number-in-Ceil t c =
-    let found = ceiling_past c.args.meter.now c.value-in-Ceil.new.meter c.args.point.now c.args.atom.now c.in-Ceil.dividend c.get-in-Ceil.result.now
+    let found = ceiling_past c.args.meter.now c.value-in-Ceil.new.meter c.args.point.now c.args.atom.now c.in-Ceil.dividend
+    c.get-in-Ceil.result.now
     c.in-Ceil.k c.in-Ceil.is c.get-in-Ceil.ensures c.in_err-number-in-Ceil.ensures.value in
     search (rules, found)
 
