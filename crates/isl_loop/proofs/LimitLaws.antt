@@ -68,7 +68,8 @@ mutual
     within g h same step over.3,
     loops_over g h same (n + 1) body over.4,
   )
-  loop_over g h same n (If' rows s body) over = ((λ i d l. row_over g h same n (get_or rows i d) (over.0 i d l)), loops_over g h same n body over.1)
+  loop_over g h same n (If' rows s body) over =
+      ((λ i d l. row_over g h same n (get_or rows i d) (over.0 i d l)), loops_over g h same n body over.1)
   loop_over g h same n (Call name args) over = λ i d l. expr_over g h same n (get_or args i d) (over i d l)
 
   loops_over : {m : _} → (g h : Gauge) → IsSame g h → (n : ℕ) (row : Row_of-Loop m) → AreLoopsOver g n row → AreLoopsOver h n row

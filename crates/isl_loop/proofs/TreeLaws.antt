@@ -13,7 +13,8 @@ use Rattle.isl_math.proofs.ListLaws.{Any-cases, Any-none, Any-weaker}
 use Rattle.isl_meter.specs.Gauge.{Gauge, IsWithin}
 use Rattle.isl_piece.specs.declared.row.Row.{Row}
 use Rattle.isl_piece.specs.Row.{FormPassesLimit}
-use Rattle.isl_loop.specs.declared.tree.Expr.{Expr, Expr', out-Expr, Row_of-Item, end_of-Item, more_of-Item, items-the_row-Item, items_shown-the_row-Item-2}
+use Rattle.isl_loop.specs.declared.tree.Expr.{Expr, Expr', out-Expr, Row_of-Item, end_of-Item, more_of-Item, items-the_row-Item}
+use Rattle.isl_loop.specs.declared.tree.Expr.{items_shown-the_row-Item-2}
 use Rattle.isl_loop.specs.declared.tree.Item.{Item}
 use Rattle.isl_loop.specs.declared.tree.Atom.{Floor, Ceil, Min, Max, Row_of-Expr, end_of-Expr, more_of-Expr}
 use Rattle.isl_loop.specs.declared.tree.Atom.{items-the_row-Expr, items_hidden-the_row-Expr-1}

@@ -1,0 +1,6 @@
+pub mod RunLaws
+pub mod ValueLaws
+pub mod SizeLaws
+pub mod StepLaws
+pub mod AtomLaws
+pub mod LoopLaws

@@ -1,0 +1,4 @@
+pub mod Value
+pub mod Run
+pub mod Size
+pub use Rattle.isl_meter.specs.Gauge
