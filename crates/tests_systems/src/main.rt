@@ -1,6 +1,6 @@
 //! Small systems, with defined columns and without: where they hold, their normal rows, what two of them have together, one without
-//! others, negations, and what elimination leaves of them; and where the statements of scripts end. The cases stand in the file `stdin`, whose head
-//! says how they are written. What differs is printed, and how many cases there were.
+//! others, negations, and what elimination leaves of them; and where the statements of scripts end. The cases stand in the file `stdin`,
+//! whose head says how they are written. What differs is printed, and how many cases there were.
 #![tactic(auto)]
 
 mod elimination;
