@@ -83,7 +83,7 @@ fn made(
         "flat" => Ok(Some(value.flat(alloc, meter)?)),
         "sample" => Ok(Some(value.sample(alloc, meter)?)),
         "project" => projected(alloc, rest, value, meter),
-        _ => related(alloc, name, value, other, meter),
+        _ => related(alloc, name, value, meter),
     }
 }
 
