@@ -2,12 +2,12 @@
 
 ghost use Rattle.isl_union.specs.Numbers.{IsWithinLimit};
 
-use isl_images::{apply, deltas, domain, join, range};
-use isl_maps::{domain_map, identity, inverse, range_map, unwrap, wrap, zip};
-use isl_meter::Meter;
-use isl_products::{
-    cross_maps, cross_sets, remove_domain, remove_range, restrict_domain, restrict_range, universal,
+use isl_maps::{
+    apply, cross_maps, cross_sets, deltas, domain, domain_map, identity, inverse, join, range,
+    range_map, remove_domain, remove_range, restrict_domain, restrict_range, universal, unwrap,
+    wrap, zip,
 };
+use isl_meter::Meter;
 use isl_union::{OpFault, Value};
 use std::alloc::Global;
 
