@@ -1,5 +1,5 @@
-//! Operations on relations: those that move or double columns stand here; products, restrictions, domains, ranges, and what maps make of sets
-//! and of maps, come from the crates below.
+//! Operations on relations. Those that move or double columns stand here; products, restrictions, domains, ranges, and what maps
+//! make of sets and of maps, come from the crates below.
 #![tactic(auto)]
 
 mod change;

@@ -68,7 +68,8 @@ length-picked xs pick inside =
     (length-take-le pick.second (drop before xs) (omega arith))
 
 -- ---- the places are apart
-pub apart_append : (xs ys : List ℕ) → AreApart xs → AreApart ys → ((i j d : ℕ) → i < length xs → j < length ys → get_or xs i d ≢ get_or ys j d)
+pub apart_append : (xs ys : List ℕ) → AreApart xs → AreApart ys
+    → ((i j d : ℕ) → i < length xs → j < length ys → get_or xs i d ≢ get_or ys j d)
     → AreApart (xs ++ ys)
 apart_append xs ys first second between i j d before within =
     by i j before (rw (length-append xs ys) at within) (cases_lt i (length xs)) (cases_lt j (length xs))

@@ -113,7 +113,8 @@ fn all_made(
     ensures definitions { All (λ piece. piece.system.definitions ≡ []) pieces.now → All (λ other. other.system.definitions ≡ []) others.now
         → IfOk result (λ made. All (λ piece. piece.definitions ≡ []) (map kept_piece made.items)) }
     ensures numbers { IfOk result (λ made. All (IsPieceUpTo (unsigned_abs (limit_of meter.old))) (map kept_piece made.items)) }
-    ensures units { IsMeteredFrom (pairs_of (are_together product) (spaces_of pieces.now) (spaces_of others.now)) meter.old meter.new result }
+    ensures units { IsMeteredFrom (pairs_of (are_together product) (spaces_of pieces.now) (spaces_of others.now))
+        meter.old meter.new result }
 {
     let mut made = Vec::new(alloc);
     for piece in pieces {

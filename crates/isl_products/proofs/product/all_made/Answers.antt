@@ -46,7 +46,8 @@ loop-piece-preserved c =
     let one = c.in_ok-made_with.ensures in
     record {
       made = made_next g h params (IsMadeWith c.args.product params (map kept_piece others)) pieces piece i
-          c.loop-piece.made.items c.in_ok-made_with.field-0.items c.append.new.pieces.items so_far.used.charged low c.piece-item.is so_far.made
+          c.loop-piece.made.items c.in_ok-made_with.field-0.items c.append.new.pieces.items so_far.used.charged low c.piece-item.is
+          so_far.made
           c.in_ok-append.ensures one.elements one.sound one.numbers;
       definitions = λ own all.
           let P : PieceView → Type 0 = λ p. p.system.definitions ≡ [] in

@@ -13,5 +13,6 @@ invariant-loop-piece l = record {
       (map kept_piece (take l.piece-index l.pieces)) l.made.items;
   definitions : All (λ piece. piece.system.definitions ≡ []) l.pieces → All (λ other. other.system.definitions ≡ []) l.others
       → All (λ piece. piece.definitions ≡ []) (map kept_piece l.made.items);
-  used : IsChargedFrom (pairs_of (are_together l.product) (take l.piece-index (spaces_of l.pieces)) (spaces_of l.others)) l.fn.meter l.meter;
+  used : IsChargedFrom (pairs_of (are_together l.product) (take l.piece-index (spaces_of l.pieces)) (spaces_of l.others)) l.fn.meter
+      l.meter;
 }

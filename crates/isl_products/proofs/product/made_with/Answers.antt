@@ -44,7 +44,8 @@ loop-other-preserved c =
     let one = c.in_ok-made_of.ensures in
     record {
       made = made_next g h params (λ v e b. IsMadeOf c.args.product params v e (kept_piece c.args.piece.now) b) others other i
-          c.loop-other.made.items c.in_ok-made_of.field-0.items c.append.new.pieces.items so_far.used.charged low c.other-item.is so_far.made
+          c.loop-other.made.items c.in_ok-made_of.field-0.items c.append.new.pieces.items so_far.used.charged low c.other-item.is
+          so_far.made
           c.in_ok-append.ensures one.elements one.sound one.numbers;
       definitions = λ own all.
           let P : PieceView → Type 0 = λ p. p.system.definitions ≡ [] in
