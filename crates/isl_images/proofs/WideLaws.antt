@@ -1,10 +1,10 @@
 -- Joins whose space is too wide, and why operations on two values have no result.
-use Rattle.std.proofs.Common.{◌≡◌, ◌↔◌, inl, inr, refl, sym, ap₂, ◌∙◌, subst, arith, ℕ, ◌+◌, ◌<◌, ◌≤◌, List, [], ◌∷◌}
-use Rattle.std.proofs.Common.{All, Any, Contains, length, get_or, map, take, Bool, false, IfErr, IfOk, IsTrue, Result, Ok, Err}
+use Rattle.std.proofs.Common.{◌≡◌, ◌↔◌, inl, inr, refl, sym, ap₂, ◌∙◌, subst, arith, ℕ, ◌<◌, List}
+use Rattle.std.proofs.Common.{All, Any, Contains, length, get_or, map, Bool, false, IfErr, IfOk, IsTrue, Result, Ok, Err}
 use Rattle.std.specs.Result.{is_err}
 use Rattle.std.proofs.lemmas.Bool.{false≢true}
-use Rattle.std.proofs.lemmas.List.{get_or-map, length-map, take_all, take_more}
-use Rattle.isl_math.proofs.ListLaws.{Any-contains, Any-element, Any-one, Any-parts, Any-unmapped}
+use Rattle.std.proofs.lemmas.List.{get_or-map, length-map}
+use Rattle.isl_math.proofs.ListLaws.{Any-contains, Any-element, Any-unmapped}
 use Rattle.isl_meter.specs.Gauge.{Gauge, IsCutBy}
 use Rattle.isl_meter.proofs.CutLemmas.{IsCharged_refl, IsCutBy-charged}
 use Rattle.isl_space.specs.Form.{Form}
@@ -121,14 +121,3 @@ wide_join s t x y z first second r b is made formed err =
           let two = same_forms y z k.1.1 k.1.2 (sym second ∙ k.1.4) in
           subst IsTrue (sym is) (both.1 (subst IsTooWideSpace (k.1.5 ∙ ap₂ map_of (sym one.0) (sym two.1)) k.2))),
     )
-
--- ---- one more of the pieces
-pub none_more : {X : Type 0} (P : X → Type 0) (xs : List X) (i : ℕ) (x : X) → i < length xs → x ≡ get_or xs i x → ¬ Any P (take i xs)
-    → ¬ P x → ¬ Any P (take (i + 1) xs)
-none_more P xs i x low at none not a = elim (Any-parts P (take i xs) (get_or xs i x ∷ []) (subst (Any P) (take_more xs i x low) a)) [
-  | inl before ↦ none before
-  | inr here ↦ not (subst P (sym at) (Any-one P (get_or xs i x) here))
-]
-
-pub none_all : {X : Type 0} (P : X → Type 0) (xs : List X) (i : ℕ) → length xs ≤ i → ¬ Any P (take i xs) → IsTrue false ↔ Any P xs
-none_all P xs i end none = ((λ t. absurd (false≢true t)), (λ a. absurd (none (subst (Any P) (sym (take_all i xs end)) a))))

@@ -7,6 +7,7 @@ pub mod Shift
 pub use Rattle.isl_relation.specs.Formed
 pub use Rattle.isl_relation.specs.Maps
 pub use Rattle.isl_relation.specs.Point
+pub use Rattle.isl_relation.specs.Together
 pub use Rattle.isl_relation.specs.Wide
 pub use Rattle.isl_union.specs.Fault
 pub use Rattle.isl_union.specs.KeptValue

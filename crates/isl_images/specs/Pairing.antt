@@ -1,8 +1,10 @@
 -- inner: the operations of this crate on two values, as one.
+use Rattle.std.specs.Prelude.{Bool}
 use Rattle.isl_space.specs.Element.{Element}
 use Rattle.isl_space.specs.SpaceForm.{SpaceForm, IsTooWideSpace}
 use Rattle.isl_relation.specs.Formed.{FormsJoin}
 use Rattle.isl_relation.specs.Maps.{ApplyHas, JoinHas}
+use Rattle.isl_relation.specs.Together.{are_linked, is_domain}
 use Rattle.isl_images.specs.declared.pairing.Pairing.{Pairing}
 use Rattle.isl_images.specs.declared.pairing.Pairing.TheVariants.{Apply, Join}
 
@@ -10,6 +12,11 @@ use Rattle.isl_images.specs.declared.pairing.Pairing.TheVariants.{Apply, Join}
 abbrev pub PairHas : Pairing → (Element → Type 0) → (Element → Type 0) → Element → Type 0
 PairHas Apply M N element = ApplyHas M N element
 PairHas Join M N element = JoinHas M N element
+
+-- whether elements of the two spaces are put together
+abbrev pub are_paired : Pairing → SpaceForm → SpaceForm → Bool
+are_paired Apply = is_domain
+are_paired Join = are_linked
 
 -- two maps meet in one form, and the space of their join is too wide
 abbrev pub IsWideJoin : SpaceForm → SpaceForm → Type 0

@@ -1,13 +1,13 @@
 //! What is made of the pieces of one value.
 
-ghost use Rattle.std.specs.Prelude.{◌≡◌, ◌↔◌, [], All, IfOk, MatchResult};
-ghost use Rattle.isl_meter.specs.Gauge.{IsCharged, IsMetered};
+ghost use Rattle.std.specs.Prelude.{◌≡◌, ◌↔◌, [], All, IfOk};
+ghost use Rattle.isl_meter.specs.Gauge.{IsMetered};
 ghost use Rattle.isl_space.specs.Element.{Element};
 ghost use Rattle.isl_space.specs.Shape.{form_of};
 ghost use Rattle.isl_space.specs.SpaceForm.{map_of};
 ghost use Rattle.isl_space.specs.Valuation.{Valuation};
 ghost use Rattle.isl_piece.specs.System.{IsSystemWithin};
-ghost use Rattle.isl_union.specs.Fault.{IsCutFault};
+ghost use Rattle.isl_union.specs.Fault.{IsMeteredAnswer};
 ghost use Rattle.isl_union.specs.KeptValue.{Has, HasNoDefinitions, IsKeptValue};
 ghost use Rattle.isl_union.specs.Numbers.{AreWithinLimit, IsWithinLimit};
 ghost use Rattle.isl_union.specs.Piece.{IsPieceOf};
@@ -103,6 +103,7 @@ fn piece_deltas(
     if !from.same(to) {
         return Ok(Vec::new(alloc));
     }
+    // For what a meter keeps: it has at least 8 bits.
     let _limit = meter.limit();
     let width = from.width() as usize;
     let moved = with_differences(alloc, piece.system(), params.len(), width)?;
@@ -168,13 +169,17 @@ pub(crate) fn image_of(
     meter: &mut Meter,
 ) -> Result<Value, OpFault>
     requires { IsWithinLimit meter.old a.now }
+
+    // The value, and what it has.
     ensures kept { IfOk result IsKeptValue }
     ensures params { IfOk result (λ value. value.params ≡ a.now.params) }
     ensures elements { (valuation : Valuation) (element : Element)
         → IfOk result (λ value. Has value valuation element ↔ ImageHas image (Has a.now valuation) element) }
+
+    // How it is written, and what that cost.
     ensures definitions { HasNoDefinitions a.now → IfOk result HasNoDefinitions }
     ensures numbers { IfOk result (IsWithinLimit meter.old) }
-    ensures meter { MatchResult result (λ _. IsCharged meter.old meter.new) (IsCutFault meter.old meter.new) }
+    ensures meter { IsMeteredAnswer meter.old meter.new result }
 {
     let params = a.params().copy(alloc)?;
     let made = piece_images(alloc, &params, image, a.pieces(), meter)?;

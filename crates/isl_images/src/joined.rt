@@ -1,19 +1,17 @@
 //! What maps make of sets, and of maps.
 
-ghost use Rattle.std.specs.Prelude.{◌≡◌, ◌↔◌, ◌≤◌, All, Any, IfOk, IsTrue, MatchResult, length};
-ghost use Rattle.isl_meter.specs.Gauge.{IsCharged};
+ghost use Rattle.std.specs.Prelude.{◌≡◌, ◌↔◌, All, Any, IfOk, IsTrue};
 ghost use Rattle.isl_space.specs.Element.{Element};
-ghost use Rattle.isl_space.specs.Limits.{most_parameters};
 ghost use Rattle.isl_space.specs.Names.{joined};
 ghost use Rattle.isl_space.specs.Space.{space_form_of};
 ghost use Rattle.isl_space.specs.SpaceForm.{IsWellFormedSpace};
 ghost use Rattle.isl_space.specs.Valuation.{Valuation};
-ghost use Rattle.isl_union.specs.Fault.{IsFaultBy};
 ghost use Rattle.isl_union.specs.KeptValue.{Has, HasNoDefinitions, IsKeptValue};
 ghost use Rattle.isl_union.specs.Numbers.{IsWithinLimit};
 ghost use Rattle.isl_relation.specs.Formed.{FormsJoin};
 ghost use Rattle.isl_relation.specs.Maps.{ApplyHas, JoinHas};
-ghost use Rattle.isl_relation.specs.Wide.{IsFormFault, PairsTooWide};
+ghost use Rattle.isl_relation.specs.Together.{IsFormedFrom, IsWorkedFrom, are_linked, is_domain, pairs_together};
+ghost use Rattle.isl_relation.specs.Wide.{PairsTooWide};
 ghost use Rattle.isl_images.specs.Pairing.{IsWideJoin};
 
 use crate::pairing::{Pairing, all_pairs};
@@ -73,20 +71,23 @@ fn have_wide_join(pieces: &[Piece], others: &[Piece]) -> Result<bool, AllocError
 ///
 /// # Errors
 ///
-/// `TooWide` exactly where the two together declare more than 16 parameters, unless memory ends: no unit is used then. `Overflow`
-/// where a number passes the limit of the meter, `Budget` where its units are used up, and `NoMemory`.
+/// As every call under a meter; and `TooWide` exactly where the two together declare more than 16 parameters, unless memory ends:
+/// no unit is used then.
 pub fn apply(alloc: Global, a: &Value, b: &Value, meter: &mut Meter) -> Result<Value, OpFault>
     requires maps { IsWithinLimit meter.old a.now }
     requires sets { IsWithinLimit meter.old b.now }
+
+    // The value, and what it has.
     ensures kept { IfOk result IsKeptValue }
     ensures params { IfOk result (λ value. value.params ≡ joined a.now.params b.now.params) }
     ensures elements { (valuation : Valuation) (element : Element)
         → IfOk result (λ value. Has value valuation element ↔ ApplyHas (Has a.now valuation) (Has b.now valuation) element) }
+
+    // How it is written, and what that cost.
     ensures definitions { HasNoDefinitions a.now → HasNoDefinitions b.now → IfOk result HasNoDefinitions }
     ensures numbers { IfOk result (IsWithinLimit meter.old) }
-    ensures units { MatchResult result
-        (λ _. (length (joined a.now.params b.now.params) ≤ most_parameters) × IsCharged meter.old meter.new)
-        (IsFaultBy (joined a.now.params b.now.params) meter.old meter.new) }
+    ensures units { IsWorkedFrom (joined a.now.params b.now.params) (pairs_together is_domain a.now b.now)
+        meter.old meter.new result }
 {
     let pair = aligned_pair(alloc, a, b, meter)?;
     let made = all_pairs(
@@ -105,22 +106,24 @@ pub fn apply(alloc: Global, a: &Value, b: &Value, meter: &mut Meter) -> Result<V
 ///
 /// # Errors
 ///
-/// `TooWide` exactly where the two together declare more than 16 parameters, or two of their maps meet in one shape and that from
-/// the first x to the last z has more coordinates or leaves than a space may have, unless memory ends: no unit is used then.
-/// `Overflow` where a number passes the limit of the meter, `Budget` where its units are used up, and `NoMemory`.
+/// As every call under a meter; and `TooWide` exactly where the two together declare more than 16 parameters, or two of their maps
+/// meet in one shape and that from the first x to the last z has more coordinates or leaves than a space may have, unless memory
+/// ends: no unit is used then.
 pub fn join(alloc: Global, a: &Value, b: &Value, meter: &mut Meter) -> Result<Value, OpFault>
     requires first { IsWithinLimit meter.old a.now }
     requires second { IsWithinLimit meter.old b.now }
+
+    // The value, and what it has.
     ensures kept { IfOk result IsKeptValue }
     ensures params { IfOk result (λ value. value.params ≡ joined a.now.params b.now.params) }
     ensures elements { (valuation : Valuation) (element : Element)
         → IfOk result (λ value. Has value valuation element ↔ JoinHas (Has a.now valuation) (Has b.now valuation) element) }
+
+    // How it is written, and what that cost.
     ensures definitions { HasNoDefinitions a.now → HasNoDefinitions b.now → IfOk result HasNoDefinitions }
     ensures numbers { IfOk result (IsWithinLimit meter.old) }
-    ensures units { MatchResult result
-        (λ _. (length (joined a.now.params b.now.params) ≤ most_parameters) × (¬ PairsTooWide FormsJoin a.now b.now)
-        × IsCharged meter.old meter.new)
-        (IsFormFault (joined a.now.params b.now.params) (PairsTooWide FormsJoin a.now b.now) meter.old meter.new) }
+    ensures units { IsFormedFrom (joined a.now.params b.now.params) (PairsTooWide FormsJoin a.now b.now)
+        (pairs_together are_linked a.now b.now) meter.old meter.new result }
 {
     let pair = aligned_pair(alloc, a, b, meter)?;
     if have_wide_join(a.pieces(), b.pieces())? {

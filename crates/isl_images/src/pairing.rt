@@ -1,17 +1,18 @@
 //! What is made of the pieces of two values.
 
 ghost use Rattle.std.specs.Prelude.{◌≡◌, [], All, IfOk};
-ghost use Rattle.isl_meter.specs.Gauge.{IsMetered};
 ghost use Rattle.isl_space.specs.Space.{space_form_of};
 ghost use Rattle.isl_space.specs.Shape.{form_of};
 ghost use Rattle.isl_space.specs.SpaceForm.{map_of, set_of};
 ghost use Rattle.isl_space.specs.Valuation.{Valuation};
 ghost use Rattle.isl_piece.specs.System.{IsSystemWithin};
+ghost use Rattle.isl_union.specs.Fault.{IsMeteredFrom};
 ghost use Rattle.isl_union.specs.Numbers.{AreWithinLimit};
 ghost use Rattle.isl_union.specs.Piece.{IsPieceOf};
 ghost use Rattle.isl_relation.specs.Maps.{ApplyHas, JoinHas};
+ghost use Rattle.isl_relation.specs.Together.{are_linked, is_domain, pair_count, pairs_of, partners, spaces_of};
 ghost use Rattle.isl_images.specs.Made.{elements_of, elements_of_all, ArePiecesOf, IsPlain};
-ghost use Rattle.isl_images.specs.Pairing.{IsNarrowPair, PairHas};
+ghost use Rattle.isl_images.specs.Pairing.{IsNarrowPair, PairHas, are_paired};
 
 use crate::shadow::{Gap, pieces_without};
 use crate::shift::of_both;
@@ -31,7 +32,7 @@ pub(crate) enum Pairing {
 }
 
 // The pieces of what a map makes of a set, for a unit where that lies in the shape that it maps from.
-#[tactic(auto, using(std::proofs::lemmas::Grind::common_steps, isl_meter::proofs::CutLemmas::charges))]
+#[tactic(auto, using(std::proofs::lemmas::Grind::common_steps, isl_union::proofs::UnitLaws::unit_steps))]
 fn applied(
     alloc: Global,
     params: &Params,
@@ -45,7 +46,7 @@ fn applied(
     requires set_within { IsSystemWithin meter.old set.now.system }
     ensures made { IfOk result (λ made. ArePiecesOf meter.old params.now (IsPlain map.now × IsPlain set.now)
         (λ valuation. ApplyHas (elements_of params.now map.now valuation) (elements_of params.now set.now valuation)) made.items) }
-    ensures meter { IsMetered meter.old meter.new result }
+    ensures units { IsMeteredFrom (pair_count is_domain map.now.space set.now.space) meter.old meter.new result }
 {
     let (Space::Map(from, to), Space::Set(shape)) = (map.space(), set.space()) else {
         return Ok(Vec::new(alloc));
@@ -64,7 +65,7 @@ fn applied(
 }
 
 // The pieces of what two maps make of elements one after the other, for a unit where they meet in one shape.
-#[tactic(auto, using(std::proofs::lemmas::Grind::common_steps, isl_meter::proofs::CutLemmas::charges))]
+#[tactic(auto, using(std::proofs::lemmas::Grind::common_steps, isl_union::proofs::UnitLaws::unit_steps))]
 fn joined(
     alloc: Global,
     params: &Params,
@@ -79,7 +80,7 @@ fn joined(
     requires narrow { IsNarrowPair Pairing.Join first.now.space second.now.space }
     ensures made { IfOk result (λ made. ArePiecesOf meter.old params.now (IsPlain first.now × IsPlain second.now)
         (λ valuation. JoinHas (elements_of params.now first.now valuation) (elements_of params.now second.now valuation)) made.items) }
-    ensures meter { IsMetered meter.old meter.new result }
+    ensures units { IsMeteredFrom (pair_count are_linked first.now.space second.now.space) meter.old meter.new result }
 {
     let (Space::Map(from, middle), Space::Map(other, to)) = (first.space(), second.space()) else {
         return Ok(Vec::new(alloc));
@@ -115,7 +116,7 @@ fn pair_pieces(
     ensures made { IfOk result (λ made. ArePiecesOf meter.old params.now (IsPlain first.now × IsPlain second.now)
         (λ valuation. PairHas pairing (elements_of params.now first.now valuation) (elements_of params.now second.now valuation))
         made.items) }
-    ensures meter { IsMetered meter.old meter.new result }
+    ensures units { IsMeteredFrom (pair_count (are_paired pairing) first.now.space second.now.space) meter.old meter.new result }
 {
     match pairing {
         Pairing::Apply => applied(alloc, params, first, second, meter),
@@ -124,7 +125,7 @@ fn pair_pieces(
 }
 
 // The pieces that are made of one and each of the others.
-#[tactic(auto, using(std::proofs::lemmas::Grind::common_steps, isl_meter::proofs::CutLemmas::charges))]
+#[tactic(auto, using(std::proofs::lemmas::Grind::common_steps, isl_union::proofs::UnitLaws::unit_steps))]
 fn pieces_with(
     alloc: Global,
     params: &Params,
@@ -141,7 +142,7 @@ fn pieces_with(
     ensures made { IfOk result (λ made. ArePiecesOf meter.old params.now (IsPlain piece.now × All IsPlain others.now)
         (λ valuation. PairHas pairing (elements_of params.now piece.now valuation) (elements_of_all params.now others.now valuation))
         made.items) }
-    ensures meter { IsMetered meter.old meter.new result }
+    ensures units { IsMeteredFrom (partners (are_paired pairing) (spaces_of others.now) piece.now.space) meter.old meter.new result }
 {
     let mut made = Vec::new(alloc);
     for other in others {
@@ -154,7 +155,7 @@ fn pieces_with(
 }
 
 /// The pieces that are made of each of the first and each of the others.
-#[tactic(auto, using(std::proofs::lemmas::Grind::common_steps, isl_meter::proofs::CutLemmas::charges))]
+#[tactic(auto, using(std::proofs::lemmas::Grind::common_steps, isl_union::proofs::UnitLaws::unit_steps))]
 pub(crate) fn all_pairs(
     alloc: Global,
     params: &Params,
@@ -171,7 +172,7 @@ pub(crate) fn all_pairs(
     ensures made { IfOk result (λ made. ArePiecesOf meter.old params.now (All IsPlain pieces.now × All IsPlain others.now)
         (λ valuation. PairHas pairing (elements_of_all params.now pieces.now valuation) (elements_of_all params.now others.now valuation))
         made.items) }
-    ensures meter { IsMetered meter.old meter.new result }
+    ensures units { IsMeteredFrom (pairs_of (are_paired pairing) (spaces_of pieces.now) (spaces_of others.now)) meter.old meter.new result }
 {
     let mut made = Vec::new(alloc);
     for piece in pieces {

@@ -1,10 +1,9 @@
 //! The domains and the ranges of maps.
 
-ghost use Rattle.std.specs.Prelude.{◌≡◌, ◌↔◌, IfOk, MatchResult};
-ghost use Rattle.isl_meter.specs.Gauge.{IsCharged};
+ghost use Rattle.std.specs.Prelude.{◌≡◌, ◌↔◌, IfOk};
 ghost use Rattle.isl_space.specs.Element.{Element};
 ghost use Rattle.isl_space.specs.Valuation.{Valuation};
-ghost use Rattle.isl_union.specs.Fault.{IsCutFault};
+ghost use Rattle.isl_union.specs.Fault.{IsMeteredAnswer};
 ghost use Rattle.isl_union.specs.KeptValue.{Has, HasNoDefinitions, IsKeptValue};
 ghost use Rattle.isl_union.specs.Numbers.{IsWithinLimit};
 ghost use Rattle.isl_relation.specs.Maps.{DomainHas, RangeHas};
@@ -19,17 +18,20 @@ use std::alloc::Global;
 ///
 /// # Errors
 ///
-/// `Overflow` where a number passes the limit of the meter, `Budget` where its units are used up, and `NoMemory`; never
-/// `TooWide`.
+/// As every call under a meter; never `TooWide`.
 pub fn domain(alloc: Global, a: &Value, meter: &mut Meter) -> Result<Value, OpFault>
     requires { IsWithinLimit meter.old a.now }
+
+    // The value, and what it has.
     ensures kept { IfOk result IsKeptValue }
     ensures params { IfOk result (λ value. value.params ≡ a.now.params) }
     ensures elements { (valuation : Valuation) (element : Element)
         → IfOk result (λ value. Has value valuation element ↔ DomainHas (Has a.now valuation) element) }
+
+    // How it is written, and what that cost.
     ensures definitions { HasNoDefinitions a.now → IfOk result HasNoDefinitions }
     ensures numbers { IfOk result (IsWithinLimit meter.old) }
-    ensures meter { MatchResult result (λ _. IsCharged meter.old meter.new) (IsCutFault meter.old meter.new) }
+    ensures meter { IsMeteredAnswer meter.old meter.new result }
 {
     image_of(alloc, Image::Domain, a, meter)
 }
@@ -39,16 +41,20 @@ pub fn domain(alloc: Global, a: &Value, meter: &mut Meter) -> Result<Value, OpFa
 ///
 /// # Errors
 ///
-/// As `domain`.
+/// As every call under a meter; never `TooWide`.
 pub fn range(alloc: Global, a: &Value, meter: &mut Meter) -> Result<Value, OpFault>
     requires { IsWithinLimit meter.old a.now }
+
+    // The value, and what it has.
     ensures kept { IfOk result IsKeptValue }
     ensures params { IfOk result (λ value. value.params ≡ a.now.params) }
     ensures elements { (valuation : Valuation) (element : Element)
         → IfOk result (λ value. Has value valuation element ↔ RangeHas (Has a.now valuation) element) }
+
+    // How it is written, and what that cost.
     ensures definitions { HasNoDefinitions a.now → IfOk result HasNoDefinitions }
     ensures numbers { IfOk result (IsWithinLimit meter.old) }
-    ensures meter { MatchResult result (λ _. IsCharged meter.old meter.new) (IsCutFault meter.old meter.new) }
+    ensures meter { IsMeteredAnswer meter.old meter.new result }
 {
     image_of(alloc, Image::Range, a, meter)
 }

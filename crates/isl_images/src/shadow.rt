@@ -39,6 +39,7 @@ pub(crate) fn pieces_without(
         (IsShadow params.now (space_form_of space.now) system.now gap) pieces.items) }
     ensures meter { IsMetered meter.old meter.new result }
 {
+    // For what a system keeps: its defined columns are among its columns.
     let _free = system.free();
     let first = params.len() + gap.from;
     let columns = columns_between(alloc, first, first + gap.count)?;

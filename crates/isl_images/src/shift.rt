@@ -23,9 +23,8 @@ fn shifted_places(alloc: Global, free: usize, shift: Shift) -> Result<Vec<usize>
     ensures { IfOk result (λ places. places.items ≡ shifted_places free shift) }
 {
     let mut places = columns_between(alloc, 0, shift.stay)?;
-    for offset in 0..free - shift.stay {
-        places.push(shift.start + offset)?;
-    }
+    let mut behind = columns_between(alloc, shift.start, shift.start + (free - shift.stay))?;
+    places.append(&mut behind)?;
     Ok(places)
 }
 

@@ -2,8 +2,7 @@
 use Rattle.std.proofs.Common.{◌≡◌, ◌≢◌, ◌⊎◌, inl, inr, refl, sym, ap, ap₂, ◌∙◌, arith, ℕ, ◌+◌, ◌-◌, ◌<◌, ◌≤◌, ℤ, pos, List, [], ◌++◌}
 use Rattle.std.proofs.Common.{All, length, length-append, append_assoc, get_or, drop, take}
 use Rattle.std.specs.List.{range_with_len}
-use Rattle.std.proofs.lemmas.Bool.{cases_lt}
-use Rattle.std.proofs.lemmas.List.{append-nil, drop_at, get_or_append_left, get_or-append-add, length-drop, length-take-le, map-append}
+use Rattle.std.proofs.lemmas.List.{append-nil, drop_at, length-drop, length-take-le, map-append}
 use Rattle.std.proofs.lemmas.List.{take_at, take-append-drop}
 use Rattle.std.proofs.lemmas.List.Elements.{All-append}
 use Rattle.std.proofs.lemmas.List.FromFn.{length-range_with_len, get_or-range_with_len}
@@ -11,46 +10,13 @@ use Rattle.isl_space.specs.Form.{width_of}
 use Rattle.isl_space.specs.SpaceForm.{SpaceForm, set_of, map_of, coordinates_of}
 use Rattle.isl_piece.specs.Meet.{numbers_at}
 use Rattle.isl_piece.specs.Placed.{ArePlacesAmong}
-use Rattle.isl_piece.proofs.PlacedLaws.{AreApart, first_apart, first_inside, numbers_at-first, numbers_at-longer}
+use Rattle.isl_piece.proofs.PlacedLaws.{first_apart, first_inside, numbers_at-first, numbers_at-longer}
 use Rattle.isl_union.proofs.PlacesLaws.{numbers_behind}
+use Rattle.isl_products.proofs.PickLaws.{apart_append, range_apart, range_below}
 use Rattle.isl_maps.specs.Inverse.{inverse_space, inverse_numbers, inverse_places}
 use Rattle.isl_maps.specs.Places.{exchanged_places}
 
 -- ---- places that are apart
-apart_append : (xs ys : List ℕ) → AreApart xs → AreApart ys → ((i j d : ℕ) → i < length xs → j < length ys → get_or xs i d ≢ get_or ys j d)
-    → AreApart (xs ++ ys)
-apart_append xs ys first second between i j d before within =
-    by i j before (rw (length-append xs ys) at within) (cases_lt i (length xs)) (cases_lt j (length xs))
-  where
-    front : (k : ℕ) → k < length xs → get_or (xs ++ ys) k d ≡ get_or xs k d
-    front k l = get_or_append_left xs ys d k l
-
-    behind : (k : ℕ) → length xs ≤ k → get_or (xs ++ ys) k d ≡ get_or ys (k - length xs) d
-    behind k h =
-        let again : length xs + (k - length xs) ≡ k = omega arith in
-        ap (λ m. get_or (xs ++ ys) m d) (sym again) ∙ get_or-append-add xs ys (k - length xs) d
-
-    by : (i j : ℕ) → i < j → j < length xs + length ys → (i < length xs) ⊎ (length xs ≤ i) → (j < length xs) ⊎ (length xs ≤ j)
-        → get_or (xs ++ ys) i d ≢ get_or (xs ++ ys) j d
-    by i j before within (inl p) (inl q) e = first i j d before q (sym (front i p) ∙ e ∙ front j q)
-    by i j before within (inl p) (inr q) e = between i (j - length xs) d p (omega arith) (sym (front i p) ∙ e ∙ behind j q)
-    by i j before within (inr p) (inl q) e = absurd (omega arith)
-    by i j before within (inr p) (inr q) e = second (i - length xs) (j - length xs) d (omega arith) (omega arith) (sym (behind i p) ∙ e ∙
-        behind j q)
-
-range_apart : (a n : ℕ) → AreApart (range_with_len a n)
-range_apart a n i j d before within e =
-    let long = length-range_with_len a n in
-    let low = get_or-range_with_len a n i d (omega arith) in
-    let high = get_or-range_with_len a n j d (omega arith) in
-    omega arith
-
-range_inside : (a n columns : ℕ) → a + n ≤ columns → All (λ p. p < columns) (range_with_len a n)
-range_inside a n columns h k d l =
-    let long = length-range_with_len a n in
-    let at = get_or-range_with_len a n k d (omega arith) in
-    omega arith
-
 -- the numbers of two ranges differ
 ranges_differ : (a m b n : ℕ) → (a + m ≤ b) ⊎ (b + n ≤ a) → (i j d : ℕ) → i < length (range_with_len a m) → j < length (range_with_len b n)
     → get_or (range_with_len a m) i d ≢ get_or (range_with_len b n) j d
@@ -72,9 +38,9 @@ inverse_apart p (map_of from to) =
     let second = range_with_len (p + n) m in
     let third = range_with_len p n in
     record {
-      inside = All-append (λ q. q < p + (m + n)) (range_with_len 0 p) (second ++ third) (range_inside 0 p (p + (m + n)) (omega arith))
-          (All-append (λ q. q < p + (m + n)) second third (range_inside (p + n) m (p + (m + n)) (omega arith))
-          (range_inside p n (p + (m + n)) (omega arith)));
+      inside = All-append (λ q. q < p + (m + n)) (range_with_len 0 p) (second ++ third) (range_below 0 p (p + (m + n)) (omega arith))
+          (All-append (λ q. q < p + (m + n)) second third (range_below (p + n) m (p + (m + n)) (omega arith))
+          (range_below p n (p + (m + n)) (omega arith)));
       apart = apart_append (range_with_len 0 p) (second ++ third) (range_apart 0 p)
           (apart_append second third (range_apart (p + n) m) (range_apart p n) (ranges_differ (p + n) m p n (inr (omega arith))))
           (λ i j d low high e. by p m n i j d low high e);
@@ -114,7 +80,7 @@ pub numbers_between : (xs ys zs : List ℤ) (a n : ℕ) → a ≡ length xs → 
     → numbers_at (range_with_len a n) (xs ++ (ys ++ zs)) ≡ ys
 numbers_between xs ys zs a n first second =
     ap (numbers_at (range_with_len a n)) (sym (append_assoc xs ys zs))
-    ∙ numbers_at-longer (range_with_len a n) (xs ++ ys) zs (range_inside a n (length (xs ++ ys)) (let l = length-append xs ys in
+    ∙ numbers_at-longer (range_with_len a n) (xs ++ ys) zs (range_below a n (length (xs ++ ys)) (let l = length-append xs ys in
     omega arith))
     ∙ ap (λ k. numbers_at (range_with_len k n) (xs ++ ys)) first ∙ numbers_behind xs ys n second
 

@@ -2,6 +2,13 @@ pub mod Inverse
 pub mod Places
 pub mod Copied
 pub mod Change
+pub use Rattle.isl_relation.specs.Formed
+pub use Rattle.isl_relation.specs.Maps
+pub use Rattle.isl_relation.specs.Pairs
+pub use Rattle.isl_relation.specs.Point
+pub use Rattle.isl_relation.specs.Sets
+pub use Rattle.isl_relation.specs.Together
+pub use Rattle.isl_relation.specs.Wide
 pub use Rattle.isl_union.specs.KeptValue
 pub use Rattle.isl_union.specs.Moved
 pub use Rattle.isl_union.specs.Numbers

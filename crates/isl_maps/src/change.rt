@@ -176,17 +176,24 @@ impl Change {
     // What is made of the pieces of a value. Spaces that are too wide are asked for first.
     pub(crate) fn apply(self, alloc: Global, a: &Value, meter: &Meter) -> Result<Value, OpFault>
         requires { IsWithinLimit meter.now a.now }
+
+        // The value, and what it has.
         ensures kept { IfOk result IsKeptValue }
         ensures params { IfOk result (λ value. value.params ≡ a.now.params) }
         ensures elements { (valuation : Valuation) (element : Element)
             → IfOk result (λ value. Has value valuation element ↔ selects self (Has a.now valuation) element) }
+
+        // How it is written.
         ensures definitions { HasNoDefinitions a.now → IfOk result HasNoDefinitions }
         ensures numbers { (most : ℕ) → added_number self ≤ most → HasNumbersUpTo most a.now → IfOk result (HasNumbersUpTo most) }
+
+        // What the call learned, and why there is no value.
         ensures operand { IsKeptValue a.now }
         ensures bits { 8 ≤ meter.now.bits }
         ensures ok { IfOk result (λ _. All (λ piece. ¬ FormsWide self piece.space) a.now.pieces) }
         ensures faults { IfErr result (IsChangeFault (Any (λ piece. FormsWide self piece.space) a.now.pieces)) }
     {
+        // For what a meter keeps: it has at least 8 bits.
         let _limit = meter.limit();
         let params = a.params();
         self.ask_spaces(alloc, a.pieces())?;

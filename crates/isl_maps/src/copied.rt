@@ -177,13 +177,19 @@ pub(crate) fn range_map_system(
 /// `TooWide` where a space that it forms has too many coordinates or leaves, which is asked first; and `NoMemory`.
 pub fn identity(alloc: Global, a: &Value, meter: &mut Meter) -> Result<Value, OpFault>
     requires { IsWithinLimit meter.old a.now }
+
+    // The value, and what it has.
     ensures kept { IfOk result IsKeptValue }
     ensures params { IfOk result (λ value. value.params ≡ a.now.params) }
     ensures elements { (valuation : Valuation) (element : Element)
         → IfOk result (λ value. Has value valuation element ↔ IdentityHas (Has a.now valuation) element) }
+
+    // How it is written.
     ensures definitions { HasNoDefinitions a.now → IfOk result HasNoDefinitions }
     ensures numbers { IfOk result (IsWithinLimit meter.old) }
     ensures magnitudes { (most : ℕ) → 1 ≤ most → HasNumbersUpTo most a.now → IfOk result (HasNumbersUpTo most) }
+
+    // Why there is none; and the meter.
     ensures ok { IfOk result (λ _. ¬ FormsTooWide FormsIdentity a.now) }
     ensures faults { IfErr result (IsFormedFault (FormsTooWide FormsIdentity a.now) meter.old meter.new) }
     ensures meter { meter.new ≡ meter.old }
@@ -198,13 +204,19 @@ pub fn identity(alloc: Global, a: &Value, meter: &mut Meter) -> Result<Value, Op
 /// `TooWide` where a space that it forms has too many coordinates or leaves, which is asked first; and `NoMemory`.
 pub fn domain_map(alloc: Global, a: &Value, meter: &mut Meter) -> Result<Value, OpFault>
     requires { IsWithinLimit meter.old a.now }
+
+    // The value, and what it has.
     ensures kept { IfOk result IsKeptValue }
     ensures params { IfOk result (λ value. value.params ≡ a.now.params) }
     ensures elements { (valuation : Valuation) (element : Element)
         → IfOk result (λ value. Has value valuation element ↔ DomainMapHas (Has a.now valuation) element) }
+
+    // How it is written.
     ensures definitions { HasNoDefinitions a.now → IfOk result HasNoDefinitions }
     ensures numbers { IfOk result (IsWithinLimit meter.old) }
     ensures magnitudes { (most : ℕ) → 1 ≤ most → HasNumbersUpTo most a.now → IfOk result (HasNumbersUpTo most) }
+
+    // Why there is none; and the meter.
     ensures ok { IfOk result (λ _. ¬ FormsTooWide FormsDomainMap a.now) }
     ensures faults { IfErr result (IsFormedFault (FormsTooWide FormsDomainMap a.now) meter.old meter.new) }
     ensures meter { meter.new ≡ meter.old }
@@ -219,13 +231,19 @@ pub fn domain_map(alloc: Global, a: &Value, meter: &mut Meter) -> Result<Value, 
 /// `TooWide` where a space that it forms has too many coordinates or leaves, which is asked first; and `NoMemory`.
 pub fn range_map(alloc: Global, a: &Value, meter: &mut Meter) -> Result<Value, OpFault>
     requires { IsWithinLimit meter.old a.now }
+
+    // The value, and what it has.
     ensures kept { IfOk result IsKeptValue }
     ensures params { IfOk result (λ value. value.params ≡ a.now.params) }
     ensures elements { (valuation : Valuation) (element : Element)
         → IfOk result (λ value. Has value valuation element ↔ RangeMapHas (Has a.now valuation) element) }
+
+    // How it is written.
     ensures definitions { HasNoDefinitions a.now → IfOk result HasNoDefinitions }
     ensures numbers { IfOk result (IsWithinLimit meter.old) }
     ensures magnitudes { (most : ℕ) → 1 ≤ most → HasNumbersUpTo most a.now → IfOk result (HasNumbersUpTo most) }
+
+    // Why there is none; and the meter.
     ensures ok { IfOk result (λ _. ¬ FormsTooWide FormsRangeMap a.now) }
     ensures faults { IfErr result (IsFormedFault (FormsTooWide FormsRangeMap a.now) meter.old meter.new) }
     ensures meter { meter.new ≡ meter.old }

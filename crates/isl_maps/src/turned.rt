@@ -96,6 +96,8 @@ fn inverse_pieces(
 /// `NoMemory`, and nothing else.
 pub fn inverse(alloc: Global, a: &Value, meter: &mut Meter) -> Result<Value, OpFault>
     requires { IsWithinLimit meter.old a.now }
+
+    // The value, and what it has.
     ensures written { IfOk result (λ value. value ≡ inverse_of a.now) }
     ensures kept { IfOk result IsKeptValue }
     ensures elements { (valuation : Valuation) (element : Element)
@@ -104,8 +106,12 @@ pub fn inverse(alloc: Global, a: &Value, meter: &mut Meter) -> Result<Value, OpF
         → length y ≡ width_of to
         → IfOk result (λ value. Has value valuation (record { space = map_of to from; coordinates = y ++ x })
         ↔ Has a.now valuation (record { space = map_of from to; coordinates = x ++ y })) }
+
+    // How it is written.
     ensures definitions { HasNoDefinitions a.now → IfOk result HasNoDefinitions }
     ensures numbers { (b : ℕ) → HasNumbersUpTo b a.now → IfOk result (HasNumbersUpTo b) }
+
+    // Why there is none; and the meter.
     ensures faults { IfErr result (λ fault. fault ≡ op_fault.Cut NoMemory) }
     ensures meter { meter.new ≡ meter.old }
 {

@@ -59,13 +59,19 @@ pub(crate) fn unwrapped_space(space: &Space) -> Result<Option<Space>, SpaceFault
 /// `NoMemory`, and nothing else.
 pub fn wrap(alloc: Global, a: &Value, meter: &mut Meter) -> Result<Value, OpFault>
     requires { IsWithinLimit meter.old a.now }
+
+    // The value, and what it has.
     ensures kept { IfOk result IsKeptValue }
     ensures params { IfOk result (λ value. value.params ≡ a.now.params) }
     ensures elements { (valuation : Valuation) (element : Element)
         → IfOk result (λ value. Has value valuation element ↔ WrapHas (Has a.now valuation) element) }
+
+    // How it is written.
     ensures definitions { HasNoDefinitions a.now → IfOk result HasNoDefinitions }
     ensures numbers { IfOk result (IsWithinLimit meter.old) }
     ensures magnitudes { (most : ℕ) → HasNumbersUpTo most a.now → IfOk result (HasNumbersUpTo most) }
+
+    // Why there is none; and the meter.
     ensures faults { IfErr result (λ fault. fault ≡ op_fault.Cut NoMemory) }
     ensures meter { meter.new ≡ meter.old }
 {
@@ -80,13 +86,19 @@ pub fn wrap(alloc: Global, a: &Value, meter: &mut Meter) -> Result<Value, OpFaul
 /// `NoMemory`, and nothing else.
 pub fn unwrap(alloc: Global, a: &Value, meter: &mut Meter) -> Result<Value, OpFault>
     requires { IsWithinLimit meter.old a.now }
+
+    // The value, and what it has.
     ensures kept { IfOk result IsKeptValue }
     ensures params { IfOk result (λ value. value.params ≡ a.now.params) }
     ensures elements { (valuation : Valuation) (element : Element)
         → IfOk result (λ value. Has value valuation element ↔ UnwrapHas (Has a.now valuation) element) }
+
+    // How it is written.
     ensures definitions { HasNoDefinitions a.now → IfOk result HasNoDefinitions }
     ensures numbers { IfOk result (IsWithinLimit meter.old) }
     ensures magnitudes { (most : ℕ) → HasNumbersUpTo most a.now → IfOk result (HasNumbersUpTo most) }
+
+    // Why there is none; and the meter.
     ensures faults { IfErr result (λ fault. fault ≡ op_fault.Cut NoMemory) }
     ensures meter { meter.new ≡ meter.old }
 {

@@ -16,7 +16,8 @@ ghost use Rattle.isl_maps.specs.Change.{formed_space, FormsWide, IsChangedSystem
 ghost use Rattle.isl_maps.specs.Places.{exchanged_system};
 
 use crate::change::Change;
-use crate::places::{exchanged_places, push_places};
+use crate::places::exchanged_places;
+use isl_elim::columns_between;
 use isl_meter::Meter;
 use isl_piece::{Piece, System};
 use isl_space::{Params, Shape, Space, SpaceFault};
@@ -57,7 +58,8 @@ fn exchanged_system(
     let free = own.free();
     let exchanged = before + first + second;
     let mut places = exchanged_places(alloc, before, first, second)?;
-    push_places(&mut places, exchanged, free - exchanged)?;
+    let mut behind = columns_between(alloc, exchanged, free)?;
+    places.append(&mut behind)?;
     own.placed(alloc, free, places.as_slice())
 }
 
@@ -94,13 +96,19 @@ pub(crate) fn zipped_system(
 /// `NoMemory`, and nothing else.
 pub fn zip(alloc: Global, a: &Value, meter: &mut Meter) -> Result<Value, OpFault>
     requires { IsWithinLimit meter.old a.now }
+
+    // The value, and what it has.
     ensures kept { IfOk result IsKeptValue }
     ensures params { IfOk result (λ value. value.params ≡ a.now.params) }
     ensures elements { (valuation : Valuation) (element : Element)
         → IfOk result (λ value. Has value valuation element ↔ ZipHas (Has a.now valuation) element) }
+
+    // How it is written.
     ensures definitions { HasNoDefinitions a.now → IfOk result HasNoDefinitions }
     ensures numbers { IfOk result (IsWithinLimit meter.old) }
     ensures magnitudes { (most : ℕ) → HasNumbersUpTo most a.now → IfOk result (HasNumbersUpTo most) }
+
+    // Why there is none; and the meter.
     ensures faults { IfErr result (λ fault. fault ≡ op_fault.Cut NoMemory) }
     ensures meter { meter.new ≡ meter.old }
 {

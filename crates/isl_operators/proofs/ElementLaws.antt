@@ -12,7 +12,7 @@ use Rattle.isl_expr.specs.declared.tree.Binary.TheVariants as b
 use Rattle.isl_relation.specs.Point.{Point, HasPoint, IsPoint, map_element}
 use Rattle.isl_relation.specs.Maps.{RemoveDomainHas, RestrictDomainHas}
 use Rattle.isl_relation.specs.Wide.{IsLiveIn}
-use Rattle.isl_products.proofs.HasLaws.{behind, behind_is, element_is, front, front_is, halves}
+use Rattle.isl_relation.proofs.PointLaws.{behind, behind_is, element_is, front, front_is, halves}
 use Rattle.isl_operators.specs.Operations.{BeginsIn, OperatorHas}
 use Rattle.isl_operators.specs.Made.{HasMaps, HasSets}
 

@@ -13,6 +13,7 @@ use Rattle.isl_union.specs.KeptValue.{KeptValue}
 use Rattle.isl_union.specs.Numbers.{HasNumbersUpTo, IsWithinLimit}
 use Rattle.isl_union.specs.declared.fault.OpFault.{OpFault}
 use Rattle.isl_union.specs.declared.fault.OpFault.TheVariants as op_fault
+use Rattle.isl_relation.specs.Together.{IsFormedFrom, IsWorkedFrom}
 use Rattle.isl_relation.specs.Wide.{IsFormFault, IsFormedFault}
 use Rattle.isl_operators.specs.Made.{IsPaid, IsWhyNone}
 
@@ -101,10 +102,13 @@ module _ {A : Type 0} (names : List Name) (Wide : Type 0) (g h : Gauge) where
   narrow_units Paid charges (Ok made) done = paid names Wide g h (charges done)
   narrow_units Paid charges (Err fault) why = why_narrow names Wide g h fault why
 
-  pub formed_units : (Forms Few : Type 0) → (Forms → Wide) → (r : Result A OpFault)
-      → MatchResult r (λ _. Few × (¬ Forms) × IsCharged g h) (IsFormFault names Forms g h) → Ends true r
-  formed_units Forms Few wider (Ok made) done = paid names Wide g h done.2
-  formed_units Forms Few wider (Err fault) why = why_formed names Wide g h Forms wider fault why
+  pub worked_units : (n : ℕ) (r : Result A OpFault) → IsWorkedFrom names n g h r → Ends true r
+  worked_units n (Ok made) done = paid names Wide g h done.1.charged
+  worked_units n (Err fault) why = why_narrow names Wide g h fault why
+
+  pub formed_units : (Forms : Type 0) (n : ℕ) → (Forms → Wide) → (r : Result A OpFault) → IsFormedFrom names Forms n g h r → Ends true r
+  formed_units Forms n wider (Ok made) done = paid names Wide g h done.2.charged
+  formed_units Forms n wider (Err fault) why = why_formed names Wide g h Forms wider fault why
 
   pub plain_units : (works : Bool) (Few : Type 0) (r : Result A OpFault) → h ≡ g → MatchResult r (λ _. Few) (IsPlainFault names)
       → Ends works r

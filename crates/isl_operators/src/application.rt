@@ -10,7 +10,7 @@ ghost use Rattle.isl_operators.specs.Operations.{ApplicationHas};
 ghost use Rattle.isl_operators.specs.Formed.{ApplicationForms, PairsWide};
 ghost use Rattle.isl_operators.specs.Made.{IsApplicationOf, IsPaid, IsWhyNone};
 
-use isl_images::{apply, join};
+use isl_maps::{apply, join};
 use isl_meter::Meter;
 use isl_union::{OpFault, Value};
 use std::alloc::Global;
@@ -43,6 +43,7 @@ pub fn applied(
         (IsWhyNone (joined map.now.params argument.now.params) (PairsWide ApplicationForms (Has map.now) (Has argument.now)) true
         meter.old meter.new) }
 {
+    // For what values keep.
     let _map = map.pieces();
     let _argument = argument.pieces();
     let images = apply(alloc, map, argument, meter)?;

@@ -12,11 +12,11 @@ ghost use Rattle.isl_operators.specs.Formed.{OperatorForms, PairsWide};
 ghost use Rattle.isl_operators.specs.Made.{HasMaps, HasSets, IsOperatorOf, IsPaid, IsWhyNone, operator_works};
 
 use isl_expr::tree::Binary;
-use isl_images::join;
-use isl_meter::Meter;
-use isl_products::{
-    cross_maps, cross_sets, remove_domain, remove_range, restrict_domain, restrict_range, universal,
+use isl_maps::{
+    cross_maps, cross_sets, join, remove_domain, remove_range, restrict_domain, restrict_range,
+    universal,
 };
+use isl_meter::Meter;
 use isl_space::Space;
 use isl_union::{OpFault, Value};
 use std::alloc::Global;
@@ -130,6 +130,7 @@ fn crossed(alloc: Global, left: &Value, right: &Value, meter: &mut Meter) -> Res
         (IsWhyNone (joined left.now.params right.now.params) (PairsWide (OperatorForms Binary.Cross) (Has left.now) (Has right.now))
         true meter.old meter.new) }
 {
+    // For what values keep.
     let _left = left.pieces();
     let _right = right.pieces();
     let sets = cross_sets(alloc, left, right, meter)?;
@@ -166,6 +167,7 @@ pub fn combined(
         (IsWhyNone (joined left.now.params right.now.params) (PairsWide (OperatorForms operator) (Has left.now) (Has right.now))
         (operator_works operator) meter.old meter.new) }
 {
+    // For what values keep.
     let _left = left.pieces();
     let _right = right.pieces();
     match operator {

@@ -10,8 +10,7 @@ ghost use Rattle.isl_operators.specs.Formed.{WordForms, FormsWide};
 ghost use Rattle.isl_operators.specs.Made.{IsWordOf, IsPaid, IsWhyNone, word_works};
 
 use isl_expr::tree::Prefix;
-use isl_images::{deltas, domain, range};
-use isl_maps::{domain_map, identity, range_map, unwrap, wrap, zip};
+use isl_maps::{deltas, domain, domain_map, identity, range, range_map, unwrap, wrap, zip};
 use isl_meter::Meter;
 use isl_union::{OpFault, Value};
 use std::alloc::Global;
@@ -42,6 +41,7 @@ pub fn transformed(
     ensures units { MatchResult result (λ _. IsPaid (word_works word) meter.old meter.new)
         (IsWhyNone operand.now.params (FormsWide (WordForms word) (Has operand.now)) (word_works word) meter.old meter.new) }
 {
+    // For what a value keeps.
     let _pieces = operand.pieces();
     match word {
         Prefix::Domain => domain(alloc, operand, meter),

@@ -9,6 +9,7 @@ use Rattle.isl_relation.specs.Maps.{RestrictDomainHas, RestrictRangeHas}
 use Rattle.isl_relation.specs.Pairs.{CrossMapsHas}
 use Rattle.isl_relation.specs.Point.{Point, HasPoint, Relates, map_element}
 use Rattle.isl_relation.specs.Sets.{CrossSetsHas, UniversalHas}
+use Rattle.isl_relation.proofs.PointLaws.{behind, behind_is, element_is, front, front_is, halves}
 use Rattle.isl_products.specs.declared.layout.Place.{Place}
 use Rattle.isl_products.specs.declared.layout.Place.TheVariants.{Domain, Range}
 use Rattle.isl_products.specs.declared.layout.Product.{Product}
@@ -31,32 +32,6 @@ front_of m xs ys e = picked_first m (xs ++ ys) ∙ take_at xs ys m e
 back_of : (m n : ℕ) (xs ys : List ℤ) → length xs ≡ m → length ys ≡ n → picked (pick_behind m n) (xs ++ ys) ≡ ys
 back_of m n xs ys e f =
     picked_behind m n (xs ++ ys) ∙ ap (take n) (drop_at xs ys m e) ∙ take_all n ys (let h : length ys ≤ n = omega (arith, f) in h)
-
--- a list in two halves
-pub halves : (m n : ℕ) (xs : List ℤ) → length xs ≡ m + n → take m xs ++ take n (drop m xs) ≡ xs
-halves m n xs e =
-    let behind = length-drop m xs in
-    ap (λ l. take m xs ++ l) (take_all n (drop m xs) (omega arith)) ∙ take-append-drop m xs
-
-pub element_is : (e : Element) (space : SpaceForm) (xs : List ℤ) → space ≡ e.space → xs ≡ e.coordinates
-    → e ≡ record { space = space; coordinates = xs }
-element_is e space xs s c = sym (ap₂ (λ t l. let f : Element = record { space = t; coordinates = l } in f) s c)
-
--- ---- two points behind one another
-abbrev pub front : Form → List ℤ → Point
-front x xs = record { form = x; numbers = take (width_of x) xs }
-
-abbrev pub behind : Form → Form → List ℤ → Point
-behind x y xs = record { form = y; numbers = take (width_of y) (drop (width_of x) xs) }
-
-pub front_is : (x : Form) (n : ℕ) (xs : List ℤ) → length xs ≡ width_of x + n → length (take (width_of x) xs) ≡ width_of x
-front_is x n xs wide = length-take-le (width_of x) xs (omega (arith, wide))
-
-pub behind_is : (x y : Form) (xs : List ℤ) → length xs ≡ width_of x + width_of y
-    → length (take (width_of y) (drop (width_of x) xs)) ≡ width_of y
-behind_is x y xs wide =
-    let rest = length-drop (width_of x) xs in
-    length-take-le (width_of y) (drop (width_of x) xs) (omega (arith, wide, rest))
 
 module _ (M : Element → Type 0) (space : SpaceForm) (e : Element) where
   -- what is picked at the front and behind it

@@ -1,5 +1,5 @@
 -- By which layouts products put elements together.
-use Rattle.std.proofs.Common.{◌≡◌, refl, sym, ap, ap₂, ◌∙◌, arith, subst, inl, inr, true, Option, Some, None, cond, option_map}
+use Rattle.std.proofs.Common.{◌≡◌, refl, sym, ap, ap₂, ◌∙◌, arith, subst, inl, inr, Bool, true, false, Option, Some, None, cond, option_map}
 use Rattle.std.proofs.lemmas.Bool.{cases_lt, false_from_ne_true}
 use Rattle.std.proofs.lemmas.Option.{cond_some, none-some, same_Some}
 use Rattle.isl_space.specs.Form.{Form}
@@ -8,27 +8,16 @@ use Rattle.isl_space.specs.SpaceForm.{space_leaves_of}
 use Rattle.isl_space.specs.SpaceForm.{SpaceForm, set_of, map_of, coordinates_of, IsNamedSpace, IsNarrowSpace, IsTooWideSpace}
 use Rattle.isl_space.specs.SpaceForm.{IsWellFormedSpace}
 use Rattle.isl_union.specs.Meet.{is_same_form}
-use Rattle.isl_union.proofs.MeetLaws.{space_is, space_itself}
+use Rattle.isl_relation.proofs.TogetherLaws.{form_itself, same_form}
 use Rattle.isl_products.specs.declared.layout.Layout.{Layout}
 use Rattle.isl_products.specs.declared.layout.Place.{Place}
 use Rattle.isl_products.specs.declared.layout.Place.TheVariants.{Domain, Range}
 use Rattle.isl_products.specs.declared.layout.Product.{Product}
 use Rattle.isl_products.specs.declared.layout.Product.TheVariants.{Universal, CrossSets, CrossMaps, Restrict}
-use Rattle.isl_products.specs.Layout.{LayoutView, cross_maps_view, cross_sets_view, form_at, layout_of, layout_view, of_map_and_set}
+use Rattle.isl_products.specs.Layout.{LayoutView, are_together, cross_maps_view, cross_sets_view, form_at, layout_of, layout_view}
+use Rattle.isl_products.specs.Layout.{of_map_and_set}
 use Rattle.isl_products.specs.Layout.{restrict_view, universal_view}
 use Rattle.isl_products.specs.Layout.{IsPickOf, IsWide}
-
--- ---- forms and spaces that are the same
-form_of_set : SpaceForm → Form
-form_of_set (set_of x) = x
-form_of_set (map_of x y) = x
-
-pub same_form : (x y : Form) → is_same_form x y ≡ true → x ≡ y
-unfolding form_of_set
-same_form x y e = ap form_of_set (space_is (set_of x) (set_of y) e)
-
-pub form_itself : (x : Form) → is_same_form x x ≡ true
-form_itself x = space_itself (set_of x)
 
 -- ---- what has a layout
 pub universal_of : (s t : SpaceForm) (l : LayoutView) → layout_of Universal s t ≡ Some l
@@ -172,6 +161,28 @@ pub forms_none : (product : Product) (s t own other : SpaceForm) (found : Option
     → option_map layout_view found ≡ layout_of product own other → found ≡ None → own ≡ s → other ≡ t
     → layout_of product s t ≡ None
 forms_none product s t own other found e is p q = sym (ap₂ (layout_of product) p q) ∙ sym e ∙ ap (option_map layout_view) is
+
+-- where there is none, the product does not put the spaces together
+no_layout : (b : Bool) (l : LayoutView) → cond b (Some l) None ≡ None → b ≡ false
+no_layout true l e = absurd (none-some l (sym e))
+no_layout false l e = refl
+
+pub not_together : (product : Product) (s t : SpaceForm) → layout_of product s t ≡ None → are_together product s t ≡ false
+not_together Universal (set_of x) (set_of y) e = absurd (none-some (universal_view x y) (sym e))
+not_together Universal (set_of x) (map_of u w) e = refl
+not_together Universal (map_of x y) t e = refl
+not_together CrossSets (set_of x) (set_of y) e = absurd (none-some (cross_sets_view x y) (sym e))
+not_together CrossSets (set_of x) (map_of u w) e = refl
+not_together CrossSets (map_of x y) t e = refl
+not_together CrossMaps (set_of x) t e = refl
+not_together CrossMaps (map_of x y) (set_of z) e = refl
+not_together CrossMaps (map_of x y) (map_of u w) e = absurd (none-some (cross_maps_view x y u w) (sym e))
+not_together (Restrict Domain) (set_of x) t e = refl
+not_together (Restrict Domain) (map_of x y) (set_of z) e = no_layout (is_same_form x z) (restrict_view Domain x y) e
+not_together (Restrict Domain) (map_of x y) (map_of u w) e = refl
+not_together (Restrict Range) (set_of x) t e = refl
+not_together (Restrict Range) (map_of x y) (set_of z) e = no_layout (is_same_form y z) (restrict_view Range x y) e
+not_together (Restrict Range) (map_of x y) (map_of u w) e = refl
 
 -- ---- a space that is not too wide is narrow
 pub narrow_from : (s : SpaceForm) → ¬ IsTooWideSpace s → IsNarrowSpace s

@@ -68,7 +68,8 @@ length-picked xs pick inside =
     (length-take-le pick.second (drop before xs) (omega arith))
 
 -- ---- the places are apart
-apart_append : (xs ys : List ℕ) → AreApart xs → AreApart ys → ((i j d : ℕ) → i < length xs → j < length ys → get_or xs i d ≢ get_or ys j d)
+pub apart_append : (xs ys : List ℕ) → AreApart xs → AreApart ys
+    → ((i j d : ℕ) → i < length xs → j < length ys → get_or xs i d ≢ get_or ys j d)
     → AreApart (xs ++ ys)
 apart_append xs ys first second between i j d before within =
     by i j before (rw (length-append xs ys) at within) (cases_lt i (length xs)) (cases_lt j (length xs))
@@ -89,7 +90,7 @@ apart_append xs ys first second between i j d before within =
     by i j before within (inr p) (inr q) e = second (i - length xs) (j - length xs) d (omega arith) (omega arith) (sym (behind i p) ∙ e ∙
         behind j q)
 
-range_apart : (a n : ℕ) → AreApart (range_with_len a n)
+pub range_apart : (a n : ℕ) → AreApart (range_with_len a n)
 range_apart a n i j d before within e =
     let long = length-range_with_len a n in
     let low = get_or-range_with_len a n i d (omega arith) in
@@ -97,7 +98,7 @@ range_apart a n i j d before within e =
     omega arith
 
 -- the places of a range are from its first on, and before its end
-range_below : (a n columns : ℕ) → a + n ≤ columns → All (λ p. p < columns) (range_with_len a n)
+pub range_below : (a n columns : ℕ) → a + n ≤ columns → All (λ p. p < columns) (range_with_len a n)
 range_below a n columns h k d l =
     let long = length-range_with_len a n in
     let at = get_or-range_with_len a n k d (omega arith) in

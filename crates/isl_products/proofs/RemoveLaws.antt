@@ -27,7 +27,8 @@ use Rattle.isl_products.specs.declared.layout.Place.TheVariants.{Domain, Range}
 use Rattle.isl_products.specs.declared.layout.Product.TheVariants.{Restrict}
 use Rattle.isl_products.specs.Layout.{LayoutView, form_at, layout_of, part, pick_at, pick_first, restrict_view}
 use Rattle.isl_products.specs.Made.{point_at, AreBeside, AreLeft, IsApartFrom, IsMadeOf, IsPlacedAt, IsSystemOver, RemoveHas}
-use Rattle.isl_products.proofs.HasLaws.{behind, behind_is, element_is, from_place, front, front_is, halves, picked_first, place_back}
+use Rattle.isl_relation.proofs.PointLaws.{behind, behind_is, element_is, front, front_is, halves}
+use Rattle.isl_products.proofs.HasLaws.{from_place, picked_first, place_back}
 use Rattle.isl_products.proofs.LayoutLaws.{restrict_at, restrict_of, restrict_only, restrict_space}
 
 -- ---- a piece and one of the others

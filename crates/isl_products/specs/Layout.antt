@@ -1,11 +1,12 @@
 -- inner: how an element of a formed space is put together of one of a first space and one of a second. (isl manual, on spaces)
-use Rattle.std.specs.Prelude.{◌≡◌, ℕ, ◌+◌, ◌≤◌, ℤ, if◌then◌else◌, Option, Some, None, List, ◌++◌, drop, take}
+use Rattle.std.specs.Prelude.{◌≡◌, ℕ, ◌+◌, ◌≤◌, ℤ, Bool, if◌then◌else◌, Option, Some, None, List, ◌++◌, drop, take}
 use Rattle.std.specs.List.{range_with_len}
 use Rattle.isl_space.specs.Element.{Element}
 use Rattle.isl_space.specs.Form.{Form, pair, width_of}
 use Rattle.isl_space.specs.Space.{space_form_of}
 use Rattle.isl_space.specs.SpaceForm.{SpaceForm, set_of, map_of, coordinates_of, IsTooWideSpace}
 use Rattle.isl_union.specs.Meet.{is_same_form}
+use Rattle.isl_relation.specs.Together.{are_maps, are_sets, is_domain, is_range}
 use Rattle.isl_products.specs.declared.layout.Layout.{Layout}
 use Rattle.isl_products.specs.declared.layout.Pick.{Pick}
 use Rattle.isl_products.specs.declared.layout.Place.{Place}
@@ -101,6 +102,14 @@ layout_of product (set_of x) (set_of y) = of_sets product x y
 layout_of product (set_of x) (map_of u w) = None
 layout_of product (map_of x y) (set_of z) = of_map_and_set product x y z
 layout_of product (map_of x y) (map_of u w) = of_maps product x y u w
+
+-- whether it does
+abbrev pub are_together : Product → SpaceForm → SpaceForm → Bool
+are_together Universal = are_sets
+are_together CrossSets = are_sets
+are_together CrossMaps = are_maps
+are_together (Restrict Domain) = is_domain
+are_together (Restrict Range) = is_range
 
 -- the product puts elements of the two spaces together, in a space that is too wide
 pub record IsWide (product : Product) (s t : SpaceForm) : Type 0 where

@@ -1,5 +1,11 @@
 pub mod Layout
 pub mod Made
+pub use Rattle.isl_relation.specs.Formed
+pub use Rattle.isl_relation.specs.Maps
+pub use Rattle.isl_relation.specs.Pairs
 pub use Rattle.isl_relation.specs.Point
+pub use Rattle.isl_relation.specs.Sets
+pub use Rattle.isl_relation.specs.Together
+pub use Rattle.isl_relation.specs.Wide
 pub use Rattle.isl_union.specs.KeptValue
 pub use Rattle.isl_union.specs.Numbers

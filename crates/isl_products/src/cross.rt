@@ -1,15 +1,14 @@
 //! Products of two values.
 
-ghost use Rattle.std.specs.Prelude.{◌≡◌, ◌↔◌, ◌≤◌, IfOk, MatchResult, length};
-ghost use Rattle.isl_meter.specs.Gauge.{IsCharged};
+ghost use Rattle.std.specs.Prelude.{◌≡◌, ◌↔◌, IfOk};
 ghost use Rattle.isl_space.specs.Element.{Element};
-ghost use Rattle.isl_space.specs.Limits.{most_parameters};
 ghost use Rattle.isl_space.specs.Names.{joined};
 ghost use Rattle.isl_space.specs.Valuation.{Valuation};
 ghost use Rattle.isl_relation.specs.Formed.{FormsCrossMaps, FormsCrossSets, FormsUniversal};
 ghost use Rattle.isl_relation.specs.Pairs.{CrossMapsHas};
 ghost use Rattle.isl_relation.specs.Sets.{CrossSetsHas, UniversalHas};
-ghost use Rattle.isl_relation.specs.Wide.{IsFormFault, PairsTooWide};
+ghost use Rattle.isl_relation.specs.Together.{IsFormedFrom, are_maps, are_sets, pairs_together};
+ghost use Rattle.isl_relation.specs.Wide.{PairsTooWide};
 ghost use Rattle.isl_union.specs.KeptValue.{Has, HasNoDefinitions, IsKeptValue};
 ghost use Rattle.isl_union.specs.Numbers.{IsWithinLimit};
 
@@ -25,22 +24,23 @@ use std::alloc::Global;
 ///
 /// # Errors
 ///
-/// `TooWide` exactly where the two together declare more than 16 parameters, or a space that is formed is too wide, unless memory
-/// ends: no unit is used then. `Overflow` where a number passes the limit of the meter, `Budget` where its units are used up, and
-/// `NoMemory`.
+/// As every call under a meter; and `TooWide` exactly where the two together declare more than 16 parameters, or a space that is
+/// formed is too wide, unless memory ends: no unit is used then.
 pub fn universal(alloc: Global, a: &Value, b: &Value, meter: &mut Meter) -> Result<Value, OpFault>
     requires own { IsWithinLimit meter.old a.now }
     requires other { IsWithinLimit meter.old b.now }
+
+    // The value, and what it has.
     ensures kept { IfOk result IsKeptValue }
     ensures params { IfOk result (λ value. value.params ≡ joined a.now.params b.now.params) }
     ensures elements { (valuation : Valuation) (element : Element)
         → IfOk result (λ value. Has value valuation element ↔ UniversalHas (Has a.now valuation) (Has b.now valuation) element) }
+
+    // How it is written, and what that cost.
     ensures definitions { HasNoDefinitions a.now → HasNoDefinitions b.now → IfOk result HasNoDefinitions }
     ensures numbers { IfOk result (IsWithinLimit meter.old) }
-    ensures units { MatchResult result
-        (λ _. (length (joined a.now.params b.now.params) ≤ most_parameters) × (¬ PairsTooWide FormsUniversal a.now b.now)
-        × IsCharged meter.old meter.new)
-        (IsFormFault (joined a.now.params b.now.params) (PairsTooWide FormsUniversal a.now b.now) meter.old meter.new) }
+    ensures units { IsFormedFrom (joined a.now.params b.now.params) (PairsTooWide FormsUniversal a.now b.now)
+        (pairs_together are_sets a.now b.now) meter.old meter.new result }
 {
     product_of(alloc, Product::Universal, a, b, meter)
 }
@@ -50,22 +50,23 @@ pub fn universal(alloc: Global, a: &Value, b: &Value, meter: &mut Meter) -> Resu
 ///
 /// # Errors
 ///
-/// `TooWide` exactly where the two together declare more than 16 parameters, or a space that is formed is too wide, unless memory
-/// ends: no unit is used then. `Overflow` where a number passes the limit of the meter, `Budget` where its units are used up, and
-/// `NoMemory`.
+/// As every call under a meter; and `TooWide` exactly where the two together declare more than 16 parameters, or a space that is
+/// formed is too wide, unless memory ends: no unit is used then.
 pub fn cross_sets(alloc: Global, a: &Value, b: &Value, meter: &mut Meter) -> Result<Value, OpFault>
     requires own { IsWithinLimit meter.old a.now }
     requires other { IsWithinLimit meter.old b.now }
+
+    // The value, and what it has.
     ensures kept { IfOk result IsKeptValue }
     ensures params { IfOk result (λ value. value.params ≡ joined a.now.params b.now.params) }
     ensures elements { (valuation : Valuation) (element : Element)
         → IfOk result (λ value. Has value valuation element ↔ CrossSetsHas (Has a.now valuation) (Has b.now valuation) element) }
+
+    // How it is written, and what that cost.
     ensures definitions { HasNoDefinitions a.now → HasNoDefinitions b.now → IfOk result HasNoDefinitions }
     ensures numbers { IfOk result (IsWithinLimit meter.old) }
-    ensures units { MatchResult result
-        (λ _. (length (joined a.now.params b.now.params) ≤ most_parameters) × (¬ PairsTooWide FormsCrossSets a.now b.now)
-        × IsCharged meter.old meter.new)
-        (IsFormFault (joined a.now.params b.now.params) (PairsTooWide FormsCrossSets a.now b.now) meter.old meter.new) }
+    ensures units { IsFormedFrom (joined a.now.params b.now.params) (PairsTooWide FormsCrossSets a.now b.now)
+        (pairs_together are_sets a.now b.now) meter.old meter.new result }
 {
     product_of(alloc, Product::CrossSets, a, b, meter)
 }
@@ -75,22 +76,23 @@ pub fn cross_sets(alloc: Global, a: &Value, b: &Value, meter: &mut Meter) -> Res
 ///
 /// # Errors
 ///
-/// `TooWide` exactly where the two together declare more than 16 parameters, or a space that is formed is too wide, unless memory
-/// ends: no unit is used then. `Overflow` where a number passes the limit of the meter, `Budget` where its units are used up, and
-/// `NoMemory`.
+/// As every call under a meter; and `TooWide` exactly where the two together declare more than 16 parameters, or a space that is
+/// formed is too wide, unless memory ends: no unit is used then.
 pub fn cross_maps(alloc: Global, a: &Value, b: &Value, meter: &mut Meter) -> Result<Value, OpFault>
     requires own { IsWithinLimit meter.old a.now }
     requires other { IsWithinLimit meter.old b.now }
+
+    // The value, and what it has.
     ensures kept { IfOk result IsKeptValue }
     ensures params { IfOk result (λ value. value.params ≡ joined a.now.params b.now.params) }
     ensures elements { (valuation : Valuation) (element : Element)
         → IfOk result (λ value. Has value valuation element ↔ CrossMapsHas (Has a.now valuation) (Has b.now valuation) element) }
+
+    // How it is written, and what that cost.
     ensures definitions { HasNoDefinitions a.now → HasNoDefinitions b.now → IfOk result HasNoDefinitions }
     ensures numbers { IfOk result (IsWithinLimit meter.old) }
-    ensures units { MatchResult result
-        (λ _. (length (joined a.now.params b.now.params) ≤ most_parameters) × (¬ PairsTooWide FormsCrossMaps a.now b.now)
-        × IsCharged meter.old meter.new)
-        (IsFormFault (joined a.now.params b.now.params) (PairsTooWide FormsCrossMaps a.now b.now) meter.old meter.new) }
+    ensures units { IsFormedFrom (joined a.now.params b.now.params) (PairsTooWide FormsCrossMaps a.now b.now)
+        (pairs_together are_maps a.now b.now) meter.old meter.new result }
 {
     product_of(alloc, Product::CrossMaps, a, b, meter)
 }

@@ -1,7 +1,6 @@
 //! How elements of a formed space are put together of those of two others.
 
-ghost use Rattle.std.specs.Prelude.{◌≡◌, ◌+◌, ◌++◌, ◌<◌, ◌≤◌, ◌^◌, All, IfOk, OnOk, option_map};
-ghost use Rattle.std.specs.List.{range_with_len};
+ghost use Rattle.std.specs.Prelude.{◌≡◌, ◌+◌, ◌≤◌, IfOk, option_map};
 ghost use Rattle.isl_space.specs.Form.{pair, width_of};
 ghost use Rattle.isl_space.specs.Limits.{most_coordinates, most_parameters};
 ghost use Rattle.isl_space.specs.Shape.{form_of};
@@ -10,6 +9,7 @@ ghost use Rattle.isl_space.specs.SpaceForm.{coordinates_of};
 ghost use Rattle.isl_products.specs.Layout.{form_at, layout_of, layout_view, of_map_and_set, of_maps, of_sets, pick_at};
 ghost use Rattle.isl_products.specs.Layout.{pick_behind, pick_first, picked_places};
 
+use isl_elim::columns_between;
 use isl_space::{Shape, Space};
 use std::alloc::{AllocError, Global};
 use std::rc::Rc;
@@ -207,17 +207,6 @@ pub(crate) fn layout_of(
     }
 }
 
-// Puts so many places from the first on behind the others.
-fn push_places(places: &mut Vec<usize>, first: usize, count: u32) -> Result<(), AllocError>
-    requires { first + count < 2 ^ 64 }
-    ensures { OnOk result (places.new.items ≡ places.old.items ++ range_with_len first count) }
-{
-    for offset in 0..count as usize {
-        places.push(first + offset)?;
-    }
-    Ok(())
-}
-
 /// The places of so many parameters, and behind them of the picked ones of so many coordinates.
 ///
 /// # Errors
@@ -232,11 +221,13 @@ pub(crate) fn picked_places(
     requires inside { pick.before + pick.first + pick.between + pick.second ≤ most_coordinates }
     ensures { IfOk result (λ places. places.items ≡ picked_places parameters pick) }
 {
-    let mut places = Vec::new(alloc);
     let first = parameters as usize + pick.before as usize;
-    let second = first + pick.first as usize + pick.between as usize;
-    push_places(&mut places, 0, parameters)?;
-    push_places(&mut places, first, pick.first)?;
-    push_places(&mut places, second, pick.second)?;
+    let end = first + pick.first as usize;
+    let second = end + pick.between as usize;
+    let mut places = columns_between(alloc, 0, parameters as usize)?;
+    let mut picked = columns_between(alloc, first, end)?;
+    let mut behind = columns_between(alloc, second, second + pick.second as usize)?;
+    picked.append(&mut behind)?;
+    places.append(&mut picked)?;
     Ok(places)
 }

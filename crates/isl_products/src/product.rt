@@ -1,17 +1,17 @@
 //! What is put together of elements of two values.
 
-ghost use Rattle.std.specs.Prelude.{◌≡◌, ◌↔◌, ◌≤◌, [], All, Any, IfOk, MatchResult, length, map, unsigned_abs};
-ghost use Rattle.isl_meter.specs.Gauge.{IsCharged, IsMetered, limit_of};
+ghost use Rattle.std.specs.Prelude.{◌≡◌, ◌↔◌, [], All, Any, IfOk, map, unsigned_abs};
+ghost use Rattle.isl_meter.specs.Gauge.{limit_of};
 ghost use Rattle.isl_space.specs.Element.{Element};
-ghost use Rattle.isl_space.specs.Limits.{most_parameters};
 ghost use Rattle.isl_space.specs.Names.{joined};
 ghost use Rattle.isl_space.specs.Valuation.{Valuation};
 ghost use Rattle.isl_piece.specs.System.{IsSystemWithin};
-ghost use Rattle.isl_relation.specs.Wide.{IsFormFault};
+ghost use Rattle.isl_relation.specs.Together.{IsFormedFrom, pair_count, pairs_of, pairs_together, partners, spaces_of};
+ghost use Rattle.isl_union.specs.Fault.{IsMeteredFrom};
 ghost use Rattle.isl_union.specs.KeptValue.{Has, HasElement, HasNoDefinitions, IsKeptValue};
 ghost use Rattle.isl_union.specs.Numbers.{AreWithinLimit, IsPieceUpTo, IsWithinLimit};
 ghost use Rattle.isl_union.specs.Piece.{kept_piece, IsPieceOf};
-ghost use Rattle.isl_products.specs.Layout.{IsWide};
+ghost use Rattle.isl_products.specs.Layout.{IsWide, are_together};
 ghost use Rattle.isl_products.specs.Made.{AreWide, IsMadeOf, IsMadeWith, IsWidePair, ProductHas};
 
 use crate::layout::{Product, layout_of};
@@ -25,7 +25,7 @@ use std::alloc::Global;
 
 // What is made of two pieces, for a unit where the product puts elements of their spaces together, and those of the question whether
 // it has an element.
-#[tactic(auto, using(std::proofs::lemmas::Grind::common_steps, isl_meter::proofs::CutLemmas::charges))]
+#[tactic(auto, using(std::proofs::lemmas::Grind::common_steps, isl_union::proofs::UnitLaws::unit_steps))]
 fn made_of(
     alloc: Global,
     params: &Params,
@@ -46,7 +46,7 @@ fn made_of(
     ensures definitions { a.now.system.definitions ≡ [] → b.now.system.definitions ≡ []
         → IfOk result (λ made. All (λ piece. piece.definitions ≡ []) (map kept_piece made.items)) }
     ensures numbers { IfOk result (λ made. All (IsPieceUpTo (unsigned_abs (limit_of meter.old))) (map kept_piece made.items)) }
-    ensures meter { IsMetered meter.old meter.new result }
+    ensures units { IsMeteredFrom (pair_count (are_together product) a.now.space b.now.space) meter.old meter.new result }
 {
     let Some(layout) = layout_of(alloc, product, a.space(), b.space())? else {
         return Ok(Vec::new(alloc));
@@ -58,7 +58,7 @@ fn made_of(
 }
 
 // What is made of the piece and each of the others.
-#[tactic(auto, using(std::proofs::lemmas::Grind::common_steps, isl_meter::proofs::CutLemmas::charges))]
+#[tactic(auto, using(std::proofs::lemmas::Grind::common_steps, isl_union::proofs::UnitLaws::unit_steps))]
 fn made_with(
     alloc: Global,
     params: &Params,
@@ -79,7 +79,7 @@ fn made_with(
     ensures definitions { piece.now.system.definitions ≡ [] → All (λ other. other.system.definitions ≡ []) others.now
         → IfOk result (λ made. All (λ piece. piece.definitions ≡ []) (map kept_piece made.items)) }
     ensures numbers { IfOk result (λ made. All (IsPieceUpTo (unsigned_abs (limit_of meter.old))) (map kept_piece made.items)) }
-    ensures meter { IsMetered meter.old meter.new result }
+    ensures units { IsMeteredFrom (partners (are_together product) (spaces_of others.now) piece.now.space) meter.old meter.new result }
 {
     let mut made = Vec::new(alloc);
     for other in others {
@@ -92,7 +92,7 @@ fn made_with(
 }
 
 // What is made of each of the pieces and each of the others.
-#[tactic(auto, using(std::proofs::lemmas::Grind::common_steps, isl_meter::proofs::CutLemmas::charges))]
+#[tactic(auto, using(std::proofs::lemmas::Grind::common_steps, isl_union::proofs::UnitLaws::unit_steps))]
 fn all_made(
     alloc: Global,
     params: &Params,
@@ -113,7 +113,8 @@ fn all_made(
     ensures definitions { All (λ piece. piece.system.definitions ≡ []) pieces.now → All (λ other. other.system.definitions ≡ []) others.now
         → IfOk result (λ made. All (λ piece. piece.definitions ≡ []) (map kept_piece made.items)) }
     ensures numbers { IfOk result (λ made. All (IsPieceUpTo (unsigned_abs (limit_of meter.old))) (map kept_piece made.items)) }
-    ensures meter { IsMetered meter.old meter.new result }
+    ensures units { IsMeteredFrom (pairs_of (are_together product) (spaces_of pieces.now) (spaces_of others.now))
+        meter.old meter.new result }
 {
     let mut made = Vec::new(alloc);
     for piece in pieces {
@@ -129,9 +130,8 @@ fn all_made(
 ///
 /// # Errors
 ///
-/// `TooWide` exactly where the two together declare more than 16 parameters, or a space that is formed is too wide, unless memory
-/// ends: no unit is used then. `Overflow` where a number passes the limit of the meter, `Budget` where its units are used up, and
-/// `NoMemory`.
+/// As every call under a meter; and `TooWide` exactly where the two together declare more than 16 parameters, or a space that is
+/// formed is too wide, unless memory ends: no unit is used then.
 pub(crate) fn product_of(
     alloc: Global,
     product: Product,
@@ -141,17 +141,19 @@ pub(crate) fn product_of(
 ) -> Result<Value, OpFault>
     requires own { IsWithinLimit meter.old a.now }
     requires other { IsWithinLimit meter.old b.now }
+
+    // The value, and what it has.
     ensures operand { IsKeptValue a.now }
     ensures kept { IfOk result IsKeptValue }
     ensures params { IfOk result (λ value. value.params ≡ joined a.now.params b.now.params) }
     ensures elements { (v : Valuation) (e : Element)
         → IfOk result (λ value. Has value v e ↔ ProductHas product (Has a.now v) (Has b.now v) e) }
+
+    // How it is written, and what that cost.
     ensures definitions { HasNoDefinitions a.now → HasNoDefinitions b.now → IfOk result HasNoDefinitions }
     ensures numbers { IfOk result (IsWithinLimit meter.old) }
-    ensures units { MatchResult result
-        (λ _. (length (joined a.now.params b.now.params) ≤ most_parameters) × (¬ IsWidePair product a.now b.now)
-        × IsCharged meter.old meter.new)
-        (IsFormFault (joined a.now.params b.now.params) (IsWidePair product a.now b.now) meter.old meter.new) }
+    ensures units { IsFormedFrom (joined a.now.params b.now.params) (IsWidePair product a.now b.now)
+        (pairs_together (are_together product) a.now b.now) meter.old meter.new result }
 {
     let pieces = a.pieces();
     let pair = aligned_pair(alloc, a, b, meter)?;

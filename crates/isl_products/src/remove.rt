@@ -1,16 +1,15 @@
 //! Maps without what sets have at one of their places.
 
-ghost use Rattle.std.specs.Prelude.{◌≡◌, ◌↔◌, ◌≤◌, List, [], All, Any, IfOk, MatchResult, length, map, unsigned_abs};
-ghost use Rattle.isl_meter.specs.Gauge.{Gauge, IsCharged, IsMetered, limit_of};
+ghost use Rattle.std.specs.Prelude.{◌≡◌, ◌↔◌, ◌+◌, ◌≤◌, List, [], All, Any, IfOk, length, map, unsigned_abs};
+ghost use Rattle.isl_meter.specs.Gauge.{Gauge, IsMetered, limit_of};
 ghost use Rattle.isl_space.specs.Element.{Element};
-ghost use Rattle.isl_space.specs.Limits.{most_parameters};
 ghost use Rattle.isl_space.specs.Name.{Name};
 ghost use Rattle.isl_space.specs.Names.{joined};
 ghost use Rattle.isl_space.specs.Space.{space_form_of};
 ghost use Rattle.isl_space.specs.Valuation.{Valuation};
 ghost use Rattle.isl_piece.specs.System.{IsSystemWithin, free_columns};
 ghost use Rattle.isl_relation.specs.Maps.{RemoveDomainHas, RemoveRangeHas};
-ghost use Rattle.isl_union.specs.Fault.{IsFaultBy};
+ghost use Rattle.isl_relation.specs.Together.{IsWorkedFrom};
 ghost use Rattle.isl_union.specs.KeptValue.{Has, HasElement, HasNoDefinitions, IsKeptValue};
 ghost use Rattle.isl_union.specs.Minus.{piece_in};
 ghost use Rattle.isl_union.specs.Numbers.{AreWithinLimit, IsPieceUpTo, IsWithinLimit};
@@ -84,6 +83,7 @@ fn left_of(
     requires columns { All (λ s. free_columns s ≡ free_columns piece.now.system) systems.now }
     ensures exact { (params : List Name) → IsPieceOf params piece.now
         → IfOk result (λ left. AreLeft meter.old params piece.now systems.now left.items) }
+    ensures counted { IfOk result (λ left. length left.items + meter.old.units ≤ meter.new.units + 1) }
     ensures meter { IsMetered meter.old meter.new result }
 {
     if systems.is_empty() {
@@ -117,6 +117,7 @@ fn piece_without(
     ensures definitions { piece.now.system.definitions ≡ [] → All (λ other. other.system.definitions ≡ []) others.now
         → IfOk result (λ left. All (λ part. part.definitions ≡ []) (map kept_piece left.items)) }
     ensures numbers { IfOk result (λ left. All (IsPieceUpTo (unsigned_abs (limit_of meter.old))) (map kept_piece left.items)) }
+    ensures counted { IfOk result (λ left. length left.items + meter.old.units ≤ meter.new.units + 1) }
     ensures meter { IsMetered meter.old meter.new result }
 {
     let Space::Map(_, _) = piece.space() else {
@@ -147,6 +148,7 @@ fn pieces_without(
     ensures definitions { All (λ piece. piece.system.definitions ≡ []) pieces.now → All (λ other. other.system.definitions ≡ []) others.now
         → IfOk result (λ left. All (λ part. part.definitions ≡ []) (map kept_piece left.items)) }
     ensures numbers { IfOk result (λ left. All (IsPieceUpTo (unsigned_abs (limit_of meter.old))) (map kept_piece left.items)) }
+    ensures counted { IfOk result (λ left. length left.items + meter.old.units ≤ meter.new.units + length pieces.now) }
     ensures meter { IsMetered meter.old meter.new result }
 {
     let mut left = Vec::new(alloc);
@@ -169,15 +171,18 @@ fn remove(
 ) -> Result<Value, OpFault>
     requires own { IsWithinLimit meter.old map.now }
     requires other { IsWithinLimit meter.old set.now }
+
+    // The value, and what it has.
     ensures kept { IfOk result IsKeptValue }
     ensures params { IfOk result (λ value. value.params ≡ joined map.now.params set.now.params) }
     ensures elements { (v : Valuation) (e : Element)
         → IfOk result (λ value. Has value v e ↔ RemoveHas place (Has map.now v) (Has set.now v) e) }
+
+    // How it is written, and what that cost.
     ensures definitions { HasNoDefinitions map.now → HasNoDefinitions set.now → IfOk result HasNoDefinitions }
     ensures numbers { IfOk result (IsWithinLimit meter.old) }
-    ensures units { MatchResult result
-        (λ _. (length (joined map.now.params set.now.params) ≤ most_parameters) × IsCharged meter.old meter.new)
-        (IsFaultBy (joined map.now.params set.now.params) meter.old meter.new) }
+    ensures counted { IfOk result (λ value. length value.pieces + meter.old.units ≤ meter.new.units + length map.now.pieces) }
+    ensures units { IsWorkedFrom (joined map.now.params set.now.params) 0 meter.old meter.new result }
 {
     let pair = aligned_pair(alloc, map, set, meter)?;
     let own = pair.own.as_slice();
@@ -187,12 +192,13 @@ fn remove(
 }
 
 /// Those x → y of the map whose x is not in the set, over the joined parameters. A piece of the map whose x no piece of the set
-/// has as its form stays as it is. (the iscc chapter of the barvinok manual)
+/// has as its form stays as it is. There are no more pieces than in the map, but for one for each unit that was used. (the iscc
+/// chapter of the barvinok manual)
 ///
 /// # Errors
 ///
-/// `TooWide` exactly where the two together declare more than 16 parameters, unless memory ends: no unit is used then.
-/// `Overflow` where a number passes the limit of the meter, `Budget` where its units are used up, and `NoMemory`.
+/// As every call under a meter; and `TooWide` exactly where the two together declare more than 16 parameters, unless memory ends:
+/// no unit is used then.
 pub fn remove_domain(
     alloc: Global,
     map: &Value,
@@ -201,26 +207,30 @@ pub fn remove_domain(
 ) -> Result<Value, OpFault>
     requires own { IsWithinLimit meter.old map.now }
     requires other { IsWithinLimit meter.old set.now }
+
+    // The value, and what it has.
     ensures kept { IfOk result IsKeptValue }
     ensures params { IfOk result (λ value. value.params ≡ joined map.now.params set.now.params) }
     ensures elements { (valuation : Valuation) (element : Element)
         → IfOk result (λ value. Has value valuation element ↔ RemoveDomainHas (Has map.now valuation) (Has set.now valuation) element) }
+
+    // How it is written, and what that cost.
     ensures definitions { HasNoDefinitions map.now → HasNoDefinitions set.now → IfOk result HasNoDefinitions }
     ensures numbers { IfOk result (IsWithinLimit meter.old) }
-    ensures units { MatchResult result
-        (λ _. (length (joined map.now.params set.now.params) ≤ most_parameters) × IsCharged meter.old meter.new)
-        (IsFaultBy (joined map.now.params set.now.params) meter.old meter.new) }
+    ensures counted { IfOk result (λ value. length value.pieces + meter.old.units ≤ meter.new.units + length map.now.pieces) }
+    ensures units { IsWorkedFrom (joined map.now.params set.now.params) 0 meter.old meter.new result }
 {
     remove(alloc, Place::Domain, map, set, meter)
 }
 
 /// Those x → y of the map whose y is not in the set, over the joined parameters. A piece of the map whose y no piece of the set
-/// has as its form stays as it is. (the iscc chapter of the barvinok manual)
+/// has as its form stays as it is. There are no more pieces than in the map, but for one for each unit that was used. (the iscc
+/// chapter of the barvinok manual)
 ///
 /// # Errors
 ///
-/// `TooWide` exactly where the two together declare more than 16 parameters, unless memory ends: no unit is used then.
-/// `Overflow` where a number passes the limit of the meter, `Budget` where its units are used up, and `NoMemory`.
+/// As every call under a meter; and `TooWide` exactly where the two together declare more than 16 parameters, unless memory ends:
+/// no unit is used then.
 pub fn remove_range(
     alloc: Global,
     map: &Value,
@@ -229,15 +239,18 @@ pub fn remove_range(
 ) -> Result<Value, OpFault>
     requires own { IsWithinLimit meter.old map.now }
     requires other { IsWithinLimit meter.old set.now }
+
+    // The value, and what it has.
     ensures kept { IfOk result IsKeptValue }
     ensures params { IfOk result (λ value. value.params ≡ joined map.now.params set.now.params) }
     ensures elements { (valuation : Valuation) (element : Element)
         → IfOk result (λ value. Has value valuation element ↔ RemoveRangeHas (Has map.now valuation) (Has set.now valuation) element) }
+
+    // How it is written, and what that cost.
     ensures definitions { HasNoDefinitions map.now → HasNoDefinitions set.now → IfOk result HasNoDefinitions }
     ensures numbers { IfOk result (IsWithinLimit meter.old) }
-    ensures units { MatchResult result
-        (λ _. (length (joined map.now.params set.now.params) ≤ most_parameters) × IsCharged meter.old meter.new)
-        (IsFaultBy (joined map.now.params set.now.params) meter.old meter.new) }
+    ensures counted { IfOk result (λ value. length value.pieces + meter.old.units ≤ meter.new.units + length map.now.pieces) }
+    ensures units { IsWorkedFrom (joined map.now.params set.now.params) 0 meter.old meter.new result }
 {
     remove(alloc, Place::Range, map, set, meter)
 }

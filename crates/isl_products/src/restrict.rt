@@ -1,13 +1,11 @@
 //! Maps restricted by sets.
 
-ghost use Rattle.std.specs.Prelude.{◌≡◌, ◌↔◌, ◌≤◌, IfOk, MatchResult, length};
-ghost use Rattle.isl_meter.specs.Gauge.{IsCharged};
+ghost use Rattle.std.specs.Prelude.{◌≡◌, ◌↔◌, IfOk};
 ghost use Rattle.isl_space.specs.Element.{Element};
-ghost use Rattle.isl_space.specs.Limits.{most_parameters};
 ghost use Rattle.isl_space.specs.Names.{joined};
 ghost use Rattle.isl_space.specs.Valuation.{Valuation};
 ghost use Rattle.isl_relation.specs.Maps.{RestrictDomainHas, RestrictRangeHas};
-ghost use Rattle.isl_union.specs.Fault.{IsFaultBy};
+ghost use Rattle.isl_relation.specs.Together.{IsWorkedFrom, is_domain, is_range, pairs_together};
 ghost use Rattle.isl_union.specs.KeptValue.{Has, HasNoDefinitions, IsKeptValue};
 ghost use Rattle.isl_union.specs.Numbers.{IsWithinLimit};
 
@@ -22,8 +20,8 @@ use std::alloc::Global;
 ///
 /// # Errors
 ///
-/// `TooWide` exactly where the two together declare more than 16 parameters, unless memory ends: no unit is used then.
-/// `Overflow` where a number passes the limit of the meter, `Budget` where its units are used up, and `NoMemory`.
+/// As every call under a meter; and `TooWide` exactly where the two together declare more than 16 parameters, unless memory ends:
+/// no unit is used then.
 pub fn restrict_domain(
     alloc: Global,
     map: &Value,
@@ -32,15 +30,18 @@ pub fn restrict_domain(
 ) -> Result<Value, OpFault>
     requires own { IsWithinLimit meter.old map.now }
     requires other { IsWithinLimit meter.old set.now }
+
+    // The value, and what it has.
     ensures kept { IfOk result IsKeptValue }
     ensures params { IfOk result (λ value. value.params ≡ joined map.now.params set.now.params) }
     ensures elements { (valuation : Valuation) (element : Element)
         → IfOk result (λ value. Has value valuation element ↔ RestrictDomainHas (Has map.now valuation) (Has set.now valuation) element) }
+
+    // How it is written, and what that cost.
     ensures definitions { HasNoDefinitions map.now → HasNoDefinitions set.now → IfOk result HasNoDefinitions }
     ensures numbers { IfOk result (IsWithinLimit meter.old) }
-    ensures units { MatchResult result
-        (λ _. (length (joined map.now.params set.now.params) ≤ most_parameters) × IsCharged meter.old meter.new)
-        (IsFaultBy (joined map.now.params set.now.params) meter.old meter.new) }
+    ensures units { IsWorkedFrom (joined map.now.params set.now.params) (pairs_together is_domain map.now set.now)
+        meter.old meter.new result }
 {
     product_of(alloc, Product::Restrict(Place::Domain), map, set, meter)
 }
@@ -50,8 +51,8 @@ pub fn restrict_domain(
 ///
 /// # Errors
 ///
-/// `TooWide` exactly where the two together declare more than 16 parameters, unless memory ends: no unit is used then.
-/// `Overflow` where a number passes the limit of the meter, `Budget` where its units are used up, and `NoMemory`.
+/// As every call under a meter; and `TooWide` exactly where the two together declare more than 16 parameters, unless memory ends:
+/// no unit is used then.
 pub fn restrict_range(
     alloc: Global,
     map: &Value,
@@ -60,15 +61,18 @@ pub fn restrict_range(
 ) -> Result<Value, OpFault>
     requires own { IsWithinLimit meter.old map.now }
     requires other { IsWithinLimit meter.old set.now }
+
+    // The value, and what it has.
     ensures kept { IfOk result IsKeptValue }
     ensures params { IfOk result (λ value. value.params ≡ joined map.now.params set.now.params) }
     ensures elements { (valuation : Valuation) (element : Element)
         → IfOk result (λ value. Has value valuation element ↔ RestrictRangeHas (Has map.now valuation) (Has set.now valuation) element) }
+
+    // How it is written, and what that cost.
     ensures definitions { HasNoDefinitions map.now → HasNoDefinitions set.now → IfOk result HasNoDefinitions }
     ensures numbers { IfOk result (IsWithinLimit meter.old) }
-    ensures units { MatchResult result
-        (λ _. (length (joined map.now.params set.now.params) ≤ most_parameters) × IsCharged meter.old meter.new)
-        (IsFaultBy (joined map.now.params set.now.params) meter.old meter.new) }
+    ensures units { IsWorkedFrom (joined map.now.params set.now.params) (pairs_together is_range map.now set.now)
+        meter.old meter.new result }
 {
     product_of(alloc, Product::Restrict(Place::Range), map, set, meter)
 }

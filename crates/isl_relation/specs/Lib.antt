@@ -4,6 +4,7 @@ pub mod Maps
 pub mod Pairs
 pub mod Formed
 pub mod Wide
+pub mod Together
 pub use Rattle.isl_space.specs.Element
 pub use Rattle.isl_space.specs.Form
 pub use Rattle.isl_space.specs.SpaceForm

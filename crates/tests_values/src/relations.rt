@@ -2,8 +2,7 @@
 
 ghost use Rattle.isl_union.specs.Numbers.{IsWithinLimit};
 
-use isl_images::domain;
-use isl_maps::{inverse, wrap, zip};
+use isl_maps::{domain, inverse, wrap, zip};
 use isl_meter::Meter;
 use isl_union::{OpFault, Value};
 use std::alloc::Global;

@@ -1,7 +1,11 @@
+use Rattle.std.proofs.Common.{subst}
 use Rattle.std.specs.List.{All}
+use Rattle.isl_union.specs.Fault.{IsChargedFrom}
 use Rattle.isl_union.specs.KeptValue.{Has}
 use Rattle.isl_union.proofs.PiecesLaws.{through}
 use Rattle.isl_relation.specs.Maps.{ApplyHas}
+use Rattle.isl_relation.specs.Together.{is_domain}
+use Rattle.isl_relation.proofs.TogetherLaws.{same_pairs}
 use Rattle.isl_images.specs.declared.pairing.Pairing.TheVariants.{Apply}
 use Rattle.isl_images.specs.Made.{elements_of_all, IsPlain}
 use Rattle.isl_images.proofs.MadeLaws.{value_has, value_kept, value_plain, value_small}
@@ -50,3 +54,14 @@ returns-clause-numbers c =
     value_small c.args.meter.now pair.params (All IsPlain own × All IsPlain others)
     (λ v. ApplyHas (elements_of_all pair.params own v) (elements_of_all pair.params others v)) c.in_ok-made.made.items
     c.in_ok-made.ensures.made c.from_normal.result c.from_normal.ensures
+
+pub returns-clause-units : goal.returns-clause-units
+returns-clause-units c =
+    let g = c.args.meter.now in
+    let h = c.all_pairs.new.meter in
+    let pair = c.in_ok-pair.pair in
+    let used = rw (c.as_slice.ensures.value, c.as_slice-2.ensures.value) at c.in_ok-made.ensures.units in (
+      c.in_ok-pair.ensures.faults,
+      subst (λ n. IsChargedFrom n g h)
+          (same_pairs is_domain g c.args.a.now c.args.b.now pair.params pair.own.items pair.others.items c.in_ok-pair.ensures.exact) used,
+    )

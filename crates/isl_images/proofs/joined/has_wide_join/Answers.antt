@@ -1,7 +1,7 @@
 use Rattle.std.proofs.Common.{◌↔◌, arith, sym, ◌∙◌, ◌<◌, ◌≤◌, length, IsTrue}
 use Rattle.std.proofs.lemmas.Bool.{false≢true}
 use Rattle.isl_images.specs.Pairing.{IsWideJoin}
-use Rattle.isl_images.proofs.WideLaws.{none_all, none_more}
+use Rattle.isl_relation.proofs.SeekLaws.{none_all, none_more}
 use Rattle.isl_images.proofs.joined.has_wide_join.Goals as goal
 
 pub loop-other-preserved : goal.loop-other-preserved

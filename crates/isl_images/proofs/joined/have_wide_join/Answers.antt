@@ -3,7 +3,7 @@ use Rattle.std.specs.List.{Any}
 use Rattle.std.proofs.lemmas.Bool.{false≢true}
 use Rattle.isl_piece.specs.Piece.{PieceView}
 use Rattle.isl_images.specs.Pairing.{IsWideJoin}
-use Rattle.isl_images.proofs.WideLaws.{none_all, none_more}
+use Rattle.isl_relation.proofs.SeekLaws.{none_all, none_more}
 use Rattle.isl_images.proofs.joined.have_wide_join.Goals as goal
 
 pub loop-piece-preserved : goal.loop-piece-preserved

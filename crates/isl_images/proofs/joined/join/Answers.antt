@@ -1,12 +1,15 @@
-use Rattle.std.proofs.Common.{inl, inr, refl, sym, ◌∙◌}
+use Rattle.std.proofs.Common.{inl, inr, refl, sym, ◌∙◌, subst}
 use Rattle.std.specs.List.{All}
 use Rattle.std.proofs.lemmas.Bool.{false≢true}
 use Rattle.std.proofs.lemmas.Result.{err_from_is_err_and}
+use Rattle.isl_union.specs.Fault.{IsChargedFrom}
 use Rattle.isl_union.specs.KeptValue.{Has}
 use Rattle.isl_union.proofs.PiecesLaws.{through}
 use Rattle.isl_relation.specs.Formed.{FormsJoin}
 use Rattle.isl_relation.specs.Maps.{JoinHas}
+use Rattle.isl_relation.specs.Together.{are_linked}
 use Rattle.isl_relation.specs.Wide.{PairsTooWide}
+use Rattle.isl_relation.proofs.TogetherLaws.{same_pairs}
 use Rattle.isl_images.specs.declared.pairing.Pairing.TheVariants.{Join}
 use Rattle.isl_images.specs.Made.{elements_of_all, IsPlain}
 use Rattle.isl_images.proofs.MadeLaws.{value_has, value_kept, value_plain, value_small}
@@ -86,13 +89,18 @@ returns-in_err-made-clause-units c =
     let never : ¬ PairsTooWide FormsJoin c.args.a.now c.args.b.now =
     λ wide. false≢true (sym c.if-branch.false ∙ c.in_ok-have_wide_join.ensures.1 (exact.1 wide)) in
     let fault = err_from_is_err_and c.from_residual-in_err-made.result c.from_residual-in_err-made.ensures.1 in
-    rw (fault.1, fault.2) (inl (c.in_ok-pair.ensures.faults, never), c.in_err-made.ensures.meter)
+    rw (fault.1, fault.2) (inl (c.in_ok-pair.ensures.faults, never), c.in_err-made.ensures.units)
 
 pub returns-clause-units : goal.returns-clause-units
 returns-clause-units c =
+    let g = c.args.meter.now in
+    let h = c.all_pairs.new.meter in
+    let pair = c.in_ok-pair.pair in
+    let used = rw (c.as_slice.ensures.value, c.as_slice-2.ensures.value) at c.in_ok-made.ensures.units in
     let exact = wide_exactly c.args.a.now c.args.b.now c.pieces.result.now c.pieces-2.result.now c.pieces.ensures.content
     c.pieces-2.ensures.content in (
       c.in_ok-pair.ensures.faults,
       (λ wide. false≢true (sym c.if-branch.false ∙ c.in_ok-have_wide_join.ensures.1 (exact.1 wide))),
-      c.in_ok-made.ensures.meter,
+      subst (λ n. IsChargedFrom n g h)
+          (same_pairs are_linked g c.args.a.now c.args.b.now pair.params pair.own.items pair.others.items c.in_ok-pair.ensures.exact) used,
     )

@@ -1,11 +1,13 @@
 use Rattle.std.proofs.Common.{refl, arith, ◌<◌, ◌≤◌, length}
 use Rattle.std.specs.List.{All}
-use Rattle.isl_meter.proofs.CutLemmas.{IsCharged_refl, IsCharged_trans}
 use Rattle.isl_piece.specs.System.{IsSystemWithin}
 use Rattle.isl_piece.proofs.FormedLaws.{system_within_kept}
 use Rattle.isl_union.proofs.MeetSteps.{charged_bits, item_has, pieces_later}
+use Rattle.isl_union.proofs.UnitLaws.{from_none}
+use Rattle.isl_relation.specs.Together.{spaces_of}
+use Rattle.isl_relation.proofs.TogetherLaws.{piece_pays}
 use Rattle.isl_images.specs.Made.{elements_of_all, IsPlain}
-use Rattle.isl_images.specs.Pairing.{IsNarrowPair, PairHas}
+use Rattle.isl_images.specs.Pairing.{IsNarrowPair, PairHas, are_paired}
 use Rattle.isl_images.proofs.MadeLaws.{of_all, of_more, of_none}
 use Rattle.isl_images.proofs.PairingLaws.{first_additive}
 use Rattle.isl_images.proofs.pairing.all_pairs.Goals as goal
@@ -19,20 +21,20 @@ loop-piece-init c =
       made = of_none c.args.meter.now params (λ v M. PairHas pairing M (elements_of_all params others v))
           (λ v. first_additive pairing (elements_of_all params others v)) (All IsPlain c.args.pieces.now × All IsPlain others)
           c.new-made.result.items c.new-made.ensures.items;
-      charged = IsCharged_refl c.args.meter.now c.args.meter.now refl;
+      used = from_none c.args.meter.now c.args.meter.now refl;
     }
 
 pub pieces_with-requires-clause-piece_within : goal.pieces_with-requires-clause-piece_within
 pieces_with-requires-clause-piece_within c =
     let low : c.loop-piece.piece-index < length c.args.pieces.now = omega arith in
     system_within_kept c.loop-piece.meter c.args.meter.now c.piece-item.result.system
-    (charged_bits c.args.meter.now c.loop-piece.meter c.loop-piece.invariant.charged)
+    (charged_bits c.args.meter.now c.loop-piece.meter c.loop-piece.invariant.used.charged)
     (item_has (λ p. IsSystemWithin c.args.meter.now p.system) c.args.pieces.now c.loop-piece.piece-index c.piece-item.result low
     c.piece-item.is c.requires.pieces_within)
 
 pub pieces_with-requires-clause-others_within : goal.pieces_with-requires-clause-others_within
 pieces_with-requires-clause-others_within c =
-    pieces_later c.args.meter.now c.loop-piece.meter c.args.others.now c.loop-piece.invariant.charged c.requires.others_within
+    pieces_later c.args.meter.now c.loop-piece.meter c.args.others.now c.loop-piece.invariant.used.charged c.requires.others_within
 
 pub pieces_with-requires-clause-narrow : goal.pieces_with-requires-clause-narrow
 pieces_with-requires-clause-narrow c =
@@ -55,10 +57,11 @@ loop-piece-preserved c =
       made = of_more g params (λ v M. PairHas pairing M (elements_of_all params others v))
           (λ v. first_additive pairing (elements_of_all params others v)) (All IsPlain pieces × All IsPlain others) pieces i piece low
           c.piece-item.is (IsPlain piece × All IsPlain others)
-          (λ plain. (item_has IsPlain pieces i piece low c.piece-item.is plain.0, plain.1)) c.loop-piece.meter so_far.charged
+          (λ plain. (item_has IsPlain pieces i piece low c.piece-item.is plain.0, plain.1)) c.loop-piece.meter so_far.used.charged
           c.loop-piece.made.items c.in_ok-pieces_with.field-0.items c.append.new.pieces.items c.in_ok-append.ensures so_far.made
           c.in_ok-pieces_with.ensures.made;
-      charged = IsCharged_trans g c.loop-piece.meter c.pieces_with.new.meter so_far.charged c.in_ok-pieces_with.ensures.meter;
+      used = piece_pays (are_paired pairing) pieces piece i low c.piece-item.is (spaces_of others) g c.loop-piece.meter
+          c.pieces_with.new.meter so_far.used c.in_ok-pieces_with.ensures.units;
     }
 
 pub returns-clause-made : goal.returns-clause-made

@@ -1,6 +1,7 @@
 use Rattle.std.proofs.Common.{◌≡◌, ap, sym, ◌∙◌, subst, refl, [], length}
-use Rattle.std.proofs.lemmas.Result.{IfOk-weaker}
-use Rattle.isl_meter.proofs.CutLemmas.{IsCharged-unit}
+use Rattle.std.proofs.lemmas.Bool.{false≢true}
+use Rattle.std.proofs.lemmas.Result.{IfOk-weaker, MatchResult-weaker}
+use Rattle.isl_meter.proofs.CutLemmas.{IsCharged-unit, IsCutBy-after}
 use Rattle.isl_space.specs.Form.{Form, width_of}
 use Rattle.isl_space.specs.Shape.{form_of}
 use Rattle.isl_space.specs.Space.{space_form_of}
@@ -10,6 +11,8 @@ use Rattle.isl_space.specs.declared.shape.Shape.{Shape}
 use Rattle.isl_piece.specs.System.{IsSystemWithin}
 use Rattle.isl_union.proofs.MeetSteps.{bits_after_unit}
 use Rattle.isl_relation.specs.Maps.{JoinHas}
+use Rattle.isl_relation.specs.Together.{are_linked}
+use Rattle.isl_relation.proofs.TogetherLaws.{apart_free, not_linked, unit_pays}
 use Rattle.isl_images.specs.Made.{elements_of, ArePiecesOf, IsPlain}
 use Rattle.isl_images.specs.Shadow.{IsShadow}
 use Rattle.isl_images.specs.Shift.{IsOfBoth}
@@ -79,3 +82,25 @@ returns-clause-made c =
     (λ v e. join_same g params p q x y z first_lies second_lies c.requires.first c.requires.second both of v e)
     (of_before g h params (both.definitions ≡ []) shadow made.items (IsCharged-unit g h c.in_ok-unit.ensures.1) are))
     told
+
+pub returns-then-not-same-clause-units : goal.returns-then-not-same-clause-units
+returns-then-not-same-clause-units c =
+    let x = form_of c.in-Map-Map.from.value in
+    let y = form_of c.in-Map-Map.middle.value in
+    let u = form_of c.in-Map-Map.other.value in
+    let w = form_of c.in-Map-Map.to.value in
+    let differ : ¬ (y ≡ u) =
+    λ e. false≢true (c.if-not-same.ensures.1 (ap form_of c.deref.ensures ∙ e ∙ ap form_of (sym c.deref-2.ensures))) in
+    apart_free are_linked c.args.first.now.space c.args.second.now.space c.args.meter.now
+    (not_linked c.args.first.now.space c.args.second.now.space x y u w (sym c.space.ensures ∙ ap space_form_of c.in-Map-Map.is-0)
+    (sym c.space-2.ensures ∙ ap space_form_of c.in-Map-Map.is-1) differ)
+
+pub returns-clause-units : goal.returns-clause-units
+returns-clause-units c =
+    let g = c.args.meter.now in
+    let h = c.unit.new.self in
+    let k = c.pieces_without.new.meter in
+    let e = c.in_ok-unit.ensures.1 in
+    MatchResult-weaker c.pieces_without.result c.pieces_without.ensures.meter
+    (λ made p. unit_pays are_linked c.args.first.now.space c.args.second.now.space g h k e p)
+    (λ cut p. IsCutBy-after g h k cut (IsCharged-unit g h e) p)

@@ -8,3 +8,9 @@ returns-in-Apply-clause-made c = rw c.in-Apply.is c.applied.ensures.made
 
 pub returns-in-Join-clause-made : goal.returns-in-Join-clause-made
 returns-in-Join-clause-made c = rw c.in-Join.is c.joined.ensures.made
+
+pub returns-in-Apply-clause-units : goal.returns-in-Apply-clause-units
+returns-in-Apply-clause-units c = rw c.in-Apply.is c.applied.ensures.units
+
+pub returns-in-Join-clause-units : goal.returns-in-Join-clause-units
+returns-in-Join-clause-units c = rw c.in-Join.is c.joined.ensures.units

@@ -1,8 +1,9 @@
+use Rattle.std.proofs.Common.{◌∙◌, ap, ap₂, arith, ◌++◌}
 use Rattle.std.specs.List.{range_with_len}
-use Rattle.isl_union.proofs.PlacesLaws.{range_more}
 use Rattle.isl_images.proofs.shift.shifted_places.Goals as goal
 
-pub loop-offset-preserved : goal.loop-offset-preserved
-loop-offset-preserved c =
-    range_more c.loop-offset.places.items c.push.new.self.items (range_with_len 0 c.args.shift.stay) c.args.shift.start c.loop-offset.offset
-    c.loop-offset.invariant c.in_ok-push.ensures.items
+pub returns : goal.returns
+returns c =
+    c.in_ok-append.ensures.items
+    ∙ ap₂ (λ l m. l ++ m) (c.in_ok-places.ensures ∙ ap (range_with_len 0) (omega arith))
+    (c.in_ok-behind.ensures ∙ ap (range_with_len c.args.shift.start) (omega arith))

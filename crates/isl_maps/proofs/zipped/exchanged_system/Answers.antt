@@ -1,5 +1,4 @@
-use Rattle.std.proofs.Common.{◌≡◌, ◌∙◌, ap, refl, ◌+◌, ◌-◌, ◌++◌}
-use Rattle.std.specs.List.{range_with_len}
+use Rattle.std.proofs.Common.{◌≡◌, ◌∙◌, ap₂, refl, ◌+◌, ◌++◌}
 use Rattle.std.proofs.lemmas.Result.{IfOk-weaker}
 use Rattle.isl_piece.specs.Placed.{placed_system}
 use Rattle.isl_maps.specs.Places.{exchanged_system}
@@ -11,8 +10,8 @@ placed-requires c =
     let run = c.args.before + c.args.first + c.args.second in
     exchanged_inside c.args.before c.args.first c.args.second c.args.own.now c.requires c.free-free.result run c.as_slice.result.now
     c.free-free.ensures refl
-    (c.as_slice.ensures.value ∙ c.in_ok-push_places.ensures
-    ∙ ap (λ l. l ++ range_with_len run (c.free-free.result - run)) c.in_ok-places.ensures)
+    (c.as_slice.ensures.value ∙ c.in_ok-append.ensures.items
+    ∙ ap₂ (λ l m. l ++ m) c.in_ok-places.ensures c.in_ok-behind.ensures)
 
 pub returns : goal.returns
 returns c =
@@ -21,6 +20,6 @@ returns c =
     (λ made. made ≡ exchanged_system c.args.before c.args.first c.args.second c.args.own.now)
     (λ made is. exchanged_is c.args.before c.args.first c.args.second c.args.own.now c.requires c.free-free.result run c.as_slice.result.now
     c.free-free.ensures refl
-    (c.as_slice.ensures.value ∙ c.in_ok-push_places.ensures
-    ∙ ap (λ l. l ++ range_with_len run (c.free-free.result - run)) c.in_ok-places.ensures) made is)
+    (c.as_slice.ensures.value ∙ c.in_ok-append.ensures.items
+    ∙ ap₂ (λ l m. l ++ m) c.in_ok-places.ensures c.in_ok-behind.ensures) made is)
     c.placed.ensures.exact

@@ -25,11 +25,11 @@ returns-in_err-images-clause-units c =
 
 pub join-requires-clause-first : goal.join-requires-clause-first
 join-requires-clause-first c =
-    within_later c.args.meter.now c.apply.new.meter c.args.argument.now c.in_ok-images.ensures.units.1 c.requires.argument
+    within_later c.args.meter.now c.apply.new.meter c.args.argument.now c.in_ok-images.ensures.units.1.charged c.requires.argument
 
 pub join-requires-clause-second : goal.join-requires-clause-second
 join-requires-clause-second c =
-    within_later c.args.meter.now c.apply.new.meter c.args.map.now c.in_ok-images.ensures.units.1 c.requires.map
+    within_later c.args.meter.now c.apply.new.meter c.args.map.now c.in_ok-images.ensures.units.1.charged c.requires.map
 
 pub returns-in_err-followed-clause-units : goal.returns-in_err-followed-clause-units
 returns-in_err-followed-clause-units c =
@@ -46,19 +46,19 @@ returns-in_err-followed-clause-units c =
     let fault = c.in_err-followed.field-0.0 in
     let p = err_from_is_err_and c.from_residual-in_err-followed.result c.from_residual-in_err-followed.ensures.1 in
     rw (p.1, p.2)
-    (why_after names Wide true c.args.meter.now c.apply.new.meter c.join.new.meter fault c.in_ok-images.ensures.units.1
+    (why_after names Wide true c.args.meter.now c.apply.new.meter c.join.new.meter fault c.in_ok-images.ensures.units.1.charged
     (why_wider turned names Wide Wide true c.apply.new.meter c.join.new.meter fault few (λ wide. wide)
     (why_formed turned Wide c.apply.new.meter c.join.new.meter _ wider fault c.in_err-followed.ensures.units)))
 
 pub union-requires-clause-own : goal.union-requires-clause-own
 union-requires-clause-own c =
-    let charged = IsCharged_trans c.args.meter.now c.apply.new.meter c.join.new.meter c.in_ok-images.ensures.units.1
-    c.in_ok-followed.ensures.units.2 in
+    let charged = IsCharged_trans c.args.meter.now c.apply.new.meter c.join.new.meter c.in_ok-images.ensures.units.1.charged
+    c.in_ok-followed.ensures.units.2.charged in
     within_later c.args.meter.now c.join.new.meter c.in_ok-images.images charged c.in_ok-images.ensures.numbers
 
 pub union-requires-clause-other : goal.union-requires-clause-other
 union-requires-clause-other c =
-    within_later c.apply.new.meter c.join.new.meter c.in_ok-followed.followed c.in_ok-followed.ensures.units.2
+    within_later c.apply.new.meter c.join.new.meter c.in_ok-followed.followed c.in_ok-followed.ensures.units.2.charged
     c.in_ok-followed.ensures.numbers
 
 -- ---- the value
@@ -88,7 +88,7 @@ returns-clause-written c =
 pub returns-clause-numbers : goal.returns-clause-numbers
 returns-clause-numbers c =
     c.union.ensures.numbers _ c.in_ok-images.ensures.numbers
-    (within_before c.args.meter.now c.apply.new.meter c.in_ok-followed.followed c.in_ok-images.ensures.units.1
+    (within_before c.args.meter.now c.apply.new.meter c.in_ok-followed.followed c.in_ok-images.ensures.units.1.charged
     c.in_ok-followed.ensures.numbers)
 
 pub returns-clause-narrow : goal.returns-clause-narrow
@@ -109,7 +109,7 @@ returns-clause-units c =
     let Wide = PairsWide ApplicationForms (Has map) (Has argument) in
     let same : joint ≡ names =
     ap₂ joined c.in_ok-images.ensures.params c.in_ok-followed.ensures.params ∙ joined-turned map.params argument.params one two in
-    let charged = IsCharged_trans c.args.meter.now c.apply.new.meter c.join.new.meter c.in_ok-images.ensures.units.1
-    c.in_ok-followed.ensures.units.2 in
+    let charged = IsCharged_trans c.args.meter.now c.apply.new.meter c.join.new.meter c.in_ok-images.ensures.units.1.charged
+    c.in_ok-followed.ensures.units.2.charged in
     later_units names joint Wide true c.args.meter.now c.join.new.meter c.union.new.meter c.union.result charged same
     (plain_units joint Wide c.join.new.meter c.union.new.meter true _ c.union.result c.union.ensures.meter c.union.ensures.faults)

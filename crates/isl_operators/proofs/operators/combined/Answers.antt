@@ -8,7 +8,7 @@ use Rattle.isl_relation.specs.Formed.{FormsJoin, FormsUniversal}
 use Rattle.isl_relation.specs.Wide.{PairsTooWide}
 use Rattle.isl_operators.specs.Operations.{OperatorHas}
 use Rattle.isl_operators.specs.Formed.{OperatorForms, PairsWide}
-use Rattle.isl_operators.proofs.FaultLaws.{formed_units, narrow_units, plain_units, wider_units}
+use Rattle.isl_operators.proofs.FaultLaws.{formed_units, plain_units, wider_units, worked_units}
 use Rattle.isl_operators.proofs.MadeLaws.{always, formed_narrow, intersection_of, operator_says, over}
 use Rattle.isl_operators.proofs.WideLaws.{pairs_narrow, pairs_wide}
 use Rattle.isl_operators.proofs.operators.combined.Goals as goal
@@ -106,7 +106,7 @@ returns-in-RangeIntersection c =
       over names Elements r made.params made.elements,
       made.elements,
       always r (¬ Wide) (λ wide. wide.5),
-      narrow_units names Wide g h _ (λ done. done.1) r made.units,
+      worked_units names Wide g h _ r made.units,
     ) in
     record {
       written = says.0;
@@ -134,7 +134,7 @@ returns-in-RangeDifference c =
       over names Elements r made.params made.elements,
       made.elements,
       always r (¬ Wide) (λ wide. wide.5),
-      narrow_units names Wide g h _ (λ done. done.1) r made.units,
+      worked_units names Wide g h _ r made.units,
     ) in
     record {
       written = says.0;

@@ -27,11 +27,11 @@ returns-in_err-sets-clause-units c =
 
 pub cross_maps-requires-clause-own : goal.cross_maps-requires-clause-own
 cross_maps-requires-clause-own c =
-    within_later c.args.meter.now c.cross_sets.new.meter c.args.left.now c.in_ok-sets.ensures.units.2 c.requires.left
+    within_later c.args.meter.now c.cross_sets.new.meter c.args.left.now c.in_ok-sets.ensures.units.2.charged c.requires.left
 
 pub cross_maps-requires-clause-other : goal.cross_maps-requires-clause-other
 cross_maps-requires-clause-other c =
-    within_later c.args.meter.now c.cross_sets.new.meter c.args.right.now c.in_ok-sets.ensures.units.2 c.requires.right
+    within_later c.args.meter.now c.cross_sets.new.meter c.args.right.now c.in_ok-sets.ensures.units.2.charged c.requires.right
 
 pub returns-in_err-maps-clause-units : goal.returns-in_err-maps-clause-units
 returns-in_err-maps-clause-units c =
@@ -45,18 +45,19 @@ returns-in_err-maps-clause-units c =
     let p = err_from_is_err_and c.from_residual-in_err-maps.result c.from_residual-in_err-maps.ensures.1 in
     rw (p.1, p.2)
     (why_after names Wide true c.args.meter.now c.cross_sets.new.meter c.cross_maps.new.meter c.in_err-maps.field-0.0
-    c.in_ok-sets.ensures.units.2
+    c.in_ok-sets.ensures.units.2.charged
     (why_formed names Wide c.cross_sets.new.meter c.cross_maps.new.meter _ wider c.in_err-maps.field-0.0 c.in_err-maps.ensures.units))
 
 pub union-requires-clause-own : goal.union-requires-clause-own
 union-requires-clause-own c =
-    let charged = IsCharged_trans c.args.meter.now c.cross_sets.new.meter c.cross_maps.new.meter c.in_ok-sets.ensures.units.2
-    c.in_ok-maps.ensures.units.2 in
+    let charged = IsCharged_trans c.args.meter.now c.cross_sets.new.meter c.cross_maps.new.meter c.in_ok-sets.ensures.units.2.charged
+    c.in_ok-maps.ensures.units.2.charged in
     within_later c.args.meter.now c.cross_maps.new.meter c.in_ok-sets.sets charged c.in_ok-sets.ensures.numbers
 
 pub union-requires-clause-other : goal.union-requires-clause-other
 union-requires-clause-other c =
-    within_later c.cross_sets.new.meter c.cross_maps.new.meter c.in_ok-maps.maps c.in_ok-maps.ensures.units.2 c.in_ok-maps.ensures.numbers
+    within_later c.cross_sets.new.meter c.cross_maps.new.meter c.in_ok-maps.maps c.in_ok-maps.ensures.units.2.charged
+    c.in_ok-maps.ensures.numbers
 
 pub returns-clause-params : goal.returns-clause-params
 returns-clause-params c =
@@ -76,7 +77,8 @@ returns-clause-elements c = λ v e.
 pub returns-clause-numbers : goal.returns-clause-numbers
 returns-clause-numbers c =
     c.union.ensures.numbers _ c.in_ok-sets.ensures.numbers
-    (within_before c.args.meter.now c.cross_sets.new.meter c.in_ok-maps.maps c.in_ok-sets.ensures.units.2 c.in_ok-maps.ensures.numbers)
+    (within_before c.args.meter.now c.cross_sets.new.meter c.in_ok-maps.maps c.in_ok-sets.ensures.units.2.charged
+    c.in_ok-maps.ensures.numbers)
 
 pub returns-clause-narrow : goal.returns-clause-narrow
 returns-clause-narrow c =
@@ -95,7 +97,7 @@ returns-clause-units c =
     let joint = joined c.in_ok-sets.sets.params c.in_ok-maps.maps.params in
     let Wide = PairsWide (OperatorForms b.Cross) (Has left) (Has right) in
     let same : joint ≡ names = ap₂ joined c.in_ok-sets.ensures.params c.in_ok-maps.ensures.params ∙ joined-self names in
-    let charged = IsCharged_trans c.args.meter.now c.cross_sets.new.meter c.cross_maps.new.meter c.in_ok-sets.ensures.units.2
-    c.in_ok-maps.ensures.units.2 in
+    let charged = IsCharged_trans c.args.meter.now c.cross_sets.new.meter c.cross_maps.new.meter c.in_ok-sets.ensures.units.2.charged
+    c.in_ok-maps.ensures.units.2.charged in
     later_units names joint Wide true c.args.meter.now c.cross_maps.new.meter c.union.new.meter c.union.result charged same
     (plain_units joint Wide c.cross_maps.new.meter c.union.new.meter true _ c.union.result c.union.ensures.meter c.union.ensures.faults)

@@ -4,7 +4,7 @@ use Rattle.isl_space.specs.Shape.{form_of}
 use Rattle.isl_space.specs.Space.{space_form_of}
 use Rattle.isl_space.specs.SpaceForm.{map_of, set_of}
 use Rattle.isl_piece.specs.Piece.{PieceView}
-use Rattle.isl_images.proofs.WideLaws.{none_all, none_more}
+use Rattle.isl_relation.proofs.SeekLaws.{none_all, none_more}
 use Rattle.isl_operators.proofs.SpaceLaws.{IsOfSets, sets_exactly}
 use Rattle.isl_operators.proofs.operators.has_sets.Goals as goal
 

@@ -54,13 +54,13 @@ returns-in_err-begun-clause-units c =
 
 pub union-requires-clause-own : goal.union-requires-clause-own
 union-requires-clause-own c =
-    within_later c.meet.new.meter c.restrict_domain.new.meter c.in_ok-begun.begun c.in_ok-begun.ensures.units.1
+    within_later c.meet.new.meter c.restrict_domain.new.meter c.in_ok-begun.begun c.in_ok-begun.ensures.units.1.charged
     c.in_ok-begun.ensures.numbers
 
 pub union-requires-clause-other : goal.union-requires-clause-other
 union-requires-clause-other c =
     let charged = IsCharged_trans c.args.meter.now c.meet.new.meter c.restrict_domain.new.meter c.in_ok-met.ensures.units.1.charged
-    c.in_ok-begun.ensures.units.1 in
+    c.in_ok-begun.ensures.units.1.charged in
     within_later c.args.meter.now c.restrict_domain.new.meter c.in_ok-met.met charged
     (c.in_ok-met.ensures.numbers _ c.requires.left c.requires.right)
 
@@ -97,6 +97,6 @@ returns-clause-units c =
     let joint = joined c.in_ok-begun.begun.params c.in_ok-met.met.params in
     let same : joint ≡ names = ap₂ joined c.in_ok-begun.ensures.params c.in_ok-met.ensures.params ∙ joined-self names in
     let charged = IsCharged_trans c.args.meter.now c.meet.new.meter c.restrict_domain.new.meter c.in_ok-met.ensures.units.1.charged
-    c.in_ok-begun.ensures.units.1 in
+    c.in_ok-begun.ensures.units.1.charged in
     later_units names joint ⊥ true c.args.meter.now c.restrict_domain.new.meter c.union.new.meter c.union.result charged same
     (plain_units joint ⊥ c.restrict_domain.new.meter c.union.new.meter true _ c.union.result c.union.ensures.meter c.union.ensures.faults)

@@ -10,7 +10,7 @@ use Rattle.isl_expr.specs.declared.tree.Binary.TheVariants as b
 use Rattle.isl_operators.specs.Operations.{OperatorHas}
 use Rattle.isl_operators.specs.Made.{HasMaps, HasSets}
 use Rattle.isl_operators.proofs.ElementLaws.{always_pair, left_alone, left_begun, left_without, never_begins}
-use Rattle.isl_operators.proofs.FaultLaws.{later_units, narrow_units, why_narrow, within_before, within_later}
+use Rattle.isl_operators.proofs.FaultLaws.{later_units, narrow_units, why_narrow, worked_units, within_before, within_later}
 use Rattle.isl_operators.proofs.NamesLaws.{joined-again, joined-second}
 use Rattle.isl_operators.proofs.operators.subtracted.Goals as goal
 
@@ -140,5 +140,5 @@ returns-clause-units c =
     ∙ joined-second left right kept.0.params.distinct kept.1.params.distinct in
     later_units (joined left right) joint ⊥ true c.args.meter.now c.minus-2.new.meter c.remove_domain.new.meter c.remove_domain.result
     c.in_ok-rest.ensures.units.1 same
-    (narrow_units joint ⊥ c.minus-2.new.meter c.remove_domain.new.meter _ (λ done. done.1) c.remove_domain.result
+    (worked_units joint ⊥ c.minus-2.new.meter c.remove_domain.new.meter _ c.remove_domain.result
     c.remove_domain.ensures.units)

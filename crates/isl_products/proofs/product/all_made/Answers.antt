@@ -1,5 +1,4 @@
 use Rattle.std.proofs.Common.{◌≡◌, [], Any, arith, ◌<◌, ◌≤◌, length, map}
-use Rattle.isl_meter.proofs.CutLemmas.{IsCharged_trans}
 use Rattle.isl_piece.specs.Piece.{PieceView}
 use Rattle.isl_piece.specs.System.{IsSystemWithin}
 use Rattle.isl_piece.proofs.FormedLaws.{system_within_kept}
@@ -7,7 +6,9 @@ use Rattle.isl_union.specs.KeptValue.{KeptPiece}
 use Rattle.isl_union.specs.Piece.{kept_piece}
 use Rattle.isl_union.proofs.MeetSteps.{charged_bits, item_has, pieces_later}
 use Rattle.isl_union.proofs.PiecesLaws.{plain_more}
-use Rattle.isl_products.specs.Layout.{IsWide}
+use Rattle.isl_relation.specs.Together.{spaces_of}
+use Rattle.isl_relation.proofs.TogetherLaws.{piece_pays}
+use Rattle.isl_products.specs.Layout.{IsWide, are_together}
 use Rattle.isl_products.specs.Made.{IsMadeWith}
 use Rattle.isl_products.proofs.PairLaws.{made_at_end, made_next}
 use Rattle.isl_products.proofs.WideLaws.{not_next}
@@ -17,13 +18,13 @@ pub made_with-requires-clause-piece_within : goal.made_with-requires-clause-piec
 made_with-requires-clause-piece_within c =
     let low : c.loop-piece.piece-index < length c.args.pieces.now = omega arith in
     system_within_kept c.loop-piece.meter c.args.meter.now c.piece-item.result.system
-    (charged_bits c.args.meter.now c.loop-piece.meter c.loop-piece.invariant.charged)
+    (charged_bits c.args.meter.now c.loop-piece.meter c.loop-piece.invariant.used.charged)
     (item_has (λ p. IsSystemWithin c.args.meter.now p.system) c.args.pieces.now c.loop-piece.piece-index c.piece-item.result low
     c.piece-item.is c.requires.pieces_within)
 
 pub made_with-requires-clause-others_within : goal.made_with-requires-clause-others_within
 made_with-requires-clause-others_within c =
-    pieces_later c.args.meter.now c.loop-piece.meter c.args.others.now c.loop-piece.invariant.charged c.requires.others_within
+    pieces_later c.args.meter.now c.loop-piece.meter c.args.others.now c.loop-piece.invariant.used.charged c.requires.others_within
 
 pub made_with-requires-clause-narrow : goal.made_with-requires-clause-narrow
 made_with-requires-clause-narrow c =
@@ -45,14 +46,16 @@ loop-piece-preserved c =
     let one = c.in_ok-made_with.ensures in
     record {
       made = made_next g h params (IsMadeWith c.args.product params (map kept_piece others)) pieces piece i
-          c.loop-piece.made.items c.in_ok-made_with.field-0.items c.append.new.pieces.items so_far.charged low c.piece-item.is so_far.made
+          c.loop-piece.made.items c.in_ok-made_with.field-0.items c.append.new.pieces.items so_far.used.charged low c.piece-item.is
+          so_far.made
           c.in_ok-append.ensures one.elements one.sound one.numbers;
       definitions = λ own all.
           let P : PieceView → Type 0 = λ p. p.system.definitions ≡ [] in
           let here = item_has P pieces i piece low c.piece-item.is own in
           plain_more c.loop-piece.made.items c.in_ok-made_with.field-0.items c.append.new.pieces.items c.in_ok-append.ensures
           (so_far.definitions own all) (one.definitions here all);
-      charged = IsCharged_trans g h c.made_with.new.meter so_far.charged one.meter;
+      used = piece_pays (are_together c.args.product) pieces piece i low c.piece-item.is (spaces_of others) g h c.made_with.new.meter
+          so_far.used one.units;
     }
 
 pub returns-clause-elements : goal.returns-clause-elements

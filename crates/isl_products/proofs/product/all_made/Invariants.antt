@@ -1,7 +1,9 @@
 use Rattle.std.proofs.Common.{◌≡◌, [], All, map, take}
-use Rattle.isl_meter.specs.Gauge.{IsCharged}
+use Rattle.isl_relation.specs.Together.{pairs_of, spaces_of}
+use Rattle.isl_union.specs.Fault.{IsChargedFrom}
 use Rattle.isl_union.specs.Piece.{kept_piece}
 use Rattle.isl_union.proofs.PiecesLaws.{AreMade}
+use Rattle.isl_products.specs.Layout.{are_together}
 use Rattle.isl_products.specs.Made.{IsMadeWith}
 use Rattle.isl_products.proofs.product.all_made.Given as goal
 
@@ -11,5 +13,6 @@ invariant-loop-piece l = record {
       (map kept_piece (take l.piece-index l.pieces)) l.made.items;
   definitions : All (λ piece. piece.system.definitions ≡ []) l.pieces → All (λ other. other.system.definitions ≡ []) l.others
       → All (λ piece. piece.definitions ≡ []) (map kept_piece l.made.items);
-  charged : IsCharged l.fn.meter l.meter;
+  used : IsChargedFrom (pairs_of (are_together l.product) (take l.piece-index (spaces_of l.pieces)) (spaces_of l.others)) l.fn.meter
+      l.meter;
 }

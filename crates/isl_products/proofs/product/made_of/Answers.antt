@@ -1,7 +1,7 @@
 use Rattle.std.proofs.Common.{◌≡◌, ◌↔◌, sym, ap, ◌∙◌, subst, [], ◌∷◌, ◌++◌, All, Any, map}
 use Rattle.std.proofs.lemmas.List.Elements.{All-cons, All-nil}
-use Rattle.std.proofs.lemmas.Result.{IfOk-weaker}
-use Rattle.isl_meter.proofs.CutLemmas.{IsCharged-unit}
+use Rattle.std.proofs.lemmas.Result.{IfOk-weaker, MatchResult-weaker}
+use Rattle.isl_meter.proofs.CutLemmas.{IsCharged-unit, IsCutBy-after}
 use Rattle.isl_space.specs.Space.{space_form_of}
 use Rattle.isl_piece.specs.System.{IsSystemWithin}
 use Rattle.isl_union.specs.KeptValue.{HasElement}
@@ -9,9 +9,10 @@ use Rattle.isl_union.specs.Piece.{kept_piece}
 use Rattle.isl_union.specs.Pieces.{IsOfAny}
 use Rattle.isl_union.proofs.MeetSteps.{bits_after_unit}
 use Rattle.isl_union.proofs.PiecesLaws.{small_before, through}
-use Rattle.isl_products.specs.Layout.{layout_view}
+use Rattle.isl_relation.proofs.TogetherLaws.{apart_free, unit_pays}
+use Rattle.isl_products.specs.Layout.{are_together, layout_view}
 use Rattle.isl_products.specs.Made.{IsMadeOf}
-use Rattle.isl_products.proofs.LayoutLaws.{forms_from, layout_formed, layout_picks}
+use Rattle.isl_products.proofs.LayoutLaws.{forms_from, forms_none, layout_formed, layout_picks, not_together}
 use Rattle.isl_products.proofs.PairLaws.{joined_made}
 use Rattle.isl_products.proofs.product.made_of.Goals as goal
 
@@ -89,3 +90,21 @@ returns-clause-numbers c =
     IfOk-weaker c.live_pieces_in.result _ _
     (λ kept all. small_before g h (map kept_piece kept.items) (IsCharged-unit g h c.in_ok-unit.ensures.1) all)
     c.live_pieces_in.ensures.numbers
+
+pub returns-in_default-clause-units : goal.returns-in_default-clause-units
+returns-in_default-clause-units c =
+    let a = c.args.a.now.space in
+    let b = c.args.b.now.space in
+    let none = forms_none c.args.product a b (space_form_of c.space.result.now) (space_form_of c.space-2.result.now)
+    c.in_ok-layout.field-0 c.in_ok-layout.ensures c.in_default.is c.space.ensures c.space-2.ensures in
+    apart_free (are_together c.args.product) a b c.args.meter.now (not_together c.args.product a b none)
+
+pub returns-clause-units : goal.returns-clause-units
+returns-clause-units c =
+    let g = c.args.meter.now in
+    let h = c.unit.new.self in
+    let k = c.live_pieces_in.new.meter in
+    let e = c.in_ok-unit.ensures.1 in
+    MatchResult-weaker c.live_pieces_in.result c.live_pieces_in.ensures.meter
+    (λ made p. unit_pays (are_together c.args.product) c.args.a.now.space c.args.b.now.space g h k e p)
+    (λ cut p. IsCutBy-after g h k cut (IsCharged-unit g h e) p)

@@ -1,12 +1,12 @@
 use Rattle.std.proofs.Common.{◌≡◌, [], arith, ◌<◌, ◌≤◌, length}
-use Rattle.isl_meter.proofs.CutLemmas.{IsCharged_trans}
 use Rattle.isl_piece.specs.Piece.{PieceView}
 use Rattle.isl_piece.specs.System.{IsSystemWithin}
 use Rattle.isl_piece.proofs.FormedLaws.{system_within_kept}
 use Rattle.isl_union.specs.Piece.{kept_piece}
 use Rattle.isl_union.proofs.MeetSteps.{charged_bits, item_has}
 use Rattle.isl_union.proofs.PiecesLaws.{plain_more}
-use Rattle.isl_products.specs.Layout.{IsWide}
+use Rattle.isl_relation.proofs.TogetherLaws.{partner_pays}
+use Rattle.isl_products.specs.Layout.{IsWide, are_together}
 use Rattle.isl_products.specs.Made.{IsMadeOf}
 use Rattle.isl_products.proofs.PairLaws.{made_at_end, made_next}
 use Rattle.isl_products.proofs.WideLaws.{not_next}
@@ -15,13 +15,13 @@ use Rattle.isl_products.proofs.product.made_with.Goals as goal
 pub made_of-requires-clause-own_within : goal.made_of-requires-clause-own_within
 made_of-requires-clause-own_within c =
     system_within_kept c.loop-other.meter c.args.meter.now c.args.piece.now.system
-    (charged_bits c.args.meter.now c.loop-other.meter c.loop-other.invariant.charged) c.requires.piece_within
+    (charged_bits c.args.meter.now c.loop-other.meter c.loop-other.invariant.used.charged) c.requires.piece_within
 
 pub made_of-requires-clause-other_within : goal.made_of-requires-clause-other_within
 made_of-requires-clause-other_within c =
     let low : c.loop-other.other-index < length c.args.others.now = omega arith in
     system_within_kept c.loop-other.meter c.args.meter.now c.other-item.result.system
-    (charged_bits c.args.meter.now c.loop-other.meter c.loop-other.invariant.charged)
+    (charged_bits c.args.meter.now c.loop-other.meter c.loop-other.invariant.used.charged)
     (item_has (λ p. IsSystemWithin c.args.meter.now p.system) c.args.others.now c.loop-other.other-index c.other-item.result low
     c.other-item.is c.requires.others_within)
 
@@ -44,14 +44,16 @@ loop-other-preserved c =
     let one = c.in_ok-made_of.ensures in
     record {
       made = made_next g h params (λ v e b. IsMadeOf c.args.product params v e (kept_piece c.args.piece.now) b) others other i
-          c.loop-other.made.items c.in_ok-made_of.field-0.items c.append.new.pieces.items so_far.charged low c.other-item.is so_far.made
+          c.loop-other.made.items c.in_ok-made_of.field-0.items c.append.new.pieces.items so_far.used.charged low c.other-item.is
+          so_far.made
           c.in_ok-append.ensures one.elements one.sound one.numbers;
       definitions = λ own all.
           let P : PieceView → Type 0 = λ p. p.system.definitions ≡ [] in
           let here = item_has P others i other low c.other-item.is all in
           plain_more c.loop-other.made.items c.in_ok-made_of.field-0.items c.append.new.pieces.items c.in_ok-append.ensures
           (so_far.definitions own all) (one.definitions own here);
-      charged = IsCharged_trans g h c.made_of.new.meter so_far.charged one.meter;
+      used = partner_pays (are_together c.args.product) others other i low c.other-item.is c.args.piece.now.space g h c.made_of.new.meter
+          so_far.used one.units;
     }
 
 pub returns-clause-elements : goal.returns-clause-elements

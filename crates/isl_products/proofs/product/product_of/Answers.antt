@@ -1,8 +1,11 @@
-use Rattle.std.proofs.Common.{map}
+use Rattle.std.proofs.Common.{map, subst}
+use Rattle.isl_relation.proofs.TogetherLaws.{same_pairs}
+use Rattle.isl_union.specs.Fault.{IsChargedFrom}
 use Rattle.isl_union.specs.KeptValue.{Has}
 use Rattle.isl_union.specs.Minus.{IsAlignedPair}
 use Rattle.isl_union.specs.Piece.{kept_piece}
 use Rattle.isl_union.proofs.PiecesLaws.{through}
+use Rattle.isl_products.specs.Layout.{are_together}
 use Rattle.isl_products.specs.Made.{AreWide, IsWidePair, ProductHas}
 use Rattle.isl_products.proofs.PairLaws.{product_has, value_has, value_kept, value_numbers}
 use Rattle.isl_products.proofs.WideLaws.{over_narrow, wide_pieces}
@@ -47,3 +50,22 @@ pub returns-clause-numbers : goal.returns-clause-numbers
 returns-clause-numbers c =
     value_numbers c.in_ok-pair.pair.params c.in_ok-made.made.items c.from_normal.result c.from_normal.ensures c.args.meter.now
     c.in_ok-made.ensures.numbers
+
+pub returns-clause-units : goal.returns-clause-units
+returns-clause-units c =
+    let g = c.args.meter.now in
+    let h = c.all_made.new.meter in
+    let a = c.args.a.now in
+    let b = c.args.b.now in
+    let together = are_together c.args.product in
+    let pair = c.in_ok-pair.pair in
+    let used = rw (c.as_slice-own.ensures.value, c.as_slice-others.ensures.value) at c.in_ok-made.ensures.units in
+    let none : ¬ IsWidePair c.args.product a b = λ w.
+    let wide : AreWide c.args.product (map kept_piece c.pieces-pieces.result.now) (map kept_piece c.pieces.result.now) =
+    rw (c.pieces-pieces.ensures.content, c.pieces.ensures.content) ((wide_pieces c.args.product a b).1 w) in
+    c.in_ok-ask_spaces.ensures.ok wide in (
+      c.in_ok-pair.ensures.faults,
+      none,
+      subst (λ n. IsChargedFrom n g h) (same_pairs together g a b pair.params pair.own.items pair.others.items c.in_ok-pair.ensures.exact)
+          used,
+    )

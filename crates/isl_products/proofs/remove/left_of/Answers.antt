@@ -6,6 +6,7 @@ use Rattle.isl_piece.specs.declared.system.System.{System}
 use Rattle.isl_piece.specs.System.{IsSystemWithin, free_columns}
 use Rattle.isl_difference.specs.Difference.{IsDifference}
 use Rattle.isl_union.specs.Minus.{piece_in}
+use Rattle.isl_union.proofs.CountLaws.{length_mapped}
 use Rattle.isl_products.specs.Made.{AreLeft}
 use Rattle.isl_products.proofs.RemoveLaws.{left_parts, left_whole}
 use Rattle.isl_products.proofs.remove.left_of.Goals as goal
@@ -43,3 +44,9 @@ returns-clause-exact c = λ params sound.
     λ own all. plain own (subst (All (λ (s : System). s.definitions ≡ [])) (sym c.in_ok-others.ensures) all) in
     left_parts g params piece sound systems parts c.in_ok-pieces_in.field-0.items difference each
     (c.in_ok-pieces_in.ensures ∙ ap (λ (s : SpaceForm). map (piece_in s) parts) c.space.ensures)
+
+pub returns-clause-counted : goal.returns-clause-counted
+returns-clause-counted c =
+    let count = length_mapped _ c.in_ok-left.left.items c.in_ok-pieces_in.field-0.items c.in_ok-pieces_in.ensures in
+    let counted = c.in_ok-left.ensures.counted in
+    omega (arith, count, counted)

@@ -1,9 +1,11 @@
 use Rattle.std.proofs.Common.{◌≡◌, [], arith, ◌<◌, ◌≤◌, length, map}
+use Rattle.std.proofs.lemmas.List.{take_all}
 use Rattle.isl_meter.proofs.CutLemmas.{IsCharged_trans}
 use Rattle.isl_piece.specs.Piece.{PieceView}
 use Rattle.isl_piece.specs.System.{IsSystemWithin}
 use Rattle.isl_piece.proofs.FormedLaws.{system_within_kept}
 use Rattle.isl_union.specs.Piece.{kept_piece}
+use Rattle.isl_union.proofs.CountLaws.{counted_more}
 use Rattle.isl_union.proofs.MeetSteps.{charged_bits, item_has, pieces_later}
 use Rattle.isl_union.proofs.PiecesLaws.{plain_more}
 use Rattle.isl_products.specs.Made.{IsApartFrom}
@@ -45,6 +47,8 @@ loop-piece-preserved c =
           plain_more c.loop-piece.left.items c.in_ok-piece_without.field-0.items c.append.new.pieces.items c.in_ok-append.ensures
           (so_far.definitions own all) (one.definitions here all);
       charged = IsCharged_trans g h c.piece_without.new.meter so_far.charged one.meter;
+      counted = counted_more g h c.piece_without.new.meter pieces piece i c.loop-piece.left.items c.in_ok-piece_without.field-0.items
+          c.append.new.pieces.items low c.in_ok-append.ensures so_far.counted one.counted;
     }
 
 pub returns-clause-elements : goal.returns-clause-elements
@@ -52,3 +56,8 @@ returns-clause-elements c v e =
     let end : length c.args.pieces.now ≤ c.loop-piece.piece-index = omega arith in
     (made_at_end c.args.meter.now c.args.params.now (IsApartFrom c.args.place c.args.params.now (map kept_piece c.args.others.now))
     c.args.pieces.now c.loop-piece.left.items c.loop-piece.piece-index end c.loop-piece.invariant.left).elements v e
+
+pub returns-clause-counted : goal.returns-clause-counted
+returns-clause-counted c =
+    let end : length c.args.pieces.now ≤ c.loop-piece.piece-index = omega arith in
+    rw (take_all c.loop-piece.piece-index c.args.pieces.now end) at c.loop-piece.invariant.counted

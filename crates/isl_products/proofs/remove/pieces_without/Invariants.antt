@@ -1,4 +1,4 @@
-use Rattle.std.proofs.Common.{◌≡◌, [], All, map, take}
+use Rattle.std.proofs.Common.{◌≡◌, ◌+◌, ◌≤◌, [], All, length, map, take}
 use Rattle.isl_meter.specs.Gauge.{IsCharged}
 use Rattle.isl_union.specs.Piece.{kept_piece}
 use Rattle.isl_union.proofs.PiecesLaws.{AreMade}
@@ -12,4 +12,5 @@ invariant-loop-piece l = record {
   definitions : All (λ piece. piece.system.definitions ≡ []) l.pieces → All (λ other. other.system.definitions ≡ []) l.others
       → All (λ part. part.definitions ≡ []) (map kept_piece l.left.items);
   charged : IsCharged l.fn.meter l.meter;
+  counted : length l.left.items + l.fn.meter.units ≤ l.meter.units + length (take l.piece-index l.pieces);
 }

@@ -1,6 +1,9 @@
+use Rattle.std.proofs.Common.{length}
 use Rattle.isl_union.specs.KeptValue.{Has}
 use Rattle.isl_union.specs.Minus.{IsAlignedPair}
+use Rattle.isl_union.proofs.CountLaws.{counted_value}
 use Rattle.isl_union.proofs.PiecesLaws.{through}
+use Rattle.isl_union.proofs.UnitLaws.{from_charged}
 use Rattle.isl_products.specs.Made.{RemoveHas}
 use Rattle.isl_products.proofs.PairLaws.{value_has, value_kept, value_numbers}
 use Rattle.isl_products.proofs.RemoveLaws.{remove_has}
@@ -28,3 +31,13 @@ pub returns-clause-numbers : goal.returns-clause-numbers
 returns-clause-numbers c =
     value_numbers c.in_ok-pair.pair.params c.in_ok-left.left.items c.from_normal.result c.from_normal.ensures c.args.meter.now
     c.in_ok-left.ensures.numbers
+
+pub returns-clause-counted : goal.returns-clause-counted
+returns-clause-counted c =
+    let counted = rw (c.as_slice-own.ensures.value, c.in_ok-pair.ensures.count) at c.in_ok-left.ensures.counted in
+    counted_value c.args.meter.now c.pieces_without.new.meter c.in_ok-pair.pair.params c.in_ok-left.left.items c.from_normal.result
+    (length c.args.map.now.pieces) c.from_normal.ensures counted
+
+pub returns-clause-units : goal.returns-clause-units
+returns-clause-units c =
+    (c.in_ok-pair.ensures.faults, from_charged c.args.meter.now c.pieces_without.new.meter c.in_ok-left.ensures.meter)

@@ -1,0 +1,3 @@
+pub mod PointLaws
+pub mod SeekLaws
+pub mod TogetherLaws
