@@ -54,7 +54,7 @@ any_of-loop-formula-preserved t c =
     let whole : c.as_slice.result.now ≡ c.args.systems.items = grind (arith, common_steps) in
     let found : c.as_slice-in-loop-formula.result.now ≡ l.found.items = grind (arith, common_steps) in
     any_more c.args.meter.now l.meter c.restricted.new.meter c.args.scope.now c.args.systems.items c.args.holds c.args.formulas.now
-        l.formula-index
+    l.formula-index
     c.formula-item.result l.found.items inside c.formula-item.is c.begun.new.meter c.in_ok-base.base.items c.in_ok-more.more.items
     c.append.new.self.items l.invariant c.in_ok-base.ensures.2 (rw (whole, found) at c.in_ok-base.ensures.1)
     (c.in_ok-base.ensures.0 ∙ whole) c.in_ok-more.ensures
@@ -240,7 +240,7 @@ exists-returns t c =
     let kept = live_same h c.restricted.new.meter m inner (system ∷ []) (HoldsAs true (FormulaHolds c.args.body.now))
     c.in_ok-bodies.bodies.items forms (rw whole at c.in_ok-bodies.ensures) c.in_ok-forms.ensures.exact in
     exists_where g h m c.projected.new.meter c.args.scope.now inner c.args.binders.now c.args.body.now system forms
-        c.in_ok-found.found.items
+    c.in_ok-found.found.items
     c.in_ok-inner.ensures.0 c.in_ok-inner.ensures.1 kept (rw same at c.in_ok-found.ensures)
 
 -- ---- implications
@@ -282,7 +282,7 @@ implied-loop-count-preserved t c =
           let found : c.if-holds-2.found.items ≡ w.append.new.self.items = grind (arith, common_steps) in
           holds_next c.args.meter.now l.meter c.args.scope.now c.args.systems.items c.args.holds c.args.formulas.now l.count w.index-formulas-count.result
           l.holds l.systems.items l.found.items w.begun.new.meter w.restricted.new.meter c.if-holds-2.meter w.in_ok-base.base.items
-              w.in_ok-more.more.items
+          w.in_ok-more.more.items
           w.append.new.self.items c.if-holds-2.systems.items c.if-holds-2.found.items more w.index-formulas-count.is holds l.invariant
           w.in_ok-base.ensures.2 (rw (one, two) at w.in_ok-base.ensures.1) base w.in_ok-more.ensures w.in_ok-append.ensures.items meter systems found
       | implied-else-holds-2+in_ok-systems w ↦
@@ -292,7 +292,7 @@ implied-loop-count-preserved t c =
           let found : c.if-holds-2.found.items ≡ l.found.items = grind (arith, common_steps) in
           denied_next c.args.meter.now l.meter c.args.scope.now c.args.systems.items c.args.holds c.args.formulas.now l.count
           w.index-formulas-count-else-holds-2.result l.holds l.systems.items l.found.items w.restricted-else-holds-2.new.meter
-              c.if-holds-2.meter
+          c.if-holds-2.meter
           w.in_ok-systems.systems.items c.if-holds-2.systems.items c.if-holds-2.found.items more w.index-formulas-count-else-holds-2.is fails l.invariant
           w.in_ok-systems.ensures meter systems found
     ]
@@ -313,6 +313,6 @@ implied-returns t c =
     let l = c.loop-count in
     let last : l.count ≡ 0 = grind (arith, common_steps) in
     implied_last c.args.meter.now l.meter c.restricted-2.new.meter c.args.scope.now c.args.systems.items c.args.holds c.args.formulas.now
-        l.count
+    l.count
     c.index-formulas-0.result l.holds l.systems.items l.found.items c.in_ok-first.first.items c.append-2.new.self.items last c.index-formulas-0.is
     l.invariant c.in_ok-first.ensures c.in_ok-append-2.ensures.items

@@ -17,7 +17,7 @@ normalise-requires c =
     let rest = c.next.new.self.rest.items in
     let next : before ≡ c.in-Some.system ∷ rest = grind arith in
     (done_over c.args.meter.now c.loop-system.meter c.args.scope.now c.args.systems.items before rest c.in-Some.system
-        (λ point env. Unit {0})
+    (λ point env. Unit {0})
     c.loop-system.forms.items next c.loop-system.invariant.done c.requires.over).within
 
 pub loop-system-preserved-in-Continue-branch-2 : goal.loop-system-preserved-in-Continue-branch-2
