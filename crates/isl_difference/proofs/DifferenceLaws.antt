@@ -1,27 +1,32 @@
 -- One system without others.
 use Rattle.std.proofs.Common.{◌≡◌, ◌≢◌, ◌↔◌, ◌⊎◌, inl, inr, refl, sym, ap, ◌∙◌, subst, arith, ℕ, zero, suc, ◌+◌, ◌<◌, ◌≤◌, ℤ, pos, List, [], ◌∷◌}
-use Rattle.std.proofs.Common.{◌++◌, length, length-append, get_or, take}
+use Rattle.std.proofs.Common.{◌++◌, append-nil, length, length-append, get_or, take, Bool, false}
 use Rattle.std.specs.List.{All, Any, AllPairs}
-use Rattle.std.specs.Prelude.{IfOk, MatchResult, Result, Ok, Err}
+use Rattle.std.specs.Prelude.{IfOk, IsTrue, MatchResult, Result, Ok, Err}
+use Rattle.std.proofs.lemmas.Bool.{false≢true}
 use Rattle.std.proofs.lemmas.List.{take_more, take_all}
 use Rattle.std.proofs.lemmas.List.Elements.{All-nil, All-cons, All-append}
 use Rattle.isl_math.proofs.ListLaws.{All-last, Any-parts, Any-left, Any-right, Any-one, Any-first, Any-none}
-use Rattle.isl_meter.specs.Gauge.{Gauge, IsCharged}
-use Rattle.isl_meter.proofs.CutLemmas.{IsCharged_refl, IsCharged_trans, charges}
+use Rattle.isl_meter.specs.declared.Cut.{Cut}
+use Rattle.isl_meter.specs.declared.Cut.TheVariants.{NoMemory}
+use Rattle.isl_meter.specs.Gauge.{Gauge, IsAnsweredWithin, IsCharged}
+use Rattle.isl_meter.proofs.CutLemmas.{IsAnsweredWithin-ok, IsCharged_refl, IsCharged_trans, charges}
 use Rattle.isl_piece.specs.declared.row.Row.{Row}
 use Rattle.isl_piece.specs.declared.definition.Definition.{Definition}
 use Rattle.isl_piece.specs.declared.system.System.{System}
 use Rattle.isl_piece.specs.Definition.{with_defined}
 use Rattle.isl_piece.specs.Meet.{meeting_of, met, over_same_columns, IsPlaced}
+use Rattle.isl_piece.specs.Placed.{both_systems}
 use Rattle.isl_piece.specs.Row.{HoldsRow, IsWellFormed, IsRowWithin}
 use Rattle.isl_piece.specs.System.{HoldRows, HoldsSystem, IsSystemWithin, free_columns}
-use Rattle.isl_piece.proofs.MeetLaws.{IsPlaced-first, IsPlaced-more, meeting_more}
+use Rattle.isl_piece.proofs.MeetLaws.{IsPlaced-first, IsPlaced-more, both_same, meeting_more}
 use Rattle.isl_elim.specs.Elimination.{HoldsAtAny}
 use Rattle.isl_elim.specs.Sample.{IsNowhere}
 use Rattle.isl_elim.proofs.PartsLaws.{charged_bits}
 use Rattle.isl_difference.specs.Bounds.{ImplyRows, AreApartRows}
 use Rattle.isl_difference.specs.Difference.{AreDisjoint, IsPartition, IsLeftOf, IsOutside, IsDifference, IsCounted}
 use Rattle.isl_difference.specs.Split.{AreAligned, frame_of, HoldsBut, IsLive, AreLiveParts, ArePaid, HoldsBeside, IsLeftOfAny}
+use Rattle.isl_difference.specs.Told.{AreTold, ExcludeOne, IsTold, SayAll}
 use Rattle.isl_difference.proofs.PartitionLaws.{any_at, any_before, any_taken, partition_none, partition_one, partition_append}
 use Rattle.isl_difference.proofs.PartitionLaws.{partition_same, partition_each}
 use Rattle.isl_difference.proofs.SplitLaws.{system_kept, live_kept, charged_within}
@@ -65,6 +70,60 @@ module _ (s other : System) (definitions : other.definitions ≡ s.definitions) 
 -- the unit of the question whether they meet, and those of the parts
 pub parts_paid : (g j k : Gauge) (parts : List System) → j ≡ record g { units = g.units + 1 } → j.units + length parts ≤ k.units → ArePaid g k parts
 parts_paid g j k parts e paid = let one : j.units ≡ g.units + 1 = ap (λ (x : Gauge). x.units) e in inr (omega arith)
+
+-- ---- what the rows tell
+pub asked_more : (g j k : Gauge) → j ≡ record g { units = g.units + 1 } → IsCharged j k → g.units < k.units
+asked_more g j k e c = let one : j.units ≡ g.units + 1 = ap (λ (x : Gauge). x.units) e in let more = c.units in omega arith
+
+pub not_told : (rows others : List Row) (implied apart : Bool) → implied ≡ false → apart ≡ false → IsTrue implied ↔ SayAll rows others
+    → IsTrue apart ↔ ExcludeOne rows others → ¬ AreTold rows others
+not_told rows others implied apart e f p q (inl h) = false≢true (sym e ∙ p.1 h)
+not_told rows others implied apart e f p q (inr h) = false≢true (sym f ∙ q.1 h)
+
+pub told_ok : {A : Type 0} (g : Gauge) (value : A) → IsAnsweredWithin 0 g g (Ok value)
+told_ok g value = IsAnsweredWithin-ok g g 0 value (omega arith)
+
+pub told_kept : {A B : Type 0} (g k : Gauge) (value : A) (result : Result B Cut) → IsAnsweredWithin 0 g k result
+    → IsAnsweredWithin 0 g k (Ok value)
+told_kept g k value result p = IsAnsweredWithin-ok g k 0 value p.units
+
+pub told_whole : {A B : Type 0} (P : A → Type 0) (g k : Gauge) (value : Result B Cut) (result : Result A Cut) → IsAnsweredWithin 0 g k value
+    → MatchResult result P (λ cut. cut ≡ NoMemory) → IsAnsweredWithin 0 g k result
+told_whole P g k value (Ok v) p m = IsAnsweredWithin-ok g k 0 v p.units
+told_whole P g k value (Err cut) p m = record { units = p.units; answered = λ _. m }
+
+pub told_cut : {A B : Type 0} (g k : Gauge) (cut : Cut) → IsAnsweredWithin {A = B} 0 g k (Err cut) → IsAnsweredWithin {A = A} 0 g k (Err cut)
+told_cut g k cut p = record { units = p.units; answered = p.answered }
+
+pub asked_whole : {A : Type 0} (result : Result A Cut) (m n : ℕ) → m < n → IfOk result (λ _. m < n)
+asked_whole (Ok v) m n h = h
+asked_whole (Err cut) m n h = tt
+
+-- the rows over the columns of both, where these are the same
+module _ (s other : System) (same : s.definitions ≡ other.definitions) where
+  own_rows : (both_systems s (frame_of other)).rows ≡ s.rows
+  own_rows = ap (λ (t : System). t.rows) (both_same s (frame_of other) same) ∙ append-nil s.rows
+
+  other_rows : (both_systems (frame_of s) other).rows ≡ other.rows
+  other_rows = ap (λ (t : System). t.rows) (both_same (frame_of s) other same)
+
+  pub told_here : IsTold s other → AreTold s.rows other.rows
+  told_here told = rw (own_rows, other_rows) at told
+
+  pub told_there : AreTold s.rows other.rows → IsTold s other
+  told_there told = rw (own_rows, other_rows) told
+
+-- where they differ
+module _ (s other wide moved : System) (e : wide ≡ both_systems s (frame_of other)) (f : moved ≡ both_systems (frame_of s) other) where
+  pub told_wide : IsTold s other → AreTold wide.rows moved.rows
+  told_wide told =
+      let first = subst (λ (t : System). AreTold t.rows (both_systems (frame_of s) other).rows) (sym e) told in
+      subst (λ (t : System). AreTold wide.rows t.rows) (sym f) first
+
+  pub told_narrow : AreTold wide.rows moved.rows → IsTold s other
+  told_narrow told =
+      let first = subst (λ (t : System). AreTold t.rows moved.rows) e told in
+      subst (λ (t : System). AreTold (both_systems s (frame_of other)).rows t.rows) f first
 
 -- ---- two systems over the columns of both
 placed_first : (a : System) (definitions : List Definition) (i : ℕ) → i ≤ length definitions → IsPlaced (free_columns a) (meeting_of a (take i definitions))

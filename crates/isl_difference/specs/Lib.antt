@@ -2,4 +2,5 @@ pub mod Bounds
 pub mod Cover
 pub mod Difference
 pub mod Split
+pub mod Told
 pub use Rattle.isl_difference.specs.Difference

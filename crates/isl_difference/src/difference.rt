@@ -1,11 +1,13 @@
 //! One system without others.
 
-ghost use Rattle.std.specs.Prelude.{◌≡◌, ◌≢◌, ◌+◌, ◌≤◌, ◌∷◌, [], All, AllPairs, IfOk, IfSome, MatchOption, MatchResult, length};
+ghost use Rattle.std.specs.Prelude.{◌≡◌, ◌≢◌, ◌+◌, ◌<◌, ◌≤◌, ◌∷◌, [], All, AllPairs, IfOk, IfSome, MatchOption, MatchResult, length};
 ghost use Rattle.std.specs.Prelude.{map};
-ghost use Rattle.isl_meter.specs.Gauge.{Gauge, IsCharged, IsCutBy};
+ghost use Rattle.isl_meter.specs.Gauge.{Gauge, IsAnsweredWithin, IsCharged, IsCutBy};
+ghost use Rattle.isl_piece.specs.Placed.{both_systems};
 ghost use Rattle.isl_piece.specs.System.{HoldsSystem, IsSystemWithin, free_columns};
 ghost use Rattle.isl_difference.specs.Difference.{AreDisjoint, IsCounted, IsDifference, IsPartition};
 ghost use Rattle.isl_difference.specs.Split.{frame_of, AreAligned, AreLiveParts, ArePaid, HoldsBeside, IsLeftOfAny};
+ghost use Rattle.isl_difference.specs.Told.{AreTold, IsTold};
 
 use crate::bounds::{are_apart, are_implied};
 use crate::live::is_nowhere;
@@ -26,7 +28,37 @@ fn frame(alloc: Global, system: &System) -> Result<System, AllocError>
 }
 
 // Live parts of the system in which the other one, over the same columns, does not hold; none where no point is in both.
-// One unit is used where the rows as they are written do not tell, and then those of `split`.
+// One unit is used for that question, and then those of `split`.
+#[tactic(auto, using(std::proofs::lemmas::Grind::common_steps, crate::proofs::DifferenceLaws::aligned_steps))]
+fn parts_asked(
+    alloc: Global,
+    system: &System,
+    other: &System,
+    meter: &mut Meter,
+) -> Result<Option<Vec<System>>, Cut>
+    requires within { IsSystemWithin meter.old system.now }
+    requires other_within { IsSystemWithin meter.old other.now }
+    requires columns { other.now.columns ≡ system.now.columns }
+    requires definitions { other.now.definitions ≡ system.now.definitions }
+    ensures exact { MatchResult result
+        (λ found. MatchOption found (AreDisjoint (free_columns system.now) system.now other.now)
+        (λ parts. AreLiveParts meter.old system.now other.now parts.items)
+        × IsCharged meter.old meter.new)
+        (IsCutBy meter.old meter.new) }
+    ensures definitions { IfOk result (λ found. IfSome found (λ parts. All (λ s. s.definitions ≡ system.now.definitions) parts.items)) }
+    ensures paid { IfOk result (λ found. IfSome found (λ parts. ArePaid meter.old meter.new parts.items)) }
+    ensures asked { IfOk result (λ _. meter.old.units < meter.new.units) }
+{
+    meter.unit()?;
+    let both = meet(alloc, system, other)?;
+    if is_nowhere(alloc, &both, meter)? {
+        return Ok(None);
+    }
+    let parts = split(alloc, system, &other.rows, meter)?;
+    Ok(Some(parts))
+}
+
+// The same. No unit is used exactly where the rows tell, as they are written.
 #[tactic(auto, using(std::proofs::lemmas::Grind::common_steps, crate::proofs::DifferenceLaws::aligned_steps))]
 fn parts_aligned(
     alloc: Global,
@@ -45,20 +77,18 @@ fn parts_aligned(
         (IsCutBy meter.old meter.new) }
     ensures definitions { IfOk result (λ found. IfSome found (λ parts. All (λ s. s.definitions ≡ system.now.definitions) parts.items)) }
     ensures paid { IfOk result (λ found. IfSome found (λ parts. ArePaid meter.old meter.new parts.items)) }
+    ensures told { AreTold system.now.rows other.now.rows → IsAnsweredWithin 0 meter.old meter.new result }
+    ensures asked { ¬ AreTold system.now.rows other.now.rows → IfOk result (λ _. meter.old.units < meter.new.units) }
 {
-    if are_implied(system.rows.as_slice(), other.rows.as_slice()) {
+    let rows = system.rows.as_slice();
+    let others = other.rows.as_slice();
+    if are_implied(rows, others) {
         return Ok(Some(Vec::new(alloc)));
     }
-    if are_apart(system.rows.as_slice(), other.rows.as_slice()) {
+    if are_apart(rows, others) {
         return Ok(None);
     }
-    meter.unit()?;
-    let both = meet(alloc, system, other)?;
-    if is_nowhere(alloc, &both, meter)? {
-        return Ok(None);
-    }
-    let parts = split(alloc, system, &other.rows, meter)?;
-    Ok(Some(parts))
+    parts_asked(alloc, system, other, meter)
 }
 
 /// Two systems over the same columns.
@@ -72,8 +102,10 @@ pub(crate) struct Aligned {
 pub(crate) fn align(alloc: Global, system: &System, other: &System) -> Result<Aligned, AllocError>
     requires columns { free_columns other.now ≡ free_columns system.now }
     requires different { system.now.definitions ≢ other.now.definitions }
-    ensures { (g : Gauge) → IsSystemWithin g system.now → IsSystemWithin g other.now
+    ensures aligned { (g : Gauge) → IsSystemWithin g system.now → IsSystemWithin g other.now
         → IfOk result (λ both. AreAligned g system.now other.now both.wide both.moved) }
+    ensures exact { IfOk result (λ both. (both.wide ≡ both_systems system.now (frame_of other.now))
+        × (both.moved ≡ both_systems (frame_of system.now) other.now)) }
 {
     let other_frame = frame(alloc, other)?;
     let own_frame = frame(alloc, system)?;
@@ -99,6 +131,8 @@ fn parts_moved(
         × IsCharged meter.old meter.new)
         (IsCutBy meter.old meter.new) }
     ensures paid { IfOk result (λ found. IfSome found (λ parts. ArePaid meter.old meter.new parts.items)) }
+    ensures told { IsTold system.now other.now → IsAnsweredWithin 0 meter.old meter.new result }
+    ensures asked { ¬ IsTold system.now other.now → IfOk result (λ _. meter.old.units < meter.new.units) }
 {
     let both = align(alloc, system, other)?;
     match parts_aligned(alloc, &both.wide, &both.moved, meter)? {
@@ -126,6 +160,8 @@ fn parts_outside(
     ensures definitions { system.now.definitions ≡ [] → other.now.definitions ≡ []
         → IfOk result (λ found. IfSome found (λ parts. All (λ s. s.definitions ≡ []) parts.items)) }
     ensures paid { IfOk result (λ found. IfSome found (λ parts. ArePaid meter.old meter.new parts.items)) }
+    ensures told { IsTold system.now other.now → IsAnsweredWithin 0 meter.old meter.new result }
+    ensures asked { ¬ IsTold system.now other.now → IfOk result (λ _. meter.old.units < meter.new.units) }
 {
     if system.definitions.same(&other.definitions) {
         return parts_aligned(alloc, system, other, meter);
@@ -136,8 +172,9 @@ fn parts_outside(
 /// What is left of the system without the other one: disjoint systems over its free columns, each with a point where the system
 /// has one. Both may have defined columns. Where no point is in both this is the system itself.
 ///
-/// No unit is used where the rows, as they are written, say that nothing is left, or that no point is in both; else one for
-/// the question whether a point is in both, and one for each row of the negation of a row of the other.
+/// No unit is used exactly where the rows of both, as they are written over the columns of both, tell that nothing is left or that
+/// no point is in both (`IsTold`); nothing but memory can be wanting then. Else a unit is used, and one for each system that is
+/// left, unless that is the system itself.
 ///
 /// # Errors
 ///
@@ -158,6 +195,8 @@ pub fn subtract(
     ensures definitions { system.now.definitions ≡ [] → other.now.definitions ≡ []
         → IfOk result (λ left. All (λ s. s.definitions ≡ []) left.items) }
     ensures counted { IfOk result (λ left. IsCounted meter.old meter.new system.now left.items) }
+    ensures told { IsTold system.now other.now → IsAnsweredWithin 0 meter.old meter.new result }
+    ensures asked { ¬ IsTold system.now other.now → IfOk result (λ _. meter.old.units < meter.new.units) }
 {
     match parts_outside(alloc, system, other, meter)? {
         Some(parts) => Ok(parts),

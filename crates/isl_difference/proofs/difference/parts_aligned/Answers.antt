@@ -1,31 +1,23 @@
-use Rattle.std.proofs.Common.{◌≡◌, sym, arith}
-use Rattle.isl_meter.specs.Gauge.{IsCharged}
-use Rattle.isl_meter.proofs.CutLemmas.{charges}
-use Rattle.isl_piece.specs.Meet.{over_same_columns}
-use Rattle.isl_difference.proofs.DifferenceLaws.{none_common, split_left}
-use Rattle.isl_difference.proofs.SplitLaws.{charged_within}
+use Rattle.std.proofs.Common.{inl, inr}
+use Rattle.isl_difference.specs.Told.{AreTold}
+use Rattle.isl_difference.proofs.DifferenceLaws.{not_told, told_ok}
 use Rattle.isl_difference.proofs.difference.parts_aligned.Goals as goal
 
-pub is_nowhere-requires : goal.is_nowhere-requires
-is_nowhere-requires c =
-    let g = c.args.meter.now in
-    let h = c.unit.new.self in
-    let charged : IsCharged g h = grind (arith, charges) in
-    c.in_ok-both.ensures.within h (charged_within g h c.args.system.now charged c.requires.within)
-    (charged_within g h c.args.other.now charged c.requires.other_within)
+pub returns-then-are_implied-clause-told : goal.returns-then-are_implied-clause-told
+returns-then-are_implied-clause-told c = λ t. told_ok c.args.meter.now _
 
-pub returns-then-branch-clause-exact : goal.returns-then-branch-clause-exact
-returns-then-branch-clause-exact c =
-    let s = c.args.system.now in
-    let other = c.args.other.now in
-    let both = c.in_ok-both.both in
-    let same : both ≡ over_same_columns s other = c.in_ok-both.ensures.same (sym c.requires.definitions) in
-    (none_common s other c.requires.definitions both same (c.in_ok-is_nowhere.ensures.0.0 c.if-branch.true), grind (arith, charges))
+pub returns-then-are_implied-clause-asked : goal.returns-then-are_implied-clause-asked
+returns-then-are_implied-clause-asked c = λ n.
+    absurd (n (inl (rw (c.as_slice-rows.ensures, c.as_slice-others.ensures) at (c.are_implied.ensures.exact.0 c.if-are_implied.true))))
 
-pub returns-clause-exact : goal.returns-clause-exact
-returns-clause-exact c =
-    let g = c.args.meter.now in
-    let h = c.is_nowhere.new.meter in
-    let found = c.in_ok-parts.ensures.exact in
-    let before : IsCharged g h = grind (arith, charges) in
-    (split_left c.args.system.now c.args.other.now c.requires.definitions g h c.in_ok-parts.parts.items before found.0, grind (arith, charges))
+pub returns-then-are_apart-clause-told : goal.returns-then-are_apart-clause-told
+returns-then-are_apart-clause-told c = λ t. told_ok c.args.meter.now _
+
+pub returns-then-are_apart-clause-asked : goal.returns-then-are_apart-clause-asked
+returns-then-are_apart-clause-asked c = λ n.
+    absurd (n (inr (rw (c.as_slice-rows.ensures, c.as_slice-others.ensures) at (c.are_apart.ensures.exact.0 c.if-are_apart.true))))
+
+pub returns-clause-told : goal.returns-clause-told
+returns-clause-told c = λ t.
+    absurd (not_told c.as_slice-rows.result.now c.as_slice-others.result.now c.are_implied.result c.are_apart.result c.if-are_implied.false
+    c.if-are_apart.false c.are_implied.ensures.exact c.are_apart.ensures.exact (rw (c.as_slice-rows.ensures, c.as_slice-others.ensures) t))

@@ -1,5 +1,6 @@
-use Rattle.std.proofs.Common.{◌≢◌, ◌∙◌, sym, arith}
+use Rattle.std.proofs.Common.{◌≡◌, ◌≢◌, ◌∙◌, sym, arith}
 use Rattle.std.proofs.lemmas.Grind.{common_steps}
+use Rattle.isl_difference.proofs.DifferenceLaws.{told_here, told_there}
 use Rattle.isl_difference.proofs.difference.parts_outside.Goals as goal
 
 pub returns-then-same-clause-definitions : goal.returns-then-same-clause-definitions
@@ -9,3 +10,13 @@ pub returns-clause-definitions : goal.returns-clause-definitions
 returns-clause-definitions c = λ own other.
     let differ : c.args.system.now.definitions ≢ c.args.other.now.definitions = grind (arith, common_steps) in
     absurd (differ (own ∙ sym other))
+
+pub returns-then-same-clause-told : goal.returns-then-same-clause-told
+returns-then-same-clause-told c = λ t.
+    let same : c.args.system.now.definitions ≡ c.args.other.now.definitions = grind (arith, common_steps) in
+    c.parts_aligned.ensures.told (told_here c.args.system.now c.args.other.now same t)
+
+pub returns-then-same-clause-asked : goal.returns-then-same-clause-asked
+returns-then-same-clause-asked c = λ n.
+    let same : c.args.system.now.definitions ≡ c.args.other.now.definitions = grind (arith, common_steps) in
+    c.parts_aligned.ensures.asked (λ t. n (told_there c.args.system.now c.args.other.now same t))

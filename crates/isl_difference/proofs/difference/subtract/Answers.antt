@@ -1,9 +1,10 @@
 use Rattle.std.proofs.Common.{◌≡◌, [], ◌∷◌}
 use Rattle.std.specs.List.{All}
 use Rattle.isl_meter.specs.declared.Cut.TheVariants.{NoMemory}
-use Rattle.std.proofs.lemmas.Result.{MatchResult-weaker}
+use Rattle.std.proofs.lemmas.Result.{MatchResult-weaker, err_from_is_err_and}
 use Rattle.isl_meter.proofs.CutLemmas.{IsCutBy-charged}
-use Rattle.isl_difference.proofs.DifferenceLaws.{all_one, difference_parts, difference_whole, ok_from, IsPlain}
+use Rattle.isl_difference.proofs.DifferenceLaws.{all_one, asked_whole, difference_parts, difference_whole, ok_from, told_cut, told_kept}
+use Rattle.isl_difference.proofs.DifferenceLaws.{told_whole, IsPlain}
 use Rattle.isl_difference.proofs.difference.subtract.Goals as goal
 
 pub returns-in-Some-clause-exact : goal.returns-in-Some-clause-exact
@@ -26,3 +27,21 @@ pub returns-in-None-clause-definitions : goal.returns-in-None-clause-definitions
 returns-in-None-clause-definitions c = λ own other.
     ok_from (λ left. left.items ≡ c.args.system.now ∷ []) (λ cut. cut ≡ NoMemory) (λ left. All IsPlain left.items) c.whole.result
     c.whole.ensures (λ left e. all_one IsPlain c.args.system.now left.items e own)
+
+pub returns-in-Some-clause-told : goal.returns-in-Some-clause-told
+returns-in-Some-clause-told c = λ t.
+    told_kept c.args.meter.now c.parts_outside.new.meter _ _ (c.in_ok-parts.ensures.told t)
+
+pub returns-in-None-clause-told : goal.returns-in-None-clause-told
+returns-in-None-clause-told c = λ t.
+    told_whole (λ left. left.items ≡ c.args.system.now ∷ []) c.args.meter.now c.parts_outside.new.meter _ c.whole.result
+    (c.in_ok-parts.ensures.told t) c.whole.ensures
+
+pub returns-in-None-clause-asked : goal.returns-in-None-clause-asked
+returns-in-None-clause-asked c = λ n.
+    asked_whole c.whole.result c.args.meter.now.units c.parts_outside.new.meter.units (c.in_ok-parts.ensures.asked n)
+
+pub returns-in_err-parts-clause-told : goal.returns-in_err-parts-clause-told
+returns-in_err-parts-clause-told c = λ t.
+    let error = err_from_is_err_and c.from_residual.result c.from_residual.ensures.1 in
+    rw (error.1, error.2) (told_cut c.args.meter.now c.parts_outside.new.meter c.in_err-parts.field-0.0 (c.in_err-parts.ensures.told t))

@@ -14,7 +14,7 @@ loop-row-preserved-then-is_implied c =
     let rest = c.loop-row.rest in
     let inside : i < length rows = grind (arith, common_steps) in
     let is : r ≡ get_or rows i r = grind (arith, common_steps) in
-    let implied : ImplyRow rest.rows r = rw c.as_slice.ensures at (c.is_implied.ensures c.if-is_implied.true) in
+    let implied : ImplyRow rest.rows r = rw c.as_slice.ensures at (c.is_implied.ensures.holds c.if-is_implied.true) in
     given_at c.args.meter.now c.loop-row.meter c.args.system.now rows i r rest c.loop-row.parts.items inside is c.loop-row.invariant implied
 
 pub loop-row-preserved : goal.loop-row-preserved
