@@ -132,7 +132,7 @@ excludes_apart : (a b : Row) → Excludes a b → AreApart a b
 excludes_apart a b (inl t) = record {
   nowhere = λ xs h k.
       by (dot a.coefs xs) a.constant b.constant (value_at b xs) (bound_large a t.0 xs h) (bound_large b t.1 xs k) t.2
-          (opposite_form a b xs t.3);
+      (opposite_form a b xs t.3);
 }
   where
     by : (z c d v : ℤ) → pos 0 ≤ℤ (z +ℤ c) → pos 0 ≤ℤ v → (c +ℤ d) <ℤ pos 0 → v ≡ neg_ℤ z +ℤ d → ⊥

@@ -22,7 +22,7 @@ pub returns-clause-exact : goal.returns-clause-exact
 returns-clause-exact c =
     let end : length c.args.others.now ≤ c.loop-other.other-index = grind (arith, common_steps) in
     none_found (λ (other : Row). Any (λ row. Excludes row other) c.args.rows.now) c.args.others.now c.loop-other.other-index end
-        c.loop-other.invariant
+    c.loop-other.invariant
 
 pub returns-then-is_excluded-clause-exact : goal.returns-then-is_excluded-clause-exact
 returns-then-is_excluded-clause-exact c =
