@@ -1,5 +1,5 @@
 -- public: loops as text. (isl manual, on printing abstract syntax trees)
-use Rattle.std.specs.Prelude.{ℕ, suc, ℤ, List, [], ◌∷◌, ◌++◌, map, codes, unsigned_abs, Option, Some, None}
+use Rattle.std.specs.Prelude.{ℕ, suc, ℤ, List, [], ◌∷◌, ◌++◌, map, codes, unsigned_abs, Option}
 use Rattle.std.specs.Fmt.{decimal}
 use Rattle.isl_space.specs.Name.{Name}
 use Rattle.isl_space.specs.Form.{name_text}

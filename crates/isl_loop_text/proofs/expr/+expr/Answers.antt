@@ -4,7 +4,6 @@ use Rattle.std.specs.Fmt.{decimal}
 use Rattle.std.proofs.lemmas.Grind.{common_steps}
 use Rattle.std.proofs.lemmas.Result.{on_ok_weaker}
 use Rattle.isl_loop.specs.declared.tree.Expr.{out-Expr}
-use Rattle.isl_loop_text.specs.ExprText.{expr_text}
 use Rattle.isl_loop_text.specs.Rest.{sum_rest}
 use Rattle.isl_loop_text.proofs.ExprLaws.{expr_is, floor_written, ceil_written, min_written, max_written}
 use Rattle.isl_loop_text.proofs.ExprLaws.{atom_smaller, floor_smaller, ceil_smaller, min_smaller, max_smaller, part_smaller}
