@@ -1,0 +1,2 @@
+mod ExprLaws
+mod LineLaws

@@ -1,0 +1,7 @@
+//! Loops as text.
+#![tactic(auto)]
+
+mod expr;
+mod lines;
+
+pub use lines::loop_text;
