@@ -19,7 +19,7 @@ TICKS = os.sysconf("SC_CLK_TCK")
 BUDGET, LEAST = 300 / 1000, 30
 
 
-def provers(gate):
+def provers():
     """The provers of the gate that run now: process and start, crate, kind, processor seconds."""
     for folder in glob.glob("/proc/[0-9]*"):
         try:
@@ -27,7 +27,7 @@ def provers(gate):
                 if file.read().strip() != "rattle":
                     continue
             where = os.readlink(f"{folder}/cwd")
-            is_edit = os.path.basename(where).startswith(f"rt-edit-{gate}-")
+            is_edit = os.path.basename(where).startswith("rt-edit-")  # of any gate that runs now
             if not is_edit and not where.startswith(f"{os.getcwd()}/crates/"):
                 continue  # another checkout's
             with open(f"{folder}/cmdline", "rb") as file:
@@ -45,7 +45,7 @@ def run(log, words):
     seen, begin = {}, time.time()
     gate = subprocess.Popen(["rt", "ci", *words])
     while gate.poll() is None:
-        for key, crate, kind, seconds in provers(gate.pid):
+        for key, crate, kind, seconds in provers():
             seen[key] = crate, kind, seconds
         time.sleep(0.2)
     used = resource.getrusage(resource.RUSAGE_CHILDREN)
