@@ -10,3 +10,4 @@ mod split;
 pub use cover::is_covered;
 pub use difference::{outside, subtract};
 pub use live::live_form;
+pub use split::hold_throughout;

@@ -107,8 +107,12 @@ pub(crate) fn split(
 
 /// Whether the rows, which are over its columns, hold at each point of the system. Nothing is asked behind the first row that fails
 /// somewhere. One unit is used for each row of the negation of a row that is not said already.
+///
+/// # Errors
+///
+/// `Overflow` where a number passes the limit of the meter, `Budget` where its units are used up, and `NoMemory`.
 #[tactic(auto, using(std::proofs::lemmas::Grind::common_steps, crate::proofs::SplitLaws::split_steps))]
-pub(crate) fn hold_throughout(
+pub fn hold_throughout(
     alloc: Global,
     system: &System,
     rows: &Rows,

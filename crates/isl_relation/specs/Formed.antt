@@ -25,3 +25,11 @@ FormsDomainMap s formed = (x : Form) × (y : Form) × (s ≡ map_of x y) × (for
 
 abbrev pub FormsRangeMap : SpaceForm → SpaceForm → Type 0
 FormsRangeMap s formed = (x : Form) × (y : Form) × (s ≡ map_of x y) × (formed ≡ map_of (pair x y) y)
+
+-- two sets of one form
+abbrev pub FormsSame : SpaceForm → SpaceForm → SpaceForm → Type 0
+FormsSame s t formed = (x : Form) × (s ≡ set_of x) × (t ≡ set_of x) × (formed ≡ map_of x x)
+
+-- two maps to one form
+abbrev pub FormsAccess : SpaceForm → SpaceForm → SpaceForm → Type 0
+FormsAccess s t formed = (x : Form) × (y : Form) × (a : Form) × (s ≡ map_of x a) × (t ≡ map_of y a) × (formed ≡ map_of x y)

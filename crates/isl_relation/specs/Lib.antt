@@ -5,6 +5,9 @@ pub mod Pairs
 pub mod Formed
 pub mod Wide
 pub mod Together
+pub mod Orders
+pub mod Extremes
+pub mod Flow
 pub use Rattle.isl_space.specs.Element
 pub use Rattle.isl_space.specs.Form
 pub use Rattle.isl_space.specs.SpaceForm

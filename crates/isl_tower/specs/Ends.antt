@@ -1,4 +1,4 @@
--- inner: rows that end a column on one side, wherever the other numbers stand. (isl manual, on bounded sets)
+-- public: rows that end a column on one side, wherever the other numbers stand. (isl manual, on bounded sets)
 use Rattle.std.specs.Prelude.{◌≢◌, ℕ, ℤ, pos, ◌<ℤ◌, List, Any}
 use Rattle.isl_piece.specs.declared.row.RowKind.{RowKind}
 use Rattle.isl_piece.specs.declared.row.RowKind.TheVariants.{Zero, AtLeast, Divides, NotDivides}

@@ -32,7 +32,7 @@ fn ends_above(row: &Row, col: usize) -> bool
 
 /// Whether some row bounds the column from below.
 #[tactic(auto, using(std::proofs::lemmas::Grind::common_steps, crate::proofs::ClosedLaws::end_steps))]
-pub(crate) fn has_lower_end(rows: &[Row], col: usize) -> bool
+pub fn has_lower_end(rows: &[Row], col: usize) -> bool
     requires { All (λ r. col < length r.coefs) rows.now }
     ensures { IsTrue result ↔ HasLowerEnd col rows.now }
 {
@@ -46,7 +46,7 @@ pub(crate) fn has_lower_end(rows: &[Row], col: usize) -> bool
 
 /// Whether some row bounds the column from above.
 #[tactic(auto, using(std::proofs::lemmas::Grind::common_steps, crate::proofs::ClosedLaws::end_steps))]
-pub(crate) fn has_upper_end(rows: &[Row], col: usize) -> bool
+pub fn has_upper_end(rows: &[Row], col: usize) -> bool
     requires { All (λ r. col < length r.coefs) rows.now }
     ensures { IsTrue result ↔ HasUpperEnd col rows.now }
 {
