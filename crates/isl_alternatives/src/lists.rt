@@ -1,6 +1,6 @@
 //! Lists of systems: copied, met with others, without others, in their normal form, and without those that hold nowhere.
 
-ghost use Rattle.std.specs.Prelude.{◌≡◌, ◌⊎◌, ◌+◌, ◌≤◌, ◌++◌, [], All, IfOk, MatchResult, length, map};
+ghost use Rattle.std.specs.Prelude.{◌≡◌, ◌⊎◌, ◌+◌, ◌≤◌, ◌++◌, [], All, IfOk, MatchResult, length};
 ghost use Rattle.isl_meter.specs.Gauge.{Gauge, IsCharged, IsCutBy};
 ghost use Rattle.isl_piece.specs.Normal.{IsNormal};
 ghost use Rattle.isl_piece.specs.System.{HoldsSystem, free_columns};
@@ -9,7 +9,7 @@ ghost use Rattle.isl_affine.specs.Scope.{Scope as Names};
 ghost use Rattle.isl_alternatives.specs.Restricted.{AreRestricted, HoldsAs, IsOver};
 
 use isl_affine::Scope;
-use isl_difference::{live_form, outside};
+use isl_difference::{live_form, outside, references};
 use isl_meter::{Cut, Meter};
 use isl_piece::{System, meet, normalise};
 use std::alloc::{AllocError, Global};
@@ -94,16 +94,6 @@ fn met(
         found.append(&mut more)?;
     }
     Ok(found)
-}
-
-fn references<'a>(alloc: Global, systems: &'a [System]) -> Result<Vec<&'a System>, AllocError>
-    ensures { IfOk result (λ list. map (λ system. system.now) list.items ≡ systems.now) }
-{
-    let mut list = Vec::with_capacity(alloc, systems.len())?;
-    for system in systems {
-        list.push(system)?;
-    }
-    Ok(list)
 }
 
 // The systems without the others, over the columns of the scope.

@@ -272,3 +272,18 @@ pub fn outside(
     }
     Ok(left)
 }
+
+/// References to the systems, in their order.
+///
+/// # Errors
+///
+/// Where memory ends.
+pub fn references<'a>(alloc: Global, systems: &'a [System]) -> Result<Vec<&'a System>, AllocError>
+    ensures { IfOk result (λ found. map (λ system. system.now) found.items ≡ systems.now) }
+{
+    let mut found = Vec::with_capacity(alloc, systems.len())?;
+    for system in systems {
+        found.push(system)?;
+    }
+    Ok(found)
+}

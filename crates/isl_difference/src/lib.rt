@@ -8,6 +8,6 @@ mod live;
 mod split;
 
 pub use cover::is_covered;
-pub use difference::{outside, subtract};
+pub use difference::{outside, references, subtract};
 pub use live::live_form;
 pub use split::hold_throughout;

@@ -5,24 +5,22 @@ ghost use Rattle.isl_meter.specs.Gauge.{Gauge, IsMetered, limit_of};
 ghost use Rattle.isl_space.specs.Element.{Element};
 ghost use Rattle.isl_space.specs.Name.{Name};
 ghost use Rattle.isl_space.specs.Names.{joined};
-ghost use Rattle.isl_space.specs.Space.{space_form_of};
 ghost use Rattle.isl_space.specs.Valuation.{Valuation};
 ghost use Rattle.isl_piece.specs.System.{IsSystemWithin, free_columns};
 ghost use Rattle.isl_relation.specs.Maps.{RemoveDomainHas, RemoveRangeHas};
 ghost use Rattle.isl_relation.specs.Together.{IsWorkedFrom};
 ghost use Rattle.isl_union.specs.KeptValue.{Has, HasElement, HasNoDefinitions, IsKeptValue};
-ghost use Rattle.isl_union.specs.Minus.{piece_in};
 ghost use Rattle.isl_union.specs.Numbers.{AreWithinLimit, IsPieceUpTo, IsWithinLimit};
 ghost use Rattle.isl_union.specs.Piece.{kept_piece, IsPieceOf};
 ghost use Rattle.isl_products.specs.Made.{AreBeside, AreLeft, IsApartFrom, RemoveHas};
 
 use crate::layout::{Place, Product, layout_of};
 use crate::placed::placed;
-use isl_difference::outside;
+use isl_difference::{outside, references};
 use isl_meter::{Cut, Meter};
 use isl_piece::{Piece, System};
 use isl_space::{Params, Space};
-use isl_union::{OpFault, Value, aligned_pair, append};
+use isl_union::{OpFault, Value, aligned_pair, append, pieces_in};
 use std::alloc::{AllocError, Global};
 
 // The systems that hold at those elements of the piece that have at the place what the others have.
@@ -46,28 +44,6 @@ fn systems_beside(
         }
     }
     Ok(systems)
-}
-
-// References to the systems.
-fn references<'a>(alloc: Global, systems: &'a [System]) -> Result<Vec<&'a System>, AllocError>
-    ensures { IfOk result (λ found. map (λ system. system.now) found.items ≡ systems.now) }
-{
-    let mut found = Vec::with_capacity(alloc, systems.len())?;
-    for system in systems {
-        found.push(system)?;
-    }
-    Ok(found)
-}
-
-// A piece of the space for each of the systems.
-fn pieces_in(alloc: Global, space: &Space, systems: Vec<System>) -> Result<Vec<Piece>, AllocError>
-    ensures { IfOk result (λ pieces. pieces.items ≡ map (piece_in (space_form_of space.now)) systems.items) }
-{
-    let mut pieces = Vec::with_capacity(alloc, systems.len())?;
-    for system in systems {
-        pieces.push(Piece::new(alloc, space.copy()?, system)?)?;
-    }
-    Ok(pieces)
 }
 
 // What is left of the piece without the elements at which one of the systems holds.

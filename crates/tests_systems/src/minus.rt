@@ -1,11 +1,11 @@
 //! Systems without others, and whether these cover them.
 
-ghost use Rattle.std.specs.Prelude.{◌≡◌, All, IfOk, IfSome, map};
+ghost use Rattle.std.specs.Prelude.{◌≡◌, All, IfOk, IfSome};
 ghost use Rattle.isl_piece.specs.System.{IsSystemWithin, free_columns};
 
 use crate::reference::{numbered, system_holds};
 use crate::wanted::{FIRST, GIVEN, OTHER, SIDE, is_listed, points};
-use isl_difference::{is_covered, outside, subtract};
+use isl_difference::{is_covered, outside, references, subtract};
 use isl_meter::{Cut, Meter};
 use isl_piece::System;
 use std::alloc::{AllocError, Global};
@@ -44,17 +44,6 @@ fn are_left(
             && is_listed(case, &point, wanted);
     }
     Ok(same)
-}
-
-// References to the systems.
-fn references<'a>(alloc: Global, systems: &'a [System]) -> Result<Vec<&'a System>, AllocError>
-    ensures { IfOk result (λ found. map (λ system. system.now) found.items ≡ systems.now) }
-{
-    let mut found = Vec::with_capacity(alloc, systems.len())?;
-    for system in systems {
-        found.push(system)?;
-    }
-    Ok(found)
 }
 
 // What is left of the given system without one other, or without several.
