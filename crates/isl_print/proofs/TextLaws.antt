@@ -3,7 +3,7 @@ use Rattle.std.proofs.Common.{◌≡◌, ◌<◌, ◌≤◌, ◌+◌, ◌-◌, �
 use Rattle.std.proofs.Common.{subst, refl, arith, All, Bool, true, false}
 use Rattle.std.specs.Prelude.{codes, if◌then◌else◌}
 use Rattle.std.specs.List.{AllByRecursion}
-use Rattle.std.proofs.lemmas.List.{append_assoc, length-append, length-drop, length-take, take_all}
+use Rattle.std.proofs.lemmas.List.{append_assoc, drop-map, length-append, length-drop, length-take, map-id, take_all, take-map}
 use Rattle.std.proofs.Math.Seq.{drop-append_seam}
 use Rattle.std.proofs.lemmas.List.Elements.{All-from_recursion, recursion_from_All}
 use Rattle.isl_space.specs.Name.{Name}
@@ -124,3 +124,9 @@ value_written f value ordered params between new is sorted names pieces =
     pieces ∙ ap (λ t. t ++ pieces_text (map (λ a. piece_text params (f a)) ordered)) names
     ∙ ap (λ ts. params_text params ++ pieces_text ts) (piece_texts f params value.pieces ordered sorted)
     ∙ ap (λ ns. params_text ns ++ pieces_text (map (piece_text ns) (in_order piece_before value.pieces))) is
+
+-- the text of some of the entries of a tuple
+pub ruleset tuple_steps = (take-map, drop-map)
+
+-- names are their own text
+pub ruleset name_steps = (map-id)

@@ -8,3 +8,4 @@ mod tuple;
 
 pub use isl_row_text::Side;
 pub use text::text_of;
+pub use tuple::{Entry, write_tuples};

@@ -8,7 +8,7 @@ ghost use Rattle.isl_row_text.specs.RowText.{row_text, conjunction_text};
 ghost use Rattle.isl_print.specs.Printed.{piece_text, pieces_text, params_text, printed};
 
 use crate::order::{Titled, ordered_pieces};
-use crate::tuple::{write_names, write_tuples};
+use crate::tuple::{write_entries, write_tuples};
 use isl_piece::{Piece, Row};
 use isl_row_text::{column_names, ordered_rows, param_names, write_row};
 use isl_space::{Name, Params};
@@ -41,6 +41,7 @@ fn write_conjunction(out: &mut String, names: &[Name], rows: &[&Row]) -> Result<
     }
 }
 
+#[tactic(auto, using(std::proofs::lemmas::Grind::common_steps, crate::proofs::TextLaws::name_steps))]
 fn write_piece(
     alloc: Global,
     out: &mut String,
@@ -97,6 +98,7 @@ fn write_pieces(
 }
 
 // The declared names, where there are some.
+#[tactic(auto, using(std::proofs::lemmas::Grind::common_steps, crate::proofs::TextLaws::name_steps))]
 fn write_params(alloc: Global, out: &mut String, params: &Params) -> Result<(), AllocError>
     ensures { OnOk result (string_bytes out.new ≡ string_bytes out.old ++ params_text params.now) }
 {
@@ -105,7 +107,7 @@ fn write_params(alloc: Global, out: &mut String, params: &Params) -> Result<(), 
         return Ok(());
     }
     out.push_str("[")?;
-    write_names(out, names.as_slice())?;
+    write_entries(out, names.as_slice())?;
     out.push_str("] -> ")
 }
 

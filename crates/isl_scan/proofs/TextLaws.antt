@@ -1,32 +1,10 @@
 -- Texts, written one after the other.
 use Rattle.std.proofs.Common.{◌≡◌, ◌<◌, ◌≤◌, ◌+◌, ◌∙◌, ℕ, Bool, true, false, List, [], ◌∷◌, ◌++◌, length, get_or, drop, map, ap, sym, refl}
 use Rattle.std.specs.Prelude.{codes}
-use Rattle.std.proofs.lemmas.List.{append_assoc, append-nil, drop-map, drop_all, drop_more, take-map}
+use Rattle.std.proofs.lemmas.List.{append_assoc, append-nil, drop_all, drop_more}
 use Rattle.isl_print.specs.Joined.{Text, each_after}
 use Rattle.isl_print.specs.Printed.{pieces_text}
 use Rattle.isl_scan.specs.Rest.{lead_text, rest_text}
-
--- a loop's step: a separator and a text
-pub each_more : {A : Type 0} (f : A → Text) (separator : Text) (xs : List A) (i : ℕ) (x : A) (before between after whole : Text)
-    → i < length xs → x ≡ get_or xs i x
-    → between ≡ before ++ separator → after ≡ between ++ f x
-    → before ++ each_after separator (map f (drop i xs)) ≡ whole → after ++ each_after separator (map f (drop (i + 1) xs)) ≡ whole
-each_more f separator xs i x before between after whole low at parted more so_far =
-    let rest = each_after separator (map f (drop (i + 1) xs)) in
-    let here : drop i xs ≡ x ∷ drop (i + 1) xs = drop_more xs i x low ∙ ap (λ y. y ∷ drop (i + 1) xs) (sym at) in
-    ap (λ t. t ++ rest) (more ∙ ap (λ t. t ++ f x) parted ∙ append_assoc before separator (f x))
-    ∙ append_assoc before (separator ++ f x) rest
-    ∙ ap (λ l. before ++ each_after separator (map f l)) (sym here) ∙ so_far
-
-pub each_end : {A : Type 0} (f : A → Text) (separator : Text) (xs : List A) (i : ℕ) (before whole : Text) → length xs ≤ i
-    → before ++ each_after separator (map f (drop i xs)) ≡ whole → before ≡ whole
-each_end f separator xs i before whole over so_far =
-    sym (ap (λ l. before ++ each_after separator (map f l)) (drop_all i xs over) ∙ append-nil before) ∙ so_far
-
-pub ruleset each_steps = (each_more, each_end)
-
--- the text of some of the numbers
-pub ruleset tuple_steps = (take-map, drop-map)
 
 -- ---- a listing
 after_first : (texts : List Text) → rest_text false texts ≡ each_after (codes "; ") texts

@@ -6,7 +6,6 @@ mod fault;
 mod group;
 mod listing;
 mod merge;
-mod tuple;
 
 pub use elements::scan;
 pub use fault::ScanFault;

@@ -7,7 +7,7 @@ ghost use Rattle.isl_scan.specs.ListingText.{element_text, listing_text};
 ghost use Rattle.isl_scan.specs.Rest.{lead_text, rest_text};
 
 use crate::group::Group;
-use crate::tuple::write_tuples;
+use isl_print::write_tuples;
 use std::alloc::{AllocError, Global};
 use std::marker::Model;
 

@@ -1,4 +1,4 @@
-use Rattle.std.proofs.Common.{◌≡◌, arith, List, All, subst, sym}
+use Rattle.std.proofs.Common.{arith, List, All, subst, sym}
 use Rattle.std.specs.Prelude.{string_bytes}
 use Rattle.std.proofs.lemmas.Grind.{common_steps}
 use Rattle.isl_space.specs.Name.{Name}
