@@ -1,4 +1,5 @@
 pub mod Blocks
+pub mod CaseRows
 pub mod Cases
 pub mod Left
 pub use Rattle.isl_difference.specs.Split
