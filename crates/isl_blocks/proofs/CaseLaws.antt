@@ -1,5 +1,5 @@
 -- One list comes before another where they first differ.
-use Rattle.std.proofs.Common.{◌≡◌, ◌↔◌, inl, inr, refl, sym, arith, ℕ, zero, suc, ◌+◌, ◌<◌, ℤ, pos, ◌<ℤ◌, List, [], ◌∷◌, length, take}
+use Rattle.std.proofs.Common.{◌≡◌, ◌↔◌, inl, inr, refl, arith, ℕ, suc, ◌<◌, ℤ, List, [], ◌∷◌, length, take}
 use Rattle.isl_math.specs.Order.{IsBefore}
 use Rattle.isl_math.proofs.OrderLaws.{IsBefore-at}
 use Rattle.isl_blocks.specs.Cases.{IsBeforeAt}

@@ -1,7 +1,7 @@
 -- The places of picked blocks are among all columns, and apart where no block is picked twice.
 use Rattle.std.proofs.Common.{◌≡◌, ◌≢◌, ◌⊎◌, inl, inr, refl, sym, ap, ◌∙◌, arith, ℕ, zero, suc, ◌+◌, ◌-◌, ◌<◌, ◌≤◌, List, [], ◌∷◌, ◌++◌, All}
 use Rattle.std.proofs.Common.{length, length-append, get_or}
-use Rattle.std.specs.List.{range_with_len, flat_map, AllPairs}
+use Rattle.std.specs.List.{range_with_len, AllPairs}
 use Rattle.std.proofs.lemmas.Bool.{cases_lt}
 use Rattle.std.proofs.lemmas.List.{get_or_append_left, get_or-append-add}
 use Rattle.std.proofs.lemmas.List.Elements.{All-append, All-head, All-nil, All-tail}

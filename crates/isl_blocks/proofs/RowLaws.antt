@@ -1,6 +1,6 @@
 -- Rows that compare the numbers of two blocks of columns.
-use Rattle.std.proofs.Common.{◌≡◌, ◌≢◌, ◌↔◌, ◌⊎◌, inl, inr, refl, sym, ap, ap₂, ◌∙◌, subst, arith, ℕ, ◌+◌, ◌<◌, ◌≤◌, ◌^◌, ℤ, pos, negsuc}
-use Rattle.std.proofs.Common.{◌+ℤ◌, ◌-ℤ◌, ◌*ℤ◌, ◌<ℤ◌, ◌≤ℤ◌, List, [], ◌∷◌, ◌++◌, All, length, get_or, set, length-set, get_or-set_other, replicate, take, pow_mono}
+use Rattle.std.proofs.Common.{◌≡◌, ◌≢◌, ◌↔◌, ◌⊎◌, inl, inr, refl, sym, ap, ◌∙◌, subst, arith, ℕ, ◌+◌, ◌<◌, ◌≤◌, ◌^◌, ℤ, pos, negsuc}
+use Rattle.std.proofs.Common.{◌+ℤ◌, ◌-ℤ◌, ◌*ℤ◌, ◌<ℤ◌, ◌≤ℤ◌, List, [], ◌∷◌, All, length, get_or, set, length-set, get_or-set_other, replicate, take, pow_mono}
 use Rattle.std.specs.List.{range_with_len}
 use Rattle.std.proofs.lemmas.Bool.{cases_lt}
 use Rattle.std.proofs.lemmas.List.{ext_get_or, get_or-replicate, get_or-take, length-replicate, length-take-le, take_all}
@@ -16,12 +16,12 @@ use Rattle.isl_piece.specs.declared.row.RowKind.TheVariants.{Zero, AtLeast}
 use Rattle.isl_piece.specs.declared.row.Row.{Row}
 use Rattle.isl_piece.specs.declared.system.System.{System}
 use Rattle.isl_piece.specs.Row.{HasModulus, HoldsRow, IsRowWithin, IsWellFormed}
-use Rattle.isl_piece.specs.System.{HoldRows, HoldsSystem, IsSystemWithin, free_columns}
+use Rattle.isl_piece.specs.System.{HoldRows}
 use Rattle.isl_blocks.specs.declared.cases.Direction.{Direction}
 use Rattle.isl_blocks.specs.declared.cases.Direction.TheVariants.{Before, After}
 use Rattle.isl_blocks.specs.Blocks.{block_at, numbers_of, total, width_at, widths_of}
 use Rattle.isl_blocks.specs.CaseRows.{case_rows, compared_row, next_row, of_rows, same_rows}
-use Rattle.isl_blocks.specs.Cases.{DiffersAt, IsBeforeAt, IsCaseOf}
+use Rattle.isl_blocks.specs.Cases.{DiffersAt, IsCaseOf}
 use Rattle.isl_blocks.proofs.WidthLaws.{block_long, ends_before, ends_inside, number_in_block}
 
 -- ---- one row

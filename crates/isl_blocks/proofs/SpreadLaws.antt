@@ -1,12 +1,12 @@
 -- A system over more blocks of columns.
-use Rattle.std.proofs.Common.{◌≡◌, ◌↔◌, sym, ap, ap₂, ◌∙◌, subst, ℕ, ℤ, List, [], length}
+use Rattle.std.proofs.Common.{◌≡◌, ◌↔◌, sym, ap, ◌∙◌, subst, ℕ, ℤ, List, [], length}
 use Rattle.isl_meter.specs.Gauge.{Gauge}
 use Rattle.isl_piece.specs.declared.definition.Definition.{Definition}
 use Rattle.isl_piece.specs.declared.system.System.{System}
 use Rattle.isl_piece.specs.Meet.{numbers_at}
 use Rattle.isl_piece.specs.Placed.{placed_system, placing_of}
 use Rattle.isl_piece.specs.System.{HoldsSystem, IsSystemWithin, free_columns}
-use Rattle.isl_blocks.specs.Blocks.{numbers_of, picked, places_of, total, widths_of, IsSpread}
+use Rattle.isl_blocks.specs.Blocks.{numbers_of, picked, places_of, total, IsSpread}
 use Rattle.isl_blocks.proofs.BlockLaws.{numbers_of_picked}
 use Rattle.isl_blocks.proofs.WidthLaws.{numbers_long}
 

@@ -1,10 +1,10 @@
 -- How many columns blocks have, and where they begin.
-use Rattle.std.proofs.Common.{◌≡◌, ◌≢◌, refl, sym, ap, ◌∙◌, arith, ℕ, zero, suc, ◌+◌, ◌<◌, ◌≤◌, ℤ, pos, List, [], ◌∷◌, ◌++◌}
-use Rattle.std.proofs.Common.{append_assoc, length, length-append, get_or, map, take}
-use Rattle.std.specs.List.{flat_map, range_with_len}
-use Rattle.std.proofs.lemmas.List.{get_or_append_left, get_or-append-add, take_more}
+use Rattle.std.proofs.Common.{◌≡◌, refl, ap, ◌∙◌, arith, ℕ, zero, suc, ◌+◌, ◌<◌, ◌≤◌, ℤ, pos, List, [], ◌∷◌, ◌++◌}
+use Rattle.std.proofs.Common.{length, length-append, get_or, take}
+use Rattle.std.specs.List.{range_with_len}
+use Rattle.std.proofs.lemmas.List.{get_or_append_left, get_or-append-add}
 use Rattle.std.proofs.lemmas.List.FromFn.{length-range_with_len}
-use Rattle.isl_blocks.specs.Blocks.{block_at, block_places, numbers_of, picked, picked_width, places_of, total, width_at, widths_of}
+use Rattle.isl_blocks.specs.Blocks.{block_at, block_places, numbers_of, picked_width, places_of, total, width_at, widths_of}
 
 -- ---- widths
 total_step : (widths : List ℕ) (i d : ℕ) → i < length widths → total (take (suc i) widths) ≡ total (take i widths) + get_or widths i d

@@ -1,5 +1,5 @@
 -- inner: the rows that compare the numbers of two blocks of columns.
-use Rattle.std.specs.Prelude.{ℕ, ◌+◌, ℤ, pos, negsuc, List, [], ◌∷◌, ◌++◌, map, replicate, slice_set, take}
+use Rattle.std.specs.Prelude.{ℕ, ◌+◌, ℤ, pos, negsuc, List, [], ◌∷◌, ◌++◌, map, replicate, slice_set}
 use Rattle.std.specs.List.{range_with_len}
 use Rattle.isl_piece.specs.declared.row.RowKind.{RowKind}
 use Rattle.isl_piece.specs.declared.row.RowKind.TheVariants.{Zero, AtLeast}
@@ -7,7 +7,6 @@ use Rattle.isl_piece.specs.declared.row.Row.{Row}
 use Rattle.isl_piece.specs.declared.system.System.{System}
 use Rattle.isl_blocks.specs.declared.cases.Direction.{Direction}
 use Rattle.isl_blocks.specs.declared.cases.Direction.TheVariants.{Before, After}
-use Rattle.isl_blocks.specs.Blocks.{total}
 
 -- the number at one column less that at another one, and a constant
 abbrev pub compared_row : RowKind → ℕ → ℕ → ℕ → ℤ → Row

@@ -7,7 +7,7 @@ ghost use Rattle.isl_union.specs.Numbers.{IsWithinLimit};
 use isl_meter::Meter;
 use isl_piece::Piece;
 use isl_space::Params;
-use isl_union::Value;
+use isl_union::{Value, aligned_pieces};
 use std::alloc::{AllocError, Global};
 
 /// The pieces of the value, as ones over all parameters, in their order.
@@ -25,5 +25,5 @@ pub fn aligned_over(
     requires within { IsWithinLimit meter.now value.now }
     ensures { IfOk result (λ pieces. ArePiecesOver meter.now all.now value.now pieces.items) }
 {
-    Err(AllocError)
+    aligned_pieces(alloc, all, value, meter)
 }

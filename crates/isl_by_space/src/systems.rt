@@ -20,5 +20,11 @@ pub fn systems_in(
 ) -> Result<Vec<System>, AllocError>
     ensures { IfOk result (λ systems. systems.items ≡ systems_in (space_form_of space.now) pieces.now) }
 {
-    Err(AllocError)
+    let mut systems = Vec::new(alloc);
+    for piece in pieces {
+        if space.same(piece.space()) {
+            systems.push(piece.system().copy(alloc)?)?;
+        }
+    }
+    Ok(systems)
 }

@@ -1,7 +1,7 @@
-use Rattle.std.proofs.Common.{◌≡◌, ◌+◌, ◌<◌, ◌≤◌, ap, ap₂, sym, ◌∙◌, arith, subst, ◌++◌, ◌∷◌, [], List, length, ℕ, take}
+use Rattle.std.proofs.Common.{◌≡◌, ap, ap₂, ◌∙◌, arith, ◌++◌, ◌∷◌, [], List, take}
 use Rattle.isl_piece.specs.declared.row.Row.{Row}
-use Rattle.isl_blocks.specs.Blocks.{total, width_at}
-use Rattle.isl_blocks.specs.CaseRows.{case_rows, next_row, of_rows, same_rows}
+use Rattle.isl_blocks.specs.Blocks.{total}
+use Rattle.isl_blocks.specs.CaseRows.{case_rows, of_rows}
 use Rattle.isl_blocks.proofs.RowLaws.{case_made}
 use Rattle.isl_blocks.proofs.WidthLaws.{ends_inside, width_inside}
 use Rattle.isl_blocks.proofs.cases.order_case.Goals as goal

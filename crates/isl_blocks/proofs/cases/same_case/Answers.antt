@@ -1,4 +1,4 @@
-use Rattle.std.proofs.Common.{◌≡◌, ◌+◌, ◌<◌, ◌≤◌, ap, ap₂, sym, ◌∙◌, arith, subst, ◌++◌, ◌∷◌, [], List, length, ℕ, take}
+use Rattle.std.proofs.Common.{◌≡◌, ap, ap₂, sym, ◌∙◌, arith, List, take}
 use Rattle.isl_piece.specs.declared.row.Row.{Row}
 use Rattle.isl_blocks.specs.Blocks.{total, width_at}
 use Rattle.isl_blocks.specs.CaseRows.{of_rows, same_rows}

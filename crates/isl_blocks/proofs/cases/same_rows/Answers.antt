@@ -1,4 +1,4 @@
-use Rattle.std.proofs.Common.{◌≡◌, ap, ap₂, sym, ◌∙◌, ◌+◌, ◌++◌, ◌∷◌, [], map, pos, List, ℕ}
+use Rattle.std.proofs.Common.{ap, ap₂, sym, ◌∙◌, ◌+◌, ◌++◌, ◌∷◌, [], map, pos, List, ℕ}
 use Rattle.std.specs.List.{range_with_len}
 use Rattle.std.proofs.lemmas.List.{map-append}
 use Rattle.isl_piece.specs.declared.row.RowKind.TheVariants.{Zero}

@@ -1,5 +1,4 @@
-use Rattle.std.proofs.Common.{◌≡◌, ◌<◌, ◌+◌, ◌++◌, [], ◌∷◌, arith, length, get_or, refl, subst, sym, ap, ◌∙◌, take}
-use Rattle.std.proofs.lemmas.Grind.{common_steps}
+use Rattle.std.proofs.Common.{◌≡◌, ◌<◌, ◌+◌, length, subst, sym, ap, ◌∙◌, take}
 use Rattle.isl_meter.proofs.CutLemmas.{IsCharged_trans}
 use Rattle.isl_piece.specs.System.{IsSystemWithin, free_columns}
 use Rattle.isl_difference.proofs.DifferenceLaws.{system_at, system_within}

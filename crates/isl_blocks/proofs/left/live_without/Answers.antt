@@ -1,11 +1,9 @@
-use Rattle.std.proofs.Common.{◌≡◌, ◌↔◌, ◌∙◌, ap, sym, subst, List, [], All, ℤ, get_or, length, IfOk}
+use Rattle.std.proofs.Common.{sym, subst, List, All, get_or, IfOk}
 use Rattle.std.proofs.lemmas.Result.{IfOk-weaker}
 use Rattle.isl_piece.specs.declared.system.System.{System}
-use Rattle.isl_piece.specs.System.{IsSystemWithin, free_columns}
-use Rattle.isl_piece.proofs.FormedLaws.{system_within_kept}
+use Rattle.isl_piece.specs.System.{IsSystemWithin}
 use Rattle.isl_difference.proofs.SplitLaws.{charged_within}
-use Rattle.isl_elim.specs.Elimination.{HoldsAtAny}
-use Rattle.isl_blocks.specs.Left.{AreLiveOf, HoldsBefore, IsLeftWithout}
+use Rattle.isl_blocks.specs.Left.{AreLiveOf, IsLeftWithout}
 use Rattle.isl_blocks.proofs.LeftLaws.{left_made}
 use Rattle.isl_blocks.proofs.left.live_without.Goals as goal
 

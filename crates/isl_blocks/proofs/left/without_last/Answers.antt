@@ -1,13 +1,12 @@
-use Rattle.std.proofs.Common.{◌≡◌, ◌≢◌, ◌↔◌, ◌∙◌, sym, ap, arith, subst, ◌+◌, ◌-◌, ◌<◌, ℕ, List, [], All}
+use Rattle.std.proofs.Common.{◌≡◌, ◌≢◌, ◌↔◌, ◌∙◌, sym, ap, arith, subst, ◌+◌, ◌-◌, ◌<◌, ℕ, List, All}
 use Rattle.std.specs.Prelude.{AllPairs}
 use Rattle.std.specs.List.{range_with_len}
 use Rattle.std.proofs.lemmas.Result.{IfOk-weaker}
 use Rattle.isl_piece.specs.System.{free_columns}
-use Rattle.isl_elim.specs.Dependents.{kept_definitions}
 use Rattle.isl_elim.specs.Elimination.{HoldsAtAny, IsProjectionAlong}
 use Rattle.isl_elim.proofs.RangeLaws.{range_below, range_distinct}
 use Rattle.isl_blocks.specs.Left.{HoldsBefore}
-use Rattle.isl_blocks.proofs.LeftLaws.{kept_none, left_columns, left_points}
+use Rattle.isl_blocks.proofs.LeftLaws.{left_columns, left_points}
 use Rattle.isl_blocks.proofs.left.without_last.Goals as goal
 
 pub eliminate_all-requires-clause-distinct : goal.eliminate_all-requires-clause-distinct

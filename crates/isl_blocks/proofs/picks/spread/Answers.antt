@@ -2,7 +2,7 @@ use Rattle.std.proofs.Common.{◌≡◌, ◌↔◌, ◌∙◌, ap, sym, subst, a
 use Rattle.isl_piece.specs.Meet.{numbers_at}
 use Rattle.isl_piece.specs.Placed.{placed_system, ArePlacesAmong}
 use Rattle.isl_piece.specs.System.{HoldsSystem, IsSystemWithin, free_columns}
-use Rattle.isl_blocks.specs.Blocks.{places_of, total, IsSpread}
+use Rattle.isl_blocks.specs.Blocks.{total, IsSpread}
 use Rattle.isl_blocks.proofs.PickLaws.{picked_are}
 use Rattle.isl_blocks.proofs.ResultLaws.{ok_case, ok_has}
 use Rattle.isl_blocks.proofs.SpreadLaws.{spread_made}

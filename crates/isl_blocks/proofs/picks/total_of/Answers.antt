@@ -1,5 +1,4 @@
-use Rattle.std.proofs.Common.{◌≡◌, ◌+◌, ◌∙◌, ap, sym, arith, take}
-use Rattle.isl_blocks.specs.Blocks.{total}
+use Rattle.std.proofs.Common.{◌+◌, arith}
 use Rattle.isl_blocks.proofs.WidthLaws.{total_more, total_take}
 use Rattle.isl_blocks.proofs.picks.total_of.Goals as goal
 
