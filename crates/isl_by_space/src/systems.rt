@@ -13,11 +13,7 @@ use std::alloc::{AllocError, Global};
 /// # Errors
 ///
 /// Where memory ends.
-pub fn systems_in(
-    alloc: Global,
-    space: &Space,
-    pieces: &[Piece],
-) -> Result<Vec<System>, AllocError>
+pub fn systems_in(alloc: Global, space: &Space, pieces: &[Piece]) -> Result<Vec<System>, AllocError>
     ensures { IfOk result (λ systems. systems.items ≡ systems_in (space_form_of space.now) pieces.now) }
 {
     let mut systems = Vec::new(alloc);

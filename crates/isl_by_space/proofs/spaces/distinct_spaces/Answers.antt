@@ -27,7 +27,7 @@ loop-piece-preserved c =
     let told = rw (c.as_slice.ensures.value, c.space-space.ensures) at c.is_among.ensures in
     elim c.if-not-is_among.branch [
       | then-not-is_among+in_ok-copy+in_ok-push w ↦
-          let none = not_so (Is piece.space) c.is_among.result w.if-not-is_among.false told in
+          let none = not_so (Is piece.space) c.is_among.result w.if-not-is_among.true told in
           spaces_new pieces i piece low c.piece-item.is (map space_form_of found) c.loop-piece.invariant
           (λ any. none (Any-unmapped (λ s. piece.space ≡ s) space_form_of found any)) (map space_form_of c.if-not-is_among.spaces.items)
           (ap (λ (l : List Space). map space_form_of l) (ap (λ v. v.items) w.spaces-is ∙ w.in_ok-push.ensures.items)
@@ -36,7 +36,7 @@ loop-piece-preserved c =
       | else-not-is_among w ↦
           subst (λ l. AreSpacesOf (take (i + 1) pieces) (map space_form_of l)) (ap (λ v. v.items) (sym w.spaces-is))
           (spaces_known pieces i piece low c.piece-item.is (map space_form_of found) c.loop-piece.invariant
-          (Any-mapped (λ s. piece.space ≡ s) space_form_of found (told.0 w.if-not-is_among.true)))
+          (Any-mapped (λ s. piece.space ≡ s) space_form_of found (told.0 w.if-not-is_among.false)))
     ]
 
 pub returns : goal.returns

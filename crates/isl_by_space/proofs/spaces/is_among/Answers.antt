@@ -1,4 +1,4 @@
-use Rattle.std.proofs.Common.{◌≡◌, ◌<◌, ◌≤◌, true, false, arith, length}
+use Rattle.std.proofs.Common.{◌≡◌, ◌≤◌, arith, length}
 use Rattle.isl_space.specs.Space.{space_form_of}
 use Rattle.isl_space.specs.declared.space.Space.{Space}
 use Rattle.isl_difference.proofs.BoundLaws.{none_at_first, none_found, not_so, one_found, one_none}
