@@ -11,7 +11,8 @@ abbrev number : List ℤ → ℕ → ℤ
 number xs k = get_or xs k (pos 0)
 
 -- the numbers of a list that stands between others
-pub numbers_between : (front block behind : List ℤ) → numbers_at (range_with_len (length front) (length block)) (front ++ (block ++ behind)) ≡ block
+pub numbers_between : (front block behind : List ℤ)
+    → numbers_at (range_with_len (length front) (length block)) (front ++ (block ++ behind)) ≡ block
 numbers_between front block behind = ext_get_or (pos 0) (numbers_at places all) block long (λ i l. at i (rw long at l))
   where
     places : List ℕ

@@ -1,5 +1,6 @@
 -- What is left of systems without their last columns.
-use Rattle.std.proofs.Common.{◌≡◌, ◌↔◌, inl, inr, sym, ap, ap₂, ◌∙◌, subst, arith, ℕ, ◌+◌, ◌<◌, ℤ, List, [], ◌∷◌, ◌++◌, All, length, length-append, map, get_or}
+use Rattle.std.proofs.Common.{◌≡◌, ◌↔◌, inl, inr, sym, ap, ap₂, ◌∙◌, subst, arith, ℕ, ◌+◌, ◌<◌, ℤ, List, [], ◌∷◌, ◌++◌, All, get_or}
+use Rattle.std.proofs.Common.{length, length-append, map}
 use Rattle.std.proofs.Common.{take, drop, take-append-drop}
 use Rattle.std.specs.List.{range_with_len}
 use Rattle.std.proofs.lemmas.List.{length-drop, length-take-le, take_more}

@@ -1,5 +1,6 @@
 -- The places of picked blocks are among all columns, and apart where no block is picked twice.
-use Rattle.std.proofs.Common.{◌≡◌, ◌≢◌, ◌⊎◌, inl, inr, refl, sym, ap, ◌∙◌, arith, ℕ, zero, suc, ◌+◌, ◌-◌, ◌<◌, ◌≤◌, List, [], ◌∷◌, ◌++◌, All}
+use Rattle.std.proofs.Common.{◌≡◌, ◌≢◌, ◌⊎◌, inl, inr, refl, sym, ap, ◌∙◌, arith, ℕ, zero, suc, ◌+◌, ◌-◌, ◌<◌, ◌≤◌, List, [], ◌∷◌}
+use Rattle.std.proofs.Common.{◌++◌, All}
 use Rattle.std.proofs.Common.{length, length-append, get_or}
 use Rattle.std.specs.List.{range_with_len, AllPairs}
 use Rattle.std.proofs.lemmas.Bool.{cases_lt}
@@ -50,7 +51,8 @@ blocks_differ start (width ∷ widths) (suc i) (suc j) differ k l d e a b same =
 pub places_inside : (widths picks : List ℕ) → All (λ p. p < total widths) (places_of widths picks)
 places_inside widths [] = All-nil (λ p. p < total widths)
 places_inside widths (i ∷ picks) =
-    All-append (λ p. p < total widths) (block_places 0 widths i) (places_of widths picks) (λ k d l. let m = (block_in 0 widths i k d l).1 in omega (arith, m))
+    All-append (λ p. p < total widths) (block_places 0 widths i) (places_of widths picks)
+    (λ k d l. let m = (block_in 0 widths i k d l).1 in omega (arith, m))
     (places_inside widths picks)
 
 -- what differs from each of the picked blocks' places
@@ -95,7 +97,8 @@ apart_append xs ys one two cross = λ i j d before within.
         cross i d p (j - length xs) d (omega (arith, within, q)) (sym (front i d p) ∙ same ∙ behind j d q)
     by i j d before within (inr p) (inl q) same = absurd (omega (arith, before, p, q))
     by i j d before within (inr p) (inr q) same =
-        two (i - length xs) (j - length xs) d (omega (arith, before, p)) (omega (arith, within, q)) (sym (behind i d p) ∙ same ∙ behind j d q)
+        two (i - length xs) (j - length xs) d (omega (arith, before, p)) (omega (arith, within, q))
+        (sym (behind i d p) ∙ same ∙ behind j d q)
 
 apart_picked : (widths picks : List ℕ) → AllPairs (λ i j. i ≢ j) picks → AllPairs (λ p q. p ≢ q) (places_of widths picks)
 apart_picked widths [] apart = λ i j d before within same. absurd (omega (arith, within))

@@ -1,6 +1,7 @@
 -- Rows that compare the numbers of two blocks of columns.
 use Rattle.std.proofs.Common.{◌≡◌, ◌≢◌, ◌↔◌, ◌⊎◌, inl, inr, refl, sym, ap, ◌∙◌, subst, arith, ℕ, ◌+◌, ◌<◌, ◌≤◌, ◌^◌, ℤ, pos, negsuc}
-use Rattle.std.proofs.Common.{◌+ℤ◌, ◌-ℤ◌, ◌*ℤ◌, ◌<ℤ◌, ◌≤ℤ◌, List, [], ◌∷◌, All, length, get_or, set, length-set, get_or-set_other, replicate, take, pow_mono}
+use Rattle.std.proofs.Common.{◌+ℤ◌, ◌-ℤ◌, ◌*ℤ◌, ◌<ℤ◌, ◌≤ℤ◌, List, [], ◌∷◌, All, length, get_or}
+use Rattle.std.proofs.Common.{set, length-set, get_or-set_other, replicate, take, pow_mono}
 use Rattle.std.specs.List.{range_with_len}
 use Rattle.std.proofs.lemmas.Bool.{cases_lt}
 use Rattle.std.proofs.lemmas.List.{ext_get_or, get_or-replicate, get_or-take, length-replicate, length-take-le, take_all}
@@ -83,7 +84,8 @@ module _ (columns plus minus : ℕ) (first : plus < columns) (second : minus < c
       by : (t x y : ℤ) → t ≡ x -ℤ y → (pos 0 ≤ℤ (t +ℤ negsuc 0)) ↔ (y <ℤ x)
       by t x y e = ((λ h. omega (arith, linear)), (λ h. omega (arith, linear)))
 
-  pub row_formed : (kind : RowKind) (constant : ℤ) → HasModulus kind (pos 1) → IsWellFormed columns (compared_row kind columns plus minus constant)
+  pub row_formed : (kind : RowKind) (constant : ℤ) → HasModulus kind (pos 1)
+      → IsWellFormed columns (compared_row kind columns plus minus constant)
   row_formed kind constant modulus = record { width = two_long; modulus = modulus }
 
   pub row_within : (kind : RowKind) (constant : ℤ) (g : Gauge) → 8 ≤ g.bits → IsWithin g constant
@@ -92,7 +94,8 @@ module _ (columns plus minus : ℕ) (first : plus < columns) (second : minus < c
       let room : 2 ^ 8 ≤ 2 ^ g.bits = pow_mono bits in
       record {
         coefs = All-set (IsWithin g) one minus (negsuc 0) (omega (arith, room))
-            (All-set (IsWithin g) zeros plus (pos 1) (omega (arith, room)) (All-replicate (IsWithin g) columns (pos 0) (omega (arith, room))));
+            (All-set (IsWithin g) zeros plus (pos 1) (omega (arith, room))
+            (All-replicate (IsWithin g) columns (pos 0) (omega (arith, room))));
         constant = small;
         k = omega (arith, room);
       }
@@ -164,12 +167,15 @@ module _ (widths : List ℕ) (a b : ℕ) (here : a < length widths) (there : b <
       let i = get_or (range_with_len 0 count) k d in
       let room : 2 ^ 8 ≤ 2 ^ g.bits = pow_mono bits in
       let low : i < w = (let p = place_low count k d l in omega (arith, p, inside)) in
-      row_within columns (second + i) (first + i) (second_in i low) (first_in i low) (apart_back i low) Zero (pos 0) g bits (omega (arith, room)))
+      row_within columns (second + i) (first + i) (second_in i low) (first_in i low) (apart_back i low) Zero (pos 0) g bits
+      (omega (arith, room)))
 
   module _ (at : ℕ) (low : at < w) where
     pub next_formed : (direction : Direction) → IsWellFormed columns (next_row columns (first + at) (second + at) direction)
-    next_formed Before = row_formed columns (second + at) (first + at) (second_in at low) (first_in at low) (apart_back at low) AtLeast (negsuc 0) refl
-    next_formed After = row_formed columns (first + at) (second + at) (first_in at low) (second_in at low) (apart at low) AtLeast (negsuc 0) refl
+    next_formed Before =
+        row_formed columns (second + at) (first + at) (second_in at low) (first_in at low) (apart_back at low) AtLeast (negsuc 0) refl
+    next_formed After =
+        row_formed columns (first + at) (second + at) (first_in at low) (second_in at low) (apart at low) AtLeast (negsuc 0) refl
 
     pub next_within : (g : Gauge) → 8 ≤ g.bits → (direction : Direction)
         → IsRowWithin g (next_row columns (first + at) (second + at) direction)
@@ -242,11 +248,13 @@ module _ (widths : List ℕ) (a b : ℕ) (here : a < length widths) (there : b <
       next_holds : (direction : Direction) → HoldsRow (next_row columns (first + at) (second + at) direction) whole ↔ LessAt direction
       next_holds Before =
           subst (λ m. HoldsRow (next_row columns (first + at) (second + at) Before) whole ↔ (m <ℤ get_or ys at (pos 0))) (at_first at low)
-          (subst (λ n. HoldsRow (next_row columns (first + at) (second + at) Before) whole ↔ (get_or whole (first + at) (pos 0) <ℤ n)) (at_second at low)
+          (subst (λ n. HoldsRow (next_row columns (first + at) (second + at) Before) whole ↔ (get_or whole (first + at) (pos 0) <ℤ n))
+          (at_second at low)
           (less_holds columns (second + at) (first + at) (second_in at low) (first_in at low) (apart_back at low) whole))
       next_holds After =
           subst (λ m. HoldsRow (next_row columns (first + at) (second + at) After) whole ↔ (get_or ys at (pos 0) <ℤ m)) (at_first at low)
-          (subst (λ n. HoldsRow (next_row columns (first + at) (second + at) After) whole ↔ (n <ℤ get_or whole (first + at) (pos 0))) (at_second at low)
+          (subst (λ n. HoldsRow (next_row columns (first + at) (second + at) After) whole ↔ (n <ℤ get_or whole (first + at) (pos 0)))
+          (at_second at low)
           (less_holds columns (first + at) (second + at) (first_in at low) (second_in at low) (apart at low) whole))
 
       both_at : (direction : Direction) → (take at xs ≡ take at ys) → LessAt direction → DiffersAt direction at xs ys
@@ -285,7 +293,8 @@ module _ (widths : List ℕ) (a b : ℕ) (here : a < length widths) (there : b <
         whole_of n zs l = take_all n zs l
 
   -- ---- the systems
-  pub case_made : (at : ℕ) → at < w → (direction : Direction) (made : System) → made ≡ of_rows columns (case_rows columns first second at direction)
+  pub case_made : (at : ℕ) → at < w → (direction : Direction) (made : System)
+      → made ≡ of_rows columns (case_rows columns first second at direction)
       → IsCaseOf widths a b (DiffersAt direction at) made
   case_made at low direction made is = rw is (record {
     points = λ blocks are. case_holds blocks are at low direction;

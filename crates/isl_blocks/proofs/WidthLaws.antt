@@ -34,11 +34,13 @@ width_inside (width ∷ widths) zero at l = omega arith
 width_inside (width ∷ widths) (suc i) at l = let less = width_inside widths i at l in omega (arith, less)
 
 -- a block ends before those behind it begin
-pub ends_before : (widths : List ℕ) (i j : ℕ) → i < j → j ≤ length widths → total (take i widths) + width_at widths i ≤ total (take j widths)
+pub ends_before : (widths : List ℕ) (i j : ℕ) → i < j → j ≤ length widths
+    → total (take i widths) + width_at widths i ≤ total (take j widths)
 ends_before [] i j before inside = absurd (omega arith)
 ends_before (width ∷ widths) i zero before inside = absurd (omega arith)
 ends_before (width ∷ widths) zero (suc j) before inside = omega arith
-ends_before (width ∷ widths) (suc i) (suc j) before inside = let less = ends_before widths i j (omega arith) (omega arith) in omega (arith, less)
+ends_before (width ∷ widths) (suc i) (suc j) before inside =
+    let less = ends_before widths i j (omega arith) (omega arith) in omega (arith, less)
 
 -- and within all columns
 pub ends_inside : (widths : List ℕ) (i : ℕ) → total (take i widths) + width_at widths i ≤ total widths
@@ -94,7 +96,8 @@ number_in_block (block ∷ blocks) zero i l =
     ap (λ n. get_or (block ++ numbers_of blocks) n (pos 0)) (omega arith) ∙ get_or_append_left block (numbers_of blocks) (pos 0) i l
 number_in_block (block ∷ blocks) (suc b) i l =
     let start = total (take b (widths_of blocks)) in
-    ap (λ n. get_or (block ++ numbers_of blocks) n (pos 0)) (by (length block) start) ∙ get_or-append-add block (numbers_of blocks) (start + i) (pos 0)
+    ap (λ n. get_or (block ++ numbers_of blocks) n (pos 0)) (by (length block) start)
+    ∙ get_or-append-add block (numbers_of blocks) (start + i) (pos 0)
     ∙ number_in_block blocks b i l
   where
     by : (m n : ℕ) → (m + n) + i ≡ m + (n + i)

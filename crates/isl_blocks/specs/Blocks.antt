@@ -53,7 +53,8 @@ places_of widths picks = flat_map (block_places 0 widths) picks
 -- ---- systems
 -- the system over all blocks that was made holds where the other does at the picked ones, and defines no column where that defines none
 pub record IsSpread (g : Gauge) (widths picks : List ℕ) (system made : System) : Type 0 where
-  pub points : (blocks : List (List ℤ)) → widths_of blocks ≡ widths → HoldsSystem made (numbers_of blocks) ↔ HoldsSystem system (picked picks blocks)
+  pub points : (blocks : List (List ℤ)) → widths_of blocks ≡ widths
+      → HoldsSystem made (numbers_of blocks) ↔ HoldsSystem system (picked picks blocks)
   pub within : IsSystemWithin g made
   pub free : free_columns made ≡ total widths
   pub definitions : system.definitions ≡ [] → made.definitions ≡ []

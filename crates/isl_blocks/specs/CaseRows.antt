@@ -28,7 +28,8 @@ next_row columns first second After = compared_row AtLeast columns first second 
 
 -- the rows of a case
 abbrev pub case_rows : ℕ → ℕ → ℕ → ℕ → Direction → List Row
-case_rows columns first second at direction = same_rows columns first second at ++ next_row columns (first + at) (second + at) direction ∷ []
+case_rows columns first second at direction =
+    same_rows columns first second at ++ next_row columns (first + at) (second + at) direction ∷ []
 
 -- the system of the rows over so many columns, none of which is defined
 abbrev pub of_rows : ℕ → List Row → System

@@ -17,8 +17,8 @@ pub record AreLiveOf (g : Gauge) (columns : ℕ) (systems live : List System) : 
   pub each : All (IsLive g columns) live
   pub definitions : All (λ s. s.definitions ≡ []) systems → All (λ s. s.definitions ≡ []) live
 
--- normal systems over the first `kept` columns, each with a point, of which some holds at a point exactly where some `count` numbers behind it
--- make the system hold
+-- normal systems over the first `kept` columns, each with a point, of which some holds at a point exactly where some `count` numbers behind
+-- it make the system hold
 pub record IsLeftWithout (g : Gauge) (system : System) (kept count : ℕ) (left : List System) : Type 0 where
   pub points : (point : List ℤ) → length point ≡ kept → HoldsAtAny left point ↔ HoldsBefore system count point
   pub live : All (IsLive g kept) left

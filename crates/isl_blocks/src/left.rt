@@ -12,8 +12,12 @@ use isl_meter::{Cut, Meter};
 use isl_piece::System;
 use std::alloc::Global;
 
-// The systems that are left without the last columns.
-fn without_last(
+/// What is left of the system over the first `kept` of its free columns, without the last `count`.
+///
+/// # Errors
+///
+/// `Overflow` where a number passes the limit of the meter, `Budget` where its units are used up, and `NoMemory`.
+pub fn without_last(
     alloc: Global,
     system: &System,
     kept: usize,

@@ -6,5 +6,5 @@ mod left;
 mod picks;
 
 pub use cases::{Direction, order_case, same_case};
-pub use left::live_without;
+pub use left::{live_without, without_last};
 pub use picks::spread;

@@ -26,7 +26,8 @@ module _ (pieces : List PieceView) (i : ℕ) (piece : PieceView) (low : i < leng
 
   -- spaces of pieces before are spaces of one more
   only_more : All (λ s. Any (λ (p : PieceView). p.space ≡ s) (before ++ piece ∷ [])) spaces
-  only_more = All-weaker (λ s. Any (λ (p : PieceView). p.space ≡ s) before) (λ s. Any (λ (p : PieceView). p.space ≡ s) (before ++ piece ∷ []))
+  only_more = All-weaker (λ s. Any (λ (p : PieceView). p.space ≡ s) before)
+      (λ s. Any (λ (p : PieceView). p.space ≡ s) (before ++ piece ∷ []))
       (λ s h. Any-left (λ (p : PieceView). p.space ≡ s) before (piece ∷ []) h) spaces so_far.only
 
   -- one whose space is there

@@ -13,8 +13,8 @@ live_form-requires c =
     let i = c.loop-system.system-index in
     let inside : i < length systems = c.loop-system-test.true in
     subst (IsSystemWithin c.loop-system.meter) (sym c.in_ok-copy.ensures)
-    (system_within c.args.meter.now c.loop-system.meter systems i c.system-item.result c.loop-system.invariant.charged c.requires.within inside
-    c.system-item.is)
+    (system_within c.args.meter.now c.loop-system.meter systems i c.system-item.result c.loop-system.invariant.charged c.requires.within
+    inside c.system-item.is)
 
 pub loop-system-preserved : goal.loop-system-preserved
 loop-system-preserved c =
