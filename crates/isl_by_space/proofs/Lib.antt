@@ -1,0 +1,3 @@
+pub mod OverLaws
+pub mod ResultLaws
+pub mod SpaceLaws

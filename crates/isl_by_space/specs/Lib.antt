@@ -1,0 +1,2 @@
+pub mod Spaces
+pub use Rattle.isl_union.specs.Minus
