@@ -1,12 +1,12 @@
 -- The halves of equations, and rows that hold throughout a system.
 use Rattle.std.proofs.Common.{◌≡◌, ◌↔◌, inl, inr, refl, sym, ap, ◌∙◌, arith, ℕ, ◌<◌, ◌^◌, ℤ, pos, negsuc, neg_ℤ, ◌*ℤ◌, ◌+ℤ◌, ◌≤ℤ◌}
-use Rattle.std.proofs.Common.{List, [], ◌∷◌, All, Bool, length, subst, unsigned_abs, suc, Result, Ok, Err}
+use Rattle.std.proofs.Common.{List, [], ◌∷◌, All, Bool, length, unsigned_abs, suc, Result, Ok, Err}
 use Rattle.std.specs.Prelude.{IfOk, IsTrue}
 use Rattle.std.proofs.lemmas.Int.{ints}
 use Rattle.std.proofs.lemmas.List.{length-map}
 use Rattle.std.proofs.lemmas.List.Elements.{All-nil, All-cons, All-head}
 use Rattle.isl_math.specs.Dot.{dot, scaled}
-use Rattle.isl_math.proofs.Ring.{expand, linear}
+use Rattle.isl_math.proofs.Ring.{linear}
 use Rattle.isl_math.proofs.DotLaws.{dot-scaled}
 use Rattle.isl_meter.specs.Gauge.{Gauge, IsCharged, IsWithin}
 use Rattle.isl_piece.specs.declared.definition.Definition.{Definition}
@@ -15,10 +15,9 @@ use Rattle.isl_piece.specs.declared.row.RowKind.TheVariants.{Zero, AtLeast, Divi
 use Rattle.isl_piece.specs.declared.row.Row.{Row}
 use Rattle.isl_piece.specs.declared.system.System.{System}
 use Rattle.isl_piece.specs.Definition.{with_defined}
-use Rattle.isl_piece.specs.Negation.{halves_of}
 use Rattle.isl_piece.specs.Normal.{bound}
-use Rattle.isl_piece.specs.Row.{HasModulus, HoldsRow, HoldsValue, IsRowWithin, IsWellFormed, value_at}
-use Rattle.isl_piece.specs.System.{HoldRows, HoldsSystem, free_columns}
+use Rattle.isl_piece.specs.Row.{HasModulus, HoldsRow, HoldsValue, value_at}
+use Rattle.isl_piece.specs.System.{HoldRows, free_columns}
 use Rattle.isl_piece.proofs.RowMagnitudes.{row_within_kept}
 use Rattle.isl_elim.specs.Sample.{IsNowhere}
 use Rattle.isl_difference.specs.Split.{HoldsBut}
@@ -108,11 +107,11 @@ throughout g s rows r b plain fit is h =
       (λ t point long holds. elim (row_cases r point fit.0.modulus) [
         | inl true ↦ true
         | inr fails ↦ absurd (h.0 t point (long ∙ sym free) (
-            holds,
-            λ all.
-                let one : HoldRows (r ∷ []) point = rw (is, same point) at all in
-                fails (All-head (H point) r [] one),
-          ))
+          holds,
+          λ all.
+              let one : HoldRows (r ∷ []) point = rw (is, same point) at all in
+              fails (All-head (H point) r [] one),
+        ))
       ]),
       (λ true. h.1 (λ point long but.
           but.1 (rw (is, same point) (All-cons (H point) r [] (true point (long ∙ free) but.0) (All-nil (H point)))))),

@@ -1,20 +1,19 @@
 -- What two systems keep beside one another.
-use Rattle.std.proofs.Common.{◌≡◌, ◌↔◌, ◌⊎◌, inl, inr, refl, sym, ap, ◌∙◌, arith, subst, ℤ, List, [], ◌∷◌, ◌++◌, All, Some, length}
+use Rattle.std.proofs.Common.{◌≡◌, ◌↔◌, ◌⊎◌, inl, inr, refl, sym, ◌∙◌, arith, subst, ℤ, List, [], ◌∷◌, ◌++◌, All, Some, length}
 use Rattle.std.proofs.lemmas.List.Elements.{All-append}
-use Rattle.std.specs.Prelude.{IsTrue}
-use Rattle.isl_math.proofs.ListLaws.{All-parts, Any-cases, Any-first, Any-later, Any-none, Any-one}
+use Rattle.isl_math.proofs.ListLaws.{All-parts, Any-cases, Any-first, Any-later, Any-one}
 use Rattle.isl_meter.specs.Gauge.{Gauge}
 use Rattle.isl_piece.specs.declared.row.Row.{Row}
 use Rattle.isl_piece.specs.declared.system.System.{System}
 use Rattle.isl_piece.specs.Normal.{normal_rows, IsNormal}
 use Rattle.isl_piece.specs.Row.{HasModulus, HoldsRow, IsRowWithin, IsWellFormed}
-use Rattle.isl_piece.specs.System.{HoldRows, HoldsSystem, IsSystemWithin, free_columns}
+use Rattle.isl_piece.specs.System.{HoldRows, HoldsSystem, free_columns}
 use Rattle.isl_elim.specs.Elimination.{HoldsAtAny}
 use Rattle.isl_elim.specs.Sample.{IsNowhere}
 use Rattle.isl_difference.specs.Difference.{IsCovered}
-use Rattle.isl_coalesce.specs.Found.{AreOfEither, AreUnjoinedSystems, IsFit, IsJointSystem, IsPlain, IsTrueThroughout}
+use Rattle.isl_coalesce.specs.Found.{AreUnjoinedSystems, IsFit, IsJointSystem, IsPlain, IsTrueThroughout}
 use Rattle.isl_coalesce.specs.Parts.{AreParts}
-use Rattle.isl_coalesce.proofs.HalfLaws.{halves_fit, halves_hold, halves_modulus, plain_free, plain_point}
+use Rattle.isl_coalesce.proofs.HalfLaws.{halves_fit, halves_hold, plain_free, plain_point}
 use Rattle.isl_coalesce.proofs.PartLaws.{parts_keep, parts_true}
 
 -- the rows of a system that defines no column are rows over its columns

@@ -1,5 +1,5 @@
 -- The joint piece of two pieces.
-use Rattle.std.proofs.Common.{◌≡◌, ◌↔◌, ◌⊎◌, inl, inr, refl, sym, ap, ap₂, ◌∙◌, arith, subst, ℕ, ◌+◌, ℤ, List, [], ◌∷◌, ◌++◌, All, Some, Option, length, get_or, map, take, ◌<◌}
+use Rattle.std.proofs.Common.{◌≡◌, ◌↔◌, ◌⊎◌, inl, inr, refl, sym, ap, ap₂, ◌∙◌, arith, subst, ℕ, ◌+◌, ℤ, List, [], ◌++◌, All, Some, Option, length, get_or, map, take, ◌<◌}
 use Rattle.std.proofs.lemmas.List.Elements.{All-append, All-push}
 use Rattle.isl_math.proofs.ListLaws.{All-parts}
 use Rattle.isl_meter.specs.Gauge.{Gauge, IsCharged}
@@ -24,7 +24,7 @@ use Rattle.isl_union.proofs.MeetSteps.{charged_bits}
 use Rattle.isl_union.proofs.MinusLaws.{element_long, kept_more}
 use Rattle.isl_union.proofs.SystemLaws.{kept_from, system_is}
 use Rattle.isl_coalesce.specs.Found.{AreUnjoinedSystems, IsJointPiece, IsJointSystem, IsPlainPiece, IsTrueThroughout}
-use Rattle.isl_coalesce.specs.Joint.{AreUnjoined, IsJointOf, IsTrueOn}
+use Rattle.isl_coalesce.specs.Joint.{AreUnjoined, IsTrueOn}
 use Rattle.isl_coalesce.proofs.HalfLaws.{plain_point}
 use Rattle.isl_coalesce.proofs.JointLaws.{both_moduli, in_first, in_second}
 use Rattle.isl_coalesce.proofs.PartLaws.{parts_only, parts_same}
@@ -127,10 +127,10 @@ module _ (g : Gauge) (params : List Name) (distinct : AreDistinct params) (p q :
         back = λ j h.
             let is = ap₂ (λ a b. normal_rows (a ++ b)) (in_q u.second h.first others h.own) (in_p u.first h.second own h.others) in
             let turned : (v : Valuation) (e : Element) → HasElement params v e j
-                → HasElement params v e (kept_piece p) ⊎ HasElement params v e (kept_piece q) = λ v e x.
+            → HasElement params v e (kept_piece p) ⊎ HasElement params v e (kept_piece q) = λ v e x.
             elim ((h.elements v e).0 x) [ inl y ↦ inr y | inr y ↦ inl y ] in
             u.beyond (λ point long a b.
-                of_either j u.second u.first back (is ∙ h.rows) h.definitions (h.space ∙ space) turned point long b a);
+            of_either j u.second u.first back (is ∙ h.rows) h.definitions (h.space ∙ space) turned point long b a);
       }
 
   -- the piece of the joint system

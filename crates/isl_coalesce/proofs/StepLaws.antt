@@ -2,14 +2,13 @@
 use Rattle.std.proofs.Common.{◌≡◌, ◌↔◌, inl, inr, refl, sym, ap, ap₂, ◌∙◌, arith, subst, ℕ, suc, ◌+◌, ◌<◌, ◌≤◌, List, [], ◌∷◌, ◌++◌}
 use Rattle.std.proofs.Common.{Any, length, get_or, map, take, drop, length-append, take-append-drop}
 use Rattle.std.specs.List.{remove}
-use Rattle.std.proofs.lemmas.List.{append-nil, append_assoc, drop_more, map-append, take-map, drop-map}
+use Rattle.std.proofs.lemmas.List.{append_assoc, drop_more, map-append, take-map, drop-map}
 use Rattle.isl_math.proofs.ListLaws.{Any-cases, Any-first, Any-later, Any-left, Any-parts, Any-right}
 use Rattle.isl_space.specs.Element.{Element}
 use Rattle.isl_space.specs.Name.{Name}
 use Rattle.isl_space.specs.Valuation.{Valuation}
 use Rattle.isl_union.specs.KeptValue.{KeptPiece, HasElement}
 use Rattle.isl_coalesce.specs.Coalesced.{AreSteps, IsStep, Leads}
-use Rattle.isl_coalesce.specs.Joint.{IsJointOf}
 
 module _ (params : List Name) where
   -- ---- one way after another

@@ -1,5 +1,5 @@
 -- inner: what is found of systems and of pieces on the way.
-use Rattle.std.specs.Prelude.{◌≡◌, ◌⊎◌, ◌++◌, ◌∷◌, [], ◌<◌, ℕ, ℤ, All, AllPairs, List, Option, Some, length, map, slice_index_or}
+use Rattle.std.specs.Prelude.{◌≡◌, ◌⊎◌, ◌++◌, [], ℕ, ℤ, All, AllPairs, List, Some, length, map}
 use Rattle.isl_meter.specs.Gauge.{Gauge}
 use Rattle.isl_space.specs.Name.{Name}
 use Rattle.isl_piece.specs.declared.row.Row.{Row}
@@ -8,7 +8,6 @@ use Rattle.isl_piece.specs.Normal.{normal_rows, IsNormal}
 use Rattle.isl_piece.specs.Piece.{PieceView}
 use Rattle.isl_piece.specs.Row.{HoldsRow, IsRowWithin, IsWellFormed}
 use Rattle.isl_piece.specs.System.{HoldRows, HoldsSystem, IsSystemWithin}
-use Rattle.isl_difference.specs.Difference.{IsCovered}
 use Rattle.isl_union.specs.Piece.{kept_piece, IsPieceOf}
 use Rattle.isl_coalesce.specs.Coalesced.{Leads}
 use Rattle.isl_coalesce.specs.Joint.{AreUnjoined, IsJointOf}

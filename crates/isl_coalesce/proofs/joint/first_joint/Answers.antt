@@ -12,10 +12,11 @@ loop-at-preserved c =
     let others = c.args.others.now in
     let i = c.loop-at.at in
     let low : i < length others = omega arith in
-    let apart = rw c.in_default.is at c.in_ok-joint.ensures.exact in
-    ( apart_next c.args.params.now others i c.index-others-at.result (kept_piece c.args.piece.now) low c.index-others-at.is
-      c.loop-at.invariant.0 apart
-    , IsCharged_trans c.args.meter.now c.loop-at.meter c.joint_piece.new.meter c.loop-at.invariant.1 c.in_ok-joint.ensures.meter )
+    let apart = rw c.in_default.is at c.in_ok-joint.ensures.exact in (
+      apart_next c.args.params.now others i c.index-others-at.result (kept_piece c.args.piece.now) low c.index-others-at.is
+          c.loop-at.invariant.0 apart,
+      IsCharged_trans c.args.meter.now c.loop-at.meter c.joint_piece.new.meter c.loop-at.invariant.1 c.in_ok-joint.ensures.meter,
+    )
 
 pub returns-clause-exact : goal.returns-clause-exact
 returns-clause-exact c =

@@ -1,15 +1,12 @@
-use Rattle.std.proofs.Common.{◌≡◌, ◌↔◌, ◌++◌, ◌∷◌, [], sym, ap, ◌∙◌, arith, subst, false, true, ℤ, List, Some}
+use Rattle.std.proofs.Common.{◌≡◌, ◌↔◌, ◌++◌, sym, ap, ◌∙◌, arith, subst, false, true, ℤ, List, Some}
 use Rattle.std.specs.List.{All}
 use Rattle.std.proofs.lemmas.Bool.{false≢true}
 use Rattle.std.proofs.lemmas.Grind.{common_steps}
 use Rattle.isl_meter.proofs.CutLemmas.{IsCharged_trans}
-use Rattle.isl_piece.specs.declared.row.Row.{Row}
-use Rattle.isl_piece.specs.declared.system.System.{System}
 use Rattle.isl_piece.specs.Normal.{normal_rows, IsNormal}
 use Rattle.isl_piece.specs.Row.{HasModulus, IsRowWithin, IsWellFormed}
 use Rattle.isl_piece.specs.System.{HoldRows, IsSystemWithin}
 use Rattle.isl_piece.proofs.RowMagnitudes.{rows_within_kept}
-use Rattle.isl_difference.specs.Difference.{IsCovered}
 use Rattle.isl_union.proofs.MeetSteps.{charged_bits}
 use Rattle.isl_coalesce.specs.Found.{IsJointSystem}
 use Rattle.isl_coalesce.proofs.JointLaws.{both_formed, both_moduli, both_within, covered_joint, empty_unjoined, joint_live, plain_over, uncovered_unjoined}

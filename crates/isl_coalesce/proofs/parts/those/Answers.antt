@@ -21,9 +21,10 @@ loop-row-preserved c =
     c.in_ok-true_throughout.ensures.meter in
     elim c.if-branch.branch [
       | then-branch+in_ok-copy+in_ok-push w ↦
-          let is : c.if-branch.kept ≡ kept ++ r ∷ [] = grind (arith, common_steps) in
-          ( those_taken (IsTrueThroughout s) rows i r kept low at c.if-branch.kept is (exact.0 w.if-branch.true) c.loop-row.invariant.0
-          , charged )
+          let is : c.if-branch.kept ≡ kept ++ r ∷ [] = grind (arith, common_steps) in (
+            those_taken (IsTrueThroughout s) rows i r kept low at c.if-branch.kept is (exact.0 w.if-branch.true) c.loop-row.invariant.0,
+            charged,
+          )
       | else-branch w ↦
           let left = those_left (IsTrueThroughout s) rows i r kept low at (λ t. false≢true (sym w.if-branch.false ∙ exact.1 t))
           c.loop-row.invariant.0 in

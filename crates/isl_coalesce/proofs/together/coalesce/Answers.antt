@@ -1,4 +1,4 @@
-use Rattle.std.proofs.Common.{◌≡◌, ◌<◌, ◌≤◌, ◌++◌, ◌∷◌, [], arith, length, subst, sym}
+use Rattle.std.proofs.Common.{◌<◌, ◌≤◌, ◌++◌, ◌∷◌, [], arith, length, subst, sym}
 use Rattle.isl_meter.proofs.CutLemmas.{IsCharged_trans}
 use Rattle.isl_space.specs.Names.{IsParameterList}
 use Rattle.isl_coalesce.specs.Found.{AreJoined, IsPlainPiece}
@@ -35,9 +35,10 @@ loop-piece-preserved c =
     let new = c.put.new.pieces.items in
     let low : i < length pieces = omega arith in
     let charged = c.loop-piece.invariant.1 in
-    let more = subst (λ x. AreJoined h params (kept ++ x ∷ []) new) c.in_ok-copy.ensures c.in_ok-put.ensures.joined in
-    ( joined_more g h params pieces i piece kept new charged low c.piece-item.is c.loop-piece.invariant.0 more
-    , IsCharged_trans g h c.put.new.meter charged c.in_ok-put.ensures.meter )
+    let more = subst (λ x. AreJoined h params (kept ++ x ∷ []) new) c.in_ok-copy.ensures c.in_ok-put.ensures.joined in (
+      joined_more g h params pieces i piece kept new charged low c.piece-item.is c.loop-piece.invariant.0 more,
+      IsCharged_trans g h c.put.new.meter charged c.in_ok-put.ensures.meter,
+    )
 
 pub returns-clause-kept : goal.returns-clause-kept
 returns-clause-kept c =

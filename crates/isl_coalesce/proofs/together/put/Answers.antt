@@ -19,9 +19,10 @@ loop-last-preserved c =
     let found = rw (c.in-Some.is, c.as_slice.ensures.value) at c.in_ok-found.ensures.exact in
     let is : c.remove.new.self.items ≡ remove pieces i = c.remove.ensures.items in
     let step = put_step g params first pieces i last joint found.0
-    (joint_earlier g h params (get_or pieces i last) last joint charged found.1) c.loop-last.invariant.0 in
-    ( subst (λ l. AreUnderWay g params first l joint) (sym is) step
-    , IsCharged_trans g h c.first_joint.new.meter charged c.in_ok-found.ensures.meter )
+    (joint_earlier g h params (get_or pieces i last) last joint charged found.1) c.loop-last.invariant.0 in (
+      subst (λ l. AreUnderWay g params first l joint) (sym is) step,
+      IsCharged_trans g h c.first_joint.new.meter charged c.in_ok-found.ensures.meter,
+    )
 
 pub returns-clause-joined : goal.returns-clause-joined
 returns-clause-joined c =
