@@ -120,7 +120,8 @@ throughout g s rows r b plain fit is h =
 -- the same of an answer that may be a cut
 pub throughout_answer : {E : Type 0} (g : Gauge) (s : System) (rows : List Row) (r : Row) (answer : Result Bool E) → IsPlain g s
     → IsFit g s.columns r → rows ≡ r ∷ []
-    → IfOk answer (λ all. IsTrue all ↔ IsNowhere (free_columns s) (HoldsBut s rows)) → IfOk answer (λ all. IsTrue all ↔ IsTrueThroughout s r)
+    → IfOk answer (λ all. IsTrue all ↔ IsNowhere (free_columns s) (HoldsBut s rows))
+    → IfOk answer (λ all. IsTrue all ↔ IsTrueThroughout s r)
 throughout_answer g s rows r (Ok b) plain fit is h = throughout g s rows r b plain fit is h
 throughout_answer g s rows r (Err e) plain fit is h = tt
 

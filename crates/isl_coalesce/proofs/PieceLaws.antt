@@ -1,5 +1,6 @@
 -- The joint piece of two pieces.
-use Rattle.std.proofs.Common.{◌≡◌, ◌↔◌, ◌⊎◌, inl, inr, refl, sym, ap, ap₂, ◌∙◌, arith, subst, ℕ, ◌+◌, ℤ, List, [], ◌++◌, All, Some, Option, length, get_or, map, take, ◌<◌}
+use Rattle.std.proofs.Common.{◌≡◌, ◌↔◌, ◌⊎◌, inl, inr, refl, sym, ap, ap₂, ◌∙◌, arith, subst, ℕ, ◌+◌, ℤ, List, [], ◌++◌, All, Some}
+use Rattle.std.proofs.Common.{Option, length, get_or, map, take, ◌<◌}
 use Rattle.std.proofs.lemmas.List.Elements.{All-append, All-push}
 use Rattle.isl_math.proofs.ListLaws.{All-parts}
 use Rattle.isl_meter.specs.Gauge.{Gauge, IsCharged}
@@ -32,7 +33,8 @@ use Rattle.isl_coalesce.proofs.PartLaws.{parts_only, parts_same}
 -- the normal rows hold at the same points
 normal_hold : (rows kept : List Row) (xs : List ℤ) → All (λ r. HasModulus r.kind r.k) rows → normal_rows rows ≡ Some kept
     → HoldRows kept xs ↔ HoldRows rows xs
-normal_hold rows kept xs moduli is = subst (λ (o : Option (List Row)). HoldWhere o xs (HoldRows rows xs)) is (normal_rows_hold rows xs moduli)
+normal_hold rows kept xs moduli is =
+    subst (λ (o : Option (List Row)). HoldWhere o xs (HoldRows rows xs)) is (normal_rows_hold rows xs moduli)
 
 -- ---- the limit at another time
 plain_kept : (g h : Gauge) (params : List Name) (p : PieceView) → h.bits ≡ g.bits → IsPlainPiece h params p → IsPlainPiece g params p
@@ -90,7 +92,8 @@ module _ (g : Gauge) (params : List Name) (distinct : AreDistinct params) (p q :
   -- the points of a piece with the normal rows of some, whose elements are ones of the two
   of_either : (j : KeptPiece) (a b : List Row) → All (λ r. HasModulus r.kind r.k) (a ++ b) → normal_rows (a ++ b) ≡ Some j.rows
       → j.definitions ≡ [] → j.space ≡ p.space
-      → ((v : Valuation) (e : Element) → HasElement params v e j → HasElement params v e (kept_piece p) ⊎ HasElement params v e (kept_piece q))
+      → ((v : Valuation) (e : Element) → HasElement params v e j
+      → HasElement params v e (kept_piece p) ⊎ HasElement params v e (kept_piece q))
       → (point : List ℤ) → length point ≡ p.system.columns → HoldRows a point → HoldRows b point
       → HoldsSystem p.system point ⊎ HoldsSystem q.system point
   of_either j a b moduli is none lies elements point l hold hold' =

@@ -1,8 +1,10 @@
 -- Pieces put together, one after another.
-use Rattle.std.proofs.Common.{◌≡◌, ◌↔◌, refl, sym, ap, ◌∙◌, arith, subst, ℕ, suc, ◌+◌, ◌-◌, ◌^◌, ◌<◌, ◌≤◌, List, [], ◌∷◌, ◌++◌, All, AllPairs}
+use Rattle.std.proofs.Common.{◌≡◌, ◌↔◌, refl, sym, ap, ◌∙◌, arith, subst, ℕ, suc, ◌+◌, ◌-◌, ◌^◌, ◌<◌, ◌≤◌, List, [], ◌∷◌, ◌++◌, All}
+use Rattle.std.proofs.Common.{AllPairs}
 use Rattle.std.proofs.Common.{length, get_or, map, take, drop}
 use Rattle.std.specs.List.{remove}
-use Rattle.std.proofs.lemmas.List.{append_assoc, map-append, take_all, take_more, get_or-map, get_or-drop, length-map, length-drop, take-append-drop}
+use Rattle.std.proofs.lemmas.List.{append_assoc, map-append, take_all, take_more, get_or-map, get_or-drop, length-map, length-drop}
+use Rattle.std.proofs.lemmas.List.{take-append-drop}
 use Rattle.std.proofs.lemmas.List.Elements.{All-map, All-nil, All-append, All-push}
 use Rattle.std.proofs.lemmas.List.Quantifiers.{all_pairs_push, all_pairs_remove}
 use Rattle.isl_math.proofs.ListLaws.{All-parts}

@@ -1,5 +1,5 @@
--- public: the joint piece of two: what both keep of their rows beside the other, where that has exactly the elements of the two. (isl manual,
--- on coalescing)
+-- public: the joint piece of two: what both keep of their rows beside the other, where that has exactly the elements of the two.
+-- (isl manual, on coalescing)
 use Rattle.std.specs.Prelude.{◌≡◌, ◌↔◌, ◌⊎◌, Some, List, [], ◌++◌}
 use Rattle.isl_space.specs.Element.{Element}
 use Rattle.isl_space.specs.Name.{Name}

@@ -27,7 +27,8 @@ fn joint_system(
     requires second { IsPlain meter.old second.now }
     requires columns { second.now.columns ≡ first.now.columns }
     requires live { ¬ IsNowhere first.now.columns (HoldsSystem first.now) }
-    ensures exact { IfOk result (λ found. MatchOption found (AreUnjoinedSystems first.now second.now) (IsJointSystem meter.old first.now second.now)) }
+    ensures exact { IfOk result (λ found. MatchOption found (AreUnjoinedSystems first.now second.now)
+        (IsJointSystem meter.old first.now second.now)) }
     ensures meter { IsMetered meter.old meter.new result }
 {
     let mut rows = parts(alloc, second, &first.rows, meter)?;

@@ -10,7 +10,8 @@ pub returns-in-None-clause-exact : goal.returns-in-None-clause-exact
 returns-in-None-clause-exact c =
     let space : c.args.second.now.space ≡ c.args.first.now.space = grind (arith, common_steps) in
     let none = rw (c.in-None.is, c.system.ensures, c.system-2.ensures) at c.in_ok-joint_system.ensures.exact in
-    unjoined_pieces c.args.meter.now c.args.params.now c.requires.names c.args.first.now c.args.second.now c.requires.first c.requires.second
+    unjoined_pieces c.args.meter.now c.args.params.now c.requires.names c.args.first.now c.args.second.now c.requires.first
+    c.requires.second
     space none
 
 pub returns-in_ok-new-in-Some-clause-exact : goal.returns-in_ok-new-in-Some-clause-exact

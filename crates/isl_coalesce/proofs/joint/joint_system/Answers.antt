@@ -9,7 +9,8 @@ use Rattle.isl_piece.specs.System.{HoldRows, IsSystemWithin}
 use Rattle.isl_piece.proofs.RowMagnitudes.{rows_within_kept}
 use Rattle.isl_union.proofs.MeetSteps.{charged_bits}
 use Rattle.isl_coalesce.specs.Found.{IsJointSystem}
-use Rattle.isl_coalesce.proofs.JointLaws.{both_formed, both_moduli, both_within, covered_joint, empty_unjoined, joint_live, plain_over, uncovered_unjoined}
+use Rattle.isl_coalesce.proofs.JointLaws.{both_formed, both_moduli, both_within, covered_joint, empty_unjoined, joint_live, plain_over}
+use Rattle.isl_coalesce.proofs.JointLaws.{uncovered_unjoined}
 use Rattle.isl_coalesce.proofs.joint.joint_system.Goals as goal
 
 pub normalise-requires-clause-moduli : goal.normalise-requires-clause-moduli

@@ -3,7 +3,8 @@ use Rattle.isl_meter.proofs.CutLemmas.{IsCharged_trans}
 use Rattle.isl_space.specs.Names.{IsParameterList}
 use Rattle.isl_coalesce.specs.Found.{AreJoined, IsPlainPiece}
 use Rattle.isl_coalesce.proofs.PieceLaws.{plain_later}
-use Rattle.isl_coalesce.proofs.ValueLaws.{joined_all, joined_more, plain_pieces, value_coalesced, value_fewer, value_has, value_kept, value_made}
+use Rattle.isl_coalesce.proofs.ValueLaws.{joined_all, joined_more, plain_pieces, value_coalesced, value_fewer, value_has, value_kept}
+use Rattle.isl_coalesce.proofs.ValueLaws.{value_made}
 use Rattle.isl_coalesce.proofs.ValueLaws.{value_plain, value_small}
 use Rattle.isl_coalesce.proofs.together.coalesce.Goals as goal
 
@@ -51,7 +52,8 @@ returns-clause-kept c =
     let end : length pieces ≤ c.loop-piece.piece-index = omega arith in
     let joined = joined_all g a params pieces new c.loop-piece.piece-index same end c.loop-piece.invariant.0 in
     let made = value_made a c.from_normal.result params c.in_ok-copy-2.field-0 new same c.in_ok-copy-2.ensures c.from_normal.ensures in
-    value_kept g a c.from_normal.result pieces new c.pieces-pieces.ensures.content made joined (subst IsParameterList same c.params-params.ensures.well_formed)
+    value_kept g a c.from_normal.result pieces new c.pieces-pieces.ensures.content made joined
+    (subst IsParameterList same c.params-params.ensures.well_formed)
 
 pub returns-clause-coalesced : goal.returns-clause-coalesced
 returns-clause-coalesced c =
