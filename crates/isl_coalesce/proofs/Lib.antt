@@ -1,0 +1,6 @@
+pub mod PartLaws
+pub mod HalfLaws
+pub mod JointLaws
+pub mod PieceLaws
+pub mod StepLaws
+pub mod ValueLaws

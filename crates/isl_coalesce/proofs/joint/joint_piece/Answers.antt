@@ -1,0 +1,30 @@
+use Rattle.std.proofs.Common.{◌≡◌, arith, subst}
+use Rattle.std.proofs.lemmas.Grind.{common_steps}
+use Rattle.isl_meter.proofs.CutLemmas.{IsCharged-unit}
+use Rattle.isl_union.specs.Minus.{piece_in}
+use Rattle.isl_coalesce.specs.Found.{IsJointPiece}
+use Rattle.isl_coalesce.proofs.PieceLaws.{joint_earlier, joint_is, plain_later, unjoined_pieces}
+use Rattle.isl_coalesce.proofs.joint.joint_piece.Goals as goal
+
+pub returns-in-None-clause-exact : goal.returns-in-None-clause-exact
+returns-in-None-clause-exact c =
+    let space : c.args.second.now.space ≡ c.args.first.now.space = grind (arith, common_steps) in
+    let none = rw (c.in-None.is, c.system.ensures, c.system-2.ensures) at c.in_ok-joint_system.ensures.exact in
+    unjoined_pieces c.args.meter.now c.args.params.now c.requires.names c.args.first.now c.args.second.now c.requires.first
+    c.requires.second
+    space none
+
+pub returns-in_ok-new-in-Some-clause-exact : goal.returns-in_ok-new-in-Some-clause-exact
+returns-in_ok-new-in-Some-clause-exact c =
+    let g = c.args.meter.now in
+    let h = c.unit.new.self in
+    let params = c.args.params.now in
+    let p = c.args.first.now in
+    let q = c.args.second.now in
+    let space : q.space ≡ p.space = grind (arith, common_steps) in
+    let charged = IsCharged-unit g h c.in_ok-unit.ensures.1 in
+    let found = rw (c.in-Some.is, c.system.ensures, c.system-2.ensures) at c.in_ok-joint_system.ensures.exact in
+    let made = joint_is h params c.requires.names p q (plain_later g h params p charged c.requires.first)
+    (plain_later g h params q charged c.requires.second) space c.in-Some.joint found in
+    let is : piece_in p.space c.in-Some.joint ≡ c.in_ok-new-in-Some.field-0 = grind (arith, common_steps) in
+    joint_earlier g h params p q c.in_ok-new-in-Some.field-0 charged (subst (IsJointPiece h params p q) is made)

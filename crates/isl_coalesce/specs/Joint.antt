@@ -1,0 +1,35 @@
+-- public: the joint piece of two: what both keep of their rows beside the other, where that has exactly the elements of the two.
+-- (isl manual, on coalescing)
+use Rattle.std.specs.Prelude.{◌≡◌, ◌↔◌, ◌⊎◌, Some, List, [], ◌++◌}
+use Rattle.isl_space.specs.Element.{Element}
+use Rattle.isl_space.specs.Name.{Name}
+use Rattle.isl_space.specs.Valuation.{Valuation}
+use Rattle.isl_piece.specs.declared.row.Row.{Row}
+use Rattle.isl_piece.specs.Normal.{normal_rows}
+use Rattle.isl_piece.specs.Row.{HoldsRow}
+use Rattle.isl_union.specs.KeptValue.{KeptPiece, HasElement, point_of}
+use Rattle.isl_coalesce.specs.Parts.{AreParts}
+
+-- the row holds at each element that the piece has at some valuation
+abbrev pub IsTrueOn : List Name → KeptPiece → Row → Type 0
+IsTrueOn params piece r =
+    (valuation : Valuation) (element : Element) → HasElement params valuation element piece → HoldsRow r (point_of params valuation element)
+
+-- the piece of one space with the normal rows of what the first keeps beside the second, and the second beside the first, which has exactly
+-- the elements of the two, and defines no column
+pub record IsJointOf (params : List Name) (p q joint : KeptPiece) : Type 0 where
+  pub same : q.space ≡ p.space
+  pub space : joint.space ≡ p.space
+  pub definitions : joint.definitions ≡ []
+  pub first : List Row
+  pub second : List Row
+  pub own : AreParts (IsTrueOn params q) p.rows first
+  pub others : AreParts (IsTrueOn params p) q.rows second
+  pub rows : normal_rows (first ++ second) ≡ Some joint.rows
+  pub elements : (valuation : Valuation) (element : Element)
+      → HasElement params valuation element joint ↔ (HasElement params valuation element p ⊎ HasElement params valuation element q)
+
+-- the two have no joint piece, whichever of them comes first
+pub record AreUnjoined (params : List Name) (p q : KeptPiece) : Type 0 where
+  pub forth : (joint : KeptPiece) → ¬ IsJointOf params p q joint
+  pub back : (joint : KeptPiece) → ¬ IsJointOf params q p joint

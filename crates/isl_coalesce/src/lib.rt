@@ -1,0 +1,8 @@
+//! Values with as few pieces as can be put together.
+#![tactic(auto)]
+
+mod joint;
+mod parts;
+mod together;
+
+pub use together::coalesce;

@@ -1,0 +1,80 @@
+//! Pieces put together.
+
+ghost use Rattle.std.specs.Prelude.{◌≡◌, ◌↔◌, ◌∷◌, ◌++◌, ◌≤◌, [], All, AllPairs, IfOk, OnOk, length, map};
+ghost use Rattle.isl_meter.specs.Gauge.{IsMetered};
+ghost use Rattle.isl_space.specs.Element.{Element};
+ghost use Rattle.isl_space.specs.Names.{AreDistinct};
+ghost use Rattle.isl_space.specs.Valuation.{Valuation};
+ghost use Rattle.isl_union.specs.KeptValue.{Has, HasNoDefinitions, IsKeptValue};
+ghost use Rattle.isl_union.specs.Numbers.{IsWithinLimit};
+ghost use Rattle.isl_union.specs.Piece.{kept_piece};
+ghost use Rattle.isl_coalesce.specs.Coalesced.{IsCoalesced};
+ghost use Rattle.isl_coalesce.specs.Found.{AreJoined, IsPlainPiece};
+ghost use Rattle.isl_coalesce.specs.Joint.{AreUnjoined};
+
+use crate::joint::first_joint;
+use isl_meter::{Cut, Meter};
+use isl_piece::Piece;
+use isl_space::Params;
+use isl_union::Value;
+use std::alloc::Global;
+
+// Puts the piece behind the others, no two of which can be put together. Where one of them has a joint piece with it, that takes
+// the place of both, and is asked about the others in its turn.
+fn put(
+    alloc: Global,
+    params: &Params,
+    pieces: &mut Vec<Piece>,
+    piece: Piece,
+    meter: &mut Meter,
+) -> Result<(), Cut>
+    requires names { AreDistinct params.now }
+    requires pieces { All (IsPlainPiece meter.old params.now) pieces.old.items }
+    requires piece { IsPlainPiece meter.old params.now piece }
+    requires apart { AllPairs (AreUnjoined params.now) (map kept_piece pieces.old.items) }
+    ensures joined { OnOk result (AreJoined meter.old params.now (pieces.old.items ++ piece ∷ []) pieces.new.items) }
+    ensures meter { IsMetered meter.old meter.new result }
+{
+    let mut last = piece;
+    while let Some(found) = first_joint(alloc, params, pieces.as_slice(), &last, meter)? {
+        pieces.remove(found.at);
+        last = found.joint;
+    }
+    pieces.push(last)?;
+    Ok(())
+}
+
+/// The value with two of its pieces put together as often as that can be done: the rows of the one that are true on the other, and
+/// those of the other that are true on the one, take the place of both where they have no element beside theirs. An equation that is
+/// not true on the other piece is asked about as its two halves. So of equal pieces one stays, and a piece that lies within another
+/// goes. Pieces that are not put together stay as they are, in their order. No piece of the value may define a column. (isl manual,
+/// on coalescing)
+///
+/// # Errors
+///
+/// As every call under a meter.
+pub fn coalesce(alloc: Global, a: &Value, meter: &mut Meter) -> Result<Value, Cut>
+    requires within { IsWithinLimit meter.old a.now }
+    requires plain { HasNoDefinitions a.now }
+
+    // The value, and what it has.
+    ensures kept { IfOk result IsKeptValue }
+    ensures params { IfOk result (λ value. value.params ≡ a.now.params) }
+    ensures coalesced { IfOk result (IsCoalesced a.now) }
+    ensures elements { (valuation : Valuation) (element : Element)
+        → IfOk result (λ value. Has value valuation element ↔ Has a.now valuation element) }
+
+    // How it is written, and what that cost.
+    ensures definitions { IfOk result HasNoDefinitions }
+    ensures numbers { IfOk result (IsWithinLimit meter.old) }
+    ensures few { IfOk result (λ value. length value.pieces ≤ length a.now.pieces) }
+    ensures meter { IsMetered meter.old meter.new result }
+{
+    let params = a.params();
+    let pieces = a.pieces();
+    let mut kept = Vec::new(alloc);
+    for piece in pieces {
+        put(alloc, params, &mut kept, piece.copy()?, meter)?;
+    }
+    Ok(Value::from_normal(params.copy(alloc)?, kept))
+}
