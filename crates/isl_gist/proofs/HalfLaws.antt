@@ -1,5 +1,6 @@
 -- The halves of equations, and rows of which some are left.
-use Rattle.std.proofs.Common.{◌≡◌, ◌≢◌, ◌↔◌, ◌⊎◌, inl, inr, refl, sym, ap, ◌∙◌, subst, arith, ℕ, ℤ, pos, negsuc, neg_ℤ, ◌+ℤ◌, ◌*ℤ◌, ◌≤ℤ◌, ◌≤◌}
+use Rattle.std.proofs.Common.{◌≡◌, ◌≢◌, ◌↔◌, ◌⊎◌, inl, inr, refl, sym, ap, ◌∙◌, subst, arith, ℕ, ℤ}
+use Rattle.std.proofs.Common.{pos, negsuc, neg_ℤ, ◌+ℤ◌, ◌*ℤ◌, ◌≤ℤ◌, ◌≤◌}
 use Rattle.std.proofs.Common.{List, [], ◌∷◌, ◌++◌, get_or, unsigned_abs, append_assoc}
 use Rattle.std.specs.List.{All}
 use Rattle.std.proofs.lemmas.List.Elements.{All-nil, All-cons, All-head, All-tail, All-append, All-map}
@@ -122,7 +123,8 @@ same_magnitude z = omega (arith, linear)
 turned_magnitude : (z : ℤ) → unsigned_abs (negsuc 0 *ℤ z) ≡ unsigned_abs z
 turned_magnitude z = let e : negsuc 0 *ℤ z ≡ neg_ℤ z = omega (arith, linear) in rw e (same_magnitude z)
 
-pub half_over : (g : Gauge) (n : ℕ) (r : Row) → r.kind ≡ Zero → IsRowOver g n r → IsRowOver g n (upper_half r) × IsRowOver g n (lower_half r)
+pub half_over : (g : Gauge) (n : ℕ) (r : Row) → r.kind ≡ Zero → IsRowOver g n r
+    → IsRowOver g n (upper_half r) × IsRowOver g n (lower_half r)
 half_over g n r zero over =
     let modulus = rw zero at over.formed.modulus in
     let one : IsWithin g (pos 1) = subst (IsWithin g) modulus over.within.k in (
@@ -133,7 +135,8 @@ half_over g n r zero over =
       record {
         formed = record { width = length-scaled (negsuc 0) r.coefs ∙ over.formed.width; modulus = refl };
         within = record {
-          coefs = All-map (IsWithin g) (λ z. negsuc 0 *ℤ z) r.coefs (λ k d l. rw (turned_magnitude (get_or r.coefs k d)) (over.within.coefs k d l));
+          coefs = All-map (IsWithin g) (λ z. negsuc 0 *ℤ z) r.coefs
+              (λ k d l. rw (turned_magnitude (get_or r.coefs k d)) (over.within.coefs k d l));
           constant = rw (same_magnitude r.constant) over.within.constant;
           k = one;
         };

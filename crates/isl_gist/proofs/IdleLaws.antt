@@ -1,5 +1,6 @@
 -- Rows that say nothing new at the points of other systems.
-use Rattle.std.proofs.Common.{◌≡◌, ◌↔◌, inl, inr, refl, sym, ap, ◌∙◌, subst, arith, ℕ, ◌+◌, ◌<◌, ℤ, List, [], ◌∷◌, ◌++◌, length, get_or, take, Bool}
+use Rattle.std.proofs.Common.{◌≡◌, ◌↔◌, inl, inr, refl, sym, ap, ◌∙◌, subst, arith, ℕ, ◌+◌, ◌<◌, ℤ}
+use Rattle.std.proofs.Common.{List, [], ◌∷◌, ◌++◌, length, get_or, take, Bool}
 use Rattle.std.specs.Prelude.{IsTrue}
 use Rattle.std.specs.List.{All}
 use Rattle.std.proofs.lemmas.List.{take_more}
@@ -66,7 +67,8 @@ pub plain_over : (g : Gauge) (n : ℕ) (rows : List Row) → All (IsRowOver g n)
 plain_over g n rows all = record { columns = refl; definitions = refl; rows = all }
 
 -- ---- in one context
-module _ (g : Gauge) (n : ℕ) (others rows : List Row) (context : System) (plain : IsPlain g n context) (over : All (IsRowOver g n) rows) where
+module _ (g : Gauge) (n : ℕ) (others rows : List Row) (context : System) (plain : IsPlain g n context)
+    (over : All (IsRowOver g n) rows) where
   abbrev both : System
   both = plain_system n (others ++ context.rows)
 
@@ -99,12 +101,14 @@ module _ (g : Gauge) (n : ℕ) (others rows : List Row) (context : System) (plai
 
 -- the system of others and context
 pub both_is : (g : Gauge) (n : ℕ) (others context meeting : System) → IsPlain g n others → IsPlain g n context
-    → (others.definitions ≡ context.definitions → meeting ≡ over_same_columns others context) → meeting ≡ plain_system n (others.rows ++ context.rows)
+    → (others.definitions ≡ context.definitions → meeting ≡ over_same_columns others context)
+    → meeting ≡ plain_system n (others.rows ++ context.rows)
 both_is g n others context meeting p q is =
     is (p.definitions ∙ sym q.definitions)
     ∙ ap (λ (s : System). over_same_columns s context) (plain_is g n others p)
 
-pub idle_exactly : (g : Gauge) (n : ℕ) (others context meeting : System) (rows : List Row) (b : Bool) → IsPlain g n others → IsPlain g n context
+pub idle_exactly : (g : Gauge) (n : ℕ) (others context meeting : System) (rows : List Row) (b : Bool)
+    → IsPlain g n others → IsPlain g n context
     → All (IsRowOver g n) rows → meeting ≡ plain_system n (others.rows ++ context.rows)
     → (IsTrue b ↔ IsNowhere (free_columns meeting) (HoldsBut meeting rows))
     → IsTrue b ↔ All (IsIdleAt (IsAmong n (context ∷ [])) others.rows) rows

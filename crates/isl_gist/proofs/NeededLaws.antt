@@ -157,7 +157,8 @@ module _ (P : List ℤ → Type 0) where
       needed_apart (front ++ a ∷ []) rows needed.1,
     )
 
-    pub needed_normal : (rows : List Row) → AreNeeded W P [] rows → All IsSettled rows → All (λ r. HasModulus r.kind r.k) rows → IsNormal rows
+    pub needed_normal : (rows : List Row) → AreNeeded W P [] rows → All IsSettled rows → All (λ r. HasModulus r.kind r.k) rows
+        → IsNormal rows
     needed_normal rows needed settled moduli = IsNormal-from rows settled moduli (needed_apart [] rows needed)
 
     -- ---- no half is idle

@@ -42,13 +42,15 @@ rows_over g s within = λ k d l. record { formed = within.rows k d l; within = w
 pub view_plain : (g : Gauge) (s : System) → s.definitions ≡ [] → IsSystemWithin g s → IsPlain g s.columns s
 view_plain g s none within = record { columns = refl; definitions = none; rows = rows_over g s within }
 
-plain_columns : (params : List Name) (p : PieceView) → IsPieceOf params p → p.system.definitions ≡ [] → p.system.columns ≡ columns_of params p.space
+plain_columns : (params : List Name) (p : PieceView) → IsPieceOf params p → p.system.definitions ≡ []
+    → p.system.columns ≡ columns_of params p.space
 plain_columns params p sound none =
     let whole = sound.columns in
     let count : length p.system.definitions ≡ 0 = ap (λ (ds : List Definition). length ds) none in
     omega (arith, whole, count)
 
-pub systems_plain : (g : Gauge) (params : List Name) (p : PieceView) (others : List PieceView) → IsPieceOf params p → p.system.definitions ≡ []
+pub systems_plain : (g : Gauge) (params : List Name) (p : PieceView) (others : List PieceView) → IsPieceOf params p
+    → p.system.definitions ≡ []
     → All (IsPieceOf params) others → All (λ q. q.system.definitions ≡ []) others → AreWithinLimit g others
     → All (IsPlain g p.system.columns) (systems_in p.space others)
 systems_plain g params p others sound none all plain within = systems_all (IsPlain g p.system.columns) p.space others (λ k d l same.
@@ -63,7 +65,8 @@ rows_hold s point none =
     ((λ h. subst P none h), (λ h. subst P (sym none) h))
 
 -- ---- one piece
-module _ (params : List Name) (distinct : AreDistinct params) (p : PieceView) (sound : IsPieceOf params p) (none : p.system.definitions ≡ [])
+module _ (params : List Name) (distinct : AreDistinct params) (p : PieceView) (sound : IsPieceOf params p)
+    (none : p.system.definitions ≡ [])
     (others : List PieceView) (contexts : List System) (are : contexts ≡ systems_in p.space others) where
   abbrev P : List ℤ → Type 0
   P = IsAmong p.system.columns contexts
@@ -246,10 +249,12 @@ pub over_append : (params : List Name) (others pieces more : List KeptPiece) (le
 over_append params others pieces more left new p q =
     let both = map-append kept_piece left new in record {
       sound = All-append (IsPieceOf params) left new p.sound q.sound;
-      definitions = rw both (All-append (λ (x : KeptPiece). x.definitions ≡ []) (map kept_piece left) (map kept_piece new) p.definitions q.definitions);
+      definitions = rw both (All-append (λ (x : KeptPiece). x.definitions ≡ []) (map kept_piece left) (map kept_piece new)
+          p.definitions q.definitions);
       numbers = λ most h.
           let parts = All-parts (IsPieceUpTo most) pieces more h in
-          rw both (All-append (IsPieceUpTo most) (map kept_piece left) (map kept_piece new) (p.numbers most parts.0) (q.numbers most parts.1));
+          rw both (All-append (IsPieceUpTo most) (map kept_piece left) (map kept_piece new)
+          (p.numbers most parts.0) (q.numbers most parts.1));
       gist = rw both (gist_append (context_of params others) pieces (map kept_piece left) more (map kept_piece new) p.gist q.gist);
       elements = λ v e has.
           let Q : KeptPiece → Type 0 = HasElement params v e in

@@ -15,7 +15,8 @@ use Rattle.isl_gist.specs.Halves.{lower_half, upper_half, none, AreSomeOf, IsWha
 use Rattle.isl_gist.specs.Thinned.{AreNeeded, AreThinned, IsDone, IsNeeded, IsPart, IsPlain, IsRowOver, WillBeDone}
 use Rattle.isl_gist.proofs.HalfLaws.{half_over, some_all, some_append, some_one, some_trans, stands_hold}
 use Rattle.isl_gist.proofs.IdleLaws.{plain_over}
-use Rattle.isl_gist.proofs.NeededLaws.{are_fewer, are_more, hold_append, hold_back, hold_cons, hold_front, hold_head, hold_one, hold_tail, needed_fewer, none_asked}
+use Rattle.isl_gist.proofs.NeededLaws.{are_fewer, are_more, hold_append, hold_back, hold_cons, hold_front, hold_head}
+use Rattle.isl_gist.proofs.NeededLaws.{hold_one, hold_tail, needed_fewer, none_asked}
 
 -- so many rows are looked at: those that are needed, beside the rows that follow, which are needed where they were before
 pub record IsSwept (pass : Pass) (P : List ℤ → Type 0) (rows kept : List Row) (i : ℕ) : Type 0 where
@@ -44,7 +45,8 @@ done_more W P front kept r left stands needed all = by left stands all
         → AreNeeded W P front (kept ++ left)
     one s left stands is all = rw is (are_more P W front kept s
         (are_fewer P W (r ∷ front) (s ∷ front) kept
-        (λ xs h. hold_cons xs s front (hold_head xs s [] (subst (λ l. HoldRows l xs) is (stands_hold xs r left stands (hold_head xs r front h))))
+        (λ xs h. hold_cons xs s front
+        (hold_head xs s [] (subst (λ l. HoldRows l xs) is (stands_hold xs r left stands (hold_head xs r front h))))
         (hold_tail xs r front h)) needed)
         (λ w. needed_fewer P (kept ++ front) (front ++ kept) s
         (λ xs h. hold_append xs front kept (hold_back xs kept front h) (hold_front xs kept front h))
@@ -75,7 +77,8 @@ module _ (pass : Pass) (P : List ℤ → Type 0) (rows kept : List Row) (i : ℕ
 
     pub swept_more : (left : List Row) → IsPart pass P (kept ++ rest) r left → IsSwept pass P rows (kept ++ left) (i + 1)
     swept_more left part = record {
-      some = subst (λ l. AreSomeOf l (kept ++ left)) (sym take_is) (subst (λ l. AreSomeOf (take i rows ++ r ∷ []) (kept ++ l)) (append-nil left)
+      some = subst (λ l. AreSomeOf l (kept ++ left)) (sym take_is)
+          (subst (λ l. AreSomeOf (take i rows ++ r ∷ []) (kept ++ l)) (append-nil left)
           (some_append (take i rows) kept (r ∷ []) (left ++ []) so_far.some (some_one r left part.stands)));
       done = done_more (WillBeDone pass) P rest kept r left part.stands
           (subst (λ l. AreNeeded (WillBeDone pass) P l kept) drop_is so_far.done) part.needed;

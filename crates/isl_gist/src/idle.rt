@@ -34,7 +34,8 @@ fn hold_in(
     requires others { IsPlain meter.old others.now.columns others.now }
     requires row { All (IsRowOver meter.old others.now.columns) row.now }
     requires context { IsPlain meter.old others.now.columns context.now }
-    ensures exact { IfOk result (λ idle. IsTrue idle ↔ All (IsIdleAt (IsAmong others.now.columns (context.now ∷ [])) others.now.rows) row.now) }
+    ensures exact { IfOk result (λ idle. IsTrue idle
+        ↔ All (IsIdleAt (IsAmong others.now.columns (context.now ∷ [])) others.now.rows) row.now) }
     ensures meter { IsMetered meter.old meter.new result }
 {
     let both = meet(alloc, others, context)?;

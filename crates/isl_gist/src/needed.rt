@@ -4,7 +4,8 @@ ghost use Rattle.std.specs.Prelude.{◌≡◌, ◌≢◌, ◌↔◌, ◌+◌, �
 ghost use Rattle.isl_meter.specs.Gauge.{IsMetered};
 ghost use Rattle.isl_piece.specs.declared.row.RowKind.TheVariants.{Zero};
 ghost use Rattle.isl_gist.specs.declared.pass.Pass.TheVariants.{Inequalities, Equations};
-ghost use Rattle.isl_gist.specs.Thinned.{plain_system, AreNeeded, AreThinned, IsAmong, IsDone, IsNeeded, IsPart, IsPlain, IsRest, IsRowOver};
+ghost use Rattle.isl_gist.specs.Thinned.{plain_system, AreNeeded, AreThinned, IsAmong, IsDone, IsNeeded};
+ghost use Rattle.isl_gist.specs.Thinned.{IsPart, IsPlain, IsRest, IsRowOver};
 ghost use Rattle.isl_gist.specs.Thinned.{WillBeDone};
 
 use crate::half::{lower_half, upper_half};
@@ -157,8 +158,8 @@ fn swept(
     Ok(System::from_rows(alloc, system.columns, kept))
 }
 
-/// The system without the rows, and the halves of equations, that are idle at the points of the contexts: one after another, those that are no
-/// equations first.
+/// The system without the rows, and the halves of equations, that are idle at the points of the contexts: one after another, those
+/// that are no equations first.
 ///
 /// # Errors
 ///

@@ -37,7 +37,8 @@ returns-then-not-branch-clause-exact c =
     let only : c.in_ok-rows.rows ≡ r ∷ [] = grind (arith, common_steps) in (
       (λ t. absurd (false≢true t)),
       (λ idle. absurd (idle_not n others r contexts i context inside is
-          (λ here. false≢true (sym no ∙ c.in_ok-hold_in.ensures.exact.1 (subst (λ (l : List Row). All (IsIdleAt (IsAmong n (context ∷ [])) others) l)
+          (λ here. false≢true (sym no ∙ c.in_ok-hold_in.ensures.exact.1
+          (subst (λ (l : List Row). All (IsIdleAt (IsAmong n (context ∷ [])) others) l)
           (sym only) ((one_row (IsIdleAt (IsAmong n (context ∷ [])) others) r).1 here)))) idle)),
     )
 

@@ -45,7 +45,8 @@ returns-clause-exact c =
     IfOk-weaker c.swept-2.result (λ left. AreThinned (WillBeDone Equations) (IsAmong middle.columns contexts) middle.rows left.rows)
     (λ left. AreThinned (WillBeDone Equations) (IsAmong n contexts) rows left.rows)
     (λ left second. thinned_twice (IsAmong n contexts) rows middle.rows left.rows c.in_ok-equations.ensures.exact
-    (subst (λ k. AreThinned (WillBeDone Equations) (IsAmong k contexts) middle.rows left.rows) c.in_ok-equations.ensures.plain.columns second))
+    (subst (λ k. AreThinned (WillBeDone Equations) (IsAmong k contexts) middle.rows left.rows)
+    c.in_ok-equations.ensures.plain.columns second))
     c.swept-2.ensures.exact
 
 pub returns-clause-plain : goal.returns-clause-plain

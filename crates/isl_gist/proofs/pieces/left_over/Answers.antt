@@ -25,7 +25,8 @@ loop-piece-init c = record {
 pub left_of-requires-clause-piece : goal.left_of-requires-clause-piece
 left_of-requires-clause-piece c =
     let low : c.loop-piece.piece-index < length c.args.pieces.now = omega arith in
-    item_has (IsPieceOf c.args.params.now) c.args.pieces.now c.loop-piece.piece-index c.piece-item.result low c.piece-item.is c.requires.pieces
+    item_has (IsPieceOf c.args.params.now) c.args.pieces.now c.loop-piece.piece-index c.piece-item.result low c.piece-item.is
+    c.requires.pieces
 
 pub left_of-requires-clause-piece_within : goal.left_of-requires-clause-piece_within
 left_of-requires-clause-piece_within c =
@@ -56,11 +57,13 @@ loop-piece-preserved c =
     let before = map kept_piece (take i pieces) in
     let left = c.loop-piece.left.items in
     let found = option_to_list c.in_ok-found.found in
-    let more = over_append params others before (kept_piece piece ∷ []) left found c.loop-piece.invariant.left c.in_ok-found.ensures.exact in
+    let more = over_append params others before (kept_piece piece ∷ []) left found c.loop-piece.invariant.left
+    c.in_ok-found.ensures.exact in
     record {
       left = subst (λ (l : List KeptPiece). AreLeftOver params others l c.push_found.new.kept.items)
           (sym (kept_more pieces piece i low c.piece-item.is))
-          (subst (λ (l : List PieceView). AreLeftOver params others (before ++ kept_piece piece ∷ []) l) (sym c.in_ok-push_found.ensures) more);
+          (subst (λ (l : List PieceView). AreLeftOver params others (before ++ kept_piece piece ∷ []) l)
+          (sym c.in_ok-push_found.ensures) more);
       charged = IsCharged_trans c.args.meter.now c.loop-piece.meter c.left_of.new.meter c.loop-piece.invariant.charged
           c.in_ok-found.ensures.meter;
     }
@@ -68,5 +71,6 @@ loop-piece-preserved c =
 pub returns-clause-exact : goal.returns-clause-exact
 returns-clause-exact c =
     let end : length c.args.pieces.now ≤ c.loop-piece.piece-index = omega arith in
-    subst (λ (l : List PieceView). AreLeftOver c.args.params.now (map kept_piece c.args.others.now) (map kept_piece l) c.loop-piece.left.items)
+    subst
+    (λ (l : List PieceView). AreLeftOver c.args.params.now (map kept_piece c.args.others.now) (map kept_piece l) c.loop-piece.left.items)
     (take_all c.loop-piece.piece-index c.args.pieces.now end) c.loop-piece.invariant.left

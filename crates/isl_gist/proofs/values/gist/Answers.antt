@@ -110,7 +110,8 @@ returns-clause-numbers c most h =
     let names = c.in_ok-params.ensures.joined ∙ ap₂ joined c.params.ensures.content c.params-2.ensures.content in
     let there = subst (λ (l : List Name). All (Contains l) a.params) (sym names) (first_in a.params b.params) in
     let over = rw (c.as_slice.ensures.value, c.as_slice-2.ensures.value) at c.in_ok-left.ensures.exact in
-    gist_small a b c.in_ok-params.params c.in_ok-own.own.items c.in_ok-others.others.items c.in_ok-left.left.items c.from_normal.result names
+    gist_small a b c.in_ok-params.params c.in_ok-own.own.items c.in_ok-others.others.items c.in_ok-left.left.items c.from_normal.result
+    names
     c.in_ok-own.ensures.exact c.in_ok-others.ensures.exact over c.from_normal.ensures c.args.meter.now c.in_ok-own.ensures.kept
     c.requires.own there most h
 
@@ -120,7 +121,8 @@ returns-clause-definitions c =
     let b = c.args.context.now in
     let names = c.in_ok-params.ensures.joined ∙ ap₂ joined c.params.ensures.content c.params-2.ensures.content in
     let over = rw (c.as_slice.ensures.value, c.as_slice-2.ensures.value) at c.in_ok-left.ensures.exact in
-    gist_plain a b c.in_ok-params.params c.in_ok-own.own.items c.in_ok-others.others.items c.in_ok-left.left.items c.from_normal.result names
+    gist_plain a b c.in_ok-params.params c.in_ok-own.own.items c.in_ok-others.others.items c.in_ok-left.left.items c.from_normal.result
+    names
     c.in_ok-own.ensures.exact c.in_ok-others.ensures.exact over c.from_normal.ensures
 
 pub returns-clause-units : goal.returns-clause-units
