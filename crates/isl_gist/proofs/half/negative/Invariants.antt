@@ -1,0 +1,6 @@
+use Rattle.std.proofs.Common.{◌≡◌, negsuc, take}
+use Rattle.isl_math.specs.Dot.{scaled}
+use Rattle.isl_gist.proofs.half.negative.Given as goal
+
+abbrev pub invariant-loop-coef : goal.invariant-loop-coef
+invariant-loop-coef l = l.made ≡ scaled (negsuc 0) (take l.coef-index l.coefs)
