@@ -1,0 +1,9 @@
+mod WordLaws
+mod NameLaws
+mod ExprLaws
+mod SideLaws
+mod LeftLaws
+mod RowLaws
+mod NodeLaws
+mod LoopLaws
+mod TraceLaws
