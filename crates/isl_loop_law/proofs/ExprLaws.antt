@@ -1,12 +1,12 @@
 -- Expressions with one text, before what cannot go on with it, have one value everywhere.
-use Rattle.std.proofs.Common.{◌≡◌, ◌<◌, ◌≤◌, ◌∙◌, ◌^◌, ◌==◌, ◌⊎◌, inl, inr, ℕ, zero, suc, Bool, true, false, not, ◌&&◌, ◌||◌, List, [], ◌∷◌, ◌++◌, length}
+use Rattle.std.proofs.Common.{◌≡◌, ◌<◌, ◌≤◌, ◌∙◌, ◌==◌, ◌⊎◌, inl, inr, ℕ, Bool, true, false, List, []}
+use Rattle.std.proofs.Common.{◌∷◌, ◌++◌, length}
 use Rattle.std.proofs.Common.{slice_index, ap, ap₂, sym, subst, refl, arith, ℤ, pos, ◌+ℤ◌, ◌*ℤ◌, ◌<ℤ◌, get_or}
-use Rattle.std.specs.Prelude.{codes, unsigned_abs, int_lt, if◌then◌else◌}
-use Rattle.std.specs.Char.{is_ascii_digit}
+use Rattle.std.specs.Prelude.{codes, unsigned_abs, int_lt}
 use Rattle.std.specs.Fmt.{decimal}
 use Rattle.std.specs.Int.{int_max, int_min}
 use Rattle.std.specs.List.{AllByRecursion}
-use Rattle.std.proofs.lemmas.Bool.{false≢true, eqb-true, eq-eqb}
+use Rattle.std.proofs.lemmas.Bool.{false≢true}
 use Rattle.std.proofs.lemmas.List.{append_assoc, append_cancel_left}
 use Rattle.isl_math.specs.Divide.{floor_div}
 use Rattle.isl_meter.specs.Gauge.{Gauge, IsWithin}
@@ -17,207 +17,14 @@ use Rattle.isl_loop.specs.declared.tree.Expr.{Expr, Expr', Row_of-Item, end_of-I
 use Rattle.isl_loop.specs.declared.tree.Atom.{Atom, Column, Floor', Ceil', Min', Max', Row_of-Expr, end_of-Expr, more_of-Expr}
 use Rattle.isl_loop.specs.Expr.{expr_value, sum_value, atom_value, boxed_value, extreme_of, extreme_after, ceil_div}
 use Rattle.isl_loop.specs.Formed.{IsExprOver, IsSumOver, IsAtomOver, AreExprsOver}
-use Rattle.isl_loop_text.specs.ExprText.{sign_text, times_text, coefficient_text, constant_text, expr_text, sum_text, atom_text, boxed_text, expr_texts}
-use Rattle.isl_loop_law.proofs.WordLaws.{in_word, IsWord, StopsAt, heads, tails, words, differ, decimals, decimal_first, IsNaming, name_first, begin_no_digit, wide, same_sign}
+use Rattle.isl_loop_text.specs.ExprText.{sign_text, times_text, constant_text, expr_text, sum_text, atom_text}
+use Rattle.isl_loop_text.specs.ExprText.{boxed_text, expr_texts}
+use Rattle.isl_loop_law.proofs.WordLaws.{IsWord, tails, words, differ, decimals, IsNaming}
+use Rattle.isl_loop_law.proofs.WordLaws.{name_first, positive_same, wide, same_sign}
 use Rattle.isl_loop_law.proofs.NameLaws.{name_at, place_same}
-
--- ---- first bytes
--- what ends an expression: `,`, `)` or `;`
-abbrev pub is_end : ℕ → Bool
-is_end b = b == 44 || (b == 41 || b == 59)
-
--- what comes behind an atom
-abbrev pub is_after : ℕ → Bool
-is_after b = b == 32 || is_end b
-
--- what an atom or a number begins with
-abbrev pub starts : ℕ → Bool
-starts b = begins_name b || is_ascii_digit b
-
-abbrev pub starts_expr : ℕ → Bool
-starts_expr b = b == 45 || starts b
-
-abbrev pub Begins : (ℕ → Bool) → Text → Type 0
-Begins test text = test (slice_index text 0) ≡ true
-
-end_no_blank : (b : ℕ) → is_end b ≡ true → b == 32 ≡ false
-end_no_blank b is = grind arith
-
-end_no_times : (b : ℕ) → is_end b ≡ true → b == 42 ≡ false
-end_no_times b is = grind arith
-
-end_no_digit : (b : ℕ) → is_end b ≡ true → is_ascii_digit b ≡ false
-end_no_digit b is = grind arith
-
-end_no_start : (b : ℕ) → is_end b ≡ true → starts_expr b ≡ false
-end_no_start b is = grind arith
-
-end_after : (b : ℕ) → is_end b ≡ true → is_after b ≡ true
-end_after b is = grind arith
-
-after_no_open : (b : ℕ) → is_after b ≡ true → b == 40 ≡ false
-after_no_open b is = grind arith
-
-pub after_no_word : (b : ℕ) → is_after b ≡ true → in_word b ≡ false
-after_no_word b is = by (b == 32) (b == 44) (b == 41) (b == 59) refl refl refl refl is
-  where
-    at : (c : ℕ) → (b == c) ≡ true → in_word c ≡ false → in_word b ≡ false
-    at c e outside = subst (λ (d : ℕ). in_word d ≡ false) (sym (eqb-true b c e)) outside
-
-    by : (p q r s : Bool) → (b == 32) ≡ p → (b == 44) ≡ q → (b == 41) ≡ r → (b == 59) ≡ s → (p || (q || (r || s))) ≡ true → in_word b ≡ false
-    by true q r s e f g h is = at 32 e refl
-    by false true r s e f g h is = at 44 f refl
-    by false false true s e f g h is = at 41 g refl
-    by false false false true e f g h is = at 59 h refl
-    by false false false false e f g h is = absurd (false≢true is)
-
-begin_starts : (b : ℕ) → begins_name b ≡ true → starts b ≡ true
-begin_starts b is = grind arith
-
-digit_starts : (b : ℕ) → is_ascii_digit b ≡ true → starts b ≡ true
-digit_starts b is = grind arith
-
-start_expr : (b : ℕ) → starts b ≡ true → starts_expr b ≡ true
-start_expr b is = grind arith
-
-start_no_minus : (b : ℕ) → starts b ≡ true → b == 45 ≡ false
-start_no_minus b is = grind arith
-
--- two texts with other bytes at a place
-pub clash : {A : Type 0} (i : ℕ) (z y : Text) → slice_index z i == slice_index y i ≡ false → z ≡ y → A
-clash i z y other same = absurd (false≢true (sym other ∙ eq-eqb (slice_index z i) (slice_index y i) (ap (λ l. slice_index l i) same)))
-
--- ---- signs and numbers
-sign_splits : (f a b : Bool) (x y : Text) → Begins starts x → Begins starts y → sign_text f a ++ x ≡ sign_text f b ++ y → (a ≡ b) × (x ≡ y)
-sign_splits true true true x y p q same = (refl, tails 45 45 x y same)
-sign_splits true false false x y p q same = (refl, same)
-sign_splits true true false x y p q same = differ (λ b. b == 45) (45 ∷ x) y refl (start_no_minus (slice_index y 0) q) same
-sign_splits true false true x y p q same = differ (λ b. b == 45) (45 ∷ y) x refl (start_no_minus (slice_index x 0) p) (sym same)
-sign_splits false true true x y p q same = (refl, append_cancel_left (codes " - ") x y same)
-sign_splits false false false x y p q same = (refl, append_cancel_left (codes " + ") x y same)
-sign_splits false true false x y p q same = clash 1 (codes " - " ++ x) (codes " + " ++ y) refl same
-sign_splits false false true x y p q same = clash 1 (codes " + " ++ x) (codes " - " ++ y) refl same
-
-sign_blank : (a : Bool) (x : Text) → slice_index (sign_text false a ++ x) 0 == 32 ≡ true
-sign_blank true x = refl
-sign_blank false x = refl
-
-sign_first : (a : Bool) (x : Text) → Begins starts x → Begins starts_expr (sign_text true a ++ x)
-sign_first true x p = refl
-sign_first false x p = start_expr (slice_index x 0) p
-
-times_splits : (m n : ℕ) (x y : Text) → m < 10 ^ 64 → n < 10 ^ 64 → Begins begins_name x → Begins begins_name y
-    → times_text m ++ x ≡ times_text n ++ y → (m ≡ n) × (x ≡ y)
-times_splits m n x y low high p q same = by (m == 1) (n == 1) refl refl same
-  where
-    by : (a b : Bool) → (m == 1) ≡ a → (n == 1) ≡ b
-        → (if a then [] else decimal m ++ codes "*") ++ x ≡ (if b then [] else decimal n ++ codes "*") ++ y → (m ≡ n) × (x ≡ y)
-    by true true d e same = (eqb-true m 1 d ∙ sym (eqb-true n 1 e), same)
-    by true false d e same =
-        differ is_ascii_digit (decimal n ++ (42 ∷ y)) x (decimal_first n (42 ∷ y) high) (begin_no_digit (slice_index x 0) p)
-        (sym (append_assoc (decimal n) (codes "*") y) ∙ sym same)
-    by false true d e same =
-        differ is_ascii_digit (decimal m ++ (42 ∷ x)) y (decimal_first m (42 ∷ x) low) (begin_no_digit (slice_index y 0) q)
-        (sym (append_assoc (decimal m) (codes "*") x) ∙ same)
-    by false false d e same =
-        let parts = decimals m n (42 ∷ x) (42 ∷ y) low high refl refl
-            (sym (append_assoc (decimal m) (codes "*") x) ∙ same ∙ append_assoc (decimal n) (codes "*") y) in
-        (parts.0, tails 42 42 x y parts.1)
-
-times_first : (n : ℕ) (x : Text) → n < 10 ^ 64 → Begins begins_name x → Begins starts (times_text n ++ x)
-times_first n x small p = by (n == 1)
-  where
-    by : (a : Bool) → Begins starts ((if a then [] else decimal n ++ codes "*") ++ x)
-    by true = begin_starts (slice_index x 0) p
-    by false =
-        subst (Begins starts) (sym (append_assoc (decimal n) (codes "*") x))
-        (digit_starts (slice_index (decimal n ++ (42 ∷ x)) 0) (decimal_first n (42 ∷ x) small))
-
--- a constant is no coefficient
-no_times : {A : Type 0} (m n : ℕ) (z x : Text) → m < 10 ^ 64 → n < 10 ^ 64 → Begins is_end z → Begins begins_name x
-    → decimal m ++ z ≡ times_text n ++ x → A
-no_times {A} m n z x low high e p same = by (n == 1) same
-  where
-    by : (a : Bool) → decimal m ++ z ≡ (if a then [] else decimal n ++ codes "*") ++ x → A
-    by true same = differ is_ascii_digit (decimal m ++ z) x (decimal_first m z low) (begin_no_digit (slice_index x 0) p) same
-    by false same =
-        let parts = decimals m n z (42 ∷ x) low high (end_no_digit (slice_index z 0) e) refl
-            (same ∙ append_assoc (decimal n) (codes "*") x) in
-        differ (λ b. b == 42) (42 ∷ x) z refl (end_no_times (slice_index z 0) e) (sym parts.1)
-
--- ---- constants
-abbrev IsUnwritten : Bool → ℤ → Type 0
-IsUnwritten f c = (f ≡ false) × (c ≡ pos 0) × (constant_text f c ≡ [])
-
-abbrev IsWritten : Bool → ℤ → Type 0
-IsWritten f c = constant_text f c ≡ sign_text f (int_lt c (pos 0)) ++ decimal (unsigned_abs c)
-
-none_of : (c : ℤ) → unsigned_abs c ≡ 0 → c ≡ pos 0
-none_of c is = grind arith
-
-view : (f : Bool) (c : ℤ) → IsUnwritten f c ⊎ IsWritten f c
-view f c = by f (unsigned_abs c == 0) refl
-  where
-    by : (f b : Bool) → (unsigned_abs c == 0) ≡ b → IsUnwritten f c ⊎ IsWritten f c
-    by true true e = inr (ap (λ (q : Bool). if q && false then [] else sign_text true (int_lt c (pos 0)) ++ decimal (unsigned_abs c)) e)
-    by true false e = inr (ap (λ (q : Bool). if q && false then [] else sign_text true (int_lt c (pos 0)) ++ decimal (unsigned_abs c)) e)
-    by false true e = inl (
-      refl,
-      none_of c (eqb-true (unsigned_abs c) 0 e),
-      ap (λ (q : Bool). if q && true then [] else sign_text false (int_lt c (pos 0)) ++ decimal (unsigned_abs c)) e,
-    )
-    by false false e = inr (ap (λ (q : Bool). if q && true then [] else sign_text false (int_lt c (pos 0)) ++ decimal (unsigned_abs c)) e)
-
-written : (f : Bool) (c : ℤ) (z : Text) → IsWritten f c
-    → constant_text f c ++ z ≡ sign_text f (int_lt c (pos 0)) ++ (decimal (unsigned_abs c) ++ z)
-written f c z is = ap (λ t. t ++ z) is ∙ append_assoc (sign_text f (int_lt c (pos 0))) (decimal (unsigned_abs c)) z
-
-number_first : (n : ℕ) (z : Text) → n < 10 ^ 64 → Begins starts (decimal n ++ z)
-number_first n z small = digit_starts (slice_index (decimal n ++ z) 0) (decimal_first n z small)
-
--- an end is no sum that goes on
-no_more : {A : Type 0} (a : Bool) (z x : Text) → Begins is_end z → z ≡ sign_text false a ++ x → A
-no_more a z x e same = differ (λ b. b == 32) (sign_text false a ++ x) z (sign_blank a x) (end_no_blank (slice_index z 0) e) (sym same)
-
-constant_splits : (f : Bool) (c d : ℤ) (z y : Text) → unsigned_abs c < 10 ^ 64 → unsigned_abs d < 10 ^ 64 → Begins is_end z → Begins is_end y
-    → constant_text f c ++ z ≡ constant_text f d ++ y → (c ≡ d) × (z ≡ y)
-constant_splits f c d z y low high p q same = by f (view f c) (view f d) same
-  where
-    by : (f : Bool) → IsUnwritten f c ⊎ IsWritten f c → IsUnwritten f d ⊎ IsWritten f d
-        → constant_text f c ++ z ≡ constant_text f d ++ y → (c ≡ d) × (z ≡ y)
-    by f (inl u) (inl v) same = (u.1 ∙ sym v.1, sym (ap (λ t. t ++ z) u.2) ∙ same ∙ ap (λ t. t ++ y) v.2)
-    by true (inl u) (inr v) same = absurd (false≢true (sym u.0))
-    by false (inl u) (inr v) same =
-        no_more (int_lt d (pos 0)) z (decimal (unsigned_abs d) ++ y) p (sym (ap (λ t. t ++ z) u.2) ∙ same ∙ written false d y v)
-    by true (inr u) (inl v) same = absurd (false≢true (sym v.0))
-    by false (inr u) (inl v) same =
-        no_more (int_lt c (pos 0)) y (decimal (unsigned_abs c) ++ z) q (sym (ap (λ t. t ++ y) v.2) ∙ sym same ∙ written false c z u)
-    by f (inr u) (inr v) same =
-        let signs = sign_splits f (int_lt c (pos 0)) (int_lt d (pos 0)) (decimal (unsigned_abs c) ++ z) (decimal (unsigned_abs d) ++ y)
-            (number_first (unsigned_abs c) z low) (number_first (unsigned_abs d) y high) (sym (written f c z u) ∙ same ∙ written f d y v) in
-        let parts = decimals (unsigned_abs c) (unsigned_abs d) z y low high (end_no_digit (slice_index z 0) p) (end_no_digit (slice_index y 0) q) signs.1 in
-        (same_sign c d signs.0 parts.0, parts.1)
-
--- a constant ends the sum
-no_summand : {A : Type 0} (f : Bool) (c x : ℤ) (z w : Text) → unsigned_abs c < 10 ^ 64 → unsigned_abs x < 10 ^ 64 → Begins is_end z
-    → Begins begins_name w
-    → constant_text f c ++ z ≡ sign_text f (int_lt x (pos 0)) ++ (times_text (unsigned_abs x) ++ w) → A
-no_summand {A} f c x z w low high p q same = by f (view f c) same
-  where
-    by : (f : Bool) → IsUnwritten f c ⊎ IsWritten f c
-        → constant_text f c ++ z ≡ sign_text f (int_lt x (pos 0)) ++ (times_text (unsigned_abs x) ++ w) → A
-    by true (inl u) same = absurd (false≢true (sym u.0))
-    by false (inl u) same = no_more (int_lt x (pos 0)) z (times_text (unsigned_abs x) ++ w) p (sym (ap (λ t. t ++ z) u.2) ∙ same)
-    by f (inr u) same =
-        let signs = sign_splits f (int_lt c (pos 0)) (int_lt x (pos 0)) (decimal (unsigned_abs c) ++ z) (times_text (unsigned_abs x) ++ w)
-            (number_first (unsigned_abs c) z low) (times_first (unsigned_abs x) w high q) (sym (written f c z u) ∙ same) in
-        no_times (unsigned_abs c) (unsigned_abs x) z w low high p q signs.1
-
-five : (s t a r z : Text) → (((s ++ t) ++ a) ++ r) ++ z ≡ s ++ (t ++ (a ++ (r ++ z)))
-five s t a r z = simp append_assoc
-
-divided : (b c d k z : Text) → (((b ++ c) ++ d) ++ k) ++ z ≡ b ++ (c ++ (d ++ (k ++ z)))
-divided b c d k z = simp append_assoc
+use Rattle.isl_loop_law.proofs.SignLaws.{is_end, is_after, starts_expr, Begins, end_no_start, end_after, after_no_open, after_no_word}
+use Rattle.isl_loop_law.proofs.SignLaws.{clash, sign_splits, sign_first, times_splits, times_first, IsUnwritten, IsWritten, view, written}
+use Rattle.isl_loop_law.proofs.SignLaws.{number_first, constant_splits, no_summand, five, divided}
 
 -- a word and what is in its brackets is no column
 no_call : {A : Type 0} (name word z y : Text) → IsWord name → IsWord word → Begins is_after z → name ++ z ≡ word ++ (40 ∷ y) → A
@@ -237,24 +44,23 @@ min_word = (refl, (refl, (refl, tt)))
 max_word : IsWord (codes "max")
 max_word = (refl, (refl, (refl, tt)))
 
-positive_same : (a b : ℤ) → pos 0 <ℤ a → pos 0 <ℤ b → unsigned_abs a ≡ unsigned_abs b → a ≡ b
-positive_same a b p q same = grind arith
-
 -- what stands behind an expression that is divided
 abbrev divisor : ℤ → Text → Text
 divisor k z = 44 ∷ 32 ∷ (decimal (unsigned_abs k) ++ (41 ∷ z))
 
 divided_same : (b c : Text) (k l : ℤ) (z y : Text)
-    → (((b ++ codes ", ") ++ decimal (unsigned_abs k)) ++ codes ")") ++ z ≡ (((c ++ codes ", ") ++ decimal (unsigned_abs l)) ++ codes ")") ++ y
+    → (((b ++ codes ", ") ++ decimal (unsigned_abs k)) ++ codes ")") ++ z
+    ≡ (((c ++ codes ", ") ++ decimal (unsigned_abs l)) ++ codes ")") ++ y
     → b ++ divisor k z ≡ c ++ divisor l y
 divided_same b c k l z y same =
-    sym (divided b (codes ", ") (decimal (unsigned_abs k)) (codes ")") z) ∙ same ∙ divided c (codes ", ") (decimal (unsigned_abs l)) (codes ")") y
+    sym (divided b (codes ", ") (decimal (unsigned_abs k)) (codes ")") z) ∙ same
+    ∙ divided c (codes ", ") (decimal (unsigned_abs l)) (codes ")") y
 
 divisors : (g h : Gauge) → g.bits ≤ 127 → h.bits ≤ 127 → (k l : ℤ) (z y : Text) → (pos 0 <ℤ k) × IsWithin g k → (pos 0 <ℤ l) × IsWithin h l
     → divisor k z ≡ divisor l y → (k ≡ l) × (z ≡ y)
 divisors g h gb hb k l z y low high same =
     let parts = decimals (unsigned_abs k) (unsigned_abs l) (41 ∷ z) (41 ∷ y) (wide g k gb low.1) (wide h l hb high.1) refl refl
-        (append_cancel_left (codes ", ") (decimal (unsigned_abs k) ++ (41 ∷ z)) (decimal (unsigned_abs l) ++ (41 ∷ y)) same) in
+    (append_cancel_left (codes ", ") (decimal (unsigned_abs k) ++ (41 ∷ z)) (decimal (unsigned_abs l) ++ (41 ∷ y)) same) in
     (positive_same k l low.0 high.0 parts.0, tails 41 41 z y parts.1)
 
 three : (e r k z : Text) → ((e ++ r) ++ k) ++ z ≡ e ++ (r ++ (k ++ z))
@@ -287,7 +93,8 @@ module _ (names : List Name) (n : ℕ) (count : n ≡ length names) (distinct : 
       by (inl u) = subst (λ t. Begins is_after (t ++ z)) (sym u.2) (end_after (slice_index z 0) p)
       by (inr u) = subst (Begins is_after) (sym (written false c z u)) (blank (int_lt c (pos 0)) (decimal (unsigned_abs c) ++ z))
   rest_after (more_of-Item x a row) c z p =
-      subst (Begins is_after) (sym (five (sign_text false (int_lt x (pos 0))) (times_text (unsigned_abs x)) (atom_text names a) (sum_text names false row c) z))
+      subst (Begins is_after) (sym (five (sign_text false (int_lt x (pos 0))) (times_text (unsigned_abs x)) (atom_text names a)
+      (sum_text names false row c) z))
       (blank (int_lt x (pos 0)) (times_text (unsigned_abs x) ++ (atom_text names a ++ (sum_text names false row c ++ z))))
     where
       blank : (a : Bool) (x : Text) → Begins is_after (sign_text false a ++ x)
@@ -305,7 +112,8 @@ module _ (names : List Name) (n : ℕ) (count : n ≡ length names) (distinct : 
           (sign_first (int_lt c (pos 0)) (decimal (unsigned_abs c) ++ z) (number_first (unsigned_abs c) z (wide g c gb low)))
   sum_first g gb (more_of-Item x a row) c z over low =
       let after = atom_text names a ++ (sum_text names false row c ++ z) in
-      subst (Begins starts_expr) (sym (five (sign_text true (int_lt x (pos 0))) (times_text (unsigned_abs x)) (atom_text names a) (sum_text names false row c) z))
+      subst (Begins starts_expr) (sym (five (sign_text true (int_lt x (pos 0))) (times_text (unsigned_abs x)) (atom_text names a)
+      (sum_text names false row c) z))
       (sign_first (int_lt x (pos 0)) (times_text (unsigned_abs x) ++ after)
       (times_first (unsigned_abs x) after (wide g x gb over.0) (atom_first g a (sum_text names false row c ++ z) over.1)))
 
@@ -313,10 +121,13 @@ module _ (names : List Name) (n : ℕ) (count : n ≡ length names) (distinct : 
   expr_first g gb (Expr' s row c) z over = sum_first g gb row c z over.0 over.1
 
   -- an expression is no end
-  pub no_expr : {A : Type 0} (g : Gauge) → g.bits ≤ 127 → (e : Expr) (z y : Text) → IsExprOver g n e → Begins is_end y → expr_text names e ++ z ≡ y → A
-  no_expr g gb e z y over p same = differ starts_expr (expr_text names e ++ z) y (expr_first g gb e z over) (end_no_start (slice_index y 0) p) same
+  pub no_expr : {A : Type 0} (g : Gauge) → g.bits ≤ 127 → (e : Expr) (z y : Text) → IsExprOver g n e → Begins is_end y
+      → expr_text names e ++ z ≡ y → A
+  no_expr g gb e z y over p same =
+      differ starts_expr (expr_text names e ++ z) y (expr_first g gb e z over) (end_no_start (slice_index y 0) p) same
 
-  each_end : {m : _} → (row : Row_of-Expr m) (z : Text) → Begins is_end z → Begins is_end (each_after (codes ", ") (expr_texts names row) ++ z)
+  each_end : {m : _} → (row : Row_of-Expr m) (z : Text) → Begins is_end z
+      → Begins is_end (each_after (codes ", ") (expr_texts names row) ++ z)
   each_end end_of-Expr z p = p
   each_end (more_of-Expr e row) z p = refl
 
@@ -328,7 +139,8 @@ module _ (names : List Name) (n : ℕ) (count : n ≡ length names) (distinct : 
           let parts = sum_splits row sow true c d z y over.0 ov.0 over.1 ov.1 p q same in
           (λ point. ap₂ (λ (a b : ℤ). a +ℤ b) (parts.0 point) parts.1, parts.2)
 
-      sum_splits : {m k : _} → (row : Row_of-Item m) (sow : Row_of-Item k) (f : Bool) (c d : ℤ) (z y : Text) → IsSumOver g n row → IsSumOver h n sow
+      sum_splits : {m k : _} → (row : Row_of-Item m) (sow : Row_of-Item k) (f : Bool) (c d : ℤ) (z y : Text) → IsSumOver g n row
+          → IsSumOver h n sow
           → IsWithin g c → IsWithin h d → Begins is_end z → Begins is_end y
           → sum_text names f row c ++ z ≡ sum_text names f sow d ++ y
           → ((p : List ℤ) → sum_value row p ≡ sum_value sow p) × (c ≡ d) × (z ≡ y)
@@ -342,7 +154,8 @@ module _ (names : List Name) (n : ℕ) (count : n ≡ length names) (distinct : 
       sum_splits (more_of-Item x a row) end_of-Item f c d z y over ov low high p q same =
           let rest = sum_text names false row c ++ z in
           no_summand f d x y (atom_text names a ++ rest) (wide h d hb high) (wide g x gb over.0) q (atom_first g a rest over.1)
-          (sym same ∙ five (sign_text f (int_lt x (pos 0))) (times_text (unsigned_abs x)) (atom_text names a) (sum_text names false row c) z)
+          (sym same ∙ five (sign_text f (int_lt x (pos 0))) (times_text (unsigned_abs x)) (atom_text names a) (sum_text names false row c)
+          z)
       sum_splits (more_of-Item x a row) (more_of-Item w b sow) f c d z y over ov low high p q same =
           let r = sum_text names false row c ++ z in
           let s = sum_text names false sow d ++ y in
@@ -351,11 +164,14 @@ module _ (names : List Name) (n : ℕ) (count : n ≡ length names) (distinct : 
           let small = wide g x gb over.0 in
           let less = wide h w hb ov.0 in
           let signs = sign_splits f (int_lt x (pos 0)) (int_lt w (pos 0)) (times_text (unsigned_abs x) ++ (atom_text names a ++ r))
-              (times_text (unsigned_abs w) ++ (atom_text names b ++ s))
-              (times_first (unsigned_abs x) (atom_text names a ++ r) small first) (times_first (unsigned_abs w) (atom_text names b ++ s) less second)
-              (sym (five (sign_text f (int_lt x (pos 0))) (times_text (unsigned_abs x)) (atom_text names a) (sum_text names false row c) z)
-              ∙ same ∙ five (sign_text f (int_lt w (pos 0))) (times_text (unsigned_abs w)) (atom_text names b) (sum_text names false sow d) y) in
-          let sizes = times_splits (unsigned_abs x) (unsigned_abs w) (atom_text names a ++ r) (atom_text names b ++ s) small less first second signs.1 in
+          (times_text (unsigned_abs w) ++ (atom_text names b ++ s))
+          (times_first (unsigned_abs x) (atom_text names a ++ r) small first)
+          (times_first (unsigned_abs w) (atom_text names b ++ s) less second)
+          (sym (five (sign_text f (int_lt x (pos 0))) (times_text (unsigned_abs x)) (atom_text names a) (sum_text names false row c) z)
+          ∙ same ∙ five (sign_text f (int_lt w (pos 0))) (times_text (unsigned_abs w)) (atom_text names b)
+          (sum_text names false sow d) y) in
+          let sizes = times_splits (unsigned_abs x) (unsigned_abs w) (atom_text names a ++ r) (atom_text names b ++ s) small less first
+          second signs.1 in
           let atoms = atom_splits a b r s over.1 ov.1 (rest_after row c z p) (rest_after sow d y q) sizes.1 in
           let rests = sum_splits row sow false c d z y over.2 ov.2 low high p q atoms.1 in
           let coefs : x ≡ w = same_sign x w signs.0 sizes.0 in
@@ -367,7 +183,7 @@ module _ (names : List Name) (n : ℕ) (count : n ≡ length names) (distinct : 
           let first = name_at names i named (place_below i over) in
           let second = name_at names j named (place_below j ov) in
           let parts = words (get_or names i []) (get_or names j []) z y first.word second.word
-              (after_no_word (slice_index z 0) p) (after_no_word (slice_index y 0) q) same in
+          (after_no_word (slice_index z 0) p) (after_no_word (slice_index y 0) q) same in
           let places = place_same names i j distinct (place_below i over) (place_below j ov) parts.0 in
           (λ point. ap (λ (k : ℕ). get_or point k (pos 0)) places, parts.1)
       atom_splits (Column i) (Floor' s row k) z y over ov p q same =
@@ -388,30 +204,42 @@ module _ (names : List Name) (n : ℕ) (count : n ≡ length names) (distinct : 
           no_call (get_or names j []) (codes "max") y _ (name_at names j named (place_below j ov)).word max_word q (sym same)
       atom_splits (Floor' s row k) (Floor' t sow l) z y over ov p q same =
           let boxes = boxed_splits row sow (divisor k z) (divisor l y) over.0 ov.0 refl refl
-              (divided_same (boxed_text names row) (boxed_text names sow) k l z y (append_cancel_left (codes "floord(") _ _ same)) in
+          (divided_same (boxed_text names row) (boxed_text names sow) k l z y (append_cancel_left (codes "floord(") _ _ same)) in
           let parts = divisors g h gb hb k l z y (over.1, over.2) (ov.1, ov.2) boxes.1 in
           (λ point. ap₂ floor_div (boxes.0 point) parts.0, parts.1)
       atom_splits (Ceil' s row k) (Ceil' t sow l) z y over ov p q same =
           let boxes = boxed_splits row sow (divisor k z) (divisor l y) over.0 ov.0 refl refl
-              (divided_same (boxed_text names row) (boxed_text names sow) k l z y (append_cancel_left (codes "ceild(") _ _ same)) in
+          (divided_same (boxed_text names row) (boxed_text names sow) k l z y (append_cancel_left (codes "ceild(") _ _ same)) in
           let parts = divisors g h gb hb k l z y (over.1, over.2) (ov.1, ov.2) boxes.1 in
           (λ point. ap₂ ceil_div (boxes.0 point) parts.0, parts.1)
       atom_splits (Min' s row) (Min' t sow) z y over ov p q same =
           let parts = exprs_splits row sow z y over.0 ov.0 (append_cancel_left (codes "min(") _ _ same) in (parts.0 int_min, parts.1)
       atom_splits (Max' s row) (Max' t sow) z y over ov p q same =
           let parts = exprs_splits row sow z y over.0 ov.0 (append_cancel_left (codes "max(") _ _ same) in (parts.0 int_max, parts.1)
-      atom_splits (Floor' s row k) (Ceil' t sow l) z y over ov p q same = clash 1 (atom_text names (Floor' s row k) ++ z) (atom_text names (Ceil' t sow l) ++ y) refl same
-      atom_splits (Floor' s row k) (Min' t sow) z y over ov p q same = clash 1 (atom_text names (Floor' s row k) ++ z) (atom_text names (Min' t sow) ++ y) refl same
-      atom_splits (Floor' s row k) (Max' t sow) z y over ov p q same = clash 1 (atom_text names (Floor' s row k) ++ z) (atom_text names (Max' t sow) ++ y) refl same
-      atom_splits (Ceil' s row k) (Floor' t sow l) z y over ov p q same = clash 1 (atom_text names (Ceil' s row k) ++ z) (atom_text names (Floor' t sow l) ++ y) refl same
-      atom_splits (Ceil' s row k) (Min' t sow) z y over ov p q same = clash 1 (atom_text names (Ceil' s row k) ++ z) (atom_text names (Min' t sow) ++ y) refl same
-      atom_splits (Ceil' s row k) (Max' t sow) z y over ov p q same = clash 1 (atom_text names (Ceil' s row k) ++ z) (atom_text names (Max' t sow) ++ y) refl same
-      atom_splits (Min' s row) (Floor' t sow l) z y over ov p q same = clash 1 (atom_text names (Min' s row) ++ z) (atom_text names (Floor' t sow l) ++ y) refl same
-      atom_splits (Min' s row) (Ceil' t sow l) z y over ov p q same = clash 1 (atom_text names (Min' s row) ++ z) (atom_text names (Ceil' t sow l) ++ y) refl same
-      atom_splits (Min' s row) (Max' t sow) z y over ov p q same = clash 1 (atom_text names (Min' s row) ++ z) (atom_text names (Max' t sow) ++ y) refl same
-      atom_splits (Max' s row) (Floor' t sow l) z y over ov p q same = clash 1 (atom_text names (Max' s row) ++ z) (atom_text names (Floor' t sow l) ++ y) refl same
-      atom_splits (Max' s row) (Ceil' t sow l) z y over ov p q same = clash 1 (atom_text names (Max' s row) ++ z) (atom_text names (Ceil' t sow l) ++ y) refl same
-      atom_splits (Max' s row) (Min' t sow) z y over ov p q same = clash 1 (atom_text names (Max' s row) ++ z) (atom_text names (Min' t sow) ++ y) refl same
+      atom_splits (Floor' s row k) (Ceil' t sow l) z y over ov p q same =
+          clash 1 (atom_text names (Floor' s row k) ++ z) (atom_text names (Ceil' t sow l) ++ y) refl same
+      atom_splits (Floor' s row k) (Min' t sow) z y over ov p q same =
+          clash 1 (atom_text names (Floor' s row k) ++ z) (atom_text names (Min' t sow) ++ y) refl same
+      atom_splits (Floor' s row k) (Max' t sow) z y over ov p q same =
+          clash 1 (atom_text names (Floor' s row k) ++ z) (atom_text names (Max' t sow) ++ y) refl same
+      atom_splits (Ceil' s row k) (Floor' t sow l) z y over ov p q same =
+          clash 1 (atom_text names (Ceil' s row k) ++ z) (atom_text names (Floor' t sow l) ++ y) refl same
+      atom_splits (Ceil' s row k) (Min' t sow) z y over ov p q same =
+          clash 1 (atom_text names (Ceil' s row k) ++ z) (atom_text names (Min' t sow) ++ y) refl same
+      atom_splits (Ceil' s row k) (Max' t sow) z y over ov p q same =
+          clash 1 (atom_text names (Ceil' s row k) ++ z) (atom_text names (Max' t sow) ++ y) refl same
+      atom_splits (Min' s row) (Floor' t sow l) z y over ov p q same =
+          clash 1 (atom_text names (Min' s row) ++ z) (atom_text names (Floor' t sow l) ++ y) refl same
+      atom_splits (Min' s row) (Ceil' t sow l) z y over ov p q same =
+          clash 1 (atom_text names (Min' s row) ++ z) (atom_text names (Ceil' t sow l) ++ y) refl same
+      atom_splits (Min' s row) (Max' t sow) z y over ov p q same =
+          clash 1 (atom_text names (Min' s row) ++ z) (atom_text names (Max' t sow) ++ y) refl same
+      atom_splits (Max' s row) (Floor' t sow l) z y over ov p q same =
+          clash 1 (atom_text names (Max' s row) ++ z) (atom_text names (Floor' t sow l) ++ y) refl same
+      atom_splits (Max' s row) (Ceil' t sow l) z y over ov p q same =
+          clash 1 (atom_text names (Max' s row) ++ z) (atom_text names (Ceil' t sow l) ++ y) refl same
+      atom_splits (Max' s row) (Min' t sow) z y over ov p q same =
+          clash 1 (atom_text names (Max' s row) ++ z) (atom_text names (Min' t sow) ++ y) refl same
 
       boxed_splits : {m k : _} → (row : Row_of-Expr m) (sow : Row_of-Expr k) (z y : Text) → AreExprsOver g n row → AreExprsOver h n sow
           → Begins is_end z → Begins is_end y → boxed_text names row ++ z ≡ boxed_text names sow ++ y
@@ -422,7 +250,8 @@ module _ (names : List Name) (n : ℕ) (count : n ≡ length names) (distinct : 
       boxed_splits (more_of-Expr e row) (more_of-Expr f sow) z y over ov p q same = expr_splits e f z y over.0 ov.0 p q same
 
       exprs_splits : {m k : _} → (row : Row_of-Expr m) (sow : Row_of-Expr k) (z y : Text) → AreExprsOver g n row → AreExprsOver h n sow
-          → (joined_by (codes ", ") (expr_texts names row) ++ codes ")") ++ z ≡ (joined_by (codes ", ") (expr_texts names sow) ++ codes ")") ++ y
+          → (joined_by (codes ", ") (expr_texts names row) ++ codes ")") ++ z
+          ≡ (joined_by (codes ", ") (expr_texts names sow) ++ codes ")") ++ y
           → ((f : ℤ → ℤ → ℤ) (p : List ℤ) → extreme_of f row p ≡ extreme_of f sow p) × (z ≡ y)
       exprs_splits end_of-Expr end_of-Expr z y over ov same = (λ f point. refl, tails 41 41 z y same)
       exprs_splits end_of-Expr (more_of-Expr f sow) z y over ov same =
@@ -434,10 +263,14 @@ module _ (names : List Name) (n : ℕ) (count : n ≡ length names) (distinct : 
       exprs_splits (more_of-Expr e row) (more_of-Expr f sow) z y over ov same =
           let first = each_after (codes ", ") (expr_texts names row) in
           let second = each_after (codes ", ") (expr_texts names sow) in
-          let one = expr_splits e f (first ++ (41 ∷ z)) (second ++ (41 ∷ y)) over.0 ov.0 (each_end row (41 ∷ z) refl) (each_end sow (41 ∷ y) refl)
-              (sym (three (expr_text names e) first (codes ")") z) ∙ same ∙ three (expr_text names f) second (codes ")") y) in
-          let rest = each_splits row sow (41 ∷ z) (41 ∷ y) over.1 ov.1 refl refl one.1 in
-          (λ better point. ap (λ (best : ℤ). extreme_after better best row point) (one.0 point) ∙ rest.0 better (expr_value f point) point, tails 41 41 z y rest.1)
+          let one = expr_splits e f (first ++ (41 ∷ z)) (second ++ (41 ∷ y)) over.0 ov.0 (each_end row (41 ∷ z) refl)
+          (each_end sow (41 ∷ y) refl)
+          (sym (three (expr_text names e) first (codes ")") z) ∙ same ∙ three (expr_text names f) second (codes ")") y) in
+          let rest = each_splits row sow (41 ∷ z) (41 ∷ y) over.1 ov.1 refl refl one.1 in (
+            λ better point. ap (λ (best : ℤ). extreme_after better best row point) (one.0 point)
+                ∙ rest.0 better (expr_value f point) point,
+            tails 41 41 z y rest.1,
+          )
 
       each_splits : {m k : _} → (row : Row_of-Expr m) (sow : Row_of-Expr k) (z y : Text) → AreExprsOver g n row → AreExprsOver h n sow
           → slice_index z 0 == 41 ≡ true → slice_index y 0 == 41 ≡ true
@@ -451,9 +284,13 @@ module _ (names : List Name) (n : ℕ) (count : n ≡ length names) (distinct : 
       each_splits (more_of-Expr e row) (more_of-Expr f sow) z y over ov p q same =
           let first = each_after (codes ", ") (expr_texts names row) in
           let second = each_after (codes ", ") (expr_texts names sow) in
-          let one = expr_splits e f (first ++ z) (second ++ y) over.0 ov.0 (each_end row z (close_end (slice_index z 0) p)) (each_end sow y (close_end (slice_index y 0) q))
-              (sym (append_assoc (expr_text names e) first z) ∙ append_cancel_left (codes ", ") ((expr_text names e ++ first) ++ z) ((expr_text names f ++ second) ++ y) same
-              ∙ append_assoc (expr_text names f) second y) in
-          let rest = each_splits row sow z y over.1 ov.1 p q one.1 in
-          (λ better best point. ap (λ (number : ℤ). extreme_after better (better best number) row point) (one.0 point)
-          ∙ rest.0 better (better best (expr_value f point)) point, rest.1)
+          let one = expr_splits e f (first ++ z) (second ++ y) over.0 ov.0 (each_end row z (close_end (slice_index z 0) p))
+          (each_end sow y (close_end (slice_index y 0) q))
+          (sym (append_assoc (expr_text names e) first z)
+          ∙ append_cancel_left (codes ", ") ((expr_text names e ++ first) ++ z) ((expr_text names f ++ second) ++ y) same
+          ∙ append_assoc (expr_text names f) second y) in
+          let rest = each_splits row sow z y over.1 ov.1 p q one.1 in (
+            λ better best point. ap (λ (number : ℤ). extreme_after better (better best number) row point) (one.0 point)
+                ∙ rest.0 better (better best (expr_value f point)) point,
+            rest.1,
+          )

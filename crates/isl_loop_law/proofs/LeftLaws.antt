@@ -10,7 +10,8 @@ use Rattle.isl_piece.specs.declared.row.Row.{Row}
 use Rattle.isl_piece.specs.Normal.{Verdict, Always, Never, Kept, normal_divides, normal_form, normal_row, negated, lesser, opposite_row}
 use Rattle.isl_piece.specs.Numbers.{reduced}
 use Rattle.isl_piece.proofs.NormalCases.{common_part, common_part-positive, divided_congruence, normal_divides_by, lesser_by}
-use Rattle.isl_piece.proofs.NumberLaws.{All-IsRemainder-reduced, All-IsRemainder-opposite, All-IsRemainder-divided, IsRemainder-divided, positive-divided}
+use Rattle.isl_piece.proofs.NumberLaws.{All-IsRemainder-reduced, All-IsRemainder-opposite, All-IsRemainder-divided, IsRemainder-divided}
+use Rattle.isl_piece.proofs.NumberLaws.{positive-divided}
 use Rattle.isl_piece.proofs.ShapeLaws.{IfKept}
 
 -- no number of the form is negative
@@ -27,7 +28,8 @@ left_from row coefs constant = record {
 
 opposite_left : (row : Row) → pos 0 <ℤ row.k → IsLeftRow (opposite_row row)
 opposite_left row positive =
-    left_from (opposite_row row) (All-IsRemainder-opposite row.k row.coefs positive) (IsRemainder-floor_mod row.k (neg_ℤ row.constant) positive)
+    left_from (opposite_row row) (All-IsRemainder-opposite row.k row.coefs positive)
+    (IsRemainder-floor_mod row.k (neg_ℤ row.constant) positive)
 
 module _ (cs : List ℤ) (c k : ℤ) (positive : pos 0 <ℤ k) where
   kept_left : divide.Divides (common_part cs k) (floor_mod c k) → IsLeftRow (lesser (divided_congruence cs c k))
@@ -38,7 +40,8 @@ module _ (cs : List ℤ) (c k : ℤ) (positive : pos 0 <ℤ k) where
       let part = All-head (divide.Divides g) k (reduced k cs) common in
       lesser_by IsLeftRow (divided_congruence cs c k)
       (left_from (divided_congruence cs c k)
-      (All-IsRemainder-divided g k (reduced k cs) q positive part (All-tail (divide.Divides g) k (reduced k cs) common) (All-IsRemainder-reduced k cs positive))
+      (All-IsRemainder-divided g k (reduced k cs) q positive part (All-tail (divide.Divides g) k (reduced k cs) common)
+      (All-IsRemainder-reduced k cs positive))
       (IsRemainder-divided g k (floor_mod c k) q positive part divides (IsRemainder-floor_mod k c positive)))
       (opposite_left (divided_congruence cs c k) (positive-divided g k q positive part))
 
@@ -53,7 +56,8 @@ left_negated (Kept row) left = record { coefs = left.coefs; constant = left.cons
 -- a row that is its own normal row
 pub divides_left : (row : Row) → row.kind ≡ Divides → pos 0 <ℤ row.k → normal_row row ≡ Kept row → IsLeftRow row
 divides_left row is positive settled =
-    subst (IfKept IsLeftRow) (ap (λ kind. normal_form kind row.coefs row.constant row.k) (sym is) ∙ settled) (all_left row.coefs row.constant row.k positive)
+    subst (IfKept IsLeftRow) (ap (λ kind. normal_form kind row.coefs row.constant row.k) (sym is) ∙ settled)
+    (all_left row.coefs row.constant row.k positive)
 
 pub not_divides_left : (row : Row) → row.kind ≡ NotDivides → pos 0 <ℤ row.k → normal_row row ≡ Kept row → IsLeftRow row
 not_divides_left row is positive settled =

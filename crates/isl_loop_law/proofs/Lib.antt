@@ -1,6 +1,8 @@
 mod WordLaws
 mod NameLaws
+mod SignLaws
 mod ExprLaws
+mod TermLaws
 mod SideLaws
 mod LeftLaws
 mod RowLaws

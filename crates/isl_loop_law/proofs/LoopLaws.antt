@@ -1,37 +1,31 @@
 -- Loops with one text, before what cannot go on with it, execute the same.
-use Rattle.std.proofs.Common.{◌≡◌, ◌≢◌, ◌<◌, ◌≤◌, ◌+◌, ◌-◌, ◌∙◌, ◌^◌, ◌==◌, ℕ, zero, suc, Bool, true, false, List, [], ◌∷◌, ◌++◌, length, map, All}
-use Rattle.std.proofs.Common.{slice_index, ap, ap₂, sym, subst, refl, arith, ℤ, pos, ◌<ℤ◌, Option, Some, None}
-use Rattle.std.specs.Prelude.{codes, unsigned_abs, if◌then◌else◌, IfSome}
+use Rattle.std.proofs.Common.{◌≡◌, ◌≢◌, ◌<◌, ◌≤◌, ◌+◌, ◌∙◌, ℕ, suc, List, [], ◌∷◌, ◌++◌, length}
+use Rattle.std.proofs.Common.{map}
+use Rattle.std.proofs.Common.{slice_index, ap, ap₂, sym, refl, arith, ℤ, Option, Some, None}
+use Rattle.std.specs.Prelude.{codes, unsigned_abs, IfSome}
 use Rattle.std.specs.Fmt.{decimal}
 use Rattle.std.specs.List.{AllByRecursion, sum_by}
 use Rattle.std.proofs.lemmas.Bool.{false≢true}
-use Rattle.std.proofs.lemmas.List.{append_assoc, append-nil, append_cancel_left, length-append}
-use Rattle.std.proofs.lemmas.List.Elements.{recursion_from_All}
+use Rattle.std.proofs.lemmas.List.{append_assoc, append_cancel_left, length-append}
 use Rattle.std.proofs.lemmas.List.Sums.{sum_by-cons}
-use Rattle.isl_meter.specs.Gauge.{Gauge, IsWithin}
+use Rattle.isl_meter.specs.Gauge.{Gauge}
 use Rattle.isl_space.specs.Form.{name_text}
 use Rattle.isl_space.specs.Name.{Name, begins_name, IsLiteralName}
-use Rattle.isl_space.specs.Names.{AreDistinct}
 use Rattle.isl_space.proofs.DistinctLaws.{Distinct}
-use Rattle.isl_piece.specs.declared.row.Row.{Row}
 use Rattle.isl_row_text.specs.Joined.{Text, each_after, joined_by}
 use Rattle.isl_row_text.specs.RowText.{row_text}
 use Rattle.isl_loop.specs.declared.tree.Expr.{Expr}
-use Rattle.isl_loop.specs.declared.tree.Loop.{Loop, Block', For', If', Call, Row_of-Loop, end_of-Loop, more_of-Loop}
+use Rattle.isl_loop.specs.declared.tree.Loop.{Loop, Block', For', If', Call, Row_of-Loop}
 use Rattle.isl_loop.specs.Expr.{expr_value}
-use Rattle.isl_loop.specs.Formed.{IsExprOver, IsLoopOver, IsRowOver}
+use Rattle.isl_loop.specs.Formed.{IsExprOver}
 use Rattle.isl_loop.specs.Lists.{calls_of, turns_through}
-use Rattle.isl_loop.specs.Run.{Event, each_in, rows_hold, trace, traces, turns_of, turns_in}
-use Rattle.isl_loop.specs.Turns.{turns}
+use Rattle.isl_loop.specs.Run.{Event, each_in, trace, traces, turns_of, turns_in}
 use Rattle.isl_loop_text.specs.ExprText.{expr_text}
-use Rattle.isl_loop_text.specs.LoopText.{variable, names_inside, line, condition_text, loop_lines, lines_in}
-use Rattle.isl_loop_text.specs.Rest.{lines_of}
-use Rattle.isl_loop_law.specs.OneTrace.{HaveNames}
-use Rattle.isl_loop_law.proofs.WordLaws.{IsWord, heads, tails, words, decimals, IsNaming, naming, wide}
-use Rattle.isl_loop_law.proofs.NameLaws.{inside_distinct, inside_named, length-inside}
-use Rattle.isl_loop_law.proofs.ExprLaws.{Begins, is_end, clash, expr_splits, no_expr}
-use Rattle.isl_loop_law.proofs.RowLaws.{condition_splits}
-use Rattle.isl_loop_law.proofs.NodeLaws.{nodes, nodes_in, IsNode, IsPart, AreParts, lines_nodes_in, calls_nodes_in, turns_nodes_in, parts_nodes_in}
+use Rattle.isl_loop_text.specs.LoopText.{variable, names_inside, condition_text, loop_lines, lines_in}
+use Rattle.isl_loop_law.proofs.WordLaws.{IsWord, tails, IsNaming, naming}
+use Rattle.isl_loop_law.proofs.SignLaws.{Begins, is_end, clash}
+use Rattle.isl_loop_law.proofs.ExprLaws.{expr_splits, no_expr}
+use Rattle.isl_loop_law.proofs.NodeLaws.{nodes_in, IsNode, calls_nodes_in, turns_nodes_in}
 
 -- ---- what is executed
 pub each_same : (f g : ℤ → List Event) → ((x : ℤ) → f x ≡ g x) → (xs : List ℤ) → each_in f xs ≡ each_in g xs
@@ -83,10 +77,10 @@ module _ (names : List Name) (n : ℕ) (count : n ≡ length names) (distinct : 
       let first = each_after (codes ", ") (map (expr_text names) es) in
       let second = each_after (codes ", ") (map (expr_text names) fs) in
       let one = expr_splits names n count distinct named g h gb hb e f (first ++ (41 ∷ z)) (second ++ (41 ∷ y)) over.0 ov.0
-          (each_ends (map (expr_text names) es) z) (each_ends (map (expr_text names) fs) y)
-          (sym (append_assoc (expr_text names e) first (41 ∷ z))
-          ∙ append_cancel_left (codes ", ") ((expr_text names e ++ first) ++ (41 ∷ z)) ((expr_text names f ++ second) ++ (41 ∷ y)) same
-          ∙ append_assoc (expr_text names f) second (41 ∷ y)) in
+      (each_ends (map (expr_text names) es) z) (each_ends (map (expr_text names) fs) y)
+      (sym (append_assoc (expr_text names e) first (41 ∷ z))
+      ∙ append_cancel_left (codes ", ") ((expr_text names e ++ first) ++ (41 ∷ z)) ((expr_text names f ++ second) ++ (41 ∷ y)) same
+      ∙ append_assoc (expr_text names f) second (41 ∷ y)) in
       let rest = arguments_more es fs z y over.1 ov.1 one.1 in
       (λ point. ap₂ (λ (v : ℤ) (vs : List ℤ). v ∷ vs) (one.0 point) (rest.0 point), rest.1)
 
@@ -100,7 +94,8 @@ module _ (names : List Name) (n : ℕ) (count : n ≡ length names) (distinct : 
       (sym (append_assoc (expr_text names f) second (41 ∷ y)) ∙ sym same)
   arguments (e ∷ es) [] z y over ov same =
       let first = each_after (codes ", ") (map (expr_text names) es) in
-      no_expr names n count distinct named g gb e (first ++ (41 ∷ z)) (41 ∷ y) over.0 refl (sym (append_assoc (expr_text names e) first (41 ∷ z)) ∙ same)
+      no_expr names n count distinct named g gb e (first ++ (41 ∷ z)) (41 ∷ y) over.0 refl
+      (sym (append_assoc (expr_text names e) first (41 ∷ z)) ∙ same)
   arguments (e ∷ es) (f ∷ fs) z y over ov same =
       arguments_more (e ∷ es) (f ∷ fs) z y over ov (ap (λ (t : Text). codes ", " ++ t) same)
 
@@ -134,7 +129,8 @@ module _ (params : List Name) (depth : ℕ) (margin : Text) where
   abbrev pub node_text : Loop → Text → Text
   node_text (Block' s row) w = []
   node_text (For' low high step s body) w =
-      codes "for (" ++ low_text low (high_text high (step_text step (lines_in params (suc depth) (margin ++ codes "  ") body ++ closed margin w)))
+      codes "for (" ++ low_text low (high_text high
+      (step_text step (lines_in params (suc depth) (margin ++ codes "  ") body ++ closed margin w)))
   node_text (If' rows s body) w =
       codes "if (" ++ (condition_text (map (row_text (names_inside params depth)) rows)
       ++ (41 ∷ 32 ∷ 123 ∷ 10 ∷ (lines_in params depth (margin ++ codes "  ") body ++ closed margin w)))
@@ -144,13 +140,15 @@ module _ (params : List Name) (depth : ℕ) (margin : Text) where
   pub node_lines : (x : Loop) (w : Text) → IsNode x → loop_lines params depth margin x ++ w ≡ margin ++ node_text x w
   node_lines (Block' s row) w node = elim node [ ]
   node_lines (For' low high step s body) w node =
-      regroup margin (codes "for (") (variable params depth) (codes " = ") (expr_text (names_inside params depth) low) (codes "; ") (codes " <= ")
+      regroup margin (codes "for (") (variable params depth) (codes " = ") (expr_text (names_inside params depth) low) (codes "; ")
+      (codes " <= ")
       (expr_text (names_inside params depth) high) (codes " += ") (decimal (unsigned_abs step)) (codes ") {") (10 ∷ [])
       (lines_in params (suc depth) (margin ++ codes "  ") body) (codes "}") w
     where
       regroup : (m f v e l s u h p d o n b c w : Text)
           → (((m ++ (((((((((((f ++ v) ++ e) ++ l) ++ s) ++ v) ++ u) ++ h) ++ s) ++ v) ++ p) ++ d ++ o)) ++ n) ++ b ++ ((m ++ c) ++ n)) ++ w
-          ≡ m ++ (f ++ (v ++ (e ++ (l ++ (s ++ (v ++ (u ++ (h ++ (s ++ (v ++ (p ++ (d ++ (o ++ (n ++ (b ++ (m ++ (c ++ (n ++ w))))))))))))))))))
+          ≡ m ++ (f ++ (v ++ (e ++ (l ++ (s ++ (v ++
+          (u ++ (h ++ (s ++ (v ++ (p ++ (d ++ (o ++ (n ++ (b ++ (m ++ (c ++ (n ++ w))))))))))))))))))
       regroup m f v e l s u h p d o n b c w = simp append_assoc
   node_lines (If' rows s body) w node =
       regroup margin (codes "if (") (condition_text (map (row_text (names_inside params depth)) rows)) (codes ") {") (10 ∷ [])
@@ -160,7 +158,8 @@ module _ (params : List Name) (depth : ℕ) (margin : Text) where
           ≡ m ++ (f ++ (r ++ (o ++ (n ++ (b ++ (m ++ (c ++ (n ++ w))))))))
       regroup m f r o n b c w = simp append_assoc
   node_lines (Call name args) w node =
-      regroup margin (name_text name) (codes "(") (joined_by (codes ", ") (map (expr_text (names_inside params depth)) args)) (codes ");") (10 ∷ []) w
+      regroup margin (name_text name) (codes "(") (joined_by (codes ", ") (map (expr_text (names_inside params depth)) args)) (codes ");")
+      (10 ∷ []) w
     where
       regroup : (m f o r c n w : Text) → ((m ++ (((f ++ o) ++ r) ++ c)) ++ n) ++ w ≡ m ++ (f ++ (o ++ (r ++ (c ++ (n ++ w)))))
       regroup m f o r c n w = simp append_assoc
@@ -170,7 +169,8 @@ module _ (params : List Name) (depth : ℕ) (margin : Text) where
   node_some (For' low high step s body) w node = omega arith
   node_some (If' rows s body) w node = omega arith
   node_some (Call name args) w node =
-      let whole = length-append (name_text name) (40 ∷ (joined_by (codes ", ") (map (expr_text (names_inside params depth)) args) ++ (41 ∷ 59 ∷ 10 ∷ w))) in
+      let whole = length-append (name_text name) (40 ∷
+      (joined_by (codes ", ") (map (expr_text (names_inside params depth)) args) ++ (41 ∷ 59 ∷ 10 ∷ w))) in
       omega (arith, whole)
 
 -- no line behind the margin comes

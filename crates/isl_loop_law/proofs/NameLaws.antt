@@ -1,6 +1,7 @@
 -- The names of the columns inside of loops are distinct, and are names.
-use Rattle.std.proofs.Common.{◌≡◌, ◌≢◌, ◌<◌, ◌≤◌, ◌+◌, ◌-◌, ◌∙◌, ◌^◌, ℕ, zero, suc, Bool, true, false, List, [], ◌∷◌, ◌++◌, All, length, get_or}
-use Rattle.std.proofs.Common.{ap, sym, subst, refl, arith, lit<}
+use Rattle.std.proofs.Common.{◌≡◌, ◌≢◌, ◌<◌, ◌≤◌, ◌+◌, ◌-◌, ◌∙◌, ◌^◌, ℕ, zero, suc, Bool, true, false, List, [], ◌∷◌, ◌++◌, All, length}
+use Rattle.std.proofs.Common.{get_or}
+use Rattle.std.proofs.Common.{sym, refl, arith, lit<}
 use Rattle.std.specs.Prelude.{codes, if◌then◌else◌}
 use Rattle.std.specs.Char.{is_ascii_digit}
 use Rattle.std.specs.Fmt.{decimal}
@@ -11,7 +12,7 @@ use Rattle.isl_space.specs.Name.{Name, IsLiteralName}
 use Rattle.isl_space.specs.Names.{AreDistinct, is_among}
 use Rattle.isl_space.proofs.DistinctLaws.{Differs, Distinct, Apart, apart-append, apart-nil, apart_from, distinct-append, distinct_from}
 use Rattle.isl_row_text.specs.Joined.{Text}
-use Rattle.isl_row_text.specs.Naming.{primed, free_name, numbered}
+use Rattle.isl_row_text.specs.Naming.{primed, numbered}
 use Rattle.isl_row_text.proofs.DistinctLaws.{free_name_is_free}
 use Rattle.isl_row_text.proofs.LiteralNameLaws.{free_name_named}
 use Rattle.isl_row_text.proofs.NamingLaws.{length-numbered}
@@ -20,7 +21,8 @@ use Rattle.isl_loop_law.proofs.WordLaws.{StopsAt, tails, decimals, IsNaming, nam
 
 -- ---- distinct
 -- primes are no digits
-primes_behind : (most : ℕ) (others : List Name) (name : Name) → (z : Text) × (primed most others name ≡ name ++ z) × StopsAt is_ascii_digit z
+primes_behind : (most : ℕ) (others : List Name) (name : Name) → (z : Text) × (primed most others name ≡ name ++ z)
+    × StopsAt is_ascii_digit z
 primes_behind zero others name = ([], sym (append-nil name), refl)
 primes_behind (suc most) others name = by (is_among others name) (primes_behind most others (name ++ codes "'"))
   where
@@ -38,7 +40,7 @@ variable_same params m n low high same =
     let second = primes_behind (sum_by length params + 1 - length (99 ∷ decimal n)) params (99 ∷ decimal n) in
     let whole : 99 ∷ decimal m ++ first.0 ≡ 99 ∷ decimal n ++ second.0 = sym first.1 ∙ same ∙ second.1 in
     let parts = decimals m n first.0 second.0 (wider m low) (wider n high) first.2 second.2
-        (tails 99 99 (decimal m ++ first.0) (decimal n ++ second.0) whole) in
+    (tails 99 99 (decimal m ++ first.0) (decimal n ++ second.0) whole) in
     parts.0
 
 module _ (params : List Name) where
@@ -46,24 +48,30 @@ module _ (params : List Name) where
       → Differs (variable params n) (numbered params (codes "c") first count)
   variable_differs n first zero below small = tt
   variable_differs n first (suc count) below small = (
-    λ same. let equal = variable_same params n first (omega (arith, below, small)) (omega (arith, small)) same in absurd (omega (arith, below, equal)),
+    λ same. let equal = variable_same params n first (omega (arith, below, small)) (omega (arith, small)) same in absurd
+        (omega (arith, below, equal)),
     variable_differs n (first + 1) count (omega (arith, below)) (omega (arith, small)),
   )
 
   variables_distinct : (first count : ℕ) → first + count ≤ 2 ^ 64 → Distinct (numbered params (codes "c") first count)
   variables_distinct first zero small = tt
-  variables_distinct first (suc count) small =
-      (variable_differs first (first + 1) count (omega arith) (omega (arith, small)), variables_distinct (first + 1) count (omega (arith, small)))
+  variables_distinct first (suc count) small = (
+    variable_differs first (first + 1) count (omega arith) (omega (arith, small)),
+    variables_distinct (first + 1) count
+        (omega (arith, small)),
+  )
 
   variables_apart : (first count : ℕ) → Apart params (numbered params (codes "c") first count)
   variables_apart first zero = apart-nil params
   variables_apart first (suc count) =
       apart-append params (variable params first ∷ []) (numbered params (codes "c") (first + 1) count)
-      (apart_from params (variable params first) (free_name_is_free params (codes "c" ++ decimal first))) (variables_apart (first + 1) count)
+      (apart_from params (variable params first) (free_name_is_free params (codes "c" ++ decimal first)))
+      (variables_apart (first + 1) count)
 
   pub inside_distinct : (depth : ℕ) → depth ≤ 2 ^ 64 → AreDistinct params → Distinct (names_inside params depth)
   inside_distinct depth small distinct =
-      distinct-append params (numbered params (codes "c") 0 depth) (distinct_from params distinct) (variables_distinct 0 depth (omega (arith, small)))
+      distinct-append params (numbered params (codes "c") 0 depth) (distinct_from params distinct)
+      (variables_distinct 0 depth (omega (arith, small)))
       (variables_apart 0 depth)
 
   -- ---- names
@@ -85,7 +93,8 @@ all_append : (xs ys : List Name) → AllByRecursion IsLiteralName xs → AllByRe
 all_append [] ys named all = all
 all_append (x ∷ xs) ys named all = (naming x named.0, all_append xs ys named.1 all)
 
-pub inside_named : (params : List Name) (depth : ℕ) → depth ≤ 2 ^ 64 → All IsLiteralName params → AllByRecursion IsNaming (names_inside params depth)
+pub inside_named : (params : List Name) (depth : ℕ) → depth ≤ 2 ^ 64 → All IsLiteralName params
+    → AllByRecursion IsNaming (names_inside params depth)
 inside_named params depth small named =
     all_append params (numbered params (codes "c") 0 depth) (recursion_from_All IsLiteralName params named)
     (variables_named params 0 depth (omega (arith, small)))

@@ -1,5 +1,5 @@
 -- Trees without their blocks: the loops, conditions and calls that they hold, one behind another.
-use Rattle.std.proofs.Common.{◌≡◌, ◌<◌, ◌≤◌, ◌+◌, ◌∙◌, ◌^◌, ℕ, suc, max, List, [], ◌∷◌, ◌++◌, length, refl, sym, ap, ap₂, arith, ℤ}
+use Rattle.std.proofs.Common.{◌≡◌, ◌≤◌, ◌+◌, ◌∙◌, ◌^◌, ℕ, List, [], ◌∷◌, ◌++◌, refl, sym, ap, ap₂, arith, ℤ}
 use Rattle.std.specs.List.{AllByRecursion}
 use Rattle.std.proofs.lemmas.List.{append_assoc, append-nil}
 use Rattle.isl_meter.specs.Gauge.{Gauge}
@@ -52,7 +52,8 @@ mutual
   pub lines_nodes : (x : Loop) (params : List Name) (depth : ℕ) (margin : Text)
       → loop_lines params depth margin x ≡ lines_of params depth margin (nodes x)
   lines_nodes (Block' s row) params depth margin = lines_nodes_in row params depth margin
-  lines_nodes (For' low high step s body) params depth margin = sym (append-nil (loop_lines params depth margin (For' low high step s body)))
+  lines_nodes (For' low high step s body) params depth margin =
+      sym (append-nil (loop_lines params depth margin (For' low high step s body)))
   lines_nodes (If' rows s body) params depth margin = sym (append-nil (loop_lines params depth margin (If' rows s body)))
   lines_nodes (Call name args) params depth margin = sym (append-nil (loop_lines params depth margin (Call name args)))
 
@@ -73,7 +74,8 @@ mutual
   pub calls_nodes_in : {m : _} → (row : Row_of-Loop m) (point : List ℤ) → traces row point ≡ calls_of (nodes_in row) point
   calls_nodes_in end_of-Loop point = refl
   calls_nodes_in (more_of-Loop part rest) point =
-      ap₂ (λ (t u : List Event). t ++ u) (calls_nodes part point) (calls_nodes_in rest point) ∙ sym (calls-append (nodes part) (nodes_in rest) point)
+      ap₂ (λ (t u : List Event). t ++ u) (calls_nodes part point) (calls_nodes_in rest point)
+      ∙ sym (calls-append (nodes part) (nodes_in rest) point)
 
 plus-none : (n : ℕ) → n ≡ n + 0
 plus-none n = omega arith
@@ -102,7 +104,8 @@ pub record IsPart (g : Gauge) (n depth k : ℕ) (x : Loop) : Type 0 where
 abbrev pub AreParts : Gauge → ℕ → ℕ → ℕ → List Loop → Type 0
 AreParts g n depth k xs = AllByRecursion (IsPart g n depth k) xs
 
-parts-append : (g : Gauge) (n depth k : ℕ) (xs ys : List Loop) → AreParts g n depth k xs → AreParts g n depth k ys → AreParts g n depth k (xs ++ ys)
+parts-append : (g : Gauge) (n depth k : ℕ) (xs ys : List Loop) → AreParts g n depth k xs → AreParts g n depth k ys
+    → AreParts g n depth k (xs ++ ys)
 parts-append g n depth k [] ys a b = b
 parts-append g n depth k (x ∷ xs) ys a b = (a.0, parts-append g n depth k xs ys a.1 b)
 

@@ -1,6 +1,6 @@
 -- Rows with one text, before what cannot go on with it, are equal.
-use Rattle.std.proofs.Common.{◌≡◌, ◌<◌, ◌≤◌, ◌∙◌, ◌^◌, ◌==◌, ℕ, zero, suc, Bool, true, false, List, [], ◌∷◌, ◌++◌, length, map, All, get_or}
-use Rattle.std.proofs.Common.{slice_index, ap, ap₂, sym, subst, refl, arith, ℤ, pos, negsuc, ◌≤ℤ◌, ◌<ℤ◌}
+use Rattle.std.proofs.Common.{◌≡◌, ◌<◌, ◌≤◌, ◌∙◌, ◌^◌, ◌==◌, ℕ, false, List, [], ◌∷◌, ◌++◌, length, map}
+use Rattle.std.proofs.Common.{slice_index, ap, ap₂, sym, refl, arith, ℤ, pos, negsuc, ◌≤ℤ◌, ◌<ℤ◌}
 use Rattle.std.specs.Prelude.{codes, unsigned_abs}
 use Rattle.std.specs.Fmt.{decimal}
 use Rattle.std.specs.List.{AllByRecursion}
@@ -20,9 +20,10 @@ use Rattle.isl_row_text.specs.RowText.{row_text, kind_text}
 use Rattle.isl_row_text.specs.Sum.{share, side_text}
 use Rattle.isl_loop.specs.Formed.{IsRowOver}
 use Rattle.isl_loop_text.specs.LoopText.{condition_text}
-use Rattle.isl_loop_law.proofs.WordLaws.{in_word, IsWord, tails, differ, decimals, IsNaming, wide}
-use Rattle.isl_loop_law.proofs.SideLaws.{EndsSum, AreSmall, shares, side_splits, side_head}
-use Rattle.isl_loop_law.proofs.ExprLaws.{clash}
+use Rattle.isl_loop_law.proofs.WordLaws.{in_word, IsWord, tails, decimals, IsNaming, positive_same, wide}
+use Rattle.isl_loop_law.proofs.TermLaws.{EndsSum}
+use Rattle.isl_loop_law.proofs.SideLaws.{AreSmall, shares, side_splits, side_head}
+use Rattle.isl_loop_law.proofs.SignLaws.{clash}
 use Rattle.isl_loop_law.proofs.LeftLaws.{IsLeftRow, divides_left, not_divides_left}
 
 -- ---- numbers and their shares
@@ -76,9 +77,6 @@ left_shares (x ∷ xs) (y ∷ ys) a b same =
 row_same : (r s : Row) → r.kind ≡ s.kind → r.coefs ≡ s.coefs → r.constant ≡ s.constant → r.k ≡ s.k → r ≡ s
 row_same r s a b c d = λ i. record { kind = a i; coefs = b i; constant = c i; k = d i }
 
-positive_same : (a b : ℤ) → pos 0 <ℤ a → pos 0 <ℤ b → unsigned_abs a ≡ unsigned_abs b → a ≡ b
-positive_same a b p q same = grind arith
-
 -- ---- one row
 three : (l r m z : Text) → ((l ++ r) ++ m) ++ z ≡ l ++ (r ++ (m ++ z))
 three l r m z = simp append_assoc
@@ -97,7 +95,8 @@ module _ (names : List Name) (n : ℕ) (count : n ≡ length names) (distinct : 
         side_splits names distinct named side r.coefs s.coefs r.constant s.constant w v (over.shape.width ∙ count) (ov.shape.width ∙ count)
         (shares_small g gb side r.coefs (recursion_from_All (IsWithin g) r.coefs over.within.coefs))
         (shares_small h hb side s.coefs (recursion_from_All (IsWithin h) s.coefs ov.within.coefs))
-        (share_small side r.constant (wide g r.constant gb over.within.constant)) (share_small side s.constant (wide h s.constant hb ov.within.constant))
+        (share_small side r.constant (wide g r.constant gb over.within.constant))
+        (share_small side s.constant (wide h s.constant hb ov.within.constant))
         a b same
 
     -- two sides, with a relation between them
@@ -109,9 +108,12 @@ module _ (names : List Name) (n : ℕ) (count : n ≡ length names) (distinct : 
         let first = side_text Right names r.coefs r.constant in
         let second = side_text Right names s.coefs s.constant in
         let left = side_same Left (relation ++ (first ++ z)) (relation ++ (second ++ y)) (ends (first ++ z)) (ends (second ++ y))
-            (sym (three (side_text Left names r.coefs r.constant) relation first z) ∙ same ∙ three (side_text Left names s.coefs s.constant) relation second y) in
-        let right = side_same Right z y p q (append_cancel_left relation (first ++ z) (second ++ y) left.2) in
-        (row_same r s kinds (numbers_same r.coefs s.coefs left.0 right.0) (number_same r.constant s.constant left.1 right.1) moduli, right.2)
+        (sym (three (side_text Left names r.coefs r.constant) relation first z) ∙ same
+        ∙ three (side_text Left names s.coefs s.constant) relation second y) in
+        let right = side_same Right z y p q (append_cancel_left relation (first ++ z) (second ++ y) left.2) in (
+          row_same r s kinds (numbers_same r.coefs s.coefs left.0 right.0) (number_same r.constant s.constant left.1 right.1) moduli,
+          right.2,
+        )
 
     -- other relations
     relations_apart : {A : Type 0} (relation other : Text) → ((w : Text) → EndsSum (relation ++ w)) → ((w : Text) → EndsSum (other ++ w))
@@ -122,8 +124,8 @@ module _ (names : List Name) (n : ℕ) (count : n ≡ length names) (distinct : 
         let first = side_text Right names r.coefs r.constant ++ z in
         let second = side_text Right names s.coefs s.constant ++ y in
         let left = side_same Left (relation ++ first) (other ++ second) (a first) (b second)
-            (sym (three (side_text Left names r.coefs r.constant) relation (side_text Right names r.coefs r.constant) z) ∙ same
-            ∙ three (side_text Left names s.coefs s.constant) other (side_text Right names s.coefs s.constant) y) in
+        (sym (three (side_text Left names r.coefs r.constant) relation (side_text Right names r.coefs r.constant) z) ∙ same
+        ∙ three (side_text Left names s.coefs s.constant) other (side_text Right names s.coefs s.constant) y) in
         clash 1 (relation ++ first) (other ++ second) (differs first second) left.2
 
     -- remainders
@@ -135,11 +137,11 @@ module _ (names : List Name) (n : ℕ) (count : n ≡ length names) (distinct : 
         let first = decimal (unsigned_abs r.k) ++ (32 ∷ (e ++ z)) in
         let second = decimal (unsigned_abs s.k) ++ (32 ∷ (f ++ y)) in
         let left = side_same Left (codes ") mod " ++ first) (codes ") mod " ++ second) (record { stops = refl; other = refl })
-            (record { stops = refl; other = refl })
-            (sym (four (side_text Left names r.coefs r.constant) (codes ") mod ") (decimal (unsigned_abs r.k)) (32 ∷ e) z)
-            ∙ same ∙ four (side_text Left names s.coefs s.constant) (codes ") mod ") (decimal (unsigned_abs s.k)) (32 ∷ f) y) in
+        (record { stops = refl; other = refl })
+        (sym (four (side_text Left names r.coefs r.constant) (codes ") mod ") (decimal (unsigned_abs r.k)) (32 ∷ e) z)
+        ∙ same ∙ four (side_text Left names s.coefs s.constant) (codes ") mod ") (decimal (unsigned_abs s.k)) (32 ∷ f) y) in
         let parts = decimals (unsigned_abs r.k) (unsigned_abs s.k) (32 ∷ (e ++ z)) (32 ∷ (f ++ y)) (wide g r.k gb over.within.k)
-            (wide h s.k hb ov.within.k) refl refl (append_cancel_left (codes ") mod ") first second left.2) in
+        (wide h s.k hb ov.within.k) refl refl (append_cancel_left (codes ") mod ") first second left.2) in
         (left.0, left.1, positive_same r.k s.k low high parts.0, tails 32 32 (e ++ z) (f ++ y) parts.1)
 
     remainder_splits : (e : Text) → r.kind ≡ s.kind → pos 0 <ℤ r.k → pos 0 <ℤ s.k → IsLeftRow r → IsLeftRow s
@@ -149,10 +151,11 @@ module _ (names : List Name) (n : ℕ) (count : n ≡ length names) (distinct : 
     remainder_splits e kinds low high rl sl same =
         let parts = remainder_parts e e low high same in
         let right = left_shares r.coefs s.coefs (recursion_from_All (λ c. pos 0 ≤ℤ c) r.coefs rl.coefs)
-            (recursion_from_All (λ c. pos 0 ≤ℤ c) s.coefs sl.coefs) parts.0 in
-        (row_same r s kinds (numbers_same r.coefs s.coefs parts.0 right)
-        (number_same r.constant s.constant parts.1 (left_share r.constant rl.constant ∙ sym (left_share s.constant sl.constant))) parts.2,
-        append_cancel_left e z y parts.3)
+        (recursion_from_All (λ c. pos 0 ≤ℤ c) s.coefs sl.coefs) parts.0 in (
+          row_same r s kinds (numbers_same r.coefs s.coefs parts.0 right)
+              (number_same r.constant s.constant parts.1 (left_share r.constant rl.constant ∙ sym (left_share s.constant sl.constant))) parts.2,
+          append_cancel_left e z y parts.3,
+        )
 
 -- a relation is no remainder, and no `true`
 no_side : {A : Type 0} (names : List Name) (n : ℕ) (g : Gauge) → g.bits ≤ 127 → AllByRecursion IsNaming names → (r : Row) → IsRowOver g n r
@@ -184,29 +187,42 @@ module _ (names : List Name) (n : ℕ) (count : n ≡ length names) (distinct : 
       by AtLeast AtLeast a b c d same =
           relation_splits names n count distinct named g h gb hb r s over ov z y p q (codes " >= ") least (a ∙ sym b) (c ∙ sym d) same
       by Zero AtLeast a b c d same =
-          relations_apart names n count distinct named g h gb hb r s over ov z y p q (codes " = ") (codes " >= ") equal least (λ w v. refl) same
+          relations_apart names n count distinct named g h gb hb r s over ov z y p q (codes " = ") (codes " >= ") equal least
+          (λ w v. refl) same
       by AtLeast Zero a b c d same =
-          relations_apart names n count distinct named g h gb hb r s over ov z y p q (codes " >= ") (codes " = ") least equal (λ w v. refl) same
+          relations_apart names n count distinct named g h gb hb r s over ov z y p q (codes " >= ") (codes " = ") least equal
+          (λ w v. refl) same
       by Divides Divides a b c d same =
-          remainder_splits names n count distinct named g h gb hb r s over ov z y p q (codes "= 0") (a ∙ sym b) c d (divides_left r a c over.normal)
+          remainder_splits names n count distinct named g h gb hb r s over ov z y p q (codes "= 0") (a ∙ sym b) c d
+          (divides_left r a c over.normal)
           (divides_left s b d ov.normal) (tails 40 40 _ _ same)
       by NotDivides NotDivides a b c d same =
-          remainder_splits names n count distinct named g h gb hb r s over ov z y p q (codes "!= 0") (a ∙ sym b) c d (not_divides_left r a c over.normal)
+          remainder_splits names n count distinct named g h gb hb r s over ov z y p q (codes "!= 0") (a ∙ sym b) c d
+          (not_divides_left r a c over.normal)
           (not_divides_left s b d ov.normal) (tails 40 40 _ _ same)
       by Divides NotDivides a b c d same =
-          let parts = remainder_parts names n count distinct named g h gb hb r s over ov z y p q (codes "= 0") (codes "!= 0") c d (tails 40 40 _ _ same) in
+          let parts = remainder_parts names n count distinct named g h gb hb r s over ov z y p q (codes "= 0") (codes "!= 0") c d
+          (tails 40 40 _ _ same) in
           clash 0 (codes "= 0" ++ z) (codes "!= 0" ++ y) refl parts.3
       by NotDivides Divides a b c d same =
-          let parts = remainder_parts names n count distinct named g h gb hb r s over ov z y p q (codes "!= 0") (codes "= 0") c d (tails 40 40 _ _ same) in
+          let parts = remainder_parts names n count distinct named g h gb hb r s over ov z y p q (codes "!= 0") (codes "= 0") c d
+          (tails 40 40 _ _ same) in
           clash 0 (codes "!= 0" ++ z) (codes "= 0" ++ y) refl parts.3
       by Zero Divides a b c d same = no_side names n g gb named r over (codes "= ") (kind_text Divides names s ++ y) z [] tt refl refl same
-      by Zero NotDivides a b c d same = no_side names n g gb named r over (codes "= ") (kind_text NotDivides names s ++ y) z [] tt refl refl same
-      by AtLeast Divides a b c d same = no_side names n g gb named r over (codes ">= ") (kind_text Divides names s ++ y) z [] tt refl refl same
-      by AtLeast NotDivides a b c d same = no_side names n g gb named r over (codes ">= ") (kind_text NotDivides names s ++ y) z [] tt refl refl same
-      by Divides Zero a b c d same = no_side names n h hb named s ov (codes "= ") (kind_text Divides names r ++ z) y [] tt refl refl (sym same)
-      by NotDivides Zero a b c d same = no_side names n h hb named s ov (codes "= ") (kind_text NotDivides names r ++ z) y [] tt refl refl (sym same)
-      by Divides AtLeast a b c d same = no_side names n h hb named s ov (codes ">= ") (kind_text Divides names r ++ z) y [] tt refl refl (sym same)
-      by NotDivides AtLeast a b c d same = no_side names n h hb named s ov (codes ">= ") (kind_text NotDivides names r ++ z) y [] tt refl refl (sym same)
+      by Zero NotDivides a b c d same =
+          no_side names n g gb named r over (codes "= ") (kind_text NotDivides names s ++ y) z [] tt refl refl same
+      by AtLeast Divides a b c d same =
+          no_side names n g gb named r over (codes ">= ") (kind_text Divides names s ++ y) z [] tt refl refl same
+      by AtLeast NotDivides a b c d same =
+          no_side names n g gb named r over (codes ">= ") (kind_text NotDivides names s ++ y) z [] tt refl refl same
+      by Divides Zero a b c d same =
+          no_side names n h hb named s ov (codes "= ") (kind_text Divides names r ++ z) y [] tt refl refl (sym same)
+      by NotDivides Zero a b c d same =
+          no_side names n h hb named s ov (codes "= ") (kind_text NotDivides names r ++ z) y [] tt refl refl (sym same)
+      by Divides AtLeast a b c d same =
+          no_side names n h hb named s ov (codes ">= ") (kind_text Divides names r ++ z) y [] tt refl refl (sym same)
+      by NotDivides AtLeast a b c d same =
+          no_side names n h hb named s ov (codes ">= ") (kind_text NotDivides names r ++ z) y [] tt refl refl (sym same)
 
   -- ---- rows that are all to hold
   ends_rows : (texts : List Text) (z : Text) → EndsSum (each_after (codes " && ") texts ++ (41 ∷ 32 ∷ z))
@@ -214,7 +230,8 @@ module _ (names : List Name) (n : ℕ) (count : n ≡ length names) (distinct : 
   ends_rows (text ∷ texts) z = record { stops = refl; other = refl }
 
   more_splits : (rs ss : List Row) (z y : Text) → AllByRecursion (IsRowOver g n) rs → AllByRecursion (IsRowOver h n) ss
-      → each_after (codes " && ") (map (row_text names) rs) ++ (41 ∷ 32 ∷ z) ≡ each_after (codes " && ") (map (row_text names) ss) ++ (41 ∷ 32 ∷ y)
+      → each_after (codes " && ") (map (row_text names) rs) ++ (41 ∷ 32 ∷ z)
+      ≡ each_after (codes " && ") (map (row_text names) ss) ++ (41 ∷ 32 ∷ y)
       → (rs ≡ ss) × (z ≡ y)
   more_splits [] [] z y over ov same = (refl, append_cancel_left (codes ") ") z y same)
   more_splits [] (s ∷ ss) z y over ov same =
@@ -225,10 +242,11 @@ module _ (names : List Name) (n : ℕ) (count : n ≡ length names) (distinct : 
       let first = each_after (codes " && ") (map (row_text names) rs) in
       let second = each_after (codes " && ") (map (row_text names) ss) in
       let one = row_splits r s over.0 ov.0 (first ++ (41 ∷ 32 ∷ z)) (second ++ (41 ∷ 32 ∷ y)) (ends_rows (map (row_text names) rs) z)
-          (ends_rows (map (row_text names) ss) y)
-          (sym (append_assoc (row_text names r) first (41 ∷ 32 ∷ z))
-          ∙ append_cancel_left (codes " && ") ((row_text names r ++ first) ++ (41 ∷ 32 ∷ z)) ((row_text names s ++ second) ++ (41 ∷ 32 ∷ y)) same
-          ∙ append_assoc (row_text names s) second (41 ∷ 32 ∷ y)) in
+      (ends_rows (map (row_text names) ss) y)
+      (sym (append_assoc (row_text names r) first (41 ∷ 32 ∷ z))
+      ∙ append_cancel_left (codes " && ") ((row_text names r ++ first) ++ (41 ∷ 32 ∷ z))
+      ((row_text names s ++ second) ++ (41 ∷ 32 ∷ y)) same
+      ∙ append_assoc (row_text names s) second (41 ∷ 32 ∷ y)) in
       let rest = more_splits rs ss z y over.1 ov.1 one.1 in
       (ap₂ (λ (x : Row) (xs : List Row). x ∷ xs) one.0 rest.0, rest.1)
 

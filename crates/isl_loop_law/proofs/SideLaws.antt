@@ -1,177 +1,21 @@
 -- Sums on a side with one text, before what cannot go on with it, have one share of each number.
-use Rattle.std.proofs.Common.{◌≡◌, ◌≢◌, ◌<◌, ◌∙◌, ◌^◌, ◌==◌, ℕ, zero, suc, Bool, true, false, List, [], ◌∷◌, ◌++◌, length, map, All}
-use Rattle.std.proofs.Common.{slice_index, ap, ap₂, sym, subst, refl, arith, ℤ, pos, negsuc, ◌≤ℤ◌}
+use Rattle.std.proofs.Common.{◌≡◌, ◌<◌, ◌∙◌, ◌^◌, ◌==◌, ℕ, Bool, true, false, List, [], ◌∷◌, ◌++◌, length, map}
+use Rattle.std.proofs.Common.{slice_index, ap, ap₂, sym, refl, arith, ℤ}
 use Rattle.std.specs.Prelude.{codes, if◌then◌else◌}
-use Rattle.std.specs.Char.{is_ascii_digit}
 use Rattle.std.specs.Fmt.{decimal}
 use Rattle.std.specs.List.{AllByRecursion}
 use Rattle.std.proofs.lemmas.Bool.{false≢true, eqb-true}
 use Rattle.std.proofs.lemmas.Fmt.{decimal_digit}
-use Rattle.std.proofs.lemmas.List.{append_assoc, append-nil, append_cancel_left}
-use Rattle.isl_meter.specs.Gauge.{Gauge, IsWithin}
-use Rattle.isl_space.specs.Name.{Name, begins_name}
+use Rattle.std.proofs.lemmas.List.{append_assoc}
+use Rattle.isl_space.specs.Name.{Name}
 use Rattle.isl_space.proofs.DistinctLaws.{Differs, Distinct}
 use Rattle.isl_row_text.specs.declared.sum.Side.{Side}
-use Rattle.isl_row_text.specs.declared.sum.Side.TheVariants.{Left, Right}
-use Rattle.isl_row_text.specs.Joined.{Text, each_after, joined_by}
+use Rattle.isl_row_text.specs.Joined.{Text, each_after}
 use Rattle.isl_row_text.specs.Sum.{share, Term, terms_of, term_text, constant_texts, summands, sum_of, side_text}
-use Rattle.isl_loop_law.proofs.WordLaws.{in_word, AreIn, IsWord, StopsAt, heads, tails, words, differ, decimal_word, decimal_first, decimals, decimal_same, IsNaming, begin_no_digit, wide}
-
--- ---- texts between ` + `
--- what ends a sum: no word, and not ` + `
-pub record EndsSum (z : Text) : Type 0 where
-  pub stops : StopsAt in_word z
-  pub other : slice_index z 1 == 43 ≡ false
-
-abbrev AreWords : List Text → Type 0
-AreWords texts = AllByRecursion IsWord texts
-
-each_stops : (ts : List Text) (z : Text) → EndsSum z → StopsAt in_word (each_after (codes " + ") ts ++ z)
-each_stops [] z ends = ends.stops
-each_stops (t ∷ ts) z ends = refl
-
-same_cons : (t u : Text) (ts us : List Text) → t ≡ u → ts ≡ us → t ∷ ts ≡ u ∷ us
-same_cons t u ts us a b = ap₂ (λ x xs. x ∷ xs) a b
-
-plus_clash : {A : Type 0} (z y : Text) → EndsSum z → slice_index y 1 == 43 ≡ true → z ≡ y → A
-plus_clash z y ends is same = absurd (false≢true (sym ends.other ∙ ap (λ l. slice_index l 1 == 43) same ∙ is))
-
-each_splits : (ts us : List Text) (z y : Text) → AreWords ts → AreWords us → EndsSum z → EndsSum y
-    → each_after (codes " + ") ts ++ z ≡ each_after (codes " + ") us ++ y → (ts ≡ us) × (z ≡ y)
-each_splits [] [] z y a b p q same = (refl, same)
-each_splits [] (u ∷ us) z y a b p q same = plus_clash z (each_after (codes " + ") (u ∷ us) ++ y) p refl same
-each_splits (t ∷ ts) [] z y a b p q same = plus_clash y (each_after (codes " + ") (t ∷ ts) ++ z) q refl (sym same)
-each_splits (t ∷ ts) (u ∷ us) z y a b p q same =
-    let first = each_after (codes " + ") ts ++ z in
-    let second = each_after (codes " + ") us ++ y in
-    let one = words t u first second a.0 b.0 (each_stops ts z p) (each_stops us y q)
-        (sym (append_assoc t (each_after (codes " + ") ts) z)
-        ∙ append_cancel_left (codes " + ") ((t ++ each_after (codes " + ") ts) ++ z) ((u ++ each_after (codes " + ") us) ++ y) same
-        ∙ append_assoc u (each_after (codes " + ") us) y) in
-    let rest = each_splits ts us z y a.1 b.1 p q one.1 in
-    (same_cons t u ts us one.0 rest.0, rest.1)
-
--- a sum of none is `0`
-abbrev shown : List Text → List Text
-shown [] = codes "0" ∷ []
-shown (t ∷ ts) = t ∷ ts
-
-shown_words : (ts : List Text) → AreWords ts → AreWords (shown ts)
-shown_words [] all = ((refl, tt), tt)
-shown_words (t ∷ ts) all = all
-
-some_splits : (t u : Text) (ts us : List Text) (z y : Text) → IsWord t → IsWord u → AreWords ts → AreWords us → EndsSum z → EndsSum y
-    → (t ++ each_after (codes " + ") ts) ++ z ≡ (u ++ each_after (codes " + ") us) ++ y → (t ∷ ts ≡ u ∷ us) × (z ≡ y)
-some_splits t u ts us z y a b all every p q same =
-    let first = each_after (codes " + ") ts ++ z in
-    let second = each_after (codes " + ") us ++ y in
-    let one = words t u first second a b (each_stops ts z p) (each_stops us y q)
-        (sym (append_assoc t (each_after (codes " + ") ts) z) ∙ same ∙ append_assoc u (each_after (codes " + ") us) y) in
-    let rest = each_splits ts us z y all every p q one.1 in
-    (same_cons t u ts us one.0 rest.0, rest.1)
-
-shown_splits : (ts us : List Text) (z y : Text) → AreWords ts → AreWords us → EndsSum z → EndsSum y
-    → sum_of ts ++ z ≡ sum_of us ++ y → (shown ts ≡ shown us) × (z ≡ y)
-shown_splits [] [] z y a b p q same = some_splits (codes "0") (codes "0") [] [] z y (refl, tt) (refl, tt) tt tt p q same
-shown_splits [] (u ∷ us) z y a b p q same = some_splits (codes "0") u [] us z y (refl, tt) b.0 tt b.1 p q same
-shown_splits (t ∷ ts) [] z y a b p q same = some_splits t (codes "0") ts [] z y a.0 (refl, tt) a.1 tt p q same
-shown_splits (t ∷ ts) (u ∷ us) z y a b p q same = some_splits t u ts us z y a.0 b.0 a.1 b.1 p q same
-
-abbrev IsNoZero : List Text → Type 0
-IsNoZero ts = codes "0" ∷ [] ≢ ts
-
-shown_same : (ts us : List Text) → IsNoZero ts → IsNoZero us → shown ts ≡ shown us → ts ≡ us
-shown_same [] [] a b same = refl
-shown_same [] (u ∷ us) a b same = absurd (b same)
-shown_same (t ∷ ts) [] a b same = absurd (a (sym same))
-shown_same (t ∷ ts) (u ∷ us) a b same = same
-
--- ---- terms
-pub record IsTerm (term : Term) : Type 0 where
-  pub small : term.0 < 10 ^ 64
-  pub named : IsNaming term.1
-
-words_append : (w v : Text) → IsWord w → IsWord v → IsWord (w ++ v)
-words_append [] v a b = b
-words_append (c ∷ w) v a b = (a.0, words_append w v a.1 b)
-
-term_word : (term : Term) → IsTerm term → IsWord (term_text term)
-term_word term is = by (term.0 == 1)
-  where
-    by : (q : Bool) → IsWord (if q then term.1 else decimal term.0 ++ term.1)
-    by true = is.named.word
-    by false = words_append (decimal term.0) term.1 (decimal_word term.0 is.small) is.named.word
-
-terms_words : (terms : List Term) → AllByRecursion IsTerm terms → AreWords (map term_text terms)
-terms_words [] all = tt
-terms_words (term ∷ terms) all = (term_word term all.0, terms_words terms all.1)
-
--- a term is no number
-no_number : {A : Type 0} (term : Term) (c : ℕ) → IsTerm term → c < 10 ^ 64 → term_text term ≡ decimal c → A
-no_number {A} term c is small same = by (term.0 == 1) same
-  where
-    unnamed : (name : Name) → begins_name (slice_index name 0) ≡ true → name ≡ [] → A
-    unnamed name begins none = absurd (false≢true (ap (λ l. begins_name (slice_index l 0)) (sym none) ∙ begins))
-
-    by : (q : Bool) → (if q then term.1 else decimal term.0 ++ term.1) ≡ decimal c → A
-    by true same =
-        differ is_ascii_digit (decimal c ++ []) term.1 (decimal_first c [] small) (begin_no_digit (slice_index term.1 0) is.named.begins)
-        (append-nil (decimal c) ∙ sym same)
-    by false same =
-        let parts = decimals term.0 c term.1 [] is.small small (begin_no_digit (slice_index term.1 0) is.named.begins) refl
-            (same ∙ sym (append-nil (decimal c))) in
-        unnamed term.1 is.named.begins parts.1
-
-pair_same : (s t : Term) → s.0 ≡ t.0 → s.1 ≡ t.1 → s ≡ t
-pair_same s t a b = ap₂ (λ (n : ℕ) (name : Name). (n, name)) a b
-
-term_same : (s t : Term) → IsTerm s → IsTerm t → term_text s ≡ term_text t → s ≡ t
-term_same s t is it same = by (s.0 == 1) (t.0 == 1) refl refl same
-  where
-    by : (p q : Bool) → (s.0 == 1) ≡ p → (t.0 == 1) ≡ q
-        → (if p then s.1 else decimal s.0 ++ s.1) ≡ (if q then t.1 else decimal t.0 ++ t.1) → s ≡ t
-    by true true d e same = pair_same s t (eqb-true s.0 1 d ∙ sym (eqb-true t.0 1 e)) same
-    by true false d e same =
-        differ is_ascii_digit (decimal t.0 ++ t.1) s.1 (decimal_first t.0 t.1 it.small) (begin_no_digit (slice_index s.1 0) is.named.begins) (sym same)
-    by false true d e same =
-        differ is_ascii_digit (decimal s.0 ++ s.1) t.1 (decimal_first s.0 s.1 is.small) (begin_no_digit (slice_index t.1 0) it.named.begins) same
-    by false false d e same =
-        let parts = decimals s.0 t.0 s.1 t.1 is.small it.small (begin_no_digit (slice_index s.1 0) is.named.begins)
-            (begin_no_digit (slice_index t.1 0) it.named.begins) same in
-        pair_same s t parts.0 parts.1
-
--- ---- the constant
-constants_words : (c : ℕ) → c < 10 ^ 64 → AreWords (constant_texts c)
-constants_words c small = by (c == 0)
-  where
-    by : (q : Bool) → AreWords (if q then [] else decimal c ∷ [])
-    by true = tt
-    by false = (decimal_word c small, tt)
-
-first_of : (t u : Text) (ts us : List Text) → t ∷ ts ≡ u ∷ us → t ≡ u
-first_of t u ts us same = cc
-
-rest_of : (t u : Text) (ts us : List Text) → t ∷ ts ≡ u ∷ us → ts ≡ us
-rest_of t u ts us same = cc
-
-constants_same : (c d : ℕ) → c < 10 ^ 64 → d < 10 ^ 64 → constant_texts c ≡ constant_texts d → c ≡ d
-constants_same c d low high same = by (c == 0) (d == 0) refl refl same
-  where
-    none : {A : Type 0} (t : Text) (ts : List Text) → [] ≡ t ∷ ts → A
-    none t ts e = absurd (omega (arith, ap (λ (l : List Text). length l) e))
-
-    by : (p q : Bool) → (c == 0) ≡ p → (d == 0) ≡ q → (if p then [] else decimal c ∷ []) ≡ (if q then [] else decimal d ∷ []) → c ≡ d
-    by true true a b same = eqb-true c 0 a ∙ sym (eqb-true d 0 b)
-    by true false a b same = none (decimal d) [] same
-    by false true a b same = none (decimal c) [] (sym same)
-    by false false a b same = decimal_same c d low high (first_of (decimal c) (decimal d) [] [] same)
-
-no_constant : {A : Type 0} (term : Term) (texts : List Text) (c : ℕ) → IsTerm term → c < 10 ^ 64 → term_text term ∷ texts ≡ constant_texts c → A
-no_constant {A} term texts c is small same = by (c == 0) same
-  where
-    by : (q : Bool) → term_text term ∷ texts ≡ (if q then [] else decimal c ∷ []) → A
-    by true same = absurd (omega (arith, ap (λ (l : List Text). length l) same))
-    by false same = no_number term c is small (first_of (term_text term) (decimal c) texts [] same)
+use Rattle.isl_loop_law.proofs.WordLaws.{in_word, IsWord, StopsAt, words, differ}
+use Rattle.isl_loop_law.proofs.WordLaws.{decimal_same, IsNaming}
+use Rattle.isl_loop_law.proofs.TermLaws.{EndsSum, AreWords, shown_splits, IsNoZero, shown_same, IsTerm, terms_words, no_number, term_same}
+use Rattle.isl_loop_law.proofs.TermLaws.{constants_words, first_of, rest_of, constants_same, no_constant}
 
 -- ---- a side
 zero_text : decimal 0 ≡ codes "0"
@@ -189,7 +33,8 @@ no_zero [] c all small same = by (c == 0) refl same
         let none : 0 ≡ c = decimal_same 0 c zero_small small (zero_text ∙ first_of (codes "0") (decimal c) [] [] same) in
         absurd (false≢true (sym e ∙ ap (λ (n : ℕ). n == 0) (sym none)))
 no_zero (term ∷ terms) c all small same =
-    no_number term 0 all.0 zero_small (sym (zero_text ∙ first_of (codes "0") (term_text term) [] (map term_text terms ++ constant_texts c) same))
+    no_number term 0 all.0 zero_small (sym (zero_text
+    ∙ first_of (codes "0") (term_text term) [] (map term_text terms ++ constant_texts c) same))
 
 summands_same : (ss ts : List Term) (c d : ℕ) → AllByRecursion IsTerm ss → AllByRecursion IsTerm ts → c < 10 ^ 64 → d < 10 ^ 64
     → map term_text ss ++ constant_texts c ≡ map term_text ts ++ constant_texts d → (ss ≡ ts) × (c ≡ d)
@@ -199,8 +44,10 @@ summands_same (s ∷ ss) [] c d a b low high same = no_constant s (map term_text
 summands_same (s ∷ ss) (t ∷ ts) c d a b low high same =
     let first = map term_text ss ++ constant_texts c in
     let second = map term_text ts ++ constant_texts d in
-    let rest = summands_same ss ts c d a.1 b.1 low high (rest_of (term_text s) (term_text t) first second same) in
-    (ap₂ (λ (x : Term) (xs : List Term). x ∷ xs) (term_same s t a.0 b.0 (first_of (term_text s) (term_text t) first second same)) rest.0, rest.1)
+    let rest = summands_same ss ts c d a.1 b.1 low high (rest_of (term_text s) (term_text t) first second same) in (
+      ap₂ (λ (x : Term) (xs : List Term). x ∷ xs) (term_same s t a.0 b.0 (first_of (term_text s) (term_text t) first second same)) rest.0,
+      rest.1,
+    )
 
 all_words : (ts us : List Text) → AreWords ts → AreWords us → AreWords (ts ++ us)
 all_words [] us a b = b
@@ -254,7 +101,8 @@ shares_same side [] [] (y ∷ ys) distinct a b same = absurd (omega (arith, b))
 shares_same side (name ∷ names) [] ys distinct a b same = absurd (omega (arith, a))
 shares_same side (name ∷ names) (x ∷ xs) [] distinct a b same = absurd (omega (arith, b))
 shares_same side (name ∷ names) (x ∷ xs) (y ∷ ys) distinct a b same =
-    by (share side x == 0) (share side y == 0) refl refl same (shares_same side names xs ys distinct.1 (omega (arith, a)) (omega (arith, b)))
+    by (share side x == 0) (share side y == 0) refl refl same
+    (shares_same side names xs ys distinct.1 (omega (arith, a)) (omega (arith, b)))
   where
     first : List Term
     first = terms_of side names xs
@@ -288,14 +136,18 @@ module _ (names : List Name) (distinct : Distinct names) (named : AllByRecursion
   side_splits xs ys c d z y a b small less low high p q same =
       let first = terms_are side names xs named small in
       let second = terms_are side names ys named less in
-      let texts = shown_splits (summands side names xs c) (summands side names ys d) z y (side_words xs c small low) (side_words ys d less high) p q same in
-      let sums = shown_same (summands side names xs c) (summands side names ys d) (no_zero (terms_of side names xs) (share side c) first low)
-          (no_zero (terms_of side names ys) (share side d) second high) texts.0 in
-      let parts = summands_same (terms_of side names xs) (terms_of side names ys) (share side c) (share side d) first second low high sums in
+      let texts = shown_splits (summands side names xs c) (summands side names ys d) z y (side_words xs c small low)
+      (side_words ys d less high) p q same in
+      let sums = shown_same (summands side names xs c) (summands side names ys d)
+      (no_zero (terms_of side names xs) (share side c) first low)
+      (no_zero (terms_of side names ys) (share side d) second high) texts.0 in
+      let parts = summands_same (terms_of side names xs) (terms_of side names ys) (share side c) (share side d) first second low high sums
+      in
       (shares_same side names xs ys distinct a b parts.0, parts.1, texts.1)
 
 -- what a sum ends with is no bracket that opens, and no other byte
-sum_head : {A : Type 0} (ts : List Text) (z : Text) (y : Text) → AreWords ts → slice_index z 0 == 32 ≡ true → StopsAt in_word z → StopsAt in_word y
+sum_head : {A : Type 0} (ts : List Text) (z : Text) (y : Text) → AreWords ts → slice_index z 0 == 32 ≡ true → StopsAt in_word z
+    → StopsAt in_word y
     → slice_index y 0 == 32 ≡ false → (v : Text) → IsWord v → sum_of ts ++ z ≡ v ++ y → A
 sum_head {A} [] z y all blank p q other v w same =
     let parts = words (codes "0") v z y (refl, tt) w p q same in differ (λ b. b == 32) z y blank other parts.1
@@ -314,7 +166,8 @@ sum_head {A} (t ∷ ts) z y all blank p q other v w same =
     blanks (t ∷ ts) = refl
 
 pub side_head : {A : Type 0} (side : Side) (names : List Name) (xs : List ℤ) (c : ℤ) (v z y : Text) → AllByRecursion IsNaming names
-    → AreSmall side xs → share side c < 10 ^ 64 → slice_index z 0 == 32 ≡ true → StopsAt in_word z → StopsAt in_word y → slice_index y 0 == 32 ≡ false
+    → AreSmall side xs → share side c < 10 ^ 64 → slice_index z 0 == 32 ≡ true → StopsAt in_word z → StopsAt in_word y
+    → slice_index y 0 == 32 ≡ false
     → IsWord v → side_text side names xs c ++ z ≡ v ++ y → A
 side_head side names xs c v z y named small low blank p q other w same =
     sum_head (summands side names xs c) z y

@@ -1,7 +1,8 @@
 -- Words and numbers at the front of a text: they end where a byte comes that they cannot have.
-use Rattle.std.proofs.Common.{◌≡◌, ◌≢◌, ◌<◌, ◌≤◌, ◌+◌, ◌∙◌, ◌^◌, ℕ, zero, suc, Bool, true, false, cond, not, ◌&&◌, ◌||◌, List, [], ◌∷◌, ◌++◌, length}
-use Rattle.std.proofs.Common.{drop, slice_index, ap, ap₂, sym, subst, refl, arith, lit<, pow_mono, ℤ, pos, negsuc}
-use Rattle.std.specs.Prelude.{unsigned_abs, int_lt, IsTrue}
+use Rattle.std.proofs.Common.{◌≡◌, ◌<◌, ◌≤◌, ◌+◌, ◌∙◌, ◌^◌, ℕ, suc, Bool, true, false, cond, not, ◌||◌, List, [], ◌∷◌}
+use Rattle.std.proofs.Common.{◌++◌, length}
+use Rattle.std.proofs.Common.{drop, slice_index, ap, ap₂, sym, subst, refl, arith, lit<, pow_mono, ℤ, pos, negsuc, ◌<ℤ◌}
+use Rattle.std.specs.Prelude.{unsigned_abs, int_lt}
 use Rattle.std.specs.Char.{digit_value, is_ascii_digit}
 use Rattle.std.specs.Fmt.{decimal}
 use Rattle.std.specs.List.{list_all, prefix_len, AllByRecursion}
@@ -160,3 +161,6 @@ same_sign (pos m) (pos n) sign size = ap pos size
 same_sign (pos m) (negsuc n) sign size = absurd (false≢true (sym (not_less m) ∙ sign))
 same_sign (negsuc m) (pos n) sign size = absurd (false≢true (sym (not_less n) ∙ sym sign))
 same_sign (negsuc m) (negsuc n) sign size = let less : m ≡ n = omega (arith, size) in ap negsuc less
+
+pub positive_same : (a b : ℤ) → pos 0 <ℤ a → pos 0 <ℤ b → unsigned_abs a ≡ unsigned_abs b → a ≡ b
+positive_same a b p q same = grind arith

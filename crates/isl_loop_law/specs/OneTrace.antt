@@ -1,5 +1,5 @@
 -- public: the text of loops tells what they execute. (isl manual, on printing abstract syntax trees)
-use Rattle.std.specs.Prelude.{◌≡◌, ◌≤◌, ℕ, suc, max, ◌^◌, ℤ, List, All, length, Option, IfSome}
+use Rattle.std.specs.Prelude.{◌≡◌, ◌≤◌, ℕ, suc, max, ◌^◌, ℤ, List, All, length, IfSome}
 use Rattle.isl_meter.specs.Gauge.{Gauge}
 use Rattle.isl_space.specs.Name.{Name, IsLiteralName}
 use Rattle.isl_space.specs.Names.{AreDistinct}
