@@ -1,4 +1,4 @@
-//! Loops as trees: their execution.
+//! Loops as trees: their execution and their text.
 #![tactic(auto)]
 
 mod arguments;
@@ -8,4 +8,5 @@ mod value;
 
 pub use call::Call;
 pub use isl_loop::{Atom, Expr, Item, Loop};
+pub use isl_loop_text::loop_text;
 pub use run::execute;

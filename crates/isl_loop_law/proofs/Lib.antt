@@ -1,0 +1,11 @@
+mod WordLaws
+mod NameLaws
+mod SignLaws
+mod ExprLaws
+mod TermLaws
+mod SideLaws
+mod LeftLaws
+mod RowLaws
+mod NodeLaws
+mod LoopLaws
+mod TraceLaws
