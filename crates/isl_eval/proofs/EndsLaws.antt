@@ -1,6 +1,8 @@
--- What is too wide in what tests, listings and samples are made of.
-use Rattle.std.proofs.Common.{◌≡◌, ◌↔◌, ◌⊎◌, inl, inr, true, List, [], ◌∷◌, ◌++◌}
+-- What ends tests, listings and samples.
+use Rattle.std.proofs.Common.{◌≡◌, ◌↔◌, ◌<◌, ◌≤◌, arith, inl, inr, subst, true, List, [], ◌∷◌, ◌++◌, length}
 use Rattle.std.proofs.lemmas.Bool.{false≢true}
+use Rattle.isl_space.specs.Limits.{most_parameters}
+use Rattle.isl_space.specs.Name.{Name}
 use Rattle.isl_space.specs.SpaceForm.{SpaceForm}
 use Rattle.isl_space.specs.Valuation.{Valuation}
 use Rattle.isl_space.specs.Element.{Element}
@@ -9,29 +11,34 @@ use Rattle.isl_expr.specs.declared.tree.Binary.{Binary}
 use Rattle.isl_expr.specs.declared.tree.Binary.TheVariants as b
 use Rattle.isl_expr.specs.declared.tree.Prefix.{Prefix as Word}
 use Rattle.isl_expr.specs.declared.tree.Link.{Link}
-use Rattle.isl_expr.specs.declared.tree.Expr.{Expr, Prefix, Row}
-use Rattle.isl_operators.specs.Operations.{OperatorHas}
-use Rattle.isl_operators.specs.Formed.{OperatorForms, WordForms, FormsWide}
-use Rattle.isl_values.specs.State.{StateView}
+use Rattle.isl_expr.specs.declared.tree.Expr.{Expr, Prefix}
+use Rattle.isl_kinds.specs.Typed.{declared_of, declared_of_row, joined_names}
+use Rattle.isl_operators.specs.Formed.{OperatorForms, PairsWide, WordForms, FormsWide}
+use Rattle.isl_values.specs.State.{StateView, scope_of}
 use Rattle.isl_values.specs.Selection.{Selects}
-use Rattle.isl_values.specs.Formed.{IsTooWide, IsTooWideRow}
-use Rattle.isl_values.proofs.FormedLaws.{wide_of-Prefix, wide_of-Row, wide_row}
-use Rattle.isl_eval.specs.Tests.{Elements, is_test}
-use Rattle.isl_eval.specs.Evaluation.{IsTooWideTest}
+use Rattle.isl_values.specs.Ends.{End, too_wide, NoEnd, GoesOn, FirstEnds, OperationEnds, Ends, EndsRow}
+use Rattle.isl_values.proofs.FirstLaws.{EndAlike, alike_itself, first_alike, goes_alike, goes_both, turned_alike}
+use Rattle.isl_values.proofs.EndsLaws.{Behind, EndsWith, OperatorEnds}
+use Rattle.isl_values.proofs.EndsLaws.{ends_of-Prefix, row_alike, row_split}
+use Rattle.isl_values.proofs.OutcomeLaws.{operation_goes}
+use Rattle.isl_eval.specs.Tests.{is_test}
+use Rattle.isl_eval.specs.Evaluation.{EndsTest}
 
 -- ---- words
 module _ (state : StateView) (word : Word) (operand : Expr) where
-  pub word_wide : IsTooWide state operand → IsTooWide state (Prefix word operand)
-  word_wide wide = (wide_of-Prefix state word operand).1 (inl wide)
+  pub word_ends : (why : End) → Ends state operand why → Ends state (Prefix word operand) why
+  word_ends why ends = (ends_of-Prefix state word operand why).1 (inl ends)
 
   -- a word that forms no space
-  pub word_narrow : ((s formed : SpaceForm) → ¬ WordForms word s formed) → ¬ IsTooWide state operand
-      → ¬ IsTooWide state (Prefix word operand)
-  word_narrow none narrow wide = by ((wide_of-Prefix state word operand).0 wide)
-    where
-      by : IsTooWide state operand ⊎ FormsWide (WordForms word) (λ v x. Selects state operand v x) → ⊥
-      by (inl h) = narrow h
-      by (inr h) = none h.0 h.1 h.3
+  pub word_goes_on : ((s formed : SpaceForm) → ¬ WordForms word s formed) → GoesOn (Ends state operand)
+      → GoesOn (Ends state (Prefix word operand))
+  word_goes_on none goes =
+      let Wide = FormsWide (WordForms word) (λ v x. Selects state operand v x) in
+      let Both = FirstEnds (Ends state operand) (OperationEnds [] Wide) in
+      goes_alike Both (Ends state (Prefix word operand)) (turned_alike (Ends state (Prefix word operand)) Both
+      (ends_of-Prefix state word operand))
+      (goes_both (Ends state operand) (OperationEnds [] Wide) goes
+      (operation_goes [] Wide (omega arith) (λ wide. none wide.0 wide.1 wide.3)))
 
 -- ---- rows with a test at their end
 test_forms : (operator : Binary) (s t formed : SpaceForm) → is_test operator ≡ true → ¬ OperatorForms operator s t formed
@@ -40,60 +47,71 @@ test_forms b.Join s t formed test h = false≢true test
 test_forms b.Universal s t formed test h = false≢true test
 test_forms _ s t formed test h = h
 
-past : StateView → Elements → Link → Elements
-past state Left link valuation x = OperatorHas link.operator (Left valuation) (λ y. Selects state link.operand valuation y) x
-
-row_wide : (state : StateView) (Left : Elements) (before : List Link) (last : Link)
-    → IsTooWideRow state Left before ⊎ IsTooWide state last.operand → IsTooWideRow state Left (before ++ last ∷ [])
-unfolding past
-row_wide state Left [] last (inl h) = absurd h
-row_wide state Left [] last (inr h) = inl h
-row_wide state Left (link ∷ before) last (inl (inl h)) = inl h
-row_wide state Left (link ∷ before) last (inl (inr (inl h))) = inr (inl h)
-row_wide state Left (link ∷ before) last (inl (inr (inr h))) = inr (inr (row_wide state (past state Left link) before last (inl h)))
-row_wide state Left (link ∷ before) last (inr h) = inr (inr (row_wide state (past state Left link) before last (inr h)))
-
-row_narrow : (state : StateView) (Left : Elements) (before : List Link) (last : Link) → is_test last.operator ≡ true
-    → IsTooWideRow state Left (before ++ last ∷ []) → IsTooWideRow state Left before ⊎ IsTooWide state last.operand
-unfolding past
-row_narrow state Left [] last test (inl h) = inr h
-row_narrow state Left [] last test (inr (inl h)) = absurd (test_forms last.operator h.0 h.1 h.2 test h.5)
-row_narrow state Left [] last test (inr (inr h)) = absurd h
-row_narrow state Left (link ∷ before) last test (inl h) = inl (inl h)
-row_narrow state Left (link ∷ before) last test (inr (inl h)) = inl (inr (inl h))
-row_narrow state Left (link ∷ before) last test (inr (inr h)) = by (row_narrow state (past state Left link) before last test h)
-  where
-    by : IsTooWideRow state (past state Left link) before ⊎ IsTooWide state last.operand
-        → IsTooWideRow state Left (link ∷ before) ⊎ IsTooWide state last.operand
-    by (inl k) = inl (inr (inr k))
-    by (inr k) = inr k
-
 module _ (state : StateView) (first : Expr) (before : List Link) (last : Link) where
-  pub test_wide : IsTooWideTest state first before last → IsTooWide state (Row first (before ++ last ∷ []))
-  test_wide (inl h) = (wide_of-Row state first (before ++ last ∷ [])).1 (inl h)
-  test_wide (inr h) = (wide_of-Row state first (before ++ last ∷ [])).1
-      (inr (row_wide state (λ v x. Selects state first v x) before last h))
+  abbrev Names : List Name
+  Names = declared_of (scope_of state) first
 
-  pub test_formed : is_test last.operator ≡ true → IsTooWide state (Row first (before ++ last ∷ []))
-      → IsTooWideTest state first before last
-  test_formed test wide = by ((wide_of-Row state first (before ++ last ∷ [])).0 wide)
-    where
-      by : IsTooWide state first ⊎ IsTooWideRow state (λ v x. Selects state first v x) (before ++ last ∷ [])
-          → IsTooWideTest state first before last
-      by (inl h) = inl h
-      by (inr h) = inr (row_narrow state (λ v x. Selects state first v x) before last test h)
+  abbrev Past : Valuation → Element → Type 0
+  Past v x = Selects state first v x
 
-  -- the value of the first operand has what that selects
-  module _ (one : KeptValue) (same : (v : Valuation) (x : Element) → Has one v x ↔ Selects state first v x) where
-    pub past_wide : IsTooWideRow state (Has one) before → IsTooWideTest state first before last
-    past_wide wide = inr (inl (wide_row state (Has one) (λ v x. Selects state first v x) before same wide))
+  abbrev There : List Name
+  There = declared_of_row (scope_of state) Names before
 
-    pub all_narrow : ¬ IsTooWide state first → ¬ IsTooWideRow state (Has one) before → ¬ IsTooWide state last.operand
-        → ¬ IsTooWideTest state first before last
-    all_narrow left others right wide = by wide
-      where
-        by : IsTooWideTest state first before last → ⊥
-        by (inl h) = left h
-        by (inr (inl h)) = others (wide_row state (λ v x. Selects state first v x) (Has one) before
-            (λ v x. let iff = same v x in (iff.1, iff.0)) h)
-        by (inr (inr h)) = right h
+  -- of the last link alone
+  abbrev pub LastEnds : End → Type 0
+  LastEnds =
+      EndsRow state (declared_of_row (scope_of state) (declared_of (scope_of state) first) before)
+      (Behind state (λ v x. Selects state first v x) before) (last ∷ [])
+
+  abbrev Parts : End → Type 0
+  Parts = FirstEnds (Ends state first) (FirstEnds (EndsRow state Names Past before) LastEnds)
+
+  in_parts : EndAlike Parts (EndsTest state first before last)
+  in_parts =
+      let Row = EndsRow state Names Past before in
+      let Whole = EndsRow state Names Past (before ++ last ∷ []) in
+      first_alike (Ends state first) (FirstEnds Row LastEnds) (Ends state first) Whole (alike_itself (Ends state first))
+      (turned_alike Whole (FirstEnds Row LastEnds) (row_split state Names Past before (last ∷ [])))
+
+  pub first_ends : (why : End) → Ends state first why → EndsTest state first before last why
+  first_ends why ends = inl ends
+
+  module _ (one : KeptValue) (names : one.params ≡ declared_of (scope_of state) first)
+      (same : (v : Valuation) (x : Element) → Has one v x ↔ Selects state first v x) (goes : GoesOn (Ends state first)) where
+    -- the row before the last link ends for the value of the first operand as for what that selects
+    row_before : EndAlike (EndsRow state one.params (Has one) before) (EndsRow state Names Past before)
+    row_before =
+        subst (λ (ns : List Name). EndAlike (EndsRow state one.params (Has one) before) (EndsRow state ns Past before)) names
+        (row_alike state one.params (Has one) Past before same)
+
+    pub past_ends : (why : End) → EndsRow state one.params (Has one) before why → EndsTest state first before last why
+    past_ends why ends = (in_parts why).0 (inr (goes, inl ((row_before why).0 ends)))
+
+    module _ (go : GoesOn (EndsRow state one.params (Has one) before)) where
+      row_goes : GoesOn (EndsRow state Names Past before)
+      row_goes = goes_alike (EndsRow state one.params (Has one) before) (EndsRow state Names Past before) row_before go
+
+      last_ends : (why : End) → LastEnds why → EndsTest state first before last why
+      last_ends why ends = (in_parts why).0 (inr (goes, inr (row_goes, ends)))
+
+      pub right_ends : (why : End) → Ends state last.operand why → EndsTest state first before last why
+      right_ends why ends = last_ends why (inl ends)
+
+      module _ (right : GoesOn (Ends state last.operand)) where
+        pub names_end : most_parameters < length (joined_names There (declared_of (scope_of state) last.operand))
+            → EndsTest state first before last too_wide
+        names_end many = last_ends too_wide (inr (right, inl (inl many)))
+
+        pub test_goes_on : is_test last.operator ≡ true
+            → length (joined_names There (declared_of (scope_of state) last.operand)) ≤ most_parameters
+            → GoesOn (EndsTest state first before last)
+        test_goes_on test few =
+            let next = joined_names There (declared_of (scope_of state) last.operand) in
+            let Wide = PairsWide (OperatorForms last.operator) (Behind state Past before) (λ v y. Selects state last.operand v y) in
+            let Operation = OperationEnds next Wide in
+            let narrow : ¬ Wide = λ wide. test_forms last.operator wide.0 wide.1 wide.2 test wide.5 in
+            let own = goes_both Operation NoEnd (operation_goes next Wide few narrow) (λ why h. h) in
+            let at_last = goes_both (Ends state last.operand) (FirstEnds Operation NoEnd) right own in
+            goes_alike Parts (EndsTest state first before last) in_parts
+            (goes_both (Ends state first) (FirstEnds (EndsRow state Names Past before) LastEnds) goes
+            (goes_both (EndsRow state Names Past before) LastEnds row_goes at_last))
