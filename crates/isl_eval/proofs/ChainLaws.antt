@@ -4,7 +4,6 @@ use Rattle.std.proofs.Common.{Bool, true, false, List, [], ◌∷◌, ◌++◌, 
 use Rattle.std.specs.List.{All, list_any}
 use Rattle.std.proofs.lemmas.Bool.{false≢true}
 use Rattle.std.proofs.lemmas.List.Elements.{All-nil, All-cons, All-append}
-use Rattle.isl_space.specs.Limits.{most_parameters}
 use Rattle.isl_space.specs.Name.{Name}
 use Rattle.isl_text.specs.declared.refusal.Refusal.TheVariants as r
 use Rattle.isl_lower.specs.Value.{IsWellFormedLiteral}
@@ -114,13 +113,12 @@ plain scope (Show expr) t typed full supported simple =
 abbrev MayBe : ℕ → Stmt → Type 0
 MayBe most stmt = (scope : ScopeView) (t : Option TypeView) → HasType most scope stmt t → IsEvaluable scope stmt
 
-may_be : (most : ℕ) (stmt : Stmt) → most ≤ most_parameters → FullStmt stmt → list_any is_unsupported_part (parts_of_statement stmt) ≡ false
+may_be : (most : ℕ) (stmt : Stmt) → FullStmt stmt → list_any is_unsupported_part (parts_of_statement stmt) ≡ false
     → All IsWellFormedLiteral (statement_literals stmt) → IsSimple stmt → MayBe most stmt
-may_be most stmt few full supported literals simple = λ scope t has. record {
+may_be most stmt full supported literals simple = λ scope t has. record {
   typed = (t, has.typed);
   plain = plain scope stmt t has.typed full supported simple;
   literals = literals;
-  narrow = let least = has.few in omega (arith, least, few);
 }
 
 -- ---- one after another
@@ -184,7 +182,7 @@ evaluable before bytes stmt statements read able is short =
     let simple = flat_is_simple stmt in
     let full = all_full stmt (full_spelled bytes stmt read.spelled) in
     let each : All (MayBe most) (flat stmt) = λ i d low.
-    may_be most (get_or (flat stmt) i d) able.narrow (full i d low) (supported i d low) (literals i d low) (simple i d low) in
+    may_be most (get_or (flat stmt) i d) (full i d low) (supported i d low) (literals i d low) (simple i d low) in
     subst (AreEvaluable (scope_of before.state)) (sym (is ∙ flat_ends stmt))
     (chain most 1 (scope_of before.state) (bindings_of stmt) (last_of stmt) able.typed.0
     (subst (λ (s : List Stmt). AreTyped most (scope_of before.state) s able.typed.0) (flat_ends stmt) typed) (bindings_are_numbered stmt)

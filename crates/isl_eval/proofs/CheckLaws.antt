@@ -54,22 +54,6 @@ module _ (scope : ScopeView) (at : Valuation) (stmt : Stmt) (o : Option TypeView
   pub parametric_why : b ≡ true → IsWhyUnworkable scope at stmt r.Parametric
   parametric_why lacking = inr (inl (has_type, sym (found scope (declared_is scope stmt o names typed is)) ∙ lacking, refl))
 
-  module _ (given : b ≡ false) where
-    is_given_all : is_parametric scope at stmt ≡ false
-    is_given_all = sym (found scope (declared_is scope stmt o names typed is)) ∙ given
-
-    pub wide_why : most_parameters < length names → IsWhyUnworkable scope at stmt r.TooWide
-    wide_why wide =
-        inr (inr (inl (
-          has_type,
-          is_given_all,
-          subst (λ (ps : List Name). most_parameters < length ps) (declared_is scope stmt o names typed is) wide,
-          refl,
-        )))
-
-    pub workable_is : length names ≤ most_parameters → IsWorkable scope at stmt
-    workable_is narrow = record {
-      typed = has_type;
-      given = is_given_all;
-      narrow = subst (λ (ps : List Name). length ps ≤ most_parameters) (declared_is scope stmt o names typed is) narrow;
-    }
+  pub workable_is : b ≡ false → IsWorkable scope at stmt
+  workable_is given =
+      record { typed = has_type; given = sym (found scope (declared_is scope stmt o names typed is)) ∙ given }

@@ -6,13 +6,14 @@ pub mod SoundLaws
 pub mod CauseLaws
 pub mod TypeLaws
 pub mod TestLaws
-pub mod WideLaws
+pub mod EndsLaws
 pub mod PlainLaws
 pub mod RefusalLaws
 pub mod FullLaws
 pub mod ChainLaws
 pub mod StepLaws
 pub mod AskedLaws
+pub mod ListedLaws
 pub mod ShownLaws
 pub mod CheckLaws
 pub mod TakenLaws

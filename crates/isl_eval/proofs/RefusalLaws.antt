@@ -5,19 +5,17 @@ use Rattle.std.specs.List.{list_any}
 use Rattle.std.proofs.lemmas.Bool.{false_from_ne_true}
 use Rattle.isl_meter.specs.Gauge.{Gauge}
 use Rattle.isl_meter.proofs.CutLemmas.{IsCharged_refl}
-use Rattle.isl_space.specs.Limits.{most_parameters}
 use Rattle.isl_text.specs.declared.refusal.Refusal.{Refusal}
 use Rattle.isl_text.specs.declared.refusal.Refusal.TheVariants as r
 use Rattle.isl_expr.specs.declared.tree.Stmt.{Stmt}
 use Rattle.isl_kinds.specs.Typed.{TypeView, type_of_statement}
 use Rattle.isl_kinds.specs.Parts.{parts_of_statement}
-use Rattle.isl_flat.specs.Simple.{statement_declared}
 use Rattle.isl_values.specs.Made.{uses_units}
 use Rattle.isl_values.specs.State.{Moment, scope_of}
 use Rattle.isl_eval.specs.Spelled.{BytesSpell, OfStatement}
 use Rattle.isl_eval.specs.Causes.{Cause, no_token, too_deep, no_statement, too_wide}
 use Rattle.isl_eval.specs.Causes.{wide_number, unsupported, unknown_name, wrong_kind, no_element}
-use Rattle.isl_eval.specs.Causes.{parametric, wide_join, causes, refusal_of, is_parametric}
+use Rattle.isl_eval.specs.Causes.{parametric, causes, refusal_of, is_parametric}
 use Rattle.isl_eval.specs.Causes.{IsThere, FirstGives, NoneIs, IsClear, Refuses, HasWork}
 use Rattle.isl_eval.specs.Evaluated.{IsTyped}
 use Rattle.isl_eval.specs.Evaluation.{causes_of_bytes, IsRead, IsWhyNot, IsWorkable, IsWhyUnworkable}
@@ -42,7 +40,6 @@ module _ (before : Moment) (bytes : List ℕ) (now : Gauge) (same : now ≡ befo
   by_cause wrong_kind h = (h, same)
   by_cause no_element h = (h, same)
   by_cause parametric h = (h, same)
-  by_cause wide_join h = inl (h, same)
 
   -- some cause of these gives the refusal
   given : (list : List Cause) (refusal : Refusal) → FirstGives (IsThere before bytes) list refusal → (cause : Cause)
@@ -114,24 +111,18 @@ module _ (before : Moment) (bytes : List ℕ) (stmt : Stmt) (read : IsRead befor
       is_not (is_parametric (scope_of before.state) before.at stmt) given
       (of_statement bytes stmt (λ stmt. is_parametric (scope_of before.state) before.at stmt ≡ true) read.spelled there)
 
-  narrow_none : length (statement_declared (scope_of before.state) stmt) ≤ most_parameters → ¬ IsThere before bytes wide_join
-  narrow_none narrow there =
-      let wide = of_statement bytes stmt (λ stmt. most_parameters < length (statement_declared (scope_of before.state) stmt)) read.spelled
-      there in
-      absurd (omega (arith, narrow, wide))
-
   pub clear : IsWorkable (scope_of before.state) before.at stmt → IsClear before bytes
   clear able =
       none_both (IsThere before bytes) causes_of_bytes
-      (unknown_name ∷ wrong_kind ∷ no_element ∷ parametric ∷ wide_join ∷ []) read.none
-      (none_both (IsThere before bytes) (unknown_name ∷ wrong_kind ∷ no_element ∷ []) (parametric ∷ wide_join ∷ [])
+      (unknown_name ∷ wrong_kind ∷ no_element ∷ parametric ∷ []) read.none
+      (none_both (IsThere before bytes) (unknown_name ∷ wrong_kind ∷ no_element ∷ []) (parametric ∷ [])
       (typed_none able.typed)
-      (given_none able.given, (narrow_none able.narrow, tt)))
+      (given_none able.given, tt))
 
   -- it has no type
   untyped : (refusal : Refusal) → type_of_statement (scope_of before.state) stmt ≡ Err refusal
       → ((refusal ≡ r.UnknownName) ⊎ ((refusal ≡ r.WrongKind) ⊎ (refusal ≡ r.NoElement)))
-      → FirstGives (IsThere before bytes) (unknown_name ∷ wrong_kind ∷ no_element ∷ parametric ∷ wide_join ∷ []) refusal
+      → FirstGives (IsThere before bytes) (unknown_name ∷ wrong_kind ∷ no_element ∷ parametric ∷ []) refusal
   untyped refusal is (inl e) = inl ((stmt, read.spelled, is ∙ ap Err e), e)
   untyped refusal is (inr (inl e)) =
       inr (
@@ -150,18 +141,18 @@ module _ (before : Moment) (bytes : List ℕ) (stmt : Stmt) (read : IsRead befor
 
   -- what is bound has a cause
   bound_cause : (refusal : Refusal) → FirstGives (IsThere before bytes)
-      (unknown_name ∷ wrong_kind ∷ no_element ∷ parametric ∷ wide_join ∷ []) refusal
+      (unknown_name ∷ wrong_kind ∷ no_element ∷ parametric ∷ []) refusal
       → FirstGives (IsThere before bytes) causes refusal
   bound_cause refusal first =
       first_past (IsThere before bytes) causes_of_bytes
-      (unknown_name ∷ wrong_kind ∷ no_element ∷ parametric ∷ wide_join ∷ []) refusal read.none first
+      (unknown_name ∷ wrong_kind ∷ no_element ∷ parametric ∷ []) refusal read.none first
 
   typed_cause : (refusal : Refusal) → IsTyped (scope_of before.state) stmt
-      → FirstGives (IsThere before bytes) (parametric ∷ wide_join ∷ []) refusal
+      → FirstGives (IsThere before bytes) (parametric ∷ []) refusal
       → FirstGives (IsThere before bytes) causes refusal
   typed_cause refusal typed first =
       bound_cause refusal (first_past (IsThere before bytes) (unknown_name ∷ wrong_kind ∷ no_element ∷ [])
-      (parametric ∷ wide_join ∷ []) refusal (typed_none typed) first)
+      (parametric ∷ []) refusal (typed_none typed) first)
 
   pub unworkable_refuses : (refusal : Refusal) → IsWhyUnworkable (scope_of before.state) before.at stmt refusal
       → Refuses before bytes before.meter refusal
@@ -170,7 +161,4 @@ module _ (before : Moment) (bytes : List ℕ) (stmt : Stmt) (read : IsRead befor
       (bound_cause refusal (untyped refusal h (no_type (scope_of before.state) stmt refusal h)))
   unworkable_refuses refusal (inr (inl h)) =
       first_refuses before bytes before.meter refl refusal (typed_cause refusal h.0 (inl ((stmt, read.spelled, h.1), h.2)))
-  unworkable_refuses refusal (inr (inr (inl h))) =
-      first_refuses before bytes before.meter refl refusal
-      (typed_cause refusal h.0 (inr (given_none h.1, inl ((stmt, read.spelled, h.2), h.3))))
-  unworkable_refuses refusal (inr (inr (inr h))) = memory_refuses before bytes before.meter refl refusal h
+  unworkable_refuses refusal (inr (inr h)) = memory_refuses before bytes before.meter refl refusal h

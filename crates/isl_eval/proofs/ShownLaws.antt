@@ -11,7 +11,6 @@ use Rattle.std.proofs.lemmas.List.Elements.{All-nil, All-append}
 use Rattle.std.proofs.lemmas.List.Folds.{list_any-append}
 use Rattle.isl_meter.specs.Gauge.{Gauge, limit_of, IsCharged}
 use Rattle.isl_meter.proofs.CutLemmas.{IsCharged_refl, IsCharged_trans}
-use Rattle.isl_space.specs.Limits.{most_parameters}
 use Rattle.isl_space.specs.Name.{Name}
 use Rattle.isl_space.specs.Element.{Element}
 use Rattle.isl_space.specs.Valuation.{Valuation, value_at, values_of}
@@ -43,28 +42,29 @@ use Rattle.isl_kinds.specs.declared.types.Purpose.TheVariants as purpose
 use Rattle.isl_kinds.specs.Parts.{Part, parts_of, parts_in, parts_in_links, parts_of_links}
 use Rattle.isl_kinds.specs.Parts as part
 use Rattle.isl_kinds.specs.Typed.{TypeView, ScopeView, has_unknown, is_unknown, kind_of, declared_of}
-use Rattle.isl_kinds.specs.Typed.{declared_of_row, joined_names, type_for, type_of_statement, Answers as TypeAnswers}
-use Rattle.isl_kinds.proofs.DeclaredLaws.{declared_of-Prefix, declared_of-Row}
-use Rattle.isl_kinds.proofs.JoinedNamesLaws.{declared_with, first_fits}
+use Rattle.isl_kinds.specs.Typed.{type_for, type_of_statement, Answers as TypeAnswers}
+use Rattle.isl_kinds.proofs.DeclaredLaws.{declared_of-Prefix}
 use Rattle.isl_kinds.proofs.PartLaws.{parts_of-Prefix, parts_of-Row}
 use Rattle.isl_values.specs.State.{Binds, Kept, Moment, StateView, HasNumbersUpTo, scope_of, type_of}
 use Rattle.isl_values.specs.Worked.{IsWorked}
 use Rattle.isl_values.specs.Selection.{Selects, IsContentOf, IsSelected, Keeps}
-use Rattle.isl_values.specs.Made.{is_foreign, uses_units, IsReady, IsOfType, IsSoundExpr, IsValueOf, IsPaid, IsWhyUnworked}
-use Rattle.isl_values.specs.Formed.{FormsTooWide, IsTooWide}
-use Rattle.isl_values.proofs.NarrowLaws.{row_declares, operand_fits}
+use Rattle.isl_values.specs.Made.{is_foreign, uses_units, IsOfType, IsSoundExpr, IsValueOf, IsPaid, IsWhyUnworked}
+use Rattle.isl_values.specs.Ends.{End, too_wide, unbounded, Ends, GoesOn}
+use Rattle.isl_values.proofs.FirstLaws.{EndAlike, alike_trans, goes_alike, goes_both, turned_alike}
+use Rattle.isl_values.proofs.EndsLaws.{ends_of-Row}
 use Rattle.isl_values.proofs.PartLaws.{all_left, all_right, quiet_both, sound_links}
-use Rattle.isl_values.proofs.ValueLaws.{same_limit, unworked_in}
+use Rattle.isl_values.proofs.ValueLaws.{paid_works, same_limit, unworked_in}
 use Rattle.isl_eval.specs.Listed.{IsListed, AreFinite}
 use Rattle.isl_eval.specs.Machine.{Answer, Does, Shows, ShowsRow, ShowsValue, Step, listed, nothing, shown}
-use Rattle.isl_eval.specs.Causes.{IsInfinite}
+use Rattle.isl_eval.specs.Ended.{ListingEnds, StatementEnds}
 use Rattle.isl_eval.specs.Tests.{is_test, RowHolds}
 use Rattle.isl_eval.specs.Evaluated.{made_parts, shown_parts, parts_around_test, works, IsTyped, IsEvaluable, IsWhyEnded}
 use Rattle.isl_eval.specs.Evaluation.{ends_with_test, is_asked, refusal_of_fault}
-use Rattle.isl_eval.specs.Evaluation.{IsKeptOf, IsMakeable, IsReadyTest, IsSampled}
+use Rattle.isl_eval.specs.Evaluation.{EndsListing, EndsTest, IsKeptOf, IsMakeable, IsReadyTest, IsSampled}
 use Rattle.isl_eval.proofs.TypeLaws.{answered_ok, found_is, bind_typed, of_type}
 use Rattle.isl_eval.proofs.TestLaws.{ends_at, test_parts, unmade_by}
-use Rattle.isl_eval.proofs.WideLaws.{word_wide, word_narrow}
+use Rattle.isl_eval.proofs.EndsLaws.{word_ends, word_goes_on}
+use Rattle.isl_eval.proofs.ListedLaws.{listed_finite}
 use Rattle.isl_eval.proofs.AskedLaws.{asked_of-Prefix, asked_of-Row, ends_none, scan_word}
 
 -- ---- what is kept of an expression that selects
@@ -128,17 +128,14 @@ unfolding hidden-the_row-Expr-0 denote.Hole.Carrier.hidden
 shown_of-Scan operand = refl
 
 -- the operand of a word is ready where what is made of it is plain
-pub word_ready : (scope : ScopeView) (word : Word) (operand : Expr) → list_any is_foreign (parts_of operand) ≡ false
+pub word_sound : (scope : ScopeView) (word : Word) (operand : Expr) → list_any is_foreign (parts_of operand) ≡ false
     → has_unknown scope (e.Prefix word operand) ≡ false → All IsWellFormedLiteral (literals_of (e.Prefix word operand))
-    → length (declared_of scope (e.Prefix word operand)) ≤ most_parameters → IsReady scope operand
-word_ready scope word operand plain known literals narrow = record {
-  sound = record {
-    supported = plain;
-    known = (or_parts false (list_any (is_unknown scope) (parts_of operand))
-        (sym (ap (list_any (is_unknown scope)) (parts_of-Prefix word operand)) ∙ known)).1;
-    literals = subst (All IsWellFormedLiteral) (literals_of-Prefix word operand) literals;
-  };
-  narrow = subst (λ (ps : List Name). length ps ≤ most_parameters) (declared_of-Prefix scope word operand) narrow;
+    → IsSoundExpr scope operand
+word_sound scope word operand plain known literals = record {
+  supported = plain;
+  known = (or_parts false (list_any (is_unknown scope) (parts_of operand))
+      (sym (ap (list_any (is_unknown scope)) (parts_of-Prefix word operand)) ∙ known)).1;
+  literals = subst (All IsWellFormedLiteral) (literals_of-Prefix word operand) literals;
 }
 
 at_word : (known word : Word) (expr operand x : Expr) → expr ≡ e.Prefix word operand → word ≡ known → x ≡ operand
@@ -151,21 +148,21 @@ module _ (state : StateView) (expr operand x : Expr) (word : Word) (is : expr �
   sample_is : expr ≡ e.Prefix p.Sample x
   sample_is = at_word p.Sample word expr operand x is which same
 
-  pub sample_ready : IsMakeable (scope_of state) expr → IsReady (scope_of state) x
-  sample_ready able =
+  pub sample_sound : IsMakeable (scope_of state) expr → IsSoundExpr (scope_of state) x
+  sample_sound able =
       let here = subst (IsMakeable (scope_of state)) sample_is able in
-      word_ready (scope_of state) p.Sample x (sym (ap (list_any is_foreign) (made_of-Sample x)) ∙ here.plain) here.known here.literals
-      here.narrow
+      word_sound (scope_of state) p.Sample x (sym (ap (list_any is_foreign) (made_of-Sample x)) ∙ here.plain) here.known here.literals
 
   pub sample_works : true ≡ list_any uses_units (parts_of expr)
   sample_works = sym (ap (λ (y : Expr). list_any uses_units (parts_of y)) sample_is
       ∙ ap (list_any uses_units) (parts_of-Prefix p.Sample x))
 
-  pub sample_wide : IsTooWide state x → IsTooWide state expr
-  sample_wide wide = subst (IsTooWide state) (sym sample_is) (word_wide state p.Sample x wide)
+  pub sample_ends : (why : End) → Ends state x why → Ends state expr why
+  sample_ends why ends = subst (λ (y : Expr). Ends state y why) (sym sample_is) (word_ends state p.Sample x why ends)
 
-  pub sample_narrow : ¬ IsTooWide state x → ¬ IsTooWide state expr
-  sample_narrow narrow wide = word_narrow state p.Sample x (λ s formed h. h) narrow (subst (IsTooWide state) sample_is wide)
+  pub sample_goes_on : GoesOn (Ends state x) → GoesOn (Ends state expr)
+  sample_goes_on goes =
+      subst (λ (y : Expr). GoesOn (Ends state y)) (sym sample_is) (word_goes_on state p.Sample x (λ s formed h. h) goes)
 
   pub sample_kept : (limit : ℤ) (value : KeptValue) → IsSampled state x (unsigned_abs limit) value → IsKeptOf state limit expr value
   sample_kept limit value of =
@@ -178,10 +175,10 @@ module _ (state : StateView) (expr operand x : Expr) (word : Word) (is : expr �
 pub paid_working : (works : Bool) (g h : Gauge) → true ≡ works → IsCharged g h → IsPaid works g h
 paid_working works g h is charged = record { charged = charged; free = λ none. absurd (false≢true (sym none ∙ sym is)) }
 
-pub unworked_working : (works : Bool) (Wide Whole : Type 0) (g h : Gauge) (refusal : Refusal) → true ≡ works → (Wide → Whole)
-    → IsWhyUnworked true Wide g h refusal → IsWhyUnworked works Whole g h refusal
-unworked_working works Wide Whole g h refusal is wider why =
-    unworked_in works true Wide Whole g h refusal (λ none. absurd (false≢true (sym none ∙ sym is))) wider why
+pub unworked_working : (works : Bool) (Part Whole : End → Type 0) (g h : Gauge) (refusal : Refusal) → true ≡ works
+    → ((why : End) → Part why → Whole why) → IsWhyUnworked true Part g h refusal → IsWhyUnworked works Whole g h refusal
+unworked_working works Part Whole g h refusal is ends why =
+    unworked_in works true Part Whole g h refusal (λ none. absurd (false≢true (sym none ∙ sym is))) ends why
 
 -- ---- what is shown
 -- the moment of a state and a meter
@@ -232,25 +229,31 @@ shows_of-Scan : (before : Moment) (operand : Expr) (answer : Answer) → Listing
 unfolding Listing hidden-the_row-Expr-0 denote.Hole.Carrier.hidden
 shows_of-Scan before operand answer h = h
 
--- there are infinitely many elements, and nothing on the way to them is too wide
-abbrev Endless : StateView → Expr → Valuation → Type 0
-Endless state operand at = (¬ AreFinite (λ x. Selects state operand at x)) × (¬ IsTooWide state operand)
-
-infinite_of-Scan : (before : Moment) (operand : Expr) → Endless before.state operand before.at
-    → IsInfinite before (Show (e.Prefix p.Scan operand))
+ends_of-Scan : (before : Moment) (operand : Expr)
+    → EndAlike (EndsListing before.state operand before.at) (StatementEnds before (Show (e.Prefix p.Scan operand)))
 unfolding hidden-the_row-Expr-0 denote.Hole.Carrier.hidden
-infinite_of-Scan before operand h = h
+ends_of-Scan before operand why = ((λ h. h), (λ h. h))
+
+-- where elements are listed there are finitely many
+pub listing_goes_on : (state : StateView) (operand : Expr) (at : Valuation) (elements : List Element) → GoesOn (Ends state operand)
+    → IsListed (λ x. Selects state operand at x) elements → GoesOn (EndsListing state operand at)
+listing_goes_on state operand at elements goes listing =
+    goes_both (Ends state operand) (ListingEnds (λ x. Selects state operand at x)) goes by
+  where
+    by : GoesOn (ListingEnds (λ x. Selects state operand at x))
+    by too_wide h = h
+    by unbounded h = h (listed_finite (λ x. Selects state operand at x) elements listing)
 
 module _ (before : Moment) (expr operand x : Expr) (word : Word) (is : expr ≡ e.Prefix word operand) (which : word ≡ p.Scan)
     (same : x ≡ operand) where
   scan_is : expr ≡ e.Prefix p.Scan x
   scan_is = at_word p.Scan word expr operand x is which same
 
-  pub scan_ready : IsEvaluable (scope_of before.state) (Show expr) → IsReady (scope_of before.state) x
-  scan_ready able =
+  pub scan_sound : IsEvaluable (scope_of before.state) (Show expr) → IsSoundExpr (scope_of before.state) x
+  scan_sound able =
       let here = subst (λ (y : Expr). IsEvaluable (scope_of before.state) (Show y)) scan_is able in
-      word_ready (scope_of before.state) p.Scan x (sym (ap (list_any is_foreign) (shown_of-Scan x)) ∙ here.plain)
-      (show_kind (scope_of before.state) (e.Prefix p.Scan x) here.typed).1.known here.literals here.narrow
+      word_sound (scope_of before.state) p.Scan x (sym (ap (list_any is_foreign) (shown_of-Scan x)) ∙ here.plain)
+      (show_kind (scope_of before.state) (e.Prefix p.Scan x) here.typed).1.known here.literals
 
   pub scan_works : true ≡ list_any uses_units (parts_of expr)
   scan_works = sym (ap (λ (y : Expr). list_any uses_units (parts_of y)) scan_is ∙ ap (list_any uses_units) (parts_of-Prefix p.Scan x))
@@ -261,26 +264,21 @@ module _ (before : Moment) (expr operand x : Expr) (word : Word) (is : expr ≡ 
   unfolding Listing
   scan_shows answer h = subst (λ (y : Expr). Shows before y answer) (sym scan_is) (shows_of-Scan before x answer h)
 
-  pub scan_narrow : ¬ IsTooWide before.state x → ¬ IsTooWide before.state expr
-  scan_narrow narrow wide = word_narrow before.state p.Scan x (λ s formed h. h) narrow (subst (IsTooWide before.state) scan_is wide)
+  scan_ends : EndAlike (EndsListing before.state x before.at) (StatementEnds before (Show expr))
+  scan_ends =
+      subst (λ (y : Expr). EndAlike (EndsListing before.state x before.at) (StatementEnds before (Show y))) (sym scan_is)
+      (ends_of-Scan before x)
+
+  pub scan_goes_on : GoesOn (EndsListing before.state x before.at) → GoesOn (StatementEnds before (Show expr))
+  scan_goes_on goes = goes_alike (EndsListing before.state x before.at) (StatementEnds before (Show expr)) scan_ends goes
 
   pub scan_ended : (now : Gauge) (refusal : Refusal)
-      → IsWhyUnworked true (IsTooWide before.state x) before.meter now refusal
-      ⊎ ((refusal ≡ r.Unbounded) × ((¬ AreFinite (λ y. Selects before.state x before.at y)) × (¬ IsTooWide before.state x))
-      × IsCharged before.meter now)
-      → IsWhyEnded before (Show expr) now refusal
-  scan_ended now refusal (inl why) =
-      inl (unworked_working (list_any uses_units (parts_of expr)) (IsTooWide before.state x) (IsTooWide before.state expr) before.meter now
-      refusal scan_works
-      (λ wide. subst (IsTooWide before.state) (sym scan_is) (word_wide before.state p.Scan x wide)) why)
-  scan_ended now refusal (inr why) =
-      inr (why.0, subst (λ (y : Expr). IsInfinite before (Show y)) (sym scan_is) (infinite_of-Scan before x why.1), why.2)
+      → IsWhyUnworked true (EndsListing before.state x before.at) before.meter now refusal → IsWhyEnded before (Show expr) now refusal
+  scan_ended now refusal why =
+      unworked_working (list_any uses_units (parts_of expr)) (EndsListing before.state x before.at) (StatementEnds before (Show expr))
+      before.meter now refusal scan_works (λ end ends. (scan_ends end).0 ends) why
 
 -- ---- what is around a test
-end_at : (before : List Link) (last : Link) → last ≡ get_or (before ++ last ∷ []) (length before) last
-end_at [] last = refl
-end_at (link ∷ before) last = end_at before last
-
 none_both : (test : Part → Bool) (xs ys : List Part) → list_any test xs ≡ false → list_any test ys ≡ false
     → list_any test (xs ++ ys) ≡ false
 none_both test xs ys one two = list_any-append test xs ys ∙ ap₂ (λ (a b : Bool). a || b) one two
@@ -322,12 +320,6 @@ test_ready scope expr first x links list before last is same are split test able
     let front = all_left IsWellFormedLiteral (literals_of x) (links_literals whole) literals in
     let behind = literals_with IsWellFormedLiteral before last
     (all_right IsWellFormedLiteral (literals_of x) (links_literals whole) literals) in
-    let names = declared_of scope x in
-    let narrow : length (declared_of_row scope names whole) ≤ most_parameters =
-    subst (λ (ps : List Name). length ps ≤ most_parameters) (declared_of-Row scope x whole) here.narrow in
-    let joins : length (joined_names (declared_of_row scope names before) (declared_of scope last.operand)) ≤ most_parameters =
-    subst (λ (ps : List Name). length ps ≤ most_parameters) (declared_with scope names before last) narrow in
-    let shorter = first_fits (declared_of_row scope names before) (declared_of scope last.operand) in
     let row_sound : IsSoundExpr scope (Row x before) = record {
       supported = ap (list_any is_foreign) (parts_of-Row x before)
           ∙ none_both is_foreign (parts_of x) (parts_of_links before) plain.0 plain.1;
@@ -336,19 +328,11 @@ test_ready scope expr first x links list before last is same are split test able
       literals = subst (All IsWellFormedLiteral) (sym (literals_of-Row x before))
           (All-append IsWellFormedLiteral (literals_of x) (links_literals before) front behind.0);
     } in
-    let low = length-append before (last ∷ []) in
     record {
-      left = record {
-        sound = record { supported = plain.0; known = unknown.0; literals = front };
-        narrow = row_declares scope x whole most_parameters here.narrow;
-      };
-      others = record { each = sound_links scope x before row_sound; narrow = omega (arith, shorter, joins) };
-      right = record {
-        sound = record { supported = plain.2; known = others.1; literals = behind.1 };
-        narrow = operand_fits scope names whole (length before) last most_parameters (omega (arith, low)) (end_at before last) narrow;
-      };
+      left = record { supported = plain.0; known = unknown.0; literals = front };
+      others = sound_links scope x before row_sound;
+      right = record { supported = plain.2; known = others.1; literals = behind.1 };
       test = sym test;
-      narrow = joins;
     }
 
 -- ---- what is shown of a row with a test at its end
@@ -404,7 +388,6 @@ show_makeable scope expr none able = record {
   plain = sym (ap (list_any is_foreign) (shown_made expr none)) ∙ able.plain;
   known = (show_kind scope expr able.typed).1.known;
   literals = able.literals;
-  narrow = able.narrow;
 }
 
 pub shown_kind : (scope : ScopeView) (expr : Expr) → IsEvaluable scope (Show expr) → (kind : ValueKind) × (kind_of scope expr ≡ Some kind)
@@ -419,7 +402,6 @@ module _ (scope s : ScopeView) (stmt : Stmt) (name : Name) (expr : Expr) (is : s
         plain = here.plain;
         known = (of_type scope expr purpose.Bound u.0 u.1).known;
         literals = here.literals;
-        narrow = here.narrow;
       }
 
   pub bind_type : (t : TypeView) (o : Option TypeView) → s ≡ scope → TypeAnswers (Ok o) (type_of_statement s stmt) → o ≡ Some t
@@ -465,16 +447,15 @@ at_numbers at value d v ps numbers slice one two are is same =
 
 -- ---- a scan without a listing
 pub scan_failed : {A : Type 0} (result : Result A ScanFault) (state : StateView) (operand : Expr) (at : Valuation) (value v : KeptValue)
-    (g h k : Gauge)
-    (fault : ScanFault) (refusal : Refusal) → result ≡ Err fault
+    (g h k : Gauge) (fault : ScanFault) (refusal : Refusal) → result ≡ Err fault
     → ((w : Valuation) (x : Element) → Has value w x ↔ Selects state operand w x) → v ≡ value → IsCharged g h
     → (result ≡ Err scan_fault.Unbounded → ¬ IsFiniteAt v at) → IsScanFault h k fault → refusal ≡ refusal_of_fault fault
-    → ¬ IsTooWide state operand → IsWhyUnworked true (IsTooWide state operand) g k refusal
-    ⊎ ((refusal ≡ r.Unbounded) × ((¬ AreFinite (λ x. Selects state operand at x)) × (¬ IsTooWide state operand)) × IsCharged g k)
-scan_failed result state operand at value v g h k (scan_fault.Cut cut) refusal found has same charged endless by is narrow =
-    inl (inl (unmade_by g h k cut refusal charged by is))
-scan_failed result state operand at value v g h k scan_fault.Unbounded refusal found has same charged endless by is narrow =
-    inr (is, (infinite_is state operand at value v has same (endless found), narrow), IsCharged_trans g h k charged by)
+    → GoesOn (Ends state operand) → IsWhyUnworked true (EndsListing state operand at) g k refusal
+scan_failed result state operand at value v g h k (scan_fault.Cut cut) refusal found has same charged endless by is goes =
+    inl (unmade_by g h k cut refusal charged by is)
+scan_failed result state operand at value v g h k scan_fault.Unbounded refusal found has same charged endless by is goes =
+    let listed = infinite_is state operand at value v has same (endless found) in
+    inr (unbounded, is, inr (goes, listed), paid_works g k (IsCharged_trans g h k charged by))
 
 -- ---- a row that is asked for
 pub row_is : (expr first x : Expr) (links list before : List Link) (last : Link) → expr ≡ Row first links → x ≡ first → list ≡ links
@@ -510,30 +491,57 @@ pub kind_of_type : (t : TypeView) (kept : Kept) (value : KeptValue) (kind : Valu
 kind_of_type t kept value kind is same = is ∙ ap (λ (k : ValueKind). record { kind = k; value = value }) same
 
 -- ---- steps
+-- what is shown ends as the expression does, where nothing is listed
+pub shown_ends : (before : Moment) (expr : Expr) → is_asked expr ≡ false → EndAlike (Ends before.state expr) (StatementEnds before (Show expr))
+shown_ends before (Prefix' p.Scan s operand) none why = absurd (false≢true (sym none))
+shown_ends before _ none why = ((λ h. h), (λ h. h))
+
+row_ends : (before : Moment) (first : Expr) (links : List Link)
+    → EndAlike (Ends before.state (Row first links)) (StatementEnds before (Show (Row first links)))
+unfolding hidden-the_row-Expr-0 denote.Hole.Carrier.hidden
+row_ends before first links why = ((λ h. h), (λ h. h))
+
+pub test_ends : (before : Moment) (expr x : Expr) (around : List Link) (last : Link) → expr ≡ Row x (around ++ last ∷ [])
+    → EndAlike (EndsTest before.state x around last) (StatementEnds before (Show expr))
+test_ends before expr x around last is =
+    let row = Row x (around ++ last ∷ []) in
+    subst (λ (y : Expr). EndAlike (EndsTest before.state x around last) (StatementEnds before (Show y))) (sym is)
+    (alike_trans (EndsTest before.state x around last) (Ends before.state row) (StatementEnds before (Show row))
+    (turned_alike (Ends before.state row) (EndsTest before.state x around last) (ends_of-Row before.state x (around ++ last ∷ [])))
+    (row_ends before x (around ++ last ∷ [])))
+
 module _ (before : Moment) (stmt : Stmt) where
   pub empty_step : stmt ≡ Empty → Step before stmt before nothing
   empty_step is = record {
     does = subst (λ (x : Stmt). Does before x before nothing) (sym is) (refl, refl);
-    narrow = subst (λ (x : Stmt). ¬ FormsTooWide before.state x) (sym is) (λ wide. wide);
+    goes_on = subst (λ (x : Stmt). GoesOn (StatementEnds before x)) (sym is) (λ why h. h);
     meter = IsCharged_refl before.meter before.meter refl;
     at = refl;
   }
 
   pub show_step : (after : Moment) (expr : Expr) (answer : Answer) → stmt ≡ Show expr → after.state ≡ before.state → after.at ≡ before.at
-      → IsCharged before.meter after.meter → ¬ IsTooWide before.state expr → Shows before expr answer → Step before stmt after answer
-  show_step after expr answer is same at charged narrow shows = record {
+      → IsCharged before.meter after.meter → GoesOn (StatementEnds before (Show expr)) → Shows before expr answer
+      → Step before stmt after answer
+  show_step after expr answer is same at charged goes shows = record {
     does = subst (λ (x : Stmt). Does before x after answer) (sym is) (same, shows);
-    narrow = subst (λ (x : Stmt). ¬ FormsTooWide before.state x) (sym is) narrow;
+    goes_on = subst (λ (x : Stmt). GoesOn (StatementEnds before x)) (sym is) goes;
     meter = charged;
     at = at;
   }
 
   pub bind_step : (after : Moment) (name : Name) (expr : Expr) → stmt ≡ Bind name expr → after.at ≡ before.at
-      → IsCharged before.meter after.meter → ¬ FormsTooWide before.state stmt
+      → IsCharged before.meter after.meter → GoesOn (Ends before.state expr)
       → (kept : Kept) × Keeps before expr kept × Binds before.state name kept after.state → Step before stmt after nothing
-  bind_step after name expr is at charged narrow kept = record {
+  bind_step after name expr is at charged goes kept = record {
     does = subst (λ (x : Stmt). Does before x after nothing) (sym is) (kept, refl);
-    narrow = narrow;
+    goes_on = subst (λ (x : Stmt). GoesOn (StatementEnds before x)) (sym is) goes;
     meter = charged;
     at = at;
   }
+
+-- a statement whose evaluation ends as this does
+pub whole_ended : (before : Moment) (stmt : Stmt) (Part : End → Type 0) (works : Bool) (now : Gauge) (refusal : Refusal)
+    → EndAlike Part (StatementEnds before stmt) → IsWhyUnworked works Part before.meter now refusal
+    → IsWhyUnworked works (StatementEnds before stmt) before.meter now refusal
+whole_ended before stmt Part works now refusal same why =
+    unworked_in works works Part (StatementEnds before stmt) before.meter now refusal (λ none. none) (λ end ends. (same end).0 ends) why

@@ -24,7 +24,7 @@ use Rattle.isl_flat.proofs.SimpleLaws.{parts_kept}
 use Rattle.isl_stmt.specs.Names.{binds_dollar}
 use Rattle.isl_values.specs.State.{Kept, Moment, StateView, Binds, Fits, HasNumbersUpTo, IsSettled, type_of, scope_of, forgotten}
 use Rattle.isl_values.specs.Selection.{Keeps}
-use Rattle.isl_values.specs.Formed.{FormsTooWide}
+use Rattle.isl_values.specs.Ends.{End, too_wide, unbounded, refusal_of_end}
 use Rattle.isl_values.specs.Made.{IsPaid, refusal_of_cut, uses_units}
 use Rattle.isl_values.proofs.StateLaws.{bound_at, fits_bound}
 use Rattle.isl_values.proofs.ForgetLaws.{forgotten_itself, forgotten_settled, fits_forgotten}
@@ -32,7 +32,8 @@ use Rattle.isl_values.proofs.ValueLaws.{same_limit, paid_same, paid_after, unwor
 use Rattle.isl_eval.specs.declared.step.Tally.{Tally}
 use Rattle.isl_eval.specs.Machine.{Answer, Does, Step, Steps, behind, nothing}
 use Rattle.isl_eval.specs.Spelled.{OfStatement}
-use Rattle.isl_eval.specs.Causes.{AreDone, IsInfinite, Refuses, Stops}
+use Rattle.isl_eval.specs.Causes.{AreDone, Refuses, Stops}
+use Rattle.isl_eval.specs.Ended.{StatementEnds}
 use Rattle.isl_eval.specs.Run.{Answers}
 use Rattle.isl_eval.specs.Evaluated.{IsEvaluable, IsWhyEnded, works}
 use Rattle.isl_eval.specs.Evaluation.{AreEvaluable, AreLeft, IsRead, IsTaken, IsWhyStopped, IsWorkable, StopsAt}
@@ -177,19 +178,13 @@ left_answered before now after done last answer h step paid = (
       (λ none. works_at done last [] none) h.paid paid,
 )
 
--- a simple statement forms a space that is too wide
-abbrev pub IsFormedBy : Moment → Stmt → Type 0
-IsFormedBy moment next = FormsTooWide moment.state next
-
 -- one is not
 pub left_stopped : (before now : Moment) (done : List Stmt) (stmt : Stmt) (left : List Stmt) (gauge : Gauge) (refusal : Refusal)
     → AreLeft before now done (stmt ∷ left) → IsWhyEnded now stmt gauge refusal → IsWhyStopped before (done ++ stmt ∷ left) gauge refusal
-left_stopped before now done stmt left gauge refusal h (inl why) =
-    inl (unworked_after (list_any works (done ++ stmt ∷ left)) (list_any works done) (works stmt) (FormsTooWide now.state stmt)
-    (StopsAt before (done ++ stmt ∷ left) IsFormedBy) before.meter now.meter gauge refusal (λ none. works_at done stmt left none)
-    (λ wide. (done, stmt, left, refl, (now, h.steps, wide))) h.paid why)
-left_stopped before now done stmt left gauge refusal h (inr why) =
-    inr (why.0, IsCharged_trans before.meter now.meter gauge h.paid.charged why.2, (done, stmt, left, refl, (now, h.steps, why.1)))
+left_stopped before now done stmt left gauge refusal h why =
+    unworked_after (list_any works (done ++ stmt ∷ left)) (list_any works done) (works stmt) (StatementEnds now stmt)
+    (λ end. StopsAt before (done ++ stmt ∷ left) (λ moment next. StatementEnds moment next end)) before.meter now.meter gauge refusal
+    (λ none. works_at done stmt left none) (λ end ends. (done, stmt, left, refl, (now, h.steps, ends))) h.paid why
 
 -- where there is one statement alone
 pub turn_alone : {A : Type 0} (statements others : List Stmt) (last only : Stmt) (i : ℕ) → statements ≡ others ++ last ∷ []
@@ -295,18 +290,21 @@ module _ (before : Moment) (bytes : List ℕ) (stmt : Stmt) (read : IsRead befor
   )
 
   -- it is not
+  end_refuses : (now : Gauge) (why : End) → StopsAt before (flat stmt) (λ moment next. StatementEnds moment next why)
+      → IsPaid (list_any works (flat stmt)) before.meter now → Refuses before bytes now (refusal_of_end why)
+  end_refuses now too_wide stops paid = inr (
+    clear before bytes stmt read able,
+    stops_in (λ moment next. StatementEnds moment next too_wide) stops,
+    paid.charged,
+    (λ none. paid.free (idle (no_work bytes stmt read.spelled none))),
+  )
+  end_refuses now unbounded stops paid =
+      (clear before bytes stmt read able, stops_in (λ moment next. StatementEnds moment next unbounded) stops, paid.charged)
+
   pub stopped_refuses : (now : Gauge) (refusal : Refusal) → IsWhyStopped before (flat stmt) now refusal → Refuses before bytes now refusal
-  stopped_refuses now refusal (inl (inl why)) =
+  stopped_refuses now refusal (inl why) =
       subst (Refuses before bytes now) (sym why.is) (cut_refuses now why.cut why.by why.free)
-  stopped_refuses now refusal (inl (inr why)) =
-      subst (Refuses before bytes now) (sym why.0) (inr (
-        clear before bytes stmt read able,
-        stops_in IsFormedBy why.1,
-        why.2.charged,
-        (λ none. why.2.free (idle (no_work bytes stmt read.spelled none))),
-      ))
-  stopped_refuses now refusal (inr why) =
-      subst (Refuses before bytes now) (sym why.0) (clear before bytes stmt read able, stops_in IsInfinite why.2, why.1)
+  stopped_refuses now refusal (inr why) = subst (Refuses before bytes now) (sym why.1) (end_refuses now why.0 why.2 why.3)
 
 pub kept_limit : (g h : Gauge) → IsKept g h → limit_of h ≡ limit_of g
 kept_limit g h kept = ap (λ (bits : ℕ). pos (2 ^ bits - 1)) kept.bits

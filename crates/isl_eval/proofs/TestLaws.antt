@@ -1,18 +1,23 @@
 -- Rows with a test at their end, at the constructors of the code.
 use mathlib.Core.Former.{Count}
-use Rattle.std.proofs.Common.{◌≡◌, ◌∙◌, ◌↔◌, ◌≤◌, refl, sym, ap, ap₂, subst, arith}
-use Rattle.std.proofs.Common.{Bool, true, false, List, [], ◌∷◌, ◌++◌, length, Result, Err}
-use Rattle.std.specs.Prelude.{unsigned_abs, IsTrue, IfOk, MatchResult, if◌then◌else◌, ◌||◌}
+use Rattle.std.proofs.Common.{◌≡◌, ◌∙◌, ◌↔◌, ◌⊎◌, ◌<◌, ◌≤◌, inl, inr, refl, sym, ap, ap₂, subst, arith}
+use Rattle.std.proofs.Common.{Bool, true, false, List, [], ◌∷◌, ◌++◌, length, Result, Ok, Err}
+use Rattle.std.specs.Prelude.{unsigned_abs, not, IsTrue, IfOk, MatchResult, if◌then◌else◌, ◌||◌}
 use Rattle.std.specs.List.{list_any}
 use Rattle.std.proofs.lemmas.Bool.{or_parts, false≢true}
 use Rattle.isl_meter.specs.Gauge.{Gauge, limit_of, IsCharged, IsCutBy}
 use Rattle.isl_meter.specs.declared.Cut.{Cut}
-use Rattle.isl_meter.proofs.CutLemmas.{IsCutBy-after}
+use Rattle.isl_meter.specs.declared.Cut.TheVariants.{NoMemory}
+use Rattle.isl_meter.proofs.CutLemmas.{IsCharged_refl, IsCharged_trans, IsCutBy-after}
 use Rattle.isl_space.specs.Limits.{most_parameters}
 use Rattle.isl_space.specs.Name.{Name}
 use Rattle.isl_space.specs.Names.{AreDistinct, joined}
 use Rattle.isl_union.specs.KeptValue.{KeptValue, Has, IsKeptValue}
+use Rattle.isl_union.specs.Fault.{IsFaultBy}
+use Rattle.isl_union.specs.declared.fault.OpFault.{OpFault}
+use Rattle.isl_union.specs.declared.fault.OpFault.TheVariants as op_fault
 use Rattle.isl_text.specs.declared.refusal.Refusal.{Refusal}
+use Rattle.isl_text.specs.declared.refusal.Refusal.TheVariants.{TooWide}
 use Rattle.isl_space.specs.Element.{Element}
 use Rattle.isl_space.specs.Valuation.{Valuation}
 use Rattle.isl_expr.specs.declared.tree.Binary.{Binary}
@@ -23,13 +28,14 @@ use Rattle.isl_expr.specs.declared.tree.Expr.{more_of-Link, items-the_row-Link, 
 use Rattle.isl_expr.specs.declared.tree.Expr.TheBlock.{hidden-the_row-Expr-0, hidden-the_row-Link-1}
 use Rattle.isl_kinds.specs.Parts.{Part, parts_of, parts_of_links, parts_in_links}
 use Rattle.isl_kinds.specs.Parts as part
-use Rattle.isl_kinds.specs.Typed.{ScopeView, declared_of, declared_of_row}
+use Rattle.isl_kinds.specs.Typed.{ScopeView, declared_of, declared_of_row, joined_names}
 use Rattle.isl_kinds.proofs.JoinedNamesLaws.{declared_distinct, joined_is}
 use Rattle.isl_kinds.proofs.PartLaws.{links_are, parts_of-Row, any_in_link}
 use Rattle.isl_values.specs.State.{StateView, Moment, HasNumbersUpTo}
 use Rattle.isl_operators.specs.Operations.{OperatorHas}
 use Rattle.isl_operators.proofs.NamesLaws.{turned_fits}
 use Rattle.isl_values.specs.Selection.{Selects, RowSelects}
+use Rattle.isl_values.specs.Ends.{End, too_wide}
 use Rattle.isl_values.specs.Made.{IsWhyUnmade, IsWhyUnworked, refusal_of_cut}
 use Rattle.isl_values.proofs.PartLaws.{quiet_both}
 use Rattle.isl_values.proofs.RowLaws.{same_row, same_trans}
@@ -37,7 +43,7 @@ use Rattle.isl_values.proofs.ValueLaws.{numbers_later, paid_works, unworked_afte
 use Rattle.isl_eval.specs.Tests.{Elements, is_test, ends_with_test, IsPartOf, TestHolds, HoldsPastLinks}
 use Rattle.isl_eval.specs.Machine.{Answer, Shows, ShowsRow, ShowsValue, told}
 use Rattle.isl_eval.specs.Evaluated.{shown_parts, parts_around_test}
-use Rattle.isl_eval.specs.Evaluation.{IsReadyTest, past_row}
+use Rattle.isl_eval.specs.Evaluation.{IsTestOf, past_row}
 use Rattle.isl_eval.specs.Evaluation.{ends_with_test as ends}
 
 -- ---- the same of lists
@@ -203,27 +209,50 @@ at_test result state operator word P Q Holds is exact same =
     subst (λ (o : Binary). IfOk result (λ holds. IsTrue holds ↔ TestHolds state o P Q)) (sym is)
     (subst (λ (H : Type 0). IfOk result (λ holds. IsTrue holds ↔ H)) (sym same) exact)
 
--- ---- parameters in the other order
--- what is left of two operands and the row before them
-pub test_narrow : (scope : ScopeView) (first : Expr) (before : List Link) (last : Link) (one left right : KeptValue) (l r : KeptValue)
-    → IsReadyTest scope first before last → one.params ≡ declared_of scope first → left.params ≡ declared_of_row scope one.params before
-    → right.params ≡ declared_of scope last.operand → l ≡ left → r ≡ right → length (joined l.params r.params) ≤ most_parameters
-test_narrow scope first before last one left right l r ready first_is left_is right_is l_is r_is =
+-- ---- parameters
+-- those of the two values that are tested
+pub test_names : (scope : ScopeView) (first : Expr) (before : List Link) (last : Link) (one left right : KeptValue) (l r : KeptValue)
+    → one.params ≡ declared_of scope first → left.params ≡ declared_of_row scope one.params before
+    → right.params ≡ declared_of scope last.operand → l ≡ left → r ≡ right
+    → joined l.params r.params
+    ≡ joined_names (declared_of_row scope (declared_of scope first) before) (declared_of scope last.operand)
+test_names scope first before last one left right l r first_is left_is right_is l_is r_is =
     let names : l.params ≡ declared_of_row scope (declared_of scope first) before =
     ap (λ (v : KeptValue). v.params) l_is ∙ left_is ∙ ap (λ (ps : List Name). declared_of_row scope ps before) first_is in
     let others : r.params ≡ declared_of scope last.operand = ap (λ (v : KeptValue). v.params) r_is ∙ right_is in
-    let is = ap₂ joined names others
+    ap₂ joined names others
     ∙ joined_is (declared_of_row scope (declared_of scope first) before) (declared_of scope last.operand)
-    (declared_distinct scope last.operand) in
-    subst (λ (ps : List Name). length ps ≤ most_parameters) (sym is) ready.narrow
+    (declared_distinct scope last.operand)
 
-pub test_turned : (left right l r : KeptValue) → IsKeptValue left → IsKeptValue right → l ≡ left → r ≡ right
-    → length (joined l.params r.params) ≤ most_parameters → length (joined r.params l.params) ≤ most_parameters
-test_turned left right l r one two l_is r_is narrow =
-    let distinct_l = subst (λ (v : KeptValue). AreDistinct v.params) (sym l_is) one.params.distinct in
-    let distinct_r = subst (λ (v : KeptValue). AreDistinct v.params) (sym r_is) two.params.distinct in
-    let few = turned_fits l.params r.params distinct_l distinct_r in
-    omega (arith, few, narrow)
+-- what a test leaves of two values, and of them in the other order
+module _ (a b : KeptValue) (one : IsKeptValue a) (two : IsKeptValue b) where
+  fewer : length (joined b.params a.params) ≤ length (joined a.params b.params)
+  fewer = turned_fits a.params b.params one.params.distinct two.params.distinct
+
+  pub fewer_turned : length (joined a.params b.params) ≤ most_parameters → length (joined b.params a.params) ≤ most_parameters
+  fewer_turned few = let least = fewer in omega (arith, few, least)
+
+  -- why the second of two tests has no answer
+  pub second_fault : (g h k : Gauge) (fault : OpFault) → length (joined a.params b.params) ≤ most_parameters → IsCharged g h
+      → IsFaultBy (joined b.params a.params) h k fault → IsFaultBy (joined a.params b.params) g k fault
+  second_fault g h k op_fault.TooWide few charged by = let least = fewer in absurd (omega (arith, few, least, by.0))
+  second_fault g h k (op_fault.Cut cut) few charged by = (inl few, IsCutBy-after g h k cut charged by.1)
+
+  turned_cut : (cut : Cut) → (length (joined b.params a.params) ≤ most_parameters) ⊎ (cut ≡ NoMemory)
+      → length (joined a.params b.params) ≤ length (joined b.params a.params)
+      → (length (joined a.params b.params) ≤ most_parameters) ⊎ (cut ≡ NoMemory)
+  turned_cut cut (inl few) least = inl (omega (arith, few, least))
+  turned_cut cut (inr memory) least = inr memory
+
+  fault_turned : (g h : Gauge) (fault : OpFault) → length (joined a.params b.params) ≤ length (joined b.params a.params)
+      → IsFaultBy (joined b.params a.params) g h fault → IsFaultBy (joined a.params b.params) g h fault
+  fault_turned g h op_fault.TooWide other by = let least = fewer in (omega (arith, least, by.0), by.1)
+  fault_turned g h (op_fault.Cut cut) other by = (turned_cut cut by.0 other, by.1)
+
+pub turned_units : {A : Type 0} (a b : KeptValue) (g h : Gauge) (result : Result A OpFault) → IsKeptValue a → IsKeptValue b
+    → IsTestOf (joined b.params a.params) g h result → IsTestOf (joined a.params b.params) g h result
+turned_units a b g h (Ok holds) one two is = (fewer_turned b a two one is.0, is.1)
+turned_units a b g h (Err fault) one two is = fault_turned a b one two g h fault (fewer b a two one) is
 
 -- the test of the values is the test of what is selected
 pub tested_is : (state : StateView) (operator : Binary) (first operand : Expr) (before : List Link) (one left right l r : KeptValue)
@@ -247,15 +276,30 @@ pub unmade_by : (g h k : Gauge) (cut : Cut) (refusal : Refusal) → IsCharged g 
 unmade_by g h k cut refusal charged by is =
     record { cut = cut; is = is; by = IsCutBy-after g h k cut charged by; free = λ none. absurd (false≢true (sym none)) }
 
-pub unworked_on : (works : Bool) (Wide Whole : Type 0) (g h k : Gauge) (refusal : Refusal) → (Wide → Whole) → IsCharged g h
-    → IsWhyUnworked works Wide h k refusal → IsWhyUnworked true Whole g k refusal
-unworked_on works Wide Whole g h k refusal wider charged why =
-    unworked_after true true works Wide Whole g h k refusal (λ none. absurd (false≢true (sym none))) wider (paid_works g h charged) why
+pub unworked_on : (works : Bool) (Part Whole : End → Type 0) (g h k : Gauge) (refusal : Refusal)
+    → ((why : End) → Part why → Whole why) → IsCharged g h → IsWhyUnworked works Part h k refusal → IsWhyUnworked true Whole g k refusal
+unworked_on works Part Whole g h k refusal ends charged why =
+    unworked_after true true works Part Whole g h k refusal (λ none. absurd (false≢true (sym none))) ends (paid_works g h charged) why
+
+-- a test of what has too many parameters
+pub test_wide : (Whole : End → Type 0) (names : List Name) (g h k : Gauge) (refusal : Refusal) → refusal ≡ TooWide → IsCharged g h
+    → IsFaultBy names h k op_fault.TooWide → (most_parameters < length names → Whole too_wide) → IsWhyUnworked true Whole g k refusal
+test_wide Whole names g h k refusal is charged by ends =
+    inr (too_wide, is, ends by.0, paid_works g k (IsCharged_trans g h k charged (IsCharged_refl h k by.1)))
 
 -- what is returned where a call was refused
-pub refused : {A : Type 0} (result : Result A Refusal) (P : A → Type 0) (Q : Refusal → Type 0) (refusal : Refusal) → result ≡ Err refusal
+pub refused : {A E : Type 0} (result : Result A E) (P : A → Type 0) (Q : E → Type 0) (refusal : E) → result ≡ Err refusal
     → Q refusal → MatchResult result P Q
-refused result P Q refusal is why = subst (λ (r : Result _ Refusal). MatchResult r P Q) (sym is) why
+refused result P Q refusal is why = subst (λ (r : Result _ _). MatchResult r P Q) (sym is) why
+
+-- the one holds, and the other does not
+pub proper_is : (one other : Bool) (S T : Type 0) → (IsTrue one ↔ S) → one ≡ true → (IsTrue other ↔ T)
+    → IsTrue (not other) ↔ (S × (¬ T))
+proper_is one other S T first holds second = by other second
+  where
+    by : (b : Bool) → (IsTrue b ↔ T) → IsTrue (not b) ↔ (S × (¬ T))
+    by true second = ((λ no. absurd (false≢true no)), (λ h. absurd (h.1 (second.0 refl))))
+    by false second = ((λ _. (first.0 holds, (λ t. false≢true (second.1 t)))), (λ _. refl))
 
 -- a value behind a pointer is within the limit later
 pub at_deref : (g h : Gauge) (value v : KeptValue) → IsCharged g h → v ≡ value → HasNumbersUpTo (unsigned_abs (limit_of g)) value

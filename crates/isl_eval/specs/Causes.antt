@@ -1,10 +1,9 @@
 -- public: why a complete statement is refused.
-use Rattle.std.specs.Prelude.{◌≡◌, ◌⊎◌, ◌<◌, ℕ, Bool, true, false, not, List, [], ◌∷◌, ◌++◌, length, None, Err}
+use Rattle.std.specs.Prelude.{◌≡◌, ◌⊎◌, ℕ, Bool, true, false, not, List, [], ◌∷◌, ◌++◌, None, Err}
 use Rattle.std.specs.List.{list_any}
 use Rattle.std.specs.Str.{bytes_eq}
 use Rattle.isl_meter.specs.Gauge.{Gauge, IsCharged, IsCutBy, limit_of}
 use Rattle.isl_meter.specs.declared.Cut.TheVariants as cut
-use Rattle.isl_space.specs.Limits.{most_parameters}
 use Rattle.isl_space.specs.Name.{Name}
 use Rattle.isl_space.specs.Valuation.{Valuation}
 use Rattle.isl_token.specs.Lex.{tokens}
@@ -21,13 +20,12 @@ use Rattle.isl_stmt.specs.Read.{NoStatement}
 use Rattle.isl_kinds.specs.Parts.{parts_of_statement}
 use Rattle.isl_kinds.specs.Typed.{ScopeView, declared_in, type_of_statement}
 use Rattle.isl_flat.specs.Flat.{flat}
-use Rattle.isl_flat.specs.Simple.{statement_declared}
 use Rattle.isl_eval.specs.Unsupported.{is_unsupported}
 use Rattle.isl_values.specs.State.{Moment, scope_of}
-use Rattle.isl_values.specs.Selection.{SelectsIn}
-use Rattle.isl_values.specs.Formed.{FormsTooWide, IsTooWideIn}
+use Rattle.isl_values.specs.Ends as ends
+use Rattle.isl_values.specs.Ends.{End, GoesOn}
 use Rattle.isl_values.specs.Made.{uses_units}
-use Rattle.isl_eval.specs.Listed.{AreFinite}
+use Rattle.isl_eval.specs.Ended.{StatementEnds}
 use Rattle.isl_eval.specs.Machine.{Step, nothing}
 use Rattle.isl_eval.specs.Spelled.{OfTokens, OfStatement}
 
@@ -53,14 +51,12 @@ pub data Cause : Type 0 where
   no_element : Cause
   -- elements are to be listed, and a declared parameter has no number
   parametric : Cause
-  -- an operation joins more parameters than a value may have
-  wide_join : Cause
 
 -- the causes, in the order in which they are looked for, each in the whole statement before the next
 abbrev pub causes : List Cause
 causes =
     no_token ∷ too_deep ∷ no_statement ∷ too_wide ∷ wide_number ∷ unsupported ∷ unknown_name ∷ wrong_kind ∷ no_element ∷ parametric
-    ∷ wide_join ∷ []
+    ∷ []
 
 abbrev pub refusal_of : Cause → Refusal
 refusal_of no_token = r.Syntax
@@ -73,7 +69,6 @@ refusal_of unknown_name = r.UnknownName
 refusal_of wrong_kind = r.WrongKind
 refusal_of no_element = r.NoElement
 refusal_of parametric = r.Parametric
-refusal_of wide_join = r.TooWide
 
 -- whether the name is given a number
 abbrev pub is_given : Valuation → Name → Bool
@@ -96,7 +91,6 @@ IsThere before bytes unknown_name = OfStatement bytes (λ stmt. type_of_statemen
 IsThere before bytes wrong_kind = OfStatement bytes (λ stmt. type_of_statement (scope_of before.state) stmt ≡ Err r.WrongKind)
 IsThere before bytes no_element = OfStatement bytes (λ stmt. type_of_statement (scope_of before.state) stmt ≡ Err r.NoElement)
 IsThere before bytes parametric = OfStatement bytes (λ stmt. is_parametric (scope_of before.state) before.at stmt ≡ true)
-IsThere before bytes wide_join = OfStatement bytes (λ stmt. most_parameters < length (statement_declared (scope_of before.state) stmt))
 
 -- the first of these causes that is there gives this refusal
 abbrev pub FirstGives : (Cause → Type 0) → List Cause → Refusal → Type 0
@@ -128,25 +122,14 @@ pub record Stops (before : Moment) (stmt : Stmt) (P : Moment → Stmt → Type 0
   pub steps : AreDone before done now
   pub stops : P now next
 
--- elements are to be listed of what forms no space that is too wide, and there are infinitely many of them where parameters have their
--- given numbers
-abbrev pub IsInfinite : Moment → Stmt → Type 0
-IsInfinite now (Show (Prefix' p.Scan s operand)) =
-    (¬ AreFinite (λ element. SelectsIn now.state operand now.at element)) × (¬ IsTooWideIn now.state operand)
-IsInfinite now stmt = ⊥
-
-abbrev pub IsUnbounded : Moment → List ℕ → Type 0
-IsUnbounded before bytes = OfStatement bytes (λ stmt. Stops before stmt IsInfinite)
-
--- an operation forms a space that is too wide of those in which its operands select elements
-abbrev pub IsFormedTooWide : Moment → List ℕ → Type 0
-IsFormedTooWide before bytes = OfStatement bytes (λ stmt. Stops before stmt (λ now next. FormsTooWide now.state next))
+-- the evaluation of a statement ends, in one of the ways in which it may choose
+abbrev pub IsEnded : Moment → List ℕ → End → Type 0
+IsEnded before bytes why = OfStatement bytes (λ stmt. Stops before stmt (λ now next. StatementEnds now next why))
 
 -- no cause is there to refuse the bytes of a statement, whatever it chooses
 pub record IsValid (before : Moment) (bytes : List ℕ) : Type 0 where
   pub clear : IsClear before bytes
-  pub bounded : ¬ IsUnbounded before bytes
-  pub narrow : ¬ IsFormedTooWide before bytes
+  pub goes_on : GoesOn (IsEnded before bytes)
 
 -- ---- units
 -- a part that may use units stands in the statement: anything but names, `+`, `^-1` and the words that only move columns
@@ -158,7 +141,7 @@ abbrev pub SparesUnits : Moment → List ℕ → Gauge → Type 0
 SparesUnits before bytes now = ¬ OfStatement bytes HasWork → now ≡ before.meter
 
 -- Why a complete statement is refused, and what it did to the meter until then. Overflow and want of units may come only while a
--- statement without any of the causes is worked out in which work stands, and both are counted. So may a space that is too wide, which
+-- statement without any of the causes is worked out in which work stands, and both are counted. So may what ends the evaluation, which
 -- counts nothing. Memory may end at any time, and that counts nothing.
 abbrev pub Refuses : Moment → List ℕ → Gauge → Refusal → Type 0
 Refuses before bytes now r.Overflow = IsClear before bytes × OfStatement bytes HasWork × IsCutBy before.meter now cut.Overflow
@@ -166,6 +149,6 @@ Refuses before bytes now r.Budget = IsClear before bytes × OfStatement bytes Ha
 Refuses before bytes now r.NoMemory = IsCharged before.meter now × SparesUnits before bytes now
 Refuses before bytes now r.TooWide =
     (FirstGives (IsThere before bytes) causes r.TooWide × (now ≡ before.meter))
-    ⊎ (IsClear before bytes × IsFormedTooWide before bytes × IsCharged before.meter now × SparesUnits before bytes now)
-Refuses before bytes now r.Unbounded = IsClear before bytes × IsUnbounded before bytes × IsCharged before.meter now
+    ⊎ (IsClear before bytes × IsEnded before bytes ends.too_wide × IsCharged before.meter now × SparesUnits before bytes now)
+Refuses before bytes now r.Unbounded = IsClear before bytes × IsEnded before bytes ends.unbounded × IsCharged before.meter now
 Refuses before bytes now refusal = FirstGives (IsThere before bytes) causes refusal × (now ≡ before.meter)

@@ -1,10 +1,8 @@
 -- public: what one simple statement is evaluated for, and why it ends without an answer. (the iscc chapter of the barvinok manual)
-use Rattle.std.specs.Prelude.{◌≡◌, ◌⊎◌, ◌≤◌, Bool, false, List, [], ◌∷◌, ◌++◌, length, All, Option, Ok, if◌then◌else◌}
+use Rattle.std.specs.Prelude.{◌≡◌, Bool, false, List, [], ◌∷◌, ◌++◌, All, Option, Ok, if◌then◌else◌}
 use Rattle.std.specs.List.{list_any}
-use Rattle.isl_meter.specs.Gauge.{Gauge, IsCharged}
-use Rattle.isl_space.specs.Limits.{most_parameters}
+use Rattle.isl_meter.specs.Gauge.{Gauge}
 use Rattle.isl_text.specs.declared.refusal.Refusal.{Refusal}
-use Rattle.isl_text.specs.declared.refusal.Refusal.TheVariants.{Unbounded}
 use Rattle.isl_lower.specs.Value.{IsWellFormedLiteral}
 use Rattle.isl_expr.specs.declared.tree.Prefix.TheVariants as p
 use Rattle.isl_expr.specs.declared.tree.Stmt.{Stmt}
@@ -13,12 +11,10 @@ use Rattle.isl_expr.specs.declared.tree.Expr.{Expr, Row', Prefix', Row_of-Link, 
 use Rattle.isl_expr.specs.Expr.{statement_literals}
 use Rattle.isl_kinds.specs.Parts.{Part, operator, parts_of, parts_in, parts_in_links, parts_of_statement}
 use Rattle.isl_kinds.specs.Typed.{TypeView, ScopeView, type_of_statement}
-use Rattle.isl_flat.specs.Simple.{statement_declared}
 use Rattle.isl_values.specs.State.{Moment}
 use Rattle.isl_values.specs.Made.{is_foreign, uses_units, IsWhyUnworked}
-use Rattle.isl_values.specs.Formed.{FormsTooWide}
 use Rattle.isl_eval.specs.Tests.{ends_with_test}
-use Rattle.isl_eval.specs.Causes.{IsInfinite}
+use Rattle.isl_eval.specs.Ended.{StatementEnds}
 
 -- ---- what values are worked out of
 
@@ -51,12 +47,11 @@ worked_parts (Show expr) = shown_parts expr
 abbrev pub IsTyped : ScopeView → Stmt → Type 0
 IsTyped scope stmt = (t : Option TypeView) × (type_of_statement scope stmt ≡ Ok t)
 
--- it has a type; its tests and words stand outermost; its literals are well formed, and its operands declare few parameters
+-- it has a type; its tests and words stand outermost; its literals are well formed
 pub record IsEvaluable (scope : ScopeView) (stmt : Stmt) : Type 0 where
   pub typed : IsTyped scope stmt
   pub plain : list_any is_foreign (worked_parts stmt) ≡ false
   pub literals : All IsWellFormedLiteral (statement_literals stmt)
-  pub narrow : length (statement_declared scope stmt) ≤ most_parameters
 
 -- ---- what is left
 
@@ -64,9 +59,6 @@ pub record IsEvaluable (scope : ScopeView) (stmt : Stmt) : Type 0 where
 abbrev pub works : Stmt → Bool
 works stmt = list_any uses_units (parts_of_statement stmt)
 
--- why it is not answered: work was cut, or an operation forms a space that is too wide, or infinitely many elements are to be listed;
--- where nothing uses units the meter is as it was
+-- why it is not answered: work was cut, or its evaluation ends; where nothing uses units the meter is as it was
 abbrev pub IsWhyEnded : Moment → Stmt → Gauge → Refusal → Type 0
-IsWhyEnded before stmt now refusal =
-    IsWhyUnworked (works stmt) (FormsTooWide before.state stmt) before.meter now refusal
-    ⊎ ((refusal ≡ Unbounded) × IsInfinite before stmt × IsCharged before.meter now)
+IsWhyEnded before stmt now refusal = IsWhyUnworked (works stmt) (StatementEnds before stmt) before.meter now refusal

@@ -1,17 +1,19 @@
 -- inner: what the steps from bytes to an answer leave to one another.
-use Rattle.std.specs.Prelude.{◌≡◌, ◌⊎◌, ◌<◌, ◌≤◌, ℕ, ℤ, Bool, true, false, List, []}
-use Rattle.std.specs.Prelude.{◌∷◌, ◌++◌, length, All, Option, None, Some, Ok, Err, string_bytes}
+use Rattle.std.specs.Prelude.{◌≡◌, ◌⊎◌, ◌≤◌, ℕ, ℤ, Bool, true, false, List, []}
+use Rattle.std.specs.Prelude.{◌∷◌, ◌++◌, length, All, MatchResult, Option, None, Some, Result, Ok, Err, string_bytes}
 use Rattle.std.specs.List.{list_any}
 use Rattle.isl_meter.specs.Gauge.{Gauge, IsCharged, limit_of}
 use Rattle.isl_space.specs.Limits.{most_parameters}
 use Rattle.isl_space.specs.Name.{Name}
 use Rattle.isl_space.specs.Valuation.{Valuation}
 use Rattle.isl_union.specs.KeptValue.{KeptValue, HasNoDefinitions, IsKeptValue}
+use Rattle.isl_union.specs.Fault.{IsFaultBy}
 use Rattle.isl_union.specs.Sample.{IsSampleOf}
+use Rattle.isl_union.specs.declared.fault.OpFault.{OpFault}
 use Rattle.isl_scan.specs.declared.fault.ScanFault.{ScanFault}
 use Rattle.isl_scan.specs.declared.fault.ScanFault.TheVariants as scan_fault
 use Rattle.isl_text.specs.declared.refusal.Refusal.{Refusal}
-use Rattle.isl_text.specs.declared.refusal.Refusal.TheVariants.{NoMemory, TooWide, Parametric, Unbounded}
+use Rattle.isl_text.specs.declared.refusal.Refusal.TheVariants.{NoMemory, Parametric, Unbounded}
 use Rattle.isl_lower.specs.Value.{IsWellFormedLiteral}
 use Rattle.isl_expr.specs.declared.tree.Prefix.{Prefix}
 use Rattle.isl_expr.specs.declared.tree.Prefix.TheVariants as p
@@ -22,21 +24,22 @@ use Rattle.isl_expr.specs.declared.tree.Stmt.TheVariants.{Bind}
 use Rattle.isl_expr.specs.declared.tree.ValueKind.{ValueKind}
 use Rattle.isl_expr.specs.Expr.{literals_of, statement_literals}
 use Rattle.isl_kinds.specs.Typed.{TypeView, ScopeView, is_dollar, has_unknown, kind_of}
-use Rattle.isl_kinds.specs.Typed.{declared_of, declared_of_row, joined_names, type_of_statement}
+use Rattle.isl_kinds.specs.Typed.{declared_of, type_of_statement}
 use Rattle.isl_flat.specs.Flat.{flat}
-use Rattle.isl_flat.specs.Simple.{BindsIn, statement_declared}
+use Rattle.isl_flat.specs.Simple.{BindsIn}
 use Rattle.isl_eval.specs.Unsupported.{is_unsupported}
 use Rattle.isl_values.specs.State.{Moment, StateView, Fits, HasNumbersUpTo, scope_of, forgotten}
 use Rattle.isl_values.specs.Selection.{IsSelected, Keeps, Selects, RowSelects}
-use Rattle.isl_values.specs.Formed.{FormsTooWide, IsTooWide, IsTooWideRow}
-use Rattle.isl_values.specs.Made.{is_foreign, AreReady, IsReady, IsPaid, IsWhyUnworked, refusal_of_cut}
+use Rattle.isl_values.specs.Ends.{End, Ends, EndsRow, FirstEnds}
+use Rattle.isl_values.specs.Made.{is_foreign, IsSoundExpr, IsSoundLink, IsPaid, IsWhyUnworked, refusal_of_cut}
 use Rattle.isl_eval.specs.declared.shown.Line.{Line}
 use Rattle.isl_eval.specs.Spelled.{BytesSpell}
 use Rattle.isl_eval.specs.Tests.{Elements, is_test}
 use Rattle.isl_eval.specs.Tests.{ends_with_test as row_ends_with_test}
 use Rattle.isl_eval.specs.Machine.{Answer}
 use Rattle.isl_eval.specs.Causes.{Cause, no_token, too_deep, no_statement, too_wide, wide_number, unsupported, causes}
-use Rattle.isl_eval.specs.Causes.{IsThere, NoneIs, FirstGives, AreDone, IsInfinite, is_parametric}
+use Rattle.isl_eval.specs.Causes.{IsThere, NoneIs, FirstGives, AreDone, is_parametric}
+use Rattle.isl_eval.specs.Ended.{ListingEnds, StatementEnds}
 use Rattle.isl_eval.specs.Evaluated.{IsTyped, IsEvaluable, made_parts, works}
 
 -- ---- reading
@@ -67,16 +70,12 @@ names_of (Some t) = t.params
 pub record IsWorkable (scope : ScopeView) (at : Valuation) (stmt : Stmt) : Type 0 where
   pub typed : IsTyped scope stmt
   pub given : is_parametric scope at stmt ≡ false
-  pub narrow : length (statement_declared scope stmt) ≤ most_parameters
 
 -- why a statement that was read is not to be worked out: the first of these causes is there, or memory ended
 abbrev pub IsWhyUnworkable : ScopeView → Valuation → Stmt → Refusal → Type 0
 IsWhyUnworkable scope at stmt refusal =
     (type_of_statement scope stmt ≡ Err refusal)
-    ⊎ ((IsTyped scope stmt × (is_parametric scope at stmt ≡ true) × (refusal ≡ Parametric))
-    ⊎ ((IsTyped scope stmt × (is_parametric scope at stmt ≡ false) × (most_parameters < length (statement_declared scope stmt))
-    × (refusal ≡ TooWide))
-    ⊎ (refusal ≡ NoMemory)))
+    ⊎ ((IsTyped scope stmt × (is_parametric scope at stmt ≡ true) × (refusal ≡ Parametric)) ⊎ (refusal ≡ NoMemory))
 
 -- ---- what is kept and shown
 
@@ -95,7 +94,6 @@ pub record IsMakeable (scope : ScopeView) (expr : Expr) : Type 0 where
   pub plain : list_any is_foreign (made_parts expr) ≡ false
   pub known : has_unknown scope expr ≡ false
   pub literals : All IsWellFormedLiteral (literals_of expr)
-  pub narrow : length (declared_of scope expr) ≤ most_parameters
 
 -- a value of one element of what the operand selects, or of none
 pub record IsSampled (state : StateView) (operand : Expr) (limit : ℕ) (value : KeptValue) : Type 0 where
@@ -141,18 +139,25 @@ past_row state first before valuation element = RowSelects state valuation (Sele
 
 -- what stands around a test can be worked out
 pub record IsReadyTest (scope : ScopeView) (first : Expr) (before : List Link) (last : Link) : Type 0 where
-  pub left : IsReady scope first
-  pub others : AreReady scope (declared_of scope first) before
-  pub right : IsReady scope last.operand
+  pub left : IsSoundExpr scope first
+  pub others : All (IsSoundLink scope) before
+  pub right : IsSoundExpr scope last.operand
   pub test : is_test last.operator ≡ true
-  pub narrow : length (joined_names (declared_of_row scope (declared_of scope first) before)
-      (declared_of scope last.operand)) ≤ most_parameters
 
--- what stands around a test forms a space that is too wide
-abbrev pub IsTooWideTest : StateView → Expr → List Link → Link → Type 0
-IsTooWideTest state first before last =
-    IsTooWide state first
-    ⊎ (IsTooWideRow state (λ valuation element. Selects state first valuation element) before ⊎ IsTooWide state last.operand)
+-- what a test of two values with these parameters leaves: an answer, over units alone and where they are few enough; or a fault
+abbrev pub IsTestOf : {A : Type 0} → List Name → Gauge → Gauge → Result A OpFault → Type 0
+IsTestOf names old new result =
+    MatchResult result (λ _. (length names ≤ most_parameters) × IsCharged old new) (IsFaultBy names old new)
+
+-- what ends a listing of what an operand selects at these numbers
+abbrev pub EndsListing : StateView → Expr → Valuation → End → Type 0
+EndsListing state operand at = FirstEnds (Ends state operand) (ListingEnds (λ element. Selects state operand at element))
+
+-- what ends a row with a test at its end
+abbrev pub EndsTest : StateView → Expr → List Link → Link → End → Type 0
+EndsTest state first before last =
+    FirstEnds (Ends state first)
+    (EndsRow state (declared_of (scope_of state) first) (λ valuation element. Selects state first valuation element) (before ++ last ∷ []))
 
 -- ---- one simple statement after another
 
@@ -188,10 +193,8 @@ StopsAt before statements P =
     (done : List Stmt) × (next : Stmt) × (later : List Stmt) × (statements ≡ done ++ next ∷ later)
     × ((moment : Moment) × AreDone before done moment × P moment next)
 
--- Why the statements were not answered: work was cut; or some were done, and by the next infinitely many elements are to be listed, or a
--- space is formed that is too wide.
+-- Why the statements were not answered: work was cut; or some were done, and the evaluation of the next ends.
 abbrev pub IsWhyStopped : Moment → List Stmt → Gauge → Refusal → Type 0
 IsWhyStopped before statements now refusal =
-    IsWhyUnworked (list_any works statements) (StopsAt before statements (λ moment next. FormsTooWide moment.state next)) before.meter now
-    refusal
-    ⊎ ((refusal ≡ Unbounded) × IsCharged before.meter now × StopsAt before statements IsInfinite)
+    IsWhyUnworked (list_any works statements) (λ why. StopsAt before statements (λ moment next. StatementEnds moment next why)) before.meter
+    now refusal

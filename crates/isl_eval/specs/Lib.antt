@@ -1,5 +1,6 @@
 pub mod Tests
 pub mod Listed
+pub mod Ended
 pub mod Spelled
 pub mod Machine
 pub mod Unsupported

@@ -12,9 +12,10 @@ use Rattle.isl_expr.specs.declared.tree.Stmt.TheVariants.{Empty, Bind, Show}
 use Rattle.isl_flat.specs.Flat.{flat}
 use Rattle.isl_values.specs.State.{Kept, Moment, Binds, forgotten}
 use Rattle.isl_values.specs.Selection.{Keeps, SelectsIn}
-use Rattle.isl_values.specs.Formed.{FormsTooWide}
+use Rattle.isl_values.specs.Ends.{GoesOn}
 use Rattle.isl_eval.specs.Tests.{ends_with_test, RowHolds}
 use Rattle.isl_eval.specs.Listed.{IsListed}
+use Rattle.isl_eval.specs.Ended.{StatementEnds}
 
 -- ---- answers
 -- the bytes of an answer, whether it is `True`, and how many elements it lists
@@ -63,11 +64,10 @@ Does before (Show expr) after answer = (after.state ≡ before.state) × Shows b
 Does before (Bind name expr) after answer = ((kept : Kept) × Keeps before expr kept × Binds before.state name kept after.state)
     × (answer ≡ nothing)
 
--- From one moment a simple statement leads to another, with this answer. No operation in it forms a space that is too wide, and units
--- alone were used.
+-- From one moment a simple statement leads to another, with this answer. Nothing ends its evaluation, and units alone were used.
 pub record Step (before : Moment) (stmt : Stmt) (after : Moment) (answer : Answer) : Type 0 where
   pub does : Does before stmt after answer
-  pub narrow : ¬ FormsTooWide before.state stmt
+  pub goes_on : GoesOn (StatementEnds before stmt)
   pub meter : IsCharged before.meter after.meter
   pub at : after.at ≡ before.at
 

@@ -1,27 +1,28 @@
 //! What is answered to an expression that is shown, and what is kept of one.
 
-ghost use Rattle.std.specs.Prelude.{◌≡◌, ◌⊎◌, ◌↔◌, true, Bool, List, IfOk, IsTrue, MatchResult, unsigned_abs};
+ghost use Rattle.std.specs.Prelude.{◌≡◌, ◌↔◌, true, Bool, List, IfOk, IsTrue, MatchResult, unsigned_abs};
 ghost use Rattle.std.specs.List.{list_any};
 ghost use Rattle.isl_meter.specs.Gauge.{IsCharged, limit_of};
 ghost use Rattle.isl_space.specs.Element.{Element};
 ghost use Rattle.isl_space.specs.Valuation as valuation;
 ghost use Rattle.isl_union.specs.KeptValue.{HasNoDefinitions};
-ghost use Rattle.isl_text.specs.declared.refusal.Refusal.TheVariants.{Unbounded};
 ghost use Rattle.isl_expr.specs.declared.tree.Stmt.TheVariants as s;
 ghost use Rattle.isl_expr.specs.declared.tree.ValueKind.{ValueKind};
 ghost use Rattle.isl_kinds.specs.Parts.{parts_of};
 ghost use Rattle.isl_kinds.specs.Typed.{kind_of};
 ghost use Rattle.isl_flat.specs.Flat.{is_sample};
 ghost use Rattle.isl_values.specs.State.{Moment, scope_of, Fits};
-ghost use Rattle.isl_values.specs.Made.{IsPaid, IsReady, IsWhyUnworked, uses_units};
-ghost use Rattle.isl_values.specs.Formed.{IsTooWide};
+ghost use Rattle.isl_values.specs.Made.{IsPaid, IsSoundExpr, IsWhyUnworked, uses_units};
+ghost use Rattle.isl_values.specs.Ends.{Ends, GoesOn};
 ghost use Rattle.isl_values.specs.Selection.{Selects};
-ghost use Rattle.isl_eval.specs.Listed.{AreFinite, IsListed};
+ghost use Rattle.isl_eval.specs.Listed.{IsListed};
+ghost use Rattle.isl_eval.specs.Ended.{StatementEnds};
 ghost use Rattle.isl_eval.specs.Machine.{Shows, ShowsValue, listed, shown, told};
 ghost use Rattle.isl_eval.specs.Evaluated.{IsEvaluable, IsWhyEnded};
 ghost use Rattle.isl_eval.specs.Tests.{TestHolds};
 ghost use Rattle.isl_eval.specs.Evaluation as spec;
-ghost use Rattle.isl_eval.specs.Evaluation.{IsKeptOf, IsMakeable, IsReadyTest, IsSampled, IsTooWideTest, answer_of, past_row};
+ghost use Rattle.isl_eval.specs.Evaluation.{EndsListing, EndsTest, IsKeptOf, IsMakeable, IsReadyTest};
+ghost use Rattle.isl_eval.specs.Evaluation.{IsSampled, answer_of, past_row};
 
 use crate::step::Tally;
 use crate::test::{ends_with_test, tested};
@@ -125,15 +126,13 @@ fn listed(
     at: &[(Name, i128)],
     meter: &mut Meter,
 ) -> Result<Line, Refusal>
-    requires ready { IsReady (scope_of state.now) operand.now }
+    requires sound { IsSoundExpr (scope_of state.now) operand.now }
     requires fits { Fits (limit_of meter.old) state.now }
     ensures made { MatchResult result
         (λ line. ((elements : List Element) × IsListed (λ element. Selects state.now operand.now at.now element) elements
         × (answer_of line ≡ listed elements)) × IsCharged meter.old meter.new)
-        (λ refusal. IsWhyUnworked true (IsTooWide state.now operand.now) meter.old meter.new refusal
-        ⊎ ((refusal ≡ Unbounded) × ((¬ AreFinite (λ element. Selects state.now operand.now at.now element))
-        × (¬ IsTooWide state.now operand.now)) × IsCharged meter.old meter.new)) }
-    ensures narrow { IfOk result (λ _. ¬ IsTooWide state.now operand.now) }
+        (IsWhyUnworked true (EndsListing state.now operand.now at.now) meter.old meter.new) }
+    ensures goes_on { IfOk result (λ _. GoesOn (EndsListing state.now operand.now at.now)) }
 {
     let value = value_of(alloc, operand, state, meter)?;
     let numbers = numbers_of(alloc, value.params(), at)?;
@@ -150,12 +149,12 @@ fn sampled(
     state: &State,
     meter: &mut Meter,
 ) -> Result<Rc<Value>, Refusal>
-    requires ready { IsReady (scope_of state.now) operand.now }
+    requires sound { IsSoundExpr (scope_of state.now) operand.now }
     requires fits { Fits (limit_of meter.old) state.now }
     ensures made { MatchResult result
         (λ value. IsSampled state.now operand.now (unsigned_abs (limit_of meter.old)) value.value × IsCharged meter.old meter.new)
-        (IsWhyUnworked true (IsTooWide state.now operand.now) meter.old meter.new) }
-    ensures narrow { IfOk result (λ _. ¬ IsTooWide state.now operand.now) }
+        (IsWhyUnworked true (Ends state.now operand.now) meter.old meter.new) }
+    ensures goes_on { IfOk result (λ _. GoesOn (Ends state.now operand.now)) }
 {
     let value = value_of(alloc, operand, state, meter)?;
     match value.sample(alloc, meter) {
@@ -172,13 +171,13 @@ fn selected(
     state: &State,
     meter: &mut Meter,
 ) -> Result<Rc<Value>, Refusal>
-    requires ready { IsReady (scope_of state.now) expr.now }
+    requires sound { IsSoundExpr (scope_of state.now) expr.now }
     requires fits { Fits (limit_of meter.old) state.now }
     ensures made { MatchResult result
         (λ value. IsKeptOf state.now (limit_of meter.old) expr.now value.value
         × IsPaid (list_any uses_units (parts_of expr.now)) meter.old meter.new)
-        (IsWhyUnworked (list_any uses_units (parts_of expr.now)) (IsTooWide state.now expr.now) meter.old meter.new) }
-    ensures narrow { IfOk result (λ _. ¬ IsTooWide state.now expr.now) }
+        (IsWhyUnworked (list_any uses_units (parts_of expr.now)) (Ends state.now expr.now) meter.old meter.new) }
+    ensures goes_on { IfOk result (λ _. GoesOn (Ends state.now expr.now)) }
 {
     value_of(alloc, expr, state, meter)
 }
@@ -201,8 +200,8 @@ pub(crate) fn content(
     ensures made { MatchResult result
         (λ value. IsKeptOf state.now (limit_of meter.old) expr.now value.value
         × IsPaid (list_any uses_units (parts_of expr.now)) meter.old meter.new)
-        (IsWhyUnworked (list_any uses_units (parts_of expr.now)) (IsTooWide state.now expr.now) meter.old meter.new) }
-    ensures narrow { IfOk result (λ _. ¬ IsTooWide state.now expr.now) }
+        (IsWhyUnworked (list_any uses_units (parts_of expr.now)) (Ends state.now expr.now) meter.old meter.new) }
+    ensures goes_on { IfOk result (λ _. GoesOn (Ends state.now expr.now)) }
 {
     match expr {
         Expr::Prefix(word, operand) if is_sample(*word) => {
@@ -226,8 +225,8 @@ fn value_shown(
         (λ line. ((before : Moment) → before.state ≡ state.now → limit_of before.meter ≡ limit_of meter.old
         → ShowsValue before expr.now (answer_of line))
         × IsPaid (list_any uses_units (parts_of expr.now)) meter.old meter.new)
-        (IsWhyUnworked (list_any uses_units (parts_of expr.now)) (IsTooWide state.now expr.now) meter.old meter.new) }
-    ensures narrow { IfOk result (λ _. ¬ IsTooWide state.now expr.now) }
+        (IsWhyUnworked (list_any uses_units (parts_of expr.now)) (Ends state.now expr.now) meter.old meter.new) }
+    ensures goes_on { IfOk result (λ _. GoesOn (Ends state.now expr.now)) }
 {
     let value = content(alloc, expr, state, meter)?;
     Ok(Line::of_value(alloc, &value)?)
@@ -247,8 +246,8 @@ fn truth_shown(
     ensures made { MatchResult result
         (λ line. ((holds : Bool) × (IsTrue holds ↔ TestHolds state.now last.now.operator (past_row state.now first.now before.now)
         (Selects state.now last.now.operand)) × (answer_of line ≡ told holds)) × IsCharged meter.old meter.new)
-        (IsWhyUnworked true (IsTooWideTest state.now first.now before.now last.now) meter.old meter.new) }
-    ensures narrow { IfOk result (λ _. ¬ IsTooWideTest state.now first.now before.now last.now) }
+        (IsWhyUnworked true (EndsTest state.now first.now before.now last.now) meter.old meter.new) }
+    ensures goes_on { IfOk result (λ _. GoesOn (EndsTest state.now first.now before.now last.now)) }
 {
     let holds = tested(alloc, first, before, last, state, meter)?;
     Ok(Line::of_truth(alloc, holds)?)
@@ -281,7 +280,7 @@ fn asked_shown(
         (λ line. Shows (record { state = state.now; meter = meter.old; at = at.now }) expr.now (answer_of line)
         × IsPaid (list_any uses_units (parts_of expr.now)) meter.old meter.new)
         (IsWhyEnded (record { state = state.now; meter = meter.old; at = at.now }) (s.Show expr.now) meter.new) }
-    ensures narrow { IfOk result (λ _. ¬ IsTooWide state.now expr.now) }
+    ensures goes_on { IfOk result (λ _. GoesOn (StatementEnds (record { state = state.now; meter = meter.old; at = at.now }) (s.Show expr.now))) }
 {
     match expr {
         Expr::Prefix(_, operand) => listed(alloc, operand.get(), state, at, meter),
@@ -307,7 +306,7 @@ pub(crate) fn shown(
         (λ line. Shows (record { state = state.now; meter = meter.old; at = at.now }) expr.now (answer_of line)
         × IsPaid (list_any uses_units (parts_of expr.now)) meter.old meter.new)
         (IsWhyEnded (record { state = state.now; meter = meter.old; at = at.now }) (s.Show expr.now) meter.new) }
-    ensures narrow { IfOk result (λ _. ¬ IsTooWide state.now expr.now) }
+    ensures goes_on { IfOk result (λ _. GoesOn (StatementEnds (record { state = state.now; meter = meter.old; at = at.now }) (s.Show expr.now))) }
 {
     if is_asked(expr) {
         asked_shown(alloc, expr, state, at, meter)

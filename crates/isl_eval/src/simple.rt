@@ -11,7 +11,7 @@ ghost use Rattle.isl_kinds.specs.Typed.{is_dollar};
 ghost use Rattle.isl_stmt.specs.Names.{binds_dollar};
 ghost use Rattle.isl_values.specs.State.{Binds, Kept as KeptView, Moment, forgotten, scope_of, Fits, IsSettled};
 ghost use Rattle.isl_values.specs.Made.{IsPaid, IsWhyUnworked, uses_units};
-ghost use Rattle.isl_values.specs.Formed.{FormsTooWide};
+ghost use Rattle.isl_values.specs.Ends.{Ends, GoesOn};
 ghost use Rattle.isl_values.specs.Selection.{Keeps};
 ghost use Rattle.isl_eval.specs.Machine.{Answer, Step};
 ghost use Rattle.isl_eval.specs.Evaluated.{IsEvaluable, IsWhyEnded, works};
@@ -43,9 +43,9 @@ fn bound(
         (λ _. ((before : Moment) → before.state ≡ state.old → limit_of before.meter ≡ limit_of meter.old
         → (kept : KeptView) × Keeps before expr.now kept × Binds state.old name.now kept state.new)
         × IsPaid (works stmt.now) meter.old meter.new)
-        (λ refusal. IsWhyUnworked (works stmt.now) (FormsTooWide state.old stmt.now) meter.old meter.new refusal
+        (λ refusal. IsWhyUnworked (works stmt.now) (Ends state.old expr.now) meter.old meter.new refusal
         × (state.new ≡ state.old)) }
-    ensures narrow { OnOk result (¬ FormsTooWide state.old stmt.now) }
+    ensures goes_on { OnOk result (GoesOn (Ends state.old expr.now)) }
     ensures dollar { OnOk result (is_dollar name.now ≡ true → forgotten state.new ≡ forgotten state.old) }
     ensures settled { OnOk result (is_dollar name.now ≡ false → IsSettled state.old → IsSettled state.new) }
 {
@@ -66,8 +66,9 @@ fn bound(
 /// leaves what is bound. (the iscc chapter of the barvinok manual)
 ///
 /// # Errors
-/// `TooWide` where an operation in it forms a space that is too wide; `Unbounded` where infinitely many elements are to be listed;
-/// `Overflow` and `Budget` where the meter counted them; and `NoMemory`.
+/// What ends the evaluation first, operands from the left and inner ones first: `TooWide` where an operation has more than 16 parameters,
+/// or forms a space that is too wide, and `Unbounded` where infinitely many elements are to be listed. `Overflow` and `Budget` where the
+/// meter counted them; and `NoMemory`.
 pub fn eval(
     alloc: Global,
     state: &mut State,

@@ -106,9 +106,9 @@ fn forget_after(state: &mut State, statements: &[SimpleStmt])
 /// leaves what is bound. (the iscc chapter of the barvinok manual)
 ///
 /// # Errors
-/// The refusal of the first cause that the bytes have, as the table of causes lists them; where they have none, `TooWide` where an
-/// operation forms a space that is too wide, and `Unbounded` where infinitely many elements are to be listed; `Overflow` and `Budget`
-/// only where the meter counted them; and `NoMemory`.
+/// The refusal of the first cause that the bytes have, as the table of causes lists them; where they have none, what ends the evaluation
+/// first: `TooWide` where an operation has more than 16 parameters or forms a space that is too wide, and `Unbounded` where infinitely
+/// many elements are to be listed; `Overflow` and `Budget` only where the meter counted them; and `NoMemory`.
 pub fn answer(
     alloc: Global,
     bytes: &[u8],

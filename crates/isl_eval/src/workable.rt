@@ -10,7 +10,6 @@ ghost use Rattle.isl_eval.specs.Evaluation.{is_listing, names_of, IsWorkable, Is
 use isl_expr::tree::{Expr, Prefix, Stmt};
 use isl_kinds::{Scope, Typed, typed_statement};
 use isl_space::Name;
-use isl_space::limits::MAX_PARAMETERS;
 use isl_text::refusal::Refusal;
 use std::alloc::Global;
 
@@ -72,9 +71,6 @@ pub(crate) fn check(
     let declared = declared_by(&typed);
     if is_parametric(stmt, declared, at) {
         return Err(Refusal::Parametric);
-    }
-    if declared.len() > MAX_PARAMETERS {
-        return Err(Refusal::TooWide);
     }
     Ok(())
 }

@@ -30,7 +30,7 @@ use Rattle.isl_kinds.specs.Parts.{parts_of}
 use Rattle.isl_kinds.specs.Typed.{TypeView, ScopeView, params_of, has_unknown, declared_of, bound_to}
 use Rattle.isl_values.specs.State.{Kept, StateView, kept_of, type_of, scope_of, HasNumbersUpTo, Fits}
 use Rattle.isl_values.specs.Worked.{IsWorked}
-use Rattle.isl_values.specs.Formed.{IsTooWide}
+use Rattle.isl_values.specs.Ends.{End, Ends, GoesOn}
 use Rattle.isl_values.specs.Selection.{KeptHas, Selects}
 use Rattle.isl_values.specs.Made.{uses_units, IsSoundExpr, IsValueOf, IsPaid, IsWhyUnmade, IsWhyUnworked}
 use Rattle.isl_values.proofs.StateLaws.{bound_at}
@@ -134,18 +134,18 @@ pub literal_paid : (expr : Expr) (literal : Literal) (g h : Gauge) → expr ≡ 
     → IsPaid (list_any uses_units (parts_of expr)) g h
 literal_paid expr literal g h is paid = subst (λ (x : Expr). IsPaid (list_any uses_units (parts_of x)) g h) (sym is) paid
 
-pub literal_unmade : (expr : Expr) (literal : Literal) (Wide : Type 0) (g h : Gauge) (refusal : Refusal) → expr ≡ e.Literal literal
+pub literal_unmade : (expr : Expr) (literal : Literal) (Why : End → Type 0) (g h : Gauge) (refusal : Refusal) → expr ≡ e.Literal literal
     → IsWhyUnmade true g h refusal
-    → IsWhyUnworked (list_any uses_units (parts_of expr)) Wide g h refusal
-literal_unmade expr literal Wide g h refusal is why =
+    → IsWhyUnworked (list_any uses_units (parts_of expr)) Why g h refusal
+literal_unmade expr literal Why g h refusal is why =
     inl (subst (λ (x : Expr). IsWhyUnmade (list_any uses_units (parts_of x)) g h refusal) (sym is) why)
 
--- a name, or a literal, forms no space
-pub literal_narrow : (state : StateView) (expr : Expr) (literal : Literal) → expr ≡ e.Literal literal → ¬ IsTooWide state expr
-literal_narrow state expr literal is wide = subst (IsTooWide state) is wide
+-- a name, or a literal, ends nothing
+pub literal_goes_on : (state : StateView) (expr : Expr) (literal : Literal) → expr ≡ e.Literal literal → GoesOn (Ends state expr)
+literal_goes_on state expr literal is why ends = subst (λ (x : Expr). Ends state x why) is ends
 
-pub name_narrow : (state : StateView) (expr : Expr) (name : Name) → expr ≡ e.Name name → ¬ IsTooWide state expr
-name_narrow state expr name is wide = subst (IsTooWide state) is wide
+pub name_goes_on : (state : StateView) (expr : Expr) (name : Name) → expr ≡ e.Name name → GoesOn (Ends state expr)
+name_goes_on state expr name is why ends = subst (λ (x : Expr). Ends state x why) is ends
 
 -- ---- a name is bound, and a literal known
 pub never_unbound : (state : StateView) (name : Name) → kept_of state name ≡ None → ¬ (has_unknown (scope_of state) (e.Name name) ≡ false)

@@ -2,10 +2,11 @@ pub mod PartLaws
 pub mod StateLaws
 pub mod ForgetLaws
 pub mod KeptLaws
-pub mod NarrowLaws
+pub mod NamesLaws
 pub mod SameLaws
 pub mod RowLaws
-pub mod FormedLaws
+pub mod FirstLaws
+pub mod EndsLaws
 pub mod WorkedLaws
 pub mod ValueLaws
 pub mod OutcomeLaws

@@ -1,8 +1,7 @@
 -- What is worked out of an expression, of what is worked out of its operands.
-use Rattle.std.proofs.Common.{◌≡◌, ◌∙◌, ◌⊎◌, inl, inr, ◌≤◌, Bool, false, List, length, sym, ap, ap₂, subst}
+use Rattle.std.proofs.Common.{◌≡◌, ◌∙◌, ◌⊎◌, inl, inr, Bool, false, List, [], All, sym, ap, ap₂, subst}
 use Rattle.std.specs.Prelude.{unsigned_abs}
 use Rattle.isl_meter.specs.Gauge.{Gauge, limit_of}
-use Rattle.isl_space.specs.Limits.{most_parameters}
 use Rattle.isl_space.specs.Name.{Name}
 use Rattle.isl_union.specs.KeptValue.{KeptValue, Has}
 use Rattle.isl_text.specs.declared.refusal.Refusal.{Refusal}
@@ -20,42 +19,36 @@ use Rattle.std.proofs.lemmas.Bool.{not-false}
 use Rattle.isl_values.specs.State.{StateView, scope_of}
 use Rattle.isl_values.specs.Selection.{Selects, RowSelects, PostSelects}
 use Rattle.isl_values.specs.Worked.{IsWorked, IsWorkedRow, IsWorkedPost}
-use Rattle.isl_values.specs.Formed.{IsTooWide, IsTooWideRow, IsTooWidePost}
-use Rattle.isl_values.specs.Made.{is_foreign, uses_units, IsReady, AreReady, AreReadyBehind, IsValueOf, IsPaid, IsWhyUnworked}
+use Rattle.isl_values.specs.Ends.{End, Ends, EndsRow, EndsPost, FirstEnds, GoesOn, OperationEnds}
+use Rattle.isl_values.specs.Made.{is_foreign, uses_units, IsSoundExpr, IsSoundLink, IsSoundPostfix, IsValueOf, IsPaid, IsWhyUnworked}
 use Rattle.isl_values.proofs.PartLaws.{sound_first, sound_links, sound_operand, sound_postfixes, sound_argument}
 use Rattle.isl_values.proofs.PartLaws.{row_quiet, post_quiet, word_quiet}
-use Rattle.isl_values.proofs.NarrowLaws.{row_declares, post_declares}
 use Rattle.isl_values.proofs.SameLaws.{turned, same_trans, same_word}
 use Rattle.isl_values.proofs.RowLaws.{same_row, selects_of-Row, same_post, selects_of-Post, selects_of-Prefix}
-use Rattle.isl_values.proofs.FormedLaws.{forms_wide, wide_row, wide_of-Row, wide_post, wide_of-Post, wide_of-Prefix}
+use Rattle.isl_values.proofs.FirstLaws.{EndAlike, goes_alike, goes_both, operation_alike, turned_alike}
+use Rattle.isl_values.proofs.EndsLaws.{forms_wide}
+use Rattle.isl_values.proofs.EndsLaws.{row_alike, ends_of-Row, post_alike, ends_of-Post, ends_of-Prefix}
 use Rattle.isl_values.proofs.WorkedLaws.{worked_of-Row, worked_of-Post, worked_of-Prefix}
 use Rattle.isl_values.proofs.ValueLaws.{IsMade, MadeOf, work, value_before, paid_after, unworked_after, unworked_in}
 
 -- why there is no value of an expression
 abbrev pub IsWhyNotMade : StateView → Expr → Gauge → Gauge → Refusal → Type 0
-IsWhyNotMade state expr g h refusal = IsWhyUnworked (work (parts_of expr)) (IsTooWide state expr) g h refusal
+IsWhyNotMade state expr g h refusal = IsWhyUnworked (work (parts_of expr)) (Ends state expr) g h refusal
 
 -- ---- a row
 pub same_Row : (expr first x : Expr) (links others : List Link) → expr ≡ Row first links → x ≡ first → others ≡ links → expr ≡ Row x others
 same_Row expr first x links others is same alike = is ∙ sym (ap₂ (λ (f : Expr) (ls : List Link). Row f ls) same alike)
 
 module _ (state : StateView) (expr first : Expr) (links : List Link) (is : expr ≡ Row first links) where
-  module _ (ready : IsReady (scope_of state) expr) where
-    of_row : IsReady (scope_of state) (Row first links)
-    of_row = subst (IsReady (scope_of state)) is ready
+  module _ (sound : IsSoundExpr (scope_of state) expr) where
+    of_row : IsSoundExpr (scope_of state) (Row first links)
+    of_row = subst (IsSoundExpr (scope_of state)) is sound
 
-    pub first_ready : IsReady (scope_of state) first
-    first_ready = record {
-      sound = sound_first (scope_of state) first links of_row.sound;
-      narrow = row_declares (scope_of state) first links most_parameters of_row.narrow;
-    }
+    pub first_sound : IsSoundExpr (scope_of state) first
+    first_sound = sound_first (scope_of state) first links of_row
 
-    pub links_ready : (params : List Name) → params ≡ declared_of (scope_of state) first → AreReady (scope_of state) params links
-    links_ready params declared =
-        subst (λ (ps : List Name). AreReady (scope_of state) ps links) (sym declared) (record {
-          each = sound_links (scope_of state) first links of_row.sound;
-          narrow = subst (λ (ps : List Name). length ps ≤ most_parameters) (declared_of-Row (scope_of state) first links) of_row.narrow;
-        })
+    pub links_sound : All (IsSoundLink (scope_of state)) links
+    links_sound = sound_links (scope_of state) first links of_row
 
   abbrev RowWorks : Bool
   RowWorks = work (parts_of expr)
@@ -63,13 +56,19 @@ module _ (state : StateView) (expr first : Expr) (links : List Link) (is : expr 
   row_none : RowWorks ≡ false → (work (parts_of first) ≡ false) × (work (parts_of_links links) ≡ false)
   row_none none = row_quiet (scope_of state) uses_units first links (sym (ap (λ (x : Expr). work (parts_of x)) is) ∙ none)
 
-  row_wide : IsTooWide state first ⊎ IsTooWideRow state (λ v x. Selects state first v x) links → IsTooWide state expr
-  row_wide wide = subst (IsTooWide state) (sym is) ((wide_of-Row state first links).1 wide)
+  -- what ends in the row: the first operand, and then what is behind it
+  abbrev RowEnds : End → Type 0
+  RowEnds = FirstEnds (Ends state first) (EndsRow state (declared_of (scope_of state) first) (λ v x. Selects state first v x) links)
+
+  row_ends : EndAlike RowEnds (Ends state expr)
+  row_ends =
+      subst (λ (x : Expr). EndAlike RowEnds (Ends state x)) (sym is)
+      (turned_alike (Ends state (Row first links)) RowEnds (ends_of-Row state first links))
 
   pub first_failed : (g h : Gauge) (refusal : Refusal) → IsWhyNotMade state first g h refusal → IsWhyNotMade state expr g h refusal
   first_failed g h refusal why =
-      unworked_in RowWorks (work (parts_of first)) (IsTooWide state first) (IsTooWide state expr) g h refusal (λ none. (row_none none).0)
-      (λ wide. row_wide (inl wide)) why
+      unworked_in RowWorks (work (parts_of first)) (Ends state first) (Ends state expr) g h refusal (λ none. (row_none none).0)
+      (λ end ends. (row_ends end).0 (inl ends)) why
 
   module _ (g h k : Gauge) (left : KeptValue) (before : IsMade state first g h left) where
     -- what is joined to it
@@ -100,21 +99,27 @@ module _ (state : StateView) (expr first : Expr) (links : List Link) (is : expr 
       paid_after RowWorks (work (parts_of first)) (work (parts_of_links links)) g h k row_none before.1 all.1,
     )
 
-    pub links_failed : (refusal : Refusal) → IsWhyUnworked (work (parts_of_links links)) (IsTooWideRow state (Has left) links) h k refusal
-        → IsWhyNotMade state expr g k refusal
-    links_failed refusal why =
-        unworked_after RowWorks (work (parts_of first)) (work (parts_of_links links)) (IsTooWideRow state (Has left) links)
-        (IsTooWide state expr) g h k refusal row_none
-        (λ wide. row_wide (inr (wide_row state (Has left) (λ v x. Selects state first v x) links before.0.elements wide))) before.1 why
+    -- what is behind it ends for its value as it does for what is selected
+    behind_alike : EndAlike (EndsRow state left.params (Has left) links)
+        (EndsRow state (declared_of (scope_of state) first) (λ v x. Selects state first v x) links)
+    behind_alike =
+        subst (λ (names : List Name). EndAlike (EndsRow state left.params (Has left) links)
+        (EndsRow state names (λ v x. Selects state first v x) links)) before.0.params
+        (row_alike state left.params (Has left) (λ v x. Selects state first v x) links before.0.elements)
 
-    pub row_narrow : ¬ IsTooWide state first → ¬ IsTooWideRow state (Has left) links → ¬ IsTooWide state expr
-    row_narrow first_narrow links_narrow wide =
-        let found = (wide_of-Row state first links).0 (subst (IsTooWide state) is wide) in
-        elim found [
-          | inl h ↦ first_narrow h
-          | inr h ↦ links_narrow (wide_row state (λ v x. Selects state first v x) (Has left) links
-              (λ v x. let alike = before.0.elements v x in (alike.1, alike.0)) h)
-        ]
+    pub links_failed : (refusal : Refusal) → GoesOn (Ends state first)
+        → IsWhyUnworked (work (parts_of_links links)) (EndsRow state left.params (Has left) links) h k refusal
+        → IsWhyNotMade state expr g k refusal
+    links_failed refusal first_goes why =
+        unworked_after RowWorks (work (parts_of first)) (work (parts_of_links links)) (EndsRow state left.params (Has left) links)
+        (Ends state expr) g h k refusal row_none
+        (λ end ends. (row_ends end).0 (inr (first_goes, (behind_alike end).0 ends))) before.1 why
+
+    pub row_goes_on : GoesOn (Ends state first) → GoesOn (EndsRow state left.params (Has left) links) → GoesOn (Ends state expr)
+    row_goes_on first_goes links_go =
+        let Past = EndsRow state (declared_of (scope_of state) first) (λ v x. Selects state first v x) links in
+        goes_alike RowEnds (Ends state expr) row_ends (goes_both (Ends state first) Past first_goes
+        (goes_alike (EndsRow state left.params (Has left) links) Past behind_alike links_go))
 
 -- ---- an operand with what follows it
 pub same_Post : (expr operand x : Expr) (postfixes others : List Postfix) → expr ≡ Post operand postfixes → x ≡ operand
@@ -122,24 +127,15 @@ pub same_Post : (expr operand x : Expr) (postfixes others : List Postfix) → ex
 same_Post expr operand x postfixes others is same alike = is ∙ sym (ap₂ (λ (o : Expr) (ps : List Postfix). Post o ps) same alike)
 
 module _ (state : StateView) (expr operand : Expr) (postfixes : List Postfix) (is : expr ≡ Post operand postfixes) where
-  module _ (ready : IsReady (scope_of state) expr) where
-    of_post : IsReady (scope_of state) (Post operand postfixes)
-    of_post = subst (IsReady (scope_of state)) is ready
+  module _ (sound : IsSoundExpr (scope_of state) expr) where
+    of_post : IsSoundExpr (scope_of state) (Post operand postfixes)
+    of_post = subst (IsSoundExpr (scope_of state)) is sound
 
-    pub operand_ready : IsReady (scope_of state) operand
-    operand_ready = record {
-      sound = sound_operand (scope_of state) operand postfixes of_post.sound;
-      narrow = post_declares (scope_of state) operand postfixes most_parameters of_post.narrow;
-    }
+    pub operand_sound : IsSoundExpr (scope_of state) operand
+    operand_sound = sound_operand (scope_of state) operand postfixes of_post
 
-    pub postfixes_ready : (params : List Name) → params ≡ declared_of (scope_of state) operand
-        → AreReadyBehind (scope_of state) params postfixes
-    postfixes_ready params declared =
-        subst (λ (ps : List Name). AreReadyBehind (scope_of state) ps postfixes) (sym declared) (record {
-          each = sound_postfixes (scope_of state) operand postfixes of_post.sound;
-          narrow = subst (λ (ps : List Name). length ps ≤ most_parameters) (declared_of-Post (scope_of state) operand postfixes)
-              of_post.narrow;
-        })
+    pub postfixes_sound : All (IsSoundPostfix (scope_of state)) postfixes
+    postfixes_sound = sound_postfixes (scope_of state) operand postfixes of_post
 
   abbrev PostWorks : Bool
   PostWorks = work (parts_of expr)
@@ -147,14 +143,20 @@ module _ (state : StateView) (expr operand : Expr) (postfixes : List Postfix) (i
   post_none : PostWorks ≡ false → (work (parts_of operand) ≡ false) × (work (parts_of_postfixes postfixes) ≡ false)
   post_none none = post_quiet (scope_of state) uses_units operand postfixes (sym (ap (λ (x : Expr). work (parts_of x)) is) ∙ none)
 
-  post_wide : IsTooWide state operand ⊎ IsTooWidePost state (λ v x. Selects state operand v x) postfixes → IsTooWide state expr
-  post_wide wide = subst (IsTooWide state) (sym is) ((wide_of-Post state operand postfixes).1 wide)
+  -- what ends in it: the operand, and then what follows it
+  abbrev AllEnds : End → Type 0
+  AllEnds = FirstEnds (Ends state operand) (EndsPost state (declared_of (scope_of state) operand) (λ v x. Selects state operand v x) postfixes)
+
+  all_end : EndAlike AllEnds (Ends state expr)
+  all_end =
+      subst (λ (x : Expr). EndAlike AllEnds (Ends state x)) (sym is)
+      (turned_alike (Ends state (Post operand postfixes)) AllEnds (ends_of-Post state operand postfixes))
 
   pub operand_failed : (g h : Gauge) (refusal : Refusal) → IsWhyNotMade state operand g h refusal → IsWhyNotMade state expr g h refusal
   operand_failed g h refusal why =
-      unworked_in PostWorks (work (parts_of operand)) (IsTooWide state operand) (IsTooWide state expr) g h refusal
+      unworked_in PostWorks (work (parts_of operand)) (Ends state operand) (Ends state expr) g h refusal
       (λ none. (post_none none).0)
-      (λ wide. post_wide (inl wide)) why
+      (λ end ends. (all_end end).0 (inl ends)) why
 
   module _ (g h k : Gauge) (left : KeptValue) (before : IsMade state operand g h left) where
     -- what all that follows it makes
@@ -185,39 +187,40 @@ module _ (state : StateView) (expr operand : Expr) (postfixes : List Postfix) (i
       paid_after PostWorks (work (parts_of operand)) (work (parts_of_postfixes postfixes)) g h k post_none before.1 all.1,
     )
 
-    pub postfixes_failed : (refusal : Refusal)
-        → IsWhyUnworked (work (parts_of_postfixes postfixes)) (IsTooWidePost state (Has left) postfixes) h k refusal
-        → IsWhyNotMade state expr g k refusal
-    postfixes_failed refusal why =
-        unworked_after PostWorks (work (parts_of operand)) (work (parts_of_postfixes postfixes)) (IsTooWidePost state (Has left) postfixes)
-        (IsTooWide state expr) g h k refusal post_none
-        (λ wide. post_wide (inr (wide_post state (Has left) (λ v x. Selects state operand v x) postfixes before.0.elements wide))) before.1
-        why
+    -- what follows it ends for its value as it does for what is selected
+    follows_alike : EndAlike (EndsPost state left.params (Has left) postfixes)
+        (EndsPost state (declared_of (scope_of state) operand) (λ v x. Selects state operand v x) postfixes)
+    follows_alike =
+        subst (λ (names : List Name). EndAlike (EndsPost state left.params (Has left) postfixes)
+        (EndsPost state names (λ v x. Selects state operand v x) postfixes)) before.0.params
+        (post_alike state left.params (Has left) (λ v x. Selects state operand v x) postfixes before.0.elements)
 
-    pub post_narrow : ¬ IsTooWide state operand → ¬ IsTooWidePost state (Has left) postfixes → ¬ IsTooWide state expr
-    post_narrow operand_narrow postfixes_narrow wide =
-        let found = (wide_of-Post state operand postfixes).0 (subst (IsTooWide state) is wide) in
-        elim found [
-          | inl h ↦ operand_narrow h
-          | inr h ↦ postfixes_narrow (wide_post state (λ v x. Selects state operand v x) (Has left) postfixes
-              (λ v x. let alike = before.0.elements v x in (alike.1, alike.0)) h)
-        ]
+    pub postfixes_failed : (refusal : Refusal) → GoesOn (Ends state operand)
+        → IsWhyUnworked (work (parts_of_postfixes postfixes)) (EndsPost state left.params (Has left) postfixes) h k refusal
+        → IsWhyNotMade state expr g k refusal
+    postfixes_failed refusal operand_goes why =
+        unworked_after PostWorks (work (parts_of operand)) (work (parts_of_postfixes postfixes))
+        (EndsPost state left.params (Has left) postfixes) (Ends state expr) g h k refusal post_none
+        (λ end ends. (all_end end).0 (inr (operand_goes, (follows_alike end).0 ends))) before.1 why
+
+    pub post_goes_on : GoesOn (Ends state operand) → GoesOn (EndsPost state left.params (Has left) postfixes) → GoesOn (Ends state expr)
+    post_goes_on operand_goes postfixes_go =
+        let Past = EndsPost state (declared_of (scope_of state) operand) (λ v x. Selects state operand v x) postfixes in
+        goes_alike AllEnds (Ends state expr) all_end (goes_both (Ends state operand) Past operand_goes
+        (goes_alike (EndsPost state left.params (Has left) postfixes) Past follows_alike postfixes_go))
 
 -- ---- a word before an operand
 pub same_Prefix : (expr : Expr) (word : Word) (operand x : Expr) → expr ≡ Prefix word operand → x ≡ operand → expr ≡ Prefix word x
 same_Prefix expr word operand x is same = is ∙ sym (ap (Prefix word) same)
 
 module _ (state : StateView) (expr : Expr) (word : Word) (operand : Expr) (is : expr ≡ Prefix word operand) where
-  pub argument_ready : IsReady (scope_of state) expr → IsReady (scope_of state) operand
-  argument_ready ready = let of_word = subst (IsReady (scope_of state)) is ready in record {
-    sound = sound_argument (scope_of state) word operand of_word.sound;
-    narrow = subst (λ (ps : List Name). length ps ≤ most_parameters) (declared_of-Prefix (scope_of state) word operand) of_word.narrow;
-  }
+  pub argument_sound : IsSoundExpr (scope_of state) expr → IsSoundExpr (scope_of state) operand
+  argument_sound sound = sound_argument (scope_of state) word operand (subst (IsSoundExpr (scope_of state)) is sound)
 
-  pub word_supported : IsReady (scope_of state) expr → is_foreign (prefix word) ≡ false
-  word_supported ready =
-      let of_word = subst (IsReady (scope_of state)) is ready in
-      (word_quiet (scope_of state) is_foreign word operand of_word.sound.supported).0
+  pub word_supported : IsSoundExpr (scope_of state) expr → is_foreign (prefix word) ≡ false
+  word_supported sound =
+      let of_word = subst (IsSoundExpr (scope_of state)) is sound in
+      (word_quiet (scope_of state) is_foreign word operand of_word.supported).0
 
   abbrev WordWorks : Bool
   WordWorks = work (parts_of expr)
@@ -227,17 +230,22 @@ module _ (state : StateView) (expr : Expr) (word : Word) (operand : Expr) (is : 
       let both = word_quiet (scope_of state) uses_units word operand (sym (ap (λ (x : Expr). work (parts_of x)) is) ∙ none) in
       (both.1, both.0)
 
-  abbrev Formed : (KeptValue → Type 0)
-  Formed value = FormsWide (WordForms word) (Has value)
+  abbrev pub FormedEnds : KeptValue → End → Type 0
+  FormedEnds value = OperationEnds [] (FormsWide (WordForms word) (Has value))
 
-  word_wide : IsTooWide state operand ⊎ FormsWide (WordForms word) (λ v x. Selects state operand v x) → IsTooWide state expr
-  word_wide wide = subst (IsTooWide state) (sym is) ((wide_of-Prefix state word operand).1 wide)
+  abbrev SelectedEnds : End → Type 0
+  SelectedEnds = OperationEnds [] (FormsWide (WordForms word) (λ v x. Selects state operand v x))
+
+  word_ends : EndAlike (FirstEnds (Ends state operand) SelectedEnds) (Ends state expr)
+  word_ends =
+      subst (λ (x : Expr). EndAlike (FirstEnds (Ends state operand) SelectedEnds) (Ends state x)) (sym is)
+      (turned_alike (Ends state (Prefix word operand)) (FirstEnds (Ends state operand) SelectedEnds) (ends_of-Prefix state word operand))
 
   pub prefixed_failed : (g h : Gauge) (refusal : Refusal) → IsWhyNotMade state operand g h refusal → IsWhyNotMade state expr g h refusal
   prefixed_failed g h refusal why =
-      unworked_in WordWorks (work (parts_of operand)) (IsTooWide state operand) (IsTooWide state expr) g h refusal
+      unworked_in WordWorks (work (parts_of operand)) (Ends state operand) (Ends state expr) g h refusal
       (λ none. (word_none none).0)
-      (λ wide. word_wide (inl wide)) why
+      (λ end ends. (word_ends end).0 (inl ends)) why
 
   module _ (g h k : Gauge) (argument one : KeptValue) (made_of : IsMade state operand g h argument) (same : one ≡ argument) where
     own : IsMade state operand g h one
@@ -266,16 +274,18 @@ module _ (state : StateView) (expr : Expr) (word : Word) (operand : Expr) (is : 
       paid_after WordWorks (work (parts_of operand)) (word_works word) g h k word_none own.1 all.1,
     )
 
-    pub word_failed : (refusal : Refusal) → IsWhyUnworked (word_works word) (Formed one) h k refusal → IsWhyNotMade state expr g k refusal
-    word_failed refusal why =
-        unworked_after WordWorks (work (parts_of operand)) (word_works word) (Formed one) (IsTooWide state expr) g h k refusal word_none
-        (λ wide. word_wide (inr (forms_wide (WordForms word) (Has one) (λ v x. Selects state operand v x) own.0.elements wide))) own.1 why
+    -- the word ends for the value as it does for what is selected
+    formed_alike : EndAlike (FormedEnds one) SelectedEnds
+    formed_alike =
+        operation_alike [] _ _ (forms_wide (WordForms word) (Has one) (λ v x. Selects state operand v x) own.0.elements)
 
-    pub word_narrow : ¬ IsTooWide state operand → ¬ Formed one → ¬ IsTooWide state expr
-    word_narrow operand_narrow formed_narrow wide =
-        let found = (wide_of-Prefix state word operand).0 (subst (IsTooWide state) is wide) in
-        elim found [
-          | inl h ↦ operand_narrow h
-          | inr h ↦ formed_narrow (forms_wide (WordForms word) (λ v x. Selects state operand v x) (Has one)
-              (λ v x. let alike = own.0.elements v x in (alike.1, alike.0)) h)
-        ]
+    pub word_failed : (refusal : Refusal) → GoesOn (Ends state operand) → IsWhyUnworked (word_works word) (FormedEnds one) h k refusal
+        → IsWhyNotMade state expr g k refusal
+    word_failed refusal operand_goes why =
+        unworked_after WordWorks (work (parts_of operand)) (word_works word) (FormedEnds one) (Ends state expr) g h k refusal word_none
+        (λ end ends. (word_ends end).0 (inr (operand_goes, (formed_alike end).0 ends))) own.1 why
+
+    pub word_goes_on : GoesOn (Ends state operand) → GoesOn (FormedEnds one) → GoesOn (Ends state expr)
+    word_goes_on operand_goes formed_goes =
+        goes_alike (FirstEnds (Ends state operand) SelectedEnds) (Ends state expr) word_ends
+        (goes_both (Ends state operand) SelectedEnds operand_goes (goes_alike (FormedEnds one) SelectedEnds formed_alike formed_goes))

@@ -1,5 +1,6 @@
 -- What operations make of values, shared, and what refuses them where they make none.
-use Rattle.std.proofs.Common.{◌≡◌, ◌∙◌, ◌↔◌, ◌⊎◌, inl, inr, ◌<◌, ◌≤◌, ℕ, Bool, List, length, ap, subst, arith}
+use Rattle.std.proofs.Common.{◌≡◌, ◌∙◌, ◌↔◌, ◌⊎◌, inl, inr, ◌<◌, ◌≤◌, ℕ, Bool, List, [], length, ap, subst, arith}
+use Rattle.std.proofs.lemmas.Bool.{cases_lt}
 use Rattle.std.specs.Prelude.{Result, Ok, Err, IfErr, IfOk, MatchResult}
 use Rattle.isl_meter.specs.Gauge.{Gauge}
 use Rattle.isl_meter.specs.declared.Cut.TheVariants as cuts
@@ -17,6 +18,7 @@ use Rattle.isl_operators.specs.Made.{IsWhyNone}
 use Rattle.isl_kinds.specs.Typed.{joined_names}
 use Rattle.isl_kinds.proofs.JoinedNamesLaws.{joined_is}
 use Rattle.isl_values.specs.State.{HasNumbersUpTo}
+use Rattle.isl_values.specs.Ends.{End, too_wide, unbounded, GoesOn, OperationEnds}
 use Rattle.isl_values.specs.Made.{refusal_of_fault, IsValueOf, IsPaid, IsWhyUnworked}
 use Rattle.isl_values.proofs.ValueLaws.{unmade_memory}
 
@@ -44,22 +46,19 @@ pub answered_ok : {A : Type 0} (of : A → KeptValue) (outcome : Result KeptValu
 answered_ok of outcome (Ok a) Good is good = subst (λ (o : Result KeptValue OpFault). IfOk o Good) is good
 answered_ok of outcome (Err refusal) Good is good = tt
 
-module _ (names : List Name) (works : Bool) (Wide : Type 0) (g h : Gauge) (few : length names ≤ most_parameters) where
-  too_wide : (most_parameters < length names) ⊎ Wide → Wide
-  too_wide (inl many) = absurd (omega (arith, many, few))
-  too_wide (inr wide) = wide
-
+module _ (names : List Name) (works : Bool) (Wide : Type 0) (Why : End → Type 0) (g h : Gauge)
+    (ends : (most_parameters < length names) ⊎ Wide → Why too_wide) where
   refused : (outcome : Result KeptValue OpFault) (refusal : Refusal)
       → MatchResult outcome (λ _. refusal ≡ NoMemory) (λ fault. refusal ≡ refusal_of_fault fault)
-      → MatchResult outcome (λ _. IsPaid works g h) (IsWhyNone names Wide works g h) → IsWhyUnworked works Wide g h refusal
+      → MatchResult outcome (λ _. IsPaid works g h) (IsWhyNone names Wide works g h) → IsWhyUnworked works Why g h refusal
   refused (Ok made) refusal is paid = inl (unmade_memory works g h refusal is paid)
-  refused (Err op_fault.TooWide) refusal is why = inr (is, too_wide why.0, why.1)
+  refused (Err op_fault.TooWide) refusal is why = inr (too_wide, is, ends why.0, why.1)
   refused (Err (op_fault.Cut cut)) refusal is why = inl (record { cut = cut; is = is; by = why.0; free = why.1 })
 
   pub answered_made : {A : Type 0} (of : A → KeptValue) (outcome : Result KeptValue OpFault) (answer : Result A Refusal)
       (Good : KeptValue → Type 0)
       → IsAnswer of outcome answer → IfOk outcome Good → MatchResult outcome (λ _. IsPaid works g h) (IsWhyNone names Wide works g h)
-      → MatchResult answer (λ a. Good (of a) × IsPaid works g h) (IsWhyUnworked works Wide g h)
+      → MatchResult answer (λ a. Good (of a) × IsPaid works g h) (IsWhyUnworked works Why g h)
   answered_made of outcome (Ok a) Good is good units = (
     answered_ok of outcome (Ok a) Good is good,
     subst (λ (o : Result KeptValue OpFault). MatchResult o (λ _. IsPaid works g h) (IsWhyNone names Wide works g h)) is units,
@@ -79,6 +78,33 @@ module _ (left right : KeptValue) (distinct : AreDistinct right.params) where
   pub both_names : joined left.params right.params ≡ joined_names left.params right.params
   both_names = joined_is left.params right.params distinct
 
-  pub both_few : length (joined_names left.params right.params) ≤ most_parameters
-      → length (joined left.params right.params) ≤ most_parameters
-  both_few narrow = let same = ap length both_names in omega (arith, same, narrow)
+-- ---- what ends an operation
+-- it has too many parameters, or forms what is too wide
+pub operation_ends : (own names : List Name) (Wide : Type 0) → own ≡ names → (most_parameters < length own) ⊎ Wide
+    → OperationEnds names Wide too_wide
+operation_ends own names Wide same (inl many) = inl (let long = ap length same in omega (arith, many, long))
+operation_ends own names Wide same (inr wide) = elim (cases_lt most_parameters (length names)) [
+  | inl many ↦ inl many
+  | inr few ↦ inr (omega (arith, few), wide)
+]
+
+-- of one value that has few
+pub word_ends : (own : List Name) (Wide : Type 0) → length own ≤ most_parameters → (most_parameters < length own) ⊎ Wide
+    → OperationEnds [] Wide too_wide
+word_ends own Wide few (inl many) = absurd (omega (arith, many, few))
+word_ends own Wide few (inr wide) = inr (omega arith, wide)
+
+pub operation_goes : (names : List Name) (Wide : Type 0) → length names ≤ most_parameters → ¬ Wide → GoesOn (OperationEnds names Wide)
+operation_goes names Wide few narrow too_wide (inl many) = absurd (omega (arith, many, few))
+operation_goes names Wide few narrow too_wide (inr wide) = narrow wide.1
+operation_goes names Wide few narrow unbounded h = h
+
+-- where it makes a value it does not end
+pub outcome_goes : (outcome : Result KeptValue OpFault) (own names : List Name) (Wide : Type 0) → own ≡ names
+    → IfOk outcome IsKeptValue → IfOk outcome (λ value. value.params ≡ own) → IfOk outcome (λ _. ¬ Wide)
+    → IfOk outcome (λ _. GoesOn (OperationEnds names Wide))
+outcome_goes (Ok made) own names Wide same kept params narrow =
+    let few = kept.params.few in
+    let long = ap length (params ∙ same) in
+    operation_goes names Wide (omega (arith, few, long)) narrow
+outcome_goes (Err fault) own names Wide same kept params narrow = tt

@@ -1,8 +1,7 @@
 -- What follows an operand, one after another.
-use Rattle.std.proofs.Common.{◌≡◌, ◌∙◌, inl, inr, ◌<◌, ◌≤◌, ◌+◌, ℕ, Bool, true, false, List, length, get_or, take, sym, ap, subst, arith}
+use Rattle.std.proofs.Common.{◌≡◌, ◌∙◌, inl, inr, ◌<◌, ◌+◌, ℕ, Bool, true, false, List, All, length, get_or, take, sym, ap, subst, arith}
 use Rattle.std.specs.Prelude.{unsigned_abs}
 use Rattle.isl_meter.specs.Gauge.{Gauge, limit_of}
-use Rattle.isl_space.specs.Limits.{most_parameters}
 use Rattle.isl_space.specs.Name.{Name}
 use Rattle.isl_union.specs.KeptValue.{KeptValue, Has}
 use Rattle.isl_text.specs.declared.refusal.Refusal.{Refusal}
@@ -18,13 +17,15 @@ use Rattle.isl_kinds.specs.Typed.{declared_of, declared_past, declared_of_post, 
 use Rattle.isl_values.specs.State.{StateView, scope_of}
 use Rattle.isl_values.specs.Selection.{Selects, PostfixHas, PostSelects}
 use Rattle.isl_values.specs.Worked.{IsPostfixOf, IsWorkedPost}
-use Rattle.isl_values.specs.Formed.{IsTooWide, IsTooWidePostfix, IsTooWidePost}
-use Rattle.isl_values.specs.Made.{uses_units, IsReady, IsSoundPostfix, AreReadyBehind, IsValueOf, IsPaid, IsWhyUnworked}
+use Rattle.isl_values.specs.Ends.{End, Ends, EndsPostfix, EndsPost, GoesOn, OperationEnds}
+use Rattle.isl_values.specs.Made.{uses_units, IsSoundExpr, IsSoundPostfix, IsValueOf, IsPaid, IsWhyUnworked}
 use Rattle.isl_values.proofs.PartLaws.{quiet_in}
-use Rattle.isl_values.proofs.NarrowLaws.{argument_fits, past_more, past_narrow}
+use Rattle.isl_values.proofs.NamesLaws.{past_more}
 use Rattle.isl_values.proofs.SameLaws.{itself, same_application, same_trans}
 use Rattle.isl_values.proofs.RowLaws.{post_more}
-use Rattle.isl_values.proofs.FormedLaws.{pairs_wide, wide_postfix, post_wide_at, post_narrow_more}
+use Rattle.isl_values.proofs.FirstLaws.{EndAlike, goes_alike, goes_both, operation_alike}
+use Rattle.isl_values.proofs.EndsLaws.{Before, pairs_wide}
+use Rattle.isl_values.proofs.EndsLaws.{postfix_alike, post_ends_at, post_goes_more}
 use Rattle.isl_values.proofs.WorkedLaws.{post_worked_more}
 use Rattle.isl_values.proofs.ValueLaws.{IsMade, work, value_before, paid_same, paid_after, unmade_memory, unworked_after, unworked_in}
 
@@ -38,7 +39,7 @@ IsFollowed state postfix left g h value =
 -- why it makes none
 abbrev pub IsWhyNotFollowed : StateView → Postfix → KeptValue → Gauge → Gauge → Refusal → Type 0
 IsWhyNotFollowed state postfix left g h refusal =
-    IsWhyUnworked (work (parts_of_postfix postfix)) (IsTooWidePostfix state (Has left) postfix) g h refusal
+    IsWhyUnworked (work (parts_of_postfix postfix)) (EndsPostfix state left.params (Has left) postfix) g h refusal
 
 -- ---- the inverse
 module _ (state : StateView) (postfix : Postfix) (left : KeptValue) (g h : Gauge) (is : postfix ≡ Inverse) (kept : h ≡ g) where
@@ -62,38 +63,26 @@ module _ (state : StateView) (postfix : Postfix) (left : KeptValue) (g h : Gauge
   inverse_failed refusal memory =
       inl (unmade_memory (work (parts_of_postfix postfix)) g h refusal memory (paid_same (work (parts_of_postfix postfix)) g h kept))
 
-  pub inverse_narrow : ¬ IsTooWidePostfix state (Has left) postfix
-  inverse_narrow wide = subst (IsTooWidePostfix state (Has left)) is wide
+  pub inverse_goes_on : GoesOn (EndsPostfix state left.params (Has left) postfix)
+  inverse_goes_on why ends = subst (λ (p : Postfix). EndsPostfix state left.params (Has left) p why) is ends
 
 -- ---- an application
 module _ (state : StateView) (postfix : Postfix) (expr : Expr) (is : postfix ≡ Apply expr) where
-  pub applied_ready : (params : List Name) → IsSoundPostfix (scope_of state) postfix
-      → length (declared_past (scope_of state) params postfix) ≤ most_parameters
-      → IsReady (scope_of state) expr
-  applied_ready params sound narrow = record {
-    sound = subst (IsSoundPostfix (scope_of state)) is sound;
-    narrow = argument_fits (scope_of state) params expr most_parameters
-        (subst (λ (p : Postfix). length (declared_past (scope_of state) params p) ≤ most_parameters) is narrow);
-  }
-
-  pub applied_narrow : (params own argument : List Name) → length (declared_past (scope_of state) params postfix) ≤ most_parameters
-      → argument ≡ declared_of (scope_of state) expr → own ≡ argument → length (joined_names params own) ≤ most_parameters
-  applied_narrow params own argument narrow declared same =
-      subst (λ (ps : List Name). length (joined_names params ps) ≤ most_parameters) (sym (same ∙ declared))
-      (subst (λ (p : Postfix). length (declared_past (scope_of state) params p) ≤ most_parameters) is narrow)
+  pub applied_sound : IsSoundPostfix (scope_of state) postfix → IsSoundExpr (scope_of state) expr
+  applied_sound sound = subst (IsSoundPostfix (scope_of state)) is sound
 
   -- the argument has no value
   pub argument_failed : (left : KeptValue) (g h : Gauge) (refusal : Refusal)
-      → IsWhyUnworked (work (parts_of expr)) (IsTooWide state expr) g h refusal
+      → IsWhyUnworked (work (parts_of expr)) (Ends state expr) g h refusal
       → IsWhyNotFollowed state postfix left g h refusal
   argument_failed left g h refusal why =
       subst (λ (p : Postfix). IsWhyNotFollowed state p left g h refusal) (sym is)
-      (unworked_in true (work (parts_of expr)) (IsTooWide state expr) (IsTooWidePostfix state (Has left) (Apply expr)) g h refusal
-      (λ none. absurd (let no : ⊥ = cc in no)) inl why)
+      (unworked_in true (work (parts_of expr)) (Ends state expr) (EndsPostfix state left.params (Has left) (Apply expr)) g h refusal
+      (λ none. absurd (let no : ⊥ = cc in no)) (λ end ends. inl ends) why)
 
   module _ (left argument one : KeptValue) (g h k : Gauge) (made_of : IsMade state expr g h argument) (same : one ≡ argument) where
-    abbrev WidePair : Type 0
-    WidePair = PairsWide ApplicationForms (Has left) (Has one)
+    abbrev pub ApplyEnds : End → Type 0
+    ApplyEnds = OperationEnds (joined_names left.params one.params) (PairsWide ApplicationForms (Has left) (Has one))
 
     own : IsMade state expr g h one
     own = subst (IsMade state expr g h) (sym same) made_of
@@ -121,26 +110,34 @@ module _ (state : StateView) (postfix : Postfix) (expr : Expr) (is : postfix ≡
           paid_after true (work (parts_of expr)) true g h k (λ none. absurd (let no : ⊥ = cc in no)) own.1 made.1,
         )
 
-    selected_pair : WidePair → PairsWide ApplicationForms (Has left) (λ v x. Selects state expr v x)
-    selected_pair wide =
-        pairs_wide ApplicationForms (Has left) (Has left) (Has one) (λ v x. Selects state expr v x) (λ v. itself (Has left v))
-        own.0.elements wide
+    abbrev SelectedEnds : End → Type 0
+    SelectedEnds =
+        OperationEnds (joined_names left.params (declared_of (scope_of state) expr))
+        (PairsWide ApplicationForms (Has left) (λ v x. Selects state expr v x))
+
+    -- it ends for two values as it does for what is selected
+    apply_alike : EndAlike ApplyEnds SelectedEnds
+    apply_alike =
+        subst (λ (names : List Name). EndAlike ApplyEnds
+        (OperationEnds names (PairsWide ApplicationForms (Has left) (λ v x. Selects state expr v x))))
+        (ap (joined_names left.params) own.0.params)
+        (operation_alike (joined_names left.params one.params) _ _
+        (pairs_wide ApplicationForms (Has left) (Has left) (Has one) (λ v x. Selects state expr v x) (λ v. itself (Has left v))
+        own.0.elements))
 
     -- the map is not applied to it
-    pub application_failed : (refusal : Refusal) → IsWhyUnworked true WidePair h k refusal → IsWhyNotFollowed state postfix left g k refusal
-    application_failed refusal why =
+    pub application_failed : (refusal : Refusal) → GoesOn (Ends state expr) → IsWhyUnworked true ApplyEnds h k refusal
+        → IsWhyNotFollowed state postfix left g k refusal
+    application_failed refusal argument_goes why =
         subst (λ (p : Postfix). IsWhyNotFollowed state p left g k refusal) (sym is)
-        (unworked_after true (work (parts_of expr)) true WidePair (IsTooWidePostfix state (Has left) (Apply expr)) g h k refusal
+        (unworked_after true (work (parts_of expr)) true ApplyEnds (EndsPostfix state left.params (Has left) (Apply expr)) g h k refusal
         (λ none. absurd (let no : ⊥ = cc in no))
-        (λ wide. inr (selected_pair wide)) own.1 why)
+        (λ end ends. inr (argument_goes, (apply_alike end).0 ends)) own.1 why)
 
-    pub application_narrow : ¬ IsTooWide state expr → ¬ WidePair → ¬ IsTooWidePostfix state (Has left) postfix
-    application_narrow argument_narrow pair_narrow wide =
-        let had = λ (h : PairsWide ApplicationForms (Has left) (λ v x. Selects state expr v x)).
-        pairs_wide ApplicationForms (Has left) (Has left) (λ v x. Selects state expr v x) (Has one) (λ v. itself (Has left v))
-        (λ v x. let alike = own.0.elements v x in (alike.1, alike.0)) h in
-        let found : IsTooWidePostfix state (Has left) (Apply expr) = subst (IsTooWidePostfix state (Has left)) is wide in
-        elim found [ inl h ↦ argument_narrow h | inr h ↦ pair_narrow (had h) ]
+    pub application_goes_on : GoesOn (Ends state expr) → GoesOn ApplyEnds → GoesOn (EndsPostfix state left.params (Has left) postfix)
+    application_goes_on argument_goes apply_goes =
+        subst (λ (p : Postfix). GoesOn (EndsPostfix state left.params (Has left) p)) (sym is)
+        (goes_both (Ends state expr) SelectedEnds argument_goes (goes_alike ApplyEnds SelectedEnds apply_alike apply_goes))
 
 -- ---- one of what follows an operand
 -- the value of an operand and of so many that follow it, over units of them all
@@ -150,20 +147,12 @@ pub record IsPostTo (state : StateView) (postfixes : List Postfix) (first : Kept
       IsValueOf (IsWorkedPost state first (take n postfixes)) (declared_of_post (scope_of state) first.params (take n postfixes))
       (λ v x. PostSelects state v (Has first v) (take n postfixes) x) (unsigned_abs (limit_of g)) value
   pub paid : IsPaid (work (parts_of_postfixes postfixes)) g h
-  pub narrow : ¬ IsTooWidePost state (Has first) (take n postfixes)
+  pub goes_on : GoesOn (EndsPost state first.params (Has first) (take n postfixes))
 
 module _ (state : StateView) (postfixes : List Postfix) (i : ℕ) (postfix : Postfix) (low : i < length postfixes)
     (is : postfix ≡ get_or postfixes i postfix) where
-  pub postfix_sound : (params : List Name) → AreReadyBehind (scope_of state) params postfixes → IsSoundPostfix (scope_of state) postfix
-  postfix_sound params ready = subst (IsSoundPostfix (scope_of state)) (sym is) (ready.each i postfix low)
-
-  pub postfix_narrow : (params left : List Name) → AreReadyBehind (scope_of state) params postfixes
-      → left ≡ declared_of_post (scope_of state) params (take i postfixes)
-      → length (declared_past (scope_of state) left postfix) ≤ most_parameters
-  postfix_narrow params left ready before =
-      let fits = past_narrow (scope_of state) params postfixes i postfix low is in
-      let narrow = ready.narrow in
-      rw before (omega (arith, fits, narrow))
+  pub postfix_sound : All (IsSoundPostfix (scope_of state)) postfixes → IsSoundPostfix (scope_of state) postfix
+  postfix_sound sound = subst (IsSoundPostfix (scope_of state)) (sym is) (sound i postfix low)
 
   abbrev Works : Bool
   Works = work (parts_of_postfixes postfixes)
@@ -172,18 +161,26 @@ module _ (state : StateView) (postfixes : List Postfix) (i : ℕ) (postfix : Pos
   with_postfix none = (none, quiet_in uses_units postfixes i postfix low is none)
 
   module _ (first : KeptValue) (g h : Gauge) (left : KeptValue) (before : IsPostTo state postfixes first i g h left) where
+    -- what is next ends for the value as it does for what is selected
+    next_alike : EndAlike (EndsPostfix state left.params (Has left) postfix)
+        (EndsPostfix state (declared_of_post (scope_of state) first.params (take i postfixes))
+        (Before state (Has first) (take i postfixes)) postfix)
+    next_alike =
+        subst (λ (names : List Name). EndAlike (EndsPostfix state left.params (Has left) postfix)
+        (EndsPostfix state names (Before state (Has first) (take i postfixes)) postfix)) before.made.params
+        (postfix_alike state left.params (Has left) (Before state (Has first) (take i postfixes)) postfix before.made.elements)
+
     pub postfix_failed : (k : Gauge) (refusal : Refusal) → IsWhyNotFollowed state postfix left h k refusal
-        → IsWhyUnworked Works (IsTooWidePost state (Has first) postfixes) g k refusal
+        → IsWhyUnworked Works (EndsPost state first.params (Has first) postfixes) g k refusal
     postfix_failed k refusal why =
-        unworked_after Works Works (work (parts_of_postfix postfix)) (IsTooWidePostfix state (Has left) postfix)
-        (IsTooWidePost state (Has first) postfixes) g h k refusal with_postfix
-        (λ wide. post_wide_at state (Has first) postfixes i postfix low is
-        (wide_postfix state (Has left) (λ v x. PostSelects state v (Has first v) (take i postfixes) x) postfix before.made.elements wide))
+        unworked_after Works Works (work (parts_of_postfix postfix)) (EndsPostfix state left.params (Has left) postfix)
+        (EndsPost state first.params (Has first) postfixes) g h k refusal with_postfix
+        (λ end ends. post_ends_at state first.params (Has first) postfixes i postfix end low is before.goes_on ((next_alike end).0 ends))
         before.paid why
 
-    pub post_step : (k : Gauge) (made : KeptValue) → IsFollowed state postfix left h k made → ¬ IsTooWidePostfix state (Has left) postfix
-        → IsPostTo state postfixes first (i + 1) g k made
-    post_step k made one narrow = record {
+    pub post_step : (k : Gauge) (made : KeptValue) → IsFollowed state postfix left h k made
+        → GoesOn (EndsPostfix state left.params (Has left) postfix) → IsPostTo state postfixes first (i + 1) g k made
+    post_step k made one goes = record {
       made = value_before g h (IsWorkedPost state first (take (i + 1) postfixes))
           (declared_of_post (scope_of state) first.params (take (i + 1) postfixes))
           (λ v x. PostSelects state v (Has first v) (take (i + 1) postfixes) x) made before.paid.charged
@@ -198,7 +195,8 @@ module _ (state : StateView) (postfixes : List Postfix) (i : ℕ) (postfix : Pos
             definitions = one.0.definitions;
           });
       paid = paid_after Works Works (work (parts_of_postfix postfix)) g h k with_postfix before.paid one.1;
-      narrow = post_narrow_more state (Has first) postfixes i postfix low is before.narrow
-          (λ wide. narrow (wide_postfix state (λ v x. PostSelects state v (Has first v) (take i postfixes) x) (Has left) postfix
-          (λ v x. let alike = before.made.elements v x in (alike.1, alike.0)) wide));
+      goes_on = post_goes_more state first.params (Has first) postfixes i postfix low is before.goes_on
+          (goes_alike (EndsPostfix state left.params (Has left) postfix)
+          (EndsPostfix state (declared_of_post (scope_of state) first.params (take i postfixes))
+          (Before state (Has first) (take i postfixes)) postfix) next_alike goes);
     }

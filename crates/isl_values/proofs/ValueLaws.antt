@@ -17,6 +17,7 @@ use Rattle.isl_kinds.specs.Typed.{declared_of}
 use Rattle.isl_values.specs.State.{StateView, scope_of, HasNumbersUpTo, Fits}
 use Rattle.isl_values.specs.Selection.{Selects}
 use Rattle.isl_values.specs.Worked.{IsWorked}
+use Rattle.isl_values.specs.Ends.{End}
 use Rattle.isl_values.specs.Made.{uses_units, IsValueOf, IsPaid, IsWhyUnmade, IsWhyUnworked}
 
 -- ---- the meter
@@ -83,18 +84,18 @@ unmade_memory works g h refusal is paid = record {
   free = λ none. (refl, paid.free none);
 }
 
--- the same where what is too wide in a part is so in the whole
-pub unworked_after : (all a b : Bool) (Wide Whole : Type 0) (g h k : Gauge) (refusal : Refusal)
-    → (all ≡ false → (a ≡ false) × (b ≡ false)) → (Wide → Whole) → IsPaid a g h → IsWhyUnworked b Wide h k refusal
-    → IsWhyUnworked all Whole g k refusal
-unworked_after all a b Wide Whole g h k refusal quiet wider first (inl why) = inl (unmade_after all a b g h k refusal quiet first why)
-unworked_after all a b Wide Whole g h k refusal quiet wider first (inr why) =
-    inr (why.0, wider why.1, paid_after all a b g h k quiet first why.2)
+-- the same where what ends a part ends the whole
+pub unworked_after : (all a b : Bool) (Part Whole : End → Type 0) (g h k : Gauge) (refusal : Refusal)
+    → (all ≡ false → (a ≡ false) × (b ≡ false)) → ((why : End) → Part why → Whole why) → IsPaid a g h
+    → IsWhyUnworked b Part h k refusal → IsWhyUnworked all Whole g k refusal
+unworked_after all a b Part Whole g h k refusal quiet ends first (inl why) = inl (unmade_after all a b g h k refusal quiet first why)
+unworked_after all a b Part Whole g h k refusal quiet ends first (inr why) =
+    inr (why.0, why.1, ends why.0 why.2, paid_after all a b g h k quiet first why.3)
 
-pub unworked_in : (all a : Bool) (Wide Whole : Type 0) (g h : Gauge) (refusal : Refusal) → (all ≡ false → a ≡ false) → (Wide → Whole)
-    → IsWhyUnworked a Wide g h refusal → IsWhyUnworked all Whole g h refusal
-unworked_in all a Wide Whole g h refusal quiet wider (inl why) = inl (unmade_in all a g h refusal quiet why)
-unworked_in all a Wide Whole g h refusal quiet wider (inr why) = inr (why.0, wider why.1, paid_in all a g h quiet why.2)
+pub unworked_in : (all a : Bool) (Part Whole : End → Type 0) (g h : Gauge) (refusal : Refusal) → (all ≡ false → a ≡ false)
+    → ((why : End) → Part why → Whole why) → IsWhyUnworked a Part g h refusal → IsWhyUnworked all Whole g h refusal
+unworked_in all a Part Whole g h refusal quiet ends (inl why) = inl (unmade_in all a g h refusal quiet why)
+unworked_in all a Part Whole g h refusal quiet ends (inr why) = inr (why.0, why.1, ends why.0 why.2, paid_in all a g h quiet why.3)
 
 -- ---- what is made of an expression
 abbrev pub MadeOf : StateView → Expr → ℕ → KeptValue → Type 0

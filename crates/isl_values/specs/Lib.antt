@@ -3,7 +3,7 @@ pub mod Worked
 pub mod Selection
 pub mod Stored
 pub mod Made
-pub mod Formed
+pub mod Ends
 pub mod Depth
 pub use Rattle.isl_kinds.specs.Typed
 pub use Rattle.isl_lower.specs.Value

@@ -1,10 +1,9 @@
 -- public: what values are worked out of expressions, for whom, and what that does to the meter.
-use Rattle.std.specs.Prelude.{◌≡◌, ◌↔◌, ◌⊎◌, ◌≤◌, ℕ, Bool, true, false, not, List, length, All, Some}
+use Rattle.std.specs.Prelude.{◌≡◌, ◌↔◌, ◌⊎◌, ℕ, Bool, true, false, not, List, All, Some}
 use Rattle.std.specs.List.{list_any}
 use Rattle.isl_meter.specs.Gauge.{Gauge, IsCutBy}
 use Rattle.isl_meter.specs.declared.Cut.{Cut}
 use Rattle.isl_meter.specs.declared.Cut.TheVariants as cuts
-use Rattle.isl_space.specs.Limits.{most_parameters}
 use Rattle.isl_space.specs.Name.{Name}
 use Rattle.isl_space.specs.Valuation.{Valuation}
 use Rattle.isl_space.specs.Element.{Element}
@@ -19,11 +18,12 @@ use Rattle.isl_expr.specs.declared.tree.Postfix.{Postfix, Inverse, Apply, Item}
 use Rattle.isl_expr.specs.declared.tree.Expr.{Expr}
 use Rattle.isl_expr.specs.Expr.{literals_of}
 use Rattle.isl_kinds.specs.Parts.{Part, name, literal, operator, prefix, inverse, application, parts_of}
-use Rattle.isl_kinds.specs.Typed.{TypeView, ScopeView, has_unknown, kind_of, declared_of, declared_of_row, declared_of_post}
+use Rattle.isl_kinds.specs.Typed.{TypeView, ScopeView, has_unknown, kind_of, declared_of}
 use Rattle.isl_operators.specs.Operations.{is_operation, is_operation_word}
 use Rattle.isl_operators.specs.Made.{operator_works, word_works}
 pub use Rattle.isl_operators.specs.Made.{IsPaid}
 use Rattle.isl_values.specs.State.{HasNumbersUpTo}
+use Rattle.isl_values.specs.Ends.{End, refusal_of_end}
 
 -- what stands in no operand that a value is worked out of: tests, `scan`, `sample`, and what is not answered yet
 abbrev pub is_foreign : Part → Bool
@@ -56,31 +56,16 @@ pub record IsSoundExpr (scope : ScopeView) (expr : Expr) : Type 0 where
   pub known : has_unknown scope expr ≡ false
   pub literals : All IsWellFormedLiteral (literals_of expr)
 
--- it is, and its operands do not declare too many parameters
-pub record IsReady (scope : ScopeView) (expr : Expr) : Type 0 where
-  pub sound : IsSoundExpr scope expr
-  pub narrow : length (declared_of scope expr) ≤ most_parameters
-
 -- an operator that is answered, and its operand
 pub record IsSoundLink (scope : ScopeView) (link : Link) : Type 0 where
   pub supported : is_foreign (operator link.operator) ≡ false
   pub operand : IsSoundExpr scope link.operand
-
--- the same of operators and operands behind one that has these parameters
-pub record AreReady (scope : ScopeView) (params : List Name) (links : List Link) : Type 0 where
-  pub each : All (IsSoundLink scope) links
-  pub narrow : length (declared_of_row scope params links) ≤ most_parameters
 
 -- what follows an operand is answered, and what it is applied to is sound
 abbrev pub IsSoundPostfix : ScopeView → Postfix → Type 0
 IsSoundPostfix scope Inverse = Unit {0}
 IsSoundPostfix scope (Apply argument) = IsSoundExpr scope argument
 IsSoundPostfix scope (Item number) = ⊥
-
--- the same of all that follows an operand that has these parameters
-pub record AreReadyBehind (scope : ScopeView) (params : List Name) (postfixes : List Postfix) : Type 0 where
-  pub each : All (IsSoundPostfix scope) postfixes
-  pub narrow : length (declared_of_post scope params postfixes) ≤ most_parameters
 
 -- The kept value is one of these, with these parameters, these elements at each valuation, no number above the limit, and no column
 -- that is defined.
@@ -113,6 +98,7 @@ pub record IsWhyUnmade (works : Bool) (old new : Gauge) (refusal : Refusal) : Ty
   pub by : IsCutBy old new cut
   pub free : works ≡ false → (cut ≡ cuts.NoMemory) × (new ≡ old)
 
--- why no value was worked out: none was made; or a space that an operation forms is too wide, and units alone were used
-abbrev pub IsWhyUnworked : Bool → Type 0 → Gauge → Gauge → Refusal → Type 0
-IsWhyUnworked works Wide old new refusal = IsWhyUnmade works old new refusal ⊎ ((refusal ≡ TooWide) × Wide × IsPaid works old new)
+-- why no value was worked out: none was made; or the evaluation ends so, and units alone were used
+abbrev pub IsWhyUnworked : Bool → (End → Type 0) → Gauge → Gauge → Refusal → Type 0
+IsWhyUnworked works Ends old new refusal =
+    IsWhyUnmade works old new refusal ⊎ ((why : End) × (refusal ≡ refusal_of_end why) × Ends why × IsPaid works old new)

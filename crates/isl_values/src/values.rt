@@ -1,9 +1,8 @@
 //! The values of expressions.
 
-ghost use Rattle.std.specs.Prelude.{◌≡◌, ◌↔◌, ◌≤◌, true, false, IfErr, IfOk, MatchResult, Ok, length, unsigned_abs};
+ghost use Rattle.std.specs.Prelude.{◌≡◌, ◌↔◌, [], All, true, false, IfErr, IfOk, MatchResult, Ok, unsigned_abs};
 ghost use Rattle.std.specs.List.{list_any};
 ghost use Rattle.isl_meter.specs.Gauge.{IsMetered, limit_of};
-ghost use Rattle.isl_space.specs.Limits.{most_parameters};
 ghost use Rattle.isl_space.specs.Element.{Element};
 ghost use Rattle.isl_space.specs.Valuation.{Valuation};
 ghost use Rattle.isl_union.specs.KeptValue.{Has, HasNoDefinitions, IsKeptValue};
@@ -21,8 +20,8 @@ ghost use Rattle.isl_kinds.specs.Typed.{declared_of, declared_of_post, declared_
 ghost use Rattle.isl_values.specs.State.{scope_of, Fits, HasNumbersUpTo};
 ghost use Rattle.isl_values.specs.Selection.{Selects, PostSelects, RowSelects, PostfixHas};
 ghost use Rattle.isl_values.specs.Worked.{IsPostfixOf, IsWorked, IsWorkedPost, IsWorkedRow};
-ghost use Rattle.isl_values.specs.Formed.{IsTooWide, IsTooWidePost, IsTooWidePostfix, IsTooWideRow};
-ghost use Rattle.isl_values.specs.Made.{is_foreign, uses_units, IsReady, IsSoundPostfix, AreReady, AreReadyBehind, IsValueOf};
+ghost use Rattle.isl_values.specs.Ends.{Ends, EndsPost, EndsPostfix, EndsRow, GoesOn, OperationEnds};
+ghost use Rattle.isl_values.specs.Made.{is_foreign, uses_units, IsSoundExpr, IsSoundLink, IsSoundPostfix, IsValueOf};
 ghost use Rattle.isl_values.specs.Made.{refusal_of_cut, refusal_of_fault, IsPaid, IsWhyUnmade, IsWhyUnworked};
 
 use crate::State;
@@ -90,7 +89,7 @@ fn answered(alloc: Global, outcome: Result<Value, OpFault>) -> Result<Rc<Value>,
     }
 }
 
-// What an operator makes of two values that have few enough parameters.
+// What an operator makes of two values.
 fn joined(
     alloc: Global,
     operator: Binary,
@@ -99,7 +98,6 @@ fn joined(
     meter: &mut Meter,
 ) -> Result<Rc<Value>, Refusal>
     requires supported { is_foreign (operator_part operator) ≡ false }
-    requires narrow { length (joined_names left.now.params right.now.params) ≤ most_parameters }
     requires left { HasNumbersUpTo (unsigned_abs (limit_of meter.old)) left.now }
     requires right { HasNumbersUpTo (unsigned_abs (limit_of meter.old)) right.now }
     requires left_definitions { HasNoDefinitions left.now }
@@ -108,8 +106,10 @@ fn joined(
         (λ value. IsValueOf (λ made. IsOperatorOf operator left.now right.now made) (joined_names left.now.params right.now.params)
         (λ valuation element. OperatorHas operator (Has left.now valuation) (Has right.now valuation) element)
         (unsigned_abs (limit_of meter.old)) value.value × IsPaid (operator_works operator) meter.old meter.new)
-        (IsWhyUnworked (operator_works operator) (PairsWide (OperatorForms operator) (Has left.now) (Has right.now)) meter.old meter.new) }
-    ensures narrow { IfOk result (λ _. ¬ PairsWide (OperatorForms operator) (Has left.now) (Has right.now)) }
+        (IsWhyUnworked (operator_works operator) (OperationEnds (joined_names left.now.params right.now.params)
+        (PairsWide (OperatorForms operator) (Has left.now) (Has right.now))) meter.old meter.new) }
+    ensures goes_on { IfOk result (λ _. GoesOn (OperationEnds (joined_names left.now.params right.now.params)
+        (PairsWide (OperatorForms operator) (Has left.now) (Has right.now)))) }
 {
     let _names = right.params();
     answered(alloc, combined(alloc, operator, left, right, meter))
@@ -129,21 +129,20 @@ fn worded(
         (λ value. IsValueOf (λ made. IsWordOf word operand.now made) operand.now.params
         (λ valuation element. WordHas word (Has operand.now valuation) element) (unsigned_abs (limit_of meter.old)) value.value
         × IsPaid (word_works word) meter.old meter.new)
-        (IsWhyUnworked (word_works word) (FormsWide (WordForms word) (Has operand.now)) meter.old meter.new) }
-    ensures narrow { IfOk result (λ _. ¬ FormsWide (WordForms word) (Has operand.now)) }
+        (IsWhyUnworked (word_works word) (OperationEnds [] (FormsWide (WordForms word) (Has operand.now))) meter.old meter.new) }
+    ensures goes_on { IfOk result (λ _. GoesOn (OperationEnds [] (FormsWide (WordForms word) (Has operand.now)))) }
 {
     let _names = operand.params();
     answered(alloc, transformed(alloc, word, operand, meter))
 }
 
-// A map applied to a value, where the two have few enough parameters.
+// A map applied to a value.
 fn applied_to(
     alloc: Global,
     map: &Value,
     argument: &Value,
     meter: &mut Meter,
 ) -> Result<Rc<Value>, Refusal>
-    requires narrow { length (joined_names map.now.params argument.now.params) ≤ most_parameters }
     requires map { HasNumbersUpTo (unsigned_abs (limit_of meter.old)) map.now }
     requires argument { HasNumbersUpTo (unsigned_abs (limit_of meter.old)) argument.now }
     requires map_definitions { HasNoDefinitions map.now }
@@ -152,8 +151,10 @@ fn applied_to(
         (λ value. IsValueOf (λ made. IsApplicationOf map.now argument.now made) (joined_names map.now.params argument.now.params)
         (λ valuation element. ApplicationHas (Has map.now valuation) (Has argument.now valuation) element)
         (unsigned_abs (limit_of meter.old)) value.value × IsPaid true meter.old meter.new)
-        (IsWhyUnworked true (PairsWide ApplicationForms (Has map.now) (Has argument.now)) meter.old meter.new) }
-    ensures narrow { IfOk result (λ _. ¬ PairsWide ApplicationForms (Has map.now) (Has argument.now)) }
+        (IsWhyUnworked true (OperationEnds (joined_names map.now.params argument.now.params)
+        (PairsWide ApplicationForms (Has map.now) (Has argument.now))) meter.old meter.new) }
+    ensures goes_on { IfOk result (λ _. GoesOn (OperationEnds (joined_names map.now.params argument.now.params)
+        (PairsWide ApplicationForms (Has map.now) (Has argument.now)))) }
 {
     let _names = argument.params();
     answered(alloc, applied(alloc, map, argument, meter))
@@ -182,7 +183,6 @@ fn followed(
     meter: &mut Meter,
 ) -> Result<Rc<Value>, Refusal>
     requires sound { IsSoundPostfix (scope_of state.now) postfix.now }
-    requires narrow { length (declared_past (scope_of state.now) operand.now.params postfix.now) ≤ most_parameters }
     requires fits { Fits (limit_of meter.old) state.now }
     requires numbers { HasNumbersUpTo (unsigned_abs (limit_of meter.old)) operand.now }
     requires definitions { HasNoDefinitions operand.now }
@@ -191,9 +191,9 @@ fn followed(
         (declared_past (scope_of state.now) operand.now.params postfix.now)
         (λ valuation element. PostfixHas state.now valuation (Has operand.now valuation) postfix.now element)
         (unsigned_abs (limit_of meter.old)) value.value × IsPaid (list_any uses_units (parts_of_postfix postfix.now)) meter.old meter.new)
-        (IsWhyUnworked (list_any uses_units (parts_of_postfix postfix.now)) (IsTooWidePostfix state.now (Has operand.now) postfix.now)
-        meter.old meter.new) }
-    ensures narrow { IfOk result (λ _. ¬ IsTooWidePostfix state.now (Has operand.now) postfix.now) }
+        (IsWhyUnworked (list_any uses_units (parts_of_postfix postfix.now))
+        (EndsPostfix state.now operand.now.params (Has operand.now) postfix.now) meter.old meter.new) }
+    ensures goes_on { IfOk result (λ _. GoesOn (EndsPostfix state.now operand.now.params (Has operand.now) postfix.now)) }
 {
     match postfix {
         Postfix::Inverse => inverted(alloc, operand, meter),
@@ -214,7 +214,7 @@ fn past_postfixes(
     state: &State,
     meter: &mut Meter,
 ) -> Result<Rc<Value>, Refusal>
-    requires ready { AreReadyBehind (scope_of state.now) operand.value.params postfixes.now }
+    requires sound { All (IsSoundPostfix (scope_of state.now)) postfixes.now }
     requires fits { Fits (limit_of meter.old) state.now }
     requires numbers { HasNumbersUpTo (unsigned_abs (limit_of meter.old)) operand.value }
     requires definitions { HasNoDefinitions operand.value }
@@ -224,9 +224,9 @@ fn past_postfixes(
         (λ valuation element. PostSelects state.now valuation (Has operand.value valuation) postfixes.now element)
         (unsigned_abs (limit_of meter.old)) value.value
         × IsPaid (list_any uses_units (parts_of_postfixes postfixes.now)) meter.old meter.new)
-        (IsWhyUnworked (list_any uses_units (parts_of_postfixes postfixes.now)) (IsTooWidePost state.now (Has operand.value) postfixes.now)
-        meter.old meter.new) }
-    ensures narrow { IfOk result (λ _. ¬ IsTooWidePost state.now (Has operand.value) postfixes.now) }
+        (IsWhyUnworked (list_any uses_units (parts_of_postfixes postfixes.now))
+        (EndsPost state.now operand.value.params (Has operand.value) postfixes.now) meter.old meter.new) }
+    ensures goes_on { IfOk result (λ _. GoesOn (EndsPost state.now operand.value.params (Has operand.value) postfixes.now)) }
 {
     let _pieces = operand.pieces();
     let mut left = operand;
@@ -243,8 +243,9 @@ fn past_postfixes(
 /// chapter of the barvinok manual)
 ///
 /// # Errors
-/// `TooWide` where an operation in it forms a space that is too wide, and else what cut the work: `Overflow`, `Budget` or `NoMemory`.
-/// Where nothing in the expression uses units, no unit is used, and of these only memory can end.
+/// `TooWide` where an operation in it, from the left and inner ones first, has more than 16 parameters or forms a space that is too wide;
+/// and else what cut the work: `Overflow`, `Budget` or `NoMemory`. Where nothing in the expression uses units, no unit is used, and of
+/// these only memory can end.
 #[cycle(value)]
 pub fn value_of(
     alloc: Global,
@@ -252,13 +253,13 @@ pub fn value_of(
     state: &State,
     meter: &mut Meter,
 ) -> Result<Rc<Value>, Refusal>
-    requires ready { IsReady (scope_of state.now) expr.now }
+    requires sound { IsSoundExpr (scope_of state.now) expr.now }
     requires fits { Fits (limit_of meter.old) state.now }
     ensures made { MatchResult result
         (λ value. IsValueOf (IsWorked state.now expr.now) (declared_of (scope_of state.now) expr.now) (Selects state.now expr.now)
         (unsigned_abs (limit_of meter.old)) value.value × IsPaid (list_any uses_units (parts_of expr.now)) meter.old meter.new)
-        (IsWhyUnworked (list_any uses_units (parts_of expr.now)) (IsTooWide state.now expr.now) meter.old meter.new) }
-    ensures narrow { IfOk result (λ _. ¬ IsTooWide state.now expr.now) }
+        (IsWhyUnworked (list_any uses_units (parts_of expr.now)) (Ends state.now expr.now) meter.old meter.new) }
+    ensures goes_on { IfOk result (λ _. GoesOn (Ends state.now expr.now)) }
 {
     match expr {
         Expr::Name(name) => match state.get(name) {
@@ -295,7 +296,7 @@ pub fn joined_past(
     state: &State,
     meter: &mut Meter,
 ) -> Result<Rc<Value>, Refusal>
-    requires ready { AreReady (scope_of state.now) first.value.params links.now }
+    requires sound { All (IsSoundLink (scope_of state.now)) links.now }
     requires fits { Fits (limit_of meter.old) state.now }
     requires numbers { HasNumbersUpTo (unsigned_abs (limit_of meter.old)) first.value }
     requires definitions { HasNoDefinitions first.value }
@@ -304,9 +305,9 @@ pub fn joined_past(
         (declared_of_row (scope_of state.now) first.value.params links.now)
         (λ valuation element. RowSelects state.now valuation (Has first.value valuation) links.now element)
         (unsigned_abs (limit_of meter.old)) value.value × IsPaid (list_any uses_units (parts_of_links links.now)) meter.old meter.new)
-        (IsWhyUnworked (list_any uses_units (parts_of_links links.now)) (IsTooWideRow state.now (Has first.value) links.now)
-        meter.old meter.new) }
-    ensures narrow { IfOk result (λ _. ¬ IsTooWideRow state.now (Has first.value) links.now) }
+        (IsWhyUnworked (list_any uses_units (parts_of_links links.now))
+        (EndsRow state.now first.value.params (Has first.value) links.now) meter.old meter.new) }
+    ensures goes_on { IfOk result (λ _. GoesOn (EndsRow state.now first.value.params (Has first.value) links.now)) }
 {
     let _pieces = first.pieces();
     let mut left = first;

@@ -1,19 +1,20 @@
-use Rattle.std.proofs.Common.{inl, refl, subst, sym}
+use Rattle.std.proofs.Common.{refl, sym}
 use Rattle.std.proofs.lemmas.Result.{IfOk-weaker}
 use Rattle.isl_values.specs.State.{scope_of}
-use Rattle.isl_values.specs.Formed.{IsTooWide}
+use Rattle.isl_expr.specs.declared.tree.Stmt.TheVariants.{Show}
+use Rattle.isl_values.proofs.FirstLaws.{goes_alike}
 use Rattle.isl_values.proofs.ValueLaws.{match_map}
-use Rattle.isl_eval.specs.Evaluation.{IsTooWideTest, answer_of}
+use Rattle.isl_eval.specs.Ended.{StatementEnds}
+use Rattle.isl_eval.specs.Evaluation.{EndsTest, answer_of}
 use Rattle.isl_eval.proofs.TestLaws.{shows_test}
 use Rattle.isl_eval.proofs.ShownLaws.{asked_none, asked_scan, asked_test, moment_of, paid_working}
-use Rattle.isl_eval.proofs.ShownLaws.{row_is, scan_ended, scan_narrow, scan_ready, scan_shows, scan_works}
-use Rattle.isl_eval.proofs.ShownLaws.{test_ready, test_works, unworked_working}
-use Rattle.isl_eval.proofs.WideLaws.{test_formed, test_wide}
+use Rattle.isl_eval.proofs.ShownLaws.{row_is, scan_ended, scan_goes_on, scan_sound, scan_shows, scan_works}
+use Rattle.isl_eval.proofs.ShownLaws.{test_ends, test_ready, test_works, unworked_working}
 use Rattle.isl_eval.proofs.shown.asked_shown.Goals as goal
 
-pub listed-requires-clause-ready : goal.listed-requires-clause-ready
-listed-requires-clause-ready c =
-    scan_ready (moment_of c.args.state.now c.args.meter.now c.args.at.now) c.args.expr.now c.in-Prefix.operand
+pub listed-requires-clause-sound : goal.listed-requires-clause-sound
+listed-requires-clause-sound c =
+    scan_sound (moment_of c.args.state.now c.args.meter.now c.args.at.now) c.args.expr.now c.in-Prefix.operand
     c.get.result.now _ c.in-Prefix.is
     (asked_scan c.args.expr.now c.in-Prefix.operand _ c.in-Prefix.is c.requires.asked) c.get.ensures c.requires.evaluable
 
@@ -32,13 +33,13 @@ returns-in-Prefix-clause-made c =
     c.listed.new.meter refusal h)
     c.listed.ensures.made
 
-pub returns-in-Prefix-clause-narrow : goal.returns-in-Prefix-clause-narrow
-returns-in-Prefix-clause-narrow c =
+pub returns-in-Prefix-clause-goes_on : goal.returns-in-Prefix-clause-goes_on
+returns-in-Prefix-clause-goes_on c =
     let before = moment_of c.args.state.now c.args.meter.now c.args.at.now in
     let which = asked_scan c.args.expr.now c.in-Prefix.operand _ c.in-Prefix.is c.requires.asked in
     IfOk-weaker c.listed.result _ _
-    (λ line narrow. scan_narrow before c.args.expr.now c.in-Prefix.operand c.get.result.now _ c.in-Prefix.is which c.get.ensures narrow)
-    c.listed.ensures.narrow
+    (λ line goes. scan_goes_on before c.args.expr.now c.in-Prefix.operand c.get.result.now _ c.in-Prefix.is which c.get.ensures goes)
+    c.listed.ensures.goes_on
 
 pub truth_shown-requires-clause-ready : goal.truth_shown-requires-clause-ready
 truth_shown-requires-clause-ready c =
@@ -65,21 +66,22 @@ returns-in-Some-clause-made c =
           h.0.1 h.0.2,
       paid_working _ c.args.meter.now c.truth_shown.new.meter works h.1,
     ))
-    (λ refusal h. inl (unworked_working _
-    (IsTooWideTest c.args.state.now c.get-in-Some.result.now c.in-Some.before.now c.in-Some.last.now)
-    (IsTooWide c.args.state.now c.args.expr.now) c.args.meter.now c.truth_shown.new.meter refusal works
-    (λ wide. subst (IsTooWide c.args.state.now) (sym row)
-    (test_wide c.args.state.now c.get-in-Some.result.now c.in-Some.before.now c.in-Some.last.now wide)) h)) c.truth_shown.ensures.made
+    (λ refusal h. unworked_working _
+    (EndsTest c.args.state.now c.get-in-Some.result.now c.in-Some.before.now c.in-Some.last.now)
+    (StatementEnds before (Show c.args.expr.now)) c.args.meter.now c.truth_shown.new.meter refusal works
+    (λ end ends. (test_ends before c.args.expr.now c.get-in-Some.result.now c.in-Some.before.now c.in-Some.last.now row end).0 ends) h)
+    c.truth_shown.ensures.made
 
-pub returns-in-Some-clause-narrow : goal.returns-in-Some-clause-narrow
-returns-in-Some-clause-narrow c =
-    let test = asked_test c.args.expr.now _ _ c.as_slice.result.now c.in-Some.before.now c.in-Some.last.now c.in-Row.is c.as_slice.ensures
-    c.in-Some.ensures.cases.0 c.requires.asked in
+pub returns-in-Some-clause-goes_on : goal.returns-in-Some-clause-goes_on
+returns-in-Some-clause-goes_on c =
+    let before = moment_of c.args.state.now c.args.meter.now c.args.at.now in
     let row = row_is c.args.expr.now _ c.get-in-Some.result.now _ c.as_slice.result.now c.in-Some.before.now c.in-Some.last.now c.in-Row.is
     c.get-in-Some.ensures c.as_slice.ensures c.in-Some.ensures.cases.0 in
+    let Test = EndsTest c.args.state.now c.get-in-Some.result.now c.in-Some.before.now c.in-Some.last.now in
     IfOk-weaker c.truth_shown.result _ _
-    (λ line narrow wide. narrow (test_formed c.args.state.now c.get-in-Some.result.now c.in-Some.before.now c.in-Some.last.now (sym test)
-    (subst (IsTooWide c.args.state.now) row wide))) c.truth_shown.ensures.narrow
+    (λ line goes. goes_alike Test (StatementEnds before (Show c.args.expr.now))
+    (test_ends before c.args.expr.now c.get-in-Some.result.now c.in-Some.before.now c.in-Some.last.now row) goes)
+    c.truth_shown.ensures.goes_on
 
 pub unreachable-requires : goal.unreachable-requires
 unreachable-requires c =

@@ -1,6 +1,6 @@
 use Rattle.isl_meter.proofs.CutLemmas.{IsCharged_trans}
 use Rattle.isl_eval.proofs.TestLaws.{at_deref}
-use Rattle.isl_eval.proofs.ShownLaws.{at_numbers, listed_is, scan_failed}
+use Rattle.isl_eval.proofs.ShownLaws.{at_numbers, listed_is, listing_goes_on, scan_failed}
 use Rattle.isl_eval.proofs.shown.listed.Goals as goal
 
 pub scan-requires-clause-within : goal.scan-requires-clause-within
@@ -23,6 +23,15 @@ returns-in-Ok-clause-made c =
       IsCharged_trans c.args.meter.now c.value_of.new.meter c.scan.new.meter c.in_ok-value.ensures.made.1.charged c.in-Ok.ensures.meter,
     )
 
+pub returns-in-Ok-clause-goes_on : goal.returns-in-Ok-clause-goes_on
+returns-in-Ok-clause-goes_on c =
+    let numbers = at_numbers c.args.at.now c.in_ok-value.value.value c.deref.result.now c.deref-2.result.now c.params.result.now
+    c.in_ok-numbers.numbers.items
+    c.as_slice.result.now c.deref.ensures c.deref-2.ensures c.params.ensures.content c.in_ok-numbers.ensures c.as_slice.ensures.value in
+    listing_goes_on c.args.state.now c.args.operand.now c.args.at.now c.in-Ok.listing c.in_ok-value.ensures.goes_on
+    (listed_is c.args.state.now c.args.operand.now c.args.at.now c.in_ok-value.value.value c.deref-2.result.now c.in-Ok.listing
+    c.in_ok-value.ensures.made.0.elements c.deref-2.ensures (c.in-Ok.ensures.listed c.args.at.now numbers))
+
 pub returns-clause-made : goal.returns-clause-made
 returns-clause-made c =
     let numbers = at_numbers c.args.at.now c.in_ok-value.value.value c.deref.result.now c.deref-2.result.now c.params.result.now
@@ -33,4 +42,4 @@ returns-clause-made c =
     c.scan.new.meter c.in-Err.fault c.refusal_of_fault.result c.in-Err.is c.in_ok-value.ensures.made.0.elements c.deref-2.ensures
     c.in_ok-value.ensures.made.1.charged
     (c.scan.ensures.unbounded c.args.at.now numbers) c.in-Err.ensures.meter c.refusal_of_fault.ensures
-    c.in_ok-value.ensures.narrow
+    c.in_ok-value.ensures.goes_on

@@ -8,7 +8,7 @@ returns-clause-made c =
     match_map c.value_of.result _ _ _ _
     (λ value h. (
       selected_kept c.args.state.now
-          (limit_of c.args.meter.now) c.args.expr.now value.value c.requires.ready.sound.supported h.0,
+          (limit_of c.args.meter.now) c.args.expr.now value.value c.requires.sound.supported h.0,
       h.1,
     ))
     (λ refusal h. h) c.value_of.ensures.made

@@ -22,7 +22,7 @@ returns-in_ok-bound-in-Bind-clause-ok c =
       refl,
       bind_step before c.args.stmt.now (moment_of c.bound.new.state c.bound.new.meter c.args.at.now) _ _ c.in-Bind.is refl
           c.in_ok-bound-in-Bind.ensures.made.1.charged
-          c.in_ok-bound-in-Bind.ensures.narrow (c.in_ok-bound-in-Bind.ensures.made.0 before refl refl),
+          c.in_ok-bound-in-Bind.ensures.goes_on (c.in_ok-bound-in-Bind.ensures.made.0 before refl refl),
     )
 
 pub returns-in_ok-extend_from_slice-in-Show-clause-ok : goal.returns-in_ok-extend_from_slice-in-Show-clause-ok
@@ -33,7 +33,7 @@ returns-in_ok-extend_from_slice-in-Show-clause-ok c =
       refl,
       show_step before c.args.stmt.now (moment_of c.args.state.now c.shown.new.meter c.args.at.now) _
           (answer_of c.in_ok-line-in-Show.line) c.in-Show.is refl refl
-          c.in_ok-line-in-Show.ensures.made.1.charged c.in_ok-line-in-Show.ensures.narrow c.in_ok-line-in-Show.ensures.made.0,
+          c.in_ok-line-in-Show.ensures.made.1.charged c.in_ok-line-in-Show.ensures.goes_on c.in_ok-line-in-Show.ensures.made.0,
     )
 
 pub returns-in_ok-bound-in-Bind-clause-settled : goal.returns-in_ok-bound-in-Bind-clause-settled

@@ -4,21 +4,21 @@ use Rattle.isl_meter.specs.Gauge.{limit_of}
 use Rattle.isl_union.specs.KeptValue.{KeptValue, HasNoDefinitions}
 use Rattle.isl_kinds.specs.Typed.{has_unknown}
 use Rattle.isl_values.specs.State.{scope_of}
-use Rattle.isl_values.specs.Formed.{IsTooWide}
-use Rattle.isl_values.proofs.KeptLaws.{name_makes, name_narrow, literal_makes, literal_narrow, literal_paid, literal_unmade, never_unbound}
+use Rattle.isl_values.specs.Ends.{Ends}
+use Rattle.isl_values.proofs.KeptLaws.{name_makes, name_goes_on, literal_makes, literal_goes_on, literal_paid, literal_unmade, never_unbound}
 use Rattle.isl_values.proofs.KeptLaws.{only_literal}
 use Rattle.isl_values.proofs.DepthLaws.{first_smaller, links_smaller, link_smaller, argument_smaller, operand_smaller, postfixes_smaller}
 use Rattle.isl_values.proofs.DepthLaws.{postfix_smaller, applied_smaller}
 use Rattle.isl_values.proofs.ValueLaws.{fits_later, numbers_of, numbers_later, paid_same, match_map, both_map, ok_of, ok_map, IsMade}
-use Rattle.isl_values.proofs.LinkLaws.{IsRowTo, link_ready, link_narrow, link_failed, join_failed, row_step}
-use Rattle.isl_values.proofs.PostfixLaws.{IsPostTo, postfix_sound, postfix_narrow, postfix_failed, post_step}
-use Rattle.isl_values.proofs.PostfixLaws.{inverse_followed, inverse_failed, inverse_narrow, applied_ready, applied_narrow, argument_failed}
-use Rattle.isl_values.proofs.PostfixLaws.{application_followed, application_failed, application_narrow}
-use Rattle.isl_values.proofs.OperandLaws.{IsWhyNotMade, same_Row, first_ready, links_ready, first_failed, row_made}
-use Rattle.isl_values.proofs.OperandLaws.{links_failed, row_narrow}
-use Rattle.isl_values.proofs.OperandLaws.{same_Post, operand_ready, postfixes_ready, operand_failed, post_made}
-use Rattle.isl_values.proofs.OperandLaws.{postfixes_failed, post_narrow}
-use Rattle.isl_values.proofs.OperandLaws.{same_Prefix, argument_ready, word_supported, prefixed_failed, word_made, word_failed, word_narrow}
+use Rattle.isl_values.proofs.LinkLaws.{IsRowTo, link_sound, link_failed, join_failed, row_step}
+use Rattle.isl_values.proofs.PostfixLaws.{IsPostTo, postfix_sound, postfix_failed, post_step}
+use Rattle.isl_values.proofs.PostfixLaws.{inverse_followed, inverse_failed, inverse_goes_on, applied_sound, argument_failed}
+use Rattle.isl_values.proofs.PostfixLaws.{application_followed, application_failed, application_goes_on}
+use Rattle.isl_values.proofs.OperandLaws.{IsWhyNotMade, same_Row, first_sound, links_sound, first_failed, row_made}
+use Rattle.isl_values.proofs.OperandLaws.{links_failed, row_goes_on}
+use Rattle.isl_values.proofs.OperandLaws.{same_Post, operand_sound, postfixes_sound, operand_failed, post_made}
+use Rattle.isl_values.proofs.OperandLaws.{postfixes_failed, post_goes_on}
+use Rattle.isl_values.proofs.OperandLaws.{same_Prefix, argument_sound, word_supported, prefixed_failed, word_made, word_failed, word_goes_on}
 use Rattle.isl_values.proofs.values.+value.Goals as goal
 
 -- ---- the operands behind the first
@@ -27,8 +27,7 @@ joined_past-value_of-requires t c =
     let low : c.loop-link.link-index < length c.args.links.now = omega arith in (
       search (rules, link_smaller c.args.links.now c.loop-link.link-index c.link-item.result low c.link-item.is),
       (
-        link_ready c.args.state.now c.args.links.now c.loop-link.link-index c.link-item.result low c.link-item.is c.args.first.value.params
-            c.requires.ready,
+        link_sound c.args.state.now c.args.links.now c.loop-link.link-index c.link-item.result low c.link-item.is c.requires.sound,
         fits_later c.args.meter.now c.loop-link.meter c.args.state.now c.loop-link.invariant.paid.charged c.requires.fits,
       ),
     )
@@ -39,17 +38,8 @@ joined_past-returns-in-Err t c =
       made = link_failed c.args.state.now c.args.links.now c.loop-link.link-index c.link-item.result low c.link-item.is c.args.first.value
           c.args.meter.now c.loop-link.meter c.loop-link.left.value c.loop-link.invariant c.value_of.new.meter c.in-Err.refusal
           c.in-Err.ensures.made;
-      narrow = tt;
+      goes_on = tt;
     }
-
-pub joined_past-joined-requires-clause-narrow : goal.joined_past-joined-requires-clause-narrow
-joined_past-joined-requires-clause-narrow t c =
-    let low : c.loop-link.link-index < length c.args.links.now = omega arith in
-    link_narrow c.args.state.now c.args.links.now c.loop-link.link-index c.link-item.result low c.link-item.is c.args.first.value.params
-    c.deref-in-loop-link.result.now.params
-    c.deref-in-loop-link-2.result.now.params c.requires.ready
-    (ap (λ (v : KeptValue). v.params) c.deref-in-loop-link.ensures ∙ c.loop-link.invariant.made.params)
-    (ap (λ (v : KeptValue). v.params) c.deref-in-loop-link-2.ensures ∙ c.in-Ok.ensures.made.0.params)
 
 pub joined_past-joined-requires-clause-left : goal.joined_past-joined-requires-clause-left
 joined_past-joined-requires-clause-left t c =
@@ -76,8 +66,8 @@ joined_past-returns-in-Err-joined t c =
           c.loop-link.invariant)
           k c.deref-in-loop-link-2.result.now
           (subst (IsMade state c.link-item.result.operand h k) (sym c.deref-in-loop-link-2.ensures) c.in-Ok.ensures.made)
-          c.joined.new.meter c.in-Err-joined.refusal c.in-Err-joined.ensures.made;
-      narrow = tt;
+          c.joined.new.meter c.in-Err-joined.refusal c.in-Ok.ensures.goes_on c.in-Err-joined.ensures.made;
+      goes_on = tt;
     }
 
 pub joined_past-loop-link-preserved : goal.joined_past-loop-link-preserved
@@ -93,7 +83,7 @@ joined_past-loop-link-preserved t c =
     c.loop-link.invariant)
     k c.deref-in-loop-link-2.result.now
     (subst (IsMade state c.link-item.result.operand h k) (sym c.deref-in-loop-link-2.ensures) c.in-Ok.ensures.made)
-    c.joined.new.meter c.in-Ok-joined.made.value c.in-Ok.ensures.narrow c.in-Ok-joined.ensures.made c.in-Ok-joined.ensures.narrow
+    c.joined.new.meter c.in-Ok-joined.made.value c.in-Ok.ensures.goes_on c.in-Ok-joined.ensures.made c.in-Ok-joined.ensures.goes_on
 
 -- ---- what follows an operand
 pub past_postfixes-followed-requires : goal.past_postfixes-followed-requires
@@ -104,19 +94,13 @@ past_postfixes-followed-requires t c =
     let so_far = c.loop-postfix.invariant in (
       search (rules, postfix_smaller c.args.postfixes.now c.loop-postfix.postfix-index item low c.postfix-item.is),
       (
-        postfix_sound state c.args.postfixes.now c.loop-postfix.postfix-index item low c.postfix-item.is c.args.operand.value.params
-            c.requires.ready,
+        postfix_sound state c.args.postfixes.now c.loop-postfix.postfix-index item low c.postfix-item.is c.requires.sound,
         (
-          postfix_narrow state c.args.postfixes.now c.loop-postfix.postfix-index item low c.postfix-item.is
-              c.args.operand.value.params c.deref-in-loop-postfix.result.now.params c.requires.ready
-              (ap (λ (v : KeptValue). v.params) c.deref-in-loop-postfix.ensures ∙ so_far.made.params),
+          fits_later c.args.meter.now c.loop-postfix.meter state so_far.paid.charged c.requires.fits,
           (
-            fits_later c.args.meter.now c.loop-postfix.meter state so_far.paid.charged c.requires.fits,
-            (
-              numbers_of c.args.meter.now c.loop-postfix.meter c.loop-postfix.left.value c.deref-in-loop-postfix.result.now
-                  so_far.paid.charged c.deref-in-loop-postfix.ensures so_far.made.numbers,
-              subst HasNoDefinitions (sym c.deref-in-loop-postfix.ensures) so_far.made.definitions,
-            ),
+            numbers_of c.args.meter.now c.loop-postfix.meter c.loop-postfix.left.value c.deref-in-loop-postfix.result.now
+                so_far.paid.charged c.deref-in-loop-postfix.ensures so_far.made.numbers,
+            subst HasNoDefinitions (sym c.deref-in-loop-postfix.ensures) so_far.made.definitions,
           ),
         ),
       ),
@@ -134,7 +118,7 @@ past_postfixes-returns-in-Err t c =
           (sym c.deref-in-loop-postfix.ensures)
           c.loop-postfix.invariant)
           c.followed.new.meter c.in-Err.refusal c.in-Err.ensures.made;
-      narrow = tt;
+      goes_on = tt;
     }
 
 pub past_postfixes-loop-postfix-preserved : goal.past_postfixes-loop-postfix-preserved
@@ -147,23 +131,16 @@ past_postfixes-loop-postfix-preserved t c =
     c.deref-in-loop-postfix.result.now
     (subst (IsPostTo state c.args.postfixes.now c.args.operand.value c.loop-postfix.postfix-index g h) (sym c.deref-in-loop-postfix.ensures)
     c.loop-postfix.invariant)
-    c.followed.new.meter c.in-Ok.made.value c.in-Ok.ensures.made c.in-Ok.ensures.narrow
+    c.followed.new.meter c.in-Ok.made.value c.in-Ok.ensures.made c.in-Ok.ensures.goes_on
 
 pub followed-value_of-requires : goal.followed-value_of-requires
 followed-value_of-requires t c = (
   search (rules, applied_smaller c.args.postfix.now c.in-Apply.expr c.in-Apply.is),
   (
-    applied_ready c.args.state.now c.args.postfix.now c.in-Apply.expr c.in-Apply.is c.args.operand.now.params c.requires.sound
-        c.requires.narrow,
+    applied_sound c.args.state.now c.args.postfix.now c.in-Apply.expr c.in-Apply.is c.requires.sound,
     c.requires.fits,
   ),
 )
-
-pub followed-applied_to-requires-clause-narrow : goal.followed-applied_to-requires-clause-narrow
-followed-applied_to-requires-clause-narrow t c =
-    applied_narrow c.args.state.now c.args.postfix.now c.in-Apply.expr c.in-Apply.is c.args.operand.now.params c.deref.result.now.params
-    c.in-Ok.argument.value.params c.requires.narrow
-    c.in-Ok.ensures.made.0.params (ap (λ (v : KeptValue). v.params) c.deref.ensures)
 
 pub followed-applied_to-requires-clause-map : goal.followed-applied_to-requires-clause-map
 followed-applied_to-requires-clause-map t c =
@@ -184,7 +161,8 @@ followed-returns-in-Inverse t c =
       made = both_map c.inverted.result _ _ _ _
           (λ value made. inverse_followed state c.args.postfix.now left g h c.in-Inverse.is e.meter value.value made)
           (λ refusal memory. inverse_failed state c.args.postfix.now left g h c.in-Inverse.is e.meter refusal memory) e.made e.faults;
-      narrow = ok_map c.inverted.result _ _ (λ value made. inverse_narrow state c.args.postfix.now left g h c.in-Inverse.is e.meter) e.made;
+      goes_on = ok_map c.inverted.result _ _ (λ value made. inverse_goes_on state c.args.postfix.now left g h c.in-Inverse.is e.meter)
+          e.made;
     }
 
 pub followed-returns-in-Ok : goal.followed-returns-in-Ok
@@ -201,10 +179,10 @@ followed-returns-in-Ok t c =
           (λ value made. application_followed state c.args.postfix.now c.in-Apply.expr c.in-Apply.is left argument one g h k
           c.in-Ok.ensures.made c.deref.ensures value.value made)
           (λ refusal why. application_failed state c.args.postfix.now c.in-Apply.expr c.in-Apply.is left argument one g h k
-          c.in-Ok.ensures.made c.deref.ensures refusal why) e.made;
-      narrow = ok_map c.applied_to.result _ _
-          (λ value narrow. application_narrow state c.args.postfix.now c.in-Apply.expr c.in-Apply.is left argument one g h k
-          c.in-Ok.ensures.made c.deref.ensures c.in-Ok.ensures.narrow narrow) e.narrow;
+          c.in-Ok.ensures.made c.deref.ensures refusal c.in-Ok.ensures.goes_on why) e.made;
+      goes_on = ok_map c.applied_to.result _ _
+          (λ value goes. application_goes_on state c.args.postfix.now c.in-Apply.expr c.in-Apply.is left argument one g h k
+          c.in-Ok.ensures.made c.deref.ensures c.in-Ok.ensures.goes_on goes) e.goes_on;
     }
 
 pub followed-returns-in-Err : goal.followed-returns-in-Err
@@ -212,18 +190,18 @@ followed-returns-in-Err t c = record {
   made = argument_failed c.args.state.now c.args.postfix.now c.in-Apply.expr c.in-Apply.is c.args.operand.now c.args.meter.now
       c.value_of.new.meter c.in-Err.refusal
       c.in-Err.ensures.made;
-  narrow = tt;
+  goes_on = tt;
 }
 
 -- ---- an expression
 pub value_of-unreachable-requires : goal.value_of-unreachable-requires
 value_of-unreachable-requires t c =
     never_unbound c.args.state.now c.in-Name.name (sym c.get.ensures ∙ ap option_copied c.in-None.is)
-    (sym (ap (has_unknown (scope_of c.args.state.now)) c.in-Name.is) ∙ c.requires.ready.sound.known)
+    (sym (ap (has_unknown (scope_of c.args.state.now)) c.in-Name.is) ∙ c.requires.sound.known)
 
 pub value_of-lowered-requires-clause-well_formed : goal.value_of-lowered-requires-clause-well_formed
 value_of-lowered-requires-clause-well_formed t c =
-    (only_literal (scope_of c.args.state.now) c.args.expr.now c.in-Literal.literal c.in-Literal.is c.requires.ready.sound).1
+    (only_literal (scope_of c.args.state.now) c.args.expr.now c.in-Literal.literal c.in-Literal.is c.requires.sound).1
 
 pub value_of-returns-in_ok-shared-in-Some : goal.value_of-returns-in_ok-shared-in-Some
 value_of-returns-in_ok-shared-in-Some t c = record {
@@ -235,7 +213,7 @@ value_of-returns-in_ok-shared-in-Some t c = record {
         c.requires.fits,
     paid_same _ c.args.meter.now c.args.meter.now refl,
   );
-  narrow = name_narrow c.args.state.now c.args.expr.now c.in-Name.name c.in-Name.is;
+  goes_on = name_goes_on c.args.state.now c.args.expr.now c.in-Name.name c.in-Name.is;
 }
 
 pub value_of-returns-in-Literal : goal.value_of-returns-in-Literal
@@ -243,16 +221,16 @@ value_of-returns-in-Literal t c =
     let state = c.args.state.now in
     let expr = c.args.expr.now in
     let literal = c.in-Literal.literal in
-    let formed = (only_literal (scope_of state) expr literal c.in-Literal.is c.requires.ready.sound).1 in record {
+    let formed = (only_literal (scope_of state) expr literal c.in-Literal.is c.requires.sound).1 in record {
       made = match_map c.lowered.result _ _ _ (IsWhyNotMade state expr c.args.meter.now c.lowered.new.meter)
           (λ made one. (
             literal_makes state (limit_of c.args.meter.now) expr literal made.value c.in-Literal.is formed one.0,
             literal_paid expr literal c.args.meter.now c.lowered.new.meter c.in-Literal.is one.1,
           ))
-          (λ refusal why. literal_unmade expr literal (IsTooWide state expr) c.args.meter.now c.lowered.new.meter refusal
+          (λ refusal why. literal_unmade expr literal (Ends state expr) c.args.meter.now c.lowered.new.meter refusal
           c.in-Literal.is why)
           c.lowered.ensures;
-      narrow = ok_of c.lowered.result _ (λ value. literal_narrow state expr literal c.in-Literal.is);
+      goes_on = ok_of c.lowered.result _ (λ value. literal_goes_on state expr literal c.in-Literal.is);
     }
 
 -- ---- a row
@@ -262,7 +240,7 @@ value_of-value_of-requires t c =
     let first = c.get-in-Row.result.now in
     let is = same_Row expr c.in-Row.first first c.in-Row.links c.in-Row.links c.in-Row.is c.get-in-Row.ensures refl in (
       search (rules, first_smaller expr first c.in-Row.links is),
-      (first_ready c.args.state.now expr first c.in-Row.links is c.requires.ready, c.requires.fits),
+      (first_sound c.args.state.now expr first c.in-Row.links is c.requires.sound, c.requires.fits),
     )
 
 pub value_of-joined_past-requires : goal.value_of-joined_past-requires
@@ -274,7 +252,7 @@ value_of-joined_past-requires t c =
     let one = c.in-Ok.ensures.made in (
       search (rules, links_smaller expr first links is),
       (
-        links_ready c.args.state.now expr first links is c.requires.ready c.in-Ok.left.value.params one.0.params,
+        links_sound c.args.state.now expr first links is c.requires.sound,
         (
           fits_later c.args.meter.now c.value_of.new.meter c.args.state.now one.1.charged c.requires.fits,
           (numbers_later c.args.meter.now c.value_of.new.meter c.in-Ok.left.value one.1.charged one.0.numbers, one.0.definitions),
@@ -297,9 +275,9 @@ value_of-returns-in-Ok t c =
     let e = c.joined_past.ensures in record {
       made = match_map c.joined_past.result _ _ _ _
           (λ made all. row_made state expr first links is g h k left one.made made.value all)
-          (λ refusal why. links_failed state expr first links is g h k left one.made refusal why) e.made;
-      narrow = ok_map c.joined_past.result _ _ (λ made narrow. row_narrow state expr first links is g h k left one.made one.narrow narrow)
-          e.narrow;
+          (λ refusal why. links_failed state expr first links is g h k left one.made refusal one.goes_on why) e.made;
+      goes_on = ok_map c.joined_past.result _ _ (λ made goes. row_goes_on state expr first links is g h k left one.made one.goes_on goes)
+          e.goes_on;
     }
 
 pub value_of-returns-in-Err : goal.value_of-returns-in-Err
@@ -309,7 +287,7 @@ value_of-returns-in-Err t c =
     let is = same_Row expr c.in-Row.first first c.in-Row.links c.in-Row.links c.in-Row.is c.get-in-Row.ensures refl in record {
       made = first_failed c.args.state.now expr first c.in-Row.links is c.args.meter.now c.value_of.new.meter c.in-Err.refusal
           c.in-Err.ensures.made;
-      narrow = tt;
+      goes_on = tt;
     }
 
 -- ---- an operand with what follows it
@@ -320,7 +298,7 @@ value_of-value_of-requires-in-Post t c =
     let postfixes = c.in-Post.postfixes in
     let is = same_Post expr c.in-Post.operand operand postfixes postfixes c.in-Post.is c.get-in-Post.ensures refl in (
       search (rules, operand_smaller expr operand postfixes is),
-      (operand_ready c.args.state.now expr operand postfixes is c.requires.ready, c.requires.fits),
+      (operand_sound c.args.state.now expr operand postfixes is c.requires.sound, c.requires.fits),
     )
 
 pub value_of-past_postfixes-requires : goal.value_of-past_postfixes-requires
@@ -334,7 +312,7 @@ value_of-past_postfixes-requires t c =
     let h = c.value_of-in-Post.new.meter in (
       search (rules, postfixes_smaller expr operand postfixes is),
       (
-        postfixes_ready c.args.state.now expr operand postfixes is c.requires.ready c.in-Ok-value_of.left.value.params one.0.params,
+        postfixes_sound c.args.state.now expr operand postfixes is c.requires.sound,
         (
           fits_later c.args.meter.now h c.args.state.now one.1.charged c.requires.fits,
           (numbers_later c.args.meter.now h c.in-Ok-value_of.left.value one.1.charged one.0.numbers, one.0.definitions),
@@ -358,9 +336,9 @@ value_of-returns-in-Ok-value_of t c =
     let e = c.past_postfixes.ensures in record {
       made = match_map c.past_postfixes.result _ _ _ _
           (λ made all. post_made state expr operand postfixes is g h k left one.made made.value all)
-          (λ refusal why. postfixes_failed state expr operand postfixes is g h k left one.made refusal why) e.made;
-      narrow = ok_map c.past_postfixes.result _ _
-          (λ made narrow. post_narrow state expr operand postfixes is g h k left one.made one.narrow narrow) e.narrow;
+          (λ refusal why. postfixes_failed state expr operand postfixes is g h k left one.made refusal one.goes_on why) e.made;
+      goes_on = ok_map c.past_postfixes.result _ _
+          (λ made goes. post_goes_on state expr operand postfixes is g h k left one.made one.goes_on goes) e.goes_on;
     }
 
 pub value_of-returns-in-Err-value_of : goal.value_of-returns-in-Err-value_of
@@ -371,7 +349,7 @@ value_of-returns-in-Err-value_of t c =
     let is = same_Post expr c.in-Post.operand operand postfixes postfixes c.in-Post.is c.get-in-Post.ensures refl in record {
       made = operand_failed c.args.state.now expr operand postfixes is c.args.meter.now c.value_of-in-Post.new.meter
           c.in-Err-value_of.refusal c.in-Err-value_of.ensures.made;
-      narrow = tt;
+      goes_on = tt;
     }
 
 -- ---- a word before an operand
@@ -382,7 +360,7 @@ value_of-value_of-requires-in-Prefix t c =
     let word = c.in-Prefix.word in
     let is = same_Prefix expr word c.in-Prefix.operand operand c.in-Prefix.is c.get-in-Prefix.ensures in (
       search (rules, argument_smaller expr word operand is),
-      (argument_ready c.args.state.now expr word operand is c.requires.ready, c.requires.fits),
+      (argument_sound c.args.state.now expr word operand is c.requires.sound, c.requires.fits),
     )
 
 pub value_of-worded-requires-clause-numbers : goal.value_of-worded-requires-clause-numbers
@@ -398,7 +376,7 @@ value_of-returns-in-Ok-value_of-2 t c =
     let operand = c.get-in-Prefix.result.now in
     let word = c.in-Prefix.word in
     let is = same_Prefix expr word c.in-Prefix.operand operand c.in-Prefix.is c.get-in-Prefix.ensures in
-    let supported = word_supported state expr word operand is c.requires.ready in
+    let supported = word_supported state expr word operand is c.requires.sound in
     let g = c.args.meter.now in
     let h = c.value_of-in-Prefix.new.meter in
     let k = c.worded.new.meter in
@@ -409,11 +387,11 @@ value_of-returns-in-Ok-value_of-2 t c =
     let e = c.worded.ensures in record {
       made = match_map c.worded.result _ _ _ _
           (λ made all. word_made state expr word operand is g h k argument given one.made operand_is supported made.value all)
-          (λ refusal why. word_failed state expr word operand is g h k argument given one.made operand_is refusal why)
+          (λ refusal why. word_failed state expr word operand is g h k argument given one.made operand_is refusal one.goes_on why)
           e.made;
-      narrow = ok_map c.worded.result _ _
-          (λ made narrow. word_narrow state expr word operand is g h k argument given one.made operand_is one.narrow narrow)
-          e.narrow;
+      goes_on = ok_map c.worded.result _ _
+          (λ made goes. word_goes_on state expr word operand is g h k argument given one.made operand_is one.goes_on goes)
+          e.goes_on;
     }
 
 pub value_of-returns-in-Err-value_of-2 : goal.value_of-returns-in-Err-value_of-2
@@ -424,5 +402,5 @@ value_of-returns-in-Err-value_of-2 t c =
     let is = same_Prefix expr word c.in-Prefix.operand operand c.in-Prefix.is c.get-in-Prefix.ensures in record {
       made = prefixed_failed c.args.state.now expr word operand is c.args.meter.now c.value_of-in-Prefix.new.meter
           c.in-Err-value_of-2.refusal c.in-Err-value_of-2.ensures.made;
-      narrow = tt;
+      goes_on = tt;
     }

@@ -1,6 +1,10 @@
 use Rattle.std.proofs.Common.{subst}
-use Rattle.isl_space.specs.Names.{IsParameterList}
-use Rattle.isl_values.proofs.OutcomeLaws.{answered_made, answered_ok, both_few, both_names, outcome_value}
+use Rattle.isl_space.specs.Names.{IsParameterList, joined}
+use Rattle.isl_union.specs.KeptValue.{Has}
+use Rattle.isl_operators.specs.Formed.{ApplicationForms, PairsWide}
+use Rattle.isl_kinds.specs.Typed.{joined_names}
+use Rattle.isl_values.specs.Ends.{OperationEnds}
+use Rattle.isl_values.proofs.OutcomeLaws.{answered_made, answered_ok, both_names, operation_ends, outcome_goes, outcome_value}
 use Rattle.isl_values.proofs.values.applied_to.Goals as goal
 
 pub returns-clause-made : goal.returns-clause-made
@@ -9,12 +13,22 @@ returns-clause-made c =
     let argument = c.args.argument.now in
     let names = subst IsParameterList c.params-names.ensures.content c.params-names.ensures.well_formed in
     let e = c.applied.ensures in
-    answered_made _ _ _ _ _ (both_few map argument names.distinct c.requires.narrow) _ c.applied.result c.answered.result _
-    c.answered.ensures
-    (outcome_value c.applied.result _ _ _ _ _ (both_names map argument names.distinct) e.written e.kept e.params e.elements
+    let same = both_names map argument names.distinct in
+    let Wide = PairsWide ApplicationForms (Has map) (Has argument) in
+    answered_made _ _ Wide (OperationEnds (joined_names map.params argument.params) Wide) _ _
+    (operation_ends (joined map.params argument.params) (joined_names map.params argument.params) Wide same) _ c.applied.result
+    c.answered.result _ c.answered.ensures
+    (outcome_value c.applied.result _ _ _ _ _ same e.written e.kept e.params e.elements
     (e.definitions c.requires.map_definitions c.requires.argument_definitions)
     e.numbers)
     e.units
 
-pub returns-clause-narrow : goal.returns-clause-narrow
-returns-clause-narrow c = answered_ok _ c.applied.result c.answered.result _ c.answered.ensures c.applied.ensures.narrow
+pub returns-clause-goes_on : goal.returns-clause-goes_on
+returns-clause-goes_on c =
+    let map = c.args.map.now in
+    let argument = c.args.argument.now in
+    let names = subst IsParameterList c.params-names.ensures.content c.params-names.ensures.well_formed in
+    let e = c.applied.ensures in
+    answered_ok _ c.applied.result c.answered.result _ c.answered.ensures
+    (outcome_goes c.applied.result (joined map.params argument.params) (joined_names map.params argument.params)
+    (PairsWide ApplicationForms (Has map) (Has argument)) (both_names map argument names.distinct) e.kept e.params e.narrow)

@@ -2,7 +2,12 @@ use Rattle.std.proofs.Common.{subst}
 use Rattle.std.proofs.lemmas.Bool.{not-false}
 use Rattle.isl_space.specs.Names.{IsParameterList}
 use Rattle.isl_operators.specs.Operations.{is_operation}
-use Rattle.isl_values.proofs.OutcomeLaws.{answered_made, answered_ok, both_few, both_names, outcome_value}
+use Rattle.isl_space.specs.Names.{joined as both}
+use Rattle.isl_union.specs.KeptValue.{Has}
+use Rattle.isl_operators.specs.Formed.{OperatorForms, PairsWide}
+use Rattle.isl_kinds.specs.Typed.{joined_names}
+use Rattle.isl_values.specs.Ends.{OperationEnds}
+use Rattle.isl_values.proofs.OutcomeLaws.{answered_made, answered_ok, both_names, operation_ends, outcome_goes, outcome_value}
 use Rattle.isl_values.proofs.values.joined.Goals as goal
 
 pub combined-requires-clause-operation : goal.combined-requires-clause-operation
@@ -14,12 +19,22 @@ returns-clause-made c =
     let right = c.args.right.now in
     let names = subst IsParameterList c.params-names.ensures.content c.params-names.ensures.well_formed in
     let e = c.combined.ensures in
-    answered_made _ _ _ _ _ (both_few left right names.distinct c.requires.narrow) _ c.combined.result c.answered.result _
-    c.answered.ensures
-    (outcome_value c.combined.result _ _ _ _ _ (both_names left right names.distinct) e.written e.kept e.params e.elements
+    let same = both_names left right names.distinct in
+    let Wide = PairsWide (OperatorForms c.args.operator) (Has left) (Has right) in
+    answered_made _ _ Wide (OperationEnds (joined_names left.params right.params) Wide) _ _
+    (operation_ends (both left.params right.params) (joined_names left.params right.params) Wide same) _ c.combined.result
+    c.answered.result _ c.answered.ensures
+    (outcome_value c.combined.result _ _ _ _ _ same e.written e.kept e.params e.elements
     (e.definitions c.requires.left_definitions c.requires.right_definitions)
     e.numbers)
     e.units
 
-pub returns-clause-narrow : goal.returns-clause-narrow
-returns-clause-narrow c = answered_ok _ c.combined.result c.answered.result _ c.answered.ensures c.combined.ensures.narrow
+pub returns-clause-goes_on : goal.returns-clause-goes_on
+returns-clause-goes_on c =
+    let left = c.args.left.now in
+    let right = c.args.right.now in
+    let names = subst IsParameterList c.params-names.ensures.content c.params-names.ensures.well_formed in
+    let e = c.combined.ensures in
+    answered_ok _ c.combined.result c.answered.result _ c.answered.ensures
+    (outcome_goes c.combined.result (both left.params right.params) (joined_names left.params right.params)
+    (PairsWide (OperatorForms c.args.operator) (Has left) (Has right)) (both_names left right names.distinct) e.kept e.params e.narrow)

@@ -1,0 +1,112 @@
+-- public: at which operation the evaluation of an expression ends without a value, and why: operands from the left, inner ones first; at one
+-- operation the joined parameters, then the spaces that it forms, then what it looks for. (the iscc chapter of the barvinok manual)
+use Rattle.std.specs.Prelude.{◌⊎◌, ◌<◌, ◌≤◌, List, [], ◌∷◌, length}
+use Rattle.isl_space.specs.Limits.{most_parameters}
+use Rattle.isl_space.specs.Name.{Name}
+use Rattle.isl_space.specs.Valuation.{Valuation}
+use Rattle.isl_space.specs.Element.{Element}
+use Rattle.isl_text.specs.declared.refusal.Refusal.{Refusal}
+use Rattle.isl_text.specs.declared.refusal.Refusal.TheVariants.{TooWide, Unbounded}
+use Rattle.isl_expr.specs.declared.tree.Link.{Link}
+use Rattle.isl_expr.specs.declared.tree.Postfix.{Postfix, Inverse, Apply, Item}
+use Rattle.isl_expr.specs.declared.tree.Expr.{Expr, Row', Prefix', Any', Last', Post', Row_of-Expr, end_of-Expr, more_of-Expr}
+use Rattle.isl_expr.specs.declared.tree.Expr.{Row_of-Link, end_of-Link, more_of-Link, Row_of-Postfix, end_of-Postfix, more_of-Postfix}
+use Rattle.isl_expr.specs.declared.tree.Expr as e
+use Rattle.isl_kinds.specs.Typed.{declared_of, declared_in, declared_past, joined_names}
+use Rattle.isl_operators.specs.Operations.{OperatorHas}
+use Rattle.isl_operators.specs.Formed.{OperatorForms, WordForms, ApplicationForms, FormsWide, PairsWide}
+use Rattle.isl_values.specs.State.{StateView, scope_of}
+use Rattle.isl_values.specs.Selection.{Selects, SelectsIn, PostfixHas}
+
+-- ---- why
+pub data End : Type 0 where
+  -- operands have too many parameters together, or a space that is formed is too wide
+  too_wide : End
+  -- infinitely many elements are to be listed
+  unbounded : End
+
+abbrev pub refusal_of_end : End → Refusal
+refusal_of_end too_wide = TooWide
+refusal_of_end unbounded = Unbounded
+
+-- for no reason
+abbrev pub NoEnd : End → Type 0
+NoEnd why = ⊥
+
+-- it does not end
+abbrev pub GoesOn : (End → Type 0) → Type 0
+GoesOn Ends = (why : End) → ¬ Ends why
+
+-- one of two ends, and the second only where the first goes on
+abbrev pub FirstEnds : (End → Type 0) → (End → Type 0) → End → Type 0
+FirstEnds A B why = A why ⊎ (GoesOn A × B why)
+
+-- an operation over these parameters: too many of them, and else a space that is too wide; none of today's looks for more
+abbrev pub OperationEnds : List Name → Type 0 → End → Type 0
+OperationEnds names Wide too_wide = (most_parameters < length names) ⊎ ((length names ≤ most_parameters) × Wide)
+OperationEnds names Wide unbounded = ⊥
+
+-- ---- where
+abbrev mutual
+  pub Ends : StateView → Expr → End → Type 0
+  Ends state (e.Name name) = NoEnd
+  Ends state (e.Literal literal) = NoEnd
+  Ends state (Row' s first t links) =
+      FirstEnds (EndsIn state first)
+      (EndsPastLinks state (declared_in (scope_of state) first) (λ valuation x. SelectsIn state first valuation x) links)
+  Ends state (Prefix' word s operand) =
+      FirstEnds (EndsIn state operand) (OperationEnds [] (FormsWide (WordForms word) (λ valuation x. SelectsIn state operand valuation x)))
+  Ends state (Any' r source s sink t schedule) = NoEnd
+  Ends state (Last' r source s sink t schedule) = NoEnd
+  Ends state (Post' s operand t postfixes) =
+      FirstEnds (EndsIn state operand)
+      (EndsPastPostfixes state (declared_in (scope_of state) operand) (λ valuation x. SelectsIn state operand valuation x) postfixes)
+
+  -- an operand in a box is a row of one
+  pub EndsIn : {m : _} → StateView → Row_of-Expr m → End → Type 0
+  EndsIn state end_of-Expr = NoEnd
+  EndsIn state (more_of-Expr expr rest) = Ends state expr
+
+  -- from the left, behind operands with these parameters and elements
+  pub EndsPastLinks : {m : _} → StateView → List Name → (Valuation → Element → Type 0) → Row_of-Link m → End → Type 0
+  EndsPastLinks state names Left end_of-Link = NoEnd
+  EndsPastLinks state names Left (more_of-Link operator operand rest) =
+      FirstEnds (Ends state operand)
+      (FirstEnds
+      (OperationEnds (joined_names names (declared_of (scope_of state) operand))
+      (PairsWide (OperatorForms operator) Left (λ valuation x. Selects state operand valuation x)))
+      (EndsPastLinks state (joined_names names (declared_of (scope_of state) operand))
+      (λ valuation x. OperatorHas operator (Left valuation) (λ y. Selects state operand valuation y) x) rest))
+
+  pub EndsPastPostfixes : {m : _} → StateView → List Name → (Valuation → Element → Type 0) → Row_of-Postfix m → End → Type 0
+  EndsPastPostfixes state names Operand end_of-Postfix = NoEnd
+  EndsPastPostfixes state names Operand (more_of-Postfix postfix rest) =
+      FirstEnds (EndsPostfix state names Operand postfix)
+      (EndsPastPostfixes state (declared_past (scope_of state) names postfix)
+      (λ valuation x. PostfixHas state valuation (Operand valuation) postfix x) rest)
+
+  pub EndsPostfix : StateView → List Name → (Valuation → Element → Type 0) → Postfix → End → Type 0
+  EndsPostfix state names Operand Inverse = NoEnd
+  EndsPostfix state names Operand (Apply argument) =
+      FirstEnds (Ends state argument)
+      (OperationEnds (joined_names names (declared_of (scope_of state) argument))
+      (PairsWide ApplicationForms Operand (λ valuation x. Selects state argument valuation x)))
+  EndsPostfix state names Operand (Item number) = NoEnd
+
+-- the same of lists
+abbrev pub EndsRow : StateView → List Name → (Valuation → Element → Type 0) → List Link → End → Type 0
+EndsRow state names Left [] = NoEnd
+EndsRow state names Left (link ∷ links) =
+    FirstEnds (Ends state link.operand)
+    (FirstEnds
+    (OperationEnds (joined_names names (declared_of (scope_of state) link.operand))
+    (PairsWide (OperatorForms link.operator) Left (λ valuation x. Selects state link.operand valuation x)))
+    (EndsRow state (joined_names names (declared_of (scope_of state) link.operand))
+    (λ valuation x. OperatorHas link.operator (Left valuation) (λ y. Selects state link.operand valuation y) x) links))
+
+abbrev pub EndsPost : StateView → List Name → (Valuation → Element → Type 0) → List Postfix → End → Type 0
+EndsPost state names Operand [] = NoEnd
+EndsPost state names Operand (postfix ∷ postfixes) =
+    FirstEnds (EndsPostfix state names Operand postfix)
+    (EndsPost state (declared_past (scope_of state) names postfix)
+    (λ valuation x. PostfixHas state valuation (Operand valuation) postfix x) postfixes)
