@@ -1,12 +1,10 @@
 -- Rows of which some are taken out.
-use Rattle.std.proofs.Common.{◌≡◌, ◌≢◌, ◌↔◌, ◌⊎◌, inl, inr, refl, ap, arith, ℕ, zero, suc, ℤ, List, [], ◌∷◌, ◌++◌, ◌<◌, length, get_or, take, drop, false}
+use Rattle.std.proofs.Common.{◌≡◌, ◌≢◌, inl, inr, refl, ap, arith, ℕ, zero, suc, List, [], ◌∷◌, ◌<◌, length, get_or, take, drop, false}
 use Rattle.std.specs.Prelude.{Option, Some, None, option_map, IfSome, map}
 use Rattle.std.specs.List.{All, remove}
 use Rattle.std.proofs.lemmas.List.Elements.{All-cons, All-head, All-tail, All-append, All-take, All-drop, All-weaker}
-use Rattle.isl_meter.specs.Gauge.{Gauge}
 use Rattle.isl_piece.specs.declared.row.Row.{Row}
 use Rattle.isl_piece.specs.Row.{HasModulus, HoldsRow, IsRowWithin, IsWellFormed}
-use Rattle.isl_piece.specs.System.{HoldRows}
 use Rattle.isl_piece.specs.Normal.{Kept, IsNormal, kept_rows, merged, normal_row, same_bound}
 use Rattle.isl_piece.proofs.MergeLaws.{AreApart, fold_apart}
 use Rattle.isl_piece.proofs.NormalLaws.{IsNormal-from}

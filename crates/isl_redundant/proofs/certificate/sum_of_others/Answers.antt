@@ -1,4 +1,4 @@
-use Rattle.std.proofs.Common.{◌≡◌, ◌≢◌, ◌<◌, sym, subst, arith, length, ℤ, List}
+use Rattle.std.proofs.Common.{◌≢◌, ◌<◌, sym, subst, arith, length, ℤ, List}
 use Rattle.std.specs.List.{remove}
 use Rattle.isl_piece.specs.declared.row.Row.{Row}
 use Rattle.isl_piece.specs.Row.{HoldsRow, IsWellFormed}
