@@ -4,7 +4,7 @@ use Rattle.std.proofs.Common.{All, ap, sym, subst, refl, arith, pow_mono}
 use Rattle.std.specs.Prelude.{length}
 use Rattle.std.specs.Str.{bytes_eq}
 use Rattle.std.proofs.lemmas.Bool.{false≢true}
-use Rattle.std.proofs.lemmas.List.Elements.{All-nil, All-cons, All-head, All-tail}
+use Rattle.std.proofs.lemmas.List.Elements.{All-head, All-tail}
 use Rattle.std.proofs.lemmas.List.{length-append}
 use Rattle.isl_math.proofs.ListLaws.{All-parts}
 use Rattle.std.proofs.lemmas.Slice.Eq.{bytes_eq-Decides}
@@ -21,7 +21,6 @@ use Rattle.isl_token.specs.Spelling.{Spells}
 use Rattle.isl_tree.specs.declared.tree.Literal.{Literal}
 use Rattle.isl_tree.specs.Known.{literal_is_known}
 use Rattle.isl_text.specs.Read.{has_wide_number}
-use Rattle.isl_lower.specs.Value.{IsWellFormedLiteral}
 use Rattle.isl_lower.proofs.ValueLaws.{same_elements}
 use Rattle.isl_expr.specs.declared.tree.Stmt.{Stmt}
 use Rattle.isl_expr.specs.declared.tree.Stmt.TheVariants.{Empty, Bind, Show}
@@ -49,7 +48,6 @@ use Rattle.isl_eval.specs.Run.{Answers}
 use Rattle.isl_eval.proofs.CauseLaws.{of_tokens, of_statement, one as one_spelled}
 use Rattle.isl_token.proofs.LexLaws.{lexed}
 use Rattle.isl_eval.proofs.LiteralLaws.{IsSpelled, literals_spelled}
-use Rattle.isl_values.proofs.KeptLaws.{declared_itself}
 use Rattle.isl_values.proofs.ForgetLaws.{kept_of_dollar, kept_of_forgotten}
 use Rattle.isl_round_trip.specs.Tree.{printed_tree}
 use Rattle.isl_round_trip.specs.Written.{HasFewRemainders, IsOfKind}
