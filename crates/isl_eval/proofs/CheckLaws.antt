@@ -1,9 +1,8 @@
 -- What a statement is refused for before any of it is worked out.
-use Rattle.std.proofs.Common.{◌≡◌, ◌∙◌, inl, inr, ◌<◌, ◌≤◌, refl, sym, ap, ap₂}
-use Rattle.std.proofs.Common.{subst, Bool, true, false, List, length, Option, None, Some, Ok}
+use Rattle.std.proofs.Common.{◌≡◌, ◌∙◌, inl, inr, refl, sym, ap, ap₂}
+use Rattle.std.proofs.Common.{Bool, true, false, List, Option, None, Some, Ok}
 use Rattle.std.specs.Prelude.{not, ◌&&◌}
 use Rattle.std.specs.List.{list_any}
-use Rattle.isl_space.specs.Limits.{most_parameters}
 use Rattle.isl_space.specs.Name.{Name}
 use Rattle.isl_space.specs.Valuation.{Valuation}
 use Rattle.isl_expr.specs.declared.tree.Prefix.TheVariants as p

@@ -18,7 +18,7 @@ use Rattle.isl_values.specs.State.{StateView, scope_of}
 use Rattle.isl_values.specs.Selection.{Selects}
 use Rattle.isl_values.specs.Ends.{End, too_wide, NoEnd, GoesOn, FirstEnds, OperationEnds, Ends, EndsRow}
 use Rattle.isl_values.proofs.FirstLaws.{EndAlike, alike_itself, first_alike, goes_alike, goes_both, turned_alike}
-use Rattle.isl_values.proofs.EndsLaws.{Behind, EndsWith, OperatorEnds}
+use Rattle.isl_values.proofs.EndsLaws.{Behind}
 use Rattle.isl_values.proofs.EndsLaws.{ends_of-Prefix, row_alike, row_split}
 use Rattle.isl_values.proofs.OutcomeLaws.{operation_goes}
 use Rattle.isl_eval.specs.Tests.{is_test}

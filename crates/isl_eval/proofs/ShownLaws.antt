@@ -1,11 +1,11 @@
 -- What is kept of expressions, and what is shown of them.
-use Rattle.std.proofs.Common.{◌≡◌, ◌∙◌, ◌↔◌, ◌⊎◌, ◌≤◌, inl, inr, refl, sym, ap, ap₂, subst, arith, get_or, take, ◌+◌}
+use Rattle.std.proofs.Common.{◌≡◌, ◌∙◌, ◌↔◌, inl, inr, refl, sym, ap, ap₂, subst, take, ◌+◌}
 use Rattle.std.proofs.Common.{ℕ, ℤ, Bool, true, false, List, [], ◌∷◌, ◌++◌, length, Option, Some, Result, Ok, Err}
 use Rattle.std.specs.Prelude.{unsigned_abs, ◌||◌, if◌then◌else◌}
 use Rattle.std.specs.List.{All, list_any}
 use Rattle.std.proofs.lemmas.Bool.{false≢true, or_parts}
 use Rattle.std.specs.List.{slice_get}
-use Rattle.std.proofs.lemmas.List.{length-append, map-append, take_more}
+use Rattle.std.proofs.lemmas.List.{map-append, take_more}
 use Rattle.std.proofs.lemmas.Option.{get_or_from_slice_get, slice_get_within}
 use Rattle.std.proofs.lemmas.List.Elements.{All-nil, All-append}
 use Rattle.std.proofs.lemmas.List.Folds.{list_any-append}
@@ -22,7 +22,6 @@ use Rattle.isl_scan.specs.declared.fault.ScanFault.TheVariants as scan_fault
 use Rattle.isl_scan.specs.Fault.{IsScanFault}
 use Rattle.isl_scan.specs.Listing.{IsListingOf}
 use Rattle.isl_text.specs.declared.refusal.Refusal.{Refusal}
-use Rattle.isl_text.specs.declared.refusal.Refusal.TheVariants as r
 use Rattle.isl_lower.specs.Value.{IsWellFormedLiteral}
 use Rattle.isl_tree.specs.declared.tree.Literal.{Literal}
 use Rattle.isl_expr.specs.declared.tree.Binary.{Binary}

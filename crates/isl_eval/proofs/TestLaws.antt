@@ -11,7 +11,7 @@ use Rattle.isl_meter.specs.declared.Cut.TheVariants.{NoMemory}
 use Rattle.isl_meter.proofs.CutLemmas.{IsCharged_refl, IsCharged_trans, IsCutBy-after}
 use Rattle.isl_space.specs.Limits.{most_parameters}
 use Rattle.isl_space.specs.Name.{Name}
-use Rattle.isl_space.specs.Names.{AreDistinct, joined}
+use Rattle.isl_space.specs.Names.{joined}
 use Rattle.isl_union.specs.KeptValue.{KeptValue, Has, IsKeptValue}
 use Rattle.isl_union.specs.Fault.{IsFaultBy}
 use Rattle.isl_union.specs.declared.fault.OpFault.{OpFault}
@@ -41,7 +41,7 @@ use Rattle.isl_values.proofs.PartLaws.{quiet_both}
 use Rattle.isl_values.proofs.RowLaws.{same_row, same_trans}
 use Rattle.isl_values.proofs.ValueLaws.{numbers_later, paid_works, unworked_after}
 use Rattle.isl_eval.specs.Tests.{Elements, is_test, ends_with_test, IsPartOf, TestHolds, HoldsPastLinks}
-use Rattle.isl_eval.specs.Machine.{Answer, Shows, ShowsRow, ShowsValue, told}
+use Rattle.isl_eval.specs.Machine.{Answer, Shows, ShowsRow, told}
 use Rattle.isl_eval.specs.Evaluated.{shown_parts, parts_around_test}
 use Rattle.isl_eval.specs.Evaluation.{IsTestOf, past_row}
 use Rattle.isl_eval.specs.Evaluation.{ends_with_test as ends}

@@ -4,7 +4,7 @@ use Rattle.std.proofs.Common.{All, ap, sym, subst, refl, arith, pow_mono}
 use Rattle.std.specs.Prelude.{length}
 use Rattle.std.specs.Str.{bytes_eq}
 use Rattle.std.proofs.lemmas.Bool.{false≢true}
-use Rattle.std.proofs.lemmas.List.Elements.{All-nil, All-cons, All-head, All-tail}
+use Rattle.std.proofs.lemmas.List.Elements.{All-head, All-tail}
 use Rattle.std.proofs.lemmas.List.{length-append}
 use Rattle.isl_math.proofs.ListLaws.{All-parts}
 use Rattle.std.proofs.lemmas.Slice.Eq.{bytes_eq-Decides}
@@ -21,14 +21,13 @@ use Rattle.isl_token.specs.Spelling.{Spells}
 use Rattle.isl_tree.specs.declared.tree.Literal.{Literal}
 use Rattle.isl_tree.specs.Known.{literal_is_known}
 use Rattle.isl_text.specs.Read.{has_wide_number}
-use Rattle.isl_lower.specs.Value.{IsWellFormedLiteral}
 use Rattle.isl_lower.proofs.ValueLaws.{same_elements}
 use Rattle.isl_expr.specs.declared.tree.Stmt.{Stmt}
 use Rattle.isl_expr.specs.declared.tree.Stmt.TheVariants.{Empty, Bind, Show}
 use Rattle.isl_expr.specs.declared.tree.Expr.{Expr}
 use Rattle.isl_expr.specs.declared.tree.Expr as e
 use Rattle.isl_expr.specs.Expr.{literals_of, statement_literals}
-use Rattle.isl_space.specs.Limits.{most_leaves, most_parameters}
+use Rattle.isl_space.specs.Limits.{most_leaves}
 use Rattle.isl_eval.specs.Unsupported.{is_unsupported}
 use Rattle.isl_flat.proofs.SimpleLaws.{literals_kept}
 use Rattle.isl_stmt.specs.StatementGrammar.{statement_grammar}
@@ -39,17 +38,16 @@ use Rattle.isl_text.specs.declared.refusal.Refusal.{Refusal}
 use Rattle.isl_text.specs.declared.refusal.Refusal.TheVariants.{UnknownName, WrongKind, NoElement}
 use Rattle.isl_values.specs.State.{Kept, Moment, StateView, Binds, unbound, kept_of, scope_of, forgotten}
 use Rattle.isl_values.specs.Selection.{Keeps}
-use Rattle.isl_values.specs.Formed.{FormsTooWide}
+use Rattle.isl_values.specs.Ends.{GoesOn}
 use Rattle.isl_eval.specs.Spelled.{BytesSpell, OfStatement, OfTokens}
 use Rattle.isl_flat.specs.Flat.{flat}
-use Rattle.isl_flat.specs.Simple.{statement_declared}
-use Rattle.isl_eval.specs.Causes.{AreDone, IsClear, IsFormedTooWide, IsInfinite, IsUnbounded, IsValid, Stops, is_parametric}
+use Rattle.isl_eval.specs.Ended.{StatementEnds}
+use Rattle.isl_eval.specs.Causes.{AreDone, IsClear, IsEnded, IsValid, Stops, is_parametric}
 use Rattle.isl_eval.specs.Machine.{Answer, Step, Steps, nothing, shown}
 use Rattle.isl_eval.specs.Run.{Answers}
 use Rattle.isl_eval.proofs.CauseLaws.{of_tokens, of_statement, one as one_spelled}
 use Rattle.isl_token.proofs.LexLaws.{lexed}
 use Rattle.isl_eval.proofs.LiteralLaws.{IsSpelled, literals_spelled}
-use Rattle.isl_values.proofs.KeptLaws.{declared_itself}
 use Rattle.isl_values.proofs.ForgetLaws.{kept_of_dollar, kept_of_forgotten}
 use Rattle.isl_round_trip.specs.Tree.{printed_tree}
 use Rattle.isl_round_trip.specs.Written.{HasFewRemainders, IsOfKind}
@@ -126,16 +124,6 @@ module _ (moment : Moment) (bits : moment.meter.bits ≤ 127) (value : KeptValue
   no_error : (refusal : Refusal) → ¬ OfStatement (printed value) (λ stmt. type_of_statement (scope_of moment.state) stmt ≡ Err refusal)
   no_error refusal there = ok_err (sym typed ∙ at_text (λ stmt. type_of_statement (scope_of moment.state) stmt ≡ Err refusal) there)
 
-  few_declared : length (declared_of (scope_of moment.state) (e.Literal (printed_tree value))) ≤ most_parameters
-  few_declared =
-      let itself = declared_itself (printed_tree value).params reads.well_formed.params.distinct in
-      subst (λ (names : List Name). length names ≤ most_parameters) (sym itself) reads.well_formed.params.few
-
-  not_wide : ¬ OfStatement (printed value) (λ stmt. most_parameters < length (statement_declared (scope_of moment.state) stmt))
-  not_wide there =
-      let wide = at_text (λ stmt. most_parameters < length (statement_declared (scope_of moment.state) stmt)) there in
-      absurd (omega (arith, few_declared, wide))
-
   small_numbers : ¬ OfTokens (printed value) (λ ts. has_wide_number (limit_of moment.meter) ts ≡ true)
   small_numbers there =
       is_not _ (narrow (2 ^ moment.meter.bits - 1) below value writable small)
@@ -162,7 +150,7 @@ module _ (moment : Moment) (bits : moment.meter.bits ≤ 127) (value : KeptValue
                     no_error NoElement,
                     (
                       (λ there. is_not _ refl (at_text (λ stmt. is_parametric (scope_of moment.state) moment.at stmt ≡ true) there)),
-                      (not_wide, tt),
+                      tt,
                     ),
                   ),
                 ),
@@ -174,7 +162,7 @@ module _ (moment : Moment) (bits : moment.meter.bits ≤ 127) (value : KeptValue
     ),
   )
 
-  -- the text stops only at the literal, which lists nothing, and forms no space
+  -- the text stops only at the literal, which ends nothing
   at_next : (P : Moment → Stmt → Type 0) → OfStatement (printed value) (λ stmt. Stops moment stmt P)
       → (now : Moment) × P now (Show (e.Literal (printed_tree value)))
   at_next P there =
@@ -182,14 +170,11 @@ module _ (moment : Moment) (bits : moment.meter.bits ≤ 127) (value : KeptValue
       let literal = next_alone (Show (e.Literal (printed_tree value))) stops.done stops.later stops.next stops.split in
       (stops.now, subst (P stops.now) literal stops.stops)
 
-  text_bounded : ¬ IsUnbounded moment (printed value)
-  text_bounded there = (at_next IsInfinite there).1
-
-  text_narrow : ¬ IsFormedTooWide moment (printed value)
-  text_narrow there = (at_next (λ now next. FormsTooWide now.state next) there).1
+  text_goes_on : GoesOn (IsEnded moment (printed value))
+  text_goes_on why there = (at_next (λ now next. StatementEnds now next why) there).1
 
   pub text_valid : IsShallow (printed value) → HasFewRemainders value → IsValid moment (printed value)
-  text_valid shallow few = record { clear = text_clear shallow few; bounded = text_bounded; narrow = text_narrow }
+  text_valid shallow few = record { clear = text_clear shallow few; goes_on = text_goes_on }
 
   -- the text spells no other statement, and each value that is read of it has the same text
   pub text_answered : (answer : Answer) → answer ≡ shown value → (last : Moment) (other : Answer)

@@ -24,7 +24,6 @@ place_of_cause c.unknown_name = refl
 place_of_cause c.wrong_kind = refl
 place_of_cause c.no_element = refl
 place_of_cause c.parametric = refl
-place_of_cause c.wide_join = refl
 
 place_of_first : (There : Cause → Type 0) (all : List Cause) (refusal : Refusal) → FirstGives There all refusal
     → place_of refusal ≡ in_statement

@@ -12,6 +12,7 @@ use Rattle.isl_text.specs.declared.refusal.Refusal.{Refusal}
 use Rattle.isl_text.specs.declared.refusal.Refusal.TheVariants.{Usage, TooLong, Unfinished, Overflow, Budget, ReadFault, WriteFault}
 use Rattle.isl_text.specs.declared.refusal.Refusal.TheVariants.{NoMemory, ScriptTooLong, TooWide, Unbounded}
 use Rattle.isl_values.specs.State.{Moment}
+use Rattle.isl_values.specs.Ends.{too_wide, unbounded}
 use Rattle.isl_eval.specs.Causes.{Cause, FirstGives, IsThere, IsValid, NoneIs, Refuses, causes}
 use Rattle.isl_eval.specs.Run.{started}
 use Rattle.isl_session.specs.declared.fault.Fault.{Fault}
@@ -48,10 +49,10 @@ no_cause : (before : Moment) (bytes : List ℕ) (now : Gauge) → IsValid before
 no_cause before bytes now valid no_overflow no_spent NoMemory cause = refl
 no_cause before bytes now valid no_overflow no_spent Overflow cause = absurd (no_overflow cause.2.cause.0)
 no_cause before bytes now valid no_overflow no_spent Budget cause = absurd (no_spent cause.2.cause.1)
-no_cause before bytes now valid no_overflow no_spent Unbounded cause = absurd (valid.bounded cause.1)
+no_cause before bytes now valid no_overflow no_spent Unbounded cause = absurd (valid.goes_on unbounded cause.1)
 no_cause before bytes now valid no_overflow no_spent TooWide (inl cause) =
     absurd (no_first (IsThere before bytes) causes TooWide valid.clear cause.0)
-no_cause before bytes now valid no_overflow no_spent TooWide (inr cause) = absurd (valid.narrow cause.1)
+no_cause before bytes now valid no_overflow no_spent TooWide (inr cause) = absurd (valid.goes_on too_wide cause.1)
 no_cause before bytes now valid no_overflow no_spent refusal cause =
     absurd (no_first (IsThere before bytes) causes refusal valid.clear cause.0)
 

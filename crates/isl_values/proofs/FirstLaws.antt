@@ -1,5 +1,5 @@
 -- What ends first, and what goes on.
-use Rattle.std.proofs.Common.{◌↔◌, ◌⊎◌, inl, inr, List}
+use Rattle.std.proofs.Common.{◌↔◌, inl, inr, List}
 use Rattle.isl_space.specs.Name.{Name}
 use Rattle.isl_values.specs.Ends.{End, too_wide, unbounded, NoEnd, GoesOn, FirstEnds, OperationEnds}
 

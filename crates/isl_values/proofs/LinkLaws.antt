@@ -10,7 +10,7 @@ use Rattle.isl_operators.specs.Operations.{OperatorHas}
 use Rattle.isl_operators.specs.Formed.{OperatorForms, PairsWide}
 use Rattle.isl_operators.specs.Made.{IsOperatorOf, operator_works}
 use Rattle.isl_kinds.specs.Parts.{parts_of, parts_of_links}
-use Rattle.isl_kinds.specs.Typed.{declared_of, declared_of_row, joined_names}
+use Rattle.isl_kinds.specs.Typed.{declared_of_row, joined_names}
 use Rattle.isl_values.specs.State.{StateView, scope_of}
 use Rattle.isl_values.specs.Selection.{Selects, RowSelects}
 use Rattle.isl_values.specs.Worked.{IsWorkedRow}

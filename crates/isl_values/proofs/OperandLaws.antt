@@ -1,5 +1,5 @@
 -- What is worked out of an expression, of what is worked out of its operands.
-use Rattle.std.proofs.Common.{◌≡◌, ◌∙◌, ◌⊎◌, inl, inr, Bool, false, List, [], All, sym, ap, ap₂, subst}
+use Rattle.std.proofs.Common.{◌≡◌, ◌∙◌, inl, inr, Bool, false, List, [], All, sym, ap, ap₂, subst}
 use Rattle.std.specs.Prelude.{unsigned_abs}
 use Rattle.isl_meter.specs.Gauge.{Gauge, limit_of}
 use Rattle.isl_space.specs.Name.{Name}

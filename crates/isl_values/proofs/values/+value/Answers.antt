@@ -1,7 +1,7 @@
 use Rattle.std.proofs.Common.{◌∙◌, ◌<◌, length, ap, sym, subst, refl, arith, rules}
 use Rattle.std.specs.Option.{option_copied}
 use Rattle.isl_meter.specs.Gauge.{limit_of}
-use Rattle.isl_union.specs.KeptValue.{KeptValue, HasNoDefinitions}
+use Rattle.isl_union.specs.KeptValue.{HasNoDefinitions}
 use Rattle.isl_kinds.specs.Typed.{has_unknown}
 use Rattle.isl_values.specs.State.{scope_of}
 use Rattle.isl_values.specs.Ends.{Ends}
