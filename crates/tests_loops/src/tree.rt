@@ -44,11 +44,21 @@ fn row_of(alloc: Global, kind: RowKind, written: &str) -> Result<Row, AllocError
         RowKind::Divides | RowKind::NotDivides => numbers.pop().unwrap_or(Int::ONE),
     };
     let constant = numbers.pop().unwrap_or(Int::ZERO);
-    Ok(Row::new(kind, Coefs::from_slice(alloc, numbers.as_slice())?, constant, divisor))
+    Ok(Row::new(
+        kind,
+        Coefs::from_slice(alloc, numbers.as_slice())?,
+        constant,
+        divisor,
+    ))
 }
 
 // What the last sums make: `floor` and `ceil` divide one by `size`, `min` and `max` take as many.
-fn atom_of(alloc: Global, sums: &mut Vec<Expr>, word: &str, size: i128) -> Result<Option<Atom>, AllocError> {
+fn atom_of(
+    alloc: Global,
+    sums: &mut Vec<Expr>,
+    word: &str,
+    size: i128,
+) -> Result<Option<Atom>, AllocError> {
     let count = usize::try_from(size).unwrap_or(0);
     match word {
         "at" => Ok(Some(Atom::Column(count))),
@@ -67,7 +77,12 @@ fn atom_of(alloc: Global, sums: &mut Vec<Expr>, word: &str, size: i128) -> Resul
 }
 
 // Adds an atom to the sum before those that it takes.
-fn add_item(alloc: Global, sums: &mut Vec<Expr>, word: &str, rest: &str) -> Result<Option<()>, AllocError> {
+fn add_item(
+    alloc: Global,
+    sums: &mut Vec<Expr>,
+    word: &str,
+    rest: &str,
+) -> Result<Option<()>, AllocError> {
     let (coef, size) = rest.split_once(':').unwrap_or((rest, "0"));
     let (Ok(coef), Ok(size)) = (coef.parse::<i128>(), size.parse::<i128>()) else {
         return Ok(None);
@@ -119,7 +134,12 @@ fn call(alloc: Global, parts: &mut Parts, written: &str) -> Result<Option<Loop>,
 }
 
 // What a word that makes a tree makes.
-fn loop_of(alloc: Global, parts: &mut Parts, word: &str, rest: &str) -> Result<Option<Loop>, AllocError> {
+fn loop_of(
+    alloc: Global,
+    parts: &mut Parts,
+    word: &str,
+    rest: &str,
+) -> Result<Option<Loop>, AllocError> {
     match word {
         "for" => loop_over(alloc, parts, rest),
         "if" => condition(alloc, parts),
@@ -136,7 +156,10 @@ fn loop_of(alloc: Global, parts: &mut Parts, word: &str, rest: &str) -> Result<O
 fn add(alloc: Global, parts: &mut Parts, written: &str) -> Result<Option<()>, AllocError> {
     let (word, rest) = written.split_once(':').unwrap_or((written, ""));
     if let Ok(constant) = written.parse::<i128>() {
-        parts.sums.push(Expr { items: Items::new(alloc), constant })?;
+        parts.sums.push(Expr {
+            items: Items::new(alloc),
+            constant,
+        })?;
         return Ok(Some(()));
     }
     if let Some(kind) = kind_of(word) {
@@ -158,7 +181,11 @@ fn add(alloc: Global, parts: &mut Parts, written: &str) -> Result<Option<()>, Al
 ///
 /// Where memory ends.
 pub(crate) fn tree_of(alloc: Global, written: &str) -> Result<Option<Loop>, AllocError> {
-    let mut parts = Parts { sums: Vec::new(alloc), rows: Rows::new(alloc), loops: Vec::new(alloc) };
+    let mut parts = Parts {
+        sums: Vec::new(alloc),
+        rows: Rows::new(alloc),
+        loops: Vec::new(alloc),
+    };
     for word in written.split(' ') {
         if add(alloc, &mut parts, word)?.is_none() {
             return Ok(None);
