@@ -1,0 +1,12 @@
+pub mod Both
+pub mod Cases
+pub mod Comparison
+pub mod Left
+pub mod Ordered
+pub use Rattle.isl_relation.specs.Formed
+pub use Rattle.isl_relation.specs.Orders
+pub use Rattle.isl_relation.specs.Point
+pub use Rattle.isl_relation.specs.Together
+pub use Rattle.isl_relation.specs.Wide
+pub use Rattle.isl_union.specs.KeptValue
+pub use Rattle.isl_union.specs.Numbers

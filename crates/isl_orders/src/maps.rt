@@ -1,0 +1,155 @@
+//! Images of maps in lexicographic order.
+
+ghost use Rattle.std.specs.Prelude.{◌≡◌, ◌↔◌, IfOk};
+ghost use Rattle.isl_space.specs.Element.{Element};
+ghost use Rattle.isl_space.specs.Names.{joined};
+ghost use Rattle.isl_space.specs.Valuation.{Valuation};
+ghost use Rattle.isl_relation.specs.Together.{IsFormedFrom};
+ghost use Rattle.isl_relation.specs.Wide.{PairsTooWide};
+ghost use Rattle.isl_union.specs.KeptValue.{Has, HasNoDefinitions, IsKeptValue};
+ghost use Rattle.isl_union.specs.Numbers.{IsWithinLimit};
+ghost use Rattle.isl_relation.specs.Formed.{FormsAccess};
+ghost use Rattle.isl_relation.specs.Orders.{ComesAfter, ComesBefore, IsDownTo, IsUpTo, OrderedMapsHas};
+
+use crate::order::{Comparison, Operands, Order};
+use crate::values::ordered;
+use isl_meter::Meter;
+use isl_union::{OpFault, Value};
+use std::alloc::Global;
+
+/// From x to y, where the first map has an image of x, and the second one of y, of one shape, and the one of x is less, over the joined
+/// parameters. Each pair of maps to one shape uses a unit for each of its coordinates, and those that elimination takes. Pieces that are
+/// sets give nothing. (isl manual, lexicographic order)
+///
+/// # Errors
+///
+/// As every call under a meter; and `TooWide` exactly where the two together declare more than 16 parameters, or a space that is
+/// formed is too wide, unless memory ends: no unit is used then.
+pub fn less_maps(alloc: Global, a: &Value, b: &Value, meter: &mut Meter) -> Result<Value, OpFault>
+    requires own { IsWithinLimit meter.old a.now }
+    requires other { IsWithinLimit meter.old b.now }
+
+    // The value, and what it has.
+    ensures kept { IfOk result IsKeptValue }
+    ensures params { IfOk result (λ value. value.params ≡ joined a.now.params b.now.params) }
+    ensures elements { (valuation : Valuation) (element : Element)
+        → IfOk result (λ value. Has value valuation element
+        ↔ OrderedMapsHas ComesBefore (Has a.now valuation) (Has b.now valuation) element) }
+
+    // How it is written, and what that cost.
+    ensures definitions { HasNoDefinitions a.now → HasNoDefinitions b.now → IfOk result HasNoDefinitions }
+    ensures numbers { IfOk result (IsWithinLimit meter.old) }
+    ensures units { IsFormedFrom (joined a.now.params b.now.params) (PairsTooWide FormsAccess a.now b.now) 0
+        meter.old meter.new result }
+{
+    let comparison = Comparison {
+        operands: Operands::Maps,
+        order: Order::Less,
+    };
+    ordered(alloc, comparison, a, b, meter)
+}
+
+/// The same, where the image of x is not greater; one unit more is used for each pair. (isl manual, lexicographic order)
+///
+/// # Errors
+///
+/// As every call under a meter; and `TooWide` exactly where the two together declare more than 16 parameters, or a space that is
+/// formed is too wide, unless memory ends: no unit is used then.
+pub fn less_eq_maps(
+    alloc: Global,
+    a: &Value,
+    b: &Value,
+    meter: &mut Meter,
+) -> Result<Value, OpFault>
+    requires own { IsWithinLimit meter.old a.now }
+    requires other { IsWithinLimit meter.old b.now }
+
+    // The value, and what it has.
+    ensures kept { IfOk result IsKeptValue }
+    ensures params { IfOk result (λ value. value.params ≡ joined a.now.params b.now.params) }
+    ensures elements { (valuation : Valuation) (element : Element)
+        → IfOk result (λ value. Has value valuation element
+        ↔ OrderedMapsHas IsUpTo (Has a.now valuation) (Has b.now valuation) element) }
+
+    // How it is written, and what that cost.
+    ensures definitions { HasNoDefinitions a.now → HasNoDefinitions b.now → IfOk result HasNoDefinitions }
+    ensures numbers { IfOk result (IsWithinLimit meter.old) }
+    ensures units { IsFormedFrom (joined a.now.params b.now.params) (PairsTooWide FormsAccess a.now b.now) 0
+        meter.old meter.new result }
+{
+    let comparison = Comparison {
+        operands: Operands::Maps,
+        order: Order::UpTo,
+    };
+    ordered(alloc, comparison, a, b, meter)
+}
+
+/// The same, where the image of x is greater. (isl manual, lexicographic order)
+///
+/// # Errors
+///
+/// As every call under a meter; and `TooWide` exactly where the two together declare more than 16 parameters, or a space that is
+/// formed is too wide, unless memory ends: no unit is used then.
+pub fn greater_maps(
+    alloc: Global,
+    a: &Value,
+    b: &Value,
+    meter: &mut Meter,
+) -> Result<Value, OpFault>
+    requires own { IsWithinLimit meter.old a.now }
+    requires other { IsWithinLimit meter.old b.now }
+
+    // The value, and what it has.
+    ensures kept { IfOk result IsKeptValue }
+    ensures params { IfOk result (λ value. value.params ≡ joined a.now.params b.now.params) }
+    ensures elements { (valuation : Valuation) (element : Element)
+        → IfOk result (λ value. Has value valuation element
+        ↔ OrderedMapsHas ComesAfter (Has a.now valuation) (Has b.now valuation) element) }
+
+    // How it is written, and what that cost.
+    ensures definitions { HasNoDefinitions a.now → HasNoDefinitions b.now → IfOk result HasNoDefinitions }
+    ensures numbers { IfOk result (IsWithinLimit meter.old) }
+    ensures units { IsFormedFrom (joined a.now.params b.now.params) (PairsTooWide FormsAccess a.now b.now) 0
+        meter.old meter.new result }
+{
+    let comparison = Comparison {
+        operands: Operands::Maps,
+        order: Order::Greater,
+    };
+    ordered(alloc, comparison, a, b, meter)
+}
+
+/// The same, where the image of x is not less; one unit more is used for each pair. (isl manual, lexicographic order)
+///
+/// # Errors
+///
+/// As every call under a meter; and `TooWide` exactly where the two together declare more than 16 parameters, or a space that is
+/// formed is too wide, unless memory ends: no unit is used then.
+pub fn greater_eq_maps(
+    alloc: Global,
+    a: &Value,
+    b: &Value,
+    meter: &mut Meter,
+) -> Result<Value, OpFault>
+    requires own { IsWithinLimit meter.old a.now }
+    requires other { IsWithinLimit meter.old b.now }
+
+    // The value, and what it has.
+    ensures kept { IfOk result IsKeptValue }
+    ensures params { IfOk result (λ value. value.params ≡ joined a.now.params b.now.params) }
+    ensures elements { (valuation : Valuation) (element : Element)
+        → IfOk result (λ value. Has value valuation element
+        ↔ OrderedMapsHas IsDownTo (Has a.now valuation) (Has b.now valuation) element) }
+
+    // How it is written, and what that cost.
+    ensures definitions { HasNoDefinitions a.now → HasNoDefinitions b.now → IfOk result HasNoDefinitions }
+    ensures numbers { IfOk result (IsWithinLimit meter.old) }
+    ensures units { IsFormedFrom (joined a.now.params b.now.params) (PairsTooWide FormsAccess a.now b.now) 0
+        meter.old meter.new result }
+{
+    let comparison = Comparison {
+        operands: Operands::Maps,
+        order: Order::DownTo,
+    };
+    ordered(alloc, comparison, a, b, meter)
+}
