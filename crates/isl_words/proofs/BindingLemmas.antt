@@ -11,11 +11,11 @@ use Rattle.std.proofs.lemmas.List.Elements.{All-cons, All-nil}
 use Rattle.std.proofs.lemmas.List.Folds.{list_any_at}
 use Rattle.std.proofs.lemmas.List.Quantifiers.{all_pairs_push}
 use Rattle.std.proofs.lemmas.Slice.Eq.{bytes_eq-Decides}
-use Rattle.isl_space.specs.Name.{Name, IsLiteralName}
+use Rattle.isl_space.specs.Name.{Name, IsIdentifier, is_identifier}
 use Rattle.isl_space.specs.Names.{AreDistinct, is_among}
 use Rattle.isl_space.proofs.NamesLaws.{absent_before}
 use Rattle.isl_words.specs.Number.{whole}
-use Rattle.isl_words.specs.Binding.{is_equals, is_comma, is_name, binding, AreBindings}
+use Rattle.isl_words.specs.Binding.{is_equals, is_comma, binding, AreBindings}
 use Rattle.isl_words.specs.Adding.{is_given, added, all_added}
 use Rattle.isl_words.specs.Taken.{AreGiven}
 use Rattle.isl_words.proofs.NumberLemmas.{some_same, whole_small}
@@ -30,7 +30,7 @@ names_of = map (λ given. given.0)
 
 -- without `=` there is no number
 pub no_equals : (limit : ℕ) (part : List ℕ) → position_or_len is_equals part ≡ length part → None ≡ binding limit part
-no_equals limit part absent = by_test (is_name (before_first is_equals part))
+no_equals limit part absent = by_test (is_identifier (before_first is_equals part))
   where
     nothing : after_first is_equals part ≡ []
     nothing = drop_all (position_or_len is_equals part + 1) part (omega arith)
@@ -44,17 +44,17 @@ no_equals limit part absent = by_test (is_name (before_first is_equals part))
 
 -- what a binding is
 pub binding_is : (limit : ℕ) (part : List ℕ) (given : Binding) → binding limit part ≡ Some given
-    → IsLiteralName given.0 × (unsigned_abs given.1 ≤ limit)
-binding_is limit part given is = by_test (is_name (before_first is_equals part)) (whole limit (after_first is_equals part)) refl refl is
+    → IsIdentifier given.0 × (unsigned_abs given.1 ≤ limit)
+binding_is limit part given is = by_test (is_identifier (before_first is_equals part)) (whole limit (after_first is_equals part)) refl refl is
   where
-    by_test : (named : Bool) (z : Option ℤ) → is_name (before_first is_equals part) ≡ named → whole limit (after_first is_equals part) ≡ z
+    by_test : (named : Bool) (z : Option ℤ) → is_identifier (before_first is_equals part) ≡ named → whole limit (after_first is_equals part) ≡ z
         → (if named then option_map (λ y. (before_first is_equals part, y)) z else None) ≡ Some given
-        → IsLiteralName given.0 × (unsigned_abs given.1 ≤ limit)
+        → IsIdentifier given.0 × (unsigned_abs given.1 ≤ limit)
     by_test false z named value is = absurd (cc)
     by_test true None named value is = absurd (cc)
     by_test true (Some z) named value is =
         let same = some_same (before_first is_equals part, z) given is in
-        subst (λ (g : Binding). IsLiteralName g.0
+        subst (λ (g : Binding). IsIdentifier g.0
         × (unsigned_abs g.1 ≤ limit)) same (named, whole_small limit (after_first is_equals part) z value)
 
 -- ---- names
@@ -147,8 +147,8 @@ added_bindings limit text at is =
 
 -- names may stand in a literal, and numbers are within the limit
 pub bindings_are : (limit : ℕ) (parts : List (List ℕ)) (at : List Binding) → map (binding limit) parts ≡ map (λ given. Some given) at
-    → All (λ given. IsLiteralName given.0) at × All (λ given. unsigned_abs given.1 ≤ limit) at
-bindings_are limit [] [] are = (All-nil (λ given. IsLiteralName given.0), All-nil (λ given. unsigned_abs given.1 ≤ limit))
+    → All (λ given. IsIdentifier given.0) at × All (λ given. unsigned_abs given.1 ≤ limit) at
+bindings_are limit [] [] are = (All-nil (λ given. IsIdentifier given.0), All-nil (λ given. unsigned_abs given.1 ≤ limit))
 bindings_are limit [] (given ∷ at) are = absurd (cc)
 bindings_are limit (part ∷ parts) [] are = absurd (cc)
 bindings_are limit (part ∷ parts) (given ∷ at) are =
@@ -156,7 +156,7 @@ bindings_are limit (part ∷ parts) (given ∷ at) are =
     let rest : map (binding limit) parts ≡ map (λ g. Some g) at = cc in
     let here = binding_is limit part given first in
     let more = bindings_are limit parts at rest in
-    (All-cons (λ g. IsLiteralName g.0) given at here.0 more.0, All-cons (λ g. unsigned_abs g.1 ≤ limit) given at here.1 more.1)
+    (All-cons (λ g. IsIdentifier g.0) given at here.0 more.0, All-cons (λ g. unsigned_abs g.1 ≤ limit) given at here.1 more.1)
 
 -- ---- a loop over the parts
 

@@ -5,7 +5,7 @@ use Rattle.std.specs.List.{slice_split}
 use Rattle.std.proofs.lemmas.List.Elements.{All-nil}
 use Rattle.clap.specs.Walk.{Row, Text, first_of}
 use Rattle.clap.specs.Simple.{matches_of}
-use Rattle.isl_space.specs.Name.{IsLiteralName}
+use Rattle.isl_space.specs.Name.{IsIdentifier}
 use Rattle.isl_words.specs.Binding.{is_comma}
 use Rattle.isl_words.specs.Options.{OptionsView, AreNumbers, IsChoice}
 use Rattle.isl_words.specs.Options.{least_bits, most_bits, usual_bits, least_budget, most_budget, usual_budget}
@@ -30,7 +30,7 @@ given_once limit (Some text) a b first second = some_same a b (sym (bindings_add
 
 pub none_numbered : (limit : ℕ) → AreNumbers limit []
 none_numbered limit = record {
-  named = All-nil (λ g. IsLiteralName g.0);
+  named = All-nil (λ g. IsIdentifier g.0);
   distinct = λ i j d before within. absurd (omega arith);
   small = All-nil (λ g. unsigned_abs g.1 ≤ limit);
 }

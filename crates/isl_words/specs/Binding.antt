@@ -1,7 +1,7 @@
 -- public: names with numbers, as the command line gives them.
-use Rattle.std.specs.Prelude.{◌≡◌, ℕ, ℤ, ◌==◌, ◌&&◌, Bool, not, if◌then◌else◌, List, map, Option, Some, None, option_map}
+use Rattle.std.specs.Prelude.{◌≡◌, ℕ, ℤ, ◌==◌, Bool, if◌then◌else◌, List, map, Option, Some, None, option_map}
 use Rattle.std.specs.List.{slice_split, before_first, after_first}
-use Rattle.isl_space.specs.Name.{Name, is_identifier, is_reserved}
+use Rattle.isl_space.specs.Name.{Name, is_identifier}
 use Rattle.isl_space.specs.Names.{AreDistinct}
 use Rattle.isl_words.specs.Number.{whole}
 
@@ -11,15 +11,11 @@ is_equals b = b == 61
 abbrev pub is_comma : ℕ → Bool
 is_comma b = b == 44
 
--- an identifier that may stand in a literal
-abbrev pub is_name : List ℕ → Bool
-is_name text = is_identifier text && not (is_reserved text)
-
--- NAME=INT: a name stands before the first `=`, and a whole number within the limit behind it
+-- NAME=INT: an identifier stands before the first `=`, and a whole number within the limit behind it
 abbrev pub binding : ℕ → List ℕ → Option (Name × ℤ)
 binding limit text =
     let name = before_first is_equals text in
-    if is_name name then option_map (λ z. (name, z)) (whole limit (after_first is_equals text)) else None
+    if is_identifier name then option_map (λ z. (name, z)) (whole limit (after_first is_equals text)) else None
 
 -- NAME=INT,..: each of the parts between the commas is a binding, these in their order, and no name stands twice
 pub record AreBindings (limit : ℕ) (text : List ℕ) (at : List (Name × ℤ)) : Type 0 where

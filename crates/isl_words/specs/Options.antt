@@ -1,6 +1,6 @@
 -- public: what the command line chooses.
 use Rattle.std.specs.Prelude.{ℕ, ℤ, ◌-◌, ◌^◌, ◌≤◌, Bool, List, All, map, unsigned_abs}
-use Rattle.isl_space.specs.Name.{Name, IsLiteralName}
+use Rattle.isl_space.specs.Name.{Name, IsIdentifier}
 use Rattle.isl_space.specs.Names.{AreDistinct}
 
 -- the fewest and the most bits that the magnitudes of numbers may have, and how many they have where none are chosen
@@ -30,9 +30,9 @@ pub record OptionsView : Type 0 where
   pub at : List (Name × ℤ)
   pub run : Bool
 
--- names that may stand in a literal, each with one number, whose magnitude is at most the limit
+-- identifiers, each with one number, whose magnitude is at most the limit
 pub record AreNumbers (limit : ℕ) (at : List (Name × ℤ)) : Type 0 where
-  pub named : All (λ given. IsLiteralName given.0) at
+  pub named : All (λ given. IsIdentifier given.0) at
   pub distinct : AreDistinct (map (λ given. given.0) at)
   pub small : All (λ given. unsigned_abs given.1 ≤ limit) at
 

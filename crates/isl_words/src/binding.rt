@@ -1,8 +1,7 @@
 //! Names with numbers, as the command line gives them.
 
-ghost use Rattle.std.specs.Prelude.{◌≡◌, ◌<◌, ◌≤◌, ◌^◌, ◌&&◌, not, [], Some, None, IfOk, if◌then◌else◌, length, map, option_map};
-ghost use Rattle.std.specs.List.{list_all, list_any, prefix_len, slice_split};
-ghost use Rattle.std.specs.Str.{bytes_eq};
+ghost use Rattle.std.specs.Prelude.{◌≡◌, ◌<◌, ◌≤◌, ◌^◌, [], Some, None, IfOk, if◌then◌else◌, length, map, option_map};
+ghost use Rattle.std.specs.List.{list_all, prefix_len, slice_split};
 ghost use Rattle.isl_space.specs.Name as name_spec;
 ghost use Rattle.isl_words.specs.Binding as spec;
 ghost use Rattle.isl_words.specs.Binding.{is_comma};
@@ -11,12 +10,6 @@ ghost use Rattle.isl_words.specs.Adding.{added, all_added, is_given};
 use crate::number::read_whole;
 use isl_space::Name;
 use std::alloc::{AllocError, Global};
-
-/// The words that have a meaning of their own inside a literal.
-const RESERVED: [&[u8]; 12] = [
-    b"and", b"or", b"not", b"implies", b"exists", b"true", b"false", b"mod", b"floor", b"ceil",
-    b"floord", b"ceild",
-];
 
 fn begins_name(byte: u8) -> bool
     ensures { result ≡ name_spec.begins_name byte }
@@ -54,25 +47,6 @@ fn is_identifier(name: &[u8]) -> bool
     !name.is_empty() && begins_name(name[0]) && has_only_primes(&name[stem_len(name)..])
 }
 
-fn is_one_of(words: &[&[u8]], name: &[u8]) -> bool
-    ensures { result ≡ list_any (λ word. bytes_eq name.now word.now) words.now }
-{
-    words.iter().any(|word| name == *word)
-}
-
-fn is_reserved(name: &[u8]) -> bool
-    ensures { result ≡ name_spec.is_reserved name.now }
-{
-    is_one_of(&RESERVED, name)
-}
-
-// Whether the name may stand in a literal.
-fn is_name(name: &[u8]) -> bool
-    ensures { result ≡ spec.is_name name.now }
-{
-    is_identifier(name) && !is_reserved(name)
-}
-
 // What `NAME=INT` writes.
 #[tactic(auto, using(crate::proofs::BindingLemmas::no_equals))]
 fn read_binding(part: &str, limit: u128) -> Option<(&str, i128)>
@@ -82,7 +56,7 @@ fn read_binding(part: &str, limit: u128) -> Option<(&str, i128)>
     let Some((name, number)) = part.split_once('=') else {
         return None;
     };
-    if !is_name(name.as_bytes()) {
+    if !is_identifier(name.as_bytes()) {
         return None;
     }
     let value = read_whole(number.as_bytes(), limit)?;
