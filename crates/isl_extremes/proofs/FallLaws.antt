@@ -2,7 +2,7 @@
 use Rattle.std.proofs.Common.{◌≡◌, ◌≢◌, ◌⊎◌, inl, inr, refl, sym, ap, subst, arith, ℕ, ◌+◌, ◌-◌, ◌<◌, ◌≤◌, ℤ, pos, neg_ℤ, ◌+ℤ◌, ◌-ℤ◌, ◌*ℤ◌}
 use Rattle.std.proofs.Common.{◌≤ℤ◌, ◌<ℤ◌, unsigned_abs, List, [], ◌∷◌, ◌++◌, length, get_or}
 use Rattle.std.specs.List.{All, Any, insert}
-use Rattle.std.proofs.lemmas.List.{get_or_default}
+use Rattle.std.proofs.lemmas.List.{get_or_default, length_push}
 use Rattle.std.proofs.lemmas.List.Edits.{insert_end}
 use Rattle.std.proofs.lemmas.List.Elements.{All-nil, All-cons, All-weaker}
 use Rattle.isl_math.specs.Divide as divide
@@ -23,10 +23,11 @@ use Rattle.isl_omega.proofs.ColumnLemmas.{value_at-insert}
 use Rattle.isl_omega.proofs.MergeLemmas.{product_positive}
 use Rattle.isl_elim.proofs.ProjectionLaws.{plain_free, plain_holds}
 use Rattle.isl_tower.specs.Ends.{EndsBelow, EndsAbove}
-use Rattle.isl_tower.proofs.EndLaws.{Allows, high_number, low_number, reach_rest, row_reach, rows_moved}
+use Rattle.isl_tower.proofs.EndLaws.{Allows, rows_moved}
 use Rattle.isl_blocks.specs.declared.cases.Direction.{Direction}
 use Rattle.isl_blocks.specs.declared.cases.Direction.TheVariants.{Before, After}
 use Rattle.isl_extremes.specs.Systems.{signed, HasEnd, IsClosedOn}
+use Rattle.isl_extremes.proofs.NumberLaws.{high_number, low_number, reach_rest, row_reach}
 
 -- ---- one row
 abbrev EndsOn : Direction → RowKind → ℤ → Type 0
@@ -98,10 +99,10 @@ goes_on d g t w plain none q x b l h =
     let large = multiple_large p n (product_positive t.columns t.rows w.rows) (omega (arith, linear)) in
     let m = p *ℤ n in
     let step = signed d (neg_ℤ m) in
-    let open = no_end d (length q) t.rows none' in
+    let ends_not = no_end d (length q) t.rows none' in
     let allows : All (λ r. Allows r.kind r.k (coef_at r (length q)) step) t.rows = λ i e k.
     let r = get_or t.rows i e in
-    allowed d r.kind r.k (coef_at r (length q)) m (open i e k) (omega (arith, linear))
+    allowed d r.kind r.k (coef_at r (length q)) m (ends_not i e k) (omega (arith, linear))
     (steps_divide d r.k m (Divides-*ℤ r.k p n (divide_product t.rows i e k))) in
     let there = rows_moved t.columns (length q) t.rows q x step w.rows (omega (arith, free, l)) (omega arith) allows rows in (
       x +ℤ step,
@@ -149,10 +150,7 @@ bounded_on d g t w plain closed q l = elim closed [
             (reach_rest (total q) (length q) r q (total_up q)) (rw e at (rows some.0 some.1 some.2)),
       )
   | inr nowhere ↦ (
-      pos 0,
-      λ x h. absurd (nowhere (q ++ x ∷ []) (let k = long x in omega (arith, k, l)) h),
-    )
+    pos 0,
+    λ x h. absurd (nowhere (q ++ x ∷ []) (let k = length_push q x in omega (arith, k, l)) h),
+  )
 ]
-  where
-    long : (x : ℤ) → length (q ++ x ∷ []) ≡ length q + 1
-    long x = grind arith

@@ -100,9 +100,12 @@ module _ (d : Direction) (w : ℕ) (P : List ℤ → Type 0) (long : (ys : List 
 
   -- what stands at all places is first
   pub first_from : (ys : List ℤ) → Stands d P w ys → IsFirst d P ys
-  first_from ys s = (s.is, λ us q before.
-      let at = ahead_at d us ys (long us q ∙ sym (long ys s.is)) before in
-      s.unbeaten at.0 us (let l = at.1 in let n = long ys s.is in omega (arith, l, n)) q at.2)
+  first_from ys s = (
+    s.is,
+    λ us q before.
+        let at = ahead_at d us ys (long us q ∙ sym (long ys s.is)) before in
+        s.unbeaten at.0 us (let l = at.1 in let n = long ys s.is in omega (arith, l, n)) q at.2,
+  )
 
   pub first_stands : (ys : List ℤ) → IsFirst d P ys → Stands d P w ys
   first_stands ys first = record {
@@ -122,9 +125,9 @@ module _ (d : Direction) (w : ℕ) (P : List ℤ → Type 0) (long : (ys : List 
   -- ---- a first one
   module _
       (decided : (i : ℕ) (ys : List ℤ) → i < w → Stands d P i ys
-          → ((zs : List ℤ) × P zs × DiffersAt d i zs ys) ⊎ ((zs : List ℤ) → P zs → ¬ DiffersAt d i zs ys))
+      → ((zs : List ℤ) × P zs × DiffersAt d i zs ys) ⊎ ((zs : List ℤ) → P zs → ¬ DiffersAt d i zs ys))
       (low : (i : ℕ) (ys : List ℤ) → i < w → Stands d P i ys
-          → (b : ℤ) × ((zs : List ℤ) → Stands d P i zs → take i zs ≡ take i ys → b ≤ℤ signed d (get_or zs i (pos 0)))) where
+      → (b : ℤ) × ((zs : List ℤ) → Stands d P i zs → take i zs ≡ take i ys → b ≤ℤ signed d (get_or zs i (pos 0)))) where
     one_place : (i : ℕ) → i < w → (b : ℤ) (n : ℕ) (ys : List ℤ) → Stands d P i ys
         → ((zs : List ℤ) → Stands d P i zs → take i zs ≡ take i ys → b ≤ℤ signed d (get_or zs i (pos 0)))
         → signed d (get_or ys i (pos 0)) <ℤ (b +ℤ pos n)

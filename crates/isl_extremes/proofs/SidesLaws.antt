@@ -27,14 +27,20 @@ lowest P (x ∷ xs) all =
     let first = All-head B x xs all in
     let rest = lowest P xs (All-tail B x xs all) in
     elim (at_most_or_above first.0 rest.0) [
-      | inl l ↦ (first.0, λ y some. elim (Any-cases (λ z. P z y) x xs some) [
-        | inl here ↦ first.1 y here
-        | inr later ↦ let m = rest.1 y later in omega (arith, linear)
-      ])
-      | inr g ↦ (rest.0, λ y some. elim (Any-cases (λ z. P z y) x xs some) [
-        | inl here ↦ let m = first.1 y here in omega (arith, linear)
-        | inr later ↦ rest.1 y later
-      ])
+      | inl l ↦ (
+        first.0,
+        λ y some. elim (Any-cases (λ z. P z y) x xs some) [
+          | inl here ↦ first.1 y here
+          | inr later ↦ let m = rest.1 y later in omega (arith, linear)
+        ],
+      )
+      | inr g ↦ (
+        rest.0,
+        λ y some. elim (Any-cases (λ z. P z y) x xs some) [
+          | inl here ↦ let m = first.1 y here in omega (arith, linear)
+          | inr later ↦ rest.1 y later
+        ],
+      )
     ]
 
 -- no element is without P, and so not all together are
@@ -71,7 +77,6 @@ last_split xs n l = sym (take_all (n + 1) xs (omega (arith, l))) ∙ take_more x
 module _ (g : Gauge) (order : Order) (at : ℕ) (s : System) (free : free_columns s ≡ order.front + order.width) (inside : at < order.width)
     (cols : List ℕ) (are : cols ≡ range_with_len (order.front + at + 1) (free_columns s - (order.front + at + 1))) (left : List System)
     (projection : IsProjectionAlong s cols left) (within : All (IsSystemWithin g) left) (plain : All (λ t. t.definitions ≡ []) left) where
-
   parts : free_columns s ≡ (order.front + at + 1) + (free_columns s - (order.front + at + 1))
   parts = omega (arith, free, inside)
 
@@ -113,7 +118,7 @@ module _ (g : Gauge) (order : Order) (at : ℕ) (s : System) (free : free_column
   -- a system that is not closed has no point, where the numbers never fall
   nowhere : NeverFalls order at s → (k : ℕ) (e : System) (l : k < length left) → ¬ IsClosedOn order.direction (get_or left k e)
       → (point : List ℤ) → length point ≡ free_columns (get_or left k e) → ¬ HoldsSystem (get_or left k e) point
-  nowhere never k e l open point long h =
+  nowhere never k e l unclosed point long h =
       let t = get_or left k e in
       let c = shadow_columns k e l in
       let n = order.front + at in
@@ -128,7 +133,7 @@ module _ (g : Gauge) (order : Order) (at : ℕ) (s : System) (free : free_column
       let before_long : length before ≡ at = omega (arith, dropped, q_long) in
       let cut : front ++ before ≡ q = take-append-drop order.front q in
       let lift : (y : ℤ) → HoldsSystem t (q ++ y ∷ []) → (behind : List ℤ) × (length behind ≡ free_columns s - (order.front + at + 1))
-          × HoldsSystem s (front ++ (before ++ y ∷ behind)) = λ y holds.
+      × HoldsSystem s (front ++ (before ++ y ∷ behind)) = λ y holds.
       let push = length_push q y in
       let some = (points (q ++ y ∷ []) (omega (arith, push, q_long))).0
       (Any-contains (λ u. HoldsSystem u (q ++ y ∷ [])) left t (Contains-get_or left k e l) holds) in
@@ -136,12 +141,12 @@ module _ (g : Gauge) (order : Order) (at : ℕ) (s : System) (free : free_column
       ap (λ zs. (zs ++ y ∷ []) ++ some.0) (sym cut) ∙ sym (between_join front before some.0 y) in
       (some.0, some.1, subst (HoldsSystem s) whole some.2) in
       let wide : (y : ℤ) (behind : List ℤ) → length behind ≡ free_columns s - (order.front + at + 1)
-          → length (before ++ y ∷ behind) ≡ order.width = λ y behind m.
+      → length (before ++ y ∷ behind) ≡ order.width = λ y behind m.
       let b = between_long before behind y in omega (arith, b, before_long, m, free, inside) in
       let own = lift x (subst (HoldsSystem t) same h) in
       let first = between_take before own.0 x at before_long in
       never front (before ++ x ∷ own.0) front_long (wide x own.0 own.1) own.2 (λ b.
-      let y = goes_on order.direction g t (within k e l) (plain k e l) (λ end. open (inl end)) q x b (omega (arith, q_long, c))
+      let y = goes_on order.direction g t (within k e l) (plain k e l) (λ end. unclosed (inl end)) q x b (omega (arith, q_long, c))
       (subst (HoldsSystem t) same h) in
       let more = lift y.0 y.2 in (
         before ++ y.0 ∷ more.0,
@@ -152,12 +157,12 @@ module _ (g : Gauge) (order : Order) (at : ℕ) (s : System) (free : free_column
       ))
 
   pub falls_from : ¬ All (IsClosedOn order.direction) left → ¬ NeverFalls order at s
-  falls_from open never = all_together (IsClosedOn order.direction) left
-      (λ k e l not_closed. not_closed (inr (nowhere never k e l not_closed))) open
+  falls_from unclosed never = all_together (IsClosedOn order.direction) left
+      (λ k e l not_closed. not_closed (inr (nowhere never k e l not_closed))) unclosed
 
   -- the answer of one system
   pub answered : (answer : Bool) → (IsTrue answer ↔ All (IsClosedOn order.direction) left) → AreAnswered order at (s ∷ []) answer
   answered answer exact = record {
-    ended = λ yes. All-cons (IsEnded order at) s [] (ended_from (exact.0 yes)) (All-nil (IsEnded order at));
-    falls = λ no all. falls_from (λ closed. no (exact.1 closed)) (All-head (NeverFalls order at) s [] all);
+    ended = λ t. All-cons (IsEnded order at) s [] (ended_from (exact.0 t)) (All-nil (IsEnded order at));
+    falls = λ n all. falls_from (λ closed. n (exact.1 closed)) (All-head (NeverFalls order at) s [] all);
   }

@@ -1,7 +1,7 @@
 //! Where other numbers are ahead.
 
 ghost use Rattle.std.specs.Prelude.{◌≡◌, ◌+◌, ◌<◌, ◌^◌, [], ◌∷◌, IfOk};
-ghost use Rattle.isl_meter.specs.Gauge.{Gauge, IsMetered};
+ghost use Rattle.isl_meter.specs.Gauge.{IsMetered};
 ghost use Rattle.isl_piece.specs.System.{IsSystemWithin, free_columns};
 ghost use Rattle.isl_extremes.specs.Beaten.{IsWithAhead};
 ghost use Rattle.isl_extremes.specs.Systems.{AreBeaten, ArePlain};
@@ -14,12 +14,21 @@ use std::alloc::{AllocError, Global};
 
 // The system over the front and two lists of numbers that holds where the other one does at the front and the second list, and this is
 // ahead of the first one at the place.
-fn with_ahead(alloc: Global, system: &System, order: Order, at: usize) -> Result<System, AllocError>
+fn with_ahead(
+    alloc: Global,
+    system: &System,
+    order: Order,
+    at: usize,
+    meter: &Meter,
+) -> Result<System, AllocError>
+    requires within { IsSystemWithin meter.now system.now }
     requires free { free_columns system.now ≡ order.front + order.width }
     requires at { at < order.width }
     requires fits { order.front + (order.width + order.width) < 2 ^ 64 }
-    ensures { (g : Gauge) → 8 ≤ g.bits → IsSystemWithin g system.now → IfOk result (IsWithAhead g order at system.now) }
+    ensures { IfOk result (IsWithAhead meter.now order at system.now) }
 {
+    // For what a meter keeps: it has at least 8 bits.
+    let _limit = meter.limit();
     let widths = [order.front, order.width, order.width];
     let moved = spread(alloc, system, &widths, &[0, 2])?;
     let case = order_case(alloc, &widths, 2, 1, at, order.direction)?;
@@ -42,9 +51,7 @@ fn beaten(
     ensures beaten { IfOk result (λ found. AreBeaten meter.old order at (system.now ∷ []) found.items) }
     ensures meter { IsMetered meter.old meter.new result }
 {
-    // For what a meter keeps: it has at least 8 bits.
-    let _limit = meter.limit();
-    let both = with_ahead(alloc, system, order, at)?;
+    let both = with_ahead(alloc, system, order, at, meter)?;
     live_without(alloc, &both, order.front + order.width, order.width, meter)
 }
 

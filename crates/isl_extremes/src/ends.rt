@@ -65,6 +65,7 @@ fn are_closed(
 }
 
 // Whether the number at the place ends on the side, where the front and the numbers before it are given.
+#[tactic(auto, using(std::proofs::lemmas::Grind::common_steps, isl_meter::proofs::CutLemmas::charges))]
 fn is_ended(
     alloc: Global,
     system: &System,
@@ -79,7 +80,8 @@ fn is_ended(
     ensures answer { IfOk result (AreAnswered order at (system.now ∷ [])) }
     ensures meter { IsMetered meter.old meter.new result }
 {
-    let columns = columns_between(alloc, order.front + at + 1, system.free())?;
+    let free = system.free();
+    let columns = columns_between(alloc, order.front + at + 1, free)?;
     let left = eliminate_all(alloc, system, columns.as_slice(), meter)?;
     are_closed(alloc, left.as_slice(), order.direction, meter)
 }

@@ -1,11 +1,14 @@
 //! The first elements of pieces.
 
-ghost use Rattle.std.specs.Prelude.{◌≡◌, ◌+◌, ◌∷◌, [], All, IfOk, map};
+ghost use Rattle.std.specs.Prelude.{◌≡◌, ◌↔◌, ◌+◌, ◌∷◌, [], IfOk};
+ghost use Rattle.isl_space.specs.Element.{Element};
 ghost use Rattle.isl_space.specs.Names.{IsParameterList};
+ghost use Rattle.isl_space.specs.Valuation.{Valuation};
+ghost use Rattle.isl_relation.specs.Extremes.{FirstHas, HasFirst};
 ghost use Rattle.isl_space.specs.Space.{space_form_of};
-ghost use Rattle.isl_space.specs.SpaceForm.{IsWellFormedSpace, coordinates_of};
+ghost use Rattle.isl_space.specs.SpaceForm.{IsWellFormedSpace};
 ghost use Rattle.isl_extremes.specs.Fault.{IsLexAnswer};
-ghost use Rattle.isl_extremes.specs.Pieces.{front_of, ordered_width, AreFirstIn, ArePlainPieces, ThereIsFirst};
+ghost use Rattle.isl_extremes.specs.Pieces.{elements_of_all, front_of, order_of, ordered_width, AreFirstIn, ArePlainPieces, ThereIsFirst};
 
 use crate::LexFault;
 use crate::systems::{Order, first_systems};
@@ -73,8 +76,10 @@ pub(crate) fn first_pieces(
 ) -> Result<Vec<Piece>, LexFault>
     requires names { IsParameterList params.now }
     requires pieces { ArePlainPieces meter.old params.now pieces.now }
-    ensures first { IfOk result (λ made. AreFirstIn meter.old params.now direction (map (λ piece. piece.space) pieces.now) pieces.now made.items) }
-    ensures meter { IsLexAnswer (All (ThereIsFirst params.now direction pieces.now) (map (λ piece. piece.space) pieces.now))
+    ensures made { IfOk result (λ made. ArePlainPieces meter.old params.now made.items) }
+    ensures elements { (valuation : Valuation) (element : Element) → IfOk result (λ made. elements_of_all params.now made.items valuation element
+        ↔ FirstHas (order_of direction) (elements_of_all params.now pieces.now valuation) element) }
+    ensures meter { IsLexAnswer ((valuation : Valuation) → HasFirst (order_of direction) (elements_of_all params.now pieces.now valuation))
         meter.old meter.new result }
 {
     let spaces = distinct_spaces(alloc, pieces)?;

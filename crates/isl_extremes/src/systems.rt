@@ -56,6 +56,7 @@ fn all_outside(
 }
 
 // What stands of the lists of the systems at one more place, from those that stood before it.
+#[tactic(auto, using(std::proofs::lemmas::Grind::common_steps, isl_meter::proofs::CutLemmas::charges))]
 fn unbeaten(
     alloc: Global,
     standing: &[System],
