@@ -20,3 +20,7 @@ pub later_fault : (Missing Own : Type 0) → (Own → Missing) → (g h k : Gaug
     → IsLexFault Missing g k fault
 later_fault Missing Own to g h k lex_fault.NoMinimum charged is = (to is.0, IsCharged_trans g h k charged is.1)
 later_fault Missing Own to g h k (lex_fault.Cut cut) charged is = IsCutBy-after g h k cut charged is
+
+pub same_fault : (Missing Own : Type 0) → (Own → Missing) → (g k : Gauge) (fault : LexFault) → IsLexFault Own g k fault → IsLexFault Missing g k fault
+same_fault Missing Own to g k lex_fault.NoMinimum is = (to is.0, is.1)
+same_fault Missing Own to g k (lex_fault.Cut cut) is = is

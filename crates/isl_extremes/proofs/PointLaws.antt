@@ -1,7 +1,8 @@
 -- First points, and the first lists of numbers that systems of pieces leave.
-use Rattle.std.proofs.Common.{◌≡◌, ◌↔◌, ◌⊎◌, inl, inr, refl, sym, ap, ap₂, ◌∙◌, subst, arith, ℕ, ◌+◌, ◌<◌, ◌≤◌, ℤ, List, [], ◌∷◌, ◌++◌}
+use Rattle.std.proofs.Common.{◌≡◌, ◌↔◌, ◌⊎◌, inl, inr, refl, sym, ap, ap₂, ◌∙◌, subst, arith, ℕ, ◌+◌, ◌<◌, ◌≤◌, ℤ, Bool, true, false, List, [], ◌∷◌, ◌++◌}
 use Rattle.std.proofs.Common.{append_assoc, length, length-append, take, drop, take-append-drop, zip}
 use Rattle.std.specs.List.{All, Any}
+use Rattle.std.proofs.lemmas.Bool.{false≢true}
 use Rattle.std.proofs.lemmas.List.{drop_at, length-drop, length-take-le, take_at}
 use Rattle.isl_meter.specs.Gauge.{Gauge}
 use Rattle.isl_space.specs.Element.{Element}
@@ -37,13 +38,17 @@ ordered_to : (d : Direction) (z x : Point) → order_of d z x → (z.form ≡ x.
 ordered_to Before z x h = (h.form, h.before)
 ordered_to After z x h = (sym h.form, h.before)
 
-last_form : SpaceForm → Form
+abbrev last_form : SpaceForm → Form
 last_form (set_of form) = form
 last_form (map_of from to) = to
 
-first_form : SpaceForm → Form
+abbrev first_form : SpaceForm → Form
 first_form (set_of form) = form
 first_form (map_of from to) = from
+
+abbrev is_map : SpaceForm → Bool
+is_map (set_of form) = false
+is_map (map_of from to) = true
 
 -- ---- at a valuation
 module _ (params : List Name) (pieces : List PieceView) (d : Direction) (v : Valuation) where
@@ -120,16 +125,10 @@ module _ (params : List Name) (pieces : List PieceView) (d : Direction) (v : Val
   set_point form xs x e = ap (λ (f : Element). let p : Point = record { form = last_form f.space; numbers = f.coordinates } in p) e
 
   no_set : (from to : Form) (xs : List ℤ) (x : Point) → element_in (map_of from to) xs ≡ set_element x → ⊥
-  no_set from to xs x e = by (ap (λ (f : Element). f.space) e)
-    where
-      by : map_of from to ≡ set_of x.form → ⊥
-      by same = absurd same
+  no_set from to xs x e = false≢true (sym (ap (λ (f : Element). is_map f.space) e))
 
   no_map : (form : Form) (xs : List ℤ) (x y : Point) → element_in (set_of form) xs ≡ map_element x y → ⊥
-  no_map form xs x y e = by (ap (λ (f : Element). f.space) e)
-    where
-      by : set_of form ≡ map_of x.form y.form → ⊥
-      by same = absurd same
+  no_map form xs x y e = false≢true (ap (λ (f : Element). is_map f.space) e)
 
   pub first_elements : (g : Gauge) (space : SpaceForm) (xs : List ℤ) (left : List System) → length xs ≡ coordinates_of space
       → AreFirst g (order_at params space d) (systems_in space pieces) left

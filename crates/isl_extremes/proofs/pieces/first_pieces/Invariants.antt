@@ -5,4 +5,4 @@ use Rattle.isl_extremes.proofs.pieces.first_pieces.Given as goal
 
 abbrev pub invariant-loop-space : goal.invariant-loop-space
 invariant-loop-space l =
-    AreFirstSoFar l.fn.meter l.meter l.params l.direction (map space_form_of (take l.space-index l.spaces.items)) l.pieces l.made.items
+    AreFirstSoFar l.fn.meter l.meter l.params l.direction (map space_form_of (take l.space-index l.space-items)) l.pieces l.made.items
