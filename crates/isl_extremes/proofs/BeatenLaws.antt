@@ -1,7 +1,6 @@
 -- Where other lists are ahead, as systems say it.
-use Rattle.std.proofs.Common.{◌≡◌, ◌↔◌, refl, sym, ap, ap₂, ◌∙◌, subst, arith, ℕ, ◌+◌, ◌≤◌, ℤ, List, [], ◌∷◌, ◌++◌, append-nil, append_assoc}
+use Rattle.std.proofs.Common.{◌≡◌, ◌↔◌, sym, ap, ◌∙◌, subst, arith, ℕ, ◌+◌, ◌≤◌, ℤ, List, [], ◌∷◌, ◌++◌, append-nil, append_assoc}
 use Rattle.std.proofs.Common.{length, length-append, Result, IfOk}
-use Rattle.std.specs.List.{All, Any}
 use Rattle.isl_math.proofs.ListLaws.{Any-first, Any-one}
 use Rattle.isl_meter.specs.Gauge.{Gauge}
 use Rattle.isl_piece.specs.declared.system.System.{System}
@@ -13,7 +12,7 @@ use Rattle.isl_blocks.specs.Left.{IsLeftWithout}
 use Rattle.isl_blocks.proofs.ResultLaws.{ok_case, ok_has}
 use Rattle.isl_extremes.specs.declared.systems.Order.{Order}
 use Rattle.isl_extremes.specs.Beaten.{IsWithAhead}
-use Rattle.isl_extremes.specs.Systems.{AreBeaten, AreBehind}
+use Rattle.isl_extremes.specs.Systems.{AreBeaten}
 
 -- the front, and two lists
 abbrev pub widths_in : Order → List ℕ

@@ -1,5 +1,5 @@
 -- A column without an end on a side goes on there for ever; one with an end is bounded there.
-use Rattle.std.proofs.Common.{◌≡◌, ◌≢◌, ◌⊎◌, inl, inr, refl, sym, ap, subst, arith, ℕ, ◌+◌, ◌-◌, ◌<◌, ◌≤◌, ℤ, pos, neg_ℤ, ◌+ℤ◌, ◌-ℤ◌, ◌*ℤ◌}
+use Rattle.std.proofs.Common.{◌≡◌, ◌≢◌, inl, inr, refl, sym, subst, arith, ℕ, ◌+◌, ◌-◌, ℤ, pos, neg_ℤ, ◌+ℤ◌, ◌-ℤ◌, ◌*ℤ◌}
 use Rattle.std.proofs.Common.{◌≤ℤ◌, ◌<ℤ◌, unsigned_abs, List, [], ◌∷◌, ◌++◌, length, get_or}
 use Rattle.std.specs.List.{All, Any, insert}
 use Rattle.std.proofs.lemmas.List.{get_or_default, length_push}
@@ -16,7 +16,7 @@ use Rattle.isl_piece.specs.declared.row.RowKind.TheVariants.{Zero, AtLeast, Divi
 use Rattle.isl_piece.specs.declared.row.Row.{Row}
 use Rattle.isl_piece.specs.declared.system.System.{System}
 use Rattle.isl_piece.specs.Row.{HoldsValue, coef_at}
-use Rattle.isl_piece.specs.System.{HoldRows, HoldsSystem, IsSystemWithin, free_columns}
+use Rattle.isl_piece.specs.System.{HoldsSystem, IsSystemWithin, free_columns}
 use Rattle.isl_omega.specs.Column.{rest_at}
 use Rattle.isl_omega.specs.Congruence.{product_of_divisors}
 use Rattle.isl_omega.proofs.ColumnLemmas.{value_at-insert}

@@ -1,14 +1,13 @@
 -- A first list is found place by place, and there is none where some place has no end.
 use Rattle.std.proofs.Common.{◌≡◌, ◌⊎◌, inl, inr, refl, sym, ap, ◌∙◌, subst, arith, ℕ, zero, suc, ◌+◌, ◌<◌, ◌≤◌, ℤ, pos, ◌<ℤ◌, ◌≤ℤ◌, ◌-ℤ◌, ◌+ℤ◌}
-use Rattle.std.proofs.Common.{neg_ℤ, List, [], ◌∷◌, length, get_or, take, unsigned_abs}
+use Rattle.std.proofs.Common.{List, [], ◌∷◌, length, get_or, take, unsigned_abs}
 use Rattle.std.proofs.lemmas.Bool.{cases_lt}
 use Rattle.std.proofs.lemmas.List.{get_or-take}
-use Rattle.isl_math.specs.Order.{IsBefore}
-use Rattle.isl_math.proofs.Ring.{expand, linear}
+use Rattle.isl_math.proofs.Ring.{linear}
 use Rattle.isl_math.proofs.OrderLaws.{IsBefore-cases, at_most_or_above}
 use Rattle.isl_blocks.specs.declared.cases.Direction.{Direction}
 use Rattle.isl_blocks.specs.declared.cases.Direction.TheVariants.{Before, After}
-use Rattle.isl_blocks.specs.Cases.{DiffersAt, IsBeforeAt}
+use Rattle.isl_blocks.specs.Cases.{DiffersAt}
 use Rattle.isl_blocks.proofs.CaseLaws.{at_before, before_at}
 use Rattle.isl_extremes.specs.Systems.{signed, IsAhead, IsFirst, Stands}
 

@@ -1,35 +1,32 @@
 -- The pieces of first elements, space after space.
-use Rattle.std.proofs.Common.{◌≡◌, ◌↔◌, inl, inr, refl, sym, ap, ◌∙◌, subst, arith, ℕ, ◌+◌, ◌*◌, ◌^◌, ◌<◌, ◌≤◌, List, [], ◌∷◌, ◌++◌}
+use Rattle.std.proofs.Common.{◌≡◌, ◌↔◌, inl, inr, refl, sym, ap, ◌∙◌, subst, arith, ℕ, ◌+◌, ◌^◌, ◌<◌, List, [], ◌∷◌, ◌++◌}
 use Rattle.std.proofs.Common.{length, get_or, map, take}
 use Rattle.std.specs.List.{All, Any}
-use Rattle.std.proofs.lemmas.List.{map-append, take_all, take_more}
+use Rattle.std.proofs.lemmas.List.{map-append, take_more}
 use Rattle.std.proofs.lemmas.List.Elements.{All-append, All-cons, All-map, All-nil}
 use Rattle.isl_math.proofs.ListLaws.{Any-first, Any-left, Any-none, Any-one, Any-parts, Any-right, Any-unmapped, Any-weaker}
 use Rattle.isl_meter.specs.Gauge.{Gauge, IsCharged}
 use Rattle.isl_meter.proofs.CutLemmas.{IsCharged_trans}
 use Rattle.isl_space.specs.Element.{Element, IsElement}
-use Rattle.isl_space.specs.Form.{width_of}
 use Rattle.isl_space.specs.Name.{Name}
 use Rattle.isl_space.specs.Names.{IsParameterList}
 use Rattle.isl_space.specs.Space.{space_form_of}
 use Rattle.isl_space.specs.declared.space.Space.{Space}
-use Rattle.isl_space.specs.SpaceForm.{SpaceForm, IsWellFormedSpace, coordinates_of, map_of, set_of}
-use Rattle.isl_space.specs.Valuation.{Valuation, values_of}
+use Rattle.isl_space.specs.SpaceForm.{SpaceForm, IsWellFormedSpace, map_of, set_of}
+use Rattle.isl_space.specs.Valuation.{Valuation}
 use Rattle.isl_piece.specs.declared.system.System.{System}
 use Rattle.isl_piece.specs.Piece.{PieceView}
 use Rattle.isl_piece.specs.System.{HoldsSystem, IsSystemWithin, free_columns}
 use Rattle.isl_piece.proofs.FormedLaws.{system_within_kept}
 use Rattle.isl_elim.specs.Sample.{IsNowhere}
-use Rattle.isl_elim.proofs.ProjectionLaws.{any_mapped}
 use Rattle.isl_difference.specs.Split.{IsLive}
-use Rattle.isl_union.specs.KeptValue.{KeptPiece, KeptValue, Has, HasElement, columns_of}
+use Rattle.isl_union.specs.KeptValue.{HasElement, columns_of}
 use Rattle.isl_union.specs.Minus.{piece_in, systems_in}
-use Rattle.isl_union.specs.Numbers.{AreWithinLimit}
 use Rattle.isl_union.specs.Piece.{kept_piece, piece_of, IsPieceOf}
 use Rattle.isl_union.proofs.MinusLaws.{parts_have, systems_all, view_somewhere}
 use Rattle.isl_union.proofs.SystemLaws.{columns_from, kept_from, system_is, view_free}
-use Rattle.isl_relation.specs.Extremes.{FirstHas, HasFirst, HasFirstEverywhere, IsFirstImage, IsFirstOf}
-use Rattle.isl_relation.specs.Point.{Point, HasPoint, Relates, map_element, set_element}
+use Rattle.isl_relation.specs.Extremes.{FirstHas, HasFirst, IsFirstImage, IsFirstOf}
+use Rattle.isl_relation.specs.Point.{Point, map_element, set_element}
 use Rattle.isl_by_space.specs.Spaces.{AreSpacesOf}
 use Rattle.isl_blocks.specs.declared.cases.Direction.{Direction}
 use Rattle.isl_extremes.specs.Pieces.{elements_of_all, front_of, order_of, ordered_width, AreFirstIn, AreFirstSoFar, ArePlainPieces, ThereIsFirst}

@@ -1,7 +1,6 @@
 -- First points, and the first lists of numbers that systems of pieces leave.
-use Rattle.std.proofs.Common.{◌≡◌, ◌↔◌, ◌⊎◌, inl, inr, refl, sym, ap, ap₂, ◌∙◌, subst, arith, ℕ, ◌+◌, ◌<◌, ◌≤◌, ℤ, Bool, true, false, List, [], ◌∷◌, ◌++◌}
+use Rattle.std.proofs.Common.{◌≡◌, ◌↔◌, inl, inr, refl, sym, ap, ap₂, ◌∙◌, subst, arith, ℤ, Bool, true, false, List, ◌++◌}
 use Rattle.std.proofs.Common.{append_assoc, length, length-append, take, drop, take-append-drop, zip}
-use Rattle.std.specs.List.{All, Any}
 use Rattle.std.proofs.lemmas.Bool.{false≢true}
 use Rattle.std.proofs.lemmas.List.{drop_at, length-drop, length-take-le, take_at}
 use Rattle.isl_meter.specs.Gauge.{Gauge}
@@ -18,11 +17,11 @@ use Rattle.isl_elim.specs.Elimination.{HoldsAtAny}
 use Rattle.isl_union.specs.Minus.{systems_in}
 use Rattle.isl_union.proofs.MinusLaws.{in_space}
 use Rattle.isl_relation.specs.Extremes.{FirstHas, IsFirstImage, IsFirstOf}
-use Rattle.isl_relation.specs.Point.{Point, HasPoint, IsPoint, Relates, map_element, set_element}
+use Rattle.isl_relation.specs.Point.{Point, IsPoint, map_element, set_element}
 use Rattle.isl_blocks.specs.declared.cases.Direction.{Direction}
 use Rattle.isl_blocks.specs.declared.cases.Direction.TheVariants.{Before, After}
 use Rattle.isl_extremes.specs.declared.systems.Order.{Order}
-use Rattle.isl_extremes.specs.Pieces.{elements_of_all, front_of, order_of, ordered_width, HasFirstIn, ThereIsFirst}
+use Rattle.isl_extremes.specs.Pieces.{elements_of_all, front_of, order_of, ordered_width, ThereIsFirst}
 use Rattle.isl_extremes.specs.Systems.{AreBehind, AreFirst, HaveFirst, IsAhead, IsFirst}
 
 -- ---- points

@@ -1,12 +1,12 @@
 -- Whether the number at a place ends on a side, told by systems without the columns behind it.
-use Rattle.std.proofs.Common.{◌≡◌, ◌↔◌, ◌⊎◌, inl, inr, refl, sym, ap, ap₂, ◌∙◌, subst, arith, ℕ, ◌+◌, ◌-◌, ◌<◌, ◌≤◌, ℤ, pos, ◌≤ℤ◌, ◌<ℤ◌}
+use Rattle.std.proofs.Common.{◌≡◌, ◌↔◌, inl, inr, refl, sym, ap, ◌∙◌, subst, arith, ℕ, ◌+◌, ◌-◌, ◌<◌, ℤ, pos, ◌≤ℤ◌, ◌<ℤ◌}
 use Rattle.std.proofs.Common.{Bool, List, [], ◌∷◌, ◌++◌, append_assoc, length, length-append, get_or, take, drop, take-append-drop}
 use Rattle.std.specs.Prelude.{IsTrue}
 use Rattle.std.specs.List.{All, Any, range_with_len}
 use Rattle.std.proofs.lemmas.List.{get_or-append-add, length-drop, length-take-le, length_push, take_all, take_at, take_more}
 use Rattle.std.proofs.lemmas.List.Elements.{All-cons, All-head, All-nil, All-tail}
 use Rattle.isl_math.proofs.Ring.{linear}
-use Rattle.isl_math.proofs.ListLaws.{Any-cases, Any-contains, Any-first, Any-none, Any-weaker}
+use Rattle.isl_math.proofs.ListLaws.{Any-cases, Any-contains, Any-none, Any-weaker}
 use Rattle.isl_math.proofs.OrderLaws.{at_most_or_above}
 use Rattle.isl_meter.specs.Gauge.{Gauge}
 use Rattle.isl_piece.specs.declared.system.System.{System}
@@ -15,7 +15,7 @@ use Rattle.isl_elim.specs.Elimination.{HoldsAtAny, IsProjectionAlong}
 use Rattle.std.proofs.lemmas.List.Elements.{Contains-get_or}
 use Rattle.isl_blocks.proofs.LeftLaws.{left_columns, left_points}
 use Rattle.isl_extremes.specs.declared.systems.Order.{Order}
-use Rattle.isl_extremes.specs.Systems.{signed, AreAnswered, Falls, IsClosedOn, IsEnded, NeverFalls}
+use Rattle.isl_extremes.specs.Systems.{signed, AreAnswered, IsClosedOn, IsEnded, NeverFalls}
 use Rattle.isl_extremes.proofs.FallLaws.{bounded_on, goes_on}
 
 -- the least of the numbers that bound what belongs to elements of a list

@@ -1,8 +1,8 @@
 -- The lists of systems that stand, place after place.
-use Rattle.std.proofs.Common.{◌≡◌, ◌↔◌, ◌⊎◌, inl, inr, refl, sym, ap, ◌∙◌, subst, arith, ℕ, ◌+◌, ◌<◌, ◌≤◌, ℤ, pos, ◌≤ℤ◌, ◌<ℤ◌, Bool}
+use Rattle.std.proofs.Common.{◌≡◌, inl, inr, refl, sym, ap, ◌∙◌, subst, arith, ℕ, ◌+◌, ◌<◌, ◌≤◌, ℤ, pos, ◌≤ℤ◌, Bool}
 use Rattle.std.proofs.Common.{List, [], ◌∷◌, ◌++◌, length, length-append, get_or, take}
 use Rattle.std.specs.Prelude.{IsTrue}
-use Rattle.std.specs.List.{All, Any}
+use Rattle.std.specs.List.{All}
 use Rattle.std.proofs.lemmas.Bool.{cases_lt}
 use Rattle.std.proofs.lemmas.List.{length-take-le, take_all, take_more}
 use Rattle.std.proofs.lemmas.List.Elements.{All-append, All-nil, Contains-get_or}
@@ -11,16 +11,14 @@ use Rattle.isl_meter.specs.Gauge.{Gauge, IsCharged}
 use Rattle.isl_meter.proofs.CutLemmas.{IsCharged_trans}
 use Rattle.isl_piece.specs.declared.system.System.{System}
 use Rattle.isl_piece.specs.System.{HoldsSystem, IsSystemWithin, free_columns}
-use Rattle.isl_elim.specs.Elimination.{HoldsAtAny}
 use Rattle.isl_elim.specs.Sample.{IsNowhere}
 use Rattle.isl_difference.specs.Difference.{IsDifference, IsLeftOf}
 use Rattle.isl_difference.specs.Split.{IsLive}
 use Rattle.isl_difference.proofs.RowCases.{systems_cases}
 use Rattle.isl_difference.proofs.SplitLaws.{live_kept}
-use Rattle.isl_blocks.specs.Cases.{DiffersAt}
 use Rattle.isl_extremes.specs.declared.systems.Order.{Order}
-use Rattle.isl_extremes.specs.Systems.{signed, AreAnswered, AreBeaten, AreBehind, AreEndedTo, AreFirst, AreOutside, ArePlain, AreSoFar, AreStanding}
-use Rattle.isl_extremes.specs.Systems.{Falls, HaveFirst, IsDecided, IsEnded, IsFirst, NeverFalls, Stands}
+use Rattle.isl_extremes.specs.Systems.{signed, AreAnswered, AreBeaten, AreBehind, AreFirst, AreOutside, ArePlain, AreSoFar, AreStanding}
+use Rattle.isl_extremes.specs.Systems.{HaveFirst, IsDecided, IsEnded, Stands}
 use Rattle.isl_extremes.proofs.LeastLaws.{first_from, first_stands, none_first, some_first, stands_first, stands_less, stands_more}
 use Rattle.isl_extremes.proofs.SidesLaws.{lowest}
 

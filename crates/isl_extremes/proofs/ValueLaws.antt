@@ -1,5 +1,5 @@
 -- The value of the pieces of first elements.
-use Rattle.std.proofs.Common.{◌≡◌, ◌↔◌, sym, ap, ◌∙◌, subst, List, [], ◌∷◌, All, Any, get_or, map}
+use Rattle.std.proofs.Common.{◌≡◌, ◌↔◌, sym, ap, subst, List, [], All, Any, get_or, map}
 use Rattle.std.proofs.lemmas.List.Elements.{All-map}
 use Rattle.isl_math.proofs.ListLaws.{All-unmapped}
 use Rattle.isl_meter.specs.Gauge.{Gauge, IsCharged}
@@ -10,7 +10,7 @@ use Rattle.isl_space.specs.Valuation.{Valuation}
 use Rattle.isl_piece.specs.Piece.{PieceView}
 use Rattle.isl_piece.proofs.FormedLaws.{system_within_kept}
 use Rattle.isl_union.specs.KeptValue.{KeptPiece, KeptValue, Has, HasElement, HasNoDefinitions, IsKeptValue}
-use Rattle.isl_union.specs.Numbers.{AreWithinLimit, IsWithinLimit}
+use Rattle.isl_union.specs.Numbers.{IsWithinLimit}
 use Rattle.isl_union.specs.Piece.{kept_piece, IsPieceOf}
 use Rattle.isl_union.proofs.MinusLaws.{left_numbers}
 use Rattle.isl_union.proofs.PieceLaws.{IsKeptValue-from_pieces}

@@ -1,5 +1,5 @@
 -- public: why there are no least or greatest elements.
-use Rattle.std.specs.Prelude.{◌≡◌, MatchResult, Result}
+use Rattle.std.specs.Prelude.{MatchResult, Result}
 use Rattle.isl_meter.specs.Gauge.{Gauge, IsCharged, IsCutBy}
 use Rattle.isl_extremes.specs.declared.fault.LexFault.{LexFault}
 use Rattle.isl_extremes.specs.declared.fault.LexFault.TheVariants.{NoMinimum, Cut}

@@ -1,10 +1,10 @@
-use Rattle.std.proofs.Common.{◌≡◌, ◌<◌, ◌≤◌, refl, sym, subst, arith, ◌+◌, List, length}
+use Rattle.std.proofs.Common.{◌<◌, ◌≤◌, refl, arith, ◌+◌, List, length}
 use Rattle.isl_meter.proofs.CutLemmas.{IsCharged_refl, IsCharged_trans}
 use Rattle.isl_piece.specs.declared.system.System.{System}
 use Rattle.isl_difference.specs.Split.{IsLive}
 use Rattle.isl_difference.proofs.DifferenceLaws.{system_at, system_within}
 use Rattle.isl_extremes.specs.Systems.{AreBeaten}
-use Rattle.isl_extremes.proofs.SystemsLaws.{all_of, beaten_more, beaten_none, plain_free, plain_within, IsPlain}
+use Rattle.isl_extremes.proofs.SystemsLaws.{all_of, beaten_more, beaten_none, plain_within, IsPlain}
 use Rattle.isl_extremes.proofs.beaten.all_beaten.Goals as goal
 
 pub loop-system-init : goal.loop-system-init

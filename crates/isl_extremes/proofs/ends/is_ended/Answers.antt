@@ -3,9 +3,8 @@ use Rattle.std.specs.Prelude.{AllPairs, IsTrue}
 use Rattle.std.specs.List.{All, range_with_len}
 use Rattle.std.proofs.lemmas.Result.{IfOk-weaker}
 use Rattle.isl_piece.specs.declared.system.System.{System}
-use Rattle.isl_piece.specs.System.{IsSystemWithin, free_columns}
+use Rattle.isl_piece.specs.System.{free_columns}
 use Rattle.isl_difference.proofs.SplitLaws.{charged_within}
-use Rattle.isl_elim.specs.Elimination.{IsProjectionAlong}
 use Rattle.isl_elim.proofs.RangeLaws.{range_below, range_distinct}
 use Rattle.isl_blocks.proofs.LeftLaws.{kept_none}
 use Rattle.isl_extremes.specs.Systems.{AreAnswered, IsClosedOn}

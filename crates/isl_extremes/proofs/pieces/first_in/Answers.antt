@@ -1,7 +1,6 @@
-use Rattle.std.proofs.Common.{◌≡◌, ◌<◌, ◌+◌, ◌*◌, ◌^◌, sym, ◌∙◌, subst, List}
+use Rattle.std.proofs.Common.{◌<◌, ◌+◌, ◌^◌, sym, ◌∙◌, subst, List}
 use Rattle.isl_space.specs.Space.{space_form_of}
 use Rattle.isl_piece.specs.declared.system.System.{System}
-use Rattle.isl_union.specs.Minus.{systems_in}
 use Rattle.isl_extremes.specs.declared.systems.Order.{Order}
 use Rattle.std.proofs.lemmas.Result.{err_from_is_err_and}
 use Rattle.isl_extremes.specs.Pieces.{front_of, ordered_width, ThereIsFirst}
