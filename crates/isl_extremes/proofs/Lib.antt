@@ -1,0 +1,11 @@
+pub mod LeastLaws
+pub mod NumberLaws
+pub mod FallLaws
+pub mod SidesLaws
+pub mod SystemsLaws
+pub mod PointLaws
+pub mod PiecesLaws
+pub mod AnswerLaws
+pub mod BeatenLaws
+pub mod FaultLaws
+pub mod ValueLaws
