@@ -53,7 +53,8 @@ pub closed_or_empty : (d : Direction) (s : System) (col : ℕ) (rows : List Row)
 closed_or_empty d s col rows ended is last all told (Ok empty) exact = (
   (λ t. inr (exact.0 t)),
   (λ closed. elim closed [
-    | inl end ↦ absurd (not_true ended is (told.1 (subst (λ n. HasEnd d n rows) (sym last) (subst (HasEnd d (free_columns s - 1)) (sym all) end))))
+    | inl end ↦ absurd (not_true ended is (told.1 (subst (λ n. HasEnd d n rows) (sym last)
+        (subst (HasEnd d (free_columns s - 1)) (sym all) end))))
     | inr nowhere ↦ exact.1 nowhere
   ]),
 )

@@ -22,7 +22,8 @@ abbrev pub second_pick : List ℕ
 second_pick = 0 ∷ 2 ∷ []
 
 module _ (g : Gauge) (order : Order) (at : ℕ) (s : System) (bits : 8 ≤ g.bits) (within : IsSystemWithin g s) (moved case : System)
-    (spreads : IsSpread g (widths_in order) second_pick s moved) (cases : IsCaseOf (widths_in order) 2 1 (DiffersAt order.direction at) case)
+    (spreads : IsSpread g (widths_in order) second_pick s moved) (cases : IsCaseOf (widths_in order) 2 1 (DiffersAt order.direction at)
+    case)
   where
     abbrev Both : System → Type 0
     Both both =
@@ -70,12 +71,15 @@ module _ (g : Gauge) (order : Order) (at : ℕ) (s : System) (bits : 8 ≤ g.bit
         let m = spreads.within in
         let k = cases.within g bits in
         ok_case made (IsWithAhead g order at s) (λ both is. ahead_from both
-        (λ point l. ok_has made both (λ t. HoldsSystem t point ↔ (HoldsSystem moved point × HoldsSystem case point)) is (points g point m k l))
-        (ok_has made both (IsSystemWithin g) is (in_limit g m k)) (ok_has made both (λ t. free_columns t ≡ free_columns moved) is (free g m k))
+        (λ point l. ok_has made both (λ t. HoldsSystem t point ↔ (HoldsSystem moved point × HoldsSystem case point)) is
+        (points g point m k l))
+        (ok_has made both (IsSystemWithin g) is (in_limit g m k)) (ok_has made both (λ t. free_columns t ≡ free_columns moved) is
+        (free g m k))
         (λ e. ok_has made both (λ t. t ≡ over_same_columns moved case) is (same e)))
 
 pub beaten_from : (g : Gauge) (order : Order) (at : ℕ) (s both : System) (found : List System) → s.definitions ≡ []
-    → IsWithAhead g order at s both → IsLeftWithout g both (order.front + order.width) order.width found → AreBeaten g order at (s ∷ []) found
+    → IsWithAhead g order at s both → IsLeftWithout g both (order.front + order.width) order.width found
+    → AreBeaten g order at (s ∷ []) found
 beaten_from g order at s both found plain ahead left = record {
   are = record { live = left.live; plain = left.definitions (ahead.plain plain) };
   points = λ front ys fl yl.
@@ -83,7 +87,8 @@ beaten_from g order at s both found plain ahead left = record {
       let here = left.points (front ++ ys) (omega (arith, n, fl, yl)) in (
         (λ a.
             let some = here.0 a in
-            let both_hold = (ahead.points front ys some.0 fl yl some.1).0 (subst (HoldsSystem both) (append_assoc front ys some.0) some.2) in
+            let both_hold = (ahead.points front ys some.0 fl yl some.1).0 (subst (HoldsSystem both) (append_assoc front ys some.0) some.2)
+            in
             (some.0, (some.1, Any-first (λ t. HoldsSystem t (front ++ some.0)) s [] both_hold.0), both_hold.1)),
         (λ h. here.1 (
           h.0,

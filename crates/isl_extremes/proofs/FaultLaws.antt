@@ -12,7 +12,8 @@ pub cut_fault : (Missing : Type 0) (g h : Gauge) (cut : Cut) (fault : LexFault) 
     → IsLexFault Missing g h fault
 cut_fault Missing g h cut fault is by = rw is by
 
-pub no_memory : (Missing : Type 0) (g h : Gauge) (fault : LexFault) → fault ≡ lex_fault.Cut NoMemory → IsCharged g h → IsLexFault Missing g h fault
+pub no_memory : (Missing : Type 0) (g h : Gauge) (fault : LexFault) → fault ≡ lex_fault.Cut NoMemory → IsCharged g h
+    → IsLexFault Missing g h fault
 no_memory Missing g h fault is charged = rw is (IsCutBy-charged g h charged)
 
 -- a fault after charges; what is missing then is missing here
@@ -21,6 +22,7 @@ pub later_fault : (Missing Own : Type 0) → (Own → Missing) → (g h k : Gaug
 later_fault Missing Own to g h k lex_fault.NoMinimum charged is = (to is.0, IsCharged_trans g h k charged is.1)
 later_fault Missing Own to g h k (lex_fault.Cut cut) charged is = IsCutBy-after g h k cut charged is
 
-pub same_fault : (Missing Own : Type 0) → (Own → Missing) → (g k : Gauge) (fault : LexFault) → IsLexFault Own g k fault → IsLexFault Missing g k fault
+pub same_fault : (Missing Own : Type 0) → (Own → Missing) → (g k : Gauge) (fault : LexFault) → IsLexFault Own g k fault
+    → IsLexFault Missing g k fault
 same_fault Missing Own to g k lex_fault.NoMinimum is = (to is.0, is.1)
 same_fault Missing Own to g k (lex_fault.Cut cut) is = is

@@ -1,5 +1,6 @@
 -- A number at a column with an end, on the side of that end.
-use Rattle.std.proofs.Common.{◌≡◌, ◌≢◌, inl, inr, sym, arith, ℕ, ◌+◌, ◌*◌, ℤ, pos, neg_ℤ, ◌+ℤ◌, ◌*ℤ◌, ◌≤ℤ◌, ◌<ℤ◌, unsigned_abs, List, [], ◌∷◌}
+use Rattle.std.proofs.Common.{◌≡◌, ◌≢◌, inl, inr, sym, arith, ℕ, ◌+◌, ◌*◌, ℤ, pos, neg_ℤ, ◌+ℤ◌, ◌*ℤ◌, ◌≤ℤ◌, ◌<ℤ◌, unsigned_abs, List}
+use Rattle.std.proofs.Common.{[], ◌∷◌}
 use Rattle.std.specs.List.{All, remove}
 use Rattle.std.proofs.lemmas.List.Elements.{All-head, All-tail}
 use Rattle.isl_math.specs.Dot.{dot}
@@ -34,7 +35,8 @@ nought a x f m n u h = elim (cases_ℤ (pos 0) a) [
     turned : (a x f : ℤ) → a *ℤ x +ℤ f ≡ pos 0 → pos 0 ≤ℤ (neg_ℤ a *ℤ x +ℤ neg_ℤ f)
     turned a x f h = let h' = simp expand at h in simp expand (omega (arith, linear))
 
-pub low_number : (kind : RowKind) (k c x f : ℤ) (m : ℕ) → EndsBelow kind c → IsUpTo m f → HoldsValue kind k (c *ℤ x +ℤ f) → neg_ℤ (pos m) ≤ℤ x
+pub low_number : (kind : RowKind) (k c x f : ℤ) (m : ℕ) → EndsBelow kind c → IsUpTo m f → HoldsValue kind k (c *ℤ x +ℤ f)
+    → neg_ℤ (pos m) ≤ℤ x
 low_number Zero k c x f m e u h = nought c x f m e u h
 low_number AtLeast k c x f m e u h = at_least c x f m e u h
 low_number Divides k c x f m e u h = absurd e

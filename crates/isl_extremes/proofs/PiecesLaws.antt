@@ -29,7 +29,8 @@ use Rattle.isl_relation.specs.Extremes.{FirstHas, HasFirst, IsFirstImage, IsFirs
 use Rattle.isl_relation.specs.Point.{Point, map_element, set_element}
 use Rattle.isl_by_space.specs.Spaces.{AreSpacesOf}
 use Rattle.isl_blocks.specs.declared.cases.Direction.{Direction}
-use Rattle.isl_extremes.specs.Pieces.{elements_of_all, front_of, order_of, ordered_width, AreFirstIn, AreFirstSoFar, ArePlainPieces, ThereIsFirst}
+use Rattle.isl_extremes.specs.Pieces.{elements_of_all, front_of, order_of, ordered_width, AreFirstIn, AreFirstSoFar, ArePlainPieces}
+use Rattle.isl_extremes.specs.Pieces.{ThereIsFirst}
 use Rattle.isl_extremes.specs.Systems.{AreFirst, ArePlain}
 use Rattle.isl_extremes.proofs.PointLaws.{first_elements, order_at}
 
@@ -81,7 +82,8 @@ module _ (g : Gauge) (params : List Name) (d : Direction) (space : SpaceForm) (p
       let columns = columns_from g params space s live.within free in
       record {
         columns = columns;
-        kept = kept_from g params (piece_of space s) formed (subst (IsSystemWithin g) (system_is params space s columns) live.within) live.normal
+        kept = kept_from g params (piece_of space s) formed (subst (IsSystemWithin g) (system_is params space s columns) live.within)
+            live.normal
             (λ void. live.somewhere (λ point l. void point (l ∙ sym (columns_parts params space))));
       }
 
@@ -214,7 +216,8 @@ module _ (params : List Name) (d : Direction) (pieces : List PieceView) (spaces 
       )
 
   -- where there is a first one in each of the spaces, there is one everywhere
-  pub there_everywhere : All (ThereIsFirst params d pieces) spaces → (v : Valuation) → HasFirst (order_of d) (elements_of_all params pieces v)
+  pub there_everywhere : All (ThereIsFirst params d pieces) spaces → (v : Valuation)
+      → HasFirst (order_of d) (elements_of_all params pieces v)
   there_everywhere all v = record {
     sets = λ x has.
         let some = lies_there v (set_element x) has.has in

@@ -85,7 +85,8 @@ module _ (g : Gauge) (order : Order) (at : ℕ) (s : System) (free : free_column
 
   -- some of the systems holds where some numbers behind make a point
   points : (point : List ℤ) → length point ≡ order.front + at + 1
-      → HoldsAtAny left point ↔ ((behind : List ℤ) × (length behind ≡ free_columns s - (order.front + at + 1)) × HoldsSystem s (point ++ behind))
+      → HoldsAtAny left point ↔ ((behind : List ℤ) × (length behind ≡ free_columns s - (order.front + at + 1)) × HoldsSystem s
+      (point ++ behind))
   points = left_points s (order.front + at + 1) (free_columns s - (order.front + at + 1)) parts cols are left projection
 
   pub ended_from : All (IsClosedOn order.direction) left → IsEnded order at s

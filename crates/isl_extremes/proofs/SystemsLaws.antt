@@ -42,7 +42,8 @@ plain_append g columns xs ys p q = record {
   plain = All-append IsPlain xs ys p.plain q.plain;
 }
 
-pub plain_kept : (g h : Gauge) (columns : ℕ) (systems : List System) → h.bits ≡ g.bits → ArePlain h columns systems → ArePlain g columns systems
+pub plain_kept : (g h : Gauge) (columns : ℕ) (systems : List System) → h.bits ≡ g.bits → ArePlain h columns systems
+    → ArePlain g columns systems
 plain_kept g h columns systems e p = record {
   live = λ k d l. live_kept g h columns (get_or systems k d) e (p.live k d l);
   plain = p.plain;
@@ -51,7 +52,8 @@ plain_kept g h columns systems e p = record {
 pub plain_within : (g : Gauge) (columns : ℕ) (systems : List System) → ArePlain g columns systems → All (IsSystemWithin g) systems
 plain_within g columns systems p = λ k d l. (p.live k d l).within
 
-pub plain_free : (g : Gauge) (columns : ℕ) (systems : List System) → ArePlain g columns systems → All (λ s. free_columns s ≡ columns) systems
+pub plain_free : (g : Gauge) (columns : ℕ) (systems : List System) → ArePlain g columns systems
+    → All (λ s. free_columns s ≡ columns) systems
 plain_free g columns systems p = λ k d l. (p.live k d l).free
 
 one_more : (systems : List System) (i : ℕ) (s : System) → i < length systems → s ≡ get_or systems i s
@@ -98,7 +100,8 @@ module _ (g h : Gauge) (columns : ℕ) (charged : IsCharged g h) (systems : List
             );
       }))
 
-pub outside_kept : (g h : Gauge) (columns : ℕ) (systems others left : List System) → h.bits ≡ g.bits → AreOutside h columns systems others left
+pub outside_kept : (g h : Gauge) (columns : ℕ) (systems others left : List System) → h.bits ≡ g.bits
+    → AreOutside h columns systems others left
     → AreOutside g columns systems others left
 outside_kept g h columns systems others left e p = record { are = plain_kept g h columns left e p.are; points = p.points }
 
@@ -202,7 +205,8 @@ module _ (order : Order) (systems : List System) where
   }
 
   -- lists that stand are bounded at the place
-  bounded_here : (g : Gauge) (at : ℕ) (left : List System) → at < order.width → AreStanding g order at systems left → All (IsEnded order at) left
+  bounded_here : (g : Gauge) (at : ℕ) (left : List System) → at < order.width → AreStanding g order at systems left
+      → All (IsEnded order at) left
       → (front before : List ℤ) → length front ≡ order.front → length before ≡ at
       → (bound : ℤ) × ((zs : List ℤ) → Stands order.direction (Behind front) at zs → take at zs ≡ before
       → bound ≤ℤ signed order.direction (get_or zs at (pos 0)))

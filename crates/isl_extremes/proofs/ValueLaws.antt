@@ -53,7 +53,8 @@ module _ (a flat : KeptValue) (params : List Name) (pieces : List PieceView) (na
       there_same d (Has a v) (elements_of_all params pieces v) (λ e. let p = pieces_have same v e in (p.1, p.0)) (there v)
 
 -- ---- the value
-module _ (params : List Name) (made : List PieceView) (value : KeptValue) (is : value ≡ record { params = params; pieces = map kept_piece made })
+module _ (params : List Name) (made : List PieceView) (value : KeptValue)
+    (is : value ≡ record { params = params; pieces = map kept_piece made })
   where
     pub value_has : (d : Direction) (M N : Element → Type 0) (v : Valuation) (e : Element) → ((f : Element) → M f ↔ N f)
         → (elements_of_all params made v e ↔ FirstHas (order_of d) M e) → Has value v e ↔ FirstHas (order_of d) N e

@@ -1,6 +1,7 @@
 -- inner: the first of the lists of numbers that systems leave behind others; first are the least or the greatest. (Feautrier, on the
 -- lexicographic minimum)
-use Rattle.std.specs.Prelude.{◌≡◌, ◌↔◌, ◌⊎◌, ◌++◌, ◌+◌, ◌-◌, ◌<◌, ◌≤ℤ◌, ◌<ℤ◌, ℕ, ℤ, pos, neg_ℤ, Bool, IsTrue, List, [], All, get_or, length, take}
+use Rattle.std.specs.Prelude.{◌≡◌, ◌↔◌, ◌⊎◌, ◌++◌, ◌+◌, ◌-◌, ◌<◌, ◌≤ℤ◌, ◌<ℤ◌, ℕ, ℤ, pos, neg_ℤ, Bool, IsTrue, List, [], All, get_or}
+use Rattle.std.specs.Prelude.{length, take}
 use Rattle.isl_math.specs.Order.{IsBefore}
 use Rattle.isl_meter.specs.Gauge.{Gauge, IsCharged}
 use Rattle.isl_piece.specs.declared.row.Row.{Row}
@@ -88,7 +89,8 @@ HasEnd After col rows = HasUpperEnd col rows
 
 -- the last column has an end on the side, or there is no point
 abbrev pub IsClosedOn : Direction → System → Type 0
-IsClosedOn direction s = HasEnd direction (free_columns s - 1) s.rows ⊎ ((point : List ℤ) → length point ≡ free_columns s → ¬ HoldsSystem s point)
+IsClosedOn direction s = HasEnd direction (free_columns s - 1) s.rows ⊎
+    ((point : List ℤ) → length point ≡ free_columns s → ¬ HoldsSystem s point)
 
 -- where the front and the numbers before the place are given, some number bounds the one at the place on the side
 abbrev pub IsEnded : Order → ℕ → System → Type 0

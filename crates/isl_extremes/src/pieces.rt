@@ -77,7 +77,8 @@ pub(crate) fn first_pieces(
     requires names { IsParameterList params.now }
     requires pieces { ArePlainPieces meter.old params.now pieces.now }
     ensures made { IfOk result (λ made. ArePlainPieces meter.old params.now made.items) }
-    ensures elements { (valuation : Valuation) (element : Element) → IfOk result (λ made. elements_of_all params.now made.items valuation element
+    ensures elements { (valuation : Valuation) (element : Element)
+        → IfOk result (λ made. elements_of_all params.now made.items valuation element
         ↔ FirstHas (order_of direction) (elements_of_all params.now pieces.now valuation) element) }
     ensures meter { IsLexAnswer ((valuation : Valuation) → HasFirst (order_of direction) (elements_of_all params.now pieces.now valuation))
         meter.old meter.new result }

@@ -23,7 +23,8 @@ beaten-requires c =
     let n = c.args.order.front + c.args.order.width in
     let low : i < length systems = omega arith in
     record {
-      within = system_within g h systems i s c.loop-system.invariant.charged (plain_within g n systems c.requires.systems) low c.system-item.is;
+      within = system_within g h systems i s c.loop-system.invariant.charged (plain_within g n systems c.requires.systems) low
+          c.system-item.is;
       plain = system_at IsPlain systems i s c.requires.systems.plain low c.system-item.is;
       free = (system_at (IsLive g n) systems i s c.requires.systems.live low c.system-item.is).free;
       at = c.requires.at;
@@ -39,7 +40,8 @@ loop-system-preserved c =
     let low : i < length systems = omega arith in
     let so_far = c.loop-system.invariant in
     record {
-      beaten = beaten_more g h c.args.order c.args.at so_far.charged systems i c.system-item.result low c.system-item.is c.loop-system.found.items
+      beaten = beaten_more g h c.args.order c.args.at so_far.charged systems i c.system-item.result low c.system-item.is
+          c.loop-system.found.items
           c.in_ok-more.more.items c.append.new.self.items c.in_ok-append.ensures.items so_far.beaten c.in_ok-more.ensures.beaten;
       charged = IsCharged_trans g h c.beaten.new.meter so_far.charged c.in_ok-more.ensures.meter;
     }

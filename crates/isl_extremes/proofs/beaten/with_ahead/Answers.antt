@@ -7,6 +7,7 @@ meet-requires c = (c.in_ok-moved.ensures c.args.meter.now c.requires.within).fre
 
 pub returns : goal.returns
 returns c =
-    ahead_made c.args.meter.now c.args.order c.args.at c.args.system.now c.limit-limit.ensures.bits_low c.requires.within c.in_ok-moved.moved
+    ahead_made c.args.meter.now c.args.order c.args.at c.args.system.now c.limit-limit.ensures.bits_low c.requires.within
+    c.in_ok-moved.moved
     c.in_ok-case.case (c.in_ok-moved.ensures c.args.meter.now c.requires.within) c.in_ok-case.ensures c.meet.result c.meet.ensures.points
     c.meet.ensures.within c.meet.ensures.free c.meet.ensures.same

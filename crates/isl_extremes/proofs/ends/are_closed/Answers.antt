@@ -17,7 +17,8 @@ is_closed-requires c =
     let s = c.system-item.result in
     let low : i < length systems = omega arith in
     record {
-      within = system_within c.args.meter.now c.loop-system.meter systems i s c.loop-system.invariant.charged c.requires.within low c.system-item.is;
+      within = system_within c.args.meter.now c.loop-system.meter systems i s c.loop-system.invariant.charged c.requires.within low
+          c.system-item.is;
       plain = system_at IsPlain systems i s c.requires.plain low c.system-item.is;
       some_column = system_at (λ t. 0 < free_columns t) systems i s c.requires.some_column low c.system-item.is;
     }

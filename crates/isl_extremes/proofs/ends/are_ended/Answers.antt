@@ -17,7 +17,8 @@ is_ended-requires c =
     let n = c.args.order.front + c.args.order.width in
     let low : i < length systems = omega arith in
     record {
-      within = system_within g c.loop-system.meter systems i s c.loop-system.invariant.charged (plain_within g n systems c.requires.systems) low
+      within = system_within g c.loop-system.meter systems i s c.loop-system.invariant.charged
+          (plain_within g n systems c.requires.systems) low
           c.system-item.is;
       plain = system_at IsPlain systems i s c.requires.systems.plain low c.system-item.is;
       free = (system_at (IsLive g n) systems i s c.requires.systems.live low c.system-item.is).free;

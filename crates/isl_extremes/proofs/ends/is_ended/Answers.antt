@@ -21,8 +21,10 @@ eliminate_all-requires-clause-cols_in c =
     let free = c.requires.free in
     let at = c.requires.at in
     let is = c.free-free.ensures in
-    subst (λ (cols : List ℕ). All (λ col. col < free_columns c.args.system.now) cols) (sym (c.as_slice.ensures.value ∙ c.in_ok-columns.ensures))
-    (range_below (c.args.order.front + c.args.at + 1) (c.free-free.result - (c.args.order.front + c.args.at + 1)) (free_columns c.args.system.now)
+    subst (λ (cols : List ℕ). All (λ col. col < free_columns c.args.system.now) cols)
+    (sym (c.as_slice.ensures.value ∙ c.in_ok-columns.ensures))
+    (range_below (c.args.order.front + c.args.at + 1) (c.free-free.result - (c.args.order.front + c.args.at + 1))
+    (free_columns c.args.system.now)
     (omega (arith, free, at, is)))
 
 pub are_closed-requires : goal.are_closed-requires
@@ -41,7 +43,8 @@ are_closed-requires c =
       within = λ k e l. charged_within g h (get_or left k e) told.meter (told.within k e l);
       plain = plain;
       some_column = λ k e l.
-          let free = shadow_columns g order c.args.at s c.requires.free c.requires.at cols are left told.projection told.within plain k e l in
+          let free = shadow_columns g order c.args.at s c.requires.free c.requires.at cols are left told.projection told.within plain k e
+          l in
           omega (arith, free);
     })
 

@@ -7,7 +7,8 @@ use Rattle.isl_space.specs.Valuation.{Valuation}
 use Rattle.isl_relation.specs.Extremes.{HasFirst, HasFirstEverywhere}
 use Rattle.isl_extremes.specs.Pieces.{elements_of_all, order_of}
 use Rattle.isl_extremes.proofs.FaultLaws.{later_fault}
-use Rattle.isl_extremes.proofs.ValueLaws.{everywhere_from, everywhere_to, flat_plain, pieces_have, value_has, value_kept, value_plain, value_small}
+use Rattle.isl_extremes.proofs.ValueLaws.{everywhere_from, everywhere_to, flat_plain, pieces_have, value_has, value_kept, value_plain}
+use Rattle.isl_extremes.proofs.ValueLaws.{value_small}
 use Rattle.isl_extremes.proofs.extremes.first.Goals as goal
 
 pub first_pieces-requires : goal.first_pieces-requires
@@ -73,4 +74,5 @@ returns-in_err-made-clause-meter c =
     rw (error.1, error.2)
     (later_fault (¬ HasFirstEverywhere (order_of d) a) (¬ ((v : Valuation) → HasFirst (order_of d) (elements_of_all params pieces v)))
     (λ n all. n (everywhere_to a c.in_ok-flat.flat params pieces names c.pieces.ensures.content d c.in_ok-flat.ensures.elements all))
-    c.args.meter.now c.flat.new.meter c.first_pieces.new.meter c.in_err-made.field-0.0 c.in_ok-flat.ensures.meter c.in_err-made.ensures.meter)
+    c.args.meter.now c.flat.new.meter c.first_pieces.new.meter c.in_err-made.field-0.0 c.in_ok-flat.ensures.meter
+    c.in_err-made.ensures.meter)

@@ -24,7 +24,8 @@ first_systems-requires c =
     record {
       systems = subst (λ (o : Order). ArePlain g (o.front + o.width) c.as_slice.result.now) (sym same)
           (subst (λ (ss : List System). ArePlain g n ss) (sym are) (systems_plain g params space pieces c.requires.pieces));
-      fits = subst (λ (o : Order). o.front + (o.width + o.width) < 2 ^ 64) (sym same) (columns_fit params space c.requires.names c.requires.formed);
+      fits = subst (λ (o : Order). o.front + (o.width + o.width) < 2 ^ 64) (sym same)
+          (columns_fit params space c.requires.names c.requires.formed);
     }
 
 pub returns-clause-first : goal.returns-clause-first
@@ -71,5 +72,6 @@ returns-in_err-left-clause-meter c =
     rw (error.1, error.2)
     (same_fault (¬ ThereIsFirst params d pieces space) (¬ HaveFirst order c.as_slice.result.now)
     (λ n there. n (subst (λ (o : Order). HaveFirst o c.as_slice.result.now) (sym same)
-    (subst (λ (ss : List System). HaveFirst (order_at params space d) ss) (sym are) (have_from params pieces d space c.requires.names there))))
+    (subst (λ (ss : List System). HaveFirst (order_at params space d) ss) (sym are)
+    (have_from params pieces d space c.requires.names there))))
     c.args.meter.now c.first_systems.new.meter c.in_err-left.field-0.0 c.in_err-left.ensures.meter)

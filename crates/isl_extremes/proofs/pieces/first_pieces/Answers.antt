@@ -12,7 +12,8 @@ use Rattle.isl_relation.specs.Extremes.{HasFirst}
 use Rattle.isl_space.specs.Valuation.{Valuation}
 use Rattle.isl_extremes.specs.Pieces.{elements_of_all, order_of, AreFirstSoFar, ThereIsFirst}
 use Rattle.isl_extremes.proofs.FaultLaws.{later_fault, no_memory}
-use Rattle.isl_extremes.proofs.PiecesLaws.{all_elements, one_at, pieces_plain_later, so_far_first, so_far_more, space_formed, spaces_more, there_everywhere, there_in}
+use Rattle.isl_extremes.proofs.PiecesLaws.{all_elements, one_at, pieces_plain_later, so_far_first, so_far_more, space_formed}
+use Rattle.isl_extremes.proofs.PiecesLaws.{spaces_more, there_everywhere, there_in}
 use Rattle.isl_extremes.proofs.pieces.first_pieces.Goals as goal
 
 pub loop-space-init : goal.loop-space-init
@@ -33,7 +34,8 @@ first_in-requires-clause-formed c =
 
 pub first_in-requires-clause-pieces : goal.first_in-requires-clause-pieces
 first_in-requires-clause-pieces c =
-    pieces_plain_later c.args.meter.now c.loop-space.meter c.args.params.now c.args.pieces.now c.loop-space.invariant.charged c.requires.pieces
+    pieces_plain_later c.args.meter.now c.loop-space.meter c.args.params.now c.args.pieces.now c.loop-space.invariant.charged
+    c.requires.pieces
 
 pub loop-space-preserved : goal.loop-space-preserved
 loop-space-preserved c =
@@ -67,7 +69,8 @@ returns-clause-elements c v e =
     let are = subst (λ (ss : List Space). AreSpacesOf c.args.pieces.now (map space_form_of ss)) (sym c.as_slice-space-items.ensures.value)
     c.in_ok-spaces.ensures in
     let end : length spaces ≤ c.loop-space.space-index = grind (arith, common_steps) in
-    let so_far = subst (λ (ss : List Space). AreFirstSoFar g c.loop-space.meter params d (map space_form_of ss) pieces c.loop-space.made.items)
+    let so_far = subst (λ (ss : List Space). AreFirstSoFar g c.loop-space.meter params d (map space_form_of ss) pieces
+    c.loop-space.made.items)
     (take_all c.loop-space.space-index spaces end) c.loop-space.invariant in
     all_elements params d pieces (map space_form_of spaces) are g c.loop-space.meter c.loop-space.made.items so_far v e
 
@@ -81,7 +84,8 @@ returns-clause-meter c =
     let are = subst (λ (ss : List Space). AreSpacesOf c.args.pieces.now (map space_form_of ss)) (sym c.as_slice-space-items.ensures.value)
     c.in_ok-spaces.ensures in
     let end : length spaces ≤ c.loop-space.space-index = grind (arith, common_steps) in
-    let so_far = subst (λ (ss : List Space). AreFirstSoFar g c.loop-space.meter params d (map space_form_of ss) pieces c.loop-space.made.items)
+    let so_far = subst (λ (ss : List Space). AreFirstSoFar g c.loop-space.meter params d (map space_form_of ss) pieces
+    c.loop-space.made.items)
     (take_all c.loop-space.space-index spaces end) c.loop-space.invariant in (
       there_everywhere params d pieces (map space_form_of spaces) are so_far.there,
       so_far.charged,

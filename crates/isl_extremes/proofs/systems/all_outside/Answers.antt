@@ -26,11 +26,14 @@ outside-requires c =
     let low : i < length systems = omega arith in
     let live = system_at (IsLive g n) systems i s c.requires.systems.live low c.system-item.is in
     let others = plain_kept h g n c.args.others.now (sym (charged_bits g h c.loop-system.invariant.charged)) c.requires.others in
-    let same : map (λ o. o.now) c.as_slice.result.now ≡ c.args.others.now = ap (map (λ o. o.now)) c.as_slice.ensures.value ∙ c.in_ok-others.ensures in
+    let same : map (λ o. o.now) c.as_slice.result.now ≡ c.args.others.now = ap (map (λ o. o.now)) c.as_slice.ensures.value ∙
+    c.in_ok-others.ensures in
     record {
-      within = system_within g h systems i s c.loop-system.invariant.charged (plain_within g n systems c.requires.systems) low c.system-item.is;
+      within = system_within g h systems i s c.loop-system.invariant.charged (plain_within g n systems c.requires.systems) low
+          c.system-item.is;
       others_within = subst (All (IsSystemWithin h)) (sym same) (plain_within h n c.args.others.now others);
-      columns = subst (All (λ (o : System). free_columns o ≡ free_columns s)) (sym same) (λ k e l. (others.live k e l).free ∙ sym live.free);
+      columns = subst (All (λ (o : System). free_columns o ≡ free_columns s)) (sym same)
+          (λ k e l. (others.live k e l).free ∙ sym live.free);
     }
 
 pub loop-system-preserved : goal.loop-system-preserved
@@ -51,7 +54,8 @@ loop-system-preserved c =
     let plain = (rw same at c.in_ok-parts.ensures.definitions) (system_at IsPlain systems i s c.requires.systems.plain low c.system-item.is)
     c.requires.others.plain in
     record {
-      left = outside_more g h n so_far.charged systems i s low c.system-item.is live others c.loop-system.left.items c.in_ok-parts.parts.items
+      left = outside_more g h n so_far.charged systems i s low c.system-item.is live others c.loop-system.left.items
+          c.in_ok-parts.parts.items
           c.append.new.self.items c.in_ok-append.ensures.items so_far.left exact.0 plain;
       charged = IsCharged_trans g h k so_far.charged exact.1;
     }

@@ -4,7 +4,8 @@ use Rattle.std.proofs.lemmas.Grind.{common_steps}
 use Rattle.isl_meter.proofs.CutLemmas.{IsCharged_refl, IsCharged_trans}
 use Rattle.isl_extremes.specs.Systems.{AreSoFar}
 use Rattle.isl_extremes.proofs.AnswerLaws.{not_true}
-use Rattle.isl_extremes.proofs.SystemsLaws.{all_first, all_there, charged_bits, none_there, plain_kept, so_far_first, so_far_more, standing_kept}
+use Rattle.isl_extremes.proofs.SystemsLaws.{all_first, all_there, charged_bits, none_there, plain_kept, so_far_first, so_far_more}
+use Rattle.isl_extremes.proofs.SystemsLaws.{standing_kept}
 use Rattle.isl_extremes.proofs.systems.first_systems.Goals as goal
 
 pub loop-at-init : goal.loop-at-init

@@ -34,4 +34,5 @@ returns-clause-left c =
 pub returns-clause-decided : goal.returns-clause-decided
 returns-clause-decided c =
     ok_case c.all_outside.result (λ left. IsDecided c.args.order c.args.at c.args.systems.now)
-    (λ left is. decided_from c.args.order c.args.systems.now c.args.meter.now c.args.at c.in_ok-beaten.beaten.items c.in_ok-beaten.ensures.beaten)
+    (λ left is. decided_from c.args.order c.args.systems.now c.args.meter.now c.args.at c.in_ok-beaten.beaten.items
+    c.in_ok-beaten.ensures.beaten)
