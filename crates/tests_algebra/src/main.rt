@@ -3,11 +3,11 @@
 //! cases there were.
 #![tactic(auto)]
 
-ghost use Rattle.std.specs.Prelude.{◌≡◌, ℤ, IfOk, IfSome, unsigned_abs};
+ghost use Rattle.std.specs.Prelude.{◌≡◌, IfOk, IfSome};
 ghost use Rattle.isl_meter.specs.Gauge.{limit_of};
 ghost use Rattle.isl_union.specs.KeptValue.{HasNoDefinitions};
-ghost use Rattle.isl_union.specs.Numbers.{HasNumbersUpTo, IsWithinLimit};
-ghost use Rattle.isl_values.specs.State.{Fits, IsSettled, unbound};
+ghost use Rattle.isl_union.specs.Numbers.{IsWithinLimit};
+ghost use Rattle.isl_values.specs.State.{Fits};
 
 use isl_coalesce::coalesce;
 use isl_eval::answer;
@@ -41,10 +41,14 @@ fn bound(alloc: Global, literal: &str, meter: &mut Meter) -> Result<State, Alloc
 }
 
 // The value that `a` stands for.
-fn value_in(alloc: Global, state: &State) -> Result<Option<&Value>, AllocError>
+fn value_in<'a>(
+    alloc: Global,
+    state: &'a State,
+    meter: &Meter,
+) -> Result<Option<&'a Value>, AllocError>
+    requires { Fits (limit_of meter.now) state.now }
     ensures definitions { IfOk result (λ found. IfSome found (λ value. HasNoDefinitions value.now)) }
-    ensures numbers { (limit : ℤ) → Fits limit state.now
-        → IfOk result (λ found. IfSome found (λ value. HasNumbersUpTo (unsigned_abs limit) value.now)) }
+    ensures numbers { IfOk result (λ found. IfSome found (λ value. IsWithinLimit meter.now value.now)) }
 {
     let name = Name::new(alloc, "a")?;
     match state.get(&name) {
@@ -82,7 +86,10 @@ fn gist_of(
 ) -> Result<Option<String>, OpFault> {
     let state = bound(alloc, literal, meter)?;
     let other = bound(alloc, context, meter)?;
-    match (value_in(alloc, &state)?, value_in(alloc, &other)?) {
+    match (
+        value_in(alloc, &state, meter)?,
+        value_in(alloc, &other, meter)?,
+    ) {
         (Some(value), Some(context)) => Ok(Some(left(alloc, value, context, meter)?)),
         _ => Ok(None),
     }
@@ -91,7 +98,7 @@ fn gist_of(
 // What a case answers that asks for the pieces of its literal to be put together. None where it is refused.
 fn coalesced(alloc: Global, literal: &str, meter: &mut Meter) -> Result<Option<String>, OpFault> {
     let state = bound(alloc, literal, meter)?;
-    match value_in(alloc, &state)? {
+    match value_in(alloc, &state, meter)? {
         Some(value) => Ok(Some(together(alloc, value, meter)?)),
         None => Ok(None),
     }
