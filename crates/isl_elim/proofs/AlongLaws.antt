@@ -19,7 +19,7 @@ use Rattle.isl_column.specs.Column.{HoldAtAny}
 use Rattle.isl_omega.specs.Column.{IsProper}
 use Rattle.isl_elim.specs.Elimination.{without, HoldsAlong, AddsAlong}
 use Rattle.isl_elim.specs.Others.{others_of}
-use Rattle.isl_column.specs.Parts.{PartsView, AreParts, ArePartsOf, IsNextPart, HoldsPart, head_count, count_of, least_units}
+use Rattle.isl_column.specs.Parts.{PartsView, AreParts, ArePartsOf, IsNextPart, HoldsPart, head_count, count_of}
 use Rattle.isl_column.proofs.PartsLemmas.{parts_kept}
 use Rattle.isl_elim.proofs.PartsLaws.{charged_bits, next_proper, parts_after}
 use Rattle.isl_elim.proofs.EmptinessLaws.{insert-remove}
@@ -50,7 +50,6 @@ pub record ArePushed (g h : Gauge) (columns : ℕ) (cols : List ℕ) (first now 
   pub charged : IsCharged g h
   pub are : AreParts h columns now
   pub counted : (g.units + length new) + head_count now ≤ h.units + (length old + head_count first)
-  pub pairs : g.units + least_units first ≤ h.units + least_units now
   pub added : List (List Row)
   pub pushed : new ≡ old ++ added
   pub proper : All (λ rows. All (IsProper g (columns - length cols)) rows) added
@@ -62,7 +61,6 @@ pushed_first g columns cols parts old a = record {
   charged = IsCharged_refl g g refl;
   are = a;
   counted = omega arith;
-  pairs = omega arith;
   added = [];
   pushed = sym (append-nil old);
   proper = All-nil (λ (rows : List Row). All (IsProper g (columns - length cols)) rows);
@@ -72,9 +70,8 @@ pushed_first g columns cols parts old a = record {
 
 pub pushed_next : (g h k m : Gauge) (columns : ℕ) (cols : List ℕ) (first now next : PartsView) (rows : List Row) (old new newer : List (List Row)) → ArePushed g h columns cols first now old new → IsNextPart h columns now rows next
     → IsCharged h k → AddsAlong k columns cols (HoldRows rows) new newer → IsCharged k m
-    → (h.units + 1) + head_count next ≤ k.units + head_count now → k.units + length newer ≤ m.units + (length new + 1) → h.units + least_units now ≤ k.units → ArePushed g m columns cols first next old newer
-pushed_next g h k m columns cols first now next rows old new newer a n c b d u v paid = record {
-  pairs = let before = a.pairs in let more = d.units in omega (arith, before, paid, more);
+    → (h.units + 1) + head_count next ≤ k.units + head_count now → k.units + length newer ≤ m.units + (length new + 1) → ArePushed g m columns cols first next old newer
+pushed_next g h k m columns cols first now next rows old new newer a n c b d u v = record {
   counted = let w = a.counted in omega (arith, u, v, w);
   charged = IsCharged_trans g h m a.charged (IsCharged_trans h k m c d);
   are = parts_kept h m columns next (IsCharged_trans h k m c d) n.rest;

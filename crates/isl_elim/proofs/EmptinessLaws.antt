@@ -15,7 +15,7 @@ use Rattle.isl_omega.specs.Column.{IsProper}
 use Rattle.isl_elim.specs.Emptiness.{HoldNowhere}
 use Rattle.isl_column.specs.Column.{HoldAtSome}
 use Rattle.isl_column.specs.RealShadow.{AreImplied, IsImplied}
-use Rattle.isl_column.specs.Parts.{PartsView, AreParts, ArePartsOf, IsNextPart, AreNone, HoldsPart, least_units}
+use Rattle.isl_column.specs.Parts.{PartsView, AreParts, ArePartsOf, IsNextPart, AreNone, HoldsPart}
 use Rattle.isl_column.proofs.PartsLemmas.{parts_kept}
 use Rattle.isl_elim.proofs.PartsLaws.{next_proper, parts_after}
 
@@ -36,25 +36,22 @@ pub record IsSoFar (g h : Gauge) (columns : ℕ) (first now : PartsView) : Type 
   pub charged : IsCharged g h
   pub are : AreParts h columns now
   pub points : (point : List ℤ) → length point ≡ columns → HoldsPart first point ↔ HoldsPart now point
-  pub pairs : g.units + least_units first ≤ h.units + least_units now
 
 pub so_far_first : (g : Gauge) (columns : ℕ) (parts : PartsView) → AreParts g columns parts → IsSoFar g g columns parts parts
 so_far_first g columns parts a = record {
   charged = IsCharged_refl g g refl;
   are = a;
   points = λ point l. ((λ h. h), (λ h. h));
-  pairs = omega arith;
 }
 
-pub so_far_next : (g h k : Gauge) (columns : ℕ) (first now next : PartsView) (rows : List Row) → IsSoFar g h columns first now → IsNextPart h columns now rows next → HoldNowhere columns rows → IsCharged h k → h.units + least_units now ≤ k.units → IsSoFar g k columns first next
-so_far_next g h k columns first now next rows s n nowhere c paid = record {
+pub so_far_next : (g h k : Gauge) (columns : ℕ) (first now next : PartsView) (rows : List Row) → IsSoFar g h columns first now → IsNextPart h columns now rows next → HoldNowhere columns rows → IsCharged h k → IsSoFar g k columns first next
+so_far_next g h k columns first now next rows s n nowhere c = record {
   charged = IsCharged_trans g h k s.charged c;
   are = parts_kept h k columns next c n.rest;
   points = λ point l. (
     (λ x. elim ((n.points point l).0 ((s.points point l).0 x)) [ inl y ↦ absurd (nowhere point l y) | inr z ↦ z ]),
     (λ x. (s.points point l).1 ((n.points point l).1 (inr x))),
   );
-  pairs = let before = s.pairs in omega (arith, before, paid);
 }
 
 -- a part that holds somewhere

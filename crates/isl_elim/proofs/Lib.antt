@@ -6,7 +6,6 @@ pub mod KeptLaws
 pub mod LeftLaws
 pub mod OpenedLaws
 pub mod OthersLaws
-pub mod PairsLaws
 pub mod PartsLaws
 pub mod ProjectionLaws
 pub mod RangeLaws

@@ -4,7 +4,6 @@ pub mod Emptiness
 pub mod Flatten
 pub mod Opened
 pub mod Others
-pub mod Pairs
 pub mod Sample
 pub use Rattle.isl_column.specs.Column
 pub use Rattle.isl_column.specs.Exact

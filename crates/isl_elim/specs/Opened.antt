@@ -37,10 +37,6 @@ only_from i cols (x ∷ xs) = if list_any (λ c. nat_eq c i) cols then x ∷ onl
 abbrev pub opened_rows : System → List ℕ → List Row
 opened_rows s cols = s.rows ++ definition_rows s.columns (only_from (free_columns s) cols s.definitions)
 
--- those of the system and of all its definitions
-abbrev pub all_opened_rows : System → List Row
-all_opened_rows s = s.rows ++ definition_rows s.columns s.definitions
-
 -- ---- inside
 -- normal rows over all columns, which hold at some numbers with these in front exactly where the system holds
 pub record AreOpened (g : Gauge) (s : System) (rows : List Row) : Type 0 where

@@ -7,8 +7,7 @@ ghost use Rattle.isl_piece.specs.System.{HoldRows};
 ghost use Rattle.isl_omega.specs.Column.{IsProper};
 ghost use Rattle.isl_elim.specs.Elimination.{AddsAlong};
 ghost use Rattle.isl_elim.specs.Others.{others_of};
-ghost use Rattle.isl_column.specs.Parts.{AreParts, HoldsPart, head_count, least_units};
-ghost use Rattle.isl_elim.specs.Pairs.{HasPairs, HavePairs};
+ghost use Rattle.isl_column.specs.Parts.{AreParts, HoldsPart, head_count};
 
 use crate::choice::cheapest;
 use isl_column::Parts;
@@ -52,7 +51,6 @@ fn push_without(
         (λ _. AddsAlong meter.old columns cols.now (HoldRows rows) lists.old.items lists.new.items × IsCharged meter.old meter.new)
         (IsCutBy meter.old meter.new) }
     ensures counted { IfOk result (λ _. meter.old.units + length lists.new.items ≤ meter.new.units + (length lists.old.items + 1)) }
-    ensures pairs { (n : ℕ) → cols.now ≢ [] → All (HasPairs n rows) cols.now → IfOk result (λ _. meter.old.units + n ≤ meter.new.units) }
 {
     if cols.is_empty() {
         lists.push(rows)?;
@@ -83,7 +81,6 @@ fn push_parts(
         (λ _. AddsAlong meter.old columns cols.now (HoldsPart parts) lists.old.items lists.new.items × IsCharged meter.old meter.new)
         (IsCutBy meter.old meter.new) }
     ensures counted { IfOk result (λ _. meter.old.units + length lists.new.items ≤ meter.new.units + (length lists.old.items + head_count parts)) }
-    ensures pairs { IfOk result (λ _. meter.old.units + least_units parts ≤ meter.new.units) }
 {
     while let Some(rows) = parts.next(alloc, columns, meter)? {
         push_without(alloc, rows, columns, cols, lists, meter)?;
@@ -107,7 +104,6 @@ pub(crate) fn rows_without(
         (λ lists. AddsAlong meter.old columns cols.now (HoldRows rows.now) [] lists.items × IsCharged meter.old meter.new)
         (IsCutBy meter.old meter.new) }
     ensures counted { IfOk result (λ lists. meter.old.units + length lists.items ≤ meter.new.units + 1) }
-    ensures pairs { (n : ℕ) → cols.now ≢ [] → HavePairs n cols.now rows.now → IfOk result (λ _. meter.old.units + n ≤ meter.new.units) }
 {
     let copied = rows.copy(alloc)?;
     match copied.normalise(alloc, meter)? {

@@ -10,11 +10,7 @@ ghost use Rattle.isl_omega.specs.Equality.{HasEquality};
 ghost use Rattle.isl_elim.specs.Emptiness.{HoldNowhere};
 ghost use Rattle.isl_piece.specs.System.{HoldsSystem, IsSystemWithin, free_columns};
 ghost use Rattle.isl_elim.specs.Sample.{IsNowhere};
-ghost use Rattle.isl_column.specs.Exact.{pairs_on};
-ghost use Rattle.isl_column.specs.Parts.{AreParts, AreNone, least_units};
-ghost use Rattle.isl_elim.specs.Opened.{all_opened_rows};
-ghost use Rattle.isl_elim.specs.Pairs.{HasPairs, HavePairs};
-ghost use Rattle.std.specs.List.{range_with_len};
+ghost use Rattle.isl_column.specs.Parts.{AreParts, AreNone};
 
 use crate::choice::any_column;
 use crate::opened::opened;
@@ -30,7 +26,6 @@ pub(crate) fn column_nowhere(alloc: Global, rows: &Rows, meter: &mut Meter) -> R
     ensures exact { MatchResult result (λ empty. (IsTrue empty ↔ HoldNowhere 1 rows.now) × IsCharged meter.old meter.new) (IsCutBy meter.old meter.new) }
     ensures units { pos meter.new.units ≤ℤ (pos meter.old.units +ℤ elimination_units rows.now 0) }
     ensures equality { HasEquality 0 rows.now → meter.new.units ≡ meter.old.units }
-    ensures pairs { ¬ HasEquality 0 rows.now → IfOk result (λ _. meter.old.units + pairs_on 0 rows.now ≤ meter.new.units) }
     ensures magnitude { IsSpared meter.old rows.now 0 result }
 {
     let mut parts = Parts::of(alloc, rows.as_slice(), Column { columns: 1, at: 0 }, meter)?;
@@ -50,8 +45,6 @@ fn shadows_hold_nowhere(
     ensures exact { MatchResult result
         (λ empty. (IsTrue empty → HoldNowhere columns rows.now) × IsCharged meter.old meter.new)
         (IsCutBy meter.old meter.new) }
-    ensures pairs { (n : ℕ) → 0 < columns → ((col : ℕ) → col < columns → HasPairs n rows.now col)
-        → IfOk result (λ _. meter.old.units + n ≤ meter.new.units) }
 {
     if columns == 0 || rows.is_empty() {
         return Ok(false);
@@ -77,8 +70,6 @@ pub(crate) fn hold_nowhere(
     ensures exact { MatchResult result
         (λ empty. (IsTrue empty ↔ HoldNowhere columns rows.now) × IsCharged meter.old meter.new)
         (IsCutBy meter.old meter.new) }
-    ensures pairs { (n : ℕ) → 0 < columns → ((col : ℕ) → col < columns → HasPairs n rows.now col)
-        → IfOk result (λ _. meter.old.units + n ≤ meter.new.units) }
 {
     if rows.is_empty() {
         return Ok(false);
@@ -115,8 +106,6 @@ fn rest_is_empty(
     ensures exact { MatchResult result
         (λ empty. (IsTrue empty ↔ AreNone (columns - 1) parts) × IsCharged meter.old meter.new)
         (IsCutBy meter.old meter.new) }
-    ensures pairs { (n : ℕ) → n ≤ least_units parts → ((col : ℕ) → col < columns → HasPairs n rows.now col)
-        → IfOk result (λ _. meter.old.units + n ≤ meter.new.units) }
 {
     if !parts.has_more() {
         return are_empty(alloc, parts, columns - 1, meter);
@@ -140,7 +129,6 @@ fn are_empty(
     ensures exact { MatchResult result
         (λ empty. (IsTrue empty ↔ AreNone columns parts) × IsCharged meter.old meter.new)
         (IsCutBy meter.old meter.new) }
-    ensures pairs { IfOk result (λ _. meter.old.units + least_units parts ≤ meter.new.units) }
 {
     while let Some(rows) = parts.next(alloc, columns, meter)? {
         if !hold_nowhere(alloc, &rows, columns, meter)? {
@@ -151,8 +139,7 @@ fn are_empty(
 }
 
 /// Whether the system holds at no point of whole numbers. Of one column, which is free, this spends what `eliminate` does; it
-/// spends no unit of its own. Of more columns, those of definitions among them, it spends at least as many units as each of
-/// them has pairs of bounds, where no equality is left.
+/// spends no unit of its own.
 ///
 /// # Errors
 ///
@@ -166,10 +153,6 @@ pub fn is_empty(alloc: Global, system: &System, meter: &mut Meter) -> Result<boo
     ensures units { system.now.definitions ≡ [] → system.now.columns ≡ 1 → pos meter.new.units ≤ℤ (pos meter.old.units +ℤ elimination_units system.now.rows 0) }
     ensures equality { system.now.definitions ≡ [] → system.now.columns ≡ 1 → HasEquality 0 system.now.rows → meter.new.units ≡ meter.old.units }
     ensures magnitude { system.now.definitions ≡ [] → system.now.columns ≡ 1 → IsSpared meter.old system.now.rows 0 result }
-    ensures pairs { system.now.definitions ≡ [] → system.now.columns ≡ 1 → ¬ HasEquality 0 system.now.rows
-        → IfOk result (λ _. meter.old.units + pairs_on 0 system.now.rows ≤ meter.new.units) }
-    ensures all_pairs { (n : ℕ) → 1 < system.now.columns → HavePairs n (range_with_len 0 system.now.columns) (all_opened_rows system.now)
-        → IfOk result (λ _. meter.old.units + n ≤ meter.new.units) }
 {
     if system.columns == 1 && system.definitions.is_empty() {
         return column_nowhere(alloc, &system.rows, meter);

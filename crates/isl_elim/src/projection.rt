@@ -4,7 +4,7 @@ ghost use Rattle.std.specs.Prelude.{◌≡◌, ◌≢◌, ◌<◌, ◌-◌, ◌+
 ghost use Rattle.isl_meter.specs.Gauge.{IsCharged, IsCutBy, IsMetered};
 ghost use Rattle.isl_piece.specs.Normal.{IsNormal};
 ghost use Rattle.isl_piece.specs.System.{HoldRows, IsSystemWithin, free_columns};
-ghost use Rattle.isl_column.specs.Exact.{IsExactColumn, exact_rows, pairs_on};
+ghost use Rattle.isl_column.specs.Exact.{IsExactColumn, exact_rows};
 ghost use Rattle.isl_column.specs.Magnitude.{HaveSmallNumbers, HaveOneCongruence};
 ghost use Rattle.isl_column.specs.Solved.{solved_rows};
 ghost use Rattle.isl_column.specs.Units.{elimination_units};
@@ -12,7 +12,6 @@ ghost use Rattle.isl_omega.specs.Equality.{HasEquality};
 ghost use Rattle.isl_elim.specs.Dependents.{dependents, kept_definitions, with_dependents};
 ghost use Rattle.isl_elim.specs.Elimination.{AddsAlong, IsProjection, IsProjectionAlong, system_of};
 ghost use Rattle.isl_elim.specs.Opened.{opened_rows};
-ghost use Rattle.isl_elim.specs.Pairs.{HavePairs};
 
 use crate::along::rows_without;
 use crate::dependents::{columns_left, with_dependents};
@@ -60,11 +59,7 @@ fn lists_left(
     ensures equality { (col : ℕ) → gone.now ≡ col ∷ [] → col < free_columns system.now → HasEquality col system.now.rows → meter.new.units ≡ meter.old.units }
     ensures magnitude { (col : ℕ) → gone.now ≡ col ∷ [] → col < free_columns system.now → meter.old.bits ≡ 127 → HaveSmallNumbers system.now.rows
         → HaveOneCongruence system.now.rows col → result ≢ Err Cut.Overflow }
-    ensures pairs { (col : ℕ) → gone.now ≡ col ∷ [] → col < free_columns system.now → ¬ HasEquality col system.now.rows
-        → IfOk result (λ _. meter.old.units + pairs_on col system.now.rows ≤ meter.new.units) }
     ensures counted { IfOk result (λ lists. meter.old.units + length lists.items ≤ meter.new.units + 1) }
-    ensures all_pairs { (n : ℕ) → 1 < length gone.now → HavePairs n gone.now (opened_rows system.now gone.now)
-        → IfOk result (λ _. meter.old.units + n ≤ meter.new.units) }
 {
     if gone.len() == 1 && gone[0] < system.free() {
         let column = Column {
@@ -81,9 +76,8 @@ fn lists_left(
 /// number put at `col` makes `system` hold. Each is in normal form. The definitions that depend on `col`, directly or through
 /// others, go with it; the others are kept, in order.
 ///
-/// Where no definition depends on `col`: if an equality has the column, no unit is used; else at least one for each pair of
-/// bounds, and at most `elimination_units`; and if one has it, or the column is exact, what is answered is a function of the
-/// system: at most one system.
+/// Where no definition depends on `col`: if an equality has the column, no unit is used; else at most `elimination_units`; and if
+/// one has it, or the column is exact, what is answered is a function of the system: at most one system.
 ///
 /// # Errors
 ///
@@ -112,20 +106,14 @@ pub fn eliminate(
     ensures equality { dependents system.now (col ∷ []) ≡ [] → HasEquality col system.now.rows → meter.new.units ≡ meter.old.units }
     ensures magnitude { dependents system.now (col ∷ []) ≡ [] → meter.old.bits ≡ 127 → HaveSmallNumbers system.now.rows → HaveOneCongruence system.now.rows col
         → result ≢ Err Cut.Overflow }
-    ensures pairs { dependents system.now (col ∷ []) ≡ [] → ¬ HasEquality col system.now.rows
-        → IfOk result (λ _. meter.old.units + pairs_on col system.now.rows ≤ meter.new.units) }
     ensures counted { IfOk result (λ systems. meter.old.units + length systems.items ≤ meter.new.units + 1) }
-    ensures all_pairs { (n : ℕ) → dependents system.now (col ∷ []) ≢ []
-        → HavePairs n (with_dependents system.now (col ∷ [])) (opened_rows system.now (with_dependents system.now (col ∷ [])))
-        → IfOk result (λ _. meter.old.units + n ≤ meter.new.units) }
 {
     eliminate_all(alloc, system, &[col], meter)
 }
 
 /// The systems without the free columns `cols`, of which some holds at a point of the other free columns exactly where some whole
 /// numbers put at `cols` make `system` hold. Each is in normal form. The definitions that depend on `cols` go with them; the
-/// others are kept, in order. Of one column this is `eliminate`. Where more than one column goes, at least as many units are used as
-/// each of them has pairs of bounds, where no equality is left.
+/// others are kept, in order. Of one column this is `eliminate`.
 ///
 /// # Errors
 ///
@@ -153,12 +141,7 @@ pub fn eliminate_all(
     ensures equality { (col : ℕ) → cols.now ≡ col ∷ [] → dependents system.now cols.now ≡ [] → HasEquality col system.now.rows → meter.new.units ≡ meter.old.units }
     ensures magnitude { (col : ℕ) → cols.now ≡ col ∷ [] → dependents system.now cols.now ≡ [] → meter.old.bits ≡ 127 → HaveSmallNumbers system.now.rows
         → HaveOneCongruence system.now.rows col → result ≢ Err Cut.Overflow }
-    ensures pairs { (col : ℕ) → cols.now ≡ col ∷ [] → dependents system.now cols.now ≡ [] → ¬ HasEquality col system.now.rows
-        → IfOk result (λ _. meter.old.units + pairs_on col system.now.rows ≤ meter.new.units) }
     ensures counted { IfOk result (λ systems. meter.old.units + length systems.items ≤ meter.new.units + 1) }
-    ensures all_pairs { (n : ℕ) → 1 < length (with_dependents system.now cols.now)
-        → HavePairs n (with_dependents system.now cols.now) (opened_rows system.now (with_dependents system.now cols.now))
-        → IfOk result (λ _. meter.old.units + n ≤ meter.new.units) }
 {
     let gone = with_dependents(alloc, system, cols)?;
     let left = columns_left(alloc, system, cols, gone.as_slice(), meter)?;

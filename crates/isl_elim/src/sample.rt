@@ -7,9 +7,7 @@ ghost use Rattle.isl_piece.specs.Normal.{IsNormal};
 ghost use Rattle.isl_piece.specs.System.{HoldRows};
 ghost use Rattle.isl_omega.specs.Column.{IsProper};
 ghost use Rattle.isl_piece.specs.System.{HoldsSystem, IsSystemWithin, free_columns};
-ghost use Rattle.isl_column.specs.Parts.{AreParts, HoldsPart, least_units};
-ghost use Rattle.isl_elim.specs.Opened.{all_opened_rows};
-ghost use Rattle.isl_elim.specs.Pairs.{HasPairs, HavePairs};
+ghost use Rattle.isl_column.specs.Parts.{AreParts, HoldsPart};
 ghost use Rattle.isl_elim.specs.Sample.{IsSample, IsNowhere};
 
 use crate::choice::any_column;
@@ -66,8 +64,6 @@ pub(crate) fn sample_rows(
         (λ sample. MatchOption sample (IsNowhere columns (HoldRows rows.now)) (λ point. IsSample meter.old columns (HoldRows rows.now) point.items)
         × IsCharged meter.old meter.new)
         (IsCutBy meter.old meter.new) }
-    ensures pairs { (n : ℕ) → 0 < columns → ((col : ℕ) → col < columns → HasPairs n rows.now col)
-        → IfOk result (λ _. meter.old.units + n ≤ meter.new.units) }
 {
     if rows.is_empty() {
         let zeros = Vec::from_elem(alloc, 0, columns)?;
@@ -98,7 +94,6 @@ fn sample_parts(
         (λ sample. MatchOption sample (IsNowhere columns (HoldsPart parts)) (λ point. IsSample meter.old columns (HoldsPart parts) point.items)
         × IsCharged meter.old meter.new)
         (IsCutBy meter.old meter.new) }
-    ensures pairs { IfOk result (λ _. meter.old.units + least_units parts ≤ meter.new.units) }
 {
     while let Some(rows) = parts.next(alloc, columns, meter)? {
         if let Some(point) = sample_rows(alloc, &rows, columns, meter)? {
@@ -109,8 +104,7 @@ fn sample_parts(
 }
 
 /// A point of the free columns at which the system holds, with its numbers within the limit of the meter; none exactly where
-/// there is no point. At least as many units are used as each column, those of definitions among them, has pairs of bounds,
-/// where no equality is left.
+/// there is no point.
 ///
 /// # Errors
 ///
@@ -126,8 +120,6 @@ pub fn sample_point(
         (IsNowhere (free_columns system.now) (HoldsSystem system.now))
         (λ point. IsSample meter.old (free_columns system.now) (HoldsSystem system.now) point.items)) }
     ensures meter { IsMetered meter.old meter.new result }
-    ensures all_pairs { (n : ℕ) → 0 < system.now.columns → HavePairs n (range_with_len 0 system.now.columns) (all_opened_rows system.now)
-        → IfOk result (λ _. meter.old.units + n ≤ meter.new.units) }
 {
     let Some(rows) = opened(alloc, system, meter)? else {
         return Ok(None);

@@ -4,11 +4,10 @@ use Rattle.isl_meter.specs.Gauge.{IsCharged}
 use Rattle.isl_meter.proofs.CutLemmas.{IsCharged_refl, IsCharged_trans}
 use Rattle.isl_elim.specs.Others.{others_of}
 use Rattle.isl_omega.specs.Equality.{HasEquality}
-use Rattle.isl_column.specs.Exact.{pairs_on}
-use Rattle.isl_column.specs.Parts.{AreParts, ArePartsOf, HoldsPart, least_units}
+use Rattle.isl_column.specs.Parts.{AreParts, ArePartsOf, HoldsPart}
 use Rattle.isl_elim.proofs.OthersLaws.{among, among_at}
 use Rattle.isl_elim.proofs.AlongLaws.{along_none, along_after, columns_after, pushed_all, one_more, counted_after}
-use Rattle.isl_elim.proofs.PartsLaws.{parts_after, owed_of, owed_paid}
+use Rattle.isl_elim.proofs.PartsLaws.{parts_after}
 use Rattle.isl_elim.proofs.along.+eliminate_all.Goals as goal
 
 pub push_parts-returns : goal.push_parts-returns
@@ -25,7 +24,6 @@ push_parts-returns t c =
         IsCharged_trans g h k c.loop-parts.invariant.charged charged,
       );
       counted = let w = c.loop-parts.invariant.counted in let u = charged.units in omega (arith, w, u);
-      pairs = let before = c.loop-parts.invariant.pairs in let own = c.in_ok-rows.ensures.pairs in omega (arith, before, own);
     }
 
 pub push_without-returns-then-is_empty : goal.push_without-returns-then-is_empty
@@ -41,7 +39,6 @@ push_without-returns-then-is_empty t c =
         IsCharged_refl g g refl,
       );
       counted = one_more g.units c.args.lists.now.items c.push.new.self.items c.args.rows pushed;
-      pairs = λ n some h. absurd (some none);
     }
 
 pub push_without-returns : goal.push_without-returns
@@ -58,17 +55,12 @@ push_without-returns t c =
     let charged : IsCharged g h = grind arith in
     let left : c.in_ok-left.left.items ≡ others_of col cols = grind arith in
     let slice : c.as_slice-3.result.now ≡ others_of col cols = grind arith in
-    let rows = c.args.rows in
-    let parts = c.in_ok-parts.parts in
-    let given : c.as_slice-2.result.now ≡ rows = grind arith in
-    let paid : ¬ HasEquality col rows → g.units + pairs_on col rows ≤ h.units + least_units parts = rw given at c.in_ok-parts.ensures.pairs in
     record {
       exact = along_after g h c.push_parts.new.meter c.args.columns col cols c.args.rows c.in_ok-parts.parts c.args.lists.now.items
           c.push_parts.new.lists.items c.push_parts.result c.requires.distinct among low charged are
           (rw slice at c.push_parts.ensures.exact);
       counted = counted_after g h c.push_parts.new.meter c.in_ok-parts.parts c.args.lists.now.items c.push_parts.new.lists.items c.push_parts.result charged
           c.push_parts.ensures.counted;
-      pairs = λ n some p. owed_paid g h c.push_parts.new.meter n (least_units parts) c.push_parts.result (owed_of g h n col rows parts (p at 0 inside) paid) c.push_parts.ensures.pairs;
     }
 
 pub push_without-push_parts-requires : goal.push_without-push_parts-requires

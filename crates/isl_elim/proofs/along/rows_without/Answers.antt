@@ -5,7 +5,6 @@ use Rattle.isl_piece.specs.Normal.{normal_rows}
 use Rattle.isl_piece.specs.System.{HoldRows}
 use Rattle.isl_elim.specs.Elimination.{AddsAlong}
 use Rattle.isl_elim.proofs.AlongLaws.{along_normal, along_false, proper_rows}
-use Rattle.isl_elim.proofs.PairsLaws.{no_pairs, pairs_of}
 use Rattle.isl_elim.proofs.along.rows_without.Goals as goal
 
 pub push_without-requires-clause-rows : goal.push_without-requires-clause-rows
@@ -25,10 +24,6 @@ returns-in-None c =
     record {
       exact = (along_false g c.args.columns c.args.cols.now c.args.rows.now [] c.new.result.items none points, IsCharged_refl g g refl);
       counted = let n = ap length none in omega (arith, n);
-      pairs = λ n some h.
-          let rows = c.args.rows.now in
-          let made : normal_rows rows ≡ None = rw same at (sym c.in_ok-normalise.ensures.exact ∙ c.in-None.is) in
-          absurd (no_pairs n c.args.cols.now rows made h);
     }
 
 pub returns-in_ok-push_without-in-Some : goal.returns-in_ok-push_without-in-Some
@@ -43,8 +38,4 @@ returns-in_ok-push_without-in-Some c =
     record {
       exact = (along_normal g c.args.columns c.args.cols.now c.args.rows.now normal [] c.push_without.new.lists.items points (rw none at added), charged);
       counted = let w : g.units + length c.push_without.new.lists.items ≤ c.push_without.new.meter.units + (length c.new-lists.result.items + 1) = grind arith in let n = ap length none in omega (arith, w, n);
-      pairs = λ n some h.
-          let rows = c.args.rows.now in
-          let made : normal_rows rows ≡ Some normal = rw same at (sym c.in_ok-normalise.ensures.exact ∙ c.in-Some.is) in
-          c.in_ok-push_without-in-Some.ensures.pairs n some (pairs_of n c.args.cols.now rows normal made h);
     }

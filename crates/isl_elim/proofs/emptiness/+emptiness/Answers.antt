@@ -2,13 +2,12 @@ use Rattle.std.proofs.Common.{◌≡◌, ◌≢◌, ◌↔◌, ◌∙◌, ◌<�
 use Rattle.std.specs.Prelude.{IsTrue}
 use Rattle.isl_meter.specs.Gauge.{IsCharged, IsCutBy}
 use Rattle.isl_omega.specs.Equality.{HasEquality}
-use Rattle.isl_column.specs.Exact.{pairs_on}
 use Rattle.isl_meter.proofs.CutLemmas.{IsCharged_trans}
-use Rattle.isl_column.specs.Parts.{ArePartsOf, AreNone, least_units}
+use Rattle.isl_column.specs.Parts.{ArePartsOf, AreNone}
 use Rattle.isl_elim.specs.Emptiness.{HoldNowhere}
 use Rattle.isl_column.proofs.PartsLemmas.{parts_kept}
 use Rattle.isl_elim.proofs.EmptinessLaws.{some_column, answered_after, head_found, head_holds, head_missing, parts_nowhere, rest_nowhere, some_holds, none_holds, so_far_next}
-use Rattle.isl_elim.proofs.PartsLaws.{part_found, parts_after, proper_kept, owed_of, owed_paid, charged_paid, head_paid, rest_paid}
+use Rattle.isl_elim.proofs.PartsLaws.{part_found, parts_after, proper_kept}
 use Rattle.isl_elim.proofs.emptiness.+emptiness.Goals as goal
 
 pub hold_nowhere-any_column-col-requires : goal.hold_nowhere-any_column-col-requires
@@ -48,13 +47,9 @@ hold_nowhere-returns-in_default t c =
     let taken = c.take_head.ensures.part h (columns - 1) (parts_after g h columns col rows parts charged are) in
     let same = head_missing h (columns - 1) parts rest c.take_head.result (grind arith) taken in
     let both : AreNone (columns - 1) rest ↔ HoldNowhere columns rows = rw same (parts_nowhere g columns col rows parts inside are) in
-    let slice : c.as_slice-2.result.now ≡ rows = grind arith in
-    let paid : ¬ HasEquality col rows → g.units + pairs_on col rows ≤ h.units + least_units parts = rw slice at c.in_ok-parts.ensures.pairs in
     record {
       exact = answered_after g h c.rest_is_empty.new.meter (AreNone (columns - 1) rest) (HoldNowhere columns rows) c.rest_is_empty.result both charged
           c.rest_is_empty.ensures.exact;
-      pairs = λ n some p. rest_paid g h c.rest_is_empty.new.meter columns n (least_units rest) rows c.rest_is_empty.result
-          (rw same (owed_of g h n col rows parts (p col inside) paid)) charged p c.rest_is_empty.ensures.pairs;
     }
 
 pub hold_nowhere-hold_nowhere-requires : goal.hold_nowhere-hold_nowhere-requires
@@ -91,12 +86,7 @@ hold_nowhere-returns-then-not-branch t c =
     let next = head_found h (columns - 1) parts rest c.take_head.result head (grind arith) taken in
     let answer = c.in_ok-hold_nowhere.ensures.exact in
     let somewhere : c.in_ok-hold_nowhere.field-0 ≡ false = grind arith in
-    let slice : c.as_slice-2.result.now ≡ rows = grind arith in
-    let paid : ¬ HasEquality col rows → g.units + pairs_on col rows ≤ h.units + least_units parts = rw slice at c.in_ok-parts.ensures.pairs in
-    let found : parts.dark_shadow.dark ≡ Some head = sym c.take_head.ensures.head ∙ c.in-Some.is in
-    let none = head_paid parts head found in
     record {
-      pairs = λ n some p. let owed = owed_of g h n col rows parts (p col inside) paid in let more = answer.1.units in omega (arith, owed, none, more);
       exact = head_holds g h h c.hold_nowhere.new.meter columns col rows head parts rest c.in_ok-hold_nowhere.field-0 somewhere inside are next answer.0
           answer.1 charged;
     }
@@ -140,16 +130,7 @@ hold_nowhere-returns t c =
     let k = c.hold_nowhere.new.meter in
     let answer = c.in_ok-hold_nowhere.ensures.exact in
     let both = rest_nowhere g h columns col rows head parts rest inside are next (answer.0.0 (grind arith)) in
-    let slice : c.as_slice-2.result.now ≡ rows = grind arith in
-    let paid : ¬ HasEquality col rows → g.units + pairs_on col rows ≤ h.units + least_units parts = rw slice at c.in_ok-parts.ensures.pairs in
-    let found : parts.dark_shadow.dark ≡ Some head = sym c.take_head.ensures.head ∙ c.in-Some.is in
-    let none = head_paid parts head found in
     record {
-      pairs = λ n some p.
-          let owed = owed_of g h n col rows parts (p col inside) paid in
-          let more = answer.1.units in
-          charged_paid g k c.rest_is_empty-2.new.meter n (λ (empty : Bool). IsTrue empty ↔ AreNone (columns - 1) rest) (IsCutBy k c.rest_is_empty-2.new.meter) c.rest_is_empty-2.result
-          (omega (arith, owed, none, more)) c.rest_is_empty-2.ensures.exact;
       exact = answered_after g k c.rest_is_empty-2.new.meter (AreNone (columns - 1) rest) (HoldNowhere columns rows) c.rest_is_empty-2.result both
           (IsCharged_trans g h k charged answer.1) c.rest_is_empty-2.ensures.exact;
     }
@@ -160,10 +141,6 @@ hold_nowhere-returns-then-columns-eq1 t c =
     let g = c.args.meter.now in
     record {
       exact = rw one c.column_nowhere.ensures.exact;
-      pairs = λ n some p.
-          let q = p 0 some in
-          let few = q.1 in
-          owed_paid g g c.column_nowhere.new.meter n (pairs_on 0 c.args.rows.now) c.column_nowhere.result (omega (arith, few)) (c.column_nowhere.ensures.pairs q.0);
     }
 
 pub are_empty-returns-then-not-branch : goal.are_empty-returns-then-not-branch
@@ -180,7 +157,6 @@ are_empty-returns-then-not-branch t c =
       exact = some_holds g h k c.hold_nowhere.new.meter c.args.columns c.args.parts c.loop-parts.parts c.next.new.self c.in-Some.rows
           c.in_ok-hold_nowhere.field-0 no c.loop-parts.invariant next
           c.in_ok-rows.ensures.exact.1 answer.0 answer.1;
-      pairs = let before = c.loop-parts.invariant.pairs in let own = c.in_ok-rows.ensures.pairs in let more = answer.1.units in omega (arith, before, own, more);
     }
 
 pub are_empty-loop-parts-preserved : goal.are_empty-loop-parts-preserved
@@ -195,7 +171,6 @@ are_empty-loop-parts-preserved t c =
     let answer = c.in_ok-hold_nowhere.ensures.exact in
     so_far_next g h m c.args.columns c.args.parts c.loop-parts.parts c.next.new.self c.in-Some.rows c.loop-parts.invariant next
     (answer.0.0 (grind arith)) (IsCharged_trans h k m c.in_ok-rows.ensures.exact.1 answer.1)
-    (let own = c.in_ok-rows.ensures.pairs in let more = answer.1.units in omega (arith, own, more))
 
 pub are_empty-returns : goal.are_empty-returns
 are_empty-returns t c =
@@ -206,8 +181,4 @@ are_empty-returns t c =
     record {
       exact = none_holds g h k c.args.columns c.args.parts c.loop-parts.parts c.loop-parts.invariant none
           c.in_ok-rows.ensures.exact.1;
-      pairs = let before = c.loop-parts.invariant.pairs in let own = c.in_ok-rows.ensures.pairs in omega (arith, before, own);
     }
-
-pub rest_is_empty-returns-then-branch-clause-pairs : goal.rest_is_empty-returns-then-branch-clause-pairs
-rest_is_empty-returns-then-branch-clause-pairs t c = λ n few p. c.in_ok-shadows_hold_nowhere.ensures.pairs n c.requires.some p

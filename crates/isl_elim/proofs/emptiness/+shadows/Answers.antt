@@ -2,7 +2,6 @@ use Rattle.std.proofs.Common.{◌≡◌, ◌<◌, ◌-◌, Bool, None, Some, ap,
 use Rattle.std.specs.Prelude.{IsTrue}
 use Rattle.isl_meter.specs.Gauge.{Gauge, IsCharged, IsCutBy}
 use Rattle.isl_elim.specs.Emptiness.{HoldNowhere}
-use Rattle.isl_elim.proofs.PartsLaws.{charged_paid}
 use Rattle.isl_elim.proofs.EmptinessLaws.{shadow_after, shadow_missing, shadow_found}
 use Rattle.isl_elim.proofs.emptiness.+shadows.Goals as goal
 
@@ -18,11 +17,6 @@ returns-in-None t c =
     let none : c.in_ok-real_shadow.field-0 ≡ None = grind arith in
     record {
       exact = ((λ _. shadow_missing g columns col rows c.as_slice-2.result.now c.in_ok-real_shadow.field-0 inside slice none c.in_ok-real_shadow.ensures.implied), charged);
-      pairs = λ n some p.
-          let q = p col inside in
-          let few = q.1 in
-          let all = ap (λ (x : Gauge). x.units) ((rw slice at c.in_ok-real_shadow.ensures.pairs) q.0).1 in
-          omega (arith, few, all);
     }
 
 pub returns-in-Some : goal.returns-in-Some
@@ -38,13 +32,7 @@ returns-in-Some t c =
     let charged : IsCharged g h = grind arith in
     let some : c.in_ok-real_shadow.field-0 ≡ Some shadow = grind arith in
     let implied = shadow_found g columns col rows c.as_slice-2.result.now shadow c.in_ok-real_shadow.field-0 slice some c.in_ok-real_shadow.ensures.implied in
-    let k = c.shadows_hold_nowhere.new.meter in
     record {
-      pairs = λ n some p.
-          let q = p col inside in
-          let few = q.1 in
-          let all = ap (λ (x : Gauge). x.units) ((rw slice at c.in_ok-real_shadow.ensures.pairs) q.0).1 in
-          charged_paid g h k n (λ (empty : Bool). IsTrue empty → HoldNowhere (columns - 1) shadow) (IsCutBy h k) c.shadows_hold_nowhere.result (omega (arith, few, all)) c.shadows_hold_nowhere.ensures.exact;
       exact = shadow_after g h c.shadows_hold_nowhere.new.meter columns col rows shadow c.shadows_hold_nowhere.result inside implied charged
           c.shadows_hold_nowhere.ensures.exact;
     }

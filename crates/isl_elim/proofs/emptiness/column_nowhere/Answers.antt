@@ -71,10 +71,3 @@ next-requires c =
     let h = c.of.new.meter in
     let are : ArePartsOf g 1 0 c.args.rows.now c.in_ok-parts.parts = grind arith in
     record { parts = parts_after g h 1 0 c.args.rows.now c.in_ok-parts.parts c.in_ok-parts.ensures.exact.1 are }
-
-pub returns-clause-pairs : goal.returns-clause-pairs
-returns-clause-pairs c = λ none.
-    let rows_are : c.as_slice.result.now ≡ c.args.rows.now = grind arith in
-    let owed = (rw rows_are at c.in_ok-parts.ensures.pairs) none in
-    let own = c.in_ok-next.ensures.pairs in
-    omega (arith, owed, own)

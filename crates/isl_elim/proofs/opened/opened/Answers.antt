@@ -1,6 +1,5 @@
 use Rattle.std.proofs.Common.{◌≡◌, ◌↔◌, ◌++◌, ◌<◌, ◌∙◌, sym, ap, ℤ, List, length, get_or, arith}
 use Rattle.isl_piece.specs.declared.row.Row.{Row}
-use Rattle.isl_piece.specs.Normal.{normal_rows}
 use Rattle.isl_piece.specs.System.{HoldRows}
 use Rattle.isl_elim.specs.Opened.{definition_rows}
 use Rattle.isl_elim.proofs.OpenedLaws.{definition_inside, opened_step, opened_end, opened_none, opened_some}
@@ -34,10 +33,7 @@ returns-in-None c =
     let end : i ≡ length s.definitions = grind arith in
     let all = opened_end s i c.loop-definition.rows end c.loop-definition.invariant.0 in
     let points : (point : List ℤ) → ¬ HoldRows (s.rows ++ definition_rows s.columns s.definitions) point = λ point. rw all at (rw c.in-None.is at (c.in_ok-normalise.ensures.points point)) in
-    record {
-      exact = (opened_none c.args.meter.now s c.requires.well_formed points, c.loop-definition.invariant.2);
-      rows = sym c.in-None.is ∙ c.in_ok-normalise.ensures.exact ∙ ap (λ (rows : List Row). normal_rows rows) all;
-    }
+    (opened_none c.args.meter.now s c.requires.well_formed points, c.loop-definition.invariant.2)
 
 pub returns-in-Some : goal.returns-in-Some
 returns-in-Some c =
@@ -51,7 +47,4 @@ returns-in-Some c =
     let within = rw same at (rw c.in-Some.is at c.in_ok-normalise.ensures.within) in
     let normal = rw c.in-Some.is at c.in_ok-normalise.ensures.normal in
     let points : (point : List ℤ) → HoldRows c.in-Some.normal point ↔ HoldRows (s.rows ++ definition_rows s.columns s.definitions) point = λ point. rw all at (rw c.in-Some.is at (c.in_ok-normalise.ensures.points point)) in
-    record {
-      exact = (opened_some g s c.in-Some.normal c.requires.well_formed shape within normal points, same);
-      rows = sym c.in-Some.is ∙ c.in_ok-normalise.ensures.exact ∙ ap (λ (rows : List Row). normal_rows rows) all;
-    }
+    (opened_some g s c.in-Some.normal c.requires.well_formed shape within normal points, same)

@@ -17,10 +17,3 @@ returns-clause-exact_column c = λ none exact no. c.eliminate_all.ensures.exact_
 
 pub returns-clause-solved_column : goal.returns-clause-solved_column
 returns-clause-solved_column c = λ none equality. c.eliminate_all.ensures.solved_column c.args.col refl none equality
-
-pub returns-clause-all_pairs : goal.returns-clause-all_pairs
-returns-clause-all_pairs c = λ n some h. c.eliminate_all.ensures.all_pairs n (some_more (dependents c.args.system.now (c.args.col ∷ [])) some) h
-  where
-    some_more : (cols : List ℕ) → cols ≢ [] → 1 < suc (length cols)
-    some_more [] n = absurd (n refl)
-    some_more (c ∷ cols) n = omega arith

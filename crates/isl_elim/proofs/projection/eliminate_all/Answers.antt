@@ -130,17 +130,3 @@ returns-clause-equality c = λ col e none.
     let cols = c.args.cols.now in
     let gone : c.as_slice-2.result.now ≡ with_dependents s cols = grind arith in
     c.lists_left.ensures.equality col (gone ∙ gone_one s cols col e none) (low_one s cols col e c.requires.cols_in)
-
-pub returns-clause-pairs : goal.returns-clause-pairs
-returns-clause-pairs c = λ col e none no.
-    let s = c.args.system.now in
-    let cols = c.args.cols.now in
-    let gone : c.as_slice-2.result.now ≡ with_dependents s cols = grind arith in
-    c.in_ok-lists.ensures.pairs col (gone ∙ gone_one s cols col e none) (low_one s cols col e c.requires.cols_in) no
-
-pub returns-clause-all_pairs : goal.returns-clause-all_pairs
-returns-clause-all_pairs c = λ n more h.
-    let s = c.args.system.now in
-    let cols = c.args.cols.now in
-    let gone : c.as_slice-2.result.now ≡ with_dependents s cols = grind arith in
-    (rw gone at c.in_ok-lists.ensures.all_pairs) n more h

@@ -26,6 +26,3 @@ returns-then-gone-free-clause-solved_column c = λ col e low equality.
     let slice : c.as_slice.result.now ≡ rows = grind arith in
     let same : get_or c.args.gone.now 0 0 ≡ col = ap (λ (cols : List ℕ). get_or cols 0 0) e in
     solved_same (λ (v : Vec (List Row) Global). v.items) rows (get_or c.args.gone.now 0 0) col c.eliminate_rows.result same (rw slice at c.eliminate_rows.ensures.solved_column) equality
-
-pub returns-then-gone-free-clause-all_pairs : goal.returns-then-gone-free-clause-all_pairs
-returns-then-gone-free-clause-all_pairs c = λ n more h. let one : length c.args.gone.now ≡ 1 = grind arith in absurd (omega (arith, one, more))

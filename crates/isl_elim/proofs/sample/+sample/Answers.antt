@@ -4,11 +4,10 @@ use Rattle.isl_meter.specs.Gauge.{IsCharged}
 use Rattle.isl_meter.proofs.CutLemmas.{IsCharged_refl, IsCharged_trans}
 use Rattle.isl_piece.specs.System.{HoldRows}
 use Rattle.isl_omega.specs.Equality.{HasEquality}
-use Rattle.isl_column.specs.Exact.{pairs_on}
-use Rattle.isl_column.specs.Parts.{AreParts, ArePartsOf, AreNone, HoldsPart, least_units}
+use Rattle.isl_column.specs.Parts.{AreParts, ArePartsOf, AreNone, HoldsPart}
 use Rattle.isl_elim.specs.Sample.{IsSample, IsNowhere}
 use Rattle.isl_elim.proofs.EmptinessLaws.{some_column, so_far_next}
-use Rattle.isl_elim.proofs.PartsLaws.{part_found, parts_after, owed_of, empty_pairs}
+use Rattle.isl_elim.proofs.PartsLaws.{part_found, parts_after}
 use Rattle.isl_elim.proofs.SampleLaws.{none_sample, none_sampled, some_sampled, parts_none}
 use Rattle.isl_elim.proofs.sample.+sample.Goals as goal
 
@@ -19,7 +18,6 @@ sample_rows-returns-then-is_empty t c =
     let zeros : c.in_ok-zeros.zeros.items ≡ replicate c.args.columns (pos 0) = grind arith in
     record {
       exact = (none_sample g c.args.columns c.args.rows.now c.in_ok-zeros.zeros.items none zeros, IsCharged_refl g g refl);
-      pairs = λ n some p. let z = empty_pairs c.args.columns n c.args.rows.now none some p in omega (arith, z);
     }
 
 pub sample_rows-any_column-col-requires : goal.sample_rows-any_column-col-requires
@@ -38,12 +36,7 @@ sample_rows-returns-in-None t c =
     let nowhere : IsNowhere (c.args.columns - 1) (HoldsPart c.in_ok-parts.parts) = grind arith in
     let first : IsCharged g h = grind arith in
     let second : IsCharged h k = grind arith in
-    let rows = c.args.rows.now in
-    let parts = c.in_ok-parts.parts in
-    let slice : c.as_slice-2.result.now ≡ rows = grind arith in
-    let paid : ¬ HasEquality col rows → g.units + pairs_on col rows ≤ h.units + least_units parts = rw slice at c.in_ok-parts.ensures.pairs in
     record {
-      pairs = λ n some p. let owed = owed_of g h n col rows parts (p col inside) paid in let own = c.in_ok-sample_parts.ensures.pairs in omega (arith, owed, own);
       exact =
           (parts_none g c.args.columns col c.args.rows.now c.in_ok-parts.parts inside are nowhere, IsCharged_trans g h k first second);
     }
@@ -63,11 +56,6 @@ sample_parts-returns-in-Some-2 t c =
       exact = some_sampled g h k m c.args.columns c.args.parts c.loop-parts.parts c.next.new.self c.in-Some.rows point
           c.loop-parts.invariant next c.in_ok-rows.ensures.exact.1 sample
           c.in_ok-point.ensures.exact.1;
-      pairs =
-          let before = c.loop-parts.invariant.pairs in
-          let own = c.in_ok-rows.ensures.pairs in
-          let more = c.in_ok-point.ensures.exact.1.units in
-          omega (arith, before, own, more);
     }
 
 pub sample_parts-loop-parts-preserved : goal.sample_parts-loop-parts-preserved
@@ -82,7 +70,7 @@ sample_parts-loop-parts-preserved t c =
     let nowhere : IsNowhere c.args.columns (HoldRows c.in-Some.rows) = grind arith in
     let charged = IsCharged_trans h k m c.in_ok-rows.ensures.exact.1 c.in_ok-point.ensures.exact.1 in
     so_far_next g h m c.args.columns c.args.parts c.loop-parts.parts c.next.new.self c.in-Some.rows c.loop-parts.invariant next nowhere
-    charged (let own = c.in_ok-rows.ensures.pairs in let more = c.in_ok-point.ensures.exact.1.units in omega (arith, own, more))
+    charged
 
 pub sample_parts-returns : goal.sample_parts-returns
 sample_parts-returns t c =
@@ -93,7 +81,6 @@ sample_parts-returns t c =
     record {
       exact = none_sampled g h k c.args.columns c.args.parts c.loop-parts.parts c.loop-parts.invariant none
           c.in_ok-rows.ensures.exact.1;
-      pairs = let before = c.loop-parts.invariant.pairs in let own = c.in_ok-rows.ensures.pairs in omega (arith, before, own);
     }
 
 pub sample_rows-sample_parts-requires : goal.sample_rows-sample_parts-requires
