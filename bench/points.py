@@ -251,14 +251,15 @@ def lone_name(term):
     return asked[0] if is_one and value(term, Asked()) == 7919 and len(asked) == 1 else None
 
 
-def points(text):
-    """The points of a literal: the text of a space, the numbers of parameters and of coordinates."""
+def points(text, window=range(-4, 5), given=None):
+    """The points of a literal in a window: the text of a space, the numbers of parameters, each in `given` if that is said, and of coordinates."""
     reader = Reader(text)
     params, pieces = reader.literal()
     found = set()
     for tuples, formula in pieces:
         spaces, widths = zip(*[shape(tuple) for tuple in tuples])
-        for point in itertools.product(range(-4, 5), repeat=len(params) + sum(widths)):
+        ranges = [given or window] * len(params) + [window] * sum(widths)
+        for point in itertools.product(*ranges):
             known, left = dict(zip(params, point)), list(point[len(params):])
             if all([fits(tuple, left, known, lone_name) for tuple in tuples]) and formula(known):
                 found.add((" -> ".join(spaces), point))
@@ -286,4 +287,5 @@ def main():
     return 1 if differ else 0
 
 
-sys.exit(main())
+if __name__ == "__main__":
+    sys.exit(main())
