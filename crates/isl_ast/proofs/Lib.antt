@@ -4,3 +4,4 @@ pub mod SizeLaws
 pub mod StepLaws
 pub mod AtomLaws
 pub mod LoopLaws
+pub mod FormedLaws

@@ -3,10 +3,12 @@
 
 mod arguments;
 mod call;
+mod formed;
 mod run;
 mod value;
 
 pub use call::Call;
+pub use formed::is_loop_over;
 pub use isl_loop::{Atom, Expr, Item, Loop};
 pub use isl_loop_text::loop_text;
 pub use run::execute;
