@@ -1,0 +1,4 @@
+pub mod PsetAgain
+pub mod PsetLaws
+pub mod PsetTaken
+pub mod ReadLaws

@@ -1,0 +1,5 @@
+pub mod Pset
+pub mod PsetGrammar
+pub mod Read
+pub use Rattle.isl_pset.specs.PsetGrammar
+pub use Rattle.isl_pset.specs.Read
