@@ -9,3 +9,5 @@ pub mod ScopeLaws
 pub mod ChosenLaws
 pub mod TypedLaws
 pub mod QuietLaws
+pub mod PutInLaws
+pub mod PutBackLaws
