@@ -6,6 +6,7 @@ use Rattle.std.specs.Str.{bytes_eq}
 use Rattle.isl_meter.specs.Gauge.{Gauge}
 use Rattle.isl_space.specs.Name.{Name}
 use Rattle.isl_space.specs.Valuation.{Valuation}
+use Rattle.isl_words.specs.Options.{OptionsView}
 use Rattle.isl_union.specs.KeptValue.{KeptValue}
 pub use Rattle.isl_union.specs.Numbers.{HasNumbersUpTo}
 use Rattle.isl_expr.specs.declared.tree.ValueKind.{ValueKind}
@@ -73,8 +74,8 @@ Fits limit state = EachKept (λ kept. (part : ListPart) → HasNumbersUpTo (unsi
 abbrev pub Everywhere : StateView → (Valuation → Type 0) → Type 0
 Everywhere state P = (valuation : Valuation) → P valuation
 
--- what is bound, the meter, and the numbers that the command line gives to parameters, as one moment sees them
+-- what is bound, the meter, and what the command line chooses, such as the numbers of parameters, as one moment sees them
 pub record Moment : Type 0 where
   pub state : StateView
   pub meter : Gauge
-  pub at : Valuation
+  pub options : OptionsView
