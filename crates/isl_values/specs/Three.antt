@@ -25,18 +25,19 @@ abbrev pub AreBothOf : StateView → Expr → ℕ → ListValue → Type 0
 AreBothOf state expr limit list = IsValueAt state First expr limit list.first.value × IsValueAt state Second expr limit list.second.value
 
 -- both are those of what is kept
-pub record AreKept (kept : Kept) (list : ListValue) : Type 0 where
-  pub values : (list.first.value ≡ kept.value) × (list.second.value ≡ value_at Second kept)
-  pub kept : (part : ListPart) → IsKeptValue (value_at part kept)
-  pub definitions : (part : ListPart) → HasNoDefinitions (value_at part kept)
-  pub params : (part : ListPart) → (value_at part kept).params ≡ kept.value.params
+pub record AreKept (bound : Kept) (list : ListValue) : Type 0 where
+  pub first : list.first.value ≡ bound.value
+  pub second : list.second.value ≡ value_at Second bound
+  pub kept : (part : ListPart) → IsKeptValue (value_at part bound)
+  pub definitions : (part : ListPart) → HasNoDefinitions (value_at part bound)
+  pub params : (part : ListPart) → (value_at part bound).params ≡ bound.value.params
 
 -- ---- source, sink and schedule
 -- those that are worked out of three operands
 pub record AreMade (state : StateView) (source sink schedule : Expr) (limit : ℕ) (three : Accesses) : Type 0 where
-  pub source : IsValueAt state First source limit three.source.value
-  pub sink : IsValueAt state First sink limit three.sink.value
-  pub schedule : IsValueAt state First schedule limit three.schedule.value
+  pub first : IsValueAt state First source limit three.source.value
+  pub second : IsValueAt state First sink limit three.sink.value
+  pub third : IsValueAt state First schedule limit three.schedule.value
 
 -- the operands end, one after another
 abbrev pub OperandsEnd : StateView → Expr → Expr → Expr → End → Type 0

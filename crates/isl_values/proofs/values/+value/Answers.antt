@@ -4,7 +4,6 @@ use Rattle.isl_meter.specs.Gauge.{limit_of}
 use Rattle.isl_union.specs.KeptValue.{HasNoDefinitions}
 use Rattle.isl_kinds.specs.Typed.{has_unknown}
 use Rattle.isl_values.specs.State.{scope_of}
-use Rattle.isl_values.specs.Ends.{Ends}
 use Rattle.isl_values.proofs.KeptLaws.{name_makes, name_goes_on, literal_makes, literal_goes_on, literal_paid, literal_unmade, never_unbound}
 use Rattle.isl_values.proofs.KeptLaws.{only_literal}
 use Rattle.isl_values.proofs.DepthLaws.{first_smaller, links_smaller, link_smaller, argument_smaller, operand_smaller, postfixes_smaller}
@@ -22,8 +21,8 @@ use Rattle.isl_values.proofs.OperandLaws.{same_Prefix, argument_sound, word_supp
 use Rattle.isl_values.proofs.values.+value.Goals as goal
 
 -- ---- the operands behind the first
-pub joined_past-value_of-requires : goal.joined_past-value_of-requires
-joined_past-value_of-requires t c =
+pub joined_past-part_of-requires : goal.joined_past-part_of-requires
+joined_past-part_of-requires t c =
     let low : c.loop-link.link-index < length c.args.links.now = omega arith in (
       search (rules, link_smaller c.args.links.now c.loop-link.link-index c.link-item.result low c.link-item.is),
       (
@@ -36,7 +35,7 @@ pub joined_past-returns-in-Err : goal.joined_past-returns-in-Err
 joined_past-returns-in-Err t c =
     let low : c.loop-link.link-index < length c.args.links.now = omega arith in record {
       made = link_failed c.args.state.now c.args.links.now c.loop-link.link-index c.link-item.result low c.link-item.is c.args.first.value
-          c.args.meter.now c.loop-link.meter c.loop-link.left.value c.loop-link.invariant c.value_of.new.meter c.in-Err.refusal
+          c.args.meter.now c.loop-link.meter c.loop-link.left.value c.loop-link.invariant c.part_of.new.meter c.in-Err.refusal
           c.in-Err.ensures.made;
       goes_on = tt;
     }
@@ -44,13 +43,13 @@ joined_past-returns-in-Err t c =
 pub joined_past-joined-requires-clause-left : goal.joined_past-joined-requires-clause-left
 joined_past-joined-requires-clause-left t c =
     let so_far = c.loop-link.invariant in
-    numbers_of c.loop-link.meter c.value_of.new.meter c.loop-link.left.value c.deref-in-loop-link.result.now c.in-Ok.ensures.made.1.charged
+    numbers_of c.loop-link.meter c.part_of.new.meter c.loop-link.left.value c.deref-in-loop-link.result.now c.in-Ok.ensures.made.1.charged
     c.deref-in-loop-link.ensures
     (numbers_later c.args.meter.now c.loop-link.meter c.loop-link.left.value so_far.paid.charged so_far.made.numbers)
 
 pub joined_past-joined-requires-clause-right : goal.joined_past-joined-requires-clause-right
 joined_past-joined-requires-clause-right t c =
-    numbers_of c.loop-link.meter c.value_of.new.meter c.in-Ok.right.value c.deref-in-loop-link-2.result.now c.in-Ok.ensures.made.1.charged
+    numbers_of c.loop-link.meter c.part_of.new.meter c.in-Ok.right.value c.deref-in-loop-link-2.result.now c.in-Ok.ensures.made.1.charged
     c.deref-in-loop-link-2.ensures c.in-Ok.ensures.made.0.numbers
 
 pub joined_past-returns-in-Err-joined : goal.joined_past-returns-in-Err-joined
@@ -59,7 +58,7 @@ joined_past-returns-in-Err-joined t c =
     let state = c.args.state.now in
     let g = c.args.meter.now in
     let h = c.loop-link.meter in
-    let k = c.value_of.new.meter in record {
+    let k = c.part_of.new.meter in record {
       made = join_failed state c.args.links.now c.loop-link.link-index c.link-item.result low c.link-item.is c.args.first.value g h
           c.deref-in-loop-link.result.now
           (subst (IsRowTo state c.args.links.now c.args.first.value c.loop-link.link-index g h) (sym c.deref-in-loop-link.ensures)
@@ -76,7 +75,7 @@ joined_past-loop-link-preserved t c =
     let state = c.args.state.now in
     let g = c.args.meter.now in
     let h = c.loop-link.meter in
-    let k = c.value_of.new.meter in
+    let k = c.part_of.new.meter in
     row_step state c.args.links.now c.loop-link.link-index c.link-item.result low c.link-item.is c.args.first.value g h
     c.deref-in-loop-link.result.now
     (subst (IsRowTo state c.args.links.now c.args.first.value c.loop-link.link-index g h) (sym c.deref-in-loop-link.ensures)
@@ -133,8 +132,8 @@ past_postfixes-loop-postfix-preserved t c =
     c.loop-postfix.invariant)
     c.followed.new.meter c.in-Ok.made.value c.in-Ok.ensures.made c.in-Ok.ensures.goes_on
 
-pub followed-value_of-requires : goal.followed-value_of-requires
-followed-value_of-requires t c = (
+pub followed-part_of-requires : goal.followed-part_of-requires
+followed-part_of-requires t c = (
   search (rules, applied_smaller c.args.postfix.now c.in-Apply.expr c.in-Apply.is),
   (
     applied_sound c.args.state.now c.args.postfix.now c.in-Apply.expr c.in-Apply.is c.requires.sound,
@@ -144,11 +143,11 @@ followed-value_of-requires t c = (
 
 pub followed-applied_to-requires-clause-map : goal.followed-applied_to-requires-clause-map
 followed-applied_to-requires-clause-map t c =
-    numbers_later c.args.meter.now c.value_of.new.meter c.args.operand.now c.in-Ok.ensures.made.1.charged c.requires.numbers
+    numbers_later c.args.meter.now c.part_of.new.meter c.args.operand.now c.in-Ok.ensures.made.1.charged c.requires.numbers
 
 pub followed-applied_to-requires-clause-argument : goal.followed-applied_to-requires-clause-argument
 followed-applied_to-requires-clause-argument t c =
-    numbers_of c.args.meter.now c.value_of.new.meter c.in-Ok.argument.value c.deref.result.now c.in-Ok.ensures.made.1.charged
+    numbers_of c.args.meter.now c.part_of.new.meter c.in-Ok.argument.value c.deref.result.now c.in-Ok.ensures.made.1.charged
     c.deref.ensures c.in-Ok.ensures.made.0.numbers
 
 pub followed-returns-in-Inverse : goal.followed-returns-in-Inverse
@@ -170,7 +169,7 @@ followed-returns-in-Ok t c =
     let state = c.args.state.now in
     let left = c.args.operand.now in
     let g = c.args.meter.now in
-    let h = c.value_of.new.meter in
+    let h = c.part_of.new.meter in
     let k = c.applied_to.new.meter in
     let argument = c.in-Ok.argument.value in
     let one = c.deref.result.now in
@@ -188,54 +187,53 @@ followed-returns-in-Ok t c =
 pub followed-returns-in-Err : goal.followed-returns-in-Err
 followed-returns-in-Err t c = record {
   made = argument_failed c.args.state.now c.args.postfix.now c.in-Apply.expr c.in-Apply.is c.args.operand.now c.args.meter.now
-      c.value_of.new.meter c.in-Err.refusal
+      c.part_of.new.meter c.in-Err.refusal
       c.in-Err.ensures.made;
   goes_on = tt;
 }
 
 -- ---- an expression
-pub value_of-unreachable-requires : goal.value_of-unreachable-requires
-value_of-unreachable-requires t c =
+pub part_of-unreachable-requires : goal.part_of-unreachable-requires
+part_of-unreachable-requires t c =
     never_unbound c.args.state.now c.in-Name.name (sym c.get.ensures ∙ ap option_copied c.in-None.is)
     (sym (ap (has_unknown (scope_of c.args.state.now)) c.in-Name.is) ∙ c.requires.sound.known)
 
-pub value_of-lowered-requires-clause-well_formed : goal.value_of-lowered-requires-clause-well_formed
-value_of-lowered-requires-clause-well_formed t c =
+pub part_of-lowered-requires-clause-well_formed : goal.part_of-lowered-requires-clause-well_formed
+part_of-lowered-requires-clause-well_formed t c =
     (only_literal (scope_of c.args.state.now) c.args.expr.now c.in-Literal.literal c.in-Literal.is c.requires.sound).1
 
-pub value_of-returns-in_ok-shared-in-Some : goal.value_of-returns-in_ok-shared-in-Some
-value_of-returns-in_ok-shared-in-Some t c = record {
+pub part_of-returns-in_ok-shared-in-Some : goal.part_of-returns-in_ok-shared-in-Some
+part_of-returns-in_ok-shared-in-Some t c = record {
   made = (
-    name_makes c.args.state.now (limit_of c.args.meter.now) c.args.expr.now c.in-Name.name c.in-Some.kept.now
+    name_makes c.args.state.now c.args.part (limit_of c.args.meter.now) c.args.expr.now c.in-Name.name c.in-Some.kept.now
         c.in_ok-shared-in-Some.field-0.value c.in-Name.is
         c.in_ok-shared-in-Some.ensures.shared (sym c.get.ensures ∙ ap option_copied c.in-Some.is) c.in_ok-shared-in-Some.ensures.kept
-        c.in_ok-shared-in-Some.ensures.definitions
+        c.in_ok-shared-in-Some.ensures.params c.in_ok-shared-in-Some.ensures.definitions
         c.requires.fits,
     paid_same _ c.args.meter.now c.args.meter.now refl,
   );
   goes_on = name_goes_on c.args.state.now c.args.expr.now c.in-Name.name c.in-Name.is;
 }
 
-pub value_of-returns-in-Literal : goal.value_of-returns-in-Literal
-value_of-returns-in-Literal t c =
+pub part_of-returns-in-Literal : goal.part_of-returns-in-Literal
+part_of-returns-in-Literal t c =
     let state = c.args.state.now in
     let expr = c.args.expr.now in
     let literal = c.in-Literal.literal in
     let formed = (only_literal (scope_of state) expr literal c.in-Literal.is c.requires.sound).1 in record {
       made = match_map c.lowered.result _ _ _ (IsWhyNotMade state expr c.args.meter.now c.lowered.new.meter)
           (λ made one. (
-            literal_makes state (limit_of c.args.meter.now) expr literal made.value c.in-Literal.is formed one.0,
+            literal_makes state c.args.part (limit_of c.args.meter.now) expr literal made.value c.in-Literal.is formed one.0,
             literal_paid expr literal c.args.meter.now c.lowered.new.meter c.in-Literal.is one.1,
           ))
-          (λ refusal why. literal_unmade expr literal (Ends state expr) c.args.meter.now c.lowered.new.meter refusal
-          c.in-Literal.is why)
+          (λ refusal why. literal_unmade state expr literal c.args.meter.now c.lowered.new.meter refusal c.in-Literal.is why)
           c.lowered.ensures;
       goes_on = ok_of c.lowered.result _ (λ value. literal_goes_on state expr literal c.in-Literal.is);
     }
 
 -- ---- a row
-pub value_of-value_of-requires : goal.value_of-value_of-requires
-value_of-value_of-requires t c =
+pub part_of-part_of-requires : goal.part_of-part_of-requires
+part_of-part_of-requires t c =
     let expr = c.args.expr.now in
     let first = c.get-in-Row.result.now in
     let is = same_Row expr c.in-Row.first first c.in-Row.links c.in-Row.links c.in-Row.is c.get-in-Row.ensures refl in (
@@ -243,8 +241,8 @@ value_of-value_of-requires t c =
       (first_sound c.args.state.now expr first c.in-Row.links is c.requires.sound, c.requires.fits),
     )
 
-pub value_of-joined_past-requires : goal.value_of-joined_past-requires
-value_of-joined_past-requires t c =
+pub part_of-joined_past-requires : goal.part_of-joined_past-requires
+part_of-joined_past-requires t c =
     let expr = c.args.expr.now in
     let first = c.get-in-Row.result.now in
     let links = c.as_slice.result.now in
@@ -254,45 +252,45 @@ value_of-joined_past-requires t c =
       (
         links_sound c.args.state.now expr first links is c.requires.sound,
         (
-          fits_later c.args.meter.now c.value_of.new.meter c.args.state.now one.1.charged c.requires.fits,
-          (numbers_later c.args.meter.now c.value_of.new.meter c.in-Ok.left.value one.1.charged one.0.numbers, one.0.definitions),
+          fits_later c.args.meter.now c.part_of.new.meter c.args.state.now one.1.charged c.requires.fits,
+          (numbers_later c.args.meter.now c.part_of.new.meter c.in-Ok.left.value one.1.charged one.0.numbers, one.0.definitions),
         ),
       ),
     )
 
-pub value_of-returns-in-Ok : goal.value_of-returns-in-Ok
-value_of-returns-in-Ok t c =
+pub part_of-returns-in-Ok : goal.part_of-returns-in-Ok
+part_of-returns-in-Ok t c =
     let state = c.args.state.now in
     let expr = c.args.expr.now in
     let first = c.get-in-Row.result.now in
     let links = c.as_slice.result.now in
     let is = same_Row expr c.in-Row.first first c.in-Row.links links c.in-Row.is c.get-in-Row.ensures c.as_slice.ensures in
     let g = c.args.meter.now in
-    let h = c.value_of.new.meter in
+    let h = c.part_of.new.meter in
     let k = c.joined_past.new.meter in
     let left = c.in-Ok.left.value in
     let one = c.in-Ok.ensures in
     let e = c.joined_past.ensures in record {
       made = match_map c.joined_past.result _ _ _ _
-          (λ made all. row_made state expr first links is g h k left one.made made.value all)
+          (λ made all. row_made state expr first links is g h k left one.made c.args.part made.value all)
           (λ refusal why. links_failed state expr first links is g h k left one.made refusal one.goes_on why) e.made;
       goes_on = ok_map c.joined_past.result _ _ (λ made goes. row_goes_on state expr first links is g h k left one.made one.goes_on goes)
           e.goes_on;
     }
 
-pub value_of-returns-in-Err : goal.value_of-returns-in-Err
-value_of-returns-in-Err t c =
+pub part_of-returns-in-Err : goal.part_of-returns-in-Err
+part_of-returns-in-Err t c =
     let expr = c.args.expr.now in
     let first = c.get-in-Row.result.now in
     let is = same_Row expr c.in-Row.first first c.in-Row.links c.in-Row.links c.in-Row.is c.get-in-Row.ensures refl in record {
-      made = first_failed c.args.state.now expr first c.in-Row.links is c.args.meter.now c.value_of.new.meter c.in-Err.refusal
+      made = first_failed c.args.state.now expr first c.in-Row.links is c.args.meter.now c.part_of.new.meter c.in-Err.refusal
           c.in-Err.ensures.made;
       goes_on = tt;
     }
 
 -- ---- an operand with what follows it
-pub value_of-value_of-requires-in-Post : goal.value_of-value_of-requires-in-Post
-value_of-value_of-requires-in-Post t c =
+pub part_of-part_of-requires-in-Post : goal.part_of-part_of-requires-in-Post
+part_of-part_of-requires-in-Post t c =
     let expr = c.args.expr.now in
     let operand = c.get-in-Post.result.now in
     let postfixes = c.in-Post.postfixes in
@@ -301,60 +299,60 @@ value_of-value_of-requires-in-Post t c =
       (operand_sound c.args.state.now expr operand postfixes is c.requires.sound, c.requires.fits),
     )
 
-pub value_of-past_postfixes-requires : goal.value_of-past_postfixes-requires
-value_of-past_postfixes-requires t c =
+pub part_of-past_postfixes-requires : goal.part_of-past_postfixes-requires
+part_of-past_postfixes-requires t c =
     let expr = c.args.expr.now in
     let operand = c.get-in-Post.result.now in
-    let postfixes = c.as_slice-in-Ok-value_of.result.now in
+    let postfixes = c.as_slice-in-Ok-part_of.result.now in
     let is = same_Post expr c.in-Post.operand operand c.in-Post.postfixes postfixes c.in-Post.is c.get-in-Post.ensures
-    c.as_slice-in-Ok-value_of.ensures in
-    let one = c.in-Ok-value_of.ensures.made in
-    let h = c.value_of-in-Post.new.meter in (
+    c.as_slice-in-Ok-part_of.ensures in
+    let one = c.in-Ok-part_of.ensures.made in
+    let h = c.part_of-in-Post.new.meter in (
       search (rules, postfixes_smaller expr operand postfixes is),
       (
         postfixes_sound c.args.state.now expr operand postfixes is c.requires.sound,
         (
           fits_later c.args.meter.now h c.args.state.now one.1.charged c.requires.fits,
-          (numbers_later c.args.meter.now h c.in-Ok-value_of.left.value one.1.charged one.0.numbers, one.0.definitions),
+          (numbers_later c.args.meter.now h c.in-Ok-part_of.left.value one.1.charged one.0.numbers, one.0.definitions),
         ),
       ),
     )
 
-pub value_of-returns-in-Ok-value_of : goal.value_of-returns-in-Ok-value_of
-value_of-returns-in-Ok-value_of t c =
+pub part_of-returns-in-Ok-part_of : goal.part_of-returns-in-Ok-part_of
+part_of-returns-in-Ok-part_of t c =
     let state = c.args.state.now in
     let expr = c.args.expr.now in
     let operand = c.get-in-Post.result.now in
-    let postfixes = c.as_slice-in-Ok-value_of.result.now in
+    let postfixes = c.as_slice-in-Ok-part_of.result.now in
     let is = same_Post expr c.in-Post.operand operand c.in-Post.postfixes postfixes c.in-Post.is c.get-in-Post.ensures
-    c.as_slice-in-Ok-value_of.ensures in
+    c.as_slice-in-Ok-part_of.ensures in
     let g = c.args.meter.now in
-    let h = c.value_of-in-Post.new.meter in
+    let h = c.part_of-in-Post.new.meter in
     let k = c.past_postfixes.new.meter in
-    let left = c.in-Ok-value_of.left.value in
-    let one = c.in-Ok-value_of.ensures in
+    let left = c.in-Ok-part_of.left.value in
+    let one = c.in-Ok-part_of.ensures in
     let e = c.past_postfixes.ensures in record {
       made = match_map c.past_postfixes.result _ _ _ _
-          (λ made all. post_made state expr operand postfixes is g h k left one.made made.value all)
+          (λ made all. post_made state expr operand postfixes is g h k left one.made c.args.part made.value all)
           (λ refusal why. postfixes_failed state expr operand postfixes is g h k left one.made refusal one.goes_on why) e.made;
       goes_on = ok_map c.past_postfixes.result _ _
           (λ made goes. post_goes_on state expr operand postfixes is g h k left one.made one.goes_on goes) e.goes_on;
     }
 
-pub value_of-returns-in-Err-value_of : goal.value_of-returns-in-Err-value_of
-value_of-returns-in-Err-value_of t c =
+pub part_of-returns-in-Err-part_of : goal.part_of-returns-in-Err-part_of
+part_of-returns-in-Err-part_of t c =
     let expr = c.args.expr.now in
     let operand = c.get-in-Post.result.now in
     let postfixes = c.in-Post.postfixes in
     let is = same_Post expr c.in-Post.operand operand postfixes postfixes c.in-Post.is c.get-in-Post.ensures refl in record {
-      made = operand_failed c.args.state.now expr operand postfixes is c.args.meter.now c.value_of-in-Post.new.meter
-          c.in-Err-value_of.refusal c.in-Err-value_of.ensures.made;
+      made = operand_failed c.args.state.now expr operand postfixes is c.args.meter.now c.part_of-in-Post.new.meter
+          c.in-Err-part_of.refusal c.in-Err-part_of.ensures.made;
       goes_on = tt;
     }
 
 -- ---- a word before an operand
-pub value_of-value_of-requires-in-Prefix : goal.value_of-value_of-requires-in-Prefix
-value_of-value_of-requires-in-Prefix t c =
+pub part_of-part_of-requires-in-Prefix : goal.part_of-part_of-requires-in-Prefix
+part_of-part_of-requires-in-Prefix t c =
     let expr = c.args.expr.now in
     let operand = c.get-in-Prefix.result.now in
     let word = c.in-Prefix.word in
@@ -363,14 +361,14 @@ value_of-value_of-requires-in-Prefix t c =
       (argument_sound c.args.state.now expr word operand is c.requires.sound, c.requires.fits),
     )
 
-pub value_of-worded-requires-clause-numbers : goal.value_of-worded-requires-clause-numbers
-value_of-worded-requires-clause-numbers t c =
-    let one = c.in-Ok-value_of-2.ensures.made in
-    numbers_of c.args.meter.now c.value_of-in-Prefix.new.meter c.in-Ok-value_of-2.argument.value c.deref.result.now one.1.charged
+pub part_of-worded-requires-clause-numbers : goal.part_of-worded-requires-clause-numbers
+part_of-worded-requires-clause-numbers t c =
+    let one = c.in-Ok-part_of-2.ensures.made in
+    numbers_of c.args.meter.now c.part_of-in-Prefix.new.meter c.in-Ok-part_of-2.argument.value c.deref.result.now one.1.charged
     c.deref.ensures one.0.numbers
 
-pub value_of-returns-in-Ok-value_of-2 : goal.value_of-returns-in-Ok-value_of-2
-value_of-returns-in-Ok-value_of-2 t c =
+pub part_of-returns-in-Ok-part_of-2 : goal.part_of-returns-in-Ok-part_of-2
+part_of-returns-in-Ok-part_of-2 t c =
     let state = c.args.state.now in
     let expr = c.args.expr.now in
     let operand = c.get-in-Prefix.result.now in
@@ -378,15 +376,15 @@ value_of-returns-in-Ok-value_of-2 t c =
     let is = same_Prefix expr word c.in-Prefix.operand operand c.in-Prefix.is c.get-in-Prefix.ensures in
     let supported = word_supported state expr word operand is c.requires.sound in
     let g = c.args.meter.now in
-    let h = c.value_of-in-Prefix.new.meter in
+    let h = c.part_of-in-Prefix.new.meter in
     let k = c.worded.new.meter in
-    let argument = c.in-Ok-value_of-2.argument.value in
+    let argument = c.in-Ok-part_of-2.argument.value in
     let operand_is = c.deref.ensures in
     let given = c.deref.result.now in
-    let one = c.in-Ok-value_of-2.ensures in
+    let one = c.in-Ok-part_of-2.ensures in
     let e = c.worded.ensures in record {
       made = match_map c.worded.result _ _ _ _
-          (λ made all. word_made state expr word operand is g h k argument given one.made operand_is supported made.value all)
+          (λ made all. word_made state expr word operand is g h k argument given one.made operand_is c.args.part supported made.value all)
           (λ refusal why. word_failed state expr word operand is g h k argument given one.made operand_is refusal one.goes_on why)
           e.made;
       goes_on = ok_map c.worded.result _ _
@@ -394,13 +392,13 @@ value_of-returns-in-Ok-value_of-2 t c =
           e.goes_on;
     }
 
-pub value_of-returns-in-Err-value_of-2 : goal.value_of-returns-in-Err-value_of-2
-value_of-returns-in-Err-value_of-2 t c =
+pub part_of-returns-in-Err-part_of-2 : goal.part_of-returns-in-Err-part_of-2
+part_of-returns-in-Err-part_of-2 t c =
     let expr = c.args.expr.now in
     let operand = c.get-in-Prefix.result.now in
     let word = c.in-Prefix.word in
     let is = same_Prefix expr word c.in-Prefix.operand operand c.in-Prefix.is c.get-in-Prefix.ensures in record {
-      made = prefixed_failed c.args.state.now expr word operand is c.args.meter.now c.value_of-in-Prefix.new.meter
-          c.in-Err-value_of-2.refusal c.in-Err-value_of-2.ensures.made;
+      made = prefixed_failed c.args.state.now expr word operand is c.args.meter.now c.part_of-in-Prefix.new.meter
+          c.in-Err-part_of-2.refusal c.in-Err-part_of-2.ensures.made;
       goes_on = tt;
     }
