@@ -29,12 +29,14 @@ use Rattle.isl_expr.specs.declared.tree.Expr as e
 use Rattle.isl_kinds.specs.Parts.{parts_of}
 use Rattle.isl_kinds.specs.Typed.{TypeView, ScopeView, params_of, has_unknown, declared_of, bound_to}
 use Rattle.isl_values.specs.declared.list.ListPart.{ListPart}
+use Rattle.isl_values.specs.declared.list.ListPart.TheVariants.{First, Second}
+use Rattle.isl_values.specs.declared.list.ListValue.{ListValue}
 use Rattle.isl_values.specs.State.{Kept, StateView, kept_of, type_of, scope_of, value_at, HasNumbersUpTo, Fits}
 use Rattle.isl_values.specs.Worked.{IsWorkedAt}
 use Rattle.isl_values.specs.Ends.{CutAlone, Ends, GoesOn}
 use Rattle.isl_values.specs.Selection.{KeptHas, SelectsAt}
 use Rattle.isl_values.specs.Made.{uses_units, IsSoundExpr, IsValueOf, IsPaid, IsWhyUnmade, IsWhyUnworked}
-use Rattle.isl_values.specs.Three.{IsValueAt}
+use Rattle.isl_values.specs.Three.{AreBothOf, AreKept, IsValueAt}
 use Rattle.isl_values.proofs.StateLaws.{bound_at}
 
 -- ---- a list of distinct names, joined to none, is itself
@@ -80,6 +82,16 @@ name_makes state part limit expr name kept value is same there sound names plain
     subst (λ (x : Expr). IsValueAt state part x (unsigned_abs limit) value) (sym is)
     (subst (λ (v : KeptValue). IsValueAt state part (e.Name name) (unsigned_abs limit) v) (sym same)
     (name_value state name kept there part limit sound names plain fits))
+
+-- both parts of what a name stands for
+pub name_both : (state : StateView) (limit : ℤ) (expr : Expr) (name : Name) (kept : Kept) (list : ListValue) → expr ≡ e.Name name
+    → kept_of state name ≡ Some kept → AreKept kept list → Fits limit state → AreBothOf state expr (unsigned_abs limit) list
+name_both state limit expr name kept list is there are fits = (
+  name_makes state First limit expr name kept list.first.value is are.first there (are.kept First) (are.params First)
+      (are.definitions First) fits,
+  name_makes state Second limit expr name kept list.second.value is are.second there (are.kept Second) (are.params Second)
+      (are.definitions Second) fits,
+)
 
 -- ---- a literal
 pub literal_makes : (state : StateView) (part : ListPart) (limit : ℤ) (expr : Expr) (literal : Literal) (value : KeptValue)

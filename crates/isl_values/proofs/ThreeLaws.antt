@@ -12,7 +12,9 @@ use Rattle.isl_expr.specs.declared.tree.Expr.{Expr, Any, Last}
 use Rattle.isl_expr.specs.Expr.{literals_of}
 use Rattle.isl_expr.proofs.Literals.{literals_of-Any, literals_of-Last}
 use Rattle.isl_operators.specs.Flow.{AnyHas}
-use Rattle.isl_operators.specs.Made.{IsDependenceOf}
+use Rattle.isl_operators.specs.Made.{IsDependenceOf, names_of_three}
+use Rattle.isl_space.specs.Names.{AreDistinct, joined}
+use Rattle.isl_kinds.proofs.JoinedNamesLaws.{joined_is}
 use Rattle.isl_kinds.specs.Parts.{Part, parts_of}
 use Rattle.isl_kinds.specs.Parts as part
 use Rattle.isl_kinds.proofs.PartLaws.{parts_of-Any, parts_of-Last}
@@ -93,10 +95,21 @@ module _ (state : StateView) (source sink schedule : Expr) where
 pub plain_three : (state : StateView) (source sink schedule : Expr) (g h : Gauge) (three : Accesses)
     → AreMade state source sink schedule (unsigned_abs (limit_of g)) three → IsCharged g h → IsPlainThree (unsigned_abs (limit_of h)) three
 plain_three state source sink schedule g h three made charged = record {
-  source = (numbers_later g h three.source.value charged made.first.numbers, made.first.definitions);
-  sink = (numbers_later g h three.sink.value charged made.second.numbers, made.second.definitions);
-  schedule = (numbers_later g h three.schedule.value charged made.third.numbers, made.third.definitions);
+  source = (made.first.kept, numbers_later g h three.source.value charged made.first.numbers, made.first.definitions);
+  sink = (made.second.kept, numbers_later g h three.sink.value charged made.second.numbers, made.second.definitions);
+  schedule = (made.third.kept, numbers_later g h three.schedule.value charged made.third.numbers, made.third.definitions);
 }
+
+-- the same three values
+pub in_three : (P : KeptValue → KeptValue → KeptValue → Type 0) (a b c x y z : KeptValue) → a ≡ x → b ≡ y → c ≡ z → P a b c → P x y z
+in_three P a b c x y z first second third h =
+    subst (λ v. P v y z) first (subst (λ v. P a v z) second (subst (λ v. P a b v) third h))
+
+-- their parameters
+pub three_names : (a b c : KeptValue) → AreDistinct b.params → AreDistinct c.params
+    → names_of_three a b c ≡ joined_names (joined_names a.params b.params) c.params
+three_names a b c second third =
+    joined_is (joined a.params b.params) c.params third ∙ ap (λ ns. joined_names ns c.params) (joined_is a.params b.params second)
 
 -- ---- an expression of the three
 -- all that is asked of `any` and `last`: what stands in them, what they select, and what ends them

@@ -3,6 +3,7 @@ use Rattle.std.proofs.Common.{◌≡◌, ◌∙◌, ◌⊎◌, inl, inr, ℕ, �
 use Rattle.std.specs.Prelude.{unsigned_abs, Result, Ok, Err, IfErr, IfOk, MatchResult}
 use Rattle.std.specs.List.{list_any}
 use Rattle.isl_meter.specs.Gauge.{Gauge, limit_of, IsCharged}
+use Rattle.isl_meter.specs.declared.Cut.{Cut}
 use Rattle.isl_meter.specs.declared.Cut.TheVariants as cuts
 use Rattle.isl_meter.proofs.CutLemmas.{IsCharged_refl, IsCharged_trans, IsCutBy-after, IsCutBy-charged}
 use Rattle.isl_space.specs.Name.{Name}

@@ -43,9 +43,9 @@ pub record AreMade (state : StateView) (source sink schedule : Expr) (limit : �
 abbrev pub OperandsEnd : StateView → Expr → Expr → Expr → End → Type 0
 OperandsEnd state source sink schedule = FirstEnds (Ends state source) (FirstEnds (Ends state sink) (Ends state schedule))
 
--- no number in them is above the limit, and no column is defined
+-- what may be kept, with no number above the limit, and no column that is defined
 abbrev pub IsPlainValue : ℕ → KeptValue → Type 0
-IsPlainValue limit value = HasNumbersUpTo limit value × HasNoDefinitions value
+IsPlainValue limit value = IsKeptValue value × HasNumbersUpTo limit value × HasNoDefinitions value
 
 pub record IsPlainThree (limit : ℕ) (three : Accesses) : Type 0 where
   pub source : IsPlainValue limit three.source.value
