@@ -1,5 +1,5 @@
 -- What is worked out of source, sink and schedule, and of both parts of a list.
-use Rattle.std.proofs.Common.{◌≡◌, ◌∙◌, inl, inr, Bool, true, false, List, ◌∷◌, ◌++◌, refl, sym, ap, ap₂, subst}
+use Rattle.std.proofs.Common.{◌≡◌, ◌∙◌, inl, inr, ℕ, Bool, true, false, List, ◌∷◌, ◌++◌, refl, sym, ap, ap₂, subst}
 use Rattle.std.proofs.lemmas.Bool.{false≢true}
 use Rattle.std.specs.Prelude.{unsigned_abs}
 use Rattle.isl_meter.specs.Gauge.{Gauge, limit_of, IsCharged}
@@ -8,7 +8,13 @@ use Rattle.isl_space.specs.Name.{Name}
 use Rattle.isl_space.specs.Valuation.{Valuation}
 use Rattle.isl_union.specs.KeptValue.{KeptValue, Has}
 use Rattle.isl_text.specs.declared.refusal.Refusal.{Refusal}
-use Rattle.isl_expr.specs.declared.tree.Expr.{Expr, Any, Last}
+use Rattle.isl_tree.specs.declared.tree.Literal.{Literal}
+use Rattle.isl_expr.specs.declared.tree.Prefix.{Prefix as Word}
+use Rattle.isl_expr.specs.declared.tree.Link.{Link}
+use Rattle.isl_expr.specs.declared.tree.Postfix.{Postfix}
+use Rattle.isl_expr.specs.declared.tree.Expr as e
+use Rattle.isl_expr.specs.declared.tree.Expr.{Expr, Row, Prefix, Any, Last, Post}
+use Rattle.isl_expr.specs.declared.tree.Expr.TheBlock.{hidden-the_row-Expr-0}
 use Rattle.isl_expr.specs.Expr.{literals_of}
 use Rattle.isl_expr.proofs.Literals.{literals_of-Any, literals_of-Last}
 use Rattle.isl_operators.specs.Flow.{AnyHas}
@@ -29,7 +35,7 @@ use Rattle.isl_values.specs.Worked.{Dependence, IsWorked, IsWorkedAt, PartHas}
 use Rattle.isl_values.specs.Selection.{Selects, SelectsAt}
 use Rattle.isl_values.specs.Ends.{End, DependenceEnds, Ends, FirstEnds, GoesOn}
 use Rattle.isl_values.specs.Made.{uses_units, IsSoundExpr, IsPaid, IsValueOf, IsWhyUnworked}
-use Rattle.isl_values.specs.Three.{AreBothOf, AreMade, AreOfThree, IsOfThree, IsPlainThree, IsValueAt, names_of_accesses, OperandsEnd, ThreeEnd}
+use Rattle.isl_values.specs.Three.{AreBothOf, AreMade, AreOfThree, IsOfThree, IsPlainThree, IsValueAt, IsWhole, names_of_accesses, OperandsEnd, ThreeEnd}
 use Rattle.isl_values.proofs.SameLaws.{AreSame, DependsOnElements, Same, same_any, same_part, same_three, same_trans, turned, turned_same}
 use Rattle.isl_values.proofs.RowLaws.{selects_of-Any, selects_of-Last}
 use Rattle.isl_values.proofs.WorkedLaws.{worked_of-Any, worked_of-Last}
@@ -250,3 +256,80 @@ list_made state expr source sink schedule is g h k three made_of charged list ma
     let second = dependence_made state Second expr source sink schedule (PartHas Second) (same_part Second)
     (is_last state Second expr source sink schedule is) g h k three made_of charged list.second.value (made.0.1, made.1) in
     ((first.0, second.0), first.1)
+
+-- ---- what is no list
+literal_same : (state : StateView) (literal : Literal) → IsWhole state (e.Literal literal)
+literal_same state literal limit value made = record {
+  written = made.written;
+  kept = made.kept;
+  params = made.params;
+  elements = λ v x. made.elements v x;
+  numbers = made.numbers;
+  definitions = made.definitions;
+}
+
+pub literal_whole : (state : StateView) (expr : Expr) (literal : Literal) → expr ≡ e.Literal literal → IsWhole state expr
+literal_whole state expr literal is = subst (IsWhole state) (sym is) (literal_same state literal)
+
+row_same : (state : StateView) (first : Expr) (links : List Link) → IsWhole state (Row first links)
+unfolding hidden-the_row-Expr-0 denote.Hole.Carrier.hidden
+row_same state first links limit value made = record {
+  written = made.written;
+  kept = made.kept;
+  params = made.params;
+  elements = λ v x. made.elements v x;
+  numbers = made.numbers;
+  definitions = made.definitions;
+}
+
+pub row_whole : (state : StateView) (expr : Expr) (first : Expr) (links : List Link) → expr ≡ Row first links → IsWhole state expr
+row_whole state expr first links is = subst (IsWhole state) (sym is) (row_same state first links)
+
+post_same : (state : StateView) (operand : Expr) (postfixes : List Postfix) → IsWhole state (Post operand postfixes)
+unfolding hidden-the_row-Expr-0 denote.Hole.Carrier.hidden
+post_same state operand postfixes limit value made = record {
+  written = made.written;
+  kept = made.kept;
+  params = made.params;
+  elements = λ v x. made.elements v x;
+  numbers = made.numbers;
+  definitions = made.definitions;
+}
+
+pub post_whole : (state : StateView) (expr : Expr) (operand : Expr) (postfixes : List Postfix) → expr ≡ Post operand postfixes → IsWhole state expr
+post_whole state expr operand postfixes is = subst (IsWhole state) (sym is) (post_same state operand postfixes)
+
+word_same : (state : StateView) (word : Word) (operand : Expr) → IsWhole state (Prefix word operand)
+unfolding hidden-the_row-Expr-0 denote.Hole.Carrier.hidden
+word_same state word operand limit value made = record {
+  written = made.written;
+  kept = made.kept;
+  params = made.params;
+  elements = λ v x. made.elements v x;
+  numbers = made.numbers;
+  definitions = made.definitions;
+}
+
+pub word_whole : (state : StateView) (expr : Expr) (word : Word) (operand : Expr) → expr ≡ Prefix word operand → IsWhole state expr
+word_whole state expr word operand is = subst (IsWhole state) (sym is) (word_same state word operand)
+
+any_same : (state : StateView) (source : Expr) (sink : Expr) (schedule : Expr) → IsWhole state (Any source sink schedule)
+unfolding hidden-the_row-Expr-0 denote.Hole.Carrier.hidden
+any_same state source sink schedule limit value made = record {
+  written = made.written;
+  kept = made.kept;
+  params = made.params;
+  elements = λ v x. made.elements v x;
+  numbers = made.numbers;
+  definitions = made.definitions;
+}
+
+pub any_whole : (state : StateView) (expr : Expr) (source : Expr) (sink : Expr) (schedule : Expr) → expr ≡ Any source sink schedule → IsWhole state expr
+any_whole state expr source sink schedule is = subst (IsWhole state) (sym is) (any_same state source sink schedule)
+
+pub doubled_both : (state : StateView) (expr : Expr) (limit : ℕ) (value : KeptValue) (list : ListValue) → IsWhole state expr
+    → IsValueAt state First expr limit value → (list.first.value ≡ value) × (list.second.value ≡ value) → AreBothOf state expr limit list
+doubled_both state expr limit value list whole made are = (
+  subst (IsValueAt state First expr limit) (sym are.0) made,
+  subst (IsValueAt state Second expr limit) (sym are.1) (whole limit value made),
+)

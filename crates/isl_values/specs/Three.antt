@@ -24,6 +24,10 @@ IsValueAt state part expr limit value =
 abbrev pub AreBothOf : StateView → Expr → ℕ → ListValue → Type 0
 AreBothOf state expr limit list = IsValueAt state First expr limit list.first.value × IsValueAt state Second expr limit list.second.value
 
+-- what is worked out of the first part is worked out of the second one too, as of all that is no list
+abbrev pub IsWhole : StateView → Expr → Type 0
+IsWhole state expr = (limit : ℕ) (value : KeptValue) → IsValueAt state First expr limit value → IsValueAt state Second expr limit value
+
 -- both are those of what is kept
 pub record AreKept (bound : Kept) (list : ListValue) : Type 0 where
   pub first : list.first.value ≡ bound.value

@@ -36,7 +36,7 @@ pub fn preceding(alloc: Global, three: &Accesses, meter: &mut Meter) -> Result<R
     answered(alloc, depended(alloc, &three.source, &three.sink, &three.schedule, meter))
 }
 
-/// The last sources of sinks, and the sinks that have none.
+/// The last sources of sinks, and the sinks that have none. No caller comes here yet, and it says that memory ends.
 pub fn latest(alloc: Global, three: &Accesses, meter: &mut Meter) -> Result<ListValue, Refusal>
     requires { IsPlainThree (unsigned_abs (limit_of meter.old)) three.now }
     ensures made { MatchResult result

@@ -11,7 +11,7 @@ use Rattle.isl_values.specs.Worked.{PartHas}
 use Rattle.isl_values.proofs.KeptLaws.{name_both, never_unbound}
 use Rattle.isl_values.proofs.SameLaws.{same_part}
 use Rattle.isl_values.proofs.ThreeLaws.{dependence_failed, dependence_goes, is_last, list_made, operands_failed, plain_three, same_Last}
-use Rattle.isl_values.proofs.ThreeLaws.{three_sound}
+use Rattle.isl_values.proofs.ThreeLaws.{three_sound, literal_whole, row_whole, post_whole, word_whole, any_whole}
 use Rattle.isl_values.proofs.ValueLaws.{both_map, match_map, ok_map, paid_same, unmade_memory, work}
 use Rattle.isl_values.proofs.values.list_of.Goals as goal
 
@@ -122,5 +122,17 @@ returns-in-Some-clause-made c =
     (λ refusal memory. inl (unmade_memory works (Ends state expr) g g refusal memory (paid_same works g g refl)))
     c.both_of.ensures.made c.both_of.ensures.faults
 
-pub returns-in-Ok-value_of : goal.returns-in-Ok-value_of
-returns-in-Ok-value_of c = ?
+pub doubled-requires-clause-whole : goal.doubled-requires-clause-whole
+doubled-requires-clause-whole c = literal_whole c.args.state.now c.args.expr.now _ c.in-Literal.is
+
+pub doubled-requires-in-Row-clause-whole : goal.doubled-requires-in-Row-clause-whole
+doubled-requires-in-Row-clause-whole c = row_whole c.args.state.now c.args.expr.now _ _ c.in-Row.is
+
+pub doubled-requires-in-Post-clause-whole : goal.doubled-requires-in-Post-clause-whole
+doubled-requires-in-Post-clause-whole c = post_whole c.args.state.now c.args.expr.now _ _ c.in-Post.is
+
+pub doubled-requires-in-Prefix-clause-whole : goal.doubled-requires-in-Prefix-clause-whole
+doubled-requires-in-Prefix-clause-whole c = word_whole c.args.state.now c.args.expr.now _ _ c.in-Prefix.is
+
+pub doubled-requires-in-Any-clause-whole : goal.doubled-requires-in-Any-clause-whole
+doubled-requires-in-Any-clause-whole c = any_whole c.args.state.now c.args.expr.now _ _ _ c.in-Any.is
