@@ -1,6 +1,6 @@
 -- Why operations that are made of several calls make no value.
 use Rattle.std.proofs.Common.{◌≡◌, ◌⊎◌, ◌<◌, ◌≤◌, ◌^◌, ◌-◌, inl, inr, refl, sym, ap, subst, arith}
-use Rattle.std.proofs.Common.{ℕ, Bool, true, false, List, [], length}
+use Rattle.std.proofs.Common.{ℕ, Bool, true, List, length}
 use Rattle.std.specs.Prelude.{Result, Ok, Err, IfErr, MatchResult, pos, unsigned_abs}
 use Rattle.std.proofs.lemmas.Bool.{cases_lt, false≢true}
 use Rattle.isl_meter.specs.Gauge.{Gauge, IsCharged, IsCutBy}
@@ -9,7 +9,7 @@ use Rattle.isl_meter.specs.declared.Cut.TheVariants.{NoMemory}
 use Rattle.isl_meter.proofs.CutLemmas.{IsCharged_refl, IsCharged_trans, IsCutBy-after, IsCutBy-charged}
 use Rattle.isl_space.specs.Limits.{most_parameters}
 use Rattle.isl_space.specs.Name.{Name}
-use Rattle.isl_union.specs.Fault.{IsChargedFrom, IsCutFault, IsFaultBy, IsMeteredAnswer, IsPlainFault}
+use Rattle.isl_union.specs.Fault.{IsChargedFrom, IsFaultBy, IsMeteredAnswer, IsPlainFault}
 use Rattle.isl_union.specs.KeptValue.{KeptValue}
 use Rattle.isl_union.specs.Numbers.{HasNumbersUpTo, IsWithinLimit}
 use Rattle.isl_union.specs.declared.fault.OpFault.{OpFault}
@@ -159,11 +159,6 @@ module _ {A : Type 0} (names : List Name) (Wide : Type 0) (few : length names �
   last_result joint Few (Ok made) is same done =
       (few, narrow, at_least_none g k (IsCharged_trans g h k charged (IsCharged_refl h k same)))
   last_result joint Few (Err fault) is same why = later_plain names Wide few narrow g h k charged joint fault is same why
-
-  pub last_formed : (Forms : Type 0) (n : ℕ) (r : Result A OpFault) → ¬ Forms → IsFormedFrom names Forms n h k r
-      → IsFormedFrom names Wide 0 g k r
-  last_formed Forms n (Ok made) never done = (few, narrow, at_least_none g k (IsCharged_trans g h k charged done.2.charged))
-  last_formed Forms n (Err fault) never why = later_formed names Wide few narrow g h k charged Forms never fault why
 
 -- an operation that forms nothing too wide
 pub worked_charged : {A : Type 0} (names : List Name) (g h : Gauge) (r : Result A OpFault)

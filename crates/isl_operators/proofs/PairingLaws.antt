@@ -1,5 +1,5 @@
 -- What operators make of two sets, and of two maps: where there are none, and where the spaces of the sets are too wide.
-use Rattle.std.proofs.Common.{◌≡◌, ◌↔◌, ◌⊎◌, ◌∙◌, inl, inr, refl, sym, ap₂, subst, List, Any, Contains, map}
+use Rattle.std.proofs.Common.{◌≡◌, ◌↔◌, ◌∙◌, inl, inr, refl, sym, ap₂, subst, List, Any, Contains, map}
 use Rattle.std.proofs.Common.{Bool, IfErr, IfOk, IsTrue, Result, Ok, Err, arith}
 use Rattle.std.specs.Result.{is_err}
 use Rattle.std.proofs.lemmas.Bool.{false≢true}

@@ -1,4 +1,4 @@
-use Rattle.std.proofs.Common.{true, false}
+use Rattle.std.proofs.Common.{false}
 use Rattle.isl_space.specs.Element.{Element}
 use Rattle.isl_space.specs.Names.{joined}
 use Rattle.isl_space.specs.Valuation.{Valuation}
@@ -193,7 +193,7 @@ returns-in-Join c =
       made.elements,
       narrow,
       formed_units names Wide g h (PairsTooWide FormsJoin left right) _ _ (charge _ g h) wider (pairs_narrow FormsJoin left right) r
-      made.units,
+          made.units,
     ) in
     record {
       written = says.0;
@@ -224,7 +224,7 @@ returns-in-Universal c =
       made.elements,
       narrow,
       formed_units names Wide g h (PairsTooWide FormsUniversal left right) _ _ (charge _ g h) wider (pairs_narrow FormsUniversal left right) r
-      made.units,
+          made.units,
     ) in
     record {
       written = says.0;

@@ -1,4 +1,4 @@
-use Rattle.std.proofs.Common.{◌≡◌, ◌↔◌, ◌∙◌, ap₂, inl, inr, refl, sym, true}
+use Rattle.std.proofs.Common.{◌≡◌, ◌∙◌, ap₂, inl, inr, refl, sym}
 use Rattle.std.proofs.lemmas.Bool.{false≢true}
 use Rattle.std.proofs.lemmas.Result.{err_from_is_err_and, IfOk-weaker}
 use Rattle.isl_meter.proofs.CutLemmas.{IsCharged_trans}
@@ -8,7 +8,7 @@ use Rattle.isl_union.specs.KeptValue.{KeptValue, Has}
 use Rattle.isl_relation.specs.Wide.{PairsTooWide}
 use Rattle.isl_operators.specs.Formed.{PairsWide}
 use Rattle.isl_operators.specs.Made.{HasMaps, HasSets}
-use Rattle.isl_operators.specs.Pairing.{MapsForm, MapsHave, PairingForms, PairingHas, SetsForm, SetsHave}
+use Rattle.isl_operators.specs.Pairing.{MapsForm, MapsHave, PairingForms, SetsForm, SetsHave}
 use Rattle.isl_operators.proofs.FaultLaws.{form_fault_of, form_fault_when_wide, formed_same}
 use Rattle.isl_operators.proofs.FaultLaws.{last_result, later_formed, within_before, within_later}
 use Rattle.isl_operators.proofs.MadeLaws.{either_same, first_alone, second_alone}
