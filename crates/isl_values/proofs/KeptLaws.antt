@@ -27,12 +27,11 @@ use Rattle.isl_lower.specs.Value.{value_lowered, IsLowered, IsWellFormedLiteral}
 use Rattle.isl_expr.specs.declared.tree.Expr.{Expr, Row', Prefix', Any', Last', Post'}
 use Rattle.isl_expr.specs.declared.tree.Expr as e
 use Rattle.isl_kinds.specs.Parts.{parts_of}
-use Rattle.isl_kinds.specs.Typed.{TypeView, ScopeView, params_of, has_unknown, declared_of, bound_to}
+use Rattle.isl_kinds.specs.Typed.{TypeView, ScopeView, params_of, has_unknown, bound_to}
 use Rattle.isl_values.specs.declared.list.ListPart.{ListPart}
 use Rattle.isl_values.specs.declared.list.ListPart.TheVariants.{First, Second}
 use Rattle.isl_values.specs.declared.list.ListValue.{ListValue}
 use Rattle.isl_values.specs.State.{Kept, StateView, kept_of, type_of, scope_of, value_at, HasNumbersUpTo, Fits}
-use Rattle.isl_values.specs.Worked.{IsWorkedAt}
 use Rattle.isl_values.specs.Ends.{CutAlone, Ends, GoesOn}
 use Rattle.isl_values.specs.Selection.{KeptHas, SelectsAt}
 use Rattle.isl_values.specs.Made.{uses_units, IsSoundExpr, IsValueOf, IsPaid, IsWhyUnmade, IsWhyUnworked}

@@ -1,5 +1,5 @@
 -- What operations make of values, shared, and what refuses them where they make none.
-use Rattle.std.proofs.Common.{◌≡◌, ◌∙◌, ◌↔◌, ◌⊎◌, inl, inr, ◌<◌, ◌≤◌, ℕ, Bool, List, [], length, ap, subst, arith}
+use Rattle.std.proofs.Common.{◌≡◌, ◌∙◌, ◌↔◌, ◌⊎◌, inl, inr, ◌≤◌, ℕ, Bool, List, [], length, ap, subst, arith}
 use Rattle.std.specs.Prelude.{Result, Ok, Err, IfErr, IfOk, MatchResult}
 use Rattle.isl_meter.specs.Gauge.{Gauge}
 use Rattle.isl_meter.specs.declared.Cut.{Cut}
@@ -20,7 +20,7 @@ use Rattle.isl_operators.specs.Made.{IsWhyNone, IsWhyNoWord}
 use Rattle.isl_kinds.specs.Typed.{joined_names}
 use Rattle.isl_kinds.proofs.JoinedNamesLaws.{joined_is}
 use Rattle.isl_values.specs.State.{HasNumbersUpTo}
-use Rattle.isl_values.specs.Ends.{because, cut, too_wide, no_minimum, unbounded, End, GoesOn, OperationEnds}
+use Rattle.isl_values.specs.Ends.{cut, too_wide, no_minimum, unbounded, End, GoesOn, OperationEnds}
 use Rattle.isl_values.specs.Made.{refusal_of_fault, refusal_of_word_fault, IsValueOf, IsPaid, IsWhyUnworked}
 use Rattle.isl_values.proofs.ValueLaws.{paid_same, unmade_memory}
 

@@ -10,7 +10,7 @@ use Rattle.isl_expr.specs.declared.tree.Prefix.TheVariants as p
 use Rattle.isl_operators.specs.Point.{Point, HasPoint, Relates, set_element, map_element, paired}
 use Rattle.isl_operators.specs.Maps.{JoinHas}
 use Rattle.isl_operators.specs.Extremes.{FirstHas, HasFirst, IsFirstImage, IsFirstOf}
-use Rattle.isl_operators.specs.Flow.{AnyHas, IsOverwritten, LastHas, Precedes, UnsourcedHas}
+use Rattle.isl_operators.specs.Flow.{AnyHas, IsOverwritten, Precedes}
 use Rattle.isl_operators.specs.Orders.{ComesAfter, ComesBefore, IsDownTo, IsUpTo}
 use Rattle.isl_operators.specs.Operations.{IsIn, OperatorHas, OrderedHas, WordHas, WordMisses, ApplicationHas}
 use Rattle.isl_values.specs.declared.list.ListPart.{ListPart}

@@ -1,5 +1,5 @@
 -- What is worked out of source, sink and schedule, and of both parts of a list.
-use Rattle.std.proofs.Common.{◌≡◌, ◌∙◌, inl, inr, ℕ, Bool, true, false, List, ◌∷◌, ◌++◌, refl, sym, ap, ap₂, subst}
+use Rattle.std.proofs.Common.{◌≡◌, ◌∙◌, inl, inr, ℕ, true, false, List, ◌∷◌, ◌++◌, sym, ap, ap₂, subst}
 use Rattle.std.proofs.lemmas.Bool.{false≢true}
 use Rattle.std.specs.Prelude.{unsigned_abs}
 use Rattle.isl_meter.specs.Gauge.{Gauge, limit_of, IsCharged}
@@ -34,15 +34,15 @@ use Rattle.isl_values.specs.State.{StateView, scope_of}
 use Rattle.isl_values.specs.Worked.{Dependence, IsWorked, IsWorkedAt, PartHas}
 use Rattle.isl_values.specs.Selection.{Selects, SelectsAt}
 use Rattle.isl_values.specs.Ends.{End, DependenceEnds, Ends, FirstEnds, GoesOn}
-use Rattle.isl_values.specs.Made.{uses_units, IsSoundExpr, IsPaid, IsValueOf, IsWhyUnworked}
+use Rattle.isl_values.specs.Made.{IsSoundExpr, IsPaid, IsWhyUnworked}
 use Rattle.isl_values.specs.Three.{AreBothOf, AreMade, AreOfThree, IsOfThree, IsPlainThree, IsValueAt, IsWhole, names_of_accesses, OperandsEnd, ThreeEnd}
-use Rattle.isl_values.proofs.SameLaws.{AreSame, DependsOnElements, Same, same_any, same_part, same_three, same_trans, turned, turned_same}
+use Rattle.isl_values.proofs.SameLaws.{DependsOnElements, Same, same_part, same_three, same_trans, turned}
 use Rattle.isl_values.proofs.RowLaws.{selects_of-Any, selects_of-Last}
 use Rattle.isl_values.proofs.WorkedLaws.{worked_of-Any, worked_of-Last}
 use Rattle.isl_values.proofs.FirstLaws.{EndAlike, goes_alike, goes_both, turned_alike}
 use Rattle.isl_values.proofs.EndsLaws.{dependence_alike, ends_of-Any, ends_of-Last, DependenceOf}
 use Rattle.isl_values.proofs.PartLaws.{sound_source, sound_sink, sound_schedule}
-use Rattle.isl_values.proofs.ValueLaws.{IsMade, IsMadeAt, work, value_before, fits_later, numbers_later, paid_after, paid_in, paid_works}
+use Rattle.isl_values.proofs.ValueLaws.{IsMade, IsMadeAt, work, value_before, numbers_later, paid_after, paid_works}
 use Rattle.isl_values.proofs.ValueLaws.{unworked_after, unworked_in}
 
 -- ---- the operands, one after another

@@ -24,7 +24,7 @@ use Rattle.isl_kinds.specs.Typed.{kind_of, declared_of, declared_in, joined_name
 use Rattle.isl_expr.specs.declared.tree.ValueKind.TheVariants.{List as Pair}
 use Rattle.isl_values.specs.declared.list.ListPart.{ListPart}
 use Rattle.isl_values.specs.declared.list.ListPart.TheVariants.{First, Second}
-use Rattle.isl_values.specs.State.{Kept, StateView, Moment, kept_of, scope_of, value_at, part_at, HasNumbersUpTo, Everywhere}
+use Rattle.isl_values.specs.State.{Kept, StateView, Moment, kept_of, scope_of, value_at, HasNumbersUpTo, Everywhere}
 use Rattle.isl_values.specs.Worked.{IsWorkedAt, PartHas, part_taken}
 
 -- what a name stands for has the element in this part

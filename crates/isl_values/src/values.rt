@@ -281,7 +281,10 @@ fn twice(value: Rc<Value>) -> Result<ListValue, Refusal>
     ensures made { IfOk result (λ list. (list.first.value ≡ value.value) × (list.second.value ≡ value.value)) }
     ensures faults { IfErr result (λ refusal. refusal ≡ Refusal.NoMemory) }
 {
-    Ok(ListValue { second: value.clone()?, first: value })
+    Ok(ListValue {
+        second: value.clone()?,
+        first: value,
+    })
 }
 
 // The values of source, sink and schedule, in this order.
@@ -313,7 +316,11 @@ fn three_of(
         Err(refusal) => return Err(refusal),
     };
     match part_of(alloc, schedule, ListPart::First, state, meter) {
-        Ok(schedule) => Ok(Accesses { source, sink, schedule }),
+        Ok(schedule) => Ok(Accesses {
+            source,
+            sink,
+            schedule,
+        }),
         Err(refusal) => Err(refusal),
     }
 }
@@ -341,7 +348,13 @@ fn part_of(
             None => unreachable!(),
         },
         Expr::Literal(literal) => lowered(alloc, literal, meter),
-        Expr::Row(first, links) => match part_of(alloc, first.get(), ListPart::First, state, meter) {
+        Expr::Row(first, links) => match part_of(
+            alloc,
+            first.get(),
+            ListPart::First,
+            state,
+            meter,
+        ) {
             Ok(left) => joined_past(alloc, left, links.as_slice(), state, meter),
             Err(refusal) => Err(refusal),
         },
@@ -352,18 +365,38 @@ fn part_of(
                 Err(refusal) => Err(refusal),
             }
         }
-        Expr::Prefix(word, operand) => match part_of(alloc, operand.get(), ListPart::First, state, meter) {
+        Expr::Prefix(word, operand) => match part_of(
+            alloc,
+            operand.get(),
+            ListPart::First,
+            state,
+            meter,
+        ) {
             Ok(argument) => worded(alloc, *word, &argument, meter),
             Err(refusal) => Err(refusal),
         },
         Expr::Any(source, sink, schedule) => {
-            match three_of(alloc, source.get(), sink.get(), schedule.get(), state, meter) {
+            match three_of(
+                alloc,
+                source.get(),
+                sink.get(),
+                schedule.get(),
+                state,
+                meter,
+            ) {
                 Ok(three) => preceding(alloc, &three, meter),
                 Err(refusal) => Err(refusal),
             }
         }
         Expr::Last(source, sink, schedule) => {
-            match three_of(alloc, source.get(), sink.get(), schedule.get(), state, meter) {
+            match three_of(
+                alloc,
+                source.get(),
+                sink.get(),
+                schedule.get(),
+                state,
+                meter,
+            ) {
                 Ok(three) => latest_part(alloc, part, &three, meter),
                 Err(refusal) => Err(refusal),
             }
@@ -439,7 +472,14 @@ pub fn list_of(
 {
     match expr {
         Expr::Last(source, sink, schedule) => {
-            match three_of(alloc, source.get(), sink.get(), schedule.get(), state, meter) {
+            match three_of(
+                alloc,
+                source.get(),
+                sink.get(),
+                schedule.get(),
+                state,
+                meter,
+            ) {
                 Ok(three) => latest(alloc, &three, meter),
                 Err(refusal) => Err(refusal),
             }
