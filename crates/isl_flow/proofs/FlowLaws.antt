@@ -16,7 +16,7 @@ use Rattle.isl_images.specs.Made.{ArePiecesOf, IsPlain}
 use Rattle.isl_images.proofs.MadeLaws.{of_before, of_same}
 use Rattle.isl_flow.specs.declared.precedence.Precedence.{Precedence}
 use Rattle.isl_flow.specs.Made.{AreMade}
-use Rattle.isl_flow.specs.Precedence.{Occurrence, AreOrdered, HasAt, HasOccurrence, IsPlainPrecedence, IsPrecedence, IsSound, Shows}
+use Rattle.isl_flow.specs.Precedence.{Occurrence, AreOrdered, HasAt, HasOccurrence, IsPlainPrecedence, IsAccessed, IsSound, Shows}
 use Rattle.isl_flow.specs.Precedence.{SinksIn, SourcesIn, StartsAt, StopsAt}
 
 -- the pieces, as those of a value
@@ -115,7 +115,7 @@ module _ (g : Gauge) (params : List Name) (m n t : KeptValue) (sources sinks tim
 
     -- what the precedences show is what comes before
     pub any_same : (h : Gauge) (S : Type 0) (found : List Precedence)
-        → AreMade (HasOccurrence params) (IsPrecedence h params) IsPlainPrecedence S (SourcesIn params sources sinks times) found
+        → AreMade (HasOccurrence params) (IsAccessed h params) IsPlainPrecedence S (SourcesIn params sources sinks times) found
         → (e : Element) → Any (Shows params v e) found ↔ AnyHas (Has m v) (Has n v) (Has t v) e
     any_same h S found are e = (
       (λ a.
@@ -133,7 +133,7 @@ module _ (g : Gauge) (params : List Name) (m n t : KeptValue) (sources sinks tim
 
   -- the pieces that were made of them
   pub any_made : (h : Gauge) → IsCharged g h → (found : List Precedence) (made : List PieceView)
-      → AreMade (HasOccurrence params) (IsPrecedence g params) IsPlainPrecedence ((All IsPlain sources × All IsPlain sinks) × All
+      → AreMade (HasOccurrence params) (IsAccessed g params) IsPlainPrecedence ((All IsPlain sources × All IsPlain sinks) × All
       IsPlain times)
       (SourcesIn params sources sinks times) found
       → AreMade (HasAt params) (IsSound h params) IsPlain (All IsPlainPrecedence found) (λ at. Any (Shows params at.0 at.1) found) made

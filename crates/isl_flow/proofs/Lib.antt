@@ -1,8 +1,13 @@
 pub mod FlowLaws
+pub mod LastLaws
+pub mod LaterLaws
 pub mod MadeLaws
 pub mod OperandLaws
 pub mod OrderLaws
 pub mod PieceLaws
+pub mod SinkLaws
+pub mod SourceLaws
 pub mod SpreadLaws
 pub mod TimedLaws
+pub mod TurnedLaws
 pub mod WideLaws

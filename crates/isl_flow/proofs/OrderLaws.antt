@@ -22,7 +22,7 @@ use Rattle.isl_flow.specs.declared.forms.Forms.{Forms}
 use Rattle.isl_flow.specs.declared.precedence.Precedence.{Precedence}
 use Rattle.isl_flow.specs.Forms.{AreNarrowForms, AreSameForms, widths_for}
 use Rattle.isl_flow.specs.Made.{AreMade}
-use Rattle.isl_flow.specs.Precedence.{Occurrence, HasOccurrence, HoldsFor, IsPlainPrecedence, IsPrecedence, IsSound, blocks_of}
+use Rattle.isl_flow.specs.Precedence.{Occurrence, HasOccurrence, HoldsFor, IsAccessed, IsPlainPrecedence, IsPrecedence, IsSound, blocks_of}
 use Rattle.isl_flow.specs.Spreads.{IsOverBlocks}
 use Rattle.isl_flow.proofs.TimedLaws.{blocks_wide, lies_same}
 
@@ -45,11 +45,52 @@ precedence_later g h params r charged is = record {
   space = is.space;
 }
 
+pub accessed_before : (g h : Gauge) (params : List Name) (r : Precedence) → IsCharged g h → IsAccessed h params r → IsAccessed g params r
+accessed_before g h params r charged is =
+    record { precedence = precedence_before g h params r charged is.precedence; place = is.place }
+
+pub accessed_later : (g h : Gauge) (params : List Name) (r : Precedence) → IsCharged g h → IsAccessed g params r → IsAccessed h params r
+accessed_later g h params r charged is =
+    record { precedence = precedence_later g h params r charged is.precedence; place = is.place }
+
 pub sound_before : (g h : Gauge) (params : List Name) (p : PieceView) → IsCharged g h → IsSound h params p → IsSound g params p
 sound_before g h params p charged is = record {
   sound = is.sound;
   within = system_within_kept g h p.system (sym (charged_bits g h charged)) is.within;
 }
+
+pub sound_later : (g h : Gauge) (params : List Name) (p : PieceView) → IsCharged g h → IsSound g params p → IsSound h params p
+sound_later g h params p charged is = record {
+  sound = is.sound;
+  within = system_within_kept h g p.system (charged_bits g h charged) is.within;
+}
+
+-- with the same forms, a system over the same blocks
+pub same_widths : (params : List Name) (f h : Forms) → AreSameForms f h → widths_for params f ≡ widths_for params h
+same_widths params f h same =
+    let x = ap width_of same.source in
+    let y = ap width_of same.sink in
+    let a = ap width_of same.access in
+    let p = ap width_of same.time in
+    cc
+
+pub same_precedence : (g : Gauge) (params : List Name) (f : Forms) (r : Precedence) → AreNarrowForms f
+    → IsWellFormedSpace (map_of (form_of f.source.value) (form_of f.sink.value)) → AreSameForms r.forms f
+    → free_columns r.system ≡ total (widths_for params f) → IsSystemWithin g r.system → IsPrecedence g params r
+same_precedence g params f r narrow space same free within = record {
+  free = free ∙ ap total (sym (same_widths params r.forms f same));
+  within = within;
+  narrow = record {
+    source = subst (λ n. n ≤ 64) (sym (ap width_of same.source)) narrow.source;
+    sink = subst (λ n. n ≤ 64) (sym (ap width_of same.sink)) narrow.sink;
+    access = subst (λ n. n ≤ 64) (sym (ap width_of same.access)) narrow.access;
+    time = subst (λ n. n ≤ 64) (sym (ap width_of same.time)) narrow.time;
+  };
+  space = rw (same.source, same.sink) space;
+}
+
+pub same_back : (f h : Forms) → AreSameForms f h → AreSameForms h f
+same_back f h same = record { source = sym same.source; sink = sym same.sink; access = sym same.access; time = sym same.time }
 
 -- the system holds, and the times differ first at the place
 abbrev pub DiffersFirst : List Name → Forms → System → Occurrence → ℕ → Type 0
@@ -58,14 +99,14 @@ DiffersFirst params f system o i = HoldsFor params f system o × IsBeforeAt i o.
 abbrev pub places_in : Forms → List ℕ
 places_in f = range_with_len 0 (width_of (form_of f.time.value))
 
-pub case_over : (g : Gauge) (widths : List ℕ) (i : ℕ) (made : System) → 8 ≤ g.bits → IsCaseOf widths 4 5 (IsBeforeAt i) made
-    → IsOverBlocks g widths (Unit {0}) (λ blocks. IsBeforeAt i (block_at blocks 4) (block_at blocks 5)) made
-case_over g widths i made bits is = record {
+pub case_over : (g : Gauge) (widths : List ℕ) (first second i : ℕ) (made : System) → 8 ≤ g.bits
+    → IsCaseOf widths first second (IsBeforeAt i) made
+    → IsOverBlocks g widths (Unit {0}) (λ blocks. IsBeforeAt i (block_at blocks first) (block_at blocks second)) made
+case_over g widths first second i made bits is = record {
   points = is.points;
   within = is.within g bits;
   free = is.free;
-  definitions = λ u.
-      is.definitions;
+  definitions = λ u. is.definitions;
 }
 
 pub itself_over : (g : Gauge) (widths : List ℕ) (s : System) → IsSystemWithin g s → free_columns s ≡ total widths
@@ -81,12 +122,13 @@ itself_over g widths s within free = record {
 module _ (g : Gauge) (params : List Name) (f : Forms) (system : System) where
   -- ---- one place
   pub case_made : (r : Precedence) (i : ℕ) → AreNarrowForms f
-      → IsWellFormedSpace (map_of (form_of f.source.value) (form_of f.sink.value)) → AreSameForms r.forms f
+      → IsWellFormedSpace (map_of (form_of f.source.value) (form_of f.sink.value))
+      → IsWellFormedSpace (map_of (form_of f.sink.value) (form_of f.access.value)) → AreSameForms r.forms f
       → IsOverBlocks g (widths_for params f) ((system.definitions ≡ []) × Unit {0})
       (λ blocks. HoldsSystem system (numbers_of blocks) × IsBeforeAt i (block_at blocks 4) (block_at blocks 5)) r.system
-      → AreMade (HasOccurrence params) (IsPrecedence g params) IsPlainPrecedence (system.definitions ≡ [])
+      → AreMade (HasOccurrence params) (IsAccessed g params) IsPlainPrecedence (system.definitions ≡ [])
       (λ o. DiffersFirst params f system o i) (r ∷ [])
-  case_made r i narrow space same over = record {
+  case_made r i narrow space place same over = record {
     has = λ o. (
       (λ a.
           let h = Any-one (HasOccurrence params o) r a in
@@ -94,34 +136,16 @@ module _ (g : Gauge) (params : List Name) (f : Forms) (system : System) where
           let both = (over.points (blocks_of params o) (blocks_wide params f o lies)).0 h.holds in
           (record { lies = lies; holds = both.0 }, both.1)),
       (λ h.
-          let lies = lies_same f r.forms o back h.0.lies in
+          let lies = lies_same f r.forms o (same_back r.forms f same) h.0.lies in
           Any-first (HasOccurrence params o) r []
           (record { lies = lies; holds = (over.points (blocks_of params o) (blocks_wide params f o h.0.lies)).1 (h.0.holds, h.1) })),
     );
-    sound = All-cons (IsPrecedence g params) r [] (record {
-      free = over.free ∙ ap total (sym widths);
-      within = over.within;
-      narrow = record {
-        source = subst (λ n. n ≤ 64) (sym (ap width_of same.source)) narrow.source;
-        sink = subst (λ n. n ≤ 64) (sym (ap width_of same.sink)) narrow.sink;
-        access = subst (λ n. n ≤ 64) (sym (ap width_of same.access)) narrow.access;
-        time = subst (λ n. n ≤ 64) (sym (ap width_of same.time)) narrow.time;
-      };
-      space = rw (same.source, same.sink) space;
-    }) (All-nil (IsPrecedence g params));
+    sound = All-cons (IsAccessed g params) r [] (record {
+      precedence = same_precedence g params f r narrow space same over.free over.within;
+      place = rw (same.sink, same.access) place;
+    }) (All-nil (IsAccessed g params));
     plain = λ h. All-cons IsPlainPrecedence r [] (over.definitions (h, tt)) (All-nil IsPlainPrecedence);
   }
-    where
-      back : AreSameForms f r.forms
-      back = record { source = sym same.source; sink = sym same.sink; access = sym same.access; time = sym same.time }
-
-      widths : widths_for params r.forms ≡ widths_for params f
-      widths =
-          let x = ap width_of same.source in
-          let y = ap width_of same.sink in
-          let a = ap width_of same.access in
-          let p = ap width_of same.time in
-          cc
 
   -- ---- all of them
   pub some_place : (o : Occurrence)

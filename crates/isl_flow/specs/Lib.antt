@@ -1,8 +1,11 @@
 pub mod Forms
+pub mod Last
+pub mod Later
 pub mod Made
 pub mod Operands
 pub mod Precedence
 pub mod Spreads
+pub mod Turned
 pub mod WideAccess
 pub use Rattle.isl_relation.specs.Flow
 pub use Rattle.isl_relation.specs.Formed

@@ -60,6 +60,11 @@ pub record IsPrecedence (g : Gauge) (params : List Name) (r : Precedence) : Type
   pub narrow : AreNarrowForms r.forms
   pub space : IsWellFormedSpace (map_of (form_of r.forms.source.value) (form_of r.forms.sink.value))
 
+-- and sink and place form one too
+pub record IsAccessed (g : Gauge) (params : List Name) (r : Precedence) : Type 0 where
+  pub precedence : IsPrecedence g params r
+  pub place : IsWellFormedSpace (map_of (form_of r.forms.sink.value) (form_of r.forms.access.value))
+
 abbrev pub IsPlainPrecedence : Precedence → Type 0
 IsPlainPrecedence r = r.system.definitions ≡ []
 

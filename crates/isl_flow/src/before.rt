@@ -46,9 +46,9 @@ fn pieces_of(
     Ok(pieces_in(alloc, &space, systems)?)
 }
 
-// Those of each.
+/// Those of each.
 #[tactic(auto, using(std::proofs::lemmas::Grind::common_steps, isl_meter::proofs::CutLemmas::charges))]
-fn all_pieces_of(
+pub(crate) fn all_pieces_of(
     alloc: Global,
     params: &Params,
     precedences: &[Precedence],
@@ -69,8 +69,8 @@ fn all_pieces_of(
 }
 
 /// From x to y, where for some a, p and q the source `m` maps x to a, the sink `n` maps y to a, and the schedule `t` maps x to p and y
-/// to q, and p is lexicographically less than q, in the same shape; over the joined parameters of the three. Each place at which p and
-/// q may differ uses a unit, for each four maps that so meet. (isl manual, dependence analysis; the iscc chapter of the barvinok manual)
+/// to q, and p is lexicographically less than q, in the same shape; over the joined parameters of the three. (isl manual, dependence
+/// analysis; the iscc chapter of the barvinok manual)
 ///
 /// # Errors
 ///

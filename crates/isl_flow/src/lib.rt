@@ -1,12 +1,19 @@
-//! Which accesses come before others.
+//! Which accesses come before others, and which are the last.
 #![tactic(auto)]
 
 mod before;
 mod forms;
+mod lasts;
+mod later;
+mod live;
 mod operands;
 mod order;
 mod precedence;
+mod sinks;
+mod sources;
 mod spreads;
+mod turned;
 mod wide;
 
 pub use before::any;
+pub use sources::{Flow, last};

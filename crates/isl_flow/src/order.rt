@@ -9,7 +9,7 @@ ghost use Rattle.isl_piece.specs.System.{IsSystemWithin, free_columns};
 ghost use Rattle.isl_blocks.specs.Blocks.{total};
 ghost use Rattle.isl_flow.specs.Forms.{AreNarrowForms, widths_for};
 ghost use Rattle.isl_flow.specs.Made.{AreMade};
-ghost use Rattle.isl_flow.specs.Precedence.{HasOccurrence, HoldsFor, IsPlainPrecedence, IsPrecedence};
+ghost use Rattle.isl_flow.specs.Precedence.{HasOccurrence, HoldsFor, IsPlainPrecedence, IsAccessed};
 
 use crate::forms::{Forms, widths_for};
 use crate::precedence::Precedence;
@@ -31,9 +31,10 @@ pub(crate) fn ordered(
 ) -> Result<Vec<Precedence>, Cut>
     requires narrow { AreNarrowForms forms.now }
     requires space { IsWellFormedSpace (map_of (form_of forms.now.source.value) (form_of forms.now.sink.value)) }
+    requires place { IsWellFormedSpace (map_of (form_of forms.now.sink.value) (form_of forms.now.access.value)) }
     requires within { IsSystemWithin meter.old system.now }
     requires columns { free_columns system.now ≡ total (widths_for params.now forms.now) }
-    ensures made { IfOk result (λ made. AreMade (HasOccurrence params.now) (IsPrecedence meter.old params.now) IsPlainPrecedence
+    ensures made { IfOk result (λ made. AreMade (HasOccurrence params.now) (IsAccessed meter.old params.now) IsPlainPrecedence
         (system.now.definitions ≡ [])
         (λ o. HoldsFor params.now forms.now system.now o × IsBefore o.time.numbers o.sink_time.numbers) made.items) }
     ensures meter { IsMetered meter.old meter.new result }

@@ -7,7 +7,7 @@ ghost use Rattle.isl_union.specs.Numbers.{AreWithinLimit};
 ghost use Rattle.isl_union.specs.Piece.{IsPieceOf};
 ghost use Rattle.isl_images.specs.Made.{IsPlain};
 ghost use Rattle.isl_flow.specs.Made.{AreMade};
-ghost use Rattle.isl_flow.specs.Precedence.{AreOrdered, HasOccurrence, IsPlainPrecedence, IsPrecedence, SinksIn, SourcesIn, StartsAt};
+ghost use Rattle.isl_flow.specs.Precedence.{AreOrdered, HasOccurrence, IsPlainPrecedence, IsAccessed, SinksIn, SourcesIn, StartsAt};
 ghost use Rattle.isl_flow.specs.Precedence.{StopsAt};
 ghost use Rattle.isl_flow.specs.WideAccess.{IsWideAccess};
 
@@ -46,7 +46,7 @@ fn between(
     requires start_within { IsSystemWithin meter.old start.now.system }
     requires stop_within { IsSystemWithin meter.old stop.now.system }
     requires narrow { ¬ IsWideAccess accesses.now.source.now.space accesses.now.sink.now.space }
-    ensures made { IfOk result (λ made. AreMade (HasOccurrence params.now) (IsPrecedence meter.old params.now) IsPlainPrecedence
+    ensures made { IfOk result (λ made. AreMade (HasOccurrence params.now) (IsAccessed meter.old params.now) IsPlainPrecedence
         ((IsPlain accesses.now.source.now × IsPlain accesses.now.sink.now) × (IsPlain start.now × IsPlain stop.now))
         (AreOrdered params.now accesses.now.source.now accesses.now.sink.now start.now stop.now) made.items) }
     ensures meter { IsMetered meter.old meter.new result }
@@ -80,7 +80,7 @@ fn from_start(
     requires start_within { IsSystemWithin meter.old start.now.system }
     requires times_within { AreWithinLimit meter.old times.now }
     requires narrow { ¬ IsWideAccess accesses.now.source.now.space accesses.now.sink.now.space }
-    ensures made { IfOk result (λ made. AreMade (HasOccurrence params.now) (IsPrecedence meter.old params.now) IsPlainPrecedence
+    ensures made { IfOk result (λ made. AreMade (HasOccurrence params.now) (IsAccessed meter.old params.now) IsPlainPrecedence
         ((IsPlain accesses.now.source.now × IsPlain accesses.now.sink.now) × (IsPlain start.now × All IsPlain times.now))
         (StopsAt params.now accesses.now.source.now accesses.now.sink.now start.now times.now) made.items) }
     ensures meter { IsMetered meter.old meter.new result }
@@ -109,7 +109,7 @@ fn of_accesses(
     requires sink_within { IsSystemWithin meter.old accesses.now.sink.now.system }
     requires times_within { AreWithinLimit meter.old times.now }
     requires narrow { ¬ IsWideAccess accesses.now.source.now.space accesses.now.sink.now.space }
-    ensures made { IfOk result (λ made. AreMade (HasOccurrence params.now) (IsPrecedence meter.old params.now) IsPlainPrecedence
+    ensures made { IfOk result (λ made. AreMade (HasOccurrence params.now) (IsAccessed meter.old params.now) IsPlainPrecedence
         ((IsPlain accesses.now.source.now × IsPlain accesses.now.sink.now) × All IsPlain times.now)
         (StartsAt params.now accesses.now.source.now accesses.now.sink.now times.now) made.items) }
     ensures meter { IsMetered meter.old meter.new result }
@@ -139,7 +139,7 @@ fn of_source(
     requires sinks_within { AreWithinLimit meter.old sinks.now }
     requires times_within { AreWithinLimit meter.old times.now }
     requires narrow { All (λ sink. ¬ IsWideAccess source.now.space sink.space) sinks.now }
-    ensures made { IfOk result (λ made. AreMade (HasOccurrence params.now) (IsPrecedence meter.old params.now) IsPlainPrecedence
+    ensures made { IfOk result (λ made. AreMade (HasOccurrence params.now) (IsAccessed meter.old params.now) IsPlainPrecedence
         ((IsPlain source.now × All IsPlain sinks.now) × All IsPlain times.now)
         (SinksIn params.now source.now sinks.now times.now) made.items) }
     ensures meter { IsMetered meter.old meter.new result }
@@ -170,7 +170,7 @@ pub(crate) fn precedences(
     requires sinks_within { AreWithinLimit meter.old sinks.now }
     requires times_within { AreWithinLimit meter.old times.now }
     requires narrow { All (λ source. All (λ sink. ¬ IsWideAccess source.space sink.space) sinks.now) sources.now }
-    ensures made { IfOk result (λ made. AreMade (HasOccurrence params.now) (IsPrecedence meter.old params.now) IsPlainPrecedence
+    ensures made { IfOk result (λ made. AreMade (HasOccurrence params.now) (IsAccessed meter.old params.now) IsPlainPrecedence
         ((All IsPlain sources.now × All IsPlain sinks.now) × All IsPlain times.now)
         (SourcesIn params.now sources.now sinks.now times.now) made.items) }
     ensures meter { IsMetered meter.old meter.new result }

@@ -18,8 +18,7 @@ use std::alloc::Global;
 
 /// What is left of a value where the context is known to hold, over the joined parameters: its pieces that have an element of the
 /// context at some valuation, in order, each without the rows, and the halves of equations, that say nothing new there. Neither value may
-/// define a column. Each pair of pieces in one space that is asked for a common element uses a unit. (isl manual, on simplification in
-/// a context)
+/// define a column. (isl manual, on simplification in a context)
 ///
 /// # Errors
 ///

@@ -18,8 +18,7 @@ use isl_union::{OpFault, Value};
 use std::alloc::Global;
 
 /// From x to y, where the first map has an image of x, and the second one of y, of one shape, and the one of x is less, over the joined
-/// parameters. Each pair of maps to one shape uses a unit for each of its coordinates, and those that elimination takes. Pieces that are
-/// sets give nothing. (isl manual, lexicographic order)
+/// parameters. Pieces that are sets give nothing. (isl manual, lexicographic order)
 ///
 /// # Errors
 ///
@@ -49,7 +48,7 @@ pub fn less_maps(alloc: Global, a: &Value, b: &Value, meter: &mut Meter) -> Resu
     ordered(alloc, comparison, a, b, meter)
 }
 
-/// The same, where the image of x is not greater; one unit more is used for each pair. (isl manual, lexicographic order)
+/// The same, where the image of x is not greater. (isl manual, lexicographic order)
 ///
 /// # Errors
 ///
@@ -119,7 +118,7 @@ pub fn greater_maps(
     ordered(alloc, comparison, a, b, meter)
 }
 
-/// The same, where the image of x is not less; one unit more is used for each pair. (isl manual, lexicographic order)
+/// The same, where the image of x is not less. (isl manual, lexicographic order)
 ///
 /// # Errors
 ///

@@ -17,8 +17,8 @@ use isl_meter::Meter;
 use isl_union::{OpFault, Value};
 use std::alloc::Global;
 
-/// From each element of the first set to those of the second of its shape that it is less than, over the joined parameters. Each pair of
-/// pieces of one space uses a unit for each coordinate. Pieces that are maps give nothing. (isl manual, lexicographic order)
+/// From each element of the first set to those of the second of its shape that it is less than, over the joined parameters. Pieces that are
+/// maps give nothing. (isl manual, lexicographic order)
 ///
 /// # Errors
 ///
@@ -48,8 +48,8 @@ pub fn less_sets(alloc: Global, a: &Value, b: &Value, meter: &mut Meter) -> Resu
     ordered(alloc, comparison, a, b, meter)
 }
 
-/// From each element of the first set to those of the second of its shape that it is not greater than. Units as of `less_sets`, and one for
-/// each pair. (isl manual, lexicographic order)
+/// From each element of the first set to those of the second of its shape that it is not greater than. (isl manual, lexicographic
+/// order)
 ///
 /// # Errors
 ///
@@ -84,8 +84,7 @@ pub fn less_eq_sets(
     ordered(alloc, comparison, a, b, meter)
 }
 
-/// From each element of the first set to those of the second of its shape that it is greater than. Units as of `less_sets`. (isl manual,
-/// lexicographic order)
+/// From each element of the first set to those of the second of its shape that it is greater than. (isl manual, lexicographic order)
 ///
 /// # Errors
 ///
@@ -120,8 +119,7 @@ pub fn greater_sets(
     ordered(alloc, comparison, a, b, meter)
 }
 
-/// From each element of the first set to those of the second of its shape that it is not less than. Units as of `less_sets`, and one for
-/// each pair. (isl manual, lexicographic order)
+/// From each element of the first set to those of the second of its shape that it is not less than. (isl manual, lexicographic order)
 ///
 /// # Errors
 ///

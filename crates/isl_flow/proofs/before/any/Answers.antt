@@ -34,7 +34,7 @@ pub all_pieces_of-requires : goal.all_pieces_of-requires
 all_pieces_of-requires c = record {
   precedences = rw c.as_slice.ensures.value (λ k d l.
       precedence_later c.args.meter.now c.precedences.new.meter c.in_ok-operands.operands.params (get_or c.in_ok-found.found.items k d)
-      c.in_ok-found.ensures.meter (c.in_ok-found.ensures.made.sound k d l));
+      c.in_ok-found.ensures.meter (c.in_ok-found.ensures.made.sound k d l).precedence);
 }
 
 pub returns-then-branch-clause-units : goal.returns-then-branch-clause-units

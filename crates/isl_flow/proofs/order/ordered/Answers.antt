@@ -11,7 +11,7 @@ use Rattle.isl_blocks.specs.Blocks.{block_at, numbers_of}
 use Rattle.isl_blocks.specs.Cases.{IsBeforeAt}
 use Rattle.isl_flow.specs.declared.precedence.Precedence.{Precedence}
 use Rattle.isl_flow.specs.Forms.{widths_for}
-use Rattle.isl_flow.specs.Precedence.{HasOccurrence, HoldsFor, IsPlainPrecedence, IsPrecedence}
+use Rattle.isl_flow.specs.Precedence.{HasOccurrence, HoldsFor, IsPlainPrecedence, IsAccessed}
 use Rattle.isl_flow.proofs.MadeLaws.{made_all, made_more, made_same}
 use Rattle.isl_flow.proofs.OrderLaws.{DiffersFirst, case_made, case_over, itself_over, places_in, some_place}
 use Rattle.isl_flow.proofs.SpreadLaws.{meet_made}
@@ -36,7 +36,7 @@ loop-at-preserved c =
     let case = c.in_ok-case.case in
     let r : Precedence = record { forms = c.in_ok-copy.field-0; system = c.in_ok-meet.field-0 } in
     let own = itself_over g widths s c.requires.within c.requires.columns in
-    let other = case_over g widths i case c.limit-limit.ensures.bits_low
+    let other = case_over g widths 4 5 i case c.limit-limit.ensures.bits_low
     (rw (c.as_slice.ensures.value, c.in_ok-widths.ensures.exact) at c.in_ok-case.ensures) in
     let made : Result System (Unit {0}) = Ok c.in_ok-meet.field-0 in
     let both = meet_made g widths (s.definitions ≡ []) (Unit {0}) (λ blocks. HoldsSystem s (numbers_of blocks))
@@ -44,11 +44,11 @@ loop-at-preserved c =
     (λ point l. c.in_ok-meet.ensures.points g point own.within other.within l) (c.in_ok-meet.ensures.within g own.within other.within)
     (c.in_ok-meet.ensures.free g own.within other.within) c.in_ok-meet.ensures.same in
     record {
-      made = made_more (HasOccurrence params) (IsPrecedence g params) IsPlainPrecedence (s.definitions ≡ []) (λ o n. DiffersFirst
+      made = made_more (HasOccurrence params) (IsAccessed g params) IsPlainPrecedence (s.definitions ≡ []) (λ o n. DiffersFirst
           params f s o n)
-          (places_in f) i i inside at (IsPrecedence g params) (s.definitions ≡ []) (λ o. DiffersFirst params f s o i) (λ p is. is) (λ e. e)
+          (places_in f) i i inside at (IsAccessed g params) (s.definitions ≡ []) (λ o. DiffersFirst params f s o i) (λ p is. is) (λ e. e)
           (λ o. ((λ x. x), (λ x. x))) c.loop-at.made.items (r ∷ []) c.push.new.self.items c.in_ok-push.ensures.items so_far.made
-          (case_made g params f s r i c.requires.narrow c.requires.space c.in_ok-copy.ensures both);
+          (case_made g params f s r i c.requires.narrow c.requires.space c.requires.place c.in_ok-copy.ensures both);
       charged = IsCharged_trans g h c.unit.new.self so_far.charged (IsCharged-unit h c.unit.new.self c.in_ok-unit.ensures.1);
     }
 
@@ -64,11 +64,11 @@ returns-clause-made c =
     let long = length-range_with_len 0 (width_of (form_of f.time.value)) in
     let end : length (places_in f) ≤ i = omega (arith, width, long) in
     let made = c.loop-at.made.items in
-    made_same (HasOccurrence params) (IsPrecedence g params) IsPlainPrecedence (s.definitions ≡ []) (IsPrecedence g params)
+    made_same (HasOccurrence params) (IsAccessed g params) IsPlainPrecedence (s.definitions ≡ []) (IsAccessed g params)
     (s.definitions ≡ [])
     (λ o. Any (DiffersFirst params f s o) (places_in f)) (λ o. HoldsFor params f s o × IsBefore o.time.numbers o.sink_time.numbers) (λ
     r is. is)
     (λ e. e) (λ o. some_place g params f s o) made
-    (made_all (HasOccurrence params) (IsPrecedence g params) IsPlainPrecedence (s.definitions ≡ []) (λ o n. DiffersFirst params f s o
+    (made_all (HasOccurrence params) (IsAccessed g params) IsPlainPrecedence (s.definitions ≡ []) (λ o n. DiffersFirst params f s o
     n) (places_in f)
     i end made c.loop-at.invariant.made)

@@ -5,9 +5,9 @@ use Rattle.isl_piece.specs.System.{IsSystemWithin}
 use Rattle.isl_piece.proofs.FormedLaws.{system_within_kept}
 use Rattle.isl_union.proofs.MeetSteps.{charged_bits, item_has}
 use Rattle.isl_images.specs.Made.{IsPlain}
-use Rattle.isl_flow.specs.Precedence.{HasOccurrence, IsPlainPrecedence, IsPrecedence, AreOrdered}
+use Rattle.isl_flow.specs.Precedence.{HasOccurrence, IsPlainPrecedence, IsAccessed, AreOrdered}
 use Rattle.isl_flow.proofs.MadeLaws.{made_all, made_more, made_none}
-use Rattle.isl_flow.proofs.OrderLaws.{precedence_before}
+use Rattle.isl_flow.proofs.OrderLaws.{accessed_before}
 use Rattle.isl_flow.proofs.precedence.from_start.Goals as goal
 
 pub between-requires-clause-source_within : goal.between-requires-clause-source_within
@@ -37,7 +37,7 @@ pub loop-stop-init : goal.loop-stop-init
 loop-stop-init c =
     let params = c.args.params.now in
     record {
-      made = made_none (HasOccurrence params) (IsPrecedence c.args.meter.now params) IsPlainPrecedence ((IsPlain
+      made = made_none (HasOccurrence params) (IsAccessed c.args.meter.now params) IsPlainPrecedence ((IsPlain
           c.args.accesses.now.source.now × IsPlain c.args.accesses.now.sink.now) × (IsPlain c.args.start.now × All IsPlain
           c.args.times.now))
           (λ o p. AreOrdered c.args.params.now c.args.accesses.now.source.now c.args.accesses.now.sink.now c.args.start.now p o)
@@ -56,13 +56,13 @@ loop-stop-preserved c =
     let so_far = c.loop-stop.invariant in
     let low : i < length items = omega arith in
     record {
-      made = made_more (HasOccurrence params) (IsPrecedence g params) IsPlainPrecedence ((IsPlain c.args.accesses.now.source.now ×
+      made = made_more (HasOccurrence params) (IsAccessed g params) IsPlainPrecedence ((IsPlain c.args.accesses.now.source.now ×
           IsPlain c.args.accesses.now.sink.now) × (IsPlain c.args.start.now × All IsPlain c.args.times.now))
           (λ o p. AreOrdered c.args.params.now c.args.accesses.now.source.now c.args.accesses.now.sink.now c.args.start.now p o) items
-          i item low c.stop-item.is (IsPrecedence h params)
+          i item low c.stop-item.is (IsAccessed h params)
           ((IsPlain c.args.accesses.now.source.now × IsPlain c.args.accesses.now.sink.now) × (IsPlain c.args.start.now × IsPlain item))
           (λ o. AreOrdered c.args.params.now c.args.accesses.now.source.now c.args.accesses.now.sink.now c.args.start.now item o) (λ r
-          is. precedence_before g h params r so_far.charged is)
+          is. accessed_before g h params r so_far.charged is)
           (λ all. (all.0, (all.1.0, item_has IsPlain items i item low c.stop-item.is all.1.1))) (λ o. ((λ x. x), (λ x. x)))
           c.loop-stop.made.items
           c.in_ok-more.more.items c.append.new.self.items c.in_ok-append.ensures.items so_far.made c.in_ok-more.ensures.made;
@@ -74,7 +74,7 @@ returns-clause-made c =
     let params = c.args.params.now in
     let items = c.args.times.now in
     let end : length items ≤ c.loop-stop.stop-index = omega arith in
-    made_all (HasOccurrence params) (IsPrecedence c.args.meter.now params) IsPlainPrecedence ((IsPlain c.args.accesses.now.source.now ×
+    made_all (HasOccurrence params) (IsAccessed c.args.meter.now params) IsPlainPrecedence ((IsPlain c.args.accesses.now.source.now ×
     IsPlain c.args.accesses.now.sink.now) × (IsPlain c.args.start.now × All IsPlain c.args.times.now))
     (λ o p. AreOrdered c.args.params.now c.args.accesses.now.source.now c.args.accesses.now.sink.now c.args.start.now p o) items
     c.loop-stop.stop-index end c.loop-stop.made.items c.loop-stop.invariant.made

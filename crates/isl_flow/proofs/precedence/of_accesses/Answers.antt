@@ -5,9 +5,9 @@ use Rattle.isl_piece.specs.System.{IsSystemWithin}
 use Rattle.isl_piece.proofs.FormedLaws.{system_within_kept}
 use Rattle.isl_union.proofs.MeetSteps.{charged_bits, item_has, pieces_later}
 use Rattle.isl_images.specs.Made.{IsPlain}
-use Rattle.isl_flow.specs.Precedence.{HasOccurrence, IsPlainPrecedence, IsPrecedence, StopsAt}
+use Rattle.isl_flow.specs.Precedence.{HasOccurrence, IsPlainPrecedence, IsAccessed, StopsAt}
 use Rattle.isl_flow.proofs.MadeLaws.{made_all, made_more, made_none}
-use Rattle.isl_flow.proofs.OrderLaws.{precedence_before}
+use Rattle.isl_flow.proofs.OrderLaws.{accessed_before}
 use Rattle.isl_flow.proofs.precedence.of_accesses.Goals as goal
 
 pub from_start-requires-clause-source_within : goal.from_start-requires-clause-source_within
@@ -37,7 +37,7 @@ pub loop-start-init : goal.loop-start-init
 loop-start-init c =
     let params = c.args.params.now in
     record {
-      made = made_none (HasOccurrence params) (IsPrecedence c.args.meter.now params) IsPlainPrecedence ((IsPlain
+      made = made_none (HasOccurrence params) (IsAccessed c.args.meter.now params) IsPlainPrecedence ((IsPlain
           c.args.accesses.now.source.now × IsPlain c.args.accesses.now.sink.now) × All IsPlain c.args.times.now)
           (λ o p. StopsAt c.args.params.now c.args.accesses.now.source.now c.args.accesses.now.sink.now p c.args.times.now o)
           (c.args.times.now) c.new-made.result.items c.new-made.ensures.items;
@@ -55,13 +55,13 @@ loop-start-preserved c =
     let so_far = c.loop-start.invariant in
     let low : i < length items = omega arith in
     record {
-      made = made_more (HasOccurrence params) (IsPrecedence g params) IsPlainPrecedence ((IsPlain c.args.accesses.now.source.now ×
+      made = made_more (HasOccurrence params) (IsAccessed g params) IsPlainPrecedence ((IsPlain c.args.accesses.now.source.now ×
           IsPlain c.args.accesses.now.sink.now) × All IsPlain c.args.times.now)
           (λ o p. StopsAt c.args.params.now c.args.accesses.now.source.now c.args.accesses.now.sink.now p c.args.times.now o) items i
-          item low c.start-item.is (IsPrecedence h params)
+          item low c.start-item.is (IsAccessed h params)
           ((IsPlain c.args.accesses.now.source.now × IsPlain c.args.accesses.now.sink.now) × (IsPlain item × All IsPlain c.args.times.now))
           (λ o. StopsAt c.args.params.now c.args.accesses.now.source.now c.args.accesses.now.sink.now item c.args.times.now o) (λ r is.
-          precedence_before g h params r so_far.charged is)
+          accessed_before g h params r so_far.charged is)
           (λ all. (all.0, (item_has IsPlain items i item low c.start-item.is all.1, all.1))) (λ o. ((λ x. x), (λ x. x)))
           c.loop-start.made.items
           c.in_ok-more.more.items c.append.new.self.items c.in_ok-append.ensures.items so_far.made c.in_ok-more.ensures.made;
@@ -73,7 +73,7 @@ returns-clause-made c =
     let params = c.args.params.now in
     let items = c.args.times.now in
     let end : length items ≤ c.loop-start.start-index = omega arith in
-    made_all (HasOccurrence params) (IsPrecedence c.args.meter.now params) IsPlainPrecedence ((IsPlain c.args.accesses.now.source.now ×
+    made_all (HasOccurrence params) (IsAccessed c.args.meter.now params) IsPlainPrecedence ((IsPlain c.args.accesses.now.source.now ×
     IsPlain c.args.accesses.now.sink.now) × All IsPlain c.args.times.now)
     (λ o p. StopsAt c.args.params.now c.args.accesses.now.source.now c.args.accesses.now.sink.now p c.args.times.now o) items
     c.loop-start.start-index end c.loop-start.made.items c.loop-start.invariant.made

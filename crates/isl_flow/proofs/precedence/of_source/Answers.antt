@@ -5,10 +5,10 @@ use Rattle.isl_piece.specs.System.{IsSystemWithin}
 use Rattle.isl_piece.proofs.FormedLaws.{system_within_kept}
 use Rattle.isl_union.proofs.MeetSteps.{charged_bits, item_has, pieces_later}
 use Rattle.isl_images.specs.Made.{IsPlain}
-use Rattle.isl_flow.specs.Precedence.{HasOccurrence, IsPlainPrecedence, IsPrecedence, StartsAt}
+use Rattle.isl_flow.specs.Precedence.{HasOccurrence, IsPlainPrecedence, IsAccessed, StartsAt}
 use Rattle.isl_flow.specs.WideAccess.{IsWideAccess}
 use Rattle.isl_flow.proofs.MadeLaws.{made_all, made_more, made_none}
-use Rattle.isl_flow.proofs.OrderLaws.{precedence_before}
+use Rattle.isl_flow.proofs.OrderLaws.{accessed_before}
 use Rattle.isl_flow.proofs.precedence.of_source.Goals as goal
 
 pub of_accesses-requires-clause-narrow : goal.of_accesses-requires-clause-narrow
@@ -39,7 +39,7 @@ pub loop-sink-init : goal.loop-sink-init
 loop-sink-init c =
     let params = c.args.params.now in
     record {
-      made = made_none (HasOccurrence params) (IsPrecedence c.args.meter.now params) IsPlainPrecedence ((IsPlain c.args.source.now ×
+      made = made_none (HasOccurrence params) (IsAccessed c.args.meter.now params) IsPlainPrecedence ((IsPlain c.args.source.now ×
           All IsPlain c.args.sinks.now) × All IsPlain c.args.times.now)
           (λ o p. StartsAt c.args.params.now c.args.source.now p c.args.times.now o) (c.args.sinks.now) c.new-made.result.items
           c.new-made.ensures.items;
@@ -57,11 +57,11 @@ loop-sink-preserved c =
     let so_far = c.loop-sink.invariant in
     let low : i < length items = omega arith in
     record {
-      made = made_more (HasOccurrence params) (IsPrecedence g params) IsPlainPrecedence ((IsPlain c.args.source.now × All IsPlain
+      made = made_more (HasOccurrence params) (IsAccessed g params) IsPlainPrecedence ((IsPlain c.args.source.now × All IsPlain
           c.args.sinks.now) × All IsPlain c.args.times.now)
-          (λ o p. StartsAt c.args.params.now c.args.source.now p c.args.times.now o) items i item low c.sink-item.is (IsPrecedence h params)
+          (λ o p. StartsAt c.args.params.now c.args.source.now p c.args.times.now o) items i item low c.sink-item.is (IsAccessed h params)
           ((IsPlain c.args.source.now × IsPlain item) × All IsPlain c.args.times.now)
-          (λ o. StartsAt c.args.params.now c.args.source.now item c.args.times.now o) (λ r is. precedence_before g h params r
+          (λ o. StartsAt c.args.params.now c.args.source.now item c.args.times.now o) (λ r is. accessed_before g h params r
           so_far.charged is)
           (λ all. ((all.0.0, item_has IsPlain items i item low c.sink-item.is all.0.1), all.1)) (λ o. ((λ x. x), (λ x. x)))
           c.loop-sink.made.items
@@ -74,7 +74,7 @@ returns-clause-made c =
     let params = c.args.params.now in
     let items = c.args.sinks.now in
     let end : length items ≤ c.loop-sink.sink-index = omega arith in
-    made_all (HasOccurrence params) (IsPrecedence c.args.meter.now params) IsPlainPrecedence ((IsPlain c.args.source.now × All IsPlain
+    made_all (HasOccurrence params) (IsAccessed c.args.meter.now params) IsPlainPrecedence ((IsPlain c.args.source.now × All IsPlain
     c.args.sinks.now) × All IsPlain c.args.times.now)
     (λ o p. StartsAt c.args.params.now c.args.source.now p c.args.times.now o) items c.loop-sink.sink-index end c.loop-sink.made.items
     c.loop-sink.invariant.made

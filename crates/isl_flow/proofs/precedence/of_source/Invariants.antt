@@ -3,12 +3,12 @@ use Rattle.std.specs.List.{All, Any}
 use Rattle.isl_meter.specs.Gauge.{IsCharged}
 use Rattle.isl_images.specs.Made.{IsPlain}
 use Rattle.isl_flow.specs.Made.{AreMade}
-use Rattle.isl_flow.specs.Precedence.{HasOccurrence, IsPlainPrecedence, IsPrecedence, StartsAt}
+use Rattle.isl_flow.specs.Precedence.{HasOccurrence, IsPlainPrecedence, IsAccessed, StartsAt}
 use Rattle.isl_flow.proofs.precedence.of_source.Given as goal
 
 abbrev pub invariant-loop-sink : goal.invariant-loop-sink
 invariant-loop-sink l = record {
-  made : AreMade (HasOccurrence l.params) (IsPrecedence l.fn.meter l.params) IsPlainPrecedence ((IsPlain l.source × All IsPlain
+  made : AreMade (HasOccurrence l.params) (IsAccessed l.fn.meter l.params) IsPlainPrecedence ((IsPlain l.source × All IsPlain
       l.sinks) × All IsPlain l.times)
       (λ o. Any (λ p. StartsAt l.params l.source p l.times o) (take l.sink-index l.sinks)) l.made.items;
   charged : IsCharged l.fn.meter l.meter;

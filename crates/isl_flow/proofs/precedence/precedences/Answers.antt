@@ -5,10 +5,10 @@ use Rattle.isl_piece.specs.System.{IsSystemWithin}
 use Rattle.isl_piece.proofs.FormedLaws.{system_within_kept}
 use Rattle.isl_union.proofs.MeetSteps.{charged_bits, item_has, pieces_later}
 use Rattle.isl_images.specs.Made.{IsPlain}
-use Rattle.isl_flow.specs.Precedence.{HasOccurrence, IsPlainPrecedence, IsPrecedence, SinksIn}
+use Rattle.isl_flow.specs.Precedence.{HasOccurrence, IsPlainPrecedence, IsAccessed, SinksIn}
 use Rattle.isl_flow.specs.WideAccess.{IsWideAccess}
 use Rattle.isl_flow.proofs.MadeLaws.{made_all, made_more, made_none}
-use Rattle.isl_flow.proofs.OrderLaws.{precedence_before}
+use Rattle.isl_flow.proofs.OrderLaws.{accessed_before}
 use Rattle.isl_flow.proofs.precedence.precedences.Goals as goal
 
 pub of_source-requires-clause-narrow : goal.of_source-requires-clause-narrow
@@ -39,7 +39,7 @@ pub loop-source-init : goal.loop-source-init
 loop-source-init c =
     let params = c.args.params.now in
     record {
-      made = made_none (HasOccurrence params) (IsPrecedence c.args.meter.now params) IsPlainPrecedence ((All IsPlain c.args.sources.now
+      made = made_none (HasOccurrence params) (IsAccessed c.args.meter.now params) IsPlainPrecedence ((All IsPlain c.args.sources.now
           × All IsPlain c.args.sinks.now) × All IsPlain c.args.times.now)
           (λ o p. SinksIn c.args.params.now p c.args.sinks.now c.args.times.now o) (c.args.sources.now) c.new-made.result.items
           c.new-made.ensures.items;
@@ -57,11 +57,11 @@ loop-source-preserved c =
     let so_far = c.loop-source.invariant in
     let low : i < length items = omega arith in
     record {
-      made = made_more (HasOccurrence params) (IsPrecedence g params) IsPlainPrecedence ((All IsPlain c.args.sources.now × All IsPlain
+      made = made_more (HasOccurrence params) (IsAccessed g params) IsPlainPrecedence ((All IsPlain c.args.sources.now × All IsPlain
           c.args.sinks.now) × All IsPlain c.args.times.now)
-          (λ o p. SinksIn c.args.params.now p c.args.sinks.now c.args.times.now o) items i item low c.source-item.is (IsPrecedence h params)
+          (λ o p. SinksIn c.args.params.now p c.args.sinks.now c.args.times.now o) items i item low c.source-item.is (IsAccessed h params)
           ((IsPlain item × All IsPlain c.args.sinks.now) × All IsPlain c.args.times.now)
-          (λ o. SinksIn c.args.params.now item c.args.sinks.now c.args.times.now o) (λ r is. precedence_before g h params r
+          (λ o. SinksIn c.args.params.now item c.args.sinks.now c.args.times.now o) (λ r is. accessed_before g h params r
           so_far.charged is)
           (λ all. ((item_has IsPlain items i item low c.source-item.is all.0.0, all.0.1), all.1)) (λ o. ((λ x. x), (λ x. x)))
           c.loop-source.made.items
@@ -74,7 +74,7 @@ returns-clause-made c =
     let params = c.args.params.now in
     let items = c.args.sources.now in
     let end : length items ≤ c.loop-source.source-index = omega arith in
-    made_all (HasOccurrence params) (IsPrecedence c.args.meter.now params) IsPlainPrecedence ((All IsPlain c.args.sources.now × All
+    made_all (HasOccurrence params) (IsAccessed c.args.meter.now params) IsPlainPrecedence ((All IsPlain c.args.sources.now × All
     IsPlain c.args.sinks.now) × All IsPlain c.args.times.now)
     (λ o p. SinksIn c.args.params.now p c.args.sinks.now c.args.times.now o) items c.loop-source.source-index end
     c.loop-source.made.items c.loop-source.invariant.made

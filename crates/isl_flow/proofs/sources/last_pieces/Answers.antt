@@ -1,0 +1,63 @@
+use Rattle.std.proofs.Common.{get_or}
+use Rattle.std.specs.List.{All, Any}
+use Rattle.std.proofs.lemmas.Result.{IfOk-weaker}
+use Rattle.isl_meter.proofs.CutLemmas.{IsCharged_trans}
+use Rattle.isl_images.specs.Made.{IsPlain}
+use Rattle.isl_flow.specs.Last.{ShowsLast}
+use Rattle.isl_flow.specs.Made.{AreMade}
+use Rattle.isl_flow.specs.Precedence.{HasAt, IsPlainPrecedence, IsSound, Shows}
+use Rattle.isl_flow.proofs.LaterLaws.{later_after}
+use Rattle.isl_flow.proofs.MadeLaws.{made_same}
+use Rattle.isl_flow.proofs.OrderLaws.{precedence_later, sound_before}
+use Rattle.isl_flow.proofs.SinkLaws.{last_shown}
+use Rattle.isl_flow.proofs.sources.last_pieces.Goals as goal
+
+pub all_laters-requires : goal.all_laters-requires
+all_laters-requires c = record { precedences = λ k d l. (c.requires.found k d l).precedence }
+
+pub all_lasts-requires : goal.all_lasts-requires
+all_lasts-requires c =
+    let g = c.args.meter.now in
+    let h = c.all_laters.new.meter in
+    let params = c.args.params.now in
+    let charged = c.in_ok-laters.ensures.meter in
+    record {
+      precedences = λ k d l. precedence_later g h params (get_or c.args.found.now k d) charged (c.requires.found k d l).precedence;
+      laters = rw c.as_slice.ensures.value
+          (λ k d l. later_after g h params (get_or c.in_ok-laters.laters.items k d) charged (c.in_ok-laters.ensures.made.sound k d l));
+    }
+
+pub all_pieces_of-requires : goal.all_pieces_of-requires
+all_pieces_of-requires c =
+    let h = c.all_laters.new.meter in
+    let m = c.all_lasts.new.meter in
+    let params = c.args.params.now in
+    record {
+      precedences = rw c.as_slice-2.ensures.value
+          (λ k d l. precedence_later h m params (get_or c.in_ok-lasts.lasts.items k d) c.in_ok-lasts.ensures.meter
+          (c.in_ok-lasts.ensures.made.sound k d l));
+    }
+
+pub returns-clause-made : goal.returns-clause-made
+returns-clause-made c =
+    let g = c.args.meter.now in
+    let h = c.all_laters.new.meter in
+    let m = c.all_lasts.new.meter in
+    let params = c.args.params.now in
+    let found = c.args.found.now in
+    let laters = c.in_ok-laters.laters.items in
+    let lasts = c.in_ok-lasts.lasts.items in
+    let later = c.in_ok-laters.ensures.made in
+    let last = rw c.as_slice.ensures.value at c.in_ok-lasts.ensures.made in
+    let charged = IsCharged_trans g h m c.in_ok-laters.ensures.meter c.in_ok-lasts.ensures.meter in
+    let pieces = rw c.as_slice-2.ensures.value at c.all_pieces_of.ensures.made in
+    IfOk-weaker c.all_pieces_of.result
+    (λ made. AreMade (HasAt params) (IsSound m params) IsPlain (All IsPlainPrecedence lasts)
+    (λ at. Any (Shows params at.0 at.1) lasts) made.items)
+    (λ made. AreMade (HasAt params) (IsSound g params) IsPlain (All IsPlainPrecedence found) (λ at. ShowsLast params at.0 at.1 found)
+    made.items)
+    (λ made are. made_same (HasAt params) (IsSound m params) IsPlain (All IsPlainPrecedence lasts) (IsSound g params)
+    (All IsPlainPrecedence found) (λ at. Any (Shows params at.0 at.1) lasts) (λ at. ShowsLast params at.0 at.1 found)
+    (λ p is. sound_before g m params p charged is) (λ none. last.plain (none, later.plain none))
+    (λ at. last_shown g h params found at.0 at.1 laters _ later lasts _ last) made.items are)
+    pieces
