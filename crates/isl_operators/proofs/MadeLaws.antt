@@ -18,12 +18,19 @@ use Rattle.isl_operators.specs.Made.{HasMaps, HasSets, IsIntersectionOf, IsOpera
 use Rattle.isl_operators.specs.Made.{operator_works, word_works}
 
 -- ---- one result
+-- of one value of an answer
+pub over_of : {A : Type 0} (of : A → KeptValue) (names : List Name) (Elements : Valuation → Element → Type 0) (r : Result A OpFault)
+    → IfOk r (λ a. (of a).params ≡ names)
+    → ((valuation : Valuation) (element : Element) → IfOk r (λ a. Has (of a) valuation element ↔ Elements valuation element))
+    → IfOk r (λ a. IsOver names Elements (of a))
+over_of of names Elements (Ok a) params elements = record { params = params; elements = elements }
+over_of of names Elements (Err fault) params elements = tt
+
 pub over : (names : List Name) (Elements : Valuation → Element → Type 0) (r : Result KeptValue OpFault)
     → IfOk r (λ value. value.params ≡ names)
     → ((valuation : Valuation) (element : Element) → IfOk r (λ value. Has value valuation element ↔ Elements valuation element))
     → IfOk r (IsOver names Elements)
-over names Elements (Ok value) params elements = record { params = params; elements = elements }
-over names Elements (Err fault) params elements = tt
+over names Elements r params elements = over_of (λ (value : KeptValue). value) names Elements r params elements
 
 pub intersection_of : (left right : KeptValue) (r : Result KeptValue OpFault)
     → IfOk r (λ value. value.params ≡ joined left.params right.params)

@@ -1,16 +1,16 @@
-//! Which sinks depend on which sources.
+//! Which sinks depend on which sources, and which of these are the last.
 
 ghost use Rattle.std.specs.Prelude.{◌≡◌, ◌↔◌, true, IfOk, MatchResult};
 ghost use Rattle.isl_space.specs.Element.{Element};
 ghost use Rattle.isl_space.specs.Valuation.{Valuation};
 ghost use Rattle.isl_union.specs.KeptValue.{Has, HasNoDefinitions, IsKeptValue};
 ghost use Rattle.isl_union.specs.Numbers.{IsWithinLimit};
-ghost use Rattle.isl_relation.specs.Flow.{AnyHas};
+ghost use Rattle.isl_relation.specs.Flow.{AnyHas, LastHas, UnsourcedHas};
 ghost use Rattle.isl_relation.specs.Formed.{FormsAccess};
 ghost use Rattle.isl_operators.specs.Formed.{PairsWide};
 ghost use Rattle.isl_operators.specs.Made.{IsDependenceOf, IsPaid, IsWhyNone, names_of_three};
 
-use isl_flow::any;
+use isl_flow::{Flow, any, last};
 use isl_meter::Meter;
 use isl_union::{OpFault, Value};
 use std::alloc::Global;
@@ -54,4 +54,43 @@ pub fn depended(
     let _source = source.pieces();
     let _sink = sink.pieces();
     any(alloc, source, sink, schedule, meter)
+}
+
+/// From each access of the source to those of the sink that `depended` pairs it with, where the source has no other access of the place at
+/// a time between; and from each access of the sink to its place, where the source has none before it. Both are over the joined
+/// parameters of the three. (the iscc chapter of the barvinok manual)
+///
+/// # Errors
+///
+/// As `depended`.
+pub fn latest(
+    alloc: Global,
+    source: &Value,
+    sink: &Value,
+    schedule: &Value,
+    meter: &mut Meter,
+) -> Result<Flow, OpFault>
+    requires source { IsWithinLimit meter.old source.now }
+    requires sink { IsWithinLimit meter.old sink.now }
+    requires schedule { IsWithinLimit meter.old schedule.now }
+
+    // The values, and what they have.
+    ensures last { IfOk result (λ flow. IsDependenceOf LastHas source.now sink.now schedule.now flow.last) }
+    ensures unsourced { IfOk result (λ flow. IsDependenceOf UnsourcedHas source.now sink.now schedule.now flow.unsourced) }
+    ensures last_kept { IfOk result (λ flow. IsKeptValue flow.last) }
+    ensures unsourced_kept { IfOk result (λ flow. IsKeptValue flow.unsourced) }
+
+    // How they are written, and what that cost.
+    ensures definitions { HasNoDefinitions source.now → HasNoDefinitions sink.now → HasNoDefinitions schedule.now
+        → IfOk result (λ flow. HasNoDefinitions flow.last × HasNoDefinitions flow.unsourced) }
+    ensures numbers { IfOk result (λ flow. IsWithinLimit meter.old flow.last × IsWithinLimit meter.old flow.unsourced) }
+    ensures narrow { IfOk result (λ _. ¬ PairsWide FormsAccess (Has source.now) (Has sink.now)) }
+    ensures units { MatchResult result (λ _. IsPaid true meter.old meter.new)
+        (IsWhyNone (names_of_three source.now sink.now schedule.now) (PairsWide FormsAccess (Has source.now) (Has sink.now)) true
+        meter.old meter.new) }
+{
+    // For what values keep.
+    let _source = source.pieces();
+    let _sink = sink.pieces();
+    last(alloc, source, sink, schedule, meter)
 }

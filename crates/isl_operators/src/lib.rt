@@ -11,7 +11,7 @@ mod wide;
 mod words;
 
 pub use application::applied;
-pub use dependence::depended;
+pub use dependence::{depended, latest};
 pub use fault::WordFault;
 pub use operators::combined;
 pub use words::transformed;

@@ -1,0 +1,44 @@
+use Rattle.isl_union.specs.KeptValue.{Has}
+use Rattle.isl_relation.specs.Flow.{LastHas, UnsourcedHas}
+use Rattle.isl_relation.specs.Formed.{FormsAccess}
+use Rattle.isl_relation.specs.Wide.{PairsTooWide}
+use Rattle.isl_flow.specs.declared.sources.Flow.{Flow}
+use Rattle.isl_operators.specs.Formed.{PairsWide}
+use Rattle.isl_operators.specs.Made.{names_of_three}
+use Rattle.isl_operators.proofs.FaultLaws.{formed_units}
+use Rattle.isl_operators.proofs.MadeLaws.{formed_narrow, over_of}
+use Rattle.isl_operators.proofs.WideLaws.{pairs_narrow, pairs_wide}
+use Rattle.isl_operators.proofs.dependence.latest.Goals as goal
+
+pub returns-clause-last : goal.returns-clause-last
+returns-clause-last c =
+    let source = c.args.source.now in
+    let sink = c.args.sink.now in
+    let schedule = c.args.schedule.now in
+    over_of (λ (flow : Flow). flow.last) (names_of_three source sink schedule)
+    (λ v e. LastHas (Has source v) (Has sink v) (Has schedule v) e) c.last.result c.last.ensures.last_params c.last.ensures.last
+
+pub returns-clause-unsourced : goal.returns-clause-unsourced
+returns-clause-unsourced c =
+    let source = c.args.source.now in
+    let sink = c.args.sink.now in
+    let schedule = c.args.schedule.now in
+    over_of (λ (flow : Flow). flow.unsourced) (names_of_three source sink schedule)
+    (λ v e. UnsourcedHas (Has source v) (Has sink v) (Has schedule v) e) c.last.result c.last.ensures.unsourced_params
+    c.last.ensures.unsourced
+
+pub returns-clause-narrow : goal.returns-clause-narrow
+returns-clause-narrow c =
+    let source = c.args.source.now in
+    let sink = c.args.sink.now in
+    formed_narrow c.last.result _ (PairsTooWide FormsAccess source sink) _ (PairsWide FormsAccess (Has source) (Has sink)) _
+    (pairs_narrow FormsAccess source sink) c.last.ensures.units
+
+pub returns-clause-units : goal.returns-clause-units
+returns-clause-units c =
+    let source = c.args.source.now in
+    let sink = c.args.sink.now in
+    formed_units (names_of_three source sink c.args.schedule.now) (PairsWide FormsAccess (Has source) (Has sink)) c.args.meter.now
+    c.last.new.meter (PairsTooWide FormsAccess source sink) _ _ (λ charged. charged)
+    (pairs_wide FormsAccess source sink c.pieces-source.ensures.kept c.pieces-sink.ensures.kept) (pairs_narrow FormsAccess source sink)
+    c.last.result c.last.ensures.units
