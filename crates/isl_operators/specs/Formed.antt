@@ -8,10 +8,14 @@ use Rattle.isl_expr.specs.declared.tree.Binary.TheVariants as b
 use Rattle.isl_expr.specs.declared.tree.Prefix.{Prefix}
 use Rattle.isl_expr.specs.declared.tree.Prefix.TheVariants as p
 use Rattle.isl_relation.specs.Formed.{FormsUniversal, FormsCrossSets, FormsCrossMaps, FormsJoin}
-use Rattle.isl_relation.specs.Formed.{FormsIdentity, FormsDomainMap, FormsRangeMap}
+use Rattle.isl_relation.specs.Formed.{FormsIdentity, FormsDomainMap, FormsRangeMap, FormsSame, FormsAccess}
 
 -- ---- spaces
--- what an operator forms of a space of the left operand and one of the right; of the others that are answered none is wider
+-- of two sets of one form, or of two maps to one form
+abbrev pub FormsOrdered : SpaceForm → SpaceForm → SpaceForm → Type 0
+FormsOrdered s t formed = FormsSame s t formed ⊎ FormsAccess s t formed
+
+-- what an operator forms of a space of the left operand and one of the right; what the others make lies in spaces of their operands
 abbrev pub OperatorForms : Binary → SpaceForm → SpaceForm → SpaceForm → Type 0
 OperatorForms b.Cross s t formed = FormsCrossSets s t formed ⊎ FormsCrossMaps s t formed
 OperatorForms b.Join s t formed = FormsJoin s t formed
@@ -22,10 +26,10 @@ OperatorForms b.Difference s t formed = ⊥
 OperatorForms b.RangeIntersection s t formed = ⊥
 OperatorForms b.RangeDifference s t formed = ⊥
 OperatorForms b.Gist s t formed = ⊥
-OperatorForms b.LexLess s t formed = ⊥
-OperatorForms b.LexLessEqual s t formed = ⊥
-OperatorForms b.LexGreater s t formed = ⊥
-OperatorForms b.LexGreaterEqual s t formed = ⊥
+OperatorForms b.LexLess s t formed = FormsOrdered s t formed
+OperatorForms b.LexLessEqual s t formed = FormsOrdered s t formed
+OperatorForms b.LexGreater s t formed = FormsOrdered s t formed
+OperatorForms b.LexGreaterEqual s t formed = FormsOrdered s t formed
 OperatorForms b.Equal s t formed = ⊥
 OperatorForms b.ProperSubset s t formed = ⊥
 OperatorForms b.Subset s t formed = ⊥

@@ -1,7 +1,13 @@
 pub mod Operations
 pub mod Formed
 pub mod Made
+pub mod Fault
+pub mod Pairing
+pub mod Words
+pub use Rattle.isl_relation.specs.Extremes
+pub use Rattle.isl_relation.specs.Flow
 pub use Rattle.isl_relation.specs.Maps
+pub use Rattle.isl_relation.specs.Orders
 pub use Rattle.isl_relation.specs.Pairs
 pub use Rattle.isl_relation.specs.Point
 pub use Rattle.isl_relation.specs.Sets

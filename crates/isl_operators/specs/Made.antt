@@ -1,15 +1,15 @@
 -- public: which values operations make, what that does to the meter, and why none is made. (the iscc chapter of the barvinok manual)
-use Rattle.std.specs.Prelude.{◌≡◌, ◌↔◌, ◌⊎◌, ◌<◌, Bool, true, false, List, length}
+use Rattle.std.specs.Prelude.{◌≡◌, ◌↔◌, ◌⊎◌, Bool, true, false, List}
 use Rattle.isl_meter.specs.Gauge.{Gauge, IsCharged, IsCutBy}
+use Rattle.isl_meter.specs.declared.Cut.{Cut}
 use Rattle.isl_meter.specs.declared.Cut.TheVariants.{NoMemory}
-use Rattle.isl_space.specs.Limits.{most_parameters}
 use Rattle.isl_space.specs.Name.{Name}
 use Rattle.isl_space.specs.Names.{joined}
 use Rattle.isl_space.specs.Form.{Form}
 use Rattle.isl_space.specs.SpaceForm.{set_of, map_of}
 use Rattle.isl_space.specs.Valuation.{Valuation}
 use Rattle.isl_space.specs.Element.{Element}
-use Rattle.isl_union.specs.KeptValue.{KeptValue, Has}
+use Rattle.isl_union.specs.KeptValue.{KeptValue, Has, HasNoDefinitions}
 use Rattle.isl_union.specs.Union.{union_of}
 use Rattle.isl_union.specs.Meet.{IsMeetOf}
 use Rattle.isl_union.specs.declared.fault.OpFault.{OpFault}
@@ -18,7 +18,10 @@ use Rattle.isl_expr.specs.declared.tree.Binary.{Binary}
 use Rattle.isl_expr.specs.declared.tree.Binary.TheVariants as b
 use Rattle.isl_expr.specs.declared.tree.Prefix.{Prefix}
 use Rattle.isl_expr.specs.declared.tree.Prefix.TheVariants as p
-use Rattle.isl_relation.specs.Wide.{IsLiveIn}
+use Rattle.isl_relation.specs.Wide.{IsFormFault, IsLiveIn}
+use Rattle.isl_coalesce.specs.Coalesced.{IsCoalesced}
+use Rattle.isl_operators.specs.declared.fault.WordFault.{WordFault}
+use Rattle.isl_operators.specs.declared.fault.WordFault.TheVariants as word_fault
 use Rattle.isl_operators.specs.Operations.{OperatorHas, WordHas, ApplicationHas}
 
 -- ---- values
@@ -55,11 +58,43 @@ IsOperatorOf b.RangeDifference left right value = IsAnyOf b.RangeDifference left
 IsOperatorOf b.Cross left right value = IsAnyOf b.Cross left right value
 IsOperatorOf b.Join left right value = IsAnyOf b.Join left right value
 IsOperatorOf b.Universal left right value = IsAnyOf b.Universal left right value
-IsOperatorOf operator left right value = ⊥
+IsOperatorOf b.LexLess left right value = IsAnyOf b.LexLess left right value
+IsOperatorOf b.LexLessEqual left right value = IsAnyOf b.LexLessEqual left right value
+IsOperatorOf b.LexGreater left right value = IsAnyOf b.LexGreater left right value
+IsOperatorOf b.LexGreaterEqual left right value = IsAnyOf b.LexGreaterEqual left right value
+IsOperatorOf b.Gist left right value = ⊥
+IsOperatorOf b.Equal left right value = ⊥
+IsOperatorOf b.ProperSubset left right value = ⊥
+IsOperatorOf b.Subset left right value = ⊥
+IsOperatorOf b.ProperSuperset left right value = ⊥
+IsOperatorOf b.Superset left right value = ⊥
 
 -- any value of what a word makes of one
+abbrev pub IsAnyWordOf : Prefix → KeptValue → KeptValue → Type 0
+IsAnyWordOf word operand value = IsOver operand.params (WordHas word operand.params (Has operand)) value
+
+-- `coalesce`: the pieces of an operand that defines no column are put together until no two of them can be
+pub record IsPutTogether (operand value : KeptValue) : Type 0 where
+  pub any : IsAnyWordOf p.Coalesce operand value
+  pub coalesced : HasNoDefinitions operand → IsCoalesced operand value
+
+-- the value is what a word makes of one
 abbrev pub IsWordOf : Prefix → KeptValue → KeptValue → Type 0
-IsWordOf word operand value = IsOver operand.params (λ valuation element. WordHas word (Has operand valuation) element) value
+IsWordOf p.Domain operand value = IsAnyWordOf p.Domain operand value
+IsWordOf p.Range operand value = IsAnyWordOf p.Range operand value
+IsWordOf p.Deltas operand value = IsAnyWordOf p.Deltas operand value
+IsWordOf p.Identity operand value = IsAnyWordOf p.Identity operand value
+IsWordOf p.Wrap operand value = IsAnyWordOf p.Wrap operand value
+IsWordOf p.Unwrap operand value = IsAnyWordOf p.Unwrap operand value
+IsWordOf p.Zip operand value = IsAnyWordOf p.Zip operand value
+IsWordOf p.DomainMap operand value = IsAnyWordOf p.DomainMap operand value
+IsWordOf p.RangeMap operand value = IsAnyWordOf p.RangeMap operand value
+IsWordOf p.LexMin operand value = IsAnyWordOf p.LexMin operand value
+IsWordOf p.LexMax operand value = IsAnyWordOf p.LexMax operand value
+IsWordOf p.Coalesce operand value = IsPutTogether operand value
+IsWordOf p.Sample operand value = ⊥
+IsWordOf p.Scan operand value = ⊥
+IsWordOf p.Codegen operand value = ⊥
 
 -- any value of what a map is applied to; the map's parameters come first
 abbrev pub IsApplicationOf : KeptValue → KeptValue → KeptValue → Type 0
@@ -67,11 +102,38 @@ IsApplicationOf map argument value =
     IsOver (joined map.params argument.params)
     (λ valuation element. ApplicationHas (Has map valuation) (Has argument valuation) element) value
 
+-- the parameters of source, sink and schedule
+abbrev pub names_of_three : KeptValue → KeptValue → KeptValue → List Name
+names_of_three source sink schedule = joined (joined source.params sink.params) schedule.params
+
+-- any value of what one of `AnyHas`, `LastHas` and `UnsourcedHas` makes of the three
+abbrev pub IsDependenceOf : ((Element → Type 0) → (Element → Type 0) → (Element → Type 0) → Element → Type 0)
+    → KeptValue → KeptValue → KeptValue → KeptValue → Type 0
+IsDependenceOf Depends source sink schedule value =
+    IsOver (names_of_three source sink schedule)
+    (λ valuation element. Depends (Has source valuation) (Has sink valuation) (Has schedule valuation) element) value
+
 -- ---- units
 -- the operators that use units: all but `+`
 abbrev pub operator_works : Binary → Bool
 operator_works b.Union = false
-operator_works _ = true
+operator_works b.Intersection = true
+operator_works b.Difference = true
+operator_works b.RangeIntersection = true
+operator_works b.RangeDifference = true
+operator_works b.Cross = true
+operator_works b.Join = true
+operator_works b.Universal = true
+operator_works b.LexLess = true
+operator_works b.LexLessEqual = true
+operator_works b.LexGreater = true
+operator_works b.LexGreaterEqual = true
+operator_works b.Gist = true
+operator_works b.Equal = true
+operator_works b.ProperSubset = true
+operator_works b.Subset = true
+operator_works b.ProperSuperset = true
+operator_works b.Superset = true
 
 -- the words that use units: all but those that move columns, or put the same ones side by side
 abbrev pub word_works : Prefix → Bool
@@ -81,15 +143,37 @@ word_works p.Unwrap = false
 word_works p.Zip = false
 word_works p.DomainMap = false
 word_works p.RangeMap = false
-word_works _ = true
+word_works p.Domain = true
+word_works p.Range = true
+word_works p.Deltas = true
+word_works p.LexMin = true
+word_works p.LexMax = true
+word_works p.Coalesce = true
+word_works p.Sample = true
+word_works p.Scan = true
+word_works p.Codegen = true
 
 -- units alone were used, and where nothing uses units the meter is as it was
 pub record IsPaid (works : Bool) (old new : Gauge) : Type 0 where
   pub charged : IsCharged old new
   pub free : works ≡ false → new ≡ old
 
--- Why an operation made no value. Its operands have more parameters than a value may have, or a space that it forms is too wide; or work
--- was cut, and where nothing uses units memory ended, and the meter is as it was.
+-- ---- why none is made
+-- where nothing uses units, work is cut for want of memory alone, and the meter is as it was
+abbrev pub IsFreeCut : Bool → Gauge → Gauge → Cut → Type 0
+IsFreeCut works old new cut = works ≡ false → (cut ≡ NoMemory) × (new ≡ old)
+
+-- Why an operation made no value. Its operands have more parameters than a value may have, or else a space that it forms is too wide, and
+-- the meter is as it was; or work was cut, and neither is so, unless memory ended.
 abbrev pub IsWhyNone : List Name → Type 0 → Bool → Gauge → Gauge → OpFault → Type 0
-IsWhyNone params Wide works old new op_fault.TooWide = ((most_parameters < length params) ⊎ Wide) × IsPaid works old new
-IsWhyNone params Wide works old new (op_fault.Cut cut) = IsCutBy old new cut × (works ≡ false → (cut ≡ NoMemory) × (new ≡ old))
+IsWhyNone params Wide works old new op_fault.TooWide = IsFormFault params Wide old new op_fault.TooWide
+IsWhyNone params Wide works old new (op_fault.Cut cut) =
+    IsFormFault params Wide old new (op_fault.Cut cut) × IsFreeCut works old new cut
+
+-- Why a word made none. A space that it forms is too wide, and the meter is as it was; or none is, but what it looks for is not there, and
+-- units alone were used; or work was cut, and no space is too wide, unless memory ended.
+abbrev pub IsWhyNoWord : Type 0 → Type 0 → Bool → Gauge → Gauge → WordFault → Type 0
+IsWhyNoWord Wide Misses works old new word_fault.TooWide = Wide × (new ≡ old)
+IsWhyNoWord Wide Misses works old new word_fault.NoMinimum = (¬ Wide) × Misses × IsPaid works old new
+IsWhyNoWord Wide Misses works old new (word_fault.Cut cut) =
+    ((¬ Wide) ⊎ (cut ≡ NoMemory)) × IsCutBy old new cut × IsFreeCut works old new cut

@@ -20,8 +20,9 @@ use std::alloc::Global;
 ///
 /// # Errors
 ///
-/// `TooWide` where the two together declare more than 16 parameters, or a space from the domain of a map that it is applied to, to the
-/// range of one that is applied, is too wide and the two meet. `Overflow`, `Budget` and `NoMemory` where work was cut.
+/// As every call under a meter; and `TooWide` exactly where the two together declare more than 16 parameters, or a space from the domain
+/// of a map that it is applied to, to the range of one that is applied, is too wide and the two meet, unless memory ends: no unit is
+/// used then.
 pub fn applied(
     alloc: Global,
     map: &Value,
@@ -46,7 +47,7 @@ pub fn applied(
     // For what values keep.
     let _map = map.pieces();
     let _argument = argument.pieces();
-    let images = apply(alloc, map, argument, meter)?;
     let followed = join(alloc, argument, map, meter)?;
+    let images = apply(alloc, map, argument, meter)?;
     images.union(alloc, &followed, meter)
 }

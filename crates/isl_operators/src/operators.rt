@@ -1,9 +1,10 @@
 //! What operators make of two values.
 
-ghost use Rattle.std.specs.Prelude.{◌≡◌, ◌↔◌, true, IfOk, IsTrue, MatchResult};
+ghost use Rattle.std.specs.Prelude.{◌≡◌, ◌↔◌, true, IfOk, MatchResult};
 ghost use Rattle.isl_space.specs.Element.{Element};
 ghost use Rattle.isl_space.specs.Names.{joined};
 ghost use Rattle.isl_space.specs.Valuation.{Valuation};
+ghost use Rattle.isl_relation.specs.Together.{IsWorkedFrom};
 ghost use Rattle.isl_union.specs.KeptValue.{Has, HasNoDefinitions, IsKeptValue};
 ghost use Rattle.isl_union.specs.Meet.{IsMeetOf};
 ghost use Rattle.isl_union.specs.Numbers.{IsWithinLimit};
@@ -11,49 +12,13 @@ ghost use Rattle.isl_operators.specs.Operations.{OperatorHas, is_operation};
 ghost use Rattle.isl_operators.specs.Formed.{OperatorForms, PairsWide};
 ghost use Rattle.isl_operators.specs.Made.{HasMaps, HasSets, IsOperatorOf, IsPaid, IsWhyNone, operator_works};
 
+use crate::pairing::{Pairing, paired};
+use crate::spaces::{has_sets, may_begin};
 use isl_expr::tree::Binary;
-use isl_maps::{
-    cross_maps, cross_sets, join, remove_domain, remove_range, restrict_domain, restrict_range,
-    universal,
-};
+use isl_maps::{join, remove_domain, remove_range, restrict_domain, restrict_range, universal};
 use isl_meter::Meter;
-use isl_space::Space;
 use isl_union::{OpFault, Value};
 use std::alloc::Global;
-
-// Whether some piece is of maps.
-fn has_maps(value: &Value) -> bool
-    ensures told { IsTrue result ↔ HasMaps value.now }
-    ensures kept { IsKeptValue value.now }
-{
-    for piece in value.pieces() {
-        if let Space::Map(_, _) = piece.space() {
-            return true;
-        }
-    }
-    false
-}
-
-// Whether some piece is of sets.
-fn has_sets(value: &Value) -> bool
-    ensures told { IsTrue result ↔ HasSets value.now }
-    ensures kept { IsKeptValue value.now }
-{
-    for piece in value.pieces() {
-        if let Space::Set(_) = piece.space() {
-            return true;
-        }
-    }
-    false
-}
-
-// Whether the left one has maps and the right one sets, so that pairs may begin in it.
-fn may_begin(left: &Value, right: &Value) -> bool
-    ensures told { IsTrue result ↔ (HasMaps left.now × HasSets right.now) }
-    ensures kept { IsTrue result → IsKeptValue left.now × IsKeptValue right.now }
-{
-    has_maps(left) && has_sets(right)
-}
 
 // The elements of both, and the pairs of the left one that begin in the right one.
 fn intersected(
@@ -72,8 +37,7 @@ fn intersected(
     ensures definitions { HasNoDefinitions left.now → HasNoDefinitions right.now → IfOk result HasNoDefinitions }
     ensures numbers { IfOk result (IsWithinLimit meter.old) }
     ensures pieces { ¬ (HasMaps left.now × HasSets right.now) → IfOk result (IsMeetOf left.now right.now) }
-    ensures units { MatchResult result (λ _. IsPaid true meter.old meter.new)
-        (IsWhyNone (joined left.now.params right.now.params) ⊥ true meter.old meter.new) }
+    ensures units { IsWorkedFrom (joined left.now.params right.now.params) 0 meter.old meter.new result }
 {
     let met = left.meet(alloc, right, meter)?;
     if !may_begin(left, right) {
@@ -100,8 +64,7 @@ fn subtracted(
         ↔ OperatorHas Binary.Difference (Has left.now valuation) (Has right.now valuation) element) }
     ensures definitions { HasNoDefinitions left.now → HasNoDefinitions right.now → IfOk result HasNoDefinitions }
     ensures numbers { IfOk result (IsWithinLimit meter.old) }
-    ensures units { MatchResult result (λ _. IsPaid true meter.old meter.new)
-        (IsWhyNone (joined left.now.params right.now.params) ⊥ true meter.old meter.new) }
+    ensures units { IsWorkedFrom (joined left.now.params right.now.params) 0 meter.old meter.new result }
 {
     if !may_begin(left, right) {
         return left.minus(alloc, right, meter);
@@ -114,36 +77,13 @@ fn subtracted(
     remove_domain(alloc, &rest, right, meter)
 }
 
-// The pairs of the sets of both, and those of the maps of both.
-fn crossed(alloc: Global, left: &Value, right: &Value, meter: &mut Meter) -> Result<Value, OpFault>
-    requires left { IsWithinLimit meter.old left.now }
-    requires right { IsWithinLimit meter.old right.now }
-    ensures kept { IfOk result IsKeptValue }
-    ensures params { IfOk result (λ value. value.params ≡ joined left.now.params right.now.params) }
-    ensures elements { (valuation : Valuation) (element : Element)
-        → IfOk result (λ value. Has value valuation element
-        ↔ OperatorHas Binary.Cross (Has left.now valuation) (Has right.now valuation) element) }
-    ensures definitions { HasNoDefinitions left.now → HasNoDefinitions right.now → IfOk result HasNoDefinitions }
-    ensures numbers { IfOk result (IsWithinLimit meter.old) }
-    ensures narrow { IfOk result (λ _. ¬ PairsWide (OperatorForms Binary.Cross) (Has left.now) (Has right.now)) }
-    ensures units { MatchResult result (λ _. IsPaid true meter.old meter.new)
-        (IsWhyNone (joined left.now.params right.now.params) (PairsWide (OperatorForms Binary.Cross) (Has left.now) (Has right.now))
-        true meter.old meter.new) }
-{
-    // For what values keep.
-    let _left = left.pieces();
-    let _right = right.pieces();
-    let sets = cross_sets(alloc, left, right, meter)?;
-    let maps = cross_maps(alloc, left, right, meter)?;
-    sets.union(alloc, &maps, meter)
-}
-
 /// What an operator makes of two values, over the joined parameters. Only `+` uses no unit. (the iscc chapter of the barvinok manual)
 ///
 /// # Errors
 ///
-/// `TooWide` where the two together declare more than 16 parameters, or a space that is formed of one in which the left value has
-/// elements, and one in which the right one has, is too wide. `Overflow`, `Budget` and `NoMemory` where work was cut.
+/// As every call under a meter; and `TooWide` exactly where the two together declare more than 16 parameters, or a space that is formed
+/// of one in which the left value has elements, and one in which the right one has, is too wide, unless memory ends: no unit is used
+/// then.
 pub fn combined(
     alloc: Global,
     operator: Binary,
@@ -176,9 +116,13 @@ pub fn combined(
         Binary::Difference => subtracted(alloc, left, right, meter),
         Binary::RangeIntersection => restrict_range(alloc, left, right, meter),
         Binary::RangeDifference => remove_range(alloc, left, right, meter),
-        Binary::Cross => crossed(alloc, left, right, meter),
+        Binary::Cross => paired(alloc, Pairing::Cross, left, right, meter),
         Binary::Join => join(alloc, left, right, meter),
         Binary::Universal => universal(alloc, left, right, meter),
+        Binary::LexLess => paired(alloc, Pairing::Less, left, right, meter),
+        Binary::LexLessEqual => paired(alloc, Pairing::LessEqual, left, right, meter),
+        Binary::LexGreater => paired(alloc, Pairing::Greater, left, right, meter),
+        Binary::LexGreaterEqual => paired(alloc, Pairing::GreaterEqual, left, right, meter),
         _ => unreachable!(),
     }
 }

@@ -1,45 +1,45 @@
 //! What words make of a value.
 
-ghost use Rattle.std.specs.Prelude.{◌≡◌, ◌↔◌, true, IfOk, MatchResult};
+ghost use Rattle.std.specs.Prelude.{◌≡◌, ◌↔◌, [], true, IfOk, MatchResult};
+ghost use Rattle.isl_meter.specs.Gauge.{IsMetered};
 ghost use Rattle.isl_space.specs.Element.{Element};
 ghost use Rattle.isl_space.specs.Valuation.{Valuation};
 ghost use Rattle.isl_union.specs.KeptValue.{Has, HasNoDefinitions, IsKeptValue};
 ghost use Rattle.isl_union.specs.Numbers.{IsWithinLimit};
-ghost use Rattle.isl_operators.specs.Operations.{WordHas, is_operation_word};
+ghost use Rattle.isl_coalesce.specs.Coalesced.{IsCoalesced};
+ghost use Rattle.isl_operators.specs.Operations.{WordHas, WordMisses, is_operation_word};
 ghost use Rattle.isl_operators.specs.Formed.{WordForms, FormsWide};
-ghost use Rattle.isl_operators.specs.Made.{IsWordOf, IsPaid, IsWhyNone, word_works};
+ghost use Rattle.isl_operators.specs.Made.{IsAnyWordOf, IsPaid, IsWhyNone, IsWhyNoWord, IsWordOf, word_works};
+ghost use Rattle.isl_operators.specs.Words.{is_moving};
 
+use crate::WordFault;
+use isl_coalesce::coalesce;
 use isl_expr::tree::Prefix;
+use isl_extremes::{lexmax, lexmin};
 use isl_maps::{deltas, domain, domain_map, identity, range, range_map, unwrap, wrap, zip};
-use isl_meter::Meter;
+use isl_meter::{Cut, Meter};
 use isl_union::{OpFault, Value};
 use std::alloc::Global;
 
-/// What a word makes of a value, over its parameters. Only `dom`, `ran` and `deltas` use units. (the iscc chapter of the barvinok
-/// manual)
-///
-/// # Errors
-///
-/// `TooWide` where a space that is formed of one in which the value has elements is too wide. `Overflow`, `Budget` and `NoMemory`
-/// where work was cut.
-pub fn transformed(
+// What a word makes of a value that moves its columns, doubles them or takes them out.
+fn moved(
     alloc: Global,
     word: Prefix,
     operand: &Value,
     meter: &mut Meter,
 ) -> Result<Value, OpFault>
-    requires operation { is_operation_word word ≡ true }
+    requires moving { is_moving word ≡ true }
     requires within { IsWithinLimit meter.old operand.now }
     ensures written { IfOk result (IsWordOf word operand.now) }
     ensures kept { IfOk result IsKeptValue }
     ensures params { IfOk result (λ value. value.params ≡ operand.now.params) }
     ensures elements { (valuation : Valuation) (element : Element)
-        → IfOk result (λ value. Has value valuation element ↔ WordHas word (Has operand.now valuation) element) }
+        → IfOk result (λ value. Has value valuation element ↔ WordHas word operand.now.params (Has operand.now) valuation element) }
     ensures definitions { HasNoDefinitions operand.now → IfOk result HasNoDefinitions }
     ensures numbers { IfOk result (IsWithinLimit meter.old) }
     ensures narrow { IfOk result (λ _. ¬ FormsWide (WordForms word) (Has operand.now)) }
     ensures units { MatchResult result (λ _. IsPaid (word_works word) meter.old meter.new)
-        (IsWhyNone operand.now.params (FormsWide (WordForms word) (Has operand.now)) (word_works word) meter.old meter.new) }
+        (IsWhyNone [] (FormsWide (WordForms word) (Has operand.now)) (word_works word) meter.old meter.new) }
 {
     // For what a value keeps.
     let _pieces = operand.pieces();
@@ -54,5 +54,64 @@ pub fn transformed(
         Prefix::DomainMap => domain_map(alloc, operand, meter),
         Prefix::RangeMap => range_map(alloc, operand, meter),
         _ => unreachable!(),
+    }
+}
+
+// The value, with its pieces put together.
+#[tactic(auto, using(std::proofs::lemmas::Grind::common_steps, isl_meter::proofs::CutLemmas::charges))]
+fn put_together(alloc: Global, operand: &Value, meter: &mut Meter) -> Result<Value, Cut>
+    requires { IsWithinLimit meter.old operand.now }
+    ensures kept { IfOk result IsKeptValue }
+    ensures params { IfOk result (λ value. value.params ≡ operand.now.params) }
+    ensures elements { (valuation : Valuation) (element : Element)
+        → IfOk result (λ value. Has value valuation element ↔ Has operand.now valuation element) }
+    ensures coalesced { HasNoDefinitions operand.now → IfOk result (IsCoalesced operand.now) }
+    ensures definitions { IfOk result HasNoDefinitions }
+    ensures numbers { IfOk result (IsWithinLimit meter.old) }
+    ensures meter { IsMetered meter.old meter.new result }
+{
+    let flat = operand.flat(alloc, meter)?;
+    coalesce(alloc, &flat, meter)
+}
+
+/// What a word makes of a value, over its parameters. `id`, `wrap`, `unwrap`, `zip`, `domain_map` and `range_map` use no unit. (the iscc
+/// chapter of the barvinok manual)
+///
+/// # Errors
+///
+/// As every call under a meter; `TooWide` exactly where a space that is formed of one in which the value has elements is too wide, unless
+/// memory ends; and `NoMinimum` only where what `lexmin` or `lexmax` looks for is missing at some valuation.
+pub fn transformed(
+    alloc: Global,
+    word: Prefix,
+    operand: &Value,
+    meter: &mut Meter,
+) -> Result<Value, WordFault>
+    requires operation { is_operation_word word ≡ true }
+    requires within { IsWithinLimit meter.old operand.now }
+
+    // The value, and what it has.
+    ensures written { IfOk result (IsWordOf word operand.now) }
+    ensures kept { IfOk result IsKeptValue }
+    ensures params { IfOk result (λ value. value.params ≡ operand.now.params) }
+    ensures elements { (valuation : Valuation) (element : Element)
+        → IfOk result (λ value. Has value valuation element ↔ WordHas word operand.now.params (Has operand.now) valuation element) }
+
+    // How it is written.
+    ensures definitions { HasNoDefinitions operand.now → IfOk result HasNoDefinitions }
+    ensures numbers { IfOk result (IsWithinLimit meter.old) }
+
+    // Where there is one, and what that cost.
+    ensures narrow { IfOk result (λ _. ¬ FormsWide (WordForms word) (Has operand.now)) }
+    ensures there { IfOk result (λ _. ¬ WordMisses word (Has operand.now)) }
+    ensures units { MatchResult result (λ _. IsPaid (word_works word) meter.old meter.new)
+        (IsWhyNoWord (FormsWide (WordForms word) (Has operand.now)) (WordMisses word (Has operand.now)) (word_works word)
+        meter.old meter.new) }
+{
+    match word {
+        Prefix::LexMin => Ok(lexmin(alloc, operand, meter)?),
+        Prefix::LexMax => Ok(lexmax(alloc, operand, meter)?),
+        Prefix::Coalesce => Ok(put_together(alloc, operand, meter)?),
+        _ => Ok(moved(alloc, word, operand, meter)?),
     }
 }

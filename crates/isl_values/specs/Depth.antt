@@ -1,16 +1,20 @@
 -- inner: how much stands in an expression that a value is worked out of: what working it out counts down.
 use Rattle.std.specs.Prelude.{ℕ, ◌+◌, List, [], ◌∷◌}
 use Rattle.isl_expr.specs.declared.tree.Link.{Link}
-use Rattle.isl_expr.specs.declared.tree.Postfix.{Postfix, Apply}
-use Rattle.isl_expr.specs.declared.tree.Expr.{Expr, Row', Prefix', Post', Row_of-Expr, end_of-Expr, more_of-Expr}
+use Rattle.isl_expr.specs.declared.tree.Postfix.{Postfix, Inverse, Apply, Item}
+use Rattle.isl_expr.specs.declared.tree.Expr.{Expr, Row', Prefix', Any', Last', Post', Row_of-Expr, end_of-Expr, more_of-Expr}
 use Rattle.isl_expr.specs.declared.tree.Expr.{Row_of-Link, end_of-Link, more_of-Link, Row_of-Postfix, end_of-Postfix, more_of-Postfix}
+use Rattle.isl_expr.specs.declared.tree.Expr as e
 
 abbrev mutual
   pub depth_of : Expr → ℕ
+  depth_of (e.Name name) = 0
+  depth_of (e.Literal literal) = 0
   depth_of (Row' s first t links) = 1 + (depth_in first + depth_in_links links)
   depth_of (Prefix' word s operand) = 1 + depth_in operand
+  depth_of (Any' r source s sink t schedule) = 2 + (depth_in source + (depth_in sink + depth_in schedule))
+  depth_of (Last' r source s sink t schedule) = 2 + (depth_in source + (depth_in sink + depth_in schedule))
   depth_of (Post' s operand t postfixes) = 1 + (depth_in operand + depth_in_postfixes postfixes)
-  depth_of _ = 0
 
   -- an operand in a box is a row of one
   pub depth_in : {m : _} → Row_of-Expr m → ℕ
@@ -26,8 +30,13 @@ abbrev mutual
   depth_in_postfixes (more_of-Postfix postfix rest) = 1 + (depth_of_postfix postfix + depth_in_postfixes rest)
 
   pub depth_of_postfix : Postfix → ℕ
+  depth_of_postfix Inverse = 0
   depth_of_postfix (Apply argument) = 1 + depth_of argument
-  depth_of_postfix _ = 0
+  depth_of_postfix (Item number) = 0
+
+-- of three operands together
+abbrev pub depth_of_three : Expr → Expr → Expr → ℕ
+depth_of_three source sink schedule = 1 + (depth_of source + (depth_of sink + depth_of schedule))
 
 -- the same of lists
 abbrev pub depth_of_links : List Link → ℕ

@@ -5,67 +5,113 @@ use Rattle.isl_space.specs.Limits.{most_parameters}
 use Rattle.isl_space.specs.Name.{Name}
 use Rattle.isl_space.specs.Valuation.{Valuation}
 use Rattle.isl_space.specs.Element.{Element}
+use Rattle.isl_space.specs.SpaceForm.{SpaceForm}
 use Rattle.isl_text.specs.declared.refusal.Refusal.{Refusal}
-use Rattle.isl_text.specs.declared.refusal.Refusal.TheVariants.{TooWide, Unbounded}
+use Rattle.isl_text.specs.declared.refusal.Refusal.TheVariants.{TooWide, NoMinimum, Unbounded}
+use Rattle.isl_relation.specs.Formed.{FormsAccess}
 use Rattle.isl_expr.specs.declared.tree.Link.{Link}
+use Rattle.isl_expr.specs.declared.tree.Prefix.{Prefix}
 use Rattle.isl_expr.specs.declared.tree.Postfix.{Postfix, Inverse, Apply, Item}
 use Rattle.isl_expr.specs.declared.tree.Expr.{Expr, Row', Prefix', Any', Last', Post', Row_of-Expr, end_of-Expr, more_of-Expr}
 use Rattle.isl_expr.specs.declared.tree.Expr.{Row_of-Link, end_of-Link, more_of-Link, Row_of-Postfix, end_of-Postfix, more_of-Postfix}
 use Rattle.isl_expr.specs.declared.tree.Expr as e
 use Rattle.isl_kinds.specs.Typed.{declared_of, declared_in, declared_past, joined_names}
-use Rattle.isl_operators.specs.Operations.{OperatorHas}
+use Rattle.isl_operators.specs.Operations.{OperatorHas, WordMisses}
 use Rattle.isl_operators.specs.Formed.{OperatorForms, WordForms, ApplicationForms, FormsWide, PairsWide}
+use Rattle.isl_values.specs.declared.list.ListPart.TheVariants.{First}
 use Rattle.isl_values.specs.State.{StateView, scope_of}
+use Rattle.isl_values.specs.Worked.{part_taken}
 use Rattle.isl_values.specs.Selection.{Selects, SelectsIn, PostfixHas}
 
 -- ---- why
-pub data End : Type 0 where
+-- for what reason an evaluation ends, whatever its work uses
+pub data Reason : Type 0 where
   -- operands have too many parameters together, or a space that is formed is too wide
-  too_wide : End
+  too_wide : Reason
+  -- there is no least element, or no greatest one
+  no_minimum : Reason
   -- infinitely many elements are to be listed
-  unbounded : End
+  unbounded : Reason
 
-abbrev pub refusal_of_end : End → Refusal
-refusal_of_end too_wide = TooWide
-refusal_of_end unbounded = Unbounded
+abbrev pub refusal_of_reason : Reason → Refusal
+refusal_of_reason too_wide = TooWide
+refusal_of_reason no_minimum = NoMinimum
+refusal_of_reason unbounded = Unbounded
 
--- for no reason
+-- an evaluation ends for a reason; or its work may be cut here, where a number passes the limit, or the units are used up
+pub data End : Type 0 where
+  because : Reason → End
+  cut : End
+
+-- it does not end, nor is there work that may be cut
 abbrev pub NoEnd : End → Type 0
-NoEnd why = ⊥
+NoEnd end = ⊥
 
--- it does not end
+-- there is work that may be cut, and nothing ends it
+abbrev pub CutAlone : End → Type 0
+CutAlone (because reason) = ⊥
+CutAlone cut = Unit {0}
+
+-- unless its work is cut, it does not end
 abbrev pub GoesOn : (End → Type 0) → Type 0
-GoesOn Ends = (why : End) → ¬ Ends why
+GoesOn Ends = (reason : Reason) → ¬ Ends (because reason)
 
 -- one of two ends, and the second only where the first goes on
 abbrev pub FirstEnds : (End → Type 0) → (End → Type 0) → End → Type 0
-FirstEnds A B why = A why ⊎ (GoesOn A × B why)
+FirstEnds A B end = A end ⊎ (GoesOn A × B end)
 
--- an operation over these parameters: too many of them, and else a space that is too wide; none of today's looks for more
-abbrev pub OperationEnds : List Name → Type 0 → End → Type 0
-OperationEnds names Wide too_wide = (most_parameters < length names) ⊎ ((length names ≤ most_parameters) × Wide)
-OperationEnds names Wide unbounded = ⊥
+-- An operation over these parameters: too many of them, and else a space that is too wide; then what it looks for and is not there. Its
+-- work begins where neither parameters nor spaces end it.
+abbrev pub OperationEnds : List Name → Type 0 → Type 0 → End → Type 0
+OperationEnds names Wide Misses (because too_wide) = (most_parameters < length names) ⊎ ((length names ≤ most_parameters) × Wide)
+OperationEnds names Wide Misses (because no_minimum) = (length names ≤ most_parameters) × (¬ Wide) × Misses
+OperationEnds names Wide Misses (because unbounded) = ⊥
+OperationEnds names Wide Misses cut = (length names ≤ most_parameters) × (¬ Wide)
+
+-- ---- at one operation, of operands with these parameters and elements
+abbrev pub Elements : Type 1
+Elements = Valuation → Element → Type 0
+
+abbrev pub PairEnds : (SpaceForm → SpaceForm → SpaceForm → Type 0) → List Name → List Name → Elements → Elements → End → Type 0
+PairEnds Forms names others Left Right = OperationEnds (joined_names names others) (PairsWide Forms Left Right) ⊥
+
+abbrev pub WordEnds : Prefix → Elements → End → Type 0
+WordEnds word Operand = OperationEnds [] (FormsWide (WordForms word) Operand) (WordMisses word Operand)
+
+-- `any` and `last`, over the parameters of all three: the times form no space
+abbrev pub DependenceEnds : List Name → Elements → Elements → End → Type 0
+DependenceEnds names Source Sink = OperationEnds names (PairsWide FormsAccess Source Sink) ⊥
 
 -- ---- where
 abbrev mutual
   pub Ends : StateView → Expr → End → Type 0
   Ends state (e.Name name) = NoEnd
-  Ends state (e.Literal literal) = NoEnd
+  Ends state (e.Literal literal) = CutAlone
   Ends state (Row' s first t links) =
       FirstEnds (EndsIn state first)
-      (EndsPastLinks state (declared_in (scope_of state) first) (λ valuation x. SelectsIn state first valuation x) links)
+      (EndsPastLinks state (declared_in (scope_of state) first) (λ valuation x. SelectsIn state First first valuation x) links)
   Ends state (Prefix' word s operand) =
-      FirstEnds (EndsIn state operand) (OperationEnds [] (FormsWide (WordForms word) (λ valuation x. SelectsIn state operand valuation x)))
-  Ends state (Any' r source s sink t schedule) = NoEnd
-  Ends state (Last' r source s sink t schedule) = NoEnd
+      FirstEnds (EndsIn state operand) (WordEnds word (λ valuation x. SelectsIn state First operand valuation x))
+  Ends state (Any' r source s sink t schedule) = EndsOfThree state source sink schedule
+  Ends state (Last' r source s sink t schedule) = EndsOfThree state source sink schedule
   Ends state (Post' s operand t postfixes) =
       FirstEnds (EndsIn state operand)
-      (EndsPastPostfixes state (declared_in (scope_of state) operand) (λ valuation x. SelectsIn state operand valuation x) postfixes)
+      (EndsPastPostfixes state (declared_in (scope_of state) operand)
+      (λ valuation x. SelectsIn state (part_taken postfixes) operand valuation x) postfixes)
 
   -- an operand in a box is a row of one
   pub EndsIn : {m : _} → StateView → Row_of-Expr m → End → Type 0
   EndsIn state end_of-Expr = NoEnd
   EndsIn state (more_of-Expr expr rest) = Ends state expr
+
+  -- source, sink and schedule come first, in this order
+  pub EndsOfThree : {l m n : _} → StateView → Row_of-Expr l → Row_of-Expr m → Row_of-Expr n → End → Type 0
+  EndsOfThree state source sink schedule =
+      FirstEnds (FirstEnds (EndsIn state source) (FirstEnds (EndsIn state sink) (EndsIn state schedule)))
+      (DependenceEnds
+      (joined_names (joined_names (declared_in (scope_of state) source) (declared_in (scope_of state) sink))
+      (declared_in (scope_of state) schedule))
+      (λ valuation x. SelectsIn state First source valuation x) (λ valuation x. SelectsIn state First sink valuation x))
 
   -- from the left, behind operands with these parameters and elements
   pub EndsPastLinks : {m : _} → StateView → List Name → (Valuation → Element → Type 0) → Row_of-Link m → End → Type 0
@@ -73,8 +119,7 @@ abbrev mutual
   EndsPastLinks state names Left (more_of-Link operator operand rest) =
       FirstEnds (Ends state operand)
       (FirstEnds
-      (OperationEnds (joined_names names (declared_of (scope_of state) operand))
-      (PairsWide (OperatorForms operator) Left (λ valuation x. Selects state operand valuation x)))
+      (PairEnds (OperatorForms operator) names (declared_of (scope_of state) operand) Left (λ valuation x. Selects state operand valuation x))
       (EndsPastLinks state (joined_names names (declared_of (scope_of state) operand))
       (λ valuation x. OperatorHas operator (Left valuation) (λ y. Selects state operand valuation y) x) rest))
 
@@ -89,8 +134,7 @@ abbrev mutual
   EndsPostfix state names Operand Inverse = NoEnd
   EndsPostfix state names Operand (Apply argument) =
       FirstEnds (Ends state argument)
-      (OperationEnds (joined_names names (declared_of (scope_of state) argument))
-      (PairsWide ApplicationForms Operand (λ valuation x. Selects state argument valuation x)))
+      (PairEnds ApplicationForms names (declared_of (scope_of state) argument) Operand (λ valuation x. Selects state argument valuation x))
   EndsPostfix state names Operand (Item number) = NoEnd
 
 -- the same of lists
@@ -99,8 +143,8 @@ EndsRow state names Left [] = NoEnd
 EndsRow state names Left (link ∷ links) =
     FirstEnds (Ends state link.operand)
     (FirstEnds
-    (OperationEnds (joined_names names (declared_of (scope_of state) link.operand))
-    (PairsWide (OperatorForms link.operator) Left (λ valuation x. Selects state link.operand valuation x)))
+    (PairEnds (OperatorForms link.operator) names (declared_of (scope_of state) link.operand) Left
+    (λ valuation x. Selects state link.operand valuation x))
     (EndsRow state (joined_names names (declared_of (scope_of state) link.operand))
     (λ valuation x. OperatorHas link.operator (Left valuation) (λ y. Selects state link.operand valuation y) x) links))
 

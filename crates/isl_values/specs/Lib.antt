@@ -5,6 +5,7 @@ pub mod Stored
 pub mod Made
 pub mod Ends
 pub mod Depth
+pub mod Three
 pub use Rattle.isl_kinds.specs.Typed
 pub use Rattle.isl_lower.specs.Value
 pub use Rattle.isl_operators.specs.Operations

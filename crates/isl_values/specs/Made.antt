@@ -11,38 +11,47 @@ use Rattle.isl_union.specs.KeptValue.{KeptValue, Has, HasNoDefinitions, IsKeptVa
 use Rattle.isl_union.specs.declared.fault.OpFault.{OpFault}
 use Rattle.isl_union.specs.declared.fault.OpFault.TheVariants as op_fault
 use Rattle.isl_text.specs.declared.refusal.Refusal.{Refusal}
-use Rattle.isl_text.specs.declared.refusal.Refusal.TheVariants.{Overflow, Budget, NoMemory, TooWide}
+use Rattle.isl_text.specs.declared.refusal.Refusal.TheVariants.{Overflow, Budget, NoMemory, NoMinimum, TooWide}
 use Rattle.isl_lower.specs.Value.{IsWellFormedLiteral}
 use Rattle.isl_expr.specs.declared.tree.Link.{Link}
 use Rattle.isl_expr.specs.declared.tree.Postfix.{Postfix, Inverse, Apply, Item}
 use Rattle.isl_expr.specs.declared.tree.Expr.{Expr}
 use Rattle.isl_expr.specs.Expr.{literals_of}
-use Rattle.isl_kinds.specs.Parts.{Part, name, literal, operator, prefix, inverse, application, parts_of}
+use Rattle.isl_kinds.specs.Parts.{Part, name, literal, operator, prefix, any, last, inverse, application, item, parts_of}
 use Rattle.isl_kinds.specs.Typed.{TypeView, ScopeView, has_unknown, kind_of, declared_of}
 use Rattle.isl_operators.specs.Operations.{is_operation, is_operation_word}
 use Rattle.isl_operators.specs.Made.{operator_works, word_works}
+use Rattle.isl_operators.specs.declared.fault.WordFault.{WordFault}
+use Rattle.isl_operators.specs.declared.fault.WordFault.TheVariants as word_fault
 pub use Rattle.isl_operators.specs.Made.{IsPaid}
 use Rattle.isl_values.specs.State.{HasNumbersUpTo}
-use Rattle.isl_values.specs.Ends.{End, refusal_of_end}
+use Rattle.isl_values.specs.Ends.{End, Reason, because, refusal_of_reason}
+use Rattle.isl_values.specs.Ends as ends
 
--- what stands in no operand that a value is worked out of: tests, `scan`, `sample`, and what is not answered yet
+-- what stands in no operand that a value is worked out of: tests, `%`, `scan`, `sample` and `codegen`
 abbrev pub is_foreign : Part → Bool
 is_foreign (name n) = false
 is_foreign (literal l) = false
 is_foreign (operator sign) = not (is_operation sign)
 is_foreign (prefix word) = not (is_operation_word word)
+is_foreign any = false
+is_foreign last = false
 is_foreign inverse = false
 is_foreign application = false
-is_foreign _ = true
+is_foreign (item number) = false
 
--- the parts that may use units: all but names, `+`, `^-1` and the words that only move columns; a literal is asked whether what it writes
--- has an element
+-- the parts that may use units: all but names, `+`, `^-1`, `[i]` and the words that only move columns; a literal is asked whether what it
+-- writes has an element
 abbrev pub uses_units : Part → Bool
 uses_units (name n) = false
+uses_units (literal l) = true
 uses_units (operator sign) = operator_works sign
 uses_units (prefix word) = word_works word
+uses_units any = true
+uses_units last = true
 uses_units inverse = false
-uses_units _ = true
+uses_units application = true
+uses_units (item number) = false
 
 -- the expression has a type in the scope
 pub record IsOfType (scope : ScopeView) (expr : Expr) (t : TypeView) : Type 0 where
@@ -65,7 +74,7 @@ pub record IsSoundLink (scope : ScopeView) (link : Link) : Type 0 where
 abbrev pub IsSoundPostfix : ScopeView → Postfix → Type 0
 IsSoundPostfix scope Inverse = Unit {0}
 IsSoundPostfix scope (Apply argument) = IsSoundExpr scope argument
-IsSoundPostfix scope (Item number) = ⊥
+IsSoundPostfix scope (Item number) = Unit {0}
 
 -- The kept value is one of these, with these parameters, these elements at each valuation, no number above the limit, and no column
 -- that is defined.
@@ -91,14 +100,23 @@ abbrev pub refusal_of_fault : OpFault → Refusal
 refusal_of_fault op_fault.TooWide = TooWide
 refusal_of_fault (op_fault.Cut cut) = refusal_of_cut cut
 
--- why no value was made: work was cut; where nothing uses units memory ended, and the meter is as it was
-pub record IsWhyUnmade (works : Bool) (old new : Gauge) (refusal : Refusal) : Type 0 where
+-- the same of a word
+abbrev pub refusal_of_word_fault : WordFault → Refusal
+refusal_of_word_fault word_fault.TooWide = TooWide
+refusal_of_word_fault word_fault.NoMinimum = NoMinimum
+refusal_of_word_fault (word_fault.Cut cut) = refusal_of_cut cut
+
+-- Why no value was made: work was cut, at an operation to which the evaluation goes on, and which nothing ends before its work; want of
+-- memory may come anywhere. Where nothing uses units memory ended, and the meter is as it was.
+pub record IsWhyUnmade (works : Bool) (Ends : End → Type 0) (old new : Gauge) (refusal : Refusal) : Type 0 where
   pub cut : Cut
   pub is : refusal ≡ refusal_of_cut cut
   pub by : IsCutBy old new cut
+  pub there : (cut ≡ cuts.NoMemory) ⊎ Ends ends.cut
   pub free : works ≡ false → (cut ≡ cuts.NoMemory) × (new ≡ old)
 
--- why no value was worked out: none was made; or the evaluation ends so, and units alone were used
+-- why no value was worked out: none was made; or the evaluation ends for this reason, and units alone were used
 abbrev pub IsWhyUnworked : Bool → (End → Type 0) → Gauge → Gauge → Refusal → Type 0
 IsWhyUnworked works Ends old new refusal =
-    IsWhyUnmade works old new refusal ⊎ ((why : End) × (refusal ≡ refusal_of_end why) × Ends why × IsPaid works old new)
+    IsWhyUnmade works Ends old new refusal
+    ⊎ ((reason : Reason) × (refusal ≡ refusal_of_reason reason) × Ends (because reason) × IsPaid works old new)

@@ -1,12 +1,16 @@
 -- public: which elements an expression selects, and what is kept of them. (the iscc chapter of the barvinok manual)
-use Rattle.std.specs.Prelude.{◌≡◌, ◌↔◌, List, [], ◌∷◌, Option, Some, None, unsigned_abs}
+use Rattle.std.specs.Prelude.{◌≡◌, ◌↔◌, List, [], ◌∷◌, Option, Some, None, IfSome, MatchOption, is_some, unsigned_abs}
 use Rattle.isl_meter.specs.Gauge.{limit_of}
 use Rattle.isl_space.specs.Valuation.{Valuation}
 use Rattle.isl_space.specs.Element.{Element}
 use Rattle.isl_union.specs.KeptValue.{KeptValue, Has, HasNoDefinitions, IsKeptValue}
 use Rattle.isl_union.specs.Sample.{IsSampleOf}
 use Rattle.isl_maps.specs.Inverse.{inverse_element}
+use Rattle.isl_relation.specs.Flow.{AnyHas}
+use Rattle.isl_gist.specs.Gist.{value_over, IsGistOf}
+use Rattle.isl_coalesce.specs.Coalesced.{IsCoalesced}
 use Rattle.isl_tree.specs.Literal.{LiteralHas}
+use Rattle.isl_expr.specs.declared.tree.Binary.TheVariants as b
 use Rattle.isl_expr.specs.declared.tree.Link.{Link}
 use Rattle.isl_expr.specs.declared.tree.Prefix.TheVariants as p
 use Rattle.isl_expr.specs.declared.tree.Postfix.{Postfix, Inverse, Apply, Item}
@@ -14,50 +18,69 @@ use Rattle.isl_expr.specs.declared.tree.Expr.{Expr, Row', Prefix', Any', Last', 
 use Rattle.isl_expr.specs.declared.tree.Expr.{Row_of-Link, end_of-Link, more_of-Link, Row_of-Postfix, end_of-Postfix, more_of-Postfix}
 use Rattle.isl_expr.specs.declared.tree.Expr as e
 use Rattle.isl_operators.specs.Operations.{OperatorHas, WordHas, ApplicationHas}
-use Rattle.isl_kinds.specs.Typed.{kind_of, declared_of}
-use Rattle.isl_values.specs.State.{Kept, StateView, Moment, kept_of, scope_of, HasNumbersUpTo, Everywhere}
-use Rattle.isl_values.specs.Worked.{IsWorked, IsWorkedIn}
+use Rattle.isl_operators.specs.Made.{IsAnyWordOf}
+use Rattle.isl_kinds.specs.Lines.{is_kind}
+use Rattle.isl_kinds.specs.Typed.{kind_of, declared_of, declared_in, joined_names}
+use Rattle.isl_expr.specs.declared.tree.ValueKind.TheVariants.{List as Pair}
+use Rattle.isl_values.specs.declared.list.ListPart.{ListPart}
+use Rattle.isl_values.specs.declared.list.ListPart.TheVariants.{First, Second}
+use Rattle.isl_values.specs.State.{Kept, StateView, Moment, kept_of, scope_of, value_at, part_at, HasNumbersUpTo, Everywhere}
+use Rattle.isl_values.specs.Worked.{Dependence, IsWorkedAt, PartHas, part_taken}
 
--- what a name stands for has the element
-abbrev pub KeptHas : Option Kept → Valuation → Element → Type 0
-KeptHas None valuation element = ⊥
-KeptHas (Some kept) valuation element = Has kept.value valuation element
+-- what a name stands for has the element in this part
+abbrev pub KeptHas : ListPart → Option Kept → Valuation → Element → Type 0
+KeptHas part None valuation element = ⊥
+KeptHas part (Some kept) valuation element = Has (value_at part kept) valuation element
 
 abbrev mutual
-  -- The expression selects the element at the valuation: a name what its kept value has, a literal what it has; a row what its
-  -- operators make of the operands, from the left; a word what it makes of its operand; an operand with what follows it what each of
-  -- that makes of what is before it. The others are not answered yet.
-  pub Selects : StateView → Expr → Valuation → Element → Type 0
-  Selects state (e.Name name) valuation element = KeptHas (kept_of state name) valuation element
-  Selects state (e.Literal literal) valuation element = LiteralHas literal valuation element
-  Selects state (Row' s first t links) valuation element =
-      SelectsPastLinks state valuation (λ x. SelectsIn state first valuation x) links element
-  Selects state (Prefix' word s operand) valuation element = WordHas word (λ x. SelectsIn state operand valuation x) element
-  Selects state (Any' r source s sink t schedule) valuation element = ⊥
-  Selects state (Last' r source s sink t schedule) valuation element = ⊥
-  Selects state (Post' s operand t postfixes) valuation element =
-      SelectsPastPostfixes state valuation (λ x. SelectsIn state operand valuation x) postfixes element
+  -- This part of the expression selects the element at the valuation: a name what its kept value has, a literal what it has; a row what
+  -- its operators make of the operands, from the left; a word what it makes of its operand; `any` and `last` which accesses come before
+  -- others; an operand with what follows it what each of that makes of what is before it. What is no list is each of its parts.
+  pub SelectsAt : StateView → ListPart → Expr → Valuation → Element → Type 0
+  SelectsAt state part (e.Name name) valuation element = KeptHas part (kept_of state name) valuation element
+  SelectsAt state part (e.Literal literal) valuation element = LiteralHas literal valuation element
+  SelectsAt state part (Row' s first t links) valuation element =
+      SelectsPastLinks state valuation (λ x. SelectsIn state First first valuation x) links element
+  SelectsAt state part (Prefix' word s operand) valuation element =
+      WordHas word (declared_in (scope_of state) operand) (λ v x. SelectsIn state First operand v x) valuation element
+  SelectsAt state part (Any' r source s sink t schedule) valuation element =
+      SelectsOfThree state AnyHas source sink schedule valuation element
+  SelectsAt state part (Last' r source s sink t schedule) valuation element =
+      SelectsOfThree state (PartHas part) source sink schedule valuation element
+  SelectsAt state part (Post' s operand t postfixes) valuation element =
+      SelectsPastPostfixes state valuation (λ x. SelectsIn state (part_taken postfixes) operand valuation x) postfixes element
 
   -- an operand in a box is a row of one
-  pub SelectsIn : {m : _} → StateView → Row_of-Expr m → Valuation → Element → Type 0
-  SelectsIn state end_of-Expr valuation element = ⊥
-  SelectsIn state (more_of-Expr expr rest) valuation element = Selects state expr valuation element
+  pub SelectsIn : {m : _} → StateView → ListPart → Row_of-Expr m → Valuation → Element → Type 0
+  SelectsIn state part end_of-Expr valuation element = ⊥
+  SelectsIn state part (more_of-Expr expr rest) valuation element = SelectsAt state part expr valuation element
+
+  -- source, sink and schedule
+  pub SelectsOfThree : {l m n : _} → StateView → Dependence → Row_of-Expr l → Row_of-Expr m → Row_of-Expr n → Valuation → Element → Type 0
+  SelectsOfThree state Depends source sink schedule valuation element =
+      Depends (λ x. SelectsIn state First source valuation x) (λ x. SelectsIn state First sink valuation x)
+      (λ x. SelectsIn state First schedule valuation x) element
 
   pub SelectsPastLinks : {m : _} → StateView → Valuation → (Element → Type 0) → Row_of-Link m → Element → Type 0
   SelectsPastLinks state valuation Left end_of-Link element = Left element
   SelectsPastLinks state valuation Left (more_of-Link operator operand rest) element =
-      SelectsPastLinks state valuation (λ x. OperatorHas operator Left (λ y. Selects state operand valuation y) x) rest element
+      SelectsPastLinks state valuation (λ x. OperatorHas operator Left (λ y. SelectsAt state First operand valuation y) x) rest element
 
   pub SelectsPastPostfixes : {m : _} → StateView → Valuation → (Element → Type 0) → Row_of-Postfix m → Element → Type 0
   SelectsPastPostfixes state valuation Operand end_of-Postfix element = Operand element
   SelectsPastPostfixes state valuation Operand (more_of-Postfix postfix rest) element =
       SelectsPastPostfixes state valuation (λ x. PostfixHas state valuation Operand postfix x) rest element
 
-  -- `^-1` turns each element round; a map is applied to what the argument selects; elements of lists are not answered yet
+  -- `^-1` turns each element round; a map is applied to what the argument selects; `[i]` is that part of the operand, which is taken at it
   pub PostfixHas : StateView → Valuation → (Element → Type 0) → Postfix → Element → Type 0
   PostfixHas state valuation Operand Inverse element = Operand (inverse_element element)
-  PostfixHas state valuation Operand (Apply argument) element = ApplicationHas Operand (λ x. Selects state argument valuation x) element
-  PostfixHas state valuation Operand (Item number) element = ⊥
+  PostfixHas state valuation Operand (Apply argument) element =
+      ApplicationHas Operand (λ x. SelectsAt state First argument valuation x) element
+  PostfixHas state valuation Operand (Item number) element = Operand element
+
+-- what an expression selects; of a list the first part
+abbrev pub Selects : StateView → Expr → Valuation → Element → Type 0
+Selects state expr valuation element = SelectsAt state First expr valuation element
 
 -- the same of lists
 abbrev pub RowSelects : StateView → Valuation → (Element → Type 0) → List Link → Element → Type 0
@@ -70,30 +93,56 @@ PostSelects state valuation Operand [] element = Operand element
 PostSelects state valuation Operand (postfix ∷ postfixes) element =
     PostSelects state valuation (λ x. PostfixHas state valuation Operand postfix x) postfixes element
 
--- a value with exactly the elements that the expression selects, at every valuation; of the values with these elements it is one that is
--- worked out
-pub record IsSelected (state : StateView) (expr : Expr) (value : KeptValue) : Type 0 where
-  pub elements : Everywhere state (λ valuation. (element : Element) → Has value valuation element ↔ Selects state expr valuation element)
-  pub written : IsWorked state expr value
+-- a value with exactly the elements that this part of the expression selects, at every valuation; of the values with these elements it is
+-- one that is worked out
+pub record IsSelectedAt (state : StateView) (part : ListPart) (expr : Expr) (value : KeptValue) : Type 0 where
+  pub elements : Everywhere state (λ valuation. (element : Element) → Has value valuation element ↔ SelectsAt state part expr valuation element)
+  pub written : IsWorkedAt state part expr value
+
+abbrev pub IsSelected : StateView → Expr → KeptValue → Type 0
+IsSelected state expr value = IsSelectedAt state First expr value
 
 -- the same of an operand in a box
 abbrev pub IsSelectedIn : {m : _} → StateView → Row_of-Expr m → KeptValue → Type 0
-IsSelectedIn state operand value =
-    Everywhere state (λ valuation. (element : Element) → Has value valuation element ↔ SelectsIn state operand valuation element)
-    × IsWorkedIn state operand value
+IsSelectedIn state end_of-Expr value = ⊥
+IsSelectedIn state (more_of-Expr expr rest) value = IsSelected state expr value
 
--- what a value has that is kept of an expression: of `sample` one element that its operand selects, chosen once; else what is selected
-abbrev pub IsContentOf : StateView → Expr → KeptValue → Type 0
-IsContentOf state (Prefix' p.Sample s operand) value =
+-- over the joined parameters of both, the one is the gist of the left value in the context of the right one
+abbrev pub IsGistOfTwo : KeptValue → KeptValue → KeptValue → Type 0
+IsGistOfTwo left right value =
+    IsGistOf (value_over (joined_names left.params right.params) left) (value_over (joined_names left.params right.params) right) value
+
+-- the operand of the only operator in a row, where that is `%`
+abbrev pub context_of : {m : _} → Row_of-Link m → Option Expr
+context_of (more_of-Link b.Gist operand end_of-Link) = Some operand
+context_of _ = None
+
+-- What a value has that is kept of this part of an expression. Of `sample`: one element of a value of its operand, chosen once. Of
+-- `coalesce`: the elements of a value of its operand, whose pieces are put together. Of one `%` of two values: the gist of the left one in
+-- the context of the right one. Of others what is selected.
+abbrev pub IsContentOf : StateView → ListPart → Expr → KeptValue → Type 0
+IsContentOf state part (Prefix' p.Sample s operand) value =
     (argument : KeptValue) × IsSelectedIn state operand argument × IsSampleOf argument value
-IsContentOf state expr value = IsSelected state expr value
+IsContentOf state part (Prefix' p.Coalesce s operand) value =
+    (argument : KeptValue) × IsSelectedIn state operand argument × IsAnyWordOf p.Coalesce argument value × IsCoalesced argument value
+IsContentOf state part (Row' s first t links) value =
+    MatchOption (context_of links) (IsSelectedAt state part (Row' s first t links) value)
+    (λ context. (left : KeptValue) × (right : KeptValue) × IsSelectedIn state first left × IsSelected state context right
+    × IsGistOfTwo left right value)
+IsContentOf state part expr value = IsSelectedAt state part expr value
 
--- This is kept of an expression: the kind and the parameters that it declares, and a value of its content, with numbers within the limit,
--- in which no column is defined.
+-- This is kept of a part of an expression: a value of its content, with the parameters that the expression declares and numbers within
+-- the limit, in which no column is defined.
+pub record IsKeptOf (before : Moment) (part : ListPart) (expr : Expr) (value : KeptValue) : Type 0 where
+  pub params : declared_of (scope_of before.state) expr ≡ value.params
+  pub content : IsContentOf before.state part expr value
+  pub well_formed : IsKeptValue value
+  pub numbers : HasNumbersUpTo (unsigned_abs (limit_of before.meter)) value
+  pub definitions : HasNoDefinitions value
+
+-- This is kept of an expression: its kind and its value, and of a list, and of nothing else, a second one.
 pub record Keeps (before : Moment) (expr : Expr) (kept : Kept) : Type 0 where
   pub kind : kind_of (scope_of before.state) expr ≡ Some kept.kind
-  pub params : declared_of (scope_of before.state) expr ≡ kept.value.params
-  pub content : IsContentOf before.state expr kept.value
-  pub well_formed : IsKeptValue kept.value
-  pub numbers : HasNumbersUpTo (unsigned_abs (limit_of before.meter)) kept.value
-  pub definitions : HasNoDefinitions kept.value
+  pub value : IsKeptOf before First expr kept.value
+  pub list : is_some kept.second ≡ is_kind kept.kind Pair
+  pub second : IfSome kept.second (IsKeptOf before Second expr)

@@ -1,5 +1,6 @@
 -- public: what statements have bound. (the iscc chapter of the barvinok manual, on assignments)
-use Rattle.std.specs.Prelude.{◌≡◌, ◌≢◌, ℤ, false, not, List, [], All, Option, Some, filter, map, unsigned_abs}
+use Rattle.std.specs.Prelude.{◌≡◌, ◌≢◌, ℤ, pos, int_lt, false, not, List, [], All, Option, Some, filter, map, unsigned_abs, unwrap_or}
+use Rattle.std.specs.Prelude.{if◌then◌else◌}
 use Rattle.std.specs.Map.{lookup}
 use Rattle.std.specs.Str.{bytes_eq}
 use Rattle.isl_meter.specs.Gauge.{Gauge}
@@ -10,11 +11,23 @@ use Rattle.isl_union.specs.KeptValue.{KeptValue}
 pub use Rattle.isl_union.specs.Numbers.{HasNumbersUpTo}
 use Rattle.isl_expr.specs.declared.tree.ValueKind.{ValueKind}
 use Rattle.isl_kinds.specs.Typed.{TypeView, ScopeView, is_dollar}
+use Rattle.isl_values.specs.declared.list.ListPart.{ListPart}
+use Rattle.isl_values.specs.declared.list.ListPart.TheVariants.{First, Second}
 
--- what a name stands for: a kind, and a kept value
+-- what a name stands for: a kind and a kept value, and of a list a second one
 pub record Kept : Type 0 where
   pub kind : ValueKind
   pub value : KeptValue
+  pub second : Option KeptValue
+
+-- the value of a part; what is no list is each of its parts
+abbrev pub value_at : ListPart → Kept → KeptValue
+value_at First kept = kept.value
+value_at Second kept = unwrap_or kept.second kept.value
+
+-- the part that a number in square brackets stands for: `[0]` for the first, `[1]` for the second; others are refused before
+abbrev pub part_at : ℤ → ListPart
+part_at number = if int_lt (pos 0) number then Second else First
 
 -- the bound names, each with what it stands for
 pub record StateView : Type 0 where
@@ -55,7 +68,7 @@ EachKept P state = (name : Name) (kept : Kept) → kept_of state name ≡ Some k
 
 -- all numbers of what is bound are within the limit
 abbrev pub Fits : ℤ → StateView → Type 0
-Fits limit state = EachKept (λ kept. HasNumbersUpTo (unsigned_abs limit) kept.value) state
+Fits limit state = EachKept (λ kept. (part : ListPart) → HasNumbersUpTo (unsigned_abs limit) (value_at part kept)) state
 
 -- at every valuation of the parameters
 abbrev pub Everywhere : StateView → (Valuation → Type 0) → Type 0

@@ -1,7 +1,9 @@
 -- public: which value of an expression is worked out. (the iscc chapter of the barvinok manual)
 use Rattle.std.specs.Prelude.{◌≡◌, true, List, [], ◌∷◌, Some}
 use Rattle.isl_union.specs.KeptValue.{KeptValue}
+use Rattle.isl_space.specs.Element.{Element}
 use Rattle.isl_maps.specs.Inverse.{inverse_of}
+use Rattle.isl_relation.specs.Flow.{AnyHas, LastHas, UnsourcedHas}
 use Rattle.isl_lower.specs.Value.{IsLowered}
 use Rattle.isl_expr.specs.declared.tree.Link.{Link}
 use Rattle.isl_expr.specs.declared.tree.Postfix.{Postfix, Inverse, Apply, Item}
@@ -9,33 +11,65 @@ use Rattle.isl_expr.specs.declared.tree.Expr.{Expr, Row', Prefix', Any', Last', 
 use Rattle.isl_expr.specs.declared.tree.Expr.{Row_of-Link, end_of-Link, more_of-Link, Row_of-Postfix, end_of-Postfix, more_of-Postfix}
 use Rattle.isl_expr.specs.declared.tree.Expr as e
 use Rattle.isl_operators.specs.Operations.{is_operation_word}
-use Rattle.isl_operators.specs.Made.{IsOperatorOf, IsWordOf, IsApplicationOf}
-use Rattle.isl_values.specs.State.{Kept, StateView, kept_of}
+use Rattle.isl_operators.specs.Made.{IsOperatorOf, IsWordOf, IsApplicationOf, IsDependenceOf}
+use Rattle.isl_values.specs.declared.list.ListPart.{ListPart}
+use Rattle.isl_values.specs.declared.list.ListPart.TheVariants.{First, Second}
+use Rattle.isl_values.specs.State.{Kept, StateView, kept_of, part_at, value_at}
+
+-- the part of an operand that what follows it is about: `[i]` can only stand first, since none makes a list
+abbrev pub part_taken : {m : _} → Row_of-Postfix m → ListPart
+part_taken end_of-Postfix = First
+part_taken (more_of-Postfix (Item number) rest) = part_at number
+part_taken (more_of-Postfix Inverse rest) = First
+part_taken (more_of-Postfix (Apply argument) rest) = First
+
+-- the same of a list
+abbrev pub part_of_list : List Postfix → ListPart
+part_of_list [] = First
+part_of_list (Item number ∷ postfixes) = part_at number
+part_of_list (Inverse ∷ postfixes) = First
+part_of_list (Apply argument ∷ postfixes) = First
+
+-- what is made of the elements of source, sink and schedule
+abbrev pub Dependence : Type 1
+Dependence = (Element → Type 0) → (Element → Type 0) → (Element → Type 0) → Element → Type 0
+
+-- the parts of the list that `last` makes: the last sources of sinks, and the sinks that have none
+abbrev pub PartHas : ListPart → Dependence
+PartHas First = LastHas
+PartHas Second = UnsourcedHas
 
 abbrev mutual
-  -- The value is one that is worked out: of a name what it stands for, of a literal what that writes, of an operation what it makes
-  -- of values that are worked out of its operands.
-  pub IsWorked : StateView → Expr → KeptValue → Type 0
-  IsWorked state (e.Name name) value = (kept : Kept) × (kept_of state name ≡ Some kept) × (value ≡ kept.value)
-  IsWorked state (e.Literal literal) value = IsLowered literal value
-  IsWorked state (Row' s first t links) value = (left : KeptValue) × IsWorkedIn state first left × IsWorkedPastLinks state left links value
-  IsWorked state (Prefix' word s operand) value =
-      (argument : KeptValue) × IsWorkedIn state operand argument × (is_operation_word word ≡ true) × IsWordOf word argument value
-  IsWorked state (Any' r source s sink t schedule) value = ⊥
-  IsWorked state (Last' r source s sink t schedule) value = ⊥
-  IsWorked state (Post' s operand t postfixes) value =
-      (left : KeptValue) × IsWorkedIn state operand left × IsWorkedPastPostfixes state left postfixes value
+  -- The value is one that is worked out of this part of an expression: of a name what it stands for, of a literal what that writes, of an
+  -- operation what it makes of values that are worked out of its operands.
+  pub IsWorkedAt : StateView → ListPart → Expr → KeptValue → Type 0
+  IsWorkedAt state part (e.Name name) value = (kept : Kept) × (kept_of state name ≡ Some kept) × (value ≡ value_at part kept)
+  IsWorkedAt state part (e.Literal literal) value = IsLowered literal value
+  IsWorkedAt state part (Row' s first t links) value =
+      (left : KeptValue) × IsWorkedIn state First first left × IsWorkedPastLinks state left links value
+  IsWorkedAt state part (Prefix' word s operand) value =
+      (argument : KeptValue) × IsWorkedIn state First operand argument × (is_operation_word word ≡ true) × IsWordOf word argument value
+  IsWorkedAt state part (Any' r source s sink t schedule) value = IsWorkedOfThree state AnyHas source sink schedule value
+  IsWorkedAt state part (Last' r source s sink t schedule) value = IsWorkedOfThree state (PartHas part) source sink schedule value
+  IsWorkedAt state part (Post' s operand t postfixes) value =
+      (left : KeptValue) × IsWorkedIn state (part_taken postfixes) operand left × IsWorkedPastPostfixes state left postfixes value
 
   -- an operand in a box is a row of one
-  pub IsWorkedIn : {m : _} → StateView → Row_of-Expr m → KeptValue → Type 0
-  IsWorkedIn state end_of-Expr value = ⊥
-  IsWorkedIn state (more_of-Expr expr rest) value = IsWorked state expr value
+  pub IsWorkedIn : {m : _} → StateView → ListPart → Row_of-Expr m → KeptValue → Type 0
+  IsWorkedIn state part end_of-Expr value = ⊥
+  IsWorkedIn state part (more_of-Expr expr rest) value = IsWorkedAt state part expr value
+
+  -- of source, sink and schedule
+  pub IsWorkedOfThree : {l m n : _} → StateView → Dependence → Row_of-Expr l → Row_of-Expr m → Row_of-Expr n → KeptValue → Type 0
+  IsWorkedOfThree state Depends source sink schedule value =
+      (a : KeptValue) × (b : KeptValue) × (c : KeptValue) × IsWorkedIn state First source a × IsWorkedIn state First sink b
+      × IsWorkedIn state First schedule c × IsDependenceOf Depends a b c value
 
   -- from the left
   pub IsWorkedPastLinks : {m : _} → StateView → KeptValue → Row_of-Link m → KeptValue → Type 0
   IsWorkedPastLinks state left end_of-Link value = value ≡ left
   IsWorkedPastLinks state left (more_of-Link operator operand rest) value =
-      (right : KeptValue) × (made : KeptValue) × IsWorked state operand right × IsOperatorOf operator left right made
+      (right : KeptValue) × (made : KeptValue) × IsWorkedAt state First operand right × IsOperatorOf operator left right made
       × IsWorkedPastLinks state made rest value
 
   pub IsWorkedPastPostfixes : {m : _} → StateView → KeptValue → Row_of-Postfix m → KeptValue → Type 0
@@ -47,8 +81,12 @@ abbrev mutual
   pub IsPostfixOf : StateView → Postfix → KeptValue → KeptValue → Type 0
   IsPostfixOf state Inverse operand value = value ≡ inverse_of operand
   IsPostfixOf state (Apply expr) operand value =
-      (argument : KeptValue) × IsWorked state expr argument × IsApplicationOf operand argument value
-  IsPostfixOf state (Item number) operand value = ⊥
+      (argument : KeptValue) × IsWorkedAt state First expr argument × IsApplicationOf operand argument value
+  IsPostfixOf state (Item number) operand value = value ≡ operand
+
+-- one that is worked out of an expression; of a list of its first part
+abbrev pub IsWorked : StateView → Expr → KeptValue → Type 0
+IsWorked state expr value = IsWorkedAt state First expr value
 
 -- the same of lists
 abbrev pub IsWorkedRow : StateView → KeptValue → List Link → KeptValue → Type 0

@@ -1,12 +1,13 @@
 //! What statements have bound so far.
 
-ghost use Rattle.std.specs.Prelude.{◌≡◌, IfOk, OnOk, OnErr};
+ghost use Rattle.std.specs.Prelude.{◌≡◌, IfOk, IfSome, None, OnOk, OnErr, Some};
 ghost use Rattle.std.specs.Option.{option_copied};
 ghost use Rattle.std.specs.Str.{bytes_eq};
 ghost use Rattle.indexmap.specs.IndexMap.{insert_entry};
 ghost use Rattle.isl_union.specs.KeptValue.{HasNoDefinitions, IsKeptValue};
-ghost use Rattle.isl_values.specs.State.{unbound, kept_of, type_of, scope_of, Binds, forgotten};
+ghost use Rattle.isl_values.specs.State.{unbound, kept_of, type_of, scope_of, value_at, Binds, forgotten};
 
+use crate::{ListPart, ListValue};
 use indexmap::IndexMap;
 use isl_expr::tree::ValueKind;
 use isl_kinds::{Scope, Typed, is_dollar};
@@ -16,11 +17,13 @@ use std::alloc::{AllocError, Global};
 use std::marker::Model;
 use std::rc::Rc;
 
-/// What a name stands for: a kind, and a value that may have several names. None of its columns is defined.
+/// What a name stands for: a kind and a value, and of a list a second one, over the same parameters. Values may have several names. None of
+/// their columns is defined.
 #[derive(Drop)]
 pub struct Kept {
     kind: ValueKind,
     value: Rc<Value>,
+    second: Option<Rc<Value>>,
 }
 
 impl Model for Kept {
@@ -31,20 +34,31 @@ impl Model for Kept {
 
     ghost coded = { kept_code };
 
-    ghost use Rattle.isl_union.specs.KeptValue.{HasNoDefinitions};
+    ghost use Rattle.std.specs.Prelude.{option_map};
+    ghost use Rattle.isl_values.specs.Stored.{IsPlainKept};
 
-    ghost view = { λ k. record { kind = k.kind; value = k.value.value } };
+    ghost view = { λ k. record { kind = k.kind; value = k.value.value; second = option_map (λ v. v.value) k.second } };
 
-    ghost invariant = { λ k. HasNoDefinitions k.value.value };
+    ghost invariant = { λ k. IsPlainKept (record { kind = k.kind; value = k.value.value; second = option_map (λ v. v.value) k.second }) };
 }
 
 impl Kept {
     /// A value of this kind.
     pub fn new(kind: ValueKind, value: Rc<Value>) -> Kept
         requires { HasNoDefinitions value.value }
-        ensures { result ≡ record { kind = kind; value = value.value } }
+        ensures { result ≡ record { kind = kind; value = value.value; second = None } }
     {
-        Kept { kind, value }
+        Kept { kind, value, second: None }
+    }
+
+    /// A list.
+    pub fn list(values: ListValue) -> Kept
+        requires first { HasNoDefinitions values.first.value }
+        requires second { HasNoDefinitions values.second.value }
+        requires params { values.second.value.params ≡ values.first.value.params }
+        ensures { result ≡ record { kind = ValueKind.List; value = values.first.value; second = Some values.second.value } }
+    {
+        Kept { kind: ValueKind::List, value: values.first, second: Some(values.second) }
     }
 
     /// The kind.
@@ -54,7 +68,7 @@ impl Kept {
         self.kind
     }
 
-    /// The value.
+    /// The value; of a list the first one.
     pub fn value(&self) -> &Value
         ensures content { result.now ≡ self.now.value }
         ensures definitions { HasNoDefinitions result.now }
@@ -62,17 +76,33 @@ impl Kept {
         &self.value
     }
 
-    /// The value, shared.
+    /// The second value of a list.
+    pub fn second(&self) -> Option<&Value>
+        ensures content { option_copied result ≡ self.now.second }
+        ensures definitions { IfSome result (λ value. HasNoDefinitions value.now) }
+    {
+        match &self.second {
+            Some(value) => Some(value),
+            None => None,
+        }
+    }
+
+    /// The value of a part, shared.
     ///
     /// # Errors
     /// An `AllocError` where the value has too many names to count.
-    pub fn shared(&self) -> Result<Rc<Value>, AllocError>
-        ensures shared { IfOk result (λ value. value.value ≡ self.now.value) }
-        ensures kept { IsKeptValue self.now.value }
-        ensures definitions { HasNoDefinitions self.now.value }
+    pub fn shared(&self, part: ListPart) -> Result<Rc<Value>, AllocError>
+        ensures shared { IfOk result (λ value. value.value ≡ value_at part self.now) }
+        ensures kept { IsKeptValue (value_at part self.now) }
+        ensures params { (value_at part self.now).params ≡ self.now.value.params }
+        ensures definitions { HasNoDefinitions (value_at part self.now) }
     {
-        let _pieces = self.value.pieces();
-        self.value.clone()
+        let value = match (part, &self.second) {
+            (ListPart::Second, Some(second)) => second,
+            _ => &self.value,
+        };
+        let _pieces = value.pieces();
+        value.clone()
     }
 }
 

@@ -2,7 +2,7 @@
 
 ghost use Rattle.std.specs.Prelude.{◌≡◌, ◌↔◌, [], All, true, false, IfErr, IfOk, MatchResult, Ok, unsigned_abs};
 ghost use Rattle.std.specs.List.{list_any};
-ghost use Rattle.isl_meter.specs.Gauge.{IsMetered, limit_of};
+ghost use Rattle.isl_meter.specs.Gauge.{IsCharged, IsMetered, limit_of};
 ghost use Rattle.isl_space.specs.Element.{Element};
 ghost use Rattle.isl_space.specs.Valuation.{Valuation};
 ghost use Rattle.isl_union.specs.KeptValue.{Has, HasNoDefinitions, IsKeptValue};
@@ -12,24 +12,26 @@ ghost use Rattle.isl_tree.specs.Literal.{LiteralHas};
 ghost use Rattle.isl_tree.specs.Known.{literal_is_known};
 ghost use Rattle.isl_maps.specs.Inverse.{inverse_element, inverse_of};
 ghost use Rattle.isl_operators.specs.Operations.{OperatorHas, WordHas, ApplicationHas};
-ghost use Rattle.isl_operators.specs.Formed.{OperatorForms, WordForms, ApplicationForms, FormsWide, PairsWide};
+ghost use Rattle.isl_operators.specs.Formed.{OperatorForms, ApplicationForms};
 ghost use Rattle.isl_operators.specs.Made.{IsOperatorOf, IsWordOf, IsApplicationOf, operator_works, word_works};
 ghost use Rattle.isl_kinds.specs.Parts.{operator as operator_part, prefix as prefix_part, parts_of, parts_of_links};
 ghost use Rattle.isl_kinds.specs.Parts.{parts_of_postfix, parts_of_postfixes};
 ghost use Rattle.isl_kinds.specs.Typed.{declared_of, declared_of_post, declared_of_row, declared_past, joined_names};
 ghost use Rattle.isl_values.specs.State.{scope_of, Fits, HasNumbersUpTo};
 ghost use Rattle.isl_values.specs.Selection.{Selects, PostSelects, RowSelects, PostfixHas};
-ghost use Rattle.isl_values.specs.Worked.{IsPostfixOf, IsWorked, IsWorkedPost, IsWorkedRow};
-ghost use Rattle.isl_values.specs.Ends.{Ends, EndsPost, EndsPostfix, EndsRow, GoesOn, OperationEnds};
+ghost use Rattle.isl_values.specs.Worked.{part_of_list, IsPostfixOf, IsWorked, IsWorkedPost, IsWorkedRow};
+ghost use Rattle.isl_values.specs.Ends.{CutAlone, Ends, EndsPost, EndsPostfix, EndsRow, GoesOn, PairEnds, WordEnds};
 ghost use Rattle.isl_values.specs.Made.{is_foreign, uses_units, IsSoundExpr, IsSoundLink, IsSoundPostfix, IsValueOf};
-ghost use Rattle.isl_values.specs.Made.{refusal_of_cut, refusal_of_fault, IsPaid, IsWhyUnmade, IsWhyUnworked};
+ghost use Rattle.isl_values.specs.Made.{refusal_of_cut, refusal_of_fault, refusal_of_word_fault, IsPaid, IsWhyUnmade, IsWhyUnworked};
+ghost use Rattle.isl_values.specs.Three.{AreBothOf, AreKept, AreMade, IsValueAt, OperandsEnd};
 
-use crate::State;
+use crate::dependence::{Accesses, latest, latest_part, preceding};
+use crate::{Kept, ListPart, ListValue, State};
 use isl_expr::tree::{Binary, Expr, Link, Postfix, Prefix};
 use isl_lower::lower;
 use isl_maps::inverse;
 use isl_meter::{Cut, Meter};
-use isl_operators::{applied, combined, transformed};
+use isl_operators::{WordFault, applied, combined, transformed};
 use isl_text::refusal::Refusal;
 use isl_tree::tree::Literal;
 use isl_union::{OpFault, Value};
@@ -69,7 +71,7 @@ fn lowered(alloc: Global, literal: &Literal, meter: &mut Meter) -> Result<Rc<Val
     ensures { MatchResult result
         (λ value. IsValueOf (IsLowered literal.now) literal.now.params (LiteralHas literal.now)
         (unsigned_abs (limit_of meter.old)) value.value × IsPaid true meter.old meter.new)
-        (IsWhyUnmade true meter.old meter.new) }
+        (IsWhyUnmade true CutAlone meter.old meter.new) }
 {
     match flat_value(alloc, literal, meter) {
         Ok(value) => Ok(Rc::new(alloc, value)?),
@@ -78,7 +80,7 @@ fn lowered(alloc: Global, literal: &Literal, meter: &mut Meter) -> Result<Rc<Val
 }
 
 // What an operation made, to be shared, or what refuses it.
-fn answered(alloc: Global, outcome: Result<Value, OpFault>) -> Result<Rc<Value>, Refusal>
+pub fn answered(alloc: Global, outcome: Result<Value, OpFault>) -> Result<Rc<Value>, Refusal>
     ensures { MatchResult result (λ value. outcome ≡ Ok value.value)
         (λ refusal. MatchResult outcome (λ _. refusal ≡ Refusal.NoMemory) (λ fault. refusal ≡ refusal_of_fault fault)) }
 {
@@ -106,13 +108,26 @@ fn joined(
         (λ value. IsValueOf (λ made. IsOperatorOf operator left.now right.now made) (joined_names left.now.params right.now.params)
         (λ valuation element. OperatorHas operator (Has left.now valuation) (Has right.now valuation) element)
         (unsigned_abs (limit_of meter.old)) value.value × IsPaid (operator_works operator) meter.old meter.new)
-        (IsWhyUnworked (operator_works operator) (OperationEnds (joined_names left.now.params right.now.params)
-        (PairsWide (OperatorForms operator) (Has left.now) (Has right.now))) meter.old meter.new) }
-    ensures goes_on { IfOk result (λ _. GoesOn (OperationEnds (joined_names left.now.params right.now.params)
-        (PairsWide (OperatorForms operator) (Has left.now) (Has right.now)))) }
+        (IsWhyUnworked (operator_works operator)
+        (PairEnds (OperatorForms operator) left.now.params right.now.params (Has left.now) (Has right.now)) meter.old meter.new) }
+    ensures goes_on { IfOk result
+        (λ _. GoesOn (PairEnds (OperatorForms operator) left.now.params right.now.params (Has left.now) (Has right.now))) }
 {
     let _names = right.params();
     answered(alloc, combined(alloc, operator, left, right, meter))
+}
+
+// What a word makes of a value, to be shared, or what refuses it.
+fn word_answered(alloc: Global, outcome: Result<Value, WordFault>) -> Result<Rc<Value>, Refusal>
+    ensures { MatchResult result (λ value. outcome ≡ Ok value.value)
+        (λ refusal. MatchResult outcome (λ _. refusal ≡ Refusal.NoMemory) (λ fault. refusal ≡ refusal_of_word_fault fault)) }
+{
+    match outcome {
+        Ok(value) => Ok(Rc::new(alloc, value)?),
+        Err(WordFault::Cut(cut)) => Err(refusal_of(cut)),
+        Err(WordFault::TooWide) => Err(Refusal::TooWide),
+        Err(WordFault::NoMinimum) => Err(Refusal::NoMinimum),
+    }
 }
 
 // What a word makes of a value.
@@ -127,13 +142,12 @@ fn worded(
     requires definitions { HasNoDefinitions operand.now }
     ensures made { MatchResult result
         (λ value. IsValueOf (λ made. IsWordOf word operand.now made) operand.now.params
-        (λ valuation element. WordHas word (Has operand.now valuation) element) (unsigned_abs (limit_of meter.old)) value.value
+        (WordHas word operand.now.params (Has operand.now)) (unsigned_abs (limit_of meter.old)) value.value
         × IsPaid (word_works word) meter.old meter.new)
-        (IsWhyUnworked (word_works word) (OperationEnds [] (FormsWide (WordForms word) (Has operand.now))) meter.old meter.new) }
-    ensures goes_on { IfOk result (λ _. GoesOn (OperationEnds [] (FormsWide (WordForms word) (Has operand.now)))) }
+        (IsWhyUnworked (word_works word) (WordEnds word (Has operand.now)) meter.old meter.new) }
+    ensures goes_on { IfOk result (λ _. GoesOn (WordEnds word (Has operand.now))) }
 {
-    let _names = operand.params();
-    answered(alloc, transformed(alloc, word, operand, meter))
+    word_answered(alloc, transformed(alloc, word, operand, meter))
 }
 
 // A map applied to a value.
@@ -151,10 +165,10 @@ fn applied_to(
         (λ value. IsValueOf (λ made. IsApplicationOf map.now argument.now made) (joined_names map.now.params argument.now.params)
         (λ valuation element. ApplicationHas (Has map.now valuation) (Has argument.now valuation) element)
         (unsigned_abs (limit_of meter.old)) value.value × IsPaid true meter.old meter.new)
-        (IsWhyUnworked true (OperationEnds (joined_names map.now.params argument.now.params)
-        (PairsWide ApplicationForms (Has map.now) (Has argument.now))) meter.old meter.new) }
-    ensures goes_on { IfOk result (λ _. GoesOn (OperationEnds (joined_names map.now.params argument.now.params)
-        (PairsWide ApplicationForms (Has map.now) (Has argument.now)))) }
+        (IsWhyUnworked true (PairEnds ApplicationForms map.now.params argument.now.params (Has map.now) (Has argument.now))
+        meter.old meter.new) }
+    ensures goes_on { IfOk result
+        (λ _. GoesOn (PairEnds ApplicationForms map.now.params argument.now.params (Has map.now) (Has argument.now))) }
 {
     let _names = argument.params();
     answered(alloc, applied(alloc, map, argument, meter))
@@ -177,31 +191,32 @@ fn inverted(alloc: Global, operand: &Value, meter: &mut Meter) -> Result<Rc<Valu
 #[cycle(value)]
 fn followed(
     alloc: Global,
-    operand: &Value,
+    operand: &Rc<Value>,
     postfix: &Postfix,
     state: &State,
     meter: &mut Meter,
 ) -> Result<Rc<Value>, Refusal>
     requires sound { IsSoundPostfix (scope_of state.now) postfix.now }
     requires fits { Fits (limit_of meter.old) state.now }
-    requires numbers { HasNumbersUpTo (unsigned_abs (limit_of meter.old)) operand.now }
-    requires definitions { HasNoDefinitions operand.now }
+    requires kept { IsKeptValue operand.now.value }
+    requires numbers { HasNumbersUpTo (unsigned_abs (limit_of meter.old)) operand.now.value }
+    requires definitions { HasNoDefinitions operand.now.value }
     ensures made { MatchResult result
-        (λ value. IsValueOf (IsPostfixOf state.now postfix.now operand.now)
-        (declared_past (scope_of state.now) operand.now.params postfix.now)
-        (λ valuation element. PostfixHas state.now valuation (Has operand.now valuation) postfix.now element)
+        (λ value. IsValueOf (IsPostfixOf state.now postfix.now operand.now.value)
+        (declared_past (scope_of state.now) operand.now.value.params postfix.now)
+        (λ valuation element. PostfixHas state.now valuation (Has operand.now.value valuation) postfix.now element)
         (unsigned_abs (limit_of meter.old)) value.value × IsPaid (list_any uses_units (parts_of_postfix postfix.now)) meter.old meter.new)
         (IsWhyUnworked (list_any uses_units (parts_of_postfix postfix.now))
-        (EndsPostfix state.now operand.now.params (Has operand.now) postfix.now) meter.old meter.new) }
-    ensures goes_on { IfOk result (λ _. GoesOn (EndsPostfix state.now operand.now.params (Has operand.now) postfix.now)) }
+        (EndsPostfix state.now operand.now.value.params (Has operand.now.value) postfix.now) meter.old meter.new) }
+    ensures goes_on { IfOk result (λ _. GoesOn (EndsPostfix state.now operand.now.value.params (Has operand.now.value) postfix.now)) }
 {
     match postfix {
         Postfix::Inverse => inverted(alloc, operand, meter),
-        Postfix::Apply(expr) => match value_of(alloc, expr, state, meter) {
+        Postfix::Apply(expr) => match part_of(alloc, expr, ListPart::First, state, meter) {
             Ok(argument) => applied_to(alloc, operand, &argument, meter),
             Err(refusal) => Err(refusal),
         },
-        Postfix::Item(_) => unreachable!(),
+        Postfix::Item(_) => Ok(operand.clone()?),
     }
 }
 
@@ -239,14 +254,131 @@ fn past_postfixes(
     Ok(left)
 }
 
-/// The value that is worked out of an expression: of a name what it stands for, and not a copy; of a literal a new one. (the iscc
-/// chapter of the barvinok manual)
+// The part of an operand that what follows it is about.
+fn taken_part(postfixes: &[Postfix]) -> ListPart
+    ensures { result ≡ part_of_list postfixes.now }
+{
+    match postfixes {
+        [Postfix::Item(number), ..] if *number > 0 => ListPart::Second,
+        _ => ListPart::First,
+    }
+}
+
+// Both values of what is kept.
+fn both_of(kept: &Kept) -> Result<ListValue, Refusal>
+    ensures made { IfOk result (λ list. AreKept kept.now list) }
+    ensures faults { IfErr result (λ refusal. refusal ≡ Refusal.NoMemory) }
+{
+    Ok(ListValue {
+        first: kept.shared(ListPart::First)?,
+        second: kept.shared(ListPart::Second)?,
+    })
+}
+
+// One value for both.
+fn twice(value: Rc<Value>) -> Result<ListValue, Refusal>
+    requires { IsKeptValue value.value }
+    ensures made { IfOk result (λ list. (list.first.value ≡ value.value) × (list.second.value ≡ value.value)) }
+    ensures faults { IfErr result (λ refusal. refusal ≡ Refusal.NoMemory) }
+{
+    Ok(ListValue { second: value.clone()?, first: value })
+}
+
+// The values of source, sink and schedule, in this order.
+#[cycle(value)]
+fn three_of(
+    alloc: Global,
+    source: &Expr,
+    sink: &Expr,
+    schedule: &Expr,
+    state: &State,
+    meter: &mut Meter,
+) -> Result<Accesses, Refusal>
+    requires source { IsSoundExpr (scope_of state.now) source.now }
+    requires sink { IsSoundExpr (scope_of state.now) sink.now }
+    requires schedule { IsSoundExpr (scope_of state.now) schedule.now }
+    requires fits { Fits (limit_of meter.old) state.now }
+    ensures made { MatchResult result
+        (λ three. AreMade state.now source.now sink.now schedule.now (unsigned_abs (limit_of meter.old)) three
+        × IsCharged meter.old meter.new)
+        (IsWhyUnworked true (OperandsEnd state.now source.now sink.now schedule.now) meter.old meter.new) }
+    ensures goes_on { IfOk result (λ _. GoesOn (OperandsEnd state.now source.now sink.now schedule.now)) }
+{
+    let source = match part_of(alloc, source, ListPart::First, state, meter) {
+        Ok(value) => value,
+        Err(refusal) => return Err(refusal),
+    };
+    let sink = match part_of(alloc, sink, ListPart::First, state, meter) {
+        Ok(value) => value,
+        Err(refusal) => return Err(refusal),
+    };
+    match part_of(alloc, schedule, ListPart::First, state, meter) {
+        Ok(schedule) => Ok(Accesses { source, sink, schedule }),
+        Err(refusal) => Err(refusal),
+    }
+}
+
+// The value that is worked out of this part of an expression: of a name what it stands for, and not a copy; of a literal a new one.
+#[cycle(value)]
+fn part_of(
+    alloc: Global,
+    expr: &Expr,
+    part: ListPart,
+    state: &State,
+    meter: &mut Meter,
+) -> Result<Rc<Value>, Refusal>
+    requires sound { IsSoundExpr (scope_of state.now) expr.now }
+    requires fits { Fits (limit_of meter.old) state.now }
+    ensures made { MatchResult result
+        (λ value. IsValueAt state.now part expr.now (unsigned_abs (limit_of meter.old)) value.value
+        × IsPaid (list_any uses_units (parts_of expr.now)) meter.old meter.new)
+        (IsWhyUnworked (list_any uses_units (parts_of expr.now)) (Ends state.now expr.now) meter.old meter.new) }
+    ensures goes_on { IfOk result (λ _. GoesOn (Ends state.now expr.now)) }
+{
+    match expr {
+        Expr::Name(name) => match state.get(name) {
+            Some(kept) => Ok(kept.shared(part)?),
+            None => unreachable!(),
+        },
+        Expr::Literal(literal) => lowered(alloc, literal, meter),
+        Expr::Row(first, links) => match part_of(alloc, first.get(), ListPart::First, state, meter) {
+            Ok(left) => joined_past(alloc, left, links.as_slice(), state, meter),
+            Err(refusal) => Err(refusal),
+        },
+        Expr::Post(operand, postfixes) => {
+            let postfixes = postfixes.as_slice();
+            match part_of(alloc, operand.get(), taken_part(postfixes), state, meter) {
+                Ok(left) => past_postfixes(alloc, left, postfixes, state, meter),
+                Err(refusal) => Err(refusal),
+            }
+        }
+        Expr::Prefix(word, operand) => match part_of(alloc, operand.get(), ListPart::First, state, meter) {
+            Ok(argument) => worded(alloc, *word, &argument, meter),
+            Err(refusal) => Err(refusal),
+        },
+        Expr::Any(source, sink, schedule) => {
+            match three_of(alloc, source.get(), sink.get(), schedule.get(), state, meter) {
+                Ok(three) => preceding(alloc, &three, meter),
+                Err(refusal) => Err(refusal),
+            }
+        }
+        Expr::Last(source, sink, schedule) => {
+            match three_of(alloc, source.get(), sink.get(), schedule.get(), state, meter) {
+                Ok(three) => latest_part(alloc, part, &three, meter),
+                Err(refusal) => Err(refusal),
+            }
+        }
+    }
+}
+
+/// The value that is worked out of an expression, of a list its first one: of a name what it stands for, and not a copy; of a literal a
+/// new one. (the iscc chapter of the barvinok manual)
 ///
 /// # Errors
 /// `TooWide` where an operation in it, from the left and inner ones first, has more than 16 parameters or forms a space that is too wide;
-/// and else what cut the work: `Overflow`, `Budget` or `NoMemory`. Where nothing in the expression uses units, no unit is used, and of
-/// these only memory can end.
-#[cycle(value)]
+/// `NoMinimum` where it looks for what is missing; and what cut the work of an operation that neither parameters nor spaces end:
+/// `Overflow` or `Budget`, or `NoMemory` anywhere. Where nothing in the expression uses units, no unit is used, and of these only memory
+/// can end.
 pub fn value_of(
     alloc: Global,
     expr: &Expr,
@@ -261,26 +393,43 @@ pub fn value_of(
         (IsWhyUnworked (list_any uses_units (parts_of expr.now)) (Ends state.now expr.now) meter.old meter.new) }
     ensures goes_on { IfOk result (λ _. GoesOn (Ends state.now expr.now)) }
 {
+    part_of(alloc, expr, ListPart::First, state, meter)
+}
+
+/// Both values of a list that is bound or made by `last`; of another expression its value twice. (the iscc chapter of the barvinok
+/// manual)
+///
+/// # Errors
+/// As of `value_of`.
+pub fn list_of(
+    alloc: Global,
+    expr: &Expr,
+    state: &State,
+    meter: &mut Meter,
+) -> Result<ListValue, Refusal>
+    requires sound { IsSoundExpr (scope_of state.now) expr.now }
+    requires fits { Fits (limit_of meter.old) state.now }
+    ensures made { MatchResult result
+        (λ list. AreBothOf state.now expr.now (unsigned_abs (limit_of meter.old)) list
+        × IsPaid (list_any uses_units (parts_of expr.now)) meter.old meter.new)
+        (IsWhyUnworked (list_any uses_units (parts_of expr.now)) (Ends state.now expr.now) meter.old meter.new) }
+    ensures goes_on { IfOk result (λ _. GoesOn (Ends state.now expr.now)) }
+{
     match expr {
+        Expr::Last(source, sink, schedule) => {
+            match three_of(alloc, source.get(), sink.get(), schedule.get(), state, meter) {
+                Ok(three) => latest(alloc, &three, meter),
+                Err(refusal) => Err(refusal),
+            }
+        }
         Expr::Name(name) => match state.get(name) {
-            Some(kept) => Ok(kept.shared()?),
+            Some(kept) => both_of(kept),
             None => unreachable!(),
         },
-        Expr::Literal(literal) => lowered(alloc, literal, meter),
-        Expr::Row(first, links) => match value_of(alloc, first.get(), state, meter) {
-            Ok(left) => joined_past(alloc, left, links.as_slice(), state, meter),
+        _ => match value_of(alloc, expr, state, meter) {
+            Ok(value) => twice(value),
             Err(refusal) => Err(refusal),
         },
-        Expr::Post(operand, postfixes) => match value_of(alloc, operand.get(), state, meter) {
-            Ok(left) => past_postfixes(alloc, left, postfixes.as_slice(), state, meter),
-            Err(refusal) => Err(refusal),
-        },
-        Expr::Prefix(word, operand) => match value_of(alloc, operand.get(), state, meter) {
-            Ok(argument) => worded(alloc, *word, &argument, meter),
-            Err(refusal) => Err(refusal),
-        },
-        Expr::Any(..) => unreachable!(),
-        Expr::Last(..) => unreachable!(),
     }
 }
 
@@ -312,7 +461,7 @@ pub fn joined_past(
     let _pieces = first.pieces();
     let mut left = first;
     for link in links {
-        let right = match value_of(alloc, &link.operand, state, meter) {
+        let right = match part_of(alloc, &link.operand, ListPart::First, state, meter) {
             Ok(right) => right,
             Err(refusal) => return Err(refusal),
         };

@@ -1,6 +1,6 @@
 use Rattle.std.proofs.Common.{Any, take}
 use Rattle.isl_operators.proofs.SpaceLaws.{IsOfMaps}
-use Rattle.isl_operators.proofs.operators.has_maps.Given as goal
+use Rattle.isl_operators.proofs.spaces.has_maps.Given as goal
 
 abbrev pub invariant-loop-piece : goal.invariant-loop-piece
 invariant-loop-piece l = ¬ Any (λ piece. IsOfMaps piece.space) (take l.piece-index l.piece-items)

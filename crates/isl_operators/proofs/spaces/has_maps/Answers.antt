@@ -6,7 +6,7 @@ use Rattle.isl_space.specs.SpaceForm.{map_of, set_of}
 use Rattle.isl_piece.specs.Piece.{PieceView}
 use Rattle.isl_relation.proofs.SeekLaws.{none_all, none_more}
 use Rattle.isl_operators.proofs.SpaceLaws.{IsOfMaps, maps_exactly}
-use Rattle.isl_operators.proofs.operators.has_maps.Goals as goal
+use Rattle.isl_operators.proofs.spaces.has_maps.Goals as goal
 
 pub returns-in-Map-clause-told : goal.returns-in-Map-clause-told
 returns-in-Map-clause-told c =

@@ -6,7 +6,7 @@ use Rattle.isl_space.specs.SpaceForm.{map_of, set_of}
 use Rattle.isl_piece.specs.Piece.{PieceView}
 use Rattle.isl_relation.proofs.SeekLaws.{none_all, none_more}
 use Rattle.isl_operators.proofs.SpaceLaws.{IsOfSets, sets_exactly}
-use Rattle.isl_operators.proofs.operators.has_sets.Goals as goal
+use Rattle.isl_operators.proofs.spaces.has_sets.Goals as goal
 
 pub returns-in-Set-clause-told : goal.returns-in-Set-clause-told
 returns-in-Set-clause-told c =

@@ -1,0 +1,69 @@
+-- inner: what is worked out of source, sink and schedule, and of both parts of a list.
+use Rattle.std.specs.Prelude.{◌≡◌, ℕ, List}
+use Rattle.isl_space.specs.Name.{Name}
+use Rattle.isl_union.specs.KeptValue.{KeptValue, Has, HasNoDefinitions, IsKeptValue}
+use Rattle.isl_expr.specs.declared.tree.Expr.{Expr}
+use Rattle.isl_kinds.specs.Typed.{declared_of, joined_names}
+use Rattle.isl_operators.specs.Made.{IsDependenceOf}
+use Rattle.isl_values.specs.declared.dependence.Accesses.{Accesses}
+use Rattle.isl_values.specs.declared.list.ListPart.{ListPart}
+use Rattle.isl_values.specs.declared.list.ListPart.TheVariants.{First, Second}
+use Rattle.isl_values.specs.declared.list.ListValue.{ListValue}
+use Rattle.isl_values.specs.State.{Kept, StateView, scope_of, value_at, HasNumbersUpTo}
+use Rattle.isl_values.specs.Worked.{Dependence, IsWorkedAt, PartHas}
+use Rattle.isl_values.specs.Selection.{SelectsAt}
+use Rattle.isl_values.specs.Ends.{End, DependenceEnds, Ends, FirstEnds}
+use Rattle.isl_values.specs.Made.{IsValueOf}
+
+-- the value that is worked out of this part of an expression
+abbrev pub IsValueAt : StateView → ListPart → Expr → ℕ → KeptValue → Type 0
+IsValueAt state part expr limit value =
+    IsValueOf (IsWorkedAt state part expr) (declared_of (scope_of state) expr) (SelectsAt state part expr) limit value
+
+-- of both parts
+abbrev pub AreBothOf : StateView → Expr → ℕ → ListValue → Type 0
+AreBothOf state expr limit list = IsValueAt state First expr limit list.first.value × IsValueAt state Second expr limit list.second.value
+
+-- both are those of what is kept
+pub record AreKept (kept : Kept) (list : ListValue) : Type 0 where
+  pub values : (list.first.value ≡ kept.value) × (list.second.value ≡ value_at Second kept)
+  pub kept : (part : ListPart) → IsKeptValue (value_at part kept)
+  pub definitions : (part : ListPart) → HasNoDefinitions (value_at part kept)
+  pub params : (part : ListPart) → (value_at part kept).params ≡ kept.value.params
+
+-- ---- source, sink and schedule
+-- those that are worked out of three operands
+pub record AreMade (state : StateView) (source sink schedule : Expr) (limit : ℕ) (three : Accesses) : Type 0 where
+  pub source : IsValueAt state First source limit three.source.value
+  pub sink : IsValueAt state First sink limit three.sink.value
+  pub schedule : IsValueAt state First schedule limit three.schedule.value
+
+-- the operands end, one after another
+abbrev pub OperandsEnd : StateView → Expr → Expr → Expr → End → Type 0
+OperandsEnd state source sink schedule = FirstEnds (Ends state source) (FirstEnds (Ends state sink) (Ends state schedule))
+
+-- no number in them is above the limit, and no column is defined
+abbrev pub IsPlainValue : ℕ → KeptValue → Type 0
+IsPlainValue limit value = HasNumbersUpTo limit value × HasNoDefinitions value
+
+pub record IsPlainThree (limit : ℕ) (three : Accesses) : Type 0 where
+  pub source : IsPlainValue limit three.source.value
+  pub sink : IsPlainValue limit three.sink.value
+  pub schedule : IsPlainValue limit three.schedule.value
+
+abbrev pub names_of_accesses : Accesses → List Name
+names_of_accesses three = joined_names (joined_names three.source.value.params three.sink.value.params) three.schedule.value.params
+
+-- the value has what is made of them
+abbrev pub IsOfThree : Dependence → Accesses → ℕ → KeptValue → Type 0
+IsOfThree Depends three limit value =
+    IsValueOf (IsDependenceOf Depends three.source.value three.sink.value three.schedule.value) (names_of_accesses three)
+    (λ v x. Depends (Has three.source.value v) (Has three.sink.value v) (Has three.schedule.value v) x) limit value
+
+-- both parts of the list that `last` makes of them
+abbrev pub AreOfThree : Accesses → ℕ → ListValue → Type 0
+AreOfThree three limit list =
+    IsOfThree (PartHas First) three limit list.first.value × IsOfThree (PartHas Second) three limit list.second.value
+
+abbrev pub ThreeEnd : Accesses → End → Type 0
+ThreeEnd three = DependenceEnds (names_of_accesses three) (Has three.source.value) (Has three.sink.value)

@@ -1,0 +1,70 @@
+//! Which accesses come before others, and which are the last.
+
+ghost use Rattle.std.specs.Prelude.{IfOk, MatchResult, true, unsigned_abs};
+ghost use Rattle.isl_meter.specs.Gauge.{limit_of};
+ghost use Rattle.isl_relation.specs.Flow.{AnyHas};
+ghost use Rattle.isl_values.specs.Ends.{GoesOn};
+ghost use Rattle.isl_values.specs.Made.{IsPaid, IsWhyUnworked};
+ghost use Rattle.isl_values.specs.Three.{AreOfThree, IsPlainThree, IsOfThree, ThreeEnd};
+ghost use Rattle.isl_values.specs.Worked.{PartHas};
+
+use crate::values::answered;
+use crate::{ListPart, ListValue};
+use isl_meter::Meter;
+use isl_operators::depended;
+use isl_text::refusal::Refusal;
+use isl_union::Value;
+use std::alloc::Global;
+use std::rc::Rc;
+
+/// The values of source, sink and schedule.
+#[derive(Drop)]
+pub struct Accesses {
+    pub source: Rc<Value>,
+    pub sink: Rc<Value>,
+    pub schedule: Rc<Value>,
+}
+
+/// From sources to the sinks that they come before.
+pub fn preceding(alloc: Global, three: &Accesses, meter: &mut Meter) -> Result<Rc<Value>, Refusal>
+    requires { IsPlainThree (unsigned_abs (limit_of meter.old)) three.now }
+    ensures made { MatchResult result
+        (λ value. IsOfThree AnyHas three.now (unsigned_abs (limit_of meter.old)) value.value × IsPaid true meter.old meter.new)
+        (IsWhyUnworked true (ThreeEnd three.now) meter.old meter.new) }
+    ensures goes_on { IfOk result (λ _. GoesOn (ThreeEnd three.now)) }
+{
+    answered(alloc, depended(alloc, &three.source, &three.sink, &three.schedule, meter))
+}
+
+/// The last sources of sinks, and the sinks that have none.
+pub fn latest(alloc: Global, three: &Accesses, meter: &mut Meter) -> Result<ListValue, Refusal>
+    requires { IsPlainThree (unsigned_abs (limit_of meter.old)) three.now }
+    ensures made { MatchResult result
+        (λ list. AreOfThree three.now (unsigned_abs (limit_of meter.old)) list × IsPaid true meter.old meter.new)
+        (IsWhyUnworked true (ThreeEnd three.now) meter.old meter.new) }
+    ensures goes_on { IfOk result (λ _. GoesOn (ThreeEnd three.now)) }
+{
+    Err(Refusal::NoMemory)
+}
+
+/// One part of them.
+pub fn latest_part(
+    alloc: Global,
+    part: ListPart,
+    three: &Accesses,
+    meter: &mut Meter,
+) -> Result<Rc<Value>, Refusal>
+    requires { IsPlainThree (unsigned_abs (limit_of meter.old)) three.now }
+    ensures made { MatchResult result
+        (λ value. IsOfThree (PartHas part) three.now (unsigned_abs (limit_of meter.old)) value.value × IsPaid true meter.old meter.new)
+        (IsWhyUnworked true (ThreeEnd three.now) meter.old meter.new) }
+    ensures goes_on { IfOk result (λ _. GoesOn (ThreeEnd three.now)) }
+{
+    match latest(alloc, three, meter) {
+        Ok(list) => match part {
+            ListPart::First => Ok(list.first),
+            ListPart::Second => Ok(list.second),
+        },
+        Err(refusal) => Err(refusal),
+    }
+}
