@@ -21,15 +21,16 @@ use Rattle.isl_expr.specs.declared.tree.Expr.{Expr, Row', Prefix'}
 use Rattle.isl_expr.specs.declared.tree.Link.{Link}
 use Rattle.isl_expr.specs.declared.tree.Stmt.{Stmt}
 use Rattle.isl_expr.specs.declared.tree.Stmt.TheVariants.{Bind}
-use Rattle.isl_expr.specs.declared.tree.ValueKind.{ValueKind}
+use Rattle.isl_expr.specs.declared.tree.Binary.{Binary}
 use Rattle.isl_expr.specs.Expr.{literals_of, statement_literals}
-use Rattle.isl_kinds.specs.Typed.{TypeView, ScopeView, is_dollar, has_unknown, kind_of}
-use Rattle.isl_kinds.specs.Typed.{declared_of, type_of_statement}
+use Rattle.isl_kinds.specs.Typed.{TypeView, ScopeView, is_dollar, has_unknown}
+use Rattle.isl_kinds.specs.Typed.{declared_of, joined_names, type_of_statement}
 use Rattle.isl_flat.specs.Flat.{flat}
 use Rattle.isl_flat.specs.Simple.{BindsIn}
 use Rattle.isl_eval.specs.Unsupported.{is_unsupported}
-use Rattle.isl_values.specs.State.{Moment, StateView, Fits, HasNumbersUpTo, scope_of, forgotten}
-use Rattle.isl_values.specs.Selection.{IsSelected, Keeps, Selects, RowSelects}
+use Rattle.isl_values.specs.declared.list.ListPart.TheVariants.{First}
+use Rattle.isl_values.specs.State.{Kept, Moment, StateView, Fits, HasNumbersUpTo, scope_of, forgotten}
+use Rattle.isl_values.specs.Selection.{IsGistOfTwo, IsKeptOf, IsSelected, Keeps, Selects, RowSelects}
 use Rattle.isl_values.specs.Ends.{End, Ends, EndsRow, FirstEnds}
 use Rattle.isl_values.specs.Made.{is_foreign, IsSoundExpr, IsSoundLink, IsPaid, IsWhyUnworked, refusal_of_cut}
 use Rattle.isl_eval.specs.Spelled.{BytesSpell}
@@ -77,11 +78,14 @@ IsWhyUnworkable scope at stmt refusal =
 
 -- ---- what is kept and shown
 
--- the value is kept of the expression, with the expression's kind
-abbrev pub IsKeptOf : StateView → ℤ → Expr → KeptValue → Type 0
-IsKeptOf state limit expr value =
-    (before : Moment) (kind : ValueKind) → before.state ≡ state → limit_of before.meter ≡ limit → kind_of (scope_of state) expr ≡ Some kind
-    → Keeps before expr (record { kind = kind; value = value })
+-- at each moment of this state and this limit, the value is kept of the first part of the expression
+abbrev pub IsKeptIn : StateView → ℤ → Expr → KeptValue → Type 0
+IsKeptIn state limit expr value =
+    (before : Moment) → before.state ≡ state → limit_of before.meter ≡ limit → IsKeptOf before First expr value
+
+-- the same of all that is kept of it
+abbrev pub AreKeptIn : StateView → ℤ → Expr → Kept → Type 0
+AreKeptIn state limit expr kept = (before : Moment) → before.state ≡ state → limit_of before.meter ≡ limit → Keeps before expr kept
 
 -- what is kept of an expression can be worked out
 pub record IsMakeable (scope : ScopeView) (expr : Expr) : Type 0 where
@@ -97,6 +101,21 @@ pub record IsSampled (state : StateView) (operand : Expr) (limit : ℕ) (value :
   pub numbers : HasNumbersUpTo limit value
   pub definitions : HasNoDefinitions value
 
+-- the gist of what the left operand selects in the context of what the right one does
+pub record IsSimplified (state : StateView) (left right : Expr) (limit : ℕ) (value : KeptValue) : Type 0 where
+  pub simplified : (a : KeptValue) × (c : KeptValue) × IsSelected state left a × IsSelected state right c × IsGistOfTwo a c value
+  pub kept : IsKeptValue value
+  pub params : value.params ≡ joined_names (declared_of (scope_of state) left) (declared_of (scope_of state) right)
+  pub numbers : HasNumbersUpTo limit value
+  pub definitions : HasNoDefinitions value
+
+-- what ends a row of one operator, of these operands
+abbrev pub EndsPair : StateView → Expr → Binary → Expr → End → Type 0
+EndsPair state left operator right =
+    FirstEnds (Ends state left)
+    (EndsRow state (declared_of (scope_of state) left) (λ valuation element. Selects state left valuation element)
+    (record { operator = operator; operand = right } ∷ []))
+
 -- what refuses a statement whose scan ended without a listing
 abbrev pub refusal_of_fault : ScanFault → Refusal
 refusal_of_fault (scan_fault.Cut cut) = refusal_of_cut cut
@@ -105,8 +124,21 @@ refusal_of_fault scan_fault.Unbounded = Unbounded
 -- ---- what is asked for
 
 abbrev pub is_scan : Prefix → Bool
+is_scan p.Domain = false
+is_scan p.Range = false
+is_scan p.Deltas = false
+is_scan p.Identity = false
+is_scan p.Wrap = false
+is_scan p.Unwrap = false
+is_scan p.Zip = false
+is_scan p.DomainMap = false
+is_scan p.RangeMap = false
+is_scan p.LexMin = false
+is_scan p.LexMax = false
+is_scan p.Coalesce = false
+is_scan p.Sample = false
 is_scan p.Scan = true
-is_scan _ = false
+is_scan p.Codegen = false
 
 -- elements are asked for
 abbrev pub is_listing : Expr → Bool

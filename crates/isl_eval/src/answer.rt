@@ -1,12 +1,13 @@
 //! What a statement answers.
 
-ghost use Rattle.std.specs.Prelude.{◌≡◌, ◌≢◌, ◌++◌, [], IfOk, OnErr, OnOk};
+ghost use Rattle.std.specs.Prelude.{◌≡◌, ◌≢◌, ◌++◌, [], Some, IfOk, OnErr, OnOk, string_bytes};
 ghost use Rattle.isl_union.specs.KeptValue.{HasNoDefinitions};
 ghost use Rattle.isl_eval.specs.Machine as machine;
 
 use isl_print::text_of;
 use isl_scan::Listing;
 use isl_union::Value;
+use isl_values::Kept;
 use std::alloc::{AllocError, Global};
 use std::marker::Model;
 
@@ -16,6 +17,20 @@ pub struct Answer {
     text: String,
     is_true: bool,
     elements: usize,
+}
+
+// Both values of a list in round brackets.
+fn text_of_two(alloc: Global, first: &Value, second: &Value) -> Result<String, AllocError>
+    requires first { HasNoDefinitions first.now }
+    requires second { HasNoDefinitions second.now }
+    ensures { IfOk result (λ text. string_bytes text ≡ machine.text_of_two first.now (Some second.now)) }
+{
+    let mut text = String::from_str(alloc, "(")?;
+    text.push_str(&text_of(alloc, first)?)?;
+    text.push_str(", ")?;
+    text.push_str(&text_of(alloc, second)?)?;
+    text.push(')')?;
+    Ok(text)
 }
 
 impl Model for Answer {
@@ -39,12 +54,14 @@ impl Answer {
         }
     }
 
-    // The line that shows a value.
-    pub(crate) fn of_value(alloc: Global, value: &Value) -> Result<Answer, AllocError>
-        requires { HasNoDefinitions value.now }
-        ensures { IfOk result (λ answer. answer ≡ machine.shown value.now) }
+    // The line that shows what is kept: a value, or the two of a list in round brackets.
+    pub(crate) fn of_kept(alloc: Global, kept: &Kept) -> Result<Answer, AllocError>
+        ensures { IfOk result (λ answer. answer ≡ machine.shown kept.now) }
     {
-        let mut text = text_of(alloc, value)?;
+        let mut text = match kept.second() {
+            Some(second) => text_of_two(alloc, kept.value(), second)?,
+            None => text_of(alloc, kept.value())?,
+        };
         text.push('\n')?;
         Ok(Answer {
             text,

@@ -1,38 +1,38 @@
 //! What is answered to an expression that is shown, and what is kept of one.
 
-ghost use Rattle.std.specs.Prelude.{◌≡◌, ◌↔◌, true, Bool, List, IfOk, IsTrue, MatchResult, unsigned_abs};
+ghost use Rattle.std.specs.Prelude.{◌≡◌, ◌↔◌, true, Bool, List, Some, IfOk, IsTrue, MatchResult, unsigned_abs};
 ghost use Rattle.std.specs.List.{list_any};
 ghost use Rattle.isl_meter.specs.Gauge.{IsCharged, limit_of};
 ghost use Rattle.isl_space.specs.Element.{Element};
 ghost use Rattle.isl_space.specs.Valuation as valuation;
-ghost use Rattle.isl_union.specs.KeptValue.{HasNoDefinitions};
 ghost use Rattle.isl_expr.specs.declared.tree.Stmt.TheVariants as s;
-ghost use Rattle.isl_expr.specs.declared.tree.ValueKind.{ValueKind};
+ghost use Rattle.isl_expr.specs.declared.tree.Binary.TheVariants as b;
 ghost use Rattle.isl_kinds.specs.Parts.{parts_of};
 ghost use Rattle.isl_kinds.specs.Typed.{kind_of};
-ghost use Rattle.isl_flat.specs.Flat.{is_sample};
+ghost use Rattle.isl_flat.specs.Flat.{is_gist, is_sample};
 ghost use Rattle.isl_values.specs.State.{Moment, scope_of, Fits};
 ghost use Rattle.isl_values.specs.Made.{IsPaid, IsSoundExpr, IsWhyUnworked, uses_units};
 ghost use Rattle.isl_values.specs.Ends.{Ends, GoesOn};
 ghost use Rattle.isl_values.specs.Selection.{Selects};
 ghost use Rattle.isl_eval.specs.Listed.{IsListed};
 ghost use Rattle.isl_eval.specs.Ended.{StatementEnds};
-ghost use Rattle.isl_eval.specs.Machine.{Shows, ShowsValue, listed, shown, told};
+ghost use Rattle.isl_eval.specs.Machine.{Shows, ShowsValue, listed, told};
 ghost use Rattle.isl_eval.specs.Evaluated.{IsEvaluable, IsWhyEnded};
 ghost use Rattle.isl_eval.specs.Tests.{TestHolds};
 ghost use Rattle.isl_eval.specs.Evaluation as spec;
-ghost use Rattle.isl_eval.specs.Evaluation.{EndsListing, EndsTest, IsKeptOf, IsMakeable, IsReadyTest};
-ghost use Rattle.isl_eval.specs.Evaluation.{IsSampled, past_row};
+ghost use Rattle.isl_eval.specs.Evaluation.{AreKeptIn, EndsListing, EndsPair, EndsTest, IsKeptIn, IsMakeable, IsReadyTest};
+ghost use Rattle.isl_eval.specs.Evaluation.{IsSampled, IsSimplified, past_row};
 
 use crate::answer::Answer;
 use crate::test::{ends_with_test, tested};
-use isl_expr::tree::{Expr, Link, Prefix};
+use isl_expr::tree::{Binary, Expr, Link, Prefix, ValueKind};
+use isl_gist::gist;
 use isl_meter::Meter;
 use isl_scan::{ScanFault, scan};
 use isl_space::{Name, Params};
 use isl_text::refusal::Refusal;
 use isl_union::{OpFault, Value};
-use isl_values::{State, refusal_of, value_of};
+use isl_values::{Kept, State, list_of, refusal_of, value_of};
 use isl_words::Options;
 use std::alloc::{AllocError, Global};
 use std::rc::Rc;
@@ -119,22 +119,29 @@ fn sampled(
     }
 }
 
-// What is kept of an expression that selects.
-fn selected(
+// The gist of one operand in the context of another one.
+fn simplified(
     alloc: Global,
-    expr: &Expr,
+    left: &Expr,
+    right: &Expr,
     state: &State,
     meter: &mut Meter,
 ) -> Result<Rc<Value>, Refusal>
-    requires sound { IsSoundExpr (scope_of state.now) expr.now }
+    requires left { IsSoundExpr (scope_of state.now) left.now }
+    requires right { IsSoundExpr (scope_of state.now) right.now }
     requires fits { Fits (limit_of meter.old) state.now }
     ensures made { MatchResult result
-        (λ value. IsKeptOf state.now (limit_of meter.old) expr.now value.value
-        × IsPaid (list_any uses_units (parts_of expr.now)) meter.old meter.new)
-        (IsWhyUnworked (list_any uses_units (parts_of expr.now)) (Ends state.now expr.now) meter.old meter.new) }
-    ensures goes_on { IfOk result (λ _. GoesOn (Ends state.now expr.now)) }
+        (λ value. IsSimplified state.now left.now right.now (unsigned_abs (limit_of meter.old)) value.value × IsCharged meter.old meter.new)
+        (IsWhyUnworked true (EndsPair state.now left.now b.Gist right.now) meter.old meter.new) }
+    ensures goes_on { IfOk result (λ _. GoesOn (EndsPair state.now left.now b.Gist right.now)) }
 {
-    value_of(alloc, expr, state, meter)
+    let value = value_of(alloc, left, state, meter)?;
+    let context = value_of(alloc, right, state, meter)?;
+    match gist(alloc, &value, &context, meter) {
+        Ok(gist) => Ok(Rc::new(alloc, gist)?),
+        Err(OpFault::Cut(cut)) => Err(refusal_of(cut)),
+        Err(OpFault::TooWide) => Err(Refusal::TooWide),
+    }
 }
 
 fn is_sample(word: Prefix) -> bool
@@ -143,8 +150,15 @@ fn is_sample(word: Prefix) -> bool
     matches!(word, Prefix::Sample)
 }
 
-/// What is kept of an expression: of `sample` a value of one element, which is chosen once; else what it selects.
-pub(crate) fn content(
+fn is_gist(operator: Binary) -> bool
+    ensures { result ≡ is_gist operator }
+{
+    matches!(operator, Binary::Gist)
+}
+
+// The value that is kept of an expression: of `sample` a value of one element, which is chosen once; of one `%` of two operands the gist of
+// the left one in the context of the right one; else what is selected.
+fn single(
     alloc: Global,
     expr: &Expr,
     state: &State,
@@ -153,7 +167,7 @@ pub(crate) fn content(
     requires makeable { IsMakeable (scope_of state.now) expr.now }
     requires fits { Fits (limit_of meter.old) state.now }
     ensures made { MatchResult result
-        (λ value. IsKeptOf state.now (limit_of meter.old) expr.now value.value
+        (λ value. IsKeptIn state.now (limit_of meter.old) expr.now value.value
         × IsPaid (list_any uses_units (parts_of expr.now)) meter.old meter.new)
         (IsWhyUnworked (list_any uses_units (parts_of expr.now)) (Ends state.now expr.now) meter.old meter.new) }
     ensures goes_on { IfOk result (λ _. GoesOn (Ends state.now expr.now)) }
@@ -162,19 +176,49 @@ pub(crate) fn content(
         Expr::Prefix(word, operand) if is_sample(*word) => {
             sampled(alloc, operand.get(), state, meter)
         }
-        _ => selected(alloc, expr, state, meter),
+        Expr::Row(first, links) => match links.as_slice() {
+            [link] if is_gist(link.operator) => {
+                simplified(alloc, first.get(), &link.operand, state, meter)
+            }
+            _ => value_of(alloc, expr, state, meter),
+        },
+        _ => value_of(alloc, expr, state, meter),
     }
+}
+
+/// What is kept of an expression of this kind: a value, or the two of a list.
+pub(crate) fn content(
+    alloc: Global,
+    expr: &Expr,
+    kind: ValueKind,
+    state: &State,
+    meter: &mut Meter,
+) -> Result<Kept, Refusal>
+    requires makeable { IsMakeable (scope_of state.now) expr.now }
+    requires kind { kind_of (scope_of state.now) expr.now ≡ Some kind }
+    requires fits { Fits (limit_of meter.old) state.now }
+    ensures made { MatchResult result
+        (λ kept. AreKeptIn state.now (limit_of meter.old) expr.now kept
+        × IsPaid (list_any uses_units (parts_of expr.now)) meter.old meter.new)
+        (IsWhyUnworked (list_any uses_units (parts_of expr.now)) (Ends state.now expr.now) meter.old meter.new) }
+    ensures goes_on { IfOk result (λ _. GoesOn (Ends state.now expr.now)) }
+{
+    if matches!(kind, ValueKind::List) {
+        return Ok(Kept::list(list_of(alloc, expr, state, meter)?));
+    }
+    Ok(Kept::new(kind, single(alloc, expr, state, meter)?))
 }
 
 // The line that shows what is kept of an expression.
 fn value_shown(
     alloc: Global,
     expr: &Expr,
+    kind: ValueKind,
     state: &State,
     meter: &mut Meter,
 ) -> Result<Answer, Refusal>
     requires makeable { IsMakeable (scope_of state.now) expr.now }
-    requires kind { (kind : ValueKind) × (kind_of (scope_of state.now) expr.now ≡ Some kind) }
+    requires kind { kind_of (scope_of state.now) expr.now ≡ Some kind }
     requires fits { Fits (limit_of meter.old) state.now }
     ensures made { MatchResult result
         (λ answer. ((before : Moment) → before.state ≡ state.now → limit_of before.meter ≡ limit_of meter.old
@@ -183,8 +227,8 @@ fn value_shown(
         (IsWhyUnworked (list_any uses_units (parts_of expr.now)) (Ends state.now expr.now) meter.old meter.new) }
     ensures goes_on { IfOk result (λ _. GoesOn (Ends state.now expr.now)) }
 {
-    let value = content(alloc, expr, state, meter)?;
-    Ok(Answer::of_value(alloc, &value)?)
+    let kept = content(alloc, expr, kind, state, meter)?;
+    Ok(Answer::of_kept(alloc, &kept)?)
 }
 
 // The line that tells whether a test holds.
@@ -247,15 +291,17 @@ fn asked_shown(
     }
 }
 
-/// The line that answers an expression.
+/// The line that answers an expression of this kind.
 pub(crate) fn shown(
     alloc: Global,
     expr: &Expr,
+    kind: ValueKind,
     state: &State,
     options: &Options,
     meter: &mut Meter,
 ) -> Result<Answer, Refusal>
     requires evaluable { IsEvaluable (scope_of state.now) (s.Show expr.now) }
+    requires kind { kind_of (scope_of state.now) expr.now ≡ Some kind }
     requires fits { Fits (limit_of meter.old) state.now }
     ensures made { MatchResult result
         (λ answer. Shows (record { state = state.now; meter = meter.old; options = options.now }) expr.now answer
@@ -266,6 +312,6 @@ pub(crate) fn shown(
     if is_asked(expr) {
         asked_shown(alloc, expr, state, options, meter)
     } else {
-        value_shown(alloc, expr, state, meter)
+        value_shown(alloc, expr, kind, state, meter)
     }
 }

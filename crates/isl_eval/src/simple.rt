@@ -1,32 +1,46 @@
 //! One simple statement: one step of the machine.
 
-ghost use Rattle.std.specs.Prelude.{◌≡◌, true, false, Some, Ok, IfErr, IfOk, MatchResult, OnErr, OnOk};
+ghost use Rattle.std.specs.Prelude.{◌≡◌, ◌≢◌, true, false, Some, Ok, IfErr, IfOk, MatchResult, OnErr, OnOk};
 ghost use Rattle.std.specs.List.{list_any};
 ghost use Rattle.isl_meter.specs.Gauge.{IsKept, limit_of};
 ghost use Rattle.isl_space.specs.Name.{Name as NameView};
 ghost use Rattle.isl_expr.specs.declared.tree.Expr as trees;
 ghost use Rattle.isl_expr.specs.declared.tree.Stmt.TheVariants as s;
 ghost use Rattle.isl_kinds.specs.Parts.{parts_of};
-ghost use Rattle.isl_kinds.specs.Typed.{is_dollar};
+ghost use Rattle.isl_kinds.specs.Typed.{is_dollar, type_of_statement};
 ghost use Rattle.isl_stmt.specs.Names.{binds_dollar};
 ghost use Rattle.isl_values.specs.State.{Binds, Kept as KeptView, Moment, forgotten, scope_of, Fits, IsSettled};
 ghost use Rattle.isl_values.specs.Made.{IsPaid, IsWhyUnworked, uses_units};
 ghost use Rattle.isl_values.specs.Ends.{Ends, GoesOn};
 ghost use Rattle.isl_values.specs.Selection.{Keeps};
 ghost use Rattle.isl_eval.specs.Machine.{Step};
-ghost use Rattle.isl_eval.specs.Evaluated.{IsEvaluable, IsWhyEnded, works};
+ghost use Rattle.isl_eval.specs.Evaluated.{IsEvaluable, IsTyped, IsWhyEnded, works};
 
 use crate::answer::Answer;
 use crate::shown::{content, shown};
 use isl_expr::tree::{Expr, Stmt};
 use isl_flat::SimpleStmt;
-use isl_kinds::typed_statement;
+use isl_kinds::{Typed, typed_statement};
 use isl_meter::Meter;
 use isl_space::Name;
 use isl_text::refusal::Refusal;
-use isl_values::{Kept, State};
+use isl_values::State;
 use isl_words::Options;
 use std::alloc::Global;
+
+// The type of a statement that has one.
+fn type_of(alloc: Global, stmt: &Stmt, state: &State) -> Result<Typed, Refusal>
+    requires typed { IsTyped (scope_of state.now) stmt.now }
+    requires full { stmt.now ≢ s.Empty }
+    ensures typed { IfOk result (λ typed. type_of_statement (scope_of state.now) stmt.now ≡ Ok (Some typed)) }
+    ensures faults { IfErr result (λ refusal. refusal ≡ Refusal.NoMemory) }
+{
+    match typed_statement(alloc, stmt, state.scope()) {
+        Ok(Some(typed)) => Ok(typed),
+        Ok(None) => unreachable!(),
+        Err(refusal) => Err(refusal),
+    }
+}
 
 // Binds the name to what is kept of the expression.
 fn bound(
@@ -51,13 +65,9 @@ fn bound(
     ensures settled { OnOk result (is_dollar name.now ≡ false → IsSettled state.old → IsSettled state.new) }
 {
     let name = name.copy()?;
-    let typed = match typed_statement(alloc, stmt, state.scope()) {
-        Ok(Some(typed)) => typed,
-        Ok(None) => unreachable!(),
-        Err(refusal) => return Err(refusal),
-    };
-    let value = content(alloc, expr, state, meter)?;
-    state.bind(name, Kept::new(typed.kind(), value), typed)?;
+    let typed = type_of(alloc, stmt, state)?;
+    let kept = content(alloc, expr, typed.kind(), state, meter)?;
+    state.bind(name, kept, typed)?;
     Ok(())
 }
 
@@ -68,8 +78,8 @@ fn bound(
 ///
 /// # Errors
 /// What ends the evaluation first, operands from the left and inner ones first: `TooWide` where an operation has more than 16 parameters,
-/// or forms a space that is too wide, and `Unbounded` where infinitely many elements are to be listed. `Overflow` and `Budget` where the
-/// meter counted them; and `NoMemory`.
+/// or forms a space that is too wide; `NoMinimum` where there is no least or greatest element; and `Unbounded` where infinitely many
+/// elements are to be listed. `Overflow` and `Budget` where the meter counted them, at work that nothing ends before; and `NoMemory`.
 pub fn eval(
     alloc: Global,
     state: &mut State,
@@ -94,6 +104,9 @@ pub fn eval(
             bound(alloc, stmt, name, expr, state, meter)?;
             Ok(Answer::nothing(alloc))
         }
-        Stmt::Show(expr) => shown(alloc, expr, state, options, meter),
+        Stmt::Show(expr) => {
+            let typed = type_of(alloc, stmt, state)?;
+            shown(alloc, expr, typed.kind(), state, options, meter)
+        }
     }
 }

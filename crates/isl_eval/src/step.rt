@@ -90,8 +90,9 @@ fn forget_after(state: &mut State, statements: &[SimpleStmt])
 ///
 /// # Errors
 /// The refusal of the first cause that the bytes have, as the table of causes lists them; where they have none, what ends the evaluation
-/// first: `TooWide` where an operation has more than 16 parameters or forms a space that is too wide, and `Unbounded` where infinitely
-/// many elements are to be listed; `Overflow` and `Budget` only where the meter counted them; and `NoMemory`.
+/// first: `TooWide` where an operation has more than 16 parameters or forms a space that is too wide, `NoMinimum` where there is no least or
+/// greatest element, and `Unbounded` where infinitely many elements are to be listed; `Overflow` and `Budget` only where the meter counted
+/// them, at work that nothing ends before; and `NoMemory`.
 pub fn answer(
     alloc: Global,
     bytes: &[u8],
