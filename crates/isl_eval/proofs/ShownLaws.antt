@@ -49,7 +49,7 @@ use Rattle.isl_values.specs.State.{Binds, Kept, Moment, StateView, HasNumbersUpT
 use Rattle.isl_values.specs.Worked.{IsWorked}
 use Rattle.isl_values.specs.Selection.{Selects, IsContentOf, IsSelected, Keeps}
 use Rattle.isl_values.specs.Made.{is_foreign, uses_units, IsOfType, IsSoundExpr, IsValueOf, IsPaid, IsWhyUnworked}
-use Rattle.isl_values.specs.Ends.{End, too_wide, unbounded, Ends, GoesOn}
+use Rattle.isl_values.specs.Ends.{End, because, cut, too_wide, no_minimum, unbounded, Ends, GoesOn}
 use Rattle.isl_values.proofs.FirstLaws.{EndAlike, alike_trans, goes_alike, goes_both, turned_alike}
 use Rattle.isl_values.proofs.EndsLaws.{ends_of-Row}
 use Rattle.isl_values.proofs.PartLaws.{all_left, all_right, quiet_both, sound_links}
@@ -245,6 +245,7 @@ listing_goes_on state operand at elements goes listing =
   where
     by : GoesOn (ListingEnds (λ x. Selects state operand at x))
     by too_wide h = h
+    by no_minimum h = h
     by unbounded h = h (listed_finite (λ x. Selects state operand at x) elements listing)
 
 module _ (before : Moment) (expr operand x : Expr) (word : Word) (is : expr ≡ e.Prefix word operand) (which : word ≡ p.Scan)

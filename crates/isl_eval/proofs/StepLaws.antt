@@ -1,5 +1,5 @@
 -- One simple statement after another: what is answered, and what is refused.
-use Rattle.std.proofs.Common.{◌≡◌, ◌≢◌, ◌∙◌, ◌<◌, ◌+◌, inl, inr, refl, sym, ap, ap₂, subst, arith, ◌^◌, ◌-◌, ℕ, zero, suc, length}
+use Rattle.std.proofs.Common.{◌≡◌, ◌≢◌, ◌⊎◌, ◌∙◌, ◌<◌, ◌+◌, inl, inr, refl, sym, ap, ap₂, subst, arith, ◌^◌, ◌-◌, ℕ, zero, suc, length}
 use Rattle.std.proofs.Common.{take, drop, get_or, ℤ, pos, true, false, List, []}
 use Rattle.std.proofs.Common.{◌∷◌, ◌++◌, append_assoc, Option, Some, Result, Ok, Err, option_map}
 use Rattle.std.specs.Prelude.{unsigned_abs, IfOk, IfErr, OnErr, MatchResult}
@@ -23,14 +23,15 @@ use Rattle.isl_flat.proofs.SimpleLaws.{parts_kept}
 use Rattle.isl_stmt.specs.Names.{binds_dollar}
 use Rattle.isl_values.specs.State.{Kept, Moment, StateView, Binds, Fits, HasNumbersUpTo, IsSettled, type_of, scope_of, forgotten}
 use Rattle.isl_values.specs.Selection.{Keeps}
-use Rattle.isl_values.specs.Ends.{End, too_wide, unbounded, refusal_of_end}
+use Rattle.isl_values.specs.Ends.{End, Reason, because, too_wide, no_minimum, unbounded, refusal_of_reason}
+use Rattle.isl_values.specs.Ends as ends
 use Rattle.isl_values.specs.Made.{IsPaid, refusal_of_cut, uses_units}
 use Rattle.isl_values.proofs.StateLaws.{bound_at, fits_bound}
 use Rattle.isl_values.proofs.ForgetLaws.{forgotten_itself, forgotten_settled, fits_forgotten}
 use Rattle.isl_values.proofs.ValueLaws.{same_limit, paid_same, paid_after, unworked_after}
 use Rattle.isl_eval.specs.Machine.{Answer, Does, Step, Steps, behind, nothing}
 use Rattle.isl_eval.specs.Spelled.{OfStatement}
-use Rattle.isl_eval.specs.Causes.{AreDone, Refuses, Stops}
+use Rattle.isl_eval.specs.Causes.{AreDone, Refuses, RefusesBecause, Stops}
 use Rattle.isl_eval.specs.Ended.{StatementEnds}
 use Rattle.isl_eval.specs.Run.{Answers}
 use Rattle.isl_eval.specs.Evaluated.{IsEvaluable, IsWhyEnded, works}
@@ -263,23 +264,6 @@ module _ (before : Moment) (bytes : List ℕ) (stmt : Stmt) (read : IsRead befor
         units = λ none. ap (λ (g : Gauge). g.units) (meter ∙ paid.free (idle (false_from_ne_true (works stmt) none)));
       }
 
-  cut_refuses : (now : Gauge) (what : Cut) → IsCutBy before.meter now what
-      → (list_any works (flat stmt) ≡ false → (what ≡ cuts.NoMemory) × (now ≡ before.meter))
-      → Refuses before bytes now (refusal_of_cut what)
-  cut_refuses now cuts.Overflow by free = (
-    clear before bytes stmt read able,
-    has_work bytes stmt read.spelled (λ none. let bad : cuts.Overflow ≡ cuts.NoMemory = (free (idle none)).0 in absurd
-        (let no : ⊥ = cc in no)),
-    by,
-  )
-  cut_refuses now cuts.Budget by free = (
-    clear before bytes stmt read able,
-    has_work bytes stmt read.spelled (λ none. let bad : cuts.Budget ≡ cuts.NoMemory = (free (idle none)).0 in absurd
-        (let no : ⊥ = cc in no)),
-    by,
-  )
-  cut_refuses now cuts.NoMemory by free = (by.cause, λ none. (free (idle (no_work bytes stmt read.spelled none))).1)
-
   -- some of its simple statements were done, and the next has P
   stops_in : (P : Moment → Stmt → Type 0) → StopsAt before (flat stmt) P → OfStatement bytes (λ found. Stops before found P)
   stops_in P h = (
@@ -288,21 +272,51 @@ module _ (before : Moment) (bytes : List ℕ) (stmt : Stmt) (read : IsRead befor
     record { done = h.0; next = h.1; later = h.2; split = h.3; now = h.4.0; steps = h.4.1; stops = h.4.2 },
   )
 
-  -- it is not
-  end_refuses : (now : Gauge) (why : End) → StopsAt before (flat stmt) (λ moment next. StatementEnds moment next why)
-      → IsPaid (list_any works (flat stmt)) before.meter now → Refuses before bytes now (refusal_of_end why)
-  end_refuses now too_wide stops paid = inr (
+  -- the evaluation of one of its simple statements ends so
+  abbrev EndsAt : End → Type 0
+  EndsAt why = StopsAt before (flat stmt) (λ moment next. StatementEnds moment next why)
+
+  -- its work is cut, where nothing ends its evaluation before
+  cut_refuses : (now : Gauge) (what : Cut) → IsCutBy before.meter now what → (what ≡ cuts.NoMemory) ⊎ EndsAt ends.cut
+      → (list_any works (flat stmt) ≡ false → (what ≡ cuts.NoMemory) × (now ≡ before.meter))
+      → Refuses before bytes now (refusal_of_cut what)
+  cut_refuses now cuts.Overflow by (inl memory) free = absurd (let no : ⊥ = cc in no)
+  cut_refuses now cuts.Overflow by (inr there) free = (
     clear before bytes stmt read able,
-    stops_in (λ moment next. StatementEnds moment next too_wide) stops,
+    has_work bytes stmt read.spelled (λ none. let bad : cuts.Overflow ≡ cuts.NoMemory = (free (idle none)).0 in absurd
+        (let no : ⊥ = cc in no)),
+    stops_in (λ moment next. StatementEnds moment next ends.cut) there,
+    by,
+  )
+  cut_refuses now cuts.Budget by (inl memory) free = absurd (let no : ⊥ = cc in no)
+  cut_refuses now cuts.Budget by (inr there) free = (
+    clear before bytes stmt read able,
+    has_work bytes stmt read.spelled (λ none. let bad : cuts.Budget ≡ cuts.NoMemory = (free (idle none)).0 in absurd
+        (let no : ⊥ = cc in no)),
+    stops_in (λ moment next. StatementEnds moment next ends.cut) there,
+    by,
+  )
+  cut_refuses now cuts.NoMemory by there free = (by.cause, λ none. (free (idle (no_work bytes stmt read.spelled none))).1)
+
+  -- it is not
+  reason_refuses : (now : Gauge) (reason : Reason) → EndsAt (because reason) → IsPaid (list_any works (flat stmt)) before.meter now
+      → RefusesBecause before bytes now reason
+  reason_refuses now reason stops paid = (
+    clear before bytes stmt read able,
+    stops_in (λ moment next. StatementEnds moment next (because reason)) stops,
     paid.charged,
     (λ none. paid.free (idle (no_work bytes stmt read.spelled none))),
   )
-  end_refuses now unbounded stops paid =
-      (clear before bytes stmt read able, stops_in (λ moment next. StatementEnds moment next unbounded) stops, paid.charged)
+
+  end_refuses : (now : Gauge) (reason : Reason) → EndsAt (because reason) → IsPaid (list_any works (flat stmt)) before.meter now
+      → Refuses before bytes now (refusal_of_reason reason)
+  end_refuses now too_wide stops paid = inr (reason_refuses now too_wide stops paid)
+  end_refuses now no_minimum stops paid = reason_refuses now no_minimum stops paid
+  end_refuses now unbounded stops paid = reason_refuses now unbounded stops paid
 
   pub stopped_refuses : (now : Gauge) (refusal : Refusal) → IsWhyStopped before (flat stmt) now refusal → Refuses before bytes now refusal
   stopped_refuses now refusal (inl why) =
-      subst (Refuses before bytes now) (sym why.is) (cut_refuses now why.cut why.by why.free)
+      subst (Refuses before bytes now) (sym why.is) (cut_refuses now why.cut why.by why.there why.free)
   stopped_refuses now refusal (inr why) = subst (Refuses before bytes now) (sym why.1) (end_refuses now why.0 why.2 why.3)
 
 pub kept_limit : (g h : Gauge) → IsKept g h → limit_of h ≡ limit_of g

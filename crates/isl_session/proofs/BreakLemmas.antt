@@ -3,7 +3,7 @@ use Rattle.std.proofs.Common.{◌≡◌, ℕ, ◌<◌, List, [], ◌∷◌, true
 use Rattle.isl_meter.specs.Gauge.{Gauge, IsKept}
 use Rattle.isl_script.specs.Script.{ends}
 use Rattle.isl_text.specs.declared.refusal.Refusal.{Refusal}
-use Rattle.isl_text.specs.declared.refusal.Refusal.TheVariants.{Overflow, Budget, NoMemory, TooWide, Unbounded}
+use Rattle.isl_text.specs.declared.refusal.Refusal.TheVariants.{Overflow, Budget, NoMemory, NoMinimum, TooWide, Unbounded}
 use Rattle.isl_values.specs.State.{Moment, StateView}
 use Rattle.isl_eval.specs.Causes as c
 use Rattle.isl_eval.specs.Causes.{Cause, FirstGives, Refuses, causes, refusal_of}
@@ -39,6 +39,7 @@ breaks_in_statement Overflow view byte now room ended cause = (room, ended, caus
 breaks_in_statement Budget view byte now room ended cause = (room, ended, cause)
 breaks_in_statement NoMemory view byte now room ended cause = (room, inl (ended, cause))
 breaks_in_statement TooWide view byte now room ended cause = (room, ended, cause)
+breaks_in_statement NoMinimum view byte now room ended cause = (room, ended, cause)
 breaks_in_statement Unbounded view byte now room ended cause = (room, ended, cause)
 breaks_in_statement refusal view byte now room ended cause =
     subst (λ (p : Place). BreaksIn p view byte now refusal)
@@ -51,6 +52,7 @@ meter_in_statement before bytes now Overflow cause kept = kept
 meter_in_statement before bytes now Budget cause kept = kept
 meter_in_statement before bytes now NoMemory cause kept = cause.0
 meter_in_statement before bytes now TooWide cause kept = kept
+meter_in_statement before bytes now NoMinimum cause kept = kept
 meter_in_statement before bytes now Unbounded cause kept = kept
 meter_in_statement before bytes now refusal cause kept =
     subst (λ (p : Place). IsMeterAt p before.meter now)
