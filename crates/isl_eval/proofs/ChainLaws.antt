@@ -171,7 +171,7 @@ no_dollar bytes stmt spelled = bytes_spell_no_dollar bytes stmt spelled.tokens s
 
 -- the simple statements of a statement that was read and may be worked out
 pub evaluable : (before : Moment) (bytes : List ℕ) (stmt : Stmt) (statements : List Stmt) → IsRead before bytes stmt
-    → IsWorkable (scope_of before.state) before.at stmt → statements ≡ flat stmt → length statements ≤ 2 ^ 64
+    → IsWorkable (scope_of before.state) before.options.at stmt → statements ≡ flat stmt → length statements ≤ 2 ^ 64
     → AreEvaluable (scope_of before.state) statements
 evaluable before bytes stmt statements read able is short =
     let most = length (statement_declared (scope_of before.state) stmt) in

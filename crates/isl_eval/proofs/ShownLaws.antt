@@ -1,7 +1,7 @@
 -- What is kept of expressions, and what is shown of them.
 use Rattle.std.proofs.Common.{◌≡◌, ◌∙◌, ◌↔◌, inl, inr, refl, sym, ap, ap₂, subst, take, ◌+◌}
 use Rattle.std.proofs.Common.{ℕ, ℤ, Bool, true, false, List, [], ◌∷◌, ◌++◌, length, Option, Some, Result, Ok, Err}
-use Rattle.std.specs.Prelude.{unsigned_abs, ◌||◌, if◌then◌else◌}
+use Rattle.std.specs.Prelude.{unsigned_abs, ◌||◌, if◌then◌else◌, IfOk, MatchResult}
 use Rattle.std.specs.List.{All, list_any}
 use Rattle.std.proofs.lemmas.Bool.{false≢true, or_parts}
 use Rattle.std.specs.List.{slice_get}
@@ -14,6 +14,7 @@ use Rattle.isl_meter.proofs.CutLemmas.{IsCharged_refl, IsCharged_trans}
 use Rattle.isl_space.specs.Name.{Name}
 use Rattle.isl_space.specs.Element.{Element}
 use Rattle.isl_space.specs.Valuation.{Valuation, value_at, values_of}
+use Rattle.isl_words.specs.Options.{OptionsView}
 use Rattle.isl_union.specs.Finite.{IsFiniteAt}
 use Rattle.isl_union.specs.KeptValue.{KeptValue, Has, HasNoDefinitions, IsKeptValue}
 use Rattle.isl_union.specs.Sample.{IsSampleOf}
@@ -181,14 +182,17 @@ unworked_working works Part Whole g h refusal is ends why =
 
 -- ---- what is shown
 -- the moment of a state and a meter
-abbrev pub moment_of : StateView → Gauge → Valuation → Moment
-moment_of state meter at = record { state = state; meter = meter; at = at }
+abbrev pub moment_of : StateView → Gauge → OptionsView → Moment
+moment_of state meter options = record { state = state; meter = meter; options = options }
+
+abbrev no_options : OptionsView
+no_options = record { bits = 0; budget = 0; at = []; run = false }
 
 pub kept_plain : (state : StateView) (meter : Gauge) (expr : Expr) (value v : KeptValue) (kind : ValueKind)
     → kind_of (scope_of state) expr ≡ Some kind
     → IsKeptOf state (limit_of meter) expr value → v ≡ value → HasNoDefinitions v
 kept_plain state meter expr value v kind is kept same =
-    subst HasNoDefinitions (sym same) (kept (moment_of state meter []) kind refl refl is).definitions
+    subst HasNoDefinitions (sym same) (kept (moment_of state meter no_options) kind refl refl is).definitions
 
 pub value_shows : (before : Moment) (state : StateView) (limit : ℤ) (expr : Expr) (value v : KeptValue) (kind : ValueKind) (answer : Answer)
     → kind_of (scope_of state) expr ≡ Some kind → IsKeptOf state limit expr value → v ≡ value → answer ≡ shown v → before.state ≡ state
@@ -221,7 +225,7 @@ show_kind scope expr typed =
 
 Listing : Moment → Expr → Answer → Type 0
 Listing before operand answer =
-    (elements : List Element) × IsListed (λ x. Selects before.state operand before.at x) elements × (answer ≡ listed elements)
+    (elements : List Element) × IsListed (λ x. Selects before.state operand before.options.at x) elements × (answer ≡ listed elements)
 
 shows_of-Scan : (before : Moment) (operand : Expr) (answer : Answer) → Listing before operand answer
     → Shows before (e.Prefix p.Scan operand) answer
@@ -229,7 +233,7 @@ unfolding Listing hidden-the_row-Expr-0 denote.Hole.Carrier.hidden
 shows_of-Scan before operand answer h = h
 
 ends_of-Scan : (before : Moment) (operand : Expr)
-    → EndAlike (EndsListing before.state operand before.at) (StatementEnds before (Show (e.Prefix p.Scan operand)))
+    → EndAlike (EndsListing before.state operand before.options.at) (StatementEnds before (Show (e.Prefix p.Scan operand)))
 unfolding hidden-the_row-Expr-0 denote.Hole.Carrier.hidden
 ends_of-Scan before operand why = ((λ h. h), (λ h. h))
 
@@ -257,24 +261,24 @@ module _ (before : Moment) (expr operand x : Expr) (word : Word) (is : expr ≡ 
   pub scan_works : true ≡ list_any uses_units (parts_of expr)
   scan_works = sym (ap (λ (y : Expr). list_any uses_units (parts_of y)) scan_is ∙ ap (list_any uses_units) (parts_of-Prefix p.Scan x))
 
-  pub scan_shows : (answer : Answer) → (elements : List Element) × IsListed (λ y. Selects before.state x before.at y) elements
+  pub scan_shows : (answer : Answer) → (elements : List Element) × IsListed (λ y. Selects before.state x before.options.at y) elements
       × (answer ≡ listed elements)
       → Shows before expr answer
   unfolding Listing
   scan_shows answer h = subst (λ (y : Expr). Shows before y answer) (sym scan_is) (shows_of-Scan before x answer h)
 
-  scan_ends : EndAlike (EndsListing before.state x before.at) (StatementEnds before (Show expr))
+  scan_ends : EndAlike (EndsListing before.state x before.options.at) (StatementEnds before (Show expr))
   scan_ends =
-      subst (λ (y : Expr). EndAlike (EndsListing before.state x before.at) (StatementEnds before (Show y))) (sym scan_is)
+      subst (λ (y : Expr). EndAlike (EndsListing before.state x before.options.at) (StatementEnds before (Show y))) (sym scan_is)
       (ends_of-Scan before x)
 
-  pub scan_goes_on : GoesOn (EndsListing before.state x before.at) → GoesOn (StatementEnds before (Show expr))
-  scan_goes_on goes = goes_alike (EndsListing before.state x before.at) (StatementEnds before (Show expr)) scan_ends goes
+  pub scan_goes_on : GoesOn (EndsListing before.state x before.options.at) → GoesOn (StatementEnds before (Show expr))
+  scan_goes_on goes = goes_alike (EndsListing before.state x before.options.at) (StatementEnds before (Show expr)) scan_ends goes
 
   pub scan_ended : (now : Gauge) (refusal : Refusal)
-      → IsWhyUnworked true (EndsListing before.state x before.at) before.meter now refusal → IsWhyEnded before (Show expr) now refusal
+      → IsWhyUnworked true (EndsListing before.state x before.options.at) before.meter now refusal → IsWhyEnded before (Show expr) now refusal
   scan_ended now refusal why =
-      unworked_working (list_any uses_units (parts_of expr)) (EndsListing before.state x before.at) (StatementEnds before (Show expr))
+      unworked_working (list_any uses_units (parts_of expr)) (EndsListing before.state x before.options.at) (StatementEnds before (Show expr))
       before.meter now refusal scan_works (λ end ends. (scan_ends end).0 ends) why
 
 -- ---- what is around a test
@@ -415,7 +419,7 @@ pub kept_type : (state : StateView) (meter : Gauge) (expr : Expr) (value : KeptV
     → IsKeptOf state (limit_of meter) expr value → t ≡ type_of (record { kind = t.kind; value = value })
 kept_type state meter expr value t typed kept =
     ap (λ (ps : List Name). record { kind = t.kind; params = ps })
-    (sym typed.params ∙ (kept (moment_of state meter []) t.kind refl refl typed.kind).params)
+    (sym typed.params ∙ (kept (moment_of state meter no_options) t.kind refl refl typed.kind).params)
 
 -- the word of what is asked for is `scan`, and the last operator a test
 pub asked_scan : (expr operand : Expr) (word : Word) → expr ≡ e.Prefix word operand → is_asked expr ≡ true → word ≡ p.Scan
@@ -515,27 +519,36 @@ module _ (before : Moment) (stmt : Stmt) where
     does = subst (λ (x : Stmt). Does before x before nothing) (sym is) (refl, refl);
     goes_on = subst (λ (x : Stmt). GoesOn (StatementEnds before x)) (sym is) (λ why h. h);
     meter = IsCharged_refl before.meter before.meter refl;
-    at = refl;
+    options = refl;
   }
 
-  pub show_step : (after : Moment) (expr : Expr) (answer : Answer) → stmt ≡ Show expr → after.state ≡ before.state → after.at ≡ before.at
+  pub show_step : (after : Moment) (expr : Expr) (answer : Answer) → stmt ≡ Show expr → after.state ≡ before.state → after.options ≡ before.options
       → IsCharged before.meter after.meter → GoesOn (StatementEnds before (Show expr)) → Shows before expr answer
       → Step before stmt after answer
-  show_step after expr answer is same at charged goes shows = record {
+  show_step after expr answer is same options charged goes shows = record {
     does = subst (λ (x : Stmt). Does before x after answer) (sym is) (same, shows);
     goes_on = subst (λ (x : Stmt). GoesOn (StatementEnds before x)) (sym is) goes;
     meter = charged;
-    at = at;
+    options = options;
   }
 
-  pub bind_step : (after : Moment) (name : Name) (expr : Expr) → stmt ≡ Bind name expr → after.at ≡ before.at
+  pub show_answered : (now : Gauge) (expr : Expr) (works : Bool) (Why : Refusal → Type 0) (result : Result Answer Refusal)
+      → stmt ≡ Show expr
+      → MatchResult result (λ answer. Shows before expr answer × IsPaid works before.meter now) Why
+      → IfOk result (λ _. GoesOn (StatementEnds before (Show expr)))
+      → IfOk result (Step before stmt (record before { meter = now }))
+  show_answered now expr works Why (Ok answer) is made goes =
+      show_step (record before { meter = now }) expr answer is refl refl made.1.charged goes made.0
+  show_answered now expr works Why (Err refusal) is made goes = tt
+
+  pub bind_step : (after : Moment) (name : Name) (expr : Expr) → stmt ≡ Bind name expr → after.options ≡ before.options
       → IsCharged before.meter after.meter → GoesOn (Ends before.state expr)
       → (kept : Kept) × Keeps before expr kept × Binds before.state name kept after.state → Step before stmt after nothing
-  bind_step after name expr is at charged goes kept = record {
+  bind_step after name expr is options charged goes kept = record {
     does = subst (λ (x : Stmt). Does before x after nothing) (sym is) (kept, refl);
     goes_on = subst (λ (x : Stmt). GoesOn (StatementEnds before x)) (sym is) goes;
     meter = charged;
-    at = at;
+    options = options;
   }
 
 -- a statement whose evaluation ends as this does

@@ -90,7 +90,7 @@ IsThere before bytes unsupported = OfStatement bytes (λ stmt. is_unsupported st
 IsThere before bytes unknown_name = OfStatement bytes (λ stmt. type_of_statement (scope_of before.state) stmt ≡ Err r.UnknownName)
 IsThere before bytes wrong_kind = OfStatement bytes (λ stmt. type_of_statement (scope_of before.state) stmt ≡ Err r.WrongKind)
 IsThere before bytes no_element = OfStatement bytes (λ stmt. type_of_statement (scope_of before.state) stmt ≡ Err r.NoElement)
-IsThere before bytes parametric = OfStatement bytes (λ stmt. is_parametric (scope_of before.state) before.at stmt ≡ true)
+IsThere before bytes parametric = OfStatement bytes (λ stmt. is_parametric (scope_of before.state) before.options.at stmt ≡ true)
 
 -- the first of these causes that is there gives this refusal
 abbrev pub FirstGives : (Cause → Type 0) → List Cause → Refusal → Type 0

@@ -17,7 +17,7 @@ ListingEnds P unbounded = ¬ AreFinite P
 -- the operand of `scan` comes first, and then its elements where parameters have their given numbers
 abbrev pub ShownEnds : Moment → Expr → End → Type 0
 ShownEnds now (Prefix' p.Scan s operand) =
-    FirstEnds (EndsIn now.state operand) (ListingEnds (λ element. SelectsIn now.state operand now.at element))
+    FirstEnds (EndsIn now.state operand) (ListingEnds (λ element. SelectsIn now.state operand now.options.at element))
 ShownEnds now expr = Ends now.state expr
 
 abbrev pub StatementEnds : Moment → Stmt → End → Type 0

@@ -1,6 +1,6 @@
 -- inner: what the steps from bytes to an answer leave to one another.
 use Rattle.std.specs.Prelude.{◌≡◌, ◌⊎◌, ◌≤◌, ℕ, ℤ, Bool, true, false, List, []}
-use Rattle.std.specs.Prelude.{◌∷◌, ◌++◌, length, All, MatchResult, Option, None, Some, Result, Ok, Err, string_bytes}
+use Rattle.std.specs.Prelude.{◌∷◌, ◌++◌, length, All, MatchResult, Option, None, Some, Result, Ok, Err}
 use Rattle.std.specs.List.{list_any}
 use Rattle.isl_meter.specs.Gauge.{Gauge, IsCharged, limit_of}
 use Rattle.isl_space.specs.Limits.{most_parameters}
@@ -32,11 +32,9 @@ use Rattle.isl_values.specs.State.{Moment, StateView, Fits, HasNumbersUpTo, scop
 use Rattle.isl_values.specs.Selection.{IsSelected, Keeps, Selects, RowSelects}
 use Rattle.isl_values.specs.Ends.{End, Ends, EndsRow, FirstEnds}
 use Rattle.isl_values.specs.Made.{is_foreign, IsSoundExpr, IsSoundLink, IsPaid, IsWhyUnworked, refusal_of_cut}
-use Rattle.isl_eval.specs.declared.shown.Line.{Line}
 use Rattle.isl_eval.specs.Spelled.{BytesSpell}
 use Rattle.isl_eval.specs.Tests.{Elements, is_test}
 use Rattle.isl_eval.specs.Tests.{ends_with_test as row_ends_with_test}
-use Rattle.isl_eval.specs.Machine.{Answer}
 use Rattle.isl_eval.specs.Causes.{Cause, no_token, too_deep, no_statement, too_wide, wide_number, unsupported, causes}
 use Rattle.isl_eval.specs.Causes.{IsThere, NoneIs, FirstGives, AreDone, is_parametric}
 use Rattle.isl_eval.specs.Ended.{ListingEnds, StatementEnds}
@@ -78,10 +76,6 @@ IsWhyUnworkable scope at stmt refusal =
     ⊎ ((IsTyped scope stmt × (is_parametric scope at stmt ≡ true) × (refusal ≡ Parametric)) ⊎ (refusal ≡ NoMemory))
 
 -- ---- what is kept and shown
-
--- the answer of a line
-abbrev pub answer_of : Line → Answer
-answer_of line = record { bytes = string_bytes line.text; is_true = line.tally.is_true; elements = line.tally.elements }
 
 -- the value is kept of the expression, with the expression's kind
 abbrev pub IsKeptOf : StateView → ℤ → Expr → KeptValue → Type 0
@@ -174,7 +168,7 @@ AreEvaluable scope (_ ∷ next ∷ rest) = ⊥
 pub record IsTaken (before : Moment) (bytes : List ℕ) (statements : List Stmt) : Type 0 where
   pub stmt : Stmt
   pub read : IsRead before bytes stmt
-  pub able : IsWorkable (scope_of before.state) before.at stmt
+  pub able : IsWorkable (scope_of before.state) before.options.at stmt
   pub simple : statements ≡ flat stmt
   pub ready : AreEvaluable (scope_of before.state) statements
 
@@ -185,7 +179,7 @@ pub record AreLeft (before now : Moment) (done left : List Stmt) : Type 0 where
   pub fits : Fits (limit_of before.meter) now.state
   pub others : forgotten now.state ≡ forgotten before.state
   pub paid : IsPaid (list_any works done) before.meter now.meter
-  pub at : now.at ≡ before.at
+  pub options : now.options ≡ before.options
 
 -- some of the statements were done, and the next has P
 abbrev pub StopsAt : Moment → List Stmt → (Moment → Stmt → Type 0) → Type 0

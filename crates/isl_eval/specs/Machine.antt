@@ -51,7 +51,8 @@ ShowsRow false Holds before expr answer = ShowsValue before expr answer
 
 abbrev pub Shows : Moment → Expr → Answer → Type 0
 Shows before (Prefix' p.Scan s operand) answer =
-    (elements : List Element) × IsListed (λ element. SelectsIn before.state operand before.at element) elements × (answer ≡ listed elements)
+    (elements : List Element) × IsListed (λ element. SelectsIn before.state operand before.options.at element) elements
+    × (answer ≡ listed elements)
 Shows before (Row' s first t links) answer = ShowsRow (ends_with_test links) (RowHolds before.state first links) before
     (Row' s first t links) answer
 Shows before expr answer = ShowsValue before expr answer
@@ -69,7 +70,7 @@ pub record Step (before : Moment) (stmt : Stmt) (after : Moment) (answer : Answe
   pub does : Does before stmt after answer
   pub goes_on : GoesOn (StatementEnds before stmt)
   pub meter : IsCharged before.meter after.meter
-  pub at : after.at ≡ before.at
+  pub options : after.options ≡ before.options
 
 -- ---- statements
 -- One after another, the last with this answer, and the others with none.

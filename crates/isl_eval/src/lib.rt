@@ -6,6 +6,7 @@
 //! once has a name, and each of these is one step.
 #![tactic(auto)]
 
+mod answer;
 mod shown;
 mod simple;
 mod spelled;
@@ -14,7 +15,9 @@ mod test;
 mod unsupported;
 mod workable;
 
+pub use answer::Answer;
+pub use isl_words::Options;
 pub use simple::eval;
 pub use spelled::one_statement;
-pub use step::{Tally, answer};
+pub use step::answer;
 pub use unsupported::is_unsupported;

@@ -22,69 +22,20 @@ ghost use Rattle.isl_eval.specs.Evaluated.{IsEvaluable, IsWhyEnded};
 ghost use Rattle.isl_eval.specs.Tests.{TestHolds};
 ghost use Rattle.isl_eval.specs.Evaluation as spec;
 ghost use Rattle.isl_eval.specs.Evaluation.{EndsListing, EndsTest, IsKeptOf, IsMakeable, IsReadyTest};
-ghost use Rattle.isl_eval.specs.Evaluation.{IsSampled, answer_of, past_row};
+ghost use Rattle.isl_eval.specs.Evaluation.{IsSampled, past_row};
 
-use crate::step::Tally;
+use crate::answer::Answer;
 use crate::test::{ends_with_test, tested};
 use isl_expr::tree::{Expr, Link, Prefix};
 use isl_meter::Meter;
-use isl_print::text_of;
-use isl_scan::{Listing, ScanFault, scan};
+use isl_scan::{ScanFault, scan};
 use isl_space::{Name, Params};
 use isl_text::refusal::Refusal;
 use isl_union::{OpFault, Value};
 use isl_values::{State, refusal_of, value_of};
+use isl_words::Options;
 use std::alloc::{AllocError, Global};
 use std::rc::Rc;
-
-/// A line that is answered, and what it adds to the counts.
-#[derive(Drop)]
-pub(crate) struct Line {
-    pub(crate) text: String,
-    pub(crate) tally: Tally,
-}
-
-impl Line {
-    fn of_value(alloc: Global, value: &Value) -> Result<Line, AllocError>
-        requires { HasNoDefinitions value.now }
-        ensures { IfOk result (λ line. answer_of line ≡ shown value.now) }
-    {
-        let mut text = text_of(alloc, value)?;
-        text.push('\n')?;
-        Ok(Line {
-            text,
-            tally: Tally::NOTHING,
-        })
-    }
-
-    fn of_truth(alloc: Global, holds: bool) -> Result<Line, AllocError>
-        ensures { IfOk result (λ line. answer_of line ≡ told holds) }
-    {
-        let word = if holds { "True\n" } else { "False\n" };
-        let text = String::from_str(alloc, word)?;
-        Ok(Line {
-            text,
-            tally: Tally {
-                is_true: holds,
-                elements: 0,
-            },
-        })
-    }
-
-    fn of_listing(alloc: Global, listing: &Listing) -> Result<Line, AllocError>
-        ensures { IfOk result (λ line. answer_of line ≡ listed listing.now) }
-    {
-        let mut text = listing.text(alloc)?;
-        text.push('\n')?;
-        Ok(Line {
-            text,
-            tally: Tally {
-                is_true: false,
-                elements: listing.len(),
-            },
-        })
-    }
-}
 
 // The number that a name is given, or 0.
 fn number_of(name: &Name, at: &[(Name, i128)]) -> i128
@@ -99,12 +50,16 @@ fn number_of(name: &Name, at: &[(Name, i128)]) -> i128
 }
 
 // The numbers that parameters are given.
-fn numbers_of(alloc: Global, params: &Params, at: &[(Name, i128)]) -> Result<Vec<i128>, AllocError>
-    ensures { IfOk result (λ numbers. numbers.items ≡ valuation.values_of params.now at.now) }
+fn numbers_of(
+    alloc: Global,
+    params: &Params,
+    options: &Options,
+) -> Result<Vec<i128>, AllocError>
+    ensures { IfOk result (λ numbers. numbers.items ≡ valuation.values_of params.now options.now.at) }
 {
     let mut numbers = Vec::new(alloc);
     for place in 0..params.len() {
-        numbers.push(number_of(params.name(place), at))?;
+        numbers.push(number_of(params.name(place), options.at()))?;
     }
     Ok(numbers)
 }
@@ -123,21 +78,21 @@ fn listed(
     alloc: Global,
     operand: &Expr,
     state: &State,
-    at: &[(Name, i128)],
+    options: &Options,
     meter: &mut Meter,
-) -> Result<Line, Refusal>
+) -> Result<Answer, Refusal>
     requires sound { IsSoundExpr (scope_of state.now) operand.now }
     requires fits { Fits (limit_of meter.old) state.now }
     ensures made { MatchResult result
-        (λ line. ((elements : List Element) × IsListed (λ element. Selects state.now operand.now at.now element) elements
-        × (answer_of line ≡ listed elements)) × IsCharged meter.old meter.new)
-        (IsWhyUnworked true (EndsListing state.now operand.now at.now) meter.old meter.new) }
-    ensures goes_on { IfOk result (λ _. GoesOn (EndsListing state.now operand.now at.now)) }
+        (λ answer. ((elements : List Element) × IsListed (λ element. Selects state.now operand.now options.now.at element) elements
+        × (answer ≡ listed elements)) × IsCharged meter.old meter.new)
+        (IsWhyUnworked true (EndsListing state.now operand.now options.now.at) meter.old meter.new) }
+    ensures goes_on { IfOk result (λ _. GoesOn (EndsListing state.now operand.now options.now.at)) }
 {
     let value = value_of(alloc, operand, state, meter)?;
-    let numbers = numbers_of(alloc, value.params(), at)?;
+    let numbers = numbers_of(alloc, value.params(), options)?;
     match scan(alloc, &value, numbers.as_slice(), meter) {
-        Ok(listing) => Ok(Line::of_listing(alloc, &listing)?),
+        Ok(listing) => Ok(Answer::of_listing(alloc, &listing)?),
         Err(fault) => Err(refusal_of_fault(fault)),
     }
 }
@@ -217,19 +172,19 @@ fn value_shown(
     expr: &Expr,
     state: &State,
     meter: &mut Meter,
-) -> Result<Line, Refusal>
+) -> Result<Answer, Refusal>
     requires makeable { IsMakeable (scope_of state.now) expr.now }
     requires kind { (kind : ValueKind) × (kind_of (scope_of state.now) expr.now ≡ Some kind) }
     requires fits { Fits (limit_of meter.old) state.now }
     ensures made { MatchResult result
-        (λ line. ((before : Moment) → before.state ≡ state.now → limit_of before.meter ≡ limit_of meter.old
-        → ShowsValue before expr.now (answer_of line))
+        (λ answer. ((before : Moment) → before.state ≡ state.now → limit_of before.meter ≡ limit_of meter.old
+        → ShowsValue before expr.now answer)
         × IsPaid (list_any uses_units (parts_of expr.now)) meter.old meter.new)
         (IsWhyUnworked (list_any uses_units (parts_of expr.now)) (Ends state.now expr.now) meter.old meter.new) }
     ensures goes_on { IfOk result (λ _. GoesOn (Ends state.now expr.now)) }
 {
     let value = content(alloc, expr, state, meter)?;
-    Ok(Line::of_value(alloc, &value)?)
+    Ok(Answer::of_value(alloc, &value)?)
 }
 
 // The line that tells whether a test holds.
@@ -240,17 +195,17 @@ fn truth_shown(
     last: &Link,
     state: &State,
     meter: &mut Meter,
-) -> Result<Line, Refusal>
+) -> Result<Answer, Refusal>
     requires ready { IsReadyTest (scope_of state.now) first.now before.now last.now }
     requires fits { Fits (limit_of meter.old) state.now }
     ensures made { MatchResult result
-        (λ line. ((holds : Bool) × (IsTrue holds ↔ TestHolds state.now last.now.operator (past_row state.now first.now before.now)
-        (Selects state.now last.now.operand)) × (answer_of line ≡ told holds)) × IsCharged meter.old meter.new)
+        (λ answer. ((holds : Bool) × (IsTrue holds ↔ TestHolds state.now last.now.operator (past_row state.now first.now before.now)
+        (Selects state.now last.now.operand)) × (answer ≡ told holds)) × IsCharged meter.old meter.new)
         (IsWhyUnworked true (EndsTest state.now first.now before.now last.now) meter.old meter.new) }
     ensures goes_on { IfOk result (λ _. GoesOn (EndsTest state.now first.now before.now last.now)) }
 {
     let holds = tested(alloc, first, before, last, state, meter)?;
-    Ok(Line::of_truth(alloc, holds)?)
+    Ok(Answer::of_truth(alloc, holds)?)
 }
 
 // Whether elements or a truth are asked for.
@@ -270,20 +225,20 @@ fn asked_shown(
     alloc: Global,
     expr: &Expr,
     state: &State,
-    at: &[(Name, i128)],
+    options: &Options,
     meter: &mut Meter,
-) -> Result<Line, Refusal>
+) -> Result<Answer, Refusal>
     requires asked { spec.is_asked expr.now ≡ true }
     requires evaluable { IsEvaluable (scope_of state.now) (s.Show expr.now) }
     requires fits { Fits (limit_of meter.old) state.now }
     ensures made { MatchResult result
-        (λ line. Shows (record { state = state.now; meter = meter.old; at = at.now }) expr.now (answer_of line)
+        (λ answer. Shows (record { state = state.now; meter = meter.old; options = options.now }) expr.now answer
         × IsPaid (list_any uses_units (parts_of expr.now)) meter.old meter.new)
-        (IsWhyEnded (record { state = state.now; meter = meter.old; at = at.now }) (s.Show expr.now) meter.new) }
-    ensures goes_on { IfOk result (λ _. GoesOn (StatementEnds (record { state = state.now; meter = meter.old; at = at.now }) (s.Show expr.now))) }
+        (IsWhyEnded (record { state = state.now; meter = meter.old; options = options.now }) (s.Show expr.now) meter.new) }
+    ensures goes_on { IfOk result (λ _. GoesOn (StatementEnds (record { state = state.now; meter = meter.old; options = options.now }) (s.Show expr.now))) }
 {
     match expr {
-        Expr::Prefix(_, operand) => listed(alloc, operand.get(), state, at, meter),
+        Expr::Prefix(_, operand) => listed(alloc, operand.get(), state, options, meter),
         Expr::Row(first, links) => match links.as_slice().split_last() {
             Some((last, before)) => truth_shown(alloc, first.get(), before, last, state, meter),
             None => unreachable!(),
@@ -297,19 +252,19 @@ pub(crate) fn shown(
     alloc: Global,
     expr: &Expr,
     state: &State,
-    at: &[(Name, i128)],
+    options: &Options,
     meter: &mut Meter,
-) -> Result<Line, Refusal>
+) -> Result<Answer, Refusal>
     requires evaluable { IsEvaluable (scope_of state.now) (s.Show expr.now) }
     requires fits { Fits (limit_of meter.old) state.now }
     ensures made { MatchResult result
-        (λ line. Shows (record { state = state.now; meter = meter.old; at = at.now }) expr.now (answer_of line)
+        (λ answer. Shows (record { state = state.now; meter = meter.old; options = options.now }) expr.now answer
         × IsPaid (list_any uses_units (parts_of expr.now)) meter.old meter.new)
-        (IsWhyEnded (record { state = state.now; meter = meter.old; at = at.now }) (s.Show expr.now) meter.new) }
-    ensures goes_on { IfOk result (λ _. GoesOn (StatementEnds (record { state = state.now; meter = meter.old; at = at.now }) (s.Show expr.now))) }
+        (IsWhyEnded (record { state = state.now; meter = meter.old; options = options.now }) (s.Show expr.now) meter.new) }
+    ensures goes_on { IfOk result (λ _. GoesOn (StatementEnds (record { state = state.now; meter = meter.old; options = options.now }) (s.Show expr.now))) }
 {
     if is_asked(expr) {
-        asked_shown(alloc, expr, state, at, meter)
+        asked_shown(alloc, expr, state, options, meter)
     } else {
         value_shown(alloc, expr, state, meter)
     }

@@ -20,7 +20,7 @@ use Rattle.isl_space.specs.Limits.{most_script_bytes, most_statement_bytes}
 use Rattle.isl_session.specs.Place.{Place, at_words, in_statement, too_long, past_limit, at_end, at_read, at_write, anywhere, place_of}
 use Rattle.isl_session.specs.View.{View, AreShort, BreaksIn, Carries, Stopped, moment_of}
 use Rattle.isl_session.specs.Status.{StatusView}
-use Rattle.isl_session.specs.Run.{Answered, Ended, HasCause, OfFirst, Outside, Progress}
+use Rattle.isl_session.specs.Run.{Answered, AreInFront, Ended, HasCause, OfFirst, Outside, Progress}
 use Rattle.isl_session.specs.Valid.{AreValid, IsDoneOrMemory, IsValidScript}
 use Rattle.isl_session.proofs.ScriptLemmas.{statements-ended}
 use Rattle.isl_session.proofs.FedLemmas.{fed_ready}
@@ -138,16 +138,16 @@ module _ (first : Moment) (script : List ℕ) (valid : IsValidScript first scrip
     (no_spent : ¬ (Rose first.meter.spents now.spents)) where
   -- the first statement ahead has no cause
   first_ahead : (refusal : Refusal) (ahead : List (List ℕ)) → progress.ahead ≡ ahead
-      → OfFirst (λ bytes. (length bytes ≤ most_statement_bytes)
-      × Refuses (started (record { state = progress.state; meter = progress.meter; at = first.at })) bytes now refusal) ahead
+      → OfFirst (λ bytes. AreInFront taken progress.done bytes × (length bytes ≤ most_statement_bytes)
+      × Refuses (started (record { state = progress.state; meter = progress.meter; options = first.options })) bytes now refusal) ahead
       → refusal ≡ NoMemory
   first_ahead refusal [] is cause = absurd cause
   first_ahead refusal (bytes ∷ later) is cause =
       let split = ap statements (sym (take_all most_script_bytes script valid.within)) ∙ progress.split
       ∙ ap (λ (l : List (List ℕ)). progress.done ++ l) is in
-      let moment : Moment = record { state = progress.state; meter = progress.meter; at = first.at } in
+      let moment : Moment = record { state = progress.state; meter = progress.meter; options = first.options } in
       no_cause_behind first.meter moment bytes now progress.carried
-      (valid.parts.each progress.done bytes later progress.answers moment split progress.run) no_overflow no_spent refusal cause.1
+      (valid.parts.each progress.done bytes later progress.answers moment split progress.run) no_overflow no_spent refusal cause.2
 
   only_memory : (refusal : Refusal) (place : Place) → place_of refusal ≡ place
       → HasCause first script progress taken now old new refusal place → refusal ≡ NoMemory
@@ -160,7 +160,7 @@ module _ (first : Moment) (script : List ℕ) (valid : IsValidScript first scrip
       let split : statements script ≡ progress.done ++ progress.ahead = ap statements (sym whole) ∙ progress.split in
       let next = short_next progress.done progress.ahead (rest_of script)
       (subst (λ (ps : List (List ℕ)). AreShort ps (rest_of script)) split valid.short) in
-      absurd (omega (arith, cause, next, ap (λ (l : List ℕ). length (next_part progress.ahead (rest_of l))) whole))
+      absurd (omega (arith, cause.0, next, ap (λ (l : List ℕ). length (next_part progress.ahead (rest_of l))) whole))
   only_memory refusal past_limit at cause = absurd (omega (arith, cause.1, valid.within, ap length script_is, length-append taken left))
   only_memory refusal anywhere at cause = memory_only refusal at
   only_memory refusal in_statement at cause = first_ahead refusal progress.ahead refl cause

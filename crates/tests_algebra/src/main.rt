@@ -10,7 +10,7 @@ ghost use Rattle.isl_union.specs.Numbers.{IsWithinLimit};
 ghost use Rattle.isl_values.specs.State.{Fits};
 
 use isl_coalesce::coalesce;
-use isl_eval::answer;
+use isl_eval::{Options, answer};
 use isl_gist::gist;
 use isl_meter::{Cut, Meter};
 use isl_print::text_of;
@@ -28,15 +28,8 @@ fn bound(alloc: Global, literal: &str, meter: &mut Meter) -> Result<State, Alloc
 {
     let statement = format!(in alloc; "a := {literal}")?;
     let mut state = State::new(alloc);
-    let mut text = Vec::new(alloc);
-    let _tally = answer(
-        alloc,
-        statement.as_bytes(),
-        &mut state,
-        &[],
-        meter,
-        &mut text,
-    );
+    let options = Options::new(127, 10_000_000, Vec::new(alloc), false);
+    let _answered = answer(alloc, statement.as_bytes(), &mut state, &options, meter);
     Ok(state)
 }
 

@@ -1,5 +1,4 @@
 use Rattle.isl_meter.specs.Gauge.{limit_of}
-use Rattle.isl_eval.specs.Evaluation.{answer_of}
 use Rattle.isl_eval.proofs.ShownLaws.{kept_plain, value_shows}
 use Rattle.isl_eval.proofs.shown.value_shown.Goals as goal
 
@@ -13,7 +12,7 @@ pub returns-clause-made : goal.returns-clause-made
 returns-clause-made c = (
   (λ before here at. value_shows before c.args.state.now
       (limit_of c.args.meter.now) c.args.expr.now c.in_ok-value.value.value c.deref.result.now
-      c.requires.kind.0 (answer_of c.in_ok-of_value.field-0) c.requires.kind.1 c.in_ok-value.ensures.made.0 c.deref.ensures
+      c.requires.kind.0 c.in_ok-of_value.field-0 c.requires.kind.1 c.in_ok-value.ensures.made.0 c.deref.ensures
       c.in_ok-of_value.ensures here at),
   c.in_ok-value.ensures.made.1,
 )
