@@ -1,7 +1,7 @@
 -- What is kept of expressions, and what is shown of them.
 use Rattle.std.proofs.Common.{◌≡◌, ◌∙◌, ◌↔◌, inl, inr, refl, sym, ap, ap₂, subst, take, ◌+◌}
 use Rattle.std.proofs.Common.{ℕ, ℤ, Bool, true, false, List, [], ◌∷◌, ◌++◌, length, Option, Some, Result, Ok, Err}
-use Rattle.std.specs.Prelude.{unsigned_abs, ◌||◌, if◌then◌else◌}
+use Rattle.std.specs.Prelude.{unsigned_abs, ◌||◌, if◌then◌else◌, IfOk, MatchResult}
 use Rattle.std.specs.List.{All, list_any}
 use Rattle.std.proofs.lemmas.Bool.{false≢true, or_parts}
 use Rattle.std.specs.List.{slice_get}
@@ -420,7 +420,7 @@ pub kept_type : (state : StateView) (meter : Gauge) (expr : Expr) (value : KeptV
     → IsKeptOf state (limit_of meter) expr value → t ≡ type_of (record { kind = t.kind; value = value })
 kept_type state meter expr value t typed kept =
     ap (λ (ps : List Name). record { kind = t.kind; params = ps })
-    (sym typed.params ∙ (kept (moment_of state meter []) t.kind refl refl typed.kind).params)
+    (sym typed.params ∙ (kept (moment_of state meter no_options) t.kind refl refl typed.kind).params)
 
 -- the word of what is asked for is `scan`, and the last operator a test
 pub asked_scan : (expr operand : Expr) (word : Word) → expr ≡ e.Prefix word operand → is_asked expr ≡ true → word ≡ p.Scan
