@@ -455,8 +455,8 @@ pub scan_failed : {A : Type 0} (result : Result A ScanFault) (state : StateView)
     → ((w : Valuation) (x : Element) → Has value w x ↔ Selects state operand w x) → v ≡ value → IsCharged g h
     → (result ≡ Err scan_fault.Unbounded → ¬ IsFiniteAt v at) → IsScanFault h k fault → refusal ≡ refusal_of_fault fault
     → GoesOn (Ends state operand) → IsWhyUnworked true (EndsListing state operand at) g k refusal
-scan_failed result state operand at value v g h k (scan_fault.Cut cut) refusal found has same charged endless by is goes =
-    inl (unmade_by g h k cut refusal charged by is)
+scan_failed result state operand at value v g h k (scan_fault.Cut what) refusal found has same charged endless by is goes =
+    inl (unmade_by (EndsListing state operand at) g h k what refusal charged by is (inr (inr (goes, tt))))
 scan_failed result state operand at value v g h k scan_fault.Unbounded refusal found has same charged endless by is goes =
     let listed = infinite_is state operand at value v has same (endless found) in
     inr (unbounded, is, inr (goes, listed), paid_works g k (IsCharged_trans g h k charged by))

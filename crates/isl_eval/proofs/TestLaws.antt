@@ -35,7 +35,8 @@ use Rattle.isl_values.specs.State.{StateView, Moment, HasNumbersUpTo}
 use Rattle.isl_operators.specs.Operations.{OperatorHas}
 use Rattle.isl_operators.proofs.NamesLaws.{turned_fits}
 use Rattle.isl_values.specs.Selection.{Selects, RowSelects, context_of}
-use Rattle.isl_values.specs.Ends.{End, too_wide}
+use Rattle.isl_values.specs.Ends.{End, because, too_wide}
+use Rattle.isl_values.specs.Ends as ends
 use Rattle.isl_values.specs.Made.{IsWhyUnmade, IsWhyUnworked, refusal_of_cut}
 use Rattle.isl_values.proofs.PartLaws.{quiet_both}
 use Rattle.isl_values.proofs.RowLaws.{same_row, same_trans}
@@ -294,10 +295,25 @@ tested_is state operator first operand before one left right l r holds first_has
     ((λ h. e.0 (exact.0 h)), (λ h. exact.1 (e.1 h)))
 
 -- ---- work that is paid, where units may be used
-pub unmade_by : (g h k : Gauge) (cut : Cut) (refusal : Refusal) → IsCharged g h → IsCutBy h k cut → refusal ≡ refusal_of_cut cut
-    → IsWhyUnmade true g k refusal
-unmade_by g h k cut refusal charged by is =
-    record { cut = cut; is = is; by = IsCutBy-after g h k cut charged by; free = λ none. absurd (false≢true (sym none)) }
+pub unmade_by : (Whole : End → Type 0) (g h k : Gauge) (cut : Cut) (refusal : Refusal) → IsCharged g h → IsCutBy h k cut
+    → refusal ≡ refusal_of_cut cut → (cut ≡ NoMemory) ⊎ Whole ends.cut → IsWhyUnmade true Whole g k refusal
+unmade_by Whole g h k cut refusal charged by is there = record {
+  cut = cut;
+  is = is;
+  by = IsCutBy-after g h k cut charged by;
+  there = there;
+  free = λ none. absurd (false≢true (sym none));
+}
+
+-- the work of a test of two values is cut, where they have few enough parameters
+pub test_unmade : (Whole : End → Type 0) (names : List Name) (g h k : Gauge) (cut : Cut) (refusal : Refusal) → IsCharged g h
+    → IsFaultBy names h k (op_fault.Cut cut) → refusal ≡ refusal_of_cut cut → (length names ≤ most_parameters → Whole ends.cut)
+    → IsWhyUnworked true Whole g k refusal
+test_unmade Whole names g h k cut refusal charged by is there = inl (unmade_by Whole g h k cut refusal charged by.1 is (at by.0))
+  where
+    at : (length names ≤ most_parameters) ⊎ (cut ≡ NoMemory) → (cut ≡ NoMemory) ⊎ Whole ends.cut
+    at (inl few) = inr (there few)
+    at (inr memory) = inl memory
 
 pub unworked_on : (works : Bool) (Part Whole : End → Type 0) (g h k : Gauge) (refusal : Refusal)
     → ((why : End) → Part why → Whole why) → IsCharged g h → IsWhyUnworked works Part h k refusal → IsWhyUnworked true Whole g k refusal
@@ -306,7 +322,8 @@ unworked_on works Part Whole g h k refusal ends charged why =
 
 -- a test of what has too many parameters
 pub test_wide : (Whole : End → Type 0) (names : List Name) (g h k : Gauge) (refusal : Refusal) → refusal ≡ TooWide → IsCharged g h
-    → IsFaultBy names h k op_fault.TooWide → (most_parameters < length names → Whole too_wide) → IsWhyUnworked true Whole g k refusal
+    → IsFaultBy names h k op_fault.TooWide → (most_parameters < length names → Whole (because too_wide))
+    → IsWhyUnworked true Whole g k refusal
 test_wide Whole names g h k refusal is charged by ends =
     inr (too_wide, is, ends by.0, paid_works g k (IsCharged_trans g h k charged (IsCharged_refl h k by.1)))
 
