@@ -23,7 +23,7 @@ ghost use Rattle.isl_eval.specs.Evaluation as spec;
 ghost use Rattle.isl_eval.specs.Evaluation.{AreKeptIn, EndsListing, EndsPair, EndsTest, IsKeptIn, IsMakeable, IsReadyTest};
 ghost use Rattle.isl_eval.specs.Evaluation.{IsSampled, IsSimplified, past_row};
 
-use crate::answer::Answer;
+use crate::answers::Answer;
 use crate::test::{ends_with_test, tested};
 use isl_expr::tree::{Binary, Expr, Link, Prefix, ValueKind};
 use isl_gist::gist;
