@@ -6,7 +6,7 @@
 //! once has a name, and each of these is one step.
 #![tactic(auto)]
 
-mod answer;
+mod answers;
 mod shown;
 mod simple;
 mod spelled;
@@ -15,7 +15,7 @@ mod test;
 mod unsupported;
 mod workable;
 
-pub use answer::Answer;
+pub use answers::Answer;
 pub use isl_words::Options;
 pub use simple::eval;
 pub use spelled::one_statement;

@@ -24,7 +24,7 @@ ghost use Rattle.isl_eval.specs.Evaluation as spec;
 ghost use Rattle.isl_eval.specs.Evaluation.{EndsListing, EndsTest, IsKeptOf, IsMakeable, IsReadyTest};
 ghost use Rattle.isl_eval.specs.Evaluation.{IsSampled, past_row};
 
-use crate::answer::Answer;
+use crate::answers::Answer;
 use crate::test::{ends_with_test, tested};
 use isl_expr::tree::{Expr, Link, Prefix};
 use isl_meter::Meter;

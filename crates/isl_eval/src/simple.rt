@@ -16,7 +16,7 @@ ghost use Rattle.isl_values.specs.Selection.{Keeps};
 ghost use Rattle.isl_eval.specs.Machine.{Step};
 ghost use Rattle.isl_eval.specs.Evaluated.{IsEvaluable, IsWhyEnded, works};
 
-use crate::answer::Answer;
+use crate::answers::Answer;
 use crate::shown::{content, shown};
 use isl_expr::tree::{Expr, Stmt};
 use isl_flat::SimpleStmt;

@@ -13,7 +13,7 @@ ghost use Rattle.isl_eval.specs.Run.{Answers};
 ghost use Rattle.isl_eval.specs.Evaluated.{works};
 ghost use Rattle.isl_eval.specs.Evaluation.{AreEvaluable, IsTaken, IsWhyStopped};
 
-use crate::answer::Answer;
+use crate::answers::Answer;
 use crate::simple::eval;
 use crate::spelled::read;
 use crate::workable::check;
