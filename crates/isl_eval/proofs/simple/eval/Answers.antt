@@ -13,7 +13,7 @@ pub returns-in_ok-bound-in-Bind-clause-ok : goal.returns-in_ok-bound-in-Bind-cla
 returns-in_ok-bound-in-Bind-clause-ok c =
     let before = moment_of c.args.state.now c.args.meter.now c.args.options.now in
     let after = moment_of c.bound.new.state c.bound.new.meter c.args.options.now in
-    subst (Step before c.args.stmt.now after) (sym c.nothing-in_ok-bound-in-Bind.ensures)
+    subst (Step before c.args.stmt.now after) (sym c.nothing-in-Bind.ensures)
     (bind_step before c.args.stmt.now after _ _ c.in-Bind.is refl
     c.in_ok-bound-in-Bind.ensures.made.1.charged
     c.in_ok-bound-in-Bind.ensures.goes_on (c.in_ok-bound-in-Bind.ensures.made.0 before refl refl))
