@@ -43,9 +43,11 @@ returns-in-Err-clause-err c =
     (subst (λ (g : Gauge). let m : Moment = record { state = inside.state; meter = g; options = inside.options } in
     Refuses m c.deref.result.now c.answer.new.meter c.in-Err.refusal) begun c.in-Err.ensures.cause) in
     let refused = refused_at_end old c.args.byte c.answer.new.state c.answer.new.meter c.in-Err.refusal c.if-self-ge-SCRIPT_MAX.false
-    ends_there c.in-Err.ensures.err cause (subst (λ (g : Gauge). IsKept g c.answer.new.meter) begun c.in-Err.ensures.meter) in
-    (refl, subst (λ (v : View). IsRefusedAt v c.args.byte c.in-Err.refusal (record old { state = c.answer.new.state; meter = c.answer.new.meter }))
-    c.self.view_is refused)
+    ends_there c.in-Err.ensures.err cause (subst (λ (g : Gauge). IsKept g c.answer.new.meter) begun c.in-Err.ensures.meter) in (
+      refl,
+      subst (λ (v : View). IsRefusedAt v c.args.byte c.in-Err.refusal (record old { state = c.answer.new.state; meter = c.answer.new.meter }))
+          c.self.view_is refused,
+    )
 
 refused_by : {A E : Type 0} (result : Result A E) (P : E → Type 0) (refusal : E) → result ≡ Err refusal → P refusal → IfErr result P
 refused_by result P refusal is h = subst (λ (r : Result _ _). IfErr r P) (sym is) h
