@@ -50,11 +50,7 @@ fn number_of(name: &Name, at: &[(Name, i128)]) -> i128
 }
 
 // The numbers that parameters are given.
-fn numbers_of(
-    alloc: Global,
-    params: &Params,
-    options: &Options,
-) -> Result<Vec<i128>, AllocError>
+fn numbers_of(alloc: Global, params: &Params, options: &Options) -> Result<Vec<i128>, AllocError>
     ensures { IfOk result (λ numbers. numbers.items ≡ valuation.values_of params.now options.now.at) }
 {
     let mut numbers = Vec::new(alloc);

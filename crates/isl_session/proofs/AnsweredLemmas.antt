@@ -197,15 +197,19 @@ module _ (first : Moment) (script : List ℕ) (old new : Outside) (status : Stat
         statements-end stopped.front stopped.byte ended,
       )
 
+      abbrev refused_next : List ℕ → Type 0
+      refused_next bytes =
+          AreInFront taken so_far.done bytes × (length bytes ≤ most_statement_bytes)
+          × Refuses (started (record { state = so_far.state; meter = so_far.meter; options = first.options })) bytes session.meter refusal
+
       refused_first : stopped.at_front.taken < most_script_bytes → Ends
-          → OfFirst (λ bytes. AreInFront taken so_far.done bytes × refused_here stopped.at_front bytes) so_far.ahead
+          → OfFirst refused_next so_far.ahead
       refused_first room want =
           let rest = stopped.fed.rest in
           let ended = subst (λ (l : List ℕ). ends l stopped.byte ≡ true) rest want.0 in
           let first_ahead = ahead_first stopped.front stopped.byte more (omega (arith, stopped.fed.taken, room)) ended in
-          let P : List ℕ → Type 0 = λ bytes. AreInFront taken so_far.done bytes × refused_here stopped.at_front bytes in
-          subst (OfFirst P) (sym first_ahead.1)
-          (in_front room ended, subst (refused_here stopped.at_front) rest (stopped.fed.short.last, from_first want.1))
+          let here = subst (refused_here stopped.at_front) rest (stopped.fed.short.last, from_first want.1) in
+          subst (OfFirst refused_next) (sym first_ahead.1) (in_front room ended, here.0, here.1)
 
       refused_in_statement : place_of refusal ≡ in_statement → Answered first script old new status
       refused_in_statement at =
@@ -224,12 +228,14 @@ module _ (first : Moment) (script : List ℕ) (old new : Outside) (status : Stat
           let grown = rest-hold front stopped.byte held in
           halted_at too_long at (
             omega (arith, breaks.2, ap length rest, long, ap (λ (l : List ℕ). length (next_part (ahead_of front (stopped.byte ∷ more)) l)) same),
-            front ++ stopped.byte ∷ [],
-            stopped.behind,
-            stopped.split ∙ sym (append_assoc front (stopped.byte ∷ []) stopped.behind),
-            omega (arith, length_push front stopped.byte, stopped.fed.taken, breaks.0),
-            statements-hold front stopped.byte held,
-            omega (arith, ap length grown, length_push (rest_of front) stopped.byte, breaks.2, ap length rest),
+            (
+              front ++ stopped.byte ∷ [],
+              stopped.behind,
+              stopped.split ∙ sym (append_assoc front (stopped.byte ∷ []) stopped.behind),
+              omega (arith, length_push front stopped.byte, stopped.fed.taken, breaks.0),
+              statements-hold front stopped.byte held,
+              omega (arith, ap length grown, length_push (rest_of front) stopped.byte, breaks.2, ap length rest),
+            ),
           ) gained_is number
 
       refused_anywhere : place_of refusal ≡ anywhere → Answered first script old new status

@@ -10,13 +10,14 @@ ghost use Rattle.isl_union.specs.Numbers.{IsWithinLimit};
 ghost use Rattle.isl_values.specs.State.{Fits};
 
 use isl_coalesce::coalesce;
-use isl_eval::{Options, answer};
+use isl_eval::answer;
 use isl_gist::gist;
 use isl_meter::{Cut, Meter};
 use isl_print::text_of;
 use isl_space::Name;
 use isl_union::{OpFault, Value};
 use isl_values::State;
+use isl_words::read_words;
 use std::alloc::{AllocError, Global};
 use std::io;
 use tests_made::Count;
@@ -28,7 +29,10 @@ fn bound(alloc: Global, literal: &str, meter: &mut Meter) -> Result<State, Alloc
 {
     let statement = format!(in alloc; "a := {literal}")?;
     let mut state = State::new(alloc);
-    let options = Options::new(127, 10_000_000, Vec::new(alloc), false);
+    let words = [String::from_str(alloc, "iscc")?];
+    let Ok(options) = read_words(alloc, &words) else {
+        return Ok(state);
+    };
     let _answered = answer(alloc, statement.as_bytes(), &mut state, &options, meter);
     Ok(state)
 }

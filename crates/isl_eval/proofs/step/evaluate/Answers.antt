@@ -1,4 +1,4 @@
-use Rattle.std.proofs.Common.{◌<◌, ◌∷◌, ◌++◌, arith, length, refl, subst, [], rules}
+use Rattle.std.proofs.Common.{◌<◌, ◌∷◌, ◌++◌, arith, length, subst, [], rules}
 use Rattle.isl_values.specs.State.{scope_of}
 use Rattle.isl_eval.specs.Evaluation.{AreEvaluable}
 use Rattle.isl_eval.proofs.ShownLaws.{moment_of}

@@ -1,4 +1,6 @@
 use Rattle.std.proofs.Common.{◌≡◌, ◌+◌, ◌∷◌, [], ◌++◌, ◌∙◌, List, ℕ, true, false, arith, ap, length, sym, subst, refl, vec_capacity}
+use Rattle.std.proofs.Common.{Result, Err, rules}
+use Rattle.std.specs.Prelude.{IfErr}
 use Rattle.std.proofs.lemmas.List.{append-nil, length_push}
 use Rattle.isl_meter.specs.Gauge.{Gauge, IsKept, limit_of}
 use Rattle.isl_meter.proofs.CutLemmas.{IsKept-charged}
@@ -8,6 +10,7 @@ use Rattle.isl_script.specs.Cutter.{IsAt}
 use Rattle.isl_script.proofs.ScriptLaws.{depth-le-length, open_nil, open_push}
 use Rattle.isl_values.specs.State.{Moment, Fits}
 use Rattle.isl_eval.specs.Causes.{Refuses}
+use Rattle.isl_eval.specs.Machine.{Answer}
 use Rattle.isl_eval.specs.Run.{Answers, started}
 use Rattle.isl_session.specs.declared.counts.Counts.{Counts}
 use Rattle.isl_session.specs.View.{View, Fed, IsRefusedAt, moment_of}
@@ -40,34 +43,41 @@ returns-in-Err-clause-err c =
     (subst (λ (g : Gauge). let m : Moment = record { state = inside.state; meter = g; options = inside.options } in
     Refuses m c.deref.result.now c.answer.new.meter c.in-Err.refusal) begun c.in-Err.ensures.cause) in
     let refused = refused_at_end old c.args.byte c.answer.new.state c.answer.new.meter c.in-Err.refusal c.if-self-ge-SCRIPT_MAX.false
-    ends_there c.in-Err.ensures.err cause (subst (λ (g : Gauge). IsKept g c.answer.new.meter) begun c.in-Err.ensures.meter) in
-    (refl, subst (λ (v : View). IsRefusedAt v c.args.byte c.in-Err.refusal (record old { state = c.answer.new.state; meter = c.answer.new.meter }))
-    c.self.view_is refused)
+    ends_there c.in-Err.ensures.err cause (subst (λ (g : Gauge). IsKept g c.answer.new.meter) begun c.in-Err.ensures.meter) in (
+      refl,
+      subst (λ (v : View). IsRefusedAt v c.args.byte c.in-Err.refusal (record old { state = c.answer.new.state; meter = c.answer.new.meter }))
+          c.self.view_is refused,
+    )
+
+refused_by : {A E : Type 0} (result : Result A E) (P : E → Type 0) (refusal : E) → result ≡ Err refusal → P refusal → IfErr result P
+refused_by result P refusal is h = subst (λ (r : Result _ _). IfErr r P) (sym is) h
 
 -- the answer, from a meter that begins anew
-answered_here : (c : goal.in-Ok) → Answers (started (moment_of (view_of c.self.inside))) c.self.inside.rest.items
-    (record { state = c.answer.new.state; meter = c.answer.new.meter; options = c.self.inside.options }) c.in-Ok.answered
-answered_here c =
-    let inside = c.self.inside in
-    let after : Moment = record { state = c.answer.new.state; meter = c.answer.new.meter; options = inside.options } in
-    let begun : c.start.new.self ≡ record inside.meter { units = 0 } = c.start.ensures in
-    subst (λ (bytes : List ℕ). Answers (started (moment_of (view_of inside))) bytes after c.in-Ok.answered) c.deref.ensures.value
-    (subst (λ (g : Gauge). let m : Moment = record { state = inside.state; meter = g; options = inside.options } in
-    Answers m c.deref.result.now after c.in-Ok.answered) begun c.in-Ok.ensures.ok)
+answered_here : (old : View) (bytes : List ℕ) (began : Gauge) (after : Moment) (answer : Answer) → began ≡ record old.meter { units = 0 }
+    → bytes ≡ old.rest → (let m : Moment = record { state = old.state; meter = began; options = old.options } in Answers m bytes after answer)
+    → Answers (started (moment_of old)) old.rest after answer
+answered_here old bytes began after answer begun same h =
+    subst (λ (l : List ℕ). Answers (started (moment_of old)) l after answer) same
+    (subst (λ (g : Gauge). let m : Moment = record { state = old.state; meter = g; options = old.options } in Answers m bytes after answer)
+    begun h)
 
 pub returns-in_err-append_to-clause-err : goal.returns-in_err-append_to-clause-err
 returns-in_err-append_to-clause-err c =
     let inside = c.self.inside in
     let old = view_of inside in
     let ends_there : ends inside.rest.items c.args.byte ≡ true = sym (c.if-push.ensures.ends inside.rest.items c.self.invariant.place) in
-    let answers = answered_here c in
+    let after : Moment = record { state = c.answer.new.state; meter = c.answer.new.meter; options = inside.options } in
+    let answers = answered_here old c.deref.result.now c.start.new.self after c.in-Ok.answered c.start.ensures c.deref.ensures.value
+    c.in-Ok.ensures.ok in
     let refused = refused_at_end old c.args.byte c.answer.new.state c.answer.new.meter NoMemory c.if-self-ge-SCRIPT_MAX.false ends_there
     (c.in-Ok.ensures.shown c.in_err-append_to.ensures.err.1)
     (no_room_for (started (moment_of old)) inside.rest.items _ c.in-Ok.answered answers)
     (IsKept-charged (record inside.meter { units = 0 }) c.answer.new.meter answers.meter) in
-    (c.in_err-append_to.ensures.err.0,
-    subst (λ (v : View). IsRefusedAt v c.args.byte NoMemory (record old { state = c.answer.new.state; meter = c.answer.new.meter }))
-    c.self.view_is refused)
+    refused_by c.from_residual.result _ NoMemory (search rules) (
+      c.in_err-append_to.ensures.err.0,
+      subst (λ (v : View). IsRefusedAt v c.args.byte NoMemory (record old { state = c.answer.new.state; meter = c.answer.new.meter }))
+          c.self.view_is refused,
+    )
 
 pub invariant_of-self-then-push : goal.invariant_of-self-then-push
 invariant_of-self-then-push c =
@@ -94,7 +104,8 @@ returns-then-push-clause-ok c =
     let ready = sound_ready inside c.self.invariant sound in
     let answer = c.in-Ok.answered in
     let ends_there : ends rest c.args.byte ≡ true = sym (c.if-push.ensures.ends rest c.self.invariant.place) in
-    let step = answered_here c in
+    let after : Moment = record { state = c.answer.new.state; meter = c.answer.new.meter; options = inside.options } in
+    let step = answered_here old c.deref.result.now c.start.new.self after answer c.start.ensures c.deref.ensures.value c.in-Ok.ensures.ok in
     let new : View = record {
       state = c.answer.new.state;
       rest = c.clear.new.self.items;
@@ -110,7 +121,7 @@ returns-then-push-clause-ok c =
     let fed = fed_end old ready c.args.byte new c.if-self-ge-SCRIPT_MAX.false refl sound carried
     (omega (arith, c.clear.ensures.capacity)) refl answer ends_there step c.clear.ensures.items counts in (
       answer.bytes ∷ [],
-      c.in_ok-append_to.ensures ∙ ap (λ (l : List ℕ). c.args.text.now.items ++ l) (sym (append-nil answer.bytes)),
+      c.in_ok-append_to.ensures.ok ∙ ap (λ (l : List ℕ). c.args.text.now.items ++ l) (sym (append-nil answer.bytes)),
       subst (λ (v : View). Fed v (c.args.byte ∷ []) (answer.bytes ∷ []) new) c.self.view_is fed,
       omega arith,
       λ bad. absurd (let no : ⊥ = cc in no),
