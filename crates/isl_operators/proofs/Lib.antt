@@ -4,3 +4,4 @@ pub mod WideLaws
 pub mod FaultLaws
 pub mod SpaceLaws
 pub mod MadeLaws
+mod PairingLaws

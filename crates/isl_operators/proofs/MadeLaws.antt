@@ -1,5 +1,5 @@
 -- What a call says of an operator, a word or an application, where it is that one.
-use Rattle.std.proofs.Common.{◌≡◌, ◌↔◌, ◌⊎◌, inl, inr, sym, subst, List}
+use Rattle.std.proofs.Common.{◌≡◌, ◌↔◌, ◌⊎◌, inl, inr, sym, subst, List, []}
 use Rattle.std.specs.Prelude.{Result, Ok, Err, IfOk, MatchResult}
 use Rattle.isl_meter.specs.Gauge.{Gauge}
 use Rattle.isl_space.specs.Element.{Element}
@@ -36,6 +36,13 @@ intersection_of left right (Ok value) params elements pieces = record {
 }
 intersection_of left right (Err fault) params elements pieces = tt
 
+-- of one or the other, where the other is never
+pub first_alone : (A B Has : Type 0) → ¬ B → Has ↔ A → Has ↔ (A ⊎ B)
+first_alone A B Has never one = ((λ has. inl (one.0 has)), (λ either. elim either [ inl a ↦ one.1 a | inr b ↦ absurd (never b) ]))
+
+pub second_alone : (A B Has : Type 0) → ¬ A → Has ↔ B → Has ↔ (A ⊎ B)
+second_alone A B Has never one = ((λ has. inr (one.0 has)), (λ either. elim either [ inl a ↦ absurd (never a) | inr b ↦ one.1 b ]))
+
 -- one or the other of what is the same
 pub either_same : (A B C D Has : Type 0) → A ↔ C → B ↔ D → Has ↔ (A ⊎ B) → Has ↔ (C ⊎ D)
 either_same A B C D Has one other either = (
@@ -59,22 +66,14 @@ module _ (operand : KeptValue) (g h : Gauge) (r : Result KeptValue OpFault) wher
   WordSays word =
       IfOk r (IsWordOf word operand)
       × ((valuation : Valuation) (element : Element)
-      → IfOk r (λ value. Has value valuation element ↔ WordHas word (Has operand valuation) element))
+      → IfOk r (λ value. Has value valuation element ↔ WordHas word operand.params (Has operand) valuation element))
       × IfOk r (λ _. ¬ FormsWide (WordForms word) (Has operand))
       × MatchResult r (λ _. IsPaid (word_works word) g h)
-      (IsWhyNone operand.params (FormsWide (WordForms word) (Has operand)) (word_works word) g h)
+      (IsWhyNone [] (FormsWide (WordForms word) (Has operand)) (word_works word) g h)
 
   -- what is said of one word is said of the word that is that one
-  pub word_says : (word one : Prefix) → word ≡ one → IfOk r (λ value. value.params ≡ operand.params)
-      → ((valuation : Valuation) (element : Element)
-      → IfOk r (λ value. Has value valuation element ↔ WordHas one (Has operand valuation) element))
-      → IfOk r (λ _. ¬ FormsWide (WordForms one) (Has operand))
-      → MatchResult r (λ _. IsPaid (word_works one) g h)
-      (IsWhyNone operand.params (FormsWide (WordForms one) (Has operand)) (word_works one) g h)
-      → WordSays word
-  word_says word one is params elements narrow units =
-      subst WordSays (sym is)
-      (over operand.params (λ valuation element. WordHas one (Has operand valuation) element) r params elements, elements, narrow, units)
+  pub word_says : (word one : Prefix) → word ≡ one → WordSays one → WordSays word
+  word_says word one is says = subst WordSays (sym is) says
 
 -- ---- operators
 module _ (left right : KeptValue) (g h : Gauge) (r : Result KeptValue OpFault) where

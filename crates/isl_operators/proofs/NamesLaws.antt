@@ -1,5 +1,5 @@
 -- The names of two operands, joined once more.
-use Rattle.std.proofs.Common.{◌≡◌, ◌∙◌, ◌≤◌, ◌⊎◌, inl, inr, refl, sym, ap, subst}
+use Rattle.std.proofs.Common.{◌≡◌, ◌∙◌, ◌≤◌, ◌⊎◌, inl, inr, refl, sym, ap, subst, arith}
 use Rattle.std.proofs.Common.{Bool, true, false, not, List, [], ◌∷◌, ◌++◌, length, get_or}
 use Rattle.std.proofs.Common.{All, Contains, filter}
 use Rattle.std.specs.Cmp.Lexicographic.{nat_list_eq_equiv}
@@ -58,6 +58,13 @@ module _ (left right : List Name) (one : AreDistinct left) (two : AreDistinct ri
   joined-second =
       joined-nothing_new (joined left right) right
       (λ i d within. is_among-Contains (joined left right) (get_or right i d) (second_there _ (All-contains_itself right i d within)))
+
+-- exactly as many
+pub turned_long : (left right : List Name) → AreDistinct left → AreDistinct right → length (joined right left) ≡ length (joined left right)
+turned_long left right one two =
+    let more = turned_fits left right one two in
+    let less = turned_fits right left two one in
+    omega (arith, more, less)
 
 filter_all : (test : Name → Bool) (names : List Name) → All (λ n. test n ≡ true) names → filter test names ≡ names
 filter_all test [] all = refl

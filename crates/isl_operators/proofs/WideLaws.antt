@@ -53,6 +53,12 @@ module _ (One Other : SpaceForm → SpaceForm → SpaceForm → Type 0) (L R : V
     | inr forms ↦ second (w.0, w.1, w.2, w.3, w.4, forms, w.6)
   ]
 
+-- where neither is formed too wide of two values
+pub both_narrow : (One Other : SpaceForm → SpaceForm → SpaceForm → Type 0) (a b : KeptValue) → ¬ PairsTooWide One a b
+    → ¬ PairsTooWide Other a b → ¬ PairsWide (λ s t formed. One s t formed ⊎ Other s t formed) (Has a) (Has b)
+both_narrow One Other a b first second =
+    neither_wide One Other (Has a) (Has b) (pairs_narrow One a b first) (pairs_narrow Other a b second)
+
 module _ (Forms : SpaceForm → SpaceForm → SpaceForm → Type 0) (L R : Valuation → Element → Type 0) where
   pub turned_wide : PairsWide Forms R L → PairsWide (λ s t formed. Forms t s formed) L R
   turned_wide w = (w.1, w.0, w.2, w.4, w.3, w.5, w.6)

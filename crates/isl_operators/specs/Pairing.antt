@@ -1,5 +1,5 @@
 -- inner: what operators make of two sets, and of two maps.
-use Rattle.std.specs.Prelude.{◌≡◌, ◌⊎◌}
+use Rattle.std.specs.Prelude.{◌⊎◌}
 use Rattle.isl_space.specs.Element.{Element}
 use Rattle.isl_space.specs.SpaceForm.{SpaceForm, IsTooWideSpace}
 use Rattle.isl_relation.specs.Formed.{FormsAccess, FormsCrossMaps, FormsCrossSets, FormsSame}

@@ -7,6 +7,7 @@ mod fault;
 mod operators;
 mod pairing;
 mod spaces;
+mod wide;
 mod words;
 
 pub use application::applied;

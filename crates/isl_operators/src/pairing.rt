@@ -1,29 +1,26 @@
 //! What operators make of two sets, and of two maps.
 
-ghost use Rattle.std.specs.Prelude.{◌≡◌, ◌↔◌, ◌⊎◌, ◌×◌, All, Any, IfOk, IsTrue};
+ghost use Rattle.std.specs.Prelude.{◌≡◌, ◌↔◌, IfOk};
 ghost use Rattle.isl_space.specs.Element.{Element};
 ghost use Rattle.isl_space.specs.Names.{joined};
-ghost use Rattle.isl_space.specs.Space.{space_form_of};
-ghost use Rattle.isl_space.specs.SpaceForm.{IsWellFormedSpace};
 ghost use Rattle.isl_space.specs.Valuation.{Valuation};
 ghost use Rattle.isl_relation.specs.Together.{IsFormedFrom};
 ghost use Rattle.isl_relation.specs.Wide.{PairsTooWide};
 ghost use Rattle.isl_union.specs.KeptValue.{Has, HasNoDefinitions, IsKeptValue};
 ghost use Rattle.isl_union.specs.Numbers.{IsWithinLimit};
 ghost use Rattle.isl_operators.specs.Formed.{PairsWide};
-ghost use Rattle.isl_operators.specs.Pairing.{IsWideOfSets, MapsForm, MapsHave, PairingForms, PairingHas, SetsForm, SetsHave};
+ghost use Rattle.isl_operators.specs.Pairing.{MapsForm, MapsHave, PairingForms, PairingHas, SetsForm, SetsHave};
 
 use crate::spaces::{have_maps, have_sets};
+use crate::wide::have_wide_sets;
 use isl_maps::{cross_maps, cross_sets};
 use isl_meter::Meter;
 use isl_orders::{
     greater_eq_maps, greater_eq_sets, greater_maps, greater_sets, less_eq_maps, less_eq_sets,
     less_maps, less_sets,
 };
-use isl_piece::Piece;
-use isl_space::Space;
 use isl_union::{OpFault, Value};
-use std::alloc::{AllocError, Global};
+use std::alloc::Global;
 
 /// An operator that pairs the elements of two sets in one way, and those of two maps in another.
 #[derive(Clone, Copy)]
@@ -96,59 +93,6 @@ fn of_maps(
     }
 }
 
-// Whether two spaces are of sets, of one shape where they are compared, and the space that it forms of them is too wide.
-fn is_wide_of_sets(pairing: Pairing, first: &Space, second: &Space) -> Result<bool, AllocError>
-    requires first { IsWellFormedSpace (space_form_of first.now) }
-    requires second { IsWellFormedSpace (space_form_of second.now) }
-    ensures { IfOk result (λ wide. IsTrue wide ↔ IsWideOfSets pairing (space_form_of first.now) (space_form_of second.now)) }
-{
-    let (Space::Set(x), Space::Set(y)) = (first, second) else {
-        return Ok(false);
-    };
-    let paired = match pairing {
-        Pairing::Cross => true,
-        Pairing::Less | Pairing::LessEqual | Pairing::Greater | Pairing::GreaterEqual => x.same(y),
-    };
-    if !paired {
-        return Ok(false);
-    }
-    // A pair of shapes is as wide as the map from the one to the other.
-    Ok(Space::map(x.clone()?, y.clone()?).is_err())
-}
-
-// Whether it forms a space that is too wide of the piece's and of one of the others'.
-fn has_wide_of_sets(pairing: Pairing, piece: &Piece, others: &[Piece]) -> Result<bool, AllocError>
-    requires piece { IsWellFormedSpace piece.now.space }
-    requires others { All (λ other. IsWellFormedSpace other.space) others.now }
-    ensures { IfOk result (λ wide. IsTrue wide ↔ Any (λ other. IsWideOfSets pairing piece.now.space other.space) others.now) }
-{
-    for other in others {
-        if is_wide_of_sets(pairing, piece.space(), other.space())? {
-            return Ok(true);
-        }
-    }
-    Ok(false)
-}
-
-// Whether it forms a space that is too wide of those of two sets.
-fn have_wide_of_sets(
-    pairing: Pairing,
-    pieces: &[Piece],
-    others: &[Piece],
-) -> Result<bool, AllocError>
-    requires pieces { All (λ piece. IsWellFormedSpace piece.space) pieces.now }
-    requires others { All (λ other. IsWellFormedSpace other.space) others.now }
-    ensures { IfOk result (λ wide. IsTrue wide
-        ↔ Any (λ piece. Any (λ other. IsWideOfSets pairing piece.space other.space) others.now) pieces.now) }
-{
-    for piece in pieces {
-        if has_wide_of_sets(pairing, piece, others)? {
-            return Ok(true);
-        }
-    }
-    Ok(false)
-}
-
 // What it makes of the sets of both, and of the maps of both. Where each has sets and maps, the spaces of the sets are asked before any
 // work is done on the maps.
 pub(crate) fn paired(
@@ -170,13 +114,15 @@ pub(crate) fn paired(
     ensures units { IsFormedFrom (joined left.now.params right.now.params) (PairsWide (PairingForms pairing) (Has left.now) (Has right.now)) 0
         meter.old meter.new result }
 {
+    let pieces = left.pieces();
+    let others = right.pieces();
     if !have_sets(left, right) {
         return of_maps(alloc, pairing, left, right, meter);
     }
     if !have_maps(left, right) {
         return of_sets(alloc, pairing, left, right, meter);
     }
-    if have_wide_of_sets(pairing, left.pieces(), right.pieces())? {
+    if have_wide_sets(pairing, pieces, others)? {
         return Err(OpFault::TooWide);
     }
     let maps = of_maps(alloc, pairing, left, right, meter)?;

@@ -35,14 +35,14 @@ pub(crate) fn has_sets(value: &Value) -> bool
 
 /// Whether both have maps.
 pub(crate) fn have_maps(left: &Value, right: &Value) -> bool
-    ensures told { IsTrue result ↔ (HasMaps left.now × HasMaps right.now) }
+    ensures { IsTrue result ↔ (HasMaps left.now × HasMaps right.now) }
 {
     has_maps(left) && has_maps(right)
 }
 
 /// Whether both have sets.
 pub(crate) fn have_sets(left: &Value, right: &Value) -> bool
-    ensures told { IsTrue result ↔ (HasSets left.now × HasSets right.now) }
+    ensures { IsTrue result ↔ (HasSets left.now × HasSets right.now) }
 {
     has_sets(left) && has_sets(right)
 }

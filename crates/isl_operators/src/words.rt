@@ -22,12 +22,7 @@ use isl_union::{OpFault, Value};
 use std::alloc::Global;
 
 // What a word makes of a value that moves its columns, doubles them or takes them out.
-fn moved(
-    alloc: Global,
-    word: Prefix,
-    operand: &Value,
-    meter: &mut Meter,
-) -> Result<Value, OpFault>
+fn moved(alloc: Global, word: Prefix, operand: &Value, meter: &mut Meter) -> Result<Value, OpFault>
     requires moving { is_moving word ≡ true }
     requires within { IsWithinLimit meter.old operand.now }
     ensures written { IfOk result (IsWordOf word operand.now) }

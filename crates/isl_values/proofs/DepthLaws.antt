@@ -4,11 +4,12 @@ use Rattle.std.proofs.Common.{◌≡◌, ◌∙◌, ◌<◌, ◌+◌, ℕ, zero,
 use Rattle.isl_expr.specs.declared.tree.Prefix.{Prefix as Word}
 use Rattle.isl_expr.specs.declared.tree.Link.{Link}
 use Rattle.isl_expr.specs.declared.tree.Postfix.{Postfix, Apply}
-use Rattle.isl_expr.specs.declared.tree.Expr.{Expr, Row, Prefix, Post, Row_of-Link, end_of-Link, more_of-Link}
+use Rattle.isl_expr.specs.declared.tree.Expr.{Expr, Row, Prefix, Any, Last, Post, Row_of-Link, end_of-Link, more_of-Link}
 use Rattle.isl_expr.specs.declared.tree.Expr.{Row_of-Postfix, end_of-Postfix, more_of-Postfix, items-the_row-Link, items-the_row-Postfix}
 use Rattle.isl_expr.specs.declared.tree.Expr.{items_hidden-the_row-Link-1, items_hidden-the_row-Postfix-2}
 use Rattle.isl_expr.specs.declared.tree.Expr.TheBlock.{hidden-the_row-Expr-0, hidden-the_row-Link-1, hidden-the_row-Postfix-2}
 use Rattle.isl_values.specs.Depth.{depth_of, depth_of_postfix, depth_in_links, depth_in_postfixes, depth_of_links, depth_of_postfixes}
+use Rattle.isl_values.specs.Depth.{depth_of_three}
 
 -- ---- rows
 links_are : (m : Count) (row : Row_of-Link m) → depth_in_links row ≡ depth_of_links (items-the_row-Link m row)
@@ -46,6 +47,32 @@ pub argument_smaller : (expr : Expr) (word : Word) (operand : Expr) → expr ≡
 argument_smaller expr word operand is =
     let whole : depth_of expr ≡ 1 + depth_of operand = ap depth_of is ∙ depth_of-Prefix word operand in
     omega (arith, whole)
+
+-- ---- source, sink and schedule
+depth_of-Any : (source sink schedule : Expr) → depth_of (Any source sink schedule) ≡ 1 + depth_of_three source sink schedule
+unfolding hidden-the_row-Expr-0 denote.Hole.Carrier.hidden
+depth_of-Any source sink schedule = refl
+
+depth_of-Last : (source sink schedule : Expr) → depth_of (Last source sink schedule) ≡ 1 + depth_of_three source sink schedule
+unfolding hidden-the_row-Expr-0 denote.Hole.Carrier.hidden
+depth_of-Last source sink schedule = refl
+
+pub any_smaller : (expr source sink schedule : Expr) → expr ≡ Any source sink schedule
+    → depth_of_three source sink schedule < depth_of expr
+any_smaller expr source sink schedule is = let whole = ap depth_of is ∙ depth_of-Any source sink schedule in omega (arith, whole)
+
+pub last_smaller : (expr source sink schedule : Expr) → expr ≡ Last source sink schedule
+    → depth_of_three source sink schedule < depth_of expr
+last_smaller expr source sink schedule is = let whole = ap depth_of is ∙ depth_of-Last source sink schedule in omega (arith, whole)
+
+pub source_smaller : (source sink schedule : Expr) → depth_of source < depth_of_three source sink schedule
+source_smaller source sink schedule = omega arith
+
+pub sink_smaller : (source sink schedule : Expr) → depth_of sink < depth_of_three source sink schedule
+sink_smaller source sink schedule = omega arith
+
+pub schedule_smaller : (source sink schedule : Expr) → depth_of schedule < depth_of_three source sink schedule
+schedule_smaller source sink schedule = omega arith
 
 -- ---- what follows an operand
 postfixes_are : (m : Count) (row : Row_of-Postfix m) → depth_in_postfixes row ≡ depth_of_postfixes (items-the_row-Postfix m row)

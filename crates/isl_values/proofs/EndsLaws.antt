@@ -4,37 +4,30 @@ use Rattle.std.proofs.Common.{◌≡◌, ◌∙◌, ◌↔◌, inl, inr, ◌<◌
 use Rattle.std.proofs.Common.{sym, ap, subst, arith}
 use Rattle.std.proofs.lemmas.List.{take_more}
 use Rattle.isl_space.specs.Name.{Name}
-use Rattle.isl_space.specs.Valuation.{Valuation}
-use Rattle.isl_space.specs.Element.{Element}
 use Rattle.isl_space.specs.SpaceForm.{SpaceForm}
 use Rattle.isl_expr.specs.declared.tree.Prefix.{Prefix as Word}
 use Rattle.isl_expr.specs.declared.tree.Link.{Link}
 use Rattle.isl_expr.specs.declared.tree.Postfix.{Postfix, Inverse, Apply, Item}
-use Rattle.isl_expr.specs.declared.tree.Expr.{Expr, Row, Prefix, Post, Row_of-Link, end_of-Link, more_of-Link}
+use Rattle.isl_expr.specs.declared.tree.Expr.{Expr, Row, Prefix, Any, Last, Post, Row_of-Link, end_of-Link, more_of-Link}
 use Rattle.isl_expr.specs.declared.tree.Expr.{Row_of-Postfix, end_of-Postfix, more_of-Postfix, items-the_row-Link, items-the_row-Postfix}
 use Rattle.isl_expr.specs.declared.tree.Expr.{items_hidden-the_row-Link-1, items_hidden-the_row-Postfix-2}
 use Rattle.isl_expr.specs.declared.tree.Expr.TheBlock.{hidden-the_row-Expr-0, hidden-the_row-Link-1, hidden-the_row-Postfix-2}
 use Rattle.isl_kinds.specs.Typed.{declared_of, declared_of_row, declared_of_post, declared_past, joined_names}
 use Rattle.isl_operators.specs.Operations.{OperatorHas}
-use Rattle.isl_operators.specs.Formed.{AreIn, OperatorForms, WordForms, ApplicationForms, FormsWide, PairsWide}
+use Rattle.isl_operators.specs.Formed.{AreIn, OperatorForms, ApplicationForms, FormsWide, PairsWide}
+use Rattle.isl_relation.specs.Formed.{FormsAccess}
+use Rattle.isl_values.specs.declared.list.ListPart.{ListPart}
 use Rattle.isl_values.specs.State.{StateView, scope_of}
-use Rattle.isl_values.specs.Selection.{PostfixHas, Selects, RowSelects, PostSelects}
-use Rattle.isl_values.specs.Ends.{End, NoEnd, GoesOn, FirstEnds, OperationEnds, Ends}
+use Rattle.isl_values.specs.Worked.{part_of_list, part_taken}
+use Rattle.isl_values.specs.Selection.{PostfixHas, Selects, SelectsAt, RowSelects, PostSelects}
+use Rattle.isl_values.specs.Ends.{End, NoEnd, GoesOn, FirstEnds, Ends, DependenceEnds, PairEnds, WordEnds}
 use Rattle.isl_values.specs.Ends.{EndsPastLinks, EndsPastPostfixes, EndsPostfix, EndsRow, EndsPost}
+use Rattle.isl_values.specs.Three.{OperandsEnd}
 use Rattle.isl_values.proofs.FirstLaws.{EndAlike, alike_itself, alike_trans, both_go, first_alike, first_grouped, goes_alike, goes_both}
 use Rattle.isl_values.proofs.FirstLaws.{nothing_first, operation_alike, turned_alike}
-use Rattle.isl_values.proofs.SameLaws.{itself, same_operator}
-use Rattle.isl_values.proofs.RowLaws.{same_postfix}
-
--- at every valuation
-abbrev pub Selection : Type 1
-Selection = Valuation → Element → Type 0
-
-abbrev pub AreSame : Selection → Selection → Type 0
-AreSame P Q = (v : Valuation) (x : Element) → P v x ↔ Q v x
-
-pub turned_same : (P Q : Selection) → AreSame P Q → AreSame Q P
-turned_same P Q same v x = let alike = same v x in (alike.1, alike.0)
+use Rattle.isl_values.proofs.SameLaws.{itself, same_misses, same_operator, turned_same}
+pub use Rattle.isl_values.proofs.SameLaws.{AreSame, Selection}
+use Rattle.isl_values.proofs.RowLaws.{part_is, same_postfix}
 
 -- ---- of the same elements the same is formed
 are_in : (P Q : Selection) → AreSame P Q → (s : SpaceForm) → AreIn P s → AreIn Q s
@@ -57,6 +50,19 @@ pairs_wide Forms P Q R S left right = (
   pairs_from Forms Q P S R (turned_same P Q left) (turned_same R S right),
 )
 
+pub pair_alike : (Forms : SpaceForm → SpaceForm → SpaceForm → Type 0) (names others : List Name) (P Q R S : Selection) → AreSame P Q
+    → AreSame R S → EndAlike (PairEnds Forms names others P R) (PairEnds Forms names others Q S)
+pair_alike Forms names others P Q R S left right =
+    operation_alike (joined_names names others) _ _ _ _ (pairs_wide Forms P Q R S left right) ((λ h. h), (λ h. h))
+
+pub word_alike : (word : Word) (P Q : Selection) → AreSame P Q → EndAlike (WordEnds word P) (WordEnds word Q)
+word_alike word P Q same = operation_alike [] _ _ _ _ (forms_wide _ P Q same) (same_misses word P Q same)
+
+pub dependence_alike : (names : List Name) (P Q R S : Selection) → AreSame P Q → AreSame R S
+    → EndAlike (DependenceEnds names P R) (DependenceEnds names Q S)
+dependence_alike names P Q R S source sink =
+    operation_alike names _ _ _ _ (pairs_wide FormsAccess P Q R S source sink) ((λ h. h), (λ h. h))
+
 module _ (state : StateView) where
   abbrev Selected : Expr → Selection
   Selected expr v x = Selects state expr v x
@@ -77,8 +83,7 @@ module _ (state : StateView) where
   -- an operator with its operand, behind operands with these parameters and elements
   abbrev pub OperatorEnds : List Name → Selection → Link → End → Type 0
   OperatorEnds names P link =
-      OperationEnds (joined_names names (declared_of (scope_of state) link.operand))
-      (PairsWide (OperatorForms link.operator) P (λ v y. Selects state link.operand v y))
+      PairEnds (OperatorForms link.operator) names (declared_of (scope_of state) link.operand) P (λ v y. Selects state link.operand v y)
 
   abbrev pub EndsWith : List Name → Selection → Link → End → Type 0
   EndsWith names P link = FirstEnds (Ends state link.operand) (OperatorEnds names P link)
@@ -89,8 +94,8 @@ module _ (state : StateView) where
   row_alike names P Q (link ∷ links) same =
       let next = NamesWith names link in
       let own = Ends state link.operand in
-      let now = operation_alike next _ _
-      (pairs_wide (OperatorForms link.operator) P Q (Selected link.operand) (Selected link.operand) same (selected_itself link.operand)) in
+      let now = pair_alike (OperatorForms link.operator) names (declared_of (scope_of state) link.operand) P Q (Selected link.operand)
+      (Selected link.operand) same (selected_itself link.operand) in
       let rest = row_alike next (Past P link) (Past Q link) links
       (λ v. same_operator link.operator (P v) (Q v) (Selected link.operand v) (Selected link.operand v) (same v)
       (selected_itself link.operand v)) in
@@ -161,7 +166,7 @@ module _ (state : StateView) where
       let next = joined_names names (declared_of (scope_of state) operand) in
       let Further : Selection = λ v x. OperatorHas operator (P v) (λ y. Selects state operand v y) x in
       let A = Ends state operand in
-      let B = OperationEnds next (PairsWide (OperatorForms operator) P (λ v x. Selects state operand v x)) in
+      let B = PairEnds (OperatorForms operator) names (declared_of (scope_of state) operand) P (λ v x. Selects state operand v x) in
       let C = EndsPastLinks state next Further row in
       let D = EndsRow state next Further (items-the_row-Link _ row) in
       first_alike A (FirstEnds B C) A (FirstEnds B D) (alike_itself A)
@@ -181,7 +186,7 @@ module _ (state : StateView) where
   -- ---- a word before an operand
   pub ends_of-Prefix : (word : Word) (operand : Expr)
       → EndAlike (Ends state (Prefix word operand))
-      (FirstEnds (Ends state operand) (OperationEnds [] (FormsWide (WordForms word) (λ v x. Selects state operand v x))))
+      (FirstEnds (Ends state operand) (WordEnds word (λ v x. Selects state operand v x)))
   unfolding hidden-the_row-Expr-0 denote.Hole.Carrier.hidden
   ends_of-Prefix word operand why = ((λ h. h), (λ h. h))
 
@@ -196,10 +201,9 @@ module _ (state : StateView) where
       → EndAlike (EndsPostfix state names P postfix) (EndsPostfix state names Q postfix)
   postfix_alike names P Q Inverse same = alike_itself NoEnd
   postfix_alike names P Q (Apply argument) same =
-      let next = joined_names names (declared_of (scope_of state) argument) in
       first_alike (Ends state argument) _ (Ends state argument) _ (alike_itself (Ends state argument))
-      (operation_alike next _ _
-      (pairs_wide ApplicationForms P Q (Selected argument) (Selected argument) same (selected_itself argument)))
+      (pair_alike ApplicationForms names (declared_of (scope_of state) argument) P Q (Selected argument) (Selected argument) same
+      (selected_itself argument))
   postfix_alike names P Q (Item number) same = alike_itself NoEnd
 
   pub post_alike : (names : List Name) (P Q : Selection) (postfixes : List Postfix) → AreSame P Q
@@ -262,13 +266,42 @@ module _ (state : StateView) where
       let C = EndsPost state next (Followed P postfix) (items-the_row-Postfix _ row) in
       first_alike A B A C (alike_itself A) (postfixes_end _ next (Followed P postfix) row)
 
+  -- the operand is taken at the part that what follows it is about
+  abbrev pub Taken : Expr → List Postfix → Selection
+  Taken operand postfixes v x = SelectsAt state (part_of_list postfixes) operand v x
+
   pub ends_of-Post : (operand : Expr) (postfixes : List Postfix)
       → EndAlike (Ends state (Post operand postfixes))
-      (FirstEnds (Ends state operand) (EndsPost state (declared_of (scope_of state) operand) (λ v x. Selects state operand v x) postfixes))
+      (FirstEnds (Ends state operand) (EndsPost state (declared_of (scope_of state) operand) (Taken operand postfixes) postfixes))
   unfolding hidden-the_row-Expr-0 denote.Hole.Carrier.hidden
   ends_of-Post operand postfixes =
+      let row = hidden-the_row-Postfix-2 postfixes in
+      let names = declared_of (scope_of state) operand in
+      let own = Ends state operand in
       subst (λ (ps : List Postfix). EndAlike (Ends state (Post operand postfixes))
-      (FirstEnds (Ends state operand) (EndsPost state (declared_of (scope_of state) operand) (λ v x. Selects state operand v x) ps)))
+      (FirstEnds own (EndsPost state names (Taken operand ps) ps)))
       (items_hidden-the_row-Postfix-2 postfixes)
-      (first_alike (Ends state operand) _ (Ends state operand) _ (alike_itself (Ends state operand))
-      (postfixes_end _ (declared_of (scope_of state) operand) (λ v x. Selects state operand v x) (hidden-the_row-Postfix-2 postfixes)))
+      (subst (λ (part : ListPart). EndAlike (Ends state (Post operand postfixes))
+      (FirstEnds own (EndsPost state names (λ v x. SelectsAt state part operand v x) (items-the_row-Postfix _ row))))
+      (part_is _ row)
+      (first_alike own _ own _ (alike_itself own) (postfixes_end _ names (λ v x. SelectsAt state (part_taken row) operand v x) row)))
+
+  -- ---- source, sink and schedule
+  abbrev pub DependenceOf : Expr → Expr → Expr → End → Type 0
+  DependenceOf source sink schedule =
+      DependenceEnds
+      (joined_names (joined_names (declared_of (scope_of state) source) (declared_of (scope_of state) sink))
+      (declared_of (scope_of state) schedule))
+      (λ v x. Selects state source v x) (λ v x. Selects state sink v x)
+
+  pub ends_of-Any : (source sink schedule : Expr)
+      → EndAlike (Ends state (Any source sink schedule)) (FirstEnds (OperandsEnd state source sink schedule)
+      (DependenceOf source sink schedule))
+  unfolding hidden-the_row-Expr-0 denote.Hole.Carrier.hidden
+  ends_of-Any source sink schedule why = ((λ h. h), (λ h. h))
+
+  pub ends_of-Last : (source sink schedule : Expr)
+      → EndAlike (Ends state (Last source sink schedule)) (FirstEnds (OperandsEnd state source sink schedule)
+      (DependenceOf source sink schedule))
+  unfolding hidden-the_row-Expr-0 denote.Hole.Carrier.hidden
+  ends_of-Last source sink schedule why = ((λ h. h), (λ h. h))

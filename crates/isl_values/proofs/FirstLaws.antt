@@ -1,7 +1,7 @@
 -- What ends first, and what goes on.
 use Rattle.std.proofs.Common.{◌↔◌, inl, inr, List}
 use Rattle.isl_space.specs.Name.{Name}
-use Rattle.isl_values.specs.Ends.{End, too_wide, unbounded, NoEnd, GoesOn, FirstEnds, OperationEnds}
+use Rattle.isl_values.specs.Ends.{End, because, cut, too_wide, no_minimum, unbounded, NoEnd, GoesOn, FirstEnds, OperationEnds}
 
 -- they end for the same reasons
 abbrev pub EndAlike : (End → Type 0) → (End → Type 0) → Type 0
@@ -14,19 +14,19 @@ pub alike_trans : (A B C : End → Type 0) → EndAlike A B → EndAlike B C →
 alike_trans A B C f g why = ((λ h. (g why).0 ((f why).0 h)), (λ h. (f why).1 ((g why).1 h)))
 
 pub goes_alike : (A B : End → Type 0) → EndAlike A B → GoesOn A → GoesOn B
-goes_alike A B same on why h = on why ((same why).1 h)
+goes_alike A B same on reason h = on reason ((same (because reason)).1 h)
 
 pub goes_both : (A B : End → Type 0) → GoesOn A → GoesOn B → GoesOn (FirstEnds A B)
-goes_both A B a b why h = by h
+goes_both A B a b reason h = by h
   where
-    by : FirstEnds A B why → ⊥
-    by (inl k) = a why k
-    by (inr k) = b why k.1
+    by : FirstEnds A B (because reason) → ⊥
+    by (inl k) = a reason k
+    by (inr k) = b reason k.1
 
 pub both_go : (A B : End → Type 0) → GoesOn (FirstEnds A B) → GoesOn A × GoesOn B
 both_go A B on =
-    let a : GoesOn A = λ why h. on why (inl h) in
-    (a, (λ why h. on why (inr (a, h))))
+    let a : GoesOn A = λ reason h. on reason (inl h) in
+    (a, (λ reason h. on reason (inr (a, h))))
 
 first_from : (A B C D : End → Type 0) → EndAlike A C → EndAlike B D → (why : End) → FirstEnds A B why → FirstEnds C D why
 first_from A B C D f g why (inl h) = inl ((f why).0 h)
@@ -64,12 +64,17 @@ none_before A why (inr h) = h.1
 pub nothing_first : (A : End → Type 0) → EndAlike A (FirstEnds NoEnd A)
 nothing_first A why = ((λ h. inr ((λ w k. k), h)), none_before A why)
 
-operation_from : (names : List Name) (Wide Other : Type 0) → (Wide → Other) → (why : End) → OperationEnds names Wide why
-    → OperationEnds names Other why
-operation_from names Wide Other f too_wide (inl h) = inl h
-operation_from names Wide Other f too_wide (inr h) = inr (h.0, f h.1)
-operation_from names Wide Other f unbounded h = h
+operation_from : (names : List Name) (Wide Other Misses Lacks : Type 0) → Wide ↔ Other → (Misses → Lacks) → (why : End)
+    → OperationEnds names Wide Misses why → OperationEnds names Other Lacks why
+operation_from names Wide Other Misses Lacks same f (because too_wide) (inl h) = inl h
+operation_from names Wide Other Misses Lacks same f (because too_wide) (inr h) = inr (h.0, same.0 h.1)
+operation_from names Wide Other Misses Lacks same f (because no_minimum) h = (h.0, (λ other. h.1 (same.1 other)), f h.2)
+operation_from names Wide Other Misses Lacks same f (because unbounded) h = h
+operation_from names Wide Other Misses Lacks same f cut h = (h.0, (λ other. h.1 (same.1 other)))
 
-pub operation_alike : (names : List Name) (Wide Other : Type 0) → Wide ↔ Other
-    → EndAlike (OperationEnds names Wide) (OperationEnds names Other)
-operation_alike names Wide Other same why = (operation_from names Wide Other same.0 why, operation_from names Other Wide same.1 why)
+pub operation_alike : (names : List Name) (Wide Other Misses Lacks : Type 0) → Wide ↔ Other → Misses ↔ Lacks
+    → EndAlike (OperationEnds names Wide Misses) (OperationEnds names Other Lacks)
+operation_alike names Wide Other Misses Lacks same missed why = (
+  operation_from names Wide Other Misses Lacks same missed.0 why,
+  operation_from names Other Wide Lacks Misses (same.1, same.0) missed.1 why,
+)

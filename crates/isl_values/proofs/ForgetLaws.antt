@@ -168,7 +168,7 @@ kept_of_dollar state name dollar = lookup_dollar name dollar state.bound
 
 -- ---- numbers
 pub fits_forgotten : (limit : ℤ) (state : StateView) → Fits limit state → Fits limit (forgotten state)
-fits_forgotten limit state fits = λ name kept is. fits name kept (by name kept is (is_dollar name) refl)
+fits_forgotten limit state fits = λ name kept is part. fits name kept (by name kept is (is_dollar name) refl) part
   where
     by : (name : Name) (kept : Kept) → kept_of (forgotten state) name ≡ Some kept → (d : Bool) → is_dollar name ≡ d
         → kept_of state name ≡ Some kept

@@ -27,12 +27,15 @@ use Rattle.isl_lower.specs.Value.{value_lowered, IsLowered, IsWellFormedLiteral}
 use Rattle.isl_expr.specs.declared.tree.Expr.{Expr, Row', Prefix', Any', Last', Post'}
 use Rattle.isl_expr.specs.declared.tree.Expr as e
 use Rattle.isl_kinds.specs.Parts.{parts_of}
-use Rattle.isl_kinds.specs.Typed.{TypeView, ScopeView, params_of, has_unknown, declared_of, bound_to}
-use Rattle.isl_values.specs.State.{Kept, StateView, kept_of, type_of, scope_of, HasNumbersUpTo, Fits}
-use Rattle.isl_values.specs.Worked.{IsWorked}
-use Rattle.isl_values.specs.Ends.{End, Ends, GoesOn}
-use Rattle.isl_values.specs.Selection.{KeptHas, Selects}
+use Rattle.isl_kinds.specs.Typed.{TypeView, ScopeView, params_of, has_unknown, bound_to}
+use Rattle.isl_values.specs.declared.list.ListPart.{ListPart}
+use Rattle.isl_values.specs.declared.list.ListPart.TheVariants.{First, Second}
+use Rattle.isl_values.specs.declared.list.ListValue.{ListValue}
+use Rattle.isl_values.specs.State.{Kept, StateView, kept_of, type_of, scope_of, value_at, HasNumbersUpTo, Fits}
+use Rattle.isl_values.specs.Ends.{CutAlone, Ends, GoesOn}
+use Rattle.isl_values.specs.Selection.{KeptHas, SelectsAt}
 use Rattle.isl_values.specs.Made.{uses_units, IsSoundExpr, IsValueOf, IsPaid, IsWhyUnmade, IsWhyUnworked}
+use Rattle.isl_values.specs.Three.{AreBothOf, AreKept, IsValueAt}
 use Rattle.isl_values.proofs.StateLaws.{bound_at}
 
 -- ---- a list of distinct names, joined to none, is itself
@@ -49,45 +52,53 @@ module _ (state : StateView) (name : Name) (kept : Kept) (there : kept_of state 
   type_there : bound_to (scope_of state) name ≡ Some (type_of kept)
   type_there = bound_at state name ∙ ap (option_map type_of) there
 
-  params_there : IsKeptValue kept.value → declared_of (scope_of state) (e.Name name) ≡ kept.value.params
-  params_there sound = ap params_of type_there ∙ declared_itself kept.value.params sound.params.distinct
+  module _ (part : ListPart) where
+    selects_there : (valuation : Valuation) (element : Element)
+        → Has (value_at part kept) valuation element ↔ SelectsAt state part (e.Name name) valuation element
+    selects_there valuation element =
+        subst (λ (o : Option Kept). Has (value_at part kept) valuation element ↔ KeptHas part o valuation element) (sym there)
+        ((λ h. h), (λ h. h))
 
-  selects_there : (valuation : Valuation) (element : Element)
-      → Has kept.value valuation element ↔ Selects state (e.Name name) valuation element
-  selects_there valuation element =
-      subst (λ (o : Option Kept). Has kept.value valuation element ↔ KeptHas o valuation element) (sym there) ((λ h. h), (λ h. h))
+    -- the values of what is kept are over one list of parameters, which its type has
+    pub name_value : (limit : ℤ) → IsKeptValue (value_at part kept) → (value_at part kept).params ≡ kept.value.params
+        → HasNoDefinitions (value_at part kept) → Fits limit state
+        → IsValueAt state part (e.Name name) (unsigned_abs limit) (value_at part kept)
+    name_value limit sound names plain fits = record {
+      written = (kept, there, refl);
+      kept = sound;
+      params = names ∙ sym (ap params_of type_there ∙ declared_itself kept.value.params
+          (subst AreDistinct names sound.params.distinct));
+      elements = selects_there;
+      numbers = fits name kept there part;
+      definitions = plain;
+    }
 
-  pub name_value : (limit : ℤ) → IsKeptValue kept.value → HasNoDefinitions kept.value → Fits limit state
-      → IsValueOf (IsWorked state (e.Name name)) (declared_of (scope_of state) (e.Name name)) (Selects state (e.Name name))
-      (unsigned_abs limit) kept.value
-  name_value limit sound plain fits = record {
-    written = (kept, there, refl);
-    kept = sound;
-    params = sym (params_there sound);
-    elements = selects_there;
-    numbers = fits name kept there;
-    definitions = plain;
-  }
+pub name_makes : (state : StateView) (part : ListPart) (limit : ℤ) (expr : Expr) (name : Name) (kept : Kept) (value : KeptValue)
+    → expr ≡ e.Name name → value ≡ value_at part kept → kept_of state name ≡ Some kept → IsKeptValue (value_at part kept)
+    → (value_at part kept).params ≡ kept.value.params → HasNoDefinitions (value_at part kept) → Fits limit state
+    → IsValueAt state part expr (unsigned_abs limit) value
+name_makes state part limit expr name kept value is same there sound names plain fits =
+    subst (λ (x : Expr). IsValueAt state part x (unsigned_abs limit) value) (sym is)
+    (subst (λ (v : KeptValue). IsValueAt state part (e.Name name) (unsigned_abs limit) v) (sym same)
+    (name_value state name kept there part limit sound names plain fits))
 
--- what is made of an expression
-abbrev pub Makes : StateView → ℤ → Expr → KeptValue → Type 0
-Makes state limit expr value =
-    IsValueOf (IsWorked state expr) (declared_of (scope_of state) expr) (Selects state expr) (unsigned_abs limit) value
-
-pub name_makes : (state : StateView) (limit : ℤ) (expr : Expr) (name : Name) (kept : Kept) (value : KeptValue) → expr ≡ e.Name name
-    → value ≡ kept.value
-    → kept_of state name ≡ Some kept → IsKeptValue kept.value → HasNoDefinitions kept.value → Fits limit state
-    → Makes state limit expr value
-name_makes state limit expr name kept value is same there sound plain fits =
-    subst (λ (x : Expr). Makes state limit x value) (sym is)
-    (subst (λ (v : KeptValue). Makes state limit (e.Name name) v) (sym same) (name_value state name kept there limit sound plain fits))
+-- both parts of what a name stands for
+pub name_both : (state : StateView) (limit : ℤ) (expr : Expr) (name : Name) (kept : Kept) (list : ListValue) → expr ≡ e.Name name
+    → kept_of state name ≡ Some kept → AreKept kept list → Fits limit state → AreBothOf state expr (unsigned_abs limit) list
+name_both state limit expr name kept list is there are fits = (
+  name_makes state First limit expr name kept list.first.value is are.first there (are.kept First) (are.params First)
+      (are.definitions First) fits,
+  name_makes state Second limit expr name kept list.second.value is are.second there (are.kept Second) (are.params Second)
+      (are.definitions Second) fits,
+)
 
 -- ---- a literal
-pub literal_makes : (state : StateView) (limit : ℤ) (expr : Expr) (literal : Literal) (value : KeptValue) → expr ≡ e.Literal literal
-    → IsWellFormedLiteral literal
-    → IsValueOf (IsLowered literal) literal.params (LiteralHas literal) (unsigned_abs limit) value → Makes state limit expr value
-literal_makes state limit expr literal value is formed made =
-    subst (λ (x : Expr). Makes state limit x value) (sym is)
+pub literal_makes : (state : StateView) (part : ListPart) (limit : ℤ) (expr : Expr) (literal : Literal) (value : KeptValue)
+    → expr ≡ e.Literal literal → IsWellFormedLiteral literal
+    → IsValueOf (IsLowered literal) literal.params (LiteralHas literal) (unsigned_abs limit) value
+    → IsValueAt state part expr (unsigned_abs limit) value
+literal_makes state part limit expr literal value is formed made =
+    subst (λ (x : Expr). IsValueAt state part x (unsigned_abs limit) value) (sym is)
     (record {
       written = made.written;
       kept = made.kept;
@@ -134,18 +145,18 @@ pub literal_paid : (expr : Expr) (literal : Literal) (g h : Gauge) → expr ≡ 
     → IsPaid (list_any uses_units (parts_of expr)) g h
 literal_paid expr literal g h is paid = subst (λ (x : Expr). IsPaid (list_any uses_units (parts_of x)) g h) (sym is) paid
 
-pub literal_unmade : (expr : Expr) (literal : Literal) (Why : End → Type 0) (g h : Gauge) (refusal : Refusal) → expr ≡ e.Literal literal
-    → IsWhyUnmade true g h refusal
-    → IsWhyUnworked (list_any uses_units (parts_of expr)) Why g h refusal
-literal_unmade expr literal Why g h refusal is why =
-    inl (subst (λ (x : Expr). IsWhyUnmade (list_any uses_units (parts_of x)) g h refusal) (sym is) why)
+pub literal_unmade : (state : StateView) (expr : Expr) (literal : Literal) (g h : Gauge) (refusal : Refusal) → expr ≡ e.Literal literal
+    → IsWhyUnmade true CutAlone g h refusal
+    → IsWhyUnworked (list_any uses_units (parts_of expr)) (Ends state expr) g h refusal
+literal_unmade state expr literal g h refusal is why =
+    inl (subst (λ (x : Expr). IsWhyUnmade (list_any uses_units (parts_of x)) (Ends state x) g h refusal) (sym is) why)
 
 -- a name, or a literal, ends nothing
 pub literal_goes_on : (state : StateView) (expr : Expr) (literal : Literal) → expr ≡ e.Literal literal → GoesOn (Ends state expr)
-literal_goes_on state expr literal is why ends = subst (λ (x : Expr). Ends state x why) is ends
+literal_goes_on state expr literal is = subst (λ (x : Expr). GoesOn (Ends state x)) (sym is) (λ reason ends. ends)
 
 pub name_goes_on : (state : StateView) (expr : Expr) (name : Name) → expr ≡ e.Name name → GoesOn (Ends state expr)
-name_goes_on state expr name is why ends = subst (λ (x : Expr). Ends state x why) is ends
+name_goes_on state expr name is = subst (λ (x : Expr). GoesOn (Ends state x)) (sym is) (λ reason ends. ends)
 
 -- ---- a name is bound, and a literal known
 pub never_unbound : (state : StateView) (name : Name) → kept_of state name ≡ None → ¬ (has_unknown (scope_of state) (e.Name name) ≡ false)

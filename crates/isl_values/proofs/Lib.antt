@@ -14,3 +14,4 @@ pub mod LinkLaws
 pub mod PostfixLaws
 pub mod OperandLaws
 pub mod DepthLaws
+pub mod ThreeLaws

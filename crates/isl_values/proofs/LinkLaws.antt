@@ -7,20 +7,20 @@ use Rattle.isl_union.specs.KeptValue.{KeptValue, Has}
 use Rattle.isl_text.specs.declared.refusal.Refusal.{Refusal}
 use Rattle.isl_expr.specs.declared.tree.Link.{Link}
 use Rattle.isl_operators.specs.Operations.{OperatorHas}
-use Rattle.isl_operators.specs.Formed.{OperatorForms, PairsWide}
+use Rattle.isl_operators.specs.Formed.{OperatorForms}
 use Rattle.isl_operators.specs.Made.{IsOperatorOf, operator_works}
 use Rattle.isl_kinds.specs.Parts.{parts_of, parts_of_links}
-use Rattle.isl_kinds.specs.Typed.{declared_of_row, joined_names}
+use Rattle.isl_kinds.specs.Typed.{declared_of, declared_of_row, joined_names}
 use Rattle.isl_values.specs.State.{StateView, scope_of}
 use Rattle.isl_values.specs.Selection.{Selects, RowSelects}
 use Rattle.isl_values.specs.Worked.{IsWorkedRow}
-use Rattle.isl_values.specs.Ends.{End, Ends, EndsRow, GoesOn, OperationEnds}
+use Rattle.isl_values.specs.Ends.{End, Ends, EndsRow, GoesOn, PairEnds}
 use Rattle.isl_values.specs.Made.{uses_units, IsSoundExpr, IsSoundLink, IsValueOf, IsPaid, IsWhyUnworked}
 use Rattle.isl_values.proofs.PartLaws.{quiet_at}
 use Rattle.isl_values.proofs.NamesLaws.{declared_more}
 use Rattle.isl_values.proofs.RowLaws.{row_more}
-use Rattle.isl_values.proofs.FirstLaws.{EndAlike, goes_alike, goes_both, operation_alike}
-use Rattle.isl_values.proofs.EndsLaws.{Behind, OperatorEnds, pairs_wide}
+use Rattle.isl_values.proofs.FirstLaws.{EndAlike, goes_alike, goes_both}
+use Rattle.isl_values.proofs.EndsLaws.{Behind, OperatorEnds, pair_alike}
 use Rattle.isl_values.proofs.EndsLaws.{row_ends_at, row_goes_more}
 use Rattle.isl_values.proofs.WorkedLaws.{row_worked_more}
 use Rattle.isl_values.proofs.ValueLaws.{IsMade, work, value_before, paid_after, unworked_after}
@@ -57,8 +57,7 @@ module _ (state : StateView) (links : List Link) (i : ℕ) (link : Link) (low : 
       × IsPaid (operator_works link.operator) g h
 
   abbrev pub JoinEnds : KeptValue → KeptValue → End → Type 0
-  JoinEnds left right =
-      OperationEnds (joined_names left.params right.params) (PairsWide (OperatorForms link.operator) (Has left) (Has right))
+  JoinEnds left right = PairEnds (OperatorForms link.operator) left.params right.params (Has left) (Has right)
 
   module _ (first : KeptValue) (g h : Gauge) (left : KeptValue) (before : IsRowTo state links first i g h left) where
     -- the operand has no value
@@ -78,14 +77,14 @@ module _ (state : StateView) (links : List Link) (i : ℕ) (link : Link) (low : 
       abbrev There : List Name
       There = declared_of_row (scope_of state) first.params (take i links)
 
-      pair_alike : EndAlike (JoinEnds left right) (OperatorEnds state There (Behind state (Has first) (take i links)) link)
-      pair_alike =
-          subst (λ (names : List Name). EndAlike (JoinEnds left right)
-          (OperationEnds names (PairsWide (OperatorForms link.operator) (Behind state (Has first) (take i links))
-          (λ v y. Selects state link.operand v y))))
-          (ap₂ (λ (a b : List Name). joined_names a b) before.made.params behind.0.params)
-          (operation_alike (joined_names left.params right.params) _ _
-          (pairs_wide (OperatorForms link.operator) (Has left) (Behind state (Has first) (take i links)) (Has right)
+      joined_alike : EndAlike (JoinEnds left right) (OperatorEnds state There (Behind state (Has first) (take i links)) link)
+      joined_alike =
+          let Left = Behind state (Has first) (take i links) in
+          subst (λ (names : List Name). EndAlike (JoinEnds left right) (PairEnds (OperatorForms link.operator) names
+          (declared_of (scope_of state) link.operand) Left (λ v y. Selects state link.operand v y))) before.made.params
+          (subst (λ (others : List Name). EndAlike (JoinEnds left right) (PairEnds (OperatorForms link.operator) left.params others Left
+          (λ v y. Selects state link.operand v y))) behind.0.params
+          (pair_alike (OperatorForms link.operator) left.params right.params (Has left) Left (Has right)
           (λ v y. Selects state link.operand v y) before.made.elements behind.0.elements))
 
       -- the operator makes none of the two
@@ -96,7 +95,7 @@ module _ (state : StateView) (links : List Link) (i : ℕ) (link : Link) (low : 
           unworked_after Works Works (operator_works link.operator) (JoinEnds left right) (EndsRow state first.params (Has first) links)
           g k m refusal with_operator
           (λ end ends. row_ends_at state first.params (Has first) links i link end low is before.goes_on
-          (inr (operand_goes, (pair_alike end).0 ends)))
+          (inr (operand_goes, (joined_alike end).0 ends)))
           later why
 
       pub row_step : (m : Gauge) (made : KeptValue) → GoesOn (Ends state link.operand) → IsJoined left right k m made
@@ -119,6 +118,6 @@ module _ (state : StateView) (links : List Link) (i : ℕ) (link : Link) (low : 
         paid = paid_after Works Works (operator_works link.operator) g k m with_operator later joins.1;
         goes_on = row_goes_more state first.params (Has first) links i link low is before.goes_on
             (goes_both (Ends state link.operand) (OperatorEnds state There (Behind state (Has first) (take i links)) link) operand_goes
-            (goes_alike (JoinEnds left right) (OperatorEnds state There (Behind state (Has first) (take i links)) link) pair_alike
+            (goes_alike (JoinEnds left right) (OperatorEnds state There (Behind state (Has first) (take i links)) link) joined_alike
             pair_goes));
       }

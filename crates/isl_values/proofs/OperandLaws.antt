@@ -1,5 +1,5 @@
 -- What is worked out of an expression, of what is worked out of its operands.
-use Rattle.std.proofs.Common.{◌≡◌, ◌∙◌, inl, inr, Bool, false, List, [], All, sym, ap, ap₂, subst}
+use Rattle.std.proofs.Common.{◌≡◌, ◌∙◌, inl, inr, Bool, false, List, All, sym, ap, ap₂, subst}
 use Rattle.std.specs.Prelude.{unsigned_abs}
 use Rattle.isl_meter.specs.Gauge.{Gauge, limit_of}
 use Rattle.isl_space.specs.Name.{Name}
@@ -10,26 +10,26 @@ use Rattle.isl_expr.specs.declared.tree.Link.{Link}
 use Rattle.isl_expr.specs.declared.tree.Postfix.{Postfix}
 use Rattle.isl_expr.specs.declared.tree.Expr.{Expr, Row, Prefix, Post}
 use Rattle.isl_operators.specs.Operations.{WordHas, is_operation_word}
-use Rattle.isl_operators.specs.Formed.{WordForms, FormsWide}
 use Rattle.isl_operators.specs.Made.{IsWordOf, word_works}
 use Rattle.isl_kinds.specs.Parts.{prefix, parts_of, parts_of_links, parts_of_postfixes}
 use Rattle.isl_kinds.specs.Typed.{declared_of, declared_of_row, declared_of_post}
 use Rattle.isl_kinds.proofs.DeclaredLaws.{declared_of-Prefix, declared_of-Row, declared_of-Post}
 use Rattle.std.proofs.lemmas.Bool.{not-false}
+use Rattle.isl_values.specs.declared.list.ListPart.{ListPart}
 use Rattle.isl_values.specs.State.{StateView, scope_of}
-use Rattle.isl_values.specs.Selection.{Selects, RowSelects, PostSelects}
-use Rattle.isl_values.specs.Worked.{IsWorked, IsWorkedRow, IsWorkedPost}
-use Rattle.isl_values.specs.Ends.{End, Ends, EndsRow, EndsPost, FirstEnds, GoesOn, OperationEnds}
+use Rattle.isl_values.specs.Selection.{Selects, SelectsAt, RowSelects, PostSelects}
+use Rattle.isl_values.specs.Worked.{IsWorkedAt, IsWorkedRow, IsWorkedPost, part_of_list}
+use Rattle.isl_values.specs.Ends.{End, Ends, EndsRow, EndsPost, FirstEnds, GoesOn, WordEnds}
+use Rattle.isl_values.specs.Three.{IsValueAt}
 use Rattle.isl_values.specs.Made.{is_foreign, uses_units, IsSoundExpr, IsSoundLink, IsSoundPostfix, IsValueOf, IsPaid, IsWhyUnworked}
 use Rattle.isl_values.proofs.PartLaws.{sound_first, sound_links, sound_operand, sound_postfixes, sound_argument}
 use Rattle.isl_values.proofs.PartLaws.{row_quiet, post_quiet, word_quiet}
-use Rattle.isl_values.proofs.SameLaws.{turned, same_trans, same_word}
+use Rattle.isl_values.proofs.SameLaws.{Same, turned, same_trans, same_word}
 use Rattle.isl_values.proofs.RowLaws.{same_row, selects_of-Row, same_post, selects_of-Post, selects_of-Prefix}
-use Rattle.isl_values.proofs.FirstLaws.{EndAlike, goes_alike, goes_both, operation_alike, turned_alike}
-use Rattle.isl_values.proofs.EndsLaws.{forms_wide}
-use Rattle.isl_values.proofs.EndsLaws.{row_alike, ends_of-Row, post_alike, ends_of-Post, ends_of-Prefix}
+use Rattle.isl_values.proofs.FirstLaws.{EndAlike, goes_alike, goes_both, turned_alike}
+use Rattle.isl_values.proofs.EndsLaws.{row_alike, ends_of-Row, post_alike, ends_of-Post, ends_of-Prefix, word_alike, Taken}
 use Rattle.isl_values.proofs.WorkedLaws.{worked_of-Row, worked_of-Post, worked_of-Prefix}
-use Rattle.isl_values.proofs.ValueLaws.{IsMade, MadeOf, work, value_before, paid_after, unworked_after, unworked_in}
+use Rattle.isl_values.proofs.ValueLaws.{IsMade, IsMadeAt, work, value_before, paid_after, unworked_after, unworked_in}
 
 -- why there is no value of an expression
 abbrev pub IsWhyNotMade : StateView → Expr → Gauge → Gauge → Refusal → Type 0
@@ -78,21 +78,21 @@ module _ (state : StateView) (expr first : Expr) (links : List Link) (is : expr 
         (λ v x. RowSelects state v (Has left v) links x) (unsigned_abs (limit_of h)) value
         × IsPaid (work (parts_of_links links)) h k
 
-    pub row_made : (made : KeptValue) → IsJoinedPast made → IsMade state expr g k made
-    row_made made all = (
-      value_before g h (IsWorked state expr) (declared_of (scope_of state) expr) (Selects state expr) made before.1.charged
-          (subst (λ (x : Expr). MadeOf state x (unsigned_abs (limit_of h)) made) (sym is) (record {
-            written = worked_of-Row state first links left made before.0.written all.0.written;
+    pub row_made : (part : ListPart) (made : KeptValue) → IsJoinedPast made → IsMadeAt state part expr g k made
+    row_made part made all = (
+      value_before g h (IsWorkedAt state part expr) (declared_of (scope_of state) expr) (SelectsAt state part expr) made before.1.charged
+          (subst (λ (x : Expr). IsValueAt state part x (unsigned_abs (limit_of h)) made) (sym is) (record {
+            written = worked_of-Row state part first links left made before.0.written all.0.written;
             kept = all.0.kept;
             params = all.0.params ∙ ap (λ (ps : List Name). declared_of_row (scope_of state) ps links) before.0.params
                 ∙ sym (declared_of-Row (scope_of state) first links);
-            elements = λ v. same_trans (Has made v) (RowSelects state v (Has left v) links) (Selects state (Row first links) v)
+            elements = λ v. same_trans (Has made v) (RowSelects state v (Has left v) links) (SelectsAt state part (Row first links) v)
                 (all.0.elements v)
                 (same_trans (RowSelects state v (Has left v) links) (RowSelects state v (Selects state first v) links)
-                (Selects state (Row first links) v)
+                (SelectsAt state part (Row first links) v)
                 (same_row state v (Has left v) (Selects state first v) links (before.0.elements v))
-                (turned (Selects state (Row first links) v) (RowSelects state v (Selects state first v) links)
-                (selects_of-Row state v first links)));
+                (turned (SelectsAt state part (Row first links) v) (RowSelects state v (Selects state first v) links)
+                (selects_of-Row state v part first links)));
             numbers = all.0.numbers;
             definitions = all.0.definitions;
           })),
@@ -145,7 +145,7 @@ module _ (state : StateView) (expr operand : Expr) (postfixes : List Postfix) (i
 
   -- what ends in it: the operand, and then what follows it
   abbrev AllEnds : End → Type 0
-  AllEnds = FirstEnds (Ends state operand) (EndsPost state (declared_of (scope_of state) operand) (λ v x. Selects state operand v x) postfixes)
+  AllEnds = FirstEnds (Ends state operand) (EndsPost state (declared_of (scope_of state) operand) (Taken state operand postfixes) postfixes)
 
   all_end : EndAlike AllEnds (Ends state expr)
   all_end =
@@ -158,7 +158,7 @@ module _ (state : StateView) (expr operand : Expr) (postfixes : List Postfix) (i
       (λ none. (post_none none).0)
       (λ end ends. (all_end end).0 (inl ends)) why
 
-  module _ (g h k : Gauge) (left : KeptValue) (before : IsMade state operand g h left) where
+  module _ (g h k : Gauge) (left : KeptValue) (before : IsMadeAt state (part_of_list postfixes) operand g h left) where
     -- what all that follows it makes
     abbrev IsPassed : KeptValue → Type 0
     IsPassed value =
@@ -166,21 +166,23 @@ module _ (state : StateView) (expr operand : Expr) (postfixes : List Postfix) (i
         (λ v x. PostSelects state v (Has left v) postfixes x) (unsigned_abs (limit_of h)) value
         × IsPaid (work (parts_of_postfixes postfixes)) h k
 
-    pub post_made : (made : KeptValue) → IsPassed made → IsMade state expr g k made
-    post_made made all = (
-      value_before g h (IsWorked state expr) (declared_of (scope_of state) expr) (Selects state expr) made before.1.charged
-          (subst (λ (x : Expr). MadeOf state x (unsigned_abs (limit_of h)) made) (sym is) (record {
-            written = worked_of-Post state operand postfixes left made before.0.written all.0.written;
+    pub post_made : (part : ListPart) (made : KeptValue) → IsPassed made → IsMadeAt state part expr g k made
+    post_made part made all = (
+      value_before g h (IsWorkedAt state part expr) (declared_of (scope_of state) expr) (SelectsAt state part expr) made before.1.charged
+          (subst (λ (x : Expr). IsValueAt state part x (unsigned_abs (limit_of h)) made) (sym is) (record {
+            written = worked_of-Post state part operand postfixes left made before.0.written all.0.written;
             kept = all.0.kept;
             params = all.0.params ∙ ap (λ (ps : List Name). declared_of_post (scope_of state) ps postfixes) before.0.params
                 ∙ sym (declared_of-Post (scope_of state) operand postfixes);
-            elements = λ v. same_trans (Has made v) (PostSelects state v (Has left v) postfixes) (Selects state (Post operand postfixes) v)
+            elements = λ v.
+                same_trans (Has made v) (PostSelects state v (Has left v) postfixes) (SelectsAt state part (Post operand postfixes) v)
                 (all.0.elements v)
-                (same_trans (PostSelects state v (Has left v) postfixes) (PostSelects state v (Selects state operand v) postfixes)
-                (Selects state (Post operand postfixes) v)
-                (same_post state v (Has left v) (Selects state operand v) postfixes (before.0.elements v))
-                (turned (Selects state (Post operand postfixes) v) (PostSelects state v (Selects state operand v) postfixes)
-                (selects_of-Post state v operand postfixes)));
+                (same_trans (PostSelects state v (Has left v) postfixes) (PostSelects state v (Taken state operand postfixes v) postfixes)
+                (SelectsAt state part (Post operand postfixes) v)
+                (same_post state v (Has left v) (Taken state operand postfixes v) postfixes (before.0.elements v))
+                (turned (SelectsAt state part (Post operand postfixes) v)
+                (PostSelects state v (Taken state operand postfixes v) postfixes)
+                (selects_of-Post state v part operand postfixes)));
             numbers = all.0.numbers;
             definitions = all.0.definitions;
           })),
@@ -189,11 +191,11 @@ module _ (state : StateView) (expr operand : Expr) (postfixes : List Postfix) (i
 
     -- what follows it ends for its value as it does for what is selected
     follows_alike : EndAlike (EndsPost state left.params (Has left) postfixes)
-        (EndsPost state (declared_of (scope_of state) operand) (λ v x. Selects state operand v x) postfixes)
+        (EndsPost state (declared_of (scope_of state) operand) (Taken state operand postfixes) postfixes)
     follows_alike =
         subst (λ (names : List Name). EndAlike (EndsPost state left.params (Has left) postfixes)
-        (EndsPost state names (λ v x. Selects state operand v x) postfixes)) before.0.params
-        (post_alike state left.params (Has left) (λ v x. Selects state operand v x) postfixes before.0.elements)
+        (EndsPost state names (Taken state operand postfixes) postfixes)) before.0.params
+        (post_alike state left.params (Has left) (Taken state operand postfixes) postfixes before.0.elements)
 
     pub postfixes_failed : (refusal : Refusal) → GoesOn (Ends state operand)
         → IsWhyUnworked (work (parts_of_postfixes postfixes)) (EndsPost state left.params (Has left) postfixes) h k refusal
@@ -205,7 +207,7 @@ module _ (state : StateView) (expr operand : Expr) (postfixes : List Postfix) (i
 
     pub post_goes_on : GoesOn (Ends state operand) → GoesOn (EndsPost state left.params (Has left) postfixes) → GoesOn (Ends state expr)
     post_goes_on operand_goes postfixes_go =
-        let Past = EndsPost state (declared_of (scope_of state) operand) (λ v x. Selects state operand v x) postfixes in
+        let Past = EndsPost state (declared_of (scope_of state) operand) (Taken state operand postfixes) postfixes in
         goes_alike AllEnds (Ends state expr) all_end (goes_both (Ends state operand) Past operand_goes
         (goes_alike (EndsPost state left.params (Has left) postfixes) Past follows_alike postfixes_go))
 
@@ -231,10 +233,10 @@ module _ (state : StateView) (expr : Expr) (word : Word) (operand : Expr) (is : 
       (both.1, both.0)
 
   abbrev pub FormedEnds : KeptValue → End → Type 0
-  FormedEnds value = OperationEnds [] (FormsWide (WordForms word) (Has value))
+  FormedEnds value = WordEnds word (Has value)
 
   abbrev SelectedEnds : End → Type 0
-  SelectedEnds = OperationEnds [] (FormsWide (WordForms word) (λ v x. Selects state operand v x))
+  SelectedEnds = WordEnds word (λ v x. Selects state operand v x)
 
   word_ends : EndAlike (FirstEnds (Ends state operand) SelectedEnds) (Ends state expr)
   word_ends =
@@ -251,33 +253,36 @@ module _ (state : StateView) (expr : Expr) (word : Word) (operand : Expr) (is : 
     own : IsMade state operand g h one
     own = subst (IsMade state operand g h) (sym same) made_of
 
-    pub word_made : is_foreign (prefix word) ≡ false → (made : KeptValue)
-        → IsValueOf (λ made. IsWordOf word one made) one.params (λ v x. WordHas word (Has one v) x) (unsigned_abs (limit_of h)) made
+    pub word_made : (part : ListPart) → is_foreign (prefix word) ≡ false → (made : KeptValue)
+        → IsValueOf (λ made. IsWordOf word one made) one.params (WordHas word one.params (Has one)) (unsigned_abs (limit_of h)) made
         × IsPaid (word_works word) h k
-        → IsMade state expr g k made
-    word_made supported made all = (
-      value_before g h (IsWorked state expr) (declared_of (scope_of state) expr) (Selects state expr) made own.1.charged
-          (subst (λ (x : Expr). MadeOf state x (unsigned_abs (limit_of h)) made) (sym is) (record {
-            written = worked_of-Prefix state word operand one made own.0.written (not-false (is_operation_word word) supported)
-                all.0.written;
-            kept = all.0.kept;
-            params = all.0.params ∙ own.0.params ∙ sym (declared_of-Prefix (scope_of state) word operand);
-            elements = λ v. same_trans (Has made v) (WordHas word (Has one v)) (Selects state (Prefix word operand) v)
-                (all.0.elements v)
-                (same_trans (WordHas word (Has one v)) (WordHas word (Selects state operand v)) (Selects state (Prefix word operand) v)
-                (same_word word (Has one v) (Selects state operand v) (own.0.elements v))
-                (turned (Selects state (Prefix word operand) v) (WordHas word (Selects state operand v))
-                (selects_of-Prefix state v word operand)));
-            numbers = all.0.numbers;
-            definitions = all.0.definitions;
-          })),
-      paid_after WordWorks (work (parts_of operand)) (word_works word) g h k word_none own.1 all.1,
-    )
+        → IsMadeAt state part expr g k made
+    word_made part supported made all =
+        let names = declared_of (scope_of state) operand in (
+          value_before g h (IsWorkedAt state part expr) (declared_of (scope_of state) expr) (SelectsAt state part expr) made own.1.charged
+              (subst (λ (x : Expr). IsValueAt state part x (unsigned_abs (limit_of h)) made) (sym is) (record {
+                written = worked_of-Prefix state part word operand one made own.0.written
+                    (not-false (is_operation_word word) supported)
+                    all.0.written;
+                kept = all.0.kept;
+                params = all.0.params ∙ own.0.params ∙ sym (declared_of-Prefix (scope_of state) word operand);
+                elements = λ v. same_trans (Has made v) (WordHas word one.params (Has one) v) (SelectsAt state part (Prefix word operand) v)
+                    (all.0.elements v)
+                    (same_trans (WordHas word one.params (Has one) v) (WordHas word names (Selects state operand) v)
+                    (SelectsAt state part (Prefix word operand) v)
+                    (subst (λ (ns : List Name). Same (WordHas word one.params (Has one) v) (WordHas word ns (Selects state operand) v))
+                    own.0.params (same_word word one.params (Has one) (Selects state operand) own.0.elements v))
+                    (turned (SelectsAt state part (Prefix word operand) v) (WordHas word names (Selects state operand) v)
+                    (selects_of-Prefix state v part word operand)));
+                numbers = all.0.numbers;
+                definitions = all.0.definitions;
+              })),
+          paid_after WordWorks (work (parts_of operand)) (word_works word) g h k word_none own.1 all.1,
+        )
 
     -- the word ends for the value as it does for what is selected
     formed_alike : EndAlike (FormedEnds one) SelectedEnds
-    formed_alike =
-        operation_alike [] _ _ (forms_wide (WordForms word) (Has one) (λ v x. Selects state operand v x) own.0.elements)
+    formed_alike = word_alike word (Has one) (λ v x. Selects state operand v x) own.0.elements
 
     pub word_failed : (refusal : Refusal) → GoesOn (Ends state operand) → IsWhyUnworked (word_works word) (FormedEnds one) h k refusal
         → IsWhyNotMade state expr g k refusal

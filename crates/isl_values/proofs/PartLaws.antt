@@ -1,7 +1,7 @@
 -- What stands in an expression, operand by operand.
 use Rattle.std.proofs.Common.{◌≡◌, ◌∙◌, ◌<◌, ℕ, zero, suc, Bool, false, List, [], ◌∷◌, ◌++◌, length, get_or, sym, ap, subst, arith}
 use Rattle.std.specs.List.{All, list_any}
-use Rattle.std.proofs.lemmas.Bool.{or_parts, false≢true}
+use Rattle.std.proofs.lemmas.Bool.{or_parts}
 use Rattle.std.proofs.lemmas.List.Elements.{All-nil, All-cons, All-head, All-tail}
 use Rattle.std.proofs.lemmas.List.Folds.{list_any-append}
 use Rattle.isl_lower.specs.Value.{IsWellFormedLiteral}
@@ -97,7 +97,7 @@ module _ (scope : ScopeView) where
       → All IsWellFormedLiteral (literals_in_postfix postfix) → IsSoundPostfix scope postfix
   postfix_sound Inverse supported known literals = tt
   postfix_sound (Apply argument) supported known literals = record { supported = supported; known = known; literals = literals }
-  postfix_sound (Item number) supported known literals = absurd (false≢true (sym supported))
+  postfix_sound (Item number) supported known literals = tt
 
   postfixes_sound : (postfixes : List Postfix) → list_any is_foreign (parts_of_postfixes postfixes) ≡ false
       → list_any (is_unknown scope) (parts_of_postfixes postfixes) ≡ false
@@ -126,6 +126,44 @@ module _ (scope : ScopeView) where
     known = (word_quiet (is_unknown scope) word operand sound.known).1;
     literals = subst (All IsWellFormedLiteral) (literals_of-Prefix word operand) sound.literals;
   }
+
+  -- source, sink and schedule, where these parts and literals stand in the whole
+  module _ (expr source sink schedule : Expr) (one : Part) (parts : parts_of expr ≡ one ∷ (parts_of source ++ (parts_of sink ++ parts_of schedule)))
+      (literals : literals_of expr ≡ literals_of source ++ (literals_of sink ++ literals_of schedule)) (sound : IsSoundExpr scope expr) where
+    three_quiet : (test : Part → Bool) → list_any test (parts_of expr) ≡ false
+        → (list_any test (parts_of source) ≡ false) × (list_any test (parts_of sink) ≡ false) × (list_any test (parts_of schedule) ≡ false)
+    three_quiet test none =
+        let all = or_parts (test one) (list_any test (parts_of source ++ (parts_of sink ++ parts_of schedule)))
+        (sym (ap (list_any test) parts) ∙ none) in
+        let first = quiet_both test (parts_of source) (parts_of sink ++ parts_of schedule) all.1 in
+        let more = quiet_both test (parts_of sink) (parts_of schedule) first.1 in
+        (first.0, more.0, more.1)
+
+    three_formed : All IsWellFormedLiteral (literals_of source ++ (literals_of sink ++ literals_of schedule))
+    three_formed = subst (All IsWellFormedLiteral) literals sound.literals
+
+    pub sound_source : IsSoundExpr scope source
+    sound_source = record {
+      supported = (three_quiet is_foreign sound.supported).0;
+      known = (three_quiet (is_unknown scope) sound.known).0;
+      literals = all_left IsWellFormedLiteral (literals_of source) (literals_of sink ++ literals_of schedule) three_formed;
+    }
+
+    pub sound_sink : IsSoundExpr scope sink
+    sound_sink = record {
+      supported = (three_quiet is_foreign sound.supported).1;
+      known = (three_quiet (is_unknown scope) sound.known).1;
+      literals = all_left IsWellFormedLiteral (literals_of sink) (literals_of schedule)
+          (all_right IsWellFormedLiteral (literals_of source) (literals_of sink ++ literals_of schedule) three_formed);
+    }
+
+    pub sound_schedule : IsSoundExpr scope schedule
+    sound_schedule = record {
+      supported = (three_quiet is_foreign sound.supported).2;
+      known = (three_quiet (is_unknown scope) sound.known).2;
+      literals = all_right IsWellFormedLiteral (literals_of sink) (literals_of schedule)
+          (all_right IsWellFormedLiteral (literals_of source) (literals_of sink ++ literals_of schedule) three_formed);
+    }
 
 -- ---- the operand at a place
 pub quiet_at : (test : Part → Bool) (links : List Link) (i : ℕ) (link : Link) → i < length links → link ≡ get_or links i link

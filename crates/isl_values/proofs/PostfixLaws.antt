@@ -1,30 +1,30 @@
 -- What follows an operand, one after another.
-use Rattle.std.proofs.Common.{◌≡◌, ◌∙◌, inl, inr, ◌<◌, ◌+◌, ℕ, Bool, true, false, List, All, length, get_or, take, sym, ap, subst}
+use Rattle.std.proofs.Common.{◌≡◌, ◌∙◌, inl, inr, ◌<◌, ◌+◌, ℕ, ℤ, Bool, true, false, List, All, length, get_or, take, refl, sym, ap, subst}
 use Rattle.std.specs.Prelude.{unsigned_abs}
 use Rattle.isl_meter.specs.Gauge.{Gauge, limit_of}
 use Rattle.isl_space.specs.Name.{Name}
-use Rattle.isl_union.specs.KeptValue.{KeptValue, Has}
+use Rattle.isl_union.specs.KeptValue.{KeptValue, Has, HasNoDefinitions, IsKeptValue}
 use Rattle.isl_text.specs.declared.refusal.Refusal.{Refusal}
 use Rattle.isl_text.specs.declared.refusal.Refusal.TheVariants.{NoMemory}
 use Rattle.isl_maps.specs.Inverse.{inverse_element, inverse_of}
 use Rattle.isl_expr.specs.declared.tree.Expr.{Expr}
-use Rattle.isl_expr.specs.declared.tree.Postfix.{Postfix, Inverse, Apply}
+use Rattle.isl_expr.specs.declared.tree.Postfix.{Postfix, Inverse, Apply, Item}
 use Rattle.isl_operators.specs.Operations.{ApplicationHas}
-use Rattle.isl_operators.specs.Formed.{ApplicationForms, PairsWide}
+use Rattle.isl_operators.specs.Formed.{ApplicationForms}
 use Rattle.isl_operators.specs.Made.{IsApplicationOf}
 use Rattle.isl_kinds.specs.Parts.{parts_of, parts_of_postfix, parts_of_postfixes}
 use Rattle.isl_kinds.specs.Typed.{declared_of, declared_past, declared_of_post, joined_names}
-use Rattle.isl_values.specs.State.{StateView, scope_of}
+use Rattle.isl_values.specs.State.{StateView, scope_of, HasNumbersUpTo}
 use Rattle.isl_values.specs.Selection.{Selects, PostfixHas, PostSelects}
 use Rattle.isl_values.specs.Worked.{IsPostfixOf, IsWorkedPost}
-use Rattle.isl_values.specs.Ends.{End, Ends, EndsPostfix, EndsPost, GoesOn, OperationEnds}
+use Rattle.isl_values.specs.Ends.{End, Ends, EndsPostfix, EndsPost, GoesOn, PairEnds}
 use Rattle.isl_values.specs.Made.{uses_units, IsSoundExpr, IsSoundPostfix, IsValueOf, IsPaid, IsWhyUnworked}
 use Rattle.isl_values.proofs.PartLaws.{quiet_in}
 use Rattle.isl_values.proofs.NamesLaws.{past_more}
 use Rattle.isl_values.proofs.SameLaws.{itself, same_application, same_trans}
 use Rattle.isl_values.proofs.RowLaws.{post_more}
-use Rattle.isl_values.proofs.FirstLaws.{EndAlike, goes_alike, goes_both, operation_alike}
-use Rattle.isl_values.proofs.EndsLaws.{Before, pairs_wide}
+use Rattle.isl_values.proofs.FirstLaws.{EndAlike, goes_alike, goes_both}
+use Rattle.isl_values.proofs.EndsLaws.{Before, pair_alike}
 use Rattle.isl_values.proofs.EndsLaws.{postfix_alike, post_ends_at, post_goes_more}
 use Rattle.isl_values.proofs.WorkedLaws.{post_worked_more}
 use Rattle.isl_values.proofs.ValueLaws.{IsMade, work, value_before, paid_same, paid_after, unmade_memory, unworked_after, unworked_in}
@@ -61,10 +61,37 @@ module _ (state : StateView) (postfix : Postfix) (left : KeptValue) (g h : Gauge
 
   pub inverse_failed : (refusal : Refusal) → refusal ≡ NoMemory → IsWhyNotFollowed state postfix left g h refusal
   inverse_failed refusal memory =
-      inl (unmade_memory (work (parts_of_postfix postfix)) g h refusal memory (paid_same (work (parts_of_postfix postfix)) g h kept))
+      inl (unmade_memory (work (parts_of_postfix postfix)) (EndsPostfix state left.params (Has left) postfix) g h refusal memory
+      (paid_same (work (parts_of_postfix postfix)) g h kept))
 
   pub inverse_goes_on : GoesOn (EndsPostfix state left.params (Has left) postfix)
-  inverse_goes_on why ends = subst (λ (p : Postfix). EndsPostfix state left.params (Has left) p why) is ends
+  inverse_goes_on = subst (λ (p : Postfix). GoesOn (EndsPostfix state left.params (Has left) p)) (sym is) (λ reason ends. ends)
+
+-- ---- an element of a list, which the operand was taken at
+module _ (state : StateView) (postfix : Postfix) (number : ℤ) (left : KeptValue) (g : Gauge) (is : postfix ≡ Item number) where
+  pub item_followed : (value : KeptValue) → value ≡ left → IsKeptValue left → HasNumbersUpTo (unsigned_abs (limit_of g)) left
+      → HasNoDefinitions left → IsFollowed state postfix left g g value
+  item_followed value same kept small plain =
+      subst (λ (p : Postfix). IsFollowed state p left g g value) (sym is)
+      (subst (λ (v : KeptValue). IsFollowed state (Item number) left g g v) (sym same) (
+        record {
+          written = refl;
+          kept = kept;
+          params = refl;
+          elements = λ v. itself (Has left v);
+          numbers = small;
+          definitions = plain;
+        },
+        paid_same false g g refl,
+      ))
+
+  pub item_failed : (refusal : Refusal) → refusal ≡ NoMemory → IsWhyNotFollowed state postfix left g g refusal
+  item_failed refusal memory =
+      inl (unmade_memory (work (parts_of_postfix postfix)) (EndsPostfix state left.params (Has left) postfix) g g refusal memory
+      (paid_same (work (parts_of_postfix postfix)) g g refl))
+
+  pub item_goes_on : GoesOn (EndsPostfix state left.params (Has left) postfix)
+  item_goes_on = subst (λ (p : Postfix). GoesOn (EndsPostfix state left.params (Has left) p)) (sym is) (λ reason ends. ends)
 
 -- ---- an application
 module _ (state : StateView) (postfix : Postfix) (expr : Expr) (is : postfix ≡ Apply expr) where
@@ -82,7 +109,7 @@ module _ (state : StateView) (postfix : Postfix) (expr : Expr) (is : postfix ≡
 
   module _ (left argument one : KeptValue) (g h k : Gauge) (made_of : IsMade state expr g h argument) (same : one ≡ argument) where
     abbrev pub ApplyEnds : End → Type 0
-    ApplyEnds = OperationEnds (joined_names left.params one.params) (PairsWide ApplicationForms (Has left) (Has one))
+    ApplyEnds = PairEnds ApplicationForms left.params one.params (Has left) (Has one)
 
     own : IsMade state expr g h one
     own = subst (IsMade state expr g h) (sym same) made_of
@@ -111,19 +138,15 @@ module _ (state : StateView) (postfix : Postfix) (expr : Expr) (is : postfix ≡
         )
 
     abbrev SelectedEnds : End → Type 0
-    SelectedEnds =
-        OperationEnds (joined_names left.params (declared_of (scope_of state) expr))
-        (PairsWide ApplicationForms (Has left) (λ v x. Selects state expr v x))
+    SelectedEnds = PairEnds ApplicationForms left.params (declared_of (scope_of state) expr) (Has left) (λ v x. Selects state expr v x)
 
     -- it ends for two values as it does for what is selected
     apply_alike : EndAlike ApplyEnds SelectedEnds
     apply_alike =
         subst (λ (names : List Name). EndAlike ApplyEnds
-        (OperationEnds names (PairsWide ApplicationForms (Has left) (λ v x. Selects state expr v x))))
-        (ap (joined_names left.params) own.0.params)
-        (operation_alike (joined_names left.params one.params) _ _
-        (pairs_wide ApplicationForms (Has left) (Has left) (Has one) (λ v x. Selects state expr v x) (λ v. itself (Has left v))
-        own.0.elements))
+        (PairEnds ApplicationForms left.params names (Has left) (λ v x. Selects state expr v x))) own.0.params
+        (pair_alike ApplicationForms left.params one.params (Has left) (Has left) (Has one) (λ v x. Selects state expr v x)
+        (λ v. itself (Has left v)) own.0.elements)
 
     -- the map is not applied to it
     pub application_failed : (refusal : Refusal) → GoesOn (Ends state expr) → IsWhyUnworked true ApplyEnds h k refusal

@@ -1,31 +1,55 @@
 -- Operands from the left, and what follows one: what they select.
 use mathlib.Core.Former.{Count}
-use Rattle.std.proofs.Common.{◌≡◌, ◌∙◌, ◌<◌, ◌+◌, ℕ, List, [], ◌∷◌, ◌++◌, length, get_or, take, sym, ap, subst}
+use Rattle.std.proofs.Common.{◌≡◌, ◌∙◌, ◌<◌, ◌+◌, ℕ, List, [], ◌∷◌, ◌++◌, length, get_or, take, refl, sym, ap, subst}
 use Rattle.std.proofs.lemmas.List.{take_more}
 use Rattle.isl_space.specs.Valuation.{Valuation}
 use Rattle.isl_maps.specs.Inverse.{inverse_element}
 use Rattle.isl_expr.specs.declared.tree.Prefix.{Prefix as Word}
 use Rattle.isl_expr.specs.declared.tree.Link.{Link}
 use Rattle.isl_expr.specs.declared.tree.Postfix.{Postfix, Inverse, Apply, Item}
-use Rattle.isl_expr.specs.declared.tree.Expr.{Expr, Row, Prefix, Post, Row_of-Link, end_of-Link, more_of-Link}
+use Rattle.isl_expr.specs.declared.tree.Expr.{Expr, Row, Prefix, Any, Last, Post, Row_of-Link, end_of-Link, more_of-Link}
 use Rattle.isl_expr.specs.declared.tree.Expr.{Row_of-Postfix, end_of-Postfix, more_of-Postfix, items-the_row-Link, items-the_row-Postfix}
 use Rattle.isl_expr.specs.declared.tree.Expr.{items_hidden-the_row-Link-1, items_hidden-the_row-Postfix-2}
 use Rattle.isl_expr.specs.declared.tree.Expr.TheBlock.{hidden-the_row-Expr-0, hidden-the_row-Link-1, hidden-the_row-Postfix-2}
+use Rattle.isl_operators.specs.Flow.{AnyHas}
 use Rattle.isl_operators.specs.Operations.{OperatorHas, WordHas}
-use Rattle.isl_values.specs.State.{StateView}
-use Rattle.isl_values.specs.Selection.{PostfixHas, Selects, SelectsPastLinks, SelectsPastPostfixes, RowSelects, PostSelects}
+use Rattle.isl_kinds.specs.Typed.{declared_of}
+use Rattle.isl_values.specs.declared.list.ListPart.{ListPart}
+use Rattle.isl_values.specs.State.{StateView, scope_of}
+use Rattle.isl_values.specs.Worked.{PartHas, part_of_list, part_taken}
+use Rattle.isl_values.specs.Selection.{PostfixHas, Selects, SelectsAt, SelectsPastLinks, SelectsPastPostfixes, RowSelects, PostSelects}
 use Rattle.isl_values.proofs.SameLaws.{Elements, Same, itself, turned, same_operator, same_application}
 pub use Rattle.isl_values.proofs.SameLaws.{same_trans}
+
+-- the part that what follows an operand is about, of a list
+pub part_is : (m : Count) (row : Row_of-Postfix m) → part_taken row ≡ part_of_list (items-the_row-Postfix m row)
+part_is m end_of-Postfix = refl
+part_is m (more_of-Postfix Inverse row) = refl
+part_is m (more_of-Postfix (Apply argument) row) = refl
+part_is m (more_of-Postfix (Item number) row) = refl
 
 module _ (state : StateView) (valuation : Valuation) where
   abbrev Selected : Expr → Elements
   Selected expr x = Selects state expr valuation x
 
   -- ---- a word before an operand
-  pub selects_of-Prefix : (word : Word) (operand : Expr) → Same (λ x. Selects state (Prefix word operand) valuation x)
-      (WordHas word (Selected operand))
+  pub selects_of-Prefix : (part : ListPart) (word : Word) (operand : Expr) → Same (λ x. SelectsAt state part (Prefix word operand) valuation x)
+      (WordHas word (declared_of (scope_of state) operand) (λ v x. Selects state operand v x) valuation)
   unfolding hidden-the_row-Expr-0 denote.Hole.Carrier.hidden
-  selects_of-Prefix word operand = itself (WordHas word (Selected operand))
+  selects_of-Prefix part word operand =
+      itself (WordHas word (declared_of (scope_of state) operand) (λ v x. Selects state operand v x) valuation)
+
+  -- ---- source, sink and schedule
+  pub selects_of-Any : (part : ListPart) (source sink schedule : Expr)
+      → Same (λ x. SelectsAt state part (Any source sink schedule) valuation x) (AnyHas (Selected source) (Selected sink) (Selected schedule))
+  unfolding hidden-the_row-Expr-0 denote.Hole.Carrier.hidden
+  selects_of-Any part source sink schedule = itself (AnyHas (Selected source) (Selected sink) (Selected schedule))
+
+  pub selects_of-Last : (part : ListPart) (source sink schedule : Expr)
+      → Same (λ x. SelectsAt state part (Last source sink schedule) valuation x)
+      (PartHas part (Selected source) (Selected sink) (Selected schedule))
+  unfolding hidden-the_row-Expr-0 denote.Hole.Carrier.hidden
+  selects_of-Last part source sink schedule = itself (PartHas part (Selected source) (Selected sink) (Selected schedule))
 
   -- ---- rows
   pub same_row : (P Q : Elements) (links : List Link) → Same P Q
@@ -63,11 +87,11 @@ module _ (state : StateView) (valuation : Valuation) where
   links_are m P end_of-Link = itself P
   links_are m P (more_of-Link sign operand row) = links_are _ (OperatorHas sign P (Selected operand)) row
 
-  pub selects_of-Row : (first : Expr) (links : List Link)
-      → Same (λ x. Selects state (Row first links) valuation x) (RowSelects state valuation (Selected first) links)
+  pub selects_of-Row : (part : ListPart) (first : Expr) (links : List Link)
+      → Same (λ x. SelectsAt state part (Row first links) valuation x) (RowSelects state valuation (Selected first) links)
   unfolding hidden-the_row-Expr-0 denote.Hole.Carrier.hidden
-  selects_of-Row first links =
-      subst (λ (ls : List Link). Same (λ x. Selects state (Row first links) valuation x) (RowSelects state valuation (Selected first) ls))
+  selects_of-Row part first links =
+      subst (λ (ls : List Link). Same (λ x. SelectsAt state part (Row first links) valuation x) (RowSelects state valuation (Selected first) ls))
       (items_hidden-the_row-Link-1 links) (links_are _ (Selected first) (hidden-the_row-Link-1 links))
 
   -- ---- what follows an operand
@@ -76,7 +100,7 @@ module _ (state : StateView) (valuation : Valuation) where
   same_postfix Inverse P Q same = λ x. same (inverse_element x)
   same_postfix (Apply argument) P Q same =
       same_application P Q (Selected argument) (Selected argument) same (itself (Selected argument))
-  same_postfix (Item number) P Q same = λ x. ((λ h. h), (λ h. h))
+  same_postfix (Item number) P Q same = same
 
   pub same_post : (P Q : Elements) (postfixes : List Postfix) → Same P Q
       → Same (PostSelects state valuation P postfixes) (PostSelects state valuation Q postfixes)
@@ -110,10 +134,19 @@ module _ (state : StateView) (valuation : Valuation) where
   postfixes_are m P end_of-Postfix = itself P
   postfixes_are m P (more_of-Postfix postfix row) = postfixes_are _ (PostfixHas state valuation P postfix) row
 
-  pub selects_of-Post : (operand : Expr) (postfixes : List Postfix)
-      → Same (λ x. Selects state (Post operand postfixes) valuation x) (PostSelects state valuation (Selected operand) postfixes)
+  abbrev Taken : Expr → List Postfix → Elements
+  Taken operand postfixes x = SelectsAt state (part_of_list postfixes) operand valuation x
+
+  pub selects_of-Post : (part : ListPart) (operand : Expr) (postfixes : List Postfix)
+      → Same (λ x. SelectsAt state part (Post operand postfixes) valuation x)
+      (PostSelects state valuation (Taken operand postfixes) postfixes)
   unfolding hidden-the_row-Expr-0 denote.Hole.Carrier.hidden
-  selects_of-Post operand postfixes =
-      subst (λ (ps : List Postfix). Same (λ x. Selects state (Post operand postfixes) valuation x)
-      (PostSelects state valuation (Selected operand) ps))
-      (items_hidden-the_row-Postfix-2 postfixes) (postfixes_are _ (Selected operand) (hidden-the_row-Postfix-2 postfixes))
+  selects_of-Post part operand postfixes =
+      let row = hidden-the_row-Postfix-2 postfixes in
+      subst (λ (ps : List Postfix). Same (λ x. SelectsAt state part (Post operand postfixes) valuation x)
+      (PostSelects state valuation (Taken operand ps) ps))
+      (items_hidden-the_row-Postfix-2 postfixes)
+      (subst (λ (at : ListPart). Same (λ x. SelectsAt state part (Post operand postfixes) valuation x)
+      (PostSelects state valuation (λ x. SelectsAt state at operand valuation x) (items-the_row-Postfix _ row)))
+      (part_is _ row)
+      (postfixes_are _ (λ x. SelectsAt state (part_taken row) operand valuation x) row))

@@ -1,17 +1,29 @@
 -- What operations make of the same elements is the same.
-use Rattle.std.proofs.Common.{◌↔◌, inl, inr}
+use Rattle.std.proofs.Common.{◌↔◌, inl, inr, List}
 use Rattle.isl_space.specs.Element.{Element}
+use Rattle.isl_space.specs.Name.{Name}
+use Rattle.isl_space.specs.Valuation.{Valuation}
 use Rattle.isl_expr.specs.declared.tree.Binary.{Binary}
 use Rattle.isl_expr.specs.declared.tree.Binary.TheVariants as b
 use Rattle.isl_expr.specs.declared.tree.Prefix.{Prefix}
 use Rattle.isl_expr.specs.declared.tree.Prefix.TheVariants as p
 use Rattle.isl_operators.specs.Point.{Point, HasPoint, Relates, set_element, map_element, paired}
 use Rattle.isl_operators.specs.Maps.{JoinHas}
-use Rattle.isl_operators.specs.Operations.{IsIn, OperatorHas, WordHas, ApplicationHas}
+use Rattle.isl_operators.specs.Extremes.{FirstHas, HasFirst, IsFirstImage, IsFirstOf}
+use Rattle.isl_operators.specs.Flow.{AnyHas, IsOverwritten, Precedes}
+use Rattle.isl_operators.specs.Orders.{ComesAfter, ComesBefore, IsDownTo, IsUpTo}
+use Rattle.isl_operators.specs.Operations.{IsIn, OperatorHas, OrderedHas, WordHas, WordMisses, ApplicationHas}
+use Rattle.isl_values.specs.declared.list.ListPart.{ListPart}
+use Rattle.isl_values.specs.declared.list.ListPart.TheVariants.{First, Second}
+use Rattle.isl_values.specs.Worked.{Dependence, PartHas}
 
 -- at one valuation
 abbrev pub Elements : Type 1
 Elements = Element → Type 0
+
+-- at every valuation
+abbrev pub Selection : Type 1
+Selection = Valuation → Elements
 
 -- both have the same elements
 abbrev pub Same : Elements → Elements → Type 0
@@ -26,6 +38,13 @@ turned P Q same = λ x. let h = same x in (h.1, h.0)
 pub same_trans : (P Q R : Elements) → Same P Q → Same Q R → Same P R
 same_trans P Q R p q = λ x. ((λ h. (q x).0 ((p x).0 h)), (λ h. (p x).1 ((q x).1 h)))
 
+-- at every valuation
+abbrev pub AreSame : Selection → Selection → Type 0
+AreSame P Q = (v : Valuation) (x : Element) → P v x ↔ Q v x
+
+pub turned_same : (P Q : Selection) → AreSame P Q → AreSame Q P
+turned_same P Q same v = turned (P v) (Q v) (same v)
+
 -- ---- one operand
 module _ (P Q : Elements) (same : Same P Q) where
   point_in : (x : Point) → HasPoint P x → HasPoint Q x
@@ -38,22 +57,37 @@ module _ (P Q : Elements) (same : Same P Q) where
   within x (inl h) = inl ((same x).0 h)
   within x (inr h) = inr (h.0, h.1, point_in h.0 h.2, h.3, h.4)
 
-  word_has : (word : Prefix) (x : Element) → WordHas word P x → WordHas word Q x
-  word_has p.Domain x h = (h.0, h.1, pair_in h.0 h.1 h.2, h.3)
-  word_has p.Range x h = (h.0, h.1, pair_in h.0 h.1 h.2, h.3)
-  word_has p.Deltas x h = (h.0, h.1, pair_in h.0 h.1 h.2, h.3, h.4)
-  word_has p.Identity x h = (h.0, point_in h.0 h.1, h.2)
-  word_has p.Wrap x h = (h.0, h.1, pair_in h.0 h.1 h.2, h.3)
-  word_has p.Unwrap x h = (h.0, h.1, h.2, h.3, point_in (paired h.0 h.1) h.4, h.5)
-  word_has p.Zip x h = (h.0, h.1, h.2, h.3, h.4, h.5, h.6, h.7, pair_in (paired h.0 h.1) (paired h.2 h.3) h.8, h.9)
-  word_has p.DomainMap x h = (h.0, h.1, pair_in h.0 h.1 h.2, h.3)
-  word_has p.RangeMap x h = (h.0, h.1, pair_in h.0 h.1 h.2, h.3)
-  word_has _ x h = absurd h
+  point_back : (x : Point) → HasPoint Q x → HasPoint P x
+  point_back x h = record { point = h.point; has = (same (set_element x)).1 h.has }
+
+  pair_back : (x y : Point) → Relates Q x y → Relates P x y
+  pair_back x y h = record { from = h.from; to = h.to; has = (same (map_element x y)).1 h.has }
+
+  module _ (Ordered : Point → Point → Type 0) where
+    first_of : (x : Point) → IsFirstOf Ordered P x → IsFirstOf Ordered Q x
+    first_of x h = (point_in x h.0, (λ z has. h.1 z (point_back z has)))
+
+    first_image : (x y : Point) → IsFirstImage Ordered P x y → IsFirstImage Ordered Q x y
+    first_image x y h = (pair_in x y h.0, (λ z has. h.1 z (pair_back x z has)))
+
+    first_has : (x : Element) → FirstHas Ordered P x → FirstHas Ordered Q x
+    first_has x (inl h) = inl (h.0, first_of h.0 h.1, h.2)
+    first_has x (inr h) = inr (h.0, h.1, first_image h.0 h.1 h.2, h.3)
+
+    has_first : HasFirst Ordered P → HasFirst Ordered Q
+    has_first h = record {
+      sets = λ x has. let z = h.sets x (point_back x has) in (z.0, z.1, first_of z.0 z.2);
+      maps = λ x y has. let z = h.maps x y (pair_back x y has) in (z.0, z.1, first_image x z.0 z.2);
+    }
 
 -- ---- two operands
 module _ (P Q R S : Elements) (left : Same P Q) (right : Same R S) where
   join_has : (x : Element) → JoinHas P R x → JoinHas Q S x
   join_has x h = (h.0, h.1, h.2, pair_in P Q left h.0 h.1 h.3, pair_in R S right h.1 h.2 h.4, h.5)
+
+  ordered_has : (Ordered : Point → Point → Type 0) (x : Element) → OrderedHas Ordered P R x → OrderedHas Ordered Q S x
+  ordered_has Ordered x (inl h) = inl (h.0, h.1, point_in P Q left h.0 h.2, point_in R S right h.1 h.3, h.4, h.5)
+  ordered_has Ordered x (inr h) = inr (h.0, h.1, h.2, h.3, pair_in P Q left h.0 h.2 h.4, pair_in R S right h.1 h.3 h.5, h.6, h.7)
 
   operator_has : (operator : Binary) (x : Element) → OperatorHas operator P R x → OperatorHas operator Q S x
   operator_has b.Union x (inl h) = inl ((left x).0 h)
@@ -67,6 +101,10 @@ module _ (P Q R S : Elements) (left : Same P Q) (right : Same R S) where
   operator_has b.Cross x (inr h) = inr (h.0, h.1, h.2, h.3, pair_in P Q left h.0 h.1 h.4, pair_in R S right h.2 h.3 h.5, h.6)
   operator_has b.Join x h = join_has x h
   operator_has b.Universal x h = (h.0, h.1, point_in P Q left h.0 h.2, point_in R S right h.1 h.3, h.4)
+  operator_has b.LexLess x h = ordered_has ComesBefore x h
+  operator_has b.LexLessEqual x h = ordered_has IsUpTo x h
+  operator_has b.LexGreater x h = ordered_has ComesAfter x h
+  operator_has b.LexGreaterEqual x h = ordered_has IsDownTo x h
   operator_has _ x h = absurd h
 
 -- a map on the left, and what it is applied to
@@ -74,6 +112,80 @@ module _ (P Q R S : Elements) (map : Same P Q) (argument : Same R S) where
   application_has : (x : Element) → ApplicationHas P R x → ApplicationHas Q S x
   application_has x (inl h) = inl (h.0, h.1, pair_in P Q map h.0 h.1 h.2, point_in R S argument h.0 h.3, h.4)
   application_has x (inr h) = inr (join_has R S P Q argument map x h)
+
+-- a word, of the elements at every valuation
+module _ (P Q : Selection) (same : AreSame P Q) where
+  word_has : (word : Prefix) (names : List Name) (v : Valuation) (x : Element) → WordHas word names P v x → WordHas word names Q v x
+  word_has p.Domain names v x h = (h.0, h.1, pair_in (P v) (Q v) (same v) h.0 h.1 h.2, h.3)
+  word_has p.Range names v x h = (h.0, h.1, pair_in (P v) (Q v) (same v) h.0 h.1 h.2, h.3)
+  word_has p.Deltas names v x h = (h.0, h.1, pair_in (P v) (Q v) (same v) h.0 h.1 h.2, h.3, h.4)
+  word_has p.Identity names v x h = (h.0, point_in (P v) (Q v) (same v) h.0 h.1, h.2)
+  word_has p.Wrap names v x h = (h.0, h.1, pair_in (P v) (Q v) (same v) h.0 h.1 h.2, h.3)
+  word_has p.Unwrap names v x h = (h.0, h.1, h.2, h.3, point_in (P v) (Q v) (same v) (paired h.0 h.1) h.4, h.5)
+  word_has p.Zip names v x h =
+      (h.0, h.1, h.2, h.3, h.4, h.5, h.6, h.7, pair_in (P v) (Q v) (same v) (paired h.0 h.1) (paired h.2 h.3) h.8, h.9)
+  word_has p.DomainMap names v x h = (h.0, h.1, pair_in (P v) (Q v) (same v) h.0 h.1 h.2, h.3)
+  word_has p.RangeMap names v x h = (h.0, h.1, pair_in (P v) (Q v) (same v) h.0 h.1 h.2, h.3)
+  word_has p.LexMin names v x h = first_has (P v) (Q v) (same v) ComesBefore x h
+  word_has p.LexMax names v x h = first_has (P v) (Q v) (same v) ComesAfter x h
+  word_has p.Coalesce names v x h = (same v x).0 h
+  word_has _ names v x h = absurd h
+
+  misses : (word : Prefix) → WordMisses word P → WordMisses word Q
+  misses p.LexMin h = λ all. h (λ v. has_first (Q v) (P v) (turned (P v) (Q v) (same v)) ComesBefore (all v))
+  misses p.LexMax h = λ all. h (λ v. has_first (Q v) (P v) (turned (P v) (Q v) (same v)) ComesAfter (all v))
+  misses _ h = absurd h
+
+-- source, sink and schedule
+module _ (M N T O P U : Elements) (source : Same M O) (sink : Same N P) (schedule : Same T U) where
+  precedes : (x y a p q : Point) → Precedes M N T x y a p q → Precedes O P U x y a p q
+  precedes x y a p q h = record {
+    source = pair_in M O source x a h.source;
+    sink = pair_in N P sink y a h.sink;
+    at = pair_in T U schedule x p h.at;
+    sink_at = pair_in T U schedule y q h.sink_at;
+    earlier = h.earlier;
+  }
+
+  overwritten : (a p q : Point) → IsOverwritten M T a p q → IsOverwritten O U a p q
+  overwritten a p q h = (h.0, h.1, pair_in M O source h.0 a h.2, pair_in T U schedule h.0 h.1 h.3, h.4, h.5)
+
+  any_has : (x : Element) → AnyHas M N T x → AnyHas O P U x
+  any_has x h = (h.0, h.1, h.2, h.3, h.4, precedes h.0 h.1 h.2 h.3 h.4 h.5, h.6)
+
+-- what is made of three operands depends on their elements alone
+abbrev pub DependsOnElements : Dependence → Type 1
+DependsOnElements Depends =
+    (M N T O P U : Elements) → Same M O → Same N P → Same T U → (x : Element) → Depends M N T x → Depends O P U x
+
+pub same_any : DependsOnElements AnyHas
+same_any M N T O P U source sink schedule x h = any_has M N T O P U source sink schedule x h
+
+pub same_part : (part : ListPart) → DependsOnElements (PartHas part)
+same_part First M N T O P U source sink schedule x h = (
+  h.0,
+  h.1,
+  h.2,
+  h.3,
+  h.4,
+  precedes M N T O P U source sink schedule h.0 h.1 h.2 h.3 h.4 h.5,
+  (λ is. h.6 (overwritten O P U M N T (turned M O source) (turned N P sink) (turned T U schedule) h.2 h.3 h.4 is)),
+  h.7,
+)
+same_part Second M N T O P U source sink schedule x h = (
+  h.0,
+  h.1,
+  pair_in N P sink h.0 h.1 h.2,
+  (λ z p q is. h.3 z p q (precedes O P U M N T (turned M O source) (turned N P sink) (turned T U schedule) z h.0 h.1 p q is)),
+  h.4,
+)
+
+pub same_three : (Depends : Dependence) → DependsOnElements Depends → (M N T O P U : Elements) → Same M O → Same N P → Same T U
+    → Same (Depends M N T) (Depends O P U)
+same_three Depends on M N T O P U source sink schedule = λ x. (
+  on M N T O P U source sink schedule x,
+  on O P U M N T (turned M O source) (turned N P sink) (turned T U schedule) x,
+)
 
 -- ---- both ways
 pub same_operator : (operator : Binary) (P Q R S : Elements) → Same P Q → Same R S
@@ -83,8 +195,11 @@ same_operator operator P Q R S left right = λ x. (
   operator_has Q P S R (turned P Q left) (turned R S right) operator x,
 )
 
-pub same_word : (word : Prefix) (P Q : Elements) → Same P Q → Same (WordHas word P) (WordHas word Q)
-same_word word P Q same = λ x. (word_has P Q same word x, word_has Q P (turned P Q same) word x)
+pub same_word : (word : Prefix) (names : List Name) (P Q : Selection) → AreSame P Q → AreSame (WordHas word names P) (WordHas word names Q)
+same_word word names P Q same v = λ x. (word_has P Q same word names v x, word_has Q P (turned_same P Q same) word names v x)
+
+pub same_misses : (word : Prefix) (P Q : Selection) → AreSame P Q → WordMisses word P ↔ WordMisses word Q
+same_misses word P Q same = (misses P Q same word, misses Q P (turned_same P Q same) word)
 
 pub same_application : (P Q R S : Elements) → Same P Q → Same R S → Same (ApplicationHas P R) (ApplicationHas Q S)
 same_application P Q R S map argument = λ x. (

@@ -8,7 +8,8 @@ use Rattle.std.proofs.lemmas.Slice.Eq.{bytes_eq-Decides}
 use Rattle.indexmap.specs.IndexMap.{insert_entry}
 use Rattle.isl_space.specs.Name.{Name}
 use Rattle.isl_kinds.specs.Typed.{TypeView, ScopeView, bound_to}
-use Rattle.isl_values.specs.State.{Kept, StateView, unbound, kept_of, type_of, scope_of, Binds, HasNumbersUpTo, Fits}
+use Rattle.isl_values.specs.declared.list.ListPart.{ListPart}
+use Rattle.isl_values.specs.State.{Kept, StateView, unbound, kept_of, type_of, scope_of, value_at, Binds, HasNumbersUpTo, Fits}
 
 -- ---- the types of what is bound
 lookup_types : (name : Name) (entries : List (Name × Kept))
@@ -97,16 +98,16 @@ some_same : (a b : Kept) → Some a ≡ Some b → a ≡ b
 some_same a b e = cc
 
 pub fits_unbound : (limit : ℤ) → Fits limit unbound
-fits_unbound limit = λ name kept is. let e : None ≡ Some kept = is in cc
+fits_unbound limit = λ name kept is part. let e : None ≡ Some kept = is in cc
 
 pub fits_bound : (limit : ℤ) (before : StateView) (name : Name) (kept : Kept) (after : StateView) → Fits limit before
-    → Binds before name kept after → HasNumbersUpTo (unsigned_abs limit) kept.value → Fits limit after
-fits_bound limit before name kept after fits bound small = λ other found is. by other found is (bytes_eq other name) refl
+    → Binds before name kept after → ((part : ListPart) → HasNumbersUpTo (unsigned_abs limit) (value_at part kept)) → Fits limit after
+fits_bound limit before name kept after fits bound small = λ other found is part. by other found is part (bytes_eq other name) refl
   where
-    by : (other : Name) (found : Kept) → kept_of after other ≡ Some found → (b : Bool) → bytes_eq other name ≡ b
-        → HasNumbersUpTo (unsigned_abs limit) found.value
-    by other found is true same =
+    by : (other : Name) (found : Kept) → kept_of after other ≡ Some found → (part : ListPart) (b : Bool) → bytes_eq other name ≡ b
+        → HasNumbersUpTo (unsigned_abs limit) (value_at part found)
+    by other found is part true same =
         let there : kept_of after other ≡ Some kept = ap (kept_of after) ((bytes_eq-Decides other name).0 same) ∙ bound.named in
-        subst (λ (k : Kept). HasNumbersUpTo (unsigned_abs limit) k.value) (some_same kept found (sym there ∙ is)) small
-    by other found is false apart =
-        fits other found (sym (bound.others other (λ e. false≢true (sym apart ∙ (bytes_eq-Decides other name).1 e))) ∙ is)
+        subst (λ (k : Kept). HasNumbersUpTo (unsigned_abs limit) (value_at part k)) (some_same kept found (sym there ∙ is)) (small part)
+    by other found is part false apart =
+        fits other found (sym (bound.others other (λ e. false≢true (sym apart ∙ (bytes_eq-Decides other name).1 e))) ∙ is) part

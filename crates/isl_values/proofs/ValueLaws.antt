@@ -1,8 +1,9 @@
 -- Values that are made one after another, what that does to the meter, and why there is none.
-use Rattle.std.proofs.Common.{◌≡◌, ◌∙◌, inl, inr, ℕ, ℤ, Bool, true, false, List, refl, sym, ap, subst}
+use Rattle.std.proofs.Common.{◌≡◌, ◌∙◌, ◌⊎◌, inl, inr, ℕ, ℤ, Bool, true, false, List, refl, sym, ap, subst}
 use Rattle.std.specs.Prelude.{unsigned_abs, Result, Ok, Err, IfErr, IfOk, MatchResult}
 use Rattle.std.specs.List.{list_any}
 use Rattle.isl_meter.specs.Gauge.{Gauge, limit_of, IsCharged}
+use Rattle.isl_meter.specs.declared.Cut.{Cut}
 use Rattle.isl_meter.specs.declared.Cut.TheVariants as cuts
 use Rattle.isl_meter.proofs.CutLemmas.{IsCharged_refl, IsCharged_trans, IsCutBy-after, IsCutBy-charged}
 use Rattle.isl_space.specs.Name.{Name}
@@ -13,12 +14,13 @@ use Rattle.isl_text.specs.declared.refusal.Refusal.{Refusal}
 use Rattle.isl_text.specs.declared.refusal.Refusal.TheVariants.{NoMemory}
 use Rattle.isl_expr.specs.declared.tree.Expr.{Expr}
 use Rattle.isl_kinds.specs.Parts.{Part, parts_of}
-use Rattle.isl_kinds.specs.Typed.{declared_of}
-use Rattle.isl_values.specs.State.{StateView, scope_of, HasNumbersUpTo, Fits}
-use Rattle.isl_values.specs.Selection.{Selects}
-use Rattle.isl_values.specs.Worked.{IsWorked}
-use Rattle.isl_values.specs.Ends.{End}
+use Rattle.isl_values.specs.declared.list.ListPart.{ListPart}
+use Rattle.isl_values.specs.declared.list.ListPart.TheVariants.{First}
+use Rattle.isl_values.specs.State.{StateView, HasNumbersUpTo, Fits}
+use Rattle.isl_values.specs.Ends.{End, because}
+use Rattle.isl_values.specs.Ends as ends
 use Rattle.isl_values.specs.Made.{uses_units, IsValueOf, IsPaid, IsWhyUnmade, IsWhyUnworked}
+use Rattle.isl_values.specs.Three.{IsValueAt}
 
 -- ---- the meter
 pub same_limit : (g h : Gauge) → IsCharged g h → limit_of h ≡ limit_of g
@@ -61,26 +63,41 @@ pub paid_in : (all a : Bool) (g h : Gauge) → (all ≡ false → a ≡ false) �
 paid_in all a g h quiet paid = record { charged = paid.charged; free = λ none. paid.free (quiet none) }
 
 -- ---- why there is no value
-pub unmade_after : (all a b : Bool) (g h k : Gauge) (refusal : Refusal) → (all ≡ false → (a ≡ false) × (b ≡ false)) → IsPaid a g h
-    → IsWhyUnmade b h k refusal → IsWhyUnmade all g k refusal
-unmade_after all a b g h k refusal quiet first why = record {
+-- want of memory may come anywhere, and another cut where what ends a part ends the whole
+cut_there : (Part Whole : End → Type 0) (cut : Cut) → ((why : End) → Part why → Whole why) → (cut ≡ cuts.NoMemory) ⊎ Part ends.cut
+    → (cut ≡ cuts.NoMemory) ⊎ Whole ends.cut
+cut_there Part Whole cut lifts (inl memory) = inl memory
+cut_there Part Whole cut lifts (inr there) = inr (lifts ends.cut there)
+
+pub unmade_after : (all a b : Bool) (Part Whole : End → Type 0) (g h k : Gauge) (refusal : Refusal)
+    → (all ≡ false → (a ≡ false) × (b ≡ false)) → ((why : End) → Part why → Whole why) → IsPaid a g h → IsWhyUnmade b Part h k refusal
+    → IsWhyUnmade all Whole g k refusal
+unmade_after all a b Part Whole g h k refusal quiet lifts first why = record {
   cut = why.cut;
   is = why.is;
   by = IsCutBy-after g h k why.cut first.charged why.by;
+  there = cut_there Part Whole why.cut lifts why.there;
   free = λ none. let last = why.free (quiet none).1 in (last.0, last.1 ∙ first.free (quiet none).0);
 }
 
-pub unmade_in : (all a : Bool) (g h : Gauge) (refusal : Refusal) → (all ≡ false → a ≡ false) → IsWhyUnmade a g h refusal
-    → IsWhyUnmade all g h refusal
-unmade_in all a g h refusal quiet why =
-    record { cut = why.cut; is = why.is; by = why.by; free = λ none. why.free (quiet none) }
+pub unmade_in : (all a : Bool) (Part Whole : End → Type 0) (g h : Gauge) (refusal : Refusal) → (all ≡ false → a ≡ false)
+    → ((why : End) → Part why → Whole why) → IsWhyUnmade a Part g h refusal → IsWhyUnmade all Whole g h refusal
+unmade_in all a Part Whole g h refusal quiet lifts why = record {
+  cut = why.cut;
+  is = why.is;
+  by = why.by;
+  there = cut_there Part Whole why.cut lifts why.there;
+  free = λ none. why.free (quiet none);
+}
 
 -- memory ended behind it
-pub unmade_memory : (works : Bool) (g h : Gauge) (refusal : Refusal) → refusal ≡ NoMemory → IsPaid works g h → IsWhyUnmade works g h refusal
-unmade_memory works g h refusal is paid = record {
+pub unmade_memory : (works : Bool) (Ends : End → Type 0) (g h : Gauge) (refusal : Refusal) → refusal ≡ NoMemory → IsPaid works g h
+    → IsWhyUnmade works Ends g h refusal
+unmade_memory works Ends g h refusal is paid = record {
   cut = cuts.NoMemory;
   is = is;
   by = IsCutBy-charged g h paid.charged;
+  there = inl refl;
   free = λ none. (refl, paid.free none);
 }
 
@@ -88,26 +105,28 @@ unmade_memory works g h refusal is paid = record {
 pub unworked_after : (all a b : Bool) (Part Whole : End → Type 0) (g h k : Gauge) (refusal : Refusal)
     → (all ≡ false → (a ≡ false) × (b ≡ false)) → ((why : End) → Part why → Whole why) → IsPaid a g h
     → IsWhyUnworked b Part h k refusal → IsWhyUnworked all Whole g k refusal
-unworked_after all a b Part Whole g h k refusal quiet ends first (inl why) = inl (unmade_after all a b g h k refusal quiet first why)
-unworked_after all a b Part Whole g h k refusal quiet ends first (inr why) =
-    inr (why.0, why.1, ends why.0 why.2, paid_after all a b g h k quiet first why.3)
+unworked_after all a b Part Whole g h k refusal quiet lifts first (inl why) =
+    inl (unmade_after all a b Part Whole g h k refusal quiet lifts first why)
+unworked_after all a b Part Whole g h k refusal quiet lifts first (inr why) =
+    inr (why.0, why.1, lifts (because why.0) why.2, paid_after all a b g h k quiet first why.3)
 
 pub unworked_in : (all a : Bool) (Part Whole : End → Type 0) (g h : Gauge) (refusal : Refusal) → (all ≡ false → a ≡ false)
     → ((why : End) → Part why → Whole why) → IsWhyUnworked a Part g h refusal → IsWhyUnworked all Whole g h refusal
-unworked_in all a Part Whole g h refusal quiet ends (inl why) = inl (unmade_in all a g h refusal quiet why)
-unworked_in all a Part Whole g h refusal quiet ends (inr why) = inr (why.0, why.1, ends why.0 why.2, paid_in all a g h quiet why.3)
+unworked_in all a Part Whole g h refusal quiet lifts (inl why) = inl (unmade_in all a Part Whole g h refusal quiet lifts why)
+unworked_in all a Part Whole g h refusal quiet lifts (inr why) =
+    inr (why.0, why.1, lifts (because why.0) why.2, paid_in all a g h quiet why.3)
 
 -- ---- what is made of an expression
-abbrev pub MadeOf : StateView → Expr → ℕ → KeptValue → Type 0
-MadeOf state expr limit value = IsValueOf (IsWorked state expr) (declared_of (scope_of state) expr) (Selects state expr) limit value
-
 -- whether some of these parts uses units
 abbrev pub work : List Part → Bool
 work parts = list_any uses_units parts
 
--- it is made, over the units that its parts use
+-- this part of it is made, over the units that its parts use
+abbrev pub IsMadeAt : StateView → ListPart → Expr → Gauge → Gauge → KeptValue → Type 0
+IsMadeAt state part expr g h value = IsValueAt state part expr (unsigned_abs (limit_of g)) value × IsPaid (work (parts_of expr)) g h
+
 abbrev pub IsMade : StateView → Expr → Gauge → Gauge → KeptValue → Type 0
-IsMade state expr g h value = MadeOf state expr (unsigned_abs (limit_of g)) value × IsPaid (work (parts_of expr)) g h
+IsMade state expr g h value = IsMadeAt state First expr g h value
 
 -- ---- what calls make
 pub value_same : (made value : KeptValue) (Exact : KeptValue → Type 0) (names : List Name) (Holds : Valuation → Element → Type 0)

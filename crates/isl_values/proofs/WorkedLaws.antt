@@ -6,14 +6,18 @@ use Rattle.isl_union.specs.KeptValue.{KeptValue}
 use Rattle.isl_expr.specs.declared.tree.Prefix.{Prefix as Word}
 use Rattle.isl_expr.specs.declared.tree.Link.{Link}
 use Rattle.isl_expr.specs.declared.tree.Postfix.{Postfix}
-use Rattle.isl_expr.specs.declared.tree.Expr.{Expr, Row, Prefix, Post, Row_of-Link, end_of-Link, more_of-Link}
+use Rattle.isl_expr.specs.declared.tree.Expr.{Expr, Row, Prefix, Any, Last, Post, Row_of-Link, end_of-Link, more_of-Link}
 use Rattle.isl_expr.specs.declared.tree.Expr.{Row_of-Postfix, end_of-Postfix, more_of-Postfix, items-the_row-Link, items-the_row-Postfix}
 use Rattle.isl_expr.specs.declared.tree.Expr.{items_hidden-the_row-Link-1, items_hidden-the_row-Postfix-2}
 use Rattle.isl_expr.specs.declared.tree.Expr.TheBlock.{hidden-the_row-Expr-0, hidden-the_row-Link-1, hidden-the_row-Postfix-2}
 use Rattle.isl_operators.specs.Operations.{is_operation_word}
-use Rattle.isl_operators.specs.Made.{IsOperatorOf, IsWordOf}
+use Rattle.isl_operators.specs.Flow.{AnyHas}
+use Rattle.isl_operators.specs.Made.{IsDependenceOf, IsOperatorOf, IsWordOf}
+use Rattle.isl_values.specs.declared.list.ListPart.{ListPart}
 use Rattle.isl_values.specs.State.{StateView}
-use Rattle.isl_values.specs.Worked.{IsPostfixOf, IsWorked, IsWorkedPastLinks, IsWorkedPastPostfixes, IsWorkedPost, IsWorkedRow}
+use Rattle.isl_values.specs.Worked.{IsPostfixOf, IsWorked, IsWorkedAt, IsWorkedPastLinks, IsWorkedPastPostfixes, IsWorkedPost, IsWorkedRow}
+use Rattle.isl_values.specs.Worked.{PartHas, part_of_list}
+use Rattle.isl_values.proofs.RowLaws.{part_is}
 
 -- ---- rows
 links_are : (m : Count) (state : StateView) (left value : KeptValue) (row : Row_of-Link m)
@@ -22,10 +26,10 @@ links_are : (m : Count) (state : StateView) (left value : KeptValue) (row : Row_
 links_are m state left value end_of-Link h = h
 links_are m state left value (more_of-Link operator operand row) h = (h.0, h.1, h.2, h.3, links_are _ state h.1 value row h.4)
 
-pub worked_of-Row : (state : StateView) (first : Expr) (links : List Link) (left value : KeptValue) → IsWorked state first left
-    → IsWorkedRow state left links value → IsWorked state (Row first links) value
+pub worked_of-Row : (state : StateView) (part : ListPart) (first : Expr) (links : List Link) (left value : KeptValue) → IsWorked state first left
+    → IsWorkedRow state left links value → IsWorkedAt state part (Row first links) value
 unfolding hidden-the_row-Expr-0 denote.Hole.Carrier.hidden
-worked_of-Row state first links left value one all = (
+worked_of-Row state part first links left value one all = (
   left,
   one,
   links_are _ state left value (hidden-the_row-Link-1 links)
@@ -49,10 +53,11 @@ row_worked_more state first left right made links i link low is before behind jo
     (row_push state first left right made (take i links) link before behind joins)
 
 -- ---- a word before an operand
-pub worked_of-Prefix : (state : StateView) (word : Word) (operand : Expr) (argument value : KeptValue) → IsWorked state operand argument
-    → is_operation_word word ≡ true → IsWordOf word argument value → IsWorked state (Prefix word operand) value
+pub worked_of-Prefix : (state : StateView) (part : ListPart) (word : Word) (operand : Expr) (argument value : KeptValue)
+    → IsWorked state operand argument → is_operation_word word ≡ true → IsWordOf word argument value
+    → IsWorkedAt state part (Prefix word operand) value
 unfolding hidden-the_row-Expr-0 denote.Hole.Carrier.hidden
-worked_of-Prefix state word operand argument value one is made = (argument, one, is, made)
+worked_of-Prefix state part word operand argument value one is made = (argument, one, is, made)
 
 -- ---- what follows an operand
 postfixes_are : (m : Count) (state : StateView) (operand value : KeptValue) (row : Row_of-Postfix m)
@@ -61,15 +66,28 @@ postfixes_are : (m : Count) (state : StateView) (operand value : KeptValue) (row
 postfixes_are m state operand value end_of-Postfix h = h
 postfixes_are m state operand value (more_of-Postfix postfix row) h = (h.0, h.1, postfixes_are _ state h.0 value row h.2)
 
-pub worked_of-Post : (state : StateView) (operand : Expr) (postfixes : List Postfix) (left value : KeptValue) → IsWorked state operand left
-    → IsWorkedPost state left postfixes value → IsWorked state (Post operand postfixes) value
+pub worked_of-Post : (state : StateView) (part : ListPart) (operand : Expr) (postfixes : List Postfix) (left value : KeptValue)
+    → IsWorkedAt state (part_of_list postfixes) operand left → IsWorkedPost state left postfixes value
+    → IsWorkedAt state part (Post operand postfixes) value
 unfolding hidden-the_row-Expr-0 denote.Hole.Carrier.hidden
-worked_of-Post state operand postfixes left value one all = (
-  left,
-  one,
-  postfixes_are _ state left value (hidden-the_row-Postfix-2 postfixes)
-      (subst (λ (ps : List Postfix). IsWorkedPost state left ps value) (sym (items_hidden-the_row-Postfix-2 postfixes)) all),
-)
+worked_of-Post state part operand postfixes left value one all =
+    let row = hidden-the_row-Postfix-2 postfixes in
+    let same = items_hidden-the_row-Postfix-2 postfixes in (
+      left,
+      subst (λ (at : ListPart). IsWorkedAt state at operand left) (sym (part_is _ row ∙ ap part_of_list same)) one,
+      postfixes_are _ state left value row (subst (λ (ps : List Postfix). IsWorkedPost state left ps value) (sym same) all),
+    )
+
+-- ---- source, sink and schedule
+module _ (state : StateView) (part : ListPart) (source sink schedule : Expr) (a b c value : KeptValue) (first : IsWorked state source a)
+    (second : IsWorked state sink b) (third : IsWorked state schedule c) where
+  pub worked_of-Any : IsDependenceOf AnyHas a b c value → IsWorkedAt state part (Any source sink schedule) value
+  unfolding hidden-the_row-Expr-0 denote.Hole.Carrier.hidden
+  worked_of-Any made = (a, b, c, first, second, third, made)
+
+  pub worked_of-Last : IsDependenceOf (PartHas part) a b c value → IsWorkedAt state part (Last source sink schedule) value
+  unfolding hidden-the_row-Expr-0 denote.Hole.Carrier.hidden
+  worked_of-Last made = (a, b, c, first, second, third, made)
 
 post_push : (state : StateView) (operand left made : KeptValue) (postfixes : List Postfix) (postfix : Postfix)
     → IsWorkedPost state operand postfixes left

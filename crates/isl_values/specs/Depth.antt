@@ -12,8 +12,8 @@ abbrev mutual
   depth_of (e.Literal literal) = 0
   depth_of (Row' s first t links) = 1 + (depth_in first + depth_in_links links)
   depth_of (Prefix' word s operand) = 1 + depth_in operand
-  depth_of (Any' r source s sink t schedule) = 2 + (depth_in source + (depth_in sink + depth_in schedule))
-  depth_of (Last' r source s sink t schedule) = 2 + (depth_in source + (depth_in sink + depth_in schedule))
+  depth_of (Any' r source s sink t schedule) = 1 + (1 + (depth_in source + (depth_in sink + depth_in schedule)))
+  depth_of (Last' r source s sink t schedule) = 1 + (1 + (depth_in source + (depth_in sink + depth_in schedule)))
   depth_of (Post' s operand t postfixes) = 1 + (depth_in operand + depth_in_postfixes postfixes)
 
   -- an operand in a box is a row of one

@@ -82,6 +82,10 @@ WordEnds word Operand = OperationEnds [] (FormsWide (WordForms word) Operand) (W
 abbrev pub DependenceEnds : List Name → Elements → Elements → End → Type 0
 DependenceEnds names Source Sink = OperationEnds names (PairsWide FormsAccess Source Sink) ⊥
 
+-- source, sink and schedule come first, in this order
+abbrev pub EndsOfThree : (End → Type 0) → (End → Type 0) → (End → Type 0) → List Name → Elements → Elements → End → Type 0
+EndsOfThree A B C names Source Sink = FirstEnds (FirstEnds A (FirstEnds B C)) (DependenceEnds names Source Sink)
+
 -- ---- where
 abbrev mutual
   pub Ends : StateView → Expr → End → Type 0
@@ -92,8 +96,16 @@ abbrev mutual
       (EndsPastLinks state (declared_in (scope_of state) first) (λ valuation x. SelectsIn state First first valuation x) links)
   Ends state (Prefix' word s operand) =
       FirstEnds (EndsIn state operand) (WordEnds word (λ valuation x. SelectsIn state First operand valuation x))
-  Ends state (Any' r source s sink t schedule) = EndsOfThree state source sink schedule
-  Ends state (Last' r source s sink t schedule) = EndsOfThree state source sink schedule
+  Ends state (Any' r source s sink t schedule) =
+      EndsOfThree (EndsIn state source) (EndsIn state sink) (EndsIn state schedule)
+      (joined_names (joined_names (declared_in (scope_of state) source) (declared_in (scope_of state) sink))
+      (declared_in (scope_of state) schedule))
+      (λ valuation x. SelectsIn state First source valuation x) (λ valuation x. SelectsIn state First sink valuation x)
+  Ends state (Last' r source s sink t schedule) =
+      EndsOfThree (EndsIn state source) (EndsIn state sink) (EndsIn state schedule)
+      (joined_names (joined_names (declared_in (scope_of state) source) (declared_in (scope_of state) sink))
+      (declared_in (scope_of state) schedule))
+      (λ valuation x. SelectsIn state First source valuation x) (λ valuation x. SelectsIn state First sink valuation x)
   Ends state (Post' s operand t postfixes) =
       FirstEnds (EndsIn state operand)
       (EndsPastPostfixes state (declared_in (scope_of state) operand)
@@ -103,15 +115,6 @@ abbrev mutual
   pub EndsIn : {m : _} → StateView → Row_of-Expr m → End → Type 0
   EndsIn state end_of-Expr = NoEnd
   EndsIn state (more_of-Expr expr rest) = Ends state expr
-
-  -- source, sink and schedule come first, in this order
-  pub EndsOfThree : {l m n : _} → StateView → Row_of-Expr l → Row_of-Expr m → Row_of-Expr n → End → Type 0
-  EndsOfThree state source sink schedule =
-      FirstEnds (FirstEnds (EndsIn state source) (FirstEnds (EndsIn state sink) (EndsIn state schedule)))
-      (DependenceEnds
-      (joined_names (joined_names (declared_in (scope_of state) source) (declared_in (scope_of state) sink))
-      (declared_in (scope_of state) schedule))
-      (λ valuation x. SelectsIn state First source valuation x) (λ valuation x. SelectsIn state First sink valuation x))
 
   -- from the left, behind operands with these parameters and elements
   pub EndsPastLinks : {m : _} → StateView → List Name → (Valuation → Element → Type 0) → Row_of-Link m → End → Type 0

@@ -24,8 +24,8 @@ use Rattle.isl_kinds.specs.Typed.{kind_of, declared_of, declared_in, joined_name
 use Rattle.isl_expr.specs.declared.tree.ValueKind.TheVariants.{List as Pair}
 use Rattle.isl_values.specs.declared.list.ListPart.{ListPart}
 use Rattle.isl_values.specs.declared.list.ListPart.TheVariants.{First, Second}
-use Rattle.isl_values.specs.State.{Kept, StateView, Moment, kept_of, scope_of, value_at, part_at, HasNumbersUpTo, Everywhere}
-use Rattle.isl_values.specs.Worked.{Dependence, IsWorkedAt, PartHas, part_taken}
+use Rattle.isl_values.specs.State.{Kept, StateView, Moment, kept_of, scope_of, value_at, HasNumbersUpTo, Everywhere}
+use Rattle.isl_values.specs.Worked.{IsWorkedAt, PartHas, part_taken}
 
 -- what a name stands for has the element in this part
 abbrev pub KeptHas : ListPart → Option Kept → Valuation → Element → Type 0
@@ -44,9 +44,11 @@ abbrev mutual
   SelectsAt state part (Prefix' word s operand) valuation element =
       WordHas word (declared_in (scope_of state) operand) (λ v x. SelectsIn state First operand v x) valuation element
   SelectsAt state part (Any' r source s sink t schedule) valuation element =
-      SelectsOfThree state AnyHas source sink schedule valuation element
+      AnyHas (λ x. SelectsIn state First source valuation x) (λ x. SelectsIn state First sink valuation x)
+      (λ x. SelectsIn state First schedule valuation x) element
   SelectsAt state part (Last' r source s sink t schedule) valuation element =
-      SelectsOfThree state (PartHas part) source sink schedule valuation element
+      PartHas part (λ x. SelectsIn state First source valuation x) (λ x. SelectsIn state First sink valuation x)
+      (λ x. SelectsIn state First schedule valuation x) element
   SelectsAt state part (Post' s operand t postfixes) valuation element =
       SelectsPastPostfixes state valuation (λ x. SelectsIn state (part_taken postfixes) operand valuation x) postfixes element
 
@@ -54,12 +56,6 @@ abbrev mutual
   pub SelectsIn : {m : _} → StateView → ListPart → Row_of-Expr m → Valuation → Element → Type 0
   SelectsIn state part end_of-Expr valuation element = ⊥
   SelectsIn state part (more_of-Expr expr rest) valuation element = SelectsAt state part expr valuation element
-
-  -- source, sink and schedule
-  pub SelectsOfThree : {l m n : _} → StateView → Dependence → Row_of-Expr l → Row_of-Expr m → Row_of-Expr n → Valuation → Element → Type 0
-  SelectsOfThree state Depends source sink schedule valuation element =
-      Depends (λ x. SelectsIn state First source valuation x) (λ x. SelectsIn state First sink valuation x)
-      (λ x. SelectsIn state First schedule valuation x) element
 
   pub SelectsPastLinks : {m : _} → StateView → Valuation → (Element → Type 0) → Row_of-Link m → Element → Type 0
   SelectsPastLinks state valuation Left end_of-Link element = Left element

@@ -12,9 +12,9 @@ use Rattle.isl_values.specs.State.{Kept, StateView, value_at}
 
 abbrev pub kept_code : Coded Kept
 kept_code =
-    code_by (ValueKind × KeptValue × Option KeptValue)
-    (coded× kind.the_row.coded (coded× kept_value_code (coded_option kept_value_code))) (λ kept. (kept.kind, kept.value, kept.second))
-    (λ parts. record { kind = parts.0; value = parts.1; second = parts.2 }) (λ _. refl)
+    code_by ((ValueKind × KeptValue) × Option KeptValue)
+    (coded× (coded× kind.the_row.coded kept_value_code) (coded_option kept_value_code)) (λ kept. ((kept.kind, kept.value), kept.second))
+    (λ parts. record { kind = parts.0.0; value = parts.0.1; second = parts.1 }) (λ _. refl)
 
 abbrev pub state_code : Coded StateView
 state_code =

@@ -24,27 +24,32 @@ IsValueAt state part expr limit value =
 abbrev pub AreBothOf : StateView → Expr → ℕ → ListValue → Type 0
 AreBothOf state expr limit list = IsValueAt state First expr limit list.first.value × IsValueAt state Second expr limit list.second.value
 
+-- what is worked out of the first part is worked out of the second one too, as of all that is no list
+abbrev pub IsWhole : StateView → Expr → Type 0
+IsWhole state expr = (limit : ℕ) (value : KeptValue) → IsValueAt state First expr limit value → IsValueAt state Second expr limit value
+
 -- both are those of what is kept
-pub record AreKept (kept : Kept) (list : ListValue) : Type 0 where
-  pub values : (list.first.value ≡ kept.value) × (list.second.value ≡ value_at Second kept)
-  pub kept : (part : ListPart) → IsKeptValue (value_at part kept)
-  pub definitions : (part : ListPart) → HasNoDefinitions (value_at part kept)
-  pub params : (part : ListPart) → (value_at part kept).params ≡ kept.value.params
+pub record AreKept (bound : Kept) (list : ListValue) : Type 0 where
+  pub first : list.first.value ≡ bound.value
+  pub second : list.second.value ≡ value_at Second bound
+  pub kept : (part : ListPart) → IsKeptValue (value_at part bound)
+  pub definitions : (part : ListPart) → HasNoDefinitions (value_at part bound)
+  pub params : (part : ListPart) → (value_at part bound).params ≡ bound.value.params
 
 -- ---- source, sink and schedule
 -- those that are worked out of three operands
 pub record AreMade (state : StateView) (source sink schedule : Expr) (limit : ℕ) (three : Accesses) : Type 0 where
-  pub source : IsValueAt state First source limit three.source.value
-  pub sink : IsValueAt state First sink limit three.sink.value
-  pub schedule : IsValueAt state First schedule limit three.schedule.value
+  pub first : IsValueAt state First source limit three.source.value
+  pub second : IsValueAt state First sink limit three.sink.value
+  pub third : IsValueAt state First schedule limit three.schedule.value
 
 -- the operands end, one after another
 abbrev pub OperandsEnd : StateView → Expr → Expr → Expr → End → Type 0
 OperandsEnd state source sink schedule = FirstEnds (Ends state source) (FirstEnds (Ends state sink) (Ends state schedule))
 
--- no number in them is above the limit, and no column is defined
+-- what may be kept, with no number above the limit, and no column that is defined
 abbrev pub IsPlainValue : ℕ → KeptValue → Type 0
-IsPlainValue limit value = HasNumbersUpTo limit value × HasNoDefinitions value
+IsPlainValue limit value = IsKeptValue value × HasNumbersUpTo limit value × HasNoDefinitions value
 
 pub record IsPlainThree (limit : ℕ) (three : Accesses) : Type 0 where
   pub source : IsPlainValue limit three.source.value

@@ -39,6 +39,11 @@ abbrev pub PartHas : ListPart → Dependence
 PartHas First = LastHas
 PartHas Second = UnsourcedHas
 
+-- a value of what is made of values of source, sink and schedule
+abbrev pub IsMadeOfThree : Dependence → (KeptValue → Type 0) → (KeptValue → Type 0) → (KeptValue → Type 0) → KeptValue → Type 0
+IsMadeOfThree Depends Source Sink Schedule value =
+    (a : KeptValue) × (b : KeptValue) × (c : KeptValue) × Source a × Sink b × Schedule c × IsDependenceOf Depends a b c value
+
 abbrev mutual
   -- The value is one that is worked out of this part of an expression: of a name what it stands for, of a literal what that writes, of an
   -- operation what it makes of values that are worked out of its operands.
@@ -49,8 +54,12 @@ abbrev mutual
       (left : KeptValue) × IsWorkedIn state First first left × IsWorkedPastLinks state left links value
   IsWorkedAt state part (Prefix' word s operand) value =
       (argument : KeptValue) × IsWorkedIn state First operand argument × (is_operation_word word ≡ true) × IsWordOf word argument value
-  IsWorkedAt state part (Any' r source s sink t schedule) value = IsWorkedOfThree state AnyHas source sink schedule value
-  IsWorkedAt state part (Last' r source s sink t schedule) value = IsWorkedOfThree state (PartHas part) source sink schedule value
+  IsWorkedAt state part (Any' r source s sink t schedule) value =
+      IsMadeOfThree AnyHas (λ a. IsWorkedIn state First source a) (λ b. IsWorkedIn state First sink b)
+      (λ c. IsWorkedIn state First schedule c) value
+  IsWorkedAt state part (Last' r source s sink t schedule) value =
+      IsMadeOfThree (PartHas part) (λ a. IsWorkedIn state First source a) (λ b. IsWorkedIn state First sink b)
+      (λ c. IsWorkedIn state First schedule c) value
   IsWorkedAt state part (Post' s operand t postfixes) value =
       (left : KeptValue) × IsWorkedIn state (part_taken postfixes) operand left × IsWorkedPastPostfixes state left postfixes value
 
@@ -58,12 +67,6 @@ abbrev mutual
   pub IsWorkedIn : {m : _} → StateView → ListPart → Row_of-Expr m → KeptValue → Type 0
   IsWorkedIn state part end_of-Expr value = ⊥
   IsWorkedIn state part (more_of-Expr expr rest) value = IsWorkedAt state part expr value
-
-  -- of source, sink and schedule
-  pub IsWorkedOfThree : {l m n : _} → StateView → Dependence → Row_of-Expr l → Row_of-Expr m → Row_of-Expr n → KeptValue → Type 0
-  IsWorkedOfThree state Depends source sink schedule value =
-      (a : KeptValue) × (b : KeptValue) × (c : KeptValue) × IsWorkedIn state First source a × IsWorkedIn state First sink b
-      × IsWorkedIn state First schedule c × IsDependenceOf Depends a b c value
 
   -- from the left
   pub IsWorkedPastLinks : {m : _} → StateView → KeptValue → Row_of-Link m → KeptValue → Type 0

@@ -33,10 +33,13 @@ pub fn preceding(alloc: Global, three: &Accesses, meter: &mut Meter) -> Result<R
         (IsWhyUnworked true (ThreeEnd three.now) meter.old meter.new) }
     ensures goes_on { IfOk result (λ _. GoesOn (ThreeEnd three.now)) }
 {
-    answered(alloc, depended(alloc, &three.source, &three.sink, &three.schedule, meter))
+    answered(
+        alloc,
+        depended(alloc, &three.source, &three.sink, &three.schedule, meter),
+    )
 }
 
-/// The last sources of sinks, and the sinks that have none.
+/// The last sources of sinks, and the sinks that have none. No caller comes here yet, and it says that memory ends.
 pub fn latest(alloc: Global, three: &Accesses, meter: &mut Meter) -> Result<ListValue, Refusal>
     requires { IsPlainThree (unsigned_abs (limit_of meter.old)) three.now }
     ensures made { MatchResult result

@@ -48,7 +48,11 @@ impl Kept {
         requires { HasNoDefinitions value.value }
         ensures { result ≡ record { kind = kind; value = value.value; second = None } }
     {
-        Kept { kind, value, second: None }
+        Kept {
+            kind,
+            value,
+            second: None,
+        }
     }
 
     /// A list.
@@ -58,7 +62,11 @@ impl Kept {
         requires params { values.second.value.params ≡ values.first.value.params }
         ensures { result ≡ record { kind = ValueKind.List; value = values.first.value; second = Some values.second.value } }
     {
-        Kept { kind: ValueKind::List, value: values.first, second: Some(values.second) }
+        Kept {
+            kind: ValueKind::List,
+            value: values.first,
+            second: Some(values.second),
+        }
     }
 
     /// The kind.

@@ -23,7 +23,7 @@ ghost use Rattle.isl_values.specs.Worked.{part_of_list, IsPostfixOf, IsWorked, I
 ghost use Rattle.isl_values.specs.Ends.{CutAlone, Ends, EndsPost, EndsPostfix, EndsRow, GoesOn, PairEnds, WordEnds};
 ghost use Rattle.isl_values.specs.Made.{is_foreign, uses_units, IsSoundExpr, IsSoundLink, IsSoundPostfix, IsValueOf};
 ghost use Rattle.isl_values.specs.Made.{refusal_of_cut, refusal_of_fault, refusal_of_word_fault, IsPaid, IsWhyUnmade, IsWhyUnworked};
-ghost use Rattle.isl_values.specs.Three.{AreBothOf, AreKept, AreMade, IsValueAt, OperandsEnd};
+ghost use Rattle.isl_values.specs.Three.{AreBothOf, AreKept, AreMade, IsValueAt, IsWhole, OperandsEnd};
 
 use crate::dependence::{Accesses, latest, latest_part, preceding};
 use crate::{Kept, ListPart, ListValue, State};
@@ -281,7 +281,10 @@ fn twice(value: Rc<Value>) -> Result<ListValue, Refusal>
     ensures made { IfOk result (λ list. (list.first.value ≡ value.value) × (list.second.value ≡ value.value)) }
     ensures faults { IfErr result (λ refusal. refusal ≡ Refusal.NoMemory) }
 {
-    Ok(ListValue { second: value.clone()?, first: value })
+    Ok(ListValue {
+        second: value.clone()?,
+        first: value,
+    })
 }
 
 // The values of source, sink and schedule, in this order.
@@ -313,7 +316,11 @@ fn three_of(
         Err(refusal) => return Err(refusal),
     };
     match part_of(alloc, schedule, ListPart::First, state, meter) {
-        Ok(schedule) => Ok(Accesses { source, sink, schedule }),
+        Ok(schedule) => Ok(Accesses {
+            source,
+            sink,
+            schedule,
+        }),
         Err(refusal) => Err(refusal),
     }
 }
@@ -341,7 +348,13 @@ fn part_of(
             None => unreachable!(),
         },
         Expr::Literal(literal) => lowered(alloc, literal, meter),
-        Expr::Row(first, links) => match part_of(alloc, first.get(), ListPart::First, state, meter) {
+        Expr::Row(first, links) => match part_of(
+            alloc,
+            first.get(),
+            ListPart::First,
+            state,
+            meter,
+        ) {
             Ok(left) => joined_past(alloc, left, links.as_slice(), state, meter),
             Err(refusal) => Err(refusal),
         },
@@ -352,18 +365,38 @@ fn part_of(
                 Err(refusal) => Err(refusal),
             }
         }
-        Expr::Prefix(word, operand) => match part_of(alloc, operand.get(), ListPart::First, state, meter) {
+        Expr::Prefix(word, operand) => match part_of(
+            alloc,
+            operand.get(),
+            ListPart::First,
+            state,
+            meter,
+        ) {
             Ok(argument) => worded(alloc, *word, &argument, meter),
             Err(refusal) => Err(refusal),
         },
         Expr::Any(source, sink, schedule) => {
-            match three_of(alloc, source.get(), sink.get(), schedule.get(), state, meter) {
+            match three_of(
+                alloc,
+                source.get(),
+                sink.get(),
+                schedule.get(),
+                state,
+                meter,
+            ) {
                 Ok(three) => preceding(alloc, &three, meter),
                 Err(refusal) => Err(refusal),
             }
         }
         Expr::Last(source, sink, schedule) => {
-            match three_of(alloc, source.get(), sink.get(), schedule.get(), state, meter) {
+            match three_of(
+                alloc,
+                source.get(),
+                sink.get(),
+                schedule.get(),
+                state,
+                meter,
+            ) {
                 Ok(three) => latest_part(alloc, part, &three, meter),
                 Err(refusal) => Err(refusal),
             }
@@ -396,6 +429,28 @@ pub fn value_of(
     part_of(alloc, expr, ListPart::First, state, meter)
 }
 
+// The value of what is no list, for both.
+fn doubled(
+    alloc: Global,
+    expr: &Expr,
+    state: &State,
+    meter: &mut Meter,
+) -> Result<ListValue, Refusal>
+    requires sound { IsSoundExpr (scope_of state.now) expr.now }
+    requires fits { Fits (limit_of meter.old) state.now }
+    requires whole { IsWhole state.now expr.now }
+    ensures made { MatchResult result
+        (λ list. AreBothOf state.now expr.now (unsigned_abs (limit_of meter.old)) list
+        × IsPaid (list_any uses_units (parts_of expr.now)) meter.old meter.new)
+        (IsWhyUnworked (list_any uses_units (parts_of expr.now)) (Ends state.now expr.now) meter.old meter.new) }
+    ensures goes_on { IfOk result (λ _. GoesOn (Ends state.now expr.now)) }
+{
+    match value_of(alloc, expr, state, meter) {
+        Ok(value) => twice(value),
+        Err(refusal) => Err(refusal),
+    }
+}
+
 /// Both values of a list that is bound or made by `last`; of another expression its value twice. (the iscc chapter of the barvinok
 /// manual)
 ///
@@ -417,7 +472,14 @@ pub fn list_of(
 {
     match expr {
         Expr::Last(source, sink, schedule) => {
-            match three_of(alloc, source.get(), sink.get(), schedule.get(), state, meter) {
+            match three_of(
+                alloc,
+                source.get(),
+                sink.get(),
+                schedule.get(),
+                state,
+                meter,
+            ) {
                 Ok(three) => latest(alloc, &three, meter),
                 Err(refusal) => Err(refusal),
             }
@@ -426,10 +488,11 @@ pub fn list_of(
             Some(kept) => both_of(kept),
             None => unreachable!(),
         },
-        _ => match value_of(alloc, expr, state, meter) {
-            Ok(value) => twice(value),
-            Err(refusal) => Err(refusal),
-        },
+        Expr::Literal(_) => doubled(alloc, expr, state, meter),
+        Expr::Row(_, _) => doubled(alloc, expr, state, meter),
+        Expr::Post(_, _) => doubled(alloc, expr, state, meter),
+        Expr::Prefix(_, _) => doubled(alloc, expr, state, meter),
+        Expr::Any(_, _, _) => doubled(alloc, expr, state, meter),
     }
 }
 

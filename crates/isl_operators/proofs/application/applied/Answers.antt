@@ -1,36 +1,20 @@
-use Rattle.std.proofs.Common.{◌≡◌, ◌∙◌, ap₂, true}
+use Rattle.std.proofs.Common.{◌≡◌, ◌≤◌, ◌∙◌, ℕ, ap₂, length, subst}
 use Rattle.std.proofs.lemmas.Result.{err_from_is_err_and, IfOk-weaker}
 use Rattle.isl_meter.proofs.CutLemmas.{IsCharged_trans}
+use Rattle.isl_space.specs.Limits.{most_parameters}
 use Rattle.isl_space.specs.Names.{joined}
 use Rattle.isl_union.specs.KeptValue.{KeptValue, Has}
 use Rattle.isl_relation.specs.Formed.{FormsJoin}
 use Rattle.isl_relation.specs.Wide.{PairsTooWide}
 use Rattle.isl_operators.specs.Operations.{ApplicationHas}
 use Rattle.isl_operators.specs.Formed.{ApplicationForms, PairsWide}
-use Rattle.isl_operators.proofs.FaultLaws.{later_units, plain_units, why_after, why_formed, why_narrow, why_wider}
-use Rattle.isl_operators.proofs.FaultLaws.{within_before, within_later}
+use Rattle.isl_operators.proofs.FaultLaws.{form_fault_of, last_result, later_by_names, why_worked, within_before, within_later, worked_result}
 use Rattle.isl_operators.proofs.MadeLaws.{always, either_same, over}
-use Rattle.isl_operators.proofs.NamesLaws.{joined-turned, turned_fits}
+use Rattle.isl_operators.proofs.NamesLaws.{joined-turned, turned_long}
 use Rattle.isl_operators.proofs.WideLaws.{pairs_narrow, pairs_wide, turned_narrow, turned_wide}
 use Rattle.isl_operators.proofs.application.applied.Goals as goal
 
-pub returns-in_err-images-clause-units : goal.returns-in_err-images-clause-units
-returns-in_err-images-clause-units c =
-    let map = c.args.map.now in
-    let argument = c.args.argument.now in
-    let p = err_from_is_err_and c.from_residual.result c.from_residual.ensures.1 in
-    rw (p.1, p.2)
-    (why_narrow (joined map.params argument.params) (PairsWide ApplicationForms (Has map) (Has argument)) c.args.meter.now c.apply.new.meter
-    c.in_err-images.field-0.0 c.in_err-images.ensures.units)
-
-pub join-requires-clause-first : goal.join-requires-clause-first
-join-requires-clause-first c =
-    within_later c.args.meter.now c.apply.new.meter c.args.argument.now c.in_ok-images.ensures.units.1.charged c.requires.argument
-
-pub join-requires-clause-second : goal.join-requires-clause-second
-join-requires-clause-second c =
-    within_later c.args.meter.now c.apply.new.meter c.args.map.now c.in_ok-images.ensures.units.1.charged c.requires.map
-
+-- ---- followed
 pub returns-in_err-followed-clause-units : goal.returns-in_err-followed-clause-units
 returns-in_err-followed-clause-units c =
     let map = c.args.map.now in
@@ -39,27 +23,55 @@ returns-in_err-followed-clause-units c =
     let two = c.pieces-argument.ensures.kept in
     let names = joined map.params argument.params in
     let turned = joined argument.params map.params in
+    let Forms = PairsTooWide FormsJoin argument map in
     let Wide = PairsWide ApplicationForms (Has map) (Has argument) in
-    let wider = λ (wide : PairsTooWide FormsJoin argument map).
-    turned_wide FormsJoin (Has map) (Has argument) (pairs_wide FormsJoin argument map two one wide) in
-    let few = turned_fits map.params argument.params one.params.distinct two.params.distinct in
+    let wider = λ (wide : Forms). turned_wide FormsJoin (Has map) (Has argument) (pairs_wide FormsJoin argument map two one wide) in
+    let narrower = λ (never : ¬ Forms). turned_narrow FormsJoin (Has map) (Has argument) (pairs_narrow FormsJoin argument map never) in
+    let long = turned_long map.params argument.params one.params.distinct two.params.distinct in
     let fault = c.in_err-followed.field-0.0 in
-    let p = err_from_is_err_and c.from_residual-in_err-followed.result c.from_residual-in_err-followed.ensures.1 in
+    let p = err_from_is_err_and c.from_residual.result c.from_residual.ensures.1 in
     rw (p.1, p.2)
-    (why_after names Wide true c.args.meter.now c.apply.new.meter c.join.new.meter fault c.in_ok-images.ensures.units.1.charged
-    (why_wider turned names Wide Wide true c.apply.new.meter c.join.new.meter fault few (λ wide. wide)
-    (why_formed turned Wide c.apply.new.meter c.join.new.meter _ wider fault c.in_err-followed.ensures.units)))
+    (why_worked names Wide c.args.meter.now c.join.new.meter fault
+    (form_fault_of turned names Forms Wide c.args.meter.now c.join.new.meter fault long wider narrower c.in_err-followed.ensures.units))
+
+pub apply-requires-clause-maps : goal.apply-requires-clause-maps
+apply-requires-clause-maps c =
+    within_later c.args.meter.now c.join.new.meter c.args.map.now c.in_ok-followed.ensures.units.2.charged c.requires.map
+
+pub apply-requires-clause-sets : goal.apply-requires-clause-sets
+apply-requires-clause-sets c =
+    within_later c.args.meter.now c.join.new.meter c.args.argument.now c.in_ok-followed.ensures.units.2.charged c.requires.argument
+
+-- ---- images
+pub returns-in_err-images-clause-units : goal.returns-in_err-images-clause-units
+returns-in_err-images-clause-units c =
+    let map = c.args.map.now in
+    let argument = c.args.argument.now in
+    let one = c.pieces-map.ensures.kept.params.distinct in
+    let two = c.pieces-argument.ensures.kept.params.distinct in
+    let names = joined map.params argument.params in
+    let Wide = PairsWide ApplicationForms (Has map) (Has argument) in
+    let made = c.in_ok-followed.ensures.units in
+    let few : length names ≤ most_parameters =
+    subst (λ (n : ℕ). n ≤ most_parameters) (turned_long map.params argument.params one two) made.0 in
+    let narrow = turned_narrow FormsJoin (Has map) (Has argument) (pairs_narrow FormsJoin argument map made.1) in
+    let fault = c.in_err-images.field-0.0 in
+    let p = err_from_is_err_and c.from_residual-in_err-images.result c.from_residual-in_err-images.ensures.1 in
+    rw (p.1, p.2)
+    (why_worked names Wide c.args.meter.now c.apply.new.meter fault
+    (later_by_names names Wide few narrow c.args.meter.now c.join.new.meter c.apply.new.meter made.2.charged fault
+    c.in_err-images.ensures.units))
 
 pub union-requires-clause-own : goal.union-requires-clause-own
 union-requires-clause-own c =
-    let charged = IsCharged_trans c.args.meter.now c.apply.new.meter c.join.new.meter c.in_ok-images.ensures.units.1.charged
-    c.in_ok-followed.ensures.units.2.charged in
-    within_later c.args.meter.now c.join.new.meter c.in_ok-images.images charged c.in_ok-images.ensures.numbers
+    within_later c.join.new.meter c.apply.new.meter c.in_ok-images.images c.in_ok-images.ensures.units.1.charged
+    c.in_ok-images.ensures.numbers
 
 pub union-requires-clause-other : goal.union-requires-clause-other
 union-requires-clause-other c =
-    within_later c.apply.new.meter c.join.new.meter c.in_ok-followed.followed c.in_ok-followed.ensures.units.2.charged
-    c.in_ok-followed.ensures.numbers
+    let charged = IsCharged_trans c.args.meter.now c.join.new.meter c.apply.new.meter c.in_ok-followed.ensures.units.2.charged
+    c.in_ok-images.ensures.units.1.charged in
+    within_later c.args.meter.now c.apply.new.meter c.in_ok-followed.followed charged c.in_ok-followed.ensures.numbers
 
 -- ---- the value
 pub returns-clause-params : goal.returns-clause-params
@@ -87,9 +99,9 @@ returns-clause-written c =
 
 pub returns-clause-numbers : goal.returns-clause-numbers
 returns-clause-numbers c =
-    c.union.ensures.numbers _ c.in_ok-images.ensures.numbers
-    (within_before c.args.meter.now c.apply.new.meter c.in_ok-followed.followed c.in_ok-images.ensures.units.1.charged
-    c.in_ok-followed.ensures.numbers)
+    c.union.ensures.numbers _
+    (within_before c.args.meter.now c.join.new.meter c.in_ok-images.images c.in_ok-followed.ensures.units.2.charged
+    c.in_ok-images.ensures.numbers) c.in_ok-followed.ensures.numbers
 
 pub returns-clause-narrow : goal.returns-clause-narrow
 returns-clause-narrow c =
@@ -107,9 +119,14 @@ returns-clause-units c =
     let names = joined map.params argument.params in
     let joint = joined c.in_ok-images.images.params c.in_ok-followed.followed.params in
     let Wide = PairsWide ApplicationForms (Has map) (Has argument) in
+    let made = c.in_ok-followed.ensures.units in
     let same : joint ≡ names =
     ap₂ joined c.in_ok-images.ensures.params c.in_ok-followed.ensures.params ∙ joined-turned map.params argument.params one two in
-    let charged = IsCharged_trans c.args.meter.now c.apply.new.meter c.join.new.meter c.in_ok-images.ensures.units.1.charged
-    c.in_ok-followed.ensures.units.2.charged in
-    later_units names joint Wide true c.args.meter.now c.join.new.meter c.union.new.meter c.union.result charged same
-    (plain_units joint Wide c.join.new.meter c.union.new.meter true _ c.union.result c.union.ensures.meter c.union.ensures.faults)
+    let few : length names ≤ most_parameters =
+    subst (λ (n : ℕ). n ≤ most_parameters) (turned_long map.params argument.params one two) made.0 in
+    let narrow = turned_narrow FormsJoin (Has map) (Has argument) (pairs_narrow FormsJoin argument map made.1) in
+    let charged = IsCharged_trans c.args.meter.now c.join.new.meter c.apply.new.meter made.2.charged
+    c.in_ok-images.ensures.units.1.charged in
+    worked_result names Wide c.args.meter.now c.union.new.meter c.union.result
+    (last_result names Wide few narrow c.args.meter.now c.apply.new.meter c.union.new.meter charged joint _ c.union.result same
+    c.union.ensures.meter c.union.ensures.faults)

@@ -1,4 +1,4 @@
-use Rattle.std.proofs.Common.{true, false}
+use Rattle.std.proofs.Common.{false}
 use Rattle.isl_space.specs.Element.{Element}
 use Rattle.isl_space.specs.Names.{joined}
 use Rattle.isl_space.specs.Valuation.{Valuation}
@@ -8,7 +8,7 @@ use Rattle.isl_relation.specs.Formed.{FormsJoin, FormsUniversal}
 use Rattle.isl_relation.specs.Wide.{PairsTooWide}
 use Rattle.isl_operators.specs.Operations.{OperatorHas}
 use Rattle.isl_operators.specs.Formed.{OperatorForms, PairsWide}
-use Rattle.isl_operators.proofs.FaultLaws.{formed_units, plain_units, wider_units, worked_units}
+use Rattle.isl_operators.proofs.FaultLaws.{charge, formed_units, plain_units, worked_result, worked_units}
 use Rattle.isl_operators.proofs.MadeLaws.{always, formed_narrow, intersection_of, operator_says, over}
 use Rattle.isl_operators.proofs.WideLaws.{pairs_narrow, pairs_wide}
 use Rattle.isl_operators.proofs.operators.combined.Goals as goal
@@ -50,7 +50,7 @@ returns-in-Intersection c =
       intersection_of left right r made.params made.elements made.pieces,
       made.elements,
       always r (¬ Wide) (λ wide. wide.5),
-      wider_units names ⊥ Wide true g h r (λ none. absurd none) made.units,
+      worked_units names Wide g h _ (λ wide. wide.5) r made.units,
     ) in
     record {
       written = says.0;
@@ -78,7 +78,7 @@ returns-in-Difference c =
       over names Elements r made.params made.elements,
       made.elements,
       always r (¬ Wide) (λ wide. wide.5),
-      wider_units names ⊥ Wide true g h r (λ none. absurd none) made.units,
+      worked_units names Wide g h _ (λ wide. wide.5) r made.units,
     ) in
     record {
       written = says.0;
@@ -106,7 +106,7 @@ returns-in-RangeIntersection c =
       over names Elements r made.params made.elements,
       made.elements,
       always r (¬ Wide) (λ wide. wide.5),
-      worked_units names Wide g h _ r made.units,
+      worked_units names Wide g h _ (λ wide. wide.5) r made.units,
     ) in
     record {
       written = says.0;
@@ -134,7 +134,7 @@ returns-in-RangeDifference c =
       over names Elements r made.params made.elements,
       made.elements,
       always r (¬ Wide) (λ wide. wide.5),
-      worked_units names Wide g h _ r made.units,
+      worked_units names Wide g h _ (λ wide. wide.5) r made.units,
     ) in
     record {
       written = says.0;
@@ -153,13 +153,17 @@ returns-in-Cross c =
     let right = c.args.right.now in
     let names = joined left.params right.params in
     let g = c.args.meter.now in
-    let h = c.crossed.new.meter in
-    let r = c.crossed.result in
-    let made = c.crossed.ensures in
+    let h = c.paired.new.meter in
+    let r = c.paired.result in
+    let made = c.paired.ensures in
     let Wide = PairsWide (OperatorForms b.Cross) (Has left) (Has right) in
     let Elements = λ (v : Valuation) (x : Element). OperatorHas b.Cross (Has left v) (Has right v) x in
-    let says = operator_says left right g h r c.args.operator b.Cross c.in-Cross.is
-    (over names Elements r made.params made.elements, made.elements, made.narrow, made.units) in
+    let says = operator_says left right g h r c.args.operator b.Cross c.in-Cross.is (
+      over names Elements r made.params made.elements,
+      made.elements,
+      formed_narrow r _ Wide _ Wide _ (λ never. never) made.units,
+      worked_result names Wide g h r made.units,
+    ) in
     record {
       written = says.0;
       kept = made.kept;
@@ -188,7 +192,8 @@ returns-in-Join c =
       over names Elements r made.params made.elements,
       made.elements,
       narrow,
-      formed_units names Wide g h (PairsTooWide FormsJoin left right) _ wider r made.units,
+      formed_units names Wide g h (PairsTooWide FormsJoin left right) _ _ (charge _ g h) wider (pairs_narrow FormsJoin left right) r
+          made.units,
     ) in
     record {
       written = says.0;
@@ -218,7 +223,120 @@ returns-in-Universal c =
       over names Elements r made.params made.elements,
       made.elements,
       narrow,
-      formed_units names Wide g h (PairsTooWide FormsUniversal left right) _ wider r made.units,
+      formed_units names Wide g h (PairsTooWide FormsUniversal left right) _ _ (charge _ g h) wider (pairs_narrow FormsUniversal left right) r
+          made.units,
+    ) in
+    record {
+      written = says.0;
+      kept = made.kept;
+      params = made.params;
+      elements = says.1;
+      definitions = made.definitions;
+      numbers = made.numbers;
+      narrow = says.2;
+      units = says.3;
+    }
+
+pub returns-in-LexLess : goal.returns-in-LexLess
+returns-in-LexLess c =
+    let left = c.args.left.now in
+    let right = c.args.right.now in
+    let names = joined left.params right.params in
+    let g = c.args.meter.now in
+    let h = c.paired-in-LexLess.new.meter in
+    let r = c.paired-in-LexLess.result in
+    let made = c.paired-in-LexLess.ensures in
+    let Wide = PairsWide (OperatorForms b.LexLess) (Has left) (Has right) in
+    let Elements = λ (v : Valuation) (x : Element). OperatorHas b.LexLess (Has left v) (Has right v) x in
+    let says = operator_says left right g h r c.args.operator b.LexLess c.in-LexLess.is (
+      over names Elements r made.params made.elements,
+      made.elements,
+      formed_narrow r _ Wide _ Wide _ (λ never. never) made.units,
+      worked_result names Wide g h r made.units,
+    ) in
+    record {
+      written = says.0;
+      kept = made.kept;
+      params = made.params;
+      elements = says.1;
+      definitions = made.definitions;
+      numbers = made.numbers;
+      narrow = says.2;
+      units = says.3;
+    }
+
+pub returns-in-LexLessEqual : goal.returns-in-LexLessEqual
+returns-in-LexLessEqual c =
+    let left = c.args.left.now in
+    let right = c.args.right.now in
+    let names = joined left.params right.params in
+    let g = c.args.meter.now in
+    let h = c.paired-in-LexLessEqual.new.meter in
+    let r = c.paired-in-LexLessEqual.result in
+    let made = c.paired-in-LexLessEqual.ensures in
+    let Wide = PairsWide (OperatorForms b.LexLessEqual) (Has left) (Has right) in
+    let Elements = λ (v : Valuation) (x : Element). OperatorHas b.LexLessEqual (Has left v) (Has right v) x in
+    let says = operator_says left right g h r c.args.operator b.LexLessEqual c.in-LexLessEqual.is (
+      over names Elements r made.params made.elements,
+      made.elements,
+      formed_narrow r _ Wide _ Wide _ (λ never. never) made.units,
+      worked_result names Wide g h r made.units,
+    ) in
+    record {
+      written = says.0;
+      kept = made.kept;
+      params = made.params;
+      elements = says.1;
+      definitions = made.definitions;
+      numbers = made.numbers;
+      narrow = says.2;
+      units = says.3;
+    }
+
+pub returns-in-LexGreater : goal.returns-in-LexGreater
+returns-in-LexGreater c =
+    let left = c.args.left.now in
+    let right = c.args.right.now in
+    let names = joined left.params right.params in
+    let g = c.args.meter.now in
+    let h = c.paired-in-LexGreater.new.meter in
+    let r = c.paired-in-LexGreater.result in
+    let made = c.paired-in-LexGreater.ensures in
+    let Wide = PairsWide (OperatorForms b.LexGreater) (Has left) (Has right) in
+    let Elements = λ (v : Valuation) (x : Element). OperatorHas b.LexGreater (Has left v) (Has right v) x in
+    let says = operator_says left right g h r c.args.operator b.LexGreater c.in-LexGreater.is (
+      over names Elements r made.params made.elements,
+      made.elements,
+      formed_narrow r _ Wide _ Wide _ (λ never. never) made.units,
+      worked_result names Wide g h r made.units,
+    ) in
+    record {
+      written = says.0;
+      kept = made.kept;
+      params = made.params;
+      elements = says.1;
+      definitions = made.definitions;
+      numbers = made.numbers;
+      narrow = says.2;
+      units = says.3;
+    }
+
+pub returns-in-LexGreaterEqual : goal.returns-in-LexGreaterEqual
+returns-in-LexGreaterEqual c =
+    let left = c.args.left.now in
+    let right = c.args.right.now in
+    let names = joined left.params right.params in
+    let g = c.args.meter.now in
+    let h = c.paired-in-LexGreaterEqual.new.meter in
+    let r = c.paired-in-LexGreaterEqual.result in
+    let made = c.paired-in-LexGreaterEqual.ensures in
+    let Wide = PairsWide (OperatorForms b.LexGreaterEqual) (Has left) (Has right) in
+    let Elements = λ (v : Valuation) (x : Element). OperatorHas b.LexGreaterEqual (Has left v) (Has right v) x in
+    let says = operator_says left right g h r c.args.operator b.LexGreaterEqual c.in-LexGreaterEqual.is (
+      over names Elements r made.params made.elements,
+      made.elements,
+      formed_narrow r _ Wide _ Wide _ (λ never. never) made.units,
+      worked_result names Wide g h r made.units,
     ) in
     record {
       written = says.0;

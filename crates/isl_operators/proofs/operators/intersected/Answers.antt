@@ -1,4 +1,4 @@
-use Rattle.std.proofs.Common.{◌≡◌, ◌↔◌, ◌⊎◌, ◌∙◌, ap₂, refl, true}
+use Rattle.std.proofs.Common.{◌≡◌, ◌↔◌, ◌⊎◌, ◌∙◌, ap₂, refl}
 use Rattle.std.proofs.lemmas.Bool.{false≢true}
 use Rattle.std.proofs.lemmas.Result.{err_from_is_err_and, IfOk-weaker}
 use Rattle.isl_meter.proofs.CutLemmas.{IsCharged_trans}
@@ -10,15 +10,13 @@ use Rattle.isl_expr.specs.declared.tree.Binary.TheVariants as b
 use Rattle.isl_operators.specs.Operations.{OperatorHas}
 use Rattle.isl_operators.specs.Made.{HasMaps, HasSets}
 use Rattle.isl_operators.proofs.ElementLaws.{begun_both, meets_alone, never_begins}
-use Rattle.isl_operators.proofs.FaultLaws.{later_units, paid, plain_units, why_after, why_narrow, within_before, within_later}
+use Rattle.isl_operators.proofs.FaultLaws.{at_least_none, fault_by_later, within_before, within_later, worked_last}
 use Rattle.isl_operators.proofs.operators.intersected.Goals as goal
 
 pub returns-in_err-met-clause-units : goal.returns-in_err-met-clause-units
 returns-in_err-met-clause-units c =
     let p = err_from_is_err_and c.from_residual.result c.from_residual.ensures.1 in
-    rw (p.1, p.2)
-    (why_narrow (joined c.args.left.now.params c.args.right.now.params) ⊥ c.args.meter.now c.meet.new.meter c.in_err-met.field-0.0
-    c.in_err-met.ensures.units)
+    rw (p.1, p.2) c.in_err-met.ensures.units
 
 pub returns-then-not-may_begin-clause-elements : goal.returns-then-not-may_begin-clause-elements
 returns-then-not-may_begin-clause-elements c = λ v e.
@@ -33,7 +31,8 @@ returns-then-not-may_begin-clause-numbers c = c.in_ok-met.ensures.numbers _ c.re
 
 pub returns-then-not-may_begin-clause-units : goal.returns-then-not-may_begin-clause-units
 returns-then-not-may_begin-clause-units c =
-    paid (joined c.args.left.now.params c.args.right.now.params) ⊥ c.args.meter.now c.meet.new.meter c.in_ok-met.ensures.units.1.charged
+    let made = c.in_ok-met.ensures.units in
+    (made.0, at_least_none c.args.meter.now c.meet.new.meter made.1.charged)
 
 pub restrict_domain-requires-clause-own : goal.restrict_domain-requires-clause-own
 restrict_domain-requires-clause-own c =
@@ -46,11 +45,11 @@ restrict_domain-requires-clause-other c =
 pub returns-in_err-begun-clause-units : goal.returns-in_err-begun-clause-units
 returns-in_err-begun-clause-units c =
     let names = joined c.args.left.now.params c.args.right.now.params in
+    let made = c.in_ok-met.ensures.units in
     let p = err_from_is_err_and c.from_residual-in_err-begun.result c.from_residual-in_err-begun.ensures.1 in
     rw (p.1, p.2)
-    (why_after names ⊥ true c.args.meter.now c.meet.new.meter c.restrict_domain.new.meter c.in_err-begun.field-0.0
-    c.in_ok-met.ensures.units.1.charged
-    (why_narrow names ⊥ c.meet.new.meter c.restrict_domain.new.meter c.in_err-begun.field-0.0 c.in_err-begun.ensures.units))
+    (fault_by_later names made.0 c.args.meter.now c.meet.new.meter c.restrict_domain.new.meter made.1.charged c.in_err-begun.field-0.0
+    c.in_err-begun.ensures.units)
 
 pub union-requires-clause-own : goal.union-requires-clause-own
 union-requires-clause-own c =
@@ -96,7 +95,8 @@ returns-clause-units c =
     let names = joined c.args.left.now.params c.args.right.now.params in
     let joint = joined c.in_ok-begun.begun.params c.in_ok-met.met.params in
     let same : joint ≡ names = ap₂ joined c.in_ok-begun.ensures.params c.in_ok-met.ensures.params ∙ joined-self names in
-    let charged = IsCharged_trans c.args.meter.now c.meet.new.meter c.restrict_domain.new.meter c.in_ok-met.ensures.units.1.charged
+    let made = c.in_ok-met.ensures.units in
+    let charged = IsCharged_trans c.args.meter.now c.meet.new.meter c.restrict_domain.new.meter made.1.charged
     c.in_ok-begun.ensures.units.1.charged in
-    later_units names joint ⊥ true c.args.meter.now c.restrict_domain.new.meter c.union.new.meter c.union.result charged same
-    (plain_units joint ⊥ c.restrict_domain.new.meter c.union.new.meter true _ c.union.result c.union.ensures.meter c.union.ensures.faults)
+    worked_last names made.0 c.args.meter.now c.restrict_domain.new.meter c.union.new.meter charged joint _ c.union.result same
+    c.union.ensures.meter c.union.ensures.faults

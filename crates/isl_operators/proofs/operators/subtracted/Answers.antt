@@ -1,4 +1,4 @@
-use Rattle.std.proofs.Common.{◌≡◌, ◌↔◌, ◌∙◌, ap, refl, true, List}
+use Rattle.std.proofs.Common.{◌≡◌, ◌↔◌, ◌∙◌, ap, refl, List}
 use Rattle.std.proofs.lemmas.Bool.{false≢true}
 use Rattle.std.proofs.lemmas.Result.{err_from_is_err_and, IfOk-weaker}
 use Rattle.isl_space.specs.Element.{Element}
@@ -10,7 +10,7 @@ use Rattle.isl_expr.specs.declared.tree.Binary.TheVariants as b
 use Rattle.isl_operators.specs.Operations.{OperatorHas}
 use Rattle.isl_operators.specs.Made.{HasMaps, HasSets}
 use Rattle.isl_operators.proofs.ElementLaws.{always_pair, left_alone, left_begun, left_without, never_begins}
-use Rattle.isl_operators.proofs.FaultLaws.{later_units, narrow_units, why_narrow, worked_units, within_before, within_later}
+use Rattle.isl_operators.proofs.FaultLaws.{within_before, within_later, worked_charged, worked_later}
 use Rattle.isl_operators.proofs.NamesLaws.{joined-again, joined-second}
 use Rattle.isl_operators.proofs.operators.subtracted.Goals as goal
 
@@ -27,8 +27,7 @@ returns-then-not-may_begin-clause-elements c = λ v e.
 
 pub returns-then-not-may_begin-clause-units : goal.returns-then-not-may_begin-clause-units
 returns-then-not-may_begin-clause-units c =
-    narrow_units (joined c.args.left.now.params c.args.right.now.params) ⊥ c.args.meter.now c.minus.new.meter _ (λ done. done.1)
-    c.minus.result c.minus.ensures.units
+    worked_charged (joined c.args.left.now.params c.args.right.now.params) c.args.meter.now c.minus.new.meter c.minus.result c.minus.ensures.units
 
 -- ---- without what is in both
 pub returns-in_err-both-clause-units : goal.returns-in_err-both-clause-units
@@ -38,11 +37,11 @@ returns-in_err-both-clause-units c =
 
 pub minus-requires-then-has_sets-clause-own : goal.minus-requires-then-has_sets-clause-own
 minus-requires-then-has_sets-clause-own c =
-    within_later c.args.meter.now c.intersected.new.meter c.args.left.now c.in_ok-both.ensures.units.charged c.requires.left
+    within_later c.args.meter.now c.intersected.new.meter c.args.left.now c.in_ok-both.ensures.units.1.charged c.requires.left
 
 pub minus-requires-then-has_sets-clause-other : goal.minus-requires-then-has_sets-clause-other
 minus-requires-then-has_sets-clause-other c =
-    within_later c.args.meter.now c.intersected.new.meter c.in_ok-both.both c.in_ok-both.ensures.units.charged c.in_ok-both.ensures.numbers
+    within_later c.args.meter.now c.intersected.new.meter c.in_ok-both.both c.in_ok-both.ensures.units.1.charged c.in_ok-both.ensures.numbers
 
 pub returns-then-has_sets-clause-params : goal.returns-then-has_sets-clause-params
 returns-then-has_sets-clause-params c =
@@ -69,7 +68,7 @@ returns-then-has_sets-clause-definitions c = λ left right.
 pub returns-then-has_sets-clause-numbers : goal.returns-then-has_sets-clause-numbers
 returns-then-has_sets-clause-numbers c =
     IfOk-weaker c.minus-then-has_sets.result _ _
-    (λ value within. within_before c.args.meter.now c.intersected.new.meter value c.in_ok-both.ensures.units.charged within)
+    (λ value within. within_before c.args.meter.now c.intersected.new.meter value c.in_ok-both.ensures.units.1.charged within)
     c.minus-then-has_sets.ensures.numbers
 
 pub returns-then-has_sets-clause-units : goal.returns-then-has_sets-clause-units
@@ -78,18 +77,17 @@ returns-then-has_sets-clause-units c =
     let right = c.args.right.now.params in
     let joint = joined left c.in_ok-both.both.params in
     let same : joint ≡ joined left right = ap (joined left) c.in_ok-both.ensures.params ∙ joined-again left right in
-    later_units (joined left right) joint ⊥ true c.args.meter.now c.intersected.new.meter c.minus-then-has_sets.new.meter
-    c.minus-then-has_sets.result c.in_ok-both.ensures.units.charged same
-    (narrow_units joint ⊥ c.intersected.new.meter c.minus-then-has_sets.new.meter _ (λ done. done.1) c.minus-then-has_sets.result
+    let made = c.in_ok-both.ensures.units in
+    worked_later (joined left right) made.0 c.args.meter.now c.intersected.new.meter c.minus-then-has_sets.new.meter made.1.charged joint
+    c.minus-then-has_sets.result same
+    (worked_charged joint c.intersected.new.meter c.minus-then-has_sets.new.meter c.minus-then-has_sets.result
     c.minus-then-has_sets.ensures.units)
 
 -- ---- pairs alone
 pub returns-in_err-rest-clause-units : goal.returns-in_err-rest-clause-units
 returns-in_err-rest-clause-units c =
     let p = err_from_is_err_and c.from_residual-in_err-rest.result c.from_residual-in_err-rest.ensures.1 in
-    rw (p.1, p.2)
-    (why_narrow (joined c.args.left.now.params c.args.right.now.params) ⊥ c.args.meter.now c.minus-2.new.meter c.in_err-rest.field-0.0
-    c.in_err-rest.ensures.units)
+    rw (p.1, p.2) c.in_err-rest.ensures.units
 
 pub remove_domain-requires-clause-own : goal.remove_domain-requires-clause-own
 remove_domain-requires-clause-own c =
@@ -138,7 +136,6 @@ returns-clause-units c =
     let joint = joined c.in_ok-rest.rest.params right in
     let same : joint ≡ joined left right = ap (λ (names : List Name). joined names right) c.in_ok-rest.ensures.params
     ∙ joined-second left right kept.0.params.distinct kept.1.params.distinct in
-    later_units (joined left right) joint ⊥ true c.args.meter.now c.minus-2.new.meter c.remove_domain.new.meter c.remove_domain.result
-    c.in_ok-rest.ensures.units.1 same
-    (worked_units joint ⊥ c.minus-2.new.meter c.remove_domain.new.meter _ c.remove_domain.result
-    c.remove_domain.ensures.units)
+    let made = c.in_ok-rest.ensures.units in
+    worked_later (joined left right) made.0 c.args.meter.now c.minus-2.new.meter c.remove_domain.new.meter made.1 joint
+    c.remove_domain.result same c.remove_domain.ensures.units

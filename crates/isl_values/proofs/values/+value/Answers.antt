@@ -1,17 +1,25 @@
 use Rattle.std.proofs.Common.{◌∙◌, ◌<◌, length, ap, sym, subst, refl, arith, rules}
 use Rattle.std.specs.Option.{option_copied}
+use Rattle.std.specs.Prelude.{IfOk, MatchResult, unsigned_abs}
 use Rattle.isl_meter.specs.Gauge.{limit_of}
-use Rattle.isl_union.specs.KeptValue.{HasNoDefinitions}
+use Rattle.isl_operators.specs.Flow.{AnyHas}
+use Rattle.isl_union.specs.KeptValue.{KeptValue, Has}
 use Rattle.isl_kinds.specs.Typed.{has_unknown}
-use Rattle.isl_values.specs.State.{scope_of}
-use Rattle.isl_values.specs.Ends.{Ends}
+use Rattle.isl_values.specs.declared.dependence.Accesses.{Accesses}
+use Rattle.isl_values.specs.declared.list.ListPart.{ListPart}
+use Rattle.isl_values.specs.Ends.{EndsPostfix, GoesOn}
+use Rattle.isl_values.specs.State.{scope_of, HasNumbersUpTo}
+use Rattle.isl_values.specs.Worked.{PartHas}
 use Rattle.isl_values.proofs.KeptLaws.{name_makes, name_goes_on, literal_makes, literal_goes_on, literal_paid, literal_unmade, never_unbound}
 use Rattle.isl_values.proofs.KeptLaws.{only_literal}
 use Rattle.isl_values.proofs.DepthLaws.{first_smaller, links_smaller, link_smaller, argument_smaller, operand_smaller, postfixes_smaller}
-use Rattle.isl_values.proofs.DepthLaws.{postfix_smaller, applied_smaller}
-use Rattle.isl_values.proofs.ValueLaws.{fits_later, numbers_of, numbers_later, paid_same, match_map, both_map, ok_of, ok_map, IsMade}
+use Rattle.isl_values.proofs.DepthLaws.{postfix_smaller, applied_smaller, any_smaller, last_smaller, sink_smaller, schedule_smaller}
+use Rattle.isl_values.proofs.SameLaws.{same_any, same_part}
+use Rattle.isl_values.proofs.ThreeLaws.{dependence_failed, dependence_goes, dependence_made, is_any, is_last, operands_failed, plain_three}
+use Rattle.isl_values.proofs.ThreeLaws.{same_Any, same_Last, three_sound, three_made, three_goes, source_failed, sink_failed, schedule_failed}
+use Rattle.isl_values.proofs.ValueLaws.{fits_later, numbers_of, numbers_later, paid_same, match_map, both_map, ok_of, ok_map, IsMade, IsMadeAt}
 use Rattle.isl_values.proofs.LinkLaws.{IsRowTo, link_sound, link_failed, join_failed, row_step}
-use Rattle.isl_values.proofs.PostfixLaws.{IsPostTo, postfix_sound, postfix_failed, post_step}
+use Rattle.isl_values.proofs.PostfixLaws.{IsFollowed, IsWhyNotFollowed, postfix_sound, postfix_failed, post_step, item_followed}
 use Rattle.isl_values.proofs.PostfixLaws.{inverse_followed, inverse_failed, inverse_goes_on, applied_sound, argument_failed}
 use Rattle.isl_values.proofs.PostfixLaws.{application_followed, application_failed, application_goes_on}
 use Rattle.isl_values.proofs.OperandLaws.{IsWhyNotMade, same_Row, first_sound, links_sound, first_failed, row_made}
@@ -22,8 +30,8 @@ use Rattle.isl_values.proofs.OperandLaws.{same_Prefix, argument_sound, word_supp
 use Rattle.isl_values.proofs.values.+value.Goals as goal
 
 -- ---- the operands behind the first
-pub joined_past-value_of-requires : goal.joined_past-value_of-requires
-joined_past-value_of-requires t c =
+pub joined_past-part_of-requires : goal.joined_past-part_of-requires
+joined_past-part_of-requires t c =
     let low : c.loop-link.link-index < length c.args.links.now = omega arith in (
       search (rules, link_smaller c.args.links.now c.loop-link.link-index c.link-item.result low c.link-item.is),
       (
@@ -36,7 +44,7 @@ pub joined_past-returns-in-Err : goal.joined_past-returns-in-Err
 joined_past-returns-in-Err t c =
     let low : c.loop-link.link-index < length c.args.links.now = omega arith in record {
       made = link_failed c.args.state.now c.args.links.now c.loop-link.link-index c.link-item.result low c.link-item.is c.args.first.value
-          c.args.meter.now c.loop-link.meter c.loop-link.left.value c.loop-link.invariant c.value_of.new.meter c.in-Err.refusal
+          c.args.meter.now c.loop-link.meter c.loop-link.left.value c.loop-link.invariant c.part_of.new.meter c.in-Err.refusal
           c.in-Err.ensures.made;
       goes_on = tt;
     }
@@ -44,13 +52,13 @@ joined_past-returns-in-Err t c =
 pub joined_past-joined-requires-clause-left : goal.joined_past-joined-requires-clause-left
 joined_past-joined-requires-clause-left t c =
     let so_far = c.loop-link.invariant in
-    numbers_of c.loop-link.meter c.value_of.new.meter c.loop-link.left.value c.deref-in-loop-link.result.now c.in-Ok.ensures.made.1.charged
+    numbers_of c.loop-link.meter c.part_of.new.meter c.loop-link.left.value c.deref-in-loop-link.result.now c.in-Ok.ensures.made.1.charged
     c.deref-in-loop-link.ensures
     (numbers_later c.args.meter.now c.loop-link.meter c.loop-link.left.value so_far.paid.charged so_far.made.numbers)
 
 pub joined_past-joined-requires-clause-right : goal.joined_past-joined-requires-clause-right
 joined_past-joined-requires-clause-right t c =
-    numbers_of c.loop-link.meter c.value_of.new.meter c.in-Ok.right.value c.deref-in-loop-link-2.result.now c.in-Ok.ensures.made.1.charged
+    numbers_of c.loop-link.meter c.part_of.new.meter c.in-Ok.right.value c.deref-in-loop-link-2.result.now c.in-Ok.ensures.made.1.charged
     c.deref-in-loop-link-2.ensures c.in-Ok.ensures.made.0.numbers
 
 pub joined_past-returns-in-Err-joined : goal.joined_past-returns-in-Err-joined
@@ -59,7 +67,7 @@ joined_past-returns-in-Err-joined t c =
     let state = c.args.state.now in
     let g = c.args.meter.now in
     let h = c.loop-link.meter in
-    let k = c.value_of.new.meter in record {
+    let k = c.part_of.new.meter in record {
       made = join_failed state c.args.links.now c.loop-link.link-index c.link-item.result low c.link-item.is c.args.first.value g h
           c.deref-in-loop-link.result.now
           (subst (IsRowTo state c.args.links.now c.args.first.value c.loop-link.link-index g h) (sym c.deref-in-loop-link.ensures)
@@ -76,7 +84,7 @@ joined_past-loop-link-preserved t c =
     let state = c.args.state.now in
     let g = c.args.meter.now in
     let h = c.loop-link.meter in
-    let k = c.value_of.new.meter in
+    let k = c.part_of.new.meter in
     row_step state c.args.links.now c.loop-link.link-index c.link-item.result low c.link-item.is c.args.first.value g h
     c.deref-in-loop-link.result.now
     (subst (IsRowTo state c.args.links.now c.args.first.value c.loop-link.link-index g h) (sym c.deref-in-loop-link.ensures)
@@ -98,9 +106,11 @@ past_postfixes-followed-requires t c =
         (
           fits_later c.args.meter.now c.loop-postfix.meter state so_far.paid.charged c.requires.fits,
           (
-            numbers_of c.args.meter.now c.loop-postfix.meter c.loop-postfix.left.value c.deref-in-loop-postfix.result.now
-                so_far.paid.charged c.deref-in-loop-postfix.ensures so_far.made.numbers,
-            subst HasNoDefinitions (sym c.deref-in-loop-postfix.ensures) so_far.made.definitions,
+            so_far.made.kept,
+            (
+              numbers_later c.args.meter.now c.loop-postfix.meter c.loop-postfix.left.value so_far.paid.charged so_far.made.numbers,
+              so_far.made.definitions,
+            ),
           ),
         ),
       ),
@@ -108,15 +118,9 @@ past_postfixes-followed-requires t c =
 
 pub past_postfixes-returns-in-Err : goal.past_postfixes-returns-in-Err
 past_postfixes-returns-in-Err t c =
-    let low : c.loop-postfix.postfix-index < length c.args.postfixes.now = omega arith in
-    let state = c.args.state.now in
-    let g = c.args.meter.now in
-    let h = c.loop-postfix.meter in record {
-      made = postfix_failed state c.args.postfixes.now c.loop-postfix.postfix-index c.postfix-item.result low c.postfix-item.is
-          c.args.operand.value g h c.deref-in-loop-postfix.result.now
-          (subst (IsPostTo state c.args.postfixes.now c.args.operand.value c.loop-postfix.postfix-index g h)
-          (sym c.deref-in-loop-postfix.ensures)
-          c.loop-postfix.invariant)
+    let low : c.loop-postfix.postfix-index < length c.args.postfixes.now = omega arith in record {
+      made = postfix_failed c.args.state.now c.args.postfixes.now c.loop-postfix.postfix-index c.postfix-item.result low c.postfix-item.is
+          c.args.operand.value c.args.meter.now c.loop-postfix.meter c.loop-postfix.left.value c.loop-postfix.invariant
           c.followed.new.meter c.in-Err.refusal c.in-Err.ensures.made;
       goes_on = tt;
     }
@@ -124,17 +128,12 @@ past_postfixes-returns-in-Err t c =
 pub past_postfixes-loop-postfix-preserved : goal.past_postfixes-loop-postfix-preserved
 past_postfixes-loop-postfix-preserved t c =
     let low : c.loop-postfix.postfix-index < length c.args.postfixes.now = omega arith in
-    let state = c.args.state.now in
-    let g = c.args.meter.now in
-    let h = c.loop-postfix.meter in
-    post_step state c.args.postfixes.now c.loop-postfix.postfix-index c.postfix-item.result low c.postfix-item.is c.args.operand.value g h
-    c.deref-in-loop-postfix.result.now
-    (subst (IsPostTo state c.args.postfixes.now c.args.operand.value c.loop-postfix.postfix-index g h) (sym c.deref-in-loop-postfix.ensures)
-    c.loop-postfix.invariant)
+    post_step c.args.state.now c.args.postfixes.now c.loop-postfix.postfix-index c.postfix-item.result low c.postfix-item.is
+    c.args.operand.value c.args.meter.now c.loop-postfix.meter c.loop-postfix.left.value c.loop-postfix.invariant
     c.followed.new.meter c.in-Ok.made.value c.in-Ok.ensures.made c.in-Ok.ensures.goes_on
 
-pub followed-value_of-requires : goal.followed-value_of-requires
-followed-value_of-requires t c = (
+pub followed-part_of-requires : goal.followed-part_of-requires
+followed-part_of-requires t c = (
   search (rules, applied_smaller c.args.postfix.now c.in-Apply.expr c.in-Apply.is),
   (
     applied_sound c.args.state.now c.args.postfix.now c.in-Apply.expr c.in-Apply.is c.requires.sound,
@@ -142,100 +141,119 @@ followed-value_of-requires t c = (
   ),
 )
 
+pub followed-inverted-requires-clause-numbers : goal.followed-inverted-requires-clause-numbers
+followed-inverted-requires-clause-numbers t c =
+    subst (HasNumbersUpTo (unsigned_abs (limit_of c.args.meter.now))) (sym c.deref.ensures) c.requires.numbers
+
 pub followed-applied_to-requires-clause-map : goal.followed-applied_to-requires-clause-map
 followed-applied_to-requires-clause-map t c =
-    numbers_later c.args.meter.now c.value_of.new.meter c.args.operand.now c.in-Ok.ensures.made.1.charged c.requires.numbers
+    numbers_of c.args.meter.now c.part_of.new.meter c.args.operand.now.value c.deref-in-Ok.result.now c.in-Ok.ensures.made.1.charged
+    c.deref-in-Ok.ensures c.requires.numbers
 
 pub followed-applied_to-requires-clause-argument : goal.followed-applied_to-requires-clause-argument
 followed-applied_to-requires-clause-argument t c =
-    numbers_of c.args.meter.now c.value_of.new.meter c.in-Ok.argument.value c.deref.result.now c.in-Ok.ensures.made.1.charged
-    c.deref.ensures c.in-Ok.ensures.made.0.numbers
+    numbers_of c.args.meter.now c.part_of.new.meter c.in-Ok.argument.value c.deref-in-Ok-2.result.now c.in-Ok.ensures.made.1.charged
+    c.deref-in-Ok-2.ensures c.in-Ok.ensures.made.0.numbers
 
 pub followed-returns-in-Inverse : goal.followed-returns-in-Inverse
 followed-returns-in-Inverse t c =
     let state = c.args.state.now in
-    let left = c.args.operand.now in
+    let postfix = c.args.postfix.now in
+    let one = c.deref.result.now in
     let g = c.args.meter.now in
     let h = c.inverted.new.meter in
     let e = c.inverted.ensures in record {
-      made = both_map c.inverted.result _ _ _ _
-          (λ value made. inverse_followed state c.args.postfix.now left g h c.in-Inverse.is e.meter value.value made)
-          (λ refusal memory. inverse_failed state c.args.postfix.now left g h c.in-Inverse.is e.meter refusal memory) e.made e.faults;
-      goes_on = ok_map c.inverted.result _ _ (λ value made. inverse_goes_on state c.args.postfix.now left g h c.in-Inverse.is e.meter)
+      made = subst (λ (v : KeptValue). MatchResult c.inverted.result (λ value. IsFollowed state postfix v g h value.value)
+          (IsWhyNotFollowed state postfix v g h)) c.deref.ensures
+          (both_map c.inverted.result _ _ _ _
+          (λ value made. inverse_followed state postfix one g h c.in-Inverse.is e.meter value.value made)
+          (λ refusal memory. inverse_failed state postfix one g h c.in-Inverse.is e.meter refusal memory) e.made e.faults);
+      goes_on = ok_map c.inverted.result _ _
+          (λ value made. inverse_goes_on state postfix c.args.operand.now.value g h c.in-Inverse.is e.meter)
           e.made;
     }
 
 pub followed-returns-in-Ok : goal.followed-returns-in-Ok
 followed-returns-in-Ok t c =
     let state = c.args.state.now in
-    let left = c.args.operand.now in
+    let postfix = c.args.postfix.now in
+    let left = c.deref-in-Ok.result.now in
     let g = c.args.meter.now in
-    let h = c.value_of.new.meter in
+    let h = c.part_of.new.meter in
     let k = c.applied_to.new.meter in
     let argument = c.in-Ok.argument.value in
-    let one = c.deref.result.now in
+    let one = c.deref-in-Ok-2.result.now in
+    let same = c.deref-in-Ok-2.ensures in
     let e = c.applied_to.ensures in record {
-      made = match_map c.applied_to.result _ _ _ _
-          (λ value made. application_followed state c.args.postfix.now c.in-Apply.expr c.in-Apply.is left argument one g h k
-          c.in-Ok.ensures.made c.deref.ensures value.value made)
-          (λ refusal why. application_failed state c.args.postfix.now c.in-Apply.expr c.in-Apply.is left argument one g h k
-          c.in-Ok.ensures.made c.deref.ensures refusal c.in-Ok.ensures.goes_on why) e.made;
-      goes_on = ok_map c.applied_to.result _ _
-          (λ value goes. application_goes_on state c.args.postfix.now c.in-Apply.expr c.in-Apply.is left argument one g h k
-          c.in-Ok.ensures.made c.deref.ensures c.in-Ok.ensures.goes_on goes) e.goes_on;
+      made = subst (λ (v : KeptValue). MatchResult c.applied_to.result (λ value. IsFollowed state postfix v g k value.value)
+          (IsWhyNotFollowed state postfix v g k)) c.deref-in-Ok.ensures
+          (match_map c.applied_to.result _ _ _ _
+          (λ value made. application_followed state postfix c.in-Apply.expr c.in-Apply.is left argument one g h k
+          c.in-Ok.ensures.made same value.value made)
+          (λ refusal why. application_failed state postfix c.in-Apply.expr c.in-Apply.is left argument one g h k
+          c.in-Ok.ensures.made same refusal c.in-Ok.ensures.goes_on why) e.made);
+      goes_on = subst (λ (v : KeptValue). IfOk c.applied_to.result (λ _. GoesOn (EndsPostfix state v.params (Has v) postfix)))
+          c.deref-in-Ok.ensures
+          (ok_map c.applied_to.result _ _
+          (λ value goes. application_goes_on state postfix c.in-Apply.expr c.in-Apply.is left argument one g h k
+          c.in-Ok.ensures.made same c.in-Ok.ensures.goes_on goes) e.goes_on);
     }
+
+pub followed-returns-in_ok-clone-in-Item-clause-made : goal.followed-returns-in_ok-clone-in-Item-clause-made
+followed-returns-in_ok-clone-in-Item-clause-made t c =
+    item_followed c.args.state.now c.args.postfix.now _ c.args.operand.now.value c.args.meter.now c.in-Item.is
+    c.in_ok-clone-in-Item.field-0.value (search rules) c.requires.kept c.requires.numbers c.requires.definitions
 
 pub followed-returns-in-Err : goal.followed-returns-in-Err
 followed-returns-in-Err t c = record {
-  made = argument_failed c.args.state.now c.args.postfix.now c.in-Apply.expr c.in-Apply.is c.args.operand.now c.args.meter.now
-      c.value_of.new.meter c.in-Err.refusal
+  made = argument_failed c.args.state.now c.args.postfix.now c.in-Apply.expr c.in-Apply.is c.args.operand.now.value c.args.meter.now
+      c.part_of.new.meter c.in-Err.refusal
       c.in-Err.ensures.made;
   goes_on = tt;
 }
 
 -- ---- an expression
-pub value_of-unreachable-requires : goal.value_of-unreachable-requires
-value_of-unreachable-requires t c =
+pub part_of-unreachable-requires : goal.part_of-unreachable-requires
+part_of-unreachable-requires t c =
     never_unbound c.args.state.now c.in-Name.name (sym c.get.ensures ∙ ap option_copied c.in-None.is)
     (sym (ap (has_unknown (scope_of c.args.state.now)) c.in-Name.is) ∙ c.requires.sound.known)
 
-pub value_of-lowered-requires-clause-well_formed : goal.value_of-lowered-requires-clause-well_formed
-value_of-lowered-requires-clause-well_formed t c =
+pub part_of-lowered-requires-clause-well_formed : goal.part_of-lowered-requires-clause-well_formed
+part_of-lowered-requires-clause-well_formed t c =
     (only_literal (scope_of c.args.state.now) c.args.expr.now c.in-Literal.literal c.in-Literal.is c.requires.sound).1
 
-pub value_of-returns-in_ok-shared-in-Some : goal.value_of-returns-in_ok-shared-in-Some
-value_of-returns-in_ok-shared-in-Some t c = record {
+pub part_of-returns-in_ok-shared-in-Some : goal.part_of-returns-in_ok-shared-in-Some
+part_of-returns-in_ok-shared-in-Some t c = record {
   made = (
-    name_makes c.args.state.now (limit_of c.args.meter.now) c.args.expr.now c.in-Name.name c.in-Some.kept.now
+    name_makes c.args.state.now c.args.part (limit_of c.args.meter.now) c.args.expr.now c.in-Name.name c.in-Some.kept.now
         c.in_ok-shared-in-Some.field-0.value c.in-Name.is
         c.in_ok-shared-in-Some.ensures.shared (sym c.get.ensures ∙ ap option_copied c.in-Some.is) c.in_ok-shared-in-Some.ensures.kept
-        c.in_ok-shared-in-Some.ensures.definitions
+        c.in_ok-shared-in-Some.ensures.params c.in_ok-shared-in-Some.ensures.definitions
         c.requires.fits,
     paid_same _ c.args.meter.now c.args.meter.now refl,
   );
   goes_on = name_goes_on c.args.state.now c.args.expr.now c.in-Name.name c.in-Name.is;
 }
 
-pub value_of-returns-in-Literal : goal.value_of-returns-in-Literal
-value_of-returns-in-Literal t c =
+pub part_of-returns-in-Literal : goal.part_of-returns-in-Literal
+part_of-returns-in-Literal t c =
     let state = c.args.state.now in
     let expr = c.args.expr.now in
     let literal = c.in-Literal.literal in
     let formed = (only_literal (scope_of state) expr literal c.in-Literal.is c.requires.sound).1 in record {
       made = match_map c.lowered.result _ _ _ (IsWhyNotMade state expr c.args.meter.now c.lowered.new.meter)
           (λ made one. (
-            literal_makes state (limit_of c.args.meter.now) expr literal made.value c.in-Literal.is formed one.0,
+            literal_makes state c.args.part (limit_of c.args.meter.now) expr literal made.value c.in-Literal.is formed one.0,
             literal_paid expr literal c.args.meter.now c.lowered.new.meter c.in-Literal.is one.1,
           ))
-          (λ refusal why. literal_unmade expr literal (Ends state expr) c.args.meter.now c.lowered.new.meter refusal
-          c.in-Literal.is why)
+          (λ refusal why. literal_unmade state expr literal c.args.meter.now c.lowered.new.meter refusal c.in-Literal.is why)
           c.lowered.ensures;
       goes_on = ok_of c.lowered.result _ (λ value. literal_goes_on state expr literal c.in-Literal.is);
     }
 
 -- ---- a row
-pub value_of-value_of-requires : goal.value_of-value_of-requires
-value_of-value_of-requires t c =
+pub part_of-part_of-requires : goal.part_of-part_of-requires
+part_of-part_of-requires t c =
     let expr = c.args.expr.now in
     let first = c.get-in-Row.result.now in
     let is = same_Row expr c.in-Row.first first c.in-Row.links c.in-Row.links c.in-Row.is c.get-in-Row.ensures refl in (
@@ -243,8 +261,8 @@ value_of-value_of-requires t c =
       (first_sound c.args.state.now expr first c.in-Row.links is c.requires.sound, c.requires.fits),
     )
 
-pub value_of-joined_past-requires : goal.value_of-joined_past-requires
-value_of-joined_past-requires t c =
+pub part_of-joined_past-requires : goal.part_of-joined_past-requires
+part_of-joined_past-requires t c =
     let expr = c.args.expr.now in
     let first = c.get-in-Row.result.now in
     let links = c.as_slice.result.now in
@@ -254,45 +272,45 @@ value_of-joined_past-requires t c =
       (
         links_sound c.args.state.now expr first links is c.requires.sound,
         (
-          fits_later c.args.meter.now c.value_of.new.meter c.args.state.now one.1.charged c.requires.fits,
-          (numbers_later c.args.meter.now c.value_of.new.meter c.in-Ok.left.value one.1.charged one.0.numbers, one.0.definitions),
+          fits_later c.args.meter.now c.part_of.new.meter c.args.state.now one.1.charged c.requires.fits,
+          (numbers_later c.args.meter.now c.part_of.new.meter c.in-Ok.left.value one.1.charged one.0.numbers, one.0.definitions),
         ),
       ),
     )
 
-pub value_of-returns-in-Ok : goal.value_of-returns-in-Ok
-value_of-returns-in-Ok t c =
+pub part_of-returns-in-Ok : goal.part_of-returns-in-Ok
+part_of-returns-in-Ok t c =
     let state = c.args.state.now in
     let expr = c.args.expr.now in
     let first = c.get-in-Row.result.now in
     let links = c.as_slice.result.now in
     let is = same_Row expr c.in-Row.first first c.in-Row.links links c.in-Row.is c.get-in-Row.ensures c.as_slice.ensures in
     let g = c.args.meter.now in
-    let h = c.value_of.new.meter in
+    let h = c.part_of.new.meter in
     let k = c.joined_past.new.meter in
     let left = c.in-Ok.left.value in
     let one = c.in-Ok.ensures in
     let e = c.joined_past.ensures in record {
       made = match_map c.joined_past.result _ _ _ _
-          (λ made all. row_made state expr first links is g h k left one.made made.value all)
+          (λ made all. row_made state expr first links is g h k left one.made c.args.part made.value all)
           (λ refusal why. links_failed state expr first links is g h k left one.made refusal one.goes_on why) e.made;
       goes_on = ok_map c.joined_past.result _ _ (λ made goes. row_goes_on state expr first links is g h k left one.made one.goes_on goes)
           e.goes_on;
     }
 
-pub value_of-returns-in-Err : goal.value_of-returns-in-Err
-value_of-returns-in-Err t c =
+pub part_of-returns-in-Err : goal.part_of-returns-in-Err
+part_of-returns-in-Err t c =
     let expr = c.args.expr.now in
     let first = c.get-in-Row.result.now in
     let is = same_Row expr c.in-Row.first first c.in-Row.links c.in-Row.links c.in-Row.is c.get-in-Row.ensures refl in record {
-      made = first_failed c.args.state.now expr first c.in-Row.links is c.args.meter.now c.value_of.new.meter c.in-Err.refusal
+      made = first_failed c.args.state.now expr first c.in-Row.links is c.args.meter.now c.part_of.new.meter c.in-Err.refusal
           c.in-Err.ensures.made;
       goes_on = tt;
     }
 
 -- ---- an operand with what follows it
-pub value_of-value_of-requires-in-Post : goal.value_of-value_of-requires-in-Post
-value_of-value_of-requires-in-Post t c =
+pub part_of-part_of-requires-in-Post : goal.part_of-part_of-requires-in-Post
+part_of-part_of-requires-in-Post t c =
     let expr = c.args.expr.now in
     let operand = c.get-in-Post.result.now in
     let postfixes = c.in-Post.postfixes in
@@ -301,60 +319,61 @@ value_of-value_of-requires-in-Post t c =
       (operand_sound c.args.state.now expr operand postfixes is c.requires.sound, c.requires.fits),
     )
 
-pub value_of-past_postfixes-requires : goal.value_of-past_postfixes-requires
-value_of-past_postfixes-requires t c =
+pub part_of-past_postfixes-requires : goal.part_of-past_postfixes-requires
+part_of-past_postfixes-requires t c =
     let expr = c.args.expr.now in
     let operand = c.get-in-Post.result.now in
-    let postfixes = c.as_slice-in-Ok-value_of.result.now in
+    let postfixes = c.as_slice-postfixes.result.now in
     let is = same_Post expr c.in-Post.operand operand c.in-Post.postfixes postfixes c.in-Post.is c.get-in-Post.ensures
-    c.as_slice-in-Ok-value_of.ensures in
-    let one = c.in-Ok-value_of.ensures.made in
-    let h = c.value_of-in-Post.new.meter in (
+    c.as_slice-postfixes.ensures in
+    let one = c.in-Ok-part_of.ensures.made in
+    let h = c.part_of-in-Post.new.meter in (
       search (rules, postfixes_smaller expr operand postfixes is),
       (
         postfixes_sound c.args.state.now expr operand postfixes is c.requires.sound,
         (
           fits_later c.args.meter.now h c.args.state.now one.1.charged c.requires.fits,
-          (numbers_later c.args.meter.now h c.in-Ok-value_of.left.value one.1.charged one.0.numbers, one.0.definitions),
+          (numbers_later c.args.meter.now h c.in-Ok-part_of.left.value one.1.charged one.0.numbers, one.0.definitions),
         ),
       ),
     )
 
-pub value_of-returns-in-Ok-value_of : goal.value_of-returns-in-Ok-value_of
-value_of-returns-in-Ok-value_of t c =
+pub part_of-returns-in-Ok-part_of : goal.part_of-returns-in-Ok-part_of
+part_of-returns-in-Ok-part_of t c =
     let state = c.args.state.now in
     let expr = c.args.expr.now in
     let operand = c.get-in-Post.result.now in
-    let postfixes = c.as_slice-in-Ok-value_of.result.now in
+    let postfixes = c.as_slice-postfixes.result.now in
     let is = same_Post expr c.in-Post.operand operand c.in-Post.postfixes postfixes c.in-Post.is c.get-in-Post.ensures
-    c.as_slice-in-Ok-value_of.ensures in
+    c.as_slice-postfixes.ensures in
     let g = c.args.meter.now in
-    let h = c.value_of-in-Post.new.meter in
+    let h = c.part_of-in-Post.new.meter in
     let k = c.past_postfixes.new.meter in
-    let left = c.in-Ok-value_of.left.value in
-    let one = c.in-Ok-value_of.ensures in
+    let left = c.in-Ok-part_of.left.value in
+    let one = c.in-Ok-part_of.ensures in
+    let taken = subst (λ (at : ListPart). IsMadeAt state at operand g h left) c.taken_part.ensures one.made in
     let e = c.past_postfixes.ensures in record {
       made = match_map c.past_postfixes.result _ _ _ _
-          (λ made all. post_made state expr operand postfixes is g h k left one.made made.value all)
-          (λ refusal why. postfixes_failed state expr operand postfixes is g h k left one.made refusal one.goes_on why) e.made;
+          (λ made all. post_made state expr operand postfixes is g h k left taken c.args.part made.value all)
+          (λ refusal why. postfixes_failed state expr operand postfixes is g h k left taken refusal one.goes_on why) e.made;
       goes_on = ok_map c.past_postfixes.result _ _
-          (λ made goes. post_goes_on state expr operand postfixes is g h k left one.made one.goes_on goes) e.goes_on;
+          (λ made goes. post_goes_on state expr operand postfixes is g h k left taken one.goes_on goes) e.goes_on;
     }
 
-pub value_of-returns-in-Err-value_of : goal.value_of-returns-in-Err-value_of
-value_of-returns-in-Err-value_of t c =
+pub part_of-returns-in-Err-part_of : goal.part_of-returns-in-Err-part_of
+part_of-returns-in-Err-part_of t c =
     let expr = c.args.expr.now in
     let operand = c.get-in-Post.result.now in
     let postfixes = c.in-Post.postfixes in
     let is = same_Post expr c.in-Post.operand operand postfixes postfixes c.in-Post.is c.get-in-Post.ensures refl in record {
-      made = operand_failed c.args.state.now expr operand postfixes is c.args.meter.now c.value_of-in-Post.new.meter
-          c.in-Err-value_of.refusal c.in-Err-value_of.ensures.made;
+      made = operand_failed c.args.state.now expr operand postfixes is c.args.meter.now c.part_of-in-Post.new.meter
+          c.in-Err-part_of.refusal c.in-Err-part_of.ensures.made;
       goes_on = tt;
     }
 
 -- ---- a word before an operand
-pub value_of-value_of-requires-in-Prefix : goal.value_of-value_of-requires-in-Prefix
-value_of-value_of-requires-in-Prefix t c =
+pub part_of-part_of-requires-in-Prefix : goal.part_of-part_of-requires-in-Prefix
+part_of-part_of-requires-in-Prefix t c =
     let expr = c.args.expr.now in
     let operand = c.get-in-Prefix.result.now in
     let word = c.in-Prefix.word in
@@ -363,14 +382,14 @@ value_of-value_of-requires-in-Prefix t c =
       (argument_sound c.args.state.now expr word operand is c.requires.sound, c.requires.fits),
     )
 
-pub value_of-worded-requires-clause-numbers : goal.value_of-worded-requires-clause-numbers
-value_of-worded-requires-clause-numbers t c =
-    let one = c.in-Ok-value_of-2.ensures.made in
-    numbers_of c.args.meter.now c.value_of-in-Prefix.new.meter c.in-Ok-value_of-2.argument.value c.deref.result.now one.1.charged
+pub part_of-worded-requires-clause-numbers : goal.part_of-worded-requires-clause-numbers
+part_of-worded-requires-clause-numbers t c =
+    let one = c.in-Ok-part_of-2.ensures.made in
+    numbers_of c.args.meter.now c.part_of-in-Prefix.new.meter c.in-Ok-part_of-2.argument.value c.deref.result.now one.1.charged
     c.deref.ensures one.0.numbers
 
-pub value_of-returns-in-Ok-value_of-2 : goal.value_of-returns-in-Ok-value_of-2
-value_of-returns-in-Ok-value_of-2 t c =
+pub part_of-returns-in-Ok-part_of-2 : goal.part_of-returns-in-Ok-part_of-2
+part_of-returns-in-Ok-part_of-2 t c =
     let state = c.args.state.now in
     let expr = c.args.expr.now in
     let operand = c.get-in-Prefix.result.now in
@@ -378,15 +397,15 @@ value_of-returns-in-Ok-value_of-2 t c =
     let is = same_Prefix expr word c.in-Prefix.operand operand c.in-Prefix.is c.get-in-Prefix.ensures in
     let supported = word_supported state expr word operand is c.requires.sound in
     let g = c.args.meter.now in
-    let h = c.value_of-in-Prefix.new.meter in
+    let h = c.part_of-in-Prefix.new.meter in
     let k = c.worded.new.meter in
-    let argument = c.in-Ok-value_of-2.argument.value in
+    let argument = c.in-Ok-part_of-2.argument.value in
     let operand_is = c.deref.ensures in
     let given = c.deref.result.now in
-    let one = c.in-Ok-value_of-2.ensures in
+    let one = c.in-Ok-part_of-2.ensures in
     let e = c.worded.ensures in record {
       made = match_map c.worded.result _ _ _ _
-          (λ made all. word_made state expr word operand is g h k argument given one.made operand_is supported made.value all)
+          (λ made all. word_made state expr word operand is g h k argument given one.made operand_is c.args.part supported made.value all)
           (λ refusal why. word_failed state expr word operand is g h k argument given one.made operand_is refusal one.goes_on why)
           e.made;
       goes_on = ok_map c.worded.result _ _
@@ -394,13 +413,198 @@ value_of-returns-in-Ok-value_of-2 t c =
           e.goes_on;
     }
 
-pub value_of-returns-in-Err-value_of-2 : goal.value_of-returns-in-Err-value_of-2
-value_of-returns-in-Err-value_of-2 t c =
+pub part_of-returns-in-Err-part_of-2 : goal.part_of-returns-in-Err-part_of-2
+part_of-returns-in-Err-part_of-2 t c =
     let expr = c.args.expr.now in
     let operand = c.get-in-Prefix.result.now in
     let word = c.in-Prefix.word in
     let is = same_Prefix expr word c.in-Prefix.operand operand c.in-Prefix.is c.get-in-Prefix.ensures in record {
-      made = prefixed_failed c.args.state.now expr word operand is c.args.meter.now c.value_of-in-Prefix.new.meter
-          c.in-Err-value_of-2.refusal c.in-Err-value_of-2.ensures.made;
+      made = prefixed_failed c.args.state.now expr word operand is c.args.meter.now c.part_of-in-Prefix.new.meter
+          c.in-Err-part_of-2.refusal c.in-Err-part_of-2.ensures.made;
       goes_on = tt;
+    }
+
+-- ---- any
+pub part_of-three_of-requires : goal.part_of-three_of-requires
+part_of-three_of-requires t c =
+    let expr = c.args.expr.now in
+    let source = c.get-in-Any.result.now in
+    let sink = c.get-in-Any-2.result.now in
+    let schedule = c.get-in-Any-3.result.now in
+    let is = same_Any expr c.in-Any.source c.in-Any.sink c.in-Any.schedule source sink schedule c.in-Any.is c.get-in-Any.ensures
+    c.get-in-Any-2.ensures c.get-in-Any-3.ensures in
+    let sound = three_sound c.args.state.now c.args.part expr source sink schedule AnyHas same_any
+    (is_any c.args.state.now c.args.part expr source sink schedule is) c.requires.sound in (
+      search (rules, any_smaller expr source sink schedule is),
+      (sound.0, (sound.1, (sound.2, c.requires.fits))),
+    )
+
+pub part_of-preceding-requires : goal.part_of-preceding-requires
+part_of-preceding-requires t c =
+    plain_three c.args.state.now c.get-in-Any.result.now c.get-in-Any-2.result.now c.get-in-Any-3.result.now c.args.meter.now c.three_of.new.meter
+    c.in-Ok-three_of.three c.in-Ok-three_of.ensures.made.0 c.in-Ok-three_of.ensures.made.1
+
+pub part_of-returns-in-Ok-three_of : goal.part_of-returns-in-Ok-three_of
+part_of-returns-in-Ok-three_of t c =
+    let state = c.args.state.now in
+    let part = c.args.part in
+    let expr = c.args.expr.now in
+    let source = c.get-in-Any.result.now in
+    let sink = c.get-in-Any-2.result.now in
+    let schedule = c.get-in-Any-3.result.now in
+    let is = same_Any expr c.in-Any.source c.in-Any.sink c.in-Any.schedule source sink schedule c.in-Any.is c.get-in-Any.ensures
+    c.get-in-Any-2.ensures c.get-in-Any-3.ensures in
+    let of = is_any state part expr source sink schedule is in
+    let g = c.args.meter.now in
+    let h = c.three_of.new.meter in
+    let k = c.preceding.new.meter in
+    let three = c.in-Ok-three_of.three in
+    let one = c.in-Ok-three_of.ensures in
+    let e = c.preceding.ensures in record {
+      made = match_map c.preceding.result _ _ _ _
+          (λ value made. dependence_made state part expr source sink schedule AnyHas same_any of g h k three one.made.0 one.made.1
+          value.value made)
+          (λ refusal why. dependence_failed state part expr source sink schedule AnyHas same_any of g h k three one.made.0 one.made.1
+          refusal one.goes_on why) e.made;
+      goes_on = ok_map c.preceding.result _ _
+          (λ value here. dependence_goes state part expr source sink schedule AnyHas same_any of g h k three one.made.0 one.made.1
+          one.goes_on here) e.goes_on;
+    }
+
+pub part_of-returns-in-Err-three_of : goal.part_of-returns-in-Err-three_of
+part_of-returns-in-Err-three_of t c =
+    let state = c.args.state.now in
+    let part = c.args.part in
+    let expr = c.args.expr.now in
+    let source = c.get-in-Any.result.now in
+    let sink = c.get-in-Any-2.result.now in
+    let schedule = c.get-in-Any-3.result.now in
+    let is = same_Any expr c.in-Any.source c.in-Any.sink c.in-Any.schedule source sink schedule c.in-Any.is c.get-in-Any.ensures
+    c.get-in-Any-2.ensures c.get-in-Any-3.ensures in record {
+      made = operands_failed state part expr source sink schedule AnyHas same_any
+          (is_any state part expr source sink schedule is) c.args.meter.now c.three_of.new.meter c.in-Err-three_of.refusal c.in-Err-three_of.ensures.made;
+      goes_on = tt;
+    }
+
+-- ---- last
+pub part_of-three_of-requires-in-Last : goal.part_of-three_of-requires-in-Last
+part_of-three_of-requires-in-Last t c =
+    let expr = c.args.expr.now in
+    let source = c.get-in-Last.result.now in
+    let sink = c.get-in-Last-2.result.now in
+    let schedule = c.get-in-Last-3.result.now in
+    let is = same_Last expr c.in-Last.source c.in-Last.sink c.in-Last.schedule source sink schedule c.in-Last.is c.get-in-Last.ensures
+    c.get-in-Last-2.ensures c.get-in-Last-3.ensures in
+    let sound = three_sound c.args.state.now c.args.part expr source sink schedule (PartHas c.args.part) (same_part c.args.part)
+    (is_last c.args.state.now c.args.part expr source sink schedule is) c.requires.sound in (
+      search (rules, last_smaller expr source sink schedule is),
+      (sound.0, (sound.1, (sound.2, c.requires.fits))),
+    )
+
+pub part_of-latest_part-requires : goal.part_of-latest_part-requires
+part_of-latest_part-requires t c =
+    plain_three c.args.state.now c.get-in-Last.result.now c.get-in-Last-2.result.now c.get-in-Last-3.result.now c.args.meter.now c.three_of-in-Last.new.meter
+    c.in-Ok-three_of-2.three c.in-Ok-three_of-2.ensures.made.0 c.in-Ok-three_of-2.ensures.made.1
+
+pub part_of-returns-in-Ok-three_of-2 : goal.part_of-returns-in-Ok-three_of-2
+part_of-returns-in-Ok-three_of-2 t c =
+    let state = c.args.state.now in
+    let part = c.args.part in
+    let expr = c.args.expr.now in
+    let source = c.get-in-Last.result.now in
+    let sink = c.get-in-Last-2.result.now in
+    let schedule = c.get-in-Last-3.result.now in
+    let is = same_Last expr c.in-Last.source c.in-Last.sink c.in-Last.schedule source sink schedule c.in-Last.is c.get-in-Last.ensures
+    c.get-in-Last-2.ensures c.get-in-Last-3.ensures in
+    let of = is_last state part expr source sink schedule is in
+    let g = c.args.meter.now in
+    let h = c.three_of-in-Last.new.meter in
+    let k = c.latest_part.new.meter in
+    let three = c.in-Ok-three_of-2.three in
+    let one = c.in-Ok-three_of-2.ensures in
+    let e = c.latest_part.ensures in record {
+      made = match_map c.latest_part.result _ _ _ _
+          (λ value made. dependence_made state part expr source sink schedule (PartHas c.args.part) (same_part c.args.part) of g h k three one.made.0 one.made.1
+          value.value made)
+          (λ refusal why. dependence_failed state part expr source sink schedule (PartHas c.args.part) (same_part c.args.part) of g h k three one.made.0 one.made.1
+          refusal one.goes_on why) e.made;
+      goes_on = ok_map c.latest_part.result _ _
+          (λ value here. dependence_goes state part expr source sink schedule (PartHas c.args.part) (same_part c.args.part) of g h k three one.made.0 one.made.1
+          one.goes_on here) e.goes_on;
+    }
+
+pub part_of-returns-in-Err-three_of-2 : goal.part_of-returns-in-Err-three_of-2
+part_of-returns-in-Err-three_of-2 t c =
+    let state = c.args.state.now in
+    let part = c.args.part in
+    let expr = c.args.expr.now in
+    let source = c.get-in-Last.result.now in
+    let sink = c.get-in-Last-2.result.now in
+    let schedule = c.get-in-Last-3.result.now in
+    let is = same_Last expr c.in-Last.source c.in-Last.sink c.in-Last.schedule source sink schedule c.in-Last.is c.get-in-Last.ensures
+    c.get-in-Last-2.ensures c.get-in-Last-3.ensures in record {
+      made = operands_failed state part expr source sink schedule (PartHas c.args.part) (same_part c.args.part)
+          (is_last state part expr source sink schedule is) c.args.meter.now c.three_of-in-Last.new.meter c.in-Err-three_of-2.refusal c.in-Err-three_of-2.ensures.made;
+      goes_on = tt;
+    }
+
+-- ---- source, sink and schedule
+pub three_of-part_of-requires-2 : goal.three_of-part_of-requires-2
+three_of-part_of-requires-2 t c = (
+  search (rules, sink_smaller c.args.source.now c.args.sink.now c.args.schedule.now),
+  (
+    c.requires.sink,
+    fits_later c.args.meter.now c.part_of.new.meter c.args.state.now c.in-Ok.ensures.made.1.charged c.requires.fits,
+  ),
+)
+
+pub three_of-part_of-requires-3 : goal.three_of-part_of-requires-3
+three_of-part_of-requires-3 t c = (
+  search (rules, schedule_smaller c.args.source.now c.args.sink.now c.args.schedule.now),
+  (
+    c.requires.schedule,
+    fits_later c.part_of.new.meter c.part_of-2.new.meter c.args.state.now c.in-Ok-part_of.ensures.made.1.charged
+        (fits_later c.args.meter.now c.part_of.new.meter c.args.state.now c.in-Ok.ensures.made.1.charged c.requires.fits),
+  ),
+)
+
+pub three_of-returns-in-Err : goal.three_of-returns-in-Err
+three_of-returns-in-Err t c = record {
+  made = source_failed c.args.state.now c.args.source.now c.args.sink.now c.args.schedule.now c.args.meter.now c.part_of.new.meter
+      c.in-Err.refusal c.in-Err.ensures.made;
+  goes_on = tt;
+}
+
+pub three_of-returns-in-Err-part_of : goal.three_of-returns-in-Err-part_of
+three_of-returns-in-Err-part_of t c = record {
+  made = sink_failed c.args.state.now c.args.source.now c.args.sink.now c.args.schedule.now c.args.meter.now c.part_of.new.meter
+      c.in-Ok.value.value c.in-Ok.ensures.made c.in-Ok.ensures.goes_on c.part_of-2.new.meter c.in-Err-part_of.refusal
+      c.in-Err-part_of.ensures.made;
+  goes_on = tt;
+}
+
+pub three_of-returns-in-Err-part_of-2 : goal.three_of-returns-in-Err-part_of-2
+three_of-returns-in-Err-part_of-2 t c = record {
+  made = schedule_failed c.args.state.now c.args.source.now c.args.sink.now c.args.schedule.now c.args.meter.now c.part_of.new.meter
+      c.in-Ok.value.value c.in-Ok.ensures.made c.in-Ok.ensures.goes_on c.part_of-2.new.meter c.in-Ok-part_of.value.value
+      c.in-Ok-part_of.ensures.made c.in-Ok-part_of.ensures.goes_on c.part_of-3.new.meter c.in-Err-part_of-2.refusal
+      c.in-Err-part_of-2.ensures.made;
+  goes_on = tt;
+}
+
+pub three_of-returns-in-Ok-part_of-2 : goal.three_of-returns-in-Ok-part_of-2
+three_of-returns-in-Ok-part_of-2 t c =
+    let state = c.args.state.now in
+    let source = c.args.source.now in
+    let sink = c.args.sink.now in
+    let schedule = c.args.schedule.now in
+    let first = c.in-Ok.ensures in
+    let second = c.in-Ok-part_of.ensures in
+    let third = c.in-Ok-part_of-2.ensures in
+    let three : Accesses = record { source = c.in-Ok.value; sink = c.in-Ok-part_of.value; schedule = c.in-Ok-part_of-2.schedule } in record {
+      made = three_made state source sink schedule c.args.meter.now c.part_of.new.meter c.in-Ok.value.value first.made first.goes_on
+          c.part_of-2.new.meter c.in-Ok-part_of.value.value second.made second.goes_on c.part_of-3.new.meter three third.made refl refl;
+      goes_on = three_goes state source sink schedule c.args.meter.now c.part_of.new.meter c.in-Ok.value.value first.made first.goes_on
+          c.part_of-2.new.meter c.in-Ok-part_of.value.value second.made second.goes_on c.part_of-3.new.meter three third.made
+          third.goes_on;
     }

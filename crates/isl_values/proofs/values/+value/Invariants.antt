@@ -1,10 +1,13 @@
-use Rattle.isl_values.specs.Depth.{depth_of, depth_of_links, depth_of_postfix, depth_of_postfixes}
+use Rattle.isl_values.specs.Depth.{depth_of, depth_of_links, depth_of_postfix, depth_of_postfixes, depth_of_three}
 use Rattle.isl_values.proofs.LinkLaws.{IsRowTo}
 use Rattle.isl_values.proofs.PostfixLaws.{IsPostTo}
 use Rattle.isl_values.proofs.values.+value.Given as goal
 
-abbrev pub decreases-value_of : goal.decreases-value_of
-decreases-value_of l = depth_of l.expr.now
+abbrev pub decreases-part_of : goal.decreases-part_of
+decreases-part_of l = depth_of l.expr.now
+
+abbrev pub decreases-three_of : goal.decreases-three_of
+decreases-three_of l = depth_of_three l.source.now l.sink.now l.schedule.now
 
 abbrev pub decreases-joined_past : goal.decreases-joined_past
 decreases-joined_past l = depth_of_links l.links.now

@@ -1,0 +1,16 @@
+use Rattle.std.proofs.Common.{◌↔◌}
+use Rattle.std.proofs.lemmas.Result.{IfOk-weaker}
+use Rattle.isl_union.specs.KeptValue.{KeptValue, Has}
+use Rattle.isl_operators.proofs.FaultLaws.{within_later}
+use Rattle.isl_operators.proofs.words.put_together.Goals as goal
+
+pub coalesce-requires-clause-within : goal.coalesce-requires-clause-within
+coalesce-requires-clause-within c =
+    within_later c.args.meter.now c.flat.new.meter c.in_ok-flat.flat c.in_ok-flat.ensures.meter c.in_ok-flat.ensures.numbers
+
+pub returns-clause-elements : goal.returns-clause-elements
+returns-clause-elements c = λ v e.
+    let flat = c.in_ok-flat.ensures.elements v e in
+    IfOk-weaker c.coalesce.result (λ (value : KeptValue). Has value v e ↔ Has c.in_ok-flat.flat v e)
+    (λ (value : KeptValue). Has value v e ↔ Has c.args.operand.now v e)
+    (λ value same. ((λ has. flat.0 (same.0 has)), (λ has. same.1 (flat.1 has)))) (c.coalesce.ensures.elements v e)
