@@ -220,10 +220,6 @@ depends result a b c m of is = by (fits a Map) refl (fits b Map) refl (fits c Ma
     by true p false q z r = let f : None ≡ Some m = sym (rw (p, q) refl) ∙ is in cc
     by false p y q z r = let f : None ≡ Some m = sym (rw p refl) ∙ is in cc
 
-list_made : (all_empty : Bool) → is_value (made all_empty Pair) ≡ true
-list_made true = refl
-list_made false = refl
-
 -- ---- what has a kind
 abbrev IsValue : Option ValueKind → Type 0
 IsValue o = (k : ValueKind) × (o ≡ Some k) × (is_value k ≡ true)
@@ -420,10 +416,7 @@ mutual
       three_plain _ _ _ scope source sink schedule k
       (three_of Map (kind_in scope source) (kind_in scope sink) (kind_in scope schedule) k (value_made Map refl) is)
       (calm_tail part.any (parts_in source ++ (parts_in sink ++ parts_in schedule)) calm)
-  value_plain scope (Last' r source s sink t schedule) k is value calm =
-      three_plain _ _ _ scope source sink schedule k
-      (three_of Pair (kind_in scope source) (kind_in scope sink) (kind_in scope schedule) k list_made is)
-      (calm_tail part.last (parts_in source ++ (parts_in sink ++ parts_in schedule)) calm)
+  value_plain scope (Last' r source s sink t schedule) k is value calm = absurd (false≢true (sym calm.supported))
   value_plain scope (Post' s operand t postfixes) k is value calm =
       let post = post_fine _ scope (kind_in scope operand) postfixes k is value
       (calm_right (parts_in operand) (parts_in_postfixes postfixes) calm) in
@@ -523,8 +516,11 @@ is_lone _ = false
 
 -- a row in which nothing is chosen is no gist
 no_context : (m : Count) (row : Row_of-Link m) → list_any chooses (parts_in_links row) ≡ false → context_of row ≡ None
+no_context m end_of-Link none = refl
 no_context m (more_of-Link b.Gist operand end_of-Link) none = absurd (false≢true (sym none))
-no_context m _ none = refl
+no_context m (more_of-Link _ operand end_of-Link) none = refl
+no_context m (more_of-Link b.Gist operand (more_of-Link next other rest)) none = refl
+no_context m (more_of-Link _ operand (more_of-Link next other rest)) none = refl
 
 made_row : {m n : Count} (first : Row_of-Expr m) (links : Row_of-Link n) → list_any chooses (parts_in_links links) ≡ false
     → parts_in first ++ option_map_or (λ context. parts_of context) (context_of links) (parts_in_links links)
@@ -590,10 +586,7 @@ shown_plain scope (Any' r source s sink t schedule) k is full calm =
     three_plain _ _ _ scope source sink schedule k
     (three_of Map (kind_in scope source) (kind_in scope sink) (kind_in scope schedule) k (value_made Map refl) is)
     (calm_tail part.any (parts_in source ++ (parts_in sink ++ parts_in schedule)) calm)
-shown_plain scope (Last' r source s sink t schedule) k is full calm =
-    three_plain _ _ _ scope source sink schedule k
-    (three_of Pair (kind_in scope source) (kind_in scope sink) (kind_in scope schedule) k list_made is)
-    (calm_tail part.last (parts_in source ++ (parts_in sink ++ parts_in schedule)) calm)
+shown_plain scope (Last' r source s sink t schedule) k is full calm = absurd (false≢true (sym calm.supported))
 shown_plain scope (Post' s operand t postfixes) k is full calm =
     value_plain scope (Post' s operand t postfixes) k is
     (full_post _ scope (kind_in scope operand) postfixes k is full (calm_right (parts_in operand) (parts_in_postfixes postfixes) calm)) calm

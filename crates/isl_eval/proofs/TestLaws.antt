@@ -126,7 +126,8 @@ context_is : (m : Count) (row : Row_of-Link m) → context_of row ≡ context_in
 context_is m end_of-Link = refl
 context_is m (more_of-Link b.Gist operand end_of-Link) = refl
 context_is m (more_of-Link _ operand end_of-Link) = refl
-context_is m (more_of-Link operator operand (more_of-Link next other rest)) = refl
+context_is m (more_of-Link b.Gist operand (more_of-Link next other rest)) = refl
+context_is m (more_of-Link _ operand (more_of-Link next other rest)) = refl
 
 abbrev made_behind : List Link → List Part
 made_behind links = option_map_or (λ context. parts_of context) (context_in links) (parts_of_links links)
