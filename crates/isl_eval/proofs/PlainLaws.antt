@@ -413,9 +413,14 @@ mutual
       (word_value word (kind_in scope operand) k (calm_head (part.prefix word) (parts_in operand) calm) is value)
       (in_plain _ scope operand taken.0 taken.1 taken.2 (calm_tail (part.prefix word) (parts_in operand) calm))
   value_plain scope (Any' r source s sink t schedule) k is value calm =
-      three_plain _ _ _ scope source sink schedule k
-      (three_of Map (kind_in scope source) (kind_in scope sink) (kind_in scope schedule) k (value_made Map refl) is)
-      (calm_tail part.any (parts_in source ++ (parts_in sink ++ parts_in schedule)) calm)
+      let each = three_of Map (kind_in scope source) (kind_in scope sink) (kind_in scope schedule) k (value_made Map refl) is in
+      let all = calm_tail part.any (parts_in source ++ (parts_in sink ++ parts_in schedule)) calm in
+      let later = calm_right (parts_in source) (parts_in sink ++ parts_in schedule) all in
+      none_both (parts_in source) (parts_in sink ++ parts_in schedule)
+      (in_plain _ scope source each.0.0 each.0.1 each.0.2 (calm_left (parts_in source) (parts_in sink ++ parts_in schedule) all))
+      (none_both (parts_in sink) (parts_in schedule)
+      (in_plain _ scope sink each.1.0 each.1.1 each.1.2 (calm_left (parts_in sink) (parts_in schedule) later))
+      (in_plain _ scope schedule each.2.0 each.2.1 each.2.2 (calm_right (parts_in sink) (parts_in schedule) later)))
   value_plain scope (Last' r source s sink t schedule) k is value calm = absurd (false≢true (sym calm.supported))
   value_plain scope (Post' s operand t postfixes) k is value calm =
       let post = post_fine _ scope (kind_in scope operand) postfixes k is value
@@ -428,18 +433,6 @@ mutual
       → list_any is_foreign (parts_in row) ≡ false
   in_plain m scope end_of-Expr k is value calm = refl
   in_plain m scope (more_of-Expr expr rest) k is value calm = value_plain scope expr k is value calm
-
-  three_plain : (l m n : Count) (scope : ScopeView) (source : Row_of-Expr l) (sink : Row_of-Expr m) (schedule : Row_of-Expr n)
-      (k : ValueKind) → Three (kind_in scope source) (kind_in scope sink) (kind_in scope schedule) k
-      → IsCalm (parts_in source ++ (parts_in sink ++ parts_in schedule))
-      → list_any is_foreign (parts_in source ++ (parts_in sink ++ parts_in schedule)) ≡ false
-  three_plain l m n scope source sink schedule k each calm =
-      let later = calm_right (parts_in source) (parts_in sink ++ parts_in schedule) calm in
-      none_both (parts_in source) (parts_in sink ++ parts_in schedule)
-      (in_plain _ scope source each.0.0 each.0.1 each.0.2 (calm_left (parts_in source) (parts_in sink ++ parts_in schedule) calm))
-      (none_both (parts_in sink) (parts_in schedule)
-      (in_plain _ scope sink each.1.0 each.1.1 each.1.2 (calm_left (parts_in sink) (parts_in schedule) later))
-      (in_plain _ scope schedule each.2.0 each.2.1 each.2.2 (calm_right (parts_in sink) (parts_in schedule) later)))
 
   -- around a test at the end of a row, and everywhere in another row
   row_fine : (m : Count) (scope : ScopeView) (left : Option ValueKind) (row : Row_of-Link m) (k : ValueKind)
@@ -583,9 +576,8 @@ shown_plain scope (Prefix' p.Sample s operand) k is full calm = absurd (false≢
 shown_plain scope (Prefix' p.Codegen s operand) k is full calm = absurd (false≢true (sym calm.supported))
 shown_plain scope (Prefix' word s operand) k is full calm = operand_plain _ scope word operand k is calm
 shown_plain scope (Any' r source s sink t schedule) k is full calm =
-    three_plain _ _ _ scope source sink schedule k
-    (three_of Map (kind_in scope source) (kind_in scope sink) (kind_in scope schedule) k (value_made Map refl) is)
-    (calm_tail part.any (parts_in source ++ (parts_in sink ++ parts_in schedule)) calm)
+    value_plain scope (Any' r source s sink t schedule) k is
+    (three_of Map (kind_in scope source) (kind_in scope sink) (kind_in scope schedule) k (value_made Map refl) is).3 calm
 shown_plain scope (Last' r source s sink t schedule) k is full calm = absurd (false≢true (sym calm.supported))
 shown_plain scope (Post' s operand t postfixes) k is full calm =
     value_plain scope (Post' s operand t postfixes) k is
