@@ -759,7 +759,7 @@ shows_value before _ answer none value = value
 shown_made : (expr : Expr) → is_asked expr ≡ false → shown_parts expr ≡ made_parts expr
 shown_made (Prefix' p.Scan s operand) none = absurd (false≢true (sym none))
 shown_made (Row' s first t links) none =
-    ap (λ (b : Bool). parts_in first ++ (if b then parts_around_test links else parts_in_links links)) none
+    ap (λ (x : Bool). if x then parts_in first ++ parts_around_test links else made_parts (Row' s first t links)) none
 shown_made _ none = refl
 
 pub show_makeable : (scope : ScopeView) (expr : Expr) → is_asked expr ≡ false → IsEvaluable scope (Show expr) → IsMakeable scope expr

@@ -1,6 +1,6 @@
 //! What is answered to an expression that is shown, and what is kept of one.
 
-ghost use Rattle.std.specs.Prelude.{◌≡◌, ◌↔◌, true, Bool, List, Some, IfOk, IsTrue, MatchResult, unsigned_abs};
+ghost use Rattle.std.specs.Prelude.{◌≡◌, ◌↔◌, true, false, Bool, List, Some, IfOk, IsTrue, MatchResult, unsigned_abs};
 ghost use Rattle.std.specs.List.{list_any};
 ghost use Rattle.std.specs.Option.{option_copied};
 ghost use Rattle.isl_meter.specs.Gauge.{IsCharged, limit_of};
