@@ -21,7 +21,7 @@ use Rattle.isl_kinds.specs.declared.types.Purpose.TheVariants as purpose
 use Rattle.isl_kinds.specs.Parts.{parts_of, parts_of_statement}
 use Rattle.isl_kinds.specs.Typed.{TypeView, ScopeView, is_dollar, has_unknown, kind_of}
 use Rattle.isl_kinds.specs.Typed.{declared_of, kind_for, with_params, type_for, type_of_statement}
-use Rattle.isl_kinds.proofs.PartLaws.{parts_of-Row}
+use Rattle.isl_eval.proofs.TestLaws.{made_of-Row, whole_row}
 use Rattle.isl_flat.specs.Flat.{flat, link_of}
 use Rattle.isl_flat.specs.Simple.{bindings_of, last_of, BindFrom, IsSimple, IsSimpleExpr, HasType, AreTyped, statement_declared}
 use Rattle.isl_eval.specs.Unsupported.{is_unsupported_part}
@@ -69,15 +69,14 @@ sample_shown : (name : Name) → list_any is_foreign (shown_parts (e.Prefix Samp
 unfolding hidden-the_row-Expr-0 denote.Hole.Carrier.hidden
 sample_shown name = refl
 
-gist_unsupported : (left right : Name)
-    → list_any is_unsupported_part (parts_of (e.Row (e.Name left) (link_of Gist (e.Name right) ∷ []))) ≡ true
-gist_unsupported left right = ap (list_any is_unsupported_part) (parts_of-Row (e.Name left) (link_of Gist (e.Name right) ∷ []))
+-- `%` of two names works them out, and no more
+gist_made : (left right : Name) → list_any is_foreign (made_parts (e.Row (e.Name left) (link_of Gist (e.Name right) ∷ []))) ≡ false
+gist_made left right =
+    ap (list_any is_foreign) (made_of-Row (e.Name left) (link_of Gist (e.Name right) ∷ []))
 
-no_gist : {A : Type 0} (expr : Expr) (left right : Name) → expr ≡ e.Row (e.Name left) (link_of Gist (e.Name right) ∷ [])
-    → list_any is_unsupported_part (parts_of expr) ≡ false → A
-no_gist expr left right is supported =
-    absurd
-    (false≢true (sym supported ∙ ap (λ (x : Expr). list_any is_unsupported_part (parts_of x)) is ∙ gist_unsupported left right))
+gist_shown : (left right : Name) → list_any is_foreign (shown_parts (e.Row (e.Name left) (link_of Gist (e.Name right) ∷ []))) ≡ false
+gist_shown left right =
+    ap (list_any is_foreign) (whole_row (e.Name left) (link_of Gist (e.Name right) ∷ []) refl) ∙ gist_made left right
 
 bound_simple : (scope : ScopeView) (expr : Expr) (kind : ValueKind) → kind_of scope expr ≡ Some kind → is_value kind ≡ true
     → list_any is_unsupported_part (parts_of expr) ≡ false → IsSimpleExpr expr → list_any is_foreign (made_parts expr) ≡ false
@@ -85,7 +84,8 @@ bound_simple scope expr kind is value supported (inl quiet) = bound_plain scope 
     (record { supported = supported; unchosen = quiet })
 bound_simple scope expr kind is value supported (inr (inl h)) =
     ap (λ (x : Expr). list_any is_foreign (made_parts x)) h.1 ∙ sample_made h.0
-bound_simple scope expr kind is value supported (inr (inr h)) = no_gist expr h.0 h.1 h.2 supported
+bound_simple scope expr kind is value supported (inr (inr h)) =
+    ap (λ (x : Expr). list_any is_foreign (made_parts x)) h.2 ∙ gist_made h.0 h.1
 
 shown_simple : (scope : ScopeView) (expr : Expr) (kind : ValueKind) → kind_of scope expr ≡ Some kind → is_lone expr ≡ false
     → list_any is_unsupported_part (parts_of expr) ≡ false → IsSimpleExpr expr → list_any is_foreign (shown_parts expr) ≡ false
@@ -93,7 +93,8 @@ shown_simple scope expr kind is full supported (inl quiet) = shown_plain scope e
     (record { supported = supported; unchosen = quiet })
 shown_simple scope expr kind is full supported (inr (inl h)) =
     ap (λ (x : Expr). list_any is_foreign (shown_parts x)) h.1 ∙ sample_shown h.0
-shown_simple scope expr kind is full supported (inr (inr h)) = no_gist expr h.0 h.1 h.2 supported
+shown_simple scope expr kind is full supported (inr (inr h)) =
+    ap (λ (x : Expr). list_any is_foreign (shown_parts x)) h.2 ∙ gist_shown h.0 h.1
 
 -- ---- one simple statement
 abbrev pub FullStmt : Stmt → Type 0
@@ -171,7 +172,7 @@ no_dollar bytes stmt spelled = bytes_spell_no_dollar bytes stmt spelled.tokens s
 
 -- the simple statements of a statement that was read and may be worked out
 pub evaluable : (before : Moment) (bytes : List ℕ) (stmt : Stmt) (statements : List Stmt) → IsRead before bytes stmt
-    → IsWorkable (scope_of before.state) before.at stmt → statements ≡ flat stmt → length statements ≤ 2 ^ 64
+    → IsWorkable (scope_of before.state) before.options.at stmt → statements ≡ flat stmt → length statements ≤ 2 ^ 64
     → AreEvaluable (scope_of before.state) statements
 evaluable before bytes stmt statements read able is short =
     let most = length (statement_declared (scope_of before.state) stmt) in

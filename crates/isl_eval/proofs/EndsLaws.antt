@@ -13,10 +13,13 @@ use Rattle.isl_expr.specs.declared.tree.Prefix.{Prefix as Word}
 use Rattle.isl_expr.specs.declared.tree.Link.{Link}
 use Rattle.isl_expr.specs.declared.tree.Expr.{Expr, Prefix}
 use Rattle.isl_kinds.specs.Typed.{declared_of, declared_of_row, joined_names}
+use Rattle.isl_operators.specs.Operations.{WordMisses}
 use Rattle.isl_operators.specs.Formed.{OperatorForms, PairsWide, WordForms, FormsWide}
 use Rattle.isl_values.specs.State.{StateView, scope_of}
 use Rattle.isl_values.specs.Selection.{Selects}
-use Rattle.isl_values.specs.Ends.{End, too_wide, NoEnd, GoesOn, FirstEnds, OperationEnds, Ends, EndsRow}
+use Rattle.isl_values.specs.declared.list.ListPart.TheVariants.{First}
+use Rattle.isl_values.specs.Ends.{End, because, cut, too_wide, NoEnd, GoesOn, FirstEnds, Ends, EndsRow}
+use Rattle.isl_values.specs.Ends.{PairEnds, WordEnds}
 use Rattle.isl_values.proofs.FirstLaws.{EndAlike, alike_itself, first_alike, goes_alike, goes_both, turned_alike}
 use Rattle.isl_values.proofs.EndsLaws.{Behind}
 use Rattle.isl_values.proofs.EndsLaws.{ends_of-Prefix, row_alike, row_split}
@@ -29,22 +32,37 @@ module _ (state : StateView) (word : Word) (operand : Expr) where
   pub word_ends : (why : End) → Ends state operand why → Ends state (Prefix word operand) why
   word_ends why ends = (ends_of-Prefix state word operand why).1 (inl ends)
 
-  -- a word that forms no space
-  pub word_goes_on : ((s formed : SpaceForm) → ¬ WordForms word s formed) → GoesOn (Ends state operand)
-      → GoesOn (Ends state (Prefix word operand))
-  word_goes_on none goes =
-      let Wide = FormsWide (WordForms word) (λ v x. Selects state operand v x) in
-      let Both = FirstEnds (Ends state operand) (OperationEnds [] Wide) in
-      goes_alike Both (Ends state (Prefix word operand)) (turned_alike (Ends state (Prefix word operand)) Both
-      (ends_of-Prefix state word operand))
-      (goes_both (Ends state operand) (OperationEnds [] Wide) goes
-      (operation_goes [] Wide (omega arith) (λ wide. none wide.0 wide.1 wide.3)))
+  abbrev Operand : Valuation → Element → Type 0
+  Operand v x = Selects state operand v x
+
+  abbrev Whole : End → Type 0
+  Whole = FirstEnds (Ends state operand) (WordEnds word Operand)
+
+  abbrev Wide : Type 0
+  Wide = FormsWide (WordForms word) Operand
+
+  -- a word that forms no space, and looks for nothing
+  module _ (none : (s formed : SpaceForm) → ¬ WordForms word s formed) where
+    pub word_goes_on : ¬ WordMisses word Operand → GoesOn (Ends state operand) → GoesOn (Ends state (Prefix word operand))
+    word_goes_on there goes =
+        goes_alike Whole (Ends state (Prefix word operand)) (turned_alike (Ends state (Prefix word operand)) Whole
+        (ends_of-Prefix state word operand))
+        (goes_both (Ends state operand) (WordEnds word Operand) goes
+        (operation_goes [] Wide (WordMisses word Operand) (omega arith) (λ wide. none wide.0 wide.1 wide.3) there))
+
+    -- its own work may be cut
+    pub word_cut : GoesOn (Ends state operand) → Ends state (Prefix word operand) cut
+    word_cut goes = (ends_of-Prefix state word operand cut).1 (inr (goes, (omega arith, λ wide. none wide.0 wide.1 wide.3)))
 
 -- ---- rows with a test at their end
 test_forms : (operator : Binary) (s t formed : SpaceForm) → is_test operator ≡ true → ¬ OperatorForms operator s t formed
 test_forms b.Cross s t formed test h = false≢true test
 test_forms b.Join s t formed test h = false≢true test
 test_forms b.Universal s t formed test h = false≢true test
+test_forms b.LexLess s t formed test h = false≢true test
+test_forms b.LexLessEqual s t formed test h = false≢true test
+test_forms b.LexGreater s t formed test h = false≢true test
+test_forms b.LexGreaterEqual s t formed test h = false≢true test
 test_forms _ s t formed test h = h
 
 module _ (state : StateView) (first : Expr) (before : List Link) (last : Link) where
@@ -99,18 +117,30 @@ module _ (state : StateView) (first : Expr) (before : List Link) (last : Link) w
 
       module _ (right : GoesOn (Ends state last.operand)) where
         pub names_end : most_parameters < length (joined_names There (declared_of (scope_of state) last.operand))
-            → EndsTest state first before last too_wide
-        names_end many = last_ends too_wide (inr (right, inl (inl many)))
+            → EndsTest state first before last (because too_wide)
+        names_end many = last_ends (because too_wide) (inr (right, inl (inl many)))
+
+        abbrev TestWide : Type 0
+        TestWide = PairsWide (OperatorForms last.operator) (Behind state Past before) (λ v y. Selects state last.operand v y)
+
+        narrow : is_test last.operator ≡ true → ¬ TestWide
+        narrow test wide = test_forms last.operator wide.0 wide.1 wide.2 test wide.5
+
+        -- the test itself may be cut
+        pub test_cut : is_test last.operator ≡ true
+            → length (joined_names There (declared_of (scope_of state) last.operand)) ≤ most_parameters
+            → EndsTest state first before last cut
+        test_cut test few = last_ends cut (inr (right, inl (few, narrow test)))
 
         pub test_goes_on : is_test last.operator ≡ true
             → length (joined_names There (declared_of (scope_of state) last.operand)) ≤ most_parameters
             → GoesOn (EndsTest state first before last)
         test_goes_on test few =
             let next = joined_names There (declared_of (scope_of state) last.operand) in
-            let Wide = PairsWide (OperatorForms last.operator) (Behind state Past before) (λ v y. Selects state last.operand v y) in
-            let Operation = OperationEnds next Wide in
-            let narrow : ¬ Wide = λ wide. test_forms last.operator wide.0 wide.1 wide.2 test wide.5 in
-            let own = goes_both Operation NoEnd (operation_goes next Wide few narrow) (λ why h. h) in
+            let Operation =
+            PairEnds (OperatorForms last.operator) There (declared_of (scope_of state) last.operand) (Behind state Past before)
+            (λ v y. Selects state last.operand v y) in
+            let own = goes_both Operation NoEnd (operation_goes next TestWide ⊥ few (narrow test) (λ h. h)) (λ reason h. h) in
             let at_last = goes_both (Ends state last.operand) (FirstEnds Operation NoEnd) right own in
             goes_alike Parts (EndsTest state first before last) in_parts
             (goes_both (Ends state first) (FirstEnds (EndsRow state Names Past before) LastEnds) goes

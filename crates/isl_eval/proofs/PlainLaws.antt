@@ -4,7 +4,7 @@ use Rattle.std.proofs.Common.{◌≡◌, ◌∙◌, ◌⊎◌, inl, inr, refl, s
 use Rattle.std.proofs.Common.{Bool, true, false, List, [], ◌∷◌, ◌++◌, Option, Some, None}
 use Rattle.std.specs.Prelude.{◌&&◌, ◌||◌, if◌then◌else◌}
 use Rattle.std.specs.List.{list_all, list_any}
-use Rattle.std.specs.Option.{option_and_then}
+use Rattle.std.specs.Option.{option_and_then, option_map_or}
 use Rattle.std.proofs.lemmas.Bool.{false≢true, and_parts, or_parts}
 use Rattle.std.proofs.lemmas.List.Folds.{list_any-append}
 use Rattle.isl_expr.specs.declared.tree.Binary.{Binary}
@@ -18,13 +18,14 @@ use Rattle.isl_expr.specs.declared.tree.Expr as e
 use Rattle.isl_expr.specs.declared.tree.Expr.{Expr, Row', Prefix', Any', Last', Post', Row_of-Expr, end_of-Expr, more_of-Expr}
 use Rattle.isl_expr.specs.declared.tree.Expr.{Row_of-Link, end_of-Link, more_of-Link, Row_of-Postfix, end_of-Postfix, more_of-Postfix}
 use Rattle.isl_kinds.specs.Lines.{Line, is_kind, is_set_or_map, fits, made, by_lines, by_short_lines}
-use Rattle.isl_kinds.specs.Lines.{joined, applied, prefixed, inverse}
+use Rattle.isl_kinds.specs.Lines.{joined, applied, prefixed, inverse, item, dependence}
 use Rattle.isl_kinds.specs.Parts.{Part, parts_of, parts_in, parts_in_links, parts_in_postfixes, parts_of_postfix}
 use Rattle.isl_kinds.specs.Parts as part
-use Rattle.isl_kinds.specs.Typed.{ScopeView, by_two, kind_of, kind_in, kind_past_links, kind_past_postfixes, kind_past}
+use Rattle.isl_kinds.specs.Typed.{ScopeView, by_two, by_three, kind_of, kind_in, kind_past_links, kind_past_postfixes, kind_past}
 use Rattle.isl_flat.specs.Simple.{chooses}
 use Rattle.isl_eval.specs.Unsupported.{is_unsupported_part}
 use Rattle.isl_values.specs.Made.{is_foreign}
+use Rattle.isl_values.specs.Selection.{context_of}
 use Rattle.isl_values.proofs.PartLaws.{quiet_both}
 use Rattle.isl_eval.specs.Tests.{is_test, ends_with_test}
 use Rattle.isl_eval.specs.Evaluated.{parts_around_test, made_parts, shown_parts}
@@ -117,7 +118,7 @@ truth_joined operator l r m test is =
     line : (all_empty : Bool) → MadeBy operator (made all_empty Truth)
     line all_empty = ((λ _. truth_made all_empty), (λ none. no_other (sym test ∙ none)))
 
-joins : (operator : Binary) (l r m : ValueKind) → is_unsupported_part (part.operator operator) ≡ false → joined operator l r ≡ Some m
+joins : (operator : Binary) (l r m : ValueKind) → chooses (part.operator operator) ≡ false → joined operator l r ≡ Some m
     → Joins operator l r m
 joins b.Union l r m low is = values_joined b.Union ((Set, Set, Set) ∷ (Map, Map, Map) ∷ []) l r m refl refl refl is
 joins b.Difference l r m low is =
@@ -134,7 +135,11 @@ joins b.ProperSubset l r m low is = truth_joined b.ProperSubset l r m refl is
 joins b.Subset l r m low is = truth_joined b.Subset l r m refl is
 joins b.ProperSuperset l r m low is = truth_joined b.ProperSuperset l r m refl is
 joins b.Superset l r m low is = truth_joined b.Superset l r m refl is
-joins _ l r m low is = absurd (false≢true (sym low))
+joins b.LexLess l r m low is = values_joined b.LexLess ((Set, Set, Map) ∷ (Map, Map, Map) ∷ []) l r m refl refl refl is
+joins b.LexLessEqual l r m low is = values_joined b.LexLessEqual ((Set, Set, Map) ∷ (Map, Map, Map) ∷ []) l r m refl refl refl is
+joins b.LexGreater l r m low is = values_joined b.LexGreater ((Set, Set, Map) ∷ (Map, Map, Map) ∷ []) l r m refl refl refl is
+joins b.LexGreaterEqual l r m low is = values_joined b.LexGreaterEqual ((Set, Set, Map) ∷ (Map, Map, Map) ∷ []) l r m refl refl refl is
+joins b.Gist l r m low is = absurd (false≢true (sym low))
 
 value_made : (kind : ValueKind) → is_set_or_map kind ≡ true → (all_empty : Bool) → is_value (made all_empty kind) ≡ true
 value_made Set which true = refl
@@ -188,6 +193,33 @@ inverts Map m is = (refl, let e : Some Map ≡ Some m = is in let same : Map ≡
 inverts Empty m is = (refl, let e : Some Empty ≡ Some m = is in let same : Empty ≡ m = cc in ap is_value (sym same))
 inverts _ m is = let e : None ≡ Some m = is in cc
 
+-- an element is taken of a list, and is a map
+takes_item : (k m : ValueKind) → item k ≡ Some m → (is_value k ≡ true) × (is_value m ≡ true)
+takes_item Pair m is = (refl, let e : Some Map ≡ Some m = is in let same : Map ≡ m = cc in ap is_value (sym same))
+takes_item _ m is = let e : None ≡ Some m = is in cc
+
+-- three maps make a map, or a list
+abbrev AreThree : ValueKind → ValueKind → ValueKind → ValueKind → Type 0
+AreThree a b c m = (is_value a ≡ true) × (is_value b ≡ true) × (is_value c ≡ true) × (is_value m ≡ true)
+
+depends : (result a b c m : ValueKind) → ((all_empty : Bool) → is_value (made all_empty result) ≡ true)
+    → dependence result a b c ≡ Some m → AreThree a b c m
+depends result a b c m of is = by (fits a Map) refl (fits b Map) refl (fits c Map) refl
+  where
+    by : (x : Bool) → fits a Map ≡ x → (y : Bool) → fits b Map ≡ y → (z : Bool) → fits c Map ≡ z → AreThree a b c m
+    by true p true q true r =
+        let found : ValueKind = made (is_kind a Empty && is_kind b Empty && is_kind c Empty) result in
+        let e : Some found ≡ Some m = sym (rw (p, q, r) refl) ∙ is in
+        let same : found ≡ m = cc in (
+          fits_value a Map refl p,
+          fits_value b Map refl q,
+          fits_value c Map refl r,
+          subst (λ (k : ValueKind). is_value k ≡ true) same (of (is_kind a Empty && is_kind b Empty && is_kind c Empty)),
+        )
+    by true p true q false r = let f : None ≡ Some m = sym (rw (p, q, r) refl) ∙ is in cc
+    by true p false q z r = let f : None ≡ Some m = sym (rw (p, q) refl) ∙ is in cc
+    by false p y q z r = let f : None ≡ Some m = sym (rw p refl) ∙ is in cc
+
 -- ---- what has a kind
 abbrev IsValue : Option ValueKind → Type 0
 IsValue o = (k : ValueKind) × (o ≡ Some k) × (is_value k ≡ true)
@@ -201,6 +233,18 @@ two_of : (line : ValueKind → ValueKind → Option ValueKind) (left right : Opt
 two_of line None right m is = let e : None ≡ Some m = is in cc
 two_of line (Some l) None m is = let e : None ≡ Some m = is in cc
 two_of line (Some l) (Some r) m is = (l, r, refl, refl, is)
+
+-- three operands with a kind
+abbrev Three : Option ValueKind → Option ValueKind → Option ValueKind → ValueKind → Type 0
+Three a b c m = IsValue a × IsValue b × IsValue c × (is_value m ≡ true)
+
+three_of : (result : ValueKind) (a b c : Option ValueKind) (m : ValueKind) → ((all_empty : Bool) → is_value (made all_empty result) ≡ true)
+    → by_three result a b c ≡ Some m → Three a b c m
+three_of result None b c m of is = let f : None ≡ Some m = is in cc
+three_of result (Some x) None c m of is = let f : None ≡ Some m = is in cc
+three_of result (Some x) (Some y) None m of is = let f : None ≡ Some m = is in cc
+three_of result (Some x) (Some y) (Some z) m of is =
+    let each = depends result x y z m of is in ((x, refl, each.0), (y, refl, each.1), (z, refl, each.2), each.3)
 
 -- nothing of this is unsupported, and nothing chosen
 pub record IsCalm (ps : List Part) : Type 0 where
@@ -250,7 +294,7 @@ row_truth : (m : Count) (scope : ScopeView) (left : Option ValueKind) (row : Row
 row_truth m scope left end_of-Link k is calm test = absurd (false≢true test)
 row_truth m scope left (more_of-Link operator operand end_of-Link) k is calm test =
     let two = two_of (joined operator) left (kind_of scope operand) k is in
-    (joins operator two.0 two.1 k (calm_head (part.operator operator) (parts_of operand ++ []) calm).0 two.4).2.0 test
+    (joins operator two.0 two.1 k (calm_head (part.operator operator) (parts_of operand ++ []) calm).1 two.4).2.0 test
 row_truth m scope left (more_of-Link operator operand (more_of-Link next other rest)) k is calm test =
     row_truth _ scope (by_two (joined operator) left (kind_of scope operand)) (more_of-Link next other rest) k is
     (calm_right (parts_of operand) (parts_in_links (more_of-Link next other rest))
@@ -268,6 +312,10 @@ inverted : (left : Option ValueKind) (m : ValueKind) → option_and_then inverse
 inverted None m is = let f : None ≡ Some m = is in cc
 inverted (Some k) m is = record { from = (k, refl, (inverts k m is).0); to = (inverts k m is).1 }
 
+taken : (left : Option ValueKind) (m : ValueKind) → option_and_then item left ≡ Some m → IsPassed left m
+taken None m is = let f : None ≡ Some m = is in cc
+taken (Some k) m is = record { from = (k, refl, (takes_item k m is).0); to = (takes_item k m is).1 }
+
 word_operand : (word : Word) (operand : Option ValueKind) (k : ValueKind) → option_and_then (prefixed word) operand ≡ Some k
     → IsValue operand
 word_operand word None k is = let f : None ≡ Some k = is in cc
@@ -282,9 +330,6 @@ word_plain : (word : Word) → (is_unsupported_part (part.prefix word) ≡ false
     → (word ≡ p.Scan) ⊎ (is_foreign (part.prefix word) ≡ false)
 word_plain p.Scan own = inl refl
 word_plain p.Sample own = absurd (false≢true (sym own.1))
-word_plain p.LexMin own = absurd (false≢true (sym own.0))
-word_plain p.LexMax own = absurd (false≢true (sym own.0))
-word_plain p.Coalesce own = absurd (false≢true (sym own.0))
 word_plain p.Codegen own = absurd (false≢true (sym own.0))
 word_plain _ own = inr refl
 
@@ -367,7 +412,15 @@ mutual
       none_head (part.prefix word) (parts_in operand)
       (word_value word (kind_in scope operand) k (calm_head (part.prefix word) (parts_in operand) calm) is value)
       (in_plain _ scope operand taken.0 taken.1 taken.2 (calm_tail (part.prefix word) (parts_in operand) calm))
-  value_plain scope (Any' r source s sink t schedule) k is value calm = absurd (false≢true (sym calm.supported))
+  value_plain scope (Any' r source s sink t schedule) k is value calm =
+      let each = three_of Map (kind_in scope source) (kind_in scope sink) (kind_in scope schedule) k (value_made Map refl) is in
+      let all = calm_tail part.any (parts_in source ++ (parts_in sink ++ parts_in schedule)) calm in
+      let later = calm_right (parts_in source) (parts_in sink ++ parts_in schedule) all in
+      none_both (parts_in source) (parts_in sink ++ parts_in schedule)
+      (in_plain _ scope source each.0.0 each.0.1 each.0.2 (calm_left (parts_in source) (parts_in sink ++ parts_in schedule) all))
+      (none_both (parts_in sink) (parts_in schedule)
+      (in_plain _ scope sink each.1.0 each.1.1 each.1.2 (calm_left (parts_in sink) (parts_in schedule) later))
+      (in_plain _ scope schedule each.2.0 each.2.1 each.2.2 (calm_right (parts_in sink) (parts_in schedule) later)))
   value_plain scope (Last' r source s sink t schedule) k is value calm = absurd (false≢true (sym calm.supported))
   value_plain scope (Post' s operand t postfixes) k is value calm =
       let post = post_fine _ scope (kind_in scope operand) postfixes k is value
@@ -389,7 +442,7 @@ mutual
   row_fine m scope left (more_of-Link operator operand end_of-Link) k is calm =
       let two = two_of (joined operator) left (kind_of scope operand) k is in
       let own = calm_head (part.operator operator) (parts_of operand ++ []) calm in
-      let kinds = joins operator two.0 two.1 k own.0 two.4 in
+      let kinds = joins operator two.0 two.1 k own.1 two.4 in
       let inner = calm_left (parts_of operand) [] (calm_tail (part.operator operator) (parts_of operand ++ []) calm) in
       ((two.0, two.2, kinds.0), last_plain operator operand k kinds.2 (value_plain scope operand two.1 two.3 kinds.1 inner))
   row_fine m scope left (more_of-Link operator operand (more_of-Link next other rest)) k is calm =
@@ -399,7 +452,7 @@ mutual
       (calm_right (parts_of operand) (parts_in_links row) later) in
       let two = two_of (joined operator) left (kind_of scope operand) fine.0.0 fine.0.1 in
       let own = calm_head (part.operator operator) (parts_of operand ++ parts_in_links row) calm in
-      let kinds = joins operator two.0 two.1 fine.0.0 own.0 two.4 in
+      let kinds = joins operator two.0 two.1 fine.0.0 own.1 two.4 in
       let plain = value_plain scope operand two.1 two.3 kinds.1 (calm_left (parts_of operand) (parts_in_links row) later) in (
         (two.0, two.2, kinds.0),
         more_plain (part.operator operator) (parts_of operand) (parts_around_test row) (parts_in_links row) (ends_with_test row)
@@ -426,7 +479,7 @@ mutual
         record { from = (two.0, two.2, kinds.0); to = kinds.2 },
         value_plain scope argument two.1 two.3 kinds.1 (calm_tail part.application (parts_of argument) calm),
       )
-  postfix_fine scope left (Item number) k is calm = absurd (false≢true (sym calm.supported))
+  postfix_fine scope left (Item number) k is calm = (taken left k is, refl)
 
 -- what follows an operand makes a value
 post_value : (m : Count) (scope : ScopeView) (left : Option ValueKind) (postfix : Postfix) (rest : Row_of-Postfix m) (k : ValueKind)
@@ -454,15 +507,30 @@ is_lone (Row' s first t links) = is_end links
 is_lone (Post' s operand t postfixes) = is_bare postfixes
 is_lone _ = false
 
-made_quiet : (test : Part → Bool) (expr : Expr) → list_any test (parts_of expr) ≡ false → list_any test (made_parts expr) ≡ false
-made_quiet test (Prefix' p.Sample s operand) none = (or_parts (test (part.prefix p.Sample)) (list_any test (parts_in operand)) none).1
-made_quiet test _ none = none
+-- a row in which nothing is chosen is no gist
+no_context : (m : Count) (row : Row_of-Link m) → list_any chooses (parts_in_links row) ≡ false → context_of row ≡ None
+no_context m end_of-Link none = refl
+no_context m (more_of-Link b.Gist operand end_of-Link) none = absurd (false≢true (sym none))
+no_context m (more_of-Link _ operand end_of-Link) none = refl
+no_context m (more_of-Link b.Gist operand (more_of-Link next other rest)) none = refl
+no_context m (more_of-Link _ operand (more_of-Link next other rest)) none = refl
+
+made_row : {m n : Count} (first : Row_of-Expr m) (links : Row_of-Link n) → list_any chooses (parts_in_links links) ≡ false
+    → parts_in first ++ option_map_or (λ context. parts_of context) (context_of links) (parts_in_links links)
+    ≡ parts_in first ++ parts_in_links links
+made_row first links none =
+    ap (λ (c : Option Expr). parts_in first ++ option_map_or (λ context. parts_of context) c (parts_in_links links)) (no_context _ links none)
+
+made_calm : (expr : Expr) → IsCalm (parts_of expr) → made_parts expr ≡ parts_of expr
+made_calm (Prefix' p.Sample s operand) calm = absurd (false≢true (sym calm.unchosen))
+made_calm (Row' s first t links) calm = made_row first links (calm_right (parts_in first) (parts_in_links links) calm).unchosen
+made_calm _ calm = refl
 
 -- what is bound where nothing is chosen
 pub bound_plain : (scope : ScopeView) (expr : Expr) (k : ValueKind) → kind_of scope expr ≡ Some k → is_value k ≡ true
     → IsCalm (parts_of expr)
     → list_any is_foreign (made_parts expr) ≡ false
-bound_plain scope expr k is value calm = made_quiet is_foreign expr (value_plain scope expr k is value calm)
+bound_plain scope expr k is value calm = ap (list_any is_foreign) (made_calm expr calm) ∙ value_plain scope expr k is value calm
 
 -- what a word stands before
 operand_plain : (m : Count) (scope : ScopeView) (word : Word) (operand : Row_of-Expr m) (k : ValueKind)
@@ -491,16 +559,25 @@ shown_plain scope (e.Literal literal) k is full calm = refl
 shown_plain scope (Row' s first t links) k is full calm =
     let fine = row_fine _ scope (kind_in scope first) links k is (calm_right (parts_in first) (parts_in_links links) calm) in
     let left = full_left _ (kind_in scope first) links full fine.0 in
-    none_both (parts_in first) (around_test links)
-    (in_plain _ scope first left.0 left.1 left.2 (calm_left (parts_in first) (parts_in_links links) calm)) fine.1
+    let front = in_plain _ scope first left.0 left.1 left.2 (calm_left (parts_in first) (parts_in_links links) calm) in
+    let made = made_row first links (calm_right (parts_in first) (parts_in_links links) calm).unchosen in
+    by (ends_with_test links) front made fine.1
+  where
+    by : (ends : Bool) → list_any is_foreign (parts_in first) ≡ false
+        → parts_in first ++ option_map_or (λ context. parts_of context) (context_of links) (parts_in_links links)
+        ≡ parts_in first ++ parts_in_links links
+        → list_any is_foreign (if ends then parts_around_test links else parts_in_links links) ≡ false
+        → list_any is_foreign (if ends then parts_in first ++ parts_around_test links else made_parts (Row' s first t links)) ≡ false
+    by true front made behind = none_both (parts_in first) (parts_around_test links) front behind
+    by false front made behind =
+        ap (list_any is_foreign) made ∙ none_both (parts_in first) (parts_in_links links) front behind
 shown_plain scope (Prefix' p.Scan s operand) k is full calm = operand_plain _ scope p.Scan operand k is calm
 shown_plain scope (Prefix' p.Sample s operand) k is full calm = absurd (false≢true (sym calm.unchosen))
-shown_plain scope (Prefix' p.LexMin s operand) k is full calm = absurd (false≢true (sym calm.supported))
-shown_plain scope (Prefix' p.LexMax s operand) k is full calm = absurd (false≢true (sym calm.supported))
-shown_plain scope (Prefix' p.Coalesce s operand) k is full calm = absurd (false≢true (sym calm.supported))
 shown_plain scope (Prefix' p.Codegen s operand) k is full calm = absurd (false≢true (sym calm.supported))
 shown_plain scope (Prefix' word s operand) k is full calm = operand_plain _ scope word operand k is calm
-shown_plain scope (Any' r source s sink t schedule) k is full calm = absurd (false≢true (sym calm.supported))
+shown_plain scope (Any' r source s sink t schedule) k is full calm =
+    value_plain scope (Any' r source s sink t schedule) k is
+    (three_of Map (kind_in scope source) (kind_in scope sink) (kind_in scope schedule) k (value_made Map refl) is).3 calm
 shown_plain scope (Last' r source s sink t schedule) k is full calm = absurd (false≢true (sym calm.supported))
 shown_plain scope (Post' s operand t postfixes) k is full calm =
     value_plain scope (Post' s operand t postfixes) k is

@@ -106,12 +106,12 @@ module _ (before : Moment) (bytes : List ℕ) (stmt : Stmt) (read : IsRead befor
       ),
     )
 
-  given_none : is_parametric (scope_of before.state) before.at stmt ≡ false → ¬ IsThere before bytes parametric
+  given_none : is_parametric (scope_of before.state) before.options.at stmt ≡ false → ¬ IsThere before bytes parametric
   given_none given there =
-      is_not (is_parametric (scope_of before.state) before.at stmt) given
-      (of_statement bytes stmt (λ stmt. is_parametric (scope_of before.state) before.at stmt ≡ true) read.spelled there)
+      is_not (is_parametric (scope_of before.state) before.options.at stmt) given
+      (of_statement bytes stmt (λ stmt. is_parametric (scope_of before.state) before.options.at stmt ≡ true) read.spelled there)
 
-  pub clear : IsWorkable (scope_of before.state) before.at stmt → IsClear before bytes
+  pub clear : IsWorkable (scope_of before.state) before.options.at stmt → IsClear before bytes
   clear able =
       none_both (IsThere before bytes) causes_of_bytes
       (unknown_name ∷ wrong_kind ∷ no_element ∷ parametric ∷ []) read.none
@@ -154,7 +154,7 @@ module _ (before : Moment) (bytes : List ℕ) (stmt : Stmt) (read : IsRead befor
       bound_cause refusal (first_past (IsThere before bytes) (unknown_name ∷ wrong_kind ∷ no_element ∷ [])
       (parametric ∷ []) refusal (typed_none typed) first)
 
-  pub unworkable_refuses : (refusal : Refusal) → IsWhyUnworkable (scope_of before.state) before.at stmt refusal
+  pub unworkable_refuses : (refusal : Refusal) → IsWhyUnworkable (scope_of before.state) before.options.at stmt refusal
       → Refuses before bytes before.meter refusal
   unworkable_refuses refusal (inl h) =
       first_refuses before bytes before.meter refl refusal

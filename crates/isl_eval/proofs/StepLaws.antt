@@ -1,16 +1,17 @@
 -- One simple statement after another: what is answered, and what is refused.
-use Rattle.std.proofs.Common.{◌≡◌, ◌∙◌, ◌<◌, ◌+◌, inl, inr, refl, sym, ap, ap₂, subst, arith, ◌^◌, ◌-◌, ℕ, zero, suc, length}
+use Rattle.std.proofs.Common.{◌≡◌, ◌≢◌, ◌⊎◌, ◌∙◌, ◌<◌, ◌+◌, inl, inr, refl, sym, ap, ap₂, subst, arith, ◌^◌, ◌-◌, ℕ, zero, suc, length}
 use Rattle.std.proofs.Common.{take, drop, get_or, ℤ, pos, true, false, List, []}
-use Rattle.std.proofs.Common.{◌∷◌, ◌++◌, append_assoc, Option, Some, Result, Ok, Err, option_map}
-use Rattle.std.specs.Prelude.{unsigned_abs, IfOk, IfErr, OnErr, MatchResult}
+use Rattle.std.proofs.Common.{◌∷◌, ◌++◌, append_assoc, Option, None, Some, Result, Ok, Err, option_map}
+use Rattle.std.specs.Prelude.{unsigned_abs, unwrap_or, IfOk, IfErr, IfSome, OnErr, MatchResult}
 use Rattle.std.specs.List.{list_any}
 use Rattle.std.proofs.lemmas.Bool.{or_parts, false_from_ne_true}
 use Rattle.std.proofs.Math.Seq.{take-length, drop-length}
-use Rattle.std.proofs.lemmas.List.{append-nil, take_more, take-append-drop}
+use Rattle.std.proofs.lemmas.List.{take_more, take-append-drop}
 use Rattle.std.proofs.lemmas.List.Folds.{list_any_none, list_any-append}
 use Rattle.isl_meter.specs.Gauge.{Gauge, limit_of, IsCharged, IsCutBy, IsKept}
 use Rattle.isl_meter.specs.declared.Cut.{Cut}
 use Rattle.isl_meter.specs.declared.Cut.TheVariants as cuts
+use Rattle.isl_union.specs.KeptValue.{KeptValue}
 use Rattle.isl_text.specs.declared.refusal.Refusal.{Refusal}
 use Rattle.isl_expr.specs.declared.tree.ValueKind.{ValueKind}
 use Rattle.isl_expr.specs.declared.tree.Stmt.{Stmt}
@@ -21,17 +22,19 @@ use Rattle.isl_flat.specs.Flat.{flat}
 use Rattle.isl_flat.specs.Simple.{BindsIn}
 use Rattle.isl_flat.proofs.SimpleLaws.{parts_kept}
 use Rattle.isl_stmt.specs.Names.{binds_dollar}
-use Rattle.isl_values.specs.State.{Kept, Moment, StateView, Binds, Fits, HasNumbersUpTo, IsSettled, type_of, scope_of, forgotten}
-use Rattle.isl_values.specs.Selection.{Keeps}
-use Rattle.isl_values.specs.Ends.{End, too_wide, unbounded, refusal_of_end}
+use Rattle.isl_values.specs.declared.list.ListPart.{ListPart}
+use Rattle.isl_values.specs.declared.list.ListPart.TheVariants.{First, Second}
+use Rattle.isl_values.specs.State.{Kept, Moment, StateView, Binds, Fits, HasNumbersUpTo, IsSettled, type_of, scope_of, forgotten, value_at}
+use Rattle.isl_values.specs.Selection.{IsKeptOf, Keeps}
+use Rattle.isl_values.specs.Ends.{End, Reason, because, too_wide, no_minimum, unbounded, refusal_of_reason}
+use Rattle.isl_values.specs.Ends as ends
 use Rattle.isl_values.specs.Made.{IsPaid, refusal_of_cut, uses_units}
 use Rattle.isl_values.proofs.StateLaws.{bound_at, fits_bound}
 use Rattle.isl_values.proofs.ForgetLaws.{forgotten_itself, forgotten_settled, fits_forgotten}
 use Rattle.isl_values.proofs.ValueLaws.{same_limit, paid_same, paid_after, unworked_after}
-use Rattle.isl_eval.specs.declared.step.Tally.{Tally}
 use Rattle.isl_eval.specs.Machine.{Answer, Does, Step, Steps, behind, nothing}
 use Rattle.isl_eval.specs.Spelled.{OfStatement}
-use Rattle.isl_eval.specs.Causes.{AreDone, Refuses, Stops}
+use Rattle.isl_eval.specs.Causes.{AreDone, Refuses, RefusesBecause, Stops}
 use Rattle.isl_eval.specs.Ended.{StatementEnds}
 use Rattle.isl_eval.specs.Run.{Answers}
 use Rattle.isl_eval.specs.Evaluated.{IsEvaluable, IsWhyEnded, works}
@@ -78,7 +81,7 @@ kept_type now name expr t kept typed keeps =
     let is = bind_typed (scope_of now.state) name expr t typed in
     ap₂ (λ (k : ValueKind) (p : List (List ℕ)). record { kind = k; params = p })
     (kind_same kept.kind t.kind (kind_of (scope_of now.state) expr) keeps.kind is.kind)
-    (sym keeps.params ∙ is.params)
+    (sym keeps.value.params ∙ is.params)
 
 binds_in : (now next : Moment) (name : List ℕ) (kept : Kept) (t : TypeView) → type_of kept ≡ t → Binds now.state name kept next.state
     → BindsIn (scope_of now.state) name t (scope_of next.state)
@@ -87,9 +90,21 @@ binds_in now next name kept t same binds = record {
   others = λ other apart. bound_at next.state other ∙ ap (option_map type_of) (binds.others other apart) ∙ sym (bound_at now.state other);
 }
 
-numbers_at : (g h : Gauge) (kept : Kept) → IsCharged g h → HasNumbersUpTo (unsigned_abs (limit_of h)) kept.value
-    → HasNumbersUpTo (unsigned_abs (limit_of g)) kept.value
-numbers_at g h kept charged small = subst (λ (z : ℤ). HasNumbersUpTo (unsigned_abs z) kept.value) (same_limit g h charged) small
+-- no number of both values is above the limit
+abbrev HasNumbers : ℤ → Kept → Type 0
+HasNumbers limit kept = (part : ListPart) → HasNumbersUpTo (unsigned_abs limit) (value_at part kept)
+
+kept_numbers : (now : Moment) (expr : Expr) (kept : Kept) → Keeps now expr kept → HasNumbers (limit_of now.meter) kept
+kept_numbers now expr kept keeps First = keeps.value.numbers
+kept_numbers now expr kept keeps Second = by kept.second keeps.second
+  where
+    by : (second : Option KeptValue) → IfSome second (IsKeptOf now Second expr)
+        → HasNumbersUpTo (unsigned_abs (limit_of now.meter)) (unwrap_or second kept.value)
+    by None none = keeps.value.numbers
+    by (Some value) is = is.numbers
+
+numbers_at : (g h : Gauge) (kept : Kept) → IsCharged g h → HasNumbers (limit_of h) kept → HasNumbers (limit_of g) kept
+numbers_at g h kept charged small = subst (λ (z : ℤ). HasNumbers z kept) (same_limit g h charged) small
 
 -- what is bound after a step is within the limit
 step_fits : (limit : ℤ) (before : Moment) (stmt : Stmt) (after : Moment) (answer : Answer) → limit_of before.meter ≡ limit
@@ -100,7 +115,7 @@ step_fits limit before (Show expr) after answer is fits does = subst (Fits limit
 step_fits limit before (Bind name expr) after answer is fits does =
     let kept = does.0.0 in
     fits_bound limit before.state name kept after.state fits does.0.2
-    (subst (λ (z : ℤ). HasNumbersUpTo (unsigned_abs z) kept.value) is does.0.1.numbers)
+    (subst (λ (z : ℤ). HasNumbers z kept) is (kept_numbers before expr kept does.0.1))
 
 pub steps_fit : (limit : ℤ) (before : Moment) (statements : List Stmt) (after : Moment) (answer : Answer) → limit_of before.meter ≡ limit
     → Fits limit before.state → Steps before statements after answer → Fits limit after.state
@@ -122,7 +137,7 @@ left_start before statements ready fits = record {
   fits = fits;
   others = refl;
   paid = paid_same false before.meter before.meter refl;
-  at = refl;
+  options = refl;
 }
 
 pub left_next : (before now next : Moment) (done : List Stmt) (stmt : Stmt) (other : Stmt) (left : List Stmt) (answer : Answer)
@@ -139,12 +154,12 @@ left_next before now next done (Bind name expr) other left answer h step paid do
         steps = done_more before now next done (Bind name expr) h.steps
             (subst (λ (a : Answer). Step now (Bind name expr) next a) step.does.1 step);
         fits = fits_bound (limit_of before.meter) now.state name kept next.state h.fits binds
-            (numbers_at before.meter now.meter kept h.paid.charged keeps.numbers);
+            (numbers_at before.meter now.meter kept h.paid.charged (kept_numbers now expr kept keeps));
         others = dollar name expr refl h.ready.2 ∙ h.others;
         paid = paid_after (list_any works (done ++ Bind name expr ∷ [])) (list_any works done)
             (works (Bind name expr)) before.meter now.meter next.meter
             (λ none. works_at done (Bind name expr) [] none) h.paid paid;
-        at = step.at ∙ h.at;
+        options = step.options ∙ h.options;
       },
       step.does.1,
     )
@@ -213,45 +228,46 @@ forgotten_alone state statements settled one =
     let only = one_of statements one in sym (forgotten_itself state (settled only.0 only.1))
 
 -- the end of the loop
-abbrev Counted : Tally → Answer → Type 0
-Counted tally answer = tally ≡ record { is_true = answer.is_true; elements = answer.elements }
-
-abbrev pub Ends : List ℕ → List ℕ → (Answer → Type 0) → Result Tally Refusal → Type 0
-Ends text all P result = IfOk result (λ tally. (answer : Answer) × (all ≡ text ++ answer.bytes) × Counted tally answer × P answer)
-
-pub answered_last : (before now after : Moment) (statements others : List Stmt) (last : Stmt) (old text all : List ℕ)
-    (result : Result Tally Refusal)
-    → statements ≡ others ++ last ∷ [] → AreLeft before now others (last ∷ []) → text ≡ old → Ends text all (Step now last after) result
+pub answered_last : (before now after : Moment) (statements others : List Stmt) (last : Stmt) (result : Result Answer Refusal)
+    → statements ≡ others ++ last ∷ [] → AreLeft before now others (last ∷ []) → IfOk result (Step now last after)
     → MatchResult result (λ _. IsPaid (works last) now.meter after.meter) (λ _. IsKept now.meter after.meter)
-    → Ends old all (Steps before statements after) result
-answered_last before now after statements others last old text all (Ok tally) split h same ends paid =
-    let all_done = left_answered before now after others last ends.0 h ends.3 paid in (
-      ends.0,
-      ends.1 ∙ ap (λ (t : List ℕ). t ++ ends.0.bytes) same,
-      ends.2,
-      subst (λ (s : List Stmt). Steps before s after ends.0)
-          (sym split) all_done.0,
-    )
-answered_last before now after statements others last old text all (Err refusal) split h same ends paid = tt
+    → IfOk result (Steps before statements after)
+answered_last before now after statements others last (Ok answer) split h step paid =
+    subst (λ (s : List Stmt). Steps before s after answer) (sym split) (left_answered before now after others last answer h step paid).0
+answered_last before now after statements others last (Err refusal) split h step paid = tt
 
-pub stopped_last : (before now : Moment) (statements others : List Stmt) (last : Stmt) (gauge : Gauge) (result : Result Tally Refusal)
+-- what answers with bytes binds nothing
+does_show : (before : Moment) (stmt : Stmt) (after : Moment) (answer : Answer) → Does before stmt after answer → answer.bytes ≢ []
+    → after.state ≡ before.state
+does_show before Empty after answer does some = does.0
+does_show before (Show expr) after answer does some = does.0
+does_show before (Bind name expr) after answer does some = absurd (some (ap (λ (a : Answer). a.bytes) does.1))
+
+pub shown_last : (before now after : Moment) (others : List Stmt) (last : Stmt) (result : Result Answer Refusal)
+    → AreLeft before now others (last ∷ []) → IfOk result (Step now last after)
+    → IfOk result (λ answer. answer.bytes ≢ [] → forgotten after.state ≡ forgotten before.state)
+shown_last before now after others last (Ok answer) h step =
+    λ some. ap forgotten (does_show now last after answer step.does some) ∙ h.others
+shown_last before now after others last (Err refusal) h step = tt
+
+pub stopped_last : (before now : Moment) (statements others : List Stmt) (last : Stmt) (gauge : Gauge) (result : Result Answer Refusal)
     → statements ≡ others ++ last ∷ [] → AreLeft before now others (last ∷ []) → IfErr result (IsWhyEnded now last gauge)
     → IfErr result (IsWhyStopped before statements gauge)
-stopped_last before now statements others last gauge (Ok tally) split h why = tt
+stopped_last before now statements others last gauge (Ok answer) split h why = tt
 stopped_last before now statements others last gauge (Err refusal) split h why =
     subst (λ (s : List Stmt). IsWhyStopped before s gauge refusal) (sym split) (left_stopped before now others last [] gauge refusal h why)
 
 -- ---- a statement that was read
 module _ (before : Moment) (bytes : List ℕ) (stmt : Stmt) (read : IsRead before bytes stmt)
-    (able : IsWorkable (scope_of before.state) before.at stmt) where
+    (able : IsWorkable (scope_of before.state) before.options.at stmt) where
   idle : works stmt ≡ false → list_any works (flat stmt) ≡ false
   idle none = list_any_none works (flat stmt) (parts_kept uses_units (λ n. refl) stmt none)
 
   -- it is answered
   pub answered : (now : Moment) (after : Moment) (answer : Answer) → Steps before (flat stmt) now answer
-      → IsPaid (list_any works (flat stmt)) before.meter now.meter → now.at ≡ before.at → after ≡ behind now
+      → IsPaid (list_any works (flat stmt)) before.meter now.meter → now.options ≡ before.options → after ≡ behind now
       → Answers before bytes after answer
-  answered now after answer steps paid at is =
+  answered now after answer steps paid same is =
       let meter : after.meter ≡ now.meter = ap (λ (m : Moment). m.meter) is in
       record {
         clear = clear before bytes stmt read able;
@@ -259,26 +275,9 @@ module _ (before : Moment) (bytes : List ℕ) (stmt : Stmt) (read : IsRead befor
         spelled = read.spelled;
         performed = (now, steps, is);
         meter = subst (IsCharged before.meter) (sym meter) paid.charged;
-        at = ap (λ (m : Moment). m.at) is ∙ at;
+        options = ap (λ (m : Moment). m.options) is ∙ same;
         units = λ none. ap (λ (g : Gauge). g.units) (meter ∙ paid.free (idle (false_from_ne_true (works stmt) none)));
       }
-
-  cut_refuses : (now : Gauge) (what : Cut) → IsCutBy before.meter now what
-      → (list_any works (flat stmt) ≡ false → (what ≡ cuts.NoMemory) × (now ≡ before.meter))
-      → Refuses before bytes now (refusal_of_cut what)
-  cut_refuses now cuts.Overflow by free = (
-    clear before bytes stmt read able,
-    has_work bytes stmt read.spelled (λ none. let bad : cuts.Overflow ≡ cuts.NoMemory = (free (idle none)).0 in absurd
-        (let no : ⊥ = cc in no)),
-    by,
-  )
-  cut_refuses now cuts.Budget by free = (
-    clear before bytes stmt read able,
-    has_work bytes stmt read.spelled (λ none. let bad : cuts.Budget ≡ cuts.NoMemory = (free (idle none)).0 in absurd
-        (let no : ⊥ = cc in no)),
-    by,
-  )
-  cut_refuses now cuts.NoMemory by free = (by.cause, λ none. (free (idle (no_work bytes stmt read.spelled none))).1)
 
   -- some of its simple statements were done, and the next has P
   stops_in : (P : Moment → Stmt → Type 0) → StopsAt before (flat stmt) P → OfStatement bytes (λ found. Stops before found P)
@@ -288,21 +287,51 @@ module _ (before : Moment) (bytes : List ℕ) (stmt : Stmt) (read : IsRead befor
     record { done = h.0; next = h.1; later = h.2; split = h.3; now = h.4.0; steps = h.4.1; stops = h.4.2 },
   )
 
-  -- it is not
-  end_refuses : (now : Gauge) (why : End) → StopsAt before (flat stmt) (λ moment next. StatementEnds moment next why)
-      → IsPaid (list_any works (flat stmt)) before.meter now → Refuses before bytes now (refusal_of_end why)
-  end_refuses now too_wide stops paid = inr (
+  -- the evaluation of one of its simple statements ends so
+  abbrev EndsAt : End → Type 0
+  EndsAt why = StopsAt before (flat stmt) (λ moment next. StatementEnds moment next why)
+
+  -- its work is cut, where nothing ends its evaluation before
+  cut_refuses : (now : Gauge) (what : Cut) → IsCutBy before.meter now what → (what ≡ cuts.NoMemory) ⊎ EndsAt ends.cut
+      → (list_any works (flat stmt) ≡ false → (what ≡ cuts.NoMemory) × (now ≡ before.meter))
+      → Refuses before bytes now (refusal_of_cut what)
+  cut_refuses now cuts.Overflow by (inl memory) free = absurd (let no : ⊥ = cc in no)
+  cut_refuses now cuts.Overflow by (inr there) free = (
     clear before bytes stmt read able,
-    stops_in (λ moment next. StatementEnds moment next too_wide) stops,
+    has_work bytes stmt read.spelled (λ none. let bad : cuts.Overflow ≡ cuts.NoMemory = (free (idle none)).0 in absurd
+        (let no : ⊥ = cc in no)),
+    stops_in (λ moment next. StatementEnds moment next ends.cut) there,
+    by,
+  )
+  cut_refuses now cuts.Budget by (inl memory) free = absurd (let no : ⊥ = cc in no)
+  cut_refuses now cuts.Budget by (inr there) free = (
+    clear before bytes stmt read able,
+    has_work bytes stmt read.spelled (λ none. let bad : cuts.Budget ≡ cuts.NoMemory = (free (idle none)).0 in absurd
+        (let no : ⊥ = cc in no)),
+    stops_in (λ moment next. StatementEnds moment next ends.cut) there,
+    by,
+  )
+  cut_refuses now cuts.NoMemory by there free = (by.cause, λ none. (free (idle (no_work bytes stmt read.spelled none))).1)
+
+  -- it is not
+  reason_refuses : (now : Gauge) (reason : Reason) → EndsAt (because reason) → IsPaid (list_any works (flat stmt)) before.meter now
+      → RefusesBecause before bytes now reason
+  reason_refuses now reason stops paid = (
+    clear before bytes stmt read able,
+    stops_in (λ moment next. StatementEnds moment next (because reason)) stops,
     paid.charged,
     (λ none. paid.free (idle (no_work bytes stmt read.spelled none))),
   )
-  end_refuses now unbounded stops paid =
-      (clear before bytes stmt read able, stops_in (λ moment next. StatementEnds moment next unbounded) stops, paid.charged)
+
+  end_refuses : (now : Gauge) (reason : Reason) → EndsAt (because reason) → IsPaid (list_any works (flat stmt)) before.meter now
+      → Refuses before bytes now (refusal_of_reason reason)
+  end_refuses now too_wide stops paid = inr (reason_refuses now too_wide stops paid)
+  end_refuses now no_minimum stops paid = reason_refuses now no_minimum stops paid
+  end_refuses now unbounded stops paid = reason_refuses now unbounded stops paid
 
   pub stopped_refuses : (now : Gauge) (refusal : Refusal) → IsWhyStopped before (flat stmt) now refusal → Refuses before bytes now refusal
   stopped_refuses now refusal (inl why) =
-      subst (Refuses before bytes now) (sym why.is) (cut_refuses now why.cut why.by why.free)
+      subst (Refuses before bytes now) (sym why.is) (cut_refuses now why.cut why.by why.there why.free)
   stopped_refuses now refusal (inr why) = subst (Refuses before bytes now) (sym why.1) (end_refuses now why.0 why.2 why.3)
 
 pub kept_limit : (g h : Gauge) → IsKept g h → limit_of h ≡ limit_of g
@@ -334,21 +363,18 @@ next_left before now next done stmt (other ∷ rest) last answer h step paid dol
     left_next before now next done stmt other (rest ++ last ∷ []) answer h step paid dollar
 
 -- one turn
-pub loop_next : (before now next : Moment) (others : List Stmt) (last stmt : Stmt) (i : ℕ) (old text all : List ℕ) (answer : Answer)
+pub loop_next : (before now next : Moment) (others : List Stmt) (last stmt : Stmt) (i : ℕ) (answer : Answer)
     → i < length others → stmt ≡ get_or others i stmt → AreLeft before now (take i others) (drop i others ++ last ∷ [])
     → Step now stmt next answer
     → IsPaid (works stmt) now.meter next.meter
     → ((name : List ℕ) (expr : Expr) → stmt ≡ Bind name expr → is_dollar name ≡ true → forgotten next.state ≡ forgotten now.state)
-    → text ≡ old → all ≡ text ++ answer.bytes
-    → AreLeft before next (take (i + 1) others) (drop (i + 1) others ++ last ∷ []) × (all ≡ old)
-loop_next before now next others last stmt i old text all answer low is h step paid dollar same grown =
+    → AreLeft before next (take (i + 1) others) (drop (i + 1) others ++ last ∷ [])
+loop_next before now next others last stmt i answer low is h step paid dollar =
     let first = loop_first before now (take i others) others last stmt i low is h in
     let then = next_left before now next (take i others) stmt (drop (i + 1) others) last answer first step paid dollar in
     let taken : take i others ++ stmt ∷ [] ≡ take (i + 1) others =
-    ap (λ (s : Stmt). take i others ++ s ∷ []) is ∙ sym (take_more others i stmt low) in (
-      subst (λ (done : List Stmt). AreLeft before next done (drop (i + 1) others ++ last ∷ [])) taken then.0,
-      grown ∙ ap (λ (a : Answer). text ++ a.bytes) then.1 ∙ append-nil text ∙ same,
-    )
+    ap (λ (s : Stmt). take i others ++ s ∷ []) is ∙ sym (take_more others i stmt low) in
+    subst (λ (done : List Stmt). AreLeft before next done (drop (i + 1) others ++ last ∷ [])) taken then.0
 
 -- a turn that ends
 pub loop_stopped : (before now : Moment) (statements others : List Stmt) (last stmt : Stmt) (i : ℕ) (gauge : Gauge) (refusal : Refusal)
@@ -376,53 +402,57 @@ loop_last before now others last i end h =
 
 module _ (before : Moment) (bytes : List ℕ) (statements : List Stmt) (taken : IsTaken before bytes statements)
     (settled : IsSettled before.state)
-    (fits : Fits (limit_of before.meter) before.state) (now after : Moment) (at : now.at ≡ before.at) (is : after ≡ behind now)
-    (text all : List ℕ) where
-  pub finished_ok : (result : Result Tally Refusal) → Ends text all (Steps before statements now) result
+    (fits : Fits (limit_of before.meter) before.state) (now after : Moment) (same : now.options ≡ before.options) (is : after ≡ behind now) where
+  pub finished_ok : (result : Result Answer Refusal) → IfOk result (Steps before statements now)
       → MatchResult result (λ _. IsPaid (list_any works statements) before.meter now.meter) (λ _. IsKept before.meter now.meter)
-      → Ends text all (Answers before bytes after) result
-  finished_ok (Ok tally) h paid = (
-    h.0,
-    h.1,
-    h.2,
-    answered before bytes taken.stmt taken.read taken.able now after h.0
-        (subst (λ (s : List Stmt). Steps before s now h.0) taken.simple h.3)
-        (subst (λ (s : List Stmt). IsPaid (list_any works s) before.meter now.meter) taken.simple paid) at is,
-  )
-  finished_ok (Err refusal) h paid = tt
+      → IfOk result (Answers before bytes after)
+  finished_ok (Ok answer) steps paid =
+      answered before bytes taken.stmt taken.read taken.able now after answer
+      (subst (λ (s : List Stmt). Steps before s now answer) taken.simple steps)
+      (subst (λ (s : List Stmt). IsPaid (list_any works s) before.meter now.meter) taken.simple paid) same is
+  finished_ok (Err refusal) steps paid = tt
 
   same_state : after.state ≡ forgotten now.state
   same_state = ap (λ (m : Moment). m.state) is
 
-  pub finished_err : (result : Result Tally Refusal) → OnErr result ((forgotten now.state ≡ forgotten before.state) × (all ≡ text))
-      → OnErr result ((after.state ≡ before.state) × (all ≡ text))
-  finished_err (Ok tally) h = tt
-  finished_err (Err refusal) h = (same_state ∙ h.0 ∙ forgotten_itself before.state settled, h.1)
+  unchanged : forgotten now.state ≡ forgotten before.state → after.state ≡ before.state
+  unchanged others = same_state ∙ others ∙ forgotten_itself before.state settled
 
-  pub finished_fits : (result : Result Tally Refusal) → Ends text all (Steps before statements now) result
-      → OnErr result ((forgotten now.state ≡ forgotten before.state) × (all ≡ text))
+  pub finished_err : (result : Result Answer Refusal) → OnErr result (forgotten now.state ≡ forgotten before.state)
+      → OnErr result (after.state ≡ before.state)
+  finished_err (Ok answer) others = tt
+  finished_err (Err refusal) others = unchanged others
+
+  pub finished_shown : (result : Result Answer Refusal)
+      → IfOk result (λ answer. answer.bytes ≢ [] → forgotten now.state ≡ forgotten before.state)
+      → IfOk result (λ answer. answer.bytes ≢ [] → after.state ≡ before.state)
+  finished_shown (Ok answer) others = λ some. unchanged (others some)
+  finished_shown (Err refusal) others = tt
+
+  pub finished_fits : (result : Result Answer Refusal) → IfOk result (Steps before statements now)
+      → OnErr result (forgotten now.state ≡ forgotten before.state)
       → MatchResult result (λ _. IsPaid (list_any works statements) before.meter now.meter) (λ _. IsKept before.meter now.meter)
       → Fits (limit_of now.meter) after.state
-  finished_fits (Ok tally) h failed paid =
+  finished_fits (Ok answer) steps failed paid =
       subst (λ (z : ℤ). Fits z after.state) (sym (same_limit before.meter now.meter paid.charged))
       (subst (Fits (limit_of before.meter)) (sym same_state)
-      (fits_forgotten (limit_of before.meter) now.state (steps_fit (limit_of before.meter) before statements now h.0 refl fits h.3)))
-  finished_fits (Err refusal) h failed kept =
+      (fits_forgotten (limit_of before.meter) now.state (steps_fit (limit_of before.meter) before statements now answer refl fits steps)))
+  finished_fits (Err refusal) steps failed kept =
       subst (λ (z : ℤ). Fits z after.state) (sym (kept_limit before.meter now.meter kept))
-      (subst (Fits (limit_of before.meter)) (sym (same_state ∙ failed.0 ∙ forgotten_itself before.state settled)) fits)
+      (subst (Fits (limit_of before.meter)) (sym (unchanged failed)) fits)
 
   pub finished_settled : IsSettled after.state
   finished_settled = subst IsSettled (sym same_state) (forgotten_settled now.state)
 
-  pub finished_cause : (result : Result Tally Refusal) → IfErr result (IsWhyStopped before statements now.meter)
+  pub finished_cause : (result : Result Answer Refusal) → IfErr result (IsWhyStopped before statements now.meter)
       → IfErr result (Refuses before bytes now.meter)
-  finished_cause (Ok tally) why = tt
+  finished_cause (Ok answer) why = tt
   finished_cause (Err refusal) why =
       stopped_refuses before bytes taken.stmt taken.read taken.able now.meter refusal
       (subst (λ (s : List Stmt). IsWhyStopped before s now.meter refusal) taken.simple why)
 
-  pub finished_meter : (result : Result Tally Refusal)
+  pub finished_meter : (result : Result Answer Refusal)
       → MatchResult result (λ _. IsPaid (list_any works statements) before.meter now.meter) (λ _. IsKept before.meter now.meter)
       → MatchResult result (λ _. IsCharged before.meter now.meter) (λ _. IsKept before.meter now.meter)
-  finished_meter (Ok tally) paid = paid.charged
+  finished_meter (Ok answer) paid = paid.charged
   finished_meter (Err refusal) kept = kept

@@ -1,21 +1,21 @@
 -- What the bytes of a statement are taken for: its simple statements, or a refusal.
 use Rattle.std.proofs.Common.{◌≡◌, sym, ap, subst, ◌≤◌, ◌^◌, ℕ, List, length}
 use Rattle.isl_meter.specs.Gauge.{Gauge}
-use Rattle.isl_space.specs.Valuation.{Valuation}
 use Rattle.isl_text.specs.declared.refusal.Refusal.{Refusal}
 use Rattle.isl_text.specs.declared.refusal.Refusal.TheVariants as r
 use Rattle.isl_expr.specs.declared.tree.Stmt.{Stmt}
 use Rattle.isl_kinds.specs.Typed.{ScopeView}
 use Rattle.isl_flat.specs.Flat.{flat}
+use Rattle.isl_words.specs.Options.{OptionsView}
 use Rattle.isl_values.specs.State.{Moment, StateView, scope_of}
 use Rattle.isl_eval.specs.Causes.{Refuses}
 use Rattle.isl_eval.specs.Evaluation.{IsRead, IsTaken, IsWhyNot, IsWhyUnworkable, IsWorkable}
 use Rattle.isl_eval.proofs.ChainLaws.{evaluable}
 use Rattle.isl_eval.proofs.RefusalLaws.{memory_refuses, unread_refuses, unworkable_refuses}
-use Rattle.isl_eval.proofs.ShownLaws.{moment_of}
+use Rattle.isl_eval.proofs.MomentLaws.{moment_of}
 
-module _ (before : Moment) (state : StateView) (meter : Gauge) (at : Valuation) (bytes : List ℕ)
-    (here : before ≡ moment_of state meter at) where
+module _ (before : Moment) (state : StateView) (meter : Gauge) (options : OptionsView) (bytes : List ℕ)
+    (here : before ≡ moment_of state meter options) where
   pub same_meter : before.meter ≡ meter
   same_meter = ap (λ (m : Moment). m.meter) here
 
@@ -23,12 +23,12 @@ module _ (before : Moment) (state : StateView) (meter : Gauge) (at : Valuation) 
   scope_here scope is = subst (λ (m : Moment). scope ≡ scope_of m.state) (sym here) is
 
   pub taken : (stmt : Stmt) (statements : List Stmt) (scope : ScopeView) → IsRead before bytes stmt → scope ≡ scope_of state
-      → IsWorkable scope at stmt
+      → IsWorkable scope options.at stmt
       → statements ≡ flat stmt → length statements ≤ 2 ^ 64 → IsTaken before bytes statements
   taken stmt statements scope read is able simple short =
-      let can : IsWorkable (scope_of before.state) before.at stmt =
-      subst (λ (m : Moment). IsWorkable (scope_of m.state) m.at stmt) (sym here)
-      (subst (λ (s : ScopeView). IsWorkable s at stmt) is able) in
+      let can : IsWorkable (scope_of before.state) before.options.at stmt =
+      subst (λ (m : Moment). IsWorkable (scope_of m.state) m.options.at stmt) (sym here)
+      (subst (λ (s : ScopeView). IsWorkable s options.at stmt) is able) in
       record { stmt = stmt; read = read; able = can; simple = simple; ready = evaluable before bytes stmt statements read can simple short }
 
   at_meter : (refusal : Refusal) → Refuses before bytes before.meter refusal → Refuses before bytes meter refusal
@@ -38,12 +38,12 @@ module _ (before : Moment) (state : StateView) (meter : Gauge) (at : Valuation) 
   unread refusal why = at_meter refusal (unread_refuses before bytes refusal why)
 
   pub unworkable : (stmt : Stmt) (scope : ScopeView) (refusal : Refusal) → IsRead before bytes stmt → scope ≡ scope_of state
-      → IsWhyUnworkable scope at stmt refusal
+      → IsWhyUnworkable scope options.at stmt refusal
       → Refuses before bytes meter refusal
   unworkable stmt scope refusal read is why =
       at_meter refusal (unworkable_refuses before bytes stmt read refusal
-      (subst (λ (m : Moment). IsWhyUnworkable (scope_of m.state) m.at stmt refusal) (sym here)
-      (subst (λ (s : ScopeView). IsWhyUnworkable s at stmt refusal) is why)))
+      (subst (λ (m : Moment). IsWhyUnworkable (scope_of m.state) m.options.at stmt refusal) (sym here)
+      (subst (λ (s : ScopeView). IsWhyUnworkable s options.at stmt refusal) is why)))
 
   pub memory : (refusal : Refusal) → refusal ≡ r.NoMemory → Refuses before bytes meter refusal
   memory refusal is = memory_refuses before bytes meter (sym same_meter) refusal is

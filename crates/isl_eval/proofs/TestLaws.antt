@@ -1,7 +1,7 @@
 -- Rows with a test at their end, at the constructors of the code.
 use mathlib.Core.Former.{Count}
 use Rattle.std.proofs.Common.{◌≡◌, ◌∙◌, ◌↔◌, ◌⊎◌, ◌<◌, ◌≤◌, inl, inr, refl, sym, ap, ap₂, subst, arith}
-use Rattle.std.proofs.Common.{Bool, true, false, List, [], ◌∷◌, ◌++◌, length, Result, Ok, Err}
+use Rattle.std.proofs.Common.{Bool, true, false, List, [], ◌∷◌, ◌++◌, length, Option, Some, None, Result, Ok, Err}
 use Rattle.std.specs.Prelude.{unsigned_abs, not, IsTrue, IfOk, MatchResult, if◌then◌else◌, ◌||◌}
 use Rattle.std.specs.List.{list_any}
 use Rattle.std.proofs.lemmas.Bool.{or_parts, false≢true}
@@ -34,16 +34,18 @@ use Rattle.isl_kinds.proofs.PartLaws.{links_are, parts_of-Row, any_in_link}
 use Rattle.isl_values.specs.State.{StateView, Moment, HasNumbersUpTo}
 use Rattle.isl_operators.specs.Operations.{OperatorHas}
 use Rattle.isl_operators.proofs.NamesLaws.{turned_fits}
-use Rattle.isl_values.specs.Selection.{Selects, RowSelects}
-use Rattle.isl_values.specs.Ends.{End, too_wide}
+use Rattle.isl_values.specs.Selection.{Selects, RowSelects, context_of}
+use Rattle.isl_values.specs.Ends.{End, because, too_wide}
+use Rattle.isl_values.specs.Ends as ends
 use Rattle.isl_values.specs.Made.{IsWhyUnmade, IsWhyUnworked, refusal_of_cut}
 use Rattle.isl_values.proofs.PartLaws.{quiet_both}
 use Rattle.isl_values.proofs.RowLaws.{same_row, same_trans}
 use Rattle.isl_values.proofs.ValueLaws.{numbers_later, paid_works, unworked_after}
 use Rattle.isl_eval.specs.Tests.{Elements, is_test, ends_with_test, IsPartOf, TestHolds, HoldsPastLinks}
 use Rattle.isl_eval.specs.Machine.{Answer, Shows, ShowsRow, told}
-use Rattle.isl_eval.specs.Evaluated.{shown_parts, parts_around_test}
-use Rattle.isl_eval.specs.Evaluation.{IsTestOf, past_row}
+use Rattle.std.specs.Option.{option_map_or}
+use Rattle.isl_eval.specs.Evaluated.{made_parts, shown_parts, parts_around_test}
+use Rattle.isl_eval.specs.Evaluation.{IsTestOf, context_in, past_row}
 use Rattle.isl_eval.specs.Evaluation.{ends_with_test as ends}
 
 -- ---- the same of lists
@@ -114,15 +116,35 @@ holds_at state Left (link ∷ next ∷ before) last =
 
 -- ---- rows of the code
 
+pub context_is : (m : Count) (row : Row_of-Link m) → context_of row ≡ context_in (items-the_row-Link m row)
+context_is m end_of-Link = refl
+context_is m (more_of-Link b.Gist operand end_of-Link) = refl
+context_is m (more_of-Link _ operand end_of-Link) = refl
+context_is m (more_of-Link b.Gist operand (more_of-Link next other rest)) = refl
+context_is m (more_of-Link _ operand (more_of-Link next other rest)) = refl
+
+abbrev pub made_behind : List Link → List Part
+made_behind links = option_map_or (λ context. parts_of context) (context_in links) (parts_of_links links)
+
+pub made_of-Row : (first : Expr) (links : List Link) → made_parts (Row first links) ≡ parts_of first ++ made_behind links
+unfolding hidden-the_row-Expr-0 denote.Hole.Carrier.hidden
+made_of-Row first links =
+    let row = hidden-the_row-Link-1 links in
+    let are = items_hidden-the_row-Link-1 links in
+    ap (λ (c : Option Expr). parts_of first ++ option_map_or (λ context. parts_of context) c (parts_in_links row))
+    (context_is _ row ∙ ap context_in are)
+    ∙ ap (λ (ps : List Part). parts_of first ++ option_map_or (λ context. parts_of context) (context_in links) ps)
+    (links_are _ row ∙ ap parts_of_links are)
+
 shown_of-Row : (first : Expr) (links : List Link)
-    → shown_parts (Row first links) ≡ parts_of first ++ (if ends links then around links else parts_of_links links)
+    → shown_parts (Row first links) ≡ (if ends links then parts_of first ++ around links else made_parts (Row first links))
 unfolding hidden-the_row-Expr-0 denote.Hole.Carrier.hidden
 shown_of-Row first links =
     let row = hidden-the_row-Link-1 links in
     let are = items_hidden-the_row-Link-1 links in
-    ap (λ (b : Bool). parts_of first ++ (if b then parts_around_test row else parts_in_links row)) (ends_are _ row ∙ ap ends are)
-    ∙ ap (λ (ps : List Part). parts_of first ++ (if ends links then ps else parts_in_links row)) (around_are _ row ∙ ap around are)
-    ∙ ap (λ (ps : List Part). parts_of first ++ (if ends links then around links else ps)) (links_are _ row ∙ ap parts_of_links are)
+    let made = made_parts (Row first links) in
+    ap (λ (b : Bool). if b then parts_of first ++ parts_around_test row else made) (ends_are _ row ∙ ap ends are)
+    ∙ ap (λ (ps : List Part). if ends links then parts_of first ++ ps else made) (around_are _ row ∙ ap around are)
 
 -- what stands around a test
 pub test_parts : (test : Part → Bool) (first : Expr) (before : List Link) (last : Link) → is_test last.operator ≡ true
@@ -131,19 +153,16 @@ pub test_parts : (test : Part → Bool) (first : Expr) (before : List Link) (las
     × (list_any test (parts_of last.operand) ≡ false)
 test_parts test first before last is none =
     let links = before ++ last ∷ [] in
-    let at_end : (if ends links then around links else parts_of_links links) ≡ around links =
-    ap (λ (b : Bool). if b then around links else parts_of_links links) (ends_at before last ∙ is) in
-    let both = quiet_both test (parts_of first) (around links)
-    (sym (ap (list_any test) (shown_of-Row first links ∙ ap (λ (ps : List Part). parts_of first ++ ps) at_end)) ∙ none) in
+    let at_end : (if ends links then parts_of first ++ around links else made_parts (Row first links)) ≡ parts_of first ++ around links =
+    ap (λ (b : Bool). if b then parts_of first ++ around links else made_parts (Row first links)) (ends_at before last ∙ is) in
+    let both = quiet_both test (parts_of first) (around links) (sym (ap (list_any test) (shown_of-Row first links ∙ at_end)) ∙ none) in
     let rest = around_at test before last both.1 in
     (both.0, rest.0, rest.1)
 
--- a row without a test at its end is shown whole
-pub plain_row : (first : Expr) (links : List Link) → ends links ≡ false → shown_parts (Row first links) ≡ parts_of (Row first links)
-plain_row first links none =
-    shown_of-Row first links
-    ∙ ap (λ (b : Bool). parts_of first ++ (if b then around links else parts_of_links links)) none
-    ∙ sym (parts_of-Row first links)
+-- a row without a test at its end is shown as what is kept of it
+pub whole_row : (first : Expr) (links : List Link) → ends links ≡ false → shown_parts (Row first links) ≡ made_parts (Row first links)
+whole_row first links none =
+    shown_of-Row first links ∙ ap (λ (b : Bool). if b then parts_of first ++ around links else made_parts (Row first links)) none
 
 -- ---- answers
 
@@ -271,10 +290,25 @@ tested_is state operator first operand before one left right l r holds first_has
     ((λ h. e.0 (exact.0 h)), (λ h. exact.1 (e.1 h)))
 
 -- ---- work that is paid, where units may be used
-pub unmade_by : (g h k : Gauge) (cut : Cut) (refusal : Refusal) → IsCharged g h → IsCutBy h k cut → refusal ≡ refusal_of_cut cut
-    → IsWhyUnmade true g k refusal
-unmade_by g h k cut refusal charged by is =
-    record { cut = cut; is = is; by = IsCutBy-after g h k cut charged by; free = λ none. absurd (false≢true (sym none)) }
+pub unmade_by : (Whole : End → Type 0) (g h k : Gauge) (cut : Cut) (refusal : Refusal) → IsCharged g h → IsCutBy h k cut
+    → refusal ≡ refusal_of_cut cut → (cut ≡ NoMemory) ⊎ Whole ends.cut → IsWhyUnmade true Whole g k refusal
+unmade_by Whole g h k cut refusal charged by is there = record {
+  cut = cut;
+  is = is;
+  by = IsCutBy-after g h k cut charged by;
+  there = there;
+  free = λ none. absurd (false≢true (sym none));
+}
+
+-- the work of a test of two values is cut, where they have few enough parameters
+pub test_unmade : (Whole : End → Type 0) (names : List Name) (g h k : Gauge) (cut : Cut) (refusal : Refusal) → IsCharged g h
+    → IsFaultBy names h k (op_fault.Cut cut) → refusal ≡ refusal_of_cut cut → (length names ≤ most_parameters → Whole ends.cut)
+    → IsWhyUnworked true Whole g k refusal
+test_unmade Whole names g h k cut refusal charged by is there = inl (unmade_by Whole g h k cut refusal charged by.1 is (at by.0))
+  where
+    at : (length names ≤ most_parameters) ⊎ (cut ≡ NoMemory) → (cut ≡ NoMemory) ⊎ Whole ends.cut
+    at (inl few) = inr (there few)
+    at (inr memory) = inl memory
 
 pub unworked_on : (works : Bool) (Part Whole : End → Type 0) (g h k : Gauge) (refusal : Refusal)
     → ((why : End) → Part why → Whole why) → IsCharged g h → IsWhyUnworked works Part h k refusal → IsWhyUnworked true Whole g k refusal
@@ -283,7 +317,8 @@ unworked_on works Part Whole g h k refusal ends charged why =
 
 -- a test of what has too many parameters
 pub test_wide : (Whole : End → Type 0) (names : List Name) (g h k : Gauge) (refusal : Refusal) → refusal ≡ TooWide → IsCharged g h
-    → IsFaultBy names h k op_fault.TooWide → (most_parameters < length names → Whole too_wide) → IsWhyUnworked true Whole g k refusal
+    → IsFaultBy names h k op_fault.TooWide → (most_parameters < length names → Whole (because too_wide))
+    → IsWhyUnworked true Whole g k refusal
 test_wide Whole names g h k refusal is charged by ends =
     inr (too_wide, is, ends by.0, paid_works g k (IsCharged_trans g h k charged (IsCharged_refl h k by.1)))
 

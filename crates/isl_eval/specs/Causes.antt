@@ -3,6 +3,7 @@ use Rattle.std.specs.Prelude.{◌≡◌, ◌⊎◌, ℕ, Bool, true, false, not,
 use Rattle.std.specs.List.{list_any}
 use Rattle.std.specs.Str.{bytes_eq}
 use Rattle.isl_meter.specs.Gauge.{Gauge, IsCharged, IsCutBy, limit_of}
+use Rattle.isl_meter.specs.declared.Cut.{Cut}
 use Rattle.isl_meter.specs.declared.Cut.TheVariants as cut
 use Rattle.isl_space.specs.Name.{Name}
 use Rattle.isl_space.specs.Valuation.{Valuation}
@@ -14,7 +15,7 @@ use Rattle.isl_text.specs.Read.{has_wide_number}
 use Rattle.isl_expr.specs.declared.tree.Prefix.TheVariants as p
 use Rattle.isl_expr.specs.declared.tree.Expr.{Prefix'}
 use Rattle.isl_expr.specs.declared.tree.Stmt.{Stmt}
-use Rattle.isl_expr.specs.declared.tree.Stmt.TheVariants.{Show}
+use Rattle.isl_expr.specs.declared.tree.Stmt.TheVariants.{Empty, Bind, Show}
 use Rattle.isl_stmt.specs.Limits.{statement_is_within}
 use Rattle.isl_stmt.specs.Read.{NoStatement}
 use Rattle.isl_kinds.specs.Parts.{parts_of_statement}
@@ -23,7 +24,7 @@ use Rattle.isl_flat.specs.Flat.{flat}
 use Rattle.isl_eval.specs.Unsupported.{is_unsupported}
 use Rattle.isl_values.specs.State.{Moment, scope_of}
 use Rattle.isl_values.specs.Ends as ends
-use Rattle.isl_values.specs.Ends.{End, GoesOn}
+use Rattle.isl_values.specs.Ends.{End, Reason, GoesOn, because}
 use Rattle.isl_values.specs.Made.{uses_units}
 use Rattle.isl_eval.specs.Ended.{StatementEnds}
 use Rattle.isl_eval.specs.Machine.{Step, nothing}
@@ -77,7 +78,9 @@ is_given at name = list_any (λ given. bytes_eq given.0 name) at
 -- elements are to be listed of what declares a parameter that is given no number
 abbrev pub is_parametric : ScopeView → Valuation → Stmt → Bool
 is_parametric scope at (Show (Prefix' p.Scan s operand)) = list_any (λ name. not (is_given at name)) (declared_in scope operand)
-is_parametric scope at stmt = false
+is_parametric scope at (Show expr) = false
+is_parametric scope at (Bind name expr) = false
+is_parametric scope at Empty = false
 
 -- the bytes have the cause at this moment
 abbrev pub IsThere : Moment → List ℕ → Cause → Type 0
@@ -90,7 +93,7 @@ IsThere before bytes unsupported = OfStatement bytes (λ stmt. is_unsupported st
 IsThere before bytes unknown_name = OfStatement bytes (λ stmt. type_of_statement (scope_of before.state) stmt ≡ Err r.UnknownName)
 IsThere before bytes wrong_kind = OfStatement bytes (λ stmt. type_of_statement (scope_of before.state) stmt ≡ Err r.WrongKind)
 IsThere before bytes no_element = OfStatement bytes (λ stmt. type_of_statement (scope_of before.state) stmt ≡ Err r.NoElement)
-IsThere before bytes parametric = OfStatement bytes (λ stmt. is_parametric (scope_of before.state) before.at stmt ≡ true)
+IsThere before bytes parametric = OfStatement bytes (λ stmt. is_parametric (scope_of before.state) before.options.at stmt ≡ true)
 
 -- the first of these causes that is there gives this refusal
 abbrev pub FirstGives : (Cause → Type 0) → List Cause → Refusal → Type 0
@@ -140,15 +143,26 @@ HasWork stmt = list_any uses_units (parts_of_statement stmt) ≡ true
 abbrev pub SparesUnits : Moment → List ℕ → Gauge → Type 0
 SparesUnits before bytes now = ¬ OfStatement bytes HasWork → now ≡ before.meter
 
+-- while a statement without any of the causes is worked out, its evaluation ends for this reason, which counts nothing
+abbrev pub RefusesBecause : Moment → List ℕ → Gauge → Reason → Type 0
+RefusesBecause before bytes now reason =
+    IsClear before bytes × IsEnded before bytes (because reason) × IsCharged before.meter now × SparesUnits before bytes now
+
+-- work of a statement without any of the causes is cut, where nothing ends its evaluation before
+abbrev pub RefusesCut : Moment → List ℕ → Gauge → Cut → Type 0
+RefusesCut before bytes now what =
+    IsClear before bytes × OfStatement bytes HasWork × IsEnded before bytes ends.cut × IsCutBy before.meter now what
+
 -- Why a complete statement is refused, and what it did to the meter until then. Overflow and want of units may come only while a
 -- statement without any of the causes is worked out in which work stands, and both are counted. So may what ends the evaluation, which
 -- counts nothing. Memory may end at any time, and that counts nothing.
 abbrev pub Refuses : Moment → List ℕ → Gauge → Refusal → Type 0
-Refuses before bytes now r.Overflow = IsClear before bytes × OfStatement bytes HasWork × IsCutBy before.meter now cut.Overflow
-Refuses before bytes now r.Budget = IsClear before bytes × OfStatement bytes HasWork × IsCutBy before.meter now cut.Budget
+Refuses before bytes now r.Overflow = RefusesCut before bytes now cut.Overflow
+Refuses before bytes now r.Budget = RefusesCut before bytes now cut.Budget
 Refuses before bytes now r.NoMemory = IsCharged before.meter now × SparesUnits before bytes now
 Refuses before bytes now r.TooWide =
     (FirstGives (IsThere before bytes) causes r.TooWide × (now ≡ before.meter))
-    ⊎ (IsClear before bytes × IsEnded before bytes ends.too_wide × IsCharged before.meter now × SparesUnits before bytes now)
-Refuses before bytes now r.Unbounded = IsClear before bytes × IsEnded before bytes ends.unbounded × IsCharged before.meter now
+    ⊎ RefusesBecause before bytes now ends.too_wide
+Refuses before bytes now r.NoMinimum = RefusesBecause before bytes now ends.no_minimum
+Refuses before bytes now r.Unbounded = RefusesBecause before bytes now ends.unbounded
 Refuses before bytes now refusal = FirstGives (IsThere before bytes) causes refusal × (now ≡ before.meter)

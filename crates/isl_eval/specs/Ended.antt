@@ -6,18 +6,21 @@ use Rattle.isl_expr.specs.declared.tree.Stmt.{Stmt}
 use Rattle.isl_expr.specs.declared.tree.Stmt.TheVariants.{Empty, Bind, Show}
 use Rattle.isl_values.specs.State.{Moment}
 use Rattle.isl_values.specs.Selection.{SelectsIn}
-use Rattle.isl_values.specs.Ends.{End, too_wide, unbounded, NoEnd, FirstEnds, Ends, EndsIn}
+use Rattle.isl_values.specs.declared.list.ListPart.TheVariants.{First}
+use Rattle.isl_values.specs.Ends.{End, because, cut, too_wide, no_minimum, unbounded, NoEnd, FirstEnds, Ends, EndsIn}
 use Rattle.isl_eval.specs.Listed.{AreFinite}
 
--- elements are to be listed, and there are infinitely many of them
+-- elements are to be listed, and there are infinitely many of them; that is asked first, and is work
 abbrev pub ListingEnds : (Element → Type 0) → End → Type 0
-ListingEnds P too_wide = ⊥
-ListingEnds P unbounded = ¬ AreFinite P
+ListingEnds P (because too_wide) = ⊥
+ListingEnds P (because no_minimum) = ⊥
+ListingEnds P (because unbounded) = ¬ AreFinite P
+ListingEnds P cut = Unit {0}
 
 -- the operand of `scan` comes first, and then its elements where parameters have their given numbers
 abbrev pub ShownEnds : Moment → Expr → End → Type 0
 ShownEnds now (Prefix' p.Scan s operand) =
-    FirstEnds (EndsIn now.state operand) (ListingEnds (λ element. SelectsIn now.state operand now.at element))
+    FirstEnds (EndsIn now.state operand) (ListingEnds (λ element. SelectsIn now.state First operand now.options.at element))
 ShownEnds now expr = Ends now.state expr
 
 abbrev pub StatementEnds : Moment → Stmt → End → Type 0

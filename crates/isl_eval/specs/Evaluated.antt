@@ -1,6 +1,7 @@
 -- public: what one simple statement is evaluated for, and why it ends without an answer. (the iscc chapter of the barvinok manual)
 use Rattle.std.specs.Prelude.{◌≡◌, Bool, false, List, [], ◌∷◌, ◌++◌, All, Option, Ok, if◌then◌else◌}
 use Rattle.std.specs.List.{list_any}
+use Rattle.std.specs.Option.{option_map_or}
 use Rattle.isl_meter.specs.Gauge.{Gauge}
 use Rattle.isl_text.specs.declared.refusal.Refusal.{Refusal}
 use Rattle.isl_lower.specs.Value.{IsWellFormedLiteral}
@@ -12,15 +13,18 @@ use Rattle.isl_expr.specs.Expr.{statement_literals}
 use Rattle.isl_kinds.specs.Parts.{Part, operator, parts_of, parts_in, parts_in_links, parts_of_statement}
 use Rattle.isl_kinds.specs.Typed.{TypeView, ScopeView, type_of_statement}
 use Rattle.isl_values.specs.State.{Moment}
+use Rattle.isl_values.specs.Selection.{context_of}
 use Rattle.isl_values.specs.Made.{is_foreign, uses_units, IsWhyUnworked}
 use Rattle.isl_eval.specs.Tests.{ends_with_test}
 use Rattle.isl_eval.specs.Ended.{StatementEnds}
 
 -- ---- what values are worked out of
 
--- of `sample` its operand, else the whole
+-- of `sample` its operand, of one `%` of two operands these, else the whole
 abbrev pub made_parts : Expr → List Part
 made_parts (Prefix' p.Sample s operand) = parts_in operand
+made_parts (Row' s first t links) =
+    parts_in first ++ option_map_or (λ context. parts_of context) (context_of links) (parts_in_links links)
 made_parts expr = parts_of expr
 
 -- the links of a row without the test at its end
@@ -33,7 +37,7 @@ parts_around_test (more_of-Link sign operand rest) = operator sign ∷ (parts_of
 abbrev pub shown_parts : Expr → List Part
 shown_parts (Prefix' p.Scan s operand) = parts_in operand
 shown_parts (Row' s first t links) =
-    parts_in first ++ (if ends_with_test links then parts_around_test links else parts_in_links links)
+    if ends_with_test links then parts_in first ++ parts_around_test links else made_parts (Row' s first t links)
 shown_parts expr = made_parts expr
 
 abbrev pub worked_parts : Stmt → List Part

@@ -1,6 +1,6 @@
 -- inner: what the steps from bytes to an answer leave to one another.
 use Rattle.std.specs.Prelude.{◌≡◌, ◌⊎◌, ◌≤◌, ℕ, ℤ, Bool, true, false, List, []}
-use Rattle.std.specs.Prelude.{◌∷◌, ◌++◌, length, All, MatchResult, Option, None, Some, Result, Ok, Err, string_bytes}
+use Rattle.std.specs.Prelude.{◌∷◌, ◌++◌, length, All, MatchResult, Option, None, Some, Result, Ok, Err, not, is_some, ◌||◌, if◌then◌else◌}
 use Rattle.std.specs.List.{list_any}
 use Rattle.isl_meter.specs.Gauge.{Gauge, IsCharged, limit_of}
 use Rattle.isl_space.specs.Limits.{most_parameters}
@@ -10,6 +10,8 @@ use Rattle.isl_union.specs.KeptValue.{KeptValue, HasNoDefinitions, IsKeptValue}
 use Rattle.isl_union.specs.Fault.{IsFaultBy}
 use Rattle.isl_union.specs.Sample.{IsSampleOf}
 use Rattle.isl_union.specs.declared.fault.OpFault.{OpFault}
+use Rattle.isl_coalesce.specs.Coalesced.{IsCoalesced}
+use Rattle.isl_operators.specs.Made.{IsAnyWordOf}
 use Rattle.isl_scan.specs.declared.fault.ScanFault.{ScanFault}
 use Rattle.isl_scan.specs.declared.fault.ScanFault.TheVariants as scan_fault
 use Rattle.isl_text.specs.declared.refusal.Refusal.{Refusal}
@@ -21,22 +23,21 @@ use Rattle.isl_expr.specs.declared.tree.Expr.{Expr, Row', Prefix'}
 use Rattle.isl_expr.specs.declared.tree.Link.{Link}
 use Rattle.isl_expr.specs.declared.tree.Stmt.{Stmt}
 use Rattle.isl_expr.specs.declared.tree.Stmt.TheVariants.{Bind}
-use Rattle.isl_expr.specs.declared.tree.ValueKind.{ValueKind}
+use Rattle.isl_expr.specs.declared.tree.Binary.{Binary}
 use Rattle.isl_expr.specs.Expr.{literals_of, statement_literals}
-use Rattle.isl_kinds.specs.Typed.{TypeView, ScopeView, is_dollar, has_unknown, kind_of}
-use Rattle.isl_kinds.specs.Typed.{declared_of, type_of_statement}
-use Rattle.isl_flat.specs.Flat.{flat}
+use Rattle.isl_kinds.specs.Typed.{TypeView, ScopeView, is_dollar, has_unknown}
+use Rattle.isl_kinds.specs.Typed.{declared_of, joined_names, type_of_statement}
+use Rattle.isl_flat.specs.Flat.{flat, is_gist, is_sample}
 use Rattle.isl_flat.specs.Simple.{BindsIn}
 use Rattle.isl_eval.specs.Unsupported.{is_unsupported}
-use Rattle.isl_values.specs.State.{Moment, StateView, Fits, HasNumbersUpTo, scope_of, forgotten}
-use Rattle.isl_values.specs.Selection.{IsSelected, Keeps, Selects, RowSelects}
-use Rattle.isl_values.specs.Ends.{End, Ends, EndsRow, FirstEnds}
+use Rattle.isl_values.specs.declared.list.ListPart.TheVariants.{First}
+use Rattle.isl_values.specs.State.{Kept, Moment, StateView, Fits, HasNumbersUpTo, scope_of, forgotten}
+use Rattle.isl_values.specs.Selection.{IsGistOfTwo, IsKeptOf, IsSelected, Keeps, Selects, RowSelects, context_of}
+use Rattle.isl_values.specs.Ends.{CutAlone, End, Ends, EndsRow, FirstEnds}
 use Rattle.isl_values.specs.Made.{is_foreign, IsSoundExpr, IsSoundLink, IsPaid, IsWhyUnworked, refusal_of_cut}
-use Rattle.isl_eval.specs.declared.shown.Line.{Line}
 use Rattle.isl_eval.specs.Spelled.{BytesSpell}
 use Rattle.isl_eval.specs.Tests.{Elements, is_test}
 use Rattle.isl_eval.specs.Tests.{ends_with_test as row_ends_with_test}
-use Rattle.isl_eval.specs.Machine.{Answer}
 use Rattle.isl_eval.specs.Causes.{Cause, no_token, too_deep, no_statement, too_wide, wide_number, unsupported, causes}
 use Rattle.isl_eval.specs.Causes.{IsThere, NoneIs, FirstGives, AreDone, is_parametric}
 use Rattle.isl_eval.specs.Ended.{ListingEnds, StatementEnds}
@@ -79,15 +80,14 @@ IsWhyUnworkable scope at stmt refusal =
 
 -- ---- what is kept and shown
 
--- the answer of a line
-abbrev pub answer_of : Line → Answer
-answer_of line = record { bytes = string_bytes line.text; is_true = line.tally.is_true; elements = line.tally.elements }
+-- at each moment of this state and this limit, the value is kept of the first part of the expression
+abbrev pub IsKeptIn : StateView → ℤ → Expr → KeptValue → Type 0
+IsKeptIn state limit expr value =
+    (before : Moment) → before.state ≡ state → limit_of before.meter ≡ limit → IsKeptOf before First expr value
 
--- the value is kept of the expression, with the expression's kind
-abbrev pub IsKeptOf : StateView → ℤ → Expr → KeptValue → Type 0
-IsKeptOf state limit expr value =
-    (before : Moment) (kind : ValueKind) → before.state ≡ state → limit_of before.meter ≡ limit → kind_of (scope_of state) expr ≡ Some kind
-    → Keeps before expr (record { kind = kind; value = value })
+-- the same of all that is kept of it
+abbrev pub AreKeptIn : StateView → ℤ → Expr → Kept → Type 0
+AreKeptIn state limit expr kept = (before : Moment) → before.state ≡ state → limit_of before.meter ≡ limit → Keeps before expr kept
 
 -- what is kept of an expression can be worked out
 pub record IsMakeable (scope : ScopeView) (expr : Expr) : Type 0 where
@@ -95,13 +95,72 @@ pub record IsMakeable (scope : ScopeView) (expr : Expr) : Type 0 where
   pub known : has_unknown scope expr ≡ false
   pub literals : All IsWellFormedLiteral (literals_of expr)
 
--- a value of one element of what the operand selects, or of none
-pub record IsSampled (state : StateView) (operand : Expr) (limit : ℕ) (value : KeptValue) : Type 0 where
-  pub chosen : (argument : KeptValue) × IsSelected state operand argument × IsSampleOf argument value
+-- the value is one of these, with these parameters, no number above the limit, and no column that is defined
+pub record IsValueWith (Content : KeptValue → Type 0) (names : List Name) (limit : ℕ) (value : KeptValue) : Type 0 where
+  pub content : Content value
   pub kept : IsKeptValue value
-  pub params : value.params ≡ declared_of (scope_of state) operand
+  pub params : value.params ≡ names
   pub numbers : HasNumbersUpTo limit value
   pub definitions : HasNoDefinitions value
+
+-- a value of one element of what the operand selects, or of none
+abbrev pub IsSampled : StateView → Expr → ℕ → KeptValue → Type 0
+IsSampled state operand limit value =
+    IsValueWith (λ v. (argument : KeptValue) × IsSelected state operand argument × IsSampleOf argument v)
+    (declared_of (scope_of state) operand) limit value
+
+-- what the operand selects, its pieces put together
+abbrev pub IsTogether : StateView → Expr → ℕ → KeptValue → Type 0
+IsTogether state operand limit value =
+    IsValueWith
+    (λ v. (argument : KeptValue) × IsSelected state operand argument × IsAnyWordOf p.Coalesce argument v × IsCoalesced argument v)
+    (declared_of (scope_of state) operand) limit value
+
+-- the gist of what the left operand selects in the context of what the right one does
+abbrev pub IsSimplified : StateView → Expr → Expr → ℕ → KeptValue → Type 0
+IsSimplified state left right limit value =
+    IsValueWith
+    (λ v. (a : KeptValue) × (c : KeptValue) × IsSelected state left a × IsSelected state right c × IsGistOfTwo a c v)
+    (joined_names (declared_of (scope_of state) left) (declared_of (scope_of state) right)) limit value
+
+abbrev pub is_coalesce : Prefix → Bool
+is_coalesce p.Domain = false
+is_coalesce p.Range = false
+is_coalesce p.Deltas = false
+is_coalesce p.Identity = false
+is_coalesce p.Wrap = false
+is_coalesce p.Unwrap = false
+is_coalesce p.Zip = false
+is_coalesce p.DomainMap = false
+is_coalesce p.RangeMap = false
+is_coalesce p.LexMin = false
+is_coalesce p.LexMax = false
+is_coalesce p.Coalesce = true
+is_coalesce p.Sample = false
+is_coalesce p.Scan = false
+is_coalesce p.Codegen = false
+
+-- what is kept of it is what it selects: of all but `sample`, `coalesce` and one `%` of two operands
+abbrev pub keeps_selected : Expr → Bool
+keeps_selected (Prefix' word s operand) = not (is_sample word || is_coalesce word)
+keeps_selected (Row' s first t links) = not (is_some (context_of links))
+keeps_selected _ = true
+
+-- the operand of the only operator of a list, where that is `%`
+abbrev pub context_in : List Link → Option Expr
+context_in (link ∷ []) = if is_gist link.operator then Some link.operand else None
+context_in _ = None
+
+-- the operand ends, or else work behind it is cut
+abbrev pub EndsWork : StateView → Expr → End → Type 0
+EndsWork state operand = FirstEnds (Ends state operand) CutAlone
+
+-- what ends a row of one operator, of these operands
+abbrev pub EndsPair : StateView → Expr → Binary → Expr → End → Type 0
+EndsPair state left operator right =
+    FirstEnds (Ends state left)
+    (EndsRow state (declared_of (scope_of state) left) (λ valuation element. Selects state left valuation element)
+    (record { operator = operator; operand = right } ∷ []))
 
 -- what refuses a statement whose scan ended without a listing
 abbrev pub refusal_of_fault : ScanFault → Refusal
@@ -111,8 +170,21 @@ refusal_of_fault scan_fault.Unbounded = Unbounded
 -- ---- what is asked for
 
 abbrev pub is_scan : Prefix → Bool
+is_scan p.Domain = false
+is_scan p.Range = false
+is_scan p.Deltas = false
+is_scan p.Identity = false
+is_scan p.Wrap = false
+is_scan p.Unwrap = false
+is_scan p.Zip = false
+is_scan p.DomainMap = false
+is_scan p.RangeMap = false
+is_scan p.LexMin = false
+is_scan p.LexMax = false
+is_scan p.Coalesce = false
+is_scan p.Sample = false
 is_scan p.Scan = true
-is_scan _ = false
+is_scan p.Codegen = false
 
 -- elements are asked for
 abbrev pub is_listing : Expr → Bool
@@ -174,7 +246,7 @@ AreEvaluable scope (_ ∷ next ∷ rest) = ⊥
 pub record IsTaken (before : Moment) (bytes : List ℕ) (statements : List Stmt) : Type 0 where
   pub stmt : Stmt
   pub read : IsRead before bytes stmt
-  pub able : IsWorkable (scope_of before.state) before.at stmt
+  pub able : IsWorkable (scope_of before.state) before.options.at stmt
   pub simple : statements ≡ flat stmt
   pub ready : AreEvaluable (scope_of before.state) statements
 
@@ -185,7 +257,7 @@ pub record AreLeft (before now : Moment) (done left : List Stmt) : Type 0 where
   pub fits : Fits (limit_of before.meter) now.state
   pub others : forgotten now.state ≡ forgotten before.state
   pub paid : IsPaid (list_any works done) before.meter now.meter
-  pub at : now.at ≡ before.at
+  pub options : now.options ≡ before.options
 
 -- some of the statements were done, and the next has P
 abbrev pub StopsAt : Moment → List Stmt → (Moment → Stmt → Type 0) → Type 0

@@ -1,5 +1,5 @@
 -- public: what simple statements do, and a statement by them. (the iscc chapter of the barvinok manual)
-use Rattle.std.specs.Prelude.{◌≡◌, ◌↔◌, ℕ, Bool, true, false, IsTrue, if◌then◌else◌, List, [], ◌∷◌, ◌++◌, codes, length}
+use Rattle.std.specs.Prelude.{◌≡◌, ◌↔◌, ℕ, Bool, true, false, IsTrue, if◌then◌else◌, List, [], ◌∷◌, ◌++◌, Option, None, Some, codes, length}
 use Rattle.isl_meter.specs.Gauge.{IsCharged}
 use Rattle.isl_space.specs.Element.{Element}
 use Rattle.isl_union.specs.KeptValue.{KeptValue}
@@ -10,6 +10,7 @@ use Rattle.isl_expr.specs.declared.tree.Expr.{Expr, Row', Prefix'}
 use Rattle.isl_expr.specs.declared.tree.Stmt.{Stmt}
 use Rattle.isl_expr.specs.declared.tree.Stmt.TheVariants.{Empty, Bind, Show}
 use Rattle.isl_flat.specs.Flat.{flat}
+use Rattle.isl_values.specs.declared.list.ListPart.TheVariants.{First}
 use Rattle.isl_values.specs.State.{Kept, Moment, Binds, forgotten}
 use Rattle.isl_values.specs.Selection.{Keeps, SelectsIn}
 use Rattle.isl_values.specs.Ends.{GoesOn}
@@ -28,9 +29,14 @@ pub record Answer : Type 0 where
 abbrev pub nothing : Answer
 nothing = record { bytes = []; is_true = false; elements = 0 }
 
--- the line that shows a value: its printed form, and a line feed
-abbrev pub shown : KeptValue → Answer
-shown value = record { bytes = printed value ++ 10 ∷ []; is_true = false; elements = 0 }
+-- what is kept, in its printed form: a value, or the two of a list in round brackets
+abbrev pub text_of_two : KeptValue → Option KeptValue → List ℕ
+text_of_two value None = printed value
+text_of_two value (Some second) = codes "(" ++ printed value ++ codes ", " ++ printed second ++ codes ")"
+
+-- the line that shows it
+abbrev pub shown : Kept → Answer
+shown kept = record { bytes = text_of_two kept.value kept.second ++ 10 ∷ []; is_true = false; elements = 0 }
 
 -- the line that answers a test
 abbrev pub told : Bool → Answer
@@ -42,7 +48,7 @@ listed elements = record { bytes = listing_text elements ++ 10 ∷ []; is_true =
 
 -- ---- what is shown of an expression
 abbrev pub ShowsValue : Moment → Expr → Answer → Type 0
-ShowsValue before expr answer = (kept : Kept) × Keeps before expr kept × (answer ≡ shown kept.value)
+ShowsValue before expr answer = (kept : Kept) × Keeps before expr kept × (answer ≡ shown kept)
 
 -- whether a test holds; the elements that the operand of `scan` selects where parameters have their given numbers; else the value
 abbrev pub ShowsRow : Bool → Type 0 → Moment → Expr → Answer → Type 0
@@ -51,7 +57,8 @@ ShowsRow false Holds before expr answer = ShowsValue before expr answer
 
 abbrev pub Shows : Moment → Expr → Answer → Type 0
 Shows before (Prefix' p.Scan s operand) answer =
-    (elements : List Element) × IsListed (λ element. SelectsIn before.state operand before.at element) elements × (answer ≡ listed elements)
+    (elements : List Element) × IsListed (λ element. SelectsIn before.state First operand before.options.at element) elements
+    × (answer ≡ listed elements)
 Shows before (Row' s first t links) answer = ShowsRow (ends_with_test links) (RowHolds before.state first links) before
     (Row' s first t links) answer
 Shows before expr answer = ShowsValue before expr answer
@@ -69,7 +76,7 @@ pub record Step (before : Moment) (stmt : Stmt) (after : Moment) (answer : Answe
   pub does : Does before stmt after answer
   pub goes_on : GoesOn (StatementEnds before stmt)
   pub meter : IsCharged before.meter after.meter
-  pub at : after.at ≡ before.at
+  pub options : after.options ≡ before.options
 
 -- ---- statements
 -- One after another, the last with this answer, and the others with none.

@@ -14,7 +14,7 @@ pub record Answers (before : Moment) (bytes : List ℕ) (after : Moment) (answer
   pub spelled : BytesSpell bytes stmt
   pub performed : Performs before stmt after answer
   pub meter : IsCharged before.meter after.meter
-  pub at : after.at ≡ before.at
+  pub options : after.options ≡ before.options
   pub units : ¬ HasWork stmt → after.meter.units ≡ before.meter.units
 
 -- a statement begins with the whole budget

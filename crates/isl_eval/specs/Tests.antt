@@ -6,6 +6,7 @@ use Rattle.isl_expr.specs.declared.tree.Binary.{Binary}
 use Rattle.isl_expr.specs.declared.tree.Binary.TheVariants as b
 use Rattle.isl_expr.specs.declared.tree.Expr.{Row_of-Expr, Row_of-Link, end_of-Link, more_of-Link}
 use Rattle.isl_operators.specs.Operations.{OperatorHas}
+use Rattle.isl_values.specs.declared.list.ListPart.TheVariants.{First}
 use Rattle.isl_values.specs.State.{StateView, Everywhere}
 use Rattle.isl_values.specs.Selection.{Selects, SelectsIn}
 
@@ -15,7 +16,19 @@ is_test b.ProperSubset = true
 is_test b.Subset = true
 is_test b.ProperSuperset = true
 is_test b.Superset = true
-is_test _ = false
+is_test b.LexLess = false
+is_test b.LexLessEqual = false
+is_test b.LexGreater = false
+is_test b.LexGreaterEqual = false
+is_test b.Universal = false
+is_test b.Union = false
+is_test b.Difference = false
+is_test b.RangeDifference = false
+is_test b.Intersection = false
+is_test b.RangeIntersection = false
+is_test b.Gist = false
+is_test b.Cross = false
+is_test b.Join = false
 
 -- the last operator of a row is a test
 abbrev pub ends_with_test : {m : _} → Row_of-Link m → Bool
@@ -38,7 +51,19 @@ TestHolds state b.Subset P Q = IsPartOf state P Q
 TestHolds state b.ProperSubset P Q = IsPartOf state P Q × (¬ IsPartOf state Q P)
 TestHolds state b.Superset P Q = IsPartOf state Q P
 TestHolds state b.ProperSuperset P Q = IsPartOf state Q P × (¬ IsPartOf state P Q)
-TestHolds state operator P Q = ⊥
+TestHolds state b.LexLess P Q = ⊥
+TestHolds state b.LexLessEqual P Q = ⊥
+TestHolds state b.LexGreater P Q = ⊥
+TestHolds state b.LexGreaterEqual P Q = ⊥
+TestHolds state b.Universal P Q = ⊥
+TestHolds state b.Union P Q = ⊥
+TestHolds state b.Difference P Q = ⊥
+TestHolds state b.RangeDifference P Q = ⊥
+TestHolds state b.Intersection P Q = ⊥
+TestHolds state b.RangeIntersection P Q = ⊥
+TestHolds state b.Gist P Q = ⊥
+TestHolds state b.Cross P Q = ⊥
+TestHolds state b.Join P Q = ⊥
 
 -- The test at the end of a row holds of what the operators before it make of the operands, from the left, and of the last operand.
 abbrev pub HoldsPastLinks : {m : _} → StateView → Elements → Row_of-Link m → Type 0
@@ -49,4 +74,4 @@ HoldsPastLinks state Left (more_of-Link operator operand rest) =
     HoldsPastLinks state (λ valuation x. OperatorHas operator (Left valuation) (λ y. Selects state operand valuation y) x) rest
 
 abbrev pub RowHolds : {m n : _} → StateView → Row_of-Expr m → Row_of-Link n → Type 0
-RowHolds state first links = HoldsPastLinks state (λ valuation x. SelectsIn state first valuation x) links
+RowHolds state first links = HoldsPastLinks state (λ valuation x. SelectsIn state First first valuation x) links

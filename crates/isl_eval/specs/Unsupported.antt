@@ -1,35 +1,13 @@
 -- public: what the language has and this program has not yet. Each part that an expression may have stands here.
 use Rattle.std.specs.Prelude.{Bool, true, false}
 use Rattle.std.specs.List.{list_any}
-use Rattle.isl_expr.specs.declared.tree.Binary.{Binary}
-use Rattle.isl_expr.specs.declared.tree.Binary.TheVariants as b
 use Rattle.isl_expr.specs.declared.tree.Prefix.{Prefix}
 use Rattle.isl_expr.specs.declared.tree.Prefix.TheVariants as p
 use Rattle.isl_expr.specs.declared.tree.Stmt.{Stmt}
 use Rattle.isl_kinds.specs.Parts.{Part, parts_of_statement}
 use Rattle.isl_kinds.specs.Parts as part
 
--- `%` and the orders of elements
-abbrev pub is_unsupported_operator : Binary → Bool
-is_unsupported_operator b.Equal = false
-is_unsupported_operator b.ProperSubset = false
-is_unsupported_operator b.Subset = false
-is_unsupported_operator b.ProperSuperset = false
-is_unsupported_operator b.Superset = false
-is_unsupported_operator b.LexLess = true
-is_unsupported_operator b.LexLessEqual = true
-is_unsupported_operator b.LexGreater = true
-is_unsupported_operator b.LexGreaterEqual = true
-is_unsupported_operator b.Universal = false
-is_unsupported_operator b.Union = false
-is_unsupported_operator b.Difference = false
-is_unsupported_operator b.RangeDifference = false
-is_unsupported_operator b.Intersection = false
-is_unsupported_operator b.RangeIntersection = false
-is_unsupported_operator b.Gist = true
-is_unsupported_operator b.Cross = false
-is_unsupported_operator b.Join = false
-
+-- loops
 abbrev pub is_unsupported_word : Prefix → Bool
 is_unsupported_word p.Domain = false
 is_unsupported_word p.Range = false
@@ -40,23 +18,24 @@ is_unsupported_word p.Unwrap = false
 is_unsupported_word p.Zip = false
 is_unsupported_word p.DomainMap = false
 is_unsupported_word p.RangeMap = false
-is_unsupported_word p.LexMin = true
-is_unsupported_word p.LexMax = true
-is_unsupported_word p.Coalesce = true
+is_unsupported_word p.LexMin = false
+is_unsupported_word p.LexMax = false
+is_unsupported_word p.Coalesce = false
 is_unsupported_word p.Sample = false
 is_unsupported_word p.Scan = false
 is_unsupported_word p.Codegen = true
 
+-- such a word; and `last`, which tells the last accesses
 abbrev pub is_unsupported_part : Part → Bool
 is_unsupported_part (part.name name) = false
 is_unsupported_part (part.literal literal) = false
-is_unsupported_part (part.operator sign) = is_unsupported_operator sign
+is_unsupported_part (part.operator sign) = false
 is_unsupported_part (part.prefix word) = is_unsupported_word word
-is_unsupported_part part.any = true
+is_unsupported_part part.any = false
 is_unsupported_part part.last = true
 is_unsupported_part part.inverse = false
 is_unsupported_part part.application = false
-is_unsupported_part (part.item number) = true
+is_unsupported_part (part.item number) = false
 
 -- something that is not supported stands in the statement
 abbrev pub is_unsupported : Stmt → Bool

@@ -1,11 +1,11 @@
 //! One statement of a script: what it answers and what it binds, or why it is refused.
 //!
-//! A statement is empty, or it binds or shows what operators, words and applications make of names and literals, or one element of that,
-//! by `sample`; or it tells whether a test holds, or lists elements by `scan`. Not answered yet are `%`, the orders, `lexmin`, `lexmax`,
-//! `coalesce`, `codegen`, `any`, `last`, and the elements of lists. It is taken apart into simple statements, in which what is chosen
-//! once has a name, and each of these is one step.
+//! A statement is empty, or it binds or shows what operators, words and applications make of names and literals: a value, or one element
+//! by `sample`; or it tells whether a test holds, or lists elements by `scan`. Not answered yet are `last` and `codegen`. It is taken apart
+//! into simple statements, in which what is chosen once has a name, and each of these is one step.
 #![tactic(auto)]
 
+mod answers;
 mod shown;
 mod simple;
 mod spelled;
@@ -14,7 +14,9 @@ mod test;
 mod unsupported;
 mod workable;
 
+pub use answers::Answer;
+pub use isl_words::Options;
 pub use simple::eval;
 pub use spelled::one_statement;
-pub use step::{Tally, answer};
+pub use step::answer;
 pub use unsupported::is_unsupported;

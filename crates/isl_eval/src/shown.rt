@@ -1,90 +1,45 @@
 //! What is answered to an expression that is shown, and what is kept of one.
 
-ghost use Rattle.std.specs.Prelude.{◌≡◌, ◌↔◌, true, Bool, List, IfOk, IsTrue, MatchResult, unsigned_abs};
+ghost use Rattle.std.specs.Prelude.{◌≡◌, ◌↔◌, true, false, Bool, List, Some, IfOk, IsTrue, MatchResult, unsigned_abs};
 ghost use Rattle.std.specs.List.{list_any};
+ghost use Rattle.std.specs.Option.{option_copied};
 ghost use Rattle.isl_meter.specs.Gauge.{IsCharged, limit_of};
 ghost use Rattle.isl_space.specs.Element.{Element};
 ghost use Rattle.isl_space.specs.Valuation as valuation;
-ghost use Rattle.isl_union.specs.KeptValue.{HasNoDefinitions};
+ghost use Rattle.isl_expr.specs.declared.tree.Expr as trees;
 ghost use Rattle.isl_expr.specs.declared.tree.Stmt.TheVariants as s;
-ghost use Rattle.isl_expr.specs.declared.tree.ValueKind.{ValueKind};
+ghost use Rattle.isl_expr.specs.declared.tree.Binary.TheVariants as b;
+ghost use Rattle.isl_kinds.specs.Lines.{is_kind};
 ghost use Rattle.isl_kinds.specs.Parts.{parts_of};
 ghost use Rattle.isl_kinds.specs.Typed.{kind_of};
-ghost use Rattle.isl_flat.specs.Flat.{is_sample};
+ghost use Rattle.isl_flat.specs.Flat.{is_gist, is_sample};
 ghost use Rattle.isl_values.specs.State.{Moment, scope_of, Fits};
 ghost use Rattle.isl_values.specs.Made.{IsPaid, IsSoundExpr, IsWhyUnworked, uses_units};
 ghost use Rattle.isl_values.specs.Ends.{Ends, GoesOn};
 ghost use Rattle.isl_values.specs.Selection.{Selects};
 ghost use Rattle.isl_eval.specs.Listed.{IsListed};
 ghost use Rattle.isl_eval.specs.Ended.{StatementEnds};
-ghost use Rattle.isl_eval.specs.Machine.{Shows, ShowsValue, listed, shown, told};
+ghost use Rattle.isl_eval.specs.Machine.{Shows, ShowsValue, listed, told};
 ghost use Rattle.isl_eval.specs.Evaluated.{IsEvaluable, IsWhyEnded};
 ghost use Rattle.isl_eval.specs.Tests.{TestHolds};
 ghost use Rattle.isl_eval.specs.Evaluation as spec;
-ghost use Rattle.isl_eval.specs.Evaluation.{EndsListing, EndsTest, IsKeptOf, IsMakeable, IsReadyTest};
-ghost use Rattle.isl_eval.specs.Evaluation.{IsSampled, answer_of, past_row};
+ghost use Rattle.isl_eval.specs.Evaluation.{AreKeptIn, EndsListing, EndsPair, EndsTest, IsKeptIn, IsMakeable, IsReadyTest};
+ghost use Rattle.isl_eval.specs.Evaluation.{EndsWork, IsSampled, IsSimplified, IsTogether, past_row};
 
-use crate::step::Tally;
+use crate::answers::Answer;
 use crate::test::{ends_with_test, tested};
-use isl_expr::tree::{Expr, Link, Prefix};
+use isl_coalesce::coalesce;
+use isl_expr::tree::{Binary, Expr, Link, Prefix, ValueKind};
+use isl_gist::gist;
 use isl_meter::Meter;
-use isl_print::text_of;
-use isl_scan::{Listing, ScanFault, scan};
+use isl_scan::{ScanFault, scan};
 use isl_space::{Name, Params};
 use isl_text::refusal::Refusal;
 use isl_union::{OpFault, Value};
-use isl_values::{State, refusal_of, value_of};
+use isl_values::{Kept, State, list_of, refusal_of, value_of};
+use isl_words::Options;
 use std::alloc::{AllocError, Global};
 use std::rc::Rc;
-
-/// A line that is answered, and what it adds to the counts.
-#[derive(Drop)]
-pub(crate) struct Line {
-    pub(crate) text: String,
-    pub(crate) tally: Tally,
-}
-
-impl Line {
-    fn of_value(alloc: Global, value: &Value) -> Result<Line, AllocError>
-        requires { HasNoDefinitions value.now }
-        ensures { IfOk result (λ line. answer_of line ≡ shown value.now) }
-    {
-        let mut text = text_of(alloc, value)?;
-        text.push('\n')?;
-        Ok(Line {
-            text,
-            tally: Tally::NOTHING,
-        })
-    }
-
-    fn of_truth(alloc: Global, holds: bool) -> Result<Line, AllocError>
-        ensures { IfOk result (λ line. answer_of line ≡ told holds) }
-    {
-        let word = if holds { "True\n" } else { "False\n" };
-        let text = String::from_str(alloc, word)?;
-        Ok(Line {
-            text,
-            tally: Tally {
-                is_true: holds,
-                elements: 0,
-            },
-        })
-    }
-
-    fn of_listing(alloc: Global, listing: &Listing) -> Result<Line, AllocError>
-        ensures { IfOk result (λ line. answer_of line ≡ listed listing.now) }
-    {
-        let mut text = listing.text(alloc)?;
-        text.push('\n')?;
-        Ok(Line {
-            text,
-            tally: Tally {
-                is_true: false,
-                elements: listing.len(),
-            },
-        })
-    }
-}
 
 // The number that a name is given, or 0.
 fn number_of(name: &Name, at: &[(Name, i128)]) -> i128
@@ -99,12 +54,12 @@ fn number_of(name: &Name, at: &[(Name, i128)]) -> i128
 }
 
 // The numbers that parameters are given.
-fn numbers_of(alloc: Global, params: &Params, at: &[(Name, i128)]) -> Result<Vec<i128>, AllocError>
-    ensures { IfOk result (λ numbers. numbers.items ≡ valuation.values_of params.now at.now) }
+fn numbers_of(alloc: Global, params: &Params, options: &Options) -> Result<Vec<i128>, AllocError>
+    ensures { IfOk result (λ numbers. numbers.items ≡ valuation.values_of params.now options.now.at) }
 {
     let mut numbers = Vec::new(alloc);
     for place in 0..params.len() {
-        numbers.push(number_of(params.name(place), at))?;
+        numbers.push(number_of(params.name(place), options.at()))?;
     }
     Ok(numbers)
 }
@@ -123,21 +78,21 @@ fn listed(
     alloc: Global,
     operand: &Expr,
     state: &State,
-    at: &[(Name, i128)],
+    options: &Options,
     meter: &mut Meter,
-) -> Result<Line, Refusal>
+) -> Result<Answer, Refusal>
     requires sound { IsSoundExpr (scope_of state.now) operand.now }
     requires fits { Fits (limit_of meter.old) state.now }
     ensures made { MatchResult result
-        (λ line. ((elements : List Element) × IsListed (λ element. Selects state.now operand.now at.now element) elements
-        × (answer_of line ≡ listed elements)) × IsCharged meter.old meter.new)
-        (IsWhyUnworked true (EndsListing state.now operand.now at.now) meter.old meter.new) }
-    ensures goes_on { IfOk result (λ _. GoesOn (EndsListing state.now operand.now at.now)) }
+        (λ answer. ((elements : List Element) × IsListed (λ element. Selects state.now operand.now options.now.at element) elements
+        × (answer ≡ listed elements)) × IsCharged meter.old meter.new)
+        (IsWhyUnworked true (EndsListing state.now operand.now options.now.at) meter.old meter.new) }
+    ensures goes_on { IfOk result (λ _. GoesOn (EndsListing state.now operand.now options.now.at)) }
 {
     let value = value_of(alloc, operand, state, meter)?;
-    let numbers = numbers_of(alloc, value.params(), at)?;
+    let numbers = numbers_of(alloc, value.params(), options)?;
     match scan(alloc, &value, numbers.as_slice(), meter) {
-        Ok(listing) => Ok(Line::of_listing(alloc, &listing)?),
+        Ok(listing) => Ok(Answer::of_listing(alloc, &listing)?),
         Err(fault) => Err(refusal_of_fault(fault)),
     }
 }
@@ -153,7 +108,7 @@ fn sampled(
     requires fits { Fits (limit_of meter.old) state.now }
     ensures made { MatchResult result
         (λ value. IsSampled state.now operand.now (unsigned_abs (limit_of meter.old)) value.value × IsCharged meter.old meter.new)
-        (IsWhyUnworked true (Ends state.now operand.now) meter.old meter.new) }
+        (IsWhyUnworked true (EndsWork state.now operand.now) meter.old meter.new) }
     ensures goes_on { IfOk result (λ _. GoesOn (Ends state.now operand.now)) }
 {
     let value = value_of(alloc, operand, state, meter)?;
@@ -164,17 +119,64 @@ fn sampled(
     }
 }
 
-// What is kept of an expression that selects.
+// A value of an operand, its pieces put together.
+fn together(
+    alloc: Global,
+    operand: &Expr,
+    state: &State,
+    meter: &mut Meter,
+) -> Result<Rc<Value>, Refusal>
+    requires sound { IsSoundExpr (scope_of state.now) operand.now }
+    requires fits { Fits (limit_of meter.old) state.now }
+    ensures made { MatchResult result
+        (λ value. IsTogether state.now operand.now (unsigned_abs (limit_of meter.old)) value.value × IsCharged meter.old meter.new)
+        (IsWhyUnworked true (EndsWork state.now operand.now) meter.old meter.new) }
+    ensures goes_on { IfOk result (λ _. GoesOn (Ends state.now operand.now)) }
+{
+    let value = value_of(alloc, operand, state, meter)?;
+    match coalesce(alloc, &value, meter) {
+        Ok(together) => Ok(Rc::new(alloc, together)?),
+        Err(cut) => Err(refusal_of(cut)),
+    }
+}
+
+// The gist of one operand in the context of another one.
+fn simplified(
+    alloc: Global,
+    left: &Expr,
+    right: &Expr,
+    state: &State,
+    meter: &mut Meter,
+) -> Result<Rc<Value>, Refusal>
+    requires left { IsSoundExpr (scope_of state.now) left.now }
+    requires right { IsSoundExpr (scope_of state.now) right.now }
+    requires fits { Fits (limit_of meter.old) state.now }
+    ensures made { MatchResult result
+        (λ value. IsSimplified state.now left.now right.now (unsigned_abs (limit_of meter.old)) value.value × IsCharged meter.old meter.new)
+        (IsWhyUnworked true (EndsPair state.now left.now b.Gist right.now) meter.old meter.new) }
+    ensures goes_on { IfOk result (λ _. GoesOn (EndsPair state.now left.now b.Gist right.now)) }
+{
+    let value = value_of(alloc, left, state, meter)?;
+    let context = value_of(alloc, right, state, meter)?;
+    match gist(alloc, &value, &context, meter) {
+        Ok(gist) => Ok(Rc::new(alloc, gist)?),
+        Err(OpFault::Cut(cut)) => Err(refusal_of(cut)),
+        Err(OpFault::TooWide) => Err(Refusal::TooWide),
+    }
+}
+
+// What an expression selects, where that is kept of it.
 fn selected(
     alloc: Global,
     expr: &Expr,
     state: &State,
     meter: &mut Meter,
 ) -> Result<Rc<Value>, Refusal>
-    requires sound { IsSoundExpr (scope_of state.now) expr.now }
+    requires selects { spec.keeps_selected expr.now ≡ true }
+    requires makeable { IsMakeable (scope_of state.now) expr.now }
     requires fits { Fits (limit_of meter.old) state.now }
     ensures made { MatchResult result
-        (λ value. IsKeptOf state.now (limit_of meter.old) expr.now value.value
+        (λ value. IsKeptIn state.now (limit_of meter.old) expr.now value.value
         × IsPaid (list_any uses_units (parts_of expr.now)) meter.old meter.new)
         (IsWhyUnworked (list_any uses_units (parts_of expr.now)) (Ends state.now expr.now) meter.old meter.new) }
     ensures goes_on { IfOk result (λ _. GoesOn (Ends state.now expr.now)) }
@@ -188,8 +190,82 @@ fn is_sample(word: Prefix) -> bool
     matches!(word, Prefix::Sample)
 }
 
-/// What is kept of an expression: of `sample` a value of one element, which is chosen once; else what it selects.
-pub(crate) fn content(
+fn is_coalesce(word: Prefix) -> bool
+    ensures { result ≡ spec.is_coalesce word }
+{
+    matches!(word, Prefix::Coalesce)
+}
+
+// What is kept of a word with its operand.
+fn word_kept(
+    alloc: Global,
+    expr: &Expr,
+    word: Prefix,
+    operand: &Expr,
+    state: &State,
+    meter: &mut Meter,
+) -> Result<Rc<Value>, Refusal>
+    requires is { expr.now ≡ trees.Prefix word operand.now }
+    requires makeable { IsMakeable (scope_of state.now) expr.now }
+    requires fits { Fits (limit_of meter.old) state.now }
+    ensures made { MatchResult result
+        (λ value. IsKeptIn state.now (limit_of meter.old) expr.now value.value
+        × IsPaid (list_any uses_units (parts_of expr.now)) meter.old meter.new)
+        (IsWhyUnworked (list_any uses_units (parts_of expr.now)) (Ends state.now expr.now) meter.old meter.new) }
+    ensures goes_on { IfOk result (λ _. GoesOn (Ends state.now expr.now)) }
+{
+    if is_sample(word) {
+        sampled(alloc, operand, state, meter)
+    } else if is_coalesce(word) {
+        together(alloc, operand, state, meter)
+    } else {
+        selected(alloc, expr, state, meter)
+    }
+}
+
+fn is_gist(operator: Binary) -> bool
+    ensures { result ≡ is_gist operator }
+{
+    matches!(operator, Binary::Gist)
+}
+
+// The operand of the only operator, where that is `%`.
+fn context(links: &[Link]) -> Option<&Expr>
+    ensures { option_copied result ≡ spec.context_in links.now }
+{
+    match links {
+        [link] if is_gist(link.operator) => Some(&link.operand),
+        _ => None,
+    }
+}
+
+// What is kept of a row.
+fn row_kept(
+    alloc: Global,
+    expr: &Expr,
+    first: &Expr,
+    links: &[Link],
+    state: &State,
+    meter: &mut Meter,
+) -> Result<Rc<Value>, Refusal>
+    requires is { expr.now ≡ trees.Row first.now links.now }
+    requires makeable { IsMakeable (scope_of state.now) expr.now }
+    requires fits { Fits (limit_of meter.old) state.now }
+    ensures made { MatchResult result
+        (λ value. IsKeptIn state.now (limit_of meter.old) expr.now value.value
+        × IsPaid (list_any uses_units (parts_of expr.now)) meter.old meter.new)
+        (IsWhyUnworked (list_any uses_units (parts_of expr.now)) (Ends state.now expr.now) meter.old meter.new) }
+    ensures goes_on { IfOk result (λ _. GoesOn (Ends state.now expr.now)) }
+{
+    match context(links) {
+        Some(right) => simplified(alloc, first, right, state, meter),
+        None => selected(alloc, expr, state, meter),
+    }
+}
+
+// The value that is kept of an expression: of `sample` a value of one element, which is chosen once; of `coalesce` one of its operand, whose
+// pieces are put together; of one `%` of two operands the gist of the left one in the context of the right one; else what is selected.
+fn single(
     alloc: Global,
     expr: &Expr,
     state: &State,
@@ -198,16 +274,96 @@ pub(crate) fn content(
     requires makeable { IsMakeable (scope_of state.now) expr.now }
     requires fits { Fits (limit_of meter.old) state.now }
     ensures made { MatchResult result
-        (λ value. IsKeptOf state.now (limit_of meter.old) expr.now value.value
+        (λ value. IsKeptIn state.now (limit_of meter.old) expr.now value.value
         × IsPaid (list_any uses_units (parts_of expr.now)) meter.old meter.new)
         (IsWhyUnworked (list_any uses_units (parts_of expr.now)) (Ends state.now expr.now) meter.old meter.new) }
     ensures goes_on { IfOk result (λ _. GoesOn (Ends state.now expr.now)) }
 {
     match expr {
-        Expr::Prefix(word, operand) if is_sample(*word) => {
-            sampled(alloc, operand.get(), state, meter)
-        }
-        _ => selected(alloc, expr, state, meter),
+        Expr::Prefix(word, operand) => word_kept(alloc, expr, *word, operand.get(), state, meter),
+        Expr::Row(first, links) => row_kept(
+            alloc,
+            expr,
+            first.get(),
+            links.as_slice(),
+            state,
+            meter,
+        ),
+        Expr::Name(_) => selected(alloc, expr, state, meter),
+        Expr::Literal(_) => selected(alloc, expr, state, meter),
+        Expr::Any(_, _, _) => selected(alloc, expr, state, meter),
+        Expr::Last(_, _, _) => selected(alloc, expr, state, meter),
+        Expr::Post(_, _) => selected(alloc, expr, state, meter),
+    }
+}
+
+// Both values of a list.
+fn list_kept(
+    alloc: Global,
+    expr: &Expr,
+    state: &State,
+    meter: &mut Meter,
+) -> Result<Kept, Refusal>
+    requires makeable { IsMakeable (scope_of state.now) expr.now }
+    requires kind { kind_of (scope_of state.now) expr.now ≡ Some ValueKind.List }
+    requires fits { Fits (limit_of meter.old) state.now }
+    ensures made { MatchResult result
+        (λ kept. AreKeptIn state.now (limit_of meter.old) expr.now kept
+        × IsPaid (list_any uses_units (parts_of expr.now)) meter.old meter.new)
+        (IsWhyUnworked (list_any uses_units (parts_of expr.now)) (Ends state.now expr.now) meter.old meter.new) }
+    ensures goes_on { IfOk result (λ _. GoesOn (Ends state.now expr.now)) }
+{
+    match list_of(alloc, expr, state, meter) {
+        Ok(values) => Ok(Kept::list(values)),
+        Err(refusal) => Err(refusal),
+    }
+}
+
+// The value of what is no list.
+fn value_kept(
+    alloc: Global,
+    expr: &Expr,
+    kind: ValueKind,
+    state: &State,
+    meter: &mut Meter,
+) -> Result<Kept, Refusal>
+    requires makeable { IsMakeable (scope_of state.now) expr.now }
+    requires kind { kind_of (scope_of state.now) expr.now ≡ Some kind }
+    requires other { is_kind kind ValueKind.List ≡ false }
+    requires fits { Fits (limit_of meter.old) state.now }
+    ensures made { MatchResult result
+        (λ kept. AreKeptIn state.now (limit_of meter.old) expr.now kept
+        × IsPaid (list_any uses_units (parts_of expr.now)) meter.old meter.new)
+        (IsWhyUnworked (list_any uses_units (parts_of expr.now)) (Ends state.now expr.now) meter.old meter.new) }
+    ensures goes_on { IfOk result (λ _. GoesOn (Ends state.now expr.now)) }
+{
+    match single(alloc, expr, state, meter) {
+        Ok(value) => Ok(Kept::new(kind, value)),
+        Err(refusal) => Err(refusal),
+    }
+}
+
+/// What is kept of an expression of this kind: a value, or the two of a list.
+pub(crate) fn content(
+    alloc: Global,
+    expr: &Expr,
+    kind: ValueKind,
+    state: &State,
+    meter: &mut Meter,
+) -> Result<Kept, Refusal>
+    requires makeable { IsMakeable (scope_of state.now) expr.now }
+    requires kind { kind_of (scope_of state.now) expr.now ≡ Some kind }
+    requires fits { Fits (limit_of meter.old) state.now }
+    ensures made { MatchResult result
+        (λ kept. AreKeptIn state.now (limit_of meter.old) expr.now kept
+        × IsPaid (list_any uses_units (parts_of expr.now)) meter.old meter.new)
+        (IsWhyUnworked (list_any uses_units (parts_of expr.now)) (Ends state.now expr.now) meter.old meter.new) }
+    ensures goes_on { IfOk result (λ _. GoesOn (Ends state.now expr.now)) }
+{
+    if kind == ValueKind::List {
+        list_kept(alloc, expr, state, meter)
+    } else {
+        value_kept(alloc, expr, kind, state, meter)
     }
 }
 
@@ -215,21 +371,22 @@ pub(crate) fn content(
 fn value_shown(
     alloc: Global,
     expr: &Expr,
+    kind: ValueKind,
     state: &State,
     meter: &mut Meter,
-) -> Result<Line, Refusal>
+) -> Result<Answer, Refusal>
     requires makeable { IsMakeable (scope_of state.now) expr.now }
-    requires kind { (kind : ValueKind) × (kind_of (scope_of state.now) expr.now ≡ Some kind) }
+    requires kind { kind_of (scope_of state.now) expr.now ≡ Some kind }
     requires fits { Fits (limit_of meter.old) state.now }
     ensures made { MatchResult result
-        (λ line. ((before : Moment) → before.state ≡ state.now → limit_of before.meter ≡ limit_of meter.old
-        → ShowsValue before expr.now (answer_of line))
+        (λ answer. ((before : Moment) → before.state ≡ state.now → limit_of before.meter ≡ limit_of meter.old
+        → ShowsValue before expr.now answer)
         × IsPaid (list_any uses_units (parts_of expr.now)) meter.old meter.new)
         (IsWhyUnworked (list_any uses_units (parts_of expr.now)) (Ends state.now expr.now) meter.old meter.new) }
     ensures goes_on { IfOk result (λ _. GoesOn (Ends state.now expr.now)) }
 {
-    let value = content(alloc, expr, state, meter)?;
-    Ok(Line::of_value(alloc, &value)?)
+    let kept = content(alloc, expr, kind, state, meter)?;
+    Ok(Answer::of_kept(alloc, &kept)?)
 }
 
 // The line that tells whether a test holds.
@@ -240,17 +397,17 @@ fn truth_shown(
     last: &Link,
     state: &State,
     meter: &mut Meter,
-) -> Result<Line, Refusal>
+) -> Result<Answer, Refusal>
     requires ready { IsReadyTest (scope_of state.now) first.now before.now last.now }
     requires fits { Fits (limit_of meter.old) state.now }
     ensures made { MatchResult result
-        (λ line. ((holds : Bool) × (IsTrue holds ↔ TestHolds state.now last.now.operator (past_row state.now first.now before.now)
-        (Selects state.now last.now.operand)) × (answer_of line ≡ told holds)) × IsCharged meter.old meter.new)
+        (λ answer. ((holds : Bool) × (IsTrue holds ↔ TestHolds state.now last.now.operator (past_row state.now first.now before.now)
+        (Selects state.now last.now.operand)) × (answer ≡ told holds)) × IsCharged meter.old meter.new)
         (IsWhyUnworked true (EndsTest state.now first.now before.now last.now) meter.old meter.new) }
     ensures goes_on { IfOk result (λ _. GoesOn (EndsTest state.now first.now before.now last.now)) }
 {
     let holds = tested(alloc, first, before, last, state, meter)?;
-    Ok(Line::of_truth(alloc, holds)?)
+    Ok(Answer::of_truth(alloc, holds)?)
 }
 
 // Whether elements or a truth are asked for.
@@ -270,20 +427,20 @@ fn asked_shown(
     alloc: Global,
     expr: &Expr,
     state: &State,
-    at: &[(Name, i128)],
+    options: &Options,
     meter: &mut Meter,
-) -> Result<Line, Refusal>
+) -> Result<Answer, Refusal>
     requires asked { spec.is_asked expr.now ≡ true }
     requires evaluable { IsEvaluable (scope_of state.now) (s.Show expr.now) }
     requires fits { Fits (limit_of meter.old) state.now }
     ensures made { MatchResult result
-        (λ line. Shows (record { state = state.now; meter = meter.old; at = at.now }) expr.now (answer_of line)
+        (λ answer. Shows (record { state = state.now; meter = meter.old; options = options.now }) expr.now answer
         × IsPaid (list_any uses_units (parts_of expr.now)) meter.old meter.new)
-        (IsWhyEnded (record { state = state.now; meter = meter.old; at = at.now }) (s.Show expr.now) meter.new) }
-    ensures goes_on { IfOk result (λ _. GoesOn (StatementEnds (record { state = state.now; meter = meter.old; at = at.now }) (s.Show expr.now))) }
+        (IsWhyEnded (record { state = state.now; meter = meter.old; options = options.now }) (s.Show expr.now) meter.new) }
+    ensures goes_on { IfOk result (λ _. GoesOn (StatementEnds (record { state = state.now; meter = meter.old; options = options.now }) (s.Show expr.now))) }
 {
     match expr {
-        Expr::Prefix(_, operand) => listed(alloc, operand.get(), state, at, meter),
+        Expr::Prefix(_, operand) => listed(alloc, operand.get(), state, options, meter),
         Expr::Row(first, links) => match links.as_slice().split_last() {
             Some((last, before)) => truth_shown(alloc, first.get(), before, last, state, meter),
             None => unreachable!(),
@@ -292,25 +449,27 @@ fn asked_shown(
     }
 }
 
-/// The line that answers an expression.
+/// The line that answers an expression of this kind.
 pub(crate) fn shown(
     alloc: Global,
     expr: &Expr,
+    kind: ValueKind,
     state: &State,
-    at: &[(Name, i128)],
+    options: &Options,
     meter: &mut Meter,
-) -> Result<Line, Refusal>
+) -> Result<Answer, Refusal>
     requires evaluable { IsEvaluable (scope_of state.now) (s.Show expr.now) }
+    requires kind { kind_of (scope_of state.now) expr.now ≡ Some kind }
     requires fits { Fits (limit_of meter.old) state.now }
     ensures made { MatchResult result
-        (λ line. Shows (record { state = state.now; meter = meter.old; at = at.now }) expr.now (answer_of line)
+        (λ answer. Shows (record { state = state.now; meter = meter.old; options = options.now }) expr.now answer
         × IsPaid (list_any uses_units (parts_of expr.now)) meter.old meter.new)
-        (IsWhyEnded (record { state = state.now; meter = meter.old; at = at.now }) (s.Show expr.now) meter.new) }
-    ensures goes_on { IfOk result (λ _. GoesOn (StatementEnds (record { state = state.now; meter = meter.old; at = at.now }) (s.Show expr.now))) }
+        (IsWhyEnded (record { state = state.now; meter = meter.old; options = options.now }) (s.Show expr.now) meter.new) }
+    ensures goes_on { IfOk result (λ _. GoesOn (StatementEnds (record { state = state.now; meter = meter.old; options = options.now }) (s.Show expr.now))) }
 {
     if is_asked(expr) {
-        asked_shown(alloc, expr, state, at, meter)
+        asked_shown(alloc, expr, state, options, meter)
     } else {
-        value_shown(alloc, expr, state, meter)
+        value_shown(alloc, expr, kind, state, meter)
     }
 }

@@ -1,31 +1,46 @@
 //! One simple statement: one step of the machine.
 
-ghost use Rattle.std.specs.Prelude.{◌≡◌, ◌++◌, true, false, Some, Ok, IfErr, IfOk, MatchResult, OnErr, OnOk};
+ghost use Rattle.std.specs.Prelude.{◌≡◌, ◌≢◌, true, false, Some, Ok, IfErr, IfOk, MatchResult, OnErr, OnOk};
 ghost use Rattle.std.specs.List.{list_any};
 ghost use Rattle.isl_meter.specs.Gauge.{IsKept, limit_of};
 ghost use Rattle.isl_space.specs.Name.{Name as NameView};
 ghost use Rattle.isl_expr.specs.declared.tree.Expr as trees;
 ghost use Rattle.isl_expr.specs.declared.tree.Stmt.TheVariants as s;
 ghost use Rattle.isl_kinds.specs.Parts.{parts_of};
-ghost use Rattle.isl_kinds.specs.Typed.{is_dollar};
+ghost use Rattle.isl_kinds.specs.Typed.{is_dollar, type_of_statement};
 ghost use Rattle.isl_stmt.specs.Names.{binds_dollar};
 ghost use Rattle.isl_values.specs.State.{Binds, Kept as KeptView, Moment, forgotten, scope_of, Fits, IsSettled};
 ghost use Rattle.isl_values.specs.Made.{IsPaid, IsWhyUnworked, uses_units};
 ghost use Rattle.isl_values.specs.Ends.{Ends, GoesOn};
 ghost use Rattle.isl_values.specs.Selection.{Keeps};
-ghost use Rattle.isl_eval.specs.Machine.{Answer, Step};
-ghost use Rattle.isl_eval.specs.Evaluated.{IsEvaluable, IsWhyEnded, works};
+ghost use Rattle.isl_eval.specs.Machine.{Step};
+ghost use Rattle.isl_eval.specs.Evaluated.{IsEvaluable, IsTyped, IsWhyEnded, works};
 
+use crate::answers::Answer;
 use crate::shown::{content, shown};
-use crate::step::Tally;
 use isl_expr::tree::{Expr, Stmt};
 use isl_flat::SimpleStmt;
-use isl_kinds::typed_statement;
+use isl_kinds::{Typed, typed_statement};
 use isl_meter::Meter;
 use isl_space::Name;
 use isl_text::refusal::Refusal;
-use isl_values::{Kept, State};
+use isl_values::State;
+use isl_words::Options;
 use std::alloc::Global;
+
+// The type of a statement that has one.
+fn type_of(alloc: Global, stmt: &Stmt, state: &State) -> Result<Typed, Refusal>
+    requires typed { IsTyped (scope_of state.now) stmt.now }
+    requires full { stmt.now ≢ s.Empty }
+    ensures typed { IfOk result (λ typed. type_of_statement (scope_of state.now) stmt.now ≡ Ok (Some typed)) }
+    ensures faults { IfErr result (λ refusal. refusal ≡ Refusal.NoMemory) }
+{
+    match typed_statement(alloc, stmt, state.scope()) {
+        Ok(Some(typed)) => Ok(typed),
+        Ok(None) => unreachable!(),
+        Err(refusal) => Err(refusal),
+    }
+}
 
 // Binds the name to what is kept of the expression.
 fn bound(
@@ -50,56 +65,48 @@ fn bound(
     ensures settled { OnOk result (is_dollar name.now ≡ false → IsSettled state.old → IsSettled state.new) }
 {
     let name = name.copy()?;
-    let typed = match typed_statement(alloc, stmt, state.scope()) {
-        Ok(Some(typed)) => typed,
-        Ok(None) => unreachable!(),
-        Err(refusal) => return Err(refusal),
-    };
-    let value = content(alloc, expr, state, meter)?;
-    state.bind(name, Kept::new(typed.kind(), value), typed)?;
+    let typed = type_of(alloc, stmt, state)?;
+    let kept = content(alloc, expr, typed.kind(), state, meter)?;
+    state.bind(name, kept, typed)?;
     Ok(())
 }
 
 /// Evaluates a simple statement. A parameter that is given no number counts as 0 where elements are listed.
 ///
-/// `Ok` appends the bytes of one whole answer, which may be none, and changes what is bound. A refusal appends nothing and
-/// leaves what is bound. (the iscc chapter of the barvinok manual)
+/// `Ok` gives one whole answer, which may be of no bytes, and changes what is bound. A refusal leaves what is bound. (the iscc chapter of
+/// the barvinok manual)
 ///
 /// # Errors
 /// What ends the evaluation first, operands from the left and inner ones first: `TooWide` where an operation has more than 16 parameters,
-/// or forms a space that is too wide, and `Unbounded` where infinitely many elements are to be listed. `Overflow` and `Budget` where the
-/// meter counted them; and `NoMemory`.
+/// or forms a space that is too wide; `NoMinimum` where there is no least or greatest element; and `Unbounded` where infinitely many
+/// elements are to be listed. `Overflow` and `Budget` where the meter counted them, at work that nothing ends before; and `NoMemory`.
 pub fn eval(
     alloc: Global,
     state: &mut State,
     stmt: &SimpleStmt,
-    at: &[(Name, i128)],
+    options: &Options,
     meter: &mut Meter,
-    text: &mut Vec<u8>,
-) -> Result<Tally, Refusal>
+) -> Result<Answer, Refusal>
     requires evaluable { IsEvaluable (scope_of state.old) stmt.now }
     requires fits { Fits (limit_of meter.old) state.old }
-    ensures ok { IfOk result (λ tally. (answer : Answer) × (text.new.items ≡ text.old.items ++ answer.bytes)
-        × (tally ≡ record { is_true = answer.is_true; elements = answer.elements })
-        × Step (record { state = state.old; meter = meter.old; at = at.now }) stmt.now
-        (record { state = state.new; meter = meter.new; at = at.now }) answer) }
-    ensures err { OnErr result ((state.new ≡ state.old) × (text.new.items ≡ text.old.items)) }
-    ensures cause { IfErr result (IsWhyEnded (record { state = state.old; meter = meter.old; at = at.now }) stmt.now meter.new) }
+    ensures ok { IfOk result (Step (record { state = state.old; meter = meter.old; options = options.now }) stmt.now
+        (record { state = state.new; meter = meter.new; options = options.now })) }
+    ensures err { OnErr result (state.new ≡ state.old) }
+    ensures cause { IfErr result (IsWhyEnded (record { state = state.old; meter = meter.old; options = options.now }) stmt.now meter.new) }
     ensures meter { MatchResult result (λ _. IsPaid (works stmt.now) meter.old meter.new) (λ _. IsKept meter.old meter.new) }
     ensures dollar { (name : NameView) (expr : trees.Expr) → stmt.now ≡ s.Bind name expr → is_dollar name ≡ true
         → forgotten state.new ≡ forgotten state.old }
     ensures settled { binds_dollar stmt.now ≡ false → IsSettled state.old → IsSettled state.new }
 {
     match stmt {
-        Stmt::Empty => Ok(Tally::NOTHING),
+        Stmt::Empty => Ok(Answer::nothing(alloc)),
         Stmt::Bind(name, expr) => {
             bound(alloc, stmt, name, expr, state, meter)?;
-            Ok(Tally::NOTHING)
+            Ok(Answer::nothing(alloc))
         }
         Stmt::Show(expr) => {
-            let line = shown(alloc, expr, state, at, meter)?;
-            text.extend_from_slice(line.text.as_bytes())?;
-            Ok(line.tally)
+            let typed = type_of(alloc, stmt, state)?;
+            shown(alloc, expr, typed.kind(), state, options, meter)
         }
     }
 }

@@ -4,30 +4,14 @@ ghost use Rattle.std.specs.Prelude.{◌≡◌};
 ghost use Rattle.std.specs.List.{list_any};
 ghost use Rattle.isl_kinds.specs.Parts.{parts_of, parts_of_links, parts_of_postfix, parts_of_postfixes};
 ghost use Rattle.isl_eval.specs.Unsupported as spec;
-ghost use Rattle.isl_eval.specs.Unsupported.{is_unsupported_operator, is_unsupported_part, is_unsupported_word};
+ghost use Rattle.isl_eval.specs.Unsupported.{is_unsupported_part, is_unsupported_word};
 
-use isl_expr::tree::{Binary, Expr, Link, Postfix, Prefix, Stmt};
-
-fn is_unsupported_operator(sign: Binary) -> bool
-    ensures { result ≡ is_unsupported_operator sign }
-{
-    matches!(
-        sign,
-        Binary::Gist
-            | Binary::LexLess
-            | Binary::LexLessEqual
-            | Binary::LexGreater
-            | Binary::LexGreaterEqual
-    )
-}
+use isl_expr::tree::{Expr, Link, Postfix, Prefix, Stmt};
 
 fn is_unsupported_word(word: Prefix) -> bool
     ensures { result ≡ is_unsupported_word word }
 {
-    matches!(
-        word,
-        Prefix::LexMin | Prefix::LexMax | Prefix::Coalesce | Prefix::Codegen
-    )
+    matches!(word, Prefix::Codegen)
 }
 
 #[cycle(unsupported)]
@@ -42,8 +26,12 @@ fn is_unsupported_expression(expr: &Expr) -> bool
         }
         Expr::Prefix(word, operand) => is_unsupported_word(*word)
             | is_unsupported_expression(operand.get()),
-        Expr::Any(..) => true,
-        Expr::Last(..) => true,
+        Expr::Any(source, sink, schedule) => {
+            is_unsupported_expression(source.get())
+                | is_unsupported_expression(sink.get())
+                | is_unsupported_expression(schedule.get())
+        }
+        Expr::Last(_, _, _) => true,
         Expr::Post(operand, postfixes) => {
             is_unsupported_expression(operand.get())
                 | are_unsupported_postfixes(postfixes.as_slice())
@@ -57,7 +45,7 @@ fn are_unsupported_links(links: &[Link]) -> bool
     ensures { result ≡ list_any is_unsupported_part (parts_of_links links.now) }
 {
     for link in links {
-        if is_unsupported_operator(link.operator) | is_unsupported_expression(&link.operand) {
+        if is_unsupported_expression(&link.operand) {
             return true;
         }
     }
@@ -69,9 +57,8 @@ fn is_unsupported_postfix(postfix: &Postfix) -> bool
     ensures { result ≡ list_any is_unsupported_part (parts_of_postfix postfix.now) }
 {
     match postfix {
-        Postfix::Inverse => false,
+        Postfix::Inverse | Postfix::Item(_) => false,
         Postfix::Apply(argument) => is_unsupported_expression(argument),
-        Postfix::Item(_) => true,
     }
 }
 

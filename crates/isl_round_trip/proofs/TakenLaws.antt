@@ -149,7 +149,7 @@ module _ (moment : Moment) (bits : moment.meter.bits ≤ 127) (value : KeptValue
                   (
                     no_error NoElement,
                     (
-                      (λ there. is_not _ refl (at_text (λ stmt. is_parametric (scope_of moment.state) moment.at stmt ≡ true) there)),
+                      (λ there. is_not _ refl (at_text (λ stmt. is_parametric (scope_of moment.state) moment.options.at stmt ≡ true) there)),
                       tt,
                     ),
                   ),

@@ -5,10 +5,10 @@ use Rattle.std.specs.List.{concat}
 use Rattle.std.specs.Result.{OnOk, OnErr, IfErr}
 use mathlib.Core.Logic.{inl, inr}
 use Rattle.std.specs.Io.KnownBytes.{Appends, Consumes, IsAtEnd}
-use Rattle.std.proofs.lemmas.List.{append-nil, append_assoc, length-append}
+use Rattle.std.proofs.lemmas.List.{append-nil, append_assoc, length-append, length_push}
 use Rattle.isl_math.specs.Count.{Rose}
 use Rattle.isl_meter.specs.Gauge.{Gauge}
-use Rattle.isl_space.specs.Valuation.{Valuation}
+use Rattle.isl_words.specs.Options.{OptionsView}
 use Rattle.isl_values.specs.State.{Moment}
 use Rattle.isl_script.specs.Script.{statements, rest_of, readable, next_part, ends, IsBlank}
 use Rattle.isl_text.specs.declared.refusal.Refusal.{Refusal}
@@ -20,7 +20,8 @@ use Rattle.isl_session.specs.Place.{Place, at_words, in_statement, too_long, pas
 use Rattle.isl_session.specs.View.{View, BreaksIn, Fed, Gives, IsMeterAt, Stopped, moment_of, opened}
 use Rattle.isl_session.specs.Status.{StatusView}
 use Rattle.isl_session.specs.Lines.{fault_line}
-use Rattle.isl_session.specs.Run.{Answered, Ended, Halts, HasCause, IsScriptOf, OfFirst, Outside, Progress, Tells, Wrote, number_at}
+use Rattle.isl_script.proofs.ScriptLaws.{rest-hold, statements-end, statements-hold}
+use Rattle.isl_session.specs.Run.{Answered, AreInFront, Ended, Halts, HasCause, IsScriptOf, OfFirst, Outside, Progress, Tells, Wrote, number_at}
 use Rattle.isl_session.proofs.RunLemmas.{fed_answered}
 use Rattle.isl_session.proofs.AheadLemmas.{ahead_of, readable-append, statements-readable, ahead_end, ahead_full, ahead_first, ahead_long}
 
@@ -53,9 +54,9 @@ EndedAt first script progress taken gained now old new refusal place =
     × Tells old new (fault_line (fault_of (number_at progress.answers place) refusal)) × IsMeterAt place progress.meter now
 
 -- the moment of a session that began at another
-moment_in : (first : Moment) (view : View) → view.at ≡ first.at
-    → moment_of view ≡ record { state = view.state; meter = view.meter; at = first.at }
-moment_in first view at = ap (λ (v : Valuation). let m : Moment = record { state = view.state; meter = view.meter; at = v } in m) at
+moment_in : (first : Moment) (view : View) → view.options ≡ first.options
+    → moment_of view ≡ record { state = view.state; meter = view.meter; options = first.options }
+moment_in first view same = ap (λ (o : OptionsView). let m : Moment = record { state = view.state; meter = view.meter; options = o } in m) same
 
 -- A run that took this front of a script, and after which the session and its meter are so.
 module _ (first : Moment) (script : List ℕ) (old new : Outside) (status : StatusView) (session : View)
@@ -93,7 +94,7 @@ module _ (first : Moment) (script : List ℕ) (old new : Outside) (status : Stat
       split = ap (λ (l : List ℕ). statements (take most_script_bytes l)) split ∙ statements-readable front more front_within;
       answers = answers;
       state = at_front.state;
-      run = subst (λ (m : Moment). Gives first (statements front) answers m) (moment_in first at_front fed.at) fed.run;
+      run = subst (λ (m : Moment). Gives first (statements front) answers m) (moment_in first at_front fed.options) fed.run;
       meter = at_front.meter;
       carried = fed.meter;
       short = fed.short.each;
@@ -175,26 +176,45 @@ module _ (first : Moment) (script : List ℕ) (old new : Outside) (status : Stat
       abbrev refused_here : View → List ℕ → Type 0
       refused_here at_front bytes =
           (length bytes ≤ most_statement_bytes)
-          × Refuses (started (record { state = at_front.state; meter = at_front.meter; at = first.at })) bytes session.meter refusal
+          × Refuses (started (record { state = at_front.state; meter = at_front.meter; options = first.options })) bytes session.meter refusal
 
       from_first : Refuses (started (moment_of stopped.at_front)) stopped.at_front.rest session.meter refusal
-          → Refuses (started (record { state = stopped.at_front.state; meter = stopped.at_front.meter; at = first.at }))
+          → Refuses (started (record { state = stopped.at_front.state; meter = stopped.at_front.meter; options = first.options }))
           stopped.at_front.rest
           session.meter refusal
       from_first refuses =
           subst (λ (m : Moment). Refuses (started m) stopped.at_front.rest session.meter refusal)
-          (moment_in first stopped.at_front stopped.fed.at) refuses
+          (moment_in first stopped.at_front stopped.fed.options) refuses
+
+      -- the statements before that byte, and what it ends, were taken
+      in_front : stopped.at_front.taken < most_script_bytes → ends (rest_of stopped.front) stopped.byte ≡ true
+          → AreInFront taken so_far.done (rest_of stopped.front)
+      in_front room ended = (
+        stopped.front ++ stopped.byte ∷ [],
+        stopped.behind,
+        stopped.split ∙ sym (append_assoc stopped.front (stopped.byte ∷ []) stopped.behind),
+        omega (arith, length_push stopped.front stopped.byte, stopped.fed.taken, room),
+        statements-end stopped.front stopped.byte ended,
+      )
+
+      abbrev refused_next : List ℕ → Type 0
+      refused_next bytes =
+          AreInFront taken so_far.done bytes × (length bytes ≤ most_statement_bytes)
+          × Refuses (started (record { state = so_far.state; meter = so_far.meter; options = first.options })) bytes session.meter refusal
+
+      refused_first : stopped.at_front.taken < most_script_bytes → Ends
+          → OfFirst refused_next so_far.ahead
+      refused_first room want =
+          let rest = stopped.fed.rest in
+          let ended = subst (λ (l : List ℕ). ends l stopped.byte ≡ true) rest want.0 in
+          let first_ahead = ahead_first stopped.front stopped.byte more (omega (arith, stopped.fed.taken, room)) ended in
+          let here = subst (refused_here stopped.at_front) rest (stopped.fed.short.last, from_first want.1) in
+          subst (OfFirst refused_next) (sym first_ahead.1) (in_front room ended, here.0, here.1)
 
       refused_in_statement : place_of refusal ≡ in_statement → Answered first script old new status
       refused_in_statement at =
           let breaks = breaks_at in_statement at in
-          let rest = stopped.fed.rest in
-          let ended = subst (λ (l : List ℕ). ends l stopped.byte ≡ true) rest breaks.1 in
-          let first_ahead = ahead_first stopped.front stopped.byte more (omega (arith, stopped.fed.taken, breaks.0)) ended in
-          let at_front = stopped.at_front in
-          let P : List ℕ → Type 0 = refused_here at_front in
-          halted_at in_statement at (subst (OfFirst P) (sym first_ahead.1)
-          (subst P rest (stopped.fed.short.last, from_first breaks.2))) gained_is number
+          halted_at in_statement at (refused_first breaks.0 (breaks.1, breaks.2)) gained_is number
 
       refused_too_long : place_of refusal ≡ too_long → Answered first script old new status
       refused_too_long at =
@@ -205,26 +225,23 @@ module _ (first : Moment) (script : List ℕ) (old new : Outside) (status : Stat
           let long = ahead_long front stopped.byte more (omega (arith, stopped.fed.taken, breaks.0)) held in
           let same : rest_of (readable (front ++ stopped.byte ∷ more)) ≡ rest_of (readable script) =
           ap (λ (l : List ℕ). rest_of (readable l)) (sym split_at) in
-          halted_at too_long at (omega (
-            arith,
-            breaks.2,
-            ap length rest,
-            long,
-            ap (λ (l : List ℕ). length (next_part (ahead_of front (stopped.byte ∷ more)) l)) same,
-          ))
-          gained_is number
+          let grown = rest-hold front stopped.byte held in
+          halted_at too_long at (
+            omega (arith, breaks.2, ap length rest, long, ap (λ (l : List ℕ). length (next_part (ahead_of front (stopped.byte ∷ more)) l)) same),
+            (
+              front ++ stopped.byte ∷ [],
+              stopped.behind,
+              stopped.split ∙ sym (append_assoc front (stopped.byte ∷ []) stopped.behind),
+              omega (arith, length_push front stopped.byte, stopped.fed.taken, breaks.0),
+              statements-hold front stopped.byte held,
+              omega (arith, ap length grown, length_push (rest_of front) stopped.byte, breaks.2, ap length rest),
+            ),
+          ) gained_is number
 
       refused_anywhere : place_of refusal ≡ anywhere → Answered first script old new status
       refused_anywhere at =
           let breaks = breaks_at anywhere at in
-          let rest = stopped.fed.rest in
-          let want = no_want breaks.1 in
-          let ended = subst (λ (l : List ℕ). ends l stopped.byte ≡ true) rest want.0 in
-          let first_ahead = ahead_first stopped.front stopped.byte more (omega (arith, stopped.fed.taken, breaks.0)) ended in
-          let at_front = stopped.at_front in
-          let P : List ℕ → Type 0 = refused_here at_front in
-          halted_at anywhere at (subst (OfFirst P) (sym first_ahead.1)
-          (subst P rest (stopped.fed.short.last, from_first want.1))) gained_is number
+          halted_at anywhere at (refused_first breaks.0 (no_want breaks.1)) gained_is number
 
       refused_past_limit : place_of refusal ≡ past_limit → Answered first script old new status
       refused_past_limit at =

@@ -1,16 +1,17 @@
 -- A statement that is refused stops its session at the byte that ends it.
-use Rattle.std.proofs.Common.{◌≡◌, ℕ, ◌<◌, List, [], ◌∷◌, true, refl, sym, ◌∙◌, ap, subst, inl, inr}
+use Rattle.std.proofs.Common.{◌≡◌, ℕ, ◌<◌, List, [], ◌∷◌, true, refl, sym, ◌∙◌, ap, subst, inl, inr, arith}
 use Rattle.isl_meter.specs.Gauge.{Gauge, IsKept}
 use Rattle.isl_script.specs.Script.{ends}
 use Rattle.isl_text.specs.declared.refusal.Refusal.{Refusal}
-use Rattle.isl_text.specs.declared.refusal.Refusal.TheVariants.{Overflow, Budget, NoMemory, TooWide, Unbounded}
-use Rattle.isl_values.specs.State.{Moment}
+use Rattle.isl_text.specs.declared.refusal.Refusal.TheVariants.{Overflow, Budget, NoMemory, NoMinimum, TooWide, Unbounded}
+use Rattle.isl_values.specs.State.{Moment, StateView}
 use Rattle.isl_eval.specs.Causes as c
 use Rattle.isl_eval.specs.Causes.{Cause, FirstGives, Refuses, causes, refusal_of}
-use Rattle.isl_eval.specs.Run.{started}
+use Rattle.isl_eval.specs.Machine.{Answer}
+use Rattle.isl_eval.specs.Run.{Answers, started}
 use Rattle.isl_space.specs.Limits.{most_script_bytes}
 use Rattle.isl_session.specs.Place.{Place, in_statement, place_of}
-use Rattle.isl_session.specs.View.{View, BreaksIn, IsMeterAt, moment_of}
+use Rattle.isl_session.specs.View.{View, BreaksIn, IsMeterAt, IsRefusedAt, moment_of}
 
 -- the causes of a statement's bytes come about where the statement ends
 place_of_cause : (cause : Cause) → place_of (refusal_of cause) ≡ in_statement
@@ -38,6 +39,7 @@ breaks_in_statement Overflow view byte now room ended cause = (room, ended, caus
 breaks_in_statement Budget view byte now room ended cause = (room, ended, cause)
 breaks_in_statement NoMemory view byte now room ended cause = (room, inl (ended, cause))
 breaks_in_statement TooWide view byte now room ended cause = (room, ended, cause)
+breaks_in_statement NoMinimum view byte now room ended cause = (room, ended, cause)
 breaks_in_statement Unbounded view byte now room ended cause = (room, ended, cause)
 breaks_in_statement refusal view byte now room ended cause =
     subst (λ (p : Place). BreaksIn p view byte now refusal)
@@ -50,7 +52,29 @@ meter_in_statement before bytes now Overflow cause kept = kept
 meter_in_statement before bytes now Budget cause kept = kept
 meter_in_statement before bytes now NoMemory cause kept = cause.0
 meter_in_statement before bytes now TooWide cause kept = kept
+meter_in_statement before bytes now NoMinimum cause kept = kept
 meter_in_statement before bytes now Unbounded cause kept = kept
 meter_in_statement before bytes now refusal cause kept =
     subst (λ (p : Place). IsMeterAt p before.meter now)
     (sym (place_of_first (c.IsThere (started before) bytes) causes refusal cause.0)) kept
+
+-- memory may end for the text of an answer
+pub no_room_for : (before : Moment) (bytes : List ℕ) (after : Moment) (answer : Answer) → Answers before bytes after answer
+    → Refuses before bytes after.meter NoMemory
+no_room_for before bytes after answer h = (
+  h.meter,
+  λ none. h.meter.same ∙ ap (λ (n : ℕ). let g : Gauge = record before.meter { units = n } in g)
+      (h.units (λ work. none (h.stmt, h.spelled, work))),
+)
+
+-- at a byte that ends a statement, which is refused and leaves what is bound
+pub refused_at_end : (old : View) (byte : ℕ) (state : StateView) (meter : Gauge) (refusal : Refusal) → old.taken < most_script_bytes
+    → ends old.rest byte ≡ true → state ≡ old.state → Refuses (started (moment_of old)) old.rest meter refusal
+    → IsKept (record old.meter { units = 0 }) meter
+    → IsRefusedAt old byte refusal (record old { state = state; meter = meter })
+refused_at_end old byte state meter refusal room ended same cause kept = record {
+  breaks = breaks_in_statement refusal old byte meter room ended cause;
+  same = ap (λ (s : StateView). let v : View = record old { state = s; meter = meter } in v) same;
+  meter = meter_in_statement (moment_of old) old.rest meter refusal cause kept;
+  room = omega arith;
+}

@@ -10,9 +10,9 @@ use Rattle.isl_script.specs.Script.{statements, rest_of, readable, next_part}
 use Rattle.isl_script.proofs.ScriptLaws.{next_part-long, rest-append, statements-append}
 use Rattle.isl_text.specs.declared.refusal.Refusal.{Refusal}
 use Rattle.isl_text.specs.declared.refusal.Refusal.TheVariants.{Usage, TooLong, Unfinished, Overflow, Budget, ReadFault, WriteFault}
-use Rattle.isl_text.specs.declared.refusal.Refusal.TheVariants.{NoMemory, ScriptTooLong, TooWide, Unbounded}
+use Rattle.isl_text.specs.declared.refusal.Refusal.TheVariants.{NoMemory, NoMinimum, ScriptTooLong, TooWide, Unbounded}
 use Rattle.isl_values.specs.State.{Moment}
-use Rattle.isl_values.specs.Ends.{too_wide, unbounded}
+use Rattle.isl_values.specs.Ends.{too_wide, no_minimum, unbounded}
 use Rattle.isl_eval.specs.Causes.{Cause, FirstGives, IsThere, IsValid, NoneIs, Refuses, causes}
 use Rattle.isl_eval.specs.Run.{started}
 use Rattle.isl_session.specs.declared.fault.Fault.{Fault}
@@ -20,7 +20,7 @@ use Rattle.isl_space.specs.Limits.{most_script_bytes, most_statement_bytes}
 use Rattle.isl_session.specs.Place.{Place, at_words, in_statement, too_long, past_limit, at_end, at_read, at_write, anywhere, place_of}
 use Rattle.isl_session.specs.View.{View, AreShort, BreaksIn, Carries, Stopped, moment_of}
 use Rattle.isl_session.specs.Status.{StatusView}
-use Rattle.isl_session.specs.Run.{Answered, Ended, HasCause, OfFirst, Outside, Progress}
+use Rattle.isl_session.specs.Run.{Answered, AreInFront, Ended, HasCause, OfFirst, Outside, Progress}
 use Rattle.isl_session.specs.Valid.{AreValid, IsDoneOrMemory, IsValidScript}
 use Rattle.isl_session.proofs.ScriptLemmas.{statements-ended}
 use Rattle.isl_session.proofs.FedLemmas.{fed_ready}
@@ -47,8 +47,9 @@ no_cause : (before : Moment) (bytes : List ℕ) (now : Gauge) → IsValid before
     → ¬ (Rose before.meter.spents now.spents)
     → (refusal : Refusal) → Refuses before bytes now refusal → refusal ≡ NoMemory
 no_cause before bytes now valid no_overflow no_spent NoMemory cause = refl
-no_cause before bytes now valid no_overflow no_spent Overflow cause = absurd (no_overflow cause.2.cause.0)
-no_cause before bytes now valid no_overflow no_spent Budget cause = absurd (no_spent cause.2.cause.1)
+no_cause before bytes now valid no_overflow no_spent Overflow cause = absurd (no_overflow cause.3.cause.0)
+no_cause before bytes now valid no_overflow no_spent Budget cause = absurd (no_spent cause.3.cause.1)
+no_cause before bytes now valid no_overflow no_spent NoMinimum cause = absurd (valid.goes_on no_minimum cause.1)
 no_cause before bytes now valid no_overflow no_spent Unbounded cause = absurd (valid.goes_on unbounded cause.1)
 no_cause before bytes now valid no_overflow no_spent TooWide (inl cause) =
     absurd (no_first (IsThere before bytes) causes TooWide valid.clear cause.0)
@@ -138,16 +139,16 @@ module _ (first : Moment) (script : List ℕ) (valid : IsValidScript first scrip
     (no_spent : ¬ (Rose first.meter.spents now.spents)) where
   -- the first statement ahead has no cause
   first_ahead : (refusal : Refusal) (ahead : List (List ℕ)) → progress.ahead ≡ ahead
-      → OfFirst (λ bytes. (length bytes ≤ most_statement_bytes)
-      × Refuses (started (record { state = progress.state; meter = progress.meter; at = first.at })) bytes now refusal) ahead
+      → OfFirst (λ bytes. AreInFront taken progress.done bytes × (length bytes ≤ most_statement_bytes)
+      × Refuses (started (record { state = progress.state; meter = progress.meter; options = first.options })) bytes now refusal) ahead
       → refusal ≡ NoMemory
   first_ahead refusal [] is cause = absurd cause
   first_ahead refusal (bytes ∷ later) is cause =
       let split = ap statements (sym (take_all most_script_bytes script valid.within)) ∙ progress.split
       ∙ ap (λ (l : List (List ℕ)). progress.done ++ l) is in
-      let moment : Moment = record { state = progress.state; meter = progress.meter; at = first.at } in
+      let moment : Moment = record { state = progress.state; meter = progress.meter; options = first.options } in
       no_cause_behind first.meter moment bytes now progress.carried
-      (valid.parts.each progress.done bytes later progress.answers moment split progress.run) no_overflow no_spent refusal cause.1
+      (valid.parts.each progress.done bytes later progress.answers moment split progress.run) no_overflow no_spent refusal cause.2
 
   only_memory : (refusal : Refusal) (place : Place) → place_of refusal ≡ place
       → HasCause first script progress taken now old new refusal place → refusal ≡ NoMemory
@@ -160,7 +161,7 @@ module _ (first : Moment) (script : List ℕ) (valid : IsValidScript first scrip
       let split : statements script ≡ progress.done ++ progress.ahead = ap statements (sym whole) ∙ progress.split in
       let next = short_next progress.done progress.ahead (rest_of script)
       (subst (λ (ps : List (List ℕ)). AreShort ps (rest_of script)) split valid.short) in
-      absurd (omega (arith, cause, next, ap (λ (l : List ℕ). length (next_part progress.ahead (rest_of l))) whole))
+      absurd (omega (arith, cause.0, next, ap (λ (l : List ℕ). length (next_part progress.ahead (rest_of l))) whole))
   only_memory refusal past_limit at cause = absurd (omega (arith, cause.1, valid.within, ap length script_is, length-append taken left))
   only_memory refusal anywhere at cause = memory_only refusal at
   only_memory refusal in_statement at cause = first_ahead refusal progress.ahead refl cause

@@ -7,7 +7,6 @@ use Rattle.std.proofs.lemmas.List.Elements.{All-nil, All-cons}
 use Rattle.std.specs.Prelude.{All}
 use Rattle.isl_script.specs.Script.{statements, rest_of, ends, IsOpen}
 use Rattle.isl_script.proofs.ScriptLaws.{open_rest, rest-open, statements-open}
-use Rattle.isl_eval.specs.declared.step.Tally.{Tally}
 use Rattle.isl_eval.specs.Machine.{Answer}
 use Rattle.isl_eval.specs.Run.{Answers, started}
 use Rattle.isl_space.specs.Limits.{most_script_bytes, most_statement_bytes}
@@ -22,18 +21,15 @@ counted-none : (counts : Counts) → counts ≡ counted counts []
 counted-none counts = counts_are counts (counted counts []) (omega arith) (omega arith) (omega arith)
 
 -- one answer more
-pub counted-one : (counts : Counts) (tally : Tally) (answer : Answer)
-    → tally ≡ record { is_true = answer.is_true; elements = answer.elements }
+pub counted-one : (counts : Counts) (answer : Answer)
     → ◌≡◌ {A = Counts} (record {
       statements = counts.statements + 1;
-      trues = counts.trues + (if tally.is_true then 1 else 0);
-      elements = counts.elements + tally.elements;
+      trues = counts.trues + (if answer.is_true then 1 else 0);
+      elements = counts.elements + answer.elements;
     }) (counted counts (answer ∷ []))
-counted-one counts tally answer is =
-    let trues : counts.trues + (if tally.is_true then 1 else 0) ≡ counts.trues + (0 + (if answer.is_true then 1 else 0)) =
-    omega (arith, ap {B = ℕ} (λ (t : Tally). if t.is_true then 1 else 0) is) in
-    let elements : counts.elements + tally.elements ≡ counts.elements + (0 + answer.elements) =
-    omega (arith, ap (λ (t : Tally). t.elements) is) in
+counted-one counts answer =
+    let trues : counts.trues + (if answer.is_true then 1 else 0) ≡ counts.trues + (0 + (if answer.is_true then 1 else 0)) = omega arith in
+    let elements : counts.elements + answer.elements ≡ counts.elements + (0 + answer.elements) = omega arith in
     ap₂ (λ (t e : ℕ). let n : Counts = record { statements = counts.statements + 1; trues = t; elements = e } in n) trues elements
 
 -- nothing of the script
@@ -53,7 +49,7 @@ ready_fed view ready = record {
   sound = ready.sound;
   meter = carries_refl view.meter;
   room = omega arith;
-  at = refl;
+  options = refl;
 }
 
 -- a session that took a piece
@@ -68,7 +64,7 @@ fed_ready a x ps b fed =
 
 module _ (old : View) (ready : IsReady old) (byte : ℕ) (new : View) (within : old.taken < most_script_bytes)
     (taken : new.taken ≡ old.taken + 1) (sound : new.fault ≡ None) (meter : Carries old.meter new.meter) (room : old.room ≤ new.room)
-    (at : new.at ≡ old.at) where
+    (options : new.options ≡ old.options) where
   -- a byte that ends a statement
   pub fed_end : (answer : Answer) → ends old.rest byte ≡ true → Answers (started (moment_of old)) old.rest (moment_of new) answer
       → new.rest ≡ [] → new.counts ≡ counted old.counts (answer ∷ []) → Fed old (byte ∷ []) (answer.bytes ∷ []) new
@@ -87,7 +83,7 @@ module _ (old : View) (ready : IsReady old) (byte : ℕ) (new : View) (within : 
     sound = sound;
     meter = meter;
     room = room;
-    at = at;
+    options = options;
   }
 
   -- another byte
@@ -104,7 +100,7 @@ module _ (old : View) (ready : IsReady old) (byte : ℕ) (new : View) (within : 
     sound = sound;
     meter = meter;
     room = room;
-    at = at;
+    options = options;
   }
 
 pub if_none : {A P : Type 0} (o : Option A) → P → IfNone o P

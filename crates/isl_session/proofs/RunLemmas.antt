@@ -110,7 +110,7 @@ Fed-append a x ps b y qs c first second =
       sound = second.sound;
       meter = carries_trans a.meter b.meter c.meter first.meter second.meter;
       room = omega (arith, first.room, second.room);
-      at = second.at ∙ first.at;
+      options = second.options ∙ first.options;
     }
 
 -- each statement of a piece that is answered is counted

@@ -80,7 +80,7 @@ pub record Progress (first : Moment) (script : List ℕ) : Type 0 where
   pub state : StateView
   -- the meter behind them
   pub meter : Gauge
-  pub run : Gives first done answers (record { state = state; meter = meter; at = first.at })
+  pub run : Gives first done answers (record { state = state; meter = meter; options = first.options })
   pub carried : Carries first.meter meter
   pub short : All (λ part. length part ≤ most_statement_bytes) done
 
@@ -89,20 +89,33 @@ abbrev pub OfFirst : (List ℕ → Type 0) → List (List ℕ) → Type 0
 OfFirst P [] = ⊥
 OfFirst P (bytes ∷ later) = P bytes
 
--- the first statement that is ahead is none too long, and is refused
-abbrev pub IsRefusedNext : (first : Moment) (script : List ℕ) → Progress first script → Gauge → Refusal → Type 0
-IsRefusedNext first script progress now refusal =
-    let before : Moment = record { state = progress.state; meter = progress.meter; at = first.at } in
-    OfFirst (λ bytes. (length bytes ≤ most_statement_bytes) × Refuses (started before) bytes now refusal) progress.ahead
+-- some front of what was taken has these statements, and this one behind them
+abbrev pub AreInFront : List ℕ → List (List ℕ) → List ℕ → Type 0
+AreInFront taken done bytes =
+    (front : List ℕ) × (behind : List ℕ) × (taken ≡ front ++ behind) × (length front ≤ most_script_bytes)
+    × (statements front ≡ done ++ bytes ∷ [])
+
+-- some front of what was taken has these statements, and more bytes behind them than a statement may have
+abbrev pub AreHeldInFront : List ℕ → List (List ℕ) → Type 0
+AreHeldInFront taken done =
+    (front : List ℕ) × (behind : List ℕ) × (taken ≡ front ++ behind) × (length front ≤ most_script_bytes) × (statements front ≡ done)
+    × (most_statement_bytes < length (rest_of front))
+
+-- the first statement that is ahead was taken whole, is none too long, and is refused
+abbrev pub IsRefusedNext : (first : Moment) (script : List ℕ) → Progress first script → List ℕ → Gauge → Refusal → Type 0
+IsRefusedNext first script progress taken now refusal =
+    let before : Moment = record { state = progress.state; meter = progress.meter; options = first.options } in
+    OfFirst (λ bytes. AreInFront taken progress.done bytes × (length bytes ≤ most_statement_bytes)
+    × Refuses (started before) bytes now refusal) progress.ahead
 
 -- Why a run ended where it did, by the place of the refusal. `taken` was read, and `now` is the meter at the refusal. Memory is asked
 -- for only while a statement is worked on.
 abbrev pub HasCause : (first : Moment) (script : List ℕ) → Progress first script
     → List ℕ → Gauge → Outside → Outside → Refusal → Place → Type 0
 HasCause first script progress taken now old new refusal at_words = ⊥
-HasCause first script progress taken now old new refusal in_statement = IsRefusedNext first script progress now refusal
+HasCause first script progress taken now old new refusal in_statement = IsRefusedNext first script progress taken now refusal
 HasCause first script progress taken now old new refusal too_long =
-    most_statement_bytes < length (next_part progress.ahead (rest_of (readable script)))
+    (most_statement_bytes < length (next_part progress.ahead (rest_of (readable script)))) × AreHeldInFront taken progress.done
 HasCause first script progress taken now old new refusal past_limit =
     (progress.ahead ≡ []) × (length taken ≡ most_script_bytes + 1) × (length (rest_of (readable script)) ≤ most_statement_bytes)
 HasCause first script progress taken now old new refusal at_end =
@@ -112,7 +125,7 @@ HasCause first script progress taken now old new refusal at_read =
     Rose old.reads new.reads × (progress.done ≡ statements taken) × (length taken ≤ most_script_bytes)
     × (length (rest_of taken) ≤ most_statement_bytes)
 HasCause first script progress taken now old new refusal at_write = Rose old.writes new.writes
-HasCause first script progress taken now old new refusal anywhere = IsRefusedNext first script progress now refusal
+HasCause first script progress taken now old new refusal anywhere = IsRefusedNext first script progress taken now refusal
 
 -- the whole script was read and answered, and nothing is left of it
 pub record IsDone (script : List ℕ) (ahead : List (List ℕ)) (taken : List ℕ) (new : Outside) : Type 0 where

@@ -18,7 +18,7 @@ view_of s = record {
   counts = s.counts;
   fault = s.fault;
   meter = s.meter;
-  at = s.options.at;
+  options = s.options;
 }
 
 pub record IsSound (s : Inside) : Type 0 where

@@ -3,7 +3,6 @@ use Rattle.std.specs.Prelude.{◌≡◌, ◌⊎◌, ℕ, ◌+◌, ◌<◌, ◌�
 use Rattle.std.specs.Prelude.{MatchResult}
 use Rattle.std.specs.List.{concat}
 use Rattle.isl_meter.specs.Gauge.{Gauge, IsCharged, IsKept}
-use Rattle.isl_space.specs.Valuation.{Valuation}
 use Rattle.isl_script.specs.Script.{statements, rest_of, ends, IsBlank, IsOpen}
 use Rattle.isl_text.specs.declared.refusal.Refusal.{Refusal}
 use Rattle.isl_text.specs.declared.refusal.Refusal.TheVariants.{Unfinished}
@@ -35,21 +34,29 @@ pub record View : Type 0 where
   pub counts : Counts
   pub fault : Option Fault
   pub meter : Gauge
-  -- the numbers that are given to parameters
-  pub at : Valuation
+  -- what the command line chooses
+  pub options : OptionsView
 
--- what is bound, the meter, and the numbers of parameters
+-- what is bound, the meter, and what is chosen
 abbrev pub moment_of : View → Moment
-moment_of view = record { state = view.state; meter = view.meter; at = view.at }
+moment_of view = record { state = view.state; meter = view.meter; options = view.options }
 
 -- the moment at which a run with these options begins: no name is bound, and nothing is counted
 abbrev pub begun : OptionsView → Moment
-begun options = record { state = unbound; meter = gauge_of options; at = options.at }
+begun options = record { state = unbound; meter = gauge_of options; options = options }
 
 -- a session that has taken nothing
 abbrev pub fresh : Moment → View
-fresh first =
-    record { state = first.state; rest = []; room = 0; taken = 0; counts = none; fault = None; meter = first.meter; at = first.at }
+fresh first = record {
+  state = first.state;
+  rest = [];
+  room = 0;
+  taken = 0;
+  counts = none;
+  fault = None;
+  meter = first.meter;
+  options = first.options;
+}
 
 -- the session of a run, which has taken nothing and has memory for the longest statement
 abbrev pub opened : Moment → View
@@ -81,7 +88,7 @@ pub record Fed (old : View) (piece : List ℕ) (answers : List (List ℕ)) (new 
   pub sound : new.fault ≡ None
   pub meter : Carries old.meter new.meter
   pub room : old.room ≤ new.room
-  pub at : new.at ≡ old.at
+  pub options : new.options ≡ old.options
 
 -- A session without a fault, which holds no whole statement.
 pub record IsReady (view : View) : Type 0 where

@@ -4,7 +4,7 @@ ghost use Rattle.std.specs.Prelude.{◌≡◌, ◌+◌, ◌≤◌, ◌<◌, ◌^
 ghost use Rattle.isl_space.specs.Limits.{most_script_bytes};
 ghost use Rattle.isl_session.specs.Counts.{AreCounts, none};
 
-use isl_eval::Tally;
+use isl_eval::Answer;
 
 /// How many statements were answered, how many of the answers are `True`, and how many elements they list. The counts are exact:
 /// a script has too few bytes for one of them to reach its greatest value.
@@ -28,20 +28,20 @@ impl Counts {
     }
 
     // With one more answer.
-    pub(crate) fn plus(self, tally: Tally) -> Counts
+    pub(crate) fn plus(self, answer: &Answer) -> Counts
         requires few { self.statements < most_script_bytes }
         requires counts { AreCounts self }
         ensures sum { result ≡ record {
           statements = self.statements + 1;
-          trues = self.trues + (if tally.is_true then 1 else 0);
-          elements = self.elements + tally.elements;
+          trues = self.trues + (if answer.now.is_true then 1 else 0);
+          elements = self.elements + answer.now.elements;
         } }
         ensures counts { AreCounts result }
     {
         Counts {
             statements: self.statements + 1,
-            trues: self.trues + u64::from(tally.is_true),
-            elements: self.elements + tally.elements as u128,
+            trues: self.trues + u64::from(answer.is_true()),
+            elements: self.elements + answer.elements() as u128,
         }
     }
 }

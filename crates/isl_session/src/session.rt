@@ -103,20 +103,20 @@ impl Session {
         let mut cutter = self.cutter;
         if cutter.push(byte) {
             self.meter.start();
-            let tally = match answer(
+            let answered = match answer(
                 self.alloc,
                 &self.rest,
                 &mut self.state,
-                self.options.at(),
+                &self.options,
                 &mut self.meter,
-                text,
             ) {
-                Ok(tally) => tally,
+                Ok(answered) => answered,
                 Err(refusal) => return Err(refusal),
             };
+            answered.append_to(text)?;
             self.rest.clear();
             self.cutter = cutter;
-            let grown = self.counts.plus(tally);
+            let grown = self.counts.plus(&answered);
             self.counts = grown;
             self.taken += 1;
             return Ok(true);

@@ -17,6 +17,7 @@ use isl_print::text_of;
 use isl_space::Name;
 use isl_union::{OpFault, Value};
 use isl_values::State;
+use isl_words::read_words;
 use std::alloc::{AllocError, Global};
 use std::io;
 use tests_made::Count;
@@ -28,15 +29,11 @@ fn bound(alloc: Global, literal: &str, meter: &mut Meter) -> Result<State, Alloc
 {
     let statement = format!(in alloc; "a := {literal}")?;
     let mut state = State::new(alloc);
-    let mut text = Vec::new(alloc);
-    let _tally = answer(
-        alloc,
-        statement.as_bytes(),
-        &mut state,
-        &[],
-        meter,
-        &mut text,
-    );
+    let words = [String::from_str(alloc, "iscc")?];
+    let Ok(options) = read_words(alloc, &words) else {
+        return Ok(state);
+    };
+    let _answered = answer(alloc, statement.as_bytes(), &mut state, &options, meter);
     Ok(state)
 }
 

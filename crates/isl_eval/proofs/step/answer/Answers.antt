@@ -1,75 +1,85 @@
 use Rattle.std.proofs.Common.{◌∙◌, ap, refl, subst, sym}
 use Rattle.isl_values.specs.State.{StateView}
 use Rattle.isl_eval.specs.Evaluation.{IsTaken}
-use Rattle.isl_eval.proofs.ShownLaws.{moment_of}
+use Rattle.isl_eval.proofs.MomentLaws.{moment_of}
 use Rattle.isl_eval.proofs.ChainLaws.{alone_plain}
-use Rattle.isl_eval.proofs.StepLaws.{finished_cause, finished_err, finished_fits, finished_ok, finished_settled}
+use Rattle.isl_eval.proofs.StepLaws.{finished_cause, finished_err, finished_fits, finished_ok, finished_settled, finished_shown}
 use Rattle.isl_eval.proofs.step.answer.Goals as goal
 
 pub evaluate-answered-requires-clause-evaluable : goal.evaluate-answered-requires-clause-evaluable
 evaluate-answered-requires-clause-evaluable c =
-    let before = moment_of c.args.state.now c.args.meter.now c.args.at.now in
+    let before = moment_of c.args.state.now c.args.meter.now c.args.options.now in
     (subst (IsTaken before c.args.bytes.now) (sym c.as_slice.ensures.value) (c.in-Ok.ensures before refl)).ready
 
 pub returns-clause-fits : goal.returns-clause-fits
 returns-clause-fits c =
-    let before = moment_of c.args.state.now c.args.meter.now c.args.at.now in
+    let before = moment_of c.args.state.now c.args.meter.now c.args.options.now in
     finished_fits before c.args.bytes.now c.as_slice.result.now
     (subst (IsTaken before c.args.bytes.now) (sym c.as_slice.ensures.value) (c.in-Ok.ensures before refl)) c.requires.settled
     c.requires.fits
-    (moment_of c.evaluate-answered.new.state c.evaluate-answered.new.meter c.args.at.now)
-    (moment_of c.forget_after.new.state c.evaluate-answered.new.meter c.args.at.now) refl
-    (ap (λ (s : StateView). moment_of s c.evaluate-answered.new.meter c.args.at.now) c.forget_after.ensures) c.args.text.now.items
-    c.evaluate-answered.new.text.items c.evaluate-answered.result c.evaluate-answered.ensures.ok c.evaluate-answered.ensures.err
+    (moment_of c.evaluate-answered.new.state c.evaluate-answered.new.meter c.args.options.now)
+    (moment_of c.forget_after.new.state c.evaluate-answered.new.meter c.args.options.now) refl
+    (ap (λ (s : StateView). moment_of s c.evaluate-answered.new.meter c.args.options.now) c.forget_after.ensures)
+    c.evaluate-answered.result c.evaluate-answered.ensures.ok c.evaluate-answered.ensures.err
     c.evaluate-answered.ensures.meter
 
 pub returns-clause-settled : goal.returns-clause-settled
 returns-clause-settled c =
-    let before = moment_of c.args.state.now c.args.meter.now c.args.at.now in
+    let before = moment_of c.args.state.now c.args.meter.now c.args.options.now in
     finished_settled before c.args.bytes.now c.as_slice.result.now
     (subst (IsTaken before c.args.bytes.now) (sym c.as_slice.ensures.value) (c.in-Ok.ensures before refl)) c.requires.settled
     c.requires.fits
-    (moment_of c.evaluate-answered.new.state c.evaluate-answered.new.meter c.args.at.now)
-    (moment_of c.forget_after.new.state c.evaluate-answered.new.meter c.args.at.now) refl
-    (ap (λ (s : StateView). moment_of s c.evaluate-answered.new.meter c.args.at.now) c.forget_after.ensures) c.args.text.now.items
-    c.evaluate-answered.new.text.items
+    (moment_of c.evaluate-answered.new.state c.evaluate-answered.new.meter c.args.options.now)
+    (moment_of c.forget_after.new.state c.evaluate-answered.new.meter c.args.options.now) refl
+    (ap (λ (s : StateView). moment_of s c.evaluate-answered.new.meter c.args.options.now) c.forget_after.ensures)
 
 pub returns-clause-ok : goal.returns-clause-ok
 returns-clause-ok c =
-    let before = moment_of c.args.state.now c.args.meter.now c.args.at.now in
+    let before = moment_of c.args.state.now c.args.meter.now c.args.options.now in
     finished_ok before c.args.bytes.now c.as_slice.result.now
     (subst (IsTaken before c.args.bytes.now) (sym c.as_slice.ensures.value) (c.in-Ok.ensures before refl)) c.requires.settled
     c.requires.fits
-    (moment_of c.evaluate-answered.new.state c.evaluate-answered.new.meter c.args.at.now)
-    (moment_of c.forget_after.new.state c.evaluate-answered.new.meter c.args.at.now) refl
-    (ap (λ (s : StateView). moment_of s c.evaluate-answered.new.meter c.args.at.now) c.forget_after.ensures) c.args.text.now.items
-    c.evaluate-answered.new.text.items c.evaluate-answered.result c.evaluate-answered.ensures.ok c.evaluate-answered.ensures.meter
+    (moment_of c.evaluate-answered.new.state c.evaluate-answered.new.meter c.args.options.now)
+    (moment_of c.forget_after.new.state c.evaluate-answered.new.meter c.args.options.now) refl
+    (ap (λ (s : StateView). moment_of s c.evaluate-answered.new.meter c.args.options.now) c.forget_after.ensures)
+    c.evaluate-answered.result c.evaluate-answered.ensures.ok c.evaluate-answered.ensures.meter
 
 pub returns-clause-err : goal.returns-clause-err
 returns-clause-err c =
-    let before = moment_of c.args.state.now c.args.meter.now c.args.at.now in
+    let before = moment_of c.args.state.now c.args.meter.now c.args.options.now in
     finished_err before c.args.bytes.now c.as_slice.result.now
     (subst (IsTaken before c.args.bytes.now) (sym c.as_slice.ensures.value) (c.in-Ok.ensures before refl)) c.requires.settled
     c.requires.fits
-    (moment_of c.evaluate-answered.new.state c.evaluate-answered.new.meter c.args.at.now)
-    (moment_of c.forget_after.new.state c.evaluate-answered.new.meter c.args.at.now) refl
-    (ap (λ (s : StateView). moment_of s c.evaluate-answered.new.meter c.args.at.now) c.forget_after.ensures) c.args.text.now.items
-    c.evaluate-answered.new.text.items c.evaluate-answered.result c.evaluate-answered.ensures.err
+    (moment_of c.evaluate-answered.new.state c.evaluate-answered.new.meter c.args.options.now)
+    (moment_of c.forget_after.new.state c.evaluate-answered.new.meter c.args.options.now) refl
+    (ap (λ (s : StateView). moment_of s c.evaluate-answered.new.meter c.args.options.now) c.forget_after.ensures)
+    c.evaluate-answered.result c.evaluate-answered.ensures.err
+
+pub returns-clause-shown : goal.returns-clause-shown
+returns-clause-shown c =
+    let before = moment_of c.args.state.now c.args.meter.now c.args.options.now in
+    finished_shown before c.args.bytes.now c.as_slice.result.now
+    (subst (IsTaken before c.args.bytes.now) (sym c.as_slice.ensures.value) (c.in-Ok.ensures before refl)) c.requires.settled
+    c.requires.fits
+    (moment_of c.evaluate-answered.new.state c.evaluate-answered.new.meter c.args.options.now)
+    (moment_of c.forget_after.new.state c.evaluate-answered.new.meter c.args.options.now) refl
+    (ap (λ (s : StateView). moment_of s c.evaluate-answered.new.meter c.args.options.now) c.forget_after.ensures)
+    c.evaluate-answered.result c.evaluate-answered.ensures.shown
 
 pub returns-clause-cause : goal.returns-clause-cause
 returns-clause-cause c =
-    let before = moment_of c.args.state.now c.args.meter.now c.args.at.now in
+    let before = moment_of c.args.state.now c.args.meter.now c.args.options.now in
     finished_cause before c.args.bytes.now c.as_slice.result.now
     (subst (IsTaken before c.args.bytes.now) (sym c.as_slice.ensures.value) (c.in-Ok.ensures before refl)) c.requires.settled
     c.requires.fits
-    (moment_of c.evaluate-answered.new.state c.evaluate-answered.new.meter c.args.at.now)
-    (moment_of c.forget_after.new.state c.evaluate-answered.new.meter c.args.at.now) refl
-    (ap (λ (s : StateView). moment_of s c.evaluate-answered.new.meter c.args.at.now) c.forget_after.ensures) c.args.text.now.items
-    c.evaluate-answered.new.text.items c.evaluate-answered.result c.evaluate-answered.ensures.cause
+    (moment_of c.evaluate-answered.new.state c.evaluate-answered.new.meter c.args.options.now)
+    (moment_of c.forget_after.new.state c.evaluate-answered.new.meter c.args.options.now) refl
+    (ap (λ (s : StateView). moment_of s c.evaluate-answered.new.meter c.args.options.now) c.forget_after.ensures)
+    c.evaluate-answered.result c.evaluate-answered.ensures.cause
 
 pub forget_after-requires : goal.forget_after-requires
 forget_after-requires c =
-    let before = moment_of c.args.state.now c.args.meter.now c.args.at.now in
+    let before = moment_of c.args.state.now c.args.meter.now c.args.options.now in
     λ only is.
     let all = sym c.as_slice-2.ensures.value ∙ is in
     c.evaluate-answered.ensures.settled only (c.as_slice.ensures.value ∙ all)

@@ -1,86 +1,87 @@
-use Rattle.std.proofs.Common.{◌<◌, ◌∷◌, ◌++◌, arith, length, refl, subst, [], rules}
+use Rattle.std.proofs.Common.{◌<◌, ◌∷◌, ◌++◌, arith, length, subst, [], rules}
 use Rattle.isl_values.specs.State.{scope_of}
 use Rattle.isl_eval.specs.Evaluation.{AreEvaluable}
-use Rattle.isl_eval.proofs.ShownLaws.{moment_of}
+use Rattle.isl_eval.proofs.MomentLaws.{moment_of}
 use Rattle.isl_eval.proofs.TestLaws.{refused}
 use Rattle.isl_eval.proofs.StepLaws.{alone_settled, turn_alone, left_first, left_start, loop_first, loop_last}
-use Rattle.isl_eval.proofs.StepLaws.{loop_next, loop_stopped, stopped_last, answered_last}
+use Rattle.isl_eval.proofs.StepLaws.{loop_next, loop_stopped, stopped_last, answered_last, shown_last}
 use Rattle.isl_eval.proofs.step.evaluate.Goals as goal
 
 pub loop-stmt-init : goal.loop-stmt-init
 loop-stmt-init c =
-    let before = moment_of c.args.state.now c.args.meter.now c.args.at.now in (
-      left_start before (c.in-Some.others.now ++ c.in-Some.last.now ∷ [])
-          (subst (AreEvaluable (scope_of c.args.state.now)) c.in-Some.ensures.cases.0 c.requires.evaluable) c.requires.fits,
-      refl,
-    )
+    left_start (moment_of c.args.state.now c.args.meter.now c.args.options.now) (c.in-Some.others.now ++ c.in-Some.last.now ∷ [])
+    (subst (AreEvaluable (scope_of c.args.state.now)) c.in-Some.ensures.cases.0 c.requires.evaluable) c.requires.fits
 
 pub eval-requires-clause-evaluable : goal.eval-requires-clause-evaluable
 eval-requires-clause-evaluable c =
     let low : c.loop-stmt.stmt-index < length c.in-Some.others.now = omega arith in
-    (left_first (moment_of c.args.state.now c.args.meter.now c.args.at.now)
-    (moment_of c.loop-stmt.state c.loop-stmt.meter c.args.at.now) _ c.stmt-item.result _
-    (loop_first (moment_of c.args.state.now c.args.meter.now c.args.at.now)
-    (moment_of c.loop-stmt.state c.loop-stmt.meter c.args.at.now) _ c.in-Some.others.now
-    c.in-Some.last.now c.stmt-item.result c.loop-stmt.stmt-index low c.stmt-item.is c.loop-stmt.invariant.0)).0
+    (left_first (moment_of c.args.state.now c.args.meter.now c.args.options.now)
+    (moment_of c.loop-stmt.state c.loop-stmt.meter c.args.options.now) _ c.stmt-item.result _
+    (loop_first (moment_of c.args.state.now c.args.meter.now c.args.options.now)
+    (moment_of c.loop-stmt.state c.loop-stmt.meter c.args.options.now) _ c.in-Some.others.now
+    c.in-Some.last.now c.stmt-item.result c.loop-stmt.stmt-index low c.stmt-item.is c.loop-stmt.invariant)).0
 
 pub eval-requires-clause-fits : goal.eval-requires-clause-fits
 eval-requires-clause-fits c =
     let low : c.loop-stmt.stmt-index < length c.in-Some.others.now = omega arith in
-    (left_first (moment_of c.args.state.now c.args.meter.now c.args.at.now)
-    (moment_of c.loop-stmt.state c.loop-stmt.meter c.args.at.now) _ c.stmt-item.result _
-    (loop_first (moment_of c.args.state.now c.args.meter.now c.args.at.now)
-    (moment_of c.loop-stmt.state c.loop-stmt.meter c.args.at.now) _ c.in-Some.others.now
-    c.in-Some.last.now c.stmt-item.result c.loop-stmt.stmt-index low c.stmt-item.is c.loop-stmt.invariant.0)).1
+    (left_first (moment_of c.args.state.now c.args.meter.now c.args.options.now)
+    (moment_of c.loop-stmt.state c.loop-stmt.meter c.args.options.now) _ c.stmt-item.result _
+    (loop_first (moment_of c.args.state.now c.args.meter.now c.args.options.now)
+    (moment_of c.loop-stmt.state c.loop-stmt.meter c.args.options.now) _ c.in-Some.others.now
+    c.in-Some.last.now c.stmt-item.result c.loop-stmt.stmt-index low c.stmt-item.is c.loop-stmt.invariant)).1
 
 pub loop-stmt-preserved : goal.loop-stmt-preserved
 loop-stmt-preserved c =
     let low : c.loop-stmt.stmt-index < length c.in-Some.others.now = omega arith in
-    let step = c.in_ok-eval.ensures.ok in
-    loop_next (moment_of c.args.state.now c.args.meter.now c.args.at.now) (moment_of c.loop-stmt.state c.loop-stmt.meter c.args.at.now)
-    (moment_of c.eval.new.state c.eval.new.meter c.args.at.now) c.in-Some.others.now c.in-Some.last.now c.stmt-item.result
-    c.loop-stmt.stmt-index
-    c.args.text.now.items c.loop-stmt.text.items c.eval.new.text.items step.0 low c.stmt-item.is c.loop-stmt.invariant.0 step.3
-    c.in_ok-eval.ensures.meter
-    c.in_ok-eval.ensures.dollar c.loop-stmt.invariant.1 step.1
+    loop_next (moment_of c.args.state.now c.args.meter.now c.args.options.now) (moment_of c.loop-stmt.state c.loop-stmt.meter c.args.options.now)
+    (moment_of c.eval.new.state c.eval.new.meter c.args.options.now) c.in-Some.others.now c.in-Some.last.now c.stmt-item.result
+    c.loop-stmt.stmt-index _ low c.stmt-item.is c.loop-stmt.invariant c.in_ok-eval.ensures.ok c.in_ok-eval.ensures.meter
+    c.in_ok-eval.ensures.dollar
 
 pub returns-in_err-eval-clause-cause : goal.returns-in_err-eval-clause-cause
 returns-in_err-eval-clause-cause c =
     let low : c.loop-stmt.stmt-index < length c.in-Some.others.now = omega arith in
     refused c.from_residual.result _ _ c.in_err-eval.field-0.0 (search rules)
-    (loop_stopped (moment_of c.args.state.now c.args.meter.now c.args.at.now)
-    (moment_of c.loop-stmt.state c.loop-stmt.meter c.args.at.now) c.args.statements.now
+    (loop_stopped (moment_of c.args.state.now c.args.meter.now c.args.options.now)
+    (moment_of c.loop-stmt.state c.loop-stmt.meter c.args.options.now) c.args.statements.now
     c.in-Some.others.now c.in-Some.last.now c.stmt-item.result c.loop-stmt.stmt-index c.eval.new.meter c.in_err-eval.field-0.0
     c.in-Some.ensures.cases.0 low
-    c.stmt-item.is c.loop-stmt.invariant.0 c.in_err-eval.ensures.cause)
+    c.stmt-item.is c.loop-stmt.invariant c.in_err-eval.ensures.cause)
 
 pub eval-requires-2-clause-fits : goal.eval-requires-2-clause-fits
 eval-requires-2-clause-fits c =
-    (left_first (moment_of c.args.state.now c.args.meter.now c.args.at.now)
-    (moment_of c.loop-stmt.state c.loop-stmt.meter c.args.at.now) _ c.in-Some.last.now _
-    (loop_last (moment_of c.args.state.now c.args.meter.now c.args.at.now)
-    (moment_of c.loop-stmt.state c.loop-stmt.meter c.args.at.now) c.in-Some.others.now
-    c.in-Some.last.now c.loop-stmt.stmt-index (omega arith) c.loop-stmt.invariant.0)).1
+    (left_first (moment_of c.args.state.now c.args.meter.now c.args.options.now)
+    (moment_of c.loop-stmt.state c.loop-stmt.meter c.args.options.now) _ c.in-Some.last.now _
+    (loop_last (moment_of c.args.state.now c.args.meter.now c.args.options.now)
+    (moment_of c.loop-stmt.state c.loop-stmt.meter c.args.options.now) c.in-Some.others.now
+    c.in-Some.last.now c.loop-stmt.stmt-index (omega arith) c.loop-stmt.invariant)).1
 
 pub returns-clause-ok : goal.returns-clause-ok
 returns-clause-ok c =
-    answered_last (moment_of c.args.state.now c.args.meter.now c.args.at.now) (moment_of c.loop-stmt.state c.loop-stmt.meter c.args.at.now)
-    (moment_of c.eval-2.new.state c.eval-2.new.meter c.args.at.now) c.args.statements.now c.in-Some.others.now c.in-Some.last.now
-    c.args.text.now.items
-    c.loop-stmt.text.items c.eval-2.new.text.items c.eval-2.result c.in-Some.ensures.cases.0
-    (loop_last (moment_of c.args.state.now c.args.meter.now c.args.at.now)
-    (moment_of c.loop-stmt.state c.loop-stmt.meter c.args.at.now) c.in-Some.others.now
-    c.in-Some.last.now c.loop-stmt.stmt-index (omega arith) c.loop-stmt.invariant.0) c.loop-stmt.invariant.1 c.eval-2.ensures.ok
-    c.eval-2.ensures.meter
+    answered_last (moment_of c.args.state.now c.args.meter.now c.args.options.now) (moment_of c.loop-stmt.state c.loop-stmt.meter c.args.options.now)
+    (moment_of c.eval-2.new.state c.eval-2.new.meter c.args.options.now) c.args.statements.now c.in-Some.others.now c.in-Some.last.now
+    c.eval-2.result c.in-Some.ensures.cases.0
+    (loop_last (moment_of c.args.state.now c.args.meter.now c.args.options.now)
+    (moment_of c.loop-stmt.state c.loop-stmt.meter c.args.options.now) c.in-Some.others.now
+    c.in-Some.last.now c.loop-stmt.stmt-index (omega arith) c.loop-stmt.invariant) c.eval-2.ensures.ok c.eval-2.ensures.meter
+
+pub returns-clause-shown : goal.returns-clause-shown
+returns-clause-shown c =
+    shown_last (moment_of c.args.state.now c.args.meter.now c.args.options.now)
+    (moment_of c.loop-stmt.state c.loop-stmt.meter c.args.options.now) (moment_of c.eval-2.new.state c.eval-2.new.meter c.args.options.now)
+    c.in-Some.others.now c.in-Some.last.now c.eval-2.result
+    (loop_last (moment_of c.args.state.now c.args.meter.now c.args.options.now)
+    (moment_of c.loop-stmt.state c.loop-stmt.meter c.args.options.now) c.in-Some.others.now
+    c.in-Some.last.now c.loop-stmt.stmt-index (omega arith) c.loop-stmt.invariant) c.eval-2.ensures.ok
 
 pub returns-clause-cause : goal.returns-clause-cause
 returns-clause-cause c =
-    stopped_last (moment_of c.args.state.now c.args.meter.now c.args.at.now)
-    (moment_of c.loop-stmt.state c.loop-stmt.meter c.args.at.now) c.args.statements.now
+    stopped_last (moment_of c.args.state.now c.args.meter.now c.args.options.now)
+    (moment_of c.loop-stmt.state c.loop-stmt.meter c.args.options.now) c.args.statements.now
     c.in-Some.others.now c.in-Some.last.now c.eval-2.new.meter c.eval-2.result c.in-Some.ensures.cases.0
-    (loop_last (moment_of c.args.state.now c.args.meter.now c.args.at.now)
-    (moment_of c.loop-stmt.state c.loop-stmt.meter c.args.at.now) c.in-Some.others.now
-    c.in-Some.last.now c.loop-stmt.stmt-index (omega arith) c.loop-stmt.invariant.0) c.eval-2.ensures.cause
+    (loop_last (moment_of c.args.state.now c.args.meter.now c.args.options.now)
+    (moment_of c.loop-stmt.state c.loop-stmt.meter c.args.options.now) c.in-Some.others.now
+    c.in-Some.last.now c.loop-stmt.stmt-index (omega arith) c.loop-stmt.invariant) c.eval-2.ensures.cause
 
 pub returns-in_err-eval-clause-settled : goal.returns-in_err-eval-clause-settled
 returns-in_err-eval-clause-settled c =
@@ -90,10 +91,10 @@ returns-in_err-eval-clause-settled c =
 
 pub returns-clause-settled : goal.returns-clause-settled
 returns-clause-settled c =
-    λ only is plain settled. alone_settled (moment_of c.args.state.now c.args.meter.now c.args.at.now)
-    (moment_of c.loop-stmt.state c.loop-stmt.meter c.args.at.now) c.args.statements.now c.in-Some.others.now c.in-Some.last.now only
+    λ only is plain settled. alone_settled (moment_of c.args.state.now c.args.meter.now c.args.options.now)
+    (moment_of c.loop-stmt.state c.loop-stmt.meter c.args.options.now) c.args.statements.now c.in-Some.others.now c.in-Some.last.now only
     c.eval-2.new.state
     c.in-Some.ensures.cases.0 is
-    (loop_last (moment_of c.args.state.now c.args.meter.now c.args.at.now)
-    (moment_of c.loop-stmt.state c.loop-stmt.meter c.args.at.now) c.in-Some.others.now
-    c.in-Some.last.now c.loop-stmt.stmt-index (omega arith) c.loop-stmt.invariant.0) plain settled c.eval-2.ensures.settled
+    (loop_last (moment_of c.args.state.now c.args.meter.now c.args.options.now)
+    (moment_of c.loop-stmt.state c.loop-stmt.meter c.args.options.now) c.in-Some.others.now
+    c.in-Some.last.now c.loop-stmt.stmt-index (omega arith) c.loop-stmt.invariant) plain settled c.eval-2.ensures.settled

@@ -1,12 +1,16 @@
 use Rattle.std.proofs.Common.{◌≡◌, ◌+◌, ◌∷◌, [], ◌++◌, ◌∙◌, List, ℕ, true, false, arith, ap, length, sym, subst, refl, vec_capacity}
+use Rattle.std.proofs.Common.{Result, Err, rules}
+use Rattle.std.specs.Prelude.{IfErr}
 use Rattle.std.proofs.lemmas.List.{append-nil, length_push}
 use Rattle.isl_meter.specs.Gauge.{Gauge, IsKept, limit_of}
+use Rattle.isl_meter.proofs.CutLemmas.{IsKept-charged}
+use Rattle.isl_text.specs.declared.refusal.Refusal.TheVariants.{NoMemory}
 use Rattle.isl_script.specs.Script.{ends, IsOpen, Place}
 use Rattle.isl_script.specs.Cutter.{IsAt}
 use Rattle.isl_script.proofs.ScriptLaws.{depth-le-length, open_nil, open_push}
-use Rattle.isl_space.specs.Valuation.{Valuation}
-use Rattle.isl_values.specs.State.{StateView, Moment, Fits}
+use Rattle.isl_values.specs.State.{Moment, Fits}
 use Rattle.isl_eval.specs.Causes.{Refuses}
+use Rattle.isl_eval.specs.Machine.{Answer}
 use Rattle.isl_eval.specs.Run.{Answers, started}
 use Rattle.isl_session.specs.declared.counts.Counts.{Counts}
 use Rattle.isl_session.specs.View.{View, Fed, IsRefusedAt, moment_of}
@@ -14,7 +18,7 @@ use Rattle.isl_session.specs.Session.{view_of}
 use Rattle.isl_session.proofs.MeterLemmas.{carries_started, carries_refl}
 use Rattle.isl_session.proofs.SoundLemmas.{sound_ready}
 use Rattle.isl_session.proofs.FedLemmas.{counted-one, fed_end, fed_held}
-use Rattle.isl_session.proofs.BreakLemmas.{breaks_in_statement, meter_in_statement}
+use Rattle.isl_session.proofs.BreakLemmas.{no_room_for, refused_at_end}
 use Rattle.isl_session.proofs.session.Session.take_byte.Goals as goal
 
 pub push-requires : goal.push-requires
@@ -32,44 +36,48 @@ pub returns-in-Err-clause-err : goal.returns-in-Err-clause-err
 returns-in-Err-clause-err c =
     let inside = c.self.inside in
     let old = view_of inside in
-    let rest = inside.rest.items in
-    let after_answer = c.in-Err.ensures.err in
-    let ends_there : ends rest c.args.byte ≡ true = sym (c.if-push.ensures.ends rest c.self.invariant.place) in
+    let ends_there : ends inside.rest.items c.args.byte ≡ true = sym (c.if-push.ensures.ends inside.rest.items c.self.invariant.place) in
     let begun : c.start.new.self ≡ record inside.meter { units = 0 } = c.start.ensures in
-    let given = subst (λ (v : Valuation). let m : Moment = record { state = inside.state; meter = c.start.new.self; at = v } in
-    Refuses m c.deref.result.now c.answer.new.meter c.in-Err.refusal) c.at.ensures c.in-Err.ensures.cause in
     let cause = subst (λ (bytes : List ℕ). Refuses (started (moment_of old)) bytes c.answer.new.meter c.in-Err.refusal)
     c.deref.ensures.value
-    (subst (λ (g : Gauge). let m : Moment = record { state = inside.state; meter = g; at = inside.options.at } in
-    Refuses m c.deref.result.now c.answer.new.meter c.in-Err.refusal) begun given) in
-    let room = vec_capacity inside.rest in
-    let new : View = record {
-      state = c.answer.new.state;
-      rest = rest;
-      room = room;
-      taken = inside.taken;
-      counts = inside.counts;
-      fault = inside.fault;
-      meter = c.answer.new.meter;
-      at = inside.options.at;
-    } in
-    let refused : IsRefusedAt old c.args.byte c.in-Err.refusal new = record {
-      breaks = breaks_in_statement c.in-Err.refusal old c.args.byte c.answer.new.meter c.if-self-ge-SCRIPT_MAX.false ends_there cause;
-      same = ap (λ (s : StateView). let v : View = record {
-        state = s;
-        rest = rest;
-        room = room;
-        taken = inside.taken;
-        counts = inside.counts;
-        fault = inside.fault;
-        meter = c.answer.new.meter;
-        at = inside.options.at;
-      } in v) after_answer.0;
-      meter = meter_in_statement (moment_of old) rest c.answer.new.meter c.in-Err.refusal cause
-          (subst (λ (g : Gauge). IsKept g c.answer.new.meter) begun c.in-Err.ensures.meter);
-      room = omega arith;
-    } in
-    (after_answer.1, subst (λ (v : View). IsRefusedAt v c.args.byte c.in-Err.refusal new) c.self.view_is refused)
+    (subst (λ (g : Gauge). let m : Moment = record { state = inside.state; meter = g; options = inside.options } in
+    Refuses m c.deref.result.now c.answer.new.meter c.in-Err.refusal) begun c.in-Err.ensures.cause) in
+    let refused = refused_at_end old c.args.byte c.answer.new.state c.answer.new.meter c.in-Err.refusal c.if-self-ge-SCRIPT_MAX.false
+    ends_there c.in-Err.ensures.err cause (subst (λ (g : Gauge). IsKept g c.answer.new.meter) begun c.in-Err.ensures.meter) in (
+      refl,
+      subst (λ (v : View). IsRefusedAt v c.args.byte c.in-Err.refusal (record old { state = c.answer.new.state; meter = c.answer.new.meter }))
+          c.self.view_is refused,
+    )
+
+refused_by : {A E : Type 0} (result : Result A E) (P : E → Type 0) (refusal : E) → result ≡ Err refusal → P refusal → IfErr result P
+refused_by result P refusal is h = subst (λ (r : Result _ _). IfErr r P) (sym is) h
+
+-- the answer, from a meter that begins anew
+answered_here : (old : View) (bytes : List ℕ) (began : Gauge) (after : Moment) (answer : Answer) → began ≡ record old.meter { units = 0 }
+    → bytes ≡ old.rest → (let m : Moment = record { state = old.state; meter = began; options = old.options } in Answers m bytes after answer)
+    → Answers (started (moment_of old)) old.rest after answer
+answered_here old bytes began after answer begun same h =
+    subst (λ (l : List ℕ). Answers (started (moment_of old)) l after answer) same
+    (subst (λ (g : Gauge). let m : Moment = record { state = old.state; meter = g; options = old.options } in Answers m bytes after answer)
+    begun h)
+
+pub returns-in_err-append_to-clause-err : goal.returns-in_err-append_to-clause-err
+returns-in_err-append_to-clause-err c =
+    let inside = c.self.inside in
+    let old = view_of inside in
+    let ends_there : ends inside.rest.items c.args.byte ≡ true = sym (c.if-push.ensures.ends inside.rest.items c.self.invariant.place) in
+    let after : Moment = record { state = c.answer.new.state; meter = c.answer.new.meter; options = inside.options } in
+    let answers = answered_here old c.deref.result.now c.start.new.self after c.in-Ok.answered c.start.ensures c.deref.ensures.value
+    c.in-Ok.ensures.ok in
+    let refused = refused_at_end old c.args.byte c.answer.new.state c.answer.new.meter NoMemory c.if-self-ge-SCRIPT_MAX.false ends_there
+    (c.in-Ok.ensures.shown c.in_err-append_to.ensures.err.1)
+    (no_room_for (started (moment_of old)) inside.rest.items _ c.in-Ok.answered answers)
+    (IsKept-charged (record inside.meter { units = 0 }) c.answer.new.meter answers.meter) in
+    refused_by c.from_residual.result _ NoMemory (search rules) (
+      c.in_err-append_to.ensures.err.0,
+      subst (λ (v : View). IsRefusedAt v c.args.byte NoMemory (record old { state = c.answer.new.state; meter = c.answer.new.meter }))
+          c.self.view_is refused,
+    )
 
 pub invariant_of-self-then-push : goal.invariant_of-self-then-push
 invariant_of-self-then-push c =
@@ -94,17 +102,10 @@ returns-then-push-clause-ok c =
     let rest = inside.rest.items in
     let sound = ap (λ (v : View). v.fault) c.self.view_is ∙ c.requires in
     let ready = sound_ready inside c.self.invariant sound in
-    let tally = c.in-Ok.tally in
-    let one = c.in-Ok.ensures.ok in
+    let answer = c.in-Ok.answered in
     let ends_there : ends rest c.args.byte ≡ true = sym (c.if-push.ensures.ends rest c.self.invariant.place) in
-    let begun : c.start.new.self ≡ record inside.meter { units = 0 } = c.start.ensures in
-    let after : Moment = record { state = c.answer.new.state; meter = c.answer.new.meter; at = inside.options.at } in
-    let given = subst (λ (v : Valuation). let m : Moment = record { state = inside.state; meter = c.start.new.self; at = v } in
-    let n : Moment = record { state = c.answer.new.state; meter = c.answer.new.meter; at = v } in
-    Answers m c.deref.result.now n one.0) c.at.ensures one.3 in
-    let step = subst (λ (bytes : List ℕ). Answers (started (moment_of old)) bytes after one.0) c.deref.ensures.value
-    (subst (λ (g : Gauge). let m : Moment = record { state = inside.state; meter = g; at = inside.options.at } in
-    Answers m c.deref.result.now after one.0) begun given) in
+    let after : Moment = record { state = c.answer.new.state; meter = c.answer.new.meter; options = inside.options } in
+    let step = answered_here old c.deref.result.now c.start.new.self after answer c.start.ensures c.deref.ensures.value c.in-Ok.ensures.ok in
     let new : View = record {
       state = c.answer.new.state;
       rest = c.clear.new.self.items;
@@ -113,15 +114,15 @@ returns-then-push-clause-ok c =
       counts = c.plus-grown.result;
       fault = inside.fault;
       meter = c.answer.new.meter;
-      at = inside.options.at;
+      options = inside.options;
     } in
     let carried = carries_started inside.meter c.answer.new.meter step.meter in
-    let counts = c.plus-grown.ensures.sum ∙ counted-one inside.counts tally one.0 one.2 in
+    let counts = c.plus-grown.ensures.sum ∙ counted-one inside.counts answer in
     let fed = fed_end old ready c.args.byte new c.if-self-ge-SCRIPT_MAX.false refl sound carried
-    (omega (arith, c.clear.ensures.capacity)) refl one.0 ends_there step c.clear.ensures.items counts in (
-      one.0.bytes ∷ [],
-      one.1 ∙ ap (λ (l : List ℕ). c.args.text.now.items ++ l) (sym (append-nil one.0.bytes)),
-      subst (λ (v : View). Fed v (c.args.byte ∷ []) (one.0.bytes ∷ []) new) c.self.view_is fed,
+    (omega (arith, c.clear.ensures.capacity)) refl answer ends_there step c.clear.ensures.items counts in (
+      answer.bytes ∷ [],
+      c.in_ok-append_to.ensures.ok ∙ ap (λ (l : List ℕ). c.args.text.now.items ++ l) (sym (append-nil answer.bytes)),
+      subst (λ (v : View). Fed v (c.args.byte ∷ []) (answer.bytes ∷ []) new) c.self.view_is fed,
       omega arith,
       λ bad. absurd (let no : ⊥ = cc in no),
     )
@@ -159,7 +160,7 @@ returns-clause-ok c =
       counts = inside.counts;
       fault = inside.fault;
       meter = inside.meter;
-      at = inside.options.at;
+      options = inside.options;
     } in
     let fed = fed_held old ready c.args.byte new c.if-self-ge-SCRIPT_MAX.false refl sound (carries_refl inside.meter)
     (omega (arith, c.in_ok-push.ensures.capacity)) refl held c.in_ok-push.ensures.items refl refl
