@@ -1,7 +1,7 @@
 -- The divisors of printed trees are at least 1.
 use mathlib.Core.Former.{Count}
-use Rattle.std.proofs.Common.{◌≡◌, ◌∙◌, ℕ, ℤ, pos, ◌<ℤ◌, Bool, true, false, List, [], ◌∷◌, ◌++◌, map, ap, ap₂, sym, subst, refl, unsigned_abs}
-use Rattle.std.specs.List.{All, list_all, AllByRecursion}
+use Rattle.std.proofs.Common.{◌≡◌, ◌∙◌, ℕ, ℤ, pos, ◌<ℤ◌, true, List, [], ◌∷◌, ◌++◌, map, ap, ap₂, sym, subst, refl, unsigned_abs}
+use Rattle.std.specs.List.{list_all, AllByRecursion}
 use Rattle.std.proofs.lemmas.Bool.{and_parts, false≢true}
 use Rattle.std.proofs.lemmas.List.Elements.{All-cons, recursion_from_All}
 use Rattle.isl_space.specs.Name.{Name}

@@ -1,9 +1,9 @@
 -- What an expression selects lies in spaces of its kind, and so do the pieces of a kept value with these elements.
 use mathlib.Core.Former.{Count}
-use Rattle.std.proofs.Common.{◌≡◌, ◌∙◌, inl, inr, ◌⊎◌, Bool, true, false, List, [], ◌∷◌, Option, Some, None, All, sym, ap, subst, refl}
-use Rattle.std.specs.Prelude.{is_some, is_none, ◌&&◌, ◌||◌, option_map, Any}
+use Rattle.std.proofs.Common.{◌≡◌, ◌∙◌, inl, inr, ◌⊎◌, Bool, true, false, List, [], ◌∷◌, ◌++◌, Option, Some, None, All, sym, ap, subst, refl}
+use Rattle.std.specs.Prelude.{is_some, is_none, ◌&&◌, ◌||◌, option_map, Any, MatchOption}
 use Rattle.std.specs.Option.{option_and_then}
-use Rattle.std.specs.List.{list_all}
+use Rattle.std.specs.List.{list_all, list_any}
 use Rattle.std.proofs.lemmas.Bool.{and_parts, false≢true}
 use Rattle.std.proofs.lemmas.List.Elements.{All-nil, All-cons, All-head, All-tail, All-weaker}
 use Rattle.isl_math.proofs.ListLaws.{Any-none, Any-first, Any-later, Any-cases}
@@ -23,7 +23,8 @@ use Rattle.isl_tree.specs.declared.tree.Tuple.{Tuple}
 use Rattle.isl_tree.specs.Literal.{PieceHas, space_of_piece}
 use Rattle.isl_text.specs.Formed.{are_distinct, are_alike, are_sets, are_maps, piece_is_formed}
 use Rattle.isl_expr.specs.declared.tree.ValueKind.{ValueKind}
-use Rattle.isl_expr.specs.declared.tree.ValueKind.TheVariants.{Set, Map}
+use Rattle.isl_expr.specs.declared.tree.ValueKind.TheVariants.{Set, Map, List as Pair}
+use Rattle.isl_expr.specs.declared.tree.Binary.TheVariants as b
 use Rattle.isl_expr.specs.declared.tree.Prefix.TheVariants as p
 use Rattle.isl_expr.specs.declared.tree.Postfix.{Postfix, Inverse, Apply, Item}
 use Rattle.isl_expr.specs.declared.tree.Expr as e
@@ -31,25 +32,31 @@ use Rattle.isl_expr.specs.declared.tree.Expr.{Expr, Row', Prefix', Any', Last', 
 use Rattle.isl_expr.specs.declared.tree.Expr.{Row_of-Link, end_of-Link, more_of-Link, Row_of-Postfix, end_of-Postfix, more_of-Postfix}
 use Rattle.isl_expr.specs.Expr.{literals_of, literals_in, literals_in_links, literals_in_postfixes, literals_in_postfix}
 use Rattle.isl_operators.specs.Operations.{OperatorHas}
-use Rattle.isl_kinds.specs.Lines.{joined, prefixed, item}
-use Rattle.isl_kinds.specs.Typed.{TypeView, by_two, kind_of_pieces, kind_of_image}
+use Rattle.isl_operators.specs.Made.{IsAnyWordOf}
+use Rattle.isl_kinds.specs.Lines.{joined, prefixed}
+use Rattle.isl_kinds.specs.Parts.{parts_of, parts_in, parts_in_links}
+use Rattle.isl_kinds.specs.Typed.{TypeView, by_two, declared_in, kind_of_pieces, kind_of_image}
 use Rattle.isl_kinds.specs.Typed.{kind_of, kind_in, kind_past_links, kind_past_postfixes, kind_past}
-use Rattle.isl_values.specs.State.{Kept, StateView, kept_of, scope_of, type_of}
-use Rattle.isl_values.specs.Selection.{KeptHas, PostfixHas, Selects, SelectsIn, SelectsPastLinks, SelectsPastPostfixes}
-use Rattle.isl_values.specs.Selection.{IsContentOf, IsSelectedIn}
+use Rattle.isl_values.specs.declared.list.ListPart.{ListPart}
+use Rattle.isl_values.specs.declared.list.ListPart.TheVariants.{First}
+use Rattle.isl_values.specs.State.{Kept, StateView, kept_of, scope_of, type_of, value_at}
+use Rattle.isl_values.specs.Worked.{part_taken}
+use Rattle.isl_values.specs.Selection.{KeptHas, PostfixHas, SelectsAt, SelectsIn, SelectsPastLinks, SelectsPastPostfixes}
+use Rattle.isl_values.specs.Selection.{IsContentOf, IsGistOfTwo, IsSelected, IsSelectedAt, IsSelectedIn, context_of}
 use Rattle.isl_values.proofs.StateLaws.{bound_at}
-use Rattle.isl_values.proofs.PartLaws.{all_left, all_right}
+use Rattle.isl_values.proofs.PartLaws.{all_left, all_right, quiet_both}
 use Rattle.isl_eval.proofs.LiteralLaws.{IsSpelled}
 use Rattle.isl_round_trip.specs.Written.{IsSet, IsMap, IsUniform, IsSpaceOf, IsOfKind}
-use Rattle.isl_round_trip.specs.TakenAgain.{AreWritable}
+use Rattle.isl_round_trip.specs.TakenAgain.{AreWritable, is_gist}
 use Rattle.isl_round_trip.proofs.KindOfOperations.{AreOfKind, some_same, none_some, as_kind, no_element}
-use Rattle.isl_round_trip.proofs.KindOfOperations.{of_inverse, of_word, of_operator, of_application}
+use Rattle.isl_round_trip.proofs.KindOfOperations.{of_inverse, of_item, of_word, of_operator, of_application, of_any, of_last}
 
 -- ---- kinds
 -- what is not without a space of its kind has one
 stable : (kind : ValueKind) (space : SpaceForm) → ¬ (¬ IsSpaceOf kind space) → IsSpaceOf kind space
 stable Set (set_of form) there = tt
 stable Map (map_of from to) there = tt
+stable Pair (map_of from to) there = tt
 stable kind space there = absurd (there (λ h. h))
 
 -- ---- the pieces of a value with elements in such spaces
@@ -140,44 +147,56 @@ alike_of literal spelled =
 
 -- ---- expressions
 module _ (state : StateView) (valuation : Valuation) (all : AreWritable state) where
-  named_kind : (name : Name) (kind : ValueKind) (element : Element) → kind_of (scope_of state) (e.Name name) ≡ Some kind
-      → Selects state (e.Name name) valuation element → IsSpaceOf kind element.space
-  named_kind name kind element is has = by (kept_of state name) refl has
+  named_kind : (part : ListPart) (name : Name) (kind : ValueKind) (element : Element) → kind_of (scope_of state) (e.Name name) ≡ Some kind
+      → SelectsAt state part (e.Name name) valuation element → IsSpaceOf kind element.space
+  named_kind part name kind element is has = by (kept_of state name) refl has
     where
-      by : (o : Option Kept) → kept_of state name ≡ o → KeptHas o valuation element → IsSpaceOf kind element.space
+      by : (o : Option Kept) → kept_of state name ≡ o → KeptHas part o valuation element → IsSpaceOf kind element.space
       by None none has = absurd has
       by (Some kept) there has =
           let same : kept.kind ≡ kind = some_same kept.kind kind
           (sym (ap (option_map (λ (t : TypeView). t.kind)) (bound_at state name ∙ ap (option_map type_of) there)) ∙ is) in
+          let value = value_at part kept in
           subst (λ (k : ValueKind). IsSpaceOf k element.space) same
-          (has_kind kept.kind kept.value.params valuation element kept.value.pieces (all name kept there).0 has)
+          (has_kind kept.kind value.params valuation element value.pieces (all name kept there part).0 has)
 
   mutual
-    pub selected_kind : (expr : Expr) → All IsSpelled (literals_of expr)
-        → AreOfKind (λ x. Selects state expr valuation x) (kind_of (scope_of state) expr)
-    selected_kind (e.Name name) spelled = record { lies = λ kind is element has. named_kind name kind element is has }
-    selected_kind (e.Literal literal) spelled = record {
+    pub selected_kind : (part : ListPart) (expr : Expr) → All IsSpelled (literals_of expr)
+        → AreOfKind (λ x. SelectsAt state part expr valuation x) (kind_of (scope_of state) expr)
+    selected_kind part (e.Name name) spelled = record { lies = λ kind is element has. named_kind part name kind element is has }
+    selected_kind part (e.Literal literal) spelled = record {
       lies = λ kind is element has. as_kind element.space (kind_of_pieces literal.pieces) kind is
           (in_pieces literal.params valuation element literal.pieces (alike_of literal (All-head IsSpelled literal [] spelled)) has);
     }
-    selected_kind (Row' s first t links) spelled =
-        links_kind _ (λ x. SelectsIn state first valuation x) (kind_in (scope_of state) first) links
-        (in_kind _ first (all_left IsSpelled (literals_in first) (literals_in_links links) spelled))
+    selected_kind part (Row' s first t links) spelled =
+        links_kind _ (λ x. SelectsIn state First first valuation x) (kind_in (scope_of state) first) links
+        (in_kind _ First first (all_left IsSpelled (literals_in first) (literals_in_links links) spelled))
         (all_right IsSpelled (literals_in first) (literals_in_links links) spelled)
-    selected_kind (Prefix' word s operand) spelled =
-        of_word word (λ x. SelectsIn state operand valuation x) (kind_in (scope_of state) operand) (in_kind _ operand spelled)
-    selected_kind (Any' p source s sink t schedule) spelled = no_element (kind_of (scope_of state) (Any' p source s sink t schedule))
-    selected_kind (Last' p source s sink t schedule) spelled = no_element (kind_of (scope_of state) (Last' p source s sink t schedule))
-    selected_kind (Post' s operand t postfixes) spelled =
-        postfixes_kind _ (λ x. SelectsIn state operand valuation x) (kind_in (scope_of state) operand) postfixes
-        (in_kind _ operand (all_left IsSpelled (literals_in operand) (literals_in_postfixes postfixes) spelled))
+    selected_kind part (Prefix' word s operand) spelled =
+        of_word word (declared_in (scope_of state) operand) (λ v x. SelectsIn state First operand v x) valuation
+        (kind_in (scope_of state) operand) (in_kind _ First operand spelled)
+    selected_kind part (Any' p source s sink t schedule) spelled =
+        let behind = all_right IsSpelled (literals_in source) (literals_in sink ++ literals_in schedule) spelled in
+        of_any (λ x. SelectsIn state First source valuation x) (λ x. SelectsIn state First sink valuation x)
+        (λ x. SelectsIn state First schedule valuation x) (kind_in (scope_of state) source) (kind_in (scope_of state) sink)
+        (kind_in (scope_of state) schedule)
+        (in_kind _ First source (all_left IsSpelled (literals_in source) (literals_in sink ++ literals_in schedule) spelled))
+        (in_kind _ First sink (all_left IsSpelled (literals_in sink) (literals_in schedule) behind))
+        (in_kind _ First schedule (all_right IsSpelled (literals_in sink) (literals_in schedule) behind))
+    selected_kind part (Last' p source s sink t schedule) spelled =
+        of_last (λ x. SelectsIn state First source valuation x) (λ x. SelectsIn state First sink valuation x)
+        (λ x. SelectsIn state First schedule valuation x) (kind_in (scope_of state) source) (kind_in (scope_of state) sink)
+        (kind_in (scope_of state) schedule) part
+    selected_kind part (Post' s operand t postfixes) spelled =
+        postfixes_kind _ (λ x. SelectsIn state (part_taken postfixes) operand valuation x) (kind_in (scope_of state) operand) postfixes
+        (in_kind _ (part_taken postfixes) operand (all_left IsSpelled (literals_in operand) (literals_in_postfixes postfixes) spelled))
         (all_right IsSpelled (literals_in operand) (literals_in_postfixes postfixes) spelled)
 
-    in_kind : (m : Count) (row : Row_of-Expr m) → All IsSpelled (literals_in row)
-        → AreOfKind (λ x. SelectsIn state row valuation x) (kind_in (scope_of state) row)
-    in_kind m end_of-Expr spelled = no_element None
-    in_kind m (more_of-Expr expr rest) spelled = record {
-      lies = λ kind is element has. (selected_kind expr spelled).lies kind is element has;
+    in_kind : (m : Count) (part : ListPart) (row : Row_of-Expr m) → All IsSpelled (literals_in row)
+        → AreOfKind (λ x. SelectsIn state part row valuation x) (kind_in (scope_of state) row)
+    in_kind m part end_of-Expr spelled = no_element None
+    in_kind m part (more_of-Expr expr rest) spelled = record {
+      lies = λ kind is element has. (selected_kind part expr spelled).lies kind is element has;
     }
 
     links_kind : (m : Count) (Left : Element → Type 0) (o : Option ValueKind) (row : Row_of-Link m) → AreOfKind Left o
@@ -185,10 +204,10 @@ module _ (state : StateView) (valuation : Valuation) (all : AreWritable state) w
         → AreOfKind (λ x. SelectsPastLinks state valuation Left row x) (kind_past_links (scope_of state) o row)
     links_kind m Left o end_of-Link before spelled = record { lies = λ kind is element has. before.lies kind is element has }
     links_kind m Left o (more_of-Link sign operand rest) before spelled =
-        links_kind _ (λ x. OperatorHas sign Left (λ y. Selects state operand valuation y) x)
+        links_kind _ (λ x. OperatorHas sign Left (λ y. SelectsAt state First operand valuation y) x)
         (by_two (joined sign) o (kind_of (scope_of state) operand)) rest
-        (of_operator Left (λ y. Selects state operand valuation y) o (kind_of (scope_of state) operand) before
-        (selected_kind operand (all_left IsSpelled (literals_of operand) (literals_in_links rest) spelled)) sign)
+        (of_operator Left (λ y. SelectsAt state First operand valuation y) o (kind_of (scope_of state) operand) before
+        (selected_kind First operand (all_left IsSpelled (literals_of operand) (literals_in_links rest) spelled)) sign)
         (all_right IsSpelled (literals_of operand) (literals_in_links rest) spelled)
 
     postfixes_kind : (m : Count) (Operand : Element → Type 0) (o : Option ValueKind) (row : Row_of-Postfix m) → AreOfKind Operand o
@@ -206,9 +225,9 @@ module _ (state : StateView) (valuation : Valuation) (all : AreWritable state) w
         → AreOfKind (λ x. PostfixHas state valuation Operand postfix x) (kind_past (scope_of state) o postfix)
     postfix_kind Operand o Inverse before spelled = of_inverse Operand o before
     postfix_kind Operand o (Apply argument) before spelled =
-        of_application Operand (λ y. Selects state argument valuation y) o (kind_of (scope_of state) argument) before
-        (selected_kind argument spelled)
-    postfix_kind Operand o (Item number) before spelled = no_element (option_and_then item o)
+        of_application Operand (λ y. SelectsAt state First argument valuation y) o (kind_of (scope_of state) argument) before
+        (selected_kind First argument spelled)
+    postfix_kind Operand o (Item number) before spelled = of_item Operand o before
 
 -- ---- what is kept
 -- a sample is of the kind of its operand
@@ -217,6 +236,17 @@ sample_same Set kind is = cc
 sample_same k kind is = cc
 
 module _ (state : StateView) (all : AreWritable state) where
+  -- a value that is worked out of an operand has elements in spaces of the operand's kind
+  operand_kind : (m : Count) (operand : Row_of-Expr m) → All IsSpelled (literals_in operand) → (argument : KeptValue)
+      → IsSelectedIn state operand argument → (valuation : Valuation)
+      → AreOfKind (λ x. Has argument valuation x) (kind_in (scope_of state) operand)
+  operand_kind m end_of-Expr spelled argument selected valuation = absurd selected
+  operand_kind m (more_of-Expr expr rest) spelled argument selected valuation = record {
+    lies = λ kind is element has.
+        (in_kind state valuation all m First (more_of-Expr expr rest) spelled).lies kind is element
+        ((selected.elements valuation element).0 has);
+  }
+
   sample_kind : (m : Count) (operand : Row_of-Expr m) → All IsSpelled (literals_in operand) → (argument value : KeptValue)
       → IsSelectedIn state operand argument → IsSampleOf argument value → (kind : ValueKind)
       → option_and_then (prefixed p.Sample) (kind_in (scope_of state) operand) ≡ Some kind → (valuation : Valuation) (element : Element)
@@ -236,25 +266,51 @@ module _ (state : StateView) (all : AreWritable state) where
       by (Some k) there (inr one) =
           let piece = only_piece argument.params one.0 one.1 in
           let same = sample_same k kind (sym (ap (option_and_then (prefixed p.Sample)) there) ∙ is) in
-          let lies : IsSpaceOf k one.1.space =
-          (in_kind state one.0 all m operand spelled).lies k there one.1 ((selected.0 one.0 one.1).0 one.2) in
+          let lies : IsSpaceOf k one.1.space = (operand_kind m operand spelled argument selected one.0).lies k there one.1 one.2 in
           elim (Any-cases (HasElement value.params valuation element) piece [] (subst HasIt one.3 has)) [
             | inl here ↦ subst (λ (j : ValueKind). IsSpaceOf j element.space) same (subst (IsSpaceOf k) here.space lies)
             | inr later ↦ absurd (Any-none (HasElement value.params valuation element) later)
           ]
 
-  -- what is kept of an expression is of its kind
-  pub content_kind : (expr : Expr) (value : KeptValue) → All IsSpelled (literals_of expr) → IsContentOf state expr value
-      → (kind : ValueKind) → kind_of (scope_of state) expr ≡ Some kind → (valuation : Valuation) (element : Element)
+  -- putting pieces together leaves the elements as they are
+  coalesce_kind : (m : Count) (operand : Row_of-Expr m) → All IsSpelled (literals_in operand) → (argument value : KeptValue)
+      → IsSelectedIn state operand argument → IsAnyWordOf p.Coalesce argument value → (kind : ValueKind)
+      → option_and_then (prefixed p.Coalesce) (kind_in (scope_of state) operand) ≡ Some kind → (valuation : Valuation) (element : Element)
       → Has value valuation element → IsSpaceOf kind element.space
-  content_kind (Prefix' p.Sample s operand) value spelled content kind is valuation element has =
+  coalesce_kind m operand spelled argument value selected any kind is valuation element has =
+      (of_word p.Coalesce argument.params (λ v x. Has argument v x) valuation (kind_in (scope_of state) operand)
+      (operand_kind m operand spelled argument selected valuation)).lies kind is element ((any.elements valuation element).0 has)
+
+  -- a row is one `%`, or its value is what is selected
+  row_selected : (m : Count) (first : Row_of-Expr m) (n : Count) (links : Row_of-Link n)
+      → list_any is_gist (parts_in first ++ parts_in_links links) ≡ false → (Selected : Type 0) (Simplified : Expr → Type 0)
+      → MatchOption (context_of links) Selected Simplified → Selected
+  row_selected m first n (more_of-Link b.Gist context end_of-Link) none Selected Simplified content =
+      absurd (false≢true (sym (quiet_both is_gist (parts_in first) (parts_in_links (more_of-Link b.Gist context end_of-Link)) none).1))
+  row_selected m first n links none Selected Simplified content = content
+
+  -- what is kept of a part of an expression without `%` is of its kind
+  pub content_kind : (part : ListPart) (expr : Expr) (value : KeptValue) → All IsSpelled (literals_of expr)
+      → list_any is_gist (parts_of expr) ≡ false → IsContentOf state part expr value → (kind : ValueKind) → kind_of (scope_of state) expr ≡ Some kind → (valuation : Valuation)
+      (element : Element) → Has value valuation element → IsSpaceOf kind element.space
+  content_kind part (Prefix' p.Sample s operand) value spelled none content kind is valuation element has =
       sample_kind _ operand spelled content.0 value content.1 content.2 kind is valuation element has
-  content_kind expr value spelled content kind is valuation element has =
-      (selected_kind state valuation all expr spelled).lies kind is element ((content.elements valuation element).0 has)
+  content_kind part (Prefix' p.Coalesce s operand) value spelled none content kind is valuation element has =
+      coalesce_kind _ operand spelled content.0 value content.1 content.2 kind is valuation element has
+  content_kind part (Row' s first t links) value spelled none content kind is valuation element has =
+      let selected =
+      row_selected _ first _ links none (IsSelectedAt state part (Row' s first t links) value)
+      (λ context. (left : KeptValue) × (right : KeptValue) × IsSelectedIn state first left × IsSelected state context right
+      × IsGistOfTwo left right value)
+      content in
+      (selected_kind state valuation all part (Row' s first t links) spelled).lies kind is element ((selected.elements valuation element).0 has)
+  content_kind part expr value spelled none content kind is valuation element has =
+      (selected_kind state valuation all part expr spelled).lies kind is element ((content.elements valuation element).0 has)
 
 -- ---- what is of a kind can be written
 pub of_kind_uniform : (value : KeptValue) (kind : ValueKind) → IsOfKind kind value → IsUniform value
 of_kind_uniform value Set all = inl all
 of_kind_uniform value Map all = inr all
+of_kind_uniform value Pair all = inr all
 of_kind_uniform value kind all =
     inl (All-weaker (λ (p : KeptPiece). IsSpaceOf kind p.space) (λ (p : KeptPiece). IsSet p.space) (λ p h. absurd h) value.pieces all)

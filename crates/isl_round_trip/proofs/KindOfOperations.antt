@@ -1,20 +1,28 @@
 -- What operations make of elements in spaces of a kind lies in spaces of the kind that the table of kinds tells.
-use Rattle.std.proofs.Common.{◌≡◌, ◌∙◌, inl, inr, Option, Some, None, sym, ap, subst, refl}
+use Rattle.std.proofs.Common.{◌≡◌, ◌∙◌, ◌⊎◌, inl, inr, Bool, true, false, ◌&&◌, if◌then◌else◌, List, Option, Some, None, sym, ap, subst, refl}
 use Rattle.std.specs.Option.{option_and_then}
+use Rattle.isl_space.specs.Name.{Name}
+use Rattle.isl_space.specs.Valuation.{Valuation}
 use Rattle.isl_space.specs.Form.{Form}
 use Rattle.isl_space.specs.SpaceForm.{SpaceForm, set_of, map_of}
 use Rattle.isl_space.specs.Element.{Element}
 use Rattle.isl_maps.specs.Inverse.{inverse_space, inverse_element}
 use Rattle.isl_relation.specs.Point.{Point, HasPoint, Relates, set_element, map_element, paired}
+use Rattle.isl_relation.specs.Orders.{ComesAfter, ComesBefore, IsDownTo, IsUpTo}
+use Rattle.isl_relation.specs.Flow.{AnyHas}
 use Rattle.isl_expr.specs.declared.tree.ValueKind.{ValueKind}
-use Rattle.isl_expr.specs.declared.tree.ValueKind.TheVariants.{Set, Map}
+use Rattle.isl_expr.specs.declared.tree.ValueKind.TheVariants.{Set, Map, List as Pair, Empty}
 use Rattle.isl_expr.specs.declared.tree.Binary.{Binary}
 use Rattle.isl_expr.specs.declared.tree.Binary.TheVariants as b
 use Rattle.isl_expr.specs.declared.tree.Prefix.{Prefix}
 use Rattle.isl_expr.specs.declared.tree.Prefix.TheVariants as p
-use Rattle.isl_operators.specs.Operations.{OperatorHas, WordHas, ApplicationHas}
-use Rattle.isl_kinds.specs.Lines.{joined, applied, prefixed, inverse}
-use Rattle.isl_kinds.specs.Typed.{by_two}
+use Rattle.isl_operators.specs.Operations.{OperatorHas, OrderedHas, WordHas, ApplicationHas}
+use Rattle.isl_values.specs.declared.list.ListPart.{ListPart}
+use Rattle.isl_values.specs.declared.list.ListPart.TheVariants.{First, Second}
+use Rattle.isl_values.specs.Worked.{PartHas}
+use Rattle.isl_flat.proofs.ViewLaws.{three_some}
+use Rattle.isl_kinds.specs.Lines.{joined, applied, prefixed, inverse, item, dependence, fits, is_kind, made}
+use Rattle.isl_kinds.specs.Typed.{by_two, by_three}
 use Rattle.isl_round_trip.specs.Written.{IsMap, IsSpaceOf}
 
 -- ---- kinds
@@ -38,14 +46,15 @@ no_kind P = record { lies = λ kind is element has. none_some kind is }
 pub no_element : (o : Option ValueKind) → AreOfKind (λ x. ⊥) o
 no_element o = record { lies = λ kind is element has. absurd has }
 
--- a kind that has an element of a set is that of sets, and one that has an element of a map is that of maps
+-- a kind that has an element of a set is that of sets, and one that has an element of a map is that of maps or of lists
 is_set : (kind : ValueKind) (form : Form) → IsSpaceOf kind (set_of form) → kind ≡ Set
 is_set Set form lies = refl
 is_set kind form lies = absurd lies
 
-is_map : (kind : ValueKind) (from to : Form) → IsSpaceOf kind (map_of from to) → kind ≡ Map
-is_map Map from to lies = refl
-is_map kind from to lies = absurd lies
+is_map_or_list : (kind : ValueKind) (from to : Form) → IsSpaceOf kind (map_of from to) → (kind ≡ Map) ⊎ (kind ≡ Pair)
+is_map_or_list Map from to lies = inl refl
+is_map_or_list Pair from to lies = inr refl
+is_map_or_list kind from to lies = absurd lies
 
 -- what is made is an element in a space of the kind that a line tells
 made_in : (made kind : ValueKind) (element other : Element) → Some made ≡ Some kind → element ≡ other → IsSpaceOf made other.space
@@ -60,6 +69,7 @@ union_left Set Set kind space lies is = is
 union_left Set c kind space lies is = cc
 union_left Map Map kind space lies is = is
 union_left Map c kind space lies is = cc
+union_left Pair c kind space lies is = none_some kind is
 union_left a c kind space lies is = absurd lies
 
 union_right : (a c kind : ValueKind) (space : SpaceForm) → IsSpaceOf c space → joined b.Union a c ≡ Some kind → Some c ≡ Some kind
@@ -67,6 +77,7 @@ union_right Set Set kind space lies is = is
 union_right a Set kind space lies is = cc
 union_right Map Map kind space lies is = is
 union_right a Map kind space lies is = cc
+union_right a Pair kind space lies is = cc
 union_right a c kind space lies is = absurd lies
 
 -- `*` and `-`, which have the same lines, keep that of the left one
@@ -75,6 +86,7 @@ part_left Set Set kind space lies is = is
 part_left Set c kind space lies is = cc
 part_left Map Map kind space lies is = is
 part_left Map c kind space lies is = cc
+part_left Pair c kind space lies is = none_some kind is
 part_left a c kind space lies is = absurd lies
 
 -- `->-` makes maps of maps
@@ -82,35 +94,55 @@ removed_map : (c kind : ValueKind) → joined b.RangeDifference Map c ≡ Some k
 removed_map Set kind is = is
 removed_map c kind is = cc
 
+-- `coalesce` keeps that of its operand
+kept_kind : (a kind : ValueKind) (space : SpaceForm) → IsSpaceOf a space → prefixed p.Coalesce a ≡ Some kind → Some a ≡ Some kind
+kept_kind Set kind space lies is = is
+kept_kind Map kind space lies is = is
+kept_kind Pair kind space lies is = none_some kind is
+kept_kind a kind space lies is = absurd lies
+
 -- ---- words
 module _ (Operand : Element → Type 0) (a : ValueKind) (all : (element : Element) → Operand element → IsSpaceOf a element.space) where
   of_sets : (x : Point) → HasPoint Operand x → a ≡ Set
   of_sets x has = is_set a x.form (all (set_element x) has.has)
-
-  of_maps : (x y : Point) → Relates Operand x y → a ≡ Map
-  of_maps x y has = is_map a x.form y.form (all (map_element x y) has.has)
 
   -- a line at the kind that the operand has
   set_line : (line : ValueKind → Option ValueKind) (kind : ValueKind) (x : Point) → HasPoint Operand x → line a ≡ Some kind
       → line Set ≡ Some kind
   set_line line kind x has is = sym (ap line (of_sets x has)) ∙ is
 
-  map_line : (line : ValueKind → Option ValueKind) (kind : ValueKind) (x y : Point) → Relates Operand x y → line a ≡ Some kind
-      → line Map ≡ Some kind
-  map_line line kind x y has is = sym (ap line (of_maps x y has)) ∙ is
+  -- it takes no list
+  map_line : (line : ValueKind → Option ValueKind) → line Pair ≡ None → (kind : ValueKind) (x y : Point) → Relates Operand x y
+      → line a ≡ Some kind → line Map ≡ Some kind
+  map_line line none kind x y has is = elim (is_map_or_list a x.form y.form (all (map_element x y) has.has)) [
+    | inl map ↦ sym (ap line map) ∙ is
+    | inr list ↦ none_some kind (sym none ∙ sym (ap line list) ∙ is)
+  ]
 
-  word_kind : (word : Prefix) (kind : ValueKind) (element : Element) → prefixed word a ≡ Some kind → WordHas word Operand element
-      → IsSpaceOf kind element.space
-  word_kind p.Domain kind element is h = made_in Set kind element _ (map_line (prefixed p.Domain) kind h.0 h.1 h.2 is) h.3 tt
-  word_kind p.Range kind element is h = made_in Set kind element _ (map_line (prefixed p.Range) kind h.0 h.1 h.2 is) h.3 tt
-  word_kind p.Deltas kind element is h = made_in Set kind element _ (map_line (prefixed p.Deltas) kind h.0 h.1 h.2 is) h.4 tt
-  word_kind p.Identity kind element is h = made_in Map kind element _ (set_line (prefixed p.Identity) kind h.0 h.1 is) h.2 tt
-  word_kind p.Wrap kind element is h = made_in Set kind element _ (map_line (prefixed p.Wrap) kind h.0 h.1 h.2 is) h.3 tt
-  word_kind p.Unwrap kind element is h = made_in Map kind element _ (set_line (prefixed p.Unwrap) kind (paired h.0 h.1) h.4 is) h.5 tt
+module _ (names : List Name) (Family : Valuation → Element → Type 0) (valuation : Valuation) (a : ValueKind)
+    (all : (element : Element) → Family valuation element → IsSpaceOf a element.space) where
+  word_kind : (word : Prefix) (kind : ValueKind) (element : Element) → prefixed word a ≡ Some kind
+      → WordHas word names Family valuation element → IsSpaceOf kind element.space
+  word_kind p.Domain kind element is h = made_in Set kind element _ (map_line (Family valuation) a all (prefixed p.Domain) refl kind h.0 h.1 h.2 is) h.3 tt
+  word_kind p.Range kind element is h = made_in Set kind element _ (map_line (Family valuation) a all (prefixed p.Range) refl kind h.0 h.1 h.2 is) h.3 tt
+  word_kind p.Deltas kind element is h = made_in Set kind element _ (map_line (Family valuation) a all (prefixed p.Deltas) refl kind h.0 h.1 h.2 is) h.4 tt
+  word_kind p.Identity kind element is h = made_in Map kind element _ (set_line (Family valuation) a all (prefixed p.Identity) kind h.0 h.1 is) h.2 tt
+  word_kind p.Wrap kind element is h = made_in Set kind element _ (map_line (Family valuation) a all (prefixed p.Wrap) refl kind h.0 h.1 h.2 is) h.3 tt
+  word_kind p.Unwrap kind element is h = made_in Map kind element _ (set_line (Family valuation) a all (prefixed p.Unwrap) kind (paired h.0 h.1) h.4 is) h.5 tt
   word_kind p.Zip kind element is h =
-      made_in Map kind element _ (map_line (prefixed p.Zip) kind (paired h.0 h.1) (paired h.2 h.3) h.8 is) h.9 tt
-  word_kind p.DomainMap kind element is h = made_in Map kind element _ (map_line (prefixed p.DomainMap) kind h.0 h.1 h.2 is) h.3 tt
-  word_kind p.RangeMap kind element is h = made_in Map kind element _ (map_line (prefixed p.RangeMap) kind h.0 h.1 h.2 is) h.3 tt
+      made_in Map kind element _ (map_line (Family valuation) a all (prefixed p.Zip) refl kind (paired h.0 h.1) (paired h.2 h.3) h.8 is) h.9 tt
+  word_kind p.DomainMap kind element is h = made_in Map kind element _ (map_line (Family valuation) a all (prefixed p.DomainMap) refl kind h.0 h.1 h.2 is) h.3 tt
+  word_kind p.RangeMap kind element is h = made_in Map kind element _ (map_line (Family valuation) a all (prefixed p.RangeMap) refl kind h.0 h.1 h.2 is) h.3 tt
+  word_kind p.LexMin kind element is (inl h) =
+      made_in Set kind element _ (set_line (Family valuation) a all (prefixed p.LexMin) kind h.0 h.1.0 is) h.2 tt
+  word_kind p.LexMin kind element is (inr h) =
+      made_in Map kind element _ (map_line (Family valuation) a all (prefixed p.LexMin) refl kind h.0 h.1 h.2.0 is) h.3 tt
+  word_kind p.LexMax kind element is (inl h) =
+      made_in Set kind element _ (set_line (Family valuation) a all (prefixed p.LexMax) kind h.0 h.1.0 is) h.2 tt
+  word_kind p.LexMax kind element is (inr h) =
+      made_in Map kind element _ (map_line (Family valuation) a all (prefixed p.LexMax) refl kind h.0 h.1 h.2.0 is) h.3 tt
+  word_kind p.Coalesce kind element is h =
+      let lies = all element h in as_kind element.space a kind (kept_kind a kind element.space lies is) lies
   word_kind word kind element is h = absurd h
 
 -- ---- operators and applications
@@ -121,13 +153,24 @@ module _ (Left Right : Element → Type 0) (a c : ValueKind) (left : (element : 
       → line a c ≡ Some kind → line Set Set ≡ Some kind
   sets_line line kind x y h k is = set_line Right c right (line Set) kind y k (set_line Left a left (λ j. line j c) kind x h is)
 
-  maps_line : (line : ValueKind → ValueKind → Option ValueKind) (kind : ValueKind) (x y u w : Point) → Relates Left x y → Relates Right u w
-      → line a c ≡ Some kind → line Map Map ≡ Some kind
-  maps_line line kind x y u w h k is = map_line Right c right (line Map) kind u w k (map_line Left a left (λ j. line j c) kind x y h is)
+  maps_line : (line : ValueKind → ValueKind → Option ValueKind) → line Pair c ≡ None → line Map Pair ≡ None → (kind : ValueKind)
+      (x y u w : Point) → Relates Left x y → Relates Right u w → line a c ≡ Some kind → line Map Map ≡ Some kind
+  maps_line line first second kind x y u w h k is =
+      map_line Right c right (line Map) second kind u w k (map_line Left a left (λ j. line j c) first kind x y h is)
 
-  map_set_line : (line : ValueKind → ValueKind → Option ValueKind) (kind : ValueKind) (x y z : Point) → Relates Left x y → HasPoint Right z
-      → line a c ≡ Some kind → line Map Set ≡ Some kind
-  map_set_line line kind x y z h k is = set_line Right c right (line Map) kind z k (map_line Left a left (λ j. line j c) kind x y h is)
+  map_set_line : (line : ValueKind → ValueKind → Option ValueKind) → line Pair c ≡ None → (kind : ValueKind) (x y z : Point)
+      → Relates Left x y → HasPoint Right z → line a c ≡ Some kind → line Map Set ≡ Some kind
+  map_set_line line first kind x y z h k is =
+      set_line Right c right (line Map) kind z k (map_line Left a left (λ j. line j c) first kind x y h is)
+
+  -- x → y, of two sets or of two maps
+  ordered_kind : (line : ValueKind → ValueKind → Option ValueKind) (Ordered : Point → Point → Type 0) → line Pair c ≡ None
+      → line Map Pair ≡ None → line Set Set ≡ Some Map → line Map Map ≡ Some Map → (kind : ValueKind) (element : Element)
+      → line a c ≡ Some kind → OrderedHas Ordered Left Right element → IsSpaceOf kind element.space
+  ordered_kind line Ordered first second sets maps kind element is (inl h) =
+      made_in Map kind element _ (sym sets ∙ sets_line line kind h.0 h.1 h.2 h.3 is) h.5 tt
+  ordered_kind line Ordered first second sets maps kind element is (inr h) =
+      made_in Map kind element _ (sym maps ∙ maps_line line first second kind h.0 h.2 h.1 h.3 h.4 h.5 is) h.7 tt
 
   operator_kind : (sign : Binary) (kind : ValueKind) (element : Element) → joined sign a c ≡ Some kind
       → OperatorHas sign Left Right element → IsSpaceOf kind element.space
@@ -140,20 +183,24 @@ module _ (Left Right : Element → Type 0) (a c : ValueKind) (left : (element : 
   operator_kind b.Difference kind element is h =
       let lies = left element h.0 in as_kind element.space a kind (part_left a c kind element.space lies is) lies
   operator_kind b.RangeIntersection kind element is h =
-      made_in Map kind element _ (map_set_line (joined b.RangeIntersection) kind h.0 h.1 h.1 h.2 h.3 is) h.4 tt
+      made_in Map kind element _ (map_set_line (joined b.RangeIntersection) refl kind h.0 h.1 h.1 h.2 h.3 is) h.4 tt
   operator_kind b.RangeDifference kind element is h =
-      made_in Map kind element _ (removed_map c kind (map_line Left a left (λ j. joined b.RangeDifference j c) kind h.0 h.1 h.2 is)) h.4 tt
+      made_in Map kind element _ (removed_map c kind (map_line Left a left (λ j. joined b.RangeDifference j c) refl kind h.0 h.1 h.2 is)) h.4 tt
   operator_kind b.Cross kind element is (inl h) = made_in Set kind element _ (sets_line (joined b.Cross) kind h.0 h.1 h.2 h.3 is) h.4 tt
   operator_kind b.Cross kind element is (inr h) =
-      made_in Map kind element _ (maps_line (joined b.Cross) kind h.0 h.1 h.2 h.3 h.4 h.5 is) h.6 tt
-  operator_kind b.Join kind element is h = made_in Map kind element _ (maps_line (joined b.Join) kind h.0 h.1 h.1 h.2 h.3 h.4 is) h.5 tt
+      made_in Map kind element _ (maps_line (joined b.Cross) refl refl kind h.0 h.1 h.2 h.3 h.4 h.5 is) h.6 tt
+  operator_kind b.Join kind element is h = made_in Map kind element _ (maps_line (joined b.Join) refl refl kind h.0 h.1 h.1 h.2 h.3 h.4 is) h.5 tt
   operator_kind b.Universal kind element is h = made_in Map kind element _ (sets_line (joined b.Universal) kind h.0 h.1 h.2 h.3 is) h.4 tt
+  operator_kind b.LexLess kind element is h = ordered_kind (joined b.LexLess) ComesBefore refl refl refl refl kind element is h
+  operator_kind b.LexLessEqual kind element is h = ordered_kind (joined b.LexLessEqual) IsUpTo refl refl refl refl kind element is h
+  operator_kind b.LexGreater kind element is h = ordered_kind (joined b.LexGreater) ComesAfter refl refl refl refl kind element is h
+  operator_kind b.LexGreaterEqual kind element is h = ordered_kind (joined b.LexGreaterEqual) IsDownTo refl refl refl refl kind element is h
   operator_kind sign kind element is h = absurd h
 
   application_kind : (kind : ValueKind) (element : Element) → applied a c ≡ Some kind → ApplicationHas Left Right element
       → IsSpaceOf kind element.space
-  application_kind kind element is (inl h) = made_in Set kind element _ (map_set_line applied kind h.0 h.1 h.0 h.2 h.3 is) h.4 tt
-  application_kind kind element is (inr h) = made_in Map kind element _ (maps_line applied kind h.1 h.2 h.0 h.1 h.4 h.3 is) h.5 tt
+  application_kind kind element is (inl h) = made_in Set kind element _ (map_set_line applied refl kind h.0 h.1 h.0 h.2 h.3 is) h.4 tt
+  application_kind kind element is (inr h) = made_in Map kind element _ (maps_line applied refl refl kind h.1 h.2 h.0 h.1 h.4 h.3 is) h.5 tt
 
 -- ---- elements turned round
 turned_map : (space : SpaceForm) → IsMap (inverse_space space) → IsMap space
@@ -163,6 +210,7 @@ turned_map (map_of from to) lies = tt
 inverse_kind : (a kind : ValueKind) (space : SpaceForm) → inverse a ≡ Some kind → IsSpaceOf a (inverse_space space) → IsSpaceOf kind space
 inverse_kind Map kind space is lies = as_kind space Map kind is (turned_map space lies)
 inverse_kind Set kind space is lies = none_some kind is
+inverse_kind Pair kind space is lies = none_some kind is
 inverse_kind a kind space is lies = absurd lies
 
 -- ---- where operands may have no kind
@@ -173,11 +221,22 @@ of_inverse Operand (Some a) before = record {
   lies = λ kind is element has. inverse_kind a kind element.space is (before.lies a refl (inverse_element element) has);
 }
 
-pub of_word : (word : Prefix) (Operand : Element → Type 0) (o : Option ValueKind) → AreOfKind Operand o
-    → AreOfKind (λ x. WordHas word Operand x) (option_and_then (prefixed word) o)
-of_word word Operand None before = no_kind (λ x. WordHas word Operand x)
-of_word word Operand (Some a) before = record {
-  lies = λ kind is element has. word_kind Operand a (before.lies a refl) word kind element is has;
+-- `[i]` takes a list, and makes a map
+item_kind : (a kind : ValueKind) (space : SpaceForm) → item a ≡ Some kind → IsSpaceOf a space → IsSpaceOf kind space
+item_kind Pair kind space is lies = as_kind space Map kind is lies
+item_kind a kind space is lies = none_some kind is
+
+pub of_item : (Operand : Element → Type 0) (o : Option ValueKind) → AreOfKind Operand o → AreOfKind Operand (option_and_then item o)
+of_item Operand None before = no_kind Operand
+of_item Operand (Some a) before = record {
+  lies = λ kind is element has. item_kind a kind element.space is (before.lies a refl element has);
+}
+
+pub of_word : (word : Prefix) (names : List Name) (Family : Valuation → Element → Type 0) (valuation : Valuation) (o : Option ValueKind)
+    → AreOfKind (Family valuation) o → AreOfKind (λ x. WordHas word names Family valuation x) (option_and_then (prefixed word) o)
+of_word word names Family valuation None before = no_kind (λ x. WordHas word names Family valuation x)
+of_word word names Family valuation (Some a) before = record {
+  lies = λ kind is element has. word_kind names Family valuation a (before.lies a refl) word kind element is has;
 }
 
 of_two : (line : ValueKind → ValueKind → Option ValueKind) (Made : Element → Type 0) (o p : Option ValueKind)
@@ -196,3 +255,35 @@ module _ (Left Right : Element → Type 0) (o p : Option ValueKind) (left : AreO
   pub of_application : AreOfKind (λ x. ApplicationHas Left Right x) (by_two applied o p)
   of_application = of_two applied (λ x. ApplicationHas Left Right x) o p (λ a c kind first second is element has.
       application_kind Left Right a c (left.lies a first) (right.lies c second) kind element is has)
+
+-- ---- which accesses come before others
+module _ (M N T : Element → Type 0) (o p q : Option ValueKind) where
+  pub of_any : AreOfKind M o → AreOfKind N p → AreOfKind T q → AreOfKind (λ x. AnyHas M N T x) (by_three Map o p q)
+  of_any m n t = record {
+    lies = λ kind is element h.
+        let all = three_some Map o p q kind is in
+        let first = map_line M all.0 (m.lies all.0 all.3) (λ j. dependence Map j all.1 all.2) refl kind h.0 h.2 h.5.source all.6 in
+        let second = map_line N all.1 (n.lies all.1 all.4) (λ j. dependence Map Map j all.2) refl kind h.1 h.2 h.5.sink first in
+        made_in Map kind element _
+        (map_line T all.2 (t.lies all.2 all.5) (λ j. dependence Map Map Map j) refl kind h.0 h.3 h.5.at second) h.6 tt;
+  }
+
+  -- whatever the operands are, the parts of a list are maps
+  list_kind : (a b c kind : ValueKind) → dependence Pair a b c ≡ Some kind → Some Pair ≡ Some kind
+  list_kind a b c kind is =
+      by (is_kind a Empty && is_kind b Empty && is_kind c Empty) (fits a Map && fits b Map && fits c Map) is
+    where
+      by : (empty fit : Bool) → (if fit then Some (made empty Pair) else None) ≡ Some kind → Some Pair ≡ Some kind
+      by true true is = is
+      by false true is = is
+      by empty false is = none_some kind is
+
+  pub of_last : (part : ListPart) → AreOfKind (λ x. PartHas part M N T x) (by_three Pair o p q)
+  of_last First = record {
+    lies = λ kind is element h.
+        let all = three_some Pair o p q kind is in made_in Pair kind element _ (list_kind all.0 all.1 all.2 kind all.6) h.7 tt;
+  }
+  of_last Second = record {
+    lies = λ kind is element h.
+        let all = three_some Pair o p q kind is in made_in Pair kind element _ (list_kind all.0 all.1 all.2 kind all.6) h.4 tt;
+  }

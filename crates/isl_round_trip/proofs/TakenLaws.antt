@@ -1,7 +1,8 @@
 -- What the program answers, it takes again.
-use Rattle.std.proofs.Common.{◌≡◌, ◌<◌, ◌≤◌, ◌-◌, ◌^◌, ◌∙◌, ℕ, suc, Bool, true, false, List, [], ◌∷◌, ◌++◌, Some, None, Result, Ok, Err}
+use Rattle.std.proofs.Common.{◌≡◌, ◌<◌, ◌≤◌, ◌-◌, ◌^◌, ◌∙◌, ℕ, suc, Bool, true, false, List, [], ◌∷◌, ◌++◌, Option, Some, None, Result, Ok, Err}
 use Rattle.std.proofs.Common.{All, ap, sym, subst, refl, arith, pow_mono}
-use Rattle.std.specs.Prelude.{length}
+use Rattle.std.specs.Prelude.{length, is_some, IfSome, unwrap_or}
+use Rattle.std.specs.List.{list_any}
 use Rattle.std.specs.Str.{bytes_eq}
 use Rattle.std.proofs.lemmas.Bool.{false≢true}
 use Rattle.std.proofs.lemmas.List.Elements.{All-head, All-tail}
@@ -19,31 +20,39 @@ use Rattle.isl_token.specs.Number.{too_great}
 use Rattle.isl_token.specs.Lex.{tokens}
 use Rattle.isl_token.specs.Spelling.{Spells}
 use Rattle.isl_tree.specs.declared.tree.Literal.{Literal}
+use Rattle.isl_tree.specs.declared.tree.PieceTree.{PieceTree}
+use Rattle.isl_tree.specs.declared.tree.Tuple.{Tuple}
 use Rattle.isl_tree.specs.Known.{literal_is_known}
 use Rattle.isl_text.specs.Read.{has_wide_number}
 use Rattle.isl_lower.proofs.ValueLaws.{same_elements}
 use Rattle.isl_expr.specs.declared.tree.Stmt.{Stmt}
 use Rattle.isl_expr.specs.declared.tree.Stmt.TheVariants.{Empty, Bind, Show}
 use Rattle.isl_expr.specs.declared.tree.Expr.{Expr}
+use Rattle.isl_expr.specs.declared.tree.ValueKind.{ValueKind}
+use Rattle.isl_expr.specs.declared.tree.ValueKind.TheVariants.{List as Pair}
 use Rattle.isl_expr.specs.declared.tree.Expr as e
 use Rattle.isl_expr.specs.Expr.{literals_of, statement_literals}
 use Rattle.isl_space.specs.Limits.{most_leaves}
 use Rattle.isl_eval.specs.Unsupported.{is_unsupported}
-use Rattle.isl_flat.proofs.SimpleLaws.{literals_kept}
+use Rattle.isl_flat.proofs.SimpleLaws.{literals_kept, parts_kept}
 use Rattle.isl_stmt.specs.StatementGrammar.{statement_grammar}
 use Rattle.isl_stmt.specs.Limits.{statement_is_within}
 use Rattle.isl_stmt.specs.Read.{NoStatement}
-use Rattle.isl_kinds.specs.Typed.{ScopeView, is_dollar, kind_of_pieces, declared_of, type_of_statement}
+use Rattle.isl_kinds.specs.Lines.{is_kind}
+use Rattle.isl_kinds.specs.Parts.{parts_of}
+use Rattle.isl_kinds.specs.Typed.{ScopeView, is_dollar, kind_of, kind_of_image, kind_of_pieces, declared_of, type_of_statement}
 use Rattle.isl_text.specs.declared.refusal.Refusal.{Refusal}
 use Rattle.isl_text.specs.declared.refusal.Refusal.TheVariants.{UnknownName, WrongKind, NoElement}
-use Rattle.isl_values.specs.State.{Kept, Moment, StateView, Binds, unbound, kept_of, scope_of, forgotten}
-use Rattle.isl_values.specs.Selection.{Keeps}
-use Rattle.isl_values.specs.Ends.{GoesOn}
+use Rattle.isl_values.specs.declared.list.ListPart.{ListPart}
+use Rattle.isl_values.specs.declared.list.ListPart.TheVariants.{First, Second}
+use Rattle.isl_values.specs.State.{Kept, Moment, StateView, Binds, unbound, kept_of, scope_of, forgotten, value_at}
+use Rattle.isl_values.specs.Selection.{IsKeptOf, Keeps}
+use Rattle.isl_values.specs.Ends.{GoesOn, because}
 use Rattle.isl_eval.specs.Spelled.{BytesSpell, OfStatement, OfTokens}
 use Rattle.isl_flat.specs.Flat.{flat}
 use Rattle.isl_eval.specs.Ended.{StatementEnds}
 use Rattle.isl_eval.specs.Causes.{AreDone, IsClear, IsEnded, IsValid, Stops, is_parametric}
-use Rattle.isl_eval.specs.Machine.{Answer, Step, Steps, nothing, shown}
+use Rattle.isl_eval.specs.Machine.{Answer, Step, Steps, nothing, shown, text_of_two}
 use Rattle.isl_eval.specs.Run.{Answers}
 use Rattle.isl_eval.proofs.CauseLaws.{of_tokens, of_statement, one as one_spelled}
 use Rattle.isl_token.proofs.LexLaws.{lexed}
@@ -52,12 +61,13 @@ use Rattle.isl_values.proofs.ForgetLaws.{kept_of_dollar, kept_of_forgotten}
 use Rattle.isl_round_trip.specs.Tree.{printed_tree}
 use Rattle.isl_round_trip.specs.Written.{HasFewRemainders, IsOfKind}
 use Rattle.isl_round_trip.specs.RoundTrip.{IsWritableValue, ReadsAs}
-use Rattle.isl_round_trip.specs.TakenAgain.{AreWritable, IsShallow, IsShownAgain, IsTakenAgain, ShowsKept}
+use Rattle.isl_round_trip.specs.TakenAgain.{AreWritable, IsShallow, IsShownAgain, IsTakenAgain, ShowsKept, SimplifiesNone, is_gist}
 use Rattle.isl_round_trip.proofs.ValueTokenLaws.{printed_tokens, tokens-printed}
 use Rattle.isl_round_trip.proofs.TakenTokens.{narrow}
 use Rattle.isl_round_trip.proofs.RoundTripLaws.{tree_at, reads_as}
 use Rattle.isl_round_trip.proofs.AloneLaws.{shown_alone}
 use Rattle.isl_round_trip.proofs.KindLaws.{value_kind, content_kind, of_kind_uniform}
+use Rattle.isl_round_trip.proofs.KindOfOperations.{some_same}
 use Rattle.isl_round_trip.proofs.WritableLaws.{writable_numbers}
 
 is_not : (a : Bool) → a ≡ false → ¬ (a ≡ true)
@@ -69,6 +79,23 @@ is_so a so not_so = false≢true (sym not_so ∙ so)
 -- the answer that is this text
 abbrev line : List ℕ → Answer
 line text = record { bytes = text ++ 10 ∷ []; is_true = false; elements = 0 }
+
+-- what is no list is shown by its only value
+single : (kept : Kept) → kept.second ≡ None → shown kept ≡ line (printed kept.value)
+single kept none = ap (λ (o : Option KeptValue). line (text_of_two kept.value o)) none
+
+-- a literal is no list
+image_no_list : (second : Option Tuple) → is_kind (kind_of_image second) Pair ≡ false
+image_no_list None = refl
+image_no_list (Some tuple) = refl
+
+literal_no_list : (pieces : List PieceTree) → is_kind (kind_of_pieces pieces) Pair ≡ false
+literal_no_list [] = refl
+literal_no_list (piece ∷ pieces) = image_no_list piece.second
+
+no_second : (o : Option KeptValue) → is_some o ≡ false → o ≡ None
+no_second None is = refl
+no_second (Some second) is = absurd (false≢true (sym is))
 
 -- ---- a literal of known names has a type
 literal_typed : (scope : ScopeView) (literal : Literal) → literal_is_known literal ≡ true
@@ -171,13 +198,13 @@ module _ (moment : Moment) (bits : moment.meter.bits ≤ 127) (value : KeptValue
       (stops.now, subst (P stops.now) literal stops.stops)
 
   text_goes_on : GoesOn (IsEnded moment (printed value))
-  text_goes_on why there = (at_next (λ now next. StatementEnds now next why) there).1
+  text_goes_on reason there = (at_next (λ now next. StatementEnds now next (because reason)) there).1
 
   pub text_valid : IsShallow (printed value) → HasFewRemainders value → IsValid moment (printed value)
   text_valid shallow few = record { clear = text_clear shallow few; goes_on = text_goes_on }
 
   -- the text spells no other statement, and each value that is read of it has the same text
-  pub text_answered : (answer : Answer) → answer ≡ shown value → (last : Moment) (other : Answer)
+  pub text_answered : (answer : Answer) → answer ≡ line (printed value) → (last : Moment) (other : Answer)
       → Answers moment (printed value) last other → other ≡ answer
   unfolding Steps
   text_answered answer is last other answers =
@@ -191,41 +218,67 @@ module _ (moment : Moment) (bits : moment.meter.bits ≤ 127) (value : KeptValue
           let step : Step moment (Show (e.Literal (printed_tree value))) answers.performed.0 other =
           subst (λ (s : Stmt). Steps moment (flat s) answers.performed.0 other) same steps in
           let made = step.does.1 in
-          let ordered_again : made.0.value ≡ ordered value = reads.read made.0.value made.1.content.written in
-          made.2 ∙ ap shown ordered_again ∙ ap line (printed-ordered value) ∙ sym is
+          let ordered_again : made.0.value ≡ ordered value = reads.read made.0.value made.1.value.content.written in
+          let kind : kind_of_pieces (printed_tree value).pieces ≡ made.0.kind =
+          some_same (kind_of_pieces (printed_tree value).pieces) made.0.kind made.1.kind in
+          let one : made.0.second ≡ None =
+          no_second made.0.second
+          (made.1.list ∙ ap (λ (k : ValueKind). is_kind k Pair) (sym kind) ∙ literal_no_list (printed_tree value).pieces) in
+          made.2 ∙ single made.0 one ∙ ap (λ (v : KeptValue). line (printed v)) ordered_again ∙ ap line (printed-ordered value) ∙ sym is
 
 -- ---- what an answered statement shows or binds can be written
 abbrev AreSpelled : Stmt → Type 0
-AreSpelled stmt = All IsSpelled (statement_literals stmt)
+AreSpelled stmt = All IsSpelled (statement_literals stmt) × SimplifiesNone stmt
+
+abbrev IsPlainExpr : Expr → Type 0
+IsPlainExpr expr = All IsSpelled (literals_of expr) × (list_any is_gist (parts_of expr) ≡ false)
 
 abbrev IsWritten : Kept → Type 0
-IsWritten kept = IsOfKind kept.kind kept.value × IsWritableValue kept.value
+IsWritten kept = (part : ListPart) → IsOfKind kept.kind (value_at part kept) × IsWritableValue (value_at part kept)
+
+-- the value of each part is one that is kept of a part of the expression
+kept_at : (before : Moment) (expr : Expr) (kept : Kept) → Keeps before expr kept → (part : ListPart)
+    → (other : ListPart) × IsKeptOf before other expr (value_at part kept)
+kept_at before expr kept keeps First = (First, keeps.value)
+kept_at before expr kept keeps Second = by kept.second refl keeps.second
+  where
+    by : (o : Option KeptValue) → kept.second ≡ o → IfSome o (IsKeptOf before Second expr)
+        → (other : ListPart) × IsKeptOf before other expr (value_at Second kept)
+    by None is h = (First, subst (λ (o : Option KeptValue). IsKeptOf before First expr (unwrap_or o kept.value)) (sym is) keeps.value)
+    by (Some second) is h = (Second, subst (λ (o : Option KeptValue). IsKeptOf before Second expr (unwrap_or o kept.value)) (sym is) h)
 
 module _ (before : Moment) (bits : before.meter.bits ≤ 127) (all : AreWritable before.state) where
-  expr_kind : (expr : Expr) (kept : Kept) → All IsSpelled (literals_of expr) → Keeps before expr kept → IsOfKind kept.kind kept.value
-  expr_kind expr kept spelled keeps =
-      value_kind kept.kind kept.value keeps.well_formed
-      (λ valuation element has.
-      content_kind before.state all expr kept.value spelled keeps.content kept.kind keeps.kind valuation element has)
+  part_kind : (part : ListPart) (expr : Expr) (kind : ValueKind) (value : KeptValue) → IsPlainExpr expr
+      → kind_of (scope_of before.state) expr ≡ Some kind → IsKeptOf before part expr value → IsOfKind kind value
+  part_kind part expr kind value spelled is kept =
+      value_kind kind value kept.well_formed
+      (λ valuation element has. content_kind before.state all part expr value spelled.0 spelled.1 kept.content kind is valuation element has)
 
-  expr_writable : (expr : Expr) (kept : Kept) → All IsSpelled (literals_of expr) → Keeps before expr kept → IsWritableValue kept.value
-  expr_writable expr kept spelled keeps = record {
-    kept = keeps.well_formed;
-    definitions = keeps.definitions;
-    numbers = writable_numbers before.meter kept.value bits keeps.numbers;
-    uniform = of_kind_uniform kept.value kept.kind (expr_kind expr kept spelled keeps);
-  }
+  expr_writable : (expr : Expr) (kept : Kept) → IsPlainExpr expr → Keeps before expr kept → IsWritten kept
+  expr_writable expr kept spelled keeps = λ part.
+      let value = value_at part kept in
+      let there = kept_at before expr kept keeps part in
+      let lies = part_kind there.0 expr kept.kind value spelled keeps.kind there.1 in (
+        lies,
+        record {
+          kept = there.1.well_formed;
+          definitions = there.1.definitions;
+          numbers = writable_numbers before.meter value bits there.1.numbers;
+          uniform = of_kind_uniform value kept.kind lies;
+        },
+      )
 
-  show_again : (expr : Expr) (kept : Kept) (after : Moment) (answer : Answer) → All IsSpelled (literals_of expr) → Keeps before expr kept
-      → answer ≡ shown kept.value → after.meter.bits ≡ before.meter.bits → IsShownAgain after kept.value answer
-  show_again expr kept after answer spelled keeps is same =
-      let writable = expr_writable expr kept spelled keeps in
+  show_again : (expr : Expr) (kept : Kept) (after : Moment) (answer : Answer) → IsPlainExpr expr → Keeps before expr kept
+      → kept.second ≡ None → answer ≡ shown kept → after.meter.bits ≡ before.meter.bits → IsShownAgain after kept.value answer
+  show_again expr kept after answer spelled keeps none is same =
+      let writable = (expr_writable expr kept spelled keeps First).1 in
       let reads = reads_as kept.value writable in
       let bits_after : after.meter.bits ≤ 127 = subst (λ (n : ℕ). n ≤ 127) (sym same) bits in
       let small : HasNumbersUpTo (2 ^ after.meter.bits - 1) kept.value =
-      subst (λ (n : ℕ). HasNumbersUpTo (2 ^ n - 1) kept.value) (sym same) keeps.numbers in
+      subst (λ (n : ℕ). HasNumbersUpTo (2 ^ n - 1) kept.value) (sym same) keeps.value.numbers in
+      let only = is ∙ single kept none in
       record {
-        line = ap (λ (a : Answer). a.bytes) is;
+        line = ap (λ (a : Answer). a.bytes) only;
         again = printed_tree kept.value;
         spelled = text_spells after bits_after kept.value writable small;
         elements = λ valuation element.
@@ -234,10 +287,10 @@ module _ (before : Moment) (bits : before.meter.bits ≤ 127) (all : AreWritable
             ((λ h. values.0 (now.1 h)), (λ h. now.0 (values.1 h)));
         reads = reads;
         valid = text_valid after bits_after kept.value writable small;
-        answered = text_answered after bits_after kept.value writable small answer is;
+        answered = text_answered after bits_after kept.value writable small answer only;
       }
 
-  bound_writable : (name : Name) (expr : Expr) (kept : Kept) (after : StateView) → All IsSpelled (literals_of expr) → Keeps before expr kept
+  bound_writable : (name : Name) (expr : Expr) (kept : Kept) (after : StateView) → IsPlainExpr expr → Keeps before expr kept
       → Binds before.state name kept after → AreWritable after
   bound_writable name expr kept after spelled keeps binds = λ other found is. by other found is (bytes_eq other name) refl
     where
@@ -245,7 +298,7 @@ module _ (before : Moment) (bits : before.meter.bits ≤ 127) (all : AreWritable
       by other found is true same =
           let there : kept_of after other ≡ Some kept = ap (kept_of after) ((bytes_eq-Decides other name).0 same) ∙ binds.named in
           let e : kept ≡ found = let f : Some kept ≡ Some found = sym there ∙ is in cc in
-          subst IsWritten e (expr_kind expr kept spelled keeps, expr_writable expr kept spelled keeps)
+          subst IsWritten e (expr_writable expr kept spelled keeps)
       by other found is false apart =
           all other found (sym (binds.others other (λ e. false≢true (sym apart ∙ (bytes_eq-Decides other name).1 e))) ∙ is)
 
@@ -287,29 +340,30 @@ steps_writable before (stmt ∷ second ∷ more) after answer bits all spelled s
     (All-tail AreSpelled stmt (second ∷ more) spelled) steps.2
 
 -- the literals of a statement, and of its simple statements, are spelled
-of_text : (bytes : List ℕ) (stmt : Stmt) → BytesSpell bytes stmt → AreSpelled stmt
+of_text : (bytes : List ℕ) (stmt : Stmt) → BytesSpell bytes stmt → All IsSpelled (statement_literals stmt)
 of_text bytes stmt spelled = literals_spelled stmt spelled.tokens (lexed bytes spelled.tokens spelled.cut) spelled.spelled
 
-of_simple : (bytes : List ℕ) (stmt : Stmt) → BytesSpell bytes stmt → All AreSpelled (flat stmt)
-of_simple bytes stmt spelled = literals_kept IsSpelled stmt (of_text bytes stmt spelled)
+of_simple : (bytes : List ℕ) (stmt : Stmt) → BytesSpell bytes stmt → SimplifiesNone stmt → All AreSpelled (flat stmt)
+of_simple bytes stmt spelled plain = λ i d low.
+    (literals_kept IsSpelled stmt (of_text bytes stmt spelled) i d low, parts_kept is_gist (λ n. refl) stmt plain i d low)
 
 -- what is shown of a kept value
 shows_again : (now : Moment) (stmt : Stmt) (kept : Kept) (after : Moment) (answer : Answer) → now.meter.bits ≤ 127 → AreWritable now.state
-    → AreSpelled stmt → ShowsKept kept now stmt → answer ≡ shown kept.value → after.meter.bits ≡ now.meter.bits
+    → AreSpelled stmt → ShowsKept kept now stmt → kept.second ≡ None → answer ≡ shown kept → after.meter.bits ≡ now.meter.bits
     → IsShownAgain after kept.value answer
-shows_again now (Show expr) kept after answer bits all spelled keeps is same =
-    show_again now bits all expr kept after answer spelled keeps is same
-shows_again now Empty kept after answer bits all spelled keeps is same = absurd keeps
-shows_again now (Bind name expr) kept after answer bits all spelled keeps is same = absurd keeps
+shows_again now (Show expr) kept after answer bits all spelled keeps none is same =
+    show_again now bits all expr kept after answer spelled keeps none is same
+shows_again now Empty kept after answer bits all spelled keeps none is same = absurd keeps
+shows_again now (Bind name expr) kept after answer bits all spelled keeps none is same = absurd keeps
 
 pub taken_again : (before : Moment) (bytes : List ℕ) (after : Moment) (answer : Answer) → before.meter.bits ≤ 127 → AreWritable before.state
-    → (answered : Answers before bytes after answer) → IsTakenAgain before answered.stmt after answer
-taken_again before bytes after answer bits all answered kept stops is =
-    let spelled = subst (All AreSpelled) stops.split (of_simple bytes answered.stmt answered.spelled) in
+    → (answered : Answers before bytes after answer) → SimplifiesNone answered.stmt → IsTakenAgain before answered.stmt after answer
+taken_again before bytes after answer bits all answered plain kept stops none is =
+    let spelled = subst (All AreSpelled) stops.split (of_simple bytes answered.stmt answered.spelled plain) in
     let parts = All-parts AreSpelled stops.done (stops.next ∷ stops.later) spelled in
     let now = done_writable before stops.done stops.now bits all parts.0 stops.steps in
     shows_again stops.now stops.next kept after answer (subst (λ (n : ℕ). n ≤ 127) (sym now.1) bits) now.0
-    (All-head AreSpelled stops.next stops.later parts.1) stops.stops is (same_bits before.meter after.meter answered.meter ∙ sym now.1)
+    (All-head AreSpelled stops.next stops.later parts.1) stops.stops none is (same_bits before.meter after.meter answered.meter ∙ sym now.1)
 
 kept_before : (state : StateView) (name : Name) (kept : Kept) → kept_of (forgotten state) name ≡ Some kept → kept_of state name ≡ Some kept
 kept_before state name kept is = by (is_dollar name) refl
@@ -322,11 +376,11 @@ forgotten_writable : (state : StateView) → AreWritable state → AreWritable (
 forgotten_writable state all = λ name kept is. all name kept (kept_before state name kept is)
 
 pub stays_writable : (before : Moment) (bytes : List ℕ) (after : Moment) (answer : Answer) → before.meter.bits ≤ 127
-    → AreWritable before.state → Answers before bytes after answer → AreWritable after.state
-stays_writable before bytes after answer bits all answered =
+    → AreWritable before.state → (answered : Answers before bytes after answer) → SimplifiesNone answered.stmt → AreWritable after.state
+stays_writable before bytes after answer bits all answered plain =
     let now = answered.performed.0 in
     let written = steps_writable before (flat answered.stmt) now answer bits all
-    (of_simple bytes answered.stmt answered.spelled) answered.performed.1 in
+    (of_simple bytes answered.stmt answered.spelled plain) answered.performed.1 in
     subst (λ (m : Moment). AreWritable m.state) (sym answered.performed.2) (forgotten_writable now.state written)
 
 pub starts_writable : AreWritable unbound

@@ -1,6 +1,7 @@
 -- public: what the program answers, it takes again. (isl manual, the notation of sets and relations; the iscc chapter of the barvinok
 -- manual)
-use Rattle.std.specs.Prelude.{◌≡◌, ◌↔◌, ℕ, true, List, [], ◌∷◌, ◌++◌}
+use Rattle.std.specs.Prelude.{◌≡◌, ◌↔◌, ℕ, Bool, true, false, List, [], ◌∷◌, ◌++◌, None}
+use Rattle.std.specs.List.{list_any}
 use Rattle.isl_space.specs.Element.{Element}
 use Rattle.isl_space.specs.Valuation.{Valuation}
 use Rattle.isl_union.specs.KeptValue.{KeptValue, Has}
@@ -8,10 +9,13 @@ use Rattle.isl_print.specs.Printed.{printed}
 use Rattle.isl_token.specs.Depth.{is_too_deep}
 use Rattle.isl_tree.specs.declared.tree.Literal.{Literal}
 use Rattle.isl_tree.specs.Literal.{LiteralHas}
+use Rattle.isl_expr.specs.declared.tree.Binary.TheVariants as b
 use Rattle.isl_expr.specs.declared.tree.Stmt.{Stmt}
 use Rattle.isl_expr.specs.declared.tree.Stmt.TheVariants.{Show}
 use Rattle.isl_expr.specs.declared.tree.Expr.TheVariants as e
-use Rattle.isl_values.specs.State.{Kept, StateView, Moment, EachKept}
+use Rattle.isl_kinds.specs.Parts.{Part, operator, parts_of_statement}
+use Rattle.isl_values.specs.declared.list.ListPart.{ListPart}
+use Rattle.isl_values.specs.State.{Kept, StateView, Moment, EachKept, value_at}
 use Rattle.isl_values.specs.Selection.{Keeps}
 use Rattle.isl_eval.specs.Spelled.{BytesSpell, OfTokens}
 use Rattle.isl_eval.specs.Causes.{IsValid, Stops}
@@ -20,9 +24,10 @@ use Rattle.isl_eval.specs.Run.{Answers}
 use Rattle.isl_round_trip.specs.Written.{HasFewRemainders, IsOfKind}
 use Rattle.isl_round_trip.specs.RoundTrip.{IsWritableValue, ReadsAs}
 
--- each value that is bound is of its kind, and one that a plain literal can write
+-- each value that is bound, also in a list, is of its kind, and one that a plain literal can write
 abbrev pub AreWritable : StateView → Type 0
-AreWritable state = EachKept (λ kept. IsOfKind kept.kind kept.value × IsWritableValue kept.value) state
+AreWritable state =
+    EachKept (λ kept. (part : ListPart) → IsOfKind kept.kind (value_at part kept) × IsWritableValue (value_at part kept)) state
 
 -- brackets and prefixes are not nested too deeply
 abbrev pub IsShallow : List ℕ → Type 0
@@ -41,12 +46,21 @@ pub record IsShownAgain (after : Moment) (value : KeptValue) (answer : Answer) :
   pub valid : IsShallow (printed value) → HasFewRemainders value → IsValid after (printed value)
   pub answered : (last : Moment) (other : Answer) → Answers after (printed value) last other → other ≡ answer
 
+-- `%` stands in no part of the statement
+abbrev pub is_gist : Part → Bool
+is_gist (operator b.Gist) = true
+is_gist part = false
+
+abbrev pub SimplifiesNone : Stmt → Type 0
+SimplifiesNone stmt = list_any is_gist (parts_of_statement stmt) ≡ false
+
 -- a simple statement that shows an expression of which this is kept
 abbrev pub ShowsKept : Kept → Moment → Stmt → Type 0
 ShowsKept kept now (Show expr) = Keeps now expr kept
 ShowsKept kept now stmt = ⊥
 
--- whatever value the statement shows, where it is what is answered, is shown again
+-- whatever value the statement shows, where it is what is answered and no list, is shown again
 abbrev pub IsTakenAgain : Moment → Stmt → Moment → Answer → Type 0
 IsTakenAgain before stmt after answer =
-    (kept : Kept) → Stops before stmt (ShowsKept kept) → answer ≡ shown kept.value → IsShownAgain after kept.value answer
+    (kept : Kept) → Stops before stmt (ShowsKept kept) → kept.second ≡ None → answer ≡ shown kept
+    → IsShownAgain after kept.value answer

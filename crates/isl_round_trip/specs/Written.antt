@@ -39,17 +39,17 @@ IsMap (map_of from to) = Unit {0}
 abbrev pub IsUniform : KeptValue → Type 0
 IsUniform value = All (λ piece. IsSet piece.space) value.pieces ⊎ All (λ piece. IsMap piece.space) value.pieces
 
--- the spaces of a kind: what is neither a set nor a map has none
+-- the spaces of a kind: a list is two maps, and what is none of these has none
 abbrev pub IsSpaceOf : ValueKind → SpaceForm → Type 0
 IsSpaceOf Set space = IsSet space
 IsSpaceOf Map space = IsMap space
 IsSpaceOf Empty space = ⊥
-IsSpaceOf Pair space = ⊥
+IsSpaceOf Pair space = IsMap space
 IsSpaceOf Truth space = ⊥
 IsSpaceOf Listing space = ⊥
 IsSpaceOf Code space = ⊥
 
--- a value of this kind: sets alone, maps alone, or no piece
+-- a value of this kind, or one of a list: sets alone, maps alone, or no piece
 abbrev pub IsOfKind : ValueKind → KeptValue → Type 0
 IsOfKind kind value = All (λ piece. IsSpaceOf kind piece.space) value.pieces
 

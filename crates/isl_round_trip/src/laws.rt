@@ -20,7 +20,7 @@ ghost use Rattle.isl_round_trip.specs.Accepted.{HasQuietNames, IsAccepted};
 ghost use Rattle.isl_round_trip.specs.Tree.{printed_tree};
 ghost use Rattle.isl_round_trip.specs.Written.{HasFewRemainders, HasWritableNumbers, IsUniform, value_written};
 ghost use Rattle.isl_round_trip.specs.RoundTrip.{IsWritableValue, ReadsBack, Writes};
-ghost use Rattle.isl_round_trip.specs.TakenAgain.{AreWritable, IsTakenAgain};
+ghost use Rattle.isl_round_trip.specs.TakenAgain.{AreWritable, IsTakenAgain, SimplifiesNone};
 
 /// The text of a value writes its printed tree.
 pub fn printed_tree_is_spelled()
@@ -75,13 +75,15 @@ pub fn lowered_is_writable()
         → IsWritableValue value }
 {}
 
-/// What the program shows of a value, it takes again: the text of the line is a statement, which shows a literal with exactly the
-/// elements of the value, and whatever answers it answers the same line. It needs that what is bound can be written; this holds
-/// where nothing is bound, and each answered statement keeps it.
+/// What the program shows of a value that is no list, it takes again: the text of the line is a statement, which shows a literal with
+/// exactly the elements of the value, and whatever answers it answers the same line. It needs that what is bound can be written; this
+/// holds where nothing is bound, and each answered statement keeps it. Statements with `%` are left out.
 pub fn shown_is_taken_again()
     ensures taken { (before : Moment) (bytes : List ℕ) (after : Moment) (answer : Answer) → before.meter.bits ≤ 127
-        → AreWritable before.state → (answered : Answers before bytes after answer) → IsTakenAgain before answered.stmt after answer }
+        → AreWritable before.state → (answered : Answers before bytes after answer) → SimplifiesNone answered.stmt
+        → IsTakenAgain before answered.stmt after answer }
     ensures kept { (before : Moment) (bytes : List ℕ) (after : Moment) (answer : Answer) → before.meter.bits ≤ 127
-        → AreWritable before.state → Answers before bytes after answer → AreWritable after.state }
+        → AreWritable before.state → (answered : Answers before bytes after answer) → SimplifiesNone answered.stmt
+        → AreWritable after.state }
     ensures start { AreWritable unbound }
 {}
