@@ -10,6 +10,7 @@ pub mod EndsLaws
 pub mod WorkedLaws
 pub mod ValueLaws
 pub mod OutcomeLaws
+pub mod FlowLaws
 pub mod LinkLaws
 pub mod PostfixLaws
 pub mod OperandLaws

@@ -37,33 +37,32 @@ module _ {F : Type 0} where
   outcome_value (Err fault) Exact own names Holds limit same written kept params elements plain small = tt
 
   -- ---- what is answered for an outcome
-  -- an answer is the outcome's value, shared; memory may end
-  abbrev pub IsAnswer : {A : Type 0} → (F → Refusal) → (A → KeptValue) → Result KeptValue F → Result A Refusal → Type 0
+  -- an answer is the outcome's value, shared, or its values; memory may end
+  abbrev pub IsAnswer : {A B : Type 0} → (F → Refusal) → (A → B) → Result B F → Result A Refusal → Type 0
   IsAnswer refuses of outcome answer =
       MatchResult answer (λ a. outcome ≡ Ok (of a))
       (λ refusal. MatchResult outcome (λ _. refusal ≡ NoMemory) (λ fault. refusal ≡ refuses fault))
 
-  pub answered_ok : {A : Type 0} (refuses : F → Refusal) (of : A → KeptValue) (outcome : Result KeptValue F) (answer : Result A Refusal)
-      (Good : KeptValue → Type 0) → IsAnswer refuses of outcome answer → IfOk outcome Good → IfOk answer (λ a. Good (of a))
-  answered_ok refuses of outcome (Ok a) Good is good = subst (λ (o : Result KeptValue F). IfOk o Good) is good
+  pub answered_ok : {A B : Type 0} (refuses : F → Refusal) (of : A → B) (outcome : Result B F) (answer : Result A Refusal)
+      (Good : B → Type 0) → IsAnswer refuses of outcome answer → IfOk outcome Good → IfOk answer (λ a. Good (of a))
+  answered_ok {A} {B} refuses of outcome (Ok a) Good is good = subst (λ (o : Result B F). IfOk o Good) is good
   answered_ok refuses of outcome (Err refusal) Good is good = tt
 
   -- units alone were used where there is an answer; and where there is none a fault says why
   module _ (refuses : F → Refusal) (works : Bool) (Fails : F → Type 0) (Why : End → Type 0) (g h : Gauge)
       (faulted : (fault : F) (refusal : Refusal) → refusal ≡ refuses fault → Fails fault → IsWhyUnworked works Why g h refusal) where
-    refused : (outcome : Result KeptValue F) (refusal : Refusal)
+    refused : {B : Type 0} (outcome : Result B F) (refusal : Refusal)
         → MatchResult outcome (λ _. refusal ≡ NoMemory) (λ fault. refusal ≡ refuses fault)
         → MatchResult outcome (λ _. IsPaid works g h) Fails → IsWhyUnworked works Why g h refusal
     refused (Ok made) refusal is paid = inl (unmade_memory works Why g h refusal is paid)
     refused (Err fault) refusal is why = faulted fault refusal is why
 
-    pub answered_made : {A : Type 0} (of : A → KeptValue) (outcome : Result KeptValue F) (answer : Result A Refusal)
-        (Good : KeptValue → Type 0)
+    pub answered_made : {A B : Type 0} (of : A → B) (outcome : Result B F) (answer : Result A Refusal) (Good : B → Type 0)
         → IsAnswer refuses of outcome answer → IfOk outcome Good → MatchResult outcome (λ _. IsPaid works g h) Fails
         → MatchResult answer (λ a. Good (of a) × IsPaid works g h) (IsWhyUnworked works Why g h)
-    answered_made of outcome (Ok a) Good is good units = (
+    answered_made {A} {B} of outcome (Ok a) Good is good units = (
       answered_ok refuses of outcome (Ok a) Good is good,
-      subst (λ (o : Result KeptValue F). MatchResult o (λ _. IsPaid works g h) Fails) is units,
+      subst (λ (o : Result B F). MatchResult o (λ _. IsPaid works g h) Fails) is units,
     )
     answered_made of outcome (Err refusal) Good is good units = refused outcome refusal is units
 
@@ -114,15 +113,21 @@ operation_goes names Wide Misses few narrow found too_wide (inr wide) = narrow w
 operation_goes names Wide Misses few narrow found no_minimum h = found h.2
 operation_goes names Wide Misses few narrow found unbounded h = h
 
--- where it makes a value it does not end
-pub outcome_goes : {F : Type 0} (outcome : Result KeptValue F) (own names : List Name) (Wide : Type 0) → own ≡ names
-    → IfOk outcome IsKeptValue → IfOk outcome (λ value. value.params ≡ own) → IfOk outcome (λ _. ¬ Wide)
+-- where it makes a value, or more of which this is one, it does not end
+pub outcome_goes_of : {A F : Type 0} (of : A → KeptValue) (outcome : Result A F) (own names : List Name) (Wide : Type 0) → own ≡ names
+    → IfOk outcome (λ a. IsKeptValue (of a)) → IfOk outcome (λ a. (of a).params ≡ own) → IfOk outcome (λ _. ¬ Wide)
     → IfOk outcome (λ _. GoesOn (OperationEnds names Wide ⊥))
-outcome_goes (Ok made) own names Wide same kept params narrow =
+outcome_goes_of of (Ok made) own names Wide same kept params narrow =
     let few = kept.params.few in
     let long = ap length (params ∙ same) in
     operation_goes names Wide ⊥ (omega (arith, few, long)) narrow (λ no. no)
-outcome_goes (Err fault) own names Wide same kept params narrow = tt
+outcome_goes_of of (Err fault) own names Wide same kept params narrow = tt
+
+pub outcome_goes : {F : Type 0} (outcome : Result KeptValue F) (own names : List Name) (Wide : Type 0) → own ≡ names
+    → IfOk outcome IsKeptValue → IfOk outcome (λ value. value.params ≡ own) → IfOk outcome (λ _. ¬ Wide)
+    → IfOk outcome (λ _. GoesOn (OperationEnds names Wide ⊥))
+outcome_goes outcome own names Wide same kept params narrow =
+    outcome_goes_of (λ (value : KeptValue). value) outcome own names Wide same kept params narrow
 
 pub word_goes : {F : Type 0} (outcome : Result KeptValue F) (Wide Misses : Type 0) → IfOk outcome (λ _. ¬ Wide) → IfOk outcome (λ _. ¬ Misses)
     → IfOk outcome (λ _. GoesOn (OperationEnds [] Wide Misses))

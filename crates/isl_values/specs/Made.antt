@@ -28,15 +28,14 @@ use Rattle.isl_values.specs.State.{HasNumbersUpTo}
 use Rattle.isl_values.specs.Ends.{End, Reason, because, refusal_of_reason}
 use Rattle.isl_values.specs.Ends as ends
 
--- what stands in no operand that a value is worked out of: tests, `%`, `scan`, `sample` and `codegen`; and `last`, which is not worked out
--- yet
+-- what stands in no operand that a value is worked out of: tests, `%`, `scan`, `sample` and `codegen`
 abbrev pub is_foreign : Part → Bool
 is_foreign (name n) = false
 is_foreign (literal l) = false
 is_foreign (operator sign) = not (is_operation sign)
 is_foreign (prefix word) = not (is_operation_word word)
 is_foreign any = false
-is_foreign last = true
+is_foreign last = false
 is_foreign inverse = false
 is_foreign application = false
 is_foreign (item number) = false

@@ -2,6 +2,7 @@
 use Rattle.std.specs.Prelude.{◌≡◌, ℕ, List}
 use Rattle.isl_space.specs.Name.{Name}
 use Rattle.isl_union.specs.KeptValue.{KeptValue, Has, HasNoDefinitions, IsKeptValue}
+use Rattle.isl_flow.specs.declared.sources.Flow.{Flow}
 use Rattle.isl_expr.specs.declared.tree.Expr.{Expr}
 use Rattle.isl_kinds.specs.Typed.{declared_of, joined_names}
 use Rattle.isl_operators.specs.Made.{IsDependenceOf}
@@ -35,6 +36,10 @@ pub record AreKept (bound : Kept) (list : ListValue) : Type 0 where
   pub kept : (part : ListPart) → IsKeptValue (value_at part bound)
   pub definitions : (part : ListPart) → HasNoDefinitions (value_at part bound)
   pub params : (part : ListPart) → (value_at part bound).params ≡ bound.value.params
+
+-- both are those of a flow
+abbrev pub AreOfFlow : ListValue → Flow → Type 0
+AreOfFlow list flow = (list.first.value ≡ flow.last) × (list.second.value ≡ flow.unsourced)
 
 -- ---- source, sink and schedule
 -- those that are worked out of three operands

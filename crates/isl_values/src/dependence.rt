@@ -1,19 +1,20 @@
 //! Which accesses come before others, and which are the last.
 
-ghost use Rattle.std.specs.Prelude.{IfOk, MatchResult, true, unsigned_abs};
+ghost use Rattle.std.specs.Prelude.{◌≡◌, IfOk, MatchResult, true, unsigned_abs};
 ghost use Rattle.isl_meter.specs.Gauge.{limit_of};
 ghost use Rattle.isl_relation.specs.Flow.{AnyHas};
 ghost use Rattle.isl_values.specs.Ends.{GoesOn};
-ghost use Rattle.isl_values.specs.Made.{IsPaid, IsWhyUnworked};
-ghost use Rattle.isl_values.specs.Three.{AreOfThree, IsPlainThree, IsOfThree, ThreeEnd};
+ghost use Rattle.isl_values.specs.Made.{refusal_of_fault, IsPaid, IsWhyUnworked};
+ghost use Rattle.isl_values.specs.Three.{AreOfFlow, AreOfThree, IsPlainThree, IsOfThree, ThreeEnd};
 ghost use Rattle.isl_values.specs.Worked.{PartHas};
 
-use crate::values::answered;
+use crate::values::{answered, refusal_of};
 use crate::{ListPart, ListValue};
+use isl_flow::Flow;
 use isl_meter::Meter;
 use isl_operators::depended;
 use isl_text::refusal::Refusal;
-use isl_union::Value;
+use isl_union::{OpFault, Value};
 use std::alloc::Global;
 use std::rc::Rc;
 
@@ -39,7 +40,22 @@ pub fn preceding(alloc: Global, three: &Accesses, meter: &mut Meter) -> Result<R
     )
 }
 
-/// The last sources of sinks, and the sinks that have none. No caller comes here yet, and it says that memory ends.
+// What is answered for both values of a flow, shared.
+fn listed(alloc: Global, outcome: Result<Flow, OpFault>) -> Result<ListValue, Refusal>
+    ensures { MatchResult result (λ list. MatchResult outcome (AreOfFlow list) (λ _. ⊥))
+        (λ refusal. MatchResult outcome (λ _. refusal ≡ Refusal.NoMemory) (λ fault. refusal ≡ refusal_of_fault fault)) }
+{
+    match outcome {
+        Ok(flow) => Ok(ListValue {
+            first: Rc::new(alloc, flow.last)?,
+            second: Rc::new(alloc, flow.unsourced)?,
+        }),
+        Err(OpFault::Cut(cut)) => Err(refusal_of(cut)),
+        Err(OpFault::TooWide) => Err(Refusal::TooWide),
+    }
+}
+
+/// The last sources of sinks, and the sinks that have none.
 pub fn latest(alloc: Global, three: &Accesses, meter: &mut Meter) -> Result<ListValue, Refusal>
     requires { IsPlainThree (unsigned_abs (limit_of meter.old)) three.now }
     ensures made { MatchResult result
@@ -47,7 +63,10 @@ pub fn latest(alloc: Global, three: &Accesses, meter: &mut Meter) -> Result<List
         (IsWhyUnworked true (ThreeEnd three.now) meter.old meter.new) }
     ensures goes_on { IfOk result (λ _. GoesOn (ThreeEnd three.now)) }
 {
-    Err(Refusal::NoMemory)
+    listed(
+        alloc,
+        isl_operators::latest(alloc, &three.source, &three.sink, &three.schedule, meter),
+    )
 }
 
 /// One part of them.
