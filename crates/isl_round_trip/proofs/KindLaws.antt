@@ -1,6 +1,7 @@
 -- What an expression selects lies in spaces of its kind, and so do the pieces of a kept value with these elements.
 use mathlib.Core.Former.{Count}
-use Rattle.std.proofs.Common.{◌≡◌, ◌∙◌, inl, inr, ◌⊎◌, Bool, true, false, List, [], ◌∷◌, ◌++◌, Option, Some, None, All, sym, ap, subst, refl}
+use Rattle.std.proofs.Common.{◌≡◌, ◌∙◌, inl, inr, ◌⊎◌, Bool, true, false, List, [], ◌∷◌, ◌++◌, Option, Some, None, All}
+use Rattle.std.proofs.Common.{sym, ap, subst, refl}
 use Rattle.std.specs.Prelude.{is_some, is_none, ◌&&◌, ◌||◌, option_map, Any, MatchOption}
 use Rattle.std.specs.Option.{option_and_then}
 use Rattle.std.specs.List.{list_all, list_any}
@@ -291,8 +292,8 @@ module _ (state : StateView) (all : AreWritable state) where
 
   -- what is kept of a part of an expression without `%` is of its kind
   pub content_kind : (part : ListPart) (expr : Expr) (value : KeptValue) → All IsSpelled (literals_of expr)
-      → list_any simplifies (parts_of expr) ≡ false → IsContentOf state part expr value → (kind : ValueKind) → kind_of (scope_of state) expr ≡ Some kind → (valuation : Valuation)
-      (element : Element) → Has value valuation element → IsSpaceOf kind element.space
+      → list_any simplifies (parts_of expr) ≡ false → IsContentOf state part expr value → (kind : ValueKind)
+      → kind_of (scope_of state) expr ≡ Some kind → (valuation : Valuation) (element : Element) → Has value valuation element → IsSpaceOf kind element.space
   content_kind part (Prefix' p.Sample s operand) value spelled none content kind is valuation element has =
       sample_kind _ operand spelled content.0 value content.1 content.2 kind is valuation element has
   content_kind part (Prefix' p.Coalesce s operand) value spelled none content kind is valuation element has =
