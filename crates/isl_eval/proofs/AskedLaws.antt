@@ -9,7 +9,7 @@ use Rattle.isl_expr.specs.declared.tree.Expr.TheBlock.{hidden-the_row-Expr-0, hi
 use Rattle.isl_expr.specs.declared.tree.Expr as e
 use Rattle.isl_flat.specs.Flat.{is_sample}
 use Rattle.isl_eval.specs.Tests.{is_test}
-use Rattle.isl_eval.specs.Evaluation.{ends_with_test, is_scan, is_listing, is_asked}
+use Rattle.isl_eval.specs.Evaluation.{ends_with_test, is_coalesce, is_scan, is_listing, is_asked}
 use Rattle.isl_eval.proofs.TestLaws.{ends_are, ends_at}
 
 listing_of-Prefix : (word : Word) (operand : Expr) → is_listing (e.Prefix word operand) ≡ is_scan word
@@ -53,3 +53,7 @@ scan_word _ is = let no : false ≡ true = is in cc
 pub sample_word : (word : Word) → is_sample word ≡ true → word ≡ p.Sample
 sample_word p.Sample is = refl
 sample_word _ is = let no : false ≡ true = is in cc
+
+pub coalesce_word : (word : Word) → is_coalesce word ≡ true → word ≡ p.Coalesce
+coalesce_word p.Coalesce is = refl
+coalesce_word _ is = let no : false ≡ true = is in cc

@@ -18,21 +18,14 @@ use Rattle.isl_operators.specs.Formed.{OperatorForms, PairsWide, WordForms, Form
 use Rattle.isl_values.specs.State.{StateView, scope_of}
 use Rattle.isl_values.specs.Selection.{Selects}
 use Rattle.isl_values.specs.declared.list.ListPart.TheVariants.{First}
-use Rattle.isl_values.specs.Ends.{End, because, cut, too_wide, no_minimum, unbounded, NoEnd, GoesOn, FirstEnds, OperationEnds, Ends, EndsRow}
+use Rattle.isl_values.specs.Ends.{End, because, cut, too_wide, NoEnd, GoesOn, FirstEnds, Ends, EndsRow}
 use Rattle.isl_values.specs.Ends.{PairEnds, WordEnds}
 use Rattle.isl_values.proofs.FirstLaws.{EndAlike, alike_itself, first_alike, goes_alike, goes_both, turned_alike}
 use Rattle.isl_values.proofs.EndsLaws.{Behind}
 use Rattle.isl_values.proofs.EndsLaws.{ends_of-Prefix, row_alike, row_split}
+use Rattle.isl_values.proofs.OutcomeLaws.{operation_goes}
 use Rattle.isl_eval.specs.Tests.{is_test}
 use Rattle.isl_eval.specs.Evaluation.{EndsTest}
-
--- ---- one operation
-operation_goes : (names : List Name) (Wide Misses : Type 0) → length names ≤ most_parameters → ¬ Wide → ¬ Misses
-    → GoesOn (OperationEnds names Wide Misses)
-operation_goes names Wide Misses few narrow there too_wide (inl many) = absurd (omega (arith, many, few))
-operation_goes names Wide Misses few narrow there too_wide (inr wide) = narrow wide.1
-operation_goes names Wide Misses few narrow there no_minimum h = there h.2
-operation_goes names Wide Misses few narrow there unbounded h = h
 
 -- ---- words
 module _ (state : StateView) (word : Word) (operand : Expr) where

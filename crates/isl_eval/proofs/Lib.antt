@@ -1,4 +1,5 @@
 pub mod UnsupportedLaws
+pub mod MomentLaws
 pub mod NameLaws
 pub mod LiteralLaws
 pub mod SizeLaws

@@ -220,10 +220,6 @@ depends result a b c m of is = by (fits a Map) refl (fits b Map) refl (fits c Ma
     by true p false q z r = let f : None ≡ Some m = sym (rw (p, q) refl) ∙ is in cc
     by false p y q z r = let f : None ≡ Some m = sym (rw p refl) ∙ is in cc
 
-list_made : (all_empty : Bool) → is_value (made all_empty Pair) ≡ true
-list_made true = refl
-list_made false = refl
-
 -- ---- what has a kind
 abbrev IsValue : Option ValueKind → Type 0
 IsValue o = (k : ValueKind) × (o ≡ Some k) × (is_value k ≡ true)
@@ -417,13 +413,15 @@ mutual
       (word_value word (kind_in scope operand) k (calm_head (part.prefix word) (parts_in operand) calm) is value)
       (in_plain _ scope operand taken.0 taken.1 taken.2 (calm_tail (part.prefix word) (parts_in operand) calm))
   value_plain scope (Any' r source s sink t schedule) k is value calm =
-      three_plain _ _ _ scope source sink schedule k
-      (three_of Map (kind_in scope source) (kind_in scope sink) (kind_in scope schedule) k (value_made Map refl) is)
-      (calm_tail part.any (parts_in source ++ (parts_in sink ++ parts_in schedule)) calm)
-  value_plain scope (Last' r source s sink t schedule) k is value calm =
-      three_plain _ _ _ scope source sink schedule k
-      (three_of Pair (kind_in scope source) (kind_in scope sink) (kind_in scope schedule) k list_made is)
-      (calm_tail part.last (parts_in source ++ (parts_in sink ++ parts_in schedule)) calm)
+      let each = three_of Map (kind_in scope source) (kind_in scope sink) (kind_in scope schedule) k (value_made Map refl) is in
+      let all = calm_tail part.any (parts_in source ++ (parts_in sink ++ parts_in schedule)) calm in
+      let later = calm_right (parts_in source) (parts_in sink ++ parts_in schedule) all in
+      none_both (parts_in source) (parts_in sink ++ parts_in schedule)
+      (in_plain _ scope source each.0.0 each.0.1 each.0.2 (calm_left (parts_in source) (parts_in sink ++ parts_in schedule) all))
+      (none_both (parts_in sink) (parts_in schedule)
+      (in_plain _ scope sink each.1.0 each.1.1 each.1.2 (calm_left (parts_in sink) (parts_in schedule) later))
+      (in_plain _ scope schedule each.2.0 each.2.1 each.2.2 (calm_right (parts_in sink) (parts_in schedule) later)))
+  value_plain scope (Last' r source s sink t schedule) k is value calm = absurd (false≢true (sym calm.supported))
   value_plain scope (Post' s operand t postfixes) k is value calm =
       let post = post_fine _ scope (kind_in scope operand) postfixes k is value
       (calm_right (parts_in operand) (parts_in_postfixes postfixes) calm) in
@@ -435,18 +433,6 @@ mutual
       → list_any is_foreign (parts_in row) ≡ false
   in_plain m scope end_of-Expr k is value calm = refl
   in_plain m scope (more_of-Expr expr rest) k is value calm = value_plain scope expr k is value calm
-
-  three_plain : (l m n : Count) (scope : ScopeView) (source : Row_of-Expr l) (sink : Row_of-Expr m) (schedule : Row_of-Expr n)
-      (k : ValueKind) → Three (kind_in scope source) (kind_in scope sink) (kind_in scope schedule) k
-      → IsCalm (parts_in source ++ (parts_in sink ++ parts_in schedule))
-      → list_any is_foreign (parts_in source ++ (parts_in sink ++ parts_in schedule)) ≡ false
-  three_plain l m n scope source sink schedule k each calm =
-      let later = calm_right (parts_in source) (parts_in sink ++ parts_in schedule) calm in
-      none_both (parts_in source) (parts_in sink ++ parts_in schedule)
-      (in_plain _ scope source each.0.0 each.0.1 each.0.2 (calm_left (parts_in source) (parts_in sink ++ parts_in schedule) calm))
-      (none_both (parts_in sink) (parts_in schedule)
-      (in_plain _ scope sink each.1.0 each.1.1 each.1.2 (calm_left (parts_in sink) (parts_in schedule) later))
-      (in_plain _ scope schedule each.2.0 each.2.1 each.2.2 (calm_right (parts_in sink) (parts_in schedule) later)))
 
   -- around a test at the end of a row, and everywhere in another row
   row_fine : (m : Count) (scope : ScopeView) (left : Option ValueKind) (row : Row_of-Link m) (k : ValueKind)
@@ -523,8 +509,11 @@ is_lone _ = false
 
 -- a row in which nothing is chosen is no gist
 no_context : (m : Count) (row : Row_of-Link m) → list_any chooses (parts_in_links row) ≡ false → context_of row ≡ None
+no_context m end_of-Link none = refl
 no_context m (more_of-Link b.Gist operand end_of-Link) none = absurd (false≢true (sym none))
-no_context m _ none = refl
+no_context m (more_of-Link _ operand end_of-Link) none = refl
+no_context m (more_of-Link b.Gist operand (more_of-Link next other rest)) none = refl
+no_context m (more_of-Link _ operand (more_of-Link next other rest)) none = refl
 
 made_row : {m n : Count} (first : Row_of-Expr m) (links : Row_of-Link n) → list_any chooses (parts_in_links links) ≡ false
     → parts_in first ++ option_map_or (λ context. parts_of context) (context_of links) (parts_in_links links)
@@ -587,13 +576,9 @@ shown_plain scope (Prefix' p.Sample s operand) k is full calm = absurd (false≢
 shown_plain scope (Prefix' p.Codegen s operand) k is full calm = absurd (false≢true (sym calm.supported))
 shown_plain scope (Prefix' word s operand) k is full calm = operand_plain _ scope word operand k is calm
 shown_plain scope (Any' r source s sink t schedule) k is full calm =
-    three_plain _ _ _ scope source sink schedule k
-    (three_of Map (kind_in scope source) (kind_in scope sink) (kind_in scope schedule) k (value_made Map refl) is)
-    (calm_tail part.any (parts_in source ++ (parts_in sink ++ parts_in schedule)) calm)
-shown_plain scope (Last' r source s sink t schedule) k is full calm =
-    three_plain _ _ _ scope source sink schedule k
-    (three_of Pair (kind_in scope source) (kind_in scope sink) (kind_in scope schedule) k list_made is)
-    (calm_tail part.last (parts_in source ++ (parts_in sink ++ parts_in schedule)) calm)
+    value_plain scope (Any' r source s sink t schedule) k is
+    (three_of Map (kind_in scope source) (kind_in scope sink) (kind_in scope schedule) k (value_made Map refl) is).3 calm
+shown_plain scope (Last' r source s sink t schedule) k is full calm = absurd (false≢true (sym calm.supported))
 shown_plain scope (Post' s operand t postfixes) k is full calm =
     value_plain scope (Post' s operand t postfixes) k is
     (full_post _ scope (kind_in scope operand) postfixes k is full (calm_right (parts_in operand) (parts_in_postfixes postfixes) calm)) calm

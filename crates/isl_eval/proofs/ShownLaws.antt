@@ -1,7 +1,9 @@
 -- What is kept of expressions, and what is shown of them.
-use Rattle.std.proofs.Common.{◌≡◌, ◌∙◌, ◌↔◌, inl, inr, refl, sym, ap, ap₂, subst, take, ◌+◌}
-use Rattle.std.proofs.Common.{ℕ, ℤ, Bool, true, false, List, [], ◌∷◌, ◌++◌, length, Option, Some, Result, Ok, Err}
-use Rattle.std.specs.Prelude.{unsigned_abs, ◌||◌, if◌then◌else◌, IfOk, MatchResult}
+use mathlib.Core.Former.{Count}
+use Rattle.std.proofs.Common.{◌≡◌, ◌≢◌, ◌<◌, ◌≤◌, ◌∙◌, ◌↔◌, inl, inr, refl, sym, ap, ap₂, subst, take, ◌+◌}
+use Rattle.std.proofs.Common.{ℕ, ℤ, Bool, true, false, List, [], ◌∷◌, ◌++◌, length, Option, None, Some, Result, Ok, Err}
+use Rattle.std.specs.Prelude.{unsigned_abs, not, ◌||◌, ◌&&◌, if◌then◌else◌, is_some, IfOk, MatchOption, MatchResult}
+use Rattle.std.specs.Option.{option_and_then, option_map_or}
 use Rattle.std.specs.List.{All, list_any}
 use Rattle.std.proofs.lemmas.Bool.{false≢true, or_parts}
 use Rattle.std.specs.List.{slice_get}
@@ -11,18 +13,26 @@ use Rattle.std.proofs.lemmas.List.Elements.{All-nil, All-append}
 use Rattle.std.proofs.lemmas.List.Folds.{list_any-append}
 use Rattle.isl_meter.specs.Gauge.{Gauge, limit_of, IsCharged}
 use Rattle.isl_meter.proofs.CutLemmas.{IsCharged_refl, IsCharged_trans}
+use Rattle.isl_space.specs.Limits.{most_parameters}
 use Rattle.isl_space.specs.Name.{Name}
+use Rattle.isl_space.specs.Names.{joined}
+use Rattle.isl_space.specs.SpaceForm.{SpaceForm}
 use Rattle.isl_space.specs.Element.{Element}
 use Rattle.isl_space.specs.Valuation.{Valuation, value_at, values_of}
 use Rattle.isl_words.specs.Options.{OptionsView}
 use Rattle.isl_union.specs.Finite.{IsFiniteAt}
 use Rattle.isl_union.specs.KeptValue.{KeptValue, Has, HasNoDefinitions, IsKeptValue}
 use Rattle.isl_union.specs.Sample.{IsSampleOf}
+use Rattle.isl_coalesce.specs.Coalesced.{IsCoalesced}
+use Rattle.isl_gist.specs.Gist.{IsGistOf, value_over}
+use Rattle.isl_operators.specs.Formed.{OperatorForms, PairsWide, WordForms}
+use Rattle.isl_operators.specs.Made.{IsAnyWordOf}
 use Rattle.isl_scan.specs.declared.fault.ScanFault.{ScanFault}
 use Rattle.isl_scan.specs.declared.fault.ScanFault.TheVariants as scan_fault
 use Rattle.isl_scan.specs.Fault.{IsScanFault}
 use Rattle.isl_scan.specs.Listing.{IsListingOf}
 use Rattle.isl_text.specs.declared.refusal.Refusal.{Refusal}
+use Rattle.isl_text.specs.declared.refusal.Refusal.TheVariants.{NoMemory}
 use Rattle.isl_lower.specs.Value.{IsWellFormedLiteral}
 use Rattle.isl_tree.specs.declared.tree.Literal.{Literal}
 use Rattle.isl_expr.specs.declared.tree.Binary.{Binary}
@@ -30,28 +40,39 @@ use Rattle.isl_expr.specs.declared.tree.Binary.TheVariants as b
 use Rattle.isl_expr.specs.declared.tree.Prefix.{Prefix as Word}
 use Rattle.isl_expr.specs.declared.tree.Prefix.TheVariants as p
 use Rattle.isl_expr.specs.declared.tree.ValueKind.{ValueKind}
+use Rattle.isl_expr.specs.declared.tree.ValueKind.TheVariants as kinds
+use Rattle.isl_expr.specs.declared.tree.Postfix.{Postfix}
 use Rattle.isl_expr.specs.declared.tree.Stmt.{Stmt}
 use Rattle.isl_expr.specs.declared.tree.Stmt.TheVariants.{Empty, Bind, Show}
-use Rattle.isl_expr.specs.declared.tree.Expr.{Expr, Row, Row', Prefix'}
-use Rattle.isl_expr.specs.declared.tree.Expr.TheBlock.{hidden-the_row-Expr-0}
+use Rattle.isl_expr.specs.declared.tree.Expr.{Expr, Row, Row', Prefix', Row_of-Link, end_of-Link, more_of-Link, items_hidden-the_row-Link-1}
+use Rattle.isl_expr.specs.declared.tree.Expr.TheBlock.{hidden-the_row-Expr-0, hidden-the_row-Link-1}
 use Rattle.isl_expr.specs.declared.tree.Expr as e
 use Rattle.isl_expr.specs.declared.tree.Link.{Link}
 use Rattle.isl_expr.specs.Expr.{literals_of, links_literals}
 use Rattle.isl_expr.proofs.Literals.{literals_of-Prefix, literals_of-Row}
 use Rattle.isl_kinds.specs.declared.types.Purpose.TheVariants as purpose
+use Rattle.isl_kinds.specs.Lines.{by_short_lines, fits, is_kind, made}
+use Rattle.isl_kinds.specs.Lines.{joined as kind_joined}
 use Rattle.isl_kinds.specs.Parts.{Part, parts_of, parts_in, parts_in_links, parts_of_links}
 use Rattle.isl_kinds.specs.Parts as part
-use Rattle.isl_kinds.specs.Typed.{TypeView, ScopeView, has_unknown, is_unknown, kind_of, declared_of}
+use Rattle.isl_kinds.specs.Typed.{TypeView, ScopeView, has_unknown, is_unknown, kind_of, kind_in, kind_past_links, by_two, declared_of, joined_names}
 use Rattle.isl_kinds.specs.Typed.{type_for, type_of_statement, Answers as TypeAnswers}
-use Rattle.isl_kinds.proofs.DeclaredLaws.{declared_of-Prefix}
+use Rattle.isl_flat.specs.Flat.{is_gist, is_sample, link_of}
+use Rattle.isl_kinds.proofs.DeclaredLaws.{declared_of-Prefix, declared_of-Row}
+use Rattle.isl_kinds.proofs.JoinedNamesLaws.{declared_distinct, joined_is}
 use Rattle.isl_kinds.proofs.PartLaws.{parts_of-Prefix, parts_of-Row}
+use Rattle.isl_values.specs.declared.list.ListPart.{ListPart}
+use Rattle.isl_values.specs.declared.list.ListPart.TheVariants.{First, Second}
+use Rattle.isl_values.specs.declared.list.ListValue.{ListValue}
 use Rattle.isl_values.specs.State.{Binds, Kept, Moment, StateView, HasNumbersUpTo, scope_of, type_of}
 use Rattle.isl_values.specs.Worked.{IsWorked}
-use Rattle.isl_values.specs.Selection.{Selects, IsContentOf, IsSelected, Keeps}
+use Rattle.isl_values.specs.Selection.{Selects, IsContentOf, IsGistOfTwo, IsKeptOf, IsSelected, IsSelectedAt, IsSelectedIn, Keeps, context_of}
+use Rattle.isl_values.specs.Three.{AreBothOf, IsValueAt}
 use Rattle.isl_values.specs.Made.{is_foreign, uses_units, IsOfType, IsSoundExpr, IsValueOf, IsPaid, IsWhyUnworked}
-use Rattle.isl_values.specs.Ends.{End, because, cut, too_wide, no_minimum, unbounded, Ends, GoesOn}
+use Rattle.isl_values.specs.Ends.{End, because, cut, too_wide, no_minimum, unbounded, Ends, FirstEnds, GoesOn, NoEnd, PairEnds}
 use Rattle.isl_values.proofs.FirstLaws.{EndAlike, alike_trans, goes_alike, goes_both, turned_alike}
 use Rattle.isl_values.proofs.EndsLaws.{ends_of-Row}
+use Rattle.isl_values.proofs.OutcomeLaws.{operation_goes}
 use Rattle.isl_values.proofs.PartLaws.{all_left, all_right, quiet_both, sound_links}
 use Rattle.isl_values.proofs.ValueLaws.{paid_works, same_limit, unworked_in}
 use Rattle.isl_eval.specs.Listed.{IsListed, AreFinite}
@@ -59,69 +80,182 @@ use Rattle.isl_eval.specs.Machine.{Answer, Does, Shows, ShowsRow, ShowsValue, St
 use Rattle.isl_eval.specs.Ended.{ListingEnds, StatementEnds}
 use Rattle.isl_eval.specs.Tests.{is_test, RowHolds}
 use Rattle.isl_eval.specs.Evaluated.{made_parts, shown_parts, parts_around_test, works, IsTyped, IsEvaluable, IsWhyEnded}
-use Rattle.isl_eval.specs.Evaluation.{ends_with_test, is_asked, refusal_of_fault}
-use Rattle.isl_eval.specs.Evaluation.{EndsListing, EndsTest, IsKeptOf, IsMakeable, IsReadyTest, IsSampled}
-use Rattle.isl_eval.proofs.TypeLaws.{answered_ok, found_is, bind_typed, of_type}
-use Rattle.isl_eval.proofs.TestLaws.{ends_at, test_parts, unmade_by}
-use Rattle.isl_eval.proofs.EndsLaws.{word_ends, word_goes_on}
+use Rattle.isl_eval.specs.Evaluation.{ends_with_test, context_in, is_asked, is_coalesce, keeps_selected, refusal_of_fault}
+use Rattle.isl_eval.specs.Evaluation.{AreKeptIn, EndsListing, EndsPair, EndsTest, EndsWork, IsKeptIn, IsMakeable, IsReadyTest, IsSampled}
+use Rattle.isl_eval.specs.Evaluation.{IsSimplified, IsTogether, IsValueWith}
+use Rattle.isl_eval.proofs.TypeLaws.{answered_ok, found_is, found_some, bind_typed, of_type, show_typed}
+use Rattle.isl_eval.proofs.TestLaws.{context_is, ends_at, made_of-Row, test_parts, unmade_by}
+use Rattle.isl_eval.proofs.EndsLaws.{word_cut, word_ends, word_goes_on}
 use Rattle.isl_eval.proofs.ListedLaws.{listed_finite}
 use Rattle.isl_eval.proofs.AskedLaws.{asked_of-Prefix, asked_of-Row, ends_none, scan_word}
 
 -- ---- what is kept of an expression that selects
--- `sample` does not stand outermost where nothing is foreign
-selected_content : (state : StateView) (expr : Expr) (value : KeptValue) → list_any is_foreign (parts_of expr) ≡ false
-    → IsSelected state expr value
-    → IsContentOf state expr value
-selected_content state (Prefix' p.Sample s operand) value plain is = absurd (false≢true (sym plain))
-selected_content state _ value plain is = is
+selected_content : (state : StateView) (part : ListPart) (expr : Expr) (value : KeptValue) → keeps_selected expr ≡ true
+    → IsSelectedAt state part expr value → IsContentOf state part expr value
+selected_content state part (Prefix' p.Sample s operand) value plain is = absurd (false≢true plain)
+selected_content state part (Prefix' p.Coalesce s operand) value plain is = absurd (false≢true plain)
+selected_content state part (Row' s first t links) value plain is = by (context_of links) refl
+  where
+    by : (c : Option Expr) → context_of links ≡ c → IsContentOf state part (Row' s first t links) value
+    by None none =
+        subst (λ (c : Option Expr). MatchOption c (IsSelectedAt state part (Row' s first t links) value)
+        (λ context. (left : KeptValue) × (right : KeptValue) × IsSelectedIn state first left × IsSelected state context right
+        × IsGistOfTwo left right value)) (sym none) is
+    by (Some context) some = absurd (false≢true (sym (ap (λ (c : Option Expr). not (is_some c)) some) ∙ plain))
+selected_content state part _ value plain is = is
 
-module _ (state : StateView) (limit : ℤ) (expr : Expr) (value : KeptValue) where
-  keeps : (before : Moment) (kind : ValueKind) → before.state ≡ state → limit_of before.meter ≡ limit
-      → kind_of (scope_of state) expr ≡ Some kind
-      → IsContentOf state expr value → value.params ≡ declared_of (scope_of state) expr → IsKeptValue value
-      → HasNumbersUpTo (unsigned_abs limit) value → HasNoDefinitions value → Keeps before expr (record { kind = kind; value = value })
-  keeps before kind same at is content params kept numbers plain = record {
-    kind = ap (λ (s : StateView). kind_of (scope_of s) expr) same ∙ is;
+kept_parts : (expr : Expr) → keeps_selected expr ≡ true → made_parts expr ≡ parts_of expr
+kept_parts (Prefix' p.Sample s operand) is = absurd (false≢true is)
+kept_parts (Row' s first t links) is = by (context_of links) refl
+  where
+    by : (c : Option Expr) → context_of links ≡ c → made_parts (Row' s first t links) ≡ parts_of (Row' s first t links)
+    by None none = ap (λ (c : Option Expr). parts_in first ++ option_map_or (λ context. parts_of context) c (parts_in_links links)) none
+    by (Some context) some = absurd (false≢true (sym (ap (λ (c : Option Expr). not (is_some c)) some) ∙ is))
+kept_parts _ is = refl
+
+pub selected_sound : (scope : ScopeView) (expr : Expr) → keeps_selected expr ≡ true → IsMakeable scope expr → IsSoundExpr scope expr
+selected_sound scope expr is able = record {
+  supported = sym (ap (list_any is_foreign) (kept_parts expr is)) ∙ able.plain;
+  known = able.known;
+  literals = able.literals;
+}
+
+module _ (state : StateView) (limit : ℤ) (part : ListPart) (expr : Expr) (value : KeptValue) where
+  keeps : (before : Moment) → before.state ≡ state → limit_of before.meter ≡ limit → IsContentOf state part expr value
+      → value.params ≡ declared_of (scope_of state) expr → IsKeptValue value → HasNumbersUpTo (unsigned_abs limit) value
+      → HasNoDefinitions value → IsKeptOf before part expr value
+  keeps before same at content params kept numbers plain = record {
     params = ap (λ (s : StateView). declared_of (scope_of s) expr) same ∙ sym params;
-    content = subst (λ (s : StateView). IsContentOf s expr value) (sym same) content;
+    content = subst (λ (s : StateView). IsContentOf s part expr value) (sym same) content;
     well_formed = kept;
     numbers = subst (λ (z : ℤ). HasNumbersUpTo (unsigned_abs z) value) (sym at) numbers;
     definitions = plain;
   }
 
-  pub selected_kept : list_any is_foreign (parts_of expr) ≡ false
-      → IsValueOf (IsWorked state expr) (declared_of (scope_of state) expr) (Selects state expr) (unsigned_abs limit) value
-      → IsKeptOf state limit expr value
-  selected_kept plain made = λ before kind same at is.
-      keeps before kind same at is
-      (selected_content state expr value plain (record { elements = made.elements; written = made.written })) made.params made.kept
-      made.numbers made.definitions
+  pub selected_kept : keeps_selected expr ≡ true → IsValueAt state part expr (unsigned_abs limit) value → (before : Moment)
+      → before.state ≡ state → limit_of before.meter ≡ limit → IsKeptOf before part expr value
+  selected_kept is made = λ before same at.
+      keeps before same at (selected_content state part expr value is (record { elements = made.elements; written = made.written }))
+      made.params made.kept made.numbers made.definitions
 
--- ---- what is kept of a sample
-pub sampled_is : (state : StateView) (operand : Expr) (g h : Gauge) (value v sample made : KeptValue)
-    → IsValueOf (IsWorked state operand) (declared_of (scope_of state) operand) (Selects state operand) (unsigned_abs (limit_of g)) value
-    → v ≡ value
-    → IsSampleOf v sample → IsKeptValue sample → HasNoDefinitions sample → HasNumbersUpTo (unsigned_abs (limit_of h)) sample
-    → IsCharged g h → made ≡ sample
-    → IsSampled state operand (unsigned_abs (limit_of g)) made
-sampled_is state operand g h value v sample made of is chosen kept plain small charged same =
-    subst (IsSampled state operand (unsigned_abs (limit_of g))) (sym same) (record {
-      chosen = (value, record { elements = of.elements; written = of.written }, subst (λ (k : KeptValue). IsSampleOf k sample) is chosen);
+  with_kept : (Content : KeptValue → Type 0) (names : List Name) → IsValueWith Content names (unsigned_abs limit) value
+      → (Content value → IsContentOf state part expr value) → names ≡ declared_of (scope_of state) expr → (before : Moment)
+      → before.state ≡ state → limit_of before.meter ≡ limit → IsKeptOf before part expr value
+  with_kept Content names made into same = λ before here at.
+      keeps before here at (into made.content) (made.params ∙ same) made.kept made.numbers made.definitions
+
+-- ---- at the constructors of the code
+selects_of-Prefix : (word : Word) (operand : Expr) → keeps_selected (e.Prefix word operand) ≡ not (is_sample word || is_coalesce word)
+unfolding hidden-the_row-Expr-0 denote.Hole.Carrier.hidden
+selects_of-Prefix word operand = refl
+
+selects_of-Row : (first : Expr) (links : List Link) → keeps_selected (Row first links) ≡ not (is_some (context_in links))
+unfolding hidden-the_row-Expr-0 denote.Hole.Carrier.hidden
+selects_of-Row first links =
+    ap (λ (c : Option Expr). not (is_some c))
+    (context_is _ (hidden-the_row-Link-1 links) ∙ ap context_in (items_hidden-the_row-Link-1 links))
+
+selects_of-Any : (source sink schedule : Expr) → keeps_selected (e.Any source sink schedule) ≡ true
+unfolding hidden-the_row-Expr-0 denote.Hole.Carrier.hidden
+selects_of-Any source sink schedule = refl
+
+selects_of-Last : (source sink schedule : Expr) → keeps_selected (e.Last source sink schedule) ≡ true
+unfolding hidden-the_row-Expr-0 denote.Hole.Carrier.hidden
+selects_of-Last source sink schedule = refl
+
+selects_of-Post : (operand : Expr) (postfixes : List Postfix) → keeps_selected (e.Post operand postfixes) ≡ true
+unfolding hidden-the_row-Expr-0 denote.Hole.Carrier.hidden
+selects_of-Post operand postfixes = refl
+
+module _ (expr : Expr) where
+  pub name_selects : (name : Name) → expr ≡ e.Name name → keeps_selected expr ≡ true
+  name_selects name is = ap keeps_selected is
+
+  pub literal_selects : (literal : Literal) → expr ≡ e.Literal literal → keeps_selected expr ≡ true
+  literal_selects literal is = ap keeps_selected is
+
+  pub any_selects : (source sink schedule : Expr) → expr ≡ e.Any source sink schedule → keeps_selected expr ≡ true
+  any_selects source sink schedule is = ap keeps_selected is ∙ selects_of-Any source sink schedule
+
+  pub last_selects : (source sink schedule : Expr) → expr ≡ e.Last source sink schedule → keeps_selected expr ≡ true
+  last_selects source sink schedule is = ap keeps_selected is ∙ selects_of-Last source sink schedule
+
+  pub post_selects : (operand : Expr) (postfixes : List Postfix) → expr ≡ e.Post operand postfixes → keeps_selected expr ≡ true
+  post_selects operand postfixes is = ap keeps_selected is ∙ selects_of-Post operand postfixes
+
+  pub word_selects : (word : Word) (operand : Expr) → expr ≡ e.Prefix word operand → is_sample word ≡ false → is_coalesce word ≡ false
+      → keeps_selected expr ≡ true
+  word_selects word operand is one two =
+      ap keeps_selected is ∙ selects_of-Prefix word operand ∙ ap₂ (λ (x y : Bool). not (x || y)) one two
+
+  pub row_selects : (first : Expr) (links : List Link) → expr ≡ Row first links → context_in links ≡ None → keeps_selected expr ≡ true
+  row_selects first links is none = ap keeps_selected is ∙ selects_of-Row first links ∙ ap (λ (c : Option Expr). not (is_some c)) none
+
+-- ---- a value that is made once
+-- the value that a call made, shared
+with_value : (g h : Gauge) (Content : KeptValue → Type 0) (names : List Name) (made value : KeptValue) → IsCharged g h → value ≡ made
+    → Content made → IsKeptValue made → made.params ≡ names → HasNumbersUpTo (unsigned_abs (limit_of h)) made → HasNoDefinitions made
+    → IsValueWith Content names (unsigned_abs (limit_of g)) value
+with_value g h Content names made value charged same content kept params small plain =
+    subst (IsValueWith Content names (unsigned_abs (limit_of g))) (sym same) (record {
+      content = content;
       kept = kept;
-      params = chosen.params ∙ ap (λ (k : KeptValue). k.params) is ∙ of.params;
-      numbers = subst (λ (z : ℤ). HasNumbersUpTo (unsigned_abs z) sample) (same_limit g h charged) small;
+      params = params;
+      numbers = subst (λ (z : ℤ). HasNumbersUpTo (unsigned_abs z) made) (same_limit g h charged) small;
       definitions = plain;
     })
 
-sample_content : (state : StateView) (operand : Expr) (value argument : KeptValue) → IsSelected state operand argument
-    → IsSampleOf argument value
-    → IsContentOf state (e.Prefix p.Sample operand) value
+module _ (state : StateView) (operand : Expr) (g h : Gauge) (value v one made : KeptValue)
+    (of : IsValueOf (IsWorked state operand) (declared_of (scope_of state) operand) (Selects state operand) (unsigned_abs (limit_of g)) value)
+    (is : v ≡ value) (kept : IsKeptValue one) (plain : HasNoDefinitions one) (small : HasNumbersUpTo (unsigned_abs (limit_of h)) one)
+    (charged : IsCharged g h) (same : made ≡ one) where
+  made_names : one.params ≡ v.params → one.params ≡ declared_of (scope_of state) operand
+  made_names params = params ∙ ap (λ (k : KeptValue). k.params) is ∙ of.params
+
+  worked_selects : IsSelected state operand value
+  worked_selects = record { elements = of.elements; written = of.written }
+
+  pub sampled_is : IsSampleOf v one → IsSampled state operand (unsigned_abs (limit_of g)) made
+  sampled_is chosen =
+      with_value g h
+      (λ w. (argument : KeptValue) × IsSelected state operand argument × IsSampleOf argument w)
+      (declared_of (scope_of state) operand) one made charged same
+      (value, worked_selects, subst (λ (k : KeptValue). IsSampleOf k one) is chosen) kept (made_names chosen.params) small plain
+
+  pub together_is : one.params ≡ v.params → ((w : Valuation) (x : Element) → Has one w x ↔ Has v w x) → IsCoalesced v one
+      → IsTogether state operand (unsigned_abs (limit_of g)) made
+  together_is params elements joined =
+      with_value g h
+      (λ w. (argument : KeptValue) × IsSelected state operand argument × IsAnyWordOf p.Coalesce argument w × IsCoalesced argument w)
+      (declared_of (scope_of state) operand) one made charged same
+      (
+        value,
+        worked_selects,
+        subst (λ (k : KeptValue). IsAnyWordOf p.Coalesce k one) is (record { params = params; elements = elements }),
+        subst (λ (k : KeptValue). IsCoalesced k one) is joined,
+      )
+      kept (made_names params) small plain
+
+-- ---- a word that makes a value once
+sample_content : (state : StateView) (operand : Expr) (value : KeptValue)
+    → (argument : KeptValue) × IsSelected state operand argument × IsSampleOf argument value
+    → IsContentOf state First (e.Prefix p.Sample operand) value
 unfolding hidden-the_row-Expr-0 denote.Hole.Carrier.hidden
-sample_content state operand value argument selected chosen = (argument, (selected.elements, selected.written), chosen)
+sample_content state operand value h = h
+
+together_content : (state : StateView) (operand : Expr) (value : KeptValue)
+    → (argument : KeptValue) × IsSelected state operand argument × IsAnyWordOf p.Coalesce argument value × IsCoalesced argument value
+    → IsContentOf state First (e.Prefix p.Coalesce operand) value
+unfolding hidden-the_row-Expr-0 denote.Hole.Carrier.hidden
+together_content state operand value h = h
 
 made_of-Sample : (operand : Expr) → made_parts (e.Prefix p.Sample operand) ≡ parts_of operand
 unfolding hidden-the_row-Expr-0 denote.Hole.Carrier.hidden
 made_of-Sample operand = refl
+
+made_of-Coalesce : (operand : Expr) → made_parts (e.Prefix p.Coalesce operand) ≡ part.prefix p.Coalesce ∷ parts_of operand
+unfolding hidden-the_row-Expr-0 denote.Hole.Carrier.hidden
+made_of-Coalesce operand = refl
 
 shown_of-Scan : (operand : Expr) → shown_parts (e.Prefix p.Scan operand) ≡ parts_of operand
 unfolding hidden-the_row-Expr-0 denote.Hole.Carrier.hidden
@@ -143,34 +277,72 @@ at_word : (known word : Word) (expr operand x : Expr) → expr ≡ e.Prefix word
 at_word known word expr operand x is which same =
     is ∙ ap (λ (w : Word). e.Prefix w operand) which ∙ ap (e.Prefix known) (sym same)
 
-module _ (state : StateView) (expr operand x : Expr) (word : Word) (is : expr ≡ e.Prefix word operand) (which : word ≡ p.Sample)
-    (same : x ≡ operand) where
-  sample_is : expr ≡ e.Prefix p.Sample x
-  sample_is = at_word p.Sample word expr operand x is which same
+-- the word forms no space, and its work begins where the operand goes on
+work_ends : (state : StateView) (word : Word) (operand : Expr) → ((s formed : SpaceForm) → ¬ WordForms word s formed) → (why : End)
+    → EndsWork state operand why → Ends state (e.Prefix word operand) why
+work_ends state word operand none why (inl ends) = word_ends state word operand why ends
+work_ends state word operand none (because reason) (inr h) = absurd h.1
+work_ends state word operand none cut (inr h) = word_cut state word operand none h.0
 
-  pub sample_sound : IsMakeable (scope_of state) expr → IsSoundExpr (scope_of state) x
-  sample_sound able =
-      let here = subst (IsMakeable (scope_of state)) sample_is able in
-      word_sound (scope_of state) p.Sample x (sym (ap (list_any is_foreign) (made_of-Sample x)) ∙ here.plain) here.known here.literals
+module _ (state : StateView) (expr operand : Expr) (word : Word) (is : expr ≡ e.Prefix word operand) where
+  sample_is : word ≡ p.Sample → expr ≡ e.Prefix p.Sample operand
+  sample_is which = at_word p.Sample word expr operand operand is which refl
 
-  pub sample_works : true ≡ list_any uses_units (parts_of expr)
-  sample_works = sym (ap (λ (y : Expr). list_any uses_units (parts_of y)) sample_is
-      ∙ ap (list_any uses_units) (parts_of-Prefix p.Sample x))
+  together_at : word ≡ p.Coalesce → expr ≡ e.Prefix p.Coalesce operand
+  together_at which = at_word p.Coalesce word expr operand operand is which refl
 
-  pub sample_ends : (why : End) → Ends state x why → Ends state expr why
-  sample_ends why ends = subst (λ (y : Expr). Ends state y why) (sym sample_is) (word_ends state p.Sample x why ends)
+  module _ (which : word ≡ p.Sample) where
+    pub sample_sound : IsMakeable (scope_of state) expr → IsSoundExpr (scope_of state) operand
+    sample_sound able =
+        let here = subst (IsMakeable (scope_of state)) (sample_is which) able in
+        word_sound (scope_of state) p.Sample operand (sym (ap (list_any is_foreign) (made_of-Sample operand)) ∙ here.plain) here.known
+        here.literals
 
-  pub sample_goes_on : GoesOn (Ends state x) → GoesOn (Ends state expr)
-  sample_goes_on goes =
-      subst (λ (y : Expr). GoesOn (Ends state y)) (sym sample_is) (word_goes_on state p.Sample x (λ s formed h. h) goes)
+    pub sample_works : true ≡ list_any uses_units (parts_of expr)
+    sample_works = sym (ap (λ (y : Expr). list_any uses_units (parts_of y)) (sample_is which)
+        ∙ ap (list_any uses_units) (parts_of-Prefix p.Sample operand))
 
-  pub sample_kept : (limit : ℤ) (value : KeptValue) → IsSampled state x (unsigned_abs limit) value → IsKeptOf state limit expr value
-  sample_kept limit value of =
-      subst (λ (y : Expr). IsKeptOf state limit y value) (sym sample_is)
-      (λ before kind same_state at kind_is.
-      keeps state limit (e.Prefix p.Sample x) value before kind same_state at kind_is
-      (sample_content state x value of.chosen.0 of.chosen.1 of.chosen.2)
-      (of.params ∙ sym (declared_of-Prefix (scope_of state) p.Sample x)) of.kept of.numbers of.definitions)
+    pub sample_ends : (why : End) → EndsWork state operand why → Ends state expr why
+    sample_ends why ends =
+        subst (λ (y : Expr). Ends state y why) (sym (sample_is which)) (work_ends state p.Sample operand (λ s formed h. h) why ends)
+
+    pub sample_goes_on : GoesOn (Ends state operand) → GoesOn (Ends state expr)
+    sample_goes_on goes =
+        subst (λ (y : Expr). GoesOn (Ends state y)) (sym (sample_is which))
+        (word_goes_on state p.Sample operand (λ s formed h. h) (λ h. h) goes)
+
+    pub sample_kept : (limit : ℤ) (value : KeptValue) → IsSampled state operand (unsigned_abs limit) value → IsKeptIn state limit expr value
+    sample_kept limit value of =
+        subst (λ (y : Expr). IsKeptIn state limit y value) (sym (sample_is which))
+        (with_kept state limit First (e.Prefix p.Sample operand) value _ _ of (sample_content state operand value)
+        (sym (declared_of-Prefix (scope_of state) p.Sample operand)))
+
+  module _ (which : word ≡ p.Coalesce) where
+    pub together_sound : IsMakeable (scope_of state) expr → IsSoundExpr (scope_of state) operand
+    together_sound able =
+        let here = subst (IsMakeable (scope_of state)) (together_at which) able in
+        word_sound (scope_of state) p.Coalesce operand (sym (ap (list_any is_foreign) (made_of-Coalesce operand)) ∙ here.plain) here.known
+        here.literals
+
+    pub together_works : true ≡ list_any uses_units (parts_of expr)
+    together_works = sym (ap (λ (y : Expr). list_any uses_units (parts_of y)) (together_at which)
+        ∙ ap (list_any uses_units) (parts_of-Prefix p.Coalesce operand))
+
+    pub together_ends : (why : End) → EndsWork state operand why → Ends state expr why
+    together_ends why ends =
+        subst (λ (y : Expr). Ends state y why) (sym (together_at which)) (work_ends state p.Coalesce operand (λ s formed h. h) why ends)
+
+    pub together_goes_on : GoesOn (Ends state operand) → GoesOn (Ends state expr)
+    together_goes_on goes =
+        subst (λ (y : Expr). GoesOn (Ends state y)) (sym (together_at which))
+        (word_goes_on state p.Coalesce operand (λ s formed h. h) (λ h. h) goes)
+
+    pub together_kept : (limit : ℤ) (value : KeptValue) → IsTogether state operand (unsigned_abs limit) value
+        → IsKeptIn state limit expr value
+    together_kept limit value of =
+        subst (λ (y : Expr). IsKeptIn state limit y value) (sym (together_at which))
+        (with_kept state limit First (e.Prefix p.Coalesce operand) value _ _ of (together_content state operand value)
+        (sym (declared_of-Prefix (scope_of state) p.Coalesce operand)))
 
 pub paid_working : (works : Bool) (g h : Gauge) → true ≡ works → IsCharged g h → IsPaid works g h
 paid_working works g h is charged = record { charged = charged; free = λ none. absurd (false≢true (sym none ∙ sym is)) }
@@ -188,17 +360,14 @@ moment_of state meter options = record { state = state; meter = meter; options =
 abbrev no_options : OptionsView
 no_options = record { bits = 0; budget = 0; at = []; run = false }
 
-pub kept_plain : (state : StateView) (meter : Gauge) (expr : Expr) (value v : KeptValue) (kind : ValueKind)
-    → kind_of (scope_of state) expr ≡ Some kind
-    → IsKeptOf state (limit_of meter) expr value → v ≡ value → HasNoDefinitions v
-kept_plain state meter expr value v kind is kept same =
-    subst HasNoDefinitions (sym same) (kept (moment_of state meter no_options) kind refl refl is).definitions
+pub kept_plain : (state : StateView) (meter : Gauge) (expr : Expr) (value : KeptValue) → IsKeptIn state (limit_of meter) expr value
+    → HasNoDefinitions value
+kept_plain state meter expr value kept = (kept (moment_of state meter no_options) refl refl).definitions
 
-pub value_shows : (before : Moment) (state : StateView) (limit : ℤ) (expr : Expr) (value v : KeptValue) (kind : ValueKind) (answer : Answer)
-    → kind_of (scope_of state) expr ≡ Some kind → IsKeptOf state limit expr value → v ≡ value → answer ≡ shown v → before.state ≡ state
-    → limit_of before.meter ≡ limit → ShowsValue before expr answer
-value_shows before state limit expr value v kind answer is kept same line here at =
-    (record { kind = kind; value = value }, kept before kind here at is, line ∙ ap shown same)
+pub value_shows : (before : Moment) (state : StateView) (limit : ℤ) (expr : Expr) (kept : Kept) (answer : Answer)
+    → AreKeptIn state limit expr kept → answer ≡ shown kept → before.state ≡ state → limit_of before.meter ≡ limit
+    → ShowsValue before expr answer
+value_shows before state limit expr kept answer of line here at = (kept, of before here at, line)
 
 -- ---- listings
 pub listed_is : (state : StateView) (operand : Expr) (at : Valuation) (value v : KeptValue) (listing : List Element)
@@ -372,6 +541,212 @@ test_works expr first links list before last is are split test =
     ∙ ap (λ (b : Bool). list_any uses_units (parts_of first) || b) (links_work before last (sym test))
     ∙ or_true (list_any uses_units (parts_of first)))
 
+-- ---- `%` of two operands
+abbrev gist_row : Expr → List Link
+gist_row right = link_of b.Gist right ∷ []
+
+gist_word : (operator : Binary) → is_gist operator ≡ true → operator ≡ b.Gist
+gist_word b.Gist is = refl
+gist_word _ is = absurd (false≢true is)
+
+gist_alone : (links : List Link) (right : Expr) → context_in links ≡ Some right → links ≡ gist_row right
+gist_alone [] right is = let no : None ≡ Some right = is in cc
+gist_alone (link ∷ next ∷ more) right is = let no : None ≡ Some right = is in cc
+gist_alone (link ∷ []) right is = by (is_gist link.operator) refl
+  where
+    by : (own : Bool) → is_gist link.operator ≡ own → link ∷ [] ≡ gist_row right
+    by false other = let no : None ≡ Some right = sym (ap (λ (x : Bool). if x then Some link.operand else None) other) ∙ is in cc
+    by true own =
+        let some : Some link.operand ≡ Some right = sym (ap (λ (x : Bool). if x then Some link.operand else None) own) ∙ is in
+        let same : link.operand ≡ right = cc in
+        ap₂ (λ (o : Binary) (x : Expr). link_of o x ∷ []) (gist_word link.operator own) same
+
+gist_content : (state : StateView) (first right : Expr) (value : KeptValue)
+    → (l : KeptValue) × (r : KeptValue) × IsSelected state first l × IsSelected state right r × IsGistOfTwo l r value
+    → IsContentOf state First (Row first (gist_row right)) value
+unfolding hidden-the_row-Expr-0 denote.Hole.Carrier.hidden
+gist_content state first right value content =
+    subst (λ (c : Option Expr). MatchOption c (IsSelectedAt state First (Row first (gist_row right)) value)
+    (λ context. (l : KeptValue) × (r : KeptValue) × IsSelected state first l × IsSelected state context r × IsGistOfTwo l r value))
+    (sym (context_is _ (hidden-the_row-Link-1 (gist_row right)) ∙ ap context_in (items_hidden-the_row-Link-1 (gist_row right)))) content
+
+module _ (state : StateView) (expr first right : Expr) (links : List Link) (is : expr ≡ Row first links)
+    (only : context_in links ≡ Some right) where
+  gist_is : expr ≡ Row first (gist_row right)
+  gist_is = is ∙ ap (Row first) (gist_alone links right only)
+
+  pub gist_sound : IsMakeable (scope_of state) expr → IsSoundExpr (scope_of state) first × IsSoundExpr (scope_of state) right
+  gist_sound able =
+      let scope = scope_of state in
+      let row = gist_row right in
+      let here = subst (IsMakeable scope) gist_is able in
+      let plain = quiet_both is_foreign (parts_of first) (parts_of right)
+      (sym (ap (list_any is_foreign) (made_of-Row first row)) ∙ here.plain) in
+      let unknown = quiet_both (is_unknown scope) (parts_of first) (parts_of_links row)
+      (sym (ap (list_any (is_unknown scope)) (parts_of-Row first row)) ∙ here.known) in
+      let behind = quiet_both (is_unknown scope) (parts_of right) [] unknown.1 in
+      let literals = subst (All IsWellFormedLiteral) (literals_of-Row first row) here.literals in (
+        record {
+          supported = plain.0;
+          known = unknown.0;
+          literals = all_left IsWellFormedLiteral (literals_of first) (links_literals row) literals;
+        },
+        record {
+          supported = plain.1;
+          known = behind.0;
+          literals = all_left IsWellFormedLiteral (literals_of right) []
+              (all_right IsWellFormedLiteral (literals_of first) (links_literals row) literals);
+        },
+      )
+
+  pub gist_works : true ≡ list_any uses_units (parts_of expr)
+  gist_works = sym (ap (λ (y : Expr). list_any uses_units (parts_of y)) gist_is
+      ∙ ap (list_any uses_units) (parts_of-Row first (gist_row right))
+      ∙ list_any-append uses_units (parts_of first) (parts_of_links (gist_row right))
+      ∙ or_true (list_any uses_units (parts_of first)))
+
+  pub gist_ends : EndAlike (EndsPair state first b.Gist right) (Ends state expr)
+  gist_ends =
+      subst (λ (y : Expr). EndAlike (EndsPair state first b.Gist right) (Ends state y)) (sym gist_is)
+      (turned_alike (Ends state (Row first (gist_row right))) (EndsPair state first b.Gist right) (ends_of-Row state first (gist_row right)))
+
+  pub gist_kept : (limit : ℤ) (value : KeptValue) → IsSimplified state first right (unsigned_abs limit) value
+      → IsKeptIn state limit expr value
+  gist_kept limit value made =
+      subst (λ (y : Expr). IsKeptIn state limit y value) (sym gist_is)
+      (with_kept state limit First (Row first (gist_row right)) value _ _ made (gist_content state first right value)
+      (sym (declared_of-Row (scope_of state) first (gist_row right))))
+
+-- what ends it, operand by operand
+module _ (state : StateView) (left right : Expr) (goes : GoesOn (Ends state left)) where
+  abbrev Both : List Name
+  Both = joined_names (declared_of (scope_of state) left) (declared_of (scope_of state) right)
+
+  abbrev Operation : End → Type 0
+  Operation =
+      PairEnds (OperatorForms b.Gist) (declared_of (scope_of state) left) (declared_of (scope_of state) right)
+      (λ v x. Selects state left v x) (λ v x. Selects state right v x)
+
+  pub pair_right : (why : End) → Ends state right why → EndsPair state left b.Gist right why
+  pair_right why ends = inr (goes, inl ends)
+
+  module _ (go : GoesOn (Ends state right)) where
+    abbrev Wide : Type 0
+    Wide = PairsWide (OperatorForms b.Gist) (λ v x. Selects state left v x) (λ v x. Selects state right v x)
+
+    narrow : ¬ Wide
+    narrow wide = wide.5
+
+    pub pair_wide : most_parameters < length (joined_names (declared_of (scope_of state) left) (declared_of (scope_of state) right))
+        → EndsPair state left b.Gist right (because too_wide)
+    pair_wide many = inr (goes, inr (go, inl (inl many)))
+
+    pub pair_cut : length (joined_names (declared_of (scope_of state) left) (declared_of (scope_of state) right)) ≤ most_parameters
+        → EndsPair state left b.Gist right cut
+    pair_cut few = inr (goes, inr (go, inl (few, narrow)))
+
+    pub pair_goes : length (joined_names (declared_of (scope_of state) left) (declared_of (scope_of state) right)) ≤ most_parameters
+        → GoesOn (EndsPair state left b.Gist right)
+    pair_goes few =
+        goes_both (Ends state left) (FirstEnds (Ends state right) (FirstEnds Operation NoEnd)) goes
+        (goes_both (Ends state right) (FirstEnds Operation NoEnd) go
+        (goes_both Operation NoEnd (operation_goes Both Wide ⊥ few narrow (λ h. h)) (λ reason h. h)))
+
+-- what it makes of two values
+module _ (state : StateView) (left right : Expr) (g : Gauge) (limit : ℕ) (value context v c : KeptValue)
+    (own : IsValueOf (IsWorked state left) (declared_of (scope_of state) left) (Selects state left) (unsigned_abs (limit_of g)) value)
+    (other : IsValueOf (IsWorked state right) (declared_of (scope_of state) right) (Selects state right) limit context)
+    (is : v ≡ value) (same : c ≡ context) where
+  pub pair_names : joined v.params c.params ≡ joined_names (declared_of (scope_of state) left) (declared_of (scope_of state) right)
+  pair_names =
+      ap₂ joined (ap (λ (k : KeptValue). k.params) is ∙ own.params) (ap (λ (k : KeptValue). k.params) same ∙ other.params)
+      ∙ joined_is (declared_of (scope_of state) left) (declared_of (scope_of state) right) (declared_distinct (scope_of state) right)
+
+  pub simplified_is : (gist made : KeptValue) → gist.params ≡ joined v.params c.params
+      → IsGistOf (value_over (joined v.params c.params) v) (value_over (joined v.params c.params) c) gist → IsKeptValue gist
+      → HasNoDefinitions gist → HasNumbersUpTo (unsigned_abs (limit_of g)) gist → made ≡ gist
+      → IsSimplified state left right (unsigned_abs (limit_of g)) made
+  simplified_is gist made params exact kept plain small shared =
+      let first = subst (λ (k : KeptValue). IsGistOf (value_over (joined k.params c.params) k) (value_over (joined k.params c.params) c) gist)
+      is exact in
+      let both = subst (λ (k : KeptValue). IsGistOf (value_over (joined value.params k.params) value)
+      (value_over (joined value.params k.params) k) gist) same first in
+      subst (IsSimplified state left right (unsigned_abs (limit_of g))) (sym shared) (record {
+        content = (
+          value,
+          context,
+          record { elements = own.elements; written = own.written },
+          record { elements = other.elements; written = other.written },
+          subst (λ (ns : List Name). IsGistOf (value_over ns value) (value_over ns context) gist)
+              (joined_is value.params context.params other.kept.params.distinct) both,
+        );
+        kept = kept;
+        params = params ∙ pair_names;
+        numbers = small;
+        definitions = plain;
+      })
+
+-- ---- lists
+no_pair : (x y z : Bool) → (if x then Some (made z kinds.Set) else (if y then Some (made z kinds.Map) else None)) ≡ Some kinds.List → ⊥
+no_pair true y true is = let no : Some kinds.Empty ≡ Some kinds.List = is in cc
+no_pair true y false is = let no : Some kinds.Set ≡ Some kinds.List = is in cc
+no_pair false true true is = let no : Some kinds.Empty ≡ Some kinds.List = is in cc
+no_pair false true false is = let no : Some kinds.Map ≡ Some kinds.List = is in cc
+no_pair false false z is = let no : None ≡ Some kinds.List = is in cc
+
+word_pair : (k : Option ValueKind) → option_and_then (by_short_lines ((kinds.Set, kinds.Set) ∷ (kinds.Map, kinds.Map) ∷ [])) k ≡ Some kinds.List
+    → ⊥
+word_pair None is = let no : None ≡ Some kinds.List = is in cc
+word_pair (Some k) is = no_pair (fits k kinds.Set) (fits k kinds.Map) (is_kind k kinds.Empty) is
+
+gist_pair : (l r : Option ValueKind) → by_two (kind_joined b.Gist) l r ≡ Some kinds.List → ⊥
+gist_pair None r is = let no : None ≡ Some kinds.List = is in cc
+gist_pair (Some l) None is = let no : None ≡ Some kinds.List = is in cc
+gist_pair (Some l) (Some r) is =
+    no_pair (fits l kinds.Set && fits r kinds.Set) (fits l kinds.Map && fits r kinds.Map) (is_kind l kinds.Empty && is_kind r kinds.Empty) is
+
+none_context : (m : Count) (scope : ScopeView) (left : Option ValueKind) (row : Row_of-Link m)
+    → kind_past_links scope left row ≡ Some kinds.List → context_of row ≡ None
+none_context m scope left end_of-Link is = refl
+none_context m scope left (more_of-Link b.Gist operand end_of-Link) is = absurd (gist_pair left (kind_of scope operand) is)
+none_context m scope left (more_of-Link _ operand end_of-Link) is = refl
+none_context m scope left (more_of-Link b.Gist operand (more_of-Link next other rest)) is = refl
+none_context m scope left (more_of-Link _ operand (more_of-Link next other rest)) is = refl
+
+-- neither a word that chooses, nor `coalesce` or `%`, makes a list
+pub list_selects : (scope : ScopeView) (expr : Expr) → kind_of scope expr ≡ Some kinds.List → keeps_selected expr ≡ true
+list_selects scope (Prefix' p.Sample s operand) is = absurd (word_pair (kind_in scope operand) is)
+list_selects scope (Prefix' p.Coalesce s operand) is = absurd (word_pair (kind_in scope operand) is)
+list_selects scope (Row' s first t links) is =
+    ap (λ (c : Option Expr). not (is_some c)) (none_context _ scope (kind_in scope first) links is)
+list_selects scope _ is = refl
+
+module _ (state : StateView) (limit : ℤ) (expr : Expr) where
+  pub list_keeps : (values : ListValue) (kept : Kept) → kind_of (scope_of state) expr ≡ Some kinds.List
+      → AreBothOf state expr (unsigned_abs limit) values
+      → kept ≡ record { kind = kinds.List; value = values.first.value; second = Some values.second.value }
+      → AreKeptIn state limit expr kept
+  list_keeps values kept kind both is =
+      subst (AreKeptIn state limit expr) (sym is)
+      (λ before same at. record {
+        kind = ap (λ (s : StateView). kind_of (scope_of s) expr) same ∙ kind;
+        value = selected_kept state limit First expr values.first.value (list_selects (scope_of state) expr kind) both.0 before same at;
+        list = refl;
+        second = selected_kept state limit Second expr values.second.value (list_selects (scope_of state) expr kind) both.1 before same at;
+      })
+
+  pub value_keeps : (kind : ValueKind) (value : KeptValue) (kept : Kept) → kind_of (scope_of state) expr ≡ Some kind
+      → is_kind kind kinds.List ≡ false → IsKeptIn state limit expr value → kept ≡ record { kind = kind; value = value; second = None }
+      → AreKeptIn state limit expr kept
+  value_keeps kind value kept is other of same =
+      subst (AreKeptIn state limit expr) (sym same)
+      (λ before here at. record {
+        kind = ap (λ (s : StateView). kind_of (scope_of s) expr) here ∙ is;
+        value = of before here at;
+        list = sym other;
+        second = tt;
+      })
+
 -- ---- what is shown as a value
 
 pub shows_value : (before : Moment) (expr : Expr) (answer : Answer) → is_asked expr ≡ false → ShowsValue before expr answer
@@ -384,7 +759,7 @@ shows_value before _ answer none value = value
 shown_made : (expr : Expr) → is_asked expr ≡ false → shown_parts expr ≡ made_parts expr
 shown_made (Prefix' p.Scan s operand) none = absurd (false≢true (sym none))
 shown_made (Row' s first t links) none =
-    ap (λ (b : Bool). parts_in first ++ (if b then parts_around_test links else parts_in_links links)) none
+    ap (λ (x : Bool). if x then parts_in first ++ parts_around_test links else made_parts (Row' s first t links)) none
 shown_made _ none = refl
 
 pub show_makeable : (scope : ScopeView) (expr : Expr) → is_asked expr ≡ false → IsEvaluable scope (Show expr) → IsMakeable scope expr
@@ -394,11 +769,13 @@ show_makeable scope expr none able = record {
   literals = able.literals;
 }
 
-pub shown_kind : (scope : ScopeView) (expr : Expr) → IsEvaluable scope (Show expr) → (kind : ValueKind) × (kind_of scope expr ≡ Some kind)
-shown_kind scope expr able = let u = show_kind scope expr able.typed in (u.0.kind, u.1.kind)
+pub show_is : (scope : ScopeView) (stmt : Stmt) (expr : Expr) (t : TypeView) (kind : ValueKind) → stmt ≡ Show expr
+    → type_of_statement scope stmt ≡ Ok (Some t) → kind ≡ t.kind → kind_of scope expr ≡ Some kind
+show_is scope stmt expr t kind is typed same =
+    (show_typed scope expr t (subst (λ (x : Stmt). type_of_statement scope x ≡ Ok (Some t)) is typed)).kind ∙ ap Some (sym same)
 
 -- ---- what is bound
-module _ (scope s : ScopeView) (stmt : Stmt) (name : Name) (expr : Expr) (is : stmt ≡ Bind name expr) where
+module _ (scope : ScopeView) (stmt : Stmt) (name : Name) (expr : Expr) (is : stmt ≡ Bind name expr) where
   pub bind_makeable : IsEvaluable scope stmt → IsMakeable scope expr
   bind_makeable able =
       let here = subst (IsEvaluable scope) is able in
@@ -408,19 +785,49 @@ module _ (scope s : ScopeView) (stmt : Stmt) (name : Name) (expr : Expr) (is : s
         literals = here.literals;
       }
 
-  pub bind_type : (t : TypeView) (o : Option TypeView) → s ≡ scope → TypeAnswers (Ok o) (type_of_statement s stmt) → o ≡ Some t
-      → IsOfType scope expr t
-  bind_type t o same typed some =
-      let found = answered_ok o (type_of_statement s stmt) typed in
-      bind_typed scope name expr t
-      (subst (λ (z : ScopeView). type_of_statement z (Bind name expr) ≡ Ok (Some t)) same
-      (subst (λ (x : Stmt). type_of_statement s x ≡ Ok (Some t)) is (found ∙ ap Ok some)))
+  pub bind_type : (t : TypeView) → type_of_statement scope stmt ≡ Ok (Some t) → IsOfType scope expr t
+  bind_type t typed = bind_typed scope name expr t (subst (λ (x : Stmt). type_of_statement scope x ≡ Ok (Some t)) is typed)
 
-pub kept_type : (state : StateView) (meter : Gauge) (expr : Expr) (value : KeptValue) (t : TypeView) → IsOfType (scope_of state) expr t
-    → IsKeptOf state (limit_of meter) expr value → t ≡ type_of (record { kind = t.kind; value = value })
-kept_type state meter expr value t typed kept =
-    ap (λ (ps : List Name). record { kind = t.kind; params = ps })
-    (sym typed.params ∙ (kept (moment_of state meter no_options) t.kind refl refl typed.kind).params)
+  pub bind_kind : (t : TypeView) (kind : ValueKind) → type_of_statement scope stmt ≡ Ok (Some t) → kind ≡ t.kind
+      → kind_of scope expr ≡ Some kind
+  bind_kind t kind typed same = (bind_type t typed).kind ∙ ap Some (sym same)
+
+pub bind_full : (stmt : Stmt) (name : Name) (expr : Expr) → stmt ≡ Bind name expr → stmt ≢ Empty
+bind_full stmt name expr is none = let no : Bind name expr ≡ Empty = sym is ∙ none in cc
+
+pub show_full : (stmt : Stmt) (expr : Expr) → stmt ≡ Show expr → stmt ≢ Empty
+show_full stmt expr is none = let no : Show expr ≡ Empty = sym is ∙ none in cc
+
+pub kept_type : (state : StateView) (meter : Gauge) (expr : Expr) (kept : Kept) (t : TypeView) → IsOfType (scope_of state) expr t
+    → AreKeptIn state (limit_of meter) expr kept → t ≡ type_of kept
+kept_type state meter expr kept t typed of =
+    let keeps = of (moment_of state meter no_options) refl refl in
+    let some : Some t.kind ≡ Some kept.kind = sym typed.kind ∙ keeps.kind in
+    let kind : t.kind ≡ kept.kind = cc in
+    ap₂ (λ (k : ValueKind) (ps : List Name). record { kind = k; params = ps }) kind (sym typed.params ∙ keeps.value.params)
+
+-- ---- the type of a statement
+pub found_type : (scope s : ScopeView) (stmt : Stmt) (o : Option TypeView) (t : TypeView) → s ≡ scope
+    → TypeAnswers (Ok o) (type_of_statement s stmt) → o ≡ Some t → type_of_statement scope stmt ≡ Ok (Some t)
+found_type scope s stmt o t same typed some =
+    subst (λ (z : ScopeView). type_of_statement z stmt ≡ Ok (Some t)) same
+    (answered_ok o (type_of_statement s stmt) typed ∙ ap Ok some)
+
+pub not_empty : (scope s : ScopeView) (stmt : Stmt) (o : Option TypeView) → s ≡ scope → TypeAnswers (Ok o) (type_of_statement s stmt)
+    → o ≡ None → stmt ≢ Empty → ⊥
+not_empty scope s stmt o same typed none full = by stmt full (answered_ok o (type_of_statement s stmt) typed ∙ ap Ok none)
+  where
+    by : (x : Stmt) → x ≢ Empty → type_of_statement s x ≡ Ok None → ⊥
+    by Empty full is = full refl
+    by (Bind name expr) full is = found_some (type_for purpose.Bound s expr) is
+    by (Show expr) full is = found_some (type_for purpose.Shown s expr) is
+
+pub memory_alone : (scope s : ScopeView) (stmt : Stmt) (refusal : Refusal) → s ≡ scope → IsTyped scope stmt
+    → TypeAnswers (Err refusal) (type_of_statement s stmt) → refusal ≡ NoMemory
+memory_alone scope s stmt refusal same typed (inl is) =
+    let here : type_of_statement s stmt ≡ Ok typed.0 = subst (λ (z : ScopeView). type_of_statement z stmt ≡ Ok typed.0) (sym same) typed.1 in
+    let no : Err refusal ≡ Ok typed.0 = is ∙ here in cc
+memory_alone scope s stmt refusal same typed (inr is) = let no : Err refusal ≡ Err NoMemory = is in cc
 
 -- the word of what is asked for is `scan`, and the last operator a test
 pub asked_scan : (expr operand : Expr) (word : Word) → expr ≡ e.Prefix word operand → is_asked expr ≡ true → word ≡ p.Scan
@@ -472,27 +879,16 @@ asked_none expr first links list is are none asked =
     false≢true (ends_none list none ∙ ap ends_with_test are ∙ sym (asked_of-Row first links) ∙ sym (ap is_asked is) ∙ asked)
 
 -- ---- bindings
-pub bound_kept : (before : Moment) (state new : StateView) (limit : ℤ) (name copy : Name) (expr : Expr) (value : KeptValue) (t : TypeView)
-    (kept : Kept)
-    → before.state ≡ state → limit_of before.meter ≡ limit → IsOfType (scope_of state) expr t → IsKeptOf state limit expr value
-    → kept ≡ record { kind = t.kind; value = value } → copy ≡ name → Binds state copy kept new
+pub bound_kept : (before : Moment) (state new : StateView) (limit : ℤ) (name copy : Name) (expr : Expr) (kept : Kept)
+    → before.state ≡ state → limit_of before.meter ≡ limit → AreKeptIn state limit expr kept → copy ≡ name → Binds state copy kept new
     → (kept : Kept) × Keeps before expr kept × Binds state name kept new
-bound_kept before state new limit name copy expr value t kept here at typed of is same binds = (
-  kept,
-  subst (Keeps before expr) (sym is) (of before t.kind here at typed.kind),
-  subst
-      (λ (n : Name). Binds state n kept new) same binds,
-)
+bound_kept before state new limit name copy expr kept here at of same binds =
+    (kept, of before here at, subst (λ (n : Name). Binds state n kept new) same binds)
 
 pub bind_paid : (stmt : Stmt) (name : Name) (expr : Expr) (g h : Gauge) → stmt ≡ Bind name expr
     → IsPaid (list_any uses_units (parts_of expr)) g h
     → IsPaid (works stmt) g h
 bind_paid stmt name expr g h is paid = subst (λ (x : Stmt). IsPaid (works x) g h) (sym is) paid
-
-pub kind_of_type : (t : TypeView) (kept : Kept) (value : KeptValue) (kind : ValueKind) → kept ≡ record { kind = kind; value = value }
-    → kind ≡ t.kind
-    → kept ≡ record { kind = t.kind; value = value }
-kind_of_type t kept value kind is same = is ∙ ap (λ (k : ValueKind). record { kind = k; value = value }) same
 
 -- ---- steps
 -- what is shown ends as the expression does, where nothing is listed

@@ -1,8 +1,8 @@
 -- One simple statement after another: what is answered, and what is refused.
 use Rattle.std.proofs.Common.{◌≡◌, ◌≢◌, ◌⊎◌, ◌∙◌, ◌<◌, ◌+◌, inl, inr, refl, sym, ap, ap₂, subst, arith, ◌^◌, ◌-◌, ℕ, zero, suc, length}
 use Rattle.std.proofs.Common.{take, drop, get_or, ℤ, pos, true, false, List, []}
-use Rattle.std.proofs.Common.{◌∷◌, ◌++◌, append_assoc, Option, Some, Result, Ok, Err, option_map}
-use Rattle.std.specs.Prelude.{unsigned_abs, IfOk, IfErr, OnErr, MatchResult}
+use Rattle.std.proofs.Common.{◌∷◌, ◌++◌, append_assoc, Option, None, Some, Result, Ok, Err, option_map}
+use Rattle.std.specs.Prelude.{unsigned_abs, unwrap_or, IfOk, IfErr, IfSome, OnErr, MatchResult}
 use Rattle.std.specs.List.{list_any}
 use Rattle.std.proofs.lemmas.Bool.{or_parts, false_from_ne_true}
 use Rattle.std.proofs.Math.Seq.{take-length, drop-length}
@@ -11,6 +11,7 @@ use Rattle.std.proofs.lemmas.List.Folds.{list_any_none, list_any-append}
 use Rattle.isl_meter.specs.Gauge.{Gauge, limit_of, IsCharged, IsCutBy, IsKept}
 use Rattle.isl_meter.specs.declared.Cut.{Cut}
 use Rattle.isl_meter.specs.declared.Cut.TheVariants as cuts
+use Rattle.isl_union.specs.KeptValue.{KeptValue}
 use Rattle.isl_text.specs.declared.refusal.Refusal.{Refusal}
 use Rattle.isl_expr.specs.declared.tree.ValueKind.{ValueKind}
 use Rattle.isl_expr.specs.declared.tree.Stmt.{Stmt}
@@ -21,8 +22,10 @@ use Rattle.isl_flat.specs.Flat.{flat}
 use Rattle.isl_flat.specs.Simple.{BindsIn}
 use Rattle.isl_flat.proofs.SimpleLaws.{parts_kept}
 use Rattle.isl_stmt.specs.Names.{binds_dollar}
-use Rattle.isl_values.specs.State.{Kept, Moment, StateView, Binds, Fits, HasNumbersUpTo, IsSettled, type_of, scope_of, forgotten}
-use Rattle.isl_values.specs.Selection.{Keeps}
+use Rattle.isl_values.specs.declared.list.ListPart.{ListPart}
+use Rattle.isl_values.specs.declared.list.ListPart.TheVariants.{First, Second}
+use Rattle.isl_values.specs.State.{Kept, Moment, StateView, Binds, Fits, HasNumbersUpTo, IsSettled, type_of, scope_of, forgotten, value_at}
+use Rattle.isl_values.specs.Selection.{IsKeptOf, Keeps}
 use Rattle.isl_values.specs.Ends.{End, Reason, because, too_wide, no_minimum, unbounded, refusal_of_reason}
 use Rattle.isl_values.specs.Ends as ends
 use Rattle.isl_values.specs.Made.{IsPaid, refusal_of_cut, uses_units}
@@ -78,7 +81,7 @@ kept_type now name expr t kept typed keeps =
     let is = bind_typed (scope_of now.state) name expr t typed in
     ap₂ (λ (k : ValueKind) (p : List (List ℕ)). record { kind = k; params = p })
     (kind_same kept.kind t.kind (kind_of (scope_of now.state) expr) keeps.kind is.kind)
-    (sym keeps.params ∙ is.params)
+    (sym keeps.value.params ∙ is.params)
 
 binds_in : (now next : Moment) (name : List ℕ) (kept : Kept) (t : TypeView) → type_of kept ≡ t → Binds now.state name kept next.state
     → BindsIn (scope_of now.state) name t (scope_of next.state)
@@ -87,9 +90,21 @@ binds_in now next name kept t same binds = record {
   others = λ other apart. bound_at next.state other ∙ ap (option_map type_of) (binds.others other apart) ∙ sym (bound_at now.state other);
 }
 
-numbers_at : (g h : Gauge) (kept : Kept) → IsCharged g h → HasNumbersUpTo (unsigned_abs (limit_of h)) kept.value
-    → HasNumbersUpTo (unsigned_abs (limit_of g)) kept.value
-numbers_at g h kept charged small = subst (λ (z : ℤ). HasNumbersUpTo (unsigned_abs z) kept.value) (same_limit g h charged) small
+-- no number of both values is above the limit
+abbrev HasNumbers : ℤ → Kept → Type 0
+HasNumbers limit kept = (part : ListPart) → HasNumbersUpTo (unsigned_abs limit) (value_at part kept)
+
+kept_numbers : (now : Moment) (expr : Expr) (kept : Kept) → Keeps now expr kept → HasNumbers (limit_of now.meter) kept
+kept_numbers now expr kept keeps First = keeps.value.numbers
+kept_numbers now expr kept keeps Second = by kept.second keeps.second
+  where
+    by : (second : Option KeptValue) → IfSome second (IsKeptOf now Second expr)
+        → HasNumbersUpTo (unsigned_abs (limit_of now.meter)) (unwrap_or second kept.value)
+    by None none = keeps.value.numbers
+    by (Some value) is = is.numbers
+
+numbers_at : (g h : Gauge) (kept : Kept) → IsCharged g h → HasNumbers (limit_of h) kept → HasNumbers (limit_of g) kept
+numbers_at g h kept charged small = subst (λ (z : ℤ). HasNumbers z kept) (same_limit g h charged) small
 
 -- what is bound after a step is within the limit
 step_fits : (limit : ℤ) (before : Moment) (stmt : Stmt) (after : Moment) (answer : Answer) → limit_of before.meter ≡ limit
@@ -100,7 +115,7 @@ step_fits limit before (Show expr) after answer is fits does = subst (Fits limit
 step_fits limit before (Bind name expr) after answer is fits does =
     let kept = does.0.0 in
     fits_bound limit before.state name kept after.state fits does.0.2
-    (subst (λ (z : ℤ). HasNumbersUpTo (unsigned_abs z) kept.value) is does.0.1.numbers)
+    (subst (λ (z : ℤ). HasNumbers z kept) is (kept_numbers before expr kept does.0.1))
 
 pub steps_fit : (limit : ℤ) (before : Moment) (statements : List Stmt) (after : Moment) (answer : Answer) → limit_of before.meter ≡ limit
     → Fits limit before.state → Steps before statements after answer → Fits limit after.state
@@ -139,7 +154,7 @@ left_next before now next done (Bind name expr) other left answer h step paid do
         steps = done_more before now next done (Bind name expr) h.steps
             (subst (λ (a : Answer). Step now (Bind name expr) next a) step.does.1 step);
         fits = fits_bound (limit_of before.meter) now.state name kept next.state h.fits binds
-            (numbers_at before.meter now.meter kept h.paid.charged keeps.numbers);
+            (numbers_at before.meter now.meter kept h.paid.charged (kept_numbers now expr kept keeps));
         others = dollar name expr refl h.ready.2 ∙ h.others;
         paid = paid_after (list_any works (done ++ Bind name expr ∷ [])) (list_any works done)
             (works (Bind name expr)) before.meter now.meter next.meter

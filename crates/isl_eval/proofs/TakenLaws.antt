@@ -12,7 +12,7 @@ use Rattle.isl_eval.specs.Causes.{Refuses}
 use Rattle.isl_eval.specs.Evaluation.{IsRead, IsTaken, IsWhyNot, IsWhyUnworkable, IsWorkable}
 use Rattle.isl_eval.proofs.ChainLaws.{evaluable}
 use Rattle.isl_eval.proofs.RefusalLaws.{memory_refuses, unread_refuses, unworkable_refuses}
-use Rattle.isl_eval.proofs.ShownLaws.{moment_of}
+use Rattle.isl_eval.proofs.MomentLaws.{moment_of}
 
 module _ (before : Moment) (state : StateView) (meter : Gauge) (options : OptionsView) (bytes : List ℕ)
     (here : before ≡ moment_of state meter options) where

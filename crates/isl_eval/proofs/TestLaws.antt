@@ -43,10 +43,9 @@ use Rattle.isl_values.proofs.RowLaws.{same_row, same_trans}
 use Rattle.isl_values.proofs.ValueLaws.{numbers_later, paid_works, unworked_after}
 use Rattle.isl_eval.specs.Tests.{Elements, is_test, ends_with_test, IsPartOf, TestHolds, HoldsPastLinks}
 use Rattle.isl_eval.specs.Machine.{Answer, Shows, ShowsRow, told}
-use Rattle.isl_flat.specs.Flat.{is_gist}
 use Rattle.std.specs.Option.{option_map_or}
 use Rattle.isl_eval.specs.Evaluated.{made_parts, shown_parts, parts_around_test}
-use Rattle.isl_eval.specs.Evaluation.{IsTestOf, past_row}
+use Rattle.isl_eval.specs.Evaluation.{IsTestOf, context_in, past_row}
 use Rattle.isl_eval.specs.Evaluation.{ends_with_test as ends}
 
 -- ---- the same of lists
@@ -117,18 +116,14 @@ holds_at state Left (link ∷ next ∷ before) last =
 
 -- ---- rows of the code
 
--- the operand of the only operator of a list, where that is `%`
-abbrev pub context_in : List Link → Option Expr
-context_in (link ∷ []) = if is_gist link.operator then Some link.operand else None
-context_in _ = None
-
-context_is : (m : Count) (row : Row_of-Link m) → context_of row ≡ context_in (items-the_row-Link m row)
+pub context_is : (m : Count) (row : Row_of-Link m) → context_of row ≡ context_in (items-the_row-Link m row)
 context_is m end_of-Link = refl
 context_is m (more_of-Link b.Gist operand end_of-Link) = refl
 context_is m (more_of-Link _ operand end_of-Link) = refl
-context_is m (more_of-Link operator operand (more_of-Link next other rest)) = refl
+context_is m (more_of-Link b.Gist operand (more_of-Link next other rest)) = refl
+context_is m (more_of-Link _ operand (more_of-Link next other rest)) = refl
 
-abbrev made_behind : List Link → List Part
+abbrev pub made_behind : List Link → List Part
 made_behind links = option_map_or (λ context. parts_of context) (context_in links) (parts_of_links links)
 
 pub made_of-Row : (first : Expr) (links : List Link) → made_parts (Row first links) ≡ parts_of first ++ made_behind links

@@ -1,6 +1,6 @@
 -- inner: what the steps from bytes to an answer leave to one another.
 use Rattle.std.specs.Prelude.{◌≡◌, ◌⊎◌, ◌≤◌, ℕ, ℤ, Bool, true, false, List, []}
-use Rattle.std.specs.Prelude.{◌∷◌, ◌++◌, length, All, MatchResult, Option, None, Some, Result, Ok, Err}
+use Rattle.std.specs.Prelude.{◌∷◌, ◌++◌, length, All, MatchResult, Option, None, Some, Result, Ok, Err, not, is_some, ◌||◌, if◌then◌else◌}
 use Rattle.std.specs.List.{list_any}
 use Rattle.isl_meter.specs.Gauge.{Gauge, IsCharged, limit_of}
 use Rattle.isl_space.specs.Limits.{most_parameters}
@@ -10,6 +10,8 @@ use Rattle.isl_union.specs.KeptValue.{KeptValue, HasNoDefinitions, IsKeptValue}
 use Rattle.isl_union.specs.Fault.{IsFaultBy}
 use Rattle.isl_union.specs.Sample.{IsSampleOf}
 use Rattle.isl_union.specs.declared.fault.OpFault.{OpFault}
+use Rattle.isl_coalesce.specs.Coalesced.{IsCoalesced}
+use Rattle.isl_operators.specs.Made.{IsAnyWordOf}
 use Rattle.isl_scan.specs.declared.fault.ScanFault.{ScanFault}
 use Rattle.isl_scan.specs.declared.fault.ScanFault.TheVariants as scan_fault
 use Rattle.isl_text.specs.declared.refusal.Refusal.{Refusal}
@@ -25,13 +27,13 @@ use Rattle.isl_expr.specs.declared.tree.Binary.{Binary}
 use Rattle.isl_expr.specs.Expr.{literals_of, statement_literals}
 use Rattle.isl_kinds.specs.Typed.{TypeView, ScopeView, is_dollar, has_unknown}
 use Rattle.isl_kinds.specs.Typed.{declared_of, joined_names, type_of_statement}
-use Rattle.isl_flat.specs.Flat.{flat}
+use Rattle.isl_flat.specs.Flat.{flat, is_gist, is_sample}
 use Rattle.isl_flat.specs.Simple.{BindsIn}
 use Rattle.isl_eval.specs.Unsupported.{is_unsupported}
 use Rattle.isl_values.specs.declared.list.ListPart.TheVariants.{First}
 use Rattle.isl_values.specs.State.{Kept, Moment, StateView, Fits, HasNumbersUpTo, scope_of, forgotten}
-use Rattle.isl_values.specs.Selection.{IsGistOfTwo, IsKeptOf, IsSelected, Keeps, Selects, RowSelects}
-use Rattle.isl_values.specs.Ends.{End, Ends, EndsRow, FirstEnds}
+use Rattle.isl_values.specs.Selection.{IsGistOfTwo, IsKeptOf, IsSelected, Keeps, Selects, RowSelects, context_of}
+use Rattle.isl_values.specs.Ends.{CutAlone, End, Ends, EndsRow, FirstEnds}
 use Rattle.isl_values.specs.Made.{is_foreign, IsSoundExpr, IsSoundLink, IsPaid, IsWhyUnworked, refusal_of_cut}
 use Rattle.isl_eval.specs.Spelled.{BytesSpell}
 use Rattle.isl_eval.specs.Tests.{Elements, is_test}
@@ -93,21 +95,65 @@ pub record IsMakeable (scope : ScopeView) (expr : Expr) : Type 0 where
   pub known : has_unknown scope expr ≡ false
   pub literals : All IsWellFormedLiteral (literals_of expr)
 
--- a value of one element of what the operand selects, or of none
-pub record IsSampled (state : StateView) (operand : Expr) (limit : ℕ) (value : KeptValue) : Type 0 where
-  pub chosen : (argument : KeptValue) × IsSelected state operand argument × IsSampleOf argument value
+-- the value is one of these, with these parameters, no number above the limit, and no column that is defined
+pub record IsValueWith (Content : KeptValue → Type 0) (names : List Name) (limit : ℕ) (value : KeptValue) : Type 0 where
+  pub content : Content value
   pub kept : IsKeptValue value
-  pub params : value.params ≡ declared_of (scope_of state) operand
+  pub params : value.params ≡ names
   pub numbers : HasNumbersUpTo limit value
   pub definitions : HasNoDefinitions value
 
+-- a value of one element of what the operand selects, or of none
+abbrev pub IsSampled : StateView → Expr → ℕ → KeptValue → Type 0
+IsSampled state operand limit value =
+    IsValueWith (λ v. (argument : KeptValue) × IsSelected state operand argument × IsSampleOf argument v)
+    (declared_of (scope_of state) operand) limit value
+
+-- what the operand selects, its pieces put together
+abbrev pub IsTogether : StateView → Expr → ℕ → KeptValue → Type 0
+IsTogether state operand limit value =
+    IsValueWith
+    (λ v. (argument : KeptValue) × IsSelected state operand argument × IsAnyWordOf p.Coalesce argument v × IsCoalesced argument v)
+    (declared_of (scope_of state) operand) limit value
+
 -- the gist of what the left operand selects in the context of what the right one does
-pub record IsSimplified (state : StateView) (left right : Expr) (limit : ℕ) (value : KeptValue) : Type 0 where
-  pub simplified : (a : KeptValue) × (c : KeptValue) × IsSelected state left a × IsSelected state right c × IsGistOfTwo a c value
-  pub kept : IsKeptValue value
-  pub params : value.params ≡ joined_names (declared_of (scope_of state) left) (declared_of (scope_of state) right)
-  pub numbers : HasNumbersUpTo limit value
-  pub definitions : HasNoDefinitions value
+abbrev pub IsSimplified : StateView → Expr → Expr → ℕ → KeptValue → Type 0
+IsSimplified state left right limit value =
+    IsValueWith
+    (λ v. (a : KeptValue) × (c : KeptValue) × IsSelected state left a × IsSelected state right c × IsGistOfTwo a c v)
+    (joined_names (declared_of (scope_of state) left) (declared_of (scope_of state) right)) limit value
+
+abbrev pub is_coalesce : Prefix → Bool
+is_coalesce p.Domain = false
+is_coalesce p.Range = false
+is_coalesce p.Deltas = false
+is_coalesce p.Identity = false
+is_coalesce p.Wrap = false
+is_coalesce p.Unwrap = false
+is_coalesce p.Zip = false
+is_coalesce p.DomainMap = false
+is_coalesce p.RangeMap = false
+is_coalesce p.LexMin = false
+is_coalesce p.LexMax = false
+is_coalesce p.Coalesce = true
+is_coalesce p.Sample = false
+is_coalesce p.Scan = false
+is_coalesce p.Codegen = false
+
+-- what is kept of it is what it selects: of all but `sample`, `coalesce` and one `%` of two operands
+abbrev pub keeps_selected : Expr → Bool
+keeps_selected (Prefix' word s operand) = not (is_sample word || is_coalesce word)
+keeps_selected (Row' s first t links) = not (is_some (context_of links))
+keeps_selected _ = true
+
+-- the operand of the only operator of a list, where that is `%`
+abbrev pub context_in : List Link → Option Expr
+context_in (link ∷ []) = if is_gist link.operator then Some link.operand else None
+context_in _ = None
+
+-- the operand ends, or else work behind it is cut
+abbrev pub EndsWork : StateView → Expr → End → Type 0
+EndsWork state operand = FirstEnds (Ends state operand) CutAlone
 
 -- what ends a row of one operator, of these operands
 abbrev pub EndsPair : StateView → Expr → Binary → Expr → End → Type 0

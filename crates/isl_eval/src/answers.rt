@@ -33,6 +33,16 @@ fn text_of_two(alloc: Global, first: &Value, second: &Value) -> Result<String, A
     Ok(text)
 }
 
+// What is kept: a value, or both values of a list in round brackets.
+fn text_of_kept(alloc: Global, kept: &Kept) -> Result<String, AllocError>
+    ensures { IfOk result (λ text. string_bytes text ≡ machine.text_of_two kept.now.value kept.now.second) }
+{
+    match kept.second() {
+        Some(second) => text_of_two(alloc, kept.value(), second),
+        None => text_of(alloc, kept.value()),
+    }
+}
+
 impl Model for Answer {
     ghost use Rattle.std.specs.Prelude.{string_bytes};
     ghost use Rattle.isl_eval.specs.Machine.{Answer as AnswerView};
@@ -58,10 +68,7 @@ impl Answer {
     pub(crate) fn of_kept(alloc: Global, kept: &Kept) -> Result<Answer, AllocError>
         ensures { IfOk result (λ answer. answer ≡ machine.shown kept.now) }
     {
-        let mut text = match kept.second() {
-            Some(second) => text_of_two(alloc, kept.value(), second)?,
-            None => text_of(alloc, kept.value())?,
-        };
+        let mut text = text_of_kept(alloc, kept)?;
         text.push('\n')?;
         Ok(Answer {
             text,

@@ -1,12 +1,15 @@
 //! What is answered to an expression that is shown, and what is kept of one.
 
-ghost use Rattle.std.specs.Prelude.{◌≡◌, ◌↔◌, true, Bool, List, Some, IfOk, IsTrue, MatchResult, unsigned_abs};
+ghost use Rattle.std.specs.Prelude.{◌≡◌, ◌↔◌, true, false, Bool, List, Some, IfOk, IsTrue, MatchResult, unsigned_abs};
 ghost use Rattle.std.specs.List.{list_any};
+ghost use Rattle.std.specs.Option.{option_copied};
 ghost use Rattle.isl_meter.specs.Gauge.{IsCharged, limit_of};
 ghost use Rattle.isl_space.specs.Element.{Element};
 ghost use Rattle.isl_space.specs.Valuation as valuation;
+ghost use Rattle.isl_expr.specs.declared.tree.Expr as trees;
 ghost use Rattle.isl_expr.specs.declared.tree.Stmt.TheVariants as s;
 ghost use Rattle.isl_expr.specs.declared.tree.Binary.TheVariants as b;
+ghost use Rattle.isl_kinds.specs.Lines.{is_kind};
 ghost use Rattle.isl_kinds.specs.Parts.{parts_of};
 ghost use Rattle.isl_kinds.specs.Typed.{kind_of};
 ghost use Rattle.isl_flat.specs.Flat.{is_gist, is_sample};
@@ -21,10 +24,11 @@ ghost use Rattle.isl_eval.specs.Evaluated.{IsEvaluable, IsWhyEnded};
 ghost use Rattle.isl_eval.specs.Tests.{TestHolds};
 ghost use Rattle.isl_eval.specs.Evaluation as spec;
 ghost use Rattle.isl_eval.specs.Evaluation.{AreKeptIn, EndsListing, EndsPair, EndsTest, IsKeptIn, IsMakeable, IsReadyTest};
-ghost use Rattle.isl_eval.specs.Evaluation.{IsSampled, IsSimplified, past_row};
+ghost use Rattle.isl_eval.specs.Evaluation.{EndsWork, IsSampled, IsSimplified, IsTogether, past_row};
 
 use crate::answers::Answer;
 use crate::test::{ends_with_test, tested};
+use isl_coalesce::coalesce;
 use isl_expr::tree::{Binary, Expr, Link, Prefix, ValueKind};
 use isl_gist::gist;
 use isl_meter::Meter;
@@ -104,7 +108,7 @@ fn sampled(
     requires fits { Fits (limit_of meter.old) state.now }
     ensures made { MatchResult result
         (λ value. IsSampled state.now operand.now (unsigned_abs (limit_of meter.old)) value.value × IsCharged meter.old meter.new)
-        (IsWhyUnworked true (Ends state.now operand.now) meter.old meter.new) }
+        (IsWhyUnworked true (EndsWork state.now operand.now) meter.old meter.new) }
     ensures goes_on { IfOk result (λ _. GoesOn (Ends state.now operand.now)) }
 {
     let value = value_of(alloc, operand, state, meter)?;
@@ -112,6 +116,27 @@ fn sampled(
         Ok(sample) => Ok(Rc::new(alloc, sample)?),
         Err(OpFault::Cut(cut)) => Err(refusal_of(cut)),
         Err(OpFault::TooWide) => unreachable!(),
+    }
+}
+
+// A value of an operand, its pieces put together.
+fn together(
+    alloc: Global,
+    operand: &Expr,
+    state: &State,
+    meter: &mut Meter,
+) -> Result<Rc<Value>, Refusal>
+    requires sound { IsSoundExpr (scope_of state.now) operand.now }
+    requires fits { Fits (limit_of meter.old) state.now }
+    ensures made { MatchResult result
+        (λ value. IsTogether state.now operand.now (unsigned_abs (limit_of meter.old)) value.value × IsCharged meter.old meter.new)
+        (IsWhyUnworked true (EndsWork state.now operand.now) meter.old meter.new) }
+    ensures goes_on { IfOk result (λ _. GoesOn (Ends state.now operand.now)) }
+{
+    let value = value_of(alloc, operand, state, meter)?;
+    match coalesce(alloc, &value, meter) {
+        Ok(together) => Ok(Rc::new(alloc, together)?),
+        Err(cut) => Err(refusal_of(cut)),
     }
 }
 
@@ -140,10 +165,62 @@ fn simplified(
     }
 }
 
+// What an expression selects, where that is kept of it.
+fn selected(
+    alloc: Global,
+    expr: &Expr,
+    state: &State,
+    meter: &mut Meter,
+) -> Result<Rc<Value>, Refusal>
+    requires selects { spec.keeps_selected expr.now ≡ true }
+    requires makeable { IsMakeable (scope_of state.now) expr.now }
+    requires fits { Fits (limit_of meter.old) state.now }
+    ensures made { MatchResult result
+        (λ value. IsKeptIn state.now (limit_of meter.old) expr.now value.value
+        × IsPaid (list_any uses_units (parts_of expr.now)) meter.old meter.new)
+        (IsWhyUnworked (list_any uses_units (parts_of expr.now)) (Ends state.now expr.now) meter.old meter.new) }
+    ensures goes_on { IfOk result (λ _. GoesOn (Ends state.now expr.now)) }
+{
+    value_of(alloc, expr, state, meter)
+}
+
 fn is_sample(word: Prefix) -> bool
     ensures { result ≡ is_sample word }
 {
     matches!(word, Prefix::Sample)
+}
+
+fn is_coalesce(word: Prefix) -> bool
+    ensures { result ≡ spec.is_coalesce word }
+{
+    matches!(word, Prefix::Coalesce)
+}
+
+// What is kept of a word with its operand.
+fn word_kept(
+    alloc: Global,
+    expr: &Expr,
+    word: Prefix,
+    operand: &Expr,
+    state: &State,
+    meter: &mut Meter,
+) -> Result<Rc<Value>, Refusal>
+    requires is { expr.now ≡ trees.Prefix word operand.now }
+    requires makeable { IsMakeable (scope_of state.now) expr.now }
+    requires fits { Fits (limit_of meter.old) state.now }
+    ensures made { MatchResult result
+        (λ value. IsKeptIn state.now (limit_of meter.old) expr.now value.value
+        × IsPaid (list_any uses_units (parts_of expr.now)) meter.old meter.new)
+        (IsWhyUnworked (list_any uses_units (parts_of expr.now)) (Ends state.now expr.now) meter.old meter.new) }
+    ensures goes_on { IfOk result (λ _. GoesOn (Ends state.now expr.now)) }
+{
+    if is_sample(word) {
+        sampled(alloc, operand, state, meter)
+    } else if is_coalesce(word) {
+        together(alloc, operand, state, meter)
+    } else {
+        selected(alloc, expr, state, meter)
+    }
 }
 
 fn is_gist(operator: Binary) -> bool
@@ -152,8 +229,42 @@ fn is_gist(operator: Binary) -> bool
     matches!(operator, Binary::Gist)
 }
 
-// The value that is kept of an expression: of `sample` a value of one element, which is chosen once; of one `%` of two operands the gist of
-// the left one in the context of the right one; else what is selected.
+// The operand of the only operator, where that is `%`.
+fn context(links: &[Link]) -> Option<&Expr>
+    ensures { option_copied result ≡ spec.context_in links.now }
+{
+    match links {
+        [link] if is_gist(link.operator) => Some(&link.operand),
+        _ => None,
+    }
+}
+
+// What is kept of a row.
+fn row_kept(
+    alloc: Global,
+    expr: &Expr,
+    first: &Expr,
+    links: &[Link],
+    state: &State,
+    meter: &mut Meter,
+) -> Result<Rc<Value>, Refusal>
+    requires is { expr.now ≡ trees.Row first.now links.now }
+    requires makeable { IsMakeable (scope_of state.now) expr.now }
+    requires fits { Fits (limit_of meter.old) state.now }
+    ensures made { MatchResult result
+        (λ value. IsKeptIn state.now (limit_of meter.old) expr.now value.value
+        × IsPaid (list_any uses_units (parts_of expr.now)) meter.old meter.new)
+        (IsWhyUnworked (list_any uses_units (parts_of expr.now)) (Ends state.now expr.now) meter.old meter.new) }
+    ensures goes_on { IfOk result (λ _. GoesOn (Ends state.now expr.now)) }
+{
+    match context(links) {
+        Some(right) => simplified(alloc, first, right, state, meter),
+        None => selected(alloc, expr, state, meter),
+    }
+}
+
+// The value that is kept of an expression: of `sample` a value of one element, which is chosen once; of `coalesce` one of its operand, whose
+// pieces are put together; of one `%` of two operands the gist of the left one in the context of the right one; else what is selected.
 fn single(
     alloc: Global,
     expr: &Expr,
@@ -169,16 +280,66 @@ fn single(
     ensures goes_on { IfOk result (λ _. GoesOn (Ends state.now expr.now)) }
 {
     match expr {
-        Expr::Prefix(word, operand) if is_sample(*word) => {
-            sampled(alloc, operand.get(), state, meter)
-        }
-        Expr::Row(first, links) => match links.as_slice() {
-            [link] if is_gist(link.operator) => {
-                simplified(alloc, first.get(), &link.operand, state, meter)
-            }
-            _ => value_of(alloc, expr, state, meter),
-        },
-        _ => value_of(alloc, expr, state, meter),
+        Expr::Prefix(word, operand) => word_kept(alloc, expr, *word, operand.get(), state, meter),
+        Expr::Row(first, links) => row_kept(
+            alloc,
+            expr,
+            first.get(),
+            links.as_slice(),
+            state,
+            meter,
+        ),
+        Expr::Name(_) => selected(alloc, expr, state, meter),
+        Expr::Literal(_) => selected(alloc, expr, state, meter),
+        Expr::Any(_, _, _) => selected(alloc, expr, state, meter),
+        Expr::Last(_, _, _) => selected(alloc, expr, state, meter),
+        Expr::Post(_, _) => selected(alloc, expr, state, meter),
+    }
+}
+
+// Both values of a list.
+fn list_kept(
+    alloc: Global,
+    expr: &Expr,
+    state: &State,
+    meter: &mut Meter,
+) -> Result<Kept, Refusal>
+    requires makeable { IsMakeable (scope_of state.now) expr.now }
+    requires kind { kind_of (scope_of state.now) expr.now ≡ Some ValueKind.List }
+    requires fits { Fits (limit_of meter.old) state.now }
+    ensures made { MatchResult result
+        (λ kept. AreKeptIn state.now (limit_of meter.old) expr.now kept
+        × IsPaid (list_any uses_units (parts_of expr.now)) meter.old meter.new)
+        (IsWhyUnworked (list_any uses_units (parts_of expr.now)) (Ends state.now expr.now) meter.old meter.new) }
+    ensures goes_on { IfOk result (λ _. GoesOn (Ends state.now expr.now)) }
+{
+    match list_of(alloc, expr, state, meter) {
+        Ok(values) => Ok(Kept::list(values)),
+        Err(refusal) => Err(refusal),
+    }
+}
+
+// The value of what is no list.
+fn value_kept(
+    alloc: Global,
+    expr: &Expr,
+    kind: ValueKind,
+    state: &State,
+    meter: &mut Meter,
+) -> Result<Kept, Refusal>
+    requires makeable { IsMakeable (scope_of state.now) expr.now }
+    requires kind { kind_of (scope_of state.now) expr.now ≡ Some kind }
+    requires other { is_kind kind ValueKind.List ≡ false }
+    requires fits { Fits (limit_of meter.old) state.now }
+    ensures made { MatchResult result
+        (λ kept. AreKeptIn state.now (limit_of meter.old) expr.now kept
+        × IsPaid (list_any uses_units (parts_of expr.now)) meter.old meter.new)
+        (IsWhyUnworked (list_any uses_units (parts_of expr.now)) (Ends state.now expr.now) meter.old meter.new) }
+    ensures goes_on { IfOk result (λ _. GoesOn (Ends state.now expr.now)) }
+{
+    match single(alloc, expr, state, meter) {
+        Ok(value) => Ok(Kept::new(kind, value)),
+        Err(refusal) => Err(refusal),
     }
 }
 
@@ -199,10 +360,11 @@ pub(crate) fn content(
         (IsWhyUnworked (list_any uses_units (parts_of expr.now)) (Ends state.now expr.now) meter.old meter.new) }
     ensures goes_on { IfOk result (λ _. GoesOn (Ends state.now expr.now)) }
 {
-    if matches!(kind, ValueKind::List) {
-        return Ok(Kept::list(list_of(alloc, expr, state, meter)?));
+    if kind == ValueKind::List {
+        list_kept(alloc, expr, state, meter)
+    } else {
+        value_kept(alloc, expr, kind, state, meter)
     }
-    Ok(Kept::new(kind, single(alloc, expr, state, meter)?))
 }
 
 // The line that shows what is kept of an expression.

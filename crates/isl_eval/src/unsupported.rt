@@ -26,11 +26,12 @@ fn is_unsupported_expression(expr: &Expr) -> bool
         }
         Expr::Prefix(word, operand) => is_unsupported_word(*word)
             | is_unsupported_expression(operand.get()),
-        Expr::Any(source, sink, schedule) | Expr::Last(source, sink, schedule) => {
+        Expr::Any(source, sink, schedule) => {
             is_unsupported_expression(source.get())
-                | (is_unsupported_expression(sink.get())
-                | is_unsupported_expression(schedule.get()))
+                | is_unsupported_expression(sink.get())
+                | is_unsupported_expression(schedule.get())
         }
+        Expr::Last(_, _, _) => true,
         Expr::Post(operand, postfixes) => {
             is_unsupported_expression(operand.get())
                 | are_unsupported_postfixes(postfixes.as_slice())

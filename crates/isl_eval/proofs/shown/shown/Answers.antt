@@ -6,15 +6,12 @@ use Rattle.isl_values.proofs.ValueLaws.{match_map}
 use Rattle.isl_values.specs.Ends.{Ends}
 use Rattle.isl_values.proofs.FirstLaws.{goes_alike}
 use Rattle.isl_eval.specs.Ended.{StatementEnds}
-use Rattle.isl_eval.proofs.ShownLaws.{moment_of, show_makeable, shown_ends, shown_kind, shows_value, whole_ended}
+use Rattle.isl_eval.proofs.ShownLaws.{moment_of, show_makeable, shown_ends, shows_value, whole_ended}
 use Rattle.isl_eval.proofs.shown.shown.Goals as goal
 
 pub value_shown-requires-clause-makeable : goal.value_shown-requires-clause-makeable
 value_shown-requires-clause-makeable c =
     show_makeable (scope_of c.args.state.now) c.args.expr.now (sym c.is_asked.ensures ∙ c.if-is_asked.false) c.requires.evaluable
-
-pub value_shown-requires-clause-kind : goal.value_shown-requires-clause-kind
-value_shown-requires-clause-kind c = shown_kind (scope_of c.args.state.now) c.args.expr.now c.requires.evaluable
 
 pub returns-else-is_asked-clause-made : goal.returns-else-is_asked-clause-made
 returns-else-is_asked-clause-made c =

@@ -1,7 +1,8 @@
 use Rattle.std.proofs.Common.{◌∙◌, ap, refl, sym, subst}
 use Rattle.isl_stmt.specs.Names.{binds_dollar}
 use Rattle.isl_eval.specs.Machine.{Step}
-use Rattle.isl_eval.proofs.ShownLaws.{bind_step, empty_step, moment_of, show_answered}
+use Rattle.isl_values.specs.State.{scope_of}
+use Rattle.isl_eval.proofs.ShownLaws.{bind_step, empty_step, moment_of, show_answered, show_full, show_is}
 use Rattle.isl_eval.proofs.simple.eval.Goals as goal
 
 pub returns-in-Empty-clause-ok : goal.returns-in-Empty-clause-ok
@@ -18,11 +19,19 @@ returns-in_ok-bound-in-Bind-clause-ok c =
     c.in_ok-bound-in-Bind.ensures.made.1.charged
     c.in_ok-bound-in-Bind.ensures.goes_on (c.in_ok-bound-in-Bind.ensures.made.0 before refl refl))
 
-pub returns-in-Show-clause-ok : goal.returns-in-Show-clause-ok
-returns-in-Show-clause-ok c =
+pub returns-in_ok-typed-in-Show-clause-ok : goal.returns-in_ok-typed-in-Show-clause-ok
+returns-in_ok-typed-in-Show-clause-ok c =
     show_answered (moment_of c.args.state.now c.args.meter.now c.args.options.now) c.args.stmt.now c.shown.new.meter _ _ _ c.shown.result
     c.in-Show.is c.shown.ensures.made c.shown.ensures.goes_on
 
 pub returns-in_ok-bound-in-Bind-clause-settled : goal.returns-in_ok-bound-in-Bind-clause-settled
 returns-in_ok-bound-in-Bind-clause-settled c =
     λ plain settled. c.in_ok-bound-in-Bind.ensures.settled (sym (ap binds_dollar c.in-Bind.is) ∙ plain) settled
+
+pub type_of-requires-clause-full : goal.type_of-requires-clause-full
+type_of-requires-clause-full c = show_full c.args.stmt.now c.in-Show.expr c.in-Show.is
+
+pub shown-requires-clause-kind : goal.shown-requires-clause-kind
+shown-requires-clause-kind c =
+    show_is (scope_of c.args.state.now) c.args.stmt.now c.in-Show.expr c.in_ok-typed-in-Show.typed c.kind.result c.in-Show.is
+    c.in_ok-typed-in-Show.ensures.typed c.kind.ensures

@@ -1,7 +1,7 @@
 use Rattle.std.proofs.Common.{◌∙◌, ap, refl, subst, sym}
 use Rattle.isl_values.specs.State.{StateView}
 use Rattle.isl_eval.specs.Evaluation.{IsTaken}
-use Rattle.isl_eval.proofs.ShownLaws.{moment_of}
+use Rattle.isl_eval.proofs.MomentLaws.{moment_of}
 use Rattle.isl_eval.proofs.ChainLaws.{alone_plain}
 use Rattle.isl_eval.proofs.StepLaws.{finished_cause, finished_err, finished_fits, finished_ok, finished_settled, finished_shown}
 use Rattle.isl_eval.proofs.step.answer.Goals as goal

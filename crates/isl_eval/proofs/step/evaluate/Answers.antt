@@ -1,7 +1,7 @@
 use Rattle.std.proofs.Common.{◌<◌, ◌∷◌, ◌++◌, arith, length, subst, [], rules}
 use Rattle.isl_values.specs.State.{scope_of}
 use Rattle.isl_eval.specs.Evaluation.{AreEvaluable}
-use Rattle.isl_eval.proofs.ShownLaws.{moment_of}
+use Rattle.isl_eval.proofs.MomentLaws.{moment_of}
 use Rattle.isl_eval.proofs.TestLaws.{refused}
 use Rattle.isl_eval.proofs.StepLaws.{alone_settled, turn_alone, left_first, left_start, loop_first, loop_last}
 use Rattle.isl_eval.proofs.StepLaws.{loop_next, loop_stopped, stopped_last, answered_last, shown_last}

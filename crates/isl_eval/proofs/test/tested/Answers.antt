@@ -11,8 +11,8 @@ use Rattle.isl_values.proofs.ValueLaws.{fits_later, numbers_later}
 use Rattle.isl_meter.proofs.CutLemmas.{IsCharged_refl, IsCharged_trans}
 use Rattle.isl_values.specs.State.{scope_of}
 use Rattle.isl_eval.specs.Evaluation.{EndsTest}
-use Rattle.isl_eval.proofs.TestLaws.{at_deref, refused, test_names, test_wide, tested_is, unworked_on}
-use Rattle.isl_eval.proofs.EndsLaws.{first_ends, names_end, past_ends, right_ends, test_goes_on}
+use Rattle.isl_eval.proofs.TestLaws.{at_deref, refused, test_names, test_unmade, test_wide, tested_is, unworked_on}
+use Rattle.isl_eval.proofs.EndsLaws.{first_ends, names_end, past_ends, right_ends, test_cut, test_goes_on}
 use Rattle.isl_eval.proofs.test.tested.Goals as goal
 
 pub joined_past-requires-clause-fits : goal.joined_past-requires-clause-fits
@@ -107,6 +107,25 @@ returns-clause-made c =
     (λ many. names_end state c.args.first.now c.args.before.now c.args.last.now c.in_ok-left.left.value
     c.in_ok-left.ensures.made.0.params c.in_ok-left.ensures.made.0.elements c.in_ok-left.ensures.goes_on c.in_ok-left-2.ensures.goes_on
     c.in_ok-right.ensures.goes_on (subst (λ (ns : List Name). most_parameters < length ns) names many))
+
+pub returns-in-Err-Cut-clause-made : goal.returns-in-Err-Cut-clause-made
+returns-in-Err-Cut-clause-made c =
+    let state = c.args.state.now in
+    let fault : c.in-Err-Cut.field-0 ≡ op_fault.Cut c.in-Err-Cut.cut = search rules in
+    let names = test_names (scope_of state) c.args.first.now c.args.before.now c.args.last.now c.in_ok-left.left.value
+    c.in_ok-left-2.left.value c.in_ok-right.right.value c.deref.result.now c.deref-2.result.now c.in_ok-left.ensures.made.0.params
+    c.in_ok-left-2.ensures.made.0.params c.in_ok-right.ensures.made.0.params c.deref.ensures c.deref-2.ensures in
+    test_unmade (EndsTest state c.args.first.now c.args.before.now c.args.last.now)
+    (joined c.deref.result.now.params c.deref-2.result.now.params) c.args.meter.now c.value_of-2.new.meter c.holds.new.meter
+    c.in-Err-Cut.cut c.refusal_of.result
+    (IsCharged_trans c.args.meter.now c.joined_past.new.meter c.value_of-2.new.meter
+    (IsCharged_trans c.args.meter.now c.value_of.new.meter c.joined_past.new.meter c.in_ok-left.ensures.made.1.charged
+    c.in_ok-left-2.ensures.made.1.charged) c.in_ok-right.ensures.made.1.charged)
+    (subst (IsFaultBy (joined c.deref.result.now.params c.deref-2.result.now.params) c.value_of-2.new.meter c.holds.new.meter) fault
+    c.in-Err-Cut.ensures.units) c.refusal_of.ensures
+    (λ few. test_cut state c.args.first.now c.args.before.now c.args.last.now c.in_ok-left.left.value
+    c.in_ok-left.ensures.made.0.params c.in_ok-left.ensures.made.0.elements c.in_ok-left.ensures.goes_on c.in_ok-left-2.ensures.goes_on
+    c.in_ok-right.ensures.goes_on c.requires.ready.test (subst (λ (ns : List Name). length ns ≤ most_parameters) names few))
 
 pub returns-in-Ok-clause-goes_on : goal.returns-in-Ok-clause-goes_on
 returns-in-Ok-clause-goes_on c =
