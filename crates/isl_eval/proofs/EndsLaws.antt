@@ -17,7 +17,6 @@ use Rattle.isl_operators.specs.Operations.{WordMisses}
 use Rattle.isl_operators.specs.Formed.{OperatorForms, PairsWide, WordForms, FormsWide}
 use Rattle.isl_values.specs.State.{StateView, scope_of}
 use Rattle.isl_values.specs.Selection.{Selects}
-use Rattle.isl_values.specs.declared.list.ListPart.TheVariants.{First}
 use Rattle.isl_values.specs.Ends.{End, because, cut, too_wide, NoEnd, GoesOn, FirstEnds, Ends, EndsRow}
 use Rattle.isl_values.specs.Ends.{PairEnds, WordEnds}
 use Rattle.isl_values.proofs.FirstLaws.{EndAlike, alike_itself, first_alike, goes_alike, goes_both, turned_alike}

@@ -227,8 +227,7 @@ module _ (state : StateView) (operand : Expr) (g h : Gauge) (value v one made : 
   together_is params elements joined =
       with_value g h
       (λ w. (argument : KeptValue) × IsSelected state operand argument × IsAnyWordOf p.Coalesce argument w × IsCoalesced argument w)
-      (declared_of (scope_of state) operand) one made charged same
-      (
+      (declared_of (scope_of state) operand) one made charged same (
         value,
         worked_selects,
         subst (λ (k : KeptValue). IsAnyWordOf p.Coalesce k one) is (record { params = params; elements = elements }),

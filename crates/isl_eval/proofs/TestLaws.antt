@@ -1,7 +1,7 @@
 -- Rows with a test at their end, at the constructors of the code.
 use mathlib.Core.Former.{Count}
 use Rattle.std.proofs.Common.{◌≡◌, ◌∙◌, ◌↔◌, ◌⊎◌, ◌<◌, ◌≤◌, inl, inr, refl, sym, ap, ap₂, subst, arith}
-use Rattle.std.proofs.Common.{Bool, true, false, List, [], ◌∷◌, ◌++◌, length, Option, Some, None, Result, Ok, Err}
+use Rattle.std.proofs.Common.{Bool, true, false, List, [], ◌∷◌, ◌++◌, length, Option, Result, Ok, Err}
 use Rattle.std.specs.Prelude.{unsigned_abs, not, IsTrue, IfOk, MatchResult, if◌then◌else◌, ◌||◌}
 use Rattle.std.specs.List.{list_any}
 use Rattle.std.proofs.lemmas.Bool.{or_parts, false≢true}
@@ -30,7 +30,7 @@ use Rattle.isl_kinds.specs.Parts.{Part, parts_of, parts_of_links, parts_in_links
 use Rattle.isl_kinds.specs.Parts as part
 use Rattle.isl_kinds.specs.Typed.{ScopeView, declared_of, declared_of_row, joined_names}
 use Rattle.isl_kinds.proofs.JoinedNamesLaws.{declared_distinct, joined_is}
-use Rattle.isl_kinds.proofs.PartLaws.{links_are, parts_of-Row, any_in_link}
+use Rattle.isl_kinds.proofs.PartLaws.{links_are, any_in_link}
 use Rattle.isl_values.specs.State.{StateView, Moment, HasNumbersUpTo}
 use Rattle.isl_operators.specs.Operations.{OperatorHas}
 use Rattle.isl_operators.proofs.NamesLaws.{turned_fits}

@@ -298,12 +298,7 @@ fn single(
 }
 
 // Both values of a list.
-fn list_kept(
-    alloc: Global,
-    expr: &Expr,
-    state: &State,
-    meter: &mut Meter,
-) -> Result<Kept, Refusal>
+fn list_kept(alloc: Global, expr: &Expr, state: &State, meter: &mut Meter) -> Result<Kept, Refusal>
     requires makeable { IsMakeable (scope_of state.now) expr.now }
     requires kind { kind_of (scope_of state.now) expr.now ≡ Some ValueKind.List }
     requires fits { Fits (limit_of meter.old) state.now }

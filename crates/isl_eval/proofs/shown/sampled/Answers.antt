@@ -1,7 +1,4 @@
-use Rattle.std.proofs.Common.{inl, inr, refl}
-use Rattle.isl_values.specs.Ends.{Ends}
-use Rattle.isl_eval.specs.Evaluation.{EndsWork}
-use Rattle.isl_eval.proofs.TestLaws.{at_deref, unmade_by}
+use Rattle.isl_eval.proofs.TestLaws.{at_deref}
 use Rattle.isl_eval.proofs.ShownLaws.{sampled_is}
 use Rattle.isl_meter.proofs.CutLemmas.{IsCharged_trans}
 use Rattle.isl_eval.proofs.shown.sampled.Goals as goal

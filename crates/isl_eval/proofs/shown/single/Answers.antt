@@ -1,5 +1,5 @@
 use Rattle.std.proofs.Common.{◌∙◌, ap, ap₂, sym}
-use Rattle.isl_expr.specs.declared.tree.Expr.{Expr, Prefix, Row}
+use Rattle.isl_expr.specs.declared.tree.Expr.{Prefix, Row}
 use Rattle.isl_eval.proofs.ShownLaws.{any_selects, last_selects, literal_selects, name_selects, post_selects}
 use Rattle.isl_eval.proofs.shown.single.Goals as goal
 

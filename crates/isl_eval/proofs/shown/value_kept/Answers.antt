@@ -1,4 +1,3 @@
-use Rattle.std.proofs.Common.{refl}
 use Rattle.isl_meter.specs.Gauge.{limit_of}
 use Rattle.isl_eval.proofs.ShownLaws.{kept_plain, value_keeps}
 use Rattle.isl_eval.proofs.shown.value_kept.Goals as goal

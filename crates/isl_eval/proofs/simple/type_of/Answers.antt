@@ -1,4 +1,4 @@
-use Rattle.std.proofs.Common.{refl, rules}
+use Rattle.std.proofs.Common.{rules}
 use Rattle.isl_values.specs.State.{scope_of}
 use Rattle.isl_eval.proofs.ShownLaws.{found_type, memory_alone, not_empty}
 use Rattle.isl_eval.proofs.simple.type_of.Goals as goal
