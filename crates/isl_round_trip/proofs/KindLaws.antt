@@ -1,6 +1,7 @@
 -- What an expression selects lies in spaces of its kind, and so do the pieces of a kept value with these elements.
 use mathlib.Core.Former.{Count}
-use Rattle.std.proofs.Common.{◌≡◌, ◌∙◌, inl, inr, ◌⊎◌, Bool, true, false, List, [], ◌∷◌, ◌++◌, Option, Some, None, All, sym, ap, subst, refl}
+use Rattle.std.proofs.Common.{◌≡◌, ◌∙◌, inl, inr, ◌⊎◌, Bool, true, false, List, [], ◌∷◌, ◌++◌, Option, Some, None, All}
+use Rattle.std.proofs.Common.{sym, ap, subst, refl}
 use Rattle.std.specs.Prelude.{is_some, is_none, ◌&&◌, ◌||◌, option_map, Any, MatchOption}
 use Rattle.std.specs.Option.{option_and_then}
 use Rattle.std.specs.List.{list_all, list_any}
@@ -47,7 +48,7 @@ use Rattle.isl_values.proofs.StateLaws.{bound_at}
 use Rattle.isl_values.proofs.PartLaws.{all_left, all_right, quiet_both}
 use Rattle.isl_eval.proofs.LiteralLaws.{IsSpelled}
 use Rattle.isl_round_trip.specs.Written.{IsSet, IsMap, IsUniform, IsSpaceOf, IsOfKind}
-use Rattle.isl_round_trip.specs.TakenAgain.{AreWritable, is_gist}
+use Rattle.isl_round_trip.specs.TakenAgain.{AreWritable, simplifies}
 use Rattle.isl_round_trip.proofs.KindOfOperations.{AreOfKind, some_same, none_some, as_kind, no_element}
 use Rattle.isl_round_trip.proofs.KindOfOperations.{of_inverse, of_item, of_word, of_operator, of_application, of_any, of_last}
 
@@ -283,16 +284,16 @@ module _ (state : StateView) (all : AreWritable state) where
 
   -- a row is one `%`, or its value is what is selected
   row_selected : (m : Count) (first : Row_of-Expr m) (n : Count) (links : Row_of-Link n)
-      → list_any is_gist (parts_in first ++ parts_in_links links) ≡ false → (Selected : Type 0) (Simplified : Expr → Type 0)
+      → list_any simplifies (parts_in first ++ parts_in_links links) ≡ false → (Selected : Type 0) (Simplified : Expr → Type 0)
       → MatchOption (context_of links) Selected Simplified → Selected
   row_selected m first n (more_of-Link b.Gist context end_of-Link) none Selected Simplified content =
-      absurd (false≢true (sym (quiet_both is_gist (parts_in first) (parts_in_links (more_of-Link b.Gist context end_of-Link)) none).1))
+      absurd (false≢true (sym (quiet_both simplifies (parts_in first) (parts_in_links (more_of-Link b.Gist context end_of-Link)) none).1))
   row_selected m first n links none Selected Simplified content = content
 
   -- what is kept of a part of an expression without `%` is of its kind
   pub content_kind : (part : ListPart) (expr : Expr) (value : KeptValue) → All IsSpelled (literals_of expr)
-      → list_any is_gist (parts_of expr) ≡ false → IsContentOf state part expr value → (kind : ValueKind) → kind_of (scope_of state) expr ≡ Some kind → (valuation : Valuation)
-      (element : Element) → Has value valuation element → IsSpaceOf kind element.space
+      → list_any simplifies (parts_of expr) ≡ false → IsContentOf state part expr value → (kind : ValueKind)
+      → kind_of (scope_of state) expr ≡ Some kind → (valuation : Valuation) (element : Element) → Has value valuation element → IsSpaceOf kind element.space
   content_kind part (Prefix' p.Sample s operand) value spelled none content kind is valuation element has =
       sample_kind _ operand spelled content.0 value content.1 content.2 kind is valuation element has
   content_kind part (Prefix' p.Coalesce s operand) value spelled none content kind is valuation element has =

@@ -1,5 +1,6 @@
 -- What operations make of elements in spaces of a kind lies in spaces of the kind that the table of kinds tells.
-use Rattle.std.proofs.Common.{◌≡◌, ◌∙◌, ◌⊎◌, inl, inr, Bool, true, false, ◌&&◌, if◌then◌else◌, List, Option, Some, None, sym, ap, subst, refl}
+use Rattle.std.proofs.Common.{◌≡◌, ◌∙◌, ◌⊎◌, inl, inr, Bool, true, false, ◌&&◌, if◌then◌else◌, List, Option, Some, None}
+use Rattle.std.proofs.Common.{sym, ap, subst, refl}
 use Rattle.std.specs.Option.{option_and_then}
 use Rattle.isl_space.specs.Name.{Name}
 use Rattle.isl_space.specs.Valuation.{Valuation}
@@ -121,26 +122,34 @@ module _ (Operand : Element → Type 0) (a : ValueKind) (all : (element : Elemen
 
 module _ (names : List Name) (Family : Valuation → Element → Type 0) (valuation : Valuation) (a : ValueKind)
     (all : (element : Element) → Family valuation element → IsSpaceOf a element.space) where
+  set_word : (line : ValueKind → Option ValueKind) (kind : ValueKind) (x : Point) → HasPoint (Family valuation) x → line a ≡ Some kind
+      → line Set ≡ Some kind
+  set_word = set_line (Family valuation) a all
+
+  map_word : (line : ValueKind → Option ValueKind) → line Pair ≡ None → (kind : ValueKind) (x y : Point) → Relates (Family valuation) x y
+      → line a ≡ Some kind → line Map ≡ Some kind
+  map_word = map_line (Family valuation) a all
+
   word_kind : (word : Prefix) (kind : ValueKind) (element : Element) → prefixed word a ≡ Some kind
       → WordHas word names Family valuation element → IsSpaceOf kind element.space
-  word_kind p.Domain kind element is h = made_in Set kind element _ (map_line (Family valuation) a all (prefixed p.Domain) refl kind h.0 h.1 h.2 is) h.3 tt
-  word_kind p.Range kind element is h = made_in Set kind element _ (map_line (Family valuation) a all (prefixed p.Range) refl kind h.0 h.1 h.2 is) h.3 tt
-  word_kind p.Deltas kind element is h = made_in Set kind element _ (map_line (Family valuation) a all (prefixed p.Deltas) refl kind h.0 h.1 h.2 is) h.4 tt
-  word_kind p.Identity kind element is h = made_in Map kind element _ (set_line (Family valuation) a all (prefixed p.Identity) kind h.0 h.1 is) h.2 tt
-  word_kind p.Wrap kind element is h = made_in Set kind element _ (map_line (Family valuation) a all (prefixed p.Wrap) refl kind h.0 h.1 h.2 is) h.3 tt
-  word_kind p.Unwrap kind element is h = made_in Map kind element _ (set_line (Family valuation) a all (prefixed p.Unwrap) kind (paired h.0 h.1) h.4 is) h.5 tt
+  word_kind p.Domain kind element is h = made_in Set kind element _ (map_word (prefixed p.Domain) refl kind h.0 h.1 h.2 is) h.3 tt
+  word_kind p.Range kind element is h = made_in Set kind element _ (map_word (prefixed p.Range) refl kind h.0 h.1 h.2 is) h.3 tt
+  word_kind p.Deltas kind element is h = made_in Set kind element _ (map_word (prefixed p.Deltas) refl kind h.0 h.1 h.2 is) h.4 tt
+  word_kind p.Identity kind element is h = made_in Map kind element _ (set_word (prefixed p.Identity) kind h.0 h.1 is) h.2 tt
+  word_kind p.Wrap kind element is h = made_in Set kind element _ (map_word (prefixed p.Wrap) refl kind h.0 h.1 h.2 is) h.3 tt
+  word_kind p.Unwrap kind element is h = made_in Map kind element _ (set_word (prefixed p.Unwrap) kind (paired h.0 h.1) h.4 is) h.5 tt
   word_kind p.Zip kind element is h =
-      made_in Map kind element _ (map_line (Family valuation) a all (prefixed p.Zip) refl kind (paired h.0 h.1) (paired h.2 h.3) h.8 is) h.9 tt
-  word_kind p.DomainMap kind element is h = made_in Map kind element _ (map_line (Family valuation) a all (prefixed p.DomainMap) refl kind h.0 h.1 h.2 is) h.3 tt
-  word_kind p.RangeMap kind element is h = made_in Map kind element _ (map_line (Family valuation) a all (prefixed p.RangeMap) refl kind h.0 h.1 h.2 is) h.3 tt
+      made_in Map kind element _ (map_word (prefixed p.Zip) refl kind (paired h.0 h.1) (paired h.2 h.3) h.8 is) h.9 tt
+  word_kind p.DomainMap kind element is h = made_in Map kind element _ (map_word (prefixed p.DomainMap) refl kind h.0 h.1 h.2 is) h.3 tt
+  word_kind p.RangeMap kind element is h = made_in Map kind element _ (map_word (prefixed p.RangeMap) refl kind h.0 h.1 h.2 is) h.3 tt
   word_kind p.LexMin kind element is (inl h) =
-      made_in Set kind element _ (set_line (Family valuation) a all (prefixed p.LexMin) kind h.0 h.1.0 is) h.2 tt
+      made_in Set kind element _ (set_word (prefixed p.LexMin) kind h.0 h.1.0 is) h.2 tt
   word_kind p.LexMin kind element is (inr h) =
-      made_in Map kind element _ (map_line (Family valuation) a all (prefixed p.LexMin) refl kind h.0 h.1 h.2.0 is) h.3 tt
+      made_in Map kind element _ (map_word (prefixed p.LexMin) refl kind h.0 h.1 h.2.0 is) h.3 tt
   word_kind p.LexMax kind element is (inl h) =
-      made_in Set kind element _ (set_line (Family valuation) a all (prefixed p.LexMax) kind h.0 h.1.0 is) h.2 tt
+      made_in Set kind element _ (set_word (prefixed p.LexMax) kind h.0 h.1.0 is) h.2 tt
   word_kind p.LexMax kind element is (inr h) =
-      made_in Map kind element _ (map_line (Family valuation) a all (prefixed p.LexMax) refl kind h.0 h.1 h.2.0 is) h.3 tt
+      made_in Map kind element _ (map_word (prefixed p.LexMax) refl kind h.0 h.1 h.2.0 is) h.3 tt
   word_kind p.Coalesce kind element is h =
       let lies = all element h in as_kind element.space a kind (kept_kind a kind element.space lies is) lies
   word_kind word kind element is h = absurd h

@@ -61,7 +61,7 @@ use Rattle.isl_values.proofs.ForgetLaws.{kept_of_dollar, kept_of_forgotten}
 use Rattle.isl_round_trip.specs.Tree.{printed_tree}
 use Rattle.isl_round_trip.specs.Written.{HasFewRemainders, IsOfKind}
 use Rattle.isl_round_trip.specs.RoundTrip.{IsWritableValue, ReadsAs}
-use Rattle.isl_round_trip.specs.TakenAgain.{AreWritable, IsShallow, IsShownAgain, IsTakenAgain, ShowsKept, SimplifiesNone, is_gist}
+use Rattle.isl_round_trip.specs.TakenAgain.{AreWritable, IsShallow, IsShownAgain, IsTakenAgain, ShowsKept, SimplifiesNone, simplifies}
 use Rattle.isl_round_trip.proofs.ValueTokenLaws.{printed_tokens, tokens-printed}
 use Rattle.isl_round_trip.proofs.TakenTokens.{narrow}
 use Rattle.isl_round_trip.proofs.RoundTripLaws.{tree_at, reads_as}
@@ -231,7 +231,7 @@ abbrev AreSpelled : Stmt → Type 0
 AreSpelled stmt = All IsSpelled (statement_literals stmt) × SimplifiesNone stmt
 
 abbrev IsPlainExpr : Expr → Type 0
-IsPlainExpr expr = All IsSpelled (literals_of expr) × (list_any is_gist (parts_of expr) ≡ false)
+IsPlainExpr expr = All IsSpelled (literals_of expr) × (list_any simplifies (parts_of expr) ≡ false)
 
 abbrev IsWritten : Kept → Type 0
 IsWritten kept = (part : ListPart) → IsOfKind kept.kind (value_at part kept) × IsWritableValue (value_at part kept)
@@ -345,7 +345,7 @@ of_text bytes stmt spelled = literals_spelled stmt spelled.tokens (lexed bytes s
 
 of_simple : (bytes : List ℕ) (stmt : Stmt) → BytesSpell bytes stmt → SimplifiesNone stmt → All AreSpelled (flat stmt)
 of_simple bytes stmt spelled plain = λ i d low.
-    (literals_kept IsSpelled stmt (of_text bytes stmt spelled) i d low, parts_kept is_gist (λ n. refl) stmt plain i d low)
+    (literals_kept IsSpelled stmt (of_text bytes stmt spelled) i d low, parts_kept simplifies (λ n. refl) stmt plain i d low)
 
 -- what is shown of a kept value
 shows_again : (now : Moment) (stmt : Stmt) (kept : Kept) (after : Moment) (answer : Answer) → now.meter.bits ≤ 127 → AreWritable now.state

@@ -9,11 +9,11 @@ use Rattle.isl_print.specs.Printed.{printed}
 use Rattle.isl_token.specs.Depth.{is_too_deep}
 use Rattle.isl_tree.specs.declared.tree.Literal.{Literal}
 use Rattle.isl_tree.specs.Literal.{LiteralHas}
-use Rattle.isl_expr.specs.declared.tree.Binary.TheVariants as b
 use Rattle.isl_expr.specs.declared.tree.Stmt.{Stmt}
 use Rattle.isl_expr.specs.declared.tree.Stmt.TheVariants.{Show}
 use Rattle.isl_expr.specs.declared.tree.Expr.TheVariants as e
 use Rattle.isl_kinds.specs.Parts.{Part, operator, parts_of_statement}
+use Rattle.isl_flat.specs.Flat.{is_gist}
 use Rattle.isl_values.specs.declared.list.ListPart.{ListPart}
 use Rattle.isl_values.specs.State.{Kept, StateView, Moment, EachKept, value_at}
 use Rattle.isl_values.specs.Selection.{Keeps}
@@ -47,12 +47,12 @@ pub record IsShownAgain (after : Moment) (value : KeptValue) (answer : Answer) :
   pub answered : (last : Moment) (other : Answer) → Answers after (printed value) last other → other ≡ answer
 
 -- `%` stands in no part of the statement
-abbrev pub is_gist : Part → Bool
-is_gist (operator b.Gist) = true
-is_gist part = false
+abbrev pub simplifies : Part → Bool
+simplifies (operator sign) = is_gist sign
+simplifies part = false
 
 abbrev pub SimplifiesNone : Stmt → Type 0
-SimplifiesNone stmt = list_any is_gist (parts_of_statement stmt) ≡ false
+SimplifiesNone stmt = list_any simplifies (parts_of_statement stmt) ≡ false
 
 -- a simple statement that shows an expression of which this is kept
 abbrev pub ShowsKept : Kept → Moment → Stmt → Type 0
