@@ -220,6 +220,10 @@ depends result a b c m of is = by (fits a Map) refl (fits b Map) refl (fits c Ma
     by true p false q z r = let f : None ≡ Some m = sym (rw (p, q) refl) ∙ is in cc
     by false p y q z r = let f : None ≡ Some m = sym (rw p refl) ∙ is in cc
 
+list_made : (all_empty : Bool) → is_value (made all_empty Pair) ≡ true
+list_made true = refl
+list_made false = refl
+
 -- ---- what has a kind
 abbrev IsValue : Option ValueKind → Type 0
 IsValue o = (k : ValueKind) × (o ≡ Some k) × (is_value k ≡ true)
@@ -421,7 +425,15 @@ mutual
       (none_both (parts_in sink) (parts_in schedule)
       (in_plain _ scope sink each.1.0 each.1.1 each.1.2 (calm_left (parts_in sink) (parts_in schedule) later))
       (in_plain _ scope schedule each.2.0 each.2.1 each.2.2 (calm_right (parts_in sink) (parts_in schedule) later)))
-  value_plain scope (Last' r source s sink t schedule) k is value calm = absurd (false≢true (sym calm.supported))
+  value_plain scope (Last' r source s sink t schedule) k is value calm =
+      let each = three_of Pair (kind_in scope source) (kind_in scope sink) (kind_in scope schedule) k list_made is in
+      let all = calm_tail part.last (parts_in source ++ (parts_in sink ++ parts_in schedule)) calm in
+      let later = calm_right (parts_in source) (parts_in sink ++ parts_in schedule) all in
+      none_both (parts_in source) (parts_in sink ++ parts_in schedule)
+      (in_plain _ scope source each.0.0 each.0.1 each.0.2 (calm_left (parts_in source) (parts_in sink ++ parts_in schedule) all))
+      (none_both (parts_in sink) (parts_in schedule)
+      (in_plain _ scope sink each.1.0 each.1.1 each.1.2 (calm_left (parts_in sink) (parts_in schedule) later))
+      (in_plain _ scope schedule each.2.0 each.2.1 each.2.2 (calm_right (parts_in sink) (parts_in schedule) later)))
   value_plain scope (Post' s operand t postfixes) k is value calm =
       let post = post_fine _ scope (kind_in scope operand) postfixes k is value
       (calm_right (parts_in operand) (parts_in_postfixes postfixes) calm) in
@@ -578,7 +590,9 @@ shown_plain scope (Prefix' word s operand) k is full calm = operand_plain _ scop
 shown_plain scope (Any' r source s sink t schedule) k is full calm =
     value_plain scope (Any' r source s sink t schedule) k is
     (three_of Map (kind_in scope source) (kind_in scope sink) (kind_in scope schedule) k (value_made Map refl) is).3 calm
-shown_plain scope (Last' r source s sink t schedule) k is full calm = absurd (false≢true (sym calm.supported))
+shown_plain scope (Last' r source s sink t schedule) k is full calm =
+    value_plain scope (Last' r source s sink t schedule) k is
+    (three_of Pair (kind_in scope source) (kind_in scope sink) (kind_in scope schedule) k list_made is).3 calm
 shown_plain scope (Post' s operand t postfixes) k is full calm =
     value_plain scope (Post' s operand t postfixes) k is
     (full_post _ scope (kind_in scope operand) postfixes k is full (calm_right (parts_in operand) (parts_in_postfixes postfixes) calm)) calm

@@ -1,12 +1,12 @@
 -- What is not supported in an expression, at the constructors of the code.
-use Rattle.std.proofs.Common.{◌≡◌, ◌∙◌, Bool, true, ◌||◌, List, ◌∷◌, sym, ap, ap₂}
+use Rattle.std.proofs.Common.{◌≡◌, ◌∙◌, Bool, ◌||◌, List, ◌∷◌, sym, ap, ap₂}
 use Rattle.std.specs.List.{list_any}
 use Rattle.std.proofs.lemmas.List.Folds.{list_any-append}
 use Rattle.isl_expr.specs.declared.tree.Prefix.{Prefix as Word}
 use Rattle.isl_expr.specs.declared.tree.Link.{Link}
-use Rattle.isl_expr.specs.declared.tree.Expr.{Expr, Prefix, Last}
+use Rattle.isl_expr.specs.declared.tree.Expr.{Expr, Prefix}
 use Rattle.isl_kinds.specs.Parts.{parts_of, parts_of_links}
-use Rattle.isl_kinds.proofs.PartLaws.{at-Row, at-Post, at-Any, any_in_postfix, parts_of-Prefix, parts_of-Last}
+use Rattle.isl_kinds.proofs.PartLaws.{at-Row, at-Post, at-Any, at-Last, any_in_postfix, parts_of-Prefix}
 use Rattle.isl_eval.specs.Unsupported.{is_unsupported_part, is_unsupported_word}
 
 pub unsupported-Prefix : (x operand : Expr) (word : Word) (a b : Bool) → x ≡ Prefix word operand → a ≡ is_unsupported_word word
@@ -15,10 +15,7 @@ unsupported-Prefix x operand word a b is left right =
     ap₂ (λ (p q : Bool). p || q) left right
     ∙ sym (ap (λ y. list_any is_unsupported_part (parts_of y)) is ∙ ap (list_any is_unsupported_part) (parts_of-Prefix word operand))
 
-pub unsupported-Last : (x a b c : Expr) → x ≡ Last a b c → true ≡ list_any is_unsupported_part (parts_of x)
-unsupported-Last x a b c is = sym (ap (λ y. list_any is_unsupported_part (parts_of y)) is ∙ ap (list_any is_unsupported_part) (parts_of-Last a b c))
-
-pub ruleset expressions = (at-Row, at-Post, at-Any, unsupported-Prefix, unsupported-Last)
+pub ruleset expressions = (at-Row, at-Post, at-Any, at-Last, unsupported-Prefix)
 
 pub unsupported_link : (link : Link) (links : List Link) → list_any is_unsupported_part (parts_of_links (link ∷ links)) ≡
     (list_any is_unsupported_part (parts_of link.operand) || list_any is_unsupported_part (parts_of_links links))

@@ -25,14 +25,13 @@ is_unsupported_word p.Sample = false
 is_unsupported_word p.Scan = false
 is_unsupported_word p.Codegen = true
 
--- such a word; and `last`, which tells the last accesses
 abbrev pub is_unsupported_part : Part → Bool
 is_unsupported_part (part.name name) = false
 is_unsupported_part (part.literal literal) = false
 is_unsupported_part (part.operator sign) = false
 is_unsupported_part (part.prefix word) = is_unsupported_word word
 is_unsupported_part part.any = false
-is_unsupported_part part.last = true
+is_unsupported_part part.last = false
 is_unsupported_part part.inverse = false
 is_unsupported_part part.application = false
 is_unsupported_part (part.item number) = false

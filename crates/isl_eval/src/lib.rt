@@ -1,8 +1,8 @@
 //! One statement of a script: what it answers and what it binds, or why it is refused.
 //!
-//! A statement is empty, or it binds or shows what operators, words and applications make of names and literals: a value, or one element
-//! by `sample`; or it tells whether a test holds, or lists elements by `scan`. Not answered yet are `last` and `codegen`. It is taken apart
-//! into simple statements, in which what is chosen once has a name, and each of these is one step.
+//! A statement is empty, or it binds or shows what operators, words and applications make of names and literals: a value, a list of two by
+//! `last`, or one element by `sample`; or it tells whether a test holds, or lists elements by `scan`. Not answered yet is `codegen`. It is
+//! taken apart into simple statements, in which what is chosen once has a name, and each of these is one step.
 #![tactic(auto)]
 
 mod answers;

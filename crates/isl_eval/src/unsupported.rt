@@ -31,7 +31,11 @@ fn is_unsupported_expression(expr: &Expr) -> bool
                 | is_unsupported_expression(sink.get())
                 | is_unsupported_expression(schedule.get())
         }
-        Expr::Last(_, _, _) => true,
+        Expr::Last(source, sink, schedule) => {
+            is_unsupported_expression(source.get())
+                | is_unsupported_expression(sink.get())
+                | is_unsupported_expression(schedule.get())
+        }
         Expr::Post(operand, postfixes) => {
             is_unsupported_expression(operand.get())
                 | are_unsupported_postfixes(postfixes.as_slice())
