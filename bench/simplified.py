@@ -98,8 +98,8 @@ def main():
     for word, value, context in asked:
         window = " and ".join([f"{WINDOW[0]} <= n <= {WINDOW[-1]}"])
         if "[n]" in value + context:
-            value, context = (text and text.replace(" }", f" and {window} }}", 1).replace(";", f" and {window};")
-                              if "[n]" in text else text for text in (value, context))
+            value, context = (text and "[n] -> " + text.replace("[n] -> ", "").replace(" }", f" and {window} }}", 1)
+                              .replace(";", f" and {window};") for text in (value, context))
         script = f"{value} % {context};" if word == "%" else f"coalesce ({value});"
         done = subprocess.run([program], input=script, capture_output=True, text=True, timeout=60, check=False)
         faults = [f"status {done.returncode}"]
