@@ -56,6 +56,11 @@ others_at P (r ∷ rows) (suc i) zero d h n l = All-head P r (remove rows i) h
 others_at P (r ∷ rows) (suc i) (suc j) d h n l =
     others_at P rows i j d (All-tail P r (remove rows i) h) (λ e. n (ap suc e)) (omega arith)
 
+-- behind them
+pub removed_behind : (rows : List Row) → remove rows (length rows) ≡ rows
+removed_behind [] = refl
+removed_behind (r ∷ rows) = ap (λ (rs : List Row). r ∷ rs) (removed_behind rows)
+
 -- ---- normal rows
 apart_of : (rows : List Row) → IsNormal rows → AreApart rows
 apart_of rows n = rw n.itself at (by (kept_rows (map normal_row rows)))

@@ -78,6 +78,14 @@ implied_by columns others sum row rest own s w kind low e zeros constant point h
     let v = (at_least_scaled (neg_ℤ own) (value_at row point) (omega (arith, linear))).0 scaled in
     rw kind v
 
+-- ---- what holds nowhere
+pub nowhere_by : (columns : ℕ) (rows : List Row) (sum : Row) → IsSumOf columns rows sum → All (λ c. c ≡ pos 0) sum.coefs → sum.constant <ℤ pos 0
+    → (point : List ℤ) → ¬ HoldRows rows point
+nowhere_by columns rows sum s zeros low point h =
+    let none = dot_zero sum.coefs point zeros in
+    let first = s.holds point h in
+    omega (arith, linear)
+
 -- ---- numbers
 pub within_calculator : (g : Gauge) (r : Row) → g.bits ≤ 127 → IsRowWithin g r → IsRowWithin calculator r
 within_calculator g r few w = record {

@@ -16,6 +16,14 @@ AreSome (r ∷ kept) (s ∷ rows) = ((r ≡ s) × AreSome kept rows) ⊎ AreSome
 abbrev pub IsImplied : List Row → Row → Type 0
 IsImplied others r = (point : List ℤ) → HoldRows others point → HoldsRow r point
 
+-- rows without some that the others imply
+pub record IsReduced (columns : ℕ) (rows kept : List Row) : Type 0 where
+  pub some : AreSome kept rows
+  pub points : (point : List ℤ) → HoldRows kept point ↔ HoldRows rows point
+  pub normal : IsNormal rows → IsNormal kept
+  pub shape : All (IsWellFormed columns) kept
+  pub within : (g : Gauge) → All (IsRowWithin g) rows → All (IsRowWithin g) kept
+
 -- ---- inside
 -- a meter by which no work is counted: numbers of 127 bits
 abbrev pub calculator : Gauge
@@ -30,11 +38,3 @@ pub record IsSumOf (columns : ℕ) (rows : List Row) (sum : Row) : Type 0 where
   pub width : length sum.coefs ≡ columns
   pub within : IsRowWithin calculator sum
   pub holds : (point : List ℤ) → HoldRows rows point → pos 0 ≤ℤ value_at sum point
-
--- rows without some that the others imply
-pub record IsReduced (columns : ℕ) (rows kept : List Row) : Type 0 where
-  pub some : AreSome kept rows
-  pub points : (point : List ℤ) → HoldRows kept point ↔ HoldRows rows point
-  pub normal : IsNormal rows → IsNormal kept
-  pub shape : All (IsWellFormed columns) kept
-  pub within : (g : Gauge) → All (IsRowWithin g) rows → All (IsRowWithin g) kept

@@ -1,10 +1,11 @@
 //! Whether a row is implied by others: a sum of multiples of them.
 
-ghost use Rattle.std.specs.Prelude.{◌≡◌, ◌↔◌, ◌<◌, ◌≤ℤ◌, pos, List, All, IfOk, IfSome, IsTrue, length, slice_index_or};
+ghost use Rattle.std.specs.Prelude.{◌≡◌, ◌↔◌, ◌<◌, ◌<ℤ◌, ◌≤ℤ◌, pos, ℤ, List, All, IfOk, IfSome, IsTrue, length, slice_index_or};
 ghost use Rattle.std.specs.List.{remove};
 ghost use Rattle.isl_piece.specs.declared.row.Row.{Row};
 ghost use Rattle.isl_piece.specs.Combine.{combination};
 ghost use Rattle.isl_piece.specs.Row.{IsRowWithin, IsWellFormed};
+ghost use Rattle.isl_piece.specs.System.{HoldRows};
 ghost use Rattle.isl_redundant.specs.Redundant.{calculator, IsAtLeast, IsImplied, IsSumOf};
 
 use isl_meter::{Cut, Int, Meter};
@@ -51,7 +52,7 @@ fn nothing(alloc: Global, columns: usize) -> Result<Row, AllocError>
     Ok(Row::new(RowKind::AtLeast, zeros, Int::ZERO, Int::ONE))
 }
 
-// The sum of so many times each row but the one at `at`; none where that is not surely at least 0 where they hold.
+// The sum of so many times each row but the one at `at`, if there is one; none where that is not surely at least 0 where they hold.
 fn sum_of_others(
     alloc: Global,
     rows: &[Row],
@@ -61,7 +62,6 @@ fn sum_of_others(
 ) -> Result<Option<Row>, AllocError>
     requires well_formed { All (IsWellFormed columns) rows.now }
     requires within { All (IsRowWithin calculator) rows.now }
-    requires inside { at < length rows.now }
     ensures { IfOk result (λ sum. IfSome sum (IsSumOf columns (remove rows.now at))) }
 {
     let mut sum = nothing(alloc, columns)?;
@@ -104,6 +104,16 @@ fn is_at_most_zero(row: &Row) -> bool
     are_zero(row.coefs.as_slice())
 }
 
+// Whether the form is below 0 at each point.
+fn is_below_zero(row: &Row) -> bool
+    ensures { IsTrue result → All (λ c. c ≡ pos 0) row.now.coefs × (row.now.constant <ℤ pos 0) }
+{
+    if !row.constant().is_negative() {
+        return false;
+    }
+    are_zero(row.coefs.as_slice())
+}
+
 /// Whether the numbers for the rows, of which the one at `at` is negative, make them add up to a constant of at most 0, and so show
 /// that the others imply the row at `at`.
 ///
@@ -137,4 +147,25 @@ pub(crate) fn is_implied_by(
         return Ok(false);
     }
     Ok(true)
+}
+
+/// Whether the numbers for the rows make them add up to a constant below 0, and so show that they hold at no point.
+///
+/// # Errors
+///
+/// `AllocError` where memory ends.
+pub(crate) fn are_contradictory(
+    alloc: Global,
+    rows: &[Row],
+    columns: usize,
+    times: &[i128],
+) -> Result<bool, AllocError>
+    requires well_formed { All (IsWellFormed columns) rows.now }
+    requires within { All (IsRowWithin calculator) rows.now }
+    ensures { IfOk result (λ none. IsTrue none → (point : List ℤ) → ¬ HoldRows rows.now point) }
+{
+    let Some(sum) = sum_of_others(alloc, rows, columns, rows.len(), times)? else {
+        return Ok(false);
+    };
+    Ok(is_below_zero(&sum))
 }

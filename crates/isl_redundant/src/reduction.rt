@@ -1,33 +1,38 @@
 //! Rows without some that the others imply.
 
-ghost use Rattle.std.specs.Prelude.{◌≡◌, ◌↔◌, ℕ, ℤ, List, All, IfOk, length};
-ghost use Rattle.isl_meter.specs.Gauge.{Gauge};
-ghost use Rattle.isl_piece.specs.Normal.{IsNormal};
+ghost use Rattle.std.specs.Prelude.{ℤ, List, All, IfOk, MatchOption};
 ghost use Rattle.isl_piece.specs.Row.{IsRowWithin, IsWellFormed};
 ghost use Rattle.isl_piece.specs.System.{HoldRows};
-ghost use Rattle.isl_redundant.specs.Redundant.{AreSome, IsReduced, calculator};
+ghost use Rattle.isl_redundant.specs.Redundant.{IsReduced, calculator};
 
-use crate::certificate::is_implied_by;
+use crate::certificate::{are_contradictory, is_implied_by};
+use crate::search::Start;
 use crate::tableau::Tableau;
 use isl_meter::Meter;
 use isl_piece::{Row, RowKind, Rows};
 use std::alloc::{AllocError, Global};
 
-// From how many bounds on, and how many for each column, a search is made. Where few are, all pairs of them cost less, and those of
-// bounds that the others imply may be tighter than theirs, once they are rounded.
-const LEAST_BOUNDS: usize = 32;
+// Fewer bounds than these make so few pairs that a search costs more.
+const LEAST_BOUNDS: usize = 10;
 
-const BOUNDS_OF_COLUMN: usize = 4;
+// From how many bounds for each column on some are likely to be implied by the others. Where fewer are, pairs of bounds that the others
+// imply may be tighter than theirs, once they are rounded.
+const BOUNDS_OF_COLUMN: usize = 2;
 
-// Whether there are many bounds over so many columns.
-fn are_many(rows: &[Row], columns: usize) -> bool {
+// How many bounds the rows have.
+fn bound_count(rows: &[Row]) -> usize {
     let mut bounds: usize = 0;
     for row in rows {
         if row.kind == RowKind::AtLeast {
             bounds = bounds.saturating_add(1);
         }
     }
-    bounds >= LEAST_BOUNDS && bounds > columns.saturating_mul(BOUNDS_OF_COLUMN)
+    bounds
+}
+
+// Whether some of so many bounds are likely to be implied by the others.
+fn are_many(bounds: usize, columns: usize) -> bool {
+    bounds > columns.saturating_mul(BOUNDS_OF_COLUMN).saturating_add(1)
 }
 
 // The rows without those that are shown to be implied by the others, from the last one on.
@@ -53,8 +58,9 @@ fn reduced(alloc: Global, rows: Rows, columns: usize, tableau: Tableau) -> Resul
     Ok(kept)
 }
 
-/// The rows over so many columns, without some of those bounds that the others imply; in the same order. Which are looked for is in
-/// no clause: where rows are few, or numbers are large, all stay. A congruence and an equality always stay.
+/// The rows over so many columns, without some of those bounds that the others imply, in the same order; none where they are seen to
+/// hold at no point. What is looked for is in no clause: where bounds are few, or numbers are large, all stay. A congruence and an
+/// equality always stay.
 ///
 /// # Errors
 ///
@@ -64,22 +70,31 @@ pub fn without_redundant(
     rows: Rows,
     columns: usize,
     meter: &Meter,
-) -> Result<Rows, AllocError>
+) -> Result<Option<Rows>, AllocError>
     requires well_formed { All (IsWellFormed columns) rows }
     requires within { All (IsRowWithin meter.now) rows }
-    ensures some { IfOk result (λ kept. AreSome kept rows) }
-    ensures points { IfOk result (λ kept. (point : List ℤ) → HoldRows kept point ↔ HoldRows rows point) }
-    ensures normal { IsNormal rows → IfOk result IsNormal }
-    ensures shape { IfOk result (All (IsWellFormed columns)) }
-    ensures within { IfOk result (All (IsRowWithin meter.now)) }
+    ensures { IfOk result (λ found. MatchOption found ((point : List ℤ) → ¬ HoldRows rows point) (IsReduced columns rows)) }
 {
-    if !are_many(rows.as_slice(), columns) {
-        return Ok(rows);
+    let bounds = bound_count(rows.as_slice());
+    if bounds < LEAST_BOUNDS || bounds <= columns.saturating_add(1) {
+        return Ok(Some(rows));
     }
     // For the proof: the limit has at most 127 bits.
     let _bits = meter.limit();
     match Tableau::started(alloc, rows.as_slice(), columns)? {
-        Some(tableau) => reduced(alloc, rows, columns, tableau),
-        None => Ok(rows),
+        Start::Begun(tableau) => {
+            if !are_many(bounds, columns) {
+                return Ok(Some(rows));
+            }
+            let kept = reduced(alloc, rows, columns, tableau)?;
+            Ok(Some(kept))
+        }
+        Start::Nowhere(times) => {
+            if are_contradictory(alloc, rows.as_slice(), columns, times.as_slice())? {
+                return Ok(None);
+            }
+            Ok(Some(rows))
+        }
+        Start::GivenUp => Ok(Some(rows)),
     }
 }

@@ -10,18 +10,29 @@ use std::alloc::{AllocError, Global};
 // How often variables are exchanged in one search.
 const EXCHANGES: usize = 60;
 
+/// How a search begins.
+#[derive(Drop)]
+pub(crate) enum Start {
+    /// With forms of the rows where the bounds hold.
+    Begun(Tableau),
+    /// Not at all: with these numbers the rows are to add up to a constant below 0.
+    Nowhere(Vec<i128>),
+    /// Not at all: it would take long, or numbers grow.
+    GivenUp,
+}
+
 impl Tableau {
-    /// The forms of the rows where the bounds hold; none where no such forms were found.
+    /// The forms of the rows where the bounds hold, or numbers that show that they hold nowhere.
     pub(crate) fn started(
         alloc: Global,
         rows: &[Row],
         columns: usize,
-    ) -> Result<Option<Tableau>, AllocError> {
+    ) -> Result<Start, AllocError> {
         let mut tableau = Tableau::of(alloc, rows, columns)?;
-        let is_started = tableau.put_equations_outside(alloc)?
-            && tableau.put_columns_inside(alloc)?
-            && tableau.meet_bounds(alloc)?;
-        Ok(is_started.then_some(tableau))
+        if tableau.put_equations_outside(alloc)? && tableau.put_columns_inside(alloc)? {
+            return tableau.meeting_bounds(alloc);
+        }
+        Ok(Start::GivenUp)
     }
 
     // Exchanges equations with columns. One that has no column left is let go.
@@ -69,27 +80,42 @@ impl Tableau {
     }
 
     // Exchanges bounds until each holds.
-    fn meet_bounds(&mut self, alloc: Global) -> Result<bool, AllocError> {
+    fn meeting_bounds(self, alloc: Global) -> Result<Start, AllocError> {
+        let mut tableau = self;
         for _ in 0..EXCHANGES {
-            let Some(at) = self.lines.iter().position(|line| line.constant() < 0) else {
-                return Ok(true);
+            let Some(at) = tableau.lines.iter().position(|line| line.constant() < 0) else {
+                return Ok(Start::Begun(tableau));
             };
-            let Some(place) = self.bound_in(at, true) else {
-                return Ok(false);
+            let Some(place) = tableau.bound_in(at, true) else {
+                return tableau.contradiction(alloc, at);
             };
-            let own = self.lines.get(at).map(|line| Ratio {
+            let own = tableau.lines.get(at).map(|line| Ratio {
                 number: line.constant().saturating_neg(),
                 divisor: line.number(place),
             });
-            let leaving = match (self.tightest(place, at), own) {
+            let leaving = match (tableau.tightest(place, at), own) {
                 (Some((other, room)), Some(own)) if room.is_less(own) => other,
                 _ => at,
             };
-            if !self.exchange(alloc, leaving, place)? {
-                return Ok(false);
+            if !tableau.exchange(alloc, leaving, place)? {
+                return Ok(Start::GivenUp);
             }
         }
-        Ok(false)
+        Ok(Start::GivenUp)
+    }
+
+    // Numbers for the rows with which they are to add up to a constant below 0: those of a line that never rises to 0.
+    fn contradiction(&self, alloc: Global, at: usize) -> Result<Start, AllocError> {
+        let Some(Variable::Bound(row)) = self.lines.get(at).map(|line| line.of) else {
+            return Ok(Start::GivenUp);
+        };
+        let Some(mut times) = self.multiples_in(alloc, at, row)? else {
+            return Ok(Start::GivenUp);
+        };
+        for number in times.iter_mut() {
+            *number = number.saturating_neg();
+        }
+        Ok(Start::Nowhere(times))
     }
 
     // A bound outside which makes that of the line rise, or fall, as it rises.
