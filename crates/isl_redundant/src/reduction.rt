@@ -12,27 +12,21 @@ use isl_meter::Meter;
 use isl_piece::{Row, RowKind, Rows};
 use std::alloc::{AllocError, Global};
 
-// Fewer bounds than these make so few pairs that a search costs more.
+// From how many bounds on, and how many for each column, a search is made. Where few are, all pairs of them cost less, and those of
+// bounds that the others imply may be tighter than theirs, once they are rounded.
 const LEAST_BOUNDS: usize = 10;
 
-// From how many bounds for each column on some are likely to be implied by the others. Where fewer are, pairs of bounds that the others
-// imply may be tighter than theirs, once they are rounded.
 const BOUNDS_OF_COLUMN: usize = 2;
 
-// How many bounds the rows have.
-fn bound_count(rows: &[Row]) -> usize {
+// Whether there are many bounds over so many columns.
+fn are_many(rows: &[Row], columns: usize) -> bool {
     let mut bounds: usize = 0;
     for row in rows {
         if row.kind == RowKind::AtLeast {
             bounds = bounds.saturating_add(1);
         }
     }
-    bounds
-}
-
-// Whether some of so many bounds are likely to be implied by the others.
-fn are_many(bounds: usize, columns: usize) -> bool {
-    bounds > columns.saturating_mul(BOUNDS_OF_COLUMN).saturating_add(1)
+    bounds >= LEAST_BOUNDS && bounds > columns.saturating_mul(BOUNDS_OF_COLUMN)
 }
 
 // The rows without those that are shown to be implied by the others, from the last one on.
@@ -75,17 +69,13 @@ pub fn without_redundant(
     requires within { All (IsRowWithin meter.now) rows }
     ensures { IfOk result (λ found. MatchOption found ((point : List ℤ) → ¬ HoldRows rows point) (IsReduced columns rows)) }
 {
-    let bounds = bound_count(rows.as_slice());
-    if bounds < LEAST_BOUNDS || bounds <= columns.saturating_add(1) {
+    if !are_many(rows.as_slice(), columns) {
         return Ok(Some(rows));
     }
     // For the proof: the limit has at most 127 bits.
     let _bits = meter.limit();
     match Tableau::started(alloc, rows.as_slice(), columns)? {
         Start::Begun(tableau) => {
-            if !are_many(bounds, columns) {
-                return Ok(Some(rows));
-            }
             let kept = reduced(alloc, rows, columns, tableau)?;
             Ok(Some(kept))
         }

@@ -1,9 +1,6 @@
 use Rattle.isl_redundant.proofs.KeptLaws.{reduced_first}
 use Rattle.isl_redundant.proofs.reduction.without_redundant.Goals as goal
 
-pub returns-then-bounds-lt-LEAST_BOUNDS : goal.returns-then-bounds-lt-LEAST_BOUNDS
-returns-then-bounds-lt-LEAST_BOUNDS c = reduced_first c.args.columns c.args.rows c.requires.well_formed
-
 pub returns-then-not-are_many : goal.returns-then-not-are_many
 returns-then-not-are_many c = reduced_first c.args.columns c.args.rows c.requires.well_formed
 
