@@ -1,19 +1,21 @@
 //! Several columns out of rows together.
 
-ghost use Rattle.std.specs.Prelude.{◌≡◌, ◌≢◌, ◌<◌, ◌≤◌, ◌+◌, ℕ, [], All, AllPairs, IfOk, MatchResult, length};
+ghost use Rattle.std.specs.Prelude.{◌≡◌, ◌≢◌, ◌<◌, ◌≤◌, ◌+◌, ℕ, ℤ, List, [], All, AllPairs, IfOk, MatchOption, MatchResult, length};
 ghost use Rattle.isl_meter.specs.Gauge.{IsCharged, IsCutBy};
 ghost use Rattle.isl_piece.specs.Normal.{IsNormal};
 ghost use Rattle.isl_piece.specs.System.{HoldRows};
 ghost use Rattle.isl_omega.specs.Column.{IsProper};
+ghost use Rattle.isl_redundant.specs.Redundant.{IsReduced};
 ghost use Rattle.isl_elim.specs.Elimination.{AddsAlong};
 ghost use Rattle.isl_elim.specs.Others.{others_of};
 ghost use Rattle.isl_column.specs.Parts.{AreParts, HoldsPart, head_count};
 
-use crate::choice::cheapest;
+use crate::choice::{add_many_rows, cheapest};
 use isl_column::Parts;
 use isl_meter::{Cut, Meter};
 use isl_omega::column::Column;
 use isl_piece::Rows;
+use isl_redundant::without_redundant;
 use std::alloc::{AllocError, Global};
 
 // The other columns, where they stand once the column was taken out.
@@ -30,6 +32,25 @@ fn others(alloc: Global, cols: &[usize], col: usize) -> Result<Vec<usize>, Alloc
         }
     }
     Ok(left)
+}
+
+// The rows, without some that the others imply where many pairs of them come next; none where they are seen to hold nowhere.
+#[tactic(auto, using(std::proofs::lemmas::Grind::common_steps, crate::proofs::FewerLaws::fewer_steps))]
+fn fewer(
+    alloc: Global,
+    rows: Rows,
+    columns: usize,
+    cols: &[usize],
+    meter: &Meter,
+) -> Result<Option<Rows>, AllocError>
+    requires rows { All (IsProper meter.now columns) rows }
+    ensures { IfOk result (λ found. MatchOption found ((point : List ℤ) → ¬ HoldRows rows point) (IsReduced columns rows)) }
+{
+    if add_many_rows(rows.as_slice(), cols) {
+        without_redundant(alloc, rows, columns, meter)
+    } else {
+        Ok(Some(rows))
+    }
 }
 
 // Pushes what is left of the rows without the columns.
@@ -56,10 +77,13 @@ fn push_without(
         lists.push(rows)?;
         return Ok(());
     }
-    let at = cheapest(rows.as_slice(), cols);
+    let Some(few) = fewer(alloc, rows, columns, cols, meter)? else {
+        return Ok(());
+    };
+    let at = cheapest(few.as_slice(), cols);
     let col = cols[at];
     let left = others(alloc, cols, col)?;
-    let parts = Parts::of(alloc, rows.as_slice(), Column { columns, at: col }, meter)?;
+    let parts = Parts::of(alloc, few.as_slice(), Column { columns, at: col }, meter)?;
     push_parts(alloc, parts, columns - 1, left.as_slice(), lists, meter)
 }
 

@@ -4,6 +4,9 @@ ghost use Rattle.std.specs.Prelude.{◌<◌, length};
 
 use isl_piece::{Row, RowKind};
 
+// Where fewer rows are added as a column goes, all pairs cost less than a search for rows that the others imply.
+const LEAST_ADDED: u128 = 8;
+
 /// What taking a column out is likely to cost, from the least.
 #[derive(Clone, Copy, PartialEq, Eq, PartialOrd, Ord)]
 enum Cost {
@@ -115,6 +118,16 @@ impl ColumnUse {
         sum
     }
 
+    // How many rows more there are once all pairs of its bounds stand for them; none where an equality has the column.
+    fn added_rows(self) -> u128 {
+        if self.equality.is_some() {
+            return 0;
+        }
+        let bounds = self.lowers.count.saturating_add(self.uppers.count);
+        let pairs = self.lowers.count.saturating_mul(self.uppers.count);
+        pairs.saturating_sub(bounds)
+    }
+
     fn cost(self, rows: &[Row]) -> Cost {
         if let Some(magnitude) = self.equality {
             return if magnitude == 1 {
@@ -141,6 +154,11 @@ impl ColumnUse {
 fn splinters_of(number: u128, greatest: u128) -> u128 {
     let less = number.saturating_sub(1);
     less - less / greatest.max(1)
+}
+
+/// Whether many rows are added whichever of the columns is taken out.
+pub(crate) fn add_many_rows(rows: &[Row], cols: &[usize]) -> bool {
+    cols.iter().all(|col| ColumnUse::of(rows, *col).added_rows() >= LEAST_ADDED)
 }
 
 /// A place in the list of columns, whose column is likely to cost the least.

@@ -6,7 +6,10 @@ use Rattle.isl_elim.specs.Others.{others_of}
 use Rattle.isl_omega.specs.Equality.{HasEquality}
 use Rattle.isl_column.specs.Parts.{AreParts, ArePartsOf, HoldsPart}
 use Rattle.isl_elim.proofs.OthersLaws.{among, among_at}
-use Rattle.isl_elim.proofs.AlongLaws.{along_none, along_after, columns_after, pushed_all, one_more, counted_after}
+use Rattle.isl_piece.specs.System.{HoldRows}
+use Rattle.isl_redundant.specs.Redundant.{IsReduced}
+use Rattle.isl_elim.proofs.AlongLaws.{along_none, along_false, along_after, columns_after, pushed_all, one_more, counted_after}
+use Rattle.isl_elim.proofs.FewerLaws.{along_fewer, proper_fewer}
 use Rattle.isl_elim.proofs.PartsLaws.{parts_after}
 use Rattle.isl_elim.proofs.along.+eliminate_all.Goals as goal
 
@@ -41,26 +44,48 @@ push_without-returns-then-is_empty t c =
       counted = one_more g.units c.args.lists.now.items c.push.new.self.items c.args.rows pushed;
     }
 
+pub push_without-returns-in_default : goal.push_without-returns-in_default
+push_without-returns-in_default t c =
+    let g = c.args.meter.now in
+    let items = c.args.lists.now.items in
+    let none : (point : List ℤ) → ¬ HoldRows c.args.rows point = rw c.in_default.is at c.in_ok-few.ensures in
+    record {
+      exact = (along_false g c.args.columns c.args.cols.now c.args.rows items items refl none, IsCharged_refl g g refl);
+      counted = omega arith;
+    }
+
+pub push_without-of-requires : goal.push_without-of-requires
+push_without-of-requires t c =
+    let g = c.args.meter.now in
+    let few = c.in-Some.few in
+    let is : IsReduced c.args.columns c.args.rows few = rw c.in-Some.is at c.in_ok-few.ensures in
+    let slice : c.as_slice-2.result.now ≡ few = grind arith in
+    record { rows = rw slice (proper_fewer g c.args.columns c.args.rows few is c.requires.rows) }
+
 pub push_without-returns : goal.push_without-returns
 push_without-returns t c =
     let g = c.args.meter.now in
     let h = c.of.new.meter in
     let cols = c.args.cols.now in
+    let rows = c.args.rows in
+    let few = c.in-Some.few in
+    let is : IsReduced c.args.columns rows few = rw c.in-Some.is at c.in_ok-few.ensures in
     let at = c.cheapest-at.result in
     let col = get_or cols at 0 in
     let inside : at < length cols = grind arith in
     let among : among col cols ≡ true = among_at cols at inside in
     let low = c.requires.cols_in at 0 inside in
-    let are : ArePartsOf g c.args.columns col c.args.rows c.in_ok-parts.parts = grind arith in
+    let are : ArePartsOf g c.args.columns col few c.in_ok-parts.parts = grind arith in
     let charged : IsCharged g h = grind arith in
-    let left : c.in_ok-left.left.items ≡ others_of col cols = grind arith in
     let slice : c.as_slice-3.result.now ≡ others_of col cols = grind arith in
+    let old = c.args.lists.now.items in
+    let new = c.push_parts.new.lists.items in
+    let k = c.push_parts.new.meter in
     record {
-      exact = along_after g h c.push_parts.new.meter c.args.columns col cols c.args.rows c.in_ok-parts.parts c.args.lists.now.items
-          c.push_parts.new.lists.items c.push_parts.result c.requires.distinct among low charged are
-          (rw slice at c.push_parts.ensures.exact);
-      counted = counted_after g h c.push_parts.new.meter c.in_ok-parts.parts c.args.lists.now.items c.push_parts.new.lists.items c.push_parts.result charged
-          c.push_parts.ensures.counted;
+      exact = along_fewer g k c.args.columns cols rows few old new c.push_parts.result is
+          (along_after g h k c.args.columns col cols few c.in_ok-parts.parts old new c.push_parts.result c.requires.distinct among low charged
+          are (rw slice at c.push_parts.ensures.exact));
+      counted = counted_after g h k c.in_ok-parts.parts old new c.push_parts.result charged c.push_parts.ensures.counted;
     }
 
 pub push_without-push_parts-requires : goal.push_without-push_parts-requires
@@ -72,9 +97,9 @@ push_without-push_parts-requires t c =
     let col = get_or cols at 0 in
     let inside : at < length cols = grind arith in
     let low = c.requires.cols_in at 0 inside in
-    let are : ArePartsOf g c.args.columns col c.args.rows c.in_ok-parts.parts = grind arith in
+    let are : ArePartsOf g c.args.columns col c.in-Some.few c.in_ok-parts.parts = grind arith in
     let parts : AreParts h (c.args.columns - 1) c.in_ok-parts.parts =
-    parts_after g h c.args.columns col c.args.rows c.in_ok-parts.parts c.in_ok-parts.ensures.exact.1 are in
+    parts_after g h c.args.columns col c.in-Some.few c.in_ok-parts.parts c.in_ok-parts.ensures.exact.1 are in
     let slice : c.as_slice-3.result.now ≡ others_of col cols = grind arith in
     let left = columns_after c.args.columns col cols c.as_slice-3.result.now slice c.requires.distinct low c.requires.cols_in in
     (grind arith, (parts, left))
