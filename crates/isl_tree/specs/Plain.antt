@@ -1,5 +1,5 @@
 -- public: plain literals: linear terms, compared in chains, and their remainders, compared with 0, joined by `and`. What the printed form
--- of a set or map is made of.
+-- of a set or map is made of. (isl manual, on affine expressions)
 use Rattle.std.specs.Prelude.{ℤ, pos, int_lt, Bool, true, false, ◌&&◌, List, [], ◌∷◌, Option, Some, None}
 use Rattle.std.specs.List.{list_all}
 use Rattle.std.specs.Ordering.{int_eq}
@@ -18,11 +18,21 @@ use Rattle.isl_tree.specs.Term.{Term}
 use Rattle.isl_tree.specs.Formula.{Side, Link}
 use Rattle.isl_tree.specs.Literal.{entries_of, piece_entries}
 
--- a number, or a number times a name
-abbrev pub is_linear_part : Signed → Bool
-is_linear_part (Signed' negative (Product' numbers None')) = true
-is_linear_part (Signed' negative (Product' numbers (Some' (Name name) []))) = true
-is_linear_part _ = false
+abbrev mutual
+  -- a number, a number times a name, or a number times a sum of such parts in round brackets
+  pub is_linear_part : Signed → Bool
+  is_linear_part (Signed' negative (Product' numbers None')) = true
+  is_linear_part (Signed' negative (Product' numbers (Some' factor []))) = is_linear_factor factor
+  is_linear_part _ = false
+
+  pub is_linear_factor : Factor → Bool
+  is_linear_factor (Name name) = true
+  is_linear_factor (Inner' s row) = are_linear_parts row
+  is_linear_factor _ = false
+
+  pub are_linear_parts : {m : _} → Row_of-Signed m → Bool
+  are_linear_parts end_of-Signed = true
+  are_linear_parts (more_of-Signed part rest) = is_linear_part part && are_linear_parts rest
 
 -- a sum of such parts
 abbrev pub is_linear : Term → Bool
