@@ -20,8 +20,8 @@ use Rattle.isl_tree.specs.Literal.{entry_term}
 use Rattle.isl_tree.specs.Known.{term_names, term_is_known, entry_is_known, entries_are_known, known_behind}
 use Rattle.isl_tree.specs.Plain.{is_plain_entry, is_linear}
 use Rattle.isl_piece.specs.Row.{HoldsValue}
-use Rattle.isl_plain.specs.Linear.{Place, Amount, amounts_of, turned, difference}
-use Rattle.isl_plain.specs.Rows.{Written, written_entry, written_entries}
+use Rattle.isl_plain.specs.Linear.{Place, Amount, amounts_of, turned, multiplied_out, difference}
+use Rattle.isl_plain.specs.Rows.{Written, written_entry, written_entries, amounts_in}
 use Rattle.isl_plain.proofs.AmountLaws.{total}
 use Rattle.isl_plain.proofs.TermLaws.{Agrees, term_at, both_true, total-append}
 use Rattle.isl_plain.proofs.AgreeLaws.{StandsAt, value_here, value_further}
@@ -86,7 +86,7 @@ kept_value (entry ∷ entries) (y ∷ ys) known env name plain among =
 
 -- what a written row says of a point
 abbrev pub HoldsWritten : ℕ → Place → List ℤ → Written → Type 0
-HoldsWritten n place xs w = HoldsValue w.kind w.modulus (total xs (difference n place w.greater w.less w.last))
+HoldsWritten n place xs w = HoldsValue w.kind w.modulus (total xs (amounts_in n place w))
 
 -- each written row holds at a point
 abbrev pub AllWritten : ℕ → Place → List ℤ → List Written → Type 0
@@ -140,10 +140,10 @@ module _ (n : ℕ) (xs : List ℤ) (place : Place) (env : Environment) (known : 
   -- a term equals its coordinate exactly where its row is 0
   entry_row : (term : Term) (at : ℕ) (y : ℤ) → is_linear term ≡ true → list_all (is_among known) (term_names term) ≡ true
       → get_or xs at (pos 0) ≡ y
-      → (term_value term env ≡ y) ↔ (total xs (difference n place term [] (Some at)) ≡ pos 0)
+      → (term_value term env ≡ y) ↔ (total xs (difference n place (multiplied_out term) [] (Some at)) ≡ pos 0)
   entry_row term at y is_linear names stands =
       let value = term_at n place known env xs term agrees one is_linear names in
-      let sum = coordinate_at n xs place term at in
+      let sum = coordinate_at n xs place (multiplied_out term) at in
       (λ h. by _ _ _ _ _ value sum stands h, λ h. back _ _ _ _ _ value sum stands h)
     where
       by : (v t s x y : ℤ) → v ≡ t → s ≡ t +ℤ (neg_ℤ (pos 1) *ℤ x +ℤ pos 0) → x ≡ y → v ≡ y → s ≡ pos 0

@@ -21,7 +21,7 @@ use Rattle.isl_tree.specs.Known.{body_is_known}
 use Rattle.isl_tree.specs.Plain.{is_linear, is_plain_compare, are_plain_links, is_plain_formula, are_plain_chains, body_is_plain}
 use Rattle.isl_tree.specs.Plain.{Remainder, lone_remainder, is_zero, tells_equality, is_plain_remainder, is_plain_comparison}
 use Rattle.isl_tree.specs.Plain.{are_plain_sides}
-use Rattle.isl_plain.specs.Linear.{Place, Amount, amounts_of, turned, negated, difference}
+use Rattle.isl_plain.specs.Linear.{Place, Amount, amounts_of, turned, negated, multiplied_out, difference}
 use Rattle.isl_plain.specs.Rows.{compared, divided, written_links, written_remainder, written_from, written_sides, written_formula}
 use Rattle.isl_plain.specs.Rows.{written_chains, written_body}
 use Rattle.isl_plain.proofs.AmountLaws.{total}
@@ -59,19 +59,25 @@ strict_at n xs place greater less one =
 
 -- a comparison of two numbers is its row's
 compare_at : (n : ℕ) (xs : List ℤ) (place : Place) (c : Compare) (left right : Term) (l r : ℤ) → get_or xs n (pos 0) ≡ pos 1
-    → is_plain_compare c ≡ true → l ≡ total xs (amounts_of n place left) → r ≡ total xs (amounts_of n place right)
+    → is_plain_compare c ≡ true → l ≡ total xs (amounts_of n place (multiplied_out left))
+    → r ≡ total xs (amounts_of n place (multiplied_out right))
     → Compares c l r ↔ HoldsWritten n place xs (compared n c left right)
 compare_at n xs place Differs left right l r one plain left_is right_is = absurd (false≢true plain)
 compare_at n xs place Equal left right l r one plain left_is right_is =
-    let e = difference_at n xs place left right in (λ h. omega (arith, linear), λ h. omega (arith, linear))
+    let e = difference_at n xs place (multiplied_out left) (multiplied_out right) in
+    (λ h. omega (arith, linear), λ h. omega (arith, linear))
 compare_at n xs place GreaterEqual left right l r one plain left_is right_is =
-    let e = difference_at n xs place left right in (λ h. omega (arith, linear), λ h. omega (arith, linear))
+    let e = difference_at n xs place (multiplied_out left) (multiplied_out right) in
+    (λ h. omega (arith, linear), λ h. omega (arith, linear))
 compare_at n xs place LessEqual left right l r one plain left_is right_is =
-    let e = difference_at n xs place right left in (λ h. omega (arith, linear), λ h. omega (arith, linear))
+    let e = difference_at n xs place (multiplied_out right) (multiplied_out left) in
+    (λ h. omega (arith, linear), λ h. omega (arith, linear))
 compare_at n xs place Greater left right l r one plain left_is right_is =
-    let e = strict_at n xs place left right one in (λ h. omega (arith, linear), λ h. omega (arith, linear))
+    let e = strict_at n xs place (multiplied_out left) (multiplied_out right) one in
+    (λ h. omega (arith, linear), λ h. omega (arith, linear))
 compare_at n xs place Less left right l r one plain left_is right_is =
-    let e = strict_at n xs place right left one in (λ h. omega (arith, linear), λ h. omega (arith, linear))
+    let e = strict_at n xs place (multiplied_out right) (multiplied_out left) one in
+    (λ h. omega (arith, linear), λ h. omega (arith, linear))
 
 pub is_above : (k : ℤ) → int_lt (pos 0) k ≡ true → pos 0 <ℤ k
 is_above k e = omega (arith, ints)
@@ -112,8 +118,8 @@ module _ (n : ℕ) (xs : List ℤ) (place : Place) (env : Environment) (known : 
       let value = remainder_value left r env e in
       let names : term_is_known known r.0 ≡ true = ap (list_all (is_among known)) (sym (remainder_names left r e)) ∙ left_known in
       let form = term_at n place known env xs r.0 agrees one linear' names in
-      let sum = difference_at n xs place r.0 [] in
-      let whole : total xs (difference n place r.0 [] None) ≡ term_value r.0 env = by _ _ _ sum form in
+      let sum = difference_at n xs place (multiplied_out r.0) [] in
+      let whole : total xs (difference n place (multiplied_out r.0) [] None) ≡ term_value r.0 env = by _ _ _ sum form in
       let positive = is_above r.1 above in
       let nothing = zero_value right env zero in
       step c tells positive whole value nothing
@@ -122,7 +128,8 @@ module _ (n : ℕ) (xs : List ℤ) (place : Place) (env : Environment) (known : 
       by d t v f g = omega (arith, linear)
 
       step : (c : Compare) → tells_equality c ≡ true → pos 0 <ℤ r.1
-          → total xs (difference n place r.0 [] None) ≡ term_value r.0 env → term_value left env ≡ floor_mod (term_value r.0 env) r.1
+          → total xs (difference n place (multiplied_out r.0) [] None) ≡ term_value r.0 env
+          → term_value left env ≡ floor_mod (term_value r.0 env) r.1
           → term_value right env ≡ pos 0
           → Compares c (term_value left env) (term_value right env) ↔ HoldsWritten n place xs (divided r c)
       step Equal tells positive whole value nothing = equals_zero (term_value r.0 env) r.1 _ _ _ positive whole value nothing

@@ -1,5 +1,6 @@
 pub mod AgreeLaws
 pub mod AmountLaws
+pub mod BracketLaws
 pub mod BringLaws
 pub mod ChainLaws
 pub mod Columns

@@ -16,10 +16,10 @@ use Rattle.isl_tree.specs.Term.{Term}
 use Rattle.isl_tree.specs.Formula.{Link, Side}
 use Rattle.isl_tree.specs.Literal.{new_name, known_after, piece_entries}
 use Rattle.isl_tree.specs.Plain.{Remainder, lone_remainder, is_linear, is_zero, tells_equality, is_plain_remainder, is_plain_comparison}
-use Rattle.isl_tree.specs.Plain.{is_plain_entry, are_plain_sides, is_plain_chain, are_plain_chains, is_plain_formula, body_is_plain}
+use Rattle.isl_tree.specs.Plain.{is_plain_entry, are_plain_sides, are_plain_chains, is_plain_formula, body_is_plain}
 use Rattle.isl_tree.specs.Plain.{is_plain_piece}
 use Rattle.isl_plain.specs.Rows.{Written, compared, divided, written_entry, written_entries, written_links, written_remainder}
-use Rattle.isl_plain.specs.Rows.{written_from, written_sides, written_chain, written_chains, written_formula, written_body, written_piece}
+use Rattle.isl_plain.specs.Rows.{written_from, written_sides, written_chains, written_formula, written_body, written_piece}
 use Rattle.isl_plain.specs.Rows.{piece_width}
 use Rattle.isl_plain.proofs.FormulaLaws.{is_above}
 use Rattle.isl_plain.proofs.TermLaws.{both_true}

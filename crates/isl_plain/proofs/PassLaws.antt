@@ -11,7 +11,7 @@ use Rattle.std.proofs.Common.{◌≤◌}
 use Rattle.isl_piece.specs.declared.row.RowKind.{RowKind}
 use Rattle.isl_piece.specs.declared.row.Row.{Row}
 use Rattle.isl_piece.specs.Row.{IsRowWithin}
-use Rattle.isl_plain.specs.Rows.{Written, added}
+use Rattle.isl_plain.specs.Rows.{Written, added, amounts_in}
 use Rattle.std.proofs.Common.{map, drop, subst, ◌⊎◌, Result, Ok, Err, Option}
 use Rattle.std.specs.Result.{MatchResult}
 use Rattle.isl_plain.proofs.AmountLaws.{length-with_amounts}
@@ -190,7 +190,7 @@ abbrev finished_row : RowKind → ℤ → ℕ → List ℤ → Row
 finished_row kind k c row = record { kind = kind; coefs = take c row; constant = get_or row c (pos 0); k = k }
 
 pub added_is : (w : Written) (m : ℤ) (n c : ℕ) (place : Place) (row : List ℤ) (r : Row) → c ≡ n → m ≡ w.modulus
-    → row ≡ row_of n (difference n place w.greater w.less w.last)
+    → row ≡ row_of n (amounts_in n place w)
     → r ≡ record { kind = w.kind; coefs = take c row; constant = get_or row c (pos 0); k = m } → r ≡ added n place w
 added_is w m n c place row r columns modulus is made =
     made ∙ ap (λ (k : ℕ). finished_row w.kind m k row) columns ∙ ap (λ (z : ℤ). finished_row w.kind z n row) modulus

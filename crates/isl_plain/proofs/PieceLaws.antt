@@ -18,8 +18,9 @@ use Rattle.isl_tree.specs.Literal.{piece_entries, piece_environment, EntriesEqua
 use Rattle.isl_tree.specs.Known.{entries_are_known, known_behind, body_is_known, piece_is_known}
 use Rattle.isl_tree.specs.Plain.{is_plain_entry, body_is_plain, is_plain_piece}
 use Rattle.isl_plain.proofs.Columns.{column_of, columns_from, with_columns}
-use Rattle.isl_plain.specs.Linear.{Place, difference, row_of}
-use Rattle.isl_plain.specs.Rows.{Written, added, piece_width, piece_place, written_entries, written_body, written_piece, rows_written}
+use Rattle.isl_plain.specs.Linear.{Place, row_of}
+use Rattle.isl_plain.specs.Rows.{Written, amounts_in, added, piece_width, piece_place, written_entries, written_body, written_piece}
+use Rattle.isl_plain.specs.Rows.{rows_written}
 use Rattle.isl_plain.proofs.AmountLaws.{total, row_at}
 use Rattle.isl_plain.proofs.PlaceLaws.{place_is}
 use Rattle.isl_plain.proofs.PlainLaws.{piece_entries_plain}
@@ -82,7 +83,7 @@ all_added : (n : ℕ) (place : Place) (xs : List ℤ) (ws : List Written) → n 
 all_added n place xs [] same = (λ h. h, λ h. h)
 all_added n place xs (w ∷ ws) same =
     let more = all_added n place xs ws same in
-    let amounts = difference n place w.greater w.less w.last in
+    let amounts = amounts_in n place w in
     let value : value_at (added n place w) xs ≡ total (xs ++ pos 1 ∷ []) amounts = ap
     (λ (k : ℕ). dot (take k (row_of k amounts)) xs +ℤ get_or (row_of k amounts) k (pos 0)) same ∙ row_at xs amounts in (
       λ h. (subst (λ (z : ℤ). HoldsValue w.kind w.modulus z) (sym value) h.0, more.0 h.1),

@@ -1,9 +1,9 @@
 -- public: linear terms as rows of numbers: one for each column, and the constant behind them.
 use Rattle.std.specs.Prelude.{ℕ, ◌+◌, ℤ, pos, neg_ℤ, ◌+ℤ◌, Bool, true, false, not, List, [], ◌∷◌, ◌++◌, map, slice_index_or, slice_set}
 use Rattle.std.specs.Prelude.{replicate, Option, Some, None, if◌then◌else◌}
-use Rattle.isl_tree.specs.declared.tree.Factor.{Name}
+use Rattle.isl_tree.specs.declared.tree.Factor.{Factor, Name, Inner', Row_of-Signed, end_of-Signed, more_of-Signed}
 use Rattle.isl_tree.specs.declared.tree.Signed.{Signed, Signed'}
-use Rattle.isl_tree.specs.declared.tree.Product.{Product', Some'}
+use Rattle.isl_tree.specs.declared.tree.Product.{Product', None', Some'}
 use Rattle.isl_tree.specs.Term.{Term, product_of}
 
 -- an amount that is added at a column; the constant stands behind the last one
@@ -29,12 +29,43 @@ abbrev pub part_name : Signed → Option (List ℕ)
 part_name (Signed' negative (Product' numbers (Some' (Name name) moduli))) = Some name
 part_name _ = None
 
+-- a part with a sign is taken away exactly where one of the two is so
+abbrev pub is_taken : Bool → Bool → Bool
+is_taken takes negative = if takes then not negative else negative
+
+abbrev mutual
+  -- A part of a linear term times numbers with a sign: a sum in round brackets is multiplied out. Of what is not linear nothing is left.
+  pub part_times : Bool → List ℤ → Signed → Term
+  part_times negative numbers (Signed' sign (Product' more None')) =
+      Signed' (is_taken negative sign) (Product' (numbers ++ more) None') ∷ []
+  part_times negative numbers (Signed' sign (Product' more (Some' factor []))) =
+      factor_times (is_taken negative sign) (numbers ++ more) factor
+  part_times negative numbers _ = []
+
+  pub factor_times : Bool → List ℤ → Factor → Term
+  factor_times negative numbers (Name name) = Signed' negative (Product' numbers (Some' (Name name) [])) ∷ []
+  factor_times negative numbers (Inner' s row) = row_times negative numbers row
+  factor_times negative numbers _ = []
+
+  pub row_times : {m : _} → Bool → List ℤ → Row_of-Signed m → Term
+  row_times negative numbers end_of-Signed = []
+  row_times negative numbers (more_of-Signed part rest) = part_times negative numbers part ++ row_times negative numbers rest
+
+-- the same of a list
+abbrev pub term_times : Bool → List ℤ → Term → Term
+term_times negative numbers [] = []
+term_times negative numbers (part ∷ parts) = part_times negative numbers part ++ term_times negative numbers parts
+
+-- the linear term without round brackets: 2(i + 3) is 2i + 2·3
+abbrev pub multiplied_out : Term → Term
+multiplied_out term = term_times false [] term
+
 -- a name adds at its column, and a number behind the last one of n
 abbrev pub named_place : Place → ℕ → Option (List ℕ) → ℕ
 named_place place n None = n
 named_place place n (Some name) = place name
 
--- what a part of a linear term adds over n columns
+-- what a part without brackets adds over n columns
 abbrev pub amount_of : ℕ → Place → Signed → Amount
 amount_of n place part = (named_place place n (part_name part), signed_product (is_negative part) (numbers_of part))
 
@@ -45,10 +76,6 @@ amounts_of n place term = map (amount_of n place) term
 abbrev pub turned : Bool → Amount → Amount
 turned false a = a
 turned true a = (a.0, neg_ℤ a.1)
-
--- a part with a sign is taken away exactly where one of the two is so
-abbrev pub is_taken : Bool → Bool → Bool
-is_taken takes negative = if takes then not negative else negative
 
 -- the same with the other sign
 abbrev pub negated : List Amount → List Amount

@@ -1,12 +1,12 @@
--- public: where a row that a literal writes passes the limit: in a product, in a sum at a column, as its amounts are added from the
--- left, or by its modulus.
+-- public: where a row that a literal writes passes the limit: in a product, in a sum at a column, as the amounts of its terms, multiplied
+-- out, are added from the left, or by its modulus.
 use Rattle.std.specs.Prelude.{◌≡◌, ◌⊎◌, ℕ, Option, ◌+◌, ◌<◌, ℤ, pos, ◌+ℤ◌, List, [], ◌∷◌, length, take, replicate, slice_index_or, Any}
 use Rattle.isl_meter.specs.Gauge.{Gauge, IsWithin, overflown}
 use Rattle.isl_meter.specs.declared.Cut.{Cut}
 use Rattle.isl_meter.specs.declared.Cut.TheVariants.{Overflow, Budget, NoMemory}
 use Rattle.isl_tree.specs.declared.tree.PieceTree.{PieceTree}
 use Rattle.isl_tree.specs.Term.{Term, product_of}
-use Rattle.isl_plain.specs.Linear.{Place, Amount, with_amount, numbers_of, difference}
+use Rattle.isl_plain.specs.Linear.{Place, Amount, with_amount, numbers_of, multiplied_out, difference}
 use Rattle.isl_plain.specs.Rows.{Written, piece_width, piece_place, written_piece}
 
 -- the product of the first numbers passes the limit
@@ -31,7 +31,8 @@ DifferencePasses g n place row greater less last =
 -- a written row over n columns passes the limit
 abbrev pub WrittenPasses : Gauge → ℕ → Place → Written → Type 0
 WrittenPasses g n place w =
-    DifferencePasses g n place (replicate (n + 1) (pos 0)) w.greater w.less w.last ⊎ (¬ IsWithin g w.modulus)
+    DifferencePasses g n place (replicate (n + 1) (pos 0)) (multiplied_out w.greater) (multiplied_out w.less) w.last
+    ⊎ (¬ IsWithin g w.modulus)
 
 -- a row of a piece passes the limit
 abbrev pub PiecePasses : Gauge → List (List ℕ) → PieceTree → Type 0

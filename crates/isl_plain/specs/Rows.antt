@@ -13,7 +13,7 @@ use Rattle.isl_tree.specs.Literal.{new_name, known_after, entry_term, piece_entr
 use Rattle.isl_tree.specs.Plain.{Remainder, lone_remainder}
 use Rattle.isl_tree.specs.Term.{Term}
 use Rattle.isl_tree.specs.Formula.{Link, Side}
-use Rattle.isl_plain.specs.Linear.{Place, difference, row_of}
+use Rattle.isl_plain.specs.Linear.{Place, Amount, multiplied_out, difference, row_of}
 use Rattle.isl_plain.specs.Places.{place_among}
 
 -- a row before its numbers are added up: what is asked of a term less another one, and less a one at a column where there is one
@@ -122,9 +122,13 @@ abbrev pub written_piece : List (List ℕ) → PieceTree → List Written
 written_piece params piece =
     written_entries params (piece_entries piece) (length params) ++ written_body (piece_width params piece) piece.body
 
+-- what a written row adds over n columns: its terms, multiplied out
+abbrev pub amounts_in : ℕ → Place → Written → List Amount
+amounts_in n place w = difference n place (multiplied_out w.greater) (multiplied_out w.less) w.last
+
 -- the numbers of a written row over n columns, added up
 abbrev pub numbers_in : ℕ → Place → Written → List ℤ
-numbers_in n place w = row_of n (difference n place w.greater w.less w.last)
+numbers_in n place w = row_of n (amounts_in n place w)
 
 abbrev pub added : ℕ → Place → Written → Row
 added n place w = record {

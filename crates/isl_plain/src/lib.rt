@@ -1,6 +1,7 @@
 //! Plain literals as rows: linear terms over the columns of a piece.
 #![tactic(auto)]
 
+mod brackets;
 mod chains;
 mod entries;
 mod lowered;

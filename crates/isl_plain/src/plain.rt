@@ -2,7 +2,8 @@
 
 ghost use Rattle.std.specs.Prelude.{◌≡◌};
 ghost use Rattle.std.specs.List.{list_all};
-ghost use Rattle.isl_tree.specs.Plain.{is_linear_part, is_linear, is_plain_entry, is_plain_side, is_plain_compare, are_plain_links};
+ghost use Rattle.isl_tree.specs.Plain.{is_linear_part, is_linear_factor, is_linear, is_plain_entry, is_plain_side, is_plain_compare};
+ghost use Rattle.isl_tree.specs.Plain.{are_plain_links};
 ghost use Rattle.isl_tree.specs.Plain.{is_zero, tells_equality, is_plain_remainder, are_plain_sides};
 ghost use Rattle.isl_tree.specs.Plain.{is_plain_chain, is_plain_formula, is_plain_tuple, body_is_plain, is_plain_piece, is_plain};
 ghost use Rattle.isl_plain.specs.Code.{remainder_of};
@@ -12,19 +13,39 @@ use isl_tree::tree::{
     Compare, Entry, Factor, Formula, Link, Literal, PieceTree, Signed, Term, Tuple,
 };
 
+#[cycle(linear)]
+#[tactic(auto, using(crate::proofs::BracketLaws::linears))]
+fn is_linear_factor(factor: &Factor) -> bool
+    ensures { result ≡ is_linear_factor factor.now }
+{
+    match factor {
+        Factor::Name(_) => true,
+        Factor::Inner(term) => is_linear(term.as_slice()),
+        _ => false,
+    }
+}
+
+#[cycle(linear)]
 fn is_linear_part(part: &Signed) -> bool
     ensures { result ≡ is_linear_part part.now }
 {
     match &part.product.inner {
+        Some(modded) if modded.moduli.is_empty() => is_linear_factor(&modded.factor),
+        Some(_) => false,
         None => true,
-        Some(modded) => matches!(modded.factor, Factor::Name(_)) && modded.moduli.is_empty(),
     }
 }
 
+#[cycle(linear)]
 fn is_linear(term: &[Signed]) -> bool
     ensures { result ≡ is_linear term.now }
 {
-    term.iter().all(|part| is_linear_part(part))
+    for part in term {
+        if !is_linear_part(part) {
+            return false;
+        }
+    }
+    true
 }
 
 fn is_plain_entry(entry: &Entry) -> bool

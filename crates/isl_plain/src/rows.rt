@@ -7,12 +7,14 @@ ghost use Rattle.isl_piece.specs.Row.{IsRowWithin};
 ghost use Rattle.isl_tree.specs.Term.{product_of};
 ghost use Rattle.isl_plain.specs.Linear.{amount_of, amounts_of, signed_product, turned};
 ghost use Rattle.isl_plain.specs.Linear.{with_amount, with_amounts, numbers_of, is_negative};
-ghost use Rattle.isl_plain.specs.Linear.{part_name, named_place, is_taken, one_less, difference};
-ghost use Rattle.isl_plain.specs.Passes.{ProductPasses, PartsPass, SumPasses, DifferencePasses};
+ghost use Rattle.isl_plain.specs.Linear.{part_name, named_place, one_less, multiplied_out, difference};
+ghost use Rattle.isl_plain.specs.Rows.{amounts_in};
+ghost use Rattle.isl_plain.specs.Passes.{ProductPasses, PartsPass, SumPasses, DifferencePasses, FailsBy};
 ghost use Rattle.isl_plain.specs.Code.{written_of};
 ghost use Rattle.isl_plain.specs.Width.{width_of, place_in, PassesIn};
 ghost use Rattle.isl_plain.specs.Outcome.{SumsUp, MakesRow, PutsRows};
 
+use crate::brackets::{is_taken, multiplied_out};
 use crate::places::{Places, part_name};
 use crate::written::Written;
 use isl_meter::{Cut, Int, Meter, Overflow};
@@ -83,13 +85,6 @@ fn part_place(part: &Signed, places: &Places<'_>) -> usize
         },
         None => constant,
     }
-}
-
-// Whether a part is taken away in the end.
-fn is_taken(takes: bool, negative: bool) -> bool
-    ensures { result ≡ is_taken takes negative }
-{
-    if takes { !negative } else { negative }
 }
 
 // Adds a part of a term, or takes it away.
@@ -194,6 +189,44 @@ fn finished(kind: RowKind, modulus: Int, row: Coefs, columns: usize) -> Row
     Row::new(kind, coefs, constant, modulus)
 }
 
+// Adds up the terms of a written row, multiplied out.
+fn add_written(
+    alloc: Global,
+    row: &mut Coefs,
+    written: Written<'_>,
+    places: &Places<'_>,
+    meter: &mut Meter,
+) -> Result<(), Cut>
+    requires width { length row.old ≡ width_of places.now + 1 }
+    requires within { All (IsWithin meter.old) row.old }
+    requires inside { IfSome written.last (λ at. at ≤ width_of places.now) }
+    ensures { let w = written_of written.entry in let n = width_of places.now in let place = place_in places.now in
+        MatchResult result
+        (λ _. (row.new ≡ with_amounts row.old (amounts_in n place w)) × All (IsWithin meter.old) row.new × (meter.new ≡ meter.old))
+        (FailsBy (DifferencePasses meter.old n place row.old (multiplied_out w.greater) (multiplied_out w.less) w.last)
+        meter.old meter.new) }
+{
+    let greater = match multiplied_out(alloc, written.greater) {
+        Ok(greater) => greater,
+        Err(_) => return Err(Cut::NoMemory),
+    };
+    let less = match multiplied_out(alloc, written.less) {
+        Ok(less) => less,
+        Err(_) => return Err(Cut::NoMemory),
+    };
+    match add_difference(
+        row,
+        greater.as_slice(),
+        less.as_slice(),
+        written.last,
+        places,
+        meter,
+    ) {
+        Ok(()) => Ok(()),
+        Err(Overflow) => Err(Cut::Overflow),
+    }
+}
+
 // The row that a written one with this modulus is, added up.
 fn difference_row(
     alloc: Global,
@@ -207,23 +240,17 @@ fn difference_row(
     requires inside { IfSome written.last (λ at. at ≤ width_of places.now) }
     ensures { let w = written_of written.entry in let n = width_of places.now in
         MakesRow meter.old meter.new places.now w
-        (DifferencePasses meter.old n (place_in places.now) (replicate (n + 1) (pos 0)) w.greater w.less w.last) result }
+        (DifferencePasses meter.old n (place_in places.now) (replicate (n + 1) (pos 0)) (multiplied_out w.greater) (multiplied_out w.less)
+        w.last) result }
 {
     let columns = places.width();
     let mut row = match Coefs::zeros(alloc, columns + 1) {
         Ok(row) => row,
         Err(_) => return Err(Cut::NoMemory),
     };
-    match add_difference(
-        &mut row,
-        written.greater,
-        written.less,
-        written.last,
-        places,
-        meter,
-    ) {
+    match add_written(alloc, &mut row, written, places, meter) {
         Ok(()) => Ok(finished(written.kind, modulus, row, columns)),
-        Err(Overflow) => Err(Cut::Overflow),
+        Err(cut) => Err(cut),
     }
 }
 
