@@ -32,8 +32,8 @@ use Rattle.isl_tree.specs.Environment.{Environment}
 use Rattle.isl_tree.specs.Literal.{piece_entries, space_of_piece, piece_environment, EntriesEqual, PieceHas}
 use Rattle.isl_tree.specs.Known.{piece_is_known, literal_is_known}
 use Rattle.isl_tree.specs.Plain.{is_plain_piece, is_plain}
-use Rattle.isl_plain.specs.Linear.{Place, difference}
-use Rattle.isl_plain.specs.Rows.{Written, added, numbers_in, piece_place, piece_width, rows_written, written_piece}
+use Rattle.isl_plain.specs.Linear.{Place}
+use Rattle.isl_plain.specs.Rows.{Written, added, amounts_in, numbers_in, piece_place, piece_width, rows_written, written_piece}
 use Rattle.isl_plain.specs.Passes.{FailsBy}
 use Rattle.isl_lower.specs.Value.{piece_lowered, value_lowered, HasSameElements, IsLowered}
 use Rattle.isl_lower.proofs.WidthLaws.{coordinates_are}
@@ -46,7 +46,7 @@ use Rattle.isl_plain.proofs.TermLaws.{both_true}
 pub added_formed : (n : ℕ) (place : Place) (w : Written) → HasOwnModulus w → IsWellFormed n (added n place w)
 added_formed n place w own =
     let numbers = numbers_in n place w in
-    let long : length numbers ≡ n + 1 = length-with_amounts (replicate (n + 1) (pos 0)) (difference n place w.greater w.less w.last)
+    let long : length numbers ≡ n + 1 = length-with_amounts (replicate (n + 1) (pos 0)) (amounts_in n place w)
     ∙ length-replicate (n + 1) (pos 0) in
     record { width = length-take-le n numbers (omega (arith, long)); modulus = own }
 
