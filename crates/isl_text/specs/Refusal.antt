@@ -6,7 +6,7 @@ use Rattle.isl_text.specs.declared.refusal.Refusal.{Refusal}
 use Rattle.isl_text.specs.declared.refusal.Refusal.TheVariants.{Usage, Syntax, UnknownName, WrongKind, NoMinimum, Unbounded, SeveralTimes}
 use Rattle.isl_text.specs.declared.refusal.Refusal.TheVariants.{TimeShape, Nested, Parametric, TooWide, TooDeep, WideNumber, TooLong}
 use Rattle.isl_text.specs.declared.refusal.Refusal.TheVariants.{Unfinished, Overflow, Budget, ReadFault, WriteFault, NoMemory}
-use Rattle.isl_text.specs.declared.refusal.Refusal.TheVariants.{ScriptTooLong, NoElement}
+use Rattle.isl_text.specs.declared.refusal.Refusal.TheVariants.{ScriptTooLong, NoElement, NoValuation, NotAssumed}
 
 abbrev pub code_of : Refusal → ℕ
 code_of Usage = 2
@@ -31,9 +31,11 @@ code_of WriteFault = 20
 code_of NoMemory = 21
 code_of ScriptTooLong = 22
 code_of NoElement = 23
+code_of NoValuation = 24
+code_of NotAssumed = 25
 
 abbrev pub text_of : Refusal → List ℕ
-text_of Usage = codes "usage: iscc [--bits B] [--budget N] [--at NAME=INT,..] [--run] [--make N]"
+text_of Usage = codes "usage: iscc [--bits B] [--budget N] [--at NAME=INT,..] [--run] [--make N] [--keep-going]"
 text_of Syntax = codes "syntax error"
 text_of UnknownName = codes "unknown name"
 text_of WrongKind = codes "wrong kind of operand"
@@ -55,6 +57,8 @@ text_of WriteFault = codes "write failed"
 text_of NoMemory = codes "out of memory"
 text_of ScriptTooLong = codes "script too long"
 text_of NoElement = codes "no such element"
+text_of NoValuation = codes "no valuation left"
+text_of NotAssumed = codes "valuation not assumed"
 
 -- what a reader's fault is to its caller
 abbrev pub of_fault : Fault → Refusal

@@ -53,6 +53,10 @@ pub enum Refusal {
     ScriptTooLong,
     /// A list has no element with that number.
     NoElement,
+    /// No valuation is left of the assumed ones.
+    NoValuation,
+    /// The numbers of the parameters are not assumed.
+    NotAssumed,
 }
 
 impl Refusal {
@@ -83,6 +87,8 @@ impl Refusal {
             Refusal::NoMemory => 21,
             Refusal::ScriptTooLong => 22,
             Refusal::NoElement => 23,
+            Refusal::NoValuation => 24,
+            Refusal::NotAssumed => 25,
         }
     }
 
@@ -92,7 +98,7 @@ impl Refusal {
     {
         match self {
             Refusal::Usage => {
-                "usage: iscc [--bits B] [--budget N] [--at NAME=INT,..] [--run] [--make N]"
+                "usage: iscc [--bits B] [--budget N] [--at NAME=INT,..] [--run] [--make N] [--keep-going]"
             }
             Refusal::Syntax => "syntax error",
             Refusal::UnknownName => "unknown name",
@@ -115,6 +121,8 @@ impl Refusal {
             Refusal::NoMemory => "out of memory",
             Refusal::ScriptTooLong => "script too long",
             Refusal::NoElement => "no such element",
+            Refusal::NoValuation => "no valuation left",
+            Refusal::NotAssumed => "valuation not assumed",
         }
     }
 }
