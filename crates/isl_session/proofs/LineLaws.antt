@@ -4,10 +4,10 @@ use Rattle.isl_text.specs.declared.refusal.Refusal.{Refusal}
 use Rattle.isl_text.specs.declared.refusal.Refusal.TheVariants.{Usage, Syntax, UnknownName, WrongKind, NoMinimum, Unbounded, SeveralTimes}
 use Rattle.isl_text.specs.declared.refusal.Refusal.TheVariants.{TimeShape, Nested, Parametric, TooWide, TooDeep, WideNumber, TooLong}
 use Rattle.isl_text.specs.declared.refusal.Refusal.TheVariants.{Unfinished, Overflow, Budget, ReadFault, WriteFault, NoMemory}
-use Rattle.isl_text.specs.declared.refusal.Refusal.TheVariants.{ScriptTooLong, NoElement}
+use Rattle.isl_text.specs.declared.refusal.Refusal.TheVariants.{ScriptTooLong, NoElement, NoValuation, NotAssumed}
 use Rattle.isl_text.specs.Refusal.{text_of}
 
-pub text_is_short : (refusal : Refusal) → length (text_of refusal) ≤ 80
+pub text_is_short : (refusal : Refusal) → length (text_of refusal) ≤ 100
 text_is_short Usage = omega arith
 text_is_short Syntax = omega arith
 text_is_short UnknownName = omega arith
@@ -30,3 +30,5 @@ text_is_short WriteFault = omega arith
 text_is_short NoMemory = omega arith
 text_is_short ScriptTooLong = omega arith
 text_is_short NoElement = omega arith
+text_is_short NoValuation = omega arith
+text_is_short NotAssumed = omega arith

@@ -3,7 +3,7 @@ use Rattle.isl_text.specs.declared.refusal.Refusal.{Refusal}
 use Rattle.isl_text.specs.declared.refusal.Refusal.TheVariants.{Usage, Syntax, UnknownName, WrongKind, NoMinimum, Unbounded, SeveralTimes}
 use Rattle.isl_text.specs.declared.refusal.Refusal.TheVariants.{TimeShape, Nested, Parametric, TooWide, TooDeep, WideNumber, TooLong}
 use Rattle.isl_text.specs.declared.refusal.Refusal.TheVariants.{Unfinished, Overflow, Budget, ReadFault, WriteFault, NoMemory}
-use Rattle.isl_text.specs.declared.refusal.Refusal.TheVariants.{ScriptTooLong, NoElement}
+use Rattle.isl_text.specs.declared.refusal.Refusal.TheVariants.{ScriptTooLong, NoElement, NoValuation, NotAssumed}
 
 pub data Place : Type 0 where
   -- before anything is read
@@ -44,3 +44,5 @@ place_of WideNumber = in_statement
 place_of Overflow = in_statement
 place_of Budget = in_statement
 place_of NoElement = in_statement
+place_of NoValuation = in_statement
+place_of NotAssumed = in_statement
