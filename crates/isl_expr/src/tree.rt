@@ -13,6 +13,8 @@ pub enum Stmt {
     Bind(Name, Expr),
     /// The value is shown.
     Show(Expr),
+    /// From now on the valuations in this set alone are assumed. It is a literal that has `[]` at each of them.
+    Assume(Literal),
 }
 
 /// What has a value.
