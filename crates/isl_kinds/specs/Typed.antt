@@ -10,6 +10,7 @@ use Rattle.isl_space.specs.Name.{Name}
 use Rattle.indexmap.specs.IndexSet.{insert_all}
 use Rattle.isl_tree.specs.declared.tree.Tuple.{Tuple}
 use Rattle.isl_tree.specs.declared.tree.PieceTree.{PieceTree}
+use Rattle.isl_tree.specs.declared.tree.Literal.{Literal}
 use Rattle.isl_tree.specs.Known.{literal_is_known}
 use Rattle.isl_text.specs.declared.refusal.Refusal.{Refusal}
 use Rattle.isl_text.specs.declared.refusal.Refusal.TheVariants.{UnknownName, WrongKind, NoElement, NoMemory}
@@ -203,15 +204,24 @@ type_for purpose scope expr =
     if has_unknown scope expr then Err UnknownName
     else with_params (declared_of scope expr) (kind_for purpose expr (kind_of scope expr))
 
+-- of a parameter set: an identifier is neither declared nor bound around it
+abbrev pub known_params : Literal → Result (Unit {0}) Refusal
+known_params set = if literal_is_known set then Ok tt else Err UnknownName
+
+abbrev pub untyped : Result (Unit {0}) Refusal → Result (Option TypeView) Refusal
+untyped (Ok nothing) = Ok None
+untyped (Err refusal) = Err refusal
+
 abbrev pub found : Result TypeView Refusal → Result (Option TypeView) Refusal
 found (Ok t) = Ok (Some t)
 found (Err refusal) = Err refusal
 
--- the type of what a statement binds or shows, if it does so
+-- the type of what a statement binds or shows, if it does so: an assumption has no operand, but its identifiers have to be known
 abbrev pub type_of_statement : ScopeView → Stmt → Result (Option TypeView) Refusal
 type_of_statement scope s.Empty = Ok None
 type_of_statement scope (s.Bind name expr) = found (type_for Bound scope expr)
 type_of_statement scope (s.Show expr) = found (type_for Shown scope expr)
+type_of_statement scope (s.Assume set) = untyped (known_params set)
 
 -- this answer, unless memory runs out
 abbrev pub Answers : {A : Type 0} → Result A Refusal → Result A Refusal → Type 0

@@ -6,9 +6,11 @@ ghost use Rattle.isl_tree.specs.Literal.{is_among, entries_of};
 ghost use Rattle.isl_tree.specs.Known as spec;
 ghost use Rattle.isl_tree.specs.Known.{formula_is_known};
 ghost use Rattle.isl_kinds.specs.Place.{names_at, value_is_known};
+ghost use Rattle.isl_kinds.specs.Typed as types;
 
 use crate::place::{Place, lone};
 use isl_space::Name;
+use isl_text::refusal::Refusal;
 use isl_tree::tree::{
     Binder, Entry, Factor, Formula, Link, Literal, PieceTree, Signed, Term, Tuple,
 };
@@ -194,4 +196,18 @@ pub(crate) fn is_known(literal: &Literal) -> bool
         .as_slice()
         .iter()
         .all(|piece| piece_is_known(params, piece))
+}
+
+/// Whether each identifier of a parameter set is known: declared, or bound by an enclosing `exists`.
+///
+/// # Errors
+/// `UnknownName` where one is not.
+pub fn known_params(set: &Literal) -> Result<(), Refusal>
+    ensures { result ≡ types.known_params set.now }
+{
+    if is_known(set) {
+        Ok(())
+    } else {
+        Err(Refusal::UnknownName)
+    }
 }

@@ -9,5 +9,6 @@ mod scope;
 mod sought;
 mod types;
 
+pub use known::known_params;
 pub use scope::{Scope, Typed, is_dollar};
 pub use types::{typed, typed_statement};

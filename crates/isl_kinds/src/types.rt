@@ -6,6 +6,7 @@ ghost use Rattle.isl_kinds.specs.Lines as lines;
 ghost use Rattle.isl_kinds.specs.Typed as spec;
 ghost use Rattle.isl_kinds.specs.Typed.{Answers};
 
+use crate::known::known_params;
 use crate::lines::{applied, dependence, inverse, item, joined, prefixed};
 use crate::params::declared;
 use crate::sought::{has_no_item, has_unknown};
@@ -177,7 +178,7 @@ pub fn typed(alloc: Global, expr: &Expr, scope: &Scope) -> Result<Typed, Refusal
 /// The type of what a statement binds or shows, if it does so.
 ///
 /// # Errors
-/// Those of `typed`, and `WrongKind` also where a value of this kind may not be bound.
+/// Those of `typed`, and `WrongKind` also where a value of this kind may not be bound. Of an assumption `UnknownName` alone.
 pub fn typed_statement(alloc: Global, stmt: &Stmt, scope: &Scope) -> Result<Option<Typed>, Refusal>
     ensures { Answers result (spec.type_of_statement scope.now stmt.now) }
 {
@@ -185,5 +186,9 @@ pub fn typed_statement(alloc: Global, stmt: &Stmt, scope: &Scope) -> Result<Opti
         Stmt::Empty => Ok(None),
         Stmt::Bind(_, expr) => Ok(Some(type_for(alloc, Purpose::Bound, expr, scope)?)),
         Stmt::Show(expr) => Ok(Some(type_for(alloc, Purpose::Shown, expr, scope)?)),
+        Stmt::Assume(set) => {
+            known_params(set)?;
+            Ok(None)
+        }
     }
 }
