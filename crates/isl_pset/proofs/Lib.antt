@@ -2,3 +2,4 @@ pub mod PsetAgain
 pub mod PsetLaws
 pub mod PsetTaken
 pub mod ReadLaws
+pub mod SpelledLaws

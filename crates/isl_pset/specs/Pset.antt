@@ -1,4 +1,4 @@
--- inner: how parameter sets are read.
+-- public: how parameter sets are read.
 use Rattle.std.specs.Prelude.{ℕ, List, if◌then◌else◌}
 use Rattle.isl_token.specs.declared.token.Kind.TheVariants as k
 use Rattle.isl_token.specs.Reading.{Parser, ◌>>=◌, ◌>>◌, pure, none, expect, separated}

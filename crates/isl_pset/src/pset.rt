@@ -159,7 +159,7 @@ fn outline(alloc: Global, tokens: &mut Cursor<'_>, depth: usize) -> Result<Liter
 
 /// A parameter set whose brackets are nested less than `depth` deep.
 #[tactic(auto, unfolding(crate::specs::Pset::pset))]
-pub(crate) fn pset(alloc: Global, tokens: &mut Cursor<'_>, depth: usize) -> Result<Literal, Fault>
+pub fn pset(alloc: Global, tokens: &mut Cursor<'_>, depth: usize) -> Result<Literal, Fault>
     ensures { Reads (spec.pset depth tokens.old) result tokens.new }
 {
     let found = outline(alloc, tokens, depth)?;
