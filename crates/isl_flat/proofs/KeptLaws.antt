@@ -11,8 +11,9 @@ use Rattle.isl_expr.specs.declared.tree.Binary.{Binary}
 use Rattle.isl_expr.specs.declared.tree.Binary.TheVariants.{Gist}
 use Rattle.isl_expr.specs.declared.tree.Prefix.{Prefix as Word}
 use Rattle.isl_expr.specs.declared.tree.Prefix.TheVariants.{Sample}
+use Rattle.isl_tree.specs.declared.tree.Literal.{Literal}
 use Rattle.isl_expr.specs.declared.tree.Stmt.{Stmt}
-use Rattle.isl_expr.specs.declared.tree.Stmt.TheVariants.{Empty, Bind, Show}
+use Rattle.isl_expr.specs.declared.tree.Stmt.TheVariants.{Empty, Bind, Show, Assume}
 use Rattle.isl_expr.specs.declared.tree.Link.{Link}
 use Rattle.isl_expr.specs.declared.tree.Postfix.{Postfix, Inverse, Apply, Item}
 use Rattle.isl_expr.specs.declared.tree.Expr as e
@@ -101,6 +102,7 @@ module _ (Q : ℕ → Part → Type 0) (steady : IsSteady Q) where
       (fine.0, fine.1, fine_with (suc n) k old expr (omega (arith, is)) fine.2 plain)
   fine_with n k (Empty ∷ old) expr is fine plain = absurd fine
   fine_with n k (Show first ∷ old) expr is fine plain = absurd fine
+  fine_with n k (Assume set ∷ old) expr is fine plain = absurd fine
 
   pub bound_made : (old : List Stmt) (f : Flattened) → Made IsPlain old f → Made IsCalm old (bound f)
   bound_made old f made =
@@ -466,32 +468,37 @@ module _ (Q : ℕ → Part → Type 0) (steady : IsSteady Q) where
       All-cons K (Bind name expr) made (binding n name expr fine.1) (fine_all K binding (suc n) made fine.2)
   fine_all K binding n (Empty ∷ made) fine = absurd fine
   fine_all K binding n (Show expr ∷ made) fine = absurd fine
+  fine_all K binding n (Assume set ∷ made) fine = absurd fine
 
   pub outermost_made : (expr : Expr) → Each (Q 0) (parts_of expr) → Made IsPlain [] (outermost expr)
   outermost_made expr all = flattened_made Outermost [] expr tt all
 
-  -- what each binding has whose expression is plain, and the last statement with it
+  -- what each binding has whose expression is plain, and the last statement with it, and what an assumption has
   pub flat_all : (K : Stmt → Type 0) → K Empty → ((k : ℕ) (name : Name) (expr : Expr) → IsPlain k expr → K (Bind name expr))
-      → ((k : ℕ) (expr : Expr) → IsPlain k expr → K (Show expr)) → (stmt : Stmt) → Each (Q 0) (parts_of_statement stmt) → All K (flat stmt)
-  flat_all K nothing binding showing Empty all = All-cons K Empty [] nothing (All-nil K)
-  flat_all K nothing binding showing (Bind name expr) all =
+      → ((k : ℕ) (expr : Expr) → IsPlain k expr → K (Show expr)) → ((set : Literal) → Q 0 (part.literal set) → K (Assume set))
+      → (stmt : Stmt) → Each (Q 0) (parts_of_statement stmt) → All K (flat stmt)
+  flat_all K nothing binding showing assuming Empty all = All-cons K Empty [] nothing (All-nil K)
+  flat_all K nothing binding showing assuming (Bind name expr) all =
       let made = outermost_made expr all in
       let f = outermost expr in
       All-append K f.0 (Bind name f.1 ∷ []) (fine_all K binding 0 f.0 made.fine)
       (All-cons K (Bind name f.1) [] (binding (length f.0) name f.1 made.expr) (All-nil K))
-  flat_all K nothing binding showing (Show expr) all =
+  flat_all K nothing binding showing assuming (Show expr) all =
       let made = outermost_made expr all in
       let f = outermost expr in
       All-append K f.0 (Show f.1 ∷ []) (fine_all K binding 0 f.0 made.fine)
       (All-cons K (Show f.1) [] (showing (length f.0) f.1 made.expr) (All-nil K))
+  flat_all K nothing binding showing assuming (Assume set) all = All-cons K (Assume set) [] (assuming set all.0) (All-nil K)
 
   fine_from : (n : ℕ) (made : List Stmt) → Fine n made → BindFrom (suc n) made
   fine_from n [] fine = tt
   fine_from n (Bind name expr ∷ made) fine = (fine.0, fine_from (suc n) made fine.2)
   fine_from n (Empty ∷ made) fine = absurd fine
   fine_from n (Show expr ∷ made) fine = absurd fine
+  fine_from n (Assume set ∷ made) fine = absurd fine
 
   pub bindings_from : (stmt : Stmt) → Each (Q 0) (parts_of_statement stmt) → BindFrom 1 (bindings_of stmt)
   bindings_from Empty all = tt
   bindings_from (Bind name expr) all = fine_from 0 (outermost expr).0 (outermost_made expr all).fine
   bindings_from (Show expr) all = fine_from 0 (outermost expr).0 (outermost_made expr all).fine
+  bindings_from (Assume set) all = tt

@@ -5,7 +5,7 @@ use Rattle.std.specs.List.{All}
 use Rattle.std.proofs.lemmas.List.Elements.{All-nil, All-cons, All-head, All-tail}
 use Rattle.isl_tree.specs.declared.tree.Literal.{Literal}
 use Rattle.isl_expr.specs.declared.tree.Stmt.{Stmt}
-use Rattle.isl_expr.specs.declared.tree.Stmt.TheVariants.{Empty, Bind, Show}
+use Rattle.isl_expr.specs.declared.tree.Stmt.TheVariants.{Empty, Bind, Show, Assume}
 use Rattle.isl_expr.specs.declared.tree.Postfix.{Postfix, Inverse, Apply, Item}
 use Rattle.isl_expr.specs.declared.tree.Expr as e
 use Rattle.isl_expr.specs.declared.tree.Expr.{Expr, Row', Prefix', Any', Last', Post', Row_of-Expr, end_of-Expr, more_of-Expr}
@@ -72,6 +72,7 @@ among_statement : (stmt : Stmt) → literals_among (parts_of_statement stmt) ≡
 among_statement Empty = refl
 among_statement (Bind name expr) = among_is expr
 among_statement (Show expr) = among_is expr
+among_statement (Assume set) = refl
 
 -- a part that is a literal has what is said of literals
 abbrev pub OfLiteral : (Literal → Type 0) → Part → Type 0

@@ -12,7 +12,7 @@ use Rattle.isl_expr.specs.declared.tree.Binary.{Binary}
 use Rattle.isl_expr.specs.declared.tree.Binary.TheVariants.{Gist}
 use Rattle.isl_expr.specs.declared.tree.Prefix.{Prefix as Word}
 use Rattle.isl_expr.specs.declared.tree.Stmt.{Stmt}
-use Rattle.isl_expr.specs.declared.tree.Stmt.TheVariants.{Empty, Bind, Show}
+use Rattle.isl_expr.specs.declared.tree.Stmt.TheVariants.{Empty, Bind, Show, Assume}
 use Rattle.isl_expr.specs.declared.tree.Postfix.{Postfix, Inverse, Apply, Item}
 use Rattle.isl_expr.specs.declared.tree.Expr as e
 use Rattle.isl_expr.specs.declared.tree.Expr.{Expr, Row', Prefix', Any', Last', Post', Row_of-Expr, end_of-Expr, more_of-Expr}
@@ -49,9 +49,11 @@ put_back_ends named [] last = refl
 put_back_ends named (Bind name expr ∷ []) last = refl
 put_back_ends named (Empty ∷ []) last = refl
 put_back_ends named (Show expr ∷ []) last = refl
+put_back_ends named (Assume set ∷ []) last = refl
 put_back_ends named (Bind name expr ∷ (next ∷ rest)) last = put_back_ends (also named name (put_in named expr)) (next ∷ rest) last
 put_back_ends named (Empty ∷ (next ∷ rest)) last = put_back_ends named (next ∷ rest) last
 put_back_ends named (Show expr ∷ (next ∷ rest)) last = put_back_ends named (next ∷ rest) last
+put_back_ends named (Assume set ∷ (next ∷ rest)) last = put_back_ends named (next ∷ rest) last
 
 meant_with : (named : Meaning) (made : List Stmt) (name : Name) (expr : Expr)
     → meant named (made ++ Bind name expr ∷ []) ≡ also (meant named made) name (put_in (meant named made) expr)
@@ -59,6 +61,7 @@ meant_with named [] name expr = refl
 meant_with named (Bind other first ∷ made) name expr = meant_with (also named other (put_in named first)) made name expr
 meant_with named (Empty ∷ made) name expr = meant_with named made name expr
 meant_with named (Show first ∷ made) name expr = meant_with named made name expr
+meant_with named (Assume set ∷ made) name expr = meant_with named made name expr
 
 abbrev behind_all : List Stmt → Meaning
 behind_all made = meant itself made
@@ -478,3 +481,4 @@ flat_says (Show expr) plain few =
     let f = outermost expr in
     let size = length-append f.0 (Show f.1 ∷ []) in
     put_back_ends itself f.0 (Show f.1) ∙ ap Show (outermost_says expr plain (omega (arith, size, few)))
+flat_says (Assume set) plain few = refl

@@ -9,7 +9,7 @@ use Rattle.isl_expr.specs.declared.tree.Binary.TheVariants.{Gist}
 use Rattle.isl_expr.specs.declared.tree.Prefix.{Prefix as Word}
 use Rattle.isl_expr.specs.declared.tree.Prefix.TheVariants.{Sample, Coalesce}
 use Rattle.isl_expr.specs.declared.tree.Stmt.{Stmt}
-use Rattle.isl_expr.specs.declared.tree.Stmt.TheVariants.{Empty, Bind, Show}
+use Rattle.isl_expr.specs.declared.tree.Stmt.TheVariants.{Empty, Bind, Show, Assume}
 use Rattle.isl_expr.specs.declared.tree.Link.{Link}
 use Rattle.isl_expr.specs.declared.tree.Postfix.{Postfix, Inverse, Apply, Item}
 use Rattle.isl_expr.specs.declared.tree.Expr as e
@@ -260,3 +260,4 @@ flat_of_quiet (Bind name expr) none =
 flat_of_quiet (Show expr) none =
     let same = flattened_same Outermost [] expr (each_quiet wants_names (parts_of expr) none) in
     (ap (λ (made : List Stmt). made ++ Show (outermost expr).1 ∷ []) same.made, same.parts)
+flat_of_quiet (Assume set) none = (refl, refl)

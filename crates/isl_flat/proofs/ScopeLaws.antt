@@ -8,7 +8,7 @@ use Rattle.isl_text.specs.declared.refusal.Refusal.{Refusal}
 use Rattle.isl_text.specs.declared.refusal.Refusal.TheVariants.{UnknownName, WrongKind, NoElement}
 use Rattle.isl_expr.specs.declared.tree.ValueKind.{ValueKind}
 use Rattle.isl_expr.specs.declared.tree.Stmt.{Stmt}
-use Rattle.isl_expr.specs.declared.tree.Stmt.TheVariants.{Empty, Bind, Show}
+use Rattle.isl_expr.specs.declared.tree.Stmt.TheVariants.{Empty, Bind, Show, Assume}
 use Rattle.isl_expr.specs.declared.tree.Expr.{Expr}
 use Rattle.isl_expr.specs.declared.tree.Expr as e
 use Rattle.isl_kinds.specs.declared.types.Purpose.{Purpose}
@@ -93,6 +93,7 @@ module _ (most : ℕ) where
       (left.0, left.1, λ small later binds. leave_map P R weaker (suc n) later made (left.2 small later binds))
   leave_map P R weaker n scope (Empty ∷ made) left = absurd left
   leave_map P R weaker n scope (Show expr ∷ made) left = absurd left
+  leave_map P R weaker n scope (Assume set ∷ made) left = absurd left
 
   -- one more binding
   abbrev pub BindsNext : ℕ → Name → Expr → (ScopeView → Type 0) → ScopeView → Type 0
@@ -107,6 +108,7 @@ module _ (most : ℕ) where
       (left.0, left.1, λ small later binds. leave_with P (suc n) k later made name expr (omega (arith, is)) (left.2 small later binds))
   leave_with P n k scope (Empty ∷ made) name expr is left = absurd left
   leave_with P n k scope (Show first ∷ made) name expr is left = absurd left
+  leave_with P n k scope (Assume set ∷ made) name expr is left = absurd left
 
   -- the last statement has a type in the scope that the others leave
   pub all_typed : (n : ℕ) (scope : ScopeView) (made : List Stmt) (last : Stmt) (t : Option TypeView) → n + length made < 2 ^ 64
@@ -121,6 +123,7 @@ module _ (most : ℕ) where
   )
   all_typed n scope (Empty ∷ made) last t small left = absurd left
   all_typed n scope (Show expr ∷ made) last t small left = absurd left
+  all_typed n scope (Assume set ∷ made) last t small left = absurd left
 
 -- ---- what stays
 

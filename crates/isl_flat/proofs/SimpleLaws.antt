@@ -7,7 +7,7 @@ use Rattle.std.proofs.lemmas.Fmt.{decimal_injective}
 use Rattle.isl_space.specs.Name.{Name}
 use Rattle.isl_tree.specs.declared.tree.Literal.{Literal}
 use Rattle.isl_expr.specs.declared.tree.Stmt.{Stmt}
-use Rattle.isl_expr.specs.declared.tree.Stmt.TheVariants.{Empty, Bind, Show}
+use Rattle.isl_expr.specs.declared.tree.Stmt.TheVariants.{Empty, Bind, Show, Assume}
 use Rattle.isl_expr.specs.Expr.{statement_literals}
 use Rattle.isl_kinds.specs.Parts.{Part, parts_of_statement}
 use Rattle.isl_kinds.specs.Parts as part
@@ -24,6 +24,7 @@ pub flat_ends : (stmt : Stmt) → flat stmt ≡ bindings_of stmt ++ last_of stmt
 flat_ends Empty = refl
 flat_ends (Bind name expr) = refl
 flat_ends (Show expr) = refl
+flat_ends (Assume set) = refl
 
 -- ---- dollar names
 
@@ -47,6 +48,7 @@ module _ (P : Part → Bool) (names : (n : Name) → P (part.name n) ≡ false) 
       (λ simple. list_any P (parts_of_statement simple) ≡ false) refl
       (λ k name expr plain. quiet_each P (parts_of_statement (Bind name expr)) plain.0)
       (λ k expr plain. quiet_each P (parts_of_statement (Show expr)) plain.0)
+      (λ set one. quiet_each P (parts_of_statement (Assume set)) (one, tt))
       stmt (each_quiet P (parts_of_statement stmt) none)
 
   -- what stands in a simple statement stands in the statement
@@ -68,7 +70,8 @@ literals_kept R stmt all =
     flat_all (λ k p. OfLiteral R p) (record { up = λ j k p low h. h; new = λ k. tt; blank = tt })
     (λ simple. All R (statement_literals simple))
     (all_literals R Empty tt) (λ k name expr plain. all_literals R (Bind name expr) plain.0)
-    (λ k expr plain. all_literals R (Show expr) plain.0) stmt (each_literal R stmt all)
+    (λ k expr plain. all_literals R (Show expr) plain.0) (λ set one. all_literals R (Assume set) (one, tt)) stmt
+    (each_literal R stmt all)
 
 -- ---- shape and names
 
@@ -82,7 +85,7 @@ always = record { up = λ j k p low h. h; new = λ k. tt; blank = tt }
 -- `%` and `sample` stand outermost alone, and between names
 pub flat_is_simple : (stmt : Stmt) → All IsSimple (flat stmt)
 flat_is_simple stmt =
-    flat_all (λ k p. Unit {0}) always IsSimple tt (λ k name expr plain. plain.1) (λ k expr plain. plain.1) stmt
+    flat_all (λ k p. Unit {0}) always IsSimple tt (λ k name expr plain. plain.1) (λ k expr plain. plain.1) (λ set one. tt) stmt
     (anything (parts_of_statement stmt))
 
 -- each but the last binds the next dollar name

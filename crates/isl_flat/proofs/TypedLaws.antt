@@ -16,7 +16,7 @@ use Rattle.isl_expr.specs.declared.tree.Binary.{Binary}
 use Rattle.isl_expr.specs.declared.tree.Binary.TheVariants.{Gist}
 use Rattle.isl_expr.specs.declared.tree.Prefix.{Prefix as Word}
 use Rattle.isl_expr.specs.declared.tree.Stmt.{Stmt}
-use Rattle.isl_expr.specs.declared.tree.Stmt.TheVariants.{Empty, Bind, Show}
+use Rattle.isl_expr.specs.declared.tree.Stmt.TheVariants.{Empty, Bind, Show, Assume}
 use Rattle.isl_expr.specs.declared.tree.Link.{Link}
 use Rattle.isl_expr.specs.declared.tree.Postfix.{Postfix, Inverse, Apply, Item}
 use Rattle.isl_expr.specs.declared.tree.Expr as e
@@ -652,3 +652,4 @@ flat_is_typed scope (Show expr) t plain few typed =
     (λ later. HasType most later (Show f.1) t)
     (λ later h. record { typed = ap found h.0 ∙ ap (λ (o : Option TypeView). Ok o) (sym is.2); few = h.1 }) 0 scope f.0
     (outermost_typed scope Shown expr is.0 plain is.1))
+flat_is_typed scope (Assume set) t plain few typed = record { typed = typed; few = omega arith }

@@ -7,7 +7,7 @@ use Rattle.isl_expr.specs.declared.tree.Binary.TheVariants.{Gist}
 use Rattle.isl_expr.specs.declared.tree.Prefix.{Prefix}
 use Rattle.isl_expr.specs.declared.tree.Prefix.TheVariants.{Sample, Coalesce}
 use Rattle.isl_expr.specs.declared.tree.Stmt.{Stmt}
-use Rattle.isl_expr.specs.declared.tree.Stmt.TheVariants.{Empty, Bind, Show}
+use Rattle.isl_expr.specs.declared.tree.Stmt.TheVariants.{Empty, Bind, Show, Assume}
 use Rattle.isl_expr.specs.declared.tree.Link.{Link}
 use Rattle.isl_expr.specs.declared.tree.Postfix.{Postfix, Inverse, Apply, Item}
 use Rattle.isl_expr.specs.declared.tree.Expr.{Expr, Row', Prefix', Any', Last', Post', Row_of-Expr, end_of-Expr, more_of-Expr}
@@ -205,6 +205,7 @@ abbrev pub flat : Stmt → List Stmt
 flat Empty = Empty ∷ []
 flat (Bind name expr) = let f = outermost expr in f.0 ++ Bind name f.1 ∷ []
 flat (Show expr) = let f = outermost expr in f.0 ++ Show f.1 ∷ []
+flat (Assume set) = Assume set ∷ []
 
 -- ---- what is answered, unless memory runs out
 

@@ -3,7 +3,7 @@ use Rattle.std.specs.Prelude.{◌≡◌, List, [], ◌∷◌, if◌then◌else�
 use Rattle.std.specs.Str.{bytes_eq}
 use Rattle.isl_space.specs.Name.{Name}
 use Rattle.isl_expr.specs.declared.tree.Stmt.{Stmt}
-use Rattle.isl_expr.specs.declared.tree.Stmt.TheVariants.{Empty, Bind, Show}
+use Rattle.isl_expr.specs.declared.tree.Stmt.TheVariants.{Empty, Bind, Show, Assume}
 use Rattle.isl_expr.specs.declared.tree.Binary.{Binary}
 use Rattle.isl_expr.specs.declared.tree.Link.{Link}
 use Rattle.isl_expr.specs.declared.tree.Postfix.{Postfix, Inverse, Apply, Item}
@@ -66,6 +66,7 @@ abbrev pub put_in_statement : Meaning → Stmt → Stmt
 put_in_statement named Empty = Empty
 put_in_statement named (Bind name expr) = Bind name (put_in named expr)
 put_in_statement named (Show expr) = Show (put_in named expr)
+put_in_statement named (Assume set) = Assume set
 
 -- ---- statements, one after another
 

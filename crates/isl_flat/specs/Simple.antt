@@ -5,7 +5,7 @@ use Rattle.isl_space.specs.Name.{Name}
 use Rattle.isl_expr.specs.declared.tree.Binary.TheVariants.{Gist}
 use Rattle.isl_expr.specs.declared.tree.Prefix.TheVariants.{Sample, Coalesce}
 use Rattle.isl_expr.specs.declared.tree.Stmt.{Stmt}
-use Rattle.isl_expr.specs.declared.tree.Stmt.TheVariants.{Empty, Bind, Show}
+use Rattle.isl_expr.specs.declared.tree.Stmt.TheVariants.{Empty, Bind, Show, Assume}
 use Rattle.isl_expr.specs.declared.tree.Expr.{Expr}
 use Rattle.isl_expr.specs.declared.tree.Expr as e
 use Rattle.isl_kinds.specs.Parts as part
@@ -30,11 +30,13 @@ abbrev pub bindings_of : Stmt → List Stmt
 bindings_of Empty = []
 bindings_of (Bind name expr) = (outermost expr).0
 bindings_of (Show expr) = (outermost expr).0
+bindings_of (Assume set) = []
 
 abbrev pub last_of : Stmt → Stmt
 last_of Empty = Empty
 last_of (Bind name expr) = Bind name (outermost expr).1
 last_of (Show expr) = Show (outermost expr).1
+last_of (Assume set) = Assume set
 
 -- the statements bind the dollar names from this number on, one after another
 abbrev pub BindFrom : ℕ → List Stmt → Type 0
@@ -66,6 +68,7 @@ abbrev pub IsSimple : Stmt → Type 0
 IsSimple Empty = Unit {0}
 IsSimple (Bind name expr) = IsSimpleExpr expr
 IsSimple (Show expr) = IsSimpleExpr expr
+IsSimple (Assume set) = Unit {0}
 
 -- ---- their types
 
@@ -74,6 +77,7 @@ abbrev pub statement_declared : ScopeView → Stmt → List Name
 statement_declared scope Empty = []
 statement_declared scope (Bind name expr) = declared_of scope expr
 statement_declared scope (Show expr) = declared_of scope expr
+statement_declared scope (Assume set) = []
 
 -- the statement has this type, and declares at most so many parameters
 pub record HasType (most : ℕ) (scope : ScopeView) (stmt : Stmt) (t : Option TypeView) : Type 0 where

@@ -306,5 +306,6 @@ pub fn flatten(alloc: Global, stmt: Stmt) -> Result<Vec<SimpleStmt>, AllocError>
             let value = flattening.flattened(expr, Standing::Outermost)?;
             ended_by(flattening, Stmt::Show(value))
         }
+        Stmt::Assume(set) => ended_by(flattening, Stmt::Assume(set)),
     }
 }
