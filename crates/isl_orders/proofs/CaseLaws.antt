@@ -1,20 +1,22 @@
 -- The cases of an order.
 use Rattle.std.proofs.Common.{◌≡◌, ◌↔◌, ◌⊎◌, inl, inr, sym, ap, ◌∙◌, subst, arith, true, false, ℕ, ◌+◌, ℤ, List, [], ◌∷◌}
-use Rattle.std.proofs.Common.{◌++◌, length}
+use Rattle.std.proofs.Common.{◌++◌, ◌<◌, ◌<ℤ◌, get_or, get_or-set_same, length, length-set, pos, replicate, set}
 use Rattle.std.proofs.lemmas.Bool.{cases_lt}
+use Rattle.std.proofs.lemmas.List.{get_or-replicate, length-replicate, take-set-le}
 use Rattle.std.proofs.lemmas.List.Elements.{All-nil, All-push}
+use Rattle.isl_math.proofs.Ring.{linear}
 use Rattle.isl_math.proofs.ListLaws.{Any-first, Any-left, Any-none, Any-one, Any-parts, Any-right}
 use Rattle.isl_piece.specs.declared.system.System.{System}
 use Rattle.isl_piece.specs.System.{HoldsSystem, IsSystemWithin, free_columns}
 use Rattle.isl_blocks.specs.declared.cases.Direction.{Direction}
 use Rattle.isl_blocks.specs.declared.cases.Direction.TheVariants.{Before, After}
 use Rattle.isl_blocks.specs.Blocks.{block_at, numbers_of, total, width_at}
-use Rattle.isl_blocks.specs.Cases.{DiffersAt, IsCaseOf}
+use Rattle.isl_blocks.specs.Cases.{DiffersAt, IsBeforeAt, IsCaseOf}
 use Rattle.isl_blocks.proofs.CaseLaws.{before_somewhere}
 use Rattle.isl_blocks.proofs.WidthLaws.{block_long}
 use Rattle.isl_orders.specs.declared.order.Order.{Order}
 use Rattle.isl_orders.specs.declared.order.Order.TheVariants.{Less, UpTo, Greater, DownTo}
-use Rattle.isl_orders.specs.Cases.{AreCasesOf, DiffersBefore}
+use Rattle.isl_orders.specs.Cases.{AreCasesOf, DiffersBefore, IsMet}
 use Rattle.isl_orders.specs.Comparison.{AreOrdered, IsApart, direction_of, has_same}
 
 abbrev IsPlain : System → Type 0
@@ -31,13 +33,28 @@ module _ (widths : List ℕ) (first second : ℕ) where
     within = λ g bits. All-nil (IsSystemWithin g);
     free = All-nil (λ (s : System). free_columns s ≡ total widths);
     definitions = All-nil IsPlain;
+    met = All-nil (IsMet widths first second);
   })
+
+  -- numbers of the two blocks for which P is so
+  abbrev pub Meet : (List ℤ → List ℤ → Type 0) → Type 0
+  Meet P = (xs : List ℤ) × (ys : List ℤ) × (length xs ≡ width_at widths first) × (length ys ≡ width_at widths second) × P xs ys
+
+  case_met : (Q : List ℤ → List ℤ → Type 0) (one : System) → IsCaseOf widths first second Q one → Meet Q → IsMet widths first second one
+  case_met Q one case some = (
+    some.0,
+    some.1,
+    some.2,
+    some.3,
+    λ blocks are own other.
+        (case.points blocks are).1 (subst (λ xs. Q xs (block_at blocks second)) (sym own) (subst (Q some.0) (sym other) some.4)),
+  )
 
   -- one more case
   pub cases_push : (P Q R : List ℤ → List ℤ → Type 0) (cases : List System) (one : System) (pushed : List System)
       → AreCasesOf widths first second P cases → IsCaseOf widths first second Q one → pushed ≡ cases ++ one ∷ []
-      → ((xs ys : List ℤ) → R xs ys ↔ (P xs ys ⊎ Q xs ys)) → AreCasesOf widths first second R pushed
-  cases_push P Q R cases one pushed so_far case e same = rw e (record {
+      → ((xs ys : List ℤ) → R xs ys ↔ (P xs ys ⊎ Q xs ys)) → Meet Q → AreCasesOf widths first second R pushed
+  cases_push P Q R cases one pushed so_far case e same some = rw e (record {
     points = λ blocks are.
         let H : System → Type 0 = λ s. HoldsSystem s (numbers_of blocks) in
         let a = so_far.points blocks are in
@@ -55,6 +72,7 @@ module _ (widths : List ℕ) (first second : ℕ) where
     within = λ g bits. All-push (IsSystemWithin g) cases one (so_far.within g bits) (case.within g bits);
     free = All-push (λ (s : System). free_columns s ≡ total widths) cases one so_far.free case.free;
     definitions = All-push IsPlain cases one so_far.definitions case.definitions;
+    met = All-push (IsMet widths first second) cases one so_far.met (case_met Q one case some);
   })
 
   -- what is the same of two blocks of one width
@@ -73,6 +91,7 @@ module _ (widths : List ℕ) (first second : ℕ) where
     within = all.within;
     free = all.free;
     definitions = all.definitions;
+    met = all.met;
   }
 
 pub differs_more : (direction : Direction) (i : ℕ) (xs ys : List ℤ)
@@ -90,6 +109,36 @@ differs_more direction i xs ys = (
     | inr at ↦ (i, omega arith, at)
   ]),
 )
+
+-- at each of its places some lists of one width first differ so
+pub differs_somewhere : (direction : Direction) (i w n : ℕ) → i < w → w ≡ n
+    → (xs : List ℤ) × (ys : List ℤ) × (length xs ≡ w) × (length ys ≡ n) × DiffersAt direction i xs ys
+differs_somewhere direction i w n low same = by direction
+  where
+    zeros : List ℤ
+    zeros = replicate w (pos 0)
+
+    high : List ℤ
+    high = set zeros i (pos 1)
+
+    zeros_long : length zeros ≡ w
+    zeros_long = length-replicate w (pos 0)
+
+    high_long : length high ≡ w
+    high_long = length-set zeros i (pos 1) ∙ zeros_long
+
+    at : IsBeforeAt i zeros high
+    at =
+        let z = get_or-replicate w i (pos 0) (pos 0) low in
+        let h = get_or-set_same zeros i (pos 1) (pos 0) (let l = zeros_long in omega (arith, l, low)) in
+        record { same = sym (take-set-le i zeros i (pos 1) (omega arith)); less = less (get_or zeros i (pos 0)) (get_or high i (pos 0)) z h }
+      where
+        less : (a b : ℤ) → a ≡ pos 0 → b ≡ pos 1 → a <ℤ b
+        less a b p q = omega (arith, linear)
+
+    by : (d : Direction) → (xs : List ℤ) × (ys : List ℤ) × (length xs ≡ w) × (length ys ≡ n) × DiffersAt d i xs ys
+    by Before = (zeros, high, zeros_long, high_long ∙ same, at)
+    by After = (high, zeros, high_long, zeros_long ∙ same, at)
 
 pub differs_apart : (direction : Direction) (w : ℕ) (xs ys : List ℤ) → length xs ≡ w → length ys ≡ w
     → DiffersBefore direction w xs ys ↔ IsApart direction xs ys

@@ -50,13 +50,13 @@ ordered_form UpTo x y h = elim h [ inl b ↦ b.form | inr e ↦ ap (λ (p : Poin
 ordered_form Greater x y h = sym h.form
 ordered_form DownTo x y h = elim h [ inl b ↦ sym b.form | inr e ↦ sym (ap (λ (p : Point). p.form) e) ]
 
-ordered_numbers : (order : Order) (x y : Point) → IsOrdered order x y → AreOrdered order x.numbers y.numbers
+pub ordered_numbers : (order : Order) (x y : Point) → IsOrdered order x y → AreOrdered order x.numbers y.numbers
 ordered_numbers Less x y h = h.before
 ordered_numbers UpTo x y h = elim h [ inl b ↦ inl b.before | inr e ↦ inr (ap (λ (p : Point). p.numbers) e) ]
 ordered_numbers Greater x y h = h.before
 ordered_numbers DownTo x y h = elim h [ inl b ↦ inl b.before | inr e ↦ inr (sym (ap (λ (p : Point). p.numbers) e)) ]
 
-ordered_points : (order : Order) (x y : Point) → x.form ≡ y.form → AreOrdered order x.numbers y.numbers → IsOrdered order x y
+pub ordered_points : (order : Order) (x y : Point) → x.form ≡ y.form → AreOrdered order x.numbers y.numbers → IsOrdered order x y
 ordered_points Less x y e h = before_form x y e h
 ordered_points UpTo x y e h = elim h [ inl b ↦ inl (before_form x y e b) | inr n ↦ inr (point_same x y e n) ]
 ordered_points Greater x y e h = before_form y x (sym e) h
@@ -75,7 +75,7 @@ formed x y one two never = record {
   };
 }
 
-same_set : (x y : Form) → set_of x ≡ set_of y → x ≡ y
+pub same_set : (x y : Form) → set_of x ≡ set_of y → x ≡ y
 same_set x y e = cc
 
 -- ---- pieces that were made

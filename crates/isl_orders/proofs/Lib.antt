@@ -4,4 +4,5 @@ pub mod CompareLaws
 pub mod LeftLaws
 pub mod PairLaws
 pub mod SystemLaws
+pub mod WholeLaws
 pub mod WideLaws

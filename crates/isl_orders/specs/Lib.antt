@@ -3,6 +3,7 @@ pub mod Cases
 pub mod Comparison
 pub mod Left
 pub mod Ordered
+pub mod Whole
 pub use Rattle.isl_relation.specs.Formed
 pub use Rattle.isl_relation.specs.Orders
 pub use Rattle.isl_relation.specs.Point

@@ -4,7 +4,7 @@ use Rattle.isl_blocks.specs.Cases.{DiffersAt}
 use Rattle.isl_blocks.proofs.WidthLaws.{width_is}
 use Rattle.isl_orders.specs.Cases.{DiffersBefore}
 use Rattle.isl_orders.specs.Comparison.{IsApart}
-use Rattle.isl_orders.proofs.CaseLaws.{cases_as, cases_none, cases_push, differs_apart, differs_more}
+use Rattle.isl_orders.proofs.CaseLaws.{cases_as, cases_none, cases_push, differs_apart, differs_more, differs_somewhere}
 use Rattle.isl_orders.proofs.cases.places_apart.Goals as goal
 
 pub order_case-requires-clause-at : goal.order_case-requires-clause-at
@@ -21,10 +21,13 @@ pub loop-at-preserved : goal.loop-at-preserved
 loop-at-preserved c =
     let d = c.args.direction in
     let i = c.loop-at.at in
+    let w = width_at c.args.widths.now c.args.first in
+    let is = width_is c.args.widths.now c.args.first 0 c.requires.first in
+    let low = c.loop-at-test.true in
     cases_push c.args.widths.now c.args.first c.args.second (DiffersBefore d i) (DiffersAt d i) (DiffersBefore d (i + 1))
     c.loop-at.cases.items
     c.in_ok-order_case.field-0 c.push.new.self.items c.loop-at.invariant c.in_ok-order_case.ensures c.in_ok-push.ensures.items
-    (differs_more d i)
+    (differs_more d i) (differs_somewhere d i w (width_at c.args.widths.now c.args.second) (omega (arith, is, low)) c.requires.same)
 
 pub returns : goal.returns
 returns c =
