@@ -15,7 +15,7 @@ use Rattle.isl_token.specs.Spelling.{Grammar}
 use Rattle.isl_tree.specs.declared.tree.Literal.{Literal}
 use Rattle.isl_text.specs.Literal.{literal_grammar}
 use Rattle.isl_expr.specs.declared.tree.Stmt.{Stmt}
-use Rattle.isl_expr.specs.declared.tree.Stmt.TheVariants.{Empty, Bind, Show}
+use Rattle.isl_expr.specs.declared.tree.Stmt.TheVariants.{Empty, Bind, Show, Assume}
 use Rattle.isl_expr.specs.declared.tree.Prefix.{Prefix as Word}
 use Rattle.isl_expr.specs.declared.tree.Link.{Link}
 use Rattle.isl_expr.specs.declared.tree.Postfix.{Postfix}
@@ -27,6 +27,7 @@ use Rattle.isl_kinds.specs.Parts.{Part, parts_of, parts_of_links, parts_of_postf
 use Rattle.isl_kinds.specs.Typed.{is_dollar}
 use Rattle.isl_flat.specs.Simple.{names_dollar}
 use Rattle.isl_flat.proofs.EachLaws.{Each, each_both, quiet_each, each_Row, each_Post, each_Prefix, each_Any, each_Last}
+use Rattle.isl_pset.specs.PsetGrammar.{pset_grammar}
 use Rattle.isl_stmt.specs.declared.expression.Flow.{Flow}
 use Rattle.isl_stmt.specs.declared.expression.Flow.TheVariants as flow
 use Rattle.isl_stmt.specs.declared.operator.Precedence.{Precedence}
@@ -209,6 +210,9 @@ bind_free : (name : Name) (expr : Expr) → Free name → Inside expr → HasNoD
 unfolding Free
 bind_free name expr free h = record { inside = quiet_is expr h; bound = free }
 
+assume_free : (set : Literal) → HasNoDollar (Assume set)
+assume_free set = record { inside = refl; bound = refl }
+
 show_free : (expr : Expr) → Inside expr → HasNoDollar (Show expr)
 show_free expr h = record { inside = quiet_is expr h; bound = refl }
 
@@ -216,10 +220,12 @@ statement_has : (n : ℕ) → Has HasNoDollar (statement.statement_grammar n)
 statement_has n =
     let inside = expr_has (g.pre n) (pre_has n) in
     let shows = bind_has Inside HasNoDollar _ _ inside (λ expr one. pure_has HasNoDollar (Show expr) (show_free expr one)) in
+    let assumes =
+        bind_has (λ _. Unit {0}) HasNoDollar (pset_grammar n) _ (whatever _) (λ set _. pure_has HasNoDollar (Assume set) (assume_free set)) in
     either_has HasNoDollar _ _ (pure_has HasNoDollar Empty (record { inside = refl; bound = refl })) (either_has HasNoDollar _ _
     (bind_has Free HasNoDollar _ _ variable_has (λ name free. then_has HasNoDollar _ _ (bind_has Inside HasNoDollar _ _ inside
     (λ expr one. pure_has HasNoDollar (Bind name expr) (bind_free name expr free one)))))
-    (either_has HasNoDollar _ _ (then_has HasNoDollar _ _ shows) shows))
+    (either_has HasNoDollar _ _ (then_has HasNoDollar _ _ shows) (either_has HasNoDollar _ _ shows (then_has HasNoDollar _ _ assumes))))
 
 -- What tokens of a text spell has no name that begins with `$`.
 pub tokens_spell_no_dollar : (stmt : Stmt) (ts : List Token) → All IsToken ts → s.Spells statement.statement_grammar stmt ts

@@ -14,7 +14,10 @@ use Rattle.isl_token.proofs.Again.{Stops, Again, Starts, Full, always, again_map
 use Rattle.isl_expr.specs.declared.tree.Expr.{Expr}
 use Rattle.isl_expr.specs.declared.tree.Expr.TheVariants as e
 use Rattle.isl_expr.specs.declared.tree.Stmt.{Stmt}
-use Rattle.isl_expr.specs.declared.tree.Stmt.TheVariants.{Bind, Show}
+use Rattle.isl_expr.specs.declared.tree.Stmt.TheVariants.{Bind, Show, Assume}
+use Rattle.isl_pset.specs.Pset.{pset}
+use Rattle.isl_pset.specs.PsetGrammar.{pset_grammar}
+use Rattle.isl_pset.proofs.PsetLaws.{pset_again}
 use Rattle.isl_stmt.specs.declared.word.Role.{Role}
 use Rattle.isl_stmt.specs.declared.word.Role.TheVariants as role
 use Rattle.isl_stmt.specs.Word as words
@@ -81,6 +84,13 @@ module _ (n depth : ℕ) where
   printed_again : Again (suc n) (r.◌>>◌ r.skip (read.shown (expression n))) (spell.printed (exprs.expression depth)) over
   printed_again = again_said role.Print (λ _. read.shown (expression n)) _ n over (λ _. shown_again)
 
+  set_over : Again n (pset n) (pset_grammar depth) over
+  set_over = record { by = λ a us rest l lt stop. (pset_again n depth).by a us rest l lt refl }
+
+  assumed_again : Again (suc n) (r.◌>>◌ r.skip (read.assumed (pset n))) (spell.assumed (pset_grammar depth)) over
+  unfolding read.assumed
+  assumed_again = again_said role.Assume (λ _. read.assumed (pset n)) _ n over (λ _. again_map n (pset n) (pset_grammar depth) Assume over set_over)
+
   -- ---- which form a text has
 
   bound_seen : (a : Stmt) (us rest : List Token) → spell.bound (exprs.expression depth) a us → read.sees_binding (us ++ rest) ≡ true
@@ -97,15 +107,25 @@ module _ (n depth : ℕ) where
   some_left : (us rest : List Token) → 0 < length us → over (us ++ rest) ≡ false
   some_left us rest lt = not_over (us ++ rest) (omega (arith, length-append us rest))
 
-  by_role : (x : Role) → x ≡ role.Print → (q : Bool) → (is_role x role.Name && q) ≡ false
-  by_role x h q = rw h refl
+  -- a word before a statement is no name
+  no_name : (x y : Role) → x ≡ y → is_role y role.Name ≡ false → (q : Bool) → (is_role x role.Name && q) ≡ false
+  no_name x y h other q = rw (h, other) refl
 
   printed_role : (a : Stmt) (us rest : List Token) → spell.printed (exprs.expression depth) a us → head_role (us ++ rest) ≡ role.Print
   printed_role a us rest l = rw (l.3, l.4.1) l.4.2
 
-  not_print : (x : Role) → begins_expr x ≡ true → is_role x role.Print ≡ false
-  not_print role.Print h = absurd (false≢true h)
-  not_print _ h = refl
+  assumed_role : (a : Stmt) (us rest : List Token) → spell.assumed (pset_grammar depth) a us → head_role (us ++ rest) ≡ role.Assume
+  assumed_role a us rest l = rw (l.3, l.4.1) l.4.2
+
+  -- what begins an expression
+  shown_by : (x : Role) → begins_expr x ≡ true → read.unbound_by (pset n) (expression n) x ≡ read.shown (expression n)
+  shown_by role.Print h = absurd (false≢true h)
+  shown_by role.Assume h = absurd (false≢true h)
+  shown_by _ h = refl
+
+  unbound_is : (x : Role) (ts : List Token) → head_role ts ≡ x
+      → read.unbound (pset n) (expression n) ts ≡ read.unbound_by (pset n) (expression n) x ts
+  unbound_is x ts h = rw h refl
 
   bound_full : Full (spell.bound (exprs.expression depth))
   bound_full = full_bind exprs.variable _ variable_full
@@ -113,14 +133,17 @@ module _ (n depth : ℕ) where
   printed_full : Full (spell.printed (exprs.expression depth))
   printed_full = full_bind (exprs.said role.Print) _ (said_full role.Print)
 
+  assumed_full : Full (spell.assumed (pset_grammar depth))
+  assumed_full = full_bind (exprs.said role.Assume) _ (said_full role.Assume)
+
   shown_full : Full (spell.shown (exprs.expression depth))
   shown_full = full_bind (exprs.expression depth) _ (expression_full depth)
 
   shown_starts : Starts (spell.shown (exprs.expression depth)) at_expr
   shown_starts = starts_bind (exprs.expression depth) _ at_expr (expression_starts depth)
 
-  read_again : (a : Stmt) (us rest : List Token) → spell.statement_with (exprs.expression depth) a us → length us < n → over rest ≡ true
-      → read.statement_with (expression n) (us ++ rest) ≡ Some (a, rest)
+  read_again : (a : Stmt) (us rest : List Token) → spell.statement_with (pset_grammar depth) (exprs.expression depth) a us → length us < n
+      → over rest ≡ true → read.statement_with (pset n) (expression n) (us ++ rest) ≡ Some (a, rest)
   unfolding read.statement_with
   read_again a us rest (inl l) lt stop = rw (l.1, stop, l.0) refl
   read_again a us rest (inr (inl l)) lt stop =
@@ -129,14 +152,20 @@ module _ (n depth : ℕ) where
       let head = printed_role a us rest l in
       rw (
         some_left us rest (printed_full.by a us l),
-        by_role (head_role (us ++ rest)) head
-            (is_kind (second_kind (us ++ rest)) k.Assign),
-        is_role_same (head_role (us ++ rest)) role.Print head,
+        no_name (head_role (us ++ rest)) role.Print head refl (is_kind (second_kind (us ++ rest)) k.Assign),
       )
-      (printed_again.by a us rest l (omega arith) stop)
-  read_again a us rest (inr (inr (inr l))) lt stop =
-      let begins = not_print (head_role (us ++ rest)) (shown_starts.by a us rest l) in
-      rw (some_left us rest (shown_full.by a us l), no_binding_after a us rest l lt stop, begins) (shown_again.by a us rest l lt stop)
+      (unbound_is role.Print (us ++ rest) head ∙ printed_again.by a us rest l (omega arith) stop)
+  read_again a us rest (inr (inr (inr (inr l)))) lt stop =
+      let head = assumed_role a us rest l in
+      rw (
+        some_left us rest (assumed_full.by a us l),
+        no_name (head_role (us ++ rest)) role.Assume head refl (is_kind (second_kind (us ++ rest)) k.Assign),
+      )
+      (unbound_is role.Assume (us ++ rest) head ∙ assumed_again.by a us rest l (omega arith) stop)
+  read_again a us rest (inr (inr (inr (inl l)))) lt stop =
+      let begins = shown_by (head_role (us ++ rest)) (shown_starts.by a us rest l) in
+      rw (some_left us rest (shown_full.by a us l), no_binding_after a us rest l lt stop)
+      (ap (λ (p : Parser Stmt). p (us ++ rest)) begins ∙ shown_again.by a us rest l lt stop)
     where
       no_binding_after : (a : Stmt) (us rest : List Token) → spell.shown (exprs.expression depth) a us → length us < n → over rest ≡ true
           → read.sees_binding (us ++ rest) ≡ false

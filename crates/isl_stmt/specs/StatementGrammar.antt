@@ -2,9 +2,11 @@
 use Rattle.std.specs.Prelude.{ℕ}
 use Rattle.isl_token.specs.declared.token.Kind.TheVariants as k
 use Rattle.isl_token.specs.Spelling.{Grammar, ◌>>=◌, ◌>>◌, ◌∪◌, pure, word}
+use Rattle.isl_tree.specs.declared.tree.Literal.{Literal}
 use Rattle.isl_expr.specs.declared.tree.Expr.{Expr}
 use Rattle.isl_expr.specs.declared.tree.Stmt.{Stmt}
-use Rattle.isl_expr.specs.declared.tree.Stmt.TheVariants.{Empty, Bind, Show}
+use Rattle.isl_expr.specs.declared.tree.Stmt.TheVariants.{Empty, Bind, Show, Assume}
+use Rattle.isl_pset.specs.PsetGrammar.{pset_grammar}
 use Rattle.isl_stmt.specs.declared.word.Role.TheVariants as role
 use Rattle.isl_stmt.specs.ExpressionGrammar.{said, variable, expression}
 
@@ -25,10 +27,17 @@ module _ (expr : Grammar Expr) where
   abbrev pub printed : Grammar Stmt
   printed = said role.Print >> shown
 
-  -- [name ":=" expr | "print" expr | expr]
-  abbrev pub statement_with : Grammar Stmt
-  statement_with = pure Empty ∪ bound ∪ printed ∪ shown
+-- "assume" pset
+abbrev pub assumed : Grammar Literal → Grammar Stmt
+assumed set = do
+  said role.Assume
+  found ← set
+  pure (Assume found)
+
+-- [name ":=" expr | "print" expr | expr | "assume" pset]
+abbrev pub statement_with : Grammar Literal → Grammar Expr → Grammar Stmt
+statement_with set expr = pure Empty ∪ bound expr ∪ printed expr ∪ shown expr ∪ assumed set
 
 -- with brackets nested less deep than the number
 abbrev pub statement_grammar : ℕ → Grammar Stmt
-statement_grammar n = statement_with (expression n)
+statement_grammar n = statement_with (pset_grammar n) (expression n)

@@ -30,7 +30,7 @@ prefixes =
 abbrev pub keywords : List (Text × Role)
 keywords =
     (codes "print", role.Print) ∷ (codes "any", role.Any) ∷ (codes "last", role.Last) ∷ (codes "before", role.Before)
-    ∷ (codes "under", role.Under) ∷ (codes "cross", role.Cross) ∷ (codes "assume", role.Reserved) ∷ (codes "pip", role.Reserved)
+    ∷ (codes "under", role.Under) ∷ (codes "cross", role.Cross) ∷ (codes "assume", role.Assume) ∷ (codes "pip", role.Reserved)
     ∷ (codes "aff", role.Reserved) ∷ []
 
 unfoldable pub prefix_of : Text → Option Prefix

@@ -80,5 +80,6 @@ pub fn statement_is_within(stmt: &Stmt) -> bool
     match stmt {
         Stmt::Empty => true,
         Stmt::Bind(_, expr) | Stmt::Show(expr) => expression_is_within(expr),
+        Stmt::Assume(set) => is_within(set),
     }
 }

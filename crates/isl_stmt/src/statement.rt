@@ -2,23 +2,25 @@
 
 ghost use Rattle.std.specs.Prelude.{◌≡◌};
 ghost use Rattle.isl_token.specs.Reading.{Reads};
+ghost use Rattle.isl_pset.specs.Pset as sets;
 ghost use Rattle.isl_stmt.specs.Expression as expressions;
 ghost use Rattle.isl_stmt.specs.Statement as spec;
 
 use crate::expression::expression;
 use crate::word::{Role, next_role, variable};
 use isl_expr::tree::Stmt;
+use isl_pset::pset::pset;
 use isl_token::{Cursor, Fault, Kind};
 use std::alloc::Global;
 
-/// Whether a name and `:=` come next.
+// Whether a name and `:=` come next.
 fn sees_binding(tokens: &Cursor<'_>) -> bool
     ensures { result ≡ spec.sees_binding tokens.now }
 {
     next_role(tokens) == Role::Name && tokens.second() == Kind::Assign
 }
 
-/// A name, `:=` and an expression.
+// A name, `:=` and an expression.
 #[tactic(auto, unfolding(crate::specs::Statement::bound))]
 fn bound(alloc: Global, tokens: &mut Cursor<'_>, depth: usize) -> Result<Stmt, Fault>
     ensures { Reads (spec.bound (expressions.expression depth) tokens.old) result tokens.new }
@@ -36,14 +38,29 @@ fn shown(alloc: Global, tokens: &mut Cursor<'_>, depth: usize) -> Result<Stmt, F
     Ok(Stmt::Show(expression(alloc, tokens, depth)?))
 }
 
-/// An expression, with `print` before it or without.
-fn answered(alloc: Global, tokens: &mut Cursor<'_>, depth: usize) -> Result<Stmt, Fault>
-    ensures { Reads (spec.answered (expressions.expression depth) tokens.old) result tokens.new }
+// A parameter set, after `assume`.
+#[tactic(auto, unfolding(crate::specs::Statement::assumed))]
+fn assumed(alloc: Global, tokens: &mut Cursor<'_>, depth: usize) -> Result<Stmt, Fault>
+    ensures { Reads (spec.assumed (sets.pset depth) tokens.old) result tokens.new }
 {
-    if next_role(tokens) == Role::Print {
-        tokens.skip();
+    Ok(Stmt::Assume(pset(alloc, tokens, depth)?))
+}
+
+// `assume` and a parameter set, or an expression, with `print` before it or without.
+fn unbound(alloc: Global, tokens: &mut Cursor<'_>, depth: usize) -> Result<Stmt, Fault>
+    ensures { Reads (spec.unbound (sets.pset depth) (expressions.expression depth) tokens.old) result tokens.new }
+{
+    match next_role(tokens) {
+        Role::Print => {
+            tokens.skip();
+            shown(alloc, tokens, depth)
+        }
+        Role::Assume => {
+            tokens.skip();
+            assumed(alloc, tokens, depth)
+        }
+        _ => shown(alloc, tokens, depth),
     }
-    shown(alloc, tokens, depth)
 }
 
 /// A statement whose brackets are nested less than `depth` deep, which is empty where no token is left.
@@ -59,6 +76,6 @@ pub fn statement(alloc: Global, tokens: &mut Cursor<'_>, depth: usize) -> Result
     } else if sees_binding(tokens) {
         bound(alloc, tokens, depth)
     } else {
-        answered(alloc, tokens, depth)
+        unbound(alloc, tokens, depth)
     }
 }

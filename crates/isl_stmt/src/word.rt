@@ -24,6 +24,7 @@ pub enum Role {
     Before,
     Under,
     Cross,
+    Assume,
     /// A word that is no name, and that no statement has.
     Reserved,
 }
@@ -55,7 +56,7 @@ const KEYWORDS: [(&[u8], Role); 9] = [
     (b"before", Role::Before),
     (b"under", Role::Under),
     (b"cross", Role::Cross),
-    (b"assume", Role::Reserved),
+    (b"assume", Role::Assume),
     (b"pip", Role::Reserved),
     (b"aff", Role::Reserved),
 ];
