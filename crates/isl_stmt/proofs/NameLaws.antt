@@ -221,7 +221,7 @@ statement_has n =
     let inside = expr_has (g.pre n) (pre_has n) in
     let shows = bind_has Inside HasNoDollar _ _ inside (λ expr one. pure_has HasNoDollar (Show expr) (show_free expr one)) in
     let assumes =
-        bind_has (λ _. Unit {0}) HasNoDollar (pset_grammar n) _ (whatever _) (λ set _. pure_has HasNoDollar (Assume set) (assume_free set)) in
+    bind_has (λ _. Unit {0}) HasNoDollar (pset_grammar n) _ (whatever _) (λ set _. pure_has HasNoDollar (Assume set) (assume_free set)) in
     either_has HasNoDollar _ _ (pure_has HasNoDollar Empty (record { inside = refl; bound = refl })) (either_has HasNoDollar _ _
     (bind_has Free HasNoDollar _ _ variable_has (λ name free. then_has HasNoDollar _ _ (bind_has Inside HasNoDollar _ _ inside
     (λ expr one. pure_has HasNoDollar (Bind name expr) (bind_free name expr free one)))))
