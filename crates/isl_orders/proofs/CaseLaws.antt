@@ -131,7 +131,10 @@ differs_somewhere direction i w n low same = by direction
     at =
         let z = get_or-replicate w i (pos 0) (pos 0) low in
         let h = get_or-set_same zeros i (pos 1) (pos 0) (let l = zeros_long in omega (arith, l, low)) in
-        record { same = sym (take-set-le i zeros i (pos 1) (omega arith)); less = less (get_or zeros i (pos 0)) (get_or high i (pos 0)) z h }
+        record {
+          same = sym (take-set-le i zeros i (pos 1) (omega arith));
+          less = less (get_or zeros i (pos 0)) (get_or high i (pos 0)) z h;
+        }
       where
         less : (a b : ℤ) → a ≡ pos 0 → b ≡ pos 1 → a <ℤ b
         less a b p q = omega (arith, linear)

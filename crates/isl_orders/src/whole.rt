@@ -82,7 +82,8 @@ fn order_of(
     Ok(Value::from_live(alloc, params, pieces, meter)?)
 }
 
-/// From each element of the shape to those of it that it is less than, with no parameters. No unit is used. (isl manual, lexicographic order)
+/// From each element of the shape to those of it that it is less than, with no parameters. No unit is used. (isl manual, lexicographic
+/// order)
 ///
 /// # Errors
 ///
@@ -109,7 +110,8 @@ pub fn order_lt(alloc: Global, shape: &Rc<Shape>, meter: &mut Meter) -> Result<V
     order_of(alloc, Order::Less, shape, meter)
 }
 
-/// From each element of the shape to those of it that it is not greater than, with no parameters. No unit is used. (isl manual, lexicographic order)
+/// From each element of the shape to those of it that it is not greater than, with no parameters. No unit is used. (isl manual,
+/// lexicographic order)
 ///
 /// # Errors
 ///
