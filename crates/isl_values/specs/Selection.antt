@@ -103,10 +103,11 @@ abbrev pub IsSelectedIn : {m : _} → StateView → Row_of-Expr m → KeptValue 
 IsSelectedIn state end_of-Expr value = ⊥
 IsSelectedIn state (more_of-Expr expr rest) value = IsSelected state expr value
 
--- over the joined parameters of both, the one is the gist of the left value in the context of the right one
+-- of two kept values, over the joined parameters of both, the one is the gist of the left one in the context of the right one
 abbrev pub IsGistOfTwo : KeptValue → KeptValue → KeptValue → Type 0
 IsGistOfTwo left right value =
-    IsGistOf (value_over (joined_names left.params right.params) left) (value_over (joined_names left.params right.params) right) value
+    IsKeptValue left × IsKeptValue right
+    × IsGistOf (value_over (joined_names left.params right.params) left) (value_over (joined_names left.params right.params) right) value
 
 -- the operand of the only operator in a row, where that is `%`
 abbrev pub context_of : {m : _} → Row_of-Link m → Option Expr
