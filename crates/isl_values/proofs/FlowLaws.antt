@@ -40,20 +40,20 @@ listed_answer outcome (Err refusal) why = why
 
 -- both values over the same parameters
 pub flow_values : (outcome : Result Flow OpFault) (own names : List Name) (Last Unsourced : Valuation → Element → Type 0) (limit : ℕ)
-    → own ≡ names → IfOk outcome (λ flow. IsOver own Last flow.last) → IfOk outcome (λ flow. IsOver own Unsourced flow.unsourced)
+    (Plain : Type 0) → own ≡ names → IfOk outcome (λ flow. IsOver own Last flow.last) → IfOk outcome (λ flow. IsOver own Unsourced flow.unsourced)
     → IfOk outcome (λ flow. IsKeptValue flow.last) → IfOk outcome (λ flow. IsKeptValue flow.unsourced)
-    → IfOk outcome (λ flow. HasNoDefinitions flow.last × HasNoDefinitions flow.unsourced)
+    → (Plain → IfOk outcome (λ flow. HasNoDefinitions flow.last × HasNoDefinitions flow.unsourced))
     → IfOk outcome (λ flow. HasNumbersUpTo limit flow.last × HasNumbersUpTo limit flow.unsourced)
-    → IfOk outcome (λ flow. IsValueOf (IsOver own Last) names Last limit flow.last
-    × IsValueOf (IsOver own Unsourced) names Unsourced limit flow.unsourced)
-flow_values (Ok flow) own names Last Unsourced limit same last unsourced kept other plain small = (
+    → IfOk outcome (λ flow. IsValueOf (IsOver own Last) names Last limit Plain flow.last
+    × IsValueOf (IsOver own Unsourced) names Unsourced limit Plain flow.unsourced)
+flow_values (Ok flow) own names Last Unsourced limit Plain same last unsourced kept other plain small = (
   record {
     written = last;
     kept = kept;
     params = last.params ∙ same;
     elements = last.elements;
     numbers = small.0;
-    definitions = plain.0;
+    definitions = λ p. (plain p).0;
   },
   record {
     written = unsourced;
@@ -61,7 +61,7 @@ flow_values (Ok flow) own names Last Unsourced limit same last unsourced kept ot
     params = unsourced.params ∙ same;
     elements = unsourced.elements;
     numbers = small.1;
-    definitions = plain.1;
+    definitions = λ p. (plain p).1;
   },
 )
-flow_values (Err fault) own names Last Unsourced limit same last unsourced kept other plain small = tt
+flow_values (Err fault) own names Last Unsourced limit Plain same last unsourced kept other plain small = tt

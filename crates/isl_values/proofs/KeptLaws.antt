@@ -1,7 +1,7 @@
 -- Values of names and literals.
 use Rattle.std.proofs.Common.{◌≡◌, ◌∙◌, ◌↔◌, inl, refl, sym, ap, subst, ℕ, ℤ, true, false, is_some, List, [], ◌∷◌, ◌++◌, Option, Some, None}
 use Rattle.std.proofs.Common.{option_map}
-use Rattle.std.specs.Prelude.{not, ◌||◌, unsigned_abs, Result, Ok, Err, IfOk, MatchResult}
+use Rattle.std.specs.Prelude.{not, ◌||◌, unsigned_abs}
 use Rattle.std.specs.List.{list_any}
 use Rattle.std.specs.Str.{bytes_eq}
 use Rattle.std.proofs.lemmas.Bool.{false≢true, or_parts, not-false}
@@ -9,8 +9,6 @@ use Rattle.std.proofs.lemmas.List.Elements.{All-head}
 use Rattle.std.proofs.lemmas.List.{append-nil}
 use Rattle.indexmap.specs.IndexSet.{insert_all, insert_key}
 use Rattle.isl_meter.specs.Gauge.{Gauge}
-use Rattle.isl_meter.specs.declared.Cut.{Cut}
-use Rattle.isl_meter.specs.declared.Cut.TheVariants.{NoMemory}
 use Rattle.isl_space.specs.Name.{Name}
 use Rattle.isl_space.specs.Names.{AreDistinct}
 use Rattle.isl_space.specs.Valuation.{Valuation}
@@ -22,8 +20,7 @@ use Rattle.isl_tree.specs.declared.tree.Literal.{Literal}
 use Rattle.isl_tree.specs.Literal.{LiteralHas}
 use Rattle.isl_tree.specs.Plain.{is_plain}
 use Rattle.isl_tree.specs.Known.{literal_is_known}
-use Rattle.isl_union.specs.Live.{AreLiveOf}
-use Rattle.isl_lower.specs.Value.{value_lowered, IsLowered, IsWellFormedLiteral}
+use Rattle.isl_lower.specs.Value.{IsLowered, IsWellFormedLiteral}
 use Rattle.isl_expr.specs.declared.tree.Expr.{Expr, Row', Prefix', Any', Last', Post'}
 use Rattle.isl_expr.specs.declared.tree.Expr as e
 use Rattle.isl_kinds.specs.Parts.{parts_of}
@@ -70,7 +67,7 @@ module _ (state : StateView) (name : Name) (kept : Kept) (there : kept_of state 
           (subst AreDistinct names sound.params.distinct));
       elements = selects_there;
       numbers = fits name kept there part;
-      definitions = plain;
+      definitions = λ none. plain;
     }
 
 pub name_makes : (state : StateView) (part : ListPart) (limit : ℤ) (expr : Expr) (name : Name) (kept : Kept) (value : KeptValue)
@@ -95,7 +92,7 @@ name_both state limit expr name kept list is there are fits = (
 -- ---- a literal
 pub literal_makes : (state : StateView) (part : ListPart) (limit : ℤ) (expr : Expr) (literal : Literal) (value : KeptValue)
     → expr ≡ e.Literal literal → IsWellFormedLiteral literal
-    → IsValueOf (IsLowered literal) literal.params (LiteralHas literal) (unsigned_abs limit) value
+    → IsValueOf (IsLowered literal) literal.params (LiteralHas literal) (unsigned_abs limit) (is_plain literal ≡ true) value
     → IsValueAt state part expr (unsigned_abs limit) value
 literal_makes state part limit expr literal value is formed made =
     subst (λ (x : Expr). IsValueAt state part x (unsigned_abs limit) value) (sym is)
@@ -105,41 +102,14 @@ literal_makes state part limit expr literal value is formed made =
       params = made.params ∙ sym (declared_itself literal.params formed.params.distinct);
       elements = made.elements;
       numbers = made.numbers;
-      definitions = made.definitions;
+      definitions = λ none. absurd (false≢true (sym none));
     })
 
 pub literal_value : (limit : ℕ) (literal : Literal) (value : KeptValue) → IsLowered literal value → IsKeptValue value
-    → HasNoDefinitions value
-    → HasNumbersUpTo limit value → IsValueOf (IsLowered literal) literal.params (LiteralHas literal) limit value
+    → (is_plain literal ≡ true → HasNoDefinitions value) → HasNumbersUpTo limit value
+    → IsValueOf (IsLowered literal) literal.params (LiteralHas literal) limit (is_plain literal ≡ true) value
 literal_value limit literal value is kept plain small =
     record { written = is; kept = kept; params = is.params; elements = is.elements; numbers = small; definitions = plain }
-
--- without its definitions it is still what the literal writes
-pub flat_lowered : (literal : Literal) (value flat : KeptValue) → IsLowered literal value
-    → (is_plain literal ≡ true → HasNoDefinitions value) → flat.params ≡ value.params
-    → ((valuation : Valuation) (element : Element) → Has flat valuation element ↔ Has value valuation element)
-    → (HasNoDefinitions value → flat ≡ value) → IsLowered literal flat
-flat_lowered literal value flat is none params same itself = record {
-  params = params ∙ is.params;
-  elements = λ valuation element. (
-    (λ h. (is.elements valuation element).0 ((same valuation element).0 h)),
-    (λ h. (same valuation element).1 ((is.elements valuation element).1 h)),
-  );
-  plain =
-      λ plain. subst (λ (v : KeptValue). AreLiveOf literal.params (value_lowered literal).pieces v.pieces) (sym (itself (none plain)))
-      (is.plain plain);
-}
-
--- the same of what the call leaves that makes it
-pub flat_result : (literal : Literal) (value : KeptValue) (g h : Gauge) (result : Result KeptValue Cut) → IsLowered literal value
-    → (is_plain literal ≡ true → HasNoDefinitions value)
-    → IfOk result (λ flat. flat.params ≡ value.params) → ((valuation : Valuation) (element : Element)
-    → IfOk result (λ flat. Has flat valuation element ↔ Has value valuation element))
-    → (HasNoDefinitions value → MatchResult result (λ flat. flat ≡ value) (λ cut. cut ≡ NoMemory) × (h ≡ g))
-    → IfOk result (IsLowered literal)
-flat_result literal value g h (Ok flat) is none params same itself =
-    flat_lowered literal value flat is none params same (λ plain. (itself plain).0)
-flat_result literal value g h (Err cut) is none params same itself = tt
 
 pub literal_paid : (expr : Expr) (literal : Literal) (g h : Gauge) → expr ≡ e.Literal literal → IsPaid true g h
     → IsPaid (list_any uses_units (parts_of expr)) g h

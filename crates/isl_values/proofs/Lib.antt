@@ -16,3 +16,5 @@ pub mod PostfixLaws
 pub mod OperandLaws
 pub mod DepthLaws
 pub mod ThreeLaws
+pub mod CutLaws
+pub mod FlatLaws

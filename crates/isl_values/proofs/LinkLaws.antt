@@ -3,7 +3,7 @@ use Rattle.std.proofs.Common.{◌≡◌, ◌∙◌, inl, inr, ◌<◌, ◌+◌, 
 use Rattle.std.specs.Prelude.{unsigned_abs}
 use Rattle.isl_meter.specs.Gauge.{Gauge, limit_of}
 use Rattle.isl_space.specs.Name.{Name}
-use Rattle.isl_union.specs.KeptValue.{KeptValue, Has}
+use Rattle.isl_union.specs.KeptValue.{KeptValue, Has, HasNoDefinitions}
 use Rattle.isl_text.specs.declared.refusal.Refusal.{Refusal}
 use Rattle.isl_expr.specs.declared.tree.Link.{Link}
 use Rattle.isl_operators.specs.Operations.{OperatorHas}
@@ -29,7 +29,8 @@ use Rattle.isl_values.proofs.ValueLaws.{IsMade, work, value_before, paid_after, 
 pub record IsRowTo (state : StateView) (links : List Link) (first : KeptValue) (n : ℕ) (g h : Gauge) (value : KeptValue) : Type 0 where
   pub made :
       IsValueOf (IsWorkedRow state first (take n links)) (declared_of_row (scope_of state) first.params (take n links))
-      (λ v x. RowSelects state v (Has first v) (take n links) x) (unsigned_abs (limit_of g)) value
+      (λ v x. RowSelects state v (Has first v) (take n links) x) (unsigned_abs (limit_of g))
+      (HasNoDefinitions first × (work (parts_of_links links) ≡ false)) value
   pub paid : IsPaid (work (parts_of_links links)) g h
   pub goes_on : GoesOn (EndsRow state first.params (Has first) (take n links))
 
@@ -53,7 +54,8 @@ module _ (state : StateView) (links : List Link) (i : ℕ) (link : Link) (low : 
   abbrev pub IsJoined : KeptValue → KeptValue → Gauge → Gauge → KeptValue → Type 0
   IsJoined left right g h value =
       IsValueOf (λ made. IsOperatorOf link.operator left right made) (joined_names left.params right.params)
-      (λ v x. OperatorHas link.operator (Has left v) (Has right v) x) (unsigned_abs (limit_of g)) value
+      (λ v x. OperatorHas link.operator (Has left v) (Has right v) x) (unsigned_abs (limit_of g))
+      (HasNoDefinitions left × HasNoDefinitions right) value
       × IsPaid (operator_works link.operator) g h
 
   abbrev pub JoinEnds : KeptValue → KeptValue → End → Type 0
@@ -113,7 +115,7 @@ module _ (state : StateView) (links : List Link) (i : ℕ) (link : Link) (low : 
               elements = λ v x. row_more state v (Has first v) (Has left v) (Has right v) (Has made v) links i link low is
                   (before.made.elements v) (behind.0.elements v) (joins.0.elements v) x;
               numbers = joins.0.numbers;
-              definitions = joins.0.definitions;
+              definitions = λ plain. joins.0.definitions (before.made.definitions plain, behind.0.definitions (with_operand plain.1).1);
             });
         paid = paid_after Works Works (operator_works link.operator) g k m with_operator later joins.1;
         goes_on = row_goes_more state first.params (Has first) links i link low is before.goes_on

@@ -3,7 +3,7 @@ use Rattle.std.proofs.Common.{◌≡◌, ◌∙◌, inl, inr, Bool, false, List,
 use Rattle.std.specs.Prelude.{unsigned_abs}
 use Rattle.isl_meter.specs.Gauge.{Gauge, limit_of}
 use Rattle.isl_space.specs.Name.{Name}
-use Rattle.isl_union.specs.KeptValue.{KeptValue, Has}
+use Rattle.isl_union.specs.KeptValue.{KeptValue, Has, HasNoDefinitions}
 use Rattle.isl_text.specs.declared.refusal.Refusal.{Refusal}
 use Rattle.isl_expr.specs.declared.tree.Prefix.{Prefix as Word}
 use Rattle.isl_expr.specs.declared.tree.Link.{Link}
@@ -75,7 +75,8 @@ module _ (state : StateView) (expr first : Expr) (links : List Link) (is : expr 
     abbrev IsJoinedPast : KeptValue → Type 0
     IsJoinedPast value =
         IsValueOf (IsWorkedRow state left links) (declared_of_row (scope_of state) left.params links)
-        (λ v x. RowSelects state v (Has left v) links x) (unsigned_abs (limit_of h)) value
+        (λ v x. RowSelects state v (Has left v) links x) (unsigned_abs (limit_of h))
+        (HasNoDefinitions left × (work (parts_of_links links) ≡ false)) value
         × IsPaid (work (parts_of_links links)) h k
 
     pub row_made : (part : ListPart) (made : KeptValue) → IsJoinedPast made → IsMadeAt state part expr g k made
@@ -94,7 +95,8 @@ module _ (state : StateView) (expr first : Expr) (links : List Link) (is : expr 
                 (turned (SelectsAt state part (Row first links) v) (RowSelects state v (Selects state first v) links)
                 (selects_of-Row state v part first links)));
             numbers = all.0.numbers;
-            definitions = all.0.definitions;
+            definitions = λ none. let quiet = row_quiet (scope_of state) uses_units first links none in
+                all.0.definitions (before.0.definitions quiet.0, quiet.1);
           })),
       paid_after RowWorks (work (parts_of first)) (work (parts_of_links links)) g h k row_none before.1 all.1,
     )
@@ -163,7 +165,8 @@ module _ (state : StateView) (expr operand : Expr) (postfixes : List Postfix) (i
     abbrev IsPassed : KeptValue → Type 0
     IsPassed value =
         IsValueOf (IsWorkedPost state left postfixes) (declared_of_post (scope_of state) left.params postfixes)
-        (λ v x. PostSelects state v (Has left v) postfixes x) (unsigned_abs (limit_of h)) value
+        (λ v x. PostSelects state v (Has left v) postfixes x) (unsigned_abs (limit_of h))
+        (HasNoDefinitions left × (work (parts_of_postfixes postfixes) ≡ false)) value
         × IsPaid (work (parts_of_postfixes postfixes)) h k
 
     pub post_made : (part : ListPart) (made : KeptValue) → IsPassed made → IsMadeAt state part expr g k made
@@ -184,7 +187,8 @@ module _ (state : StateView) (expr operand : Expr) (postfixes : List Postfix) (i
                 (PostSelects state v (Taken state operand postfixes v) postfixes)
                 (selects_of-Post state v part operand postfixes)));
             numbers = all.0.numbers;
-            definitions = all.0.definitions;
+            definitions = λ none. let quiet = post_quiet (scope_of state) uses_units operand postfixes none in
+                all.0.definitions (before.0.definitions quiet.0, quiet.1);
           })),
       paid_after PostWorks (work (parts_of operand)) (work (parts_of_postfixes postfixes)) g h k post_none before.1 all.1,
     )
@@ -254,7 +258,8 @@ module _ (state : StateView) (expr : Expr) (word : Word) (operand : Expr) (is : 
     own = subst (IsMade state operand g h) (sym same) made_of
 
     pub word_made : (part : ListPart) → is_foreign (prefix word) ≡ false → (made : KeptValue)
-        → IsValueOf (λ made. IsWordOf word one made) one.params (WordHas word one.params (Has one)) (unsigned_abs (limit_of h)) made
+        → IsValueOf (λ made. IsWordOf word one made) one.params (WordHas word one.params (Has one)) (unsigned_abs (limit_of h))
+        (HasNoDefinitions one) made
         × IsPaid (word_works word) h k
         → IsMadeAt state part expr g k made
     word_made part supported made all =
@@ -275,7 +280,7 @@ module _ (state : StateView) (expr : Expr) (word : Word) (operand : Expr) (is : 
                     (turned (SelectsAt state part (Prefix word operand) v) (WordHas word names (Selects state operand) v)
                     (selects_of-Prefix state v part word operand)));
                 numbers = all.0.numbers;
-                definitions = all.0.definitions;
+                definitions = λ none. all.0.definitions (own.0.definitions (word_quiet (scope_of state) uses_units word operand none).1);
               })),
           paid_after WordWorks (work (parts_of operand)) (word_works word) g h k word_none own.1 all.1,
         )

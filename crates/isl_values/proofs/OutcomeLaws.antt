@@ -27,14 +27,14 @@ use Rattle.isl_values.proofs.ValueLaws.{paid_same, unmade_memory}
 -- ---- the value of an outcome
 module _ {F : Type 0} where
   pub outcome_value : (outcome : Result KeptValue F) (Exact : KeptValue → Type 0) (own names : List Name)
-      (Holds : Valuation → Element → Type 0) (limit : ℕ) → own ≡ names
+      (Holds : Valuation → Element → Type 0) (limit : ℕ) (Plain : Type 0) → own ≡ names
       → IfOk outcome Exact → IfOk outcome IsKeptValue → IfOk outcome (λ value. value.params ≡ own)
       → ((v : Valuation) (x : Element) → IfOk outcome (λ value. Has value v x ↔ Holds v x))
-      → IfOk outcome HasNoDefinitions → IfOk outcome (HasNumbersUpTo limit)
-      → IfOk outcome (IsValueOf Exact names Holds limit)
-  outcome_value (Ok made) Exact own names Holds limit same written kept params elements plain small =
+      → (Plain → IfOk outcome HasNoDefinitions) → IfOk outcome (HasNumbersUpTo limit)
+      → IfOk outcome (IsValueOf Exact names Holds limit Plain)
+  outcome_value (Ok made) Exact own names Holds limit Plain same written kept params elements plain small =
       record { written = written; kept = kept; params = params ∙ same; elements = elements; numbers = small; definitions = plain }
-  outcome_value (Err fault) Exact own names Holds limit same written kept params elements plain small = tt
+  outcome_value (Err fault) Exact own names Holds limit Plain same written kept params elements plain small = tt
 
   -- ---- what is answered for an outcome
   -- an answer is the outcome's value, shared, or its values; memory may end

@@ -33,7 +33,8 @@ use Rattle.isl_values.proofs.ValueLaws.{IsMade, work, value_before, paid_same, p
 abbrev pub IsFollowed : StateView → Postfix → KeptValue → Gauge → Gauge → KeptValue → Type 0
 IsFollowed state postfix left g h value =
     IsValueOf (IsPostfixOf state postfix left) (declared_past (scope_of state) left.params postfix)
-    (λ v x. PostfixHas state v (Has left v) postfix x) (unsigned_abs (limit_of g)) value
+    (λ v x. PostfixHas state v (Has left v) postfix x) (unsigned_abs (limit_of g))
+    (HasNoDefinitions left × (work (parts_of_postfix postfix) ≡ false)) value
     × IsPaid (work (parts_of_postfix postfix)) g h
 
 -- why it makes none
@@ -44,7 +45,8 @@ IsWhyNotFollowed state postfix left g h refusal =
 -- ---- the inverse
 module _ (state : StateView) (postfix : Postfix) (left : KeptValue) (g h : Gauge) (is : postfix ≡ Inverse) (kept : h ≡ g) where
   pub inverse_followed : (value : KeptValue)
-      → IsValueOf (λ made. made ≡ inverse_of left) left.params (λ v x. Has left v (inverse_element x)) (unsigned_abs (limit_of g)) value
+      → IsValueOf (λ made. made ≡ inverse_of left) left.params (λ v x. Has left v (inverse_element x)) (unsigned_abs (limit_of g))
+      (HasNoDefinitions left) value
       → IsFollowed state postfix left g h value
   inverse_followed value made =
       subst (λ (p : Postfix). IsFollowed state p left g h value) (sym is) (
@@ -54,7 +56,7 @@ module _ (state : StateView) (postfix : Postfix) (left : KeptValue) (g h : Gauge
           params = made.params;
           elements = made.elements;
           numbers = made.numbers;
-          definitions = made.definitions;
+          definitions = λ plain. made.definitions plain.0;
         },
         paid_same false g h kept,
       )
@@ -70,8 +72,8 @@ module _ (state : StateView) (postfix : Postfix) (left : KeptValue) (g h : Gauge
 -- ---- an element of a list, which the operand was taken at
 module _ (state : StateView) (postfix : Postfix) (number : ℤ) (left : KeptValue) (g : Gauge) (is : postfix ≡ Item number) where
   pub item_followed : (value : KeptValue) → value ≡ left → IsKeptValue left → HasNumbersUpTo (unsigned_abs (limit_of g)) left
-      → HasNoDefinitions left → IsFollowed state postfix left g g value
-  item_followed value same kept small plain =
+      → IsFollowed state postfix left g g value
+  item_followed value same kept small =
       subst (λ (p : Postfix). IsFollowed state p left g g value) (sym is)
       (subst (λ (v : KeptValue). IsFollowed state (Item number) left g g v) (sym same) (
         record {
@@ -80,7 +82,7 @@ module _ (state : StateView) (postfix : Postfix) (number : ℤ) (left : KeptValu
           params = refl;
           elements = λ v. itself (Has left v);
           numbers = small;
-          definitions = plain;
+          definitions = λ plain. plain.0;
         },
         paid_same false g g refl,
       ))
@@ -116,7 +118,7 @@ module _ (state : StateView) (postfix : Postfix) (expr : Expr) (is : postfix ≡
 
     pub application_followed : (value : KeptValue)
         → IsValueOf (λ made. IsApplicationOf left one made) (joined_names left.params one.params)
-        (λ v x. ApplicationHas (Has left v) (Has one v) x) (unsigned_abs (limit_of h)) value
+        (λ v x. ApplicationHas (Has left v) (Has one v) x) (unsigned_abs (limit_of h)) (HasNoDefinitions left × HasNoDefinitions one) value
         × IsPaid true h k
         → IsFollowed state postfix left g k value
     application_followed value made =
@@ -132,7 +134,7 @@ module _ (state : StateView) (postfix : Postfix) (expr : Expr) (is : postfix ≡
                     (same_application (Has left v) (Has left v) (Has one v) (λ x. Selects state expr v x) (itself (Has left v))
                     (own.0.elements v));
                 numbers = made.0.numbers;
-                definitions = made.0.definitions;
+                definitions = λ plain. let none : true ≡ false = plain.1 in absurd (let no : ⊥ = cc in no);
               }),
           paid_after true (work (parts_of expr)) true g h k (λ none. absurd (let no : ⊥ = cc in no)) own.1 made.1,
         )
@@ -168,7 +170,8 @@ pub record IsPostTo (state : StateView) (postfixes : List Postfix) (first : Kept
     : Type 0 where
   pub made :
       IsValueOf (IsWorkedPost state first (take n postfixes)) (declared_of_post (scope_of state) first.params (take n postfixes))
-      (λ v x. PostSelects state v (Has first v) (take n postfixes) x) (unsigned_abs (limit_of g)) value
+      (λ v x. PostSelects state v (Has first v) (take n postfixes) x) (unsigned_abs (limit_of g))
+      (HasNoDefinitions first × (work (parts_of_postfixes postfixes) ≡ false)) value
   pub paid : IsPaid (work (parts_of_postfixes postfixes)) g h
   pub goes_on : GoesOn (EndsPost state first.params (Has first) (take n postfixes))
 
@@ -215,7 +218,7 @@ module _ (state : StateView) (postfixes : List Postfix) (i : ℕ) (postfix : Pos
             elements = λ v. post_more state v (Has first v) (Has left v) (Has made v) postfixes i postfix low is (before.made.elements v)
                 (one.0.elements v);
             numbers = one.0.numbers;
-            definitions = one.0.definitions;
+            definitions = λ plain. one.0.definitions (before.made.definitions plain, (with_postfix plain.1).1);
           });
       paid = paid_after Works Works (work (parts_of_postfix postfix)) g h k with_postfix before.paid one.1;
       goes_on = post_goes_more state first.params (Has first) postfixes i postfix low is before.goes_on

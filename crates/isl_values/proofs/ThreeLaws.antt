@@ -35,7 +35,7 @@ use Rattle.isl_values.specs.Worked.{Dependence, IsWorked, IsWorkedAt, PartHas}
 use Rattle.isl_values.specs.Selection.{Selects, SelectsAt}
 use Rattle.isl_values.specs.Ends.{End, DependenceEnds, Ends, FirstEnds, GoesOn}
 use Rattle.isl_values.specs.Made.{IsSoundExpr, IsPaid, IsWhyUnworked}
-use Rattle.isl_values.specs.Three.{AreBothOf, AreMade, AreOfThree, IsOfThree, IsPlainThree, IsValueAt, IsWhole, names_of_accesses, OperandsEnd, ThreeEnd}
+use Rattle.isl_values.specs.Three.{AreBothOf, AreKeptWithin, AreMade, AreOfThree, IsOfThree, IsValueAt, IsWhole, names_of_accesses, OperandsEnd, ThreeEnd}
 use Rattle.isl_values.proofs.SameLaws.{DependsOnElements, Same, same_part, same_three, same_trans, turned}
 use Rattle.isl_values.proofs.RowLaws.{selects_of-Any, selects_of-Last}
 use Rattle.isl_values.proofs.WorkedLaws.{worked_of-Any, worked_of-Last}
@@ -98,12 +98,12 @@ module _ (state : StateView) (source sink schedule : Expr) where
             (goes_both (Ends state sink) (Ends state schedule) second_goes third_goes)
 
 -- what is made of them asks no more
-pub plain_three : (state : StateView) (source sink schedule : Expr) (g h : Gauge) (three : Accesses)
-    → AreMade state source sink schedule (unsigned_abs (limit_of g)) three → IsCharged g h → IsPlainThree (unsigned_abs (limit_of h)) three
-plain_three state source sink schedule g h three made charged = record {
-  source = (made.first.kept, numbers_later g h three.source.value charged made.first.numbers, made.first.definitions);
-  sink = (made.second.kept, numbers_later g h three.sink.value charged made.second.numbers, made.second.definitions);
-  schedule = (made.third.kept, numbers_later g h three.schedule.value charged made.third.numbers, made.third.definitions);
+pub three_within : (state : StateView) (source sink schedule : Expr) (g h : Gauge) (three : Accesses)
+    → AreMade state source sink schedule (unsigned_abs (limit_of g)) three → IsCharged g h → AreKeptWithin (unsigned_abs (limit_of h)) three
+three_within state source sink schedule g h three made charged = record {
+  source = (made.first.kept, numbers_later g h three.source.value charged made.first.numbers);
+  sink = (made.second.kept, numbers_later g h three.sink.value charged made.second.numbers);
+  schedule = (made.third.kept, numbers_later g h three.schedule.value charged made.third.numbers);
 }
 
 -- the same three values
@@ -219,7 +219,7 @@ module _ (state : StateView) (at : ListPart) (expr source sink schedule : Expr) 
             (turned (SelectsAt state at expr v) (Depends (Selects state source v) (Selects state sink v) (Selects state schedule v))
             (of.selects v)));
         numbers = made.0.numbers;
-        definitions = made.0.definitions;
+        definitions = λ none. working none;
       }),
       paid_after (work (parts_of expr)) true true g h k working (paid_works g h charged) made.1,
     )

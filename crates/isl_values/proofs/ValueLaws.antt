@@ -29,11 +29,11 @@ same_limit g h charged = ap limit_of charged.same
 pub fits_later : (g h : Gauge) (state : StateView) → IsCharged g h → Fits (limit_of g) state → Fits (limit_of h) state
 fits_later g h state charged fits = subst (λ (z : ℤ). Fits z state) (sym (same_limit g h charged)) fits
 
-pub value_before : (g h : Gauge) (Exact : KeptValue → Type 0) (params : List Name) (Holds : Valuation → Element → Type 0)
+pub value_before : {Plain : Type 0} (g h : Gauge) (Exact : KeptValue → Type 0) (params : List Name) (Holds : Valuation → Element → Type 0)
     (value : KeptValue) → IsCharged g h
-    → IsValueOf Exact params Holds (unsigned_abs (limit_of h)) value → IsValueOf Exact params Holds (unsigned_abs (limit_of g)) value
-value_before g h Exact params Holds value charged made =
-    subst (λ (z : ℤ). IsValueOf Exact params Holds (unsigned_abs z) value) (same_limit g h charged) made
+    → IsValueOf Exact params Holds (unsigned_abs (limit_of h)) Plain value → IsValueOf Exact params Holds (unsigned_abs (limit_of g)) Plain value
+value_before {Plain} g h Exact params Holds value charged made =
+    subst (λ (z : ℤ). IsValueOf Exact params Holds (unsigned_abs z) Plain value) (same_limit g h charged) made
 
 pub numbers_later : (g h : Gauge) (value : KeptValue) → IsCharged g h → HasNumbersUpTo (unsigned_abs (limit_of g)) value
     → HasNumbersUpTo (unsigned_abs (limit_of h)) value
@@ -129,10 +129,10 @@ abbrev pub IsMade : StateView → Expr → Gauge → Gauge → KeptValue → Typ
 IsMade state expr g h value = IsMadeAt state First expr g h value
 
 -- ---- what calls make
-pub value_same : (made value : KeptValue) (Exact : KeptValue → Type 0) (names : List Name) (Holds : Valuation → Element → Type 0)
-    (limit : ℕ) → value ≡ made
-    → IsValueOf Exact names Holds limit made → IsValueOf Exact names Holds limit value
-value_same made value Exact names Holds limit same is = subst (IsValueOf Exact names Holds limit) (sym same) is
+pub value_same : {Plain : Type 0} (made value : KeptValue) (Exact : KeptValue → Type 0) (names : List Name)
+    (Holds : Valuation → Element → Type 0) (limit : ℕ) → value ≡ made
+    → IsValueOf Exact names Holds limit Plain made → IsValueOf Exact names Holds limit Plain value
+value_same {Plain} made value Exact names Holds limit same is = subst (IsValueOf Exact names Holds limit Plain) (sym same) is
 
 -- what an answer has, and what a refusal has
 pub match_map : {A E : Type 0} (r : Result A E) (P Q : A → Type 0) (R S : E → Type 0) → ((a : A) → P a → Q a) → ((e : E) → R e → S e)

@@ -76,16 +76,16 @@ IsSoundPostfix scope Inverse = Unit {0}
 IsSoundPostfix scope (Apply argument) = IsSoundExpr scope argument
 IsSoundPostfix scope (Item number) = Unit {0}
 
--- The kept value is one of these, with these parameters, these elements at each valuation, no number above the limit, and no column
--- that is defined.
+-- The kept value is one of these, with these parameters, these elements at each valuation, and no number above the limit; where this is so,
+-- none of its columns is defined.
 pub record IsValueOf (Exact : KeptValue → Type 0) (names : List Name) (Elements : Valuation → Element → Type 0) (limit : ℕ)
-    (value : KeptValue) : Type 0 where
+    (Plain : Type 0) (value : KeptValue) : Type 0 where
   pub written : Exact value
   pub kept : IsKeptValue value
   pub params : value.params ≡ names
   pub elements : (valuation : Valuation) (element : Element) → Has value valuation element ↔ Elements valuation element
   pub numbers : HasNumbersUpTo limit value
-  pub definitions : HasNoDefinitions value
+  pub definitions : Plain → HasNoDefinitions value
 
 -- ---- units and cuts
 

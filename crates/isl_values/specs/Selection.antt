@@ -10,8 +10,10 @@ use Rattle.isl_relation.specs.Flow.{AnyHas}
 use Rattle.isl_gist.specs.Gist.{value_over, IsGistOf}
 use Rattle.isl_coalesce.specs.Coalesced.{IsCoalesced}
 use Rattle.isl_tree.specs.Literal.{LiteralHas}
+use Rattle.isl_expr.specs.declared.tree.Binary.{Binary}
 use Rattle.isl_expr.specs.declared.tree.Binary.TheVariants as b
 use Rattle.isl_expr.specs.declared.tree.Link.{Link}
+use Rattle.isl_expr.specs.declared.tree.Prefix.{Prefix}
 use Rattle.isl_expr.specs.declared.tree.Prefix.TheVariants as p
 use Rattle.isl_expr.specs.declared.tree.Postfix.{Postfix, Inverse, Apply, Item}
 use Rattle.isl_expr.specs.declared.tree.Expr.{Expr, Row', Prefix', Any', Last', Post', Row_of-Expr, end_of-Expr, more_of-Expr}
@@ -25,7 +27,7 @@ use Rattle.isl_expr.specs.declared.tree.ValueKind.TheVariants.{List as Pair}
 use Rattle.isl_values.specs.declared.list.ListPart.{ListPart}
 use Rattle.isl_values.specs.declared.list.ListPart.TheVariants.{First, Second}
 use Rattle.isl_values.specs.State.{Kept, StateView, Moment, kept_of, scope_of, value_at, HasNumbersUpTo, Everywhere}
-use Rattle.isl_values.specs.Worked.{IsWorkedAt, PartHas, part_taken}
+use Rattle.isl_values.specs.Worked.{IsWrittenAt, PartHas, part_taken}
 
 -- what a name stands for has the element in this part
 abbrev pub KeptHas : ListPart → Option Kept → Valuation → Element → Type 0
@@ -90,10 +92,10 @@ PostSelects state valuation Operand (postfix ∷ postfixes) element =
     PostSelects state valuation (λ x. PostfixHas state valuation Operand postfix x) postfixes element
 
 -- a value with exactly the elements that this part of the expression selects, at every valuation; of the values with these elements it is
--- one that is worked out
+-- one that is worked out, or that without its defined columns
 pub record IsSelectedAt (state : StateView) (part : ListPart) (expr : Expr) (value : KeptValue) : Type 0 where
   pub elements : Everywhere state (λ valuation. (element : Element) → Has value valuation element ↔ SelectsAt state part expr valuation element)
-  pub written : IsWorkedAt state part expr value
+  pub written : IsWrittenAt state part expr value
 
 abbrev pub IsSelected : StateView → Expr → KeptValue → Type 0
 IsSelected state expr value = IsSelectedAt state First expr value
@@ -109,24 +111,67 @@ IsGistOfTwo left right value =
     IsKeptValue left × IsKeptValue right
     × IsGistOf (value_over (joined_names left.params right.params) left) (value_over (joined_names left.params right.params) right) value
 
+-- the operand of `%`
+abbrev pub operand_of_gist : Binary → Expr → Option Expr
+operand_of_gist b.Gist operand = Some operand
+operand_of_gist b.Union operand = None
+operand_of_gist b.Intersection operand = None
+operand_of_gist b.Difference operand = None
+operand_of_gist b.RangeIntersection operand = None
+operand_of_gist b.RangeDifference operand = None
+operand_of_gist b.Cross operand = None
+operand_of_gist b.Join operand = None
+operand_of_gist b.Universal operand = None
+operand_of_gist b.LexLess operand = None
+operand_of_gist b.LexLessEqual operand = None
+operand_of_gist b.LexGreater operand = None
+operand_of_gist b.LexGreaterEqual operand = None
+operand_of_gist b.Equal operand = None
+operand_of_gist b.ProperSubset operand = None
+operand_of_gist b.Subset operand = None
+operand_of_gist b.ProperSuperset operand = None
+operand_of_gist b.Superset operand = None
+
 -- the operand of the only operator in a row, where that is `%`
 abbrev pub context_of : {m : _} → Row_of-Link m → Option Expr
-context_of (more_of-Link b.Gist operand end_of-Link) = Some operand
-context_of _ = None
+context_of end_of-Link = None
+context_of (more_of-Link operator operand end_of-Link) = operand_of_gist operator operand
+context_of (more_of-Link operator operand (more_of-Link next other rest)) = None
 
--- What a value has that is kept of this part of an expression. Of `sample`: one element of a value of its operand, chosen once. Of
--- `coalesce`: the elements of a value of its operand, whose pieces are put together. Of one `%` of two values: the gist of the left one in
--- the context of the right one. Of others what is selected.
+-- What is kept of a word with its operand. Of `sample`: one element of a value of the operand, chosen once. Of `coalesce`: the elements of a
+-- value of the operand, whose pieces are put together. Of others what is selected.
+abbrev pub IsContentOfWord : Prefix → (KeptValue → Type 0) → (KeptValue → Type 0) → KeptValue → Type 0
+IsContentOfWord p.Sample Operand Selected value = (argument : KeptValue) × Operand argument × IsSampleOf argument value
+IsContentOfWord p.Coalesce Operand Selected value =
+    (argument : KeptValue) × Operand argument × IsAnyWordOf p.Coalesce argument value × IsCoalesced argument value
+IsContentOfWord p.Domain Operand Selected value = Selected value
+IsContentOfWord p.Range Operand Selected value = Selected value
+IsContentOfWord p.Deltas Operand Selected value = Selected value
+IsContentOfWord p.Identity Operand Selected value = Selected value
+IsContentOfWord p.Wrap Operand Selected value = Selected value
+IsContentOfWord p.Unwrap Operand Selected value = Selected value
+IsContentOfWord p.Zip Operand Selected value = Selected value
+IsContentOfWord p.DomainMap Operand Selected value = Selected value
+IsContentOfWord p.RangeMap Operand Selected value = Selected value
+IsContentOfWord p.LexMin Operand Selected value = Selected value
+IsContentOfWord p.LexMax Operand Selected value = Selected value
+IsContentOfWord p.Scan Operand Selected value = Selected value
+IsContentOfWord p.Codegen Operand Selected value = Selected value
+
+-- What a value has that is kept of this part of an expression: what is selected; of `sample` and `coalesce` what these make of a value of their
+-- operand; of one `%` of two values the gist of the left one in the context of the right one.
 abbrev pub IsContentOf : StateView → ListPart → Expr → KeptValue → Type 0
-IsContentOf state part (Prefix' p.Sample s operand) value =
-    (argument : KeptValue) × IsSelectedIn state operand argument × IsSampleOf argument value
-IsContentOf state part (Prefix' p.Coalesce s operand) value =
-    (argument : KeptValue) × IsSelectedIn state operand argument × IsAnyWordOf p.Coalesce argument value × IsCoalesced argument value
+IsContentOf state part (e.Name name) value = IsSelectedAt state part (e.Name name) value
+IsContentOf state part (e.Literal literal) value = IsSelectedAt state part (e.Literal literal) value
 IsContentOf state part (Row' s first t links) value =
     MatchOption (context_of links) (IsSelectedAt state part (Row' s first t links) value)
     (λ context. (left : KeptValue) × (right : KeptValue) × IsSelectedIn state first left × IsSelected state context right
     × IsGistOfTwo left right value)
-IsContentOf state part expr value = IsSelectedAt state part expr value
+IsContentOf state part (Prefix' word s operand) value =
+    IsContentOfWord word (λ argument. IsSelectedIn state operand argument) (λ v. IsSelectedAt state part (Prefix' word s operand) v) value
+IsContentOf state part (Any' r source s sink t schedule) value = IsSelectedAt state part (Any' r source s sink t schedule) value
+IsContentOf state part (Last' r source s sink t schedule) value = IsSelectedAt state part (Last' r source s sink t schedule) value
+IsContentOf state part (Post' s operand t postfixes) value = IsSelectedAt state part (Post' s operand t postfixes) value
 
 -- This is kept of a part of an expression: a value of its content, with the parameters that the expression declares and numbers within
 -- the limit, in which no column is defined.

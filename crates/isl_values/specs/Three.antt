@@ -1,29 +1,44 @@
 -- inner: what is worked out of source, sink and schedule, and of both parts of a list.
-use Rattle.std.specs.Prelude.{◌≡◌, ℕ, List}
+use Rattle.std.specs.Prelude.{◌≡◌, ℕ, false, List}
+use Rattle.std.specs.List.{list_any}
 use Rattle.isl_space.specs.Name.{Name}
 use Rattle.isl_union.specs.KeptValue.{KeptValue, Has, HasNoDefinitions, IsKeptValue}
 use Rattle.isl_flow.specs.declared.sources.Flow.{Flow}
 use Rattle.isl_expr.specs.declared.tree.Expr.{Expr}
+use Rattle.isl_kinds.specs.Parts.{parts_of}
 use Rattle.isl_kinds.specs.Typed.{declared_of, joined_names}
-use Rattle.isl_operators.specs.Made.{IsDependenceOf}
+use Rattle.isl_operators.specs.Made.{IsDependenceOf, IsFlatOf}
 use Rattle.isl_values.specs.declared.dependence.Accesses.{Accesses}
 use Rattle.isl_values.specs.declared.list.ListPart.{ListPart}
 use Rattle.isl_values.specs.declared.list.ListPart.TheVariants.{First, Second}
 use Rattle.isl_values.specs.declared.list.ListValue.{ListValue}
 use Rattle.isl_values.specs.State.{Kept, StateView, scope_of, value_at, HasNumbersUpTo}
-use Rattle.isl_values.specs.Worked.{Dependence, IsWorkedAt, PartHas}
+use Rattle.isl_values.specs.Worked.{Dependence, IsWorkedAt, IsWrittenAt, PartHas}
 use Rattle.isl_values.specs.Selection.{SelectsAt}
 use Rattle.isl_values.specs.Ends.{End, DependenceEnds, Ends, FirstEnds}
-use Rattle.isl_values.specs.Made.{IsValueOf}
+use Rattle.isl_values.specs.Made.{uses_units, IsValueOf}
 
--- the value that is worked out of this part of an expression
+-- nothing in the expression uses units
+abbrev pub NothingWorks : Expr → Type 0
+NothingWorks expr = list_any uses_units (parts_of expr) ≡ false
+
+-- the value that is worked out of this part of an expression; where nothing in that uses units, it defines no column
 abbrev pub IsValueAt : StateView → ListPart → Expr → ℕ → KeptValue → Type 0
 IsValueAt state part expr limit value =
-    IsValueOf (IsWorkedAt state part expr) (declared_of (scope_of state) expr) (SelectsAt state part expr) limit value
+    IsValueOf (IsWorkedAt state part expr) (declared_of (scope_of state) expr) (SelectsAt state part expr) limit (NothingWorks expr) value
+
+-- that, or the same without its defined columns, and none is left
+abbrev pub IsFlatAt : StateView → ListPart → Expr → ℕ → KeptValue → Type 0
+IsFlatAt state part expr limit value =
+    IsValueOf (IsWrittenAt state part expr) (declared_of (scope_of state) expr) (SelectsAt state part expr) limit (Unit {0}) value
 
 -- of both parts
 abbrev pub AreBothOf : StateView → Expr → ℕ → ListValue → Type 0
 AreBothOf state expr limit list = IsValueAt state First expr limit list.first.value × IsValueAt state Second expr limit list.second.value
+
+-- the same without defined columns
+abbrev pub AreBothFlat : StateView → Expr → ℕ → ListValue → Type 0
+AreBothFlat state expr limit list = IsFlatAt state First expr limit list.first.value × IsFlatAt state Second expr limit list.second.value
 
 -- what is worked out of the first part is worked out of the second one too, as of all that is no list
 abbrev pub IsWhole : StateView → Expr → Type 0
@@ -41,6 +56,13 @@ pub record AreKept (bound : Kept) (list : ListValue) : Type 0 where
 abbrev pub AreOfFlow : ListValue → Flow → Type 0
 AreOfFlow list flow = (list.first.value ≡ flow.last) × (list.second.value ≡ flow.unsourced)
 
+-- the value without its defined columns: it may be kept, and has no number above the limit
+pub record IsMadeFlat (limit : ℕ) (worked value : KeptValue) : Type 0 where
+  pub flat : IsFlatOf worked value
+  pub kept : IsKeptValue value
+  pub numbers : HasNumbersUpTo limit value
+  pub definitions : HasNoDefinitions value
+
 -- ---- source, sink and schedule
 -- those that are worked out of three operands
 pub record AreMade (state : StateView) (source sink schedule : Expr) (limit : ℕ) (three : Accesses) : Type 0 where
@@ -52,14 +74,18 @@ pub record AreMade (state : StateView) (source sink schedule : Expr) (limit : �
 abbrev pub OperandsEnd : StateView → Expr → Expr → Expr → End → Type 0
 OperandsEnd state source sink schedule = FirstEnds (Ends state source) (FirstEnds (Ends state sink) (Ends state schedule))
 
--- what may be kept, with no number above the limit, and no column that is defined
-abbrev pub IsPlainValue : ℕ → KeptValue → Type 0
-IsPlainValue limit value = IsKeptValue value × HasNumbersUpTo limit value × HasNoDefinitions value
+-- what may be kept, with no number above the limit
+abbrev pub IsKeptWithin : ℕ → KeptValue → Type 0
+IsKeptWithin limit value = IsKeptValue value × HasNumbersUpTo limit value
 
-pub record IsPlainThree (limit : ℕ) (three : Accesses) : Type 0 where
-  pub source : IsPlainValue limit three.source.value
-  pub sink : IsPlainValue limit three.sink.value
-  pub schedule : IsPlainValue limit three.schedule.value
+pub record AreKeptWithin (limit : ℕ) (three : Accesses) : Type 0 where
+  pub source : IsKeptWithin limit three.source.value
+  pub sink : IsKeptWithin limit three.sink.value
+  pub schedule : IsKeptWithin limit three.schedule.value
+
+-- none of the three defines a column
+abbrev pub AreAllPlain : Accesses → Type 0
+AreAllPlain three = HasNoDefinitions three.source.value × HasNoDefinitions three.sink.value × HasNoDefinitions three.schedule.value
 
 abbrev pub names_of_accesses : Accesses → List Name
 names_of_accesses three = joined_names (joined_names three.source.value.params three.sink.value.params) three.schedule.value.params
@@ -68,7 +94,7 @@ names_of_accesses three = joined_names (joined_names three.source.value.params t
 abbrev pub IsOfThree : Dependence → Accesses → ℕ → KeptValue → Type 0
 IsOfThree Depends three limit value =
     IsValueOf (IsDependenceOf Depends three.source.value three.sink.value three.schedule.value) (names_of_accesses three)
-    (λ v x. Depends (Has three.source.value v) (Has three.sink.value v) (Has three.schedule.value v) x) limit value
+    (λ v x. Depends (Has three.source.value v) (Has three.sink.value v) (Has three.schedule.value v) x) limit (AreAllPlain three) value
 
 -- both parts of the list that `last` makes of them
 abbrev pub AreOfThree : Accesses → ℕ → ListValue → Type 0

@@ -11,7 +11,7 @@ use Rattle.isl_expr.specs.declared.tree.Expr.{Expr, Row', Prefix', Any', Last', 
 use Rattle.isl_expr.specs.declared.tree.Expr.{Row_of-Link, end_of-Link, more_of-Link, Row_of-Postfix, end_of-Postfix, more_of-Postfix}
 use Rattle.isl_expr.specs.declared.tree.Expr as e
 use Rattle.isl_operators.specs.Operations.{is_operation_word}
-use Rattle.isl_operators.specs.Made.{IsOperatorOf, IsWordOf, IsApplicationOf, IsDependenceOf}
+use Rattle.isl_operators.specs.Made.{IsFlatOf, IsOperatorOf, IsWordOf, IsApplicationOf, IsDependenceOf}
 use Rattle.isl_values.specs.declared.list.ListPart.{ListPart}
 use Rattle.isl_values.specs.declared.list.ListPart.TheVariants.{First, Second}
 use Rattle.isl_values.specs.State.{Kept, StateView, kept_of, part_at, value_at}
@@ -102,3 +102,11 @@ abbrev pub IsWorkedPost : StateView → KeptValue → List Postfix → KeptValue
 IsWorkedPost state operand [] value = value ≡ operand
 IsWorkedPost state operand (postfix ∷ postfixes) value =
     (made : KeptValue) × IsPostfixOf state postfix operand made × IsWorkedPost state made postfixes value
+
+-- ---- without definitions
+-- the value is one that is worked out of this part of an expression, or that without its defined columns
+abbrev pub IsWrittenAt : StateView → ListPart → Expr → KeptValue → Type 0
+IsWrittenAt state part expr value = (worked : KeptValue) × IsWorkedAt state part expr worked × IsFlatOf worked value
+
+abbrev pub IsWritten : StateView → Expr → KeptValue → Type 0
+IsWritten state expr value = IsWrittenAt state First expr value

@@ -5,7 +5,7 @@ ghost use Rattle.isl_meter.specs.Gauge.{limit_of};
 ghost use Rattle.isl_relation.specs.Flow.{AnyHas};
 ghost use Rattle.isl_values.specs.Ends.{GoesOn};
 ghost use Rattle.isl_values.specs.Made.{refusal_of_fault, IsPaid, IsWhyUnworked};
-ghost use Rattle.isl_values.specs.Three.{AreOfFlow, AreOfThree, IsPlainThree, IsOfThree, ThreeEnd};
+ghost use Rattle.isl_values.specs.Three.{AreKeptWithin, AreOfFlow, AreOfThree, IsOfThree, ThreeEnd};
 ghost use Rattle.isl_values.specs.Worked.{PartHas};
 
 use crate::values::{answered, refusal_of};
@@ -28,7 +28,7 @@ pub struct Accesses {
 
 /// From sources to the sinks that they come before.
 pub fn preceding(alloc: Global, three: &Accesses, meter: &mut Meter) -> Result<Rc<Value>, Refusal>
-    requires { IsPlainThree (unsigned_abs (limit_of meter.old)) three.now }
+    requires { AreKeptWithin (unsigned_abs (limit_of meter.old)) three.now }
     ensures made { MatchResult result
         (λ value. IsOfThree AnyHas three.now (unsigned_abs (limit_of meter.old)) value.value × IsPaid true meter.old meter.new)
         (IsWhyUnworked true (ThreeEnd three.now) meter.old meter.new) }
@@ -57,7 +57,7 @@ fn listed(alloc: Global, outcome: Result<Flow, OpFault>) -> Result<ListValue, Re
 
 /// The last sources of sinks, and the sinks that have none.
 pub fn latest(alloc: Global, three: &Accesses, meter: &mut Meter) -> Result<ListValue, Refusal>
-    requires { IsPlainThree (unsigned_abs (limit_of meter.old)) three.now }
+    requires { AreKeptWithin (unsigned_abs (limit_of meter.old)) three.now }
     ensures made { MatchResult result
         (λ list. AreOfThree three.now (unsigned_abs (limit_of meter.old)) list × IsPaid true meter.old meter.new)
         (IsWhyUnworked true (ThreeEnd three.now) meter.old meter.new) }
@@ -76,7 +76,7 @@ pub fn latest_part(
     three: &Accesses,
     meter: &mut Meter,
 ) -> Result<Rc<Value>, Refusal>
-    requires { IsPlainThree (unsigned_abs (limit_of meter.old)) three.now }
+    requires { AreKeptWithin (unsigned_abs (limit_of meter.old)) three.now }
     ensures made { MatchResult result
         (λ value. IsOfThree (PartHas part) three.now (unsigned_abs (limit_of meter.old)) value.value × IsPaid true meter.old meter.new)
         (IsWhyUnworked true (ThreeEnd three.now) meter.old meter.new) }

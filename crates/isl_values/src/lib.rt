@@ -2,10 +2,12 @@
 #![tactic(auto)]
 
 mod dependence;
+mod flat;
 mod list;
 mod state;
 mod values;
 
+pub use flat::{flat_list_of, flat_value_of};
 pub use list::{ListPart, ListValue};
 pub use state::{Kept, State};
-pub use values::{joined_past, list_of, refusal_of, value_of};
+pub use values::{joined_past, refusal_of, value_of};

@@ -1,15 +1,15 @@
 //! The values of expressions.
 
-ghost use Rattle.std.specs.Prelude.{◌≡◌, ◌↔◌, [], All, true, false, IfErr, IfOk, MatchResult, Ok, unsigned_abs};
+ghost use Rattle.std.specs.Prelude.{◌≡◌, [], All, true, false, IfErr, IfOk, MatchResult, Ok, unsigned_abs};
 ghost use Rattle.std.specs.List.{list_any};
-ghost use Rattle.isl_meter.specs.Gauge.{IsCharged, IsMetered, limit_of};
+ghost use Rattle.isl_meter.specs.Gauge.{IsCharged, limit_of};
 ghost use Rattle.isl_space.specs.Element.{Element};
 ghost use Rattle.isl_space.specs.Valuation.{Valuation};
 ghost use Rattle.isl_union.specs.KeptValue.{Has, HasNoDefinitions, IsKeptValue};
-ghost use Rattle.isl_union.specs.Numbers.{IsWithinLimit};
 ghost use Rattle.isl_lower.specs.Value.{IsWellFormedLiteral, IsLowered};
 ghost use Rattle.isl_tree.specs.Literal.{LiteralHas};
 ghost use Rattle.isl_tree.specs.Known.{literal_is_known};
+ghost use Rattle.isl_tree.specs.Plain.{is_plain};
 ghost use Rattle.isl_maps.specs.Inverse.{inverse_element, inverse_of};
 ghost use Rattle.isl_operators.specs.Operations.{OperatorHas, WordHas, ApplicationHas};
 ghost use Rattle.isl_operators.specs.Formed.{OperatorForms, ApplicationForms};
@@ -23,7 +23,7 @@ ghost use Rattle.isl_values.specs.Worked.{part_of_list, IsPostfixOf, IsWorked, I
 ghost use Rattle.isl_values.specs.Ends.{CutAlone, Ends, EndsPost, EndsPostfix, EndsRow, GoesOn, PairEnds, WordEnds};
 ghost use Rattle.isl_values.specs.Made.{is_foreign, uses_units, IsSoundExpr, IsSoundLink, IsSoundPostfix, IsValueOf};
 ghost use Rattle.isl_values.specs.Made.{refusal_of_cut, refusal_of_fault, refusal_of_word_fault, IsPaid, IsWhyUnmade, IsWhyUnworked};
-ghost use Rattle.isl_values.specs.Three.{AreBothOf, AreKept, AreMade, IsValueAt, IsWhole, OperandsEnd};
+ghost use Rattle.isl_values.specs.Three.{AreBothOf, AreKept, AreMade, IsValueAt, IsWhole, NothingWorks, OperandsEnd};
 
 use crate::dependence::{Accesses, latest, latest_part, preceding};
 use crate::{Kept, ListPart, ListValue, State};
@@ -49,31 +49,16 @@ pub fn refusal_of(cut: Cut) -> Refusal
     }
 }
 
-// What a literal writes, in pieces that define no column.
-#[tactic(auto, using(std::proofs::lemmas::Grind::common_steps, isl_meter::proofs::CutLemmas::charges))]
-fn flat_value(alloc: Global, literal: &Literal, meter: &mut Meter) -> Result<Value, Cut>
-    requires known { literal_is_known literal.now ≡ true }
-    requires well_formed { IsWellFormedLiteral literal.now }
-    ensures exact { IfOk result (IsLowered literal.now) }
-    ensures kept { IfOk result IsKeptValue }
-    ensures definitions { IfOk result HasNoDefinitions }
-    ensures within { IfOk result (IsWithinLimit meter.old) }
-    ensures meter { IsMetered meter.old meter.new result }
-{
-    let value = lower(alloc, literal, meter)?;
-    value.flat(alloc, meter)
-}
-
 // What a literal writes, as a value.
 fn lowered(alloc: Global, literal: &Literal, meter: &mut Meter) -> Result<Rc<Value>, Refusal>
     requires known { literal_is_known literal.now ≡ true }
     requires well_formed { IsWellFormedLiteral literal.now }
     ensures { MatchResult result
         (λ value. IsValueOf (IsLowered literal.now) literal.now.params (LiteralHas literal.now)
-        (unsigned_abs (limit_of meter.old)) value.value × IsPaid true meter.old meter.new)
+        (unsigned_abs (limit_of meter.old)) (is_plain literal.now ≡ true) value.value × IsPaid true meter.old meter.new)
         (IsWhyUnmade true CutAlone meter.old meter.new) }
 {
-    match flat_value(alloc, literal, meter) {
+    match lower(alloc, literal, meter) {
         Ok(value) => Ok(Rc::new(alloc, value)?),
         Err(cut) => Err(refusal_of(cut)),
     }
@@ -102,12 +87,11 @@ fn joined(
     requires supported { is_foreign (operator_part operator) ≡ false }
     requires left { HasNumbersUpTo (unsigned_abs (limit_of meter.old)) left.now }
     requires right { HasNumbersUpTo (unsigned_abs (limit_of meter.old)) right.now }
-    requires left_definitions { HasNoDefinitions left.now }
-    requires right_definitions { HasNoDefinitions right.now }
     ensures made { MatchResult result
         (λ value. IsValueOf (λ made. IsOperatorOf operator left.now right.now made) (joined_names left.now.params right.now.params)
         (λ valuation element. OperatorHas operator (Has left.now valuation) (Has right.now valuation) element)
-        (unsigned_abs (limit_of meter.old)) value.value × IsPaid (operator_works operator) meter.old meter.new)
+        (unsigned_abs (limit_of meter.old)) (HasNoDefinitions left.now × HasNoDefinitions right.now) value.value
+        × IsPaid (operator_works operator) meter.old meter.new)
         (IsWhyUnworked (operator_works operator)
         (PairEnds (OperatorForms operator) left.now.params right.now.params (Has left.now) (Has right.now)) meter.old meter.new) }
     ensures goes_on { IfOk result
@@ -139,10 +123,9 @@ fn worded(
 ) -> Result<Rc<Value>, Refusal>
     requires supported { is_foreign (prefix_part word) ≡ false }
     requires numbers { HasNumbersUpTo (unsigned_abs (limit_of meter.old)) operand.now }
-    requires definitions { HasNoDefinitions operand.now }
     ensures made { MatchResult result
         (λ value. IsValueOf (λ made. IsWordOf word operand.now made) operand.now.params
-        (WordHas word operand.now.params (Has operand.now)) (unsigned_abs (limit_of meter.old)) value.value
+        (WordHas word operand.now.params (Has operand.now)) (unsigned_abs (limit_of meter.old)) (HasNoDefinitions operand.now) value.value
         × IsPaid (word_works word) meter.old meter.new)
         (IsWhyUnworked (word_works word) (WordEnds word (Has operand.now)) meter.old meter.new) }
     ensures goes_on { IfOk result (λ _. GoesOn (WordEnds word (Has operand.now))) }
@@ -159,12 +142,11 @@ fn applied_to(
 ) -> Result<Rc<Value>, Refusal>
     requires map { HasNumbersUpTo (unsigned_abs (limit_of meter.old)) map.now }
     requires argument { HasNumbersUpTo (unsigned_abs (limit_of meter.old)) argument.now }
-    requires map_definitions { HasNoDefinitions map.now }
-    requires argument_definitions { HasNoDefinitions argument.now }
     ensures made { MatchResult result
         (λ value. IsValueOf (λ made. IsApplicationOf map.now argument.now made) (joined_names map.now.params argument.now.params)
         (λ valuation element. ApplicationHas (Has map.now valuation) (Has argument.now valuation) element)
-        (unsigned_abs (limit_of meter.old)) value.value × IsPaid true meter.old meter.new)
+        (unsigned_abs (limit_of meter.old)) (HasNoDefinitions map.now × HasNoDefinitions argument.now) value.value
+        × IsPaid true meter.old meter.new)
         (IsWhyUnworked true (PairEnds ApplicationForms map.now.params argument.now.params (Has map.now) (Has argument.now))
         meter.old meter.new) }
     ensures goes_on { IfOk result
@@ -177,10 +159,10 @@ fn applied_to(
 // The inverse of a value of maps.
 fn inverted(alloc: Global, operand: &Value, meter: &mut Meter) -> Result<Rc<Value>, Refusal>
     requires numbers { HasNumbersUpTo (unsigned_abs (limit_of meter.old)) operand.now }
-    requires definitions { HasNoDefinitions operand.now }
     ensures made { IfOk result
         (λ value. IsValueOf (λ made. made ≡ inverse_of operand.now) operand.now.params
-        (λ valuation element. Has operand.now valuation (inverse_element element)) (unsigned_abs (limit_of meter.old)) value.value) }
+        (λ valuation element. Has operand.now valuation (inverse_element element)) (unsigned_abs (limit_of meter.old))
+        (HasNoDefinitions operand.now) value.value) }
     ensures faults { IfErr result (λ refusal. refusal ≡ Refusal.NoMemory) }
     ensures meter { meter.new ≡ meter.old }
 {
@@ -200,12 +182,13 @@ fn followed(
     requires fits { Fits (limit_of meter.old) state.now }
     requires kept { IsKeptValue operand.now.value }
     requires numbers { HasNumbersUpTo (unsigned_abs (limit_of meter.old)) operand.now.value }
-    requires definitions { HasNoDefinitions operand.now.value }
     ensures made { MatchResult result
         (λ value. IsValueOf (IsPostfixOf state.now postfix.now operand.now.value)
         (declared_past (scope_of state.now) operand.now.value.params postfix.now)
         (λ valuation element. PostfixHas state.now valuation (Has operand.now.value valuation) postfix.now element)
-        (unsigned_abs (limit_of meter.old)) value.value × IsPaid (list_any uses_units (parts_of_postfix postfix.now)) meter.old meter.new)
+        (unsigned_abs (limit_of meter.old))
+        (HasNoDefinitions operand.now.value × (list_any uses_units (parts_of_postfix postfix.now) ≡ false)) value.value
+        × IsPaid (list_any uses_units (parts_of_postfix postfix.now)) meter.old meter.new)
         (IsWhyUnworked (list_any uses_units (parts_of_postfix postfix.now))
         (EndsPostfix state.now operand.now.value.params (Has operand.now.value) postfix.now) meter.old meter.new) }
     ensures goes_on { IfOk result (λ _. GoesOn (EndsPostfix state.now operand.now.value.params (Has operand.now.value) postfix.now)) }
@@ -232,12 +215,12 @@ fn past_postfixes(
     requires sound { All (IsSoundPostfix (scope_of state.now)) postfixes.now }
     requires fits { Fits (limit_of meter.old) state.now }
     requires numbers { HasNumbersUpTo (unsigned_abs (limit_of meter.old)) operand.value }
-    requires definitions { HasNoDefinitions operand.value }
     ensures made { MatchResult result
         (λ value. IsValueOf (IsWorkedPost state.now operand.value postfixes.now)
         (declared_of_post (scope_of state.now) operand.value.params postfixes.now)
         (λ valuation element. PostSelects state.now valuation (Has operand.value valuation) postfixes.now element)
-        (unsigned_abs (limit_of meter.old)) value.value
+        (unsigned_abs (limit_of meter.old))
+        (HasNoDefinitions operand.value × (list_any uses_units (parts_of_postfixes postfixes.now) ≡ false)) value.value
         × IsPaid (list_any uses_units (parts_of_postfixes postfixes.now)) meter.old meter.new)
         (IsWhyUnworked (list_any uses_units (parts_of_postfixes postfixes.now))
         (EndsPost state.now operand.value.params (Has operand.value) postfixes.now) meter.old meter.new) }
@@ -422,7 +405,8 @@ pub fn value_of(
     requires fits { Fits (limit_of meter.old) state.now }
     ensures made { MatchResult result
         (λ value. IsValueOf (IsWorked state.now expr.now) (declared_of (scope_of state.now) expr.now) (Selects state.now expr.now)
-        (unsigned_abs (limit_of meter.old)) value.value × IsPaid (list_any uses_units (parts_of expr.now)) meter.old meter.new)
+        (unsigned_abs (limit_of meter.old)) (NothingWorks expr.now) value.value
+        × IsPaid (list_any uses_units (parts_of expr.now)) meter.old meter.new)
         (IsWhyUnworked (list_any uses_units (parts_of expr.now)) (Ends state.now expr.now) meter.old meter.new) }
     ensures goes_on { IfOk result (λ _. GoesOn (Ends state.now expr.now)) }
 {
@@ -451,8 +435,7 @@ fn doubled(
     }
 }
 
-/// Both values of a list that is bound or made by `last`; of another expression its value twice. (the iscc chapter of the barvinok
-/// manual)
+/// Both values of a list that is bound or made by `last`; of another expression its value twice.
 ///
 /// # Errors
 /// As of `value_of`.
@@ -511,12 +494,12 @@ pub fn joined_past(
     requires sound { All (IsSoundLink (scope_of state.now)) links.now }
     requires fits { Fits (limit_of meter.old) state.now }
     requires numbers { HasNumbersUpTo (unsigned_abs (limit_of meter.old)) first.value }
-    requires definitions { HasNoDefinitions first.value }
     ensures made { MatchResult result
         (λ value. IsValueOf (IsWorkedRow state.now first.value links.now)
         (declared_of_row (scope_of state.now) first.value.params links.now)
         (λ valuation element. RowSelects state.now valuation (Has first.value valuation) links.now element)
-        (unsigned_abs (limit_of meter.old)) value.value × IsPaid (list_any uses_units (parts_of_links links.now)) meter.old meter.new)
+        (unsigned_abs (limit_of meter.old)) (HasNoDefinitions first.value × (list_any uses_units (parts_of_links links.now) ≡ false)) value.value
+        × IsPaid (list_any uses_units (parts_of_links links.now)) meter.old meter.new)
         (IsWhyUnworked (list_any uses_units (parts_of_links links.now))
         (EndsRow state.now first.value.params (Has first.value) links.now) meter.old meter.new) }
     ensures goes_on { IfOk result (λ _. GoesOn (EndsRow state.now first.value.params (Has first.value) links.now)) }

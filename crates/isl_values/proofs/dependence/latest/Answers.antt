@@ -46,24 +46,26 @@ returns-clause-made c =
     in_three
     (λ x y z. MatchResult c.listed.result
     (λ list. (IsValueOf (IsDependenceOf LastHas x y z) (joined_names (joined_names x.params y.params) z.params)
-    (λ v e. LastHas (Has x v) (Has y v) (Has z v) e) (unsigned_abs (limit_of g)) list.first.value
+    (λ v e. LastHas (Has x v) (Has y v) (Has z v) e) (unsigned_abs (limit_of g))
+    (HasNoDefinitions x × HasNoDefinitions y × HasNoDefinitions z) list.first.value
     × IsValueOf (IsDependenceOf UnsourcedHas x y z) (joined_names (joined_names x.params y.params) z.params)
-    (λ v e. UnsourcedHas (Has x v) (Has y v) (Has z v) e) (unsigned_abs (limit_of g)) list.second.value) × IsPaid true g h)
+    (λ v e. UnsourcedHas (Has x v) (Has y v) (Has z v) e) (unsigned_abs (limit_of g))
+    (HasNoDefinitions x × HasNoDefinitions y × HasNoDefinitions z) list.second.value) × IsPaid true g h)
     (IsWhyUnworked true (DependenceEnds (joined_names (joined_names x.params y.params) z.params) (Has x) (Has y)) g h))
     source sink schedule _ _ _ c.deref.ensures c.deref-2.ensures c.deref-3.ensures
     (answered_made refusal_of_fault _ _ _ _ _ (fault_ends _ (PairsWide FormsAccess (Has source) (Has sink)) _ _ own names same)
     flow_of_list c.latest.result c.listed.result
     (λ (flow : Flow). IsValueOf (IsDependenceOf LastHas source sink schedule) names
-    (λ v e. LastHas (Has source v) (Has sink v) (Has schedule v) e) limit flow.last
+    (λ v e. LastHas (Has source v) (Has sink v) (Has schedule v) e) limit
+    (HasNoDefinitions source × HasNoDefinitions sink × HasNoDefinitions schedule) flow.last
     × IsValueOf (IsDependenceOf UnsourcedHas source sink schedule) names
-    (λ v e. UnsourcedHas (Has source v) (Has sink v) (Has schedule v) e) limit flow.unsourced)
+    (λ v e. UnsourcedHas (Has source v) (Has sink v) (Has schedule v) e) limit
+    (HasNoDefinitions source × HasNoDefinitions sink × HasNoDefinitions schedule) flow.unsourced)
     (listed_answer c.latest.result c.listed.result c.listed.ensures)
     (flow_values c.latest.result own names (λ v e. LastHas (Has source v) (Has sink v) (Has schedule v) e)
-    (λ v e. UnsourcedHas (Has source v) (Has sink v) (Has schedule v) e) limit same e.last e.unsourced e.last_kept e.unsourced_kept
-    (e.definitions (subst HasNoDefinitions (sym c.deref.ensures) c.requires.source.2)
-    (subst HasNoDefinitions (sym c.deref-2.ensures) c.requires.sink.2)
-    (subst HasNoDefinitions (sym c.deref-3.ensures) c.requires.schedule.2))
-    e.numbers)
+    (λ v e. UnsourcedHas (Has source v) (Has sink v) (Has schedule v) e) limit
+    (HasNoDefinitions source × HasNoDefinitions sink × HasNoDefinitions schedule) same e.last e.unsourced e.last_kept e.unsourced_kept
+    (λ plain. e.definitions plain.0 plain.1 plain.2) e.numbers)
     e.units)
 
 pub returns-clause-goes_on : goal.returns-clause-goes_on

@@ -40,18 +40,16 @@ returns-clause-made c =
     in_three
     (λ x y z. MatchResult c.answered.result
     (λ value. IsValueOf (IsDependenceOf AnyHas x y z) (joined_names (joined_names x.params y.params) z.params)
-    (λ v e. AnyHas (Has x v) (Has y v) (Has z v) e) (unsigned_abs (limit_of g)) value.value × IsPaid true g h)
+    (λ v e. AnyHas (Has x v) (Has y v) (Has z v) e) (unsigned_abs (limit_of g))
+    (HasNoDefinitions x × HasNoDefinitions y × HasNoDefinitions z) value.value × IsPaid true g h)
     (IsWhyUnworked true (DependenceEnds (joined_names (joined_names x.params y.params) z.params) (Has x) (Has y)) g h))
     source sink schedule _ _ _ c.deref.ensures c.deref-2.ensures c.deref-3.ensures
     (answered_made refusal_of_fault _ _ _ _ _
     (fault_ends _ (PairsWide FormsAccess (Has source) (Has sink)) _ _ (names_of_three source sink schedule)
     (joined_names (joined_names source.params sink.params) schedule.params) same) _ c.depended.result
     c.answered.result _ c.answered.ensures
-    (outcome_value c.depended.result _ _ _ _ _ same e.written e.kept e.params e.elements
-    (e.definitions (subst HasNoDefinitions (sym c.deref.ensures) c.requires.source.2)
-    (subst HasNoDefinitions (sym c.deref-2.ensures) c.requires.sink.2)
-    (subst HasNoDefinitions (sym c.deref-3.ensures) c.requires.schedule.2))
-    e.numbers)
+    (outcome_value c.depended.result _ _ _ _ _ _ same e.written e.kept e.params e.elements
+    (λ plain. e.definitions plain.0 plain.1 plain.2) e.numbers)
     e.units)
 
 pub returns-clause-goes_on : goal.returns-clause-goes_on

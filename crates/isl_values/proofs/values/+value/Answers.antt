@@ -15,7 +15,7 @@ use Rattle.isl_values.proofs.KeptLaws.{only_literal}
 use Rattle.isl_values.proofs.DepthLaws.{first_smaller, links_smaller, link_smaller, argument_smaller, operand_smaller, postfixes_smaller}
 use Rattle.isl_values.proofs.DepthLaws.{postfix_smaller, applied_smaller, any_smaller, last_smaller, sink_smaller, schedule_smaller}
 use Rattle.isl_values.proofs.SameLaws.{same_any, same_part}
-use Rattle.isl_values.proofs.ThreeLaws.{dependence_failed, dependence_goes, dependence_made, is_any, is_last, operands_failed, plain_three}
+use Rattle.isl_values.proofs.ThreeLaws.{dependence_failed, dependence_goes, dependence_made, is_any, is_last, operands_failed, three_within}
 use Rattle.isl_values.proofs.ThreeLaws.{same_Any, same_Last, three_sound, three_made, three_goes, source_failed, sink_failed, schedule_failed}
 use Rattle.isl_values.proofs.ValueLaws.{fits_later, numbers_of, numbers_later, paid_same, match_map, both_map, ok_of, ok_map, IsMade, IsMadeAt}
 use Rattle.isl_values.proofs.LinkLaws.{IsRowTo, link_sound, link_failed, join_failed, row_step}
@@ -107,10 +107,7 @@ past_postfixes-followed-requires t c =
           fits_later c.args.meter.now c.loop-postfix.meter state so_far.paid.charged c.requires.fits,
           (
             so_far.made.kept,
-            (
-              numbers_later c.args.meter.now c.loop-postfix.meter c.loop-postfix.left.value so_far.paid.charged so_far.made.numbers,
-              so_far.made.definitions,
-            ),
+            numbers_later c.args.meter.now c.loop-postfix.meter c.loop-postfix.left.value so_far.paid.charged so_far.made.numbers,
           ),
         ),
       ),
@@ -141,9 +138,10 @@ followed-part_of-requires t c = (
   ),
 )
 
-pub followed-inverted-requires-clause-numbers : goal.followed-inverted-requires-clause-numbers
-followed-inverted-requires-clause-numbers t c =
-    subst (HasNumbersUpTo (unsigned_abs (limit_of c.args.meter.now))) (sym c.deref.ensures) c.requires.numbers
+pub followed-inverted-requires : goal.followed-inverted-requires
+followed-inverted-requires t c = record {
+  numbers = subst (HasNumbersUpTo (unsigned_abs (limit_of c.args.meter.now))) (sym c.deref.ensures) c.requires.numbers;
+}
 
 pub followed-applied_to-requires-clause-map : goal.followed-applied_to-requires-clause-map
 followed-applied_to-requires-clause-map t c =
@@ -202,7 +200,7 @@ followed-returns-in-Ok t c =
 pub followed-returns-in_ok-clone-in-Item-clause-made : goal.followed-returns-in_ok-clone-in-Item-clause-made
 followed-returns-in_ok-clone-in-Item-clause-made t c =
     item_followed c.args.state.now c.args.postfix.now _ c.args.operand.now.value c.args.meter.now c.in-Item.is
-    c.in_ok-clone-in-Item.field-0.value (search rules) c.requires.kept c.requires.numbers c.requires.definitions
+    c.in_ok-clone-in-Item.field-0.value (search rules) c.requires.kept c.requires.numbers
 
 pub followed-returns-in-Err : goal.followed-returns-in-Err
 followed-returns-in-Err t c = record {
@@ -273,7 +271,7 @@ part_of-joined_past-requires t c =
         links_sound c.args.state.now expr first links is c.requires.sound,
         (
           fits_later c.args.meter.now c.part_of.new.meter c.args.state.now one.1.charged c.requires.fits,
-          (numbers_later c.args.meter.now c.part_of.new.meter c.in-Ok.left.value one.1.charged one.0.numbers, one.0.definitions),
+          numbers_later c.args.meter.now c.part_of.new.meter c.in-Ok.left.value one.1.charged one.0.numbers,
         ),
       ),
     )
@@ -333,7 +331,7 @@ part_of-past_postfixes-requires t c =
         postfixes_sound c.args.state.now expr operand postfixes is c.requires.sound,
         (
           fits_later c.args.meter.now h c.args.state.now one.1.charged c.requires.fits,
-          (numbers_later c.args.meter.now h c.in-Ok-part_of.left.value one.1.charged one.0.numbers, one.0.definitions),
+          numbers_later c.args.meter.now h c.in-Ok-part_of.left.value one.1.charged one.0.numbers,
         ),
       ),
     )
@@ -441,7 +439,7 @@ part_of-three_of-requires t c =
 
 pub part_of-preceding-requires : goal.part_of-preceding-requires
 part_of-preceding-requires t c =
-    plain_three c.args.state.now c.get-in-Any.result.now c.get-in-Any-2.result.now c.get-in-Any-3.result.now c.args.meter.now c.three_of.new.meter
+    three_within c.args.state.now c.get-in-Any.result.now c.get-in-Any-2.result.now c.get-in-Any-3.result.now c.args.meter.now c.three_of.new.meter
     c.in-Ok-three_of.three c.in-Ok-three_of.ensures.made.0 c.in-Ok-three_of.ensures.made.1
 
 pub part_of-returns-in-Ok-three_of : goal.part_of-returns-in-Ok-three_of
@@ -503,7 +501,7 @@ part_of-three_of-requires-in-Last t c =
 
 pub part_of-latest_part-requires : goal.part_of-latest_part-requires
 part_of-latest_part-requires t c =
-    plain_three c.args.state.now c.get-in-Last.result.now c.get-in-Last-2.result.now c.get-in-Last-3.result.now c.args.meter.now c.three_of-in-Last.new.meter
+    three_within c.args.state.now c.get-in-Last.result.now c.get-in-Last-2.result.now c.get-in-Last-3.result.now c.args.meter.now c.three_of-in-Last.new.meter
     c.in-Ok-three_of-2.three c.in-Ok-three_of-2.ensures.made.0 c.in-Ok-three_of-2.ensures.made.1
 
 pub part_of-returns-in-Ok-three_of-2 : goal.part_of-returns-in-Ok-three_of-2

@@ -19,9 +19,8 @@ returns-clause-made c =
     answered_made refusal_of_fault _ _ (PairEnds ApplicationForms map.params argument.params (Has map) (Has argument)) _ _
     (fault_ends _ Wide _ _ (joined map.params argument.params) (joined_names map.params argument.params) same) _ c.applied.result
     c.answered.result _ c.answered.ensures
-    (outcome_value c.applied.result _ _ _ _ _ same e.written e.kept e.params e.elements
-    (e.definitions c.requires.map_definitions c.requires.argument_definitions)
-    e.numbers)
+    (outcome_value c.applied.result _ _ _ _ _ _ same e.written e.kept e.params e.elements
+    (λ plain. e.definitions plain.0 plain.1) e.numbers)
     e.units
 
 pub returns-clause-goes_on : goal.returns-clause-goes_on

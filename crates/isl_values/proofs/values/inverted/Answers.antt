@@ -10,7 +10,7 @@ returns-clause-made c =
     let e = c.inverse.ensures in
     let params = ok_map c.inverse.result _ _ (λ made is. ap (λ (v : KeptValue). v.params) is) e.written in
     answered_ok refusal_of_fault _ c.inverse.result c.answered.result _ c.answered.ensures
-    (outcome_value c.inverse.result _ _ _ _ _ refl e.written e.kept params e.elements (e.definitions c.requires.definitions)
+    (outcome_value c.inverse.result _ _ _ _ _ _ refl e.written e.kept params e.elements e.definitions
     (e.numbers _ c.requires.numbers))
 
 pub returns-clause-faults : goal.returns-clause-faults

@@ -25,9 +25,8 @@ returns-clause-made c =
     answered_made refusal_of_fault _ _ (PairEnds (OperatorForms c.args.operator) left.params right.params (Has left) (Has right)) _ _
     (fault_ends _ Wide _ _ (both left.params right.params) (joined_names left.params right.params) same) _ c.combined.result
     c.answered.result _ c.answered.ensures
-    (outcome_value c.combined.result _ _ _ _ _ same e.written e.kept e.params e.elements
-    (e.definitions c.requires.left_definitions c.requires.right_definitions)
-    e.numbers)
+    (outcome_value c.combined.result _ _ _ _ _ _ same e.written e.kept e.params e.elements
+    (λ plain. e.definitions plain.0 plain.1) e.numbers)
     e.units
 
 pub returns-clause-goes_on : goal.returns-clause-goes_on

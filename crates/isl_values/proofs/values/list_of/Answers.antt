@@ -10,7 +10,7 @@ use Rattle.isl_values.specs.State.{scope_of}
 use Rattle.isl_values.specs.Worked.{PartHas}
 use Rattle.isl_values.proofs.KeptLaws.{name_both, never_unbound}
 use Rattle.isl_values.proofs.SameLaws.{same_part}
-use Rattle.isl_values.proofs.ThreeLaws.{dependence_failed, dependence_goes, is_last, list_made, operands_failed, plain_three, same_Last}
+use Rattle.isl_values.proofs.ThreeLaws.{dependence_failed, dependence_goes, is_last, list_made, operands_failed, three_within, same_Last}
 use Rattle.isl_values.proofs.ThreeLaws.{three_sound, literal_whole, row_whole, post_whole, word_whole, any_whole}
 use Rattle.isl_values.proofs.ValueLaws.{both_map, match_map, ok_map, paid_same, unmade_memory, work}
 use Rattle.isl_values.proofs.values.list_of.Goals as goal
@@ -53,7 +53,7 @@ three_of-requires-clause-schedule c =
 
 pub latest-requires : goal.latest-requires
 latest-requires c =
-    plain_three c.args.state.now c.get.result.now c.get-in-Last.result.now c.get-in-Last-2.result.now c.args.meter.now c.three_of.new.meter
+    three_within c.args.state.now c.get.result.now c.get-in-Last.result.now c.get-in-Last-2.result.now c.args.meter.now c.three_of.new.meter
     c.in-Ok.three c.in-Ok.ensures.made.0 c.in-Ok.ensures.made.1
 
 pub unreachable-requires : goal.unreachable-requires

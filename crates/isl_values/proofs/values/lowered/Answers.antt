@@ -8,5 +8,5 @@ returns-in_ok-new-in-Ok c =
     let e = c.in-Ok.ensures in (
       value_same c.in-Ok.value c.in_ok-new-in-Ok.field-0.value _ _ _ _ (search rules)
           (literal_value _ c.args.literal.now c.in-Ok.value e.exact e.kept e.definitions e.within),
-      paid_works c.args.meter.now c.flat_value.new.meter e.meter,
+      paid_works c.args.meter.now c.lower.new.meter e.meter,
     )

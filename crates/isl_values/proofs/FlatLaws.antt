@@ -1,0 +1,132 @@
+-- Values without their defined columns.
+use Rattle.std.proofs.Common.{◌≡◌, ◌∙◌, ◌↔◌, inl, inr, ℕ, ℤ, Bool, true, false, All, List, [], length, map, refl, sym, subst, arith}
+use Rattle.std.specs.Prelude.{unsigned_abs, IsTrue, Result, Ok, Err, MatchResult}
+use Rattle.std.proofs.lemmas.Bool.{false≢true}
+use Rattle.std.proofs.lemmas.List.{get_or-map, length-map}
+use Rattle.std.proofs.lemmas.List.Elements.{All-map}
+use Rattle.isl_meter.specs.Gauge.{Gauge, limit_of, IsCharged}
+use Rattle.isl_meter.proofs.CutLemmas.{IsCharged_trans, IsCutBy-after}
+use Rattle.isl_space.specs.Valuation.{Valuation}
+use Rattle.isl_space.specs.Element.{Element}
+use Rattle.isl_piece.specs.Piece.{PieceView}
+use Rattle.isl_union.specs.KeptValue.{KeptPiece, KeptValue, Has, HasNoDefinitions, IsKeptValue}
+use Rattle.isl_union.specs.Piece.{kept_piece}
+use Rattle.isl_union.specs.Live.{AreLiveOf}
+use Rattle.isl_text.specs.declared.refusal.Refusal.{Refusal}
+use Rattle.isl_text.specs.declared.refusal.Refusal.TheVariants.{NoMemory}
+use Rattle.isl_tree.specs.declared.tree.Literal.{Literal}
+use Rattle.isl_lower.specs.Value.{value_lowered, IsLowered}
+use Rattle.isl_lower.proofs.ValueLaws.{lowered_plain}
+use Rattle.isl_operators.specs.Made.{IsFlatOf}
+use Rattle.isl_expr.specs.declared.tree.Expr as e
+use Rattle.isl_expr.specs.declared.tree.Expr.{Expr}
+use Rattle.isl_kinds.specs.Parts.{parts_of}
+use Rattle.isl_values.specs.declared.list.ListPart.{ListPart}
+use Rattle.isl_values.specs.State.{StateView, HasNumbersUpTo}
+use Rattle.isl_values.specs.Worked.{IsWorkedAt, IsWrittenAt}
+use Rattle.isl_values.specs.Selection.{SelectsAt}
+use Rattle.isl_values.specs.Ends.{CutAlone, Ends, GoesOn}
+use Rattle.isl_values.specs.Made.{IsPaid, IsWhyUnmade, IsWhyUnworked}
+use Rattle.isl_values.specs.Three.{IsFlatAt, IsMadeFlat, IsValueAt}
+use Rattle.isl_values.proofs.CutLaws.{working_cut}
+use Rattle.isl_values.proofs.SameLaws.{itself, same_trans}
+use Rattle.isl_values.proofs.ValueLaws.{IsMadeAt, paid_works, same_limit, unmade_memory, work}
+
+-- memory ended behind a call that used units alone
+pub unmade_later : {A : Type 0} (r : Result A Refusal) (P : A → Type 0) (g h : Gauge) → r ≡ Err NoMemory → IsCharged g h
+    → MatchResult r P (IsWhyUnmade true CutAlone g h)
+unmade_later {A} r P g h is charged =
+    subst (λ (o : Result A Refusal). MatchResult o P (IsWhyUnmade true CutAlone g h)) (sym is)
+    (unmade_memory true CutAlone g h NoMemory refl (paid_works g h charged))
+
+-- ---- pieces
+abbrev pub DefinesNone : PieceView → Type 0
+DefinesNone piece = piece.system.definitions ≡ []
+
+-- the value defines no column where none of its pieces does
+pub plain_exactly : (value : KeptValue) (pieces : List PieceView) → map kept_piece pieces ≡ value.pieces
+    → HasNoDefinitions value ↔ All DefinesNone pieces
+plain_exactly value pieces are =
+    let P : KeptPiece → Type 0 = λ piece. piece.definitions ≡ [] in (
+      (λ plain i piece low.
+      let kept = subst (All P) (sym are) plain in
+      let long = length-map pieces kept_piece in
+      subst P (get_or-map kept_piece pieces i piece (kept_piece piece) low) (kept i (kept_piece piece) (omega (arith, long, low)))),
+      (λ all. subst (All P) are (All-map P kept_piece pieces all)),
+    )
+
+pub plain_told : (value : KeptValue) (pieces : List PieceView) → map kept_piece pieces ≡ value.pieces → (b : Bool)
+    → IsTrue b ↔ All DefinesNone pieces → IsTrue b ↔ HasNoDefinitions value
+plain_told value pieces are b told =
+    let exact = plain_exactly value pieces are in
+    ((λ t. exact.1 (told.0 t)), (λ plain. told.1 (exact.0 plain)))
+
+-- ---- values
+-- a value is itself, where it may keep its defined columns
+pub flat_itself : (value : KeptValue) → IsFlatOf value value
+flat_itself value = record { params = refl; elements = λ v. itself (Has value v); same = λ plain. refl }
+
+pub written_itself : (state : StateView) (part : ListPart) (expr : Expr) (value : KeptValue) → IsWorkedAt state part expr value
+    → IsWrittenAt state part expr value
+written_itself state part expr value worked = (value, worked, flat_itself value)
+
+-- a literal is written in one way, whether its defined columns are left or not
+pub literal_written : (state : StateView) (part : ListPart) (literal : Literal) (value : KeptValue)
+    → IsWrittenAt state part (e.Literal literal) value → IsLowered literal value
+literal_written state part literal value written =
+    let is : IsLowered literal written.0 = written.1 in
+    let flat = written.2 in record {
+      params = flat.params ∙ is.params;
+      elements = λ valuation element. (
+        (λ h. (is.elements valuation element).0 ((flat.elements valuation element).0 h)),
+        (λ h. (flat.elements valuation element).1 ((is.elements valuation element).1 h)),
+      );
+      plain = λ plain. subst (λ (v : KeptValue). AreLiveOf literal.params (value_lowered literal).pieces v.pieces)
+          (sym (flat.same (lowered_plain literal written.0 is plain))) (is.plain plain);
+    }
+
+pub made_flat_itself : (limit : ℕ) (value : KeptValue) → IsKeptValue value → HasNumbersUpTo limit value → HasNoDefinitions value
+    → IsMadeFlat limit value value
+made_flat_itself limit value kept small plain = record { flat = flat_itself value; kept = kept; numbers = small; definitions = plain }
+
+-- ---- of a value that is worked out
+module _ (state : StateView) (part : ListPart) (expr : Expr) (g h k : Gauge) (value : KeptValue)
+    (made : IsMadeAt state part expr g h value) (goes : GoesOn (Ends state expr)) where
+  pub flat_made : (flat : KeptValue) → IsMadeFlat (unsigned_abs (limit_of h)) value flat → IsCharged h k → (HasNoDefinitions value → k ≡ h)
+      → IsFlatAt state part expr (unsigned_abs (limit_of g)) flat × IsPaid (work (parts_of expr)) g k
+  flat_made flat is charged free = (
+    record {
+      written = (value, made.0.written, is.flat);
+      kept = is.kept;
+      params = is.flat.params ∙ made.0.params;
+      elements = λ v. same_trans (Has flat v) (Has value v) (SelectsAt state part expr v) (is.flat.elements v) (made.0.elements v);
+      numbers = subst (λ (z : ℤ). HasNumbersUpTo (unsigned_abs z) flat) (same_limit g h made.1.charged) is.numbers;
+      definitions = λ always. is.definitions;
+    },
+    record {
+      charged = IsCharged_trans g h k made.1.charged charged;
+      free = λ none. free (made.0.definitions none) ∙ made.1.free none;
+    },
+  )
+
+  pub flat_failed : (refusal : Refusal) → IsWhyUnmade true CutAlone h k refusal → (HasNoDefinitions value → ⊥)
+      → IsWhyUnworked (work (parts_of expr)) (Ends state expr) g k refusal
+  flat_failed refusal why defines = by (work (parts_of expr)) refl
+    where
+      by : (b : Bool) → work (parts_of expr) ≡ b → IsWhyUnworked (work (parts_of expr)) (Ends state expr) g k refusal
+      by true works = inl (record {
+        cut = why.cut;
+        is = why.is;
+        by = IsCutBy-after g h k why.cut made.1.charged why.by;
+        there = inr (working_cut state expr works goes);
+        free = λ none. absurd (false≢true (sym none ∙ works));
+      })
+      by false none = absurd (defines (made.0.definitions none))
+
+  pub flat_answer : {A : Type 0} (of : A → KeptValue) (r : Result A Refusal)
+      → MatchResult r (λ a. IsMadeFlat (unsigned_abs (limit_of h)) value (of a) × IsCharged h k) (IsWhyUnmade true CutAlone h k)
+      → (HasNoDefinitions value → MatchResult r (λ _. k ≡ h) (λ _. ⊥))
+      → MatchResult r (λ a. IsFlatAt state part expr (unsigned_abs (limit_of g)) (of a) × IsPaid (work (parts_of expr)) g k)
+      (IsWhyUnworked (work (parts_of expr)) (Ends state expr) g k)
+  flat_answer of (Ok a) is free = flat_made (of a) is.0 is.1 free
+  flat_answer of (Err refusal) why free = flat_failed refusal why free

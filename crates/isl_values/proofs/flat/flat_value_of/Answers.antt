@@ -1,0 +1,17 @@
+use Rattle.isl_values.specs.declared.list.ListPart.TheVariants.{First}
+use Rattle.isl_values.proofs.FlatLaws.{flat_answer}
+use Rattle.isl_values.proofs.ValueLaws.{numbers_later, ok_of}
+use Rattle.isl_values.proofs.flat.flat_value_of.Goals as goal
+
+pub flattened-requires : goal.flattened-requires
+flattened-requires c =
+    numbers_later c.args.meter.now c.value_of.new.meter c.in-Ok.value.value c.in-Ok.ensures.made.1.charged c.in-Ok.ensures.made.0.numbers
+
+pub returns-in-Ok : goal.returns-in-Ok
+returns-in-Ok c =
+    let one = c.in-Ok.ensures in
+    let e = c.flattened.ensures in record {
+      made = flat_answer c.args.state.now First c.args.expr.now c.args.meter.now c.value_of.new.meter c.flattened.new.meter c.in-Ok.value.value
+          one.made one.goes_on (λ v. v.value) c.flattened.result e.made e.same;
+      goes_on = ok_of c.flattened.result _ (λ v. one.goes_on);
+    }
