@@ -67,10 +67,11 @@ use Rattle.isl_values.specs.declared.list.ListValue.{ListValue}
 use Rattle.isl_values.specs.State.{Binds, Kept, Moment, StateView, HasNumbersUpTo, scope_of, type_of}
 use Rattle.isl_values.specs.Worked.{IsWorked}
 use Rattle.isl_values.specs.Selection.{Selects, IsContentOf, IsGistOfTwo, IsKeptOf, IsSelected, IsSelectedAt, IsSelectedIn, Keeps, context_of}
-use Rattle.isl_values.specs.Three.{AreBothOf, IsValueAt}
+use Rattle.isl_values.specs.Three.{AreBothFlat, IsFlatAt}
 use Rattle.isl_values.specs.Made.{is_foreign, uses_units, IsOfType, IsSoundExpr, IsValueOf, IsPaid, IsWhyUnworked}
 use Rattle.isl_values.specs.Ends.{End, because, cut, too_wide, no_minimum, unbounded, Ends, FirstEnds, GoesOn, NoEnd, PairEnds}
 use Rattle.isl_values.proofs.FirstLaws.{EndAlike, alike_trans, goes_alike, goes_both, turned_alike}
+use Rattle.isl_values.proofs.FlatLaws.{written_itself}
 use Rattle.isl_values.proofs.EndsLaws.{ends_of-Row}
 use Rattle.isl_values.proofs.OutcomeLaws.{operation_goes}
 use Rattle.isl_values.proofs.PartLaws.{all_left, all_right, quiet_both, sound_links}
@@ -132,11 +133,11 @@ module _ (state : StateView) (limit : ℤ) (part : ListPart) (expr : Expr) (valu
     definitions = plain;
   }
 
-  pub selected_kept : keeps_selected expr ≡ true → IsValueAt state part expr (unsigned_abs limit) value → (before : Moment)
+  pub selected_kept : keeps_selected expr ≡ true → IsFlatAt state part expr (unsigned_abs limit) value → (before : Moment)
       → before.state ≡ state → limit_of before.meter ≡ limit → IsKeptOf before part expr value
   selected_kept is made = λ before same at.
       keeps before same at (selected_content state part expr value is (record { elements = made.elements; written = made.written }))
-      made.params made.kept made.numbers made.definitions
+      made.params made.kept made.numbers (made.definitions tt)
 
   with_kept : (Content : KeptValue → Type 0) (names : List Name) → IsValueWith Content names (unsigned_abs limit) value
       → (Content value → IsContentOf state part expr value) → names ≡ declared_of (scope_of state) expr → (before : Moment)
@@ -205,22 +206,29 @@ with_value g h Content names made value charged same content kept params small p
       definitions = plain;
     })
 
-module _ (state : StateView) (operand : Expr) (g h : Gauge) (value v one made : KeptValue)
-    (of : IsValueOf (IsWorked state operand) (declared_of (scope_of state) operand) (Selects state operand) (unsigned_abs (limit_of g)) value)
-    (is : v ≡ value) (kept : IsKeptValue one) (plain : HasNoDefinitions one) (small : HasNumbersUpTo (unsigned_abs (limit_of h)) one)
+pub worked_selects : {Plain : Type 0} (state : StateView) (operand : Expr) (limit : ℕ) (value : KeptValue)
+    → IsValueOf (IsWorked state operand) (declared_of (scope_of state) operand) (Selects state operand) limit Plain value
+    → IsSelected state operand value
+worked_selects state operand limit value of =
+    record { elements = of.elements; written = written_itself state First operand value of.written }
+
+pub flat_selects : (state : StateView) (operand : Expr) (limit : ℕ) (value : KeptValue) → IsFlatAt state First operand limit value
+    → IsSelected state operand value
+flat_selects state operand limit value of = record { elements = of.elements; written = of.written }
+
+module _ (state : StateView) (operand : Expr) (g h : Gauge) (value v one made : KeptValue) (selects : IsSelected state operand value)
+    (named : value.params ≡ declared_of (scope_of state) operand) (is : v ≡ value) (kept : IsKeptValue one) (plain : HasNoDefinitions one)
+    (small : HasNumbersUpTo (unsigned_abs (limit_of h)) one)
     (charged : IsCharged g h) (same : made ≡ one) where
   made_names : one.params ≡ v.params → one.params ≡ declared_of (scope_of state) operand
-  made_names params = params ∙ ap (λ (k : KeptValue). k.params) is ∙ of.params
-
-  worked_selects : IsSelected state operand value
-  worked_selects = record { elements = of.elements; written = of.written }
+  made_names params = params ∙ ap (λ (k : KeptValue). k.params) is ∙ named
 
   pub sampled_is : IsSampleOf v one → IsSampled state operand (unsigned_abs (limit_of g)) made
   sampled_is chosen =
       with_value g h
       (λ w. (argument : KeptValue) × IsSelected state operand argument × IsSampleOf argument w)
       (declared_of (scope_of state) operand) one made charged same
-      (value, worked_selects, subst (λ (k : KeptValue). IsSampleOf k one) is chosen) kept (made_names chosen.params) small plain
+      (value, selects, subst (λ (k : KeptValue). IsSampleOf k one) is chosen) kept (made_names chosen.params) small plain
 
   pub together_is : one.params ≡ v.params → ((w : Valuation) (x : Element) → Has one w x ↔ Has v w x) → IsCoalesced v one
       → IsTogether state operand (unsigned_abs (limit_of g)) made
@@ -229,7 +237,7 @@ module _ (state : StateView) (operand : Expr) (g h : Gauge) (value v one made : 
       (λ w. (argument : KeptValue) × IsSelected state operand argument × IsAnyWordOf p.Coalesce argument w × IsCoalesced argument w)
       (declared_of (scope_of state) operand) one made charged same (
         value,
-        worked_selects,
+        selects,
         subst (λ (k : KeptValue). IsAnyWordOf p.Coalesce k one) is (record { params = params; elements = elements }),
         subst (λ (k : KeptValue). IsCoalesced k one) is joined,
       )
@@ -653,8 +661,7 @@ module _ (state : StateView) (left right : Expr) (goes : GoesOn (Ends state left
 
 -- what it makes of two values
 module _ (state : StateView) (left right : Expr) (g : Gauge) (limit : ℕ) (value context v c : KeptValue)
-    (own : IsValueOf (IsWorked state left) (declared_of (scope_of state) left) (Selects state left) (unsigned_abs (limit_of g)) value)
-    (other : IsValueOf (IsWorked state right) (declared_of (scope_of state) right) (Selects state right) limit context)
+    (own : IsFlatAt state First left (unsigned_abs (limit_of g)) value) (other : IsFlatAt state First right limit context)
     (is : v ≡ value) (same : c ≡ context) where
   pub pair_names : joined v.params c.params ≡ joined_names (declared_of (scope_of state) left) (declared_of (scope_of state) right)
   pair_names =
@@ -724,7 +731,7 @@ list_selects scope _ is = refl
 
 module _ (state : StateView) (limit : ℤ) (expr : Expr) where
   pub list_keeps : (values : ListValue) (kept : Kept) → kind_of (scope_of state) expr ≡ Some kinds.List
-      → AreBothOf state expr (unsigned_abs limit) values
+      → AreBothFlat state expr (unsigned_abs limit) values
       → kept ≡ record { kind = kinds.List; value = values.first.value; second = Some values.second.value }
       → AreKeptIn state limit expr kept
   list_keeps values kept kind both is =

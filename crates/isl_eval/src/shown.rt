@@ -36,7 +36,7 @@ use isl_scan::{ScanFault, scan};
 use isl_space::{Name, Params};
 use isl_text::refusal::Refusal;
 use isl_union::{OpFault, Value};
-use isl_values::{Kept, State, list_of, refusal_of, value_of};
+use isl_values::{Kept, State, flat_list_of, flat_value_of, refusal_of, value_of};
 use isl_words::Options;
 use std::alloc::{AllocError, Global};
 use std::rc::Rc;
@@ -133,7 +133,7 @@ fn together(
         (IsWhyUnworked true (EndsWork state.now operand.now) meter.old meter.new) }
     ensures goes_on { IfOk result (λ _. GoesOn (Ends state.now operand.now)) }
 {
-    let value = value_of(alloc, operand, state, meter)?;
+    let value = flat_value_of(alloc, operand, state, meter)?;
     match coalesce(alloc, &value, meter) {
         Ok(together) => Ok(Rc::new(alloc, together)?),
         Err(cut) => Err(refusal_of(cut)),
@@ -156,8 +156,8 @@ fn simplified(
         (IsWhyUnworked true (EndsPair state.now left.now b.Gist right.now) meter.old meter.new) }
     ensures goes_on { IfOk result (λ _. GoesOn (EndsPair state.now left.now b.Gist right.now)) }
 {
-    let value = value_of(alloc, left, state, meter)?;
-    let context = value_of(alloc, right, state, meter)?;
+    let value = flat_value_of(alloc, left, state, meter)?;
+    let context = flat_value_of(alloc, right, state, meter)?;
     match gist(alloc, &value, &context, meter) {
         Ok(gist) => Ok(Rc::new(alloc, gist)?),
         Err(OpFault::Cut(cut)) => Err(refusal_of(cut)),
@@ -181,7 +181,7 @@ fn selected(
         (IsWhyUnworked (list_any uses_units (parts_of expr.now)) (Ends state.now expr.now) meter.old meter.new) }
     ensures goes_on { IfOk result (λ _. GoesOn (Ends state.now expr.now)) }
 {
-    value_of(alloc, expr, state, meter)
+    flat_value_of(alloc, expr, state, meter)
 }
 
 fn is_sample(word: Prefix) -> bool
@@ -308,7 +308,7 @@ fn list_kept(alloc: Global, expr: &Expr, state: &State, meter: &mut Meter) -> Re
         (IsWhyUnworked (list_any uses_units (parts_of expr.now)) (Ends state.now expr.now) meter.old meter.new) }
     ensures goes_on { IfOk result (λ _. GoesOn (Ends state.now expr.now)) }
 {
-    match list_of(alloc, expr, state, meter) {
+    match flat_list_of(alloc, expr, state, meter) {
         Ok(values) => Ok(Kept::list(values)),
         Err(refusal) => Err(refusal),
     }

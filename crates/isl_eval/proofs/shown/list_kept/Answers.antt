@@ -4,10 +4,16 @@ use Rattle.isl_values.specs.State.{scope_of}
 use Rattle.isl_eval.proofs.ShownLaws.{list_keeps, list_selects, selected_sound}
 use Rattle.isl_eval.proofs.shown.list_kept.Goals as goal
 
-pub list_of-requires-clause-sound : goal.list_of-requires-clause-sound
-list_of-requires-clause-sound c =
+pub flat_list_of-requires-clause-sound : goal.flat_list_of-requires-clause-sound
+flat_list_of-requires-clause-sound c =
     selected_sound (scope_of c.args.state.now) c.args.expr.now (list_selects (scope_of c.args.state.now) c.args.expr.now c.requires.kind)
     c.requires.makeable
+
+pub list-requires-clause-first : goal.list-requires-clause-first
+list-requires-clause-first c = c.in-Ok.ensures.made.0.0.definitions tt
+
+pub list-requires-clause-second : goal.list-requires-clause-second
+list-requires-clause-second c = c.in-Ok.ensures.made.0.1.definitions tt
 
 pub list-requires-clause-params : goal.list-requires-clause-params
 list-requires-clause-params c = c.in-Ok.ensures.made.0.1.params ∙ sym c.in-Ok.ensures.made.0.0.params

@@ -5,14 +5,14 @@ use Rattle.isl_values.proofs.ValueLaws.{match_map}
 use Rattle.isl_eval.proofs.ShownLaws.{selected_kept, selected_sound}
 use Rattle.isl_eval.proofs.shown.selected.Goals as goal
 
-pub value_of-requires-clause-sound : goal.value_of-requires-clause-sound
-value_of-requires-clause-sound c = selected_sound (scope_of c.args.state.now) c.args.expr.now c.requires.selects c.requires.makeable
+pub flat_value_of-requires-clause-sound : goal.flat_value_of-requires-clause-sound
+flat_value_of-requires-clause-sound c = selected_sound (scope_of c.args.state.now) c.args.expr.now c.requires.selects c.requires.makeable
 
 pub returns-clause-made : goal.returns-clause-made
 returns-clause-made c =
-    match_map c.value_of.result _ _ _ _
+    match_map c.flat_value_of.result _ _ _ _
     (λ value h. (
       selected_kept c.args.state.now (limit_of c.args.meter.now) First c.args.expr.now value.value c.requires.selects h.0,
       h.1,
     ))
-    (λ refusal h. h) c.value_of.ensures.made
+    (λ refusal h. h) c.flat_value_of.ensures.made
