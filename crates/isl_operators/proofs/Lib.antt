@@ -5,3 +5,4 @@ pub mod FaultLaws
 pub mod SpaceLaws
 pub mod MadeLaws
 mod PairingLaws
+mod ApplicationLaws

@@ -73,10 +73,21 @@ IsOperatorOf b.Superset left right value = ⊥
 abbrev pub IsAnyWordOf : Prefix → KeptValue → KeptValue → Type 0
 IsAnyWordOf word operand value = IsOver operand.params (WordHas word operand.params (Has operand)) value
 
--- `coalesce`: the pieces of an operand that defines no column are put together until no two of them can be
+-- The one value may be the other without its defined columns: it is over the same parameters and has the same elements, and it is the other
+-- where that defines no column.
+pub record IsFlatOf (defined value : KeptValue) : Type 0 where
+  pub params : value.params ≡ defined.params
+  pub elements : (valuation : Valuation) (element : Element) → Has value valuation element ↔ Has defined valuation element
+  pub same : HasNoDefinitions defined → value ≡ defined
+
+-- the pieces of the operand, without its defined columns, are put together until no two of them can be
+abbrev pub IsCoalescedFlat : KeptValue → KeptValue → Type 0
+IsCoalescedFlat operand value = (flat : KeptValue) × IsFlatOf operand flat × IsCoalesced flat value
+
+-- `coalesce`
 pub record IsPutTogether (operand value : KeptValue) : Type 0 where
   pub any : IsAnyWordOf p.Coalesce operand value
-  pub coalesced : HasNoDefinitions operand → IsCoalesced operand value
+  pub coalesced : IsCoalescedFlat operand value
 
 -- the value is what a word makes of one
 abbrev pub IsWordOf : Prefix → KeptValue → KeptValue → Type 0

@@ -10,13 +10,15 @@ ghost use Rattle.isl_operators.specs.Operations.{ApplicationHas};
 ghost use Rattle.isl_operators.specs.Formed.{ApplicationForms, PairsWide};
 ghost use Rattle.isl_operators.specs.Made.{IsApplicationOf, IsPaid, IsWhyNone};
 
+use crate::spaces::has_maps;
 use isl_maps::{apply, join};
 use isl_meter::Meter;
 use isl_union::{OpFault, Value};
 use std::alloc::Global;
 
 /// A map applied to a set, or to a map: what it maps the elements of the one to, or the pairs of the other followed by its own. The
-/// parameters of the map come first, and then the new ones of the argument. (the iscc chapter of the barvinok manual)
+/// parameters of the map come first, and then the new ones of the argument. Pairs are looked for only where the argument has maps. (the
+/// iscc chapter of the barvinok manual)
 ///
 /// # Errors
 ///
@@ -47,6 +49,9 @@ pub fn applied(
     // For what values keep.
     let _map = map.pieces();
     let _argument = argument.pieces();
+    if !has_maps(argument) {
+        return apply(alloc, map, argument, meter);
+    }
     let followed = join(alloc, argument, map, meter)?;
     let images = apply(alloc, map, argument, meter)?;
     images.union(alloc, &followed, meter)

@@ -6,10 +6,9 @@ ghost use Rattle.isl_space.specs.Element.{Element};
 ghost use Rattle.isl_space.specs.Valuation.{Valuation};
 ghost use Rattle.isl_union.specs.KeptValue.{Has, HasNoDefinitions, IsKeptValue};
 ghost use Rattle.isl_union.specs.Numbers.{IsWithinLimit};
-ghost use Rattle.isl_coalesce.specs.Coalesced.{IsCoalesced};
 ghost use Rattle.isl_operators.specs.Operations.{WordHas, WordMisses, is_operation_word};
 ghost use Rattle.isl_operators.specs.Formed.{WordForms, FormsWide};
-ghost use Rattle.isl_operators.specs.Made.{IsAnyWordOf, IsPaid, IsWhyNone, IsWhyNoWord, IsWordOf, word_works};
+ghost use Rattle.isl_operators.specs.Made.{IsAnyWordOf, IsCoalescedFlat, IsPaid, IsWhyNone, IsWhyNoWord, IsWordOf, word_works};
 ghost use Rattle.isl_operators.specs.Words.{is_moving};
 
 use crate::WordFault;
@@ -60,7 +59,7 @@ fn put_together(alloc: Global, operand: &Value, meter: &mut Meter) -> Result<Val
     ensures params { IfOk result (λ value. value.params ≡ operand.now.params) }
     ensures elements { (valuation : Valuation) (element : Element)
         → IfOk result (λ value. Has value valuation element ↔ Has operand.now valuation element) }
-    ensures coalesced { HasNoDefinitions operand.now → IfOk result (IsCoalesced operand.now) }
+    ensures coalesced { IfOk result (IsCoalescedFlat operand.now) }
     ensures definitions { IfOk result HasNoDefinitions }
     ensures numbers { IfOk result (IsWithinLimit meter.old) }
     ensures meter { IsMetered meter.old meter.new result }

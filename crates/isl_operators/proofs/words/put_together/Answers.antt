@@ -1,6 +1,8 @@
 use Rattle.std.proofs.Common.{◌↔◌}
 use Rattle.std.proofs.lemmas.Result.{IfOk-weaker}
 use Rattle.isl_union.specs.KeptValue.{KeptValue, Has}
+use Rattle.isl_coalesce.specs.Coalesced.{IsCoalesced}
+use Rattle.isl_operators.specs.Made.{IsCoalescedFlat}
 use Rattle.isl_operators.proofs.FaultLaws.{within_later}
 use Rattle.isl_operators.proofs.words.put_together.Goals as goal
 
@@ -14,3 +16,13 @@ returns-clause-elements c = λ v e.
     IfOk-weaker c.coalesce.result (λ (value : KeptValue). Has value v e ↔ Has c.in_ok-flat.flat v e)
     (λ (value : KeptValue). Has value v e ↔ Has c.args.operand.now v e)
     (λ value same. ((λ has. flat.0 (same.0 has)), (λ has. same.1 (flat.1 has)))) (c.coalesce.ensures.elements v e)
+
+pub returns-clause-coalesced : goal.returns-clause-coalesced
+returns-clause-coalesced c =
+    let e = c.in_ok-flat.ensures in
+    IfOk-weaker c.coalesce.result (IsCoalesced c.in_ok-flat.flat) (IsCoalescedFlat c.args.operand.now)
+    (λ (value : KeptValue) coalesced. (
+      c.in_ok-flat.flat,
+      record { params = e.params; elements = e.elements; same = λ plain. (e.same plain).0 },
+      coalesced,
+    )) c.coalesce.ensures.coalesced
