@@ -57,6 +57,7 @@ use Rattle.isl_eval.specs.Run.{Answers}
 use Rattle.isl_eval.proofs.CauseLaws.{of_tokens, of_statement, one as one_spelled}
 use Rattle.isl_token.proofs.LexLaws.{lexed}
 use Rattle.isl_eval.proofs.LiteralLaws.{IsSpelled, literals_spelled}
+use Rattle.isl_values.proofs.FlatLaws.{literal_written}
 use Rattle.isl_values.proofs.ForgetLaws.{kept_of_dollar, kept_of_forgotten}
 use Rattle.isl_round_trip.specs.Tree.{printed_tree}
 use Rattle.isl_round_trip.specs.Written.{HasFewRemainders, IsOfKind}
@@ -218,7 +219,8 @@ module _ (moment : Moment) (bits : moment.meter.bits ≤ 127) (value : KeptValue
           let step : Step moment (Show (e.Literal (printed_tree value))) answers.performed.0 other =
           subst (λ (s : Stmt). Steps moment (flat s) answers.performed.0 other) same steps in
           let made = step.does.1 in
-          let ordered_again : made.0.value ≡ ordered value = reads.read made.0.value made.1.value.content.written in
+          let ordered_again : made.0.value ≡ ordered value =
+          reads.read made.0.value (literal_written moment.state First (printed_tree value) made.0.value made.1.value.content.written) in
           let kind : kind_of_pieces (printed_tree value).pieces ≡ made.0.kind =
           some_same (kind_of_pieces (printed_tree value).pieces) made.0.kind made.1.kind in
           let one : made.0.second ≡ None =
