@@ -1,6 +1,6 @@
 -- Where something in an expression uses units, and its evaluation goes on, its work may be cut.
 use mathlib.Core.Former.{Count}
-use Rattle.std.proofs.Common.{◌≡◌, ◌∙◌, ◌⊎◌, inl, inr, ◌<◌, ◌≤◌, Bool, true, false, List, [], ◌++◌, length, refl, sym, ap}
+use Rattle.std.proofs.Common.{◌≡◌, ◌∙◌, ◌⊎◌, inl, inr, Bool, true, false, List, [], ◌++◌, length, refl, sym, ap}
 use Rattle.std.specs.Prelude.{◌||◌}
 use Rattle.std.proofs.lemmas.Bool.{cases_lt, false≢true}
 use Rattle.std.proofs.lemmas.List.{append-nil}
@@ -40,7 +40,8 @@ behind_cut A B goes there = let both = both_go A B goes in inr (both.0, there bo
 before_cut : (A B : End → Type 0) → GoesOn (FirstEnds A B) → (GoesOn A → A cut) → FirstEnds A B cut
 before_cut A B goes there = inl (there (both_go A B goes).0)
 
-operation_cut : (names : List Name) (Wide Misses : Type 0) → GoesOn (OperationEnds names Wide Misses) → OperationEnds names Wide Misses cut
+operation_cut : (names : List Name) (Wide Misses : Type 0) → GoesOn (OperationEnds names Wide Misses)
+    → OperationEnds names Wide Misses cut
 operation_cut names Wide Misses goes = elim (cases_lt most_parameters (length names)) [
   | inl many ↦ absurd (goes too_wide (inl many))
   | inr few ↦ (few, (λ wide. goes too_wide (inr (few, wide))))
@@ -59,8 +60,8 @@ postfixes_cut m state names Operand end_of-Postfix works goes = absurd (false≢
 postfixes_cut m state names Operand (more_of-Postfix Inverse row) works goes =
     behind_cut NoEnd
     (Past state (declared_past (scope_of state) names Inverse) (λ v x. PostfixHas state v (Operand v) Inverse x) row) goes
-    (λ rest. postfixes_cut _ state (declared_past (scope_of state) names Inverse) (λ v x. PostfixHas state v (Operand v) Inverse x) row works
-    rest)
+    (λ rest. postfixes_cut _ state (declared_past (scope_of state) names Inverse) (λ v x. PostfixHas state v (Operand v) Inverse x) row
+    works rest)
 postfixes_cut m state names Operand (more_of-Postfix (Apply argument) row) works goes =
     let Pair = PairEnds ApplicationForms names (declared_of (scope_of state) argument) Operand (λ v x. Selects state argument v x) in
     before_cut (EndsPostfix state names Operand (Apply argument))
@@ -69,8 +70,8 @@ postfixes_cut m state names Operand (more_of-Postfix (Apply argument) row) works
 postfixes_cut m state names Operand (more_of-Postfix (Item number) row) works goes =
     behind_cut NoEnd
     (Past state (declared_past (scope_of state) names (Item number)) (λ v x. PostfixHas state v (Operand v) (Item number) x) row) goes
-    (λ rest. postfixes_cut _ state (declared_past (scope_of state) names (Item number)) (λ v x. PostfixHas state v (Operand v) (Item number) x)
-    row works rest)
+    (λ rest. postfixes_cut _ state (declared_past (scope_of state) names (Item number))
+    (λ v x. PostfixHas state v (Operand v) (Item number) x) row works rest)
 
 -- ---- a row, behind a first operand that ends so
 row_cut : (m : Count) (state : StateView) (A : End → Type 0) (parts : List Part) (names : List Name) (Left : Elements) (row : Row_of-Link m)
@@ -83,7 +84,8 @@ row_cut m state A parts names Left (more_of-Link operator operand rest) works go
     let Rest = λ (why : End). EndsPastLinks state (joined_names names (declared_of (scope_of state) operand))
     (λ v x. OperatorHas operator (Left v) (λ y. Selects state operand v y) x) rest why in
     behind_cut A (FirstEnds (Ends state operand) (FirstEnds Pair Rest)) goes
-    (λ past. behind_cut (Ends state operand) (FirstEnds Pair Rest) past (λ two. before_cut Pair Rest two (λ pair. operation_cut _ _ _ pair)))
+    (λ past. behind_cut (Ends state operand) (FirstEnds Pair Rest) past
+    (λ two. before_cut Pair Rest two (λ pair. operation_cut _ _ _ pair)))
 
 -- ---- an expression
 -- what follows an operand ends so

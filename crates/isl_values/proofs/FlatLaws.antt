@@ -1,13 +1,11 @@
 -- Values without their defined columns.
-use Rattle.std.proofs.Common.{◌≡◌, ◌∙◌, ◌↔◌, inl, inr, ℕ, ℤ, Bool, true, false, All, List, [], length, map, refl, sym, subst, arith}
+use Rattle.std.proofs.Common.{◌≡◌, ◌∙◌, ◌↔◌, inl, inr, ℕ, ℤ, Bool, true, false, All, List, [], map, refl, sym, subst, arith}
 use Rattle.std.specs.Prelude.{unsigned_abs, IsTrue, Result, Ok, Err, MatchResult}
 use Rattle.std.proofs.lemmas.Bool.{false≢true}
 use Rattle.std.proofs.lemmas.List.{get_or-map, length-map}
 use Rattle.std.proofs.lemmas.List.Elements.{All-map}
 use Rattle.isl_meter.specs.Gauge.{Gauge, limit_of, IsCharged}
 use Rattle.isl_meter.proofs.CutLemmas.{IsCharged_trans, IsCutBy-after}
-use Rattle.isl_space.specs.Valuation.{Valuation}
-use Rattle.isl_space.specs.Element.{Element}
 use Rattle.isl_piece.specs.Piece.{PieceView}
 use Rattle.isl_union.specs.KeptValue.{KeptPiece, KeptValue, Has, HasNoDefinitions, IsKeptValue}
 use Rattle.isl_union.specs.Piece.{kept_piece}
@@ -27,7 +25,7 @@ use Rattle.isl_values.specs.Worked.{IsWorkedAt, IsWrittenAt}
 use Rattle.isl_values.specs.Selection.{SelectsAt}
 use Rattle.isl_values.specs.Ends.{CutAlone, Ends, GoesOn}
 use Rattle.isl_values.specs.Made.{IsPaid, IsWhyUnmade, IsWhyUnworked}
-use Rattle.isl_values.specs.Three.{IsFlatAt, IsMadeFlat, IsValueAt}
+use Rattle.isl_values.specs.Three.{IsFlatAt, IsMadeFlat}
 use Rattle.isl_values.proofs.CutLaws.{working_cut}
 use Rattle.isl_values.proofs.SameLaws.{itself, same_trans}
 use Rattle.isl_values.proofs.ValueLaws.{IsMadeAt, paid_works, same_limit, unmade_memory, work}
@@ -49,9 +47,9 @@ pub plain_exactly : (value : KeptValue) (pieces : List PieceView) → map kept_p
 plain_exactly value pieces are =
     let P : KeptPiece → Type 0 = λ piece. piece.definitions ≡ [] in (
       (λ plain i piece low.
-      let kept = subst (All P) (sym are) plain in
-      let long = length-map pieces kept_piece in
-      subst P (get_or-map kept_piece pieces i piece (kept_piece piece) low) (kept i (kept_piece piece) (omega (arith, long, low)))),
+          let kept = subst (All P) (sym are) plain in
+          let long = length-map pieces kept_piece in
+          subst P (get_or-map kept_piece pieces i piece (kept_piece piece) low) (kept i (kept_piece piece) (omega (arith, long, low)))),
       (λ all. subst (All P) are (All-map P kept_piece pieces all)),
     )
 

@@ -498,7 +498,8 @@ pub fn joined_past(
         (λ value. IsValueOf (IsWorkedRow state.now first.value links.now)
         (declared_of_row (scope_of state.now) first.value.params links.now)
         (λ valuation element. RowSelects state.now valuation (Has first.value valuation) links.now element)
-        (unsigned_abs (limit_of meter.old)) (HasNoDefinitions first.value × (list_any uses_units (parts_of_links links.now) ≡ false)) value.value
+        (unsigned_abs (limit_of meter.old))
+        (HasNoDefinitions first.value × (list_any uses_units (parts_of_links links.now) ≡ false)) value.value
         × IsPaid (list_any uses_units (parts_of_links links.now)) meter.old meter.new)
         (IsWhyUnworked (list_any uses_units (parts_of_links links.now))
         (EndsRow state.now first.value.params (Has first.value) links.now) meter.old meter.new) }

@@ -11,7 +11,7 @@ pub returns-in-Ok : goal.returns-in-Ok
 returns-in-Ok c =
     let one = c.in-Ok.ensures in
     let e = c.flattened.ensures in record {
-      made = flat_answer c.args.state.now First c.args.expr.now c.args.meter.now c.value_of.new.meter c.flattened.new.meter c.in-Ok.value.value
-          one.made one.goes_on (λ v. v.value) c.flattened.result e.made e.same;
+      made = flat_answer c.args.state.now First c.args.expr.now c.args.meter.now c.value_of.new.meter c.flattened.new.meter
+          c.in-Ok.value.value one.made one.goes_on (λ v. v.value) c.flattened.result e.made e.same;
       goes_on = ok_of c.flattened.result _ (λ v. one.goes_on);
     }

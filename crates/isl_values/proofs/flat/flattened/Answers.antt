@@ -14,8 +14,8 @@ use Rattle.isl_values.proofs.flat.flattened.Goals as goal
 
 pub returns-then-is_flat-clause-made : goal.returns-then-is_flat-clause-made
 returns-then-is_flat-clause-made c = (
-  made_flat_itself (unsigned_abs (limit_of c.args.meter.now)) c.args.value.value (subst IsKeptValue c.deref.ensures c.if-is_flat.ensures.kept)
-      c.requires (subst HasNoDefinitions c.deref.ensures (c.if-is_flat.ensures.told.0 refl)),
+  made_flat_itself (unsigned_abs (limit_of c.args.meter.now)) c.args.value.value
+      (subst IsKeptValue c.deref.ensures c.if-is_flat.ensures.kept) c.requires (subst HasNoDefinitions c.deref.ensures (c.if-is_flat.ensures.told.0 refl)),
   IsCharged_refl c.args.meter.now c.args.meter.now refl,
 )
 
