@@ -1,0 +1,4 @@
+pub mod OverLaws
+pub mod VisitLaws
+pub mod TimeLaws
+pub mod CheckLaws

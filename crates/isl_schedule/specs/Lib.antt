@@ -1,0 +1,5 @@
+pub mod Schedule
+pub mod Shapes
+pub mod Refused
+pub mod Visits
+pub mod Differ
