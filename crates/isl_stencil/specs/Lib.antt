@@ -1,0 +1,2 @@
+pub mod Stencil
+pub use Rattle.isl_script.specs.Script
