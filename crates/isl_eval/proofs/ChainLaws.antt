@@ -11,7 +11,7 @@ use Rattle.isl_expr.specs.declared.tree.Prefix.TheVariants.{Sample}
 use Rattle.isl_expr.specs.declared.tree.ValueKind.{ValueKind}
 use Rattle.isl_expr.specs.declared.tree.ValueKind.TheVariants as k
 use Rattle.isl_expr.specs.declared.tree.Stmt.{Stmt}
-use Rattle.isl_expr.specs.declared.tree.Stmt.TheVariants.{Empty, Bind, Show}
+use Rattle.isl_expr.specs.declared.tree.Stmt.TheVariants.{Empty, Bind, Show, Assume}
 use Rattle.isl_expr.specs.declared.tree.Expr.{Expr}
 use Rattle.isl_expr.specs.declared.tree.Expr.TheBlock.{hidden-the_row-Expr-0}
 use Rattle.isl_expr.specs.declared.tree.Expr as e
@@ -23,7 +23,8 @@ use Rattle.isl_kinds.specs.Typed.{declared_of, kind_for, with_params, type_for, 
 use Rattle.isl_eval.proofs.TestLaws.{made_of-Row, whole_row}
 use Rattle.isl_flat.specs.Flat.{flat, link_of}
 use Rattle.isl_flat.specs.Simple.{bindings_of, last_of, BindFrom, IsSimple, IsSimpleExpr, HasType, AreTyped, statement_declared}
-use Rattle.isl_eval.specs.Unsupported.{is_unsupported_part}
+use Rattle.isl_eval.specs.Unsupported.{assumes, is_unsupported_part}
+use Rattle.std.proofs.lemmas.Bool.{false≢true, or_parts}
 use Rattle.isl_flat.proofs.SimpleLaws.{flat_ends, parts_kept, literals_kept, flat_is_simple, bindings_are_numbered}
 use Rattle.isl_flat.proofs.TypedLaws.{flat_is_typed}
 use Rattle.isl_stmt.specs.Names.{HasNoDollar, binds_dollar}
@@ -98,7 +99,15 @@ shown_simple scope expr kind is full supported (inr (inr h)) =
 -- ---- one simple statement
 abbrev pub FullStmt : Stmt → Type 0
 FullStmt (Show expr) = is_lone expr ≡ false
-FullStmt _ = Unit {0}
+FullStmt (Assume set) = ⊥
+FullStmt (Bind name expr) = Unit {0}
+FullStmt Empty = Unit {0}
+
+no_assumption : (stmt : Stmt) → FullStmt stmt → assumes stmt ≡ false
+no_assumption Empty full = refl
+no_assumption (Bind name expr) full = refl
+no_assumption (Show expr) full = refl
+no_assumption (Assume set) full = absurd full
 
 plain : (scope : ScopeView) (stmt : Stmt) (t : Option TypeView) → type_of_statement scope stmt ≡ Ok t → FullStmt stmt
     → list_any is_unsupported_part (parts_of_statement stmt) ≡ false → IsSimple stmt → list_any is_foreign (worked_parts stmt) ≡ false
@@ -109,6 +118,7 @@ plain scope (Bind name expr) t typed full supported simple =
 plain scope (Show expr) t typed full supported simple =
     let u = found_is (type_for purpose.Shown scope expr) t typed in
     shown_simple scope expr u.0.kind (of_type scope expr purpose.Shown u.0 u.1).kind full supported simple
+plain scope (Assume set) t typed full supported simple = refl
 
 abbrev MayBe : ℕ → Stmt → Type 0
 MayBe most stmt = (scope : ScopeView) (t : Option TypeView) → HasType most scope stmt t → IsEvaluable scope stmt
@@ -119,6 +129,7 @@ may_be most stmt full supported literals simple = λ scope t has. record {
   typed = (t, has.typed);
   plain = plain scope stmt t has.typed full supported simple;
   literals = literals;
+  assumes_nothing = no_assumption stmt full;
 }
 
 -- ---- one after another
@@ -143,17 +154,20 @@ chain most n scope (Bind name expr ∷ next ∷ more) last t typed from all = (
 )
 chain most n scope (Empty ∷ more) last t typed from all = absurd from
 chain most n scope (Show expr ∷ more) last t typed from all = absurd from
+chain most n scope (Assume set ∷ more) last t typed from all = absurd from
 
 full_bindings : (n : ℕ) (bindings : List Stmt) → BindFrom n bindings → All FullStmt bindings
 full_bindings n [] from = All-nil FullStmt
 full_bindings n (Bind name expr ∷ more) from = All-cons FullStmt (Bind name expr) more tt (full_bindings (suc n) more from.1)
 full_bindings n (Empty ∷ more) from = absurd from
 full_bindings n (Show expr ∷ more) from = absurd from
+full_bindings n (Assume set ∷ more) from = absurd from
 
 full_last : (stmt : Stmt) → FullStmt stmt → FullStmt (last_of stmt)
 full_last Empty full = tt
 full_last (Bind name expr) full = tt
 full_last (Show expr) full = outermost_full expr full
+full_last (Assume set) full = full
 
 all_full : (stmt : Stmt) → FullStmt stmt → All FullStmt (flat stmt)
 all_full stmt full =
@@ -161,10 +175,11 @@ all_full stmt full =
     (All-append FullStmt (bindings_of stmt) (last_of stmt ∷ []) (full_bindings 1 (bindings_of stmt) (bindings_are_numbered stmt))
     (All-cons FullStmt (last_of stmt) [] (full_last stmt full) (All-nil FullStmt)))
 
-full_spelled : (bytes : List ℕ) (stmt : Stmt) → BytesSpell bytes stmt → FullStmt stmt
-full_spelled bytes Empty spelled = tt
-full_spelled bytes (Bind name expr) spelled = tt
-full_spelled bytes (Show expr) spelled = spelled_full expr spelled.tokens (lexed bytes spelled.tokens spelled.cut) spelled.spelled
+full_spelled : (bytes : List ℕ) (stmt : Stmt) → BytesSpell bytes stmt → assumes stmt ≡ false → FullStmt stmt
+full_spelled bytes Empty spelled none = tt
+full_spelled bytes (Bind name expr) spelled none = tt
+full_spelled bytes (Assume set) spelled none = absurd (false≢true (sym none))
+full_spelled bytes (Show expr) spelled none = spelled_full expr spelled.tokens (lexed bytes spelled.tokens spelled.cut) spelled.spelled
 
 pub no_dollar : (bytes : List ℕ) (stmt : Stmt) → BytesSpell bytes stmt → HasNoDollar stmt
 no_dollar bytes stmt spelled = bytes_spell_no_dollar bytes stmt spelled.tokens spelled.cut spelled.spelled
@@ -177,10 +192,11 @@ evaluable before bytes stmt statements read able is short =
     let most = length (statement_declared (scope_of before.state) stmt) in
     let typed = flat_is_typed (scope_of before.state) stmt able.typed.0 (no_dollar bytes stmt read.spelled).inside
     (subst (λ (s : List Stmt). length s ≤ 2 ^ 64) is short) able.typed.1 in
-    let supported = parts_kept is_unsupported_part (λ n. refl) stmt read.supported in
+    let quiet = or_parts (assumes stmt) (list_any is_unsupported_part (parts_of_statement stmt)) read.supported in
+    let supported = parts_kept is_unsupported_part (λ n. refl) stmt quiet.1 in
     let literals = literals_kept IsWellFormedLiteral stmt read.sound in
     let simple = flat_is_simple stmt in
-    let full = all_full stmt (full_spelled bytes stmt read.spelled) in
+    let full = all_full stmt (full_spelled bytes stmt read.spelled quiet.0) in
     let each : All (MayBe most) (flat stmt) = λ i d low.
     may_be most (get_or (flat stmt) i d) (full i d low) (supported i d low) (literals i d low) (simple i d low) in
     subst (AreEvaluable (scope_of before.state)) (sym (is ∙ flat_ends stmt))
@@ -203,6 +219,7 @@ last_binds : (stmt : Stmt) → binds_dollar stmt ≡ false → binds_dollar (las
 last_binds Empty none = refl
 last_binds (Bind name expr) none = none
 last_binds (Show expr) none = refl
+last_binds (Assume set) none = refl
 
 -- it binds no name that no script has
 pub alone_plain : (before : Moment) (bytes : List ℕ) (statements : List Stmt) (only : Stmt) → IsTaken before bytes statements

@@ -11,7 +11,7 @@ use Rattle.isl_token.specs.Spelling.{Grammar}
 use Rattle.isl_tree.specs.declared.tree.Literal.{Literal}
 use Rattle.isl_expr.specs.declared.tree.Binary.{Binary}
 use Rattle.isl_expr.specs.declared.tree.Stmt.{Stmt}
-use Rattle.isl_expr.specs.declared.tree.Stmt.TheVariants.{Empty, Bind, Show}
+use Rattle.isl_expr.specs.declared.tree.Stmt.TheVariants.{Empty, Bind, Show, Assume}
 use Rattle.isl_expr.specs.declared.tree.Link.{Link}
 use Rattle.isl_expr.specs.declared.tree.Postfix.{Postfix}
 use Rattle.isl_expr.specs.declared.tree.Expr.{Expr, Row', Prefix', Any', Last', Post'}
@@ -28,6 +28,7 @@ use Rattle.isl_stmt.specs.declared.word.Role.{Role}
 use Rattle.isl_stmt.specs.declared.word.Role.TheVariants as role
 use Rattle.isl_stmt.specs.Expression.{row_of, post_of, dependence}
 use Rattle.isl_stmt.specs.ExpressionGrammar as g
+use Rattle.isl_pset.specs.PsetGrammar.{pset_grammar}
 use Rattle.isl_stmt.specs.StatementGrammar as statement
 use Rattle.isl_formula.proofs.SpelledLaws.{Has, whatever, pure_has, bind_has, then_has, either_has}
 use Rattle.isl_flat.specs.Flat.{Flattened, Partial, Followed, whole, is_gist, begun, settled_row, gist, with_link}
@@ -144,12 +145,16 @@ abbrev FullStmt : Stmt → Type 0
 FullStmt Empty = Unit {0}
 FullStmt (Bind name expr) = Unit {0}
 FullStmt (Show expr) = Full expr
+FullStmt (Assume set) = Unit {0}
 
 show_full : (expr : Expr) → Full expr → FullStmt (Show expr)
 show_full expr h = h
 
 empty_full : FullStmt Empty
 empty_full = tt
+
+assume_full : (set : Literal) → FullStmt (Assume set)
+assume_full set = tt
 
 bind_full : (name : List ℕ) (expr : Expr) → FullStmt (Bind name expr)
 bind_full name expr = tt
@@ -162,7 +167,8 @@ statement_full n =
     (bind_has (λ _. Unit {0}) FullStmt _ _ (whatever _)
     (λ name _. then_has FullStmt _ _ (bind_has (λ _. Unit {0}) FullStmt _ _ (whatever _) (λ expr _.
     pure_has FullStmt (Bind name expr) (bind_full name expr)))))
-    (either_has FullStmt _ _ (then_has FullStmt _ _ shows) shows))
+    (either_has FullStmt _ _ (then_has FullStmt _ _ shows) (either_has FullStmt _ _ shows (then_has FullStmt _ _
+    (bind_has (λ _. Unit {0}) FullStmt (pset_grammar n) _ (whatever _) (λ set _. pure_has FullStmt (Assume set) (assume_full set)))))))
 
 -- what is shown is full
 pub spelled_full : (expr : Expr) (ts : List Token) → All IsToken ts → s.Spells statement.statement_grammar (Show expr) ts

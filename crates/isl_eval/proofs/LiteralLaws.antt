@@ -10,7 +10,7 @@ use Rattle.isl_tree.specs.declared.tree.Literal.{Literal}
 use Rattle.isl_text.specs.Literal.{literal_grammar}
 use Rattle.isl_text.specs.Formed.{is_formed}
 use Rattle.isl_expr.specs.declared.tree.Stmt.{Stmt}
-use Rattle.isl_expr.specs.declared.tree.Stmt.TheVariants.{Empty, Bind, Show}
+use Rattle.isl_expr.specs.declared.tree.Stmt.TheVariants.{Empty, Bind, Show, Assume}
 use Rattle.isl_expr.specs.declared.tree.Link.{Link}
 use Rattle.isl_expr.specs.declared.tree.Postfix.{Postfix}
 use Rattle.isl_expr.specs.declared.tree.Postfix.TheVariants.{Inverse, Apply, Item}
@@ -29,7 +29,9 @@ use Rattle.isl_stmt.specs.ExpressionGrammar as g
 use Rattle.isl_stmt.specs.StatementGrammar as statement
 use Rattle.isl_formula.proofs.SpelledLaws.{Has, whatever, pure_has, bind_has, then_has, either_has, many_has}
 use Rattle.isl_text.proofs.DivisorLaws.{IsDivided, outline_divided}
-use Rattle.isl_eval.proofs.NameLaws.{IsNamedLiteral, outline_has}
+use Rattle.isl_pset.specs.PsetGrammar.{pset_grammar}
+use Rattle.isl_pset.proofs.SpelledLaws as psets
+use Rattle.isl_eval.proofs.NameLaws.{IsNamedLiteral, outline_has, pset_outline_has}
 
 -- a literal by its grammar: named, and formed, with divisors that are at least 1
 pub record IsSpelled (literal : Literal) : Type 0 where
@@ -44,6 +46,15 @@ literal_has n = record {
     formed = l.1;
     divided =
         (outline_divided n).by a ts tokens l.0;
+  };
+}
+
+pset_has : (n : ℕ) → Has IsSpelled (pset_grammar n)
+pset_has n = record {
+  by = λ a ts tokens l. record {
+    named = (pset_outline_has n).by a ts tokens l.0;
+    formed = l.1;
+    divided = (psets.outline_divided n).by a ts tokens l.0;
   };
 }
 
@@ -195,6 +206,10 @@ bind_inside : (name : List ℕ) (expr : Expr) → Inside expr → InsideStmt (Bi
 unfolding InsideStmt Inside
 bind_inside name expr h = h
 
+assume_inside : (set : Literal) → IsSpelled set → InsideStmt (Assume set)
+unfolding InsideStmt Spelled
+assume_inside set one = All-cons IsSpelled set [] one (All-nil IsSpelled)
+
 show_inside : (expr : Expr) → Inside expr → InsideStmt (Show expr)
 unfolding InsideStmt Inside
 show_inside expr h = h
@@ -207,7 +222,8 @@ statement_has n =
     (bind_has (λ _. Unit {0}) InsideStmt _ _ (whatever _)
     (λ name _. then_has InsideStmt _ _ (bind_has Inside InsideStmt _ _ inside
     (λ expr one. pure_has InsideStmt (Bind name expr) (bind_inside name expr one)))))
-    (either_has InsideStmt _ _ (then_has InsideStmt _ _ shows) shows))
+    (either_has InsideStmt _ _ (then_has InsideStmt _ _ shows) (either_has InsideStmt _ _ shows (then_has InsideStmt _ _
+    (bind_has IsSpelled InsideStmt (pset_grammar n) _ (pset_has n) (λ set one. pure_has InsideStmt (Assume set) (assume_inside set one)))))))
 
 pub literals_spelled : (stmt : Stmt) (ts : List Token) → All IsToken ts → s.Spells statement.statement_grammar stmt ts
     → All IsSpelled (statement_literals stmt)

@@ -32,6 +32,8 @@ use Rattle.isl_formula.specs.FormulaGrammar.{formula}
 use Rattle.isl_formula.proofs.SpelledLaws.{Has, whatever, pure_has, bind_has, then_has, either_has, many_has}
 use Rattle.isl_text.specs.LiteralGrammar as g
 use Rattle.isl_text.specs.Piece.{make_piece, make_literal}
+use Rattle.isl_pset.specs.PsetGrammar as sets
+use Rattle.isl_pset.proofs.SpelledLaws.{pieces_have}
 
 -- ---- names
 -- the words of a table that has no name are not this word, where the table has no kind for it
@@ -169,3 +171,17 @@ outline_has n =
     (either_has (All IsLiteralName) _ _ declared_has (pure_has (All IsLiteralName) [] (All-nil IsLiteralName))) (λ params names.
     bind_has (All NamedPiece) IsNamedLiteral _ _ (braces_has (g.tuple n) (formula n) (tuple_has n)) (λ found spaces.
     pure_has IsNamedLiteral (make_literal params found) (record { params = names; spaces = spaces })))
+
+-- a parameter set has one tuple, which has no name
+whole_named : (held : Option Formula) → NamedPiece (sets.condition_of held)
+unfolding NamedPiece
+whole_named held = tt
+
+pub pset_outline_has : (n : ℕ) → Has IsNamedLiteral (sets.outline (formula n))
+unfolding NamedPiece
+pset_outline_has n =
+    bind_has (All IsLiteralName) IsNamedLiteral _ _
+    (either_has (All IsLiteralName) _ _ declared_has (pure_has (All IsLiteralName) [] (All-nil IsLiteralName))) (λ params names.
+    bind_has (All NamedPiece) IsNamedLiteral _ _
+    (pieces_have (λ _. Unit {0}) NamedPiece (whole_named None) (λ held _. whole_named (Some held)) (formula n) (whatever _))
+    (λ found spaces. pure_has IsNamedLiteral (make_literal params found) (record { params = names; spaces = spaces })))

@@ -43,7 +43,7 @@ use Rattle.isl_expr.specs.declared.tree.ValueKind.{ValueKind}
 use Rattle.isl_expr.specs.declared.tree.ValueKind.TheVariants as kinds
 use Rattle.isl_expr.specs.declared.tree.Postfix.{Postfix}
 use Rattle.isl_expr.specs.declared.tree.Stmt.{Stmt}
-use Rattle.isl_expr.specs.declared.tree.Stmt.TheVariants.{Empty, Bind, Show}
+use Rattle.isl_expr.specs.declared.tree.Stmt.TheVariants.{Empty, Bind, Show, Assume}
 use Rattle.isl_expr.specs.declared.tree.Expr.{Expr, Row, Row', Prefix', Row_of-Link, end_of-Link, more_of-Link, items_hidden-the_row-Link-1}
 use Rattle.isl_expr.specs.declared.tree.Expr.TheBlock.{hidden-the_row-Expr-0, hidden-the_row-Link-1}
 use Rattle.isl_expr.specs.declared.tree.Expr as e
@@ -81,6 +81,7 @@ use Rattle.isl_eval.specs.Machine.{Answer, Does, Shows, ShowsRow, ShowsValue, St
 use Rattle.isl_eval.specs.Ended.{ListingEnds, StatementEnds}
 use Rattle.isl_eval.specs.Tests.{is_test, RowHolds}
 use Rattle.isl_eval.specs.Evaluated.{made_parts, shown_parts, parts_around_test, works, IsTyped, IsEvaluable, IsWhyEnded}
+use Rattle.isl_eval.specs.Unsupported.{assumes}
 use Rattle.isl_eval.specs.Evaluation.{ends_with_test, context_in, is_asked, is_coalesce, keeps_selected, refusal_of_fault}
 use Rattle.isl_eval.specs.Evaluation.{AreKeptIn, EndsListing, EndsPair, EndsTest, EndsWork, IsKeptIn, IsMakeable, IsReadyTest, IsSampled}
 use Rattle.isl_eval.specs.Evaluation.{IsSimplified, IsTogether, IsValueWith}
@@ -822,13 +823,14 @@ found_type scope s stmt o t same typed some =
     (answered_ok o (type_of_statement s stmt) typed ∙ ap Ok some)
 
 pub not_empty : (scope s : ScopeView) (stmt : Stmt) (o : Option TypeView) → s ≡ scope → TypeAnswers (Ok o) (type_of_statement s stmt)
-    → o ≡ None → stmt ≢ Empty → ⊥
-not_empty scope s stmt o same typed none full = by stmt full (answered_ok o (type_of_statement s stmt) typed ∙ ap Ok none)
+    → o ≡ None → stmt ≢ Empty → assumes stmt ≡ false → ⊥
+not_empty scope s stmt o same typed none full plain = by stmt full plain (answered_ok o (type_of_statement s stmt) typed ∙ ap Ok none)
   where
-    by : (x : Stmt) → x ≢ Empty → type_of_statement s x ≡ Ok None → ⊥
-    by Empty full is = full refl
-    by (Bind name expr) full is = found_some (type_for purpose.Bound s expr) is
-    by (Show expr) full is = found_some (type_for purpose.Shown s expr) is
+    by : (x : Stmt) → x ≢ Empty → assumes x ≡ false → type_of_statement s x ≡ Ok None → ⊥
+    by Empty full plain is = full refl
+    by (Bind name expr) full plain is = found_some (type_for purpose.Bound s expr) is
+    by (Show expr) full plain is = found_some (type_for purpose.Shown s expr) is
+    by (Assume set) full plain is = false≢true (sym plain)
 
 pub memory_alone : (scope s : ScopeView) (stmt : Stmt) (refusal : Refusal) → s ≡ scope → IsTyped scope stmt
     → TypeAnswers (Err refusal) (type_of_statement s stmt) → refusal ≡ NoMemory

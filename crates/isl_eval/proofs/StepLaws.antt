@@ -15,7 +15,7 @@ use Rattle.isl_union.specs.KeptValue.{KeptValue}
 use Rattle.isl_text.specs.declared.refusal.Refusal.{Refusal}
 use Rattle.isl_expr.specs.declared.tree.ValueKind.{ValueKind}
 use Rattle.isl_expr.specs.declared.tree.Stmt.{Stmt}
-use Rattle.isl_expr.specs.declared.tree.Stmt.TheVariants.{Empty, Bind, Show}
+use Rattle.isl_expr.specs.declared.tree.Stmt.TheVariants.{Empty, Bind, Show, Assume}
 use Rattle.isl_expr.specs.declared.tree.Expr.{Expr}
 use Rattle.isl_kinds.specs.Typed.{TypeView, is_dollar, kind_of, type_of_statement}
 use Rattle.isl_flat.specs.Flat.{flat}
@@ -112,6 +112,7 @@ step_fits : (limit : ℤ) (before : Moment) (stmt : Stmt) (after : Moment) (answ
     → Does before stmt after answer → Fits limit after.state
 step_fits limit before Empty after answer is fits does = subst (Fits limit) (sym does.0) fits
 step_fits limit before (Show expr) after answer is fits does = subst (Fits limit) (sym does.0) fits
+step_fits limit before (Assume set) after answer is fits does = absurd does
 step_fits limit before (Bind name expr) after answer is fits does =
     let kept = does.0.0 in
     fits_bound limit before.state name kept after.state fits does.0.2
@@ -165,6 +166,7 @@ left_next before now next done (Bind name expr) other left answer h step paid do
     )
 left_next before now next done Empty other left answer h step paid dollar = absurd h.ready
 left_next before now next done (Show expr) other left answer h step paid dollar = absurd h.ready
+left_next before now next done (Assume set) other left answer h step paid dollar = absurd h.ready
 
 -- what is left may be evaluated first
 pub left_first : (before now : Moment) (done : List Stmt) (stmt : Stmt) (left : List Stmt) → AreLeft before now done (stmt ∷ left)
@@ -180,6 +182,7 @@ left_first before now done stmt left h = (
     ready (Bind name expr) (other ∷ left) h = h.3
     ready Empty (other ∷ left) h = absurd h
     ready (Show expr) (other ∷ left) h = absurd h
+    ready (Assume set) (other ∷ left) h = absurd h
 
 -- the last is answered
 pub left_answered : (before now after : Moment) (done : List Stmt) (last : Stmt) (answer : Answer) → AreLeft before now done (last ∷ [])
@@ -241,6 +244,7 @@ does_show : (before : Moment) (stmt : Stmt) (after : Moment) (answer : Answer) �
     → after.state ≡ before.state
 does_show before Empty after answer does some = does.0
 does_show before (Show expr) after answer does some = does.0
+does_show before (Assume set) after answer does some = absurd does
 does_show before (Bind name expr) after answer does some = absurd (some (ap (λ (a : Answer). a.bytes) does.1))
 
 pub shown_last : (before now after : Moment) (others : List Stmt) (last : Stmt) (result : Result Answer Refusal)

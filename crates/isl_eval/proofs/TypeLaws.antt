@@ -1,15 +1,18 @@
 -- The types of statements.
 use Rattle.std.proofs.Common.{◌≡◌, ◌∙◌, ◌⊎◌, inl, inr, refl, sym, ap, ℕ, Bool, true, false, List, [], Option, Some, None, Result, Ok, Err}
+use Rattle.std.specs.Prelude.{if◌then◌else◌}
+use Rattle.isl_tree.specs.declared.tree.Literal.{Literal}
+use Rattle.isl_tree.specs.Known.{literal_is_known}
 use Rattle.isl_text.specs.declared.refusal.Refusal.{Refusal}
 use Rattle.isl_text.specs.declared.refusal.Refusal.TheVariants as r
 use Rattle.isl_expr.specs.declared.tree.ValueKind.{ValueKind}
 use Rattle.isl_expr.specs.declared.tree.Stmt.{Stmt}
-use Rattle.isl_expr.specs.declared.tree.Stmt.TheVariants.{Empty, Bind, Show}
+use Rattle.isl_expr.specs.declared.tree.Stmt.TheVariants.{Empty, Bind, Show, Assume}
 use Rattle.isl_expr.specs.declared.tree.Expr.{Expr}
 use Rattle.isl_kinds.specs.declared.types.Purpose.{Purpose}
 use Rattle.isl_kinds.specs.declared.types.Purpose.TheVariants as purpose
 use Rattle.isl_kinds.specs.Typed.{TypeView, ScopeView, takes, has_unknown, has_no_item, kind_of}
-use Rattle.isl_kinds.specs.Typed.{declared_of, kind_for, with_params, type_for, found, type_of_statement}
+use Rattle.isl_kinds.specs.Typed.{declared_of, kind_for, with_params, type_for, known_params, untyped, found, type_of_statement}
 use Rattle.isl_flat.specs.Simple.{statement_declared}
 use Rattle.isl_values.specs.Made.{IsOfType}
 
@@ -76,6 +79,18 @@ pub found_some : (t : Result TypeView Refusal) → ¬ (found t ≡ Ok None)
 found_some (Ok t) e = cc
 found_some (Err other) e = let f : Err other ≡ Ok None = e in cc
 
+-- an assumption is refused for an unknown identifier alone
+unknown_alone : (b : Bool) (refusal : Refusal) → untyped (if b then Ok tt else Err r.UnknownName) ≡ Err refusal → refusal ≡ r.UnknownName
+unknown_alone true refusal e = let f : Ok None ≡ Err refusal = e in cc
+unknown_alone false refusal e = cc
+
+pub no_typed_set : (set : Literal) (t : TypeView) → ¬ (untyped (known_params set) ≡ Ok (Some t))
+no_typed_set set t = by (literal_is_known set)
+  where
+    by : (b : Bool) → ¬ (untyped (if b then Ok tt else Err r.UnknownName) ≡ Ok (Some t))
+    by true e = let f : Ok None ≡ Ok (Some t) = e in cc
+    by false e = let f : Err r.UnknownName ≡ Ok (Some t) = e in cc
+
 pub no_type : (scope : ScopeView) (stmt : Stmt) (refusal : Refusal) → type_of_statement scope stmt ≡ Err refusal
     → (refusal ≡ r.UnknownName) ⊎ ((refusal ≡ r.WrongKind) ⊎ (refusal ≡ r.NoElement))
 no_type scope Empty refusal e = let f : Ok None ≡ Err refusal = e in cc
@@ -83,6 +98,7 @@ no_type scope (Bind name expr) refusal e = without_type scope expr purpose.Bound
     (found_err (type_for purpose.Bound scope expr) refusal e)
 no_type scope (Show expr) refusal e = without_type scope expr purpose.Shown refusal
     (found_err (type_for purpose.Shown scope expr) refusal e)
+no_type scope (Assume set) refusal e = inl (unknown_alone (literal_is_known set) refusal e)
 
 -- what a statement with a type has
 pub show_typed : (scope : ScopeView) (expr : Expr) (t : TypeView) → type_of_statement scope (Show expr) ≡ Ok (Some t)
@@ -99,11 +115,13 @@ pub typed_declares : (scope : ScopeView) (stmt : Stmt) (t : TypeView) → type_o
 typed_declares scope Empty t e = let f : Ok None ≡ Ok (Some t) = e in cc
 typed_declares scope (Bind name expr) t e = (bind_typed scope name expr t e).params
 typed_declares scope (Show expr) t e = (show_typed scope expr t e).params
+typed_declares scope (Assume set) t e = absurd (no_typed_set set t e)
 
 pub untyped_declares : (scope : ScopeView) (stmt : Stmt) → type_of_statement scope stmt ≡ Ok None → statement_declared scope stmt ≡ []
 untyped_declares scope Empty e = refl
 untyped_declares scope (Bind name expr) e = absurd (found_some (type_for purpose.Bound scope expr) e)
 untyped_declares scope (Show expr) e = absurd (found_some (type_for purpose.Shown scope expr) e)
+untyped_declares scope (Assume set) e = refl
 
 pub found_is : (made : Result TypeView Refusal) (t : Option TypeView) → found made ≡ Ok t → (u : TypeView) × (made ≡ Ok u)
 found_is (Ok u) t is = (u, refl)

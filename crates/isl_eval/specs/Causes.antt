@@ -15,7 +15,7 @@ use Rattle.isl_text.specs.Read.{has_wide_number}
 use Rattle.isl_expr.specs.declared.tree.Prefix.TheVariants as p
 use Rattle.isl_expr.specs.declared.tree.Expr.{Prefix'}
 use Rattle.isl_expr.specs.declared.tree.Stmt.{Stmt}
-use Rattle.isl_expr.specs.declared.tree.Stmt.TheVariants.{Empty, Bind, Show}
+use Rattle.isl_expr.specs.declared.tree.Stmt.TheVariants.{Empty, Bind, Show, Assume}
 use Rattle.isl_stmt.specs.Limits.{statement_is_within}
 use Rattle.isl_stmt.specs.Read.{NoStatement}
 use Rattle.isl_kinds.specs.Parts.{parts_of_statement}
@@ -81,6 +81,7 @@ is_parametric scope at (Show (Prefix' p.Scan s operand)) = list_any (λ name. no
 is_parametric scope at (Show expr) = false
 is_parametric scope at (Bind name expr) = false
 is_parametric scope at Empty = false
+is_parametric scope at (Assume set) = false
 
 -- the bytes have the cause at this moment
 abbrev pub IsThere : Moment → List ℕ → Cause → Type 0

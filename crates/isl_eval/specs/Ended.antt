@@ -3,7 +3,7 @@ use Rattle.isl_space.specs.Element.{Element}
 use Rattle.isl_expr.specs.declared.tree.Prefix.TheVariants as p
 use Rattle.isl_expr.specs.declared.tree.Expr.{Expr, Prefix'}
 use Rattle.isl_expr.specs.declared.tree.Stmt.{Stmt}
-use Rattle.isl_expr.specs.declared.tree.Stmt.TheVariants.{Empty, Bind, Show}
+use Rattle.isl_expr.specs.declared.tree.Stmt.TheVariants.{Empty, Bind, Show, Assume}
 use Rattle.isl_values.specs.State.{Moment}
 use Rattle.isl_values.specs.Selection.{SelectsIn}
 use Rattle.isl_values.specs.declared.list.ListPart.TheVariants.{First}
@@ -27,3 +27,4 @@ abbrev pub StatementEnds : Moment → Stmt → End → Type 0
 StatementEnds now Empty = NoEnd
 StatementEnds now (Bind name expr) = Ends now.state expr
 StatementEnds now (Show expr) = ShownEnds now expr
+StatementEnds now (Assume set) = NoEnd

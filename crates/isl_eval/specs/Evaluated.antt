@@ -7,7 +7,7 @@ use Rattle.isl_text.specs.declared.refusal.Refusal.{Refusal}
 use Rattle.isl_lower.specs.Value.{IsWellFormedLiteral}
 use Rattle.isl_expr.specs.declared.tree.Prefix.TheVariants as p
 use Rattle.isl_expr.specs.declared.tree.Stmt.{Stmt}
-use Rattle.isl_expr.specs.declared.tree.Stmt.TheVariants.{Empty, Bind, Show}
+use Rattle.isl_expr.specs.declared.tree.Stmt.TheVariants.{Empty, Bind, Show, Assume}
 use Rattle.isl_expr.specs.declared.tree.Expr.{Expr, Row', Prefix', Row_of-Link, end_of-Link, more_of-Link}
 use Rattle.isl_expr.specs.Expr.{statement_literals}
 use Rattle.isl_kinds.specs.Parts.{Part, operator, parts_of, parts_in, parts_in_links, parts_of_statement}
@@ -16,6 +16,7 @@ use Rattle.isl_values.specs.State.{Moment}
 use Rattle.isl_values.specs.Selection.{context_of}
 use Rattle.isl_values.specs.Made.{is_foreign, uses_units, IsWhyUnworked}
 use Rattle.isl_eval.specs.Tests.{ends_with_test}
+use Rattle.isl_eval.specs.Unsupported.{assumes}
 use Rattle.isl_eval.specs.Ended.{StatementEnds}
 
 -- ---- what values are worked out of
@@ -44,6 +45,7 @@ abbrev pub worked_parts : Stmt → List Part
 worked_parts Empty = []
 worked_parts (Bind name expr) = made_parts expr
 worked_parts (Show expr) = shown_parts expr
+worked_parts (Assume set) = []
 
 -- ---- what is asked for
 
@@ -51,11 +53,12 @@ worked_parts (Show expr) = shown_parts expr
 abbrev pub IsTyped : ScopeView → Stmt → Type 0
 IsTyped scope stmt = (t : Option TypeView) × (type_of_statement scope stmt ≡ Ok t)
 
--- it has a type; its tests and words stand outermost; its literals are well formed
+-- it has a type; its tests and words stand outermost; its literals are well formed; it is no assumption
 pub record IsEvaluable (scope : ScopeView) (stmt : Stmt) : Type 0 where
   pub typed : IsTyped scope stmt
   pub plain : list_any is_foreign (worked_parts stmt) ≡ false
   pub literals : All IsWellFormedLiteral (statement_literals stmt)
+  pub assumes_nothing : assumes stmt ≡ false
 
 -- ---- what is left
 

@@ -8,7 +8,7 @@ use Rattle.isl_scan.specs.ListingText.{listing_text}
 use Rattle.isl_expr.specs.declared.tree.Prefix.TheVariants as p
 use Rattle.isl_expr.specs.declared.tree.Expr.{Expr, Row', Prefix'}
 use Rattle.isl_expr.specs.declared.tree.Stmt.{Stmt}
-use Rattle.isl_expr.specs.declared.tree.Stmt.TheVariants.{Empty, Bind, Show}
+use Rattle.isl_expr.specs.declared.tree.Stmt.TheVariants.{Empty, Bind, Show, Assume}
 use Rattle.isl_flat.specs.Flat.{flat}
 use Rattle.isl_values.specs.declared.list.ListPart.TheVariants.{First}
 use Rattle.isl_values.specs.State.{Kept, Moment, Binds, forgotten}
@@ -64,10 +64,11 @@ Shows before (Row' s first t links) answer = ShowsRow (ends_with_test links) (Ro
 Shows before expr answer = ShowsValue before expr answer
 
 -- ---- simple statements
--- what is done to what is bound, and what is answered
+-- what is done to what is bound, and what is answered; an assumption is still to come
 abbrev pub Does : Moment → Stmt → Moment → Answer → Type 0
 Does before Empty after answer = (after.state ≡ before.state) × (answer ≡ nothing)
 Does before (Show expr) after answer = (after.state ≡ before.state) × Shows before expr answer
+Does before (Assume set) after answer = ⊥
 Does before (Bind name expr) after answer = ((kept : Kept) × Keeps before expr kept × Binds before.state name kept after.state)
     × (answer ≡ nothing)
 

@@ -15,6 +15,7 @@ ghost use Rattle.isl_values.specs.Ends.{Ends, GoesOn};
 ghost use Rattle.isl_values.specs.Selection.{Keeps};
 ghost use Rattle.isl_eval.specs.Machine.{Step};
 ghost use Rattle.isl_eval.specs.Evaluated.{IsEvaluable, IsTyped, IsWhyEnded, works};
+ghost use Rattle.isl_eval.specs.Unsupported.{assumes};
 
 use crate::answers::Answer;
 use crate::shown::{content, shown};
@@ -32,6 +33,7 @@ use std::alloc::Global;
 fn type_of(alloc: Global, stmt: &Stmt, state: &State) -> Result<Typed, Refusal>
     requires typed { IsTyped (scope_of state.now) stmt.now }
     requires full { stmt.now ≢ s.Empty }
+    requires plain { assumes stmt.now ≡ false }
     ensures typed { IfOk result (λ typed. type_of_statement (scope_of state.now) stmt.now ≡ Ok (Some typed)) }
     ensures faults { IfErr result (λ refusal. refusal ≡ Refusal.NoMemory) }
 {
@@ -108,5 +110,6 @@ pub fn eval(
             let typed = type_of(alloc, stmt, state)?;
             shown(alloc, expr, typed.kind(), state, options, meter)
         }
+        Stmt::Assume(_) => unreachable!(),
     }
 }

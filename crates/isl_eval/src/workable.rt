@@ -44,7 +44,7 @@ fn is_parametric(stmt: &Stmt, declared: &[Name], at: &[(Name, i128)]) -> bool
 {
     match stmt {
         Stmt::Show(expr) => is_listing(expr) && lacks_number(declared, at),
-        _ => false,
+        Stmt::Empty | Stmt::Bind(..) | Stmt::Assume(_) => false,
     }
 }
 

@@ -32,4 +32,4 @@ module _ (n : ℕ) (literal : Literal) (ts : List Token) (spelled : literal_gram
   expression = alone Test _ _ ts (alone Universal _ _ ts (alone Sum _ _ ts (alone Product _ _ ts (alone Join _ _ ts pre))))
 
   pub shown_alone : Spells statement_grammar (Show (e.Literal literal)) ts
-  shown_alone = record { depth = suc n; spelled = inr (inr (inr (e.Literal literal, ts, [], sym (append-nil ts), expression, (refl, refl)))) }
+  shown_alone = record { depth = suc n; spelled = inr (inr (inr (inl (e.Literal literal, ts, [], sym (append-nil ts), expression, (refl, refl))))) }

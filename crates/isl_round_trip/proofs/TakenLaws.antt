@@ -26,7 +26,7 @@ use Rattle.isl_tree.specs.Known.{literal_is_known}
 use Rattle.isl_text.specs.Read.{has_wide_number}
 use Rattle.isl_lower.proofs.ValueLaws.{same_elements}
 use Rattle.isl_expr.specs.declared.tree.Stmt.{Stmt}
-use Rattle.isl_expr.specs.declared.tree.Stmt.TheVariants.{Empty, Bind, Show}
+use Rattle.isl_expr.specs.declared.tree.Stmt.TheVariants.{Empty, Bind, Show, Assume}
 use Rattle.isl_expr.specs.declared.tree.Expr.{Expr}
 use Rattle.isl_expr.specs.declared.tree.ValueKind.{ValueKind}
 use Rattle.isl_expr.specs.declared.tree.ValueKind.TheVariants.{List as Pair}
@@ -308,6 +308,7 @@ module _ (before : Moment) (bits : before.meter.bits ≤ 127) (all : AreWritable
       → AreWritable after.state
   step_writable Empty after answer spelled step = subst AreWritable (sym step.does.0) all
   step_writable (Show expr) after answer spelled step = subst AreWritable (sym step.does.0) all
+  step_writable (Assume set) after answer spelled step = absurd step.does
   step_writable (Bind name expr) after answer spelled step =
       let made = step.does.0 in bound_writable name expr made.0 after.state spelled made.1 made.2
 
@@ -356,6 +357,7 @@ shows_again : (now : Moment) (stmt : Stmt) (kept : Kept) (after : Moment) (answe
 shows_again now (Show expr) kept after answer bits all spelled keeps none is same =
     show_again now bits all expr kept after answer spelled keeps none is same
 shows_again now Empty kept after answer bits all spelled keeps none is same = absurd keeps
+shows_again now (Assume set) kept after answer bits all spelled keeps none is same = absurd keeps
 shows_again now (Bind name expr) kept after answer bits all spelled keeps none is same = absurd keeps
 
 pub taken_again : (before : Moment) (bytes : List ℕ) (after : Moment) (answer : Answer) → before.meter.bits ≤ 127 → AreWritable before.state
