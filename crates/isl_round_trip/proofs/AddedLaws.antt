@@ -1,5 +1,6 @@
 -- What the two sides of a printed form add up to.
-use Rattle.std.proofs.Common.{◌≡◌, ◌+◌, ◌∙◌, ℕ, suc, ℤ, pos, negsuc, neg_ℤ, ◌+ℤ◌, ◌*ℤ◌, ◌≤ℤ◌, Bool, true, false, List, [], ◌∷◌, ◌++◌, None, length, set, take, map, replicate, ap, sym, subst, refl, arith}
+use Rattle.std.proofs.Common.{◌≡◌, ◌+◌, ◌∙◌, ℕ, suc, ℤ, pos, negsuc, neg_ℤ, ◌+ℤ◌, ◌*ℤ◌, ◌≤ℤ◌, Bool, true, false, List, [], ◌∷◌, ◌++◌, None}
+use Rattle.std.proofs.Common.{length, set, take, map, replicate, ap, ap₂, sym, subst, refl, arith}
 use Rattle.std.specs.Prelude.{◌==◌, if◌then◌else◌, slice_index_or}
 use Rattle.std.specs.List.{AllByRecursion}
 use Rattle.std.proofs.lemmas.Bool.{eqb-true}
@@ -10,9 +11,10 @@ use Rattle.isl_piece.specs.declared.row.RowKind.{RowKind}
 use Rattle.isl_piece.specs.declared.row.Row.{Row}
 use Rattle.isl_row_text.specs.declared.sum.Side.{Side}
 use Rattle.isl_row_text.specs.declared.sum.Side.TheVariants.{Left, Right}
-use Rattle.isl_print.specs.Sum.{share, terms_of}
+use Rattle.isl_print.specs.Sum.{Term, share, terms_of}
 use Rattle.isl_tree.specs.declared.tree.Signed.{Signed}
-use Rattle.isl_plain.specs.Linear.{Amount, Place, amount_of, amounts_of, turned, with_amount, with_amounts, row_of, difference}
+use Rattle.isl_plain.specs.Linear.{Amount, Place, amount_of, amounts_of, turned, with_amount, with_amounts, row_of, multiplied_out}
+use Rattle.isl_plain.specs.Linear.{difference}
 use Rattle.isl_plain.specs.Rows.{Written, numbers_in, added}
 use Rattle.isl_tree.specs.Term.{product_of}
 use Rattle.isl_round_trip.specs.Tree.{term_tree, number_tree, constant_trees, sum_tree, side_tree}
@@ -216,13 +218,39 @@ row_is n place w row width kind modulus form =
         ∙ ap (λ q. let x : Row = record { kind = q; coefs = r.coefs; constant = r.constant; k = k } in x) a
         ∙ ap (λ z. let x : Row = record { kind = r.kind; coefs = r.coefs; constant = r.constant; k = z } in x) b
 
+-- ---- no brackets stand in a side
+flat_terms : (terms : List Term) (rest : List Signed) → multiplied_out rest ≡ rest
+    → multiplied_out (map term_tree terms ++ rest) ≡ map term_tree terms ++ rest
+flat_terms [] rest flat = flat
+flat_terms (term ∷ terms) rest flat = ap (λ (parts : List Signed). term_tree term ∷ parts) (flat_terms terms rest flat)
+
+flat_constant : (c : ℕ) → multiplied_out (constant_trees c) ≡ constant_trees c
+flat_constant c = by (c == 0)
+  where
+    by : (q : Bool) → multiplied_out (if q then [] else number_tree c ∷ []) ≡ (if q then [] else number_tree c ∷ [])
+    by true = refl
+    by false = refl
+
+flat_sum : (parts : List Signed) → multiplied_out parts ≡ parts → multiplied_out (sum_tree parts) ≡ sum_tree parts
+flat_sum [] flat = refl
+flat_sum (part ∷ parts) flat = flat
+
+flat_side : (side : Side) (names : List Name) (numbers : List ℤ) (constant : ℤ)
+    → multiplied_out (side_tree side names numbers constant) ≡ side_tree side names numbers constant
+flat_side side names numbers constant =
+    flat_sum (map term_tree (terms_of side names numbers) ++ constant_trees (share side constant))
+    (flat_terms (terms_of side names numbers) (constant_trees (share side constant)) (flat_constant (share side constant)))
+
 -- and so the two sides write the row
 pub row_added : (n : ℕ) (place : Place) (names : List Name) (row : Row) (w : Written) → PlacedFrom place 0 names → length names ≡ length row.coefs → n ≡ length row.coefs
     → w.kind ≡ row.kind → w.modulus ≡ row.k → w.greater ≡ side_tree Left names row.coefs row.constant
     → w.less ≡ side_tree Right names row.coefs row.constant → w.last ≡ None → added n place w ≡ row
 row_added n place names row w placed same width kind modulus greater less last =
     row_is n place w row width kind modulus
-    (rw (greater, less, last) (form_added n place names row.coefs row.constant placed same width))
+    (rw (greater, less, last)
+    (ap₂ (λ (l r : List Signed). row_of n (difference n place l r None)) (flat_side Left names row.coefs row.constant)
+    (flat_side Right names row.coefs row.constant)
+    ∙ form_added n place names row.coefs row.constant placed same width))
 
 -- and the left side alone, where no number is negative
 pub left_row_added : (n : ℕ) (place : Place) (names : List Name) (row : Row) (w : Written) → PlacedFrom place 0 names → length names ≡ length row.coefs → n ≡ length row.coefs
@@ -232,4 +260,6 @@ pub left_row_added : (n : ℕ) (place : Place) (names : List Name) (row : Row) (
 unfolding NotNegative
 left_row_added n place names row w placed same width all large kind modulus greater less last =
     row_is n place w row width kind modulus
-    (rw (greater, less, last) (left_added n place names row.coefs row.constant placed same width all large))
+    (rw (greater, less, last)
+    (ap (λ (l : List Signed). row_of n (difference n place l [] None)) (flat_side Left names row.coefs row.constant)
+    ∙ left_added n place names row.coefs row.constant placed same width all large))

@@ -17,28 +17,40 @@ use Rattle.isl_print.specs.RowOrder.{row_before}
 use Rattle.isl_print.proofs.TextLaws.{All-in_order}
 use Rattle.isl_tree.specs.declared.tree.Signed.{Signed, Signed'}
 use Rattle.isl_tree.specs.declared.tree.Product.{Product', None', Some'}
-use Rattle.isl_tree.specs.declared.tree.Factor.{Name as Named, Inner', Floor', Ceil', Row_of-Signed, end_of-Signed, more_of-Signed, items-the_row-Signed, items_hidden-the_row-Signed-0}
+use Rattle.isl_tree.specs.declared.tree.Factor.{Factor, Name as Named, Inner', Floor', Ceil', Row_of-Signed, end_of-Signed, more_of-Signed}
+use Rattle.isl_tree.specs.declared.tree.Factor.{items-the_row-Signed, items_hidden-the_row-Signed-0}
 use Rattle.isl_tree.specs.declared.tree.Factor.TheBlock.{hidden-the_row-Signed-0}
 use Rattle.isl_tree.specs.declared.tree.Compare.{Compare}
 use Rattle.isl_tree.specs.declared.tree.Compare.TheVariants.{Equal, GreaterEqual, Differs}
 use Rattle.isl_tree.specs.declared.tree.Formula.{Formula, Row_of-Formula, end_of-Formula, more_of-Formula, items-the_row-Formula, items_hidden-the_row-Formula-0}
 use Rattle.isl_tree.specs.declared.tree.Formula.TheBlock.{hidden-the_row-Formula-0}
-use Rattle.isl_tree.specs.Divisors.{ArePositive, signed_divisors, sum_divisors, term_divisors, formula_divisors, row_divisors, entries_divisors, body_divisors, piece_divisors}
+use Rattle.isl_tree.specs.Divisors.{ArePositive, factor_divisors, signed_divisors, sum_divisors, term_divisors, formula_divisors}
+use Rattle.isl_tree.specs.Divisors.{row_divisors, entries_divisors, body_divisors, piece_divisors}
 use Rattle.isl_tree.specs.Literal.{piece_entries}
-use Rattle.isl_tree.specs.Plain.{is_linear_part, is_linear}
+use Rattle.isl_tree.specs.Plain.{is_linear_part, is_linear_factor, are_linear_parts, is_linear}
 use Rattle.isl_formula.proofs.DivisorLaws.{none, both}
 use Rattle.isl_round_trip.specs.Tree.{number_tree, side_tree, comparison_tree, remainder_part, remainder_tree, kind_tree, row_tree, conjunction_tree, name_entry, piece_tree}
 use Rattle.isl_round_trip.proofs.PlainTree.{side_linear, positive_magnitude}
 use Rattle.isl_round_trip.proofs.TupleLaws.{entries-piece_tree}
 
 -- ---- terms
-part_divisors : (part : Signed) → is_linear_part part ≡ true → signed_divisors part ≡ []
-part_divisors (Signed' negative (Product' numbers None')) h = refl
-part_divisors (Signed' negative (Product' numbers (Some' (Named name) []))) h = refl
-part_divisors (Signed' negative (Product' numbers (Some' (Named name) (k ∷ ks)))) h = absurd (false≢true h)
-part_divisors (Signed' negative (Product' numbers (Some' (Inner' s row) ks))) h = absurd (false≢true h)
-part_divisors (Signed' negative (Product' numbers (Some' (Floor' s row k) ks))) h = absurd (false≢true h)
-part_divisors (Signed' negative (Product' numbers (Some' (Ceil' s row k) ks))) h = absurd (false≢true h)
+mutual
+  part_divisors : (part : Signed) → is_linear_part part ≡ true → signed_divisors part ≡ []
+  part_divisors (Signed' negative (Product' numbers None')) h = refl
+  part_divisors (Signed' negative (Product' numbers (Some' factor []))) h = factor_none factor h
+  part_divisors (Signed' negative (Product' numbers (Some' factor (k ∷ ks)))) h = absurd (false≢true h)
+
+  factor_none : (factor : Factor) → is_linear_factor factor ≡ true → factor_divisors factor ≡ []
+  factor_none (Named name) h = refl
+  factor_none (Inner' s row) h = row_none _ row h
+  factor_none (Floor' s row k) h = absurd (false≢true h)
+  factor_none (Ceil' s row k) h = absurd (false≢true h)
+
+  row_none : (m : Count) (row : Row_of-Signed m) → are_linear_parts row ≡ true → sum_divisors row ≡ []
+  row_none m end_of-Signed h = refl
+  row_none m (more_of-Signed part rest) h =
+      let each = and_parts (is_linear_part part) (are_linear_parts rest) h in
+      ap₂ (λ (ks ls : List ℤ). ks ++ ls) (part_divisors part each.0) (row_none _ rest each.1)
 
 linear_divisors : (term : List Signed) → is_linear term ≡ true → term_divisors term ≡ []
 linear_divisors [] h = refl

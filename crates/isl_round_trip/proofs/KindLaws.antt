@@ -4,20 +4,17 @@ use Rattle.std.proofs.Common.{◌≡◌, ◌∙◌, inl, inr, ◌⊎◌, Bool, t
 use Rattle.std.proofs.Common.{sym, ap, subst, refl}
 use Rattle.std.specs.Prelude.{is_some, is_none, ◌&&◌, ◌||◌, option_map, Any, MatchOption}
 use Rattle.std.specs.Option.{option_and_then}
-use Rattle.std.specs.List.{list_all, list_any}
+use Rattle.std.specs.List.{list_all}
 use Rattle.std.proofs.lemmas.Bool.{and_parts, false≢true}
-use Rattle.std.proofs.lemmas.List.Elements.{All-nil, All-cons, All-head, All-tail, All-weaker}
-use Rattle.isl_math.proofs.ListLaws.{Any-none, Any-first, Any-later, Any-cases}
+use Rattle.std.proofs.lemmas.List.Elements.{All-head, All-weaker}
+use Rattle.isl_math.proofs.ListLaws.{Any-none, Any-cases}
 use Rattle.isl_space.specs.Name.{Name}
-use Rattle.isl_space.specs.Names.{AreDistinct}
-use Rattle.isl_space.specs.SpaceForm.{SpaceForm, set_of, map_of}
 use Rattle.isl_space.specs.Element.{Element}
 use Rattle.isl_space.specs.Valuation.{Valuation}
-use Rattle.isl_piece.specs.System.{HoldsSystem}
-use Rattle.isl_union.specs.KeptValue.{KeptPiece, KeptValue, Has, HasElement, IsKeptPiece, IsKeptValue, piece_system}
+use Rattle.isl_union.specs.KeptValue.{KeptPiece, KeptValue, Has, HasElement}
 use Rattle.isl_union.specs.Compare.{IsEmpty}
 use Rattle.isl_union.specs.Sample.{IsSampleOf, only_piece}
-use Rattle.isl_union.proofs.CompareLaws.{valuation_at, element_at, element_is, point_at}
+use Rattle.isl_gist.specs.Gist.{value_over}
 use Rattle.isl_tree.specs.declared.tree.PieceTree.{PieceTree}
 use Rattle.isl_tree.specs.declared.tree.Literal.{Literal}
 use Rattle.isl_tree.specs.declared.tree.Tuple.{Tuple}
@@ -35,8 +32,7 @@ use Rattle.isl_expr.specs.Expr.{literals_of, literals_in, literals_in_links, lit
 use Rattle.isl_operators.specs.Operations.{OperatorHas}
 use Rattle.isl_operators.specs.Made.{IsAnyWordOf}
 use Rattle.isl_kinds.specs.Lines.{joined, prefixed}
-use Rattle.isl_kinds.specs.Parts.{parts_of, parts_in, parts_in_links}
-use Rattle.isl_kinds.specs.Typed.{TypeView, by_two, declared_in, kind_of_pieces, kind_of_image}
+use Rattle.isl_kinds.specs.Typed.{TypeView, by_two, declared_in, joined_names, kind_of_pieces, kind_of_image}
 use Rattle.isl_kinds.specs.Typed.{kind_of, kind_in, kind_past_links, kind_past_postfixes, kind_past}
 use Rattle.isl_values.specs.declared.list.ListPart.{ListPart}
 use Rattle.isl_values.specs.declared.list.ListPart.TheVariants.{First}
@@ -45,56 +41,14 @@ use Rattle.isl_values.specs.Worked.{part_taken}
 use Rattle.isl_values.specs.Selection.{KeptHas, PostfixHas, SelectsAt, SelectsIn, SelectsPastLinks, SelectsPastPostfixes}
 use Rattle.isl_values.specs.Selection.{IsContentOf, IsGistOfTwo, IsSelected, IsSelectedAt, IsSelectedIn, context_of}
 use Rattle.isl_values.proofs.StateLaws.{bound_at}
-use Rattle.isl_values.proofs.PartLaws.{all_left, all_right, quiet_both}
+use Rattle.isl_values.proofs.PartLaws.{all_left, all_right}
 use Rattle.isl_eval.proofs.LiteralLaws.{IsSpelled}
 use Rattle.isl_round_trip.specs.Written.{IsSet, IsMap, IsUniform, IsSpaceOf, IsOfKind}
-use Rattle.isl_round_trip.specs.TakenAgain.{AreWritable, simplifies}
+use Rattle.isl_round_trip.specs.TakenAgain.{AreWritable}
 use Rattle.isl_round_trip.proofs.KindOfOperations.{AreOfKind, some_same, none_some, as_kind, no_element}
-use Rattle.isl_round_trip.proofs.KindOfOperations.{of_inverse, of_item, of_word, of_operator, of_application, of_any, of_last}
-
--- ---- kinds
--- what is not without a space of its kind has one
-stable : (kind : ValueKind) (space : SpaceForm) → ¬ (¬ IsSpaceOf kind space) → IsSpaceOf kind space
-stable Set (set_of form) there = tt
-stable Map (map_of from to) there = tt
-stable Pair (map_of from to) there = tt
-stable kind space there = absurd (there (λ h. h))
-
--- ---- the pieces of a value with elements in such spaces
-module _ (kind : ValueKind) where
-  pub has_kind : (params : List Name) (valuation : Valuation) (element : Element) (pieces : List KeptPiece)
-      → All (λ piece. IsSpaceOf kind piece.space) pieces → Any (HasElement params valuation element) pieces → IsSpaceOf kind element.space
-  has_kind params valuation element [] all has = absurd (Any-none (HasElement params valuation element) has)
-  has_kind params valuation element (piece ∷ pieces) all has = elim (Any-cases (HasElement params valuation element) piece pieces has) [
-    | inl here ↦ subst (IsSpaceOf kind) here.space (All-head (λ (p : KeptPiece). IsSpaceOf kind p.space) piece pieces all)
-    | inr there ↦ has_kind params valuation element pieces (All-tail (λ (p : KeptPiece). IsSpaceOf kind p.space) piece pieces all) there
-  ]
-
-  -- a piece has an element
-  piece_kind : (params : List Name) (piece : KeptPiece) → AreDistinct params → IsKeptPiece params piece
-      → ((valuation : Valuation) (element : Element) → HasElement params valuation element piece → IsSpaceOf kind element.space)
-      → IsSpaceOf kind piece.space
-  piece_kind params piece distinct kept have = stable kind piece.space (λ none. kept.live (λ point long holds. none (
-      have (valuation_at params piece.space point distinct long) (element_at params piece.space point distinct long) (record {
-        numbers = element_is params piece.space point distinct long;
-        space = refl;
-        holds = subst (HoldsSystem (piece_system params piece)) (sym (point_at params piece.space point distinct long)) holds;
-      }))))
-
-  pieces_kind : (params : List Name) (pieces : List KeptPiece) → AreDistinct params → All (IsKeptPiece params) pieces
-      → ((valuation : Valuation) (element : Element) → Any (HasElement params valuation element) pieces → IsSpaceOf kind element.space)
-      → All (λ piece. IsSpaceOf kind piece.space) pieces
-  pieces_kind params [] distinct kept have = All-nil (λ (p : KeptPiece). IsSpaceOf kind p.space)
-  pieces_kind params (piece ∷ pieces) distinct kept have =
-      All-cons (λ (p : KeptPiece). IsSpaceOf kind p.space) piece pieces
-      (piece_kind params piece distinct (All-head (IsKeptPiece params) piece pieces kept)
-      (λ valuation element h. have valuation element (Any-first (HasElement params valuation element) piece pieces h)))
-      (pieces_kind params pieces distinct (All-tail (IsKeptPiece params) piece pieces kept)
-      (λ valuation element h. have valuation element (Any-later (HasElement params valuation element) piece pieces h)))
-
-  pub value_kind : (value : KeptValue) → IsKeptValue value
-      → ((valuation : Valuation) (element : Element) → Has value valuation element → IsSpaceOf kind element.space) → IsOfKind kind value
-  value_kind value kept have = pieces_kind value.params value.pieces kept.params.distinct kept.pieces have
+use Rattle.isl_round_trip.proofs.KindOfOperations.{of_inverse, of_item, of_word, of_operator, of_application, of_gist, of_any, of_last}
+use Rattle.isl_round_trip.proofs.PieceKinds.{has_kind}
+use Rattle.isl_round_trip.proofs.GistKinds.{gist_pieces, gist_among}
 
 -- ---- literals
 module _ (params : List Name) (valuation : Valuation) (element : Element) where
@@ -282,30 +236,45 @@ module _ (state : StateView) (all : AreWritable state) where
       (of_word p.Coalesce argument.params (λ v x. Has argument v x) valuation (kind_in (scope_of state) operand)
       (operand_kind m operand spelled argument selected valuation)).lies kind is element ((any.elements valuation element).0 has)
 
-  -- a row is one `%`, or its value is what is selected
-  row_selected : (m : Count) (first : Row_of-Expr m) (n : Count) (links : Row_of-Link n)
-      → list_any simplifies (parts_in first ++ parts_in_links links) ≡ false → (Selected : Type 0) (Simplified : Expr → Type 0)
-      → MatchOption (context_of links) Selected Simplified → Selected
-  row_selected m first n (more_of-Link b.Gist context end_of-Link) none Selected Simplified content =
-      absurd (false≢true (sym (quiet_both simplifies (parts_in first) (parts_in_links (more_of-Link b.Gist context end_of-Link)) none).1))
-  row_selected m first n links none Selected Simplified content = content
+  -- each piece of a gist has an element that the left value has
+  gist_kind : (m : Count) (first : Row_of-Expr m) (context : Expr) → All IsSpelled (literals_in first) → (left right value : KeptValue)
+      → IsSelectedIn state first left → IsGistOfTwo left right value → (kind : ValueKind)
+      → by_two (joined b.Gist) (kind_in (scope_of state) first) (kind_of (scope_of state) context) ≡ Some kind → IsOfKind kind value
+  gist_kind m first context spelled left right value selected gist kind is =
+      gist_pieces kind (value_over (joined_names left.params right.params) right) value
+      (λ valuation element has in_context.
+      (of_gist (λ x. Has left valuation x) (kind_in (scope_of state) first) (kind_of (scope_of state) context)
+      (operand_kind m first spelled left selected valuation)).lies kind is element
+      (gist_among left right value gist valuation element has in_context))
+      (value_over (joined_names left.params right.params) left) gist.2
 
-  -- what is kept of a part of an expression without `%` is of its kind
+  -- a row is one `%`, or its value is what is selected
+  row_kind : (m : Count) (first : Row_of-Expr m) (n : Count) (links : Row_of-Link n) (value : KeptValue)
+      → All IsSpelled (literals_in first ++ literals_in_links links) → (Selected : Type 0)
+      → MatchOption (context_of links) Selected (λ context. (left : KeptValue) × (right : KeptValue) × IsSelectedIn state first left
+      × IsSelected state context right × IsGistOfTwo left right value)
+      → (kind : ValueKind) → kind_past_links (scope_of state) (kind_in (scope_of state) first) links ≡ Some kind → (valuation : Valuation)
+      (element : Element) → Has value valuation element → (Selected → IsSpaceOf kind element.space) → IsSpaceOf kind element.space
+  row_kind m first n (more_of-Link b.Gist context end_of-Link) value spelled Selected content kind is valuation element has lies =
+      has_kind kind value.params valuation element value.pieces
+      (gist_kind m first context (all_left IsSpelled (literals_in first) (literals_of context ++ []) spelled)
+      content.0 content.1 value content.2 content.4 kind is)
+      has
+  row_kind m first n links value spelled Selected content kind is valuation element has lies = lies content
+
+  -- what is kept of a part of an expression is of its kind
   pub content_kind : (part : ListPart) (expr : Expr) (value : KeptValue) → All IsSpelled (literals_of expr)
-      → list_any simplifies (parts_of expr) ≡ false → IsContentOf state part expr value → (kind : ValueKind)
-      → kind_of (scope_of state) expr ≡ Some kind → (valuation : Valuation) (element : Element) → Has value valuation element → IsSpaceOf kind element.space
-  content_kind part (Prefix' p.Sample s operand) value spelled none content kind is valuation element has =
+      → IsContentOf state part expr value → (kind : ValueKind) → kind_of (scope_of state) expr ≡ Some kind → (valuation : Valuation)
+      (element : Element) → Has value valuation element → IsSpaceOf kind element.space
+  content_kind part (Prefix' p.Sample s operand) value spelled content kind is valuation element has =
       sample_kind _ operand spelled content.0 value content.1 content.2 kind is valuation element has
-  content_kind part (Prefix' p.Coalesce s operand) value spelled none content kind is valuation element has =
+  content_kind part (Prefix' p.Coalesce s operand) value spelled content kind is valuation element has =
       coalesce_kind _ operand spelled content.0 value content.1 content.2 kind is valuation element has
-  content_kind part (Row' s first t links) value spelled none content kind is valuation element has =
-      let selected =
-      row_selected _ first _ links none (IsSelectedAt state part (Row' s first t links) value)
-      (λ context. (left : KeptValue) × (right : KeptValue) × IsSelectedIn state first left × IsSelected state context right
-      × IsGistOfTwo left right value)
-      content in
-      (selected_kind state valuation all part (Row' s first t links) spelled).lies kind is element ((selected.elements valuation element).0 has)
-  content_kind part expr value spelled none content kind is valuation element has =
+  content_kind part (Row' s first t links) value spelled content kind is valuation element has =
+      row_kind _ first _ links value spelled (IsSelectedAt state part (Row' s first t links) value) content kind is valuation element has
+      (λ selected. (selected_kind state valuation all part (Row' s first t links) spelled).lies kind is element
+      ((selected.elements valuation element).0 has))
+  content_kind part expr value spelled content kind is valuation element has =
       (selected_kind state valuation all part expr spelled).lies kind is element ((content.elements valuation element).0 has)
 
 -- ---- what is of a kind can be written

@@ -102,6 +102,15 @@ kept_kind Map kind space lies is = is
 kept_kind Pair kind space lies is = none_some kind is
 kept_kind a kind space lies is = absurd lies
 
+-- `%` keeps that of the left one
+gist_left : (a c kind : ValueKind) (space : SpaceForm) → IsSpaceOf a space → joined b.Gist a c ≡ Some kind → Some a ≡ Some kind
+gist_left Set Set kind space lies is = is
+gist_left Set c kind space lies is = cc
+gist_left Map Map kind space lies is = is
+gist_left Map c kind space lies is = cc
+gist_left Pair c kind space lies is = none_some kind is
+gist_left a c kind space lies is = absurd lies
+
 -- ---- words
 module _ (Operand : Element → Type 0) (a : ValueKind) (all : (element : Element) → Operand element → IsSpaceOf a element.space) where
   of_sets : (x : Point) → HasPoint Operand x → a ≡ Set
@@ -264,6 +273,11 @@ module _ (Left Right : Element → Type 0) (o p : Option ValueKind) (left : AreO
   pub of_application : AreOfKind (λ x. ApplicationHas Left Right x) (by_two applied o p)
   of_application = of_two applied (λ x. ApplicationHas Left Right x) o p (λ a c kind first second is element has.
       application_kind Left Right a c (left.lies a first) (right.lies c second) kind element is has)
+
+-- `%` leaves the elements of the left one among those of the right one as they are
+pub of_gist : (Left : Element → Type 0) (o p : Option ValueKind) → AreOfKind Left o → AreOfKind Left (by_two (joined b.Gist) o p)
+of_gist Left o p left = of_two (joined b.Gist) Left o p (λ a c kind first second is element has.
+    let lies = left.lies a first element has in as_kind element.space a kind (gist_left a c kind element.space lies is) lies)
 
 -- ---- which accesses come before others
 module _ (M N T : Element → Type 0) (o p q : Option ValueKind) where

@@ -2,7 +2,6 @@
 use Rattle.std.proofs.Common.{◌≡◌, ◌<◌, ◌≤◌, ◌-◌, ◌^◌, ◌∙◌, ℕ, suc, Bool, true, false, List, [], ◌∷◌, ◌++◌, Option, Some, None, Result, Ok, Err}
 use Rattle.std.proofs.Common.{All, ap, sym, subst, refl, arith, pow_mono}
 use Rattle.std.specs.Prelude.{length, is_some, IfSome, unwrap_or}
-use Rattle.std.specs.List.{list_any}
 use Rattle.std.specs.Str.{bytes_eq}
 use Rattle.std.proofs.lemmas.Bool.{false≢true}
 use Rattle.std.proofs.lemmas.List.Elements.{All-head, All-tail}
@@ -34,12 +33,11 @@ use Rattle.isl_expr.specs.declared.tree.Expr as e
 use Rattle.isl_expr.specs.Expr.{literals_of, statement_literals}
 use Rattle.isl_space.specs.Limits.{most_leaves}
 use Rattle.isl_eval.specs.Unsupported.{is_unsupported}
-use Rattle.isl_flat.proofs.SimpleLaws.{literals_kept, parts_kept}
+use Rattle.isl_flat.proofs.SimpleLaws.{literals_kept}
 use Rattle.isl_stmt.specs.StatementGrammar.{statement_grammar}
 use Rattle.isl_stmt.specs.Limits.{statement_is_within}
 use Rattle.isl_stmt.specs.Read.{NoStatement}
 use Rattle.isl_kinds.specs.Lines.{is_kind}
-use Rattle.isl_kinds.specs.Parts.{parts_of}
 use Rattle.isl_kinds.specs.Typed.{ScopeView, is_dollar, kind_of, kind_of_image, kind_of_pieces, declared_of, type_of_statement}
 use Rattle.isl_text.specs.declared.refusal.Refusal.{Refusal}
 use Rattle.isl_text.specs.declared.refusal.Refusal.TheVariants.{UnknownName, WrongKind, NoElement}
@@ -62,12 +60,13 @@ use Rattle.isl_values.proofs.ForgetLaws.{kept_of_dollar, kept_of_forgotten}
 use Rattle.isl_round_trip.specs.Tree.{printed_tree}
 use Rattle.isl_round_trip.specs.Written.{HasFewRemainders, IsOfKind}
 use Rattle.isl_round_trip.specs.RoundTrip.{IsWritableValue, ReadsAs}
-use Rattle.isl_round_trip.specs.TakenAgain.{AreWritable, IsShallow, IsShownAgain, IsTakenAgain, ShowsKept, SimplifiesNone, simplifies}
+use Rattle.isl_round_trip.specs.TakenAgain.{AreWritable, IsShallow, IsShownAgain, IsTakenAgain, ShowsKept}
 use Rattle.isl_round_trip.proofs.ValueTokenLaws.{printed_tokens, tokens-printed}
 use Rattle.isl_round_trip.proofs.TakenTokens.{narrow}
 use Rattle.isl_round_trip.proofs.RoundTripLaws.{tree_at, reads_as}
 use Rattle.isl_round_trip.proofs.AloneLaws.{shown_alone}
-use Rattle.isl_round_trip.proofs.KindLaws.{value_kind, content_kind, of_kind_uniform}
+use Rattle.isl_round_trip.proofs.KindLaws.{content_kind, of_kind_uniform}
+use Rattle.isl_round_trip.proofs.PieceKinds.{value_kind}
 use Rattle.isl_round_trip.proofs.KindOfOperations.{some_same}
 use Rattle.isl_round_trip.proofs.WritableLaws.{writable_numbers}
 
@@ -230,10 +229,7 @@ module _ (moment : Moment) (bits : moment.meter.bits ≤ 127) (value : KeptValue
 
 -- ---- what an answered statement shows or binds can be written
 abbrev AreSpelled : Stmt → Type 0
-AreSpelled stmt = All IsSpelled (statement_literals stmt) × SimplifiesNone stmt
-
-abbrev IsPlainExpr : Expr → Type 0
-IsPlainExpr expr = All IsSpelled (literals_of expr) × (list_any simplifies (parts_of expr) ≡ false)
+AreSpelled stmt = All IsSpelled (statement_literals stmt)
 
 abbrev IsWritten : Kept → Type 0
 IsWritten kept = (part : ListPart) → IsOfKind kept.kind (value_at part kept) × IsWritableValue (value_at part kept)
@@ -250,13 +246,13 @@ kept_at before expr kept keeps Second = by kept.second refl keeps.second
     by (Some second) is h = (Second, subst (λ (o : Option KeptValue). IsKeptOf before Second expr (unwrap_or o kept.value)) (sym is) h)
 
 module _ (before : Moment) (bits : before.meter.bits ≤ 127) (all : AreWritable before.state) where
-  part_kind : (part : ListPart) (expr : Expr) (kind : ValueKind) (value : KeptValue) → IsPlainExpr expr
+  part_kind : (part : ListPart) (expr : Expr) (kind : ValueKind) (value : KeptValue) → All IsSpelled (literals_of expr)
       → kind_of (scope_of before.state) expr ≡ Some kind → IsKeptOf before part expr value → IsOfKind kind value
   part_kind part expr kind value spelled is kept =
       value_kind kind value kept.well_formed
-      (λ valuation element has. content_kind before.state all part expr value spelled.0 spelled.1 kept.content kind is valuation element has)
+      (λ valuation element has. content_kind before.state all part expr value spelled kept.content kind is valuation element has)
 
-  expr_writable : (expr : Expr) (kept : Kept) → IsPlainExpr expr → Keeps before expr kept → IsWritten kept
+  expr_writable : (expr : Expr) (kept : Kept) → All IsSpelled (literals_of expr) → Keeps before expr kept → IsWritten kept
   expr_writable expr kept spelled keeps = λ part.
       let value = value_at part kept in
       let there = kept_at before expr kept keeps part in
@@ -270,7 +266,7 @@ module _ (before : Moment) (bits : before.meter.bits ≤ 127) (all : AreWritable
         },
       )
 
-  show_again : (expr : Expr) (kept : Kept) (after : Moment) (answer : Answer) → IsPlainExpr expr → Keeps before expr kept
+  show_again : (expr : Expr) (kept : Kept) (after : Moment) (answer : Answer) → All IsSpelled (literals_of expr) → Keeps before expr kept
       → kept.second ≡ None → answer ≡ shown kept → after.meter.bits ≡ before.meter.bits → IsShownAgain after kept.value answer
   show_again expr kept after answer spelled keeps none is same =
       let writable = (expr_writable expr kept spelled keeps First).1 in
@@ -292,7 +288,7 @@ module _ (before : Moment) (bits : before.meter.bits ≤ 127) (all : AreWritable
         answered = text_answered after bits_after kept.value writable small answer only;
       }
 
-  bound_writable : (name : Name) (expr : Expr) (kept : Kept) (after : StateView) → IsPlainExpr expr → Keeps before expr kept
+  bound_writable : (name : Name) (expr : Expr) (kept : Kept) (after : StateView) → All IsSpelled (literals_of expr) → Keeps before expr kept
       → Binds before.state name kept after → AreWritable after
   bound_writable name expr kept after spelled keeps binds = λ other found is. by other found is (bytes_eq other name) refl
     where
@@ -312,7 +308,7 @@ module _ (before : Moment) (bits : before.meter.bits ≤ 127) (all : AreWritable
   step_writable (Bind name expr) after answer spelled step =
       let made = step.does.0 in bound_writable name expr made.0 after.state spelled made.1 made.2
 
-same_bits : (g h : Gauge) → IsCharged g h → h.bits ≡ g.bits
+pub same_bits : (g h : Gauge) → IsCharged g h → h.bits ≡ g.bits
 same_bits g h charged = ap (λ (m : Gauge). m.bits) charged.same
 
 -- simple statements that are done, one after another
@@ -343,12 +339,11 @@ steps_writable before (stmt ∷ second ∷ more) after answer bits all spelled s
     (All-tail AreSpelled stmt (second ∷ more) spelled) steps.2
 
 -- the literals of a statement, and of its simple statements, are spelled
-of_text : (bytes : List ℕ) (stmt : Stmt) → BytesSpell bytes stmt → All IsSpelled (statement_literals stmt)
+of_text : (bytes : List ℕ) (stmt : Stmt) → BytesSpell bytes stmt → AreSpelled stmt
 of_text bytes stmt spelled = literals_spelled stmt spelled.tokens (lexed bytes spelled.tokens spelled.cut) spelled.spelled
 
-of_simple : (bytes : List ℕ) (stmt : Stmt) → BytesSpell bytes stmt → SimplifiesNone stmt → All AreSpelled (flat stmt)
-of_simple bytes stmt spelled plain = λ i d low.
-    (literals_kept IsSpelled stmt (of_text bytes stmt spelled) i d low, parts_kept simplifies (λ n. refl) stmt plain i d low)
+of_simple : (bytes : List ℕ) (stmt : Stmt) → BytesSpell bytes stmt → All AreSpelled (flat stmt)
+of_simple bytes stmt spelled = literals_kept IsSpelled stmt (of_text bytes stmt spelled)
 
 -- what is shown of a kept value
 shows_again : (now : Moment) (stmt : Stmt) (kept : Kept) (after : Moment) (answer : Answer) → now.meter.bits ≤ 127 → AreWritable now.state
@@ -361,9 +356,9 @@ shows_again now (Assume set) kept after answer bits all spelled keeps none is sa
 shows_again now (Bind name expr) kept after answer bits all spelled keeps none is same = absurd keeps
 
 pub taken_again : (before : Moment) (bytes : List ℕ) (after : Moment) (answer : Answer) → before.meter.bits ≤ 127 → AreWritable before.state
-    → (answered : Answers before bytes after answer) → SimplifiesNone answered.stmt → IsTakenAgain before answered.stmt after answer
-taken_again before bytes after answer bits all answered plain kept stops none is =
-    let spelled = subst (All AreSpelled) stops.split (of_simple bytes answered.stmt answered.spelled plain) in
+    → (answered : Answers before bytes after answer) → IsTakenAgain before answered.stmt after answer
+taken_again before bytes after answer bits all answered kept stops none is =
+    let spelled = subst (All AreSpelled) stops.split (of_simple bytes answered.stmt answered.spelled) in
     let parts = All-parts AreSpelled stops.done (stops.next ∷ stops.later) spelled in
     let now = done_writable before stops.done stops.now bits all parts.0 stops.steps in
     shows_again stops.now stops.next kept after answer (subst (λ (n : ℕ). n ≤ 127) (sym now.1) bits) now.0
@@ -380,11 +375,11 @@ forgotten_writable : (state : StateView) → AreWritable state → AreWritable (
 forgotten_writable state all = λ name kept is. all name kept (kept_before state name kept is)
 
 pub stays_writable : (before : Moment) (bytes : List ℕ) (after : Moment) (answer : Answer) → before.meter.bits ≤ 127
-    → AreWritable before.state → (answered : Answers before bytes after answer) → SimplifiesNone answered.stmt → AreWritable after.state
-stays_writable before bytes after answer bits all answered plain =
+    → AreWritable before.state → Answers before bytes after answer → AreWritable after.state
+stays_writable before bytes after answer bits all answered =
     let now = answered.performed.0 in
     let written = steps_writable before (flat answered.stmt) now answer bits all
-    (of_simple bytes answered.stmt answered.spelled plain) answered.performed.1 in
+    (of_simple bytes answered.stmt answered.spelled) answered.performed.1 in
     subst (λ (m : Moment). AreWritable m.state) (sym answered.performed.2) (forgotten_writable now.state written)
 
 pub starts_writable : AreWritable unbound

@@ -1,13 +1,8 @@
 -- Kept values that can be written.
-use Rattle.std.proofs.Common.{◌≡◌, ◌≤◌, ◌-◌, ◌^◌, ℕ, true, get_or, arith, pow_mono}
-use Rattle.std.specs.Prelude.{unsigned_abs}
-use Rattle.std.proofs.lemmas.List.Elements.{All-weaker}
+use Rattle.std.proofs.Common.{◌≡◌, ◌≤◌, ◌-◌, ◌^◌, true, arith, pow_mono}
 use Rattle.isl_meter.specs.Gauge.{Gauge}
-use Rattle.isl_piece.specs.declared.definition.Definition.{Definition}
-use Rattle.isl_piece.specs.Formed.{IsDefinitionUpTo}
-use Rattle.isl_piece.proofs.RowMagnitudes.{rows_more}
 use Rattle.isl_union.specs.KeptValue.{KeptValue, HasNoDefinitions, IsKeptValue}
-use Rattle.isl_union.specs.Numbers.{HasNumbersUpTo, IsWithinLimit}
+use Rattle.isl_union.specs.Numbers.{IsWithinLimit}
 use Rattle.isl_token.specs.Number.{too_great}
 use Rattle.isl_tree.specs.declared.tree.Literal.{Literal}
 use Rattle.isl_text.specs.Formed.{are_alike}
@@ -15,23 +10,9 @@ use Rattle.isl_lower.specs.Value.{HasSameElements}
 use Rattle.isl_kinds.specs.Typed.{kind_of_pieces}
 use Rattle.isl_round_trip.specs.Written.{HasWritableNumbers}
 use Rattle.isl_round_trip.specs.RoundTrip.{IsWritableValue}
-use Rattle.isl_round_trip.proofs.KindLaws.{in_pieces, value_kind, of_kind_uniform}
-
--- numbers up to a limit are up to a greater one
-definition_more : (m n : ℕ) (d : Definition) → m ≤ n → IsDefinitionUpTo m d → IsDefinitionUpTo n d
-definition_more m n d less small = record {
-  coefs = All-weaker (λ c. unsigned_abs c ≤ m) (λ c. unsigned_abs c ≤ n) (λ c p. omega (arith, p, less)) d.coefs small.coefs;
-  constant = let p = small.constant in omega (arith, p, less);
-  k = let p = small.k in omega (arith, p, less);
-}
-
-numbers_more : (m n : ℕ) (value : KeptValue) → m ≤ n → HasNumbersUpTo m value → HasNumbersUpTo n value
-numbers_more m n value less small i d low =
-    let piece = get_or value.pieces i d in record {
-      rows = rows_more m n piece.rows less (small i d low).rows;
-      definitions = All-weaker (IsDefinitionUpTo m) (IsDefinitionUpTo n) (λ e p. definition_more m n e less p) piece.definitions
-          (small i d low).definitions;
-    }
+use Rattle.isl_round_trip.proofs.BoundLaws.{numbers_more}
+use Rattle.isl_round_trip.proofs.KindLaws.{in_pieces, of_kind_uniform}
+use Rattle.isl_round_trip.proofs.PieceKinds.{value_kind}
 
 pub writable_numbers : (gauge : Gauge) (value : KeptValue) → gauge.bits ≤ 127 → IsWithinLimit gauge value → HasWritableNumbers value
 writable_numbers gauge value bits small =

@@ -1,7 +1,6 @@
 -- public: what the program answers, it takes again. (isl manual, the notation of sets and relations; the iscc chapter of the barvinok
 -- manual)
-use Rattle.std.specs.Prelude.{◌≡◌, ◌↔◌, ℕ, Bool, true, false, List, [], ◌∷◌, ◌++◌, None}
-use Rattle.std.specs.List.{list_any}
+use Rattle.std.specs.Prelude.{◌≡◌, ◌↔◌, ℕ, true, List, [], ◌∷◌, ◌++◌, None}
 use Rattle.isl_space.specs.Element.{Element}
 use Rattle.isl_space.specs.Valuation.{Valuation}
 use Rattle.isl_union.specs.KeptValue.{KeptValue, Has}
@@ -12,15 +11,13 @@ use Rattle.isl_tree.specs.Literal.{LiteralHas}
 use Rattle.isl_expr.specs.declared.tree.Stmt.{Stmt}
 use Rattle.isl_expr.specs.declared.tree.Stmt.TheVariants.{Show}
 use Rattle.isl_expr.specs.declared.tree.Expr.TheVariants as e
-use Rattle.isl_kinds.specs.Parts.{Part, operator, parts_of_statement}
-use Rattle.isl_flat.specs.Flat.{is_gist}
 use Rattle.isl_values.specs.declared.list.ListPart.{ListPart}
 use Rattle.isl_values.specs.State.{Kept, StateView, Moment, EachKept, value_at}
 use Rattle.isl_values.specs.Selection.{Keeps}
 use Rattle.isl_eval.specs.Spelled.{BytesSpell, OfTokens}
 use Rattle.isl_eval.specs.Causes.{IsValid, Stops}
 use Rattle.isl_eval.specs.Machine.{Answer, shown}
-use Rattle.isl_eval.specs.Run.{Answers}
+use Rattle.isl_eval.specs.Run.{Answers, Run, started}
 use Rattle.isl_round_trip.specs.Written.{HasFewRemainders, IsOfKind}
 use Rattle.isl_round_trip.specs.RoundTrip.{IsWritableValue, ReadsAs}
 
@@ -46,14 +43,6 @@ pub record IsShownAgain (after : Moment) (value : KeptValue) (answer : Answer) :
   pub valid : IsShallow (printed value) → HasFewRemainders value → IsValid after (printed value)
   pub answered : (last : Moment) (other : Answer) → Answers after (printed value) last other → other ≡ answer
 
--- `%` stands in no part of the statement
-abbrev pub simplifies : Part → Bool
-simplifies (operator sign) = is_gist sign
-simplifies part = false
-
-abbrev pub SimplifiesNone : Stmt → Type 0
-SimplifiesNone stmt = list_any simplifies (parts_of_statement stmt) ≡ false
-
 -- a simple statement that shows an expression of which this is kept
 abbrev pub ShowsKept : Kept → Moment → Stmt → Type 0
 ShowsKept kept now (Show expr) = Keeps now expr kept
@@ -64,3 +53,13 @@ abbrev pub IsTakenAgain : Moment → Stmt → Moment → Answer → Type 0
 IsTakenAgain before stmt after answer =
     (kept : Kept) → Stops before stmt (ShowsKept kept) → kept.second ≡ None → answer ≡ shown kept
     → IsShownAgain after kept.value answer
+
+-- Whatever values the statements of a run show, they are shown again.
+unfoldable pub AreTakenAgain : (before : Moment) (script : List (List ℕ)) (answers : List Answer) (after : Moment)
+    → Run before script answers after → Type 0
+unfolding Run
+AreTakenAgain before [] [] after run = Unit {0}
+AreTakenAgain before (bytes ∷ more) (answer ∷ answers) after run =
+    IsTakenAgain (started before) run.1.stmt run.0 answer × AreTakenAgain run.0 more answers after run.2
+AreTakenAgain before [] (answer ∷ answers) after run = Unit {0}
+AreTakenAgain before (bytes ∷ more) [] after run = Unit {0}

@@ -15,12 +15,12 @@ ghost use Rattle.isl_tree.specs.Plain.{is_plain};
 ghost use Rattle.isl_lower.specs.Value.{HasSameElements, IsWellFormedLiteral, value_lowered};
 ghost use Rattle.isl_values.specs.State.{Moment, unbound};
 ghost use Rattle.isl_eval.specs.Machine.{Answer};
-ghost use Rattle.isl_eval.specs.Run.{Answers};
+ghost use Rattle.isl_eval.specs.Run.{Answers, Run};
 ghost use Rattle.isl_round_trip.specs.Accepted.{HasQuietNames, IsAccepted};
 ghost use Rattle.isl_round_trip.specs.Tree.{printed_tree};
 ghost use Rattle.isl_round_trip.specs.Written.{HasFewRemainders, HasWritableNumbers, IsUniform, value_written};
 ghost use Rattle.isl_round_trip.specs.RoundTrip.{IsWritableValue, ReadsBack, Writes};
-ghost use Rattle.isl_round_trip.specs.TakenAgain.{AreWritable, IsTakenAgain, SimplifiesNone};
+ghost use Rattle.isl_round_trip.specs.TakenAgain.{AreTakenAgain, AreWritable, IsTakenAgain};
 
 /// The text of a value writes its printed tree.
 pub fn printed_tree_is_spelled()
@@ -77,13 +77,19 @@ pub fn lowered_is_writable()
 
 /// What the program shows of a value that is no list, it takes again: the text of the line is a statement, which shows a literal with
 /// exactly the elements of the value, and whatever answers it answers the same line. It needs that what is bound can be written; this
-/// holds where nothing is bound, and each answered statement keeps it. Statements with `%` are left out.
+/// holds where nothing is bound, and each answered statement keeps it.
 pub fn shown_is_taken_again()
     ensures taken { (before : Moment) (bytes : List ℕ) (after : Moment) (answer : Answer) → before.meter.bits ≤ 127
-        → AreWritable before.state → (answered : Answers before bytes after answer) → SimplifiesNone answered.stmt
-        → IsTakenAgain before answered.stmt after answer }
+        → AreWritable before.state → (answered : Answers before bytes after answer) → IsTakenAgain before answered.stmt after answer }
     ensures kept { (before : Moment) (bytes : List ℕ) (after : Moment) (answer : Answer) → before.meter.bits ≤ 127
-        → AreWritable before.state → (answered : Answers before bytes after answer) → SimplifiesNone answered.stmt
-        → AreWritable after.state }
+        → AreWritable before.state → Answers before bytes after answer → AreWritable after.state }
     ensures start { AreWritable unbound }
+{}
+
+/// The same of whole runs: whatever their statements show, the program takes again, and what is bound behind them can be written.
+pub fn run_is_taken_again()
+    ensures taken { (before : Moment) (script : List (List ℕ)) (answers : List Answer) (after : Moment) → before.meter.bits ≤ 127
+        → AreWritable before.state → (run : Run before script answers after) → AreTakenAgain before script answers after run }
+    ensures kept { (before : Moment) (script : List (List ℕ)) (answers : List Answer) (after : Moment) → before.meter.bits ≤ 127
+        → AreWritable before.state → Run before script answers after → AreWritable after.state }
 {}
