@@ -684,10 +684,12 @@ module _ (state : StateView) (left right : Expr) (g : Gauge) (limit : ℕ) (valu
           context,
           record { elements = own.elements; written = own.written },
           record { elements = other.elements; written = other.written },
-          own.kept,
-          other.kept,
-          subst (λ (ns : List Name). IsGistOf (value_over ns value) (value_over ns context) gist)
-              (joined_is value.params context.params other.kept.params.distinct) both,
+          (
+            own.kept,
+            other.kept,
+            subst (λ (ns : List Name). IsGistOf (value_over ns value) (value_over ns context) gist)
+                (joined_is value.params context.params other.kept.params.distinct) both,
+          ),
         );
         kept = kept;
         params = params ∙ pair_names;

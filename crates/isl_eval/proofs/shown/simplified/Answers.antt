@@ -1,4 +1,4 @@
-use Rattle.std.proofs.Common.{◌<◌, ◌≡◌, ◌≤◌, List, length, inl, refl, rules, subst, sym}
+use Rattle.std.proofs.Common.{◌<◌, ◌≡◌, ◌≤◌, true, List, length, inl, refl, rules, subst, sym}
 use Rattle.std.specs.Prelude.{unsigned_abs}
 use Rattle.isl_expr.specs.declared.tree.Binary.TheVariants as b
 use Rattle.isl_meter.specs.Gauge.{limit_of}
@@ -6,14 +6,14 @@ use Rattle.isl_meter.proofs.CutLemmas.{IsCharged_refl, IsCharged_trans}
 use Rattle.isl_space.specs.Limits.{most_parameters}
 use Rattle.isl_space.specs.Name.{Name}
 use Rattle.isl_space.specs.Names.{joined}
-use Rattle.isl_text.specs.declared.refusal.Refusal.TheVariants.{TooWide}
+use Rattle.isl_text.specs.declared.refusal.Refusal.TheVariants.{NoMemory, TooWide}
 use Rattle.isl_union.specs.Fault.{IsFaultBy}
 use Rattle.isl_union.specs.KeptValue.{HasNoDefinitions}
 use Rattle.isl_union.specs.Numbers.{HasNumbersUpTo}
 use Rattle.isl_union.specs.declared.fault.OpFault.TheVariants as op_fault
 use Rattle.isl_values.specs.Ends.{Ends}
 use Rattle.isl_values.specs.Made.{refusal_of_cut}
-use Rattle.isl_values.proofs.ValueLaws.{fits_later, numbers_later}
+use Rattle.isl_values.proofs.ValueLaws.{fits_later, numbers_later, paid_works, unmade_memory}
 use Rattle.isl_eval.specs.Evaluation.{EndsPair}
 use Rattle.isl_eval.proofs.TestLaws.{at_deref, refused, test_unmade, test_wide, unworked_on}
 use Rattle.isl_eval.proofs.ShownLaws.{pair_cut, pair_goes, pair_names, pair_right, pair_wide, simplified_is}
@@ -123,3 +123,14 @@ returns-in-Err-Cut-clause-made c =
     c.in-Err-Cut.ensures.units) same
     (λ few. pair_cut state c.args.left.now c.args.right.now one.goes_on two.goes_on
     (subst (λ (ns : List Name). length ns ≤ most_parameters) names few))
+
+pub returns-in_err-new-in-Ok-clause-made : goal.returns-in_err-new-in-Ok-clause-made
+returns-in_err-new-in-Ok-clause-made c =
+    let g = c.args.meter.now in
+    let h = c.flat_value_of-2.new.meter in
+    let k = c.gist.new.meter in
+    refused c.from_residual-in_err-new-in-Ok.result _ _ NoMemory (search rules)
+    (inl (unmade_memory true (EndsPair c.args.state.now c.args.left.now b.Gist c.args.right.now) g k NoMemory refl
+    (paid_works g k (IsCharged_trans g h k
+    (IsCharged_trans g c.flat_value_of.new.meter h c.in_ok-value.ensures.made.1.charged c.in_ok-context.ensures.made.1.charged)
+    c.in-Ok.ensures.units.1))))
