@@ -7,7 +7,7 @@ use Rattle.isl_text.specs.declared.refusal.Refusal.TheVariants.{Unfinished, Over
 use Rattle.isl_text.specs.declared.refusal.Refusal.TheVariants.{ScriptTooLong, NoElement, NoValuation, NotAssumed}
 use Rattle.isl_text.specs.Refusal.{text_of}
 
-pub text_is_short : (refusal : Refusal) → length (text_of refusal) ≤ 100
+pub text_is_short : (refusal : Refusal) → length (text_of refusal) ≤ 88
 text_is_short Usage = omega arith
 text_is_short Syntax = omega arith
 text_is_short UnknownName = omega arith
