@@ -1,0 +1,7 @@
+pub mod LeftLaws
+pub mod OntoLaws
+pub mod PairLaws
+pub mod PlacesLaws
+pub mod RegionLaws
+pub mod UnderLaws
+pub mod ValueLaws

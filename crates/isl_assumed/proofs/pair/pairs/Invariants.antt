@@ -1,0 +1,10 @@
+use Rattle.std.proofs.Common.{take}
+use Rattle.isl_meter.specs.Gauge.{IsCharged}
+use Rattle.isl_assumed.specs.Left.{ArePairs}
+use Rattle.isl_assumed.proofs.pair.pairs.Given as goal
+
+abbrev pub invariant-loop-other : goal.invariant-loop-other
+invariant-loop-other l = record {
+  pairs : ArePairs l.fn.meter l.names l.more l.system (take l.other-index l.others) l.pairs.items;
+  charged : IsCharged l.fn.meter l.meter;
+}
