@@ -260,7 +260,11 @@ module _ (state : StateView) (all : AreWritable state) where
       (gist_kind m first context (all_left IsSpelled (literals_in first) (literals_of context ++ []) spelled)
       content.0 content.1 value content.2 content.4 kind is)
       has
-  row_kind m first n links value spelled Selected content kind is valuation element has lies = lies content
+  row_kind m first n end_of-Link value spelled Selected content kind is valuation element has lies = lies content
+  row_kind m first n (more_of-Link sign operand end_of-Link) value spelled Selected content kind is valuation element has lies = lies content
+  row_kind m first n (more_of-Link sign operand (more_of-Link next other rest)) value spelled Selected content kind is valuation element has
+      lies =
+      lies content
 
   -- what is kept of a part of an expression is of its kind
   pub content_kind : (part : ListPart) (expr : Expr) (value : KeptValue) → All IsSpelled (literals_of expr)
