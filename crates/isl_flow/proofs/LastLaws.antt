@@ -1,25 +1,29 @@
 -- Precedences without later sources, and those by their sinks.
-use Rattle.std.proofs.Common.{◌≡◌, ◌↔◌, sym, ap, ◌∙◌, subst, ℕ, List, [], ◌∷◌, Any, All, length, get_or, map}
+use Rattle.std.proofs.Common.{◌≡◌, ◌↔◌, sym, ap, ◌∙◌, subst, ℕ, ◌+◌, List, [], ◌∷◌, Any, All}
 use Rattle.std.proofs.lemmas.List.Elements.{All-cons, All-nil}
-use Rattle.isl_math.proofs.ListLaws.{All-unmapped, Any-element, Any-first, Any-one, Any-unmapped, Any-weaker, Any-with}
+use Rattle.isl_math.proofs.ListLaws.{Any-element, Any-first, Any-one, Any-weaker}
 use Rattle.isl_meter.specs.Gauge.{Gauge}
 use Rattle.isl_space.specs.Form.{width_of}
+use Rattle.isl_space.specs.Element.{Element}
 use Rattle.isl_space.specs.Name.{Name}
+use Rattle.isl_space.specs.Valuation.{Valuation}
 use Rattle.isl_piece.specs.declared.system.System.{System}
-use Rattle.isl_piece.specs.System.{HoldsSystem, IsSystemWithin, free_columns}
+use Rattle.isl_piece.specs.System.{HoldsSystem, free_columns}
 use Rattle.isl_elim.specs.Sample.{IsNowhere}
-use Rattle.isl_elim.proofs.ProjectionLaws.{any_mapped}
-use Rattle.isl_difference.specs.Difference.{IsDifference}
+use Rattle.isl_difference.specs.Difference.{IsOutside}
 use Rattle.isl_difference.specs.Split.{IsLiveFormOf}
 use Rattle.isl_blocks.specs.Blocks.{numbers_of, total, IsSpread}
 use Rattle.isl_blocks.proofs.WidthLaws.{numbers_long}
 use Rattle.isl_flow.specs.declared.forms.Forms.{Forms}
 use Rattle.isl_flow.specs.declared.later.Later.{Later}
+use Rattle.isl_flow.specs.declared.over.Remainder.{Remainder}
 use Rattle.isl_flow.specs.declared.precedence.Precedence.{Precedence}
+use Rattle.isl_flow.specs.Last.{ShowsLeft, ShowsWith}
 use Rattle.isl_flow.specs.Forms.{AreSameForms, widths_for}
-use Rattle.isl_flow.specs.Later.{all_but_source, later_blocks, later_widths, AreAlikeForms, HasLast, HasLater, HoldsOver, HoldsPicked}
+use Rattle.isl_flow.specs.Later.{all_but_source, later_blocks, later_widths, AreAlikeForms, HasLater, HoldsOver, HoldsPicked}
 use Rattle.isl_flow.specs.Later.{IsOver, IsPlainLater, LiesBehind}
 use Rattle.isl_flow.specs.Made.{AreMade}
+use Rattle.isl_flow.specs.Over.{IsAcross, IsRemainder}
 use Rattle.isl_flow.specs.Precedence.{Occurrence, HasOccurrence, HoldsFor, IsAccessed, IsPlainPrecedence, IsPrecedence, LiesIn, blocks_of}
 use Rattle.isl_flow.proofs.OrderLaws.{same_back, same_precedence}
 use Rattle.isl_flow.proofs.TimedLaws.{blocks_wide, lies_same}
@@ -97,7 +101,7 @@ module _ (params : List Name) (f : Forms) (k : Later) where
 
 -- ---- without them
 module _ (g : Gauge) (params : List Name) (r : Precedence) (is : IsPrecedence g params r) (laters : List Later)
-    (others systems : List System)
+    (others : List System)
     (later : AreMade (λ o s. HoldsFor params r.forms s o) (IsOver g (widths_for params r.forms)) IsPlainSystem (All IsPlainLater laters)
     (λ o. Any (λ k. LiesIn r.forms o × HasLater params o k) laters) others) where
   abbrev f : Forms
@@ -109,47 +113,45 @@ module _ (g : Gauge) (params : List Name) (r : Precedence) (is : IsPrecedence g 
   abbrev Later_at : Occurrence → Later → Type 0
   Later_at o k = LiesIn f o × HasLater params o k
 
-  long : (o : Occurrence) → LiesIn f o → length (numbers_of (blocks_of params o)) ≡ free_columns r.system
-  long o lies = numbers_long (blocks_of params o) ∙ ap total (blocks_wide params f o lies) ∙ sym is.free
+  pub shown_left : (v : Valuation) (e : Element)
+      → ShowsWith params f (IsOutside r.system others) v e ↔ ShowsLeft params laters v e r
+  shown_left v e = (
+    (λ s.
+        let o = s.occurrence in
+        record {
+          occurrence = o;
+          at = s.at;
+          has = record {
+            has = record { lies = s.lies; holds = s.holds.0 };
+            last = λ k. s.holds.1 (Any-weaker (λ t. HoldsFor params f t o) (At o) (λ t h. h.holds) others
+                ((later.has o).1 (Any-weaker (HasLater params o) (Later_at o) (λ k h. (s.lies, h)) laters k)));
+          };
+          is = s.is;
+        }),
+    (λ s.
+        let o = s.occurrence in
+        let lies = s.has.has.lies in
+        record {
+          occurrence = o;
+          at = s.at;
+          lies = lies;
+          holds = (
+            s.has.has.holds,
+            λ a. s.has.last (Any-weaker (Later_at o) (HasLater params o) (λ k x. x.1) laters
+                ((later.has o).0 (Any-weaker (At o) (λ t. HoldsFor params f t o) (λ t x. record { lies = lies; holds = x }) others a))),
+          );
+          is = s.is;
+        }),
+  )
 
-  pub last_made : IsDifference g r.system others systems → (IsPlainPrecedence r → All IsPlainSystem others → All IsPlainSystem systems)
-      → (made : List Precedence) → All (λ q. AreSameForms q.forms f) made → map (λ q. q.system) made ≡ systems
-      → AreMade (HasOccurrence params) (IsPrecedence g params) IsPlainPrecedence (IsPlainPrecedence r × All IsPlainLater laters)
-      (λ o. HasLast params laters o r) made
-  last_made difference plain made same are = record {
-    has = λ o. (
-      (λ a.
-          let all = Any-with (HasOccurrence params o) (λ q. AreSameForms q.forms f) (λ q. LiesIn f o × At o q.system)
-          (λ q h s. (lies_same q.forms f o s h.lies, h.holds)) made same a in
-          let lies = (Any-element (λ q. LiesIn f o × At o q.system) made all).2.0 in
-          let some = subst (Any (At o)) are (any_mapped (At o) (λ q. q.system) made
-          (Any-weaker (λ q. LiesIn f o × At o q.system) (λ q. At o q.system) (λ q h. h.1) made all)) in
-          let out = (difference.points (numbers_of (blocks_of params o)) (long o lies)).0 some in
-          record {
-            has = record { lies = lies; holds = out.0 };
-            last = λ k. out.1 (Any-weaker (λ s. HoldsFor params f s o) (At o) (λ s h. h.holds) others
-                ((later.has o).1 (Any-weaker (HasLater params o) (Later_at o) (λ k h. (lies, h)) laters k)));
-          }),
-      (λ h.
-          let lies = h.has.lies in
-          let some = (difference.points (numbers_of (blocks_of params o)) (long o lies)).1 (
-            h.has.holds,
-            λ a. h.last (Any-weaker (Later_at o) (HasLater params o) (λ k x. x.1) laters
-                ((later.has o).0 (Any-weaker (At o) (λ s. HoldsFor params f s o) (λ s x. record { lies = lies; holds = x }) others a))),
-          ) in
-          Any-with (λ q. At o q.system) (λ q. AreSameForms q.forms f) (HasOccurrence params o)
-          (λ q x s. record { lies = lies_same f q.forms o (same_back q.forms f s) lies; holds = x }) made same
-          (Any-unmapped (At o) (λ q. q.system) made (subst (Any (At o)) (sym are) some))),
-    );
-    sound = λ j d l.
-        let free = All-unmapped (λ s. free_columns s ≡ free_columns r.system) (λ q. q.system) made
-        (subst (All (λ s. free_columns s ≡ free_columns r.system)) (sym are) (λ i e b. (difference.each i e b).columns)) in
-        let within = All-unmapped (IsSystemWithin g) (λ q. q.system) made
-        (subst (All (IsSystemWithin g)) (sym are) (λ i e b. (difference.each i e b).within)) in
-        same_precedence g params f (get_or made j d) is.narrow is.space (same j d l) (free j d l ∙ is.free) (within j d l);
-    plain = λ none. All-unmapped IsPlainSystem (λ q. q.system) made (subst (All IsPlainSystem) (sym are)
-        (plain none.0 (later.plain none.1)));
-  }
+  -- what is asked for, over these columns
+  pub asked_is : (kept count : ℕ) (asked : Remainder) → asked.system ≡ r.system → asked.others.items ≡ others → asked.count ≡ count
+      → kept + count ≡ total (widths_for params f) → IsRemainder g kept asked
+  asked_is kept count asked one rest at wide = rw (one, at) (record {
+    system = record { free = is.free ∙ sym wide; within = is.within };
+    others = subst (All (IsAcross g (kept + count))) (sym rest)
+        (λ k d l. record { free = (later.sound k d l).free ∙ sym wide; within = (later.sound k d l).within });
+  })
 
 -- ---- those that have a point
 module _ (g : Gauge) (params : List Name) (r : Precedence) (is : IsAccessed g params r) where

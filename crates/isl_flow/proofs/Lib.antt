@@ -1,9 +1,11 @@
+pub mod ColumnLaws
 pub mod FlowLaws
 pub mod LastLaws
 pub mod LaterLaws
 pub mod MadeLaws
 pub mod OperandLaws
 pub mod OrderLaws
+pub mod OverLaws
 pub mod PieceLaws
 pub mod SinkLaws
 pub mod SourceLaws

@@ -1,7 +1,7 @@
 -- The pieces from source to sink of a precedence.
 use Rattle.std.proofs.Common.{◌≡◌, ◌↔◌, refl, sym, ap, ap₂, ◌∙◌, subst, arith, ℕ, ◌+◌, ◌*◌, ℤ, List, [], ◌++◌, append-nil}
 use Rattle.std.proofs.Common.{append_assoc}
-use Rattle.std.proofs.Common.{length, length-append, get_or, map, take, drop, take-append-drop}
+use Rattle.std.proofs.Common.{All, length, length-append, get_or, map, take, drop, take-append-drop}
 use Rattle.std.proofs.lemmas.List.{length-drop, length-take-le}
 use Rattle.std.proofs.lemmas.List.Elements.{All-map}
 use Rattle.isl_math.proofs.ListLaws.{Any-unmapped}
@@ -28,7 +28,9 @@ use Rattle.isl_images.proofs.ImageLaws.{element_is}
 use Rattle.isl_blocks.specs.Left.{IsLeftWithout}
 use Rattle.isl_flow.specs.declared.precedence.Precedence.{Precedence}
 use Rattle.isl_flow.specs.Made.{AreMade}
+use Rattle.isl_flow.specs.Last.{ShowsWith}
 use Rattle.isl_flow.specs.Precedence.{HasAt, IsPlainPrecedence, IsPrecedence, IsSound, Shows}
+use Rattle.isl_flow.proofs.MadeLaws.{made_same}
 
 -- a system with a point makes a piece of the space
 pub live_sound : (g : Gauge) (params : List Name) (space : SpaceForm) (s : System) → IsWellFormedSpace space
@@ -70,14 +72,17 @@ module _ (g : Gauge) (params : List Name) (r : Precedence) (is : IsPrecedence g 
   abbrev rest : ℕ
   rest = width_of a_form + 2 * width_of p_form
 
-  module _ (parts : List System) (left : IsLeftWithout g r.system (columns_of params space) rest parts) where
+  -- systems that hold at the elements of the space for which some numbers of the place and of the times make P hold
+  module _ (P : List ℤ → Type 0) (parts : List System)
+      (left : (point : List ℤ) → length point ≡ columns_of params space
+      → HoldsAtAny parts point ↔ ((behind : List ℤ) × (length behind ≡ rest) × P (point ++ behind))) where
     module _ (v : Valuation) (e : Element) where
-      pub shown : (IsElement e × (space ≡ e.space) × HoldsAtAny parts (point_of params v e)) ↔ Shows params v e r
+      pub shown : (IsElement e × (space ≡ e.space) × HoldsAtAny parts (point_of params v e)) ↔ ShowsWith params r.forms P v e
       shown = (
         (λ h.
             let long : length e.coordinates ≡ width_of x_form + width_of y_form = h.0 ∙ ap coordinates_of (sym h.1) in
             let whole = element_long params v e space h.0 h.1 in
-            let some = (left.points (point_of params v e) whole).0 h.2 in
+            let some = (left (point_of params v e) whole).0 h.2 in
             let behind = some.0 in
             let count : length behind ≡ width_of a_form + 2 * width_of p_form = some.1 in
             let xs = take (width_of x_form) e.coordinates in
@@ -102,28 +107,26 @@ module _ (g : Gauge) (params : List Name) (r : Precedence) (is : IsPrecedence g 
                 sink_time = record { form = p_form; numbers = qs };
               };
               at = refl;
-              has = record {
-                lies = record {
-                  source = refl;
-                  sink = refl;
-                  access = refl;
-                  time = refl;
-                  sink_time = refl;
-                  source_point = length-take-le (width_of x_form) e.coordinates (omega (arith, long));
-                  sink_point = omega (arith, long, dx);
-                  access_point = length-take-le (width_of a_form) behind (omega (arith, count));
-                  time_point = length-take-le (width_of p_form) ts (omega (arith, count, da));
-                  sink_time_point = omega (arith, count, da, dp);
-                };
-                holds = subst (HoldsSystem r.system)
-                    (ap₂ (λ c b. (values_of params v ++ c) ++ b) apart ends ∙ sym (blocks_join (values_of params v) xs ys place ps qs))
-                    some.2;
+              lies = record {
+                source = refl;
+                sink = refl;
+                access = refl;
+                time = refl;
+                sink_time = refl;
+                source_point = length-take-le (width_of x_form) e.coordinates (omega (arith, long));
+                sink_point = omega (arith, long, dx);
+                access_point = length-take-le (width_of a_form) behind (omega (arith, count));
+                time_point = length-take-le (width_of p_form) ts (omega (arith, count, da));
+                sink_time_point = omega (arith, count, da, dp);
               };
+              holds = subst P
+                  (ap₂ (λ c b. (values_of params v ++ c) ++ b) apart ends ∙ sym (blocks_join (values_of params v) xs ys place ps qs))
+                  some.2;
               is = element_is e space (sym h.1) ∙ ap (λ ns. let f : Element = record { space = space; coordinates = ns } in f) apart;
             }),
         (λ k.
             let o = k.occurrence in
-            let lies = k.has.lies in
+            let lies = k.lies in
             let same : e.space ≡ space = ap (λ (f : Element). f.space) k.is ∙ ap₂ map_of lies.source lies.sink in
             let coordinates : e.coordinates ≡ o.source.numbers ++ o.sink.numbers = ap (λ (f : Element). f.coordinates) k.is in
             let both = length-append o.source.numbers o.sink.numbers in
@@ -135,24 +138,25 @@ module _ (g : Gauge) (params : List Name) (r : Precedence) (is : IsPrecedence g 
             let q = lies.sink_time_point ∙ ap width_of lies.sink_time in
             let one = length-append o.access.numbers (o.time.numbers ++ o.sink_time.numbers) in
             let two = length-append o.time.numbers o.sink_time.numbers in
-            let there = subst (λ (w : Valuation). HoldsSystem r.system
+            let there = subst (λ (w : Valuation). P
             ((values_of params w ++ (o.source.numbers ++ o.sink.numbers)) ++ (o.access.numbers ++ (o.time.numbers ++
             o.sink_time.numbers)))) k.at
-            (subst (HoldsSystem r.system)
+            (subst P
             (blocks_join (values_of params o.valuation) o.source.numbers o.sink.numbers o.access.numbers o.time.numbers o.sink_time.numbers)
-            k.has.holds) in
-            let here = subst (λ ns. HoldsSystem r.system ((values_of params v ++ ns)
+            k.holds) in
+            let here = subst (λ ns. P ((values_of params v ++ ns)
             ++ (o.access.numbers ++ (o.time.numbers ++ o.sink_time.numbers)))) (sym coordinates) there in (
               numbers,
               sym same,
-              (left.points (point_of params v e) (element_long params v e space numbers (sym same))).1
+              (left (point_of params v e) (element_long params v e space numbers (sym same))).1
                   (o.access.numbers ++ (o.time.numbers ++ o.sink_time.numbers), omega (arith, one, two, a, p, q), here),
             )),
       )
 
-    pub pieces_made : (made : List PieceView) → made ≡ map (piece_in space) parts
-        → AreMade (HasAt params) (IsSound g params) IsPlain (IsPlainPrecedence r) (λ at. Shows params at.0 at.1 r) made
-    pieces_made made are = rw are (record {
+    pub pieces_with : (S : Type 0) → All (IsLive g (columns_of params space)) parts → (S → All (λ s. s.definitions ≡ []) parts)
+        → (made : List PieceView) → made ≡ map (piece_in space) parts
+        → AreMade (HasAt params) (IsSound g params) IsPlain S (λ at. ShowsWith params r.forms P at.0 at.1) made
+    pieces_with S live plain made are = rw are (record {
       has = λ at.
           let H : KeptPiece → Type 0 = HasElement params at.0 at.1 in
           let both = parts_have params at.0 at.1 space parts in
@@ -162,6 +166,18 @@ module _ (g : Gauge) (params : List Name) (r : Precedence) (is : IsPrecedence g 
             (λ k. Any-unmapped H kept_piece pieces (both.1 (show.1 k))),
           );
       sound = All-map (IsSound g params) (piece_in space) parts (λ k d l.
-          live_sound g params space (get_or parts k d) is.space (left.live k d l));
-      plain = λ none. All-map IsPlain (piece_in space) parts (λ k d l. left.definitions none k d l);
+          live_sound g params space (get_or parts k d) is.space (live k d l));
+      plain = λ none. All-map IsPlain (piece_in space) parts (λ k d l. plain none k d l);
     })
+
+  pub pieces_made : (parts : List System) → IsLeftWithout g r.system (columns_of params space) rest parts
+      → (made : List PieceView) → made ≡ map (piece_in space) parts
+      → AreMade (HasAt params) (IsSound g params) IsPlain (IsPlainPrecedence r) (λ at. Shows params at.0 at.1 r) made
+  pieces_made parts left made are = made_same (HasAt params) (IsSound g params) IsPlain (IsPlainPrecedence r) (IsSound g params)
+      (IsPlainPrecedence r) (λ at. ShowsWith params r.forms (HoldsSystem r.system) at.0 at.1) (λ at. Shows params at.0 at.1 r)
+      (λ p s. s) (λ s. s)
+      (λ at. (
+        (λ s. record { occurrence = s.occurrence; at = s.at; has = record { lies = s.lies; holds = s.holds }; is = s.is }),
+        (λ s. record { occurrence = s.occurrence; at = s.at; lies = s.has.lies; holds = s.has.holds; is = s.is }),
+      )) made
+      (pieces_with (HoldsSystem r.system) parts left.points (IsPlainPrecedence r) left.live left.definitions made are)

@@ -28,8 +28,8 @@ use Rattle.isl_images.proofs.ResultLaws.{ok_case, ok_has}
 use Rattle.isl_relation.specs.Wide.{IsFormFault}
 use Rattle.isl_flow.specs.declared.later.Later.{Later}
 use Rattle.isl_flow.specs.declared.precedence.Precedence.{Precedence}
-use Rattle.isl_flow.specs.Last.{HasMap, IsMapElement, IsValueOf, ShowsLast, ShowsSink}
-use Rattle.isl_flow.specs.Later.{ComesLater, HasLast, HasLater, IsLater, IsPlainLater}
+use Rattle.isl_flow.specs.Last.{HasMap, IsMapElement, IsValueOf, ShowsLast, ShowsLeft, ShowsSink}
+use Rattle.isl_flow.specs.Later.{ComesLater, HasLater, IsLater, IsPlainLater}
 use Rattle.isl_flow.specs.Made.{AreMade}
 use Rattle.isl_flow.specs.Precedence.{Occurrence, HasAt, HasOccurrence, IsPlainPrecedence, IsPrecedence, IsSound, Shows}
 use Rattle.isl_flow.specs.Turned.{turned_back}
@@ -111,27 +111,24 @@ formed_cut params Wide old new narrow (op_fault.Cut cut) h = (inl narrow, h)
 module _ (g h : Gauge) (params : List Name) (found : List Precedence) (v : Valuation) (e : Element) where
   pub last_shown : (laters : List Later) (S : Type 0)
       → AreMade (HasLater params) (IsLater g params) IsPlainLater S (λ o. Any (ComesLater params o) found) laters
-      → (lasts : List Precedence) (T : Type 0)
-      → AreMade (HasOccurrence params) (IsPrecedence h params) IsPlainPrecedence T (λ o. Any (HasLast params laters o) found) lasts
-      → Any (Shows params v e) lasts ↔ ShowsLast params v e found
-  last_shown laters S later lasts T last = (
+      → Any (ShowsLeft params laters v e) found ↔ ShowsLast params v e found
+  last_shown laters S later = (
     (λ a.
-        let one = Any-element (Shows params v e) lasts a in
+        let one = Any-element (ShowsLeft params laters v e) found a in
         let s = one.2 in
         let o = s.occurrence in
-        let all = (last.has o).0 (Any-contains (HasOccurrence params o) lasts one.0 one.1 s.has) in
         record {
           occurrence = o;
           at = s.at;
-          has = Any-weaker (HasLast params laters o) (HasOccurrence params o) (λ r x. x.has) found all;
-          last = λ c. (Any-element (HasLast params laters o) found all).2.last ((later.has o).1 c);
+          has = Any-contains (HasOccurrence params o) found one.0 one.1 s.has.has;
+          last = λ c. s.has.last ((later.has o).1 c);
           is = s.is;
         }),
     (λ s.
         let o = s.occurrence in
-        let all = (last.has o).1 (Any-weaker (HasOccurrence params o) (HasLast params laters o)
-        (λ r x. record { has = x; last = λ k. s.last ((later.has o).0 k) }) found s.has) in
-        Any-weaker (HasOccurrence params o) (Shows params v e) (λ r x. record { occurrence = o; at = s.at; has = x; is = s.is }) lasts all),
+        Any-weaker (HasOccurrence params o) (ShowsLeft params laters v e)
+        (λ r x. record { occurrence = o; at = s.at; has = record { has = x; last = λ k. s.last ((later.has o).0 k) }; is = s.is })
+        found s.has),
   )
 
   pub sink_shown : (turned : List Precedence) (T : Type 0)

@@ -3,6 +3,7 @@ pub mod Last
 pub mod Later
 pub mod Made
 pub mod Operands
+pub mod Over
 pub mod Precedence
 pub mod Spreads
 pub mod Turned

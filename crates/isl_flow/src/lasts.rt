@@ -1,23 +1,26 @@
 //! The last of the precedences.
 
-ghost use Rattle.std.specs.Prelude.{◌≡◌, ◌↔◌, ◌≢◌, ◌<◌, ◌^◌, [], All, AllPairs, Any, IfOk, IsTrue, length, map};
+ghost use Rattle.std.specs.Prelude.{◌≡◌, ◌↔◌, ◌≢◌, ◌<◌, ◌^◌, [], All, AllPairs, Any, IfOk, IsTrue, length};
 ghost use Rattle.isl_meter.specs.Gauge.{Gauge, IsMetered};
 ghost use Rattle.isl_piece.specs.System.{IsSystemWithin, free_columns};
 ghost use Rattle.isl_blocks.specs.Blocks.{picked_width, total};
-ghost use Rattle.isl_flow.specs.Forms.{widths_for, AreNarrowForms, AreSameForms};
-ghost use Rattle.isl_flow.specs.Later.{later_widths, AreAlikeForms, HasLast, HasLater, HoldsOver, HoldsPicked, IsLater, IsOver};
+ghost use Rattle.isl_images.specs.Made.{IsPlain};
+ghost use Rattle.isl_flow.specs.Forms.{widths_for, AreNarrowForms};
+ghost use Rattle.isl_flow.specs.Last.{ShowsLeft};
+ghost use Rattle.isl_flow.specs.Later.{later_widths, AreAlikeForms, HasLater, HoldsOver, HoldsPicked, IsLater, IsOver};
 ghost use Rattle.isl_flow.specs.Later.{IsPlainLater};
 ghost use Rattle.isl_flow.specs.Made.{AreMade};
-ghost use Rattle.isl_flow.specs.Precedence.{HasOccurrence, HoldsFor, IsPlainPrecedence, IsPrecedence, LiesIn};
+ghost use Rattle.isl_flow.specs.Precedence.{HasAt, HoldsFor, IsPlainPrecedence, IsPrecedence, IsSound, LiesIn};
 
 use crate::forms::{Forms, widths_for};
 use crate::later::Later;
+use crate::over::{Remainder, left_over};
 use crate::precedence::Precedence;
 use isl_blocks::spread;
-use isl_difference::{outside, references};
 use isl_meter::{Cut, Meter};
-use isl_piece::System;
-use isl_space::Params;
+use isl_piece::{Piece, System};
+use isl_space::{Params, Space};
+use isl_union::pieces_in;
 use std::alloc::{AllocError, Global};
 
 // Whether sinks, places and times are of the same shapes.
@@ -91,26 +94,7 @@ fn all_later_systems(
     Ok(made)
 }
 
-// Precedences of these shapes with the systems.
-fn with_forms(
-    alloc: Global,
-    forms: &Forms,
-    systems: Vec<System>,
-) -> Result<Vec<Precedence>, AllocError>
-    ensures forms { IfOk result (λ made. All (λ r. AreSameForms r.forms forms.now) made.items) }
-    ensures systems { IfOk result (λ made. map (λ r. r.system) made.items ≡ systems.items) }
-{
-    let mut made = Vec::with_capacity(alloc, systems.len())?;
-    for system in systems {
-        made.push(Precedence {
-            forms: forms.copy()?,
-            system,
-        })?;
-    }
-    Ok(made)
-}
-
-// What is left of the precedence where no source comes later.
+// The pieces from source to sink of the precedence where no source comes later.
 #[tactic(auto, using(std::proofs::lemmas::Grind::common_steps, isl_meter::proofs::CutLemmas::charges))]
 fn lasts_of(
     alloc: Global,
@@ -118,21 +102,30 @@ fn lasts_of(
     precedence: &Precedence,
     laters: &[Later],
     meter: &mut Meter,
-) -> Result<Vec<Precedence>, Cut>
+) -> Result<Vec<Piece>, Cut>
     requires precedence { IsPrecedence meter.old params.now precedence.now }
     requires laters { All (IsLater meter.old params.now) laters.now }
-    ensures made { IfOk result (λ made. AreMade (HasOccurrence params.now) (IsPrecedence meter.old params.now) IsPlainPrecedence
+    ensures made { IfOk result (λ made. AreMade (HasAt params.now) (IsSound meter.old params.now) IsPlain
         (IsPlainPrecedence precedence.now × All IsPlainLater laters.now)
-        (λ o. HasLast params.now laters.now o precedence.now) made.items) }
+        (λ at. ShowsLeft params.now laters.now at.0 at.1 precedence.now) made.items) }
     ensures meter { IsMetered meter.old meter.new result }
 {
-    let later = all_later_systems(alloc, params, &precedence.forms, laters)?;
-    let later = references(alloc, later.as_slice())?;
-    let left = outside(alloc, &precedence.system, later.as_slice(), meter)?;
-    Ok(with_forms(alloc, &precedence.forms, left)?)
+    let forms = &precedence.forms;
+    let others = all_later_systems(alloc, params, forms, laters)?;
+    let kept = params.len() + forms.source.width() as usize + forms.sink.width() as usize;
+    let count = forms.access.width() as usize + 2 * forms.time.width() as usize;
+    let system = precedence.system.copy(alloc)?;
+    let asked = Remainder {
+        system,
+        others,
+        count,
+    };
+    let systems = left_over(alloc, asked, kept, meter)?;
+    let space = Space::Map(forms.source.clone()?, forms.sink.clone()?);
+    Ok(pieces_in(alloc, &space, systems)?)
 }
 
-/// What is left of the precedences where no source comes later.
+/// Those of each.
 #[tactic(auto, using(std::proofs::lemmas::Grind::common_steps, isl_meter::proofs::CutLemmas::charges))]
 pub(crate) fn all_lasts(
     alloc: Global,
@@ -140,12 +133,12 @@ pub(crate) fn all_lasts(
     precedences: &[Precedence],
     laters: &[Later],
     meter: &mut Meter,
-) -> Result<Vec<Precedence>, Cut>
+) -> Result<Vec<Piece>, Cut>
     requires precedences { All (IsPrecedence meter.old params.now) precedences.now }
     requires laters { All (IsLater meter.old params.now) laters.now }
-    ensures made { IfOk result (λ made. AreMade (HasOccurrence params.now) (IsPrecedence meter.old params.now) IsPlainPrecedence
+    ensures made { IfOk result (λ made. AreMade (HasAt params.now) (IsSound meter.old params.now) IsPlain
         (All IsPlainPrecedence precedences.now × All IsPlainLater laters.now)
-        (λ o. Any (HasLast params.now laters.now o) precedences.now) made.items) }
+        (λ at. Any (ShowsLeft params.now laters.now at.0 at.1) precedences.now) made.items) }
     ensures meter { IsMetered meter.old meter.new result }
 {
     let mut made = Vec::new(alloc);

@@ -8,6 +8,7 @@ mod later;
 mod live;
 mod operands;
 mod order;
+mod over;
 mod precedence;
 mod sinks;
 mod sources;

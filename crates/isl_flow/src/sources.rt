@@ -79,7 +79,7 @@ fn last_pieces(
 {
     let laters = all_laters(alloc, params, found, meter)?;
     let lasts = all_lasts(alloc, params, found, laters.as_slice(), meter)?;
-    all_pieces_of(alloc, params, lasts.as_slice(), meter)
+    Ok(lasts)
 }
 
 // The pieces from the sinks to their places.

@@ -1,11 +1,13 @@
 use Rattle.std.proofs.Common.{refl, sym, subst, arith, ◌<◌, ◌≤◌, length, get_or}
 use Rattle.std.specs.List.{All}
 use Rattle.isl_meter.proofs.CutLemmas.{IsCharged_refl, IsCharged_trans}
+use Rattle.isl_images.specs.Made.{IsPlain}
 use Rattle.isl_flow.proofs.MadeLaws.{made_all, made_more, made_none}
-use Rattle.isl_flow.specs.Later.{HasLast, IsPlainLater}
-use Rattle.isl_flow.specs.Precedence.{HasOccurrence, IsPlainPrecedence, IsPrecedence}
+use Rattle.isl_flow.specs.Last.{ShowsLeft}
+use Rattle.isl_flow.specs.Later.{IsPlainLater}
+use Rattle.isl_flow.specs.Precedence.{HasAt, IsPlainPrecedence, IsPrecedence, IsSound}
 use Rattle.isl_flow.proofs.LaterLaws.{later_after}
-use Rattle.isl_flow.proofs.OrderLaws.{precedence_before, precedence_later}
+use Rattle.isl_flow.proofs.OrderLaws.{precedence_later, sound_before}
 use Rattle.isl_flow.proofs.lasts.all_lasts.Goals as goal
 
 pub lasts_of-requires : goal.lasts_of-requires
@@ -25,8 +27,8 @@ loop-precedence-init c =
     let params = c.args.params.now in
     let items = c.args.precedences.now in
     record {
-      made = made_none (HasOccurrence params) (IsPrecedence g params) IsPlainPrecedence
-          (All IsPlainPrecedence items × All IsPlainLater c.args.laters.now) (λ o r. HasLast params c.args.laters.now o r) items
+      made = made_none (HasAt params) (IsSound g params) IsPlain
+          (All IsPlainPrecedence items × All IsPlainLater c.args.laters.now) (λ at r. ShowsLeft params c.args.laters.now at.0 at.1 r) items
           c.new-made.result.items c.new-made.ensures.items;
       charged = IsCharged_refl c.args.meter.now c.args.meter.now refl;
     }
@@ -42,11 +44,12 @@ loop-precedence-preserved c =
     let so_far = c.loop-precedence.invariant in
     let low : i < length items = omega arith in
     record {
-      made = made_more (HasOccurrence params) (IsPrecedence g params) IsPlainPrecedence
-          (All IsPlainPrecedence items × All IsPlainLater c.args.laters.now) (λ o r. HasLast params c.args.laters.now o r) items i item
-          low c.precedence-item.is (IsPrecedence h params) (IsPlainPrecedence item × All IsPlainLater c.args.laters.now)
-          (λ o. HasLast params c.args.laters.now o item) (λ p is. precedence_before g h params p so_far.charged is)
-          (λ all. (subst IsPlainPrecedence (sym c.precedence-item.is) (all.0 i item low), all.1)) (λ o. ((λ x. x), (λ x. x)))
+      made = made_more (HasAt params) (IsSound g params) IsPlain
+          (All IsPlainPrecedence items × All IsPlainLater c.args.laters.now)
+          (λ at r. ShowsLeft params c.args.laters.now at.0 at.1 r) items i item
+          low c.precedence-item.is (IsSound h params) (IsPlainPrecedence item × All IsPlainLater c.args.laters.now)
+          (λ at. ShowsLeft params c.args.laters.now at.0 at.1 item) (λ p is. sound_before g h params p so_far.charged is)
+          (λ all. (subst IsPlainPrecedence (sym c.precedence-item.is) (all.0 i item low), all.1)) (λ at. ((λ x. x), (λ x. x)))
           c.loop-precedence.made.items c.in_ok-more.more.items c.append.new.self.items c.in_ok-append.ensures.items so_far.made
           c.in_ok-more.ensures.made;
       charged = IsCharged_trans g h c.lasts_of.new.meter so_far.charged c.in_ok-more.ensures.meter;
@@ -58,7 +61,7 @@ returns-clause-made c =
     let params = c.args.params.now in
     let items = c.args.precedences.now in
     let end : length items ≤ c.loop-precedence.precedence-index = omega arith in
-    made_all (HasOccurrence params) (IsPrecedence g params) IsPlainPrecedence
-    (All IsPlainPrecedence items × All IsPlainLater c.args.laters.now) (λ o r. HasLast params c.args.laters.now o r) items
+    made_all (HasAt params) (IsSound g params) IsPlain
+    (All IsPlainPrecedence items × All IsPlainLater c.args.laters.now) (λ at r. ShowsLeft params c.args.laters.now at.0 at.1 r) items
     c.loop-precedence.precedence-index end c.loop-precedence.made.items
     c.loop-precedence.invariant.made

@@ -1,11 +1,9 @@
 use Rattle.std.proofs.Common.{get_or}
 use Rattle.std.specs.List.{All, Any}
-use Rattle.std.proofs.lemmas.Result.{IfOk-weaker}
-use Rattle.isl_meter.proofs.CutLemmas.{IsCharged_trans}
 use Rattle.isl_images.specs.Made.{IsPlain}
-use Rattle.isl_flow.specs.Last.{ShowsLast}
-use Rattle.isl_flow.specs.Made.{AreMade}
-use Rattle.isl_flow.specs.Precedence.{HasAt, IsPlainPrecedence, IsSound, Shows}
+use Rattle.isl_flow.specs.Last.{ShowsLast, ShowsLeft}
+use Rattle.isl_flow.specs.Later.{IsPlainLater}
+use Rattle.isl_flow.specs.Precedence.{HasAt, IsPlainPrecedence, IsSound}
 use Rattle.isl_flow.proofs.LaterLaws.{later_after}
 use Rattle.isl_flow.proofs.MadeLaws.{made_same}
 use Rattle.isl_flow.proofs.OrderLaws.{precedence_later, sound_before}
@@ -27,37 +25,16 @@ all_lasts-requires c =
           (λ k d l. later_after g h params (get_or c.in_ok-laters.laters.items k d) charged (c.in_ok-laters.ensures.made.sound k d l));
     }
 
-pub all_pieces_of-requires : goal.all_pieces_of-requires
-all_pieces_of-requires c =
-    let h = c.all_laters.new.meter in
-    let m = c.all_lasts.new.meter in
-    let params = c.args.params.now in
-    record {
-      precedences = rw c.as_slice-2.ensures.value
-          (λ k d l. precedence_later h m params (get_or c.in_ok-lasts.lasts.items k d) c.in_ok-lasts.ensures.meter
-          (c.in_ok-lasts.ensures.made.sound k d l));
-    }
-
 pub returns-clause-made : goal.returns-clause-made
 returns-clause-made c =
     let g = c.args.meter.now in
     let h = c.all_laters.new.meter in
-    let m = c.all_lasts.new.meter in
     let params = c.args.params.now in
     let found = c.args.found.now in
     let laters = c.in_ok-laters.laters.items in
-    let lasts = c.in_ok-lasts.lasts.items in
     let later = c.in_ok-laters.ensures.made in
     let last = rw c.as_slice.ensures.value at c.in_ok-lasts.ensures.made in
-    let charged = IsCharged_trans g h m c.in_ok-laters.ensures.meter c.in_ok-lasts.ensures.meter in
-    let pieces = rw c.as_slice-2.ensures.value at c.all_pieces_of.ensures.made in
-    IfOk-weaker c.all_pieces_of.result
-    (λ made. AreMade (HasAt params) (IsSound m params) IsPlain (All IsPlainPrecedence lasts)
-    (λ at. Any (Shows params at.0 at.1) lasts) made.items)
-    (λ made. AreMade (HasAt params) (IsSound g params) IsPlain (All IsPlainPrecedence found) (λ at. ShowsLast params at.0 at.1 found)
-    made.items)
-    (λ made are. made_same (HasAt params) (IsSound m params) IsPlain (All IsPlainPrecedence lasts) (IsSound g params)
-    (All IsPlainPrecedence found) (λ at. Any (Shows params at.0 at.1) lasts) (λ at. ShowsLast params at.0 at.1 found)
-    (λ p is. sound_before g m params p charged is) (λ none. last.plain (none, later.plain none))
-    (λ at. last_shown g h params found at.0 at.1 laters _ later lasts _ last) made.items are)
-    pieces
+    made_same (HasAt params) (IsSound h params) IsPlain (All IsPlainPrecedence found × All IsPlainLater laters) (IsSound g params)
+    (All IsPlainPrecedence found) (λ at. Any (ShowsLeft params laters at.0 at.1) found) (λ at. ShowsLast params at.0 at.1 found)
+    (λ p is. sound_before g h params p c.in_ok-laters.ensures.meter is) (λ none. (none, later.plain none))
+    (λ at. last_shown g h params found at.0 at.1 laters (All IsPlainPrecedence found) later) c.in_ok-lasts.lasts.items last
