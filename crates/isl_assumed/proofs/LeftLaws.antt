@@ -1,5 +1,6 @@
 -- What is left of several systems, one after another.
-use Rattle.std.proofs.Common.{◌≡◌, ◌↔◌, inl, inr, refl, sym, ap, ◌∙◌, arith, subst, ℕ, ◌+◌, ◌<◌, ℤ, List, [], ◌∷◌, ◌++◌, Any, get_or, length, take}
+use Rattle.std.proofs.Common.{◌≡◌, ◌↔◌, inl, inr, refl, sym, ap, ◌∙◌, arith, subst, ℕ, ◌+◌, ◌<◌, ℤ}
+use Rattle.std.proofs.Common.{List, [], ◌∷◌, ◌++◌, Any, get_or, length, take}
 use Rattle.std.proofs.lemmas.List.{append-nil, take_more}
 use Rattle.std.proofs.lemmas.List.Elements.{All-append, All-nil}
 use Rattle.isl_math.proofs.ListLaws.{All-last, Any-first, Any-left, Any-none, Any-one, Any-parts, Any-right, Any-weaker}
@@ -65,7 +66,8 @@ none_behind s point = (
     by [] l h = subst (HoldsSystem s) (append-nil point) h
     by (x ∷ behind) l h = absurd (omega (arith, l))
 
-pub any_behind : (systems : List System) (point : List ℤ) → Any (λ s. HoldsBefore s 0 point) systems ↔ Any (λ s. HoldsSystem s point) systems
+pub any_behind : (systems : List System) (point : List ℤ)
+    → Any (λ s. HoldsBefore s 0 point) systems ↔ Any (λ s. HoldsSystem s point) systems
 any_behind systems point = (
   (λ a. Any-weaker (λ s. HoldsBefore s 0 point) (λ s. HoldsSystem s point) (λ s h. (none_behind s point).0 h) systems a),
   (λ a. Any-weaker (λ s. HoldsSystem s point) (λ s. HoldsBefore s 0 point) (λ s h. (none_behind s point).1 h) systems a),

@@ -1,4 +1,5 @@
 pub mod LeftLaws
+pub mod MeterLaws
 pub mod OntoLaws
 pub mod PairLaws
 pub mod PlacesLaws

@@ -67,7 +67,8 @@ pairs_first g names more s pairs none = rw none (record {
   definitions = λ one two. All-nil IsFlat;
 })
 
-pub pairs_more : (g h : Gauge) (names more : ℕ) (s : System) (others : List System) (i : ℕ) (other both : System) (pairs pushed : List System)
+pub pairs_more : (g h : Gauge) (names more : ℕ) (s : System) (others : List System) (i : ℕ) (other both : System)
+    (pairs pushed : List System)
     → i < length others → other ≡ get_or others i other → g.bits ≡ h.bits → pushed ≡ pairs ++ both ∷ []
     → ArePairs g names more s (take i others) pairs → IsPair h names more s other both
     → ArePairs g names more s (take (i + 1) others) pushed

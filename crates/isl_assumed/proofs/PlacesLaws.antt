@@ -94,7 +94,8 @@ module _ (params names : List Name) (distinct : AreDistinct names) (i : ℕ) (n 
   pub so_far_old : (place : ℕ) (pushed : List ℕ) → pushed ≡ places ++ place ∷ [] → slice_get params place ≡ Some n
       → AreSoFar params (take (i + 1) names) pushed new
   so_far_old place pushed is found =
-      let there : slice_get now place ≡ Some n = slice_get_left params (filter (λ m. not (is_among params m)) (take i names)) place n found in
+      let there : slice_get now place ≡ Some n =
+      slice_get_left params (filter (λ m. not (is_among params m)) (take i names)) place n found in
       let within = slice_get_within now place n there in
       let same : get_or now place n ≡ n = same_Some (get_or now place n) n (sym (slice_get-get_or now place n within) ∙ there) in
       let among : is_among now n ≡ true =

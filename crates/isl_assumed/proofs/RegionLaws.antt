@@ -84,7 +84,8 @@ met_more g h names systems others i s met more pushed low at bits is so_far one 
               | inr new ↦ Any-right H met more (b.1 (Any-one H s new, subst (HoldsAtAny others) (sym whole) (k.1)))
             ]),
           );
-      within = All-append (IsSystemWithin g) met more so_far.within (λ k d l. system_kept g h (get_or more k d) (sym bits) (one.within k d l));
+      within = All-append (IsSystemWithin g) met more so_far.within (λ k d l.
+          system_kept g h (get_or more k d) (sym bits) (one.within k d l));
       free = All-append (λ t. free_columns t ≡ names) met more so_far.free (λ k d l. one.free k d l ∙ none);
       definitions = λ flat all.
           let parts = All-last IsFlat (take i systems) s flat in
@@ -139,7 +140,8 @@ region_empty g names systems is b empty = (
     by : (l : List System) → systems ≡ l → ((v : Valuation) → ¬ HoldsAtAny systems (values_of names v)) → l ≡ []
     by [] e none = refl
     by (s ∷ rest) e none =
-        let live : IsLive g (length names) s = All-head (IsLive g (length names)) s rest (subst (All (IsLive g (length names))) e is.live) in
+        let live : IsLive g (length names) s =
+        All-head (IsLive g (length names)) s rest (subst (All (IsLive g (length names))) e is.live) in
         absurd (live.somewhere (λ point long holds.
         let v : Valuation = zip names point in
         let named : values_of names v ≡ point = values_of-zip names point is.named.distinct (sym long) in

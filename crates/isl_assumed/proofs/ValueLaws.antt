@@ -44,7 +44,8 @@ module _ (params : List Name) (p : PieceView) (sound : IsPieceOf params p) where
   long v e h = point_long params v e (kept_piece p) h
 
   -- what the pairs with some systems have
-  pub under_elements : (g : Gauge) (systems pairs : List System) → ArePairs g (length params) (coordinates_of p.space) p.system systems pairs
+  pub under_elements : (g : Gauge) (systems pairs : List System)
+      → ArePairs g (length params) (coordinates_of p.space) p.system systems pairs
       → (v : Valuation) (e : Element) → IsOfAny params p.space pairs v e
       ↔ (HasElement params v e (kept_piece p) × HoldsAtAny systems (values_of params v))
   under_elements g systems pairs are v e = (
@@ -67,7 +68,8 @@ module _ (params : List Name) (p : PieceView) (sound : IsPieceOf params p) where
         record {
           numbers = h.numbers;
           lies = sym h.space;
-          holds = (are.points (point_of params v e) (long v e h)).1 (holds_forth v e h, subst (HoldsAtAny systems) (sym (front params v e)) k.1);
+          holds = (are.points (point_of params v e) (long v e h)).1
+              (holds_forth v e h, subst (HoldsAtAny systems) (sym (front params v e)) k.1);
         }),
   )
 
@@ -84,7 +86,8 @@ module _ (params : List Name) (p : PieceView) (sound : IsPieceOf params p) where
         ((pair.points (point_of params v e) (long v e h)).1 (holds_forth v e h, subst (HoldsSystem s) (sym (front params v e)) holds))
 
     -- each point is one of some element at some valuation
-    nowhere_from : IsDeadAt (λ v. HoldsSystem s (values_of params v)) params (kept_piece p) → IsNowhere (free_columns both) (HoldsSystem both)
+    nowhere_from : IsDeadAt (λ v. HoldsSystem s (values_of params v)) params (kept_piece p)
+        → IsNowhere (free_columns both) (HoldsSystem both)
     nowhere_from dead point l holds =
         let n = length params in
         let m : length point ≡ n + coordinates_of p.space = l ∙ pair.free in

@@ -60,8 +60,8 @@ pub record IsCommon (g : Gauge) (all names : List Name) (systems : List System) 
   pub definitions : All (λ s. s.definitions ≡ []) systems → All (λ s. s.definitions ≡ []) others → All (λ s. s.definitions ≡ []) common
 
 -- ---- values
--- normal systems over the columns of the parameters, each with a point, of which some holds at a valuation exactly where some of the pieces has
--- an element
+-- normal systems over the columns of the parameters, each with a point, of which some holds at a valuation exactly where some of the pieces
+-- has an element
 pub record AreLeftOfPieces (g : Gauge) (params : List Name) (pieces : List KeptPiece) (left : List System) : Type 0 where
   pub points : (valuation : Valuation) → HoldsAtAny left (values_of params valuation)
       ↔ Any (λ piece. (element : Element) × HasElement params valuation element piece) pieces

@@ -1,6 +1,6 @@
 //! What is assumed of parameters.
 
-ghost use Rattle.std.specs.Prelude.{◌≡◌, ◌↔◌, ◌≤◌, IfOk, IsTrue, MatchResult, Ok, length};
+ghost use Rattle.std.specs.Prelude.{◌≡◌, ◌↔◌, ◌⊎◌, ◌≤◌, IfOk, IsTrue, MatchResult, Ok, length};
 ghost use Rattle.isl_meter.specs.Gauge.{IsCharged, IsMetered};
 ghost use Rattle.isl_space.specs.Limits.{most_parameters};
 ghost use Rattle.isl_space.specs.Element.{Element};
@@ -79,6 +79,7 @@ impl Assumed {
             (λ _. (length (joined (names_of self.now) (names_of other.now)) ≤ most_parameters) × IsCharged meter.old meter.new)
             (IsFaultBy (joined (names_of self.now) (names_of other.now)) meter.old meter.new) }
         ensures nothing { self.now ≡ Nothing → other.now ≡ Nothing → (result ≡ Ok Nothing) × (meter.new ≡ meter.old) }
+        ensures free { (self.now ≡ Nothing) ⊎ (other.now ≡ Nothing) → meter.new ≡ meter.old }
     {
         match (self, other) {
             (Assumed::Nothing, Assumed::Nothing) => Ok(Assumed::Nothing),

@@ -116,7 +116,8 @@ impl Region {
     pub(crate) fn of(alloc: Global, value: &Value, meter: &mut Meter) -> Result<Region, Cut>
         requires { IsWithinLimit meter.old value.now }
         ensures names { IfOk result (λ region. region.params ≡ value.now.params) }
-        ensures valuations { (valuation : Valuation) → IfOk result (λ region. HoldsAtAny region.systems.items (values_of region.params valuation)
+        ensures valuations { (valuation : Valuation) → IfOk result (λ region.
+            HoldsAtAny region.systems.items (values_of region.params valuation)
             ↔ ((element : Element) × Has value.now valuation element)) }
         ensures sound { IfOk result (λ region. IsRegion meter.old region.params region.systems.items) }
         ensures plain { HasNoDefinitions value.now → IfOk result (λ region. All (λ s. s.definitions ≡ []) region.systems.items) }
@@ -154,7 +155,8 @@ impl Region {
         requires own { IsRegion meter.old self.now.params self.now.systems.items }
         requires other { IsRegion meter.old other.now.params other.now.systems.items }
         ensures names { IfOk result (λ region. region.params ≡ joined self.now.params other.now.params) }
-        ensures valuations { (valuation : Valuation) → IfOk result (λ region. HoldsAtAny region.systems.items (values_of region.params valuation)
+        ensures valuations { (valuation : Valuation) → IfOk result (λ region.
+            HoldsAtAny region.systems.items (values_of region.params valuation)
             ↔ (HoldsAtAny self.now.systems.items (values_of self.now.params valuation)
             × HoldsAtAny other.now.systems.items (values_of other.now.params valuation))) }
         ensures sound { IfOk result (λ region. IsRegion meter.old region.params region.systems.items) }
@@ -179,7 +181,8 @@ impl Region {
         requires { IsRegion meter.old self.now.params self.now.systems.items }
         ensures { MatchResult result
             (λ holds. (IsTrue holds ↔ HoldsAtAny self.now.systems.items (values_of self.now.params at.now)) × (meter.new ≡ meter.old))
-            (IsCutFor (Any (λ s. SystemPassesLimit meter.old s (values_of self.now.params at.now)) self.now.systems.items) meter.old meter.new) }
+            (IsCutFor (Any (λ s. SystemPassesLimit meter.old s (values_of self.now.params at.now)) self.now.systems.items)
+            meter.old meter.new) }
     {
         let numbers = numbers_of(alloc, &self.params, at)?;
         hold_at_any(alloc, self.systems.as_slice(), numbers.as_slice(), meter)

@@ -16,8 +16,8 @@ left_of-requires-clause-within c =
     let told = c.in_ok-places.ensures in
     let is = rw (c.as_slice.ensures.value, c.as_slice-2.ensures.value, c.len-kept.ensures.len) at c.in_ok-placed.ensures in
     subst (All (IsSystemWithin g)) (sym c.as_slice-3.ensures.value)
-    (all_inside g params names c.len-kept.ensures.well_formed.distinct c.requires.named.distinct c.in_ok-places.places.items.items told.places
-    c.in_ok-places.places.new told.count systems placed [] c.requires.live is)
+    (all_inside g params names c.len-kept.ensures.well_formed.distinct c.requires.named.distinct c.in_ok-places.places.items.items
+    told.places c.in_ok-places.places.new told.count systems placed [] c.requires.live is)
 
 pub left_of-requires-clause-columns : goal.left_of-requires-clause-columns
 left_of-requires-clause-columns c =
@@ -29,8 +29,8 @@ left_of-requires-clause-columns c =
     let told = c.in_ok-places.ensures in
     let is = rw (c.as_slice.ensures.value, c.as_slice-2.ensures.value, c.len-kept.ensures.len) at c.in_ok-placed.ensures in
     rw (c.as_slice-3.ensures.value, c.len-kept.ensures.len)
-    (all_columns g params names c.len-kept.ensures.well_formed.distinct c.requires.named.distinct c.in_ok-places.places.items.items told.places
-    c.in_ok-places.places.new told.count systems placed [] c.requires.live is)
+    (all_columns g params names c.len-kept.ensures.well_formed.distinct c.requires.named.distinct c.in_ok-places.places.items.items
+    told.places c.in_ok-places.places.new told.count systems placed [] c.requires.live is)
 
 pub returns-clause-onto : goal.returns-clause-onto
 returns-clause-onto c =

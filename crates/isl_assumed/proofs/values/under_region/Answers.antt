@@ -61,6 +61,6 @@ returns-clause-under c =
     let onto = rw same at c.in_ok-systems.ensures.onto in
     let made = rw same at c.loop-piece.invariant.made in
     let is = rw (c.in_ok-copy.ensures ∙ same) at c.from_normal.ensures in
-    under_made g value region.params region.systems.items c.in_ok-systems.systems.items pieces c.loop-piece.kept.items i c.from_normal.result
-    (subst IsParameterList same c.params-params.ensures.well_formed) c.requires.declared onto end c.pieces-pieces.ensures.content made is
-    c.loop-piece.invariant.plain
+    under_made g value region.params region.systems.items c.in_ok-systems.systems.items pieces c.loop-piece.kept.items i
+    c.from_normal.result (subst IsParameterList same c.params-params.ensures.well_formed) c.requires.declared onto end
+    c.pieces-pieces.ensures.content made is c.loop-piece.invariant.plain

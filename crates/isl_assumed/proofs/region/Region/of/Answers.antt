@@ -14,8 +14,8 @@ live_without-requires-clause-within c =
     let told = c.pieces-pieces.ensures in
     subst (IsSystemWithin c.loop-piece.meter) (sym c.system.ensures)
     (within_at c.args.meter.now c.loop-piece.meter c.args.value.now.params c.pieces-pieces.result.now c.args.value.now.pieces
-    c.loop-piece.piece-index c.piece-item.result c.loop-piece.invariant.charged told.content told.well_formed c.requires c.loop-piece-test.true
-    c.piece-item.is)
+    c.loop-piece.piece-index c.piece-item.result c.loop-piece.invariant.charged told.content told.well_formed c.requires
+    c.loop-piece-test.true c.piece-item.is)
 
 pub loop-piece-preserved : goal.loop-piece-preserved
 loop-piece-preserved c =
