@@ -1,0 +1,2 @@
+pub mod Params
+pub use Rattle.isl_lower_params.specs.Params
