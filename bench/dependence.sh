@@ -53,3 +53,8 @@ scan F[1];
 TEXT
 done > "$folder/script"
 row 'stencils of 2 to 31' 300 "$folder/script" "$program"
+
+# The same by isl, where it is installed; calls alone, without reading and printing.
+if cc -O2 -o "$folder/isl" bench/dependence.c -lisl 2> /dev/null; then
+  "$folder/isl"
+fi
