@@ -1,5 +1,5 @@
 -- Systems without rows.
-use Rattle.std.proofs.Common.{◌≡◌, subst, sym, ℕ, ℤ, pos, List, [], All, length, replicate}
+use Rattle.std.proofs.Common.{◌≡◌, subst, sym, pos, List, [], replicate}
 use Rattle.std.proofs.lemmas.List.{length-replicate}
 use Rattle.std.proofs.lemmas.List.Elements.{All-nil}
 use Rattle.isl_piece.specs.declared.row.Row.{Row}

@@ -1,2 +1,3 @@
+mod AssumedLaws
 mod Everywhere
 mod Within

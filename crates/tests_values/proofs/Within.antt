@@ -5,10 +5,9 @@ use Rattle.isl_meter.specs.Gauge.{Gauge, IsWithin, limit_of}
 use Rattle.isl_meter.proofs.LimitLemmas.{within_up_to}
 use Rattle.isl_piece.proofs.RowMagnitudes.{up_to_limit}
 use Rattle.isl_piece.specs.declared.definition.Definition.{Definition}
-use Rattle.isl_piece.specs.Formed.{IsDefinitionUpTo}
 use Rattle.isl_piece.specs.Piece.{PieceView}
 use Rattle.isl_piece.specs.Row.{IsRowUpTo, IsRowWithin}
-use Rattle.isl_union.specs.KeptValue.{KeptPiece, KeptValue}
+use Rattle.isl_union.specs.KeptValue.{KeptValue}
 use Rattle.isl_union.specs.Numbers.{IsPieceUpTo, IsWithinLimit}
 use Rattle.isl_union.specs.Piece.{kept_piece}
 

@@ -6,6 +6,7 @@
 ghost use Rattle.std.specs.Prelude.{All, IfOk, IfSome};
 ghost use Rattle.isl_union.specs.Piece.{IsPieceOver};
 
+mod assumptions;
 mod calls;
 mod ends;
 mod limit;

@@ -2,6 +2,7 @@
 
 ghost use Rattle.isl_union.specs.Numbers.{IsWithinLimit};
 
+use crate::assumptions::{both_at, live_with_other, never_both, under_other};
 use crate::limit::is_within;
 use crate::relations::related;
 use crate::spaces::space_of;
@@ -83,6 +84,8 @@ fn made(
         "flat" => Ok(Some(value.flat(alloc, meter)?)),
         "sample" => Ok(Some(value.sample(alloc, meter)?)),
         "project" => projected(alloc, rest, value, meter),
+        "under" => Ok(Some(under_other(alloc, value, other, meter)?)),
+        "live" => Ok(Some(live_with_other(alloc, value, other, meter)?)),
         _ => related(alloc, name, value, meter),
     }
 }
@@ -105,12 +108,21 @@ fn told(
         "empty" => Ok(Some(value.is_empty(meter)?)),
         "bounded" => Ok(Some(value.bounded(alloc, meter)?)),
         "bounded-at" => told_at(alloc, rest, value, meter),
+        "never-both" => Ok(Some(never_both(alloc, value, other, meter)?)),
+        "both-at" => {
+            let at = numbers_of(alloc, rest)?;
+            Ok(Some(both_at(alloc, at.as_slice(), value, other, meter)?))
+        }
         _ => Ok(None),
     }
 }
 
 fn is_question(said: &str) -> bool {
-    matches!(said, "subset" | "equal" | "empty" | "bounded") || said.starts_with("bounded-at")
+    let (name, _rest) = said.split_once(' ').unwrap_or((said, ""));
+    matches!(
+        name,
+        "subset" | "equal" | "empty" | "bounded" | "bounded-at" | "never-both" | "both-at"
+    )
 }
 
 /// What an operation of this name answers of the value, and of the other. `None` where there is no such operation.
