@@ -30,7 +30,8 @@ no_element = record { space = no_space; coordinates = [] }
 tree_space : (piece : PieceTree) → HasNoCoordinates piece → space_of_piece piece ≡ no_space
 tree_space piece none = by piece.first piece.second none.first none.second
   where
-    by : (first : Tuple) (second : Option Tuple) → first ≡ Leaf None [] → second ≡ None → space_of_tuples (form_of_tuple first) second ≡ no_space
+    by : (first : Tuple) (second : Option Tuple) → first ≡ Leaf None [] → second ≡ None
+        → space_of_tuples (form_of_tuple first) second ≡ no_space
     by first second one two = rw (one, two) refl
 
 piece_body : (params : List Name) (v : Valuation) (e : Element) (piece : PieceTree) → HasNoCoordinates piece

@@ -27,4 +27,5 @@ answer_later g h all (Err fault) sound left = tt
 -- names that it depends on are declared where these are
 pub over_declared : (params : List Name) (assumed : Assumed) → IsOver params assumed → All (Contains params) (names_of assumed)
 over_declared params Nothing over = All-nil (Contains params)
-over_declared params (Where region) over = subst (λ (l : List Name). All (Contains l) region.params) over (All-contains_itself region.params)
+over_declared params (Where region) over =
+    subst (λ (l : List Name). All (Contains l) region.params) over (All-contains_itself region.params)
