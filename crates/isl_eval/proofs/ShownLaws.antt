@@ -366,7 +366,7 @@ abbrev pub moment_of : StateView → Gauge → OptionsView → Moment
 moment_of state meter options = record { state = state; meter = meter; options = options }
 
 abbrev no_options : OptionsView
-no_options = record { bits = 0; budget = 0; at = []; run = false }
+no_options = record { bits = 0; budget = 0; at = []; run = false; make = None; keep_going = false }
 
 pub kept_plain : (state : StateView) (meter : Gauge) (expr : Expr) (value : KeptValue) → IsKeptIn state (limit_of meter) expr value
     → HasNoDefinitions value

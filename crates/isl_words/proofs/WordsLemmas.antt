@@ -1,6 +1,6 @@
 -- What the values given to the options choose.
-use Rattle.std.proofs.Common.{◌≡◌, ◌∙◌, ℕ, ℤ, ◌-◌, ◌^◌, ◌≤◌, List, [], Option, Some, None, sym, subst, codes, arith}
-use Rattle.std.specs.Prelude.{unsigned_abs}
+use Rattle.std.proofs.Common.{◌≡◌, ◌∙◌, ℕ, ℤ, ◌-◌, ◌^◌, ◌≤◌, List, [], Option, Some, None, option_map, refl, sym, subst, codes, arith}
+use Rattle.std.specs.Prelude.{unsigned_abs, IfSome}
 use Rattle.std.specs.List.{slice_split}
 use Rattle.std.proofs.lemmas.List.Elements.{All-nil}
 use Rattle.clap.specs.Walk.{Row, Text, first_of}
@@ -8,8 +8,9 @@ use Rattle.clap.specs.Simple.{matches_of}
 use Rattle.isl_space.specs.Name.{IsIdentifier}
 use Rattle.isl_words.specs.Binding.{is_comma}
 use Rattle.isl_words.specs.Options.{OptionsView, AreNumbers, IsChoice}
-use Rattle.isl_words.specs.Options.{least_bits, most_bits, usual_bits, least_budget, most_budget, usual_budget}
-use Rattle.isl_words.specs.Taken.{AreGiven, AreTaken, Chooses, chosen}
+use Rattle.isl_words.specs.Options.{least_bits, most_bits, usual_bits, least_budget, most_budget, usual_budget, least_made, most_made}
+use Rattle.isl_words.specs.Number.{number}
+use Rattle.isl_words.specs.Taken.{AreGiven, AreTaken, Chooses, chosen, make_of}
 use Rattle.isl_words.specs.Table.{table}
 use Rattle.isl_words.proofs.NumberLemmas.{some_same, number_range}
 use Rattle.isl_words.proofs.BindingLemmas.{bindings_added, bindings_are}
@@ -49,16 +50,31 @@ chooses_once rows a b first second =
     let at : a.at ≡ b.at =
     given_once (2 ^ b.bits - 1) (first_of (codes "at") rows) a.at b.at
     (subst (λ (n : ℕ). AreGiven (2 ^ n - 1) (first_of (codes "at") rows) a.at) bits first.at) second.at in
-    λ i. record { bits = bits i; budget = budget i; at = at i; run = run i }
+    let make : a.make ≡ b.make = some_same a.make b.make (sym first.make ∙ second.make) in
+    let keep_going : a.keep_going ≡ b.keep_going = sym first.keep_going ∙ second.keep_going in
+    λ i. record { bits = bits i; budget = budget i; at = at i; run = run i; make = make i; keep_going = keep_going i }
 
 pub taken_once : (words : List Text) (a b : OptionsView) → AreTaken words a → AreTaken words b → a ≡ b
 taken_once words a b first second = chooses_once (matches_of table words) a b first.chosen second.chosen
+
+-- for how many sizes a script is made
+made_range : (number_is make : Option ℕ) → ((n : ℕ) → number_is ≡ Some n → (least_made ≤ n) × (n ≤ most_made))
+    → option_map (λ n. Some n) number_is ≡ Some make → IfSome make (λ n. (least_made ≤ n) × (n ≤ most_made))
+made_range None make range is = absurd (let bad : ⊥ = cc in bad)
+made_range (Some m) make range is =
+    subst (λ (o : Option ℕ). IfSome o (λ n. (least_made ≤ n) × (n ≤ most_made))) (some_same (Some m) make is) (range m refl)
+
+made_choice : (given : Option Text) (make : Option ℕ) → make_of given ≡ Some make → IfSome make (λ n. (least_made ≤ n) × (n ≤ most_made))
+made_choice None make is = subst (λ (o : Option ℕ). IfSome o (λ n. (least_made ≤ n) × (n ≤ most_made))) (some_same None make is) tt
+made_choice (Some text) make is =
+    made_range (number least_made most_made text) make (λ n same. number_range least_made most_made text n same) is
 
 chooses_choice : (rows : List Row) (a : OptionsView) → Chooses rows a → IsChoice a
 chooses_choice rows a is = record {
   bits = chosen_range least_bits most_bits usual_bits (first_of (codes "bits") rows) a.bits (omega arith) (omega arith) is.bits;
   budget = chosen_range least_budget most_budget usual_budget (first_of (codes "budget") rows) a.budget (omega arith) (omega arith) is.budget;
   at = given_numbers (2 ^ a.bits - 1) (first_of (codes "at") rows) a.at is.at;
+  make = made_choice (first_of (codes "make") rows) a.make is.make;
 }
 
 pub taken_choice : (words : List Text) (a : OptionsView) → AreTaken words a → IsChoice a

@@ -1,5 +1,5 @@
 -- public: what the command line chooses.
-use Rattle.std.specs.Prelude.{ℕ, ℤ, ◌-◌, ◌^◌, ◌≤◌, Bool, List, All, map, unsigned_abs}
+use Rattle.std.specs.Prelude.{ℕ, ℤ, ◌-◌, ◌^◌, ◌≤◌, Bool, List, All, map, unsigned_abs, Option, IfSome}
 use Rattle.isl_space.specs.Name.{Name, IsIdentifier}
 use Rattle.isl_space.specs.Names.{AreDistinct}
 
@@ -23,12 +23,22 @@ most_budget = 10 ^ 12
 abbrev pub usual_budget : ℕ
 usual_budget = 10 ^ 7
 
--- the bits of numbers; the units that a statement may use; the numbers of parameters; whether loops are run
+-- the fewest and the most sizes for which a script may be made
+abbrev pub least_made : ℕ
+least_made = 1
+
+abbrev pub most_made : ℕ
+most_made = 1000
+
+-- the bits of numbers; the units that a statement may use; the numbers of parameters; whether loops are run; for how many sizes a script
+-- is made, where the source's is not read; whether refused statements are skipped
 pub record OptionsView : Type 0 where
   pub bits : ℕ
   pub budget : ℕ
   pub at : List (Name × ℤ)
   pub run : Bool
+  pub make : Option ℕ
+  pub keep_going : Bool
 
 -- identifiers, each with one number, whose magnitude is at most the limit
 pub record AreNumbers (limit : ℕ) (at : List (Name × ℤ)) : Type 0 where
@@ -41,3 +51,4 @@ pub record IsChoice (options : OptionsView) : Type 0 where
   pub bits : (least_bits ≤ options.bits) × (options.bits ≤ most_bits)
   pub budget : (least_budget ≤ options.budget) × (options.budget ≤ most_budget)
   pub at : AreNumbers (2 ^ options.bits - 1) options.at
+  pub make : IfSome options.make (λ n. (least_made ≤ n) × (n ≤ most_made))

@@ -18,10 +18,13 @@ bare =
     let plain = new_app (codes "iscc") in
     record plain { top = record plain.top { disable_help_flag = true; disable_version_flag = true } }
 
--- `[--bits B] [--budget N] [--at NAME=INT,..] [--run]`: four optional arguments, each at most once, and no positional
+-- `[--bits B] [--budget N] [--at NAME=INT,..] [--run] [--make N] [--keep-going]`: six optional arguments, each at most once, and no
+-- positional
 abbrev pub table : App
 table =
     let with_bits = with_rule bare (option_rule (codes "bits")) in
     let with_budget = with_rule with_bits (option_rule (codes "budget")) in
     let with_at = with_rule with_budget (option_rule (codes "at")) in
-    with_rule with_at (flag_rule (codes "run"))
+    let with_run = with_rule with_at (flag_rule (codes "run")) in
+    let with_make = with_rule with_run (option_rule (codes "make")) in
+    with_rule with_make (flag_rule (codes "keep-going"))

@@ -39,11 +39,15 @@ fn command<'a>(alloc: Global) -> Result<Command<'a>, AllocError>
     let budget = option(alloc, "budget");
     let at = option(alloc, "at");
     let run = flag(alloc, "run");
+    let make = option(alloc, "make");
+    let keep_going = flag(alloc, "keep-going");
     bare_command(alloc)
         .arg(bits)?
         .arg(budget)?
         .arg(at)?
-        .arg(run)
+        .arg(run)?
+        .arg(make)?
+        .arg(keep_going)
 }
 
 /// The values that the words give to the options.

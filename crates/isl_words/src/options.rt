@@ -20,6 +20,11 @@ pub(crate) const MAX_BUDGET: u128 = 1_000_000_000_000;
 
 pub(crate) const USUAL_BUDGET: u128 = 10_000_000;
 
+// The fewest and the most sizes for which a script may be made.
+pub(crate) const MIN_MADE: u128 = 1;
+
+pub(crate) const MAX_MADE: u128 = 1000;
+
 /// What a session works with.
 #[derive(Drop)]
 pub struct Options {
@@ -27,6 +32,8 @@ pub struct Options {
     budget: u64,
     at: Vec<(Name, i128)>,
     run: bool,
+    make: Option<u64>,
+    keep_going: bool,
 }
 
 impl Model for Options {
@@ -34,24 +41,62 @@ impl Model for Options {
 
     ghost Value = { OptionsView };
 
-    ghost view = { λ o. record { bits = o.bits; budget = o.budget; at = o.at.items; run = o.run } };
+    ghost view = { λ o. record {
+      bits = o.bits;
+      budget = o.budget;
+      at = o.at.items;
+      run = o.run;
+      make = o.make;
+      keep_going = o.keep_going;
+    } };
 
-    ghost invariant = { λ o. IsChoice (record { bits = o.bits; budget = o.budget; at = o.at.items; run = o.run }) };
+    ghost invariant = { λ o. IsChoice (record {
+      bits = o.bits;
+      budget = o.budget;
+      at = o.at.items;
+      run = o.run;
+      make = o.make;
+      keep_going = o.keep_going;
+    }) };
 }
 
 impl Options {
     /// Numbers have magnitudes of at most `2^bits - 1`, and a statement may use `budget` units of work. `at` gives
     /// parameters their numbers where elements are listed and loops are run; `run` asks for the calls of loops in
-    /// place of their text.
-    pub fn new(bits: u32, budget: u64, at: Vec<(Name, i128)>, run: bool) -> Options
-        requires { IsChoice (record { bits = bits; budget = budget; at = at.items; run = run }) }
-        ensures { result ≡ record { bits = bits; budget = budget; at = at.items; run = run } }
+    /// place of their text. `make` asks for the script that is made for so many sizes, in place of one that is read;
+    /// `keep_going` asks that refused statements are skipped.
+    pub fn new(
+        bits: u32,
+        budget: u64,
+        at: Vec<(Name, i128)>,
+        run: bool,
+        make: Option<u64>,
+        keep_going: bool,
+    ) -> Options
+        requires { IsChoice (record {
+          bits = bits;
+          budget = budget;
+          at = at.items;
+          run = run;
+          make = make;
+          keep_going = keep_going;
+        }) }
+        ensures { result ≡ record {
+          bits = bits;
+          budget = budget;
+          at = at.items;
+          run = run;
+          make = make;
+          keep_going = keep_going;
+        } }
     {
         Options {
             bits,
             budget,
             at,
             run,
+            make,
+            keep_going,
         }
     }
 
@@ -82,5 +127,19 @@ impl Options {
         ensures { result ≡ self.now.run }
     {
         self.run
+    }
+
+    /// For how many sizes a script is made, where none is read. There are at least 1 and at most 1,000.
+    pub fn make(&self) -> Option<u64>
+        ensures { result ≡ self.now.make }
+    {
+        self.make
+    }
+
+    /// Whether refused statements are skipped.
+    pub fn keep_going(&self) -> bool
+        ensures { result ≡ self.now.keep_going }
+    {
+        self.keep_going
     }
 }

@@ -3,15 +3,16 @@
 ghost use Rattle.std.specs.Prelude.{◌≡◌, ◌-◌, ◌<◌, ◌≤◌, ◌^◌, ℕ, ℤ, List, Err, IfOk, IfSome, map, string_bytes};
 ghost use Rattle.std.specs.Option.{option_copied};
 ghost use Rattle.clap.specs.Words.{Text, first_of, rows_of, found_of};
-ghost use Rattle.isl_words.specs.Options.{OptionsView, AreNumbers, IsChoice, most_bits};
-ghost use Rattle.isl_words.specs.Taken.{AreGiven, AreTaken, Chooses, chosen, is_set};
+ghost use Rattle.isl_words.specs.Options.{OptionsView, AreNumbers, IsChoice, least_made, most_bits, most_made};
+ghost use Rattle.isl_words.specs.Taken.{AreGiven, AreTaken, Chooses, chosen, is_set, make_of};
 
 use crate::binding::read_bindings;
 use crate::command::parse;
 use crate::fault::WordsFault;
 use crate::number::read_number;
 use crate::options::{
-    MAX_BITS, MAX_BUDGET, MIN_BITS, MIN_BUDGET, Options, USUAL_BITS, USUAL_BUDGET,
+    MAX_BITS, MAX_BUDGET, MAX_MADE, MIN_BITS, MIN_BUDGET, MIN_MADE, Options, USUAL_BITS,
+    USUAL_BUDGET,
 };
 use clap::ArgMatches;
 use clap::error::ErrorKind;
@@ -69,6 +70,18 @@ fn is_set(given: Option<&str>) -> bool
     }
 }
 
+// For how many sizes a script is made, none where that is not asked for; or nothing where the text is no such number.
+fn made_for(given: Option<&str>) -> Option<Option<u64>>
+    ensures chosen { result ≡ make_of (option_copied given.entry) }
+    ensures range { IfSome result (λ make. IfSome make (λ n. (least_made ≤ n) × (n ≤ most_made))) }
+{
+    let Some(text) = given else {
+        return Some(None);
+    };
+    let sizes = read_number(text.as_bytes(), MIN_MADE, MAX_MADE)?;
+    Some(Some(sizes as u64))
+}
+
 // The greatest magnitude of numbers with these bits.
 fn limit_of(bits: u32) -> u128
     requires { bits ≤ most_bits }
@@ -100,7 +113,13 @@ fn options_in(alloc: Global, matches: &ArgMatches<'_>) -> Result<Options, WordsF
     };
     let run_given = value_of(matches, "run");
     let run = is_set(run_given);
-    Ok(Options::new(bits, budget as u64, at, run))
+    let make_given = value_of(matches, "make");
+    let Some(make) = made_for(make_given) else {
+        return Err(WordsFault::Usage);
+    };
+    let keep_going_given = value_of(matches, "keep-going");
+    let keep_going = is_set(keep_going_given);
+    Ok(Options::new(bits, budget as u64, at, run, make, keep_going))
 }
 
 /// What the words of the command line choose, the first of which is the program's name.
