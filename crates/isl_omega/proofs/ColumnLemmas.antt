@@ -17,7 +17,7 @@ use Rattle.isl_piece.specs.Normal.{IsNormal}
 use Rattle.std.specs.Prelude.{IfSome}
 use Rattle.isl_piece.specs.Row.{HasModulus, HoldsValue, HoldsRow, value_at, coef_at, IsWellFormed, IsRowWithin}
 use Rattle.isl_meter.specs.Gauge.{Gauge, IsWithin}
-use Rattle.isl_omega.specs.Column.{rest_at, IsFreeKind, IsFree, HoldAt, dropped, IsProper, AreRowsOf, IsAnswerFor}
+use Rattle.isl_omega.specs.Column.{rest_at, IsFreeKind, IsFree, HoldAt, dropped, IsProper, IsAnswerFor}
 
 -- the value at a point with x at the column
 pub value_at-insert : (r : Row) (col : ℕ) (point : List ℤ) (x : ℤ) → col < length r.coefs → col ≤ length point → value_at r (insert point col x) ≡ coef_at r col *ℤ x +ℤ rest_at r col point

@@ -17,7 +17,7 @@ use Rattle.isl_piece.specs.declared.row.RowKind.TheVariants.{Zero, AtLeast, Divi
 use Rattle.isl_piece.specs.declared.row.Row.{Row}
 use Rattle.isl_piece.specs.Row.{HoldsRow, value_at, coef_at, IsWellFormed}
 use Rattle.isl_meter.specs.Gauge.{Gauge}
-use Rattle.isl_omega.specs.Column.{IsFree, IsFreeKind, HoldAt, rest_at, AreRowsOf, IsAnswerFor}
+use Rattle.isl_omega.specs.Column.{IsFree, IsFreeKind, HoldAt, rest_at, IsAnswerFor}
 use Rattle.isl_piece.specs.Combine.{combination}
 use Rattle.isl_omega.specs.Equality.{AreFactors, IsSolvedBy, solvable, row_factor, equality_factor, image_of, images_of}
 use Rattle.isl_omega.proofs.ColumnLemmas.{value_at-insert, hold_anywhere}

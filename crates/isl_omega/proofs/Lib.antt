@@ -7,6 +7,7 @@ pub mod ExactUnits
 pub mod ImageLemmas
 pub mod MergeLemmas
 pub mod MoveLemmas
+pub mod MovedLemmas
 pub mod PairLemmas
 pub mod Pairs
 pub mod PeriodLemmas

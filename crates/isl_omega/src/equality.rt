@@ -30,7 +30,7 @@ fn factors(pivot: Int, own: Int, meter: &Meter) -> (Int, Int)
     (m, n.neg(meter))
 }
 
-// The row without the column, where `fixed` is 0.
+// The row without the column, where `fixed` is 0: one that does not have it stays as it is.
 fn image(
     alloc: Global,
     row: &Row,
@@ -47,7 +47,11 @@ fn image(
         (λ short. (short ≡ image_of fixed.now column.at row.now) × IsRowWithin meter.old short) result }
     ensures no_overflow { meter.old.bits ≡ 127 → IsRowUpTo substituted_magnitude row.now → IsRowUpTo fixed_magnitude fixed.now → IsNoOverflow result }
 {
-    let (m, n) = factors(fixed.coefs.get(column.at), row.coefs.get(column.at), meter);
+    let own = row.coefs.get(column.at);
+    if own.is_zero() {
+        return Ok(row.copy(alloc)?);
+    }
+    let (m, n) = factors(fixed.coefs.get(column.at), own, meter);
     combination(alloc, m, row, n, fixed, meter)
 }
 

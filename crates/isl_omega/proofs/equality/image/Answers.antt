@@ -1,6 +1,7 @@
-use Rattle.std.proofs.Common.{◌^◌, arith, lit<}
-use Rattle.isl_piece.specs.Row.{coef_at}
+use Rattle.std.proofs.Common.{◌≡◌, ◌∙◌, pos, ◌^◌, length, sym, arith, lit<}
+use Rattle.isl_piece.specs.Row.{IsRowWithin, coef_at}
 use Rattle.isl_omega.specs.Equality.{AreFactors}
+use Rattle.isl_omega.proofs.MovedLemmas.{image_itself}
 use Rattle.isl_omega.proofs.SmallLemmas.{coef_up_to, at_most}
 use Rattle.isl_omega.proofs.equality.image.Goals as goal
 
@@ -11,3 +12,13 @@ returns-clause-no_overflow c = λ bits small large.
     let are : AreFactors (coef_at fixed c.args.column.at) (coef_at row c.args.column.at) c.factors-m.result.0 c.factors-m.result.1 = grind arith in
     c.combination.ensures.no_overflow (2 ^ 63) (2 ^ 61) (2 ^ 61) (2 ^ 63)
     (at_most _ _ _ are.m_small (coef_up_to (2 ^ 63) fixed c.args.column.at large)) (at_most _ _ _ are.n_small (coef_up_to (2 ^ 61) row c.args.column.at small)) small large (rw bits (lit< tt))
+
+pub returns-then-is_zero-clause-exact : goal.returns-then-is_zero-clause-exact
+returns-then-is_zero-clause-exact c =
+    let row = c.args.row.now in
+    let fixed = c.args.fixed.now in
+    let gone : coef_at row c.args.column.at ≡ pos 0 = grind arith in
+    let wide : length row.coefs ≡ length fixed.coefs = let e = c.requires.row_width in let f = c.requires.fixed_width in omega arith in
+    let same : c.in_ok-copy.field-0 ≡ row = grind arith in
+    let within : IsRowWithin c.args.meter.now c.in_ok-copy.field-0 = rw same c.requires.row_within in
+    ((same ∙ sym (image_itself fixed c.args.column.at row c.requires.occurs gone wide), within), grind arith)

@@ -1,8 +1,7 @@
-use Rattle.std.proofs.Common.{◌≡◌, ◌*◌, ◌∙◌, length, IsTrue, arith, pos}
+use Rattle.std.proofs.Common.{◌*◌, length, IsTrue, arith, pos}
 use Rattle.std.specs.List.{AllZip}
 use Rattle.isl_meter.proofs.UnitLemmas.{charged_bits}
-use Rattle.isl_omega.specs.Shadow.{IsShadow, AreNeverMet, AreSplintersOf}
-use Rattle.isl_omega.specs.Units.{paid}
+use Rattle.isl_omega.specs.Shadow.{IsShadow, AreSplintersOf}
 use Rattle.isl_omega.proofs.ExactUnits.{charged_up_to}
 use Rattle.isl_omega.proofs.CapLemmas.{shadow_empty, least_kept}
 use Rattle.isl_omega.proofs.shadow.shadow.Goals as goal
