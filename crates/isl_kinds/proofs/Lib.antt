@@ -1,4 +1,5 @@
 pub mod PartLaws
+pub mod WalkLaws
 pub mod KindLaws
 pub mod DeclaredLaws
 pub mod PlaceLaws

@@ -8,7 +8,9 @@ mod place;
 mod scope;
 mod sought;
 mod types;
+mod walk;
 
 pub use known::known_params;
 pub use scope::{Scope, Typed, is_dollar};
 pub use types::{typed, typed_statement};
+pub use walk::{Part, PartTest, any_part};
