@@ -1,5 +1,5 @@
 -- Emptiness, one part after another.
-use Rattle.std.proofs.Common.{◌≡◌, ◌≢◌, ◌↔◌, inl, inr, refl, ap, arith, ℕ, zero, suc, ℤ, pos, List, [], ◌∷◌, ◌+◌, ◌-◌, ◌<◌, ◌≤◌, length, get_or, Bool, true, false}
+use Rattle.std.proofs.Common.{◌≡◌, ◌≢◌, ◌↔◌, inl, inr, refl, ap, arith, ℕ, zero, suc, ℤ, pos, List, [], ◌∷◌, ◌-◌, ◌<◌, length, get_or, Bool, true, false}
 use Rattle.std.specs.Prelude.{IsTrue, is_none, Option, Some, None, MatchOption, Result, MatchResult, Ok, Err}
 use Rattle.std.specs.List.{All, insert, remove}
 use Rattle.std.proofs.lemmas.List.Elements.{All-head}

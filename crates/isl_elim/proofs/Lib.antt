@@ -11,3 +11,4 @@ pub mod PartsLaws
 pub mod ProjectionLaws
 pub mod RangeLaws
 pub mod SampleLaws
+pub mod ShearLaws

@@ -1,5 +1,5 @@
 -- public: which defined columns depend on others, and which definitions are kept without these. (isl manual, on integer divisions)
-use Rattle.std.specs.Prelude.{Bool, not, if◌then◌else◌, ℕ, suc, pos, List, [], ◌∷◌, ◌++◌, Contains, map, slice_index_or}
+use Rattle.std.specs.Prelude.{Bool, not, if◌then◌else◌, ℕ, suc, pos, List, [], ◌∷◌, ◌++◌, map, slice_index_or}
 use Rattle.std.specs.List.{list_any}
 use Rattle.std.specs.Ordering.{int_eq}
 use Rattle.isl_piece.specs.declared.definition.Definition.{Definition}

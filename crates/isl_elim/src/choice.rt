@@ -7,6 +7,9 @@ use isl_piece::{Row, RowKind};
 // Where fewer rows are added as a column goes, all pairs cost less than a search for rows that the others imply.
 const LEAST_ADDED: u128 = 8;
 
+// How many splinters of any column are too many.
+const MANY_SPLINTERS: u128 = 6;
+
 /// What taking a column out is likely to cost, from the least.
 #[derive(Clone, Copy, PartialEq, Eq, PartialOrd, Ord)]
 enum Cost {
@@ -118,6 +121,14 @@ impl ColumnUse {
         sum
     }
 
+    // How many splinters are left at least; none where a side is open.
+    fn least_splinters(self, rows: &[Row]) -> u128 {
+        if self.equality.is_some() || self.lowers.count == 0 || self.uppers.count == 0 {
+            return 0;
+        }
+        self.splinters(rows, true).min(self.splinters(rows, false))
+    }
+
     // How many rows more there are once all pairs of its bounds stand for them; none where an equality has the column.
     fn added_rows(self) -> u128 {
         if self.equality.is_some() {
@@ -140,7 +151,7 @@ impl ColumnUse {
             return Cost::Open;
         }
         let pairs = self.lowers.count.saturating_mul(self.uppers.count);
-        let splinters = self.splinters(rows, true).min(self.splinters(rows, false));
+        let splinters = self.least_splinters(rows);
         let estimate = pairs.saturating_add(splinters);
         if self.has_congruence {
             Cost::Congruences(estimate)
@@ -159,6 +170,11 @@ fn splinters_of(number: u128, greatest: u128) -> u128 {
 /// Whether many rows are added whichever of the columns is taken out.
 pub(crate) fn add_many_rows(rows: &[Row], cols: &[usize]) -> bool {
     cols.iter().all(|col| ColumnUse::of(rows, *col).added_rows() >= LEAST_ADDED)
+}
+
+/// Whether many splinters are left whichever of the columns is taken out.
+pub(crate) fn leaves_many_splinters(rows: &[Row], columns: usize) -> bool {
+    (0..columns).all(|col| ColumnUse::of(rows, col).least_splinters(rows) >= MANY_SPLINTERS)
 }
 
 /// A place in the list of columns, whose column is likely to cost the least.

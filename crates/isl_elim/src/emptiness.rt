@@ -14,6 +14,7 @@ ghost use Rattle.isl_column.specs.Parts.{AreParts, AreNone};
 
 use crate::choice::any_column;
 use crate::opened::opened;
+use crate::shear::reduced;
 use isl_column::{Parts, real_shadow};
 use isl_meter::{Cut, Meter};
 use isl_omega::column::Column;
@@ -56,33 +57,50 @@ fn shadows_hold_nowhere(
     }
 }
 
-// Whether no point makes the rows hold.
+// Whether no point makes the rows hold, once their columns were changed so that numbers are small.
 #[cycle(emptiness)]
 #[tactic(auto, using(crate::proofs::EmptinessLaws::emptiness_steps))]
 pub(crate) fn hold_nowhere(
     alloc: Global,
-    rows: &Rows,
+    rows: Rows,
     columns: usize,
     meter: &mut Meter,
 ) -> Result<bool, Cut>
-    requires rows { All (IsProper meter.old columns) rows.now }
-    requires normal { IsNormal rows.now }
+    requires rows { All (IsProper meter.old columns) rows }
+    requires normal { IsNormal rows }
     ensures exact { MatchResult result
-        (λ empty. (IsTrue empty ↔ HoldNowhere columns rows.now) × IsCharged meter.old meter.new)
+        (λ empty. (IsTrue empty ↔ HoldNowhere columns rows) × IsCharged meter.old meter.new)
         (IsCutBy meter.old meter.new) }
 {
     if rows.is_empty() {
         return Ok(false);
     }
     if columns == 1 {
-        return column_nowhere(alloc, rows, meter);
+        return column_nowhere(alloc, &rows, meter);
     }
+    match reduced(alloc, rows, columns, meter)? {
+        None => Ok(true),
+        Some(short) => column_out(alloc, &short, columns, meter),
+    }
+}
+
+// Whether no point makes the rows hold: one column is taken out, and then the others.
+#[cycle(emptiness)]
+#[tactic(auto, using(crate::proofs::EmptinessLaws::emptiness_steps))]
+fn column_out(alloc: Global, rows: &Rows, columns: usize, meter: &mut Meter) -> Result<bool, Cut>
+    requires rows { All (IsProper meter.old columns) rows.now }
+    requires normal { IsNormal rows.now }
+    requires some { 0 < columns }
+    ensures exact { MatchResult result
+        (λ empty. (IsTrue empty ↔ HoldNowhere columns rows.now) × IsCharged meter.old meter.new)
+        (IsCutBy meter.old meter.new) }
+{
     let col = any_column(rows.as_slice(), columns);
     let mut parts = Parts::of(alloc, rows.as_slice(), Column { columns, at: col }, meter)?;
     let Some(head) = parts.take_head() else {
         return rest_is_empty(alloc, rows, parts, columns, meter);
     };
-    if !hold_nowhere(alloc, &head, columns - 1, meter)? {
+    if !hold_nowhere(alloc, head, columns - 1, meter)? {
         return Ok(false);
     }
     rest_is_empty(alloc, rows, parts, columns, meter)
@@ -131,7 +149,7 @@ fn are_empty(
         (IsCutBy meter.old meter.new) }
 {
     while let Some(rows) = parts.next(alloc, columns, meter)? {
-        if !hold_nowhere(alloc, &rows, columns, meter)? {
+        if !hold_nowhere(alloc, rows, columns, meter)? {
             return Ok(false);
         }
     }
@@ -159,6 +177,6 @@ pub fn is_empty(alloc: Global, system: &System, meter: &mut Meter) -> Result<boo
     }
     match opened(alloc, system, meter)? {
         None => Ok(true),
-        Some(rows) => hold_nowhere(alloc, &rows, system.columns, meter),
+        Some(rows) => hold_nowhere(alloc, rows, system.columns, meter),
     }
 }

@@ -11,7 +11,9 @@ mod line;
 mod opened;
 mod progression;
 mod projection;
+mod reduction;
 mod sample;
+mod shear;
 
 pub use columns::columns_between;
 pub use emptiness::is_empty;

@@ -1,9 +1,8 @@
-use Rattle.std.proofs.Common.{◌≡◌, ◌∷◌, ◌++◌, ◌+◌, ◌<◌, ◌≤◌, ◌-◌, [], refl, arith, get_or, length, true, List, ℤ}
+use Rattle.std.proofs.Common.{◌≡◌, ◌∷◌, ◌++◌, ◌<◌, ◌-◌, [], refl, arith, get_or, length, true, List, ℤ}
 use Rattle.std.proofs.lemmas.List.{nil_from_length}
 use Rattle.isl_meter.specs.Gauge.{IsCharged}
 use Rattle.isl_meter.proofs.CutLemmas.{IsCharged_refl, IsCharged_trans}
 use Rattle.isl_elim.specs.Others.{others_of}
-use Rattle.isl_omega.specs.Equality.{HasEquality}
 use Rattle.isl_column.specs.Parts.{AreParts, ArePartsOf, HoldsPart}
 use Rattle.isl_elim.proofs.OthersLaws.{among, among_at}
 use Rattle.isl_piece.specs.System.{HoldRows}

@@ -1,7 +1,6 @@
-use Rattle.std.proofs.Common.{◌≡◌, ◌↔◌, ◌∙◌, ◌≤◌, ◌+◌, [], None, Some, sym, ℤ, List, refl, arith, ap, length}
+use Rattle.std.proofs.Common.{◌≡◌, ◌↔◌, ◌≤◌, ◌+◌, [], ℤ, List, refl, arith, ap, length}
 use Rattle.isl_meter.specs.Gauge.{IsCharged}
 use Rattle.isl_meter.proofs.CutLemmas.{IsCharged_refl}
-use Rattle.isl_piece.specs.Normal.{normal_rows}
 use Rattle.isl_piece.specs.System.{HoldRows}
 use Rattle.isl_elim.specs.Elimination.{AddsAlong}
 use Rattle.isl_elim.proofs.AlongLaws.{along_normal, along_false, proper_rows}

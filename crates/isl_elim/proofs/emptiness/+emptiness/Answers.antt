@@ -1,22 +1,16 @@
-use Rattle.std.proofs.Common.{◌≡◌, ◌≢◌, ◌↔◌, ◌∙◌, ◌<◌, ◌≤◌, ◌+◌, ◌-◌, [], Bool, false, Some, sym, arith}
-use Rattle.std.specs.Prelude.{IsTrue}
-use Rattle.isl_meter.specs.Gauge.{IsCharged, IsCutBy}
-use Rattle.isl_omega.specs.Equality.{HasEquality}
+use Rattle.std.proofs.Common.{◌≡◌, ◌≢◌, ◌↔◌, ◌<◌, ◌-◌, [], false, Some, arith}
+use Rattle.isl_meter.specs.Gauge.{IsCharged}
 use Rattle.isl_meter.proofs.CutLemmas.{IsCharged_trans}
 use Rattle.isl_column.specs.Parts.{ArePartsOf, AreNone}
 use Rattle.isl_elim.specs.Emptiness.{HoldNowhere}
 use Rattle.isl_column.proofs.PartsLemmas.{parts_kept}
 use Rattle.isl_elim.proofs.EmptinessLaws.{some_column, answered_after, head_found, head_holds, head_missing, parts_nowhere, rest_nowhere, some_holds, none_holds, so_far_next}
 use Rattle.isl_elim.proofs.PartsLaws.{part_found, parts_after, proper_kept}
+use Rattle.isl_elim.proofs.ShearLaws.{reduction_after, reduction_some}
 use Rattle.isl_elim.proofs.emptiness.+emptiness.Goals as goal
 
-pub hold_nowhere-any_column-col-requires : goal.hold_nowhere-any_column-col-requires
-hold_nowhere-any_column-col-requires t c =
-    let some : c.args.rows.now ≢ [] = grind arith in
-    some_column c.args.meter.now c.args.columns c.args.rows.now c.requires.rows c.requires.normal some
-
-pub hold_nowhere-rest_is_empty-requires : goal.hold_nowhere-rest_is_empty-requires
-hold_nowhere-rest_is_empty-requires t c =
+pub column_out-rest_is_empty-requires : goal.column_out-rest_is_empty-requires
+column_out-rest_is_empty-requires t c =
     let g = c.args.meter.now in
     let h = c.of.new.meter in
     let columns = c.args.columns in
@@ -32,8 +26,8 @@ hold_nowhere-rest_is_empty-requires t c =
     let left : HoldNowhere columns rows → AreNone (columns - 1) rest = rw same (parts_nowhere g columns col rows parts inside are).1 in
     (grind arith, (proper_kept g h columns rows charged c.requires.rows, (omega arith, (rw same (parts_after g h columns col rows parts charged are), left))))
 
-pub hold_nowhere-returns-in_default : goal.hold_nowhere-returns-in_default
-hold_nowhere-returns-in_default t c =
+pub column_out-returns-in_default : goal.column_out-returns-in_default
+column_out-returns-in_default t c =
     let g = c.args.meter.now in
     let h = c.of.new.meter in
     let columns = c.args.columns in
@@ -52,8 +46,8 @@ hold_nowhere-returns-in_default t c =
           c.rest_is_empty.ensures.exact;
     }
 
-pub hold_nowhere-hold_nowhere-requires : goal.hold_nowhere-hold_nowhere-requires
-hold_nowhere-hold_nowhere-requires t c =
+pub column_out-hold_nowhere-requires : goal.column_out-hold_nowhere-requires
+column_out-hold_nowhere-requires t c =
     let g = c.args.meter.now in
     let h = c.of.new.meter in
     let columns = c.args.columns in
@@ -69,8 +63,8 @@ hold_nowhere-hold_nowhere-requires t c =
     let next = head_found h (columns - 1) parts rest c.take_head.result head (grind arith) taken in
     (grind arith, (next.proper, next.normal))
 
-pub hold_nowhere-returns-then-not-branch : goal.hold_nowhere-returns-then-not-branch
-hold_nowhere-returns-then-not-branch t c =
+pub column_out-returns-then-not-branch : goal.column_out-returns-then-not-branch
+column_out-returns-then-not-branch t c =
     let g = c.args.meter.now in
     let h = c.of.new.meter in
     let columns = c.args.columns in
@@ -91,8 +85,8 @@ hold_nowhere-returns-then-not-branch t c =
           answer.1 charged;
     }
 
-pub hold_nowhere-rest_is_empty-requires-2 : goal.hold_nowhere-rest_is_empty-requires-2
-hold_nowhere-rest_is_empty-requires-2 t c =
+pub column_out-rest_is_empty-requires-2 : goal.column_out-rest_is_empty-requires-2
+column_out-rest_is_empty-requires-2 t c =
     let g = c.args.meter.now in
     let h = c.of.new.meter in
     let columns = c.args.columns in
@@ -112,8 +106,8 @@ hold_nowhere-rest_is_empty-requires-2 t c =
     let both = rest_nowhere g h columns col rows head parts rest inside are next (answer.0.0 (grind arith)) in
     (grind arith, (proper_kept g k columns rows all c.requires.rows, (omega arith, (parts_kept h k (columns - 1) rest answer.1 next.rest, both.1))))
 
-pub hold_nowhere-returns : goal.hold_nowhere-returns
-hold_nowhere-returns t c =
+pub column_out-returns : goal.column_out-returns
+column_out-returns t c =
     let g = c.args.meter.now in
     let h = c.of.new.meter in
     let columns = c.args.columns in
@@ -182,3 +176,30 @@ are_empty-returns t c =
       exact = none_holds g h k c.args.columns c.args.parts c.loop-parts.parts c.loop-parts.invariant none
           c.in_ok-rows.ensures.exact.1;
     }
+
+pub hold_nowhere-returns-in-Some : goal.hold_nowhere-returns-in-Some
+hold_nowhere-returns-in-Some t c =
+    let g = c.args.meter.now in
+    let h = c.column_out.new.meter in
+    let columns = c.args.columns in
+    let rows = c.args.rows in
+    let short = c.in-Some.short in
+    let same : c.reduced.new.meter ≡ g = grind arith in
+    let found : c.in_ok-reduced.field-0 ≡ Some short = grind arith in
+    let is = reduction_some g columns rows short c.in_ok-reduced.field-0 found c.in_ok-reduced.ensures.0 in
+    record {
+      exact = reduction_after g h columns rows short c.column_out.result is (rw same at c.column_out.ensures.exact);
+    }
+
+pub hold_nowhere-column_out-requires : goal.hold_nowhere-column_out-requires
+hold_nowhere-column_out-requires t c =
+    let g = c.args.meter.now in
+    let columns = c.args.columns in
+    let rows = c.args.rows in
+    let short = c.in-Some.short in
+    let same : c.reduced.new.meter ≡ g = grind arith in
+    let found : c.in_ok-reduced.field-0 ≡ Some short = grind arith in
+    let is = reduction_some g columns rows short c.in_ok-reduced.field-0 found c.in_ok-reduced.ensures.0 in
+    let some : rows ≢ [] = grind arith in
+    let wide : 0 < columns = some_column g columns rows c.requires.rows c.requires.normal some in
+    (grind arith, (rw same is.are.proper, (is.normal, wide)))

@@ -1,7 +1,5 @@
-use Rattle.std.proofs.Common.{◌≡◌, ◌<◌, ◌-◌, Bool, None, Some, ap, arith}
-use Rattle.std.specs.Prelude.{IsTrue}
-use Rattle.isl_meter.specs.Gauge.{Gauge, IsCharged, IsCutBy}
-use Rattle.isl_elim.specs.Emptiness.{HoldNowhere}
+use Rattle.std.proofs.Common.{◌≡◌, ◌<◌, None, Some, arith}
+use Rattle.isl_meter.specs.Gauge.{IsCharged}
 use Rattle.isl_elim.proofs.EmptinessLaws.{shadow_after, shadow_missing, shadow_found}
 use Rattle.isl_elim.proofs.emptiness.+shadows.Goals as goal
 

@@ -1,4 +1,4 @@
-use Rattle.std.proofs.Common.{◌≡◌, ◌∙◌, [], None, Some, sym, arith}
+use Rattle.std.proofs.Common.{◌≡◌, [], arith}
 use Rattle.isl_meter.specs.Gauge.{IsCharged, IsCutBy}
 use Rattle.isl_piece.specs.System.{HoldsSystem, free_columns}
 use Rattle.isl_elim.specs.Emptiness.{HoldNowhere}

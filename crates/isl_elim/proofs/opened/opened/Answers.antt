@@ -1,5 +1,4 @@
-use Rattle.std.proofs.Common.{◌≡◌, ◌↔◌, ◌++◌, ◌<◌, ◌∙◌, sym, ap, ℤ, List, length, get_or, arith}
-use Rattle.isl_piece.specs.declared.row.Row.{Row}
+use Rattle.std.proofs.Common.{◌≡◌, ◌↔◌, ◌++◌, ◌<◌, ◌∙◌, ℤ, List, length, get_or, arith}
 use Rattle.isl_piece.specs.System.{HoldRows}
 use Rattle.isl_elim.specs.Opened.{definition_rows}
 use Rattle.isl_elim.proofs.OpenedLaws.{definition_inside, opened_step, opened_end, opened_none, opened_some}

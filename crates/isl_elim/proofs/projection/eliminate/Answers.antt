@@ -1,6 +1,5 @@
-use Rattle.std.proofs.Common.{◌≢◌, ◌<◌, ◌∷◌, [], ℕ, suc, List, length, arith, refl, Vec, Global}
+use Rattle.std.proofs.Common.{◌∷◌, [], refl, Vec, Global}
 use Rattle.isl_piece.specs.declared.system.System.{System}
-use Rattle.isl_elim.specs.Dependents.{dependents}
 use Rattle.isl_elim.specs.Elimination.{IsProjection, IsProjectionAlong}
 use Rattle.isl_elim.proofs.ProjectionLaws.{along_one, if_ok}
 use Rattle.isl_elim.proofs.projection.eliminate.Goals as goal

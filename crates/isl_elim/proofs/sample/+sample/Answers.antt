@@ -1,9 +1,8 @@
-use Rattle.std.proofs.Common.{◌≡◌, ◌≢◌, ◌<◌, ◌≤◌, ◌+◌, ◌-◌, [], pos, arith, refl}
+use Rattle.std.proofs.Common.{◌≡◌, ◌≢◌, ◌<◌, ◌-◌, [], pos, arith, refl}
 use Rattle.std.specs.Prelude.{replicate}
 use Rattle.isl_meter.specs.Gauge.{IsCharged}
 use Rattle.isl_meter.proofs.CutLemmas.{IsCharged_refl, IsCharged_trans}
 use Rattle.isl_piece.specs.System.{HoldRows}
-use Rattle.isl_omega.specs.Equality.{HasEquality}
 use Rattle.isl_column.specs.Parts.{AreParts, ArePartsOf, AreNone, HoldsPart}
 use Rattle.isl_elim.specs.Sample.{IsSample, IsNowhere}
 use Rattle.isl_elim.proofs.EmptinessLaws.{some_column, so_far_next}
