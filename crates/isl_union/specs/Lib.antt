@@ -1,6 +1,7 @@
 pub mod Compare
 pub mod Fault
 pub mod Finite
+pub mod Flat
 pub mod Front
 pub mod KeptValue
 pub mod Live

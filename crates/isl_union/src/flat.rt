@@ -5,6 +5,7 @@ ghost use Rattle.isl_meter.specs.Gauge.{IsMetered};
 ghost use Rattle.isl_meter.specs.declared.Cut.TheVariants.{NoMemory};
 ghost use Rattle.isl_space.specs.Element.{Element};
 ghost use Rattle.isl_space.specs.Valuation.{Valuation};
+ghost use Rattle.isl_union.specs.Flat.{IsFlatOf};
 ghost use Rattle.isl_union.specs.KeptValue.{Has, HasNoDefinitions, IsKeptValue};
 ghost use Rattle.isl_union.specs.Numbers.{IsWithinLimit};
 
@@ -15,9 +16,9 @@ use isl_meter::{Cut, Meter};
 use std::alloc::Global;
 
 impl Value {
-    /// The same elements at every valuation, in pieces that define no column. The pieces of this value that define none stay as
-    /// they are, and a value with no others is answered itself; no unit is used then. There are no more pieces than in this value,
-    /// but for one for each unit that was used. (isl manual, on integer divisions)
+    /// The same elements at every valuation, in pieces that define no column: in the place of each piece of this value those that have
+    /// its elements. A piece that defines none stays as it is, and a value with no others is answered itself; no unit is used then.
+    /// There are no more pieces than in this value, but for one for each unit that was used. (isl manual, on integer divisions)
     ///
     /// # Errors
     ///
@@ -26,6 +27,7 @@ impl Value {
         requires { IsWithinLimit meter.old self.now }
         ensures kept { IfOk result IsKeptValue }
         ensures params { IfOk result (λ value. value.params ≡ self.now.params) }
+        ensures pieces { IfOk result (IsFlatOf self.now) }
         ensures elements { (valuation : Valuation) (element : Element)
             → IfOk result (λ value. Has value valuation element ↔ Has self.now valuation element) }
         ensures definitions { IfOk result HasNoDefinitions }

@@ -5,8 +5,10 @@ use Rattle.std.proofs.lemmas.List.{take_more}
 use Rattle.std.proofs.lemmas.List.Elements.{All-cons, All-nil}
 use Rattle.isl_math.proofs.ListLaws.{All-unmapped, Any-first, Any-one}
 use Rattle.isl_meter.proofs.CutLemmas.{IsCharged_trans}
+use Rattle.isl_space.specs.Element.{Element}
 use Rattle.isl_space.specs.Name.{Name}
 use Rattle.isl_space.specs.SpaceForm.{SpaceForm, IsWellFormedSpace}
+use Rattle.isl_space.specs.Valuation.{Valuation}
 use Rattle.isl_piece.specs.declared.system.System.{System}
 use Rattle.isl_piece.specs.Piece.{PieceView}
 use Rattle.isl_piece.specs.System.{IsSystemWithin, free_columns}
@@ -17,7 +19,8 @@ use Rattle.isl_union.specs.Numbers.{IsPieceUpTo}
 use Rattle.isl_union.specs.Piece.{kept_piece, IsPieceOf}
 use Rattle.isl_union.specs.Pieces.{IsOfAny}
 use Rattle.isl_union.proofs.CountLaws.{counted_all, counted_more}
-use Rattle.isl_union.proofs.FlatLaws.{flat_columns, flat_has, never_opened}
+use Rattle.isl_union.proofs.FlatLaws.{flat_all, flat_columns, flat_has, flat_pushed, never_opened, piece_itself}
+use Rattle.isl_union.proofs.MadeLaws.{not_true}
 use Rattle.isl_union.proofs.MeetSteps.{charged_bits, item_has}
 use Rattle.isl_union.proofs.PiecesLaws.{made_has, made_kept, made_more, made_small, next_piece, plain_more, small_before, through}
 use Rattle.isl_union.proofs.SystemLaws.{view_free}
@@ -89,15 +92,23 @@ loop-piece-preserved c =
     let free = view_free params piece sound in
     let flat = subst (λ (s : System). IsFlattening s systems) c.system-system.ensures c.in_ok-systems.ensures.exact in
     let charged = IsCharged_trans g h m so_far.charged c.in_ok-systems.ensures.meter in
+    let here : (v : Valuation) (e : Element) → Any (HasElement params v e) (map kept_piece more) ↔ HasElement params v e (kept_piece piece) =
+    λ v e. through
+    (subst (λ (space : SpaceForm). Any (HasElement params v e) (map kept_piece more) ↔ IsOfAny params space systems v e)
+    c.space.ensures
+    (told.elements v e))
+    (flat_has params piece free systems flat v e) in
+    let no : c.is_empty.result ≡ false = grind arith in
+    let opened : piece.system.definitions ≡ [] → ⊥ = λ none. not_true c.is_empty.result no
+    (c.is_empty.ensures.1 (ap (λ (s : System). s.definitions) c.system-system.ensures ∙ none)) in
     record {
       made = rw (next_piece pieces i piece low c.piece-item.is)
           (made_more g params (HasElement params) (map kept_piece (take i pieces)) (kept_piece piece) kept so_far.made more pushed
           c.in_ok-append.ensures.items
-          (λ v e. through
-          (subst (λ (space : SpaceForm). Any (HasElement params v e) (map kept_piece more) ↔ IsOfAny params space systems v e)
-          c.space.ensures
-          (told.elements v e))
-          (flat_has params piece free systems flat v e)) told.sound (small_before g m (map kept_piece more) charged told.numbers));
+          here told.sound (small_before g m (map kept_piece more) charged told.numbers));
+      parts = rw (next_piece pieces i piece low c.piece-item.is)
+          (flat_pushed params (map kept_piece (take i pieces)) (kept_piece piece) kept more pushed c.in_ok-append.ensures.items so_far.parts
+          (record { elements = here; same = λ none. absurd (opened none) }));
       plain = plain_more kept more pushed c.in_ok-append.ensures.items so_far.plain (told.definitions flat.definitions);
       charged = IsCharged_trans g m c.live_pieces_in.new.meter charged told.meter;
       counted =
@@ -107,7 +118,6 @@ loop-piece-preserved c =
           counted_more g h c.live_pieces_in.new.meter pieces piece i kept more pushed low c.in_ok-append.ensures.items so_far.counted
           (omega (arith, here, few, later));
       same = λ n.
-          let no : c.is_empty.result ≡ false = grind arith in
           absurd (never_opened pieces c.args.self.now.pieces i piece c.system-system.result.now c.is_empty.result low c.piece-item.is
           c.pieces-pieces.ensures.content c.system-system.ensures no c.is_empty.ensures.1 n);
     }
@@ -141,6 +151,9 @@ loop-piece-preserved-then-is_empty c =
           ))
           (All-cons (IsPieceOf params) piece [] sound (All-nil (IsPieceOf params)))
           (All-cons (IsPieceUpTo (2 ^ g.bits - 1)) (kept_piece piece) [] small (All-nil (IsPieceUpTo (2 ^ g.bits - 1)))));
+      parts = rw (next_piece pieces i piece low c.piece-item.is)
+          (flat_pushed params (map kept_piece (take i pieces)) (kept_piece piece) kept (piece ∷ []) pushed is so_far.parts
+          (piece_itself params (kept_piece piece)));
       plain = plain_more kept (piece ∷ []) pushed is so_far.plain
           (All-cons (λ (p : KeptPiece). p.definitions ≡ []) (kept_piece piece) [] none (All-nil (λ (p : KeptPiece). p.definitions ≡ [])));
       charged = so_far.charged;
@@ -162,6 +175,14 @@ returns-clause-kept c =
     c.from_normal.result end c.pieces-pieces.ensures.content c.loop-piece.invariant.made
     (rw c.in_ok-copy-2.ensures at c.from_normal.ensures)
     c.params-params.ensures.well_formed
+
+pub returns-clause-pieces : goal.returns-clause-pieces
+returns-clause-pieces c =
+    let pieces = c.pieces-pieces.result.now in
+    let end : length pieces ≤ c.loop-piece.piece-index = omega arith in
+    flat_all c.params-params.result.now pieces c.loop-piece.kept.items c.loop-piece.piece-index c.args.self.now c.from_normal.result end
+    c.params-params.ensures.content c.pieces-pieces.ensures.content (rw c.in_ok-copy-2.ensures at c.from_normal.ensures)
+    c.loop-piece.invariant.parts
 
 pub returns-clause-elements : goal.returns-clause-elements
 returns-clause-elements c v e =
