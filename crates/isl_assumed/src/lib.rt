@@ -4,10 +4,11 @@
 mod assumed;
 mod left;
 mod onto;
-mod pair;
+mod pairing;
 mod region;
 mod values;
 
 pub use assumed::Assumed;
+pub use pairing::{pair, pairs};
 pub use region::Region;
 pub use values::{live, under};

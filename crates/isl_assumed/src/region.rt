@@ -18,7 +18,7 @@ ghost use Rattle.isl_assumed.specs.Left.{AreMet, IsCommon};
 
 use crate::left::left_of;
 use crate::onto::systems_onto;
-use crate::pair::pairs;
+use crate::pairing::pairs;
 use isl_blocks::live_without;
 use isl_meter::{Cut, Meter};
 use isl_piece::System;

@@ -18,7 +18,7 @@ ghost use Rattle.isl_assumed.specs.Under.{IsLiveValue, IsUnder};
 ghost use Rattle.isl_assumed.specs.Values.{AreLiveUnder, IsDeadAt};
 
 use crate::onto::systems_onto;
-use crate::pair::{pair, pairs};
+use crate::pairing::{pair, pairs};
 use crate::{Assumed, Region};
 use isl_elim::is_empty;
 use isl_meter::{Cut, Meter};

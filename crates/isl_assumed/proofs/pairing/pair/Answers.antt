@@ -1,6 +1,6 @@
 use Rattle.std.proofs.Common.{◌≡◌, ◌+◌, arith}
 use Rattle.isl_assumed.proofs.PairLaws.{pair_made}
-use Rattle.isl_assumed.proofs.pair.pair.Goals as goal
+use Rattle.isl_assumed.proofs.pairing.pair.Goals as goal
 
 pub returns-clause-pair : goal.returns-clause-pair
 returns-clause-pair c =

@@ -5,7 +5,7 @@ use Rattle.isl_difference.proofs.DifferenceLaws.{system_at, system_within}
 use Rattle.isl_difference.proofs.SplitLaws.{charged_within}
 use Rattle.isl_union.proofs.MeetSteps.{charged_bits}
 use Rattle.isl_assumed.proofs.PairLaws.{pairs_all, pairs_more}
-use Rattle.isl_assumed.proofs.pair.pairs.Goals as goal
+use Rattle.isl_assumed.proofs.pairing.pairs.Goals as goal
 
 pub pair-requires-clause-system : goal.pair-requires-clause-system
 pair-requires-clause-system c =

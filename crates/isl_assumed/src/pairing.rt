@@ -17,7 +17,7 @@ use std::alloc::Global;
 ///
 /// As every call under a meter.
 #[tactic(auto, using(std::proofs::lemmas::Grind::common_steps, isl_meter::proofs::CutLemmas::charges))]
-pub(crate) fn pair(
+pub fn pair(
     alloc: Global,
     system: &System,
     other: &System,
@@ -44,7 +44,7 @@ pub(crate) fn pair(
 ///
 /// As every call under a meter.
 #[tactic(auto, using(std::proofs::lemmas::Grind::common_steps, isl_meter::proofs::CutLemmas::charges))]
-pub(crate) fn pairs(
+pub fn pairs(
     alloc: Global,
     system: &System,
     others: &[System],

@@ -1,7 +1,7 @@
 use Rattle.std.proofs.Common.{take}
 use Rattle.isl_meter.specs.Gauge.{IsCharged}
 use Rattle.isl_assumed.specs.Left.{ArePairs}
-use Rattle.isl_assumed.proofs.pair.pairs.Given as goal
+use Rattle.isl_assumed.proofs.pairing.pairs.Given as goal
 
 abbrev pub invariant-loop-other : goal.invariant-loop-other
 invariant-loop-other l = record {
