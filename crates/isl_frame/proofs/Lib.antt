@@ -1,0 +1,4 @@
+pub mod SumLaws
+pub mod SolvedLaws
+pub mod FrameLaws
+pub mod NeededLaws

@@ -1,0 +1,103 @@
+-- Rows of which those are taken out that are known.
+use Rattle.std.proofs.Common.{◌≡◌, ◌↔◌, inl, inr, refl, subst, arith, Bool, ℕ, zero, suc, ◌-◌, ◌<◌, List, [], ◌∷◌, ◌++◌, length, get_or}
+use Rattle.std.proofs.Common.{take, drop}
+use Rattle.std.specs.Prelude.{IfOk, IsTrue, Result, Ok, Err}
+use Rattle.std.specs.List.{All, Contains, remove}
+use Rattle.std.proofs.lemmas.List.Elements.{All-append, All-cons, All-drop, All-head, All-nil, All-tail, All-take}
+use Rattle.std.proofs.lemmas.List.Elements.{Contains-get_or}
+use Rattle.isl_meter.specs.Gauge.{Gauge, IsCharged}
+use Rattle.isl_piece.specs.declared.row.Row.{Row}
+use Rattle.isl_piece.specs.Row.{HoldsRow, IsRowWithin, IsWellFormed}
+use Rattle.isl_piece.specs.declared.system.System.{System}
+use Rattle.isl_piece.specs.System.{HoldRows, IsSystemWithin, free_columns}
+use Rattle.isl_difference.specs.Split.{HoldsBut}
+use Rattle.isl_difference.proofs.RowCases.{row_cases}
+use Rattle.isl_difference.proofs.SplitLaws.{charged_within}
+use Rattle.isl_elim.specs.Sample.{IsNowhere}
+use Rattle.isl_frame.specs.Needed.{AreRowsOver, IsKnown, IsNeeded}
+
+-- ---- one row taken out
+pub all_removed : (P : Row → Type 0) (rows : List Row) (i : ℕ) → All P rows → All P (remove rows i)
+all_removed P rows i h = All-append P (take i rows) (drop (suc i) rows) (All-take P i rows h) (All-drop P (suc i) rows h)
+
+all_put_back : (P : Row → Type 0) (rows : List Row) (i : ℕ) → i < length rows → All P (remove rows i) → ((d : Row) → P (get_or rows i d))
+    → All P rows
+all_put_back P [] i l h p = absurd (omega (arith, l))
+all_put_back P (r ∷ rows) zero l h p = All-cons P r rows (p r) h
+all_put_back P (r ∷ rows) (suc i) l h p =
+    All-cons P r rows (All-head P r (remove rows i) h) (all_put_back P rows i (omega (arith, l)) (All-tail P r (remove rows i) h) p)
+
+module _ (variables : ℕ) (context rows : List Row) where
+  pub needed_first : IsNeeded variables context rows rows
+  needed_first = record {
+    each = λ k d l. Contains-get_or rows k d l;
+    points = λ point long h. ((λ k. k), (λ k. k));
+  }
+
+  pub needed_less : (kept : List Row) (i : ℕ) → i < length kept → IsNeeded variables context rows kept
+      → ((d : Row) → IsKnown variables (context ++ remove kept i) (get_or kept i d)) → IsNeeded variables context rows (remove kept i)
+  needed_less kept i low is known = record {
+    each = all_removed (Contains rows) kept i is.each;
+    points = λ point long h. (
+      (λ k. (is.points point long h).0 (all_put_back (λ r. HoldsRow r point) kept i low k
+          (λ d. known d point long (All-append (λ r. HoldsRow r point) context (remove kept i) h k)))),
+      (λ k. all_removed (λ r. HoldsRow r point) kept i ((is.points point long h).1 k)),
+    );
+  }
+
+-- ---- what is asked of a system of rows
+abbrev pub over_rows : ℕ → List Row → System
+over_rows variables rows = record { columns = variables; definitions = []; rows = rows }
+
+pub system_over : (g : Gauge) (variables : ℕ) (rows : List Row) (s : System) → s ≡ over_rows variables rows
+    → AreRowsOver g variables rows → IsSystemWithin g s
+system_over g variables rows s is over =
+    rw is (record { rows = over.formed; within = over.within; count = omega arith; definitions = tt })
+
+-- what all rows have, those that are kept have
+pub kept_have : (P : Row → Type 0) (rows kept : List Row) → All (Contains rows) kept → All P rows → All P kept
+kept_have P rows kept each h = λ k d l. let c = each k d l in subst P c.2 (h c.0 (get_or kept k d) c.1)
+
+-- the limit stays while units are used
+pub over_later : (g h : Gauge) (variables : ℕ) (rows : List Row) → IsCharged g h → AreRowsOver g variables rows → AreRowsOver h variables rows
+over_later g h variables rows charged over =
+    let later = charged_within g h (over_rows variables rows) charged (system_over g variables rows (over_rows variables rows) refl over) in
+    record { formed = later.rows; within = later.within }
+
+-- rows over so many variables
+pub kept_over : (g : Gauge) (variables : ℕ) (context rows kept : List Row) → IsNeeded variables context rows kept
+    → AreRowsOver g variables rows → AreRowsOver g variables kept
+kept_over g variables context rows kept is over = record {
+  formed = kept_have (IsWellFormed variables) rows kept is.each over.formed;
+  within = kept_have (IsRowWithin g) rows kept is.each over.within;
+}
+
+pub rows_beside : (g : Gauge) (variables : ℕ) (context rows : List Row) (i : ℕ) → AreRowsOver g variables context → AreRowsOver g variables rows
+    → AreRowsOver g variables (context ++ remove rows i)
+rows_beside g variables context rows i a b = record {
+  formed = All-append (IsWellFormed variables) context (remove rows i) a.formed (all_removed (IsWellFormed variables) rows i b.formed);
+  within = All-append (IsRowWithin g) context (remove rows i) a.within (all_removed (IsRowWithin g) rows i b.within);
+}
+
+-- what holds nowhere but not is known
+pub known_exactly : (b : Bool) (variables : ℕ) (others : List Row) (r : Row) → IsWellFormed variables r
+    → IsTrue b ↔ IsNowhere variables (λ point. HoldRows others point × (¬ HoldRows (r ∷ []) point)) → IsTrue b ↔ IsKnown variables others r
+known_exactly b variables others r formed told = (
+  (λ t point long h. elim (row_cases r point formed.modulus) [
+    | inl holds ↦ holds
+    | inr fails ↦ absurd (told.0 t point long (h, λ all. fails (All-head (λ s. HoldsRow s point) r [] all)))
+  ]),
+  (λ known. told.1 (λ point long h. h.1 (All-cons (λ s. HoldsRow s point) r [] (known point long h.0) (All-nil (λ s. HoldsRow s point))))),
+)
+
+pub known_told : {E : Type 0} (answer : Result Bool E) (variables : ℕ) (s : System) (others rows : List Row) (r : Row)
+    → s ≡ over_rows variables others → rows ≡ r ∷ [] → IsWellFormed variables r
+    → IfOk answer (λ all. IsTrue all ↔ IsNowhere (free_columns s) (HoldsBut s rows))
+    → IfOk answer (λ known. IsTrue known ↔ IsKnown variables others r)
+known_told (Ok b) variables s others rows r is only formed told =
+    known_exactly b variables others r formed
+    (subst (λ n. IsTrue b ↔ IsNowhere n (λ point. HoldRows others point × (¬ HoldRows (r ∷ []) point))) all_free (rw (is, only) at told))
+  where
+    all_free : variables - 0 ≡ variables
+    all_free = omega arith
+known_told (Err e) variables s others rows r is only formed told = told

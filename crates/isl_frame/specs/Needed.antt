@@ -1,0 +1,20 @@
+-- public: rows without those that are known already. (isl manual, on simplification in a context)
+use Rattle.std.specs.Prelude.{◌≡◌, ◌↔◌, ℕ, ℤ, List, All, Contains, length}
+use Rattle.isl_meter.specs.Gauge.{Gauge}
+use Rattle.isl_piece.specs.declared.row.Row.{Row}
+use Rattle.isl_piece.specs.Row.{HoldsRow, IsRowWithin, IsWellFormed}
+use Rattle.isl_piece.specs.System.{HoldRows}
+
+-- rows over so many variables, with their numbers within the limit
+pub record AreRowsOver (g : Gauge) (variables : ℕ) (rows : List Row) : Type 0 where
+  pub formed : All (IsWellFormed variables) rows
+  pub within : All (IsRowWithin g) rows
+
+-- the row holds wherever the others do
+abbrev pub IsKnown : ℕ → List Row → Row → Type 0
+IsKnown variables others r = (point : List ℤ) → length point ≡ variables → HoldRows others point → HoldsRow r point
+
+-- some of the rows, which say as much where the context holds
+pub record IsNeeded (variables : ℕ) (context rows kept : List Row) : Type 0 where
+  pub each : All (Contains rows) kept
+  pub points : (point : List ℤ) → length point ≡ variables → HoldRows context point → HoldRows kept point ↔ HoldRows rows point

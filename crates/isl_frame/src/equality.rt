@@ -1,0 +1,55 @@
+//! Columns that an equality determines.
+
+ghost use Rattle.std.specs.Prelude.{◌≡◌, ◌≢◌, ◌+◌, pos, All, IfOk, length};
+ghost use Rattle.isl_math.specs.Dot.{scaled};
+ghost use Rattle.isl_math.specs.Order.{sign_of};
+ghost use Rattle.isl_meter.specs.Gauge.{IsWithin};
+ghost use Rattle.isl_piece.specs.declared.row.RowKind.TheVariants.{Zero};
+ghost use Rattle.isl_piece.specs.Row.{coef_at, IsRowWithin, IsWellFormed};
+ghost use Rattle.isl_frame.specs.Frame.{isolated, IsSolved};
+
+use isl_meter::{Int, Meter};
+use isl_piece::{Coefs, Row, RowKind};
+use std::alloc::{AllocError, Global};
+
+// Each number times the sign of another one.
+fn signed(alloc: Global, numbers: &[Int], by: Int, meter: &Meter) -> Result<Coefs, AllocError>
+    requires { All (IsWithin meter.now) numbers.now }
+    ensures exact { IfOk result (λ coefs. coefs ≡ scaled (sign_of by) numbers.now) }
+    ensures within { IfOk result (All (IsWithin meter.now)) }
+{
+    let mut coefs = Coefs::new(alloc);
+    for i in 0..numbers.len() {
+        coefs.push(numbers[i].times_sign_of(by, meter))?;
+    }
+    Ok(coefs)
+}
+
+/// The row's form but for the last of its columns, with the sign at which the last one is taken away, as a congruence modulo the magnitude
+/// of the last one's coefficient. Of an equality it says which number the last column has, and where it has one.
+///
+/// # Errors
+///
+/// `AllocError` where memory ends.
+pub fn isolated(
+    alloc: Global,
+    row: &Row,
+    variables: usize,
+    meter: &Meter,
+) -> Result<Row, AllocError>
+    requires row { IsWellFormed (variables + 1) row.now }
+    requires within { IsRowWithin meter.now row.now }
+    ensures exact { IfOk result (λ entry. entry ≡ isolated variables row.now) }
+    ensures solved { row.now.kind ≡ Zero → coef_at row.now variables ≢ pos 0 → IfOk result (IsSolved variables row.now) }
+    ensures within { IfOk result (IsRowWithin meter.now) }
+{
+    let mut coefs = row.coefs.copy(alloc)?;
+    let last = coefs.remove(variables);
+    let sign = last.neg(meter);
+    Ok(Row::new(
+        RowKind::Divides,
+        signed(alloc, coefs.as_slice(), sign, meter)?,
+        row.constant().times_sign_of(sign, meter),
+        last.abs(meter),
+    ))
+}

@@ -1,0 +1,13 @@
+//! Frames: columns as quotients of forms over the variables in scope.
+#![tactic(auto)]
+
+mod context;
+mod equality;
+mod rows;
+mod sum;
+mod variable;
+
+pub use context::needed;
+pub use equality::isolated;
+pub use rows::through;
+pub use variable::{own_frame, widened, with_variable};
