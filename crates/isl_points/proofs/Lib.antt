@@ -3,7 +3,7 @@ pub mod CongruenceLaws
 pub mod LineLaws
 pub mod ListLaws
 pub mod LongerLaws
-pub mod PointsLaws
+pub mod FibreLaws
 pub mod PrefixLaws
 pub mod SortedLaws
 pub mod WalkLaws

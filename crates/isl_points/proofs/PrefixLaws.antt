@@ -19,7 +19,7 @@ use Rattle.isl_tower.specs.Ends.{EndsBelow, EndsAbove, HasLowerEnd, HasUpperEnd}
 use Rattle.isl_tower.specs.Numbers.{row_at, system_at}
 use Rattle.isl_tower.proofs.NumberLaws.{holds_system_at}
 use Rattle.isl_tower.proofs.TowerLaws.{charged_limit}
-use Rattle.isl_points.specs.Level.{IsEnded}
+use Rattle.isl_points.specs.Fibre.{IsEnded}
 use Rattle.isl_points.specs.Line.{IsListing}
 use Rattle.isl_points.proofs.ListLaws.{no_numbers, same_numbers}
 

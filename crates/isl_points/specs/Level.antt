@@ -1,29 +1,12 @@
--- inner: the levels of a tower, and lists of what begins points, one column longer at each level.
-use Rattle.std.specs.Prelude.{◌≡◌, ◌↔◌, ℕ, ◌+◌, ◌-◌, ◌<◌, ◌≤◌, ℤ, List, [], ◌∷◌, ◌++◌, map, length, slice_index_or, All, AllPairs, Contains}
+-- inner: lists of what begins points, one column longer at each level of a tower.
+use Rattle.std.specs.Prelude.{◌≡◌, ◌↔◌, ℕ, ◌+◌, ◌≤◌, ℤ, List, [], ◌∷◌, ◌++◌, map, length, All, AllPairs, Contains}
 use Rattle.isl_math.specs.Order.{IsBefore}
 use Rattle.isl_meter.specs.Gauge.{Gauge, IsCharged, IsWithin}
 use Rattle.isl_piece.specs.declared.system.System.{System}
-use Rattle.isl_piece.specs.System.{HoldsSystem, free_columns}
 use Rattle.isl_elim.specs.Elimination.{HoldsAtAny}
-use Rattle.isl_elim.specs.Sample.{IsNowhere}
-use Rattle.isl_tower.specs.Ends.{HasLowerEnd, HasUpperEnd}
-use Rattle.isl_tower.specs.Level.{AreOver}
 use Rattle.isl_tower.specs.Tower.{BeginsPoint}
 use Rattle.isl_points.specs.Line.{IsListing}
 
--- ---- levels
--- where the last column lacks an end on one side, there is no point
-abbrev pub IsEnded : System → Type 0
-IsEnded s = ¬ (HasLowerEnd (free_columns s - 1) s.rows × HasUpperEnd (free_columns s - 1) s.rows)
-    → IsNowhere (free_columns s) (HoldsSystem s)
-
--- the systems of each level are over as many columns as its height, and above the lowest each without an end on one side has no point
-pub record AreLevelsWithin (g : Gauge) (levels : List (List System)) : Type 0 where
-  pub some : 0 < length levels
-  pub over : (height : ℕ) → height < length levels → AreOver g height (slice_index_or levels height [])
-  pub ended : (height : ℕ) → 0 < height → height < length levels → All IsEnded (slice_index_or levels height [])
-
--- ---- lists
 -- the prefix with each of the numbers behind it
 abbrev pub behind : List ℤ → List ℤ → List (List ℤ)
 behind prefix numbers = map (λ x. prefix ++ x ∷ []) numbers

@@ -1,5 +1,6 @@
 pub mod Ends
 pub mod Exclusion
+pub mod Fibre
 pub mod Interval
 pub mod Level
 pub mod Line

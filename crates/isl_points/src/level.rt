@@ -6,7 +6,8 @@ ghost use Rattle.isl_meter.specs.Gauge.{IsCharged, IsCutBy, IsWithin};
 ghost use Rattle.isl_piece.specs.System.{HoldsSystem, IsSystemWithin, free_columns};
 ghost use Rattle.isl_elim.specs.Elimination.{HoldsAtAny};
 ghost use Rattle.isl_tower.specs.Level.{AreOver};
-ghost use Rattle.isl_points.specs.Level.{AreLonger, IsEnded, IsLengthened, behind};
+ghost use Rattle.isl_points.specs.Fibre.{IsEnded};
+ghost use Rattle.isl_points.specs.Level.{AreLonger, IsLengthened, behind};
 ghost use Rattle.isl_points.specs.Line.{IsListing};
 
 use crate::line::Line;

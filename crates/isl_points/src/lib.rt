@@ -1,13 +1,13 @@
 //! The points of systems, one after another.
 #![tactic(auto)]
 
+mod fibre;
 mod interval;
 mod level;
 mod line;
 mod list;
-mod points;
 mod progression;
 mod walk;
 
+pub use fibre::Fibre;
 pub use list::{Point, Points};
-pub use points::points_at;

@@ -6,7 +6,8 @@ ghost use Rattle.isl_elim.specs.Elimination.{HoldsAtAny};
 ghost use Rattle.isl_piece.specs.declared.system.System.{System};
 ghost use Rattle.isl_tower.specs.Level.{AreOver};
 ghost use Rattle.isl_tower.specs.Tower.{IsTowerOf};
-ghost use Rattle.isl_points.specs.Level.{AreBeginnings, AreLevelsWithin};
+ghost use Rattle.isl_points.specs.Fibre.{AreLevelsWithin};
+ghost use Rattle.isl_points.specs.Level.{AreBeginnings};
 
 use crate::level::all_longer;
 use crate::{Point, Points};

@@ -1,31 +1,34 @@
 -- The elements of pieces where the parameters have given numbers.
 use Rattle.std.proofs.Common.{◌≡◌, ◌∙◌, inl, inr, ◌+◌, ◌-◌, ◌^◌, ◌<◌, ℕ, ℤ, List, [], ◌∷◌, ◌++◌, length, get_or, take, map}
-use Rattle.std.proofs.Common.{ap, sym, subst, arith, All, Any}
+use Rattle.std.proofs.Common.{ap, sym, subst, refl, zero, suc, arith, string_bytes, All, Any}
 use Rattle.std.specs.Prelude.{◌↔◌}
-use Rattle.std.specs.List.{Contains}
+use Rattle.std.specs.List.{AllZip, Contains}
 use Rattle.std.proofs.lemmas.List.{take_more}
+use Rattle.std.proofs.lemmas.List.Elements.{Contains-get_or}
 use Rattle.isl_math.proofs.ListLaws.{All-unmapped, Any-cases, Any-first, Any-later, Any-left, Any-none, Any-one, Any-parts, Any-right}
-use Rattle.isl_math.proofs.ListLaws.{Any-unmapped, Any-with}
+use Rattle.isl_math.proofs.ListLaws.{AllZip-more, AllZip-weaker, Any-unmapped, Any-with}
 use Rattle.isl_meter.specs.Gauge.{Gauge, IsCharged}
 use Rattle.isl_space.specs.Element.{Element}
 use Rattle.isl_space.specs.Name.{Name}
-use Rattle.isl_space.specs.SpaceForm.{SpaceForm, coordinates_of}
+use Rattle.isl_space.specs.SpaceForm.{coordinates_of, space_text_of, IsWellFormedSpace}
 use Rattle.isl_space.specs.Valuation.{Valuation, values_of}
 use Rattle.isl_space.proofs.ValuationLaws.{length-values_of}
 use Rattle.isl_piece.specs.Piece.{PieceView}
 use Rattle.isl_piece.specs.declared.system.System.{System}
 use Rattle.isl_piece.specs.System.{HoldsSystem}
 use Rattle.isl_piece.proofs.FormedLaws.{system_within_kept}
+use Rattle.isl_points.specs.Fibre.{IsFibreOf}
 use Rattle.isl_points.specs.Points.{ArePointsAt}
+use Rattle.isl_points.proofs.FibreLaws.{fibre_kept}
 use Rattle.isl_union.specs.Finite.{IsFiniteAt}
 use Rattle.isl_union.specs.KeptValue.{KeptPiece, KeptValue, Has, HasElement, HasNoDefinitions, point_of}
 use Rattle.isl_union.specs.Numbers.{HasNumbersUpTo, IsWithinLimit}
 use Rattle.isl_union.specs.Piece.{kept_piece, IsPieceOf}
-use Rattle.isl_union.proofs.BoundedLaws.{finite_value_at, pieces_within}
+use Rattle.isl_union.proofs.BoundedLaws.{pieces_within}
 use Rattle.isl_union.proofs.MeetSteps.{charged_bits}
 use Rattle.isl_union.proofs.SystemLaws.{view_free, view_is}
 use Rattle.isl_scan.specs.declared.group.Group.{Group}
-use Rattle.isl_scan.specs.Gathered.{AreGathered, HasAt, IsListable}
+use Rattle.isl_scan.specs.Gathered.{AreFibresOf, AreGathered, HasAt, IsGroupOf, IsListable}
 use Rattle.isl_scan.specs.Groups.{elements_in, elements_of, space_in, IsAdded}
 use Rattle.isl_scan.specs.Listing.{IsListingOf}
 use Rattle.isl_scan.proofs.GroupLaws.{contains_in, elements_ordered}
@@ -49,12 +52,22 @@ module _ (g : Gauge) (numbers : List ℤ) (piece : PieceView) (listable : IsList
         (contains_in piece.space points e).1 (h.space, (are.exact e.coordinates).1 (omega (arith, columns, count), h.holds))),
   )
 
-  pub group_has : (s : System) (space : SpaceForm) (points items : List (List ℤ)) → s ≡ piece.system → space ≡ piece.space → items ≡ points
-      → ArePointsAt s numbers points → (e : Element) → Contains (elements_in space items) e ↔ HasAt numbers e piece
-  group_has s space points items of_system of_space same are e =
-      subst (λ ps. Contains (elements_in space ps) e ↔ HasAt numbers e piece) (sym same)
-      (subst (λ f. Contains (elements_in f points) e ↔ HasAt numbers e piece) (sym of_space)
-      (points_have points (subst (λ t. ArePointsAt t numbers points) of_system are) e))
+  -- so they are its group
+  pub group_is : (group : Group) → string_bytes group.title ≡ space_text_of (space_in group) → space_in group ≡ piece.space
+      → ArePointsAt piece.system numbers group.points.items → IsGroupOf numbers piece group
+  group_is group title of_space are = record {
+    sound = record {
+      title = title;
+      space = subst IsWellFormedSpace (sym of_space) listable.space;
+      long = subst (λ f. All (λ ns. length ns ≡ coordinates_of f) group.points.items) (sym of_space) (λ i d low.
+          let columns = listable.columns in
+          let long = ((are.exact (get_or group.points.items i d)).0 (Contains-get_or group.points.items i d low)).0 in
+          omega (arith, columns, long));
+      ordered = are.ordered;
+    };
+    exact = λ e. subst (λ f. Contains (elements_in f group.points.items) e ↔ HasAt numbers e piece) (sym of_space)
+        (points_have group.points.items are e);
+  }
 
 -- what may be listed may be listed later
 pub listable_later : (g h : Gauge) (numbers : List ℤ) (pieces : List PieceView) → IsCharged g h → All (IsListable g numbers) pieces
@@ -66,8 +79,58 @@ listable_later g h numbers pieces charged all = λ i d low. (
       within = system_within_kept h g (get_or pieces i d).system (charged_bits g h charged) one.within;
       plain = one.plain;
       columns = one.columns;
-      bounded = one.bounded;
     })
+
+-- ---- fibres
+-- the fibre of a piece over the numbers
+abbrev pub IsOverPiece : Gauge → List ℤ → PieceView → List (List System) → Type 0
+IsOverPiece g numbers piece fibre = IsFibreOf g piece.system numbers fibre
+
+pub over_later : (g h : Gauge) (numbers : List ℤ) (piece : PieceView) (fibre : List (List System)) → IsCharged g h
+    → IsOverPiece g numbers piece fibre → IsOverPiece h numbers piece fibre
+over_later g h numbers piece fibre charged is = fibre_kept h g piece.system numbers fibre (charged_bits g h charged) is
+
+pub fibres_later : (g h : Gauge) (numbers : List ℤ) (pieces : List PieceView) (fibres : List (List (List System))) → IsCharged g h
+    → AreFibresOf g numbers pieces fibres → AreFibresOf h numbers pieces fibres
+fibres_later g h numbers pieces fibres charged are = record {
+  listable = listable_later g h numbers pieces charged are.listable;
+  each = AllZip-weaker (IsOverPiece g numbers) (IsOverPiece h numbers) (λ p f is. over_later g h numbers p f charged is) pieces fibres
+      are.each;
+}
+
+-- with that of one piece more
+pub fibres_more : (g : Gauge) (numbers : List ℤ) (pieces : List PieceView) (i : ℕ) (piece : PieceView)
+    (olds : List (List (List System))) (fibre : List (List System)) (news : List (List (List System))) → i < length pieces
+    → piece ≡ get_or pieces i piece → AllZip (IsOverPiece g numbers) (take i pieces) olds → IsOverPiece g numbers piece fibre
+    → news ≡ olds ++ fibre ∷ [] → AllZip (IsOverPiece g numbers) (take (i + 1) pieces) news
+fibres_more g numbers pieces i piece olds fibre news low at so_far one is =
+    subst (λ ps. AllZip (IsOverPiece g numbers) ps news) (sym (take_more pieces i piece low ∙ ap (λ p. take i pieces ++ p ∷ []) (sym at)))
+    (subst (λ fs. AllZip (IsOverPiece g numbers) (take i pieces ++ piece ∷ []) fs) (sym is)
+    (AllZip-more (IsOverPiece g numbers) (take i pieces) olds piece fibre so_far one))
+
+pub zip_long : {A B : Type 0} (R : A → B → Type 0) (xs : List A) (ys : List B) → AllZip R xs ys → length xs ≡ length ys
+zip_long R [] [] z = refl
+zip_long R [] (y ∷ ys) z = absurd z
+zip_long R (x ∷ xs) [] z = absurd z
+zip_long R (x ∷ xs) (y ∷ ys) z = ap suc (zip_long R xs ys z.1)
+
+pub zip_at : {A B : Type 0} (R : A → B → Type 0) (xs : List A) (ys : List B) (i : ℕ) (d : A) (e : B) → AllZip R xs ys → i < length xs
+    → R (get_or xs i d) (get_or ys i e)
+zip_at R [] ys i d e z low = absurd (omega arith)
+zip_at R (x ∷ xs) [] i d e z low = absurd z
+zip_at R (x ∷ xs) (y ∷ ys) zero d e z low = z.0
+zip_at R (x ∷ xs) (y ∷ ys) (suc i) d e z low = zip_at R xs ys i d e z.1 (omega arith)
+
+-- one of the pieces, and its fibre
+pub fibre_at : (g h : Gauge) (numbers : List ℤ) (pieces : List PieceView) (fibres : List (List (List System))) (i : ℕ)
+    (piece : PieceView) (fibre : List (List System)) → IsCharged g h → AreFibresOf g numbers pieces fibres → i < length pieces
+    → piece ≡ get_or pieces i piece → fibre ≡ get_or fibres i fibre → IsListable h numbers piece × IsOverPiece h numbers piece fibre
+fibre_at g h numbers pieces fibres i piece fibre charged are low at there =
+    let later = fibres_later g h numbers pieces fibres charged are in
+    let own = zip_at (IsOverPiece h numbers) pieces fibres i piece fibre later.each low in (
+      subst (IsListable h numbers) (sym at) (later.listable i piece low),
+      subst (λ p. IsOverPiece h numbers p fibre) (sym at) (subst (IsOverPiece h numbers (get_or pieces i piece)) (sym there) own),
+    )
 
 -- ---- one piece after another
 pub gathered_none : (numbers : List ℤ) (groups : List Group) → groups ≡ [] → AreGathered numbers [] groups
@@ -145,12 +208,11 @@ module _ (value flat : KeptValue) (pieces : List PieceView) (sound : All (IsPiec
     ordered = elements_ordered groups are.sound;
   }
 
--- pieces of a value that has finitely many elements may be listed
+-- the pieces of a value without definitions may be listed
 pub listable : (g : Gauge) (value : KeptValue) (pieces : List PieceView) → All (IsPieceOf value.params) pieces
     → map kept_piece pieces ≡ value.pieces → (numbers : List ℤ) (v : Valuation) → values_of value.params v ≡ numbers
-    → IsWithinLimit g value → HasNoDefinitions value → IsFiniteAt value v → All (IsListable g numbers) pieces
-listable g value pieces sound same numbers v named within none finite =
-    let bounded = (finite_value_at g value pieces sound same v numbers named).1 finite in
+    → IsWithinLimit g value → HasNoDefinitions value → All (IsListable g numbers) pieces
+listable g value pieces sound same numbers v named within none =
     let systems = pieces_within g value pieces sound same within in
     let plain = All-unmapped (λ (p : KeptPiece). p.definitions ≡ []) kept_piece pieces
     (subst (All (λ (p : KeptPiece). p.definitions ≡ [])) (sym same) none) in
@@ -162,7 +224,6 @@ listable g value pieces sound same numbers v named within none finite =
       within = systems i d low;
       plain = plain i d low;
       columns = omega (arith, free, long);
-      bounded = bounded i d low;
     })
 
 pub finite_same : (a b : KeptValue) (v : Valuation) → ((e : Element) → Has a v e ↔ Has b v e) → IsFiniteAt b v → IsFiniteAt a v

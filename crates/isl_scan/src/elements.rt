@@ -1,78 +1,87 @@
 //! The elements of a value at one valuation.
 
-ghost use Rattle.std.specs.Prelude.{◌≡◌, ◌↔◌, ◌+◌, ◌≤◌, All, Contains, IfOk, IsTrue, MatchResult, length};
+ghost use Rattle.std.specs.Prelude.{◌≡◌, ◌+◌, ◌≤◌, ℤ, List, All, IfOk, MatchOption, MatchResult, length};
 ghost use Rattle.isl_meter.specs.Gauge.{IsCharged, IsMetered};
-ghost use Rattle.isl_space.specs.Element.{Element};
+ghost use Rattle.isl_space.specs.SpaceForm.{IsWellFormedSpace};
 ghost use Rattle.isl_space.specs.Valuation.{Valuation, values_of};
+ghost use Rattle.isl_tower.specs.Bounded.{IsBoundedAt};
+ghost use Rattle.isl_points.specs.Fibre.{IsFibre, IsFibreOf};
 ghost use Rattle.isl_union.specs.Finite.{IsFiniteAt};
 ghost use Rattle.isl_union.specs.Numbers.{IsWithinLimit};
 ghost use Rattle.isl_scan.specs.Fault.{IsScanFault};
-ghost use Rattle.isl_scan.specs.Gathered.{AreGathered, HasAt, IsListable};
-ghost use Rattle.isl_scan.specs.Groups.{elements_in, elements_of, space_in, IsGroup};
+ghost use Rattle.isl_scan.specs.Gathered.{AreFibresOf, AreGathered, IsGroupOf, IsListable};
+ghost use Rattle.isl_scan.specs.Groups.{elements_of, AreGroups};
 ghost use Rattle.isl_scan.specs.Listing.{IsListingOf};
 
 use crate::group::{Group, add};
 use crate::{Listing, ScanFault};
 use isl_meter::{Cut, Meter};
 use isl_piece::Piece;
-use isl_points::points_at;
-use isl_union::{OpFault, Value};
+use isl_points::Fibre;
+use isl_union::Value;
 use std::alloc::Global;
 
-// Whether the value has finitely many elements where its parameters have these numbers.
+// The fibres of the pieces over these numbers for the parameters; none where one of the pieces has infinitely many elements there.
 #[tactic(auto, using(std::proofs::lemmas::Grind::common_steps, isl_meter::proofs::CutLemmas::charges))]
-fn is_finite(alloc: Global, value: &Value, at: &[i128], meter: &mut Meter) -> Result<bool, Cut>
-    requires within { IsWithinLimit meter.old value.now }
-    requires numbers { length at.now ≡ length value.now.params }
-    ensures exact { (valuation : Valuation) → values_of value.now.params valuation ≡ at.now
-        → IfOk result (λ finite. IsTrue finite ↔ IsFiniteAt value.now valuation) }
+fn fibres_over(
+    alloc: Global,
+    pieces: &[Piece],
+    at: &[i128],
+    meter: &mut Meter,
+) -> Result<Option<Vec<Fibre>>, Cut>
+    requires { All (IsListable meter.old at.now) pieces.now }
+    ensures exact { IfOk result (λ found. MatchOption found (¬ All (λ piece. IsBoundedAt piece.system at.now) pieces.now)
+        (λ fibres. AreFibresOf meter.old at.now pieces.now fibres.items)) }
     ensures meter { IsMetered meter.old meter.new result }
 {
-    match value.bounded_at(alloc, at, meter) {
-        Ok(finite) => Ok(finite),
-        Err(OpFault::Cut(cut)) => Err(cut),
-        Err(OpFault::TooWide) => unreachable!(),
+    let mut fibres = Vec::with_capacity(alloc, pieces.len())?;
+    for piece in pieces {
+        match Fibre::over(alloc, piece.system(), at, meter)? {
+            Some(fibre) => fibres.push(fibre)?,
+            None => return Ok(None),
+        }
     }
+    Ok(Some(fibres))
 }
 
-// The elements of the piece where the parameters have these numbers.
+// The elements of the piece whose fibre this is.
 #[tactic(auto, using(std::proofs::lemmas::Grind::common_steps, isl_meter::proofs::CutLemmas::charges))]
-fn group_at(alloc: Global, piece: &Piece, at: &[i128], meter: &mut Meter) -> Result<Group, Cut>
-    requires { IsListable meter.old at.now piece.now }
-    ensures sound { IfOk result IsGroup }
-    ensures exact { (element : Element) → IfOk result
-        (λ group. Contains (elements_in (space_in group) group.points.items) element ↔ HasAt at.now element piece.now) }
+fn group_of(alloc: Global, piece: &Piece, fibre: &Fibre, meter: &mut Meter) -> Result<Group, Cut>
+    requires space { IsWellFormedSpace piece.now.space }
+    requires fibre { IsFibre meter.old fibre.now }
+    ensures exact { (numbers : List ℤ) → IsListable meter.old numbers piece.now → IsFibreOf meter.old piece.now.system numbers fibre.now
+        → IfOk result (IsGroupOf numbers piece.now) }
     ensures counted { IfOk result (λ group. length group.points.items + meter.old.units ≤ meter.new.units) }
     ensures meter { IsMetered meter.old meter.new result }
 {
     let space = piece.space().copy()?;
     let title = space.text(alloc)?;
-    match points_at(alloc, piece.system(), at, meter)? {
-        Some(points) => Ok(Group {
-            title,
-            space,
-            points: points.into_vec(),
-        }),
-        None => unreachable!(),
-    }
+    let points = fibre.points(alloc, meter)?.into_vec();
+    Ok(Group {
+        title,
+        space,
+        points,
+    })
 }
 
-// The elements of the pieces where the parameters have these numbers.
+// The elements of the pieces whose fibres these are.
 #[tactic(auto, using(std::proofs::lemmas::Grind::common_steps, isl_meter::proofs::CutLemmas::charges))]
-fn groups_at(
+fn groups_of(
     alloc: Global,
     pieces: &[Piece],
-    at: &[i128],
+    fibres: &[Fibre],
     meter: &mut Meter,
 ) -> Result<Vec<Group>, Cut>
-    requires { All (IsListable meter.old at.now) pieces.now }
-    ensures exact { IfOk result (λ groups. AreGathered at.now pieces.now groups.items) }
+    requires { (numbers : List ℤ) × AreFibresOf meter.old numbers pieces.now fibres.now }
+    ensures sound { IfOk result (λ groups. AreGroups groups.items) }
+    ensures exact { (numbers : List ℤ) → AreFibresOf meter.old numbers pieces.now fibres.now
+        → IfOk result (λ groups. AreGathered numbers pieces.now groups.items) }
     ensures counted { IfOk result (λ groups. length (elements_of groups.items) + meter.old.units ≤ meter.new.units) }
     ensures meter { IsMetered meter.old meter.new result }
 {
     let mut groups = Vec::new(alloc);
-    for piece in pieces {
-        let group = group_at(alloc, piece, at, meter)?;
+    for i in 0..pieces.len() {
+        let group = group_of(alloc, &pieces[i], &fibres[i], meter)?;
         add(alloc, &mut groups, group)?;
     }
     Ok(groups)
@@ -102,10 +111,12 @@ pub fn scan(
     ensures meter { MatchResult result (λ _. IsCharged meter.old meter.new) (IsScanFault meter.old meter.new) }
 {
     let flat = value.flat(alloc, meter)?;
-    if !is_finite(alloc, &flat, at, meter)? {
-        return Err(ScanFault::Unbounded);
-    }
-    let groups = groups_at(alloc, flat.pieces(), at, meter)?;
+    let pieces = flat.pieces();
+    let fibres = match fibres_over(alloc, pieces, at, meter)? {
+        Some(fibres) => fibres,
+        None => return Err(ScanFault::Unbounded),
+    };
+    let groups = groups_of(alloc, pieces, fibres.as_slice(), meter)?;
     // There are no more elements than units, which 64 bits hold.
     let _units = meter.units();
     Ok(Listing { groups })

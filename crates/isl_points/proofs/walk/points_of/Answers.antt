@@ -2,7 +2,8 @@ use Rattle.std.proofs.Common.{◌≡◌, ◌+◌, ◌-◌, ◌<◌, [], arith, g
 use Rattle.std.specs.List.{All}
 use Rattle.isl_meter.proofs.CutLemmas.{IsCharged_trans, IsCharged-unit}
 use Rattle.isl_tower.specs.Level.{AreOver}
-use Rattle.isl_points.specs.Level.{AreLonger, IsEnded}
+use Rattle.isl_points.specs.Fibre.{IsEnded}
+use Rattle.isl_points.specs.Level.{AreLonger}
 use Rattle.isl_points.proofs.WalkLaws.{IsLowest, lowest_begins, lowest_count, lowest_ordered, lowest_widths, lowest_within, next_begins}
 use Rattle.isl_points.proofs.WalkLaws.{next_widths, over_charged, within_before}
 use Rattle.isl_points.proofs.walk.points_of.Goals as goal
