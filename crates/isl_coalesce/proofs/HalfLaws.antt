@@ -1,13 +1,14 @@
 -- The halves of equations, and rows that hold throughout a system.
-use Rattle.std.proofs.Common.{◌≡◌, ◌↔◌, inl, inr, refl, sym, ap, ◌∙◌, arith, ℕ, ◌<◌, ◌^◌, ℤ, pos, negsuc, neg_ℤ, ◌*ℤ◌, ◌+ℤ◌, ◌≤ℤ◌}
-use Rattle.std.proofs.Common.{List, [], ◌∷◌, All, Bool, length, unsigned_abs, suc, Result, Ok, Err}
+use Rattle.std.proofs.Common.{◌≡◌, ◌↔◌, inl, inr, refl, sym, ap, ◌∙◌, arith, subst, ℕ, ◌<◌, ◌^◌, ℤ, pos, negsuc, neg_ℤ, ◌*ℤ◌, ◌+ℤ◌, ◌≤ℤ◌}
+use Rattle.std.proofs.Common.{List, [], ◌∷◌, ◌+◌, ◌-◌, ◌≤◌, All, Any, Bool, Err, Ok, Result, get_or, length, take, unsigned_abs, suc}
 use Rattle.std.specs.Prelude.{IfOk, IsTrue}
 use Rattle.std.proofs.lemmas.Int.{ints}
-use Rattle.std.proofs.lemmas.List.{length-map}
+use Rattle.std.proofs.lemmas.List.{length-map, take_all}
 use Rattle.std.proofs.lemmas.List.Elements.{All-nil, All-cons, All-head}
 use Rattle.isl_math.specs.Dot.{dot, scaled}
 use Rattle.isl_math.proofs.Ring.{linear}
 use Rattle.isl_math.proofs.DotLaws.{dot-scaled}
+use Rattle.isl_math.proofs.ListLaws.{Any-none, Any-one, Any-parts}
 use Rattle.isl_meter.specs.Gauge.{Gauge, IsCharged, IsWithin}
 use Rattle.isl_piece.specs.declared.definition.Definition.{Definition}
 use Rattle.isl_piece.specs.declared.row.RowKind.{RowKind}
@@ -17,12 +18,15 @@ use Rattle.isl_piece.specs.declared.system.System.{System}
 use Rattle.isl_piece.specs.Definition.{with_defined}
 use Rattle.isl_piece.specs.Normal.{bound}
 use Rattle.isl_piece.specs.Row.{HasModulus, HoldsRow, HoldsValue, value_at}
-use Rattle.isl_piece.specs.System.{HoldRows, free_columns}
+use Rattle.isl_piece.specs.System.{HoldRows, HoldsSystem, free_columns}
 use Rattle.isl_piece.proofs.RowMagnitudes.{row_within_kept}
 use Rattle.isl_elim.specs.Sample.{IsNowhere}
 use Rattle.isl_difference.specs.Split.{HoldsBut}
 use Rattle.isl_difference.proofs.RowCases.{row_cases}
 use Rattle.isl_union.proofs.MeetSteps.{charged_bits}
+use Rattle.isl_elim.specs.Elimination.{HoldsAtAny}
+use Rattle.isl_assumed.specs.Left.{IsPair}
+use Rattle.isl_assumed.proofs.LeftLaws.{taken_more}
 use Rattle.isl_coalesce.specs.Found.{IsFit, IsPlain, IsTrueThroughout}
 use Rattle.isl_coalesce.specs.Parts.{halves, halves_by}
 
@@ -98,32 +102,81 @@ plain_point definitions point e = ap (λ ds. with_defined ds point) e
 pub plain_free : (s : System) → s.definitions ≡ [] → free_columns s ≡ s.columns
 plain_free s e = let n = ap (λ (ds : List Definition). length ds) e in omega (arith, n)
 
-pub throughout : (g : Gauge) (s : System) (rows : List Row) (r : Row) (b : Bool) → IsPlain g s → IsFit g s.columns r → rows ≡ r ∷ []
-    → (IsTrue b ↔ IsNowhere (free_columns s) (HoldsBut s rows)) → IsTrue b ↔ IsTrueThroughout s r
-throughout g s rows r b plain fit is h =
+-- what no point of a system makes fail is true at its points
+pub throughout : (g : Gauge) (s : System) (rows : List Row) (r : Row) → IsPlain g s → IsFit g s.columns r → rows ≡ r ∷ []
+    → IsNowhere (free_columns s) (HoldsBut s rows) ↔ IsTrueThroughout (λ point. Unit {0}) s r
+throughout g s rows r plain fit is =
     let H : List ℤ → Row → Type 0 = λ xs t. HoldsRow t xs in
     let same = λ (point : List ℤ). plain_point s.definitions point plain.definitions in
     let free = plain_free s plain.definitions in (
-      (λ t point long holds. elim (row_cases r point fit.0.modulus) [
+      (λ t point long known holds. elim (row_cases r point fit.0.modulus) [
         | inl true ↦ true
-        | inr fails ↦ absurd (h.0 t point (long ∙ sym free) (
+        | inr fails ↦ absurd (t point (long ∙ sym free) (
           holds,
           λ all.
               let one : HoldRows (r ∷ []) point = rw (is, same point) at all in
               fails (All-head (H point) r [] one),
         ))
       ]),
-      (λ true. h.1 (λ point long but.
-          but.1 (rw (is, same point) (All-cons (H point) r [] (true point (long ∙ free) but.0) (All-nil (H point)))))),
+      (λ true point long but.
+          but.1 (rw (is, same point) (All-cons (H point) r [] (true point (long ∙ free) tt but.0) (All-nil (H point))))),
     )
 
 -- the same of an answer that may be a cut
 pub throughout_answer : {E : Type 0} (g : Gauge) (s : System) (rows : List Row) (r : Row) (answer : Result Bool E) → IsPlain g s
     → IsFit g s.columns r → rows ≡ r ∷ []
     → IfOk answer (λ all. IsTrue all ↔ IsNowhere (free_columns s) (HoldsBut s rows))
-    → IfOk answer (λ all. IsTrue all ↔ IsTrueThroughout s r)
-throughout_answer g s rows r (Ok b) plain fit is h = throughout g s rows r b plain fit is h
+    → IfOk answer (λ all. IsTrue all ↔ IsTrueThroughout (λ point. Unit {0}) s r)
+throughout_answer g s rows r (Ok b) plain fit is h =
+    let t = throughout g s rows r plain fit is in
+    ((λ yes. t.0 (h.0 yes)), (λ all. h.1 (t.1 all)))
 throughout_answer g s rows r (Err e) plain fit is h = tt
+
+-- ---- what is known, one system of it after another
+-- the pair with such a system defines no column either, and is over the same ones
+module _ (g : Gauge) (names : ℕ) (s known both : System) (plain : IsPlain g s) (fits : names ≤ s.columns) (flat : known.definitions ≡ [])
+    (pair : IsPair g names (s.columns - names) s known both) where
+  pub pair_plain : IsPlain g both
+  pair_plain = record { definitions = pair.definitions plain.definitions flat; within = pair.within }
+
+  pub pair_columns : both.columns ≡ s.columns
+  pair_columns =
+      let free = plain_free both (pair.definitions plain.definitions flat) in
+      let all = pair.free in
+      omega (arith, free, all, fits)
+
+  at_pair : (point : List ℤ) → length point ≡ s.columns
+      → HoldsSystem both point ↔ (HoldsSystem s point × HoldsSystem known (take names point))
+  at_pair point long = pair.points point (omega (arith, long, fits))
+
+  module _ (systems : List System) (r : Row) where
+    abbrev K : List System → List ℤ → Type 0
+    K front = λ (point : List ℤ). HoldsAtAny front (take names point)
+
+    pub true_more : (i : ℕ) → i < length systems → known ≡ get_or systems i known → IsTrueThroughout (K (take i systems)) s r
+        → IsTrueThroughout (λ point. Unit {0}) both r → IsTrueThroughout (K (take (i + 1) systems)) s r
+    true_more i low at so_far one point long any holds =
+        let H : System → Type 0 = λ t. HoldsSystem t (take names point) in
+        elim (Any-parts H (take i systems) (known ∷ []) (subst (Any H) (taken_more systems i known low at) any)) [
+          | inl old ↦ so_far point long old holds
+          | inr new ↦ one point (long ∙ sym pair_columns) tt ((at_pair point long).1 (holds, Any-one H known new))
+        ]
+
+    pub true_one : (i : ℕ) → i < length systems → known ≡ get_or systems i known → IsTrueThroughout (K systems) s r
+        → IsTrueThroughout (λ point. Unit {0}) both r
+    true_one i low at all point long u holds =
+        let own = long ∙ pair_columns in
+        let h = (at_pair point own).0 holds in
+        all point own (i, known, low, sym at, h.1) h.0
+
+pub true_none : (names : ℕ) (s : System) (r : Row) → IsTrueThroughout (λ point. HoldsAtAny [] (take names point)) s r
+true_none names s r point long any holds = absurd (Any-none (λ t. HoldsSystem t (take names point)) any)
+
+pub true_all : (names : ℕ) (s : System) (r : Row) (systems : List System) (i : ℕ) → length systems ≤ i
+    → IsTrueThroughout (λ point. HoldsAtAny (take i systems) (take names point)) s r
+    → IsTrueThroughout (λ point. HoldsAtAny systems (take names point)) s r
+true_all names s r systems i end so_far =
+    subst (λ l. IsTrueThroughout (λ point. HoldsAtAny l (take names point)) s r) (take_all i systems end) so_far
 
 -- the limit at another time
 pub fit_later : (g h : Gauge) (columns : ℕ) (r : Row) → IsCharged g h → IsFit g columns r → IsFit h columns r

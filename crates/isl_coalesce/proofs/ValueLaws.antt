@@ -1,5 +1,5 @@
 -- Pieces put together, one after another.
-use Rattle.std.proofs.Common.{◌≡◌, ◌↔◌, refl, sym, ap, ◌∙◌, arith, subst, ℕ, suc, ◌+◌, ◌-◌, ◌^◌, ◌<◌, ◌≤◌, List, [], ◌∷◌, ◌++◌, All}
+use Rattle.std.proofs.Common.{◌≡◌, refl, sym, ap, ◌∙◌, arith, subst, ℕ, suc, ◌+◌, ◌-◌, ◌^◌, ◌<◌, ◌≤◌, List, [], ◌∷◌, ◌++◌, All}
 use Rattle.std.proofs.Common.{AllPairs}
 use Rattle.std.proofs.Common.{length, get_or, map, take, drop}
 use Rattle.std.specs.List.{remove}
@@ -9,45 +9,49 @@ use Rattle.std.proofs.lemmas.List.Elements.{All-map, All-nil, All-append, All-pu
 use Rattle.std.proofs.lemmas.List.Quantifiers.{all_pairs_push, all_pairs_remove}
 use Rattle.isl_math.proofs.ListLaws.{All-parts}
 use Rattle.isl_meter.specs.Gauge.{Gauge, IsCharged}
-use Rattle.isl_space.specs.Element.{Element}
 use Rattle.isl_space.specs.Name.{Name}
 use Rattle.isl_space.specs.Names.{IsParameterList}
 use Rattle.isl_space.specs.Valuation.{Valuation}
 use Rattle.isl_piece.specs.Piece.{PieceView}
 use Rattle.isl_piece.specs.System.{IsSystemWithin}
-use Rattle.isl_union.specs.KeptValue.{KeptPiece, KeptValue, Has, HasNoDefinitions, IsKeptValue}
+use Rattle.isl_union.specs.KeptValue.{KeptPiece, KeptValue, HasElement, HasNoDefinitions}
 use Rattle.isl_union.specs.Numbers.{IsPieceUpTo, IsWithinLimit}
 use Rattle.isl_union.specs.Piece.{kept_piece, IsPieceOf}
+use Rattle.isl_union.proofs.MeetSteps.{charged_bits}
 use Rattle.isl_union.proofs.PieceLaws.{IsKeptValue-from_pieces}
+use Rattle.isl_union.proofs.PiecesLaws.{small_before}
 use Rattle.isl_union.proofs.SystemLaws.{piece_up_to, view_is, view_within}
-use Rattle.isl_coalesce.specs.Coalesced.{IsCoalesced, IsStep, Leads}
-use Rattle.isl_coalesce.specs.Found.{AreJoined, IsJointPiece, IsPlainPiece}
-use Rattle.isl_coalesce.specs.Joint.{AreUnjoined}
+use Rattle.isl_coalesce.specs.Coalesced.{IsStep, Leads}
+use Rattle.isl_coalesce.specs.Found.{AreJoined, IsGathered, IsJointPiece, IsPlainPiece}
+use Rattle.isl_coalesce.specs.Joint.{AreUnjoined, IsJointAt}
 use Rattle.isl_coalesce.proofs.PieceLaws.{plain_earlier}
 use Rattle.isl_coalesce.proofs.StepLaws.{at_place, leads_before, leads_fewer, leads_have, leads_same, leads_step, leads_trans, map-remove}
 
 -- ---- a piece that is put to others
 -- the pieces and the one that is not yet among them are reached from the first ones, and no two of those are to be put together
-pub record AreUnderWay (g : Gauge) (params : List Name) (first pieces : List PieceView) (last : PieceView) : Type 0 where
+pub record AreUnderWay (g : Gauge) (P : Valuation → Type 0) (params : List Name) (first pieces : List PieceView) (last : PieceView) : Type 0 where
   pub fit : All (IsPlainPiece g params) pieces
   pub last_fits : IsPlainPiece g params last
-  pub leads : Leads params (map kept_piece first) (map kept_piece (pieces ++ last ∷ []))
-  pub ended : AllPairs (AreUnjoined params) (map kept_piece pieces)
+  pub leads : Leads (IsJointAt P params) (map kept_piece first) (map kept_piece (pieces ++ last ∷ []))
+  pub ended : AllPairs (AreUnjoined (IsJointAt P params)) (map kept_piece pieces)
 
-module _ (g : Gauge) (params : List Name) where
+module _ (g : Gauge) (P : Valuation → Type 0) (params : List Name) where
+  abbrev J : KeptPiece → KeptPiece → KeptPiece → Type 0
+  J = IsJointAt P params
+
   pub put_first : (pieces : List PieceView) (piece : PieceView) → All (IsPlainPiece g params) pieces → IsPlainPiece g params piece
-      → AllPairs (AreUnjoined params) (map kept_piece pieces) → AreUnderWay g params (pieces ++ piece ∷ []) pieces piece
+      → AllPairs (AreUnjoined J) (map kept_piece pieces) → AreUnderWay g P params (pieces ++ piece ∷ []) pieces piece
   put_first pieces piece fit fits ended = record {
     fit = fit;
     last_fits = fits;
-    leads = leads_same params (map kept_piece (pieces ++ piece ∷ [])) (map kept_piece (pieces ++ piece ∷ [])) refl;
+    leads = leads_same J (map kept_piece (pieces ++ piece ∷ [])) (map kept_piece (pieces ++ piece ∷ [])) refl;
     ended = ended;
   }
 
   -- the joint piece takes the place of the two
   step_of : (pieces : List PieceView) (i : ℕ) (last joint : PieceView) → i < length pieces
-      → IsJointPiece g params (get_or pieces i last) last joint
-      → IsStep params (map kept_piece (pieces ++ last ∷ [])) (map kept_piece (remove pieces i ++ joint ∷ []))
+      → IsJointPiece g P params (get_or pieces i last) last joint
+      → IsStep J (map kept_piece (pieces ++ last ∷ [])) (map kept_piece (remove pieces i ++ joint ∷ []))
   step_of pieces i last joint low joins =
       let front = take i pieces in
       let rest = drop (suc i) pieces in
@@ -78,42 +82,42 @@ module _ (g : Gauge) (params : List Name) where
       subst P (sym (get_or-drop (suc i) pieces k d)) (fit (suc i + k) d (let n = length-drop (suc i) pieces in omega (arith, l, n))))
 
   pub put_step : (first pieces : List PieceView) (i : ℕ) (last joint : PieceView) → i < length pieces
-      → IsJointPiece g params (get_or pieces i last) last joint → AreUnderWay g params first pieces last
-      → AreUnderWay g params first (remove pieces i) joint
+      → IsJointPiece g P params (get_or pieces i last) last joint → AreUnderWay g P params first pieces last
+      → AreUnderWay g P params first (remove pieces i) joint
   put_step first pieces i last joint low joins so_far = record {
     fit = all_remove pieces i low so_far.fit;
     last_fits = joins.fits;
-    leads = leads_trans params (map kept_piece first) (map kept_piece (pieces ++ last ∷ []))
+    leads = leads_trans J (map kept_piece first) (map kept_piece (pieces ++ last ∷ []))
         (map kept_piece (remove pieces i ++ joint ∷ [])) so_far.leads
-        (leads_step params (map kept_piece (pieces ++ last ∷ [])) (map kept_piece (remove pieces i ++ joint ∷ []))
+        (leads_step J (map kept_piece (pieces ++ last ∷ [])) (map kept_piece (remove pieces i ++ joint ∷ []))
         (step_of pieces i last joint low joins));
-    ended = subst (AllPairs (AreUnjoined params)) (sym (map-remove kept_piece pieces i))
-        (all_pairs_remove (AreUnjoined params) (map kept_piece pieces) i (let n = length-map pieces kept_piece in omega (arith, low, n))
+    ended = subst (AllPairs (AreUnjoined J)) (sym (map-remove kept_piece pieces i))
+        (all_pairs_remove (AreUnjoined J) (map kept_piece pieces) i (let n = length-map pieces kept_piece in omega (arith, low, n))
         so_far.ended);
   }
 
   pub put_last : (first pieces new : List PieceView) (last : PieceView) → new ≡ pieces ++ last ∷ []
-      → All (λ other. AreUnjoined params other (kept_piece last)) (map kept_piece pieces) → AreUnderWay g params first pieces last
-      → AreJoined g params first new
+      → All (λ other. AreUnjoined J other (kept_piece last)) (map kept_piece pieces) → AreUnderWay g P params first pieces last
+      → AreJoined g P params first new
   put_last first pieces new last is apart so_far = rw is (record {
     fit = All-push (IsPlainPiece g params) pieces last so_far.fit so_far.last_fits;
     leads = so_far.leads;
     ended = rw (map-append kept_piece pieces (last ∷ []))
-        (all_pairs_push (AreUnjoined params) (map kept_piece pieces) (kept_piece last) so_far.ended apart);
+        (all_pairs_push (AreUnjoined J) (map kept_piece pieces) (kept_piece last) so_far.ended apart);
   })
 
 -- ---- one piece after another
-pub joined_first : (g : Gauge) (params : List Name) → AreJoined g params [] []
-joined_first g params = record {
+pub joined_first : (g : Gauge) (P : Valuation → Type 0) (params : List Name) → AreJoined g P params [] []
+joined_first g P params = record {
   fit = All-nil (IsPlainPiece g params);
-  leads = leads_same params [] [] refl;
+  leads = leads_same (IsJointAt P params) [] [] refl;
   ended = λ i j d l m. absurd (omega (arith, m));
 }
 
-pub joined_more : (g h : Gauge) (params : List Name) (pieces : List PieceView) (i : ℕ) (piece : PieceView) (kept new : List PieceView)
-    → IsCharged g h → i < length pieces → piece ≡ get_or pieces i piece → AreJoined g params (take i pieces) kept
-    → AreJoined h params (kept ++ piece ∷ []) new → AreJoined g params (take (i + 1) pieces) new
-joined_more g h params pieces i piece kept new charged low at so_far more =
+pub joined_more : (g h : Gauge) (P : Valuation → Type 0) (params : List Name) (pieces : List PieceView) (i : ℕ) (piece : PieceView) (kept new : List PieceView)
+    → IsCharged g h → i < length pieces → piece ≡ get_or pieces i piece → AreJoined g P params (take i pieces) kept
+    → AreJoined h P params (kept ++ piece ∷ []) new → AreJoined g P params (take (i + 1) pieces) new
+joined_more g h P params pieces i piece kept new charged low at so_far more =
     let next : take (i + 1) pieces ≡ take i pieces ++ piece ∷ [] =
     take_more pieces i piece low ∙ ap (λ (x : PieceView). take i pieces ++ x ∷ []) (sym at) in
     let front = map kept_piece (take i pieces) in
@@ -121,9 +125,9 @@ joined_more g h params pieces i piece kept new charged low at so_far more =
     record {
       fit = λ n d l. plain_earlier g h params (get_or new n d) charged (more.fit n d l);
       leads = rw (next, map-append kept_piece (take i pieces) (piece ∷ []))
-          (leads_trans params (front ++ behind) (map kept_piece kept ++ behind) (map kept_piece new)
-          (leads_before params behind front (map kept_piece kept) so_far.leads)
-          (subst (λ l. Leads params l (map kept_piece new)) (map-append kept_piece kept (piece ∷ [])) more.leads));
+          (leads_trans (IsJointAt P params) (front ++ behind) (map kept_piece kept ++ behind) (map kept_piece new)
+          (leads_before (IsJointAt P params) behind front (map kept_piece kept) so_far.leads)
+          (subst (λ l. Leads (IsJointAt P params) l (map kept_piece new)) (map-append kept_piece kept (piece ∷ [])) more.leads));
       ended = more.ended;
     }
 
@@ -145,39 +149,58 @@ plain_pieces g a pieces is none within sound k d l =
     }
 
 -- all of them were put together
-pub joined_all : (g : Gauge) (a : KeptValue) (params : List Name) (pieces new : List PieceView) (i : ℕ) → params ≡ a.params
-    → length pieces ≤ i → AreJoined g params (take i pieces) new → AreJoined g a.params pieces new
-joined_all g a params pieces new i same end joined =
-    subst (λ names. AreJoined g names pieces new) same (subst (λ l. AreJoined g params l new) (take_all i pieces end) joined)
+pub joined_all : (g : Gauge) (P : Valuation → Type 0) (params : List Name) (pieces new : List PieceView) (i : ℕ) → length pieces ≤ i
+    → AreJoined g P params (take i pieces) new → AreJoined g P params pieces new
+joined_all g P params pieces new i end joined = subst (λ l. AreJoined g P params l new) (take_all i pieces end) joined
 
-pub value_made : (a value : KeptValue) (params copied : List Name) (new : List PieceView) → params ≡ a.params → copied ≡ params
-    → value ≡ record { params = copied; pieces = map kept_piece new } → value ≡ record { params = a.params; pieces = map kept_piece new }
-value_made a value params copied new same is made =
-    subst (λ (names : List Name). value ≡ record { params = names; pieces = map kept_piece new }) (is ∙ same) made
+-- the value of these pieces
+module _ (g : Gauge) (P : Valuation → Type 0) (a : KeptValue) (pieces new : List PieceView) (is : map kept_piece pieces ≡ a.pieces)
+    (names : IsParameterList a.params) (joined : AreJoined g P a.params pieces new) where
+  abbrev made : KeptValue
+  made = record { params = a.params; pieces = map kept_piece new }
 
-module _ (g : Gauge) (a value : KeptValue) (pieces new : List PieceView) (is : map kept_piece pieces ≡ a.pieces)
-    (made : value ≡ record { params = a.params; pieces = map kept_piece new }) (joined : AreJoined g a.params pieces new) where
-  leads : Leads a.params a.pieces (map kept_piece new)
-  leads = subst (λ l. Leads a.params l (map kept_piece new)) is joined.leads
+  leads : Leads (IsJointAt P a.params) a.pieces (map kept_piece new)
+  leads = subst (λ l. Leads (IsJointAt P a.params) l (map kept_piece new)) is joined.leads
 
-  pub value_kept : IsParameterList a.params → IsKeptValue value
-  value_kept names = rw made (IsKeptValue-from_pieces a.params new names (λ k d l. (joined.fit k d l).sound))
-
-  pub value_coalesced : IsCoalesced a value
-  value_coalesced = rw made (record { params = refl; leads = leads; ended = joined.ended })
-
-  pub value_has : (v : Valuation) (e : Element) → Has value v e ↔ Has a v e
-  value_has v e = rw made (leads_have a.params v e a.pieces (map kept_piece new) leads)
-
-  pub value_plain : HasNoDefinitions value
-  value_plain = rw made (All-map (λ (q : KeptPiece). q.definitions ≡ []) kept_piece new (λ k d l. (joined.fit k d l).plain.definitions))
-
-  pub value_small : IsWithinLimit g value
-  value_small = rw made (All-map (IsPieceUpTo (2 ^ g.bits - 1)) kept_piece new (λ k d l.
+  small : IsWithinLimit g made
+  small = All-map (IsPieceUpTo (2 ^ g.bits - 1)) kept_piece new (λ k d l.
       let p = get_or new k d in
       let fits = joined.fit k d l in
       piece_up_to g a.params (kept_piece p)
-      (subst (λ s. IsSystemWithin g s) (view_is a.params p fits.sound) fits.plain.within)))
+      (subst (λ s. IsSystemWithin g s) (view_is a.params p fits.sound) fits.plain.within))
 
-  pub value_fewer : length value.pieces ≤ length a.pieces
-  value_fewer = rw made (leads_fewer a.params a.pieces (map kept_piece new) leads)
+  pub gathered : IsGathered g P a made
+  gathered = record {
+    kept = IsKeptValue-from_pieces a.params new names (λ k d l. (joined.fit k d l).sound);
+    coalesced = record { params = refl; leads = leads; ended = joined.ended };
+    elements = λ v e it.
+        leads_have (IsJointAt P a.params) (HasElement a.params v e) (λ p q joint h. h.elements v e it) a.pieces (map kept_piece new) leads;
+    definitions = All-map (λ (q : KeptPiece). q.definitions ≡ []) kept_piece new (λ k d l. (joined.fit k d l).plain.definitions);
+    numbers = small;
+    few = leads_fewer (IsJointAt P a.params) a.pieces (map kept_piece new) leads;
+  }
+
+-- the value of another word for its names, under a meter after others
+pub gathered_is : (g : Gauge) (P : Valuation → Type 0) (a value : KeptValue) (params copied : List Name) (pieces new : List PieceView)
+    → params ≡ a.params → copied ≡ params → value ≡ record { params = copied; pieces = map kept_piece new }
+    → map kept_piece pieces ≡ a.pieces → IsParameterList params → AreJoined g P params pieces new → IsGathered g P a value
+gathered_is g P a value params copied pieces new same is made content names joined =
+    let at : value ≡ record { params = a.params; pieces = map kept_piece new } =
+    subst (λ (l : List Name). value ≡ record { params = l; pieces = map kept_piece new }) (is ∙ same) made in
+    rw at (gathered g P a pieces new content (subst IsParameterList same names)
+    (subst (λ (l : List Name). AreJoined g P l pieces new) same joined))
+
+-- ---- the limit at another time
+pub within_later : (g h : Gauge) (value : KeptValue) → IsCharged g h → IsWithinLimit g value → IsWithinLimit h value
+within_later g h value charged within = subst (λ (n : ℕ). All (IsPieceUpTo (2 ^ n - 1)) value.pieces) (charged_bits g h charged) within
+
+pub gathered_before : (g h : Gauge) (P : Valuation → Type 0) (a value : KeptValue) → IsCharged g h → IsGathered h P a value
+    → IsGathered g P a value
+gathered_before g h P a value charged is = record {
+  kept = is.kept;
+  coalesced = is.coalesced;
+  elements = is.elements;
+  definitions = is.definitions;
+  numbers = small_before g h value.pieces charged is.numbers;
+  few = is.few;
+}

@@ -8,6 +8,7 @@ use Rattle.isl_piece.specs.declared.row.Row.{Row}
 use Rattle.isl_piece.specs.Normal.{normal_rows}
 use Rattle.isl_piece.specs.Row.{HoldsRow}
 use Rattle.isl_union.specs.KeptValue.{KeptPiece, HasElement, point_of}
+use Rattle.isl_assumed.specs.Values.{IsDeadAt}
 use Rattle.isl_coalesce.specs.Parts.{AreParts}
 
 -- the row holds at each element that the piece has at some valuation
@@ -29,7 +30,28 @@ pub record IsJointOf (params : List Name) (p q joint : KeptPiece) : Type 0 where
   pub elements : (valuation : Valuation) (element : Element)
       → HasElement params valuation element joint ↔ (HasElement params valuation element p ⊎ HasElement params valuation element q)
 
--- the two have no joint piece, whichever of them comes first
-pub record AreUnjoined (params : List Name) (p q : KeptPiece) : Type 0 where
-  pub forth : (joint : KeptPiece) → ¬ IsJointOf params p q joint
-  pub back : (joint : KeptPiece) → ¬ IsJointOf params q p joint
+-- the row holds at each element that the piece has at a valuation of P
+abbrev pub IsTrueAt : (Valuation → Type 0) → List Name → KeptPiece → Row → Type 0
+IsTrueAt P params piece r =
+    (valuation : Valuation) (element : Element) → P valuation → HasElement params valuation element piece
+    → HoldsRow r (point_of params valuation element)
+
+-- the same where only valuations of P are looked at: what both keep there, with exactly the elements that the two have there, and some
+pub record IsJointAt (P : Valuation → Type 0) (params : List Name) (p q joint : KeptPiece) : Type 0 where
+  pub same : q.space ≡ p.space
+  pub space : joint.space ≡ p.space
+  pub definitions : joint.definitions ≡ []
+  pub first : List Row
+  pub second : List Row
+  pub own : AreParts (IsTrueAt P params q) p.rows first
+  pub others : AreParts (IsTrueAt P params p) q.rows second
+  pub rows : normal_rows (first ++ second) ≡ Some joint.rows
+  pub elements : (valuation : Valuation) (element : Element) → P valuation
+      → HasElement params valuation element joint ↔ (HasElement params valuation element p ⊎ HasElement params valuation element q)
+  pub some : ¬ IsDeadAt P params joint
+
+-- ---- none
+-- where J says when a piece is the joint piece of two: the two have none, whichever of them comes first
+pub record AreUnjoined (J : KeptPiece → KeptPiece → KeptPiece → Type 0) (p q : KeptPiece) : Type 0 where
+  pub forth : (joint : KeptPiece) → ¬ J p q joint
+  pub back : (joint : KeptPiece) → ¬ J q p joint

@@ -1,10 +1,25 @@
-use Rattle.std.proofs.Common.{◌≡◌, arith, subst}
+use Rattle.std.proofs.Common.{◌≡◌, ◌≤◌, arith, length, subst, sym}
 use Rattle.std.proofs.lemmas.Grind.{common_steps}
 use Rattle.isl_meter.proofs.CutLemmas.{IsCharged-unit}
 use Rattle.isl_union.specs.Minus.{piece_in}
-use Rattle.isl_coalesce.specs.Found.{IsJointPiece}
-use Rattle.isl_coalesce.proofs.PieceLaws.{joint_earlier, joint_is, plain_later, unjoined_pieces}
+use Rattle.isl_assumed.specs.Assumed.{Assumes}
+use Rattle.isl_piece.specs.declared.system.System.{System}
+use Rattle.isl_coalesce.specs.Found.{IsJointPiece, IsKnownOf}
+use Rattle.isl_coalesce.proofs.KnownLaws.{known_of, names_later}
+use Rattle.isl_coalesce.proofs.PieceLaws.{joint_earlier, joint_is, plain_columns, plain_later, unjoined_pieces}
 use Rattle.isl_coalesce.proofs.joint.joint_piece.Goals as goal
+
+pub joint_system-requires-clause-known : goal.joint_system-requires-clause-known
+joint_system-requires-clause-known c =
+    let g = c.args.meter.now in
+    let h = c.unit.new.self in
+    let params = c.args.params.now in
+    let p = c.args.first.now in
+    let columns = plain_columns g params p c.requires.first in
+    let few : length params ≤ p.system.columns = omega (arith, columns) in
+    let known = names_later g h params c.args.known.now (IsCharged-unit g h c.in_ok-unit.ensures.1) c.requires.known in
+    subst (λ (s : System). IsKnownOf h s.columns c.args.known.now) (sym c.system.ensures)
+    (known_of h params c.args.known.now p.system.columns few known)
 
 pub returns-in-None-clause-exact : goal.returns-in-None-clause-exact
 returns-in-None-clause-exact c =
@@ -12,7 +27,7 @@ returns-in-None-clause-exact c =
     let none = rw (c.in-None.is, c.system.ensures, c.system-2.ensures) at c.in_ok-joint_system.ensures.exact in
     unjoined_pieces c.args.meter.now c.args.params.now c.requires.names c.args.first.now c.args.second.now c.requires.first
     c.requires.second
-    space none
+    space c.args.known.now c.requires.known.over none
 
 pub returns-in_ok-new-in-Some-clause-exact : goal.returns-in_ok-new-in-Some-clause-exact
 returns-in_ok-new-in-Some-clause-exact c =
@@ -25,6 +40,6 @@ returns-in_ok-new-in-Some-clause-exact c =
     let charged = IsCharged-unit g h c.in_ok-unit.ensures.1 in
     let found = rw (c.in-Some.is, c.system.ensures, c.system-2.ensures) at c.in_ok-joint_system.ensures.exact in
     let made = joint_is h params c.requires.names p q (plain_later g h params p charged c.requires.first)
-    (plain_later g h params q charged c.requires.second) space c.in-Some.joint found in
+    (plain_later g h params q charged c.requires.second) space c.args.known.now c.requires.known.over c.in-Some.joint found in
     let is : piece_in p.space c.in-Some.joint ≡ c.in_ok-new-in-Some.field-0 = grind (arith, common_steps) in
-    joint_earlier g h params p q c.in_ok-new-in-Some.field-0 charged (subst (IsJointPiece h params p q) is made)
+    joint_earlier g h (Assumes c.args.known.now) params p q c.in_ok-new-in-Some.field-0 charged (subst (IsJointPiece h (Assumes c.args.known.now) params p q) is made)

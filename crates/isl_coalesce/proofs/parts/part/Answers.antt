@@ -1,6 +1,7 @@
 use Rattle.std.proofs.Common.{sym, subst}
 use Rattle.std.specs.List.{All}
 use Rattle.isl_coalesce.specs.Found.{IsFit}
+use Rattle.isl_coalesce.proofs.KnownLaws.{known_later}
 use Rattle.isl_coalesce.proofs.HalfLaws.{fit_later, halves_fit}
 use Rattle.isl_coalesce.proofs.parts.part.Goals as goal
 
@@ -11,3 +12,8 @@ those-requires-clause-rows c =
     let r = c.args.row.now in
     subst (All (IsFit h n)) (sym c.in_ok-halves.ensures)
     (halves_fit h n r (fit_later c.args.meter.now h n r c.in_ok-true_throughout.ensures.meter c.requires.row))
+
+pub those-requires-clause-known : goal.those-requires-clause-known
+those-requires-clause-known c =
+    known_later c.args.meter.now c.true_throughout.new.meter c.args.system.now.columns c.args.known.now
+    c.in_ok-true_throughout.ensures.meter c.requires.known

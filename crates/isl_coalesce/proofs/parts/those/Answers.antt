@@ -2,7 +2,8 @@ use Rattle.std.proofs.Common.{◌≡◌, ◌<◌, ◌++◌, [], ◌∷◌, sym, 
 use Rattle.std.proofs.lemmas.Bool.{false≢true}
 use Rattle.std.proofs.lemmas.Grind.{common_steps}
 use Rattle.isl_meter.proofs.CutLemmas.{IsCharged_trans}
-use Rattle.isl_coalesce.specs.Found.{IsTrueThroughout}
+use Rattle.isl_coalesce.specs.Found.{IsKnown, IsTrueThroughout}
+use Rattle.isl_coalesce.proofs.KnownLaws.{known_later}
 use Rattle.isl_coalesce.proofs.PartLaws.{those_left, those_taken}
 use Rattle.isl_coalesce.proofs.parts.those.Goals.{then-branch+in_ok-copy+in_ok-push, else-branch}
 use Rattle.isl_coalesce.proofs.parts.those.Goals as goal
@@ -22,11 +23,15 @@ loop-row-preserved c =
     elim c.if-branch.branch [
       | then-branch+in_ok-copy+in_ok-push w ↦
           let is : c.if-branch.kept ≡ kept ++ r ∷ [] = grind (arith, common_steps) in (
-            those_taken (IsTrueThroughout s) rows i r kept low at c.if-branch.kept is (exact.0 w.if-branch.true) c.loop-row.invariant.0,
+            those_taken (IsTrueThroughout (IsKnown c.args.known.now) s) rows i r kept low at c.if-branch.kept is (exact.0 w.if-branch.true) c.loop-row.invariant.0,
             charged,
           )
       | else-branch w ↦
-          let left = those_left (IsTrueThroughout s) rows i r kept low at (λ t. false≢true (sym w.if-branch.false ∙ exact.1 t))
+          let left = those_left (IsTrueThroughout (IsKnown c.args.known.now) s) rows i r kept low at (λ t. false≢true (sym w.if-branch.false ∙ exact.1 t))
           c.loop-row.invariant.0 in
           (rw w.kept-is left, charged)
     ]
+
+pub true_throughout-requires-clause-known : goal.true_throughout-requires-clause-known
+true_throughout-requires-clause-known c =
+    known_later c.args.meter.now c.loop-row.meter c.args.system.now.columns c.args.known.now c.loop-row.invariant.1 c.requires.known

@@ -1,10 +1,16 @@
-use Rattle.std.proofs.Common.{◌≡◌, [], ◌∷◌, arith}
-use Rattle.std.proofs.lemmas.Grind.{common_steps}
-use Rattle.isl_coalesce.proofs.HalfLaws.{throughout_answer}
+use Rattle.std.proofs.Common.{subst, sym}
+use Rattle.std.specs.Prelude.{IfOk, IsTrue, ◌↔◌}
+use Rattle.isl_assumed.specs.declared.assumed.Assumed.{Assumed}
+use Rattle.isl_coalesce.specs.Found.{IsKnown, IsTrueThroughout}
 use Rattle.isl_coalesce.proofs.parts.true_throughout.Goals as goal
 
-pub returns-clause-exact : goal.returns-clause-exact
-returns-clause-exact c =
-    let is : c.push.new.self ≡ c.args.row.now ∷ [] = grind (arith, common_steps) in
-    throughout_answer c.args.meter.now c.args.system.now c.push.new.self c.args.row.now c.hold_throughout.result c.requires.system
-    c.requires.row is c.hold_throughout.ensures.exact
+pub returns-in-Nothing-clause-exact : goal.returns-in-Nothing-clause-exact
+returns-in-Nothing-clause-exact c =
+    subst (λ (k : Assumed). IfOk c.true_in.result (λ all. IsTrue all ↔ IsTrueThroughout (IsKnown k) c.args.system.now c.args.row.now))
+    (sym c.in-Nothing.is) c.true_in.ensures.exact
+
+pub returns-in-Where-clause-exact : goal.returns-in-Where-clause-exact
+returns-in-Where-clause-exact c =
+    subst (λ (k : Assumed).
+    IfOk c.true_in_region.result (λ all. IsTrue all ↔ IsTrueThroughout (IsKnown k) c.args.system.now c.args.row.now)) (sym c.in-Where.is)
+    c.true_in_region.ensures.exact

@@ -1,8 +1,0 @@
-use Rattle.std.proofs.Common.{take}
-use Rattle.isl_meter.specs.Gauge.{IsCharged}
-use Rattle.isl_coalesce.specs.Found.{AreJoined}
-use Rattle.isl_coalesce.proofs.together.coalesce.Given as goal
-
-abbrev pub invariant-loop-piece : goal.invariant-loop-piece
-invariant-loop-piece l =
-    AreJoined l.fn.meter l.params (take l.piece-index l.pieces) l.kept.items × IsCharged l.fn.meter l.meter
