@@ -12,8 +12,12 @@ use isl_meter::{Int, Meter};
 use isl_piece::{Coefs, Row, RowKind};
 use std::alloc::{AllocError, Global};
 
-// Each number times the sign of another one.
-fn signed(alloc: Global, numbers: &[Int], by: Int, meter: &Meter) -> Result<Coefs, AllocError>
+/// Each number times the sign of another one.
+///
+/// # Errors
+///
+/// `AllocError` where memory ends.
+pub fn signed(alloc: Global, numbers: &[Int], by: Int, meter: &Meter) -> Result<Coefs, AllocError>
     requires { All (IsWithin meter.now) numbers.now }
     ensures exact { IfOk result (λ coefs. coefs ≡ scaled (sign_of by) numbers.now) }
     ensures within { IfOk result (All (IsWithin meter.now)) }

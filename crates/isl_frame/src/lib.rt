@@ -8,6 +8,6 @@ mod sum;
 mod variable;
 
 pub use context::needed;
-pub use equality::isolated;
+pub use equality::{isolated, signed};
 pub use rows::through;
 pub use variable::{own_frame, widened, with_variable};

@@ -1,0 +1,4 @@
+pub mod FormLaws
+pub mod BoundLaws
+pub mod ExprLaws
+pub mod EndsLaws

@@ -1,0 +1,4 @@
+pub mod Side
+pub mod Bound
+pub mod Directed
+pub mod Ends

@@ -1,0 +1,16 @@
+//! Bounds of loops: what rows say of the last of their columns, as expressions over the ones before it.
+#![tactic(auto)]
+
+mod bound;
+mod ends;
+mod form;
+//mod head;
+mod side;
+//mod step;
+
+pub use bound::bound_of;
+pub use ends::Ends;
+pub use form::divided;
+//pub use head::{Head, head_of};
+pub use side::Side;
+//pub use step::step_of;
