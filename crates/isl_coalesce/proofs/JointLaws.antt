@@ -187,7 +187,8 @@ either_known_answer g known region p q joint parts (Err e) is plain fits same on
 
 -- ---- what both keep
 module _ (g : Gauge) (K : List ℤ → Type 0) (p q : System) (same : q.columns ≡ p.columns) (one : IsPlain g p) (other : IsPlain g q)
-    (first second : List Row) (own : AreParts (IsTrueThroughout K q) p.rows first) (others : AreParts (IsTrueThroughout K p) q.rows second) where
+    (first second : List Row) (own : AreParts (IsTrueThroughout K q) p.rows first)
+    (others : AreParts (IsTrueThroughout K p) q.rows second) where
   abbrev H : List ℤ → Row → Type 0
   H xs = λ (r : Row). HoldsRow r xs
 

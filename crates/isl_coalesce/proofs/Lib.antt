@@ -1,3 +1,4 @@
+pub mod BeyondLaws
 pub mod HalfLaws
 pub mod JointLaws
 pub mod KnownLaws

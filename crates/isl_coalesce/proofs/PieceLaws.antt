@@ -30,9 +30,11 @@ use Rattle.isl_assumed.specs.declared.assumed.Assumed.TheVariants.{Nothing, Wher
 use Rattle.isl_assumed.specs.Assumed.{Assumes, IsOver}
 use Rattle.isl_assumed.specs.Values.{IsDeadAt}
 use Rattle.isl_assumed.proofs.ValueLaws.{front}
+use Rattle.isl_coalesce.specs.Beyond.{IsBeyond}
 use Rattle.isl_coalesce.specs.Found.{AreUnjoinedSystems, AreUnknown, IsJointPiece, IsJointSystem, IsKnown}
 use Rattle.isl_coalesce.specs.Found.{IsPlainPiece, IsTrueThroughout}
 use Rattle.isl_coalesce.specs.Joint.{AreUnjoined, IsJointAt, IsTrueAt}
+use Rattle.isl_coalesce.proofs.BeyondLaws.{carried_hold}
 use Rattle.isl_coalesce.proofs.HalfLaws.{plain_point}
 use Rattle.isl_coalesce.proofs.JointLaws.{both_moduli, in_first, in_second}
 use Rattle.isl_coalesce.proofs.PartLaws.{parts_only, parts_same}
@@ -89,7 +91,8 @@ module _ (g : Gauge) (params : List Name) (p : PieceView) (fits : IsPlainPiece g
       → IsTrueThroughout (IsKnown known) p.system r ↔ IsTrueAt (Assumes known) params (kept_piece p) r
   true_on known over distinct r = (
     (λ t v e is h.
-        t (point_of params v e) (element_long params v e p.space h.numbers h.space ∙ sym plain_columns) ((known_at known params over v e).1 is)
+        t (point_of params v e) (element_long params v e p.space h.numbers h.space ∙ sym plain_columns)
+        ((known_at known params over v e).1 is)
         h.holds),
     (λ t point l is holds.
         let long = l ∙ plain_columns in
@@ -194,6 +197,44 @@ module _ (g : Gauge) (params : List Name) (distinct : AreDistinct params) (p q :
             of_either j u.second u.first back (is ∙ h.rows) h.definitions (h.space ∙ space) turned point long it b a)
             (λ unknown. not_unknown j u.second u.first back (is ∙ h.rows) h.definitions (h.space ∙ space) h.some
             (λ point long it b a. unknown point long it a b));
+      }
+
+  -- a point of neither, at which all rows that are true on both hold
+  pub beyond_unjoined : ((point : List ℤ) → K point) → IsBeyond p.system q.system
+      → AreUnjoined (IsJointAt P params) (kept_piece p) (kept_piece q)
+  beyond_unjoined all b =
+      let in_p : (r : Row) → IsTrueAt P params (kept_piece p) r ↔ IsTrueThroughout K p.system r = λ r.
+      let t = true_on g params p one known over distinct r in (t.1, t.0) in
+      let in_q : (r : Row) → IsTrueAt P params (kept_piece q) r ↔ IsTrueThroughout K q.system r = λ r.
+      let t = true_on g params q other known over distinct r in (t.1, t.0) in
+      let on_p = parts_same (IsTrueAt P params (kept_piece p)) (IsTrueThroughout K p.system) in_p q.system.rows in
+      let on_q = parts_same (IsTrueAt P params (kept_piece q)) (IsTrueThroughout K q.system) in_q p.system.rows in
+      let holds_p = subst (HoldRows p.system.rows) (sym (plain_point p.system.definitions b.one one.plain.definitions)) b.in_first in
+      let holds_q = subst (HoldRows q.system.rows) (sym (plain_point q.system.definitions b.other other.plain.definitions)) b.in_second in
+      let at_p = λ (r : Row) (t : IsTrueThroughout K p.system r). t b.one b.one_long (all b.one) holds_p in
+      let at_q = λ (r : Row) (t : IsTrueThroughout K q.system r). t b.other (b.other_long ∙ sym same_columns) (all b.other) holds_q in
+      let first = carried_hold b.other b.point (IsTrueThroughout K q.system) at_q p.system.rows in
+      let second = carried_hold b.one b.point (IsTrueThroughout K p.system) at_p q.system.rows in
+      let no : HoldsSystem p.system b.point ⊎ HoldsSystem q.system b.point → ⊥ = λ some. elim some [
+        | inl h ↦ b.not_first (subst (HoldRows p.system.rows) (plain_point p.system.definitions b.point one.plain.definitions) h)
+        | inr h ↦ b.not_second (subst (HoldRows q.system.rows) (plain_point q.system.definitions b.point other.plain.definitions) h)
+      ] in
+      record {
+        forth = λ j h.
+            let own = on_q h.first h.own in
+            let others = on_p h.second h.others in
+            let moduli = both_moduli g K p.system q.system same_columns one.plain other.plain h.first h.second own others in
+            no (of_either j h.first h.second moduli h.rows h.definitions h.space (λ v e it. (h.elements v e it).0) b.point b.long
+            (all b.point) (first h.first b.own own) (second h.second b.others others));
+        back = λ j h.
+            let own = on_p h.first h.own in
+            let others = on_q h.second h.others in
+            let moduli = both_moduli g K q.system p.system (sym same_columns) other.plain one.plain h.first h.second own others in
+            let turned : (v : Valuation) (e : Element) → P v → HasElement params v e j
+            → HasElement params v e (kept_piece p) ⊎ HasElement params v e (kept_piece q) = λ v e it x.
+            elim ((h.elements v e it).0 x) [ inl y ↦ inr y | inr y ↦ inl y ] in
+            no (of_either j h.first h.second moduli h.rows h.definitions (h.space ∙ space) turned b.point b.long (all b.point)
+            (second h.first b.others own) (first h.second b.own others));
       }
 
   -- the piece of the joint system

@@ -29,7 +29,8 @@ use Rattle.isl_coalesce.proofs.StepLaws.{at_place, leads_before, leads_fewer, le
 
 -- ---- a piece that is put to others
 -- the pieces and the one that is not yet among them are reached from the first ones, and no two of those are to be put together
-pub record AreUnderWay (g : Gauge) (P : Valuation → Type 0) (params : List Name) (first pieces : List PieceView) (last : PieceView) : Type 0 where
+pub record AreUnderWay (g : Gauge) (P : Valuation → Type 0) (params : List Name) (first pieces : List PieceView) (last : PieceView)
+    : Type 0 where
   pub fit : All (IsPlainPiece g params) pieces
   pub last_fits : IsPlainPiece g params last
   pub leads : Leads (IsJointAt P params) (map kept_piece first) (map kept_piece (pieces ++ last ∷ []))
@@ -114,7 +115,8 @@ joined_first g P params = record {
   ended = λ i j d l m. absurd (omega (arith, m));
 }
 
-pub joined_more : (g h : Gauge) (P : Valuation → Type 0) (params : List Name) (pieces : List PieceView) (i : ℕ) (piece : PieceView) (kept new : List PieceView)
+pub joined_more : (g h : Gauge) (P : Valuation → Type 0) (params : List Name) (pieces : List PieceView) (i : ℕ) (piece : PieceView)
+    (kept new : List PieceView)
     → IsCharged g h → i < length pieces → piece ≡ get_or pieces i piece → AreJoined g P params (take i pieces) kept
     → AreJoined h P params (kept ++ piece ∷ []) new → AreJoined g P params (take (i + 1) pieces) new
 joined_more g h P params pieces i piece kept new charged low at so_far more =

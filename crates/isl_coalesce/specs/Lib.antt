@@ -1,3 +1,4 @@
+pub mod Beyond
 pub mod Coalesced
 pub mod Found
 pub mod Joint

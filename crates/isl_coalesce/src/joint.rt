@@ -12,6 +12,8 @@ ghost use Rattle.isl_coalesce.specs.Found.{AreUnjoinedSystems, HavePointsIn, IsJ
 ghost use Rattle.isl_coalesce.specs.Found.{IsOfEither, IsPlain, IsPlainPiece};
 ghost use Rattle.isl_coalesce.specs.Joint.{AreUnjoined, IsJointAt};
 
+use crate::beyond::are_seen_apart;
+use crate::candidate::Candidate;
 use crate::parts::parts;
 use isl_assumed::{Assumed, pairs};
 use isl_difference::is_covered;
@@ -117,8 +119,8 @@ fn joint_piece(
     alloc: Global,
     params: &Params,
     known: &Assumed,
-    first: &Piece,
-    second: &Piece,
+    first: &Candidate,
+    second: &Candidate,
     meter: &mut Meter,
 ) -> Result<Option<Piece>, Cut>
     requires names { AreDistinct params.now }
@@ -134,6 +136,9 @@ fn joint_piece(
         return Ok(None);
     }
     meter.unit()?;
+    if are_seen_apart(alloc, known, first, second, meter)? {
+        return Ok(None);
+    }
     match joint_system(alloc, known, first.system(), second.system(), meter)? {
         None => Ok(None),
         Some(joint) => Ok(Some(Piece::new(alloc, first.space().copy()?, joint)?)),
@@ -152,8 +157,8 @@ pub(crate) fn first_joint(
     alloc: Global,
     params: &Params,
     known: &Assumed,
-    others: &[Piece],
-    piece: &Piece,
+    others: &[Candidate],
+    piece: &Candidate,
     meter: &mut Meter,
 ) -> Result<Option<Found>, Cut>
     requires names { AreDistinct params.now }

@@ -1,6 +1,8 @@
 //! Values with as few pieces as can be put together.
 #![tactic(auto)]
 
+mod beyond;
+mod candidate;
 mod joint;
 mod parts;
 mod together;

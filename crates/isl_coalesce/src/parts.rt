@@ -28,8 +28,8 @@ fn negatives(alloc: Global, numbers: &[Int], meter: &Meter) -> Result<Coefs, All
     Ok(coefs)
 }
 
-// The halves of an equation: its form is at least 0, and at most 0. No other row has any.
-fn halves(alloc: Global, row: &Row, meter: &Meter) -> Result<Rows, AllocError>
+/// The halves of an equation: its form is at least 0, and at most 0. No other row has any.
+pub(crate) fn halves(alloc: Global, row: &Row, meter: &Meter) -> Result<Rows, AllocError>
     requires { IsRowWithin meter.now row.now }
     ensures { IfOk result (λ rows. rows ≡ halves row.now) }
 {

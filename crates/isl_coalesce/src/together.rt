@@ -14,6 +14,7 @@ ghost use Rattle.isl_coalesce.specs.Coalesced.{IsCoalesced, IsCoalescedUnder};
 ghost use Rattle.isl_coalesce.specs.Found.{AreJoined, IsGathered, IsKnownFor, IsPlainPiece};
 ghost use Rattle.isl_coalesce.specs.Joint.{AreUnjoined, IsJointAt};
 
+use crate::candidate::{Candidate, pieces_of};
 use crate::joint::first_joint;
 use isl_assumed::Assumed;
 use isl_meter::{Cut, Meter};
@@ -28,8 +29,8 @@ fn put(
     alloc: Global,
     params: &Params,
     known: &Assumed,
-    pieces: &mut Vec<Piece>,
-    piece: Piece,
+    pieces: &mut Vec<Candidate>,
+    piece: Candidate,
     meter: &mut Meter,
 ) -> Result<(), Cut>
     requires names { AreDistinct params.now }
@@ -43,7 +44,7 @@ fn put(
     let mut last = piece;
     while let Some(found) = first_joint(alloc, params, known, pieces.as_slice(), &last, meter)? {
         pieces.remove(found.at);
-        last = found.joint;
+        last.replace(found.joint);
     }
     pieces.push(last)?;
     Ok(())
@@ -65,9 +66,11 @@ fn all_together(
 {
     let mut kept = Vec::new(alloc);
     for piece in pieces {
-        put(alloc, params, known, &mut kept, piece.copy()?, meter)?;
+        let candidate = Candidate::of(alloc, piece, pieces.len(), meter)?;
+        put(alloc, params, known, &mut kept, candidate, meter)?;
     }
-    Ok(kept)
+    let together = pieces_of(alloc, kept.as_slice())?;
+    Ok(together)
 }
 
 // The value of these pieces.

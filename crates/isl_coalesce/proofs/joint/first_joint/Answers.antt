@@ -19,12 +19,13 @@ loop-at-preserved c =
     let i = c.loop-at.at in
     let low : i < length others = omega arith in
     let apart = rw c.in_default.is at c.in_ok-joint.ensures.exact in (
-      apart_next (IsJointAt (Assumes c.args.known.now) c.args.params.now) others i c.index-others-at.result (kept_piece c.args.piece.now) low c.index-others-at.is
-          c.loop-at.invariant.0 apart,
+      apart_next (IsJointAt (Assumes c.args.known.now) c.args.params.now) others i c.index-others-at.result (kept_piece c.args.piece.now)
+          low c.index-others-at.is c.loop-at.invariant.0 apart,
       IsCharged_trans c.args.meter.now c.loop-at.meter c.joint_piece.new.meter c.loop-at.invariant.1 c.in_ok-joint.ensures.meter,
     )
 
 pub returns-clause-exact : goal.returns-clause-exact
 returns-clause-exact c =
-    subst (λ l. All (λ other. AreUnjoined (IsJointAt (Assumes c.args.known.now) c.args.params.now) other (kept_piece c.args.piece.now)) (map kept_piece l))
+    let J = IsJointAt (Assumes c.args.known.now) c.args.params.now in
+    subst (λ l. All (λ other. AreUnjoined J other (kept_piece c.args.piece.now)) (map kept_piece l))
     (take_all c.loop-at.at c.args.others.now c.loop-at-test.false) c.loop-at.invariant.0

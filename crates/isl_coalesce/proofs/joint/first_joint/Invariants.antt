@@ -7,4 +7,5 @@ use Rattle.isl_coalesce.proofs.joint.first_joint.Given as goal
 
 abbrev pub invariant-loop-at : goal.invariant-loop-at
 invariant-loop-at l =
-    All (λ other. AreUnjoined (IsJointAt (Assumes l.known) l.params) other (kept_piece l.piece)) (map kept_piece (take l.at l.others)) × IsCharged l.fn.meter l.meter
+    All (λ other. AreUnjoined (IsJointAt (Assumes l.known) l.params) other (kept_piece l.piece)) (map kept_piece (take l.at l.others))
+    × IsCharged l.fn.meter l.meter

@@ -15,8 +15,8 @@ loop-row-preserved c =
     let low : i < length rows = grind (arith, common_steps) in
     let at : r ≡ get_or rows i r = grind (arith, common_steps) in
     let is : c.append.new.self ≡ kept ++ c.in_ok-part.part = grind (arith, common_steps) in (
-      parts_next (IsTrueThroughout (IsKnown c.args.known.now) c.args.system.now) rows i r kept low at c.in_ok-part.part c.append.new.self is c.in_ok-part.ensures.exact
-          c.loop-row.invariant.0,
+      parts_next (IsTrueThroughout (IsKnown c.args.known.now) c.args.system.now) rows i r kept low at c.in_ok-part.part
+          c.append.new.self is c.in_ok-part.ensures.exact c.loop-row.invariant.0,
       IsCharged_trans c.args.meter.now c.loop-row.meter c.part.new.meter c.loop-row.invariant.1 c.in_ok-part.ensures.meter,
     )
 

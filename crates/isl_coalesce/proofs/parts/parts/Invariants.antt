@@ -5,4 +5,5 @@ use Rattle.isl_coalesce.specs.Parts.{AreParts}
 use Rattle.isl_coalesce.proofs.parts.parts.Given as goal
 
 abbrev pub invariant-loop-row : goal.invariant-loop-row
-invariant-loop-row l = AreParts (IsTrueThroughout (IsKnown l.known) l.system) (take l.row-index l.rows) l.kept × IsCharged l.fn.meter l.meter
+invariant-loop-row l =
+    AreParts (IsTrueThroughout (IsKnown l.known) l.system) (take l.row-index l.rows) l.kept × IsCharged l.fn.meter l.meter

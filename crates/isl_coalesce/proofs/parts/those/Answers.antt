@@ -17,17 +17,18 @@ loop-row-preserved c =
     let kept = c.loop-row.kept in
     let low : i < length rows = grind (arith, common_steps) in
     let at : r ≡ get_or rows i r = grind (arith, common_steps) in
+    let True = IsTrueThroughout (IsKnown c.args.known.now) s in
     let exact = c.in_ok-true_throughout.ensures.exact in
     let charged = IsCharged_trans c.args.meter.now c.loop-row.meter c.true_throughout.new.meter c.loop-row.invariant.1
     c.in_ok-true_throughout.ensures.meter in
     elim c.if-branch.branch [
       | then-branch+in_ok-copy+in_ok-push w ↦
           let is : c.if-branch.kept ≡ kept ++ r ∷ [] = grind (arith, common_steps) in (
-            those_taken (IsTrueThroughout (IsKnown c.args.known.now) s) rows i r kept low at c.if-branch.kept is (exact.0 w.if-branch.true) c.loop-row.invariant.0,
+            those_taken True rows i r kept low at c.if-branch.kept is (exact.0 w.if-branch.true) c.loop-row.invariant.0,
             charged,
           )
       | else-branch w ↦
-          let left = those_left (IsTrueThroughout (IsKnown c.args.known.now) s) rows i r kept low at (λ t. false≢true (sym w.if-branch.false ∙ exact.1 t))
+          let left = those_left True rows i r kept low at (λ t. false≢true (sym w.if-branch.false ∙ exact.1 t))
           c.loop-row.invariant.0 in
           (rw w.kept-is left, charged)
     ]

@@ -76,8 +76,8 @@ loop-known-preserved c =
     let plain = plain_after g h system so_far.charged c.requires.system in
     let yes : c.in_ok-true_in.field-0 ≡ true = grind (arith, common_steps) in
     record {
-      true = true_more h (length region.params) system s c.in_ok-both.both plain c.requires.region.fits flat pair systems c.args.row.now i low
-          at so_far.true (c.in_ok-true_in.ensures.exact.0 yes);
+      true = true_more h (length region.params) system s c.in_ok-both.both plain c.requires.region.fits flat pair systems c.args.row.now
+          i low at so_far.true (c.in_ok-true_in.ensures.exact.0 yes);
       charged = IsCharged_trans g c.pair.new.meter c.true_in.new.meter
           (IsCharged_trans g h c.pair.new.meter so_far.charged c.in_ok-both.ensures.meter) c.in_ok-true_in.ensures.meter;
     }

@@ -14,7 +14,8 @@ use Rattle.isl_coalesce.proofs.ValueLaws.{gathered_before, within_later}
 use Rattle.isl_coalesce.proofs.together.coalesce.Goals as goal
 
 pub gathered-requires-clause-within : goal.gathered-requires-clause-within
-gathered-requires-clause-within c = within_later c.args.meter.now c.onto.new.meter c.args.a.now c.in_ok-known.ensures.meter c.requires.within
+gathered-requires-clause-within c =
+    within_later c.args.meter.now c.onto.new.meter c.args.a.now c.in_ok-known.ensures.meter c.requires.within
 
 pub gathered-requires-clause-known : goal.gathered-requires-clause-known
 gathered-requires-clause-known c =
@@ -49,7 +50,8 @@ returns-clause-coalesced c =
     let same = subst (λ (names : List Name). (v : Valuation) → Assumes c.in_ok-known.known v ↔ AssumesSome c.args.assumed.now names v)
     c.params.ensures.content c.in_ok-known.ensures.valuations in
     IfOk-weaker c.gathered.result (IsGathered h P a) (IsCoalescedUnder c.args.assumed.now a)
-    (λ (value : KeptValue) is. coalesced_assumed c.args.assumed.now c.in_ok-known.known a value same is.coalesced) c.gathered.ensures.gathered
+    (λ (value : KeptValue) is. coalesced_assumed c.args.assumed.now c.in_ok-known.known a value same is.coalesced)
+    c.gathered.ensures.gathered
 
 pub returns-clause-all : goal.returns-clause-all
 returns-clause-all c none =
@@ -59,7 +61,7 @@ returns-clause-all c none =
     let same = subst (λ (names : List Name). (v : Valuation) → Assumes c.in_ok-known.known v ↔ AssumesSome c.args.assumed.now names v)
     c.params.ensures.content c.in_ok-known.ensures.valuations in
     IfOk-weaker c.gathered.result (IsGathered h P a) (IsCoalesced a)
-    (λ (value : KeptValue) is. 
+    (λ (value : KeptValue) is.
     coalesced_of_all a value is.kept (subst (λ (x : Assumed). IsCoalescedUnder x a value) none
     (coalesced_assumed c.args.assumed.now c.in_ok-known.known a value same is.coalesced))) c.gathered.ensures.gathered
 

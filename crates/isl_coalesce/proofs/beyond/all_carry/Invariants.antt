@@ -1,0 +1,6 @@
+use Rattle.std.proofs.Common.{◌≡◌, All, take}
+use Rattle.isl_coalesce.specs.Beyond.{Carries}
+use Rattle.isl_coalesce.proofs.beyond.all_carry.Given as goal
+
+abbrev pub invariant-loop-row : goal.invariant-loop-row
+invariant-loop-row l = All (Carries l.from l.to) (take l.row-index l.rows) × (l.meter ≡ l.fn.meter)
