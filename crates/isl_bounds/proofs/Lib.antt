@@ -2,3 +2,4 @@ pub mod FormLaws
 pub mod BoundLaws
 pub mod ExprLaws
 pub mod EndsLaws
+pub mod StepLaws

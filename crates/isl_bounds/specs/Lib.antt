@@ -2,3 +2,4 @@ pub mod Side
 pub mod Bound
 pub mod Directed
 pub mod Ends
+pub mod Step

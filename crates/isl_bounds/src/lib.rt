@@ -6,11 +6,11 @@ mod ends;
 mod form;
 //mod head;
 mod side;
-//mod step;
+mod step;
 
 pub use bound::bound_of;
 pub use ends::Ends;
 pub use form::divided;
 //pub use head::{Head, head_of};
 pub use side::Side;
-//pub use step::step_of;
+pub use step::step_of;
