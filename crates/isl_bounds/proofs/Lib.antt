@@ -3,3 +3,4 @@ pub mod BoundLaws
 pub mod ExprLaws
 pub mod EndsLaws
 pub mod StepLaws
+pub mod HeadLaws

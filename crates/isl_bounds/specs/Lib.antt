@@ -3,3 +3,5 @@ pub mod Bound
 pub mod Directed
 pub mod Ends
 pub mod Step
+pub mod Aligned
+pub mod Head

@@ -4,13 +4,13 @@
 mod bound;
 mod ends;
 mod form;
-//mod head;
+mod head;
 mod side;
 mod step;
 
 pub use bound::bound_of;
 pub use ends::Ends;
 pub use form::divided;
-//pub use head::{Head, head_of};
+pub use head::Head;
 pub use side::Side;
 pub use step::step_of;
