@@ -1,7 +1,7 @@
 -- From what the session and the ends say to what a run has done.
-use Rattle.std.proofs.Common.{◌≡◌, ◌⊎◌, ℕ, ◌+◌, ◌-◌, ◌<◌, ◌≤◌, List, [], ◌∷◌, ◌++◌, length, take, true, false, refl, sym, ◌∙◌, ap, subst}
+use Rattle.std.proofs.Common.{◌≡◌, ◌≢◌, ◌⊎◌, ℕ, ◌+◌, ◌-◌, ◌<◌, ◌≤◌, List, [], ◌∷◌, ◌++◌, length, take, true, false, refl, sym, ◌∙◌, ap}
+use Rattle.std.proofs.Common.{subst}
 use Rattle.std.proofs.Common.{arith, Option, None, Some, Result, Ok, Err}
-use Rattle.std.specs.List.{concat}
 use Rattle.std.specs.Result.{OnOk, OnErr, IfErr}
 use mathlib.Core.Logic.{inl, inr}
 use Rattle.std.specs.Io.KnownBytes.{Appends, Consumes, IsAtEnd}
@@ -12,17 +12,21 @@ use Rattle.isl_words.specs.Options.{OptionsView}
 use Rattle.isl_values.specs.State.{Moment}
 use Rattle.isl_script.specs.Script.{statements, rest_of, readable, next_part, ends, IsBlank}
 use Rattle.isl_text.specs.declared.refusal.Refusal.{Refusal}
+use Rattle.isl_text.specs.declared.refusal.Refusal.TheVariants.{ReadFault, WriteFault}
 use Rattle.isl_eval.specs.Causes.{Refuses}
 use Rattle.isl_eval.specs.Run.{started}
 use Rattle.isl_session.specs.declared.fault.Fault.{Fault}
 use Rattle.isl_space.specs.Limits.{most_script_bytes, most_statement_bytes}
 use Rattle.isl_session.specs.Place.{Place, at_words, in_statement, too_long, past_limit, at_end, at_read, at_write, anywhere, place_of}
-use Rattle.isl_session.specs.View.{View, BreaksIn, Fed, Gives, IsMeterAt, Stopped, moment_of, opened}
+use Rattle.isl_session.specs.Outcome.{Outcome, EndsRun, RunOn, lines_from, text_of}
+use Rattle.isl_session.specs.View.{View, BreaksIn, Fed, IsMeterAt, Stopped, moment_of, opened}
 use Rattle.isl_session.specs.Status.{StatusView}
 use Rattle.isl_session.specs.Lines.{fault_line}
 use Rattle.isl_script.proofs.ScriptLaws.{rest-hold, statements-end, statements-hold}
-use Rattle.isl_session.specs.Run.{Answered, AreInFront, Ended, Halts, HasCause, IsScriptOf, OfFirst, Outside, Progress, Tells, Wrote, number_at}
-use Rattle.isl_session.proofs.RunLemmas.{fed_answered}
+use Rattle.isl_session.specs.Run.{Answered, AreInFront, Ended, Halts, HasCause, IsScriptOf, OfFirst, Outside, Progress, Tells, Wrote}
+use Rattle.isl_session.specs.Run.{first_told}
+use Rattle.isl_session.specs.Run.{number_at}
+use Rattle.isl_session.proofs.RunLemmas.{fed_passed}
 use Rattle.isl_session.proofs.AheadLemmas.{ahead_of, readable-append, statements-readable, ahead_end, ahead_full, ahead_first, ahead_long}
 
 -- what was told, unless telling failed
@@ -50,13 +54,24 @@ fault_of statement refusal = record { statement = statement; refusal = refusal }
 abbrev EndedAt : (first : Moment) (script : List ℕ) → Progress first script → List ℕ → List ℕ → Gauge → Outside → Outside → Refusal → Place
     → Type 0
 EndedAt first script progress taken gained now old new refusal place =
-    HasCause first script progress taken now old new refusal place × Wrote progress.answers gained place
-    × Tells old new (fault_line (fault_of (number_at progress.answers place) refusal)) × IsMeterAt place progress.meter now
+    HasCause first script progress taken now old new refusal place × Wrote progress.outcomes gained place
+    × Tells old new (lines_from 0 progress.outcomes ++ fault_line (fault_of (number_at progress.outcomes place) refusal))
+    × IsMeterAt place progress.meter now × EndsRun first.options refusal
+
+-- what does not come about in a statement always ends a run
+elsewhere : (options : OptionsView) (refusal : Refusal) (place : Place) → place_of refusal ≡ place → (place ≡ in_statement → ⊥)
+    → EndsRun options refusal
+elsewhere options refusal place at not is = absurd (not (sym at ∙ is))
 
 -- the moment of a session that began at another
 moment_in : (first : Moment) (view : View) → view.options ≡ first.options
     → moment_of view ≡ record { state = view.state; meter = view.meter; options = first.options }
-moment_in first view same = ap (λ (o : OptionsView). let m : Moment = record { state = view.state; meter = view.meter; options = o } in m) same
+moment_in first view same = ap (λ (o : OptionsView). let m : Moment = record {
+  state = view.state;
+  meter = view.meter;
+  options =
+      o;
+} in m) same
 
 -- A run that took this front of a script, and after which the session and its meter are so.
 module _ (first : Moment) (script : List ℕ) (old new : Outside) (status : StatusView) (session : View)
@@ -64,9 +79,11 @@ module _ (first : Moment) (script : List ℕ) (old new : Outside) (status : Stat
     (taken left : List ℕ) (script_is : script ≡ taken ++ left) (told : IsScriptOf old.left taken script)
     (took : Consumes old.left new.left taken) (few : length taken ≤ most_script_bytes + 1)
     (gained : List ℕ) (wrote : Appends old.written new.written gained) where
-  assemble : (refusal : Option Refusal) → status.refusal ≡ refusal → (progress : Progress first script)
-      → Ended first script progress taken gained session.meter old new refusal → Answered first script old new status
-  assemble refusal is progress ended = record {
+  abbrev assemble : (ending : Option Refusal) → (ending ≢ Some ReadFault → new.reads ≡ old.reads)
+      → (ending ≢ Some WriteFault → new.writes ≡ old.writes) → (progress : Progress first script)
+      → status.refusal ≡ first_told progress.outcomes ending
+      → Ended first script progress taken gained session.meter old new ending → Answered first script old new status
+  assemble ending reads writes progress is ended = record {
     taken = taken;
     left = left;
     script_is = script_is;
@@ -78,12 +95,20 @@ module _ (first : Moment) (script : List ℕ) (old new : Outside) (status : Stat
     wrote = wrote;
     meter = session.meter;
     meter_is = meter_is;
-    ended = subst (λ (r : Option Refusal). Ended first script progress taken gained session.meter old new r) (sym is) ended;
+    ending = ending;
+    ended = ended;
+    status_is = is;
+    reads = reads;
+    writes = writes;
   }
 
+  -- a run that this refusal ended
+  abbrev HaltedBy : Refusal → Type 0
+  HaltedBy refusal = (run : Answered first script old new status) × (run.ending ≡ Some refusal)
+
   -- the script was answered up to the end of a front
-  module _ (front more : List ℕ) (split : script ≡ front ++ more) (answers : List (List ℕ)) (at_front : View)
-      (fed : Fed (opened first) front answers at_front) where
+  module _ (front more : List ℕ) (split : script ≡ front ++ more) (outcomes : List Outcome) (at_front : View)
+      (fed : Fed (opened first) front outcomes at_front) where
     front_within : length front ≤ most_script_bytes
     front_within = omega (arith, fed.taken, fed.within)
 
@@ -92,28 +117,31 @@ module _ (first : Moment) (script : List ℕ) (old new : Outside) (status : Stat
       done = statements front;
       ahead = ahead_of front more;
       split = ap (λ (l : List ℕ). statements (take most_script_bytes l)) split ∙ statements-readable front more front_within;
-      answers = answers;
+      outcomes = outcomes;
       state = at_front.state;
-      run = subst (λ (m : Moment). Gives first (statements front) answers m) (moment_in first at_front fed.options) fed.run;
+      run = subst (λ (m : Moment). RunOn first (statements front) outcomes m) (moment_in first at_front fed.options) fed.run;
       meter = at_front.meter;
       carried = fed.meter;
       short = fed.short.each;
     }
 
     -- how it ended is left to say
-    halted : (refusal : Refusal) → status.refusal ≡ Some refusal → (place : Place) → place_of refusal ≡ place
-        → EndedAt first script progress taken gained session.meter old new refusal place → Answered first script old new status
-    halted refusal is place at ended =
-        assemble (Some refusal) is progress
-        (subst (λ (p : Place). EndedAt first script progress taken gained session.meter old new refusal p) (sym at) ended)
+    halted : (refusal : Refusal) → (Some refusal ≢ Some ReadFault → new.reads ≡ old.reads)
+        → (Some refusal ≢ Some WriteFault → new.writes ≡ old.writes)
+        → status.refusal ≡ first_told outcomes (Some refusal) → (place : Place) → place_of refusal ≡ place
+        → EndedAt first script progress taken gained session.meter old new refusal place → HaltedBy refusal
+    halted refusal reads writes is place at ended =
+        let here = subst (λ (p : Place). EndedAt first script progress taken gained session.meter old new refusal p) (sym at) ended in
+        (assemble (Some refusal) reads writes progress is here, refl)
 
   -- the whole script was taken and answered
-  pub answered_whole : status.refusal ≡ None → left ≡ [] → IsAtEnd new.left → (answers : List (List ℕ)) → gained ≡ concat answers
-      → Fed (opened first) taken answers session → IsBlank session.rest
+  pub answered_whole : left ≡ [] → IsAtEnd new.left → new.reads ≡ old.reads → new.writes ≡ old.writes → (outcomes : List Outcome)
+      → status.refusal ≡ first_told outcomes None → gained ≡ text_of outcomes → Tells old new (lines_from 0 outcomes)
+      → Fed (opened first) taken outcomes session → IsBlank session.rest
       → Answered first script old new status
-  answered_whole is none end answers gained_is fed blank =
+  answered_whole none end reads writes outcomes is gained_is lines fed blank =
       let whole : taken ≡ script = sym (script_is ∙ ap (λ (l : List ℕ). taken ++ l) none ∙ append-nil taken) in
-      assemble None is (progress taken left script_is answers session fed) (
+      assemble None (λ other. reads) (λ other. writes) (progress taken left script_is outcomes session fed) is (
         record {
           answered = ahead_end taken left none;
           whole = whole;
@@ -123,18 +151,22 @@ module _ (first : Moment) (script : List ℕ) (old new : Outside) (status : Stat
           end = end;
         },
         gained_is,
+        lines,
         refl,
       )
 
   -- a refusal
-  module _ (statement : ℕ) (refusal : Refusal) (status_is : status.refusal ≡ Some refusal)
-      (tells : Tells old new (fault_line (fault_of statement refusal))) where
-    line_for : (k : ℕ) → statement ≡ k → Tells old new (fault_line (fault_of k refusal))
-    line_for k is = subst (λ (n : ℕ). Tells old new (fault_line (fault_of n refusal))) is tells
+  module _ (statement : ℕ) (refusal : Refusal)
+      (reads : Some refusal ≢ Some ReadFault → new.reads ≡ old.reads)
+      (writes : Some refusal ≢ Some WriteFault → new.writes ≡ old.writes)
+      (outcomes : List Outcome) (status_is : status.refusal ≡ first_told outcomes (Some refusal))
+      (tells : Tells old new (lines_from 0 outcomes ++ fault_line (fault_of statement refusal))) where
+    line_for : (k : ℕ) → statement ≡ k → Tells old new (lines_from 0 outcomes ++ fault_line (fault_of k refusal))
+    line_for k is = subst (λ (n : ℕ). Tells old new (lines_from 0 outcomes ++ fault_line (fault_of n refusal))) is tells
 
     -- the session was refused at a byte
-    module _ (answers : List (List ℕ)) (gained_is : gained ≡ concat answers)
-        (stopped : Stopped (opened first) taken answers session (fault_of statement refusal)) where
+    module _ (gained_is : gained ≡ text_of outcomes)
+        (stopped : Stopped (opened first) taken outcomes session (fault_of statement refusal)) where
       abbrev more : List ℕ
       more = stopped.behind ++ left
 
@@ -142,24 +174,26 @@ module _ (first : Moment) (script : List ℕ) (old new : Outside) (status : Stat
       split_at = script_is ∙ ap (λ (l : List ℕ). l ++ left) stopped.split ∙ append_assoc stopped.front (stopped.byte ∷ stopped.behind) left
 
       abbrev so_far : Progress first script
-      so_far = progress stopped.front (stopped.byte ∷ more) split_at answers stopped.at_front stopped.fed
+      so_far = progress stopped.front (stopped.byte ∷ more) split_at outcomes stopped.at_front stopped.fed
 
       breaks_at : (place : Place) → place_of refusal ≡ place → BreaksIn place stopped.at_front stopped.byte session.meter refusal
       breaks_at place at = subst (λ (p : Place). BreaksIn p stopped.at_front stopped.byte session.meter refusal) at stopped.breaks
 
-      number : statement ≡ length answers + 1
-      number = omega (arith, stopped.number, fed_answered (opened first) stopped.front answers stopped.at_front stopped.fed)
+      number : statement ≡ length outcomes + 1
+      number = omega (arith, stopped.number, fed_passed (opened first) stopped.front outcomes stopped.at_front stopped.fed)
 
       halted_at : (place : Place) → place_of refusal ≡ place → HasCause first script so_far taken session.meter old new refusal place
-          → Wrote answers gained place
-          → statement ≡ number_at answers place → Answered first script old new status
+          → Wrote outcomes gained place
+          → statement ≡ number_at outcomes place → HaltedBy refusal
       halted_at place at cause written k =
-          halted stopped.front (stopped.byte ∷ more) split_at answers stopped.at_front stopped.fed refusal status_is place at (
+          halted stopped.front (stopped.byte ∷ more) split_at outcomes stopped.at_front stopped.fed refusal reads writes status_is
+          place at (
             cause,
             written,
-            line_for (number_at answers place) k,
+            line_for (number_at outcomes place) k,
             subst
                 (λ (p : Place). IsMeterAt p stopped.at_front.meter session.meter) at stopped.meter,
+            stopped.ends_run,
           )
 
       -- what is held needs no memory
@@ -176,7 +210,12 @@ module _ (first : Moment) (script : List ℕ) (old new : Outside) (status : Stat
       abbrev refused_here : View → List ℕ → Type 0
       refused_here at_front bytes =
           (length bytes ≤ most_statement_bytes)
-          × Refuses (started (record { state = at_front.state; meter = at_front.meter; options = first.options })) bytes session.meter refusal
+          × Refuses (started (record {
+            state = at_front.state;
+            meter = at_front.meter;
+            options =
+                first.options;
+          })) bytes session.meter refusal
 
       from_first : Refuses (started (moment_of stopped.at_front)) stopped.at_front.rest session.meter refusal
           → Refuses (started (record { state = stopped.at_front.state; meter = stopped.at_front.meter; options = first.options }))
@@ -211,12 +250,12 @@ module _ (first : Moment) (script : List ℕ) (old new : Outside) (status : Stat
           let here = subst (refused_here stopped.at_front) rest (stopped.fed.short.last, from_first want.1) in
           subst (OfFirst refused_next) (sym first_ahead.1) (in_front room ended, here.0, here.1)
 
-      refused_in_statement : place_of refusal ≡ in_statement → Answered first script old new status
+      refused_in_statement : place_of refusal ≡ in_statement → HaltedBy refusal
       refused_in_statement at =
           let breaks = breaks_at in_statement at in
           halted_at in_statement at (refused_first breaks.0 (breaks.1, breaks.2)) gained_is number
 
-      refused_too_long : place_of refusal ≡ too_long → Answered first script old new status
+      refused_too_long : place_of refusal ≡ too_long → HaltedBy refusal
       refused_too_long at =
           let breaks = breaks_at too_long at in
           let front = stopped.front in
@@ -227,7 +266,14 @@ module _ (first : Moment) (script : List ℕ) (old new : Outside) (status : Stat
           ap (λ (l : List ℕ). rest_of (readable l)) (sym split_at) in
           let grown = rest-hold front stopped.byte held in
           halted_at too_long at (
-            omega (arith, breaks.2, ap length rest, long, ap (λ (l : List ℕ). length (next_part (ahead_of front (stopped.byte ∷ more)) l)) same),
+            omega (
+              arith,
+              breaks.2,
+              ap length rest,
+              long,
+              ap (λ (l : List ℕ). length (next_part (ahead_of front
+                  (stopped.byte ∷ more)) l)) same,
+            ),
             (
               front ++ stopped.byte ∷ [],
               stopped.behind,
@@ -238,12 +284,12 @@ module _ (first : Moment) (script : List ℕ) (old new : Outside) (status : Stat
             ),
           ) gained_is number
 
-      refused_anywhere : place_of refusal ≡ anywhere → Answered first script old new status
+      refused_anywhere : place_of refusal ≡ anywhere → HaltedBy refusal
       refused_anywhere at =
           let breaks = breaks_at anywhere at in
           halted_at anywhere at (refused_first breaks.0 (no_want breaks.1)) gained_is number
 
-      refused_past_limit : place_of refusal ≡ past_limit → Answered first script old new status
+      refused_past_limit : place_of refusal ≡ past_limit → HaltedBy refusal
       refused_past_limit at =
           let full = breaks_at past_limit at in
           let front = stopped.front in
@@ -261,47 +307,51 @@ module _ (first : Moment) (script : List ℕ) (old new : Outside) (status : Stat
 
     -- whatever stopped it
     pub answered_up_to : (place : Place) → place_of refusal ≡ place → (IsAtEnd new.left → left ≡ [])
-        → Halts (Rose old.reads new.reads) (Rose old.writes new.writes) (IsAtEnd new.left) (opened first) taken gained session
-        (fault_of statement refusal) place → Answered first script old new status
+        → Halts (Rose old.reads new.reads) (Rose old.writes new.writes) (IsAtEnd new.left) (opened first) taken outcomes gained session
+        (fault_of statement refusal) place → HaltedBy refusal
     answered_up_to at_words at none_left h = absurd h
-    answered_up_to in_statement at none_left h = refused_in_statement h.0 h.1 h.2 at
-    answered_up_to too_long at none_left h = refused_too_long h.0 h.1 h.2 at
-    answered_up_to past_limit at none_left h = refused_past_limit h.0 h.1 h.2 at
-    answered_up_to anywhere at none_left h = refused_anywhere h.0 h.1 h.2 at
+    answered_up_to in_statement at none_left h = refused_in_statement h.0 h.1 at
+    answered_up_to too_long at none_left h = refused_too_long h.0 h.1 at
+    answered_up_to past_limit at none_left h = refused_past_limit h.0 h.1 at
+    answered_up_to anywhere at none_left h = refused_anywhere h.0 h.1 at
     answered_up_to at_read at none_left h =
-        let answers = h.2.0 in
-        let fed = h.2.2 in
-        halted taken left script_is answers session fed refusal status_is at_read at (
+        let fed = h.3 in
+        halted taken left script_is outcomes session fed refusal reads writes status_is at_read at (
           (h.0, refl, omega (arith, fed.taken, fed.within), omega (arith, fed.short.last, ap length fed.rest)),
-          h.2.1,
-          line_for (length answers + 1) (omega (arith, fed_answered (opened first) taken answers session fed, h.1)),
+          h.2,
+          line_for (length outcomes + 1) (omega (arith, fed_passed (opened first) taken outcomes session fed, h.1)),
           refl,
+          elsewhere first.options refusal at_read at (λ is. absurd (let bad : ⊥ = cc in bad)),
         )
     answered_up_to at_write at none_left h =
         let front = h.2.0 in
-        let answers = h.2.2 in
-        let fed = h.2.5 in
-        halted front (h.2.1 ++ left) (script_is ∙ ap (λ (l : List ℕ). l ++ left) h.2.3
-        ∙ append_assoc front h.2.1 left) answers session fed refusal status_is at_write at
-        (h.0, h.2.4, line_for (length answers) (omega (arith, fed_answered (opened first) front answers session fed, h.1)), refl)
+        let fed = h.2.4 in
+        halted front (h.2.1 ++ left) (script_is ∙ ap (λ (l : List ℕ). l ++ left) h.2.2
+        ∙ append_assoc front h.2.1 left) outcomes session fed refusal reads writes status_is at_write at (
+          h.0,
+          h.2.3,
+          line_for (length outcomes) (omega (arith, fed_passed (opened first) front outcomes session fed, h.1)),
+          refl,
+          elsewhere first.options refusal at_write at (λ is. absurd (let bad : ⊥ = cc in bad)),
+        )
     answered_up_to at_end at none_left h =
-        let answers = h.1.0 in
-        let before = h.1.1 in
-        let fed = h.1.3 in
+        let before = h.1.0 in
+        let fed = h.1.2 in
         let none = none_left h.0 in
         let whole : taken ≡ script = sym (script_is ∙ ap (λ (l : List ℕ). taken ++ l) none ∙ append-nil taken) in
         let rest : before.rest ≡ rest_of script = fed.rest ∙ ap rest_of whole in
-        let meter = ap (λ (v : View). v.meter) h.1.6 in
-        halted taken left script_is answers before fed refusal status_is at_end at (
+        let meter = ap (λ (v : View). v.meter) h.1.5 in
+        halted taken left script_is outcomes before fed refusal reads writes status_is at_end at (
           (
             ahead_end taken left none,
             whole,
             omega (arith, ap length whole, fed.taken, fed.within),
             h.0,
-            λ blank. h.1.4 (subst IsBlank (sym rest) blank),
+            λ blank. h.1.3 (subst IsBlank (sym rest) blank),
             omega (arith, fed.short.last, ap length rest),
           ),
-          h.1.2,
-          line_for (length answers + 1) (omega (arith, fed_answered (opened first) taken answers before fed, h.1.5)),
+          h.1.1,
+          line_for (length outcomes + 1) (omega (arith, fed_passed (opened first) taken outcomes before fed, h.1.4)),
           meter,
+          elsewhere first.options refusal at_end at (λ is. absurd (let bad : ⊥ = cc in bad)),
         )

@@ -1,5 +1,6 @@
 -- Pieces of a text that is written in turn.
-use Rattle.std.proofs.Common.{◌≡◌, ℕ, zero, suc, ◌+◌, ◌-◌, List, [], ◌∷◌, ◌++◌, length, take, drop, sym, ◌∙◌, ap, subst, arith, Option}
+use Rattle.std.proofs.Common.{◌≡◌, ℕ, zero, suc, ◌+◌, ◌-◌, List, [], ◌∷◌, ◌++◌, length, take, drop, sym, ◌∙◌, ap, subst, arith}
+use Rattle.std.proofs.Common.{append_assoc, Option}
 use Rattle.std.proofs.Common.{None, Some}
 use Rattle.std.specs.Io.KnownBytes.{Consumes, Keeps}
 use Rattle.std.proofs.lemmas.List.{take_rest}
@@ -24,3 +25,7 @@ keeps_none (Some xs) (Some ys) n buf is_zero c = sym (subst (λ (k : ℕ). xs �
 -- a text that was empty, and to which this was added
 pub text_added : (now text before added : List ℕ) → now ≡ text → text ≡ before ++ added → before ≡ [] → now ≡ added
 text_added now text before added same is none = same ∙ is ∙ ap (λ (l : List ℕ). l ++ added) none
+
+-- a text, and then another
+pub pushed : (x y z first last : List ℕ) → y ≡ x ++ first → z ≡ y ++ last → z ≡ x ++ (first ++ last)
+pushed x y z first last one two = two ∙ ap (λ (l : List ℕ). l ++ last) one ∙ append_assoc x first last

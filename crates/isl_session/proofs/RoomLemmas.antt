@@ -1,5 +1,5 @@
 -- What is only held, within the room, asks for no memory.
-use Rattle.std.proofs.Common.{◌≡◌, ◌⊎◌, ℕ, ◌<◌, ◌≤◌, List, [], ◌∷◌, ◌++◌, length, true, refl, sym, ◌∙◌, ap, arith}
+use Rattle.std.proofs.Common.{◌≡◌, ◌⊎◌, ℕ, ◌<◌, ◌≤◌, List, [], ◌∷◌, ◌++◌, length, true, sym, ◌∙◌, ap, arith}
 use mathlib.Core.Logic.{inl, inr}
 use Rattle.std.proofs.lemmas.List.{append_assoc, length-append}
 use Rattle.isl_script.specs.Script.{statements, rest_of, with_ends, ends}
@@ -9,24 +9,18 @@ use Rattle.isl_space.specs.Limits.{most_statement_bytes}
 use Rattle.isl_session.specs.Place.{Place, at_words, in_statement, too_long, past_limit, at_end, at_read, at_write, anywhere, place_of}
 use Rattle.isl_eval.specs.Causes.{Refuses}
 use Rattle.isl_eval.specs.Run.{started}
+use Rattle.isl_session.specs.Outcome.{Outcome}
 use Rattle.isl_session.specs.View.{View, BreaksIn, HasRoomFor, Stopped, moment_of}
 use Rattle.isl_session.proofs.ScriptLemmas.{statements-ended}
 use Rattle.isl_session.proofs.FedLemmas.{fed_ready}
+use Rattle.isl_session.proofs.OutcomeLemmas.{none_before, none_behind}
 
 -- bytes in which no statement ends are the rest
 rest_whole : (bytes : List ℕ) → statements bytes ≡ [] → bytes ≡ rest_of bytes
 rest_whole bytes none = (is_cut bytes).whole ∙ ap (λ (l : List (List ℕ)). with_ends l ++ rest_of bytes) none
 
-none_before : (xs ys : List (List ℕ)) → xs ++ ys ≡ [] → xs ≡ []
-none_before [] ys is = refl
-none_before (x ∷ xs) ys is = absurd (omega (arith, ap length is))
-
-none_behind : (xs ys : List (List ℕ)) → xs ++ ys ≡ [] → ys ≡ []
-none_behind [] ys is = is
-none_behind (x ∷ xs) ys is = absurd (omega (arith, ap length is))
-
-module _ (old : View) (piece : List ℕ) (answers : List (List ℕ)) (new : View) (fault : Fault)
-    (stopped : Stopped old piece answers new fault) (room : HasRoomFor old piece) where
+module _ (old : View) (piece : List ℕ) (outcomes : List Outcome) (new : View) (fault : Fault)
+    (stopped : Stopped old piece outcomes new fault) (room : HasRoomFor old piece) where
   abbrev before : List ℕ
   before = old.rest ++ stopped.front
 
@@ -52,7 +46,7 @@ module _ (old : View) (piece : List ℕ) (answers : List (List ℕ)) (new : View
 
   no_end : ends rest stopped.byte ≡ true → ⊥
   no_end is =
-      let ready = fed_ready old stopped.front answers stopped.at_front stopped.fed in
+      let ready = fed_ready old stopped.front outcomes stopped.at_front stopped.fed in
       let next = rest ++ stopped.byte ∷ [] in
       let behind = statements (rest_of next ++ stopped.behind) in
       let first : statements (rest ++ tail) ≡ rest ∷ behind =

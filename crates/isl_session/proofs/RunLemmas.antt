@@ -1,40 +1,56 @@
 -- Runs one after another, and pieces one after another.
-use Rattle.std.proofs.Common.{◌≡◌, ◌≤◌, ◌+◌, ℕ, cond, List, [], ◌∷◌, ◌++◌, length, map, refl, sym, ◌∙◌, ap, ap₂, subst, arith}
-use Rattle.std.proofs.lemmas.List.{append_assoc, length-append, length-map, map-append}
+use Rattle.std.proofs.Common.{◌≡◌, ◌≤◌, ◌+◌, ℕ, cond, List, [], ◌∷◌, ◌++◌, length, refl, sym, ◌∙◌, ap, subst, arith, Option}
+use Rattle.std.specs.Option.{option_or}
+use Rattle.std.proofs.lemmas.List.{append_assoc, length-append}
 use Rattle.std.proofs.lemmas.List.Elements.{All-append}
 use Rattle.std.proofs.lemmas.List.Sums.{sum_by-append}
 use Rattle.std.specs.Prelude.{All}
+use Rattle.isl_meter.specs.Gauge.{Gauge}
 use Rattle.isl_space.specs.Limits.{most_statement_bytes}
 use Rattle.isl_script.specs.Script.{statements, rest_of}
 use Rattle.isl_script.proofs.ScriptLaws.{statements-append, rest-append}
+use Rattle.isl_text.specs.declared.refusal.Refusal.{Refusal}
 use Rattle.isl_values.specs.State.{Moment}
 use Rattle.isl_eval.specs.Machine.{Answer}
-use Rattle.isl_eval.specs.Run.{Answers, Run, started}
+use Rattle.isl_eval.specs.Run.{Answers, started}
 use Rattle.isl_session.specs.declared.counts.Counts.{Counts}
 use Rattle.isl_session.specs.Counts.{counted}
-use Rattle.isl_session.specs.View.{View, Fed, Gives, moment_of}
-use Rattle.isl_session.proofs.MeterLemmas.{carries_trans}
+use Rattle.isl_session.specs.Outcome.{Outcome, answered, skipped, RunOn, Skips, answers_of, first_skip, skips_of}
+use Rattle.isl_session.specs.View.{View, Fed, moment_of, passed}
+use Rattle.isl_session.proofs.MeterLemmas.{carried_by}
+use Rattle.isl_session.proofs.OutcomeLemmas.{answers_of-append, first_skip-append, length_parts, option_or_assoc, skips_of-append}
 
-abbrev bytes_of : List Answer → List (List ℕ)
-bytes_of answers = map (λ answer. answer.bytes) answers
-
-pub no_run : (moment : Moment) → Run moment [] [] moment
-unfolding Run
+pub no_run : (moment : Moment) → RunOn moment [] [] moment
+unfolding RunOn
 no_run moment = refl
 
 pub one_run : (before : Moment) (bytes : List ℕ) (answer : Answer) (after : Moment) → Answers (started before) bytes after answer
-    → Run before (bytes ∷ []) (answer ∷ []) after
-unfolding Run
+    → RunOn before (bytes ∷ []) (answered answer ∷ []) after
+unfolding RunOn
 one_run before bytes answer after one = (after, one, refl)
 
-pub Run-append : (first : Moment) (xs : List (List ℕ)) (ps : List Answer) (middle : Moment) (ys : List (List ℕ)) (qs : List Answer)
+pub one_skip : (before : Moment) (bytes : List ℕ) (refusal : Refusal) (now : Gauge) → Skips before bytes refusal now
+    → RunOn before (bytes ∷ []) (skipped refusal ∷ []) (record before { meter = now })
+unfolding RunOn
+one_skip before bytes refusal now one = (now, one, refl)
+
+pub RunOn-append : (first : Moment) (xs : List (List ℕ)) (ps : List Outcome) (middle : Moment) (ys : List (List ℕ)) (qs : List Outcome)
     (last : Moment)
-    → Run first xs ps middle → Run middle ys qs last → Run first (xs ++ ys) (ps ++ qs) last
-unfolding Run
-Run-append first [] [] middle ys qs last one two = subst (λ (m : Moment). Run m ys qs last) one two
-Run-append first (x ∷ xs) (p ∷ ps) middle ys qs last one two = (one.0, one.1, Run-append one.0 xs ps middle ys qs last one.2 two)
-Run-append first [] (p ∷ ps) middle ys qs last one two = absurd one
-Run-append first (x ∷ xs) [] middle ys qs last one two = absurd one
+    → RunOn first xs ps middle → RunOn middle ys qs last → RunOn first (xs ++ ys) (ps ++ qs) last
+unfolding RunOn
+RunOn-append first [] [] middle ys qs last one two = subst (λ (m : Moment). RunOn m ys qs last) one two
+RunOn-append first (x ∷ xs) (answered p ∷ ps) middle ys qs last one two =
+    (one.0, one.1, RunOn-append one.0 xs ps middle ys qs last one.2 two)
+RunOn-append first (x ∷ xs) (skipped p ∷ ps) middle ys qs last one two =
+    (one.0, one.1, RunOn-append (record first { meter = one.0 }) xs ps middle ys qs last one.2 two)
+RunOn-append first [] (p ∷ ps) middle ys qs last one two = absurd one
+RunOn-append first (x ∷ xs) [] middle ys qs last one two = absurd one
+
+-- the same outcomes, of these parts and up to this moment
+pub run_as : (first : Moment) (xs ys : List (List ℕ)) (ps : List Outcome) (last now : Moment) → xs ≡ ys → last ≡ now
+    → RunOn first xs ps last → RunOn first ys ps now
+run_as first xs ys ps last now parts at run =
+    subst (λ (l : List (List ℕ)). RunOn first l ps now) parts (subst (λ (m : Moment). RunOn first xs ps m) at run)
 
 abbrev counts_of : (statements trues elements : ℕ) → Counts
 counts_of statements trues elements = record { statements = statements; trues = trues; elements = elements }
@@ -43,32 +59,6 @@ pub counts_are : (a b : Counts) → a.statements ≡ b.statements → a.trues �
 counts_are a b same trues elements =
     ap (λ (n : ℕ). counts_of n a.trues a.elements) same ∙ ap (λ (n : ℕ). counts_of b.statements n a.elements) trues
     ∙ ap (λ (n : ℕ). counts_of b.statements b.trues n) elements
-
-abbrev pub gives_none : (moment : Moment) → Gives moment [] [] moment
-gives_none moment = record { answers = []; run = no_run moment; written = refl }
-
-abbrev pub gives_one : (before : Moment) (bytes : List ℕ) (answer : Answer) (after : Moment) → Answers (started before) bytes after answer
-    → Gives before (bytes ∷ []) (answer.bytes ∷ []) after
-gives_one before bytes answer after one = record { answers = answer ∷ []; run = one_run before bytes answer after one; written = refl }
-
-abbrev pub Gives-append : (first : Moment) (xs ps : List (List ℕ)) (middle : Moment) (ys qs : List (List ℕ)) (last : Moment)
-    → Gives first xs ps middle → Gives middle ys qs last → Gives first (xs ++ ys) (ps ++ qs) last
-Gives-append first xs ps middle ys qs last one two = record {
-  answers = one.answers ++ two.answers;
-  run = Run-append first xs one.answers middle ys two.answers last one.run two.run;
-  written = ap₂ (λ (a b : List (List ℕ)). a ++ b) one.written two.written
-      ∙ sym (map-append (λ (answer : Answer). answer.bytes) one.answers two.answers);
-}
-
--- the same answers, of these parts and up to this moment
-abbrev pub gives_as : (first : Moment) (xs ys ps : List (List ℕ)) (last now : Moment) → xs ≡ ys → last ≡ now → Gives first xs ps last
-    → Gives first ys ps now
-gives_as first xs ys ps last now parts at gives = record {
-  answers = gives.answers;
-  run = subst (λ (l : List (List ℕ)). Run first l gives.answers now) parts
-      (subst (λ (m : Moment). Run first xs gives.answers m) at gives.run);
-  written = gives.written;
-}
 
 -- what is counted, one run after another
 pub counted-append : (counts : Counts) (xs ys : List Answer) → counted (counted counts xs) ys ≡ counted counts (xs ++ ys)
@@ -84,7 +74,7 @@ abbrev pub IsFew : List ℕ → Type 0
 IsFew part = length part ≤ most_statement_bytes
 
 -- a piece, and then another
-pub Fed-append : (a : View) (x : List ℕ) (ps : List (List ℕ)) (b : View) (y : List ℕ) (qs : List (List ℕ)) (c : View) → Fed a x ps b
+pub Fed-append : (a : View) (x : List ℕ) (ps : List Outcome) (b : View) (y : List ℕ) (qs : List Outcome) (c : View) → Fed a x ps b
     → Fed b y qs c → Fed a (x ++ y) (ps ++ qs) c
 Fed-append a x ps b y qs c first second =
     let joined : statements (a.rest ++ (x ++ y)) ≡ statements (a.rest ++ x) ++ statements (b.rest ++ y) =
@@ -92,11 +82,13 @@ Fed-append a x ps b y qs c first second =
     ∙ ap (λ (r : List ℕ). statements (a.rest ++ x) ++ statements (r ++ y)) (sym first.rest) in
     let left : rest_of (a.rest ++ (x ++ y)) ≡ rest_of (b.rest ++ y) =
     ap rest_of (sym (append_assoc a.rest x y)) ∙ rest-append (a.rest ++ x) y ∙ ap (λ (r : List ℕ). rest_of (r ++ y)) (sym first.rest) in
+    let run : RunOn (moment_of a) (statements (a.rest ++ (x ++ y))) (ps ++ qs) (moment_of c) =
+    run_as (moment_of a) (statements (a.rest ++ x) ++ statements (b.rest ++ y)) (statements (a.rest ++ (x ++ y))) (ps ++ qs)
+    (moment_of c) (moment_of c) (sym joined) refl
+    (RunOn-append (moment_of a) (statements (a.rest ++ x)) ps (moment_of b) (statements (b.rest ++ y)) qs
+    (moment_of c) first.run second.run) in
     record {
-      run = gives_as (moment_of a) (statements (a.rest ++ x) ++ statements (b.rest ++ y)) (statements (a.rest ++ (x ++ y))) (ps ++ qs)
-          (moment_of c) (moment_of c) (sym joined) refl
-          (Gives-append (moment_of a) (statements (a.rest ++ x)) ps (moment_of b) (statements (b.rest ++ y)) qs
-          (moment_of c) first.run second.run);
+      run = run;
       rest = second.rest ∙ sym left;
       short = record {
         each = subst (All IsFew) (sym joined) (All-append IsFew (statements (a.rest ++ x))
@@ -105,21 +97,18 @@ Fed-append a x ps b y qs c first second =
       };
       taken = omega (arith, first.taken, second.taken, length-append x y);
       within = second.within;
-      counts = second.counts ∙ ap (λ (n : Counts). counted n second.run.answers) first.counts
-          ∙ counted-append a.counts first.run.answers second.run.answers;
+      counts = second.counts ∙ ap (λ (n : Counts). counted n (answers_of qs)) first.counts
+          ∙ counted-append a.counts (answers_of ps) (answers_of qs) ∙ ap (counted a.counts) (sym (answers_of-append ps qs));
+      skips = omega (arith, first.skips, second.skips, ap length (skips_of-append ps qs), length-append (skips_of ps) (skips_of qs));
+      first = second.first ∙ ap (λ (o : Option Refusal). option_or o (first_skip qs)) first.first
+          ∙ option_or_assoc a.first (first_skip ps) (first_skip qs)
+          ∙ ap (λ (o : Option Refusal). option_or a.first o) (sym (first_skip-append ps qs));
       sound = second.sound;
-      meter = carries_trans a.meter b.meter c.meter first.meter second.meter;
+      meter = carried_by (moment_of a) (statements (a.rest ++ (x ++ y))) (ps ++ qs) (moment_of c) run;
       room = omega (arith, first.room, second.room);
       options = second.options ∙ first.options;
     }
 
--- each statement of a piece that is answered is counted
-pub fed_answered : (a : View) (x : List ℕ) (ps : List (List ℕ)) (b : View) → Fed a x ps b
-    → b.counts.statements ≡ a.counts.statements + length ps
-fed_answered a x ps b fed =
-    omega (
-      arith,
-      ap (λ (n : Counts). n.statements) fed.counts,
-      ap length fed.run.written,
-      length-map fed.run.answers (λ (answer : Answer). answer.bytes),
-    )
+-- each statement of a piece is answered or skipped, and counted
+pub fed_passed : (a : View) (x : List ℕ) (ps : List Outcome) (b : View) → Fed a x ps b → passed b ≡ passed a + length ps
+fed_passed a x ps b fed = omega (arith, ap (λ (n : Counts). n.statements) fed.counts, fed.skips, length_parts ps)

@@ -1,9 +1,11 @@
 pub mod Counts
 pub mod Lines
+pub mod Outcome
 pub mod Place
 pub mod Run
 pub mod Session
 pub mod Status
+pub mod StencilRun
 pub mod Valid
 pub mod View
 pub use Rattle.isl_eval.specs.Causes
@@ -12,4 +14,5 @@ pub use Rattle.isl_values.specs.State
 pub use Rattle.isl_io.specs.Outside
 pub use Rattle.isl_script.specs.Script
 pub use Rattle.isl_space.specs.Limits
+pub use Rattle.isl_stencil.specs.Stencil
 pub use Rattle.isl_text.specs.Refusal

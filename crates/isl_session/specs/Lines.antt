@@ -6,10 +6,17 @@ use Rattle.isl_words.specs.declared.fault.WordsFault.TheVariants as words
 use Rattle.isl_text.specs.declared.refusal.Refusal.{Refusal}
 use Rattle.isl_text.specs.declared.refusal.Refusal.TheVariants.{NoMemory, Usage}
 use Rattle.isl_text.specs.Refusal.{text_of}
+use Rattle.isl_session.specs.declared.counts.Counts.{Counts}
 use Rattle.isl_session.specs.declared.fault.Fault.{Fault}
 
 abbrev pub fault_line : Fault → List ℕ
 fault_line fault = codes "iscc: statement " ++ decimal fault.statement ++ codes ": " ++ text_of fault.refusal ++ 10 ∷ []
+
+-- how much was answered
+abbrev pub summary_line : Counts → List ℕ
+summary_line counts =
+    codes "statements " ++ decimal counts.statements ++ codes ", true " ++ decimal counts.trues ++ codes ", elements "
+    ++ decimal counts.elements ++ 10 ∷ []
 
 abbrev pub usage_line : List ℕ
 usage_line = text_of Usage ++ 10 ∷ []

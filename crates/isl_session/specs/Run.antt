@@ -1,53 +1,54 @@
 -- public: how a run over a whole script ends, and what it leaves.
-use Rattle.std.specs.Prelude.{◌≡◌, ℕ, ◌+◌, ◌<◌, ◌≤◌, List, [], ◌∷◌, ◌++◌, All, length, take, Option, Some, None}
-use Rattle.std.specs.List.{concat}
+use Rattle.std.specs.Prelude.{◌≡◌, ◌≢◌, ℕ, ◌+◌, ◌<◌, ◌≤◌, List, [], ◌∷◌, ◌++◌, All, length, take, Option, Some, None}
+use Rattle.std.specs.Option.{option_or}
 use Rattle.std.specs.Io.KnownBytes.{Appends, Consumes, IsAtEnd}
 use Rattle.isl_math.specs.Count.{Rose}
 use Rattle.isl_meter.specs.Gauge.{Gauge}
 use Rattle.isl_script.specs.Script.{statements, rest_of, readable, next_part, IsBlank}
 use Rattle.isl_text.specs.declared.refusal.Refusal.{Refusal}
+use Rattle.isl_text.specs.declared.refusal.Refusal.TheVariants.{ReadFault, WriteFault}
 use Rattle.isl_values.specs.State.{StateView, Moment}
 use Rattle.isl_eval.specs.Causes.{Refuses}
+use Rattle.isl_eval.specs.Machine.{Answer}
 use Rattle.isl_eval.specs.Run.{started}
 use Rattle.isl_session.specs.declared.fault.Fault.{Fault}
 use Rattle.isl_space.specs.Limits.{most_script_bytes, most_statement_bytes}
 use Rattle.isl_session.specs.Place.{Place, at_words, in_statement, too_long, past_limit, at_end, at_read, at_write, anywhere, place_of}
-use Rattle.isl_session.specs.View.{View, Carries, Fed, Gives, IsMeterAt, Stopped}
+use Rattle.isl_session.specs.Outcome.{Outcome, answered, Carries, EndsRun, RunOn, first_skip, lines_from, text_of}
+use Rattle.isl_session.specs.View.{View, Fed, IsMeterAt, Stopped, passed}
 use Rattle.isl_session.specs.Status.{StatusView}
 use Rattle.isl_session.specs.Lines.{fault_line}
 
--- The answers of a run, of which the last did not go out whole: this much was written.
-pub record IsCutShort (answers : List (List ℕ)) (gained : List ℕ) : Type 0 where
-  pub earlier : List (List ℕ)
-  pub final : List ℕ
-  pub split : answers ≡ earlier ++ final ∷ []
+-- What comes of a run's statements, of which the last is answered and did not go out whole: this much was written.
+pub record IsCutShort (outcomes : List Outcome) (gained : List ℕ) : Type 0 where
+  pub earlier : List Outcome
+  pub final : Answer
+  pub split : outcomes ≡ earlier ++ answered final ∷ []
   pub count : ℕ
-  pub short : count < length final
-  pub is : gained ≡ concat earlier ++ take count final
+  pub short : count < length final.bytes
+  pub is : gained ≡ text_of earlier ++ take count final.bytes
 
 -- a session was refused at a byte, and wrote what it had answered
-abbrev pub StopsIn : View → List ℕ → List ℕ → View → Fault → Type 0
-StopsIn old taken gained new fault = (answers : List (List ℕ)) × (gained ≡ concat answers) × Stopped old taken answers new fault
+abbrev pub StopsIn : View → List ℕ → List Outcome → List ℕ → View → Fault → Type 0
+StopsIn old taken outcomes gained new fault = (gained ≡ text_of outcomes) × Stopped old taken outcomes new fault
 
--- Between the session and the outside: how the session ends while these bytes are taken and this much is written, by the place of
--- the refusal. The first three say that a read failed, that a write failed, and that nothing is left to read.
-abbrev pub Halts : Type 0 → Type 0 → Type 0 → View → List ℕ → List ℕ → View → Fault → Place → Type 0
-Halts read_failed write_failed ended old taken gained new fault at_words = ⊥
-Halts read_failed write_failed ended old taken gained new fault at_read =
-    read_failed × (fault.statement ≡ new.counts.statements + 1)
-    × ((answers : List (List ℕ)) × (gained ≡ concat answers) × Fed old taken answers new)
-Halts read_failed write_failed ended old taken gained new fault at_write =
-    write_failed × (fault.statement ≡ new.counts.statements)
-    × ((front : List ℕ) × (behind : List ℕ) × (answers : List (List ℕ)) × (taken ≡ front ++ behind) × IsCutShort answers gained
-    × Fed old front answers new)
-Halts read_failed write_failed ended old taken gained new fault at_end =
+-- Between the session and the outside: how the session ends while these bytes are taken, this comes of their statements and this much is
+-- written, by the place of the refusal. The first three say that a read failed, that a write failed, and that nothing is left to read.
+abbrev pub Halts : Type 0 → Type 0 → Type 0 → View → List ℕ → List Outcome → List ℕ → View → Fault → Place → Type 0
+Halts read_failed write_failed ended old taken outcomes gained new fault at_words = ⊥
+Halts read_failed write_failed ended old taken outcomes gained new fault at_read =
+    read_failed × (fault.statement ≡ passed new + 1) × (gained ≡ text_of outcomes) × Fed old taken outcomes new
+Halts read_failed write_failed ended old taken outcomes gained new fault at_write =
+    write_failed × (fault.statement ≡ passed new)
+    × ((front : List ℕ) × (behind : List ℕ) × (taken ≡ front ++ behind) × IsCutShort outcomes gained × Fed old front outcomes new)
+Halts read_failed write_failed ended old taken outcomes gained new fault at_end =
     ended
-    × ((answers : List (List ℕ)) × (before : View) × (gained ≡ concat answers) × Fed old taken answers before × (¬ IsBlank before.rest)
-    × (fault.statement ≡ before.counts.statements + 1) × (new ≡ record before { fault = Some fault }))
-Halts read_failed write_failed ended old taken gained new fault in_statement = StopsIn old taken gained new fault
-Halts read_failed write_failed ended old taken gained new fault too_long = StopsIn old taken gained new fault
-Halts read_failed write_failed ended old taken gained new fault past_limit = StopsIn old taken gained new fault
-Halts read_failed write_failed ended old taken gained new fault anywhere = StopsIn old taken gained new fault
+    × ((before : View) × (gained ≡ text_of outcomes) × Fed old taken outcomes before × (¬ IsBlank before.rest)
+    × (fault.statement ≡ passed before + 1) × (new ≡ record before { fault = Some fault }))
+Halts read_failed write_failed ended old taken outcomes gained new fault in_statement = StopsIn old taken outcomes gained new fault
+Halts read_failed write_failed ended old taken outcomes gained new fault too_long = StopsIn old taken outcomes gained new fault
+Halts read_failed write_failed ended old taken outcomes gained new fault past_limit = StopsIn old taken outcomes gained new fault
+Halts read_failed write_failed ended old taken outcomes gained new fault anywhere = StopsIn old taken outcomes gained new fault
 
 -- The two ends of a program, and where it tells of a fault, as one moment sees them.
 pub record Outside : Type 0 where
@@ -71,17 +72,17 @@ outside left reads written writes told tells = record {
   tells = tells;
 }
 
--- How far a script was answered: its statements one after another, up to those that are ahead.
+-- How far a script was gone through: its statements one after another, up to those that are ahead.
 pub record Progress (first : Moment) (script : List ℕ) : Type 0 where
   pub done : List (List ℕ)
   pub ahead : List (List ℕ)
   pub split : statements (readable script) ≡ done ++ ahead
-  pub answers : List (List ℕ)
+  pub outcomes : List Outcome
   pub state : StateView
   -- the meter behind them
   pub meter : Gauge
-  pub run : Gives first done answers (record { state = state; meter = meter; options = first.options })
-  pub carried : Carries first.meter meter
+  pub run : RunOn first done outcomes (record { state = state; meter = meter; options = first.options })
+  pub carried : Carries first.meter outcomes meter
   pub short : All (λ part. length part ≤ most_statement_bytes) done
 
 -- the first of these statements has P
@@ -137,37 +138,47 @@ pub record IsDone (script : List ℕ) (ahead : List (List ℕ)) (taken : List �
   pub end : IsAtEnd new.left
 
 -- what was written of the answers: all of them, or where a write failed all but a part of the last
-abbrev pub Wrote : List (List ℕ) → List ℕ → Place → Type 0
-Wrote answers gained at_write = IsCutShort answers gained
-Wrote answers gained place = gained ≡ concat answers
+abbrev pub Wrote : List Outcome → List ℕ → Place → Type 0
+Wrote outcomes gained at_write = IsCutShort outcomes gained
+Wrote outcomes gained place = gained ≡ text_of outcomes
 
--- The number of the statement that a refusal speaks of. A failed write speaks of the first whose answer did not go out whole,
--- another refusal of the first that was not answered.
-abbrev pub number_at : List (List ℕ) → Place → ℕ
-number_at answers at_write = length answers
-number_at answers place = length answers + 1
+-- The number of the statement that the refusal speaks of which ends a run. A failed write speaks of the first whose answer did not go
+-- out whole, another refusal of the first that was neither answered nor skipped.
+abbrev pub number_at : List Outcome → Place → ℕ
+number_at outcomes at_write = length outcomes
+number_at outcomes place = length outcomes + 1
 
--- this line was told, unless telling failed
+-- these lines were told, unless telling failed
+abbrev pub Told : Option (List ℕ) → ℕ → Option (List ℕ) → ℕ → List ℕ → Type 0
+Told told tells told_now tells_now lines = ¬ (Rose tells tells_now) → Appends told told_now lines
+
 abbrev pub Tells : Outside → Outside → List ℕ → Type 0
-Tells old new line = ¬ (Rose old.tells new.tells) → Appends old.told new.told line
+Tells old new lines = Told old.told old.tells new.told new.tells lines
 
 -- Why a run ended, what it wrote and what it told, and the meter as it left it.
 abbrev pub Ended : (first : Moment) (script : List ℕ) → Progress first script
     → List ℕ → List ℕ → Gauge → Outside → Outside → Option Refusal → Type 0
 Ended first script progress taken gained now old new None =
-    IsDone script progress.ahead taken new × (gained ≡ concat progress.answers) × (now ≡ progress.meter)
+    IsDone script progress.ahead taken new × (gained ≡ text_of progress.outcomes) × Tells old new (lines_from 0 progress.outcomes)
+    × (now ≡ progress.meter)
 Ended first script progress taken gained now old new (Some refusal) =
-    HasCause first script progress taken now old new refusal (place_of refusal) × Wrote progress.answers gained (place_of refusal)
-    × Tells old new (fault_line (record { statement = number_at progress.answers (place_of refusal); refusal = refusal }))
-    × IsMeterAt (place_of refusal) progress.meter now
+    HasCause first script progress taken now old new refusal (place_of refusal) × Wrote progress.outcomes gained (place_of refusal)
+    × Tells old new (lines_from 0 progress.outcomes
+    ++ fault_line (record { statement = number_at progress.outcomes (place_of refusal); refusal = refusal }))
+    × IsMeterAt (place_of refusal) progress.meter now × EndsRun first.options refusal
+
+-- the refusal of the first line that is told, or none where no line is: that of the first statement that was skipped, else what ended
+-- the run
+abbrev pub first_told : List Outcome → Option Refusal → Option Refusal
+first_told outcomes ending = option_or (first_skip outcomes) ending
 
 -- the script is what the source tells that it has left; of a source that does not tell, it is what was read
 abbrev pub IsScriptOf : Option (List ℕ) → List ℕ → List ℕ → Type 0
 IsScriptOf None taken script = script ≡ taken
 IsScriptOf (Some bytes) taken script = script ≡ bytes
 
--- What a run over a script has done. It read a front of the script, answered its statements one after another up to the first
--- refused one, and wrote their answers and nothing else.
+-- What a run over a script has done. It read a front of the script, answered or skipped its statements one after another up to the one
+-- that ended it, and wrote the answers and nothing else. Its status is that of the first line that it told.
 pub record Answered (first : Moment) (script : List ℕ) (old new : Outside) (status : StatusView) : Type 0 where
   pub taken : List ℕ
   pub left : List ℕ
@@ -180,4 +191,10 @@ pub record Answered (first : Moment) (script : List ℕ) (old new : Outside) (st
   pub wrote : Appends old.written new.written gained
   pub meter : Gauge
   pub meter_is : status.meter ≡ Some meter
-  pub ended : Ended first script progress taken gained meter old new status.refusal
+  -- what ended it, where that is not the end of the script
+  pub ending : Option Refusal
+  pub ended : Ended first script progress taken gained meter old new ending
+  pub status_is : status.refusal ≡ first_told progress.outcomes ending
+  -- no other read or write failed
+  pub reads : ending ≢ Some ReadFault → new.reads ≡ old.reads
+  pub writes : ending ≢ Some WriteFault → new.writes ≡ old.writes

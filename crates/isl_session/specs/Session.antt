@@ -1,5 +1,5 @@
 -- inner: the fields of a session: what they show, and what they keep.
-use Rattle.std.specs.Prelude.{◌≤◌, length, vec_capacity}
+use Rattle.std.specs.Prelude.{◌+◌, ◌≤◌, length, vec_capacity}
 use Rattle.isl_meter.specs.Gauge.{limit_of}
 use Rattle.isl_script.specs.Script.{IsOpen}
 use Rattle.isl_script.specs.Cutter.{IsAt}
@@ -16,6 +16,8 @@ view_of s = record {
   room = vec_capacity s.rest;
   taken = s.taken;
   counts = s.counts;
+  skips = s.skips;
+  first = s.first;
   fault = s.fault;
   meter = s.meter;
   options = s.options;
@@ -28,7 +30,7 @@ pub record IsSound (s : Inside) : Type 0 where
   pub held : length s.rest.items ≤ s.taken
   pub short : length s.rest.items ≤ most_statement_bytes
   pub within : s.taken ≤ most_script_bytes
-  pub answered : s.counts.statements ≤ s.taken
+  pub passed : s.counts.statements + s.skips ≤ s.taken
   pub counts : AreCounts s.counts
   pub fits : Fits (limit_of s.meter) s.state
   pub settled : IsSettled s.state

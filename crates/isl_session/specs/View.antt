@@ -1,19 +1,19 @@
 -- public: a session as it is seen from outside, and what a piece of a script does to it.
-use Rattle.std.specs.Prelude.{◌≡◌, ◌⊎◌, ℕ, ◌+◌, ◌<◌, ◌≤◌, List, [], ◌∷◌, ◌++◌, All, length, map, Option, Some, None, true, false, Result}
+use Rattle.std.specs.Prelude.{◌≡◌, ◌⊎◌, ℕ, ◌+◌, ◌<◌, ◌≤◌, List, [], ◌∷◌, ◌++◌, All, length, Option, Some, None, true, false, Result}
 use Rattle.std.specs.Prelude.{MatchResult}
-use Rattle.std.specs.List.{concat}
+use Rattle.std.specs.Option.{option_or}
 use Rattle.isl_meter.specs.Gauge.{Gauge, IsCharged, IsKept}
 use Rattle.isl_script.specs.Script.{statements, rest_of, ends, IsBlank, IsOpen}
 use Rattle.isl_text.specs.declared.refusal.Refusal.{Refusal}
 use Rattle.isl_text.specs.declared.refusal.Refusal.TheVariants.{Unfinished}
 use Rattle.isl_values.specs.State.{StateView, Moment, unbound}
 use Rattle.isl_eval.specs.Causes.{Refuses}
-use Rattle.isl_eval.specs.Machine.{Answer}
-use Rattle.isl_eval.specs.Run.{Run, started}
+use Rattle.isl_eval.specs.Run.{started}
 use Rattle.isl_session.specs.declared.counts.Counts.{Counts}
 use Rattle.isl_session.specs.declared.fault.Fault.{Fault}
 use Rattle.isl_space.specs.Limits.{most_script_bytes, most_statement_bytes}
 use Rattle.isl_session.specs.Counts.{counted, none}
+use Rattle.isl_session.specs.Outcome.{Outcome, Carries, EndsRun, RunOn, answers_of, faults_from, first_skip, skips_of, text_of}
 use Rattle.isl_session.specs.Place.{Place, at_words, in_statement, too_long, past_limit, at_end, at_read, at_write, anywhere, place_of}
 use Rattle.isl_words.specs.Options.{OptionsView}
 
@@ -32,10 +32,17 @@ pub record View : Type 0 where
   pub taken : ℕ
   -- what was answered
   pub counts : Counts
+  -- how many statements were skipped, and why the first was
+  pub skips : ℕ
+  pub first : Option Refusal
   pub fault : Option Fault
   pub meter : Gauge
   -- what the command line chooses
   pub options : OptionsView
+
+-- how many statements were answered or skipped
+abbrev pub passed : View → ℕ
+passed view = view.counts.statements + view.skips
 
 -- what is bound, the meter, and what is chosen
 abbrev pub moment_of : View → Moment
@@ -53,6 +60,8 @@ fresh first = record {
   room = 0;
   taken = 0;
   counts = none;
+  skips = 0;
+  first = None;
   fault = None;
   meter = first.meter;
   options = first.options;
@@ -62,31 +71,23 @@ fresh first = record {
 abbrev pub opened : Moment → View
 opened first = record (fresh first) { room = most_statement_bytes }
 
--- These statements are answered one after another, with these texts.
-pub record Gives (before : Moment) (parts texts : List (List ℕ)) (after : Moment) : Type 0 where
-  pub answers : List Answer
-  pub run : Run before parts answers after
-  pub written : texts ≡ map (λ answer. answer.bytes) answers
-
--- a meter that counted no refusal since: the units are those of the last statement, and the rest is as it was
-pub record Carries (old new : Gauge) : Type 0 where
-  pub same : new ≡ record old { units = new.units }
-
 -- none of these parts of a script has too many bytes, and the rest has not
 pub record AreShort (parts : List (List ℕ)) (rest : List ℕ) : Type 0 where
   pub each : All (λ part. length part ≤ most_statement_bytes) parts
   pub last : length rest ≤ most_statement_bytes
 
--- A session took this piece, and answered each statement that the piece completed.
-pub record Fed (old : View) (piece : List ℕ) (answers : List (List ℕ)) (new : View) : Type 0 where
-  pub run : Gives (moment_of old) (statements (old.rest ++ piece)) answers (moment_of new)
+-- A session took this piece, and answered or skipped each statement that the piece completed.
+pub record Fed (old : View) (piece : List ℕ) (outcomes : List Outcome) (new : View) : Type 0 where
+  pub run : RunOn (moment_of old) (statements (old.rest ++ piece)) outcomes (moment_of new)
   pub rest : new.rest ≡ rest_of (old.rest ++ piece)
   pub short : AreShort (statements (old.rest ++ piece)) new.rest
   pub taken : new.taken ≡ old.taken + length piece
   pub within : new.taken ≤ most_script_bytes
-  pub counts : new.counts ≡ counted old.counts run.answers
+  pub counts : new.counts ≡ counted old.counts (answers_of outcomes)
+  pub skips : new.skips ≡ old.skips + length (skips_of outcomes)
+  pub first : new.first ≡ option_or old.first (first_skip outcomes)
   pub sound : new.fault ≡ None
-  pub meter : Carries old.meter new.meter
+  pub meter : Carries old.meter outcomes new.meter
   pub room : old.room ≤ new.room
   pub options : new.options ≡ old.options
 
@@ -130,15 +131,16 @@ pub record IsRefusedAt (old : View) (byte : ℕ) (refusal : Refusal) (new : View
 
 -- A session took the front of this piece, was refused at the next byte, and has that fault from then on. Nothing else but its
 -- meter and its room changed at that byte.
-pub record Stopped (old : View) (piece : List ℕ) (answers : List (List ℕ)) (new : View) (fault : Fault) : Type 0 where
+pub record Stopped (old : View) (piece : List ℕ) (outcomes : List Outcome) (new : View) (fault : Fault) : Type 0 where
   pub front : List ℕ
   pub byte : ℕ
   pub behind : List ℕ
   pub split : piece ≡ front ++ byte ∷ behind
   pub at_front : View
-  pub fed : Fed old front answers at_front
+  pub fed : Fed old front outcomes at_front
   pub breaks : BreaksIn (place_of fault.refusal) at_front byte new.meter fault.refusal
-  pub number : fault.statement ≡ at_front.counts.statements + 1
+  pub ends_run : EndsRun old.options fault.refusal
+  pub number : fault.statement ≡ passed at_front + 1
   pub same : new ≡ record at_front { room = new.room; meter = new.meter; fault = Some fault }
   pub meter : IsMeterAt (place_of fault.refusal) at_front.meter new.meter
   pub room : at_front.room ≤ new.room
@@ -150,15 +152,20 @@ pub record HasRoomFor (view : View) (piece : List ℕ) : Type 0 where
   pub short : length (view.rest ++ piece) ≤ most_statement_bytes
   pub within : view.taken + length piece ≤ most_script_bytes
 
--- what a piece does to a session without a fault, and to the text of its answers
+-- what a piece does to a session without a fault, to the text of its answers, and to the list of the skipped statements
+abbrev pub FeedsOn : View → List ℕ → List ℕ → List ℕ → List Fault → List Fault → View → Result (Unit {0}) Fault → Type 0
+FeedsOn old piece text_before text skipped_before skipped new result = (outcomes : List Outcome) × (text ≡ text_before ++ text_of outcomes)
+    × (skipped ≡ skipped_before ++ faults_from (passed old) outcomes)
+    × MatchResult result (λ _. Fed old piece outcomes new) (λ fault. Stopped old piece outcomes new fault)
+
+-- the same, of a session that skips none
 abbrev pub Feeds : View → List ℕ → List ℕ → List ℕ → View → Result (Unit {0}) Fault → Type 0
-Feeds old piece text_before text new result = MatchResult result
-    (λ _. (answers : List (List ℕ)) × (text ≡ text_before ++ concat answers) × Fed old piece answers new)
-    (λ fault. (answers : List (List ℕ)) × (text ≡ text_before ++ concat answers) × Stopped old piece answers new fault)
+Feeds old piece text_before text new result = (outcomes : List Outcome) × (text ≡ text_before ++ text_of outcomes)
+    × MatchResult result (λ _. Fed old piece outcomes new) (λ fault. Stopped old piece outcomes new fault)
 
 -- what the end of the script does to a session without a fault
 abbrev pub Finishes : View → View → Result (Unit {0}) Fault → Type 0
 Finishes old new result = MatchResult result
     (λ _. IsBlank old.rest × (new ≡ old))
-    (λ fault. (¬ IsBlank old.rest) × (fault ≡ record { statement = old.counts.statements + 1; refusal = Unfinished })
+    (λ fault. (¬ IsBlank old.rest) × (fault ≡ record { statement = passed old + 1; refusal = Unfinished })
     × (new ≡ record old { fault = Some fault }))

@@ -4,15 +4,19 @@
 
 mod counts;
 mod fault;
+mod law;
 mod program;
 mod session;
+mod skips;
 mod status;
+mod stencil;
 mod write;
 
 pub use counts::Counts;
 pub use fault::Fault;
 pub use isl_text::refusal::Refusal;
 pub use isl_words::{Options, WordsFault};
+pub use law::skipping_goes_on;
 pub use program::{refuse_words, run};
 pub use session::Session;
 pub use status::Status;

@@ -2,7 +2,8 @@
 
 ghost use Rattle.std.specs.Prelude.{◌≡◌, ◌≢◌, ◌⊎◌, ◌+◌, ◌<◌, ◌≤◌, ℕ, List, [], length, map, string_bytes, Err, Some, None, OnOk};
 ghost use Rattle.std.specs.Prelude.{IfErr, IfSome, IsNone, IsSome};
-ghost use Rattle.std.specs.List.{concat};
+ghost use Rattle.std.specs.Prelude.{◌++◌, false, Option};
+ghost use Rattle.std.specs.Option.{option_or};
 ghost use Rattle.std.specs.Io.KnownBytes.{Appends, Consumes, IsAtEnd};
 ghost use Rattle.isl_math.specs.Count.{Rose};
 ghost use Rattle.isl_meter.specs.Gauge.{Gauge};
@@ -11,12 +12,16 @@ ghost use Rattle.isl_script.specs.Script.{IsBlank};
 ghost use Rattle.isl_words.specs.Options.{OptionsView};
 ghost use Rattle.isl_words.specs.Taken.{AreTaken};
 ghost use Rattle.isl_session.specs.Place.{place_of};
-ghost use Rattle.isl_session.specs.View.{Fed, IsReady, begun, moment_of, opened};
+ghost use Rattle.isl_session.specs.View.{Fed, IsReady, begun, moment_of, opened, passed};
 ghost use Rattle.isl_session.specs.Lines.{fault_line, usage_line, words_line, words_refusal};
-ghost use Rattle.isl_session.specs.Run.{Answered, Halts, outside};
-ghost use Rattle.isl_session.specs.Valid.{IsValidScript, IsDoneOrMemory};
+ghost use Rattle.isl_session.specs.Outcome.{Outcome, lines_from, text_of};
+ghost use Rattle.isl_session.specs.Run.{Answered, Halts, Told, outside};
+ghost use Rattle.isl_session.specs.StencilRun.{StencilAnswered};
+ghost use Rattle.isl_session.specs.Valid.{IsGiven, IsValidScript, IsDoneOrMemory};
+ghost use Rattle.isl_stencil.specs.Stencil.{stencil};
 
-use crate::write::{write_all, write_fault, write_usage};
+use crate::stencil::run_stencil;
+use crate::write::{tell_all, write_all, write_fault, write_usage};
 use crate::{Fault, Session, Status};
 use isl_io::{Failed, Sink, Source};
 use isl_meter::Meter;
@@ -28,34 +33,45 @@ use std::alloc::{AllocError, Global};
 // How many bytes a read asks for.
 const PIECE: usize = 4096;
 
-// Takes a piece of the script. Each answer is written before the bytes behind its statement are taken.
-fn answer_piece<K: Sink>(
+// Takes a piece of the script. Each answer is written, and each skipped statement told, before the bytes behind the statement are taken.
+fn answer_piece<K: Sink, E: Sink>(
+    alloc: Global,
     session: &mut Session,
     out: &mut K,
-    text: &mut Vec<u8>,
+    err: &mut E,
     piece: &[u8],
 ) -> Result<(), Fault>
     requires { IsReady session.old }
-    ensures ok { OnOk result ((answers : List (List ℕ))
-        × Appends (K.written out.old) (K.written out.new) (concat answers)
-        × Fed session.old piece.now answers session.new) }
-    ensures err { IfErr result (λ fault. (gained : List ℕ)
+    ensures ok { OnOk result ((outcomes : List Outcome)
+        × Appends (K.written out.old) (K.written out.new) (text_of outcomes)
+        × Told (E.written err.old) (E.faults err.old) (E.written err.new) (E.faults err.new)
+        (lines_from (passed session.old) outcomes)
+        × Fed session.old piece.now outcomes session.new) }
+    ensures err { IfErr result (λ fault. (outcomes : List Outcome) × (gained : List ℕ)
         × Appends (K.written out.old) (K.written out.new) gained
+        × Told (E.written err.old) (E.faults err.old) (E.written err.new) (E.faults err.new)
+        (lines_from (passed session.old) outcomes)
         × Halts ⊥ (Rose (K.faults out.old) (K.faults out.new)) ⊥
-        session.old piece.now gained session.new fault (place_of fault.refusal)) }
+        session.old piece.now outcomes gained session.new fault (place_of fault.refusal)) }
     ensures kept { OnOk result (K.faults out.new ≡ K.faults out.old) }
     ensures writes { IfErr result (λ fault. fault.refusal ≢ Refusal.WriteFault → K.faults out.new ≡ K.faults out.old) }
+    ensures no_fewer_tells { E.faults err.old ≤ E.faults err.new }
+    ensures quiet { session.new.first ≡ None → (session.old.first ≡ None) × (err.new ≡ err.old) }
 {
+    let mut text = Vec::new(alloc);
+    let mut skipped = Vec::new(alloc);
     let mut at = 0;
     while at < piece.len() {
         text.clear();
-        match session.take_front(&piece[at..], text) {
+        skipped.clear();
+        match session.take_front(&piece[at..], &mut text, &mut skipped) {
             Ok(n) => at += n,
             Err(fault) => return Err(fault),
         }
-        if let Err(Failed) = write_all(out, text) {
+        tell_all(err, &skipped);
+        if let Err(Failed) = write_all(out, &text) {
             return Err(Fault {
-                statement: session.answered(),
+                statement: session.passed(),
                 refusal: Refusal::WriteFault,
             });
         }
@@ -78,29 +94,36 @@ fn room_for(taken: u64, most: usize) -> usize
 
 // Takes the script as it arrives: each answer is written before the bytes behind its statement are taken, and so before the next read.
 // What was read before a read fails is answered.
-fn answer_all<S: Source, K: Sink>(
+fn answer_all<S: Source, K: Sink, E: Sink>(
+    alloc: Global,
     session: &mut Session,
     src: &mut S,
     out: &mut K,
+    err: &mut E,
     buf: &mut [u8],
-    text: &mut Vec<u8>,
 ) -> Result<(), Fault>
     requires ready { IsReady session.old }
     requires first { session.old.taken ≡ 0 }
     requires room { 0 < length buf.old }
-    ensures ok { OnOk result ((taken : List ℕ) × (answers : List (List ℕ))
+    ensures ok { OnOk result ((taken : List ℕ) × (outcomes : List Outcome)
         × Consumes (S.left src.old) (S.left src.new) taken × IsAtEnd (S.left src.new)
-        × Appends (K.written out.old) (K.written out.new) (concat answers)
-        × Fed session.old taken answers session.new) }
-    ensures err { IfErr result (λ fault. (taken : List ℕ) × (gained : List ℕ)
+        × Appends (K.written out.old) (K.written out.new) (text_of outcomes)
+        × Told (E.written err.old) (E.faults err.old) (E.written err.new) (E.faults err.new)
+        (lines_from (passed session.old) outcomes)
+        × Fed session.old taken outcomes session.new) }
+    ensures err { IfErr result (λ fault. (taken : List ℕ) × (outcomes : List Outcome) × (gained : List ℕ)
         × Consumes (S.left src.old) (S.left src.new) taken
         × (length taken ≤ most_script_bytes + 1)
         × Appends (K.written out.old) (K.written out.new) gained
+        × Told (E.written err.old) (E.faults err.old) (E.written err.new) (E.faults err.new)
+        (lines_from (passed session.old) outcomes)
         × Halts (Rose (S.faults src.old) (S.faults src.new)) (Rose (K.faults out.old) (K.faults out.new)) ⊥
-        session.old taken gained session.new fault (place_of fault.refusal)) }
+        session.old taken outcomes gained session.new fault (place_of fault.refusal)) }
     ensures kept { OnOk result ((S.faults src.new ≡ S.faults src.old) × (K.faults out.new ≡ K.faults out.old)) }
     ensures reads { IfErr result (λ fault. fault.refusal ≢ Refusal.ReadFault → S.faults src.new ≡ S.faults src.old) }
     ensures writes { IfErr result (λ fault. fault.refusal ≢ Refusal.WriteFault → K.faults out.new ≡ K.faults out.old) }
+    ensures no_fewer_tells { E.faults err.old ≤ E.faults err.new }
+    ensures quiet { session.new.first ≡ None → (session.old.first ≡ None) × (err.new ≡ err.old) }
 {
     'reads: loop {
         let room = room_for(session.taken(), buf.len());
@@ -108,13 +131,13 @@ fn answer_all<S: Source, K: Sink>(
         match src.read(piece) {
             Ok(0) => return Ok(()),
             Ok(n) => {
-                if let Err(fault) = answer_piece(session, out, text, &piece[..n]) {
+                if let Err(fault) = answer_piece(alloc, session, out, err, &piece[..n]) {
                     return Err(fault);
                 }
             }
             Err(Failed) => {
                 return Err(Fault {
-                    statement: session.answered() + 1,
+                    statement: session.passed() + 1,
                     refusal: Refusal::ReadFault,
                 });
             }
@@ -123,44 +146,57 @@ fn answer_all<S: Source, K: Sink>(
 }
 
 // Answers the whole script.
-fn run_session<S: Source, K: Sink>(
+pub(crate) fn run_session<S: Source, K: Sink, E: Sink>(
     alloc: Global,
     session: &mut Session,
     src: &mut S,
     out: &mut K,
+    err: &mut E,
 ) -> Result<(), Fault>
     requires ready { IsReady session.old }
     requires first { session.old.taken ≡ 0 }
-    ensures ok { OnOk result ((taken : List ℕ) × (answers : List (List ℕ))
+    ensures ok { OnOk result ((taken : List ℕ) × (outcomes : List Outcome)
         × Consumes (S.left src.old) (S.left src.new) taken × IsAtEnd (S.left src.new)
-        × Appends (K.written out.old) (K.written out.new) (concat answers)
-        × Fed session.old taken answers session.new × IsBlank session.new.rest) }
-    ensures err { IfErr result (λ fault. (taken : List ℕ) × (gained : List ℕ)
+        × Appends (K.written out.old) (K.written out.new) (text_of outcomes)
+        × Told (E.written err.old) (E.faults err.old) (E.written err.new) (E.faults err.new)
+        (lines_from (passed session.old) outcomes)
+        × Fed session.old taken outcomes session.new × IsBlank session.new.rest) }
+    ensures err { IfErr result (λ fault. (taken : List ℕ) × (outcomes : List Outcome) × (gained : List ℕ)
         × Consumes (S.left src.old) (S.left src.new) taken
         × (length taken ≤ most_script_bytes + 1)
         × Appends (K.written out.old) (K.written out.new) gained
+        × Told (E.written err.old) (E.faults err.old) (E.written err.new) (E.faults err.new)
+        (lines_from (passed session.old) outcomes)
         × Halts (Rose (S.faults src.old) (S.faults src.new)) (Rose (K.faults out.old) (K.faults out.new))
-        (IsAtEnd (S.left src.new)) session.old taken gained session.new fault (place_of fault.refusal)) }
+        (IsAtEnd (S.left src.new)) session.old taken outcomes gained session.new fault (place_of fault.refusal)) }
     ensures kept { OnOk result ((S.faults src.new ≡ S.faults src.old) × (K.faults out.new ≡ K.faults out.old)) }
     ensures reads { IfErr result (λ fault. fault.refusal ≢ Refusal.ReadFault → S.faults src.new ≡ S.faults src.old) }
     ensures writes { IfErr result (λ fault. fault.refusal ≢ Refusal.WriteFault → K.faults out.new ≡ K.faults out.old) }
+    ensures no_fewer_tells { E.faults err.old ≤ E.faults err.new }
+    ensures quiet { session.new.first ≡ None → err.new ≡ err.old }
 {
     let mut buf = [0; PIECE];
-    let mut text = Vec::new(alloc);
-    if let Err(fault) = answer_all(session, src, out, &mut buf, &mut text) {
+    if let Err(fault) = answer_all(alloc, session, src, out, err, &mut buf) {
         return Err(fault);
     }
-    session.finish(&mut text)
+    session.finish(&mut Vec::new(alloc))
 }
 
-// Tells of a fault. The status is that of its cause, whatever becomes of the line.
-fn refuse<E: Sink>(err: &mut E, fault: Fault, meter: Option<Meter>) -> Status
-    ensures status { result ≡ record { refusal = Some fault.refusal; meter = meter } }
+// Tells of the fault that ends a run. The status is that of the first line, here of a statement that was skipped where there is one,
+// whatever becomes of the lines.
+pub(crate) fn refuse<E: Sink>(
+    err: &mut E,
+    fault: Fault,
+    first: Option<Refusal>,
+    meter: Option<Meter>,
+) -> Status
+    ensures status { result ≡ record { refusal = option_or first (Some fault.refusal); meter = meter } }
     ensures line { ¬ (Rose (E.faults err.old) (E.faults err.new))
         → Appends (E.written err.old) (E.written err.new) (fault_line fault) }
+    ensures no_fewer_tells { E.faults err.old ≤ E.faults err.new }
 {
     let _ = write_fault(err, fault);
-    Status::new(Some(fault.refusal), meter)
+    Status::new(first.or(Some(fault.refusal)), meter)
 }
 
 // Tells how the program is used. The status is that of words which are not taken, whatever becomes of the line.
@@ -173,7 +209,33 @@ fn refuse_usage<E: Sink>(err: &mut E) -> Status
     Status::new(Some(Refusal::Usage), None)
 }
 
-// Answers the script, and tells a refusal.
+// Answers the script, and tells what is skipped and a refusal.
+fn answer_script<S: Source, K: Sink, E: Sink>(
+    alloc: Global,
+    session: Session,
+    src: &mut S,
+    out: &mut K,
+    err: &mut E,
+) -> Status
+    requires opened { session ≡ opened (moment_of session) }
+    ensures answered { (script : List ℕ) × Answered (moment_of session) script
+        (outside (S.left src.old) (S.faults src.old) (K.written out.old) (K.faults out.old)
+        (E.written err.old) (E.faults err.old))
+        (outside (S.left src.new) (S.faults src.new) (K.written out.new) (K.faults out.new)
+        (E.written err.new) (E.faults err.new))
+        result }
+    ensures quiet { result.refusal ≡ None → err.new ≡ err.old }
+{
+    let mut running = session;
+    let outcome = run_session(alloc, &mut running, src, out, err);
+    let first = running.first_skip();
+    match outcome {
+        Ok(()) => Status::new(first, Some(running.into_meter())),
+        Err(fault) => refuse(err, fault, first, Some(running.into_meter())),
+    }
+}
+
+// The same. What the status tells was counted.
 fn run_script<S: Source, K: Sink, E: Sink>(
     alloc: Global,
     session: Session,
@@ -182,7 +244,6 @@ fn run_script<S: Source, K: Sink, E: Sink>(
     err: &mut E,
 ) -> Status
     requires opened { session ≡ opened (moment_of session) }
-    requires uncounted { (session.meter.overflows ≡ 0) × (session.meter.spents ≡ 0) }
     ensures answered { (script : List ℕ) × Answered (moment_of session) script
         (outside (S.left src.old) (S.faults src.old) (K.written out.old) (K.faults out.old)
         (E.written err.old) (E.faults err.old))
@@ -199,22 +260,21 @@ fn run_script<S: Source, K: Sink, E: Sink>(
     ensures overflow { result.refusal ≡ Some Refusal.Overflow
         → IfSome result.meter (λ meter. Rose 0 meter.overflows) }
     ensures budget { result.refusal ≡ Some Refusal.Budget
-        → IfSome result.meter (λ meter. (meter.budget ≤ meter.units) × Rose 0 meter.spents) }
+        → IfSome result.meter (λ meter. Rose 0 meter.spents) }
 
-    // A read that failed is what the status tells, and so is a failed write of an answer.
-    ensures reads { result.refusal ≢ Some Refusal.ReadFault → S.faults src.new ≡ S.faults src.old }
-    ensures writes { result.refusal ≢ Some Refusal.WriteFault → K.faults out.new ≡ K.faults out.old }
+    // Where none is skipped, the status tells of the last statement, and of a failed read or write.
+    ensures units { session.options.keep_going ≡ false → result.refusal ≡ Some Refusal.Budget
+        → IfSome result.meter (λ meter. meter.budget ≤ meter.units) }
+    ensures reads { session.options.keep_going ≡ false → result.refusal ≢ Some Refusal.ReadFault
+        → S.faults src.new ≡ S.faults src.old }
+    ensures writes { session.options.keep_going ≡ false → result.refusal ≢ Some Refusal.WriteFault
+        → K.faults out.new ≡ K.faults out.old }
 
     // The words were taken, and there is a session.
     ensures no_usage { result.refusal ≢ Some Refusal.Usage }
     ensures session { IsSome result.meter }
 {
-    let mut running = session;
-    let outcome = run_session(alloc, &mut running, src, out);
-    match outcome {
-        Ok(()) => Status::new(None, Some(running.into_meter())),
-        Err(fault) => refuse(err, fault, Some(running.into_meter())),
-    }
+    answer_script(alloc, session, src, out, err)
 }
 
 // Tells that memory ended before there was a session: while the words were read, or for the room of its longest statement. The line
@@ -229,7 +289,7 @@ fn refuse_memory<E: Sink>(err: &mut E) -> Status
         statement: 1,
         refusal: Refusal::NoMemory,
     };
-    refuse(err, fault, None)
+    refuse(err, fault, None, None)
 }
 
 /// Tells that there are no words to run with: they are no text, or memory ended while they were handed over. Nothing is read.
@@ -248,7 +308,9 @@ pub fn refuse_words<E: Sink>(err: &mut E, fault: WordsFault) -> Status
 /// a refusal on `err`.
 ///
 /// The words, of which the first is the program's name, choose the options of the session. Whether loops are run has no effect yet. Each
-/// statement is answered as soon as it is read, before the bytes behind it are taken; no more than 2^30 + 1 bytes are read.
+/// statement is answered as soon as it is read, before the bytes behind it are taken; no more than 2^30 + 1 bytes are read. Where going on
+/// is chosen, refused statements are skipped, and each is told. Where a script is made, nothing is read, and one line says how much was
+/// answered.
 pub fn run<S: Source, K: Sink, E: Sink>(
     alloc: Global,
     words: &[String],
@@ -257,8 +319,8 @@ pub fn run<S: Source, K: Sink, E: Sink>(
     err: &mut E,
 ) -> Status
     // Who hands over a script: what is read of it, answered, written and told, however its bytes arrive and whatever the ends tell.
-    ensures answered { (options : OptionsView) → AreTaken (map string_bytes words.now) options → IsSome result.meter
-        → (script : List ℕ) × Answered (begun options) script
+    ensures answered { (options : OptionsView) → AreTaken (map string_bytes words.now) options → options.make ≡ None
+        → IsSome result.meter → (script : List ℕ) × Answered (begun options) script
         (outside (S.left src.old) (S.faults src.old) (K.written out.old) (K.faults out.old)
         (E.written err.old) (E.faults err.old))
         (outside (S.left src.new) (S.faults src.new) (K.written out.new) (K.faults out.new)
@@ -266,9 +328,21 @@ pub fn run<S: Source, K: Sink, E: Sink>(
         result }
     ensures quiet { result.refusal ≡ None → err.new ≡ err.old }
 
-    // Who hands over a valid one: it is answered whole, unless memory ends or a count rises.
+    // Who has one made: the source is not read, and of the answers only their numbers are written, on one line.
+    ensures unread { (options : OptionsView) → AreTaken (map string_bytes words.now) options
+        → IsSome options.make → src.new ≡ src.old }
+    ensures summed { (options : OptionsView) (sizes : ℕ) → AreTaken (map string_bytes words.now) options
+        → options.make ≡ Some sizes → IsSome result.meter
+        → StencilAnswered (begun options) (stencil sizes)
+        (outside (S.left src.old) (S.faults src.old) (K.written out.old) (K.faults out.old)
+        (E.written err.old) (E.faults err.old))
+        (outside (S.left src.new) (S.faults src.new) (K.written out.new) (K.faults out.new)
+        (E.written err.new) (E.faults err.new))
+        result }
+
+    // Whose script is valid: it is answered whole, unless memory ends or a count rises.
     ensures complete { (options : OptionsView) → AreTaken (map string_bytes words.now) options
-        → (script : List ℕ) → S.left src.old ≡ Some script
+        → (script : List ℕ) → IsGiven options.make (S.left src.old) script
         → IsValidScript (begun options) script
         → ¬ (Rose (S.faults src.old) (S.faults src.new))
         → ¬ (Rose (K.faults out.old) (K.faults out.new))
@@ -283,11 +357,18 @@ pub fn run<S: Source, K: Sink, E: Sink>(
     ensures overflow { result.refusal ≡ Some Refusal.Overflow
         → IfSome result.meter (λ meter. Rose 0 meter.overflows) }
     ensures budget { result.refusal ≡ Some Refusal.Budget
-        → IfSome result.meter (λ meter. (meter.budget ≤ meter.units) × Rose 0 meter.spents) }
+        → IfSome result.meter (λ meter. Rose 0 meter.spents) }
+    ensures units { (options : OptionsView) → AreTaken (map string_bytes words.now) options
+        → options.keep_going ≡ false → result.refusal ≡ Some Refusal.Budget
+        → IfSome result.meter (λ meter. meter.budget ≤ meter.units) }
 
-    // Who owns the ends: a read that failed is what the status tells, and so is a failed write of an answer.
-    ensures reads { result.refusal ≢ Some Refusal.ReadFault → S.faults src.new ≡ S.faults src.old }
-    ensures writes { result.refusal ≢ Some Refusal.WriteFault → K.faults out.new ≡ K.faults out.old }
+    // Who owns the ends: where none is skipped, a read that failed is what the status tells, and so is a failed write of an answer.
+    ensures reads { (options : OptionsView) → AreTaken (map string_bytes words.now) options
+        → options.keep_going ≡ false → result.refusal ≢ Some Refusal.ReadFault
+        → S.faults src.new ≡ S.faults src.old }
+    ensures writes { (options : OptionsView) → AreTaken (map string_bytes words.now) options
+        → options.keep_going ≡ false → result.refusal ≢ Some Refusal.WriteFault
+        → K.faults out.new ≡ K.faults out.old }
 
     // Who writes the words: others are refused before anything is read, and the usage line is told, unless memory ends before.
     ensures usage { ((options : OptionsView) → ¬ (AreTaken (map string_bytes words.now) options))
@@ -305,10 +386,16 @@ pub fn run<S: Source, K: Sink, E: Sink>(
         (fault_line (record { statement = 1; refusal = Refusal.NoMemory })) }
 {
     match read_words(alloc, words) {
-        Ok(options) => match Session::with_room(alloc, options, STATEMENT_MAX) {
-            Ok(session) => run_script(alloc, session, src, out, err),
-            Err(AllocError) => refuse_memory(err),
-        },
+        Ok(options) => {
+            let made = options.make();
+            match Session::with_room(alloc, options, STATEMENT_MAX) {
+                Ok(session) => match made {
+                    None => run_script(alloc, session, src, out, err),
+                    Some(sizes) => run_stencil(alloc, session, sizes, out, err),
+                },
+                Err(AllocError) => refuse_memory(err),
+            }
+        }
         Err(WordsFault::NoMemory) => refuse_memory(err),
         Err(WordsFault::Usage) => refuse_usage(err),
     }

@@ -1,11 +1,12 @@
 //! Whole texts, written to a sink that may take them in pieces.
 
-ghost use Rattle.std.specs.Prelude.{◌≡◌, ◌+◌, ◌++◌, ◌<◌, ◌≤◌, ◌∷◌, [], ℕ, length, take, OnOk, OnErr};
+ghost use Rattle.std.specs.Prelude.{◌≡◌, ◌+◌, ◌++◌, ◌<◌, ◌≤◌, ◌∷◌, [], ℕ, length, map, take, OnOk, OnErr};
+ghost use Rattle.std.specs.List.{concat};
 ghost use Rattle.std.specs.Io.KnownBytes.{Appends};
 ghost use Rattle.isl_math.specs.Count.{Rose};
-ghost use Rattle.isl_session.specs.Lines.{fault_line, usage_line};
+ghost use Rattle.isl_session.specs.Lines.{fault_line, summary_line, usage_line};
 
-use crate::Fault;
+use crate::{Counts, Fault};
 use arrayvec::ArrayVec;
 use isl_io::{Failed, Sink};
 use isl_text::refusal::Refusal;
@@ -51,6 +52,33 @@ fn line_of(fault: Fault) -> Line
     line
 }
 
+fn summary_of(counts: Counts) -> Line
+    ensures { result.items ≡ summary_line counts }
+{
+    let mut line = Line::new();
+    let mut digits = Buffer::new();
+    push(&mut line, b"statements ");
+    push(&mut line, digits.format(counts.statements).as_bytes());
+    push(&mut line, b", true ");
+    push(&mut line, digits.format(counts.trues).as_bytes());
+    push(&mut line, b", elements ");
+    push(&mut line, digits.format(counts.elements).as_bytes());
+    push(&mut line, b"\n");
+    line
+}
+
+// Writes the line that says how much was answered. Where a write fails, a front of it was written.
+pub(crate) fn write_summary<K: Sink>(out: &mut K, counts: Counts) -> Result<(), Failed>
+    ensures ok { OnOk result (Appends (K.written out.old) (K.written out.new) (summary_line counts)) }
+    ensures err { OnErr result ((n : ℕ) × (n < length (summary_line counts))
+        × Appends (K.written out.old) (K.written out.new) (take n (summary_line counts))) }
+    ensures kept { OnOk result (K.faults out.new ≡ K.faults out.old) }
+    ensures no_fewer_faults { K.faults out.old ≤ K.faults out.new }
+    ensures fault { OnErr result (Rose (K.faults out.old) (K.faults out.new)) }
+{
+    write_all(out, summary_of(counts).as_slice())
+}
+
 // Writes the line that tells of a fault, at once where the sink takes it whole. It takes no memory.
 pub(crate) fn write_fault<E: Sink>(err: &mut E, fault: Fault) -> Result<(), Failed>
     ensures ok { OnOk result (Appends (E.written err.old) (E.written err.new) (fault_line fault)) }
@@ -58,6 +86,18 @@ pub(crate) fn write_fault<E: Sink>(err: &mut E, fault: Fault) -> Result<(), Fail
     ensures fault { OnErr result (Rose (E.faults err.old) (E.faults err.new)) }
 {
     write_all(err, line_of(fault).as_slice())
+}
+
+// Writes a line for each of these faults. Where one of them cannot be written, the others are.
+pub(crate) fn tell_all<E: Sink>(err: &mut E, faults: &[Fault])
+    ensures lines { ¬ (Rose (E.faults err.old) (E.faults err.new))
+        → Appends (E.written err.old) (E.written err.new) (concat (map fault_line faults.now)) }
+    ensures no_fewer_faults { E.faults err.old ≤ E.faults err.new }
+    ensures none { faults.now ≡ [] → err.new ≡ err.old }
+{
+    for fault in faults {
+        let _ = write_fault(err, *fault);
+    }
 }
 
 // Writes the usage line, at once where the sink takes it whole. It takes no memory.

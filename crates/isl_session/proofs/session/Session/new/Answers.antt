@@ -19,7 +19,7 @@ invariant_of-result c =
       held = omega (arith, ap length none);
       short = omega (arith, ap length none);
       within = omega arith;
-      answered = omega (arith, ap (λ (n : Counts). n.statements) c.none.ensures);
+      passed = omega (arith, ap (λ (n : Counts). n.statements) c.none.ensures);
       counts = subst AreCounts (sym c.none.ensures) (record { trues = omega arith; elements = omega arith });
       fits = subst (λ (s : StateView). Fits (limit_of c.new-4.result) s) (sym c.new.ensures) (fits_unbound (limit_of c.new-4.result));
       settled = subst IsSettled (sym c.new.ensures) settled_unbound;
