@@ -14,6 +14,16 @@ fn shown(alloc: Global, options: &Options) -> Result<String, AllocError> {
     }
     let run = if options.run() { " run" } else { "" };
     text.push_str(run)?;
+    if let Some(sizes) = options.make() {
+        let made = format!(in alloc; " make {sizes}")?;
+        text.push_str(made.as_str())?;
+    }
+    let going = if options.keep_going() {
+        " keep-going"
+    } else {
+        ""
+    };
+    text.push_str(going)?;
     Ok(text)
 }
 

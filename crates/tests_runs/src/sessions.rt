@@ -17,19 +17,53 @@ fn session_of(alloc: Global, case: &str) -> Result<Option<Session>, AllocError> 
     }
 }
 
+// What a session has answered, and the statements that it skipped.
+#[derive(Drop)]
+struct Said {
+    answers: Vec<u8>,
+    skipped: Vec<Fault>,
+}
+
+impl Said {
+    fn nothing(alloc: Global) -> Said {
+        Said {
+            answers: Vec::new(alloc),
+            skipped: Vec::new(alloc),
+        }
+    }
+
+    // The skipped statements, a line for each.
+    fn lines(&self, alloc: Global) -> Result<String, AllocError> {
+        let mut lines = String::new(alloc);
+        for fault in &self.skipped {
+            let line = format!(in alloc;
+                "iscc: statement {}: {}\n",
+                fault.statement,
+                fault.refusal.text()
+            )?;
+            lines.push_str(line.as_str())?;
+        }
+        Ok(lines)
+    }
+}
+
+// Feeds a piece at once.
+fn feed_whole(session: &mut Session, piece: &[u8], said: &mut Said) -> Result<(), Fault> {
+    if session.keeps_going() {
+        session.feed_on(piece, &mut said.answers, &mut said.skipped)
+    } else {
+        session.feed(piece, &mut said.answers)
+    }
+}
+
 // Feeds a piece, whole or byte by byte.
-fn feed(
-    session: &mut Session,
-    piece: &[u8],
-    by_byte: bool,
-    answers: &mut Vec<u8>,
-) -> Result<(), Fault> {
+fn feed(session: &mut Session, piece: &[u8], by_byte: bool, said: &mut Said) -> Result<(), Fault> {
     if !by_byte {
-        return session.feed(piece, answers);
+        return feed_whole(session, piece, said);
     }
     let mut answer = Ok(());
     for byte in piece {
-        answer = session.feed(slice::from_ref(byte), answers);
+        answer = feed_whole(session, slice::from_ref(byte), said);
     }
     answer
 }
@@ -59,17 +93,17 @@ fn done(
     session: &mut Session,
     line: &str,
     by_byte: bool,
-    answers: &mut Vec<u8>,
+    said: &mut Said,
 ) -> Option<Result<(), Fault>> {
     if let Some(piece) = line.strip_prefix("feed ") {
-        return Some(feed(session, piece.as_bytes(), by_byte, answers));
+        return Some(feed(session, piece.as_bytes(), by_byte, said));
     }
     if let Some(piece) = line.strip_prefix("feed-line ") {
-        let _first = feed(session, piece.as_bytes(), by_byte, answers);
-        return Some(session.feed(b"\n", answers));
+        let _first = feed(session, piece.as_bytes(), by_byte, said);
+        return Some(feed_whole(session, b"\n", said));
     }
     if line == "finish" {
-        return Some(session.finish(answers));
+        return Some(session.finish(&mut said.answers));
     }
     None
 }
@@ -79,10 +113,10 @@ fn comes_to(rt: &impl Print, alloc: Global, case: &str, by_byte: bool) -> io::Re
     let Some(mut session) = session_of(alloc, case)? else {
         return Ok(false);
     };
-    let mut answers = Vec::new(alloc);
+    let mut said = Said::nothing(alloc);
     let mut last = Ok(());
     for line in case.lines() {
-        last = done(&mut session, line, by_byte, &mut answers).unwrap_or(last);
+        last = done(&mut session, line, by_byte, &mut said).unwrap_or(last);
         let found = told(alloc, &session, last)?;
         if let Some(wanted) = line.strip_prefix("then ") {
             if found.as_str() != wanted || session.room() < number(case, "room ", 0) {
@@ -91,11 +125,13 @@ fn comes_to(rt: &impl Print, alloc: Global, case: &str, by_byte: bool) -> io::Re
             }
         }
     }
-    let right = answers.as_slice() == bytes(alloc, case, "out")?.as_slice();
+    let lines = said.lines(alloc)?;
+    let right = said.answers.as_slice() == bytes(alloc, case, "out")?.as_slice()
+        && lines.as_bytes() == bytes(alloc, case, "err")?.as_slice();
     if !right {
         println!(rt;
             "{case}\n  {}",
-            str::from_utf8(&answers).unwrap_or("(no text)")
+            str::from_utf8(&said.answers).unwrap_or("(no text)")
         )?;
     }
     Ok(right)
