@@ -12,6 +12,7 @@ ghost use Rattle.isl_operators.specs.Made.{IsAnyWordOf, IsCoalescedFlat, IsPaid,
 ghost use Rattle.isl_operators.specs.Words.{is_moving};
 
 use crate::WordFault;
+use isl_assumed::Assumed;
 use isl_coalesce::coalesce;
 use isl_expr::tree::Prefix;
 use isl_extremes::{lexmax, lexmin};
@@ -65,7 +66,7 @@ fn put_together(alloc: Global, operand: &Value, meter: &mut Meter) -> Result<Val
     ensures meter { IsMetered meter.old meter.new result }
 {
     let flat = operand.flat(alloc, meter)?;
-    coalesce(alloc, &flat, meter)
+    coalesce(alloc, &flat, &Assumed::all(), meter)
 }
 
 /// What a word makes of a value, over its parameters. `id`, `wrap`, `unwrap`, `zip`, `domain_map` and `range_map` use no unit. (the iscc
