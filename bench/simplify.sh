@@ -22,6 +22,25 @@ boxes() {
   echo ' };'
 }
 
+# apart N: N triangles, no two of which touch.
+apart() {
+  echo 's := { '
+  for i in $(seq 0 "$(($1 - 1))"); do
+    [ "$i" -eq 0 ] || echo '; '
+    echo "[x, y] : $((9 * i)) <= x and x - $((9 * i)) <= y <= 5"
+  done
+  echo ' };'
+}
+# mixed N: the boxes, those at even places first.
+mixed() {
+  echo 's := { '
+  for i in $(seq 0 2 "$(($1 - 1))") $(seq 1 2 "$(($1 - 1))"); do
+    [ "$i" -eq 0 ] || echo '; '
+    echo "[x, y] : $((4 * i)) <= x < $((4 * i + 4)) and 0 <= y <= 9"
+  done
+  echo ' };'
+}
+
 loop='D := [n, m] -> { S[t, i] : 0 <= t < m and 1 <= i <= n }; W := { S[t, i] -> A[i] } * D;
 R := { S[t, i] -> A[k] : i - 1 <= k <= i + 1 } * D; T := { S[t, i] -> [t, i] };
 d := any W before R under T; f := last W before R under T; l := f[0];'
@@ -32,4 +51,6 @@ measure 'coalesce of dependences' "$loop" 'x := coalesce d;' 200
 measure 'coalesce of flow' "$loop" 'x := coalesce l;' 200
 for n in 100 400; do
   measure "coalesce of $n boxes" "$(boxes "$n")" 'x := coalesce s;' 2
+  measure "coalesce of $n boxes, mixed" "$(mixed "$n")" 'x := coalesce s;' 2
+  measure "coalesce of $n triangles apart" "$(apart "$n")" 'x := coalesce s;' 2
 done
