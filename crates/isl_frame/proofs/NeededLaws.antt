@@ -1,6 +1,6 @@
 -- Rows of which those are taken out that are known.
-use Rattle.std.proofs.Common.{◌≡◌, ◌↔◌, inl, inr, refl, subst, arith, Bool, ℕ, zero, suc, ◌-◌, ◌<◌, List, [], ◌∷◌, ◌++◌, length, get_or}
-use Rattle.std.proofs.Common.{take, drop}
+use Rattle.std.proofs.Common.{◌≡◌, ◌↔◌, ◌⊎◌, inl, inr, refl, subst, arith, Bool, ℕ, zero, suc, ◌-◌, ◌<◌, List, [], ◌∷◌, ◌++◌, length, get_or}
+use Rattle.std.proofs.Common.{ℤ, take, drop}
 use Rattle.std.specs.Prelude.{IfOk, IsTrue, Result, Ok, Err}
 use Rattle.std.specs.List.{All, Contains, remove}
 use Rattle.std.proofs.lemmas.List.Elements.{All-append, All-cons, All-drop, All-head, All-nil, All-tail, All-take}
@@ -14,7 +14,7 @@ use Rattle.isl_difference.specs.Split.{HoldsBut}
 use Rattle.isl_difference.proofs.RowCases.{row_cases}
 use Rattle.isl_difference.proofs.SplitLaws.{charged_within}
 use Rattle.isl_elim.specs.Sample.{IsNowhere}
-use Rattle.isl_frame.specs.Needed.{AreRowsOver, IsKnown, IsNeeded}
+use Rattle.isl_frame.specs.Needed.{AreKnown, AreRowsOver, IsKnown, IsNeeded}
 
 -- ---- one row taken out
 pub all_removed : (P : Row → Type 0) (rows : List Row) (i : ℕ) → All P rows → All P (remove rows i)
@@ -64,13 +64,17 @@ over_later g h variables rows charged over =
     let later = charged_within g h (over_rows variables rows) charged (system_over g variables rows (over_rows variables rows) refl over) in
     record { formed = later.rows; within = later.within }
 
--- rows over so many variables
+-- some of the rows over so many variables
+pub over_some : (g : Gauge) (variables : ℕ) (rows kept : List Row) → All (Contains rows) kept → AreRowsOver g variables rows
+    → AreRowsOver g variables kept
+over_some g variables rows kept each over = record {
+  formed = kept_have (IsWellFormed variables) rows kept each over.formed;
+  within = kept_have (IsRowWithin g) rows kept each over.within;
+}
+
 pub kept_over : (g : Gauge) (variables : ℕ) (context rows kept : List Row) → IsNeeded variables context rows kept
     → AreRowsOver g variables rows → AreRowsOver g variables kept
-kept_over g variables context rows kept is over = record {
-  formed = kept_have (IsWellFormed variables) rows kept is.each over.formed;
-  within = kept_have (IsRowWithin g) rows kept is.each over.within;
-}
+kept_over g variables context rows kept is over = over_some g variables rows kept is.each over
 
 pub rows_beside : (g : Gauge) (variables : ℕ) (context rows : List Row) (i : ℕ) → AreRowsOver g variables context → AreRowsOver g variables rows
     → AreRowsOver g variables (context ++ remove rows i)
@@ -101,3 +105,39 @@ known_told (Ok b) variables s others rows r is only formed told =
     all_free : variables - 0 ≡ variables
     all_free = omega arith
 known_told (Err e) variables s others rows r is only formed told = told
+
+-- rows hold together or not
+rows_cases : (rows : List Row) (point : List ℤ) (variables : ℕ) → All (IsWellFormed variables) rows
+    → HoldRows rows point ⊎ (¬ HoldRows rows point)
+rows_cases [] point variables formed = inl (All-nil (λ r. HoldsRow r point))
+rows_cases (r ∷ rows) point variables formed =
+    let H : Row → Type 0 = λ s. HoldsRow s point in
+    elim (row_cases r point (All-head (IsWellFormed variables) r rows formed).modulus) [
+      | inl holds ↦ elim (rows_cases rows point variables (All-tail (IsWellFormed variables) r rows formed)) [
+        | inl all ↦ inl (All-cons H r rows holds all)
+        | inr some ↦ inr (λ h. some (All-tail H r rows h))
+      ]
+      | inr fails ↦ inr (λ h. fails (All-head H r rows h))
+    ]
+
+all_known : (b : Bool) (variables : ℕ) (rows others : List Row) → All (IsWellFormed variables) others
+    → IsTrue b ↔ IsNowhere variables (λ point. HoldRows rows point × (¬ HoldRows others point)) → IsTrue b ↔ AreKnown variables rows others
+all_known b variables rows others formed told = (
+  (λ t point long h. elim (rows_cases others point variables formed) [
+    | inl holds ↦ holds
+    | inr fails ↦ absurd (told.0 t point long (h, fails))
+  ]),
+  (λ known. told.1 (λ point long h. h.1 (known point long h.0))),
+)
+
+pub all_told : {E : Type 0} (answer : Result Bool E) (variables : ℕ) (s : System) (rows others : List Row)
+    → s ≡ over_rows variables rows → All (IsWellFormed variables) others
+    → IfOk answer (λ all. IsTrue all ↔ IsNowhere (free_columns s) (HoldsBut s others))
+    → IfOk answer (λ known. IsTrue known ↔ AreKnown variables rows others)
+all_told (Ok b) variables s rows others is formed told =
+    all_known b variables rows others formed
+    (subst (λ n. IsTrue b ↔ IsNowhere n (λ point. HoldRows rows point × (¬ HoldRows others point))) all_free (rw is at told))
+  where
+    all_free : variables - 0 ≡ variables
+    all_free = omega arith
+all_told (Err e) variables s rows others is formed told = told

@@ -14,6 +14,10 @@ pub record AreRowsOver (g : Gauge) (variables : ℕ) (rows : List Row) : Type 0 
 abbrev pub IsKnown : ℕ → List Row → Row → Type 0
 IsKnown variables others r = (point : List ℤ) → length point ≡ variables → HoldRows others point → HoldsRow r point
 
+-- the other rows hold wherever the rows do
+abbrev pub AreKnown : ℕ → List Row → List Row → Type 0
+AreKnown variables rows others = (point : List ℤ) → length point ≡ variables → HoldRows rows point → HoldRows others point
+
 -- some of the rows, which say as much where the context holds
 pub record IsNeeded (variables : ℕ) (context rows kept : List Row) : Type 0 where
   pub each : All (Contains rows) kept

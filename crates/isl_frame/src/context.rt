@@ -4,7 +4,7 @@ ghost use Rattle.std.specs.Prelude.{◌≡◌, ◌↔◌, ◌<◌, ◌≤◌, []
 ghost use Rattle.std.specs.List.{remove};
 ghost use Rattle.isl_meter.specs.Gauge.{IsMetered};
 ghost use Rattle.isl_piece.specs.declared.row.Row.{Row};
-ghost use Rattle.isl_frame.specs.Needed.{AreRowsOver, IsKnown, IsNeeded};
+ghost use Rattle.isl_frame.specs.Needed.{AreKnown, AreRowsOver, IsKnown, IsNeeded};
 
 use isl_difference::hold_throughout;
 use isl_meter::{Cut, Meter};
@@ -59,6 +59,27 @@ fn is_known(
     let row = only(alloc, &rows.as_slice()[at])?;
     let system = System::from_rows(alloc, variables, others);
     hold_throughout(alloc, &system, &row, meter)
+}
+
+/// Whether the other rows hold wherever the rows do, over so many variables.
+///
+/// # Errors
+///
+/// `Overflow` where a number passes the limit of the meter, `Budget` where its units are used up, and `NoMemory`.
+pub fn are_known(
+    alloc: Global,
+    rows: &Rows,
+    others: &Rows,
+    variables: usize,
+    meter: &mut Meter,
+) -> Result<bool, Cut>
+    requires rows { AreRowsOver meter.old variables rows.now }
+    requires others { AreRowsOver meter.old variables others.now }
+    ensures exact { IfOk result (λ known. IsTrue known ↔ AreKnown variables rows.now others.now) }
+    ensures meter { IsMetered meter.old meter.new result }
+{
+    let system = System::from_rows(alloc, variables, rows.copy(alloc)?);
+    hold_throughout(alloc, &system, others, meter)
 }
 
 /// The rows over so many variables without those that hold wherever the context and the other ones do, asked from the last one on; in the

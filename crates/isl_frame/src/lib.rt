@@ -7,7 +7,7 @@ mod rows;
 mod sum;
 mod variable;
 
-pub use context::needed;
+pub use context::{are_known, needed};
 pub use equality::{isolated, signed};
 pub use rows::through;
 pub use variable::{own_frame, widened, with_variable};
