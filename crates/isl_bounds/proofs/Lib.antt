@@ -4,3 +4,4 @@ pub mod ExprLaws
 pub mod EndsLaws
 pub mod StepLaws
 pub mod HeadLaws
+pub mod PrunedLaws

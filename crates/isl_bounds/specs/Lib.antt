@@ -5,3 +5,4 @@ pub mod Ends
 pub mod Step
 pub mod Aligned
 pub mod Head
+pub mod Pruned

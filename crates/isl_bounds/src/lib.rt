@@ -4,6 +4,7 @@
 mod bound;
 mod ends;
 mod form;
+mod groups;
 mod head;
 mod side;
 mod step;
@@ -11,6 +12,7 @@ mod step;
 pub use bound::bound_of;
 pub use ends::Ends;
 pub use form::divided;
+pub use groups::pruned;
 pub use head::Head;
 pub use side::Side;
 pub use step::step_of;

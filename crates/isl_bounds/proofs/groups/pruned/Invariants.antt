@@ -1,0 +1,11 @@
+use Rattle.std.proofs.Common.{◌≤◌, length}
+use Rattle.isl_meter.specs.Gauge.{IsCharged}
+use Rattle.isl_bounds.specs.Pruned.{AreFewer}
+use Rattle.isl_bounds.proofs.groups.pruned.Given as goal
+
+abbrev pub invariant-loop-at : goal.invariant-loop-at
+invariant-loop-at l =
+    (l.at ≤ length l.kept.items) × AreFewer l.columns l.context l.groups l.kept.items × IsCharged l.fn.meter l.meter
+
+abbrev pub decreases-loop-at : goal.decreases-loop-at
+decreases-loop-at l = l.at
