@@ -15,7 +15,7 @@ use Rattle.isl_kinds.specs.Parts.{Part, parts_of, parts_in, parts_in_links, part
 use Rattle.isl_kinds.specs.Parts as part
 use Rattle.isl_flat.proofs.EachLaws.{Each}
 
-abbrev literals_among : List Part → List Literal
+abbrev pub literals_among : List Part → List Literal
 literals_among [] = []
 literals_among (part.literal l ∷ ps) = l ∷ literals_among ps
 literals_among (_ ∷ ps) = literals_among ps
@@ -29,7 +29,7 @@ both : (ps qs : List Part) (ls ms : List Literal) → literals_among ps ≡ ls �
 both ps qs ls ms left right = among-append ps qs ∙ ap₂ (λ (a b : List Literal). a ++ b) left right
 
 mutual
-  among_is : (expr : Expr) → literals_among (parts_of expr) ≡ literals_of expr
+  pub among_is : (expr : Expr) → literals_among (parts_of expr) ≡ literals_of expr
   among_is (e.Name name) = refl
   among_is (e.Literal literal) = refl
   among_is (Row' s first t links) =
