@@ -316,5 +316,5 @@ pub end_modulus : (g : Gauge) (variables : ℕ) (side : Side) (row entry : Row) 
     → pos 0 <ℤ entry.k
 end_modulus g variables side row entry end is =
     let formed : IsWellFormed variables (isolated variables row) =
-        subst (IsWellFormed variables) is (end_width g variables side row entry end is) in
+    subst (IsWellFormed variables) is (end_width g variables side row entry end is) in
     subst (λ (r : Row). pos 0 <ℤ r.k) (sym is) formed.modulus

@@ -157,9 +157,9 @@ module _ (g : Gauge) (variables : ℕ) (rows : List Row) (row : Row) (old : Ends
       let low = directed c row in
       let high = directed (neg_ℤ c) row in
       let first : IsEnd g variables Low low = directed_end g variables Low c row formed plain low_within
-          (subst (λ d. pos 0 <ℤ toward Low (sign_of c *ℤ d)) last (low_toward c named)) in
+      (subst (λ d. pos 0 <ℤ toward Low (sign_of c *ℤ d)) last (low_toward c named)) in
       let second : IsEnd g variables High high = directed_end g variables High (neg_ℤ c) row formed plain high_within
-          (subst (λ d. pos 0 <ℤ toward High (sign_of (neg_ℤ c) *ℤ d)) last (high_toward c named)) in
+      (subst (λ d. pos 0 <ℤ toward High (sign_of (neg_ℤ c) *ℤ d)) last (high_toward c named)) in
       ends_more (low ∷ []) (high ∷ []) [] (All-cons (IsEnd g variables Low) low [] first (All-nil (IsEnd g variables Low)))
       (All-cons (IsEnd g variables High) high [] second (All-nil (IsEnd g variables High)))
       (All-nil (λ r. (r ≡ row) × IsNoEnd variables r))
@@ -167,8 +167,7 @@ module _ (g : Gauge) (variables : ℕ) (rows : List Row) (row : Row) (old : Ends
       let H : Row → Type 0 = λ r. HoldsRow r point in
       let told = halves_tell row.kind row.k c (value_at row point) zero_kind named in
       let one = directed_says c row point in
-      let other = directed_says (neg_ℤ c) row point in
-      (
+      let other = directed_says (neg_ℤ c) row point in (
         (λ p. let t = told.0 p in (All-cons H low [] (one.1 t.0) (All-nil H), All-cons H high [] (other.1 t.1) (All-nil H), All-nil H)),
         (λ t. told.1 (one.0 (All-head H low [] t.0), other.0 (All-head H high [] t.1))),
       ))

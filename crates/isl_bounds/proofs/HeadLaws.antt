@@ -160,8 +160,8 @@ pub step_says : (g : Gauge) (variables : ℕ) (step : Row) (point : List ℤ) (x
 step_says g variables step point x is long =
     let H : Row → Type 0 = λ r. HoldsRow r (point ++ x ∷ []) in
     let told = moved step.kind step.k (value_at step (point ++ x ∷ [])) (x -ℤ value_at (isolated variables step) point) is.kind
-        (same (rest_at variables step point) (coef_at step variables) (value_at (isolated variables step) point)
-        (value_at step (point ++ x ∷ [])) is.last (value_apart variables step point x is.formed long) (step_own g variables step point is)) in
+    (same (rest_at variables step point) (coef_at step variables) (value_at (isolated variables step) point)
+    (value_at step (point ++ x ∷ [])) is.last (value_apart variables step point x is.formed long) (step_own g variables step point is)) in
     ((λ d. All-cons H step [] (told.0 d) (All-nil H)), (λ h. told.1 (All-head H step [] h)))
   where
     same : (f c own v : ℤ) → c ≡ pos 1 → v ≡ f +ℤ c *ℤ x → own ≡ neg_ℤ f → x -ℤ own ≡ v
@@ -231,11 +231,11 @@ module _ (g : Gauge) (variables : ℕ) (step : Row) (is : IsStep g variables ste
         let iso = isolated variables step in
         let wide : length own.coefs ≡ length point = ap (λ (r : Row). length r.coefs) own_is ∙ step_wide g variables step is ∙ sym long in
         let narrow : length coefs ≡ length point =
-            ap length coefs_is ∙ remove_long step.coefs variables is.formed.width ∙ sym long in
+        ap length coefs_is ∙ remove_long step.coefs variables is.formed.width ∙ sym long in
         let added : expr_value beyond point ≡ expr_value low point -ℤ value_at iso point =
-            by (expr_value beyond point) (expr_value low point) (dot coefs point) constant (dot (remove step.coefs variables) point)
-            step.constant (value_at iso point) (sum point narrow) (ap (λ (cs : List ℤ). dot cs point) coefs_is) constant_is
-            (step_own g variables step point is) in
+        by (expr_value beyond point) (expr_value low point) (dot coefs point) constant (dot (remove step.coefs variables) point)
+        step.constant (value_at iso point) (sum point narrow) (ap (λ (cs : List ℤ). dot cs point) coefs_is) constant_is
+        (step_own g variables step point is) in
         multiple point wide
         ∙ ap (λ (r : Row). value_at r point +ℤ k *ℤ ceil_div (expr_value beyond point) k) own_is
         ∙ ap (λ j. value_at iso point +ℤ j *ℤ ceil_div (expr_value beyond point) j) k_is

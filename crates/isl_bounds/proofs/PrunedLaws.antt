@@ -57,8 +57,7 @@ module _ (columns : ℕ) (context : List Row) (old : List (List Row)) where
     some = λ h. all_but (λ rows. 0 < length rows) kept at (is.some h);
     any = λ h. let long = length-remove kept at inside in omega (arith, long, two);
     points = λ point long holds.
-        let P : List Row → Type 0 = λ rows. HoldRows rows point in
-        (
+        let P : List Row → Type 0 = λ rows. HoldRows rows point in (
           (λ any. (is.points point long holds).0 (any_back P kept at inside any)),
           (λ any. elim (any_split P kept at [] inside ((is.points point long holds).1 any)) [
             | inl left ↦ left

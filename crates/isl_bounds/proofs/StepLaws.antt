@@ -131,10 +131,10 @@ module _ (g : Gauge) (variables : ℕ) (row : Row) (formed : IsWellFormed (varia
         let own = dot (coefs ++ pos 1 ∷ []) point in
         let theirs = dot row.coefs point in
         let n : divide.Divides row.k (own +ℤ constant -ℤ by *ℤ (theirs +ℤ row.constant)) =
-            Divides-same row.k (own -ℤ by *ℤ theirs +ℤ (constant -ℤ by *ℤ row.constant)) (own +ℤ constant -ℤ by *ℤ (theirs +ℤ row.constant))
-            (together own theirs constant row.constant by)
-            (Divides-+ℤ row.k (own -ℤ by *ℤ theirs) (constant -ℤ by *ℤ row.constant)
-            (dot_congruent row.k by row.coefs (coefs ++ pos 1 ∷ []) point whole_zip) near) in
+        Divides-same row.k (own -ℤ by *ℤ theirs +ℤ (constant -ℤ by *ℤ row.constant)) (own +ℤ constant -ℤ by *ℤ (theirs +ℤ row.constant))
+        (together own theirs constant row.constant by)
+        (Divides-+ℤ row.k (own -ℤ by *ℤ theirs) (constant -ℤ by *ℤ row.constant)
+        (dot_congruent row.k by row.coefs (coefs ++ pos 1 ∷ []) point whole_zip) near) in
         let told = same_divided row.k (coef_at row variables) by (theirs +ℤ row.constant) (own +ℤ constant) coprime inverse.inverse n in
         moved row.kind row.k (own +ℤ constant) (theirs +ℤ row.constant) kind told;
   })

@@ -68,9 +68,10 @@ impl Ends {
         requires within { IsRowWithin meter.now row.now }
         requires last { IsWithin meter.now last }
         ensures rows { OnOk result (self.new ≡ record {
-            low = self.old.low ++ directed last row.now ∷ [];
-            high = self.old.high ++ directed (neg_ℤ last) row.now ∷ [];
-            others = self.old.others }) }
+          low = self.old.low ++ directed last row.now ∷ [];
+          high = self.old.high ++ directed (neg_ℤ last) row.now ∷ [];
+          others = self.old.others;
+        }) }
         ensures low { OnOk result (IsRowWithin meter.now (directed last row.now)) }
         ensures high { OnOk result (IsRowWithin meter.now (directed (neg_ℤ last) row.now)) }
     {

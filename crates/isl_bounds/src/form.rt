@@ -56,7 +56,12 @@ pub(crate) fn of_atom(alloc: Global, atom: Atom) -> Result<Expr, AllocError>
 }
 
 // The expression divided by `k`, and rounded to a side.
-pub(crate) fn quotient(alloc: Global, dividend: Expr, k: Int, side: Side) -> Result<Expr, AllocError>
+pub(crate) fn quotient(
+    alloc: Global,
+    dividend: Expr,
+    k: Int,
+    side: Side,
+) -> Result<Expr, AllocError>
     requires { pos 0 <ℤ k }
     ensures over { (g : Gauge) (n : ℕ) → 8 ≤ g.bits → IsExprOver g n dividend → IsWithin g k → IfOk result (IsExprOver g n) }
     ensures value { (point : List ℤ) → IfOk result (λ e. expr_value e point ≡ rounded side (expr_value dividend point) k) }

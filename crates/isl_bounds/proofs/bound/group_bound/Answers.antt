@@ -10,7 +10,7 @@ loop-row-preserved c =
     let rows = c.args.rows.now in
     let same : c.as_slice-row-items.result.now ≡ rows = c.as_slice-row-items.ensures in
     let at : c.row-item.result ≡ get_or rows c.loop-row.row-index c.row-item.result =
-        subst (λ (rs : List Row). c.row-item.result ≡ get_or rs c.loop-row.row-index c.row-item.result) same c.row-item.is in
+    subst (λ (rs : List Row). c.row-item.result ≡ get_or rs c.loop-row.row-index c.row-item.result) same c.row-item.is in
     let low : c.loop-row.row-index < length rows = grind (arith, common_steps) in
     bounds_more c.args.meter.now c.args.variables c.args.side HoldsRow rows c.loop-row.row-index c.row-item.result c.loop-row.bounds
     c.in_ok-end_bound.field-0 c.push.new.self low at c.loop-row.invariant c.in_ok-end_bound.ensures c.in_ok-push.ensures.ok

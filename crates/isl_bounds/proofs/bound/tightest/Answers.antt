@@ -31,7 +31,7 @@ returns-in-Low-clause-over c g n wide over =
     let same : c.args.bounds ≡ c.push.new.self = c.in-Some.ensures ∙ sym c.in_ok-push.ensures.ok in
     let some : ¬ (c.pop.new.self ≡ []) = λ e. false≢true (sym c.if-is_empty.false ∙ c.is_empty.ensures.1 e) in
     let two : 2 ≤ length c.args.bounds = subst (λ (es : List Expr). 2 ≤ length es) (sym c.in-Some.ensures)
-        (two_long c.pop.new.self c.in-Some.last some) in
+    (two_long c.pop.new.self c.in-Some.last some) in
     c.of_atom.ensures.over g n wide
     ((greatest_parts g n (Max c.push.new.self) c.push.new.self c.args.bounds refl same).1 (over, two))
 
@@ -47,7 +47,7 @@ returns-in-High-clause-over c g n wide over =
     let same : c.args.bounds ≡ c.push.new.self = c.in-Some.ensures ∙ sym c.in_ok-push.ensures.ok in
     let some : ¬ (c.pop.new.self ≡ []) = λ e. false≢true (sym c.if-is_empty.false ∙ c.is_empty.ensures.1 e) in
     let two : 2 ≤ length c.args.bounds = subst (λ (es : List Expr). 2 ≤ length es) (sym c.in-Some.ensures)
-        (two_long c.pop.new.self c.in-Some.last some) in
+    (two_long c.pop.new.self c.in-Some.last some) in
     c.of_atom-in-High.ensures.over g n wide
     ((least_parts g n (Min c.push.new.self) c.push.new.self c.args.bounds refl same).1 (over, two))
 

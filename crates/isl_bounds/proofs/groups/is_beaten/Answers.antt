@@ -11,7 +11,7 @@ are_known-requires-clause-rows c =
     let g = c.args.meter.now in
     let group = c.index-groups-at.result in
     let own : AreRowsOver g c.args.columns group =
-        subst (AreRowsOver g c.args.columns) (sym c.index-groups-at.is) (c.requires.groups c.args.at group c.requires.inside) in
+    subst (AreRowsOver g c.args.columns) (sym c.index-groups-at.is) (c.requires.groups c.args.at group c.requires.inside) in
     over_later g c.loop-i.meter c.args.columns c.in_ok-here.here c.loop-i.invariant
     (both_over g c.args.columns c.args.context.now group c.in_ok-here.here c.in_ok-here.ensures c.requires.context own)
 
@@ -33,6 +33,6 @@ returns-then-branch-clause-beaten c told =
     let there = get_or_read groups i c.index-groups-i.result low c.index-groups-i.is [] in
     let known : AreKnown c.args.columns c.in_ok-here.here c.index-groups-i.result = c.in_ok-are_known.ensures.exact.0 c.if-branch.true in
     let first : AreKnown c.args.columns (c.args.context.now ++ get_or groups c.args.at []) c.index-groups-i.result =
-        subst (λ (rows : List Row). AreKnown c.args.columns rows c.index-groups-i.result)
-        (c.in_ok-here.ensures ∙ ap (λ (rows : List Row). c.args.context.now ++ rows) here) known in
+    subst (λ (rows : List Row). AreKnown c.args.columns rows c.index-groups-i.result)
+    (c.in_ok-here.ensures ∙ ap (λ (rows : List Row). c.args.context.now ++ rows) here) known in
     (i, low, other, subst (λ (rows : List Row). AreKnown c.args.columns (c.args.context.now ++ get_or groups c.args.at []) rows) there first)

@@ -18,7 +18,7 @@ pub is_beaten-requires-clause-groups : goal.is_beaten-requires-clause-groups
 is_beaten-requires-clause-groups c =
     let kept = c.loop-at.kept.items in
     let over = groups_later c.args.meter.now c.loop-at.meter c.args.columns kept c.loop-at.invariant.2
-        (fewer_over c.args.columns c.args.context.now c.args.groups.now c.args.meter.now kept c.loop-at.invariant.1 c.requires.groups) in
+    (fewer_over c.args.columns c.args.context.now c.args.groups.now c.args.meter.now kept c.loop-at.invariant.1 c.requires.groups) in
     subst (All (AreRowsOver c.loop-at.meter c.args.columns)) (sym c.as_slice.ensures.value) over
 
 pub loop-at-preserved-then-branch : goal.loop-at-preserved-then-branch
@@ -28,14 +28,13 @@ loop-at-preserved-then-branch c =
     let inside : at < length kept = omega arith in
     let two : 1 < length kept = grind (arith, common_steps) in
     let beaten : IsBeaten c.args.columns c.args.context.now kept at =
-        subst (λ (gs : List (List Row)). IsBeaten c.args.columns c.args.context.now gs at) c.as_slice.ensures.value
-        (c.in_ok-is_beaten.ensures.beaten c.if-branch.true) in
+    subst (λ (gs : List (List Row)). IsBeaten c.args.columns c.args.context.now gs at) c.as_slice.ensures.value
+    (c.in_ok-is_beaten.ensures.beaten c.if-branch.true) in
     let long = length-remove kept at inside in
     let low : at ≤ length (remove kept at) = omega (arith, long, inside) in
     let fewer : AreFewer c.args.columns c.args.context.now c.args.groups.now (remove kept at) =
-        fewer_less c.args.columns c.args.context.now c.args.groups.now kept at inside two c.loop-at.invariant.1 beaten in
-    let left = c.drop_group.ensures in
-    (
+    fewer_less c.args.columns c.args.context.now c.args.groups.now kept at inside two c.loop-at.invariant.1 beaten in
+    let left = c.drop_group.ensures in (
       subst (λ (gs : List (List Row)). at ≤ length gs) (sym left) low,
       subst (AreFewer c.args.columns c.args.context.now c.args.groups.now) (sym left) fewer,
       IsCharged_trans c.args.meter.now c.loop-at.meter c.is_beaten.new.meter c.loop-at.invariant.2 c.in_ok-is_beaten.ensures.meter,

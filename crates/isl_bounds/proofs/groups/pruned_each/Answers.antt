@@ -19,7 +19,7 @@ needed-requires-clause-rows c =
     let rows = c.rows-item.result in
     let low : c.loop-rows.rows-index < length c.args.groups.now = omega arith in
     let own : AreRowsOver g c.args.columns rows =
-        subst (AreRowsOver g c.args.columns) (sym c.rows-item.is) (c.requires.groups c.loop-rows.rows-index rows low) in
+    subst (AreRowsOver g c.args.columns) (sym c.rows-item.is) (c.requires.groups c.loop-rows.rows-index rows low) in
     over_later g c.loop-rows.meter c.args.columns c.in_ok-own.own c.loop-rows.invariant.1
     (subst (AreRowsOver g c.args.columns) (sym c.in_ok-own.ensures) own)
 
@@ -31,9 +31,8 @@ loop-rows-preserved c =
     let low : c.loop-rows.rows-index < length groups = omega arith in
     let pushed : c.push.new.self.items ≡ c.loop-rows.kept.items ++ few ∷ [] = grind (arith, common_steps) in
     let one : IsFewer c.args.columns c.args.context.now groups rows few =
-        subst (λ (r : List Row). IsFewer c.args.columns c.args.context.now groups r few) c.in_ok-own.ensures
-        (c.in_ok-needed.ensures.exact, c.in_ok-needed.ensures.least) in
-    (
+    subst (λ (r : List Row). IsFewer c.args.columns c.args.context.now groups r few) c.in_ok-own.ensures
+    (c.in_ok-needed.ensures.exact, c.in_ok-needed.ensures.least) in (
       fewer_more c.args.columns c.args.context.now groups c.loop-rows.rows-index rows c.loop-rows.kept.items few c.push.new.self.items low
           c.rows-item.is c.loop-rows.invariant.0 one pushed,
       IsCharged_trans c.args.meter.now c.loop-rows.meter c.needed.new.meter c.loop-rows.invariant.1 c.in_ok-needed.ensures.meter,

@@ -21,11 +21,10 @@ returns c =
     let same : k ≡ step.k = grind (arith, common_steps, to_z-of_z) in
     let own = c.in_ok-own.ensures.exact in
     let wide : length c.in_ok-own.own.coefs ≡ variables =
-        ap (λ (r : Row). length r.coefs) own ∙ step_wide g variables step c.requires.step in
-    (
+    ap (λ (r : Row). length r.coefs) own ∙ step_wide g variables step c.requires.step in (
       aligned_to g variables step c.requires.step c.args.low c.in_ok-beyond.beyond c.in_ok-plus_multiple.field-0 c.in_ok-own.own
-      c.as_slice.result.now c.constant.result k own coefs c.constant.ensures same beyond.0.1 c.in_ok-plus_multiple.ensures.value
-      (c.in_ok-plus_multiple.ensures.over g variables c.in_ok-own.ensures.within wide
-      (subst (λ (n : ℕ). IsExprOver g n c.in_ok-beyond.beyond) narrow beyond.0.0) (subst (IsWithin g) (sym same) c.requires.step.within.k)),
+          c.as_slice.result.now c.constant.result k own coefs c.constant.ensures same beyond.0.1 c.in_ok-plus_multiple.ensures.value
+          (c.in_ok-plus_multiple.ensures.over g variables c.in_ok-own.ensures.within wide
+          (subst (λ (n : ℕ). IsExprOver g n c.in_ok-beyond.beyond) narrow beyond.0.0) (subst (IsWithin g) (sym same) c.requires.step.within.k)),
       beyond.1,
     )

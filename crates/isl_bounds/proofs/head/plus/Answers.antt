@@ -16,13 +16,12 @@ returns c =
     let same : z ≡ c.in_ok-constant.constant = grind (arith, common_steps, to_z-of_z) in
     let number : z ≡ (out-Expr e).constant +ℤ c.args.constant = grind (arith, common_steps, to_z-of_z) in
     let meter : c.add.new.meter ≡ g = grind (arith, common_steps) in
-    let within : IsWithin g z = subst (IsWithin g) (sym same) c.in_ok-constant.ensures.1 in
-    (
+    let within : IsWithin g z = subst (IsWithin g) (sym same) c.in_ok-constant.ensures.1 in (
       (
         plus_over g n e more c.append.new.self z c.in_ok-append.ensures c.requires.over (c.in_ok-summands.ensures.over g n c.requires.coefs refl)
-        within,
+            within,
         (λ point long. plus_value e more c.append.new.self z _ c.args.constant point c.in_ok-append.ensures number
-        (c.in_ok-summands.ensures.value point long)),
+            (c.in_ok-summands.ensures.value point long)),
       ),
       meter,
     )

@@ -15,8 +15,7 @@ loop-i-preserved c =
     let low : c.loop-i.i < length row.coefs = omega (arith, wide) in
     let modulus = c.modulus.ensures in
     let near : IsCongruent row.k d (c.args.by *ℤ c.get.result) = rw modulus at one.0 in
-    let within : IsWithin c.args.meter.now d = subst (λ (g : Gauge). IsWithin g d) so_far.2 one.1 in
-    (
+    let within : IsWithin c.args.meter.now d = subst (λ (g : Gauge). IsWithin g d) so_far.2 one.1 in (
       congruent_more row.k c.args.by row.coefs c.loop-i.i c.loop-i.coefs c.get.result d c.push.new.self low c.get.ensures so_far.0 near
           c.in_ok-push.ensures.ok,
       all_within_more c.args.meter.now c.loop-i.coefs d c.push.new.self so_far.1 within c.in_ok-push.ensures.ok,

@@ -40,12 +40,11 @@ returns c =
     let near : IsCongruent row.k c.in_ok-constant.constant (c.inverse-by.result *ℤ row.constant) = rw (own, modulus) at constant.0 in
     let within : IsWithin g c.in_ok-constant.constant = subst (λ (h : Gauge). IsWithin h c.in_ok-constant.constant) meter constant.1 in
     let made : c.new.result ≡ record { kind = Divides; coefs = c.in_ok-coefs.coefs ++ pos 1 ∷ []; constant = c.in_ok-constant.constant; k = row.k } =
-        grind (arith, common_steps) in
-    (
+    grind (arith, common_steps) in (
       (
         step_is g c.args.variables row c.requires.row c.requires.kind c.requires.within coprime c.inverse-by.result inverse
-        c.in_ok-coefs.coefs coefs.0.0 coefs.0.1 (IsWithin-small g (pos 1) c.limit-limit.ensures.bits_low (omega arith))
-        c.in_ok-constant.constant near within c.new.result made,
+            c.in_ok-coefs.coefs coefs.0.0 coefs.0.1 (IsWithin-small g (pos 1) c.limit-limit.ensures.bits_low (omega arith))
+            c.in_ok-constant.constant near within c.new.result made,
         (λ e. absurd (false≢true (sym e))),
       ),
       constant.2 ∙ meter,
