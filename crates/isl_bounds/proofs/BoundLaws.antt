@@ -1,5 +1,6 @@
 -- Inequalities as bounds, and bounds put together.
-use Rattle.std.proofs.Common.{◌≡◌, ◌≢◌, ◌↔◌, ◌⊎◌, inl, inr, refl, sym, ap, ◌∙◌, subst, arith, Bool, true, false, ℕ, zero, suc, ◌+◌, ◌<◌, ◌≤◌}
+use Rattle.std.proofs.Common.{◌≡◌, ◌≢◌, ◌↔◌, ◌⊎◌, inl, inr, refl, sym, ap, ◌∙◌, subst, arith, Bool, true, false, ℕ, zero, suc, ◌+◌, ◌<◌}
+use Rattle.std.proofs.Common.{◌≤◌}
 use Rattle.std.proofs.Common.{ℤ, pos, negsuc, neg_ℤ, ◌+ℤ◌, ◌*ℤ◌, ◌<ℤ◌, ◌≤ℤ◌, List, [], ◌∷◌, ◌++◌, length, get_or, take}
 use Rattle.std.specs.List.{All, AllZip, Any}
 use Rattle.std.specs.Int.{int_max, int_min}
@@ -10,7 +11,7 @@ use Rattle.std.specs.Prelude.{int_lt, IfOk, Result, Ok, Err}
 use Rattle.isl_math.specs.Divide.{floor_div}
 use Rattle.isl_math.specs.Order.{abs_of, sign_of}
 use Rattle.isl_math.proofs.DivideLaws.{at_most_floor}
-use Rattle.isl_math.proofs.ListLaws.{AllZip-more, Any-cases, Any-first, Any-later, Any-none, Any-one}
+use Rattle.isl_math.proofs.ListLaws.{AllZip-more, Any-cases, Any-first, Any-later, Any-none}
 use Rattle.isl_math.proofs.Ring.{expand, linear}
 use Rattle.isl_meter.specs.Gauge.{Gauge}
 use Rattle.isl_piece.specs.declared.row.RowKind.{RowKind}
@@ -82,7 +83,8 @@ end_exact g variables side r z point x is long e =
     is.kind e (value_apart variables r point x is.formed long)
     (end_lets side f c (value_at (isolated variables r) point) x is.toward (value_isolated variables r point))
   where
-    moved : (kind : RowKind) (k z y v w : ℤ) → kind ≡ AtLeast → z ≡ y → v ≡ w → Lets side y x ↔ (pos 0 ≤ℤ w) → Lets side z x ↔ HoldsValue kind k v
+    moved : (kind : RowKind) (k z y v w : ℤ) → kind ≡ AtLeast → z ≡ y → v ≡ w → Lets side y x ↔ (pos 0 ≤ℤ w)
+        → Lets side z x ↔ HoldsValue kind k v
     moved kind k z y v w a b c told = rw (a, b, c) told
 
 -- ---- two bounds
@@ -111,33 +113,69 @@ greatest_lets : (a b x : ℤ) → (int_max a b ≤ℤ x) ↔ ((a ≤ℤ x) × (b
 greatest_lets a b x = by (int_max a b) (int_max_is a b)
   where
     by : (m : ℤ) → ((m ≡ a) × (b ≤ℤ a)) ⊎ ((m ≡ b) × (a ≤ℤ b)) → (m ≤ℤ x) ↔ ((a ≤ℤ x) × (b ≤ℤ x))
-    by m (inl c) = let e = c.0 in let l = c.1 in ((λ h. (omega (arith, linear, e, h), omega (arith, linear, e, l, h))), (λ h. let t = h.0 in omega (arith, linear, e, t)))
-    by m (inr c) = let e = c.0 in let l = c.1 in ((λ h. (omega (arith, linear, e, l, h), omega (arith, linear, e, h))), (λ h. let t = h.1 in omega (arith, linear, e, t)))
+    by m (inl c) = let e = c.0 in let l = c.1 in (
+      (λ h. (omega (arith, linear, e, h), omega (arith, linear, e, l, h))),
+      (λ h. let t = h.0 in omega (arith, linear, e, t)),
+    )
+    by m (inr c) = let e = c.0 in let l = c.1 in (
+      (λ h. (omega (arith, linear, e, l, h), omega (arith, linear, e, h))),
+      (λ h. let t = h.1 in omega (arith, linear, e, t)),
+    )
 
 least_lets : (a b x : ℤ) → (x ≤ℤ int_min a b) ↔ ((x ≤ℤ a) × (x ≤ℤ b))
 least_lets a b x = by (int_min a b) (int_min_is a b)
   where
     by : (m : ℤ) → ((m ≡ a) × (a ≤ℤ b)) ⊎ ((m ≡ b) × (b ≤ℤ a)) → (x ≤ℤ m) ↔ ((x ≤ℤ a) × (x ≤ℤ b))
-    by m (inl c) = let e = c.0 in let l = c.1 in ((λ h. (omega (arith, linear, e, h), omega (arith, linear, e, l, h))), (λ h. let t = h.0 in omega (arith, linear, e, t)))
-    by m (inr c) = let e = c.0 in let l = c.1 in ((λ h. (omega (arith, linear, e, l, h), omega (arith, linear, e, h))), (λ h. let t = h.1 in omega (arith, linear, e, t)))
+    by m (inl c) = let e = c.0 in let l = c.1 in (
+      (λ h. (omega (arith, linear, e, h), omega (arith, linear, e, l, h))),
+      (λ h. let t = h.0 in omega (arith, linear, e, t)),
+    )
+    by m (inr c) = let e = c.0 in let l = c.1 in (
+      (λ h. (omega (arith, linear, e, l, h), omega (arith, linear, e, h))),
+      (λ h. let t = h.1 in omega (arith, linear, e, t)),
+    )
 
 greatest_some : (a b x : ℤ) → (x ≤ℤ int_max a b) ↔ ((x ≤ℤ a) ⊎ (x ≤ℤ b))
 greatest_some a b x = by (int_max a b) (int_max_is a b)
   where
     by : (m : ℤ) → ((m ≡ a) × (b ≤ℤ a)) ⊎ ((m ≡ b) × (a ≤ℤ b)) → (x ≤ℤ m) ↔ ((x ≤ℤ a) ⊎ (x ≤ℤ b))
-    by m (inl c) = let e = c.0 in let l = c.1 in
-        ((λ h. inl (omega (arith, linear, e, h))), (λ h. elim h [ inl t ↦ omega (arith, linear, e, t) | inr t ↦ omega (arith, linear, e, l, t) ]))
-    by m (inr c) = let e = c.0 in let l = c.1 in
-        ((λ h. inr (omega (arith, linear, e, h))), (λ h. elim h [ inl t ↦ omega (arith, linear, e, l, t) | inr t ↦ omega (arith, linear, e, t) ]))
+    by m (inl c) = let e = c.0 in let l = c.1 in (
+      (λ h. inl (omega (arith, linear, e, h))),
+      (λ h. elim h [
+        | inl t ↦ omega (arith, linear, e, t)
+        | inr t ↦ omega
+            (arith, linear, e, l, t)
+      ]),
+    )
+    by m (inr c) = let e = c.0 in let l = c.1 in (
+      (λ h. inr (omega (arith, linear, e, h))),
+      (λ h. elim h [
+        | inl t ↦ omega (arith, linear, e, l, t)
+        | inr t ↦ omega
+            (arith, linear, e, t)
+      ]),
+    )
 
 least_some : (a b x : ℤ) → (int_min a b ≤ℤ x) ↔ ((a ≤ℤ x) ⊎ (b ≤ℤ x))
 least_some a b x = by (int_min a b) (int_min_is a b)
   where
     by : (m : ℤ) → ((m ≡ a) × (a ≤ℤ b)) ⊎ ((m ≡ b) × (b ≤ℤ a)) → (m ≤ℤ x) ↔ ((a ≤ℤ x) ⊎ (b ≤ℤ x))
-    by m (inl c) = let e = c.0 in let l = c.1 in
-        ((λ h. inl (omega (arith, linear, e, h))), (λ h. elim h [ inl t ↦ omega (arith, linear, e, t) | inr t ↦ omega (arith, linear, e, l, t) ]))
-    by m (inr c) = let e = c.0 in let l = c.1 in
-        ((λ h. inr (omega (arith, linear, e, h))), (λ h. elim h [ inl t ↦ omega (arith, linear, e, l, t) | inr t ↦ omega (arith, linear, e, t) ]))
+    by m (inl c) = let e = c.0 in let l = c.1 in (
+      (λ h. inl (omega (arith, linear, e, h))),
+      (λ h. elim h [
+        | inl t ↦ omega (arith, linear, e, t)
+        | inr t ↦ omega
+            (arith, linear, e, l, t)
+      ]),
+    )
+    by m (inr c) = let e = c.0 in let l = c.1 in (
+      (λ h. inr (omega (arith, linear, e, h))),
+      (λ h. elim h [
+        | inl t ↦ omega (arith, linear, e, l, t)
+        | inr t ↦ omega
+            (arith, linear, e, t)
+      ]),
+    )
 
 both_let : (side : Side) (a b x : ℤ) → Lets side (tighter side a b) x ↔ (Lets side a x × Lets side b x)
 both_let Low a b x = greatest_lets a b x
@@ -279,7 +317,8 @@ module _ {X : Type 0} (g : Gauge) (variables : ℕ) (side : Side) (Q : X → Lis
 pub end_told : {E : Type 0} (answer : Result Expr E) (g : Gauge) (variables : ℕ) (side : Side) (row entry : Row)
     → IsEnd g variables side row → entry ≡ isolated variables row → length entry.coefs ≡ variables
     → IfOk answer (IsExprOver g variables)
-    → ((point : List ℤ) → length entry.coefs ≡ length point → IfOk answer (λ e. expr_value e point ≡ rounded side (value_at entry point) entry.k))
+    → ((point : List ℤ) → length entry.coefs ≡ length point → IfOk answer (λ e. expr_value e point ≡ rounded side
+    (value_at entry point) entry.k))
     → IfOk answer (IsBoundOf g variables side (HoldsRow row))
 end_told (Ok e) g variables side row entry end is wide over value = record {
   over = over;

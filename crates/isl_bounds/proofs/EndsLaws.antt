@@ -1,10 +1,10 @@
 -- Rows taken apart.
-use Rattle.std.proofs.Common.{◌≡◌, ◌≢◌, ◌↔◌, ◌⊎◌, inl, inr, refl, sym, ap, ◌∙◌, subst, arith, ℕ, zero, suc, ◌+◌, ◌<◌, ◌≤◌}
-use Rattle.std.proofs.Common.{ℤ, pos, negsuc, neg_ℤ, ◌+ℤ◌, ◌*ℤ◌, ◌<ℤ◌, ◌≤ℤ◌, List, [], ◌∷◌, ◌++◌, length, length-append, get_or, map}
+use Rattle.std.proofs.Common.{◌≡◌, ◌≢◌, ◌↔◌, refl, sym, ap, ◌∙◌, subst, arith, ℕ, zero, suc, ◌+◌}
+use Rattle.std.proofs.Common.{ℤ, pos, negsuc, neg_ℤ, ◌+ℤ◌, ◌*ℤ◌, ◌<ℤ◌, ◌≤ℤ◌, List, [], ◌∷◌, ◌++◌}
 use Rattle.std.specs.Prelude.{OnOk, Result, Ok, Err}
 use Rattle.std.specs.List.{All, Contains}
-use Rattle.std.proofs.lemmas.List.{append-nil, get_or-map, length-map, take_all, take_more}
-use Rattle.std.proofs.lemmas.List.Elements.{All-append, All-cons, All-head, All-nil, All-tail, All-weaker}
+use Rattle.std.proofs.lemmas.List.{append-nil, get_or-map, length-map}
+use Rattle.std.proofs.lemmas.List.Elements.{All-append, All-cons, All-head, All-nil, All-weaker}
 use Rattle.std.proofs.lemmas.List.Elements.{Contains-append_left, Contains-push}
 use Rattle.isl_math.specs.Dot.{dot, scaled}
 use Rattle.isl_math.specs.Order.{sign_of}
@@ -14,7 +14,7 @@ use Rattle.isl_math.proofs.OrderLaws.{abs_positive, sign-*ℤ}
 use Rattle.isl_math.proofs.Ring.{expand, linear}
 use Rattle.isl_meter.specs.Gauge.{Gauge}
 use Rattle.isl_piece.specs.declared.row.RowKind.{RowKind}
-use Rattle.isl_piece.specs.declared.row.RowKind.TheVariants.{Zero, AtLeast, Divides, NotDivides}
+use Rattle.isl_piece.specs.declared.row.RowKind.TheVariants.{Zero, AtLeast}
 use Rattle.isl_piece.specs.declared.row.Row.{Row}
 use Rattle.isl_piece.specs.Row.{coef_at, value_at, HasModulus, HoldsRow, HoldsValue, IsRowWithin, IsWellFormed}
 use Rattle.isl_piece.specs.System.{HoldRows}
@@ -126,7 +126,8 @@ module _ (g : Gauge) (variables : ℕ) (rows : List Row) (row : Row) (old : Ends
   pub ends_low : IsEnd g variables Low row → (new : Ends) → new.low ≡ old.low ++ row ∷ [] → new.high ≡ old.high → new.others ≡ old.others
       → AreEndsOf g variables (rows ++ row ∷ []) new
   ends_low end new e f h =
-      ends_more (row ∷ []) [] [] (All-cons (IsEnd g variables Low) row [] end (All-nil (IsEnd g variables Low))) (All-nil (IsEnd g variables High))
+      ends_more (row ∷ []) [] [] (All-cons (IsEnd g variables Low) row [] end (All-nil (IsEnd g variables Low))) (All-nil
+      (IsEnd g variables High))
       (All-nil (λ r. (r ≡ row) × IsNoEnd variables r))
       (λ point. let a = alone point in ((λ p. (a.0 p, nothing point, nothing point)), (λ t. a.1 t.0)))
       new e (f ∙ same_end new old.high) (h ∙ same_end new old.others)
@@ -134,7 +135,8 @@ module _ (g : Gauge) (variables : ℕ) (rows : List Row) (row : Row) (old : Ends
   pub ends_high : IsEnd g variables High row → (new : Ends) → new.low ≡ old.low → new.high ≡ old.high ++ row ∷ [] → new.others ≡ old.others
       → AreEndsOf g variables (rows ++ row ∷ []) new
   ends_high end new e f h =
-      ends_more [] (row ∷ []) [] (All-nil (IsEnd g variables Low)) (All-cons (IsEnd g variables High) row [] end (All-nil (IsEnd g variables High)))
+      ends_more [] (row ∷ []) [] (All-nil (IsEnd g variables Low)) (All-cons (IsEnd g variables High) row [] end (All-nil
+      (IsEnd g variables High)))
       (All-nil (λ r. (r ≡ row) × IsNoEnd variables r))
       (λ point. let a = alone point in ((λ p. (nothing point, a.0 p, nothing point)), (λ t. a.1 t.1)))
       new (e ∙ same_end new old.low) f (h ∙ same_end new old.others)

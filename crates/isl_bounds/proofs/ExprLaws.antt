@@ -1,18 +1,19 @@
 -- Expressions as they are made.
-use Rattle.std.proofs.Common.{◌≡◌, refl, sym, ap, ◌∙◌, subst, arith, ℕ, ◌+◌, ◌<◌, ◌≤◌, ℤ, pos, ◌+ℤ◌, ◌*ℤ◌, ◌<ℤ◌, List, [], ◌∷◌, ◌++◌, length, length-append}
+use Rattle.std.proofs.Common.{◌≡◌, refl, sym, ap, ◌∙◌, arith, ℕ, ◌≤◌, ℤ, pos, ◌+ℤ◌, ◌*ℤ◌, List, [], ◌∷◌, ◌++◌}
+use Rattle.std.proofs.Common.{length, length-append}
 use Rattle.std.specs.List.{All}
 use Rattle.std.proofs.lemmas.List.Elements.{All-cons, All-nil}
 use Rattle.isl_math.specs.Divide.{floor_div}
 use Rattle.isl_math.proofs.Ring.{linear}
 use Rattle.isl_meter.specs.Gauge.{Gauge, IsWithin}
-use Rattle.isl_loop.specs.declared.tree.Expr.{Expr, Expr', out-Expr, roll-Expr, items_hidden-the_row-Item-2, items_shown-the_row-Item-2}
+use Rattle.isl_loop.specs.declared.tree.Expr.{Expr, out-Expr, roll-Expr, items_hidden-the_row-Item-2, items_shown-the_row-Item-2}
 use Rattle.isl_loop.specs.declared.tree.Atom.TheBlock.{hidden-the_row-Item-2}
 use Rattle.isl_loop.specs.declared.tree.Item.{Item}
-use Rattle.isl_loop.specs.declared.tree.Atom.{Atom, Ceil, Floor, Max, Min}
+use Rattle.isl_loop.specs.declared.tree.Atom.{Ceil, Floor}
 use Rattle.isl_loop.specs.Expr.{atom_value, ceil_div, expr_value}
 use Rattle.isl_loop.specs.Formed.{IsAtomOver, IsExprOver}
 use Rattle.isl_loop.specs.Lists.{sum_of, IsItemOver}
-use Rattle.isl_loop.proofs.TreeLaws.{value_of-Ceil, value_of-Expr, value_of-Floor, value_of-Max, value_of-Min}
+use Rattle.isl_loop.proofs.TreeLaws.{value_of-Ceil, value_of-Expr, value_of-Floor}
 use Rattle.isl_ast.proofs.FormedLaws.{expr_parts}
 
 abbrev pub made_expr : List Item → ℤ → Expr
@@ -30,7 +31,8 @@ pub made_value : (items : List Item) (z : ℤ) (point : List ℤ) → expr_value
 made_value items z point =
     value_of-Expr (made_expr items z) point ∙ rw (items_made items z, constant_made items z) refl
 
-pub made_over : (g : Gauge) (n : ℕ) (items : List Item) (z : ℤ) → All (IsItemOver g n) items → IsWithin g z → IsExprOver g n (made_expr items z)
+pub made_over : (g : Gauge) (n : ℕ) (items : List Item) (z : ℤ) → All (IsItemOver g n) items → IsWithin g z
+    → IsExprOver g n (made_expr items z)
 made_over g n items z all within =
     (expr_parts g n (made_expr items z) items z (sym (items_made items z)) (sym (constant_made items z))).1 (within, all)
 
@@ -38,7 +40,8 @@ made_over g n items z all within =
 pub one_over : (g : Gauge) (n : ℕ) (items : List Item) (item : Item) → items ≡ item ∷ [] → IsWithin g item.coef → IsAtomOver g n item.atom
     → IsWithin g (pos 0) → IsExprOver g n (made_expr items (pos 0))
 one_over g n items item is coef atom none =
-    made_over g n items (pos 0) (rw is (All-cons (IsItemOver g n) item [] (record { coef = coef; atom = atom }) (All-nil (IsItemOver g n)))) none
+    made_over g n items (pos 0) (rw is (All-cons (IsItemOver g n) item [] (record { coef = coef; atom = atom }) (All-nil
+    (IsItemOver g n)))) none
 
 pub one_value : (items : List Item) (item : Item) (point : List ℤ) → items ≡ item ∷ [] → item.coef ≡ pos 1
     → expr_value (made_expr items (pos 0)) point ≡ atom_value item.atom point

@@ -1,5 +1,6 @@
 -- Forms as expressions.
-use Rattle.std.proofs.Common.{◌≡◌, refl, sym, ap, ◌∙◌, subst, arith, ℕ, ◌+◌, ◌<◌, ◌≤◌, ℤ, pos, ◌+ℤ◌, ◌*ℤ◌, List, [], ◌∷◌, ◌++◌, length, get_or, take}
+use Rattle.std.proofs.Common.{◌≡◌, sym, ap, ◌∙◌, subst, arith, ℕ, ◌+◌, ◌<◌, ◌≤◌, ℤ, pos, ◌+ℤ◌, ◌*ℤ◌, List, [], ◌∷◌, ◌++◌, length}
+use Rattle.std.proofs.Common.{get_or, take}
 use Rattle.std.specs.List.{All}
 use Rattle.std.proofs.lemmas.List.{take_all}
 use Rattle.std.proofs.lemmas.List.Elements.{All-push}
@@ -10,7 +11,6 @@ use Rattle.isl_meter.specs.Gauge.{Gauge, IsWithin}
 use Rattle.isl_loop.specs.declared.tree.Item.{Item}
 use Rattle.isl_loop.specs.declared.tree.Atom.{Atom, Column}
 use Rattle.isl_loop.specs.Expr.{atom_value}
-use Rattle.isl_loop.specs.Formed.{IsAtomOver}
 use Rattle.isl_loop.specs.Lists.{sum_of, IsItemOver}
 use Rattle.isl_ast.proofs.FormedLaws.{column_parts}
 

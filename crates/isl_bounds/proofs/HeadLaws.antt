@@ -1,6 +1,7 @@
 -- Heads of loops.
-use Rattle.std.proofs.Common.{◌≡◌, ◌≢◌, ◌↔◌, refl, sym, ap, ◌∙◌, subst, arith, ℕ, zero, suc, ◌+◌, ◌<◌, ◌≤◌, ℤ, pos, negsuc, neg_ℤ, ◌+ℤ◌, ◌-ℤ◌, ◌*ℤ◌, ◌<ℤ◌, ◌≤ℤ◌}
-use Rattle.std.proofs.Common.{List, [], ◌∷◌, ◌++◌, length, get_or}
+use Rattle.std.proofs.Common.{◌≡◌, ◌≢◌, ◌↔◌, refl, sym, ap, ◌∙◌, subst, arith, ℕ, ℤ, pos, negsuc, neg_ℤ, ◌+ℤ◌}
+use Rattle.std.proofs.Common.{◌-ℤ◌, ◌*ℤ◌, ◌<ℤ◌, ◌≤ℤ◌}
+use Rattle.std.proofs.Common.{List, [], ◌∷◌, ◌++◌, length}
 use Rattle.std.specs.List.{All, Contains, remove}
 use Rattle.std.proofs.lemmas.List.Elements.{All-append, All-cons, All-head, All-nil}
 use Rattle.isl_math.specs.Divide as divide
@@ -64,7 +65,8 @@ pub multiple_over : (g : Gauge) (n : ℕ) (items pushed : List Item) (item : Ite
 multiple_over g n items pushed item z k m beyond inner is coef atom same number all over above within constant =
     let own : IsAtomOver g n item.atom = (ceiling_parts g n item.atom inner beyond m k atom same number).1 ((above, within), over) in
     made_over g n pushed z (rw is (All-append (IsItemOver g n) items (item ∷ []) all
-    (All-cons (IsItemOver g n) item [] (record { coef = subst (IsWithin g) (sym coef) within; atom = own }) (All-nil (IsItemOver g n))))) constant
+    (All-cons (IsItemOver g n) item [] (record { coef = subst (IsWithin g) (sym coef) within; atom = own }) (All-nil
+    (IsItemOver g n))))) constant
 
 pub multiple_value : (items pushed : List Item) (item : Item) (z k m d c : ℤ) (beyond inner : Expr) (point : List ℤ)
     → pushed ≡ items ++ item ∷ [] → item.coef ≡ k → item.atom ≡ Ceil inner m → beyond ≡ inner → k ≡ m → sum_of items point ≡ d → z ≡ c
@@ -128,8 +130,15 @@ stepping_turns own k low high x p = by (ceil_div (low -ℤ own) k) (λ q. ceilin
           let z = told.0 t in
           let e = z.1 in
           let reached = (most c).0 (omega (arith, linear)) in
-          let more = not_below k z.0 p in
-          (omega (arith, linear, e, reached, more), z.2, record { quotient = c +ℤ pos z.0; is = simp expand (omega (arith, linear, simp expand at e)) })),
+          let more = not_below k z.0 p in (
+            omega (arith, linear, e, reached, more),
+            z.2,
+            record {
+              quotient = c +ℤ pos z.0;
+              is = simp expand (omega
+                  (arith, linear, simp expand at e));
+            },
+          )),
       (λ t.
           let l = t.0 in
           let d = t.2 in
@@ -161,7 +170,8 @@ step_says g variables step point x is long =
     let H : Row → Type 0 = λ r. HoldsRow r (point ++ x ∷ []) in
     let told = moved step.kind step.k (value_at step (point ++ x ∷ [])) (x -ℤ value_at (isolated variables step) point) is.kind
     (same (rest_at variables step point) (coef_at step variables) (value_at (isolated variables step) point)
-    (value_at step (point ++ x ∷ [])) is.last (value_apart variables step point x is.formed long) (step_own g variables step point is)) in
+    (value_at step (point ++ x ∷ [])) is.last (value_apart variables step point x is.formed long)
+    (step_own g variables step point is)) in
     ((λ d. All-cons H step [] (told.0 d) (All-nil H)), (λ h. told.1 (All-head H step [] h)))
   where
     same : (f c own v : ℤ) → c ≡ pos 1 → v ≡ f +ℤ c *ℤ x → own ≡ neg_ℤ f → x -ℤ own ≡ v
@@ -189,7 +199,8 @@ module _ (g : Gauge) (variables : ℕ) (lows highs : List (List Row)) (low high 
         );
   })
 
-  pub stepping_head : (step : Row) → IsStep g variables step → pos 0 <ℤ step.k → (first : Expr) → IsAlignedTo g variables step low first → (k : ℤ)
+  pub stepping_head : (step : Row) → IsStep g variables step → pos 0 <ℤ step.k → (first : Expr)
+      → IsAlignedTo g variables step low first → (k : ℤ)
       → k ≡ step.k → (head : Head) → head ≡ record { low = first; high = high; step = k } → IsHeadOf g variables lows highs (step ∷ []) head
   stepping_head step is above first to k same head made = rw (made, same) (record {
     low = to.over;

@@ -2,15 +2,15 @@
 use Rattle.std.proofs.Common.{◌≡◌, ◌≢◌, ◌↔◌, ◌⊎◌, inl, inr, refl, sym, ap, ◌∙◌, subst, arith, ℕ, zero, suc, ◌+◌, ◌<◌, ◌≤◌}
 use Rattle.std.proofs.Common.{ℤ, List, [], ◌∷◌, ◌++◌, length, get_or, take, drop}
 use Rattle.std.specs.List.{All, AllZip, Any, Contains, remove}
-use Rattle.std.proofs.lemmas.List.{take_all, take_more}
+use Rattle.std.proofs.lemmas.List.{take_more}
 use Rattle.std.proofs.lemmas.List.Edits.{length-remove}
 use Rattle.std.proofs.lemmas.List.Elements.{All-append, All-cons, All-drop, All-head, All-nil, All-tail, All-take, All-weaker}
-use Rattle.isl_math.proofs.ListLaws.{All-parts, AllZip-more, Any-cases, Any-element, Any-first, Any-later, Any-none, Any-weaker}
+use Rattle.isl_math.proofs.ListLaws.{AllZip-more, Any-cases, Any-element, Any-first, Any-later, Any-none}
 use Rattle.isl_meter.specs.Gauge.{Gauge, IsCharged}
 use Rattle.isl_piece.specs.declared.row.Row.{Row}
 use Rattle.isl_piece.specs.Row.{HoldsRow, IsRowWithin, IsWellFormed}
 use Rattle.isl_piece.specs.System.{HoldRows}
-use Rattle.isl_frame.specs.Needed.{AreKnown, AreRowsOver, IsNeeded}
+use Rattle.isl_frame.specs.Needed.{AreRowsOver, IsNeeded}
 use Rattle.isl_frame.proofs.NeededLaws.{over_later, over_some}
 use Rattle.isl_bounds.specs.Bound.{HoldSome}
 use Rattle.isl_bounds.specs.Pruned.{AreFewer, IsBeaten}
@@ -29,7 +29,8 @@ any_but P (x ∷ xs) (suc at) zero d low other p = Any-first P x (remove xs at) 
 any_but P (x ∷ xs) (suc at) (suc i) d low other p =
     Any-later P x (remove xs at) (any_but P xs at i d (omega (arith, low)) (λ e. other (ap suc e)) p)
 
-any_split : {X : Type 0} (P : X → Type 0) (xs : List X) (at : ℕ) (d : X) → at < length xs → Any P xs → Any P (remove xs at) ⊎ P (get_or xs at d)
+any_split : {X : Type 0} (P : X → Type 0) (xs : List X) (at : ℕ) (d : X) → at < length xs → Any P xs
+    → Any P (remove xs at) ⊎ P (get_or xs at d)
 any_split P [] at d low any = absurd (Any-none P any)
 any_split P (x ∷ xs) zero d low any = elim (Any-cases P x xs any) [ inl p ↦ inr p | inr a ↦ inl a ]
 any_split P (x ∷ xs) (suc at) d low any = elim (Any-cases P x xs any) [

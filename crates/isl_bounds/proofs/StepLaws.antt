@@ -1,28 +1,32 @@
 -- Congruences as steps.
-use Rattle.std.proofs.Common.{◌≡◌, ◌↔◌, refl, sym, ap, ◌∙◌, subst, arith, ℕ, zero, suc, ◌+◌, ◌<◌, ◌≤◌, ◌-◌, ℤ, pos, neg_ℤ, ◌+ℤ◌, ◌-ℤ◌, ◌*ℤ◌, ◌<ℤ◌, ◌≤ℤ◌}
+use Rattle.std.proofs.Common.{◌≡◌, ◌↔◌, refl, sym, ap, ◌∙◌, subst, arith, ℕ, zero, suc, ◌+◌, ◌<◌, ◌-◌, ℤ, pos, neg_ℤ, ◌+ℤ◌, ◌-ℤ◌}
+use Rattle.std.proofs.Common.{◌*ℤ◌}
 use Rattle.std.proofs.Common.{List, [], ◌∷◌, ◌++◌, length, length-append, get_or, take}
-use Rattle.std.specs.List.{All, AllZip, remove}
+use Rattle.std.specs.List.{All, AllZip}
 use Rattle.std.proofs.lemmas.List.{get_or-append_right, length-take-le, take_more}
 use Rattle.std.proofs.lemmas.List.Elements.{All-append, All-cons, All-nil}
 use Rattle.isl_math.specs.Divide as divide
 use Rattle.isl_math.specs.Divide.{floor_div, floor_mod, IsCongruent, IsGcdOf, IsInverse}
 use Rattle.isl_math.specs.Dot.{dot}
-use Rattle.isl_math.proofs.DivideLaws.{Divides-*ℤ, Divides-+ℤ, Divides-from_coprime, Divides-minus, Divides-same}
-use Rattle.isl_math.proofs.DotLaws.{dot-append, dot-nil_right}
+use Rattle.isl_math.proofs.DivideLaws.{Divides-*ℤ, Divides-+ℤ, Divides-minus, Divides-same}
 use Rattle.isl_math.proofs.ListLaws.{AllZip-more}
 use Rattle.isl_math.proofs.Ring.{expand, linear}
 use Rattle.isl_meter.specs.Gauge.{Gauge, IsWithin}
 use Rattle.isl_piece.specs.declared.row.RowKind.{RowKind}
 use Rattle.isl_piece.specs.declared.row.RowKind.TheVariants.{Divides}
 use Rattle.isl_piece.specs.declared.row.Row.{Row}
-use Rattle.isl_piece.specs.Row.{coef_at, value_at, HasModulus, HoldsRow, HoldsValue, IsRowWithin, IsWellFormed}
-use Rattle.isl_bounds.specs.Step.{IsStep, IsStepOf}
+use Rattle.isl_piece.specs.Row.{coef_at, HasModulus, HoldsValue, IsRowWithin, IsWellFormed}
+use Rattle.isl_bounds.specs.Step.{IsStepOf}
 
 -- ---- one number
 -- what is left, as the code has it
 pub left_modulo : (number by k q product p left : ℤ) → product ≡ by *ℤ (number -ℤ k *ℤ q) → left ≡ product -ℤ k *ℤ p
     → IsCongruent k left (by *ℤ number)
-left_modulo number by k q product p left e f = record { quotient = neg_ℤ (by *ℤ q +ℤ p); is = rw (f, e) (simp expand (omega (arith, linear))) }
+left_modulo number by k q product p left e f = record {
+  quotient = neg_ℤ (by *ℤ q +ℤ p);
+  is = rw (f, e) (simp expand (omega
+      (arith, linear)));
+}
 
 pub missing_modulo : (k left z missing : ℤ) → IsCongruent k left z → missing ≡ k -ℤ left → IsCongruent k (neg_ℤ missing) z
 missing_modulo k left z missing h e =
@@ -41,11 +45,13 @@ congruent_more k by cs i ds c d pushed low read zip near is =
 
 pub all_within_more : (g : Gauge) (ds : List ℤ) (d : ℤ) (pushed : List ℤ) → All (IsWithin g) ds → IsWithin g d → pushed ≡ ds ++ d ∷ []
     → All (IsWithin g) pushed
-all_within_more g ds d pushed all one is = rw is (All-append (IsWithin g) ds (d ∷ []) all (All-cons (IsWithin g) d [] one (All-nil (IsWithin g))))
+all_within_more g ds d pushed all one is = rw is (All-append (IsWithin g) ds (d ∷ []) all (All-cons (IsWithin g) d [] one (All-nil
+    (IsWithin g))))
 
 -- ---- forms
 -- each coefficient is congruent to a multiple of another one's
-dot_congruent : (k by : ℤ) (cs ds xs : List ℤ) → AllZip (λ c d. IsCongruent k d (by *ℤ c)) cs ds → divide.Divides k (dot ds xs -ℤ by *ℤ dot cs xs)
+dot_congruent : (k by : ℤ) (cs ds xs : List ℤ) → AllZip (λ c d. IsCongruent k d (by *ℤ c)) cs ds
+    → divide.Divides k (dot ds xs -ℤ by *ℤ dot cs xs)
 dot_congruent k by [] [] xs z = record { quotient = pos 0; is = omega (arith, linear) }
 dot_congruent k by [] (d ∷ ds) xs z = absurd z
 dot_congruent k by (c ∷ cs) [] xs z = absurd z
@@ -61,10 +67,12 @@ same_divided : (k c by z v : ℤ) → IsGcdOf c k (pos 1) → divide.Divides k (
     → divide.Divides k v ↔ divide.Divides k z
 same_divided k c by z v coprime inverse near = (
   (λ h.
-      let m : divide.Divides k (by *ℤ z) = Divides-same k (v -ℤ (v -ℤ by *ℤ z)) (by *ℤ z) (omega (arith, linear)) (Divides-minus k v (v -ℤ by *ℤ z) h near) in
+      let m : divide.Divides k (by *ℤ z) = Divides-same k (v -ℤ (v -ℤ by *ℤ z)) (by *ℤ z) (omega (arith, linear)) (Divides-minus k v
+      (v -ℤ by *ℤ z) h near) in
       let n : divide.Divides k (by *ℤ z *ℤ c) = Divides-*ℤ k (by *ℤ z) c m in
       let u : divide.Divides k ((c *ℤ by -ℤ pos 1) *ℤ z) = Divides-*ℤ k (c *ℤ by -ℤ pos 1) z inverse in
-      Divides-same k (by *ℤ z *ℤ c -ℤ (c *ℤ by -ℤ pos 1) *ℤ z) z (simp expand (omega (arith, linear))) (Divides-minus k (by *ℤ z *ℤ c) ((c *ℤ by -ℤ pos 1) *ℤ z) n u)),
+      Divides-same k (by *ℤ z *ℤ c -ℤ (c *ℤ by -ℤ pos 1) *ℤ z) z (simp expand (omega (arith, linear))) (Divides-minus k (by *ℤ z *ℤ c)
+      ((c *ℤ by -ℤ pos 1) *ℤ z) n u)),
   (λ h.
       let m : divide.Divides k (z *ℤ by) = Divides-*ℤ k z by h in
       Divides-same k (v -ℤ by *ℤ z +ℤ z *ℤ by) v (simp expand (omega (arith, linear))) (Divides-+ℤ k (v -ℤ by *ℤ z) (z *ℤ by) near m)),
@@ -86,7 +94,8 @@ first_and_last (c ∷ cs) (suc n) e = ap (λ (ds : List ℤ). c ∷ ds) (first_a
 module _ (g : Gauge) (variables : ℕ) (row : Row) (formed : IsWellFormed (variables + 1) row) (kind : row.kind ≡ Divides)
     (within : IsRowWithin g row) (coprime : IsGcdOf (coef_at row variables) row.k (pos 1)) (by : ℤ)
     (inverse : IsInverse (coef_at row variables) row.k by) (coefs : List ℤ)
-    (zip : AllZip (λ c d. IsCongruent row.k d (by *ℤ c)) (take variables row.coefs) coefs) (all : All (IsWithin g) coefs) (one : IsWithin g (pos 1))
+    (zip : AllZip (λ c d. IsCongruent row.k d (by *ℤ c)) (take variables row.coefs) coefs) (all : All (IsWithin g) coefs)
+    (one : IsWithin g (pos 1))
     (constant : ℤ) (near : IsCongruent row.k constant (by *ℤ row.constant)) (constant_within : IsWithin g constant) where
   last : ℤ
   last = coef_at row variables

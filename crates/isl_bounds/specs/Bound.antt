@@ -1,10 +1,10 @@
 -- public: inequalities as bounds of the last of their columns. (Bastoul, code generation in the polyhedral model; isl manual, on abstract
 -- syntax trees)
 use Rattle.std.specs.Prelude.{◌≡◌, ◌↔◌, ℕ, ◌+◌, ◌<◌, ℤ, pos, ◌<ℤ◌, List, [], ◌∷◌, ◌++◌, All, Any, length}
-use Rattle.isl_meter.specs.Gauge.{Gauge, IsWithin}
+use Rattle.isl_meter.specs.Gauge.{Gauge}
 use Rattle.isl_piece.specs.declared.row.RowKind.TheVariants.{AtLeast}
 use Rattle.isl_piece.specs.declared.row.Row.{Row}
-use Rattle.isl_piece.specs.Row.{coef_at, HoldsRow, IsRowWithin, IsWellFormed}
+use Rattle.isl_piece.specs.Row.{coef_at, IsRowWithin, IsWellFormed}
 use Rattle.isl_piece.specs.System.{HoldRows}
 use Rattle.isl_loop.specs.declared.tree.Expr.{Expr}
 use Rattle.isl_loop.specs.Expr.{expr_value}

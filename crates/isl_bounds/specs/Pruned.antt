@@ -1,5 +1,5 @@
 -- public: groups of bounds without those that say nothing more where a context holds. (isl manual, on simplification in a context)
-use Rattle.std.specs.Prelude.{◌≡◌, ◌≢◌, ◌↔◌, ℕ, ◌+◌, ◌<◌, ◌≤◌, ℤ, List, [], ◌++◌, All, Any, Contains, length, slice_index_or}
+use Rattle.std.specs.Prelude.{◌≡◌, ◌≢◌, ◌↔◌, ℕ, ◌<◌, ℤ, List, [], ◌++◌, All, Any, Contains, length, slice_index_or}
 use Rattle.isl_piece.specs.declared.row.Row.{Row}
 use Rattle.isl_piece.specs.System.{HoldRows}
 use Rattle.isl_frame.specs.Needed.{AreKnown}

@@ -22,7 +22,8 @@ use Rattle.isl_frame.proofs.SolvedLaws.{remove_long, without_last}
 use Rattle.isl_frame.specs.Frame.{column_at, columns_at, own_column, IsFrame, IsOwnFrame, IsWithVariable}
 
 -- ---- rows that do not name the last variable
-value_widened : (r : Row) (point : List ℤ) (x : ℤ) → length r.coefs ≡ length point → value_at (widened r) (point ++ x ∷ []) ≡ value_at r point
+value_widened : (r : Row) (point : List ℤ) (x : ℤ) → length r.coefs ≡ length point
+    → value_at (widened r) (point ++ x ∷ []) ≡ value_at r point
 value_widened r point x e =
     by (dot (r.coefs ++ pos 0 ∷ []) (point ++ x ∷ [])) (dot r.coefs point) x r.constant (dot-append r.coefs (pos 0 ∷ []) point (x ∷ []) e)
   where
@@ -82,7 +83,8 @@ module _ (variables : ℕ) (frame : List Row) (is : IsFrame variables frame) whe
     framed = record {
       formed = All-append (IsWellFormed (variables + 1)) (map widened frame) (own_column variables ∷ [])
           (All-map (IsWellFormed (variables + 1)) widened frame (λ k d l. widened_formed variables (get_or frame k d) (is.formed k d l)))
-          (All-cons (IsWellFormed (variables + 1)) (own_column variables) [] (own_formed variables) (All-nil (IsWellFormed (variables + 1))));
+          (All-cons (IsWellFormed (variables + 1)) (own_column variables) [] (own_formed variables) (All-nil (IsWellFormed
+          (variables + 1))));
       divides = All-append (λ r. r.kind ≡ Divides) (map widened frame) (own_column variables ∷ [])
           (All-map (λ r. r.kind ≡ Divides) widened frame (λ k d l. is.divides k d l))
           (All-cons (λ r. r.kind ≡ Divides) (own_column variables) [] refl (All-nil (λ r. r.kind ≡ Divides)));

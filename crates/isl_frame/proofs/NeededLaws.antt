@@ -1,5 +1,6 @@
 -- Rows of which those are taken out that are known.
-use Rattle.std.proofs.Common.{◌≡◌, ◌↔◌, ◌⊎◌, inl, inr, refl, subst, arith, Bool, ℕ, zero, suc, ◌-◌, ◌<◌, List, [], ◌∷◌, ◌++◌, length, get_or}
+use Rattle.std.proofs.Common.{◌≡◌, ◌↔◌, ◌⊎◌, inl, inr, refl, subst, arith, Bool, ℕ, zero, suc, ◌-◌, ◌<◌, List, [], ◌∷◌, ◌++◌, length}
+use Rattle.std.proofs.Common.{get_or}
 use Rattle.std.proofs.Common.{ℤ, take, drop}
 use Rattle.std.specs.Prelude.{IfOk, IsTrue, Result, Ok, Err}
 use Rattle.std.specs.List.{All, Contains, remove}
@@ -59,7 +60,8 @@ pub kept_have : (P : Row → Type 0) (rows kept : List Row) → All (Contains ro
 kept_have P rows kept each h = λ k d l. let c = each k d l in subst P c.2 (h c.0 (get_or kept k d) c.1)
 
 -- the limit stays while units are used
-pub over_later : (g h : Gauge) (variables : ℕ) (rows : List Row) → IsCharged g h → AreRowsOver g variables rows → AreRowsOver h variables rows
+pub over_later : (g h : Gauge) (variables : ℕ) (rows : List Row) → IsCharged g h → AreRowsOver g variables rows
+    → AreRowsOver h variables rows
 over_later g h variables rows charged over =
     let later = charged_within g h (over_rows variables rows) charged (system_over g variables rows (over_rows variables rows) refl over) in
     record { formed = later.rows; within = later.within }
@@ -76,7 +78,8 @@ pub kept_over : (g : Gauge) (variables : ℕ) (context rows kept : List Row) →
     → AreRowsOver g variables rows → AreRowsOver g variables kept
 kept_over g variables context rows kept is over = over_some g variables rows kept is.each over
 
-pub rows_beside : (g : Gauge) (variables : ℕ) (context rows : List Row) (i : ℕ) → AreRowsOver g variables context → AreRowsOver g variables rows
+pub rows_beside : (g : Gauge) (variables : ℕ) (context rows : List Row) (i : ℕ) → AreRowsOver g variables context
+    → AreRowsOver g variables rows
     → AreRowsOver g variables (context ++ remove rows i)
 rows_beside g variables context rows i a b = record {
   formed = All-append (IsWellFormed variables) context (remove rows i) a.formed (all_removed (IsWellFormed variables) rows i b.formed);

@@ -86,7 +86,8 @@ module _ (g : Gauge) (sum : Sum) (is : IsSum g sum) (coef : ℤ) (entry : Row) (
     sum_more : IsSumWith sum coef entry new
     sum_more = record {
       by = by;
-      width = ap (λ (r : Row). length r.coefs) row ∙ (combination_formed (length sum.row.coefs) by sum.row (coef *ℤ quotient) entry by_positive
+      width = ap (λ (r : Row). length r.coefs) row ∙ (combination_formed (length sum.row.coefs) by sum.row
+          (coef *ℤ quotient) entry by_positive
           (record { width = refl; modulus = is.modulus }) width).width;
       kind = ap (λ (r : Row). r.kind) row;
       modulus = ap (λ (r : Row). r.k) row;
@@ -107,7 +108,8 @@ module _ (g : Gauge) (sum : Sum) (is : IsSum g sum) (coef : ℤ) (entry : Row) (
 
     sum_sound : IsRowWithin g new.row → IsWithin g new.scale → IsSum g new
     sum_sound within small = record {
-      modulus = subst (λ (r : Row). HasModulus r.kind r.k) (sym row) (combination_formed (length sum.row.coefs) by sum.row (coef *ℤ quotient)
+      modulus = subst (λ (r : Row). HasModulus r.kind r.k) (sym row) (combination_formed (length sum.row.coefs) by sum.row
+          (coef *ℤ quotient)
           entry by_positive (record { width = refl; modulus = is.modulus }) width).modulus;
       within = within;
       scale = small;

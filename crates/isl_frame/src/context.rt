@@ -52,7 +52,8 @@ fn is_known(
     requires context { AreRowsOver meter.old variables context.now }
     requires rows { AreRowsOver meter.old variables rows.now }
     requires inside { at < length rows.now }
-    ensures exact { (d : Row) → IfOk result (λ known. IsTrue known ↔ IsKnown variables (context.now ++ remove rows.now at) (slice_index_or rows.now at d)) }
+    ensures exact { (d : Row) → IfOk result (λ known. IsTrue known ↔ IsKnown variables (context.now ++ remove rows.now at)
+        (slice_index_or rows.now at d)) }
     ensures meter { IsMetered meter.old meter.new result }
 {
     let others = beside(alloc, context, rows, at)?;

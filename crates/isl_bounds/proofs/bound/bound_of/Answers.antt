@@ -1,4 +1,4 @@
-use Rattle.std.proofs.Common.{◌≡◌, ◌<◌, ◌≤◌, subst, arith, ℤ, List, length, get_or}
+use Rattle.std.proofs.Common.{◌≡◌, ◌<◌, ◌≤◌, subst, arith, ℤ, List, length}
 use Rattle.std.specs.Prelude.{IfOk}
 use Rattle.isl_loop.specs.Expr.{expr_value}
 use Rattle.isl_loop.specs.Lists.{extreme_in}
@@ -19,9 +19,11 @@ pub returns : goal.returns
 returns c =
     let groups = c.args.groups.now in
     let end : length groups ≤ c.loop-rows.rows-index = omega arith in
-    let z = bounds_end c.args.meter.now c.args.variables c.args.side HoldRows groups c.loop-rows.rows-index c.loop-rows.bounds end c.loop-rows.invariant in
+    let z = bounds_end c.args.meter.now c.args.variables c.args.side HoldRows groups c.loop-rows.rows-index c.loop-rows.bounds end
+    c.loop-rows.invariant in
     any_told c.tightest.result c.args.meter.now c.args.variables c.args.side HoldRows groups c.loop-rows.bounds z c.requires.some
     (c.tightest.ensures.over c.args.meter.now c.args.variables c.limit-limit.ensures.bits_low
     (bounds_over c.args.meter.now c.args.variables c.args.side HoldRows groups c.loop-rows.bounds z))
-    (subst (λ (side : Side). (point : List ℤ) → IfOk c.tightest.result (λ e. expr_value e point ≡ extreme_in (tighter side) c.loop-rows.bounds point))
+    (subst (λ (side : Side). (point : List ℤ) → IfOk c.tightest.result (λ e. expr_value e point ≡ extreme_in
+    (tighter side) c.loop-rows.bounds point))
     c.opposite.ensures c.tightest.ensures.value)

@@ -1,4 +1,4 @@
-use Rattle.std.proofs.Common.{◌≡◌, ◌<◌, ◌≤◌, ◌∙◌, sym, subst, arith, List, length, get_or, take}
+use Rattle.std.proofs.Common.{◌≡◌, ◌<◌, ◌≤◌, subst, arith, List, length, get_or}
 use Rattle.std.proofs.lemmas.Grind.{common_steps}
 use Rattle.isl_piece.specs.declared.row.Row.{Row}
 use Rattle.isl_piece.specs.Row.{HoldsRow}
@@ -19,7 +19,8 @@ pub returns : goal.returns
 returns c =
     let rows = c.args.rows.now in
     let end : length rows ≤ c.loop-row.row-index = grind (arith, common_steps) in
-    let z = bounds_end c.args.meter.now c.args.variables c.args.side HoldsRow rows c.loop-row.row-index c.loop-row.bounds end c.loop-row.invariant in
+    let z = bounds_end c.args.meter.now c.args.variables c.args.side HoldsRow rows c.loop-row.row-index c.loop-row.bounds end
+    c.loop-row.invariant in
     all_told c.tightest.result c.args.meter.now c.args.variables c.args.side HoldsRow rows c.loop-row.bounds z c.requires.some
     (c.tightest.ensures.over c.args.meter.now c.args.variables c.limit-limit.ensures.bits_low
     (bounds_over c.args.meter.now c.args.variables c.args.side HoldsRow rows c.loop-row.bounds z))

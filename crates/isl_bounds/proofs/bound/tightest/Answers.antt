@@ -1,4 +1,4 @@
-use Rattle.std.proofs.Common.{◌≡◌, ◌∙◌, ◌≤◌, [], refl, sym, ap, subst, arith, pos, ℤ, List, length, false, true}
+use Rattle.std.proofs.Common.{◌≡◌, ◌∙◌, ◌≤◌, [], refl, sym, ap, subst, arith, pos, ℤ, List, length}
 use Rattle.std.specs.Prelude.{IfOk}
 use Rattle.std.specs.Int.{int_max, int_min}
 use Rattle.std.specs.List.{All}
@@ -6,7 +6,6 @@ use Rattle.std.proofs.lemmas.Bool.{false≢true}
 use Rattle.std.proofs.lemmas.List.Elements.{All-nil}
 use Rattle.isl_meter.proofs.LimitLemmas.{IsWithin-small}
 use Rattle.isl_loop.specs.declared.tree.Expr.{Expr}
-use Rattle.isl_loop.specs.declared.tree.Item.{Item}
 use Rattle.isl_loop.specs.declared.tree.Atom.{Max, Min}
 use Rattle.isl_loop.specs.Expr.{expr_value}
 use Rattle.isl_loop.specs.Lists.{extreme_in, IsItemOver}

@@ -1,4 +1,4 @@
-use Rattle.std.proofs.Common.{◌≡◌, ◌∙◌, ◌++◌, ◌∷◌, [], refl, ap, arith, pos, List}
+use Rattle.std.proofs.Common.{◌∙◌, ◌++◌, ◌∷◌, [], refl, ap, arith, pos, List}
 use Rattle.isl_meter.proofs.LimitLemmas.{IsWithin-small}
 use Rattle.isl_loop.specs.declared.tree.Item.{Item}
 use Rattle.isl_bounds.proofs.ExprLaws.{one_over, one_value}

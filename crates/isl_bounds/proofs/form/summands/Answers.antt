@@ -1,4 +1,4 @@
-use Rattle.std.proofs.Common.{◌≡◌, ◌<◌, ◌≤◌, refl, arith, pos, length, get_or, to_z-of_z}
+use Rattle.std.proofs.Common.{◌<◌, ◌≤◌, refl, arith, pos, length, to_z-of_z}
 use Rattle.std.proofs.lemmas.Grind.{common_steps}
 use Rattle.std.proofs.lemmas.List.{get_or_read}
 use Rattle.isl_bounds.proofs.FormLaws.{summands_all, summands_pushed, summands_skip}

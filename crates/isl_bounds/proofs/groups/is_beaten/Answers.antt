@@ -1,4 +1,4 @@
-use Rattle.std.proofs.Common.{◌≡◌, ◌<◌, ◌++◌, [], ◌∙◌, sym, ap, subst, arith, true, ℕ, List, length, get_or}
+use Rattle.std.proofs.Common.{◌≡◌, ◌<◌, ◌++◌, [], ◌∙◌, sym, ap, subst, arith, List, length, get_or}
 use Rattle.std.proofs.lemmas.List.{get_or_read}
 use Rattle.isl_piece.specs.declared.row.Row.{Row}
 use Rattle.isl_frame.specs.Needed.{AreKnown, AreRowsOver}
@@ -34,5 +34,10 @@ returns-then-branch-clause-beaten c told =
     let known : AreKnown c.args.columns c.in_ok-here.here c.index-groups-i.result = c.in_ok-are_known.ensures.exact.0 c.if-branch.true in
     let first : AreKnown c.args.columns (c.args.context.now ++ get_or groups c.args.at []) c.index-groups-i.result =
     subst (λ (rows : List Row). AreKnown c.args.columns rows c.index-groups-i.result)
-    (c.in_ok-here.ensures ∙ ap (λ (rows : List Row). c.args.context.now ++ rows) here) known in
-    (i, low, other, subst (λ (rows : List Row). AreKnown c.args.columns (c.args.context.now ++ get_or groups c.args.at []) rows) there first)
+    (c.in_ok-here.ensures ∙ ap (λ (rows : List Row). c.args.context.now ++ rows) here) known in (
+      i,
+      low,
+      other,
+      subst (λ (rows : List Row). AreKnown c.args.columns
+          (c.args.context.now ++ get_or groups c.args.at []) rows) there first,
+    )

@@ -1,4 +1,4 @@
-use Rattle.std.proofs.Common.{◌≡◌, ◌∙◌, refl, sym, ap, subst, arith, ℕ, List, ℤ, length, of_z, to_z, to_z-of_z}
+use Rattle.std.proofs.Common.{◌≡◌, ◌∙◌, sym, ap, subst, arith, ℕ, length, of_z, to_z, to_z-of_z}
 use Rattle.std.specs.Int.{w128}
 use Rattle.isl_meter.specs.Gauge.{IsWithin}
 use Rattle.std.specs.List.{remove}
@@ -15,7 +15,8 @@ returns c =
     let step = c.args.step.now in
     let variables = c.args.variables in
     let coefs : c.as_slice.result.now ≡ remove step.coefs variables = grind (arith, common_steps) in
-    let narrow : length c.as_slice.result.now ≡ variables = ap length coefs ∙ remove_long step.coefs variables c.requires.step.formed.width in
+    let narrow : length c.as_slice.result.now ≡ variables = ap length coefs
+    ∙ remove_long step.coefs variables c.requires.step.formed.width in
     let beyond = c.in_ok-beyond.ensures in
     let k = to_z w128 (of_z w128 step.k) in
     let same : k ≡ step.k = grind (arith, common_steps, to_z-of_z) in

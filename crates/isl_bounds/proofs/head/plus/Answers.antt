@@ -1,7 +1,7 @@
-use Rattle.std.proofs.Common.{◌≡◌, ◌+ℤ◌, ◌∙◌, refl, sym, subst, arith, ℤ, length, of_z, to_z, to_z-of_z}
+use Rattle.std.proofs.Common.{◌≡◌, ◌+ℤ◌, refl, sym, subst, arith, length, of_z, to_z, to_z-of_z}
 use Rattle.std.specs.Int.{w128}
 use Rattle.std.proofs.lemmas.Grind.{common_steps}
-use Rattle.isl_meter.specs.Gauge.{Gauge, IsWithin}
+use Rattle.isl_meter.specs.Gauge.{IsWithin}
 use Rattle.isl_loop.specs.declared.tree.Expr.{out-Expr}
 use Rattle.isl_bounds.proofs.HeadLaws.{plus_over, plus_value}
 use Rattle.isl_bounds.proofs.head.plus.Goals as goal
@@ -18,7 +18,8 @@ returns c =
     let meter : c.add.new.meter ≡ g = grind (arith, common_steps) in
     let within : IsWithin g z = subst (IsWithin g) (sym same) c.in_ok-constant.ensures.1 in (
       (
-        plus_over g n e more c.append.new.self z c.in_ok-append.ensures c.requires.over (c.in_ok-summands.ensures.over g n c.requires.coefs refl)
+        plus_over g n e more c.append.new.self z c.in_ok-append.ensures c.requires.over
+            (c.in_ok-summands.ensures.over g n c.requires.coefs refl)
             within,
         (λ point long. plus_value e more c.append.new.self z _ c.args.constant point c.in_ok-append.ensures number
             (c.in_ok-summands.ensures.value point long)),

@@ -22,7 +22,8 @@ returns-clause-value c point long =
     let z = to_z w128 (of_z w128 c.args.own.now.constant) in
     let same : z ≡ c.args.own.now.constant = grind (arith, common_steps, to_z-of_z) in
     let coefs : c.as_slice.result.now ≡ c.args.own.now.coefs = c.as_slice.ensures in
-    multiple_value c.in_ok-items.items c.push.new.self _ z c.args.k _ (dot c.args.own.now.coefs point) c.args.own.now.constant c.args.beyond _
+    multiple_value c.in_ok-items.items c.push.new.self _ z c.args.k _ (dot c.args.own.now.coefs point) c.args.own.now.constant
+    c.args.beyond _
     point c.in_ok-push.ensures.ok (grind (arith, common_steps, to_z-of_z)) refl (sym c.in_ok-new.ensures)
     (grind (arith, common_steps, to_z-of_z))
     (c.in_ok-items.ensures.value point (ap length coefs ∙ long) ∙ ap (λ (cs : List ℤ). dot cs point) coefs) same

@@ -1,5 +1,4 @@
-use Rattle.std.proofs.Common.{◌≡◌, ◌<◌, ◌*ℤ◌, ◌∙◌, sym, subst, arith, pos, length, get_or}
-use Rattle.std.proofs.lemmas.Grind.{common_steps}
+use Rattle.std.proofs.Common.{◌<◌, ◌*ℤ◌, ◌∙◌, subst, arith, length}
 use Rattle.isl_math.specs.Divide.{IsCongruent}
 use Rattle.isl_meter.specs.Gauge.{Gauge, IsWithin}
 use Rattle.isl_bounds.proofs.StepLaws.{all_within_more, congruent_more}

@@ -6,4 +6,5 @@ use Rattle.isl_bounds.proofs.step.coefs_modulo.Given as goal
 
 abbrev pub invariant-loop-i : goal.invariant-loop-i
 invariant-loop-i l =
-    AllZip (λ c d. IsCongruent l.row.k d (l.by *ℤ c)) (take l.i l.row.coefs) l.coefs × All (IsWithin l.fn.meter) l.coefs × (l.meter ≡ l.fn.meter)
+    AllZip (λ c d. IsCongruent l.row.k d (l.by *ℤ c)) (take l.i l.row.coefs) l.coefs × All (IsWithin l.fn.meter) l.coefs ×
+    (l.meter ≡ l.fn.meter)

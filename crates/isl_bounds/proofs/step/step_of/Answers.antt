@@ -1,4 +1,4 @@
-use Rattle.std.proofs.Common.{◌≡◌, ◌≢◌, ◌*ℤ◌, ◌∙◌, ◌++◌, ◌∷◌, [], refl, sym, subst, arith, pos, true, false}
+use Rattle.std.proofs.Common.{◌≡◌, ◌≢◌, ◌*ℤ◌, ◌∙◌, ◌++◌, ◌∷◌, [], refl, sym, subst, arith, pos}
 use Rattle.std.proofs.lemmas.Grind.{common_steps}
 use Rattle.std.proofs.lemmas.Bool.{false≢true}
 use Rattle.isl_math.specs.Divide.{IsCongruent, IsGcdOf, IsInverse}
@@ -39,7 +39,13 @@ returns c =
     let own = c.constant.ensures in
     let near : IsCongruent row.k c.in_ok-constant.constant (c.inverse-by.result *ℤ row.constant) = rw (own, modulus) at constant.0 in
     let within : IsWithin g c.in_ok-constant.constant = subst (λ (h : Gauge). IsWithin h c.in_ok-constant.constant) meter constant.1 in
-    let made : c.new.result ≡ record { kind = Divides; coefs = c.in_ok-coefs.coefs ++ pos 1 ∷ []; constant = c.in_ok-constant.constant; k = row.k } =
+    let made : c.new.result ≡ record {
+      kind = Divides;
+      coefs = c.in_ok-coefs.coefs ++ pos 1 ∷ [];
+      constant = c.in_ok-constant.constant;
+      k
+          = row.k;
+    } =
     grind (arith, common_steps) in (
       (
         step_is g c.args.variables row c.requires.row c.requires.kind c.requires.within coprime c.inverse-by.result inverse

@@ -20,6 +20,7 @@ returns-clause-exact c d =
     let is : c.from_rows-system.result ≡ over_rows c.args.variables others =
     c.from_rows-system.ensures ∙ ap (over_rows c.args.variables) c.in_ok-others.ensures in
     let at : c.index-as_slice-at.result ≡ get_or c.args.rows.now c.args.at d = grind (arith, common_steps, get_or_read) in
-    known_told c.hold_throughout.result c.args.variables c.from_rows-system.result others c.in_ok-row.row (get_or c.args.rows.now c.args.at d) is
+    known_told c.hold_throughout.result c.args.variables c.from_rows-system.result others c.in_ok-row.row
+    (get_or c.args.rows.now c.args.at d) is
     (c.in_ok-row.ensures ∙ ap (λ (r : Row). r ∷ []) at) (c.requires.rows.formed c.args.at d c.requires.inside)
     c.hold_throughout.ensures.exact

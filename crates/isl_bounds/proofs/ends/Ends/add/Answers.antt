@@ -1,7 +1,6 @@
-use Rattle.std.proofs.Common.{◌≡◌, ◌≢◌, ◌∙◌, inl, inr, refl, sym, subst, arith, true, false, ℤ, pos, ◌<ℤ◌}
+use Rattle.std.proofs.Common.{◌≡◌, ◌≢◌, ◌∙◌, inl, inr, refl, sym, subst, ℤ, pos, ◌<ℤ◌}
 use Rattle.std.proofs.lemmas.Bool.{false≢true}
 use Rattle.isl_piece.specs.Row.{coef_at}
-use Rattle.isl_bounds.specs.Ends.{AreEndsOf}
 use Rattle.isl_bounds.proofs.EndsLaws.{ends_both, ends_high, ends_low, ends_other, high_end, low_end, on_ok, on_all_ok}
 use Rattle.isl_bounds.proofs.ends.Ends.add.Goals as goal
 
@@ -35,7 +34,8 @@ returns-in-AtLeast-2 c rows is =
     λ p. false≢true (sym c.if-is_positive.false ∙ c.is_positive.ensures.1 (subst (λ (z : ℤ). pos 0 <ℤ z) (sym c.requires.last) p)) in
     on_ok c.push_copy-in-AtLeast-2.result c.push_copy-in-AtLeast-2.ensures
     (λ made. ends_high c.args.meter.now c.args.variables rows c.args.row.now c.args.self.now is
-    (high_end c.args.meter.now c.args.variables c.args.row.now c.requires.row c.requires.within c.in-AtLeast-2.is some not_above) _ refl made
+    (high_end c.args.meter.now c.args.variables c.args.row.now c.requires.row c.requires.within c.in-AtLeast-2.is some not_above) _ refl
+    made
     refl)
 
 pub returns-in-Divides : goal.returns-in-Divides

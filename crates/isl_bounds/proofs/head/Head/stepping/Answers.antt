@@ -1,4 +1,4 @@
-use Rattle.std.proofs.Common.{◌≡◌, refl, arith, ℤ, of_z, to_z, to_z-of_z}
+use Rattle.std.proofs.Common.{◌≡◌, refl, arith, of_z, to_z, to_z-of_z}
 use Rattle.std.specs.Int.{w128}
 use Rattle.std.proofs.lemmas.Grind.{common_steps}
 use Rattle.isl_bounds.proofs.HeadLaws.{step_above, stepping_head}

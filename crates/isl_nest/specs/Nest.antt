@@ -1,0 +1,87 @@
+-- public: the shape of a nest of loops: at each level its column is told by an equality, or gone through by a loop; the item's rows are
+-- enforced where the last column that they name gets its number. (Bastoul, code generation in the polyhedral model; isl manual, on
+-- abstract syntax trees)
+use Rattle.std.specs.Prelude.{◌≡◌, ◌⊎◌, ℕ, zero, suc, ◌+◌, ℤ, ◌<ℤ◌, if◌then◌else◌, List, [], ◌∷◌, ◌++◌, length, map}
+use Rattle.std.specs.List.{All, AllPairs, Contains}
+use Rattle.isl_piece.specs.declared.row.Row.{Row}
+use Rattle.isl_piece.specs.Row.{HoldsRow, IsWellFormed}
+use Rattle.isl_piece.specs.System.{HoldRows, widened}
+use Rattle.isl_frame.specs.Frame.{column_at, columns_at, own_column, IsFrame}
+use Rattle.isl_loop.specs.declared.tree.Loop.{Loop}
+use Rattle.isl_loop.specs.Nest.{Lists}
+use Rattle.isl_loop.specs.Run.{each_in, rows_hold, trace}
+use Rattle.isl_nest.specs.Item.{timed_at, HoldFront, HoldOwn, IsBegun, IsCalledBehind, ItemView}
+
+-- where a tree stands: how many parameters and loop variables are in scope, what they say of the columns so far, and rows that hold there
+pub record Place : Type 0 where
+  pub variables : ℕ
+  pub frame : List Row
+  pub context : List Row
+
+-- the place holds at numbers of the parameters and variables, and so do the item's rows that name no further column
+pub record IsHere (item : ItemView) (place : Place) (point : List ℤ) : Type 0 where
+  pub width : length point ≡ place.variables
+  pub context : HoldRows place.context point
+  pub whole : HoldRows place.frame point
+  pub front : HoldFront item.rows (columns_at place.frame point)
+
+-- one column more
+abbrev pub with_entry : Place → Row → List Row → Place
+with_entry place entry rows = record { variables = place.variables; frame = place.frame ++ entry ∷ []; context = place.context ++ rows }
+
+abbrev pub with_loop : Place → List Row → Place
+with_loop place rows = record {
+  variables = place.variables + 1;
+  frame = map widened place.frame ++ own_column place.variables ∷ [];
+  context = map widened place.context ++ rows;
+}
+
+-- ---- the parts
+-- behind the last column there is one call
+pub record IsCallAt (item : ItemView) (place : Place) (tree : Loop) : Type 0 where
+  pub call : (point : List ℤ) → IsHere item place point → trace tree point ≡ (timed_at item (columns_at place.frame point)).1 ∷ []
+
+-- The next column is the quotient that the entry tells. Where the rows hold it is whole, and its own rows hold; at points nothing else is.
+pub record IsFixedAt (item : ItemView) (place : Place) (entry : Row) (rows : List Row) : Type 0 where
+  pub framed : IsFrame place.variables (place.frame ++ entry ∷ [])
+  pub formed : All (IsWellFormed place.variables) rows
+  pub only : (point : List ℤ) (x : ℤ) → IsHere item place point → IsBegun item (columns_at place.frame point ++ x ∷ [])
+      → (x ≡ column_at point entry) × HoldRows rows point
+  pub own : (point : List ℤ) → IsHere item place point → HoldRows rows point
+      → HoldsRow entry point × HoldOwn item.rows (columns_at place.frame point ++ column_at point entry ∷ [])
+
+-- The next column is a loop's variable, whose turns ascend. Each point's is a turn; where the guards hold at a turn, its own rows do.
+-- What is known inside holds at each turn, whether the context holds or not.
+pub record IsLoopedAt (item : ItemView) (place : Place) (turns : List ℤ → List ℤ) (inside guards : List Row) : Type 0 where
+  pub framed : IsFrame place.variables place.frame
+  pub formed : All (IsWellFormed place.variables) place.context × All (IsWellFormed (place.variables + 1)) (inside ++ guards)
+  pub up : (point : List ℤ) → AllPairs (λ x y. x <ℤ y) (turns point)
+  pub cover : (point : List ℤ) (x : ℤ) → IsHere item place point → IsBegun item (columns_at place.frame point ++ x ∷ [])
+      → Contains (turns point) x × HoldRows guards (point ++ x ∷ [])
+  pub own : (point : List ℤ) (x : ℤ) → IsHere item place point → Contains (turns point) x → HoldRows guards (point ++ x ∷ [])
+      → HoldOwn item.rows (columns_at place.frame point ++ x ∷ [])
+  pub known : (point : List ℤ) (x : ℤ) → length point ≡ place.variables → Contains (turns point) x → HoldRows inside (point ++ x ∷ [])
+
+-- ---- the nest
+-- a tree under rows; and rows that the variable of its loop meets at each turn, where it is one
+pub record Nested : Type 0 where
+  pub rows : List Row
+  pub tree : Loop
+  pub inside : List Row
+
+-- with so many levels left
+abbrev pub IsNest : ItemView → ℕ → Place → Nested → Type 0
+IsNest item zero place nested = (nested.rows ≡ []) × IsCallAt item place nested.tree
+IsNest item (suc left) place nested =
+    ((entry : Row) × (rows : List Row) × (more : List Row) × IsFixedAt item place entry rows × (nested.rows ≡ rows ++ more)
+    × IsNest item left (with_entry place entry rows) (record { rows = more; tree = nested.tree; inside = nested.inside }))
+    ⊎ ((turns : List ℤ → List ℤ) × (guards : List Row) × (body : Nested) × IsLoopedAt item place turns nested.inside guards
+    × (nested.rows ≡ [])
+    × ((point : List ℤ) → trace nested.tree point
+    ≡ each_in (λ x. if rows_hold (guards ++ body.rows) (point ++ x ∷ []) then trace body.tree (point ++ x ∷ []) else []) (turns point))
+    × IsNest item left (with_loop place (nested.inside ++ guards)) body)
+
+-- what is to be shown of it: the tree lists the calls behind the columns, in the order of their times, wherever its rows are asked first
+abbrev pub ListsNest : ItemView → Place → Nested → Type 0
+ListsNest item place nested = (point : List ℤ) → IsHere item place point
+    → Lists (IsCalledBehind item (columns_at place.frame point)) (if rows_hold nested.rows point then trace nested.tree point else [])

@@ -1,0 +1,2 @@
+//! Nests of loops: the shape of what one item becomes.
+#![tactic(auto)]
