@@ -12,7 +12,7 @@ use Rattle.isl_eval.specs.Tests.{is_test}
 use Rattle.isl_eval.specs.Evaluation.{ends_with_test, is_coalesce, is_scan, is_listing, is_asked}
 use Rattle.isl_eval.proofs.TestLaws.{ends_are, ends_at}
 
-listing_of-Prefix : (word : Word) (operand : Expr) → is_listing (e.Prefix word operand) ≡ is_scan word
+pub listing_of-Prefix : (word : Word) (operand : Expr) → is_listing (e.Prefix word operand) ≡ is_scan word
 unfolding hidden-the_row-Expr-0 denote.Hole.Carrier.hidden
 listing_of-Prefix word operand = refl
 

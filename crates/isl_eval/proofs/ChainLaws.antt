@@ -2,10 +2,12 @@
 use Rattle.std.proofs.Common.{◌≡◌, ◌∙◌, inl, inr, refl, sym, ap, subst, arith, ◌≤◌, ◌^◌, ℕ, suc}
 use Rattle.std.proofs.Common.{Bool, true, false, List, [], ◌∷◌, ◌++◌, length, get_or, Option, Some, Ok, Err}
 use Rattle.std.specs.List.{All, list_any}
+use Rattle.std.proofs.lemmas.Bool.{false≢true}
 use Rattle.std.proofs.lemmas.List.Elements.{All-nil, All-cons, All-append}
 use Rattle.isl_space.specs.Name.{Name}
 use Rattle.isl_text.specs.declared.refusal.Refusal.TheVariants as r
 use Rattle.isl_lower.specs.Value.{IsWellFormedLiteral}
+use Rattle.isl_lower_params.specs.Params.{HasNoCoordinates}
 use Rattle.isl_expr.specs.declared.tree.Binary.TheVariants.{Gist}
 use Rattle.isl_expr.specs.declared.tree.Prefix.TheVariants.{Sample}
 use Rattle.isl_expr.specs.declared.tree.ValueKind.{ValueKind}
@@ -23,21 +25,21 @@ use Rattle.isl_kinds.specs.Typed.{declared_of, kind_for, with_params, type_for, 
 use Rattle.isl_eval.proofs.TestLaws.{made_of-Row, whole_row}
 use Rattle.isl_flat.specs.Flat.{flat, link_of}
 use Rattle.isl_flat.specs.Simple.{bindings_of, last_of, BindFrom, IsSimple, IsSimpleExpr, HasType, AreTyped, statement_declared}
-use Rattle.isl_eval.specs.Unsupported.{assumes, is_unsupported_part}
-use Rattle.std.proofs.lemmas.Bool.{false≢true, or_parts}
+use Rattle.isl_eval.specs.Unsupported.{is_unsupported_part}
 use Rattle.isl_flat.proofs.SimpleLaws.{flat_ends, parts_kept, literals_kept, flat_is_simple, bindings_are_numbered}
 use Rattle.isl_flat.proofs.TypedLaws.{flat_is_typed}
 use Rattle.isl_stmt.specs.Names.{HasNoDollar, binds_dollar}
 use Rattle.isl_stmt.proofs.NameLaws.{bytes_spell_no_dollar}
 use Rattle.isl_values.specs.State.{Moment, scope_of}
 use Rattle.isl_values.specs.Made.{is_foreign}
-use Rattle.isl_eval.specs.Evaluated.{made_parts, shown_parts, worked_parts, IsEvaluable}
+use Rattle.isl_eval.specs.Evaluated.{made_parts, shown_parts, worked_parts, AssumesFormulas, IsEvaluable}
+use Rattle.isl_eval.specs.Ended.{lists, IsAssumedWhereListed}
 use Rattle.isl_eval.specs.Evaluation.{IsRead, IsTaken, IsWorkable, AreEvaluable}
 use Rattle.isl_eval.specs.Spelled.{BytesSpell}
 use Rattle.isl_token.proofs.LexLaws.{lexed}
 use Rattle.isl_eval.proofs.TypeLaws.{found_is, of_type}
 use Rattle.isl_eval.proofs.PlainLaws.{is_value, is_lone, bound_plain, shown_plain}
-use Rattle.isl_eval.proofs.FullLaws.{spelled_full, outermost_full}
+use Rattle.isl_eval.proofs.FullLaws.{spelled_full, spelled_formulas, outermost_full, outermost_listed}
 
 -- ---- the kinds of statements with types
 taken_value : (expr : Expr) (params : List Name) (kind : ValueKind) (u : TypeView)
@@ -99,15 +101,15 @@ shown_simple scope expr kind is full supported (inr (inr h)) =
 -- ---- one simple statement
 abbrev pub FullStmt : Stmt → Type 0
 FullStmt (Show expr) = is_lone expr ≡ false
-FullStmt (Assume set) = ⊥
+FullStmt (Assume set) = All HasNoCoordinates set.pieces
 FullStmt (Bind name expr) = Unit {0}
 FullStmt Empty = Unit {0}
 
-no_assumption : (stmt : Stmt) → FullStmt stmt → assumes stmt ≡ false
-no_assumption Empty full = refl
-no_assumption (Bind name expr) full = refl
-no_assumption (Show expr) full = refl
-no_assumption (Assume set) full = absurd full
+formulas_of : (stmt : Stmt) → FullStmt stmt → AssumesFormulas stmt
+formulas_of Empty full = tt
+formulas_of (Bind name expr) full = tt
+formulas_of (Show expr) full = tt
+formulas_of (Assume set) full = full
 
 plain : (scope : ScopeView) (stmt : Stmt) (t : Option TypeView) → type_of_statement scope stmt ≡ Ok t → FullStmt stmt
     → list_any is_unsupported_part (parts_of_statement stmt) ≡ false → IsSimple stmt → list_any is_foreign (worked_parts stmt) ≡ false
@@ -129,7 +131,7 @@ may_be most stmt full supported literals simple = λ scope t has. record {
   typed = (t, has.typed);
   plain = plain scope stmt t has.typed full supported simple;
   literals = literals;
-  assumes_nothing = no_assumption stmt full;
+  formulas = formulas_of stmt full;
 }
 
 -- ---- one after another
@@ -175,11 +177,11 @@ all_full stmt full =
     (All-append FullStmt (bindings_of stmt) (last_of stmt ∷ []) (full_bindings 1 (bindings_of stmt) (bindings_are_numbered stmt))
     (All-cons FullStmt (last_of stmt) [] (full_last stmt full) (All-nil FullStmt)))
 
-full_spelled : (bytes : List ℕ) (stmt : Stmt) → BytesSpell bytes stmt → assumes stmt ≡ false → FullStmt stmt
-full_spelled bytes Empty spelled none = tt
-full_spelled bytes (Bind name expr) spelled none = tt
-full_spelled bytes (Assume set) spelled none = absurd (false≢true (sym none))
-full_spelled bytes (Show expr) spelled none = spelled_full expr spelled.tokens (lexed bytes spelled.tokens spelled.cut) spelled.spelled
+full_spelled : (bytes : List ℕ) (stmt : Stmt) → BytesSpell bytes stmt → FullStmt stmt
+full_spelled bytes Empty spelled = tt
+full_spelled bytes (Bind name expr) spelled = tt
+full_spelled bytes (Assume set) spelled = spelled_formulas set spelled.tokens (lexed bytes spelled.tokens spelled.cut) spelled.spelled
+full_spelled bytes (Show expr) spelled = spelled_full expr spelled.tokens (lexed bytes spelled.tokens spelled.cut) spelled.spelled
 
 pub no_dollar : (bytes : List ℕ) (stmt : Stmt) → BytesSpell bytes stmt → HasNoDollar stmt
 no_dollar bytes stmt spelled = bytes_spell_no_dollar bytes stmt spelled.tokens spelled.cut spelled.spelled
@@ -192,17 +194,42 @@ evaluable before bytes stmt statements read able is short =
     let most = length (statement_declared (scope_of before.state) stmt) in
     let typed = flat_is_typed (scope_of before.state) stmt able.typed.0 (no_dollar bytes stmt read.spelled).inside
     (subst (λ (s : List Stmt). length s ≤ 2 ^ 64) is short) able.typed.1 in
-    let quiet = or_parts (assumes stmt) (list_any is_unsupported_part (parts_of_statement stmt)) read.supported in
-    let supported = parts_kept is_unsupported_part (λ n. refl) stmt quiet.1 in
+    let supported = parts_kept is_unsupported_part (λ n. refl) stmt read.supported in
     let literals = literals_kept IsWellFormedLiteral stmt read.sound in
     let simple = flat_is_simple stmt in
-    let full = all_full stmt (full_spelled bytes stmt read.spelled quiet.0) in
+    let full = all_full stmt (full_spelled bytes stmt read.spelled) in
     let each : All (MayBe most) (flat stmt) = λ i d low.
     may_be most (get_or (flat stmt) i d) (full i d low) (supported i d low) (literals i d low) (simple i d low) in
     subst (AreEvaluable (scope_of before.state)) (sym (is ∙ flat_ends stmt))
     (chain most 1 (scope_of before.state) (bindings_of stmt) (last_of stmt) able.typed.0
     (subst (λ (s : List Stmt). AreTyped most (scope_of before.state) s able.typed.0) (flat_ends stmt) typed) (bindings_are_numbered stmt)
     (subst (All (MayBe most)) (flat_ends stmt) each))
+
+-- ---- what is asked first
+last_lists : (stmt : Stmt) → FullStmt stmt → lists (last_of stmt) ≡ lists stmt
+last_lists Empty full = refl
+last_lists (Bind name expr) full = refl
+last_lists (Show expr) full = outermost_listed expr full
+last_lists (Assume set) full = refl
+
+bindings_asked : (before : Moment) (n : ℕ) (bindings : List Stmt) → BindFrom n bindings → All (IsAssumedWhereListed before) bindings
+bindings_asked before n [] from = All-nil (IsAssumedWhereListed before)
+bindings_asked before n (Bind name expr ∷ more) from =
+    All-cons (IsAssumedWhereListed before) (Bind name expr) more (λ listed. absurd (false≢true listed))
+    (bindings_asked before (suc n) more from.1)
+bindings_asked before n (Empty ∷ more) from = absurd from
+bindings_asked before n (Show expr ∷ more) from = absurd from
+bindings_asked before n (Assume set ∷ more) from = absurd from
+
+-- where a statement lists elements, one of its simple statements does, at the same numbers
+pub asked_each : (before : Moment) (bytes : List ℕ) (stmt : Stmt) (statements : List Stmt) → BytesSpell bytes stmt → statements ≡ flat stmt
+    → IsAssumedWhereListed before stmt → All (IsAssumedWhereListed before) statements
+asked_each before bytes stmt statements spelled is asked =
+    subst (All (IsAssumedWhereListed before)) (sym (is ∙ flat_ends stmt))
+    (All-append (IsAssumedWhereListed before) (bindings_of stmt) (last_of stmt ∷ [])
+    (bindings_asked before 1 (bindings_of stmt) (bindings_are_numbered stmt))
+    (All-cons (IsAssumedWhereListed before) (last_of stmt) [] (λ listed. asked (sym (last_lists stmt (full_spelled bytes stmt spelled)) ∙ listed))
+    (All-nil (IsAssumedWhereListed before))))
 
 -- ---- one simple statement alone
 pub one_alone : (others : List Stmt) (x only : Stmt) → others ++ x ∷ [] ≡ only ∷ [] → (others ≡ []) × (x ≡ only)

@@ -15,9 +15,11 @@ use Rattle.isl_expr.specs.declared.tree.Expr.{Expr, Prefix}
 use Rattle.isl_kinds.specs.Typed.{declared_of, declared_of_row, joined_names}
 use Rattle.isl_operators.specs.Operations.{WordMisses}
 use Rattle.isl_operators.specs.Formed.{OperatorForms, PairsWide, WordForms, FormsWide}
-use Rattle.isl_values.specs.State.{StateView, scope_of}
+use Rattle.isl_assumed.specs.Assumed.{Assumes}
+use Rattle.isl_values.specs.State.{AtAssumed, StateView, scope_of}
 use Rattle.isl_values.specs.Selection.{Selects}
-use Rattle.isl_values.specs.Ends.{End, because, cut, too_wide, NoEnd, GoesOn, FirstEnds, Ends, EndsRow}
+use Rattle.isl_values.specs.Ends.{End, because, cut, too_wide, no_minimum, unbounded, no_valuation, not_assumed}
+use Rattle.isl_values.specs.Ends.{NoEnd, GoesOn, FirstEnds, OperationEnds, Ends, EndsRow}
 use Rattle.isl_values.specs.Ends.{PairEnds, WordEnds}
 use Rattle.isl_values.proofs.FirstLaws.{EndAlike, alike_itself, first_alike, goes_alike, goes_both, turned_alike}
 use Rattle.isl_values.proofs.EndsLaws.{Behind}
@@ -32,7 +34,7 @@ module _ (state : StateView) (word : Word) (operand : Expr) where
   word_ends why ends = (ends_of-Prefix state word operand why).1 (inl ends)
 
   abbrev Operand : Valuation → Element → Type 0
-  Operand v x = Selects state operand v x
+  Operand = AtAssumed state (λ v x. Selects state operand v x)
 
   abbrev Whole : End → Type 0
   Whole = FirstEnds (Ends state operand) (WordEnds word Operand)
@@ -94,7 +96,8 @@ module _ (state : StateView) (first : Expr) (before : List Link) (last : Link) w
   first_ends why ends = inl ends
 
   module _ (one : KeptValue) (names : one.params ≡ declared_of (scope_of state) first)
-      (same : (v : Valuation) (x : Element) → Has one v x ↔ Selects state first v x) (goes : GoesOn (Ends state first)) where
+      (same : (v : Valuation) → Assumes state.assumed v → (x : Element) → Has one v x ↔ Selects state first v x)
+      (goes : GoesOn (Ends state first)) where
     -- the row before the last link ends for the value of the first operand as for what that selects
     row_before : EndAlike (EndsRow state one.params (Has one) before) (EndsRow state Names Past before)
     row_before =
@@ -120,7 +123,9 @@ module _ (state : StateView) (first : Expr) (before : List Link) (last : Link) w
         names_end many = last_ends (because too_wide) (inr (right, inl (inl many)))
 
         abbrev TestWide : Type 0
-        TestWide = PairsWide (OperatorForms last.operator) (Behind state Past before) (λ v y. Selects state last.operand v y)
+        TestWide =
+            PairsWide (OperatorForms last.operator) (AtAssumed state (Behind state Past before))
+            (AtAssumed state (λ v y. Selects state last.operand v y))
 
         narrow : is_test last.operator ≡ true → ¬ TestWide
         narrow test wide = test_forms last.operator wide.0 wide.1 wide.2 test wide.5
@@ -131,14 +136,26 @@ module _ (state : StateView) (first : Expr) (before : List Link) (last : Link) w
             → EndsTest state first before last cut
         test_cut test few = last_ends cut (inr (right, inl (few, narrow test)))
 
+        -- the test of two values ends as the row does
+        pub test_ended : is_test last.operator ≡ true → (names : List Name)
+            → names ≡ joined_names There (declared_of (scope_of state) last.operand) → (why : End) → OperationEnds names ⊥ ⊥ why
+            → EndsTest state first before last why
+        test_ended test names is (because too_wide) (inl many) = names_end (subst (λ (ns : List Name). most_parameters < length ns) is many)
+        test_ended test names is (because too_wide) (inr few) = absurd few.1
+        test_ended test names is (because no_minimum) h = absurd h.2
+        test_ended test names is (because unbounded) h = absurd h
+        test_ended test names is (because no_valuation) h = absurd h
+        test_ended test names is (because not_assumed) h = absurd h
+        test_ended test names is cut h = test_cut test (subst (λ (ns : List Name). length ns ≤ most_parameters) is h.0)
+
         pub test_goes_on : is_test last.operator ≡ true
             → length (joined_names There (declared_of (scope_of state) last.operand)) ≤ most_parameters
             → GoesOn (EndsTest state first before last)
         test_goes_on test few =
             let next = joined_names There (declared_of (scope_of state) last.operand) in
             let Operation =
-            PairEnds (OperatorForms last.operator) There (declared_of (scope_of state) last.operand) (Behind state Past before)
-            (λ v y. Selects state last.operand v y) in
+            PairEnds (OperatorForms last.operator) There (declared_of (scope_of state) last.operand) (AtAssumed state (Behind state Past before))
+            (AtAssumed state (λ v y. Selects state last.operand v y)) in
             let own = goes_both Operation NoEnd (operation_goes next TestWide ⊥ few (narrow test) (λ h. h)) (λ reason h. h) in
             let at_last = goes_both (Ends state last.operand) (FirstEnds Operation NoEnd) right own in
             goes_alike Parts (EndsTest state first before last) in_parts

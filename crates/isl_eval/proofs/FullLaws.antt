@@ -1,4 +1,5 @@
 -- What bytes spell has no row of one operand, and no operand that nothing follows, in the place of that operand; and flattening keeps that.
+-- What they assume are formulas alone.
 use mathlib.Core.Former.{Count}
 use Rattle.std.proofs.Common.{◌≡◌, ◌∙◌, refl, sym, ap, ℕ, zero, suc, Bool, true, false, List, [], ◌∷◌, ◌++◌}
 use Rattle.std.specs.Prelude.{if◌then◌else◌}
@@ -9,6 +10,7 @@ use Rattle.isl_token.specs.Token.{IsToken}
 use Rattle.isl_token.specs.Spelling as s
 use Rattle.isl_token.specs.Spelling.{Grammar}
 use Rattle.isl_tree.specs.declared.tree.Literal.{Literal}
+use Rattle.isl_text.specs.Piece.{make_literal}
 use Rattle.isl_expr.specs.declared.tree.Binary.{Binary}
 use Rattle.isl_expr.specs.declared.tree.Stmt.{Stmt}
 use Rattle.isl_expr.specs.declared.tree.Stmt.TheVariants.{Empty, Bind, Show, Assume}
@@ -28,11 +30,16 @@ use Rattle.isl_stmt.specs.declared.word.Role.{Role}
 use Rattle.isl_stmt.specs.declared.word.Role.TheVariants as role
 use Rattle.isl_stmt.specs.Expression.{row_of, post_of, dependence}
 use Rattle.isl_stmt.specs.ExpressionGrammar as g
+use Rattle.isl_formula.specs.FormulaGrammar.{formula}
 use Rattle.isl_pset.specs.PsetGrammar.{pset_grammar}
+use Rattle.isl_pset.specs.PsetGrammar as pset
+use Rattle.isl_pset.proofs.SpelledLaws.{pieces_have}
+use Rattle.isl_lower_params.specs.Params.{HasNoCoordinates}
 use Rattle.isl_stmt.specs.StatementGrammar as statement
 use Rattle.isl_formula.proofs.SpelledLaws.{Has, whatever, pure_has, bind_has, then_has, either_has}
 use Rattle.isl_flat.specs.Flat.{Flattened, Partial, Followed, whole, is_gist, begun, settled_row, gist, with_link}
 use Rattle.isl_flat.specs.Flat.{nested, nested_in, outermost, past_links, past_postfixes, nested_postfix, followed_by, unfollowed}
+use Rattle.isl_eval.specs.Ended.{is_listing, is_scan}
 use Rattle.isl_eval.proofs.PlainLaws.{is_end, is_bare, is_lone}
 
 -- ---- at the constructors of the code
@@ -141,11 +148,27 @@ unfolding g.pre
 pre_full zero = record { by = λ a ts h l. absurd l }
 pre_full (suc n) = level_full _ (g.pre n) (pre_full n)
 
+-- ---- what is assumed
+AreFormulas : Literal → Type 0
+AreFormulas set = All HasNoCoordinates set.pieces
+
+outline_formulas : (n : ℕ) → Has AreFormulas (pset.outline (formula n))
+unfolding AreFormulas
+outline_formulas n =
+    bind_has (λ _. Unit {0}) AreFormulas _ _ (whatever _) (λ params _. bind_has (All HasNoCoordinates) AreFormulas _ _
+    (pieces_have (λ _. Unit {0}) HasNoCoordinates (record { first = refl; second = refl }) (λ held _. record { first = refl; second = refl })
+    (formula n) (whatever _))
+    (λ found all. pure_has AreFormulas (make_literal params found) all))
+
+pset_formulas : (n : ℕ) → Has AreFormulas (pset_grammar n)
+pset_formulas n = record { by = λ a ts tokens l. (outline_formulas n).by a ts tokens l.0 }
+
+-- ---- statements
 abbrev FullStmt : Stmt → Type 0
 FullStmt Empty = Unit {0}
 FullStmt (Bind name expr) = Unit {0}
 FullStmt (Show expr) = Full expr
-FullStmt (Assume set) = Unit {0}
+FullStmt (Assume set) = AreFormulas set
 
 show_full : (expr : Expr) → Full expr → FullStmt (Show expr)
 show_full expr h = h
@@ -153,8 +176,8 @@ show_full expr h = h
 empty_full : FullStmt Empty
 empty_full = tt
 
-assume_full : (set : Literal) → FullStmt (Assume set)
-assume_full set = tt
+assume_full : (set : Literal) → AreFormulas set → FullStmt (Assume set)
+assume_full set h = h
 
 bind_full : (name : List ℕ) (expr : Expr) → FullStmt (Bind name expr)
 bind_full name expr = tt
@@ -168,12 +191,18 @@ statement_full n =
     (λ name _. then_has FullStmt _ _ (bind_has (λ _. Unit {0}) FullStmt _ _ (whatever _) (λ expr _.
     pure_has FullStmt (Bind name expr) (bind_full name expr)))))
     (either_has FullStmt _ _ (then_has FullStmt _ _ shows) (either_has FullStmt _ _ shows (then_has FullStmt _ _
-    (bind_has (λ _. Unit {0}) FullStmt (pset_grammar n) _ (whatever _) (λ set _. pure_has FullStmt (Assume set) (assume_full set)))))))
+    (bind_has AreFormulas FullStmt (pset_grammar n) _ (pset_formulas n) (λ set h. pure_has FullStmt (Assume set) (assume_full set h)))))))
 
 -- what is shown is full
 pub spelled_full : (expr : Expr) (ts : List Token) → All IsToken ts → s.Spells statement.statement_grammar (Show expr) ts
     → is_lone expr ≡ false
 spelled_full expr ts tokens spelled = (statement_full spelled.depth).by (Show expr) ts tokens spelled.spelled
+
+-- what is assumed are formulas alone
+pub spelled_formulas : (set : Literal) (ts : List Token) → All IsToken ts → s.Spells statement.statement_grammar (Assume set) ts
+    → All HasNoCoordinates set.pieces
+unfolding AreFormulas
+spelled_formulas set ts tokens spelled = (statement_full spelled.depth).by (Assume set) ts tokens spelled.spelled
 
 -- ---- flattening
 
@@ -249,3 +278,43 @@ outermost_full (Last' r source s sink t schedule) full = last_full r source s si
 outermost_full (Post' s operand t postfixes) full =
     let f = nested_in [] operand in
     lone_of-Post f.1 (past_postfixes (unfollowed f.0) postfixes).postfixes ∙ post_kept _ (unfollowed f.0) postfixes full
+
+-- ---- listings
+listing_of-Row : (first : Expr) (links : List Link) → is_listing (e.Row first links) ≡ false
+unfolding hidden-the_row-Expr-0 denote.Hole.Carrier.hidden
+listing_of-Row first links = refl
+
+row_unlisted : (first : Expr) (links : List Link) → is_nil links ≡ false → is_listing (whole first links) ≡ false
+row_unlisted first [] some = absurd (false≢true (sym some))
+row_unlisted first (link ∷ links) some = listing_of-Row first (link ∷ links)
+
+word_listed : (word : _) (s : _) (operand : Row_of-Expr _) → is_listing (outermost (Prefix' word s operand)).1 ≡ is_scan word
+unfolding hidden-the_row-Expr-0 denote.Hole.Carrier.hidden
+word_listed word s operand = refl
+
+any_unlisted : (r : _) (source : Row_of-Expr _) (s : _) (sink : Row_of-Expr _) (t : _) (schedule : Row_of-Expr _)
+    → is_listing (outermost (Any' r source s sink t schedule)).1 ≡ false
+unfolding hidden-the_row-Expr-0 denote.Hole.Carrier.hidden
+any_unlisted r source s sink t schedule = refl
+
+last_unlisted : (r : _) (source : Row_of-Expr _) (s : _) (sink : Row_of-Expr _) (t : _) (schedule : Row_of-Expr _)
+    → is_listing (outermost (Last' r source s sink t schedule)).1 ≡ false
+unfolding hidden-the_row-Expr-0 denote.Hole.Carrier.hidden
+last_unlisted r source s sink t schedule = refl
+
+post_unlisted : (s : _) (operand : Row_of-Expr _) (t : _) (postfixes : Row_of-Postfix _)
+    → is_listing (outermost (Post' s operand t postfixes)).1 ≡ false
+unfolding hidden-the_row-Expr-0 denote.Hole.Carrier.hidden
+post_unlisted s operand t postfixes = refl
+
+-- what lists does so when it is flat, and nothing else does
+pub outermost_listed : (expr : Expr) → is_lone expr ≡ false → is_listing (outermost expr).1 ≡ is_listing expr
+outermost_listed (e.Name name) full = refl
+outermost_listed (e.Literal literal) full = refl
+outermost_listed (Row' s first t links) full =
+    let p = begun (nested_in [] first) in
+    row_unlisted (past_links p links).first (past_links p links).links (row_kept _ p links full)
+outermost_listed (Prefix' word s operand) full = word_listed word s operand
+outermost_listed (Any' r source s sink t schedule) full = any_unlisted r source s sink t schedule
+outermost_listed (Last' r source s sink t schedule) full = last_unlisted r source s sink t schedule
+outermost_listed (Post' s operand t postfixes) full = post_unlisted s operand t postfixes

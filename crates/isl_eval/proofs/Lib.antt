@@ -6,6 +6,7 @@ pub mod SizeLaws
 pub mod SoundLaws
 pub mod CauseLaws
 pub mod TypeLaws
+pub mod AssumedLaws
 pub mod TestLaws
 pub mod EndsLaws
 pub mod PlainLaws

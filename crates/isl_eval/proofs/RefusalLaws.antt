@@ -2,12 +2,19 @@
 use Rattle.std.proofs.Common.{◌≡◌, ◌≢◌, ◌∙◌, ◌⊎◌, inl, inr, refl, sym, ap, subst, ℕ}
 use Rattle.std.proofs.Common.{Bool, true, false, List, [], ◌∷◌, ◌++◌, Option, Result, Ok, Err}
 use Rattle.std.specs.List.{list_any}
-use Rattle.std.proofs.lemmas.Bool.{false_from_ne_true}
-use Rattle.isl_meter.specs.Gauge.{Gauge}
-use Rattle.isl_meter.proofs.CutLemmas.{IsCharged_refl}
+use Rattle.std.proofs.lemmas.Bool.{false≢true, false_from_ne_true}
+use Rattle.isl_meter.specs.Gauge.{Gauge, IsKept}
+use Rattle.isl_meter.specs.declared.Cut.{Cut}
+use Rattle.isl_meter.specs.declared.Cut.TheVariants as cuts
+use Rattle.isl_meter.proofs.CutLemmas.{IsCharged_refl, IsCutBy-overflown, IsKept_refl, IsKept-overflown}
+use Rattle.isl_assumed.specs.declared.assumed.Assumed.{Assumed}
+use Rattle.isl_piece.specs.Cut.{IsCutFor}
 use Rattle.isl_text.specs.declared.refusal.Refusal.{Refusal}
 use Rattle.isl_text.specs.declared.refusal.Refusal.TheVariants as r
+use Rattle.isl_expr.specs.declared.tree.Prefix.TheVariants as p
+use Rattle.isl_expr.specs.declared.tree.Expr.{Prefix'}
 use Rattle.isl_expr.specs.declared.tree.Stmt.{Stmt}
+use Rattle.isl_expr.specs.declared.tree.Stmt.TheVariants.{Empty, Bind, Show, Assume}
 use Rattle.isl_kinds.specs.Typed.{TypeView, type_of_statement}
 use Rattle.isl_kinds.specs.Parts.{parts_of_statement}
 use Rattle.isl_values.specs.Made.{uses_units}
@@ -18,7 +25,10 @@ use Rattle.isl_eval.specs.Causes.{wide_number, unsupported, unknown_name, wrong_
 use Rattle.isl_eval.specs.Causes.{parametric, causes, refusal_of, is_parametric}
 use Rattle.isl_eval.specs.Causes.{IsThere, FirstGives, NoneIs, IsClear, Refuses, HasWork}
 use Rattle.isl_eval.specs.Evaluated.{IsTyped}
-use Rattle.isl_eval.specs.Evaluation.{causes_of_bytes, IsRead, IsWhyNot, IsWorkable, IsWhyUnworkable}
+use Rattle.isl_eval.specs.Ended.{lists, AskedEnds, IsAssumedWhereListed}
+use Rattle.isl_values.specs.Ends as ends
+use Rattle.isl_values.specs.Made.{refusal_of_cut}
+use Rattle.isl_eval.specs.Evaluation.{causes_of_bytes, IsRead, IsWhyNot, IsWhyUnasked, IsWorkable, IsWhyUnworkable}
 use Rattle.isl_eval.proofs.CauseLaws.{of_statement, is_not}
 use Rattle.isl_eval.proofs.TypeLaws.{no_type}
 
@@ -73,17 +83,31 @@ first_past There [] back refusal none later = later
 first_past There (cause ∷ front) back refusal none later = inr (none.0, first_past There front back refusal none.1 later)
 
 -- ---- work
-pub no_work : (bytes : List ℕ) (stmt : Stmt) → BytesSpell bytes stmt → ¬ OfStatement bytes HasWork
-    → list_any uses_units (parts_of_statement stmt) ≡ false
-no_work bytes stmt spelled none = false_from_ne_true (list_any uses_units (parts_of_statement stmt)) (λ work. none (stmt, spelled, work))
+module _ (assumed : Assumed) (bytes : List ℕ) (stmt : Stmt) (spelled : BytesSpell bytes stmt) where
+  abbrev Works : Bool
+  Works = list_any (uses_units assumed) (parts_of_statement stmt)
 
-pub has_work : (bytes : List ℕ) (stmt : Stmt) → BytesSpell bytes stmt → ¬ (list_any uses_units (parts_of_statement stmt) ≡ false)
-    → OfStatement bytes HasWork
-has_work bytes stmt spelled some = by (list_any uses_units (parts_of_statement stmt)) refl
-  where
-    by : (b : Bool) → list_any uses_units (parts_of_statement stmt) ≡ b → OfStatement bytes HasWork
-    by true works = (stmt, spelled, works)
-    by false none = absurd (some none)
+  pub no_work : ¬ OfStatement bytes (HasWork assumed) → Works ≡ false
+  no_work none = false_from_ne_true Works (λ work. none (stmt, spelled, work))
+
+  pub has_work : ¬ (Works ≡ false) → OfStatement bytes (HasWork assumed)
+  has_work some = by Works refl
+    where
+      by : (b : Bool) → Works ≡ b → OfStatement bytes (HasWork assumed)
+      by true works = (stmt, spelled, works)
+      by false none = absurd (some none)
+
+-- what asking whether numbers are assumed says
+pub not_listed : (before : Moment) (stmt : Stmt) (b : Bool) → b ≡ lists stmt → b ≡ false → IsAssumedWhereListed before stmt
+not_listed before stmt b is none = λ listed. absurd (false≢true (sym none ∙ is ∙ listed))
+
+-- to list elements is work
+listing_works : (assumed : Assumed) (stmt : Stmt) → lists stmt ≡ true → HasWork assumed stmt
+listing_works assumed Empty listed = absurd (false≢true listed)
+listing_works assumed (Bind name expr) listed = absurd (false≢true listed)
+listing_works assumed (Show (Prefix' p.Scan s operand)) listed = refl
+listing_works assumed (Show _) listed = absurd (false≢true listed)
+listing_works assumed (Assume set) listed = absurd (false≢true listed)
 
 -- ---- a statement that was read
 module _ (before : Moment) (bytes : List ℕ) (stmt : Stmt) (read : IsRead before bytes stmt) where
@@ -162,3 +186,31 @@ module _ (before : Moment) (bytes : List ℕ) (stmt : Stmt) (read : IsRead befor
   unworkable_refuses refusal (inr (inl h)) =
       first_refuses before bytes before.meter refl refusal (typed_cause refusal h.0 (inl ((stmt, read.spelled, h.1), h.2)))
   unworkable_refuses refusal (inr (inr h)) = memory_refuses before bytes before.meter refl refusal h
+
+  -- it is not evaluated, since numbers are not assumed, or asking that was cut
+  module _ (able : IsWorkable (scope_of before.state) before.options.at stmt) (now : Gauge) where
+    cut_asked : (what : Cut) → IsCutFor (AskedEnds before stmt ends.cut) before.meter now what
+        → Refuses before bytes now (refusal_of_cut what)
+    cut_asked cuts.Overflow why = (
+      clear able,
+      (stmt, read.spelled, listing_works before.state.assumed stmt why.0.0),
+      (stmt, read.spelled, inl why.0),
+      IsCutBy-overflown before.meter now why.1,
+    )
+    cut_asked cuts.Budget why = absurd why
+    cut_asked cuts.NoMemory why = (IsCharged_refl before.meter now why, λ none. why)
+
+    pub unasked_refuses : (refusal : Refusal) → IsWhyUnasked before stmt now refusal → Refuses before bytes now refusal
+    unasked_refuses refusal (inl h) =
+        subst (Refuses before bytes now) (sym h.0)
+        (clear able, (stmt, read.spelled, inl h.1), IsCharged_refl before.meter now h.2, λ none. h.2)
+    unasked_refuses refusal (inr h) = subst (Refuses before bytes now) (sym h.1) (cut_asked h.0 h.2)
+
+    pub unasked_kept : (refusal : Refusal) → IsWhyUnasked before stmt now refusal → IsKept before.meter now
+    unasked_kept refusal (inl h) = IsKept_refl before.meter now h.2
+    unasked_kept refusal (inr h) = by h.0 h.2
+      where
+        by : (what : Cut) → IsCutFor (AskedEnds before stmt ends.cut) before.meter now what → IsKept before.meter now
+        by cuts.Overflow why = IsKept-overflown before.meter now why.1
+        by cuts.Budget why = absurd why
+        by cuts.NoMemory why = IsKept_refl before.meter now why

@@ -2,16 +2,17 @@
 use mathlib.Core.Former.{Count}
 use Rattle.std.proofs.Common.{◌≡◌, ◌≢◌, ◌<◌, ◌≤◌, ◌∙◌, ◌↔◌, inl, inr, refl, sym, ap, ap₂, subst, take, ◌+◌}
 use Rattle.std.proofs.Common.{ℕ, ℤ, Bool, true, false, List, [], ◌∷◌, ◌++◌, length, Option, None, Some, Result, Ok, Err}
-use Rattle.std.specs.Prelude.{unsigned_abs, not, ◌||◌, ◌&&◌, if◌then◌else◌, is_some, IfOk, MatchOption, MatchResult}
+use Rattle.std.specs.Prelude.{unsigned_abs, not, ◌||◌, ◌&&◌, if◌then◌else◌, is_some, IfOk, OnErr, OnOk, MatchOption, MatchResult}
 use Rattle.std.specs.Option.{option_and_then, option_map_or}
 use Rattle.std.specs.List.{All, list_any}
 use Rattle.std.proofs.lemmas.Bool.{false≢true, or_parts}
 use Rattle.std.specs.List.{slice_get}
 use Rattle.std.proofs.lemmas.List.{map-append, take_more}
 use Rattle.std.proofs.lemmas.Option.{get_or_from_slice_get, slice_get_within}
-use Rattle.std.proofs.lemmas.List.Elements.{All-nil, All-append}
+use Rattle.std.proofs.lemmas.List.Elements.{All-nil, All-append, All-head}
 use Rattle.std.proofs.lemmas.List.Folds.{list_any-append}
-use Rattle.isl_meter.specs.Gauge.{Gauge, limit_of, IsCharged}
+use Rattle.isl_meter.specs.Gauge.{Gauge, limit_of, IsCharged, IsCutBy}
+use Rattle.isl_meter.specs.declared.Cut.{Cut}
 use Rattle.isl_meter.proofs.CutLemmas.{IsCharged_refl, IsCharged_trans}
 use Rattle.isl_space.specs.Limits.{most_parameters}
 use Rattle.isl_space.specs.Name.{Name}
@@ -22,11 +23,11 @@ use Rattle.isl_space.specs.Valuation.{Valuation, value_at, values_of}
 use Rattle.isl_words.specs.Options.{OptionsView}
 use Rattle.isl_union.specs.Finite.{IsFiniteAt}
 use Rattle.isl_union.specs.KeptValue.{KeptValue, Has, HasNoDefinitions, IsKeptValue}
-use Rattle.isl_union.specs.Sample.{IsSampleOf}
-use Rattle.isl_coalesce.specs.Coalesced.{IsCoalesced}
-use Rattle.isl_gist.specs.Gist.{IsGistOf, value_over}
+use Rattle.isl_assumed.specs.declared.assumed.Assumed.{Assumed}
+use Rattle.isl_assumed.specs.Assumed.{names_of, Assumes}
+use Rattle.isl_lower_params.specs.Params.{HasNoCoordinates, HoldsSome}
+use Rattle.isl_tree.specs.Known.{literal_is_known}
 use Rattle.isl_operators.specs.Formed.{OperatorForms, PairsWide, WordForms}
-use Rattle.isl_operators.specs.Made.{IsAnyWordOf}
 use Rattle.isl_scan.specs.declared.fault.ScanFault.{ScanFault}
 use Rattle.isl_scan.specs.declared.fault.ScanFault.TheVariants as scan_fault
 use Rattle.isl_scan.specs.Fault.{IsScanFault}
@@ -59,17 +60,20 @@ use Rattle.isl_kinds.specs.Typed.{TypeView, ScopeView, has_unknown, is_unknown, 
 use Rattle.isl_kinds.specs.Typed.{type_for, type_of_statement, Answers as TypeAnswers}
 use Rattle.isl_flat.specs.Flat.{is_gist, is_sample, link_of}
 use Rattle.isl_kinds.proofs.DeclaredLaws.{declared_of-Prefix, declared_of-Row}
-use Rattle.isl_kinds.proofs.JoinedNamesLaws.{declared_distinct, joined_is}
 use Rattle.isl_kinds.proofs.PartLaws.{parts_of-Prefix, parts_of-Row}
 use Rattle.isl_values.specs.declared.list.ListPart.{ListPart}
 use Rattle.isl_values.specs.declared.list.ListPart.TheVariants.{First, Second}
 use Rattle.isl_values.specs.declared.list.ListValue.{ListValue}
-use Rattle.isl_values.specs.State.{Binds, Kept, Moment, StateView, HasNumbersUpTo, scope_of, type_of}
+use Rattle.isl_values.specs.State.{AtAssumed, Binds, Fits, Kept, Moment, Narrows, StateView, HasNumbersUpTo, scope_of, type_of}
 use Rattle.isl_values.specs.Worked.{IsWorked}
-use Rattle.isl_values.specs.Selection.{Selects, IsContentOf, IsGistOfTwo, IsKeptOf, IsSelected, IsSelectedAt, IsSelectedIn, Keeps, context_of}
+use Rattle.isl_values.specs.Live.{IsLiveUnder, IsSampleAt}
+use Rattle.isl_values.specs.Selection.{Selects, IsContentOf, IsGistOfTwo, IsKeptOf, IsSelected, IsSelectedAt, IsSelectedIn, IsTogetherOf, Keeps}
+use Rattle.isl_values.specs.Selection.{context_of}
 use Rattle.isl_values.specs.Three.{AreBothFlat, IsFlatAt}
-use Rattle.isl_values.specs.Made.{is_foreign, uses_units, IsOfType, IsSoundExpr, IsValueOf, IsPaid, IsWhyUnworked}
-use Rattle.isl_values.specs.Ends.{End, because, cut, too_wide, no_minimum, unbounded, Ends, FirstEnds, GoesOn, NoEnd, PairEnds}
+use Rattle.isl_values.specs.Made.{is_foreign, refusal_of_cut, uses_units, IsOfType, IsSoundExpr, IsValueOf, IsPaid, IsWhyUnmade}
+use Rattle.isl_values.specs.Made.{IsWhyUnworked}
+use Rattle.isl_values.specs.Ends.{End, because, cut, too_wide, no_minimum, unbounded, no_valuation, not_assumed}
+use Rattle.isl_values.specs.Ends.{CutAlone, Ends, FirstEnds, GoesOn, NarrowingEnds, NoEnd, OperationEnds, PairEnds}
 use Rattle.isl_values.proofs.FirstLaws.{EndAlike, alike_trans, goes_alike, goes_both, turned_alike}
 use Rattle.isl_values.proofs.FlatLaws.{written_itself}
 use Rattle.isl_values.proofs.EndsLaws.{ends_of-Row}
@@ -78,18 +82,17 @@ use Rattle.isl_values.proofs.PartLaws.{all_left, all_right, quiet_both, sound_li
 use Rattle.isl_values.proofs.ValueLaws.{paid_works, same_limit, unworked_in}
 use Rattle.isl_eval.specs.Listed.{IsListed, AreFinite}
 use Rattle.isl_eval.specs.Machine.{Answer, Does, Shows, ShowsRow, ShowsValue, Step, listed, nothing, shown}
-use Rattle.isl_eval.specs.Ended.{ListingEnds, StatementEnds}
+use Rattle.isl_eval.specs.Ended.{is_listing, IsAssumedWhereListed, ListingEnds, NarrowedEnds, StatementEnds}
 use Rattle.isl_eval.specs.Tests.{is_test, RowHolds}
 use Rattle.isl_eval.specs.Evaluated.{made_parts, shown_parts, parts_around_test, works, IsTyped, IsEvaluable, IsWhyEnded}
-use Rattle.isl_eval.specs.Unsupported.{assumes}
 use Rattle.isl_eval.specs.Evaluation.{ends_with_test, context_in, is_asked, is_coalesce, keeps_selected, refusal_of_fault}
 use Rattle.isl_eval.specs.Evaluation.{AreKeptIn, EndsListing, EndsPair, EndsTest, EndsWork, IsKeptIn, IsMakeable, IsReadyTest, IsSampled}
-use Rattle.isl_eval.specs.Evaluation.{IsSimplified, IsTogether, IsValueWith}
-use Rattle.isl_eval.proofs.TypeLaws.{answered_ok, found_is, found_some, bind_typed, of_type, show_typed}
-use Rattle.isl_eval.proofs.TestLaws.{context_is, ends_at, made_of-Row, test_parts, unmade_by}
+use Rattle.isl_eval.specs.Evaluation.{IsChosen, IsGistIn, IsPutAt, IsSimplified, IsTogether, IsValueWith}
+use Rattle.isl_eval.proofs.TypeLaws.{answered_ok, found_is, found_some, bind_typed, of_type, show_typed, typed_known}
+use Rattle.isl_eval.proofs.TestLaws.{context_is, ends_at, made_of-Row, test_parts, unmade_by, unworked_on}
 use Rattle.isl_eval.proofs.EndsLaws.{word_cut, word_ends, word_goes_on}
 use Rattle.isl_eval.proofs.ListedLaws.{listed_finite}
-use Rattle.isl_eval.proofs.AskedLaws.{asked_of-Prefix, asked_of-Row, ends_none, scan_word}
+use Rattle.isl_eval.proofs.AskedLaws.{asked_of-Prefix, asked_of-Row, ends_none, listing_of-Prefix, scan_word}
 
 -- ---- what is kept of an expression that selects
 selected_content : (state : StateView) (part : ListPart) (expr : Expr) (value : KeptValue) → keeps_selected expr ≡ true
@@ -102,7 +105,7 @@ selected_content state part (Row' s first t links) value plain is = by (context_
     by None none =
         subst (λ (c : Option Expr). MatchOption c (IsSelectedAt state part (Row' s first t links) value)
         (λ context. (left : KeptValue) × (right : KeptValue) × IsSelectedIn state first left × IsSelected state context right
-        × IsGistOfTwo left right value)) (sym none) is
+        × IsGistOfTwo state left right value)) (sym none) is
     by (Some context) some = absurd (false≢true (sym (ap (λ (c : Option Expr). not (is_some c)) some) ∙ plain))
 selected_content state part _ value plain is = is
 
@@ -124,12 +127,13 @@ selected_sound scope expr is able = record {
 
 module _ (state : StateView) (limit : ℤ) (part : ListPart) (expr : Expr) (value : KeptValue) where
   keeps : (before : Moment) → before.state ≡ state → limit_of before.meter ≡ limit → IsContentOf state part expr value
-      → value.params ≡ declared_of (scope_of state) expr → IsKeptValue value → HasNumbersUpTo (unsigned_abs limit) value
-      → HasNoDefinitions value → IsKeptOf before part expr value
-  keeps before same at content params kept numbers plain = record {
+      → value.params ≡ declared_of (scope_of state) expr → IsKeptValue value → IsLiveUnder state.assumed value
+      → HasNumbersUpTo (unsigned_abs limit) value → HasNoDefinitions value → IsKeptOf before part expr value
+  keeps before same at content params kept live numbers plain = record {
     params = ap (λ (s : StateView). declared_of (scope_of s) expr) same ∙ sym params;
     content = subst (λ (s : StateView). IsContentOf s part expr value) (sym same) content;
     well_formed = kept;
+    live = subst (λ (s : StateView). IsLiveUnder s.assumed value) (sym same) live;
     numbers = subst (λ (z : ℤ). HasNumbersUpTo (unsigned_abs z) value) (sym at) numbers;
     definitions = plain;
   }
@@ -138,13 +142,13 @@ module _ (state : StateView) (limit : ℤ) (part : ListPart) (expr : Expr) (valu
       → before.state ≡ state → limit_of before.meter ≡ limit → IsKeptOf before part expr value
   selected_kept is made = λ before same at.
       keeps before same at (selected_content state part expr value is (record { elements = made.elements; written = made.written }))
-      made.params made.kept made.numbers (made.definitions tt)
+      made.params made.kept made.live made.numbers (made.definitions tt)
 
-  with_kept : (Content : KeptValue → Type 0) (names : List Name) → IsValueWith Content names (unsigned_abs limit) value
+  with_kept : (Content : KeptValue → Type 0) (names : List Name) → IsValueWith state.assumed Content names (unsigned_abs limit) value
       → (Content value → IsContentOf state part expr value) → names ≡ declared_of (scope_of state) expr → (before : Moment)
       → before.state ≡ state → limit_of before.meter ≡ limit → IsKeptOf before part expr value
   with_kept Content names made into same = λ before here at.
-      keeps before here at (into made.content) (made.params ∙ same) made.kept made.numbers made.definitions
+      keeps before here at (into made.content) (made.params ∙ same) made.kept made.live made.numbers made.definitions
 
 -- ---- at the constructors of the code
 selects_of-Prefix : (word : Word) (operand : Expr) → keeps_selected (e.Prefix word operand) ≡ not (is_sample word || is_coalesce word)
@@ -195,64 +199,76 @@ module _ (expr : Expr) where
 
 -- ---- a value that is made once
 -- the value that a call made, shared
-with_value : (g h : Gauge) (Content : KeptValue → Type 0) (names : List Name) (made value : KeptValue) → IsCharged g h → value ≡ made
-    → Content made → IsKeptValue made → made.params ≡ names → HasNumbersUpTo (unsigned_abs (limit_of h)) made → HasNoDefinitions made
-    → IsValueWith Content names (unsigned_abs (limit_of g)) value
-with_value g h Content names made value charged same content kept params small plain =
-    subst (IsValueWith Content names (unsigned_abs (limit_of g))) (sym same) (record {
+with_value : (assumed : Assumed) (g h : Gauge) (Content : KeptValue → Type 0) (names : List Name) (made value : KeptValue) → IsCharged g h
+    → value ≡ made → Content made → IsKeptValue made → IsLiveUnder assumed made → made.params ≡ names
+    → HasNumbersUpTo (unsigned_abs (limit_of h)) made → HasNoDefinitions made
+    → IsValueWith assumed Content names (unsigned_abs (limit_of g)) value
+with_value assumed g h Content names made value charged same content kept live params small plain =
+    subst (IsValueWith assumed Content names (unsigned_abs (limit_of g))) (sym same) (record {
       content = content;
       kept = kept;
+      live = live;
       params = params;
       numbers = subst (λ (z : ℤ). HasNumbersUpTo (unsigned_abs z) made) (same_limit g h charged) small;
       definitions = plain;
     })
 
 pub worked_selects : {Plain : Type 0} (state : StateView) (operand : Expr) (limit : ℕ) (value : KeptValue)
-    → IsValueOf (IsWorked state operand) (declared_of (scope_of state) operand) (Selects state operand) limit Plain value
+    → IsValueOf state.assumed (IsWorked state operand) (declared_of (scope_of state) operand) (Selects state operand) limit Plain value
     → IsSelected state operand value
 worked_selects state operand limit value of =
-    record { elements = of.elements; written = written_itself state First operand value of.written }
+    record { elements = of.elements; written = written_itself state First operand value of.kept of.live of.written }
 
 pub flat_selects : (state : StateView) (operand : Expr) (limit : ℕ) (value : KeptValue) → IsFlatAt state First operand limit value
     → IsSelected state operand value
 flat_selects state operand limit value of = record { elements = of.elements; written = of.written }
 
-module _ (state : StateView) (operand : Expr) (g h : Gauge) (value v one made : KeptValue) (selects : IsSelected state operand value)
-    (named : value.params ≡ declared_of (scope_of state) operand) (is : v ≡ value) (kept : IsKeptValue one) (plain : HasNoDefinitions one)
-    (small : HasNumbersUpTo (unsigned_abs (limit_of h)) one)
-    (charged : IsCharged g h) (same : made ≡ one) where
-  made_names : one.params ≡ v.params → one.params ≡ declared_of (scope_of state) operand
-  made_names params = params ∙ ap (λ (k : KeptValue). k.params) is ∙ named
+-- what is chosen of a value that is selected
+pub sampled_is : (state : StateView) (operand : Expr) (g h : Gauge) (value made : KeptValue) → IsSelected state operand value
+    → value.params ≡ declared_of (scope_of state) operand → IsCharged g h → IsChosen state.assumed (unsigned_abs (limit_of h)) value made
+    → IsSampled state operand (unsigned_abs (limit_of g)) made
+sampled_is state operand g h value made selects named charged is =
+    with_value state.assumed g h
+    (λ w. (argument : KeptValue) × IsSelected state operand argument × IsSampleAt state.assumed argument w)
+    (declared_of (scope_of state) operand) made made charged refl (value, selects, is.sample) is.kept is.live (is.sample.params ∙ named)
+    is.numbers is.definitions
 
-  pub sampled_is : IsSampleOf v one → IsSampled state operand (unsigned_abs (limit_of g)) made
-  sampled_is chosen =
-      with_value g h
-      (λ w. (argument : KeptValue) × IsSelected state operand argument × IsSampleOf argument w)
-      (declared_of (scope_of state) operand) one made charged same
-      (value, selects, subst (λ (k : KeptValue). IsSampleOf k one) is chosen) kept (made_names chosen.params) small plain
+-- what is put together of one
+pub together_is : (state : StateView) (operand : Expr) (g h : Gauge) (value made : KeptValue) → IsSelected state operand value
+    → value.params ≡ declared_of (scope_of state) operand → IsCharged g h → IsPutAt state (unsigned_abs (limit_of h)) value made
+    → IsTogether state operand (unsigned_abs (limit_of g)) made
+together_is state operand g h value made selects named charged is =
+    with_value state.assumed g h
+    (λ w. (argument : KeptValue) × IsSelected state operand argument × IsTogetherOf state argument w)
+    (declared_of (scope_of state) operand) made made charged refl (value, selects, is.together) is.kept is.live
+    (is.together.coalesced.params ∙ named) is.numbers is.definitions
 
-  pub together_is : one.params ≡ v.params → ((w : Valuation) (x : Element) → Has one w x ↔ Has v w x) → IsCoalesced v one
-      → IsTogether state operand (unsigned_abs (limit_of g)) made
-  together_is params elements joined =
-      with_value g h
-      (λ w. (argument : KeptValue) × IsSelected state operand argument × IsAnyWordOf p.Coalesce argument w × IsCoalesced argument w)
-      (declared_of (scope_of state) operand) one made charged same (
-        value,
-        selects,
-        subst (λ (k : KeptValue). IsAnyWordOf p.Coalesce k one) is (record { params = params; elements = elements }),
-        subst (λ (k : KeptValue). IsCoalesced k one) is joined,
-      )
-      kept (made_names params) small plain
+-- work behind an operand is cut
+pub work_cut : (state : StateView) (operand : Expr) (g h k : Gauge) (refusal : Refusal) → GoesOn (Ends state operand) → IsCharged g h
+    → IsWhyUnmade true CutAlone h k refusal → IsWhyUnworked true (EndsWork state operand) g k refusal
+work_cut state operand g h k refusal goes charged why =
+    unworked_on true CutAlone (EndsWork state operand) g h k refusal (λ end ends. inr (goes, ends)) charged (inl why)
+
+-- the limit stays
+pub flat_at : (state : StateView) (expr : Expr) (g h : Gauge) (value : KeptValue) → IsCharged g h
+    → IsFlatAt state First expr (unsigned_abs (limit_of h)) value → IsFlatAt state First expr (unsigned_abs (limit_of g)) value
+flat_at state expr g h value charged is =
+    subst (λ (z : ℤ). IsFlatAt state First expr (unsigned_abs z) value) (same_limit g h charged) is
+
+pub gist_later : (state : StateView) (g h : Gauge) (value context gist : KeptValue) → IsCharged g h
+    → IsGistIn state (unsigned_abs (limit_of h)) value context gist → IsGistIn state (unsigned_abs (limit_of g)) value context gist
+gist_later state g h value context gist charged is =
+    subst (λ (z : ℤ). IsGistIn state (unsigned_abs z) value context gist) (same_limit g h charged) is
 
 -- ---- a word that makes a value once
 sample_content : (state : StateView) (operand : Expr) (value : KeptValue)
-    → (argument : KeptValue) × IsSelected state operand argument × IsSampleOf argument value
+    → (argument : KeptValue) × IsSelected state operand argument × IsSampleAt state.assumed argument value
     → IsContentOf state First (e.Prefix p.Sample operand) value
 unfolding hidden-the_row-Expr-0 denote.Hole.Carrier.hidden
 sample_content state operand value h = h
 
 together_content : (state : StateView) (operand : Expr) (value : KeptValue)
-    → (argument : KeptValue) × IsSelected state operand argument × IsAnyWordOf p.Coalesce argument value × IsCoalesced argument value
+    → (argument : KeptValue) × IsSelected state operand argument × IsTogetherOf state argument value
     → IsContentOf state First (e.Prefix p.Coalesce operand) value
 unfolding hidden-the_row-Expr-0 denote.Hole.Carrier.hidden
 together_content state operand value h = h
@@ -306,9 +322,9 @@ module _ (state : StateView) (expr operand : Expr) (word : Word) (is : expr ≡ 
         word_sound (scope_of state) p.Sample operand (sym (ap (list_any is_foreign) (made_of-Sample operand)) ∙ here.plain) here.known
         here.literals
 
-    pub sample_works : true ≡ list_any uses_units (parts_of expr)
-    sample_works = sym (ap (λ (y : Expr). list_any uses_units (parts_of y)) (sample_is which)
-        ∙ ap (list_any uses_units) (parts_of-Prefix p.Sample operand))
+    pub sample_works : true ≡ list_any (uses_units state.assumed) (parts_of expr)
+    sample_works = sym (ap (λ (y : Expr). list_any (uses_units state.assumed) (parts_of y)) (sample_is which)
+        ∙ ap (list_any (uses_units state.assumed)) (parts_of-Prefix p.Sample operand))
 
     pub sample_ends : (why : End) → EndsWork state operand why → Ends state expr why
     sample_ends why ends =
@@ -332,9 +348,9 @@ module _ (state : StateView) (expr operand : Expr) (word : Word) (is : expr ≡ 
         word_sound (scope_of state) p.Coalesce operand (sym (ap (list_any is_foreign) (made_of-Coalesce operand)) ∙ here.plain) here.known
         here.literals
 
-    pub together_works : true ≡ list_any uses_units (parts_of expr)
-    together_works = sym (ap (λ (y : Expr). list_any uses_units (parts_of y)) (together_at which)
-        ∙ ap (list_any uses_units) (parts_of-Prefix p.Coalesce operand))
+    pub together_works : true ≡ list_any (uses_units state.assumed) (parts_of expr)
+    together_works = sym (ap (λ (y : Expr). list_any (uses_units state.assumed) (parts_of y)) (together_at which)
+        ∙ ap (list_any (uses_units state.assumed)) (parts_of-Prefix p.Coalesce operand))
 
     pub together_ends : (why : End) → EndsWork state operand why → Ends state expr why
     together_ends why ends =
@@ -365,7 +381,7 @@ unworked_working works Part Whole g h refusal is ends why =
 abbrev pub moment_of : StateView → Gauge → OptionsView → Moment
 moment_of state meter options = record { state = state; meter = meter; options = options }
 
-abbrev no_options : OptionsView
+abbrev pub no_options : OptionsView
 no_options = record { bits = 0; budget = 0; at = []; run = false; make = None; keep_going = false }
 
 pub kept_plain : (state : StateView) (meter : Gauge) (expr : Expr) (value : KeptValue) → IsKeptIn state (limit_of meter) expr value
@@ -379,20 +395,20 @@ value_shows before state limit expr kept answer of line here at = (kept, of befo
 
 -- ---- listings
 pub listed_is : (state : StateView) (operand : Expr) (at : Valuation) (value v : KeptValue) (listing : List Element)
-    → ((w : Valuation) (x : Element) → Has value w x ↔ Selects state operand w x) → v ≡ value → IsListingOf v at listing
+    → ((x : Element) → Has value at x ↔ Selects state operand at x) → v ≡ value → IsListingOf v at listing
     → IsListed (λ x. Selects state operand at x) listing
 listed_is state operand at value v listing has same of =
     let is = subst (λ (k : KeptValue). IsListingOf k at listing) same of in
     record {
-      exact = λ x. ((λ h. (has at x).0 ((is.exact x).0 h)), (λ h. (is.exact x).1 ((has at x).1 h)));
+      exact = λ x. ((λ h. (has x).0 ((is.exact x).0 h)), (λ h. (is.exact x).1 ((has x).1 h)));
       ordered = is.ordered;
     }
 
 pub infinite_is : (state : StateView) (operand : Expr) (at : Valuation) (value v : KeptValue)
-    → ((w : Valuation) (x : Element) → Has value w x ↔ Selects state operand w x) → v ≡ value → ¬ IsFiniteAt v at
+    → ((x : Element) → Has value at x ↔ Selects state operand at x) → v ≡ value → ¬ IsFiniteAt v at
     → ¬ AreFinite (λ x. Selects state operand at x)
 infinite_is state operand at value v has same endless finite =
-    endless (subst (λ (k : KeptValue). IsFiniteAt k at) (sym same) (finite.0, (λ x h. finite.1 x ((has at x).0 h))))
+    endless (subst (λ (k : KeptValue). IsFiniteAt k at) (sym same) (finite.0, (λ x h. finite.1 x ((has x).0 h))))
 
 -- ---- the operand of `scan`
 pub show_kind : (scope : ScopeView) (expr : Expr) → IsTyped scope (Show expr) → (u : TypeView) × IsOfType scope expr u
@@ -424,6 +440,8 @@ listing_goes_on state operand at elements goes listing =
     by too_wide h = h
     by no_minimum h = h
     by unbounded h = h (listed_finite (λ x. Selects state operand at x) elements listing)
+    by no_valuation h = h
+    by not_assumed h = h
 
 module _ (before : Moment) (expr operand x : Expr) (word : Word) (is : expr ≡ e.Prefix word operand) (which : word ≡ p.Scan)
     (same : x ≡ operand) where
@@ -436,8 +454,15 @@ module _ (before : Moment) (expr operand x : Expr) (word : Word) (is : expr ≡ 
       word_sound (scope_of before.state) p.Scan x (sym (ap (list_any is_foreign) (shown_of-Scan x)) ∙ here.plain)
       (show_kind (scope_of before.state) (e.Prefix p.Scan x) here.typed).1.known here.literals
 
-  pub scan_works : true ≡ list_any uses_units (parts_of expr)
-  scan_works = sym (ap (λ (y : Expr). list_any uses_units (parts_of y)) scan_is ∙ ap (list_any uses_units) (parts_of-Prefix p.Scan x))
+  abbrev Units : Part → Bool
+  Units = uses_units before.state.assumed
+
+  pub scan_works : true ≡ list_any Units (parts_of expr)
+  scan_works = sym (ap (λ (y : Expr). list_any Units (parts_of y)) scan_is ∙ ap (list_any Units) (parts_of-Prefix p.Scan x))
+
+  -- the numbers that parameters are given are assumed
+  pub scan_assumed : IsAssumedWhereListed before (Show expr) → Assumes before.state.assumed before.options.at
+  scan_assumed assumed = assumed (ap is_listing scan_is ∙ listing_of-Prefix p.Scan x)
 
   pub scan_shows : (answer : Answer) → (elements : List Element) × IsListed (λ y. Selects before.state x before.options.at y) elements
       × (answer ≡ listed elements)
@@ -456,7 +481,7 @@ module _ (before : Moment) (expr operand x : Expr) (word : Word) (is : expr ≡ 
   pub scan_ended : (now : Gauge) (refusal : Refusal)
       → IsWhyUnworked true (EndsListing before.state x before.options.at) before.meter now refusal → IsWhyEnded before (Show expr) now refusal
   scan_ended now refusal why =
-      unworked_working (list_any uses_units (parts_of expr)) (EndsListing before.state x before.options.at) (StatementEnds before (Show expr))
+      unworked_working (list_any Units (parts_of expr)) (EndsListing before.state x before.options.at) (StatementEnds before (Show expr))
       before.meter now refusal scan_works (λ end ends. (scan_ends end).0 ends) why
 
 -- ---- what is around a test
@@ -517,37 +542,41 @@ test_ready scope expr first x links list before last is same are split test able
     }
 
 -- ---- what is shown of a row with a test at its end
-test_unit : (operator : Binary) → is_test operator ≡ true → uses_units (part.operator operator) ≡ true
-test_unit b.Equal is = refl
-test_unit b.Subset is = refl
-test_unit b.ProperSubset is = refl
-test_unit b.Superset is = refl
-test_unit b.ProperSuperset is = refl
-test_unit _ is = absurd (false≢true is)
-
 or_true : (b : Bool) → (b || true) ≡ true
 or_true true = refl
 or_true false = refl
 
-links_work : (before : List Link) (last : Link) → is_test last.operator ≡ true
-    → list_any uses_units (parts_of_links (before ++ last ∷ [])) ≡ true
-links_work [] last is = ap (λ (b : Bool). b || list_any uses_units (parts_of last.operand ++ [])) (test_unit last.operator is)
-links_work (link ∷ before) last is =
-    ap (λ (b : Bool). uses_units (part.operator link.operator) || b)
-    (list_any-append uses_units (parts_of link.operand) (parts_of_links (before ++ last ∷ []))
-    ∙ ap (λ (b : Bool). list_any uses_units (parts_of link.operand) || b) (links_work before last is)
-    ∙ or_true (list_any uses_units (parts_of link.operand)))
-    ∙ or_true (uses_units (part.operator link.operator))
+module _ (assumed : Assumed) where
+  abbrev Uses : Part → Bool
+  Uses = uses_units assumed
 
-pub test_works : (expr first : Expr) (links list before : List Link) (last : Link) → expr ≡ Row first links → list ≡ links
-    → list ≡ before ++ last ∷ []
-    → true ≡ is_test last.operator → true ≡ list_any uses_units (parts_of expr)
-test_works expr first links list before last is are split test =
-    sym (ap (λ (y : Expr). list_any uses_units (parts_of y)) (is ∙ ap (Row first) (sym are ∙ split))
-    ∙ ap (list_any uses_units) (parts_of-Row first (before ++ last ∷ []))
-    ∙ list_any-append uses_units (parts_of first) (parts_of_links (before ++ last ∷ []))
-    ∙ ap (λ (b : Bool). list_any uses_units (parts_of first) || b) (links_work before last (sym test))
-    ∙ or_true (list_any uses_units (parts_of first)))
+  test_unit : (operator : Binary) → is_test operator ≡ true → Uses (part.operator operator) ≡ true
+  test_unit b.Equal is = refl
+  test_unit b.Subset is = refl
+  test_unit b.ProperSubset is = refl
+  test_unit b.Superset is = refl
+  test_unit b.ProperSuperset is = refl
+  test_unit _ is = absurd (false≢true is)
+
+  links_work : (before : List Link) (last : Link) → is_test last.operator ≡ true
+      → list_any Uses (parts_of_links (before ++ last ∷ [])) ≡ true
+  links_work [] last is = ap (λ (b : Bool). b || list_any Uses (parts_of last.operand ++ [])) (test_unit last.operator is)
+  links_work (link ∷ before) last is =
+      ap (λ (b : Bool). Uses (part.operator link.operator) || b)
+      (list_any-append Uses (parts_of link.operand) (parts_of_links (before ++ last ∷ []))
+      ∙ ap (λ (b : Bool). list_any Uses (parts_of link.operand) || b) (links_work before last is)
+      ∙ or_true (list_any Uses (parts_of link.operand)))
+      ∙ or_true (Uses (part.operator link.operator))
+
+  pub test_works : (expr first : Expr) (links list before : List Link) (last : Link) → expr ≡ Row first links → list ≡ links
+      → list ≡ before ++ last ∷ []
+      → true ≡ is_test last.operator → true ≡ list_any Uses (parts_of expr)
+  test_works expr first links list before last is are split test =
+      sym (ap (λ (y : Expr). list_any Uses (parts_of y)) (is ∙ ap (Row first) (sym are ∙ split))
+      ∙ ap (list_any Uses) (parts_of-Row first (before ++ last ∷ []))
+      ∙ list_any-append Uses (parts_of first) (parts_of_links (before ++ last ∷ []))
+      ∙ ap (λ (b : Bool). list_any Uses (parts_of first) || b) (links_work before last (sym test))
+      ∙ or_true (list_any Uses (parts_of first)))
 
 -- ---- `%` of two operands
 abbrev gist_row : Expr → List Link
@@ -570,12 +599,12 @@ gist_alone (link ∷ []) right is = by (is_gist link.operator) refl
         ap₂ (λ (o : Binary) (x : Expr). link_of o x ∷ []) (gist_word link.operator own) same
 
 gist_content : (state : StateView) (first right : Expr) (value : KeptValue)
-    → (l : KeptValue) × (r : KeptValue) × IsSelected state first l × IsSelected state right r × IsGistOfTwo l r value
+    → (l : KeptValue) × (r : KeptValue) × IsSelected state first l × IsSelected state right r × IsGistOfTwo state l r value
     → IsContentOf state First (Row first (gist_row right)) value
 unfolding hidden-the_row-Expr-0 denote.Hole.Carrier.hidden
 gist_content state first right value content =
     subst (λ (c : Option Expr). MatchOption c (IsSelectedAt state First (Row first (gist_row right)) value)
-    (λ context. (l : KeptValue) × (r : KeptValue) × IsSelected state first l × IsSelected state context r × IsGistOfTwo l r value))
+    (λ context. (l : KeptValue) × (r : KeptValue) × IsSelected state first l × IsSelected state context r × IsGistOfTwo state l r value))
     (sym (context_is _ (hidden-the_row-Link-1 (gist_row right)) ∙ ap context_in (items_hidden-the_row-Link-1 (gist_row right)))) content
 
 module _ (state : StateView) (expr first right : Expr) (links : List Link) (is : expr ≡ Row first links)
@@ -607,11 +636,14 @@ module _ (state : StateView) (expr first right : Expr) (links : List Link) (is :
         },
       )
 
-  pub gist_works : true ≡ list_any uses_units (parts_of expr)
-  gist_works = sym (ap (λ (y : Expr). list_any uses_units (parts_of y)) gist_is
-      ∙ ap (list_any uses_units) (parts_of-Row first (gist_row right))
-      ∙ list_any-append uses_units (parts_of first) (parts_of_links (gist_row right))
-      ∙ or_true (list_any uses_units (parts_of first)))
+  abbrev Used : Part → Bool
+  Used = uses_units state.assumed
+
+  pub gist_works : true ≡ list_any Used (parts_of expr)
+  gist_works = sym (ap (λ (y : Expr). list_any Used (parts_of y)) gist_is
+      ∙ ap (list_any Used) (parts_of-Row first (gist_row right))
+      ∙ list_any-append Used (parts_of first) (parts_of_links (gist_row right))
+      ∙ or_true (list_any Used (parts_of first)))
 
   pub gist_ends : EndAlike (EndsPair state first b.Gist right) (Ends state expr)
   gist_ends =
@@ -633,14 +665,15 @@ module _ (state : StateView) (left right : Expr) (goes : GoesOn (Ends state left
   abbrev Operation : End → Type 0
   Operation =
       PairEnds (OperatorForms b.Gist) (declared_of (scope_of state) left) (declared_of (scope_of state) right)
-      (λ v x. Selects state left v x) (λ v x. Selects state right v x)
+      (AtAssumed state (λ v x. Selects state left v x)) (AtAssumed state (λ v x. Selects state right v x))
 
   pub pair_right : (why : End) → Ends state right why → EndsPair state left b.Gist right why
   pair_right why ends = inr (goes, inl ends)
 
   module _ (go : GoesOn (Ends state right)) where
     abbrev Wide : Type 0
-    Wide = PairsWide (OperatorForms b.Gist) (λ v x. Selects state left v x) (λ v x. Selects state right v x)
+    Wide =
+        PairsWide (OperatorForms b.Gist) (AtAssumed state (λ v x. Selects state left v x)) (AtAssumed state (λ v x. Selects state right v x))
 
     narrow : ¬ Wide
     narrow wide = wide.5
@@ -653,6 +686,17 @@ module _ (state : StateView) (left right : Expr) (goes : GoesOn (Ends state left
         → EndsPair state left b.Gist right cut
     pair_cut few = inr (goes, inr (go, inl (few, narrow)))
 
+    -- an operation of two values with these parameters ends as the row does
+    pub pair_ended : (names : List Name) → names ≡ joined_names (declared_of (scope_of state) left) (declared_of (scope_of state) right)
+        → (why : End) → OperationEnds names ⊥ ⊥ why → EndsPair state left b.Gist right why
+    pair_ended names is (because too_wide) (inl many) = pair_wide (subst (λ (ns : List Name). most_parameters < length ns) is many)
+    pair_ended names is (because too_wide) (inr few) = absurd few.1
+    pair_ended names is (because no_minimum) h = absurd h.2
+    pair_ended names is (because unbounded) h = absurd h
+    pair_ended names is (because no_valuation) h = absurd h
+    pair_ended names is (because not_assumed) h = absurd h
+    pair_ended names is cut h = pair_cut (subst (λ (ns : List Name). length ns ≤ most_parameters) is h.0)
+
     pub pair_goes : length (joined_names (declared_of (scope_of state) left) (declared_of (scope_of state) right)) ≤ most_parameters
         → GoesOn (EndsPair state left b.Gist right)
     pair_goes few =
@@ -661,41 +705,26 @@ module _ (state : StateView) (left right : Expr) (goes : GoesOn (Ends state left
         (goes_both Operation NoEnd (operation_goes Both Wide ⊥ few narrow (λ h. h)) (λ reason h. h)))
 
 -- what it makes of two values
-module _ (state : StateView) (left right : Expr) (g : Gauge) (limit : ℕ) (value context v c : KeptValue)
-    (own : IsFlatAt state First left (unsigned_abs (limit_of g)) value) (other : IsFlatAt state First right limit context)
-    (is : v ≡ value) (same : c ≡ context) where
-  pub pair_names : joined v.params c.params ≡ joined_names (declared_of (scope_of state) left) (declared_of (scope_of state) right)
-  pair_names =
-      ap₂ joined (ap (λ (k : KeptValue). k.params) is ∙ own.params) (ap (λ (k : KeptValue). k.params) same ∙ other.params)
-      ∙ joined_is (declared_of (scope_of state) left) (declared_of (scope_of state) right) (declared_distinct (scope_of state) right)
+module _ (state : StateView) (left right : Expr) (limit : ℕ) (value context : KeptValue) (own : IsFlatAt state First left limit value)
+    (other : IsFlatAt state First right limit context) where
+  pub pair_names : joined_names value.params context.params ≡ joined_names (declared_of (scope_of state) left) (declared_of (scope_of state) right)
+  pair_names = ap₂ joined_names own.params other.params
 
-  pub simplified_is : (gist made : KeptValue) → gist.params ≡ joined v.params c.params
-      → IsGistOf (value_over (joined v.params c.params) v) (value_over (joined v.params c.params) c) gist → IsKeptValue gist
-      → HasNoDefinitions gist → HasNumbersUpTo (unsigned_abs (limit_of g)) gist → made ≡ gist
-      → IsSimplified state left right (unsigned_abs (limit_of g)) made
-  simplified_is gist made params exact kept plain small shared =
-      let first = subst (λ (k : KeptValue). IsGistOf (value_over (joined k.params c.params) k) (value_over (joined k.params c.params) c) gist)
-      is exact in
-      let both = subst (λ (k : KeptValue). IsGistOf (value_over (joined value.params k.params) value)
-      (value_over (joined value.params k.params) k) gist) same first in
-      subst (IsSimplified state left right (unsigned_abs (limit_of g))) (sym shared) (record {
-        content = (
-          value,
-          context,
-          record { elements = own.elements; written = own.written },
-          record { elements = other.elements; written = other.written },
-          (
-            own.kept,
-            other.kept,
-            subst (λ (ns : List Name). IsGistOf (value_over ns value) (value_over ns context) gist)
-                (joined_is value.params context.params other.kept.params.distinct) both,
-          ),
-        );
-        kept = kept;
-        params = params ∙ pair_names;
-        numbers = small;
-        definitions = plain;
-      })
+  pub simplified_is : (gist : KeptValue) → IsGistIn state limit value context gist → IsSimplified state left right limit gist
+  simplified_is gist is = record {
+    content = (
+      value,
+      context,
+      record { elements = own.elements; written = own.written },
+      record { elements = other.elements; written = other.written },
+      is.gist,
+    );
+    kept = is.kept;
+    live = is.live;
+    params = is.params ∙ pair_names;
+    numbers = is.numbers;
+    definitions = is.definitions;
+  }
 
 -- ---- lists
 no_pair : (x y z : Bool) → (if x then Some (made z kinds.Set) else (if y then Some (made z kinds.Map) else None)) ≡ Some kinds.List → ⊥
@@ -803,6 +832,26 @@ module _ (scope : ScopeView) (stmt : Stmt) (name : Name) (expr : Expr) (is : stm
       → kind_of scope expr ≡ Some kind
   bind_kind t kind typed same = (bind_type t typed).kind ∙ ap Some (sym same)
 
+pub bind_other : (stmt : Stmt) (name : Name) (expr : Expr) (set : Literal) → stmt ≡ Bind name expr → stmt ≢ Assume set
+bind_other stmt name expr set is other = let no : Bind name expr ≡ Assume set = sym is ∙ other in cc
+
+pub show_other : (stmt : Stmt) (expr : Expr) (set : Literal) → stmt ≡ Show expr → stmt ≢ Assume set
+show_other stmt expr set is other = let no : Show expr ≡ Assume set = sym is ∙ other in cc
+
+-- what an assumption has that may be evaluated
+module _ (scope : ScopeView) (stmt : Stmt) (set : Literal) (is : stmt ≡ Assume set) (able : IsEvaluable scope stmt) where
+  here : IsEvaluable scope (Assume set)
+  here = subst (IsEvaluable scope) is able
+
+  pub set_known : literal_is_known set ≡ true
+  set_known = typed_known scope set here.typed.0 here.typed.1
+
+  pub set_well_formed : IsWellFormedLiteral set
+  set_well_formed = All-head IsWellFormedLiteral set [] here.literals
+
+  pub set_formulas : All HasNoCoordinates set.pieces
+  set_formulas = here.formulas
+
 pub bind_full : (stmt : Stmt) (name : Name) (expr : Expr) → stmt ≡ Bind name expr → stmt ≢ Empty
 bind_full stmt name expr is none = let no : Bind name expr ≡ Empty = sym is ∙ none in cc
 
@@ -825,14 +874,14 @@ found_type scope s stmt o t same typed some =
     (answered_ok o (type_of_statement s stmt) typed ∙ ap Ok some)
 
 pub not_empty : (scope s : ScopeView) (stmt : Stmt) (o : Option TypeView) → s ≡ scope → TypeAnswers (Ok o) (type_of_statement s stmt)
-    → o ≡ None → stmt ≢ Empty → assumes stmt ≡ false → ⊥
+    → o ≡ None → stmt ≢ Empty → ((set : Literal) → stmt ≢ Assume set) → ⊥
 not_empty scope s stmt o same typed none full plain = by stmt full plain (answered_ok o (type_of_statement s stmt) typed ∙ ap Ok none)
   where
-    by : (x : Stmt) → x ≢ Empty → assumes x ≡ false → type_of_statement s x ≡ Ok None → ⊥
+    by : (x : Stmt) → x ≢ Empty → ((set : Literal) → x ≢ Assume set) → type_of_statement s x ≡ Ok None → ⊥
     by Empty full plain is = full refl
     by (Bind name expr) full plain is = found_some (type_for purpose.Bound s expr) is
     by (Show expr) full plain is = found_some (type_for purpose.Shown s expr) is
-    by (Assume set) full plain is = false≢true (sym plain)
+    by (Assume set) full plain is = plain set refl
 
 pub memory_alone : (scope s : ScopeView) (stmt : Stmt) (refusal : Refusal) → s ≡ scope → IsTyped scope stmt
     → TypeAnswers (Err refusal) (type_of_statement s stmt) → refusal ≡ NoMemory
@@ -871,7 +920,7 @@ at_numbers at value d v ps numbers slice one two are is same =
 -- ---- a scan without a listing
 pub scan_failed : {A : Type 0} (result : Result A ScanFault) (state : StateView) (operand : Expr) (at : Valuation) (value v : KeptValue)
     (g h k : Gauge) (fault : ScanFault) (refusal : Refusal) → result ≡ Err fault
-    → ((w : Valuation) (x : Element) → Has value w x ↔ Selects state operand w x) → v ≡ value → IsCharged g h
+    → ((x : Element) → Has value at x ↔ Selects state operand at x) → v ≡ value → IsCharged g h
     → (result ≡ Err scan_fault.Unbounded → ¬ IsFiniteAt v at) → IsScanFault h k fault → refusal ≡ refusal_of_fault fault
     → GoesOn (Ends state operand) → IsWhyUnworked true (EndsListing state operand at) g k refusal
 scan_failed result state operand at value v g h k (scan_fault.Cut what) refusal found has same charged endless by is goes =
@@ -897,10 +946,89 @@ pub bound_kept : (before : Moment) (state new : StateView) (limit : ℤ) (name c
 bound_kept before state new limit name copy expr kept here at of same binds =
     (kept, of before here at, subst (λ (n : Name). Binds state n kept new) same binds)
 
-pub bind_paid : (stmt : Stmt) (name : Name) (expr : Expr) (g h : Gauge) → stmt ≡ Bind name expr
-    → IsPaid (list_any uses_units (parts_of expr)) g h
-    → IsPaid (works stmt) g h
-bind_paid stmt name expr g h is paid = subst (λ (x : Stmt). IsPaid (works x) g h) (sym is) paid
+pub bind_paid : (assumed : Assumed) (stmt : Stmt) (name : Name) (expr : Expr) (g h : Gauge) → stmt ≡ Bind name expr
+    → IsPaid (list_any (uses_units assumed) (parts_of expr)) g h
+    → IsPaid (works assumed stmt) g h
+bind_paid assumed stmt name expr g h is paid = subst (λ (x : Stmt). IsPaid (works assumed x) g h) (sym is) paid
+
+-- ---- assumptions
+-- a set that is read as what is assumed
+module _ (state : StateView) (tree : Literal) (set : Assumed) (names : names_of set ≡ tree.params)
+    (valuations : (v : Valuation) → Assumes set v ↔ HoldsSome tree v) where
+  pub narrows_tree : (after : StateView) → Narrows state (names_of set) (Assumes set) after → Narrows state tree.params (HoldsSome tree) after
+  narrows_tree after is = record {
+    assumed = record {
+      names = is.assumed.names ∙ ap (joined (names_of state.assumed)) names;
+      valuations = λ v. (
+        (λ h. let both = (is.assumed.valuations v).0 h in (both.0, (valuations v).0 both.1)),
+        (λ h. (is.assumed.valuations v).1 (h.0, (valuations v).1 h.1)),
+      );
+      some = is.assumed.some;
+    };
+    bound = is.bound;
+  }
+
+  tree_ends : (why : End) → NarrowingEnds state.assumed (names_of set) (Assumes set) why
+      → NarrowingEnds state.assumed tree.params (HoldsSome tree) why
+  tree_ends (because too_wide) many = subst (λ (ns : List Name). most_parameters < length (joined (names_of state.assumed) ns)) names many
+  tree_ends (because no_valuation) h = (
+    subst (λ (ns : List Name). length (joined (names_of state.assumed) ns) ≤ most_parameters) names h.0,
+    (λ v here holds. h.1 v here ((valuations v).1 holds)),
+  )
+  tree_ends (because no_minimum) h = h
+  tree_ends (because unbounded) h = h
+  tree_ends (because not_assumed) h = h
+  tree_ends cut few = subst (λ (ns : List Name). length (joined (names_of state.assumed) ns) ≤ most_parameters) names few
+
+  set_ends : (why : End) → NarrowingEnds state.assumed tree.params (HoldsSome tree) why
+      → NarrowingEnds state.assumed (names_of set) (Assumes set) why
+  set_ends (because too_wide) many =
+      subst (λ (ns : List Name). most_parameters < length (joined (names_of state.assumed) ns)) (sym names) many
+  set_ends (because no_valuation) h = (
+    subst (λ (ns : List Name). length (joined (names_of state.assumed) ns) ≤ most_parameters) (sym names) h.0,
+    (λ v here holds. h.1 v here ((valuations v).0 holds)),
+  )
+  set_ends (because no_minimum) h = h
+  set_ends (because unbounded) h = h
+  set_ends (because not_assumed) h = h
+  set_ends cut few = subst (λ (ns : List Name). length (joined (names_of state.assumed) ns) ≤ most_parameters) (sym names) few
+
+  -- the set comes first, which is work
+  pub narrowed_ends : (why : End) → NarrowingEnds state.assumed (names_of set) (Assumes set) why → NarrowedEnds state tree why
+  narrowed_ends why ends = inr ((λ reason h. h), tree_ends why ends)
+
+  pub narrowed_goes : GoesOn (NarrowingEnds state.assumed (names_of set) (Assumes set)) → GoesOn (NarrowedEnds state tree)
+  narrowed_goes goes reason (inl none) = none
+  narrowed_goes goes reason (inr ends) = goes reason (set_ends (because reason) ends.1)
+
+  -- what the call leaves that narrows the assumed valuations to those of the set
+  pub narrowed_made : (g h k : Gauge) (after : StateView) (result : Result (Unit {0}) Refusal) → IsCharged g h
+      → OnOk result (Narrows state (names_of set) (Assumes set) after) → OnErr result (after ≡ state)
+      → MatchResult result (λ _. IsCharged h k) (IsWhyUnworked true (NarrowingEnds state.assumed (names_of set) (Assumes set)) h k)
+      → MatchResult result (λ _. Narrows state tree.params (HoldsSome tree) after × IsCharged g k)
+      (λ refusal. IsWhyUnworked true (NarrowedEnds state tree) g k refusal × (after ≡ state))
+  narrowed_made g h k after (Ok done) charged narrows same paid = (narrows_tree after narrows, IsCharged_trans g h k charged paid)
+  narrowed_made g h k after (Err refusal) charged narrows same why = (
+    unworked_on true (NarrowingEnds state.assumed (names_of set) (Assumes set)) (NarrowedEnds state tree) g h k refusal narrowed_ends charged why,
+    same,
+  )
+
+  pub narrowed_on : (result : Result (Unit {0}) Refusal) → OnOk result (GoesOn (NarrowingEnds state.assumed (names_of set) (Assumes set)))
+      → OnOk result (GoesOn (NarrowedEnds state tree))
+  narrowed_on (Ok done) goes = narrowed_goes goes
+  narrowed_on (Err refusal) goes = tt
+
+-- lowering it is cut
+pub narrowed_cut : (state : StateView) (tree : Literal) (g h : Gauge) (what : Cut) (refusal : Refusal) → IsCutBy g h what
+    → refusal ≡ refusal_of_cut what → IsWhyUnworked true (NarrowedEnds state tree) g h refusal
+narrowed_cut state tree g h what refusal by is =
+    inl (unmade_by (NarrowedEnds state tree) g g h what refusal (IsCharged_refl g g refl) by is (inr (inl tt)))
+
+-- what is within a limit stays so
+pub fits_still : (g h : Gauge) (after : StateView) (result : Result (Unit {0}) Refusal) → IsCharged g h
+    → OnOk result (Fits (limit_of h) after) → OnOk result (Fits (limit_of g) after)
+fits_still g h after (Ok done) charged fits = subst (λ (z : ℤ). Fits z after) (same_limit g h charged) fits
+fits_still g h after (Err refusal) charged fits = tt
 
 -- ---- steps
 -- what is shown ends as the expression does, where nothing is listed
@@ -949,6 +1077,16 @@ module _ (before : Moment) (stmt : Stmt) where
   show_answered now expr works Why (Ok answer) is made goes =
       show_step (record before { meter = now }) expr answer is refl refl made.1.charged goes made.0
   show_answered now expr works Why (Err refusal) is made goes = tt
+
+  -- an assumption
+  pub narrow_step : (after : Moment) (set : Literal) → stmt ≡ Assume set → after.options ≡ before.options → IsCharged before.meter after.meter
+      → GoesOn (NarrowedEnds before.state set) → Narrows before.state set.params (HoldsSome set) after.state → Step before stmt after nothing
+  narrow_step after set is options charged goes narrows = record {
+    does = subst (λ (x : Stmt). Does before x after nothing) (sym is) (narrows, refl);
+    goes_on = subst (λ (x : Stmt). GoesOn (StatementEnds before x)) (sym is) goes;
+    meter = charged;
+    options = options;
+  }
 
   pub bind_step : (after : Moment) (name : Name) (expr : Expr) → stmt ≡ Bind name expr → after.options ≡ before.options
       → IsCharged before.meter after.meter → GoesOn (Ends before.state expr)

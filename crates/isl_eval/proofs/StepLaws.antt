@@ -1,17 +1,22 @@
 -- One simple statement after another: what is answered, and what is refused.
 use Rattle.std.proofs.Common.{◌≡◌, ◌≢◌, ◌⊎◌, ◌∙◌, ◌<◌, ◌+◌, inl, inr, refl, sym, ap, ap₂, subst, arith, ◌^◌, ◌-◌, ℕ, zero, suc, length}
-use Rattle.std.proofs.Common.{take, drop, get_or, ℤ, pos, true, false, List, []}
+use Rattle.std.proofs.Common.{take, drop, get_or, ℤ, pos, Bool, true, false, List, []}
 use Rattle.std.proofs.Common.{◌∷◌, ◌++◌, append_assoc, Option, None, Some, Result, Ok, Err, option_map}
-use Rattle.std.specs.Prelude.{unsigned_abs, unwrap_or, IfOk, IfErr, IfSome, OnErr, MatchResult}
-use Rattle.std.specs.List.{list_any}
+use Rattle.std.specs.Prelude.{unsigned_abs, unwrap_or, IfOk, IfErr, IfSome, OnErr, OnOk, MatchResult}
+use Rattle.std.specs.List.{All, list_any}
+use Rattle.std.proofs.lemmas.List.Elements.{All-head, All-tail}
 use Rattle.std.proofs.lemmas.Bool.{or_parts, false_from_ne_true}
 use Rattle.std.proofs.Math.Seq.{take-length, drop-length}
-use Rattle.std.proofs.lemmas.List.{take_more, take-append-drop}
+use Rattle.std.proofs.lemmas.List.{get_or_append_left, length-append, take_more, take-append-drop}
 use Rattle.std.proofs.lemmas.List.Folds.{list_any_none, list_any-append}
 use Rattle.isl_meter.specs.Gauge.{Gauge, limit_of, IsCharged, IsCutBy, IsKept}
+use Rattle.isl_meter.proofs.CutLemmas.{IsKept-charged, IsKept_trans}
 use Rattle.isl_meter.specs.declared.Cut.{Cut}
 use Rattle.isl_meter.specs.declared.Cut.TheVariants as cuts
 use Rattle.isl_union.specs.KeptValue.{KeptValue}
+use Rattle.isl_assumed.specs.declared.assumed.Assumed.{Assumed}
+use Rattle.isl_assumed.specs.Assumed.{Assumes}
+use Rattle.isl_words.specs.Options.{OptionsView}
 use Rattle.isl_text.specs.declared.refusal.Refusal.{Refusal}
 use Rattle.isl_expr.specs.declared.tree.ValueKind.{ValueKind}
 use Rattle.isl_expr.specs.declared.tree.Stmt.{Stmt}
@@ -24,18 +29,19 @@ use Rattle.isl_flat.proofs.SimpleLaws.{parts_kept}
 use Rattle.isl_stmt.specs.Names.{binds_dollar}
 use Rattle.isl_values.specs.declared.list.ListPart.{ListPart}
 use Rattle.isl_values.specs.declared.list.ListPart.TheVariants.{First, Second}
-use Rattle.isl_values.specs.State.{Kept, Moment, StateView, Binds, Fits, HasNumbersUpTo, IsSettled, type_of, scope_of, forgotten, value_at}
+use Rattle.isl_values.specs.State.{Kept, Moment, StateView, Binds, Fits, HasNumbersUpTo, IsKeptLive, IsSettled, type_of, scope_of, forgotten}
+use Rattle.isl_values.specs.State.{value_at}
 use Rattle.isl_values.specs.Selection.{IsKeptOf, Keeps}
-use Rattle.isl_values.specs.Ends.{End, Reason, because, too_wide, no_minimum, unbounded, refusal_of_reason}
+use Rattle.isl_values.specs.Live.{IsLiveUnder}
+use Rattle.isl_values.specs.Ends.{End, Reason, because, too_wide, no_minimum, unbounded, no_valuation, not_assumed, refusal_of_reason}
 use Rattle.isl_values.specs.Ends as ends
-use Rattle.isl_values.specs.Made.{IsPaid, refusal_of_cut, uses_units}
-use Rattle.isl_values.proofs.StateLaws.{bound_at, fits_bound}
+use Rattle.isl_values.specs.Made.{IsPaid, IsWhyUnworked, refusal_of_cut, uses_units}
+use Rattle.isl_values.proofs.StateLaws.{bound_at}
 use Rattle.isl_values.proofs.ForgetLaws.{forgotten_itself, forgotten_settled, fits_forgotten}
 use Rattle.isl_values.proofs.ValueLaws.{same_limit, paid_same, paid_after, unworked_after}
 use Rattle.isl_eval.specs.Machine.{Answer, Does, Step, Steps, behind, nothing}
-use Rattle.isl_eval.specs.Spelled.{OfStatement}
-use Rattle.isl_eval.specs.Causes.{AreDone, Refuses, RefusesBecause, Stops}
-use Rattle.isl_eval.specs.Ended.{StatementEnds}
+use Rattle.isl_eval.specs.Causes.{AreDone, IsEnded, Refuses, RefusesBecause}
+use Rattle.isl_eval.specs.Ended.{AskedEnds, IsAssumedWhereListed, StatementEnds}
 use Rattle.isl_eval.specs.Run.{Answers}
 use Rattle.isl_eval.specs.Evaluated.{IsEvaluable, IsWhyEnded, works}
 use Rattle.isl_eval.specs.Evaluation.{AreEvaluable, AreLeft, IsRead, IsTaken, IsWhyStopped, IsWorkable, StopsAt}
@@ -44,14 +50,19 @@ use Rattle.isl_eval.proofs.TypeLaws.{bind_typed}
 use Rattle.isl_eval.proofs.RefusalLaws.{clear, has_work, no_work}
 
 -- ---- units
-works_both : (done left : List Stmt) → list_any works (done ++ left) ≡ false → (list_any works done ≡ false) × (list_any works left ≡ false)
-works_both done left none = or_parts (list_any works done) (list_any works left) (sym (list_any-append works done left) ∙ none)
+module _ (assumed : Assumed) where
+  abbrev Works : Stmt → Bool
+  Works stmt = works assumed stmt
 
-works_at : (done : List Stmt) (stmt : Stmt) (left : List Stmt) → list_any works (done ++ stmt ∷ left) ≡ false
-    → (list_any works done ≡ false) × (works stmt ≡ false)
-works_at done stmt left none =
-    let both = works_both done (stmt ∷ left) none in
-    (both.0, (or_parts (works stmt) (list_any works left) both.1).0)
+  works_both : (done left : List Stmt) → list_any Works (done ++ left) ≡ false
+      → (list_any Works done ≡ false) × (list_any Works left ≡ false)
+  works_both done left none = or_parts (list_any Works done) (list_any Works left) (sym (list_any-append Works done left) ∙ none)
+
+  works_at : (done : List Stmt) (stmt : Stmt) (left : List Stmt) → list_any Works (done ++ stmt ∷ left) ≡ false
+      → (list_any Works done ≡ false) × (Works stmt ≡ false)
+  works_at done stmt left none =
+      let both = works_both done (stmt ∷ left) none in
+      (both.0, (or_parts (Works stmt) (list_any Works left) both.1).0)
 
 -- ---- one more is done
 pub done_more : (before now next : Moment) (done : List Stmt) (stmt : Stmt) → AreDone before done now → Step now stmt next nothing
@@ -94,7 +105,7 @@ binds_in now next name kept t same binds = record {
 abbrev HasNumbers : ℤ → Kept → Type 0
 HasNumbers limit kept = (part : ListPart) → HasNumbersUpTo (unsigned_abs limit) (value_at part kept)
 
-kept_numbers : (now : Moment) (expr : Expr) (kept : Kept) → Keeps now expr kept → HasNumbers (limit_of now.meter) kept
+pub kept_numbers : (now : Moment) (expr : Expr) (kept : Kept) → Keeps now expr kept → HasNumbers (limit_of now.meter) kept
 kept_numbers now expr kept keeps First = keeps.value.numbers
 kept_numbers now expr kept keeps Second = by kept.second keeps.second
   where
@@ -103,29 +114,15 @@ kept_numbers now expr kept keeps Second = by kept.second keeps.second
     by None none = keeps.value.numbers
     by (Some value) is = is.numbers
 
-numbers_at : (g h : Gauge) (kept : Kept) → IsCharged g h → HasNumbers (limit_of h) kept → HasNumbers (limit_of g) kept
-numbers_at g h kept charged small = subst (λ (z : ℤ). HasNumbers z kept) (same_limit g h charged) small
-
--- what is bound after a step is within the limit
-step_fits : (limit : ℤ) (before : Moment) (stmt : Stmt) (after : Moment) (answer : Answer) → limit_of before.meter ≡ limit
-    → Fits limit before.state
-    → Does before stmt after answer → Fits limit after.state
-step_fits limit before Empty after answer is fits does = subst (Fits limit) (sym does.0) fits
-step_fits limit before (Show expr) after answer is fits does = subst (Fits limit) (sym does.0) fits
-step_fits limit before (Assume set) after answer is fits does = absurd does
-step_fits limit before (Bind name expr) after answer is fits does =
-    let kept = does.0.0 in
-    fits_bound limit before.state name kept after.state fits does.0.2
-    (subst (λ (z : ℤ). HasNumbers z kept) is (kept_numbers before expr kept does.0.1))
-
-pub steps_fit : (limit : ℤ) (before : Moment) (statements : List Stmt) (after : Moment) (answer : Answer) → limit_of before.meter ≡ limit
-    → Fits limit before.state → Steps before statements after answer → Fits limit after.state
-unfolding Steps
-steps_fit limit before [] after answer is fits steps = absurd steps
-steps_fit limit before (stmt ∷ []) after answer is fits step = step_fits limit before stmt after answer is fits step.does
-steps_fit limit before (stmt ∷ other ∷ more) after answer is fits steps =
-    steps_fit limit steps.0 (other ∷ more) after answer (same_limit before.meter steps.0.meter steps.1.meter ∙ is)
-    (step_fits limit before stmt steps.0 nothing is fits steps.1.does) steps.2
+-- what is kept has an element of each piece at an assumed valuation
+pub kept_live : (now : Moment) (expr : Expr) (kept : Kept) → Keeps now expr kept → IsKeptLive now.state.assumed kept
+kept_live now expr kept keeps First = keeps.value.live
+kept_live now expr kept keeps Second = by kept.second keeps.second
+  where
+    by : (second : Option KeptValue) → IfSome second (IsKeptOf now Second expr)
+        → IsLiveUnder now.state.assumed (unwrap_or second kept.value)
+    by None none = keeps.value.live
+    by (Some value) is = is.live
 
 -- ---- what is left
 pub left_start : (before : Moment) (statements : List Stmt) → AreEvaluable (scope_of before.state) statements
@@ -141,11 +138,16 @@ left_start before statements ready fits = record {
   options = refl;
 }
 
+-- what is assumed is as it was
+pub left_assumed : (before now : Moment) → forgotten now.state ≡ forgotten before.state → now.state.assumed ≡ before.state.assumed
+left_assumed before now others = ap (λ (s : StateView). s.assumed) others
+
 pub left_next : (before now next : Moment) (done : List Stmt) (stmt : Stmt) (other : Stmt) (left : List Stmt) (answer : Answer)
-    → AreLeft before now done (stmt ∷ other ∷ left) → Step now stmt next answer → IsPaid (works stmt) now.meter next.meter
+    → AreLeft before now done (stmt ∷ other ∷ left) → Step now stmt next answer → IsPaid (works now.state.assumed stmt) now.meter next.meter
     → ((name : List ℕ) (expr : Expr) → stmt ≡ Bind name expr → is_dollar name ≡ true → forgotten next.state ≡ forgotten now.state)
+    → Fits (limit_of now.meter) next.state
     → AreLeft before next (done ++ stmt ∷ []) (other ∷ left) × (answer ≡ nothing)
-left_next before now next done (Bind name expr) other left answer h step paid dollar =
+left_next before now next done (Bind name expr) other left answer h step paid dollar fits =
     let kept = step.does.0.0 in
     let keeps = step.does.0.1 in
     let binds = step.does.0.2 in (
@@ -154,19 +156,19 @@ left_next before now next done (Bind name expr) other left answer h step paid do
             (binds_in now next name kept h.ready.0 (kept_type now name expr h.ready.0 kept h.ready.1 keeps) binds);
         steps = done_more before now next done (Bind name expr) h.steps
             (subst (λ (a : Answer). Step now (Bind name expr) next a) step.does.1 step);
-        fits = fits_bound (limit_of before.meter) now.state name kept next.state h.fits binds
-            (numbers_at before.meter now.meter kept h.paid.charged (kept_numbers now expr kept keeps));
+        fits = subst (λ (z : ℤ). Fits z next.state) (same_limit before.meter now.meter h.paid.charged) fits;
         others = dollar name expr refl h.ready.2 ∙ h.others;
-        paid = paid_after (list_any works (done ++ Bind name expr ∷ [])) (list_any works done)
-            (works (Bind name expr)) before.meter now.meter next.meter
-            (λ none. works_at done (Bind name expr) [] none) h.paid paid;
+        paid = paid_after (list_any (works before.state.assumed) (done ++ Bind name expr ∷ [])) (list_any (works before.state.assumed) done)
+            (works before.state.assumed (Bind name expr)) before.meter now.meter next.meter
+            (λ none. works_at before.state.assumed done (Bind name expr) [] none) h.paid
+            (subst (λ (a : Assumed). IsPaid (works a (Bind name expr)) now.meter next.meter) (left_assumed before now h.others) paid);
         options = step.options ∙ h.options;
       },
       step.does.1,
     )
-left_next before now next done Empty other left answer h step paid dollar = absurd h.ready
-left_next before now next done (Show expr) other left answer h step paid dollar = absurd h.ready
-left_next before now next done (Assume set) other left answer h step paid dollar = absurd h.ready
+left_next before now next done Empty other left answer h step paid dollar fits = absurd h.ready
+left_next before now next done (Show expr) other left answer h step paid dollar fits = absurd h.ready
+left_next before now next done (Assume set) other left answer h step paid dollar fits = absurd h.ready
 
 -- what is left may be evaluated first
 pub left_first : (before now : Moment) (done : List Stmt) (stmt : Stmt) (left : List Stmt) → AreLeft before now done (stmt ∷ left)
@@ -184,24 +186,36 @@ left_first before now done stmt left h = (
     ready (Show expr) (other ∷ left) h = absurd h
     ready (Assume set) (other ∷ left) h = absurd h
 
+pub left_paid : (before now after : Moment) (done : List Stmt) (last : Stmt) → AreLeft before now done (last ∷ [])
+    → IsPaid (works now.state.assumed last) now.meter after.meter
+    → IsPaid (list_any (works before.state.assumed) (done ++ last ∷ [])) before.meter after.meter
+left_paid before now after done last h paid =
+    paid_after (list_any (works before.state.assumed) (done ++ last ∷ [])) (list_any (works before.state.assumed) done)
+    (works before.state.assumed last) before.meter now.meter after.meter
+    (λ none. works_at before.state.assumed done last [] none) h.paid
+    (subst (λ (a : Assumed). IsPaid (works a last) now.meter after.meter) (left_assumed before now h.others) paid)
+
 -- the last is answered
 pub left_answered : (before now after : Moment) (done : List Stmt) (last : Stmt) (answer : Answer) → AreLeft before now done (last ∷ [])
     → Step now last after answer
-    → IsPaid (works last) now.meter after.meter
-    → Steps before (done ++ last ∷ []) after answer × IsPaid (list_any works (done ++ last ∷ [])) before.meter after.meter
+    → IsPaid (works now.state.assumed last) now.meter after.meter
+    → Steps before (done ++ last ∷ []) after answer
+    × IsPaid (list_any (works before.state.assumed) (done ++ last ∷ [])) before.meter after.meter
 left_answered before now after done last answer h step paid = (
   last_done before now after done last answer h.steps step,
-  paid_after (list_any works (done ++ last ∷ [])) (list_any works done) (works last) before.meter now.meter after.meter
-      (λ none. works_at done last [] none) h.paid paid,
+  left_paid before now after done last h paid,
 )
 
 -- one is not
 pub left_stopped : (before now : Moment) (done : List Stmt) (stmt : Stmt) (left : List Stmt) (gauge : Gauge) (refusal : Refusal)
     → AreLeft before now done (stmt ∷ left) → IsWhyEnded now stmt gauge refusal → IsWhyStopped before (done ++ stmt ∷ left) gauge refusal
 left_stopped before now done stmt left gauge refusal h why =
-    unworked_after (list_any works (done ++ stmt ∷ left)) (list_any works done) (works stmt) (StatementEnds now stmt)
+    let assumed = before.state.assumed in
+    unworked_after (list_any (works assumed) (done ++ stmt ∷ left)) (list_any (works assumed) done) (works assumed stmt) (StatementEnds now stmt)
     (λ end. StopsAt before (done ++ stmt ∷ left) (λ moment next. StatementEnds moment next end)) before.meter now.meter gauge refusal
-    (λ none. works_at done stmt left none) (λ end ends. (done, stmt, left, refl, (now, h.steps, ends))) h.paid why
+    (λ none. works_at assumed done stmt left none) (λ end ends. (done, stmt, left, refl, (now, h.steps, ends))) h.paid
+    (subst (λ (a : Assumed). IsWhyUnworked (works a stmt) (StatementEnds now stmt) now.meter gauge refusal)
+    (left_assumed before now h.others) why)
 
 -- where there is one statement alone
 pub turn_alone : {A : Type 0} (statements others : List Stmt) (last only : Stmt) (i : ℕ) → statements ≡ others ++ last ∷ []
@@ -233,18 +247,29 @@ forgotten_alone state statements settled one =
 -- the end of the loop
 pub answered_last : (before now after : Moment) (statements others : List Stmt) (last : Stmt) (result : Result Answer Refusal)
     → statements ≡ others ++ last ∷ [] → AreLeft before now others (last ∷ []) → IfOk result (Step now last after)
-    → MatchResult result (λ _. IsPaid (works last) now.meter after.meter) (λ _. IsKept now.meter after.meter)
+    → MatchResult result (λ _. IsPaid (works now.state.assumed last) now.meter after.meter) (λ _. IsKept now.meter after.meter)
     → IfOk result (Steps before statements after)
 answered_last before now after statements others last (Ok answer) split h step paid =
     subst (λ (s : List Stmt). Steps before s after answer) (sym split) (left_answered before now after others last answer h step paid).0
 answered_last before now after statements others last (Err refusal) split h step paid = tt
+
+pub paid_last : (before now after : Moment) (statements others : List Stmt) (last : Stmt) (result : Result Answer Refusal)
+    → statements ≡ others ++ last ∷ [] → AreLeft before now others (last ∷ [])
+    → MatchResult result (λ _. IsPaid (works now.state.assumed last) now.meter after.meter) (λ _. IsKept now.meter after.meter)
+    → MatchResult result (λ _. IsPaid (list_any (works before.state.assumed) statements) before.meter after.meter)
+    (λ _. IsKept before.meter after.meter)
+paid_last before now after statements others last (Ok answer) split h paid =
+    subst (λ (s : List Stmt). IsPaid (list_any (works before.state.assumed) s) before.meter after.meter) (sym split)
+    (left_paid before now after others last h paid)
+paid_last before now after statements others last (Err refusal) split h kept =
+    IsKept_trans before.meter now.meter after.meter (IsKept-charged before.meter now.meter h.paid.charged) kept
 
 -- what answers with bytes binds nothing
 does_show : (before : Moment) (stmt : Stmt) (after : Moment) (answer : Answer) → Does before stmt after answer → answer.bytes ≢ []
     → after.state ≡ before.state
 does_show before Empty after answer does some = does.0
 does_show before (Show expr) after answer does some = does.0
-does_show before (Assume set) after answer does some = absurd does
+does_show before (Assume set) after answer does some = absurd (some (ap (λ (a : Answer). a.bytes) does.1))
 does_show before (Bind name expr) after answer does some = absurd (some (ap (λ (a : Answer). a.bytes) does.1))
 
 pub shown_last : (before now after : Moment) (others : List Stmt) (last : Stmt) (result : Result Answer Refusal)
@@ -263,13 +288,16 @@ stopped_last before now statements others last gauge (Err refusal) split h why =
 
 -- ---- a statement that was read
 module _ (before : Moment) (bytes : List ℕ) (stmt : Stmt) (read : IsRead before bytes stmt)
-    (able : IsWorkable (scope_of before.state) before.options.at stmt) where
-  idle : works stmt ≡ false → list_any works (flat stmt) ≡ false
-  idle none = list_any_none works (flat stmt) (parts_kept uses_units (λ n. refl) stmt none)
+    (able : IsWorkable (scope_of before.state) before.options.at stmt) (asked : IsAssumedWhereListed before stmt) where
+  abbrev At : Assumed
+  At = before.state.assumed
+
+  idle : works At stmt ≡ false → list_any (works At) (flat stmt) ≡ false
+  idle none = list_any_none (works At) (flat stmt) (parts_kept (uses_units At) (λ n. refl) stmt none)
 
   -- it is answered
   pub answered : (now : Moment) (after : Moment) (answer : Answer) → Steps before (flat stmt) now answer
-      → IsPaid (list_any works (flat stmt)) before.meter now.meter → now.options ≡ before.options → after ≡ behind now
+      → IsPaid (list_any (works At) (flat stmt)) before.meter now.meter → now.options ≡ before.options → after ≡ behind now
       → Answers before bytes after answer
   answered now after answer steps paid same is =
       let meter : after.meter ≡ now.meter = ap (λ (m : Moment). m.meter) is in
@@ -277,61 +305,72 @@ module _ (before : Moment) (bytes : List ℕ) (stmt : Stmt) (read : IsRead befor
         clear = clear before bytes stmt read able;
         stmt = stmt;
         spelled = read.spelled;
+        asked = asked;
         performed = (now, steps, is);
         meter = subst (IsCharged before.meter) (sym meter) paid.charged;
         options = ap (λ (m : Moment). m.options) is ∙ same;
-        units = λ none. ap (λ (g : Gauge). g.units) (meter ∙ paid.free (idle (false_from_ne_true (works stmt) none)));
+        units = λ none. ap (λ (g : Gauge). g.units) (meter ∙ paid.free (idle (false_from_ne_true (works At stmt) none)));
       }
-
-  -- some of its simple statements were done, and the next has P
-  stops_in : (P : Moment → Stmt → Type 0) → StopsAt before (flat stmt) P → OfStatement bytes (λ found. Stops before found P)
-  stops_in P h = (
-    stmt,
-    read.spelled,
-    record { done = h.0; next = h.1; later = h.2; split = h.3; now = h.4.0; steps = h.4.1; stops = h.4.2 },
-  )
 
   -- the evaluation of one of its simple statements ends so
   abbrev EndsAt : End → Type 0
   EndsAt why = StopsAt before (flat stmt) (λ moment next. StatementEnds moment next why)
 
+  -- nothing that is asked first ends it
+  asked_goes : (reason : Reason) → ¬ AskedEnds before stmt (because reason)
+  asked_goes too_wide ends = ends
+  asked_goes no_minimum ends = ends
+  asked_goes unbounded ends = ends
+  asked_goes no_valuation ends = ends
+  asked_goes not_assumed ends = ends.1 (asked ends.0)
+
+  -- its evaluation ends so
+  ended_in : (why : End) → EndsAt why → IsEnded before bytes why
+  ended_in why h = (
+    stmt,
+    read.spelled,
+    inr (asked_goes, record { done = h.0; next = h.1; later = h.2; split = h.3; now = h.4.0; steps = h.4.1; stops = h.4.2 }),
+  )
+
   -- its work is cut, where nothing ends its evaluation before
   cut_refuses : (now : Gauge) (what : Cut) → IsCutBy before.meter now what → (what ≡ cuts.NoMemory) ⊎ EndsAt ends.cut
-      → (list_any works (flat stmt) ≡ false → (what ≡ cuts.NoMemory) × (now ≡ before.meter))
+      → (list_any (works At) (flat stmt) ≡ false → (what ≡ cuts.NoMemory) × (now ≡ before.meter))
       → Refuses before bytes now (refusal_of_cut what)
   cut_refuses now cuts.Overflow by (inl memory) free = absurd (let no : ⊥ = cc in no)
   cut_refuses now cuts.Overflow by (inr there) free = (
     clear before bytes stmt read able,
-    has_work bytes stmt read.spelled (λ none. let bad : cuts.Overflow ≡ cuts.NoMemory = (free (idle none)).0 in absurd
+    has_work At bytes stmt read.spelled (λ none. let bad : cuts.Overflow ≡ cuts.NoMemory = (free (idle none)).0 in absurd
         (let no : ⊥ = cc in no)),
-    stops_in (λ moment next. StatementEnds moment next ends.cut) there,
+    ended_in ends.cut there,
     by,
   )
   cut_refuses now cuts.Budget by (inl memory) free = absurd (let no : ⊥ = cc in no)
   cut_refuses now cuts.Budget by (inr there) free = (
     clear before bytes stmt read able,
-    has_work bytes stmt read.spelled (λ none. let bad : cuts.Budget ≡ cuts.NoMemory = (free (idle none)).0 in absurd
+    has_work At bytes stmt read.spelled (λ none. let bad : cuts.Budget ≡ cuts.NoMemory = (free (idle none)).0 in absurd
         (let no : ⊥ = cc in no)),
-    stops_in (λ moment next. StatementEnds moment next ends.cut) there,
+    ended_in ends.cut there,
     by,
   )
-  cut_refuses now cuts.NoMemory by there free = (by.cause, λ none. (free (idle (no_work bytes stmt read.spelled none))).1)
+  cut_refuses now cuts.NoMemory by there free = (by.cause, λ none. (free (idle (no_work At bytes stmt read.spelled none))).1)
 
   -- it is not
-  reason_refuses : (now : Gauge) (reason : Reason) → EndsAt (because reason) → IsPaid (list_any works (flat stmt)) before.meter now
+  reason_refuses : (now : Gauge) (reason : Reason) → EndsAt (because reason) → IsPaid (list_any (works At) (flat stmt)) before.meter now
       → RefusesBecause before bytes now reason
   reason_refuses now reason stops paid = (
     clear before bytes stmt read able,
-    stops_in (λ moment next. StatementEnds moment next (because reason)) stops,
+    ended_in (because reason) stops,
     paid.charged,
-    (λ none. paid.free (idle (no_work bytes stmt read.spelled none))),
+    (λ none. paid.free (idle (no_work At bytes stmt read.spelled none))),
   )
 
-  end_refuses : (now : Gauge) (reason : Reason) → EndsAt (because reason) → IsPaid (list_any works (flat stmt)) before.meter now
+  end_refuses : (now : Gauge) (reason : Reason) → EndsAt (because reason) → IsPaid (list_any (works At) (flat stmt)) before.meter now
       → Refuses before bytes now (refusal_of_reason reason)
   end_refuses now too_wide stops paid = inr (reason_refuses now too_wide stops paid)
   end_refuses now no_minimum stops paid = reason_refuses now no_minimum stops paid
   end_refuses now unbounded stops paid = reason_refuses now unbounded stops paid
+  end_refuses now no_valuation stops paid = reason_refuses now no_valuation stops paid
+  end_refuses now not_assumed stops paid = reason_refuses now not_assumed stops paid
 
   pub stopped_refuses : (now : Gauge) (refusal : Refusal) → IsWhyStopped before (flat stmt) now refusal → Refuses before bytes now refusal
   stopped_refuses now refusal (inl why) =
@@ -358,24 +397,25 @@ loop_first before now done others last stmt i low is h =
     subst (λ (s : List Stmt). AreLeft before now done (s ++ last ∷ [])) (drop_head others i stmt low is) h
 
 next_left : (before now next : Moment) (done : List Stmt) (stmt : Stmt) (rest : List Stmt) (last : Stmt) (answer : Answer)
-    → AreLeft before now done (stmt ∷ (rest ++ last ∷ [])) → Step now stmt next answer → IsPaid (works stmt) now.meter next.meter
+    → AreLeft before now done (stmt ∷ (rest ++ last ∷ [])) → Step now stmt next answer
+    → IsPaid (works now.state.assumed stmt) now.meter next.meter
     → ((name : List ℕ) (expr : Expr) → stmt ≡ Bind name expr → is_dollar name ≡ true → forgotten next.state ≡ forgotten now.state)
-    → AreLeft before next (done ++ stmt ∷ []) (rest ++ last ∷ []) × (answer ≡ nothing)
-next_left before now next done stmt [] last answer h step paid dollar =
-    left_next before now next done stmt last [] answer h step paid dollar
-next_left before now next done stmt (other ∷ rest) last answer h step paid dollar =
-    left_next before now next done stmt other (rest ++ last ∷ []) answer h step paid dollar
+    → Fits (limit_of now.meter) next.state → AreLeft before next (done ++ stmt ∷ []) (rest ++ last ∷ []) × (answer ≡ nothing)
+next_left before now next done stmt [] last answer h step paid dollar fits =
+    left_next before now next done stmt last [] answer h step paid dollar fits
+next_left before now next done stmt (other ∷ rest) last answer h step paid dollar fits =
+    left_next before now next done stmt other (rest ++ last ∷ []) answer h step paid dollar fits
 
 -- one turn
 pub loop_next : (before now next : Moment) (others : List Stmt) (last stmt : Stmt) (i : ℕ) (answer : Answer)
     → i < length others → stmt ≡ get_or others i stmt → AreLeft before now (take i others) (drop i others ++ last ∷ [])
     → Step now stmt next answer
-    → IsPaid (works stmt) now.meter next.meter
+    → IsPaid (works now.state.assumed stmt) now.meter next.meter
     → ((name : List ℕ) (expr : Expr) → stmt ≡ Bind name expr → is_dollar name ≡ true → forgotten next.state ≡ forgotten now.state)
-    → AreLeft before next (take (i + 1) others) (drop (i + 1) others ++ last ∷ [])
-loop_next before now next others last stmt i answer low is h step paid dollar =
+    → Fits (limit_of now.meter) next.state → AreLeft before next (take (i + 1) others) (drop (i + 1) others ++ last ∷ [])
+loop_next before now next others last stmt i answer low is h step paid dollar fits =
     let first = loop_first before now (take i others) others last stmt i low is h in
-    let then = next_left before now next (take i others) stmt (drop (i + 1) others) last answer first step paid dollar in
+    let then = next_left before now next (take i others) stmt (drop (i + 1) others) last answer first step paid dollar fits in
     let taken : take i others ++ stmt ∷ [] ≡ take (i + 1) others =
     ap (λ (s : Stmt). take i others ++ s ∷ []) is ∙ sym (take_more others i stmt low) in
     subst (λ (done : List Stmt). AreLeft before next done (drop (i + 1) others ++ last ∷ [])) taken then.0
@@ -402,18 +442,57 @@ loop_last before now others last i end h =
     (subst (λ (left : List Stmt). AreLeft before now (take i others) (left ++ last ∷ [])) (ap (λ (n : ℕ). drop n others) end
     ∙ drop-length others) h)
 
+-- where elements are listed, the numbers are assumed when the statements before are done
+asked_here : (before now : Moment) (stmt : Stmt) → forgotten now.state ≡ forgotten before.state → now.options ≡ before.options
+    → IsAssumedWhereListed before stmt → IsAssumedWhereListed now stmt
+asked_here before now stmt others options asked = λ lists.
+    subst (λ (a : Assumed). Assumes a now.options.at) (sym (left_assumed before now others))
+    (subst (λ (o : OptionsView). Assumes before.state.assumed o.at) (sym options) (asked lists))
+
+pub asked_next : (before now : Moment) (statements others done left : List Stmt) (last stmt : Stmt) (i : ℕ)
+    → statements ≡ others ++ last ∷ [] → i < length others → stmt ≡ get_or others i stmt → All (IsAssumedWhereListed before) statements
+    → AreLeft before now done left → IsAssumedWhereListed now stmt
+asked_next before now statements others done left last stmt i split low is all h =
+    let within : i < length (others ++ last ∷ []) = (let e = length-append others (last ∷ []) in omega arith) in
+    asked_here before now stmt h.others h.options
+    (subst (IsAssumedWhereListed before) (get_or_append_left others (last ∷ []) stmt i low ∙ sym is)
+    (subst (All (IsAssumedWhereListed before)) split all i stmt within))
+
+asked_end : (before : Moment) (others : List Stmt) (last : Stmt) → All (IsAssumedWhereListed before) (others ++ last ∷ [])
+    → IsAssumedWhereListed before last
+asked_end before [] last all = All-head (IsAssumedWhereListed before) last [] all
+asked_end before (stmt ∷ others) last all =
+    asked_end before others last (All-tail (IsAssumedWhereListed before) stmt (others ++ last ∷ []) all)
+
+pub asked_last : (before now : Moment) (statements others done left : List Stmt) (last : Stmt) → statements ≡ others ++ last ∷ []
+    → All (IsAssumedWhereListed before) statements → AreLeft before now done left → IsAssumedWhereListed now last
+asked_last before now statements others done left last split all h =
+    asked_here before now last h.others h.options (asked_end before others last (subst (All (IsAssumedWhereListed before)) split all))
+
+-- what is bound at the end is within the limit
+pub fits_last : (before now : Moment) (others : List Stmt) (last : Stmt) (after : StateView) (result : Result Answer Refusal)
+    → AreLeft before now others (last ∷ []) → OnOk result (Fits (limit_of now.meter) after)
+    → OnOk result (Fits (limit_of before.meter) after)
+fits_last before now others last after (Ok answer) h fits =
+    subst (λ (z : ℤ). Fits z after) (same_limit before.meter now.meter h.paid.charged) fits
+fits_last before now others last after (Err refusal) h fits = tt
+
 -- ---- the answer of the bytes
 
 module _ (before : Moment) (bytes : List ℕ) (statements : List Stmt) (taken : IsTaken before bytes statements)
     (settled : IsSettled before.state)
     (fits : Fits (limit_of before.meter) before.state) (now after : Moment) (same : now.options ≡ before.options) (is : after ≡ behind now) where
-  pub finished_ok : (result : Result Answer Refusal) → IfOk result (Steps before statements now)
-      → MatchResult result (λ _. IsPaid (list_any works statements) before.meter now.meter) (λ _. IsKept before.meter now.meter)
+  abbrev Paid : Result Answer Refusal → Type 0
+  Paid result =
+      MatchResult result (λ _. IsPaid (list_any (works before.state.assumed) statements) before.meter now.meter)
+      (λ _. IsKept before.meter now.meter)
+
+  pub finished_ok : (result : Result Answer Refusal) → IfOk result (Steps before statements now) → Paid result
       → IfOk result (Answers before bytes after)
   finished_ok (Ok answer) steps paid =
-      answered before bytes taken.stmt taken.read taken.able now after answer
+      answered before bytes taken.stmt taken.read taken.able taken.asked now after answer
       (subst (λ (s : List Stmt). Steps before s now answer) taken.simple steps)
-      (subst (λ (s : List Stmt). IsPaid (list_any works s) before.meter now.meter) taken.simple paid) same is
+      (subst (λ (s : List Stmt). IsPaid (list_any (works before.state.assumed) s) before.meter now.meter) taken.simple paid) same is
   finished_ok (Err refusal) steps paid = tt
 
   same_state : after.state ≡ forgotten now.state
@@ -433,15 +512,12 @@ module _ (before : Moment) (bytes : List ℕ) (statements : List Stmt) (taken : 
   finished_shown (Ok answer) others = λ some. unchanged (others some)
   finished_shown (Err refusal) others = tt
 
-  pub finished_fits : (result : Result Answer Refusal) → IfOk result (Steps before statements now)
-      → OnErr result (forgotten now.state ≡ forgotten before.state)
-      → MatchResult result (λ _. IsPaid (list_any works statements) before.meter now.meter) (λ _. IsKept before.meter now.meter)
-      → Fits (limit_of now.meter) after.state
-  finished_fits (Ok answer) steps failed paid =
+  pub finished_fits : (result : Result Answer Refusal) → OnOk result (Fits (limit_of before.meter) now.state)
+      → OnErr result (forgotten now.state ≡ forgotten before.state) → Paid result → Fits (limit_of now.meter) after.state
+  finished_fits (Ok answer) fit failed paid =
       subst (λ (z : ℤ). Fits z after.state) (sym (same_limit before.meter now.meter paid.charged))
-      (subst (Fits (limit_of before.meter)) (sym same_state)
-      (fits_forgotten (limit_of before.meter) now.state (steps_fit (limit_of before.meter) before statements now answer refl fits steps)))
-  finished_fits (Err refusal) steps failed kept =
+      (subst (Fits (limit_of before.meter)) (sym same_state) (fits_forgotten (limit_of before.meter) now.state fit))
+  finished_fits (Err refusal) fit failed kept =
       subst (λ (z : ℤ). Fits z after.state) (sym (kept_limit before.meter now.meter kept))
       (subst (Fits (limit_of before.meter)) (sym (unchanged failed)) fits)
 
@@ -452,11 +528,10 @@ module _ (before : Moment) (bytes : List ℕ) (statements : List Stmt) (taken : 
       → IfErr result (Refuses before bytes now.meter)
   finished_cause (Ok answer) why = tt
   finished_cause (Err refusal) why =
-      stopped_refuses before bytes taken.stmt taken.read taken.able now.meter refusal
+      stopped_refuses before bytes taken.stmt taken.read taken.able taken.asked now.meter refusal
       (subst (λ (s : List Stmt). IsWhyStopped before s now.meter refusal) taken.simple why)
 
-  pub finished_meter : (result : Result Answer Refusal)
-      → MatchResult result (λ _. IsPaid (list_any works statements) before.meter now.meter) (λ _. IsKept before.meter now.meter)
+  pub finished_meter : (result : Result Answer Refusal) → Paid result
       → MatchResult result (λ _. IsCharged before.meter now.meter) (λ _. IsKept before.meter now.meter)
   finished_meter (Ok answer) paid = paid.charged
   finished_meter (Err refusal) kept = kept

@@ -9,9 +9,10 @@ use Rattle.isl_flat.specs.Flat.{flat}
 use Rattle.isl_words.specs.Options.{OptionsView}
 use Rattle.isl_values.specs.State.{Moment, StateView, scope_of}
 use Rattle.isl_eval.specs.Causes.{Refuses}
-use Rattle.isl_eval.specs.Evaluation.{IsRead, IsTaken, IsWhyNot, IsWhyUnworkable, IsWorkable}
-use Rattle.isl_eval.proofs.ChainLaws.{evaluable}
-use Rattle.isl_eval.proofs.RefusalLaws.{memory_refuses, unread_refuses, unworkable_refuses}
+use Rattle.isl_eval.specs.Ended.{IsAssumedWhereListed}
+use Rattle.isl_eval.specs.Evaluation.{IsClearStatement, IsRead, IsTaken, IsWhyNot, IsWhyUnasked, IsWhyUnworkable, IsWorkable}
+use Rattle.isl_eval.proofs.ChainLaws.{asked_each, evaluable}
+use Rattle.isl_eval.proofs.RefusalLaws.{memory_refuses, unasked_refuses, unread_refuses, unworkable_refuses}
 use Rattle.isl_eval.proofs.MomentLaws.{moment_of}
 
 module _ (before : Moment) (state : StateView) (meter : Gauge) (options : OptionsView) (bytes : List ℕ)
@@ -22,14 +23,34 @@ module _ (before : Moment) (state : StateView) (meter : Gauge) (options : Option
   scope_here : (scope : ScopeView) → scope ≡ scope_of state → scope ≡ scope_of before.state
   scope_here scope is = subst (λ (m : Moment). scope ≡ scope_of m.state) (sym here) is
 
-  pub taken : (stmt : Stmt) (statements : List Stmt) (scope : ScopeView) → IsRead before bytes stmt → scope ≡ scope_of state
-      → IsWorkable scope options.at stmt
+  pub clear_statement : (stmt : Stmt) (scope : ScopeView) → IsRead before bytes stmt → scope ≡ scope_of state
+      → IsWorkable scope options.at stmt → IsClearStatement before bytes stmt
+  clear_statement stmt scope read is able = record {
+    read = read;
+    able = subst (λ (m : Moment). IsWorkable (scope_of m.state) m.options.at stmt) (sym here)
+        (subst (λ (s : ScopeView). IsWorkable s options.at stmt) is able);
+  }
+
+  pub taken : (stmt : Stmt) (statements : List Stmt) → IsClearStatement before bytes stmt
+      → IsAssumedWhereListed (moment_of state meter options) stmt
       → statements ≡ flat stmt → length statements ≤ 2 ^ 64 → IsTaken before bytes statements
-  taken stmt statements scope read is able simple short =
-      let can : IsWorkable (scope_of before.state) before.options.at stmt =
-      subst (λ (m : Moment). IsWorkable (scope_of m.state) m.options.at stmt) (sym here)
-      (subst (λ (s : ScopeView). IsWorkable s options.at stmt) is able) in
-      record { stmt = stmt; read = read; able = can; simple = simple; ready = evaluable before bytes stmt statements read can simple short }
+  taken stmt statements clear asked simple short =
+      let asks : IsAssumedWhereListed before stmt = subst (λ (m : Moment). IsAssumedWhereListed m stmt) (sym here) asked in
+      record {
+        stmt = stmt;
+        read = clear.read;
+        able = clear.able;
+        asked = asks;
+        simple = simple;
+        ready = evaluable before bytes stmt statements clear.read clear.able simple short;
+        each = asked_each before bytes stmt statements clear.read.spelled simple asks;
+      }
+
+  pub unasked : (stmt : Stmt) (now : Gauge) (refusal : Refusal) → IsClearStatement before bytes stmt
+      → IsWhyUnasked (moment_of state meter options) stmt now refusal → Refuses before bytes now refusal
+  unasked stmt now refusal clear why =
+      unasked_refuses before bytes stmt clear.read clear.able now refusal
+      (subst (λ (m : Moment). IsWhyUnasked m stmt now refusal) (sym here) why)
 
   at_meter : (refusal : Refusal) → Refuses before bytes before.meter refusal → Refuses before bytes meter refusal
   at_meter refusal h = subst (λ (g : Gauge). Refuses before bytes g refusal) same_meter h

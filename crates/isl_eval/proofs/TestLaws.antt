@@ -18,6 +18,7 @@ use Rattle.isl_union.specs.declared.fault.OpFault.{OpFault}
 use Rattle.isl_union.specs.declared.fault.OpFault.TheVariants as op_fault
 use Rattle.isl_text.specs.declared.refusal.Refusal.{Refusal}
 use Rattle.isl_text.specs.declared.refusal.Refusal.TheVariants.{TooWide}
+use Rattle.isl_text.specs.declared.refusal.Refusal.TheVariants as refusals
 use Rattle.isl_space.specs.Element.{Element}
 use Rattle.isl_space.specs.Valuation.{Valuation}
 use Rattle.isl_expr.specs.declared.tree.Binary.{Binary}
@@ -29,24 +30,26 @@ use Rattle.isl_expr.specs.declared.tree.Expr.TheBlock.{hidden-the_row-Expr-0, hi
 use Rattle.isl_kinds.specs.Parts.{Part, parts_of, parts_of_links, parts_in_links}
 use Rattle.isl_kinds.specs.Parts as part
 use Rattle.isl_kinds.specs.Typed.{ScopeView, declared_of, declared_of_row, joined_names}
-use Rattle.isl_kinds.proofs.JoinedNamesLaws.{declared_distinct, joined_is}
 use Rattle.isl_kinds.proofs.PartLaws.{links_are, any_in_link}
+use Rattle.isl_assumed.specs.Assumed.{Assumes}
+use Rattle.isl_values.specs.Live.{IsUnderOf}
 use Rattle.isl_values.specs.State.{StateView, Moment, HasNumbersUpTo}
 use Rattle.isl_operators.specs.Operations.{OperatorHas}
 use Rattle.isl_operators.proofs.NamesLaws.{turned_fits}
 use Rattle.isl_values.specs.Selection.{Selects, RowSelects, context_of}
 use Rattle.isl_values.specs.Ends.{End, because, too_wide}
 use Rattle.isl_values.specs.Ends as ends
-use Rattle.isl_values.specs.Made.{IsWhyUnmade, IsWhyUnworked, refusal_of_cut}
+use Rattle.isl_values.specs.Made.{IsPaid, IsWhyUnmade, IsWhyUnworked, refusal_of_cut}
 use Rattle.isl_values.proofs.PartLaws.{quiet_both}
 use Rattle.isl_values.proofs.RowLaws.{same_row, same_trans}
-use Rattle.isl_values.proofs.ValueLaws.{numbers_later, paid_works, unworked_after}
+use Rattle.isl_values.proofs.ValueLaws.{numbers_later, paid_works, unmade_memory, unworked_after}
 use Rattle.isl_eval.specs.Tests.{Elements, is_test, ends_with_test, IsPartOf, TestHolds, HoldsPastLinks}
 use Rattle.isl_eval.specs.Machine.{Answer, Shows, ShowsRow, told}
 use Rattle.std.specs.Option.{option_map_or}
 use Rattle.isl_eval.specs.Evaluated.{made_parts, shown_parts, parts_around_test}
-use Rattle.isl_eval.specs.Evaluation.{IsTestOf, context_in, past_row}
+use Rattle.isl_eval.specs.Evaluation.{IsTestOf, Tells, context_in, past_row}
 use Rattle.isl_eval.specs.Evaluation.{ends_with_test as ends}
+use Rattle.isl_eval.proofs.AssumedLaws.{left_among, right_among, test_told}
 
 -- ---- the same of lists
 
@@ -195,12 +198,14 @@ shows_test before x first links around last answer holds is are test iff told_is
 
 -- ---- tests of the same elements
 
-abbrev SamePart : Elements → Elements → Type 0
-SamePart P Q = (v : Valuation) (x : Element) → P v x ↔ Q v x
+abbrev SamePart : StateView → Elements → Elements → Type 0
+SamePart state P Q = (v : Valuation) → Assumes state.assumed v → (x : Element) → P v x ↔ Q v x
 
-part_same : (state : StateView) (P Q R S : Elements) → SamePart P R → SamePart Q S → IsPartOf state P Q ↔ IsPartOf state R S
-part_same state P Q R S left right =
-    ((λ part v x h. (right v x).0 (part v x ((left v x).1 h))), (λ part v x h. (right v x).1 (part v x ((left v x).0 h))))
+part_same : (state : StateView) (P Q R S : Elements) → SamePart state P R → SamePart state Q S → IsPartOf state P Q ↔ IsPartOf state R S
+part_same state P Q R S left right = (
+  (λ part v here x h. (right v here x).0 (part v here x ((left v here x).1 h))),
+  (λ part v here x h. (right v here x).1 (part v here x ((left v here x).0 h))),
+)
 
 both_same : (A B C D : Type 0) → A ↔ C → B ↔ D → (A × B) ↔ (C × D)
 both_same A B C D one two = ((λ h. (one.0 h.0, two.0 h.1)), (λ h. (one.1 h.0, two.1 h.1)))
@@ -208,8 +213,8 @@ both_same A B C D one two = ((λ h. (one.0 h.0, two.0 h.1)), (λ h. (one.1 h.0, 
 not_same : (A B : Type 0) → A ↔ B → (¬ A) ↔ (¬ B)
 not_same A B one = ((λ no h. no (one.1 h)), (λ no h. no (one.0 h)))
 
-pub test_same : (state : StateView) (operator : Binary) (P Q R S : Elements) → ((v : Valuation) (x : Element) → P v x ↔ R v x)
-    → ((v : Valuation) (x : Element) → Q v x ↔ S v x) → TestHolds state operator P Q ↔ TestHolds state operator R S
+pub test_same : (state : StateView) (operator : Binary) (P Q R S : Elements) → SamePart state P R → SamePart state Q S
+    → TestHolds state operator P Q ↔ TestHolds state operator R S
 test_same state b.Equal P Q R S left right = both_same _ _ _ _ (part_same state P Q R S left right) (part_same state Q P S R right left)
 test_same state b.Subset P Q R S left right = part_same state P Q R S left right
 test_same state b.ProperSubset P Q R S left right =
@@ -220,28 +225,23 @@ test_same state b.ProperSuperset P Q R S left right =
 test_same state _ P Q R S left right = ((λ h. h), (λ h. h))
 
 -- ---- what a test of values is
-pub at_test : {E : Type 0} (result : Result Bool E) (state : StateView) (operator word : Binary) (P Q : Elements) (Holds : Type 0)
+pub at_test : {E : Type 0} (result : Result Bool E) (operator word : Binary) (left right : KeptValue) (Holds : Type 0)
     → operator ≡ word
-    → IfOk result (λ holds. IsTrue holds ↔ Holds) → TestHolds state word P Q ≡ Holds
-    → IfOk result (λ holds. IsTrue holds ↔ TestHolds state operator P Q)
-at_test result state operator word P Q Holds is exact same =
-    subst (λ (o : Binary). IfOk result (λ holds. IsTrue holds ↔ TestHolds state o P Q)) (sym is)
+    → IfOk result (λ holds. IsTrue holds ↔ Holds) → Tells word left right ≡ Holds
+    → IfOk result (λ holds. IsTrue holds ↔ Tells operator left right)
+at_test result operator word left right Holds is exact same =
+    subst (λ (o : Binary). IfOk result (λ holds. IsTrue holds ↔ Tells o left right)) (sym is)
     (subst (λ (H : Type 0). IfOk result (λ holds. IsTrue holds ↔ H)) (sym same) exact)
 
 -- ---- parameters
 -- those of the two values that are tested
-pub test_names : (scope : ScopeView) (first : Expr) (before : List Link) (last : Link) (one left right : KeptValue) (l r : KeptValue)
+pub test_names : (scope : ScopeView) (first : Expr) (before : List Link) (last : Link) (one left right : KeptValue)
     → one.params ≡ declared_of scope first → left.params ≡ declared_of_row scope one.params before
-    → right.params ≡ declared_of scope last.operand → l ≡ left → r ≡ right
-    → joined l.params r.params
+    → right.params ≡ declared_of scope last.operand
+    → joined_names left.params right.params
     ≡ joined_names (declared_of_row scope (declared_of scope first) before) (declared_of scope last.operand)
-test_names scope first before last one left right l r first_is left_is right_is l_is r_is =
-    let names : l.params ≡ declared_of_row scope (declared_of scope first) before =
-    ap (λ (v : KeptValue). v.params) l_is ∙ left_is ∙ ap (λ (ps : List Name). declared_of_row scope ps before) first_is in
-    let others : r.params ≡ declared_of scope last.operand = ap (λ (v : KeptValue). v.params) r_is ∙ right_is in
-    ap₂ joined names others
-    ∙ joined_is (declared_of_row scope (declared_of scope first) before) (declared_of scope last.operand)
-    (declared_distinct scope last.operand)
+test_names scope first before last one left right first_is left_is right_is =
+    ap₂ joined_names (left_is ∙ ap (λ (ps : List Name). declared_of_row scope ps before) first_is) right_is
 
 -- what a test leaves of two values, and of them in the other order
 module _ (a b : KeptValue) (one : IsKeptValue a) (two : IsKeptValue b) where
@@ -273,20 +273,30 @@ pub turned_units : {A : Type 0} (a b : KeptValue) (g h : Gauge) (result : Result
 turned_units a b g h (Ok holds) one two is = (fewer_turned b a two one is.0, is.1)
 turned_units a b g h (Err fault) one two is = fault_turned a b one two g h fault (fewer b a two one) is
 
+-- what operands under what is assumed tell of a test is whether it holds
+pub told_is : (state : StateView) (operator : Binary) (left right l r a b : KeptValue) (holds : Bool) → IsKeptValue left → IsKeptValue right
+    → IsUnderOf state.assumed (joined_names left.params right.params) left l
+    → IsUnderOf state.assumed (joined_names left.params right.params) right r → a ≡ l → b ≡ r → (IsTrue holds ↔ Tells operator a b)
+    → IsTrue holds ↔ TestHolds state operator (Has left) (Has right)
+told_is state operator left right l r a b holds left_kept right_kept one two first second exact =
+    let names = joined_names left.params right.params in
+    let told = test_told state names left right a b (left_among state.assumed left right left_kept right_kept)
+    (right_among state.assumed left right left_kept right_kept) (subst (IsUnderOf state.assumed names left) (sym first) one)
+    (subst (IsUnderOf state.assumed names right) (sym second) two) operator in
+    ((λ h. told.0 (exact.0 h)), (λ h. exact.1 (told.1 h)))
+
 -- the test of the values is the test of what is selected
-pub tested_is : (state : StateView) (operator : Binary) (first operand : Expr) (before : List Link) (one left right l r : KeptValue)
-    (holds : Bool)
-    → ((v : Valuation) (x : Element) → Has one v x ↔ Selects state first v x)
-    → ((v : Valuation) (x : Element) → Has left v x ↔ RowSelects state v (Has one v) before x)
-    → ((v : Valuation) (x : Element) → Has right v x ↔ Selects state operand v x) → l ≡ left → r ≡ right
-    → (IsTrue holds ↔ TestHolds state operator (Has l) (Has r))
+pub tested_is : (state : StateView) (operator : Binary) (first operand : Expr) (before : List Link) (one left right : KeptValue) (holds : Bool)
+    → ((v : Valuation) → Assumes state.assumed v → (x : Element) → Has one v x ↔ Selects state first v x)
+    → ((v : Valuation) → Assumes state.assumed v → (x : Element) → Has left v x ↔ RowSelects state v (Has one v) before x)
+    → ((v : Valuation) → Assumes state.assumed v → (x : Element) → Has right v x ↔ Selects state operand v x)
+    → (IsTrue holds ↔ TestHolds state operator (Has left) (Has right))
     → IsTrue holds ↔ TestHolds state operator (past_row state first before) (λ v x. Selects state operand v x)
-tested_is state operator first operand before one left right l r holds first_has left_has right_has l_is r_is exact =
-    let e = test_same state operator (Has l) (Has r) (past_row state first before) (λ v x. Selects state operand v x)
-    (λ v. subst (λ (k : KeptValue). (x : Element) → Has k v x ↔ past_row state first before v x) (sym l_is)
-    (same_trans (Has left v) (RowSelects state v (Has one v) before) (past_row state first before v) (left_has v)
-    (same_row state v (Has one v) (Selects state first v) before (first_has v))))
-    (λ v. subst (λ (k : KeptValue). (x : Element) → Has k v x ↔ Selects state operand v x) (sym r_is) (right_has v)) in
+tested_is state operator first operand before one left right holds first_has left_has right_has exact =
+    let e = test_same state operator (Has left) (Has right) (past_row state first before) (λ v x. Selects state operand v x)
+    (λ v here. same_trans (Has left v) (RowSelects state v (Has one v) before) (past_row state first before v) (left_has v here)
+    (same_row state v (Has one v) (Selects state first v) before (first_has v here)))
+    right_has in
     ((λ h. e.0 (exact.0 h)), (λ h. exact.1 (e.1 h)))
 
 -- ---- work that is paid, where units may be used
@@ -326,6 +336,12 @@ test_wide Whole names g h k refusal is charged by ends =
 pub refused : {A E : Type 0} (result : Result A E) (P : A → Type 0) (Q : E → Type 0) (refusal : E) → result ≡ Err refusal
     → Q refusal → MatchResult result P Q
 refused result P Q refusal is why = subst (λ (r : Result _ _). MatchResult r P Q) (sym is) why
+
+-- memory ran out after work
+pub memory_unworked : {A : Type 0} (result : Result A Refusal) (P : A → Type 0) (works : Bool) (Whole : End → Type 0) (g h : Gauge)
+    → result ≡ Err refusals.NoMemory → IsPaid works g h → MatchResult result P (IsWhyUnworked works Whole g h)
+memory_unworked result P works Whole g h is paid =
+    refused result P (IsWhyUnworked works Whole g h) refusals.NoMemory is (inl (unmade_memory works Whole g h refusals.NoMemory refl paid))
 
 -- the one holds, and the other does not
 pub proper_is : (one other : Bool) (S T : Type 0) → (IsTrue one ↔ S) → one ≡ true → (IsTrue other ↔ T)

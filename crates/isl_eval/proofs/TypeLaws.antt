@@ -91,6 +91,15 @@ no_typed_set set t = by (literal_is_known set)
     by true e = let f : Ok None ≡ Ok (Some t) = e in cc
     by false e = let f : Err r.UnknownName ≡ Ok (Some t) = e in cc
 
+-- the identifiers of an assumption with a type are known
+pub typed_known : (scope : ScopeView) (set : Literal) (t : Option TypeView) → type_of_statement scope (Assume set) ≡ Ok t
+    → literal_is_known set ≡ true
+typed_known scope set t e = by (literal_is_known set) e
+  where
+    by : (b : Bool) → untyped (if b then Ok tt else Err r.UnknownName) ≡ Ok t → b ≡ true
+    by true e = refl
+    by false e = let f : Err r.UnknownName ≡ Ok t = e in cc
+
 pub no_type : (scope : ScopeView) (stmt : Stmt) (refusal : Refusal) → type_of_statement scope stmt ≡ Err refusal
     → (refusal ≡ r.UnknownName) ⊎ ((refusal ≡ r.WrongKind) ⊎ (refusal ≡ r.NoElement))
 no_type scope Empty refusal e = let f : Ok None ≡ Err refusal = e in cc

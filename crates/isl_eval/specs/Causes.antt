@@ -9,6 +9,7 @@ use Rattle.isl_space.specs.Name.{Name}
 use Rattle.isl_space.specs.Valuation.{Valuation}
 use Rattle.isl_token.specs.Lex.{tokens}
 use Rattle.isl_token.specs.Depth.{is_too_deep}
+use Rattle.isl_assumed.specs.declared.assumed.Assumed.{Assumed}
 use Rattle.isl_text.specs.declared.refusal.Refusal.{Refusal}
 use Rattle.isl_text.specs.declared.refusal.Refusal.TheVariants as r
 use Rattle.isl_text.specs.Read.{has_wide_number}
@@ -24,9 +25,9 @@ use Rattle.isl_flat.specs.Flat.{flat}
 use Rattle.isl_eval.specs.Unsupported.{is_unsupported}
 use Rattle.isl_values.specs.State.{Moment, scope_of}
 use Rattle.isl_values.specs.Ends as ends
-use Rattle.isl_values.specs.Ends.{End, Reason, GoesOn, because}
+use Rattle.isl_values.specs.Ends.{End, Reason, FirstEnds, GoesOn, because}
 use Rattle.isl_values.specs.Made.{uses_units}
-use Rattle.isl_eval.specs.Ended.{StatementEnds}
+use Rattle.isl_eval.specs.Ended.{AskedEnds, StatementEnds}
 use Rattle.isl_eval.specs.Machine.{Step, nothing}
 use Rattle.isl_eval.specs.Spelled.{OfTokens, OfStatement}
 
@@ -126,9 +127,13 @@ pub record Stops (before : Moment) (stmt : Stmt) (P : Moment → Stmt → Type 0
   pub steps : AreDone before done now
   pub stops : P now next
 
--- the evaluation of a statement ends, in one of the ways in which it may choose
+-- The evaluation of a statement ends, in one of the ways in which it may choose. Where elements are to be listed, it is asked first whether
+-- the numbers that parameters are given are assumed.
+abbrev pub EvaluationEnds : Moment → Stmt → End → Type 0
+EvaluationEnds before stmt = FirstEnds (AskedEnds before stmt) (λ why. Stops before stmt (λ now next. StatementEnds now next why))
+
 abbrev pub IsEnded : Moment → List ℕ → End → Type 0
-IsEnded before bytes why = OfStatement bytes (λ stmt. Stops before stmt (λ now next. StatementEnds now next why))
+IsEnded before bytes why = OfStatement bytes (λ stmt. EvaluationEnds before stmt why)
 
 -- no cause is there to refuse the bytes of a statement, whatever it chooses
 pub record IsValid (before : Moment) (bytes : List ℕ) : Type 0 where
@@ -136,13 +141,14 @@ pub record IsValid (before : Moment) (bytes : List ℕ) : Type 0 where
   pub goes_on : GoesOn (IsEnded before bytes)
 
 -- ---- units
--- a part that may use units stands in the statement: anything but names, `+`, `^-1` and the words that only move columns
-abbrev pub HasWork : Stmt → Type 0
-HasWork stmt = list_any uses_units (parts_of_statement stmt) ≡ true
+-- a part that may use units stands in the statement: anything but names, `[i]` and, where nothing is assumed, `+`, `^-1` and the words that
+-- only move columns
+abbrev pub HasWork : Assumed → Stmt → Type 0
+HasWork assumed stmt = list_any (uses_units assumed) (parts_of_statement stmt) ≡ true
 
 -- the meter is as it was, unless work stands in the statement
 abbrev pub SparesUnits : Moment → List ℕ → Gauge → Type 0
-SparesUnits before bytes now = ¬ OfStatement bytes HasWork → now ≡ before.meter
+SparesUnits before bytes now = ¬ OfStatement bytes (HasWork before.state.assumed) → now ≡ before.meter
 
 -- while a statement without any of the causes is worked out, its evaluation ends for this reason, which counts nothing
 abbrev pub RefusesBecause : Moment → List ℕ → Gauge → Reason → Type 0
@@ -152,7 +158,7 @@ RefusesBecause before bytes now reason =
 -- work of a statement without any of the causes is cut, where nothing ends its evaluation before
 abbrev pub RefusesCut : Moment → List ℕ → Gauge → Cut → Type 0
 RefusesCut before bytes now what =
-    IsClear before bytes × OfStatement bytes HasWork × IsEnded before bytes ends.cut × IsCutBy before.meter now what
+    IsClear before bytes × OfStatement bytes (HasWork before.state.assumed) × IsEnded before bytes ends.cut × IsCutBy before.meter now what
 
 -- Why a complete statement is refused, and what it did to the meter until then. Overflow and want of units may come only while a
 -- statement without any of the causes is worked out in which work stands, and both are counted. So may what ends the evaluation, which
@@ -166,4 +172,6 @@ Refuses before bytes now r.TooWide =
     ⊎ RefusesBecause before bytes now ends.too_wide
 Refuses before bytes now r.NoMinimum = RefusesBecause before bytes now ends.no_minimum
 Refuses before bytes now r.Unbounded = RefusesBecause before bytes now ends.unbounded
+Refuses before bytes now r.NoValuation = RefusesBecause before bytes now ends.no_valuation
+Refuses before bytes now r.NotAssumed = RefusesBecause before bytes now ends.not_assumed
 Refuses before bytes now refusal = FirstGives (IsThere before bytes) causes refusal × (now ≡ before.meter)

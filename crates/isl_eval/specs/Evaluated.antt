@@ -4,7 +4,9 @@ use Rattle.std.specs.List.{list_any}
 use Rattle.std.specs.Option.{option_map_or}
 use Rattle.isl_meter.specs.Gauge.{Gauge}
 use Rattle.isl_text.specs.declared.refusal.Refusal.{Refusal}
+use Rattle.isl_assumed.specs.declared.assumed.Assumed.{Assumed}
 use Rattle.isl_lower.specs.Value.{IsWellFormedLiteral}
+use Rattle.isl_lower_params.specs.Params.{HasNoCoordinates}
 use Rattle.isl_expr.specs.declared.tree.Prefix.TheVariants as p
 use Rattle.isl_expr.specs.declared.tree.Stmt.{Stmt}
 use Rattle.isl_expr.specs.declared.tree.Stmt.TheVariants.{Empty, Bind, Show, Assume}
@@ -16,7 +18,6 @@ use Rattle.isl_values.specs.State.{Moment}
 use Rattle.isl_values.specs.Selection.{context_of}
 use Rattle.isl_values.specs.Made.{is_foreign, uses_units, IsWhyUnworked}
 use Rattle.isl_eval.specs.Tests.{ends_with_test}
-use Rattle.isl_eval.specs.Unsupported.{assumes}
 use Rattle.isl_eval.specs.Ended.{StatementEnds}
 
 -- ---- what values are worked out of
@@ -53,19 +54,26 @@ worked_parts (Assume set) = []
 abbrev pub IsTyped : ScopeView → Stmt → Type 0
 IsTyped scope stmt = (t : Option TypeView) × (type_of_statement scope stmt ≡ Ok t)
 
--- it has a type; its tests and words stand outermost; its literals are well formed; it is no assumption
+-- what it assumes are formulas alone
+abbrev pub AssumesFormulas : Stmt → Type 0
+AssumesFormulas Empty = Unit {0}
+AssumesFormulas (Bind name expr) = Unit {0}
+AssumesFormulas (Show expr) = Unit {0}
+AssumesFormulas (Assume set) = All HasNoCoordinates set.pieces
+
+-- it has a type; its tests and words stand outermost; its literals are well formed; what it assumes are formulas alone
 pub record IsEvaluable (scope : ScopeView) (stmt : Stmt) : Type 0 where
   pub typed : IsTyped scope stmt
   pub plain : list_any is_foreign (worked_parts stmt) ≡ false
   pub literals : All IsWellFormedLiteral (statement_literals stmt)
-  pub assumes_nothing : assumes stmt ≡ false
+  pub formulas : AssumesFormulas stmt
 
 -- ---- what is left
 
 -- a part that may use units stands in it
-abbrev pub works : Stmt → Bool
-works stmt = list_any uses_units (parts_of_statement stmt)
+abbrev pub works : Assumed → Stmt → Bool
+works assumed stmt = list_any (uses_units assumed) (parts_of_statement stmt)
 
 -- why it is not answered: work was cut, or its evaluation ends; where nothing uses units the meter is as it was
 abbrev pub IsWhyEnded : Moment → Stmt → Gauge → Refusal → Type 0
-IsWhyEnded before stmt now refusal = IsWhyUnworked (works stmt) (StatementEnds before stmt) before.meter now refusal
+IsWhyEnded before stmt now refusal = IsWhyUnworked (works before.state.assumed stmt) (StatementEnds before stmt) before.meter now refusal

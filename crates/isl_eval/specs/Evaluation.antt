@@ -3,19 +3,19 @@ use Rattle.std.specs.Prelude.{◌≡◌, ◌⊎◌, ◌≤◌, ℕ, ℤ, Bool, t
 use Rattle.std.specs.Prelude.{◌∷◌, ◌++◌, length, All, MatchResult, Option, None, Some, Result, Ok, Err, not, is_some, ◌||◌, if◌then◌else◌}
 use Rattle.std.specs.List.{list_any}
 use Rattle.isl_meter.specs.Gauge.{Gauge, IsCharged, limit_of}
+use Rattle.isl_meter.specs.declared.Cut.{Cut}
+use Rattle.isl_piece.specs.Cut.{IsCutFor}
 use Rattle.isl_space.specs.Limits.{most_parameters}
 use Rattle.isl_space.specs.Name.{Name}
 use Rattle.isl_space.specs.Valuation.{Valuation}
 use Rattle.isl_union.specs.KeptValue.{KeptValue, HasNoDefinitions, IsKeptValue}
 use Rattle.isl_union.specs.Fault.{IsFaultBy}
-use Rattle.isl_union.specs.Sample.{IsSampleOf}
+use Rattle.isl_assumed.specs.declared.assumed.Assumed.{Assumed}
 use Rattle.isl_union.specs.declared.fault.OpFault.{OpFault}
-use Rattle.isl_coalesce.specs.Coalesced.{IsCoalesced}
-use Rattle.isl_operators.specs.Made.{IsAnyWordOf}
 use Rattle.isl_scan.specs.declared.fault.ScanFault.{ScanFault}
 use Rattle.isl_scan.specs.declared.fault.ScanFault.TheVariants as scan_fault
 use Rattle.isl_text.specs.declared.refusal.Refusal.{Refusal}
-use Rattle.isl_text.specs.declared.refusal.Refusal.TheVariants.{NoMemory, Parametric, Unbounded}
+use Rattle.isl_text.specs.declared.refusal.Refusal.TheVariants.{NoMemory, NotAssumed, Parametric, Unbounded}
 use Rattle.isl_lower.specs.Value.{IsWellFormedLiteral}
 use Rattle.isl_expr.specs.declared.tree.Prefix.{Prefix}
 use Rattle.isl_expr.specs.declared.tree.Prefix.TheVariants as p
@@ -24,6 +24,8 @@ use Rattle.isl_expr.specs.declared.tree.Link.{Link}
 use Rattle.isl_expr.specs.declared.tree.Stmt.{Stmt}
 use Rattle.isl_expr.specs.declared.tree.Stmt.TheVariants.{Bind}
 use Rattle.isl_expr.specs.declared.tree.Binary.{Binary}
+use Rattle.isl_expr.specs.declared.tree.Binary.TheVariants as b
+use Rattle.isl_union.specs.Compare.{AreEqual, IsSubset}
 use Rattle.isl_expr.specs.Expr.{literals_of, statement_literals}
 use Rattle.isl_kinds.specs.Typed.{TypeView, ScopeView, is_dollar, has_unknown}
 use Rattle.isl_kinds.specs.Typed.{declared_of, joined_names, type_of_statement}
@@ -32,15 +34,17 @@ use Rattle.isl_flat.specs.Simple.{BindsIn}
 use Rattle.isl_eval.specs.Unsupported.{is_unsupported}
 use Rattle.isl_values.specs.declared.list.ListPart.TheVariants.{First}
 use Rattle.isl_values.specs.State.{Kept, Moment, StateView, Fits, HasNumbersUpTo, scope_of, forgotten}
-use Rattle.isl_values.specs.Selection.{IsGistOfTwo, IsKeptOf, IsSelected, Keeps, Selects, RowSelects, context_of}
-use Rattle.isl_values.specs.Ends.{CutAlone, End, Ends, EndsRow, FirstEnds}
+use Rattle.isl_values.specs.Live.{IsLiveUnder, IsSampleAt}
+use Rattle.isl_values.specs.Selection.{IsGistOfTwo, IsKeptOf, IsSelected, IsTogetherOf, Keeps, Selects, RowSelects, context_of}
+use Rattle.isl_values.specs.Ends.{because, cut, not_assumed, CutAlone, End, Ends, EndsRow, FirstEnds, OperationEnds}
 use Rattle.isl_values.specs.Made.{is_foreign, IsSoundExpr, IsSoundLink, IsPaid, IsWhyUnworked, refusal_of_cut}
 use Rattle.isl_eval.specs.Spelled.{BytesSpell}
 use Rattle.isl_eval.specs.Tests.{Elements, is_test}
 use Rattle.isl_eval.specs.Tests.{ends_with_test as row_ends_with_test}
 use Rattle.isl_eval.specs.Causes.{Cause, no_token, too_deep, no_statement, too_wide, wide_number, unsupported, causes}
 use Rattle.isl_eval.specs.Causes.{IsThere, NoneIs, FirstGives, AreDone, is_parametric}
-use Rattle.isl_eval.specs.Ended.{ListingEnds, StatementEnds}
+pub use Rattle.isl_eval.specs.Ended.{is_scan, is_listing}
+use Rattle.isl_eval.specs.Ended.{AskedEnds, IsAssumedWhereListed, ListingEnds, StatementEnds}
 use Rattle.isl_eval.specs.Evaluated.{IsTyped, IsEvaluable, made_parts, works}
 
 -- ---- reading
@@ -78,6 +82,19 @@ IsWhyUnworkable scope at stmt refusal =
     (type_of_statement scope stmt ≡ Err refusal)
     ⊎ ((IsTyped scope stmt × (is_parametric scope at stmt ≡ true) × (refusal ≡ Parametric)) ⊎ (refusal ≡ NoMemory))
 
+-- a statement that was read and may be worked out
+pub record IsClearStatement (before : Moment) (bytes : List ℕ) (stmt : Stmt) : Type 0 where
+  pub read : IsRead before bytes stmt
+  pub able : IsWorkable (scope_of before.state) before.options.at stmt
+
+-- ---- what is asked first
+
+-- why a statement is not evaluated: elements are to be listed where parameters have numbers that are not assumed; or asking that was cut
+abbrev pub IsWhyUnasked : Moment → Stmt → Gauge → Refusal → Type 0
+IsWhyUnasked before stmt now refusal =
+    ((refusal ≡ NotAssumed) × AskedEnds before stmt (because not_assumed) × (now ≡ before.meter))
+    ⊎ ((what : Cut) × (refusal ≡ refusal_of_cut what) × IsCutFor (AskedEnds before stmt cut) before.meter now what)
+
 -- ---- what is kept and shown
 
 -- at each moment of this state and this limit, the value is kept of the first part of the expression
@@ -95,32 +112,58 @@ pub record IsMakeable (scope : ScopeView) (expr : Expr) : Type 0 where
   pub known : has_unknown scope expr ≡ false
   pub literals : All IsWellFormedLiteral (literals_of expr)
 
--- the value is one of these, with these parameters, no number above the limit, and no column that is defined
-pub record IsValueWith (Content : KeptValue → Type 0) (names : List Name) (limit : ℕ) (value : KeptValue) : Type 0 where
+-- the value is one of these, with these parameters, no number above the limit, and no column that is defined; each piece of it has an
+-- element at an assumed valuation
+pub record IsValueWith (assumed : Assumed) (Content : KeptValue → Type 0) (names : List Name) (limit : ℕ) (value : KeptValue) : Type 0 where
   pub content : Content value
   pub kept : IsKeptValue value
+  pub live : IsLiveUnder assumed value
   pub params : value.params ≡ names
   pub numbers : HasNumbersUpTo limit value
   pub definitions : HasNoDefinitions value
 
+-- one element that the value has at an assumed valuation, or none
+pub record IsChosen (assumed : Assumed) (limit : ℕ) (value made : KeptValue) : Type 0 where
+  pub sample : IsSampleAt assumed value made
+  pub kept : IsKeptValue made
+  pub live : IsLiveUnder assumed made
+  pub numbers : HasNumbersUpTo limit made
+  pub definitions : HasNoDefinitions made
+
+-- the pieces of the value, put together
+pub record IsPutAt (state : StateView) (limit : ℕ) (value made : KeptValue) : Type 0 where
+  pub together : IsTogetherOf state value made
+  pub kept : IsKeptValue made
+  pub live : IsLiveUnder state.assumed made
+  pub numbers : HasNumbersUpTo limit made
+  pub definitions : HasNoDefinitions made
+
+-- the gist of the value in the context of what another one has at assumed valuations
+pub record IsGistIn (state : StateView) (limit : ℕ) (value context made : KeptValue) : Type 0 where
+  pub gist : IsGistOfTwo state value context made
+  pub kept : IsKeptValue made
+  pub live : IsLiveUnder state.assumed made
+  pub params : made.params ≡ joined_names value.params context.params
+  pub numbers : HasNumbersUpTo limit made
+  pub definitions : HasNoDefinitions made
+
 -- a value of one element of what the operand selects, or of none
 abbrev pub IsSampled : StateView → Expr → ℕ → KeptValue → Type 0
 IsSampled state operand limit value =
-    IsValueWith (λ v. (argument : KeptValue) × IsSelected state operand argument × IsSampleOf argument v)
+    IsValueWith state.assumed (λ v. (argument : KeptValue) × IsSelected state operand argument × IsSampleAt state.assumed argument v)
     (declared_of (scope_of state) operand) limit value
 
 -- what the operand selects, its pieces put together
 abbrev pub IsTogether : StateView → Expr → ℕ → KeptValue → Type 0
 IsTogether state operand limit value =
-    IsValueWith
-    (λ v. (argument : KeptValue) × IsSelected state operand argument × IsAnyWordOf p.Coalesce argument v × IsCoalesced argument v)
+    IsValueWith state.assumed (λ v. (argument : KeptValue) × IsSelected state operand argument × IsTogetherOf state argument v)
     (declared_of (scope_of state) operand) limit value
 
 -- the gist of what the left operand selects in the context of what the right one does
 abbrev pub IsSimplified : StateView → Expr → Expr → ℕ → KeptValue → Type 0
 IsSimplified state left right limit value =
-    IsValueWith
-    (λ v. (a : KeptValue) × (c : KeptValue) × IsSelected state left a × IsSelected state right c × IsGistOfTwo a c v)
+    IsValueWith state.assumed
+    (λ v. (a : KeptValue) × (c : KeptValue) × IsSelected state left a × IsSelected state right c × IsGistOfTwo state a c v)
     (joined_names (declared_of (scope_of state) left) (declared_of (scope_of state) right)) limit value
 
 abbrev pub is_coalesce : Prefix → Bool
@@ -155,6 +198,10 @@ context_in _ = None
 abbrev pub EndsWork : StateView → Expr → End → Type 0
 EndsWork state operand = FirstEnds (Ends state operand) CutAlone
 
+-- what ends an operation of two values that forms no space
+abbrev pub EndsTwo : KeptValue → KeptValue → End → Type 0
+EndsTwo left right = OperationEnds (joined_names left.params right.params) ⊥ ⊥
+
 -- what ends a row of one operator, of these operands
 abbrev pub EndsPair : StateView → Expr → Binary → Expr → End → Type 0
 EndsPair state left operator right =
@@ -164,32 +211,10 @@ EndsPair state left operator right =
 
 -- what refuses a statement whose scan ended without a listing
 abbrev pub refusal_of_fault : ScanFault → Refusal
-refusal_of_fault (scan_fault.Cut cut) = refusal_of_cut cut
+refusal_of_fault (scan_fault.Cut what) = refusal_of_cut what
 refusal_of_fault scan_fault.Unbounded = Unbounded
 
 -- ---- what is asked for
-
-abbrev pub is_scan : Prefix → Bool
-is_scan p.Domain = false
-is_scan p.Range = false
-is_scan p.Deltas = false
-is_scan p.Identity = false
-is_scan p.Wrap = false
-is_scan p.Unwrap = false
-is_scan p.Zip = false
-is_scan p.DomainMap = false
-is_scan p.RangeMap = false
-is_scan p.LexMin = false
-is_scan p.LexMax = false
-is_scan p.Coalesce = false
-is_scan p.Sample = false
-is_scan p.Scan = true
-is_scan p.Codegen = false
-
--- elements are asked for
-abbrev pub is_listing : Expr → Bool
-is_listing (Prefix' word s operand) = is_scan word
-is_listing _ = false
 
 -- elements or a truth are asked for
 abbrev pub is_asked : Expr → Bool
@@ -204,6 +229,27 @@ abbrev pub ends_with_test : List Link → Bool
 ends_with_test [] = false
 ends_with_test (link ∷ []) = is_test link.operator
 ends_with_test (link ∷ next ∷ more) = ends_with_test (next ∷ more)
+
+-- what a test tells of two values
+abbrev pub Tells : Binary → KeptValue → KeptValue → Type 0
+Tells b.Equal left right = AreEqual left right
+Tells b.Subset left right = IsSubset left right
+Tells b.ProperSubset left right = IsSubset left right × (¬ IsSubset right left)
+Tells b.Superset left right = IsSubset right left
+Tells b.ProperSuperset left right = IsSubset right left × (¬ IsSubset left right)
+Tells b.LexLess left right = ⊥
+Tells b.LexLessEqual left right = ⊥
+Tells b.LexGreater left right = ⊥
+Tells b.LexGreaterEqual left right = ⊥
+Tells b.Universal left right = ⊥
+Tells b.Union left right = ⊥
+Tells b.Difference left right = ⊥
+Tells b.RangeDifference left right = ⊥
+Tells b.Intersection left right = ⊥
+Tells b.RangeIntersection left right = ⊥
+Tells b.Gist left right = ⊥
+Tells b.Cross left right = ⊥
+Tells b.Join left right = ⊥
 
 -- what the operators before a test make of the operands on its left
 abbrev pub past_row : StateView → Expr → List Link → Elements
@@ -247,8 +293,10 @@ pub record IsTaken (before : Moment) (bytes : List ℕ) (statements : List Stmt)
   pub stmt : Stmt
   pub read : IsRead before bytes stmt
   pub able : IsWorkable (scope_of before.state) before.options.at stmt
+  pub asked : IsAssumedWhereListed before stmt
   pub simple : statements ≡ flat stmt
   pub ready : AreEvaluable (scope_of before.state) statements
+  pub each : All (IsAssumedWhereListed before) statements
 
 -- from one moment to another some of the statements were done, and the others are left
 pub record AreLeft (before now : Moment) (done left : List Stmt) : Type 0 where
@@ -256,7 +304,7 @@ pub record AreLeft (before now : Moment) (done left : List Stmt) : Type 0 where
   pub steps : AreDone before done now
   pub fits : Fits (limit_of before.meter) now.state
   pub others : forgotten now.state ≡ forgotten before.state
-  pub paid : IsPaid (list_any works done) before.meter now.meter
+  pub paid : IsPaid (list_any (works before.state.assumed) done) before.meter now.meter
   pub options : now.options ≡ before.options
 
 -- some of the statements were done, and the next has P
@@ -268,5 +316,5 @@ StopsAt before statements P =
 -- Why the statements were not answered: work was cut; or some were done, and the evaluation of the next ends.
 abbrev pub IsWhyStopped : Moment → List Stmt → Gauge → Refusal → Type 0
 IsWhyStopped before statements now refusal =
-    IsWhyUnworked (list_any works statements) (λ why. StopsAt before statements (λ moment next. StatementEnds moment next why)) before.meter
-    now refusal
+    IsWhyUnworked (list_any (works before.state.assumed) statements)
+    (λ why. StopsAt before statements (λ moment next. StatementEnds moment next why)) before.meter now refusal

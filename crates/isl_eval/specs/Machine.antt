@@ -10,8 +10,9 @@ use Rattle.isl_expr.specs.declared.tree.Expr.{Expr, Row', Prefix'}
 use Rattle.isl_expr.specs.declared.tree.Stmt.{Stmt}
 use Rattle.isl_expr.specs.declared.tree.Stmt.TheVariants.{Empty, Bind, Show, Assume}
 use Rattle.isl_flat.specs.Flat.{flat}
+use Rattle.isl_lower_params.specs.Params.{HoldsSome}
 use Rattle.isl_values.specs.declared.list.ListPart.TheVariants.{First}
-use Rattle.isl_values.specs.State.{Kept, Moment, Binds, forgotten}
+use Rattle.isl_values.specs.State.{Kept, Moment, Binds, Narrows, forgotten}
 use Rattle.isl_values.specs.Selection.{Keeps, SelectsIn}
 use Rattle.isl_values.specs.Ends.{GoesOn}
 use Rattle.isl_eval.specs.Tests.{ends_with_test, RowHolds}
@@ -25,7 +26,7 @@ pub record Answer : Type 0 where
   pub is_true : Bool
   pub elements : ℕ
 
--- what bindings and empty statements answer
+-- what bindings, assumptions and empty statements answer
 abbrev pub nothing : Answer
 nothing = record { bytes = []; is_true = false; elements = 0 }
 
@@ -64,11 +65,12 @@ Shows before (Row' s first t links) answer = ShowsRow (ends_with_test links) (Ro
 Shows before expr answer = ShowsValue before expr answer
 
 -- ---- simple statements
--- what is done to what is bound, and what is answered; an assumption is still to come
+-- What is done to what is bound and assumed, and what is answered. An assumption leaves those assumed valuations at which one formula of it
+-- holds, and takes from each value that is bound exactly the pieces that have no element there.
 abbrev pub Does : Moment → Stmt → Moment → Answer → Type 0
 Does before Empty after answer = (after.state ≡ before.state) × (answer ≡ nothing)
 Does before (Show expr) after answer = (after.state ≡ before.state) × Shows before expr answer
-Does before (Assume set) after answer = ⊥
+Does before (Assume set) after answer = Narrows before.state set.params (HoldsSome set) after.state × (answer ≡ nothing)
 Does before (Bind name expr) after answer = ((kept : Kept) × Keeps before expr kept × Binds before.state name kept after.state)
     × (answer ≡ nothing)
 

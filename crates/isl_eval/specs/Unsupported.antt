@@ -1,11 +1,9 @@
--- public: what the language has and this program has not yet. Each part that an expression may have stands here,
--- and each statement.
-use Rattle.std.specs.Prelude.{Bool, true, false, ◌||◌}
+-- public: what the language has and this program has not yet. Each part that an expression may have stands here.
+use Rattle.std.specs.Prelude.{Bool, true, false}
 use Rattle.std.specs.List.{list_any}
 use Rattle.isl_expr.specs.declared.tree.Prefix.{Prefix}
 use Rattle.isl_expr.specs.declared.tree.Prefix.TheVariants as p
 use Rattle.isl_expr.specs.declared.tree.Stmt.{Stmt}
-use Rattle.isl_expr.specs.declared.tree.Stmt.TheVariants.{Empty, Bind, Show, Assume}
 use Rattle.isl_kinds.specs.Parts.{Part, parts_of_statement}
 use Rattle.isl_kinds.specs.Parts as part
 
@@ -38,13 +36,6 @@ is_unsupported_part part.inverse = false
 is_unsupported_part part.application = false
 is_unsupported_part (part.item number) = false
 
--- it is an assumption
-abbrev pub assumes : Stmt → Bool
-assumes Empty = false
-assumes (Bind name expr) = false
-assumes (Show expr) = false
-assumes (Assume set) = true
-
--- it is an assumption, or something that is not supported stands in it
+-- something that is not supported stands in the statement
 abbrev pub is_unsupported : Stmt → Bool
-is_unsupported stmt = assumes stmt || list_any is_unsupported_part (parts_of_statement stmt)
+is_unsupported stmt = list_any is_unsupported_part (parts_of_statement stmt)

@@ -6,6 +6,7 @@ ghost use Rattle.std.specs.Option.{option_copied};
 ghost use Rattle.isl_meter.specs.Gauge.{IsCharged, limit_of};
 ghost use Rattle.isl_space.specs.Element.{Element};
 ghost use Rattle.isl_space.specs.Valuation as valuation;
+ghost use Rattle.isl_assumed.specs.Assumed.{Assumes};
 ghost use Rattle.isl_expr.specs.declared.tree.Expr as trees;
 ghost use Rattle.isl_expr.specs.declared.tree.Stmt.TheVariants as s;
 ghost use Rattle.isl_expr.specs.declared.tree.Binary.TheVariants as b;
@@ -13,18 +14,20 @@ ghost use Rattle.isl_kinds.specs.Lines.{is_kind};
 ghost use Rattle.isl_kinds.specs.Parts.{parts_of};
 ghost use Rattle.isl_kinds.specs.Typed.{kind_of};
 ghost use Rattle.isl_flat.specs.Flat.{is_gist, is_sample};
-ghost use Rattle.isl_values.specs.State.{Moment, scope_of, Fits};
-ghost use Rattle.isl_values.specs.Made.{IsPaid, IsSoundExpr, IsWhyUnworked, uses_units};
-ghost use Rattle.isl_values.specs.Ends.{Ends, GoesOn};
+ghost use Rattle.isl_union.specs.KeptValue.{HasNoDefinitions, IsKeptValue};
+ghost use Rattle.isl_values.specs.Live.{IsLiveUnder};
+ghost use Rattle.isl_values.specs.State.{Moment, scope_of, Fits, HasNumbersUpTo};
+ghost use Rattle.isl_values.specs.Made.{IsPaid, IsSoundExpr, IsWhyUnmade, IsWhyUnworked, uses_units};
+ghost use Rattle.isl_values.specs.Ends.{CutAlone, Ends, GoesOn};
 ghost use Rattle.isl_values.specs.Selection.{Selects};
 ghost use Rattle.isl_eval.specs.Listed.{IsListed};
-ghost use Rattle.isl_eval.specs.Ended.{StatementEnds};
+ghost use Rattle.isl_eval.specs.Ended.{IsAssumedWhereListed, StatementEnds};
 ghost use Rattle.isl_eval.specs.Machine.{Shows, ShowsValue, listed, told};
 ghost use Rattle.isl_eval.specs.Evaluated.{IsEvaluable, IsWhyEnded};
 ghost use Rattle.isl_eval.specs.Tests.{TestHolds};
 ghost use Rattle.isl_eval.specs.Evaluation as spec;
 ghost use Rattle.isl_eval.specs.Evaluation.{AreKeptIn, EndsListing, EndsPair, EndsTest, IsKeptIn, IsMakeable, IsReadyTest};
-ghost use Rattle.isl_eval.specs.Evaluation.{EndsWork, IsSampled, IsSimplified, IsTogether, past_row};
+ghost use Rattle.isl_eval.specs.Evaluation.{EndsTwo, EndsWork, IsChosen, IsGistIn, IsPutAt, IsSampled, IsSimplified, IsTogether, past_row};
 
 use crate::answers::Answer;
 use crate::test::{ends_with_test, tested};
@@ -36,7 +39,9 @@ use isl_scan::{ScanFault, scan};
 use isl_space::{Name, Params};
 use isl_text::refusal::Refusal;
 use isl_union::{OpFault, Value};
-use isl_values::{Kept, State, flat_list_of, flat_value_of, refusal_of, value_of};
+use isl_values::{
+    Kept, State, flat_list_of, flat_value_of, refusal_of, right_under, under_own, value_of,
+};
 use isl_words::Options;
 use std::alloc::{AllocError, Global};
 use std::rc::Rc;
@@ -73,7 +78,7 @@ fn refusal_of_fault(fault: ScanFault) -> Refusal
     }
 }
 
-// The elements that an operand selects where its parameters have these numbers.
+// The elements that an operand selects where its parameters have these numbers, which are assumed.
 fn listed(
     alloc: Global,
     operand: &Expr,
@@ -82,6 +87,7 @@ fn listed(
     meter: &mut Meter,
 ) -> Result<Answer, Refusal>
     requires sound { IsSoundExpr (scope_of state.now) operand.now }
+    requires assumed { Assumes state.now.assumed options.now.at }
     requires fits { Fits (limit_of meter.old) state.now }
     ensures made { MatchResult result
         (λ answer. ((elements : List Element) × IsListed (λ element. Selects state.now operand.now options.now.at element) elements
@@ -97,7 +103,29 @@ fn listed(
     }
 }
 
-// A value of one element of an operand.
+// One element that a value has at an assumed valuation.
+fn chosen(
+    alloc: Global,
+    value: Rc<Value>,
+    state: &State,
+    meter: &mut Meter,
+) -> Result<Rc<Value>, Refusal>
+    requires kept { IsKeptValue value.value }
+    requires numbers { HasNumbersUpTo (unsigned_abs (limit_of meter.old)) value.value }
+    requires fits { Fits (limit_of meter.old) state.now }
+    ensures { MatchResult result
+        (λ sample. IsChosen state.now.assumed (unsigned_abs (limit_of meter.old)) value.value sample.value × IsCharged meter.old meter.new)
+        (IsWhyUnmade true CutAlone meter.old meter.new) }
+{
+    let under = under_own(alloc, value, state, meter)?;
+    match under.sample(alloc, meter) {
+        Ok(sample) => Ok(Rc::new(alloc, sample)?),
+        Err(OpFault::Cut(cut)) => Err(refusal_of(cut)),
+        Err(OpFault::TooWide) => unreachable!(),
+    }
+}
+
+// A value of one element that an operand selects at an assumed valuation.
 fn sampled(
     alloc: Global,
     operand: &Expr,
@@ -112,10 +140,27 @@ fn sampled(
     ensures goes_on { IfOk result (λ _. GoesOn (Ends state.now operand.now)) }
 {
     let value = value_of(alloc, operand, state, meter)?;
-    match value.sample(alloc, meter) {
-        Ok(sample) => Ok(Rc::new(alloc, sample)?),
-        Err(OpFault::Cut(cut)) => Err(refusal_of(cut)),
-        Err(OpFault::TooWide) => unreachable!(),
+    chosen(alloc, value, state, meter)
+}
+
+// The pieces of a value, put together.
+fn put_together(
+    alloc: Global,
+    value: &Value,
+    state: &State,
+    meter: &mut Meter,
+) -> Result<Rc<Value>, Refusal>
+    requires live { IsLiveUnder state.now.assumed value.now }
+    requires numbers { HasNumbersUpTo (unsigned_abs (limit_of meter.old)) value.now }
+    requires definitions { HasNoDefinitions value.now }
+    requires fits { Fits (limit_of meter.old) state.now }
+    ensures { MatchResult result
+        (λ together. IsPutAt state.now (unsigned_abs (limit_of meter.old)) value.now together.value × IsCharged meter.old meter.new)
+        (IsWhyUnmade true CutAlone meter.old meter.new) }
+{
+    match coalesce(alloc, value, state.assumed(), meter) {
+        Ok(together) => Ok(Rc::new(alloc, together)?),
+        Err(cut) => Err(refusal_of(cut)),
     }
 }
 
@@ -134,13 +179,38 @@ fn together(
     ensures goes_on { IfOk result (λ _. GoesOn (Ends state.now operand.now)) }
 {
     let value = flat_value_of(alloc, operand, state, meter)?;
-    match coalesce(alloc, &value, meter) {
-        Ok(together) => Ok(Rc::new(alloc, together)?),
-        Err(cut) => Err(refusal_of(cut)),
+    put_together(alloc, &value, state, meter)
+}
+
+// The gist of a value in the context of what another one has at assumed valuations.
+fn gist_in(
+    alloc: Global,
+    value: &Value,
+    context: Rc<Value>,
+    state: &State,
+    meter: &mut Meter,
+) -> Result<Rc<Value>, Refusal>
+    requires kept { IsKeptValue value.now }
+    requires context_kept { IsKeptValue context.value }
+    requires numbers { HasNumbersUpTo (unsigned_abs (limit_of meter.old)) value.now }
+    requires context_numbers { HasNumbersUpTo (unsigned_abs (limit_of meter.old)) context.value }
+    requires definitions { HasNoDefinitions value.now }
+    requires context_definitions { HasNoDefinitions context.value }
+    requires fits { Fits (limit_of meter.old) state.now }
+    ensures made { MatchResult result
+        (λ gist. IsGistIn state.now (unsigned_abs (limit_of meter.old)) value.now context.value gist.value × IsCharged meter.old meter.new)
+        (IsWhyUnworked true (EndsTwo value.now context.value) meter.old meter.new) }
+    ensures goes_on { IfOk result (λ _. GoesOn (EndsTwo value.now context.value)) }
+{
+    let under = right_under(alloc, value, context, state, meter)?;
+    match gist(alloc, value, &under, meter) {
+        Ok(gist) => Ok(Rc::new(alloc, gist)?),
+        Err(OpFault::Cut(cut)) => Err(refusal_of(cut)),
+        Err(OpFault::TooWide) => Err(Refusal::TooWide),
     }
 }
 
-// The gist of one operand in the context of another one.
+// The gist of one operand in the context of what another one selects at assumed valuations.
 fn simplified(
     alloc: Global,
     left: &Expr,
@@ -158,11 +228,7 @@ fn simplified(
 {
     let value = flat_value_of(alloc, left, state, meter)?;
     let context = flat_value_of(alloc, right, state, meter)?;
-    match gist(alloc, &value, &context, meter) {
-        Ok(gist) => Ok(Rc::new(alloc, gist)?),
-        Err(OpFault::Cut(cut)) => Err(refusal_of(cut)),
-        Err(OpFault::TooWide) => Err(Refusal::TooWide),
-    }
+    gist_in(alloc, &value, context, state, meter)
 }
 
 // What an expression selects, where that is kept of it.
@@ -177,8 +243,8 @@ fn selected(
     requires fits { Fits (limit_of meter.old) state.now }
     ensures made { MatchResult result
         (λ value. IsKeptIn state.now (limit_of meter.old) expr.now value.value
-        × IsPaid (list_any uses_units (parts_of expr.now)) meter.old meter.new)
-        (IsWhyUnworked (list_any uses_units (parts_of expr.now)) (Ends state.now expr.now) meter.old meter.new) }
+        × IsPaid (list_any (uses_units state.now.assumed) (parts_of expr.now)) meter.old meter.new)
+        (IsWhyUnworked (list_any (uses_units state.now.assumed) (parts_of expr.now)) (Ends state.now expr.now) meter.old meter.new) }
     ensures goes_on { IfOk result (λ _. GoesOn (Ends state.now expr.now)) }
 {
     flat_value_of(alloc, expr, state, meter)
@@ -210,8 +276,8 @@ fn word_kept(
     requires fits { Fits (limit_of meter.old) state.now }
     ensures made { MatchResult result
         (λ value. IsKeptIn state.now (limit_of meter.old) expr.now value.value
-        × IsPaid (list_any uses_units (parts_of expr.now)) meter.old meter.new)
-        (IsWhyUnworked (list_any uses_units (parts_of expr.now)) (Ends state.now expr.now) meter.old meter.new) }
+        × IsPaid (list_any (uses_units state.now.assumed) (parts_of expr.now)) meter.old meter.new)
+        (IsWhyUnworked (list_any (uses_units state.now.assumed) (parts_of expr.now)) (Ends state.now expr.now) meter.old meter.new) }
     ensures goes_on { IfOk result (λ _. GoesOn (Ends state.now expr.now)) }
 {
     if is_sample(word) {
@@ -253,8 +319,8 @@ fn row_kept(
     requires fits { Fits (limit_of meter.old) state.now }
     ensures made { MatchResult result
         (λ value. IsKeptIn state.now (limit_of meter.old) expr.now value.value
-        × IsPaid (list_any uses_units (parts_of expr.now)) meter.old meter.new)
-        (IsWhyUnworked (list_any uses_units (parts_of expr.now)) (Ends state.now expr.now) meter.old meter.new) }
+        × IsPaid (list_any (uses_units state.now.assumed) (parts_of expr.now)) meter.old meter.new)
+        (IsWhyUnworked (list_any (uses_units state.now.assumed) (parts_of expr.now)) (Ends state.now expr.now) meter.old meter.new) }
     ensures goes_on { IfOk result (λ _. GoesOn (Ends state.now expr.now)) }
 {
     match context(links) {
@@ -275,8 +341,8 @@ fn single(
     requires fits { Fits (limit_of meter.old) state.now }
     ensures made { MatchResult result
         (λ value. IsKeptIn state.now (limit_of meter.old) expr.now value.value
-        × IsPaid (list_any uses_units (parts_of expr.now)) meter.old meter.new)
-        (IsWhyUnworked (list_any uses_units (parts_of expr.now)) (Ends state.now expr.now) meter.old meter.new) }
+        × IsPaid (list_any (uses_units state.now.assumed) (parts_of expr.now)) meter.old meter.new)
+        (IsWhyUnworked (list_any (uses_units state.now.assumed) (parts_of expr.now)) (Ends state.now expr.now) meter.old meter.new) }
     ensures goes_on { IfOk result (λ _. GoesOn (Ends state.now expr.now)) }
 {
     match expr {
@@ -304,8 +370,8 @@ fn list_kept(alloc: Global, expr: &Expr, state: &State, meter: &mut Meter) -> Re
     requires fits { Fits (limit_of meter.old) state.now }
     ensures made { MatchResult result
         (λ kept. AreKeptIn state.now (limit_of meter.old) expr.now kept
-        × IsPaid (list_any uses_units (parts_of expr.now)) meter.old meter.new)
-        (IsWhyUnworked (list_any uses_units (parts_of expr.now)) (Ends state.now expr.now) meter.old meter.new) }
+        × IsPaid (list_any (uses_units state.now.assumed) (parts_of expr.now)) meter.old meter.new)
+        (IsWhyUnworked (list_any (uses_units state.now.assumed) (parts_of expr.now)) (Ends state.now expr.now) meter.old meter.new) }
     ensures goes_on { IfOk result (λ _. GoesOn (Ends state.now expr.now)) }
 {
     match flat_list_of(alloc, expr, state, meter) {
@@ -328,8 +394,8 @@ fn value_kept(
     requires fits { Fits (limit_of meter.old) state.now }
     ensures made { MatchResult result
         (λ kept. AreKeptIn state.now (limit_of meter.old) expr.now kept
-        × IsPaid (list_any uses_units (parts_of expr.now)) meter.old meter.new)
-        (IsWhyUnworked (list_any uses_units (parts_of expr.now)) (Ends state.now expr.now) meter.old meter.new) }
+        × IsPaid (list_any (uses_units state.now.assumed) (parts_of expr.now)) meter.old meter.new)
+        (IsWhyUnworked (list_any (uses_units state.now.assumed) (parts_of expr.now)) (Ends state.now expr.now) meter.old meter.new) }
     ensures goes_on { IfOk result (λ _. GoesOn (Ends state.now expr.now)) }
 {
     match single(alloc, expr, state, meter) {
@@ -351,8 +417,8 @@ pub(crate) fn content(
     requires fits { Fits (limit_of meter.old) state.now }
     ensures made { MatchResult result
         (λ kept. AreKeptIn state.now (limit_of meter.old) expr.now kept
-        × IsPaid (list_any uses_units (parts_of expr.now)) meter.old meter.new)
-        (IsWhyUnworked (list_any uses_units (parts_of expr.now)) (Ends state.now expr.now) meter.old meter.new) }
+        × IsPaid (list_any (uses_units state.now.assumed) (parts_of expr.now)) meter.old meter.new)
+        (IsWhyUnworked (list_any (uses_units state.now.assumed) (parts_of expr.now)) (Ends state.now expr.now) meter.old meter.new) }
     ensures goes_on { IfOk result (λ _. GoesOn (Ends state.now expr.now)) }
 {
     if kind == ValueKind::List {
@@ -376,8 +442,8 @@ fn value_shown(
     ensures made { MatchResult result
         (λ answer. ((before : Moment) → before.state ≡ state.now → limit_of before.meter ≡ limit_of meter.old
         → ShowsValue before expr.now answer)
-        × IsPaid (list_any uses_units (parts_of expr.now)) meter.old meter.new)
-        (IsWhyUnworked (list_any uses_units (parts_of expr.now)) (Ends state.now expr.now) meter.old meter.new) }
+        × IsPaid (list_any (uses_units state.now.assumed) (parts_of expr.now)) meter.old meter.new)
+        (IsWhyUnworked (list_any (uses_units state.now.assumed) (parts_of expr.now)) (Ends state.now expr.now) meter.old meter.new) }
     ensures goes_on { IfOk result (λ _. GoesOn (Ends state.now expr.now)) }
 {
     let kept = content(alloc, expr, kind, state, meter)?;
@@ -427,10 +493,11 @@ fn asked_shown(
 ) -> Result<Answer, Refusal>
     requires asked { spec.is_asked expr.now ≡ true }
     requires evaluable { IsEvaluable (scope_of state.now) (s.Show expr.now) }
+    requires assumed { IsAssumedWhereListed (record { state = state.now; meter = meter.old; options = options.now }) (s.Show expr.now) }
     requires fits { Fits (limit_of meter.old) state.now }
     ensures made { MatchResult result
         (λ answer. Shows (record { state = state.now; meter = meter.old; options = options.now }) expr.now answer
-        × IsPaid (list_any uses_units (parts_of expr.now)) meter.old meter.new)
+        × IsPaid (list_any (uses_units state.now.assumed) (parts_of expr.now)) meter.old meter.new)
         (IsWhyEnded (record { state = state.now; meter = meter.old; options = options.now }) (s.Show expr.now) meter.new) }
     ensures goes_on { IfOk result (λ _. GoesOn (StatementEnds (record { state = state.now; meter = meter.old; options = options.now }) (s.Show expr.now))) }
 {
@@ -454,11 +521,12 @@ pub(crate) fn shown(
     meter: &mut Meter,
 ) -> Result<Answer, Refusal>
     requires evaluable { IsEvaluable (scope_of state.now) (s.Show expr.now) }
+    requires assumed { IsAssumedWhereListed (record { state = state.now; meter = meter.old; options = options.now }) (s.Show expr.now) }
     requires kind { kind_of (scope_of state.now) expr.now ≡ Some kind }
     requires fits { Fits (limit_of meter.old) state.now }
     ensures made { MatchResult result
         (λ answer. Shows (record { state = state.now; meter = meter.old; options = options.now }) expr.now answer
-        × IsPaid (list_any uses_units (parts_of expr.now)) meter.old meter.new)
+        × IsPaid (list_any (uses_units state.now.assumed) (parts_of expr.now)) meter.old meter.new)
         (IsWhyEnded (record { state = state.now; meter = meter.old; options = options.now }) (s.Show expr.now) meter.new) }
     ensures goes_on { IfOk result (λ _. GoesOn (StatementEnds (record { state = state.now; meter = meter.old; options = options.now }) (s.Show expr.now))) }
 {

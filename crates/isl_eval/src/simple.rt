@@ -1,31 +1,37 @@
 //! One simple statement: one step of the machine.
 
-ghost use Rattle.std.specs.Prelude.{◌≡◌, ◌≢◌, true, false, Some, Ok, IfErr, IfOk, MatchResult, OnErr, OnOk};
+ghost use Rattle.std.specs.Prelude.{◌≡◌, ◌≢◌, All, true, false, Some, Ok, IfErr, IfOk, MatchResult, OnErr, OnOk};
 ghost use Rattle.std.specs.List.{list_any};
-ghost use Rattle.isl_meter.specs.Gauge.{IsKept, limit_of};
+ghost use Rattle.isl_meter.specs.Gauge.{IsCharged, IsKept, limit_of};
 ghost use Rattle.isl_space.specs.Name.{Name as NameView};
+ghost use Rattle.isl_tree.specs.declared.tree.Literal.{Literal as LiteralView};
 ghost use Rattle.isl_expr.specs.declared.tree.Expr as trees;
 ghost use Rattle.isl_expr.specs.declared.tree.Stmt.TheVariants as s;
 ghost use Rattle.isl_kinds.specs.Parts.{parts_of};
 ghost use Rattle.isl_kinds.specs.Typed.{is_dollar, type_of_statement};
 ghost use Rattle.isl_stmt.specs.Names.{binds_dollar};
-ghost use Rattle.isl_values.specs.State.{Binds, Kept as KeptView, Moment, forgotten, scope_of, Fits, IsSettled};
+ghost use Rattle.isl_values.specs.State.{Binds, Kept as KeptView, Moment, Narrows, forgotten, scope_of, Fits, IsSettled};
 ghost use Rattle.isl_values.specs.Made.{IsPaid, IsWhyUnworked, uses_units};
 ghost use Rattle.isl_values.specs.Ends.{Ends, GoesOn};
 ghost use Rattle.isl_values.specs.Selection.{Keeps};
+ghost use Rattle.isl_lower.specs.Value.{IsWellFormedLiteral};
+ghost use Rattle.isl_lower_params.specs.Params.{HasNoCoordinates, HoldsSome};
+ghost use Rattle.isl_tree.specs.Known.{literal_is_known};
+ghost use Rattle.isl_eval.specs.Ended.{IsAssumedWhereListed, NarrowedEnds};
 ghost use Rattle.isl_eval.specs.Machine.{Step};
 ghost use Rattle.isl_eval.specs.Evaluated.{IsEvaluable, IsTyped, IsWhyEnded, works};
-ghost use Rattle.isl_eval.specs.Unsupported.{assumes};
 
 use crate::answers::Answer;
 use crate::shown::{content, shown};
 use isl_expr::tree::{Expr, Stmt};
 use isl_flat::SimpleStmt;
 use isl_kinds::{Typed, typed_statement};
+use isl_lower_params::lower_params;
 use isl_meter::Meter;
 use isl_space::Name;
 use isl_text::refusal::Refusal;
-use isl_values::State;
+use isl_tree::tree::Literal;
+use isl_values::{State, refusal_of};
 use isl_words::Options;
 use std::alloc::Global;
 
@@ -33,7 +39,7 @@ use std::alloc::Global;
 fn type_of(alloc: Global, stmt: &Stmt, state: &State) -> Result<Typed, Refusal>
     requires typed { IsTyped (scope_of state.now) stmt.now }
     requires full { stmt.now ≢ s.Empty }
-    requires plain { assumes stmt.now ≡ false }
+    requires other { (set : LiteralView) → stmt.now ≢ s.Assume set }
     ensures typed { IfOk result (λ typed. type_of_statement (scope_of state.now) stmt.now ≡ Ok (Some typed)) }
     ensures faults { IfErr result (λ refusal. refusal ≡ Refusal.NoMemory) }
 {
@@ -59,12 +65,13 @@ fn bound(
     ensures made { MatchResult result
         (λ _. ((before : Moment) → before.state ≡ state.old → limit_of before.meter ≡ limit_of meter.old
         → (kept : KeptView) × Keeps before expr.now kept × Binds state.old name.now kept state.new)
-        × IsPaid (works stmt.now) meter.old meter.new)
-        (λ refusal. IsWhyUnworked (works stmt.now) (Ends state.old expr.now) meter.old meter.new refusal
+        × IsPaid (works state.old.assumed stmt.now) meter.old meter.new)
+        (λ refusal. IsWhyUnworked (works state.old.assumed stmt.now) (Ends state.old expr.now) meter.old meter.new refusal
         × (state.new ≡ state.old)) }
     ensures goes_on { OnOk result (GoesOn (Ends state.old expr.now)) }
     ensures dollar { OnOk result (is_dollar name.now ≡ true → forgotten state.new ≡ forgotten state.old) }
     ensures settled { OnOk result (is_dollar name.now ≡ false → IsSettled state.old → IsSettled state.new) }
+    ensures fits { OnOk result (Fits (limit_of meter.old) state.new) }
 {
     let name = name.copy()?;
     let typed = type_of(alloc, stmt, state)?;
@@ -73,15 +80,41 @@ fn bound(
     Ok(())
 }
 
-/// Evaluates a simple statement. A parameter that is given no number counts as 0 where elements are listed.
+// Leaves those assumed valuations at which one formula of the set holds.
+fn narrowed(
+    alloc: Global,
+    set: &Literal,
+    state: &mut State,
+    meter: &mut Meter,
+) -> Result<(), Refusal>
+    requires known { literal_is_known set.now ≡ true }
+    requires well_formed { IsWellFormedLiteral set.now }
+    requires formulas { All HasNoCoordinates set.now.pieces }
+    requires fits { Fits (limit_of meter.old) state.old }
+    ensures made { MatchResult result
+        (λ _. Narrows state.old set.now.params (HoldsSome set.now) state.new × IsCharged meter.old meter.new)
+        (λ refusal. IsWhyUnworked true (NarrowedEnds state.old set.now) meter.old meter.new refusal × (state.new ≡ state.old)) }
+    ensures goes_on { OnOk result (GoesOn (NarrowedEnds state.old set.now)) }
+    ensures settled { OnOk result (IsSettled state.old → IsSettled state.new) }
+    ensures fits { OnOk result (Fits (limit_of meter.old) state.new) }
+{
+    let set = match lower_params(alloc, set, meter) {
+        Ok(set) => set,
+        Err(cut) => return Err(refusal_of(cut)),
+    };
+    state.narrow(alloc, &set, meter)
+}
+
+/// Evaluates a simple statement. A parameter that is given no number counts as 0 where elements are listed; these numbers are assumed.
 ///
-/// `Ok` gives one whole answer, which may be of no bytes, and changes what is bound. A refusal leaves what is bound. (the iscc chapter of
-/// the barvinok manual)
+/// `Ok` gives one whole answer, which may be of no bytes, and changes what is bound and assumed. A refusal leaves both. (isl manual, on
+/// parameter domains; the iscc chapter of the barvinok manual)
 ///
 /// # Errors
 /// What ends the evaluation first, operands from the left and inner ones first: `TooWide` where an operation has more than 16 parameters,
-/// or forms a space that is too wide; `NoMinimum` where there is no least or greatest element; and `Unbounded` where infinitely many
-/// elements are to be listed. `Overflow` and `Budget` where the meter counted them, at work that nothing ends before; and `NoMemory`.
+/// or forms a space that is too wide, or more than 16 names are assumed together; `NoMinimum` where there is no least or greatest element;
+/// `Unbounded` where infinitely many elements are to be listed; and `NoValuation` where no assumed valuation is left. `Overflow` and
+/// `Budget` where the meter counted them, at work that nothing ends before; and `NoMemory`.
 pub fn eval(
     alloc: Global,
     state: &mut State,
@@ -90,15 +123,17 @@ pub fn eval(
     meter: &mut Meter,
 ) -> Result<Answer, Refusal>
     requires evaluable { IsEvaluable (scope_of state.old) stmt.now }
+    requires asked { IsAssumedWhereListed (record { state = state.old; meter = meter.old; options = options.now }) stmt.now }
     requires fits { Fits (limit_of meter.old) state.old }
     ensures ok { IfOk result (Step (record { state = state.old; meter = meter.old; options = options.now }) stmt.now
         (record { state = state.new; meter = meter.new; options = options.now })) }
     ensures err { OnErr result (state.new ≡ state.old) }
     ensures cause { IfErr result (IsWhyEnded (record { state = state.old; meter = meter.old; options = options.now }) stmt.now meter.new) }
-    ensures meter { MatchResult result (λ _. IsPaid (works stmt.now) meter.old meter.new) (λ _. IsKept meter.old meter.new) }
+    ensures meter { MatchResult result (λ _. IsPaid (works state.old.assumed stmt.now) meter.old meter.new) (λ _. IsKept meter.old meter.new) }
     ensures dollar { (name : NameView) (expr : trees.Expr) → stmt.now ≡ s.Bind name expr → is_dollar name ≡ true
         → forgotten state.new ≡ forgotten state.old }
     ensures settled { binds_dollar stmt.now ≡ false → IsSettled state.old → IsSettled state.new }
+    ensures fits { OnOk result (Fits (limit_of meter.old) state.new) }
 {
     match stmt {
         Stmt::Empty => Ok(Answer::nothing(alloc)),
@@ -110,6 +145,9 @@ pub fn eval(
             let typed = type_of(alloc, stmt, state)?;
             shown(alloc, expr, typed.kind(), state, options, meter)
         }
-        Stmt::Assume(_) => unreachable!(),
+        Stmt::Assume(set) => {
+            narrowed(alloc, set, state, meter)?;
+            Ok(Answer::nothing(alloc))
+        }
     }
 }

@@ -1,6 +1,6 @@
 //! One statement of a script.
 
-ghost use Rattle.std.specs.Prelude.{◌≡◌, ◌≢◌, ◌∷◌, [], false, IfOk, OnErr, IfErr, MatchResult};
+ghost use Rattle.std.specs.Prelude.{◌≡◌, ◌≢◌, ◌∷◌, [], All, false, IfOk, OnErr, OnOk, IfErr, MatchResult};
 ghost use Rattle.std.specs.List.{list_any};
 ghost use Rattle.isl_meter.specs.Gauge.{limit_of, IsCharged, IsKept};
 ghost use Rattle.isl_expr.specs.declared.tree.Stmt as trees;
@@ -10,36 +10,95 @@ ghost use Rattle.isl_values.specs.Made.{IsPaid};
 ghost use Rattle.isl_eval.specs.Causes.{Refuses};
 ghost use Rattle.isl_eval.specs.Machine.{Steps};
 ghost use Rattle.isl_eval.specs.Run.{Answers};
+ghost use Rattle.isl_eval.specs.Ended.{IsAssumedWhereListed};
+ghost use Rattle.isl_eval.specs.Ended as ended;
 ghost use Rattle.isl_eval.specs.Evaluated.{works};
-ghost use Rattle.isl_eval.specs.Evaluation.{AreEvaluable, IsTaken, IsWhyStopped};
+ghost use Rattle.isl_eval.specs.Evaluation.{AreEvaluable, IsClearStatement, IsTaken, IsWhyStopped, IsWhyUnasked};
 
 use crate::answers::Answer;
 use crate::simple::eval;
 use crate::spelled::read;
-use crate::workable::check;
+use crate::workable::{check, is_listing};
+use isl_expr::tree::Stmt;
 use isl_flat::{SimpleStmt, flatten};
 use isl_meter::Meter;
 use isl_text::refusal::Refusal;
-use isl_values::State;
+use isl_values::{State, refusal_of};
 use isl_words::Options;
 use std::alloc::Global;
 
-// The simple statements of the statement that the bytes spell, where it is to be answered.
-fn statements_of(
+// Whether elements are asked for.
+fn lists(stmt: &Stmt) -> bool
+    ensures { result ≡ ended.lists stmt.now }
+{
+    match stmt {
+        Stmt::Show(expr) => is_listing(expr),
+        Stmt::Empty | Stmt::Bind(..) | Stmt::Assume(_) => false,
+    }
+}
+
+// Asks whether the numbers that parameters are given are assumed, where elements are to be listed.
+fn ask(
+    alloc: Global,
+    stmt: &Stmt,
+    state: &State,
+    options: &Options,
+    meter: &mut Meter,
+) -> Result<(), Refusal>
+    requires fits { Fits (limit_of meter.old) state.now }
+    ensures { MatchResult result
+        (λ _. IsAssumedWhereListed (record { state = state.now; meter = meter.old; options = options.now }) stmt.now × (meter.new ≡ meter.old))
+        (IsWhyUnasked (record { state = state.now; meter = meter.old; options = options.now }) stmt.now meter.new) }
+{
+    if !lists(stmt) {
+        return Ok(());
+    }
+    match state.assumed().holds(alloc, options.at(), meter) {
+        Ok(true) => Ok(()),
+        Ok(false) => Err(Refusal::NotAssumed),
+        Err(cut) => Err(refusal_of(cut)),
+    }
+}
+
+// The statement that the bytes spell, where nothing that they say is a cause to refuse it.
+fn clear_statement(
     alloc: Global,
     bytes: &[u8],
     state: &State,
     options: &Options,
     meter: &Meter,
-) -> Result<Vec<SimpleStmt>, Refusal>
+) -> Result<Stmt, Refusal>
     ensures { (before : Moment) → before ≡ record { state = state.now; meter = meter.now; options = options.now }
-        → MatchResult result (λ statements. IsTaken before bytes.now statements.items) (Refuses before bytes.now meter.now) }
+        → MatchResult result (IsClearStatement before bytes.now) (Refuses before bytes.now meter.now) }
 {
     let stmt = match read(alloc, bytes, meter) {
         Ok(stmt) => stmt,
         Err(refusal) => return Err(refusal),
     };
     match check(alloc, &stmt, state.scope(), options.at()) {
+        Ok(()) => Ok(stmt),
+        Err(refusal) => Err(refusal),
+    }
+}
+
+// The simple statements of the statement that the bytes spell, where it is to be evaluated.
+fn statements_of(
+    alloc: Global,
+    bytes: &[u8],
+    state: &State,
+    options: &Options,
+    meter: &mut Meter,
+) -> Result<Vec<SimpleStmt>, Refusal>
+    requires fits { Fits (limit_of meter.old) state.now }
+    ensures taken { (before : Moment) → before ≡ record { state = state.now; meter = meter.old; options = options.now }
+        → MatchResult result (λ statements. IsTaken before bytes.now statements.items) (Refuses before bytes.now meter.new) }
+    ensures meter { MatchResult result (λ _. meter.new ≡ meter.old) (λ _. IsKept meter.old meter.new) }
+{
+    let stmt = match clear_statement(alloc, bytes, state, options, meter) {
+        Ok(stmt) => stmt,
+        Err(refusal) => return Err(refusal),
+    };
+    match ask(alloc, &stmt, state, options, meter) {
         Ok(()) => Ok(flatten(alloc, stmt)?),
         Err(refusal) => Err(refusal),
     }
@@ -54,15 +113,17 @@ fn evaluate(
     meter: &mut Meter,
 ) -> Result<Answer, Refusal>
     requires evaluable { AreEvaluable (scope_of state.old) statements.now }
+    requires asked { All (IsAssumedWhereListed (record { state = state.old; meter = meter.old; options = options.now })) statements.now }
     requires fits { Fits (limit_of meter.old) state.old }
     ensures ok { IfOk result (Steps (record { state = state.old; meter = meter.old; options = options.now }) statements.now
         (record { state = state.new; meter = meter.new; options = options.now })) }
     ensures err { OnErr result (forgotten state.new ≡ forgotten state.old) }
     ensures shown { IfOk result (λ answer. answer.bytes ≢ [] → forgotten state.new ≡ forgotten state.old) }
     ensures cause { IfErr result (IsWhyStopped (record { state = state.old; meter = meter.old; options = options.now }) statements.now meter.new) }
-    ensures meter { MatchResult result (λ _. IsPaid (list_any works statements.now) meter.old meter.new) (λ _. IsKept meter.old meter.new) }
+    ensures meter { MatchResult result (λ _. IsPaid (list_any (works state.old.assumed) statements.now) meter.old meter.new) (λ _. IsKept meter.old meter.new) }
     ensures settled { (only : trees.Stmt) → statements.now ≡ only ∷ [] → binds_dollar only ≡ false → IsSettled state.old
         → IsSettled state.new }
+    ensures fits { OnOk result (Fits (limit_of meter.old) state.new) }
 {
     let Some((last, others)) = statements.split_last() else {
         unreachable!()
@@ -85,14 +146,16 @@ fn forget_after(state: &mut State, statements: &[SimpleStmt])
 
 /// Answers the statement that the bytes spell. It begins with the meter as it is: the caller gives the budget back.
 ///
-/// `Ok` gives one whole answer, which may be of no bytes, and changes what is bound. A refusal leaves what is bound, and so does an answer
-/// that has bytes. (the iscc chapter of the barvinok manual)
+/// `Ok` gives one whole answer, which may be of no bytes, and changes what is bound and assumed. A refusal leaves both, and so does an answer
+/// that has bytes. (isl manual, on parameter domains; the iscc chapter of the barvinok manual)
 ///
 /// # Errors
-/// The refusal of the first cause that the bytes have, as the table of causes lists them; where they have none, what ends the evaluation
-/// first: `TooWide` where an operation has more than 16 parameters or forms a space that is too wide, `NoMinimum` where there is no least or
-/// greatest element, and `Unbounded` where infinitely many elements are to be listed; `Overflow` and `Budget` only where the meter counted
-/// them, at work that nothing ends before; and `NoMemory`.
+/// The refusal of the first cause that the bytes have, as the table of causes lists them; where they have none, `NotAssumed` where elements
+/// are to be listed and the numbers that parameters are given, 0 for the others, are not assumed; and then what ends the evaluation first:
+/// `TooWide` where an operation has more than 16 parameters or forms a space that is too wide, or more than 16 names are assumed together,
+/// `NoMinimum` where there is no least or greatest element, `Unbounded` where infinitely many elements are to be listed, and `NoValuation`
+/// where no assumed valuation is left; `Overflow` and `Budget` only where the meter counted them, at work that nothing ends before, and
+/// `Overflow` also where it is asked whether numbers are assumed; and `NoMemory`.
 pub fn answer(
     alloc: Global,
     bytes: &[u8],

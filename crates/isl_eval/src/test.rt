@@ -1,24 +1,25 @@
 //! Tests: what values say of one another.
 
-ghost use Rattle.std.specs.Prelude.{◌≡◌, ◌↔◌, true, IfOk, IsTrue, MatchResult};
+ghost use Rattle.std.specs.Prelude.{◌≡◌, ◌↔◌, true, IfOk, IsTrue, MatchResult, unsigned_abs};
 ghost use Rattle.isl_meter.specs.Gauge.{IsCharged, limit_of};
 ghost use Rattle.isl_space.specs.Names.{joined};
 ghost use Rattle.isl_union.specs.Compare.{IsSubset};
-ghost use Rattle.isl_union.specs.KeptValue.{Has};
+ghost use Rattle.isl_union.specs.KeptValue.{Has, IsKeptValue};
 ghost use Rattle.isl_union.specs.Numbers.{IsWithinLimit};
-ghost use Rattle.isl_values.specs.State.{StateView, scope_of, Fits};
+ghost use Rattle.isl_values.specs.State.{scope_of, Fits, HasNumbersUpTo};
 ghost use Rattle.isl_values.specs.Ends.{GoesOn};
 ghost use Rattle.isl_values.specs.Made.{IsWhyUnworked};
 ghost use Rattle.isl_values.specs.Selection.{Selects};
 ghost use Rattle.isl_eval.specs.Tests.{is_test, TestHolds};
-ghost use Rattle.isl_eval.specs.Evaluation.{ends_with_test, EndsTest, IsReadyTest, IsTestOf, past_row};
+ghost use Rattle.isl_eval.specs.Evaluation.{ends_with_test, EndsTest, EndsTwo, IsReadyTest, IsTestOf, Tells, past_row};
 
 use isl_expr::tree::{Binary, Expr, Link};
 use isl_meter::Meter;
 use isl_text::refusal::Refusal;
 use isl_union::{OpFault, Value};
-use isl_values::{State, joined_past, refusal_of, value_of};
+use isl_values::{State, both_under, joined_past, refusal_of, value_of};
 use std::alloc::Global;
+use std::rc::Rc;
 
 // Whether the operator tests its operands.
 fn is_test(operator: Binary) -> bool
@@ -66,7 +67,7 @@ fn is_proper_part(
     Ok(!turned)
 }
 
-// Whether a test holds of two values.
+// What a test tells of two values.
 fn holds(
     alloc: Global,
     test: Binary,
@@ -77,7 +78,7 @@ fn holds(
     requires test { is_test test ≡ true }
     requires left { IsWithinLimit meter.old left.now }
     requires right { IsWithinLimit meter.old right.now }
-    ensures exact { (state : StateView) → IfOk result (λ holds. IsTrue holds ↔ TestHolds state test (Has left.now) (Has right.now)) }
+    ensures exact { IfOk result (λ holds. IsTrue holds ↔ Tells test left.now right.now) }
     ensures units { IsTestOf (joined left.now.params right.now.params) meter.old meter.new result }
 {
     // For what values keep.
@@ -93,7 +94,35 @@ fn holds(
     }
 }
 
-/// Whether the test at the end of a row holds.
+// Whether a test of two values holds, at every assumed valuation.
+fn told(
+    alloc: Global,
+    test: Binary,
+    left: Rc<Value>,
+    right: Rc<Value>,
+    state: &State,
+    meter: &mut Meter,
+) -> Result<bool, Refusal>
+    requires test { is_test test ≡ true }
+    requires left { HasNumbersUpTo (unsigned_abs (limit_of meter.old)) left.value }
+    requires right { HasNumbersUpTo (unsigned_abs (limit_of meter.old)) right.value }
+    requires left_kept { IsKeptValue left.value }
+    requires right_kept { IsKeptValue right.value }
+    requires fits { Fits (limit_of meter.old) state.now }
+    ensures made { MatchResult result
+        (λ holds. (IsTrue holds ↔ TestHolds state.now test (Has left.value) (Has right.value)) × IsCharged meter.old meter.new)
+        (IsWhyUnworked true (EndsTwo left.value right.value) meter.old meter.new) }
+    ensures goes_on { IfOk result (λ _. GoesOn (EndsTwo left.value right.value)) }
+{
+    let operands = both_under(alloc, left, right, state, meter)?;
+    match holds(alloc, test, &operands.left, &operands.right, meter) {
+        Ok(holds) => Ok(holds),
+        Err(OpFault::Cut(cut)) => Err(refusal_of(cut)),
+        Err(OpFault::TooWide) => Err(Refusal::TooWide),
+    }
+}
+
+/// Whether the test at the end of a row holds, at every assumed valuation.
 pub(crate) fn tested(
     alloc: Global,
     first: &Expr,
@@ -114,9 +143,5 @@ pub(crate) fn tested(
     let left = value_of(alloc, first, state, meter)?;
     let left = joined_past(alloc, left, before, state, meter)?;
     let right = value_of(alloc, &last.operand, state, meter)?;
-    match holds(alloc, last.operator, &left, &right, meter) {
-        Ok(holds) => Ok(holds),
-        Err(OpFault::Cut(cut)) => Err(refusal_of(cut)),
-        Err(OpFault::TooWide) => Err(Refusal::TooWide),
-    }
+    told(alloc, last.operator, left, right, state, meter)
 }

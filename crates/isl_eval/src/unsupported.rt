@@ -79,13 +79,12 @@ fn are_unsupported_postfixes(postfixes: &[Postfix]) -> bool
     false
 }
 
-/// Whether the statement is an assumption, or something stands in it that is not supported yet.
+/// Whether something stands in the statement that is not supported yet.
 pub fn is_unsupported(stmt: &Stmt) -> bool
     ensures { result ≡ spec.is_unsupported stmt.now }
 {
     match stmt {
-        Stmt::Empty => false,
+        Stmt::Empty | Stmt::Assume(_) => false,
         Stmt::Bind(_, expr) | Stmt::Show(expr) => is_unsupported_expression(expr),
-        Stmt::Assume(_) => true,
     }
 }

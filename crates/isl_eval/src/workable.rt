@@ -5,7 +5,8 @@ ghost use Rattle.std.specs.List.{list_any};
 ghost use Rattle.isl_kinds.specs.Typed.{ScopeView};
 ghost use Rattle.isl_flat.specs.Simple.{statement_declared};
 ghost use Rattle.isl_eval.specs.Causes as spec;
-ghost use Rattle.isl_eval.specs.Evaluation.{is_listing, names_of, IsWorkable, IsWhyUnworkable};
+ghost use Rattle.isl_eval.specs.Ended.{is_listing};
+ghost use Rattle.isl_eval.specs.Evaluation.{names_of, IsWorkable, IsWhyUnworkable};
 
 use isl_expr::tree::{Expr, Prefix, Stmt};
 use isl_kinds::{Scope, Typed, typed_statement};
@@ -26,8 +27,9 @@ fn lacks_number(names: &[Name], at: &[(Name, i128)]) -> bool
     names.iter().any(|name| !is_given(at, name))
 }
 
+/// Whether elements are asked for.
 #[tactic(auto, using(crate::proofs::AskedLaws::listing))]
-fn is_listing(expr: &Expr) -> bool
+pub(crate) fn is_listing(expr: &Expr) -> bool
     ensures { result ≡ is_listing expr.now }
 {
     match expr {

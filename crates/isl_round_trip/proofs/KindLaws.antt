@@ -12,8 +12,8 @@ use Rattle.isl_space.specs.Name.{Name}
 use Rattle.isl_space.specs.Element.{Element}
 use Rattle.isl_space.specs.Valuation.{Valuation}
 use Rattle.isl_union.specs.KeptValue.{KeptPiece, KeptValue, Has, HasElement}
-use Rattle.isl_union.specs.Compare.{IsEmpty}
-use Rattle.isl_union.specs.Sample.{IsSampleOf, only_piece}
+use Rattle.isl_union.specs.Sample.{only_piece}
+use Rattle.isl_assumed.specs.Assumed.{Assumes}
 use Rattle.isl_gist.specs.Gist.{value_over}
 use Rattle.isl_tree.specs.declared.tree.PieceTree.{PieceTree}
 use Rattle.isl_tree.specs.declared.tree.Literal.{Literal}
@@ -30,16 +30,16 @@ use Rattle.isl_expr.specs.declared.tree.Expr.{Expr, Row', Prefix', Any', Last', 
 use Rattle.isl_expr.specs.declared.tree.Expr.{Row_of-Link, end_of-Link, more_of-Link, Row_of-Postfix, end_of-Postfix, more_of-Postfix}
 use Rattle.isl_expr.specs.Expr.{literals_of, literals_in, literals_in_links, literals_in_postfixes, literals_in_postfix}
 use Rattle.isl_operators.specs.Operations.{OperatorHas}
-use Rattle.isl_operators.specs.Made.{IsAnyWordOf}
 use Rattle.isl_kinds.specs.Lines.{joined, prefixed}
 use Rattle.isl_kinds.specs.Typed.{TypeView, by_two, declared_in, joined_names, kind_of_pieces, kind_of_image}
 use Rattle.isl_kinds.specs.Typed.{kind_of, kind_in, kind_past_links, kind_past_postfixes, kind_past}
 use Rattle.isl_values.specs.declared.list.ListPart.{ListPart}
 use Rattle.isl_values.specs.declared.list.ListPart.TheVariants.{First}
+use Rattle.isl_values.specs.Live.{IsSampleAt}
 use Rattle.isl_values.specs.State.{Kept, StateView, kept_of, scope_of, type_of, value_at}
 use Rattle.isl_values.specs.Worked.{part_taken}
 use Rattle.isl_values.specs.Selection.{KeptHas, PostfixHas, SelectsAt, SelectsIn, SelectsPastLinks, SelectsPastPostfixes}
-use Rattle.isl_values.specs.Selection.{IsContentOf, IsGistOfTwo, IsSelected, IsSelectedAt, IsSelectedIn, context_of}
+use Rattle.isl_values.specs.Selection.{IsContentOf, IsGistOfTwo, IsSelected, IsSelectedAt, IsSelectedIn, IsTogetherOf, context_of}
 use Rattle.isl_values.proofs.StateLaws.{bound_at}
 use Rattle.isl_values.proofs.PartLaws.{all_left, all_right}
 use Rattle.isl_eval.proofs.LiteralLaws.{IsSpelled}
@@ -191,19 +191,19 @@ sample_same Set kind is = cc
 sample_same k kind is = cc
 
 module _ (state : StateView) (all : AreWritable state) where
-  -- a value that is worked out of an operand has elements in spaces of the operand's kind
+  -- at assumed valuations a value that is worked out of an operand has elements in spaces of the operand's kind
   operand_kind : (m : Count) (operand : Row_of-Expr m) → All IsSpelled (literals_in operand) → (argument : KeptValue)
-      → IsSelectedIn state operand argument → (valuation : Valuation)
+      → IsSelectedIn state operand argument → (valuation : Valuation) → Assumes state.assumed valuation
       → AreOfKind (λ x. Has argument valuation x) (kind_in (scope_of state) operand)
-  operand_kind m end_of-Expr spelled argument selected valuation = absurd selected
-  operand_kind m (more_of-Expr expr rest) spelled argument selected valuation = record {
+  operand_kind m end_of-Expr spelled argument selected valuation here = absurd selected
+  operand_kind m (more_of-Expr expr rest) spelled argument selected valuation here = record {
     lies = λ kind is element has.
         (in_kind state valuation all m First (more_of-Expr expr rest) spelled).lies kind is element
-        ((selected.elements valuation element).0 has);
+        ((selected.elements valuation here element).0 has);
   }
 
   sample_kind : (m : Count) (operand : Row_of-Expr m) → All IsSpelled (literals_in operand) → (argument value : KeptValue)
-      → IsSelectedIn state operand argument → IsSampleOf argument value → (kind : ValueKind)
+      → IsSelectedIn state operand argument → IsSampleAt state.assumed argument value → (kind : ValueKind)
       → option_and_then (prefixed p.Sample) (kind_in (scope_of state) operand) ≡ Some kind → (valuation : Valuation) (element : Element)
       → Has value valuation element → IsSpaceOf kind element.space
   sample_kind m operand spelled argument value selected sample kind is valuation element has =
@@ -213,46 +213,49 @@ module _ (state : StateView) (all : AreWritable state) where
       HasIt pieces = Any (HasElement value.params valuation element) pieces
 
       by : (o : Option ValueKind) → kind_in (scope_of state) operand ≡ o
-          → ((IsEmpty argument × (value.pieces ≡ []))
-          ⊎ ((v : Valuation) × (x : Element) × Has argument v x × (value.pieces ≡ only_piece argument.params v x ∷ [])))
+          → ((((v : Valuation) (x : Element) → Assumes state.assumed v → ¬ Has argument v x) × (value.pieces ≡ []))
+          ⊎ ((v : Valuation) × (x : Element) × Assumes state.assumed v × Has argument v x
+          × (value.pieces ≡ only_piece argument.params v x ∷ [])))
           → IsSpaceOf kind element.space
       by o there (inl none) = absurd (Any-none (HasElement value.params valuation element) (subst HasIt none.1 has))
       by None there (inr one) = none_some kind (sym (ap (option_and_then (prefixed p.Sample)) there) ∙ is)
       by (Some k) there (inr one) =
           let piece = only_piece argument.params one.0 one.1 in
           let same = sample_same k kind (sym (ap (option_and_then (prefixed p.Sample)) there) ∙ is) in
-          let lies : IsSpaceOf k one.1.space = (operand_kind m operand spelled argument selected one.0).lies k there one.1 one.2 in
-          elim (Any-cases (HasElement value.params valuation element) piece [] (subst HasIt one.3 has)) [
+          let lies : IsSpaceOf k one.1.space =
+          (operand_kind m operand spelled argument selected one.0 one.2).lies k there one.1 one.3 in
+          elim (Any-cases (HasElement value.params valuation element) piece [] (subst HasIt one.4 has)) [
             | inl here ↦ subst (λ (j : ValueKind). IsSpaceOf j element.space) same (subst (IsSpaceOf k) here.space lies)
             | inr later ↦ absurd (Any-none (HasElement value.params valuation element) later)
           ]
 
-  -- putting pieces together leaves the elements as they are
+  -- putting pieces together leaves the elements at assumed valuations as they are
   coalesce_kind : (m : Count) (operand : Row_of-Expr m) → All IsSpelled (literals_in operand) → (argument value : KeptValue)
-      → IsSelectedIn state operand argument → IsAnyWordOf p.Coalesce argument value → (kind : ValueKind)
+      → IsSelectedIn state operand argument → IsTogetherOf state argument value → (kind : ValueKind)
       → option_and_then (prefixed p.Coalesce) (kind_in (scope_of state) operand) ≡ Some kind → (valuation : Valuation) (element : Element)
-      → Has value valuation element → IsSpaceOf kind element.space
-  coalesce_kind m operand spelled argument value selected any kind is valuation element has =
+      → Assumes state.assumed valuation → Has value valuation element → IsSpaceOf kind element.space
+  coalesce_kind m operand spelled argument value selected together kind is valuation element here has =
       (of_word p.Coalesce argument.params (λ v x. Has argument v x) valuation (kind_in (scope_of state) operand)
-      (operand_kind m operand spelled argument selected valuation)).lies kind is element ((any.elements valuation element).0 has)
+      (operand_kind m operand spelled argument selected valuation here)).lies kind is element
+      ((together.elements valuation here element).0 has)
 
-  -- each piece of a gist has an element that the left value has
+  -- each piece of a gist has an element that the left value has at some assumed valuation
   gist_kind : (m : Count) (first : Row_of-Expr m) (context : Expr) → All IsSpelled (literals_in first) → (left right value : KeptValue)
-      → IsSelectedIn state first left → IsGistOfTwo left right value → (kind : ValueKind)
+      → IsSelectedIn state first left → IsGistOfTwo state left right value → (kind : ValueKind)
       → by_two (joined b.Gist) (kind_in (scope_of state) first) (kind_of (scope_of state) context) ≡ Some kind → IsOfKind kind value
   gist_kind m first context spelled left right value selected gist kind is =
-      gist_pieces kind (value_over (joined_names left.params right.params) right) value
+      gist_pieces kind (value_over (joined_names left.params right.params) gist.2.0) value
       (λ valuation element has in_context.
-      (of_gist (λ x. Has left valuation x) (kind_in (scope_of state) first) (kind_of (scope_of state) context)
-      (operand_kind m first spelled left selected valuation)).lies kind is element
-      (gist_among left right value gist valuation element has in_context))
-      (value_over (joined_names left.params right.params) left) gist.2
+      let some = gist_among state left right value gist valuation element has in_context in
+      (of_gist (λ x. Has left some.0 x) (kind_in (scope_of state) first) (kind_of (scope_of state) context)
+      (operand_kind m first spelled left selected some.0 some.1)).lies kind is element some.2)
+      (value_over (joined_names left.params right.params) left) gist.2.3
 
   -- a row is one `%`, or its value is what is selected
   row_kind : (m : Count) (first : Row_of-Expr m) (n : Count) (links : Row_of-Link n) (value : KeptValue)
       → All IsSpelled (literals_in first ++ literals_in_links links) → (Selected : Type 0)
       → MatchOption (context_of links) Selected (λ context. (left : KeptValue) × (right : KeptValue) × IsSelectedIn state first left
-      × IsSelected state context right × IsGistOfTwo left right value)
+      × IsSelected state context right × IsGistOfTwo state left right value)
       → (kind : ValueKind) → kind_past_links (scope_of state) (kind_in (scope_of state) first) links ≡ Some kind → (valuation : Valuation)
       (element : Element) → Has value valuation element → (Selected → IsSpaceOf kind element.space) → IsSpaceOf kind element.space
   row_kind m first n (more_of-Link b.Gist context end_of-Link) value spelled Selected content kind is valuation element has lies =
@@ -266,20 +269,20 @@ module _ (state : StateView) (all : AreWritable state) where
       lies =
       lies content
 
-  -- what is kept of a part of an expression is of its kind
+  -- what is kept of a part of an expression is of its kind at assumed valuations
   pub content_kind : (part : ListPart) (expr : Expr) (value : KeptValue) → All IsSpelled (literals_of expr)
       → IsContentOf state part expr value → (kind : ValueKind) → kind_of (scope_of state) expr ≡ Some kind → (valuation : Valuation)
-      (element : Element) → Has value valuation element → IsSpaceOf kind element.space
-  content_kind part (Prefix' p.Sample s operand) value spelled content kind is valuation element has =
+      (element : Element) → Assumes state.assumed valuation → Has value valuation element → IsSpaceOf kind element.space
+  content_kind part (Prefix' p.Sample s operand) value spelled content kind is valuation element here has =
       sample_kind _ operand spelled content.0 value content.1 content.2 kind is valuation element has
-  content_kind part (Prefix' p.Coalesce s operand) value spelled content kind is valuation element has =
-      coalesce_kind _ operand spelled content.0 value content.1 content.2 kind is valuation element has
-  content_kind part (Row' s first t links) value spelled content kind is valuation element has =
+  content_kind part (Prefix' p.Coalesce s operand) value spelled content kind is valuation element here has =
+      coalesce_kind _ operand spelled content.0 value content.1 content.2 kind is valuation element here has
+  content_kind part (Row' s first t links) value spelled content kind is valuation element here has =
       row_kind _ first _ links value spelled (IsSelectedAt state part (Row' s first t links) value) content kind is valuation element has
       (λ selected. (selected_kind state valuation all part (Row' s first t links) spelled).lies kind is element
-      ((selected.elements valuation element).0 has))
-  content_kind part expr value spelled content kind is valuation element has =
-      (selected_kind state valuation all part expr spelled).lies kind is element ((content.elements valuation element).0 has)
+      ((selected.elements valuation here element).0 has))
+  content_kind part expr value spelled content kind is valuation element here has =
+      (selected_kind state valuation all part expr spelled).lies kind is element ((content.elements valuation here element).0 has)
 
 -- ---- what is of a kind can be written
 pub of_kind_uniform : (value : KeptValue) (kind : ValueKind) → IsOfKind kind value → IsUniform value

@@ -6,6 +6,7 @@ pub mod BoundLaws
 pub mod DividedTree
 pub mod FormedTree
 pub mod GistKinds
+pub mod HeldLaws
 pub mod KindLaws
 pub mod KindOfOperations
 pub mod KnownLaws

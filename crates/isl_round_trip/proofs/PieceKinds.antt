@@ -12,6 +12,10 @@ use Rattle.isl_space.specs.Valuation.{Valuation}
 use Rattle.isl_piece.specs.System.{HoldsSystem}
 use Rattle.isl_union.specs.KeptValue.{KeptPiece, KeptValue, Has, HasElement, IsKeptPiece, IsKeptValue, piece_system}
 use Rattle.isl_union.proofs.CompareLaws.{valuation_at, element_at, element_is, point_at}
+use Rattle.isl_assumed.specs.declared.assumed.Assumed.{Assumed}
+use Rattle.isl_assumed.specs.Assumed.{Assumes}
+use Rattle.isl_assumed.specs.Values.{IsDeadAt}
+use Rattle.isl_values.specs.Live.{IsLiveUnder}
 use Rattle.isl_expr.specs.declared.tree.ValueKind.{ValueKind}
 use Rattle.isl_expr.specs.declared.tree.ValueKind.TheVariants.{Set, Map, List as Pair}
 use Rattle.isl_round_trip.specs.Written.{IsSpaceOf, IsOfKind}
@@ -58,3 +62,32 @@ module _ (kind : ValueKind) where
   pub value_kind : (value : KeptValue) → IsKeptValue value
       → ((valuation : Valuation) (element : Element) → Has value valuation element → IsSpaceOf kind element.space) → IsOfKind kind value
   value_kind value kept have = pieces_kind value.params value.pieces kept.params.distinct kept.pieces have
+
+  -- ---- the same where each piece has an element at an assumed valuation
+  module _ (assumed : Assumed) where
+    live_piece_kind : (params : List Name) (piece : KeptPiece) → ¬ IsDeadAt (Assumes assumed) params piece
+        → ((valuation : Valuation) (element : Element) → Assumes assumed valuation → HasElement params valuation element piece
+        → IsSpaceOf kind element.space)
+        → IsSpaceOf kind piece.space
+    live_piece_kind params piece lives have =
+        stable kind piece.space (λ none. lives (λ valuation element here has. none
+        (subst (IsSpaceOf kind) (sym has.space) (have valuation element here has))))
+
+    live_pieces_kind : (params : List Name) (pieces : List KeptPiece) → All (λ piece. ¬ IsDeadAt (Assumes assumed) params piece) pieces
+        → ((valuation : Valuation) (element : Element) → Assumes assumed valuation → Any (HasElement params valuation element) pieces
+        → IsSpaceOf kind element.space)
+        → All (λ piece. IsSpaceOf kind piece.space) pieces
+    live_pieces_kind params [] live have = All-nil (λ (p : KeptPiece). IsSpaceOf kind p.space)
+    live_pieces_kind params (piece ∷ pieces) live have =
+        let Lives : KeptPiece → Type 0 = λ p. ¬ IsDeadAt (Assumes assumed) params p in
+        All-cons (λ (p : KeptPiece). IsSpaceOf kind p.space) piece pieces
+        (live_piece_kind params piece (All-head Lives piece pieces live)
+        (λ valuation element here h. have valuation element here (Any-first (HasElement params valuation element) piece pieces h)))
+        (live_pieces_kind params pieces (All-tail Lives piece pieces live)
+        (λ valuation element here h. have valuation element here (Any-later (HasElement params valuation element) piece pieces h)))
+
+    pub live_kind : (value : KeptValue) → IsLiveUnder assumed value
+        → ((valuation : Valuation) (element : Element) → Assumes assumed valuation → Has value valuation element
+        → IsSpaceOf kind element.space)
+        → IsOfKind kind value
+    live_kind value live have = live_pieces_kind value.params value.pieces live have

@@ -1,9 +1,10 @@
 -- public: what the program answers, it takes again. (isl manual, the notation of sets and relations; the iscc chapter of the barvinok
 -- manual)
-use Rattle.std.specs.Prelude.{◌≡◌, ◌↔◌, ℕ, true, List, [], ◌∷◌, ◌++◌, None}
+use Rattle.std.specs.Prelude.{◌≡◌, ◌↔◌, ℕ, true, false, List, [], ◌∷◌, ◌++◌, None}
 use Rattle.isl_space.specs.Element.{Element}
 use Rattle.isl_space.specs.Valuation.{Valuation}
 use Rattle.isl_union.specs.KeptValue.{KeptValue, Has}
+use Rattle.isl_print.specs.OrderedValue.{ordered}
 use Rattle.isl_print.specs.Printed.{printed}
 use Rattle.isl_token.specs.Depth.{is_too_deep}
 use Rattle.isl_tree.specs.declared.tree.Literal.{Literal}
@@ -12,6 +13,7 @@ use Rattle.isl_expr.specs.declared.tree.Stmt.{Stmt}
 use Rattle.isl_expr.specs.declared.tree.Stmt.TheVariants.{Show}
 use Rattle.isl_expr.specs.declared.tree.Expr.TheVariants as e
 use Rattle.isl_values.specs.declared.list.ListPart.{ListPart}
+use Rattle.isl_values.specs.Live.{IsLivePartOf}
 use Rattle.isl_values.specs.State.{Kept, StateView, Moment, EachKept, value_at}
 use Rattle.isl_values.specs.Selection.{Keeps}
 use Rattle.isl_eval.specs.Spelled.{BytesSpell, OfTokens}
@@ -30,10 +32,18 @@ AreWritable state =
 abbrev pub IsShallow : List ℕ → Type 0
 IsShallow text = ¬ OfTokens text (λ ts. is_too_deep ts ≡ true)
 
+-- Whatever answers the text of the value, and whatever is assumed there, shows what is live of the value in printed order: the pieces that
+-- have an element at an assumed valuation, and where nothing is assumed all of them.
+abbrev pub ShowsLive : Moment → KeptValue → Type 0
+ShowsLive before value =
+    (last : Moment) (answer : Answer) → Answers before (printed value) last answer
+    → (live : KeptValue) × IsLivePartOf before.state.assumed (ordered value) live
+    × (answer ≡ record { bytes = printed live ++ 10 ∷ []; is_true = false; elements = 0 })
+
 -- The answer is a line that shows the value. Its text is a statement, which shows a literal that has exactly the elements of the value, and
 -- that reads as the value. Where the text is not too deep, and no piece has more remainders than a literal's may have, nothing that it
--- says is a cause to refuse it; and where it is answered, which takes the units of asking whether its pieces have elements, its answer is
--- the same line.
+-- says is a cause to refuse it; and where it is answered, which takes the units of asking whether its pieces have elements, there at an
+-- assumed valuation where something is assumed, its answer is the same line.
 pub record IsShownAgain (after : Moment) (value : KeptValue) (answer : Answer) : Type 0 where
   pub line : answer.bytes ≡ printed value ++ 10 ∷ []
   pub again : Literal

@@ -20,7 +20,7 @@ ghost use Rattle.isl_round_trip.specs.Accepted.{HasQuietNames, IsAccepted};
 ghost use Rattle.isl_round_trip.specs.Tree.{printed_tree};
 ghost use Rattle.isl_round_trip.specs.Written.{HasFewRemainders, HasWritableNumbers, IsUniform, value_written};
 ghost use Rattle.isl_round_trip.specs.RoundTrip.{IsWritableValue, ReadsBack, Writes};
-ghost use Rattle.isl_round_trip.specs.TakenAgain.{AreTakenAgain, AreWritable, IsTakenAgain};
+ghost use Rattle.isl_round_trip.specs.TakenAgain.{AreTakenAgain, AreWritable, IsTakenAgain, ShowsLive};
 
 /// The text of a value writes its printed tree.
 pub fn printed_tree_is_spelled()
@@ -75,9 +75,15 @@ pub fn lowered_is_writable()
         → IsWritableValue value }
 {}
 
+/// Where the text of a value that one plain literal can write is answered as a statement, whatever is assumed there, its answer shows what
+/// is live of the value: the pieces that have an element at an assumed valuation.
+pub fn printed_shows_what_is_live()
+    ensures { (before : Moment) (value : KeptValue) → IsWritableValue value → ShowsLive before value }
+{}
+
 /// What the program shows of a value that is no list, it takes again: the text of the line is a statement, which shows a literal with
-/// exactly the elements of the value, and whatever answers it answers the same line. It needs that what is bound can be written; this
-/// holds where nothing is bound, and each answered statement keeps it.
+/// exactly the elements of the value, and whatever answers it behind the statement, where the same is assumed, answers the same line. It
+/// needs that what is bound can be written; this holds where nothing is bound, and each answered statement keeps it, an assumption too.
 pub fn shown_is_taken_again()
     ensures taken { (before : Moment) (bytes : List ℕ) (after : Moment) (answer : Answer) → before.meter.bits ≤ 127
         → AreWritable before.state → (answered : Answers before bytes after answer) → IsTakenAgain before answered.stmt after answer }

@@ -3,7 +3,7 @@ use Rattle.std.proofs.Common.{◌≡◌, ℕ, ◌<◌, List, [], ◌∷◌, true
 use Rattle.isl_meter.specs.Gauge.{Gauge, IsKept}
 use Rattle.isl_script.specs.Script.{ends}
 use Rattle.isl_text.specs.declared.refusal.Refusal.{Refusal}
-use Rattle.isl_text.specs.declared.refusal.Refusal.TheVariants.{Overflow, Budget, NoMemory, NoMinimum, TooWide, Unbounded}
+use Rattle.isl_text.specs.declared.refusal.Refusal.TheVariants.{Overflow, Budget, NoMemory, NoMinimum, NotAssumed, NoValuation, TooWide, Unbounded}
 use Rattle.isl_values.specs.State.{Moment, StateView}
 use Rattle.isl_eval.specs.Causes as c
 use Rattle.isl_eval.specs.Causes.{Cause, FirstGives, Refuses, causes, refusal_of}
@@ -41,6 +41,8 @@ breaks_in_statement NoMemory view byte now room ended cause = (room, inl (ended,
 breaks_in_statement TooWide view byte now room ended cause = (room, ended, cause)
 breaks_in_statement NoMinimum view byte now room ended cause = (room, ended, cause)
 breaks_in_statement Unbounded view byte now room ended cause = (room, ended, cause)
+breaks_in_statement NoValuation view byte now room ended cause = (room, ended, cause)
+breaks_in_statement NotAssumed view byte now room ended cause = (room, ended, cause)
 breaks_in_statement refusal view byte now room ended cause =
     subst (λ (p : Place). BreaksIn p view byte now refusal)
     (sym (place_of_first (c.IsThere (started (moment_of view)) view.rest) causes refusal cause.0)) (room, ended, cause)
@@ -54,6 +56,8 @@ meter_in_statement before bytes now NoMemory cause kept = cause.0
 meter_in_statement before bytes now TooWide cause kept = kept
 meter_in_statement before bytes now NoMinimum cause kept = kept
 meter_in_statement before bytes now Unbounded cause kept = kept
+meter_in_statement before bytes now NoValuation cause kept = kept
+meter_in_statement before bytes now NotAssumed cause kept = kept
 meter_in_statement before bytes now refusal cause kept =
     subst (λ (p : Place). IsMeterAt p before.meter now)
     (sym (place_of_first (c.IsThere (started before) bytes) causes refusal cause.0)) kept

@@ -11,9 +11,10 @@ use Rattle.isl_script.specs.Script.{statements, rest_of, next_part}
 use Rattle.isl_script.proofs.ScriptLaws.{next_part-long, rest-append, statements-append}
 use Rattle.isl_text.specs.declared.refusal.Refusal.{Refusal}
 use Rattle.isl_text.specs.declared.refusal.Refusal.TheVariants.{Usage, TooLong, Unfinished, Overflow, Budget, ReadFault, WriteFault}
-use Rattle.isl_text.specs.declared.refusal.Refusal.TheVariants.{NoMemory, NoMinimum, ScriptTooLong, TooWide, Unbounded}
+use Rattle.isl_text.specs.declared.refusal.Refusal.TheVariants.{NoMemory, NoMinimum, NotAssumed, NoValuation, ScriptTooLong, TooWide}
+use Rattle.isl_text.specs.declared.refusal.Refusal.TheVariants.{Unbounded}
 use Rattle.isl_values.specs.State.{Moment}
-use Rattle.isl_values.specs.Ends.{too_wide, no_minimum, unbounded}
+use Rattle.isl_values.specs.Ends.{too_wide, no_minimum, unbounded, no_valuation, not_assumed}
 use Rattle.isl_eval.specs.Causes.{Cause, FirstGives, IsThere, IsValid, NoneIs, Refuses, causes}
 use Rattle.isl_eval.specs.Run.{started}
 use Rattle.isl_session.specs.declared.fault.Fault.{Fault}
@@ -51,6 +52,8 @@ no_cause before bytes now valid no_overflow no_spent Overflow cause = absurd (no
 no_cause before bytes now valid no_overflow no_spent Budget cause = absurd (no_spent cause.3.cause.1)
 no_cause before bytes now valid no_overflow no_spent NoMinimum cause = absurd (valid.goes_on no_minimum cause.1)
 no_cause before bytes now valid no_overflow no_spent Unbounded cause = absurd (valid.goes_on unbounded cause.1)
+no_cause before bytes now valid no_overflow no_spent NoValuation cause = absurd (valid.goes_on no_valuation cause.1)
+no_cause before bytes now valid no_overflow no_spent NotAssumed cause = absurd (valid.goes_on not_assumed cause.1)
 no_cause before bytes now valid no_overflow no_spent TooWide (inl cause) =
     absurd (no_first (IsThere before bytes) causes TooWide valid.clear cause.0)
 no_cause before bytes now valid no_overflow no_spent TooWide (inr cause) = absurd (valid.goes_on too_wide cause.1)

@@ -17,16 +17,16 @@ use Rattle.isl_operators.specs.Operations.{OperatorHas}
 use Rattle.isl_operators.specs.Formed.{AreIn, OperatorForms, ApplicationForms, FormsWide, PairsWide}
 use Rattle.isl_relation.specs.Formed.{FormsAccess}
 use Rattle.isl_values.specs.declared.list.ListPart.{ListPart}
-use Rattle.isl_values.specs.State.{StateView, scope_of}
+use Rattle.isl_values.specs.State.{AtAssumed, StateView, scope_of}
 use Rattle.isl_values.specs.Worked.{part_of_list, part_taken}
 use Rattle.isl_values.specs.Selection.{PostfixHas, Selects, SelectsAt, RowSelects, PostSelects}
-use Rattle.isl_values.specs.Ends.{End, NoEnd, GoesOn, FirstEnds, Ends, DependenceEnds, PairEnds, WordEnds}
+use Rattle.isl_values.specs.Ends.{CutUnder, End, NoEnd, GoesOn, FirstEnds, Ends, DependenceEnds, PairEnds, WordEnds}
 use Rattle.isl_values.specs.Ends.{EndsPastLinks, EndsPastPostfixes, EndsPostfix, EndsRow, EndsPost}
 use Rattle.isl_values.specs.Three.{OperandsEnd}
 use Rattle.isl_values.proofs.FirstLaws.{EndAlike, alike_itself, alike_trans, both_go, first_alike, first_grouped, goes_alike, goes_both}
 use Rattle.isl_values.proofs.FirstLaws.{nothing_first, operation_alike, turned_alike}
-use Rattle.isl_values.proofs.SameLaws.{itself, same_misses, same_operator, turned_same}
-pub use Rattle.isl_values.proofs.SameLaws.{AreSame, Selection}
+use Rattle.isl_values.proofs.SameLaws.{at_assumed, itself, same_misses, same_operator, turned_same}
+pub use Rattle.isl_values.proofs.SameLaws.{AreSame, AreSameAt, Selection}
 use Rattle.isl_values.proofs.RowLaws.{part_is, same_postfix}
 
 -- ---- of the same elements the same is formed
@@ -67,8 +67,8 @@ module _ (state : StateView) where
   abbrev Selected : Expr → Selection
   Selected expr v x = Selects state expr v x
 
-  selected_itself : (expr : Expr) → AreSame (Selected expr) (Selected expr)
-  selected_itself expr v = itself (Selected expr v)
+  selected_itself : (expr : Expr) → AreSame (AtAssumed state (Selected expr)) (AtAssumed state (Selected expr))
+  selected_itself expr v = itself (AtAssumed state (Selected expr) v)
 
   -- ---- rows
   abbrev Past : Selection → Link → Selection
@@ -83,22 +83,24 @@ module _ (state : StateView) where
   -- an operator with its operand, behind operands with these parameters and elements
   abbrev pub OperatorEnds : List Name → Selection → Link → End → Type 0
   OperatorEnds names P link =
-      PairEnds (OperatorForms link.operator) names (declared_of (scope_of state) link.operand) P (λ v y. Selects state link.operand v y)
+      PairEnds (OperatorForms link.operator) names (declared_of (scope_of state) link.operand) (AtAssumed state P)
+      (AtAssumed state (λ v y. Selects state link.operand v y))
 
   abbrev pub EndsWith : List Name → Selection → Link → End → Type 0
   EndsWith names P link = FirstEnds (Ends state link.operand) (OperatorEnds names P link)
 
-  pub row_alike : (names : List Name) (P Q : Selection) (links : List Link) → AreSame P Q
+  pub row_alike : (names : List Name) (P Q : Selection) (links : List Link) → AreSameAt state.assumed P Q
       → EndAlike (EndsRow state names P links) (EndsRow state names Q links)
   row_alike names P Q [] same = alike_itself NoEnd
   row_alike names P Q (link ∷ links) same =
       let next = NamesWith names link in
       let own = Ends state link.operand in
-      let now = pair_alike (OperatorForms link.operator) names (declared_of (scope_of state) link.operand) P Q (Selected link.operand)
-      (Selected link.operand) same (selected_itself link.operand) in
+      let now = pair_alike (OperatorForms link.operator) names (declared_of (scope_of state) link.operand) (AtAssumed state P)
+      (AtAssumed state Q) (AtAssumed state (Selected link.operand)) (AtAssumed state (Selected link.operand)) (at_assumed state P Q same)
+      (selected_itself link.operand) in
       let rest = row_alike next (Past P link) (Past Q link) links
-      (λ v. same_operator link.operator (P v) (Q v) (Selected link.operand v) (Selected link.operand v) (same v)
-      (selected_itself link.operand v)) in
+      (λ v here. same_operator link.operator (P v) (Q v) (Selected link.operand v) (Selected link.operand v) (same v here)
+      (itself (Selected link.operand v))) in
       first_alike own (FirstEnds (OperatorEnds names P link) (EndsRow state next (Past P link) links)) own
       (FirstEnds (OperatorEnds names Q link) (EndsRow state next (Past Q link) links)) (alike_itself own)
       (first_alike (OperatorEnds names P link) (EndsRow state next (Past P link) links) (OperatorEnds names Q link)
@@ -166,7 +168,8 @@ module _ (state : StateView) where
       let next = joined_names names (declared_of (scope_of state) operand) in
       let Further : Selection = λ v x. OperatorHas operator (P v) (λ y. Selects state operand v y) x in
       let A = Ends state operand in
-      let B = PairEnds (OperatorForms operator) names (declared_of (scope_of state) operand) P (λ v x. Selects state operand v x) in
+      let B = PairEnds (OperatorForms operator) names (declared_of (scope_of state) operand) (AtAssumed state P)
+      (AtAssumed state (λ v x. Selects state operand v x)) in
       let C = EndsPastLinks state next Further row in
       let D = EndsRow state next Further (items-the_row-Link _ row) in
       first_alike A (FirstEnds B C) A (FirstEnds B D) (alike_itself A)
@@ -186,7 +189,7 @@ module _ (state : StateView) where
   -- ---- a word before an operand
   pub ends_of-Prefix : (word : Word) (operand : Expr)
       → EndAlike (Ends state (Prefix word operand))
-      (FirstEnds (Ends state operand) (WordEnds word (λ v x. Selects state operand v x)))
+      (FirstEnds (Ends state operand) (WordEnds word (AtAssumed state (λ v x. Selects state operand v x))))
   unfolding hidden-the_row-Expr-0 denote.Hole.Carrier.hidden
   ends_of-Prefix word operand why = ((λ h. h), (λ h. h))
 
@@ -197,23 +200,23 @@ module _ (state : StateView) where
   abbrev pub Before : Selection → List Postfix → Selection
   Before P postfixes v x = PostSelects state v (P v) postfixes x
 
-  pub postfix_alike : (names : List Name) (P Q : Selection) (postfix : Postfix) → AreSame P Q
+  pub postfix_alike : (names : List Name) (P Q : Selection) (postfix : Postfix) → AreSameAt state.assumed P Q
       → EndAlike (EndsPostfix state names P postfix) (EndsPostfix state names Q postfix)
-  postfix_alike names P Q Inverse same = alike_itself NoEnd
+  postfix_alike names P Q Inverse same = alike_itself (CutUnder state)
   postfix_alike names P Q (Apply argument) same =
       first_alike (Ends state argument) _ (Ends state argument) _ (alike_itself (Ends state argument))
-      (pair_alike ApplicationForms names (declared_of (scope_of state) argument) P Q (Selected argument) (Selected argument) same
-      (selected_itself argument))
+      (pair_alike ApplicationForms names (declared_of (scope_of state) argument) (AtAssumed state P) (AtAssumed state Q)
+      (AtAssumed state (Selected argument)) (AtAssumed state (Selected argument)) (at_assumed state P Q same) (selected_itself argument))
   postfix_alike names P Q (Item number) same = alike_itself NoEnd
 
-  pub post_alike : (names : List Name) (P Q : Selection) (postfixes : List Postfix) → AreSame P Q
+  pub post_alike : (names : List Name) (P Q : Selection) (postfixes : List Postfix) → AreSameAt state.assumed P Q
       → EndAlike (EndsPost state names P postfixes) (EndsPost state names Q postfixes)
   post_alike names P Q [] same = alike_itself NoEnd
   post_alike names P Q (postfix ∷ postfixes) same =
       let next = declared_past (scope_of state) names postfix in
       first_alike (EndsPostfix state names P postfix) (EndsPost state next (Followed P postfix) postfixes)
       (EndsPostfix state names Q postfix) (EndsPost state next (Followed Q postfix) postfixes) (postfix_alike names P Q postfix same)
-      (post_alike next (Followed P postfix) (Followed Q postfix) postfixes (λ v. same_postfix state v postfix (P v) (Q v) (same v)))
+      (post_alike next (Followed P postfix) (Followed Q postfix) postfixes (λ v here. same_postfix state v postfix (P v) (Q v) (same v here)))
 
   pub post_ends_at : (names : List Name) (P : Selection) (postfixes : List Postfix) (i : ℕ) (postfix : Postfix) (why : End)
       → i < length postfixes → postfix ≡ get_or postfixes i postfix → GoesOn (EndsPost state names P (take i postfixes))
@@ -292,7 +295,7 @@ module _ (state : StateView) where
       DependenceEnds
       (joined_names (joined_names (declared_of (scope_of state) source) (declared_of (scope_of state) sink))
       (declared_of (scope_of state) schedule))
-      (λ v x. Selects state source v x) (λ v x. Selects state sink v x)
+      (AtAssumed state (λ v x. Selects state source v x)) (AtAssumed state (λ v x. Selects state sink v x))
 
   pub ends_of-Any : (source sink schedule : Expr)
       → EndAlike (Ends state (Any source sink schedule)) (FirstEnds (OperandsEnd state source sink schedule)

@@ -1,7 +1,7 @@
 -- What ends first, and what goes on.
 use Rattle.std.proofs.Common.{◌↔◌, inl, inr, List}
 use Rattle.isl_space.specs.Name.{Name}
-use Rattle.isl_values.specs.Ends.{End, because, cut, too_wide, no_minimum, unbounded, NoEnd, GoesOn, FirstEnds, OperationEnds}
+use Rattle.isl_values.specs.Ends.{End, because, cut, too_wide, no_minimum, unbounded, no_valuation, not_assumed, NoEnd, GoesOn, FirstEnds, OperationEnds}
 
 -- they end for the same reasons
 abbrev pub EndAlike : (End → Type 0) → (End → Type 0) → Type 0
@@ -70,6 +70,8 @@ operation_from names Wide Other Misses Lacks same f (because too_wide) (inl h) =
 operation_from names Wide Other Misses Lacks same f (because too_wide) (inr h) = inr (h.0, same.0 h.1)
 operation_from names Wide Other Misses Lacks same f (because no_minimum) h = (h.0, (λ other. h.1 (same.1 other)), f h.2)
 operation_from names Wide Other Misses Lacks same f (because unbounded) h = h
+operation_from names Wide Other Misses Lacks same f (because no_valuation) h = h
+operation_from names Wide Other Misses Lacks same f (because not_assumed) h = h
 operation_from names Wide Other Misses Lacks same f cut h = (h.0, (λ other. h.1 (same.1 other)))
 
 pub operation_alike : (names : List Name) (Wide Other Misses Lacks : Type 0) → Wide ↔ Other → Misses ↔ Lacks

@@ -12,7 +12,7 @@ use Rattle.isl_text.specs.declared.refusal.Refusal.TheVariants.{NoMemory}
 use Rattle.isl_operators.specs.Made.{IsOver}
 use Rattle.isl_values.specs.declared.list.ListValue.{ListValue}
 use Rattle.isl_values.specs.State.{HasNumbersUpTo}
-use Rattle.isl_values.specs.Made.{refusal_of_fault, IsValueOf}
+use Rattle.isl_values.specs.Made.{refusal_of_fault, IsMadeOf}
 use Rattle.isl_values.specs.Three.{AreOfFlow}
 use Rattle.isl_values.proofs.OutcomeLaws.{IsAnswer}
 
@@ -44,8 +44,8 @@ pub flow_values : (outcome : Result Flow OpFault) (own names : List Name) (Last 
     → IfOk outcome (λ flow. IsKeptValue flow.last) → IfOk outcome (λ flow. IsKeptValue flow.unsourced)
     → (Plain → IfOk outcome (λ flow. HasNoDefinitions flow.last × HasNoDefinitions flow.unsourced))
     → IfOk outcome (λ flow. HasNumbersUpTo limit flow.last × HasNumbersUpTo limit flow.unsourced)
-    → IfOk outcome (λ flow. IsValueOf (IsOver own Last) names Last limit Plain flow.last
-    × IsValueOf (IsOver own Unsourced) names Unsourced limit Plain flow.unsourced)
+    → IfOk outcome (λ flow. IsMadeOf (IsOver own Last) names Last limit Plain flow.last
+    × IsMadeOf (IsOver own Unsourced) names Unsourced limit Plain flow.unsourced)
 flow_values (Ok flow) own names Last Unsourced limit Plain same last unsourced kept other plain small = (
   record {
     written = last;

@@ -1,6 +1,6 @@
 -- What is forgotten: the names that no script has.
 use Rattle.std.proofs.Common.{◌≡◌, ◌∙◌, refl, sym, ap, subst, ℤ, Bool, true, false, cond, not, filter, List, [], ◌∷◌, map, Some, None}
-use Rattle.std.specs.Prelude.{if◌then◌else◌}
+use Rattle.std.specs.Prelude.{if◌then◌else◌, unsigned_abs}
 use Rattle.std.specs.List.{All}
 use Rattle.std.specs.Map.{lookup}
 use Rattle.std.specs.Str.{bytes_eq}
@@ -10,7 +10,10 @@ use Rattle.std.proofs.lemmas.Slice.Eq.{bytes_eq-Decides}
 use Rattle.indexmap.specs.IndexMap.{insert_entry}
 use Rattle.isl_space.specs.Name.{Name}
 use Rattle.isl_kinds.specs.Typed.{TypeView, ScopeView, is_dollar}
-use Rattle.isl_values.specs.State.{Kept, StateView, unbound, kept_of, type_of, forgotten, IsSettled, Fits}
+use Rattle.isl_assumed.specs.declared.assumed.Assumed.{Assumed}
+use Rattle.isl_values.specs.declared.list.ListPart.{ListPart}
+use Rattle.isl_values.specs.State.{Kept, StateView, unbound, kept_of, type_of, forgotten, value_at, EachKept, Fits, HasNumbersUpTo}
+use Rattle.isl_values.specs.State.{IsKeptLive, IsSettled}
 
 abbrev Entries : Type 0
 Entries = List (Name × Kept)
@@ -127,11 +130,11 @@ forget_scope scope next entries after was forgets is =
     forgets ∙ ap (filter (λ (entry : Name × TypeView). not (is_dollar entry.0))) was ∙ sym (plain_types entries) ∙ ap (map types) (sym is)
 
 -- ---- what is bound when names are forgotten
-abbrev of_entries : Entries → StateView
-of_entries entries = record { bound = entries }
+abbrev of_entries : Assumed → Entries → StateView
+of_entries assumed entries = record { bound = entries; assumed = assumed }
 
 pub forgotten_itself : (state : StateView) → IsSettled state → forgotten state ≡ state
-forgotten_itself state settled = ap of_entries (plain_itself state.bound settled)
+forgotten_itself state settled = ap (of_entries state.assumed) (plain_itself state.bound settled)
 
 pub forgotten_settled : (state : StateView) → IsSettled (forgotten state)
 forgotten_settled state = all_plain state.bound
@@ -141,9 +144,12 @@ unbound_settled = All-nil IsPlain
 
 -- what was bound to a name that no script has is not there any more
 pub forgotten_dollar : (old new : StateView) (name : Name) (kept : Kept) → is_dollar name ≡ true
-    → new.bound ≡ insert_entry bytes_eq old.bound name kept
+    → new.bound ≡ insert_entry bytes_eq old.bound name kept → new.assumed ≡ old.assumed
     → forgotten new ≡ forgotten old
-forgotten_dollar old new name kept dollar is = ap of_entries (ap plain is ∙ dollar_gone name kept dollar old.bound)
+forgotten_dollar old new name kept dollar is same = with_both (ap plain is ∙ dollar_gone name kept dollar old.bound) same
+  where
+    with_both : plain new.bound ≡ plain old.bound → new.assumed ≡ old.assumed → forgotten new ≡ forgotten old
+    with_both entries assumed = cc
 
 -- what was bound to another name is
 pub forgotten_plain : (old new : StateView) (name : Name) (kept : Kept) → is_dollar name ≡ false
@@ -166,11 +172,19 @@ kept_of_forgotten state name stays = lookup_plain name stays state.bound
 pub kept_of_dollar : (state : StateView) (name : Name) → is_dollar name ≡ true → kept_of (forgotten state) name ≡ None
 kept_of_dollar state name dollar = lookup_dollar name dollar state.bound
 
--- ---- numbers
-pub fits_forgotten : (limit : ℤ) (state : StateView) → Fits limit state → Fits limit (forgotten state)
-fits_forgotten limit state fits = λ name kept is part. fits name kept (by name kept is (is_dollar name) refl) part
+-- ---- numbers, and live pieces
+pub each_forgotten : (P : Kept → Type 0) (state : StateView) → EachKept P state → EachKept P (forgotten state)
+each_forgotten P state all = λ name kept is. all name kept (by name kept is (is_dollar name) refl)
   where
     by : (name : Name) (kept : Kept) → kept_of (forgotten state) name ≡ Some kept → (d : Bool) → is_dollar name ≡ d
         → kept_of state name ≡ Some kept
     by name kept is true dollar = let none : None ≡ Some kept = sym (kept_of_dollar state name dollar) ∙ is in cc
     by name kept is false stays = sym (kept_of_forgotten state name stays) ∙ is
+
+pub fits_forgotten : (limit : ℤ) (state : StateView) → Fits limit state → Fits limit (forgotten state)
+fits_forgotten limit state fits = record {
+  numbers = each_forgotten (λ k. (part : ListPart) → HasNumbersUpTo (unsigned_abs limit) (value_at part k)) state fits.numbers;
+  live = each_forgotten (IsKeptLive state.assumed) state fits.live;
+  sound = fits.sound;
+  plain = fits.plain;
+}

@@ -28,10 +28,12 @@ use Rattle.isl_kinds.specs.Typed.{TypeView, ScopeView, params_of, has_unknown, b
 use Rattle.isl_values.specs.declared.list.ListPart.{ListPart}
 use Rattle.isl_values.specs.declared.list.ListPart.TheVariants.{First, Second}
 use Rattle.isl_values.specs.declared.list.ListValue.{ListValue}
+use Rattle.isl_assumed.specs.declared.assumed.Assumed.{Assumed}
+use Rattle.isl_values.specs.Live.{IsLiveOf}
 use Rattle.isl_values.specs.State.{Kept, StateView, kept_of, type_of, scope_of, value_at, HasNumbersUpTo, Fits}
 use Rattle.isl_values.specs.Ends.{CutAlone, Ends, GoesOn}
 use Rattle.isl_values.specs.Selection.{KeptHas, SelectsAt}
-use Rattle.isl_values.specs.Made.{uses_units, IsSoundExpr, IsValueOf, IsPaid, IsWhyUnmade, IsWhyUnworked}
+use Rattle.isl_values.specs.Made.{uses_units, IsSoundExpr, IsMadeOf, IsValueOf, IsPaid, IsWhyUnmade, IsWhyUnworked}
 use Rattle.isl_values.specs.Three.{AreBothOf, AreKept, IsValueAt}
 use Rattle.isl_values.proofs.StateLaws.{bound_at}
 
@@ -65,8 +67,9 @@ module _ (state : StateView) (name : Name) (kept : Kept) (there : kept_of state 
       kept = sound;
       params = names ∙ sym (ap params_of type_there ∙ declared_itself kept.value.params
           (subst AreDistinct names sound.params.distinct));
-      elements = selects_there;
-      numbers = fits name kept there part;
+      live = fits.live name kept there part;
+      elements = λ v here. selects_there v;
+      numbers = fits.numbers name kept there part;
       definitions = λ none. plain;
     }
 
@@ -92,13 +95,15 @@ name_both state limit expr name kept list is there are fits = (
 -- ---- a literal
 pub literal_makes : (state : StateView) (part : ListPart) (limit : ℤ) (expr : Expr) (literal : Literal) (value : KeptValue)
     → expr ≡ e.Literal literal → IsWellFormedLiteral literal
-    → IsValueOf (IsLowered literal) literal.params (LiteralHas literal) (unsigned_abs limit) (is_plain literal ≡ true) value
+    → IsValueOf state.assumed (IsLiveOf state.assumed (IsLowered literal)) literal.params (LiteralHas literal) (unsigned_abs limit)
+    (is_plain literal ≡ true) value
     → IsValueAt state part expr (unsigned_abs limit) value
 literal_makes state part limit expr literal value is formed made =
     subst (λ (x : Expr). IsValueAt state part x (unsigned_abs limit) value) (sym is)
     (record {
       written = made.written;
       kept = made.kept;
+      live = made.live;
       params = made.params ∙ sym (declared_itself literal.params formed.params.distinct);
       elements = made.elements;
       numbers = made.numbers;
@@ -107,19 +112,19 @@ literal_makes state part limit expr literal value is formed made =
 
 pub literal_value : (limit : ℕ) (literal : Literal) (value : KeptValue) → IsLowered literal value → IsKeptValue value
     → (is_plain literal ≡ true → HasNoDefinitions value) → HasNumbersUpTo limit value
-    → IsValueOf (IsLowered literal) literal.params (LiteralHas literal) limit (is_plain literal ≡ true) value
+    → IsMadeOf (IsLowered literal) literal.params (LiteralHas literal) limit (is_plain literal ≡ true) value
 literal_value limit literal value is kept plain small =
     record { written = is; kept = kept; params = is.params; elements = is.elements; numbers = small; definitions = plain }
 
-pub literal_paid : (expr : Expr) (literal : Literal) (g h : Gauge) → expr ≡ e.Literal literal → IsPaid true g h
-    → IsPaid (list_any uses_units (parts_of expr)) g h
-literal_paid expr literal g h is paid = subst (λ (x : Expr). IsPaid (list_any uses_units (parts_of x)) g h) (sym is) paid
+pub literal_paid : (assumed : Assumed) (expr : Expr) (literal : Literal) (g h : Gauge) → expr ≡ e.Literal literal → IsPaid true g h
+    → IsPaid (list_any (uses_units assumed) (parts_of expr)) g h
+literal_paid assumed expr literal g h is paid = subst (λ (x : Expr). IsPaid (list_any (uses_units assumed) (parts_of x)) g h) (sym is) paid
 
 pub literal_unmade : (state : StateView) (expr : Expr) (literal : Literal) (g h : Gauge) (refusal : Refusal) → expr ≡ e.Literal literal
     → IsWhyUnmade true CutAlone g h refusal
-    → IsWhyUnworked (list_any uses_units (parts_of expr)) (Ends state expr) g h refusal
+    → IsWhyUnworked (list_any (uses_units state.assumed) (parts_of expr)) (Ends state expr) g h refusal
 literal_unmade state expr literal g h refusal is why =
-    inl (subst (λ (x : Expr). IsWhyUnmade (list_any uses_units (parts_of x)) (Ends state x) g h refusal) (sym is) why)
+    inl (subst (λ (x : Expr). IsWhyUnmade (list_any (uses_units state.assumed) (parts_of x)) (Ends state x) g h refusal) (sym is) why)
 
 -- a name, or a literal, ends nothing
 pub literal_goes_on : (state : StateView) (expr : Expr) (literal : Literal) → expr ≡ e.Literal literal → GoesOn (Ends state expr)

@@ -17,4 +17,7 @@ pub mod OperandLaws
 pub mod DepthLaws
 pub mod ThreeLaws
 pub mod CutLaws
+pub mod LiveLaws
+pub mod UnderLaws
+pub mod NarrowLaws
 pub mod FlatLaws

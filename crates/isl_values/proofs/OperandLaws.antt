@@ -10,21 +10,20 @@ use Rattle.isl_expr.specs.declared.tree.Link.{Link}
 use Rattle.isl_expr.specs.declared.tree.Postfix.{Postfix}
 use Rattle.isl_expr.specs.declared.tree.Expr.{Expr, Row, Prefix, Post}
 use Rattle.isl_operators.specs.Operations.{WordHas, is_operation_word}
-use Rattle.isl_operators.specs.Made.{IsWordOf, word_works}
 use Rattle.isl_kinds.specs.Parts.{prefix, parts_of, parts_of_links, parts_of_postfixes}
 use Rattle.isl_kinds.specs.Typed.{declared_of, declared_of_row, declared_of_post}
 use Rattle.isl_kinds.proofs.DeclaredLaws.{declared_of-Prefix, declared_of-Row, declared_of-Post}
 use Rattle.std.proofs.lemmas.Bool.{not-false}
 use Rattle.isl_values.specs.declared.list.ListPart.{ListPart}
-use Rattle.isl_values.specs.State.{StateView, scope_of}
+use Rattle.isl_values.specs.State.{AtAssumed, StateView, scope_of}
 use Rattle.isl_values.specs.Selection.{Selects, SelectsAt, RowSelects, PostSelects}
-use Rattle.isl_values.specs.Worked.{IsWorkedAt, IsWorkedRow, IsWorkedPost, part_of_list}
+use Rattle.isl_values.specs.Worked.{IsWordedOf, IsWorkedAt, IsWorkedRow, IsWorkedPost, part_of_list}
 use Rattle.isl_values.specs.Ends.{End, Ends, EndsRow, EndsPost, FirstEnds, GoesOn, WordEnds}
 use Rattle.isl_values.specs.Three.{IsValueAt}
 use Rattle.isl_values.specs.Made.{is_foreign, uses_units, IsSoundExpr, IsSoundLink, IsSoundPostfix, IsValueOf, IsPaid, IsWhyUnworked}
 use Rattle.isl_values.proofs.PartLaws.{sound_first, sound_links, sound_operand, sound_postfixes, sound_argument}
 use Rattle.isl_values.proofs.PartLaws.{row_quiet, post_quiet, word_quiet}
-use Rattle.isl_values.proofs.SameLaws.{Same, turned, same_trans, same_word}
+use Rattle.isl_values.proofs.SameLaws.{at_assumed, Same, turned, same_trans, same_word}
 use Rattle.isl_values.proofs.RowLaws.{same_row, selects_of-Row, same_post, selects_of-Post, selects_of-Prefix}
 use Rattle.isl_values.proofs.FirstLaws.{EndAlike, goes_alike, goes_both, turned_alike}
 use Rattle.isl_values.proofs.EndsLaws.{row_alike, ends_of-Row, post_alike, ends_of-Post, ends_of-Prefix, word_alike, Taken}
@@ -33,7 +32,7 @@ use Rattle.isl_values.proofs.ValueLaws.{IsMade, IsMadeAt, work, value_before, pa
 
 -- why there is no value of an expression
 abbrev pub IsWhyNotMade : StateView → Expr → Gauge → Gauge → Refusal → Type 0
-IsWhyNotMade state expr g h refusal = IsWhyUnworked (work (parts_of expr)) (Ends state expr) g h refusal
+IsWhyNotMade state expr g h refusal = IsWhyUnworked (work state.assumed (parts_of expr)) (Ends state expr) g h refusal
 
 -- ---- a row
 pub same_Row : (expr first x : Expr) (links others : List Link) → expr ≡ Row first links → x ≡ first → others ≡ links → expr ≡ Row x others
@@ -51,10 +50,10 @@ module _ (state : StateView) (expr first : Expr) (links : List Link) (is : expr 
     links_sound = sound_links (scope_of state) first links of_row
 
   abbrev RowWorks : Bool
-  RowWorks = work (parts_of expr)
+  RowWorks = work state.assumed (parts_of expr)
 
-  row_none : RowWorks ≡ false → (work (parts_of first) ≡ false) × (work (parts_of_links links) ≡ false)
-  row_none none = row_quiet (scope_of state) uses_units first links (sym (ap (λ (x : Expr). work (parts_of x)) is) ∙ none)
+  row_none : RowWorks ≡ false → (work state.assumed (parts_of first) ≡ false) × (work state.assumed (parts_of_links links) ≡ false)
+  row_none none = row_quiet (scope_of state) (uses_units state.assumed) first links (sym (ap (λ (x : Expr). work state.assumed (parts_of x)) is) ∙ none)
 
   -- what ends in the row: the first operand, and then what is behind it
   abbrev RowEnds : End → Type 0
@@ -67,17 +66,17 @@ module _ (state : StateView) (expr first : Expr) (links : List Link) (is : expr 
 
   pub first_failed : (g h : Gauge) (refusal : Refusal) → IsWhyNotMade state first g h refusal → IsWhyNotMade state expr g h refusal
   first_failed g h refusal why =
-      unworked_in RowWorks (work (parts_of first)) (Ends state first) (Ends state expr) g h refusal (λ none. (row_none none).0)
+      unworked_in RowWorks (work state.assumed (parts_of first)) (Ends state first) (Ends state expr) g h refusal (λ none. (row_none none).0)
       (λ end ends. (row_ends end).0 (inl ends)) why
 
   module _ (g h k : Gauge) (left : KeptValue) (before : IsMade state first g h left) where
     -- what is joined to it
     abbrev IsJoinedPast : KeptValue → Type 0
     IsJoinedPast value =
-        IsValueOf (IsWorkedRow state left links) (declared_of_row (scope_of state) left.params links)
+        IsValueOf state.assumed (IsWorkedRow state left links) (declared_of_row (scope_of state) left.params links)
         (λ v x. RowSelects state v (Has left v) links x) (unsigned_abs (limit_of h))
-        (HasNoDefinitions left × (work (parts_of_links links) ≡ false)) value
-        × IsPaid (work (parts_of_links links)) h k
+        (HasNoDefinitions left × (work state.assumed (parts_of_links links) ≡ false)) value
+        × IsPaid (work state.assumed (parts_of_links links)) h k
 
     pub row_made : (part : ListPart) (made : KeptValue) → IsJoinedPast made → IsMadeAt state part expr g k made
     row_made part made all = (
@@ -85,20 +84,21 @@ module _ (state : StateView) (expr first : Expr) (links : List Link) (is : expr 
           (subst (λ (x : Expr). IsValueAt state part x (unsigned_abs (limit_of h)) made) (sym is) (record {
             written = worked_of-Row state part first links left made before.0.written all.0.written;
             kept = all.0.kept;
+            live = all.0.live;
             params = all.0.params ∙ ap (λ (ps : List Name). declared_of_row (scope_of state) ps links) before.0.params
                 ∙ sym (declared_of-Row (scope_of state) first links);
-            elements = λ v. same_trans (Has made v) (RowSelects state v (Has left v) links) (SelectsAt state part (Row first links) v)
-                (all.0.elements v)
+            elements = λ v here. same_trans (Has made v) (RowSelects state v (Has left v) links) (SelectsAt state part (Row first links) v)
+                (all.0.elements v here)
                 (same_trans (RowSelects state v (Has left v) links) (RowSelects state v (Selects state first v) links)
                 (SelectsAt state part (Row first links) v)
-                (same_row state v (Has left v) (Selects state first v) links (before.0.elements v))
+                (same_row state v (Has left v) (Selects state first v) links (before.0.elements v here))
                 (turned (SelectsAt state part (Row first links) v) (RowSelects state v (Selects state first v) links)
                 (selects_of-Row state v part first links)));
             numbers = all.0.numbers;
-            definitions = λ none. let quiet = row_quiet (scope_of state) uses_units first links none in
+            definitions = λ none. let quiet = row_quiet (scope_of state) (uses_units state.assumed) first links none in
                 all.0.definitions (before.0.definitions quiet.0, quiet.1);
           })),
-      paid_after RowWorks (work (parts_of first)) (work (parts_of_links links)) g h k row_none before.1 all.1,
+      paid_after RowWorks (work state.assumed (parts_of first)) (work state.assumed (parts_of_links links)) g h k row_none before.1 all.1,
     )
 
     -- what is behind it ends for its value as it does for what is selected
@@ -110,10 +110,10 @@ module _ (state : StateView) (expr first : Expr) (links : List Link) (is : expr 
         (row_alike state left.params (Has left) (λ v x. Selects state first v x) links before.0.elements)
 
     pub links_failed : (refusal : Refusal) → GoesOn (Ends state first)
-        → IsWhyUnworked (work (parts_of_links links)) (EndsRow state left.params (Has left) links) h k refusal
+        → IsWhyUnworked (work state.assumed (parts_of_links links)) (EndsRow state left.params (Has left) links) h k refusal
         → IsWhyNotMade state expr g k refusal
     links_failed refusal first_goes why =
-        unworked_after RowWorks (work (parts_of first)) (work (parts_of_links links)) (EndsRow state left.params (Has left) links)
+        unworked_after RowWorks (work state.assumed (parts_of first)) (work state.assumed (parts_of_links links)) (EndsRow state left.params (Has left) links)
         (Ends state expr) g h k refusal row_none
         (λ end ends. (row_ends end).0 (inr (first_goes, (behind_alike end).0 ends))) before.1 why
 
@@ -140,10 +140,10 @@ module _ (state : StateView) (expr operand : Expr) (postfixes : List Postfix) (i
     postfixes_sound = sound_postfixes (scope_of state) operand postfixes of_post
 
   abbrev PostWorks : Bool
-  PostWorks = work (parts_of expr)
+  PostWorks = work state.assumed (parts_of expr)
 
-  post_none : PostWorks ≡ false → (work (parts_of operand) ≡ false) × (work (parts_of_postfixes postfixes) ≡ false)
-  post_none none = post_quiet (scope_of state) uses_units operand postfixes (sym (ap (λ (x : Expr). work (parts_of x)) is) ∙ none)
+  post_none : PostWorks ≡ false → (work state.assumed (parts_of operand) ≡ false) × (work state.assumed (parts_of_postfixes postfixes) ≡ false)
+  post_none none = post_quiet (scope_of state) (uses_units state.assumed) operand postfixes (sym (ap (λ (x : Expr). work state.assumed (parts_of x)) is) ∙ none)
 
   -- what ends in it: the operand, and then what follows it
   abbrev AllEnds : End → Type 0
@@ -156,7 +156,7 @@ module _ (state : StateView) (expr operand : Expr) (postfixes : List Postfix) (i
 
   pub operand_failed : (g h : Gauge) (refusal : Refusal) → IsWhyNotMade state operand g h refusal → IsWhyNotMade state expr g h refusal
   operand_failed g h refusal why =
-      unworked_in PostWorks (work (parts_of operand)) (Ends state operand) (Ends state expr) g h refusal
+      unworked_in PostWorks (work state.assumed (parts_of operand)) (Ends state operand) (Ends state expr) g h refusal
       (λ none. (post_none none).0)
       (λ end ends. (all_end end).0 (inl ends)) why
 
@@ -164,10 +164,10 @@ module _ (state : StateView) (expr operand : Expr) (postfixes : List Postfix) (i
     -- what all that follows it makes
     abbrev IsPassed : KeptValue → Type 0
     IsPassed value =
-        IsValueOf (IsWorkedPost state left postfixes) (declared_of_post (scope_of state) left.params postfixes)
+        IsValueOf state.assumed (IsWorkedPost state left postfixes) (declared_of_post (scope_of state) left.params postfixes)
         (λ v x. PostSelects state v (Has left v) postfixes x) (unsigned_abs (limit_of h))
-        (HasNoDefinitions left × (work (parts_of_postfixes postfixes) ≡ false)) value
-        × IsPaid (work (parts_of_postfixes postfixes)) h k
+        (HasNoDefinitions left × (work state.assumed (parts_of_postfixes postfixes) ≡ false)) value
+        × IsPaid (work state.assumed (parts_of_postfixes postfixes)) h k
 
     pub post_made : (part : ListPart) (made : KeptValue) → IsPassed made → IsMadeAt state part expr g k made
     post_made part made all = (
@@ -175,22 +175,23 @@ module _ (state : StateView) (expr operand : Expr) (postfixes : List Postfix) (i
           (subst (λ (x : Expr). IsValueAt state part x (unsigned_abs (limit_of h)) made) (sym is) (record {
             written = worked_of-Post state part operand postfixes left made before.0.written all.0.written;
             kept = all.0.kept;
+            live = all.0.live;
             params = all.0.params ∙ ap (λ (ps : List Name). declared_of_post (scope_of state) ps postfixes) before.0.params
                 ∙ sym (declared_of-Post (scope_of state) operand postfixes);
-            elements = λ v.
+            elements = λ v here.
                 same_trans (Has made v) (PostSelects state v (Has left v) postfixes) (SelectsAt state part (Post operand postfixes) v)
-                (all.0.elements v)
+                (all.0.elements v here)
                 (same_trans (PostSelects state v (Has left v) postfixes) (PostSelects state v (Taken state operand postfixes v) postfixes)
                 (SelectsAt state part (Post operand postfixes) v)
-                (same_post state v (Has left v) (Taken state operand postfixes v) postfixes (before.0.elements v))
+                (same_post state v (Has left v) (Taken state operand postfixes v) postfixes (before.0.elements v here))
                 (turned (SelectsAt state part (Post operand postfixes) v)
                 (PostSelects state v (Taken state operand postfixes v) postfixes)
                 (selects_of-Post state v part operand postfixes)));
             numbers = all.0.numbers;
-            definitions = λ none. let quiet = post_quiet (scope_of state) uses_units operand postfixes none in
+            definitions = λ none. let quiet = post_quiet (scope_of state) (uses_units state.assumed) operand postfixes none in
                 all.0.definitions (before.0.definitions quiet.0, quiet.1);
           })),
-      paid_after PostWorks (work (parts_of operand)) (work (parts_of_postfixes postfixes)) g h k post_none before.1 all.1,
+      paid_after PostWorks (work state.assumed (parts_of operand)) (work state.assumed (parts_of_postfixes postfixes)) g h k post_none before.1 all.1,
     )
 
     -- what follows it ends for its value as it does for what is selected
@@ -202,10 +203,10 @@ module _ (state : StateView) (expr operand : Expr) (postfixes : List Postfix) (i
         (post_alike state left.params (Has left) (Taken state operand postfixes) postfixes before.0.elements)
 
     pub postfixes_failed : (refusal : Refusal) → GoesOn (Ends state operand)
-        → IsWhyUnworked (work (parts_of_postfixes postfixes)) (EndsPost state left.params (Has left) postfixes) h k refusal
+        → IsWhyUnworked (work state.assumed (parts_of_postfixes postfixes)) (EndsPost state left.params (Has left) postfixes) h k refusal
         → IsWhyNotMade state expr g k refusal
     postfixes_failed refusal operand_goes why =
-        unworked_after PostWorks (work (parts_of operand)) (work (parts_of_postfixes postfixes))
+        unworked_after PostWorks (work state.assumed (parts_of operand)) (work state.assumed (parts_of_postfixes postfixes))
         (EndsPost state left.params (Has left) postfixes) (Ends state expr) g h k refusal post_none
         (λ end ends. (all_end end).0 (inr (operand_goes, (follows_alike end).0 ends))) before.1 why
 
@@ -229,18 +230,18 @@ module _ (state : StateView) (expr : Expr) (word : Word) (operand : Expr) (is : 
       (word_quiet (scope_of state) is_foreign word operand of_word.supported).0
 
   abbrev WordWorks : Bool
-  WordWorks = work (parts_of expr)
+  WordWorks = work state.assumed (parts_of expr)
 
-  word_none : WordWorks ≡ false → (work (parts_of operand) ≡ false) × (word_works word ≡ false)
+  word_none : WordWorks ≡ false → (work state.assumed (parts_of operand) ≡ false) × (uses_units state.assumed (prefix word) ≡ false)
   word_none none =
-      let both = word_quiet (scope_of state) uses_units word operand (sym (ap (λ (x : Expr). work (parts_of x)) is) ∙ none) in
+      let both = word_quiet (scope_of state) (uses_units state.assumed) word operand (sym (ap (λ (x : Expr). work state.assumed (parts_of x)) is) ∙ none) in
       (both.1, both.0)
 
   abbrev pub FormedEnds : KeptValue → End → Type 0
-  FormedEnds value = WordEnds word (Has value)
+  FormedEnds value = WordEnds word (AtAssumed state (Has value))
 
   abbrev SelectedEnds : End → Type 0
-  SelectedEnds = WordEnds word (λ v x. Selects state operand v x)
+  SelectedEnds = WordEnds word (AtAssumed state (λ v x. Selects state operand v x))
 
   word_ends : EndAlike (FirstEnds (Ends state operand) SelectedEnds) (Ends state expr)
   word_ends =
@@ -249,7 +250,7 @@ module _ (state : StateView) (expr : Expr) (word : Word) (operand : Expr) (is : 
 
   pub prefixed_failed : (g h : Gauge) (refusal : Refusal) → IsWhyNotMade state operand g h refusal → IsWhyNotMade state expr g h refusal
   prefixed_failed g h refusal why =
-      unworked_in WordWorks (work (parts_of operand)) (Ends state operand) (Ends state expr) g h refusal
+      unworked_in WordWorks (work state.assumed (parts_of operand)) (Ends state operand) (Ends state expr) g h refusal
       (λ none. (word_none none).0)
       (λ end ends. (word_ends end).0 (inl ends)) why
 
@@ -258,9 +259,9 @@ module _ (state : StateView) (expr : Expr) (word : Word) (operand : Expr) (is : 
     own = subst (IsMade state operand g h) (sym same) made_of
 
     pub word_made : (part : ListPart) → is_foreign (prefix word) ≡ false → (made : KeptValue)
-        → IsValueOf (λ made. IsWordOf word one made) one.params (WordHas word one.params (Has one)) (unsigned_abs (limit_of h))
+        → IsValueOf state.assumed (IsWordedOf state word one) one.params (WordHas word one.params (Has one)) (unsigned_abs (limit_of h))
         (HasNoDefinitions one) made
-        × IsPaid (word_works word) h k
+        × IsPaid (uses_units state.assumed (prefix word)) h k
         → IsMadeAt state part expr g k made
     word_made part supported made all =
         let names = declared_of (scope_of state) operand in (
@@ -270,29 +271,32 @@ module _ (state : StateView) (expr : Expr) (word : Word) (operand : Expr) (is : 
                     (not-false (is_operation_word word) supported)
                     all.0.written;
                 kept = all.0.kept;
+                live = all.0.live;
                 params = all.0.params ∙ own.0.params ∙ sym (declared_of-Prefix (scope_of state) word operand);
-                elements = λ v. same_trans (Has made v) (WordHas word one.params (Has one) v) (SelectsAt state part (Prefix word operand) v)
-                    (all.0.elements v)
+                elements = λ v here. same_trans (Has made v) (WordHas word one.params (Has one) v) (SelectsAt state part (Prefix word operand) v)
+                    (all.0.elements v here)
                     (same_trans (WordHas word one.params (Has one) v) (WordHas word names (Selects state operand) v)
                     (SelectsAt state part (Prefix word operand) v)
                     (subst (λ (ns : List Name). Same (WordHas word one.params (Has one) v) (WordHas word ns (Selects state operand) v))
-                    own.0.params (same_word word one.params (Has one) (Selects state operand) own.0.elements v))
+                    own.0.params (same_word word one.params (Has one) (Selects state operand) v (own.0.elements v here)))
                     (turned (SelectsAt state part (Prefix word operand) v) (WordHas word names (Selects state operand) v)
                     (selects_of-Prefix state v part word operand)));
                 numbers = all.0.numbers;
-                definitions = λ none. all.0.definitions (own.0.definitions (word_quiet (scope_of state) uses_units word operand none).1);
+                definitions = λ none. all.0.definitions (own.0.definitions (word_quiet (scope_of state) (uses_units state.assumed) word operand none).1);
               })),
-          paid_after WordWorks (work (parts_of operand)) (word_works word) g h k word_none own.1 all.1,
+          paid_after WordWorks (work state.assumed (parts_of operand)) (uses_units state.assumed (prefix word)) g h k word_none own.1 all.1,
         )
 
     -- the word ends for the value as it does for what is selected
     formed_alike : EndAlike (FormedEnds one) SelectedEnds
-    formed_alike = word_alike word (Has one) (λ v x. Selects state operand v x) own.0.elements
+    formed_alike =
+        word_alike word (AtAssumed state (Has one)) (AtAssumed state (λ v x. Selects state operand v x))
+        (at_assumed state (Has one) (λ v x. Selects state operand v x) own.0.elements)
 
-    pub word_failed : (refusal : Refusal) → GoesOn (Ends state operand) → IsWhyUnworked (word_works word) (FormedEnds one) h k refusal
+    pub word_failed : (refusal : Refusal) → GoesOn (Ends state operand) → IsWhyUnworked (uses_units state.assumed (prefix word)) (FormedEnds one) h k refusal
         → IsWhyNotMade state expr g k refusal
     word_failed refusal operand_goes why =
-        unworked_after WordWorks (work (parts_of operand)) (word_works word) (FormedEnds one) (Ends state expr) g h k refusal word_none
+        unworked_after WordWorks (work state.assumed (parts_of operand)) (uses_units state.assumed (prefix word)) (FormedEnds one) (Ends state expr) g h k refusal word_none
         (λ end ends. (word_ends end).0 (inr (operand_goes, (formed_alike end).0 ends))) own.1 why
 
     pub word_goes_on : GoesOn (Ends state operand) → GoesOn (FormedEnds one) → GoesOn (Ends state expr)

@@ -20,8 +20,8 @@ use Rattle.isl_operators.specs.Made.{IsWhyNone, IsWhyNoWord}
 use Rattle.isl_kinds.specs.Typed.{joined_names}
 use Rattle.isl_kinds.proofs.JoinedNamesLaws.{joined_is}
 use Rattle.isl_values.specs.State.{HasNumbersUpTo}
-use Rattle.isl_values.specs.Ends.{cut, too_wide, no_minimum, unbounded, End, GoesOn, OperationEnds}
-use Rattle.isl_values.specs.Made.{refusal_of_fault, refusal_of_word_fault, IsValueOf, IsPaid, IsWhyUnworked}
+use Rattle.isl_values.specs.Ends.{cut, too_wide, no_minimum, unbounded, no_valuation, not_assumed, End, GoesOn, OperationEnds}
+use Rattle.isl_values.specs.Made.{refusal_of_fault, refusal_of_word_fault, IsMadeOf, IsPaid, IsWhyUnworked}
 use Rattle.isl_values.proofs.ValueLaws.{paid_same, unmade_memory}
 
 -- ---- the value of an outcome
@@ -31,7 +31,7 @@ module _ {F : Type 0} where
       → IfOk outcome Exact → IfOk outcome IsKeptValue → IfOk outcome (λ value. value.params ≡ own)
       → ((v : Valuation) (x : Element) → IfOk outcome (λ value. Has value v x ↔ Holds v x))
       → (Plain → IfOk outcome HasNoDefinitions) → IfOk outcome (HasNumbersUpTo limit)
-      → IfOk outcome (IsValueOf Exact names Holds limit Plain)
+      → IfOk outcome (IsMadeOf Exact names Holds limit Plain)
   outcome_value (Ok made) Exact own names Holds limit Plain same written kept params elements plain small =
       record { written = written; kept = kept; params = params ∙ same; elements = elements; numbers = small; definitions = plain }
   outcome_value (Err fault) Exact own names Holds limit Plain same written kept params elements plain small = tt
@@ -112,6 +112,8 @@ operation_goes names Wide Misses few narrow found too_wide (inl many) = absurd (
 operation_goes names Wide Misses few narrow found too_wide (inr wide) = narrow wide.1
 operation_goes names Wide Misses few narrow found no_minimum h = found h.2
 operation_goes names Wide Misses few narrow found unbounded h = h
+operation_goes names Wide Misses few narrow found no_valuation h = h
+operation_goes names Wide Misses few narrow found not_assumed h = h
 
 -- where it makes a value, or more of which this is one, it does not end
 pub outcome_goes_of : {A F : Type 0} (of : A → KeptValue) (outcome : Result A F) (own names : List Name) (Wide : Type 0) → own ≡ names

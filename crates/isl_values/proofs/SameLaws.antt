@@ -13,6 +13,9 @@ use Rattle.isl_operators.specs.Extremes.{FirstHas, HasFirst, IsFirstImage, IsFir
 use Rattle.isl_operators.specs.Flow.{AnyHas, IsOverwritten, Precedes}
 use Rattle.isl_operators.specs.Orders.{ComesAfter, ComesBefore, IsDownTo, IsUpTo}
 use Rattle.isl_operators.specs.Operations.{IsIn, OperatorHas, OrderedHas, WordHas, WordMisses, ApplicationHas}
+use Rattle.isl_assumed.specs.declared.assumed.Assumed.{Assumed}
+use Rattle.isl_assumed.specs.Assumed.{Assumes}
+use Rattle.isl_values.specs.State.{StateView, AtAssumed}
 use Rattle.isl_values.specs.declared.list.ListPart.{ListPart}
 use Rattle.isl_values.specs.declared.list.ListPart.TheVariants.{First, Second}
 use Rattle.isl_values.specs.Worked.{Dependence, PartHas}
@@ -41,6 +44,17 @@ same_trans P Q R p q = λ x. ((λ h. (q x).0 ((p x).0 h)), (λ h. (p x).1 ((q x)
 -- at every valuation
 abbrev pub AreSame : Selection → Selection → Type 0
 AreSame P Q = (v : Valuation) (x : Element) → P v x ↔ Q v x
+
+-- at every assumed valuation
+abbrev pub AreSameAt : Assumed → Selection → Selection → Type 0
+AreSameAt assumed P Q = (v : Valuation) → Assumes assumed v → Same (P v) (Q v)
+
+pub turned_at : (assumed : Assumed) (P Q : Selection) → AreSameAt assumed P Q → AreSameAt assumed Q P
+turned_at assumed P Q same v here = turned (P v) (Q v) (same v here)
+
+-- at these alone they are the same at every one
+pub at_assumed : (state : StateView) (P Q : Selection) → AreSameAt state.assumed P Q → AreSame (AtAssumed state P) (AtAssumed state Q)
+at_assumed state P Q same v x = ((λ h. (h.0, (same v h.0 x).0 h.1)), (λ h. (h.0, (same v h.0 x).1 h.1)))
 
 pub turned_same : (P Q : Selection) → AreSame P Q → AreSame Q P
 turned_same P Q same v = turned (P v) (Q v) (same v)
@@ -74,7 +88,7 @@ module _ (P Q : Elements) (same : Same P Q) where
     first_has x (inl h) = inl (h.0, first_of h.0 h.1, h.2)
     first_has x (inr h) = inr (h.0, h.1, first_image h.0 h.1 h.2, h.3)
 
-    has_first : HasFirst Ordered P → HasFirst Ordered Q
+    pub has_first : HasFirst Ordered P → HasFirst Ordered Q
     has_first h = record {
       sets = λ x has. let z = h.sets x (point_back x has) in (z.0, z.1, first_of z.0 z.2);
       maps = λ x y has. let z = h.maps x y (pair_back x y has) in (z.0, z.1, first_image x z.0 z.2);
@@ -113,24 +127,26 @@ module _ (P Q R S : Elements) (map : Same P Q) (argument : Same R S) where
   application_has x (inl h) = inl (h.0, h.1, pair_in P Q map h.0 h.1 h.2, point_in R S argument h.0 h.3, h.4)
   application_has x (inr h) = inr (join_has R S P Q argument map x h)
 
--- a word, of the elements at every valuation
-module _ (P Q : Selection) (same : AreSame P Q) where
-  word_has : (word : Prefix) (names : List Name) (v : Valuation) (x : Element) → WordHas word names P v x → WordHas word names Q v x
-  word_has p.Domain names v x h = (h.0, h.1, pair_in (P v) (Q v) (same v) h.0 h.1 h.2, h.3)
-  word_has p.Range names v x h = (h.0, h.1, pair_in (P v) (Q v) (same v) h.0 h.1 h.2, h.3)
-  word_has p.Deltas names v x h = (h.0, h.1, pair_in (P v) (Q v) (same v) h.0 h.1 h.2, h.3, h.4)
-  word_has p.Identity names v x h = (h.0, point_in (P v) (Q v) (same v) h.0 h.1, h.2)
-  word_has p.Wrap names v x h = (h.0, h.1, pair_in (P v) (Q v) (same v) h.0 h.1 h.2, h.3)
-  word_has p.Unwrap names v x h = (h.0, h.1, h.2, h.3, point_in (P v) (Q v) (same v) (paired h.0 h.1) h.4, h.5)
-  word_has p.Zip names v x h =
-      (h.0, h.1, h.2, h.3, h.4, h.5, h.6, h.7, pair_in (P v) (Q v) (same v) (paired h.0 h.1) (paired h.2 h.3) h.8, h.9)
-  word_has p.DomainMap names v x h = (h.0, h.1, pair_in (P v) (Q v) (same v) h.0 h.1 h.2, h.3)
-  word_has p.RangeMap names v x h = (h.0, h.1, pair_in (P v) (Q v) (same v) h.0 h.1 h.2, h.3)
-  word_has p.LexMin names v x h = first_has (P v) (Q v) (same v) ComesBefore x h
-  word_has p.LexMax names v x h = first_has (P v) (Q v) (same v) ComesAfter x h
-  word_has p.Coalesce names v x h = (same v x).0 h
-  word_has _ names v x h = absurd h
+-- a word, of the elements at a valuation
+module _ (P Q : Selection) (v : Valuation) (same : Same (P v) (Q v)) where
+  word_has : (word : Prefix) (names : List Name) (x : Element) → WordHas word names P v x → WordHas word names Q v x
+  word_has p.Domain names x h = (h.0, h.1, pair_in (P v) (Q v) same h.0 h.1 h.2, h.3)
+  word_has p.Range names x h = (h.0, h.1, pair_in (P v) (Q v) same h.0 h.1 h.2, h.3)
+  word_has p.Deltas names x h = (h.0, h.1, pair_in (P v) (Q v) same h.0 h.1 h.2, h.3, h.4)
+  word_has p.Identity names x h = (h.0, point_in (P v) (Q v) same h.0 h.1, h.2)
+  word_has p.Wrap names x h = (h.0, h.1, pair_in (P v) (Q v) same h.0 h.1 h.2, h.3)
+  word_has p.Unwrap names x h = (h.0, h.1, h.2, h.3, point_in (P v) (Q v) same (paired h.0 h.1) h.4, h.5)
+  word_has p.Zip names x h =
+      (h.0, h.1, h.2, h.3, h.4, h.5, h.6, h.7, pair_in (P v) (Q v) same (paired h.0 h.1) (paired h.2 h.3) h.8, h.9)
+  word_has p.DomainMap names x h = (h.0, h.1, pair_in (P v) (Q v) same h.0 h.1 h.2, h.3)
+  word_has p.RangeMap names x h = (h.0, h.1, pair_in (P v) (Q v) same h.0 h.1 h.2, h.3)
+  word_has p.LexMin names x h = first_has (P v) (Q v) same ComesBefore x h
+  word_has p.LexMax names x h = first_has (P v) (Q v) same ComesAfter x h
+  word_has p.Coalesce names x h = (same x).0 h
+  word_has _ names x h = absurd h
 
+-- at every one
+module _ (P Q : Selection) (same : AreSame P Q) where
   misses : (word : Prefix) → WordMisses word P → WordMisses word Q
   misses p.LexMin h = λ all. h (λ v. has_first (Q v) (P v) (turned (P v) (Q v) (same v)) ComesBefore (all v))
   misses p.LexMax h = λ all. h (λ v. has_first (Q v) (P v) (turned (P v) (Q v) (same v)) ComesAfter (all v))
@@ -195,8 +211,9 @@ same_operator operator P Q R S left right = λ x. (
   operator_has Q P S R (turned P Q left) (turned R S right) operator x,
 )
 
-pub same_word : (word : Prefix) (names : List Name) (P Q : Selection) → AreSame P Q → AreSame (WordHas word names P) (WordHas word names Q)
-same_word word names P Q same v = λ x. (word_has P Q same word names v x, word_has Q P (turned_same P Q same) word names v x)
+pub same_word : (word : Prefix) (names : List Name) (P Q : Selection) (v : Valuation) → Same (P v) (Q v)
+    → Same (WordHas word names P v) (WordHas word names Q v)
+same_word word names P Q v same = λ x. (word_has P Q v same word names x, word_has Q P v (turned (P v) (Q v) same) word names x)
 
 pub same_misses : (word : Prefix) (P Q : Selection) → AreSame P Q → WordMisses word P ↔ WordMisses word Q
 same_misses word P Q same = (misses P Q same word, misses Q P (turned_same P Q same) word)

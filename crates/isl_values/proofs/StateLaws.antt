@@ -8,8 +8,11 @@ use Rattle.std.proofs.lemmas.Slice.Eq.{bytes_eq-Decides}
 use Rattle.indexmap.specs.IndexMap.{insert_entry}
 use Rattle.isl_space.specs.Name.{Name}
 use Rattle.isl_kinds.specs.Typed.{TypeView, ScopeView, bound_to}
+use Rattle.isl_assumed.specs.declared.assumed.Assumed.{Assumed}
+use Rattle.isl_assumed.specs.Assumed.{IsPlain, IsSound}
 use Rattle.isl_values.specs.declared.list.ListPart.{ListPart}
-use Rattle.isl_values.specs.State.{Kept, StateView, unbound, kept_of, type_of, scope_of, value_at, Binds, HasNumbersUpTo, Fits}
+use Rattle.isl_values.specs.State.{Kept, StateView, unbound, kept_of, type_of, scope_of, value_at, Binds, EachKept, HasNumbersUpTo, Fits}
+use Rattle.isl_values.specs.State.{IsKeptLive}
 
 -- ---- the types of what is bound
 lookup_types : (name : Name) (entries : List (Name × Kept))
@@ -87,27 +90,45 @@ others_in name other kept (entry ∷ entries) apart =
     by false is false also more = rw also more
 
 pub binds : (before : StateView) (name : Name) (kept : Kept) (after : StateView)
-    → after.bound ≡ insert_entry bytes_eq before.bound name kept → Binds before name kept after
-binds before name kept after is = record {
+    → after.bound ≡ insert_entry bytes_eq before.bound name kept → after.assumed ≡ before.assumed → Binds before name kept after
+binds before name kept after is same = record {
   named = ap (lookup (bytes_eq name)) is ∙ named_in name kept before.bound;
   others = λ other apart. ap (lookup (bytes_eq other)) is ∙ others_in name other kept before.bound apart;
+  assumed = same;
 }
 
--- ---- numbers
+-- ---- numbers, and live pieces
 some_same : (a b : Kept) → Some a ≡ Some b → a ≡ b
 some_same a b e = cc
 
 pub fits_unbound : (limit : ℤ) → Fits limit unbound
-fits_unbound limit = λ name kept is part. let e : None ≡ Some kept = is in cc
+fits_unbound limit = record {
+  numbers = λ name kept is part. let e : None ≡ Some kept = is in cc;
+  live = λ name kept is part. let e : None ≡ Some kept = is in cc;
+  sound = λ g at. tt;
+  plain = tt;
+}
+
+-- what is so of each that is kept
+pub each_bound : (P : Kept → Type 0) (before : StateView) (name : Name) (kept : Kept) (after : StateView) → EachKept P before
+    → Binds before name kept after → P kept → EachKept P after
+each_bound P before name kept after all bound one = λ other found is. by other found is (bytes_eq other name) refl
+  where
+    by : (other : Name) (found : Kept) → kept_of after other ≡ Some found → (b : Bool) → bytes_eq other name ≡ b → P found
+    by other found is true same =
+        let there : kept_of after other ≡ Some kept = ap (kept_of after) ((bytes_eq-Decides other name).0 same) ∙ bound.named in
+        subst P (some_same kept found (sym there ∙ is)) one
+    by other found is false apart =
+        all other found (sym (bound.others other (λ e. false≢true (sym apart ∙ (bytes_eq-Decides other name).1 e))) ∙ is)
 
 pub fits_bound : (limit : ℤ) (before : StateView) (name : Name) (kept : Kept) (after : StateView) → Fits limit before
-    → Binds before name kept after → ((part : ListPart) → HasNumbersUpTo (unsigned_abs limit) (value_at part kept)) → Fits limit after
-fits_bound limit before name kept after fits bound small = λ other found is part. by other found is part (bytes_eq other name) refl
-  where
-    by : (other : Name) (found : Kept) → kept_of after other ≡ Some found → (part : ListPart) (b : Bool) → bytes_eq other name ≡ b
-        → HasNumbersUpTo (unsigned_abs limit) (value_at part found)
-    by other found is part true same =
-        let there : kept_of after other ≡ Some kept = ap (kept_of after) ((bytes_eq-Decides other name).0 same) ∙ bound.named in
-        subst (λ (k : Kept). HasNumbersUpTo (unsigned_abs limit) (value_at part k)) (some_same kept found (sym there ∙ is)) (small part)
-    by other found is part false apart =
-        fits other found (sym (bound.others other (λ e. false≢true (sym apart ∙ (bytes_eq-Decides other name).1 e))) ∙ is) part
+    → Binds before name kept after → ((part : ListPart) → HasNumbersUpTo (unsigned_abs limit) (value_at part kept))
+    → IsKeptLive before.assumed kept → Fits limit after
+fits_bound limit before name kept after fits bound small live = record {
+  numbers = each_bound (λ k. (part : ListPart) → HasNumbersUpTo (unsigned_abs limit) (value_at part k)) before name kept after fits.numbers
+      bound small;
+  live = subst (λ (assumed : Assumed). EachKept (IsKeptLive assumed) after) (sym bound.assumed)
+      (each_bound (IsKeptLive before.assumed) before name kept after fits.live bound live);
+  sound = λ g at. subst (IsSound g) (sym bound.assumed) (fits.sound g at);
+  plain = subst IsPlain (sym bound.assumed) fits.plain;
+}

@@ -30,13 +30,15 @@ use Rattle.isl_values.specs.declared.dependence.Accesses.{Accesses}
 use Rattle.isl_values.specs.declared.list.ListPart.{ListPart}
 use Rattle.isl_values.specs.declared.list.ListPart.TheVariants.{First, Second}
 use Rattle.isl_values.specs.declared.list.ListValue.{ListValue}
-use Rattle.isl_values.specs.State.{StateView, scope_of}
+use Rattle.isl_values.specs.Live.{IsLiveOf}
+use Rattle.isl_values.specs.State.{AtAssumed, StateView, scope_of}
 use Rattle.isl_values.specs.Worked.{Dependence, IsWorked, IsWorkedAt, PartHas}
 use Rattle.isl_values.specs.Selection.{Selects, SelectsAt}
 use Rattle.isl_values.specs.Ends.{End, DependenceEnds, Ends, FirstEnds, GoesOn}
 use Rattle.isl_values.specs.Made.{IsSoundExpr, IsPaid, IsWhyUnworked}
-use Rattle.isl_values.specs.Three.{AreBothOf, AreKeptWithin, AreMade, AreOfThree, IsOfThree, IsValueAt, IsWhole, names_of_accesses, OperandsEnd, ThreeEnd}
-use Rattle.isl_values.proofs.SameLaws.{DependsOnElements, Same, same_part, same_three, same_trans, turned}
+use Rattle.isl_values.specs.Three.{AreBothOf, AreKeptWithin, AreMade, AreAllLive, AreLiveOfThree, IsLiveOfThree, IsValueAt}
+use Rattle.isl_values.specs.Three.{IsWhole, names_of_accesses, OperandsEnd, ThreeEndAt}
+use Rattle.isl_values.proofs.SameLaws.{at_assumed, DependsOnElements, Same, same_part, same_three, same_trans, turned}
 use Rattle.isl_values.proofs.RowLaws.{selects_of-Any, selects_of-Last}
 use Rattle.isl_values.proofs.WorkedLaws.{worked_of-Any, worked_of-Last}
 use Rattle.isl_values.proofs.FirstLaws.{EndAlike, goes_alike, goes_both, turned_alike}
@@ -53,29 +55,29 @@ module _ (state : StateView) (source sink schedule : Expr) where
   abbrev AllEnd : End → Type 0
   AllEnd = OperandsEnd state source sink schedule
 
-  pub source_failed : (g h : Gauge) (refusal : Refusal) → IsWhyUnworked (work (parts_of source)) (Ends state source) g h refusal
+  pub source_failed : (g h : Gauge) (refusal : Refusal) → IsWhyUnworked (work state.assumed (parts_of source)) (Ends state source) g h refusal
       → IsWhyUnworked true AllEnd g h refusal
   source_failed g h refusal why =
-      unworked_in true (work (parts_of source)) (Ends state source) AllEnd g h refusal nothing_free (λ end ends. inl ends) why
+      unworked_in true (work state.assumed (parts_of source)) (Ends state source) AllEnd g h refusal nothing_free (λ end ends. inl ends) why
 
   module _ (g h : Gauge) (a : KeptValue) (first : IsMade state source g h a) (first_goes : GoesOn (Ends state source)) where
     first_paid : IsPaid true g h
     first_paid = paid_works g h first.1.charged
 
-    pub sink_failed : (k : Gauge) (refusal : Refusal) → IsWhyUnworked (work (parts_of sink)) (Ends state sink) h k refusal
+    pub sink_failed : (k : Gauge) (refusal : Refusal) → IsWhyUnworked (work state.assumed (parts_of sink)) (Ends state sink) h k refusal
         → IsWhyUnworked true AllEnd g k refusal
     sink_failed k refusal why =
-        unworked_after true true (work (parts_of sink)) (Ends state sink) AllEnd g h k refusal nothing_free
+        unworked_after true true (work state.assumed (parts_of sink)) (Ends state sink) AllEnd g h k refusal nothing_free
         (λ end ends. inr (first_goes, inl ends)) first_paid why
 
     module _ (k : Gauge) (b : KeptValue) (second : IsMade state sink h k b) (second_goes : GoesOn (Ends state sink)) where
       pub both_charged : IsCharged g k
       both_charged = IsCharged_trans g h k first.1.charged second.1.charged
 
-      pub schedule_failed : (m : Gauge) (refusal : Refusal) → IsWhyUnworked (work (parts_of schedule)) (Ends state schedule) k m refusal
+      pub schedule_failed : (m : Gauge) (refusal : Refusal) → IsWhyUnworked (work state.assumed (parts_of schedule)) (Ends state schedule) k m refusal
           → IsWhyUnworked true AllEnd g m refusal
       schedule_failed m refusal why =
-          unworked_after true true (work (parts_of schedule)) (Ends state schedule) AllEnd g k m refusal nothing_free
+          unworked_after true true (work state.assumed (parts_of schedule)) (Ends state schedule) AllEnd g k m refusal nothing_free
           (λ end ends. inr (first_goes, inr (second_goes, ends))) (paid_works g k both_charged) why
 
       module _ (m : Gauge) (three : Accesses) (third : IsMade state schedule k m three.schedule.value) where
@@ -106,6 +108,11 @@ three_within state source sink schedule g h three made charged = record {
   schedule = (made.third.kept, numbers_later g h three.schedule.value charged made.third.numbers);
 }
 
+pub three_live : (state : StateView) (source sink schedule : Expr) (limit : ℕ) (three : Accesses)
+    → AreMade state source sink schedule limit three → AreAllLive state.assumed three
+three_live state source sink schedule limit three made =
+    record { source = made.first.live; sink = made.second.live; schedule = made.third.live }
+
 -- the same three values
 pub in_three : (P : KeptValue → KeptValue → KeptValue → Type 0) (a b c x y z : KeptValue) → a ≡ x → b ≡ y → c ≡ z → P a b c → P x y z
 in_three P a b c x y z first second third h =
@@ -122,14 +129,14 @@ three_names a b c second third =
 pub record IsOfOperands (state : StateView) (at : ListPart) (expr source sink schedule : Expr) (Depends : Dependence) : Type 0 where
   pub one : Part
   pub parts : parts_of expr ≡ one ∷ (parts_of source ++ (parts_of sink ++ parts_of schedule))
-  pub works : work (parts_of expr) ≡ true
+  pub works : work state.assumed (parts_of expr) ≡ true
   pub literals : literals_of expr ≡ literals_of source ++ (literals_of sink ++ literals_of schedule)
   pub names : declared_of (scope_of state) expr
       ≡ joined_names (joined_names (declared_of (scope_of state) source) (declared_of (scope_of state) sink)) (declared_of (scope_of state) schedule)
   pub selects : (v : Valuation)
       → Same (SelectsAt state at expr v) (Depends (Selects state source v) (Selects state sink v) (Selects state schedule v))
   pub worked : (a b c value : KeptValue) → IsWorked state source a → IsWorked state sink b → IsWorked state schedule c
-      → IsDependenceOf Depends a b c value → IsWorkedAt state at expr value
+      → IsLiveOf state.assumed (IsDependenceOf Depends a b c) value → IsWorkedAt state at expr value
   pub ends : EndAlike (FirstEnds (OperandsEnd state source sink schedule) (DependenceOf state source sink schedule)) (Ends state expr)
 
 any_itself : (state : StateView) (at : ListPart) (source sink schedule : Expr)
@@ -137,7 +144,7 @@ any_itself : (state : StateView) (at : ListPart) (source sink schedule : Expr)
 any_itself state at source sink schedule = record {
   one = part.any;
   parts = parts_of-Any source sink schedule;
-  works = ap work (parts_of-Any source sink schedule);
+  works = ap (work state.assumed) (parts_of-Any source sink schedule);
   literals = literals_of-Any source sink schedule;
   names = declared_of-Any (scope_of state) source sink schedule;
   selects = λ v. selects_of-Any state v at source sink schedule;
@@ -150,7 +157,7 @@ last_itself : (state : StateView) (at : ListPart) (source sink schedule : Expr)
 last_itself state at source sink schedule = record {
   one = part.last;
   parts = parts_of-Last source sink schedule;
-  works = ap work (parts_of-Last source sink schedule);
+  works = ap (work state.assumed) (parts_of-Last source sink schedule);
   literals = literals_of-Last source sink schedule;
   names = declared_of-Last (scope_of state) source sink schedule;
   selects = λ v. selects_of-Last state v at source sink schedule;
@@ -185,14 +192,14 @@ module _ (state : StateView) (at : ListPart) (expr source sink schedule : Expr) 
     sound_schedule (scope_of state) expr source sink schedule of.one of.parts of.literals sound,
   )
 
-  working : {A : Type 0} → work (parts_of expr) ≡ false → A
+  working : {A : Type 0} → work state.assumed (parts_of expr) ≡ false → A
   working none = absurd (false≢true (sym none ∙ of.works))
 
   -- an operand has no value
   pub operands_failed : (g h : Gauge) (refusal : Refusal) → IsWhyUnworked true (OperandsEnd state source sink schedule) g h refusal
-      → IsWhyUnworked (work (parts_of expr)) (Ends state expr) g h refusal
+      → IsWhyUnworked (work state.assumed (parts_of expr)) (Ends state expr) g h refusal
   operands_failed g h refusal why =
-      unworked_in (work (parts_of expr)) true (OperandsEnd state source sink schedule) (Ends state expr) g h refusal working
+      unworked_in (work state.assumed (parts_of expr)) true (OperandsEnd state source sink schedule) (Ends state expr) g h refusal working
       (λ end here. (of.ends end).0 (inl here)) why
 
   module _ (g h k : Gauge) (three : Accesses) (made_of : AreMade state source sink schedule (unsigned_abs (limit_of g)) three)
@@ -201,55 +208,58 @@ module _ (state : StateView) (at : ListPart) (expr source sink schedule : Expr) 
     same_names =
         ap₂ joined_names (ap₂ joined_names made_of.first.params made_of.second.params) made_of.third.params ∙ sym of.names
 
-    pub dependence_made : (value : KeptValue) → IsOfThree Depends three (unsigned_abs (limit_of h)) value × IsPaid true h k
+    pub dependence_made : (value : KeptValue) → IsLiveOfThree state.assumed Depends three (unsigned_abs (limit_of h)) value × IsPaid true h k
         → IsMadeAt state at expr g k value
     dependence_made value made = (
       value_before g h (IsWorkedAt state at expr) (declared_of (scope_of state) expr) (SelectsAt state at expr) value charged (record {
         written = of.worked three.source.value three.sink.value three.schedule.value value made_of.first.written made_of.second.written
             made_of.third.written made.0.written;
         kept = made.0.kept;
+        live = made.0.live;
         params = made.0.params ∙ same_names;
-        elements = λ v. same_trans (Has value v) (Depends (Has three.source.value v) (Has three.sink.value v) (Has three.schedule.value v))
-            (SelectsAt state at expr v) (made.0.elements v)
+        elements = λ v here. same_trans (Has value v) (Depends (Has three.source.value v) (Has three.sink.value v) (Has three.schedule.value v))
+            (SelectsAt state at expr v) (made.0.elements v here)
             (same_trans (Depends (Has three.source.value v) (Has three.sink.value v) (Has three.schedule.value v))
             (Depends (Selects state source v) (Selects state sink v) (Selects state schedule v)) (SelectsAt state at expr v)
             (same_three Depends on (Has three.source.value v) (Has three.sink.value v) (Has three.schedule.value v)
-            (Selects state source v) (Selects state sink v) (Selects state schedule v) (made_of.first.elements v)
-            (made_of.second.elements v) (made_of.third.elements v))
+            (Selects state source v) (Selects state sink v) (Selects state schedule v) (made_of.first.elements v here)
+            (made_of.second.elements v here) (made_of.third.elements v here))
             (turned (SelectsAt state at expr v) (Depends (Selects state source v) (Selects state sink v) (Selects state schedule v))
             (of.selects v)));
         numbers = made.0.numbers;
         definitions = λ none. working none;
       }),
-      paid_after (work (parts_of expr)) true true g h k working (paid_works g h charged) made.1,
+      paid_after (work state.assumed (parts_of expr)) true true g h k working (paid_works g h charged) made.1,
     )
 
     -- it ends for the three values as it does for what is selected
-    three_alike : EndAlike (ThreeEnd three) (DependenceOf state source sink schedule)
+    three_alike : EndAlike (ThreeEndAt state three) (DependenceOf state source sink schedule)
     three_alike =
         let Source = λ (v : Valuation). Selects state source v in
         let Sink = λ (v : Valuation). Selects state sink v in
-        subst (λ (names : List Name). EndAlike (ThreeEnd three) (DependenceEnds names Source Sink)) (same_names ∙ of.names)
-        (dependence_alike (names_of_accesses three) (Has three.source.value) Source (Has three.sink.value) Sink made_of.first.elements
-        made_of.second.elements)
+        subst (λ (names : List Name). EndAlike (ThreeEndAt state three) (DependenceEnds names (AtAssumed state Source) (AtAssumed state Sink))) (same_names ∙ of.names)
+        (dependence_alike (names_of_accesses three) (AtAssumed state (Has three.source.value)) (AtAssumed state Source)
+        (AtAssumed state (Has three.sink.value)) (AtAssumed state Sink)
+        (at_assumed state (Has three.source.value) Source made_of.first.elements)
+        (at_assumed state (Has three.sink.value) Sink made_of.second.elements))
 
     pub dependence_failed : (refusal : Refusal) → GoesOn (OperandsEnd state source sink schedule)
-        → IsWhyUnworked true (ThreeEnd three) h k refusal → IsWhyUnworked (work (parts_of expr)) (Ends state expr) g k refusal
+        → IsWhyUnworked true (ThreeEndAt state three) h k refusal → IsWhyUnworked (work state.assumed (parts_of expr)) (Ends state expr) g k refusal
     dependence_failed refusal operands_go why =
-        unworked_after (work (parts_of expr)) true true (ThreeEnd three) (Ends state expr) g h k refusal working
+        unworked_after (work state.assumed (parts_of expr)) true true (ThreeEndAt state three) (Ends state expr) g h k refusal working
         (λ end here. (of.ends end).0 (inr (operands_go, (three_alike end).0 here))) (paid_works g h charged) why
 
-    pub dependence_goes : GoesOn (OperandsEnd state source sink schedule) → GoesOn (ThreeEnd three) → GoesOn (Ends state expr)
+    pub dependence_goes : GoesOn (OperandsEnd state source sink schedule) → GoesOn (ThreeEndAt state three) → GoesOn (Ends state expr)
     dependence_goes operands_go here =
         goes_alike (FirstEnds (OperandsEnd state source sink schedule) (DependenceOf state source sink schedule)) (Ends state expr) of.ends
         (goes_both (OperandsEnd state source sink schedule) (DependenceOf state source sink schedule) operands_go
-        (goes_alike (ThreeEnd three) (DependenceOf state source sink schedule) three_alike here))
+        (goes_alike (ThreeEndAt state three) (DependenceOf state source sink schedule) three_alike here))
 
 -- ---- both parts of a list
 pub list_made : (state : StateView) (expr source sink schedule : Expr) (is : expr ≡ Last source sink schedule) (g h k : Gauge)
     (three : Accesses) → AreMade state source sink schedule (unsigned_abs (limit_of g)) three → IsCharged g h → (list : ListValue)
-    → AreOfThree three (unsigned_abs (limit_of h)) list × IsPaid true h k
-    → AreBothOf state expr (unsigned_abs (limit_of g)) list × IsPaid (work (parts_of expr)) g k
+    → AreLiveOfThree state.assumed three (unsigned_abs (limit_of h)) list × IsPaid true h k
+    → AreBothOf state expr (unsigned_abs (limit_of g)) list × IsPaid (work state.assumed (parts_of expr)) g k
 list_made state expr source sink schedule is g h k three made_of charged list made =
     let first = dependence_made state First expr source sink schedule (PartHas First) (same_part First) (is_last state First expr source sink schedule is)
     g h k three made_of charged list.first.value (made.0.0, made.1) in
@@ -262,8 +272,9 @@ literal_same : (state : StateView) (literal : Literal) → IsWhole state (e.Lite
 literal_same state literal limit value made = record {
   written = made.written;
   kept = made.kept;
+  live = made.live;
   params = made.params;
-  elements = λ v x. made.elements v x;
+  elements = λ v here. made.elements v here;
   numbers = made.numbers;
   definitions = made.definitions;
 }
@@ -276,8 +287,9 @@ unfolding hidden-the_row-Expr-0 denote.Hole.Carrier.hidden
 row_same state first links limit value made = record {
   written = made.written;
   kept = made.kept;
+  live = made.live;
   params = made.params;
-  elements = λ v x. made.elements v x;
+  elements = λ v here. made.elements v here;
   numbers = made.numbers;
   definitions = made.definitions;
 }
@@ -290,8 +302,9 @@ unfolding hidden-the_row-Expr-0 denote.Hole.Carrier.hidden
 post_same state operand postfixes limit value made = record {
   written = made.written;
   kept = made.kept;
+  live = made.live;
   params = made.params;
-  elements = λ v x. made.elements v x;
+  elements = λ v here. made.elements v here;
   numbers = made.numbers;
   definitions = made.definitions;
 }
@@ -304,8 +317,9 @@ unfolding hidden-the_row-Expr-0 denote.Hole.Carrier.hidden
 word_same state word operand limit value made = record {
   written = made.written;
   kept = made.kept;
+  live = made.live;
   params = made.params;
-  elements = λ v x. made.elements v x;
+  elements = λ v here. made.elements v here;
   numbers = made.numbers;
   definitions = made.definitions;
 }
@@ -318,8 +332,9 @@ unfolding hidden-the_row-Expr-0 denote.Hole.Carrier.hidden
 any_same state source sink schedule limit value made = record {
   written = made.written;
   kept = made.kept;
+  live = made.live;
   params = made.params;
-  elements = λ v x. made.elements v x;
+  elements = λ v here. made.elements v here;
   numbers = made.numbers;
   definitions = made.definitions;
 }

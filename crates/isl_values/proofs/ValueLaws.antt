@@ -14,12 +14,13 @@ use Rattle.isl_text.specs.declared.refusal.Refusal.{Refusal}
 use Rattle.isl_text.specs.declared.refusal.Refusal.TheVariants.{NoMemory}
 use Rattle.isl_expr.specs.declared.tree.Expr.{Expr}
 use Rattle.isl_kinds.specs.Parts.{Part, parts_of}
+use Rattle.isl_assumed.specs.declared.assumed.Assumed.{Assumed}
 use Rattle.isl_values.specs.declared.list.ListPart.{ListPart}
 use Rattle.isl_values.specs.declared.list.ListPart.TheVariants.{First}
 use Rattle.isl_values.specs.State.{StateView, HasNumbersUpTo, Fits}
 use Rattle.isl_values.specs.Ends.{End, because}
 use Rattle.isl_values.specs.Ends as ends
-use Rattle.isl_values.specs.Made.{uses_units, IsValueOf, IsPaid, IsWhyUnmade, IsWhyUnworked}
+use Rattle.isl_values.specs.Made.{uses_units, IsMadeOf, IsValueOf, IsPaid, IsWhyUnmade, IsWhyUnworked}
 use Rattle.isl_values.specs.Three.{IsValueAt}
 
 -- ---- the meter
@@ -29,11 +30,19 @@ same_limit g h charged = ap limit_of charged.same
 pub fits_later : (g h : Gauge) (state : StateView) → IsCharged g h → Fits (limit_of g) state → Fits (limit_of h) state
 fits_later g h state charged fits = subst (λ (z : ℤ). Fits z state) (sym (same_limit g h charged)) fits
 
-pub value_before : {Plain : Type 0} (g h : Gauge) (Exact : KeptValue → Type 0) (params : List Name) (Holds : Valuation → Element → Type 0)
-    (value : KeptValue) → IsCharged g h
-    → IsValueOf Exact params Holds (unsigned_abs (limit_of h)) Plain value → IsValueOf Exact params Holds (unsigned_abs (limit_of g)) Plain value
-value_before {Plain} g h Exact params Holds value charged made =
-    subst (λ (z : ℤ). IsValueOf Exact params Holds (unsigned_abs z) Plain value) (same_limit g h charged) made
+pub value_before : {Plain : Type 0} {assumed : Assumed} (g h : Gauge) (Exact : KeptValue → Type 0) (params : List Name)
+    (Holds : Valuation → Element → Type 0) (value : KeptValue) → IsCharged g h
+    → IsValueOf assumed Exact params Holds (unsigned_abs (limit_of h)) Plain value
+    → IsValueOf assumed Exact params Holds (unsigned_abs (limit_of g)) Plain value
+value_before {Plain} {assumed} g h Exact params Holds value charged made =
+    subst (λ (z : ℤ). IsValueOf assumed Exact params Holds (unsigned_abs z) Plain value) (same_limit g h charged) made
+
+pub made_before : {Plain : Type 0} (g h : Gauge) (Exact : KeptValue → Type 0) (params : List Name)
+    (Holds : Valuation → Element → Type 0) (value : KeptValue) → IsCharged g h
+    → IsMadeOf Exact params Holds (unsigned_abs (limit_of h)) Plain value
+    → IsMadeOf Exact params Holds (unsigned_abs (limit_of g)) Plain value
+made_before {Plain} g h Exact params Holds value charged made =
+    subst (λ (z : ℤ). IsMadeOf Exact params Holds (unsigned_abs z) Plain value) (same_limit g h charged) made
 
 pub numbers_later : (g h : Gauge) (value : KeptValue) → IsCharged g h → HasNumbersUpTo (unsigned_abs (limit_of g)) value
     → HasNumbersUpTo (unsigned_abs (limit_of h)) value
@@ -118,12 +127,12 @@ unworked_in all a Part Whole g h refusal quiet lifts (inr why) =
 
 -- ---- what is made of an expression
 -- whether some of these parts uses units
-abbrev pub work : List Part → Bool
-work parts = list_any uses_units parts
+abbrev pub work : Assumed → List Part → Bool
+work assumed parts = list_any (uses_units assumed) parts
 
 -- this part of it is made, over the units that its parts use
 abbrev pub IsMadeAt : StateView → ListPart → Expr → Gauge → Gauge → KeptValue → Type 0
-IsMadeAt state part expr g h value = IsValueAt state part expr (unsigned_abs (limit_of g)) value × IsPaid (work (parts_of expr)) g h
+IsMadeAt state part expr g h value = IsValueAt state part expr (unsigned_abs (limit_of g)) value × IsPaid (work state.assumed (parts_of expr)) g h
 
 abbrev pub IsMade : StateView → Expr → Gauge → Gauge → KeptValue → Type 0
 IsMade state expr g h value = IsMadeAt state First expr g h value
@@ -131,8 +140,8 @@ IsMade state expr g h value = IsMadeAt state First expr g h value
 -- ---- what calls make
 pub value_same : {Plain : Type 0} (made value : KeptValue) (Exact : KeptValue → Type 0) (names : List Name)
     (Holds : Valuation → Element → Type 0) (limit : ℕ) → value ≡ made
-    → IsValueOf Exact names Holds limit Plain made → IsValueOf Exact names Holds limit Plain value
-value_same {Plain} made value Exact names Holds limit same is = subst (IsValueOf Exact names Holds limit Plain) (sym same) is
+    → IsMadeOf Exact names Holds limit Plain made → IsMadeOf Exact names Holds limit Plain value
+value_same {Plain} made value Exact names Holds limit same is = subst (IsMadeOf Exact names Holds limit Plain) (sym same) is
 
 -- what an answer has, and what a refusal has
 pub match_map : {A E : Type 0} (r : Result A E) (P Q : A → Type 0) (R S : E → Type 0) → ((a : A) → P a → Q a) → ((e : E) → R e → S e)

@@ -12,10 +12,11 @@ use Rattle.isl_expr.specs.declared.tree.Expr.{items_hidden-the_row-Link-1, items
 use Rattle.isl_expr.specs.declared.tree.Expr.TheBlock.{hidden-the_row-Expr-0, hidden-the_row-Link-1, hidden-the_row-Postfix-2}
 use Rattle.isl_operators.specs.Operations.{is_operation_word}
 use Rattle.isl_operators.specs.Flow.{AnyHas}
-use Rattle.isl_operators.specs.Made.{IsDependenceOf, IsOperatorOf, IsWordOf}
+use Rattle.isl_operators.specs.Made.{IsDependenceOf, IsOperatorOf}
 use Rattle.isl_values.specs.declared.list.ListPart.{ListPart}
+use Rattle.isl_values.specs.Live.{IsLiveOf}
 use Rattle.isl_values.specs.State.{StateView}
-use Rattle.isl_values.specs.Worked.{IsPostfixOf, IsWorked, IsWorkedAt, IsWorkedPastLinks, IsWorkedPastPostfixes, IsWorkedPost, IsWorkedRow}
+use Rattle.isl_values.specs.Worked.{IsPostfixOf, IsWordedOf, IsWorked, IsWorkedAt, IsWorkedPastLinks, IsWorkedPastPostfixes, IsWorkedPost, IsWorkedRow}
 use Rattle.isl_values.specs.Worked.{PartHas, part_of_list}
 use Rattle.isl_values.proofs.RowLaws.{part_is}
 
@@ -37,15 +38,15 @@ worked_of-Row state part first links left value one all = (
 )
 
 row_push : (state : StateView) (first left right made : KeptValue) (links : List Link) (link : Link) → IsWorkedRow state first links left
-    → IsWorked state link.operand right → IsOperatorOf link.operator left right made → IsWorkedRow state first (links ++ link ∷ []) made
+    → IsWorked state link.operand right → IsLiveOf state.assumed (IsOperatorOf link.operator left right) made → IsWorkedRow state first (links ++ link ∷ []) made
 row_push state first left right made [] link before behind joins =
-    (right, made, behind, subst (λ (v : KeptValue). IsOperatorOf link.operator v right made) before joins, refl)
+    (right, made, behind, subst (λ (v : KeptValue). IsLiveOf state.assumed (IsOperatorOf link.operator v right) made) before joins, refl)
 row_push state first left right made (other ∷ links) link before behind joins =
     (before.0, before.1, before.2, before.3, row_push state before.1 left right made links link before.4 behind joins)
 
 pub row_worked_more : (state : StateView) (first left right made : KeptValue) (links : List Link) (i : ℕ) (link : Link) → i < length links
     → link ≡ get_or links i link → IsWorkedRow state first (take i links) left → IsWorked state link.operand right
-    → IsOperatorOf link.operator left right made
+    → IsLiveOf state.assumed (IsOperatorOf link.operator left right) made
     → IsWorkedRow state first (take (i + 1) links) made
 row_worked_more state first left right made links i link low is before behind joins =
     subst (λ (ls : List Link). IsWorkedRow state first ls made)
@@ -54,7 +55,7 @@ row_worked_more state first left right made links i link low is before behind jo
 
 -- ---- a word before an operand
 pub worked_of-Prefix : (state : StateView) (part : ListPart) (word : Word) (operand : Expr) (argument value : KeptValue)
-    → IsWorked state operand argument → is_operation_word word ≡ true → IsWordOf word argument value
+    → IsWorked state operand argument → is_operation_word word ≡ true → IsWordedOf state word argument value
     → IsWorkedAt state part (Prefix word operand) value
 unfolding hidden-the_row-Expr-0 denote.Hole.Carrier.hidden
 worked_of-Prefix state part word operand argument value one is made = (argument, one, is, made)
@@ -81,11 +82,11 @@ worked_of-Post state part operand postfixes left value one all =
 -- ---- source, sink and schedule
 module _ (state : StateView) (part : ListPart) (source sink schedule : Expr) (a b c value : KeptValue) (first : IsWorked state source a)
     (second : IsWorked state sink b) (third : IsWorked state schedule c) where
-  pub worked_of-Any : IsDependenceOf AnyHas a b c value → IsWorkedAt state part (Any source sink schedule) value
+  pub worked_of-Any : IsLiveOf state.assumed (IsDependenceOf AnyHas a b c) value → IsWorkedAt state part (Any source sink schedule) value
   unfolding hidden-the_row-Expr-0 denote.Hole.Carrier.hidden
   worked_of-Any made = (a, b, c, first, second, third, made)
 
-  pub worked_of-Last : IsDependenceOf (PartHas part) a b c value → IsWorkedAt state part (Last source sink schedule) value
+  pub worked_of-Last : IsLiveOf state.assumed (IsDependenceOf (PartHas part) a b c) value → IsWorkedAt state part (Last source sink schedule) value
   unfolding hidden-the_row-Expr-0 denote.Hole.Carrier.hidden
   worked_of-Last made = (a, b, c, first, second, third, made)
 

@@ -1,3 +1,4 @@
+pub mod Live
 pub mod State
 pub mod Worked
 pub mod Selection

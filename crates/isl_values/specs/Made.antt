@@ -1,5 +1,5 @@
 -- public: what values are worked out of expressions, for whom, and what that does to the meter.
-use Rattle.std.specs.Prelude.{◌≡◌, ◌↔◌, ◌⊎◌, ℕ, Bool, true, false, not, List, All, Some}
+use Rattle.std.specs.Prelude.{◌≡◌, ◌↔◌, ◌⊎◌, ℕ, Bool, true, false, not, ◌||◌, List, All, Some}
 use Rattle.std.specs.List.{list_any}
 use Rattle.isl_meter.specs.Gauge.{Gauge, IsCutBy}
 use Rattle.isl_meter.specs.declared.Cut.{Cut}
@@ -24,6 +24,9 @@ use Rattle.isl_operators.specs.Made.{operator_works, word_works}
 use Rattle.isl_operators.specs.declared.fault.WordFault.{WordFault}
 use Rattle.isl_operators.specs.declared.fault.WordFault.TheVariants as word_fault
 pub use Rattle.isl_operators.specs.Made.{IsPaid}
+use Rattle.isl_assumed.specs.declared.assumed.Assumed.{Assumed}
+use Rattle.isl_assumed.specs.Assumed.{Assumes}
+use Rattle.isl_values.specs.Live.{IsLiveUnder, narrows}
 use Rattle.isl_values.specs.State.{HasNumbersUpTo}
 use Rattle.isl_values.specs.Ends.{End, Reason, because, refusal_of_reason}
 use Rattle.isl_values.specs.Ends as ends
@@ -40,18 +43,18 @@ is_foreign inverse = false
 is_foreign application = false
 is_foreign (item number) = false
 
--- the parts that may use units: all but names, `+`, `^-1`, `[i]` and the words that only move columns; a literal is asked whether what it
--- writes has an element
-abbrev pub uses_units : Part → Bool
-uses_units (name n) = false
-uses_units (literal l) = true
-uses_units (operator sign) = operator_works sign
-uses_units (prefix word) = word_works word
-uses_units any = true
-uses_units last = true
-uses_units inverse = false
-uses_units application = true
-uses_units (item number) = false
+-- The parts that may use units: all but names, `+`, `^-1`, `[i]` and the words that only move columns; a literal is asked whether what it
+-- writes has an element. Where something is assumed, all but names and `[i]`: what is made is asked whether it has an element there.
+abbrev pub uses_units : Assumed → Part → Bool
+uses_units assumed (name n) = false
+uses_units assumed (literal l) = true
+uses_units assumed (operator sign) = operator_works sign || narrows assumed
+uses_units assumed (prefix word) = word_works word || narrows assumed
+uses_units assumed any = true
+uses_units assumed last = true
+uses_units assumed inverse = narrows assumed
+uses_units assumed application = true
+uses_units assumed (item number) = false
 
 -- the expression has a type in the scope
 pub record IsOfType (scope : ScopeView) (expr : Expr) (t : TypeView) : Type 0 where
@@ -78,12 +81,24 @@ IsSoundPostfix scope (Item number) = Unit {0}
 
 -- The kept value is one of these, with these parameters, these elements at each valuation, and no number above the limit; where this is so,
 -- none of its columns is defined.
-pub record IsValueOf (Exact : KeptValue → Type 0) (names : List Name) (Elements : Valuation → Element → Type 0) (limit : ℕ)
+pub record IsMadeOf (Exact : KeptValue → Type 0) (names : List Name) (Elements : Valuation → Element → Type 0) (limit : ℕ)
     (Plain : Type 0) (value : KeptValue) : Type 0 where
   pub written : Exact value
   pub kept : IsKeptValue value
   pub params : value.params ≡ names
   pub elements : (valuation : Valuation) (element : Element) → Has value valuation element ↔ Elements valuation element
+  pub numbers : HasNumbersUpTo limit value
+  pub definitions : Plain → HasNoDefinitions value
+
+-- The same at each assumed valuation, and each of its pieces has an element at one.
+pub record IsValueOf (assumed : Assumed) (Exact : KeptValue → Type 0) (names : List Name) (Elements : Valuation → Element → Type 0)
+    (limit : ℕ) (Plain : Type 0) (value : KeptValue) : Type 0 where
+  pub written : Exact value
+  pub kept : IsKeptValue value
+  pub live : IsLiveUnder assumed value
+  pub params : value.params ≡ names
+  pub elements : (valuation : Valuation) → Assumes assumed valuation
+      → (element : Element) → Has value valuation element ↔ Elements valuation element
   pub numbers : HasNumbersUpTo limit value
   pub definitions : Plain → HasNoDefinitions value
 

@@ -4,11 +4,10 @@ use Rattle.isl_meter.specs.Gauge.{limit_of}
 use Rattle.isl_space.specs.Valuation.{Valuation}
 use Rattle.isl_space.specs.Element.{Element}
 use Rattle.isl_union.specs.KeptValue.{KeptValue, Has, HasNoDefinitions, IsKeptValue}
-use Rattle.isl_union.specs.Sample.{IsSampleOf}
 use Rattle.isl_maps.specs.Inverse.{inverse_element}
 use Rattle.isl_relation.specs.Flow.{AnyHas}
 use Rattle.isl_gist.specs.Gist.{value_over, IsGistOf}
-use Rattle.isl_coalesce.specs.Coalesced.{IsCoalesced}
+use Rattle.isl_coalesce.specs.Coalesced.{IsCoalescedUnder}
 use Rattle.isl_tree.specs.Literal.{LiteralHas}
 use Rattle.isl_expr.specs.declared.tree.Binary.{Binary}
 use Rattle.isl_expr.specs.declared.tree.Binary.TheVariants as b
@@ -20,12 +19,12 @@ use Rattle.isl_expr.specs.declared.tree.Expr.{Expr, Row', Prefix', Any', Last', 
 use Rattle.isl_expr.specs.declared.tree.Expr.{Row_of-Link, end_of-Link, more_of-Link, Row_of-Postfix, end_of-Postfix, more_of-Postfix}
 use Rattle.isl_expr.specs.declared.tree.Expr as e
 use Rattle.isl_operators.specs.Operations.{OperatorHas, WordHas, ApplicationHas}
-use Rattle.isl_operators.specs.Made.{IsAnyWordOf}
 use Rattle.isl_kinds.specs.Lines.{is_kind}
 use Rattle.isl_kinds.specs.Typed.{kind_of, declared_of, declared_in, joined_names}
 use Rattle.isl_expr.specs.declared.tree.ValueKind.TheVariants.{List as Pair}
 use Rattle.isl_values.specs.declared.list.ListPart.{ListPart}
 use Rattle.isl_values.specs.declared.list.ListPart.TheVariants.{First, Second}
+use Rattle.isl_values.specs.Live.{IsLiveUnder, IsSampleAt, IsUnderOf}
 use Rattle.isl_values.specs.State.{Kept, StateView, Moment, kept_of, scope_of, value_at, HasNumbersUpTo, Everywhere}
 use Rattle.isl_values.specs.Worked.{IsWrittenAt, PartHas, part_taken}
 
@@ -91,8 +90,8 @@ PostSelects state valuation Operand [] element = Operand element
 PostSelects state valuation Operand (postfix ∷ postfixes) element =
     PostSelects state valuation (λ x. PostfixHas state valuation Operand postfix x) postfixes element
 
--- a value with exactly the elements that this part of the expression selects, at every valuation; of the values with these elements it is
--- one that is worked out, or that without its defined columns
+-- a value with exactly the elements that this part of the expression selects, at every assumed valuation; of the values with these elements
+-- it is one that is worked out, or that without its defined columns
 pub record IsSelectedAt (state : StateView) (part : ListPart) (expr : Expr) (value : KeptValue) : Type 0 where
   pub elements : Everywhere state (λ valuation. (element : Element) → Has value valuation element ↔ SelectsAt state part expr valuation element)
   pub written : IsWrittenAt state part expr value
@@ -105,11 +104,13 @@ abbrev pub IsSelectedIn : {m : _} → StateView → Row_of-Expr m → KeptValue 
 IsSelectedIn state end_of-Expr value = ⊥
 IsSelectedIn state (more_of-Expr expr rest) value = IsSelected state expr value
 
--- of two kept values, over the joined parameters of both, the one is the gist of the left one in the context of the right one
-abbrev pub IsGistOfTwo : KeptValue → KeptValue → KeptValue → Type 0
-IsGistOfTwo left right value =
+-- of two kept values, over the joined parameters of both, the one is the gist of the left one in the context of what the right one has at
+-- assumed valuations
+abbrev pub IsGistOfTwo : StateView → KeptValue → KeptValue → KeptValue → Type 0
+IsGistOfTwo state left right value =
     IsKeptValue left × IsKeptValue right
-    × IsGistOf (value_over (joined_names left.params right.params) left) (value_over (joined_names left.params right.params) right) value
+    × ((context : KeptValue) × IsKeptValue context × IsUnderOf state.assumed (joined_names left.params right.params) right context
+    × IsGistOf (value_over (joined_names left.params right.params) left) (value_over (joined_names left.params right.params) context) value)
 
 -- the operand of `%`
 abbrev pub operand_of_gist : Binary → Expr → Option Expr
@@ -138,25 +139,29 @@ context_of end_of-Link = None
 context_of (more_of-Link operator operand end_of-Link) = operand_of_gist operator operand
 context_of (more_of-Link operator operand (more_of-Link next other rest)) = None
 
+-- the value has the elements of the other at every assumed valuation, and its pieces are put together
+pub record IsTogetherOf (state : StateView) (argument value : KeptValue) : Type 0 where
+  pub elements : Everywhere state (λ valuation. (element : Element) → Has value valuation element ↔ Has argument valuation element)
+  pub coalesced : IsCoalescedUnder state.assumed argument value
+
 -- What is kept of a word with its operand. Of `sample`: one element of a value of the operand, chosen once. Of `coalesce`: the elements of a
 -- value of the operand, whose pieces are put together. Of others what is selected.
-abbrev pub IsContentOfWord : Prefix → (KeptValue → Type 0) → (KeptValue → Type 0) → KeptValue → Type 0
-IsContentOfWord p.Sample Operand Selected value = (argument : KeptValue) × Operand argument × IsSampleOf argument value
-IsContentOfWord p.Coalesce Operand Selected value =
-    (argument : KeptValue) × Operand argument × IsAnyWordOf p.Coalesce argument value × IsCoalesced argument value
-IsContentOfWord p.Domain Operand Selected value = Selected value
-IsContentOfWord p.Range Operand Selected value = Selected value
-IsContentOfWord p.Deltas Operand Selected value = Selected value
-IsContentOfWord p.Identity Operand Selected value = Selected value
-IsContentOfWord p.Wrap Operand Selected value = Selected value
-IsContentOfWord p.Unwrap Operand Selected value = Selected value
-IsContentOfWord p.Zip Operand Selected value = Selected value
-IsContentOfWord p.DomainMap Operand Selected value = Selected value
-IsContentOfWord p.RangeMap Operand Selected value = Selected value
-IsContentOfWord p.LexMin Operand Selected value = Selected value
-IsContentOfWord p.LexMax Operand Selected value = Selected value
-IsContentOfWord p.Scan Operand Selected value = Selected value
-IsContentOfWord p.Codegen Operand Selected value = Selected value
+abbrev pub IsContentOfWord : StateView → Prefix → (KeptValue → Type 0) → (KeptValue → Type 0) → KeptValue → Type 0
+IsContentOfWord state p.Sample Operand Selected value = (argument : KeptValue) × Operand argument × IsSampleAt state.assumed argument value
+IsContentOfWord state p.Coalesce Operand Selected value = (argument : KeptValue) × Operand argument × IsTogetherOf state argument value
+IsContentOfWord state p.Domain Operand Selected value = Selected value
+IsContentOfWord state p.Range Operand Selected value = Selected value
+IsContentOfWord state p.Deltas Operand Selected value = Selected value
+IsContentOfWord state p.Identity Operand Selected value = Selected value
+IsContentOfWord state p.Wrap Operand Selected value = Selected value
+IsContentOfWord state p.Unwrap Operand Selected value = Selected value
+IsContentOfWord state p.Zip Operand Selected value = Selected value
+IsContentOfWord state p.DomainMap Operand Selected value = Selected value
+IsContentOfWord state p.RangeMap Operand Selected value = Selected value
+IsContentOfWord state p.LexMin Operand Selected value = Selected value
+IsContentOfWord state p.LexMax Operand Selected value = Selected value
+IsContentOfWord state p.Scan Operand Selected value = Selected value
+IsContentOfWord state p.Codegen Operand Selected value = Selected value
 
 -- What a value has that is kept of this part of an expression: what is selected; of `sample` and `coalesce` what these make of a value of their
 -- operand; of one `%` of two values the gist of the left one in the context of the right one.
@@ -166,19 +171,20 @@ IsContentOf state part (e.Literal literal) value = IsSelectedAt state part (e.Li
 IsContentOf state part (Row' s first t links) value =
     MatchOption (context_of links) (IsSelectedAt state part (Row' s first t links) value)
     (λ context. (left : KeptValue) × (right : KeptValue) × IsSelectedIn state first left × IsSelected state context right
-    × IsGistOfTwo left right value)
+    × IsGistOfTwo state left right value)
 IsContentOf state part (Prefix' word s operand) value =
-    IsContentOfWord word (λ argument. IsSelectedIn state operand argument) (λ v. IsSelectedAt state part (Prefix' word s operand) v) value
+    IsContentOfWord state word (λ argument. IsSelectedIn state operand argument) (λ v. IsSelectedAt state part (Prefix' word s operand) v) value
 IsContentOf state part (Any' r source s sink t schedule) value = IsSelectedAt state part (Any' r source s sink t schedule) value
 IsContentOf state part (Last' r source s sink t schedule) value = IsSelectedAt state part (Last' r source s sink t schedule) value
 IsContentOf state part (Post' s operand t postfixes) value = IsSelectedAt state part (Post' s operand t postfixes) value
 
 -- This is kept of a part of an expression: a value of its content, with the parameters that the expression declares and numbers within
--- the limit, in which no column is defined.
+-- the limit, in which no column is defined, and each piece has an element at an assumed valuation.
 pub record IsKeptOf (before : Moment) (part : ListPart) (expr : Expr) (value : KeptValue) : Type 0 where
   pub params : declared_of (scope_of before.state) expr ≡ value.params
   pub content : IsContentOf before.state part expr value
   pub well_formed : IsKeptValue value
+  pub live : IsLiveUnder before.state.assumed value
   pub numbers : HasNumbersUpTo (unsigned_abs (limit_of before.meter)) value
   pub definitions : HasNoDefinitions value
 

@@ -4,6 +4,8 @@ use Rattle.std.specs.Coded.{Coded, code_by, coded×, coded_list, coded_option, c
 use Rattle.isl_space.specs.Name.{Name}
 use Rattle.isl_expr.specs.declared.tree.ValueKind.{ValueKind}
 use Rattle.isl_expr.specs.contracts.tree.ValueKind as kind
+use Rattle.isl_assumed.specs.contracts.assumed.Assumed as assumed
+use Rattle.isl_assumed.specs.declared.assumed.Assumed.{Assumed}
 use Rattle.isl_union.specs.KeptValue.{KeptValue, HasNoDefinitions}
 use Rattle.isl_union.specs.Stored.{kept_value_code}
 use Rattle.isl_values.specs.declared.list.ListPart.{ListPart}
@@ -18,8 +20,9 @@ kept_code =
 
 abbrev pub state_code : Coded StateView
 state_code =
-    code_by (List (Name × Kept)) (coded_list (coded× (coded_list coded_ℕ) kept_code)) (λ state. state.bound)
-    (λ bound. record { bound = bound }) (λ _. refl)
+    code_by (List (Name × Kept) × Assumed)
+    (coded× (coded_list (coded× (coded_list coded_ℕ) kept_code)) assumed.the_row.coded)
+    (λ state. (state.bound, state.assumed)) (λ parts. record { bound = parts.0; assumed = parts.1 }) (λ _. refl)
 
 -- no value of what is kept defines a column, and both values of a list are over one list of parameters
 pub record IsPlainKept (kept : Kept) : Type 0 where

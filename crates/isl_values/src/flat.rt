@@ -5,11 +5,13 @@ ghost use Rattle.std.specs.List.{list_any};
 ghost use Rattle.isl_meter.specs.Gauge.{IsCharged, limit_of};
 ghost use Rattle.isl_union.specs.KeptValue.{HasNoDefinitions, IsKeptValue};
 ghost use Rattle.isl_kinds.specs.Parts.{parts_of};
+ghost use Rattle.isl_values.specs.Live.{IsLiveUnder};
 ghost use Rattle.isl_values.specs.State.{scope_of, Fits, HasNumbersUpTo};
 ghost use Rattle.isl_values.specs.Ends.{CutAlone, Ends, GoesOn};
 ghost use Rattle.isl_values.specs.Made.{uses_units, IsPaid, IsSoundExpr, IsWhyUnmade, IsWhyUnworked};
-ghost use Rattle.isl_values.specs.Three.{AreBothFlat, IsFlatAt, IsMadeFlat};
+ghost use Rattle.isl_values.specs.Three.{AreBothFlat, IsFlatAt, IsLiveFlat, IsMadeFlat};
 
+use crate::live::live_part;
 use crate::values::{list_of, refusal_of, value_of};
 use crate::{ListPart, ListValue, State};
 use isl_expr::tree::Expr;
@@ -45,18 +47,28 @@ fn flat_copy(alloc: Global, value: &Value, meter: &mut Meter) -> Result<Rc<Value
     }
 }
 
-// The value without its defined columns; where it has none it is that value, and not a copy, and nothing is used.
-fn flattened(alloc: Global, value: Rc<Value>, meter: &mut Meter) -> Result<Rc<Value>, Refusal>
-    requires { HasNumbersUpTo (unsigned_abs (limit_of meter.old)) value.value }
+// What is live of the value without its defined columns; where it has none it is that value, and not a copy, and nothing is used.
+fn flattened(
+    alloc: Global,
+    value: Rc<Value>,
+    state: &State,
+    meter: &mut Meter,
+) -> Result<Rc<Value>, Refusal>
+    requires numbers { HasNumbersUpTo (unsigned_abs (limit_of meter.old)) value.value }
+    requires live { IsLiveUnder state.now.assumed value.value }
+    requires fits { Fits (limit_of meter.old) state.now }
     ensures made { MatchResult result
-        (λ flat. IsMadeFlat (unsigned_abs (limit_of meter.old)) value.value flat.value × IsCharged meter.old meter.new)
+        (λ flat. IsLiveFlat state.now.assumed (unsigned_abs (limit_of meter.old)) value.value flat.value × IsCharged meter.old meter.new)
         (IsWhyUnmade true CutAlone meter.old meter.new) }
     ensures same { HasNoDefinitions value.value → MatchResult result (λ _. meter.new ≡ meter.old) (λ _. ⊥) }
 {
     if is_flat(&value) {
         return Ok(value);
     }
-    flat_copy(alloc, &value, meter)
+    match flat_copy(alloc, &value, meter) {
+        Ok(flat) => live_part(alloc, flat, state.assumed(), meter),
+        Err(refusal) => Err(refusal),
+    }
 }
 
 /// The value that is worked out of an expression, as `value_of` gives it, but in pieces that define no column. Where nothing in the
@@ -74,12 +86,12 @@ pub fn flat_value_of(
     requires fits { Fits (limit_of meter.old) state.now }
     ensures made { MatchResult result
         (λ value. IsFlatAt state.now ListPart.First expr.now (unsigned_abs (limit_of meter.old)) value.value
-        × IsPaid (list_any uses_units (parts_of expr.now)) meter.old meter.new)
-        (IsWhyUnworked (list_any uses_units (parts_of expr.now)) (Ends state.now expr.now) meter.old meter.new) }
+        × IsPaid (list_any (uses_units state.now.assumed) (parts_of expr.now)) meter.old meter.new)
+        (IsWhyUnworked (list_any (uses_units state.now.assumed) (parts_of expr.now)) (Ends state.now expr.now) meter.old meter.new) }
     ensures goes_on { IfOk result (λ _. GoesOn (Ends state.now expr.now)) }
 {
     match value_of(alloc, expr, state, meter) {
-        Ok(value) => flattened(alloc, value, meter),
+        Ok(value) => flattened(alloc, value, state, meter),
         Err(refusal) => Err(refusal),
     }
 }
@@ -99,19 +111,19 @@ pub fn flat_list_of(
     requires fits { Fits (limit_of meter.old) state.now }
     ensures made { MatchResult result
         (λ list. AreBothFlat state.now expr.now (unsigned_abs (limit_of meter.old)) list
-        × IsPaid (list_any uses_units (parts_of expr.now)) meter.old meter.new)
-        (IsWhyUnworked (list_any uses_units (parts_of expr.now)) (Ends state.now expr.now) meter.old meter.new) }
+        × IsPaid (list_any (uses_units state.now.assumed) (parts_of expr.now)) meter.old meter.new)
+        (IsWhyUnworked (list_any (uses_units state.now.assumed) (parts_of expr.now)) (Ends state.now expr.now) meter.old meter.new) }
     ensures goes_on { IfOk result (λ _. GoesOn (Ends state.now expr.now)) }
 {
     let list = match list_of(alloc, expr, state, meter) {
         Ok(list) => list,
         Err(refusal) => return Err(refusal),
     };
-    let first = match flattened(alloc, list.first, meter) {
+    let first = match flattened(alloc, list.first, state, meter) {
         Ok(first) => first,
         Err(refusal) => return Err(refusal),
     };
-    match flattened(alloc, list.second, meter) {
+    match flattened(alloc, list.second, state, meter) {
         Ok(second) => Ok(ListValue { first, second }),
         Err(refusal) => Err(refusal),
     }

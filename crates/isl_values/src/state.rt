@@ -1,18 +1,28 @@
-//! What statements have bound so far.
+//! What statements have bound and assumed so far.
 
-ghost use Rattle.std.specs.Prelude.{◌≡◌, IfOk, IfSome, None, OnOk, OnErr, Some};
+ghost use Rattle.std.specs.Prelude.{◌≡◌, All, IfOk, IfSome, MatchResult, None, OnOk, OnErr, Some, true, unsigned_abs};
 ghost use Rattle.std.specs.Option.{option_copied};
 ghost use Rattle.std.specs.Str.{bytes_eq};
 ghost use Rattle.indexmap.specs.IndexMap.{insert_entry};
 ghost use Rattle.isl_union.specs.KeptValue.{HasNoDefinitions, IsKeptValue};
-ghost use Rattle.isl_values.specs.State.{unbound, kept_of, type_of, scope_of, value_at, Binds, forgotten};
+ghost use Rattle.isl_meter.specs.Gauge.{IsCharged, limit_of};
+ghost use Rattle.isl_assumed.specs.Assumed.{names_of, Assumes, IsPlain, IsSound};
+ghost use Rattle.isl_values.specs.State.{unbound, kept_of, type_of, scope_of, value_at, Binds, Fits, HasNumbersUpTo, forgotten};
+ghost use Rattle.isl_values.specs.State.{AreLeftOf, IsLeftOf, IsNarrowed, IsSettled, Narrows};
+ghost use Rattle.isl_values.specs.Ends.{CutAlone, GoesOn, NarrowingEnds};
+ghost use Rattle.isl_values.specs.Made.{IsWhyUnmade, IsWhyUnworked};
 
+use crate::live::live_part;
+use crate::values::refusal_of;
 use crate::{ListPart, ListValue};
 use indexmap::IndexMap;
+use isl_assumed::Assumed;
 use isl_expr::tree::ValueKind;
 use isl_kinds::{Scope, Typed, is_dollar};
+use isl_meter::Meter;
 use isl_space::Name;
-use isl_union::Value;
+use isl_text::refusal::Refusal;
+use isl_union::{OpFault, Value};
 use std::alloc::{AllocError, Global};
 use std::marker::Model;
 use std::rc::Rc;
@@ -112,14 +122,87 @@ impl Kept {
         let _pieces = value.pieces();
         value.clone()
     }
+
+    // What is left of it: of its values the pieces that have an element at an assumed valuation.
+    fn left(&self, alloc: Global, assumed: &Assumed, meter: &mut Meter) -> Result<Kept, Refusal>
+        requires numbers { (part : ListPart) → HasNumbersUpTo (unsigned_abs (limit_of meter.old)) (value_at part self.now) }
+        requires sound { IsSound meter.old assumed.now }
+        ensures { MatchResult result (λ left. IsLeftOf assumed.now self.now left × IsCharged meter.old meter.new)
+            (IsWhyUnmade true CutAlone meter.old meter.new) }
+    {
+        let first = live_part(alloc, self.shared(ListPart::First)?, assumed, meter)?;
+        if self.second.is_none() {
+            return Ok(Kept::new(self.kind, first));
+        }
+        let second = live_part(alloc, self.shared(ListPart::Second)?, assumed, meter)?;
+        Ok(Kept {
+            kind: self.kind,
+            value: first,
+            second: Some(second),
+        })
+    }
 }
 
-/// What the statements so far have bound: names, each with a kind and a kept value. Contracts see them by content.
+// What is left of all that is bound, under the same names.
+fn left_of(
+    alloc: Global,
+    bound: &IndexMap<Name, Kept>,
+    assumed: &Assumed,
+    meter: &mut Meter,
+) -> Result<IndexMap<Name, Kept>, Refusal>
+    requires numbers { All (λ entry. (part : ListPart) → HasNumbersUpTo (unsigned_abs (limit_of meter.old)) (value_at part entry.1))
+        bound.now.entries }
+    requires sound { IsSound meter.old assumed.now }
+    ensures { MatchResult result
+        (λ left. AreLeftOf assumed.now bound.now.entries left.entries × IsCharged meter.old meter.new)
+        (IsWhyUnmade true CutAlone meter.old meter.new) }
+{
+    let mut left = IndexMap::new(alloc);
+    for (name, kept) in bound.iter() {
+        let kept = kept.left(alloc, assumed, meter)?;
+        left.reserve(1)?;
+        match left.insert(name.copy()?, kept) {
+            Ok(_) => {}
+            Err(_) => unreachable!(),
+        }
+    }
+    Ok(left)
+}
+
+// The valuations of both, unless there is none.
+fn narrowed(
+    alloc: Global,
+    assumed: &Assumed,
+    set: &Assumed,
+    meter: &mut Meter,
+) -> Result<Assumed, Refusal>
+    requires own { IsSound meter.old assumed.now }
+    requires set { IsSound meter.old set.now }
+    ensures met { IfOk result (IsNarrowed meter.old assumed.now set.now) }
+    ensures why { MatchResult result (λ _. IsCharged meter.old meter.new)
+        (IsWhyUnworked true (NarrowingEnds assumed.now (names_of set.now) (Assumes set.now)) meter.old meter.new) }
+    ensures goes_on { IfOk result (λ _. GoesOn (NarrowingEnds assumed.now (names_of set.now) (Assumes set.now))) }
+{
+    let met = match assumed.meet(alloc, set, meter) {
+        Ok(met) => met,
+        Err(OpFault::Cut(cut)) => return Err(refusal_of(cut)),
+        Err(OpFault::TooWide) => return Err(Refusal::TooWide),
+    };
+    match met.is_empty(meter) {
+        Ok(true) => Err(Refusal::NoValuation),
+        Ok(false) => Ok(met),
+        Err(cut) => Err(refusal_of(cut)),
+    }
+}
+
+/// What the statements so far have bound and assumed: names, each with a kind and a kept value, and a set of valuations of parameters.
+/// Contracts see them by content.
 #[derive(Drop)]
 pub struct State {
     // The types of what is bound.
     scope: Scope,
     bound: IndexMap<Name, Kept>,
+    assumed: Assumed,
 }
 
 impl Model for State {
@@ -131,20 +214,28 @@ impl Model for State {
 
     ghost coded = { state_code };
 
-    ghost view = { λ s. record { bound = s.bound.entries } };
+    ghost view = { λ s. record { bound = s.bound.entries; assumed = s.assumed } };
 
-    ghost invariant = { λ s. s.scope ≡ scope_of (record { bound = s.bound.entries }) };
+    ghost invariant = { λ s. s.scope ≡ scope_of (record { bound = s.bound.entries; assumed = s.assumed }) };
 }
 
 impl State {
-    /// No name is bound.
+    /// No name is bound, and nothing assumed.
     pub fn new(alloc: Global) -> State
         ensures { result ≡ unbound }
     {
         State {
             scope: Scope::new(alloc),
             bound: IndexMap::new(alloc),
+            assumed: Assumed::all(),
         }
+    }
+
+    /// The valuations of the parameters that are assumed.
+    pub fn assumed(&self) -> &Assumed
+        ensures { result.now ≡ self.now.assumed }
+    {
+        &self.assumed
     }
 
     /// The bound names, each with its kind and its declared parameters.
@@ -185,5 +276,32 @@ impl State {
     {
         self.scope.forget();
         self.bound.retain(|name, _| !is_dollar(name));
+    }
+
+    /// From now on only those of the assumed valuations are assumed that are in the set too, and each value that is bound loses its pieces
+    /// that have no element at one of them. Nothing is changed before all is worked out. (isl manual, on parameter domains)
+    ///
+    /// # Errors
+    /// `TooWide` where the names that what is assumed depends on are more than 16 together, before any work; `NoValuation` where no valuation
+    /// is left, behind the work of putting both sets together; `Overflow`, `Budget` and `NoMemory`, where the work is cut.
+    pub fn narrow(&mut self, alloc: Global, set: &Assumed, meter: &mut Meter) -> Result<(), Refusal>
+        requires set { IsSound meter.old set.now }
+        requires plain { IsPlain set.now }
+        requires fits { Fits (limit_of meter.old) self.old }
+        ensures ok { OnOk result (Narrows self.old (names_of set.now) (Assumes set.now) self.new) }
+        ensures fits { OnOk result (Fits (limit_of meter.old) self.new) }
+        ensures settled { OnOk result (IsSettled self.old → IsSettled self.new) }
+        ensures err { OnErr result (self.new ≡ self.old) }
+        ensures why { MatchResult result (λ _. IsCharged meter.old meter.new)
+            (IsWhyUnworked true (NarrowingEnds self.old.assumed (names_of set.now) (Assumes set.now)) meter.old meter.new) }
+        ensures goes_on { OnOk result (GoesOn (NarrowingEnds self.old.assumed (names_of set.now) (Assumes set.now))) }
+    {
+        let assumed = narrowed(alloc, &self.assumed, set, meter)?;
+        // Names are distinct.
+        let _names = self.bound.len();
+        let left = left_of(alloc, &self.bound, &assumed, meter)?;
+        self.assumed = assumed;
+        self.bound = left;
+        Ok(())
     }
 }

@@ -1,6 +1,6 @@
 //! The values of expressions.
 
-ghost use Rattle.std.specs.Prelude.{◌≡◌, [], All, true, false, IfErr, IfOk, MatchResult, Ok, unsigned_abs};
+ghost use Rattle.std.specs.Prelude.{◌≡◌, ◌&&◌, [], All, true, false, IfErr, IfOk, MatchResult, Ok, unsigned_abs};
 ghost use Rattle.std.specs.List.{list_any};
 ghost use Rattle.isl_meter.specs.Gauge.{IsCharged, limit_of};
 ghost use Rattle.isl_space.specs.Element.{Element};
@@ -17,15 +17,17 @@ ghost use Rattle.isl_operators.specs.Made.{IsOperatorOf, IsWordOf, IsApplication
 ghost use Rattle.isl_kinds.specs.Parts.{operator as operator_part, prefix as prefix_part, parts_of, parts_of_links};
 ghost use Rattle.isl_kinds.specs.Parts.{parts_of_postfix, parts_of_postfixes};
 ghost use Rattle.isl_kinds.specs.Typed.{declared_of, declared_of_post, declared_of_row, declared_past, joined_names};
-ghost use Rattle.isl_values.specs.State.{scope_of, Fits, HasNumbersUpTo};
+ghost use Rattle.isl_values.specs.Live.{narrows, IsLiveOf, IsLiveUnder};
+ghost use Rattle.isl_values.specs.State.{scope_of, AtAssumed, Fits, HasNumbersUpTo};
 ghost use Rattle.isl_values.specs.Selection.{Selects, PostSelects, RowSelects, PostfixHas};
-ghost use Rattle.isl_values.specs.Worked.{part_of_list, IsPostfixOf, IsWorked, IsWorkedPost, IsWorkedRow};
-ghost use Rattle.isl_values.specs.Ends.{CutAlone, Ends, EndsPost, EndsPostfix, EndsRow, GoesOn, PairEnds, WordEnds};
-ghost use Rattle.isl_values.specs.Made.{is_foreign, uses_units, IsSoundExpr, IsSoundLink, IsSoundPostfix, IsValueOf};
+ghost use Rattle.isl_values.specs.Worked.{looks, part_of_list, IsPostfixOf, IsWordedOf, IsWorked, IsWorkedPost, IsWorkedRow};
+ghost use Rattle.isl_values.specs.Ends.{CutAlone, CutUnder, Ends, EndsPost, EndsPostfix, EndsRow, GoesOn, PairEnds, WordEnds};
+ghost use Rattle.isl_values.specs.Made.{is_foreign, uses_units, IsSoundExpr, IsSoundLink, IsSoundPostfix, IsMadeOf, IsValueOf};
 ghost use Rattle.isl_values.specs.Made.{refusal_of_cut, refusal_of_fault, refusal_of_word_fault, IsPaid, IsWhyUnmade, IsWhyUnworked};
-ghost use Rattle.isl_values.specs.Three.{AreBothOf, AreKept, AreMade, IsValueAt, IsWhole, NothingWorks, OperandsEnd};
+ghost use Rattle.isl_values.specs.Three.{AreBothOf, AreKept, IsAsked, AreMade, IsValueAt, IsWhole, NothingWorks, OperandsEnd};
 
 use crate::dependence::{Accesses, latest, latest_part, preceding};
+use crate::live::{live_part, under_own};
 use crate::{Kept, ListPart, ListValue, State};
 use isl_expr::tree::{Binary, Expr, Link, Postfix, Prefix};
 use isl_lower::lower;
@@ -50,17 +52,39 @@ pub fn refusal_of(cut: Cut) -> Refusal
 }
 
 // What a literal writes, as a value.
-fn lowered(alloc: Global, literal: &Literal, meter: &mut Meter) -> Result<Rc<Value>, Refusal>
+fn written(alloc: Global, literal: &Literal, meter: &mut Meter) -> Result<Rc<Value>, Refusal>
     requires known { literal_is_known literal.now ≡ true }
     requires well_formed { IsWellFormedLiteral literal.now }
     ensures { MatchResult result
-        (λ value. IsValueOf (IsLowered literal.now) literal.now.params (LiteralHas literal.now)
+        (λ value. IsMadeOf (IsLowered literal.now) literal.now.params (LiteralHas literal.now)
         (unsigned_abs (limit_of meter.old)) (is_plain literal.now ≡ true) value.value × IsPaid true meter.old meter.new)
         (IsWhyUnmade true CutAlone meter.old meter.new) }
 {
     match lower(alloc, literal, meter) {
         Ok(value) => Ok(Rc::new(alloc, value)?),
         Err(cut) => Err(refusal_of(cut)),
+    }
+}
+
+// What is live of that.
+fn lowered(
+    alloc: Global,
+    literal: &Literal,
+    state: &State,
+    meter: &mut Meter,
+) -> Result<Rc<Value>, Refusal>
+    requires known { literal_is_known literal.now ≡ true }
+    requires well_formed { IsWellFormedLiteral literal.now }
+    requires fits { Fits (limit_of meter.old) state.now }
+    ensures { MatchResult result
+        (λ value. IsValueOf state.now.assumed (IsLiveOf state.now.assumed (IsLowered literal.now)) literal.now.params
+        (LiteralHas literal.now) (unsigned_abs (limit_of meter.old)) (is_plain literal.now ≡ true) value.value
+        × IsPaid true meter.old meter.new)
+        (IsWhyUnmade true CutAlone meter.old meter.new) }
+{
+    match written(alloc, literal, meter) {
+        Ok(value) => live_part(alloc, value, state.assumed(), meter),
+        Err(refusal) => Err(refusal),
     }
 }
 
@@ -77,7 +101,7 @@ pub fn answered(alloc: Global, outcome: Result<Value, OpFault>) -> Result<Rc<Val
 }
 
 // What an operator makes of two values.
-fn joined(
+fn operated(
     alloc: Global,
     operator: Binary,
     left: &Value,
@@ -88,7 +112,7 @@ fn joined(
     requires left { HasNumbersUpTo (unsigned_abs (limit_of meter.old)) left.now }
     requires right { HasNumbersUpTo (unsigned_abs (limit_of meter.old)) right.now }
     ensures made { MatchResult result
-        (λ value. IsValueOf (λ made. IsOperatorOf operator left.now right.now made) (joined_names left.now.params right.now.params)
+        (λ value. IsMadeOf (λ made. IsOperatorOf operator left.now right.now made) (joined_names left.now.params right.now.params)
         (λ valuation element. OperatorHas operator (Has left.now valuation) (Has right.now valuation) element)
         (unsigned_abs (limit_of meter.old)) (HasNoDefinitions left.now × HasNoDefinitions right.now) value.value
         × IsPaid (operator_works operator) meter.old meter.new)
@@ -99,6 +123,40 @@ fn joined(
 {
     let _names = right.params();
     answered(alloc, combined(alloc, operator, left, right, meter))
+}
+
+// What is live of that; where something is assumed each piece of the two is live.
+fn joined(
+    alloc: Global,
+    operator: Binary,
+    left: &Value,
+    right: &Value,
+    state: &State,
+    meter: &mut Meter,
+) -> Result<Rc<Value>, Refusal>
+    requires supported { is_foreign (operator_part operator) ≡ false }
+    requires left { HasNumbersUpTo (unsigned_abs (limit_of meter.old)) left.now }
+    requires right { HasNumbersUpTo (unsigned_abs (limit_of meter.old)) right.now }
+    requires left_live { IsLiveUnder state.now.assumed left.now }
+    requires right_live { IsLiveUnder state.now.assumed right.now }
+    requires fits { Fits (limit_of meter.old) state.now }
+    ensures made { MatchResult result
+        (λ value. IsValueOf state.now.assumed (IsLiveOf state.now.assumed (IsOperatorOf operator left.now right.now))
+        (joined_names left.now.params right.now.params)
+        (λ valuation element. OperatorHas operator (Has left.now valuation) (Has right.now valuation) element)
+        (unsigned_abs (limit_of meter.old)) (HasNoDefinitions left.now × HasNoDefinitions right.now) value.value
+        × IsPaid (uses_units state.now.assumed (operator_part operator)) meter.old meter.new)
+        (IsWhyUnworked (uses_units state.now.assumed (operator_part operator))
+        (PairEnds (OperatorForms operator) left.now.params right.now.params (AtAssumed state.now (Has left.now))
+        (AtAssumed state.now (Has right.now))) meter.old meter.new) }
+    ensures goes_on { IfOk result
+        (λ _. GoesOn (PairEnds (OperatorForms operator) left.now.params right.now.params (AtAssumed state.now (Has left.now))
+        (AtAssumed state.now (Has right.now)))) }
+{
+    match operated(alloc, operator, left, right, meter) {
+        Ok(made) => live_part(alloc, made, state.assumed(), meter),
+        Err(refusal) => Err(refusal),
+    }
 }
 
 // What a word makes of a value, to be shared, or what refuses it.
@@ -115,7 +173,7 @@ fn word_answered(alloc: Global, outcome: Result<Value, WordFault>) -> Result<Rc<
 }
 
 // What a word makes of a value.
-fn worded(
+fn changed(
     alloc: Global,
     word: Prefix,
     operand: &Value,
@@ -124,7 +182,7 @@ fn worded(
     requires supported { is_foreign (prefix_part word) ≡ false }
     requires numbers { HasNumbersUpTo (unsigned_abs (limit_of meter.old)) operand.now }
     ensures made { MatchResult result
-        (λ value. IsValueOf (λ made. IsWordOf word operand.now made) operand.now.params
+        (λ value. IsMadeOf (λ made. IsWordOf word operand.now made) operand.now.params
         (WordHas word operand.now.params (Has operand.now)) (unsigned_abs (limit_of meter.old)) (HasNoDefinitions operand.now) value.value
         × IsPaid (word_works word) meter.old meter.new)
         (IsWhyUnworked (word_works word) (WordEnds word (Has operand.now)) meter.old meter.new) }
@@ -133,8 +191,70 @@ fn worded(
     word_answered(alloc, transformed(alloc, word, operand, meter))
 }
 
+// Whether the word looks for something at each valuation.
+fn looks(word: Prefix) -> bool
+    ensures { result ≡ looks word }
+{
+    matches!(word, Prefix::LexMin | Prefix::LexMax)
+}
+
+// What the word is asked of.
+fn asked(
+    alloc: Global,
+    word: Prefix,
+    operand: Rc<Value>,
+    state: &State,
+    meter: &mut Meter,
+) -> Result<Rc<Value>, Refusal>
+    requires numbers { HasNumbersUpTo (unsigned_abs (limit_of meter.old)) operand.value }
+    requires kept { IsKeptValue operand.value }
+    requires fits { Fits (limit_of meter.old) state.now }
+    ensures { MatchResult result
+        (λ value. IsAsked state.now word (unsigned_abs (limit_of meter.old)) operand.value value.value
+        × IsPaid (narrows state.now.assumed) meter.old meter.new)
+        (IsWhyUnmade (looks word && narrows state.now.assumed) (CutUnder state.now) meter.old meter.new) }
+{
+    if looks(word) {
+        under_own(alloc, operand, state, meter)
+    } else {
+        Ok(operand)
+    }
+}
+
+// What is live of what a word makes of a value, each piece of which is.
+fn worded(
+    alloc: Global,
+    word: Prefix,
+    operand: Rc<Value>,
+    state: &State,
+    meter: &mut Meter,
+) -> Result<Rc<Value>, Refusal>
+    requires supported { is_foreign (prefix_part word) ≡ false }
+    requires numbers { HasNumbersUpTo (unsigned_abs (limit_of meter.old)) operand.value }
+    requires kept { IsKeptValue operand.value }
+    requires live { IsLiveUnder state.now.assumed operand.value }
+    requires fits { Fits (limit_of meter.old) state.now }
+    ensures made { MatchResult result
+        (λ value. IsValueOf state.now.assumed (IsWordedOf state.now word operand.value) operand.value.params
+        (WordHas word operand.value.params (Has operand.value)) (unsigned_abs (limit_of meter.old)) (HasNoDefinitions operand.value)
+        value.value
+        × IsPaid (uses_units state.now.assumed (prefix_part word)) meter.old meter.new)
+        (IsWhyUnworked (uses_units state.now.assumed (prefix_part word)) (WordEnds word (AtAssumed state.now (Has operand.value)))
+        meter.old meter.new) }
+    ensures goes_on { IfOk result (λ _. GoesOn (WordEnds word (AtAssumed state.now (Has operand.value)))) }
+{
+    let asked = match asked(alloc, word, operand, state, meter) {
+        Ok(asked) => asked,
+        Err(refusal) => return Err(refusal),
+    };
+    match changed(alloc, word, &asked, meter) {
+        Ok(made) => live_part(alloc, made, state.assumed(), meter),
+        Err(refusal) => Err(refusal),
+    }
+}
+
 // A map applied to a value.
-fn applied_to(
+fn images_of(
     alloc: Global,
     map: &Value,
     argument: &Value,
@@ -143,7 +263,7 @@ fn applied_to(
     requires map { HasNumbersUpTo (unsigned_abs (limit_of meter.old)) map.now }
     requires argument { HasNumbersUpTo (unsigned_abs (limit_of meter.old)) argument.now }
     ensures made { MatchResult result
-        (λ value. IsValueOf (λ made. IsApplicationOf map.now argument.now made) (joined_names map.now.params argument.now.params)
+        (λ value. IsMadeOf (λ made. IsApplicationOf map.now argument.now made) (joined_names map.now.params argument.now.params)
         (λ valuation element. ApplicationHas (Has map.now valuation) (Has argument.now valuation) element)
         (unsigned_abs (limit_of meter.old)) (HasNoDefinitions map.now × HasNoDefinitions argument.now) value.value
         × IsPaid true meter.old meter.new)
@@ -156,17 +276,70 @@ fn applied_to(
     answered(alloc, applied(alloc, map, argument, meter))
 }
 
+// What is live of that; each piece of the two is.
+fn applied_to(
+    alloc: Global,
+    map: &Value,
+    argument: &Value,
+    state: &State,
+    meter: &mut Meter,
+) -> Result<Rc<Value>, Refusal>
+    requires map { HasNumbersUpTo (unsigned_abs (limit_of meter.old)) map.now }
+    requires argument { HasNumbersUpTo (unsigned_abs (limit_of meter.old)) argument.now }
+    requires map_live { IsLiveUnder state.now.assumed map.now }
+    requires argument_live { IsLiveUnder state.now.assumed argument.now }
+    requires fits { Fits (limit_of meter.old) state.now }
+    ensures made { MatchResult result
+        (λ value. IsValueOf state.now.assumed (IsLiveOf state.now.assumed (IsApplicationOf map.now argument.now))
+        (joined_names map.now.params argument.now.params)
+        (λ valuation element. ApplicationHas (Has map.now valuation) (Has argument.now valuation) element)
+        (unsigned_abs (limit_of meter.old)) (HasNoDefinitions map.now × HasNoDefinitions argument.now) value.value
+        × IsPaid true meter.old meter.new)
+        (IsWhyUnworked true (PairEnds ApplicationForms map.now.params argument.now.params (AtAssumed state.now (Has map.now))
+        (AtAssumed state.now (Has argument.now))) meter.old meter.new) }
+    ensures goes_on { IfOk result
+        (λ _. GoesOn (PairEnds ApplicationForms map.now.params argument.now.params (AtAssumed state.now (Has map.now))
+        (AtAssumed state.now (Has argument.now)))) }
+{
+    match images_of(alloc, map, argument, meter) {
+        Ok(made) => live_part(alloc, made, state.assumed(), meter),
+        Err(refusal) => Err(refusal),
+    }
+}
+
 // The inverse of a value of maps.
-fn inverted(alloc: Global, operand: &Value, meter: &mut Meter) -> Result<Rc<Value>, Refusal>
+fn turned(alloc: Global, operand: &Value, meter: &mut Meter) -> Result<Rc<Value>, Refusal>
     requires numbers { HasNumbersUpTo (unsigned_abs (limit_of meter.old)) operand.now }
     ensures made { IfOk result
-        (λ value. IsValueOf (λ made. made ≡ inverse_of operand.now) operand.now.params
+        (λ value. IsMadeOf (λ made. made ≡ inverse_of operand.now) operand.now.params
         (λ valuation element. Has operand.now valuation (inverse_element element)) (unsigned_abs (limit_of meter.old))
         (HasNoDefinitions operand.now) value.value) }
     ensures faults { IfErr result (λ refusal. refusal ≡ Refusal.NoMemory) }
     ensures meter { meter.new ≡ meter.old }
 {
     answered(alloc, inverse(alloc, operand, meter))
+}
+
+// What is live of that.
+fn inverted(
+    alloc: Global,
+    operand: &Value,
+    state: &State,
+    meter: &mut Meter,
+) -> Result<Rc<Value>, Refusal>
+    requires numbers { HasNumbersUpTo (unsigned_abs (limit_of meter.old)) operand.now }
+    requires fits { Fits (limit_of meter.old) state.now }
+    ensures { MatchResult result
+        (λ value. IsValueOf state.now.assumed (IsLiveOf state.now.assumed (λ made. made ≡ inverse_of operand.now)) operand.now.params
+        (λ valuation element. Has operand.now valuation (inverse_element element)) (unsigned_abs (limit_of meter.old))
+        (HasNoDefinitions operand.now) value.value
+        × IsPaid (narrows state.now.assumed) meter.old meter.new)
+        (IsWhyUnmade (narrows state.now.assumed) (CutUnder state.now) meter.old meter.new) }
+{
+    match turned(alloc, operand, meter) {
+        Ok(made) => live_part(alloc, made, state.assumed(), meter),
+        Err(refusal) => Err(refusal),
+    }
 }
 
 // What follows an operand, made of its value.
@@ -181,22 +354,23 @@ fn followed(
     requires sound { IsSoundPostfix (scope_of state.now) postfix.now }
     requires fits { Fits (limit_of meter.old) state.now }
     requires kept { IsKeptValue operand.now.value }
+    requires live { IsLiveUnder state.now.assumed operand.now.value }
     requires numbers { HasNumbersUpTo (unsigned_abs (limit_of meter.old)) operand.now.value }
     ensures made { MatchResult result
-        (λ value. IsValueOf (IsPostfixOf state.now postfix.now operand.now.value)
+        (λ value. IsValueOf state.now.assumed (IsPostfixOf state.now postfix.now operand.now.value)
         (declared_past (scope_of state.now) operand.now.value.params postfix.now)
         (λ valuation element. PostfixHas state.now valuation (Has operand.now.value valuation) postfix.now element)
         (unsigned_abs (limit_of meter.old))
-        (HasNoDefinitions operand.now.value × (list_any uses_units (parts_of_postfix postfix.now) ≡ false)) value.value
-        × IsPaid (list_any uses_units (parts_of_postfix postfix.now)) meter.old meter.new)
-        (IsWhyUnworked (list_any uses_units (parts_of_postfix postfix.now))
+        (HasNoDefinitions operand.now.value × (list_any (uses_units state.now.assumed) (parts_of_postfix postfix.now) ≡ false)) value.value
+        × IsPaid (list_any (uses_units state.now.assumed) (parts_of_postfix postfix.now)) meter.old meter.new)
+        (IsWhyUnworked (list_any (uses_units state.now.assumed) (parts_of_postfix postfix.now))
         (EndsPostfix state.now operand.now.value.params (Has operand.now.value) postfix.now) meter.old meter.new) }
     ensures goes_on { IfOk result (λ _. GoesOn (EndsPostfix state.now operand.now.value.params (Has operand.now.value) postfix.now)) }
 {
     match postfix {
-        Postfix::Inverse => inverted(alloc, operand, meter),
+        Postfix::Inverse => inverted(alloc, operand, state, meter),
         Postfix::Apply(expr) => match part_of(alloc, expr, ListPart::First, state, meter) {
-            Ok(argument) => applied_to(alloc, operand, &argument, meter),
+            Ok(argument) => applied_to(alloc, operand, &argument, state, meter),
             Err(refusal) => Err(refusal),
         },
         Postfix::Item(_) => Ok(operand.clone()?),
@@ -215,14 +389,15 @@ fn past_postfixes(
     requires sound { All (IsSoundPostfix (scope_of state.now)) postfixes.now }
     requires fits { Fits (limit_of meter.old) state.now }
     requires numbers { HasNumbersUpTo (unsigned_abs (limit_of meter.old)) operand.value }
+    requires live { IsLiveUnder state.now.assumed operand.value }
     ensures made { MatchResult result
-        (λ value. IsValueOf (IsWorkedPost state.now operand.value postfixes.now)
+        (λ value. IsValueOf state.now.assumed (IsWorkedPost state.now operand.value postfixes.now)
         (declared_of_post (scope_of state.now) operand.value.params postfixes.now)
         (λ valuation element. PostSelects state.now valuation (Has operand.value valuation) postfixes.now element)
         (unsigned_abs (limit_of meter.old))
-        (HasNoDefinitions operand.value × (list_any uses_units (parts_of_postfixes postfixes.now) ≡ false)) value.value
-        × IsPaid (list_any uses_units (parts_of_postfixes postfixes.now)) meter.old meter.new)
-        (IsWhyUnworked (list_any uses_units (parts_of_postfixes postfixes.now))
+        (HasNoDefinitions operand.value × (list_any (uses_units state.now.assumed) (parts_of_postfixes postfixes.now) ≡ false)) value.value
+        × IsPaid (list_any (uses_units state.now.assumed) (parts_of_postfixes postfixes.now)) meter.old meter.new)
+        (IsWhyUnworked (list_any (uses_units state.now.assumed) (parts_of_postfixes postfixes.now))
         (EndsPost state.now operand.value.params (Has operand.value) postfixes.now) meter.old meter.new) }
     ensures goes_on { IfOk result (λ _. GoesOn (EndsPost state.now operand.value.params (Has operand.value) postfixes.now)) }
 {
@@ -321,8 +496,8 @@ fn part_of(
     requires fits { Fits (limit_of meter.old) state.now }
     ensures made { MatchResult result
         (λ value. IsValueAt state.now part expr.now (unsigned_abs (limit_of meter.old)) value.value
-        × IsPaid (list_any uses_units (parts_of expr.now)) meter.old meter.new)
-        (IsWhyUnworked (list_any uses_units (parts_of expr.now)) (Ends state.now expr.now) meter.old meter.new) }
+        × IsPaid (list_any (uses_units state.now.assumed) (parts_of expr.now)) meter.old meter.new)
+        (IsWhyUnworked (list_any (uses_units state.now.assumed) (parts_of expr.now)) (Ends state.now expr.now) meter.old meter.new) }
     ensures goes_on { IfOk result (λ _. GoesOn (Ends state.now expr.now)) }
 {
     match expr {
@@ -330,7 +505,7 @@ fn part_of(
             Some(kept) => Ok(kept.shared(part)?),
             None => unreachable!(),
         },
-        Expr::Literal(literal) => lowered(alloc, literal, meter),
+        Expr::Literal(literal) => lowered(alloc, literal, state, meter),
         Expr::Row(first, links) => match part_of(
             alloc,
             first.get(),
@@ -355,7 +530,7 @@ fn part_of(
             state,
             meter,
         ) {
-            Ok(argument) => worded(alloc, *word, &argument, meter),
+            Ok(argument) => worded(alloc, *word, argument, state, meter),
             Err(refusal) => Err(refusal),
         },
         Expr::Any(source, sink, schedule) => {
@@ -367,7 +542,7 @@ fn part_of(
                 state,
                 meter,
             ) {
-                Ok(three) => preceding(alloc, &three, meter),
+                Ok(three) => preceding(alloc, &three, state, meter),
                 Err(refusal) => Err(refusal),
             }
         }
@@ -380,7 +555,7 @@ fn part_of(
                 state,
                 meter,
             ) {
-                Ok(three) => latest_part(alloc, part, &three, meter),
+                Ok(three) => latest_part(alloc, part, &three, state, meter),
                 Err(refusal) => Err(refusal),
             }
         }
@@ -404,10 +579,10 @@ pub fn value_of(
     requires sound { IsSoundExpr (scope_of state.now) expr.now }
     requires fits { Fits (limit_of meter.old) state.now }
     ensures made { MatchResult result
-        (λ value. IsValueOf (IsWorked state.now expr.now) (declared_of (scope_of state.now) expr.now) (Selects state.now expr.now)
-        (unsigned_abs (limit_of meter.old)) (NothingWorks expr.now) value.value
-        × IsPaid (list_any uses_units (parts_of expr.now)) meter.old meter.new)
-        (IsWhyUnworked (list_any uses_units (parts_of expr.now)) (Ends state.now expr.now) meter.old meter.new) }
+        (λ value. IsValueOf state.now.assumed (IsWorked state.now expr.now) (declared_of (scope_of state.now) expr.now) (Selects state.now expr.now)
+        (unsigned_abs (limit_of meter.old)) (NothingWorks state.now expr.now) value.value
+        × IsPaid (list_any (uses_units state.now.assumed) (parts_of expr.now)) meter.old meter.new)
+        (IsWhyUnworked (list_any (uses_units state.now.assumed) (parts_of expr.now)) (Ends state.now expr.now) meter.old meter.new) }
     ensures goes_on { IfOk result (λ _. GoesOn (Ends state.now expr.now)) }
 {
     part_of(alloc, expr, ListPart::First, state, meter)
@@ -425,8 +600,8 @@ fn doubled(
     requires whole { IsWhole state.now expr.now }
     ensures made { MatchResult result
         (λ list. AreBothOf state.now expr.now (unsigned_abs (limit_of meter.old)) list
-        × IsPaid (list_any uses_units (parts_of expr.now)) meter.old meter.new)
-        (IsWhyUnworked (list_any uses_units (parts_of expr.now)) (Ends state.now expr.now) meter.old meter.new) }
+        × IsPaid (list_any (uses_units state.now.assumed) (parts_of expr.now)) meter.old meter.new)
+        (IsWhyUnworked (list_any (uses_units state.now.assumed) (parts_of expr.now)) (Ends state.now expr.now) meter.old meter.new) }
     ensures goes_on { IfOk result (λ _. GoesOn (Ends state.now expr.now)) }
 {
     match value_of(alloc, expr, state, meter) {
@@ -449,8 +624,8 @@ pub fn list_of(
     requires fits { Fits (limit_of meter.old) state.now }
     ensures made { MatchResult result
         (λ list. AreBothOf state.now expr.now (unsigned_abs (limit_of meter.old)) list
-        × IsPaid (list_any uses_units (parts_of expr.now)) meter.old meter.new)
-        (IsWhyUnworked (list_any uses_units (parts_of expr.now)) (Ends state.now expr.now) meter.old meter.new) }
+        × IsPaid (list_any (uses_units state.now.assumed) (parts_of expr.now)) meter.old meter.new)
+        (IsWhyUnworked (list_any (uses_units state.now.assumed) (parts_of expr.now)) (Ends state.now expr.now) meter.old meter.new) }
     ensures goes_on { IfOk result (λ _. GoesOn (Ends state.now expr.now)) }
 {
     match expr {
@@ -463,7 +638,7 @@ pub fn list_of(
                 state,
                 meter,
             ) {
-                Ok(three) => latest(alloc, &three, meter),
+                Ok(three) => latest(alloc, &three, state, meter),
                 Err(refusal) => Err(refusal),
             }
         }
@@ -494,14 +669,15 @@ pub fn joined_past(
     requires sound { All (IsSoundLink (scope_of state.now)) links.now }
     requires fits { Fits (limit_of meter.old) state.now }
     requires numbers { HasNumbersUpTo (unsigned_abs (limit_of meter.old)) first.value }
+    requires live { IsLiveUnder state.now.assumed first.value }
     ensures made { MatchResult result
-        (λ value. IsValueOf (IsWorkedRow state.now first.value links.now)
+        (λ value. IsValueOf state.now.assumed (IsWorkedRow state.now first.value links.now)
         (declared_of_row (scope_of state.now) first.value.params links.now)
         (λ valuation element. RowSelects state.now valuation (Has first.value valuation) links.now element)
         (unsigned_abs (limit_of meter.old))
-        (HasNoDefinitions first.value × (list_any uses_units (parts_of_links links.now) ≡ false)) value.value
-        × IsPaid (list_any uses_units (parts_of_links links.now)) meter.old meter.new)
-        (IsWhyUnworked (list_any uses_units (parts_of_links links.now))
+        (HasNoDefinitions first.value × (list_any (uses_units state.now.assumed) (parts_of_links links.now) ≡ false)) value.value
+        × IsPaid (list_any (uses_units state.now.assumed) (parts_of_links links.now)) meter.old meter.new)
+        (IsWhyUnworked (list_any (uses_units state.now.assumed) (parts_of_links links.now))
         (EndsRow state.now first.value.params (Has first.value) links.now) meter.old meter.new) }
     ensures goes_on { IfOk result (λ _. GoesOn (EndsRow state.now first.value.params (Has first.value) links.now)) }
 {
@@ -512,7 +688,7 @@ pub fn joined_past(
             Ok(right) => right,
             Err(refusal) => return Err(refusal),
         };
-        left = match joined(alloc, link.operator, &left, &right, meter) {
+        left = match joined(alloc, link.operator, &left, &right, state, meter) {
             Ok(made) => made,
             Err(refusal) => return Err(refusal),
         };

@@ -9,6 +9,7 @@ ghost use Rattle.isl_union.specs.KeptValue.{HasNoDefinitions};
 ghost use Rattle.isl_union.specs.Numbers.{IsWithinLimit};
 ghost use Rattle.isl_values.specs.State.{Fits};
 
+use isl_assumed::Assumed;
 use isl_coalesce::coalesce;
 use isl_eval::answer;
 use isl_gist::gist;
@@ -70,7 +71,24 @@ fn together(alloc: Global, value: &Value, meter: &mut Meter) -> Result<String, O
     requires within { IsWithinLimit meter.old value.now }
     requires plain { HasNoDefinitions value.now }
 {
-    let together = coalesce(alloc, value, meter)?;
+    let together = coalesce(alloc, value, &Assumed::all(), meter)?;
+    Ok(text_of(alloc, &together)?)
+}
+
+// The same at the valuations at which the other value has an element.
+fn together_where(
+    alloc: Global,
+    value: &Value,
+    known: &Value,
+    meter: &mut Meter,
+) -> Result<String, OpFault>
+    requires own { IsWithinLimit meter.old value.now }
+    requires other { IsWithinLimit meter.old known.now }
+    requires plain { HasNoDefinitions value.now }
+    requires known_plain { HasNoDefinitions known.now }
+{
+    let assumed = Assumed::of(alloc, known, meter)?;
+    let together = coalesce(alloc, value, &assumed, meter)?;
     Ok(text_of(alloc, &together)?)
 }
 
@@ -101,11 +119,32 @@ fn coalesced(alloc: Global, literal: &str, meter: &mut Meter) -> Result<Option<S
     }
 }
 
+// The same at the valuations at which its second literal has an element.
+fn coalesced_where(
+    alloc: Global,
+    literal: &str,
+    known: &str,
+    meter: &mut Meter,
+) -> Result<Option<String>, OpFault> {
+    let state = bound(alloc, literal, meter)?;
+    let other = bound(alloc, known, meter)?;
+    match (
+        value_in(alloc, &state, meter)?,
+        value_in(alloc, &other, meter)?,
+    ) {
+        (Some(value), Some(known)) => Ok(Some(together_where(alloc, value, known, meter)?)),
+        _ => Ok(None),
+    }
+}
+
 // What a case answers to what it asks.
 fn answered(alloc: Global, asked: &str) -> Result<Option<String>, OpFault> {
     let mut meter = Meter::new(127, 1_000_000);
     if let Some(literal) = asked.strip_prefix("coalesce ") {
-        return coalesced(alloc, literal, &mut meter);
+        return match literal.split_once(" | ") {
+            Some((literal, known)) => coalesced_where(alloc, literal, known, &mut meter),
+            None => coalesced(alloc, literal, &mut meter),
+        };
     }
     match asked
         .strip_prefix("gist ")

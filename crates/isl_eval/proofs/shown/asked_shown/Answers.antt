@@ -8,7 +8,7 @@ use Rattle.isl_eval.specs.Ended.{StatementEnds}
 use Rattle.isl_eval.specs.Evaluation.{EndsTest}
 use Rattle.isl_eval.proofs.TestLaws.{shows_test}
 use Rattle.isl_eval.proofs.ShownLaws.{asked_none, asked_scan, asked_test, moment_of, paid_working}
-use Rattle.isl_eval.proofs.ShownLaws.{row_is, scan_ended, scan_goes_on, scan_sound, scan_shows, scan_works}
+use Rattle.isl_eval.proofs.ShownLaws.{row_is, scan_assumed, scan_ended, scan_goes_on, scan_sound, scan_shows, scan_works}
 use Rattle.isl_eval.proofs.ShownLaws.{test_ends, test_ready, test_works, unworked_working}
 use Rattle.isl_eval.proofs.shown.asked_shown.Goals as goal
 
@@ -17,6 +17,12 @@ listed-requires-clause-sound c =
     scan_sound (moment_of c.args.state.now c.args.meter.now c.args.options.now) c.args.expr.now c.in-Prefix.operand
     c.get.result.now _ c.in-Prefix.is
     (asked_scan c.args.expr.now c.in-Prefix.operand _ c.in-Prefix.is c.requires.asked) c.get.ensures c.requires.evaluable
+
+pub listed-requires-clause-assumed : goal.listed-requires-clause-assumed
+listed-requires-clause-assumed c =
+    scan_assumed (moment_of c.args.state.now c.args.meter.now c.args.options.now) c.args.expr.now c.in-Prefix.operand
+    c.get.result.now _ c.in-Prefix.is
+    (asked_scan c.args.expr.now c.in-Prefix.operand _ c.in-Prefix.is c.requires.asked) c.get.ensures c.requires.assumed
 
 pub returns-in-Prefix-clause-made : goal.returns-in-Prefix-clause-made
 returns-in-Prefix-clause-made c =
@@ -57,7 +63,7 @@ returns-in-Some-clause-made c =
     c.in-Some.ensures.cases.0 c.requires.asked in
     let row = row_is c.args.expr.now _ c.get-in-Some.result.now _ c.as_slice.result.now c.in-Some.before.now c.in-Some.last.now c.in-Row.is
     c.get-in-Some.ensures c.as_slice.ensures c.in-Some.ensures.cases.0 in
-    let works = test_works c.args.expr.now _ _ c.as_slice.result.now c.in-Some.before.now c.in-Some.last.now c.in-Row.is c.as_slice.ensures
+    let works = test_works c.args.state.now.assumed c.args.expr.now _ _ c.as_slice.result.now c.in-Some.before.now c.in-Some.last.now c.in-Row.is c.as_slice.ensures
     c.in-Some.ensures.cases.0 test in
     match_map c.truth_shown.result _ _ _ _
     (λ line h. (

@@ -17,7 +17,7 @@ returns-in-Ok-clause-made c =
       (
         c.in-Ok.listing,
         listed_is c.args.state.now c.args.operand.now c.args.options.now.at c.in_ok-value.value.value c.deref-2.result.now c.in-Ok.listing
-            c.in_ok-value.ensures.made.0.elements c.deref-2.ensures (c.in-Ok.ensures.listed c.args.options.now.at numbers),
+            (c.in_ok-value.ensures.made.0.elements c.args.options.now.at c.requires.assumed) c.deref-2.ensures (c.in-Ok.ensures.listed c.args.options.now.at numbers),
         c.in_ok-of_listing-in-Ok.ensures,
       ),
       IsCharged_trans c.args.meter.now c.value_of.new.meter c.scan.new.meter c.in_ok-value.ensures.made.1.charged c.in-Ok.ensures.meter,
@@ -30,7 +30,8 @@ returns-in-Ok-clause-goes_on c =
     c.as_slice.result.now c.deref.ensures c.deref-2.ensures c.params.ensures.content c.in_ok-numbers.ensures c.as_slice.ensures.value in
     listing_goes_on c.args.state.now c.args.operand.now c.args.options.now.at c.in-Ok.listing c.in_ok-value.ensures.goes_on
     (listed_is c.args.state.now c.args.operand.now c.args.options.now.at c.in_ok-value.value.value c.deref-2.result.now c.in-Ok.listing
-    c.in_ok-value.ensures.made.0.elements c.deref-2.ensures (c.in-Ok.ensures.listed c.args.options.now.at numbers))
+    (c.in_ok-value.ensures.made.0.elements c.args.options.now.at c.requires.assumed) c.deref-2.ensures
+    (c.in-Ok.ensures.listed c.args.options.now.at numbers))
 
 pub returns-clause-made : goal.returns-clause-made
 returns-clause-made c =
@@ -39,7 +40,8 @@ returns-clause-made c =
     c.as_slice.result.now c.deref.ensures c.deref-2.ensures c.params.ensures.content c.in_ok-numbers.ensures c.as_slice.ensures.value in
     scan_failed c.scan.result c.args.state.now c.args.operand.now c.args.options.now.at c.in_ok-value.value.value c.deref-2.result.now
     c.args.meter.now c.value_of.new.meter
-    c.scan.new.meter c.in-Err.fault c.refusal_of_fault.result c.in-Err.is c.in_ok-value.ensures.made.0.elements c.deref-2.ensures
+    c.scan.new.meter c.in-Err.fault c.refusal_of_fault.result c.in-Err.is
+    (c.in_ok-value.ensures.made.0.elements c.args.options.now.at c.requires.assumed) c.deref-2.ensures
     c.in_ok-value.ensures.made.1.charged
     (c.scan.ensures.unbounded c.args.options.now.at numbers) c.in-Err.ensures.meter c.refusal_of_fault.ensures
     c.in_ok-value.ensures.goes_on

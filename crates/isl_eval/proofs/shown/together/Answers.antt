@@ -1,46 +1,43 @@
-use Rattle.std.proofs.Common.{◌≡◌, inl, inr, true, refl, subst, sym, rules}
-use Rattle.isl_union.specs.KeptValue.{HasNoDefinitions}
+use Rattle.std.proofs.Common.{subst, sym}
+use Rattle.std.specs.Prelude.{unsigned_abs}
+use Rattle.isl_meter.specs.Gauge.{limit_of}
 use Rattle.isl_meter.proofs.CutLemmas.{IsCharged_trans}
-use Rattle.isl_text.specs.declared.refusal.Refusal.TheVariants.{NoMemory}
-use Rattle.isl_values.specs.Made.{refusal_of_cut}
-use Rattle.isl_values.proofs.ValueLaws.{paid_works, unmade_memory}
-use Rattle.isl_eval.specs.Evaluation.{EndsWork}
-use Rattle.isl_eval.proofs.TestLaws.{at_deref, refused, unmade_by}
-use Rattle.isl_eval.proofs.ShownLaws.{flat_selects, together_is}
+use Rattle.isl_union.specs.KeptValue.{HasNoDefinitions, KeptValue}
+use Rattle.isl_values.specs.Live.{IsLiveUnder}
+use Rattle.isl_values.proofs.ValueLaws.{fits_later, match_map}
+use Rattle.isl_eval.specs.Evaluation.{IsPutAt}
+use Rattle.isl_eval.proofs.TestLaws.{at_deref}
+use Rattle.isl_eval.proofs.ShownLaws.{flat_selects, together_is, work_cut}
 use Rattle.isl_eval.proofs.shown.together.Goals as goal
 
-pub coalesce-requires-clause-within : goal.coalesce-requires-clause-within
-coalesce-requires-clause-within c =
+pub put_together-requires-clause-live : goal.put_together-requires-clause-live
+put_together-requires-clause-live c =
+    subst (IsLiveUnder c.args.state.now.assumed) (sym c.deref.ensures) c.in_ok-value.ensures.made.0.live
+
+pub put_together-requires-clause-numbers : goal.put_together-requires-clause-numbers
+put_together-requires-clause-numbers c =
     at_deref c.args.meter.now c.flat_value_of.new.meter c.in_ok-value.value.value c.deref.result.now c.in_ok-value.ensures.made.1.charged
     c.deref.ensures
     c.in_ok-value.ensures.made.0.numbers
 
-pub coalesce-requires-clause-plain : goal.coalesce-requires-clause-plain
-coalesce-requires-clause-plain c = subst HasNoDefinitions (sym c.deref.ensures) (c.in_ok-value.ensures.made.0.definitions tt)
+pub put_together-requires-clause-definitions : goal.put_together-requires-clause-definitions
+put_together-requires-clause-definitions c =
+    subst HasNoDefinitions (sym c.deref.ensures) (c.in_ok-value.ensures.made.0.definitions tt)
 
-pub returns-in-Ok-clause-made : goal.returns-in-Ok-clause-made
-returns-in-Ok-clause-made c =
-    let e = c.in-Ok.ensures in (
-      together_is c.args.state.now c.args.operand.now c.args.meter.now c.flat_value_of.new.meter c.in_ok-value.value.value
-          c.deref.result.now
-          c.in-Ok.together c.in_ok-new-in-Ok.field-0.value
-          (flat_selects c.args.state.now c.args.operand.now _ c.in_ok-value.value.value c.in_ok-value.ensures.made.0)
-          c.in_ok-value.ensures.made.0.params c.deref.ensures e.kept e.definitions e.numbers
-          c.in_ok-value.ensures.made.1.charged c.in_ok-new-in-Ok.ensures.ok e.params e.elements e.coalesced,
-      IsCharged_trans c.args.meter.now c.flat_value_of.new.meter c.coalesce.new.meter c.in_ok-value.ensures.made.1.charged e.meter,
-    )
-
-pub returns-in_err-new-in-Ok-clause-made : goal.returns-in_err-new-in-Ok-clause-made
-returns-in_err-new-in-Ok-clause-made c =
-    let g = c.args.meter.now in
-    let k = c.coalesce.new.meter in
-    refused c.from_residual-in_err-new-in-Ok.result _ _ NoMemory (search rules)
-    (inl (unmade_memory true (EndsWork c.args.state.now c.args.operand.now) g k NoMemory refl
-    (paid_works g k (IsCharged_trans g c.flat_value_of.new.meter k c.in_ok-value.ensures.made.1.charged c.in-Ok.ensures.meter))))
+pub put_together-requires-clause-fits : goal.put_together-requires-clause-fits
+put_together-requires-clause-fits c =
+    fits_later c.args.meter.now c.flat_value_of.new.meter c.args.state.now c.in_ok-value.ensures.made.1.charged c.requires.fits
 
 pub returns-clause-made : goal.returns-clause-made
 returns-clause-made c =
     let one = c.in_ok-value.ensures in
-    let same : c.refusal_of.result ≡ refusal_of_cut c.in-Err.cut = search rules in
-    inl (unmade_by (EndsWork c.args.state.now c.args.operand.now) c.args.meter.now c.flat_value_of.new.meter c.coalesce.new.meter
-    c.in-Err.cut c.refusal_of.result one.made.1.charged c.in-Err.ensures.meter same (inr (inr (one.goes_on, tt))))
+    match_map c.put_together.result _ _ _ _
+    (λ together h. (
+      together_is c.args.state.now c.args.operand.now c.args.meter.now c.flat_value_of.new.meter c.in_ok-value.value.value together.value
+          (flat_selects c.args.state.now c.args.operand.now _ c.in_ok-value.value.value one.made.0) one.made.0.params one.made.1.charged
+          (subst (λ (k : KeptValue). IsPutAt c.args.state.now (unsigned_abs (limit_of c.flat_value_of.new.meter)) k together.value) c.deref.ensures h.0),
+      IsCharged_trans c.args.meter.now c.flat_value_of.new.meter c.put_together.new.meter one.made.1.charged h.1,
+    ))
+    (λ refusal h. work_cut c.args.state.now c.args.operand.now c.args.meter.now c.flat_value_of.new.meter c.put_together.new.meter refusal
+    one.goes_on one.made.1.charged h)
+    c.put_together.ensures

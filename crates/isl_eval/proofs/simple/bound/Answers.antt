@@ -1,13 +1,19 @@
-use Rattle.std.proofs.Common.{◌∙◌, ap}
+use Rattle.std.proofs.Common.{◌∙◌, ap, refl}
 use Rattle.isl_meter.specs.Gauge.{limit_of}
 use Rattle.isl_values.specs.State.{scope_of}
 use Rattle.isl_values.proofs.ForgetLaws.{forgotten_dollar, settled_bound}
 use Rattle.isl_kinds.specs.Typed.{is_dollar}
-use Rattle.isl_eval.proofs.ShownLaws.{bind_full, bind_kind, bind_makeable, bind_paid, bind_type, bound_kept, kept_type}
+use Rattle.isl_values.proofs.StateLaws.{fits_bound}
+use Rattle.isl_eval.proofs.StepLaws.{kept_live, kept_numbers}
+use Rattle.isl_eval.proofs.ShownLaws.{bind_full, bind_kind, bind_makeable, bind_other, bind_paid, bind_type, bound_kept, kept_type, moment_of}
+use Rattle.isl_eval.proofs.ShownLaws.{no_options}
 use Rattle.isl_eval.proofs.simple.bound.Goals as goal
 
 pub type_of-requires-clause-full : goal.type_of-requires-clause-full
 type_of-requires-clause-full c = bind_full c.args.stmt.now c.args.name.now c.args.expr.now c.requires.stmt
+
+pub type_of-requires-clause-other : goal.type_of-requires-clause-other
+type_of-requires-clause-other c = λ set. bind_other c.args.stmt.now c.args.name.now c.args.expr.now set c.requires.stmt
 
 pub content-requires-clause-makeable : goal.content-requires-clause-makeable
 content-requires-clause-makeable c =
@@ -28,17 +34,25 @@ pub returns-clause-made : goal.returns-clause-made
 returns-clause-made c = (
   (λ before here at. bound_kept before c.args.state.now c.bind.new.self (limit_of c.args.meter.now) c.args.name.now c.in_ok-name.name
       c.args.expr.now c.in_ok-kept.kept here at c.in_ok-kept.ensures.made.0 c.in_ok-name.ensures c.in_ok-bind.ensures.ok),
-  bind_paid c.args.stmt.now c.args.name.now c.args.expr.now c.args.meter.now c.content.new.meter c.requires.stmt
+  bind_paid c.args.state.now.assumed c.args.stmt.now c.args.name.now c.args.expr.now c.args.meter.now c.content.new.meter c.requires.stmt
       c.in_ok-kept.ensures.made.1,
 )
 
 pub returns-clause-dollar : goal.returns-clause-dollar
 returns-clause-dollar c =
     λ dollar. forgotten_dollar c.args.state.now c.bind.new.self c.in_ok-name.name c.in_ok-kept.kept (ap is_dollar c.in_ok-name.ensures ∙ dollar)
-    c.in_ok-bind.ensures.list
+    c.in_ok-bind.ensures.list c.in_ok-bind.ensures.ok.assumed
 
 pub returns-clause-settled : goal.returns-clause-settled
 returns-clause-settled c =
     λ plain settled. settled_bound c.args.state.now c.bind.new.self c.in_ok-name.name c.in_ok-kept.kept (ap is_dollar c.in_ok-name.ensures
     ∙ plain)
     c.in_ok-bind.ensures.list settled
+
+pub returns-clause-fits : goal.returns-clause-fits
+returns-clause-fits c =
+    let before = moment_of c.args.state.now c.args.meter.now no_options in
+    let keeps = c.in_ok-kept.ensures.made.0 before refl refl in
+    fits_bound (limit_of c.args.meter.now) c.args.state.now c.in_ok-name.name c.in_ok-kept.kept c.bind.new.self c.requires.fits
+    c.in_ok-bind.ensures.ok (kept_numbers before c.args.expr.now c.in_ok-kept.kept keeps)
+    (kept_live before c.args.expr.now c.in_ok-kept.kept keeps)

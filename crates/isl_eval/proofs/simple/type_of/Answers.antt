@@ -11,7 +11,7 @@ returns-in-Ok-Some-clause-typed c =
 pub unreachable-requires : goal.unreachable-requires
 unreachable-requires c =
     not_empty (scope_of c.args.state.now) c.scope.result.now c.args.stmt.now c.in-Ok-None.field-0 c.scope.ensures c.in-Ok-None.ensures
-    (search rules) c.requires.full c.requires.plain
+    (search rules) c.requires.full c.requires.other
 
 pub returns-in-Err-clause-faults : goal.returns-in-Err-clause-faults
 returns-in-Err-clause-faults c =

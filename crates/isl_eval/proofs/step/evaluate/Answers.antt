@@ -4,7 +4,7 @@ use Rattle.isl_eval.specs.Evaluation.{AreEvaluable}
 use Rattle.isl_eval.proofs.MomentLaws.{moment_of}
 use Rattle.isl_eval.proofs.TestLaws.{refused}
 use Rattle.isl_eval.proofs.StepLaws.{alone_settled, turn_alone, left_first, left_start, loop_first, loop_last}
-use Rattle.isl_eval.proofs.StepLaws.{loop_next, loop_stopped, stopped_last, answered_last, shown_last}
+use Rattle.isl_eval.proofs.StepLaws.{asked_last, asked_next, fits_last, loop_next, loop_stopped, paid_last, stopped_last, answered_last, shown_last}
 use Rattle.isl_eval.proofs.step.evaluate.Goals as goal
 
 pub loop-stmt-init : goal.loop-stmt-init
@@ -30,13 +30,35 @@ eval-requires-clause-fits c =
     (moment_of c.loop-stmt.state c.loop-stmt.meter c.args.options.now) _ c.in-Some.others.now
     c.in-Some.last.now c.stmt-item.result c.loop-stmt.stmt-index low c.stmt-item.is c.loop-stmt.invariant)).1
 
+pub eval-requires-clause-asked : goal.eval-requires-clause-asked
+eval-requires-clause-asked c =
+    let low : c.loop-stmt.stmt-index < length c.in-Some.others.now = omega arith in
+    asked_next (moment_of c.args.state.now c.args.meter.now c.args.options.now)
+    (moment_of c.loop-stmt.state c.loop-stmt.meter c.args.options.now) c.args.statements.now c.in-Some.others.now _ _ c.in-Some.last.now
+    c.stmt-item.result c.loop-stmt.stmt-index c.in-Some.ensures.cases.0 low c.stmt-item.is c.requires.asked c.loop-stmt.invariant
+
+pub eval-requires-2-clause-asked : goal.eval-requires-2-clause-asked
+eval-requires-2-clause-asked c =
+    asked_last (moment_of c.args.state.now c.args.meter.now c.args.options.now)
+    (moment_of c.loop-stmt.state c.loop-stmt.meter c.args.options.now) c.args.statements.now c.in-Some.others.now _ _ c.in-Some.last.now
+    c.in-Some.ensures.cases.0 c.requires.asked c.loop-stmt.invariant
+
+pub returns-clause-fits : goal.returns-clause-fits
+returns-clause-fits c =
+    fits_last (moment_of c.args.state.now c.args.meter.now c.args.options.now)
+    (moment_of c.loop-stmt.state c.loop-stmt.meter c.args.options.now) c.in-Some.others.now c.in-Some.last.now c.eval-2.new.state
+    c.eval-2.result
+    (loop_last (moment_of c.args.state.now c.args.meter.now c.args.options.now)
+    (moment_of c.loop-stmt.state c.loop-stmt.meter c.args.options.now) c.in-Some.others.now
+    c.in-Some.last.now c.loop-stmt.stmt-index (omega arith) c.loop-stmt.invariant) c.eval-2.ensures.fits
+
 pub loop-stmt-preserved : goal.loop-stmt-preserved
 loop-stmt-preserved c =
     let low : c.loop-stmt.stmt-index < length c.in-Some.others.now = omega arith in
     loop_next (moment_of c.args.state.now c.args.meter.now c.args.options.now) (moment_of c.loop-stmt.state c.loop-stmt.meter c.args.options.now)
     (moment_of c.eval.new.state c.eval.new.meter c.args.options.now) c.in-Some.others.now c.in-Some.last.now c.stmt-item.result
     c.loop-stmt.stmt-index _ low c.stmt-item.is c.loop-stmt.invariant c.in_ok-eval.ensures.ok c.in_ok-eval.ensures.meter
-    c.in_ok-eval.ensures.dollar
+    c.in_ok-eval.ensures.dollar c.in_ok-eval.ensures.fits
 
 pub returns-in_err-eval-clause-cause : goal.returns-in_err-eval-clause-cause
 returns-in_err-eval-clause-cause c =
@@ -98,3 +120,12 @@ returns-clause-settled c =
     (loop_last (moment_of c.args.state.now c.args.meter.now c.args.options.now)
     (moment_of c.loop-stmt.state c.loop-stmt.meter c.args.options.now) c.in-Some.others.now
     c.in-Some.last.now c.loop-stmt.stmt-index (omega arith) c.loop-stmt.invariant) plain settled c.eval-2.ensures.settled
+
+pub returns-clause-meter : goal.returns-clause-meter
+returns-clause-meter c =
+    paid_last (moment_of c.args.state.now c.args.meter.now c.args.options.now)
+    (moment_of c.loop-stmt.state c.loop-stmt.meter c.args.options.now) (moment_of c.eval-2.new.state c.eval-2.new.meter c.args.options.now)
+    c.args.statements.now c.in-Some.others.now c.in-Some.last.now c.eval-2.result c.in-Some.ensures.cases.0
+    (loop_last (moment_of c.args.state.now c.args.meter.now c.args.options.now)
+    (moment_of c.loop-stmt.state c.loop-stmt.meter c.args.options.now) c.in-Some.others.now
+    c.in-Some.last.now c.loop-stmt.stmt-index (omega arith) c.loop-stmt.invariant) c.eval-2.ensures.meter

@@ -1,31 +1,30 @@
 use Rattle.std.proofs.Common.{refl}
-use Rattle.isl_union.specs.KeptValue.{Has}
 use Rattle.isl_eval.proofs.TestLaws.{at_test, turned_units}
 use Rattle.isl_eval.proofs.test.holds.Goals as goal
 
 pub returns-in-Equal-clause-exact : goal.returns-in-Equal-clause-exact
-returns-in-Equal-clause-exact c state =
-    at_test c.is_equal.result state c.args.test _ (Has c.args.left.now)
-    (Has c.args.right.now) _ c.in-Equal.is c.is_equal.ensures.exact refl
+returns-in-Equal-clause-exact c =
+    at_test c.is_equal.result c.args.test _ c.args.left.now
+    c.args.right.now _ c.in-Equal.is c.is_equal.ensures.exact refl
 
 pub returns-in-Subset-clause-exact : goal.returns-in-Subset-clause-exact
-returns-in-Subset-clause-exact c state =
-    at_test c.is_subset.result state c.args.test _ (Has c.args.left.now) (Has c.args.right.now) _ c.in-Subset.is c.is_subset.ensures.exact refl
+returns-in-Subset-clause-exact c =
+    at_test c.is_subset.result c.args.test _ c.args.left.now c.args.right.now _ c.in-Subset.is c.is_subset.ensures.exact refl
 
 pub returns-in-Superset-clause-exact : goal.returns-in-Superset-clause-exact
-returns-in-Superset-clause-exact c state =
-    at_test c.is_subset-in-Superset.result state c.args.test _ (Has c.args.left.now) (Has c.args.right.now) _ c.in-Superset.is
+returns-in-Superset-clause-exact c =
+    at_test c.is_subset-in-Superset.result c.args.test _ c.args.left.now c.args.right.now _ c.in-Superset.is
     c.is_subset-in-Superset.ensures.exact refl
 
 pub returns-in-ProperSubset-clause-exact : goal.returns-in-ProperSubset-clause-exact
-returns-in-ProperSubset-clause-exact c state =
-    at_test c.is_proper_part.result state c.args.test _ (Has c.args.left.now) (Has c.args.right.now) _ c.in-ProperSubset.is
+returns-in-ProperSubset-clause-exact c =
+    at_test c.is_proper_part.result c.args.test _ c.args.left.now c.args.right.now _ c.in-ProperSubset.is
     c.is_proper_part.ensures.exact refl
 
 pub returns-in-ProperSuperset-clause-exact : goal.returns-in-ProperSuperset-clause-exact
-returns-in-ProperSuperset-clause-exact c state =
-    at_test c.is_proper_part-in-ProperSuperset.result state c.args.test _ (Has c.args.left.now)
-    (Has c.args.right.now) _ c.in-ProperSuperset.is
+returns-in-ProperSuperset-clause-exact c =
+    at_test c.is_proper_part-in-ProperSuperset.result c.args.test _ c.args.left.now
+    c.args.right.now _ c.in-ProperSuperset.is
     c.is_proper_part-in-ProperSuperset.ensures.exact refl
 
 pub returns-in-Superset-clause-units : goal.returns-in-Superset-clause-units

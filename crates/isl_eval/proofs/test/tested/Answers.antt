@@ -1,18 +1,16 @@
-use Rattle.std.proofs.Common.{◌≡◌, ◌<◌, ◌≤◌, List, length, refl, subst, rules}
+use Rattle.std.proofs.Common.{◌≤◌, List, length, refl, rules, subst}
+use Rattle.std.proofs.lemmas.Result.{IfOk-weaker}
+use Rattle.isl_meter.proofs.CutLemmas.{IsCharged_refl, IsCharged_trans}
 use Rattle.isl_space.specs.Limits.{most_parameters}
 use Rattle.isl_space.specs.Name.{Name}
-use Rattle.isl_space.specs.Names.{joined}
-use Rattle.isl_text.specs.declared.refusal.Refusal.TheVariants.{TooWide}
-use Rattle.isl_union.specs.Fault.{IsFaultBy}
 use Rattle.isl_union.specs.KeptValue.{Has}
-use Rattle.isl_union.specs.declared.fault.OpFault.TheVariants as op_fault
 use Rattle.isl_values.specs.Ends.{Ends, EndsRow}
-use Rattle.isl_values.proofs.ValueLaws.{fits_later, numbers_later}
-use Rattle.isl_meter.proofs.CutLemmas.{IsCharged_refl, IsCharged_trans}
 use Rattle.isl_values.specs.State.{scope_of}
-use Rattle.isl_eval.specs.Evaluation.{EndsTest}
-use Rattle.isl_eval.proofs.TestLaws.{at_deref, refused, test_names, test_unmade, test_wide, tested_is, unworked_on}
-use Rattle.isl_eval.proofs.EndsLaws.{first_ends, names_end, past_ends, right_ends, test_cut, test_goes_on}
+use Rattle.isl_values.proofs.ValueLaws.{fits_later, match_map, numbers_later}
+use Rattle.isl_eval.specs.Evaluation.{EndsTest, EndsTwo}
+use Rattle.isl_eval.proofs.AssumedLaws.{two_few}
+use Rattle.isl_eval.proofs.TestLaws.{refused, test_names, tested_is, unworked_on}
+use Rattle.isl_eval.proofs.EndsLaws.{first_ends, past_ends, right_ends, test_ended, test_goes_on}
 use Rattle.isl_eval.proofs.test.tested.Goals as goal
 
 pub joined_past-requires-clause-fits : goal.joined_past-requires-clause-fits
@@ -31,33 +29,62 @@ value_of-requires-2-clause-fits c =
     c.in_ok-left-2.ensures.made.1.charged)
     c.requires.fits
 
-pub holds-requires-clause-left : goal.holds-requires-clause-left
-holds-requires-clause-left c =
-    at_deref c.joined_past.new.meter c.value_of-2.new.meter c.in_ok-left-2.left.value c.deref.result.now
-    c.in_ok-right.ensures.made.1.charged
-    c.deref.ensures
+pub told-requires-clause-left : goal.told-requires-clause-left
+told-requires-clause-left c =
+    numbers_later c.joined_past.new.meter c.value_of-2.new.meter c.in_ok-left-2.left.value c.in_ok-right.ensures.made.1.charged
     (numbers_later c.value_of.new.meter c.joined_past.new.meter c.in_ok-left-2.left.value c.in_ok-left-2.ensures.made.1.charged
     c.in_ok-left-2.ensures.made.0.numbers)
 
-pub holds-requires-clause-right : goal.holds-requires-clause-right
-holds-requires-clause-right c =
-    at_deref c.joined_past.new.meter c.value_of-2.new.meter c.in_ok-right.right.value c.deref-2.result.now
-    c.in_ok-right.ensures.made.1.charged
-    c.deref-2.ensures
+pub told-requires-clause-right : goal.told-requires-clause-right
+told-requires-clause-right c =
+    numbers_later c.joined_past.new.meter c.value_of-2.new.meter c.in_ok-right.right.value c.in_ok-right.ensures.made.1.charged
     c.in_ok-right.ensures.made.0.numbers
 
-pub returns-in-Ok-clause-made : goal.returns-in-Ok-clause-made
-returns-in-Ok-clause-made c = (
-  tested_is c.args.state.now c.args.last.now.operator c.args.first.now c.args.last.now.operand c.args.before.now c.in_ok-left.left.value
-      c.in_ok-left-2.left.value c.in_ok-right.right.value c.deref.result.now c.deref-2.result.now c.in-Ok.holds
-      c.in_ok-left.ensures.made.0.elements
-      c.in_ok-left-2.ensures.made.0.elements c.in_ok-right.ensures.made.0.elements c.deref.ensures c.deref-2.ensures
-      (c.in-Ok.ensures.exact c.args.state.now),
-  IsCharged_trans c.args.meter.now c.value_of.new.meter c.holds.new.meter c.in_ok-left.ensures.made.1.charged
-      (IsCharged_trans c.value_of.new.meter c.joined_past.new.meter c.holds.new.meter c.in_ok-left-2.ensures.made.1.charged
-      (IsCharged_trans c.joined_past.new.meter c.value_of-2.new.meter c.holds.new.meter c.in_ok-right.ensures.made.1.charged
-      c.in-Ok.ensures.units.1)),
-)
+pub told-requires-clause-fits : goal.told-requires-clause-fits
+told-requires-clause-fits c =
+    fits_later c.args.meter.now c.value_of-2.new.meter c.args.state.now
+    (IsCharged_trans c.args.meter.now c.value_of.new.meter c.value_of-2.new.meter c.in_ok-left.ensures.made.1.charged
+    (IsCharged_trans c.value_of.new.meter c.joined_past.new.meter c.value_of-2.new.meter c.in_ok-left-2.ensures.made.1.charged
+    c.in_ok-right.ensures.made.1.charged))
+    c.requires.fits
+
+pub returns-clause-made : goal.returns-clause-made
+returns-clause-made c =
+    let state = c.args.state.now in
+    let charged = IsCharged_trans c.args.meter.now c.value_of.new.meter c.value_of-2.new.meter c.in_ok-left.ensures.made.1.charged
+    (IsCharged_trans c.value_of.new.meter c.joined_past.new.meter c.value_of-2.new.meter c.in_ok-left-2.ensures.made.1.charged
+    c.in_ok-right.ensures.made.1.charged) in
+    let names = test_names (scope_of state) c.args.first.now c.args.before.now c.args.last.now c.in_ok-left.left.value
+    c.in_ok-left-2.left.value c.in_ok-right.right.value c.in_ok-left.ensures.made.0.params c.in_ok-left-2.ensures.made.0.params
+    c.in_ok-right.ensures.made.0.params in
+    match_map c.told.result _ _ _ _
+    (λ holds h. (
+      tested_is state c.args.last.now.operator c.args.first.now c.args.last.now.operand c.args.before.now c.in_ok-left.left.value
+          c.in_ok-left-2.left.value c.in_ok-right.right.value holds c.in_ok-left.ensures.made.0.elements
+          c.in_ok-left-2.ensures.made.0.elements c.in_ok-right.ensures.made.0.elements h.0,
+      IsCharged_trans c.args.meter.now c.value_of-2.new.meter c.told.new.meter charged h.1,
+    ))
+    (λ refusal h. unworked_on _ (EndsTwo c.in_ok-left-2.left.value c.in_ok-right.right.value)
+    (EndsTest state c.args.first.now c.args.before.now c.args.last.now) c.args.meter.now c.value_of-2.new.meter c.told.new.meter refusal
+    (test_ended state c.args.first.now c.args.before.now c.args.last.now c.in_ok-left.left.value c.in_ok-left.ensures.made.0.params
+    c.in_ok-left.ensures.made.0.elements c.in_ok-left.ensures.goes_on c.in_ok-left-2.ensures.goes_on c.in_ok-right.ensures.goes_on
+    c.requires.ready.test _ names) charged h)
+    c.told.ensures.made
+
+pub returns-clause-goes_on : goal.returns-clause-goes_on
+returns-clause-goes_on c =
+    let state = c.args.state.now in
+    let names = test_names (scope_of state) c.args.first.now c.args.before.now c.args.last.now c.in_ok-left.left.value
+    c.in_ok-left-2.left.value c.in_ok-right.right.value c.in_ok-left.ensures.made.0.params c.in_ok-left-2.ensures.made.0.params
+    c.in_ok-right.ensures.made.0.params in
+    IfOk-weaker c.told.result _ _
+    (λ holds goes. test_goes_on state c.args.first.now c.args.before.now c.args.last.now c.in_ok-left.left.value
+    c.in_ok-left.ensures.made.0.params c.in_ok-left.ensures.made.0.elements c.in_ok-left.ensures.goes_on c.in_ok-left-2.ensures.goes_on
+    c.in_ok-right.ensures.goes_on c.requires.ready.test
+    (subst (λ (ns : List Name). length ns ≤ most_parameters) names
+    (two_few state.assumed c.in_ok-left-2.left.value c.in_ok-right.right.value c.in_ok-left-2.ensures.made.0.kept
+    c.in_ok-right.ensures.made.0.kept goes)))
+    c.told.ensures.goes_on
 
 pub returns-in_err-left-clause-made : goal.returns-in_err-left-clause-made
 returns-in_err-left-clause-made c =
@@ -89,51 +116,3 @@ returns-in_err-right-clause-made c =
     c.in_ok-left.ensures.made.0.params c.in_ok-left.ensures.made.0.elements c.in_ok-left.ensures.goes_on c.in_ok-left-2.ensures.goes_on)
     (IsCharged_trans c.args.meter.now c.value_of.new.meter c.joined_past.new.meter c.in_ok-left.ensures.made.1.charged
     c.in_ok-left-2.ensures.made.1.charged) c.in_err-right.ensures.made)
-
-pub returns-clause-made : goal.returns-clause-made
-returns-clause-made c =
-    let state = c.args.state.now in
-    let wide : c.in-Err-TooWide.field-0 ≡ op_fault.TooWide = search rules in
-    let names = test_names (scope_of state) c.args.first.now c.args.before.now c.args.last.now c.in_ok-left.left.value
-    c.in_ok-left-2.left.value c.in_ok-right.right.value c.deref.result.now c.deref-2.result.now c.in_ok-left.ensures.made.0.params
-    c.in_ok-left-2.ensures.made.0.params c.in_ok-right.ensures.made.0.params c.deref.ensures c.deref-2.ensures in
-    test_wide (EndsTest state c.args.first.now c.args.before.now c.args.last.now)
-    (joined c.deref.result.now.params c.deref-2.result.now.params) c.args.meter.now c.value_of-2.new.meter c.holds.new.meter TooWide refl
-    (IsCharged_trans c.args.meter.now c.joined_past.new.meter c.value_of-2.new.meter
-    (IsCharged_trans c.args.meter.now c.value_of.new.meter c.joined_past.new.meter c.in_ok-left.ensures.made.1.charged
-    c.in_ok-left-2.ensures.made.1.charged) c.in_ok-right.ensures.made.1.charged)
-    (subst (IsFaultBy (joined c.deref.result.now.params c.deref-2.result.now.params) c.value_of-2.new.meter c.holds.new.meter) wide
-    c.in-Err-TooWide.ensures.units)
-    (λ many. names_end state c.args.first.now c.args.before.now c.args.last.now c.in_ok-left.left.value
-    c.in_ok-left.ensures.made.0.params c.in_ok-left.ensures.made.0.elements c.in_ok-left.ensures.goes_on c.in_ok-left-2.ensures.goes_on
-    c.in_ok-right.ensures.goes_on (subst (λ (ns : List Name). most_parameters < length ns) names many))
-
-pub returns-in-Err-Cut-clause-made : goal.returns-in-Err-Cut-clause-made
-returns-in-Err-Cut-clause-made c =
-    let state = c.args.state.now in
-    let fault : c.in-Err-Cut.field-0 ≡ op_fault.Cut c.in-Err-Cut.cut = search rules in
-    let names = test_names (scope_of state) c.args.first.now c.args.before.now c.args.last.now c.in_ok-left.left.value
-    c.in_ok-left-2.left.value c.in_ok-right.right.value c.deref.result.now c.deref-2.result.now c.in_ok-left.ensures.made.0.params
-    c.in_ok-left-2.ensures.made.0.params c.in_ok-right.ensures.made.0.params c.deref.ensures c.deref-2.ensures in
-    test_unmade (EndsTest state c.args.first.now c.args.before.now c.args.last.now)
-    (joined c.deref.result.now.params c.deref-2.result.now.params) c.args.meter.now c.value_of-2.new.meter c.holds.new.meter
-    c.in-Err-Cut.cut c.refusal_of.result
-    (IsCharged_trans c.args.meter.now c.joined_past.new.meter c.value_of-2.new.meter
-    (IsCharged_trans c.args.meter.now c.value_of.new.meter c.joined_past.new.meter c.in_ok-left.ensures.made.1.charged
-    c.in_ok-left-2.ensures.made.1.charged) c.in_ok-right.ensures.made.1.charged)
-    (subst (IsFaultBy (joined c.deref.result.now.params c.deref-2.result.now.params) c.value_of-2.new.meter c.holds.new.meter) fault
-    c.in-Err-Cut.ensures.units) c.refusal_of.ensures
-    (λ few. test_cut state c.args.first.now c.args.before.now c.args.last.now c.in_ok-left.left.value
-    c.in_ok-left.ensures.made.0.params c.in_ok-left.ensures.made.0.elements c.in_ok-left.ensures.goes_on c.in_ok-left-2.ensures.goes_on
-    c.in_ok-right.ensures.goes_on c.requires.ready.test (subst (λ (ns : List Name). length ns ≤ most_parameters) names few))
-
-pub returns-in-Ok-clause-goes_on : goal.returns-in-Ok-clause-goes_on
-returns-in-Ok-clause-goes_on c =
-    let state = c.args.state.now in
-    let names = test_names (scope_of state) c.args.first.now c.args.before.now c.args.last.now c.in_ok-left.left.value
-    c.in_ok-left-2.left.value c.in_ok-right.right.value c.deref.result.now c.deref-2.result.now c.in_ok-left.ensures.made.0.params
-    c.in_ok-left-2.ensures.made.0.params c.in_ok-right.ensures.made.0.params c.deref.ensures c.deref-2.ensures in
-    test_goes_on state c.args.first.now c.args.before.now c.args.last.now c.in_ok-left.left.value
-    c.in_ok-left.ensures.made.0.params c.in_ok-left.ensures.made.0.elements c.in_ok-left.ensures.goes_on c.in_ok-left-2.ensures.goes_on
-    c.in_ok-right.ensures.goes_on c.requires.ready.test
-    (subst (λ (ns : List Name). length ns ≤ most_parameters) names c.in-Ok.ensures.units.0)

@@ -1,94 +1,78 @@
-use Rattle.std.proofs.Common.{◌≡◌, true, subst, sym}
-use Rattle.std.specs.Prelude.{IfOk, MatchResult, unsigned_abs}
-use Rattle.isl_meter.specs.Gauge.{limit_of}
-use Rattle.isl_space.specs.Names.{AreDistinct}
-use Rattle.isl_union.specs.KeptValue.{KeptValue, Has, HasNoDefinitions}
-use Rattle.isl_union.specs.Numbers.{IsWithinLimit}
-use Rattle.isl_flow.specs.declared.sources.Flow.{Flow}
-use Rattle.isl_operators.specs.Flow.{LastHas, UnsourcedHas}
-use Rattle.isl_operators.specs.Formed.{PairsWide}
-use Rattle.isl_operators.specs.Made.{IsDependenceOf, names_of_three}
-use Rattle.isl_relation.specs.Formed.{FormsAccess}
-use Rattle.isl_kinds.specs.Typed.{joined_names}
-use Rattle.isl_values.specs.Ends.{DependenceEnds, GoesOn}
-use Rattle.isl_values.specs.Made.{refusal_of_fault, IsPaid, IsValueOf, IsWhyUnworked}
-use Rattle.isl_values.proofs.FlowLaws.{flow_of_list, flow_values, listed_answer}
-use Rattle.isl_values.proofs.OutcomeLaws.{answered_made, answered_ok, fault_ends, outcome_goes_of}
-use Rattle.isl_values.proofs.ThreeLaws.{in_three, three_names}
-use Rattle.isl_values.proofs.ValueLaws.{ok_map}
+use Rattle.std.proofs.Common.{true, inl}
+use Rattle.std.specs.Prelude.{Err}
+use Rattle.isl_meter.proofs.CutLemmas.{IsCharged_trans}
+use Rattle.isl_union.specs.KeptValue.{KeptValue}
+use Rattle.isl_values.proofs.LiveLaws.{dependence_cut_there, dependence_ends_live, dependence_goes_there, live_answer, live_value}
+use Rattle.isl_values.proofs.ValueLaws.{numbers_later, paid_works, unworked_in}
 use Rattle.isl_values.proofs.dependence.latest.Goals as goal
 
-pub latest-requires-clause-source : goal.latest-requires-clause-source
-latest-requires-clause-source c = subst (IsWithinLimit c.args.meter.now) (sym c.deref.ensures) c.requires.source.1
+pub returns-in-Err-clause-made : goal.returns-in-Err-clause-made
+returns-in-Err-clause-made c =
+    let state = c.args.state.now in
+    let three = c.args.three.now in
+    let live = c.requires.live in
+    let alike = dependence_ends_live state _ three.source.value three.sink.value live.source live.sink in
+    unworked_in true true _ _ c.args.meter.now c.lasts.new.meter c.in-Err.refusal (λ none. absurd (let no : ⊥ = cc in no))
+    (λ end ends. (alike end).0 ends) c.in-Err.ensures.made
 
-pub latest-requires-clause-sink : goal.latest-requires-clause-sink
-latest-requires-clause-sink c = subst (IsWithinLimit c.args.meter.now) (sym c.deref-2.ensures) c.requires.sink.1
+pub live_part-requires-clause-numbers : goal.live_part-requires-clause-numbers
+live_part-requires-clause-numbers c =
+    let one = c.in-Ok.ensures.made in
+    numbers_later c.args.meter.now c.lasts.new.meter c.in-Ok.list.first.value one.1.charged one.0.0.numbers
 
-pub latest-requires-clause-schedule : goal.latest-requires-clause-schedule
-latest-requires-clause-schedule c = subst (IsWithinLimit c.args.meter.now) (sym c.deref-3.ensures) c.requires.schedule.1
+pub returns-in-Err-live_part-clause-made : goal.returns-in-Err-live_part-clause-made
+returns-in-Err-live_part-clause-made c =
+    let state = c.args.state.now in
+    let three = c.args.three.now in
+    let live = c.requires.live in
+    let one = c.in-Ok.ensures in
+    let there = dependence_cut_there state _ three.source.value three.sink.value live.source live.sink one.goes_on in
+    let refused = c.in-Err-live_part in
+    inl (live_answer state.assumed _ _ _ c.args.meter.now c.lasts.new.meter c.live_part.new.meter c.in-Ok.list.first.value one.made.0.0 true _
+    one.made.1 (λ some. there) true (λ none. absurd (let no : ⊥ = cc in no)) (λ (v : KeptValue). v) (Err refused.refusal)
+    refused.ensures.made (rw c.assumed.ensures at refused.ensures.nothing))
 
-pub returns-clause-made : goal.returns-clause-made
-returns-clause-made c =
+pub live_part-requires-2-clause-numbers : goal.live_part-requires-2-clause-numbers
+live_part-requires-2-clause-numbers c =
+    let one = c.in-Ok.ensures.made in
+    let first = c.in-Ok-live_part.ensures.made in
+    numbers_later c.args.meter.now c.live_part.new.meter c.in-Ok.list.second.value
+    (IsCharged_trans c.args.meter.now c.lasts.new.meter c.live_part.new.meter one.1.charged first.1) one.0.1.numbers
+
+pub returns-in-Ok-live_part-2-clause-made : goal.returns-in-Ok-live_part-2-clause-made
+returns-in-Ok-live_part-2-clause-made c =
+    let state = c.args.state.now in
     let g = c.args.meter.now in
-    let h = c.latest.new.meter in
-    let e = c.latest.ensures in
-    let limit = unsigned_abs (limit_of g) in
-    let source = c.deref.result.now in
-    let sink = c.deref-2.result.now in
-    let schedule = c.deref-3.result.now in
-    let distinct : AreDistinct sink.params =
-    subst (λ (v : KeptValue). AreDistinct v.params) (sym c.deref-2.ensures) c.requires.sink.0.params.distinct in
-    let apart : AreDistinct schedule.params =
-    subst (λ (v : KeptValue). AreDistinct v.params) (sym c.deref-3.ensures) c.requires.schedule.0.params.distinct in
-    let own = names_of_three source sink schedule in
-    let names = joined_names (joined_names source.params sink.params) schedule.params in
-    let same = three_names source sink schedule distinct apart in
-    in_three
-    (λ x y z. MatchResult c.listed.result
-    (λ list. (IsValueOf (IsDependenceOf LastHas x y z) (joined_names (joined_names x.params y.params) z.params)
-    (λ v e. LastHas (Has x v) (Has y v) (Has z v) e) (unsigned_abs (limit_of g))
-    (HasNoDefinitions x × HasNoDefinitions y × HasNoDefinitions z) list.first.value
-    × IsValueOf (IsDependenceOf UnsourcedHas x y z) (joined_names (joined_names x.params y.params) z.params)
-    (λ v e. UnsourcedHas (Has x v) (Has y v) (Has z v) e) (unsigned_abs (limit_of g))
-    (HasNoDefinitions x × HasNoDefinitions y × HasNoDefinitions z) list.second.value) × IsPaid true g h)
-    (IsWhyUnworked true (DependenceEnds (joined_names (joined_names x.params y.params) z.params) (Has x) (Has y)) g h))
-    source sink schedule _ _ _ c.deref.ensures c.deref-2.ensures c.deref-3.ensures
-    (answered_made refusal_of_fault _ _ _ _ _ (fault_ends _ (PairsWide FormsAccess (Has source) (Has sink)) _ _ own names same)
-    flow_of_list c.latest.result c.listed.result
-    (λ (flow : Flow). IsValueOf (IsDependenceOf LastHas source sink schedule) names
-    (λ v e. LastHas (Has source v) (Has sink v) (Has schedule v) e) limit
-    (HasNoDefinitions source × HasNoDefinitions sink × HasNoDefinitions schedule) flow.last
-    × IsValueOf (IsDependenceOf UnsourcedHas source sink schedule) names
-    (λ v e. UnsourcedHas (Has source v) (Has sink v) (Has schedule v) e) limit
-    (HasNoDefinitions source × HasNoDefinitions sink × HasNoDefinitions schedule) flow.unsourced)
-    (listed_answer c.latest.result c.listed.result c.listed.ensures)
-    (flow_values c.latest.result own names (λ v e. LastHas (Has source v) (Has sink v) (Has schedule v) e)
-    (λ v e. UnsourcedHas (Has source v) (Has sink v) (Has schedule v) e) limit
-    (HasNoDefinitions source × HasNoDefinitions sink × HasNoDefinitions schedule) same e.last e.unsourced e.last_kept e.unsourced_kept
-    (λ plain. e.definitions plain.0 plain.1 plain.2) e.numbers)
-    e.units)
+    let k = c.live_part.new.meter in
+    let m = c.live_part-2.new.meter in
+    let one = c.in-Ok.ensures.made in
+    let first = rw c.assumed.ensures at c.in-Ok-live_part.ensures.made in
+    let second = rw c.assumed-2.ensures at c.in-Ok-live_part-2.ensures.made in
+    let charged = IsCharged_trans g c.lasts.new.meter k one.1.charged first.1 in (
+      (
+        live_value state.assumed _ _ _ g c.lasts.new.meter k c.in-Ok.list.first.value one.0.0 c.in-Ok-live_part.first.value first.0,
+        live_value state.assumed _ _ _ g k m c.in-Ok.list.second.value one.0.1 c.in-Ok-live_part-2.second.value second.0,
+      ),
+      paid_works g m (IsCharged_trans g k m charged second.1),
+    )
 
-pub returns-clause-goes_on : goal.returns-clause-goes_on
-returns-clause-goes_on c =
-    let e = c.latest.ensures in
-    let source = c.deref.result.now in
-    let sink = c.deref-2.result.now in
-    let schedule = c.deref-3.result.now in
-    let distinct : AreDistinct sink.params =
-    subst (λ (v : KeptValue). AreDistinct v.params) (sym c.deref-2.ensures) c.requires.sink.0.params.distinct in
-    let apart : AreDistinct schedule.params =
-    subst (λ (v : KeptValue). AreDistinct v.params) (sym c.deref-3.ensures) c.requires.schedule.0.params.distinct in
-    let own = names_of_three source sink schedule in
-    let names = joined_names (joined_names source.params sink.params) schedule.params in
-    in_three
-    (λ x y z. IfOk c.listed.result
-    (λ _. GoesOn (DependenceEnds (joined_names (joined_names x.params y.params) z.params) (Has x) (Has y))))
-    source sink schedule _ _ _ c.deref.ensures c.deref-2.ensures c.deref-3.ensures
-    (answered_ok refusal_of_fault flow_of_list c.latest.result c.listed.result
-    (λ (_ : Flow). GoesOn (DependenceEnds names (Has source) (Has sink)))
-    (listed_answer c.latest.result c.listed.result c.listed.ensures)
-    (outcome_goes_of (λ (flow : Flow). flow.last) c.latest.result own names (PairsWide FormsAccess (Has source) (Has sink))
-    (three_names source sink schedule distinct apart) e.last_kept
-    (ok_map c.latest.result (λ flow. IsDependenceOf LastHas source sink schedule flow.last) (λ flow. flow.last.params ≡ own)
-    (λ flow made. made.params) e.last)
-    e.narrow))
+pub returns-in-Ok-live_part-2-clause-goes_on : goal.returns-in-Ok-live_part-2-clause-goes_on
+returns-in-Ok-live_part-2-clause-goes_on c =
+    let three = c.args.three.now in
+    let live = c.requires.live in
+    dependence_goes_there c.args.state.now _ three.source.value three.sink.value live.source live.sink c.in-Ok.ensures.goes_on
+
+pub returns-in-Err-live_part-2-clause-made : goal.returns-in-Err-live_part-2-clause-made
+returns-in-Err-live_part-2-clause-made c =
+    let state = c.args.state.now in
+    let three = c.args.three.now in
+    let live = c.requires.live in
+    let g = c.args.meter.now in
+    let k = c.live_part.new.meter in
+    let one = c.in-Ok.ensures in
+    let there = dependence_cut_there state _ three.source.value three.sink.value live.source live.sink one.goes_on in
+    let refused = c.in-Err-live_part-2 in
+    let charged = IsCharged_trans g c.lasts.new.meter k one.made.1.charged c.in-Ok-live_part.ensures.made.1 in
+    inl (live_answer state.assumed _ _ _ g k c.live_part-2.new.meter c.in-Ok.list.second.value one.made.0.1 true _
+    (paid_works g k charged) (λ some. there) true (λ none. absurd (let no : ⊥ = cc in no)) (λ (v : KeptValue). v) (Err refused.refusal)
+    refused.ensures.made (rw c.assumed-2.ensures at refused.ensures.nothing))

@@ -1,12 +1,16 @@
 use Rattle.isl_values.specs.declared.list.ListPart.TheVariants.{First, Second}
 use Rattle.isl_values.proofs.FlatLaws.{flat_failed, flat_made}
-use Rattle.isl_values.proofs.ValueLaws.{numbers_later}
+use Rattle.isl_values.proofs.ValueLaws.{fits_later, numbers_later}
 use Rattle.isl_values.proofs.flat.flat_list_of.Goals as goal
 
 pub flattened-requires : goal.flattened-requires
 flattened-requires c =
     let both = c.in-Ok.ensures.made in
-    numbers_later c.args.meter.now c.list_of.new.meter c.in-Ok.list.first.value both.1.charged both.0.0.numbers
+    record {
+      numbers = numbers_later c.args.meter.now c.list_of.new.meter c.in-Ok.list.first.value both.1.charged both.0.0.numbers;
+      live = both.0.0.live;
+      fits = fits_later c.args.meter.now c.list_of.new.meter c.args.state.now both.1.charged c.requires.fits;
+    }
 
 pub returns-in-Err-flattened : goal.returns-in-Err-flattened
 returns-in-Err-flattened c =
@@ -23,7 +27,11 @@ flattened-requires-2 c =
     let one = flat_made c.args.state.now First c.args.expr.now c.args.meter.now c.list_of.new.meter c.flattened.new.meter
     c.in-Ok.list.first.value (both.0.0, both.1) c.in-Ok.ensures.goes_on c.in-Ok-flattened.first.value c.in-Ok-flattened.ensures.made.0
     c.in-Ok-flattened.ensures.made.1 c.in-Ok-flattened.ensures.same in
-    numbers_later c.args.meter.now c.flattened.new.meter c.in-Ok.list.second.value one.1.charged both.0.1.numbers
+    record {
+      numbers = numbers_later c.args.meter.now c.flattened.new.meter c.in-Ok.list.second.value one.1.charged both.0.1.numbers;
+      live = both.0.1.live;
+      fits = fits_later c.args.meter.now c.flattened.new.meter c.args.state.now one.1.charged c.requires.fits;
+    }
 
 pub returns-in-Ok-flattened-2 : goal.returns-in-Ok-flattened-2
 returns-in-Ok-flattened-2 c =

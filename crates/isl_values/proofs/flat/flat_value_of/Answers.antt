@@ -1,11 +1,15 @@
 use Rattle.isl_values.specs.declared.list.ListPart.TheVariants.{First}
 use Rattle.isl_values.proofs.FlatLaws.{flat_answer}
-use Rattle.isl_values.proofs.ValueLaws.{numbers_later, ok_of}
+use Rattle.isl_values.proofs.ValueLaws.{fits_later, numbers_later, ok_of}
 use Rattle.isl_values.proofs.flat.flat_value_of.Goals as goal
 
 pub flattened-requires : goal.flattened-requires
 flattened-requires c =
-    numbers_later c.args.meter.now c.value_of.new.meter c.in-Ok.value.value c.in-Ok.ensures.made.1.charged c.in-Ok.ensures.made.0.numbers
+    let one = c.in-Ok.ensures.made in record {
+      numbers = numbers_later c.args.meter.now c.value_of.new.meter c.in-Ok.value.value one.1.charged one.0.numbers;
+      live = one.0.live;
+      fits = fits_later c.args.meter.now c.value_of.new.meter c.args.state.now one.1.charged c.requires.fits;
+    }
 
 pub returns-in-Ok : goal.returns-in-Ok
 returns-in-Ok c =

@@ -15,7 +15,7 @@ use Rattle.isl_values.proofs.KeptLaws.{only_literal}
 use Rattle.isl_values.proofs.DepthLaws.{first_smaller, links_smaller, link_smaller, argument_smaller, operand_smaller, postfixes_smaller}
 use Rattle.isl_values.proofs.DepthLaws.{postfix_smaller, applied_smaller, any_smaller, last_smaller, sink_smaller, schedule_smaller}
 use Rattle.isl_values.proofs.SameLaws.{same_any, same_part}
-use Rattle.isl_values.proofs.ThreeLaws.{dependence_failed, dependence_goes, dependence_made, is_any, is_last, operands_failed, three_within}
+use Rattle.isl_values.proofs.ThreeLaws.{dependence_failed, dependence_goes, dependence_made, is_any, is_last, operands_failed, three_live, three_within}
 use Rattle.isl_values.proofs.ThreeLaws.{same_Any, same_Last, three_sound, three_made, three_goes, source_failed, sink_failed, schedule_failed}
 use Rattle.isl_values.proofs.ValueLaws.{fits_later, numbers_of, numbers_later, paid_same, match_map, both_map, ok_of, ok_map, IsMade, IsMadeAt}
 use Rattle.isl_values.proofs.LinkLaws.{IsRowTo, link_sound, link_failed, join_failed, row_step}
@@ -107,7 +107,10 @@ past_postfixes-followed-requires t c =
           fits_later c.args.meter.now c.loop-postfix.meter state so_far.paid.charged c.requires.fits,
           (
             so_far.made.kept,
-            numbers_later c.args.meter.now c.loop-postfix.meter c.loop-postfix.left.value so_far.paid.charged so_far.made.numbers,
+            (
+              so_far.made.live,
+              numbers_later c.args.meter.now c.loop-postfix.meter c.loop-postfix.left.value so_far.paid.charged so_far.made.numbers,
+            ),
           ),
         ),
       ),
@@ -138,10 +141,9 @@ followed-part_of-requires t c = (
   ),
 )
 
-pub followed-inverted-requires : goal.followed-inverted-requires
-followed-inverted-requires t c = record {
-  numbers = subst (HasNumbersUpTo (unsigned_abs (limit_of c.args.meter.now))) (sym c.deref.ensures) c.requires.numbers;
-}
+pub followed-inverted-requires-clause-numbers : goal.followed-inverted-requires-clause-numbers
+followed-inverted-requires-clause-numbers t c =
+    subst (HasNumbersUpTo (unsigned_abs (limit_of c.args.meter.now))) (sym c.deref.ensures) c.requires.numbers
 
 pub followed-applied_to-requires-clause-map : goal.followed-applied_to-requires-clause-map
 followed-applied_to-requires-clause-map t c =
@@ -163,12 +165,10 @@ followed-returns-in-Inverse t c =
     let e = c.inverted.ensures in record {
       made = subst (λ (v : KeptValue). MatchResult c.inverted.result (λ value. IsFollowed state postfix v g h value.value)
           (IsWhyNotFollowed state postfix v g h)) c.deref.ensures
-          (both_map c.inverted.result _ _ _ _
-          (λ value made. inverse_followed state postfix one g h c.in-Inverse.is e.meter value.value made)
-          (λ refusal memory. inverse_failed state postfix one g h c.in-Inverse.is e.meter refusal memory) e.made e.faults);
-      goes_on = ok_map c.inverted.result _ _
-          (λ value made. inverse_goes_on state postfix c.args.operand.now.value g h c.in-Inverse.is e.meter)
-          e.made;
+          (match_map c.inverted.result _ _ _ _
+          (λ value made. inverse_followed state postfix one g h c.in-Inverse.is value.value made)
+          (λ refusal why. inverse_failed state postfix one g h c.in-Inverse.is refusal why) e);
+      goes_on = ok_of c.inverted.result _ (λ value. inverse_goes_on state postfix c.args.operand.now.value g h c.in-Inverse.is);
     }
 
 pub followed-returns-in-Ok : goal.followed-returns-in-Ok
@@ -200,7 +200,7 @@ followed-returns-in-Ok t c =
 pub followed-returns-in_ok-clone-in-Item-clause-made : goal.followed-returns-in_ok-clone-in-Item-clause-made
 followed-returns-in_ok-clone-in-Item-clause-made t c =
     item_followed c.args.state.now c.args.postfix.now _ c.args.operand.now.value c.args.meter.now c.in-Item.is
-    c.in_ok-clone-in-Item.field-0.value (search rules) c.requires.kept c.requires.numbers
+    c.in_ok-clone-in-Item.field-0.value (search rules) c.requires.kept c.requires.live c.requires.numbers
 
 pub followed-returns-in-Err : goal.followed-returns-in-Err
 followed-returns-in-Err t c = record {
@@ -242,7 +242,7 @@ part_of-returns-in-Literal t c =
       made = match_map c.lowered.result _ _ _ (IsWhyNotMade state expr c.args.meter.now c.lowered.new.meter)
           (λ made one. (
             literal_makes state c.args.part (limit_of c.args.meter.now) expr literal made.value c.in-Literal.is formed one.0,
-            literal_paid expr literal c.args.meter.now c.lowered.new.meter c.in-Literal.is one.1,
+            literal_paid state.assumed expr literal c.args.meter.now c.lowered.new.meter c.in-Literal.is one.1,
           ))
           (λ refusal why. literal_unmade state expr literal c.args.meter.now c.lowered.new.meter refusal c.in-Literal.is why)
           c.lowered.ensures;
@@ -271,7 +271,7 @@ part_of-joined_past-requires t c =
         links_sound c.args.state.now expr first links is c.requires.sound,
         (
           fits_later c.args.meter.now c.part_of.new.meter c.args.state.now one.1.charged c.requires.fits,
-          numbers_later c.args.meter.now c.part_of.new.meter c.in-Ok.left.value one.1.charged one.0.numbers,
+          (numbers_later c.args.meter.now c.part_of.new.meter c.in-Ok.left.value one.1.charged one.0.numbers, one.0.live),
         ),
       ),
     )
@@ -331,7 +331,7 @@ part_of-past_postfixes-requires t c =
         postfixes_sound c.args.state.now expr operand postfixes is c.requires.sound,
         (
           fits_later c.args.meter.now h c.args.state.now one.1.charged c.requires.fits,
-          numbers_later c.args.meter.now h c.in-Ok-part_of.left.value one.1.charged one.0.numbers,
+          (numbers_later c.args.meter.now h c.in-Ok-part_of.left.value one.1.charged one.0.numbers, one.0.live),
         ),
       ),
     )
@@ -383,8 +383,7 @@ part_of-part_of-requires-in-Prefix t c =
 pub part_of-worded-requires-clause-numbers : goal.part_of-worded-requires-clause-numbers
 part_of-worded-requires-clause-numbers t c =
     let one = c.in-Ok-part_of-2.ensures.made in
-    numbers_of c.args.meter.now c.part_of-in-Prefix.new.meter c.in-Ok-part_of-2.argument.value c.deref.result.now one.1.charged
-    c.deref.ensures one.0.numbers
+    numbers_later c.args.meter.now c.part_of-in-Prefix.new.meter c.in-Ok-part_of-2.argument.value one.1.charged one.0.numbers
 
 pub part_of-returns-in-Ok-part_of-2 : goal.part_of-returns-in-Ok-part_of-2
 part_of-returns-in-Ok-part_of-2 t c =
@@ -398,8 +397,8 @@ part_of-returns-in-Ok-part_of-2 t c =
     let h = c.part_of-in-Prefix.new.meter in
     let k = c.worded.new.meter in
     let argument = c.in-Ok-part_of-2.argument.value in
-    let operand_is = c.deref.ensures in
-    let given = c.deref.result.now in
+    let operand_is = refl in
+    let given = argument in
     let one = c.in-Ok-part_of-2.ensures in
     let e = c.worded.ensures in record {
       made = match_map c.worded.result _ _ _ _
@@ -439,8 +438,13 @@ part_of-three_of-requires t c =
 
 pub part_of-preceding-requires : goal.part_of-preceding-requires
 part_of-preceding-requires t c =
-    three_within c.args.state.now c.get-in-Any.result.now c.get-in-Any-2.result.now c.get-in-Any-3.result.now c.args.meter.now c.three_of.new.meter
-    c.in-Ok-three_of.three c.in-Ok-three_of.ensures.made.0 c.in-Ok-three_of.ensures.made.1
+    let one = c.in-Ok-three_of.ensures.made in record {
+      within = three_within c.args.state.now c.get-in-Any.result.now c.get-in-Any-2.result.now c.get-in-Any-3.result.now c.args.meter.now
+          c.three_of.new.meter c.in-Ok-three_of.three one.0 one.1;
+      live = three_live c.args.state.now c.get-in-Any.result.now c.get-in-Any-2.result.now c.get-in-Any-3.result.now _
+          c.in-Ok-three_of.three one.0;
+      fits = fits_later c.args.meter.now c.three_of.new.meter c.args.state.now one.1 c.requires.fits;
+    }
 
 pub part_of-returns-in-Ok-three_of : goal.part_of-returns-in-Ok-three_of
 part_of-returns-in-Ok-three_of t c =
@@ -501,8 +505,13 @@ part_of-three_of-requires-in-Last t c =
 
 pub part_of-latest_part-requires : goal.part_of-latest_part-requires
 part_of-latest_part-requires t c =
-    three_within c.args.state.now c.get-in-Last.result.now c.get-in-Last-2.result.now c.get-in-Last-3.result.now c.args.meter.now c.three_of-in-Last.new.meter
-    c.in-Ok-three_of-2.three c.in-Ok-three_of-2.ensures.made.0 c.in-Ok-three_of-2.ensures.made.1
+    let one = c.in-Ok-three_of-2.ensures.made in record {
+      within = three_within c.args.state.now c.get-in-Last.result.now c.get-in-Last-2.result.now c.get-in-Last-3.result.now
+          c.args.meter.now c.three_of-in-Last.new.meter c.in-Ok-three_of-2.three one.0 one.1;
+      live = three_live c.args.state.now c.get-in-Last.result.now c.get-in-Last-2.result.now c.get-in-Last-3.result.now _
+          c.in-Ok-three_of-2.three one.0;
+      fits = fits_later c.args.meter.now c.three_of-in-Last.new.meter c.args.state.now one.1 c.requires.fits;
+    }
 
 pub part_of-returns-in-Ok-three_of-2 : goal.part_of-returns-in-Ok-three_of-2
 part_of-returns-in-Ok-three_of-2 t c =

@@ -19,7 +19,7 @@ returns-in-Ok c =
             doubled_both state expr (unsigned_abs (limit_of g)) c.in-Ok.value.value list c.requires.whole one.made.0 are,
             one.made.1,
           ))
-          (λ refusal memory. inl (unmade_memory (work (parts_of expr)) (Ends state expr) g h refusal memory one.made.1))
+          (λ refusal memory. inl (unmade_memory (work state.assumed (parts_of expr)) (Ends state expr) g h refusal memory one.made.1))
           c.twice.ensures.made c.twice.ensures.faults;
       goes_on = ok_of c.twice.result _ (λ list. one.goes_on);
     }

@@ -1,17 +1,37 @@
-use Rattle.std.proofs.Common.{ap, refl}
-use Rattle.isl_union.specs.KeptValue.{KeptValue}
-use Rattle.isl_values.specs.Made.{refusal_of_fault}
-use Rattle.isl_values.proofs.OutcomeLaws.{answered_memory, answered_ok, outcome_value}
-use Rattle.isl_values.proofs.ValueLaws.{ok_map}
+use Rattle.std.proofs.Common.{ap, false, refl, subst, sym}
+use Rattle.isl_meter.specs.Gauge.{limit_of}
+use Rattle.isl_meter.proofs.CutLemmas.{IsCharged_refl}
+use Rattle.isl_assumed.specs.Assumed.{IsSound}
+use Rattle.isl_values.specs.Live.{narrows}
+use Rattle.isl_values.specs.Ends.{CutUnder}
+use Rattle.isl_values.proofs.LiveLaws.{live_answer}
+use Rattle.isl_values.proofs.ValueLaws.{numbers_later, paid_same, unmade_memory}
 use Rattle.isl_values.proofs.values.inverted.Goals as goal
 
-pub returns-clause-made : goal.returns-clause-made
-returns-clause-made c =
-    let e = c.inverse.ensures in
-    let params = ok_map c.inverse.result _ _ (λ made is. ap (λ (v : KeptValue). v.params) is) e.written in
-    answered_ok refusal_of_fault _ c.inverse.result c.answered.result _ c.answered.ensures
-    (outcome_value c.inverse.result _ _ _ _ _ _ refl e.written e.kept params e.elements e.definitions
-    (e.numbers _ c.requires.numbers))
+pub live_part-requires-clause-numbers : goal.live_part-requires-clause-numbers
+live_part-requires-clause-numbers c =
+    let g = c.args.meter.now in
+    let h = c.turned.new.meter in
+    numbers_later g h c.in-Ok.made.value (IsCharged_refl g h c.turned.ensures.meter) c.in-Ok.ensures.made.numbers
 
-pub returns-clause-faults : goal.returns-clause-faults
-returns-clause-faults c = answered_memory _ c.inverse.result c.answered.result c.answered.ensures c.inverse.ensures.faults
+pub live_part-requires-clause-sound : goal.live_part-requires-clause-sound
+live_part-requires-clause-sound c =
+    let h = c.turned.new.meter in
+    subst (IsSound h) (sym c.assumed.ensures) (c.requires.fits.sound h (ap limit_of c.turned.ensures.meter))
+
+pub returns-in-Ok : goal.returns-in-Ok
+returns-in-Ok c =
+    let state = c.args.state.now in
+    let g = c.args.meter.now in
+    let h = c.turned.new.meter in
+    live_answer state.assumed _ _ _ g h c.live_part.new.meter c.in-Ok.made.value c.in-Ok.ensures.made false (CutUnder state)
+    (paid_same false g h c.turned.ensures.meter) (λ some. some) (narrows state.assumed) (λ none. (refl, none)) (λ v. v.value) c.live_part.result
+    (rw c.assumed.ensures at c.live_part.ensures.made) (rw c.assumed.ensures at c.live_part.ensures.nothing)
+
+pub returns-in-Err : goal.returns-in-Err
+returns-in-Err c =
+    let state = c.args.state.now in
+    let g = c.args.meter.now in
+    let h = c.turned.new.meter in
+    unmade_memory (narrows state.assumed) (CutUnder state) g h c.in-Err.refusal c.in-Err.ensures.faults
+    (paid_same (narrows state.assumed) g h c.turned.ensures.meter)

@@ -10,9 +10,9 @@ use Rattle.isl_values.specs.State.{scope_of}
 use Rattle.isl_values.specs.Worked.{PartHas}
 use Rattle.isl_values.proofs.KeptLaws.{name_both, never_unbound}
 use Rattle.isl_values.proofs.SameLaws.{same_part}
-use Rattle.isl_values.proofs.ThreeLaws.{dependence_failed, dependence_goes, is_last, list_made, operands_failed, three_within, same_Last}
+use Rattle.isl_values.proofs.ThreeLaws.{dependence_failed, dependence_goes, is_last, list_made, operands_failed, three_live, three_within, same_Last}
 use Rattle.isl_values.proofs.ThreeLaws.{three_sound, literal_whole, row_whole, post_whole, word_whole, any_whole}
-use Rattle.isl_values.proofs.ValueLaws.{both_map, match_map, ok_map, paid_same, unmade_memory, work}
+use Rattle.isl_values.proofs.ValueLaws.{both_map, fits_later, match_map, ok_map, paid_same, unmade_memory, work}
 use Rattle.isl_values.proofs.values.list_of.Goals as goal
 
 pub three_of-requires-clause-source : goal.three_of-requires-clause-source
@@ -53,8 +53,12 @@ three_of-requires-clause-schedule c =
 
 pub latest-requires : goal.latest-requires
 latest-requires c =
-    three_within c.args.state.now c.get.result.now c.get-in-Last.result.now c.get-in-Last-2.result.now c.args.meter.now c.three_of.new.meter
-    c.in-Ok.three c.in-Ok.ensures.made.0 c.in-Ok.ensures.made.1
+    let one = c.in-Ok.ensures.made in record {
+      within = three_within c.args.state.now c.get.result.now c.get-in-Last.result.now c.get-in-Last-2.result.now c.args.meter.now
+          c.three_of.new.meter c.in-Ok.three one.0 one.1;
+      live = three_live c.args.state.now c.get.result.now c.get-in-Last.result.now c.get-in-Last-2.result.now _ c.in-Ok.three one.0;
+      fits = fits_later c.args.meter.now c.three_of.new.meter c.args.state.now one.1 c.requires.fits;
+    }
 
 pub unreachable-requires : goal.unreachable-requires
 unreachable-requires c =
@@ -112,7 +116,7 @@ returns-in-Some-clause-made c =
     let state = c.args.state.now in
     let expr = c.args.expr.now in
     let g = c.args.meter.now in
-    let works = work (parts_of expr) in
+    let works = work state.assumed (parts_of expr) in
     both_map c.both_of.result _ _ _ _
     (λ list are. (
       name_both state (limit_of g) expr c.in-Name.name c.in-Some.kept.now list c.in-Name.is

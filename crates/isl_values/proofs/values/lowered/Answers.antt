@@ -1,12 +1,22 @@
-use Rattle.std.proofs.Common.{rules}
-use Rattle.isl_values.proofs.KeptLaws.{literal_value}
-use Rattle.isl_values.proofs.ValueLaws.{value_same, paid_works}
+use Rattle.std.proofs.Common.{true, subst, sym}
+use Rattle.isl_assumed.specs.Assumed.{IsSound}
+use Rattle.isl_values.specs.Ends.{CutAlone}
+use Rattle.isl_values.proofs.LiveLaws.{live_answer}
+use Rattle.isl_values.proofs.ValueLaws.{numbers_later, same_limit}
 use Rattle.isl_values.proofs.values.lowered.Goals as goal
 
-pub returns-in_ok-new-in-Ok : goal.returns-in_ok-new-in-Ok
-returns-in_ok-new-in-Ok c =
-    let e = c.in-Ok.ensures in (
-      value_same c.in-Ok.value c.in_ok-new-in-Ok.field-0.value _ _ _ _ (search rules)
-          (literal_value _ c.args.literal.now c.in-Ok.value e.exact e.kept e.definitions e.within),
-      paid_works c.args.meter.now c.lower.new.meter e.meter,
-    )
+pub live_part-requires-clause-numbers : goal.live_part-requires-clause-numbers
+live_part-requires-clause-numbers c =
+    numbers_later c.args.meter.now c.written.new.meter c.in-Ok.value.value c.in-Ok.ensures.1.charged c.in-Ok.ensures.0.numbers
+
+pub live_part-requires-clause-sound : goal.live_part-requires-clause-sound
+live_part-requires-clause-sound c =
+    let h = c.written.new.meter in
+    subst (IsSound h) (sym c.assumed.ensures) (c.requires.fits.sound h (same_limit c.args.meter.now h c.in-Ok.ensures.1.charged))
+
+pub returns-in-Ok : goal.returns-in-Ok
+returns-in-Ok c =
+    let one = c.in-Ok.ensures in
+    live_answer c.args.state.now.assumed _ _ _ c.args.meter.now c.written.new.meter c.live_part.new.meter c.in-Ok.value.value one.0 true
+    CutAlone one.1 (λ some. tt) true (λ none. absurd (let no : ⊥ = cc in no)) (λ v. v.value) c.live_part.result
+    (rw c.assumed.ensures at c.live_part.ensures.made) (rw c.assumed.ensures at c.live_part.ensures.nothing)

@@ -15,6 +15,6 @@ invariant_of-self c =
 
 pub returns : goal.returns
 returns c =
-    ap (λ (bound : List (Name × Kept)). let state : StateView = record { bound = bound } in state)
+    ap (λ (bound : List (Name × Kept)). let state : StateView = record { bound = bound; assumed = c.self.inside.assumed } in state)
     (filter-RetainsPairs _ (λ entry. not (is_dollar entry.0)) _ (λ k v b w g call. search rules) _ _ c.retain.ensures.filtered)
     ∙ ap forgotten c.self.view_is

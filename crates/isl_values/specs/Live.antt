@@ -1,0 +1,67 @@
+-- public: values at assumed valuations of their parameters. (isl manual, on parameter domains)
+use Rattle.std.specs.Prelude.{◌≡◌, ◌⊎◌, ℕ, Bool, true, false, List, [], ◌∷◌, All}
+use Rattle.isl_meter.specs.Gauge.{Gauge}
+use Rattle.isl_space.specs.Element.{Element}
+use Rattle.isl_space.specs.Name.{Name}
+use Rattle.isl_space.specs.Valuation.{Valuation}
+use Rattle.isl_union.specs.KeptValue.{KeptValue, Has, HasNoDefinitions, IsKeptValue}
+use Rattle.isl_union.specs.Numbers.{HasNumbersUpTo, IsWithinLimit}
+use Rattle.isl_union.specs.Sample.{only_piece}
+use Rattle.isl_assumed.specs.declared.assumed.Assumed.{Assumed}
+use Rattle.isl_assumed.specs.declared.assumed.Assumed.TheVariants.{Nothing, Where}
+use Rattle.isl_assumed.specs.Assumed.{Assumes, AssumesSome}
+use Rattle.isl_assumed.specs.Values.{AreLiveUnder, IsDeadAt}
+use Rattle.isl_operators.specs.Made.{IsOver}
+
+-- whether something is assumed
+abbrev pub narrows : Assumed → Bool
+narrows Nothing = false
+narrows (Where region) = true
+
+-- each piece of the value has an element at an assumed valuation
+abbrev pub IsLiveUnder : Assumed → KeptValue → Type 0
+IsLiveUnder assumed value = All (λ piece. ¬ IsDeadAt (Assumes assumed) value.params piece) value.pieces
+
+-- the pieces of the value that have an element at an assumed valuation, unchanged and in order: where nothing is assumed, all of them
+pub record IsLivePartOf (assumed : Assumed) (value part : KeptValue) : Type 0 where
+  pub params : part.params ≡ value.params
+  pub pieces : AreLiveUnder assumed value.params value.pieces part.pieces
+
+-- those of a value that is made so
+abbrev pub IsLiveOf : Assumed → (KeptValue → Type 0) → KeptValue → Type 0
+IsLiveOf assumed Made value = (made : KeptValue) × IsKeptValue made × Made made × IsLivePartOf assumed made value
+
+-- Where something is assumed, the elements of the value at the valuations that have the same numbers of these names as some assumed one,
+-- over these names; and else the value itself.
+abbrev pub IsUnderOf : Assumed → List Name → KeptValue → KeptValue → Type 0
+IsUnderOf Nothing names value under = under ≡ value
+IsUnderOf (Where region) names value under =
+    IsOver names (λ valuation element. Has value valuation element × AssumesSome (Where region) names valuation) under
+
+-- that, with what a value keeps
+pub record IsLivePart (assumed : Assumed) (value live : KeptValue) : Type 0 where
+  pub part : IsLivePartOf assumed value live
+  pub kept : IsKeptValue live
+
+-- the same of what an operation is asked of, with no number above the limit
+pub record IsOperandOf (assumed : Assumed) (names : List Name) (limit : ℕ) (value operand : KeptValue) : Type 0 where
+  pub under : IsUnderOf assumed names value operand
+  pub kept : IsKeptValue operand
+  pub numbers : HasNumbersUpTo limit operand
+  pub definitions : HasNoDefinitions value → HasNoDefinitions operand
+
+-- the same where something is assumed
+pub record IsOperandIn (g : Gauge) (assumed : Assumed) (names : List Name) (value operand : KeptValue) : Type 0 where
+  pub over : IsOver names (λ valuation element. Has value valuation element × AssumesSome assumed names valuation) operand
+  pub kept : IsKeptValue operand
+  pub numbers : IsWithinLimit g operand
+  pub definitions : HasNoDefinitions value → HasNoDefinitions operand
+
+-- no piece where the value has no element at an assumed valuation; else one element that it has at some assumed one, with a row for each
+-- number
+pub record IsSampleAt (assumed : Assumed) (value sample : KeptValue) : Type 0 where
+  pub params : sample.params ≡ value.params
+  pub pieces : (((valuation : Valuation) (element : Element) → Assumes assumed valuation → ¬ Has value valuation element)
+      × (sample.pieces ≡ []))
+      ⊎ ((valuation : Valuation) × (element : Element) × Assumes assumed valuation × Has value valuation element
+      × (sample.pieces ≡ only_piece value.params valuation element ∷ []))

@@ -1,0 +1,6 @@
+use Rattle.isl_coalesce.proofs.ValueLaws.{within_later}
+use Rattle.tests_algebra.proofs.together_where.Goals as goal
+
+pub coalesce-requires-clause-within : goal.coalesce-requires-clause-within
+coalesce-requires-clause-within c =
+    within_later c.args.meter.now c.of.new.meter c.args.value.now c.in_ok-assumed.ensures.meter c.requires.own
