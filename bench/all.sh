@@ -8,3 +8,4 @@ cd "$(dirname "${BASH_SOURCE[0]}")"
 ./operations.sh | tail -n +2
 ./values.sh | tail -n +2
 ./literals.sh | tail -n +2
+./made.sh | tail -n +2

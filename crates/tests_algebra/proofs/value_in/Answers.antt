@@ -8,4 +8,4 @@ use Rattle.tests_algebra.proofs.value_in.Goals as goal
 pub returns-in-Some-clause-numbers : goal.returns-in-Some-clause-numbers
 returns-in-Some-clause-numbers c =
     subst (HasNumbersUpTo (unsigned_abs (limit_of c.args.meter.now))) (sym c.value.ensures.content)
-    (c.requires _ _ (sym c.in-Some.ensures) First)
+    (c.requires.numbers _ _ (sym c.in-Some.ensures) First)

@@ -8,4 +8,4 @@ use Rattle.tests_schedule.proofs.value_in.Goals as goal
 pub returns-in-Some : goal.returns-in-Some
 returns-in-Some c =
     subst (HasNumbersUpTo (unsigned_abs (limit_of c.args.meter.now))) (sym c.value.ensures.content)
-    (c.requires _ _ (sym c.in-Some.ensures) First)
+    (c.requires.numbers _ _ (sym c.in-Some.ensures) First)
