@@ -7,5 +7,5 @@ cd "$(dirname "${BASH_SOURCE[0]}")"
 ./decisions.sh | tail -n +2
 ./operations.sh | tail -n +2
 ./values.sh | tail -n +2
-./literals.sh | tail -n +2
 ./made.sh | tail -n +2
+./literals.sh | tail -n +2
