@@ -12,7 +12,7 @@ use Rattle.isl_script.proofs.ScriptLaws.{statements-append, rest-append}
 use Rattle.isl_text.specs.declared.refusal.Refusal.{Refusal}
 use Rattle.isl_values.specs.State.{Moment}
 use Rattle.isl_eval.specs.Machine.{Answer}
-use Rattle.isl_eval.specs.Run.{Answers, started}
+use Rattle.isl_eval.specs.Run.{Answers, Run, started}
 use Rattle.isl_session.specs.declared.counts.Counts.{Counts}
 use Rattle.isl_session.specs.Counts.{counted}
 use Rattle.isl_session.specs.Outcome.{Outcome, answered, skipped, RunOn, Skips, answers_of, first_skip, skips_of}
@@ -112,3 +112,14 @@ Fed-append a x ps b y qs c first second =
 -- each statement of a piece is answered or skipped, and counted
 pub fed_passed : (a : View) (x : List ℕ) (ps : List Outcome) (b : View) → Fed a x ps b → passed b ≡ passed a + length ps
 fed_passed a x ps b fed = omega (arith, ap (λ (n : Counts). n.statements) fed.counts, fed.skips, length_parts ps)
+
+-- where none is skipped, the answers are those of a run that skips none
+pub run_if_none : (before after : Moment) (parts : List (List ℕ)) (outcomes : List Outcome) → RunOn before parts outcomes after
+    → skips_of outcomes ≡ [] → Run before parts (answers_of outcomes) after
+unfolding RunOn Run
+run_if_none before after [] [] run none = run
+run_if_none before after (bytes ∷ more) (answered answer ∷ outcomes) run none =
+    (run.0, run.1, run_if_none run.0 after more outcomes run.2 none)
+run_if_none before after (bytes ∷ more) (skipped refusal ∷ outcomes) run none = absurd (omega (arith, ap length none))
+run_if_none before after [] (outcome ∷ outcomes) run none = absurd run
+run_if_none before after (bytes ∷ more) [] run none = absurd run

@@ -2,7 +2,7 @@
 use Rattle.std.proofs.Common.{◌≡◌, ℕ, ◌≤◌, true, false, List, [], ◌∷◌, ◌++◌, length, refl, sym, ◌∙◌, ap, subst, arith, Option, None}
 use Rattle.std.proofs.Common.{Some}
 use Rattle.std.specs.Option.{option_or}
-use Rattle.std.proofs.lemmas.List.{append_assoc, length-append, take_all}
+use Rattle.std.proofs.lemmas.List.{length-append, take_all}
 use mathlib.Core.Logic.{inl, inr}
 use Rattle.isl_math.specs.Count.{Rose}
 use Rattle.isl_math.proofs.CountLaws.{rose_until}
@@ -15,83 +15,15 @@ use Rattle.isl_eval.specs.Causes.{IsValid, Refuses}
 use Rattle.isl_eval.specs.Run.{started}
 use Rattle.isl_space.specs.Limits.{most_script_bytes, most_statement_bytes}
 use Rattle.isl_session.specs.Place.{Place, at_words, in_statement, too_long, past_limit, at_end, at_read, at_write, anywhere, place_of}
-use Rattle.isl_session.specs.Outcome.{Outcome, answered, skipped, RunOn, Skips, skips_of}
-use Rattle.isl_session.specs.View.{AreShort, IsMeterAt}
+use Rattle.isl_session.specs.Outcome.{Skips, skips_of}
+use Rattle.isl_session.specs.View.{AreShort}
 use Rattle.isl_session.specs.Status.{StatusView}
 use Rattle.isl_session.specs.Run.{Answered, AreInFront, Ended, HasCause, OfFirst, Outside, Progress, first_told}
 use Rattle.isl_session.specs.StencilRun.{StencilAnswered, StencilEnded, StencilRefused}
 use Rattle.isl_session.specs.Valid.{AreValid, IsDoneOrMemory, IsValidScript}
-use Rattle.isl_session.proofs.MeterLemmas.{carried_by}
 use Rattle.isl_session.proofs.OutcomeLemmas.{first_none}
-use Rattle.isl_session.proofs.RunLemmas.{RunOn-append, no_run, one_run}
-use Rattle.isl_session.proofs.CompleteLemmas.{memory_only, no_cause, no_cause_behind, short_next}
-
--- ---- statements that are valid are not skipped
--- the statements behind the first are valid
-valid_behind : (before : Moment) (bytes : List ℕ) (more : List (List ℕ)) (outcome : Outcome) (next : Moment)
-    → RunOn before (bytes ∷ []) (outcome ∷ []) next → AreValid before (bytes ∷ more) → AreValid next more
-valid_behind before bytes more outcome next one valid = record {
-  each = λ done part ahead outcomes now split run. valid.each (bytes ∷ done) part ahead (outcome ∷ outcomes) now
-      (ap (λ (l : List (List ℕ)). bytes ∷ l) split) (RunOn-append before (bytes ∷ []) (outcome ∷ []) next done outcomes now one run);
-}
-
--- and so are those of a front
-pub valid_front : (before : Moment) (xs ys : List (List ℕ)) → AreValid before (xs ++ ys) → AreValid before xs
-valid_front before xs ys valid = record {
-  each = λ done part ahead outcomes now split run. valid.each done part (ahead ++ ys) outcomes now
-      (ap (λ (l : List (List ℕ)). l ++ ys) split ∙ append_assoc done (part ∷ ahead) ys) run;
-}
-
--- a skipped statement is not valid, where no count rose
-pub skip_is_no_memory : (refusal : Refusal) → place_of refusal ≡ in_statement → refusal ≡ NoMemory → ⊥
-skip_is_no_memory refusal place is = let bad : anywhere ≡ in_statement = sym (ap place_of is) ∙ place in (let no : ⊥ = cc in no)
-
--- no count rises in a run behind the first of its statements
-later_kept : (next : Moment) (more : List (List ℕ)) (outcomes : List Outcome) (last : Moment) → RunOn next more outcomes last
-    → (next.meter.overflows ≤ last.meter.overflows) × (next.meter.spents ≤ last.meter.spents)
-later_kept next more outcomes last run =
-    let carried = carried_by next more outcomes last run in
-    (carried.overflows.0, carried.spents.0)
-
-pub none_skipped : (first : Moment) (parts : List (List ℕ)) (outcomes : List Outcome) (last : Moment) → RunOn first parts outcomes last
-    → AreValid first parts → ¬ (Rose first.meter.overflows last.meter.overflows) → ¬ (Rose first.meter.spents last.meter.spents)
-    → skips_of outcomes ≡ []
-unfolding RunOn
-none_skipped first [] [] last run valid no_overflow no_spent = refl
-none_skipped first (bytes ∷ more) (answered answer ∷ outcomes) last run valid no_overflow no_spent =
-    let next = run.0 in
-    let same = run.1.meter.same in
-    let overflows : next.meter.overflows ≡ first.meter.overflows = ap (λ (g : Gauge). g.overflows) same in
-    let spents : next.meter.spents ≡ first.meter.spents = ap (λ (g : Gauge). g.spents) same in
-    none_skipped next more outcomes last run.2
-    (valid_behind first bytes more (answered answer) next (one_run first bytes answer next run.1) valid)
-    (subst (λ (n : ℕ). ¬ (Rose n last.meter.overflows)) (sym overflows) no_overflow)
-    (subst (λ (n : ℕ). ¬ (Rose n last.meter.spents)) (sym spents) no_spent)
-none_skipped first (bytes ∷ more) (skipped refusal ∷ outcomes) last run valid no_overflow no_spent =
-    let now = run.0 in
-    let next : Moment = record first { meter = now } in
-    let later = later_kept next more outcomes last run.2 in
-    absurd (skip_is_no_memory refusal run.1.place
-    (no_cause (started first) bytes now (valid.each [] bytes more [] first refl (no_run first))
-    (λ rose. no_overflow (rose_until first.meter.overflows now.overflows last.meter.overflows rose later.0))
-    (λ rose. no_spent (rose_until first.meter.spents now.spents last.meter.spents rose later.1)) refusal run.1.refuses))
-none_skipped first [] (outcome ∷ outcomes) last run valid no_overflow no_spent = absurd run
-none_skipped first (bytes ∷ more) [] last run valid no_overflow no_spent = absurd run
-
--- ---- meters
-meter_same : (g h : Gauge) → h ≡ g → (g.overflows ≤ h.overflows) × (g.spents ≤ h.spents)
-meter_same g h is = (omega (arith, ap (λ (m : Gauge). m.overflows) is), omega (arith, ap (λ (m : Gauge). m.spents) is))
-
-pub meter_kept : (g h : Gauge) (place : Place) → IsMeterAt place g h → (g.overflows ≤ h.overflows) × (g.spents ≤ h.spents)
-meter_kept g h in_statement kept = (kept.overflows, kept.spents)
-meter_kept g h anywhere charged =
-    (omega (arith, ap (λ (m : Gauge). m.overflows) charged.same), omega (arith, ap (λ (m : Gauge). m.spents) charged.same))
-meter_kept g h at_words is = meter_same g h is
-meter_kept g h too_long is = meter_same g h is
-meter_kept g h past_limit is = meter_same g h is
-meter_kept g h at_end is = meter_same g h is
-meter_kept g h at_read is = meter_same g h is
-meter_kept g h at_write is = meter_same g h is
+use Rattle.isl_session.proofs.CompleteLemmas.{memory_only, meter_kept, meter_same, no_cause, no_cause_behind, none_skipped}
+use Rattle.isl_session.proofs.CompleteLemmas.{short_next, skip_is_no_memory, valid_front}
 
 -- ---- what else may end a run
 -- a script whose rest is blank, and of which no part is too long
@@ -122,6 +54,15 @@ module _ (first : Moment) (script : List ℕ) (valid : IsValidScript first scrip
   split_whole : statements script ≡ progress.done ++ progress.ahead
   split_whole = ap statements (sym (take_all most_script_bytes script valid.within)) ∙ progress.split
 
+  -- no statement was skipped
+  none_over : skips_of progress.outcomes ≡ []
+  none_over =
+      none_skipped first progress.done progress.outcomes
+      (record { state = progress.state; meter = progress.meter; options = first.options }) progress.run
+      (valid_front first progress.done progress.ahead (subst (AreValid first) split_whole valid.parts))
+      (λ rose. no_overflow (rose_until first.meter.overflows progress.meter.overflows now.overflows rose kept.0))
+      (λ rose. no_spent (rose_until first.meter.spents progress.meter.spents now.spents rose kept.1))
+
   -- the first statement ahead has no cause
   first_ahead : (refusal : Refusal) (ahead : List (List ℕ)) → progress.ahead ≡ ahead
       → OfFirst (λ bytes. AreInFront taken progress.done bytes × (length bytes ≤ most_statement_bytes)
@@ -132,16 +73,7 @@ module _ (first : Moment) (script : List ℕ) (valid : IsValidScript first scrip
       let moment : Moment = record { state = progress.state; meter = progress.meter; options = first.options } in
       no_cause_behind first.meter moment bytes now progress.carried.overflows.0 progress.carried.spents.0
       (valid.parts.each progress.done bytes later progress.outcomes moment
-      (split_whole ∙ ap (λ (l : List (List ℕ)). progress.done ++ l) is) progress.run) no_overflow no_spent refusal cause.2
-
-  -- no statement was skipped
-  none_over : skips_of progress.outcomes ≡ []
-  none_over =
-      none_skipped first progress.done progress.outcomes
-      (record { state = progress.state; meter = progress.meter; options = first.options }) progress.run
-      (valid_front first progress.done progress.ahead (subst (AreValid first) split_whole valid.parts))
-      (λ rose. no_overflow (rose_until first.meter.overflows progress.meter.overflows now.overflows rose kept.0))
-      (λ rose. no_spent (rose_until first.meter.spents progress.meter.spents now.spents rose kept.1))
+      (split_whole ∙ ap (λ (l : List (List ℕ)). progress.done ++ l) is) progress.run none_over) no_overflow no_spent refusal cause.2
 
   -- so the status is what ended the run
   told_is : (ending told : Option Refusal) → told ≡ first_told progress.outcomes ending → told ≡ ending

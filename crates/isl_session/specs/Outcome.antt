@@ -1,4 +1,4 @@
--- public: what comes of statements, one after another, where refused ones may be skipped. (make's option `--keep-going`)
+-- public: what comes of statements, one after another, where refused ones may be skipped. (GNU make, on `--keep-going`)
 use Rattle.std.specs.Prelude.{◌≡◌, ℕ, ◌+◌, ◌≤◌, min, Bool, true, false, List, [], ◌∷◌, count_by, map, Option, Some, None}
 use Rattle.std.specs.List.{concat, filter_map}
 use Rattle.isl_math.specs.Count.{last_count}

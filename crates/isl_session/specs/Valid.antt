@@ -1,5 +1,5 @@
 -- public: when statements must be answered.
-use Rattle.std.specs.Prelude.{◌≡◌, ◌⊎◌, ℕ, ◌+◌, ◌≤◌, List, ◌∷◌, ◌++◌, length, Option, Some, None, Result, IfErr}
+use Rattle.std.specs.Prelude.{◌≡◌, ◌⊎◌, ℕ, ◌+◌, ◌≤◌, List, [], ◌∷◌, ◌++◌, length, Option, Some, None, Result, IfErr}
 use Rattle.isl_math.specs.Count.{Rose}
 use Rattle.isl_script.specs.Script.{statements, rest_of, IsBlank}
 use Rattle.isl_text.specs.declared.refusal.Refusal.{Refusal}
@@ -9,14 +9,15 @@ use Rattle.isl_eval.specs.Causes.{IsValid}
 use Rattle.isl_eval.specs.Run.{started}
 use Rattle.isl_space.specs.Limits.{most_script_bytes}
 use Rattle.isl_session.specs.declared.fault.Fault.{Fault}
-use Rattle.isl_session.specs.Outcome.{Outcome, RunOn}
+use Rattle.isl_session.specs.Outcome.{Outcome, RunOn, skips_of}
 use Rattle.isl_session.specs.View.{View, AreShort, moment_of}
 use Rattle.isl_stencil.specs.Stencil.{stencil}
 
--- each of these statements is valid with what is bound before it
+-- each of these statements is valid with what is bound before it, where those before it were answered and none was skipped
 pub record AreValid (before : Moment) (parts : List (List ℕ)) : Type 0 where
   pub each : (done : List (List ℕ)) (bytes : List ℕ) (ahead : List (List ℕ)) (outcomes : List Outcome) (next : Moment)
-      → parts ≡ done ++ bytes ∷ ahead → RunOn before done outcomes next → IsValid (started next) bytes
+      → parts ≡ done ++ bytes ∷ ahead → RunOn before done outcomes next → skips_of outcomes ≡ []
+      → IsValid (started next) bytes
 
 -- valid statements of a piece, none of them too long, are answered, unless memory ends or a refusal is counted
 abbrev pub AnswersValid : View → List ℕ → View → Result (Unit {0}) Fault → Type 0

@@ -1,6 +1,6 @@
-//! What is true of every run in which refused statements are skipped.
+//! What is true of every run in which refused statements may be skipped.
 
-ghost use Rattle.std.specs.Prelude.{◌≡◌, ◌≤◌, ℕ, List, length, true};
+ghost use Rattle.std.specs.Prelude.{◌≡◌, ◌≤◌, ℕ, List, [], length, true};
 ghost use Rattle.isl_math.specs.Count.{Rose};
 ghost use Rattle.isl_meter.specs.Gauge.{Gauge};
 ghost use Rattle.isl_script.specs.Script.{IsBlank, rest_of, statements};
@@ -8,8 +8,8 @@ ghost use Rattle.isl_space.specs.Limits.{most_script_bytes};
 ghost use Rattle.isl_text.specs.declared.refusal.Refusal.{Refusal};
 ghost use Rattle.isl_values.specs.State.{Moment};
 ghost use Rattle.isl_eval.specs.Causes.{IsValid};
-ghost use Rattle.isl_eval.specs.Run.{started};
-ghost use Rattle.isl_session.specs.Outcome.{Skips};
+ghost use Rattle.isl_eval.specs.Run.{Run, started};
+ghost use Rattle.isl_session.specs.Outcome.{Outcome, RunOn, Skips, answers_of, skips_of};
 ghost use Rattle.isl_session.specs.Run.{Answered, Outside};
 ghost use Rattle.isl_session.specs.Status.{StatusView};
 ghost use Rattle.isl_session.specs.Valid.{IsDoneOrMemory};
@@ -26,4 +26,10 @@ pub fn skipping_goes_on()
     ensures wrong { (before : Moment) (bytes : List ℕ) (refusal : Refusal) (now : Gauge)
         → Skips before bytes refusal now → ¬ (Rose before.meter.overflows now.overflows)
         → ¬ (Rose before.meter.spents now.spents) → ¬ (IsValid (started before) bytes) }
+{}
+
+/// Where none was skipped, the statements were answered one after another: what is true of every such run is true of this one.
+pub fn answered_is_a_run()
+    ensures run { (before after : Moment) (parts : List (List ℕ)) (outcomes : List Outcome) → RunOn before parts outcomes after
+        → skips_of outcomes ≡ [] → Run before parts (answers_of outcomes) after }
 {}

@@ -16,7 +16,7 @@ pub use counts::Counts;
 pub use fault::Fault;
 pub use isl_text::refusal::Refusal;
 pub use isl_words::{Options, WordsFault};
-pub use law::skipping_goes_on;
+pub use law::{answered_is_a_run, skipping_goes_on};
 pub use program::{refuse_words, run};
 pub use session::Session;
 pub use status::Status;

@@ -285,7 +285,7 @@ impl Session {
         ensures fed { IfNone self.old.fault
             (FeedsOn self.old piece.now text.old.items text.new.items skipped.old.items skipped.new.items self.new result) }
 
-        // Valid statements are answered, unless memory ends or a refusal is counted.
+        // Where the statements are valid and no refusal is counted, an error is want of memory alone.
         ensures complete { IfNone self.old.fault (AnswersValid self.old piece.now self.new result) }
 
         // Bytes that are only held, within the room, are taken without asking for memory.
