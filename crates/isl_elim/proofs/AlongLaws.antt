@@ -18,6 +18,7 @@ use Rattle.isl_piece.proofs.RowMagnitudes.{row_within_kept}
 use Rattle.isl_column.specs.Column.{HoldAtAny}
 use Rattle.isl_omega.specs.Column.{IsProper}
 use Rattle.isl_elim.specs.Elimination.{without, HoldsAlong, AddsAlong}
+use Rattle.isl_elim.specs.Emptiness.{HoldNowhere}
 use Rattle.isl_elim.specs.Others.{others_of}
 use Rattle.isl_column.specs.Parts.{PartsView, AreParts, ArePartsOf, IsNextPart, HoldsPart, head_count, count_of}
 use Rattle.isl_column.proofs.PartsLemmas.{parts_kept}
@@ -200,6 +201,43 @@ along_false g columns cols rows old new e none = record {
   normal = All-nil IsNormal;
   points = λ point l. ((λ h. absurd (Any-none (λ (r : List Row). HoldRows r point) h)), (λ x. absurd (none x.0 x.3)));
 }
+
+-- rows that hold nowhere leave nothing
+pub along_nowhere : (g : Gauge) (columns : ℕ) (cols : List ℕ) (rows : List Row) (lists : List (List Row)) → HoldNowhere columns rows
+    → AddsAlong g columns cols (HoldRows rows) lists lists
+along_nowhere g columns cols rows lists none = record {
+  added = [];
+  pushed = sym (append-nil lists);
+  proper = All-nil (λ (rows : List Row). All (IsProper g (columns - length cols)) rows);
+  normal = All-nil IsNormal;
+  points = λ point l. ((λ h. absurd (Any-none (λ (r : List Row). HoldRows r point) h)), (λ x. absurd (none x.0 x.1 x.3)));
+}
+
+-- what is added after units were used
+pub along_charged : {A : Type 0} (g h k : Gauge) (columns : ℕ) (cols : List ℕ) (rows : List Row) (old new : List (List Row))
+    (result : Result A Cut) → IsCharged g h
+    → MatchResult result (λ _. AddsAlong h columns cols (HoldRows rows) old new × IsCharged h k) (IsCutBy h k)
+    → MatchResult result (λ _. AddsAlong g columns cols (HoldRows rows) old new × IsCharged g k) (IsCutBy g k)
+along_charged g h k columns cols rows old new (Ok v) c r =
+    let b = r.0 in (
+      record {
+        added = b.added;
+        pushed = b.pushed;
+        proper = λ i d j n y l. let q = b.proper i d j n y l in
+            record { formed = q.formed; within = row_within_kept g h (get_or (get_or b.added i d) n y) (charged_bits g h c) q.within };
+        normal = b.normal;
+        points = b.points;
+      },
+      IsCharged_trans g h k c r.1,
+    )
+along_charged g h k columns cols rows old new (Err cut) c r = IsCutBy-after g h k cut c r
+
+pub counted_charged : {A : Type 0} (g h k : Gauge) (old new : List (List Row)) (result : Result A Cut) → IsCharged g h
+    → IfOk result (λ _. h.units + length new ≤ k.units + (length old + 1))
+    → IfOk result (λ _. g.units + length new ≤ k.units + (length old + 1))
+counted_charged {A} g h k old new result c p =
+    IfOk-weaker result (λ _. h.units + length new ≤ k.units + (length old + 1)) (λ _. g.units + length new ≤ k.units + (length old + 1))
+    (λ _ w. let u = c.units in omega (arith, w, u)) p
 
 pub proper_rows : (g : Gauge) (columns : ℕ) (rows : List Row) → All (IsWellFormed columns) rows → All (IsRowWithin g) rows → All (IsProper g columns) rows
 proper_rows g columns rows f w = λ k d i. record { formed = f k d i; within = w k d i }

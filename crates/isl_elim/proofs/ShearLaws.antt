@@ -1,5 +1,6 @@
 -- Rows whose columns are changed by a unimodular map, one step after another.
-use Rattle.std.proofs.Common.{◌≡◌, ◌≢◌, ◌↔◌, ◌∙◌, sym, subst, arith, ℕ, ◌<◌, ℤ, pos, ◌+ℤ◌, ◌-ℤ◌, ◌*ℤ◌, List, length, map, get_or, set, get_or-set_other}
+use Rattle.std.proofs.Common.{◌≡◌, ◌≢◌, ◌↔◌, ◌∙◌, sym, subst, arith, ℕ, ◌<◌, ℤ, pos, ◌+ℤ◌, ◌-ℤ◌, ◌*ℤ◌, List, length, map, get_or, set}
+use Rattle.std.proofs.Common.{get_or-set_other}
 use Rattle.std.specs.Prelude.{Bool, IsTrue, IfSome, MatchOption, MatchResult, None, Ok, Err, Option, Result, Some}
 use Rattle.std.specs.List.{All}
 use Rattle.std.proofs.lemmas.List.{length-set}
@@ -50,12 +51,14 @@ value_back : (r : Row) (from to : ℕ) (times : ℤ) (xs : List ℤ) → from < 
 unfolding back
 value_back r from to times xs i j n =
     let new = set xs from (get_or xs from (pos 0) -ℤ times *ℤ get_or xs to (pos 0)) in
-    by (coef_at r to) (coef_at r from) (get_or xs to (pos 0)) (get_or new to (pos 0)) (get_or xs from (pos 0)) times (dot r.coefs xs) _ _ r.constant
+    by (coef_at r to) (coef_at r from) (get_or xs to (pos 0)) (get_or new to (pos 0)) (get_or xs from (pos 0)) times (dot r.coefs xs) _ _
+    r.constant
     (get_or-set_other xs from to _ (pos 0) (λ e. n (sym e)))
     (dot-set_left r.coefs new to (coef_at r to +ℤ times *ℤ coef_at r from) j)
     (dot-set r.coefs xs from (get_or xs from (pos 0) -ℤ times *ℤ get_or xs to (pos 0)) i)
   where
-    by : (t f y z x q d one two c : ℤ) → z ≡ y → one ≡ two +ℤ (t +ℤ q *ℤ f -ℤ t) *ℤ z → two ≡ d +ℤ f *ℤ (x -ℤ q *ℤ y -ℤ x) → one +ℤ c ≡ d +ℤ c
+    by : (t f y z x q d one two c : ℤ) → z ≡ y → one ≡ two +ℤ (t +ℤ q *ℤ f -ℤ t) *ℤ z → two ≡ d +ℤ f *ℤ (x -ℤ q *ℤ y -ℤ x)
+        → one +ℤ c ≡ d +ℤ c
     by t f y z x q d one two c e h k =
         let a = simp expand at (rw e at h) in let b = simp expand at k in simp expand (omega (arith, linear))
 
@@ -94,11 +97,9 @@ sheared_next g columns from to times old now new i j n s e w =
     }
 
 -- ---- made normal
-pub reduction_itself : (g : Gauge) (columns : ℕ) (rows : List Row) → All (IsProper g columns) rows → IsNormal rows → IsReduction g columns rows rows
-reduction_itself g columns rows p n = record { are = sheared_first g columns rows p; normal = n }
-
 pub reduction_normal : (g : Gauge) (columns : ℕ) (old short new : List Row) → AreSheared g columns old short
-    → ((point : List ℤ) → HoldRows new point ↔ HoldRows short point) → IsNormal new → All (IsWellFormed columns) new → All (IsRowWithin g) new
+    → ((point : List ℤ) → HoldRows new point ↔ HoldRows short point) → IsNormal new → All (IsWellFormed columns) new
+    → All (IsRowWithin g) new
     → IsReduction g columns old new
 reduction_normal g columns old short new s same n f w = record {
   are = record {
@@ -111,8 +112,8 @@ reduction_normal g columns old short new s same n f w = record {
   normal = n;
 }
 
-pub reduction_none : (g : Gauge) (columns : ℕ) (old short : List Row) → AreSheared g columns old short → ((point : List ℤ) → ¬ HoldRows short point)
-    → HoldNowhere columns old
+pub reduction_none : (g : Gauge) (columns : ℕ) (old short : List Row) → AreSheared g columns old short
+    → ((point : List ℤ) → ¬ HoldRows short point) → HoldNowhere columns old
 reduction_none g columns old short s none = s.nowhere.0 (λ point l. none point)
 
 pub reduction_found : (g : Gauge) (columns : ℕ) (old short : List Row) (found : Option (List Row)) → AreSheared g columns old short

@@ -11,7 +11,8 @@ use Rattle.isl_elim.specs.Emptiness.{HoldNowhere}
 -- so many times the coefficient at `from` is added to the one at `to`: a whole number at `from` stands for itself and so many times the one
 -- at `to`
 abbrev pub sheared : ℕ → ℕ → ℤ → Row → Row
-sheared from to times r = record { kind = r.kind; coefs = slice_set r.coefs to (coef_at r to +ℤ times *ℤ coef_at r from); constant = r.constant; k = r.k }
+sheared from to times r =
+    record { kind = r.kind; coefs = slice_set r.coefs to (coef_at r to +ℤ times *ℤ coef_at r from); constant = r.constant; k = r.k }
 
 -- rows over the same columns, which hold at no point exactly where the old ones do
 pub record AreSheared (g : Gauge) (columns : ℕ) (old new : List Row) : Type 0 where

@@ -11,12 +11,16 @@ ghost use Rattle.isl_elim.specs.Others.{others_of};
 ghost use Rattle.isl_column.specs.Parts.{AreParts, HoldsPart, head_count};
 
 use crate::choice::{add_many_rows, cheapest};
+use crate::emptiness::hold_nowhere;
 use isl_column::Parts;
 use isl_meter::{Cut, Meter};
 use isl_omega::column::Column;
 use isl_piece::Rows;
 use isl_redundant::without_redundant;
 use std::alloc::{AllocError, Global};
+
+// How many parts are taken as they come. The later ones are tested first: of many splinters most hold nowhere.
+const FEW_PARTS: usize = 4;
 
 // The other columns, where they stand once the column was taken out.
 #[tactic(auto, using(std::proofs::lemmas::Grind::common_steps, crate::proofs::OthersLaws::others_steps))]
@@ -87,6 +91,36 @@ fn push_without(
     push_parts(alloc, parts, columns - 1, left.as_slice(), lists, meter)
 }
 
+// Pushes what is left of the rows without the columns; where they are tested, only if they hold somewhere.
+#[cycle(eliminate_all)]
+#[tactic(auto, using(crate::proofs::AlongLaws::along_steps))]
+fn push_some(
+    alloc: Global,
+    rows: Rows,
+    columns: usize,
+    cols: &[usize],
+    test: bool,
+    lists: &mut Vec<Rows>,
+    meter: &mut Meter,
+) -> Result<(), Cut>
+    requires rows { All (IsProper meter.old columns) rows }
+    requires normal { IsNormal rows }
+    requires distinct { AllPairs (λ a b. a ≢ b) cols.now }
+    requires cols_in { All (λ col. col < columns) cols.now }
+    ensures exact { MatchResult result
+        (λ _. AddsAlong meter.old columns cols.now (HoldRows rows) lists.old.items lists.new.items × IsCharged meter.old meter.new)
+        (IsCutBy meter.old meter.new) }
+    ensures counted { IfOk result (λ _. meter.old.units + length lists.new.items ≤ meter.new.units + (length lists.old.items + 1)) }
+{
+    if !test {
+        return push_without(alloc, rows, columns, cols, lists, meter);
+    }
+    if hold_nowhere(alloc, rows.copy(alloc)?, columns, meter)? {
+        return Ok(());
+    }
+    push_without(alloc, rows, columns, cols, lists, meter)
+}
+
 // Pushes what is left of the parts without the columns.
 #[cycle(eliminate_all)]
 #[tactic(auto, using(crate::proofs::AlongLaws::along_steps))]
@@ -106,8 +140,10 @@ fn push_parts(
         (IsCutBy meter.old meter.new) }
     ensures counted { IfOk result (λ _. meter.old.units + length lists.new.items ≤ meter.new.units + (length lists.old.items + head_count parts)) }
 {
+    let mut taken: usize = 0;
     while let Some(rows) = parts.next(alloc, columns, meter)? {
-        push_without(alloc, rows, columns, cols, lists, meter)?;
+        push_some(alloc, rows, columns, cols, taken >= FEW_PARTS, lists, meter)?;
+        taken = taken.saturating_add(1);
     }
     Ok(())
 }

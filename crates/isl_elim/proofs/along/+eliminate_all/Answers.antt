@@ -7,8 +7,10 @@ use Rattle.isl_column.specs.Parts.{AreParts, ArePartsOf, HoldsPart}
 use Rattle.isl_elim.proofs.OthersLaws.{among, among_at}
 use Rattle.isl_piece.specs.System.{HoldRows}
 use Rattle.isl_redundant.specs.Redundant.{IsReduced}
-use Rattle.isl_elim.proofs.AlongLaws.{along_none, along_false, along_after, columns_after, pushed_all, one_more, counted_after}
+use Rattle.isl_elim.proofs.AlongLaws.{along_none, along_false, along_after, along_nowhere, along_charged, columns_after}
+use Rattle.isl_elim.proofs.AlongLaws.{pushed_all, one_more, counted_after, counted_charged}
 use Rattle.isl_elim.proofs.FewerLaws.{along_fewer, proper_fewer}
+use Rattle.isl_elim.specs.Emptiness.{HoldNowhere}
 use Rattle.isl_elim.proofs.PartsLaws.{parts_after}
 use Rattle.isl_elim.proofs.along.+eliminate_all.Goals as goal
 
@@ -102,3 +104,25 @@ push_without-push_parts-requires t c =
     let slice : c.as_slice-3.result.now ≡ others_of col cols = grind arith in
     let left = columns_after c.args.columns col cols c.as_slice-3.result.now slice c.requires.distinct low c.requires.cols_in in
     (grind arith, (parts, left))
+
+pub push_some-returns : goal.push_some-returns
+push_some-returns t c =
+    let g = c.args.meter.now in
+    let h = c.hold_nowhere.new.meter in
+    let k = c.push_without-2.new.meter in
+    let charged : IsCharged g h = grind arith in
+    let old = c.args.lists.now.items in
+    let new = c.push_without-2.new.lists.items in
+    record {
+      exact = along_charged g h k c.args.columns c.args.cols.now c.args.rows old new c.push_without-2.result charged
+          c.push_without-2.ensures.exact;
+      counted = counted_charged g h k old new c.push_without-2.result charged c.push_without-2.ensures.counted;
+    }
+
+pub push_some-returns-then-branch-clause-exact : goal.push_some-returns-then-branch-clause-exact
+push_some-returns-then-branch-clause-exact t c =
+    let g = c.args.meter.now in
+    let copied : c.in_ok-copy.field-0 ≡ c.args.rows = grind arith in
+    let answer = c.in_ok-hold_nowhere.ensures.exact in
+    let nowhere : HoldNowhere c.args.columns c.args.rows = rw copied at (answer.0.0 (grind arith)) in
+    (along_nowhere g c.args.columns c.args.cols.now c.args.rows c.args.lists.now.items nowhere, answer.1)

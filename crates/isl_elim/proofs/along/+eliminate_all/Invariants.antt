@@ -4,10 +4,13 @@ use Rattle.isl_elim.proofs.AlongLaws.{ArePushed}
 use Rattle.isl_elim.proofs.along.+eliminate_all.Given as goal
 
 abbrev pub decreases-push_without : goal.decreases-push_without
-decreases-push_without l = 2 * l.columns
+decreases-push_without l = 3 * l.columns
+
+abbrev pub decreases-push_some : goal.decreases-push_some
+decreases-push_some l = 3 * l.columns + 1
 
 abbrev pub decreases-push_parts : goal.decreases-push_parts
-decreases-push_parts l = 2 * l.columns + 1
+decreases-push_parts l = 3 * l.columns + 2
 
 abbrev pub invariant-push_parts-loop-parts : goal.invariant-push_parts-loop-parts
 invariant-push_parts-loop-parts l = ArePushed l.fn.meter l.meter l.columns l.cols l.fn.parts l.parts l.fn.lists.items l.lists.items
