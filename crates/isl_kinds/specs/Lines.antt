@@ -16,7 +16,11 @@ is_kind = sameb the_type
 abbrev pub is_set_or_map : ValueKind → Bool
 is_set_or_map Set = true
 is_set_or_map Map = true
-is_set_or_map _ = false
+is_set_or_map Pair = false
+is_set_or_map Empty = false
+is_set_or_map Truth = false
+is_set_or_map Listing = false
+is_set_or_map Code = false
 
 -- what is given may stand where a kind is asked for: `Empty` is a set and a map
 abbrev pub fits : ValueKind → ValueKind → Bool

@@ -53,7 +53,13 @@ bound_to scope name = lookup (bytes_eq name) scope
 abbrev pub is_unknown : ScopeView → Part → Bool
 is_unknown scope (part.name n) = not (is_some (bound_to scope n))
 is_unknown scope (part.literal l) = not (literal_is_known l)
-is_unknown scope _ = false
+is_unknown scope (part.operator sign) = false
+is_unknown scope (part.prefix word) = false
+is_unknown scope part.any = false
+is_unknown scope part.last = false
+is_unknown scope part.inverse = false
+is_unknown scope part.application = false
+is_unknown scope (part.item i) = false
 
 abbrev pub has_unknown : ScopeView → Expr → Bool
 has_unknown scope expr = list_any (is_unknown scope) (parts_of expr)
@@ -62,8 +68,15 @@ has_unknown scope expr = list_any (is_unknown scope) (parts_of expr)
 
 -- a list has two elements: the numbers above 1 stand for none
 abbrev pub is_no_item : Part → Bool
+is_no_item (part.name n) = false
+is_no_item (part.literal l) = false
+is_no_item (part.operator sign) = false
+is_no_item (part.prefix word) = false
+is_no_item part.any = false
+is_no_item part.last = false
+is_no_item part.inverse = false
+is_no_item part.application = false
 is_no_item (part.item i) = int_lt (pos 1) i
-is_no_item _ = false
 
 abbrev pub has_no_item : Expr → Bool
 has_no_item expr = list_any is_no_item (parts_of expr)
@@ -183,10 +196,13 @@ declared_of_post scope left (postfix ∷ postfixes) = declared_of_post scope (de
 -- every kind may be shown, and a name may stand for these
 abbrev pub takes : Purpose → ValueKind → Bool
 takes Shown kind = true
+takes Bound Set = true
+takes Bound Map = true
+takes Bound Pair = true
+takes Bound Empty = true
 takes Bound Truth = false
 takes Bound Listing = false
 takes Bound Code = false
-takes Bound _ = true
 
 -- a wrong kind comes before elements that no list has
 abbrev pub kind_for : Purpose → Expr → Option ValueKind → Result ValueKind Refusal

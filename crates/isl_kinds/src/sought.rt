@@ -22,7 +22,13 @@ impl PartTest for Unknown<'_> {
         match part {
             Part::Name(name) => self.scope.get(name).is_none(),
             Part::Literal(literal) => !is_known(literal),
-            _ => false,
+            Part::Operator(_)
+            | Part::Prefix(_)
+            | Part::Any
+            | Part::Last
+            | Part::Inverse
+            | Part::Application
+            | Part::Item(_) => false,
         }
     }
 }
@@ -37,7 +43,17 @@ impl PartTest for NoItem {
     ghost passing = { λ _. is_no_item };
 
     fn passes(&self, part: Part<'_>) -> bool {
-        matches!(part, Part::Item(number) if number > 1)
+        match part {
+            Part::Item(number) => number > 1,
+            Part::Name(_)
+            | Part::Literal(_)
+            | Part::Operator(_)
+            | Part::Prefix(_)
+            | Part::Any
+            | Part::Last
+            | Part::Inverse
+            | Part::Application => false,
+        }
     }
 }
 

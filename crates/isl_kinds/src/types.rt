@@ -30,7 +30,7 @@ fn kind_of_pieces(pieces: &[PieceTree]) -> ValueKind
     match pieces {
         [] => ValueKind::Empty,
         [piece, ..] if piece.second.is_some() => ValueKind::Map,
-        _ => ValueKind::Set,
+        [_, ..] => ValueKind::Set,
     }
 }
 
@@ -131,12 +131,10 @@ impl Purpose {
     {
         match self {
             Purpose::Shown => true,
-            Purpose::Bound => {
-                !matches!(
-                    kind,
-                    ValueKind::Truth | ValueKind::Listing | ValueKind::Code
-                )
-            }
+            Purpose::Bound => match kind {
+                ValueKind::Set | ValueKind::Map | ValueKind::List | ValueKind::Empty => true,
+                ValueKind::Truth | ValueKind::Listing | ValueKind::Code => false,
+            },
         }
     }
 }
