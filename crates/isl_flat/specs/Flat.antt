@@ -3,9 +3,9 @@ use Rattle.std.specs.Prelude.{◌≡◌, ℕ, ◌+◌, Bool, true, false, List, 
 use Rattle.std.specs.Fmt.{decimal}
 use Rattle.isl_space.specs.Name.{Name}
 use Rattle.isl_expr.specs.declared.tree.Binary.{Binary}
-use Rattle.isl_expr.specs.declared.tree.Binary.TheVariants.{Gist}
+use Rattle.isl_expr.specs.declared.tree.Binary.TheVariants as signs
 use Rattle.isl_expr.specs.declared.tree.Prefix.{Prefix}
-use Rattle.isl_expr.specs.declared.tree.Prefix.TheVariants.{Sample, Coalesce}
+use Rattle.isl_expr.specs.declared.tree.Prefix.TheVariants as words
 use Rattle.isl_expr.specs.declared.tree.Stmt.{Stmt}
 use Rattle.isl_expr.specs.declared.tree.Stmt.TheVariants.{Empty, Bind, Show, Assume}
 use Rattle.isl_expr.specs.declared.tree.Link.{Link}
@@ -42,18 +42,60 @@ named f = if is_name f.1 then f else bound f
 -- ---- what is chosen once: a `%` of two operands, and `sample`
 
 abbrev pub is_gist : Binary → Bool
-is_gist Gist = true
-is_gist _ = false
+is_gist signs.Equal = false
+is_gist signs.ProperSubset = false
+is_gist signs.Subset = false
+is_gist signs.ProperSuperset = false
+is_gist signs.Superset = false
+is_gist signs.LexLess = false
+is_gist signs.LexLessEqual = false
+is_gist signs.LexGreater = false
+is_gist signs.LexGreaterEqual = false
+is_gist signs.Universal = false
+is_gist signs.Union = false
+is_gist signs.Difference = false
+is_gist signs.RangeDifference = false
+is_gist signs.Intersection = false
+is_gist signs.RangeIntersection = false
+is_gist signs.Gist = true
+is_gist signs.Cross = false
+is_gist signs.Join = false
 
 abbrev pub is_sample : Prefix → Bool
-is_sample Sample = true
-is_sample _ = false
+is_sample words.Domain = false
+is_sample words.Range = false
+is_sample words.Deltas = false
+is_sample words.Identity = false
+is_sample words.Wrap = false
+is_sample words.Unwrap = false
+is_sample words.Zip = false
+is_sample words.DomainMap = false
+is_sample words.RangeMap = false
+is_sample words.LexMin = false
+is_sample words.LexMax = false
+is_sample words.Coalesce = false
+is_sample words.Sample = true
+is_sample words.Scan = false
+is_sample words.Codegen = false
 
 -- the words whose operands are names
 abbrev pub names_operand : Standing → Prefix → Bool
-names_operand standing Sample = true
-names_operand Outermost Coalesce = true
-names_operand _ _ = false
+names_operand standing words.Domain = false
+names_operand standing words.Range = false
+names_operand standing words.Deltas = false
+names_operand standing words.Identity = false
+names_operand standing words.Wrap = false
+names_operand standing words.Unwrap = false
+names_operand standing words.Zip = false
+names_operand standing words.DomainMap = false
+names_operand standing words.RangeMap = false
+names_operand standing words.LexMin = false
+names_operand standing words.LexMax = false
+names_operand Outermost words.Coalesce = true
+names_operand Inside words.Coalesce = false
+names_operand standing words.Sample = true
+names_operand standing words.Scan = false
+names_operand standing words.Codegen = false
 
 abbrev pub is_gist_row : {m : _} → Row_of-Link m → Bool
 is_gist_row (more_of-Link operator operand end_of-Link) = is_gist operator
@@ -67,7 +109,11 @@ is_gist_alone _ = false
 abbrev pub is_chosen : Expr → Bool
 is_chosen (Row' s first t links) = is_gist_row links
 is_chosen (Prefix' word s operand) = is_sample word
-is_chosen _ = false
+is_chosen (e.Name name) = false
+is_chosen (e.Literal literal) = false
+is_chosen (Any' r source s sink t schedule) = false
+is_chosen (Last' r source s sink t schedule) = false
+is_chosen (Post' s operand t postfixes) = false
 
 -- what is chosen once and stands inside an expression gets a name
 abbrev pub settled : Flattened → Flattened
@@ -101,7 +147,7 @@ abbrev pub gist : Expr → Expr → List Stmt → Partial
 gist left right so_far =
     let l = named (so_far, left) in
     let r = named (l.0, right) in
-    record { statements = r.0; first = l.1; links = link_of Gist r.1 ∷ [] }
+    record { statements = r.0; first = l.1; links = link_of signs.Gist r.1 ∷ [] }
 
 -- an operator and its operand, which is flattened, come behind the row
 abbrev pub with_link : Binary → Partial → Flattened → Partial

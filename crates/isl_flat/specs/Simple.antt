@@ -3,7 +3,7 @@ use Rattle.std.specs.Prelude.{◌≡◌, ◌≢◌, ◌⊎◌, ◌≤◌, ℕ, s
 use Rattle.std.specs.List.{list_any}
 use Rattle.isl_space.specs.Name.{Name}
 use Rattle.isl_expr.specs.declared.tree.Binary.TheVariants.{Gist}
-use Rattle.isl_expr.specs.declared.tree.Prefix.TheVariants.{Sample, Coalesce}
+use Rattle.isl_expr.specs.declared.tree.Prefix.TheVariants.{Sample}
 use Rattle.isl_expr.specs.declared.tree.Stmt.{Stmt}
 use Rattle.isl_expr.specs.declared.tree.Stmt.TheVariants.{Empty, Bind, Show, Assume}
 use Rattle.isl_expr.specs.declared.tree.Expr.{Expr}
@@ -11,14 +11,22 @@ use Rattle.isl_expr.specs.declared.tree.Expr as e
 use Rattle.isl_kinds.specs.Parts as part
 use Rattle.isl_kinds.specs.Parts.{Part, parts_of, parts_of_statement}
 use Rattle.isl_kinds.specs.Typed.{ScopeView, TypeView, is_dollar, bound_to, declared_of, type_of_statement}
-use Rattle.isl_flat.specs.Flat.{dollar, link_of, outermost}
+use Rattle.isl_flat.specs.declared.flattening.Standing.TheVariants.{Outermost}
+use Rattle.isl_flat.specs.Flat.{dollar, is_gist, is_sample, link_of, names_operand, outermost}
 
 -- ---- names that no script has
 
 -- a name that begins with `$`
 abbrev pub names_dollar : Part → Bool
 names_dollar (part.name n) = is_dollar n
-names_dollar _ = false
+names_dollar (part.literal l) = false
+names_dollar (part.operator sign) = false
+names_dollar (part.prefix word) = false
+names_dollar part.any = false
+names_dollar part.last = false
+names_dollar part.inverse = false
+names_dollar part.application = false
+names_dollar (part.item i) = false
 
 -- one stands in the statement
 abbrev pub has_dollar : Stmt → Bool
@@ -48,13 +56,19 @@ BindFrom n (_ ∷ rest) = ⊥
 
 -- `%` and `sample`
 abbrev pub chooses : Part → Bool
-chooses (part.operator Gist) = true
-chooses (part.prefix Sample) = true
-chooses _ = false
+chooses (part.name n) = false
+chooses (part.literal l) = false
+chooses (part.operator sign) = is_gist sign
+chooses (part.prefix word) = is_sample word
+chooses part.any = false
+chooses part.last = false
+chooses part.inverse = false
+chooses part.application = false
+chooses (part.item i) = false
 
--- these, and `coalesce`, whose operands may get names
+-- these, and the words whose operands may get names
 abbrev pub wants_names : Part → Bool
-wants_names (part.prefix Coalesce) = true
+wants_names (part.prefix word) = names_operand Outermost word
 wants_names p = chooses p
 
 -- nothing is chosen in it, or it is a `sample` of a name, or a `%` of two names

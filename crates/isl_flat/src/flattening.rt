@@ -27,7 +27,19 @@ impl Standing {
         match word {
             Prefix::Sample => true,
             Prefix::Coalesce => matches!(self, Standing::Outermost),
-            _ => false,
+            Prefix::Domain
+            | Prefix::Range
+            | Prefix::Deltas
+            | Prefix::Identity
+            | Prefix::Wrap
+            | Prefix::Unwrap
+            | Prefix::Zip
+            | Prefix::DomainMap
+            | Prefix::RangeMap
+            | Prefix::LexMin
+            | Prefix::LexMax
+            | Prefix::Scan
+            | Prefix::Codegen => false,
         }
     }
 }
@@ -54,7 +66,7 @@ fn is_chosen(expr: &Expr) -> bool
     match expr {
         Expr::Row(_, links) => is_gist_alone(links.as_slice()),
         Expr::Prefix(word, _) => matches!(word, Prefix::Sample),
-        _ => false,
+        Expr::Name(_) | Expr::Literal(_) | Expr::Any(..) | Expr::Last(..) | Expr::Post(..) => false,
     }
 }
 
