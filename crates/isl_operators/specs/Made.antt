@@ -9,7 +9,8 @@ use Rattle.isl_space.specs.Form.{Form}
 use Rattle.isl_space.specs.SpaceForm.{set_of, map_of}
 use Rattle.isl_space.specs.Valuation.{Valuation}
 use Rattle.isl_space.specs.Element.{Element}
-use Rattle.isl_union.specs.KeptValue.{KeptValue, Has, HasNoDefinitions}
+use Rattle.isl_union.specs.KeptValue.{KeptValue, Has}
+use Rattle.isl_union.specs.Flat.{IsFlatOf}
 use Rattle.isl_union.specs.Union.{union_of}
 use Rattle.isl_union.specs.Meet.{IsMeetOf}
 use Rattle.isl_union.specs.declared.fault.OpFault.{OpFault}
@@ -72,13 +73,6 @@ IsOperatorOf b.Superset left right value = ⊥
 -- any value of what a word makes of one
 abbrev pub IsAnyWordOf : Prefix → KeptValue → KeptValue → Type 0
 IsAnyWordOf word operand value = IsOver operand.params (WordHas word operand.params (Has operand)) value
-
--- The one value may be the other without its defined columns: it is over the same parameters and has the same elements, and it is the other
--- where that defines no column.
-pub record IsFlatOf (defined value : KeptValue) : Type 0 where
-  pub params : value.params ≡ defined.params
-  pub elements : (valuation : Valuation) (element : Element) → Has value valuation element ↔ Has defined valuation element
-  pub same : HasNoDefinitions defined → value ≡ defined
 
 -- the pieces of the operand, without its defined columns, are put together until no two of them can be
 abbrev pub IsCoalescedFlat : KeptValue → KeptValue → Type 0

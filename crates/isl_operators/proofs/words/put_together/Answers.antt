@@ -32,6 +32,6 @@ returns-clause-coalesced c =
     IfOk-weaker c.coalesce.result (IsCoalesced c.in_ok-flat.flat) (IsCoalescedFlat c.args.operand.now)
     (λ (value : KeptValue) coalesced. (
       c.in_ok-flat.flat,
-      record { params = e.params; elements = e.elements; same = λ plain. (e.same plain).0 },
+      e.pieces,
       coalesced,
     )) (c.coalesce.ensures.all c.all.ensures)
