@@ -1,5 +1,5 @@
 -- Where the sum of a pair is constant, it caps the value of the lower bound.
-use Rattle.std.proofs.Common.{◌≡◌, ◌⊎◌, ◌∙◌, refl, ap, inl, inr, arith, Bool, ℕ, ◌-◌, ◌<◌, ℤ, pos, negsuc, neg_ℤ, ◌+ℤ◌, ◌*ℤ◌, ◌≤ℤ◌, ◌<ℤ◌, List, [], ◌∷◌, ◌++◌, length, Option, Some, None, IfSome, MatchOption}
+use Rattle.std.proofs.Common.{◌≡◌, ◌⊎◌, ◌∙◌, refl, ap, inl, inr, arith, ℕ, ◌-◌, ◌<◌, ℤ, pos, negsuc, neg_ℤ, ◌+ℤ◌, ◌*ℤ◌, ◌≤ℤ◌, ◌<ℤ◌, List, [], ◌∷◌, ◌++◌, length, Option, Some, None, IfSome, MatchOption}
 use Rattle.std.specs.List.{All, AllZip, insert}
 use Rattle.std.proofs.lemmas.List.Elements.{All-nil, All-cons, All-head, All-tail}
 use Rattle.isl_math.specs.Divide.{floor_div, IsGcdOf}
@@ -119,7 +119,7 @@ never_last columns col lowers l uppers h = λ point x w lows ups.
     h point x w (All-cons H l [] (All-last H lowers l lows).1 (All-nil H)) ups
 
 -- a tail that goes no further than it must
-pub least_splinters : (g : Gauge) (columns col : ℕ) (neighbours : Bool) (lower : Row) (tail : Splinters) (none : ℤ) → IsLower g columns col lower → tail.lower ≡ lower → none ≡ negsuc 0 → tail.last ≡ none +ℤ neighbour_splinters neighbours (coef_at lower col) → IsWithin g tail.last
+pub least_splinters : (g : Gauge) (columns col : ℕ) (neighbours : ℤ) (lower : Row) (tail : Splinters) (none : ℤ) → IsLower g columns col lower → tail.lower ≡ lower → none ≡ negsuc 0 → tail.last ≡ none +ℤ neighbour_splinters neighbours (coef_at lower col) → IsWithin g tail.last
     → (uppers : List Row) → AreSplintersOf g col neighbours uppers lower tail
 least_splinters g columns col neighbours lower tail none hl same e value within uppers = record {
   same = same;
@@ -128,7 +128,7 @@ least_splinters g columns col neighbours lower tail none hl same e value within 
   few = λ m p a. let t = splinters_not_negative (coef_at lower col) m hl.factor p in omega (arith, linear);
 }
 
-pub shadow_empty : (g : Gauge) (columns col : ℕ) (neighbours : Bool) (lowers uppers rows : List Row) (tails least : List Splinters) → IsShadow g columns col neighbours lowers uppers rows tails → AreNeverMet columns col lowers uppers → AllZip (AreSplintersOf g col neighbours uppers) lowers least
+pub shadow_empty : (g : Gauge) (columns col : ℕ) (neighbours : ℤ) (lowers uppers rows : List Row) (tails least : List Splinters) → IsShadow g columns col neighbours lowers uppers rows tails → AreNeverMet columns col lowers uppers → AllZip (AreSplintersOf g col neighbours uppers) lowers least
     → IsShadow g columns col neighbours lowers uppers rows least
 shadow_empty g columns col neighbours lowers uppers rows tails least s never z = record {
   proper = s.proper;
@@ -138,7 +138,7 @@ shadow_empty g columns col neighbours lowers uppers rows tails least s never z =
   tails_are = z;
 }
 
-pub least_kept : (g h : Gauge) (col : ℕ) (neighbours : Bool) (uppers lowers : List Row) (tails : List Splinters) → h.bits ≡ g.bits → AllZip (AreSplintersOf h col neighbours uppers) lowers tails → AllZip (AreSplintersOf g col neighbours uppers) lowers tails
+pub least_kept : (g h : Gauge) (col : ℕ) (neighbours : ℤ) (uppers lowers : List Row) (tails : List Splinters) → h.bits ≡ g.bits → AllZip (AreSplintersOf h col neighbours uppers) lowers tails → AllZip (AreSplintersOf g col neighbours uppers) lowers tails
 least_kept g h col neighbours uppers [] [] e z = tt
 least_kept g h col neighbours uppers [] (t ∷ tails) e z = absurd z
 least_kept g h col neighbours uppers (l ∷ lowers) [] e z = absurd z

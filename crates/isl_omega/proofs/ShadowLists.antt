@@ -1,5 +1,5 @@
 -- The rows and tails that the code makes of all bounds, one lower bound after another.
-use Rattle.std.proofs.Common.{◌≡◌, inl, inr, Bool, arith, ℕ, ℤ, ◌+ℤ◌, ◌≤ℤ◌, List, [], ◌∷◌, ◌++◌, get_or}
+use Rattle.std.proofs.Common.{◌≡◌, inl, inr, arith, ℕ, ℤ, ◌+ℤ◌, ◌≤ℤ◌, List, [], ◌∷◌, ◌++◌, get_or}
 use Rattle.std.specs.List.{All, insert}
 use Rattle.std.proofs.lemmas.List.Elements.{All-nil, All-push, All-append}
 use Rattle.std.proofs.lemmas.List.Quantifiers.{Any-push}
@@ -14,7 +14,7 @@ use Rattle.isl_math.proofs.ListLaws.{All-parts, All-last, AllZip-more, Any-left}
 use Rattle.isl_omega.proofs.SideLemmas.{proper_kept}
 use Rattle.isl_meter.proofs.LimitLemmas.{within_kept}
 
-pub shadow_none : (g : Gauge) (columns col : ℕ) (neighbours : Bool) (uppers : List Row) → IsShadow g columns col neighbours [] uppers [] []
+pub shadow_none : (g : Gauge) (columns col : ℕ) (neighbours : ℤ) (uppers : List Row) → IsShadow g columns col neighbours [] uppers [] []
 shadow_none g columns col neighbours uppers = record {
   proper = All-nil (IsProper g columns);
   free = All-nil (IsFree col);
@@ -36,7 +36,7 @@ shadow_of_kept g h columns col lower uppers old new last e s = record {
   few = s.few;
 }
 
-pub tail_kept : (g h : Gauge) (columns col : ℕ) (neighbours : Bool) (lower : Row) (uppers old new : List Row) (tail : Splinters) → h.bits ≡ g.bits → LeavesSplinters h columns col neighbours lower uppers old new tail → LeavesSplinters g columns col neighbours lower uppers old new tail
+pub tail_kept : (g h : Gauge) (columns col : ℕ) (neighbours : ℤ) (lower : Row) (uppers old new : List Row) (tail : Splinters) → h.bits ≡ g.bits → LeavesSplinters h columns col neighbours lower uppers old new tail → LeavesSplinters g columns col neighbours lower uppers old new tail
 tail_kept g h columns col neighbours lower uppers old new tail e t = record {
   last = t.last;
   shadow = shadow_of_kept g h columns col lower uppers old new t.last e t.shadow;
@@ -46,7 +46,7 @@ tail_kept g h columns col neighbours lower uppers old new tail e t = record {
 }
 
 -- one lower bound more
-shadow_with : (g : Gauge) (columns col : ℕ) (neighbours : Bool) (lowers : List Row) (l : Row) (uppers rows newer : List Row) (tails : List Splinters) (tail : Splinters) (last : ℤ) → IsShadow g columns col neighbours lowers uppers rows tails → IsShadowOf g columns col l uppers rows newer last
+shadow_with : (g : Gauge) (columns col : ℕ) (neighbours : ℤ) (lowers : List Row) (l : Row) (uppers rows newer : List Row) (tails : List Splinters) (tail : Splinters) (last : ℤ) → IsShadow g columns col neighbours lowers uppers rows tails → IsShadowOf g columns col l uppers rows newer last
     → tail.lower ≡ l → tail.last ≡ last +ℤ neighbour_splinters neighbours (coef_at l col) → IsWithin g tail.last → IsShadow g columns col neighbours (lowers ++ l ∷ []) uppers newer (tails ++ tail ∷ [])
 shadow_with g columns col neighbours lowers l uppers rows newer tails tail last s o same value within = record {
   proper = rw o.pushed (All-append (IsProper g columns) rows o.rows s.proper o.proper);
@@ -74,6 +74,6 @@ shadow_with g columns col neighbours lowers l uppers rows newer tails tail last 
     by : (v last e value : ℤ) → v ≤ℤ last → value ≡ last +ℤ e → (v +ℤ e) ≤ℤ value
     by v last e value h f = omega (arith, linear)
 
-pub shadow_more : (g : Gauge) (columns col : ℕ) (neighbours : Bool) (lowers : List Row) (l : Row) (uppers rows newer : List Row) (tails : List Splinters) (tail : Splinters) → IsShadow g columns col neighbours lowers uppers rows tails → LeavesSplinters g columns col neighbours l uppers rows newer tail
+pub shadow_more : (g : Gauge) (columns col : ℕ) (neighbours : ℤ) (lowers : List Row) (l : Row) (uppers rows newer : List Row) (tails : List Splinters) (tail : Splinters) → IsShadow g columns col neighbours lowers uppers rows tails → LeavesSplinters g columns col neighbours l uppers rows newer tail
     → IsShadow g columns col neighbours (lowers ++ l ∷ []) uppers newer (tails ++ tail ∷ [])
 shadow_more g columns col neighbours lowers l uppers rows newer tails tail s t = shadow_with g columns col neighbours lowers l uppers rows newer tails tail t.last s t.shadow t.same t.value t.within

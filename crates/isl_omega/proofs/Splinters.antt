@@ -56,19 +56,13 @@ splinters_scaled a m k p q =
     let e = same.0 in
     omega (arith, linear)
 
--- the splinters of a neighbour step, one more for each unit of the factor, where the modulus is twice the one of the congruences
-pub neighbour_splinters : (a b m n j k : ℤ) → pos 0 <ℤ a → a ≤ℤ (b *ℤ j) → pos 0 <ℤ m → m ≤ℤ (n *ℤ j) → pos 0 <ℤ b → pos 0 <ℤ n → pos 0 <ℤ j → (pos 2 *ℤ j) ≤ℤ k
-    → (splinters a m +ℤ a) ≤ℤ splinters (b *ℤ k) (n *ℤ k)
-neighbour_splinters a b m n j k p h q l b_positive n_positive j_positive twice =
-    let first = splinters_rise a (b *ℤ j) m (n *ℤ j) p h q l in
-    let one = splinters_scaled b n j n_positive j_positive in
-    let two = splinters_scaled b n k n_positive (omega (arith, linear)) in
-    by (splinters a m) a (floor_div (neg_ℤ b) n) b j k (splinters (b *ℤ j) (n *ℤ j)) (splinters (b *ℤ k) (n *ℤ k)) b_positive first h one two twice
+-- with so many neighbours, each one more for each unit of the factor, they are no more than those of both factors times a greater number
+pub neighbours_scaled : (a m neighbours k : ℤ) → pos 0 <ℤ a → pos 0 <ℤ m → pos 0 <ℤ k → neighbours <ℤ k
+    → (splinters a m +ℤ neighbours *ℤ a) ≤ℤ splinters (a *ℤ k) (m *ℤ k)
+neighbours_scaled a m neighbours k p q positive less = by a (floor_div (neg_ℤ a) m) neighbours k (splinters (a *ℤ k) (m *ℤ k)) p less (splinters_scaled a m k q positive)
   where
-    by : (s a f b j k t w : ℤ) → pos 0 <ℤ b → s ≤ℤ t → a ≤ℤ (b *ℤ j) → t ≡ b *ℤ j +ℤ f → w ≡ b *ℤ k +ℤ f → (pos 2 *ℤ j) ≤ℤ k → (s +ℤ a) ≤ℤ w
-    by s a f b j k t w p x h y z l =
-        let more = simp expand at (*ℤ-≤ℤ b (pos 2 *ℤ j) k (omega (arith, linear)) l) in
-        let h' = simp expand at h in
-        let y' = simp expand at y in
-        let z' = simp expand at z in
+    by : (a f n k s : ℤ) → pos 0 <ℤ a → n <ℤ k → s ≡ a *ℤ k +ℤ f → (a +ℤ f +ℤ n *ℤ a) ≤ℤ s
+    by a f n k s p h e =
+        let more = simp expand at (*ℤ-≤ℤ a (n +ℤ pos 1) k (omega (arith, linear)) (omega (arith, linear))) in
+        let e' = simp expand at e in
         simp expand (omega (arith, linear))

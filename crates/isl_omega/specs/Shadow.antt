@@ -1,5 +1,5 @@
 -- public: shadows of bounds on one column (Pugh, the Omega test): what a lower and an upper bound leave without the column.
-use Rattle.std.specs.Prelude.{◌≡◌, ◌↔◌, ◌⊎◌, Bool, true, false, ℕ, ◌-◌, ℤ, pos, negsuc, neg_ℤ, ◌+ℤ◌, ◌-ℤ◌, ◌*ℤ◌, ◌≤ℤ◌, ◌<ℤ◌, List, ◌++◌, length, All, Any, Option, IfSome}
+use Rattle.std.specs.Prelude.{◌≡◌, ◌↔◌, ◌⊎◌, ℕ, ◌-◌, ℤ, pos, negsuc, neg_ℤ, ◌+ℤ◌, ◌-ℤ◌, ◌*ℤ◌, ◌≤ℤ◌, ◌<ℤ◌, List, ◌++◌, length, All, Any, Option, IfSome}
 use Rattle.std.specs.List.{AllZip, insert}
 use Rattle.isl_math.specs.Divide.{floor_div}
 use Rattle.isl_meter.specs.Gauge.{Gauge, IsWithin}
@@ -128,20 +128,19 @@ pub record IsShadowOf (g : Gauge) (columns col : ℕ) (lower : Row) (uppers old 
   pub few : (m : ℤ) → pos 0 <ℤ m → All (λ u. neg_ℤ (coef_at u col) ≤ℤ m) uppers → (last +ℤ pos 1) ≤ℤ splinters (coef_at lower col) m
 
 -- ---- what the code makes of all bounds
--- what the splinters of a bound of the factor a go further where a row must not be divided: a neighbour's step
-abbrev pub neighbour_splinters : Bool → ℤ → ℤ
-neighbour_splinters true a = a
-neighbour_splinters false a = pos 0
+-- what the splinters of a bound of the factor a go further where moduli must not divide rows: a step for each neighbour
+abbrev pub neighbour_splinters : ℤ → ℤ → ℤ
+neighbour_splinters neighbours a = neighbours *ℤ a
 
 -- a lower bound with the last value of its splinters
-pub record AreSplintersOf (g : Gauge) (col : ℕ) (neighbours : Bool) (uppers : List Row) (lower : Row) (tail : Splinters) : Type 0 where
+pub record AreSplintersOf (g : Gauge) (col : ℕ) (neighbours : ℤ) (uppers : List Row) (lower : Row) (tail : Splinters) : Type 0 where
   pub same : tail.lower ≡ lower
   pub within : IsWithin g tail.last
   pub not_below : (neighbour_splinters neighbours (coef_at lower col) -ℤ pos 1) ≤ℤ tail.last
   pub few : (m : ℤ) → pos 0 <ℤ m → All (λ u. neg_ℤ (coef_at u col) ≤ℤ m) uppers → (tail.last +ℤ pos 1) ≤ℤ (splinters (coef_at lower col) m +ℤ neighbour_splinters neighbours (coef_at lower col))
 
 -- new rows of a lower bound and its tail
-pub record LeavesSplinters (g : Gauge) (columns col : ℕ) (neighbours : Bool) (lower : Row) (uppers old new : List Row) (tail : Splinters) : Type 0 where
+pub record LeavesSplinters (g : Gauge) (columns col : ℕ) (neighbours : ℤ) (lower : Row) (uppers old new : List Row) (tail : Splinters) : Type 0 where
   pub last : ℤ
   pub shadow : IsShadowOf g columns col lower uppers old new last
   pub same : tail.lower ≡ lower
@@ -150,7 +149,7 @@ pub record LeavesSplinters (g : Gauge) (columns col : ℕ) (neighbours : Bool) (
 
 -- rows that hold only where each pair is dark, and a tail for each lower bound: where the bounds are met and the rows do not hold, some
 -- lower bound's value is within its tail
-pub record IsShadow (g : Gauge) (columns col : ℕ) (neighbours : Bool) (lowers uppers rows : List Row) (tails : List Splinters) : Type 0 where
+pub record IsShadow (g : Gauge) (columns col : ℕ) (neighbours : ℤ) (lowers uppers rows : List Row) (tails : List Splinters) : Type 0 where
   pub proper : All (IsProper g columns) rows
   pub free : All (IsFree col) rows
   pub dark : (point : List ℤ) (x : ℤ) → length point ≡ columns - 1 → HoldAt rows col point x → All (λ l. All (λ u. IsDark (lower_at col point l) (upper_at col point u)) uppers) lowers

@@ -23,13 +23,13 @@ pub struct Splinters {
     pub last: Int,
 }
 
-/// Upper bounds on a column, to be paired with lower ones. Where rows must not be divided, splinters go to neighbours too: further
-/// by the factor of the lower bound.
+/// Upper bounds on a column, to be paired with lower ones. Where moduli must not divide rows, splinters go to neighbours too: further
+/// by the factor of the lower bound for each of them.
 #[derive(Clone, Copy)]
 pub struct Uppers<'a> {
     pub rows: &'a [Row],
     pub column: Column,
-    pub neighbours: bool,
+    pub neighbours: Int,
 }
 
 // The greatest upper factor of a pair that is not exact.
@@ -143,19 +143,17 @@ fn shadow_of(
     Ok(left)
 }
 
-// The last value of a tail: further by the factor where a row must not be divided.
-fn tail_value(last: Int, factor: Int, neighbours: bool, meter: &mut Meter) -> Result<Int, Overflow>
+// The last value of a tail: further by the factor for each neighbour.
+fn tail_value(last: Int, factor: Int, neighbours: Int, meter: &mut Meter) -> Result<Int, Overflow>
     requires within { IsWithin meter.old last }
     ensures exact { MatchResult result
         (λ value. (value ≡ last +ℤ neighbour_splinters neighbours factor) × IsWithin meter.old value × (meter.new ≡ meter.old))
         (λ _. IsCutUpTo (pos 0) meter.old meter.new Cut.Overflow) }
-    ensures no_overflow { meter.old.bits ≡ 127 → unsigned_abs last ≤ paired_magnitude → unsigned_abs factor ≤ paired_magnitude → IfErr result (λ _. ⊥) }
+    ensures no_overflow { meter.old.bits ≡ 127 → unsigned_abs last ≤ paired_magnitude → unsigned_abs factor ≤ paired_magnitude
+        → unsigned_abs neighbours ≤ 1 → IfErr result (λ _. ⊥) }
 {
-    if neighbours {
-        last.add(factor, meter)
-    } else {
-        Ok(last)
-    }
+    let more = neighbours.mul(factor, meter)?;
+    last.add(more, meter)
 }
 
 // Pushes the dark rows of a lower bound, and answers its tail, and whether the bounds are met nowhere.
@@ -173,7 +171,7 @@ fn tail_of(
         uppers.now.rows.now rows.old rows.new pair.0
         × (IsTrue pair.1 → AreNeverMet uppers.now.column.columns uppers.now.column.at (lower.now ∷ []) uppers.now.rows.now)) result }
     ensures no_overflow { meter.old.bits ≡ 127 → IsRowUpTo paired_magnitude lower.now → All (IsRowUpTo paired_magnitude) uppers.now.rows.now
-        → IsNoOverflow result }
+        → unsigned_abs uppers.now.neighbours ≤ 1 → IsNoOverflow result }
 {
     let left = shadow_of(alloc, lower, uppers, rows, meter)?;
     let last = tail_value(
@@ -193,14 +191,14 @@ fn tail_of(
 fn least_tail(
     alloc: Global,
     lower: &Row,
-    neighbours: bool,
+    neighbours: Int,
     column: Column,
     meter: &mut Meter,
 ) -> Result<Splinters, Cut>
     requires lower { IsLower meter.old column.columns column.at lower.now }
     ensures exact { IsDone meter.old meter.new
         (λ tail. (uppers : List Row) → AreSplintersOf meter.old column.at neighbours uppers lower.now tail) result }
-    ensures no_overflow { meter.old.bits ≡ 127 → IsRowUpTo paired_magnitude lower.now → IsNoOverflow result }
+    ensures no_overflow { meter.old.bits ≡ 127 → IsRowUpTo paired_magnitude lower.now → unsigned_abs neighbours ≤ 1 → IsNoOverflow result }
 {
     let none = Int::ZERO.sub(Int::ONE, meter)?;
     let last = tail_value(none, lower.coefs.get(column.at), neighbours, meter)?;
@@ -214,14 +212,14 @@ fn least_tail(
 fn least_tails(
     alloc: Global,
     lowers: &[Row],
-    neighbours: bool,
+    neighbours: Int,
     column: Column,
     meter: &mut Meter,
 ) -> Result<Vec<Splinters>, Cut>
     requires lowers { All (IsLower meter.old column.columns column.at) lowers.now }
     ensures exact { IsDone meter.old meter.new
         (λ tails. (uppers : List Row) → AllZip (AreSplintersOf meter.old column.at neighbours uppers) lowers.now tails.items) result }
-    ensures no_overflow { meter.old.bits ≡ 127 → All (IsRowUpTo paired_magnitude) lowers.now → IsNoOverflow result }
+    ensures no_overflow { meter.old.bits ≡ 127 → All (IsRowUpTo paired_magnitude) lowers.now → unsigned_abs neighbours ≤ 1 → IsNoOverflow result }
 {
     let mut tails = Vec::new(alloc);
     for lower in lowers {
@@ -258,7 +256,7 @@ fn pairs_of(
         uppers.now.rows.now pairs.rows pairs.tails.items
         × (IsTrue pairs.never → AreNeverMet uppers.now.column.columns uppers.now.column.at lowers.now uppers.now.rows.now)) result }
     ensures no_overflow { meter.old.bits ≡ 127 → All (IsRowUpTo paired_magnitude) lowers.now → All (IsRowUpTo paired_magnitude) uppers.now.rows.now
-        → IsNoOverflow result }
+        → unsigned_abs uppers.now.neighbours ≤ 1 → IsNoOverflow result }
 {
     let mut rows = Rows::new(alloc);
     let mut tails = Vec::new(alloc);
@@ -271,9 +269,9 @@ fn pairs_of(
     Ok(Pairs { rows, tails, never })
 }
 
-/// The dark rows of all pairs, and a tail for each lower bound. With `neighbours` the tails go further by the
-/// bound's factor. Where the real row of a pair is false, no tail goes further than that. Each pair costs a unit, and nothing else
-/// does. (Pugh, the Omega test: dark shadow and splinters)
+/// The dark rows of all pairs, and a tail for each lower bound. The tails go further by the bound's factor for each of the neighbours.
+/// Where the real row of a pair is false, no tail goes further than that. Each pair costs a unit, and nothing else does. (Pugh, the
+/// Omega test: dark shadow and splinters)
 ///
 /// # Errors
 ///
@@ -290,7 +288,7 @@ pub fn shadow(
         (λ pair. IsShadow meter.old uppers.now.column.columns uppers.now.column.at uppers.now.neighbours lowers.now
         uppers.now.rows.now pair.0 pair.1.items) result }
     ensures no_overflow { meter.old.bits ≡ 127 → All (IsRowUpTo paired_magnitude) lowers.now → All (IsRowUpTo paired_magnitude) uppers.now.rows.now
-        → IsNoOverflow result }
+        → unsigned_abs uppers.now.neighbours ≤ 1 → IsNoOverflow result }
 {
     let Pairs { rows, tails, never } = pairs_of(alloc, lowers, uppers, meter)?;
     if never {

@@ -30,7 +30,7 @@ returns-clause-exact c =
     )
 
 pub returns-in_err-last-clause-no_overflow : goal.returns-in_err-last-clause-no_overflow
-returns-in_err-last-clause-no_overflow c = λ bits low up.
+returns-in_err-last-clause-no_overflow c = λ bits low up one.
     let lower = c.args.lower.now in
     let uppers = c.args.uppers.now.rows.now in
     let g = c.args.meter.now in
@@ -39,4 +39,4 @@ returns-in_err-last-clause-no_overflow c = λ bits low up.
     let used : IsChargedUpTo (pos (length uppers)) g k = charged_up_to (length uppers) g k (grind arith) in
     let shadow : IsShadowOf g c.args.uppers.now.column.columns c.args.uppers.now.column.at lower uppers c.args.rows.now c.shadow_of.new.rows left.last = grind arith in
     let at : c.get.result ≡ coef_at lower c.args.uppers.now.column.at = grind arith in
-    absurd (c.in_err-last.ensures.no_overflow (charged_bits (pos (length uppers)) g k used ∙ bits) (shadow_last g c.args.uppers.now.column.columns c.args.uppers.now.column.at lower uppers c.args.rows.now c.shadow_of.new.rows left.last shadow c.requires.lower low up) (rw at (coef_up_to (2 ^ 62) lower c.args.uppers.now.column.at low)))
+    absurd (c.in_err-last.ensures.no_overflow (charged_bits (pos (length uppers)) g k used ∙ bits) (shadow_last g c.args.uppers.now.column.columns c.args.uppers.now.column.at lower uppers c.args.rows.now c.shadow_of.new.rows left.last shadow c.requires.lower low up) (rw at (coef_up_to (2 ^ 62) lower c.args.uppers.now.column.at low)) one)
