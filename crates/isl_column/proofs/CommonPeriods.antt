@@ -32,7 +32,7 @@ common_multiple_is a b g rest m p q h e f =
 pub period_none : (col : ℕ) → IsPeriod col [] (pos 1)
 period_none col = record { positive = omega (arith, linear); small = omega (arith, linear); multiples = All-nil (λ r. Divides r.k (coef_at r col *ℤ pos 1)) }
 
-product-push : (col : ℕ) (rows : List Row) (r : Row) → product_of_periods col (rows ++ r ∷ []) ≡ product_of_periods col rows *ℤ period col r
+pub product-push : (col : ℕ) (rows : List Row) (r : Row) → product_of_periods col (rows ++ r ∷ []) ≡ product_of_periods col rows *ℤ period col r
 product-push col [] r = by (period col r)
   where
     by : (p : ℤ) → p *ℤ pos 1 ≡ pos 1 *ℤ p

@@ -8,6 +8,7 @@ pub mod NeighbourLemmas
 pub mod PartsLemmas
 pub mod RealShadowLemmas
 pub mod ResidueLemmas
+pub mod SearchLemmas
 pub mod SmallSides
 pub mod SmallSplinters
 pub mod SplinterLemmas

@@ -1,10 +1,9 @@
 -- A column negated: what bounds say of x they say of -x, and the splinters that they ask for.
-use Rattle.std.proofs.Common.{◌≡◌, ◌↔◌, ◌∙◌, refl, sym, ap, subst, map, arith, ℕ, zero, suc, ◌+◌, ◌-◌, ◌<◌, ◌≤◌, ℤ, pos, neg_ℤ, ◌+ℤ◌, ◌-ℤ◌, ◌*ℤ◌, ◌≤ℤ◌, ◌<ℤ◌, ◌*◌, List, [], ◌∷◌, ◌++◌, length, set, get_or, take, Bool, true, false, nat_lt, unsigned_abs, ◌⊎◌, inl, inr, ◌^◌, Result, Ok, Err, MatchResult, mul_comm}
+use Rattle.std.proofs.Common.{◌≡◌, ◌↔◌, ◌∙◌, refl, sym, ap, subst, map, arith, ℕ, zero, suc, ◌+◌, ◌-◌, ◌<◌, ◌≤◌, ℤ, pos, neg_ℤ, ◌+ℤ◌, ◌-ℤ◌, ◌*ℤ◌, ◌≤ℤ◌, ◌<ℤ◌, ◌*◌, List, [], ◌∷◌, ◌++◌, length, set, get_or, take, unsigned_abs, ◌⊎◌, inl, inr, ◌^◌, Result, Ok, Err, MatchResult, mul_comm}
 use Rattle.std.specs.List.{All, insert, remove}
 use Rattle.std.proofs.lemmas.List.{get_or-set_same, length-set, get_or-map, length-map, map-append}
 use Rattle.std.proofs.lemmas.List.Elements.{All-set, All-map, All-weaker, All-head, All-tail, All-push}
 use Rattle.isl_math.specs.Dot.{dot}
-use Rattle.isl_math.specs.Divide.{floor_div}
 use Rattle.isl_math.specs.Order.{abs_of}
 use Rattle.isl_math.proofs.Ring.{expand, linear}
 use Rattle.isl_math.proofs.ListLaws.{All-parts}
@@ -18,14 +17,14 @@ use Rattle.isl_omega.specs.Column.{rest_at, HoldAt, IsProper}
 use Rattle.isl_omega.specs.Sides.{IsLower, IsUpper, AreSided, SidesHold}
 use Rattle.isl_omega.specs.declared.sides.Sides.{Sides}
 use Rattle.isl_omega.specs.Magnitude.{AreSidesUpTo}
-use Rattle.isl_omega.specs.Shadow.{splinters, neighbour_splinters}
+use Rattle.isl_omega.specs.Shadow.{splinters}
 use Rattle.isl_omega.proofs.ColumnLemmas.{value_at-insert, hold_anywhere}
-use Rattle.isl_omega.proofs.Splinters.{splinters_not_negative, splinters_rise}
+use Rattle.isl_omega.proofs.Splinters.{splinters_rise}
 use Rattle.isl_omega.proofs.SmallLemmas.{coef_up_to}
 use Rattle.isl_column.specs.DarkShadow.{splinter_total, HasFewSplinters, IsDarkShadowOf, IsDarkShadowWithFewSplinters, splinter_count}
 use Rattle.isl_column.specs.Mirror.{mirrored_row, mirrored, AskForFewer}
 use Rattle.isl_column.specs.declared.dark_shadow.DarkShadow.{DarkShadow}
-use Rattle.isl_column.proofs.DarkShadowLemmas.{splinter_total_not_negative}
+use Rattle.isl_column.proofs.DarkShadowLemmas.{splinter_total_not_negative, splinter_total_more}
 
 -- ---- one row
 coef_mirrored : (r : Row) (col : ℕ) → col < length r.coefs → coef_at (mirrored_row col r) col ≡ neg_ℤ (coef_at r col)
@@ -168,11 +167,11 @@ mirrored_sides_back g columns col sides point x l n s no_divides no_not_divides 
     none = λ i d k. absurd (omega arith)
 
 -- a dark shadow of the mirrored sides is one of the sides
-pub mirrored_back : (g : Gauge) (columns col : ℕ) (sides : Sides) (dark_shadow : DarkShadow) → col < columns → AreSided g columns col sides
+pub mirrored_back : (g : Gauge) (columns col : ℕ) (neighbours : ℤ) (sides : Sides) (dark_shadow : DarkShadow) → pos 0 ≤ℤ neighbours → col < columns → AreSided g columns col sides
     → sides.divides ≡ [] → sides.not_divides ≡ [] → (sides.uppers ≡ [] → ⊥) → AskForFewer col sides.lowers sides.uppers
-    → IsDarkShadowOf g columns col (mirrored col sides) dark_shadow → HasFewSplinters col (mirrored col sides) dark_shadow.tails.items
-    → IsDarkShadowOf g columns col sides dark_shadow × HasFewSplinters col sides dark_shadow.tails.items
-mirrored_back g columns col sides dark_shadow l s no_divides no_not_divides some fewer is few = (
+    → IsDarkShadowOf g columns col (mirrored col sides) dark_shadow → HasFewSplinters (pos 0) col (mirrored col sides) dark_shadow.tails.items
+    → IsDarkShadowOf g columns col sides dark_shadow × HasFewSplinters neighbours col sides dark_shadow.tails.items
+mirrored_back g columns col neighbours sides dark_shadow least l s no_divides no_not_divides some fewer is few = (
   record {
     is_dark_shadow = is.is_dark_shadow;
     points = λ point n. (
@@ -190,26 +189,22 @@ mirrored_back g columns col sides dark_shadow l s no_divides no_not_divides some
         (fewer.greatest i d k))
 
     counted : (m : ℤ) → pos 0 <ℤ m → All (λ u. neg_ℤ (coef_at u col) ≤ℤ m) sides.uppers
-        → splinter_count dark_shadow.tails.items ≤ℤ splinter_total (nat_lt 0 (length sides.not_divides)) m col sides.lowers
+        → splinter_count dark_shadow.tails.items ≤ℤ splinter_total neighbours m col sides.lowers
     counted m p u =
         let one = few fewer.factor fewer.positive factors in
         let two = fewer.fewer m p u in
-        by one two
-      where
-        by : splinter_count dark_shadow.tails.items ≤ℤ splinter_total (nat_lt 0 (length sides.not_divides)) fewer.factor col (map (mirrored_row col) sides.uppers)
-            → splinter_total false fewer.factor col (map (mirrored_row col) sides.uppers) ≤ℤ splinter_total false m col sides.lowers
-            → splinter_count dark_shadow.tails.items ≤ℤ splinter_total (nat_lt 0 (length sides.not_divides)) m col sides.lowers
-        by = rw no_not_divides (λ a b. omega (arith, linear, a, b))
+        let more = splinter_total_more g columns col neighbours m sides.lowers least s.lowers in
+        omega (arith, linear, one, two, more)
 
 -- ---- how many splinters bounds ask for
 pub splinter_total-push : (m : ℤ) (col : ℕ) (lowers : List Row) (l : Row)
-    → splinter_total false m col (lowers ++ l ∷ []) ≡ splinter_total false m col lowers +ℤ splinters (coef_at l col) m
+    → splinter_total (pos 0) m col (lowers ++ l ∷ []) ≡ splinter_total (pos 0) m col lowers +ℤ splinters (coef_at l col) m
 splinter_total-push m col [] l = omega (arith, linear)
 splinter_total-push m col (k ∷ lowers) l = let rest = splinter_total-push m col lowers l in omega (arith, linear, rest)
 
 -- it rises with the greatest factor
 splinter_total_rises : (g : Gauge) (columns col : ℕ) (m n : ℤ) (lowers : List Row) → pos 0 <ℤ m → m ≤ℤ n → All (IsLower g columns col) lowers
-    → splinter_total false m col lowers ≤ℤ splinter_total false n col lowers
+    → splinter_total (pos 0) m col lowers ≤ℤ splinter_total (pos 0) n col lowers
 splinter_total_rises g columns col m n [] p q h = omega (arith, linear)
 splinter_total_rises g columns col m n (l ∷ lowers) p q h =
     let first = splinters_rise (coef_at l col) (coef_at l col) m n (All-head (IsLower g columns col) l lowers h).factor (omega (arith, linear)) p q in
@@ -221,8 +216,8 @@ pub fewer_from : (g : Gauge) (columns col : ℕ) (sides : Sides) (of_lowers of_u
     → pos 0 <ℤ of_lowers → pos 0 <ℤ of_uppers
     → All (λ r. abs_of (coef_at r col) ≤ℤ of_lowers) sides.lowers
     → ((m : ℤ) → pos 0 ≤ℤ m → All (λ r. abs_of (coef_at r col) ≤ℤ m) sides.uppers → of_uppers ≤ℤ m)
-    → most ≤ℤ splinter_total false of_uppers col sides.lowers
-    → splinter_total false of_lowers col (map (mirrored_row col) sides.uppers) ≤ℤ most
+    → most ≤ℤ splinter_total (pos 0) of_uppers col sides.lowers
+    → splinter_total (pos 0) of_lowers col (map (mirrored_row col) sides.uppers) ≤ℤ most
     → AskForFewer col sides.lowers sides.uppers
 fewer_from g columns col sides of_lowers of_uppers most s p q greatest least many few = record {
   factor = of_lowers;
@@ -277,20 +272,20 @@ greatest_more col i bounds u old new is p h least cases = rw is (
 -- the splinters of the lower bound that asks for most
 pub most_more : (g : Gauge) (columns col i : ℕ) (m : ℤ) (lowers : List Row) (u : Row) (old new own : ℤ) → take (i + 1) lowers ≡ take i lowers ++ u ∷ []
     → pos 0 <ℤ m → All (IsLower g columns col) (take i lowers) → own ≡ splinters (coef_at u col) m → pos 0 ≤ℤ own
-    → old ≤ℤ splinter_total false m col (take i lowers) → (new ≡ own) ⊎ (new ≡ old)
-    → new ≤ℤ splinter_total false m col (take (i + 1) lowers)
+    → old ≤ℤ splinter_total (pos 0) m col (take i lowers) → (new ≡ own) ⊎ (new ≡ old)
+    → new ≤ℤ splinter_total (pos 0) m col (take (i + 1) lowers)
 most_more g columns col i m lowers u old new own is p h e q so_far cases =
     rw (is, splinter_total-push m col (take i lowers) u, ← e) (by cases)
   where
-    by : (new ≡ own) ⊎ (new ≡ old) → new ≤ℤ (splinter_total false m col (take i lowers) +ℤ own)
-    by (inl c) = rw c (let n = splinter_total_not_negative g columns col false m (take i lowers) p h in omega (arith, linear, n))
+    by : (new ≡ own) ⊎ (new ≡ old) → new ≤ℤ (splinter_total (pos 0) m col (take i lowers) +ℤ own)
+    by (inl c) = rw c (let n = splinter_total_not_negative g columns col (pos 0) m (take i lowers) (omega (arith, linear)) p h in omega (arith, linear, n))
     by (inr c) = rw c (omega (arith, linear, so_far, q))
 
 -- the splinters of upper bounds, mirrored
 pub left_more : (col i : ℕ) (m : ℤ) (uppers : List Row) (u : Row) (most left own : ℤ) → take (i + 1) uppers ≡ take i uppers ++ u ∷ []
     → col < length u.coefs → own ≡ splinters (neg_ℤ (coef_at u col)) m
-    → (splinter_total false m col (map (mirrored_row col) (take i uppers)) +ℤ left) ≤ℤ most
-    → (splinter_total false m col (map (mirrored_row col) (take (i + 1) uppers)) +ℤ (left -ℤ own)) ≤ℤ most
+    → (splinter_total (pos 0) m col (map (mirrored_row col) (take i uppers)) +ℤ left) ≤ℤ most
+    → (splinter_total (pos 0) m col (map (mirrored_row col) (take (i + 1) uppers)) +ℤ (left -ℤ own)) ≤ℤ most
 left_more col i m uppers u most left own is wide e so_far =
     rw (is, map-append (mirrored_row col) (take i uppers) (u ∷ []), splinter_total-push m col (map (mirrored_row col) (take i uppers)) (mirrored_row col u), coef_mirrored u col wide, ← e)
     (omega (arith, linear, so_far))
@@ -308,17 +303,17 @@ less_within g a b h k w = (omega (arith, linear, h, k), by (2 ^ g.bits) w)
     by n w = omega (arith, linear, h, k, w)
 
 -- what is done for the mirrored sides is done for the sides
-pub mirrored_done : (g h : Gauge) (columns col : ℕ) (sides new : Sides) (result : Result DarkShadow Cut) → new ≡ mirrored col sides → col < columns
+pub mirrored_done : (g h : Gauge) (columns col : ℕ) (neighbours : ℤ) (sides new : Sides) (result : Result DarkShadow Cut) → pos 0 ≤ℤ neighbours → new ≡ mirrored col sides → col < columns
     → AreSided g columns col sides → sides.divides ≡ [] → sides.not_divides ≡ [] → (sides.uppers ≡ [] → ⊥) → AskForFewer col sides.lowers sides.uppers
-    → IsDoneFor (length new.lowers * length new.uppers) g h (IsDarkShadowWithFewSplinters g columns col new) result
-    → IsDoneFor (length sides.lowers * length sides.uppers) g h (IsDarkShadowWithFewSplinters g columns col sides) result
-mirrored_done g h columns col sides new result is l s no_divides no_not_divides some fewer done = by result (rw is at done)
+    → IsDoneFor (length new.lowers * length new.uppers) g h (IsDarkShadowWithFewSplinters g columns col (pos 0) new) result
+    → IsDoneFor (length sides.lowers * length sides.uppers) g h (IsDarkShadowWithFewSplinters g columns col neighbours sides) result
+mirrored_done g h columns col neighbours sides new result least is l s no_divides no_not_divides some fewer done = by result (rw is at done)
   where
     count : length (map (mirrored_row col) sides.uppers) * length (map (mirrored_row col) sides.lowers) ≡ length sides.lowers * length sides.uppers
     count = rw (length-map sides.uppers (mirrored_row col), length-map sides.lowers (mirrored_row col)) (mul_comm (length sides.uppers) (length sides.lowers))
 
     by : (result : Result DarkShadow Cut)
-        → IsDoneFor (length (map (mirrored_row col) sides.uppers) * length (map (mirrored_row col) sides.lowers)) g h (IsDarkShadowWithFewSplinters g columns col (mirrored col sides)) result
-        → IsDoneFor (length sides.lowers * length sides.uppers) g h (IsDarkShadowWithFewSplinters g columns col sides) result
-    by (Ok v) d = (mirrored_back g columns col sides v l s no_divides no_not_divides some fewer d.0.0 d.0.1, subst (λ (n : ℕ). h ≡ paid n g) count d.1)
+        → IsDoneFor (length (map (mirrored_row col) sides.uppers) * length (map (mirrored_row col) sides.lowers)) g h (IsDarkShadowWithFewSplinters g columns col (pos 0) (mirrored col sides)) result
+        → IsDoneFor (length sides.lowers * length sides.uppers) g h (IsDarkShadowWithFewSplinters g columns col neighbours sides) result
+    by (Ok v) d = (mirrored_back g columns col neighbours sides v least l s no_divides no_not_divides some fewer d.0.0 d.0.1, subst (λ (n : ℕ). h ≡ paid n g) count d.1)
     by (Err e) d = subst (λ (n : ℕ). IsCutUpTo (pos n) g h e) count d

@@ -28,14 +28,14 @@ use Rattle.isl_column.specs.DarkShadow.{HoldsDark, HasSplinter, KeepBound, AreSp
 use Rattle.isl_column.specs.Exact.{IsExactColumn, exact_rows, pairs_on}
 use Rattle.isl_column.specs.Magnitude.{AreSmallSplinters, HaveSmallNumbers, HaveOneCongruence}
 use Rattle.isl_column.specs.Parts.{PartsView, HoldsPart, count_of, head_count, residues_most, most_units, residues_least, least_units, least_units_of, AreResidues, AreParts, ArePartsOf, IsNextPart, AreNone, IsFoundIn, AreUnitsUpTo, IsHeadAlone, AreSmallParts, AreBegun, IsBegun, IsOpened, IsOpenedFrom, IsNoResidue}
-use Rattle.isl_column.specs.Residue.{HasNumber, residue_units, residues_units}
+use Rattle.isl_column.specs.Residue.{HasNumber, residue_units, sides_units}
 use Rattle.isl_column.specs.Solved.{solved_rows}
 use Rattle.isl_column.specs.Units.{elimination_units}
 use Rattle.isl_column.specs.declared.dark_shadow.DarkShadow.{DarkShadow}
 use Rattle.isl_column.specs.declared.residue.Residues.{Residues}
 use Rattle.isl_column.proofs.ResidueLemmas.{sided_kept, residues_none, residues_next, residues_all}
 use Rattle.isl_column.proofs.SplinterLemmas.{rows_proper_kept, shadow_kept, taken_dark, total_not_negative, some_splinters, no_splinters}
-use Rattle.isl_column.proofs.UnitLemmas.{residue_units_positive, residues_units_most}
+use Rattle.isl_column.proofs.UnitLemmas.{residue_units_positive, sides_units_most}
 
 -- ---- what is said does not depend on what the meter counted
 -- a meter that was charged has the same limit
@@ -211,7 +211,7 @@ pub record IsResidual (n c : ℕ) (r : Residues) (parts : PartsView) : Type 0 wh
   pub tails : parts.dark_shadow.tails.items ≡ []
   pub residues : parts.residues ≡ Some r
 
-pub residues_begun : (g : Gauge) (columns col : ℕ) (sides : Sides) (r : Residues) (parts : PartsView) → IsResidual columns col r parts → AreSided g columns col sides → AreResidues g columns col r → r.sides ≡ sides → r.left ≡ r.period → AreBegun (residues_units col sides) columns (HasNumber sides col) g g parts
+pub residues_begun : (g : Gauge) (columns col : ℕ) (sides : Sides) (r : Residues) (parts : PartsView) → IsResidual columns col r parts → AreSided g columns col sides → AreResidues g columns col r → r.sides ≡ sides → r.left ≡ r.period → AreBegun (sides_units col sides) columns (HasNumber sides col) g g parts
 residues_begun g columns col sides r parts is sided a s p = record {
   are = record {
     width = rw (is.columns) refl;
@@ -235,7 +235,7 @@ residues_begun g columns col sides r parts is sided a s p = record {
   units =
       let none : splinter_count parts.dark_shadow.tails.items ≡ pos 0 = ap splinter_count is.tails in
       let own : residues_most parts.column.at parts.residues ≡ r.period *ℤ residue_units col r.period sides = rw (is.residues, is.col, s, p) refl in
-      let most = residues_units_most g columns col r.period sides sided (rw s at a.period) in
+      let most = sides_units_most g columns col r.period sides sided (rw s at a.period) in
       omega (arith, linear);
 }
 

@@ -1,6 +1,5 @@
 -- The units that elimination uses are at most those that the rows tell.
-use Rattle.std.proofs.Common.{◌≡◌, ◌≢◌, ◌∙◌, refl, sym, ap, arith, Bool, true, false, cond, ℕ, zero, suc, ◌*◌, ◌<◌, ◌≤◌, ℤ, pos, negsuc, neg_ℤ, ◌+ℤ◌, ◌*ℤ◌, ◌≤ℤ◌, ◌<ℤ◌, List, [], ◌∷◌, length, get_or, unsigned_abs}
-use Rattle.std.specs.Prelude.{nat_lt}
+use Rattle.std.proofs.Common.{◌≡◌, ◌≢◌, ◌∙◌, refl, sym, ap, arith, Bool, true, false, cond, ℕ, zero, suc, ◌*◌, ◌≤◌, ℤ, pos, negsuc, neg_ℤ, ◌+ℤ◌, ◌*ℤ◌, ◌≤ℤ◌, ◌<ℤ◌, List, [], ◌∷◌, length, get_or, unsigned_abs}
 use Rattle.std.specs.Int.{int_max}
 use Rattle.std.specs.Ordering.{int_eq}
 use Rattle.std.specs.List.{All, AllZip}
@@ -23,9 +22,9 @@ use Rattle.isl_piece.specs.declared.row.Row.{Row}
 use Rattle.isl_piece.specs.Row.{HasModulus, IsWellFormed, coef_at}
 use Rattle.isl_column.specs.DarkShadow.{IsDarkShadowOf, HasFewSplinters, splinter_count, splinter_total}
 use Rattle.isl_omega.specs.Congruence.{product_of_divisors, product_of_periods}
-use Rattle.isl_column.specs.Residue.{splinter_bound, shadow_units, residue_units, residues_units, sides_units, IsPeriod, IsResidueOf}
+use Rattle.isl_column.specs.Residue.{splinter_bound, shadow_units, residue_units, sides_units, sides_units, IsPeriod, IsResidueOf}
 use Rattle.isl_omega.specs.Shadow.{splinters}
-use Rattle.isl_omega.specs.Sides.{IsLower, IsUpper, IsNotDivides, AreSided, on_side, side_of, side_of_kind, is_same, unless_multiple}
+use Rattle.isl_omega.specs.Sides.{IsLower, IsUpper, AreSided, on_side, side_of, side_of_kind, is_same, unless_multiple}
 use Rattle.isl_omega.specs.Step.{HasFactorsUpTo, IsStepOf}
 use Rattle.isl_omega.specs.Tighten.{IsLessened}
 use Rattle.isl_column.specs.Units.{greatest_factor, counted_splinters, sum_of_splinters, all_splinters, pairs, modulus_of, product_of_moduli, units_of_bounds}
@@ -37,7 +36,7 @@ use Rattle.isl_column.proofs.DarkShadowLemmas.{splinter_total_not_negative}
 use Rattle.isl_omega.proofs.PeriodLemmas.{period_short, periods_positive}
 use Rattle.isl_piece.proofs.RowLemmas.{HasModulus-positive}
 use Rattle.isl_omega.proofs.SideLemmas.{side_means, unless_zero}
-use Rattle.isl_omega.proofs.Splinters.{splinters_counted, splinters_not_negative, splinters_rise, neighbour_splinters}
+use Rattle.isl_omega.proofs.Splinters.{splinters_counted, splinters_not_negative, splinters_rise, neighbours_scaled}
 
 -- ---- the greatest factor
 pub greatest_bounds : (col : ℕ) (uppers : List Row) → All (λ u. neg_ℤ (coef_at u col) ≤ℤ greatest_factor col uppers) uppers
@@ -61,15 +60,31 @@ greatest_positive g columns col u uppers h = by (coef_at u col) (greatest_factor
     by c b p = omega (arith, linear, clamps)
 
 -- ---- the tails of a dark_shadow
-pub tails_bounded : (g : Gauge) (columns col : ℕ) (sides : Sides) (dark_shadow : DarkShadow) (uppers : List Row) → sides.uppers ≡ uppers → AreSided g columns col sides → IsDarkShadowOf g columns col sides dark_shadow → HasFewSplinters col sides dark_shadow.tails.items
-    → splinter_count dark_shadow.tails.items ≤ℤ splinter_bound (nat_lt 0 (length sides.not_divides)) col sides.lowers uppers
-tails_bounded g columns col sides dark_shadow [] e s b few = let none = ap splinter_count (b.open_above e) in omega (arith, linear)
-tails_bounded g columns col sides dark_shadow (u ∷ uppers) e s b few =
+pub tails_bounded : (g : Gauge) (columns col : ℕ) (neighbours : ℤ) (sides : Sides) (dark_shadow : DarkShadow) (uppers : List Row) → sides.uppers ≡ uppers → AreSided g columns col sides → IsDarkShadowOf g columns col sides dark_shadow → HasFewSplinters neighbours col sides dark_shadow.tails.items
+    → splinter_count dark_shadow.tails.items ≤ℤ splinter_bound neighbours col sides.lowers uppers
+tails_bounded g columns col neighbours sides dark_shadow [] e s b few = let none = ap splinter_count (b.open_above e) in omega (arith, linear)
+tails_bounded g columns col neighbours sides dark_shadow (u ∷ uppers) e s b few =
     few (greatest_factor col (u ∷ uppers)) (greatest_positive g columns col u uppers (rw e at s.uppers)) (rw e (greatest_bounds col (u ∷ uppers)))
 
-pub bound_not_negative : (g : Gauge) (columns col : ℕ) (neighbours : Bool) (lowers uppers : List Row) → All (IsLower g columns col) lowers → All (IsUpper g columns col) uppers → pos 0 ≤ℤ splinter_bound neighbours col lowers uppers
-bound_not_negative g columns col neighbours lowers [] hl hu = omega (arith, linear)
-bound_not_negative g columns col neighbours lowers (u ∷ uppers) hl hu = splinter_total_not_negative g columns col neighbours (greatest_factor col (u ∷ uppers)) lowers (greatest_positive g columns col u uppers hu) hl
+pub bound_not_negative : (g : Gauge) (columns col : ℕ) (neighbours : ℤ) (lowers uppers : List Row) → pos 0 ≤ℤ neighbours → All (IsLower g columns col) lowers → All (IsUpper g columns col) uppers → pos 0 ≤ℤ splinter_bound neighbours col lowers uppers
+bound_not_negative g columns col neighbours lowers [] q hl hu = omega (arith, linear)
+bound_not_negative g columns col neighbours lowers (u ∷ uppers) q hl hu = splinter_total_not_negative g columns col neighbours (greatest_factor col (u ∷ uppers)) lowers q (greatest_positive g columns col u uppers hu) hl
+
+-- with fewer neighbours than k they are no more than those of all factors times k
+total_scaled : (g : Gauge) (columns col : ℕ) (neighbours k m : ℤ) (lowers : List Row) → neighbours <ℤ k → pos 0 <ℤ k → pos 0 <ℤ m → All (IsLower g columns col) lowers
+    → splinter_total neighbours m col lowers ≤ℤ sum_of_splinters col k m lowers
+total_scaled g columns col neighbours k m [] less p q h = omega (arith, linear)
+total_scaled g columns col neighbours k m (l ∷ lowers) less p q h =
+    let rest = total_scaled g columns col neighbours k m lowers less p q (All-tail (IsLower g columns col) l lowers h) in
+    let own = neighbours_scaled (coef_at l col) m neighbours k (All-head (IsLower g columns col) l lowers h).factor q p less in
+    let count = splinters_counted (coef_at l col *ℤ k) (m *ℤ k) (positive-*ℤ m k q p) in
+    omega (arith, linear)
+
+bound_scaled : (g : Gauge) (columns col : ℕ) (neighbours k : ℤ) (lowers uppers : List Row) → neighbours <ℤ k → pos 0 <ℤ k → All (IsLower g columns col) lowers → All (IsUpper g columns col) uppers
+    → splinter_bound neighbours col lowers uppers ≤ℤ all_splinters col k lowers uppers
+bound_scaled g columns col neighbours k lowers [] less p hl hu = omega (arith, linear)
+bound_scaled g columns col neighbours k lowers (u ∷ uppers) less p hl hu =
+    total_scaled g columns col neighbours k (greatest_factor col (u ∷ uppers)) lowers less p (greatest_positive g columns col u uppers hu) hl
 
 -- ---- narrowed bounds
 -- the upper factors, each at most k times the old one
@@ -119,9 +134,9 @@ lessened_above k c d p q h =
     by : (e d : ℤ) → pos 0 <ℤ e → pos 0 <ℤ d → unsigned_abs d ≤ unsigned_abs e → d ≤ℤ e
     by e d p q s = omega (arith, linear)
 
--- the splinters of narrowed bounds, without and with a neighbour's step
+-- the splinters of narrowed bounds, without a neighbour
 plain_lowers : (g : Gauge) (columns col : ℕ) (k r m n : ℤ) (old new : List Row) → pos 0 <ℤ k → k ≤ℤ r → pos 0 <ℤ m → pos 0 <ℤ n → m ≤ℤ (k *ℤ n) → All (IsLower g columns col) old → AllZip (λ a b. IsLessened (k *ℤ coef_at a col) (coef_at b col)) old new
-    → splinter_total false m col new ≤ℤ sum_of_splinters col r n old
+    → splinter_total (pos 0) m col new ≤ℤ sum_of_splinters col r n old
 plain_lowers g columns col k r m n [] [] p l q w e h z = omega (arith, linear)
 plain_lowers g columns col k r m n [] (b ∷ new) p l q w e h z = absurd z
 plain_lowers g columns col k r m n (a ∷ old) [] p l q w e h z = absurd z
@@ -134,22 +149,6 @@ plain_lowers g columns col k r m n (a ∷ old) (b ∷ new) p l q w e h z =
   where
     once : (k r a b : ℤ) → k ≤ℤ r → pos 0 <ℤ b → a ≤ℤ (k *ℤ b) → a ≤ℤ (b *ℤ r)
     once k r a b l p h = let t = simp expand at (*ℤ-≤ℤ b k r (omega (arith, linear)) l) in let h' = simp expand at h in simp expand (omega (arith, linear))
-
-neighbour_lowers : (g : Gauge) (columns col : ℕ) (k r m n : ℤ) (old new : List Row) → pos 0 <ℤ k → (pos 2 *ℤ k) ≤ℤ r → pos 0 <ℤ m → pos 0 <ℤ n → m ≤ℤ (k *ℤ n) → All (IsLower g columns col) old → AllZip (λ a b. IsLessened (k *ℤ coef_at a col) (coef_at b col)) old new
-    → splinter_total true m col new ≤ℤ sum_of_splinters col r n old
-neighbour_lowers g columns col k r m n [] [] p l q w e h z = omega (arith, linear)
-neighbour_lowers g columns col k r m n [] (b ∷ new) p l q w e h z = absurd z
-neighbour_lowers g columns col k r m n (a ∷ old) [] p l q w e h z = absurd z
-neighbour_lowers g columns col k r m n (a ∷ old) (b ∷ new) p l q w e h z =
-    let rest = neighbour_lowers g columns col k r m n old new p l q w e (All-tail (IsLower g columns col) a old h) z.1 in
-    let factor = (All-head (IsLower g columns col) a old h).factor in
-    let less = lessened_above k (coef_at a col) (coef_at b col) p factor z.0 in
-    let first = neighbour_splinters (coef_at b col) (coef_at a col) m n k r less.0 (turned k (coef_at a col) (coef_at b col) less.1) q (turned k n m e) factor w p l in
-    let count = splinters_counted (coef_at a col *ℤ r) (n *ℤ r) (positive-*ℤ n r w (omega (arith, linear))) in
-    omega (arith, linear)
-  where
-    turned : (k b a : ℤ) → a ≤ℤ (k *ℤ b) → a ≤ℤ (b *ℤ k)
-    turned k b a h = let h' = simp expand at h in simp expand (omega (arith, linear))
 
 -- what is counted of narrowed bounds for residues
 counted_lowers : (g : Gauge) (columns col : ℕ) (k j r m n : ℤ) (old new : List Row) → pos 0 <ℤ k → pos 0 <ℤ j → (k *ℤ j) ≤ℤ r → pos 0 <ℤ m → pos 0 <ℤ n → m ≤ℤ (k *ℤ n) → All (IsLower g columns col) old → AllZip (λ a b. IsLessened (k *ℤ coef_at a col) (coef_at b col)) old new
@@ -168,21 +167,12 @@ counted_lowers g columns col k j r m n (a ∷ old) (b ∷ new) p o l q w e h z =
 
 -- ---- narrowed sides
 pub plain_narrowed : (g : Gauge) (columns col : ℕ) (k r : ℤ) (lowers uppers fewer lesser : List Row) → pos 0 <ℤ k → k ≤ℤ r → All (IsLower g columns col) lowers → All (IsUpper g columns col) uppers → All (IsUpper g columns col) lesser
-    → AllZip (λ a b. IsLessened (k *ℤ coef_at a col) (coef_at b col)) lowers fewer → AllZip (λ a b. IsLessened (k *ℤ coef_at a col) (coef_at b col)) uppers lesser → splinter_bound false col fewer lesser ≤ℤ all_splinters col r lowers uppers
+    → AllZip (λ a b. IsLessened (k *ℤ coef_at a col) (coef_at b col)) lowers fewer → AllZip (λ a b. IsLessened (k *ℤ coef_at a col) (coef_at b col)) uppers lesser → splinter_bound (pos 0) col fewer lesser ≤ℤ all_splinters col r lowers uppers
 plain_narrowed g columns col k r lowers [] fewer [] p l hl hu hn zl zu = omega (arith, linear)
 plain_narrowed g columns col k r lowers [] fewer (v ∷ lesser) p l hl hu hn zl zu = absurd zu
 plain_narrowed g columns col k r lowers (u ∷ uppers) fewer [] p l hl hu hn zl zu = absurd zu
 plain_narrowed g columns col k r lowers (u ∷ uppers) fewer (v ∷ lesser) p l hl hu hn zl zu =
     plain_lowers g columns col k r (greatest_factor col (v ∷ lesser)) (greatest_factor col (u ∷ uppers)) lowers fewer p l (greatest_positive g columns col v lesser hn) (greatest_positive g columns col u uppers hu)
-    (narrowed_greatest g g columns col k (u ∷ uppers) (v ∷ lesser) p hu zu) hl zl
-
-pub neighbours_narrowed : (g : Gauge) (columns col : ℕ) (k r : ℤ) (lowers uppers fewer lesser : List Row) → pos 0 <ℤ k → (pos 2 *ℤ k) ≤ℤ r → All (IsLower g columns col) lowers → All (IsUpper g columns col) uppers → All (IsUpper g columns col) lesser
-    → AllZip (λ a b. IsLessened (k *ℤ coef_at a col) (coef_at b col)) lowers fewer → AllZip (λ a b. IsLessened (k *ℤ coef_at a col) (coef_at b col)) uppers lesser → splinter_bound true col fewer lesser ≤ℤ all_splinters col r lowers uppers
-neighbours_narrowed g columns col k r lowers [] fewer [] p l hl hu hn zl zu = omega (arith, linear)
-neighbours_narrowed g columns col k r lowers [] fewer (v ∷ lesser) p l hl hu hn zl zu = absurd zu
-neighbours_narrowed g columns col k r lowers (u ∷ uppers) fewer [] p l hl hu hn zl zu = absurd zu
-neighbours_narrowed g columns col k r lowers (u ∷ uppers) fewer (v ∷ lesser) p l hl hu hn zl zu =
-    neighbour_lowers g columns col k r (greatest_factor col (v ∷ lesser)) (greatest_factor col (u ∷ uppers)) lowers fewer p l (greatest_positive g columns col v lesser hn) (greatest_positive g columns col u uppers hu)
     (narrowed_greatest g g columns col k (u ∷ uppers) (v ∷ lesser) p hu zu) hl zl
 
 pub counted_narrowed : (g : Gauge) (columns col : ℕ) (k j r : ℤ) (lowers uppers fewer lesser : List Row) → pos 0 <ℤ k → pos 0 <ℤ j → (k *ℤ j) ≤ℤ r → All (IsLower g columns col) lowers → All (IsUpper g columns col) uppers → All (IsUpper g columns col) lesser
@@ -245,8 +235,8 @@ residue_units_positive g columns col p s q a =
     let more = all_splinters_not_negative g columns col p s.lowers s.uppers q a.lowers a.uppers in
     omega (arith, linear)
 
-pub residues_units_most : (g : Gauge) (columns col : ℕ) (p : ℤ) (s : Sides) → AreSided g columns col s → IsPeriod col s.not_divides p → (p *ℤ residue_units col p s) ≤ℤ residues_units col s
-residues_units_most g columns col p s a h =
+pub sides_units_most : (g : Gauge) (columns col : ℕ) (p : ℤ) (s : Sides) → AreSided g columns col s → IsPeriod col s.not_divides p → (p *ℤ residue_units col p s) ≤ℤ sides_units col s
+sides_units_most g columns col p s a h =
     let most = product_of_periods col s.not_divides in
     let q = h.positive in
     let l = h.small in
@@ -254,37 +244,14 @@ residues_units_most g columns col p s a h =
     let more = counted_narrowed g columns col (pos 1) p most s.lowers s.uppers s.lowers s.uppers (omega (arith, linear)) q (omega (arith, linear)) a.lowers a.uppers a.uppers (same_lessened col s.lowers) (same_lessened col s.uppers) in
     product_le p most (residue_units col p s) (residue_units col most s) (omega (arith, linear)) (omega (arith, linear)) l (omega (arith, linear))
 
-pub residue_cost : (g : Gauge) (columns col : ℕ) (p t : ℤ) (old new : Sides) → pos 0 <ℤ p → AreSided g columns col old → IsResidueOf g columns col p t old new → (pos 1 +ℤ shadow_units col new) ≤ℤ residue_units col p old
+pub residue_cost : (g : Gauge) (columns col : ℕ) (p t : ℤ) (old new : Sides) → pos 0 <ℤ p → AreSided g columns col old → IsResidueOf g columns col p t old new → (pos 1 +ℤ shadow_units (pos 0) col new) ≤ℤ residue_units col p old
 residue_cost g columns col p t old new q s r =
     let n = r.narrowed in
     let same = pairs_narrowed col p old.lowers old.uppers new.lowers new.uppers n.lowers n.uppers in
-    let none : nat_lt 0 (length new.not_divides) ≡ false = ap (λ (rows : List Row). nat_lt 0 (length rows)) r.not_divides in
     let few = plain_narrowed g columns col p p old.lowers old.uppers new.lowers new.uppers q (omega (arith, linear)) s.lowers s.uppers r.sided.uppers n.lowers n.uppers in
-    rw none (omega (arith, linear))
-
--- ---- products of moduli
-two_at_least : (k c : ℤ) → pos 0 <ℤ k → ¬ divide.Divides k c → pos 2 ≤ℤ k
-two_at_least k c p n = by (λ e. n (record { quotient = c; is = one k c e }))
-  where
-    one : (k c : ℤ) → k ≡ pos 1 → c ≡ k *ℤ c
-    one k c e = let e' = simp expand at (ap (λ z. z *ℤ c) e) in simp expand (omega (arith, linear))
-
-    by : k ≢ pos 1 → pos 2 ≤ℤ k
-    by e = grind (arith, linear)
-
-not_divides_positive : (g : Gauge) (columns col : ℕ) (rows : List Row) → All (IsNotDivides g columns col) rows → pos 0 <ℤ product_of_divisors rows
-not_divides_positive g columns col [] h = omega (arith, linear)
-not_divides_positive g columns col (r ∷ rows) h = positive-*ℤ r.k (product_of_divisors rows) (HasModulus-positive r.kind r.k (All-head (IsNotDivides g columns col) r rows h).proper.formed.modulus) (not_divides_positive g columns col rows (All-tail (IsNotDivides g columns col) r rows h))
-
-pub not_divides_two : (g : Gauge) (columns col : ℕ) (rows : List Row) → All (IsNotDivides g columns col) rows → 0 < length rows → pos 2 ≤ℤ product_of_divisors rows
-not_divides_two g columns col [] h n = absurd (omega arith)
-not_divides_two g columns col (r ∷ rows) h n =
-    let first = All-head (IsNotDivides g columns col) r rows h in
-    let two = two_at_least r.k (coef_at r col) (HasModulus-positive r.kind r.k first.proper.formed.modulus) first.depends in
-    let rest = not_divides_positive g columns col rows (All-tail (IsNotDivides g columns col) r rows h) in
-    let t = product_le (pos 2) r.k (pos 1) (product_of_divisors rows) (omega (arith, linear)) (omega (arith, linear)) two (omega (arith, linear)) in
     omega (arith, linear)
 
+-- ---- products of moduli
 modulus_positive : (asks : RowKind) (k c : ℤ) → HasModulus asks k → pos 0 <ℤ modulus_of asks k c
 modulus_positive kind.Zero k c h = omega (arith, linear)
 modulus_positive kind.AtLeast k c h = omega (arith, linear)
@@ -373,43 +340,8 @@ pub record IsStepped (g : Gauge) (columns col : ℕ) (r : ℤ) (old new : Sides)
   pub step : IsStepOf g columns col old new
   pub products : AreProducts (product_of_divisors old.divides) (product_of_divisors old.not_divides) r
 
-shadow_cost : (g : Gauge) (columns col : ℕ) (r : ℤ) (old new : Sides) (not_divides : List Row) → new.not_divides ≡ not_divides → IsStepped g columns col r old new → shadow_units col new ≤ℤ units_of_bounds col r old.lowers old.uppers
-shadow_cost g columns col r old new not_divides e s = at_least_once r (pairs old.lowers old.uppers) (all_splinters col r old.lowers old.uppers) (shadow_units col new) positive (pairs_not_negative old.lowers old.uppers) (all_splinters_not_negative g columns col r old.lowers old.uppers positive s.sided.lowers s.sided.uppers)
-    (let same = pairs_narrowed col s.step.k old.lowers old.uppers new.lowers new.uppers s.step.narrowed.lowers s.step.narrowed.uppers in
-    let few = bound not_divides e in
-    omega (arith, linear))
-  where
-    a : ℤ
-    a = product_of_divisors old.divides
-
-    b : ℤ
-    b = product_of_divisors old.not_divides
-
-    least : s.step.k ≤ℤ r
-    least = let f = s.products.first in let h = s.products.second in let t = *ℤ-≤ℤ a (pos 1) b (omega (arith, linear)) (omega (arith, linear)) in let u = s.products.small in let v = s.step.small in omega (arith, linear)
-
-    positive : pos 0 <ℤ r
-    positive = let f = s.step.positive in let l = least in omega (arith, linear)
-
-    twice : 0 < length new.not_divides → (pos 2 *ℤ s.step.k) ≤ℤ r
-    twice many =
-        let f = s.step.not_divides in
-        let two = not_divides_two g columns col old.not_divides s.sided.not_divides (omega arith) in
-        let h = s.products.first in
-        let t = product_le s.step.k a (pos 2) b (omega (arith, linear)) (omega (arith, linear)) s.step.small two in
-        let u = s.products.small in
-        omega (arith, linear)
-
-    bound : (not_divides : List Row) → new.not_divides ≡ not_divides → splinter_bound (nat_lt 0 (length new.not_divides)) col new.lowers new.uppers ≤ℤ all_splinters col r old.lowers old.uppers
-    bound [] e = rw e (plain_narrowed g columns col s.step.k r old.lowers old.uppers new.lowers new.uppers s.step.positive least s.sided.lowers s.sided.uppers s.step.sided.uppers s.step.narrowed.lowers s.step.narrowed.uppers)
-    bound (x ∷ not_divides) e =
-        let some : 0 < length new.not_divides = (let n = ap (λ (rows : List Row). length rows) e in omega arith) in
-        let many = twice some in
-        let yes : nat_lt 0 (length new.not_divides) ≡ true = grind arith in
-        rw yes (neighbours_narrowed g columns col s.step.k r old.lowers old.uppers new.lowers new.uppers s.step.positive many s.sided.lowers s.sided.uppers s.step.sided.uppers s.step.narrowed.lowers s.step.narrowed.uppers)
-
-residues_cost : (g : Gauge) (columns col : ℕ) (r : ℤ) (old new : Sides) → IsStepped g columns col r old new → residues_units col new ≤ℤ units_of_bounds col r old.lowers old.uppers
-residues_cost g columns col r old new s =
+pub step_cost : (g : Gauge) (columns col : ℕ) (r : ℤ) (old new : Sides) → IsStepped g columns col r old new → sides_units col new ≤ℤ units_of_bounds col r old.lowers old.uppers
+step_cost g columns col r old new s =
     let same = pairs_narrowed col s.step.k old.lowers old.uppers new.lowers new.uppers s.step.narrowed.lowers s.step.narrowed.uppers in
     let few = counted_narrowed g columns col s.step.k p r old.lowers old.uppers new.lowers new.uppers s.step.positive positive product s.sided.lowers s.sided.uppers s.step.sided.uppers s.step.narrowed.lowers s.step.narrowed.uppers in
     let old_pairs = pairs_not_negative old.lowers old.uppers in
@@ -440,15 +372,8 @@ residues_cost g columns col r old new s =
         let u = s.products.small in
         omega (arith, linear)
 
-pub step_cost : (g : Gauge) (columns col : ℕ) (r : ℤ) (old new : Sides) → IsStepped g columns col r old new → sides_units col new ≤ℤ units_of_bounds col r old.lowers old.uppers
-step_cost g columns col r old new s = by (nat_lt (length new.not_divides) 2) (shadow_cost g columns col r old new new.not_divides refl s) (residues_cost g columns col r old new s)
-  where
-    by : (b : Bool) → shadow_units col new ≤ℤ units_of_bounds col r old.lowers old.uppers → residues_units col new ≤ℤ units_of_bounds col r old.lowers old.uppers → cond b (shadow_units col new) (residues_units col new) ≤ℤ units_of_bounds col r old.lowers old.uppers
-    by true m n = m
-    by false m n = n
-
-pub residues_units_not_negative : (g : Gauge) (columns col : ℕ) (s : Sides) → AreSided g columns col s → pos 0 ≤ℤ residues_units col s
-residues_units_not_negative g columns col s a =
+pub sides_units_not_negative : (g : Gauge) (columns col : ℕ) (s : Sides) → AreSided g columns col s → pos 0 ≤ℤ sides_units col s
+sides_units_not_negative g columns col s a =
     let p = periods_positive col s.not_divides (λ i d j. let q = get_or s.not_divides i d in let h = a.not_divides i d j in (period_short (coef_at q col) q.k (HasModulus-positive q.kind q.k h.proper.formed.modulus)).positive) in
     let x = residue_units_positive g columns col (product_of_periods col s.not_divides) s p a in
     not_negative-*ℤ (product_of_periods col s.not_divides) (residue_units col (product_of_periods col s.not_divides) s) (omega (arith, linear)) (omega (arith, linear))
@@ -476,21 +401,31 @@ pairs_cost g columns col rows lowers uppers w hl hu =
     let s = all_splinters_not_negative g columns col r lowers uppers p hl hu in
     at_least_once r (pairs lowers uppers) (all_splinters col r lowers uppers) (pairs lowers uppers) p (pairs_not_negative lowers uppers) s (omega (arith, linear))
 
+-- with fewer neighbours than the product of the periods, a dark shadow costs no more than residues do
+pub shadow_in_sides : (g : Gauge) (columns col : ℕ) (neighbours : ℤ) (s : Sides) → AreSided g columns col s → neighbours <ℤ product_of_periods col s.not_divides
+    → shadow_units neighbours col s ≤ℤ sides_units col s
+shadow_in_sides g columns col neighbours s a less =
+    let k = product_of_periods col s.not_divides in
+    let p = periods_positive col s.not_divides (λ i d j. let q = get_or s.not_divides i d in let h = a.not_divides i d j in (period_short (coef_at q col) q.k (HasModulus-positive q.kind q.k h.proper.formed.modulus)).positive) in
+    let most = bound_scaled g columns col neighbours k s.lowers s.uppers less p a.lowers a.uppers in
+    at_least_once k (pairs s.lowers s.uppers) (all_splinters col k s.lowers s.uppers) (shadow_units neighbours col s) p (pairs_not_negative s.lowers s.uppers)
+    (all_splinters_not_negative g columns col k s.lowers s.uppers p a.lowers a.uppers) (omega (arith, linear))
+
 -- the dark shadow of sides with its splinters
-pub shadow_within : (g h : Gauge) (columns col : ℕ) (s : Sides) (dark_shadow : DarkShadow) → AreSided g columns col s → IsDarkShadowOf g columns col s dark_shadow → HasFewSplinters col s dark_shadow.tails.items
-    → IsChargedUpTo (pos (length s.lowers * length s.uppers)) g h → (pos h.units +ℤ splinter_count dark_shadow.tails.items) ≤ℤ (pos g.units +ℤ shadow_units col s)
-shadow_within g h columns col s dark_shadow a is few charged =
-    let most = tails_bounded g columns col s dark_shadow s.uppers refl a is few in
+pub shadow_within : (g h : Gauge) (columns col : ℕ) (neighbours : ℤ) (s : Sides) (dark_shadow : DarkShadow) → AreSided g columns col s → IsDarkShadowOf g columns col s dark_shadow → HasFewSplinters neighbours col s dark_shadow.tails.items
+    → IsChargedUpTo (pos (length s.lowers * length s.uppers)) g h → (pos h.units +ℤ splinter_count dark_shadow.tails.items) ≤ℤ (pos g.units +ℤ shadow_units neighbours col s)
+shadow_within g h columns col neighbours s dark_shadow a is few charged =
+    let most = tails_bounded g columns col neighbours s dark_shadow s.uppers refl a is few in
     let own = charged.most in
     omega (arith, linear)
 
-pub shadow_cut : (g h : Gauge) (columns col : ℕ) (s : Sides) (cut : Cut) → AreSided g columns col s → IsCutUpTo (pos (length s.lowers * length s.uppers)) g h cut → IsCutUpTo (shadow_units col s) g h cut
-shadow_cut g h columns col s cut a own =
-    let more = bound_not_negative g columns col (nat_lt 0 (length s.not_divides)) s.lowers s.uppers a.lowers a.uppers in
-    cut_weaker (pos (length s.lowers * length s.uppers)) (shadow_units col s) g h cut (omega (arith, linear)) own
+pub shadow_cut : (g h : Gauge) (columns col : ℕ) (neighbours : ℤ) (s : Sides) (cut : Cut) → pos 0 ≤ℤ neighbours → AreSided g columns col s → IsCutUpTo (pos (length s.lowers * length s.uppers)) g h cut → IsCutUpTo (shadow_units neighbours col s) g h cut
+shadow_cut g h columns col neighbours s cut q a own =
+    let more = bound_not_negative g columns col neighbours s.lowers s.uppers q a.lowers a.uppers in
+    cut_weaker (pos (length s.lowers * length s.uppers)) (shadow_units neighbours col s) g h cut (omega (arith, linear)) own
 
 -- the pairs alone are no more
-pub pairs_first : (g : Gauge) (columns col : ℕ) (s : Sides) → AreSided g columns col s → pos (length s.lowers * length s.uppers) ≤ℤ shadow_units col s
-pairs_first g columns col s a =
-    let more = bound_not_negative g columns col (nat_lt 0 (length s.not_divides)) s.lowers s.uppers a.lowers a.uppers in
+pub pairs_first : (g : Gauge) (columns col : ℕ) (neighbours : ℤ) (s : Sides) → pos 0 ≤ℤ neighbours → AreSided g columns col s → pos (length s.lowers * length s.uppers) ≤ℤ shadow_units neighbours col s
+pairs_first g columns col neighbours s q a =
+    let more = bound_not_negative g columns col neighbours s.lowers s.uppers q a.lowers a.uppers in
     omega (arith, linear)

@@ -1,5 +1,5 @@
 -- public: the dark shadow of rows, which is without the column, and splinters: what a number at the column meets beside it. (Pugh, the Omega test)
-use Rattle.std.specs.Prelude.{◌≡◌, ◌≢◌, ◌↔◌, ◌⊎◌, Bool, true, false, map, nat_lt, ℕ, ◌-◌, ℤ, pos, negsuc, neg_ℤ, ◌+ℤ◌, ◌-ℤ◌, ◌≤ℤ◌, ◌<ℤ◌, List, [], ◌∷◌, ◌++◌, length, All, Any, Option, None, MatchOption, IfSome}
+use Rattle.std.specs.Prelude.{◌≡◌, ◌↔◌, ◌⊎◌, map, ℕ, ◌-◌, ℤ, pos, negsuc, neg_ℤ, ◌+ℤ◌, ◌-ℤ◌, ◌*ℤ◌, ◌≤ℤ◌, ◌<ℤ◌, List, [], ◌∷◌, ◌++◌, length, All, Any, Option, None, MatchOption, IfSome}
 use Rattle.std.specs.List.{insert}
 use Rattle.isl_meter.specs.Gauge.{Gauge, IsWithin}
 use Rattle.isl_piece.specs.declared.row.Row.{Row}
@@ -52,9 +52,9 @@ splinter_count (t ∷ tails) = (t.last +ℤ pos 1) +ℤ splinter_count tails
 abbrev pub rows_of : Sides → List Row
 rows_of sides = ((sides.lowers ++ sides.uppers) ++ sides.not_divides) ++ sides.free
 
--- an upper bound that holds with x at the column where the old one holds with x + 1 too
-abbrev pub shifted_row : ℕ → Row → Row
-shifted_row col u = record { kind = u.kind; coefs = u.coefs; constant = u.constant -ℤ neg_ℤ (coef_at u col); k = u.k }
+-- an upper bound that holds with x at the column where the old one holds with so many whole numbers behind x too
+abbrev pub shifted_row : ℤ → ℕ → Row → Row
+shifted_row neighbours col u = record { kind = u.kind; coefs = u.coefs; constant = u.constant -ℤ neighbours *ℤ neg_ℤ (coef_at u col); k = u.k }
 
 -- some x at the column makes the rows hold, with the value i of the bound
 abbrev pub HasValue : List Row → ℕ → Row → ℤ → List ℤ → Type 0
@@ -90,24 +90,24 @@ abbrev pub IsNoDarkShadow : ℕ → ℕ → DarkShadow → Type 0
 IsNoDarkShadow columns col dark_shadow = (point : List ℤ) → length point ≡ columns - 1 → ¬ HoldsDarkShadow dark_shadow col point
 
 -- ---- how many splinters bounds ask for
--- the splinters of lower bounds under a greatest upper factor m
-abbrev pub splinter_total : Bool → ℤ → ℕ → List Row → ℤ
+-- the splinters of lower bounds under a greatest upper factor m, further for each neighbour
+abbrev pub splinter_total : ℤ → ℤ → ℕ → List Row → ℤ
 splinter_total neighbours m col [] = pos 0
-splinter_total neighbours m col (l ∷ lowers) = (splinters (coef_at l col) m +ℤ neighbour_splinters neighbours (coef_at l col)) +ℤ splinter_total neighbours m col lowers
+splinter_total neighbours m col (l ∷ lowers) =
+    (splinters (coef_at l col) m +ℤ neighbour_splinters neighbours (coef_at l col)) +ℤ splinter_total neighbours m col lowers
 
 -- the tails have no more splinters than the bounds ask for
-abbrev pub HasFewSplinters : ℕ → Sides → List Splinters → Type 0
-HasFewSplinters col sides tails =
-    (m : ℤ) → pos 0 <ℤ m → All (λ u. neg_ℤ (coef_at u col) ≤ℤ m) sides.uppers → splinter_count tails ≤ℤ splinter_total (nat_lt 0 (length sides.not_divides)) m col sides.lowers
+abbrev pub HasFewSplinters : ℤ → ℕ → Sides → List Splinters → Type 0
+HasFewSplinters neighbours col sides tails =
+    (m : ℤ) → pos 0 <ℤ m → All (λ u. neg_ℤ (coef_at u col) ≤ℤ m) sides.uppers → splinter_count tails ≤ℤ splinter_total neighbours m col sides.lowers
 
 -- ---- what the code makes
--- the dark rows of the sides' bounds, and a tail for each lower bound: of the shifted upper bounds where a modulus must not divide a row
-abbrev pub AreShadowsOf : Gauge → ℕ → ℕ → Sides → List Row → List Splinters → Type 0
-AreShadowsOf g columns col sides rows tails =
-    (sides.not_divides ≡ [] → IsShadow g columns col false sides.lowers sides.uppers rows tails)
-    × (sides.not_divides ≢ [] → All (IsUpper g columns col) (map (shifted_row col) sides.uppers)
-    × IsShadow g columns col true sides.lowers (map (shifted_row col) sides.uppers) rows tails)
+-- the dark rows of the lower bounds with the shifted upper bounds, and a tail for each lower bound
+pub record AreShadowsOf (g : Gauge) (columns col : ℕ) (neighbours : ℤ) (sides : Sides) (rows : List Row) (tails : List Splinters) : Type 0 where
+  pub uppers : All (IsUpper g columns col) (map (shifted_row neighbours col) sides.uppers)
+  pub shadow : IsShadow g columns col neighbours sides.lowers (map (shifted_row neighbours col) sides.uppers) rows tails
 
 -- a dark shadow of the sides, with no more splinters than the bounds ask for
-abbrev pub IsDarkShadowWithFewSplinters : Gauge → ℕ → ℕ → Sides → DarkShadow → Type 0
-IsDarkShadowWithFewSplinters g columns col sides dark_shadow = IsDarkShadowOf g columns col sides dark_shadow × HasFewSplinters col sides dark_shadow.tails.items
+abbrev pub IsDarkShadowWithFewSplinters : Gauge → ℕ → ℕ → ℤ → Sides → DarkShadow → Type 0
+IsDarkShadowWithFewSplinters g columns col neighbours sides dark_shadow =
+    IsDarkShadowOf g columns col sides dark_shadow × HasFewSplinters neighbours col sides dark_shadow.tails.items

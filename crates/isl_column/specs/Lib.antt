@@ -3,6 +3,7 @@ pub mod DarkShadow
 pub mod Exact
 pub mod Magnitude
 pub mod Mirror
+pub mod Neighbours
 pub mod Parts
 pub mod RealShadow
 pub mod Residue

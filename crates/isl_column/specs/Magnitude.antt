@@ -1,6 +1,6 @@
 -- public: where elimination never passes the limit of 127 bits: small numbers, and at most one congruence on the column. (Pugh, the Omega test; the
 -- bound is this project's own)
-use Rattle.std.specs.Prelude.{◌≡◌, Bool, false, not, ℕ, ◌^◌, ◌≤◌, ℤ, pos, List, All, filter, length, unsigned_abs, Result}
+use Rattle.std.specs.Prelude.{◌≡◌, Bool, false, not, ℕ, ◌≤◌, ℤ, pos, List, All, filter, length, unsigned_abs, Result}
 use Rattle.std.specs.Ordering.{int_eq}
 use Rattle.isl_meter.specs.Gauge.{Gauge}
 use Rattle.isl_meter.specs.declared.Cut.{Cut}

@@ -1,5 +1,5 @@
 -- inner: bounds with the column negated: an x at the column becomes -x, so that lower bounds become upper ones. (Pugh, the Omega test)
-use Rattle.std.specs.Prelude.{ℕ, ℤ, pos, neg_ℤ, ◌≤ℤ◌, ◌<ℤ◌, List, All, map, slice_set, false}
+use Rattle.std.specs.Prelude.{ℕ, ℤ, pos, neg_ℤ, ◌≤ℤ◌, ◌<ℤ◌, List, All, map, slice_set}
 use Rattle.isl_piece.specs.declared.row.Row.{Row}
 use Rattle.isl_piece.specs.Row.{coef_at}
 use Rattle.isl_column.specs.DarkShadow.{splinter_total}
@@ -25,4 +25,4 @@ pub record AskForFewer (col : ℕ) (lowers uppers : List Row) : Type 0 where
   pub positive : pos 0 <ℤ factor
   pub greatest : All (λ l. coef_at l col ≤ℤ factor) lowers
   pub fewer : (m : ℤ) → pos 0 <ℤ m → All (λ u. neg_ℤ (coef_at u col) ≤ℤ m) uppers
-      → splinter_total false factor col (map (mirrored_row col) uppers) ≤ℤ splinter_total false m col lowers
+      → splinter_total (pos 0) factor col (map (mirrored_row col) uppers) ≤ℤ splinter_total (pos 0) m col lowers

@@ -1,5 +1,5 @@
 -- public: several rows of one column that moduli must not divide: what they say of a number depends on its residue alone. (Pugh, the Omega test)
-use Rattle.std.specs.Prelude.{◌≡◌, ◌↔◌, Bool, if◌then◌else◌, nat_lt, ℕ, ◌-◌, ℤ, pos, ◌+ℤ◌, ◌-ℤ◌, ◌*ℤ◌, ◌≤ℤ◌, ◌<ℤ◌, List, [], ◌∷◌, length, All}
+use Rattle.std.specs.Prelude.{◌≡◌, ◌↔◌, ℕ, ◌-◌, ℤ, pos, ◌+ℤ◌, ◌-ℤ◌, ◌*ℤ◌, ◌≤ℤ◌, ◌<ℤ◌, List, [], ◌∷◌, length, All}
 use Rattle.isl_math.specs.Divide as divide
 use Rattle.isl_meter.specs.Gauge.{Gauge}
 use Rattle.isl_piece.specs.declared.row.Row.{Row}
@@ -50,19 +50,15 @@ pub record IsResidueOf (g : Gauge) (columns col : ℕ) (p t : ℤ) (old new : Si
   pub narrowed : HasFactorsUpTo col p old new
 
 -- ---- units
--- the splinters of sides, with a neighbour's step or without: none where there is no upper bound
-abbrev pub splinter_bound : Bool → ℕ → List Row → List Row → ℤ
+-- the splinters of sides, further for each neighbour: none where there is no upper bound
+abbrev pub splinter_bound : ℤ → ℕ → List Row → List Row → ℤ
 splinter_bound neighbours col lowers [] = pos 0
 splinter_bound neighbours col lowers (u ∷ uppers) = splinter_total neighbours (greatest_factor col (u ∷ uppers)) col lowers
 
--- the units for sides with at most one row that a modulus must not divide
-abbrev pub shadow_units : ℕ → Sides → ℤ
-shadow_units col sides = pairs sides.lowers sides.uppers +ℤ splinter_bound (nat_lt 0 (length sides.not_divides)) col sides.lowers sides.uppers
+-- the units for a dark shadow of sides with so many neighbours
+abbrev pub shadow_units : ℤ → ℕ → Sides → ℤ
+shadow_units neighbours col sides = pairs sides.lowers sides.uppers +ℤ splinter_bound neighbours col sides.lowers sides.uppers
 
--- the units for several such rows
-abbrev pub residues_units : ℕ → Sides → ℤ
-residues_units col sides = let p = product_of_periods col sides.not_divides in p *ℤ residue_units col p sides
-
--- the units for sides without congruences
+-- the most units for sides without congruences: those for each residue of the periods of the rows that moduli must not divide
 abbrev pub sides_units : ℕ → Sides → ℤ
-sides_units col sides = if nat_lt (length sides.not_divides) 2 then shadow_units col sides else residues_units col sides
+sides_units col sides = let p = product_of_periods col sides.not_divides in p *ℤ residue_units col p sides

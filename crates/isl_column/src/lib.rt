@@ -7,6 +7,7 @@ mod eliminate;
 mod equality;
 mod exact;
 mod mirror;
+mod neighbours;
 mod parts;
 mod real;
 mod residue;

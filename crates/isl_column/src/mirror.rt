@@ -1,6 +1,6 @@
 //! The column negated, where its upper bounds ask for fewer splinters than the lower ones.
 
-ghost use Rattle.std.specs.Prelude.{◌≡◌, ◌<ℤ◌, ◌≤ℤ◌, pos, ℤ, false, All, IfOk, IsTrue, MatchResult, map};
+ghost use Rattle.std.specs.Prelude.{◌≡◌, ◌<ℤ◌, ◌≤ℤ◌, pos, ℤ, All, IfOk, IsTrue, MatchResult, map};
 ghost use Rattle.isl_math.specs.Order.{abs_of};
 ghost use Rattle.isl_meter.specs.Gauge.{IsWithin};
 ghost use Rattle.isl_piece.specs.Row.{coef_at};
@@ -55,7 +55,7 @@ fn most_splinters(
     requires lowers { All (IsLower meter.old column.columns column.at) lowers.now }
     requires greatest { pos 0 <ℤ greatest }
     ensures { MatchResult result
-        (λ most. (most ≤ℤ splinter_total false greatest column.at lowers.now) × (pos 0 ≤ℤ most) × IsWithin meter.old most
+        (λ most. (most ≤ℤ splinter_total (pos 0) greatest column.at lowers.now) × (pos 0 ≤ℤ most) × IsWithin meter.old most
         × (meter.new ≡ meter.old)) (λ _. ⊥) }
 {
     let mut most = Int::ZERO;
@@ -80,7 +80,7 @@ fn ask_for_at_most(
     requires greatest { pos 0 <ℤ greatest }
     requires most { (pos 0 ≤ℤ most) × IsWithin meter.old most }
     ensures { MatchResult result
-        (λ few. (IsTrue few → splinter_total false greatest column.at (map (mirrored_row column.at) uppers.now) ≤ℤ most)
+        (λ few. (IsTrue few → splinter_total (pos 0) greatest column.at (map (mirrored_row column.at) uppers.now) ≤ℤ most)
         × (meter.new ≡ meter.old)) (λ _. ⊥) }
 {
     let mut left = most;

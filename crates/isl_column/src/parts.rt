@@ -18,6 +18,7 @@ ghost use Rattle.isl_column.specs.Units.{elimination_units};
 use crate::dark_shadow::DarkShadow;
 use crate::equality::{equality_at, solved_left};
 use crate::exact::{exact_left, is_exact};
+use crate::neighbours::neighbours_of;
 use crate::residue::Residues;
 use crate::splinters::are_spent;
 use isl_meter::{Cut, Meter};
@@ -123,8 +124,9 @@ impl Parts {
         ensures pairs { IfOk result (λ parts.
             meter.old.units + length sides.lowers * length sides.uppers ≤ meter.new.units + least_units parts) }
     {
-        if sides.not_divides.len() < 2 {
-            let dark_shadow = DarkShadow::of(alloc, &sides, column, meter)?;
+        let rows = sides.not_divides.as_slice();
+        if let Some(neighbours) = neighbours_of(alloc, rows, column, meter)? {
+            let dark_shadow = DarkShadow::of(alloc, &sides, neighbours, column, meter)?;
             return Ok(Parts {
                 column,
                 dark_shadow,

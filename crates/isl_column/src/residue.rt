@@ -30,8 +30,8 @@ fn common_multiple(a: Int, b: Int, meter: &mut Meter) -> Result<Int, Overflow>
     Ok(multiple)
 }
 
-// The period of one row.
-fn period_of(row: &Row, column: Column, meter: &Meter) -> Int
+/// The period of one row.
+pub(crate) fn period_of(row: &Row, column: Column, meter: &Meter) -> Int
     requires not_divides { IsNotDivides meter.now column.columns column.at row.now }
     ensures value { result ≡ period column.at row.now }
     ensures positive { pos 0 <ℤ result }
@@ -125,7 +125,7 @@ impl Residues {
         meter.unit()?;
         let rest = self.left.sub(Int::ONE, meter)?;
         let sides = self.residue(alloc, rest, column, meter)?;
-        let dark_shadow = DarkShadow::of(alloc, &sides, column, meter)?;
+        let dark_shadow = DarkShadow::of(alloc, &sides, Int::ZERO, column, meter)?;
         self.left = rest;
         Ok(dark_shadow)
     }

@@ -1,9 +1,8 @@
-use Rattle.std.proofs.Common.{◌≡◌, ◌++◌, ◌∷◌, [], take, length, ap, ◌∙◌, sym, pos, neg_ℤ, ◌-ℤ◌, ◌≤ℤ◌, ◌<◌, ◌+◌, false, arith}
+use Rattle.std.proofs.Common.{◌≡◌, ◌++◌, ◌∷◌, [], take, length, ap, ◌∙◌, sym, pos, neg_ℤ, ◌-ℤ◌, ◌≤ℤ◌, ◌<◌, ◌+◌, arith}
 use Rattle.std.proofs.lemmas.Grind.{common_steps}
 use Rattle.std.proofs.lemmas.List.{take_more}
 use Rattle.isl_piece.specs.declared.row.Row.{Row}
 use Rattle.isl_piece.specs.Row.{coef_at}
-use Rattle.isl_meter.specs.Gauge.{IsWithin}
 use Rattle.isl_omega.specs.Shadow.{splinters}
 use Rattle.isl_omega.specs.Sides.{IsUpper}
 use Rattle.isl_column.proofs.MirrorLaws.{left_more, less_within}

@@ -1,4 +1,4 @@
-use Rattle.std.proofs.Common.{◌≡◌, pos, ◌≤ℤ◌, ◌+ℤ◌, take, map, false}
+use Rattle.std.proofs.Common.{◌≡◌, pos, ◌≤ℤ◌, ◌+ℤ◌, take, map}
 use Rattle.isl_meter.specs.Gauge.{IsWithin}
 use Rattle.isl_column.specs.DarkShadow.{splinter_total}
 use Rattle.isl_column.specs.Mirror.{mirrored_row}
@@ -6,5 +6,5 @@ use Rattle.isl_column.proofs.mirror.ask_for_at_most.Given as goal
 
 abbrev pub invariant-loop-upper : goal.invariant-loop-upper
 invariant-loop-upper l =
-    ((splinter_total false l.greatest l.column.at (map (mirrored_row l.column.at) (take l.upper-index l.uppers)) +ℤ l.left) ≤ℤ l.fn.most)
+    ((splinter_total (pos 0) l.greatest l.column.at (map (mirrored_row l.column.at) (take l.upper-index l.uppers)) +ℤ l.left) ≤ℤ l.fn.most)
     × (pos 0 ≤ℤ l.left) × IsWithin l.fn.meter l.left × (l.meter ≡ l.fn.meter)

@@ -1,4 +1,4 @@
-use Rattle.std.proofs.Common.{◌≡◌, sym, subst, Bool, IsTrue, false, map, pos, ◌<ℤ◌, ◌≤ℤ◌, List, arith}
+use Rattle.std.proofs.Common.{◌≡◌, sym, subst, IsTrue, map, pos, ◌<ℤ◌, ◌≤ℤ◌, List, arith}
 use Rattle.std.specs.List.{All}
 use Rattle.std.proofs.lemmas.Grind.{common_steps}
 use Rattle.isl_math.specs.Order.{abs_of}
@@ -23,15 +23,15 @@ returns c =
     let lowers : c.as_slice.result.now ≡ sides.lowers = grind arith in
     let uppers : c.as_slice-2.result.now ≡ sides.uppers = grind arith in
     let again : c.as_slice-4.result.now ≡ sides.uppers = grind arith in
-    let many : most ≤ℤ splinter_total false b at sides.lowers = grind (arith, common_steps) in
+    let many : most ≤ℤ splinter_total (pos 0) b at sides.lowers = grind (arith, common_steps) in
     let same : c.most_splinters.new.meter ≡ g = grind (arith, common_steps) in
     let greatest = subst (All (λ r. abs_of (coef_at r at) ≤ℤ a)) lowers c.greatest_factor-of_lowers.ensures.greatest in
-    sure_more (λ few. (IsTrue few → splinter_total false a at (map (mirrored_row at) c.as_slice-4.result.now) ≤ℤ most) × (new ≡ c.most_splinters.new.meter))
+    sure_more (λ few. (IsTrue few → splinter_total (pos 0) a at (map (mirrored_row at) c.as_slice-4.result.now) ≤ℤ most) × (new ≡ c.most_splinters.new.meter))
     (λ few. (IsTrue few → AskForFewer at sides.lowers sides.uppers) × (new ≡ g)) c.ask_for_at_most.result
     (λ few h. (
       (λ yes. fewer_from g c.args.column.columns at sides a b most c.requires.sided p q greatest
           (λ m r u. c.greatest_factor-of_uppers.ensures.least m r (subst (All (λ r. abs_of (coef_at r at) ≤ℤ m)) (sym uppers) u)) many
-          (subst (λ (rows : List Row). splinter_total false a at (map (mirrored_row at) rows) ≤ℤ most) again (h.0 yes))),
+          (subst (λ (rows : List Row). splinter_total (pos 0) a at (map (mirrored_row at) rows) ≤ℤ most) again (h.0 yes))),
       rw (h.1) same,
     ))
     c.ask_for_at_most.ensures

@@ -1,4 +1,4 @@
-use Rattle.std.proofs.Common.{◌≡◌, ℤ, pos, ◌≤ℤ◌, take}
+use Rattle.std.proofs.Common.{ℤ, pos, ◌≤ℤ◌, take}
 use Rattle.std.specs.List.{All}
 use Rattle.isl_math.specs.Order.{abs_of}
 use Rattle.isl_piece.specs.Row.{coef_at}

@@ -1,5 +1,4 @@
-use Rattle.std.proofs.Common.{◌≡◌, ◌++◌, ◌∷◌, [], take, length, ap, ◌∙◌, sym, pos, ◌≤ℤ◌, ◌<◌, ◌+◌, inl, inr, false, arith}
-use Rattle.std.specs.List.{All}
+use Rattle.std.proofs.Common.{◌≡◌, ◌++◌, ◌∷◌, [], take, length, ap, ◌∙◌, sym, pos, ◌≤ℤ◌, ◌<◌, ◌+◌, inl, inr, arith}
 use Rattle.std.proofs.lemmas.Grind.{common_steps}
 use Rattle.std.proofs.lemmas.List.{take_more}
 use Rattle.std.proofs.lemmas.List.Elements.{All-take}
@@ -8,7 +7,6 @@ use Rattle.isl_piece.specs.Row.{coef_at}
 use Rattle.isl_meter.specs.Gauge.{IsWithin}
 use Rattle.isl_omega.specs.Shadow.{splinters}
 use Rattle.isl_omega.specs.Sides.{IsLower}
-use Rattle.isl_column.specs.DarkShadow.{splinter_total}
 use Rattle.isl_column.proofs.MirrorLaws.{most_more}
 use Rattle.isl_column.proofs.mirror.most_splinters.Goals as goal
 use Rattle.isl_column.proofs.mirror.most_splinters.Goals.{then-lt, else-lt}

@@ -1,4 +1,4 @@
-use Rattle.std.proofs.Common.{◌≡◌, ◌+◌, ◌*◌, length, pos, refl, arith}
+use Rattle.std.proofs.Common.{◌≡◌, ◌+◌, ◌*◌, length, pos, [], refl, arith}
 use Rattle.std.proofs.lemmas.Grind.{common_steps}
 use Rattle.isl_math.proofs.Ring.{linear}
 use Rattle.isl_meter.specs.declared.Cut.TheVariants.{Budget, Overflow}
@@ -8,6 +8,7 @@ use Rattle.isl_omega.proofs.ExactUnits.{charged_up_to}
 use Rattle.isl_column.specs.DarkShadow.{IsDarkShadowOf, HasFewSplinters}
 use Rattle.isl_column.specs.Residue.{IsResidueOf, shadow_units, residue_units}
 use Rattle.isl_column.proofs.ResidueLemmas.{residue_kept}
+use Rattle.isl_column.proofs.SearchLemmas.{met_none}
 use Rattle.isl_column.proofs.SplinterLemmas.{shadow_kept}
 use Rattle.isl_column.proofs.UnitLemmas.{residue_cost, residue_units_positive, shadow_within, shadow_cut, pairs_first, pairs_kept}
 use Rattle.isl_column.proofs.residue.Residues.shadow.Goals as goal
@@ -60,7 +61,7 @@ returns-in_err-dark_shadow-clause-exact c =
     let is : IsResidueOf h c.args.column.columns c.args.column.at r.period t r.sides s = grind arith in
     let own : IsCutUpTo (pos (length s.lowers * length s.uppers)) h k e = grind arith in
     let cost = residue_cost g c.args.column.columns c.args.column.at r.period t r.sides s c.requires.residues.period.positive c.requires.residues.sided (residue_kept g h c.args.column.columns c.args.column.at r.period t r.sides s (charged_bits (pos 1) g h charged) is) in
-    let cut = cut_within (shadow_units c.args.column.at s) (pos 1) (residue_units c.args.column.at r.period r.sides) g h k e cost charged (shadow_cut h k c.args.column.columns c.args.column.at s e is.sided own) in
+    let cut = cut_within (shadow_units (pos 0) c.args.column.at s) (pos 1) (residue_units c.args.column.at r.period r.sides) g h k e cost charged (shadow_cut h k c.args.column.columns c.args.column.at (pos 0) s e (omega (arith, linear)) is.sided own) in
     grind arith
 
 pub returns-clause-exact : goal.returns-clause-exact
@@ -77,10 +78,10 @@ returns-clause-exact c =
     let bits = charged_bits (pos 1) g h charged in
     let is : IsResidueOf h c.args.column.columns c.args.column.at r.period t r.sides s = grind arith in
     let made : IsDarkShadowOf h c.args.column.columns c.args.column.at s dark_shadow = grind arith in
-    let few : HasFewSplinters c.args.column.at s dark_shadow.tails.items = grind arith in
+    let few : HasFewSplinters (pos 0) c.args.column.at s dark_shadow.tails.items = grind arith in
     let own : IsChargedUpTo (pos n) h k = charged_up_to n h k (grind arith) in
     let cost = residue_cost g c.args.column.columns c.args.column.at r.period t r.sides s c.requires.residues.period.positive c.requires.residues.sided (residue_kept g h c.args.column.columns c.args.column.at r.period t r.sides s bits is) in
-    let pairs = pairs_first h c.args.column.columns c.args.column.at s is.sided in (
+    let pairs = pairs_first h c.args.column.columns c.args.column.at (pos 0) s (omega (arith, linear)) is.sided in (
       record {
         shadow = shadow_kept g h c.args.column.columns c.args.column.at dark_shadow bits made.is_dark_shadow;
         points = λ point l. let x = is.points point l in let y = made.points point l in ((λ z. x.0 (y.1 z)), (λ z. y.0 (x.1 z)));
@@ -103,10 +104,10 @@ returns-clause-units c =
     let charged : IsChargedUpTo (pos 1) g h = charged_unit (pos 0) g g h (charged_same g g refl) (grind arith) in
     let is : IsResidueOf h c.args.column.columns c.args.column.at r.period t r.sides s = grind arith in
     let made : IsDarkShadowOf h c.args.column.columns c.args.column.at s dark_shadow = grind arith in
-    let few : HasFewSplinters c.args.column.at s dark_shadow.tails.items = grind arith in
+    let few : HasFewSplinters (pos 0) c.args.column.at s dark_shadow.tails.items = grind arith in
     let own : IsChargedUpTo (pos (length s.lowers * length s.uppers)) h k = charged_up_to (length s.lowers * length s.uppers) h k (grind arith) in
     let cost = residue_cost g c.args.column.columns c.args.column.at r.period t r.sides s c.requires.residues.period.positive c.requires.residues.sided (residue_kept g h c.args.column.columns c.args.column.at r.period t r.sides s (charged_bits (pos 1) g h charged) is) in
-    let most = shadow_within h k c.args.column.columns c.args.column.at s dark_shadow is.sided made few own in
+    let most = shadow_within h k c.args.column.columns c.args.column.at (pos 0) s dark_shadow is.sided made few own in
     let one = charged.most in
     omega (arith, linear)
 
@@ -123,3 +124,9 @@ returns-clause-used c =
     let own : k.units ≡ h.units + length s.lowers * length s.uppers = grind arith in
     let unit : h.units ≡ g.units + 1 = grind arith in
     omega arith
+
+pub of-requires-clause-not_divides : goal.of-requires-clause-not_divides
+of-requires-clause-not_divides c =
+    let s = c.in_ok-sides.sides in
+    let none : s.not_divides ≡ [] = grind arith in
+    rw none (met_none c.args.column.columns c.args.column.at)
