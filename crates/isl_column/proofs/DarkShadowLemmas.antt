@@ -63,11 +63,14 @@ dark_meets g columns col lowers uppers point hl hu l n d =
     (All-map (λ b. All (IsDark b) (upper_bounds col point uppers)) (lower_at col point) lowers (λ k z i. All-map (IsDark (lower_at col point (get_or lowers k z))) (upper_at col point) uppers (d k z i))) in
     (s.0, (lowers_meet g columns col lowers point s.0 hl l n).1 s.1, (uppers_meet g columns col uppers point s.0 hu l n).1 s.2)
 
-shadow_holds : (g : Gauge) (columns col : ℕ) (neighbours : ℤ) (lowers uppers rows : List Row) (tails : List Splinters) (point : List ℤ) (x y : ℤ) → col < columns → length point ≡ columns - 1 → IsShadow g columns col neighbours lowers uppers rows tails → HoldAt rows col point x → HoldAt rows col point y
+shadow_holds : (g : Gauge) (columns col : ℕ) (neighbours : ℤ) (lowers uppers rows : List Row) (tails : List Splinters) (point : List ℤ) (x y : ℤ)
+    → col < columns → length point ≡ columns - 1 → IsShadow g columns col neighbours lowers uppers rows tails → HoldAt rows col point x
+    → HoldAt rows col point y
 shadow_holds g columns col neighbours lowers uppers rows tails point x y l n s a = hold_anywhere columns col rows point x y l n (All-weaker (IsProper g columns) (IsWellFormed columns) (λ r p. p.formed) rows s.proper) s.free a
 
 -- ---- bounds on both sides
-pub not_divides_holds : (g : Gauge) (columns col : ℕ) (r : Row) (point : List ℤ) (x : ℤ) → IsNotDivides g columns col r → col < columns → length point ≡ columns - 1 → HoldsRow r (insert point col x) ↔ (¬ divide.Divides r.k (coef_at r col *ℤ x +ℤ rest_at r col point))
+pub not_divides_holds : (g : Gauge) (columns col : ℕ) (r : Row) (point : List ℤ) (x : ℤ) → IsNotDivides g columns col r → col < columns
+    → length point ≡ columns - 1 → HoldsRow r (insert point col x) ↔ (¬ divide.Divides r.k (coef_at r col *ℤ x +ℤ rest_at r col point))
 not_divides_holds g columns col r point x h l n =
     let v = value_at-insert r col point x (let w = h.proper.formed.width in omega arith) (omega arith) in
     rw (← v) (by r.kind r.k (value_at r (insert point col x)) h.kind)
@@ -76,7 +79,8 @@ not_divides_holds g columns col r point x h l n =
     by asks k z e = rw e ((λ m. m), (λ m. m))
 
 -- what one more neighbour takes from an upper bound
-shifted_at : (neighbours : ℤ) (col : ℕ) (point : List ℤ) (u : Row) → upper_at col point (shifted_row neighbours col u) ≡ shifted neighbours (upper_at col point u)
+shifted_at : (neighbours : ℤ) (col : ℕ) (point : List ℤ) (u : Row)
+    → upper_at col point (shifted_row neighbours col u) ≡ shifted neighbours (upper_at col point u)
 shifted_at neighbours col point u = ap (λ (z : ℤ). let b : Bound = record { factor = neg_ℤ (coef_at u col); rest = z } in b)
     (by (dot (remove u.coefs col) point) u.constant (neighbours *ℤ neg_ℤ (coef_at u col)))
   where
@@ -92,7 +96,8 @@ shifted_none col (u ∷ rows) = ap (λ (z : ℤ). let r : Row = record { kind = 
     by : (c f : ℤ) → c -ℤ pos 0 *ℤ f ≡ c
     by c f = omega (arith, linear)
 
-pub shifted_upper : (g : Gauge) (columns : ℕ) (neighbours : ℤ) (col : ℕ) (rows : List Row) → All (IsUpper g columns col) rows → All (IsRowWithin g) (map (shifted_row neighbours col) rows) → All (IsUpper g columns col) (map (shifted_row neighbours col) rows)
+pub shifted_upper : (g : Gauge) (columns : ℕ) (neighbours : ℤ) (col : ℕ) (rows : List Row) → All (IsUpper g columns col) rows
+    → All (IsRowWithin g) (map (shifted_row neighbours col) rows) → All (IsUpper g columns col) (map (shifted_row neighbours col) rows)
 shifted_upper g columns neighbours col rows h w = All-map-with (IsRowWithin g) (IsUpper g columns col) (shifted_row neighbours col) rows
     (λ k d i v. record {
       proper = record { formed = record { width = (h k d i).proper.formed.width; modulus = (h k d i).proper.formed.modulus }; within = v };
@@ -102,7 +107,8 @@ shifted_upper g columns neighbours col rows h w = All-map-with (IsRowWithin g) (
     w
 
 -- the shifted bounds hold where their bounds are met by the last neighbour
-shifted_meet : (g : Gauge) (columns : ℕ) (neighbours : ℤ) (col : ℕ) (rows : List Row) (point : List ℤ) (x : ℤ) → All (IsUpper g columns col) (map (shifted_row neighbours col) rows) → col < columns → length point ≡ columns - 1
+shifted_meet : (g : Gauge) (columns : ℕ) (neighbours : ℤ) (col : ℕ) (rows : List Row) (point : List ℤ) (x : ℤ)
+    → All (IsUpper g columns col) (map (shifted_row neighbours col) rows) → col < columns → length point ≡ columns - 1
     → HoldAt (map (shifted_row neighbours col) rows) col point x ↔ All (λ u. MeetsUpper x (shifted neighbours u)) (upper_bounds col point rows)
 shifted_meet g columns neighbours col rows point x h l n = (
   (λ a. All-map (λ u. MeetsUpper x (shifted neighbours u)) (upper_at col point) rows (λ k d i. subst (MeetsUpper x) (shifted_at neighbours col point (get_or rows k d))
@@ -113,7 +119,9 @@ shifted_meet g columns neighbours col rows point x h l n = (
       (λ k d i. subst (MeetsUpper x) (sym (shifted_at neighbours col point (get_or rows k d))) (All-unmapped (λ u. MeetsUpper x (shifted neighbours u)) (upper_at col point) rows a k d i))))),
 )
 
-run_meets : (g : Gauge) (columns : ℕ) (neighbours : ℤ) (col : ℕ) (lowers uppers : List Row) (point : List ℤ) (x : ℤ) → All (IsLower g columns col) lowers → All (IsUpper g columns col) (map (shifted_row neighbours col) uppers) → col < columns → length point ≡ columns - 1
+run_meets : (g : Gauge) (columns : ℕ) (neighbours : ℤ) (col : ℕ) (lowers uppers : List Row) (point : List ℤ) (x : ℤ)
+    → All (IsLower g columns col) lowers → All (IsUpper g columns col) (map (shifted_row neighbours col) uppers) → col < columns
+    → length point ≡ columns - 1
     → (HoldAt lowers col point x × HoldAt (map (shifted_row neighbours col) uppers) col point x) ↔ MeetsRun (lower_bounds col point lowers) (upper_bounds col point uppers) neighbours x
 run_meets g columns neighbours col lowers uppers point x hl hs l n = (
   (λ a. record { above = (lowers_meet g columns col lowers point x hl l n).0 a.0; below = (shifted_meet g columns neighbours col uppers point x hs l n).0 a.1 }),
@@ -122,14 +130,18 @@ run_meets g columns neighbours col lowers uppers point x hl hs l n = (
 
 -- the bounds, the rows that moduli must not divide and the free rows hold with some x exactly where the free rows and the dark rows of the
 -- shifted bounds hold, or a tail has a splinter
-pub bounds_exact : (g : Gauge) (columns : ℕ) (neighbours : ℤ) (col : ℕ) (lowers uppers not_divides free rows : List Row) (tails : List Splinters) (all : List Row) (point : List ℤ) → col < columns → length point ≡ columns - 1
-    → All (IsLower g columns col) lowers → All (IsUpper g columns col) uppers → All (IsUpper g columns col) (map (shifted_row neighbours col) uppers) → IsMetWithin columns col not_divides neighbours → All (IsFreeRow g columns col) free
+pub bounds_exact : (g : Gauge) (columns : ℕ) (neighbours : ℤ) (col : ℕ) (lowers uppers not_divides free rows : List Row) (tails : List Splinters) (all : List Row) (point : List ℤ)
+    → col < columns → length point ≡ columns - 1
+    → All (IsLower g columns col) lowers → All (IsUpper g columns col) uppers
+    → All (IsUpper g columns col) (map (shifted_row neighbours col) uppers) → IsMetWithin columns col not_divides neighbours
+    → All (IsFreeRow g columns col) free
     → IsShadow g columns col neighbours lowers (map (shifted_row neighbours col) uppers) rows tails
     → ((x : ℤ) → HoldAt all col point x ↔ (HoldAt lowers col point x × HoldAt uppers col point x × HoldAt not_divides col point x × HoldAt free col point x))
     → ((x : ℤ) × HoldAt all col point x) ↔ (HoldAt (free ++ rows) col point (pos 0) ⊎ Any (HasSplinter all col point) tails)
 bounds_exact g columns neighbours col lowers uppers not_divides free rows tails all point l n hl hu hs met hf s split = (forth, back)
   where
-    value_on : (t : Row) (x : ℤ) → IsLower g columns col t → value_at t (insert point col x) ≡ value_at t (insert point col (x -ℤ neighbours)) +ℤ neighbours *ℤ coef_at t col
+    value_on : (t : Row) (x : ℤ) → IsLower g columns col t
+        → value_at t (insert point col x) ≡ value_at t (insert point col (x -ℤ neighbours)) +ℤ neighbours *ℤ coef_at t col
     value_on t x h = by (coef_at t col) x neighbours (rest_at t col point) (value_at t (insert point col x)) (value_at t (insert point col (x -ℤ neighbours)))
         (lower_value g columns col t point x h l n) (lower_value g columns col t point (x -ℤ neighbours) h l n)
       where
@@ -163,7 +175,9 @@ bounds_exact g columns neighbours col lowers uppers not_divides free rows tails 
         moved : (v w c last : ℤ) → v ≡ w +ℤ c → (w +ℤ c) ≤ℤ last → v ≤ℤ last
         moved v w c last e h = omega (arith, linear)
 
-        ended : (b : Row) (t : Splinters) → AreSplintersOf g col neighbours (map (shifted_row neighbours col) uppers) b t → value_at b (insert point col a.0) ≡ coef_at b col *ℤ a.0 +ℤ rest_at b col point → IsEnd neighbours a.0 (lower_at col point b) → value_at t.lower (insert point col a.0) ≤ℤ t.last
+        ended : (b : Row) (t : Splinters) → AreSplintersOf g col neighbours (map (shifted_row neighbours col) uppers) b t
+            → value_at b (insert point col a.0) ≡ coef_at b col *ℤ a.0 +ℤ rest_at b col point → IsEnd neighbours a.0 (lower_at col point b)
+            → value_at t.lower (insert point col a.0) ≤ℤ t.last
         ended b t z e v = rw z.same (by (coef_at b col *ℤ a.0 +ℤ rest_at b col point) (value_at b (insert point col a.0)) (neighbours *ℤ coef_at b col) t.last e v z.not_below)
           where
             by : (w v c last : ℤ) → v ≡ w → w ≤ℤ (c -ℤ pos 1) → (c -ℤ pos 1) ≤ℤ last → v ≤ℤ last
@@ -189,8 +203,10 @@ bounds_exact g columns neighbours col lowers uppers not_divides free rows tails 
 
 -- ---- a side without a bound
 -- some x meets the bounds and the rows that moduli must not divide
-open_meets : (g : Gauge) (columns : ℕ) (neighbours : ℤ) (col : ℕ) (lowers uppers not_divides : List Row) (point : List ℤ) → col < columns → length point ≡ columns - 1 → All (IsLower g columns col) lowers → All (IsUpper g columns col) uppers
-    → IsMetWithin columns col not_divides neighbours → (lowers ≡ []) ⊎ (uppers ≡ []) → (x : ℤ) × HoldAt lowers col point x × HoldAt uppers col point x × HoldAt not_divides col point x
+open_meets : (g : Gauge) (columns : ℕ) (neighbours : ℤ) (col : ℕ) (lowers uppers not_divides : List Row) (point : List ℤ) → col < columns
+    → length point ≡ columns - 1 → All (IsLower g columns col) lowers → All (IsUpper g columns col) uppers
+    → IsMetWithin columns col not_divides neighbours → (lowers ≡ []) ⊎ (uppers ≡ [])
+    → (x : ℤ) × HoldAt lowers col point x × HoldAt uppers col point x × HoldAt not_divides col point x
 open_meets g columns neighbours col [] uppers not_divides point l n hl hu met o =
     let far = far_below (upper_bounds col point uppers) (positive_uppers g columns col uppers point hu) in
     let y = far.0 -ℤ neighbours in
@@ -215,7 +231,8 @@ open_meets g columns neighbours col (b ∷ lowers) [] not_divides point l n hl h
 open_meets g columns neighbours col (b ∷ lowers) (u ∷ uppers) not_divides point l n hl hu met (inl e) = cc
 open_meets g columns neighbours col (b ∷ lowers) (u ∷ uppers) not_divides point l n hl hu met (inr e) = cc
 
-pub open_exact : (g : Gauge) (columns : ℕ) (neighbours : ℤ) (col : ℕ) (lowers uppers not_divides free all : List Row) (point : List ℤ) → col < columns → length point ≡ columns - 1 → All (IsLower g columns col) lowers → All (IsUpper g columns col) uppers
+pub open_exact : (g : Gauge) (columns : ℕ) (neighbours : ℤ) (col : ℕ) (lowers uppers not_divides free all : List Row) (point : List ℤ)
+    → col < columns → length point ≡ columns - 1 → All (IsLower g columns col) lowers → All (IsUpper g columns col) uppers
     → IsMetWithin columns col not_divides neighbours → All (IsFreeRow g columns col) free → (lowers ≡ []) ⊎ (uppers ≡ [])
     → ((x : ℤ) → HoldAt all col point x ↔ (HoldAt lowers col point x × HoldAt uppers col point x × HoldAt not_divides col point x × HoldAt free col point x))
     → ((x : ℤ) × HoldAt all col point x) ↔ HoldAt free col point (pos 0)
@@ -263,7 +280,8 @@ no_tail : (P : Splinters → Type 0) → Any P [] → ⊥
 no_tail P a = let h = a.2 in omega arith
 
 -- ---- how many splinters
-pub splinter_total_not_negative : (g : Gauge) (columns col : ℕ) (neighbours m : ℤ) (lowers : List Row) → pos 0 ≤ℤ neighbours → pos 0 <ℤ m → All (IsLower g columns col) lowers → pos 0 ≤ℤ splinter_total neighbours m col lowers
+pub splinter_total_not_negative : (g : Gauge) (columns col : ℕ) (neighbours m : ℤ) (lowers : List Row) → pos 0 ≤ℤ neighbours → pos 0 <ℤ m
+    → All (IsLower g columns col) lowers → pos 0 ≤ℤ splinter_total neighbours m col lowers
 splinter_total_not_negative g columns col neighbours m [] q p h = omega (arith, linear)
 splinter_total_not_negative g columns col neighbours m (l ∷ lowers) q p h =
     let first = (All-head (IsLower g columns col) l lowers h).factor in
@@ -273,7 +291,8 @@ splinter_total_not_negative g columns col neighbours m (l ∷ lowers) q p h =
     omega (arith, linear)
 
 -- neighbours ask for more
-pub splinter_total_more : (g : Gauge) (columns col : ℕ) (neighbours m : ℤ) (lowers : List Row) → pos 0 ≤ℤ neighbours → All (IsLower g columns col) lowers → splinter_total (pos 0) m col lowers ≤ℤ splinter_total neighbours m col lowers
+pub splinter_total_more : (g : Gauge) (columns col : ℕ) (neighbours m : ℤ) (lowers : List Row) → pos 0 ≤ℤ neighbours
+    → All (IsLower g columns col) lowers → splinter_total (pos 0) m col lowers ≤ℤ splinter_total neighbours m col lowers
 splinter_total_more g columns col neighbours m [] q h = omega (arith, linear)
 splinter_total_more g columns col neighbours m (l ∷ lowers) q h =
     let first = (All-head (IsLower g columns col) l lowers h).factor in
@@ -281,15 +300,19 @@ splinter_total_more g columns col neighbours m (l ∷ lowers) q h =
     let more = not_negative-*ℤ neighbours (coef_at l col) q (omega (arith, linear)) in
     omega (arith, linear)
 
-tails_few : (g : Gauge) (col : ℕ) (neighbours : ℤ) (uppers lowers : List Row) (tails : List Splinters) (m : ℤ) → AllZip (AreSplintersOf g col neighbours uppers) lowers tails → pos 0 <ℤ m → All (λ u. neg_ℤ (coef_at u col) ≤ℤ m) uppers → splinter_count tails ≤ℤ splinter_total neighbours m col lowers
+tails_few : (g : Gauge) (col : ℕ) (neighbours : ℤ) (uppers lowers : List Row) (tails : List Splinters) (m : ℤ)
+    → AllZip (AreSplintersOf g col neighbours uppers) lowers tails → pos 0 <ℤ m → All (λ u. neg_ℤ (coef_at u col) ≤ℤ m) uppers
+    → splinter_count tails ≤ℤ splinter_total neighbours m col lowers
 tails_few g col neighbours uppers [] [] m z p a = omega (arith, linear)
 tails_few g col neighbours uppers [] (t ∷ tails) m z p a = absurd z
 tails_few g col neighbours uppers (l ∷ lowers) [] m z p a = absurd z
 tails_few g col neighbours uppers (l ∷ lowers) (t ∷ tails) m z p a = let first = (z.0).few m p a in let rest = tails_few g col neighbours uppers lowers tails m z.1 p a in omega (arith, linear)
 
 -- ---- an open side
-pub open_is : (g : Gauge) (columns : ℕ) (neighbours : ℤ) (col : ℕ) (sides : Sides) (dark_shadow : DarkShadow) → AreSided g columns col sides → sides.divides ≡ [] → IsMetWithin columns col sides.not_divides neighbours
-    → (sides.lowers ≡ []) ⊎ (sides.uppers ≡ []) → col < columns → dark_shadow.rows ≡ rows_of sides → dark_shadow.tails.items ≡ [] → IsAnswerFor g (columns - 1) (λ point. HoldAt sides.free col point (pos 0)) dark_shadow.dark
+pub open_is : (g : Gauge) (columns : ℕ) (neighbours : ℤ) (col : ℕ) (sides : Sides) (dark_shadow : DarkShadow) → AreSided g columns col sides
+    → sides.divides ≡ [] → IsMetWithin columns col sides.not_divides neighbours
+    → (sides.lowers ≡ []) ⊎ (sides.uppers ≡ []) → col < columns → dark_shadow.rows ≡ rows_of sides → dark_shadow.tails.items ≡ []
+    → IsAnswerFor g (columns - 1) (λ point. HoldAt sides.free col point (pos 0)) dark_shadow.dark
     → IsDarkShadowOf g columns col sides dark_shadow × HasFewSplinters neighbours col sides dark_shadow.tails.items
 open_is g columns neighbours col sides dark_shadow s d met o l e t h = (
   record {
@@ -312,7 +335,8 @@ open_is g columns neighbours col sides dark_shadow s d met o l e t h = (
 )
 
 -- ---- the tails
-tails_lower : (g : Gauge) (columns col : ℕ) (neighbours : ℤ) (uppers lowers : List Row) (tails : List Splinters) → pos 0 ≤ℤ neighbours → All (IsLower g columns col) lowers → AllZip (AreSplintersOf g col neighbours uppers) lowers tails → All (AreSplinters g columns col) tails
+tails_lower : (g : Gauge) (columns col : ℕ) (neighbours : ℤ) (uppers lowers : List Row) (tails : List Splinters) → pos 0 ≤ℤ neighbours
+    → All (IsLower g columns col) lowers → AllZip (AreSplintersOf g col neighbours uppers) lowers tails → All (AreSplinters g columns col) tails
 tails_lower g columns col neighbours uppers lowers tails q h z = All-zipped (AreSplintersOf g col neighbours uppers) (IsLower g columns col) (AreSplinters g columns col)
     (λ l t r k. record { lower = rw r.same k; within = r.within; not_below = by (neighbours *ℤ coef_at l col) t.last (not_negative-*ℤ neighbours (coef_at l col) q (let f = k.factor in omega (arith, linear))) r.not_below }) lowers tails z h
   where
@@ -320,7 +344,9 @@ tails_lower g columns col neighbours uppers lowers tails q h z = All-zipped (Are
     by more last p h = omega (arith, linear)
 
 -- the rows of the sides hold only where the tails' bounds are met
-tails_bounds : (g : Gauge) (columns col : ℕ) (neighbours : ℤ) (uppers : List Row) (sides : Sides) (tails : List Splinters) → All (IsLower g columns col) sides.lowers → AllZip (AreSplintersOf g col neighbours uppers) sides.lowers tails → All (λ t. KeepBound columns col (rows_of sides) t.lower) tails
+tails_bounds : (g : Gauge) (columns col : ℕ) (neighbours : ℤ) (uppers : List Row) (sides : Sides) (tails : List Splinters)
+    → All (IsLower g columns col) sides.lowers → AllZip (AreSplintersOf g col neighbours uppers) sides.lowers tails
+    → All (λ t. KeepBound columns col (rows_of sides) t.lower) tails
 tails_bounds g columns col neighbours uppers sides tails h z = λ k d i. λ point x n a.
     All-zipped (λ l t. AreSplintersOf g col neighbours uppers l t × IsLower g columns col l) (λ r. HoldsRow r (insert point col x)) (λ t. pos 0 ≤ℤ value_at t.lower (insert point col x))
     (λ l t r b. rw r.0.same ((holds_at_least l.kind l.k (value_at l (insert point col x)) r.1.kind).0 b)) sides.lowers tails (AllZip-with (AreSplintersOf g col neighbours uppers) (IsLower g columns col) sides.lowers tails z h) ((rows_hold sides col point x).0 a).0 k d i
@@ -334,7 +360,8 @@ pub record IsClosed (g : Gauge) (columns : ℕ) (neighbours : ℤ) (col : ℕ) (
   pub exact : (point : List ℤ) → length point ≡ columns - 1 → ((x : ℤ) × HoldAt (rows_of sides) col point x) ↔ (HoldAt (sides.free ++ dark) col point (pos 0) ⊎ Any (HasSplinter (rows_of sides) col point) tails)
   pub few : HasFewSplinters neighbours col sides tails
 
-pub closed_from : (g : Gauge) (columns : ℕ) (neighbours : ℤ) (col : ℕ) (sides : Sides) (dark : List Row) (tails : List Splinters) → AreSided g columns col sides → col < columns → IsMetWithin columns col sides.not_divides neighbours
+pub closed_from : (g : Gauge) (columns : ℕ) (neighbours : ℤ) (col : ℕ) (sides : Sides) (dark : List Row) (tails : List Splinters)
+    → AreSided g columns col sides → col < columns → IsMetWithin columns col sides.not_divides neighbours
     → AreShadowsOf g columns col neighbours sides dark tails → IsClosed g columns neighbours col sides dark tails
 closed_from g columns neighbours col sides dark tails s l met w =
     let shifted_uppers = map (shifted_row neighbours col) sides.uppers in
@@ -348,14 +375,19 @@ closed_from g columns neighbours col sides dark tails s l met w =
     }
 
 -- the rows that the dark shadow is made of
-pub left_rows : (g : Gauge) (columns : ℕ) (neighbours : ℤ) (col : ℕ) (sides : Sides) (dark left : List Row) (tails : List Splinters) → AreSided g columns col sides → IsClosed g columns neighbours col sides dark tails → left ≡ sides.free ++ dark → All (IsProper g columns) left × All (IsFree col) left
+pub left_rows : (g : Gauge) (columns : ℕ) (neighbours : ℤ) (col : ℕ) (sides : Sides) (dark left : List Row) (tails : List Splinters)
+    → AreSided g columns col sides → IsClosed g columns neighbours col sides dark tails → left ≡ sides.free ++ dark
+    → All (IsProper g columns) left × All (IsFree col) left
 left_rows g columns neighbours col sides dark left tails s c e = rw e (
   All-append (IsProper g columns) sides.free dark (All-weaker (IsFreeRow g columns col) (IsProper g columns) (λ r h. h.proper) sides.free s.free) c.proper,
   All-append (IsFree col) sides.free dark (All-weaker (IsFreeRow g columns col) (IsFree col) (λ r h. h.free) sides.free s.free) c.free,
 )
 
-pub closed_is : (g : Gauge) (columns : ℕ) (neighbours : ℤ) (col : ℕ) (sides : Sides) (dark left : List Row) (dark_shadow : DarkShadow) → AreSided g columns col sides → sides.divides ≡ [] → sides.uppers ≢ [] → col < columns → IsClosed g columns neighbours col sides dark dark_shadow.tails.items → left ≡ sides.free ++ dark
-    → dark_shadow.rows ≡ rows_of sides → IsAnswerFor g (columns - 1) (λ point. HoldAt left col point (pos 0)) dark_shadow.dark → IsDarkShadowOf g columns col sides dark_shadow × HasFewSplinters neighbours col sides dark_shadow.tails.items
+pub closed_is : (g : Gauge) (columns : ℕ) (neighbours : ℤ) (col : ℕ) (sides : Sides) (dark left : List Row) (dark_shadow : DarkShadow)
+    → AreSided g columns col sides → sides.divides ≡ [] → sides.uppers ≢ [] → col < columns
+    → IsClosed g columns neighbours col sides dark dark_shadow.tails.items → left ≡ sides.free ++ dark
+    → dark_shadow.rows ≡ rows_of sides → IsAnswerFor g (columns - 1) (λ point. HoldAt left col point (pos 0)) dark_shadow.dark
+    → IsDarkShadowOf g columns col sides dark_shadow × HasFewSplinters neighbours col sides dark_shadow.tails.items
 closed_is g columns neighbours col sides dark left dark_shadow s d u l c f e h = (
   record {
     is_dark_shadow = record {

@@ -167,7 +167,8 @@ mirrored_sides_back g columns col sides point x l n s no_divides no_not_divides 
     none = λ i d k. absurd (omega arith)
 
 -- a dark shadow of the mirrored sides is one of the sides
-pub mirrored_back : (g : Gauge) (columns col : ℕ) (neighbours : ℤ) (sides : Sides) (dark_shadow : DarkShadow) → pos 0 ≤ℤ neighbours → col < columns → AreSided g columns col sides
+pub mirrored_back : (g : Gauge) (columns col : ℕ) (neighbours : ℤ) (sides : Sides) (dark_shadow : DarkShadow) → pos 0 ≤ℤ neighbours → col < columns
+    → AreSided g columns col sides
     → sides.divides ≡ [] → sides.not_divides ≡ [] → (sides.uppers ≡ [] → ⊥) → AskForFewer col sides.lowers sides.uppers
     → IsDarkShadowOf g columns col (mirrored col sides) dark_shadow → HasFewSplinters (pos 0) col (mirrored col sides) dark_shadow.tails.items
     → IsDarkShadowOf g columns col sides dark_shadow × HasFewSplinters neighbours col sides dark_shadow.tails.items
@@ -303,7 +304,8 @@ less_within g a b h k w = (omega (arith, linear, h, k), by (2 ^ g.bits) w)
     by n w = omega (arith, linear, h, k, w)
 
 -- what is done for the mirrored sides is done for the sides
-pub mirrored_done : (g h : Gauge) (columns col : ℕ) (neighbours : ℤ) (sides new : Sides) (result : Result DarkShadow Cut) → pos 0 ≤ℤ neighbours → new ≡ mirrored col sides → col < columns
+pub mirrored_done : (g h : Gauge) (columns col : ℕ) (neighbours : ℤ) (sides new : Sides) (result : Result DarkShadow Cut) → pos 0 ≤ℤ neighbours
+    → new ≡ mirrored col sides → col < columns
     → AreSided g columns col sides → sides.divides ≡ [] → sides.not_divides ≡ [] → (sides.uppers ≡ [] → ⊥) → AskForFewer col sides.lowers sides.uppers
     → IsDoneFor (length new.lowers * length new.uppers) g h (IsDarkShadowWithFewSplinters g columns col (pos 0) new) result
     → IsDoneFor (length sides.lowers * length sides.uppers) g h (IsDarkShadowWithFewSplinters g columns col neighbours sides) result

@@ -44,7 +44,8 @@ pub record MeetsRun (lowers uppers : List Bound) (n x : ℤ) : Type 0 where
   pub below : All (λ u. MeetsUpper x (shifted n u)) uppers
 
 -- so does each whole number between them
-pub run_within : (lowers uppers : List Bound) (n x t : ℤ) → All IsPositive lowers → All IsPositive uppers → MeetsRun lowers uppers n x → pos 0 ≤ℤ t → t ≤ℤ n
+pub run_within : (lowers uppers : List Bound) (n x t : ℤ) → All IsPositive lowers → All IsPositive uppers → MeetsRun lowers uppers n x → pos 0 ≤ℤ t
+    → t ≤ℤ n
     → All (MeetsLower (x +ℤ t)) lowers × All (MeetsUpper (x +ℤ t)) uppers
 run_within lowers uppers n x t q r m low high =
     let after : x ≤ℤ (x +ℤ t) = omega (arith, linear) in

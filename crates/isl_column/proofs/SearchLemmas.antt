@@ -48,7 +48,8 @@ same_class : (c k f x m n : ℤ) → pos 0 <ℤ k → pos 0 <ℤ floor_div k (gc
     → floor_mod n (floor_div k (gcd_of c k)) ≡ floor_mod m (floor_div k (gcd_of c k))
 same_class c k f x m n p q d e =
     floor_mod-same (floor_div k (gcd_of c k)) n m q (period_divides c k (n -ℤ m) p
-    (Divides-same k (c *ℤ (x +ℤ n) +ℤ f -ℤ (c *ℤ (x +ℤ m) +ℤ f)) (c *ℤ (n -ℤ m)) (by c x n m f) (Divides-minus k (c *ℤ (x +ℤ n) +ℤ f) (c *ℤ (x +ℤ m) +ℤ f) e d)))
+    (Divides-same k (c *ℤ (x +ℤ n) +ℤ f -ℤ (c *ℤ (x +ℤ m) +ℤ f)) (c *ℤ (n -ℤ m)) (by c x n m f)
+    (Divides-minus k (c *ℤ (x +ℤ n) +ℤ f) (c *ℤ (x +ℤ m) +ℤ f) e d)))
   where
     by : (c x n m f : ℤ) → c *ℤ (x +ℤ n) +ℤ f -ℤ (c *ℤ (x +ℤ m) +ℤ f) ≡ c *ℤ (n -ℤ m)
     by c x n m f = simp expand (omega (arith, linear))
@@ -60,22 +61,27 @@ not_same a b = by (int_eq a b) (Decides-int_eq a b)
     by true d e h = cc
     by false d e h = let t = d.1 h in cc
 
-Any-filter : {X : Type 0} (test : X → Bool) (P Q : X → Type 0) → ((x : X) → test x ≡ true → P x → Q x) → (xs : List X) → Any P (filter test xs) → Any Q xs
+Any-filter : {X : Type 0} (test : X → Bool) (P Q : X → Type 0) → ((x : X) → test x ≡ true → P x → Q x) → (xs : List X) → Any P (filter test xs)
+    → Any Q xs
 Any-filter test P Q f [] a = absurd (Any-none P a)
 Any-filter test P Q f (x ∷ xs) a = by (test x) refl (λ b. Any-filter test P Q f xs b) a
   where
-    by : (kept : Bool) → kept ≡ test x → (Any P (filter test xs) → Any Q xs) → Any P (cond kept (x ∷ filter test xs) (filter test xs)) → Any Q (x ∷ xs)
+    by : (kept : Bool) → kept ≡ test x → (Any P (filter test xs) → Any Q xs) → Any P (cond kept (x ∷ filter test xs) (filter test xs))
+        → Any Q (x ∷ xs)
     by true e rest a = elim (Any-cases P x (filter test xs) a) [ inl h ↦ Any-first Q x xs (f x (sym e) h) | inr h ↦ Any-later Q x xs (rest h) ]
     by false e rest a = Any-later Q x xs (rest a)
 
 -- where each class of the numbers leaves one that meets the other rows, one meets the row too
-row_met : (g : Gauge) (columns col : ℕ) (r : Row) (rows : List Row) (numbers : List ℤ) (point : List ℤ) (x : ℤ) → col < columns → length point ≡ columns - 1 → IsNotDivides g columns col r → 0 < length numbers
+row_met : (g : Gauge) (columns col : ℕ) (r : Row) (rows : List Row) (numbers : List ℤ) (point : List ℤ) (x : ℤ) → col < columns
+    → length point ≡ columns - 1 → IsNotDivides g columns col r → 0 < length numbers
     → All (λ n. IsMetAmong rows col point x (others_than (period col r) n numbers)) numbers → IsMetAmong (r ∷ rows) col point x numbers
 row_met g columns col r rows numbers point x l w h some each = elim (all_or_any Met Hit numbers (λ i d k. either (get_or numbers i d))) [
-  | inl met ↦ Any-with P Met Both (λ n p m. both n m p) numbers met (Any-filter (is_other (get_or numbers 0 (pos 0))) P P (λ n e p. p) numbers (each 0 (pos 0) some))
+  | inl met ↦ Any-with P Met Both (λ n p m. both n m p) numbers met
+      (Any-filter (is_other (get_or numbers 0 (pos 0))) P P (λ n e p. p) numbers (each 0 (pos 0) some))
   | inr hit ↦
       let one = Any-element Hit numbers hit in
-      Any-filter (is_other one.0) P Both (λ n e p. both n (missed one.0 n one.2 e) p) numbers (All-contains (λ n. IsMetAmong rows col point x (others_than (period col r) n numbers)) numbers one.0 each one.1)
+      Any-filter (is_other one.0) P Both (λ n e p. both n (missed one.0 n one.2 e) p) numbers
+      (All-contains (λ n. IsMetAmong rows col point x (others_than (period col r) n numbers)) numbers one.0 each one.1)
 ]
   where
     H : ℤ → Row → Type 0
@@ -110,14 +116,17 @@ row_met g columns col r rows numbers point x l w h some each = elim (all_or_any 
 
     missed : (m n : ℤ) → Hit m → is_other m n ≡ true → Met n
     missed m n d e = (not_divides_holds g columns col r point (x +ℤ n) h l w).1
-        (λ also. not_same (floor_mod n (period col r)) (floor_mod m (period col r)) e (same_class (coef_at r col) r.k (rest_at r col point) x m n modulus (period_short (coef_at r col) r.k modulus).positive d also))
+        (λ also. not_same (floor_mod n (period col r)) (floor_mod m (period col r)) e
+        (same_class (coef_at r col) r.k (rest_at r col point) x m n modulus (period_short (coef_at r col) r.k modulus).positive d also))
 
 -- ---- pushed choices
 pub pushed_none : (p : ℤ) (level : ℕ) (numbers : List ℤ) (old : List Choice) → ArePushedFor p level numbers [] old old
-pushed_none p level numbers old = record { more = []; pushed = sym (append-nil old); each = All-nil (λ n. Any (IsChoice (others_than p n numbers) level) []) }
+pushed_none p level numbers old =
+    record { more = []; pushed = sym (append-nil old); each = All-nil (λ n. Any (IsChoice (others_than p n numbers) level) []) }
 
 -- one of another class
-pub pushed_more : (p : ℤ) (level : ℕ) (numbers some : List ℤ) (m : ℤ) (old new newer : List Choice) (choice : Choice) → ArePushedFor p level numbers some old new → newer ≡ new ++ choice ∷ [] → IsChoice (others_than p m numbers) level choice
+pub pushed_more : (p : ℤ) (level : ℕ) (numbers some : List ℤ) (m : ℤ) (old new newer : List Choice) (choice : Choice)
+    → ArePushedFor p level numbers some old new → newer ≡ new ++ choice ∷ [] → IsChoice (others_than p m numbers) level choice
     → ArePushedFor p level numbers (some ++ m ∷ []) old newer
 pushed_more p level numbers some m old new newer choice push e is = record {
   more = push.more ++ choice ∷ [];
@@ -128,7 +137,8 @@ pushed_more p level numbers some m old new newer choice push e is = record {
 }
 
 -- one of a class that was there
-pub pushed_alike : (p : ℤ) (level : ℕ) (numbers some : List ℤ) (m : ℤ) (old new : List Choice) → ArePushedFor p level numbers some old new → Any (λ n. floor_mod n p ≡ floor_mod m p) some → ArePushedFor p level numbers (some ++ m ∷ []) old new
+pub pushed_alike : (p : ℤ) (level : ℕ) (numbers some : List ℤ) (m : ℤ) (old new : List Choice) → ArePushedFor p level numbers some old new
+    → Any (λ n. floor_mod n p ≡ floor_mod m p) some → ArePushedFor p level numbers (some ++ m ∷ []) old new
 pushed_alike p level numbers some m old new push alike = record {
   more = push.more;
   pushed = push.pushed;
@@ -150,28 +160,34 @@ drop_row xs i x h e = subst (λ n. drop i xs ≡ x ∷ drop n xs) (next i) (drop
     next : (i : ℕ) → suc i ≡ i + 1
     next i = omega arith
 
-pub enough_at_first : (columns col : ℕ) (rows : List Row) (numbers : List ℤ) (choice : Choice) → IsChoice numbers 0 choice → AreEnough columns col rows (choice ∷ []) numbers
+pub enough_at_first : (columns col : ℕ) (rows : List Row) (numbers : List ℤ) (choice : Choice) → IsChoice numbers 0 choice
+    → AreEnough columns col rows (choice ∷ []) numbers
 enough_at_first columns col rows numbers choice is point x n all =
     subst (λ (own : List ℤ). IsMetAmong rows col point x own) is.0
-    (subst (λ (level : ℕ). IsMetAmong (drop level rows) col point x choice.numbers.items) is.1 (All-head (λ c. IsMetAmong (drop c.level rows) col point x c.numbers.items) choice [] all))
+    (subst (λ (level : ℕ). IsMetAmong (drop level rows) col point x choice.numbers.items) is.1
+    (All-head (λ c. IsMetAmong (drop c.level rows) col point x c.numbers.items) choice [] all))
 
 -- no row is left
-pub enough_without : (columns col : ℕ) (rows : List Row) (choices : List Choice) (choice : Choice) (numbers : List ℤ) → 0 < length choice.numbers.items → drop choice.level rows ≡ []
+pub enough_without : (columns col : ℕ) (rows : List Row) (choices : List Choice) (choice : Choice) (numbers : List ℤ)
+    → 0 < length choice.numbers.items → drop choice.level rows ≡ []
     → AreEnough columns col rows (choices ++ choice ∷ []) numbers → AreEnough columns col rows choices numbers
 enough_without columns col rows choices choice numbers some none enough point x n all =
-    enough point x n (All-push (λ c. IsMetAmong (drop c.level rows) col point x c.numbers.items) choices choice all (rw none (any_number choice.numbers.items some)))
+    enough point x n (All-push (λ c. IsMetAmong (drop c.level rows) col point x c.numbers.items) choices choice all
+    (rw none (any_number choice.numbers.items some)))
   where
     any_number : (own : List ℤ) → 0 < length own → IsMetAmong [] col point x own
     any_number [] h = absurd (omega arith)
     any_number (m ∷ own) h = Any-first (λ n. HoldAt [] col point (x +ℤ n)) m own (All-nil (λ r. HoldsRow r (insert point col (x +ℤ m))))
 
 -- one row more is taken
-pub enough_with : (g : Gauge) (columns col : ℕ) (rows : List Row) (r : Row) (choices pushed : List Choice) (choice : Choice) (numbers : List ℤ) → col < columns → IsNotDivides g columns col r → 0 < length choice.numbers.items
+pub enough_with : (g : Gauge) (columns col : ℕ) (rows : List Row) (r : Row) (choices pushed : List Choice) (choice : Choice) (numbers : List ℤ)
+    → col < columns → IsNotDivides g columns col r → 0 < length choice.numbers.items
     → drop choice.level rows ≡ r ∷ drop (choice.level + 1) rows → ArePushed (period col r) (choice.level + 1) choice.numbers.items choices pushed
     → AreEnough columns col rows (choices ++ choice ∷ []) numbers → AreEnough columns col rows pushed numbers
 enough_with g columns col rows r choices pushed choice numbers l h some here push enough point x n all =
     let parts = All-parts Own choices push.more (rw (push.pushed) at all) in
-    let own = row_met g columns col r (drop (choice.level + 1) rows) choice.numbers.items point x l n h some (λ i d k. each (get_or choice.numbers.items i d) parts.1 (push.each i d k)) in
+    let own = row_met g columns col r (drop (choice.level + 1) rows) choice.numbers.items point x l n h some
+    (λ i d k. each (get_or choice.numbers.items i d) parts.1 (push.each i d k)) in
     enough point x n (All-push Own choices choice parts.0 (rw here own))
   where
     Own : Choice → Type 0
@@ -184,13 +200,17 @@ enough_with g columns col rows r choices pushed choice numbers l h some here pus
         let c = e.0 in
         let is = e.2 in
         let own : Own c = All-contains Own push.more c owns e.1 in
-        subst (λ (numbers : List ℤ). IsMetAmong (drop (choice.level + 1) rows) col point x numbers) is.0 (subst (λ (level : ℕ). IsMetAmong (drop level rows) col point x c.numbers.items) is.1 own)
+        subst (λ (numbers : List ℤ). IsMetAmong (drop (choice.level + 1) rows) col point x numbers) is.0
+        (subst (λ (level : ℕ). IsMetAmong (drop level rows) col point x c.numbers.items) is.1 own)
 
-pub enough_at_last : (columns col : ℕ) (rows : List Row) (choices : List Choice) (numbers : List ℤ) → choices ≡ [] → AreEnough columns col rows choices numbers → AreMetAmong columns col rows numbers
-enough_at_last columns col rows choices numbers none enough = λ point x n. enough point x n (rw none (All-nil (λ c. IsMetAmong (drop c.level rows) col point x c.numbers.items)))
+pub enough_at_last : (columns col : ℕ) (rows : List Row) (choices : List Choice) (numbers : List ℤ) → choices ≡ []
+    → AreEnough columns col rows choices numbers → AreMetAmong columns col rows numbers
+enough_at_last columns col rows choices numbers none enough = λ point x n.
+    enough point x n (rw none (All-nil (λ c. IsMetAmong (drop c.level rows) col point x c.numbers.items)))
 
 -- ---- neighbours
-pub met_within : (columns col : ℕ) (rows : List Row) (numbers : List ℤ) (last : ℕ) (neighbours : ℤ) → neighbours ≡ pos last → All (λ n. (pos 0 ≤ℤ n) × (n <ℤ pos (last + 1))) numbers
+pub met_within : (columns col : ℕ) (rows : List Row) (numbers : List ℤ) (last : ℕ) (neighbours : ℤ) → neighbours ≡ pos last
+    → All (λ n. (pos 0 ≤ℤ n) × (n <ℤ pos (last + 1))) numbers
     → AreMetAmong columns col rows numbers → IsMetWithin columns col rows neighbours
 met_within columns col rows numbers last neighbours is in_row met = record {
   not_negative = omega (arith, linear);
@@ -212,10 +232,23 @@ met_none columns col = record {
 pub met_one : (g : Gauge) (columns col : ℕ) (r : Row) → col < columns → IsNotDivides g columns col r → IsMetWithin columns col (r ∷ []) (pos 1)
 met_one g columns col r l h = record {
   not_negative = omega (arith, linear);
-  met = λ point x w. elim (one_of_two r.k (coef_at r col) (rest_at r col point) (x +ℤ pos 0) (HasModulus-positive r.kind r.k h.proper.formed.modulus) h.depends) [
-    | inl d ↦ (pos 0, omega (arith, linear), omega (arith, linear), alone point (x +ℤ pos 0) ((not_divides_holds g columns col r point (x +ℤ pos 0) h l w).1 d))
-    | inr d ↦ (pos 1, omega (arith, linear), omega (arith, linear), alone point (x +ℤ pos 1) ((not_divides_holds g columns col r point (x +ℤ pos 1) h l w).1 (rw (next x) at d)))
-  ];
+  met = λ point x w. elim (one_of_two r.k (coef_at r col) (rest_at r col point) (x +ℤ pos 0)
+      (HasModulus-positive r.kind r.k h.proper.formed.modulus) h.depends) [
+        | inl d ↦ (
+          pos 0,
+          omega (arith, linear),
+          omega (arith, linear),
+          alone point (x +ℤ pos 0)
+              ((not_divides_holds g columns col r point (x +ℤ pos 0) h l w).1 d),
+        )
+        | inr d ↦ (
+          pos 1,
+          omega (arith, linear),
+          omega (arith, linear),
+          alone point (x +ℤ pos 1)
+              ((not_divides_holds g columns col r point (x +ℤ pos 1) h l w).1 (rw (next x) at d)),
+        )
+      ];
 }
   where
     alone : (point : List ℤ) (y : ℤ) → HoldsRow r (insert point col y) → HoldAt (r ∷ []) col point y
@@ -252,17 +285,20 @@ pub record IsLeft (col : ℕ) (rows : List Row) (number left : ℤ) : Type 0 whe
 pub left_none : (col : ℕ) (number : ℤ) → IsLeft col [] number number
 left_none col number = record { positive = omega (arith, linear); below = omega (arith, linear) }
 
-pub left_more : (g : Gauge) (columns col : ℕ) (rows : List Row) (r : Row) (number left : ℤ) → IsNotDivides g columns col r → IsLeft col rows number left → IsLeft col (rows ++ r ∷ []) number (floor_div left (period col r))
+pub left_more : (g : Gauge) (columns col : ℕ) (rows : List Row) (r : Row) (number left : ℤ) → IsNotDivides g columns col r
+    → IsLeft col rows number left → IsLeft col (rows ++ r ∷ []) number (floor_div left (period col r))
 left_more g columns col rows r number left h is =
     let p = period_above_one g columns col r h in
     let q : pos 0 <ℤ period col r = omega (arith, linear) in
     record {
       positive = rw (product-push col rows r) (positive-*ℤ (product_of_periods col rows) (period col r) is.positive q);
-      below = rw (product-push col rows r) (by (product_of_periods col rows) (period col r) number left (floor_div left (period col r)) (floor_mod left (period col r)) is.positive is.below
+      below = rw (product-push col rows r) (by (product_of_periods col rows) (period col r) number left (floor_div left (period col r)) (floor_mod left (period col r))
+          is.positive is.below
           (floor_split left (period col r) q) (floor_mod_bounds left (period col r) q).1);
     }
   where
-    by : (product p number left fewer rest : ℤ) → pos 0 <ℤ product → number <ℤ ((left +ℤ pos 1) *ℤ product) → p *ℤ fewer +ℤ rest ≡ left → rest <ℤ p → number <ℤ ((fewer +ℤ pos 1) *ℤ (product *ℤ p))
+    by : (product p number left fewer rest : ℤ) → pos 0 <ℤ product → number <ℤ ((left +ℤ pos 1) *ℤ product) → p *ℤ fewer +ℤ rest ≡ left → rest <ℤ p
+        → number <ℤ ((fewer +ℤ pos 1) *ℤ (product *ℤ p))
     by product p number left fewer rest q below split small =
         let split' = simp expand at split in
         let above : (left +ℤ pos 1) ≤ℤ (p *ℤ (fewer +ℤ pos 1)) = simp expand (omega (arith, linear)) in
@@ -280,7 +316,8 @@ left_below col rows number left e is = by (product_of_periods col rows) number l
 pub met_empty : (columns col : ℕ) (rows : List Row) → rows ≡ [] → IsMetWithin columns col rows (pos 0) × (pos 0 <ℤ product_of_periods col rows)
 met_empty columns col rows e = rw e (met_none columns col, omega (arith, linear))
 
-pub met_alone : (g : Gauge) (columns col : ℕ) (rows : List Row) → col < columns → length rows ≡ 1 → All (IsNotDivides g columns col) rows → IsMetWithin columns col rows (pos 1) × (pos 1 <ℤ product_of_periods col rows)
+pub met_alone : (g : Gauge) (columns col : ℕ) (rows : List Row) → col < columns → length rows ≡ 1 → All (IsNotDivides g columns col) rows
+    → IsMetWithin columns col rows (pos 1) × (pos 1 <ℤ product_of_periods col rows)
 met_alone g columns col [] l n h = absurd (omega arith)
 met_alone g columns col (r ∷ []) l n h =
     let own = All-head (IsNotDivides g columns col) r [] h in

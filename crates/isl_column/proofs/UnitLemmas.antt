@@ -60,18 +60,22 @@ greatest_positive g columns col u uppers h = by (coef_at u col) (greatest_factor
     by c b p = omega (arith, linear, clamps)
 
 -- ---- the tails of a dark_shadow
-pub tails_bounded : (g : Gauge) (columns col : ℕ) (neighbours : ℤ) (sides : Sides) (dark_shadow : DarkShadow) (uppers : List Row) → sides.uppers ≡ uppers → AreSided g columns col sides → IsDarkShadowOf g columns col sides dark_shadow → HasFewSplinters neighbours col sides dark_shadow.tails.items
+pub tails_bounded : (g : Gauge) (columns col : ℕ) (neighbours : ℤ) (sides : Sides) (dark_shadow : DarkShadow) (uppers : List Row)
+    → sides.uppers ≡ uppers → AreSided g columns col sides → IsDarkShadowOf g columns col sides dark_shadow
+    → HasFewSplinters neighbours col sides dark_shadow.tails.items
     → splinter_count dark_shadow.tails.items ≤ℤ splinter_bound neighbours col sides.lowers uppers
 tails_bounded g columns col neighbours sides dark_shadow [] e s b few = let none = ap splinter_count (b.open_above e) in omega (arith, linear)
 tails_bounded g columns col neighbours sides dark_shadow (u ∷ uppers) e s b few =
     few (greatest_factor col (u ∷ uppers)) (greatest_positive g columns col u uppers (rw e at s.uppers)) (rw e (greatest_bounds col (u ∷ uppers)))
 
-pub bound_not_negative : (g : Gauge) (columns col : ℕ) (neighbours : ℤ) (lowers uppers : List Row) → pos 0 ≤ℤ neighbours → All (IsLower g columns col) lowers → All (IsUpper g columns col) uppers → pos 0 ≤ℤ splinter_bound neighbours col lowers uppers
+pub bound_not_negative : (g : Gauge) (columns col : ℕ) (neighbours : ℤ) (lowers uppers : List Row) → pos 0 ≤ℤ neighbours
+    → All (IsLower g columns col) lowers → All (IsUpper g columns col) uppers → pos 0 ≤ℤ splinter_bound neighbours col lowers uppers
 bound_not_negative g columns col neighbours lowers [] q hl hu = omega (arith, linear)
 bound_not_negative g columns col neighbours lowers (u ∷ uppers) q hl hu = splinter_total_not_negative g columns col neighbours (greatest_factor col (u ∷ uppers)) lowers q (greatest_positive g columns col u uppers hu) hl
 
 -- with fewer neighbours than k they are no more than those of all factors times k
-total_scaled : (g : Gauge) (columns col : ℕ) (neighbours k m : ℤ) (lowers : List Row) → neighbours <ℤ k → pos 0 <ℤ k → pos 0 <ℤ m → All (IsLower g columns col) lowers
+total_scaled : (g : Gauge) (columns col : ℕ) (neighbours k m : ℤ) (lowers : List Row) → neighbours <ℤ k → pos 0 <ℤ k → pos 0 <ℤ m
+    → All (IsLower g columns col) lowers
     → splinter_total neighbours m col lowers ≤ℤ sum_of_splinters col k m lowers
 total_scaled g columns col neighbours k m [] less p q h = omega (arith, linear)
 total_scaled g columns col neighbours k m (l ∷ lowers) less p q h =
@@ -80,7 +84,8 @@ total_scaled g columns col neighbours k m (l ∷ lowers) less p q h =
     let count = splinters_counted (coef_at l col *ℤ k) (m *ℤ k) (positive-*ℤ m k q p) in
     omega (arith, linear)
 
-bound_scaled : (g : Gauge) (columns col : ℕ) (neighbours k : ℤ) (lowers uppers : List Row) → neighbours <ℤ k → pos 0 <ℤ k → All (IsLower g columns col) lowers → All (IsUpper g columns col) uppers
+bound_scaled : (g : Gauge) (columns col : ℕ) (neighbours k : ℤ) (lowers uppers : List Row) → neighbours <ℤ k → pos 0 <ℤ k
+    → All (IsLower g columns col) lowers → All (IsUpper g columns col) uppers
     → splinter_bound neighbours col lowers uppers ≤ℤ all_splinters col k lowers uppers
 bound_scaled g columns col neighbours k lowers [] less p hl hu = omega (arith, linear)
 bound_scaled g columns col neighbours k lowers (u ∷ uppers) less p hl hu =
@@ -167,7 +172,9 @@ counted_lowers g columns col k j r m n (a ∷ old) (b ∷ new) p o l q w e h z =
 
 -- ---- narrowed sides
 pub plain_narrowed : (g : Gauge) (columns col : ℕ) (k r : ℤ) (lowers uppers fewer lesser : List Row) → pos 0 <ℤ k → k ≤ℤ r → All (IsLower g columns col) lowers → All (IsUpper g columns col) uppers → All (IsUpper g columns col) lesser
-    → AllZip (λ a b. IsLessened (k *ℤ coef_at a col) (coef_at b col)) lowers fewer → AllZip (λ a b. IsLessened (k *ℤ coef_at a col) (coef_at b col)) uppers lesser → splinter_bound (pos 0) col fewer lesser ≤ℤ all_splinters col r lowers uppers
+    → AllZip (λ a b. IsLessened (k *ℤ coef_at a col) (coef_at b col)) lowers fewer
+    → AllZip (λ a b. IsLessened (k *ℤ coef_at a col) (coef_at b col)) uppers lesser
+    → splinter_bound (pos 0) col fewer lesser ≤ℤ all_splinters col r lowers uppers
 plain_narrowed g columns col k r lowers [] fewer [] p l hl hu hn zl zu = omega (arith, linear)
 plain_narrowed g columns col k r lowers [] fewer (v ∷ lesser) p l hl hu hn zl zu = absurd zu
 plain_narrowed g columns col k r lowers (u ∷ uppers) fewer [] p l hl hu hn zl zu = absurd zu
@@ -235,7 +242,8 @@ residue_units_positive g columns col p s q a =
     let more = all_splinters_not_negative g columns col p s.lowers s.uppers q a.lowers a.uppers in
     omega (arith, linear)
 
-pub sides_units_most : (g : Gauge) (columns col : ℕ) (p : ℤ) (s : Sides) → AreSided g columns col s → IsPeriod col s.not_divides p → (p *ℤ residue_units col p s) ≤ℤ sides_units col s
+pub sides_units_most : (g : Gauge) (columns col : ℕ) (p : ℤ) (s : Sides) → AreSided g columns col s → IsPeriod col s.not_divides p
+    → (p *ℤ residue_units col p s) ≤ℤ sides_units col s
 sides_units_most g columns col p s a h =
     let most = product_of_periods col s.not_divides in
     let q = h.positive in
@@ -244,7 +252,8 @@ sides_units_most g columns col p s a h =
     let more = counted_narrowed g columns col (pos 1) p most s.lowers s.uppers s.lowers s.uppers (omega (arith, linear)) q (omega (arith, linear)) a.lowers a.uppers a.uppers (same_lessened col s.lowers) (same_lessened col s.uppers) in
     product_le p most (residue_units col p s) (residue_units col most s) (omega (arith, linear)) (omega (arith, linear)) l (omega (arith, linear))
 
-pub residue_cost : (g : Gauge) (columns col : ℕ) (p t : ℤ) (old new : Sides) → pos 0 <ℤ p → AreSided g columns col old → IsResidueOf g columns col p t old new → (pos 1 +ℤ shadow_units (pos 0) col new) ≤ℤ residue_units col p old
+pub residue_cost : (g : Gauge) (columns col : ℕ) (p t : ℤ) (old new : Sides) → pos 0 <ℤ p → AreSided g columns col old
+    → IsResidueOf g columns col p t old new → (pos 1 +ℤ shadow_units (pos 0) col new) ≤ℤ residue_units col p old
 residue_cost g columns col p t old new q s r =
     let n = r.narrowed in
     let same = pairs_narrowed col p old.lowers old.uppers new.lowers new.uppers n.lowers n.uppers in
@@ -340,7 +349,8 @@ pub record IsStepped (g : Gauge) (columns col : ℕ) (r : ℤ) (old new : Sides)
   pub step : IsStepOf g columns col old new
   pub products : AreProducts (product_of_divisors old.divides) (product_of_divisors old.not_divides) r
 
-pub step_cost : (g : Gauge) (columns col : ℕ) (r : ℤ) (old new : Sides) → IsStepped g columns col r old new → sides_units col new ≤ℤ units_of_bounds col r old.lowers old.uppers
+pub step_cost : (g : Gauge) (columns col : ℕ) (r : ℤ) (old new : Sides) → IsStepped g columns col r old new
+    → sides_units col new ≤ℤ units_of_bounds col r old.lowers old.uppers
 step_cost g columns col r old new s =
     let same = pairs_narrowed col s.step.k old.lowers old.uppers new.lowers new.uppers s.step.narrowed.lowers s.step.narrowed.uppers in
     let few = counted_narrowed g columns col s.step.k p r old.lowers old.uppers new.lowers new.uppers s.step.positive positive product s.sided.lowers s.sided.uppers s.step.sided.uppers s.step.narrowed.lowers s.step.narrowed.uppers in
@@ -402,7 +412,8 @@ pairs_cost g columns col rows lowers uppers w hl hu =
     at_least_once r (pairs lowers uppers) (all_splinters col r lowers uppers) (pairs lowers uppers) p (pairs_not_negative lowers uppers) s (omega (arith, linear))
 
 -- with fewer neighbours than the product of the periods, a dark shadow costs no more than residues do
-pub shadow_in_sides : (g : Gauge) (columns col : ℕ) (neighbours : ℤ) (s : Sides) → AreSided g columns col s → neighbours <ℤ product_of_periods col s.not_divides
+pub shadow_in_sides : (g : Gauge) (columns col : ℕ) (neighbours : ℤ) (s : Sides) → AreSided g columns col s
+    → neighbours <ℤ product_of_periods col s.not_divides
     → shadow_units neighbours col s ≤ℤ sides_units col s
 shadow_in_sides g columns col neighbours s a less =
     let k = product_of_periods col s.not_divides in
@@ -412,20 +423,24 @@ shadow_in_sides g columns col neighbours s a less =
     (all_splinters_not_negative g columns col k s.lowers s.uppers p a.lowers a.uppers) (omega (arith, linear))
 
 -- the dark shadow of sides with its splinters
-pub shadow_within : (g h : Gauge) (columns col : ℕ) (neighbours : ℤ) (s : Sides) (dark_shadow : DarkShadow) → AreSided g columns col s → IsDarkShadowOf g columns col s dark_shadow → HasFewSplinters neighbours col s dark_shadow.tails.items
-    → IsChargedUpTo (pos (length s.lowers * length s.uppers)) g h → (pos h.units +ℤ splinter_count dark_shadow.tails.items) ≤ℤ (pos g.units +ℤ shadow_units neighbours col s)
+pub shadow_within : (g h : Gauge) (columns col : ℕ) (neighbours : ℤ) (s : Sides) (dark_shadow : DarkShadow) → AreSided g columns col s
+    → IsDarkShadowOf g columns col s dark_shadow → HasFewSplinters neighbours col s dark_shadow.tails.items
+    → IsChargedUpTo (pos (length s.lowers * length s.uppers)) g h
+    → (pos h.units +ℤ splinter_count dark_shadow.tails.items) ≤ℤ (pos g.units +ℤ shadow_units neighbours col s)
 shadow_within g h columns col neighbours s dark_shadow a is few charged =
     let most = tails_bounded g columns col neighbours s dark_shadow s.uppers refl a is few in
     let own = charged.most in
     omega (arith, linear)
 
-pub shadow_cut : (g h : Gauge) (columns col : ℕ) (neighbours : ℤ) (s : Sides) (cut : Cut) → pos 0 ≤ℤ neighbours → AreSided g columns col s → IsCutUpTo (pos (length s.lowers * length s.uppers)) g h cut → IsCutUpTo (shadow_units neighbours col s) g h cut
+pub shadow_cut : (g h : Gauge) (columns col : ℕ) (neighbours : ℤ) (s : Sides) (cut : Cut) → pos 0 ≤ℤ neighbours → AreSided g columns col s
+    → IsCutUpTo (pos (length s.lowers * length s.uppers)) g h cut → IsCutUpTo (shadow_units neighbours col s) g h cut
 shadow_cut g h columns col neighbours s cut q a own =
     let more = bound_not_negative g columns col neighbours s.lowers s.uppers q a.lowers a.uppers in
     cut_weaker (pos (length s.lowers * length s.uppers)) (shadow_units neighbours col s) g h cut (omega (arith, linear)) own
 
 -- the pairs alone are no more
-pub pairs_first : (g : Gauge) (columns col : ℕ) (neighbours : ℤ) (s : Sides) → pos 0 ≤ℤ neighbours → AreSided g columns col s → pos (length s.lowers * length s.uppers) ≤ℤ shadow_units neighbours col s
+pub pairs_first : (g : Gauge) (columns col : ℕ) (neighbours : ℤ) (s : Sides) → pos 0 ≤ℤ neighbours → AreSided g columns col s
+    → pos (length s.lowers * length s.uppers) ≤ℤ shadow_units neighbours col s
 pairs_first g columns col neighbours s q a =
     let more = bound_not_negative g columns col neighbours s.lowers s.uppers q a.lowers a.uppers in
     omega (arith, linear)

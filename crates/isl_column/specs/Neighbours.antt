@@ -41,4 +41,5 @@ ArePushed period level numbers old new = ArePushedFor period level numbers numbe
 -- where each choice leaves a number that meets the rows from its level on, one of the numbers meets all rows
 abbrev pub AreEnough : ℕ → ℕ → List Row → List Choice → List ℤ → Type 0
 AreEnough columns col rows choices numbers =
-    (point : List ℤ) (x : ℤ) → length point ≡ columns - 1 → All (λ c. IsMetAmong (drop c.level rows) col point x c.numbers.items) choices → IsMetAmong rows col point x numbers
+    (point : List ℤ) (x : ℤ) → length point ≡ columns - 1 → All (λ c. IsMetAmong (drop c.level rows) col point x c.numbers.items) choices
+    → IsMetAmong rows col point x numbers
