@@ -2,6 +2,7 @@ pub mod AlongLaws
 pub mod DefiningLaws
 pub mod EmptinessLaws
 pub mod FewerLaws
+pub mod FixedLaws
 pub mod FlattenLaws
 pub mod KeptLaws
 pub mod LeftLaws

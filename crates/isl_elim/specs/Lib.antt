@@ -1,6 +1,7 @@
 pub mod Dependents
 pub mod Elimination
 pub mod Emptiness
+pub mod Fixed
 pub mod Flatten
 pub mod Opened
 pub mod Others

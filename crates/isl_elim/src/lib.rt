@@ -6,6 +6,7 @@ mod choice;
 mod columns;
 mod dependents;
 mod emptiness;
+mod fixed;
 mod flat;
 mod line;
 mod opened;

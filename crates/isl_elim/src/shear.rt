@@ -8,6 +8,7 @@ ghost use Rattle.isl_omega.specs.Column.{IsProper};
 ghost use Rattle.isl_elim.specs.Emptiness.{HoldNowhere};
 ghost use Rattle.isl_elim.specs.Shear.{sheared, AreSheared, IsReduction};
 
+use crate::fixed::with_fixed;
 use crate::reduction::next_shear;
 use isl_meter::{Cut, Int, Meter};
 use isl_piece::{Row, Rows};
@@ -78,7 +79,8 @@ fn shortened(alloc: Global, rows: Rows, columns: usize, meter: &mut Meter) -> Re
     Ok(rows)
 }
 
-/// Normal rows with small numbers, which hold at no point exactly where the old ones do; none where they are seen to hold nowhere.
+/// Normal rows with small numbers, which hold at no point exactly where the old ones do; none where they are seen to hold nowhere. Where a
+/// congruence and bounds leave one number at a column, they say so.
 pub(crate) fn reduced(
     alloc: Global,
     rows: Rows,
@@ -90,9 +92,12 @@ pub(crate) fn reduced(
     ensures { IsDone meter.old meter.new
         (λ found. MatchOption found (HoldNowhere columns rows) (IsReduction meter.old columns rows)) result }
 {
-    if next_shear(rows.as_slice(), columns, meter.limit()).is_none() {
-        return Ok(Some(rows));
+    let Some(fixed) = with_fixed(alloc, rows, columns, meter)? else {
+        return Ok(None);
+    };
+    if next_shear(fixed.as_slice(), columns, meter.limit()).is_none() {
+        return Ok(Some(fixed));
     }
-    let short = shortened(alloc, rows, columns, meter)?;
+    let short = shortened(alloc, fixed, columns, meter)?;
     Ok(short.normalise(alloc, meter)?)
 }
