@@ -1,0 +1,4 @@
+pub mod Found
+pub mod Groups
+pub mod Same
+pub mod Stored

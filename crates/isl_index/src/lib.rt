@@ -1,0 +1,7 @@
+//! Pieces found by the spaces that they lie in.
+#![tactic(auto)]
+
+mod groups;
+mod index;
+
+pub use index::{DomainIndex, PieceIndex};
