@@ -1,3 +1,4 @@
 pub mod GroupLaws
+pub mod PassLaws
 pub mod SameLaws
 pub mod TextLaws

@@ -1,5 +1,5 @@
--- public: pieces of one space, and ones of maps from one shape. (isl manual, on unions of sets and of relations)
-use Rattle.std.specs.Prelude.{Bool, false}
+-- public: pieces of one space, and those of which it begins with one form. (isl manual, on unions of sets and of relations)
+use Rattle.std.specs.Prelude.{Bool}
 use Rattle.isl_space.specs.Form.{Form}
 use Rattle.isl_space.specs.SpaceForm.{SpaceForm, set_of, map_of}
 use Rattle.isl_piece.specs.Piece.{PieceView}
@@ -9,11 +9,11 @@ use Rattle.isl_index.specs.Same.{is_same_form, is_same_space}
 abbrev pub lies_in : SpaceForm → PieceView → Bool
 lies_in space piece = is_same_space space piece.space
 
--- whether the space is that of a map from the form
-abbrev pub begins_with : Form → SpaceForm → Bool
-begins_with form (set_of shape) = false
-begins_with form (map_of from to) = is_same_form form from
+-- the form of a set, and the one that a map maps from
+abbrev pub first_form : SpaceForm → Form
+first_form (set_of form) = form
+first_form (map_of from to) = from
 
--- whether the piece is one of a map from the form
-abbrev pub maps_from : Form → PieceView → Bool
-maps_from form piece = begins_with form piece.space
+-- whether the piece is one of a set of the form, or of a map from it
+abbrev pub begins_with : Form → PieceView → Bool
+begins_with form piece = is_same_form form (first_form piece.space)

@@ -2,11 +2,14 @@
 
 ghost use Rattle.std.specs.Prelude.{◌≡◌, List, ℕ, [], ◌∷◌, ◌++◌, if◌then◌else◌, filter, IfOk, OnOk};
 ghost use Rattle.std.specs.Str.{bytes_eq};
-ghost use Rattle.isl_index.specs.Groups.{has_title, maps_from_title, under};
+ghost use Rattle.isl_space.specs.Shape.{form_of};
+ghost use Rattle.isl_space.specs.Space.{space_form_of};
+ghost use Rattle.isl_index.specs.Found.{first_form};
+ghost use Rattle.isl_index.specs.Groups.{begins_with_title, has_title, under};
 
 use indexmap::IndexMap;
 use isl_piece::Piece;
-use isl_space::{Name, Space};
+use isl_space::{Name, Shape, Space};
 use std::alloc::{AllocError, Global};
 use std::marker::Model;
 
@@ -51,6 +54,16 @@ impl Group {
     }
 }
 
+// The shape of a set, and the one that a map maps from.
+fn first_shape(space: &Space) -> &Shape
+    ensures { form_of result.now ≡ first_form (space_form_of space.now) }
+{
+    match space {
+        Space::Set(shape) => shape,
+        Space::Map(from, _) => from,
+    }
+}
+
 // Puts a piece behind those of its title.
 fn put(
     alloc: Global,
@@ -87,24 +100,19 @@ pub(crate) fn by_space(alloc: Global, pieces: &[Piece]) -> Result<IndexMap<Name,
     Ok(groups)
 }
 
-/// Those of the pieces that are ones of maps, under the texts of the shapes that they map from.
+/// The pieces under the texts of the first shapes of their spaces.
 ///
 /// # Errors
 ///
 /// Where memory ends.
-pub(crate) fn by_domain(
-    alloc: Global,
-    pieces: &[Piece],
-) -> Result<IndexMap<Name, Group>, AllocError>
-    ensures { IfOk result (λ groups. (title : List ℕ) → under title groups.entries ≡ filter (maps_from_title title) pieces.now) }
+pub(crate) fn by_shape(alloc: Global, pieces: &[Piece]) -> Result<IndexMap<Name, Group>, AllocError>
+    ensures { IfOk result (λ groups. (title : List ℕ) → under title groups.entries ≡ filter (begins_with_title title) pieces.now) }
 {
     let mut groups = IndexMap::new(alloc);
     for piece in pieces {
-        if let Space::Map(from, _) = piece.space() {
-            let text = from.text(alloc)?;
-            let title = Name::new(alloc, text.as_str())?;
-            put(alloc, &mut groups, title, piece.copy()?)?;
-        }
+        let text = first_shape(piece.space()).text(alloc)?;
+        let title = Name::new(alloc, text.as_str())?;
+        put(alloc, &mut groups, title, piece.copy()?)?;
     }
     Ok(groups)
 }

@@ -1,13 +1,13 @@
-//! Pieces found by the spaces, or by the domains, that they lie in.
+//! Pieces found by the spaces that they lie in, or by the first shapes of these.
 
 ghost use Rattle.std.specs.Prelude.{◌≡◌, All, IfOk, filter};
 ghost use Rattle.isl_space.specs.Form.{IsWellFormed};
 ghost use Rattle.isl_space.specs.Shape.{form_of};
 ghost use Rattle.isl_space.specs.Space.{space_form_of};
 ghost use Rattle.isl_space.specs.SpaceForm.{IsWellFormedSpace};
-ghost use Rattle.isl_index.specs.Found.{lies_in, maps_from};
+ghost use Rattle.isl_index.specs.Found.{lies_in, begins_with};
 
-use crate::groups::{Group, by_domain, by_space};
+use crate::groups::{Group, by_shape, by_space};
 use indexmap::IndexMap;
 use isl_piece::Piece;
 use isl_space::{Name, Shape, Space};
@@ -77,19 +77,19 @@ impl PieceIndex {
     }
 }
 
-/// Pieces, of which those of maps are found by the shapes that they map from, without a look at the others. Contracts see the list
-/// of the pieces.
+/// Pieces, found by the first shapes of their spaces without a look at the others: of a set its shape, of a map the one that it maps
+/// from. Contracts see the list of the pieces.
 #[derive(Drop)]
-pub struct DomainIndex {
+pub struct ShapeIndex {
     pieces: Vec<Piece>,
     groups: IndexMap<Name, Group>,
 }
 
-impl Model for DomainIndex {
+impl Model for ShapeIndex {
     ghost use Rattle.std.specs.Prelude.{◌≡◌, List, ℕ, All, filter};
     ghost use Rattle.isl_space.specs.SpaceForm.{IsWellFormedSpace};
     ghost use Rattle.isl_piece.specs.Piece.{PieceView};
-    ghost use Rattle.isl_index.specs.Groups.{maps_from_title, under};
+    ghost use Rattle.isl_index.specs.Groups.{begins_with_title, under};
     ghost use Rattle.isl_index.specs.Stored.{pieces_code};
 
     ghost Value = { List PieceView };
@@ -99,21 +99,21 @@ impl Model for DomainIndex {
     ghost view = { λ i. i.pieces.items };
 
     ghost invariant = { λ i. All (λ piece. IsWellFormedSpace piece.space) i.pieces.items
-        × ((title : List ℕ) → under title i.groups.entries ≡ filter (maps_from_title title) i.pieces.items) };
+        × ((title : List ℕ) → under title i.groups.entries ≡ filter (begins_with_title title) i.pieces.items) };
 }
 
-impl DomainIndex {
+impl ShapeIndex {
     /// The pieces, in order.
     ///
     /// # Errors
     ///
     /// Where memory ends.
-    pub fn new(alloc: Global, pieces: Vec<Piece>) -> Result<DomainIndex, AllocError>
+    pub fn new(alloc: Global, pieces: Vec<Piece>) -> Result<ShapeIndex, AllocError>
         requires { All (λ piece. IsWellFormedSpace piece.space) pieces.items }
         ensures { IfOk result (λ index. index ≡ pieces.items) }
     {
-        let groups = by_domain(alloc, pieces.as_slice())?;
-        Ok(DomainIndex { pieces, groups })
+        let groups = by_shape(alloc, pieces.as_slice())?;
+        Ok(ShapeIndex { pieces, groups })
     }
 
     /// All the pieces, in order.
@@ -123,14 +123,14 @@ impl DomainIndex {
         self.pieces.as_slice()
     }
 
-    /// Exactly those of the pieces that are ones of maps from the shape, in order.
+    /// Exactly those of the pieces that are ones of sets of the shape, or of maps from it, in order.
     ///
     /// # Errors
     ///
     /// Where memory ends.
-    pub fn from_shape(&self, alloc: Global, shape: &Shape) -> Result<&[Piece], AllocError>
+    pub fn with_shape(&self, alloc: Global, shape: &Shape) -> Result<&[Piece], AllocError>
         requires { IsWellFormed (form_of shape.now) }
-        ensures { IfOk result (λ found. found.now ≡ filter (maps_from (form_of shape.now)) self.now) }
+        ensures { IfOk result (λ found. found.now ≡ filter (begins_with (form_of shape.now)) self.now) }
     {
         let text = shape.text(alloc)?;
         let title = Name::new(alloc, text.as_str())?;

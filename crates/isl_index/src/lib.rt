@@ -4,4 +4,4 @@
 mod groups;
 mod index;
 
-pub use index::{DomainIndex, PieceIndex};
+pub use index::{PieceIndex, ShapeIndex};

@@ -5,6 +5,7 @@ pub mod LiveLaws
 pub mod MovedLaws
 pub mod AlignedLaws
 pub mod MeetLaws
+pub mod IndexLaws
 pub mod UnitLaws
 pub mod CountLaws
 pub mod ValueLaws

@@ -1,21 +1,15 @@
 -- What two values have in common: its elements, its numbers, and its units.
-use Rattle.std.proofs.Common.{◌≡◌, ◌↔◌, ◌⊎◌, inl, inr, refl, sym, ap, ap₂, ◌∙◌, subst, ℕ, ◌+◌, ◌<◌, true}
-use Rattle.std.proofs.Common.{◌&&◌, Option, Some, None, option_map, IfSome, option_to_list, List, [], ◌∷◌, ◌++◌}
+use Rattle.std.proofs.Common.{◌≡◌, ◌↔◌, ◌⊎◌, inl, inr, refl, sym, ap, ap₂, ◌∙◌, subst, ℕ, ◌+◌, ◌<◌}
+use Rattle.std.proofs.Common.{Option, Some, None, option_map, IfSome, option_to_list, List, [], ◌∷◌, ◌++◌}
 use Rattle.std.proofs.Common.{All, Any, length, get_or, take, sum_by}
 use Rattle.std.specs.List.{cons_option}
-use Rattle.std.specs.Option.{option_eq}
-use Rattle.std.specs.Str.{bytes_eq}
-use borrow.Author.Tests.{eqb-true, eq-eqb}
-use Rattle.std.proofs.lemmas.Bool.{and_parts, cases_Bool, cond-true, cond-false, false≢true, false_from_ne_true}
-use Rattle.std.proofs.lemmas.Slice.Eq.{bytes_eq-Decides}
+use Rattle.std.proofs.lemmas.Bool.{cases_Bool, cond-true, cond-false, false≢true, false_from_ne_true}
 use Rattle.std.proofs.lemmas.List.Elements.{All-nil, All-cons, All-head, All-tail, All-append}
 use Rattle.std.proofs.lemmas.List.{flat_map_more, take_more}
 use Rattle.std.proofs.lemmas.List.Sums.{sum_by_push}
 use Rattle.isl_math.proofs.ListLaws.{Any-none, Any-first, Any-later, Any-cases, Any-parts, Any-left, Any-right}
 use Rattle.isl_space.specs.Element.{Element}
-use Rattle.isl_space.specs.Form.{Form, leaf, pair}
 use Rattle.isl_space.specs.Name.{Name}
-use Rattle.isl_space.specs.SpaceForm.{SpaceForm, set_of, map_of}
 use Rattle.isl_space.specs.Valuation.{Valuation}
 use Rattle.isl_meter.specs.Gauge.{Gauge}
 use Rattle.isl_piece.specs.declared.row.Row.{Row}
@@ -24,45 +18,15 @@ use Rattle.isl_piece.specs.Placed.{both_systems}
 use Rattle.isl_piece.specs.Normal.{normal_rows}
 use Rattle.isl_piece.specs.System.{IsSystemWithin, free_columns}
 use Rattle.isl_piece.proofs.MeetLaws.{both_case, both_free, both_points, both_up_to, both_within}
+pub use Rattle.isl_index.proofs.SameLaws.{space_is, space_itself}
 use Rattle.isl_union.specs.KeptValue.{KeptPiece, HasElement, columns_of, piece_system, point_of}
 use Rattle.isl_union.specs.Live.{normal_of}
-use Rattle.isl_union.specs.Meet.{is_same_form, is_same_space, common_piece, met_piece, met_with, met_pieces, pair_count, partners}
+use Rattle.isl_union.specs.Meet.{is_same_space, common_piece, met_piece, met_with, met_pieces, pair_count, partners}
 use Rattle.isl_union.specs.Numbers.{IsPieceUpTo}
 use Rattle.isl_piece.specs.Piece.{PieceView}
 use Rattle.isl_union.specs.Piece.{kept_piece, piece_of, IsPieceOf}
 use Rattle.isl_union.proofs.LiveLaws.{filter_more, none_void, normal_has, normal_up_to, with_rows}
 use Rattle.isl_union.proofs.SystemLaws.{columns_from, free_of_piece, point_long, system_is, view_is, void_has, IsFit}
-
--- ---- spaces that are the same
-name_is : (a b : Option Name) → option_eq bytes_eq a b ≡ true → a ≡ b
-name_is None None e = refl
-name_is None (Some b) e = absurd (false≢true e)
-name_is (Some a) None e = absurd (false≢true e)
-name_is (Some a) (Some b) e = ap Some ((bytes_eq-Decides a b).0 e)
-
-name_itself : (a : Option Name) → option_eq bytes_eq a a ≡ true
-name_itself None = refl
-name_itself (Some a) = (bytes_eq-Decides a a).1 refl
-
-form_is : (a b : Form) → is_same_form a b ≡ true → a ≡ b
-form_is (leaf a m) (leaf b n) e = let p = and_parts _ _ e in ap₂ leaf (name_is a b p.0) (eqb-true m n p.1)
-form_is (leaf a m) (pair c d) e = absurd (false≢true e)
-form_is (pair a b) (leaf c n) e = absurd (false≢true e)
-form_is (pair a b) (pair c d) e = let p = and_parts _ _ e in ap₂ pair (form_is a c p.0) (form_is b d p.1)
-
-form_itself : (a : Form) → is_same_form a a ≡ true
-form_itself (leaf a m) = ap₂ (λ x y. x && y) (name_itself a) (eq-eqb m m refl)
-form_itself (pair a b) = ap₂ (λ x y. x && y) (form_itself a) (form_itself b)
-
-pub space_is : (a b : SpaceForm) → is_same_space a b ≡ true → a ≡ b
-space_is (set_of a) (set_of b) e = ap set_of (form_is a b e)
-space_is (set_of a) (map_of c d) e = absurd (false≢true e)
-space_is (map_of a b) (set_of c) e = absurd (false≢true e)
-space_is (map_of a b) (map_of c d) e = let p = and_parts _ _ e in ap₂ map_of (form_is a c p.0) (form_is b d p.1)
-
-pub space_itself : (a : SpaceForm) → is_same_space a a ≡ true
-space_itself (set_of a) = form_itself a
-space_itself (map_of a b) = ap₂ (λ x y. x && y) (form_itself a) (form_itself b)
 
 -- ---- one pair
 -- of two spaces

@@ -1,33 +1,15 @@
 -- public: which pieces of two values meet. (isl manual, on set and relation operations)
-use Rattle.std.specs.Prelude.{◌≡◌, ℕ, Bool, false, ◌&&◌, if◌then◌else◌, Option, None, List, sum_by, flat_map, filter_map}
-use Rattle.std.specs.Bool.{nat_eq}
-use Rattle.std.specs.Option.{option_eq}
-use Rattle.std.specs.Str.{bytes_eq}
-use Rattle.isl_space.specs.Form.{Form, leaf, pair}
-use Rattle.isl_space.specs.SpaceForm.{SpaceForm, set_of, map_of}
+use Rattle.std.specs.Prelude.{◌≡◌, ℕ, if◌then◌else◌, Option, None, List, sum_by, flat_map, filter_map}
 use Rattle.isl_space.specs.Name.{Name}
 use Rattle.isl_space.specs.Names.{joined}
 use Rattle.isl_piece.specs.Placed.{both_systems}
+pub use Rattle.isl_index.specs.Same.{is_same_form, is_same_space}
 use Rattle.isl_union.specs.KeptValue.{KeptPiece, KeptValue, piece_system}
 use Rattle.isl_union.specs.Live.{normal_of, AreLiveOf}
 use Rattle.isl_union.specs.Piece.{piece_of}
 use Rattle.isl_union.specs.Moved.{aligned_pieces}
 
 -- ---- pieces of one space
--- whether two forms are equal
-abbrev pub is_same_form : Form → Form → Bool
-is_same_form (leaf a m) (leaf b n) = option_eq bytes_eq a b && nat_eq m n
-is_same_form (leaf a m) (pair c d) = false
-is_same_form (pair a b) (leaf c n) = false
-is_same_form (pair a b) (pair c d) = is_same_form a c && is_same_form b d
-
--- whether two spaces are equal
-abbrev pub is_same_space : SpaceForm → SpaceForm → Bool
-is_same_space (set_of a) (set_of b) = is_same_form a b
-is_same_space (set_of a) (map_of c d) = false
-is_same_space (map_of a b) (set_of c) = false
-is_same_space (map_of a b) (map_of c d) = is_same_form a c && is_same_form b d
-
 -- 1 where the two pieces lie in one space, else 0
 abbrev pub pair_count : KeptPiece → KeptPiece → ℕ
 pair_count a b = if is_same_space a.space b.space then 1 else 0

@@ -15,6 +15,7 @@ use crate::minus::systems_in;
 use crate::pair::aligned_pair;
 use crate::{OpFault, Value};
 use isl_difference::is_covered;
+use isl_index::PieceIndex;
 use isl_meter::{Cut, Meter};
 use isl_piece::Piece;
 use isl_space::Params;
@@ -26,7 +27,7 @@ fn is_piece_covered(
     alloc: Global,
     params: &Params,
     piece: &Piece,
-    others: &[Piece],
+    others: &PieceIndex,
     meter: &mut Meter,
 ) -> Result<bool, Cut>
     requires names { AreDistinct params.now }
@@ -48,7 +49,7 @@ fn are_covered(
     alloc: Global,
     params: &Params,
     pieces: &[Piece],
-    others: &[Piece],
+    others: &PieceIndex,
     meter: &mut Meter,
 ) -> Result<bool, Cut>
     requires names { AreDistinct params.now }
@@ -73,23 +74,25 @@ fn are_covered(
 fn are_mutual(
     alloc: Global,
     params: &Params,
-    pieces: &[Piece],
-    others: &[Piece],
+    pieces: Vec<Piece>,
+    others: Vec<Piece>,
     meter: &mut Meter,
 ) -> Result<bool, Cut>
     requires names { AreDistinct params.now }
-    requires pieces { All (IsPieceOf params.now) pieces.now }
-    requires others { All (IsPieceOf params.now) others.now }
-    requires pieces_within { AreWithinLimit meter.old pieces.now }
-    requires others_within { AreWithinLimit meter.old others.now }
-    ensures exact { IfOk result (λ same. IsTrue same ↔ (AreCovered params.now (map kept_piece pieces.now) (map kept_piece others.now)
-        × AreCovered params.now (map kept_piece others.now) (map kept_piece pieces.now))) }
+    requires pieces { All (IsPieceOf params.now) pieces.items }
+    requires others { All (IsPieceOf params.now) others.items }
+    requires pieces_within { AreWithinLimit meter.old pieces.items }
+    requires others_within { AreWithinLimit meter.old others.items }
+    ensures exact { IfOk result (λ same. IsTrue same ↔ (AreCovered params.now (map kept_piece pieces.items) (map kept_piece others.items)
+        × AreCovered params.now (map kept_piece others.items) (map kept_piece pieces.items))) }
     ensures meter { IsMetered meter.old meter.new result }
 {
-    if !are_covered(alloc, params, pieces, others, meter)? {
+    let others = PieceIndex::new(alloc, others)?;
+    if !are_covered(alloc, params, pieces.as_slice(), &others, meter)? {
         return Ok(false);
     }
-    are_covered(alloc, params, others, pieces, meter)
+    let pieces = PieceIndex::new(alloc, pieces)?;
+    are_covered(alloc, params, others.pieces(), &pieces, meter)
 }
 
 impl Value {
@@ -113,8 +116,9 @@ impl Value {
             (IsFaultBy (joined self.now.params other.now.params) meter.old meter.new) }
     {
         let pair = aligned_pair(alloc, self, other, meter)?;
-        let (own, others) = (pair.own.as_slice(), pair.others.as_slice());
-        Ok(are_covered(alloc, &pair.params, own, others, meter)?)
+        let others = PieceIndex::new(alloc, pair.others)?;
+        let own = pair.own.as_slice();
+        Ok(are_covered(alloc, &pair.params, own, &others, meter)?)
     }
 
     /// Whether at every valuation both values have the same elements. The value of more pieces is the first that is asked whether
@@ -132,7 +136,7 @@ impl Value {
             (IsFaultBy (joined self.now.params other.now.params) meter.old meter.new) }
     {
         let pair = aligned_pair(alloc, self, other, meter)?;
-        let (own, others) = (pair.own.as_slice(), pair.others.as_slice());
+        let (own, others) = (pair.own, pair.others);
         if own.len() < others.len() {
             Ok(are_mutual(alloc, &pair.params, others, own, meter)?)
         } else {

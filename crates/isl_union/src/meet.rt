@@ -18,6 +18,7 @@ ghost use Rattle.isl_union.specs.Piece.{kept_piece, IsPieceOf};
 use crate::aligned::aligned_pieces;
 use crate::live::{live_piece, push_found};
 use crate::{OpFault, Value};
+use isl_index::PieceIndex;
 use isl_meter::{Cut, Meter};
 use isl_piece::{Piece, meet};
 use isl_space::Params;
@@ -51,9 +52,9 @@ fn met_piece(
     live_piece(alloc, space, both, meter)
 }
 
-// What the piece has in common with each of the others.
+// What the piece has in common with each of the others, which are looked at one by one.
 #[tactic(auto, using(std::proofs::lemmas::Grind::common_steps, crate::proofs::UnitLaws::unit_steps))]
-fn met_with(
+fn met_among(
     alloc: Global,
     params: &Params,
     piece: &Piece,
@@ -78,13 +79,37 @@ fn met_with(
     Ok(met)
 }
 
+// What the piece has in common with each of the others, of which only those of its space are looked at.
+#[tactic(auto, using(std::proofs::lemmas::Grind::common_steps, crate::proofs::UnitLaws::unit_steps))]
+fn met_with(
+    alloc: Global,
+    params: &Params,
+    piece: &Piece,
+    others: &PieceIndex,
+    meter: &mut Meter,
+) -> Result<Vec<Piece>, Cut>
+    requires piece { IsPieceOf params.now piece.now }
+    requires others { All (IsPieceOf params.now) others.now }
+    requires piece_within { IsSystemWithin meter.old piece.now.system }
+    requires others_within { AreWithinLimit meter.old others.now }
+    ensures exact { IfOk result (λ met.
+        AreLiveOf params.now (met_with params.now (map kept_piece others.now) (kept_piece piece.now)) (map kept_piece met.items)) }
+    ensures sound { IfOk result (λ met. All (IsPieceOf params.now) met.items) }
+    ensures units { MatchResult result
+        (λ _. IsChargedFrom (partners (map kept_piece others.now) (kept_piece piece.now)) meter.old meter.new)
+        (IsCutBy meter.old meter.new) }
+{
+    let near = others.in_space(alloc, piece.space())?;
+    met_among(alloc, params, piece, near, meter)
+}
+
 // What the pieces have in common with the others.
 #[tactic(auto, using(std::proofs::lemmas::Grind::common_steps, crate::proofs::UnitLaws::unit_steps))]
 fn met_pieces(
     alloc: Global,
     params: &Params,
     pieces: &[Piece],
-    others: &[Piece],
+    others: &PieceIndex,
     meter: &mut Meter,
 ) -> Result<Vec<Piece>, Cut>
     requires pieces { All (IsPieceOf params.now) pieces.now }
@@ -134,7 +159,8 @@ impl Value {
         let (params, _places) = self.params().align(alloc, other.params())?;
         let own = aligned_pieces(alloc, &params, self, meter)?;
         let others = aligned_pieces(alloc, &params, other, meter)?;
-        let met = met_pieces(alloc, &params, own.as_slice(), others.as_slice(), meter)?;
+        let index = PieceIndex::new(alloc, others)?;
+        let met = met_pieces(alloc, &params, own.as_slice(), &index, meter)?;
         Ok(Value::from_normal(params, met))
     }
 }

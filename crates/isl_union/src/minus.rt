@@ -6,6 +6,7 @@ ghost use Rattle.isl_space.specs.Element.{Element};
 ghost use Rattle.isl_space.specs.Limits.{most_parameters};
 ghost use Rattle.isl_space.specs.Names.{joined};
 ghost use Rattle.isl_space.specs.Space.{space_form_of};
+ghost use Rattle.isl_space.specs.SpaceForm.{IsWellFormedSpace};
 ghost use Rattle.isl_space.specs.Valuation.{Valuation};
 ghost use Rattle.isl_piece.specs.System.{IsSystemWithin};
 ghost use Rattle.isl_union.specs.Fault.{IsFaultBy};
@@ -18,6 +19,7 @@ use crate::pair::aligned_pair;
 use crate::pieces::pieces_in;
 use crate::{OpFault, Value};
 use isl_difference::outside;
+use isl_index::PieceIndex;
 use isl_meter::{Cut, Meter};
 use isl_piece::{Piece, System};
 use isl_space::{Params, Space};
@@ -27,15 +29,15 @@ use std::alloc::{AllocError, Global};
 pub(crate) fn systems_in<'a>(
     alloc: Global,
     space: &Space,
-    pieces: &'a [Piece],
+    pieces: &'a PieceIndex,
 ) -> Result<Vec<&'a System>, AllocError>
+    requires { IsWellFormedSpace (space_form_of space.now) }
     ensures { IfOk result (λ systems. map (λ system. system.now) systems.items ≡ systems_in (space_form_of space.now) pieces.now) }
 {
-    let mut systems = Vec::new(alloc);
-    for piece in pieces {
-        if space.same(piece.space()) {
-            systems.push(piece.system())?;
-        }
+    let found = pieces.in_space(alloc, space)?;
+    let mut systems = Vec::with_capacity(alloc, found.len())?;
+    for piece in found {
+        systems.push(piece.system())?;
     }
     Ok(systems)
 }
@@ -46,7 +48,7 @@ fn piece_without(
     alloc: Global,
     params: &Params,
     piece: &Piece,
-    others: &[Piece],
+    others: &PieceIndex,
     meter: &mut Meter,
 ) -> Result<Vec<Piece>, Cut>
     requires piece { IsPieceOf params.now piece.now }
@@ -78,7 +80,7 @@ fn pieces_without(
     alloc: Global,
     params: &Params,
     pieces: &[Piece],
-    others: &[Piece],
+    others: &PieceIndex,
     meter: &mut Meter,
 ) -> Result<Vec<Piece>, Cut>
     requires pieces { All (IsPieceOf params.now) pieces.now }
@@ -125,13 +127,9 @@ impl Value {
             (IsFaultBy (joined self.now.params other.now.params) meter.old meter.new) }
     {
         let pair = aligned_pair(alloc, self, other, meter)?;
-        let left = pieces_without(
-            alloc,
-            &pair.params,
-            pair.own.as_slice(),
-            pair.others.as_slice(),
-            meter,
-        )?;
+        let others = PieceIndex::new(alloc, pair.others)?;
+        let own = pair.own.as_slice();
+        let left = pieces_without(alloc, &pair.params, own, &others, meter)?;
         Ok(Value::from_normal(pair.params, left))
     }
 }

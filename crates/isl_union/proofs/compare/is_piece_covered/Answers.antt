@@ -1,6 +1,6 @@
 use Rattle.std.proofs.Common.{◌≡◌, sym, ap, ◌∙◌, subst, ◌∷◌, [], map}
 use Rattle.std.specs.List.{All}
-use Rattle.isl_space.specs.SpaceForm.{SpaceForm}
+use Rattle.isl_space.specs.SpaceForm.{SpaceForm, IsWellFormedSpace}
 use Rattle.isl_piece.specs.declared.system.System.{System}
 use Rattle.isl_piece.specs.System.{IsSystemWithin, free_columns}
 use Rattle.isl_difference.specs.Difference.{IsCovered}
@@ -9,6 +9,9 @@ use Rattle.isl_union.specs.Piece.{kept_piece}
 use Rattle.isl_union.proofs.CompareLaws.{covered_back, covered_from, true_exactly}
 use Rattle.isl_union.proofs.MinusLaws.{systems_free, systems_within, view_somewhere}
 use Rattle.isl_union.proofs.compare.is_piece_covered.Goals as goal
+
+pub systems_in-requires : goal.systems_in-requires
+systems_in-requires c = subst IsWellFormedSpace (sym c.space.ensures) c.requires.piece.kept.space
 
 pub is_covered-requires-clause-others_within : goal.is_covered-requires-clause-others_within
 is_covered-requires-clause-others_within c =

@@ -1,39 +1,49 @@
-use Rattle.std.proofs.Common.{arith, ◌<◌, length}
+use Rattle.std.proofs.Common.{◌∙◌, sym, ap, subst, filter, map, List, IfOk, MatchResult}
+use Rattle.std.specs.List.{All}
+use Rattle.std.proofs.lemmas.List.Elements.{All-filter}
+use Rattle.isl_meter.specs.Gauge.{IsCutBy}
+use Rattle.isl_space.specs.SpaceForm.{SpaceForm, IsWellFormedSpace}
+use Rattle.isl_piece.specs.Piece.{PieceView}
 use Rattle.isl_piece.specs.System.{IsSystemWithin}
-use Rattle.isl_piece.proofs.FormedLaws.{system_within_kept}
+use Rattle.isl_index.specs.Found.{lies_in}
+use Rattle.isl_union.specs.Fault.{IsChargedFrom}
+use Rattle.isl_union.specs.KeptValue.{KeptPiece}
+use Rattle.isl_union.specs.Live.{AreLiveOf}
+use Rattle.isl_union.specs.Meet.{met_with, partners}
 use Rattle.isl_union.specs.Piece.{kept_piece, IsPieceOf}
-use Rattle.isl_union.proofs.MeetSteps.{charged_bits, found_sound, item_has, with_step, with_used}
+use Rattle.isl_union.proofs.IndexLaws.{met_found, partners_found}
 use Rattle.isl_union.proofs.meet.met_with.Goals as goal
 
-pub met_piece-requires-clause-own_within : goal.met_piece-requires-clause-own_within
-met_piece-requires-clause-own_within c =
-    system_within_kept c.loop-other.meter c.args.meter.now c.args.piece.now.system
-    (charged_bits c.args.meter.now c.loop-other.meter c.loop-other.invariant.used.charged) c.requires.piece_within
+pub in_space-requires : goal.in_space-requires
+in_space-requires c = subst IsWellFormedSpace (sym c.space.ensures) c.requires.piece.kept.space
 
-pub met_piece-requires-clause-other_within : goal.met_piece-requires-clause-other_within
-met_piece-requires-clause-other_within c =
-    let low : c.loop-other.other-index < length c.args.others.now = omega arith in
-    system_within_kept c.loop-other.meter c.args.meter.now c.other-item.result.system
-    (charged_bits c.args.meter.now c.loop-other.meter c.loop-other.invariant.used.charged)
-    (item_has (λ p. IsSystemWithin c.args.meter.now p.system) c.args.others.now c.loop-other.other-index c.other-item.result low
-    c.other-item.is c.requires.others_within)
+pub met_among-requires-clause-others : goal.met_among-requires-clause-others
+met_among-requires-clause-others c =
+    subst (All (IsPieceOf c.args.params.now)) (sym c.in_ok-near.ensures)
+    (All-filter (lies_in _) (IsPieceOf c.args.params.now) c.args.others.now c.requires.others)
 
-pub loop-other-preserved : goal.loop-other-preserved
-loop-other-preserved c =
-    let others = c.args.others.now in
-    let i = c.loop-other.other-index in
-    let other = c.other-item.result in
+pub met_among-requires-clause-others_within : goal.met_among-requires-clause-others_within
+met_among-requires-clause-others_within c =
+    let P : PieceView → Type 0 = λ p. IsSystemWithin c.args.meter.now p.system in
+    subst (All P) (sym c.in_ok-near.ensures) (All-filter (lies_in _) P c.args.others.now c.requires.others_within)
+
+pub returns-clause-exact : goal.returns-clause-exact
+returns-clause-exact c =
     let params = c.args.params.now in
-    let piece = kept_piece c.args.piece.now in
-    let low : i < length others = omega arith in
-    let found = c.in_ok-met_piece.field-0 in
-    let met = c.loop-other.met.items in
-    let so_far = c.loop-other.invariant in
-    record {
-      met = with_step others other i low c.other-item.is params piece met c.push_found.new.kept.items found c.in_ok-met_piece.ensures.exact
-          c.in_ok-push_found.ensures so_far.met;
-      sound = found_sound (IsPieceOf params) met c.push_found.new.kept.items found so_far.sound c.in_ok-met_piece.ensures.sound
-          c.in_ok-push_found.ensures;
-      used = with_used others other i low c.other-item.is params piece c.args.meter.now c.loop-other.meter c.met_piece.new.meter so_far.used
-          c.in_ok-met_piece.ensures.units;
-    }
+    let piece = c.args.piece.now in
+    let others = c.args.others.now in
+    let near = c.in_ok-near.ensures ∙ ap (λ (s : SpaceForm). filter (lies_in s) others) c.space.ensures in
+    subst (λ (l : List KeptPiece). IfOk c.met_among.result (λ met. AreLiveOf params l (map kept_piece met.items)))
+    (ap (λ (l : List PieceView). met_with params (map kept_piece l) (kept_piece piece)) near ∙ met_found piece params others)
+    c.met_among.ensures.exact
+
+pub returns-clause-units : goal.returns-clause-units
+returns-clause-units c =
+    let piece = c.args.piece.now in
+    let others = c.args.others.now in
+    let g = c.args.meter.now in
+    let h = c.met_among.new.meter in
+    let near = c.in_ok-near.ensures ∙ ap (λ (s : SpaceForm). filter (lies_in s) others) c.space.ensures in
+    subst (λ n. MatchResult c.met_among.result (λ _. IsChargedFrom n g h) (IsCutBy g h))
+    (ap (λ (l : List PieceView). partners (map kept_piece l) (kept_piece piece)) near ∙ partners_found piece others)
+    c.met_among.ensures.units

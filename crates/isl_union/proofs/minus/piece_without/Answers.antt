@@ -4,13 +4,16 @@ use Rattle.std.proofs.lemmas.Grind.{common_steps}
 use Rattle.std.proofs.lemmas.List.{nil_from_length}
 use Rattle.std.proofs.lemmas.List.Elements.{All-cons, All-map, All-nil}
 use Rattle.isl_piece.specs.Piece.{PieceView}
-use Rattle.isl_space.specs.SpaceForm.{SpaceForm}
+use Rattle.isl_space.specs.SpaceForm.{SpaceForm, IsWellFormedSpace}
 use Rattle.isl_piece.specs.declared.system.System.{System}
 use Rattle.isl_piece.specs.System.{IsSystemWithin, free_columns}
 use Rattle.isl_union.specs.Minus.{piece_in, systems_in}
 use Rattle.isl_union.proofs.CountLaws.{length_mapped}
 use Rattle.isl_union.proofs.MinusLaws.{left_alone, left_over, systems_all, systems_free, systems_within}
 use Rattle.isl_union.proofs.minus.piece_without.Goals as goal
+
+pub systems_in-requires : goal.systems_in-requires
+systems_in-requires c = subst IsWellFormedSpace (sym c.space-space.ensures) c.requires.piece.kept.space
 
 pub returns-then-is_empty-clause-exact : goal.returns-then-is_empty-clause-exact
 returns-then-is_empty-clause-exact c =

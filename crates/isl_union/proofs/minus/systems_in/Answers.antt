@@ -1,23 +1,20 @@
-use Rattle.std.proofs.Common.{◌<◌, sym, ap, ◌∙◌, arith, length}
-use Rattle.std.proofs.lemmas.Bool.{false≢true}
+use Rattle.std.proofs.Common.{◌≤◌, ◌∙◌, ap, map, arith, length}
+use Rattle.std.proofs.lemmas.List.{take_all}
 use Rattle.isl_space.specs.Space.{space_form_of}
-use Rattle.isl_union.proofs.MinusLaws.{systems_elsewhere, systems_here}
-use Rattle.isl_union.proofs.minus.systems_in.Goals.{then-same+in_ok-push, else-same}
+use Rattle.isl_piece.specs.Piece.{PieceView}
+use Rattle.isl_union.proofs.IndexLaws.{systems_found, systems_step}
 use Rattle.isl_union.proofs.minus.systems_in.Goals as goal
 
 pub loop-piece-preserved : goal.loop-piece-preserved
 loop-piece-preserved c =
-    let space = space_form_of c.args.space.now in
-    let pieces = c.args.pieces.now in
-    let i = c.loop-piece.piece-index in
-    let piece = c.piece-item.result in
-    let low : i < length pieces = omega arith in
-    let found = c.loop-piece.systems.items in
-    elim c.if-same.branch [
-      | then-same+in_ok-push w ↦ systems_here space pieces piece i low c.piece-item.is (λ s. s.now) found c.if-same.systems.items
-          w.system.result (c.same.ensures.0 w.if-same.true ∙ c.space.ensures) w.system.ensures
-          (ap (λ v. v.items) w.systems-is ∙ w.in_ok-push.ensures.items) c.loop-piece.invariant
-      | else-same w ↦ rw w.systems-is (c.loop-piece.invariant
-          ∙ systems_elsewhere space pieces piece i low c.piece-item.is
-          (λ e. false≢true (sym w.if-same.false ∙ c.same.ensures.1 (e ∙ sym c.space.ensures))))
-    ]
+    systems_step (λ s. s.now) c.in_ok-found.found.now c.piece-item.result c.loop-piece.piece-index c.loop-piece.systems.items
+    c.push.new.self.items c.system.result c.loop-piece-test.true c.piece-item.is c.system.ensures c.in_ok-push.ensures.items
+    c.loop-piece.invariant
+
+pub returns : goal.returns
+returns c =
+    let found = c.in_ok-found.found.now in
+    let end : length found ≤ c.loop-piece.piece-index = omega arith in
+    c.loop-piece.invariant ∙ ap (map (λ (p : PieceView). p.system)) (take_all c.loop-piece.piece-index found end)
+    ∙ ap (map (λ (p : PieceView). p.system)) c.in_ok-found.ensures
+    ∙ systems_found (space_form_of c.args.space.now) c.args.pieces.now

@@ -1,14 +1,14 @@
 use Rattle.isl_union.proofs.CompareLaws.{equal_turned, equal_value}
 use Rattle.isl_union.proofs.value.Value.is_equal.Goals as goal
 
-pub returns-then-own-others-clause-exact : goal.returns-then-own-others-clause-exact
-returns-then-own-others-clause-exact c =
+pub returns-then-len-clause-exact : goal.returns-then-len-clause-exact
+returns-then-len-clause-exact c =
     let a = c.args.self.now in
     let b = c.args.other.now in
     let pair = c.in_ok-pair.pair in
     let over = c.in_ok-pair.ensures.exact in
     let same = c.in_ok-are_mutual.field-0 in
-    let exact = rw (c.as_slice-own.ensures.value, c.as_slice-others.ensures.value) at c.in_ok-are_mutual.ensures.exact in
+    let exact = c.in_ok-are_mutual.ensures.exact in
     equal_turned a b same
     (equal_value c.args.meter.now pair.params b a pair.others.items pair.own.items over.others over.own same exact)
 
@@ -18,5 +18,5 @@ returns-clause-exact c =
     let b = c.args.other.now in
     let pair = c.in_ok-pair.pair in
     let over = c.in_ok-pair.ensures.exact in
-    let exact = rw (c.as_slice-own.ensures.value, c.as_slice-others.ensures.value) at c.in_ok-are_mutual-2.ensures.exact in
+    let exact = c.in_ok-are_mutual-2.ensures.exact in
     equal_value c.args.meter.now pair.params a b pair.own.items pair.others.items over.own over.others c.in_ok-are_mutual-2.field-0 exact

@@ -12,6 +12,9 @@ use Rattle.isl_union.proofs.ValueLaws.{first_in, second_in, aligned_small, meet_
 use Rattle.isl_union.proofs.ValueLaws.{pieces_within}
 use Rattle.isl_union.proofs.value.Value.meet.Goals as goal
 
+pub new-requires : goal.new-requires
+new-requires c = λ k d l. (c.in_ok-others.ensures.sound k d l).kept.space
+
 pub aligned_pieces-requires-clause-among : goal.aligned_pieces-requires-clause-among
 aligned_pieces-requires-clause-among c =
     let a = c.args.self.now.params in
@@ -47,7 +50,7 @@ met_pieces-requires-clause-others_within c =
     let names = c.in_ok-params.ensures.joined ∙ ap₂ joined c.params.ensures.content c.params-2.ensures.content in
     let there = subst (λ (l : List Name). All (Contains l) b.params) (sym names) (second_in a.params b.params
     c.in_ok-own.ensures.kept.params c.in_ok-others.ensures.kept.params) in
-    rw c.as_slice-2.ensures.value
+    rw c.in_ok-index.ensures
     (pieces_within g c.in_ok-params.params c.in_ok-others.others.items (aligned_pieces c.in_ok-params.params b) c.in_ok-others.ensures.sound
     c.in_ok-others.ensures.exact
     (aligned_small g c.in_ok-params.params b c.in_ok-others.ensures.kept c.requires.other there (unsigned_abs (limit_of g))
@@ -65,7 +68,7 @@ returns-clause-written c =
     meet_written c.args.self.now c.args.other.now c.in_ok-own.ensures.kept c.in_ok-others.ensures.kept c.in_ok-params.params
     c.in_ok-own.own.items c.in_ok-others.others.items c.in_ok-met.met.items
     c.from_normal.result names c.in_ok-own.ensures.exact c.in_ok-others.ensures.exact
-    (rw (c.as_slice.ensures.value, c.as_slice-2.ensures.value) at exact) c.from_normal.ensures
+    (rw (c.as_slice.ensures.value, c.in_ok-index.ensures) at exact) c.from_normal.ensures
 
 pub returns-clause-elements : goal.returns-clause-elements
 returns-clause-elements c v e =
@@ -85,7 +88,7 @@ returns-clause-units c =
     let pairs = pairs_are c.in_ok-params.params a b c.in_ok-own.own.items c.in_ok-others.others.items c.in_ok-own.ensures.exact
     c.in_ok-others.ensures.exact in
     let used = c.in_ok-met.ensures.units in
-    let whole = rw (c.as_slice.ensures.value, c.as_slice-2.ensures.value) at used in (
+    let whole = rw (c.as_slice.ensures.value, c.in_ok-index.ensures) at used in (
       subst (λ (l : List Name). length l ≤ most_parameters) names c.in_ok-params.ensures.well_formed.few,
       subst (λ n. IsChargedFrom n c.args.meter.now c.met_pieces.new.meter) pairs whole,
     )

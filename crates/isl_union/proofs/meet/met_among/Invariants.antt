@@ -4,7 +4,7 @@ use Rattle.isl_union.specs.Fault.{IsChargedFrom}
 use Rattle.isl_union.specs.Live.{AreLiveOf}
 use Rattle.isl_union.specs.Meet.{met_with, partners}
 use Rattle.isl_union.specs.Piece.{kept_piece, IsPieceOf}
-use Rattle.isl_union.proofs.meet.met_with.Given as goal
+use Rattle.isl_union.proofs.meet.met_among.Given as goal
 
 abbrev pub invariant-loop-other : goal.invariant-loop-other
 invariant-loop-other l = record {
