@@ -4,6 +4,8 @@ pub mod LineLaws
 pub mod ListLaws
 pub mod LongerLaws
 pub mod FibreLaws
+pub mod FlatLaws
 pub mod PrefixLaws
+pub mod RowLaws
 pub mod SortedLaws
 pub mod WalkLaws

@@ -183,17 +183,11 @@ first_number line a f l d next above more fe le de ae n =
       (λ x p. subst (λ (w : ℤ). w ≤ℤ x) (sym n.0) (i.1 x p.0.0 p.1)),
     )
 
-pub allowed : {E : Type 0} (r : Row) (x y : ℤ) (P F Q : Type 0) (result : Result Bool E) → r.kind ≡ NotDivides → y ≡ x
-    → MatchResult result (λ b. (IsTrue b ↔ HoldsRow r (y ∷ [])) × P) (λ e. F × Q)
+pub allowed : {E : Type 0} (r : Row) (x : ℤ) (P Q : Type 0) (result : Result Bool E) → r.kind ≡ NotDivides
+    → MatchResult result (λ b. (IsTrue b ↔ HoldsRow r (x ∷ [])) × P) (λ e. Q)
     → MatchResult result (λ b. (IsTrue b ↔ MeetsExclusion x r) × P) (λ e. Q)
-allowed r x y P F Q (Ok b) is e m = (
-  (
-    (λ t k. subst (λ (z : ℤ). HoldsRow r (z ∷ [])) e (m.0.0 t)),
-    (λ h. m.0.1 (subst (λ (z : ℤ). HoldsRow r (z ∷ [])) (sym e) (h is))),
-  ),
-  m.1,
-)
-allowed r x y P F Q (Err c) is e m = m.1
+allowed r x P Q (Ok b) is m = (((λ t k. m.0.0 t), (λ h. m.0.1 (h is))), m.1)
+allowed r x P Q (Err c) is m = m
 
 pub tried_within : (P : ℤ → Type 0) (E : Type 0) (x : ℤ) (old new : List ℤ) → IsTried E x old new → All P old → P x → All P new
 tried_within P E x old new (inl y) a p = subst (All P) (sym y.1) (All-append P old (x ∷ []) a (All-cons P x [] p (All-nil P)))

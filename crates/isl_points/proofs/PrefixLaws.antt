@@ -87,7 +87,16 @@ pub same_result : {A E : Type 0} (r : Result A E) (P Q : A → Type 0) (R S : E 
 same_result (Ok a) P Q R S f g m = f a m
 same_result (Err e) P Q R S f g m = g e m
 
--- ---- several systems
+-- ---- one system or several
+pub one_system : (systems : List System) (s : System) (p : List ℤ) → length systems ≡ 1 → s ≡ get_or systems 0 s
+    → HoldsSystem s p ↔ HoldsAtAny systems p
+one_system [] s p l e = absurd (omega arith)
+one_system (t ∷ []) s p l e = (
+  (λ h. Any-first (λ r. HoldsSystem r p) t [] (subst (λ r. HoldsSystem r p) e h)),
+  (λ a. subst (λ r. HoldsSystem r p) (sym e) (Any-one (λ r. HoldsSystem r p) t a)),
+)
+one_system (t ∷ (u ∷ systems)) s p l e = absurd (omega arith)
+
 -- the numbers of P were gathered, in any order, with at least a unit for each
 pub record IsGathering (old new : Gauge) (P : ℤ → Type 0) (xs : List ℤ) : Type 0 where
   pub exact : (x : ℤ) → Contains xs x ↔ P x

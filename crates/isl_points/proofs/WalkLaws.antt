@@ -1,6 +1,6 @@
 -- Up a tower: what begins points at one level, and at the next.
 use Rattle.std.proofs.Common.{◌≡◌, ◌⊎◌, ◌∙◌, inl, inr, refl, sym, ap, subst, arith, ℕ, ◌+◌}
-use Rattle.std.proofs.Common.{◌-◌, ◌^◌, ◌<◌, ◌≤◌, ℤ, pos, unsigned_abs, List, [], ◌∷◌, ◌++◌}
+use Rattle.std.proofs.Common.{◌-◌, ◌*◌, ◌/◌, ◌^◌, ◌<◌, ◌≤◌, ℤ, pos, unsigned_abs, List, [], ◌∷◌, ◌++◌}
 use Rattle.std.proofs.Common.{length, get_or, take}
 use Rattle.std.specs.List.{All, AllPairs}
 use Rattle.std.proofs.lemmas.List.{length-take-le, length_push, nil_from_length, take_all, take_more}
@@ -14,7 +14,9 @@ use Rattle.isl_tower.specs.Level.{AreOver}
 use Rattle.isl_tower.specs.Tower.{BeginsPoint, IsProjectionOnto, IsTowerOf}
 use Rattle.isl_tower.proofs.TowerLaws.{begins_longer, charged_limit, over_kept}
 use Rattle.isl_points.specs.Level.{AreBeginnings, AreLonger}
+use Rattle.isl_points.specs.Flat.{laid_out, points_in}
 use Rattle.isl_points.proofs.ListLaws.{contains_one}
+use Rattle.isl_points.proofs.RowLaws.{whole_points}
 
 -- ---- the lowest level
 -- one list of no numbers, where the systems hold there, else none
@@ -100,6 +102,15 @@ next_widths g k systems n m shorter longer e a b i d l =
     let u = ap (λ (q : List ℤ). length q) z.3 in
     let v = length_push z.0 z.1 in
     omega (arith, e, w, u, v)
+
+-- the points of the next level, of which the list has the numbers
+pub whole_longer : (g k : Gauge) (systems : List System) (width : ℕ) (shorter longer : List (List ℤ)) (numbers : List ℤ) → 0 < width
+    → All (λ q. length q + 1 ≡ width) shorter → AreLonger g k systems shorter longer → numbers ≡ laid_out longer
+    → (points_in width (length numbers / width) numbers ≡ longer) × (length numbers ≡ length numbers / width * width)
+whole_longer g k systems width shorter longer numbers some short more is =
+    whole_points width numbers longer some
+    (next_widths g k systems (width - 1) width shorter longer (omega (arith, some))
+    (λ i d l. let own = short i d l in omega (arith, own)) more) is
 
 -- ---- what the code asks for
 pub over_charged : (g h : Gauge) (n m : ℕ) (systems : List System) → IsCharged g h → n ≡ m → AreOver g n systems → AreOver h m systems

@@ -1,6 +1,7 @@
 pub mod Ends
 pub mod Exclusion
 pub mod Fibre
+pub mod Flat
 pub mod Interval
 pub mod Level
 pub mod Line

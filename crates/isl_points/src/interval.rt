@@ -6,8 +6,9 @@ ghost use Rattle.isl_piece.specs.Row.{coef_at};
 ghost use Rattle.isl_omega.specs.Column.{IsProper};
 ghost use Rattle.isl_points.specs.Ends.{IsFrom, IsTo};
 
+use crate::row::LineRow;
 use isl_meter::{Int, Meter};
-use isl_piece::{Row, RowKind};
+use isl_piece::RowKind;
 
 /// The whole numbers from a low to a high one; no end where one is not there.
 #[derive(Clone, Copy)]
@@ -102,7 +103,7 @@ impl Interval {
     }
 
     // The numbers of the interval at which the row holds, where it is a bound.
-    fn met(&self, row: &Row, meter: &Meter) -> Interval
+    fn met(&self, row: &LineRow, meter: &Meter) -> Interval
         requires ends { AreEndsWithin meter.now self.now }
         requires row { IsProper meter.now 1 row.now }
         ensures exact { (x : ℤ) → IsBetween result x ↔ (IsBetween self.now x × MeetsBound x row.now) }
@@ -110,9 +111,9 @@ impl Interval {
         ensures high { result.high ≡ None → (self.now.high ≡ None) × (¬ EndsAbove row.now.kind (coef_at row.now 0)) }
         ensures within { AreEndsWithin meter.now result }
     {
-        let coef = row.coefs.get(0);
+        let coef = row.coef();
         let rest = row.constant();
-        match row.kind {
+        match row.kind() {
             RowKind::Zero => {
                 let half = self.narrowed(coef, rest, meter);
                 half.narrowed(coef.neg(meter), rest.neg(meter), meter)
@@ -126,7 +127,7 @@ impl Interval {
     }
 
     /// The numbers at which the bounds among the rows hold.
-    pub(crate) fn of(rows: &[Row], meter: &Meter) -> Interval
+    pub(crate) fn of(rows: &[LineRow], meter: &Meter) -> Interval
         requires { All (IsProper meter.now 1) rows.now }
         ensures exact { (x : ℤ) → IsBetween result x ↔ All (MeetsBound x) rows.now }
         ensures low { result.low ≡ None → All (λ r. ¬ EndsBelow r.kind (coef_at r 0)) rows.now }

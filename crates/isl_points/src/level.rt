@@ -1,111 +1,137 @@
 //! The numbers at one level of a tower, behind what begins points below it.
 
-ghost use Rattle.std.specs.Prelude.{◌≡◌, ◌↔◌, ◌+◌, ◌≤◌, ℤ, List, [], ◌∷◌, ◌++◌, length, All, AllPairs, IfOk, MatchResult};
+ghost use Rattle.std.specs.Prelude.{◌≡◌, ◌↔◌, ◌+◌, ◌≤◌, ◌<◌, ℤ, List, [], ◌∷◌, ◌++◌, length, All, AllPairs, IfOk, MatchResult, OnOk};
 ghost use Rattle.isl_math.specs.Order.{IsBefore};
 ghost use Rattle.isl_meter.specs.Gauge.{IsCharged, IsCutBy, IsWithin};
 ghost use Rattle.isl_piece.specs.System.{HoldsSystem, IsSystemWithin, free_columns};
 ghost use Rattle.isl_elim.specs.Elimination.{HoldsAtAny};
 ghost use Rattle.isl_tower.specs.Level.{AreOver};
 ghost use Rattle.isl_points.specs.Fibre.{IsEnded};
+ghost use Rattle.isl_points.specs.Flat.{laid_out};
 ghost use Rattle.isl_points.specs.Level.{AreLonger, IsLengthened, behind};
 ghost use Rattle.isl_points.specs.Line.{IsListing};
 
+use crate::Points;
 use crate::line::Line;
-use crate::{Point, Points};
+use crate::row::{LineRow, rows_behind};
 use isl_meter::{Cut, Int, Meter};
 use isl_piece::System;
-use isl_tower::system_at;
 use std::alloc::{AllocError, Global};
+
+// Rows and numbers behind one prefix. Their memory is used again for the next one.
+#[derive(Drop)]
+struct Behind {
+    rows: Vec<LineRow>,
+    numbers: Vec<Int>,
+}
 
 // The numbers behind the prefix at which the system holds.
 fn numbers_of(
-    alloc: Global,
     system: &System,
     prefix: &[i128],
+    room: Behind,
     meter: &mut Meter,
-) -> Result<Vec<Int>, Cut>
+) -> Result<Behind, Cut>
     requires well_formed { IsSystemWithin meter.old system.now }
     requires plain { system.now.definitions ≡ [] }
     requires columns { free_columns system.now ≡ length prefix.now + 1 }
     requires ended { IsEnded system.now }
     ensures exact { MatchResult result
-        (λ found. IsListing meter.old meter.new (λ x. HoldsSystem system.now (prefix.now ++ x ∷ [])) found.items)
+        (λ found. IsListing meter.old meter.new (λ x. HoldsSystem system.now (prefix.now ++ x ∷ [])) found.numbers.items)
         (IsCutBy meter.old meter.new) }
 {
-    let left = system_at(alloc, system, prefix, meter)?;
-    let rows = left.rows.as_slice();
-    match Line::of(rows, meter)? {
-        None => Ok(Vec::new(alloc)),
-        Some(line) => line.list(alloc, rows, meter),
+    let Behind { rows, mut numbers } = room;
+    let rows = rows_behind(system.rows.as_slice(), prefix, rows, meter)?;
+    match Line::of(rows.as_slice(), meter)? {
+        None => {
+            numbers.clear();
+            Ok(Behind { rows, numbers })
+        }
+        Some(line) => {
+            let numbers = line.list(rows.as_slice(), numbers, meter)?;
+            Ok(Behind { rows, numbers })
+        }
     }
 }
 
-// The numbers behind the prefix at which some of the systems holds.
+// The numbers behind the prefix at which some of the systems holds, in ascending order.
+fn numbers_of_any(
+    alloc: Global,
+    systems: &[System],
+    prefix: &[i128],
+    room: Behind,
+    meter: &mut Meter,
+) -> Result<Behind, Cut>
+    requires over { AreOver meter.old (length prefix.now + 1) systems.now }
+    requires ended { All IsEnded systems.now }
+    ensures exact { MatchResult result
+        (λ found. IsListing meter.old meter.new (λ x. HoldsAtAny systems.now (prefix.now ++ x ∷ [])) found.numbers.items)
+        (IsCutBy meter.old meter.new) }
+{
+    let mut found = Vec::new(alloc);
+    let mut room = room;
+    for system in systems {
+        room = numbers_of(system, prefix, room, meter)?;
+        found.extend_from_slice(room.numbers.as_slice())?;
+    }
+    found.sort()?;
+    found.dedup();
+    Ok(Behind {
+        rows: room.rows,
+        numbers: found,
+    })
+}
+
+// The same, of one system without the sorting.
 fn numbers_behind(
     alloc: Global,
     systems: &[System],
     prefix: &[i128],
+    room: Behind,
     meter: &mut Meter,
-) -> Result<Vec<Int>, Cut>
+) -> Result<Behind, Cut>
     requires over { AreOver meter.old (length prefix.now + 1) systems.now }
     requires ended { All IsEnded systems.now }
     ensures exact { MatchResult result
-        (λ found. IsListing meter.old meter.new (λ x. HoldsAtAny systems.now (prefix.now ++ x ∷ [])) found.items)
+        (λ found. IsListing meter.old meter.new (λ x. HoldsAtAny systems.now (prefix.now ++ x ∷ [])) found.numbers.items)
         (IsCutBy meter.old meter.new) }
 {
-    let mut found = Vec::new(alloc);
-    for system in systems {
-        let mut more = numbers_of(alloc, system, prefix, meter)?;
-        found.append(&mut more)?;
+    match systems {
+        [system] => numbers_of(system, prefix, room, meter),
+        _ => numbers_of_any(alloc, systems, prefix, room, meter),
     }
-    found.sort()?;
-    found.dedup();
-    Ok(found)
 }
 
-// The prefix with one number more.
-fn longer_by(alloc: Global, prefix: &[i128], x: Int) -> Result<Point, AllocError>
-    ensures { IfOk result (λ point. point ≡ prefix.now ++ x ∷ []) }
-{
-    let mut numbers = Vec::with_capacity(alloc, prefix.len() + 1)?;
-    numbers.extend_from_slice(prefix)?;
-    numbers.push(x.get())?;
-    Ok(Point::from(numbers))
-}
-
-// Puts the prefix with each of the numbers behind it behind the others.
-fn push_each(
-    alloc: Global,
-    prefix: &[i128],
-    numbers: &[Int],
-    longer: &mut Points,
-) -> Result<(), AllocError>
-    ensures { IfOk result (λ _. longer.new ≡ longer.old ++ behind prefix.now numbers.now) }
+// Puts the numbers of the prefix with each of the numbers behind it behind the others.
+fn push_each(prefix: &[i128], numbers: &[Int], longer: &mut Vec<i128>) -> Result<(), AllocError>
+    ensures { OnOk result (longer.new.items ≡ longer.old.items ++ laid_out (behind prefix.now numbers.now)) }
 {
     for x in numbers {
-        let point = longer_by(alloc, prefix, *x)?;
-        longer.push(point)?;
+        longer.extend_from_slice(prefix)?;
+        longer.push(x.get())?;
     }
     Ok(())
 }
 
-// Puts the prefix with each number behind it at which some of the systems holds behind the others.
+// Puts the numbers of the prefix with each number behind it at which some of the systems holds behind the others.
 fn lengthen(
     alloc: Global,
     systems: &[System],
     prefix: &[i128],
-    longer: &mut Points,
+    room: Behind,
+    longer: &mut Vec<i128>,
     meter: &mut Meter,
-) -> Result<(), Cut>
+) -> Result<Behind, Cut>
     requires over { AreOver meter.old (length prefix.now + 1) systems.now }
     requires ended { All IsEnded systems.now }
     ensures { MatchResult result
-        (λ _. IsLengthened meter.old meter.new systems.now prefix.now longer.old longer.new)
+        (λ _. (lists : List (List ℤ)) → longer.old.items ≡ laid_out lists
+        → (new : List (List ℤ)) × IsLengthened meter.old meter.new systems.now prefix.now lists new × (longer.new.items ≡ laid_out new))
         (IsCutBy meter.old meter.new) }
 {
-    let numbers = numbers_behind(alloc, systems, prefix, meter)?;
-    push_each(alloc, prefix, numbers.as_slice(), longer)?;
-    Ok(())
+    let room = numbers_behind(alloc, systems, prefix, room, meter)?;
+    push_each(prefix, room.numbers.as_slice(), longer)?;
+    Ok(room)
 }
 
 /// The lists, each with each number behind it at which some of the systems holds, in lexicographic order as these are. A unit is
@@ -121,16 +147,28 @@ pub(crate) fn all_longer(
     width: usize,
     meter: &mut Meter,
 ) -> Result<Points, Cut>
-    requires over { AreOver meter.old (width + 1) systems.now }
+    requires over { AreOver meter.old width systems.now }
     requires ended { All IsEnded systems.now }
-    requires widths { All (λ q. length q ≡ width) shorter.now }
+    requires widths { All (λ q. length q + 1 ≡ width) shorter.now }
+    requires some_column { 0 < width }
     requires ordered { AllPairs IsBefore shorter.now }
     requires within { All (All (IsWithin meter.old)) shorter.now }
     ensures exact { MatchResult result (AreLonger meter.old meter.new systems.now shorter.now) (IsCutBy meter.old meter.new) }
 {
-    let mut longer = Points::new(alloc);
-    for prefix in shorter.as_slice() {
-        lengthen(alloc, systems, prefix.as_slice(), &mut longer, meter)?;
+    let mut numbers = Vec::new(alloc);
+    let mut room = Behind {
+        rows: Vec::new(alloc),
+        numbers: Vec::new(alloc),
+    };
+    for place in 0..shorter.len() {
+        room = lengthen(
+            alloc,
+            systems,
+            shorter.get(place),
+            room,
+            &mut numbers,
+            meter,
+        )?;
     }
-    Ok(longer)
+    Ok(Points::of(width, numbers.len() / width, numbers))
 }

@@ -7,7 +7,8 @@ mod level;
 mod line;
 mod list;
 mod progression;
+mod row;
 mod walk;
 
 pub use fibre::Fibre;
-pub use list::{Point, Points};
+pub use list::Points;

@@ -10,9 +10,9 @@ ghost use Rattle.isl_tower.specs.Ends.{HasLowerEnd, HasUpperEnd};
 
 use crate::interval::Interval;
 use crate::progression::Progression;
+use crate::row::LineRow;
 use isl_meter::{Cut, Int, Meter, Overflow};
-use isl_piece::{Row, RowKind};
-use std::alloc::Global;
+use isl_piece::RowKind;
 
 /// The numbers from `low` to `high` on a progression.
 #[derive(Clone, Copy)]
@@ -34,22 +34,19 @@ fn up_to(x: Int, by: Int, high: Int) -> Option<Int>
 }
 
 // Whether the row holds at the number, where its modulus must not divide.
-fn allows(row: &Row, x: Int, meter: &mut Meter) -> Result<bool, Overflow>
+fn allows(row: &LineRow, x: Int, meter: &mut Meter) -> Result<bool, Overflow>
     requires { IsProper meter.old 1 row.now }
     ensures { MatchResult result
         (λ allowed. (IsTrue allowed ↔ MeetsExclusion x row.now) × (meter.new ≡ meter.old))
         (λ _. meter.new ≡ overflown meter.old) }
 {
-    match row.kind {
-        RowKind::NotDivides => {
-            let point = [x.get()];
-            row.holds_at(&point, meter)
-        }
+    match row.kind() {
+        RowKind::NotDivides => row.spares(x, meter),
         RowKind::Zero | RowKind::AtLeast | RowKind::Divides => Ok(true),
     }
 }
 
-fn all_allow(rows: &[Row], x: Int, meter: &mut Meter) -> Result<bool, Overflow>
+fn all_allow(rows: &[LineRow], x: Int, meter: &mut Meter) -> Result<bool, Overflow>
     requires { All (IsProper meter.old 1) rows.now }
     ensures { MatchResult result
         (λ allowed. (IsTrue allowed ↔ All (MeetsExclusion x) rows.now) × (meter.new ≡ meter.old))
@@ -64,14 +61,14 @@ fn all_allow(rows: &[Row], x: Int, meter: &mut Meter) -> Result<bool, Overflow>
 }
 
 // Whether a row that does not depend on the number excludes all numbers.
-fn excludes_all(rows: &[Row], meter: &mut Meter) -> Result<bool, Overflow>
+fn excludes_all(rows: &[LineRow], meter: &mut Meter) -> Result<bool, Overflow>
     requires { All (IsProper meter.old 1) rows.now }
     ensures { MatchResult result
         (λ none. (IsTrue none → (x : ℤ) → ¬ All (MeetsExclusion x) rows.now) × (meter.new ≡ meter.old))
         (λ _. meter.new ≡ overflown meter.old) }
 {
     for row in rows {
-        if row.coefs.get(0).is_zero() && !allows(row, Int::ZERO, meter)? {
+        if row.coef().is_zero() && !allows(row, Int::ZERO, meter)? {
             return Ok(true);
         }
     }
@@ -79,7 +76,7 @@ fn excludes_all(rows: &[Row], meter: &mut Meter) -> Result<bool, Overflow>
 }
 
 // Uses a unit, and puts the number behind the others where the rows allow it.
-fn try_number(found: &mut Vec<Int>, rows: &[Row], x: Int, meter: &mut Meter) -> Result<(), Cut>
+fn try_number(found: &mut Vec<Int>, rows: &[LineRow], x: Int, meter: &mut Meter) -> Result<(), Cut>
     requires { All (IsProper meter.old 1) rows.now }
     ensures { MatchResult result
         (λ _. IsTried (All (MeetsExclusion x) rows.now) x found.old.items found.new.items
@@ -102,7 +99,7 @@ impl Line {
     /// # Errors
     ///
     /// `Overflow` where a number passes the limit of the meter.
-    pub(crate) fn of(rows: &[Row], meter: &mut Meter) -> Result<Option<Line>, Overflow>
+    pub(crate) fn of(rows: &[LineRow], meter: &mut Meter) -> Result<Option<Line>, Overflow>
         requires { All (IsProper meter.old 1) rows.now }
         ensures { MatchResult result
             (λ found. MatchOption found
@@ -148,16 +145,16 @@ impl Line {
         up_to(x, self.steps.step, self.high)
     }
 
-    /// The numbers of the line at which no row is one that its modulus must not divide, in ascending order. A unit is used for
-    /// each number of the line.
+    /// The numbers of the line at which no row is one that its modulus must not divide, in ascending order, in the place of what was
+    /// found before. A unit is used for each number of the line.
     ///
     /// # Errors
     ///
     /// `Overflow` where a number passes the limit of the meter, `Budget` where its units are used up, and `NoMemory`.
     pub(crate) fn list(
         &self,
-        alloc: Global,
-        rows: &[Row],
+        rows: &[LineRow],
+        mut found: Vec<Int>,
         meter: &mut Meter,
     ) -> Result<Vec<Int>, Cut>
         requires line { IsLineWithin meter.old self.now }
@@ -166,7 +163,7 @@ impl Line {
             (λ found. IsListing meter.old meter.new (IsLeft self.now rows.now) found.items)
             (IsCutBy meter.old meter.new) }
     {
-        let mut found = Vec::new(alloc);
+        found.clear();
         let mut next = self.first(meter)?;
         while let Some(x) = next {
             try_number(&mut found, rows, x, meter)?;

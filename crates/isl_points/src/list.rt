@@ -1,82 +1,51 @@
 //! Lists of points.
 
-ghost use Rattle.std.specs.Prelude.{◌≡◌, ◌<◌, [], ◌∷◌, ◌++◌, length, slice_index_or, IsTrue, ◌↔◌, OnOk};
+ghost use Rattle.std.specs.Prelude.{◌≡◌, ◌<◌, ◌*◌, [], length, slice_index_or, IsTrue, ◌↔◌};
+ghost use Rattle.isl_points.specs.Flat.{points_in};
 
-use std::alloc::{AllocFailed, Global};
+use std::alloc::Global;
 use std::marker::Model;
 
-/// A number for each of some columns.
+/// Points of one width, in order. Their numbers lie behind one another in one list.
 #[derive(Drop)]
-pub struct Point {
+pub struct Points {
+    width: usize,
+    count: usize,
     numbers: Vec<i128>,
 }
 
-impl Model for Point {
-    ghost use Rattle.std.specs.Prelude.{List, ℤ};
-
-    ghost Value = { List ℤ };
-
-    ghost view = { λ p. p.numbers.items };
-}
-
-impl Point {
-    /// The number of columns.
-    pub fn len(&self) -> usize
-        ensures { result ≡ length self.now }
-    {
-        self.numbers.len()
-    }
-
-    pub fn is_empty(&self) -> bool
-        ensures { IsTrue result ↔ (self.now ≡ []) }
-    {
-        self.numbers.is_empty()
-    }
-
-    pub fn as_slice(&self) -> &[i128]
-        ensures { result.now ≡ self.now }
-    {
-        self.numbers.as_slice()
-    }
-
-    /// The numbers.
-    pub fn into_vec(self) -> Vec<i128>
-        ensures { result.items ≡ self }
-    {
-        self.numbers
-    }
-}
-
-impl From<Vec<i128>> for Point {
-    ghost use Rattle.std.specs.Prelude.{◌≡◌};
-
-    ghost from_gives = { λ numbers point. point ≡ numbers.items };
-
-    fn from(numbers: Vec<i128>) -> Point {
-        Point { numbers }
-    }
-}
-
-/// Points, in order.
-#[derive(Drop)]
-pub struct Points {
-    items: Vec<Point>,
-}
-
 impl Model for Points {
-    ghost use Rattle.std.specs.Prelude.{List, ℤ};
+    ghost use Rattle.std.specs.Prelude.{List, ℤ, ◌≡◌, ◌*◌, length};
+    ghost use Rattle.isl_points.specs.Flat.{points_in};
 
     ghost Value = { List (List ℤ) };
 
-    ghost view = { λ p. p.items.items };
+    ghost view = { λ p. points_in p.width p.count p.numbers.items };
+
+    ghost invariant = { λ p. length p.numbers.items ≡ p.count * p.width };
 }
 
 impl Points {
-    pub(crate) fn new(alloc: Global) -> Self
+    /// No point.
+    pub fn new(alloc: Global) -> Self
         ensures { result ≡ [] }
     {
         Points {
-            items: Vec::new(alloc),
+            width: 0,
+            count: 0,
+            numbers: Vec::new(alloc),
+        }
+    }
+
+    /// So many points of so many numbers, which stand behind one another in the list.
+    pub fn of(width: usize, count: usize, numbers: Vec<i128>) -> Self
+        requires { length numbers.items ≡ count * width }
+        ensures { result ≡ points_in width count numbers.items }
+    {
+        Points {
+            width,
+            count,
+            numbers,
         }
     }
 
@@ -84,31 +53,21 @@ impl Points {
     pub fn len(&self) -> usize
         ensures { result ≡ length self.now }
     {
-        self.items.len()
+        self.count
     }
 
     pub fn is_empty(&self) -> bool
         ensures { IsTrue result ↔ (self.now ≡ []) }
     {
-        self.items.is_empty()
+        self.count == 0
     }
 
-    pub fn as_slice(&self) -> &[Point]
-        ensures { result.now ≡ self.now }
+    /// The numbers of the point at a place.
+    pub fn get(&self, place: usize) -> &[i128]
+        requires { place < length self.now }
+        ensures { result.now ≡ slice_index_or self.now place [] }
     {
-        self.items.as_slice()
-    }
-
-    /// The points, one by one.
-    pub fn into_vec(self) -> Vec<Point>
-        ensures { result.items ≡ self }
-    {
-        self.items
-    }
-
-    pub(crate) fn push(&mut self, point: Point) -> Result<(), AllocFailed<Point>>
-        ensures { OnOk result (self.new ≡ self.old ++ point ∷ []) }
-    {
-        self.items.push(point)
+        let from = place * self.width;
+        &self.numbers[from..from + self.width]
     }
 }

@@ -7,8 +7,9 @@ ghost use Rattle.isl_piece.specs.Row.{HoldsRow};
 ghost use Rattle.isl_piece.specs.declared.row.RowKind.TheVariants.{Divides};
 ghost use Rattle.isl_omega.specs.Column.{IsProper};
 
+use crate::row::LineRow;
 use isl_meter::{Int, Meter, Overflow};
-use isl_piece::{Row, RowKind};
+use isl_piece::RowKind;
 
 /// The numbers `first`, `first + step`, `first - step`, `first + 2 step`, ..
 #[derive(Clone, Copy)]
@@ -79,7 +80,7 @@ impl Progression {
     }
 
     // The numbers of the progression at which the congruence holds.
-    fn congruent(&self, row: &Row, meter: &mut Meter) -> Result<Option<Progression>, Overflow>
+    fn congruent(&self, row: &LineRow, meter: &mut Meter) -> Result<Option<Progression>, Overflow>
         requires is { IsProgression meter.old self.now }
         requires row { IsProper meter.old 1 row.now }
         requires kind { row.now.kind ≡ Divides }
@@ -89,7 +90,7 @@ impl Progression {
             × (meter.new ≡ meter.old))
             (λ _. meter.new ≡ overflown meter.old) }
     {
-        let coef = row.coefs.get(0);
+        let coef = row.coef();
         let scaled = coef.mul(self.step, meter)?;
         let moved = coef.mul(self.first, meter)?;
         let rest = moved.add(row.constant(), meter)?;
@@ -103,7 +104,7 @@ impl Progression {
     }
 
     // The numbers of the progression at which the row holds, where it is a congruence.
-    fn met(&self, row: &Row, meter: &mut Meter) -> Result<Option<Progression>, Overflow>
+    fn met(&self, row: &LineRow, meter: &mut Meter) -> Result<Option<Progression>, Overflow>
         requires is { IsProgression meter.old self.now }
         requires row { IsProper meter.old 1 row.now }
         ensures { MatchResult result
@@ -112,7 +113,7 @@ impl Progression {
             × (meter.new ≡ meter.old))
             (λ _. meter.new ≡ overflown meter.old) }
     {
-        match row.kind {
+        match row.kind() {
             RowKind::Divides => self.congruent(row, meter),
             RowKind::Zero | RowKind::AtLeast | RowKind::NotDivides => Ok(Some(Progression {
                 first: self.first,
@@ -126,7 +127,7 @@ impl Progression {
     /// # Errors
     ///
     /// `Overflow` where a number passes the limit of the meter.
-    pub(crate) fn of(rows: &[Row], meter: &mut Meter) -> Result<Option<Progression>, Overflow>
+    pub(crate) fn of(rows: &[LineRow], meter: &mut Meter) -> Result<Option<Progression>, Overflow>
         requires { All (IsProper meter.old 1) rows.now }
         ensures { MatchResult result
             (λ found. MatchOption found ((x : ℤ) → ¬ All (MeetsCongruence x) rows.now)

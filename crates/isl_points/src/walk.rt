@@ -9,12 +9,12 @@ ghost use Rattle.isl_tower.specs.Tower.{IsTowerOf};
 ghost use Rattle.isl_points.specs.Fibre.{AreLevelsWithin};
 ghost use Rattle.isl_points.specs.Level.{AreBeginnings};
 
+use crate::Points;
 use crate::level::all_longer;
-use crate::{Point, Points};
 use isl_meter::{Cut, Meter};
 use isl_piece::System;
 use isl_tower::Tower;
-use std::alloc::{AllocError, Global};
+use std::alloc::Global;
 
 // Whether some of the systems, which have no columns, holds.
 fn any_holds(alloc: Global, systems: &[System], meter: &mut Meter) -> Result<bool, Cut>
@@ -31,15 +31,6 @@ fn any_holds(alloc: Global, systems: &[System], meter: &mut Meter) -> Result<boo
     Ok(false)
 }
 
-// The point of no columns, alone.
-fn one_point(alloc: Global) -> Result<Points, AllocError>
-    ensures { IfOk result (λ points. points ≡ [] ∷ []) }
-{
-    let mut points = Points::new(alloc);
-    points.push(Point::from(Vec::new(alloc)))?;
-    Ok(points)
-}
-
 // What begins points and has no number: one list, or none where there is no point. Uses a unit.
 fn lowest(alloc: Global, systems: &[System], meter: &mut Meter) -> Result<Points, Cut>
     requires { AreOver meter.old 0 systems.now }
@@ -50,7 +41,7 @@ fn lowest(alloc: Global, systems: &[System], meter: &mut Meter) -> Result<Points
 {
     meter.unit()?;
     if any_holds(alloc, systems, meter)? {
-        Ok(one_point(alloc)?)
+        Ok(Points::of(0, 1, Vec::new(alloc)))
     } else {
         Ok(Points::new(alloc))
     }
@@ -71,7 +62,7 @@ pub(crate) fn points_of(alloc: Global, tower: &Tower, meter: &mut Meter) -> Resu
 {
     let mut points = lowest(alloc, tower.level(0), meter)?;
     for height in 1..tower.levels() {
-        points = all_longer(alloc, tower.level(height), &points, height - 1, meter)?;
+        points = all_longer(alloc, tower.level(height), &points, height, meter)?;
     }
     Ok(points)
 }

@@ -1,37 +1,23 @@
-use Rattle.std.proofs.Common.{◌≡◌, ◌+◌, ◌<◌, ◌≤◌, ◌++◌, List, [], ◌∷◌, arith, length, subst, take}
-use Rattle.std.proofs.lemmas.Grind.{common_steps}
-use Rattle.isl_piece.specs.declared.system.System.{System}
+use Rattle.std.proofs.Common.{◌≡◌, ◌++◌, ◌∷◌, [], length, arith, refl}
+use Rattle.isl_meter.specs.Gauge.{IsCutBy}
 use Rattle.isl_piece.specs.System.{HoldsSystem}
 use Rattle.isl_elim.specs.Elimination.{HoldsAtAny}
-use Rattle.isl_points.proofs.PrefixLaws.{IsGathering, more_gathered, some_more}
-use Rattle.isl_points.proofs.SortedLaws.{sorted_listing}
+use Rattle.isl_points.specs.Line.{IsListing}
+use Rattle.isl_points.proofs.PrefixLaws.{one_system, same_listing, same_result}
 use Rattle.isl_points.proofs.level.numbers_behind.Goals as goal
 
-pub loop-system-preserved : goal.loop-system-preserved
-loop-system-preserved c =
-    let systems = c.args.systems.now in
-    let prefix = c.args.prefix.now in
-    let i = c.loop-system.system-index in
-    let s = c.system-item.result in
-    let inside : i < length systems = grind (arith, common_steps) in
-    let joined : c.append.new.self.items ≡ c.loop-system.found.items ++ c.in_ok-more.more.items = grind arith in
-    more_gathered c.args.meter.now c.loop-system.meter c.numbers_of.new.meter (λ x. HoldsAtAny (take i systems) (prefix ++ x ∷ []))
-    (λ x. HoldsSystem s (prefix ++ x ∷ [])) (λ x. HoldsAtAny (take (i + 1) systems) (prefix ++ x ∷ [])) c.loop-system.found.items
-    c.in_ok-more.more.items c.append.new.self.items c.loop-system.invariant c.in_ok-more.ensures.exact joined
-    (λ x. some_more systems i s (prefix ++ x ∷ []) inside c.system-item.is)
-
-pub returns : goal.returns
-returns c =
+pub returns-in-len1 : goal.returns-in-len1
+returns-in-len1 c =
     let g = c.args.meter.now in
+    let k = c.numbers_of.new.meter in
     let systems = c.args.systems.now in
     let prefix = c.args.prefix.now in
-    let found = c.loop-system.found.items in
-    let whole : take c.loop-system.system-index systems ≡ systems = grind (arith, common_steps) in
-    let gathered : IsGathering g c.loop-system.meter (λ x. HoldsAtAny systems (prefix ++ x ∷ [])) found =
-    subst (λ (ss : List System). IsGathering g c.loop-system.meter (λ x. HoldsAtAny ss (prefix ++ x ∷ [])) found) whole
-    c.loop-system.invariant in
-    let short : length c.dedup.new.self.items ≤ length c.sort.new.self.items = grind arith in
+    let s = c.system-item.result in
+    let alone : length systems ≡ 1 = grind arith in
     record {
-      exact = sorted_listing g c.loop-system.meter (λ x. HoldsAtAny systems (prefix ++ x ∷ [])) found c.sort.new.self.items
-          c.dedup.new.self.items gathered c.in_ok-sort.ensures.permutation c.in_ok-sort.ensures.sorted c.dedup.ensures.filtered short;
+      exact = same_result c.numbers_of.result (λ found. IsListing g k (λ x. HoldsSystem s (prefix ++ x ∷ [])) found.numbers.items)
+          (λ found. IsListing g k (λ x. HoldsAtAny systems (prefix ++ x ∷ [])) found.numbers.items) (IsCutBy g k) (IsCutBy g k)
+          (λ found l. same_listing g g k (λ x. HoldsSystem s (prefix ++ x ∷ [])) (λ x. HoldsAtAny systems (prefix ++ x ∷ []))
+          found.numbers.items refl (λ x. one_system systems s (prefix ++ x ∷ []) alone c.system-item.is) l)
+          (λ cut b. b) c.numbers_of.ensures.exact;
     }

@@ -1,4 +1,4 @@
-use Rattle.std.proofs.Common.{◌≡◌, ◌+◌, ◌-◌, ◌<◌, [], arith, get_or, length, subst, sym}
+use Rattle.std.proofs.Common.{◌≡◌, ◌+◌, ◌-◌, ◌<◌, [], arith, get_or, length, refl, subst, sym}
 use Rattle.std.specs.List.{All}
 use Rattle.isl_meter.proofs.CutLemmas.{IsCharged_trans, IsCharged-unit}
 use Rattle.isl_tower.specs.Level.{AreOver}
@@ -36,12 +36,12 @@ all_longer-requires c =
     let is : get_or levels height [] ≡ c.level-in-loop-height.result.now = sym c.level-in-loop-height.ensures in
     let inside : height < length levels = grind arith in
     let above : 0 < height = grind arith in
-    let up : height ≡ height - 1 + 1 = grind arith in
     record {
-      over = subst (AreOver h (height - 1 + 1)) is (over_charged g h height (height - 1 + 1) (get_or levels height []) before.charged up
+      over = subst (AreOver h height) is (over_charged g h height height (get_or levels height []) before.charged refl
           (c.requires.over height inside));
       ended = subst (All IsEnded) is (c.requires.ended height above inside);
-      widths = before.widths;
+      widths = λ i d l. let own = before.widths i d l in omega (arith, own, above);
+      some_column = above;
       ordered = before.ordered;
       within = rw before.charged.same before.within;
     }
