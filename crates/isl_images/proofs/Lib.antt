@@ -1,6 +1,7 @@
 pub mod DifferenceLaws
 pub mod ImageLaws
 pub mod MadeLaws
+pub mod NearLaws
 pub mod PairingLaws
 pub mod ResultLaws
 pub mod ShadowLaws

@@ -1,6 +1,6 @@
 -- Joins whose space is too wide, and why operations on two values have no result.
 use Rattle.std.proofs.Common.{◌≡◌, ◌↔◌, inl, inr, refl, sym, ap₂, ◌∙◌, subst, arith, ℕ, ◌<◌, List}
-use Rattle.std.proofs.Common.{All, Any, Contains, length, get_or, map, Bool, false, IfErr, IfOk, IsTrue, Result, Ok, Err}
+use Rattle.std.proofs.Common.{All, Any, Contains, length, get_or, map, Bool, IfErr, IfOk, IsTrue, Result, Ok, Err}
 use Rattle.std.specs.Result.{is_err}
 use Rattle.std.proofs.lemmas.Bool.{false≢true}
 use Rattle.std.proofs.lemmas.List.{get_or-map, length-map}
@@ -25,25 +25,31 @@ use Rattle.isl_space.specs.declared.fault.SpaceFault.{SpaceFault}
 use Rattle.isl_space.specs.declared.fault.SpaceFault.TheVariants.{TooWide}
 use Rattle.isl_space.specs.declared.space.Space.{Space}
 use Rattle.isl_relation.specs.Formed.{FormsJoin}
+use Rattle.isl_relation.specs.Together.{spaces_of}
 use Rattle.isl_relation.specs.Wide.{IsFormFault, IsLiveIn, PairsTooWide}
 use Rattle.isl_images.specs.declared.pairing.Pairing.TheVariants.{Join}
 use Rattle.isl_images.specs.Pairing.{IsNarrowPair, IsWideJoin}
 use Rattle.isl_images.proofs.ImageLaws.{same_forms}
 
 -- ---- pieces whose join is too wide
-live_in : (value : KeptValue) (pieces : List PieceView) (p : PieceView) → map kept_piece pieces ≡ value.pieces → Contains pieces p
+abbrev spaces : KeptValue → List SpaceForm
+spaces value = map (λ piece. piece.space) value.pieces
+
+live_in : (value : KeptValue) (pieces : List PieceView) (p : PieceView) → spaces_of pieces ≡ spaces value → Contains pieces p
     → IsLiveIn value p.space
-live_in value pieces p is there =
-    let P : KeptPiece → Type 0 = λ q. q.space ≡ p.space in
-    subst (Any P) is (any_mapped P kept_piece pieces (Any-contains (λ q. P (kept_piece q)) pieces p there refl))
+live_in value pieces p are there =
+    let P : SpaceForm → Type 0 = λ s. s ≡ p.space in
+    Any-unmapped P (λ piece. piece.space) value.pieces
+    (subst (Any P) are (any_mapped P (λ q. q.space) pieces (Any-contains (λ q. P q.space) pieces p there refl)))
 
-live_piece : (value : KeptValue) (pieces : List PieceView) (s : SpaceForm) → map kept_piece pieces ≡ value.pieces → IsLiveIn value s
+live_piece : (value : KeptValue) (pieces : List PieceView) (s : SpaceForm) → spaces_of pieces ≡ spaces value → IsLiveIn value s
     → (p : PieceView) × Contains pieces p × (p.space ≡ s)
-live_piece value pieces s is live =
-    let P : KeptPiece → Type 0 = λ q. q.space ≡ s in
-    Any-element (λ p. P (kept_piece p)) pieces (Any-unmapped P kept_piece pieces (subst (Any P) (sym is) live))
+live_piece value pieces s are live =
+    let P : SpaceForm → Type 0 = λ t. t ≡ s in
+    Any-element (λ p. P p.space) pieces
+    (Any-unmapped P (λ q. q.space) pieces (subst (Any P) (sym are) (any_mapped P (λ piece. piece.space) value.pieces live)))
 
-pub wide_exactly : (a b : KeptValue) (pieces others : List PieceView) → map kept_piece pieces ≡ a.pieces → map kept_piece others ≡ b.pieces
+pub wide_exactly : (a b : KeptValue) (pieces others : List PieceView) → spaces_of pieces ≡ spaces a → spaces_of others ≡ spaces b
     → Any (λ p. Any (λ q. IsWideJoin p.space q.space) others) pieces ↔ PairsTooWide FormsJoin a b
 wide_exactly a b pieces others first second = (
   (λ h.

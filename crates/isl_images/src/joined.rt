@@ -14,7 +14,8 @@ ghost use Rattle.isl_relation.specs.Together.{IsFormedFrom, IsWorkedFrom, are_li
 ghost use Rattle.isl_relation.specs.Wide.{PairsTooWide};
 ghost use Rattle.isl_images.specs.Pairing.{IsWideJoin};
 
-use crate::pairing::{Pairing, all_pairs};
+use crate::pairing::{Pairing, all_pairs, near};
+use isl_index::ShapeIndex;
 use isl_meter::Meter;
 use isl_piece::Piece;
 use isl_space::Space;
@@ -36,29 +37,39 @@ fn is_wide_join(first: &Space, second: &Space) -> Result<bool, AllocError>
     Ok(Space::map(from.clone()?, to.clone()?).is_err())
 }
 
-// Whether a space that the piece and some of the others form is too wide.
-fn has_wide_join(piece: &Piece, others: &[Piece]) -> Result<bool, AllocError>
-    requires piece { IsWellFormedSpace piece.now.space }
+// Whether the space and that of some of the others form one that is too wide.
+fn is_wide_among(space: &Space, others: &[Piece]) -> Result<bool, AllocError>
+    requires space { IsWellFormedSpace (space_form_of space.now) }
     requires others { All (λ other. IsWellFormedSpace other.space) others.now }
-    ensures { IfOk result (λ wide. IsTrue wide ↔ Any (λ other. IsWideJoin piece.now.space other.space) others.now) }
+    ensures { IfOk result (λ wide. IsTrue wide ↔ Any (λ other. IsWideJoin (space_form_of space.now) other.space) others.now) }
 {
     for other in others {
-        if is_wide_join(piece.space(), other.space())? {
+        if is_wide_join(space, other.space())? {
             return Ok(true);
         }
     }
     Ok(false)
 }
 
+// Whether a space that the piece and some of the others form is too wide.
+fn has_wide_join(alloc: Global, piece: &Piece, others: &ShapeIndex) -> Result<bool, AllocError>
+    requires piece { IsWellFormedSpace piece.now.space }
+    requires others { All (λ other. IsWellFormedSpace other.space) others.now }
+    ensures { IfOk result (λ wide. IsTrue wide ↔ Any (λ other. IsWideJoin piece.now.space other.space) others.now) }
+{
+    let near = near(alloc, Pairing::Join, piece.space(), others)?;
+    is_wide_among(piece.space(), near)
+}
+
 // Whether a space that some of the pieces and some of the others form is too wide.
-fn have_wide_join(pieces: &[Piece], others: &[Piece]) -> Result<bool, AllocError>
+fn have_wide_join(alloc: Global, pieces: &[Piece], others: &ShapeIndex) -> Result<bool, AllocError>
     requires pieces { All (λ piece. IsWellFormedSpace piece.space) pieces.now }
     requires others { All (λ other. IsWellFormedSpace other.space) others.now }
     ensures { IfOk result (λ wide. IsTrue wide
         ↔ Any (λ piece. Any (λ other. IsWideJoin piece.space other.space) others.now) pieces.now) }
 {
     for piece in pieces {
-        if has_wide_join(piece, others)? {
+        if has_wide_join(alloc, piece, others)? {
             return Ok(true);
         }
     }
@@ -90,14 +101,9 @@ pub fn apply(alloc: Global, a: &Value, b: &Value, meter: &mut Meter) -> Result<V
         meter.old meter.new result }
 {
     let pair = aligned_pair(alloc, a, b, meter)?;
-    let made = all_pairs(
-        alloc,
-        &pair.params,
-        Pairing::Apply,
-        pair.own.as_slice(),
-        pair.others.as_slice(),
-        meter,
-    )?;
+    let others = ShapeIndex::new(alloc, pair.others)?;
+    let own = pair.own.as_slice();
+    let made = all_pairs(alloc, &pair.params, Pairing::Apply, own, &others, meter)?;
     Ok(Value::from_normal(pair.params, made))
 }
 
@@ -126,16 +132,11 @@ pub fn join(alloc: Global, a: &Value, b: &Value, meter: &mut Meter) -> Result<Va
         (pairs_together are_linked a.now b.now) meter.old meter.new result }
 {
     let pair = aligned_pair(alloc, a, b, meter)?;
-    if have_wide_join(a.pieces(), b.pieces())? {
+    let others = ShapeIndex::new(alloc, pair.others)?;
+    let own = pair.own.as_slice();
+    if have_wide_join(alloc, own, &others)? {
         return Err(OpFault::TooWide);
     }
-    let made = all_pairs(
-        alloc,
-        &pair.params,
-        Pairing::Join,
-        pair.own.as_slice(),
-        pair.others.as_slice(),
-        meter,
-    )?;
+    let made = all_pairs(alloc, &pair.params, Pairing::Join, own, &others, meter)?;
     Ok(Value::from_normal(pair.params, made))
 }

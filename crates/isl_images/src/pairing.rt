@@ -1,9 +1,9 @@
 //! What is made of the pieces of two values.
 
-ghost use Rattle.std.specs.Prelude.{◌≡◌, [], All, IfOk};
+ghost use Rattle.std.specs.Prelude.{◌≡◌, All, IfOk, filter};
 ghost use Rattle.isl_space.specs.Space.{space_form_of};
 ghost use Rattle.isl_space.specs.Shape.{form_of};
-ghost use Rattle.isl_space.specs.SpaceForm.{map_of, set_of};
+ghost use Rattle.isl_space.specs.SpaceForm.{map_of, set_of, IsWellFormedSpace};
 ghost use Rattle.isl_space.specs.Valuation.{Valuation};
 ghost use Rattle.isl_piece.specs.System.{IsSystemWithin};
 ghost use Rattle.isl_union.specs.Fault.{IsMeteredFrom};
@@ -12,15 +12,16 @@ ghost use Rattle.isl_union.specs.Piece.{IsPieceOf};
 ghost use Rattle.isl_relation.specs.Maps.{ApplyHas, JoinHas};
 ghost use Rattle.isl_relation.specs.Together.{are_linked, is_domain, pair_count, pairs_of, partners, spaces_of};
 ghost use Rattle.isl_images.specs.Made.{elements_of, elements_of_all, ArePiecesOf, IsPlain};
-ghost use Rattle.isl_images.specs.Pairing.{IsNarrowPair, PairHas, are_paired};
+ghost use Rattle.isl_images.specs.Pairing.{IsNarrowPair, PairHas, are_paired, may_pair};
 
 use crate::shadow::{Gap, pieces_without};
 use crate::shift::of_both;
+use isl_index::ShapeIndex;
 use isl_meter::{Cut, Meter};
 use isl_piece::Piece;
 use isl_space::{Params, Space};
 use isl_union::append;
-use std::alloc::Global;
+use std::alloc::{AllocError, Global};
 
 /// What is made of the elements of two values.
 #[derive(Clone, Copy)]
@@ -124,9 +125,9 @@ fn pair_pieces(
     }
 }
 
-// The pieces that are made of one and each of the others.
+// The same of others that are looked at one by one.
 #[tactic(auto, using(std::proofs::lemmas::Grind::common_steps, isl_union::proofs::UnitLaws::unit_steps))]
-fn pieces_with(
+fn pieces_among(
     alloc: Global,
     params: &Params,
     pairing: Pairing,
@@ -154,6 +155,53 @@ fn pieces_with(
     Ok(made)
 }
 
+/// Those of the others that can be put together with a piece of the space.
+///
+/// # Errors
+///
+/// Where memory ends.
+pub(crate) fn near<'a>(
+    alloc: Global,
+    pairing: Pairing,
+    space: &Space,
+    others: &'a ShapeIndex,
+) -> Result<&'a [Piece], AllocError>
+    requires { IsWellFormedSpace (space_form_of space.now) }
+    ensures { IfOk result (λ found. found.now ≡ filter (may_pair pairing (space_form_of space.now)) others.now) }
+{
+    let Space::Map(from, to) = space else {
+        return Ok(&[]);
+    };
+    match pairing {
+        Pairing::Apply => others.with_shape(alloc, from),
+        Pairing::Join => others.with_shape(alloc, to),
+    }
+}
+
+// The pieces that are made of one and each of the others.
+#[tactic(auto, using(std::proofs::lemmas::Grind::common_steps, isl_union::proofs::UnitLaws::unit_steps))]
+fn pieces_with(
+    alloc: Global,
+    params: &Params,
+    pairing: Pairing,
+    piece: &Piece,
+    others: &ShapeIndex,
+    meter: &mut Meter,
+) -> Result<Vec<Piece>, Cut>
+    requires piece { IsPieceOf params.now piece.now }
+    requires others { All (IsPieceOf params.now) others.now }
+    requires piece_within { IsSystemWithin meter.old piece.now.system }
+    requires others_within { AreWithinLimit meter.old others.now }
+    requires narrow { All (λ other. IsNarrowPair pairing piece.now.space other.space) others.now }
+    ensures made { IfOk result (λ made. ArePiecesOf meter.old params.now (IsPlain piece.now × All IsPlain others.now)
+        (λ valuation. PairHas pairing (elements_of params.now piece.now valuation) (elements_of_all params.now others.now valuation))
+        made.items) }
+    ensures units { IsMeteredFrom (partners (are_paired pairing) (spaces_of others.now) piece.now.space) meter.old meter.new result }
+{
+    let near = near(alloc, pairing, piece.space(), others)?;
+    pieces_among(alloc, params, pairing, piece, near, meter)
+}
+
 /// The pieces that are made of each of the first and each of the others.
 #[tactic(auto, using(std::proofs::lemmas::Grind::common_steps, isl_union::proofs::UnitLaws::unit_steps))]
 pub(crate) fn all_pairs(
@@ -161,7 +209,7 @@ pub(crate) fn all_pairs(
     params: &Params,
     pairing: Pairing,
     pieces: &[Piece],
-    others: &[Piece],
+    others: &ShapeIndex,
     meter: &mut Meter,
 ) -> Result<Vec<Piece>, Cut>
     requires pieces { All (IsPieceOf params.now) pieces.now }

@@ -12,11 +12,14 @@ use Rattle.isl_images.proofs.MadeLaws.{value_has, value_kept, value_plain, value
 use Rattle.isl_images.proofs.PairingLaws.{pair_same}
 use Rattle.isl_images.proofs.joined.apply.Goals as goal
 
+pub new-requires : goal.new-requires
+new-requires c = λ k d l. (c.in_ok-pair.ensures.exact.others.sound k d l).kept.space
+
 pub returns-clause-kept : goal.returns-clause-kept
 returns-clause-kept c =
     let pair = c.in_ok-pair.pair in
-    let own = c.as_slice.result.now in
-    let others = c.as_slice-2.result.now in
+    let own = c.as_slice-own.result.now in
+    let others = c.in_ok-others.others in
     value_kept c.args.meter.now pair.params (All IsPlain own × All IsPlain others)
     (λ v. ApplyHas (elements_of_all pair.params own v) (elements_of_all pair.params others v)) c.in_ok-made.made.items
     c.in_ok-made.ensures.made c.from_normal.result c.from_normal.ensures c.in_ok-pair.ensures.exact.well_formed
@@ -27,7 +30,7 @@ returns-clause-elements c v e =
     let exact = c.in_ok-pair.ensures.exact in
     let own = pair.own.items in
     let others = pair.others.items in
-    let made = rw (c.as_slice.ensures.value, c.as_slice-2.ensures.value) at c.in_ok-made.ensures.made in
+    let made = rw (c.as_slice-own.ensures.value, c.in_ok-others.ensures) at c.in_ok-made.ensures.made in
     through
     (value_has c.args.meter.now pair.params (All IsPlain own × All IsPlain others)
     (λ w. ApplyHas (elements_of_all pair.params own w) (elements_of_all pair.params others w)) c.in_ok-made.made.items made
@@ -41,7 +44,7 @@ returns-clause-definitions c first second =
     let exact = c.in_ok-pair.ensures.exact in
     let own = pair.own.items in
     let others = pair.others.items in
-    let made = rw (c.as_slice.ensures.value, c.as_slice-2.ensures.value) at c.in_ok-made.ensures.made in
+    let made = rw (c.as_slice-own.ensures.value, c.in_ok-others.ensures) at c.in_ok-made.ensures.made in
     value_plain c.args.meter.now pair.params (All IsPlain own × All IsPlain others)
     (λ w. ApplyHas (elements_of_all pair.params own w) (elements_of_all pair.params others w)) c.in_ok-made.made.items made
     c.from_normal.result c.from_normal.ensures (exact.own.definitions first, exact.others.definitions second)
@@ -49,8 +52,8 @@ returns-clause-definitions c first second =
 pub returns-clause-numbers : goal.returns-clause-numbers
 returns-clause-numbers c =
     let pair = c.in_ok-pair.pair in
-    let own = c.as_slice.result.now in
-    let others = c.as_slice-2.result.now in
+    let own = c.as_slice-own.result.now in
+    let others = c.in_ok-others.others in
     value_small c.args.meter.now pair.params (All IsPlain own × All IsPlain others)
     (λ v. ApplyHas (elements_of_all pair.params own v) (elements_of_all pair.params others v)) c.in_ok-made.made.items
     c.in_ok-made.ensures.made c.from_normal.result c.from_normal.ensures
@@ -60,7 +63,7 @@ returns-clause-units c =
     let g = c.args.meter.now in
     let h = c.all_pairs.new.meter in
     let pair = c.in_ok-pair.pair in
-    let used = rw (c.as_slice.ensures.value, c.as_slice-2.ensures.value) at c.in_ok-made.ensures.units in (
+    let used = rw (c.as_slice-own.ensures.value, c.in_ok-others.ensures) at c.in_ok-made.ensures.units in (
       c.in_ok-pair.ensures.faults,
       subst (λ n. IsChargedFrom n g h)
           (same_pairs is_domain g c.args.a.now c.args.b.now pair.params pair.own.items pair.others.items c.in_ok-pair.ensures.exact) used,

@@ -1,22 +1,34 @@
-use Rattle.std.proofs.Common.{◌↔◌, arith, sym, ◌∙◌, ◌<◌, ◌≤◌, length, IsTrue}
-use Rattle.std.proofs.lemmas.Bool.{false≢true}
-use Rattle.isl_images.specs.Pairing.{IsWideJoin}
-use Rattle.isl_relation.proofs.SeekLaws.{none_all, none_more}
+use Rattle.std.proofs.Common.{◌∙◌, sym, ap, subst, filter, List}
+use Rattle.std.specs.List.{All, Any}
+use Rattle.std.proofs.lemmas.List.Elements.{All-filter}
+use Rattle.std.proofs.lemmas.Result.{IfOk-weaker}
+use Rattle.isl_space.specs.SpaceForm.{SpaceForm, IsWellFormedSpace}
+use Rattle.isl_piece.specs.Piece.{PieceView}
+use Rattle.isl_images.specs.declared.pairing.Pairing.TheVariants.{Join}
+use Rattle.isl_images.specs.Pairing.{IsWideJoin, may_pair}
+use Rattle.isl_images.proofs.NearLaws.{wide_near}
 use Rattle.isl_images.proofs.joined.has_wide_join.Goals as goal
 
-pub loop-other-preserved : goal.loop-other-preserved
-loop-other-preserved c =
-    let others = c.args.others.now in
-    let i = c.loop-other.other-index in
-    let other = c.other-item.result in
-    let low : i < length others = omega arith in
-    let told : IsTrue c.in_ok-is_wide_join.field-0 ↔ IsWideJoin c.args.piece.now.space other.space =
-    rw (c.space.ensures, c.space-in-loop-other.ensures) at c.in_ok-is_wide_join.ensures in
-    none_more (λ q. IsWideJoin c.args.piece.now.space q.space) others i other low c.other-item.is c.loop-other.invariant
-    (λ wide. false≢true (sym c.if-branch.false ∙ told.1 wide))
+pub near-requires : goal.near-requires
+near-requires c = subst IsWellFormedSpace (sym c.space.ensures) c.requires.piece
+
+pub is_wide_among-requires-clause-space : goal.is_wide_among-requires-clause-space
+is_wide_among-requires-clause-space c = subst IsWellFormedSpace (sym c.space-2.ensures) c.requires.piece
+
+pub is_wide_among-requires-clause-others : goal.is_wide_among-requires-clause-others
+is_wide_among-requires-clause-others c =
+    let P : PieceView → Type 0 = λ p. IsWellFormedSpace p.space in
+    subst (All P) (sym c.in_ok-near.ensures) (All-filter (may_pair Join _) P c.args.others.now c.requires.others)
 
 pub returns : goal.returns
 returns c =
+    let s = c.args.piece.now.space in
     let others = c.args.others.now in
-    let end : length others ≤ c.loop-other.other-index = omega arith in
-    none_all (λ q. IsWideJoin c.args.piece.now.space q.space) others c.loop-other.other-index end c.loop-other.invariant
+    let near = c.in_ok-near.ensures ∙ ap (λ (t : SpaceForm). filter (may_pair Join t) others) c.space.ensures in
+    let exact = wide_near s others in
+    IfOk-weaker c.is_wide_among.result _ _ (λ wide told. (
+      (λ t. exact.0 (subst (λ (l : List PieceView). Any (λ q. IsWideJoin s q.space) l) near
+          (subst (λ (u : SpaceForm). Any (λ q. IsWideJoin u q.space) c.in_ok-near.near.now) c.space-2.ensures (told.0 t)))),
+      (λ a. told.1 (subst (λ (u : SpaceForm). Any (λ q. IsWideJoin u q.space) c.in_ok-near.near.now) (sym c.space-2.ensures)
+          (subst (λ (l : List PieceView). Any (λ q. IsWideJoin s q.space) l) (sym near) (exact.1 a)))),
+    )) c.is_wide_among.ensures

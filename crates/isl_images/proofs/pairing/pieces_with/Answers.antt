@@ -1,77 +1,63 @@
-use Rattle.std.proofs.Common.{refl, arith, ◌<◌, ◌≤◌, length}
+use Rattle.std.proofs.Common.{◌∙◌, sym, ap, subst, filter, List, IfOk, MatchResult}
 use Rattle.std.specs.List.{All}
+use Rattle.std.proofs.lemmas.List.Elements.{All-filter}
+use Rattle.std.proofs.lemmas.Result.{IfOk-weaker}
+use Rattle.isl_meter.specs.Gauge.{IsCutBy}
+use Rattle.isl_space.specs.SpaceForm.{SpaceForm, IsWellFormedSpace}
+use Rattle.isl_piece.specs.Piece.{PieceView}
 use Rattle.isl_piece.specs.System.{IsSystemWithin}
-use Rattle.isl_piece.proofs.FormedLaws.{system_within_kept}
-use Rattle.isl_union.proofs.MeetSteps.{charged_bits, item_has}
-use Rattle.isl_union.proofs.UnitLaws.{from_none}
-use Rattle.isl_relation.proofs.TogetherLaws.{partner_pays}
-use Rattle.isl_images.specs.Made.{elements_of, IsPlain}
-use Rattle.isl_images.specs.Pairing.{IsNarrowPair, PairHas, are_paired}
-use Rattle.isl_images.proofs.MadeLaws.{of_all, of_more, of_none}
-use Rattle.isl_images.proofs.PairingLaws.{second_additive}
+use Rattle.isl_union.specs.Fault.{IsChargedFrom}
+use Rattle.isl_union.specs.Piece.{IsPieceOf}
+use Rattle.isl_relation.specs.Together.{partners, spaces_of}
+use Rattle.isl_images.specs.Made.{elements_of, elements_of_all, ArePiecesOf, IsPlain}
+use Rattle.isl_images.specs.Pairing.{IsNarrowPair, PairHas, are_paired, may_pair}
+use Rattle.isl_images.proofs.MadeLaws.{of_same}
+use Rattle.isl_images.proofs.NearLaws.{partners_near, pair_near}
 use Rattle.isl_images.proofs.pairing.pieces_with.Goals as goal
 
-pub loop-other-init : goal.loop-other-init
-loop-other-init c =
-    let params = c.args.params.now in
-    let pairing = c.args.pairing in
-    let piece = c.args.piece.now in
-    record {
-      made = of_none c.args.meter.now params (λ v. PairHas pairing (elements_of params piece v))
-          (λ v. second_additive pairing (elements_of params piece v)) (IsPlain piece × All IsPlain c.args.others.now)
-          c.new-made.result.items c.new-made.ensures.items;
-      used = from_none c.args.meter.now c.args.meter.now refl;
-    }
+pub near-requires : goal.near-requires
+near-requires c = subst IsWellFormedSpace (sym c.space.ensures) c.requires.piece.kept.space
 
-pub pair_pieces-requires-clause-first_within : goal.pair_pieces-requires-clause-first_within
-pair_pieces-requires-clause-first_within c =
-    system_within_kept c.loop-other.meter c.args.meter.now c.args.piece.now.system
-    (charged_bits c.args.meter.now c.loop-other.meter c.loop-other.invariant.used.charged) c.requires.piece_within
+pub pieces_among-requires-clause-others : goal.pieces_among-requires-clause-others
+pieces_among-requires-clause-others c =
+    subst (All (IsPieceOf c.args.params.now)) (sym c.in_ok-near.ensures)
+    (All-filter (may_pair c.args.pairing _) (IsPieceOf c.args.params.now) c.args.others.now c.requires.others)
 
-pub pair_pieces-requires-clause-second_within : goal.pair_pieces-requires-clause-second_within
-pair_pieces-requires-clause-second_within c =
-    let low : c.loop-other.other-index < length c.args.others.now = omega arith in
-    system_within_kept c.loop-other.meter c.args.meter.now c.other-item.result.system
-    (charged_bits c.args.meter.now c.loop-other.meter c.loop-other.invariant.used.charged)
-    (item_has (λ p. IsSystemWithin c.args.meter.now p.system) c.args.others.now c.loop-other.other-index c.other-item.result low
-    c.other-item.is c.requires.others_within)
+pub pieces_among-requires-clause-others_within : goal.pieces_among-requires-clause-others_within
+pieces_among-requires-clause-others_within c =
+    let P : PieceView → Type 0 = λ p. IsSystemWithin c.args.meter.now p.system in
+    subst (All P) (sym c.in_ok-near.ensures) (All-filter (may_pair c.args.pairing _) P c.args.others.now c.requires.others_within)
 
-pub pair_pieces-requires-clause-narrow : goal.pair_pieces-requires-clause-narrow
-pair_pieces-requires-clause-narrow c =
-    let low : c.loop-other.other-index < length c.args.others.now = omega arith in
-    item_has (λ q. IsNarrowPair c.args.pairing c.args.piece.now.space q.space) c.args.others.now c.loop-other.other-index
-    c.other-item.result low c.other-item.is c.requires.narrow
+pub pieces_among-requires-clause-narrow : goal.pieces_among-requires-clause-narrow
+pieces_among-requires-clause-narrow c =
+    let P : PieceView → Type 0 = λ q. IsNarrowPair c.args.pairing c.args.piece.now.space q.space in
+    subst (All P) (sym c.in_ok-near.ensures) (All-filter (may_pair c.args.pairing _) P c.args.others.now c.requires.narrow)
 
-pub loop-other-preserved : goal.loop-other-preserved
-loop-other-preserved c =
+pub returns-clause-made : goal.returns-clause-made
+returns-clause-made c =
     let g = c.args.meter.now in
     let params = c.args.params.now in
     let pairing = c.args.pairing in
     let piece = c.args.piece.now in
     let others = c.args.others.now in
-    let i = c.loop-other.other-index in
-    let other = c.other-item.result in
-    let so_far = c.loop-other.invariant in
-    let low : i < length others = omega arith in
-    record {
-      made = of_more g params (λ v. PairHas pairing (elements_of params piece v))
-          (λ v. second_additive pairing (elements_of params piece v)) (IsPlain piece × All IsPlain others) others i other low
-          c.other-item.is (IsPlain piece × IsPlain other)
-          (λ plain. (plain.0, item_has IsPlain others i other low c.other-item.is plain.1)) c.loop-other.meter so_far.used.charged
-          c.loop-other.made.items c.in_ok-pair_pieces.field-0.items c.append.new.pieces.items c.in_ok-append.ensures so_far.made
-          c.in_ok-pair_pieces.ensures.made;
-      used = partner_pays (are_paired pairing) others other i low c.other-item.is piece.space g c.loop-other.meter c.pair_pieces.new.meter
-          so_far.used c.in_ok-pair_pieces.ensures.units;
-    }
+    let are = c.in_ok-near.ensures ∙ ap (λ (t : SpaceForm). filter (may_pair pairing t) others) c.space.ensures in
+    let near = filter (may_pair pairing piece.space) others in
+    let made = subst (λ (l : List PieceView). IfOk c.pieces_among.result (λ made. ArePiecesOf g params (IsPlain piece × All IsPlain l)
+    (λ v. PairHas pairing (elements_of params piece v) (elements_of_all params l v)) made.items)) are c.pieces_among.ensures.made in
+    IfOk-weaker c.pieces_among.result _ _ (λ made is. of_same g params (IsPlain piece × All IsPlain near) (IsPlain piece × All IsPlain others)
+    (λ v. PairHas pairing (elements_of params piece v) (elements_of_all params near v))
+    (λ v. PairHas pairing (elements_of params piece v) (elements_of_all params others v)) made.items
+    (λ plain. (plain.0, All-filter (may_pair pairing piece.space) IsPlain others plain.1))
+    (λ v e. pair_near pairing params piece others v e) is) made
 
-pub returns-clause-made : goal.returns-clause-made
-returns-clause-made c =
-    let params = c.args.params.now in
+pub returns-clause-units : goal.returns-clause-units
+returns-clause-units c =
     let pairing = c.args.pairing in
     let piece = c.args.piece.now in
     let others = c.args.others.now in
-    let i = c.loop-other.other-index in
-    let end : length others ≤ i = omega arith in
-    of_all c.args.meter.now params (λ v. PairHas pairing (elements_of params piece v))
-    (λ v. second_additive pairing (elements_of params piece v)) (IsPlain piece × All IsPlain others) others i end
-    c.loop-other.made.items c.loop-other.invariant.made
+    let g = c.args.meter.now in
+    let h = c.pieces_among.new.meter in
+    let are = c.in_ok-near.ensures ∙ ap (λ (t : SpaceForm). filter (may_pair pairing t) others) c.space.ensures in
+    subst (λ n. MatchResult c.pieces_among.result (λ _. IsChargedFrom n g h) (IsCutBy g h))
+    (ap (λ (l : List PieceView). partners (are_paired pairing) (spaces_of l) piece.space) are ∙ partners_near pairing piece.space others)
+    c.pieces_among.ensures.units

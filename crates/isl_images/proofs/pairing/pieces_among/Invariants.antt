@@ -4,7 +4,7 @@ use Rattle.isl_union.specs.Fault.{IsChargedFrom}
 use Rattle.isl_relation.specs.Together.{partners, spaces_of}
 use Rattle.isl_images.specs.Made.{elements_of, elements_of_all, ArePiecesOf, IsPlain}
 use Rattle.isl_images.specs.Pairing.{PairHas, are_paired}
-use Rattle.isl_images.proofs.pairing.pieces_with.Given as goal
+use Rattle.isl_images.proofs.pairing.pieces_among.Given as goal
 
 abbrev pub invariant-loop-other : goal.invariant-loop-other
 invariant-loop-other l = record {
