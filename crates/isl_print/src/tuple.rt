@@ -10,6 +10,7 @@ ghost use Rattle.isl_row_text.specs.Joined.{joined_by, each_after};
 ghost use Rattle.isl_print.specs.Tuple.{tuple_text, tuples_text};
 
 use isl_space::{Name, Shape, Space};
+use itoa::Buffer;
 use std::alloc::AllocError;
 
 /// What stands at a place of a tuple: the name of a coordinate, or its number.
@@ -34,8 +35,8 @@ impl Entry for i128 {
     ghost text = { signed_decimal };
 
     fn write(&self, out: &mut String) -> Result<(), AllocError> {
-        let number = *self;
-        write!(out, "{number}")
+        let mut digits = Buffer::new();
+        out.push_str(digits.format(*self))
     }
 }
 
