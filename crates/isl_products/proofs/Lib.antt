@@ -3,5 +3,6 @@ pub mod PlaceLaws
 pub mod LayoutLaws
 pub mod PairLaws
 pub mod WideLaws
+pub mod NearLaws
 pub mod HasLaws
 pub mod RemoveLaws

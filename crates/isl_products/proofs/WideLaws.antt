@@ -1,5 +1,5 @@
 -- Spaces that are too wide.
-use Rattle.std.proofs.Common.{◌≡◌, ◌↔◌, refl, sym, ap, ap₂, ◌∙◌, subst, inl, inr, ℕ, ◌+◌, ◌<◌, ◌≤◌, List, [], ◌∷◌, Any, Contains}
+use Rattle.std.proofs.Common.{◌≡◌, ◌↔◌, refl, sym, ap, ap₂, ◌∙◌, subst, inl, inr, ℕ, ◌+◌, ◌<◌, ◌≤◌, List, [], ◌∷◌, All, Any, Contains}
 use Rattle.std.proofs.Common.{get_or, length, map, take}
 use Rattle.std.proofs.lemmas.List.{take_all}
 use Rattle.std.proofs.lemmas.List.Elements.{All-contains}
@@ -7,7 +7,7 @@ use Rattle.isl_math.proofs.ListLaws.{Any-contains, Any-element, Any-one, Any-par
 use Rattle.isl_meter.specs.Gauge.{Gauge}
 use Rattle.isl_space.specs.Name.{Name}
 use Rattle.isl_space.specs.Names.{AreDistinct}
-use Rattle.isl_space.specs.SpaceForm.{IsTooWideSpace}
+use Rattle.isl_space.specs.SpaceForm.{IsTooWideSpace, IsWellFormedSpace}
 use Rattle.isl_piece.specs.Piece.{PieceView}
 use Rattle.isl_relation.specs.Formed.{FormsCrossMaps, FormsCrossSets, FormsUniversal}
 use Rattle.isl_relation.specs.Wide.{IsFormFault, IsLiveIn, PairsTooWide}
@@ -87,6 +87,16 @@ restrict_none place a b kept w =
     let one = Any-element (λ (p : KeptPiece). p.space ≡ w.s) a.pieces w.own in
     let piece = All-contains (IsKeptPiece a.params) a.pieces one.0 kept.pieces one.1 in
     restrict_narrow place one.0.space w.t piece.space (subst (λ s. IsWide (Restrict place) s w.t) (sym one.2) w.wide)
+
+-- nor of pieces
+pub never_wide : (place : Place) (pieces others : List PieceView) → All (λ piece. IsWellFormedSpace piece.space) pieces
+    → ¬ AreWide (Restrict place) (map kept_piece pieces) (map kept_piece others)
+never_wide place pieces others formed wide =
+    let P : KeptPiece → Type 0 = λ x. Any (λ (y : KeptPiece). IsWide (Restrict place) x.space y.space) (map kept_piece others) in
+    let first = Any-element (λ (x : PieceView). P (kept_piece x)) pieces (Any-unmapped P kept_piece pieces wide) in
+    let second = Any-element (λ (y : KeptPiece). IsWide (Restrict place) first.0.space y.space) (map kept_piece others) first.2 in
+    restrict_narrow place first.0.space second.0.space
+    (All-contains (λ (x : PieceView). IsWellFormedSpace x.space) pieces first.0 formed first.1) second.2
 
 -- ---- in the words of spaces
 pub universal_wide : (a b : KeptValue) → IsWidePair Universal a b ↔ PairsTooWide FormsUniversal a b

@@ -1,10 +1,12 @@
 -- inner: how an element of a formed space is put together of one of a first space and one of a second. (isl manual, on spaces)
-use Rattle.std.specs.Prelude.{◌≡◌, ℕ, ◌+◌, ◌≤◌, ℤ, Bool, if◌then◌else◌, Option, Some, None, List, ◌++◌, drop, take}
+use Rattle.std.specs.Prelude.{◌≡◌, ℕ, ◌+◌, ◌≤◌, ℤ, Bool, true, false, if◌then◌else◌, Option, Some, None, List, ◌++◌, drop, take}
 use Rattle.std.specs.List.{range_with_len}
 use Rattle.isl_space.specs.Element.{Element}
 use Rattle.isl_space.specs.Form.{Form, pair, width_of}
 use Rattle.isl_space.specs.Space.{space_form_of}
 use Rattle.isl_space.specs.SpaceForm.{SpaceForm, set_of, map_of, coordinates_of, IsTooWideSpace}
+use Rattle.isl_piece.specs.Piece.{PieceView}
+use Rattle.isl_index.specs.Found.{first_form}
 use Rattle.isl_union.specs.Meet.{is_same_form}
 use Rattle.isl_relation.specs.Together.{are_maps, are_sets, is_domain, is_range}
 use Rattle.isl_products.specs.declared.layout.Layout.{Layout}
@@ -110,6 +112,18 @@ are_together CrossSets = are_sets
 are_together CrossMaps = are_maps
 are_together (Restrict Domain) = is_domain
 are_together (Restrict Range) = is_range
+
+-- whether the second space begins with the form that the product looks for, where it looks for one
+abbrev pub may_follow : Product → SpaceForm → SpaceForm → Bool
+may_follow Universal s t = true
+may_follow CrossSets s t = true
+may_follow CrossMaps s t = true
+may_follow (Restrict place) (set_of x) t = false
+may_follow (Restrict place) (map_of x y) t = is_same_form (form_at place x y) (first_form t)
+
+-- the same of a piece
+abbrev pub may_join : Product → SpaceForm → PieceView → Bool
+may_join product s piece = may_follow product s piece.space
 
 -- the product puts elements of the two spaces together, in a space that is too wide
 pub record IsWide (product : Product) (s t : SpaceForm) : Type 0 where

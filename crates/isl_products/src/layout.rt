@@ -137,8 +137,8 @@ fn of_maps(
     }))
 }
 
-// The shape at a place of a map.
-fn shape_at<'a>(place: Place, from: &'a Rc<Shape>, to: &'a Rc<Shape>) -> &'a Rc<Shape>
+/// The shape at a place of a map.
+pub(crate) fn shape_at<'a>(place: Place, from: &'a Rc<Shape>, to: &'a Rc<Shape>) -> &'a Rc<Shape>
     ensures { form_of result.now.value ≡ form_at place (form_of from.now.value) (form_of to.now.value) }
 {
     match place {

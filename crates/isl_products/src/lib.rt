@@ -3,6 +3,7 @@
 
 mod cross;
 mod layout;
+mod near;
 mod placed;
 mod product;
 mod remove;

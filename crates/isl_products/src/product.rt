@@ -15,8 +15,10 @@ ghost use Rattle.isl_products.specs.Layout.{IsWide, are_together};
 ghost use Rattle.isl_products.specs.Made.{AreWide, IsMadeOf, IsMadeWith, IsWidePair, ProductHas};
 
 use crate::layout::{Product, layout_of};
+use crate::near::near;
 use crate::placed::joined;
 use crate::wide::ask_spaces;
+use isl_index::ShapeIndex;
 use isl_meter::{Cut, Meter};
 use isl_piece::Piece;
 use isl_space::Params;
@@ -57,9 +59,9 @@ fn made_of(
     live_pieces_in(alloc, params, &layout.space, systems, meter)
 }
 
-// What is made of the piece and each of the others.
+// What is made of the piece and each of the others, which are looked at one by one.
 #[tactic(auto, using(std::proofs::lemmas::Grind::common_steps, isl_union::proofs::UnitLaws::unit_steps))]
-fn made_with(
+fn made_among(
     alloc: Global,
     params: &Params,
     product: Product,
@@ -91,6 +93,34 @@ fn made_with(
     Ok(made)
 }
 
+// What is made of the piece and each of the others, of which only those are looked at that can be put together with it.
+#[tactic(auto, using(std::proofs::lemmas::Grind::common_steps, isl_union::proofs::UnitLaws::unit_steps))]
+fn made_with(
+    alloc: Global,
+    params: &Params,
+    product: Product,
+    piece: &Piece,
+    others: &ShapeIndex,
+    meter: &mut Meter,
+) -> Result<Vec<Piece>, Cut>
+    requires piece { IsPieceOf params.now piece.now }
+    requires others { All (IsPieceOf params.now) others.now }
+    requires piece_within { IsSystemWithin meter.old piece.now.system }
+    requires others_within { AreWithinLimit meter.old others.now }
+    requires narrow { ¬ Any (λ b. IsWide product piece.now.space b.space) (map kept_piece others.now) }
+    ensures elements { (v : Valuation) (e : Element)
+        → IfOk result (λ made. Any (HasElement params.now v e) (map kept_piece made.items)
+        ↔ IsMadeWith product params.now (map kept_piece others.now) v e (kept_piece piece.now)) }
+    ensures sound { IfOk result (λ made. All (IsPieceOf params.now) made.items) }
+    ensures definitions { piece.now.system.definitions ≡ [] → All (λ other. other.system.definitions ≡ []) others.now
+        → IfOk result (λ made. All (λ piece. piece.definitions ≡ []) (map kept_piece made.items)) }
+    ensures numbers { IfOk result (λ made. All (IsPieceUpTo (unsigned_abs (limit_of meter.old))) (map kept_piece made.items)) }
+    ensures units { IsMeteredFrom (partners (are_together product) (spaces_of others.now) piece.now.space) meter.old meter.new result }
+{
+    let near = near(alloc, product, piece.space(), others)?;
+    made_among(alloc, params, product, piece, near, meter)
+}
+
 // What is made of each of the pieces and each of the others.
 #[tactic(auto, using(std::proofs::lemmas::Grind::common_steps, isl_union::proofs::UnitLaws::unit_steps))]
 fn all_made(
@@ -98,7 +128,7 @@ fn all_made(
     params: &Params,
     product: Product,
     pieces: &[Piece],
-    others: &[Piece],
+    others: &ShapeIndex,
     meter: &mut Meter,
 ) -> Result<Vec<Piece>, Cut>
     requires pieces { All (IsPieceOf params.now) pieces.now }
@@ -158,8 +188,8 @@ pub(crate) fn product_of(
     let pieces = a.pieces();
     let pair = aligned_pair(alloc, a, b, meter)?;
     ask_spaces(alloc, product, pieces, b.pieces())?;
+    let others = ShapeIndex::new(alloc, pair.others)?;
     let own = pair.own.as_slice();
-    let others = pair.others.as_slice();
-    let made = all_made(alloc, &pair.params, product, own, others, meter)?;
+    let made = all_made(alloc, &pair.params, product, own, &others, meter)?;
     Ok(Value::from_normal(pair.params, made))
 }

@@ -15,16 +15,19 @@ ghost use Rattle.isl_union.specs.Piece.{kept_piece, IsPieceOf};
 ghost use Rattle.isl_products.specs.Made.{AreBeside, AreLeft, IsApartFrom, RemoveHas};
 
 use crate::layout::{Place, Product, layout_of};
+use crate::near::near;
 use crate::placed::placed;
 use isl_difference::{outside, references};
+use isl_index::ShapeIndex;
 use isl_meter::{Cut, Meter};
 use isl_piece::{Piece, System};
 use isl_space::{Params, Space};
 use isl_union::{OpFault, Value, aligned_pair, append, pieces_in};
 use std::alloc::{AllocError, Global};
 
-// The systems that hold at those elements of the piece that have at the place what the others have.
-fn systems_beside(
+// The systems that hold at those elements of the piece that have at the place what the others have, which are looked at
+// one by one.
+fn systems_among(
     alloc: Global,
     place: Place,
     params: &Params,
@@ -44,6 +47,23 @@ fn systems_beside(
         }
     }
     Ok(systems)
+}
+
+// The systems that hold at those elements of the piece that have at the place what the others have.
+fn systems_beside(
+    alloc: Global,
+    place: Place,
+    params: &Params,
+    piece: &Piece,
+    others: &ShapeIndex,
+) -> Result<Vec<System>, AllocError>
+    requires piece { IsPieceOf params.now piece.now }
+    requires others { All (IsPieceOf params.now) others.now }
+    ensures { (g : Gauge) → AreWithinLimit g others.now
+        → IfOk result (λ systems. AreBeside g place params.now piece.now others.now systems.items) }
+{
+    let near = near(alloc, Product::Restrict(place), piece.space(), others)?;
+    systems_among(alloc, place, params, piece, near)
 }
 
 // What is left of the piece without the elements at which one of the systems holds.
@@ -79,7 +99,7 @@ fn piece_without(
     place: Place,
     params: &Params,
     piece: &Piece,
-    others: &[Piece],
+    others: &ShapeIndex,
     meter: &mut Meter,
 ) -> Result<Vec<Piece>, Cut>
     requires piece { IsPieceOf params.now piece.now }
@@ -110,7 +130,7 @@ fn pieces_without(
     place: Place,
     params: &Params,
     pieces: &[Piece],
-    others: &[Piece],
+    others: &ShapeIndex,
     meter: &mut Meter,
 ) -> Result<Vec<Piece>, Cut>
     requires pieces { All (IsPieceOf params.now) pieces.now }
@@ -161,9 +181,9 @@ fn remove(
     ensures units { IsWorkedFrom (joined map.now.params set.now.params) 0 meter.old meter.new result }
 {
     let pair = aligned_pair(alloc, map, set, meter)?;
+    let others = ShapeIndex::new(alloc, pair.others)?;
     let own = pair.own.as_slice();
-    let others = pair.others.as_slice();
-    let left = pieces_without(alloc, place, &pair.params, own, others, meter)?;
+    let left = pieces_without(alloc, place, &pair.params, own, &others, meter)?;
     Ok(Value::from_normal(pair.params, left))
 }
 

@@ -72,6 +72,10 @@ pub(crate) fn ask_spaces(
     ensures ok { IfOk result (λ _. ¬ AreWide product (map kept_piece pieces.now) (map kept_piece others.now)) }
     ensures err { result ≡ Err TooWide → AreWide product (map kept_piece pieces.now) (map kept_piece others.now) }
 {
+    // It stays in the space of the piece.
+    if let Product::Restrict(_) = product {
+        return Ok(());
+    }
     for piece in pieces {
         ask_spaces_with(alloc, product, piece.space(), others)?;
     }

@@ -1,64 +1,70 @@
-use Rattle.std.proofs.Common.{◌≡◌, [], arith, ◌<◌, ◌≤◌, length}
+use Rattle.std.proofs.Common.{◌≡◌, ◌∙◌, sym, ap, subst, filter, List, [], MatchResult, Any, map}
+use Rattle.std.specs.List.{All}
+use Rattle.std.proofs.lemmas.List.Elements.{All-filter}
+use Rattle.std.proofs.lemmas.Result.{IfOk-weaker}
+use Rattle.isl_meter.specs.Gauge.{IsCutBy}
+use Rattle.isl_space.specs.SpaceForm.{SpaceForm, IsWellFormedSpace}
 use Rattle.isl_piece.specs.Piece.{PieceView}
 use Rattle.isl_piece.specs.System.{IsSystemWithin}
-use Rattle.isl_piece.proofs.FormedLaws.{system_within_kept}
-use Rattle.isl_union.specs.Piece.{kept_piece}
-use Rattle.isl_union.proofs.MeetSteps.{charged_bits, item_has}
-use Rattle.isl_union.proofs.PiecesLaws.{plain_more}
-use Rattle.isl_relation.proofs.TogetherLaws.{partner_pays}
-use Rattle.isl_products.specs.Layout.{IsWide, are_together}
-use Rattle.isl_products.specs.Made.{IsMadeOf}
-use Rattle.isl_products.proofs.PairLaws.{made_at_end, made_next}
-use Rattle.isl_products.proofs.WideLaws.{not_next}
+use Rattle.isl_union.specs.Fault.{IsChargedFrom}
+use Rattle.isl_union.specs.KeptValue.{KeptPiece}
+use Rattle.isl_union.specs.Piece.{kept_piece, IsPieceOf}
+use Rattle.isl_relation.specs.Together.{partners, spaces_of}
+use Rattle.isl_products.specs.Layout.{IsWide, are_together, may_join}
+use Rattle.isl_products.specs.Made.{IsMadeWith}
+use Rattle.isl_products.proofs.NearLaws.{any_near, made_near, partners_near}
 use Rattle.isl_products.proofs.product.made_with.Goals as goal
 
-pub made_of-requires-clause-own_within : goal.made_of-requires-clause-own_within
-made_of-requires-clause-own_within c =
-    system_within_kept c.loop-other.meter c.args.meter.now c.args.piece.now.system
-    (charged_bits c.args.meter.now c.loop-other.meter c.loop-other.invariant.used.charged) c.requires.piece_within
+pub near-requires : goal.near-requires
+near-requires c = subst IsWellFormedSpace (sym c.space.ensures) c.requires.piece.kept.space
 
-pub made_of-requires-clause-other_within : goal.made_of-requires-clause-other_within
-made_of-requires-clause-other_within c =
-    let low : c.loop-other.other-index < length c.args.others.now = omega arith in
-    system_within_kept c.loop-other.meter c.args.meter.now c.other-item.result.system
-    (charged_bits c.args.meter.now c.loop-other.meter c.loop-other.invariant.used.charged)
-    (item_has (λ p. IsSystemWithin c.args.meter.now p.system) c.args.others.now c.loop-other.other-index c.other-item.result low
-    c.other-item.is c.requires.others_within)
+pub made_among-requires-clause-others : goal.made_among-requires-clause-others
+made_among-requires-clause-others c =
+    subst (All (IsPieceOf c.args.params.now)) (sym c.in_ok-near.ensures)
+    (All-filter (may_join c.args.product _) (IsPieceOf c.args.params.now) c.args.others.now c.requires.others)
 
-pub made_of-requires-clause-narrow : goal.made_of-requires-clause-narrow
-made_of-requires-clause-narrow c =
-    let low : c.loop-other.other-index < length c.args.others.now = omega arith in
-    not_next (λ b. IsWide c.args.product c.args.piece.now.space b.space) c.args.others.now c.loop-other.other-index c.other-item.result low
-    c.other-item.is c.requires.narrow
+pub made_among-requires-clause-others_within : goal.made_among-requires-clause-others_within
+made_among-requires-clause-others_within c =
+    let P : PieceView → Type 0 = λ p. IsSystemWithin c.args.meter.now p.system in
+    subst (All P) (sym c.in_ok-near.ensures) (All-filter (may_join c.args.product _) P c.args.others.now c.requires.others_within)
 
-pub loop-other-preserved : goal.loop-other-preserved
-loop-other-preserved c =
-    let params = c.args.params.now in
+pub made_among-requires-clause-narrow : goal.made_among-requires-clause-narrow
+made_among-requires-clause-narrow c = λ wide.
+    let product = c.args.product in
+    let piece = c.args.piece.now in
     let others = c.args.others.now in
-    let i = c.loop-other.other-index in
-    let other = c.other-item.result in
-    let g = c.args.meter.now in
-    let h = c.loop-other.meter in
-    let low : i < length others = omega arith in
-    let so_far = c.loop-other.invariant in
-    let one = c.in_ok-made_of.ensures in
-    record {
-      made = made_next g h params (λ v e b. IsMadeOf c.args.product params v e (kept_piece c.args.piece.now) b) others other i
-          c.loop-other.made.items c.in_ok-made_of.field-0.items c.append.new.pieces.items so_far.used.charged low c.other-item.is
-          so_far.made
-          c.in_ok-append.ensures one.elements one.sound one.numbers;
-      definitions = λ own all.
-          let P : PieceView → Type 0 = λ p. p.system.definitions ≡ [] in
-          let here = item_has P others i other low c.other-item.is all in
-          plain_more c.loop-other.made.items c.in_ok-made_of.field-0.items c.append.new.pieces.items c.in_ok-append.ensures
-          (so_far.definitions own all) (one.definitions own here);
-      used = partner_pays (are_together c.args.product) others other i low c.other-item.is c.args.piece.now.space g h c.made_of.new.meter
-          so_far.used one.units;
-    }
+    let P : KeptPiece → Type 0 = λ b. IsWide product piece.space b.space in
+    let are = c.in_ok-near.ensures ∙ ap (λ (s : SpaceForm). filter (may_join product s) others) c.space.ensures in
+    c.requires.narrow (any_near product piece.space P others (subst (λ (l : List PieceView). Any P (map kept_piece l)) are wide))
 
 pub returns-clause-elements : goal.returns-clause-elements
 returns-clause-elements c v e =
-    let end : length c.args.others.now ≤ c.loop-other.other-index = omega arith in
-    (made_at_end c.args.meter.now c.args.params.now
-    (λ v e b. IsMadeOf c.args.product c.args.params.now v e (kept_piece c.args.piece.now) b) c.args.others.now c.loop-other.made.items
-    c.loop-other.other-index end c.loop-other.invariant.made).elements v e
+    let product = c.args.product in
+    let params = c.args.params.now in
+    let piece = c.args.piece.now in
+    let others = c.args.others.now in
+    let are = c.in_ok-near.ensures ∙ ap (λ (s : SpaceForm). filter (may_join product s) others) c.space.ensures in
+    let same = made_near product params piece others v e in
+    IfOk-weaker c.made_among.result _ _ (λ made told. (
+      (λ h. same.0 (subst (λ (l : List PieceView). IsMadeWith product params (map kept_piece l) v e (kept_piece piece)) are (told.0 h))),
+      (λ h. told.1 (subst (λ (l : List PieceView). IsMadeWith product params (map kept_piece l) v e (kept_piece piece)) (sym are)
+          (same.1 h))),
+    )) (c.made_among.ensures.elements v e)
+
+pub returns-clause-definitions : goal.returns-clause-definitions
+returns-clause-definitions c = λ own none.
+    let P : PieceView → Type 0 = λ p. p.system.definitions ≡ [] in
+    c.made_among.ensures.definitions own (subst (All P) (sym c.in_ok-near.ensures) (All-filter (may_join c.args.product _) P
+    c.args.others.now none))
+
+pub returns-clause-units : goal.returns-clause-units
+returns-clause-units c =
+    let product = c.args.product in
+    let piece = c.args.piece.now in
+    let others = c.args.others.now in
+    let g = c.args.meter.now in
+    let h = c.made_among.new.meter in
+    let are = c.in_ok-near.ensures ∙ ap (λ (s : SpaceForm). filter (may_join product s) others) c.space.ensures in
+    subst (λ n. MatchResult c.made_among.result (λ _. IsChargedFrom n g h) (IsCutBy g h))
+    (ap (λ (l : List PieceView). partners (are_together product) (spaces_of l) piece.space) are ∙ partners_near product piece.space others)
+    c.made_among.ensures.units

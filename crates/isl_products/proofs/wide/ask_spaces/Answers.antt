@@ -4,7 +4,9 @@ use Rattle.isl_space.specs.SpaceForm.{SpaceForm}
 use Rattle.isl_union.specs.KeptValue.{KeptPiece}
 use Rattle.isl_union.specs.Piece.{kept_piece}
 use Rattle.isl_products.specs.Layout.{IsWide}
-use Rattle.isl_products.proofs.WideLaws.{none_at_end, none_next, some_next}
+use Rattle.isl_products.specs.declared.layout.Product.{Product}
+use Rattle.isl_products.specs.Made.{AreWide}
+use Rattle.isl_products.proofs.WideLaws.{never_wide, none_at_end, none_next, some_next}
 use Rattle.isl_products.proofs.wide.ask_spaces.Goals as goal
 
 pub returns-in_err-ask_spaces_with-clause-err : goal.returns-in_err-ask_spaces_with-clause-err
@@ -30,3 +32,8 @@ returns-clause-ok c =
     let end : length c.args.pieces.now ≤ c.loop-piece.piece-index = omega arith in
     none_at_end (λ a. Any (λ (b : KeptPiece). IsWide c.args.product a.space b.space) others) c.args.pieces.now c.loop-piece.piece-index end
     c.loop-piece.invariant
+
+pub returns-in-Restrict-clause-ok : goal.returns-in-Restrict-clause-ok
+returns-in-Restrict-clause-ok c =
+    subst (λ (product : Product). ¬ AreWide product (map kept_piece c.args.pieces.now) (map kept_piece c.args.others.now))
+    (sym c.in-Restrict.is) (never_wide c.in-Restrict.field-0 c.args.pieces.now c.args.others.now c.requires.pieces)

@@ -5,7 +5,7 @@ use Rattle.isl_union.specs.Piece.{kept_piece}
 use Rattle.isl_union.proofs.PiecesLaws.{AreMade}
 use Rattle.isl_products.specs.Layout.{are_together}
 use Rattle.isl_products.specs.Made.{IsMadeOf}
-use Rattle.isl_products.proofs.product.made_with.Given as goal
+use Rattle.isl_products.proofs.product.made_among.Given as goal
 
 abbrev pub invariant-loop-other : goal.invariant-loop-other
 invariant-loop-other l = record {
