@@ -65,9 +65,6 @@ pub last_smaller : (expr source sink schedule : Expr) → expr ≡ Last source s
     → depth_of_three source sink schedule < depth_of expr
 last_smaller expr source sink schedule is = let whole = ap depth_of is ∙ depth_of-Last source sink schedule in omega (arith, whole)
 
-pub source_smaller : (source sink schedule : Expr) → depth_of source < depth_of_three source sink schedule
-source_smaller source sink schedule = omega arith
-
 pub sink_smaller : (source sink schedule : Expr) → depth_of sink < depth_of_three source sink schedule
 sink_smaller source sink schedule = omega arith
 

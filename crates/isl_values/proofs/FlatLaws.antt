@@ -9,13 +9,13 @@ use Rattle.isl_meter.proofs.CutLemmas.{IsCharged_trans, IsCutBy-after}
 use Rattle.isl_piece.specs.Piece.{PieceView}
 use Rattle.isl_union.specs.KeptValue.{KeptPiece, KeptValue, Has, HasNoDefinitions, IsKeptValue}
 use Rattle.isl_union.specs.Piece.{kept_piece}
+use Rattle.isl_union.proofs.FlatLaws.{flat_elements, flat_itself, flat_same}
 use Rattle.isl_text.specs.declared.refusal.Refusal.{Refusal}
 use Rattle.isl_text.specs.declared.refusal.Refusal.TheVariants.{NoMemory}
 use Rattle.isl_tree.specs.declared.tree.Literal.{Literal}
 use Rattle.isl_tree.specs.Plain.{is_plain}
 use Rattle.isl_lower.specs.Value.{IsLowered}
 use Rattle.isl_lower.proofs.ValueLaws.{lowered_plain}
-use Rattle.isl_operators.specs.Made.{IsFlatOf}
 use Rattle.isl_expr.specs.declared.tree.Expr as e
 use Rattle.isl_expr.specs.declared.tree.Expr.{Expr}
 use Rattle.isl_kinds.specs.Parts.{parts_of}
@@ -63,10 +63,6 @@ plain_told value pieces are b told =
     ((λ t. exact.1 (told.0 t)), (λ plain. told.1 (exact.0 plain)))
 
 -- ---- values
--- a value is itself, where it may keep its defined columns
-pub flat_itself : (value : KeptValue) → IsFlatOf value value
-flat_itself value = record { params = refl; elements = λ v. itself (Has value v); same = λ plain. refl }
-
 -- a live value is what is live of itself
 pub written_itself : (state : StateView) (part : ListPart) (expr : Expr) (value : KeptValue) → IsKeptValue value
     → IsLiveUnder state.assumed value → IsWorkedAt state part expr value → IsWrittenAt state part expr value
@@ -81,15 +77,11 @@ literal_written state part literal value plain written =
     let is : IsLiveOf state.assumed (IsLowered literal) worked = written.1 in
     let flat = written.2.0 in
     let none = part_plain state.assumed is.0 worked is.3 (lowered_plain literal is.0 is.2 plain) in
-    let same : flat ≡ worked = written.2.2.same none in
+    let same : flat ≡ worked = flat_same worked flat written.2.2 none in
     let live = part_live state.assumed is.0 worked is.3 in
     let alike : value ≡ worked = part_same state.assumed worked value (subst (λ (v : KeptValue). IsLivePartOf state.assumed v value) same
     written.2.3) live in
     subst (IsLiveOf state.assumed (IsLowered literal)) (sym alike) is
-
-pub made_flat_itself : (limit : ℕ) (value : KeptValue) → IsKeptValue value → HasNumbersUpTo limit value → HasNoDefinitions value
-    → IsMadeFlat limit value value
-made_flat_itself limit value kept small plain = record { flat = flat_itself value; kept = kept; numbers = small; definitions = plain }
 
 -- a live value that defines no column is what is live of itself
 module _ (assumed : Assumed) (limit : ℕ) (value : KeptValue) (kept : IsKeptValue value) (live : IsLiveUnder assumed value)
@@ -114,7 +106,7 @@ live_flat assumed limit worked flat part made is = record {
   live = part_live assumed flat part is.part;
   params = is.part.params ∙ made.flat.params;
   elements = λ v here. same_trans (Has part v) (Has flat v) (Has worked v) (part_elements assumed flat part is.part v here)
-      (made.flat.elements v);
+      (flat_elements worked flat made.flat v);
   numbers = part_numbers assumed limit flat part is.part made.numbers;
   definitions = part_plain assumed flat part is.part made.definitions;
 }

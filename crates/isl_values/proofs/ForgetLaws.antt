@@ -12,7 +12,7 @@ use Rattle.isl_space.specs.Name.{Name}
 use Rattle.isl_kinds.specs.Typed.{TypeView, ScopeView, is_dollar}
 use Rattle.isl_assumed.specs.declared.assumed.Assumed.{Assumed}
 use Rattle.isl_values.specs.declared.list.ListPart.{ListPart}
-use Rattle.isl_values.specs.State.{Kept, StateView, unbound, kept_of, type_of, forgotten, value_at, EachKept, Fits, HasNumbersUpTo}
+use Rattle.isl_values.specs.State.{Kept, StateView, kept_of, type_of, forgotten, value_at, EachKept, Fits, HasNumbersUpTo}
 use Rattle.isl_values.specs.State.{IsKeptLive, IsSettled}
 
 abbrev Entries : Type 0
@@ -138,9 +138,6 @@ forgotten_itself state settled = ap (of_entries state.assumed) (plain_itself sta
 
 pub forgotten_settled : (state : StateView) → IsSettled (forgotten state)
 forgotten_settled state = all_plain state.bound
-
-pub unbound_settled : IsSettled unbound
-unbound_settled = All-nil IsPlain
 
 -- what was bound to a name that no script has is not there any more
 pub forgotten_dollar : (old new : StateView) (name : Name) (kept : Kept) → is_dollar name ≡ true

@@ -254,10 +254,7 @@ module _ (state : StateView) (expr : Expr) (word : Word) (operand : Expr) (is : 
       (λ none. (word_none none).0)
       (λ end ends. (word_ends end).0 (inl ends)) why
 
-  module _ (g h k : Gauge) (argument one : KeptValue) (made_of : IsMade state operand g h argument) (same : one ≡ argument) where
-    own : IsMade state operand g h one
-    own = subst (IsMade state operand g h) (sym same) made_of
-
+  module _ (g h k : Gauge) (one : KeptValue) (own : IsMade state operand g h one) where
     pub word_made : (part : ListPart) → is_foreign (prefix word) ≡ false → (made : KeptValue)
         → IsValueOf state.assumed (IsWordedOf state word one) one.params (WordHas word one.params (Has one)) (unsigned_abs (limit_of h))
         (HasNoDefinitions one) made

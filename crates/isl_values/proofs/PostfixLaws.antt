@@ -6,7 +6,6 @@ use Rattle.isl_meter.specs.Gauge.{Gauge, limit_of}
 use Rattle.isl_space.specs.Name.{Name}
 use Rattle.isl_union.specs.KeptValue.{KeptValue, Has, HasNoDefinitions, IsKeptValue}
 use Rattle.isl_text.specs.declared.refusal.Refusal.{Refusal}
-use Rattle.isl_text.specs.declared.refusal.Refusal.TheVariants.{NoMemory}
 use Rattle.isl_maps.specs.Inverse.{inverse_element, inverse_of}
 use Rattle.isl_expr.specs.declared.tree.Expr.{Expr}
 use Rattle.isl_expr.specs.declared.tree.Postfix.{Postfix, Inverse, Apply, Item}
@@ -29,7 +28,7 @@ use Rattle.isl_values.proofs.FirstLaws.{EndAlike, goes_alike, goes_both}
 use Rattle.isl_values.proofs.EndsLaws.{Before, pair_alike}
 use Rattle.isl_values.proofs.EndsLaws.{postfix_alike, post_ends_at, post_goes_more}
 use Rattle.isl_values.proofs.WorkedLaws.{post_worked_more}
-use Rattle.isl_values.proofs.ValueLaws.{IsMade, work, value_before, paid_same, paid_after, paid_in, unmade_memory, unmade_in, unworked_after}
+use Rattle.isl_values.proofs.ValueLaws.{IsMade, work, value_before, paid_same, paid_after, paid_in, unmade_in, unworked_after}
 use Rattle.isl_values.proofs.ValueLaws.{unworked_in}
 
 -- what one postfix makes of a value
@@ -97,14 +96,6 @@ module _ (state : StateView) (postfix : Postfix) (number : ℤ) (left : KeptValu
         },
         paid_same false g g refl,
       ))
-
-  pub item_failed : (refusal : Refusal) → refusal ≡ NoMemory → IsWhyNotFollowed state postfix left g g refusal
-  item_failed refusal memory =
-      inl (unmade_memory (work state.assumed (parts_of_postfix postfix)) (EndsPostfix state left.params (Has left) postfix) g g refusal
-      memory (paid_same (work state.assumed (parts_of_postfix postfix)) g g refl))
-
-  pub item_goes_on : GoesOn (EndsPostfix state left.params (Has left) postfix)
-  item_goes_on = subst (λ (p : Postfix). GoesOn (EndsPostfix state left.params (Has left) p)) (sym is) (λ reason ends. ends)
 
 -- ---- an application
 module _ (state : StateView) (postfix : Postfix) (expr : Expr) (is : postfix ≡ Apply expr) where

@@ -49,10 +49,6 @@ AreSame P Q = (v : Valuation) (x : Element) → P v x ↔ Q v x
 abbrev pub AreSameAt : Assumed → Selection → Selection → Type 0
 AreSameAt assumed P Q = (v : Valuation) → Assumes assumed v → Same (P v) (Q v)
 
-pub turned_at : (assumed : Assumed) (P Q : Selection) → AreSameAt assumed P Q → AreSameAt assumed Q P
-turned_at assumed P Q same v here = turned (P v) (Q v) (same v here)
-
--- at these alone they are the same at every one
 pub at_assumed : (state : StateView) (P Q : Selection) → AreSameAt state.assumed P Q → AreSame (AtAssumed state P) (AtAssumed state Q)
 at_assumed state P Q same v x = ((λ h. (h.0, (same v h.0 x).0 h.1)), (λ h. (h.0, (same v h.0 x).1 h.1)))
 

@@ -268,79 +268,43 @@ list_made state expr source sink schedule is g h k three made_of charged list ma
     ((first.0, second.0), first.1)
 
 -- ---- what is no list
-literal_same : (state : StateView) (literal : Literal) → IsWhole state (e.Literal literal)
-literal_same state literal limit value made = record {
-  written = made.written;
+-- both parts of it are worked out, and selected, in one way
+whole_by : (state : StateView) (expr : Expr)
+    → ((value : KeptValue) → IsWorkedAt state First expr value → IsWorkedAt state Second expr value)
+    → ((v : Valuation) → Same (SelectsAt state First expr v) (SelectsAt state Second expr v)) → IsWhole state expr
+whole_by state expr worked selects limit value made = record {
+  written = worked value made.written;
   kept = made.kept;
   live = made.live;
   params = made.params;
-  elements = λ v here. made.elements v here;
+  elements = λ v here. same_trans (Has value v) (SelectsAt state First expr v) (SelectsAt state Second expr v) (made.elements v here) (selects v);
   numbers = made.numbers;
   definitions = made.definitions;
 }
 
 pub literal_whole : (state : StateView) (expr : Expr) (literal : Literal) → expr ≡ e.Literal literal → IsWhole state expr
-literal_whole state expr literal is = subst (IsWhole state) (sym is) (literal_same state literal)
+literal_whole state expr literal is =
+    subst (IsWhole state) (sym is) (whole_by state (e.Literal literal) (λ value h. h) (λ v x. ((λ h. h), (λ h. h))))
 
-row_same : (state : StateView) (first : Expr) (links : List Link) → IsWhole state (Row first links)
+pub row_whole : (state : StateView) (expr first : Expr) (links : List Link) → expr ≡ Row first links → IsWhole state expr
 unfolding hidden-the_row-Expr-0 denote.Hole.Carrier.hidden
-row_same state first links limit value made = record {
-  written = made.written;
-  kept = made.kept;
-  live = made.live;
-  params = made.params;
-  elements = λ v here. made.elements v here;
-  numbers = made.numbers;
-  definitions = made.definitions;
-}
+row_whole state expr first links is =
+    subst (IsWhole state) (sym is) (whole_by state (Row first links) (λ value h. h) (λ v x. ((λ h. h), (λ h. h))))
 
-pub row_whole : (state : StateView) (expr : Expr) (first : Expr) (links : List Link) → expr ≡ Row first links → IsWhole state expr
-row_whole state expr first links is = subst (IsWhole state) (sym is) (row_same state first links)
-
-post_same : (state : StateView) (operand : Expr) (postfixes : List Postfix) → IsWhole state (Post operand postfixes)
+pub post_whole : (state : StateView) (expr operand : Expr) (postfixes : List Postfix) → expr ≡ Post operand postfixes → IsWhole state expr
 unfolding hidden-the_row-Expr-0 denote.Hole.Carrier.hidden
-post_same state operand postfixes limit value made = record {
-  written = made.written;
-  kept = made.kept;
-  live = made.live;
-  params = made.params;
-  elements = λ v here. made.elements v here;
-  numbers = made.numbers;
-  definitions = made.definitions;
-}
-
-pub post_whole : (state : StateView) (expr : Expr) (operand : Expr) (postfixes : List Postfix) → expr ≡ Post operand postfixes → IsWhole state expr
-post_whole state expr operand postfixes is = subst (IsWhole state) (sym is) (post_same state operand postfixes)
-
-word_same : (state : StateView) (word : Word) (operand : Expr) → IsWhole state (Prefix word operand)
-unfolding hidden-the_row-Expr-0 denote.Hole.Carrier.hidden
-word_same state word operand limit value made = record {
-  written = made.written;
-  kept = made.kept;
-  live = made.live;
-  params = made.params;
-  elements = λ v here. made.elements v here;
-  numbers = made.numbers;
-  definitions = made.definitions;
-}
+post_whole state expr operand postfixes is =
+    subst (IsWhole state) (sym is) (whole_by state (Post operand postfixes) (λ value h. h) (λ v x. ((λ h. h), (λ h. h))))
 
 pub word_whole : (state : StateView) (expr : Expr) (word : Word) (operand : Expr) → expr ≡ Prefix word operand → IsWhole state expr
-word_whole state expr word operand is = subst (IsWhole state) (sym is) (word_same state word operand)
-
-any_same : (state : StateView) (source : Expr) (sink : Expr) (schedule : Expr) → IsWhole state (Any source sink schedule)
 unfolding hidden-the_row-Expr-0 denote.Hole.Carrier.hidden
-any_same state source sink schedule limit value made = record {
-  written = made.written;
-  kept = made.kept;
-  live = made.live;
-  params = made.params;
-  elements = λ v here. made.elements v here;
-  numbers = made.numbers;
-  definitions = made.definitions;
-}
+word_whole state expr word operand is =
+    subst (IsWhole state) (sym is) (whole_by state (Prefix word operand) (λ value h. h) (λ v x. ((λ h. h), (λ h. h))))
 
-pub any_whole : (state : StateView) (expr : Expr) (source : Expr) (sink : Expr) (schedule : Expr) → expr ≡ Any source sink schedule → IsWhole state expr
-any_whole state expr source sink schedule is = subst (IsWhole state) (sym is) (any_same state source sink schedule)
+pub any_whole : (state : StateView) (expr source sink schedule : Expr) → expr ≡ Any source sink schedule → IsWhole state expr
+unfolding hidden-the_row-Expr-0 denote.Hole.Carrier.hidden
+any_whole state expr source sink schedule is =
+    subst (IsWhole state) (sym is) (whole_by state (Any source sink schedule) (λ value h. h) (λ v x. ((λ h. h), (λ h. h))))
 
 pub doubled_both : (state : StateView) (expr : Expr) (limit : ℕ) (value : KeptValue) (list : ListValue) → IsWhole state expr
     → IsValueAt state First expr limit value → (list.first.value ≡ value) × (list.second.value ≡ value) → AreBothOf state expr limit list

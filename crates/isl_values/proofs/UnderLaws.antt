@@ -1,5 +1,5 @@
 -- Operands at assumed valuations alone.
-use Rattle.std.proofs.Common.{◌≡◌, ◌∙◌, ◌↔◌, ◌++◌, ℕ, Bool, true, false, List, [], All, Any, Contains, refl, sym, ap, subst, arith, inl, inr, ◌⊎◌}
+use Rattle.std.proofs.Common.{◌≡◌, ◌∙◌, ◌↔◌, ◌++◌, ℕ, Bool, true, false, List, [], All, Contains, refl, sym, ap, subst, inl, inr, ◌⊎◌}
 use Rattle.std.proofs.Common.{◌<◌, get_or, length}
 use Rattle.std.specs.Prelude.{◌&&◌, ◌||◌, IfOk, MatchResult, Result, Ok, Err, unsigned_abs}
 use Rattle.std.proofs.lemmas.Bool.{false≢true, or_parts}
@@ -10,7 +10,6 @@ use Rattle.std.specs.Str.{bytes_eq}
 use Rattle.isl_math.proofs.ListLaws.{Any-none}
 use Rattle.isl_meter.specs.Gauge.{Gauge, limit_of, IsCharged, IsCutBy}
 use Rattle.isl_meter.specs.declared.Cut.{Cut}
-use Rattle.isl_meter.specs.declared.Cut.TheVariants as cuts
 use Rattle.isl_meter.proofs.CutLemmas.{IsCharged_refl, IsCutBy-charged}
 use Rattle.isl_space.specs.Limits.{most_parameters}
 use Rattle.isl_space.specs.Names.{is_among, joined}
@@ -31,12 +30,12 @@ use Rattle.isl_assumed.specs.Assumed.{Assumes, AssumesSome, IsOver as IsOverName
 use Rattle.isl_assumed.proofs.RegionLaws.{values_same}
 use Rattle.isl_expr.specs.declared.tree.Prefix.{Prefix}
 use Rattle.isl_expr.specs.declared.tree.Prefix.TheVariants as p
-use Rattle.isl_operators.specs.Point.{Point, HasPoint, Relates, map_element, set_element}
+use Rattle.isl_operators.specs.Point.{Point, map_element, set_element}
 use Rattle.isl_operators.specs.Extremes.{HasFirst}
 use Rattle.isl_operators.specs.Orders.{ComesAfter, ComesBefore}
 use Rattle.isl_operators.specs.Operations.{WordHas, WordMisses}
 use Rattle.isl_operators.specs.Formed.{FormsWide, WordForms}
-use Rattle.isl_operators.specs.Made.{word_works, IsOver, IsWordOf}
+use Rattle.isl_operators.specs.Made.{word_works, IsWordOf}
 use Rattle.isl_text.specs.declared.refusal.Refusal.{Refusal}
 use Rattle.isl_values.specs.Live.{narrows, IsLiveOf, IsLivePart, IsLiveUnder, IsOperandIn, IsOperandOf, IsUnderOf}
 use Rattle.isl_values.specs.State.{AtAssumed, StateView, HasNumbersUpTo}
@@ -83,10 +82,6 @@ under_here (Where region) names value under is v here x = (
 )
 
 -- ---- what calls leave
-pub operand_itself : (names : List Name) (limit : ℕ) (value : KeptValue) → IsKeptValue value → HasNumbersUpTo limit value
-    → IsOperandOf Nothing names limit value value
-operand_itself names limit value kept small = record { under = refl; kept = kept; numbers = small; definitions = λ plain. plain }
-
 pub operand_in : (g : Gauge) (assumed : Assumed) (names : List Name) (value operand : KeptValue) → narrows assumed ≡ true
     → IsOperandIn g assumed names value operand → IsOperandOf assumed names (unsigned_abs (limit_of g)) value operand
 operand_in g Nothing names value operand some is = absurd (let e : false ≡ true = some in cc)
@@ -417,28 +412,3 @@ module _ (state : StateView) (operand asked : KeptValue) (live : IsLiveUnder sta
           (made_before g m (IsWordOf word asked) asked.params (WordHas word asked.params (Has asked)) made first.charged second.0) Works
           (WordEnds word There) (paid_after Works (narrows state.assumed) (word_works word) g m h first_quiet first second.1)
           (λ some. operation_cut [] _ _ (asked_goes word is.of goes)) Works (λ none. (none, (first_quiet none).0)) of result part free)
-
--- nothing can be asked of the operand
-pub asked_failed : (state : StateView) (word : Prefix) (operand : KeptValue) (g h : Gauge) (refusal : Refusal)
-    → IsWhyUnmade (looks word && narrows state.assumed) (CutUnder state) g h refusal
-    → IsWhyUnmade (word_works word || narrows state.assumed) (WordEnds word (AtAssumed state (Has operand))) g h refusal
-asked_failed state word operand g h refusal why = record {
-  cut = why.cut;
-  is = why.is;
-  by = why.by;
-  there = by_looks word (λ none. (why.free none).0) why.there;
-  free = λ none. why.free (quiet (looks word) (narrows state.assumed) (or_parts (word_works word) (narrows state.assumed) none).1);
-}
-  where
-    quiet : (b c : Bool) → c ≡ false → (b && c) ≡ false
-    quiet true c none = none
-    quiet false c none = refl
-
-    by_looks : (word : Prefix) → ((looks word && narrows state.assumed) ≡ false → why.cut ≡ cuts.NoMemory)
-        → (why.cut ≡ cuts.NoMemory) ⊎ CutUnder state ends.cut
-        → (why.cut ≡ cuts.NoMemory) ⊎ WordEnds word (AtAssumed state (Has operand)) ends.cut
-    by_looks p.LexMin free (inl memory) = inl memory
-    by_looks p.LexMin free (inr there) = inr (omega arith, λ wide. absurd wide.3)
-    by_looks p.LexMax free (inl memory) = inl memory
-    by_looks p.LexMax free (inr there) = inr (omega arith, λ wide. absurd wide.3)
-    by_looks _ free there = inl (free refl)

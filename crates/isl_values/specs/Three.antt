@@ -5,6 +5,7 @@ use Rattle.isl_space.specs.Element.{Element}
 use Rattle.isl_space.specs.Name.{Name}
 use Rattle.isl_space.specs.Valuation.{Valuation}
 use Rattle.isl_union.specs.KeptValue.{KeptValue, Has, HasNoDefinitions, IsKeptValue}
+use Rattle.isl_union.specs.Flat.{IsFlatOf}
 use Rattle.isl_assumed.specs.declared.assumed.Assumed.{Assumed}
 use Rattle.isl_assumed.specs.Assumed.{Assumes}
 use Rattle.isl_flow.specs.declared.sources.Flow.{Flow}
@@ -12,7 +13,7 @@ use Rattle.isl_expr.specs.declared.tree.Prefix.{Prefix}
 use Rattle.isl_expr.specs.declared.tree.Expr.{Expr}
 use Rattle.isl_kinds.specs.Parts.{parts_of}
 use Rattle.isl_kinds.specs.Typed.{declared_of, joined_names}
-use Rattle.isl_operators.specs.Made.{IsDependenceOf, IsFlatOf}
+use Rattle.isl_operators.specs.Made.{IsDependenceOf}
 use Rattle.isl_values.specs.declared.dependence.Accesses.{Accesses}
 use Rattle.isl_values.specs.declared.list.ListPart.{ListPart}
 use Rattle.isl_values.specs.declared.list.ListPart.TheVariants.{First, Second}

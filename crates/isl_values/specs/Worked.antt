@@ -1,6 +1,7 @@
 -- public: which value of an expression is worked out. (the iscc chapter of the barvinok manual)
 use Rattle.std.specs.Prelude.{◌≡◌, Bool, true, false, List, [], ◌∷◌, Some}
 use Rattle.isl_union.specs.KeptValue.{KeptValue}
+use Rattle.isl_union.specs.Flat.{IsFlatOf}
 use Rattle.isl_space.specs.Element.{Element}
 use Rattle.isl_maps.specs.Inverse.{inverse_of}
 use Rattle.isl_relation.specs.Flow.{AnyHas, LastHas, UnsourcedHas}
@@ -13,7 +14,7 @@ use Rattle.isl_expr.specs.declared.tree.Expr.{Expr, Row', Prefix', Any', Last', 
 use Rattle.isl_expr.specs.declared.tree.Expr.{Row_of-Link, end_of-Link, more_of-Link, Row_of-Postfix, end_of-Postfix, more_of-Postfix}
 use Rattle.isl_expr.specs.declared.tree.Expr as e
 use Rattle.isl_operators.specs.Operations.{is_operation_word}
-use Rattle.isl_operators.specs.Made.{IsFlatOf, IsOperatorOf, IsWordOf, IsApplicationOf, IsDependenceOf}
+use Rattle.isl_operators.specs.Made.{IsOperatorOf, IsWordOf, IsApplicationOf, IsDependenceOf}
 use Rattle.isl_values.specs.declared.list.ListPart.{ListPart}
 use Rattle.isl_values.specs.declared.list.ListPart.TheVariants.{First, Second}
 use Rattle.isl_values.specs.Live.{IsLiveOf, IsUnderOf}

@@ -13,7 +13,7 @@ pub returns-in_ok-new-in-Ok : goal.returns-in_ok-new-in-Ok
 returns-in_ok-new-in-Ok c =
     let e = c.in-Ok.ensures in (
       subst (IsMadeFlat (unsigned_abs (limit_of c.args.meter.now)) c.args.value.now) (sym (search rules)) (record {
-        flat = record { params = e.params; elements = e.elements; same = λ plain. (e.same plain).0 };
+        flat = e.pieces;
         kept = e.kept;
         numbers = e.numbers;
         definitions = e.definitions;

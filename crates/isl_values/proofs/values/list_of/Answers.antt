@@ -17,47 +17,28 @@ use Rattle.isl_values.proofs.values.list_of.Goals as goal
 
 pub three_of-requires-clause-source : goal.three_of-requires-clause-source
 three_of-requires-clause-source c =
-    let state = c.args.state.now in
-    let expr = c.args.expr.now in
-    let source = c.get.result.now in
-    let sink = c.get-in-Last.result.now in
-    let schedule = c.get-in-Last-2.result.now in
-    let is = same_Last expr c.in-Last.source c.in-Last.sink c.in-Last.schedule source sink schedule c.in-Last.is c.get.ensures
-    c.get-in-Last.ensures c.get-in-Last-2.ensures in
-    let of = is_last state First expr source sink schedule is in
-    (three_sound state First expr source sink schedule (PartHas First) (same_part First) of c.requires.sound).0
+    let is = same_Last _ _ _ _ _ _ _ c.in-Last.is c.get.ensures c.get-in-Last.ensures c.get-in-Last-2.ensures in
+    let of = is_last c.args.state.now First _ _ _ _ is in
+    (three_sound _ _ _ _ _ _ (PartHas First) (same_part First) of c.requires.sound).0
 
 pub three_of-requires-clause-sink : goal.three_of-requires-clause-sink
 three_of-requires-clause-sink c =
-    let state = c.args.state.now in
-    let expr = c.args.expr.now in
-    let source = c.get.result.now in
-    let sink = c.get-in-Last.result.now in
-    let schedule = c.get-in-Last-2.result.now in
-    let is = same_Last expr c.in-Last.source c.in-Last.sink c.in-Last.schedule source sink schedule c.in-Last.is c.get.ensures
-    c.get-in-Last.ensures c.get-in-Last-2.ensures in
-    let of = is_last state First expr source sink schedule is in
-    (three_sound state First expr source sink schedule (PartHas First) (same_part First) of c.requires.sound).1
+    let is = same_Last _ _ _ _ _ _ _ c.in-Last.is c.get.ensures c.get-in-Last.ensures c.get-in-Last-2.ensures in
+    let of = is_last c.args.state.now First _ _ _ _ is in
+    (three_sound _ _ _ _ _ _ (PartHas First) (same_part First) of c.requires.sound).1
 
 pub three_of-requires-clause-schedule : goal.three_of-requires-clause-schedule
 three_of-requires-clause-schedule c =
-    let state = c.args.state.now in
-    let expr = c.args.expr.now in
-    let source = c.get.result.now in
-    let sink = c.get-in-Last.result.now in
-    let schedule = c.get-in-Last-2.result.now in
-    let is = same_Last expr c.in-Last.source c.in-Last.sink c.in-Last.schedule source sink schedule c.in-Last.is c.get.ensures
-    c.get-in-Last.ensures c.get-in-Last-2.ensures in
-    let of = is_last state First expr source sink schedule is in
-    (three_sound state First expr source sink schedule (PartHas First) (same_part First) of c.requires.sound).2
+    let is = same_Last _ _ _ _ _ _ _ c.in-Last.is c.get.ensures c.get-in-Last.ensures c.get-in-Last-2.ensures in
+    let of = is_last c.args.state.now First _ _ _ _ is in
+    (three_sound _ _ _ _ _ _ (PartHas First) (same_part First) of c.requires.sound).2
 
 pub latest-requires : goal.latest-requires
 latest-requires c =
     let one = c.in-Ok.ensures.made in record {
-      within = three_within c.args.state.now c.get.result.now c.get-in-Last.result.now c.get-in-Last-2.result.now c.args.meter.now
-          c.three_of.new.meter c.in-Ok.three one.0 one.1;
-      live = three_live c.args.state.now c.get.result.now c.get-in-Last.result.now c.get-in-Last-2.result.now _ c.in-Ok.three one.0;
-      fits = fits_later c.args.meter.now c.three_of.new.meter c.args.state.now one.1 c.requires.fits;
+      within = three_within c.args.state.now _ _ _ c.args.meter.now _ _ one.0 one.1;
+      live = three_live c.args.state.now _ _ _ _ _ one.0;
+      fits = fits_later _ _ _ one.1 c.requires.fits;
     }
 
 pub unreachable-requires : goal.unreachable-requires
@@ -67,63 +48,42 @@ unreachable-requires c =
 
 pub returns-in-Ok-clause-made : goal.returns-in-Ok-clause-made
 returns-in-Ok-clause-made c =
-    let state = c.args.state.now in
-    let expr = c.args.expr.now in
-    let source = c.get.result.now in
-    let sink = c.get-in-Last.result.now in
-    let schedule = c.get-in-Last-2.result.now in
-    let is = same_Last expr c.in-Last.source c.in-Last.sink c.in-Last.schedule source sink schedule c.in-Last.is c.get.ensures
-    c.get-in-Last.ensures c.get-in-Last-2.ensures in
-    let of = is_last state First expr source sink schedule is in
+    let is = same_Last _ _ _ _ _ _ _ c.in-Last.is c.get.ensures c.get-in-Last.ensures c.get-in-Last-2.ensures in
+    let of = is_last c.args.state.now First _ _ _ _ is in
+    let g = c.args.meter.now in
+    let k = c.latest.new.meter in
     let one = c.in-Ok.ensures in
     match_map c.latest.result _ _ _ _
-    (λ list made. list_made state expr source sink schedule is c.args.meter.now c.three_of.new.meter c.latest.new.meter c.in-Ok.three
-    one.made.0 one.made.1 list made)
-    (λ refusal why. dependence_failed state First expr source sink schedule (PartHas First) (same_part First) of c.args.meter.now
-    c.three_of.new.meter c.latest.new.meter c.in-Ok.three one.made.0 one.made.1 refusal one.goes_on why)
+    (λ list made. list_made c.args.state.now _ _ _ _ is g _ k _ one.made.0 one.made.1 list made)
+    (λ refusal why. dependence_failed _ _ _ _ _ _ (PartHas First) (same_part First) of g _ k _ one.made.0 one.made.1 refusal one.goes_on why)
     c.latest.ensures.made
 
 pub returns-in-Ok-clause-goes_on : goal.returns-in-Ok-clause-goes_on
 returns-in-Ok-clause-goes_on c =
-    let state = c.args.state.now in
-    let expr = c.args.expr.now in
-    let source = c.get.result.now in
-    let sink = c.get-in-Last.result.now in
-    let schedule = c.get-in-Last-2.result.now in
-    let is = same_Last expr c.in-Last.source c.in-Last.sink c.in-Last.schedule source sink schedule c.in-Last.is c.get.ensures
-    c.get-in-Last.ensures c.get-in-Last-2.ensures in
-    let of = is_last state First expr source sink schedule is in
+    let is = same_Last _ _ _ _ _ _ _ c.in-Last.is c.get.ensures c.get-in-Last.ensures c.get-in-Last-2.ensures in
+    let of = is_last c.args.state.now First _ _ _ _ is in
     let one = c.in-Ok.ensures in
     ok_map c.latest.result _ _
-    (λ list here. dependence_goes state First expr source sink schedule (PartHas First) (same_part First) of c.args.meter.now
-    c.three_of.new.meter c.latest.new.meter c.in-Ok.three one.made.0 one.made.1 one.goes_on here) c.latest.ensures.goes_on
+    (λ list here. dependence_goes _ _ _ _ _ _ (PartHas First) (same_part First) of c.args.meter.now _ c.latest.new.meter _ one.made.0
+    one.made.1 one.goes_on here) c.latest.ensures.goes_on
 
 pub returns-in-Err-clause-made : goal.returns-in-Err-clause-made
 returns-in-Err-clause-made c =
-    let state = c.args.state.now in
-    let expr = c.args.expr.now in
-    let source = c.get.result.now in
-    let sink = c.get-in-Last.result.now in
-    let schedule = c.get-in-Last-2.result.now in
-    let is = same_Last expr c.in-Last.source c.in-Last.sink c.in-Last.schedule source sink schedule c.in-Last.is c.get.ensures
-    c.get-in-Last.ensures c.get-in-Last-2.ensures in
-    let of = is_last state First expr source sink schedule is in
-    operands_failed state First expr source sink schedule (PartHas First) (same_part First) of c.args.meter.now c.three_of.new.meter
-    c.in-Err.refusal c.in-Err.ensures.made
+    let is = same_Last _ _ _ _ _ _ _ c.in-Last.is c.get.ensures c.get-in-Last.ensures c.get-in-Last-2.ensures in
+    let of = is_last c.args.state.now First _ _ _ _ is in
+    operands_failed _ _ _ _ _ _ (PartHas First) (same_part First) of _ _ _ c.in-Err.ensures.made
 
 pub returns-in-Some-clause-made : goal.returns-in-Some-clause-made
 returns-in-Some-clause-made c =
     let state = c.args.state.now in
-    let expr = c.args.expr.now in
     let g = c.args.meter.now in
-    let works = work state.assumed (parts_of expr) in
+    let works = work state.assumed (parts_of c.args.expr.now) in
     both_map c.both_of.result _ _ _ _
     (λ list are. (
-      name_both state (limit_of g) expr c.in-Name.name c.in-Some.kept.now list c.in-Name.is
-          (sym c.get-in-Name.ensures ∙ ap option_copied c.in-Some.is) are c.requires.fits,
+      name_both state (limit_of g) _ _ _ list c.in-Name.is (sym c.get-in-Name.ensures ∙ ap option_copied c.in-Some.is) are c.requires.fits,
       paid_same works g g refl,
     ))
-    (λ refusal memory. inl (unmade_memory works (Ends state expr) g g refusal memory (paid_same works g g refl)))
+    (λ refusal memory. inl (unmade_memory works (Ends state c.args.expr.now) g g refusal memory (paid_same works g g refl)))
     c.both_of.ensures.made c.both_of.ensures.faults
 
 pub doubled-requires-clause-whole : goal.doubled-requires-clause-whole
