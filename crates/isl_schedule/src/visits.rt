@@ -1,6 +1,6 @@
 //! What is visited, and when, as systems.
 
-ghost use Rattle.std.specs.Prelude.{◌≡◌, ◌+◌, ◌<◌, ◌≤◌, ◌^◌, length, All, IfOk};
+ghost use Rattle.std.specs.Prelude.{◌≡◌, ◌+◌, ◌<◌, ◌≤◌, ◌^◌, [], length, All, IfOk};
 ghost use Rattle.isl_meter.specs.Gauge.{Gauge};
 ghost use Rattle.isl_space.specs.Names.{IsParameterList};
 ghost use Rattle.isl_piece.specs.System.{IsSystemWithin, free_columns};
@@ -35,8 +35,9 @@ fn at_itself(
     requires fits { total (own_widths params width) < 2 ^ 64 }
     requires within { (g : Gauge) × IsSystemWithin g system.now }
     requires columns { free_columns system.now ≡ params + width }
-    ensures { (g : Gauge) → 8 ≤ g.bits → IsSystemWithin g system.now
+    ensures over { (g : Gauge) → 8 ≤ g.bits → IsSystemWithin g system.now
         → IfOk result (IsOverBlocks g (own_widths params width) (IsAtItself system.now)) }
+    ensures definitions { system.now.definitions ≡ [] → IfOk result (λ made. made.definitions ≡ []) }
 {
     let widths = [params, width, width];
     let own = spread(alloc, system, &widths, &[0, 1])?;
@@ -49,8 +50,9 @@ fn timed_system(alloc: Global, params: &Params, piece: &Piece) -> Result<System,
     requires names { IsParameterList params.now }
     requires piece { IsPieceOf params.now piece.now }
     requires within { (g : Gauge) × IsSystemWithin g piece.now.system }
-    ensures { (g : Gauge) → 8 ≤ g.bits → IsSystemWithin g piece.now.system
+    ensures timed { (g : Gauge) → 8 ≤ g.bits → IsSystemWithin g piece.now.system
         → IfOk result (IsTimedBy g (length params.now) piece.now.space piece.now.system) }
+    ensures definitions { piece.now.system.definitions ≡ [] → IfOk result (λ made. made.definitions ≡ []) }
 {
     match piece.space() {
         Space::Set(shape) => at_itself(alloc, params.len(), shape.width() as usize, piece.system()),
@@ -63,7 +65,8 @@ fn visits_in(alloc: Global, params: &Params, piece: &Piece) -> Result<Visits, Al
     requires names { IsParameterList params.now }
     requires piece { IsPieceOf params.now piece.now }
     requires within { (g : Gauge) × IsSystemWithin g piece.now.system }
-    ensures { (g : Gauge) → 8 ≤ g.bits → IsSystemWithin g piece.now.system → IfOk result (IsVisitOf g params.now piece.now) }
+    ensures visits { (g : Gauge) → 8 ≤ g.bits → IsSystemWithin g piece.now.system → IfOk result (IsVisitOf g params.now piece.now) }
+    ensures definitions { piece.now.system.definitions ≡ [] → IfOk result (λ made. made.system.definitions ≡ []) }
 {
     let space = piece.space();
     Ok(Visits {
@@ -73,7 +76,7 @@ fn visits_in(alloc: Global, params: &Params, piece: &Piece) -> Result<Visits, Al
     })
 }
 
-/// What the pieces tell to be visited, one for each, in order.
+/// What the pieces tell to be visited, one for each, in order. No column is defined where the pieces define none.
 ///
 /// # Errors
 ///
@@ -87,7 +90,9 @@ pub fn visits_of(
     requires names { IsParameterList params.now }
     requires pieces { All (IsPieceOf params.now) pieces.now }
     requires within { AreWithinLimit meter.now pieces.now }
-    ensures { IfOk result (λ visits. AreVisitsOf meter.now params.now pieces.now visits.items) }
+    ensures visits { IfOk result (λ visits. AreVisitsOf meter.now params.now pieces.now visits.items) }
+    ensures definitions { All (λ piece. piece.system.definitions ≡ []) pieces.now
+        → IfOk result (λ visits. All (λ made. made.system.definitions ≡ []) visits.items) }
 {
     // For what a meter keeps: it has at least 8 bits.
     let _limit = meter.limit();

@@ -82,7 +82,7 @@ pub are_single-requires-clause-over : goal.are_single-requires-clause-over
 are_single-requires-clause-over c =
     let pieces = c.pieces-pieces.result.now in
     let list = rw c.params.ensures.content at c.params.ensures.well_formed in
-    let zipped = rw c.params.ensures.content at c.in_ok-visits.ensures in
+    let zipped = rw c.params.ensures.content at c.in_ok-visits.ensures.visits in
     rw (c.params-2.ensures.content, c.as_slice.ensures.value)
     (all_over c.is_finite.new.meter c.args.value.now.params list pieces c.in_ok-visits.visits.items zipped
     c.pieces-pieces.ensures.well_formed)
@@ -91,7 +91,7 @@ pub are_single-requires-clause-time : goal.are_single-requires-clause-time
 are_single-requires-clause-time c =
     let pieces = c.pieces-pieces.result.now in
     let one : c.have_one_shape.result ≡ true = grind (arith, common_steps) in
-    let zipped = rw c.params.ensures.content at c.in_ok-visits.ensures in
+    let zipped = rw c.params.ensures.content at c.in_ok-visits.ensures.visits in
     rw c.as_slice.ensures.value
     (same_times c.args.value.now.params pieces c.is_finite.new.meter c.in_ok-visits.visits.items zipped (c.have_one_shape.ensures.0 one))
 
@@ -120,7 +120,7 @@ returns-then-not-branch-2 c =
     let finite : c.in_ok-is_finite.field-0 ≡ true = grind (arith, common_steps) in
     let several : c.in_ok-are_single.field-0 ≡ false = grind (arith, common_steps) in
     let visits = c.in_ok-visits.visits.items in
-    let zipped = rw c.params.ensures.content at c.in_ok-visits.ensures in
+    let zipped = rw c.params.ensures.content at c.in_ok-visits.ensures.visits in
     let exact = rw (c.params-2.ensures.content, c.as_slice.ensures.value) at c.in_ok-are_single.ensures.exact in
     let times = times_exact value pieces are c.is_finite.new.meter visits zipped (c.have_one_shape.ensures.0 one) in (
       flat_told value pieces are c.have_nested.result none c.have_nested.ensures,
@@ -140,7 +140,7 @@ returns c =
     let one : c.have_one_shape.result ≡ true = grind (arith, common_steps) in
     let finite : c.in_ok-is_finite.field-0 ≡ true = grind (arith, common_steps) in
     let single : c.in_ok-are_single.field-0 ≡ true = grind (arith, common_steps) in
-    let zipped = rw c.params.ensures.content at c.in_ok-visits.ensures in
+    let zipped = rw c.params.ensures.content at c.in_ok-visits.ensures.visits in
     let exact = rw (c.params-2.ensures.content, c.as_slice.ensures.value) at c.in_ok-are_single.ensures.exact in
     let times = times_exact value pieces are c.is_finite.new.meter c.in_ok-visits.visits.items zipped (c.have_one_shape.ensures.0 one) in (
       record {
