@@ -1,0 +1,4 @@
+pub mod ApartLaws
+pub mod CallsLaws
+pub mod LaidLaws
+pub mod ZipLaws
