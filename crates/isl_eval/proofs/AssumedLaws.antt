@@ -1,5 +1,5 @@
 -- What tests, samples, gists and coalesced values of operands at assumed valuations say.
-use Rattle.std.proofs.Common.{◌≡◌, ◌↔◌, ◌⊎◌, ◌∙◌, ◌<◌, ◌≤◌, inl, inr, refl, sym, ap, ap₂, subst, arith, ℕ, ℤ, List, [], ◌∷◌, ◌++◌, length}
+use Rattle.std.proofs.Common.{◌≡◌, ◌↔◌, ◌⊎◌, ◌∙◌, ◌≤◌, inl, inr, refl, sym, ap, ap₂, subst, ℕ, ℤ, List, [], ◌∷◌, ◌++◌, length}
 use Rattle.std.specs.Prelude.{unsigned_abs}
 use Rattle.std.specs.List.{All, Contains}
 use Rattle.std.proofs.lemmas.List.Elements.{All-contains_itself, All-nil, All-cons, All-head, All-tail, All-append}
@@ -30,7 +30,7 @@ use Rattle.isl_assumed.specs.declared.assumed.Assumed.TheVariants.{Nothing, Wher
 use Rattle.isl_assumed.specs.Assumed.{Assumes, AssumesSome}
 use Rattle.isl_assumed.specs.Values.{IsDeadAt}
 use Rattle.isl_values.specs.Live.{IsLiveUnder, IsOperandOf, IsSampleAt, IsUnderOf}
-use Rattle.isl_values.specs.Ends.{too_wide, GoesOn}
+use Rattle.isl_values.specs.Ends.{GoesOn}
 use Rattle.isl_values.proofs.OutcomeLaws.{operation_goes}
 use Rattle.isl_values.proofs.UnderLaws.{has_same, operands_part}
 use Rattle.isl_values.proofs.ValueLaws.{same_limit}
@@ -51,6 +51,12 @@ piece_moved params v w x piece same has = record {
 }
 
 -- ---- tests
+pub not_same : (A B : Type 0) → A ↔ B → (¬ A) ↔ (¬ B)
+not_same A B iff = ((λ no h. no (iff.1 h)), (λ no h. no (iff.0 h)))
+
+pub both_same : (A B C D : Type 0) → A ↔ C → B ↔ D → (A × B) ↔ (C × D)
+both_same A B C D iff other = ((λ h. (iff.0 h.0, other.0 h.1)), (λ h. (iff.1 h.0, other.1 h.1)))
+
 module _ (state : StateView) (names : List Name) (left right l r : KeptValue) (left_among : All (Contains names) left.params)
     (right_among : All (Contains names) right.params) (one : IsUnderOf state.assumed names left l)
     (two : IsUnderOf state.assumed names right r) where
@@ -59,12 +65,6 @@ module _ (state : StateView) (names : List Name) (left right l r : KeptValue) (l
 
   back : IsSubset r l ↔ IsPartOf state (Has right) (Has left)
   back = operands_part state.assumed names right left r l two one right_among left_among
-
-  not_same : (A B : Type 0) → A ↔ B → (¬ A) ↔ (¬ B)
-  not_same A B iff = ((λ no h. no (iff.1 h)), (λ no h. no (iff.0 h)))
-
-  both_same : (A B C D : Type 0) → A ↔ C → B ↔ D → (A × B) ↔ (C × D)
-  both_same A B C D iff other = ((λ h. (iff.0 h.0, other.0 h.1)), (λ h. (iff.1 h.0, other.1 h.1)))
 
   -- what the operands under what is assumed tell of a test is whether it holds at every assumed valuation
   pub test_told : (operator : Binary) → Tells operator l r ↔ TestHolds state operator (Has left) (Has right)
@@ -222,12 +222,6 @@ module _ (assumed : Assumed) (left right : KeptValue) (left_kept : IsKeptValue l
   -- an operation of the two goes on where they have few enough names
   pub two_goes : length Both ≤ most_parameters → GoesOn (EndsTwo left right)
   two_goes few = operation_goes Both ⊥ ⊥ few (λ h. h) (λ h. h)
-
-  pub two_few : GoesOn (EndsTwo left right) → length Both ≤ most_parameters
-  two_few goes = by (length Both) (λ many. goes too_wide (inl many))
-    where
-      by : (n : ℕ) → ¬ (most_parameters < n) → n ≤ most_parameters
-      by n h = omega arith
 
 -- ---- the gist of two
 -- the names of the value, joined to those of the context under what is assumed

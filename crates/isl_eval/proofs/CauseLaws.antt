@@ -91,11 +91,8 @@ module _ (before : Moment) (bytes : List ℕ) where
 
       number_why : statement_is_within stmt ≡ true → has_wide_number (limit_of before.meter) ts ≡ true
           → FirstGives (IsThere before bytes) causes r.WideNumber
-      number_why within wide = inr (
-        no_tokens bytes ts cut,
-        inr
-            (shallow flat, inr (some_statement, inr (narrow_tree within, inl ((ts, cut, wide), refl)))),
-      )
+      number_why within wide =
+          inr (no_tokens bytes ts cut, inr (shallow flat, inr (some_statement, inr (narrow_tree within, inl ((ts, cut, wide), refl)))))
 
       narrow_tokens : has_wide_number (limit_of before.meter) ts ≡ false
           → ¬ OfTokens bytes (λ ts. has_wide_number (limit_of before.meter) ts ≡ true)

@@ -7,7 +7,6 @@ use Rattle.std.proofs.lemmas.List.Elements.{All-nil, All-cons, All-append}
 use Rattle.isl_space.specs.Name.{Name}
 use Rattle.isl_text.specs.declared.refusal.Refusal.TheVariants as r
 use Rattle.isl_lower.specs.Value.{IsWellFormedLiteral}
-use Rattle.isl_lower_params.specs.Params.{HasNoCoordinates}
 use Rattle.isl_expr.specs.declared.tree.Binary.TheVariants.{Gist}
 use Rattle.isl_expr.specs.declared.tree.Prefix.TheVariants.{Sample}
 use Rattle.isl_expr.specs.declared.tree.ValueKind.{ValueKind}
@@ -34,12 +33,13 @@ use Rattle.isl_values.specs.State.{Moment, scope_of}
 use Rattle.isl_values.specs.Made.{is_foreign}
 use Rattle.isl_eval.specs.Evaluated.{made_parts, shown_parts, worked_parts, AssumesFormulas, IsEvaluable}
 use Rattle.isl_eval.specs.Ended.{lists, IsAssumedWhereListed}
-use Rattle.isl_eval.specs.Evaluation.{IsRead, IsTaken, IsWorkable, AreEvaluable}
+use Rattle.isl_eval.specs.Evaluation.{IsClearStatement, IsTaken, AreEvaluable}
 use Rattle.isl_eval.specs.Spelled.{BytesSpell}
 use Rattle.isl_token.proofs.LexLaws.{lexed}
 use Rattle.isl_eval.proofs.TypeLaws.{found_is, of_type}
 use Rattle.isl_eval.proofs.PlainLaws.{is_value, is_lone, bound_plain, shown_plain}
-use Rattle.isl_eval.proofs.FullLaws.{spelled_full, spelled_formulas, outermost_full, outermost_listed}
+use Rattle.isl_eval.proofs.FullLaws.{outermost_like}
+use Rattle.isl_eval.proofs.LiteralLaws.{FullStmt, full_spelled}
 
 -- ---- the kinds of statements with types
 taken_value : (expr : Expr) (params : List Name) (kind : ValueKind) (u : TypeView)
@@ -99,12 +99,6 @@ shown_simple scope expr kind is full supported (inr (inr h)) =
     ap (λ (x : Expr). list_any is_foreign (shown_parts x)) h.2 ∙ gist_shown h.0 h.1
 
 -- ---- one simple statement
-abbrev pub FullStmt : Stmt → Type 0
-FullStmt (Show expr) = is_lone expr ≡ false
-FullStmt (Assume set) = All HasNoCoordinates set.pieces
-FullStmt (Bind name expr) = Unit {0}
-FullStmt Empty = Unit {0}
-
 formulas_of : (stmt : Stmt) → FullStmt stmt → AssumesFormulas stmt
 formulas_of Empty full = tt
 formulas_of (Bind name expr) full = tt
@@ -137,14 +131,14 @@ may_be most stmt full supported literals simple = λ scope t has. record {
 -- ---- one after another
 chain : (most n : ℕ) (scope : ScopeView) (bindings : List Stmt) (last : Stmt) (t : Option TypeView)
     → AreTyped most scope (bindings ++ last ∷ []) t
-    → BindFrom n bindings → All (MayBe most) (bindings ++ last ∷ []) → AreEvaluable scope (bindings ++ last ∷ [])
-chain most n scope [] last t typed from all = all 0 last (omega arith) scope t typed
+    → BindFrom n bindings → All (MayBe most) (bindings ++ last ∷ []) → AreEvaluable scope (bindings ++ last ∷ []) t
+chain most n scope [] last t typed from all = (all 0 last (omega arith) scope t typed, typed.typed)
 chain most n scope (Bind name expr ∷ []) last t typed from all = (
   typed.0,
   typed.1.typed,
   ap is_dollar from.0,
   all 0 last (omega arith) scope (Some typed.0) typed.1,
-  (λ later binds. all 1 last (omega arith) later t (typed.2 later binds)),
+  (λ later binds. let has = typed.2 later binds in (all 1 last (omega arith) later t has, has.typed)),
 )
 chain most n scope (Bind name expr ∷ next ∷ more) last t typed from all = (
   typed.0,
@@ -168,7 +162,7 @@ full_bindings n (Assume set ∷ more) from = absurd from
 full_last : (stmt : Stmt) → FullStmt stmt → FullStmt (last_of stmt)
 full_last Empty full = tt
 full_last (Bind name expr) full = tt
-full_last (Show expr) full = outermost_full expr full
+full_last (Show expr) full = (outermost_like expr full).0
 full_last (Assume set) full = full
 
 all_full : (stmt : Stmt) → FullStmt stmt → All FullStmt (flat stmt)
@@ -177,39 +171,37 @@ all_full stmt full =
     (All-append FullStmt (bindings_of stmt) (last_of stmt ∷ []) (full_bindings 1 (bindings_of stmt) (bindings_are_numbered stmt))
     (All-cons FullStmt (last_of stmt) [] (full_last stmt full) (All-nil FullStmt)))
 
-full_spelled : (bytes : List ℕ) (stmt : Stmt) → BytesSpell bytes stmt → FullStmt stmt
-full_spelled bytes Empty spelled = tt
-full_spelled bytes (Bind name expr) spelled = tt
-full_spelled bytes (Assume set) spelled = spelled_formulas set spelled.tokens (lexed bytes spelled.tokens spelled.cut) spelled.spelled
-full_spelled bytes (Show expr) spelled = spelled_full expr spelled.tokens (lexed bytes spelled.tokens spelled.cut) spelled.spelled
+bytes_full : (bytes : List ℕ) (stmt : Stmt) → BytesSpell bytes stmt → FullStmt stmt
+bytes_full bytes stmt spelled = full_spelled stmt spelled.tokens (lexed bytes spelled.tokens spelled.cut) spelled.spelled
 
 pub no_dollar : (bytes : List ℕ) (stmt : Stmt) → BytesSpell bytes stmt → HasNoDollar stmt
 no_dollar bytes stmt spelled = bytes_spell_no_dollar bytes stmt spelled.tokens spelled.cut spelled.spelled
 
 -- the simple statements of a statement that was read and may be worked out
-pub evaluable : (before : Moment) (bytes : List ℕ) (stmt : Stmt) (statements : List Stmt) → IsRead before bytes stmt
-    → IsWorkable (scope_of before.state) before.options.at stmt → statements ≡ flat stmt → length statements ≤ 2 ^ 64
-    → AreEvaluable (scope_of before.state) statements
-evaluable before bytes stmt statements read able is short =
+pub evaluable : {type : Option TypeView} (before : Moment) (bytes : List ℕ) (stmt : Stmt) (statements : List Stmt)
+    → IsClearStatement before bytes stmt type → statements ≡ flat stmt → length statements ≤ 2 ^ 64
+    → AreEvaluable (scope_of before.state) statements type
+evaluable {type} before bytes stmt statements found is short =
+    let read = found.read in
     let most = length (statement_declared (scope_of before.state) stmt) in
-    let typed = flat_is_typed (scope_of before.state) stmt able.typed.0 (no_dollar bytes stmt read.spelled).inside
-    (subst (λ (s : List Stmt). length s ≤ 2 ^ 64) is short) able.typed.1 in
+    let typed = flat_is_typed (scope_of before.state) stmt type (no_dollar bytes stmt read.spelled).inside
+    (subst (λ (s : List Stmt). length s ≤ 2 ^ 64) is short) found.able.typed in
     let supported = parts_kept is_unsupported_part (λ n. refl) stmt read.supported in
     let literals = literals_kept IsWellFormedLiteral stmt read.sound in
     let simple = flat_is_simple stmt in
-    let full = all_full stmt (full_spelled bytes stmt read.spelled) in
+    let full = all_full stmt (bytes_full bytes stmt read.spelled) in
     let each : All (MayBe most) (flat stmt) = λ i d low.
     may_be most (get_or (flat stmt) i d) (full i d low) (supported i d low) (literals i d low) (simple i d low) in
-    subst (AreEvaluable (scope_of before.state)) (sym (is ∙ flat_ends stmt))
-    (chain most 1 (scope_of before.state) (bindings_of stmt) (last_of stmt) able.typed.0
-    (subst (λ (s : List Stmt). AreTyped most (scope_of before.state) s able.typed.0) (flat_ends stmt) typed) (bindings_are_numbered stmt)
+    subst (λ (s : List Stmt). AreEvaluable (scope_of before.state) s type) (sym (is ∙ flat_ends stmt))
+    (chain most 1 (scope_of before.state) (bindings_of stmt) (last_of stmt) type
+    (subst (λ (s : List Stmt). AreTyped most (scope_of before.state) s type) (flat_ends stmt) typed) (bindings_are_numbered stmt)
     (subst (All (MayBe most)) (flat_ends stmt) each))
 
 -- ---- what is asked first
 last_lists : (stmt : Stmt) → FullStmt stmt → lists (last_of stmt) ≡ lists stmt
 last_lists Empty full = refl
 last_lists (Bind name expr) full = refl
-last_lists (Show expr) full = outermost_listed expr full
+last_lists (Show expr) full = (outermost_like expr full).1
 last_lists (Assume set) full = refl
 
 bindings_asked : (before : Moment) (n : ℕ) (bindings : List Stmt) → BindFrom n bindings → All (IsAssumedWhereListed before) bindings
@@ -228,7 +220,7 @@ asked_each before bytes stmt statements spelled is asked =
     subst (All (IsAssumedWhereListed before)) (sym (is ∙ flat_ends stmt))
     (All-append (IsAssumedWhereListed before) (bindings_of stmt) (last_of stmt ∷ [])
     (bindings_asked before 1 (bindings_of stmt) (bindings_are_numbered stmt))
-    (All-cons (IsAssumedWhereListed before) (last_of stmt) [] (λ listed. asked (sym (last_lists stmt (full_spelled bytes stmt spelled)) ∙ listed))
+    (All-cons (IsAssumedWhereListed before) (last_of stmt) [] (λ listed. asked (sym (last_lists stmt (bytes_full bytes stmt spelled)) ∙ listed))
     (All-nil (IsAssumedWhereListed before))))
 
 -- ---- one simple statement alone
@@ -249,9 +241,10 @@ last_binds (Show expr) none = refl
 last_binds (Assume set) none = refl
 
 -- it binds no name that no script has
-pub alone_plain : (before : Moment) (bytes : List ℕ) (statements : List Stmt) (only : Stmt) → IsTaken before bytes statements
+pub alone_plain : {type : Option TypeView} (before : Moment) (bytes : List ℕ) (statements : List Stmt) (only : Stmt)
+    → IsTaken before bytes statements type
     → statements ≡ only ∷ []
     → binds_dollar only ≡ false
 alone_plain before bytes statements only taken is =
     let same = one_alone (bindings_of taken.stmt) (last_of taken.stmt) only (sym (flat_ends taken.stmt) ∙ sym taken.simple ∙ is) in
-    sym (ap binds_dollar same.1) ∙ last_binds taken.stmt (no_dollar bytes taken.stmt taken.read.spelled).bound
+    sym (ap binds_dollar same.1) ∙ last_binds taken.stmt (no_dollar bytes taken.stmt taken.clear.read.spelled).bound

@@ -53,6 +53,6 @@ module _ (scope : ScopeView) (at : Valuation) (stmt : Stmt) (o : Option TypeView
   pub parametric_why : b ≡ true → IsWhyUnworkable scope at stmt r.Parametric
   parametric_why lacking = inr (inl (has_type, sym (found scope (declared_is scope stmt o names typed is)) ∙ lacking, refl))
 
-  pub workable_is : b ≡ false → IsWorkable scope at stmt
+  pub workable_is : b ≡ false → IsWorkable scope at stmt o
   workable_is given =
-      record { typed = has_type; given = sym (found scope (declared_is scope stmt o names typed is)) ∙ given }
+      record { typed = answered_ok o (type_of_statement scope stmt) typed; given = sym (found scope (declared_is scope stmt o names typed is)) ∙ given }

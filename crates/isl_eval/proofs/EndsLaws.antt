@@ -1,7 +1,6 @@
 -- What ends tests, listings and samples.
-use Rattle.std.proofs.Common.{◌≡◌, ◌↔◌, ◌<◌, ◌≤◌, arith, inl, inr, subst, true, List, [], ◌∷◌, ◌++◌, length}
+use Rattle.std.proofs.Common.{◌≡◌, ◌↔◌, arith, inl, inr, subst, sym, true, List, [], ◌∷◌, ◌++◌}
 use Rattle.std.proofs.lemmas.Bool.{false≢true}
-use Rattle.isl_space.specs.Limits.{most_parameters}
 use Rattle.isl_space.specs.Name.{Name}
 use Rattle.isl_space.specs.SpaceForm.{SpaceForm}
 use Rattle.isl_space.specs.Valuation.{Valuation}
@@ -18,53 +17,51 @@ use Rattle.isl_operators.specs.Formed.{OperatorForms, PairsWide, WordForms, Form
 use Rattle.isl_assumed.specs.Assumed.{Assumes}
 use Rattle.isl_values.specs.State.{AtAssumed, StateView, scope_of}
 use Rattle.isl_values.specs.Selection.{Selects}
-use Rattle.isl_values.specs.Ends.{End, because, cut, too_wide, no_minimum, unbounded, no_valuation, not_assumed}
+use Rattle.isl_values.specs.Ends.{CutAlone, End, because, cut}
 use Rattle.isl_values.specs.Ends.{NoEnd, GoesOn, FirstEnds, OperationEnds, Ends, EndsRow}
 use Rattle.isl_values.specs.Ends.{PairEnds, WordEnds}
-use Rattle.isl_values.proofs.FirstLaws.{EndAlike, alike_itself, first_alike, goes_alike, goes_both, turned_alike}
+use Rattle.isl_values.proofs.FirstLaws.{EndAlike, alike_itself, alike_trans, first_alike, goes_alike, goes_both, operation_alike, turned_alike}
 use Rattle.isl_values.proofs.EndsLaws.{Behind}
 use Rattle.isl_values.proofs.EndsLaws.{ends_of-Prefix, row_alike, row_split}
 use Rattle.isl_values.proofs.OutcomeLaws.{operation_goes}
 use Rattle.isl_eval.specs.Tests.{is_test}
 use Rattle.isl_eval.specs.Evaluation.{EndsTest}
 
--- ---- words
-module _ (state : StateView) (word : Word) (operand : Expr) where
-  pub word_ends : (why : End) → Ends state operand why → Ends state (Prefix word operand) why
-  word_ends why ends = (ends_of-Prefix state word operand why).1 (inl ends)
-
+-- ---- a word that forms no space, and looks for nothing
+module _ (state : StateView) (word : Word) (operand : Expr) (none : (s formed : SpaceForm) → ¬ WordForms word s formed)
+    (finds : (Operand : Valuation → Element → Type 0) → ¬ WordMisses word Operand) where
   abbrev Operand : Valuation → Element → Type 0
   Operand = AtAssumed state (λ v x. Selects state operand v x)
 
   abbrev Whole : End → Type 0
   Whole = FirstEnds (Ends state operand) (WordEnds word Operand)
 
-  abbrev Wide : Type 0
-  Wide = FormsWide (WordForms word) Operand
+  own_goes : GoesOn (WordEnds word Operand)
+  own_goes =
+      operation_goes [] (FormsWide (WordForms word) Operand) (WordMisses word Operand) (omega arith)
+      (λ wide. none wide.0 wide.1 wide.3) (finds Operand)
 
-  -- a word that forms no space, and looks for nothing
-  module _ (none : (s formed : SpaceForm) → ¬ WordForms word s formed) where
-    pub word_goes_on : ¬ WordMisses word Operand → GoesOn (Ends state operand) → GoesOn (Ends state (Prefix word operand))
-    word_goes_on there goes =
-        goes_alike Whole (Ends state (Prefix word operand)) (turned_alike (Ends state (Prefix word operand)) Whole
-        (ends_of-Prefix state word operand))
-        (goes_both (Ends state operand) (WordEnds word Operand) goes
-        (operation_goes [] Wide (WordMisses word Operand) (omega arith) (λ wide. none wide.0 wide.1 wide.3) there))
+  own_alike : EndAlike CutAlone (WordEnds word Operand)
+  own_alike (because reason) = ((λ no. absurd no), (λ ends. absurd (own_goes reason ends)))
+  own_alike cut = ((λ _. (omega arith, λ wide. none wide.0 wide.1 wide.3)), (λ _. tt))
 
-    -- its own work may be cut
-    pub word_cut : GoesOn (Ends state operand) → Ends state (Prefix word operand) cut
-    word_cut goes = (ends_of-Prefix state word operand cut).1 (inr (goes, (omega arith, λ wide. none wide.0 wide.1 wide.3)))
+  -- the operand ends, or else its own work is cut
+  pub word_alike : EndAlike (FirstEnds (Ends state operand) CutAlone) (Ends state (Prefix word operand))
+  word_alike =
+      alike_trans (FirstEnds (Ends state operand) CutAlone) Whole (Ends state (Prefix word operand))
+      (first_alike (Ends state operand) CutAlone (Ends state operand) (WordEnds word Operand) (alike_itself (Ends state operand)) own_alike)
+      (turned_alike (Ends state (Prefix word operand)) Whole (ends_of-Prefix state word operand))
 
--- ---- rows with a test at their end
-test_forms : (operator : Binary) (s t formed : SpaceForm) → is_test operator ≡ true → ¬ OperatorForms operator s t formed
-test_forms b.Cross s t formed test h = false≢true test
-test_forms b.Join s t formed test h = false≢true test
-test_forms b.Universal s t formed test h = false≢true test
-test_forms b.LexLess s t formed test h = false≢true test
-test_forms b.LexLessEqual s t formed test h = false≢true test
-test_forms b.LexGreater s t formed test h = false≢true test
-test_forms b.LexGreaterEqual s t formed test h = false≢true test
-test_forms _ s t formed test h = h
+-- ---- rows, of whose last operator no space is formed
+pub test_forms : (operator : Binary) → is_test operator ≡ true → (s t formed : SpaceForm) → ¬ OperatorForms operator s t formed
+test_forms b.Cross test s t formed h = false≢true test
+test_forms b.Join test s t formed h = false≢true test
+test_forms b.Universal test s t formed h = false≢true test
+test_forms b.LexLess test s t formed h = false≢true test
+test_forms b.LexLessEqual test s t formed h = false≢true test
+test_forms b.LexGreater test s t formed h = false≢true test
+test_forms b.LexGreaterEqual test s t formed h = false≢true test
+test_forms _ test s t formed h = h
 
 module _ (state : StateView) (first : Expr) (before : List Link) (last : Link) where
   abbrev Names : List Name
@@ -118,46 +115,29 @@ module _ (state : StateView) (first : Expr) (before : List Link) (last : Link) w
       right_ends why ends = last_ends why (inl ends)
 
       module _ (right : GoesOn (Ends state last.operand)) where
-        pub names_end : most_parameters < length (joined_names There (declared_of (scope_of state) last.operand))
-            → EndsTest state first before last (because too_wide)
-        names_end many = last_ends (because too_wide) (inr (right, inl (inl many)))
-
-        abbrev TestWide : Type 0
-        TestWide =
-            PairsWide (OperatorForms last.operator) (AtAssumed state (Behind state Past before))
+        abbrev Operation : End → Type 0
+        Operation =
+            PairEnds (OperatorForms last.operator) There (declared_of (scope_of state) last.operand) (AtAssumed state (Behind state Past before))
             (AtAssumed state (λ v y. Selects state last.operand v y))
 
-        narrow : is_test last.operator ≡ true → ¬ TestWide
-        narrow test wide = test_forms last.operator wide.0 wide.1 wide.2 test wide.5
+        -- it ends as an operation of two values with these names
+        module _ (none : (s t formed : SpaceForm) → ¬ OperatorForms last.operator s t formed) (ns : List Name)
+            (are : ns ≡ joined_names There (declared_of (scope_of state) last.operand)) where
+          operation_is : EndAlike (OperationEnds ns ⊥ ⊥) Operation
+          operation_is =
+              subst (λ (m : List Name). EndAlike (OperationEnds m ⊥ ⊥) Operation) (sym are)
+              (operation_alike (joined_names There (declared_of (scope_of state) last.operand)) ⊥
+              (PairsWide (OperatorForms last.operator) (AtAssumed state (Behind state Past before))
+              (AtAssumed state (λ v y. Selects state last.operand v y))) ⊥ ⊥
+              ((λ no. absurd no), (λ wide. none wide.0 wide.1 wide.2 wide.5)) ((λ no. no), (λ no. no)))
 
-        -- the test itself may be cut
-        pub test_cut : is_test last.operator ≡ true
-            → length (joined_names There (declared_of (scope_of state) last.operand)) ≤ most_parameters
-            → EndsTest state first before last cut
-        test_cut test few = last_ends cut (inr (right, inl (few, narrow test)))
+          pub two_ends : (why : End) → OperationEnds ns ⊥ ⊥ why → EndsTest state first before last why
+          two_ends why ends = last_ends why (inr (right, inl ((operation_is why).0 ends)))
 
-        -- the test of two values ends as the row does
-        pub test_ended : is_test last.operator ≡ true → (names : List Name)
-            → names ≡ joined_names There (declared_of (scope_of state) last.operand) → (why : End) → OperationEnds names ⊥ ⊥ why
-            → EndsTest state first before last why
-        test_ended test names is (because too_wide) (inl many) = names_end (subst (λ (ns : List Name). most_parameters < length ns) is many)
-        test_ended test names is (because too_wide) (inr few) = absurd few.1
-        test_ended test names is (because no_minimum) h = absurd h.2
-        test_ended test names is (because unbounded) h = absurd h
-        test_ended test names is (because no_valuation) h = absurd h
-        test_ended test names is (because not_assumed) h = absurd h
-        test_ended test names is cut h = test_cut test (subst (λ (ns : List Name). length ns ≤ most_parameters) is h.0)
-
-        pub test_goes_on : is_test last.operator ≡ true
-            → length (joined_names There (declared_of (scope_of state) last.operand)) ≤ most_parameters
-            → GoesOn (EndsTest state first before last)
-        test_goes_on test few =
-            let next = joined_names There (declared_of (scope_of state) last.operand) in
-            let Operation =
-            PairEnds (OperatorForms last.operator) There (declared_of (scope_of state) last.operand) (AtAssumed state (Behind state Past before))
-            (AtAssumed state (λ v y. Selects state last.operand v y)) in
-            let own = goes_both Operation NoEnd (operation_goes next TestWide ⊥ few (narrow test) (λ h. h)) (λ reason h. h) in
-            let at_last = goes_both (Ends state last.operand) (FirstEnds Operation NoEnd) right own in
-            goes_alike Parts (EndsTest state first before last) in_parts
-            (goes_both (Ends state first) (FirstEnds (EndsRow state Names Past before) LastEnds) goes
-            (goes_both (EndsRow state Names Past before) LastEnds row_goes at_last))
+          pub two_go : GoesOn (OperationEnds ns ⊥ ⊥) → GoesOn (EndsTest state first before last)
+          two_go two =
+              goes_alike Parts (EndsTest state first before last) in_parts
+              (goes_both (Ends state first) (FirstEnds (EndsRow state Names Past before) LastEnds) goes
+              (goes_both (EndsRow state Names Past before) LastEnds row_goes
+              (goes_both (Ends state last.operand) (FirstEnds Operation NoEnd) right
+              (goes_both Operation NoEnd (goes_alike (OperationEnds ns ⊥ ⊥) Operation operation_is two) (λ reason no. no)))))

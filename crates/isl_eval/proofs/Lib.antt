@@ -1,10 +1,5 @@
-pub mod UnsupportedLaws
 pub mod MomentLaws
 pub mod NameLaws
-pub mod LiteralLaws
-pub mod SizeLaws
-pub mod SoundLaws
-pub mod CauseLaws
 pub mod TypeLaws
 pub mod AssumedLaws
 pub mod TestLaws
@@ -12,6 +7,10 @@ pub mod EndsLaws
 pub mod PlainLaws
 pub mod RefusalLaws
 pub mod FullLaws
+pub mod LiteralLaws
+pub mod SizeLaws
+pub mod SoundLaws
+pub mod CauseLaws
 pub mod ChainLaws
 pub mod StepLaws
 pub mod AskedLaws

@@ -1,5 +1,6 @@
--- The literals of a statement whose tokens are some text's: what they declare and name is what a value may have.
-use Rattle.std.proofs.Common.{◌≡◌, sym, subst, ℕ, zero, suc, true, List, [], ◌∷◌, ◌++◌}
+-- What a statement has whose tokens are some text's: what its literals declare and name is what a value may have; what it shows is no row of
+-- one operand, and no operand that nothing follows; what it assumes are formulas alone.
+use Rattle.std.proofs.Common.{◌≡◌, refl, sym, subst, ℕ, zero, suc, true, false, List, [], ◌∷◌, ◌++◌}
 use Rattle.std.specs.List.{All}
 use Rattle.std.proofs.lemmas.List.Elements.{All-nil, All-cons, All-head, All-tail, All-append}
 use Rattle.isl_token.specs.TokenView.{Token}
@@ -29,9 +30,15 @@ use Rattle.isl_stmt.specs.ExpressionGrammar as g
 use Rattle.isl_stmt.specs.StatementGrammar as statement
 use Rattle.isl_formula.proofs.SpelledLaws.{Has, whatever, pure_has, bind_has, then_has, either_has, many_has}
 use Rattle.isl_text.proofs.DivisorLaws.{IsDivided, outline_divided}
+use Rattle.isl_formula.specs.FormulaGrammar.{formula}
+use Rattle.isl_text.specs.Piece.{make_literal}
+use Rattle.isl_lower_params.specs.Params.{HasNoCoordinates}
 use Rattle.isl_pset.specs.PsetGrammar.{pset_grammar}
+use Rattle.isl_pset.specs.PsetGrammar as psets_grammar
 use Rattle.isl_pset.proofs.SpelledLaws as psets
 use Rattle.isl_eval.proofs.NameLaws.{IsNamedLiteral, outline_has, pset_outline_has}
+use Rattle.isl_eval.proofs.PlainLaws.{is_lone}
+use Rattle.isl_eval.proofs.FullLaws.{lone_of-Row, lone_of-Post, lone_of-Prefix, lone_of-Any, lone_of-Last}
 
 -- a literal by its grammar: named, and formed, with divisors that are at least 1
 pub record IsSpelled (literal : Literal) : Type 0 where
@@ -49,20 +56,39 @@ literal_has n = record {
   };
 }
 
-pset_has : (n : ℕ) → Has IsSpelled (pset_grammar n)
+-- of formulas alone
+AreFormulas : Literal → Type 0
+AreFormulas set = All HasNoCoordinates set.pieces
+
+outline_formulas : (n : ℕ) → Has AreFormulas (psets_grammar.outline (formula n))
+unfolding AreFormulas
+outline_formulas n =
+    bind_has (λ _. Unit {0}) AreFormulas _ _ (whatever _) (λ params _. bind_has (All HasNoCoordinates) AreFormulas _ _
+    (psets.pieces_have (λ _. Unit {0}) HasNoCoordinates (record { first = refl; second = refl })
+    (λ held _. record { first = refl; second = refl }) (formula n) (whatever _))
+    (λ found all. pure_has AreFormulas (make_literal params found) all))
+
+SpelledSet : Literal → Type 0
+SpelledSet set = IsSpelled set × AreFormulas set
+
+pset_has : (n : ℕ) → Has SpelledSet (pset_grammar n)
+unfolding SpelledSet
 pset_has n = record {
-  by = λ a ts tokens l. record {
-    named = (pset_outline_has n).by a ts tokens l.0;
-    formed = l.1;
-    divided = (psets.outline_divided n).by a ts tokens l.0;
-  };
+  by = λ a ts tokens l. (
+    record {
+      named = (pset_outline_has n).by a ts tokens l.0;
+      formed = l.1;
+      divided = (psets.outline_divided n).by a ts tokens l.0;
+    },
+    (outline_formulas n).by a ts tokens l.0,
+  );
 }
 
 Spelled : List Literal → Type 0
 Spelled literals = All IsSpelled literals
 
 Inside : Expr → Type 0
-Inside expr = Spelled (literals_of expr)
+Inside expr = Spelled (literals_of expr) × (is_lone expr ≡ false)
 
 InsideLink : Link → Type 0
 InsideLink link = Inside link.operand
@@ -74,7 +100,7 @@ links_spelled : (links : List Link) → All InsideLink links → Spelled (links_
 unfolding Spelled InsideLink Inside
 links_spelled [] h = All-nil IsSpelled
 links_spelled (link ∷ links) h =
-    All-append IsSpelled (literals_of link.operand) (links_literals links) (All-head InsideLink link links h)
+    All-append IsSpelled (literals_of link.operand) (links_literals links) (All-head InsideLink link links h).0
     (links_spelled links (All-tail InsideLink link links h))
 
 postfixes_spelled : (postfixes : List Postfix) → All InsidePostfix postfixes → Spelled (postfixes_literals postfixes)
@@ -87,39 +113,46 @@ postfixes_spelled (postfix ∷ postfixes) h =
 row_inside : (first : Expr) (links : List Link) → Inside first → All InsideLink links → Inside (row_of first links)
 unfolding Inside Spelled
 row_inside first [] one more = one
-row_inside first (link ∷ links) one more =
-    subst Spelled (sym (literals_of-Row first (link ∷ links)))
-    (All-append IsSpelled (literals_of first) (links_literals (link ∷ links)) one (links_spelled (link ∷ links) more))
+row_inside first (link ∷ links) one more = (
+  subst Spelled (sym (literals_of-Row first (link ∷ links)))
+      (All-append IsSpelled (literals_of first) (links_literals (link ∷ links)) one.0 (links_spelled (link ∷ links) more)),
+  lone_of-Row first (link ∷ links),
+)
 
 post_inside : (operand : Expr) (postfixes : List Postfix) → Inside operand → All InsidePostfix postfixes
     → Inside (post_of operand postfixes)
 unfolding Inside Spelled
 post_inside operand [] one more = one
-post_inside operand (postfix ∷ postfixes) one more =
-    subst Spelled (sym (literals_of-Post operand (postfix ∷ postfixes)))
-    (All-append IsSpelled (literals_of operand) (postfixes_literals (postfix ∷ postfixes)) one
-    (postfixes_spelled (postfix ∷ postfixes) more))
+post_inside operand (postfix ∷ postfixes) one more = (
+  subst Spelled (sym (literals_of-Post operand (postfix ∷ postfixes)))
+      (All-append IsSpelled (literals_of operand) (postfixes_literals (postfix ∷ postfixes)) one.0
+      (postfixes_spelled (postfix ∷ postfixes) more)),
+  lone_of-Post operand (postfix ∷ postfixes),
+)
 
 prefix_inside : (word : _) (operand : Expr) → Inside operand → Inside (e.Prefix word operand)
 unfolding Inside
-prefix_inside word operand one = subst Spelled (sym (literals_of-Prefix word operand)) one
+prefix_inside word operand one = (subst Spelled (sym (literals_of-Prefix word operand)) one.0, lone_of-Prefix word operand)
 
 flow_inside : (found : Flow) (a b c : Expr) → Inside a → Inside b → Inside c → Inside (dependence found a b c)
 unfolding Inside Spelled
-flow_inside flow.Any a b c x y z =
-    subst Spelled (sym (literals_of-Any a b c))
-    (All-append IsSpelled (literals_of a) (literals_of b ++ literals_of c) x (All-append IsSpelled (literals_of b) (literals_of c) y z))
-flow_inside flow.Last a b c x y z =
-    subst Spelled (sym (literals_of-Last a b c))
-    (All-append IsSpelled (literals_of a) (literals_of b ++ literals_of c) x (All-append IsSpelled (literals_of b) (literals_of c) y z))
+flow_inside found a b c x y z = by found
+  where
+    all : Spelled (literals_of a ++ (literals_of b ++ literals_of c))
+    all = All-append IsSpelled (literals_of a) (literals_of b ++ literals_of c) x.0
+        (All-append IsSpelled (literals_of b) (literals_of c) y.0 z.0)
+
+    by : (found : Flow) → Inside (dependence found a b c)
+    by flow.Any = (subst Spelled (sym (literals_of-Any a b c)) all, lone_of-Any a b c)
+    by flow.Last = (subst Spelled (sym (literals_of-Last a b c)) all, lone_of-Last a b c)
 
 name_inside : (name : List ℕ) → Inside (e.Name name)
 unfolding Inside Spelled
-name_inside name = All-nil IsSpelled
+name_inside name = (All-nil IsSpelled, refl)
 
 literal_inside : (literal : Literal) → IsSpelled literal → Inside (e.Literal literal)
 unfolding Inside Spelled
-literal_inside literal h = All-cons IsSpelled literal [] h (All-nil IsSpelled)
+literal_inside literal h = (All-cons IsSpelled literal [] h (All-nil IsSpelled), refl)
 
 inverse_inside : InsidePostfix Inverse
 unfolding InsidePostfix Spelled
@@ -127,7 +160,7 @@ inverse_inside = All-nil IsSpelled
 
 apply_inside : (argument : Expr) → Inside argument → InsidePostfix (Apply argument)
 unfolding InsidePostfix Inside
-apply_inside argument h = h
+apply_inside argument h = h.0
 
 item_inside : (number : _) → InsidePostfix (Item number)
 unfolding InsidePostfix Spelled
@@ -195,20 +228,26 @@ pre_has zero = record { by = λ a ts h l. absurd l }
 pre_has (suc n) = level_has (literal_grammar (suc n)) (g.pre n) (literal_has (suc n)) (pre_has n)
 
 -- ---- statements
+abbrev pub FullStmt : Stmt → Type 0
+FullStmt (Show expr) = is_lone expr ≡ false
+FullStmt (Assume set) = All HasNoCoordinates set.pieces
+FullStmt (Bind name expr) = Unit {0}
+FullStmt Empty = Unit {0}
+
 InsideStmt : Stmt → Type 0
-InsideStmt stmt = Spelled (statement_literals stmt)
+InsideStmt stmt = Spelled (statement_literals stmt) × FullStmt stmt
 
 empty_inside : InsideStmt Empty
 unfolding InsideStmt Spelled
-empty_inside = All-nil IsSpelled
+empty_inside = (All-nil IsSpelled, tt)
 
 bind_inside : (name : List ℕ) (expr : Expr) → Inside expr → InsideStmt (Bind name expr)
 unfolding InsideStmt Inside
-bind_inside name expr h = h
+bind_inside name expr h = (h.0, tt)
 
-assume_inside : (set : Literal) → IsSpelled set → InsideStmt (Assume set)
-unfolding InsideStmt Spelled
-assume_inside set one = All-cons IsSpelled set [] one (All-nil IsSpelled)
+assume_inside : (set : Literal) → SpelledSet set → InsideStmt (Assume set)
+unfolding InsideStmt Spelled SpelledSet AreFormulas
+assume_inside set one = (All-cons IsSpelled set [] one.0 (All-nil IsSpelled), one.1)
 
 show_inside : (expr : Expr) → Inside expr → InsideStmt (Show expr)
 unfolding InsideStmt Inside
@@ -223,9 +262,13 @@ statement_has n =
     (λ name _. then_has InsideStmt _ _ (bind_has Inside InsideStmt _ _ inside
     (λ expr one. pure_has InsideStmt (Bind name expr) (bind_inside name expr one)))))
     (either_has InsideStmt _ _ (then_has InsideStmt _ _ shows) (either_has InsideStmt _ _ shows (then_has InsideStmt _ _
-    (bind_has IsSpelled InsideStmt (pset_grammar n) _ (pset_has n) (λ set one. pure_has InsideStmt (Assume set) (assume_inside set one)))))))
+    (bind_has SpelledSet InsideStmt (pset_grammar n) _ (pset_has n) (λ set one. pure_has InsideStmt (Assume set) (assume_inside set one)))))))
 
-pub literals_spelled : (stmt : Stmt) (ts : List Token) → All IsToken ts → s.Spells statement.statement_grammar stmt ts
-    → All IsSpelled (statement_literals stmt)
-unfolding InsideStmt Spelled
-literals_spelled stmt ts tokens spelled = (statement_has spelled.depth).by stmt ts tokens spelled.spelled
+module _ (stmt : Stmt) (ts : List Token) (tokens : All IsToken ts) (spelled : s.Spells statement.statement_grammar stmt ts) where
+  pub literals_spelled : All IsSpelled (statement_literals stmt)
+  unfolding InsideStmt Spelled
+  literals_spelled = ((statement_has spelled.depth).by stmt ts tokens spelled.spelled).0
+
+  pub full_spelled : FullStmt stmt
+  unfolding InsideStmt
+  full_spelled = ((statement_has spelled.depth).by stmt ts tokens spelled.spelled).1

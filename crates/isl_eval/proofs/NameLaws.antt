@@ -11,7 +11,6 @@ use Rattle.std.proofs.lemmas.Slice.Eq.{bytes_eq-Decides}
 use Rattle.isl_space.specs.Name.{is_identifier, is_reserved, IsLiteralName}
 use Rattle.isl_space.specs.Form.{IsNamed}
 use Rattle.isl_space.specs.SpaceForm.{IsNamedSpace}
-use Rattle.isl_token.specs.TokenView.{Token}
 use Rattle.isl_token.specs.TokenView as token
 use Rattle.isl_token.specs.declared.token.Kind.{Kind}
 use Rattle.isl_token.specs.declared.token.Kind.TheVariants as k

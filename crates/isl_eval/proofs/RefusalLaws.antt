@@ -135,12 +135,12 @@ module _ (before : Moment) (bytes : List ℕ) (stmt : Stmt) (read : IsRead befor
       is_not (is_parametric (scope_of before.state) before.options.at stmt) given
       (of_statement bytes stmt (λ stmt. is_parametric (scope_of before.state) before.options.at stmt ≡ true) read.spelled there)
 
-  pub clear : IsWorkable (scope_of before.state) before.options.at stmt → IsClear before bytes
-  clear able =
+  pub clear : {type : Option TypeView} → IsWorkable (scope_of before.state) before.options.at stmt type → IsClear before bytes
+  clear {type} able =
       none_both (IsThere before bytes) causes_of_bytes
       (unknown_name ∷ wrong_kind ∷ no_element ∷ parametric ∷ []) read.none
       (none_both (IsThere before bytes) (unknown_name ∷ wrong_kind ∷ no_element ∷ []) (parametric ∷ [])
-      (typed_none able.typed)
+      (typed_none (type, able.typed))
       (given_none able.given, tt))
 
   -- it has no type
@@ -158,8 +158,7 @@ module _ (before : Moment) (bytes : List ℕ) (stmt : Stmt) (read : IsRead befor
         other_type (Err refusal) (Err r.UnknownName) is (λ f. let g : r.NoElement ≡ r.UnknownName = sym e ∙ (let h = f in cc) in cc),
         inr (
           other_type (Err refusal) (Err r.WrongKind) is (λ f. let g : r.NoElement ≡ r.WrongKind = sym e ∙ (let h = f in cc) in cc),
-          inl
-              ((stmt, read.spelled, is ∙ ap Err e), e),
+          inl ((stmt, read.spelled, is ∙ ap Err e), e),
         ),
       )
 
@@ -188,7 +187,7 @@ module _ (before : Moment) (bytes : List ℕ) (stmt : Stmt) (read : IsRead befor
   unworkable_refuses refusal (inr (inr h)) = memory_refuses before bytes before.meter refl refusal h
 
   -- it is not evaluated, since numbers are not assumed, or asking that was cut
-  module _ (able : IsWorkable (scope_of before.state) before.options.at stmt) (now : Gauge) where
+  module _ {type : Option TypeView} (able : IsWorkable (scope_of before.state) before.options.at stmt type) (now : Gauge) where
     cut_asked : (what : Cut) → IsCutFor (AskedEnds before stmt ends.cut) before.meter now what
         → Refuses before bytes now (refusal_of_cut what)
     cut_asked cuts.Overflow why = (

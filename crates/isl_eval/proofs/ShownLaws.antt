@@ -2,7 +2,7 @@
 use mathlib.Core.Former.{Count}
 use Rattle.std.proofs.Common.{◌≡◌, ◌≢◌, ◌<◌, ◌≤◌, ◌∙◌, ◌↔◌, inl, inr, refl, sym, ap, ap₂, subst, take, ◌+◌}
 use Rattle.std.proofs.Common.{ℕ, ℤ, Bool, true, false, List, [], ◌∷◌, ◌++◌, length, Option, None, Some, Result, Ok, Err}
-use Rattle.std.specs.Prelude.{unsigned_abs, not, ◌||◌, ◌&&◌, if◌then◌else◌, is_some, IfOk, OnErr, OnOk, MatchOption, MatchResult}
+use Rattle.std.specs.Prelude.{unsigned_abs, not, ◌||◌, ◌&&◌, if◌then◌else◌, is_some, IfOk, OnOk, MatchOption, MatchResult}
 use Rattle.std.specs.Option.{option_and_then, option_map_or}
 use Rattle.std.specs.List.{All, list_any}
 use Rattle.std.proofs.lemmas.Bool.{false≢true, or_parts}
@@ -27,7 +27,8 @@ use Rattle.isl_assumed.specs.declared.assumed.Assumed.{Assumed}
 use Rattle.isl_assumed.specs.Assumed.{names_of, Assumes}
 use Rattle.isl_lower_params.specs.Params.{HasNoCoordinates, HoldsSome}
 use Rattle.isl_tree.specs.Known.{literal_is_known}
-use Rattle.isl_operators.specs.Formed.{OperatorForms, PairsWide, WordForms}
+use Rattle.isl_operators.specs.Operations.{WordMisses}
+use Rattle.isl_operators.specs.Formed.{WordForms}
 use Rattle.isl_scan.specs.declared.fault.ScanFault.{ScanFault}
 use Rattle.isl_scan.specs.declared.fault.ScanFault.TheVariants as scan_fault
 use Rattle.isl_scan.specs.Fault.{IsScanFault}
@@ -64,7 +65,7 @@ use Rattle.isl_kinds.proofs.PartLaws.{parts_of-Prefix, parts_of-Row}
 use Rattle.isl_values.specs.declared.list.ListPart.{ListPart}
 use Rattle.isl_values.specs.declared.list.ListPart.TheVariants.{First, Second}
 use Rattle.isl_values.specs.declared.list.ListValue.{ListValue}
-use Rattle.isl_values.specs.State.{AtAssumed, Binds, Fits, Kept, Moment, Narrows, StateView, HasNumbersUpTo, scope_of, type_of}
+use Rattle.isl_values.specs.State.{Binds, Fits, Kept, Moment, Narrows, StateView, HasNumbersUpTo, scope_of, type_of}
 use Rattle.isl_values.specs.Worked.{IsWorked}
 use Rattle.isl_values.specs.Live.{IsLiveUnder, IsSampleAt}
 use Rattle.isl_values.specs.Selection.{Selects, IsContentOf, IsGistOfTwo, IsKeptOf, IsSelected, IsSelectedAt, IsSelectedIn, IsTogetherOf, Keeps}
@@ -73,24 +74,23 @@ use Rattle.isl_values.specs.Three.{AreBothFlat, IsFlatAt}
 use Rattle.isl_values.specs.Made.{is_foreign, refusal_of_cut, uses_units, IsOfType, IsSoundExpr, IsValueOf, IsPaid, IsWhyUnmade}
 use Rattle.isl_values.specs.Made.{IsWhyUnworked}
 use Rattle.isl_values.specs.Ends.{End, because, cut, too_wide, no_minimum, unbounded, no_valuation, not_assumed}
-use Rattle.isl_values.specs.Ends.{CutAlone, Ends, FirstEnds, GoesOn, NarrowingEnds, NoEnd, OperationEnds, PairEnds}
+use Rattle.isl_values.specs.Ends.{CutAlone, Ends, GoesOn, NarrowingEnds}
 use Rattle.isl_values.proofs.FirstLaws.{EndAlike, alike_trans, goes_alike, goes_both, turned_alike}
 use Rattle.isl_values.proofs.FlatLaws.{written_itself}
 use Rattle.isl_values.proofs.EndsLaws.{ends_of-Row}
-use Rattle.isl_values.proofs.OutcomeLaws.{operation_goes}
 use Rattle.isl_values.proofs.PartLaws.{all_left, all_right, quiet_both, sound_links}
-use Rattle.isl_values.proofs.ValueLaws.{paid_works, same_limit, unworked_in}
+use Rattle.isl_values.proofs.ValueLaws.{match_map, paid_in, paid_works, same_limit, unworked_in}
 use Rattle.isl_eval.specs.Listed.{IsListed, AreFinite}
 use Rattle.isl_eval.specs.Machine.{Answer, Does, Shows, ShowsRow, ShowsValue, Step, listed, nothing, shown}
 use Rattle.isl_eval.specs.Ended.{is_listing, IsAssumedWhereListed, ListingEnds, NarrowedEnds, StatementEnds}
 use Rattle.isl_eval.specs.Tests.{is_test, RowHolds}
-use Rattle.isl_eval.specs.Evaluated.{made_parts, shown_parts, parts_around_test, works, IsTyped, IsEvaluable, IsWhyEnded}
+use Rattle.isl_eval.specs.Evaluated.{made_parts, shown_parts, parts_around_test, works, IsTyped, IsEvaluable}
 use Rattle.isl_eval.specs.Evaluation.{ends_with_test, context_in, is_asked, is_coalesce, keeps_selected, refusal_of_fault}
 use Rattle.isl_eval.specs.Evaluation.{AreKeptIn, EndsListing, EndsPair, EndsTest, EndsWork, IsKeptIn, IsMakeable, IsReadyTest, IsSampled}
-use Rattle.isl_eval.specs.Evaluation.{IsChosen, IsGistIn, IsPutAt, IsSimplified, IsTogether, IsValueWith}
-use Rattle.isl_eval.proofs.TypeLaws.{answered_ok, found_is, found_some, bind_typed, of_type, show_typed, typed_known}
+use Rattle.isl_eval.specs.Evaluation.{IsChosen, IsGistIn, IsOutcome, IsPutAt, IsSimplified, IsTogether, IsValueWith}
+use Rattle.isl_eval.proofs.TypeLaws.{answered_ok, found_is, bind_typed, of_type, show_typed, typed_known}
 use Rattle.isl_eval.proofs.TestLaws.{context_is, ends_at, made_of-Row, test_parts, unmade_by, unworked_on}
-use Rattle.isl_eval.proofs.EndsLaws.{word_cut, word_ends, word_goes_on}
+use Rattle.isl_eval.proofs.EndsLaws.{word_alike}
 use Rattle.isl_eval.proofs.ListedLaws.{listed_finite}
 use Rattle.isl_eval.proofs.AskedLaws.{asked_of-Prefix, asked_of-Row, ends_none, listing_of-Prefix, scan_word}
 
@@ -249,6 +249,9 @@ pub work_cut : (state : StateView) (operand : Expr) (g h k : Gauge) (refusal : R
 work_cut state operand g h k refusal goes charged why =
     unworked_on true CutAlone (EndsWork state operand) g h k refusal (λ end ends. inr (goes, ends)) charged (inl why)
 
+pub work_goes : (state : StateView) (operand : Expr) → GoesOn (Ends state operand) → GoesOn (EndsWork state operand)
+work_goes state operand goes = goes_both (Ends state operand) CutAlone goes (λ reason no. no)
+
 -- the limit stays
 pub flat_at : (state : StateView) (expr : Expr) (g h : Gauge) (value : KeptValue) → IsCharged g h
     → IsFlatAt state First expr (unsigned_abs (limit_of h)) value → IsFlatAt state First expr (unsigned_abs (limit_of g)) value
@@ -273,14 +276,6 @@ together_content : (state : StateView) (operand : Expr) (value : KeptValue)
 unfolding hidden-the_row-Expr-0 denote.Hole.Carrier.hidden
 together_content state operand value h = h
 
-made_of-Sample : (operand : Expr) → made_parts (e.Prefix p.Sample operand) ≡ parts_of operand
-unfolding hidden-the_row-Expr-0 denote.Hole.Carrier.hidden
-made_of-Sample operand = refl
-
-made_of-Coalesce : (operand : Expr) → made_parts (e.Prefix p.Coalesce operand) ≡ part.prefix p.Coalesce ∷ parts_of operand
-unfolding hidden-the_row-Expr-0 denote.Hole.Carrier.hidden
-made_of-Coalesce operand = refl
-
 shown_of-Scan : (operand : Expr) → shown_parts (e.Prefix p.Scan operand) ≡ parts_of operand
 unfolding hidden-the_row-Expr-0 denote.Hole.Carrier.hidden
 shown_of-Scan operand = refl
@@ -301,80 +296,98 @@ at_word : (known word : Word) (expr operand x : Expr) → expr ≡ e.Prefix word
 at_word known word expr operand x is which same =
     is ∙ ap (λ (w : Word). e.Prefix w operand) which ∙ ap (e.Prefix known) (sym same)
 
--- the word forms no space, and its work begins where the operand goes on
-work_ends : (state : StateView) (word : Word) (operand : Expr) → ((s formed : SpaceForm) → ¬ WordForms word s formed) → (why : End)
-    → EndsWork state operand why → Ends state (e.Prefix word operand) why
-work_ends state word operand none why (inl ends) = word_ends state word operand why ends
-work_ends state word operand none (because reason) (inr h) = absurd h.1
-work_ends state word operand none cut (inr h) = word_cut state word operand none h.0
+or_true : (b : Bool) → (b || true) ≡ true
+or_true true = refl
+or_true false = refl
 
-module _ (state : StateView) (expr operand : Expr) (word : Word) (is : expr ≡ e.Prefix word operand) where
-  sample_is : word ≡ p.Sample → expr ≡ e.Prefix p.Sample operand
-  sample_is which = at_word p.Sample word expr operand operand is which refl
+-- `sample` and `coalesce` form no space, look for nothing, and are work
+abbrev makes_once : Word → Bool
+makes_once word = is_sample word || is_coalesce word
 
-  together_at : word ≡ p.Coalesce → expr ≡ e.Prefix p.Coalesce operand
-  together_at which = at_word p.Coalesce word expr operand operand is which refl
+pub once_sample : (word : Word) → is_sample word ≡ true → (is_sample word || is_coalesce word) ≡ true
+once_sample word is = ap (λ (b : Bool). b || is_coalesce word) is
 
-  module _ (which : word ≡ p.Sample) where
-    pub sample_sound : IsMakeable (scope_of state) expr → IsSoundExpr (scope_of state) operand
-    sample_sound able =
-        let here = subst (IsMakeable (scope_of state)) (sample_is which) able in
-        word_sound (scope_of state) p.Sample operand (sym (ap (list_any is_foreign) (made_of-Sample operand)) ∙ here.plain) here.known
-        here.literals
+pub once_coalesce : (word : Word) → is_coalesce word ≡ true → (is_sample word || is_coalesce word) ≡ true
+once_coalesce word is = ap (λ (b : Bool). is_sample word || b) is ∙ or_true (is_sample word)
 
-    pub sample_works : true ≡ list_any (uses_units state.assumed) (parts_of expr)
-    sample_works = sym (ap (λ (y : Expr). list_any (uses_units state.assumed) (parts_of y)) (sample_is which)
-        ∙ ap (list_any (uses_units state.assumed)) (parts_of-Prefix p.Sample operand))
+once_forms : (word : Word) → makes_once word ≡ true → (s formed : SpaceForm) → ¬ WordForms word s formed
+once_forms p.Sample once s formed h = h
+once_forms p.Coalesce once s formed h = h
+once_forms _ once s formed h = absurd (false≢true once)
 
-    pub sample_ends : (why : End) → EndsWork state operand why → Ends state expr why
-    sample_ends why ends =
-        subst (λ (y : Expr). Ends state y why) (sym (sample_is which)) (work_ends state p.Sample operand (λ s formed h. h) why ends)
+once_finds : (word : Word) (Operand : Valuation → Element → Type 0) → makes_once word ≡ true → ¬ WordMisses word Operand
+once_finds p.Sample Operand once h = h
+once_finds p.Coalesce Operand once h = h
+once_finds _ Operand once h = absurd (false≢true once)
 
-    pub sample_goes_on : GoesOn (Ends state operand) → GoesOn (Ends state expr)
-    sample_goes_on goes =
-        subst (λ (y : Expr). GoesOn (Ends state y)) (sym (sample_is which))
-        (word_goes_on state p.Sample operand (λ s formed h. h) (λ h. h) goes)
+once_uses : (assumed : Assumed) (word : Word) → makes_once word ≡ true → uses_units assumed (part.prefix word) ≡ true
+once_uses assumed p.Sample once = refl
+once_uses assumed p.Coalesce once = refl
+once_uses assumed _ once = absurd (false≢true once)
 
-    pub sample_kept : (limit : ℤ) (value : KeptValue) → IsSampled state operand (unsigned_abs limit) value → IsKeptIn state limit expr value
-    sample_kept limit value of =
-        subst (λ (y : Expr). IsKeptIn state limit y value) (sym (sample_is which))
-        (with_kept state limit First (e.Prefix p.Sample operand) value _ _ of (sample_content state operand value)
-        (sym (declared_of-Prefix (scope_of state) p.Sample operand)))
+once_parts : (word : Word) (operand : Expr) → makes_once word ≡ true
+    → list_any is_foreign (made_parts (e.Prefix word operand)) ≡ list_any is_foreign (parts_of operand)
+unfolding hidden-the_row-Expr-0 denote.Hole.Carrier.hidden
+once_parts p.Sample operand once = refl
+once_parts p.Coalesce operand once = refl
+once_parts _ operand once = absurd (false≢true once)
 
-  module _ (which : word ≡ p.Coalesce) where
-    pub together_sound : IsMakeable (scope_of state) expr → IsSoundExpr (scope_of state) operand
-    together_sound able =
-        let here = subst (IsMakeable (scope_of state)) (together_at which) able in
-        word_sound (scope_of state) p.Coalesce operand (sym (ap (list_any is_foreign) (made_of-Coalesce operand)) ∙ here.plain) here.known
-        here.literals
+module _ (state : StateView) (expr operand : Expr) (word : Word) (is : expr ≡ e.Prefix word operand)
+    (once : (is_sample word || is_coalesce word) ≡ true) where
+  pub once_sound : IsMakeable (scope_of state) expr → IsSoundExpr (scope_of state) operand
+  once_sound able =
+      let here = subst (IsMakeable (scope_of state)) is able in
+      word_sound (scope_of state) word operand (sym (once_parts word operand once) ∙ here.plain) here.known here.literals
 
-    pub together_works : true ≡ list_any (uses_units state.assumed) (parts_of expr)
-    together_works = sym (ap (λ (y : Expr). list_any (uses_units state.assumed) (parts_of y)) (together_at which)
-        ∙ ap (list_any (uses_units state.assumed)) (parts_of-Prefix p.Coalesce operand))
+  pub once_works : true ≡ list_any (uses_units state.assumed) (parts_of expr)
+  once_works =
+      sym (ap (λ (y : Expr). list_any (uses_units state.assumed) (parts_of y)) is
+      ∙ ap (list_any (uses_units state.assumed)) (parts_of-Prefix word operand)
+      ∙ ap (λ (b : Bool). b || list_any (uses_units state.assumed) (parts_of operand)) (once_uses state.assumed word once))
 
-    pub together_ends : (why : End) → EndsWork state operand why → Ends state expr why
-    together_ends why ends =
-        subst (λ (y : Expr). Ends state y why) (sym (together_at which)) (work_ends state p.Coalesce operand (λ s formed h. h) why ends)
+  pub once_alike : EndAlike (EndsWork state operand) (Ends state expr)
+  once_alike =
+      subst (λ (y : Expr). EndAlike (EndsWork state operand) (Ends state y)) (sym is)
+      (word_alike state word operand (once_forms word once) (λ Operand. once_finds word Operand once))
 
-    pub together_goes_on : GoesOn (Ends state operand) → GoesOn (Ends state expr)
-    together_goes_on goes =
-        subst (λ (y : Expr). GoesOn (Ends state y)) (sym (together_at which))
-        (word_goes_on state p.Coalesce operand (λ s formed h. h) (λ h. h) goes)
+  kept_of : (known : Word) (limit : ℤ) (value : KeptValue) (Content : KeptValue → Type 0) → word ≡ known
+      → IsValueWith state.assumed Content (declared_of (scope_of state) operand) (unsigned_abs limit) value
+      → (Content value → IsContentOf state First (e.Prefix known operand) value) → IsKeptIn state limit expr value
+  kept_of known limit value Content which of content =
+      subst (λ (y : Expr). IsKeptIn state limit y value) (sym (at_word known word expr operand operand is which refl))
+      (with_kept state limit First (e.Prefix known operand) value _ _ of content (sym (declared_of-Prefix (scope_of state) known operand)))
 
-    pub together_kept : (limit : ℤ) (value : KeptValue) → IsTogether state operand (unsigned_abs limit) value
-        → IsKeptIn state limit expr value
-    together_kept limit value of =
-        subst (λ (y : Expr). IsKeptIn state limit y value) (sym (together_at which))
-        (with_kept state limit First (e.Prefix p.Coalesce operand) value _ _ of (together_content state operand value)
-        (sym (declared_of-Prefix (scope_of state) p.Coalesce operand)))
+  pub sample_kept : word ≡ p.Sample → (limit : ℤ) (value : KeptValue) → IsSampled state operand (unsigned_abs limit) value
+      → IsKeptIn state limit expr value
+  sample_kept which limit value of = kept_of p.Sample limit value _ which of (sample_content state operand value)
 
-pub paid_working : (works : Bool) (g h : Gauge) → true ≡ works → IsCharged g h → IsPaid works g h
-paid_working works g h is charged = record { charged = charged; free = λ none. absurd (false≢true (sym none ∙ sym is)) }
+  pub together_kept : word ≡ p.Coalesce → (limit : ℤ) (value : KeptValue) → IsTogether state operand (unsigned_abs limit) value
+      → IsKeptIn state limit expr value
+  together_kept which limit value of = kept_of p.Coalesce limit value _ which of (together_content state operand value)
 
-pub unworked_working : (works : Bool) (Part Whole : End → Type 0) (g h : Gauge) (refusal : Refusal) → true ≡ works
-    → ((why : End) → Part why → Whole why) → IsWhyUnworked true Part g h refusal → IsWhyUnworked works Whole g h refusal
-unworked_working works Part Whole g h refusal is ends why =
-    unworked_in works true Part Whole g h refusal (λ none. absurd (false≢true (sym none ∙ sym is))) ends why
+-- ---- what calls leave
+-- what is made of what a part makes, which ends as the whole does
+pub outcome_in : {A : Type 0} (result : Result A Refusal) (all works : Bool) (Part Whole : End → Type 0) (P Q : A → Type 0) (g h : Gauge)
+    → (all ≡ false → works ≡ false) → EndAlike Part Whole → ((a : A) → P a → Q a) → IsOutcome works Part g h P result
+    → IsOutcome all Whole g h Q result
+outcome_in result all works Part Whole P Q g h quiet same into made =
+    match_map result _ _ _ _ (λ a x. (into a x.0, paid_in all works g h quiet x.1, goes_alike Part Whole same x.2))
+    (λ refusal why. unworked_in all works Part Whole g h refusal quiet (λ end ends. (same end).0 ends) why) made
+
+-- the same behind other work
+pub outcome_after : {A : Type 0} (result : Result A Refusal) (Part Whole : End → Type 0) (P Q : A → Type 0) (g h k : Gauge) → IsCharged g h
+    → ((why : End) → Part why → Whole why) → (GoesOn Part → GoesOn Whole) → ((a : A) → P a → Q a) → IsOutcome true Part h k P result
+    → IsOutcome true Whole g k Q result
+outcome_after result Part Whole P Q g h k charged ends goes into made =
+    match_map result _ _ _ _ (λ a x. (into a x.0, paid_works g k (IsCharged_trans g h k charged x.1.charged), goes x.2))
+    (λ refusal why. unworked_on true Part Whole g h k refusal ends charged why) made
+
+-- what a call makes that tells apart whether it ends
+pub outcome_of : {A : Type 0} (result : Result A Refusal) (works : Bool) (Whole : End → Type 0) (P Q : A → Type 0) (g h : Gauge)
+    → ((a : A) → P a → Q a) → MatchResult result (λ a. P a × IsPaid works g h) (IsWhyUnworked works Whole g h)
+    → IfOk result (λ _. GoesOn Whole) → IsOutcome works Whole g h Q result
+outcome_of (Ok a) works Whole P Q g h into made goes = (into a made.0, made.1, goes)
+outcome_of (Err refusal) works Whole P Q g h into why goes = why
 
 -- ---- what is shown
 -- the moment of a state and a meter
@@ -470,19 +483,10 @@ module _ (before : Moment) (expr operand x : Expr) (word : Word) (is : expr ≡ 
   unfolding Listing
   scan_shows answer h = subst (λ (y : Expr). Shows before y answer) (sym scan_is) (shows_of-Scan before x answer h)
 
-  scan_ends : EndAlike (EndsListing before.state x before.options.at) (StatementEnds before (Show expr))
+  pub scan_ends : EndAlike (EndsListing before.state x before.options.at) (StatementEnds before (Show expr))
   scan_ends =
       subst (λ (y : Expr). EndAlike (EndsListing before.state x before.options.at) (StatementEnds before (Show y))) (sym scan_is)
       (ends_of-Scan before x)
-
-  pub scan_goes_on : GoesOn (EndsListing before.state x before.options.at) → GoesOn (StatementEnds before (Show expr))
-  scan_goes_on goes = goes_alike (EndsListing before.state x before.options.at) (StatementEnds before (Show expr)) scan_ends goes
-
-  pub scan_ended : (now : Gauge) (refusal : Refusal)
-      → IsWhyUnworked true (EndsListing before.state x before.options.at) before.meter now refusal → IsWhyEnded before (Show expr) now refusal
-  scan_ended now refusal why =
-      unworked_working (list_any Units (parts_of expr)) (EndsListing before.state x before.options.at) (StatementEnds before (Show expr))
-      before.meter now refusal scan_works (λ end ends. (scan_ends end).0 ends) why
 
 -- ---- what is around a test
 none_both : (test : Part → Bool) (xs ys : List Part) → list_any test xs ≡ false → list_any test ys ≡ false
@@ -542,10 +546,6 @@ test_ready scope expr first x links list before last is same are split test able
     }
 
 -- ---- what is shown of a row with a test at its end
-or_true : (b : Bool) → (b || true) ≡ true
-or_true true = refl
-or_true false = refl
-
 module _ (assumed : Assumed) where
   abbrev Uses : Part → Bool
   Uses = uses_units assumed
@@ -656,53 +656,6 @@ module _ (state : StateView) (expr first right : Expr) (links : List Link) (is :
       subst (λ (y : Expr). IsKeptIn state limit y value) (sym gist_is)
       (with_kept state limit First (Row first (gist_row right)) value _ _ made (gist_content state first right value)
       (sym (declared_of-Row (scope_of state) first (gist_row right))))
-
--- what ends it, operand by operand
-module _ (state : StateView) (left right : Expr) (goes : GoesOn (Ends state left)) where
-  abbrev Both : List Name
-  Both = joined_names (declared_of (scope_of state) left) (declared_of (scope_of state) right)
-
-  abbrev Operation : End → Type 0
-  Operation =
-      PairEnds (OperatorForms b.Gist) (declared_of (scope_of state) left) (declared_of (scope_of state) right)
-      (AtAssumed state (λ v x. Selects state left v x)) (AtAssumed state (λ v x. Selects state right v x))
-
-  pub pair_right : (why : End) → Ends state right why → EndsPair state left b.Gist right why
-  pair_right why ends = inr (goes, inl ends)
-
-  module _ (go : GoesOn (Ends state right)) where
-    abbrev Wide : Type 0
-    Wide =
-        PairsWide (OperatorForms b.Gist) (AtAssumed state (λ v x. Selects state left v x)) (AtAssumed state (λ v x. Selects state right v x))
-
-    narrow : ¬ Wide
-    narrow wide = wide.5
-
-    pub pair_wide : most_parameters < length (joined_names (declared_of (scope_of state) left) (declared_of (scope_of state) right))
-        → EndsPair state left b.Gist right (because too_wide)
-    pair_wide many = inr (goes, inr (go, inl (inl many)))
-
-    pub pair_cut : length (joined_names (declared_of (scope_of state) left) (declared_of (scope_of state) right)) ≤ most_parameters
-        → EndsPair state left b.Gist right cut
-    pair_cut few = inr (goes, inr (go, inl (few, narrow)))
-
-    -- an operation of two values with these parameters ends as the row does
-    pub pair_ended : (names : List Name) → names ≡ joined_names (declared_of (scope_of state) left) (declared_of (scope_of state) right)
-        → (why : End) → OperationEnds names ⊥ ⊥ why → EndsPair state left b.Gist right why
-    pair_ended names is (because too_wide) (inl many) = pair_wide (subst (λ (ns : List Name). most_parameters < length ns) is many)
-    pair_ended names is (because too_wide) (inr few) = absurd few.1
-    pair_ended names is (because no_minimum) h = absurd h.2
-    pair_ended names is (because unbounded) h = absurd h
-    pair_ended names is (because no_valuation) h = absurd h
-    pair_ended names is (because not_assumed) h = absurd h
-    pair_ended names is cut h = pair_cut (subst (λ (ns : List Name). length ns ≤ most_parameters) is h.0)
-
-    pub pair_goes : length (joined_names (declared_of (scope_of state) left) (declared_of (scope_of state) right)) ≤ most_parameters
-        → GoesOn (EndsPair state left b.Gist right)
-    pair_goes few =
-        goes_both (Ends state left) (FirstEnds (Ends state right) (FirstEnds Operation NoEnd)) goes
-        (goes_both (Ends state right) (FirstEnds Operation NoEnd) go
-        (goes_both Operation NoEnd (operation_goes Both Wide ⊥ few narrow (λ h. h)) (λ reason h. h)))
 
 -- what it makes of two values
 module _ (state : StateView) (left right : Expr) (limit : ℕ) (value context : KeptValue) (own : IsFlatAt state First left limit value)
@@ -832,12 +785,6 @@ module _ (scope : ScopeView) (stmt : Stmt) (name : Name) (expr : Expr) (is : stm
       → kind_of scope expr ≡ Some kind
   bind_kind t kind typed same = (bind_type t typed).kind ∙ ap Some (sym same)
 
-pub bind_other : (stmt : Stmt) (name : Name) (expr : Expr) (set : Literal) → stmt ≡ Bind name expr → stmt ≢ Assume set
-bind_other stmt name expr set is other = let no : Bind name expr ≡ Assume set = sym is ∙ other in cc
-
-pub show_other : (stmt : Stmt) (expr : Expr) (set : Literal) → stmt ≡ Show expr → stmt ≢ Assume set
-show_other stmt expr set is other = let no : Show expr ≡ Assume set = sym is ∙ other in cc
-
 -- what an assumption has that may be evaluated
 module _ (scope : ScopeView) (stmt : Stmt) (set : Literal) (is : stmt ≡ Assume set) (able : IsEvaluable scope stmt) where
   here : IsEvaluable scope (Assume set)
@@ -852,12 +799,6 @@ module _ (scope : ScopeView) (stmt : Stmt) (set : Literal) (is : stmt ≡ Assume
   pub set_formulas : All HasNoCoordinates set.pieces
   set_formulas = here.formulas
 
-pub bind_full : (stmt : Stmt) (name : Name) (expr : Expr) → stmt ≡ Bind name expr → stmt ≢ Empty
-bind_full stmt name expr is none = let no : Bind name expr ≡ Empty = sym is ∙ none in cc
-
-pub show_full : (stmt : Stmt) (expr : Expr) → stmt ≡ Show expr → stmt ≢ Empty
-show_full stmt expr is none = let no : Show expr ≡ Empty = sym is ∙ none in cc
-
 pub kept_type : (state : StateView) (meter : Gauge) (expr : Expr) (kept : Kept) (t : TypeView) → IsOfType (scope_of state) expr t
     → AreKeptIn state (limit_of meter) expr kept → t ≡ type_of kept
 kept_type state meter expr kept t typed of =
@@ -867,28 +808,15 @@ kept_type state meter expr kept t typed of =
     ap₂ (λ (k : ValueKind) (ps : List Name). record { kind = k; params = ps }) kind (sym typed.params ∙ keeps.value.params)
 
 -- ---- the type of a statement
-pub found_type : (scope s : ScopeView) (stmt : Stmt) (o : Option TypeView) (t : TypeView) → s ≡ scope
-    → TypeAnswers (Ok o) (type_of_statement s stmt) → o ≡ Some t → type_of_statement scope stmt ≡ Ok (Some t)
-found_type scope s stmt o t same typed some =
-    subst (λ (z : ScopeView). type_of_statement z stmt ≡ Ok (Some t)) same
-    (answered_ok o (type_of_statement s stmt) typed ∙ ap Ok some)
-
-pub not_empty : (scope s : ScopeView) (stmt : Stmt) (o : Option TypeView) → s ≡ scope → TypeAnswers (Ok o) (type_of_statement s stmt)
-    → o ≡ None → stmt ≢ Empty → ((set : Literal) → stmt ≢ Assume set) → ⊥
-not_empty scope s stmt o same typed none full plain = by stmt full plain (answered_ok o (type_of_statement s stmt) typed ∙ ap Ok none)
-  where
-    by : (x : Stmt) → x ≢ Empty → ((set : Literal) → x ≢ Assume set) → type_of_statement s x ≡ Ok None → ⊥
-    by Empty full plain is = full refl
-    by (Bind name expr) full plain is = found_some (type_for purpose.Bound s expr) is
-    by (Show expr) full plain is = found_some (type_for purpose.Shown s expr) is
-    by (Assume set) full plain is = plain set refl
-
-pub memory_alone : (scope s : ScopeView) (stmt : Stmt) (refusal : Refusal) → s ≡ scope → IsTyped scope stmt
-    → TypeAnswers (Err refusal) (type_of_statement s stmt) → refusal ≡ NoMemory
-memory_alone scope s stmt refusal same typed (inl is) =
+pub type_found : (scope s : ScopeView) (stmt : Stmt) (result : Result (Option TypeView) Refusal) → s ≡ scope → IsTyped scope stmt
+    → TypeAnswers result (type_of_statement s stmt)
+    → MatchResult result (λ t. type_of_statement scope stmt ≡ Ok t) (λ refusal. refusal ≡ NoMemory)
+type_found scope s stmt (Ok t) same typed answers =
+    subst (λ (z : ScopeView). type_of_statement z stmt ≡ Ok t) same (answered_ok t (type_of_statement s stmt) answers)
+type_found scope s stmt (Err refusal) same typed (inl is) =
     let here : type_of_statement s stmt ≡ Ok typed.0 = subst (λ (z : ScopeView). type_of_statement z stmt ≡ Ok typed.0) (sym same) typed.1 in
     let no : Err refusal ≡ Ok typed.0 = is ∙ here in cc
-memory_alone scope s stmt refusal same typed (inr is) = let no : Err refusal ≡ Err NoMemory = is in cc
+type_found scope s stmt (Err refusal) same typed (inr is) = let no : Err refusal ≡ Err NoMemory = is in cc
 
 -- the word of what is asked for is `scan`, and the last operator a test
 pub asked_scan : (expr operand : Expr) (word : Word) → expr ≡ e.Prefix word operand → is_asked expr ≡ true → word ≡ p.Scan
@@ -1003,20 +931,14 @@ module _ (state : StateView) (tree : Literal) (set : Assumed) (names : names_of 
 
   -- what the call leaves that narrows the assumed valuations to those of the set
   pub narrowed_made : (g h k : Gauge) (after : StateView) (result : Result (Unit {0}) Refusal) → IsCharged g h
-      → OnOk result (Narrows state (names_of set) (Assumes set) after) → OnErr result (after ≡ state)
+      → OnOk result (Narrows state (names_of set) (Assumes set) after)
       → MatchResult result (λ _. IsCharged h k) (IsWhyUnworked true (NarrowingEnds state.assumed (names_of set) (Assumes set)) h k)
-      → MatchResult result (λ _. Narrows state tree.params (HoldsSome tree) after × IsCharged g k)
-      (λ refusal. IsWhyUnworked true (NarrowedEnds state tree) g k refusal × (after ≡ state))
-  narrowed_made g h k after (Ok done) charged narrows same paid = (narrows_tree after narrows, IsCharged_trans g h k charged paid)
-  narrowed_made g h k after (Err refusal) charged narrows same why = (
-    unworked_on true (NarrowingEnds state.assumed (names_of set) (Assumes set)) (NarrowedEnds state tree) g h k refusal narrowed_ends charged why,
-    same,
-  )
-
-  pub narrowed_on : (result : Result (Unit {0}) Refusal) → OnOk result (GoesOn (NarrowingEnds state.assumed (names_of set) (Assumes set)))
-      → OnOk result (GoesOn (NarrowedEnds state tree))
-  narrowed_on (Ok done) goes = narrowed_goes goes
-  narrowed_on (Err refusal) goes = tt
+      → OnOk result (GoesOn (NarrowingEnds state.assumed (names_of set) (Assumes set)))
+      → IsOutcome true (NarrowedEnds state tree) g k (λ _. Narrows state tree.params (HoldsSome tree) after) result
+  narrowed_made g h k after (Ok done) charged narrows paid goes =
+      (narrows_tree after narrows, paid_works g k (IsCharged_trans g h k charged paid), narrowed_goes goes)
+  narrowed_made g h k after (Err refusal) charged narrows why goes =
+      unworked_on true (NarrowingEnds state.assumed (names_of set) (Assumes set)) (NarrowedEnds state tree) g h k refusal narrowed_ends charged why
 
 -- lowering it is cut
 pub narrowed_cut : (state : StateView) (tree : Literal) (g h : Gauge) (what : Cut) (refusal : Refusal) → IsCutBy g h what
@@ -1069,14 +991,12 @@ module _ (before : Moment) (stmt : Stmt) where
     options = options;
   }
 
-  pub show_answered : (now : Gauge) (expr : Expr) (works : Bool) (Why : Refusal → Type 0) (result : Result Answer Refusal)
-      → stmt ≡ Show expr
-      → MatchResult result (λ answer. Shows before expr answer × IsPaid works before.meter now) Why
-      → IfOk result (λ _. GoesOn (StatementEnds before (Show expr)))
+  pub show_answered : (now : Gauge) (expr : Expr) (works : Bool) (result : Result Answer Refusal) → stmt ≡ Show expr
+      → IsOutcome works (StatementEnds before (Show expr)) before.meter now (Shows before expr) result
       → IfOk result (Step before stmt (record before { meter = now }))
-  show_answered now expr works Why (Ok answer) is made goes =
-      show_step (record before { meter = now }) expr answer is refl refl made.1.charged goes made.0
-  show_answered now expr works Why (Err refusal) is made goes = tt
+  show_answered now expr works (Ok answer) is made =
+      show_step (record before { meter = now }) expr answer is refl refl made.1.charged made.2 made.0
+  show_answered now expr works (Err refusal) is made = tt
 
   -- an assumption
   pub narrow_step : (after : Moment) (set : Literal) → stmt ≡ Assume set → after.options ≡ before.options → IsCharged before.meter after.meter
@@ -1097,10 +1017,3 @@ module _ (before : Moment) (stmt : Stmt) where
     meter = charged;
     options = options;
   }
-
--- a statement whose evaluation ends as this does
-pub whole_ended : (before : Moment) (stmt : Stmt) (Part : End → Type 0) (works : Bool) (now : Gauge) (refusal : Refusal)
-    → EndAlike Part (StatementEnds before stmt) → IsWhyUnworked works Part before.meter now refusal
-    → IsWhyUnworked works (StatementEnds before stmt) before.meter now refusal
-whole_ended before stmt Part works now refusal same why =
-    unworked_in works works Part (StatementEnds before stmt) before.meter now refusal (λ none. none) (λ end ends. (same end).0 ends) why

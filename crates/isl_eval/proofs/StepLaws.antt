@@ -44,7 +44,7 @@ use Rattle.isl_eval.specs.Causes.{AreDone, IsEnded, Refuses, RefusesBecause}
 use Rattle.isl_eval.specs.Ended.{AskedEnds, IsAssumedWhereListed, StatementEnds}
 use Rattle.isl_eval.specs.Run.{Answers}
 use Rattle.isl_eval.specs.Evaluated.{IsEvaluable, IsWhyEnded, works}
-use Rattle.isl_eval.specs.Evaluation.{AreEvaluable, AreLeft, IsRead, IsTaken, IsWhyStopped, IsWorkable, StopsAt}
+use Rattle.isl_eval.specs.Evaluation.{AreEvaluable, AreLeft, IsClearStatement, IsTaken, IsWhyStopped, StopsAt}
 use Rattle.isl_eval.proofs.ChainLaws.{one_alone, one_of}
 use Rattle.isl_eval.proofs.TypeLaws.{bind_typed}
 use Rattle.isl_eval.proofs.RefusalLaws.{clear, has_work, no_work}
@@ -125,9 +125,10 @@ kept_live now expr kept keeps Second = by kept.second keeps.second
     by (Some value) is = is.live
 
 -- ---- what is left
-pub left_start : (before : Moment) (statements : List Stmt) → AreEvaluable (scope_of before.state) statements
+pub left_start : {type : Option TypeView} (before : Moment) (statements : List Stmt)
+    → AreEvaluable (scope_of before.state) statements type
     → Fits (limit_of before.meter) before.state
-    → AreLeft before before [] statements
+    → AreLeft before before [] statements type
 unfolding AreDone
 left_start before statements ready fits = record {
   ready = ready;
@@ -142,11 +143,12 @@ left_start before statements ready fits = record {
 pub left_assumed : (before now : Moment) → forgotten now.state ≡ forgotten before.state → now.state.assumed ≡ before.state.assumed
 left_assumed before now others = ap (λ (s : StateView). s.assumed) others
 
-pub left_next : (before now next : Moment) (done : List Stmt) (stmt : Stmt) (other : Stmt) (left : List Stmt) (answer : Answer)
-    → AreLeft before now done (stmt ∷ other ∷ left) → Step now stmt next answer → IsPaid (works now.state.assumed stmt) now.meter next.meter
+pub left_next : {type : Option TypeView} (before now next : Moment) (done : List Stmt) (stmt : Stmt) (other : Stmt) (left : List Stmt)
+    (answer : Answer)
+    → AreLeft before now done (stmt ∷ other ∷ left) type → Step now stmt next answer → IsPaid (works now.state.assumed stmt) now.meter next.meter
     → ((name : List ℕ) (expr : Expr) → stmt ≡ Bind name expr → is_dollar name ≡ true → forgotten next.state ≡ forgotten now.state)
     → Fits (limit_of now.meter) next.state
-    → AreLeft before next (done ++ stmt ∷ []) (other ∷ left) × (answer ≡ nothing)
+    → AreLeft before next (done ++ stmt ∷ []) (other ∷ left) type × (answer ≡ nothing)
 left_next before now next done (Bind name expr) other left answer h step paid dollar fits =
     let kept = step.does.0.0 in
     let keeps = step.does.0.1 in
@@ -171,22 +173,24 @@ left_next before now next done (Show expr) other left answer h step paid dollar 
 left_next before now next done (Assume set) other left answer h step paid dollar fits = absurd h.ready
 
 -- what is left may be evaluated first
-pub left_first : (before now : Moment) (done : List Stmt) (stmt : Stmt) (left : List Stmt) → AreLeft before now done (stmt ∷ left)
+pub left_first : {type : Option TypeView} (before now : Moment) (done : List Stmt) (stmt : Stmt) (left : List Stmt)
+    → AreLeft before now done (stmt ∷ left) type
     → IsEvaluable (scope_of now.state) stmt × Fits (limit_of now.meter) now.state
-left_first before now done stmt left h = (
+left_first {type} before now done stmt left h = (
   ready stmt left h.ready,
   subst (λ (z : ℤ). Fits z now.state)
       (sym (same_limit before.meter now.meter h.paid.charged)) h.fits,
 )
   where
-    ready : (stmt : Stmt) (left : List Stmt) → AreEvaluable (scope_of now.state) (stmt ∷ left) → IsEvaluable (scope_of now.state) stmt
-    ready stmt [] h = h
+    ready : (stmt : Stmt) (left : List Stmt) → AreEvaluable (scope_of now.state) (stmt ∷ left) type → IsEvaluable (scope_of now.state) stmt
+    ready stmt [] h = h.0
     ready (Bind name expr) (other ∷ left) h = h.3
     ready Empty (other ∷ left) h = absurd h
     ready (Show expr) (other ∷ left) h = absurd h
     ready (Assume set) (other ∷ left) h = absurd h
 
-pub left_paid : (before now after : Moment) (done : List Stmt) (last : Stmt) → AreLeft before now done (last ∷ [])
+pub left_paid : {type : Option TypeView} (before now after : Moment) (done : List Stmt) (last : Stmt)
+    → AreLeft before now done (last ∷ []) type
     → IsPaid (works now.state.assumed last) now.meter after.meter
     → IsPaid (list_any (works before.state.assumed) (done ++ last ∷ [])) before.meter after.meter
 left_paid before now after done last h paid =
@@ -195,20 +199,10 @@ left_paid before now after done last h paid =
     (λ none. works_at before.state.assumed done last [] none) h.paid
     (subst (λ (a : Assumed). IsPaid (works a last) now.meter after.meter) (left_assumed before now h.others) paid)
 
--- the last is answered
-pub left_answered : (before now after : Moment) (done : List Stmt) (last : Stmt) (answer : Answer) → AreLeft before now done (last ∷ [])
-    → Step now last after answer
-    → IsPaid (works now.state.assumed last) now.meter after.meter
-    → Steps before (done ++ last ∷ []) after answer
-    × IsPaid (list_any (works before.state.assumed) (done ++ last ∷ [])) before.meter after.meter
-left_answered before now after done last answer h step paid = (
-  last_done before now after done last answer h.steps step,
-  left_paid before now after done last h paid,
-)
-
 -- one is not
-pub left_stopped : (before now : Moment) (done : List Stmt) (stmt : Stmt) (left : List Stmt) (gauge : Gauge) (refusal : Refusal)
-    → AreLeft before now done (stmt ∷ left) → IsWhyEnded now stmt gauge refusal → IsWhyStopped before (done ++ stmt ∷ left) gauge refusal
+pub left_stopped : {type : Option TypeView} (before now : Moment) (done : List Stmt) (stmt : Stmt) (left : List Stmt) (gauge : Gauge)
+    (refusal : Refusal)
+    → AreLeft before now done (stmt ∷ left) type → IsWhyEnded now stmt gauge refusal → IsWhyStopped before (done ++ stmt ∷ left) gauge refusal
 left_stopped before now done stmt left gauge refusal h why =
     let assumed = before.state.assumed in
     unworked_after (list_any (works assumed) (done ++ stmt ∷ left)) (list_any (works assumed) done) (works assumed stmt) (StatementEnds now stmt)
@@ -216,6 +210,11 @@ left_stopped before now done stmt left gauge refusal h why =
     (λ none. works_at assumed done stmt left none) (λ end ends. (done, stmt, left, refl, (now, h.steps, ends))) h.paid
     (subst (λ (a : Assumed). IsWhyUnworked (works a stmt) (StatementEnds now stmt) now.meter gauge refusal)
     (left_assumed before now h.others) why)
+
+-- the last has the type
+pub last_typed : {type : Option TypeView} (before now : Moment) (done : List Stmt) (last : Stmt) → AreLeft before now done (last ∷ []) type
+    → type_of_statement (scope_of now.state) last ≡ Ok type
+last_typed before now done last h = h.ready.1
 
 -- where there is one statement alone
 pub turn_alone : {A : Type 0} (statements others : List Stmt) (last only : Stmt) (i : ℕ) → statements ≡ others ++ last ∷ []
@@ -230,9 +229,9 @@ none_done : (before now : Moment) (done : List Stmt) → done ≡ [] → AreDone
 unfolding AreDone
 none_done before now done none steps = subst (λ (s : List Stmt). AreDone before s now) none steps
 
-pub alone_settled : (before now : Moment) (statements others : List Stmt) (last only : Stmt) (after : StateView)
+pub alone_settled : {type : Option TypeView} (before now : Moment) (statements others : List Stmt) (last only : Stmt) (after : StateView)
     → statements ≡ others ++ last ∷ []
-    → statements ≡ only ∷ [] → AreLeft before now others (last ∷ []) → binds_dollar only ≡ false → IsSettled before.state
+    → statements ≡ only ∷ [] → AreLeft before now others (last ∷ []) type → binds_dollar only ≡ false → IsSettled before.state
     → (binds_dollar last ≡ false → IsSettled now.state → IsSettled after) → IsSettled after
 alone_settled before now statements others last only after split is h plain settled ends =
     let alone = one_alone others last only (sym split ∙ is) in
@@ -245,16 +244,18 @@ forgotten_alone state statements settled one =
     let only = one_of statements one in sym (forgotten_itself state (settled only.0 only.1))
 
 -- the end of the loop
-pub answered_last : (before now after : Moment) (statements others : List Stmt) (last : Stmt) (result : Result Answer Refusal)
-    → statements ≡ others ++ last ∷ [] → AreLeft before now others (last ∷ []) → IfOk result (Step now last after)
+pub answered_last : {type : Option TypeView} (before now after : Moment) (statements others : List Stmt) (last : Stmt)
+    (result : Result Answer Refusal)
+    → statements ≡ others ++ last ∷ [] → AreLeft before now others (last ∷ []) type → IfOk result (Step now last after)
     → MatchResult result (λ _. IsPaid (works now.state.assumed last) now.meter after.meter) (λ _. IsKept now.meter after.meter)
     → IfOk result (Steps before statements after)
 answered_last before now after statements others last (Ok answer) split h step paid =
-    subst (λ (s : List Stmt). Steps before s after answer) (sym split) (left_answered before now after others last answer h step paid).0
+    subst (λ (s : List Stmt). Steps before s after answer) (sym split) (last_done before now after others last answer h.steps step)
 answered_last before now after statements others last (Err refusal) split h step paid = tt
 
-pub paid_last : (before now after : Moment) (statements others : List Stmt) (last : Stmt) (result : Result Answer Refusal)
-    → statements ≡ others ++ last ∷ [] → AreLeft before now others (last ∷ [])
+pub paid_last : {type : Option TypeView} (before now after : Moment) (statements others : List Stmt) (last : Stmt)
+    (result : Result Answer Refusal)
+    → statements ≡ others ++ last ∷ [] → AreLeft before now others (last ∷ []) type
     → MatchResult result (λ _. IsPaid (works now.state.assumed last) now.meter after.meter) (λ _. IsKept now.meter after.meter)
     → MatchResult result (λ _. IsPaid (list_any (works before.state.assumed) statements) before.meter after.meter)
     (λ _. IsKept before.meter after.meter)
@@ -272,23 +273,24 @@ does_show before (Show expr) after answer does some = does.0
 does_show before (Assume set) after answer does some = absurd (some (ap (λ (a : Answer). a.bytes) does.1))
 does_show before (Bind name expr) after answer does some = absurd (some (ap (λ (a : Answer). a.bytes) does.1))
 
-pub shown_last : (before now after : Moment) (others : List Stmt) (last : Stmt) (result : Result Answer Refusal)
-    → AreLeft before now others (last ∷ []) → IfOk result (Step now last after)
+pub shown_last : {type : Option TypeView} (before now after : Moment) (others : List Stmt) (last : Stmt) (result : Result Answer Refusal)
+    → AreLeft before now others (last ∷ []) type → IfOk result (Step now last after)
     → IfOk result (λ answer. answer.bytes ≢ [] → forgotten after.state ≡ forgotten before.state)
 shown_last before now after others last (Ok answer) h step =
     λ some. ap forgotten (does_show now last after answer step.does some) ∙ h.others
 shown_last before now after others last (Err refusal) h step = tt
 
-pub stopped_last : (before now : Moment) (statements others : List Stmt) (last : Stmt) (gauge : Gauge) (result : Result Answer Refusal)
-    → statements ≡ others ++ last ∷ [] → AreLeft before now others (last ∷ []) → IfErr result (IsWhyEnded now last gauge)
+pub stopped_last : {type : Option TypeView} (before now : Moment) (statements others : List Stmt) (last : Stmt) (gauge : Gauge)
+    (result : Result Answer Refusal)
+    → statements ≡ others ++ last ∷ [] → AreLeft before now others (last ∷ []) type → IfErr result (IsWhyEnded now last gauge)
     → IfErr result (IsWhyStopped before statements gauge)
 stopped_last before now statements others last gauge (Ok answer) split h why = tt
 stopped_last before now statements others last gauge (Err refusal) split h why =
     subst (λ (s : List Stmt). IsWhyStopped before s gauge refusal) (sym split) (left_stopped before now others last [] gauge refusal h why)
 
 -- ---- a statement that was read
-module _ (before : Moment) (bytes : List ℕ) (stmt : Stmt) (read : IsRead before bytes stmt)
-    (able : IsWorkable (scope_of before.state) before.options.at stmt) (asked : IsAssumedWhereListed before stmt) where
+module _ {type : Option TypeView} (before : Moment) (bytes : List ℕ) (stmt : Stmt) (found : IsClearStatement before bytes stmt type)
+    (asked : IsAssumedWhereListed before stmt) where
   abbrev At : Assumed
   At = before.state.assumed
 
@@ -302,9 +304,9 @@ module _ (before : Moment) (bytes : List ℕ) (stmt : Stmt) (read : IsRead befor
   answered now after answer steps paid same is =
       let meter : after.meter ≡ now.meter = ap (λ (m : Moment). m.meter) is in
       record {
-        clear = clear before bytes stmt read able;
+        clear = clear before bytes stmt found.read found.able;
         stmt = stmt;
-        spelled = read.spelled;
+        spelled = found.read.spelled;
         asked = asked;
         performed = (now, steps, is);
         meter = subst (IsCharged before.meter) (sym meter) paid.charged;
@@ -328,7 +330,7 @@ module _ (before : Moment) (bytes : List ℕ) (stmt : Stmt) (read : IsRead befor
   ended_in : (why : End) → EndsAt why → IsEnded before bytes why
   ended_in why h = (
     stmt,
-    read.spelled,
+    found.read.spelled,
     inr (asked_goes, record { done = h.0; next = h.1; later = h.2; split = h.3; now = h.4.0; steps = h.4.1; stops = h.4.2 }),
   )
 
@@ -338,30 +340,30 @@ module _ (before : Moment) (bytes : List ℕ) (stmt : Stmt) (read : IsRead befor
       → Refuses before bytes now (refusal_of_cut what)
   cut_refuses now cuts.Overflow by (inl memory) free = absurd (let no : ⊥ = cc in no)
   cut_refuses now cuts.Overflow by (inr there) free = (
-    clear before bytes stmt read able,
-    has_work At bytes stmt read.spelled (λ none. let bad : cuts.Overflow ≡ cuts.NoMemory = (free (idle none)).0 in absurd
+    clear before bytes stmt found.read found.able,
+    has_work At bytes stmt found.read.spelled (λ none. let bad : cuts.Overflow ≡ cuts.NoMemory = (free (idle none)).0 in absurd
         (let no : ⊥ = cc in no)),
     ended_in ends.cut there,
     by,
   )
   cut_refuses now cuts.Budget by (inl memory) free = absurd (let no : ⊥ = cc in no)
   cut_refuses now cuts.Budget by (inr there) free = (
-    clear before bytes stmt read able,
-    has_work At bytes stmt read.spelled (λ none. let bad : cuts.Budget ≡ cuts.NoMemory = (free (idle none)).0 in absurd
+    clear before bytes stmt found.read found.able,
+    has_work At bytes stmt found.read.spelled (λ none. let bad : cuts.Budget ≡ cuts.NoMemory = (free (idle none)).0 in absurd
         (let no : ⊥ = cc in no)),
     ended_in ends.cut there,
     by,
   )
-  cut_refuses now cuts.NoMemory by there free = (by.cause, λ none. (free (idle (no_work At bytes stmt read.spelled none))).1)
+  cut_refuses now cuts.NoMemory by there free = (by.cause, λ none. (free (idle (no_work At bytes stmt found.read.spelled none))).1)
 
   -- it is not
   reason_refuses : (now : Gauge) (reason : Reason) → EndsAt (because reason) → IsPaid (list_any (works At) (flat stmt)) before.meter now
       → RefusesBecause before bytes now reason
   reason_refuses now reason stops paid = (
-    clear before bytes stmt read able,
+    clear before bytes stmt found.read found.able,
     ended_in (because reason) stops,
     paid.charged,
-    (λ none. paid.free (idle (no_work At bytes stmt read.spelled none))),
+    (λ none. paid.free (idle (no_work At bytes stmt found.read.spelled none))),
   )
 
   end_refuses : (now : Gauge) (reason : Reason) → EndsAt (because reason) → IsPaid (list_any (works At) (flat stmt)) before.meter now
@@ -390,40 +392,42 @@ drop_head (y ∷ xs) (suc i) x low is =
     next : (n : ℕ) → suc (n + 1) ≡ suc n + 1
     next n = omega arith
 
-pub loop_first : (before now : Moment) (done others : List Stmt) (last stmt : Stmt) (i : ℕ) → i < length others
+pub loop_first : {type : Option TypeView} (before now : Moment) (done others : List Stmt) (last stmt : Stmt) (i : ℕ) → i < length others
     → stmt ≡ get_or others i stmt
-    → AreLeft before now done (drop i others ++ last ∷ []) → AreLeft before now done (stmt ∷ (drop (i + 1) others ++ last ∷ []))
-loop_first before now done others last stmt i low is h =
-    subst (λ (s : List Stmt). AreLeft before now done (s ++ last ∷ [])) (drop_head others i stmt low is) h
+    → AreLeft before now done (drop i others ++ last ∷ []) type → AreLeft before now done (stmt ∷ (drop (i + 1) others ++ last ∷ [])) type
+loop_first {type} before now done others last stmt i low is h =
+    subst (λ (s : List Stmt). AreLeft before now done (s ++ last ∷ []) type) (drop_head others i stmt low is) h
 
-next_left : (before now next : Moment) (done : List Stmt) (stmt : Stmt) (rest : List Stmt) (last : Stmt) (answer : Answer)
-    → AreLeft before now done (stmt ∷ (rest ++ last ∷ [])) → Step now stmt next answer
+next_left : {type : Option TypeView} (before now next : Moment) (done : List Stmt) (stmt : Stmt) (rest : List Stmt) (last : Stmt)
+    (answer : Answer)
+    → AreLeft before now done (stmt ∷ (rest ++ last ∷ [])) type → Step now stmt next answer
     → IsPaid (works now.state.assumed stmt) now.meter next.meter
     → ((name : List ℕ) (expr : Expr) → stmt ≡ Bind name expr → is_dollar name ≡ true → forgotten next.state ≡ forgotten now.state)
-    → Fits (limit_of now.meter) next.state → AreLeft before next (done ++ stmt ∷ []) (rest ++ last ∷ []) × (answer ≡ nothing)
+    → Fits (limit_of now.meter) next.state → AreLeft before next (done ++ stmt ∷ []) (rest ++ last ∷ []) type × (answer ≡ nothing)
 next_left before now next done stmt [] last answer h step paid dollar fits =
     left_next before now next done stmt last [] answer h step paid dollar fits
 next_left before now next done stmt (other ∷ rest) last answer h step paid dollar fits =
     left_next before now next done stmt other (rest ++ last ∷ []) answer h step paid dollar fits
 
 -- one turn
-pub loop_next : (before now next : Moment) (others : List Stmt) (last stmt : Stmt) (i : ℕ) (answer : Answer)
-    → i < length others → stmt ≡ get_or others i stmt → AreLeft before now (take i others) (drop i others ++ last ∷ [])
+pub loop_next : {type : Option TypeView} (before now next : Moment) (others : List Stmt) (last stmt : Stmt) (i : ℕ) (answer : Answer)
+    → i < length others → stmt ≡ get_or others i stmt → AreLeft before now (take i others) (drop i others ++ last ∷ []) type
     → Step now stmt next answer
     → IsPaid (works now.state.assumed stmt) now.meter next.meter
     → ((name : List ℕ) (expr : Expr) → stmt ≡ Bind name expr → is_dollar name ≡ true → forgotten next.state ≡ forgotten now.state)
-    → Fits (limit_of now.meter) next.state → AreLeft before next (take (i + 1) others) (drop (i + 1) others ++ last ∷ [])
-loop_next before now next others last stmt i answer low is h step paid dollar fits =
+    → Fits (limit_of now.meter) next.state → AreLeft before next (take (i + 1) others) (drop (i + 1) others ++ last ∷ []) type
+loop_next {type} before now next others last stmt i answer low is h step paid dollar fits =
     let first = loop_first before now (take i others) others last stmt i low is h in
     let then = next_left before now next (take i others) stmt (drop (i + 1) others) last answer first step paid dollar fits in
     let taken : take i others ++ stmt ∷ [] ≡ take (i + 1) others =
     ap (λ (s : Stmt). take i others ++ s ∷ []) is ∙ sym (take_more others i stmt low) in
-    subst (λ (done : List Stmt). AreLeft before next done (drop (i + 1) others ++ last ∷ [])) taken then.0
+    subst (λ (done : List Stmt). AreLeft before next done (drop (i + 1) others ++ last ∷ []) type) taken then.0
 
 -- a turn that ends
-pub loop_stopped : (before now : Moment) (statements others : List Stmt) (last stmt : Stmt) (i : ℕ) (gauge : Gauge) (refusal : Refusal)
+pub loop_stopped : {type : Option TypeView} (before now : Moment) (statements others : List Stmt) (last stmt : Stmt) (i : ℕ)
+    (gauge : Gauge) (refusal : Refusal)
     → statements ≡ others ++ last ∷ [] → i < length others → stmt ≡ get_or others i stmt
-    → AreLeft before now (take i others) (drop i others ++ last ∷ []) → IsWhyEnded now stmt gauge refusal
+    → AreLeft before now (take i others) (drop i others ++ last ∷ []) type → IsWhyEnded now stmt gauge refusal
     → IsWhyStopped before statements gauge refusal
 loop_stopped before now statements others last stmt i gauge refusal split low is h why =
     let first = loop_first before now (take i others) others last stmt i low is h in
@@ -435,11 +439,11 @@ loop_stopped before now statements others last stmt i gauge refusal split low is
     (left_stopped before now (take i others) stmt (drop (i + 1) others ++ last ∷ []) gauge refusal first why)
 
 -- the last
-pub loop_last : (before now : Moment) (others : List Stmt) (last : Stmt) (i : ℕ) → i ≡ length others
-    → AreLeft before now (take i others) (drop i others ++ last ∷ []) → AreLeft before now others (last ∷ [])
-loop_last before now others last i end h =
-    subst (λ (done : List Stmt). AreLeft before now done (last ∷ [])) (ap (λ (n : ℕ). take n others) end ∙ take-length others)
-    (subst (λ (left : List Stmt). AreLeft before now (take i others) (left ++ last ∷ [])) (ap (λ (n : ℕ). drop n others) end
+pub loop_last : {type : Option TypeView} (before now : Moment) (others : List Stmt) (last : Stmt) (i : ℕ) → i ≡ length others
+    → AreLeft before now (take i others) (drop i others ++ last ∷ []) type → AreLeft before now others (last ∷ []) type
+loop_last {type} before now others last i end h =
+    subst (λ (done : List Stmt). AreLeft before now done (last ∷ []) type) (ap (λ (n : ℕ). take n others) end ∙ take-length others)
+    (subst (λ (left : List Stmt). AreLeft before now (take i others) (left ++ last ∷ []) type) (ap (λ (n : ℕ). drop n others) end
     ∙ drop-length others) h)
 
 -- where elements are listed, the numbers are assumed when the statements before are done
@@ -449,9 +453,9 @@ asked_here before now stmt others options asked = λ lists.
     subst (λ (a : Assumed). Assumes a now.options.at) (sym (left_assumed before now others))
     (subst (λ (o : OptionsView). Assumes before.state.assumed o.at) (sym options) (asked lists))
 
-pub asked_next : (before now : Moment) (statements others done left : List Stmt) (last stmt : Stmt) (i : ℕ)
+pub asked_next : {type : Option TypeView} (before now : Moment) (statements others done left : List Stmt) (last stmt : Stmt) (i : ℕ)
     → statements ≡ others ++ last ∷ [] → i < length others → stmt ≡ get_or others i stmt → All (IsAssumedWhereListed before) statements
-    → AreLeft before now done left → IsAssumedWhereListed now stmt
+    → AreLeft before now done left type → IsAssumedWhereListed now stmt
 asked_next before now statements others done left last stmt i split low is all h =
     let within : i < length (others ++ last ∷ []) = (let e = length-append others (last ∷ []) in omega arith) in
     asked_here before now stmt h.others h.options
@@ -464,74 +468,71 @@ asked_end before [] last all = All-head (IsAssumedWhereListed before) last [] al
 asked_end before (stmt ∷ others) last all =
     asked_end before others last (All-tail (IsAssumedWhereListed before) stmt (others ++ last ∷ []) all)
 
-pub asked_last : (before now : Moment) (statements others done left : List Stmt) (last : Stmt) → statements ≡ others ++ last ∷ []
-    → All (IsAssumedWhereListed before) statements → AreLeft before now done left → IsAssumedWhereListed now last
+pub asked_last : {type : Option TypeView} (before now : Moment) (statements others done left : List Stmt) (last : Stmt)
+    → statements ≡ others ++ last ∷ []
+    → All (IsAssumedWhereListed before) statements → AreLeft before now done left type → IsAssumedWhereListed now last
 asked_last before now statements others done left last split all h =
     asked_here before now last h.others h.options (asked_end before others last (subst (All (IsAssumedWhereListed before)) split all))
 
 -- what is bound at the end is within the limit
-pub fits_last : (before now : Moment) (others : List Stmt) (last : Stmt) (after : StateView) (result : Result Answer Refusal)
-    → AreLeft before now others (last ∷ []) → OnOk result (Fits (limit_of now.meter) after)
+pub fits_last : {type : Option TypeView} (before now : Moment) (others : List Stmt) (last : Stmt) (after : StateView)
+    (result : Result Answer Refusal)
+    → AreLeft before now others (last ∷ []) type → OnOk result (Fits (limit_of now.meter) after)
     → OnOk result (Fits (limit_of before.meter) after)
 fits_last before now others last after (Ok answer) h fits =
     subst (λ (z : ℤ). Fits z after) (same_limit before.meter now.meter h.paid.charged) fits
 fits_last before now others last after (Err refusal) h fits = tt
 
 -- ---- the answer of the bytes
+-- what a statement leaves
+pub record IsAnswered (before : Moment) (bytes : List ℕ) (meter : Gauge) (after : StateView) (result : Result Answer Refusal) : Type 0 where
+  pub fits : Fits (limit_of meter) after
+  pub settled : IsSettled after
+  pub ok : IfOk result (Answers before bytes (record { state = after; meter = meter; options = before.options }))
+  pub err : OnErr result (after ≡ before.state)
+  pub shown : IfOk result (λ answer. answer.bytes ≢ [] → after ≡ before.state)
+  pub cause : IfErr result (Refuses before bytes meter)
+  pub charged : MatchResult result (λ _. IsCharged before.meter meter) (λ _. IsKept before.meter meter)
 
-module _ (before : Moment) (bytes : List ℕ) (statements : List Stmt) (taken : IsTaken before bytes statements)
-    (settled : IsSettled before.state)
-    (fits : Fits (limit_of before.meter) before.state) (now after : Moment) (same : now.options ≡ before.options) (is : after ≡ behind now) where
-  abbrev Paid : Result Answer Refusal → Type 0
-  Paid result =
-      MatchResult result (λ _. IsPaid (list_any (works before.state.assumed) statements) before.meter now.meter)
-      (λ _. IsKept before.meter now.meter)
+module _ {type : Option TypeView} (before : Moment) (bytes : List ℕ) (statements : List Stmt) (taken : IsTaken before bytes statements type)
+    (settled : IsSettled before.state) (fits : Fits (limit_of before.meter) before.state) (state after : StateView) (meter : Gauge)
+    (is : after ≡ forgotten state) where
+  abbrev now : Moment
+  now = record { state = state; meter = meter; options = before.options }
 
-  pub finished_ok : (result : Result Answer Refusal) → IfOk result (Steps before statements now) → Paid result
-      → IfOk result (Answers before bytes after)
-  finished_ok (Ok answer) steps paid =
-      answered before bytes taken.stmt taken.read taken.able taken.asked now after answer
-      (subst (λ (s : List Stmt). Steps before s now answer) taken.simple steps)
-      (subst (λ (s : List Stmt). IsPaid (list_any (works before.state.assumed) s) before.meter now.meter) taken.simple paid) same is
-  finished_ok (Err refusal) steps paid = tt
+  unchanged : forgotten state ≡ forgotten before.state → after ≡ before.state
+  unchanged others = is ∙ others ∙ forgotten_itself before.state settled
 
-  same_state : after.state ≡ forgotten now.state
-  same_state = ap (λ (m : Moment). m.state) is
+  forgets : IsSettled after
+  forgets = subst IsSettled (sym is) (forgotten_settled state)
 
-  unchanged : forgotten now.state ≡ forgotten before.state → after.state ≡ before.state
-  unchanged others = same_state ∙ others ∙ forgotten_itself before.state settled
-
-  pub finished_err : (result : Result Answer Refusal) → OnErr result (forgotten now.state ≡ forgotten before.state)
-      → OnErr result (after.state ≡ before.state)
-  finished_err (Ok answer) others = tt
-  finished_err (Err refusal) others = unchanged others
-
-  pub finished_shown : (result : Result Answer Refusal)
-      → IfOk result (λ answer. answer.bytes ≢ [] → forgotten now.state ≡ forgotten before.state)
-      → IfOk result (λ answer. answer.bytes ≢ [] → after.state ≡ before.state)
-  finished_shown (Ok answer) others = λ some. unchanged (others some)
-  finished_shown (Err refusal) others = tt
-
-  pub finished_fits : (result : Result Answer Refusal) → OnOk result (Fits (limit_of before.meter) now.state)
-      → OnErr result (forgotten now.state ≡ forgotten before.state) → Paid result → Fits (limit_of now.meter) after.state
-  finished_fits (Ok answer) fit failed paid =
-      subst (λ (z : ℤ). Fits z after.state) (sym (same_limit before.meter now.meter paid.charged))
-      (subst (Fits (limit_of before.meter)) (sym same_state) (fits_forgotten (limit_of before.meter) now.state fit))
-  finished_fits (Err refusal) fit failed kept =
-      subst (λ (z : ℤ). Fits z after.state) (sym (kept_limit before.meter now.meter kept))
-      (subst (Fits (limit_of before.meter)) (sym (unchanged failed)) fits)
-
-  pub finished_settled : IsSettled after.state
-  finished_settled = subst IsSettled (sym same_state) (forgotten_settled now.state)
-
-  pub finished_cause : (result : Result Answer Refusal) → IfErr result (IsWhyStopped before statements now.meter)
-      → IfErr result (Refuses before bytes now.meter)
-  finished_cause (Ok answer) why = tt
-  finished_cause (Err refusal) why =
-      stopped_refuses before bytes taken.stmt taken.read taken.able taken.asked now.meter refusal
-      (subst (λ (s : List Stmt). IsWhyStopped before s now.meter refusal) taken.simple why)
-
-  pub finished_meter : (result : Result Answer Refusal) → Paid result
-      → MatchResult result (λ _. IsCharged before.meter now.meter) (λ _. IsKept before.meter now.meter)
-  finished_meter (Ok answer) paid = paid.charged
-  finished_meter (Err refusal) kept = kept
+  pub finished : (result : Result Answer Refusal) → IfOk result (Steps before statements now)
+      → OnErr result (forgotten state ≡ forgotten before.state)
+      → IfOk result (λ answer. answer.bytes ≢ [] → forgotten state ≡ forgotten before.state)
+      → IfErr result (IsWhyStopped before statements meter)
+      → MatchResult result (λ _. IsPaid (list_any (works before.state.assumed) statements) before.meter meter) (λ _. IsKept before.meter meter)
+      → OnOk result (Fits (limit_of before.meter) state) → IsAnswered before bytes meter after result
+  finished (Ok answer) steps same shown why paid fit = record {
+    fits = subst (λ (z : ℤ). Fits z after) (sym (same_limit before.meter meter paid.charged))
+        (subst (Fits (limit_of before.meter)) (sym is) (fits_forgotten (limit_of before.meter) state fit));
+    settled = forgets;
+    ok = answered before bytes taken.stmt taken.clear taken.asked now (record { state = after; meter = meter; options = before.options }) answer
+        (subst (λ (s : List Stmt). Steps before s now answer) taken.simple steps)
+        (subst (λ (s : List Stmt). IsPaid (list_any (works before.state.assumed) s) before.meter meter) taken.simple paid) refl
+        (ap (λ (s : StateView). record { state = s; meter = meter; options = before.options }) is);
+    err = tt;
+    shown = λ some. unchanged (shown some);
+    cause = tt;
+    charged = paid.charged;
+  }
+  finished (Err refusal) steps same shown why kept fit = record {
+    fits = subst (λ (z : ℤ). Fits z after) (sym (kept_limit before.meter meter kept))
+        (subst (Fits (limit_of before.meter)) (sym (unchanged same)) fits);
+    settled = forgets;
+    ok = tt;
+    err = unchanged same;
+    shown = tt;
+    cause = stopped_refuses before bytes taken.stmt taken.clear taken.asked meter refusal
+        (subst (λ (s : List Stmt). IsWhyStopped before s meter refusal) taken.simple why);
+    charged = kept;
+  }

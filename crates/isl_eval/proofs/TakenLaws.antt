@@ -1,10 +1,10 @@
 -- What the bytes of a statement are taken for: its simple statements, or a refusal.
-use Rattle.std.proofs.Common.{◌≡◌, sym, ap, subst, ◌≤◌, ◌^◌, ℕ, List, length}
+use Rattle.std.proofs.Common.{◌≡◌, sym, ap, subst, ◌≤◌, ◌^◌, ℕ, List, Option, length}
 use Rattle.isl_meter.specs.Gauge.{Gauge}
 use Rattle.isl_text.specs.declared.refusal.Refusal.{Refusal}
 use Rattle.isl_text.specs.declared.refusal.Refusal.TheVariants as r
 use Rattle.isl_expr.specs.declared.tree.Stmt.{Stmt}
-use Rattle.isl_kinds.specs.Typed.{ScopeView}
+use Rattle.isl_kinds.specs.Typed.{ScopeView, TypeView}
 use Rattle.isl_flat.specs.Flat.{flat}
 use Rattle.isl_words.specs.Options.{OptionsView}
 use Rattle.isl_values.specs.State.{Moment, StateView, scope_of}
@@ -23,30 +23,29 @@ module _ (before : Moment) (state : StateView) (meter : Gauge) (options : Option
   scope_here : (scope : ScopeView) → scope ≡ scope_of state → scope ≡ scope_of before.state
   scope_here scope is = subst (λ (m : Moment). scope ≡ scope_of m.state) (sym here) is
 
-  pub clear_statement : (stmt : Stmt) (scope : ScopeView) → IsRead before bytes stmt → scope ≡ scope_of state
-      → IsWorkable scope options.at stmt → IsClearStatement before bytes stmt
-  clear_statement stmt scope read is able = record {
+  pub clear_statement : (stmt : Stmt) (type : Option TypeView) (scope : ScopeView) → IsRead before bytes stmt → scope ≡ scope_of state
+      → IsWorkable scope options.at stmt type → IsClearStatement before bytes stmt type
+  clear_statement stmt type scope read is able = record {
     read = read;
-    able = subst (λ (m : Moment). IsWorkable (scope_of m.state) m.options.at stmt) (sym here)
-        (subst (λ (s : ScopeView). IsWorkable s options.at stmt) is able);
+    able = subst (λ (m : Moment). IsWorkable (scope_of m.state) m.options.at stmt type) (sym here)
+        (subst (λ (s : ScopeView). IsWorkable s options.at stmt type) is able);
   }
 
-  pub taken : (stmt : Stmt) (statements : List Stmt) → IsClearStatement before bytes stmt
+  pub taken : {type : Option TypeView} (stmt : Stmt) (statements : List Stmt) → IsClearStatement before bytes stmt type
       → IsAssumedWhereListed (moment_of state meter options) stmt
-      → statements ≡ flat stmt → length statements ≤ 2 ^ 64 → IsTaken before bytes statements
+      → statements ≡ flat stmt → length statements ≤ 2 ^ 64 → IsTaken before bytes statements type
   taken stmt statements clear asked simple short =
       let asks : IsAssumedWhereListed before stmt = subst (λ (m : Moment). IsAssumedWhereListed m stmt) (sym here) asked in
       record {
         stmt = stmt;
-        read = clear.read;
-        able = clear.able;
+        clear = clear;
         asked = asks;
         simple = simple;
-        ready = evaluable before bytes stmt statements clear.read clear.able simple short;
+        ready = evaluable before bytes stmt statements clear simple short;
         each = asked_each before bytes stmt statements clear.read.spelled simple asks;
       }
 
-  pub unasked : (stmt : Stmt) (now : Gauge) (refusal : Refusal) → IsClearStatement before bytes stmt
+  pub unasked : {type : Option TypeView} (stmt : Stmt) (now : Gauge) (refusal : Refusal) → IsClearStatement before bytes stmt type
       → IsWhyUnasked (moment_of state meter options) stmt now refusal → Refuses before bytes now refusal
   unasked stmt now refusal clear why =
       unasked_refuses before bytes stmt clear.read clear.able now refusal

@@ -17,7 +17,6 @@ use Rattle.isl_union.specs.Fault.{IsFaultBy}
 use Rattle.isl_union.specs.declared.fault.OpFault.{OpFault}
 use Rattle.isl_union.specs.declared.fault.OpFault.TheVariants as op_fault
 use Rattle.isl_text.specs.declared.refusal.Refusal.{Refusal}
-use Rattle.isl_text.specs.declared.refusal.Refusal.TheVariants.{TooWide}
 use Rattle.isl_text.specs.declared.refusal.Refusal.TheVariants as refusals
 use Rattle.isl_space.specs.Element.{Element}
 use Rattle.isl_space.specs.Valuation.{Valuation}
@@ -37,9 +36,9 @@ use Rattle.isl_values.specs.State.{StateView, Moment, HasNumbersUpTo}
 use Rattle.isl_operators.specs.Operations.{OperatorHas}
 use Rattle.isl_operators.proofs.NamesLaws.{turned_fits}
 use Rattle.isl_values.specs.Selection.{Selects, RowSelects, context_of}
-use Rattle.isl_values.specs.Ends.{End, because, too_wide}
+use Rattle.isl_values.specs.Ends.{End, too_wide}
 use Rattle.isl_values.specs.Ends as ends
-use Rattle.isl_values.specs.Made.{IsPaid, IsWhyUnmade, IsWhyUnworked, refusal_of_cut}
+use Rattle.isl_values.specs.Made.{IsPaid, IsWhyUnmade, IsWhyUnworked, refusal_of_cut, refusal_of_fault}
 use Rattle.isl_values.proofs.PartLaws.{quiet_both}
 use Rattle.isl_values.proofs.RowLaws.{same_row, same_trans}
 use Rattle.isl_values.proofs.ValueLaws.{numbers_later, paid_works, unmade_memory, unworked_after}
@@ -47,9 +46,9 @@ use Rattle.isl_eval.specs.Tests.{Elements, is_test, ends_with_test, IsPartOf, Te
 use Rattle.isl_eval.specs.Machine.{Answer, Shows, ShowsRow, told}
 use Rattle.std.specs.Option.{option_map_or}
 use Rattle.isl_eval.specs.Evaluated.{made_parts, shown_parts, parts_around_test}
-use Rattle.isl_eval.specs.Evaluation.{IsTestOf, Tells, context_in, past_row}
+use Rattle.isl_eval.specs.Evaluation.{EndsTwo, IsTestOf, Tells, context_in, past_row}
 use Rattle.isl_eval.specs.Evaluation.{ends_with_test as ends}
-use Rattle.isl_eval.proofs.AssumedLaws.{left_among, right_among, test_told}
+use Rattle.isl_eval.proofs.AssumedLaws.{both_same, left_among, not_same, right_among, test_told}
 
 -- ---- the same of lists
 
@@ -207,12 +206,6 @@ part_same state P Q R S left right = (
   (λ part v here x h. (right v here x).1 (part v here x ((left v here x).0 h))),
 )
 
-both_same : (A B C D : Type 0) → A ↔ C → B ↔ D → (A × B) ↔ (C × D)
-both_same A B C D one two = ((λ h. (one.0 h.0, two.0 h.1)), (λ h. (one.1 h.0, two.1 h.1)))
-
-not_same : (A B : Type 0) → A ↔ B → (¬ A) ↔ (¬ B)
-not_same A B one = ((λ no h. no (one.1 h)), (λ no h. no (one.0 h)))
-
 pub test_same : (state : StateView) (operator : Binary) (P Q R S : Elements) → SamePart state P R → SamePart state Q S
     → TestHolds state operator P Q ↔ TestHolds state operator R S
 test_same state b.Equal P Q R S left right = both_same _ _ _ _ (part_same state P Q R S left right) (part_same state Q P S R right left)
@@ -310,27 +303,28 @@ unmade_by Whole g h k cut refusal charged by is there = record {
   free = λ none. absurd (false≢true (sym none));
 }
 
--- the work of a test of two values is cut, where they have few enough parameters
-pub test_unmade : (Whole : End → Type 0) (names : List Name) (g h k : Gauge) (cut : Cut) (refusal : Refusal) → IsCharged g h
-    → IsFaultBy names h k (op_fault.Cut cut) → refusal ≡ refusal_of_cut cut → (length names ≤ most_parameters → Whole ends.cut)
-    → IsWhyUnworked true Whole g k refusal
-test_unmade Whole names g h k cut refusal charged by is there = inl (unmade_by Whole g h k cut refusal charged by.1 is (at by.0))
-  where
-    at : (length names ≤ most_parameters) ⊎ (cut ≡ NoMemory) → (cut ≡ NoMemory) ⊎ Whole ends.cut
-    at (inl few) = inr (there few)
-    at (inr memory) = inl memory
-
 pub unworked_on : (works : Bool) (Part Whole : End → Type 0) (g h k : Gauge) (refusal : Refusal)
     → ((why : End) → Part why → Whole why) → IsCharged g h → IsWhyUnworked works Part h k refusal → IsWhyUnworked true Whole g k refusal
 unworked_on works Part Whole g h k refusal ends charged why =
     unworked_after true true works Part Whole g h k refusal (λ none. absurd (false≢true (sym none))) ends (paid_works g h charged) why
 
--- a test of what has too many parameters
-pub test_wide : (Whole : End → Type 0) (names : List Name) (g h k : Gauge) (refusal : Refusal) → refusal ≡ TooWide → IsCharged g h
-    → IsFaultBy names h k op_fault.TooWide → (most_parameters < length names → Whole (because too_wide))
-    → IsWhyUnworked true Whole g k refusal
-test_wide Whole names g h k refusal is charged by ends =
-    inr (too_wide, is, ends by.0, paid_works g k (IsCharged_trans g h k charged (IsCharged_refl h k by.1)))
+-- an operation of two values made nothing
+pub two_fault : (left right : KeptValue) (names : List Name) (g h k : Gauge) (fault : OpFault) (refusal : Refusal)
+    → names ≡ joined_names left.params right.params → refusal ≡ refusal_of_fault fault → IsCharged g h → IsFaultBy names h k fault
+    → IsWhyUnworked true (EndsTwo left right) g k refusal
+two_fault left right names g h k op_fault.TooWide refusal same is charged by =
+    inr (
+      too_wide,
+      is,
+      inl (subst (λ (ns : List Name). most_parameters < length ns) same by.0),
+      paid_works g k (IsCharged_trans g h k charged (IsCharged_refl h k by.1)),
+    )
+two_fault left right names g h k (op_fault.Cut cut) refusal same is charged by =
+    inl (unmade_by (EndsTwo left right) g h k cut refusal charged by.1 is (at by.0))
+  where
+    at : (length names ≤ most_parameters) ⊎ (cut ≡ NoMemory) → (cut ≡ NoMemory) ⊎ EndsTwo left right ends.cut
+    at (inl few) = inr (subst (λ (ns : List Name). length ns ≤ most_parameters) same few, λ no. no)
+    at (inr memory) = inl memory
 
 -- what is returned where a call was refused
 pub refused : {A E : Type 0} (result : Result A E) (P : A → Type 0) (Q : E → Type 0) (refusal : E) → result ≡ Err refusal

@@ -36,7 +36,7 @@ use Rattle.isl_values.specs.declared.list.ListPart.TheVariants.{First}
 use Rattle.isl_values.specs.State.{Kept, Moment, StateView, Fits, HasNumbersUpTo, scope_of, forgotten}
 use Rattle.isl_values.specs.Live.{IsLiveUnder, IsSampleAt}
 use Rattle.isl_values.specs.Selection.{IsGistOfTwo, IsKeptOf, IsSelected, IsTogetherOf, Keeps, Selects, RowSelects, context_of}
-use Rattle.isl_values.specs.Ends.{because, cut, not_assumed, CutAlone, End, Ends, EndsRow, FirstEnds, OperationEnds}
+use Rattle.isl_values.specs.Ends.{because, cut, not_assumed, CutAlone, End, Ends, EndsRow, FirstEnds, GoesOn, OperationEnds}
 use Rattle.isl_values.specs.Made.{is_foreign, IsSoundExpr, IsSoundLink, IsPaid, IsWhyUnworked, refusal_of_cut}
 use Rattle.isl_eval.specs.Spelled.{BytesSpell}
 use Rattle.isl_eval.specs.Tests.{Elements, is_test}
@@ -71,9 +71,10 @@ abbrev pub names_of : Option TypeView → List Name
 names_of None = []
 names_of (Some t) = t.params
 
--- no cause is there that comes of what is bound, or of the numbers that parameters are given
-pub record IsWorkable (scope : ScopeView) (at : Valuation) (stmt : Stmt) : Type 0 where
-  pub typed : IsTyped scope stmt
+-- The statement has this type, so no cause is there that comes of what is bound; nor one that comes of the numbers that parameters are
+-- given.
+pub record IsWorkable (scope : ScopeView) (at : Valuation) (stmt : Stmt) (type : Option TypeView) : Type 0 where
+  pub typed : type_of_statement scope stmt ≡ Ok type
   pub given : is_parametric scope at stmt ≡ false
 
 -- why a statement that was read is not to be worked out: the first of these causes is there, or memory ended
@@ -82,10 +83,10 @@ IsWhyUnworkable scope at stmt refusal =
     (type_of_statement scope stmt ≡ Err refusal)
     ⊎ ((IsTyped scope stmt × (is_parametric scope at stmt ≡ true) × (refusal ≡ Parametric)) ⊎ (refusal ≡ NoMemory))
 
--- a statement that was read and may be worked out
-pub record IsClearStatement (before : Moment) (bytes : List ℕ) (stmt : Stmt) : Type 0 where
+-- a statement of this type that was read and may be worked out
+pub record IsClearStatement (before : Moment) (bytes : List ℕ) (stmt : Stmt) (type : Option TypeView) : Type 0 where
   pub read : IsRead before bytes stmt
-  pub able : IsWorkable (scope_of before.state) before.options.at stmt
+  pub able : IsWorkable (scope_of before.state) before.options.at stmt type
 
 -- ---- what is asked first
 
@@ -194,6 +195,11 @@ abbrev pub context_in : List Link → Option Expr
 context_in (link ∷ []) = if is_gist link.operator then Some link.operand else None
 context_in _ = None
 
+-- What a call leaves that works: something with P, and nothing ended it; or why there is none. Where nothing uses units, none was used.
+abbrev pub IsOutcome : {A : Type 0} → Bool → (End → Type 0) → Gauge → Gauge → (A → Type 0) → Result A Refusal → Type 0
+IsOutcome works Ends old new P result =
+    MatchResult result (λ a. P a × IsPaid works old new × GoesOn Ends) (IsWhyUnworked works Ends old new)
+
 -- the operand ends, or else work behind it is cut
 abbrev pub EndsWork : StateView → Expr → End → Type 0
 EndsWork state operand = FirstEnds (Ends state operand) CutAlone
@@ -201,13 +207,6 @@ EndsWork state operand = FirstEnds (Ends state operand) CutAlone
 -- what ends an operation of two values that forms no space
 abbrev pub EndsTwo : KeptValue → KeptValue → End → Type 0
 EndsTwo left right = OperationEnds (joined_names left.params right.params) ⊥ ⊥
-
--- what ends a row of one operator, of these operands
-abbrev pub EndsPair : StateView → Expr → Binary → Expr → End → Type 0
-EndsPair state left operator right =
-    FirstEnds (Ends state left)
-    (EndsRow state (declared_of (scope_of state) left) (λ valuation element. Selects state left valuation element)
-    (record { operator = operator; operand = right } ∷ []))
 
 -- what refuses a statement whose scan ended without a listing
 abbrev pub refusal_of_fault : ScanFault → Refusal
@@ -271,36 +270,40 @@ IsTestOf names old new result =
 abbrev pub EndsListing : StateView → Expr → Valuation → End → Type 0
 EndsListing state operand at = FirstEnds (Ends state operand) (ListingEnds (λ element. Selects state operand at element))
 
--- what ends a row with a test at its end
+-- what ends a row of this last link
 abbrev pub EndsTest : StateView → Expr → List Link → Link → End → Type 0
 EndsTest state first before last =
     FirstEnds (Ends state first)
     (EndsRow state (declared_of (scope_of state) first) (λ valuation element. Selects state first valuation element) (before ++ last ∷ []))
 
+-- what ends a row of one operator, of these operands
+abbrev pub EndsPair : StateView → Expr → Binary → Expr → End → Type 0
+EndsPair state left operator right = EndsTest state left [] (record { operator = operator; operand = right })
+
 -- ---- one simple statement after another
 
--- Each may be evaluated when those before it are done, whatever they chose; each but the last binds a name that no script has.
-abbrev pub AreEvaluable : ScopeView → List Stmt → Type 0
-AreEvaluable scope [] = ⊥
-AreEvaluable scope (stmt ∷ []) = IsEvaluable scope stmt
-AreEvaluable scope (Bind name expr ∷ next ∷ rest) =
+-- Each may be evaluated when those before it are done, whatever they chose; each but the last binds a name that no script has, and the last
+-- has this type.
+abbrev pub AreEvaluable : ScopeView → List Stmt → Option TypeView → Type 0
+AreEvaluable scope [] type = ⊥
+AreEvaluable scope (stmt ∷ []) type = IsEvaluable scope stmt × (type_of_statement scope stmt ≡ Ok type)
+AreEvaluable scope (Bind name expr ∷ next ∷ rest) type =
     (t : TypeView) × (type_of_statement scope (Bind name expr) ≡ Ok (Some t)) × (is_dollar name ≡ true) × IsEvaluable scope (Bind name expr)
-    × ((later : ScopeView) → BindsIn scope name t later → AreEvaluable later (next ∷ rest))
-AreEvaluable scope (_ ∷ next ∷ rest) = ⊥
+    × ((later : ScopeView) → BindsIn scope name t later → AreEvaluable later (next ∷ rest) type)
+AreEvaluable scope (_ ∷ next ∷ rest) type = ⊥
 
--- the simple statements of a statement that was read and may be worked out
-pub record IsTaken (before : Moment) (bytes : List ℕ) (statements : List Stmt) : Type 0 where
+-- the simple statements of a statement of this type that was read and may be worked out
+pub record IsTaken (before : Moment) (bytes : List ℕ) (statements : List Stmt) (type : Option TypeView) : Type 0 where
   pub stmt : Stmt
-  pub read : IsRead before bytes stmt
-  pub able : IsWorkable (scope_of before.state) before.options.at stmt
+  pub clear : IsClearStatement before bytes stmt type
   pub asked : IsAssumedWhereListed before stmt
   pub simple : statements ≡ flat stmt
-  pub ready : AreEvaluable (scope_of before.state) statements
+  pub ready : AreEvaluable (scope_of before.state) statements type
   pub each : All (IsAssumedWhereListed before) statements
 
 -- from one moment to another some of the statements were done, and the others are left
-pub record AreLeft (before now : Moment) (done left : List Stmt) : Type 0 where
-  pub ready : AreEvaluable (scope_of now.state) left
+pub record AreLeft (before now : Moment) (done left : List Stmt) (type : Option TypeView) : Type 0 where
+  pub ready : AreEvaluable (scope_of now.state) left type
   pub steps : AreDone before done now
   pub fits : Fits (limit_of before.meter) now.state
   pub others : forgotten now.state ≡ forgotten before.state

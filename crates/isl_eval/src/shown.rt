@@ -17,20 +17,20 @@ ghost use Rattle.isl_flat.specs.Flat.{is_gist, is_sample};
 ghost use Rattle.isl_union.specs.KeptValue.{HasNoDefinitions, IsKeptValue};
 ghost use Rattle.isl_values.specs.Live.{IsLiveUnder};
 ghost use Rattle.isl_values.specs.State.{Moment, scope_of, Fits, HasNumbersUpTo};
-ghost use Rattle.isl_values.specs.Made.{IsPaid, IsSoundExpr, IsWhyUnmade, IsWhyUnworked, uses_units};
-ghost use Rattle.isl_values.specs.Ends.{CutAlone, Ends, GoesOn};
+ghost use Rattle.isl_values.specs.Made.{IsSoundExpr, IsWhyUnmade, uses_units};
+ghost use Rattle.isl_values.specs.Ends.{CutAlone, Ends};
 ghost use Rattle.isl_values.specs.Selection.{Selects};
 ghost use Rattle.isl_eval.specs.Listed.{IsListed};
 ghost use Rattle.isl_eval.specs.Ended.{IsAssumedWhereListed, StatementEnds};
 ghost use Rattle.isl_eval.specs.Machine.{Shows, ShowsValue, listed, told};
-ghost use Rattle.isl_eval.specs.Evaluated.{IsEvaluable, IsWhyEnded};
+ghost use Rattle.isl_eval.specs.Evaluated.{works, IsEvaluable};
 ghost use Rattle.isl_eval.specs.Tests.{TestHolds};
 ghost use Rattle.isl_eval.specs.Evaluation as spec;
 ghost use Rattle.isl_eval.specs.Evaluation.{AreKeptIn, EndsListing, EndsPair, EndsTest, IsKeptIn, IsMakeable, IsReadyTest};
-ghost use Rattle.isl_eval.specs.Evaluation.{EndsTwo, EndsWork, IsChosen, IsGistIn, IsPutAt, IsSampled, IsSimplified, IsTogether, past_row};
+ghost use Rattle.isl_eval.specs.Evaluation.{EndsTwo, EndsWork, IsChosen, IsGistIn, IsOutcome, IsPutAt, IsSampled, IsSimplified, IsTogether, past_row};
 
 use crate::answers::Answer;
-use crate::test::{ends_with_test, tested};
+use crate::test::{ends_with_test, refusal_of_operation, tested};
 use isl_coalesce::coalesce;
 use isl_expr::tree::{Binary, Expr, Link, Prefix, ValueKind};
 use isl_gist::gist;
@@ -89,11 +89,9 @@ fn listed(
     requires sound { IsSoundExpr (scope_of state.now) operand.now }
     requires assumed { Assumes state.now.assumed options.now.at }
     requires fits { Fits (limit_of meter.old) state.now }
-    ensures made { MatchResult result
-        (λ answer. ((elements : List Element) × IsListed (λ element. Selects state.now operand.now options.now.at element) elements
-        × (answer ≡ listed elements)) × IsCharged meter.old meter.new)
-        (IsWhyUnworked true (EndsListing state.now operand.now options.now.at) meter.old meter.new) }
-    ensures goes_on { IfOk result (λ _. GoesOn (EndsListing state.now operand.now options.now.at)) }
+    ensures { IsOutcome true (EndsListing state.now operand.now options.now.at) meter.old meter.new
+        (λ answer. (elements : List Element) × IsListed (λ element. Selects state.now operand.now options.now.at element) elements
+        × (answer ≡ listed elements)) result }
 {
     let value = value_of(alloc, operand, state, meter)?;
     let numbers = numbers_of(alloc, value.params(), options)?;
@@ -134,10 +132,8 @@ fn sampled(
 ) -> Result<Rc<Value>, Refusal>
     requires sound { IsSoundExpr (scope_of state.now) operand.now }
     requires fits { Fits (limit_of meter.old) state.now }
-    ensures made { MatchResult result
-        (λ value. IsSampled state.now operand.now (unsigned_abs (limit_of meter.old)) value.value × IsCharged meter.old meter.new)
-        (IsWhyUnworked true (EndsWork state.now operand.now) meter.old meter.new) }
-    ensures goes_on { IfOk result (λ _. GoesOn (Ends state.now operand.now)) }
+    ensures { IsOutcome true (EndsWork state.now operand.now) meter.old meter.new
+        (λ value. IsSampled state.now operand.now (unsigned_abs (limit_of meter.old)) value.value) result }
 {
     let value = value_of(alloc, operand, state, meter)?;
     chosen(alloc, value, state, meter)
@@ -173,10 +169,8 @@ fn together(
 ) -> Result<Rc<Value>, Refusal>
     requires sound { IsSoundExpr (scope_of state.now) operand.now }
     requires fits { Fits (limit_of meter.old) state.now }
-    ensures made { MatchResult result
-        (λ value. IsTogether state.now operand.now (unsigned_abs (limit_of meter.old)) value.value × IsCharged meter.old meter.new)
-        (IsWhyUnworked true (EndsWork state.now operand.now) meter.old meter.new) }
-    ensures goes_on { IfOk result (λ _. GoesOn (Ends state.now operand.now)) }
+    ensures { IsOutcome true (EndsWork state.now operand.now) meter.old meter.new
+        (λ value. IsTogether state.now operand.now (unsigned_abs (limit_of meter.old)) value.value) result }
 {
     let value = flat_value_of(alloc, operand, state, meter)?;
     put_together(alloc, &value, state, meter)
@@ -197,16 +191,13 @@ fn gist_in(
     requires definitions { HasNoDefinitions value.now }
     requires context_definitions { HasNoDefinitions context.value }
     requires fits { Fits (limit_of meter.old) state.now }
-    ensures made { MatchResult result
-        (λ gist. IsGistIn state.now (unsigned_abs (limit_of meter.old)) value.now context.value gist.value × IsCharged meter.old meter.new)
-        (IsWhyUnworked true (EndsTwo value.now context.value) meter.old meter.new) }
-    ensures goes_on { IfOk result (λ _. GoesOn (EndsTwo value.now context.value)) }
+    ensures { IsOutcome true (EndsTwo value.now context.value) meter.old meter.new
+        (λ gist. IsGistIn state.now (unsigned_abs (limit_of meter.old)) value.now context.value gist.value) result }
 {
     let under = right_under(alloc, value, context, state, meter)?;
     match gist(alloc, value, &under, meter) {
         Ok(gist) => Ok(Rc::new(alloc, gist)?),
-        Err(OpFault::Cut(cut)) => Err(refusal_of(cut)),
-        Err(OpFault::TooWide) => Err(Refusal::TooWide),
+        Err(fault) => Err(refusal_of_operation(fault)),
     }
 }
 
@@ -221,10 +212,8 @@ fn simplified(
     requires left { IsSoundExpr (scope_of state.now) left.now }
     requires right { IsSoundExpr (scope_of state.now) right.now }
     requires fits { Fits (limit_of meter.old) state.now }
-    ensures made { MatchResult result
-        (λ value. IsSimplified state.now left.now right.now (unsigned_abs (limit_of meter.old)) value.value × IsCharged meter.old meter.new)
-        (IsWhyUnworked true (EndsPair state.now left.now b.Gist right.now) meter.old meter.new) }
-    ensures goes_on { IfOk result (λ _. GoesOn (EndsPair state.now left.now b.Gist right.now)) }
+    ensures { IsOutcome true (EndsPair state.now left.now b.Gist right.now) meter.old meter.new
+        (λ value. IsSimplified state.now left.now right.now (unsigned_abs (limit_of meter.old)) value.value) result }
 {
     let value = flat_value_of(alloc, left, state, meter)?;
     let context = flat_value_of(alloc, right, state, meter)?;
@@ -241,11 +230,8 @@ fn selected(
     requires selects { spec.keeps_selected expr.now ≡ true }
     requires makeable { IsMakeable (scope_of state.now) expr.now }
     requires fits { Fits (limit_of meter.old) state.now }
-    ensures made { MatchResult result
-        (λ value. IsKeptIn state.now (limit_of meter.old) expr.now value.value
-        × IsPaid (list_any (uses_units state.now.assumed) (parts_of expr.now)) meter.old meter.new)
-        (IsWhyUnworked (list_any (uses_units state.now.assumed) (parts_of expr.now)) (Ends state.now expr.now) meter.old meter.new) }
-    ensures goes_on { IfOk result (λ _. GoesOn (Ends state.now expr.now)) }
+    ensures { IsOutcome (list_any (uses_units state.now.assumed) (parts_of expr.now)) (Ends state.now expr.now) meter.old meter.new
+        (λ value. IsKeptIn state.now (limit_of meter.old) expr.now value.value) result }
 {
     flat_value_of(alloc, expr, state, meter)
 }
@@ -274,11 +260,8 @@ fn word_kept(
     requires is { expr.now ≡ trees.Prefix word operand.now }
     requires makeable { IsMakeable (scope_of state.now) expr.now }
     requires fits { Fits (limit_of meter.old) state.now }
-    ensures made { MatchResult result
-        (λ value. IsKeptIn state.now (limit_of meter.old) expr.now value.value
-        × IsPaid (list_any (uses_units state.now.assumed) (parts_of expr.now)) meter.old meter.new)
-        (IsWhyUnworked (list_any (uses_units state.now.assumed) (parts_of expr.now)) (Ends state.now expr.now) meter.old meter.new) }
-    ensures goes_on { IfOk result (λ _. GoesOn (Ends state.now expr.now)) }
+    ensures { IsOutcome (list_any (uses_units state.now.assumed) (parts_of expr.now)) (Ends state.now expr.now) meter.old meter.new
+        (λ value. IsKeptIn state.now (limit_of meter.old) expr.now value.value) result }
 {
     if is_sample(word) {
         sampled(alloc, operand, state, meter)
@@ -317,11 +300,8 @@ fn row_kept(
     requires is { expr.now ≡ trees.Row first.now links.now }
     requires makeable { IsMakeable (scope_of state.now) expr.now }
     requires fits { Fits (limit_of meter.old) state.now }
-    ensures made { MatchResult result
-        (λ value. IsKeptIn state.now (limit_of meter.old) expr.now value.value
-        × IsPaid (list_any (uses_units state.now.assumed) (parts_of expr.now)) meter.old meter.new)
-        (IsWhyUnworked (list_any (uses_units state.now.assumed) (parts_of expr.now)) (Ends state.now expr.now) meter.old meter.new) }
-    ensures goes_on { IfOk result (λ _. GoesOn (Ends state.now expr.now)) }
+    ensures { IsOutcome (list_any (uses_units state.now.assumed) (parts_of expr.now)) (Ends state.now expr.now) meter.old meter.new
+        (λ value. IsKeptIn state.now (limit_of meter.old) expr.now value.value) result }
 {
     match context(links) {
         Some(right) => simplified(alloc, first, right, state, meter),
@@ -339,11 +319,8 @@ fn single(
 ) -> Result<Rc<Value>, Refusal>
     requires makeable { IsMakeable (scope_of state.now) expr.now }
     requires fits { Fits (limit_of meter.old) state.now }
-    ensures made { MatchResult result
-        (λ value. IsKeptIn state.now (limit_of meter.old) expr.now value.value
-        × IsPaid (list_any (uses_units state.now.assumed) (parts_of expr.now)) meter.old meter.new)
-        (IsWhyUnworked (list_any (uses_units state.now.assumed) (parts_of expr.now)) (Ends state.now expr.now) meter.old meter.new) }
-    ensures goes_on { IfOk result (λ _. GoesOn (Ends state.now expr.now)) }
+    ensures { IsOutcome (list_any (uses_units state.now.assumed) (parts_of expr.now)) (Ends state.now expr.now) meter.old meter.new
+        (λ value. IsKeptIn state.now (limit_of meter.old) expr.now value.value) result }
 {
     match expr {
         Expr::Prefix(word, operand) => word_kept(alloc, expr, *word, operand.get(), state, meter),
@@ -368,11 +345,8 @@ fn list_kept(alloc: Global, expr: &Expr, state: &State, meter: &mut Meter) -> Re
     requires makeable { IsMakeable (scope_of state.now) expr.now }
     requires kind { kind_of (scope_of state.now) expr.now ≡ Some ValueKind.List }
     requires fits { Fits (limit_of meter.old) state.now }
-    ensures made { MatchResult result
-        (λ kept. AreKeptIn state.now (limit_of meter.old) expr.now kept
-        × IsPaid (list_any (uses_units state.now.assumed) (parts_of expr.now)) meter.old meter.new)
-        (IsWhyUnworked (list_any (uses_units state.now.assumed) (parts_of expr.now)) (Ends state.now expr.now) meter.old meter.new) }
-    ensures goes_on { IfOk result (λ _. GoesOn (Ends state.now expr.now)) }
+    ensures { IsOutcome (list_any (uses_units state.now.assumed) (parts_of expr.now)) (Ends state.now expr.now) meter.old meter.new
+        (λ kept. AreKeptIn state.now (limit_of meter.old) expr.now kept) result }
 {
     match flat_list_of(alloc, expr, state, meter) {
         Ok(values) => Ok(Kept::list(values)),
@@ -392,11 +366,8 @@ fn value_kept(
     requires kind { kind_of (scope_of state.now) expr.now ≡ Some kind }
     requires other { is_kind kind ValueKind.List ≡ false }
     requires fits { Fits (limit_of meter.old) state.now }
-    ensures made { MatchResult result
-        (λ kept. AreKeptIn state.now (limit_of meter.old) expr.now kept
-        × IsPaid (list_any (uses_units state.now.assumed) (parts_of expr.now)) meter.old meter.new)
-        (IsWhyUnworked (list_any (uses_units state.now.assumed) (parts_of expr.now)) (Ends state.now expr.now) meter.old meter.new) }
-    ensures goes_on { IfOk result (λ _. GoesOn (Ends state.now expr.now)) }
+    ensures { IsOutcome (list_any (uses_units state.now.assumed) (parts_of expr.now)) (Ends state.now expr.now) meter.old meter.new
+        (λ kept. AreKeptIn state.now (limit_of meter.old) expr.now kept) result }
 {
     match single(alloc, expr, state, meter) {
         Ok(value) => Ok(Kept::new(kind, value)),
@@ -415,11 +386,8 @@ pub(crate) fn content(
     requires makeable { IsMakeable (scope_of state.now) expr.now }
     requires kind { kind_of (scope_of state.now) expr.now ≡ Some kind }
     requires fits { Fits (limit_of meter.old) state.now }
-    ensures made { MatchResult result
-        (λ kept. AreKeptIn state.now (limit_of meter.old) expr.now kept
-        × IsPaid (list_any (uses_units state.now.assumed) (parts_of expr.now)) meter.old meter.new)
-        (IsWhyUnworked (list_any (uses_units state.now.assumed) (parts_of expr.now)) (Ends state.now expr.now) meter.old meter.new) }
-    ensures goes_on { IfOk result (λ _. GoesOn (Ends state.now expr.now)) }
+    ensures { IsOutcome (list_any (uses_units state.now.assumed) (parts_of expr.now)) (Ends state.now expr.now) meter.old meter.new
+        (λ kept. AreKeptIn state.now (limit_of meter.old) expr.now kept) result }
 {
     if kind == ValueKind::List {
         list_kept(alloc, expr, state, meter)
@@ -439,12 +407,9 @@ fn value_shown(
     requires makeable { IsMakeable (scope_of state.now) expr.now }
     requires kind { kind_of (scope_of state.now) expr.now ≡ Some kind }
     requires fits { Fits (limit_of meter.old) state.now }
-    ensures made { MatchResult result
-        (λ answer. ((before : Moment) → before.state ≡ state.now → limit_of before.meter ≡ limit_of meter.old
-        → ShowsValue before expr.now answer)
-        × IsPaid (list_any (uses_units state.now.assumed) (parts_of expr.now)) meter.old meter.new)
-        (IsWhyUnworked (list_any (uses_units state.now.assumed) (parts_of expr.now)) (Ends state.now expr.now) meter.old meter.new) }
-    ensures goes_on { IfOk result (λ _. GoesOn (Ends state.now expr.now)) }
+    ensures { IsOutcome (list_any (uses_units state.now.assumed) (parts_of expr.now)) (Ends state.now expr.now) meter.old meter.new
+        (λ answer. (before : Moment) → before.state ≡ state.now → limit_of before.meter ≡ limit_of meter.old
+        → ShowsValue before expr.now answer) result }
 {
     let kept = content(alloc, expr, kind, state, meter)?;
     Ok(Answer::of_kept(alloc, &kept)?)
@@ -461,11 +426,9 @@ fn truth_shown(
 ) -> Result<Answer, Refusal>
     requires ready { IsReadyTest (scope_of state.now) first.now before.now last.now }
     requires fits { Fits (limit_of meter.old) state.now }
-    ensures made { MatchResult result
-        (λ answer. ((holds : Bool) × (IsTrue holds ↔ TestHolds state.now last.now.operator (past_row state.now first.now before.now)
-        (Selects state.now last.now.operand)) × (answer ≡ told holds)) × IsCharged meter.old meter.new)
-        (IsWhyUnworked true (EndsTest state.now first.now before.now last.now) meter.old meter.new) }
-    ensures goes_on { IfOk result (λ _. GoesOn (EndsTest state.now first.now before.now last.now)) }
+    ensures { IsOutcome true (EndsTest state.now first.now before.now last.now) meter.old meter.new
+        (λ answer. (holds : Bool) × (IsTrue holds ↔ TestHolds state.now last.now.operator (past_row state.now first.now before.now)
+        (Selects state.now last.now.operand)) × (answer ≡ told holds)) result }
 {
     let holds = tested(alloc, first, before, last, state, meter)?;
     Ok(Answer::of_truth(alloc, holds)?)
@@ -495,11 +458,9 @@ fn asked_shown(
     requires evaluable { IsEvaluable (scope_of state.now) (s.Show expr.now) }
     requires assumed { IsAssumedWhereListed (record { state = state.now; meter = meter.old; options = options.now }) (s.Show expr.now) }
     requires fits { Fits (limit_of meter.old) state.now }
-    ensures made { MatchResult result
-        (λ answer. Shows (record { state = state.now; meter = meter.old; options = options.now }) expr.now answer
-        × IsPaid (list_any (uses_units state.now.assumed) (parts_of expr.now)) meter.old meter.new)
-        (IsWhyEnded (record { state = state.now; meter = meter.old; options = options.now }) (s.Show expr.now) meter.new) }
-    ensures goes_on { IfOk result (λ _. GoesOn (StatementEnds (record { state = state.now; meter = meter.old; options = options.now }) (s.Show expr.now))) }
+    ensures { IsOutcome (works state.now.assumed (s.Show expr.now))
+        (StatementEnds (record { state = state.now; meter = meter.old; options = options.now }) (s.Show expr.now)) meter.old meter.new
+        (λ answer. Shows (record { state = state.now; meter = meter.old; options = options.now }) expr.now answer) result }
 {
     match expr {
         Expr::Prefix(_, operand) => listed(alloc, operand.get(), state, options, meter),
@@ -524,11 +485,9 @@ pub(crate) fn shown(
     requires assumed { IsAssumedWhereListed (record { state = state.now; meter = meter.old; options = options.now }) (s.Show expr.now) }
     requires kind { kind_of (scope_of state.now) expr.now ≡ Some kind }
     requires fits { Fits (limit_of meter.old) state.now }
-    ensures made { MatchResult result
-        (λ answer. Shows (record { state = state.now; meter = meter.old; options = options.now }) expr.now answer
-        × IsPaid (list_any (uses_units state.now.assumed) (parts_of expr.now)) meter.old meter.new)
-        (IsWhyEnded (record { state = state.now; meter = meter.old; options = options.now }) (s.Show expr.now) meter.new) }
-    ensures goes_on { IfOk result (λ _. GoesOn (StatementEnds (record { state = state.now; meter = meter.old; options = options.now }) (s.Show expr.now))) }
+    ensures { IsOutcome (works state.now.assumed (s.Show expr.now))
+        (StatementEnds (record { state = state.now; meter = meter.old; options = options.now }) (s.Show expr.now)) meter.old meter.new
+        (λ answer. Shows (record { state = state.now; meter = meter.old; options = options.now }) expr.now answer) result }
 {
     if is_asked(expr) {
         asked_shown(alloc, expr, state, options, meter)

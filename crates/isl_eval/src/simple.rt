@@ -1,23 +1,21 @@
 //! One simple statement: one step of the machine.
 
-ghost use Rattle.std.specs.Prelude.{◌≡◌, ◌≢◌, All, true, false, Some, Ok, IfErr, IfOk, MatchResult, OnErr, OnOk};
-ghost use Rattle.std.specs.List.{list_any};
-ghost use Rattle.isl_meter.specs.Gauge.{IsCharged, IsKept, limit_of};
+ghost use Rattle.std.specs.Prelude.{◌≡◌, All, true, false, Some, Ok, IfErr, IfOk, MatchResult, OnErr, OnOk};
+ghost use Rattle.isl_meter.specs.Gauge.{IsKept, limit_of};
 ghost use Rattle.isl_space.specs.Name.{Name as NameView};
-ghost use Rattle.isl_tree.specs.declared.tree.Literal.{Literal as LiteralView};
 ghost use Rattle.isl_expr.specs.declared.tree.Expr as trees;
 ghost use Rattle.isl_expr.specs.declared.tree.Stmt.TheVariants as s;
-ghost use Rattle.isl_kinds.specs.Parts.{parts_of};
 ghost use Rattle.isl_kinds.specs.Typed.{is_dollar, type_of_statement};
 ghost use Rattle.isl_stmt.specs.Names.{binds_dollar};
 ghost use Rattle.isl_values.specs.State.{Binds, Kept as KeptView, Moment, Narrows, forgotten, scope_of, Fits, IsSettled};
-ghost use Rattle.isl_values.specs.Made.{IsPaid, IsWhyUnworked, uses_units};
-ghost use Rattle.isl_values.specs.Ends.{Ends, GoesOn};
+ghost use Rattle.isl_values.specs.Made.{IsPaid};
+ghost use Rattle.isl_values.specs.Ends.{Ends};
 ghost use Rattle.isl_values.specs.Selection.{Keeps};
 ghost use Rattle.isl_lower.specs.Value.{IsWellFormedLiteral};
 ghost use Rattle.isl_lower_params.specs.Params.{HasNoCoordinates, HoldsSome};
 ghost use Rattle.isl_tree.specs.Known.{literal_is_known};
 ghost use Rattle.isl_eval.specs.Ended.{IsAssumedWhereListed, NarrowedEnds};
+ghost use Rattle.isl_eval.specs.Evaluation.{IsOutcome};
 ghost use Rattle.isl_eval.specs.Machine.{Step};
 ghost use Rattle.isl_eval.specs.Evaluated.{IsEvaluable, IsTyped, IsWhyEnded, works};
 
@@ -35,19 +33,13 @@ use isl_values::{State, refusal_of};
 use isl_words::Options;
 use std::alloc::Global;
 
-// The type of a statement that has one.
-fn type_of(alloc: Global, stmt: &Stmt, state: &State) -> Result<Typed, Refusal>
-    requires typed { IsTyped (scope_of state.now) stmt.now }
-    requires full { stmt.now ≢ s.Empty }
-    requires other { (set : LiteralView) → stmt.now ≢ s.Assume set }
-    ensures typed { IfOk result (λ typed. type_of_statement (scope_of state.now) stmt.now ≡ Ok (Some typed)) }
-    ensures faults { IfErr result (λ refusal. refusal ≡ Refusal.NoMemory) }
+// The type of a statement that may have one.
+fn type_of(alloc: Global, stmt: &Stmt, state: &State) -> Result<Option<Typed>, Refusal>
+    requires { IsTyped (scope_of state.now) stmt.now }
+    ensures { MatchResult result (λ typed. type_of_statement (scope_of state.now) stmt.now ≡ Ok typed)
+        (λ refusal. refusal ≡ Refusal.NoMemory) }
 {
-    match typed_statement(alloc, stmt, state.scope()) {
-        Ok(Some(typed)) => Ok(typed),
-        Ok(None) => unreachable!(),
-        Err(refusal) => Err(refusal),
-    }
+    typed_statement(alloc, stmt, state.scope())
 }
 
 // Binds the name to what is kept of the expression.
@@ -56,25 +48,23 @@ fn bound(
     stmt: &Stmt,
     name: &Name,
     expr: &Expr,
+    typed: Typed,
     state: &mut State,
     meter: &mut Meter,
 ) -> Result<(), Refusal>
+    requires typed { type_of_statement (scope_of state.old) stmt.now ≡ Ok (Some typed) }
     requires stmt { stmt.now ≡ s.Bind name.now expr.now }
     requires evaluable { IsEvaluable (scope_of state.old) stmt.now }
     requires fits { Fits (limit_of meter.old) state.old }
-    ensures made { MatchResult result
-        (λ _. ((before : Moment) → before.state ≡ state.old → limit_of before.meter ≡ limit_of meter.old
-        → (kept : KeptView) × Keeps before expr.now kept × Binds state.old name.now kept state.new)
-        × IsPaid (works state.old.assumed stmt.now) meter.old meter.new)
-        (λ refusal. IsWhyUnworked (works state.old.assumed stmt.now) (Ends state.old expr.now) meter.old meter.new refusal
-        × (state.new ≡ state.old)) }
-    ensures goes_on { OnOk result (GoesOn (Ends state.old expr.now)) }
+    ensures made { IsOutcome (works state.old.assumed stmt.now) (Ends state.old expr.now) meter.old meter.new
+        (λ _. (before : Moment) → before.state ≡ state.old → limit_of before.meter ≡ limit_of meter.old
+        → (kept : KeptView) × Keeps before expr.now kept × Binds state.old name.now kept state.new) result }
+    ensures err { OnErr result (state.new ≡ state.old) }
     ensures dollar { OnOk result (is_dollar name.now ≡ true → forgotten state.new ≡ forgotten state.old) }
     ensures settled { OnOk result (is_dollar name.now ≡ false → IsSettled state.old → IsSettled state.new) }
     ensures fits { OnOk result (Fits (limit_of meter.old) state.new) }
 {
     let name = name.copy()?;
-    let typed = type_of(alloc, stmt, state)?;
     let kept = content(alloc, expr, typed.kind(), state, meter)?;
     state.bind(name, kept, typed)?;
     Ok(())
@@ -91,10 +81,9 @@ fn narrowed(
     requires well_formed { IsWellFormedLiteral set.now }
     requires formulas { All HasNoCoordinates set.now.pieces }
     requires fits { Fits (limit_of meter.old) state.old }
-    ensures made { MatchResult result
-        (λ _. Narrows state.old set.now.params (HoldsSome set.now) state.new × IsCharged meter.old meter.new)
-        (λ refusal. IsWhyUnworked true (NarrowedEnds state.old set.now) meter.old meter.new refusal × (state.new ≡ state.old)) }
-    ensures goes_on { OnOk result (GoesOn (NarrowedEnds state.old set.now)) }
+    ensures made { IsOutcome true (NarrowedEnds state.old set.now) meter.old meter.new
+        (λ _. Narrows state.old set.now.params (HoldsSome set.now) state.new) result }
+    ensures err { OnErr result (state.new ≡ state.old) }
     ensures settled { OnOk result (IsSettled state.old → IsSettled state.new) }
     ensures fits { OnOk result (Fits (limit_of meter.old) state.new) }
 {
@@ -103,6 +92,47 @@ fn narrowed(
         Err(cut) => return Err(refusal_of(cut)),
     };
     state.narrow(alloc, &set, meter)
+}
+
+/// Evaluates a simple statement of this type, as `eval` does.
+pub(crate) fn eval_typed(
+    alloc: Global,
+    state: &mut State,
+    stmt: &SimpleStmt,
+    typed: Option<Typed>,
+    options: &Options,
+    meter: &mut Meter,
+) -> Result<Answer, Refusal>
+    requires typed { type_of_statement (scope_of state.old) stmt.now ≡ Ok typed }
+    requires evaluable { IsEvaluable (scope_of state.old) stmt.now }
+    requires asked { IsAssumedWhereListed (record { state = state.old; meter = meter.old; options = options.now }) stmt.now }
+    requires fits { Fits (limit_of meter.old) state.old }
+    ensures ok { IfOk result (Step (record { state = state.old; meter = meter.old; options = options.now }) stmt.now
+        (record { state = state.new; meter = meter.new; options = options.now })) }
+    ensures err { OnErr result (state.new ≡ state.old) }
+    ensures cause { IfErr result (IsWhyEnded (record { state = state.old; meter = meter.old; options = options.now }) stmt.now meter.new) }
+    ensures meter { MatchResult result (λ _. IsPaid (works state.old.assumed stmt.now) meter.old meter.new) (λ _. IsKept meter.old meter.new) }
+    ensures dollar { (name : NameView) (expr : trees.Expr) → stmt.now ≡ s.Bind name expr → is_dollar name ≡ true
+        → forgotten state.new ≡ forgotten state.old }
+    ensures settled { binds_dollar stmt.now ≡ false → IsSettled state.old → IsSettled state.new }
+    ensures fits { OnOk result (Fits (limit_of meter.old) state.new) }
+{
+    match stmt {
+        Stmt::Empty => Ok(Answer::nothing(alloc)),
+        Stmt::Bind(name, expr) => {
+            let typed = typed.unwrap();
+            bound(alloc, stmt, name, expr, typed, state, meter)?;
+            Ok(Answer::nothing(alloc))
+        }
+        Stmt::Show(expr) => {
+            let typed = typed.unwrap();
+            shown(alloc, expr, typed.kind(), state, options, meter)
+        }
+        Stmt::Assume(set) => {
+            narrowed(alloc, set, state, meter)?;
+            Ok(Answer::nothing(alloc))
+        }
+    }
 }
 
 /// Evaluates a simple statement. A parameter that is given no number counts as 0 where elements are listed; these numbers are assumed.
@@ -135,19 +165,6 @@ pub fn eval(
     ensures settled { binds_dollar stmt.now ≡ false → IsSettled state.old → IsSettled state.new }
     ensures fits { OnOk result (Fits (limit_of meter.old) state.new) }
 {
-    match stmt {
-        Stmt::Empty => Ok(Answer::nothing(alloc)),
-        Stmt::Bind(name, expr) => {
-            bound(alloc, stmt, name, expr, state, meter)?;
-            Ok(Answer::nothing(alloc))
-        }
-        Stmt::Show(expr) => {
-            let typed = type_of(alloc, stmt, state)?;
-            shown(alloc, expr, typed.kind(), state, options, meter)
-        }
-        Stmt::Assume(set) => {
-            narrowed(alloc, set, state, meter)?;
-            Ok(Answer::nothing(alloc))
-        }
-    }
+    let typed = type_of(alloc, stmt, state)?;
+    eval_typed(alloc, state, stmt, typed, options, meter)
 }

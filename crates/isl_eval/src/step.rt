@@ -16,11 +16,12 @@ ghost use Rattle.isl_eval.specs.Evaluated.{works};
 ghost use Rattle.isl_eval.specs.Evaluation.{AreEvaluable, IsClearStatement, IsTaken, IsWhyStopped, IsWhyUnasked};
 
 use crate::answers::Answer;
-use crate::simple::eval;
+use crate::simple::{eval, eval_typed};
 use crate::spelled::read;
 use crate::workable::{check, is_listing};
 use isl_expr::tree::Stmt;
 use isl_flat::{SimpleStmt, flatten};
+use isl_kinds::Typed;
 use isl_meter::Meter;
 use isl_text::refusal::Refusal;
 use isl_values::{State, refusal_of};
@@ -60,6 +61,20 @@ fn ask(
     }
 }
 
+// A statement with its type, if it has one.
+#[derive(Drop)]
+struct TypedStatement {
+    stmt: Stmt,
+    typed: Option<Typed>,
+}
+
+// The simple statements of a statement, and the type of the last of them, which is the statement's.
+#[derive(Drop)]
+struct Taken {
+    statements: Vec<SimpleStmt>,
+    typed: Option<Typed>,
+}
+
 // The statement that the bytes spell, where nothing that they say is a cause to refuse it.
 fn clear_statement(
     alloc: Global,
@@ -67,16 +82,16 @@ fn clear_statement(
     state: &State,
     options: &Options,
     meter: &Meter,
-) -> Result<Stmt, Refusal>
+) -> Result<TypedStatement, Refusal>
     ensures { (before : Moment) → before ≡ record { state = state.now; meter = meter.now; options = options.now }
-        → MatchResult result (IsClearStatement before bytes.now) (Refuses before bytes.now meter.now) }
+        → MatchResult result (λ found. IsClearStatement before bytes.now found.stmt found.typed) (Refuses before bytes.now meter.now) }
 {
     let stmt = match read(alloc, bytes, meter) {
         Ok(stmt) => stmt,
         Err(refusal) => return Err(refusal),
     };
     match check(alloc, &stmt, state.scope(), options.at()) {
-        Ok(()) => Ok(stmt),
+        Ok(typed) => Ok(TypedStatement { stmt, typed }),
         Err(refusal) => Err(refusal),
     }
 }
@@ -88,18 +103,23 @@ fn statements_of(
     state: &State,
     options: &Options,
     meter: &mut Meter,
-) -> Result<Vec<SimpleStmt>, Refusal>
+) -> Result<Taken, Refusal>
     requires fits { Fits (limit_of meter.old) state.now }
     ensures taken { (before : Moment) → before ≡ record { state = state.now; meter = meter.old; options = options.now }
-        → MatchResult result (λ statements. IsTaken before bytes.now statements.items) (Refuses before bytes.now meter.new) }
+        → MatchResult result (λ taken. IsTaken before bytes.now taken.statements.items taken.typed) (Refuses before bytes.now meter.new) }
     ensures meter { MatchResult result (λ _. meter.new ≡ meter.old) (λ _. IsKept meter.old meter.new) }
 {
-    let stmt = match clear_statement(alloc, bytes, state, options, meter) {
-        Ok(stmt) => stmt,
+    let TypedStatement { stmt, typed } = match clear_statement(
+        alloc, bytes, state, options, meter,
+    ) {
+        Ok(found) => found,
         Err(refusal) => return Err(refusal),
     };
     match ask(alloc, &stmt, state, options, meter) {
-        Ok(()) => Ok(flatten(alloc, stmt)?),
+        Ok(()) => Ok(Taken {
+            statements: flatten(alloc, stmt)?,
+            typed,
+        }),
         Err(refusal) => Err(refusal),
     }
 }
@@ -109,10 +129,11 @@ fn evaluate(
     alloc: Global,
     state: &mut State,
     statements: &[SimpleStmt],
+    typed: Option<Typed>,
     options: &Options,
     meter: &mut Meter,
 ) -> Result<Answer, Refusal>
-    requires evaluable { AreEvaluable (scope_of state.old) statements.now }
+    requires evaluable { AreEvaluable (scope_of state.old) statements.now typed }
     requires asked { All (IsAssumedWhereListed (record { state = state.old; meter = meter.old; options = options.now })) statements.now }
     requires fits { Fits (limit_of meter.old) state.old }
     ensures ok { IfOk result (Steps (record { state = state.old; meter = meter.old; options = options.now }) statements.now
@@ -131,7 +152,7 @@ fn evaluate(
     for stmt in others {
         eval(alloc, state, stmt, options, meter)?;
     }
-    eval(alloc, state, last, options, meter)
+    eval_typed(alloc, state, last, typed, options, meter)
 }
 
 // Forgets the names that the simple statements of a statement bound, where there are several.
@@ -174,11 +195,11 @@ pub fn answer(
     ensures cause { IfErr result (Refuses (record { state = state.old; meter = meter.old; options = options.now }) bytes.now meter.new) }
     ensures meter { MatchResult result (λ _. IsCharged meter.old meter.new) (λ _. IsKept meter.old meter.new) }
 {
-    let statements = match statements_of(alloc, bytes, state, options, meter) {
-        Ok(statements) => statements,
+    let Taken { statements, typed } = match statements_of(alloc, bytes, state, options, meter) {
+        Ok(taken) => taken,
         Err(refusal) => return Err(refusal),
     };
-    let answered = evaluate(alloc, state, statements.as_slice(), options, meter);
+    let answered = evaluate(alloc, state, statements.as_slice(), typed, options, meter);
     forget_after(state, statements.as_slice());
     answered
 }

@@ -1,17 +1,16 @@
 //! Tests: what values say of one another.
 
-ghost use Rattle.std.specs.Prelude.{◌≡◌, ◌↔◌, true, IfOk, IsTrue, MatchResult, unsigned_abs};
-ghost use Rattle.isl_meter.specs.Gauge.{IsCharged, limit_of};
+ghost use Rattle.std.specs.Prelude.{◌≡◌, ◌↔◌, true, IfOk, IsTrue, unsigned_abs};
+ghost use Rattle.isl_meter.specs.Gauge.{limit_of};
 ghost use Rattle.isl_space.specs.Names.{joined};
 ghost use Rattle.isl_union.specs.Compare.{IsSubset};
 ghost use Rattle.isl_union.specs.KeptValue.{Has, IsKeptValue};
 ghost use Rattle.isl_union.specs.Numbers.{IsWithinLimit};
 ghost use Rattle.isl_values.specs.State.{scope_of, Fits, HasNumbersUpTo};
-ghost use Rattle.isl_values.specs.Ends.{GoesOn};
-ghost use Rattle.isl_values.specs.Made.{IsWhyUnworked};
+ghost use Rattle.isl_values.specs.Made.{refusal_of_fault};
 ghost use Rattle.isl_values.specs.Selection.{Selects};
 ghost use Rattle.isl_eval.specs.Tests.{is_test, TestHolds};
-ghost use Rattle.isl_eval.specs.Evaluation.{ends_with_test, EndsTest, EndsTwo, IsReadyTest, IsTestOf, Tells, past_row};
+ghost use Rattle.isl_eval.specs.Evaluation.{ends_with_test, EndsTest, EndsTwo, IsOutcome, IsReadyTest, IsTestOf, Tells, past_row};
 
 use isl_expr::tree::{Binary, Expr, Link};
 use isl_meter::Meter;
@@ -67,6 +66,16 @@ fn is_proper_part(
     Ok(!turned)
 }
 
+/// Why a statement is refused of which an operation on values made nothing.
+pub(crate) fn refusal_of_operation(fault: OpFault) -> Refusal
+    ensures { result ≡ refusal_of_fault fault }
+{
+    match fault {
+        OpFault::TooWide => Refusal::TooWide,
+        OpFault::Cut(cut) => refusal_of(cut),
+    }
+}
+
 // What a test tells of two values.
 fn holds(
     alloc: Global,
@@ -109,16 +118,13 @@ fn told(
     requires left_kept { IsKeptValue left.value }
     requires right_kept { IsKeptValue right.value }
     requires fits { Fits (limit_of meter.old) state.now }
-    ensures made { MatchResult result
-        (λ holds. (IsTrue holds ↔ TestHolds state.now test (Has left.value) (Has right.value)) × IsCharged meter.old meter.new)
-        (IsWhyUnworked true (EndsTwo left.value right.value) meter.old meter.new) }
-    ensures goes_on { IfOk result (λ _. GoesOn (EndsTwo left.value right.value)) }
+    ensures { IsOutcome true (EndsTwo left.value right.value) meter.old meter.new
+        (λ holds. IsTrue holds ↔ TestHolds state.now test (Has left.value) (Has right.value)) result }
 {
     let operands = both_under(alloc, left, right, state, meter)?;
     match holds(alloc, test, &operands.left, &operands.right, meter) {
         Ok(holds) => Ok(holds),
-        Err(OpFault::Cut(cut)) => Err(refusal_of(cut)),
-        Err(OpFault::TooWide) => Err(Refusal::TooWide),
+        Err(fault) => Err(refusal_of_operation(fault)),
     }
 }
 
@@ -133,12 +139,9 @@ pub(crate) fn tested(
 ) -> Result<bool, Refusal>
     requires ready { IsReadyTest (scope_of state.now) first.now before.now last.now }
     requires fits { Fits (limit_of meter.old) state.now }
-    ensures made { MatchResult result
-        (λ holds. (IsTrue holds ↔ TestHolds state.now last.now.operator (past_row state.now first.now before.now)
-        (Selects state.now last.now.operand))
-        × IsCharged meter.old meter.new)
-        (IsWhyUnworked true (EndsTest state.now first.now before.now last.now) meter.old meter.new) }
-    ensures goes_on { IfOk result (λ _. GoesOn (EndsTest state.now first.now before.now last.now)) }
+    ensures { IsOutcome true (EndsTest state.now first.now before.now last.now) meter.old meter.new
+        (λ holds. IsTrue holds ↔ TestHolds state.now last.now.operator (past_row state.now first.now before.now)
+        (Selects state.now last.now.operand)) result }
 {
     let left = value_of(alloc, first, state, meter)?;
     let left = joined_past(alloc, left, before, state, meter)?;

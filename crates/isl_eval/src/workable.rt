@@ -60,19 +60,20 @@ fn declared_by(typed: &Option<Typed>) -> &[Name]
     }
 }
 
-/// Looks for the causes that come of what is bound, and of the numbers that parameters are given.
+/// Looks for the causes that come of what is bound, and of the numbers that parameters are given. Where there is none it gives the type of
+/// the statement, if it has one.
 pub(crate) fn check(
     alloc: Global,
     stmt: &Stmt,
     scope: &Scope,
     at: &[(Name, i128)],
-) -> Result<(), Refusal>
-    ensures { MatchResult result (λ _. IsWorkable scope.now at.now stmt.now) (IsWhyUnworkable scope.now at.now stmt.now) }
+) -> Result<Option<Typed>, Refusal>
+    ensures { MatchResult result (IsWorkable scope.now at.now stmt.now) (IsWhyUnworkable scope.now at.now stmt.now) }
 {
     let typed = typed_statement(alloc, stmt, scope)?;
     let declared = declared_by(&typed);
     if is_parametric(stmt, declared, at) {
         return Err(Refusal::Parametric);
     }
-    Ok(())
+    Ok(typed)
 }

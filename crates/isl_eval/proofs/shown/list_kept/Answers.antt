@@ -18,9 +18,10 @@ list-requires-clause-second c = c.in-Ok.ensures.made.0.1.definitions tt
 pub list-requires-clause-params : goal.list-requires-clause-params
 list-requires-clause-params c = c.in-Ok.ensures.made.0.1.params ∙ sym c.in-Ok.ensures.made.0.0.params
 
-pub returns-in-Ok-clause-made : goal.returns-in-Ok-clause-made
-returns-in-Ok-clause-made c = (
+pub returns-in-Ok : goal.returns-in-Ok
+returns-in-Ok c = (
   list_keeps c.args.state.now (limit_of c.args.meter.now) c.args.expr.now c.in-Ok.values c.list.result c.requires.kind c.in-Ok.ensures.made.0
       c.list.ensures,
   c.in-Ok.ensures.made.1,
+  c.in-Ok.ensures.goes_on,
 )

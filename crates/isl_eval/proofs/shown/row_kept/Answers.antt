@@ -1,13 +1,10 @@
 use Rattle.std.proofs.Common.{◌∙◌, ap, sym}
-use Rattle.std.proofs.lemmas.Result.{IfOk-weaker}
 use Rattle.std.specs.Option.{option_copied}
 use Rattle.isl_expr.specs.declared.tree.Binary.TheVariants as b
 use Rattle.isl_meter.specs.Gauge.{limit_of}
 use Rattle.isl_values.specs.Ends.{Ends}
-use Rattle.isl_values.proofs.FirstLaws.{goes_alike}
-use Rattle.isl_values.proofs.ValueLaws.{match_map}
 use Rattle.isl_eval.specs.Evaluation.{EndsPair}
-use Rattle.isl_eval.proofs.ShownLaws.{gist_ends, gist_kept, gist_sound, gist_works, paid_working, row_selects, unworked_working}
+use Rattle.isl_eval.proofs.ShownLaws.{gist_ends, gist_kept, gist_sound, gist_works, outcome_in, row_selects}
 use Rattle.isl_eval.proofs.shown.row_kept.Goals as goal
 
 pub simplified-requires-clause-left : goal.simplified-requires-clause-left
@@ -20,34 +17,18 @@ simplified-requires-clause-right c =
     (gist_sound c.args.state.now c.args.expr.now c.args.first.now c.in-Some.right.now c.args.links.now c.requires.is
     (sym c.context.ensures ∙ ap option_copied c.in-Some.is) c.requires.makeable).1
 
-pub returns-in-Some-clause-made : goal.returns-in-Some-clause-made
-returns-in-Some-clause-made c =
+pub returns-in-Some : goal.returns-in-Some
+returns-in-Some c =
     let state = c.args.state.now in
     let expr = c.args.expr.now in
     let first = c.args.first.now in
     let right = c.in-Some.right.now in
     let only = sym c.context.ensures ∙ ap option_copied c.in-Some.is in
-    let works = gist_works state expr first right c.args.links.now c.requires.is only in
-    match_map c.simplified.result _ _ _ _
-    (λ value h. (
-      gist_kept state expr first right c.args.links.now c.requires.is only (limit_of c.args.meter.now) value.value h.0,
-      paid_working _ c.args.meter.now c.simplified.new.meter works h.1,
-    ))
-    (λ refusal h. unworked_working _ (EndsPair state first b.Gist right) (Ends state expr) c.args.meter.now c.simplified.new.meter refusal
-    works (λ why ends. (gist_ends state expr first right c.args.links.now c.requires.is only why).0 ends) h)
-    c.simplified.ensures.made
-
-pub returns-in-Some-clause-goes_on : goal.returns-in-Some-clause-goes_on
-returns-in-Some-clause-goes_on c =
-    let state = c.args.state.now in
-    let expr = c.args.expr.now in
-    let first = c.args.first.now in
-    let right = c.in-Some.right.now in
-    let only = sym c.context.ensures ∙ ap option_copied c.in-Some.is in
-    IfOk-weaker c.simplified.result _ _
-    (λ value goes. goes_alike (EndsPair state first b.Gist right) (Ends state expr)
-    (gist_ends state expr first right c.args.links.now c.requires.is only) goes)
-    c.simplified.ensures.goes_on
+    outcome_in c.simplified.result _ _ (EndsPair state first b.Gist right) (Ends state expr) _ _ c.args.meter.now c.simplified.new.meter
+    (λ none. gist_works state expr first right c.args.links.now c.requires.is only ∙ none)
+    (gist_ends state expr first right c.args.links.now c.requires.is only)
+    (λ value h. gist_kept state expr first right c.args.links.now c.requires.is only (limit_of c.args.meter.now) value.value h)
+    c.simplified.ensures
 
 pub selected-requires-clause-selects : goal.selected-requires-clause-selects
 selected-requires-clause-selects c =

@@ -1,18 +1,16 @@
-use Rattle.std.proofs.Common.{◌≤◌, List, inl, length, refl, rules, subst, sym}
-use Rattle.std.proofs.lemmas.Result.{IfOk-weaker}
+use Rattle.std.proofs.Common.{[], inl, inr, refl, rules, subst, sym}
 use Rattle.std.specs.Prelude.{unsigned_abs}
 use Rattle.isl_expr.specs.declared.tree.Binary.TheVariants as b
 use Rattle.isl_meter.specs.Gauge.{limit_of}
 use Rattle.isl_meter.proofs.CutLemmas.{IsCharged_refl, IsCharged_trans}
-use Rattle.isl_space.specs.Limits.{most_parameters}
-use Rattle.isl_space.specs.Name.{Name}
 use Rattle.isl_union.specs.KeptValue.{HasNoDefinitions, IsKeptValue, KeptValue}
+use Rattle.isl_flat.specs.Flat.{link_of}
 use Rattle.isl_values.specs.Ends.{Ends, GoesOn}
-use Rattle.isl_values.proofs.ValueLaws.{fits_later, match_map, numbers_later}
+use Rattle.isl_values.proofs.ValueLaws.{fits_later, numbers_later}
 use Rattle.isl_eval.specs.Evaluation.{EndsPair, EndsTwo, IsGistIn}
-use Rattle.isl_eval.proofs.AssumedLaws.{two_few}
+use Rattle.isl_eval.proofs.EndsLaws.{two_ends, two_go}
 use Rattle.isl_eval.proofs.TestLaws.{at_deref, refused, unworked_on}
-use Rattle.isl_eval.proofs.ShownLaws.{flat_at, gist_later, pair_ended, pair_goes, pair_names, pair_right, simplified_is}
+use Rattle.isl_eval.proofs.ShownLaws.{flat_at, gist_later, outcome_after, pair_names, simplified_is}
 use Rattle.isl_eval.proofs.shown.simplified.Goals as goal
 
 pub flat_value_of-requires-2-clause-fits : goal.flat_value_of-requires-2-clause-fits
@@ -47,8 +45,8 @@ gist_in-requires-clause-fits c =
     c.in_ok-context.ensures.made.1.charged)
     c.requires.fits
 
-pub returns-clause-made : goal.returns-clause-made
-returns-clause-made c =
+pub returns : goal.returns
+returns c =
     let state = c.args.state.now in
     let g = c.args.meter.now in
     let one = c.in_ok-value.ensures in
@@ -58,39 +56,23 @@ returns-clause-made c =
     c.in_ok-context.ensures.made.0 in
     let names = pair_names state c.args.left.now c.args.right.now (unsigned_abs (limit_of g)) c.in_ok-value.value.value
     c.in_ok-context.context.value one.made.0 two in
-    match_map c.gist_in.result _ _ _ _
-    (λ gist h. (
-      simplified_is state c.args.left.now c.args.right.now (unsigned_abs (limit_of g)) c.in_ok-value.value.value c.in_ok-context.context.value
-          one.made.0 two gist.value
-          (subst (λ (k : KeptValue). IsGistIn state (unsigned_abs (limit_of g)) k c.in_ok-context.context.value gist.value) c.deref.ensures
-          (gist_later state g c.flat_value_of-2.new.meter c.deref.result.now c.in_ok-context.context.value gist.value charged h.0)),
-      IsCharged_trans g c.flat_value_of-2.new.meter c.gist_in.new.meter charged h.1,
-    ))
-    (λ refusal h. unworked_on _ (EndsTwo c.deref.result.now c.in_ok-context.context.value)
-    (EndsPair state c.args.left.now b.Gist c.args.right.now) g c.flat_value_of-2.new.meter c.gist_in.new.meter refusal
-    (λ why ends. pair_ended state c.args.left.now c.args.right.now one.goes_on c.in_ok-context.ensures.goes_on _ names why
+    let last = link_of b.Gist c.args.right.now in
+    outcome_after c.gist_in.result (EndsTwo c.deref.result.now c.in_ok-context.context.value)
+    (EndsPair state c.args.left.now b.Gist c.args.right.now) _ _ g c.flat_value_of-2.new.meter c.gist_in.new.meter charged
+    (λ why ends. two_ends state c.args.left.now [] last c.in_ok-value.value.value one.made.0.params one.made.0.elements one.goes_on
+    (λ reason no. no) c.in_ok-context.ensures.goes_on (λ s t formed no. no) _ names why
     (subst (λ (k : KeptValue). EndsTwo k c.in_ok-context.context.value why) c.deref.ensures ends))
-    charged h)
-    c.gist_in.ensures.made
+    (λ goes. two_go state c.args.left.now [] last c.in_ok-value.value.value one.made.0.params one.made.0.elements one.goes_on
+    (λ reason no. no) c.in_ok-context.ensures.goes_on (λ s t formed no. no) _ names
+    (subst (λ (k : KeptValue). GoesOn (EndsTwo k c.in_ok-context.context.value)) c.deref.ensures goes))
+    (λ gist is. simplified_is state c.args.left.now c.args.right.now (unsigned_abs (limit_of g)) c.in_ok-value.value.value
+    c.in_ok-context.context.value one.made.0 two gist.value
+    (subst (λ (k : KeptValue). IsGistIn state (unsigned_abs (limit_of g)) k c.in_ok-context.context.value gist.value) c.deref.ensures
+    (gist_later state g c.flat_value_of-2.new.meter c.deref.result.now c.in_ok-context.context.value gist.value charged is)))
+    c.gist_in.ensures
 
-pub returns-clause-goes_on : goal.returns-clause-goes_on
-returns-clause-goes_on c =
-    let state = c.args.state.now in
-    let g = c.args.meter.now in
-    let one = c.in_ok-value.ensures in
-    let two = flat_at state c.args.right.now g c.flat_value_of.new.meter c.in_ok-context.context.value one.made.1.charged
-    c.in_ok-context.ensures.made.0 in
-    let names = pair_names state c.args.left.now c.args.right.now (unsigned_abs (limit_of g)) c.in_ok-value.value.value
-    c.in_ok-context.context.value one.made.0 two in
-    IfOk-weaker c.gist_in.result _ _
-    (λ gist goes. pair_goes state c.args.left.now c.args.right.now one.goes_on c.in_ok-context.ensures.goes_on
-    (subst (λ (ns : List Name). length ns ≤ most_parameters) names
-    (two_few state.assumed c.in_ok-value.value.value c.in_ok-context.context.value one.made.0.kept two.kept
-    (subst (λ (k : KeptValue). GoesOn (EndsTwo k c.in_ok-context.context.value)) c.deref.ensures goes))))
-    c.gist_in.ensures.goes_on
-
-pub returns-in_err-value-clause-made : goal.returns-in_err-value-clause-made
-returns-in_err-value-clause-made c =
+pub returns-in_err-value : goal.returns-in_err-value
+returns-in_err-value c =
     refused c.from_residual.result _ _ c.in_err-value.field-0.0 (search rules)
     (unworked_on _ (Ends c.args.state.now c.args.left.now)
     (EndsPair c.args.state.now c.args.left.now b.Gist c.args.right.now) c.args.meter.now c.args.meter.now
@@ -98,11 +80,11 @@ returns-in_err-value-clause-made c =
     (λ why ends. inl ends) (IsCharged_refl c.args.meter.now c.args.meter.now refl)
     c.in_err-value.ensures.made)
 
-pub returns-in_err-context-clause-made : goal.returns-in_err-context-clause-made
-returns-in_err-context-clause-made c =
+pub returns-in_err-context : goal.returns-in_err-context
+returns-in_err-context c =
     refused c.from_residual-in_err-context.result _ _ c.in_err-context.field-0.0 (search rules)
     (unworked_on _ (Ends c.args.state.now c.args.right.now)
     (EndsPair c.args.state.now c.args.left.now b.Gist c.args.right.now) c.args.meter.now c.flat_value_of.new.meter
     c.flat_value_of-2.new.meter c.in_err-context.field-0.0
-    (pair_right c.args.state.now c.args.left.now c.args.right.now c.in_ok-value.ensures.goes_on)
+    (λ why ends. inr (c.in_ok-value.ensures.goes_on, inl ends))
     c.in_ok-value.ensures.made.1.charged c.in_err-context.ensures.made)

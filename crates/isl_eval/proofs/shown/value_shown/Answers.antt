@@ -8,14 +8,15 @@ use Rattle.isl_eval.proofs.TestLaws.{memory_unworked}
 use Rattle.isl_eval.proofs.ShownLaws.{value_shows}
 use Rattle.isl_eval.proofs.shown.value_shown.Goals as goal
 
-pub returns-clause-made : goal.returns-clause-made
-returns-clause-made c = (
+pub returns : goal.returns
+returns c = (
   (λ before here at. value_shows before c.args.state.now (limit_of c.args.meter.now) c.args.expr.now c.in_ok-kept.kept
-      c.in_ok-of_kept.field-0 c.in_ok-kept.ensures.made.0 c.in_ok-of_kept.ensures here at),
-  c.in_ok-kept.ensures.made.1,
+      c.in_ok-of_kept.field-0 c.in_ok-kept.ensures.0 c.in_ok-of_kept.ensures here at),
+  c.in_ok-kept.ensures.1,
+  c.in_ok-kept.ensures.2,
 )
 
-pub returns-in_err-of_kept-clause-made : goal.returns-in_err-of_kept-clause-made
-returns-in_err-of_kept-clause-made c =
+pub returns-in_err-of_kept : goal.returns-in_err-of_kept
+returns-in_err-of_kept c =
     memory_unworked c.from_residual-in_err-of_kept.result _ (list_any (uses_units c.args.state.now.assumed) (parts_of c.args.expr.now))
-    (Ends c.args.state.now c.args.expr.now) c.args.meter.now c.content.new.meter (search rules) c.in_ok-kept.ensures.made.1
+    (Ends c.args.state.now c.args.expr.now) c.args.meter.now c.content.new.meter (search rules) c.in_ok-kept.ensures.1

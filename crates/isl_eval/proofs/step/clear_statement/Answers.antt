@@ -11,9 +11,9 @@ returns-in-Err c before here =
 
 pub returns-in-Ok-check : goal.returns-in-Ok-check
 returns-in-Ok-check c before here =
-    clear_statement before c.args.state.now c.args.meter.now c.args.options.now c.args.bytes.now here c.in-Ok.stmt c.scope.result.now
-    (c.in-Ok.ensures before (same_meter before c.args.state.now c.args.meter.now c.args.options.now c.args.bytes.now here)) c.scope.ensures
-    (subst (λ (at : Valuation). IsWorkable c.scope.result.now at c.in-Ok.stmt) c.at.ensures c.in-Ok-check.ensures)
+    clear_statement before c.args.state.now c.args.meter.now c.args.options.now c.args.bytes.now here c.in-Ok.stmt c.in-Ok-check.typed
+    c.scope.result.now (c.in-Ok.ensures before (same_meter before c.args.state.now c.args.meter.now c.args.options.now c.args.bytes.now here)) c.scope.ensures
+    (subst (λ (at : Valuation). IsWorkable c.scope.result.now at c.in-Ok.stmt c.in-Ok-check.typed) c.at.ensures c.in-Ok-check.ensures)
 
 pub returns-in-Err-check : goal.returns-in-Err-check
 returns-in-Err-check c before here =
