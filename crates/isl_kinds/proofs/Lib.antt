@@ -5,3 +5,4 @@ pub mod DeclaredLaws
 pub mod PlaceLaws
 pub mod KnownLaws
 pub mod JoinedNamesLaws
+pub mod ForgetLaws

@@ -11,6 +11,6 @@ mod types;
 mod walk;
 
 pub use known::known_params;
-pub use scope::{Scope, Typed, is_dollar};
+pub use scope::{Scope, Typed, forget_behind, is_dollar};
 pub use types::{typed, typed_statement};
 pub use walk::{Part, PartTest, any_part};

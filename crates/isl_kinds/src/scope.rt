@@ -1,6 +1,6 @@
 //! What names are bound to: kinds and declared parameters.
 
-ghost use Rattle.std.specs.Prelude.{◌≡◌, IfOk, OnOk, OnErr, [], filter, not};
+ghost use Rattle.std.specs.Prelude.{◌≡◌, IfOk, OnOk, OnErr, [], All, false, filter, not, take};
 ghost use Rattle.std.specs.Option.{option_copied};
 ghost use Rattle.std.specs.Str.{bytes_eq};
 ghost use Rattle.indexmap.specs.IndexMap.{insert_entry};
@@ -56,10 +56,31 @@ pub fn is_dollar(name: &Name) -> bool
     name.as_str().as_bytes().first() == Some(&b'$')
 }
 
+/// Takes the entries out whose names begin with `$`, of which none stands among the first ones. It takes no memory, and looks at no more than
+/// the others.
+pub fn forget_behind<V: Drop>(bound: &mut IndexMap<Name, V>, settled: usize)
+    requires { All (λ entry. is_dollar entry.0 ≡ false) (take settled bound.old.entries) }
+    ensures { bound.new.entries ≡ filter (λ entry. not (is_dollar entry.0)) bound.old.entries }
+{
+    let mut at = bound.len();
+    while at > settled {
+        at -= 1;
+        let is_gone = match bound.get_index(at) {
+            Some((name, _)) => is_dollar(name),
+            None => false,
+        };
+        if is_gone {
+            bound.shift_remove_index(at);
+        }
+    }
+}
+
 /// The bound names, each with its kind and its declared parameters.
 #[derive(Drop)]
 pub struct Scope {
     bound: IndexMap<Name, Typed>,
+    // So many names, the first ones, do not begin with `$`.
+    settled: usize,
 }
 
 impl Model for Scope {
@@ -68,6 +89,11 @@ impl Model for Scope {
     ghost Value = { ScopeView };
 
     ghost view = { λ s. s.bound.entries };
+
+    ghost use Rattle.std.specs.Prelude.{◌≡◌, ◌≤◌, false, All, length, take};
+    ghost use Rattle.isl_kinds.specs.Typed.{is_dollar};
+
+    ghost invariant = { λ s. (s.settled ≤ length s.bound.entries) × All (λ entry. is_dollar entry.0 ≡ false) (take s.settled s.bound.entries) };
 }
 
 impl Scope {
@@ -77,6 +103,7 @@ impl Scope {
     {
         Scope {
             bound: IndexMap::new(alloc),
+            settled: 0,
         }
     }
 
@@ -96,10 +123,11 @@ impl Scope {
         Ok(())
     }
 
-    /// Forgets the names that begin with `$`. It takes no memory.
+    /// Forgets the names that begin with `$`. It takes no memory, and looks at no more than was bound since it was asked before.
     pub fn forget(&mut self)
         ensures { self.new ≡ filter (λ entry. not (is_dollar entry.0)) self.old }
     {
-        self.bound.retain(|name, _| !is_dollar(name));
+        forget_behind(&mut self.bound, self.settled);
+        self.settled = self.bound.len();
     }
 }
