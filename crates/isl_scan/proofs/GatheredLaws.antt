@@ -1,10 +1,10 @@
 -- The elements of pieces where the parameters have given numbers.
-use Rattle.std.proofs.Common.{◌≡◌, ◌∙◌, inl, inr, ◌+◌, ◌-◌, ◌^◌, ◌<◌, ℕ, ℤ, List, [], ◌∷◌, ◌++◌, length, get_or, take, map}
+use Rattle.std.proofs.Common.{◌≡◌, ◌∙◌, inl, inr, ◌+◌, ◌-◌, ◌^◌, ◌<◌, ℕ, ℤ, List, [], ◌∷◌, ◌++◌, length, get_or, take, drop, map}
 use Rattle.std.proofs.Common.{ap, sym, subst, refl, zero, suc, arith, string_bytes, All, Any}
 use Rattle.std.specs.Prelude.{◌↔◌}
 use Rattle.std.specs.List.{AllZip, Contains}
-use Rattle.std.proofs.lemmas.List.{take_more}
-use Rattle.std.proofs.lemmas.List.Elements.{Contains-get_or}
+use Rattle.std.proofs.lemmas.List.{take_more, take-append-drop}
+use Rattle.std.proofs.lemmas.List.Elements.{All-cons, All-drop, All-nil, All-take, Contains-append_cases, Contains-append_left, Contains-get_or}
 use Rattle.isl_math.proofs.ListLaws.{All-unmapped, Any-cases, Any-first, Any-later, Any-left, Any-none, Any-one, Any-parts, Any-right}
 use Rattle.isl_math.proofs.ListLaws.{AllZip-more, AllZip-weaker, Any-unmapped, Any-with}
 use Rattle.isl_meter.specs.Gauge.{Gauge, IsCharged}
@@ -29,7 +29,7 @@ use Rattle.isl_union.proofs.MeetSteps.{charged_bits}
 use Rattle.isl_union.proofs.SystemLaws.{view_free, view_is}
 use Rattle.isl_scan.specs.declared.group.Group.{Group}
 use Rattle.isl_scan.specs.Gathered.{AreFibresOf, AreGathered, HasAt, IsGroupOf, IsListable}
-use Rattle.isl_scan.specs.Groups.{elements_in, elements_of, space_in, IsAdded}
+use Rattle.isl_scan.specs.Groups.{elements_in, elements_of, space_in, AreMerged, IsGroup}
 use Rattle.isl_scan.specs.Listing.{IsListingOf}
 use Rattle.isl_scan.proofs.GroupLaws.{contains_in, elements_ordered}
 
@@ -54,19 +54,19 @@ module _ (g : Gauge) (numbers : List ℤ) (piece : PieceView) (listable : IsList
 
   -- so they are its group
   pub group_is : (group : Group) → string_bytes group.title ≡ space_text_of (space_in group) → space_in group ≡ piece.space
-      → ArePointsAt piece.system numbers group.points.items → IsGroupOf numbers piece group
+      → ArePointsAt piece.system numbers group.points → IsGroupOf numbers piece group
   group_is group title of_space are = record {
     sound = record {
       title = title;
       space = subst IsWellFormedSpace (sym of_space) listable.space;
-      long = subst (λ f. All (λ ns. length ns ≡ coordinates_of f) group.points.items) (sym of_space) (λ i d low.
+      long = subst (λ f. All (λ ns. length ns ≡ coordinates_of f) group.points) (sym of_space) (λ i d low.
           let columns = listable.columns in
-          let long = ((are.exact (get_or group.points.items i d)).0 (Contains-get_or group.points.items i d low)).0 in
+          let long = ((are.exact (get_or group.points i d)).0 (Contains-get_or group.points i d low)).0 in
           omega (arith, columns, long));
       ordered = are.ordered;
     };
-    exact = λ e. subst (λ f. Contains (elements_in f group.points.items) e ↔ HasAt numbers e piece) (sym of_space)
-        (points_have group.points.items are e);
+    exact = λ e. subst (λ f. Contains (elements_in f group.points) e ↔ HasAt numbers e piece) (sym of_space)
+        (points_have group.points are e);
   }
 
 -- what may be listed may be listed later
@@ -114,23 +114,36 @@ zip_long R [] (y ∷ ys) z = absurd z
 zip_long R (x ∷ xs) [] z = absurd z
 zip_long R (x ∷ xs) (y ∷ ys) z = ap suc (zip_long R xs ys z.1)
 
-pub zip_at : {A B : Type 0} (R : A → B → Type 0) (xs : List A) (ys : List B) (i : ℕ) (d : A) (e : B) → AllZip R xs ys → i < length xs
-    → R (get_or xs i d) (get_or ys i e)
-zip_at R [] ys i d e z low = absurd (omega arith)
-zip_at R (x ∷ xs) [] i d e z low = absurd z
-zip_at R (x ∷ xs) (y ∷ ys) zero d e z low = z.0
-zip_at R (x ∷ xs) (y ∷ ys) (suc i) d e z low = zip_at R xs ys i d e z.1 (omega arith)
+zip_take : {A B : Type 0} (R : A → B → Type 0) (n : ℕ) (xs : List A) (ys : List B) → AllZip R xs ys → AllZip R (take n xs) (take n ys)
+zip_take R zero xs ys z = tt
+zip_take R (suc n) [] [] z = tt
+zip_take R (suc n) [] (y ∷ ys) z = absurd z
+zip_take R (suc n) (x ∷ xs) [] z = absurd z
+zip_take R (suc n) (x ∷ xs) (y ∷ ys) z = (z.0, zip_take R n xs ys z.1)
 
--- one of the pieces, and its fibre
-pub fibre_at : (g h : Gauge) (numbers : List ℤ) (pieces : List PieceView) (fibres : List (List (List System))) (i : ℕ)
-    (piece : PieceView) (fibre : List (List System)) → IsCharged g h → AreFibresOf g numbers pieces fibres → i < length pieces
-    → piece ≡ get_or pieces i piece → fibre ≡ get_or fibres i fibre → IsListable h numbers piece × IsOverPiece h numbers piece fibre
-fibre_at g h numbers pieces fibres i piece fibre charged are low at there =
-    let later = fibres_later g h numbers pieces fibres charged are in
-    let own = zip_at (IsOverPiece h numbers) pieces fibres i piece fibre later.each low in (
-      subst (IsListable h numbers) (sym at) (later.listable i piece low),
-      subst (λ p. IsOverPiece h numbers p fibre) (sym at) (subst (IsOverPiece h numbers (get_or pieces i piece)) (sym there) own),
-    )
+zip_drop : {A B : Type 0} (R : A → B → Type 0) (n : ℕ) (xs : List A) (ys : List B) → AllZip R xs ys → AllZip R (drop n xs) (drop n ys)
+zip_drop R zero xs ys z = z
+zip_drop R (suc n) [] [] z = tt
+zip_drop R (suc n) [] (y ∷ ys) z = absurd z
+zip_drop R (suc n) (x ∷ xs) [] z = absurd z
+zip_drop R (suc n) (x ∷ xs) (y ∷ ys) z = zip_drop R n xs ys z.1
+
+-- those of the first pieces, and of the others
+pub fibres_cut : (g : Gauge) (numbers : List ℤ) (pieces : List PieceView) (fibres : List (List (List System))) (n : ℕ)
+    (first_pieces : List PieceView) (first_fibres : List (List (List System))) (other_pieces : List PieceView)
+    (other_fibres : List (List (List System))) → first_pieces ≡ take n pieces → first_fibres ≡ take n fibres
+    → other_pieces ≡ drop n pieces → other_fibres ≡ drop n fibres → AreFibresOf g numbers pieces fibres
+    → AreFibresOf g numbers first_pieces first_fibres × AreFibresOf g numbers other_pieces other_fibres
+fibres_cut g numbers pieces fibres n first_pieces first_fibres other_pieces other_fibres fp ff op of are = (
+  subst (λ ps. AreFibresOf g numbers ps first_fibres) (sym fp) (subst (λ fs. AreFibresOf g numbers (take n pieces) fs) (sym ff) (record {
+    listable = All-take (IsListable g numbers) n pieces are.listable;
+    each = zip_take (IsOverPiece g numbers) n pieces fibres are.each;
+  })),
+  subst (λ ps. AreFibresOf g numbers ps other_fibres) (sym op) (subst (λ fs. AreFibresOf g numbers (drop n pieces) fs) (sym of) (record {
+    listable = All-drop (IsListable g numbers) n pieces are.listable;
+    each = zip_drop (IsOverPiece g numbers) n pieces fibres are.each;
+  })),
+)
 
 -- ---- one piece after another
 pub gathered_none : (numbers : List ℤ) (groups : List Group) → groups ≡ [] → AreGathered numbers [] groups
@@ -139,21 +152,36 @@ gathered_none numbers groups none = subst (AreGathered numbers []) (sym none) (r
   exact = λ e. ((λ c. absurd (let h = c.1 in omega arith)), (λ a. absurd (Any-none (HasAt numbers e) a)));
 })
 
-pub gathered_more : (numbers : List ℤ) (pieces : List PieceView) (i : ℕ) (piece : PieceView) (olds news : List Group) (group : Group)
-    → i < length pieces → piece ≡ get_or pieces i piece → AreGathered numbers (take i pieces) olds
-    → ((e : Element) → Contains (elements_in (space_in group) group.points.items) e ↔ HasAt numbers e piece)
-    → IsAdded olds group news → AreGathered numbers (take (i + 1) pieces) news
-gathered_more numbers pieces i piece olds news group low at so_far has added =
-    subst (λ ps. AreGathered numbers ps news) (sym (take_more pieces i piece low ∙ ap (λ p. take i pieces ++ p ∷ []) (sym at))) (record {
-      sound = added.sound;
+pub gathered_one : (numbers : List ℤ) (piece : PieceView) (group : Group) (groups : List Group) → IsGroupOf numbers piece group
+    → groups ≡ group ∷ [] → AreGathered numbers (piece ∷ []) groups
+gathered_one numbers piece group groups is one = subst (AreGathered numbers (piece ∷ [])) (sym one) (record {
+  sound = record {
+    sound = All-cons IsGroup group [] is.sound (All-nil IsGroup);
+    ordered = λ i j d below low. absurd (omega (arith, below, low));
+  };
+  exact = λ e. (
+    (λ c. elim (Contains-append_cases (elements_in (space_in group) group.points) [] e c) [
+      | inl a ↦ Any-first (HasAt numbers e) piece [] ((is.exact e).0 a)
+      | inr b ↦ absurd (let h = b.1 in omega arith)
+    ]),
+    (λ a. Contains-append_left (elements_in (space_in group) group.points) [] e ((is.exact e).1 (Any-one (HasAt numbers e) piece a))),
+  );
+})
+
+pub gathered_both : (numbers : List ℤ) (pieces : List PieceView) (half : ℕ) (firsts seconds groups : List Group)
+    → AreGathered numbers (take half pieces) firsts → AreGathered numbers (drop half pieces) seconds → AreMerged firsts seconds groups
+    → AreGathered numbers pieces groups
+gathered_both numbers pieces half firsts seconds groups a b merged =
+    subst (λ ps. AreGathered numbers ps groups) (take-append-drop half pieces) (record {
+      sound = merged.sound;
       exact = λ e. (
-        (λ c. elim ((added.exact e).0 c) [
-          | inl old ↦ Any-left (HasAt numbers e) (take i pieces) (piece ∷ []) ((so_far.exact e).0 old)
-          | inr new ↦ Any-right (HasAt numbers e) (take i pieces) (piece ∷ []) (Any-first (HasAt numbers e) piece [] ((has e).0 new))
+        (λ c. elim ((merged.exact e).0 c) [
+          | inl f ↦ Any-left (HasAt numbers e) (take half pieces) (drop half pieces) ((a.exact e).0 f)
+          | inr s ↦ Any-right (HasAt numbers e) (take half pieces) (drop half pieces) ((b.exact e).0 s)
         ]),
-        (λ a. (added.exact e).1 (elim (Any-parts (HasAt numbers e) (take i pieces) (piece ∷ []) a) [
-          | inl old ↦ inl ((so_far.exact e).1 old)
-          | inr new ↦ inr ((has e).1 (Any-one (HasAt numbers e) piece new))
+        (λ h. (merged.exact e).1 (elim (Any-parts (HasAt numbers e) (take half pieces) (drop half pieces) h) [
+          | inl f ↦ inl ((a.exact e).1 f)
+          | inr s ↦ inr ((b.exact e).1 s)
         ])),
       );
     })

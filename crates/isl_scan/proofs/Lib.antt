@@ -1,6 +1,8 @@
 mod GatheredLaws
 mod GroupLaws
 mod MergeLaws
+mod MergedGroupLaws
+mod MergingLaws
 mod PairLaws
 mod SpaceTextLaws
 mod TextLaws

@@ -1,5 +1,5 @@
 -- Lists of points put together.
-use Rattle.std.proofs.Common.{◌≡◌, ◌∙◌, ◌⊎◌, inl, inr, ◌+◌, ◌≤◌, ℕ, ℤ, List, [], ◌∷◌, ◌++◌, length, reverse}
+use Rattle.std.proofs.Common.{◌≡◌, ◌∙◌, ◌⊎◌, inl, inr, ◌+◌, ◌≤◌, ℕ, ℤ, List, [], ◌∷◌, length}
 use Rattle.std.proofs.Common.{ap, sym, subst, refl, arith, All}
 use Rattle.std.specs.Prelude.{◌<ℤ◌, ◌↔◌}
 use Rattle.std.specs.List.{AllPairs, Contains}
@@ -21,13 +21,6 @@ P = List ℤ
 pub merged_nil : (xs : List P) → merged_points xs [] ≡ xs
 merged_nil [] = refl
 merged_nil (x ∷ xs) = refl
-
--- where no other is left
-pub left_over : (x : P) (rest points olds news whole : List P) → olds ≡ [] → news ≡ []
-    → points ++ merged_points (x ∷ rest) (reverse olds) ≡ whole → points ++ (x ∷ merged_points rest (reverse news)) ≡ whole
-left_over x rest points olds news whole e f so_far =
-    ap (λ l. points ++ (x ∷ merged_points rest (reverse l))) f ∙ ap (λ l. points ++ (x ∷ l)) (merged_nil rest)
-    ∙ sym (ap (λ l. points ++ merged_points (x ∷ rest) (reverse l)) e) ∙ so_far
 
 -- ---- what the comparison says of two points
 same_point : (xs ys : P) → point_cmp xs ys ≡ Equal → xs ≡ ys
@@ -61,7 +54,7 @@ after_from_cmp (x ∷ xs) (y ∷ ys) l e =
     (λ o g. inl g)
 
 -- ---- what is put together has the points of both
-all_merged : (Q : P → Type 0) (xs ys : List P) → All Q xs → All Q ys → All Q (merged_points xs ys)
+pub all_merged : (Q : P → Type 0) (xs ys : List P) → All Q xs → All Q ys → All Q (merged_points xs ys)
 all_merged Q [] ys a b = b
 all_merged Q (x ∷ xs) [] a b = a
 all_merged Q (x ∷ xs) (y ∷ ys) a b =

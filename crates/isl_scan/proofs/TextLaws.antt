@@ -1,7 +1,7 @@
 -- Texts, written one after the other.
 use Rattle.std.proofs.Common.{◌≡◌, ◌<◌, ◌≤◌, ◌+◌, ◌∙◌, ℕ, Bool, true, false, List, [], ◌∷◌, ◌++◌, length, get_or, drop, map, ap, sym, refl}
 use Rattle.std.specs.Prelude.{codes}
-use Rattle.std.proofs.lemmas.List.{append_assoc, append-nil, drop_all, drop_more}
+use Rattle.std.proofs.lemmas.List.{append_assoc, drop_all, drop_more}
 use Rattle.isl_print.specs.Joined.{Text, each_after}
 use Rattle.isl_print.specs.Printed.{pieces_text}
 use Rattle.isl_scan.specs.Rest.{lead_text, rest_text}

@@ -32,7 +32,7 @@ pub record AreFibresOf (g : Gauge) (numbers : List ℤ) (pieces : List PieceView
 -- a group, which has exactly the elements of the piece
 pub record IsGroupOf (numbers : List ℤ) (piece : PieceView) (group : Group) : Type 0 where
   pub sound : IsGroup group
-  pub exact : (element : Element) → Contains (elements_in (space_in group) group.points.items) element ↔ HasAt numbers element piece
+  pub exact : (element : Element) → Contains (elements_in (space_in group) group.points) element ↔ HasAt numbers element piece
 
 -- the groups have exactly the elements that the pieces have there
 pub record AreGathered (numbers : List ℤ) (pieces : List PieceView) (groups : List Group) : Type 0 where

@@ -1,5 +1,5 @@
 -- inner: listed elements, kept by their spaces.
-use Rattle.std.specs.Prelude.{◌≡◌, ◌↔◌, ◌⊎◌, ◌+◌, ◌≤◌, ℕ, ℤ, List, [], ◌∷◌, ◌++◌, All, AllPairs, Contains, length, map, string_bytes}
+use Rattle.std.specs.Prelude.{◌≡◌, ◌↔◌, ◌⊎◌, ◌+◌, ◌≤◌, ℕ, ℤ, List, [], ◌∷◌, ◌++◌, All, AllPairs, Any, Contains, length, map, string_bytes}
 use Rattle.std.specs.Cmp.Lexicographic.{slice_cmp}
 use Rattle.std.specs.Ordering.{nat_cmp}
 use Rattle.std.specs.declared.cmp.Ordering.{Ordering}
@@ -25,22 +25,30 @@ elements_in space points = map (element_of space) points
 -- those of all groups, in order
 abbrev pub elements_of : List Group → List Element
 elements_of [] = []
-elements_of (group ∷ groups) = elements_in (space_in group) group.points.items ++ elements_of groups
+elements_of (group ∷ groups) = elements_in (space_in group) group.points ++ elements_of groups
 
 -- the title is the text of the space, which is one that a value may have; each point has a number for each of its coordinates, and the
 -- points stand in order
 pub record IsGroup (group : Group) : Type 0 where
   pub title : string_bytes group.title ≡ space_text_of (space_in group)
   pub space : IsWellFormedSpace (space_in group)
-  pub long : All (λ numbers. length numbers ≡ coordinates_of (space_in group)) group.points.items
-  pub ordered : AllPairs IsBefore group.points.items
+  pub long : All (λ numbers. length numbers ≡ coordinates_of (space_in group)) group.points
+  pub ordered : AllPairs IsBefore group.points
 
 -- each is such, and the space of each comes before those of the later ones
 pub record AreGroups (groups : List Group) : Type 0 where
   pub sound : All IsGroup groups
   pub ordered : AllPairs (λ a b. IsSpaceBefore (space_in a) (space_in b)) groups
 
--- ---- one group more
+-- ---- which elements there are
+-- the points of the space have the numbers of the element
+abbrev pub IsIn : SpaceForm → List (List ℤ) → Element → Type 0
+IsIn space points element = (space ≡ element.space) × Contains points element.coordinates
+
+abbrev pub HasIn : Element → Group → Type 0
+HasIn element group = IsIn (space_in group) group.points element
+
+-- ---- groups put together
 -- how the title of the group stands to a text
 abbrev pub title_cmp : Group → List ℕ → Ordering
 title_cmp group text = slice_cmp nat_cmp (string_bytes group.title) text
@@ -49,11 +57,21 @@ title_cmp group text = slice_cmp nat_cmp (string_bytes group.title) text
 pub record IsJoined (group other both : Group) : Type 0 where
   pub title : both.title ≡ group.title
   pub space : both.space ≡ group.space
-  pub points : both.points.items ≡ merged_points group.points.items other.points.items
+  pub points : both.points ≡ merged_points group.points other.points
 
--- the new groups have the elements of the old ones and those of one group more, and no others
-pub record IsAdded (old : List Group) (group : Group) (new : List Group) : Type 0 where
-  pub sound : AreGroups new
-  pub exact : (element : Element) → Contains (elements_of new) element
-      ↔ (Contains (elements_of old) element ⊎ Contains (elements_in (space_in group) group.points.items) element)
-  pub count : length (elements_of new) ≤ length (elements_of old) + length group.points.items
+-- of two lists of groups so many are merged, and these are left of each: the merged ones and those of either list stand in order, and all
+-- together have the elements that they had before
+pub record AreLeft (old_merged old_firsts old_seconds merged firsts seconds : List Group) : Type 0 where
+  pub before_firsts : AreGroups (merged ++ firsts)
+  pub before_seconds : AreGroups (merged ++ seconds)
+  pub exact : (element : Element) → (Any (HasIn element) merged ⊎ (Any (HasIn element) firsts ⊎ Any (HasIn element) seconds))
+      ↔ (Any (HasIn element) old_merged ⊎ (Any (HasIn element) old_firsts ⊎ Any (HasIn element) old_seconds))
+  pub count : length (elements_of merged) + (length (elements_of firsts) + length (elements_of seconds))
+      ≤ length (elements_of old_merged) + (length (elements_of old_firsts) + length (elements_of old_seconds))
+
+-- the groups have the elements of both lists, and no others
+pub record AreMerged (firsts seconds groups : List Group) : Type 0 where
+  pub sound : AreGroups groups
+  pub exact : (element : Element) → Contains (elements_of groups) element
+      ↔ (Contains (elements_of firsts) element ⊎ Contains (elements_of seconds) element)
+  pub count : length (elements_of groups) ≤ length (elements_of firsts) + length (elements_of seconds)

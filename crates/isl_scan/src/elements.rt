@@ -1,6 +1,6 @@
 //! The elements of a value at one valuation.
 
-ghost use Rattle.std.specs.Prelude.{◌≡◌, ◌+◌, ◌≤◌, ℤ, List, All, IfOk, MatchOption, MatchResult, length};
+ghost use Rattle.std.specs.Prelude.{◌≡◌, ◌+◌, ◌≤◌, ◌∷◌, [], ℤ, List, All, IfOk, MatchOption, MatchResult, length};
 ghost use Rattle.isl_meter.specs.Gauge.{IsCharged, IsMetered};
 ghost use Rattle.isl_space.specs.SpaceForm.{IsWellFormedSpace};
 ghost use Rattle.isl_space.specs.Valuation.{Valuation, values_of};
@@ -13,7 +13,7 @@ ghost use Rattle.isl_scan.specs.Gathered.{AreFibresOf, AreGathered, IsGroupOf, I
 ghost use Rattle.isl_scan.specs.Groups.{elements_of, AreGroups};
 ghost use Rattle.isl_scan.specs.Listing.{IsListingOf};
 
-use crate::group::{Group, add};
+use crate::group::{Group, merged_groups};
 use crate::{Listing, ScanFault};
 use isl_meter::{Cut, Meter};
 use isl_piece::Piece;
@@ -51,12 +51,12 @@ fn group_of(alloc: Global, piece: &Piece, fibre: &Fibre, meter: &mut Meter) -> R
     requires fibre { IsFibre meter.old fibre.now }
     ensures exact { (numbers : List ℤ) → IsListable meter.old numbers piece.now → IsFibreOf meter.old piece.now.system numbers fibre.now
         → IfOk result (IsGroupOf numbers piece.now) }
-    ensures counted { IfOk result (λ group. length group.points.items + meter.old.units ≤ meter.new.units) }
+    ensures counted { IfOk result (λ group. length group.points + meter.old.units ≤ meter.new.units) }
     ensures meter { IsMetered meter.old meter.new result }
 {
     let space = piece.space().copy()?;
     let title = space.text(alloc)?;
-    let points = fibre.points(alloc, meter)?.into_vec();
+    let points = fibre.points(alloc, meter)?;
     Ok(Group {
         title,
         space,
@@ -64,7 +64,27 @@ fn group_of(alloc: Global, piece: &Piece, fibre: &Fibre, meter: &mut Meter) -> R
     })
 }
 
-// The elements of the pieces whose fibres these are.
+// The same as the only group.
+#[tactic(auto, using(std::proofs::lemmas::Grind::common_steps, isl_meter::proofs::CutLemmas::charges))]
+fn one_group(
+    alloc: Global,
+    piece: &Piece,
+    fibre: &Fibre,
+    meter: &mut Meter,
+) -> Result<Vec<Group>, Cut>
+    requires { (numbers : List ℤ) × IsListable meter.old numbers piece.now × IsFibreOf meter.old piece.now.system numbers fibre.now }
+    ensures exact { (numbers : List ℤ) → IsListable meter.old numbers piece.now → IsFibreOf meter.old piece.now.system numbers fibre.now
+        → IfOk result (λ groups. AreGathered numbers (piece.now ∷ []) groups.items) }
+    ensures counted { IfOk result (λ groups. length (elements_of groups.items) + meter.old.units ≤ meter.new.units) }
+    ensures meter { IsMetered meter.old meter.new result }
+{
+    let group = group_of(alloc, piece, fibre, meter)?;
+    let mut groups = Vec::new(alloc);
+    groups.push(group)?;
+    Ok(groups)
+}
+
+// The elements of the pieces whose fibres these are: of one half of them, and of the other.
 #[tactic(auto, using(std::proofs::lemmas::Grind::common_steps, isl_meter::proofs::CutLemmas::charges))]
 fn groups_of(
     alloc: Global,
@@ -79,12 +99,20 @@ fn groups_of(
     ensures counted { IfOk result (λ groups. length (elements_of groups.items) + meter.old.units ≤ meter.new.units) }
     ensures meter { IsMetered meter.old meter.new result }
 {
-    let mut groups = Vec::new(alloc);
-    for i in 0..pieces.len() {
-        let group = group_of(alloc, &pieces[i], &fibres[i], meter)?;
-        add(alloc, &mut groups, group)?;
+    match pieces {
+        [] => Ok(Vec::new(alloc)),
+        [piece] => one_group(alloc, piece, &fibres[0], meter),
+        _ => {
+            let half = pieces.len() / 2;
+            let (first_pieces, other_pieces) = pieces.split_at(half);
+            let (first_fibres, other_fibres) = fibres.split_at(half);
+            let firsts = groups_of(alloc, first_pieces, first_fibres, meter)?;
+            let seconds = groups_of(alloc, other_pieces, other_fibres, meter)?;
+            // There are no more elements than units, which 64 bits hold.
+            let _units = meter.units();
+            Ok(merged_groups(alloc, firsts, seconds)?)
+        }
     }
-    Ok(groups)
 }
 
 /// The elements that the value has where its parameters have these numbers, in their order. Each uses a unit or more. (the iscc

@@ -1,12 +1,11 @@
 //! Elements of one space.
 
-ghost use Rattle.std.specs.Prelude.{◌≡◌, ◌<◌, ◌≤◌, All, IfErr, IfOk, OnOk, length, slice_index_or, take};
-ghost use Rattle.std.specs.declared.cmp.Ordering.TheVariants.{Less, Equal, Greater};
+ghost use Rattle.std.specs.Prelude.{◌≡◌, ◌+◌, ◌<◌, ◌^◌, ◌∷◌, ◌++◌, suc, IfOk, OnOk, length, reverse};
 ghost use Rattle.isl_scan.specs.declared.group.Group.{Group};
-ghost use Rattle.isl_scan.specs.Groups.{title_cmp, AreGroups, IsAdded, IsGroup, IsJoined};
+ghost use Rattle.isl_scan.specs.Groups.{elements_of, space_in, AreGroups, AreLeft, AreMerged, IsGroup, IsJoined};
 
 use crate::merge::merged;
-use isl_points::Point;
+use isl_points::Points;
 use isl_space::Space;
 use std::alloc::{AllocError, Global};
 use std::cmp::Ordering;
@@ -16,30 +15,15 @@ use std::cmp::Ordering;
 pub(crate) struct Group {
     pub(crate) title: String,
     pub(crate) space: Space,
-    pub(crate) points: Vec<Point>,
-}
-
-// Where the group with this title stands, or else where it would.
-fn place_of(groups: &[Group], title: &str) -> Result<usize, usize>
-    ensures found { IfOk result (λ at. (at < length groups.now)
-        × ((d : Group) → title_cmp (slice_index_or groups.now at d) title.now ≡ Equal)) }
-    ensures within { IfErr result (λ at. at ≤ length groups.now) }
-    ensures before { IfErr result (λ at. All (λ group. title_cmp group title.now ≡ Less) (take at groups.now)) }
-    ensures next { IfErr result (λ at. at < length groups.now
-        → (d : Group) → title_cmp (slice_index_or groups.now at d) title.now ≡ Greater) }
-{
-    for (place, group) in groups.iter().enumerate() {
-        match group.title.as_str().cmp(title) {
-            Ordering::Less => {}
-            Ordering::Equal => return Ok(place),
-            Ordering::Greater => return Err(place),
-        }
-    }
-    Err(groups.len())
+    pub(crate) points: Points,
 }
 
 // One group of two of a space.
 fn joined(alloc: Global, group: Group, other: Group) -> Result<Group, AllocError>
+    requires group { IsGroup group }
+    requires other { IsGroup other }
+    requires same { space_in group ≡ space_in other }
+    requires few { length group.points + length other.points < 2 ^ 64 }
     ensures { IfOk result (IsJoined group other) }
 {
     let Group {
@@ -47,7 +31,7 @@ fn joined(alloc: Global, group: Group, other: Group) -> Result<Group, AllocError
         space,
         points,
     } = group;
-    let points = merged(alloc, points, other.points)?;
+    let points = merged(alloc, &points, &other.points, space.width() as usize)?;
     Ok(Group {
         title,
         space,
@@ -55,22 +39,66 @@ fn joined(alloc: Global, group: Group, other: Group) -> Result<Group, AllocError
     })
 }
 
-/// Puts the group in its place among the groups, or its points into the group of its space.
+// Puts the next of the groups that are left behind the others: the first one, or what comes before it. The groups that are left stand in
+// reverse order.
+fn push_next(
+    alloc: Global,
+    groups: &mut Vec<Group>,
+    first: Group,
+    firsts: &mut Vec<Group>,
+    seconds: &mut Vec<Group>,
+) -> Result<(), AllocError>
+    requires firsts { AreGroups (groups.old.items ++ first ∷ reverse firsts.old.items) }
+    requires seconds { AreGroups (groups.old.items ++ reverse seconds.old.items) }
+    requires few { length (elements_of (first ∷ reverse firsts.old.items)) + length (elements_of (reverse seconds.old.items)) < 2 ^ 64 }
+    ensures left { OnOk result (AreLeft groups.old.items (first ∷ reverse firsts.old.items) (reverse seconds.old.items)
+        groups.new.items (reverse firsts.new.items) (reverse seconds.new.items)) }
+    ensures fewer { OnOk result (length firsts.new.items + length seconds.new.items < suc (length firsts.old.items) + length seconds.old.items) }
+{
+    let Some(second) = seconds.pop() else {
+        groups.push(first)?;
+        return Ok(());
+    };
+    match first.title.as_str().cmp(second.title.as_str()) {
+        Ordering::Less => {
+            seconds.push(second)?;
+            groups.push(first)?;
+            Ok(())
+        }
+        Ordering::Equal => {
+            groups.push(joined(alloc, first, second)?)?;
+            Ok(())
+        }
+        Ordering::Greater => {
+            firsts.push(first)?;
+            groups.push(second)?;
+            Ok(())
+        }
+    }
+}
+
+/// The groups of both lists by their spaces, of which each has the points of both. In each list they stand in order.
 ///
 /// # Errors
 ///
 /// Where memory ends.
-pub(crate) fn add(alloc: Global, groups: &mut Vec<Group>, group: Group) -> Result<(), AllocError>
-    requires groups { AreGroups groups.old.items }
-    requires group { IsGroup group }
-    ensures { OnOk result (IsAdded groups.old.items group groups.new.items) }
+pub(crate) fn merged_groups(
+    alloc: Global,
+    mut firsts: Vec<Group>,
+    mut seconds: Vec<Group>,
+) -> Result<Vec<Group>, AllocError>
+    requires firsts { AreGroups firsts.items }
+    requires seconds { AreGroups seconds.items }
+    requires few { length (elements_of firsts.items) + length (elements_of seconds.items) < 2 ^ 64 }
+    ensures { IfOk result (λ groups. AreMerged firsts.items seconds.items groups.items) }
 {
-    match place_of(groups.as_slice(), group.title.as_str()) {
-        Ok(at) => {
-            let other = groups.remove(at);
-            groups.insert(at, joined(alloc, other, group)?)?;
-        }
-        Err(at) => groups.insert(at, group)?,
+    let mut groups = Vec::with_capacity(alloc, firsts.len())?;
+    firsts.reverse();
+    seconds.reverse();
+    while let Some(first) = firsts.pop() {
+        push_next(alloc, &mut groups, first, &mut firsts, &mut seconds)?;
     }
-    Ok(())
+    seconds.reverse();
+    groups.append(&mut seconds)?;
+    Ok(groups)
 }

@@ -59,12 +59,12 @@ fn write_group(out: &mut String, is_first: bool, group: &Group) -> Result<bool, 
     requires { IsGroup group.now }
     ensures { (others : List Text) → IfOk result (λ next. string_bytes out.new ++ rest_text next others
         ≡ string_bytes out.old
-        ++ rest_text is_first (map element_text (elements_in (space_in group.now) group.now.points.items) ++ others)) }
+        ++ rest_text is_first (map element_text (elements_in (space_in group.now) group.now.points) ++ others)) }
 {
     let mut is_first = is_first;
-    for point in group.points.as_slice() {
+    for place in 0..group.points.len() {
         write_lead(out, is_first)?;
-        write_tuples(out, &group.space, point.as_slice())?;
+        write_tuples(out, &group.space, group.points.get(place))?;
         is_first = false;
     }
     Ok(is_first)

@@ -6,9 +6,9 @@ use Rattle.isl_scan.specs.ListingText.{element_text}
 use Rattle.isl_scan.specs.Rest.{rest_text}
 use Rattle.isl_scan.proofs.listing.write_group.Given as goal
 
-abbrev pub invariant-loop-point : goal.invariant-loop-point
-invariant-loop-point l = (others : List Text)
+abbrev pub invariant-loop-place : goal.invariant-loop-place
+invariant-loop-place l = (others : List Text)
     → string_bytes l.out
-    ++ rest_text l.is_first (map (λ p. element_text (element_of (space_in l.group) p)) (drop l.point-index l.group.points.items) ++ others)
+    ++ rest_text l.is_first (map (λ p. element_text (element_of (space_in l.group) p)) (drop l.place l.group.points) ++ others)
     ≡ string_bytes l.initial.out
-    ++ rest_text l.initial.is_first (map (λ p. element_text (element_of (space_in l.group) p)) l.group.points.items ++ others)
+    ++ rest_text l.initial.is_first (map (λ p. element_text (element_of (space_in l.group) p)) l.group.points ++ others)

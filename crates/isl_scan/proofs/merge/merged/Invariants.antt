@@ -1,8 +1,10 @@
-use Rattle.std.proofs.Common.{◌≡◌, ◌++◌, reverse}
-use Rattle.isl_scan.specs.Merged.{merged_points}
+use Rattle.std.proofs.Common.{◌+◌, ◌-◌, length}
+use Rattle.isl_scan.specs.Merged.{IsMerging}
 use Rattle.isl_scan.proofs.merge.merged.Given as goal
 
--- what is merged, and what is still to be merged
-abbrev pub invariant-loop-point : goal.invariant-loop-point
-invariant-loop-point l = l.points.items ++ merged_points l.point-iterator.rest.items (reverse l.seconds.items)
-    ≡ merged_points l.fn.firsts.items l.fn.seconds.items
+abbrev pub invariant-loop-merging : goal.invariant-loop-merging
+invariant-loop-merging l =
+    IsMerging l.firsts l.seconds l.merging.numbers.items l.merging.count l.merging.first l.merging.second
+
+abbrev pub decreases-loop-merging : goal.decreases-loop-merging
+decreases-loop-merging l = (length l.firsts - l.merging.first) + (length l.seconds - l.merging.second)
