@@ -1,2 +1,3 @@
 pub mod Item
+pub mod Covered
 pub mod Nest
