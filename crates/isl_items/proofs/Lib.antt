@@ -1,0 +1,3 @@
+pub mod CalledLaws
+pub mod CoverLaws
+pub mod ItemsLaws
