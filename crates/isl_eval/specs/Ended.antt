@@ -4,7 +4,8 @@ use Rattle.isl_space.specs.Element.{Element}
 use Rattle.isl_assumed.specs.Assumed.{Assumes, PassesLimitAt}
 use Rattle.isl_expr.specs.declared.tree.Prefix.{Prefix}
 use Rattle.isl_expr.specs.declared.tree.Prefix.TheVariants as p
-use Rattle.isl_expr.specs.declared.tree.Expr.{Expr, Prefix'}
+use Rattle.isl_expr.specs.declared.tree.Expr.{Expr, Row', Prefix', Any', Last', Post'}
+use Rattle.isl_expr.specs.declared.tree.Expr as e
 use Rattle.isl_expr.specs.declared.tree.Stmt.{Stmt}
 use Rattle.isl_expr.specs.declared.tree.Stmt.TheVariants.{Empty, Bind, Show, Assume}
 use Rattle.isl_tree.specs.declared.tree.Literal.{Literal}
@@ -62,8 +63,13 @@ is_scan p.Codegen = false
 
 -- elements are asked for
 abbrev pub is_listing : Expr → Bool
+is_listing (e.Name name) = false
+is_listing (e.Literal literal) = false
+is_listing (Row' s first t links) = false
 is_listing (Prefix' word s operand) = is_scan word
-is_listing _ = false
+is_listing (Any' r source s sink t schedule) = false
+is_listing (Last' r source s sink t schedule) = false
+is_listing (Post' s operand t postfixes) = false
 
 abbrev pub lists : Stmt → Bool
 lists Empty = false

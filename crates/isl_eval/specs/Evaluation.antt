@@ -19,7 +19,8 @@ use Rattle.isl_text.specs.declared.refusal.Refusal.TheVariants.{NoMemory, NotAss
 use Rattle.isl_lower.specs.Value.{IsWellFormedLiteral}
 use Rattle.isl_expr.specs.declared.tree.Prefix.{Prefix}
 use Rattle.isl_expr.specs.declared.tree.Prefix.TheVariants as p
-use Rattle.isl_expr.specs.declared.tree.Expr.{Expr, Row', Prefix'}
+use Rattle.isl_expr.specs.declared.tree.Expr.{Expr, Row', Prefix', Any', Last', Post'}
+use Rattle.isl_expr.specs.declared.tree.Expr as e
 use Rattle.isl_expr.specs.declared.tree.Link.{Link}
 use Rattle.isl_expr.specs.declared.tree.Stmt.{Stmt}
 use Rattle.isl_expr.specs.declared.tree.Stmt.TheVariants.{Bind}
@@ -186,9 +187,13 @@ is_coalesce p.Codegen = false
 
 -- what is kept of it is what it selects: of all but `sample`, `coalesce` and one `%` of two operands
 abbrev pub keeps_selected : Expr → Bool
-keeps_selected (Prefix' word s operand) = not (is_sample word || is_coalesce word)
+keeps_selected (e.Name name) = true
+keeps_selected (e.Literal literal) = true
 keeps_selected (Row' s first t links) = not (is_some (context_of links))
-keeps_selected _ = true
+keeps_selected (Prefix' word s operand) = not (is_sample word || is_coalesce word)
+keeps_selected (Any' r source s sink t schedule) = true
+keeps_selected (Last' r source s sink t schedule) = true
+keeps_selected (Post' s operand t postfixes) = true
 
 -- the operand of the only operator of a list, where that is `%`
 abbrev pub context_in : List Link → Option Expr
@@ -217,9 +222,13 @@ refusal_of_fault scan_fault.Unbounded = Unbounded
 
 -- elements or a truth are asked for
 abbrev pub is_asked : Expr → Bool
-is_asked (Prefix' word s operand) = is_scan word
+is_asked (e.Name name) = false
+is_asked (e.Literal literal) = false
 is_asked (Row' s first t links) = row_ends_with_test links
-is_asked _ = false
+is_asked (Prefix' word s operand) = is_scan word
+is_asked (Any' r source s sink t schedule) = false
+is_asked (Last' r source s sink t schedule) = false
+is_asked (Post' s operand t postfixes) = false
 
 -- ---- tests
 

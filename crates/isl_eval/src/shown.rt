@@ -442,7 +442,7 @@ fn is_asked(expr: &Expr) -> bool
     match expr {
         Expr::Prefix(word, _) => matches!(word, Prefix::Scan),
         Expr::Row(_, links) => ends_with_test(links.as_slice()),
-        _ => false,
+        Expr::Name(_) | Expr::Literal(_) | Expr::Any(..) | Expr::Last(..) | Expr::Post(..) => false,
     }
 }
 

@@ -34,7 +34,12 @@ pub(crate) fn is_listing(expr: &Expr) -> bool
 {
     match expr {
         Expr::Prefix(word, _) => matches!(word, Prefix::Scan),
-        _ => false,
+        Expr::Name(_)
+        | Expr::Literal(_)
+        | Expr::Row(..)
+        | Expr::Any(..)
+        | Expr::Last(..)
+        | Expr::Post(..) => false,
     }
 }
 
