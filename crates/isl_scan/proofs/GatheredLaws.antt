@@ -4,7 +4,8 @@ use Rattle.std.proofs.Common.{ap, sym, subst, refl, zero, suc, arith, string_byt
 use Rattle.std.specs.Prelude.{◌↔◌}
 use Rattle.std.specs.List.{AllZip, Contains}
 use Rattle.std.proofs.lemmas.List.{take_more, take-append-drop}
-use Rattle.std.proofs.lemmas.List.Elements.{All-cons, All-drop, All-nil, All-take, Contains-append_cases, Contains-append_left, Contains-get_or}
+use Rattle.std.proofs.lemmas.List.Elements.{All-cons, All-drop, All-nil, All-take, Contains-append_cases, Contains-append_left}
+use Rattle.std.proofs.lemmas.List.Elements.{Contains-get_or}
 use Rattle.isl_math.proofs.ListLaws.{All-unmapped, Any-cases, Any-first, Any-later, Any-left, Any-none, Any-one, Any-parts, Any-right}
 use Rattle.isl_math.proofs.ListLaws.{AllZip-more, AllZip-weaker, Any-unmapped, Any-with}
 use Rattle.isl_meter.specs.Gauge.{Gauge, IsCharged}

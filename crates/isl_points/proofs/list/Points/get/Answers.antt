@@ -5,22 +5,26 @@ use Rattle.isl_points.proofs.list.Points.get.Goals as goal
 
 pub overflow_mul-from : goal.overflow_mul-from
 overflow_mul-from c =
-    let within = place_within c.self.inside.width c.self.inside.count c.args.place c.self.inside.numbers.items c.args.self.now c.self.invariant c.self.view_is c.requires in
+    let within = place_within c.self.inside.width c.self.inside.count c.args.place c.self.inside.numbers.items c.args.self.now
+    c.self.invariant c.self.view_is c.requires in
     grind (arith, common_steps, within)
 
 pub overflow_add-result : goal.overflow_add-result
 overflow_add-result c =
-    let within = place_within c.self.inside.width c.self.inside.count c.args.place c.self.inside.numbers.items c.args.self.now c.self.invariant c.self.view_is c.requires in
+    let within = place_within c.self.inside.width c.self.inside.count c.args.place c.self.inside.numbers.items c.args.self.now
+    c.self.invariant c.self.view_is c.requires in
     grind (arith, common_steps, within)
 
 pub offset_bounds-deref-from : goal.offset_bounds-deref-from
 offset_bounds-deref-from c =
-    let within = place_within c.self.inside.width c.self.inside.count c.args.place c.self.inside.numbers.items c.args.self.now c.self.invariant c.self.view_is c.requires in
+    let within = place_within c.self.inside.width c.self.inside.count c.args.place c.self.inside.numbers.items c.args.self.now
+    c.self.invariant c.self.view_is c.requires in
     grind (arith, common_steps, within)
 
 pub slice_bounds-result-end : goal.slice_bounds-result-end
 slice_bounds-result-end c =
-    let within = place_within c.self.inside.width c.self.inside.count c.args.place c.self.inside.numbers.items c.args.self.now c.self.invariant c.self.view_is c.requires in
+    let within = place_within c.self.inside.width c.self.inside.count c.args.place c.self.inside.numbers.items c.args.self.now
+    c.self.invariant c.self.view_is c.requires in
     grind (arith, common_steps, within)
 
 pub returns : goal.returns
