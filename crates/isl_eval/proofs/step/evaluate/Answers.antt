@@ -1,4 +1,5 @@
-use Rattle.std.proofs.Common.{◌<◌, ◌∷◌, ◌++◌, List, arith, length, subst, [], rules}
+use Rattle.std.proofs.Common.{◌<◌, ◌∷◌, ◌++◌, List, Option, arith, length, subst, [], rules}
+use Rattle.isl_kinds.specs.Typed.{TypeView}
 use Rattle.isl_expr.specs.declared.tree.Stmt.{Stmt}
 use Rattle.isl_values.specs.State.{Moment, scope_of}
 use Rattle.isl_eval.specs.Evaluation.{AreEvaluable, AreLeft}
@@ -95,34 +96,36 @@ then c = moment_of c.loop-stmt.state c.loop-stmt.meter c.args.options.now
 abbrev after : After-eval_typed → Moment
 after c = moment_of c.eval_typed.new.state c.eval_typed.new.meter c.args.options.now
 
-left : (c : After-eval_typed) → AreLeft (first c) (then c) c.in-Some.others.now (c.in-Some.last.now ∷ []) c.loop-stmt.typed-1
-left c = loop_last (first c) (then c) c.in-Some.others.now c.in-Some.last.now c.loop-stmt.stmt-index (omega arith) c.loop-stmt.invariant
+left : (c : After-eval_typed)
+    → (type : Option TypeView) × AreLeft (first c) (then c) c.in-Some.others.now (c.in-Some.last.now ∷ []) type
+left c =
+    (_, loop_last (first c) (then c) c.in-Some.others.now c.in-Some.last.now c.loop-stmt.stmt-index (omega arith) c.loop-stmt.invariant)
 
 pub returns-clause-ok : goal.returns-clause-ok
 returns-clause-ok c =
     answered_last (first c) (then c) (after c) c.args.statements.now c.in-Some.others.now c.in-Some.last.now c.eval_typed.result
-    c.in-Some.ensures.cases.0 (left c) c.eval_typed.ensures.ok c.eval_typed.ensures.meter
+    c.in-Some.ensures.cases.0 (left c).1 c.eval_typed.ensures.ok c.eval_typed.ensures.meter
 
 pub returns-clause-shown : goal.returns-clause-shown
 returns-clause-shown c =
-    shown_last (first c) (then c) (after c) c.in-Some.others.now c.in-Some.last.now c.eval_typed.result (left c) c.eval_typed.ensures.ok
+    shown_last (first c) (then c) (after c) c.in-Some.others.now c.in-Some.last.now c.eval_typed.result (left c).1 c.eval_typed.ensures.ok
 
 pub returns-clause-cause : goal.returns-clause-cause
 returns-clause-cause c =
     stopped_last (first c) (then c) c.args.statements.now c.in-Some.others.now c.in-Some.last.now c.eval_typed.new.meter
-    c.eval_typed.result c.in-Some.ensures.cases.0 (left c) c.eval_typed.ensures.cause
+    c.eval_typed.result c.in-Some.ensures.cases.0 (left c).1 c.eval_typed.ensures.cause
 
 pub returns-clause-meter : goal.returns-clause-meter
 returns-clause-meter c =
     paid_last (first c) (then c) (after c) c.args.statements.now c.in-Some.others.now c.in-Some.last.now c.eval_typed.result
-    c.in-Some.ensures.cases.0 (left c) c.eval_typed.ensures.meter
+    c.in-Some.ensures.cases.0 (left c).1 c.eval_typed.ensures.meter
 
 pub returns-clause-settled : goal.returns-clause-settled
 returns-clause-settled c =
     λ only is plain settled. alone_settled (first c) (then c) c.args.statements.now c.in-Some.others.now c.in-Some.last.now only
-    c.eval_typed.new.state c.in-Some.ensures.cases.0 is (left c) plain settled c.eval_typed.ensures.settled
+    c.eval_typed.new.state c.in-Some.ensures.cases.0 is (left c).1 plain settled c.eval_typed.ensures.settled
 
 pub returns-clause-fits : goal.returns-clause-fits
 returns-clause-fits c =
-    fits_last (first c) (then c) c.in-Some.others.now c.in-Some.last.now c.eval_typed.new.state c.eval_typed.result (left c)
+    fits_last (first c) (then c) c.in-Some.others.now c.in-Some.last.now c.eval_typed.new.state c.eval_typed.result (left c).1
     c.eval_typed.ensures.fits
