@@ -13,7 +13,9 @@ use Rattle.isl_loop.specs.Nest.{Lists, Timed}
 use Rattle.isl_loop.specs.Run.{rows_hold, trace}
 use Rattle.isl_loop.proofs.NestLaws.{lists_one}
 use Rattle.isl_nest.specs.Item.{counted, named, timed_at, HoldFront, IsCalledBehind, ItemView}
-use Rattle.isl_nest.specs.Nest.{IsNest, ListsNest, Nested, Place}
+use Rattle.isl_nest.specs.declared.nested.Nested.{Nested}
+use Rattle.isl_nest.specs.declared.place.Place.{Place}
+use Rattle.isl_nest.specs.Nest.{IsNest, ListsNest}
 
 -- no column behind the last is named
 pub named_short : (cs : List ℤ) → named cs ≤ length cs
@@ -48,7 +50,7 @@ module _ (item : ItemView) (place : Place) (nested : Nested) (shape : IsNest ite
       (subst (λ n. All (IsWellFormed n) item.rows) (sym long) formed) here.front in
       let none : columns ++ [] ≡ columns = append-nil columns in
       subst (λ (rows : List Row). Lists P (if rows_hold rows point then trace nested.tree point else [])) (sym shape.0)
-      (subst (Lists P) (sym (shape.1.call point here)) (lists_one P t (λ u. (
+      (subst (Lists P) (sym (shape.2.call point here)) (lists_one P t (λ u. (
         (λ p.
             let width = p.width in
             let sum = length-append columns p.rest in

@@ -20,7 +20,9 @@ use Rattle.isl_loop.specs.Run.{row_holds, rows_hold, trace}
 use Rattle.isl_loop.proofs.NestLaws.{lists_none, lists_same}
 use Rattle.isl_loop.proofs.RowLaws.{rows_tell}
 use Rattle.isl_nest.specs.Item.{counted, named, timed_at, HoldFront, HoldOwn, IsCalledBehind, ItemView}
-use Rattle.isl_nest.specs.Nest.{with_entry, IsFixedAt, IsHere, ListsNest, Nested, Place}
+use Rattle.isl_nest.specs.declared.nested.Nested.{Nested}
+use Rattle.isl_nest.specs.declared.place.Place.{Place}
+use Rattle.isl_nest.specs.Nest.{with_entry, IsFixedAt, IsHere, ListsNest}
 
 -- ---- columns that are not named
 none_named : (c : ℤ) (n : ℕ) → counted c n ≤ 0 → (c ≡ pos 0) × (n ≡ 0)
@@ -45,7 +47,7 @@ dot_named (c ∷ cs) [] x h =
 dot_named (c ∷ cs) (y ∷ xs) x h = ap (λ z. c *ℤ y +ℤ z) (dot_named cs xs x (fewer_named c (named cs) (length xs) h))
 
 -- one number more
-front_more : (rows : List Row) (columns : List ℤ) (x : ℤ) → HoldFront rows columns → HoldOwn rows (columns ++ x ∷ [])
+pub front_more : (rows : List Row) (columns : List ℤ) (x : ℤ) → HoldFront rows columns → HoldOwn rows (columns ++ x ∷ [])
     → HoldFront rows (columns ++ x ∷ [])
 front_more rows columns x front own = λ k d low few.
     let r : Row = get_or rows k d in
@@ -57,7 +59,7 @@ front_more rows columns x front own = λ k d low few.
     ]
 
 -- ---- tests of rows behind one another
-hold_true : (rows more : List Row) (point : List ℤ) → rows_hold rows point ≡ true → rows_hold (rows ++ more) point ≡ rows_hold more point
+pub hold_true : (rows more : List Row) (point : List ℤ) → rows_hold rows point ≡ true → rows_hold (rows ++ more) point ≡ rows_hold more point
 hold_true [] more point e = refl
 hold_true (r ∷ rows) more point e =
     step (row_holds point r) (rows_hold rows point) (rows_hold (rows ++ more) point) (rows_hold more point) e (hold_true rows more point)
@@ -66,7 +68,7 @@ hold_true (r ∷ rows) more point e =
     step true rest whole m e f = f e
     step false rest whole m e f = absurd (false≢true e)
 
-hold_false : (rows more : List Row) (point : List ℤ) → rows_hold rows point ≡ false → rows_hold (rows ++ more) point ≡ false
+pub hold_false : (rows more : List Row) (point : List ℤ) → rows_hold rows point ≡ false → rows_hold (rows ++ more) point ≡ false
 hold_false [] more point e = absurd (false≢true (sym e))
 hold_false (r ∷ rows) more point e =
     step (row_holds point r) (rows_hold rows point) (rows_hold (rows ++ more) point) e (hold_false rows more point)

@@ -1,2 +1,5 @@
+pub mod BehindLaws
 pub mod CallLaws
 pub mod FixedLaws
+pub mod LoopedLaws
+pub mod NestLaws

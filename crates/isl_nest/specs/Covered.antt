@@ -1,16 +1,11 @@
 -- public: items that nests are made of: well formed, with covers that end each column on both sides. (Bastoul, code generation in the
 -- polyhedral model)
-use Rattle.std.specs.Prelude.{◌≡◌, ◌≢◌, ◌⊎◌, ◌<ℤ◌, pos, Any, ℕ, ◌+◌, ◌^◌, ◌<◌, ◌≤◌, ℤ, List, [], All, Contains, length, slice_index_or}
+use Rattle.std.specs.Prelude.{◌≡◌, ℕ, ◌+◌, ◌^◌, ◌<◌, ◌≤◌, ℤ, List, [], All, Contains, length, slice_index_or}
 use Rattle.isl_meter.specs.Gauge.{Gauge}
 use Rattle.isl_piece.specs.declared.row.Row.{Row}
 use Rattle.isl_piece.specs.Row.{IsWellFormed}
 use Rattle.isl_frame.specs.Needed.{AreRowsOver}
 use Rattle.isl_bounds.specs.Bound.{HoldSome}
-use Rattle.isl_piece.specs.declared.row.RowKind.TheVariants.{Zero, AtLeast}
-use Rattle.isl_piece.specs.Row.{coef_at}
-use Rattle.isl_bounds.specs.Side.{toward}
-use Rattle.isl_bounds.specs.declared.side.Side.{Side}
-use Rattle.isl_bounds.specs.declared.side.Side.TheVariants.{Low, High}
 use Rattle.isl_nest.specs.declared.item.Item.{Item}
 use Rattle.isl_nest.specs.Item.{IsBegun, ItemView}
 
@@ -32,26 +27,15 @@ pub record IsItem (item : ItemView) : Type 0 where
   pub arguments : All (λ at. at < item.params + item.levels) item.arguments
   pub behind : (at : ℕ) → item.params + item.times ≤ at → at < item.params + item.levels → Contains item.arguments at
 
--- the row bounds the column from the side
-abbrev pub IsEndAt : Side → ℕ → Row → Type 0
-IsEndAt side column r =
-    ((r.kind ≡ Zero) × (coef_at r column ≢ pos 0)) ⊎ ((r.kind ≡ AtLeast) × (pos 0 <ℤ toward side (coef_at r column)))
-
--- rows that bound the column on both sides
-pub record AreEnded (column : ℕ) (rows : List Row) : Type 0 where
-  pub low : Any (IsEndAt Low column) rows
-  pub high : Any (IsEndAt High column) rows
-
 -- systems over so many first columns, of which one holds wherever these begin a point of the item
 pub record IsCover (g : Gauge) (item : ItemView) (columns : ℕ) (systems : List (List Row)) : Type 0 where
   pub over : All (AreRowsOver g columns) systems
   pub begun : (front : List ℤ) → length front ≡ columns → IsBegun item front → HoldSome systems front
 
--- a cover over the parameters, one over these and one column more, and so on; each but the first ends its last column on both sides
+-- a cover over the parameters, one over these and one column more, and so on
 pub record AreCovers (g : Gauge) (item : ItemView) (covers : List (List (List Row))) : Type 0 where
   pub count : length covers ≡ item.levels + 1
   pub each : (level : ℕ) → level ≤ item.levels → IsCover g item (item.params + level) (slice_index_or covers level [])
-  pub ended : (level : ℕ) → level < item.levels → All (AreEnded (item.params + level)) (slice_index_or covers (level + 1) [])
 
 -- what a nest can be made of: not too many columns, rows within the limit, and covers
 pub record IsCovered (g : Gauge) (item : Item) : Type 0 where

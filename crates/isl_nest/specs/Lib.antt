@@ -1,3 +1,4 @@
 pub mod Item
 pub mod Covered
+pub mod Places
 pub mod Nest

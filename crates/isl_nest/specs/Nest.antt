@@ -3,20 +3,20 @@
 -- abstract syntax trees)
 use Rattle.std.specs.Prelude.{◌≡◌, ◌⊎◌, ℕ, zero, suc, ◌+◌, ℤ, ◌<ℤ◌, if◌then◌else◌, List, [], ◌∷◌, ◌++◌, length, map}
 use Rattle.std.specs.List.{All, AllPairs, Contains}
+use Rattle.isl_meter.specs.Gauge.{Gauge}
 use Rattle.isl_piece.specs.declared.row.Row.{Row}
 use Rattle.isl_piece.specs.Row.{HoldsRow, IsWellFormed}
 use Rattle.isl_piece.specs.System.{HoldRows, widened}
 use Rattle.isl_frame.specs.Frame.{column_at, columns_at, own_column, IsFrame}
+use Rattle.isl_frame.specs.Needed.{AreRowsOver}
 use Rattle.isl_loop.specs.declared.tree.Loop.{Loop}
+use Rattle.isl_loop.specs.Formed.{IsLoopOver}
 use Rattle.isl_loop.specs.Nest.{Lists}
 use Rattle.isl_loop.specs.Run.{each_in, rows_hold, trace}
+use Rattle.isl_nest.specs.declared.nested.Nested.{Nested}
+use Rattle.isl_nest.specs.declared.place.Place.{Place}
 use Rattle.isl_nest.specs.Item.{timed_at, HoldFront, HoldOwn, IsBegun, IsCalledBehind, ItemView}
-
--- where a tree stands: how many parameters and loop variables are in scope, what they say of the columns so far, and rows that hold there
-pub record Place : Type 0 where
-  pub variables : ℕ
-  pub frame : List Row
-  pub context : List Row
+use Rattle.isl_nest.specs.Places.{AreGuards}
 
 -- the place holds at numbers of the parameters and variables, and so do the item's rows that name no further column
 pub record IsHere (item : ItemView) (place : Place) (point : List ℤ) : Type 0 where
@@ -24,6 +24,10 @@ pub record IsHere (item : ItemView) (place : Place) (point : List ℤ) : Type 0 
   pub context : HoldRows place.context point
   pub whole : HoldRows place.frame point
   pub front : HoldFront item.rows (columns_at place.frame point)
+
+-- more rows
+abbrev pub with_context : Place → List Row → Place
+with_context place rows = record { variables = place.variables; frame = place.frame; context = place.context ++ rows }
 
 -- one column more
 abbrev pub with_entry : Place → Row → List Row → Place
@@ -37,6 +41,10 @@ with_loop place rows = record {
 }
 
 -- ---- the parts
+-- no point begins here
+abbrev pub IsNowhere : ItemView → Place → Type 0
+IsNowhere item place = (point : List ℤ) → IsHere item place point → ¬ IsBegun item (columns_at place.frame point)
+
 -- behind the last column there is one call
 pub record IsCallAt (item : ItemView) (place : Place) (tree : Loop) : Type 0 where
   pub call : (point : List ℤ) → IsHere item place point → trace tree point ≡ (timed_at item (columns_at place.frame point)).1 ∷ []
@@ -62,23 +70,29 @@ pub record IsLoopedAt (item : ItemView) (place : Place) (turns : List ℤ → Li
       → HoldOwn item.rows (columns_at place.frame point ++ x ∷ [])
   pub known : (point : List ℤ) (x : ℤ) → length point ≡ place.variables → Contains (turns point) x → HoldRows inside (point ++ x ∷ [])
 
--- ---- the nest
--- a tree under rows; and rows that the variable of its loop meets at each turn, where it is one
-pub record Nested : Type 0 where
-  pub rows : List Row
-  pub tree : Loop
-  pub inside : List Row
+-- the tree goes through these turns: at each it runs the body, if the rows hold there; without a turn it does nothing
+pub record IsLoopOf (item : ItemView) (place : Place) (tree : Loop) (turns : List ℤ → List ℤ) (rows : List Row) (body : Loop)
+    : Type 0 where
+  pub calls : (point : List ℤ) → IsHere item place point
+      → trace tree point
+      ≡ each_in (λ x. if rows_hold rows (point ++ x ∷ []) then trace body (point ++ x ∷ []) else []) (turns point)
+  pub none : (point : List ℤ) → turns point ≡ [] → trace tree point ≡ []
 
+-- rows to ask, a tree and rows of its loop that are well formed over so many variables
+pub record IsNestOver (g : Gauge) (variables : ℕ) (nested : Nested) : Type 0 where
+  pub rows : AreGuards g variables nested.rows
+  pub tree : IsLoopOver g variables nested.tree
+  pub inside : AreRowsOver g (variables + 1) nested.inside
+
+-- ---- the nest
 -- with so many levels left
 abbrev pub IsNest : ItemView → ℕ → Place → Nested → Type 0
-IsNest item zero place nested = (nested.rows ≡ []) × IsCallAt item place nested.tree
+IsNest item zero place nested = (nested.rows ≡ []) × (nested.inside ≡ []) × IsCallAt item place nested.tree
 IsNest item (suc left) place nested =
     ((entry : Row) × (rows : List Row) × (more : List Row) × IsFixedAt item place entry rows × (nested.rows ≡ rows ++ more)
     × IsNest item left (with_entry place entry rows) (record { rows = more; tree = nested.tree; inside = nested.inside }))
     ⊎ ((turns : List ℤ → List ℤ) × (guards : List Row) × (body : Nested) × IsLoopedAt item place turns nested.inside guards
-    × (nested.rows ≡ [])
-    × ((point : List ℤ) → trace nested.tree point
-    ≡ each_in (λ x. if rows_hold (guards ++ body.rows) (point ++ x ∷ []) then trace body.tree (point ++ x ∷ []) else []) (turns point))
+    × (nested.rows ≡ []) × IsLoopOf item place nested.tree turns (guards ++ body.rows) body.tree
     × IsNest item left (with_loop place (nested.inside ++ guards)) body)
 
 -- what is to be shown of it: the tree lists the calls behind the columns, in the order of their times, wherever its rows are asked first
