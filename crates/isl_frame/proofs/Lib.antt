@@ -2,3 +2,4 @@ pub mod SumLaws
 pub mod SolvedLaws
 pub mod FrameLaws
 pub mod NeededLaws
+pub mod ZipLaws

@@ -1,13 +1,14 @@
 -- Sums of columns, over the variables.
 use Rattle.std.proofs.Common.{◌≡◌, ◌↔◌, refl, sym, ap, ◌∙◌, subst, arith, ℕ, ◌+◌, ◌<◌, ◌≤◌, ℤ, pos, ◌+ℤ◌, ◌*ℤ◌, ◌<ℤ◌, List, length, get_or}
-use Rattle.std.proofs.Common.{take}
+use Rattle.std.proofs.Common.{take, [], ◌∷◌, ◌++◌, length-append}
+use Rattle.std.specs.List.{remove}
 use Rattle.std.specs.Prelude.{replicate}
-use Rattle.std.proofs.lemmas.List.{get_or-map, length-map, length-replicate, take_all}
+use Rattle.std.proofs.lemmas.List.{get_or-map, get_or_at, length-map, length-replicate, take_all}
 use Rattle.isl_math.specs.Divide as divide
 use Rattle.isl_math.specs.Divide.{floor_div, IsGcdOf}
 use Rattle.isl_math.specs.Dot.{dot}
 use Rattle.isl_math.proofs.DivideLaws.{divisor_positive, exact_quotient}
-use Rattle.isl_math.proofs.DotLaws.{dot-take_more, dot-zeros}
+use Rattle.isl_math.proofs.DotLaws.{dot-append, dot-take_more, dot-zeros}
 use Rattle.isl_math.proofs.OrderLaws.{positive-*ℤ}
 use Rattle.isl_math.proofs.Ring.{expand, linear, *ℤ_assoc}
 use Rattle.isl_meter.specs.Gauge.{Gauge, IsWithin}
@@ -15,10 +16,12 @@ use Rattle.isl_piece.specs.declared.row.RowKind.{RowKind}
 use Rattle.isl_piece.specs.declared.row.RowKind.TheVariants.{Zero, AtLeast, Divides, NotDivides}
 use Rattle.isl_piece.specs.declared.row.Row.{Row}
 use Rattle.isl_piece.specs.Combine.{combination, scaled_divisor}
-use Rattle.isl_piece.specs.Row.{value_at, HasModulus, HoldsRow, HoldsValue, IsRowWithin}
+use Rattle.isl_piece.specs.Row.{coef_at, value_at, HasModulus, HoldsRow, HoldsValue, IsRowWithin, IsWellFormed}
+use Rattle.isl_piece.specs.System.{HoldRows}
 use Rattle.isl_piece.proofs.CombineLaws.{combination_formed, holds_scaled, value_at-combination}
 use Rattle.isl_piece.proofs.NumberLaws.{positive-divided}
-use Rattle.isl_frame.specs.Frame.{column_at, columns_at, IsThrough}
+use Rattle.isl_frame.specs.Frame.{column_at, columns_at, IsThrough, IsThroughBehind}
+use Rattle.isl_frame.proofs.SolvedLaws.{remove_long, rest_at, value_apart}
 use Rattle.isl_frame.specs.Sum.{IsSum, IsSumOf, IsSumWith}
 use Rattle.isl_frame.specs.declared.sum.Sum.{Sum}
 
@@ -164,3 +167,70 @@ module _ (variables : ℕ) (row : Row) (frame : List Row) where
     where
       moved : (a b : RowKind) (k l v w : ℤ) (P : Type 0) → a ≡ b → k ≡ l → v ≡ w → HoldsValue b l w ↔ P → HoldsValue a k v ↔ P
       moved a b k l v w P e f h t = rw (e, f, h) t
+
+-- ---- a row whose last column is a variable more
+module _ (variables : ℕ) (row : Row) (frame : List Row) (formed : IsWellFormed (length frame + 1) row) where
+  module _ (g : Gauge) (sum : Sum) (is : IsSum g sum) (front made : Row)
+      (front_is : front ≡ record { kind = row.kind; coefs = remove row.coefs (length frame); constant = row.constant; k = row.k })
+      (all : IsSumOf variables front frame (length frame) sum)
+      (made_is : made
+      ≡ record {
+        kind = sum.row.kind;
+        coefs = sum.row.coefs ++ (sum.scale *ℤ coef_at row (length frame)) ∷ [];
+        constant = sum.row.constant;
+        k = sum.row.k;
+      }) where
+    abbrev product : ℤ
+    product = sum.scale *ℤ coef_at row (length frame)
+
+    front_long : length front.coefs ≡ length frame
+    front_long = ap (λ (r : Row). length r.coefs) front_is ∙ remove_long row.coefs (length frame) formed.width
+
+    front_value : (point : List ℤ) → HoldRows frame point
+        → value_at sum.row point ≡ sum.scale *ℤ rest_at (length frame) row (columns_at frame point)
+    front_value point h =
+        let columns = columns_at frame point in
+        let wide = length-map frame (column_at point) in
+        let long = front_long in
+        let one = take_all (length frame) front.coefs (omega (arith, long)) in
+        let two = take_all (length frame) columns (omega (arith, wide)) in
+        all.value point h ∙ ap (λ (cs : List ℤ). sum.scale *ℤ (dot cs (take (length frame) columns) +ℤ front.constant)) one
+        ∙ ap (λ (xs : List ℤ). sum.scale *ℤ (dot front.coefs xs +ℤ front.constant)) two
+        ∙ ap (λ (r : Row). sum.scale *ℤ (dot r.coefs columns +ℤ r.constant)) front_is
+
+    made_value : (point : List ℤ) (x : ℤ) → length point ≡ variables → HoldRows frame point
+        → value_at made (point ++ x ∷ []) ≡ sum.scale *ℤ value_at row (columns_at frame point ++ x ∷ [])
+    made_value point x long h =
+        let columns = columns_at frame point in
+        let wide = length-map frame (column_at point) in
+        let apart = value_apart (length frame) row columns x formed wide in
+        let dots = dot-append sum.row.coefs (product ∷ []) point (x ∷ []) (all.width ∙ sym long) in
+        ap (λ (r : Row). value_at r (point ++ x ∷ [])) made_is
+        ∙ by (dot (sum.row.coefs ++ product ∷ []) (point ++ x ∷ [])) (dot sum.row.coefs point) sum.row.constant sum.scale
+        (coef_at row (length frame)) x (rest_at (length frame) row columns) dots (front_value point h)
+        ∙ ap (λ v. sum.scale *ℤ v) (sym apart)
+      where
+        by : (w d c s l x f : ℤ) → w ≡ d +ℤ ((s *ℤ l) *ℤ x +ℤ pos 0) → d +ℤ c ≡ s *ℤ f → w +ℤ c ≡ s *ℤ (f +ℤ l *ℤ x)
+        by w d c s l x f e v = let a = simp expand at e in let b = simp expand at v in simp expand (omega (arith, linear, a, b))
+
+    pub behind_whole : IsThroughBehind variables row frame made
+    behind_whole = record {
+      formed = record {
+        width = ap (λ (r : Row). length r.coefs) made_is ∙ length-append sum.row.coefs (product ∷ []) ∙ ap (λ n. n + 1) all.width;
+        modulus = subst (λ (r : Row). HasModulus r.kind r.k) (sym made_is) is.modulus;
+      };
+      kind = ap (λ (r : Row). r.kind) made_is ∙ all.kind ∙ ap (λ (r : Row). r.kind) front_is;
+      points = λ point x long h.
+          let scaled = holds_scaled row.kind sum.scale row.k (value_at row (columns_at frame point ++ x ∷ [])) is.positive in
+          moved made.kind row.kind made.k (scaled_divisor row.kind sum.scale row.k) (value_at made (point ++ x ∷ []))
+          (sum.scale *ℤ value_at row (columns_at frame point ++ x ∷ [])) (HoldsRow row (columns_at frame point ++ x ∷ []))
+          (ap (λ (r : Row). r.kind) made_is ∙ all.kind ∙ ap (λ (r : Row). r.kind) front_is)
+          (ap (λ (r : Row). r.k) made_is ∙ all.modulus ∙ ap (λ (r : Row). scaled_divisor r.kind sum.scale r.k) front_is)
+          (made_value point x long h) scaled;
+      scale = sum.scale;
+      positive = is.positive;
+      last = ap (λ (r : Row). coef_at r variables) made_is ∙ get_or_at sum.row.coefs product [] (pos 0) variables all.width;
+    }
+      where
+        moved : (a b : RowKind) (k l v w : ℤ) (P : Type 0) → a ≡ b → k ≡ l → v ≡ w → HoldsValue b l w ↔ P → HoldsValue a k v ↔ P
+        moved a b k l v w P e f h t = rw (e, f, h) t

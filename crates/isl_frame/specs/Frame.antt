@@ -1,6 +1,6 @@
 -- public: frames: columns as quotients of forms over the variables in scope, and rows over them. (Feautrier, on unimodular changes of
 -- variables; isl manual, on schedules)
-use Rattle.std.specs.Prelude.{◌≡◌, ◌↔◌, ℕ, ◌+◌, ℤ, pos, neg_ℤ, ◌*ℤ◌, List, [], ◌∷◌, ◌++◌, All, length, map, replicate}
+use Rattle.std.specs.Prelude.{◌≡◌, ◌↔◌, ℕ, ◌+◌, ℤ, pos, neg_ℤ, ◌*ℤ◌, ◌<ℤ◌, List, [], ◌∷◌, ◌++◌, All, length, map, replicate}
 use Rattle.std.specs.List.{remove}
 use Rattle.isl_math.specs.Divide.{floor_div}
 use Rattle.isl_math.specs.Dot.{scaled}
@@ -28,6 +28,17 @@ pub record IsThrough (variables : ℕ) (row : Row) (frame : List Row) (made : Ro
   pub formed : IsWellFormed variables made
   pub kind : made.kind ≡ row.kind
   pub points : (point : List ℤ) → HoldRows frame point → HoldsRow made point ↔ HoldsRow row (columns_at frame point)
+
+-- The row over the variables and one column behind them says what the other says of the columns and that one, wherever the columns are
+-- whole; and that one's coefficient has the same sign.
+pub record IsThroughBehind (variables : ℕ) (row : Row) (frame : List Row) (made : Row) : Type 0 where
+  pub formed : IsWellFormed (variables + 1) made
+  pub kind : made.kind ≡ row.kind
+  pub points : (point : List ℤ) (x : ℤ) → length point ≡ variables → HoldRows frame point
+      → HoldsRow made (point ++ x ∷ []) ↔ HoldsRow row (columns_at frame point ++ x ∷ [])
+  pub scale : ℤ
+  pub positive : pos 0 <ℤ scale
+  pub last : coef_at made variables ≡ scale *ℤ coef_at row (length frame)
 
 -- the row's form but for the last column, with the sign at which c x + f is |c| x - f or its negative, and |c| as the modulus
 abbrev pub isolated : ℕ → Row → Row

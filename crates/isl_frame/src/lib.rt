@@ -9,5 +9,5 @@ mod variable;
 
 pub use context::{are_known, needed};
 pub use equality::{isolated, signed};
-pub use rows::through;
+pub use rows::{all_through, all_through_behind, through, through_behind};
 pub use variable::{own_frame, widened, with_variable};
