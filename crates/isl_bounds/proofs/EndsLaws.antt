@@ -1,26 +1,26 @@
 -- Rows taken apart.
-use Rattle.std.proofs.Common.{◌≡◌, ◌≢◌, ◌↔◌, refl, sym, ap, ◌∙◌, subst, arith, ℕ, zero, suc, ◌+◌}
+use Rattle.std.proofs.Common.{◌≡◌, ◌≢◌, ◌↔◌, ◌⊎◌, inl, inr, refl, sym, ap, ◌∙◌, subst, arith, ℕ, zero, suc, ◌+◌, ◌<◌, length, length-append}
 use Rattle.std.proofs.Common.{ℤ, pos, negsuc, neg_ℤ, ◌+ℤ◌, ◌*ℤ◌, ◌<ℤ◌, ◌≤ℤ◌, List, [], ◌∷◌, ◌++◌}
 use Rattle.std.specs.Prelude.{OnOk, Result, Ok, Err}
-use Rattle.std.specs.List.{All, Contains}
+use Rattle.std.specs.List.{All, Any, Contains}
 use Rattle.std.proofs.lemmas.List.{append-nil, get_or-map, length-map}
 use Rattle.std.proofs.lemmas.List.Elements.{All-append, All-cons, All-head, All-nil, All-weaker}
 use Rattle.std.proofs.lemmas.List.Elements.{Contains-append_left, Contains-push}
 use Rattle.isl_math.specs.Dot.{dot, scaled}
 use Rattle.isl_math.specs.Order.{sign_of}
 use Rattle.isl_math.proofs.DotLaws.{dot-scaled}
-use Rattle.isl_math.proofs.ListLaws.{All-parts}
+use Rattle.isl_math.proofs.ListLaws.{All-parts, Any-one, Any-parts}
 use Rattle.isl_math.proofs.OrderLaws.{abs_positive, sign-*ℤ}
 use Rattle.isl_math.proofs.Ring.{expand, linear}
 use Rattle.isl_meter.specs.Gauge.{Gauge}
 use Rattle.isl_piece.specs.declared.row.RowKind.{RowKind}
-use Rattle.isl_piece.specs.declared.row.RowKind.TheVariants.{Zero, AtLeast}
+use Rattle.isl_piece.specs.declared.row.RowKind.TheVariants.{Zero, AtLeast, Divides, NotDivides}
 use Rattle.isl_piece.specs.declared.row.Row.{Row}
 use Rattle.isl_piece.specs.Row.{coef_at, value_at, HasModulus, HoldsRow, HoldsValue, IsRowWithin, IsWellFormed}
 use Rattle.isl_piece.specs.System.{HoldRows}
 use Rattle.isl_bounds.specs.Bound.{IsEnd}
 use Rattle.isl_bounds.specs.Directed.{directed}
-use Rattle.isl_bounds.specs.Ends.{AreEndsOf, IsNoEnd}
+use Rattle.isl_bounds.specs.Ends.{AreEndsOf, IsEndAt, IsNoEnd}
 use Rattle.isl_bounds.specs.Side.{toward}
 use Rattle.isl_bounds.specs.declared.ends.Ends.{Ends}
 use Rattle.isl_bounds.specs.declared.side.Side.{Side}
@@ -80,7 +80,17 @@ module _ (g : Gauge) (variables : ℕ) (rows : List Row) (row : Row) (old : Ends
 
   module _ (low high others : List Row) (lows : All (IsEnd g variables Low) low) (highs : All (IsEnd g variables High) high)
       (none : All (λ r. (r ≡ row) × IsNoEnd variables r) others)
-      (same : (point : List ℤ) → HoldsRow row point ↔ (HoldRows low point × HoldRows high point × HoldRows others point)) where
+      (same : (point : List ℤ) → HoldsRow row point ↔ (HoldRows low point × HoldRows high point × HoldRows others point))
+      (some_low : IsEndAt Low variables row → 0 < length low) (some_high : IsEndAt High variables row → 0 < length high) where
+    some_more : (side : Side) (was now more : List Row) → now ≡ was ++ more → (Any (IsEndAt side variables) rows → 0 < length was)
+        → (IsEndAt side variables row → 0 < length more) → Any (IsEndAt side variables) (rows ++ row ∷ []) → 0 < length now
+    some_more side was now more e before here any =
+        let long = ap length e ∙ length-append was more in
+        elim (Any-parts (IsEndAt side variables) rows (row ∷ []) any) [
+          | inl early ↦ let some = before early in omega (arith, long, some)
+          | inr late ↦ let some = here (Any-one (IsEndAt side variables) row late) in omega (arith, long, some)
+        ]
+
     pub ends_more : (new : Ends) → new.low ≡ old.low ++ low → new.high ≡ old.high ++ high → new.others ≡ old.others ++ others
         → AreEndsOf g variables (rows ++ row ∷ []) new
     ends_more new e f h = record {
@@ -110,6 +120,8 @@ module _ (g : Gauge) (variables : ℕ) (rows : List Row) (row : Row) (old : Ends
                 let d = All-parts H old.others others t.2 in
                 All-append H rows (row ∷ []) (first.1 (a.0, b.0, d.0)) (All-cons H row [] (one.1 (a.1, b.1, d.1)) (All-nil H))),
           );
+      some_low = some_more Low old.low new.low low e is.some_low some_low;
+      some_high = some_more High old.high new.high high f is.some_high some_high;
     }
 
   alone : (point : List ℤ) → HoldsRow row point ↔ HoldRows (row ∷ []) point
@@ -119,6 +131,28 @@ module _ (g : Gauge) (variables : ℕ) (rows : List Row) (row : Row) (old : Ends
 
   nothing : (point : List ℤ) → HoldRows [] point
   nothing point = All-nil (λ r. HoldsRow r point)
+
+  -- an inequality bounds the column from one side
+  not_both : AtLeast ≢ Zero
+  not_both e = cc
+
+  one_sided : (c : ℤ) → row.kind ≡ AtLeast → pos 0 <ℤ toward Low c
+      → ¬ (((row.kind ≡ Zero) × (c ≢ pos 0)) ⊎ ((row.kind ≡ AtLeast) × (pos 0 <ℤ toward High c)))
+  one_sided c kind above (inl h) = not_both (sym kind ∙ h.0)
+  one_sided c kind above (inr h) = let below = h.1 in omega (arith, linear, above, below)
+
+  other_sided : (c : ℤ) → row.kind ≡ AtLeast → pos 0 <ℤ toward High c
+      → ¬ (((row.kind ≡ Zero) × (c ≢ pos 0)) ⊎ ((row.kind ≡ AtLeast) × (pos 0 <ℤ toward Low c)))
+  other_sided c kind below (inl h) = not_both (sym kind ∙ h.0)
+  other_sided c kind below (inr h) = let above = h.1 in omega (arith, linear, above, below)
+
+  no_sided : (side : Side) → ¬ (pos 0 <ℤ toward side (pos 0)) → IsNoEnd variables row → ¬ IsEndAt side variables row
+  no_sided side none (inl without) (inl h) = h.1 without
+  no_sided side none (inl without) (inr h) = none (subst (λ c. pos 0 <ℤ toward side c) without h.1)
+  no_sided side none (inr (inl kind)) (inl h) = (let e : Divides ≡ Zero = sym kind ∙ h.0 in cc)
+  no_sided side none (inr (inl kind)) (inr h) = (let e : Divides ≡ AtLeast = sym kind ∙ h.0 in cc)
+  no_sided side none (inr (inr kind)) (inl h) = (let e : NotDivides ≡ Zero = sym kind ∙ h.0 in cc)
+  no_sided side none (inr (inr kind)) (inr h) = (let e : NotDivides ≡ AtLeast = sym kind ∙ h.0 in cc)
 
   same_end : (new : Ends) (list : List Row) → list ≡ list ++ []
   same_end new list = sym (append-nil list)
@@ -130,6 +164,7 @@ module _ (g : Gauge) (variables : ℕ) (rows : List Row) (row : Row) (old : Ends
       (IsEnd g variables High))
       (All-nil (λ r. (r ≡ row) × IsNoEnd variables r))
       (λ point. let a = alone point in ((λ p. (a.0 p, nothing point, nothing point)), (λ t. a.1 t.0)))
+      (λ h. omega arith) (λ h. absurd (one_sided (coef_at row variables) end.kind end.toward h))
       new e (f ∙ same_end new old.high) (h ∙ same_end new old.others)
 
   pub ends_high : IsEnd g variables High row → (new : Ends) → new.low ≡ old.low → new.high ≡ old.high ++ row ∷ [] → new.others ≡ old.others
@@ -139,6 +174,7 @@ module _ (g : Gauge) (variables : ℕ) (rows : List Row) (row : Row) (old : Ends
       (IsEnd g variables High)))
       (All-nil (λ r. (r ≡ row) × IsNoEnd variables r))
       (λ point. let a = alone point in ((λ p. (nothing point, a.0 p, nothing point)), (λ t. a.1 t.1)))
+      (λ h. absurd (other_sided (coef_at row variables) end.kind end.toward h)) (λ h. omega arith)
       new (e ∙ same_end new old.low) f (h ∙ same_end new old.others)
 
   pub ends_other : IsNoEnd variables row → (new : Ends) → new.low ≡ old.low → new.high ≡ old.high → new.others ≡ old.others ++ row ∷ []
@@ -147,6 +183,7 @@ module _ (g : Gauge) (variables : ℕ) (rows : List Row) (row : Row) (old : Ends
       ends_more [] [] (row ∷ []) (All-nil (IsEnd g variables Low)) (All-nil (IsEnd g variables High))
       (All-cons (λ r. (r ≡ row) × IsNoEnd variables r) row [] (refl, end) (All-nil (λ r. (r ≡ row) × IsNoEnd variables r)))
       (λ point. let a = alone point in ((λ p. (nothing point, nothing point, a.0 p)), (λ t. a.1 t.2)))
+      (λ h. absurd (no_sided Low (omega (arith, linear)) end h)) (λ h. absurd (no_sided High (omega (arith, linear)) end h))
       new (e ∙ same_end new old.low) (f ∙ same_end new old.high) h
 
   pub ends_both : (c : ℤ) → c ≡ coef_at row variables → IsWellFormed (variables + 1) row → row.kind ≡ Zero → coef_at row variables ≢ pos 0
@@ -173,6 +210,7 @@ module _ (g : Gauge) (variables : ℕ) (rows : List Row) (row : Row) (old : Ends
         (λ p. let t = told.0 p in (All-cons H low [] (one.1 t.0) (All-nil H), All-cons H high [] (other.1 t.1) (All-nil H), All-nil H)),
         (λ t. told.1 (one.0 (All-head H low [] t.0), other.0 (All-head H high [] t.1))),
       ))
+      (λ h. omega arith) (λ h. omega arith)
       new (ap (λ (e : Ends). e.low) made) (ap (λ (e : Ends). e.high) made) (ap (λ (e : Ends). e.others) made ∙ same_end new old.others)
 
 -- ---- inequalities as they are
