@@ -22,7 +22,7 @@ use Rattle.isl_union.proofs.AlignedLaws.{Any-mapped}
 use Rattle.isl_covers.specs.Covers.{AreCoversOf, AreEnded, IsEnded}
 use Rattle.isl_frame.specs.Needed.{AreRowsOver}
 use Rattle.isl_bounds.specs.declared.side.Side.TheVariants.{Low, High}
-use Rattle.isl_nest.specs.Covered.{AreEnded as AreBounded, IsEndAt}
+use Rattle.isl_bounds.specs.Ends.{AreEnded as AreBounded, IsEndAt}
 use Rattle.isl_nest.specs.Covered.{view_of, AreCovers, IsCover, IsCovered, IsItem}
 use Rattle.isl_nest.specs.Item.{ItemView}
 use Rattle.isl_nest.specs.declared.item.Item.{Item}

@@ -6,6 +6,7 @@ use Rattle.isl_piece.specs.declared.row.Row.{Row}
 use Rattle.isl_piece.specs.Row.{IsWellFormed}
 use Rattle.isl_frame.specs.Needed.{AreRowsOver}
 use Rattle.isl_bounds.specs.Bound.{HoldSome}
+use Rattle.isl_bounds.specs.Ends.{AreEnded}
 use Rattle.isl_nest.specs.declared.item.Item.{Item}
 use Rattle.isl_nest.specs.Item.{IsBegun, ItemView}
 
@@ -32,10 +33,11 @@ pub record IsCover (g : Gauge) (item : ItemView) (columns : ℕ) (systems : List
   pub over : All (AreRowsOver g columns) systems
   pub begun : (front : List ℤ) → length front ≡ columns → IsBegun item front → HoldSome systems front
 
--- a cover over the parameters, one over these and one column more, and so on
+-- a cover over the parameters, one over these and one column more, and so on; each but the first ends its last column on both sides
 pub record AreCovers (g : Gauge) (item : ItemView) (covers : List (List (List Row))) : Type 0 where
   pub count : length covers ≡ item.levels + 1
   pub each : (level : ℕ) → level ≤ item.levels → IsCover g item (item.params + level) (slice_index_or covers level [])
+  pub ended : (level : ℕ) → level < item.levels → All (AreEnded (item.params + level)) (slice_index_or covers (level + 1) [])
 
 -- what a nest can be made of: not too many columns, rows within the limit, and covers
 pub record IsCovered (g : Gauge) (item : Item) : Type 0 where
