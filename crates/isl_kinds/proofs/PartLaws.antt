@@ -1,6 +1,6 @@
 -- What passes a test in an expression, at the constructors of the code.
 use mathlib.Core.Former.{Count}
-use Rattle.std.proofs.Common.{◌≡◌, ◌∙◌, Bool, true, false, ◌||◌, List, ◌∷◌, ◌++◌, refl, sym, ap, ap₂}
+use Rattle.std.proofs.Common.{◌≡◌, ◌∙◌, Bool, false, ◌||◌, List, ◌∷◌, ◌++◌, refl, sym, ap}
 use Rattle.std.specs.List.{list_any}
 use Rattle.std.proofs.lemmas.List.Folds.{list_any-append}
 use Rattle.isl_expr.specs.declared.tree.Prefix.{Prefix as Word}
@@ -50,59 +50,9 @@ parts_of-Last source sink schedule = refl
 
 -- ---- what passes a test
 
-or_right : (a b c : Bool) → (a || b || c) ≡ (a || (b || c))
-or_right true b c = refl
-or_right false b c = refl
-
-three_any : (test : Part → Bool) (xs ys zs : List Part)
-    → list_any test (xs ++ (ys ++ zs)) ≡ (list_any test xs || list_any test ys || list_any test zs)
-three_any test xs ys zs =
-    list_any-append test xs (ys ++ zs)
-    ∙ ap (λ (b : Bool). list_any test xs || b) (list_any-append test ys zs)
-    ∙ sym (or_right (list_any test xs) (list_any test ys) (list_any test zs))
-
 -- a part that does not pass changes nothing
 passed_by : (t a b : Bool) → t ≡ false → a ≡ b → a ≡ (t || b)
 passed_by t a b quiet is = is ∙ sym (ap (λ (s : Bool). s || b) quiet)
-
-pub at-Row : (test : Part → Bool) (x first : Expr) (links : List Link) (a b : Bool) → x ≡ Row first links
-    → a ≡ list_any test (parts_of first)
-    → b ≡ list_any test (parts_of_links links) → (a || b) ≡ list_any test (parts_of x)
-at-Row test x first links a b is left right =
-    ap₂ (λ (p q : Bool). p || q) left right
-    ∙ sym (ap (λ y. list_any test (parts_of y)) is ∙ ap (list_any test) (parts_of-Row first links)
-    ∙ list_any-append test (parts_of first) (parts_of_links links))
-
-pub at-Post : (test : Part → Bool) (x operand : Expr) (postfixes : List Postfix) (a b : Bool) → x ≡ Post operand postfixes
-    → a ≡ list_any test (parts_of operand) → b ≡ list_any test (parts_of_postfixes postfixes) → (a || b) ≡ list_any test (parts_of x)
-at-Post test x operand postfixes a b is left right =
-    ap₂ (λ (p q : Bool). p || q) left right
-    ∙ sym (ap (λ y. list_any test (parts_of y)) is ∙ ap (list_any test) (parts_of-Post operand postfixes)
-    ∙ list_any-append test (parts_of operand) (parts_of_postfixes postfixes))
-
-pub at-Prefix : (test : Part → Bool) (x operand : Expr) (word : Word) (a : Bool) → x ≡ Prefix word operand → test (part.prefix word) ≡ false
-    → a ≡ list_any test (parts_of operand) → a ≡ list_any test (parts_of x)
-at-Prefix test x operand word a is quiet inner =
-    passed_by (test (part.prefix word)) a (list_any test (parts_of operand)) quiet inner
-    ∙ sym (ap (λ y. list_any test (parts_of y)) is ∙ ap (list_any test) (parts_of-Prefix word operand))
-
-pub at-Any : (test : Part → Bool) (x source sink schedule : Expr) (a b c : Bool) → x ≡ Any source sink schedule → test part.any ≡ false
-    → a ≡ list_any test (parts_of source) → b ≡ list_any test (parts_of sink) → c ≡ list_any test (parts_of schedule)
-    → (a || b || c) ≡ list_any test (parts_of x)
-at-Any test x source sink schedule a b c is quiet first second third =
-    passed_by (test part.any) (a || b || c) (list_any test (parts_of source ++ (parts_of sink ++ parts_of schedule))) quiet
-    (rw (first, second, third) (sym (three_any test (parts_of source) (parts_of sink) (parts_of schedule))))
-    ∙ sym (ap (λ y. list_any test (parts_of y)) is ∙ ap (list_any test) (parts_of-Any source sink schedule))
-
-pub at-Last : (test : Part → Bool) (x source sink schedule : Expr) (a b c : Bool) → x ≡ Last source sink schedule → test part.last ≡ false
-    → a ≡ list_any test (parts_of source) → b ≡ list_any test (parts_of sink) → c ≡ list_any test (parts_of schedule)
-    → (a || b || c) ≡ list_any test (parts_of x)
-at-Last test x source sink schedule a b c is quiet first second third =
-    passed_by (test part.last) (a || b || c) (list_any test (parts_of source ++ (parts_of sink ++ parts_of schedule))) quiet
-    (rw (first, second, third) (sym (three_any test (parts_of source) (parts_of sink) (parts_of schedule))))
-    ∙ sym (ap (λ y. list_any test (parts_of y)) is ∙ ap (list_any test) (parts_of-Last source sink schedule))
-
-pub ruleset expressions = (at-Row, at-Post, at-Prefix, at-Any, at-Last)
 
 -- ---- lists
 
@@ -112,10 +62,3 @@ any_in_link test link links quiet =
     let behind = list_any test (parts_of link.operand ++ parts_of_links links) in
     sym (passed_by (test (part.operator link.operator)) behind behind quiet refl)
     ∙ list_any-append test (parts_of link.operand) (parts_of_links links)
-
-pub any_in_postfix : (test : Part → Bool) (postfix : Postfix) (postfixes : List Postfix)
-    → list_any test (parts_of_postfixes (postfix ∷ postfixes)) ≡
-    (list_any test (parts_of_postfix postfix) || list_any test (parts_of_postfixes postfixes))
-any_in_postfix test postfix postfixes = list_any-append test (parts_of_postfix postfix) (parts_of_postfixes postfixes)
-
-pub ruleset lists = (any_in_link, any_in_postfix)

@@ -12,5 +12,5 @@ mod walk;
 
 pub use known::known_params;
 pub use scope::{Scope, Typed, forget_behind, is_dollar};
-pub use types::{typed, typed_statement};
+pub use types::typed_statement;
 pub use walk::{Part, PartTest, any_part};

@@ -162,21 +162,13 @@ fn type_for(alloc: Global, purpose: Purpose, expr: &Expr, scope: &Scope) -> Resu
     Ok(Typed::new(kind, params))
 }
 
-/// The kind of an expression and its declared parameters: those of the first operand, then the new ones of the second.
+/// The type of what a statement binds or shows, if it does so: the kind of the expression and its declared parameters, those of the first
+/// operand and then the new ones of the second.
 ///
 /// # Errors
-/// In this order: `UnknownName` where a name is unbound, or an identifier of a literal unknown; `WrongKind` where an operation
-/// takes no operands of such kinds; `NoElement` where an element of a list is asked for that no list has. And `NoMemory`.
-pub fn typed(alloc: Global, expr: &Expr, scope: &Scope) -> Result<Typed, Refusal>
-    ensures { Answers result (spec.type_for Purpose.Shown scope.now expr.now) }
-{
-    type_for(alloc, Purpose::Shown, expr, scope)
-}
-
-/// The type of what a statement binds or shows, if it does so.
-///
-/// # Errors
-/// Those of `typed`, and `WrongKind` also where a value of this kind may not be bound. Of an assumption `UnknownName` alone.
+/// In this order: `UnknownName` where a name is unbound, or an identifier of a literal unknown; `WrongKind` where an operation takes no
+/// operands of such kinds, or a value of this kind may not be bound; `NoElement` where an element of a list is asked for that no list
+/// has. Of an assumption `UnknownName` alone. And `NoMemory`.
 pub fn typed_statement(alloc: Global, stmt: &Stmt, scope: &Scope) -> Result<Option<Typed>, Refusal>
     ensures { Answers result (spec.type_of_statement scope.now stmt.now) }
 {

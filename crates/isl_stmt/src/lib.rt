@@ -11,7 +11,7 @@ mod statement;
 mod word;
 
 pub use isl_flat::{SimpleStmt, flatten};
-pub use isl_kinds::{Scope, Typed, typed};
+pub use isl_kinds::{Scope, Typed, typed_statement};
 pub use isl_script::Cutter;
 pub use names::spelled_names;
 pub use read::{one_statement, read_statement};
