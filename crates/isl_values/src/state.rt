@@ -18,7 +18,7 @@ use crate::{ListPart, ListValue};
 use indexmap::IndexMap;
 use isl_assumed::Assumed;
 use isl_expr::tree::ValueKind;
-use isl_kinds::{Scope, Typed, is_dollar};
+use isl_kinds::{Scope, Typed, forget_behind};
 use isl_meter::Meter;
 use isl_space::Name;
 use isl_text::refusal::Refusal;
@@ -202,6 +202,8 @@ pub struct State {
     // The types of what is bound.
     scope: Scope,
     bound: IndexMap<Name, Kept>,
+    // So many names, the first ones, do not begin with `$`.
+    settled: usize,
     assumed: Assumed,
 }
 
@@ -216,7 +218,11 @@ impl Model for State {
 
     ghost view = { λ s. record { bound = s.bound.entries; assumed = s.assumed } };
 
-    ghost invariant = { λ s. s.scope ≡ scope_of (record { bound = s.bound.entries; assumed = s.assumed }) };
+    ghost use Rattle.std.specs.Prelude.{◌≤◌, false, All, length, take};
+    ghost use Rattle.isl_kinds.specs.Typed.{is_dollar};
+
+    ghost invariant = { λ s. (s.scope ≡ scope_of (record { bound = s.bound.entries; assumed = s.assumed }))
+        × (s.settled ≤ length s.bound.entries) × All (λ entry. is_dollar entry.0 ≡ false) (take s.settled s.bound.entries) };
 }
 
 impl State {
@@ -227,6 +233,7 @@ impl State {
         State {
             scope: Scope::new(alloc),
             bound: IndexMap::new(alloc),
+            settled: 0,
             assumed: Assumed::all(),
         }
     }
@@ -270,12 +277,14 @@ impl State {
         }
     }
 
-    /// Forgets the names that no script has, which begin with `$`. It takes no memory.
+    /// Forgets the names that no script has, which begin with `$`. It takes no memory, and looks at no more names than were bound since it
+    /// was asked before.
     pub fn forget(&mut self)
         ensures { self.new ≡ forgotten self.old }
     {
         self.scope.forget();
-        self.bound.retain(|name, _| !is_dollar(name));
+        forget_behind(&mut self.bound, self.settled);
+        self.settled = self.bound.len();
     }
 
     /// From now on only those of the assumed valuations are assumed that are in the set too, and each value that is bound loses its pieces
@@ -302,6 +311,7 @@ impl State {
         let left = left_of(alloc, &self.bound, &assumed, meter)?;
         self.assumed = assumed;
         self.bound = left;
+        self.settled = 0;
         Ok(())
     }
 }

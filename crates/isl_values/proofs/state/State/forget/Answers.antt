@@ -1,20 +1,24 @@
--- What `retain` leaves.
-use Rattle.std.proofs.Common.{◌∙◌, ap, not, List, rules}
-use Rattle.indexmap.proofs.CallerLemmas.{filter-RetainsPairs}
+use Rattle.std.proofs.Common.{◌∙◌, arith, ap, List, subst, sym, take}
+use Rattle.std.specs.List.{All}
 use Rattle.isl_space.specs.Name.{Name}
-use Rattle.isl_kinds.specs.Typed.{is_dollar}
+use Rattle.isl_kinds.proofs.ForgetLaws.{left_plain, IsPlain}
 use Rattle.isl_values.specs.State.{Kept, StateView, forgotten}
 use Rattle.isl_values.proofs.ForgetLaws.{forget_scope}
 use Rattle.isl_values.proofs.state.State.forget.Goals as goal
 
 pub invariant_of-self : goal.invariant_of-self
 invariant_of-self c =
-    forget_scope c.self.inside.scope c.forget.new.self c.self.inside.bound.entries c.retain.new.self.entries c.self.invariant
-    c.forget.ensures
-    (filter-RetainsPairs _ (λ entry. not (is_dollar entry.0)) _ (λ k v b w g call. search rules) _ _ c.retain.ensures.filtered)
+    let n = c.len-self-inside.result in
+    let long = c.len-self-inside.ensures.len in
+    let old = c.self.inside.bound.entries in
+    let after = c.forget_behind.new.bound.entries in (
+      forget_scope c.self.inside.scope c.forget.new.self old after c.self.invariant.0 c.forget.ensures c.forget_behind.ensures,
+      omega arith,
+      subst (λ (es : List (Name × Kept)). All IsPlain (take n es)) (sym c.forget_behind.ensures) (left_plain old n),
+    )
 
 pub returns : goal.returns
 returns c =
     ap (λ (bound : List (Name × Kept)). let state : StateView = record { bound = bound; assumed = c.self.inside.assumed } in state)
-    (filter-RetainsPairs _ (λ entry. not (is_dollar entry.0)) _ (λ k v b w g call. search rules) _ _ c.retain.ensures.filtered)
+    c.forget_behind.ensures
     ∙ ap forgotten c.self.view_is

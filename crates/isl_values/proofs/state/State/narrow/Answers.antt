@@ -1,5 +1,7 @@
-use Rattle.std.proofs.Common.{◌∙◌, ap, rules, subst, sym}
+use Rattle.std.proofs.Common.{◌∙◌, ap, arith, rules, subst, sym}
+use Rattle.std.proofs.lemmas.List.Elements.{All-nil}
 use Rattle.isl_meter.specs.Gauge.{limit_of}
+use Rattle.isl_kinds.proofs.ForgetLaws.{IsPlain}
 use Rattle.isl_assumed.specs.Assumed.{names_of, Assumes}
 use Rattle.isl_assumed.proofs.MeterLaws.{sound_later}
 use Rattle.isl_values.specs.State.{Fits, IsSettled, StateView}
@@ -24,9 +26,12 @@ returns-in_err-left-clause-why c =
     c.in_err-left.ensures
 
 pub invariant_of-self : goal.invariant_of-self
-invariant_of-self c =
-    c.self.invariant
-    ∙ sym (left_types c.in_ok-assumed.assumed c.self.inside.bound.entries c.in_ok-left.left.entries c.in_ok-left.ensures.0)
+invariant_of-self c = (
+  c.self.invariant.0
+      ∙ sym (left_types c.in_ok-assumed.assumed c.self.inside.bound.entries c.in_ok-left.left.entries c.in_ok-left.ensures.0),
+  omega arith,
+  All-nil IsPlain,
+)
 
 pub returns-clause-fits : goal.returns-clause-fits
 returns-clause-fits c =
