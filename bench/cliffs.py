@@ -70,6 +70,7 @@ ROWS = {
     "layouts, blocks of 32": layouts(32),
     "two layouts, blocks of 64": same_layouts(64),
     "numbers of 80 bits": "{ [i] : exists (j : 1208925819614629174706177i + 604462909807314587353111j = 5) };",
+    "six rows that primes must not divide": "{ [i, j] : exists (a : 0 <= a <= i and " + " and ".join(f"(a + {n + 1}j) mod {p} != 0" for n, p in enumerate([3, 5, 7, 11, 13, 17])) + ") };",
     "seven primes and odd": "{ [i] : " + not_divisible("i", PRIMES) + " } <= { [i] : i mod 2 = 1 };",
     "five variables out of twenty rows": projection(1),
     "1000 times 1000 bounds": "{ [i, j] : exists (a : " + " and ".join(f"a >= i + {n}j and a <= {n}i + j + {n}" for n in range(1000)) + ") };",
