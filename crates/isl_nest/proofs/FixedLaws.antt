@@ -19,7 +19,7 @@ use Rattle.isl_loop.specs.Nest.{Lists, Timed}
 use Rattle.isl_loop.specs.Run.{row_holds, rows_hold, trace}
 use Rattle.isl_loop.proofs.NestLaws.{lists_none, lists_same}
 use Rattle.isl_loop.proofs.RowLaws.{rows_tell}
-use Rattle.isl_nest.specs.Item.{counted, named, timed_at, HoldFront, HoldOwn, IsCalledBehind, ItemView}
+use Rattle.isl_nest.specs.Item.{counted, named, timed_at, HoldFront, HoldOwn, IsBegun, IsCalledBehind, ItemView}
 use Rattle.isl_nest.specs.declared.nested.Nested.{Nested}
 use Rattle.isl_nest.specs.declared.place.Place.{Place}
 use Rattle.isl_nest.specs.Nest.{with_entry, IsFixedAt, IsHere, ListsNest}
@@ -45,6 +45,31 @@ dot_named (c ∷ cs) [] x h =
     let rest = dot-nil_right cs in
     omega (arith, linear, z, rest)
 dot_named (c ∷ cs) (y ∷ xs) x h = ap (λ z. c *ℤ y +ℤ z) (dot_named cs xs x (fewer_named c (named cs) (length xs) h))
+
+-- and none behind the front
+dot_unnamed : (cs rest : List ℤ) → named cs ≤ 0 → dot cs rest ≡ pos 0
+dot_unnamed [] rest h = refl
+dot_unnamed (c ∷ cs) [] h = refl
+dot_unnamed (c ∷ cs) (x ∷ rest) h =
+    let none = none_named c (named cs) h in
+    let few = none.1 in
+    let z = ap (λ d. d *ℤ x) none.0 in
+    let more = dot_unnamed cs rest (omega (arith, few)) in
+    omega (arith, linear, z, more)
+
+dot_front : (cs xs rest : List ℤ) → named cs ≤ length xs → dot cs (xs ++ rest) ≡ dot cs xs
+dot_front [] xs rest h = refl
+dot_front (c ∷ cs) [] rest h = dot_unnamed (c ∷ cs) rest h
+dot_front (c ∷ cs) (y ∷ xs) rest h = ap (λ z. c *ℤ y +ℤ z) (dot_front cs xs rest (fewer_named c (named cs) (length xs) h))
+
+-- at numbers that begin a point the rows that name nothing else hold
+pub begun_front : (item : ItemView) (front : List ℤ) → IsBegun item front → HoldFront item.rows front
+begun_front item front begun = λ k d low few.
+    let r : Row = get_or item.rows k d in
+    subst (HoldsValue r.kind r.k) (ap (λ z. z +ℤ r.constant) (dot_front r.coefs front begun.rest few)) (begun.holds k d low)
+
+pub begun_own : (item : ItemView) (front : List ℤ) → IsBegun item front → HoldOwn item.rows front
+begun_own item front begun = λ k d low all. begun_front item front begun k d low (omega (arith, all))
 
 -- one number more
 pub front_more : (rows : List Row) (columns : List ℤ) (x : ℤ) → HoldFront rows columns → HoldOwn rows (columns ++ x ∷ [])
@@ -76,6 +101,20 @@ hold_false (r ∷ rows) more point e =
     step : (b rest whole : Bool) → (b && rest) ≡ false → (rest ≡ false → whole ≡ false) → (b && whole) ≡ false
     step true rest whole e f = f e
     step false rest whole e f = refl
+
+-- ---- the place behind
+-- where the rows hold, the place behind the entry holds
+pub here_entry : (item : ItemView) (place : Place) (entry : Row) (rows : List Row) → IsFixedAt item place entry rows → (point : List ℤ)
+    → IsHere item place point → HoldRows rows point → IsHere item (with_entry place entry rows) point
+here_entry item place entry rows fixed point here holds =
+    let own = fixed.own point here holds in record {
+      width = here.width;
+      context = All-append (λ r. HoldsRow r point) place.context rows here.context holds;
+      whole = All-append (λ r. HoldsRow r point) place.frame (entry ∷ []) here.whole
+          (All-cons (λ r. HoldsRow r point) entry [] own.0 (All-nil (λ r. HoldsRow r point)));
+      front = subst (HoldFront item.rows) (sym (map-append (column_at point) place.frame (entry ∷ [])))
+          (front_more item.rows (columns_at place.frame point) (column_at point entry) here.front own.1);
+    }
 
 -- ---- the calls
 module _ (item : ItemView) (place : Place) (entry : Row) (rows more : List Row) (nested : Nested) (fixed : IsFixedAt item place entry rows)
@@ -142,18 +181,6 @@ module _ (item : ItemView) (place : Place) (entry : Row) (rows more : List Row) 
               }),
         )
 
-    there : HoldRows rows point → IsHere item (with_entry place entry rows) point
-    unfolding columns
-    there holds =
-        let own = fixed.own point here holds in record {
-          width = here.width;
-          context = All-append (λ r. HoldsRow r point) place.context rows here.context holds;
-          whole = All-append (λ r. HoldsRow r point) place.frame (entry ∷ []) here.whole
-              (All-cons (λ r. HoldsRow r point) entry [] own.0 (All-nil (λ r. HoldsRow r point)));
-          front = subst (HoldFront item.rows) (sym longer)
-              (front_more item.rows (columns_at place.frame point) (column_at point entry) here.front own.1);
-        }
-
   pub lists_fixed : ListsNest item place nested
   unfolding columns
   lists_fixed point here = by (rows_hold rows point) refl
@@ -171,7 +198,7 @@ module _ (item : ItemView) (place : Place) (entry : Row) (rows more : List Row) 
           (if rows_hold more point then trace nested.tree point else []) (same_calls point here)
           (subst (λ (xs : List ℤ). Lists (IsCalledBehind item xs) (if rows_hold more point then trace nested.tree point else []))
           (longer point here)
-          (rest_lists point (there point here (decided.0 e)))))
+          (rest_lists point (here_entry item place entry rows fixed point here (decided.0 e)))))
       by false e =
           subst (λ (b : Bool). Lists (IsCalledBehind item (columns_at place.frame point)) (if b then trace nested.tree point else []))
           (sym (ap (λ (rs : List Row). rows_hold rs point) split ∙ hold_false rows more point e))

@@ -1,5 +1,15 @@
+pub mod AroundLaws
 pub mod BehindLaws
 pub mod CallLaws
 pub mod FixedLaws
 pub mod LoopedLaws
+pub mod MadeLaws
+pub mod NamingLaws
 pub mod NestLaws
+pub mod PlaceLaws
+pub mod SidesLaws
+pub mod ToldLaws
+pub mod CalledLaws
+pub mod LevelLaws
+pub mod SeparateLaws
+pub mod NestedLaws

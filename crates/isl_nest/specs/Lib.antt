@@ -1,4 +1,11 @@
 pub mod Item
 pub mod Covered
+pub mod Naming
 pub mod Places
+pub mod Equality
+pub mod Told
+pub mod Around
+pub mod Stepping
+pub mod Between
 pub mod Nest
+pub mod LoopedNest

@@ -16,7 +16,7 @@ use Rattle.isl_loop.specs.Run.{each_in, rows_hold, trace}
 use Rattle.isl_nest.specs.declared.nested.Nested.{Nested}
 use Rattle.isl_nest.specs.declared.place.Place.{Place}
 use Rattle.isl_nest.specs.Item.{timed_at, HoldFront, HoldOwn, IsBegun, IsCalledBehind, ItemView}
-use Rattle.isl_nest.specs.Places.{AreGuards}
+use Rattle.isl_nest.specs.Places.{AreGuards, Stands}
 
 -- the place holds at numbers of the parameters and variables, and so do the item's rows that name no further column
 pub record IsHere (item : ItemView) (place : Place) (point : List ℤ) : Type 0 where
@@ -99,3 +99,8 @@ IsNest item (suc left) place nested =
 abbrev pub ListsNest : ItemView → Place → Nested → Type 0
 ListsNest item place nested = (point : List ℤ) → IsHere item place point
     → Lists (IsCalledBehind item (columns_at place.frame point)) (if rows_hold nested.rows point then trace nested.tree point else [])
+
+-- the tree lists them wherever the place stands, whatever the item's rows say of the columns so far
+abbrev pub ListsBehind : ItemView → Place → Loop → Type 0
+ListsBehind item place tree = (point : List ℤ) → Stands place point
+    → Lists (IsCalledBehind item (columns_at place.frame point)) (trace tree point)

@@ -1,12 +1,16 @@
 -- public: places whose frame and context are over the variables in scope.
-use Rattle.std.specs.Prelude.{◌≡◌, ℕ, ◌≤◌, ℤ, List, All, length}
+use Rattle.std.specs.Prelude.{◌≡◌, ◌↔◌, ℕ, ◌+◌, ◌<◌, ◌≤◌, ℤ, List, [], ◌∷◌, ◌++◌, All, length}
 use Rattle.isl_meter.specs.Gauge.{Gauge}
 use Rattle.isl_piece.specs.declared.row.Row.{Row}
 use Rattle.isl_piece.specs.Row.{IsRowWithin}
 use Rattle.isl_piece.specs.Normal.{normal_row, Kept}
 use Rattle.isl_piece.specs.System.{HoldRows}
-use Rattle.isl_frame.specs.Frame.{IsFrame}
+use Rattle.isl_frame.specs.Frame.{columns_at, IsFrame}
 use Rattle.isl_frame.specs.Needed.{AreRowsOver}
+use Rattle.isl_bounds.specs.Bound.{IsEnd}
+use Rattle.isl_bounds.specs.Ends.{AreEnded}
+use Rattle.isl_bounds.specs.declared.ends.Ends.{Ends}
+use Rattle.isl_bounds.specs.declared.side.Side.TheVariants.{Low, High}
 use Rattle.isl_nest.specs.declared.place.Place.{Place}
 
 -- the frame and the context are over the variables, with their numbers within the limit, and there are no more variables than columns
@@ -26,3 +30,14 @@ pub record Stands (place : Place) (point : List ℤ) : Type 0 where
 pub record AreGuards (g : Gauge) (variables : ℕ) (rows : List Row) : Type 0 where
   pub over : AreRowsOver g variables rows
   pub normal : All (λ r. normal_row r ≡ Kept r) rows
+
+-- The rows over the columns and the next one, over the variables and one more, taken apart: where the columns are whole they say the same,
+-- and they bound the column on a side where a row does.
+pub record AreEndsThrough (g : Gauge) (place : Place) (rows : List Row) (ends : Ends) : Type 0 where
+  pub low : All (IsEnd g place.variables Low) ends.low
+  pub high : All (IsEnd g place.variables High) ends.high
+  pub others : AreRowsOver g (place.variables + 1) ends.others
+  pub points : (point : List ℤ) (x : ℤ) → Stands place point
+      → HoldRows rows (columns_at place.frame point ++ x ∷ [])
+      ↔ (HoldRows ends.low (point ++ x ∷ []) × HoldRows ends.high (point ++ x ∷ []) × HoldRows ends.others (point ++ x ∷ []))
+  pub some : AreEnded (length place.frame) rows → (0 < length ends.low) × (0 < length ends.high)

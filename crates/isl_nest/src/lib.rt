@@ -1,12 +1,18 @@
 //! Nests of loops: what one item becomes.
 #![tactic(auto)]
 
+mod around;
 mod cover;
 mod item;
+mod loops;
+mod naming;
 mod nested;
 mod place;
+mod sides;
+mod told;
 
 pub use cover::Cover;
 pub use item::Item;
+pub use loops::{nest, separate};
 pub use nested::Nested;
 pub use place::Place;
