@@ -52,7 +52,7 @@ begun_next item columns room p =
 
 -- ---- two calls whose columns first differ here
 -- the time, where the column is one
-time_inner : (item : ItemView) (columns : List ℤ) (x : ℤ) (rest : List ℤ) → item.params ≤ length columns
+pub time_inner : (item : ItemView) (columns : List ℤ) (x : ℤ) (rest : List ℤ) → item.params ≤ length columns
     → length columns < item.params + item.times
     → (timed_at item (columns ++ x ∷ rest)).0
     ≡ drop item.params columns ++ x ∷ take (item.params + item.times - length columns - 1) rest
@@ -68,7 +68,7 @@ time_inner item columns x rest low inner =
     by (suc n) (y ∷ front) more e = ap (λ (zs : List ℤ). y ∷ zs) (by n front more (omega (arith, e)))
 
 -- the time, where the column is behind it
-time_outer : (item : ItemView) (columns rest : List ℤ) → item.params + item.times ≤ length columns
+pub time_outer : (item : ItemView) (columns rest : List ℤ) → item.params + item.times ≤ length columns
     → (timed_at item (columns ++ rest)).0 ≡ take item.times (drop item.params columns)
 time_outer item columns rest outer =
     let short = length-drop item.params columns in
