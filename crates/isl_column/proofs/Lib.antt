@@ -1,4 +1,5 @@
 pub mod CommonPeriods
+pub mod CountLemmas
 pub mod DarkShadowLemmas
 pub mod EliminateLemmas
 pub mod ExactLemmas

@@ -72,6 +72,30 @@ Any-filter test P Q f (x ∷ xs) a = by (test x) refl (λ b. Any-filter test P Q
     by false e rest a = Any-later Q x xs (rest a)
 
 -- where each class of the numbers leaves one that meets the other rows, one meets the row too
+-- ---- the numbers that one row takes
+-- the modulus of the row divides what it says there
+abbrev pub IsHit : ℕ → Row → List ℤ → ℤ → ℤ → Type 0
+IsHit col r point x n = Divides r.k (coef_at r col *ℤ (x +ℤ n) +ℤ rest_at r col point)
+
+pub met_or_hit : (g : Gauge) (columns col : ℕ) (r : Row) (point : List ℤ) (x : ℤ) → col < columns → length point ≡ columns - 1
+    → IsNotDivides g columns col r → (n : ℤ) → HoldsRow r (insert point col (x +ℤ n)) ⊎ IsHit col r point x n
+met_or_hit g columns col r point x l w h n =
+    elim (Divides_or_not r.k (coef_at r col *ℤ (x +ℤ n) +ℤ rest_at r col point) (HasModulus-positive r.kind r.k h.proper.formed.modulus)) [
+      | inl d ↦ inr d
+      | inr d ↦ inl ((not_divides_holds g columns col r point (x +ℤ n) h l w).1 d)
+    ]
+
+-- a number of another class than one that is taken
+pub met_apart : (g : Gauge) (columns col : ℕ) (r : Row) (point : List ℤ) (x : ℤ) → col < columns → length point ≡ columns - 1
+    → IsNotDivides g columns col r → (m n : ℤ) → IsHit col r point x m
+    → not (int_eq (floor_mod n (period col r)) (floor_mod m (period col r))) ≡ true → HoldsRow r (insert point col (x +ℤ n))
+met_apart g columns col r point x l w h m n d e = (not_divides_holds g columns col r point (x +ℤ n) h l w).1
+    (λ also. not_same (floor_mod n (period col r)) (floor_mod m (period col r)) e
+    (same_class (coef_at r col) r.k (rest_at r col point) x m n modulus (period_short (coef_at r col) r.k modulus).positive d also))
+  where
+    modulus : pos 0 <ℤ r.k
+    modulus = HasModulus-positive r.kind r.k h.proper.formed.modulus
+
 row_met : (g : Gauge) (columns col : ℕ) (r : Row) (rows : List Row) (numbers : List ℤ) (point : List ℤ) (x : ℤ) → col < columns
     → length point ≡ columns - 1 → IsNotDivides g columns col r → 0 < length numbers
     → All (λ n. IsMetAmong rows col point x (others_than (period col r) n numbers)) numbers → IsMetAmong (r ∷ rows) col point x numbers
@@ -97,27 +121,19 @@ row_met g columns col r rows numbers point x l w h some each = elim (all_or_any 
     Met n = HoldsRow r (insert point col (x +ℤ n))
 
     Hit : ℤ → Type 0
-    Hit n = Divides r.k (coef_at r col *ℤ (x +ℤ n) +ℤ rest_at r col point)
+    Hit = IsHit col r point x
 
     is_other : ℤ → ℤ → Bool
     is_other m n = not (int_eq (floor_mod n (period col r)) (floor_mod m (period col r)))
-
-    modulus : pos 0 <ℤ r.k
-    modulus = HasModulus-positive r.kind r.k h.proper.formed.modulus
 
     both : (n : ℤ) → Met n → P n → Both n
     both n m p = All-cons (λ q. HoldsRow q (insert point col (x +ℤ n))) r rows m p
 
     either : (n : ℤ) → Met n ⊎ Hit n
-    either n = elim (Divides_or_not r.k (coef_at r col *ℤ (x +ℤ n) +ℤ rest_at r col point) modulus) [
-      | inl d ↦ inr d
-      | inr d ↦ inl ((not_divides_holds g columns col r point (x +ℤ n) h l w).1 d)
-    ]
+    either = met_or_hit g columns col r point x l w h
 
     missed : (m n : ℤ) → Hit m → is_other m n ≡ true → Met n
-    missed m n d e = (not_divides_holds g columns col r point (x +ℤ n) h l w).1
-        (λ also. not_same (floor_mod n (period col r)) (floor_mod m (period col r)) e
-        (same_class (coef_at r col) r.k (rest_at r col point) x m n modulus (period_short (coef_at r col) r.k modulus).positive d also))
+    missed = met_apart g columns col r point x l w h
 
 -- ---- pushed choices
 pub pushed_none : (p : ℤ) (level : ℕ) (numbers : List ℤ) (old : List Choice) → ArePushedFor p level numbers [] old old
@@ -167,17 +183,23 @@ enough_at_first columns col rows numbers choice is point x n all =
     (subst (λ (level : ℕ). IsMetAmong (drop level rows) col point x choice.numbers.items) is.1
     (All-head (λ c. IsMetAmong (drop c.level rows) col point x c.numbers.items) choice [] all))
 
+-- one of the numbers of the last choice surely meets the rows that are left
+pub enough_as_met : (columns col : ℕ) (rows : List Row) (choices : List Choice) (choice : Choice) (numbers : List ℤ)
+    → AreMetAmong columns col (drop choice.level rows) choice.numbers.items
+    → AreEnough columns col rows (choices ++ choice ∷ []) numbers → AreEnough columns col rows choices numbers
+enough_as_met columns col rows choices choice numbers met enough point x n all =
+    enough point x n (All-push (λ c. IsMetAmong (drop c.level rows) col point x c.numbers.items) choices choice all (met point x n))
+
 -- no row is left
 pub enough_without : (columns col : ℕ) (rows : List Row) (choices : List Choice) (choice : Choice) (numbers : List ℤ)
     → 0 < length choice.numbers.items → drop choice.level rows ≡ []
     → AreEnough columns col rows (choices ++ choice ∷ []) numbers → AreEnough columns col rows choices numbers
-enough_without columns col rows choices choice numbers some none enough point x n all =
-    enough point x n (All-push (λ c. IsMetAmong (drop c.level rows) col point x c.numbers.items) choices choice all
-    (rw none (any_number choice.numbers.items some)))
+enough_without columns col rows choices choice numbers some none =
+    enough_as_met columns col rows choices choice numbers (λ point x n. rw none (any_number point x choice.numbers.items some))
   where
-    any_number : (own : List ℤ) → 0 < length own → IsMetAmong [] col point x own
-    any_number [] h = absurd (omega arith)
-    any_number (m ∷ own) h = Any-first (λ n. HoldAt [] col point (x +ℤ n)) m own (All-nil (λ r. HoldsRow r (insert point col (x +ℤ m))))
+    any_number : (point : List ℤ) (x : ℤ) (own : List ℤ) → 0 < length own → IsMetAmong [] col point x own
+    any_number point x [] h = absurd (omega arith)
+    any_number point x (m ∷ own) h = Any-first (λ n. HoldAt [] col point (x +ℤ n)) m own (All-nil (λ r. HoldsRow r (insert point col (x +ℤ m))))
 
 -- one row more is taken
 pub enough_with : (g : Gauge) (columns col : ℕ) (rows : List Row) (r : Row) (choices pushed : List Choice) (choice : Choice) (numbers : List ℤ)

@@ -43,3 +43,7 @@ abbrev pub AreEnough : ℕ → ℕ → List Row → List Choice → List ℤ →
 AreEnough columns col rows choices numbers =
     (point : List ℤ) (x : ℤ) → length point ≡ columns - 1 → All (λ c. IsMetAmong (drop c.level rows) col point x c.numbers.items) choices
     → IsMetAmong rows col point x numbers
+
+-- a row is one of the rows
+abbrev pub Has : List Row → Row → Type 0
+Has rows r = Any (λ q. q ≡ r) rows
