@@ -1,14 +1,15 @@
 -- What is left of several systems, one after another.
-use Rattle.std.proofs.Common.{◌≡◌, ◌↔◌, inl, inr, refl, sym, ap, ◌∙◌, arith, subst, ℕ, ◌+◌, ◌<◌, ℤ}
-use Rattle.std.proofs.Common.{List, [], ◌∷◌, ◌++◌, Any, get_or, length, take}
+use Rattle.std.proofs.Common.{◌≡◌, ◌↔◌, inl, inr, refl, sym, ap, ◌∙◌, arith, subst, ℕ, ◌+◌, ◌<◌, ◌≤◌, ℤ}
+use Rattle.std.proofs.Common.{List, [], ◌∷◌, ◌++◌, Any, get_or, length, length-append, take}
 use Rattle.std.proofs.lemmas.List.{append-nil, take_more}
-use Rattle.std.proofs.lemmas.List.Elements.{All-append, All-nil}
+use Rattle.std.proofs.lemmas.List.Elements.{All-append}
 use Rattle.isl_math.proofs.ListLaws.{All-last, Any-first, Any-left, Any-none, Any-one, Any-parts, Any-right, Any-weaker}
 use Rattle.isl_meter.specs.Gauge.{Gauge, IsCharged}
 use Rattle.isl_piece.specs.declared.system.System.{System}
 use Rattle.isl_piece.specs.System.{HoldsSystem}
 use Rattle.isl_difference.specs.Split.{IsLive}
 use Rattle.isl_difference.proofs.SplitLaws.{live_kept}
+use Rattle.isl_elim.specs.Sample.{IsNowhere}
 use Rattle.isl_blocks.specs.Left.{HoldsBefore, IsLeftWithout}
 use Rattle.isl_assumed.specs.Left.{AreLeftOf}
 
@@ -32,13 +33,12 @@ any_step P Q made more done x so_far one = (
 pub taken_more : {A : Type 0} (xs : List A) (i : ℕ) (x : A) → i < length xs → x ≡ get_or xs i x → take (i + 1) xs ≡ take i xs ++ x ∷ []
 taken_more xs i x low at = take_more xs i x low ∙ ap (λ y. take i xs ++ y ∷ []) (sym at)
 
-pub left_first : (g : Gauge) (kept count : ℕ) (left : List System) → left ≡ [] → AreLeftOf g kept count [] left
-left_first g kept count left none = rw none (record {
-  points = λ point l.
-      ((λ a. absurd (Any-none (λ s. HoldsSystem s point) a)), (λ a. absurd (Any-none (λ s. HoldsBefore s count point) a)));
-  live = All-nil (IsLive g kept);
-  definitions = λ flat. All-nil IsFlat;
-})
+-- something is left of a system that holds somewhere
+some_left : (g : Gauge) (s : System) (kept count : ℕ) (left : List System) → IsLeftWithout g s kept count left
+    → ¬ IsNowhere kept (HoldsBefore s count) → 1 ≤ length left
+some_left g s kept count [] is somewhere =
+    absurd (somewhere (λ point long holds. Any-none (λ t. HoldsSystem t point) ((is.points point long).1 holds)))
+some_left g s kept count (t ∷ left) is somewhere = omega arith
 
 pub left_more : (g h : Gauge) (kept count : ℕ) (systems : List System) (i : ℕ) (s : System) (left more pushed : List System)
     → i < length systems → s ≡ get_or systems i s → IsCharged g h → pushed ≡ left ++ more → AreLeftOf g kept count (take i systems) left
@@ -50,6 +50,13 @@ left_more g h kept count systems i s left more pushed low at charged is so_far o
           (one.points point l);
       live = All-append (IsLive g kept) left more so_far.live (λ k d l.
           live_kept g h kept (get_or more k d) (ap (λ (m : Gauge). m.bits) charged.same) (one.live k d l));
+      many = λ somewhere.
+          let parts = All-last (λ t. ¬ IsNowhere kept (HoldsBefore t count)) (take i systems) s somewhere in
+          let old = so_far.many parts.0 in
+          let new = some_left h s kept count more one parts.1 in
+          let before = length-append (take i systems) (s ∷ []) in
+          let behind = length-append left more in
+          omega (arith, old, new, before, behind);
       definitions = λ flat.
           let parts = All-last IsFlat (take i systems) s flat in
           All-append IsFlat left more (so_far.definitions parts.0) (one.definitions parts.1);

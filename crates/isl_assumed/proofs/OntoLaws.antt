@@ -1,8 +1,8 @@
 -- Regions over other names.
-use Rattle.std.proofs.Common.{◌≡◌, ◌↔◌, sym, ap, ◌∙◌, arith, subst, ℕ, ◌+◌, ℤ, List, ◌++◌, All, Any}
+use Rattle.std.proofs.Common.{◌≡◌, ◌↔◌, refl, sym, ap, ◌∙◌, arith, subst, ℕ, ◌+◌, ℤ, List, ◌++◌, All, Any}
 use Rattle.std.proofs.Common.{filter, get_or, length, length-append, map, not, take}
 use Rattle.std.specs.List.{zip}
-use Rattle.std.proofs.lemmas.List.{map-append, take_at}
+use Rattle.std.proofs.lemmas.List.{length-map, map-append, take_at}
 use Rattle.std.proofs.lemmas.List.Elements.{All-map}
 use Rattle.isl_math.proofs.ListLaws.{Any-unmapped}
 use Rattle.isl_meter.specs.Gauge.{Gauge}
@@ -18,6 +18,7 @@ use Rattle.isl_piece.specs.System.{HoldsSystem, IsSystemWithin, free_columns}
 use Rattle.isl_piece.proofs.MeetLaws.{placed_free, placed_points, placed_system_within}
 use Rattle.isl_difference.specs.Split.{IsLive}
 use Rattle.isl_elim.specs.Elimination.{HoldsAtAny}
+use Rattle.isl_elim.specs.Sample.{IsNowhere}
 use Rattle.isl_blocks.specs.Left.{HoldsBefore}
 use Rattle.isl_union.proofs.AlignedLaws.{Any-mapped}
 use Rattle.isl_assumed.specs.Left.{AreLeftOf, IsOnto}
@@ -97,6 +98,12 @@ module _ (g : Gauge) (params names : List Name) (first : AreDistinct params) (se
           (values_of extra w, extra_long w, subst (HoldsSystem (placed_system columns places s)) split ((at w).1 k.2))),
     )
 
+    pub placed_somewhere : ¬ IsNowhere (length params) (HoldsBefore (placed_system columns places s) new)
+    placed_somewhere nowhere = live.somewhere (λ point long holds.
+        let v : Valuation = zip names point in
+        let named : values_of names v ≡ point = values_of-zip names point second (sym long) in
+        nowhere (values_of params v) (length-values_of params v) ((placed_some v).1 (v, refl, subst (HoldsSystem s) (sym named) holds)))
+
   -- ---- all of them
   module _ (systems placed left : List System) (live : All (IsLive g (length names)) systems)
       (is : placed ≡ map (placed_system columns places) systems) where
@@ -107,6 +114,10 @@ module _ (g : Gauge) (params names : List Name) (first : AreDistinct params) (se
     pub all_columns : All (λ s. free_columns s ≡ length params + new) placed
     all_columns = rw is (All-map (λ s. free_columns s ≡ length params + new) (placed_system columns places) systems (λ k d l.
         placed_columns (get_or systems k d) (live k d l)))
+
+    somewhere : All (λ s. ¬ IsNowhere (length params) (HoldsBefore s new)) placed
+    somewhere = rw is (All-map (λ s. ¬ IsNowhere (length params) (HoldsBefore s new)) (placed_system columns places) systems (λ k d l.
+        placed_somewhere (get_or systems k d) (live k d l)))
 
     flat : All IsFlat systems → All IsFlat placed
     flat none = rw is (All-map IsFlat (placed_system columns places) systems (λ k d l.
@@ -137,5 +148,6 @@ module _ (g : Gauge) (params names : List Name) (first : AreDistinct params) (se
                 (λ b. p.1 (some_back v b.0 b.1 b.2)),
               );
           live = own.live;
+          many = let count = length-map systems (placed_system columns places) in let many = own.many somewhere in rw (sym count ∙ sym (ap (length {A = System}) is)) many;
           definitions = λ none. own.definitions (flat none);
         }

@@ -1,9 +1,10 @@
 -- Systems that hold where one does, and another at the first columns.
-use Rattle.std.proofs.Common.{◌≡◌, ◌↔◌, sym, ap, ap₂, ◌∙◌, arith, subst, ℕ, ◌+◌, ◌<◌, ◌≤◌, ℤ, List, [], ◌∷◌, ◌++◌, Any, get_or, length}
+use Rattle.std.proofs.Common.{◌≡◌, ◌↔◌, sym, ap, ap₂, ◌∙◌, arith, subst, ℕ, ◌+◌, ◌*◌, ◌<◌, ◌≤◌, ℤ, List, [], ◌∷◌, ◌++◌, Any, get_or, length}
 use Rattle.std.proofs.Common.{take, drop, take-append-drop}
 use Rattle.std.proofs.lemmas.List.{append-nil, length-drop, length-take-le, take_all}
-use Rattle.std.proofs.lemmas.List.Elements.{All-nil, All-push}
-use Rattle.isl_math.proofs.ListLaws.{All-last, Any-none, Any-one, Any-first}
+use Rattle.std.proofs.lemmas.List.Elements.{All-push}
+use Rattle.std.proofs.lemmas.Nat.{mul-le}
+use Rattle.isl_math.proofs.ListLaws.{All-last, Any-one, Any-first}
 use Rattle.isl_meter.specs.Gauge.{Gauge}
 use Rattle.isl_piece.specs.declared.system.System.{System}
 use Rattle.isl_piece.specs.Meet.{over_same_columns}
@@ -56,17 +57,6 @@ pair_before g h names more s other both bits p = record {
 }
 
 -- ---- one pair after another
-pub pairs_first : (g : Gauge) (names more : ℕ) (s : System) (pairs : List System) → pairs ≡ [] → ArePairs g names more s [] pairs
-pairs_first g names more s pairs none = rw none (record {
-  points = λ point long. (
-    (λ a. absurd (Any-none (λ t. HoldsSystem t point) a)),
-    (λ k. absurd (Any-none (λ t. HoldsSystem t (take names point)) k.1)),
-  );
-  within = All-nil (IsSystemWithin g);
-  free = All-nil (λ t. free_columns t ≡ names + more);
-  definitions = λ one two. All-nil IsFlat;
-})
-
 pub pairs_more : (g h : Gauge) (names more : ℕ) (s : System) (others : List System) (i : ℕ) (other both : System)
     (pairs pushed : List System)
     → i < length others → other ≡ get_or others i other → g.bits ≡ h.bits → pushed ≡ pairs ++ both ∷ []
@@ -107,3 +97,30 @@ pairs_more g h names more s others i other both pairs pushed low at bits is so_f
 pub pairs_all : (g : Gauge) (names more : ℕ) (s : System) (others : List System) (i : ℕ) (pairs : List System) → length others ≤ i
     → ArePairs g names more s (take i others) pairs → ArePairs g names more s others pairs
 pairs_all g names more s others i pairs end so_far = subst (λ l. ArePairs g names more s l pairs) (take_all i others end) so_far
+
+-- ---- units
+-- one more of so many, each for a unit
+pub count_more : {A : Type 0} (g h k : Gauge) (xs : List A) (i : ℕ) → i < length xs → h.units ≡ g.units + length (take i xs)
+    → k ≡ record h { units = h.units + 1 } → k.units ≡ g.units + length (take (i + 1) xs)
+count_more g h k xs i low so_far one =
+    let first = length-take-le i xs (omega (arith, low)) in
+    let next = length-take-le (i + 1) xs (omega (arith, low)) in
+    let used = ap (λ (m : Gauge). m.units) one in
+    omega (arith, first, next, so_far, used)
+
+-- so many more
+pub counts_more : {A : Type 0} (old now new n : ℕ) (xs : List A) (i : ℕ) → i < length xs → now ≡ old + length (take i xs) * n
+    → new ≡ now + n → new ≡ old + length (take (i + 1) xs) * n
+counts_more old now new n xs i low so_far more =
+    let first = length-take-le i xs (omega (arith, low)) in
+    let next = length-take-le (i + 1) xs (omega (arith, low)) in
+    rw next (by i (rw first at so_far))
+  where
+    by : (k : ℕ) → now ≡ old + k * n → new ≡ old + (k + 1) * n
+    by k is = omega arith
+
+-- more pairs of more
+pub pairs_least : (old start now new m n k l : ℕ) → old ≤ start → now ≡ start + k * l → now ≤ new → m ≤ k → n ≤ l → old + m * n ≤ new
+pairs_least old start now new m n k l before is behind first second =
+    let least = mul-le m n k l first second in
+    omega (arith, before, is, behind, least)

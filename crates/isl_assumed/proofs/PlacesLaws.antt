@@ -1,9 +1,9 @@
 -- The places of names in the list that they are joined to.
-use Rattle.std.proofs.Common.{◌≡◌, ◌≢◌, refl, sym, ap, ap₂, ◌∙◌, arith, subst, ℕ, zero, suc, ◌+◌, ◌<◌, ◌≤◌, pos, true, false, not}
+use Rattle.std.proofs.Common.{◌≡◌, ◌≢◌, refl, sym, ap, ap₂, ◌∙◌, arith, subst, ℕ, zero, suc, ◌+◌, ◌<◌, pos, true, false, not}
 use Rattle.std.proofs.Common.{List, [], ◌∷◌, ◌++◌, All, Contains, Some, if◌then◌else◌, length, length-append, get_or}
 use Rattle.std.proofs.Common.{filter, slice_get, take}
 use Rattle.std.specs.Str.{bytes_eq}
-use Rattle.std.proofs.lemmas.List.{ext_get_or, get_or-map, get_or-take, get_or_default, length-map, length-take-le, take_all}
+use Rattle.std.proofs.lemmas.List.{ext_get_or, get_or-map, get_or-take, get_or_default, length-map, length-take-le}
 use Rattle.std.proofs.lemmas.List.Elements.{All-append, All-filter}
 use Rattle.std.proofs.lemmas.List.Folds.{list_any_at}
 use Rattle.std.proofs.lemmas.Option.{slice_get-get_or, slice_get_within, same_Some}
@@ -48,12 +48,6 @@ numbers_are all names places v are =
 pub record AreSoFar (params names : List Name) (places : List ℕ) (new : ℕ) : Type 0 where
   pub joins : JoinsFront params names (joined params names) places
   pub count : length (joined params names) ≡ length params + new
-
-pub so_far_none : (params : List Name) (places : List ℕ) → places ≡ [] → AreSoFar params [] places 0
-so_far_none params places none = rw none (record {
-  joins = record { names = refl; are = record { count = refl; at = λ i within. absurd (omega (arith, within)) } };
-  count = length-append params [];
-})
 
 slice_get_left : (xs ys : List Name) (i : ℕ) (n : Name) → slice_get xs i ≡ Some n → slice_get (xs ++ ys) i ≡ Some n
 slice_get_left [] ys i n is = cc
@@ -122,7 +116,3 @@ module _ (params names : List Name) (distinct : AreDistinct names) (i : ℕ) (n 
       step place (new + 1) pushed is
       (ap₂ (λ (l : List Name) (k : ℕ). slice_get l k) grows (behind ∙ sym count) ∙ slice_get_behind now n)
       (ap (length {A = Name}) grows ∙ omega (arith, long, count))
-
-pub so_far_all : (params names : List Name) (places : List ℕ) (new i : ℕ) → length names ≤ i → AreSoFar params (take i names) places new
-    → AreSoFar params names places new
-so_far_all params names places new i end so_far = subst (λ (l : List Name). AreSoFar params l places new) (take_all i names end) so_far

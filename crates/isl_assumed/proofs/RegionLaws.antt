@@ -6,7 +6,7 @@ use Rattle.std.specs.Prelude.{IsTrue}
 use Rattle.std.proofs.lemmas.Grind.{common_steps}
 use Rattle.std.proofs.lemmas.List.{map-append, take_all, take_more}
 use Rattle.std.proofs.lemmas.Option.{get_or_from_slice_get, slice_get_within}
-use Rattle.std.proofs.lemmas.List.Elements.{All-append, All-head, All-nil, All-push}
+use Rattle.std.proofs.lemmas.List.Elements.{All-append, All-head, All-push}
 use Rattle.isl_math.proofs.ListLaws.{All-last, Any-none, Any-one, Any-first, Any-left, Any-parts, Any-right}
 use Rattle.isl_meter.specs.Gauge.{Gauge, IsCharged}
 use Rattle.isl_space.specs.Name.{Name}
@@ -51,17 +51,6 @@ onto_same g all names systems left there onto v =
     )
 
 -- ---- pairs of all systems
-pub met_first : (g : Gauge) (names : ℕ) (others met : List System) → met ≡ [] → AreMet g names [] others met
-met_first g names others met none = rw none (record {
-  points = λ point long. (
-    (λ a. absurd (Any-none (λ t. HoldsSystem t point) a)),
-    (λ k. absurd (Any-none (λ t. HoldsSystem t point) k.0)),
-  );
-  within = All-nil (IsSystemWithin g);
-  free = All-nil (λ t. free_columns t ≡ names);
-  definitions = λ one two. All-nil IsFlat;
-})
-
 pub met_more : (g h : Gauge) (names : ℕ) (systems others : List System) (i : ℕ) (s : System) (met more pushed : List System)
     → i < length systems → s ≡ get_or systems i s → g.bits ≡ h.bits → pushed ≡ met ++ more → AreMet g names (take i systems) others met
     → ArePairs h names 0 s others more → AreMet g names (take (i + 1) systems) others pushed
@@ -91,10 +80,6 @@ met_more g h names systems others i s met more pushed low at bits is so_far one 
           let parts = All-last IsFlat (take i systems) s flat in
           All-append IsFlat met more (so_far.definitions parts.0 all) (one.definitions parts.1 all);
     })
-
-pub met_all : (g : Gauge) (names : ℕ) (systems others : List System) (i : ℕ) (met : List System) → length systems ≤ i
-    → AreMet g names (take i systems) others met → AreMet g names systems others met
-met_all g names systems others i met end so_far = subst (λ l. AreMet g names l others met) (take_all i systems end) so_far
 
 -- ---- two regions over the joined names
 pub common_made : (g h k j : Gauge) (all names others : List Name) (first second own other met common : List System)

@@ -3,8 +3,8 @@ use Rattle.std.proofs.Common.{◌≡◌, ◌↔◌, inl, inr, refl, sym, ap, ◌
 use Rattle.std.proofs.Common.{All, Any, get_or, length, length-append, map, drop, take, take-append-drop}
 use Rattle.std.specs.List.{zip}
 use Rattle.std.proofs.lemmas.List.{get_or-map, length-drop, length-map, length-take-le, take_all, take_at}
-use Rattle.std.proofs.lemmas.List.Elements.{All-append, All-head, All-nil, All-tail}
-use Rattle.isl_math.proofs.ListLaws.{All-last, Any-none, Any-one, Any-parts}
+use Rattle.std.proofs.lemmas.List.Elements.{All-append, All-head, All-tail}
+use Rattle.isl_math.proofs.ListLaws.{All-last, Any-one, Any-parts}
 use Rattle.isl_meter.specs.Gauge.{Gauge, IsCharged}
 use Rattle.isl_space.specs.Element.{Element}
 use Rattle.isl_space.specs.Name.{Name}
@@ -110,9 +110,6 @@ module _ (params : List Name) (p : PieceView) (sound : IsPieceOf params p) where
     dead_exactly = (dead_from, nowhere_from)
 
   -- ---- one system after another
-  pub dead_none : IsDeadAt (At []) params (kept_piece p)
-  dead_none v e holds h = Any-none (λ s. HoldsSystem s (values_of params v)) holds
-
   pub dead_more : (systems : List System) (i : ℕ) (s : System) → i < length systems → s ≡ get_or systems i s
       → IsDeadAt (At (take i systems)) params (kept_piece p) → IsDeadAt (λ v. HoldsSystem s (values_of params v)) params (kept_piece p)
       → IsDeadAt (At (take (i + 1) systems)) params (kept_piece p)
@@ -215,16 +212,6 @@ some_element params p sound v = (
     subst (λ s. HoldsSystem s (point_of params v k.0)) (sym (view_is params p sound)) k.1.holds,
   )),
 )
-
-pub left_none : (g : Gauge) (params : List Name) (left : List System) → left ≡ [] → AreLeftOfPieces g params [] left
-left_none g params left none = rw none (record {
-  points = λ v. (
-    (λ a. absurd (Any-none (λ s. HoldsSystem s (values_of params v)) a)),
-    (λ a. absurd (Any-none (λ piece. (e : Element) × HasElement params v e piece) a)),
-  );
-  live = All-nil (IsLive g (length params));
-  definitions = λ plain. All-nil IsFlat;
-})
 
 pub left_next : (g h : Gauge) (params : List Name) (pieces : List PieceView) (i : ℕ) (p : PieceView) (left more pushed : List System)
     → i < length pieces → p ≡ get_or pieces i p → IsPieceOf params p → g.bits ≡ h.bits → pushed ≡ left ++ more

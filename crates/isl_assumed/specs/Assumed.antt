@@ -1,8 +1,9 @@
 -- public: what is assumed of parameters: a set of valuations that depends on some names alone. (isl manual, on parameter domains)
-use Rattle.std.specs.Prelude.{◌≡◌, List, [], All, Any}
+use Rattle.std.specs.Prelude.{◌≡◌, ◌+◌, ◌*◌, ◌≤◌, List, [], All, Any, length}
 use Rattle.isl_meter.specs.Gauge.{Gauge}
 use Rattle.isl_space.specs.Name.{Name}
 use Rattle.isl_space.specs.Valuation.{Valuation, values_of}
+use Rattle.isl_piece.specs.declared.system.System.{System}
 use Rattle.isl_piece.specs.System.{SystemPassesLimit}
 use Rattle.isl_elim.specs.Elimination.{HoldsAtAny}
 use Rattle.isl_assumed.specs.Region.{IsRegion}
@@ -13,6 +14,15 @@ use Rattle.isl_assumed.specs.declared.assumed.Assumed.TheVariants.{Nothing, Wher
 abbrev pub names_of : Assumed → List Name
 names_of Nothing = []
 names_of (Where region) = region.params
+
+-- the systems of which one holds wherever a valuation is assumed; none where nothing is assumed
+abbrev pub systems_of : Assumed → List System
+systems_of Nothing = []
+systems_of (Where region) = region.systems.items
+
+-- a unit at least was used for each system of the one with each of the other
+abbrev pub PaysPairs : Assumed → Assumed → Gauge → Gauge → Type 0
+PaysPairs assumed other old new = old.units + length (systems_of assumed) * length (systems_of other) ≤ new.units
 
 -- the valuation is assumed: one of the systems holds at the numbers of the names
 abbrev pub Assumes : Assumed → Valuation → Type 0

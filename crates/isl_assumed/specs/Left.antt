@@ -1,5 +1,5 @@
 -- inner: what is left of several systems without their last columns, and of a region over other names.
-use Rattle.std.specs.Prelude.{◌≡◌, ◌↔◌, ◌+◌, ℕ, ℤ, List, [], All, Any, length, take}
+use Rattle.std.specs.Prelude.{◌≡◌, ◌↔◌, ◌+◌, ◌≤◌, ℕ, ℤ, List, [], All, Any, length, take}
 use Rattle.isl_meter.specs.Gauge.{Gauge}
 use Rattle.isl_space.specs.Element.{Element}
 use Rattle.isl_space.specs.Name.{Name}
@@ -8,22 +8,25 @@ use Rattle.isl_piece.specs.declared.system.System.{System}
 use Rattle.isl_piece.specs.System.{HoldsSystem, IsSystemWithin, free_columns}
 use Rattle.isl_difference.specs.Split.{IsLive}
 use Rattle.isl_elim.specs.Elimination.{HoldsAtAny}
+use Rattle.isl_elim.specs.Sample.{IsNowhere}
 use Rattle.isl_blocks.specs.Left.{HoldsBefore}
 use Rattle.isl_union.specs.KeptValue.{KeptPiece, HasElement}
 
 -- normal systems over the first `kept` columns, each with a point, of which some holds at a point exactly where some `count` numbers behind
--- it make some of the systems hold
+-- it make some of the systems hold; not fewer, where each of these holds somewhere
 pub record AreLeftOf (g : Gauge) (kept count : ℕ) (systems left : List System) : Type 0 where
   pub points : (point : List ℤ) → length point ≡ kept → HoldsAtAny left point ↔ Any (λ s. HoldsBefore s count point) systems
   pub live : All (IsLive g kept) left
+  pub many : All (λ s. ¬ IsNowhere kept (HoldsBefore s count)) systems → length systems ≤ length left
   pub definitions : All (λ s. s.definitions ≡ []) systems → All (λ s. s.definitions ≡ []) left
 
 -- such systems over the columns of these names: some of them holds at a valuation exactly where some of the others does at one that has the
--- same numbers of these names
+-- same numbers of these names; not fewer
 pub record IsOnto (g : Gauge) (names : List Name) (systems : List System) (params : List Name) (left : List System) : Type 0 where
   pub points : (valuation : Valuation) → HoldsAtAny left (values_of params valuation)
       ↔ ((other : Valuation) × (values_of params other ≡ values_of params valuation) × HoldsAtAny systems (values_of names other))
   pub live : All (IsLive g (length params)) left
+  pub many : length systems ≤ length left
   pub definitions : All (λ s. s.definitions ≡ []) systems → All (λ s. s.definitions ≡ []) left
 
 -- ---- pairs

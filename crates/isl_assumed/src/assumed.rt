@@ -31,7 +31,7 @@ pub enum Assumed {
 
 impl Assumed {
     ghost use Rattle.isl_assumed.specs.declared.assumed.Assumed.TheVariants.{Nothing};
-    ghost use Rattle.isl_assumed.specs.Assumed.{names_of, Assumes, AssumesSome, IsOver, IsPlain, IsSound, PassesLimitAt};
+    ghost use Rattle.isl_assumed.specs.Assumed.{names_of, Assumes, AssumesSome, IsOver, IsPlain, IsSound, PassesLimitAt, PaysPairs};
 
     /// All valuations. It takes no memory.
     pub fn all() -> Assumed
@@ -57,7 +57,7 @@ impl Assumed {
         Ok(Assumed::Where(Region::of(alloc, value, meter)?))
     }
 
-    /// The valuations of both, over the joined names.
+    /// The valuations of both, over the joined names. A unit at least is used for each system of the one with each of the other.
     ///
     /// # Errors
     ///
@@ -78,6 +78,7 @@ impl Assumed {
         ensures units { MatchResult result
             (λ _. (length (joined (names_of self.now) (names_of other.now)) ≤ most_parameters) × IsCharged meter.old meter.new)
             (IsFaultBy (joined (names_of self.now) (names_of other.now)) meter.old meter.new) }
+        ensures work { IfOk result (λ _. PaysPairs self.now other.now meter.old meter.new) }
         ensures nothing { self.now ≡ Nothing → other.now ≡ Nothing → (result ≡ Ok Nothing) × (meter.new ≡ meter.old) }
         ensures free { (self.now ≡ Nothing) ⊎ (other.now ≡ Nothing) → meter.new ≡ meter.old }
     {

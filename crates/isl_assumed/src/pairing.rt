@@ -1,6 +1,6 @@
 //! Systems that hold where one does, and another at the first columns.
 
-ghost use Rattle.std.specs.Prelude.{◌≡◌, ◌+◌, ◌<◌, ◌^◌, All, IfOk};
+ghost use Rattle.std.specs.Prelude.{◌≡◌, ◌+◌, ◌<◌, ◌^◌, All, IfOk, length};
 ghost use Rattle.isl_meter.specs.Gauge.{IsMetered};
 ghost use Rattle.isl_piece.specs.System.{IsSystemWithin, free_columns};
 ghost use Rattle.isl_assumed.specs.Left.{ArePairs, IsPair};
@@ -31,6 +31,7 @@ pub fn pair(
     requires columns { free_columns system.now ≡ names + more }
     requires other_columns { free_columns other.now ≡ names }
     ensures pair { IfOk result (IsPair meter.old names more system.now other.now) }
+    ensures unit { IfOk result (λ _. meter.new ≡ record meter.old { units = meter.old.units + 1 }) }
     ensures meter { IsMetered meter.old meter.new result }
 {
     meter.unit()?;
@@ -58,6 +59,7 @@ pub fn pairs(
     requires columns { free_columns system.now ≡ names + more }
     requires other_columns { All (λ s. free_columns s ≡ names) others.now }
     ensures pairs { IfOk result (λ pairs. ArePairs meter.old names more system.now others.now pairs.items) }
+    ensures units { IfOk result (λ _. meter.new.units ≡ meter.old.units + length others.now) }
     ensures meter { IsMetered meter.old meter.new result }
 {
     let mut pairs = Vec::with_capacity(alloc, others.len())?;

@@ -1,7 +1,7 @@
 //! Valuations at which one of some systems holds.
 
-ghost use Rattle.std.specs.Prelude.{◌≡◌, ◌↔◌, ◌≤◌, [], All, Any, IfOk, IsTrue, MatchResult, length};
-ghost use Rattle.isl_meter.specs.Gauge.{IsCharged, IsMetered, IsWithin};
+ghost use Rattle.std.specs.Prelude.{◌≡◌, ◌↔◌, ◌+◌, ◌*◌, ◌≤◌, [], All, Any, IfOk, IsTrue, MatchResult, length};
+ghost use Rattle.isl_meter.specs.Gauge.{IsCharged, IsMetered};
 ghost use Rattle.isl_space.specs.Limits.{most_parameters};
 ghost use Rattle.isl_space.specs.Element.{Element};
 ghost use Rattle.isl_space.specs.Names.{joined};
@@ -100,6 +100,7 @@ fn all_pairs(
     requires systems { All (IsLive meter.old names) systems.now }
     requires others { All (IsLive meter.old names) others.now }
     ensures met { IfOk result (λ met. AreMet meter.old names systems.now others.now met.items) }
+    ensures units { IfOk result (λ _. meter.new.units ≡ meter.old.units + length systems.now * length others.now) }
     ensures meter { IsMetered meter.old meter.new result }
 {
     let mut all = Vec::new(alloc);
@@ -165,6 +166,8 @@ impl Region {
         ensures units { MatchResult result
             (λ _. (length (joined self.now.params other.now.params) ≤ most_parameters) × IsCharged meter.old meter.new)
             (IsFaultBy (joined self.now.params other.now.params) meter.old meter.new) }
+        ensures work { IfOk result (λ _.
+            meter.old.units + length self.now.systems.items * length other.now.systems.items ≤ meter.new.units) }
     {
         let (params, _places) = self.params.align(alloc, &other.params)?;
         let systems = common(alloc, &params, self, other, meter)?;
@@ -203,6 +206,8 @@ fn common(
     requires all { all.now ≡ joined region.now.params other.now.params }
     ensures common { IfOk result (λ common. IsCommon meter.old all.now region.now.params region.now.systems.items other.now.params
         other.now.systems.items common.items) }
+    ensures work { IfOk result (λ _.
+        meter.old.units + length region.now.systems.items * length other.now.systems.items ≤ meter.new.units) }
     ensures meter { IsMetered meter.old meter.new result }
 {
     let own = systems_onto(alloc, region, all, meter)?;

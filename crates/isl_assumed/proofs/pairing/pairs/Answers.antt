@@ -1,10 +1,11 @@
 use Rattle.std.proofs.Common.{◌≡◌, ◌≤◌, length, arith}
+use Rattle.std.proofs.lemmas.List.{take_all}
 use Rattle.isl_meter.proofs.CutLemmas.{IsCharged_trans}
 use Rattle.isl_piece.specs.System.{free_columns}
 use Rattle.isl_difference.proofs.DifferenceLaws.{system_at, system_within}
 use Rattle.isl_difference.proofs.SplitLaws.{charged_within}
 use Rattle.isl_union.proofs.MeetSteps.{charged_bits}
-use Rattle.isl_assumed.proofs.PairLaws.{pairs_all, pairs_more}
+use Rattle.isl_assumed.proofs.PairLaws.{count_more, pairs_all, pairs_more}
 use Rattle.isl_assumed.proofs.pairing.pairs.Goals as goal
 
 pub pair-requires-clause-system : goal.pair-requires-clause-system
@@ -30,6 +31,8 @@ loop-other-preserved c =
       pairs = pairs_more g h c.args.names c.args.more c.args.system.now c.args.others.now c.loop-other.other-index c.other-item.result
           c.in_ok-pair.field-0 c.loop-other.pairs.items c.push.new.self.items c.loop-other-test.true c.other-item.is
           (charged_bits g h so_far.charged) c.in_ok-push.ensures.items so_far.pairs c.in_ok-pair.ensures.pair;
+      units = count_more g h c.pair.new.meter c.args.others.now c.loop-other.other-index c.loop-other-test.true so_far.units
+          c.in_ok-pair.ensures.unit;
       charged = IsCharged_trans g h c.pair.new.meter so_far.charged c.in_ok-pair.ensures.meter;
     }
 
@@ -38,3 +41,8 @@ returns-clause-pairs c =
     let end : length c.args.others.now ≤ c.loop-other.other-index = omega arith in
     pairs_all c.args.meter.now c.args.names c.args.more c.args.system.now c.args.others.now c.loop-other.other-index
     c.loop-other.pairs.items end c.loop-other.invariant.pairs
+
+pub returns-clause-units : goal.returns-clause-units
+returns-clause-units c =
+    let end : length c.args.others.now ≤ c.loop-other.other-index = omega arith in
+    rw (take_all c.loop-other.other-index c.args.others.now end) at c.loop-other.invariant.units

@@ -1,9 +1,11 @@
-use Rattle.std.proofs.Common.{get_or}
+use Rattle.std.proofs.Common.{◌≤◌, arith, get_or, length}
+use Rattle.std.proofs.lemmas.List.{take_all}
 use Rattle.isl_meter.proofs.CutLemmas.{IsCharged_trans}
 use Rattle.isl_difference.specs.Split.{IsLive}
 use Rattle.isl_difference.proofs.DifferenceLaws.{system_at}
 use Rattle.isl_difference.proofs.SplitLaws.{charged_within}
 use Rattle.isl_union.proofs.MeetSteps.{charged_bits}
+use Rattle.isl_assumed.proofs.PairLaws.{counts_more}
 use Rattle.isl_assumed.proofs.RegionLaws.{met_more}
 use Rattle.isl_assumed.proofs.region.all_pairs.Goals as goal
 
@@ -28,5 +30,12 @@ loop-system-preserved c =
       met = met_more g h c.args.names c.args.systems.now c.args.others.now c.loop-system.system-index c.system-item.result
           c.loop-system.all.items c.in_ok-more.more.items c.append.new.self.items c.loop-system-test.true c.system-item.is
           (charged_bits g h so_far.charged) c.in_ok-append.ensures.items so_far.met c.in_ok-more.ensures.pairs;
+      units = counts_more g.units h.units c.pairs.new.meter.units (length c.args.others.now) c.args.systems.now c.loop-system.system-index
+          c.loop-system-test.true so_far.units c.in_ok-more.ensures.units;
       charged = IsCharged_trans g h c.pairs.new.meter so_far.charged c.in_ok-more.ensures.meter;
     }
+
+pub returns-clause-units : goal.returns-clause-units
+returns-clause-units c =
+    let end : length c.args.systems.now ≤ c.loop-system.system-index = omega arith in
+    rw (take_all c.loop-system.system-index c.args.systems.now end) at c.loop-system.invariant.units

@@ -1,8 +1,10 @@
-use Rattle.std.proofs.Common.{length}
+use Rattle.std.proofs.Common.{◌+◌, ◌*◌, ◌≤◌, length}
+use Rattle.isl_meter.specs.Gauge.{IsCharged}
 use Rattle.isl_meter.proofs.CutLemmas.{IsCharged_trans}
 use Rattle.isl_union.proofs.MeetSteps.{charged_bits}
 use Rattle.isl_blocks.proofs.ResultLaws.{ok_case, ok_has}
 use Rattle.isl_assumed.specs.Left.{AreLeftOf, IsCommon}
+use Rattle.isl_assumed.proofs.PairLaws.{pairs_least}
 use Rattle.isl_assumed.proofs.RegionLaws.{common_made, lives_later, region_later, withins_later}
 use Rattle.isl_assumed.proofs.region.common.Goals as goal
 
@@ -54,3 +56,21 @@ returns-clause-common c =
     common_made g h k j all names others first second own other met made.items c.requires.own.named c.requires.other.named c.requires.all
     (charged_bits g h gh) (charged_bits g k gk) (charged_bits g j gj) c.in_ok-own.ensures.onto c.in_ok-others.ensures.onto pairs
     (ok_has r made (λ m. AreLeftOf j (length all) 0 met m.items) at left))
+
+pub returns-clause-work : goal.returns-clause-work
+returns-clause-work c =
+    let g = c.args.meter.now in
+    let k = c.systems_onto-2.new.meter in
+    let j = c.all_pairs.new.meter in
+    let m = c.left_of.new.meter in
+    let own = c.in_ok-own.own.items in
+    let others = c.in_ok-others.others.items in
+    let first = c.args.region.now.systems.items in
+    let second = c.args.other.now.systems.items in
+    let r = c.left_of.result in
+    let before = IsCharged_trans g c.systems_onto.new.meter k c.in_ok-own.ensures.meter c.in_ok-others.ensures.meter in
+    let used = rw (c.as_slice.ensures.value, c.as_slice-2.ensures.value) at c.in_ok-met.ensures.units in
+    ok_case r (λ _. g.units + length first * length second ≤ m.units) (λ made at.
+    let after : IsCharged j m = rw at at c.left_of.ensures.meter in
+    pairs_least g.units k.units j.units m.units (length first) (length second) (length own) (length others) before.units used after.units
+    c.in_ok-own.ensures.onto.many c.in_ok-others.ensures.onto.many)
