@@ -32,7 +32,7 @@ use Rattle.isl_kinds.specs.Typed.{ScopeView, TypeView, kind_of, kind_in, kind_pa
 use Rattle.isl_kinds.specs.Typed.{kind_of_row, kind_of_post, by_two, by_three, declared_of, declared_in, declared_past_links}
 use Rattle.isl_kinds.specs.Typed.{declared_past_postfixes, declared_past, declared_of_row, declared_of_post, joined_names, params_of}
 use Rattle.isl_kinds.specs.Typed.{is_dollar, is_unknown, is_no_item, type_for, type_of_statement, found}
-use Rattle.isl_kinds.proofs.DeclaredLaws.{IsOnce, once, once_joined, once_past, declared_of-Row, declared_of-Post}
+use Rattle.isl_kinds.proofs.DeclaredLaws.{IsOnce, once, once_joined, declared_of-Row, declared_of-Post}
 use Rattle.isl_kinds.proofs.DeclaredLaws.{declared_of-Prefix, declared_of-Any, declared_of-Last}
 use Rattle.isl_kinds.proofs.JoinedNamesLaws.{declared_with, declared_followed, first_fits, second_fits, links_fit}
 use Rattle.isl_kinds.proofs.JoinedNamesLaws.{postfixes_fit}

@@ -1,5 +1,5 @@
 -- public: what simple statements are, and how they are typed, one after another. (the iscc chapter of the barvinok manual)
-use Rattle.std.specs.Prelude.{◌≡◌, ◌≢◌, ◌⊎◌, ◌≤◌, ℕ, suc, Bool, true, false, List, [], ◌∷◌, length, Option, Some, Ok}
+use Rattle.std.specs.Prelude.{◌≡◌, ◌≢◌, ◌⊎◌, ◌≤◌, ℕ, suc, Bool, false, List, [], ◌∷◌, length, Option, Some, Ok}
 use Rattle.std.specs.List.{list_any}
 use Rattle.isl_space.specs.Name.{Name}
 use Rattle.isl_expr.specs.declared.tree.Binary.TheVariants.{Gist}
