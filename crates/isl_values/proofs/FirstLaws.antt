@@ -1,7 +1,8 @@
 -- What ends first, and what goes on.
 use Rattle.std.proofs.Common.{◌↔◌, inl, inr, List}
 use Rattle.isl_space.specs.Name.{Name}
-use Rattle.isl_values.specs.Ends.{End, because, cut, too_wide, no_minimum, unbounded, no_valuation, not_assumed, NoEnd, GoesOn, FirstEnds, OperationEnds}
+use Rattle.isl_values.specs.Ends.{End, because, cut, too_wide, no_minimum, nested, time_shapes, unbounded, several_times, no_valuation, not_assumed}
+use Rattle.isl_values.specs.Ends.{NoEnd, GoesOn, FirstEnds, OperationEnds}
 
 -- they end for the same reasons
 abbrev pub EndAlike : (End → Type 0) → (End → Type 0) → Type 0
@@ -69,7 +70,10 @@ operation_from : (names : List Name) (Wide Other Misses Lacks : Type 0) → Wide
 operation_from names Wide Other Misses Lacks same f (because too_wide) (inl h) = inl h
 operation_from names Wide Other Misses Lacks same f (because too_wide) (inr h) = inr (h.0, same.0 h.1)
 operation_from names Wide Other Misses Lacks same f (because no_minimum) h = (h.0, (λ other. h.1 (same.1 other)), f h.2)
+operation_from names Wide Other Misses Lacks same f (because nested) h = h
+operation_from names Wide Other Misses Lacks same f (because time_shapes) h = h
 operation_from names Wide Other Misses Lacks same f (because unbounded) h = h
+operation_from names Wide Other Misses Lacks same f (because several_times) h = h
 operation_from names Wide Other Misses Lacks same f (because no_valuation) h = h
 operation_from names Wide Other Misses Lacks same f (because not_assumed) h = h
 operation_from names Wide Other Misses Lacks same f cut h = (h.0, (λ other. h.1 (same.1 other)))

@@ -1,5 +1,5 @@
 -- Values at assumed valuations: the pieces that have an element there, and operands there alone.
-use Rattle.std.proofs.Common.{◌≡◌, ◌∙◌, ◌↔◌, ◌⊎◌, inl, inr, ℕ, Bool, true, false, List, [], ◌∷◌, All, Any, refl, sym, ap, ap₂, subst}
+use Rattle.std.proofs.Common.{◌≡◌, ◌∙◌, ◌↔◌, inl, inr, ℕ, Bool, true, false, List, [], ◌∷◌, All, Any, refl, sym, ap, ap₂, subst}
 use Rattle.std.specs.Prelude.{Result, Ok, Err, MatchResult, unsigned_abs}
 use Rattle.std.proofs.lemmas.Bool.{false≢true}
 use Rattle.std.proofs.lemmas.List.Elements.{All-cons, All-head, All-nil, All-tail}
@@ -13,7 +13,7 @@ use Rattle.isl_space.specs.Valuation.{Valuation}
 use Rattle.isl_union.specs.KeptValue.{KeptPiece, KeptValue, Has, HasElement, HasNoDefinitions, IsKeptValue}
 use Rattle.isl_union.specs.Numbers.{IsPieceUpTo}
 use Rattle.isl_assumed.specs.declared.assumed.Assumed.{Assumed}
-use Rattle.isl_assumed.specs.declared.assumed.Assumed.TheVariants.{Nothing, Where}
+use Rattle.isl_assumed.specs.declared.assumed.Assumed.TheVariants.{Nothing}
 use Rattle.isl_assumed.specs.Assumed.{Assumes}
 use Rattle.isl_assumed.specs.Values.{AreLiveAt, IsDeadAt}
 use Rattle.isl_assumed.proofs.ValueLaws.{live_whole}

@@ -20,7 +20,8 @@ use Rattle.isl_operators.specs.Made.{IsWhyNone, IsWhyNoWord}
 use Rattle.isl_kinds.specs.Typed.{joined_names}
 use Rattle.isl_kinds.proofs.JoinedNamesLaws.{joined_is}
 use Rattle.isl_values.specs.State.{HasNumbersUpTo}
-use Rattle.isl_values.specs.Ends.{cut, too_wide, no_minimum, unbounded, no_valuation, not_assumed, End, GoesOn, OperationEnds}
+use Rattle.isl_values.specs.Ends.{cut, too_wide, no_minimum, nested, time_shapes, unbounded, several_times, no_valuation, not_assumed}
+use Rattle.isl_values.specs.Ends.{End, GoesOn, OperationEnds}
 use Rattle.isl_values.specs.Made.{refusal_of_fault, refusal_of_word_fault, IsMadeOf, IsPaid, IsWhyUnworked}
 use Rattle.isl_values.proofs.ValueLaws.{paid_same, unmade_memory}
 
@@ -111,7 +112,10 @@ pub operation_goes : (names : List Name) (Wide Misses : Type 0) → length names
 operation_goes names Wide Misses few narrow found too_wide (inl many) = absurd (omega (arith, many, few))
 operation_goes names Wide Misses few narrow found too_wide (inr wide) = narrow wide.1
 operation_goes names Wide Misses few narrow found no_minimum h = found h.2
+operation_goes names Wide Misses few narrow found nested h = h
+operation_goes names Wide Misses few narrow found time_shapes h = h
 operation_goes names Wide Misses few narrow found unbounded h = h
+operation_goes names Wide Misses few narrow found several_times h = h
 operation_goes names Wide Misses few narrow found no_valuation h = h
 operation_goes names Wide Misses few narrow found not_assumed h = h
 

@@ -1,7 +1,7 @@
 -- Operands at assumed valuations alone.
 use Rattle.std.proofs.Common.{◌≡◌, ◌∙◌, ◌↔◌, ◌++◌, ℕ, Bool, true, false, List, [], All, Contains, refl, sym, ap, subst, inl, inr, ◌⊎◌}
 use Rattle.std.proofs.Common.{◌<◌, get_or, length}
-use Rattle.std.specs.Prelude.{◌&&◌, ◌||◌, IfOk, MatchResult, Result, Ok, Err, unsigned_abs}
+use Rattle.std.specs.Prelude.{◌||◌, IfOk, MatchResult, Result, Ok, Err, unsigned_abs}
 use Rattle.std.proofs.lemmas.Bool.{false≢true, or_parts}
 use Rattle.std.proofs.lemmas.List.Elements.{All-contains_itself, All-nil}
 use Rattle.std.proofs.lemmas.List.Folds.{list_any_at}

@@ -8,7 +8,8 @@ use Rattle.isl_space.specs.Valuation.{Valuation}
 use Rattle.isl_space.specs.Element.{Element}
 use Rattle.isl_space.specs.SpaceForm.{SpaceForm}
 use Rattle.isl_text.specs.declared.refusal.Refusal.{Refusal}
-use Rattle.isl_text.specs.declared.refusal.Refusal.TheVariants.{TooWide, NoMinimum, Unbounded, NoValuation, NotAssumed}
+use Rattle.isl_text.specs.declared.refusal.Refusal.TheVariants.{TooWide, NoMinimum, Nested, TimeShape, Unbounded, SeveralTimes}
+use Rattle.isl_text.specs.declared.refusal.Refusal.TheVariants.{NoValuation, NotAssumed}
 use Rattle.isl_relation.specs.Formed.{FormsAccess}
 use Rattle.isl_assumed.specs.declared.assumed.Assumed.{Assumed}
 use Rattle.isl_assumed.specs.Assumed.{names_of, Assumes}
@@ -34,8 +35,14 @@ pub data Reason : Type 0 where
   too_wide : Reason
   -- there is no least element, or no greatest one
   no_minimum : Reason
-  -- infinitely many elements are to be listed
+  -- what is to be visited is a pair
+  nested : Reason
+  -- times differ in shape
+  time_shapes : Reason
+  -- infinitely many elements are to be listed, or points to be visited
   unbounded : Reason
+  -- a point is to be visited at several times
+  several_times : Reason
   -- no valuation is left that is assumed
   no_valuation : Reason
   -- the valuation that is asked for is not assumed
@@ -44,7 +51,10 @@ pub data Reason : Type 0 where
 abbrev pub refusal_of_reason : Reason → Refusal
 refusal_of_reason too_wide = TooWide
 refusal_of_reason no_minimum = NoMinimum
+refusal_of_reason nested = Nested
+refusal_of_reason time_shapes = TimeShape
 refusal_of_reason unbounded = Unbounded
+refusal_of_reason several_times = SeveralTimes
 refusal_of_reason no_valuation = NoValuation
 refusal_of_reason not_assumed = NotAssumed
 
@@ -80,7 +90,10 @@ FirstEnds A B end = A end ⊎ (GoesOn A × B end)
 abbrev pub OperationEnds : List Name → Type 0 → Type 0 → End → Type 0
 OperationEnds names Wide Misses (because too_wide) = (most_parameters < length names) ⊎ ((length names ≤ most_parameters) × Wide)
 OperationEnds names Wide Misses (because no_minimum) = (length names ≤ most_parameters) × (¬ Wide) × Misses
+OperationEnds names Wide Misses (because nested) = ⊥
+OperationEnds names Wide Misses (because time_shapes) = ⊥
 OperationEnds names Wide Misses (because unbounded) = ⊥
+OperationEnds names Wide Misses (because several_times) = ⊥
 OperationEnds names Wide Misses (because no_valuation) = ⊥
 OperationEnds names Wide Misses (because not_assumed) = ⊥
 OperationEnds names Wide Misses cut = (length names ≤ most_parameters) × (¬ Wide)
@@ -186,6 +199,9 @@ NarrowingEnds assumed names P (because too_wide) = most_parameters < length (joi
 NarrowingEnds assumed names P (because no_valuation) =
     (length (joined (names_of assumed) names) ≤ most_parameters) × ((valuation : Valuation) → Assumes assumed valuation → ¬ P valuation)
 NarrowingEnds assumed names P (because no_minimum) = ⊥
+NarrowingEnds assumed names P (because nested) = ⊥
+NarrowingEnds assumed names P (because time_shapes) = ⊥
 NarrowingEnds assumed names P (because unbounded) = ⊥
+NarrowingEnds assumed names P (because several_times) = ⊥
 NarrowingEnds assumed names P (because not_assumed) = ⊥
 NarrowingEnds assumed names P cut = length (joined (names_of assumed) names) ≤ most_parameters

@@ -6,7 +6,7 @@ ghost use Rattle.std.specs.Str.{bytes_eq};
 ghost use Rattle.indexmap.specs.IndexMap.{insert_entry};
 ghost use Rattle.isl_union.specs.KeptValue.{HasNoDefinitions, IsKeptValue};
 ghost use Rattle.isl_meter.specs.Gauge.{IsCharged, limit_of};
-ghost use Rattle.isl_assumed.specs.Assumed.{names_of, Assumes, IsPlain, IsSound};
+ghost use Rattle.isl_assumed.specs.Assumed.{names_of, Assumes, IsPlain, IsSound, PaysPairs};
 ghost use Rattle.isl_values.specs.State.{unbound, kept_of, type_of, scope_of, value_at, Binds, Fits, HasNumbersUpTo, forgotten};
 ghost use Rattle.isl_values.specs.State.{AreLeftOf, IsLeftOf, IsNarrowed, IsSettled, Narrows};
 ghost use Rattle.isl_values.specs.Ends.{CutAlone, GoesOn, NarrowingEnds};
@@ -182,6 +182,8 @@ fn narrowed(
     ensures why { MatchResult result (λ _. IsCharged meter.old meter.new)
         (IsWhyUnworked true (NarrowingEnds assumed.now (names_of set.now) (Assumes set.now)) meter.old meter.new) }
     ensures goes_on { IfOk result (λ _. GoesOn (NarrowingEnds assumed.now (names_of set.now) (Assumes set.now))) }
+    ensures work { MatchResult result (λ _. PaysPairs assumed.now set.now meter.old meter.new)
+        (λ refusal. refusal ≡ Refusal.NoValuation → PaysPairs assumed.now set.now meter.old meter.new) }
 {
     let met = match assumed.meet(alloc, set, meter) {
         Ok(met) => met,
@@ -278,7 +280,7 @@ impl State {
     }
 
     /// Forgets the names that no script has, which begin with `$`. It takes no memory, and looks at no more names than were bound since it
-    /// was asked before.
+    /// was asked before; behind `narrow` it looks at all of them once.
     pub fn forget(&mut self)
         ensures { self.new ≡ forgotten self.old }
     {
@@ -291,8 +293,9 @@ impl State {
     /// that have no element at one of them. Nothing is changed before all is worked out. (isl manual, on parameter domains)
     ///
     /// # Errors
-    /// `TooWide` where the names that what is assumed depends on are more than 16 together, before any work; `NoValuation` where no valuation
-    /// is left, behind the work of putting both sets together; `Overflow`, `Budget` and `NoMemory`, where the work is cut.
+    /// `TooWide` where the names that what is assumed depends on are more than 16 together, before any work; `NoValuation` where no
+    /// valuation is left, behind the work of putting both sets together, which takes a unit at least for each system of the one with each
+    /// of the other; `Overflow`, `Budget` and `NoMemory`, where the work is cut.
     pub fn narrow(&mut self, alloc: Global, set: &Assumed, meter: &mut Meter) -> Result<(), Refusal>
         requires set { IsSound meter.old set.now }
         requires plain { IsPlain set.now }
@@ -304,6 +307,8 @@ impl State {
         ensures why { MatchResult result (λ _. IsCharged meter.old meter.new)
             (IsWhyUnworked true (NarrowingEnds self.old.assumed (names_of set.now) (Assumes set.now)) meter.old meter.new) }
         ensures goes_on { OnOk result (GoesOn (NarrowingEnds self.old.assumed (names_of set.now) (Assumes set.now))) }
+        ensures work { MatchResult result (λ _. PaysPairs self.old.assumed set.now meter.old meter.new)
+            (λ refusal. refusal ≡ Refusal.NoValuation → PaysPairs self.old.assumed set.now meter.old meter.new) }
     {
         let assumed = narrowed(alloc, &self.assumed, set, meter)?;
         // Names are distinct.

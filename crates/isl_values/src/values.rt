@@ -1,10 +1,8 @@
 //! The values of expressions.
 
-ghost use Rattle.std.specs.Prelude.{◌≡◌, ◌&&◌, [], All, true, false, IfErr, IfOk, MatchResult, Ok, unsigned_abs};
+ghost use Rattle.std.specs.Prelude.{◌≡◌, ◌&&◌, All, true, false, IfErr, IfOk, MatchResult, Ok, unsigned_abs};
 ghost use Rattle.std.specs.List.{list_any};
 ghost use Rattle.isl_meter.specs.Gauge.{IsCharged, limit_of};
-ghost use Rattle.isl_space.specs.Element.{Element};
-ghost use Rattle.isl_space.specs.Valuation.{Valuation};
 ghost use Rattle.isl_union.specs.KeptValue.{Has, HasNoDefinitions, IsKeptValue};
 ghost use Rattle.isl_lower.specs.Value.{IsWellFormedLiteral, IsLowered};
 ghost use Rattle.isl_tree.specs.Literal.{LiteralHas};

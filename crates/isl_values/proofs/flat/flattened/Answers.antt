@@ -1,7 +1,5 @@
-use Rattle.std.proofs.Common.{◌≡◌, false, refl, arith, subst, sym}
+use Rattle.std.proofs.Common.{refl, subst, sym}
 use Rattle.std.specs.Prelude.{unsigned_abs}
-use Rattle.std.proofs.lemmas.Bool.{false≢true}
-use Rattle.std.proofs.lemmas.Grind.{common_steps}
 use Rattle.isl_meter.specs.Gauge.{limit_of}
 use Rattle.isl_meter.proofs.CutLemmas.{IsCharged_refl}
 use Rattle.isl_union.specs.KeptValue.{HasNoDefinitions, IsKeptValue}
