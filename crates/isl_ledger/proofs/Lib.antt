@@ -1,0 +1,11 @@
+pub mod AnsweredLaws
+pub mod ComparisonLaws
+pub mod FormLaws
+pub mod NumberLists
+pub mod NormalDifferences
+pub mod PlacingLaws
+pub mod DifferenceLaws
+pub mod WorkLaws
+pub mod CountLaws
+pub mod NormalCounts
+pub mod SizeLaws
