@@ -1,9 +1,10 @@
 -- The items of a value.
-use Rattle.std.proofs.Common.{◌≡◌, ◌↔◌, refl, sym, ap, ◌∙◌, subst, arith, ℕ, zero, suc, ◌+◌, ◌<◌, List, [], ◌∷◌, length, get_or}
+use Rattle.std.proofs.Common.{◌≡◌, ◌↔◌, refl, sym, ap, ◌∙◌, subst, arith, ℕ, zero, suc, ◌+◌, ◌<◌, ◌≤◌, List, [], ◌∷◌, length, get_or}
 use Rattle.std.specs.List.{All, AllPairs, AllZip, Any}
 use Rattle.isl_math.proofs.ListLaws.{All-zipped, AllZip-weaker, Any-contains, Any-element, Any-zipped}
 use Rattle.isl_meter.specs.Gauge.{Gauge, IsCharged}
 use Rattle.isl_space.specs.Form.{width_of}
+use Rattle.isl_space.specs.Limits.{most_coordinates}
 use Rattle.isl_space.specs.Shape.{form_of}
 use Rattle.isl_space.specs.Valuation.{Valuation, values_of}
 use Rattle.isl_piece.specs.declared.row.Row.{Row}
@@ -125,6 +126,8 @@ module _ (g : Gauge) (value : KeptValue) (calls : List Calls) (are : AreCallsOf 
     params = All-zipped (IsItemOf g n) (λ c. Unit {0}) (λ item. item.params ≡ n) (λ c item r u. r.params_are) calls items zipped trivial;
     times = zipped_pairs (IsItemOf g n) (λ a b. form_of a.time.value ≡ form_of b.time.value) (λ a b. a.times ≡ b.times)
         (λ a b x y r s e. r.times ∙ ap width_of e ∙ sym s.times) calls items zipped are.alike.times;
+    narrow = All-zipped (IsItemOf g n) (AreCalls g n) (λ item. item.times ≤ most_coordinates)
+        (λ c item r a. subst (λ k. k ≤ most_coordinates) (sym r.times) a.narrow.1) calls items zipped are.each;
     exact = items_exact;
     once = items_once;
   }

@@ -1,7 +1,8 @@
 -- public: the items of a value. (isl manual, on code generation; Bastoul, code generation in the polyhedral model)
-use Rattle.std.specs.Prelude.{◌≡◌, ◌↔◌, ℕ, List, All, AllPairs, Any, length}
+use Rattle.std.specs.Prelude.{◌≡◌, ◌↔◌, ◌≤◌, ℕ, List, All, AllPairs, Any, length}
 use Rattle.isl_meter.specs.Gauge.{Gauge}
 use Rattle.isl_space.specs.Form.{width_of}
+use Rattle.isl_space.specs.Limits.{most_coordinates}
 use Rattle.isl_space.specs.Name.{Name}
 use Rattle.isl_space.specs.Shape.{form_of}
 use Rattle.isl_space.specs.Valuation.{Valuation, values_of}
@@ -19,12 +20,13 @@ use Rattle.isl_due.specs.Due.{timed_call, IsDue}
 abbrev pub CallsAt : List Name → Valuation → Timed → Item → Type 0
 CallsAt params valuation timed item = IsCalledBehind (view_of item) (values_of params valuation) timed
 
--- Items over the parameters, with covers, whose times have as many numbers. At each valuation they call what is due, and nothing else; no
--- two of them call the same at one time.
+-- Items over the parameters, with covers, whose times have as many numbers, and not too many. At each valuation they call what is due, and
+-- nothing else; no two of them call the same at one time.
 pub record AreItemsOf (g : Gauge) (value : KeptValue) (items : List Item) : Type 0 where
   pub covered : All (IsCovered g) items
   pub params : All (λ item. item.params ≡ length value.params) items
   pub times : All (λ a. All (λ b. a.times ≡ b.times) items) items
+  pub narrow : All (λ item. item.times ≤ most_coordinates) items
   pub exact : (valuation : Valuation) (timed : Timed) → Any (CallsAt value.params valuation timed) items ↔ IsDue (Has value valuation) timed
   pub once : (valuation : Valuation) (timed : Timed)
       → AllPairs (λ a b. CallsAt value.params valuation timed a → ¬ CallsAt value.params valuation timed b) items

@@ -21,7 +21,7 @@ use std::alloc::{AllocError, Global};
 
 /// The head of a loop, rows that its variable meets at each turn, and rows to be asked there.
 #[derive(Drop)]
-pub(crate) struct Around {
+pub struct Around {
     pub head: Head,
     pub inside: Rows,
     pub guards: Rows,
@@ -141,9 +141,13 @@ impl Around {
         })
     }
 
-    // A loop for the column behind those of the place: through the numbers at which its own rows and a system hold; `None` where they hold
-    // nowhere.
-    pub(crate) fn of(
+    /// A loop for the column behind those of the place: through the numbers at which its own rows and a system hold; `None` where they
+    /// hold nowhere.
+    ///
+    /// # Errors
+    ///
+    /// As every call under a meter.
+    pub fn of(
         alloc: Global,
         place: &Place,
         own: &Rows,

@@ -11,8 +11,9 @@ mod place;
 mod sides;
 mod told;
 
+pub use around::Around;
 pub use cover::Cover;
 pub use item::Item;
 pub use loops::{nest, separate};
-pub use nested::Nested;
+pub use nested::{Nested, for_loop};
 pub use place::Place;

@@ -33,8 +33,12 @@ pub(crate) fn under(alloc: Global, rows: Rows, tree: Loop) -> Result<Loop, Alloc
     Ok(Loop::If(rows, Boxed::new(alloc, tree)?))
 }
 
-// The loop over the head.
-fn for_loop(alloc: Global, head: Head, body: Loop) -> Result<Loop, AllocError>
+/// The loop over the head.
+///
+/// # Errors
+///
+/// Where memory ends.
+pub fn for_loop(alloc: Global, head: Head, body: Loop) -> Result<Loop, AllocError>
     ensures trace { (point : List ℤ) → IfOk result (λ made. trace made point ≡ each_in (λ x. trace body (point ++ x ∷ []))
         (turns_at head point)) }
     ensures over { (g : Gauge) (n : ℕ) → IsExprOver g n head.low → IsExprOver g n head.high → pos 0 <ℤ head.step → IsWithin g head.step

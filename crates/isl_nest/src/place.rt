@@ -45,8 +45,12 @@ impl Place {
         Ok(place)
     }
 
-    // The place with one variable more, which is the next column, where these rows hold.
-    pub(crate) fn with_loop(&self, alloc: Global, rows: &Rows) -> Result<Place, AllocError>
+    /// The place with one variable more, which is the next column, where these rows hold.
+    ///
+    /// # Errors
+    ///
+    /// Where memory ends.
+    pub fn with_loop(&self, alloc: Global, rows: &Rows) -> Result<Place, AllocError>
         requires { self.now.variables + 1 < 2 ^ 64 }
         ensures { IfOk result (λ place. place ≡ with_loop self.now rows.now) }
     {
