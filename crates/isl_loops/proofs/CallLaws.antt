@@ -1,17 +1,21 @@
 -- Calls of two items: behind the same columns, at one time; and behind different numbers of the next column.
 use Rattle.std.proofs.Common.{◌≡◌, sym, ap, ◌∙◌, subst, arith, ℕ, ◌+◌, ◌-◌, ◌<◌, ◌≤◌, ℤ, ◌<ℤ◌}
-use Rattle.std.proofs.Common.{List, [], ◌∷◌, ◌++◌, append_assoc, length, take, drop}
+use Rattle.std.proofs.Common.{List, [], ◌∷◌, ◌++◌, append_assoc, get_or, length, take, drop}
 use Rattle.std.specs.List.{All, Contains}
+use Rattle.std.proofs.lemmas.List.{take_all}
+use Rattle.std.proofs.lemmas.List.Elements.{All-more}
 use Rattle.isl_math.specs.Order.{IsBefore}
 use Rattle.isl_math.proofs.ListLaws.{Any-element}
-use Rattle.isl_meter.specs.Gauge.{Gauge}
+use Rattle.isl_meter.specs.Gauge.{Gauge, IsCharged}
+use Rattle.isl_piece.specs.declared.row.Row.{Row}
 use Rattle.isl_piece.specs.System.{HoldRows}
 use Rattle.isl_loop.specs.Nest.{MayPrecede, Timed}
 use Rattle.isl_loop.proofs.TimeLaws.{later_not_before, not_before_itself, turns_differ}
-use Rattle.isl_nest.specs.Covered.{view_of}
+use Rattle.isl_nest.specs.Covered.{view_of, IsCover}
 use Rattle.isl_nest.specs.Item.{timed_at, IsCalledBehind, ItemView}
 use Rattle.isl_nest.specs.declared.item.Item.{Item}
 use Rattle.isl_nest.proofs.BehindLaws.{begun_behind, behind_next, time_inner, time_outer}
+use Rattle.isl_nest.proofs.LevelLaws.{covered_later, level_cover}
 use Rattle.isl_loops.specs.Together.{AreApart, IsCalledBySome, IsOver, PrecedesBehind}
 
 -- what all have, each that is contained has
@@ -122,3 +126,33 @@ module _ (g : Gauge) (params times : ℕ) (xs ys : List Item) (firsts : All (IsO
       ordered_precede g params times a.0 b.0 (held (IsOver g params times) xs a.0 firsts a.1)
       (held (IsOver g params times) ys b.0 seconds b.1) columns low inner
       (held (PrecedesBehind columns a.0) ys b.0 (held (λ (x : Item). All (PrecedesBehind columns x) ys) xs a.0 before a.1) b.1) s t a.2 b.2
+
+-- ---- one after another
+-- what holds of all, of the one that is read
+pub all_at : {X : Type 0} (P : X → Type 0) (xs : List X) (i : ℕ) (x : X) → i < length xs → x ≡ get_or xs i x → All P xs → P x
+all_at P xs i x low is all = subst P (sym is) (all i x low)
+
+-- one more
+pub all_more : {X : Type 0} (P : X → Type 0) (xs : List X) (i : ℕ) (x : X) → i < length xs → x ≡ get_or xs i x → All P (take i xs) → P x
+    → All P (take (i + 1) xs)
+all_more P xs i x low is all p = All-more P xs i x low all (subst P is p)
+
+-- all of them
+pub all_done : {X : Type 0} (P : X → Type 0) (xs : List X) (i : ℕ) → length xs ≤ i → All P (take i xs) → All P xs
+all_done P xs i end all = subst (All P) (take_all i xs end) all
+
+-- while units are used
+pub over_charged : (g h : Gauge) (params times : ℕ) (item : Item) → IsCharged g h → IsOver g params times item → IsOver h params times item
+over_charged g h params times item charged is =
+    record { covered = covered_later g h item charged is.covered; params_are = is.params_are; times_are = is.times_are }
+
+-- the cover over the columns and one more
+pub cover_over : (g : Gauge) (params times : ℕ) (item : Item) → IsOver g params times item → (columns : ℕ) → params ≤ columns
+    → columns < params + times → (systems : List (List Row)) → systems ≡ get_or item.covers.items (columns + 1 - params) []
+    → IsCover g (view_of item) (columns + 1) systems
+cover_over g params times item is columns low inner systems read =
+    let p = is.params_are in
+    let t = is.times_are in
+    let h = is.covered.is.times in
+    level_cover g item is.covered columns (omega (arith, p, low)) (omega (arith, p, t, h, inner)) systems
+    (read ∙ ap (λ n. get_or item.covers.items (columns + 1 - n) []) (sym p))

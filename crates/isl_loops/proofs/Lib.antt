@@ -1,3 +1,11 @@
+pub mod ListsLaws
 pub mod CallLaws
-pub mod StartLaws
+pub mod GroupLaws
+pub mod GroupLists
+pub mod OrderLaws
 pub mod TogetherLaws
+pub mod SharedLaws
+pub mod PartsLaws
+pub mod GroupedLaws
+pub mod StartLaws
+pub mod GenerateLaws

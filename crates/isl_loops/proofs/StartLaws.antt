@@ -1,21 +1,18 @@
--- Items that are apart, trees one after another, and trees behind the parameters alone.
-use Rattle.std.proofs.Common.{◌≡◌, sym, subst, ℕ, ◌+◌, ◌<◌, ◌≤◌, ℤ, arith, List, [], ◌++◌, length, take, drop}
+-- Items that are apart, and trees behind the parameters alone.
+use Rattle.std.proofs.Common.{◌≡◌, sym, subst, ℕ, ℤ, arith, List, [], ◌++◌, length, take, drop}
 use Rattle.std.proofs.lemmas.List.{length-take-le, take-append-drop}
-use Rattle.std.specs.List.{All}
-use Rattle.isl_meter.specs.Gauge.{Gauge}
 use Rattle.isl_piece.specs.declared.row.Row.{Row}
 use Rattle.isl_piece.specs.System.{HoldRows}
 use Rattle.isl_frame.specs.Frame.{IsOwnFrame}
 use Rattle.isl_loop.specs.declared.tree.Loop.{Loop}
 use Rattle.isl_loop.specs.Nest.{Lists, Timed}
-use Rattle.isl_loop.specs.Run.{trace, Event}
+use Rattle.isl_loop.specs.Run.{trace}
 use Rattle.isl_nest.specs.Covered.{view_of}
 use Rattle.isl_nest.specs.Item.{IsCalledBehind}
 use Rattle.isl_nest.specs.declared.item.Item.{Item}
 use Rattle.isl_nest.specs.declared.place.Place.{Place}
-use Rattle.isl_loops.specs.Together.{AreApart, IsCalledBySome, IsOver, ListsAll, PrecedesBehind}
-use Rattle.isl_loops.proofs.CallLaws.{all_ordered_precede, all_same_precede, behind_front}
-use Rattle.isl_loops.proofs.TogetherLaws.{lists_joined}
+use Rattle.isl_loops.specs.Together.{AreApart, IsCalledBySome, ListsAll}
+use Rattle.isl_loops.proofs.CallLaws.{behind_front}
 
 -- what never calls the same behind the parameters alone, never does behind more columns
 pub apart_behind : (params : ℕ) (a b : Item)
@@ -28,24 +25,6 @@ apart_behind params a b apart columns t low p q =
     apart front t (length-take-le params columns low)
     (behind_front (view_of a) front more t (subst (λ (xs : List ℤ). IsCalledBehind (view_of a) xs t) split p))
     (behind_front (view_of b) front more t (subst (λ (xs : List ℤ). IsCalledBehind (view_of b) xs t) split q))
-
-module _ (g : Gauge) (params times : ℕ) (xs ys : List Item) (firsts : All (IsOver g params times) xs)
-    (seconds : All (IsOver g params times) ys) (columns : List ℤ) (c d : List Event) (first : Lists (IsCalledBySome xs columns) c)
-    (second : Lists (IsCalledBySome ys columns) d) where
-  abbrev Calls : Item → Timed → Type 0
-  Calls item t = IsCalledBehind (view_of item) columns t
-
-  -- behind all numbers of their times items may stand in any order
-  pub lists_beside : params + times ≤ length columns → All (λ a. All (AreApart params a) ys) xs
-      → Lists (IsCalledBySome (xs ++ ys) columns) (c ++ d)
-  lists_beside outer apart =
-      lists_joined Calls xs ys c d first second (all_same_precede g params times xs ys firsts seconds columns outer apart)
-
-  -- items may stand in front of those that they precede
-  pub lists_before : params ≤ length columns → length columns < params + times → All (λ a. All (PrecedesBehind columns a) ys) xs
-      → Lists (IsCalledBySome (xs ++ ys) columns) (c ++ d)
-  lists_before low inner before =
-      lists_joined Calls xs ys c d first second (all_ordered_precede g params times xs ys firsts seconds columns low inner before)
 
 -- behind the parameters alone the tree lists the calls of all items at each of their numbers
 pub lists_at_params : (items : List Item) (place : Place) (tree : Loop) → IsOwnFrame place.variables place.frame → place.context ≡ []

@@ -59,7 +59,7 @@ lists_reordered P xs ys c same l = lists_same (λ t. Any (λ x. P x t) xs) (λ t
 module _ (g : Gauge) (params times : ℕ) (items : List Item) (over : All (IsOver g params times) items) (columns : List ℤ)
     (low : params ≤ length columns) (inner : length columns < params + times) where
   -- what is called is called behind some next number
-  called_next : (t : Timed) → IsCalledBySome items columns t → (x : ℤ) × IsCalledBySome items (columns ++ x ∷ []) t
+  pub called_next : (t : Timed) → IsCalledBySome items columns t → (x : ℤ) × IsCalledBySome items (columns ++ x ∷ []) t
   called_next t p =
       let a = Any-element (λ (item : Item). IsCalledBehind (view_of item) columns t) items p in
       let one = held (IsOver g params times) items a.0 over a.1 in
@@ -73,7 +73,7 @@ module _ (g : Gauge) (params times : ℕ) (items : List Item) (over : All (IsOve
       Any-weaker (λ (item : Item). IsCalledBehind (view_of item) (columns ++ x ∷ []) t)
       (λ (item : Item). IsCalledBehind (view_of item) columns t) (λ item p. behind_less (view_of item) columns t x p) items
 
-  called_begins : (t : Timed) (ys : List ℤ) → IsCalledBySome items ys t → SomeBegins items ys
+  pub called_begins : (t : Timed) (ys : List ℤ) → IsCalledBySome items ys t → SomeBegins items ys
   called_begins t ys =
       Any-weaker (λ (item : Item). IsCalledBehind (view_of item) ys t) (λ (item : Item). IsBegun (view_of item) ys)
       (λ item p. begun_behind (view_of item) ys t p) items

@@ -1,1 +1,4 @@
 pub mod Together
+pub mod Order
+pub mod Groups
+pub mod Shared

@@ -1,2 +1,9 @@
-//! Loops of several items: what lists the calls of all of them in the order of their times.
+//! Loops from values: the items of a value in one tree, which lists the calls of all of them in the order of their times.
 #![tactic(auto)]
+
+mod generate;
+mod groups;
+mod order;
+mod together;
+
+pub use generate::codegen;

@@ -1,0 +1,72 @@
+use Rattle.std.proofs.Common.{◌≡◌, ◌∙◌, ◌≤◌, ap, subst, arith, length, ℕ, List}
+use Rattle.std.proofs.lemmas.Result.{IfOk-weaker}
+use Rattle.isl_loop.specs.Formed.{IsLoopOver}
+use Rattle.isl_nest.specs.declared.place.Place.{Place}
+use Rattle.isl_space.specs.Limits.{most_coordinates}
+use Rattle.isl_space.specs.Name.{Name}
+use Rattle.isl_space.specs.Names.{IsParameterList}
+use Rattle.isl_due.specs.Good.{ListsCalls}
+use Rattle.isl_loops.specs.Together.{ListsAll}
+use Rattle.isl_loops.proofs.GenerateLaws.{items_apart, items_over, lists_value, own_long, own_place}
+use Rattle.isl_loops.proofs.generate.loops_of.Goals as goal
+
+pub together-requires-clause-place : goal.together-requires-clause-place
+together-requires-clause-place c =
+    own_place c.args.meter.now (record { variables = c.len-params.result; frame = c.in_ok-own_frame.field-0; context = c.new.result })
+    c.in_ok-own_frame.ensures.frame (c.in_ok-own_frame.ensures.within c.args.meter.now c.limit-limit.ensures.bits_low) c.new.ensures
+
+pub together-requires-clause-items : goal.together-requires-clause-items
+together-requires-clause-items c =
+    let value = c.args.value.now in
+    let items = c.args.items.items in
+    let e : c.len-params.result ≡ length value.params =
+    c.len-params.ensures.len ∙ ap (λ (ns : List Name). length ns) c.params.ensures.content in
+    items_over c.args.meter.now value items c.requires c.len-params.result c.times_of-times.result e
+    (rw c.as_slice.ensures.value at (c.times_of-times.ensures.same (rw c.as_slice.ensures.value c.requires.times)))
+
+pub together-requires-clause-apart : goal.together-requires-clause-apart
+together-requires-clause-apart c =
+    let value = c.args.value.now in
+    let items = c.args.items.items in
+    let e : c.len-params.result ≡ length value.params =
+    c.len-params.ensures.len ∙ ap (λ (ns : List Name). length ns) c.params.ensures.content in
+    items_apart c.args.meter.now value items c.requires c.len-params.result e
+    (subst IsParameterList c.params.ensures.content c.params.ensures.well_formed)
+
+pub together-requires-clause-low : goal.together-requires-clause-low
+together-requires-clause-low c =
+    let long = own_long c.len-params.result c.in_ok-own_frame.field-0 c.in_ok-own_frame.ensures.frame in
+    omega (arith, long)
+
+pub together-requires-clause-high : goal.together-requires-clause-high
+together-requires-clause-high c =
+    let long = own_long c.len-params.result c.in_ok-own_frame.field-0 c.in_ok-own_frame.ensures.frame in
+    omega (arith, long)
+
+pub together-requires-clause-room : goal.together-requires-clause-room
+together-requires-clause-room c =
+    let few = c.len-params.ensures.well_formed.few in
+    let long = c.len-params.ensures.len in
+    let times : c.times_of-times.result ≤ most_coordinates =
+    c.times_of-times.ensures.few most_coordinates (rw c.as_slice.ensures.value c.requires.narrow) in
+    omega (arith, few, long, times)
+
+pub returns-clause-lists : goal.returns-clause-lists
+returns-clause-lists c =
+    let value = c.args.value.now in
+    let items = c.args.items.items in
+    let e : c.len-params.result ≡ length value.params =
+    c.len-params.ensures.len ∙ ap (λ (ns : List Name). length ns) c.params.ensures.content in
+    let place : Place = record { variables = c.len-params.result; frame = c.in_ok-own_frame.field-0; context = c.new.result } in
+    IfOk-weaker c.together.result (ListsAll items place) (ListsCalls value)
+    (λ tree lists. lists_value c.args.meter.now value items c.requires place tree e c.in_ok-own_frame.ensures.frame c.new.ensures lists)
+    c.together.ensures.lists
+
+pub returns-clause-over : goal.returns-clause-over
+returns-clause-over c =
+    let g = c.args.meter.now in
+    let value = c.args.value.now in
+    let e : c.len-params.result ≡ length value.params =
+    c.len-params.ensures.len ∙ ap (λ (ns : List Name). length ns) c.params.ensures.content in
+    IfOk-weaker c.together.result (IsLoopOver g c.len-params.result) (IsLoopOver g (length value.params))
+    (λ tree over. subst (λ (n : ℕ). IsLoopOver g n tree) e over) c.together.ensures.over
