@@ -9,14 +9,16 @@ use Rattle.isl_expr.specs.declared.tree.Expr.TheBlock.{hidden-the_row-Expr-0, hi
 use Rattle.isl_expr.specs.declared.tree.Expr as e
 use Rattle.isl_flat.specs.Flat.{is_sample}
 use Rattle.isl_eval.specs.Tests.{is_test}
-use Rattle.isl_eval.specs.Evaluation.{ends_with_test, is_coalesce, is_scan, is_listing, is_asked}
+use Rattle.isl_eval.specs.Asked.{is_at_numbers, is_of_operand, question_of, shows_at_numbers}
+use Rattle.isl_eval.specs.Evaluation.{ends_with_test, is_codegen, is_coalesce, is_asked}
 use Rattle.isl_eval.proofs.TestLaws.{ends_are, ends_at}
 
-pub listing_of-Prefix : (word : Word) (operand : Expr) → is_listing (e.Prefix word operand) ≡ is_scan word
+pub numbered_of-Prefix : (run : Bool) (word : Word) (operand : Expr)
+    → shows_at_numbers run (e.Prefix word operand) ≡ is_at_numbers run (question_of word)
 unfolding hidden-the_row-Expr-0 denote.Hole.Carrier.hidden
-listing_of-Prefix word operand = refl
+numbered_of-Prefix run word operand = refl
 
-pub asked_of-Prefix : (word : Word) (operand : Expr) → is_asked (e.Prefix word operand) ≡ is_scan word
+pub asked_of-Prefix : (word : Word) (operand : Expr) → is_asked (e.Prefix word operand) ≡ is_of_operand (question_of word)
 unfolding hidden-the_row-Expr-0 denote.Hole.Carrier.hidden
 asked_of-Prefix word operand = refl
 
@@ -24,16 +26,18 @@ pub asked_of-Row : (first : Expr) (links : List Link) → is_asked (Row first li
 unfolding hidden-the_row-Expr-0 denote.Hole.Carrier.hidden
 asked_of-Row first links = ends_are _ (hidden-the_row-Link-1 links) ∙ ap ends_with_test (items_hidden-the_row-Link-1 links)
 
-pub listing-Prefix : (x operand : Expr) (word : Word) (b : Bool) → x ≡ e.Prefix word operand → b ≡ is_scan word → b ≡ is_listing x
-listing-Prefix x operand word b is scan = scan ∙ sym (ap is_listing is ∙ listing_of-Prefix word operand)
+pub numbered-Prefix : (run : Bool) (x operand : Expr) (word : Word) (b : Bool) → x ≡ e.Prefix word operand
+    → b ≡ is_at_numbers run (question_of word) → b ≡ shows_at_numbers run x
+numbered-Prefix run x operand word b is own = own ∙ sym (ap (shows_at_numbers run) is ∙ numbered_of-Prefix run word operand)
 
-pub asked-Prefix : (x operand : Expr) (word : Word) (b : Bool) → x ≡ e.Prefix word operand → b ≡ is_scan word → b ≡ is_asked x
-asked-Prefix x operand word b is scan = scan ∙ sym (ap is_asked is ∙ asked_of-Prefix word operand)
+pub asked-Prefix : (x operand : Expr) (word : Word) (b : Bool) → x ≡ e.Prefix word operand → b ≡ is_of_operand (question_of word)
+    → b ≡ is_asked x
+asked-Prefix x operand word b is own = own ∙ sym (ap is_asked is ∙ asked_of-Prefix word operand)
 
 pub asked-Row : (x first : Expr) (links : List Link) (b : Bool) → x ≡ Row first links → b ≡ ends_with_test links → b ≡ is_asked x
 asked-Row x first links b is ends = ends ∙ sym (ap is_asked is ∙ asked_of-Row first links)
 
-pub ruleset listing = (listing-Prefix)
+pub ruleset at_numbers = (numbered-Prefix)
 
 pub ruleset asked = (asked-Prefix, asked-Row)
 
@@ -45,10 +49,16 @@ ends_some links before last b is test = test ∙ sym (ap ends_with_test is ∙ e
 pub ends_none : (links : List Link) → length links ≡ 0 → false ≡ ends_with_test links
 ends_none links none = sym (ap ends_with_test (nil_from_length links none))
 
--- ---- the word of what lists, and of what chooses
-pub scan_word : (word : Word) → is_scan word ≡ true → word ≡ p.Scan
-scan_word p.Scan is = refl
-scan_word _ is = let no : false ≡ true = is in cc
+-- ---- the words of what asks, and of what chooses
+pub codegen_word : (word : Word) → is_codegen word ≡ true → word ≡ p.Codegen
+codegen_word p.Codegen is = refl
+codegen_word _ is = let no : false ≡ true = is in cc
+
+-- the other word that is about its operand
+pub scan_word : (word : Word) → is_of_operand (question_of word) ≡ true → is_codegen word ≡ false → word ≡ p.Scan
+scan_word p.Scan is other = refl
+scan_word p.Codegen is other = let no : true ≡ false = other in cc
+scan_word _ is other = let no : false ≡ true = is in cc
 
 pub sample_word : (word : Word) → is_sample word ≡ true → word ≡ p.Sample
 sample_word p.Sample is = refl

@@ -1,5 +1,6 @@
 -- Which causes the bytes of a statement have.
 use Rattle.std.proofs.Common.{◌≡◌, ◌∙◌, ◌⊎◌, inl, inr, refl, sym, ap, subst, ℕ, ℤ, Bool, true, false, List, Some, None, Result, Ok, Err}
+use Rattle.std.specs.Prelude.{MatchResult}
 use Rattle.std.proofs.lemmas.Bool.{false≢true}
 use Rattle.isl_meter.specs.Gauge.{Gauge, limit_of}
 use Rattle.isl_token.specs.TokenView.{Token}
@@ -15,7 +16,6 @@ use Rattle.isl_stmt.specs.Limits.{statement_is_within}
 use Rattle.isl_stmt.specs.Read.{NoStatement, judged, IsDueTo, IsDue}
 use Rattle.isl_stmt.proofs.ReadLaws.{one_statement}
 use Rattle.isl_values.specs.State.{Moment}
-use Rattle.isl_eval.specs.Unsupported.{is_unsupported}
 use Rattle.isl_eval.specs.Spelled.{BytesSpell, OfTokens, OfStatement, SpellOne}
 use Rattle.isl_eval.specs.Causes.{causes, IsThere, FirstGives}
 use Rattle.isl_eval.specs.Evaluation.{IsRead, IsWhyNot}
@@ -100,43 +100,10 @@ module _ (before : Moment) (bytes : List ℕ) where
           is_not (has_wide_number (limit_of before.meter) ts) small
           (of_tokens bytes ts (λ ts. has_wide_number (limit_of before.meter) ts ≡ true) cut there)
 
-      unsupported_why : statement_is_within stmt ≡ true → has_wide_number (limit_of before.meter) ts ≡ false → is_unsupported stmt ≡ true
-          → FirstGives (IsThere before bytes) causes r.Syntax
-      unsupported_why within small un =
-          inr (
-            no_tokens bytes ts cut,
-            inr (
-              shallow flat,
-              inr
-                  (some_statement, inr (narrow_tree within, inr (narrow_tokens small, inl ((stmt, spelled, un), refl)))),
-            ),
-          )
-
-      read : statement_is_within stmt ≡ true → has_wide_number (limit_of before.meter) ts ≡ false → is_unsupported stmt ≡ false
-          → IsRead before bytes stmt
-      read within small supported = record {
+      read : statement_is_within stmt ≡ true → has_wide_number (limit_of before.meter) ts ≡ false → IsRead before bytes stmt
+      read within small = record {
         spelled = spelled;
-        none = (
-          no_tokens bytes ts cut,
-          (
-            shallow flat,
-            (
-              some_statement,
-              (
-                narrow_tree within,
-                (
-                  narrow_tokens small,
-                  (
-                    (λ there. is_not (is_unsupported stmt) supported
-                        (of_statement bytes stmt (λ stmt. is_unsupported stmt ≡ true) spelled there)),
-                    tt,
-                  ),
-                ),
-              ),
-            ),
-          ),
-        );
-        supported = supported;
+        none = (no_tokens bytes ts cut, (shallow flat, (some_statement, (narrow_tree within, (narrow_tokens small, tt)))));
         sound = spelled_sound bytes stmt spelled within;
       }
 
@@ -147,18 +114,10 @@ module _ (before : Moment) (bytes : List ℕ) where
           let e : refusal ≡ r.WideNumber = cc in subst (FirstGives (IsThere before bytes) causes) (sym e) (number_why within wide)
       err_of refusal (taken within small is) = let e : Err refusal ≡ Ok stmt = is in cc
 
-      ok_of : (found : Stmt) → Judged (limit_of before.meter) ts stmt (Ok found) → is_unsupported found ≡ false → IsRead before bytes found
-      ok_of found (wide_tree within is) supported = let e : Ok found ≡ Err r.TooWide = is in cc
-      ok_of found (wide_token within wide is) supported = let e : Ok found ≡ Err r.WideNumber = is in cc
-      ok_of found (taken within small is) supported =
-          let e : found ≡ stmt = cc in
-          subst (IsRead before bytes) (sym e) (read within small (sym (ap is_unsupported e) ∙ supported))
-
-      un_of : (found : Stmt) → Judged (limit_of before.meter) ts stmt (Ok found) → is_unsupported found ≡ true
-          → FirstGives (IsThere before bytes) causes r.Syntax
-      un_of found (wide_tree within is) un = let e : Ok found ≡ Err r.TooWide = is in cc
-      un_of found (wide_token within wide is) un = let e : Ok found ≡ Err r.WideNumber = is in cc
-      un_of found (taken within small is) un = let e : found ≡ stmt = cc in unsupported_why within small (sym (ap is_unsupported e) ∙ un)
+      ok_of : (found : Stmt) → Judged (limit_of before.meter) ts stmt (Ok found) → IsRead before bytes found
+      ok_of found (wide_tree within is) = let e : Ok found ≡ Err r.TooWide = is in cc
+      ok_of found (wide_token within wide is) = let e : Ok found ≡ Err r.WideNumber = is in cc
+      ok_of found (taken within small is) = let e : found ≡ stmt = cc in subst (IsRead before bytes) (sym e) (read within small)
 
   pub due_refused : (refusal : Refusal) → IsDue bytes (limit_of before.meter) (Err refusal)
       → FirstGives (IsThere before bytes) causes refusal
@@ -172,24 +131,14 @@ module _ (before : Moment) (bytes : List ℕ) where
           (none_why h.0 h.1 d.0 d.1)
       by (inr (inr d)) = err_of h.0 h.1 d.0 d.1 d.2 refusal (judged_as (limit_of before.meter) h.0 d.1 (Err refusal) d.3)
 
-  pub due_read : (found : Stmt) → IsDue bytes (limit_of before.meter) (Ok found) → is_unsupported found ≡ false → IsRead before bytes found
-  due_read found (inl h) supported = let e = h.1 in cc
-  due_read found (inr h) supported = by h.2
+  pub due_read : (found : Stmt) → IsDue bytes (limit_of before.meter) (Ok found) → IsRead before bytes found
+  due_read found (inl h) = let e = h.1 in cc
+  due_read found (inr h) = by h.2
     where
       by : IsDueTo h.0 (limit_of before.meter) (Ok found) → IsRead before bytes found
       by (inl d) = let e = d.1 in cc
       by (inr (inl d)) = let e = d.2 in cc
-      by (inr (inr d)) = ok_of h.0 h.1 d.0 d.1 d.2 found (judged_as (limit_of before.meter) h.0 d.1 (Ok found) d.3) supported
-
-  pub due_unsupported : (found : Stmt) → IsDue bytes (limit_of before.meter) (Ok found) → is_unsupported found ≡ true
-      → FirstGives (IsThere before bytes) causes r.Syntax
-  due_unsupported found (inl h) un = let e = h.1 in cc
-  due_unsupported found (inr h) un = by h.2
-    where
-      by : IsDueTo h.0 (limit_of before.meter) (Ok found) → FirstGives (IsThere before bytes) causes r.Syntax
-      by (inl d) = let e = d.1 in cc
-      by (inr (inl d)) = let e = d.2 in cc
-      by (inr (inr d)) = un_of h.0 h.1 d.0 d.1 d.2 found (judged_as (limit_of before.meter) h.0 d.1 (Ok found) d.3) un
+      by (inr (inr d)) = ok_of h.0 h.1 d.0 d.1 d.2 found (judged_as (limit_of before.meter) h.0 d.1 (Ok found) d.3)
 
 abbrev failed : Refusal → Result Stmt Refusal
 failed refusal = Err refusal
@@ -202,17 +151,16 @@ module _ (before : Moment) (bytes : List ℕ) (limit : ℤ) (meter : Gauge) (at 
   at_limit : (answer : Result Stmt Refusal) → IsDue bytes limit answer → IsDue bytes (limit_of before.meter) answer
   at_limit answer due = subst (λ (z : ℤ). IsDue bytes z answer) same due
 
-  pub read_ok : (found : Stmt) → (Ok found ≡ Err r.NoMemory) ⊎ IsDue bytes limit (Ok found) → is_unsupported found ≡ false
-      → IsRead before bytes found
-  read_ok found (inl e) supported = let f : Ok found ≡ Err r.NoMemory = e in cc
-  read_ok found (inr due) supported = due_read before bytes found (at_limit (Ok found) due) supported
+  read_ok : (found : Stmt) → (Ok found ≡ Err r.NoMemory) ⊎ IsDue bytes limit (Ok found) → IsRead before bytes found
+  read_ok found (inl e) = let f : Ok found ≡ Err r.NoMemory = e in cc
+  read_ok found (inr due) = due_read before bytes found (at_limit (Ok found) due)
 
-  pub read_unsupported : (found : Stmt) → (Ok found ≡ Err r.NoMemory) ⊎ IsDue bytes limit (Ok found) → is_unsupported found ≡ true
-      → IsWhyNot before bytes r.Syntax
-  read_unsupported found (inl e) un = let f : Ok found ≡ Err r.NoMemory = e in cc
-  read_unsupported found (inr due) un = inr (due_unsupported before bytes found (at_limit (Ok found) due) un)
-
-  pub read_err : (refusal : Refusal) → (failed refusal ≡ Err r.NoMemory) ⊎ IsDue bytes limit (failed refusal)
+  read_err : (refusal : Refusal) → (failed refusal ≡ Err r.NoMemory) ⊎ IsDue bytes limit (failed refusal)
       → IsWhyNot before bytes refusal
   read_err refusal (inl e) = inl cc
   read_err refusal (inr due) = inr (due_refused before bytes refusal (at_limit (Err refusal) due))
+
+  pub read_made : (answer : Result Stmt Refusal) → (answer ≡ Err r.NoMemory) ⊎ IsDue bytes limit answer
+      → MatchResult answer (IsRead before bytes) (IsWhyNot before bytes)
+  read_made (Ok found) due = read_ok found due
+  read_made (Err refusal) due = read_err refusal due

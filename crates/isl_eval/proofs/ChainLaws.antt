@@ -18,21 +18,20 @@ use Rattle.isl_expr.specs.declared.tree.Expr.TheBlock.{hidden-the_row-Expr-0}
 use Rattle.isl_expr.specs.declared.tree.Expr as e
 use Rattle.isl_expr.specs.Expr.{statement_literals}
 use Rattle.isl_kinds.specs.declared.types.Purpose.TheVariants as purpose
-use Rattle.isl_kinds.specs.Parts.{parts_of, parts_of_statement}
 use Rattle.isl_kinds.specs.Typed.{TypeView, ScopeView, is_dollar, has_unknown, kind_of}
 use Rattle.isl_kinds.specs.Typed.{declared_of, kind_for, with_params, type_for, type_of_statement}
 use Rattle.isl_eval.proofs.TestLaws.{made_of-Row, whole_row}
 use Rattle.isl_flat.specs.Flat.{flat, link_of}
 use Rattle.isl_flat.specs.Simple.{bindings_of, last_of, BindFrom, IsSimple, IsSimpleExpr, HasType, AreTyped, statement_declared}
-use Rattle.isl_eval.specs.Unsupported.{is_unsupported_part}
-use Rattle.isl_flat.proofs.SimpleLaws.{flat_ends, parts_kept, literals_kept, flat_is_simple, bindings_are_numbered}
+use Rattle.isl_flat.proofs.SimpleLaws.{flat_ends, literals_kept, flat_is_simple, bindings_are_numbered}
 use Rattle.isl_flat.proofs.TypedLaws.{flat_is_typed}
 use Rattle.isl_stmt.specs.Names.{HasNoDollar, binds_dollar}
 use Rattle.isl_stmt.proofs.NameLaws.{bytes_spell_no_dollar}
 use Rattle.isl_values.specs.State.{Moment, scope_of}
 use Rattle.isl_values.specs.Made.{is_foreign}
 use Rattle.isl_eval.specs.Evaluated.{made_parts, shown_parts, worked_parts, AssumesFormulas, IsEvaluable}
-use Rattle.isl_eval.specs.Ended.{lists, IsAssumedWhereListed}
+use Rattle.isl_eval.specs.Asked.{needs_numbers}
+use Rattle.isl_eval.specs.Ended.{IsAssumedWhereNeeded}
 use Rattle.isl_eval.specs.Evaluation.{IsClearStatement, IsTaken, AreEvaluable}
 use Rattle.isl_eval.specs.Spelled.{BytesSpell}
 use Rattle.isl_token.proofs.LexLaws.{lexed}
@@ -81,21 +80,19 @@ gist_shown left right =
     ap (list_any is_foreign) (whole_row (e.Name left) (link_of Gist (e.Name right) ∷ []) refl) ∙ gist_made left right
 
 bound_simple : (scope : ScopeView) (expr : Expr) (kind : ValueKind) → kind_of scope expr ≡ Some kind → is_value kind ≡ true
-    → list_any is_unsupported_part (parts_of expr) ≡ false → IsSimpleExpr expr → list_any is_foreign (made_parts expr) ≡ false
-bound_simple scope expr kind is value supported (inl quiet) = bound_plain scope expr kind is value
-    (record { supported = supported; unchosen = quiet })
-bound_simple scope expr kind is value supported (inr (inl h)) =
+    → IsSimpleExpr expr → list_any is_foreign (made_parts expr) ≡ false
+bound_simple scope expr kind is value (inl quiet) = bound_plain scope expr kind is value quiet
+bound_simple scope expr kind is value (inr (inl h)) =
     ap (λ (x : Expr). list_any is_foreign (made_parts x)) h.1 ∙ sample_made h.0
-bound_simple scope expr kind is value supported (inr (inr h)) =
+bound_simple scope expr kind is value (inr (inr h)) =
     ap (λ (x : Expr). list_any is_foreign (made_parts x)) h.2 ∙ gist_made h.0 h.1
 
 shown_simple : (scope : ScopeView) (expr : Expr) (kind : ValueKind) → kind_of scope expr ≡ Some kind → is_lone expr ≡ false
-    → list_any is_unsupported_part (parts_of expr) ≡ false → IsSimpleExpr expr → list_any is_foreign (shown_parts expr) ≡ false
-shown_simple scope expr kind is full supported (inl quiet) = shown_plain scope expr kind is full
-    (record { supported = supported; unchosen = quiet })
-shown_simple scope expr kind is full supported (inr (inl h)) =
+    → IsSimpleExpr expr → list_any is_foreign (shown_parts expr) ≡ false
+shown_simple scope expr kind is full (inl quiet) = shown_plain scope expr kind is full quiet
+shown_simple scope expr kind is full (inr (inl h)) =
     ap (λ (x : Expr). list_any is_foreign (shown_parts x)) h.1 ∙ sample_shown h.0
-shown_simple scope expr kind is full supported (inr (inr h)) =
+shown_simple scope expr kind is full (inr (inr h)) =
     ap (λ (x : Expr). list_any is_foreign (shown_parts x)) h.2 ∙ gist_shown h.0 h.1
 
 -- ---- one simple statement
@@ -106,24 +103,23 @@ formulas_of (Show expr) full = tt
 formulas_of (Assume set) full = full
 
 plain : (scope : ScopeView) (stmt : Stmt) (t : Option TypeView) → type_of_statement scope stmt ≡ Ok t → FullStmt stmt
-    → list_any is_unsupported_part (parts_of_statement stmt) ≡ false → IsSimple stmt → list_any is_foreign (worked_parts stmt) ≡ false
-plain scope Empty t typed full supported simple = refl
-plain scope (Bind name expr) t typed full supported simple =
+    → IsSimple stmt → list_any is_foreign (worked_parts stmt) ≡ false
+plain scope Empty t typed full simple = refl
+plain scope (Bind name expr) t typed full simple =
     let u = found_is (type_for purpose.Bound scope expr) t typed in
-    bound_simple scope expr u.0.kind (of_type scope expr purpose.Bound u.0 u.1).kind (bound_value scope expr u.0 u.1) supported simple
-plain scope (Show expr) t typed full supported simple =
+    bound_simple scope expr u.0.kind (of_type scope expr purpose.Bound u.0 u.1).kind (bound_value scope expr u.0 u.1) simple
+plain scope (Show expr) t typed full simple =
     let u = found_is (type_for purpose.Shown scope expr) t typed in
-    shown_simple scope expr u.0.kind (of_type scope expr purpose.Shown u.0 u.1).kind full supported simple
-plain scope (Assume set) t typed full supported simple = refl
+    shown_simple scope expr u.0.kind (of_type scope expr purpose.Shown u.0 u.1).kind full simple
+plain scope (Assume set) t typed full simple = refl
 
 abbrev MayBe : ℕ → Stmt → Type 0
 MayBe most stmt = (scope : ScopeView) (t : Option TypeView) → HasType most scope stmt t → IsEvaluable scope stmt
 
-may_be : (most : ℕ) (stmt : Stmt) → FullStmt stmt → list_any is_unsupported_part (parts_of_statement stmt) ≡ false
-    → All IsWellFormedLiteral (statement_literals stmt) → IsSimple stmt → MayBe most stmt
-may_be most stmt full supported literals simple = λ scope t has. record {
+may_be : (most : ℕ) (stmt : Stmt) → FullStmt stmt → All IsWellFormedLiteral (statement_literals stmt) → IsSimple stmt → MayBe most stmt
+may_be most stmt full literals simple = λ scope t has. record {
   typed = (t, has.typed);
-  plain = plain scope stmt t has.typed full supported simple;
+  plain = plain scope stmt t has.typed full simple;
   literals = literals;
   formulas = formulas_of stmt full;
 }
@@ -162,7 +158,7 @@ full_bindings n (Assume set ∷ more) from = absurd from
 full_last : (stmt : Stmt) → FullStmt stmt → FullStmt (last_of stmt)
 full_last Empty full = tt
 full_last (Bind name expr) full = tt
-full_last (Show expr) full = (outermost_like expr full).0
+full_last (Show expr) full = (outermost_like false expr full).0
 full_last (Assume set) full = full
 
 all_full : (stmt : Stmt) → FullStmt stmt → All FullStmt (flat stmt)
@@ -186,42 +182,42 @@ evaluable {type} before bytes stmt statements found is short =
     let most = length (statement_declared (scope_of before.state) stmt) in
     let typed = flat_is_typed (scope_of before.state) stmt type (no_dollar bytes stmt read.spelled).inside
     (subst (λ (s : List Stmt). length s ≤ 2 ^ 64) is short) found.able.typed in
-    let supported = parts_kept is_unsupported_part (λ n. refl) stmt read.supported in
     let literals = literals_kept IsWellFormedLiteral stmt read.sound in
     let simple = flat_is_simple stmt in
     let full = all_full stmt (bytes_full bytes stmt read.spelled) in
     let each : All (MayBe most) (flat stmt) = λ i d low.
-    may_be most (get_or (flat stmt) i d) (full i d low) (supported i d low) (literals i d low) (simple i d low) in
+    may_be most (get_or (flat stmt) i d) (full i d low) (literals i d low) (simple i d low) in
     subst (λ (s : List Stmt). AreEvaluable (scope_of before.state) s type) (sym (is ∙ flat_ends stmt))
     (chain most 1 (scope_of before.state) (bindings_of stmt) (last_of stmt) type
     (subst (λ (s : List Stmt). AreTyped most (scope_of before.state) s type) (flat_ends stmt) typed) (bindings_are_numbered stmt)
     (subst (All (MayBe most)) (flat_ends stmt) each))
 
 -- ---- what is asked first
-last_lists : (stmt : Stmt) → FullStmt stmt → lists (last_of stmt) ≡ lists stmt
-last_lists Empty full = refl
-last_lists (Bind name expr) full = refl
-last_lists (Show expr) full = (outermost_like expr full).1
-last_lists (Assume set) full = refl
+last_needs : (run : Bool) (stmt : Stmt) → FullStmt stmt → needs_numbers run (last_of stmt) ≡ needs_numbers run stmt
+last_needs run Empty full = refl
+last_needs run (Bind name expr) full = refl
+last_needs run (Show expr) full = (outermost_like run expr full).1
+last_needs run (Assume set) full = refl
 
-bindings_asked : (before : Moment) (n : ℕ) (bindings : List Stmt) → BindFrom n bindings → All (IsAssumedWhereListed before) bindings
-bindings_asked before n [] from = All-nil (IsAssumedWhereListed before)
+bindings_asked : (before : Moment) (n : ℕ) (bindings : List Stmt) → BindFrom n bindings → All (IsAssumedWhereNeeded before) bindings
+bindings_asked before n [] from = All-nil (IsAssumedWhereNeeded before)
 bindings_asked before n (Bind name expr ∷ more) from =
-    All-cons (IsAssumedWhereListed before) (Bind name expr) more (λ listed. absurd (false≢true listed))
+    All-cons (IsAssumedWhereNeeded before) (Bind name expr) more (λ needed. absurd (false≢true needed))
     (bindings_asked before (suc n) more from.1)
 bindings_asked before n (Empty ∷ more) from = absurd from
 bindings_asked before n (Show expr ∷ more) from = absurd from
 bindings_asked before n (Assume set ∷ more) from = absurd from
 
--- where a statement lists elements, one of its simple statements does, at the same numbers
+-- where a statement lists elements or runs loops, one of its simple statements does, at the same numbers
 pub asked_each : (before : Moment) (bytes : List ℕ) (stmt : Stmt) (statements : List Stmt) → BytesSpell bytes stmt → statements ≡ flat stmt
-    → IsAssumedWhereListed before stmt → All (IsAssumedWhereListed before) statements
+    → IsAssumedWhereNeeded before stmt → All (IsAssumedWhereNeeded before) statements
 asked_each before bytes stmt statements spelled is asked =
-    subst (All (IsAssumedWhereListed before)) (sym (is ∙ flat_ends stmt))
-    (All-append (IsAssumedWhereListed before) (bindings_of stmt) (last_of stmt ∷ [])
+    subst (All (IsAssumedWhereNeeded before)) (sym (is ∙ flat_ends stmt))
+    (All-append (IsAssumedWhereNeeded before) (bindings_of stmt) (last_of stmt ∷ [])
     (bindings_asked before 1 (bindings_of stmt) (bindings_are_numbered stmt))
-    (All-cons (IsAssumedWhereListed before) (last_of stmt) [] (λ listed. asked (sym (last_lists stmt (bytes_full bytes stmt spelled)) ∙ listed))
-    (All-nil (IsAssumedWhereListed before))))
+    (All-cons (IsAssumedWhereNeeded before) (last_of stmt) []
+    (λ needed. asked (sym (last_needs before.options.run stmt (bytes_full bytes stmt spelled)) ∙ needed))
+    (All-nil (IsAssumedWhereNeeded before))))
 
 -- ---- one simple statement alone
 pub one_alone : (others : List Stmt) (x only : Stmt) → others ++ x ∷ [] ≡ only ∷ [] → (others ≡ []) × (x ≡ only)

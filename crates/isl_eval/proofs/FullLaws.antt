@@ -1,4 +1,4 @@
--- No row of one operand stands outermost, and no operand that nothing follows; flattening keeps that, and what is listed.
+-- No row of one operand stands outermost, and no operand that nothing follows; flattening keeps that, and at which numbers it is shown.
 use mathlib.Core.Former.{Count}
 use Rattle.std.proofs.Common.{◌≡◌, ◌∙◌, refl, sym, ap, Bool, true, false, List, [], ◌∷◌, ◌++◌}
 use Rattle.std.specs.Prelude.{if◌then◌else◌}
@@ -14,7 +14,7 @@ use Rattle.isl_expr.specs.declared.tree.Expr.TheBlock.{hidden-the_row-Expr-0, hi
 use Rattle.isl_expr.specs.declared.tree.Expr as e
 use Rattle.isl_flat.specs.Flat.{Flattened, Partial, Followed, whole, is_gist, begun, settled_row, gist, with_link}
 use Rattle.isl_flat.specs.Flat.{nested, nested_in, outermost, past_links, past_postfixes, nested_postfix, followed_by, unfollowed}
-use Rattle.isl_eval.specs.Ended.{is_listing, is_scan}
+use Rattle.isl_eval.specs.Asked.{is_at_numbers, question_of, shows_at_numbers}
 use Rattle.isl_eval.proofs.PlainLaws.{is_end, is_bare, is_lone}
 
 -- ---- at the constructors of the code
@@ -95,49 +95,51 @@ post_kept m p (more_of-Postfix postfix rest) full =
     postfixes_some _ (followed_by p (nested_postfix p.statements postfix)) rest
     (not_nil p.postfixes (nested_postfix p.statements postfix).1)
 
--- what it is in the place of: outermost it is full too, and it lists elements where that does
-abbrev pub IsLike : Expr → Bool → Type 0
-IsLike expr lists = (is_lone expr ≡ false) × (is_listing expr ≡ lists)
+-- what it is in the place of: outermost it is full too, and it is shown at numbers where that is
+abbrev pub IsLike : Bool → Expr → Bool → Type 0
+IsLike run expr numbered = (is_lone expr ≡ false) × (shows_at_numbers run expr ≡ numbered)
 
-row_of-Row : (first : Expr) (links : List Link) → is_listing (e.Row first links) ≡ false
-unfolding hidden-the_row-Expr-0 denote.Hole.Carrier.hidden
-row_of-Row first links = refl
+module _ (run : Bool) where
+  row_of-Row : (first : Expr) (links : List Link) → shows_at_numbers run (e.Row first links) ≡ false
+  unfolding hidden-the_row-Expr-0 denote.Hole.Carrier.hidden
+  row_of-Row first links = refl
 
-row_like : (first : Expr) (links : List Link) → is_nil links ≡ false → IsLike (whole first links) false
-row_like first [] some = absurd (false≢true (sym some))
-row_like first (link ∷ links) some = (lone_of-Row first (link ∷ links), row_of-Row first (link ∷ links))
+  row_like : (first : Expr) (links : List Link) → is_nil links ≡ false → IsLike run (whole first links) false
+  row_like first [] some = absurd (false≢true (sym some))
+  row_like first (link ∷ links) some = (lone_of-Row first (link ∷ links), row_of-Row first (link ∷ links))
 
-word_like : (word : _) (s : _) (operand : Row_of-Expr _) → IsLike (outermost (Prefix' word s operand)).1 (is_scan word)
-unfolding hidden-the_row-Expr-0 denote.Hole.Carrier.hidden
-word_like word s operand = (refl, refl)
+  word_like : (word : _) (s : _) (operand : Row_of-Expr _)
+      → IsLike run (outermost (Prefix' word s operand)).1 (is_at_numbers run (question_of word))
+  unfolding hidden-the_row-Expr-0 denote.Hole.Carrier.hidden
+  word_like word s operand = (refl, refl)
 
-any_like : (r : _) (source : Row_of-Expr _) (s : _) (sink : Row_of-Expr _) (t : _) (schedule : Row_of-Expr _)
-    → IsLike (outermost (Any' r source s sink t schedule)).1 false
-unfolding hidden-the_row-Expr-0 denote.Hole.Carrier.hidden
-any_like r source s sink t schedule = (refl, refl)
+  any_like : (r : _) (source : Row_of-Expr _) (s : _) (sink : Row_of-Expr _) (t : _) (schedule : Row_of-Expr _)
+      → IsLike run (outermost (Any' r source s sink t schedule)).1 false
+  unfolding hidden-the_row-Expr-0 denote.Hole.Carrier.hidden
+  any_like r source s sink t schedule = (refl, refl)
 
-last_like : (r : _) (source : Row_of-Expr _) (s : _) (sink : Row_of-Expr _) (t : _) (schedule : Row_of-Expr _)
-    → IsLike (outermost (Last' r source s sink t schedule)).1 false
-unfolding hidden-the_row-Expr-0 denote.Hole.Carrier.hidden
-last_like r source s sink t schedule = (refl, refl)
+  last_like : (r : _) (source : Row_of-Expr _) (s : _) (sink : Row_of-Expr _) (t : _) (schedule : Row_of-Expr _)
+      → IsLike run (outermost (Last' r source s sink t schedule)).1 false
+  unfolding hidden-the_row-Expr-0 denote.Hole.Carrier.hidden
+  last_like r source s sink t schedule = (refl, refl)
 
-post_unlisted : (s : _) (operand : Row_of-Expr _) (t : _) (postfixes : Row_of-Postfix _)
-    → is_listing (outermost (Post' s operand t postfixes)).1 ≡ false
-unfolding hidden-the_row-Expr-0 denote.Hole.Carrier.hidden
-post_unlisted s operand t postfixes = refl
+  post_unnumbered : (s : _) (operand : Row_of-Expr _) (t : _) (postfixes : Row_of-Postfix _)
+      → shows_at_numbers run (outermost (Post' s operand t postfixes)).1 ≡ false
+  unfolding hidden-the_row-Expr-0 denote.Hole.Carrier.hidden
+  post_unnumbered s operand t postfixes = refl
 
--- when it is flat it is full, and lists elements exactly where it did
-pub outermost_like : (expr : Expr) → is_lone expr ≡ false → IsLike (outermost expr).1 (is_listing expr)
-outermost_like (e.Name name) full = (refl, refl)
-outermost_like (e.Literal literal) full = (refl, refl)
-outermost_like (Row' s first t links) full =
-    let p = begun (nested_in [] first) in
-    row_like (past_links p links).first (past_links p links).links (row_kept _ p links full)
-outermost_like (Prefix' word s operand) full = word_like word s operand
-outermost_like (Any' r source s sink t schedule) full = any_like r source s sink t schedule
-outermost_like (Last' r source s sink t schedule) full = last_like r source s sink t schedule
-outermost_like (Post' s operand t postfixes) full =
-    let f = nested_in [] operand in (
-      lone_of-Post f.1 (past_postfixes (unfollowed f.0) postfixes).postfixes ∙ post_kept _ (unfollowed f.0) postfixes full,
-      post_unlisted s operand t postfixes,
-    )
+  -- when it is flat it is full, and is shown at numbers exactly where it was
+  pub outermost_like : (expr : Expr) → is_lone expr ≡ false → IsLike run (outermost expr).1 (shows_at_numbers run expr)
+  outermost_like (e.Name name) full = (refl, refl)
+  outermost_like (e.Literal literal) full = (refl, refl)
+  outermost_like (Row' s first t links) full =
+      let p = begun (nested_in [] first) in
+      row_like (past_links p links).first (past_links p links).links (row_kept _ p links full)
+  outermost_like (Prefix' word s operand) full = word_like word s operand
+  outermost_like (Any' r source s sink t schedule) full = any_like r source s sink t schedule
+  outermost_like (Last' r source s sink t schedule) full = last_like r source s sink t schedule
+  outermost_like (Post' s operand t postfixes) full =
+      let f = nested_in [] operand in (
+        lone_of-Post f.1 (past_postfixes (unfollowed f.0) postfixes).postfixes ∙ post_kept _ (unfollowed f.0) postfixes full,
+        post_unnumbered s operand t postfixes,
+      )

@@ -17,4 +17,7 @@ pub mod AskedLaws
 pub mod ListedLaws
 pub mod ShownLaws
 pub mod CheckLaws
+pub mod NumberLaws
+pub mod VisitLaws
+pub mod CodedLaws
 pub mod TakenLaws

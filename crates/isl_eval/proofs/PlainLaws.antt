@@ -1,6 +1,6 @@
--- A test and `scan` stand outermost where there is a kind, so values are worked out of nothing foreign where nothing is chosen.
+-- A test, `scan` and `codegen` stand outermost where there is a kind, so values are worked out of nothing foreign where nothing is chosen.
 use mathlib.Core.Former.{Count}
-use Rattle.std.proofs.Common.{◌≡◌, ◌∙◌, ◌⊎◌, inl, inr, refl, sym, ap, ap₂, subst}
+use Rattle.std.proofs.Common.{◌≡◌, ◌∙◌, ◌⊎◌, refl, sym, ap, ap₂, subst}
 use Rattle.std.proofs.Common.{Bool, true, false, List, [], ◌∷◌, ◌++◌, Option, Some, None}
 use Rattle.std.specs.Prelude.{◌&&◌, ◌||◌, if◌then◌else◌}
 use Rattle.std.specs.List.{list_all, list_any}
@@ -23,7 +23,6 @@ use Rattle.isl_kinds.specs.Parts.{Part, parts_of, parts_in, parts_in_links, part
 use Rattle.isl_kinds.specs.Parts as part
 use Rattle.isl_kinds.specs.Typed.{ScopeView, by_two, by_three, kind_of, kind_in, kind_past_links, kind_past_postfixes, kind_past}
 use Rattle.isl_flat.specs.Simple.{chooses}
-use Rattle.isl_eval.specs.Unsupported.{is_unsupported_part}
 use Rattle.isl_values.specs.Made.{is_foreign}
 use Rattle.isl_values.specs.Selection.{context_of}
 use Rattle.isl_values.proofs.PartLaws.{quiet_both}
@@ -188,6 +187,13 @@ scan_lists Map m is = let e : Some Listing ≡ Some m = is in let same : Listing
 scan_lists Empty m is = let e : Some Listing ≡ Some m = is in let same : Listing ≡ m = cc in ap is_value (sym same)
 scan_lists _ m is = let e : None ≡ Some m = is in cc
 
+-- nor does `codegen`
+codegen_loops : (k m : ValueKind) → prefixed p.Codegen k ≡ Some m → is_value m ≡ false
+codegen_loops Set m is = let e : Some Code ≡ Some m = is in let same : Code ≡ m = cc in ap is_value (sym same)
+codegen_loops Map m is = let e : Some Code ≡ Some m = is in let same : Code ≡ m = cc in ap is_value (sym same)
+codegen_loops Empty m is = let e : Some Code ≡ Some m = is in let same : Code ≡ m = cc in ap is_value (sym same)
+codegen_loops _ m is = let e : None ≡ Some m = is in cc
+
 inverts : (k m : ValueKind) → inverse k ≡ Some m → (is_value k ≡ true) × (is_value m ≡ true)
 inverts Map m is = (refl, let e : Some Map ≡ Some m = is in let same : Map ≡ m = cc in ap is_value (sym same))
 inverts Empty m is = (refl, let e : Some Empty ≡ Some m = is in let same : Empty ≡ m = cc in ap is_value (sym same))
@@ -250,36 +256,21 @@ three_of result (Some x) (Some y) None m of is = let f : None ≡ Some m = is in
 three_of result (Some x) (Some y) (Some z) m of is =
     let each = depends result x y z m of is in ((x, refl, each.0), (y, refl, each.1), (z, refl, each.2), each.3)
 
--- nothing of this is unsupported, and nothing chosen
-pub record IsCalm (ps : List Part) : Type 0 where
-  pub supported : list_any is_unsupported_part ps ≡ false
-  pub unchosen : list_any chooses ps ≡ false
+-- nothing of this is chosen
+abbrev pub IsCalm : List Part → Type 0
+IsCalm ps = list_any chooses ps ≡ false
 
 calm_left : (xs ys : List Part) → IsCalm (xs ++ ys) → IsCalm xs
-calm_left xs ys calm = record {
-  supported = (quiet_both is_unsupported_part xs ys calm.supported).0;
-  unchosen =
-      (quiet_both chooses xs ys calm.unchosen).0;
-}
+calm_left xs ys calm = (quiet_both chooses xs ys calm).0
 
 calm_right : (xs ys : List Part) → IsCalm (xs ++ ys) → IsCalm ys
-calm_right xs ys calm = record {
-  supported = (quiet_both is_unsupported_part xs ys calm.supported).1;
-  unchosen =
-      (quiet_both chooses xs ys calm.unchosen).1;
-}
+calm_right xs ys calm = (quiet_both chooses xs ys calm).1
 
-calm_head : (part : Part) (ps : List Part) → IsCalm (part ∷ ps) → (is_unsupported_part part ≡ false) × (chooses part ≡ false)
-calm_head part ps calm = (
-  (or_parts (is_unsupported_part part) (list_any is_unsupported_part ps) calm.supported).0,
-  (or_parts (chooses part) (list_any chooses ps) calm.unchosen).0,
-)
+calm_head : (part : Part) (ps : List Part) → IsCalm (part ∷ ps) → chooses part ≡ false
+calm_head part ps calm = (or_parts (chooses part) (list_any chooses ps) calm).0
 
 calm_tail : (part : Part) (ps : List Part) → IsCalm (part ∷ ps) → IsCalm ps
-calm_tail part ps calm = record {
-  supported = (or_parts (is_unsupported_part part) (list_any is_unsupported_part ps) calm.supported).1;
-  unchosen = (or_parts (chooses part) (list_any chooses ps) calm.unchosen).1;
-}
+calm_tail part ps calm = (or_parts (chooses part) (list_any chooses ps) calm).1
 
 none_both : (xs ys : List Part) → list_any is_foreign xs ≡ false → list_any is_foreign ys ≡ false → list_any is_foreign (xs ++ ys) ≡ false
 none_both xs ys one two = list_any-append is_foreign xs ys ∙ rw (one, two) refl
@@ -298,7 +289,7 @@ row_truth : (m : Count) (scope : ScopeView) (left : Option ValueKind) (row : Row
 row_truth m scope left end_of-Link k is calm test = absurd (false≢true test)
 row_truth m scope left (more_of-Link operator operand end_of-Link) k is calm test =
     let two = two_of (joined operator) left (kind_of scope operand) k is in
-    (joins operator two.0 two.1 k (calm_head (part.operator operator) (parts_of operand ++ []) calm).1 two.4).2.0 test
+    (joins operator two.0 two.1 k (calm_head (part.operator operator) (parts_of operand ++ []) calm) two.4).2.0 test
 row_truth m scope left (more_of-Link operator operand (more_of-Link next other rest)) k is calm test =
     row_truth _ scope (by_two (joined operator) left (kind_of scope operand)) (more_of-Link next other rest) k is
     (calm_right (parts_of operand) (parts_in_links (more_of-Link next other rest))
@@ -329,23 +320,17 @@ no_scan : (operand : Option ValueKind) (k : ValueKind) → option_and_then (pref
 no_scan None k is value = let f : None ≡ Some k = is in cc
 no_scan (Some m) k is value = false≢true (sym (scan_lists m k is) ∙ value)
 
--- a word that is supported and chooses nothing lists elements, or is not foreign
-word_plain : (word : Word) → (is_unsupported_part (part.prefix word) ≡ false) × (chooses (part.prefix word) ≡ false)
-    → (word ≡ p.Scan) ⊎ (is_foreign (part.prefix word) ≡ false)
-word_plain p.Scan own = inl refl
-word_plain p.Sample own = absurd (false≢true (sym own.1))
-word_plain p.Codegen own = absurd (false≢true (sym own.0))
-word_plain _ own = inr refl
+no_codegen : (operand : Option ValueKind) (k : ValueKind) → option_and_then (prefixed p.Codegen) operand ≡ Some k → ¬ (is_value k ≡ true)
+no_codegen None k is value = let f : None ≡ Some k = is in cc
+no_codegen (Some m) k is value = false≢true (sym (codegen_loops m k is) ∙ value)
 
-word_value : (word : Word) (operand : Option ValueKind) (k : ValueKind)
-    → (is_unsupported_part (part.prefix word) ≡ false) × (chooses (part.prefix word) ≡ false)
+-- a word that chooses nothing and makes a value is not foreign
+word_value : (word : Word) (operand : Option ValueKind) (k : ValueKind) → chooses (part.prefix word) ≡ false
     → option_and_then (prefixed word) operand ≡ Some k → is_value k ≡ true → is_foreign (part.prefix word) ≡ false
-word_value word operand k own is value = by (word_plain word own)
-  where
-    by : (word ≡ p.Scan) ⊎ (is_foreign (part.prefix word) ≡ false) → is_foreign (part.prefix word) ≡ false
-    by (inl scan) =
-        absurd (no_scan operand k (subst (λ (w : Word). option_and_then (prefixed w) operand ≡ Some k) scan is) value)
-    by (inr plain) = plain
+word_value p.Scan operand k own is value = absurd (no_scan operand k is value)
+word_value p.Codegen operand k own is value = absurd (no_codegen operand k is value)
+word_value p.Sample operand k own is value = absurd (false≢true (sym own))
+word_value _ operand k own is value = refl
 
 none_head : (part : Part) (ps : List Part) → is_foreign part ≡ false → list_any is_foreign ps ≡ false
     → list_any is_foreign (part ∷ ps) ≡ false
@@ -454,7 +439,7 @@ mutual
   row_fine m scope left (more_of-Link operator operand end_of-Link) k is calm =
       let two = two_of (joined operator) left (kind_of scope operand) k is in
       let own = calm_head (part.operator operator) (parts_of operand ++ []) calm in
-      let kinds = joins operator two.0 two.1 k own.1 two.4 in
+      let kinds = joins operator two.0 two.1 k own two.4 in
       let inner = calm_left (parts_of operand) [] (calm_tail (part.operator operator) (parts_of operand ++ []) calm) in
       ((two.0, two.2, kinds.0), last_plain operator operand k kinds.2 (value_plain scope operand two.1 two.3 kinds.1 inner))
   row_fine m scope left (more_of-Link operator operand (more_of-Link next other rest)) k is calm =
@@ -464,7 +449,7 @@ mutual
       (calm_right (parts_of operand) (parts_in_links row) later) in
       let two = two_of (joined operator) left (kind_of scope operand) fine.0.0 fine.0.1 in
       let own = calm_head (part.operator operator) (parts_of operand ++ parts_in_links row) calm in
-      let kinds = joins operator two.0 two.1 fine.0.0 own.1 two.4 in
+      let kinds = joins operator two.0 two.1 fine.0.0 own two.4 in
       let plain = value_plain scope operand two.1 two.3 kinds.1 (calm_left (parts_of operand) (parts_in_links row) later) in (
         (two.0, two.2, kinds.0),
         more_plain (part.operator operator) (parts_of operand) (parts_around_test row) (parts_in_links row) (ends_with_test row)
@@ -515,9 +500,13 @@ is_bare end_of-Postfix = true
 is_bare (more_of-Postfix postfix rest) = false
 
 abbrev pub is_lone : Expr → Bool
+is_lone (e.Name name) = false
+is_lone (e.Literal literal) = false
 is_lone (Row' s first t links) = is_end links
+is_lone (Prefix' word s operand) = false
+is_lone (Any' r source s sink t schedule) = false
+is_lone (Last' r source s sink t schedule) = false
 is_lone (Post' s operand t postfixes) = is_bare postfixes
-is_lone _ = false
 
 -- a row in which nothing is chosen is no gist
 no_context : (m : Count) (row : Row_of-Link m) → list_any chooses (parts_in_links row) ≡ false → context_of row ≡ None
@@ -534,8 +523,8 @@ made_row first links none =
     ap (λ (c : Option Expr). parts_in first ++ option_map_or (λ context. parts_of context) c (parts_in_links links)) (no_context _ links none)
 
 made_calm : (expr : Expr) → IsCalm (parts_of expr) → made_parts expr ≡ parts_of expr
-made_calm (Prefix' p.Sample s operand) calm = absurd (false≢true (sym calm.unchosen))
-made_calm (Row' s first t links) calm = made_row first links (calm_right (parts_in first) (parts_in_links links) calm).unchosen
+made_calm (Prefix' p.Sample s operand) calm = absurd (false≢true (sym calm))
+made_calm (Row' s first t links) calm = made_row first links (calm_right (parts_in first) (parts_in_links links) calm)
 made_calm _ calm = refl
 
 -- what is bound where nothing is chosen
@@ -572,7 +561,7 @@ shown_plain scope (Row' s first t links) k is full calm =
     let fine = row_fine _ scope (kind_in scope first) links k is (calm_right (parts_in first) (parts_in_links links) calm) in
     let left = full_left _ (kind_in scope first) links full fine.0 in
     let front = in_plain _ scope first left.0 left.1 left.2 (calm_left (parts_in first) (parts_in_links links) calm) in
-    let made = made_row first links (calm_right (parts_in first) (parts_in_links links) calm).unchosen in
+    let made = made_row first links (calm_right (parts_in first) (parts_in_links links) calm) in
     by (ends_with_test links) front made fine.1
   where
     by : (ends : Bool) → list_any is_foreign (parts_in first) ≡ false
@@ -584,8 +573,8 @@ shown_plain scope (Row' s first t links) k is full calm =
     by false front made behind =
         ap (list_any is_foreign) made ∙ none_both (parts_in first) (parts_in_links links) front behind
 shown_plain scope (Prefix' p.Scan s operand) k is full calm = operand_plain _ scope p.Scan operand k is calm
-shown_plain scope (Prefix' p.Sample s operand) k is full calm = absurd (false≢true (sym calm.unchosen))
-shown_plain scope (Prefix' p.Codegen s operand) k is full calm = absurd (false≢true (sym calm.supported))
+shown_plain scope (Prefix' p.Sample s operand) k is full calm = absurd (false≢true (sym calm))
+shown_plain scope (Prefix' p.Codegen s operand) k is full calm = operand_plain _ scope p.Codegen operand k is calm
 shown_plain scope (Prefix' word s operand) k is full calm = operand_plain _ scope word operand k is calm
 shown_plain scope (Any' r source s sink t schedule) k is full calm =
     value_plain scope (Any' r source s sink t schedule) k is

@@ -12,7 +12,7 @@ use Rattle.isl_piece.specs.Cut.{IsCutFor}
 use Rattle.isl_text.specs.declared.refusal.Refusal.{Refusal}
 use Rattle.isl_text.specs.declared.refusal.Refusal.TheVariants as r
 use Rattle.isl_expr.specs.declared.tree.Prefix.TheVariants as p
-use Rattle.isl_expr.specs.declared.tree.Expr.{Prefix'}
+use Rattle.isl_expr.specs.declared.tree.Expr.{Expr, Prefix'}
 use Rattle.isl_expr.specs.declared.tree.Stmt.{Stmt}
 use Rattle.isl_expr.specs.declared.tree.Stmt.TheVariants.{Empty, Bind, Show, Assume}
 use Rattle.isl_kinds.specs.Typed.{TypeView, type_of_statement}
@@ -21,11 +21,12 @@ use Rattle.isl_values.specs.Made.{uses_units}
 use Rattle.isl_values.specs.State.{Moment, scope_of}
 use Rattle.isl_eval.specs.Spelled.{BytesSpell, OfStatement}
 use Rattle.isl_eval.specs.Causes.{Cause, no_token, too_deep, no_statement, too_wide}
-use Rattle.isl_eval.specs.Causes.{wide_number, unsupported, unknown_name, wrong_kind, no_element}
+use Rattle.isl_eval.specs.Causes.{wide_number, unknown_name, wrong_kind, no_element}
 use Rattle.isl_eval.specs.Causes.{parametric, causes, refusal_of, is_parametric}
 use Rattle.isl_eval.specs.Causes.{IsThere, FirstGives, NoneIs, IsClear, Refuses, HasWork}
 use Rattle.isl_eval.specs.Evaluated.{IsTyped}
-use Rattle.isl_eval.specs.Ended.{lists, AskedEnds, IsAssumedWhereListed}
+use Rattle.isl_eval.specs.Asked.{needs_numbers, shows_at_numbers}
+use Rattle.isl_eval.specs.Ended.{AskedEnds, IsAssumedWhereNeeded}
 use Rattle.isl_values.specs.Ends as ends
 use Rattle.isl_values.specs.Made.{refusal_of_cut}
 use Rattle.isl_eval.specs.Evaluation.{causes_of_bytes, IsRead, IsWhyNot, IsWhyUnasked, IsWorkable, IsWhyUnworkable}
@@ -45,7 +46,6 @@ module _ (before : Moment) (bytes : List ℕ) (now : Gauge) (same : now ≡ befo
   by_cause no_statement h = (h, same)
   by_cause too_wide h = inl (h, same)
   by_cause wide_number h = (h, same)
-  by_cause unsupported h = (h, same)
   by_cause unknown_name h = (h, same)
   by_cause wrong_kind h = (h, same)
   by_cause no_element h = (h, same)
@@ -98,16 +98,21 @@ module _ (assumed : Assumed) (bytes : List ℕ) (stmt : Stmt) (spelled : BytesSp
       by false none = absurd (some none)
 
 -- what asking whether numbers are assumed says
-pub not_listed : (before : Moment) (stmt : Stmt) (b : Bool) → b ≡ lists stmt → b ≡ false → IsAssumedWhereListed before stmt
-not_listed before stmt b is none = λ listed. absurd (false≢true (sym none ∙ is ∙ listed))
+pub not_needed : (before : Moment) (stmt : Stmt) (b : Bool) → b ≡ needs_numbers before.options.run stmt → b ≡ false
+    → IsAssumedWhereNeeded before stmt
+not_needed before stmt b is none = λ needed. absurd (false≢true (sym none ∙ is ∙ needed))
 
--- to list elements is work
-listing_works : (assumed : Assumed) (stmt : Stmt) → lists stmt ≡ true → HasWork assumed stmt
-listing_works assumed Empty listed = absurd (false≢true listed)
-listing_works assumed (Bind name expr) listed = absurd (false≢true listed)
-listing_works assumed (Show (Prefix' p.Scan s operand)) listed = refl
-listing_works assumed (Show _) listed = absurd (false≢true listed)
-listing_works assumed (Assume set) listed = absurd (false≢true listed)
+-- to list elements is work, and so is to run loops
+shown_works : (assumed : Assumed) (run : Bool) (expr : Expr) → shows_at_numbers run expr ≡ true → HasWork assumed (Show expr)
+shown_works assumed run (Prefix' p.Scan s operand) needed = refl
+shown_works assumed run (Prefix' p.Codegen s operand) needed = refl
+shown_works assumed run _ needed = absurd (false≢true needed)
+
+needed_works : (assumed : Assumed) (run : Bool) (stmt : Stmt) → needs_numbers run stmt ≡ true → HasWork assumed stmt
+needed_works assumed run Empty needed = absurd (false≢true needed)
+needed_works assumed run (Bind name expr) needed = absurd (false≢true needed)
+needed_works assumed run (Show expr) needed = shown_works assumed run expr needed
+needed_works assumed run (Assume set) needed = absurd (false≢true needed)
 
 -- ---- a statement that was read
 module _ (before : Moment) (bytes : List ℕ) (stmt : Stmt) (read : IsRead before bytes stmt) where
@@ -130,12 +135,12 @@ module _ (before : Moment) (bytes : List ℕ) (stmt : Stmt) (read : IsRead befor
       ),
     )
 
-  given_none : is_parametric (scope_of before.state) before.options.at stmt ≡ false → ¬ IsThere before bytes parametric
+  given_none : is_parametric (scope_of before.state) before.options stmt ≡ false → ¬ IsThere before bytes parametric
   given_none given there =
-      is_not (is_parametric (scope_of before.state) before.options.at stmt) given
-      (of_statement bytes stmt (λ stmt. is_parametric (scope_of before.state) before.options.at stmt ≡ true) read.spelled there)
+      is_not (is_parametric (scope_of before.state) before.options stmt) given
+      (of_statement bytes stmt (λ stmt. is_parametric (scope_of before.state) before.options stmt ≡ true) read.spelled there)
 
-  pub clear : {type : Option TypeView} → IsWorkable (scope_of before.state) before.options.at stmt type → IsClear before bytes
+  pub clear : {type : Option TypeView} → IsWorkable (scope_of before.state) before.options stmt type → IsClear before bytes
   clear {type} able =
       none_both (IsThere before bytes) causes_of_bytes
       (unknown_name ∷ wrong_kind ∷ no_element ∷ parametric ∷ []) read.none
@@ -177,7 +182,7 @@ module _ (before : Moment) (bytes : List ℕ) (stmt : Stmt) (read : IsRead befor
       bound_cause refusal (first_past (IsThere before bytes) (unknown_name ∷ wrong_kind ∷ no_element ∷ [])
       (parametric ∷ []) refusal (typed_none typed) first)
 
-  pub unworkable_refuses : (refusal : Refusal) → IsWhyUnworkable (scope_of before.state) before.options.at stmt refusal
+  pub unworkable_refuses : (refusal : Refusal) → IsWhyUnworkable (scope_of before.state) before.options stmt refusal
       → Refuses before bytes before.meter refusal
   unworkable_refuses refusal (inl h) =
       first_refuses before bytes before.meter refl refusal
@@ -187,12 +192,12 @@ module _ (before : Moment) (bytes : List ℕ) (stmt : Stmt) (read : IsRead befor
   unworkable_refuses refusal (inr (inr h)) = memory_refuses before bytes before.meter refl refusal h
 
   -- it is not evaluated, since numbers are not assumed, or asking that was cut
-  module _ {type : Option TypeView} (able : IsWorkable (scope_of before.state) before.options.at stmt type) (now : Gauge) where
+  module _ {type : Option TypeView} (able : IsWorkable (scope_of before.state) before.options stmt type) (now : Gauge) where
     cut_asked : (what : Cut) → IsCutFor (AskedEnds before stmt ends.cut) before.meter now what
         → Refuses before bytes now (refusal_of_cut what)
     cut_asked cuts.Overflow why = (
       clear able,
-      (stmt, read.spelled, listing_works before.state.assumed stmt why.0.0),
+      (stmt, read.spelled, needed_works before.state.assumed before.options.run stmt why.0.0),
       (stmt, read.spelled, inl why.0),
       IsCutBy-overflown before.meter now why.1,
     )

@@ -1,14 +1,11 @@
 -- What is kept of expressions, and what is shown of them.
 use mathlib.Core.Former.{Count}
-use Rattle.std.proofs.Common.{◌≡◌, ◌<◌, ◌≤◌, ◌∙◌, ◌↔◌, inl, inr, refl, sym, ap, ap₂, subst, take, ◌+◌}
+use Rattle.std.proofs.Common.{◌≡◌, ◌<◌, ◌≤◌, ◌∙◌, ◌↔◌, inl, inr, refl, sym, ap, ap₂, subst, ◌+◌}
 use Rattle.std.proofs.Common.{ℕ, ℤ, Bool, true, false, List, [], ◌∷◌, ◌++◌, length, Option, None, Some, Result, Ok, Err}
 use Rattle.std.specs.Prelude.{unsigned_abs, not, ◌||◌, ◌&&◌, if◌then◌else◌, is_some, IfOk, OnOk, MatchOption, MatchResult}
 use Rattle.std.specs.Option.{option_and_then, option_map_or}
 use Rattle.std.specs.List.{All, list_any}
 use Rattle.std.proofs.lemmas.Bool.{false≢true, or_parts}
-use Rattle.std.specs.List.{slice_get}
-use Rattle.std.proofs.lemmas.List.{map-append, take_more}
-use Rattle.std.proofs.lemmas.Option.{get_or_from_slice_get, slice_get_within}
 use Rattle.std.proofs.lemmas.List.Elements.{All-nil, All-append, All-head}
 use Rattle.std.proofs.lemmas.List.Folds.{list_any-append}
 use Rattle.isl_meter.specs.Gauge.{Gauge, limit_of, IsCharged, IsCutBy}
@@ -19,7 +16,7 @@ use Rattle.isl_space.specs.Name.{Name}
 use Rattle.isl_space.specs.Names.{joined}
 use Rattle.isl_space.specs.SpaceForm.{SpaceForm}
 use Rattle.isl_space.specs.Element.{Element}
-use Rattle.isl_space.specs.Valuation.{Valuation, value_at, values_of}
+use Rattle.isl_space.specs.Valuation.{Valuation, values_of}
 use Rattle.isl_words.specs.Options.{OptionsView}
 use Rattle.isl_union.specs.Finite.{IsFiniteAt}
 use Rattle.isl_union.specs.KeptValue.{KeptValue, Has, HasNoDefinitions, IsKeptValue}
@@ -73,7 +70,8 @@ use Rattle.isl_values.specs.Selection.{context_of}
 use Rattle.isl_values.specs.Three.{AreBothFlat, IsFlatAt}
 use Rattle.isl_values.specs.Made.{is_foreign, refusal_of_cut, uses_units, IsOfType, IsSoundExpr, IsValueOf, IsPaid, IsWhyUnmade}
 use Rattle.isl_values.specs.Made.{IsWhyUnworked}
-use Rattle.isl_values.specs.Ends.{End, because, cut, too_wide, no_minimum, unbounded, no_valuation, not_assumed}
+use Rattle.isl_values.specs.Ends.{End, because, cut, too_wide, no_minimum, nested, time_shapes, unbounded, several_times}
+use Rattle.isl_values.specs.Ends.{no_valuation, not_assumed}
 use Rattle.isl_values.specs.Ends.{CutAlone, Ends, GoesOn, NarrowingEnds}
 use Rattle.isl_values.proofs.FirstLaws.{EndAlike, alike_trans, goes_alike, goes_both, turned_alike}
 use Rattle.isl_values.proofs.FlatLaws.{written_itself}
@@ -82,17 +80,18 @@ use Rattle.isl_values.proofs.PartLaws.{all_left, all_right, quiet_both, sound_li
 use Rattle.isl_values.proofs.ValueLaws.{match_map, paid_in, paid_works, same_limit, unworked_in}
 use Rattle.isl_eval.specs.Listed.{IsListed, AreFinite}
 use Rattle.isl_eval.specs.Machine.{Answer, Does, Shows, ShowsRow, ShowsValue, Step, listed, nothing, shown}
-use Rattle.isl_eval.specs.Ended.{is_listing, IsAssumedWhereListed, ListingEnds, NarrowedEnds, StatementEnds}
+use Rattle.isl_eval.specs.Asked.{is_of_operand, question_of, shows_at_numbers}
+use Rattle.isl_eval.specs.Ended.{IsAssumedWhereNeeded, ListingEnds, NarrowedEnds, StatementEnds}
 use Rattle.isl_eval.specs.Tests.{is_test, RowHolds}
 use Rattle.isl_eval.specs.Evaluated.{made_parts, shown_parts, parts_around_test, works, IsTyped, IsEvaluable}
-use Rattle.isl_eval.specs.Evaluation.{ends_with_test, context_in, is_asked, is_coalesce, keeps_selected, refusal_of_fault}
+use Rattle.isl_eval.specs.Evaluation.{ends_with_test, context_in, is_asked, is_codegen, is_coalesce, keeps_selected, refusal_of_fault}
 use Rattle.isl_eval.specs.Evaluation.{AreKeptIn, EndsListing, EndsPair, EndsTest, EndsWork, IsKeptIn, IsMakeable, IsReadyTest, IsSampled}
 use Rattle.isl_eval.specs.Evaluation.{IsChosen, IsGistIn, IsOutcome, IsPutAt, IsSimplified, IsTogether, IsValueWith}
 use Rattle.isl_eval.proofs.TypeLaws.{answered_ok, found_is, bind_typed, of_type, show_typed, typed_known}
 use Rattle.isl_eval.proofs.TestLaws.{context_is, ends_at, made_of-Row, test_parts, unmade_by, unworked_on}
 use Rattle.isl_eval.proofs.EndsLaws.{word_alike}
 use Rattle.isl_eval.proofs.ListedLaws.{listed_finite}
-use Rattle.isl_eval.proofs.AskedLaws.{asked_of-Prefix, asked_of-Row, ends_none, listing_of-Prefix, scan_word}
+use Rattle.isl_eval.proofs.AskedLaws.{asked_of-Prefix, asked_of-Row, ends_none, numbered_of-Prefix, scan_word}
 
 -- ---- what is kept of an expression that selects
 selected_content : (state : StateView) (part : ListPart) (expr : Expr) (value : KeptValue) → keeps_selected expr ≡ true
@@ -276,9 +275,18 @@ together_content : (state : StateView) (operand : Expr) (value : KeptValue)
 unfolding hidden-the_row-Expr-0 denote.Hole.Carrier.hidden
 together_content state operand value h = h
 
-shown_of-Scan : (operand : Expr) → shown_parts (e.Prefix p.Scan operand) ≡ parts_of operand
+-- of a word that is about its operand
+shown_of-word : (word : Word) (operand : Expr) → is_of_operand (question_of word) ≡ true
+    → shown_parts (e.Prefix word operand) ≡ parts_of operand
 unfolding hidden-the_row-Expr-0 denote.Hole.Carrier.hidden
-shown_of-Scan operand = refl
+shown_of-word p.Scan operand about = refl
+shown_of-word p.Codegen operand about = refl
+shown_of-word _ operand about = absurd (false≢true about)
+
+asked_uses : (assumed : Assumed) (word : Word) → is_of_operand (question_of word) ≡ true → uses_units assumed (part.prefix word) ≡ true
+asked_uses assumed p.Scan about = refl
+asked_uses assumed p.Codegen about = refl
+asked_uses assumed _ about = absurd (false≢true about)
 
 -- the operand of a word is ready where what is made of it is plain
 pub word_sound : (scope : ScopeView) (word : Word) (operand : Expr) → list_any is_foreign (parts_of operand) ≡ false
@@ -291,7 +299,7 @@ word_sound scope word operand plain known literals = record {
   literals = subst (All IsWellFormedLiteral) (literals_of-Prefix word operand) literals;
 }
 
-at_word : (known word : Word) (expr operand x : Expr) → expr ≡ e.Prefix word operand → word ≡ known → x ≡ operand
+pub at_word : (known word : Word) (expr operand x : Expr) → expr ≡ e.Prefix word operand → word ≡ known → x ≡ operand
     → expr ≡ e.Prefix known x
 at_word known word expr operand x is which same =
     is ∙ ap (λ (w : Word). e.Prefix w operand) which ∙ ap (e.Prefix known) (sym same)
@@ -452,30 +460,42 @@ listing_goes_on state operand at elements goes listing =
     by : GoesOn (ListingEnds (λ x. Selects state operand at x))
     by too_wide h = h
     by no_minimum h = h
+    by nested h = h
+    by time_shapes h = h
     by unbounded h = h (listed_finite (λ x. Selects state operand at x) elements listing)
+    by several_times h = h
     by no_valuation h = h
     by not_assumed h = h
+
+-- a word that is about its operand
+module _ (before : Moment) (expr operand x : Expr) (known word : Word) (is : expr ≡ e.Prefix word operand) (which : word ≡ known)
+    (same : x ≡ operand) (about : is_of_operand (question_of known) ≡ true) where
+  asked_is : expr ≡ e.Prefix known x
+  asked_is = at_word known word expr operand x is which same
+
+  pub asked_sound : IsEvaluable (scope_of before.state) (Show expr) → IsSoundExpr (scope_of before.state) x
+  asked_sound able =
+      let here = subst (λ (y : Expr). IsEvaluable (scope_of before.state) (Show y)) asked_is able in
+      word_sound (scope_of before.state) known x (sym (ap (list_any is_foreign) (shown_of-word known x about)) ∙ here.plain)
+      (show_kind (scope_of before.state) (e.Prefix known x) here.typed).1.known here.literals
+
+  abbrev Units : Part → Bool
+  Units = uses_units before.state.assumed
+
+  pub asked_works : true ≡ list_any Units (parts_of expr)
+  asked_works =
+      sym (ap (λ (y : Expr). list_any Units (parts_of y)) asked_is ∙ ap (list_any Units) (parts_of-Prefix known x)
+      ∙ ap (λ (b : Bool). b || list_any Units (parts_of x)) (asked_uses before.state.assumed known about))
 
 module _ (before : Moment) (expr operand x : Expr) (word : Word) (is : expr ≡ e.Prefix word operand) (which : word ≡ p.Scan)
     (same : x ≡ operand) where
   scan_is : expr ≡ e.Prefix p.Scan x
   scan_is = at_word p.Scan word expr operand x is which same
 
-  pub scan_sound : IsEvaluable (scope_of before.state) (Show expr) → IsSoundExpr (scope_of before.state) x
-  scan_sound able =
-      let here = subst (λ (y : Expr). IsEvaluable (scope_of before.state) (Show y)) scan_is able in
-      word_sound (scope_of before.state) p.Scan x (sym (ap (list_any is_foreign) (shown_of-Scan x)) ∙ here.plain)
-      (show_kind (scope_of before.state) (e.Prefix p.Scan x) here.typed).1.known here.literals
-
-  abbrev Units : Part → Bool
-  Units = uses_units before.state.assumed
-
-  pub scan_works : true ≡ list_any Units (parts_of expr)
-  scan_works = sym (ap (λ (y : Expr). list_any Units (parts_of y)) scan_is ∙ ap (list_any Units) (parts_of-Prefix p.Scan x))
-
   -- the numbers that parameters are given are assumed
-  pub scan_assumed : IsAssumedWhereListed before (Show expr) → Assumes before.state.assumed before.options.at
-  scan_assumed assumed = assumed (ap is_listing scan_is ∙ listing_of-Prefix p.Scan x)
+  pub scan_assumed : IsAssumedWhereNeeded before (Show expr) → Assumes before.state.assumed before.options.at
+  scan_assumed assumed =
+      assumed (ap (shows_at_numbers before.options.run) scan_is ∙ numbered_of-Prefix before.options.run p.Scan x)
 
   pub scan_shows : (answer : Answer) → (elements : List Element) × IsListed (λ y. Selects before.state x before.options.at y) elements
       × (answer ≡ listed elements)
@@ -745,12 +765,14 @@ module _ (state : StateView) (limit : ℤ) (expr : Expr) where
 pub shows_value : (before : Moment) (expr : Expr) (answer : Answer) → is_asked expr ≡ false → ShowsValue before expr answer
     → Shows before expr answer
 shows_value before (Prefix' p.Scan s operand) answer none value = absurd (false≢true (sym none))
+shows_value before (Prefix' p.Codegen s operand) answer none value = absurd (false≢true (sym none))
 shows_value before (Row' s first t links) answer none value =
     subst (λ (b : Bool). ShowsRow b (RowHolds before.state first links) before (Row' s first t links) answer) (sym none) value
 shows_value before _ answer none value = value
 
 shown_made : (expr : Expr) → is_asked expr ≡ false → shown_parts expr ≡ made_parts expr
 shown_made (Prefix' p.Scan s operand) none = absurd (false≢true (sym none))
+shown_made (Prefix' p.Codegen s operand) none = absurd (false≢true (sym none))
 shown_made (Row' s first t links) none =
     ap (λ (x : Bool). if x then parts_in first ++ parts_around_test links else made_parts (Row' s first t links)) none
 shown_made _ none = refl
@@ -818,9 +840,10 @@ type_found scope s stmt (Err refusal) same typed (inl is) =
     let no : Err refusal ≡ Ok typed.0 = is ∙ here in cc
 type_found scope s stmt (Err refusal) same typed (inr is) = let no : Err refusal ≡ Err NoMemory = is in cc
 
--- the word of what is asked for is `scan`, and the last operator a test
-pub asked_scan : (expr operand : Expr) (word : Word) → expr ≡ e.Prefix word operand → is_asked expr ≡ true → word ≡ p.Scan
-asked_scan expr operand word is asked = scan_word word (sym (ap is_asked is ∙ asked_of-Prefix word operand) ∙ asked)
+-- the word of what is asked for is `codegen` or `scan`, and the last operator a test
+pub asked_scan : (expr operand : Expr) (word : Word) → expr ≡ e.Prefix word operand → is_asked expr ≡ true → is_codegen word ≡ false
+    → word ≡ p.Scan
+asked_scan expr operand word is asked other = scan_word word (sym (ap is_asked is ∙ asked_of-Prefix word operand) ∙ asked) other
 
 pub asked_test : (expr first : Expr) (links list before : List Link) (last : Link) → expr ≡ Row first links → list ≡ links
     → list ≡ before ++ last ∷ []
@@ -829,17 +852,6 @@ asked_test expr first links list before last is are split asked =
     sym asked ∙ ap is_asked is ∙ asked_of-Row first links ∙ ap ends_with_test (sym are ∙ split) ∙ ends_at before last
 
 -- ---- numbers of parameters
-pub numbers_next : (params : List Name) (at : Valuation) (place : ℕ) (name : Name) (items new : List ℤ) (number : ℤ)
-    → slice_get params place ≡ Some name
-    → items ≡ values_of (take place params) at → number ≡ value_at at name → new ≡ items ++ number ∷ []
-    → new ≡ values_of (take (place + 1) params) at
-numbers_next params at place name items new number there are is grown =
-    let low = slice_get_within params place name there in
-    let taken : take (place + 1) params ≡ take place params ++ name ∷ [] =
-    take_more params place name low ∙ ap (λ (n : Name). take place params ++ n ∷ []) (get_or_from_slice_get params place name name there) in
-    grown ∙ ap₂ (λ (xs : List ℤ) (z : ℤ). xs ++ z ∷ []) are is
-    ∙ sym (ap (λ (ps : List Name). values_of ps at) taken ∙ map-append (λ (n : Name). value_at at n) (take place params) (name ∷ []))
-
 pub at_numbers : (at : Valuation) (value d v : KeptValue) (ps : List Name) (numbers slice : List ℤ) → d ≡ value → v ≡ value → ps ≡ d.params
     → numbers ≡ values_of ps at → slice ≡ numbers → values_of v.params at ≡ slice
 at_numbers at value d v ps numbers slice one two are is same =
@@ -904,7 +916,10 @@ module _ (state : StateView) (tree : Literal) (set : Assumed) (names : names_of 
     (λ v here holds. h.1 v here ((valuations v).1 holds)),
   )
   tree_ends (because no_minimum) h = h
+  tree_ends (because nested) h = h
+  tree_ends (because time_shapes) h = h
   tree_ends (because unbounded) h = h
+  tree_ends (because several_times) h = h
   tree_ends (because not_assumed) h = h
   tree_ends cut few = subst (λ (ns : List Name). length (joined (names_of state.assumed) ns) ≤ most_parameters) names few
 
@@ -917,7 +932,10 @@ module _ (state : StateView) (tree : Literal) (set : Assumed) (names : names_of 
     (λ v here holds. h.1 v here ((valuations v).0 holds)),
   )
   set_ends (because no_minimum) h = h
+  set_ends (because nested) h = h
+  set_ends (because time_shapes) h = h
   set_ends (because unbounded) h = h
+  set_ends (because several_times) h = h
   set_ends (because not_assumed) h = h
   set_ends cut few = subst (λ (ns : List Name). length (joined (names_of state.assumed) ns) ≤ most_parameters) (sym names) few
 
@@ -956,6 +974,7 @@ fits_still g h after (Err refusal) charged fits = tt
 -- what is shown ends as the expression does, where nothing is listed
 pub shown_ends : (before : Moment) (expr : Expr) → is_asked expr ≡ false → EndAlike (Ends before.state expr) (StatementEnds before (Show expr))
 shown_ends before (Prefix' p.Scan s operand) none why = absurd (false≢true (sym none))
+shown_ends before (Prefix' p.Codegen s operand) none why = absurd (false≢true (sym none))
 shown_ends before _ none why = ((λ h. h), (λ h. h))
 
 row_ends : (before : Moment) (first : Expr) (links : List Link)

@@ -33,7 +33,8 @@ use Rattle.isl_values.specs.State.{Kept, Moment, StateView, Binds, Fits, HasNumb
 use Rattle.isl_values.specs.State.{value_at}
 use Rattle.isl_values.specs.Selection.{IsKeptOf, Keeps}
 use Rattle.isl_values.specs.Live.{IsLiveUnder}
-use Rattle.isl_values.specs.Ends.{End, Reason, because, too_wide, no_minimum, unbounded, no_valuation, not_assumed, refusal_of_reason}
+use Rattle.isl_values.specs.Ends.{End, Reason, because, too_wide, no_minimum, nested, time_shapes, unbounded, several_times}
+use Rattle.isl_values.specs.Ends.{no_valuation, not_assumed, refusal_of_reason}
 use Rattle.isl_values.specs.Ends as ends
 use Rattle.isl_values.specs.Made.{IsPaid, IsWhyUnworked, refusal_of_cut, uses_units}
 use Rattle.isl_values.proofs.StateLaws.{bound_at}
@@ -41,7 +42,8 @@ use Rattle.isl_values.proofs.ForgetLaws.{forgotten_itself, forgotten_settled, fi
 use Rattle.isl_values.proofs.ValueLaws.{same_limit, paid_same, paid_after, unworked_after}
 use Rattle.isl_eval.specs.Machine.{Answer, Does, Step, Steps, behind, nothing}
 use Rattle.isl_eval.specs.Causes.{AreDone, IsEnded, Refuses, RefusesBecause}
-use Rattle.isl_eval.specs.Ended.{AskedEnds, IsAssumedWhereListed, StatementEnds}
+use Rattle.isl_eval.specs.Asked.{needs_numbers}
+use Rattle.isl_eval.specs.Ended.{AskedEnds, IsAssumedWhereNeeded, StatementEnds}
 use Rattle.isl_eval.specs.Run.{Answers}
 use Rattle.isl_eval.specs.Evaluated.{IsEvaluable, IsWhyEnded, works}
 use Rattle.isl_eval.specs.Evaluation.{AreEvaluable, AreLeft, IsClearStatement, IsTaken, IsWhyStopped, StopsAt}
@@ -290,7 +292,7 @@ stopped_last before now statements others last gauge (Err refusal) split h why =
 
 -- ---- a statement that was read
 module _ {type : Option TypeView} (before : Moment) (bytes : List ℕ) (stmt : Stmt) (found : IsClearStatement before bytes stmt type)
-    (asked : IsAssumedWhereListed before stmt) where
+    (asked : IsAssumedWhereNeeded before stmt) where
   abbrev At : Assumed
   At = before.state.assumed
 
@@ -322,7 +324,10 @@ module _ {type : Option TypeView} (before : Moment) (bytes : List ℕ) (stmt : S
   asked_goes : (reason : Reason) → ¬ AskedEnds before stmt (because reason)
   asked_goes too_wide ends = ends
   asked_goes no_minimum ends = ends
+  asked_goes nested ends = ends
+  asked_goes time_shapes ends = ends
   asked_goes unbounded ends = ends
+  asked_goes several_times ends = ends
   asked_goes no_valuation ends = ends
   asked_goes not_assumed ends = ends.1 (asked ends.0)
 
@@ -370,7 +375,10 @@ module _ {type : Option TypeView} (before : Moment) (bytes : List ℕ) (stmt : S
       → Refuses before bytes now (refusal_of_reason reason)
   end_refuses now too_wide stops paid = inr (reason_refuses now too_wide stops paid)
   end_refuses now no_minimum stops paid = reason_refuses now no_minimum stops paid
+  end_refuses now nested stops paid = reason_refuses now nested stops paid
+  end_refuses now time_shapes stops paid = reason_refuses now time_shapes stops paid
   end_refuses now unbounded stops paid = reason_refuses now unbounded stops paid
+  end_refuses now several_times stops paid = reason_refuses now several_times stops paid
   end_refuses now no_valuation stops paid = reason_refuses now no_valuation stops paid
   end_refuses now not_assumed stops paid = reason_refuses now not_assumed stops paid
 
@@ -446,33 +454,34 @@ loop_last {type} before now others last i end h =
     (subst (λ (left : List Stmt). AreLeft before now (take i others) (left ++ last ∷ []) type) (ap (λ (n : ℕ). drop n others) end
     ∙ drop-length others) h)
 
--- where elements are listed, the numbers are assumed when the statements before are done
+-- where elements are listed or loops run, the numbers are assumed when the statements before are done
 asked_here : (before now : Moment) (stmt : Stmt) → forgotten now.state ≡ forgotten before.state → now.options ≡ before.options
-    → IsAssumedWhereListed before stmt → IsAssumedWhereListed now stmt
-asked_here before now stmt others options asked = λ lists.
+    → IsAssumedWhereNeeded before stmt → IsAssumedWhereNeeded now stmt
+asked_here before now stmt others options asked = λ needed.
     subst (λ (a : Assumed). Assumes a now.options.at) (sym (left_assumed before now others))
-    (subst (λ (o : OptionsView). Assumes before.state.assumed o.at) (sym options) (asked lists))
+    (subst (λ (o : OptionsView). Assumes before.state.assumed o.at) (sym options)
+    (asked (ap (λ (o : OptionsView). needs_numbers o.run stmt) (sym options) ∙ needed)))
 
 pub asked_next : {type : Option TypeView} (before now : Moment) (statements others done left : List Stmt) (last stmt : Stmt) (i : ℕ)
-    → statements ≡ others ++ last ∷ [] → i < length others → stmt ≡ get_or others i stmt → All (IsAssumedWhereListed before) statements
-    → AreLeft before now done left type → IsAssumedWhereListed now stmt
+    → statements ≡ others ++ last ∷ [] → i < length others → stmt ≡ get_or others i stmt → All (IsAssumedWhereNeeded before) statements
+    → AreLeft before now done left type → IsAssumedWhereNeeded now stmt
 asked_next before now statements others done left last stmt i split low is all h =
     let within : i < length (others ++ last ∷ []) = (let e = length-append others (last ∷ []) in omega arith) in
     asked_here before now stmt h.others h.options
-    (subst (IsAssumedWhereListed before) (get_or_append_left others (last ∷ []) stmt i low ∙ sym is)
-    (subst (All (IsAssumedWhereListed before)) split all i stmt within))
+    (subst (IsAssumedWhereNeeded before) (get_or_append_left others (last ∷ []) stmt i low ∙ sym is)
+    (subst (All (IsAssumedWhereNeeded before)) split all i stmt within))
 
-asked_end : (before : Moment) (others : List Stmt) (last : Stmt) → All (IsAssumedWhereListed before) (others ++ last ∷ [])
-    → IsAssumedWhereListed before last
-asked_end before [] last all = All-head (IsAssumedWhereListed before) last [] all
+asked_end : (before : Moment) (others : List Stmt) (last : Stmt) → All (IsAssumedWhereNeeded before) (others ++ last ∷ [])
+    → IsAssumedWhereNeeded before last
+asked_end before [] last all = All-head (IsAssumedWhereNeeded before) last [] all
 asked_end before (stmt ∷ others) last all =
-    asked_end before others last (All-tail (IsAssumedWhereListed before) stmt (others ++ last ∷ []) all)
+    asked_end before others last (All-tail (IsAssumedWhereNeeded before) stmt (others ++ last ∷ []) all)
 
 pub asked_last : {type : Option TypeView} (before now : Moment) (statements others done left : List Stmt) (last : Stmt)
     → statements ≡ others ++ last ∷ []
-    → All (IsAssumedWhereListed before) statements → AreLeft before now done left type → IsAssumedWhereListed now last
+    → All (IsAssumedWhereNeeded before) statements → AreLeft before now done left type → IsAssumedWhereNeeded now last
 asked_last before now statements others done left last split all h =
-    asked_here before now last h.others h.options (asked_end before others last (subst (All (IsAssumedWhereListed before)) split all))
+    asked_here before now last h.others h.options (asked_end before others last (subst (All (IsAssumedWhereNeeded before)) split all))
 
 -- what is bound at the end is within the limit
 pub fits_last : {type : Option TypeView} (before now : Moment) (others : List Stmt) (last : Stmt) (after : StateView)

@@ -9,7 +9,7 @@ use Rattle.isl_flat.specs.Flat.{flat}
 use Rattle.isl_words.specs.Options.{OptionsView}
 use Rattle.isl_values.specs.State.{Moment, StateView, scope_of}
 use Rattle.isl_eval.specs.Causes.{Refuses}
-use Rattle.isl_eval.specs.Ended.{IsAssumedWhereListed}
+use Rattle.isl_eval.specs.Ended.{IsAssumedWhereNeeded}
 use Rattle.isl_eval.specs.Evaluation.{IsClearStatement, IsRead, IsTaken, IsWhyNot, IsWhyUnasked, IsWhyUnworkable, IsWorkable}
 use Rattle.isl_eval.proofs.ChainLaws.{asked_each, evaluable}
 use Rattle.isl_eval.proofs.RefusalLaws.{memory_refuses, unasked_refuses, unread_refuses, unworkable_refuses}
@@ -24,18 +24,18 @@ module _ (before : Moment) (state : StateView) (meter : Gauge) (options : Option
   scope_here scope is = subst (λ (m : Moment). scope ≡ scope_of m.state) (sym here) is
 
   pub clear_statement : (stmt : Stmt) (type : Option TypeView) (scope : ScopeView) → IsRead before bytes stmt → scope ≡ scope_of state
-      → IsWorkable scope options.at stmt type → IsClearStatement before bytes stmt type
+      → IsWorkable scope options stmt type → IsClearStatement before bytes stmt type
   clear_statement stmt type scope read is able = record {
     read = read;
-    able = subst (λ (m : Moment). IsWorkable (scope_of m.state) m.options.at stmt type) (sym here)
-        (subst (λ (s : ScopeView). IsWorkable s options.at stmt type) is able);
+    able = subst (λ (m : Moment). IsWorkable (scope_of m.state) m.options stmt type) (sym here)
+        (subst (λ (s : ScopeView). IsWorkable s options stmt type) is able);
   }
 
   pub taken : {type : Option TypeView} (stmt : Stmt) (statements : List Stmt) → IsClearStatement before bytes stmt type
-      → IsAssumedWhereListed (moment_of state meter options) stmt
+      → IsAssumedWhereNeeded (moment_of state meter options) stmt
       → statements ≡ flat stmt → length statements ≤ 2 ^ 64 → IsTaken before bytes statements type
   taken stmt statements clear asked simple short =
-      let asks : IsAssumedWhereListed before stmt = subst (λ (m : Moment). IsAssumedWhereListed m stmt) (sym here) asked in
+      let asks : IsAssumedWhereNeeded before stmt = subst (λ (m : Moment). IsAssumedWhereNeeded m stmt) (sym here) asked in
       record {
         stmt = stmt;
         clear = clear;
@@ -58,12 +58,12 @@ module _ (before : Moment) (state : StateView) (meter : Gauge) (options : Option
   unread refusal why = at_meter refusal (unread_refuses before bytes refusal why)
 
   pub unworkable : (stmt : Stmt) (scope : ScopeView) (refusal : Refusal) → IsRead before bytes stmt → scope ≡ scope_of state
-      → IsWhyUnworkable scope options.at stmt refusal
+      → IsWhyUnworkable scope options stmt refusal
       → Refuses before bytes meter refusal
   unworkable stmt scope refusal read is why =
       at_meter refusal (unworkable_refuses before bytes stmt read refusal
-      (subst (λ (m : Moment). IsWhyUnworkable (scope_of m.state) m.options.at stmt refusal) (sym here)
-      (subst (λ (s : ScopeView). IsWhyUnworkable s options.at stmt refusal) is why)))
+      (subst (λ (m : Moment). IsWhyUnworkable (scope_of m.state) m.options stmt refusal) (sym here)
+      (subst (λ (s : ScopeView). IsWhyUnworkable s options stmt refusal) is why)))
 
   pub memory : (refusal : Refusal) → refusal ≡ r.NoMemory → Refuses before bytes meter refusal
   memory refusal is = memory_refuses before bytes meter (sym same_meter) refusal is

@@ -1,5 +1,5 @@
 -- public: why a complete statement is refused.
-use Rattle.std.specs.Prelude.{◌≡◌, ◌⊎◌, ℕ, Bool, true, false, not, List, [], ◌∷◌, ◌++◌, None, Err}
+use Rattle.std.specs.Prelude.{◌≡◌, ◌⊎◌, ℕ, Bool, true, false, not, ◌&&◌, List, [], ◌∷◌, ◌++◌, None, Err}
 use Rattle.std.specs.List.{list_any}
 use Rattle.std.specs.Str.{bytes_eq}
 use Rattle.isl_meter.specs.Gauge.{Gauge, IsCharged, IsCutBy, limit_of}
@@ -7,26 +7,25 @@ use Rattle.isl_meter.specs.declared.Cut.{Cut}
 use Rattle.isl_meter.specs.declared.Cut.TheVariants as cut
 use Rattle.isl_space.specs.Name.{Name}
 use Rattle.isl_space.specs.Valuation.{Valuation}
+use Rattle.isl_words.specs.Options.{OptionsView}
 use Rattle.isl_token.specs.Lex.{tokens}
 use Rattle.isl_token.specs.Depth.{is_too_deep}
 use Rattle.isl_assumed.specs.declared.assumed.Assumed.{Assumed}
 use Rattle.isl_text.specs.declared.refusal.Refusal.{Refusal}
 use Rattle.isl_text.specs.declared.refusal.Refusal.TheVariants as r
 use Rattle.isl_text.specs.Read.{has_wide_number}
-use Rattle.isl_expr.specs.declared.tree.Prefix.TheVariants as p
-use Rattle.isl_expr.specs.declared.tree.Expr.{Prefix'}
 use Rattle.isl_expr.specs.declared.tree.Stmt.{Stmt}
 use Rattle.isl_expr.specs.declared.tree.Stmt.TheVariants.{Empty, Bind, Show, Assume}
 use Rattle.isl_stmt.specs.Limits.{statement_is_within}
 use Rattle.isl_stmt.specs.Read.{NoStatement}
 use Rattle.isl_kinds.specs.Parts.{parts_of_statement}
-use Rattle.isl_kinds.specs.Typed.{ScopeView, declared_in, type_of_statement}
+use Rattle.isl_kinds.specs.Typed.{ScopeView, declared_of, type_of_statement}
 use Rattle.isl_flat.specs.Flat.{flat}
-use Rattle.isl_eval.specs.Unsupported.{is_unsupported}
 use Rattle.isl_values.specs.State.{Moment, scope_of}
 use Rattle.isl_values.specs.Ends as ends
 use Rattle.isl_values.specs.Ends.{End, Reason, FirstEnds, GoesOn, because}
 use Rattle.isl_values.specs.Made.{uses_units}
+use Rattle.isl_eval.specs.Asked.{shows_at_numbers}
 use Rattle.isl_eval.specs.Ended.{AskedEnds, StatementEnds}
 use Rattle.isl_eval.specs.Machine.{Step, nothing}
 use Rattle.isl_eval.specs.Spelled.{OfTokens, OfStatement}
@@ -43,22 +42,19 @@ pub data Cause : Type 0 where
   too_wide : Cause
   -- a number is above the limit
   wide_number : Cause
-  -- the statement is none that is answered yet
-  unsupported : Cause
   -- a name is unbound, or an identifier of a literal unknown
   unknown_name : Cause
   -- an operation takes no operands of such kinds, or what would be bound may not be bound
   wrong_kind : Cause
   -- a list has no element with that number
   no_element : Cause
-  -- elements are to be listed, and a declared parameter has no number
+  -- elements are to be listed, or loops to be run, and a declared parameter has no number
   parametric : Cause
 
 -- the causes, in the order in which they are looked for, each in the whole statement before the next
 abbrev pub causes : List Cause
 causes =
-    no_token ∷ too_deep ∷ no_statement ∷ too_wide ∷ wide_number ∷ unsupported ∷ unknown_name ∷ wrong_kind ∷ no_element ∷ parametric
-    ∷ []
+    no_token ∷ too_deep ∷ no_statement ∷ too_wide ∷ wide_number ∷ unknown_name ∷ wrong_kind ∷ no_element ∷ parametric ∷ []
 
 abbrev pub refusal_of : Cause → Refusal
 refusal_of no_token = r.Syntax
@@ -66,7 +62,6 @@ refusal_of too_deep = r.TooDeep
 refusal_of no_statement = r.Syntax
 refusal_of too_wide = r.TooWide
 refusal_of wide_number = r.WideNumber
-refusal_of unsupported = r.Syntax
 refusal_of unknown_name = r.UnknownName
 refusal_of wrong_kind = r.WrongKind
 refusal_of no_element = r.NoElement
@@ -76,13 +71,13 @@ refusal_of parametric = r.Parametric
 abbrev pub is_given : Valuation → Name → Bool
 is_given at name = list_any (λ given. bytes_eq given.0 name) at
 
--- elements are to be listed of what declares a parameter that is given no number
-abbrev pub is_parametric : ScopeView → Valuation → Stmt → Bool
-is_parametric scope at (Show (Prefix' p.Scan s operand)) = list_any (λ name. not (is_given at name)) (declared_in scope operand)
-is_parametric scope at (Show expr) = false
-is_parametric scope at (Bind name expr) = false
-is_parametric scope at Empty = false
-is_parametric scope at (Assume set) = false
+-- elements are to be listed, or loops to be run, of what declares a parameter that is given no number
+abbrev pub is_parametric : ScopeView → OptionsView → Stmt → Bool
+is_parametric scope options Empty = false
+is_parametric scope options (Bind name expr) = false
+is_parametric scope options (Show expr) =
+    shows_at_numbers options.run expr && list_any (λ name. not (is_given options.at name)) (declared_of scope expr)
+is_parametric scope options (Assume set) = false
 
 -- the bytes have the cause at this moment
 abbrev pub IsThere : Moment → List ℕ → Cause → Type 0
@@ -91,11 +86,10 @@ IsThere before bytes too_deep = OfTokens bytes (λ ts. is_too_deep ts ≡ true)
 IsThere before bytes no_statement = OfTokens bytes NoStatement
 IsThere before bytes too_wide = OfStatement bytes (λ stmt. statement_is_within stmt ≡ false)
 IsThere before bytes wide_number = OfTokens bytes (λ ts. has_wide_number (limit_of before.meter) ts ≡ true)
-IsThere before bytes unsupported = OfStatement bytes (λ stmt. is_unsupported stmt ≡ true)
 IsThere before bytes unknown_name = OfStatement bytes (λ stmt. type_of_statement (scope_of before.state) stmt ≡ Err r.UnknownName)
 IsThere before bytes wrong_kind = OfStatement bytes (λ stmt. type_of_statement (scope_of before.state) stmt ≡ Err r.WrongKind)
 IsThere before bytes no_element = OfStatement bytes (λ stmt. type_of_statement (scope_of before.state) stmt ≡ Err r.NoElement)
-IsThere before bytes parametric = OfStatement bytes (λ stmt. is_parametric (scope_of before.state) before.options.at stmt ≡ true)
+IsThere before bytes parametric = OfStatement bytes (λ stmt. is_parametric (scope_of before.state) before.options stmt ≡ true)
 
 -- the first of these causes that is there gives this refusal
 abbrev pub FirstGives : (Cause → Type 0) → List Cause → Refusal → Type 0
@@ -127,8 +121,8 @@ pub record Stops (before : Moment) (stmt : Stmt) (P : Moment → Stmt → Type 0
   pub steps : AreDone before done now
   pub stops : P now next
 
--- The evaluation of a statement ends, in one of the ways in which it may choose. Where elements are to be listed, it is asked first whether
--- the numbers that parameters are given are assumed.
+-- The evaluation of a statement ends, in one of the ways in which it may choose. Where elements are to be listed or loops to be run, it is
+-- asked first whether the numbers that parameters are given are assumed.
 abbrev pub EvaluationEnds : Moment → Stmt → End → Type 0
 EvaluationEnds before stmt = FirstEnds (AskedEnds before stmt) (λ why. Stops before stmt (λ now next. StatementEnds now next why))
 
@@ -150,6 +144,10 @@ HasWork assumed stmt = list_any (uses_units assumed) (parts_of_statement stmt) �
 abbrev pub SparesUnits : Moment → List ℕ → Gauge → Type 0
 SparesUnits before bytes now = ¬ OfStatement bytes (HasWork before.state.assumed) → now ≡ before.meter
 
+-- the first of the causes that is there gives the refusal, and nothing is used
+abbrev pub RefusesFirst : Moment → List ℕ → Gauge → Refusal → Type 0
+RefusesFirst before bytes now refusal = FirstGives (IsThere before bytes) causes refusal × (now ≡ before.meter)
+
 -- while a statement without any of the causes is worked out, its evaluation ends for this reason, which counts nothing
 abbrev pub RefusesBecause : Moment → List ℕ → Gauge → Reason → Type 0
 RefusesBecause before bytes now reason =
@@ -168,10 +166,24 @@ Refuses before bytes now r.Overflow = RefusesCut before bytes now cut.Overflow
 Refuses before bytes now r.Budget = RefusesCut before bytes now cut.Budget
 Refuses before bytes now r.NoMemory = IsCharged before.meter now × SparesUnits before bytes now
 Refuses before bytes now r.TooWide =
-    (FirstGives (IsThere before bytes) causes r.TooWide × (now ≡ before.meter))
-    ⊎ RefusesBecause before bytes now ends.too_wide
+    RefusesFirst before bytes now r.TooWide ⊎ RefusesBecause before bytes now ends.too_wide
 Refuses before bytes now r.NoMinimum = RefusesBecause before bytes now ends.no_minimum
 Refuses before bytes now r.Unbounded = RefusesBecause before bytes now ends.unbounded
+Refuses before bytes now r.SeveralTimes = RefusesBecause before bytes now ends.several_times
+Refuses before bytes now r.TimeShape = RefusesBecause before bytes now ends.time_shapes
+Refuses before bytes now r.Nested = RefusesBecause before bytes now ends.nested
 Refuses before bytes now r.NoValuation = RefusesBecause before bytes now ends.no_valuation
 Refuses before bytes now r.NotAssumed = RefusesBecause before bytes now ends.not_assumed
-Refuses before bytes now refusal = FirstGives (IsThere before bytes) causes refusal × (now ≡ before.meter)
+Refuses before bytes now r.Syntax = RefusesFirst before bytes now r.Syntax
+Refuses before bytes now r.UnknownName = RefusesFirst before bytes now r.UnknownName
+Refuses before bytes now r.WrongKind = RefusesFirst before bytes now r.WrongKind
+Refuses before bytes now r.NoElement = RefusesFirst before bytes now r.NoElement
+Refuses before bytes now r.Parametric = RefusesFirst before bytes now r.Parametric
+Refuses before bytes now r.TooDeep = RefusesFirst before bytes now r.TooDeep
+Refuses before bytes now r.WideNumber = RefusesFirst before bytes now r.WideNumber
+Refuses before bytes now r.Usage = RefusesFirst before bytes now r.Usage
+Refuses before bytes now r.TooLong = RefusesFirst before bytes now r.TooLong
+Refuses before bytes now r.Unfinished = RefusesFirst before bytes now r.Unfinished
+Refuses before bytes now r.ReadFault = RefusesFirst before bytes now r.ReadFault
+Refuses before bytes now r.WriteFault = RefusesFirst before bytes now r.WriteFault
+Refuses before bytes now r.ScriptTooLong = RefusesFirst before bytes now r.ScriptTooLong

@@ -7,15 +7,23 @@ use Rattle.isl_meter.specs.declared.Cut.{Cut}
 use Rattle.isl_piece.specs.Cut.{IsCutFor}
 use Rattle.isl_space.specs.Limits.{most_parameters}
 use Rattle.isl_space.specs.Name.{Name}
-use Rattle.isl_space.specs.Valuation.{Valuation}
+use Rattle.isl_space.specs.Valuation.{Valuation, values_of}
+use Rattle.isl_words.specs.Options.{OptionsView}
 use Rattle.isl_union.specs.KeptValue.{KeptValue, HasNoDefinitions, IsKeptValue}
 use Rattle.isl_union.specs.Fault.{IsFaultBy}
 use Rattle.isl_assumed.specs.declared.assumed.Assumed.{Assumed}
 use Rattle.isl_union.specs.declared.fault.OpFault.{OpFault}
+use Rattle.isl_call_text.specs.CallText.{call_lines}
+use Rattle.isl_loop.specs.declared.tree.Loop.{Loop}
+use Rattle.isl_loop.specs.Formed.{IsLoopOver}
+use Rattle.isl_loop.specs.Run.{trace}
+use Rattle.isl_schedule.specs.declared.fault.GenFault.{GenFault}
+use Rattle.isl_schedule.specs.declared.fault.GenFault.TheVariants as gen_fault
+use Rattle.isl_due.specs.Good.{IsGoodTree}
 use Rattle.isl_scan.specs.declared.fault.ScanFault.{ScanFault}
 use Rattle.isl_scan.specs.declared.fault.ScanFault.TheVariants as scan_fault
 use Rattle.isl_text.specs.declared.refusal.Refusal.{Refusal}
-use Rattle.isl_text.specs.declared.refusal.Refusal.TheVariants.{NoMemory, NotAssumed, Parametric, Unbounded}
+use Rattle.isl_text.specs.declared.refusal.Refusal.TheVariants.{NoMemory, Nested, NotAssumed, Parametric, SeveralTimes, TimeShape, Unbounded}
 use Rattle.isl_lower.specs.Value.{IsWellFormedLiteral}
 use Rattle.isl_expr.specs.declared.tree.Prefix.{Prefix}
 use Rattle.isl_expr.specs.declared.tree.Prefix.TheVariants as p
@@ -23,7 +31,7 @@ use Rattle.isl_expr.specs.declared.tree.Expr.{Expr, Row', Prefix', Any', Last', 
 use Rattle.isl_expr.specs.declared.tree.Expr as e
 use Rattle.isl_expr.specs.declared.tree.Link.{Link}
 use Rattle.isl_expr.specs.declared.tree.Stmt.{Stmt}
-use Rattle.isl_expr.specs.declared.tree.Stmt.TheVariants.{Bind}
+use Rattle.isl_expr.specs.declared.tree.Stmt.TheVariants.{Empty, Bind, Show, Assume}
 use Rattle.isl_expr.specs.declared.tree.Binary.{Binary}
 use Rattle.isl_expr.specs.declared.tree.Binary.TheVariants as b
 use Rattle.isl_union.specs.Compare.{AreEqual, IsSubset}
@@ -32,7 +40,6 @@ use Rattle.isl_kinds.specs.Typed.{TypeView, ScopeView, is_dollar, has_unknown}
 use Rattle.isl_kinds.specs.Typed.{declared_of, joined_names, type_of_statement}
 use Rattle.isl_flat.specs.Flat.{flat, is_gist, is_sample}
 use Rattle.isl_flat.specs.Simple.{BindsIn}
-use Rattle.isl_eval.specs.Unsupported.{is_unsupported}
 use Rattle.isl_values.specs.declared.list.ListPart.TheVariants.{First}
 use Rattle.isl_values.specs.State.{Kept, Moment, StateView, Fits, HasNumbersUpTo, scope_of, forgotten}
 use Rattle.isl_values.specs.Live.{IsLiveUnder, IsSampleAt}
@@ -42,23 +49,24 @@ use Rattle.isl_values.specs.Made.{is_foreign, IsSoundExpr, IsSoundLink, IsPaid, 
 use Rattle.isl_eval.specs.Spelled.{BytesSpell}
 use Rattle.isl_eval.specs.Tests.{Elements, is_test}
 use Rattle.isl_eval.specs.Tests.{ends_with_test as row_ends_with_test}
-use Rattle.isl_eval.specs.Causes.{Cause, no_token, too_deep, no_statement, too_wide, wide_number, unsupported, causes}
+use Rattle.isl_eval.specs.Causes.{Cause, no_token, too_deep, no_statement, too_wide, wide_number, causes}
 use Rattle.isl_eval.specs.Causes.{IsThere, NoneIs, FirstGives, AreDone, is_parametric}
-pub use Rattle.isl_eval.specs.Ended.{is_scan, is_listing}
-use Rattle.isl_eval.specs.Ended.{AskedEnds, IsAssumedWhereListed, ListingEnds, StatementEnds}
+use Rattle.isl_eval.specs.Asked as asked
+use Rattle.isl_eval.specs.Asked.{Question, is_of_operand, question_of}
+use Rattle.isl_eval.specs.Coded.{code_text, AtAssumedNumbers, GenerationEnds}
+use Rattle.isl_eval.specs.Ended.{AskedEnds, IsAssumedWhereNeeded, ListingEnds, StatementEnds}
 use Rattle.isl_eval.specs.Evaluated.{IsTyped, IsEvaluable, made_parts, works}
 
 -- ---- reading
 
 -- the causes that the bytes alone may have, whatever is bound
 abbrev pub causes_of_bytes : List Cause
-causes_of_bytes = no_token ∷ too_deep ∷ no_statement ∷ too_wide ∷ wide_number ∷ unsupported ∷ []
+causes_of_bytes = no_token ∷ too_deep ∷ no_statement ∷ too_wide ∷ wide_number ∷ []
 
 -- a statement that was read: none of its bytes' causes is there, and what its literals declare and name is what a value may have
 pub record IsRead (before : Moment) (bytes : List ℕ) (stmt : Stmt) : Type 0 where
   pub spelled : BytesSpell bytes stmt
   pub none : NoneIs (IsThere before bytes) causes_of_bytes
-  pub supported : is_unsupported stmt ≡ false
   pub sound : All IsWellFormedLiteral (statement_literals stmt)
 
 -- memory ended, or the first cause that is there gives this refusal
@@ -74,24 +82,25 @@ names_of (Some t) = t.params
 
 -- The statement has this type, so no cause is there that comes of what is bound; nor one that comes of the numbers that parameters are
 -- given.
-pub record IsWorkable (scope : ScopeView) (at : Valuation) (stmt : Stmt) (type : Option TypeView) : Type 0 where
+pub record IsWorkable (scope : ScopeView) (options : OptionsView) (stmt : Stmt) (type : Option TypeView) : Type 0 where
   pub typed : type_of_statement scope stmt ≡ Ok type
-  pub given : is_parametric scope at stmt ≡ false
+  pub given : is_parametric scope options stmt ≡ false
 
 -- why a statement that was read is not to be worked out: the first of these causes is there, or memory ended
-abbrev pub IsWhyUnworkable : ScopeView → Valuation → Stmt → Refusal → Type 0
-IsWhyUnworkable scope at stmt refusal =
+abbrev pub IsWhyUnworkable : ScopeView → OptionsView → Stmt → Refusal → Type 0
+IsWhyUnworkable scope options stmt refusal =
     (type_of_statement scope stmt ≡ Err refusal)
-    ⊎ ((IsTyped scope stmt × (is_parametric scope at stmt ≡ true) × (refusal ≡ Parametric)) ⊎ (refusal ≡ NoMemory))
+    ⊎ ((IsTyped scope stmt × (is_parametric scope options stmt ≡ true) × (refusal ≡ Parametric)) ⊎ (refusal ≡ NoMemory))
 
 -- a statement of this type that was read and may be worked out
 pub record IsClearStatement (before : Moment) (bytes : List ℕ) (stmt : Stmt) (type : Option TypeView) : Type 0 where
   pub read : IsRead before bytes stmt
-  pub able : IsWorkable (scope_of before.state) before.options.at stmt type
+  pub able : IsWorkable (scope_of before.state) before.options stmt type
 
 -- ---- what is asked first
 
--- why a statement is not evaluated: elements are to be listed where parameters have numbers that are not assumed; or asking that was cut
+-- why a statement is not evaluated: elements are to be listed, or loops to be run, where parameters have numbers that are not assumed; or
+-- asking that was cut
 abbrev pub IsWhyUnasked : Moment → Stmt → Gauge → Refusal → Type 0
 IsWhyUnasked before stmt now refusal =
     ((refusal ≡ NotAssumed) × AskedEnds before stmt (because not_assumed) × (now ≡ before.meter))
@@ -198,7 +207,8 @@ keeps_selected (Post' s operand t postfixes) = true
 -- the operand of the only operator of a list, where that is `%`
 abbrev pub context_in : List Link → Option Expr
 context_in (link ∷ []) = if is_gist link.operator then Some link.operand else None
-context_in _ = None
+context_in [] = None
+context_in (link ∷ next ∷ more) = None
 
 -- What a call leaves that works: something with P, and nothing ended it; or why there is none. Where nothing uses units, none was used.
 abbrev pub IsOutcome : {A : Type 0} → Bool → (End → Type 0) → Gauge → Gauge → (A → Type 0) → Result A Refusal → Type 0
@@ -213,6 +223,26 @@ EndsWork state operand = FirstEnds (Ends state operand) CutAlone
 abbrev pub EndsTwo : KeptValue → KeptValue → End → Type 0
 EndsTwo left right = OperationEnds (joined_names left.params right.params) ⊥ ⊥
 
+-- what refuses a statement whose value has no loops
+abbrev pub refusal_of_generation : GenFault → Refusal
+refusal_of_generation gen_fault.Nested = Nested
+refusal_of_generation gen_fault.TimeShape = TimeShape
+refusal_of_generation gen_fault.Unbounded = Unbounded
+refusal_of_generation gen_fault.SeveralTimes = SeveralTimes
+refusal_of_generation (gen_fault.Cut what) = refusal_of_cut what
+
+-- a good tree over the parameters of the value
+abbrev pub IsTreeOf : Gauge → KeptValue → Loop → Type 0
+IsTreeOf g value tree = IsLoopOver g (length value.params) tree × IsGoodTree value tree
+
+-- the calls of loops, where parameters have their given numbers
+abbrev pub run_text : OptionsView → List Name → Loop → List ℕ
+run_text options names tree = call_lines (trace tree (values_of names options.at))
+
+-- the text is that of a good tree for the value, or of its calls
+abbrev pub IsCodeOfValue : Gauge → OptionsView → KeptValue → List ℕ → Type 0
+IsCodeOfValue g options value text = (tree : Loop) × IsTreeOf g value tree × (text ≡ code_text options value.params tree)
+
 -- what refuses a statement whose scan ended without a listing
 abbrev pub refusal_of_fault : ScanFault → Refusal
 refusal_of_fault (scan_fault.Cut what) = refusal_of_cut what
@@ -220,12 +250,20 @@ refusal_of_fault scan_fault.Unbounded = Unbounded
 
 -- ---- what is asked for
 
--- elements or a truth are asked for
+abbrev pub asks_loops : Question → Bool
+asks_loops asked.elements = false
+asks_loops asked.loops = true
+asks_loops asked.value = false
+
+abbrev pub is_codegen : Prefix → Bool
+is_codegen word = asks_loops (question_of word)
+
+-- elements, loops or a truth are asked for
 abbrev pub is_asked : Expr → Bool
 is_asked (e.Name name) = false
 is_asked (e.Literal literal) = false
 is_asked (Row' s first t links) = row_ends_with_test links
-is_asked (Prefix' word s operand) = is_scan word
+is_asked (Prefix' word s operand) = is_of_operand (question_of word)
 is_asked (Any' r source s sink t schedule) = false
 is_asked (Last' r source s sink t schedule) = false
 is_asked (Post' s operand t postfixes) = false
@@ -279,6 +317,11 @@ IsTestOf names old new result =
 abbrev pub EndsListing : StateView → Expr → Valuation → End → Type 0
 EndsListing state operand at = FirstEnds (Ends state operand) (ListingEnds (λ element. Selects state operand at element))
 
+-- what ends loops that visit what an operand selects
+abbrev pub EndsGeneration : StateView → Expr → End → Type 0
+EndsGeneration state operand =
+    FirstEnds (Ends state operand) (GenerationEnds (AtAssumedNumbers state (declared_of (scope_of state) operand) (Selects state operand)))
+
 -- what ends a row of this last link
 abbrev pub EndsTest : StateView → Expr → List Link → Link → End → Type 0
 EndsTest state first before last =
@@ -299,16 +342,18 @@ AreEvaluable scope (stmt ∷ []) type = IsEvaluable scope stmt × (type_of_state
 AreEvaluable scope (Bind name expr ∷ next ∷ rest) type =
     (t : TypeView) × (type_of_statement scope (Bind name expr) ≡ Ok (Some t)) × (is_dollar name ≡ true) × IsEvaluable scope (Bind name expr)
     × ((later : ScopeView) → BindsIn scope name t later → AreEvaluable later (next ∷ rest) type)
-AreEvaluable scope (_ ∷ next ∷ rest) type = ⊥
+AreEvaluable scope (Empty ∷ next ∷ rest) type = ⊥
+AreEvaluable scope (Show expr ∷ next ∷ rest) type = ⊥
+AreEvaluable scope (Assume set ∷ next ∷ rest) type = ⊥
 
 -- the simple statements of a statement of this type that was read and may be worked out
 pub record IsTaken (before : Moment) (bytes : List ℕ) (statements : List Stmt) (type : Option TypeView) : Type 0 where
   pub stmt : Stmt
   pub clear : IsClearStatement before bytes stmt type
-  pub asked : IsAssumedWhereListed before stmt
+  pub asked : IsAssumedWhereNeeded before stmt
   pub simple : statements ≡ flat stmt
   pub ready : AreEvaluable (scope_of before.state) statements type
-  pub each : All (IsAssumedWhereListed before) statements
+  pub each : All (IsAssumedWhereNeeded before) statements
 
 -- from one moment to another some of the statements were done, and the others are left
 pub record AreLeft (before now : Moment) (done left : List Stmt) (type : Option TypeView) : Type 0 where

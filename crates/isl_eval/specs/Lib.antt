@@ -1,9 +1,10 @@
 pub mod Tests
 pub mod Listed
+pub mod Asked
+pub mod Coded
 pub mod Ended
 pub mod Spelled
 pub mod Machine
-pub mod Unsupported
 pub mod Causes
 pub mod Run
 pub mod Evaluated

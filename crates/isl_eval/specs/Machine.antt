@@ -2,21 +2,26 @@
 use Rattle.std.specs.Prelude.{◌≡◌, ◌↔◌, ℕ, Bool, true, false, IsTrue, if◌then◌else◌, List, [], ◌∷◌, ◌++◌, Option, None, Some, codes, length}
 use Rattle.isl_meter.specs.Gauge.{IsCharged}
 use Rattle.isl_space.specs.Element.{Element}
+use Rattle.isl_space.specs.Name.{Name}
 use Rattle.isl_union.specs.KeptValue.{KeptValue}
 use Rattle.isl_print.specs.Printed.{printed}
 use Rattle.isl_scan.specs.ListingText.{listing_text}
-use Rattle.isl_expr.specs.declared.tree.Prefix.TheVariants as p
-use Rattle.isl_expr.specs.declared.tree.Expr.{Expr, Row', Prefix'}
+use Rattle.isl_expr.specs.declared.tree.Expr.{Expr, Row', Prefix', Any', Last', Post'}
+use Rattle.isl_expr.specs.declared.tree.Expr as e
 use Rattle.isl_expr.specs.declared.tree.Stmt.{Stmt}
 use Rattle.isl_expr.specs.declared.tree.Stmt.TheVariants.{Empty, Bind, Show, Assume}
 use Rattle.isl_flat.specs.Flat.{flat}
 use Rattle.isl_lower_params.specs.Params.{HoldsSome}
 use Rattle.isl_values.specs.declared.list.ListPart.TheVariants.{First}
-use Rattle.isl_values.specs.State.{Kept, Moment, Binds, Narrows, forgotten}
+use Rattle.isl_kinds.specs.Typed.{declared_in}
+use Rattle.isl_values.specs.State.{Kept, Moment, Binds, Narrows, forgotten, scope_of}
 use Rattle.isl_values.specs.Selection.{Keeps, SelectsIn}
-use Rattle.isl_values.specs.Ends.{GoesOn}
+use Rattle.isl_values.specs.Ends.{Elements, GoesOn}
 use Rattle.isl_eval.specs.Tests.{ends_with_test, RowHolds}
 use Rattle.isl_eval.specs.Listed.{IsListed}
+use Rattle.isl_eval.specs.Asked as asked
+use Rattle.isl_eval.specs.Asked.{Question, question_of}
+use Rattle.isl_eval.specs.Coded.{IsCodeOf}
 use Rattle.isl_eval.specs.Ended.{StatementEnds}
 
 -- ---- answers
@@ -47,22 +52,39 @@ told holds = record { bytes = (if holds then codes "True" else codes "False") ++
 abbrev pub listed : List Element → Answer
 listed elements = record { bytes = listing_text elements ++ 10 ∷ []; is_true = false; elements = length elements }
 
+-- the lines of loops or of their calls, each with its line feed
+abbrev pub coded : List ℕ → Answer
+coded text = record { bytes = text; is_true = false; elements = 0 }
+
 -- ---- what is shown of an expression
 abbrev pub ShowsValue : Moment → Expr → Answer → Type 0
 ShowsValue before expr answer = (kept : Kept) × Keeps before expr kept × (answer ≡ shown kept)
 
--- whether a test holds; the elements that the operand of `scan` selects where parameters have their given numbers; else the value
+-- whether a test holds, or the value
 abbrev pub ShowsRow : Bool → Type 0 → Moment → Expr → Answer → Type 0
 ShowsRow true Holds before expr answer = (holds : Bool) × (IsTrue holds ↔ Holds) × (answer ≡ told holds)
 ShowsRow false Holds before expr answer = ShowsValue before expr answer
 
+-- what is asked of an operand that declares these names and selects these elements: these, where parameters have their given numbers; or
+-- loops that visit them; or the value of the whole
+abbrev pub ShowsQuestion : Question → Moment → Expr → List Name → Elements → Answer → Type 0
+ShowsQuestion asked.elements before whole names P answer =
+    (listing : List Element) × IsListed (λ element. P before.options.at element) listing × (answer ≡ listed listing)
+ShowsQuestion asked.loops before whole names P answer =
+    (text : List ℕ) × IsCodeOf before.state before.meter before.options names P text × (answer ≡ coded text)
+ShowsQuestion asked.value before whole names P answer = ShowsValue before whole answer
+
 abbrev pub Shows : Moment → Expr → Answer → Type 0
-Shows before (Prefix' p.Scan s operand) answer =
-    (elements : List Element) × IsListed (λ element. SelectsIn before.state First operand before.options.at element) elements
-    × (answer ≡ listed elements)
+Shows before (e.Name name) answer = ShowsValue before (e.Name name) answer
+Shows before (e.Literal literal) answer = ShowsValue before (e.Literal literal) answer
 Shows before (Row' s first t links) answer = ShowsRow (ends_with_test links) (RowHolds before.state first links) before
     (Row' s first t links) answer
-Shows before expr answer = ShowsValue before expr answer
+Shows before (Prefix' word s operand) answer =
+    ShowsQuestion (question_of word) before (Prefix' word s operand) (declared_in (scope_of before.state) operand)
+    (λ valuation element. SelectsIn before.state First operand valuation element) answer
+Shows before (Any' r source s sink t schedule) answer = ShowsValue before (Any' r source s sink t schedule) answer
+Shows before (Last' r source s sink t schedule) answer = ShowsValue before (Last' r source s sink t schedule) answer
+Shows before (Post' s operand t postfixes) answer = ShowsValue before (Post' s operand t postfixes) answer
 
 -- ---- simple statements
 -- What is done to what is bound and assumed, and what is answered. An assumption leaves those assumed valuations at which one formula of it

@@ -3,18 +3,18 @@ use Rattle.std.specs.Prelude.{◌≡◌, ℕ, List, [], ◌∷◌}
 use Rattle.isl_meter.specs.Gauge.{IsCharged}
 use Rattle.isl_expr.specs.declared.tree.Stmt.{Stmt}
 use Rattle.isl_values.specs.State.{Moment}
-use Rattle.isl_eval.specs.Ended.{IsAssumedWhereListed}
+use Rattle.isl_eval.specs.Ended.{IsAssumedWhereNeeded}
 use Rattle.isl_eval.specs.Machine.{Answer, Performs}
 use Rattle.isl_eval.specs.Spelled.{BytesSpell}
 use Rattle.isl_eval.specs.Causes.{IsClear, HasWork}
 
--- The bytes of a statement are answered. Where it lists elements, the numbers that parameters are given are assumed. No unit was used, unless
--- work stands in it.
+-- The bytes of a statement are answered. Where it lists elements or runs loops, the numbers that parameters are given are assumed. No unit
+-- was used, unless work stands in it.
 pub record Answers (before : Moment) (bytes : List ℕ) (after : Moment) (answer : Answer) : Type 0 where
   pub clear : IsClear before bytes
   pub stmt : Stmt
   pub spelled : BytesSpell bytes stmt
-  pub asked : IsAssumedWhereListed before stmt
+  pub asked : IsAssumedWhereNeeded before stmt
   pub performed : Performs before stmt after answer
   pub meter : IsCharged before.meter after.meter
   pub options : after.options ≡ before.options

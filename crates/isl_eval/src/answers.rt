@@ -103,6 +103,17 @@ impl Answer {
         })
     }
 
+    // The lines of loops, or of their calls.
+    pub(crate) fn of_code(text: String) -> Answer
+        ensures { result ≡ machine.coded (string_bytes text) }
+    {
+        Answer {
+            text,
+            is_true: false,
+            elements: 0,
+        }
+    }
+
     /// Appends the bytes. No memory is asked for where there are none.
     ///
     /// # Errors

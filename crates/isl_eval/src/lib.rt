@@ -1,17 +1,18 @@
 //! One statement of a script: what it answers and what it binds, or why it is refused.
 //!
 //! A statement is empty, or it binds or shows what operators, words and applications make of names and literals: a value, a list of two by
-//! `last`, or one element by `sample`; or it tells whether a test holds, or lists elements by `scan`. Not answered yet is `codegen`. It is
-//! taken apart into simple statements, in which what is chosen once has a name, and each of these is one step.
+//! `last`, or one element by `sample`; or it tells whether a test holds, lists elements by `scan`, or gives loops by `codegen`. It is taken
+//! apart into simple statements, in which what is chosen once has a name, and each of these is one step.
 #![tactic(auto)]
 
 mod answers;
+mod loops;
+mod numbers;
 mod shown;
 mod simple;
 mod spelled;
 mod step;
 mod test;
-mod unsupported;
 mod workable;
 
 pub use answers::Answer;
@@ -19,4 +20,3 @@ pub use isl_words::Options;
 pub use simple::eval;
 pub use spelled::one_statement;
 pub use step::answer;
-pub use unsupported::is_unsupported;

@@ -1,11 +1,10 @@
 //! What is answered to an expression that is shown, and what is kept of one.
 
-ghost use Rattle.std.specs.Prelude.{◌≡◌, ◌↔◌, true, false, Bool, List, Some, IfOk, IsTrue, MatchResult, unsigned_abs};
+ghost use Rattle.std.specs.Prelude.{◌≡◌, ◌↔◌, true, false, Bool, List, Some, IsTrue, MatchResult, unsigned_abs};
 ghost use Rattle.std.specs.List.{list_any};
 ghost use Rattle.std.specs.Option.{option_copied};
 ghost use Rattle.isl_meter.specs.Gauge.{IsCharged, limit_of};
 ghost use Rattle.isl_space.specs.Element.{Element};
-ghost use Rattle.isl_space.specs.Valuation as valuation;
 ghost use Rattle.isl_assumed.specs.Assumed.{Assumes};
 ghost use Rattle.isl_expr.specs.declared.tree.Expr as trees;
 ghost use Rattle.isl_expr.specs.declared.tree.Stmt.TheVariants as s;
@@ -21,7 +20,7 @@ ghost use Rattle.isl_values.specs.Made.{IsSoundExpr, IsWhyUnmade, uses_units};
 ghost use Rattle.isl_values.specs.Ends.{CutAlone, Ends};
 ghost use Rattle.isl_values.specs.Selection.{Selects};
 ghost use Rattle.isl_eval.specs.Listed.{IsListed};
-ghost use Rattle.isl_eval.specs.Ended.{IsAssumedWhereListed, StatementEnds};
+ghost use Rattle.isl_eval.specs.Ended.{IsAssumedWhereNeeded, StatementEnds};
 ghost use Rattle.isl_eval.specs.Machine.{Shows, ShowsValue, listed, told};
 ghost use Rattle.isl_eval.specs.Evaluated.{works, IsEvaluable};
 ghost use Rattle.isl_eval.specs.Tests.{TestHolds};
@@ -30,44 +29,22 @@ ghost use Rattle.isl_eval.specs.Evaluation.{AreKeptIn, EndsListing, EndsPair, En
 ghost use Rattle.isl_eval.specs.Evaluation.{EndsTwo, EndsWork, IsChosen, IsGistIn, IsOutcome, IsPutAt, IsSampled, IsSimplified, IsTogether, past_row};
 
 use crate::answers::Answer;
+use crate::loops::coded;
+use crate::numbers::numbers_of;
 use crate::test::{ends_with_test, refusal_of_operation, tested};
 use isl_coalesce::coalesce;
 use isl_expr::tree::{Binary, Expr, Link, Prefix, ValueKind};
 use isl_gist::gist;
 use isl_meter::Meter;
 use isl_scan::{ScanFault, scan};
-use isl_space::{Name, Params};
 use isl_text::refusal::Refusal;
 use isl_union::{OpFault, Value};
 use isl_values::{
     Kept, State, flat_list_of, flat_value_of, refusal_of, right_under, under_own, value_of,
 };
 use isl_words::Options;
-use std::alloc::{AllocError, Global};
+use std::alloc::Global;
 use std::rc::Rc;
-
-// The number that a name is given, or 0.
-fn number_of(name: &Name, at: &[(Name, i128)]) -> i128
-    ensures { result ≡ valuation.value_at at.now name.now }
-{
-    for given in at {
-        if given.0 == *name {
-            return given.1;
-        }
-    }
-    0
-}
-
-// The numbers that parameters are given.
-fn numbers_of(alloc: Global, params: &Params, options: &Options) -> Result<Vec<i128>, AllocError>
-    ensures { IfOk result (λ numbers. numbers.items ≡ valuation.values_of params.now options.now.at) }
-{
-    let mut numbers = Vec::new(alloc);
-    for place in 0..params.len() {
-        numbers.push(number_of(params.name(place), options.at()))?;
-    }
-    Ok(numbers)
-}
 
 fn refusal_of_fault(fault: ScanFault) -> Refusal
     ensures { result ≡ spec.refusal_of_fault fault }
@@ -434,19 +411,25 @@ fn truth_shown(
     Ok(Answer::of_truth(alloc, holds)?)
 }
 
-// Whether elements or a truth are asked for.
+// Whether elements, loops or a truth are asked for.
 #[tactic(auto, using(crate::proofs::AskedLaws::asked))]
 fn is_asked(expr: &Expr) -> bool
     ensures { result ≡ spec.is_asked expr.now }
 {
     match expr {
-        Expr::Prefix(word, _) => matches!(word, Prefix::Scan),
+        Expr::Prefix(word, _) => matches!(word, Prefix::Scan | Prefix::Codegen),
         Expr::Row(_, links) => ends_with_test(links.as_slice()),
         Expr::Name(_) | Expr::Literal(_) | Expr::Any(..) | Expr::Last(..) | Expr::Post(..) => false,
     }
 }
 
-// The line that lists elements, or that tells whether a test holds.
+fn is_codegen(word: Prefix) -> bool
+    ensures { result ≡ spec.is_codegen word }
+{
+    matches!(word, Prefix::Codegen)
+}
+
+// The line that lists elements, or that tells whether a test holds; or loops.
 fn asked_shown(
     alloc: Global,
     expr: &Expr,
@@ -456,14 +439,21 @@ fn asked_shown(
 ) -> Result<Answer, Refusal>
     requires asked { spec.is_asked expr.now ≡ true }
     requires evaluable { IsEvaluable (scope_of state.now) (s.Show expr.now) }
-    requires assumed { IsAssumedWhereListed (record { state = state.now; meter = meter.old; options = options.now }) (s.Show expr.now) }
+    requires assumed { IsAssumedWhereNeeded (record { state = state.now; meter = meter.old; options = options.now }) (s.Show expr.now) }
     requires fits { Fits (limit_of meter.old) state.now }
     ensures { IsOutcome (works state.now.assumed (s.Show expr.now))
         (StatementEnds (record { state = state.now; meter = meter.old; options = options.now }) (s.Show expr.now)) meter.old meter.new
         (λ answer. Shows (record { state = state.now; meter = meter.old; options = options.now }) expr.now answer) result }
 {
     match expr {
-        Expr::Prefix(_, operand) => listed(alloc, operand.get(), state, options, meter),
+        Expr::Prefix(word, operand) => {
+            let operand = operand.get();
+            if is_codegen(*word) {
+                coded(alloc, operand, state, options, meter)
+            } else {
+                listed(alloc, operand, state, options, meter)
+            }
+        }
         Expr::Row(first, links) => match links.as_slice().split_last() {
             Some((last, before)) => truth_shown(alloc, first.get(), before, last, state, meter),
             None => unreachable!(),
@@ -472,7 +462,7 @@ fn asked_shown(
     }
 }
 
-/// The line that answers an expression of this kind.
+/// What answers an expression of this kind.
 pub(crate) fn shown(
     alloc: Global,
     expr: &Expr,
@@ -482,7 +472,7 @@ pub(crate) fn shown(
     meter: &mut Meter,
 ) -> Result<Answer, Refusal>
     requires evaluable { IsEvaluable (scope_of state.now) (s.Show expr.now) }
-    requires assumed { IsAssumedWhereListed (record { state = state.now; meter = meter.old; options = options.now }) (s.Show expr.now) }
+    requires assumed { IsAssumedWhereNeeded (record { state = state.now; meter = meter.old; options = options.now }) (s.Show expr.now) }
     requires kind { kind_of (scope_of state.now) expr.now ≡ Some kind }
     requires fits { Fits (limit_of meter.old) state.now }
     ensures { IsOutcome (works state.now.assumed (s.Show expr.now))

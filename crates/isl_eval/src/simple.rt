@@ -14,7 +14,7 @@ ghost use Rattle.isl_values.specs.Selection.{Keeps};
 ghost use Rattle.isl_lower.specs.Value.{IsWellFormedLiteral};
 ghost use Rattle.isl_lower_params.specs.Params.{HasNoCoordinates, HoldsSome};
 ghost use Rattle.isl_tree.specs.Known.{literal_is_known};
-ghost use Rattle.isl_eval.specs.Ended.{IsAssumedWhereListed, NarrowedEnds};
+ghost use Rattle.isl_eval.specs.Ended.{IsAssumedWhereNeeded, NarrowedEnds};
 ghost use Rattle.isl_eval.specs.Evaluation.{IsOutcome};
 ghost use Rattle.isl_eval.specs.Machine.{Step};
 ghost use Rattle.isl_eval.specs.Evaluated.{IsEvaluable, IsTyped, IsWhyEnded, works};
@@ -105,7 +105,7 @@ pub(crate) fn eval_typed(
 ) -> Result<Answer, Refusal>
     requires typed { type_of_statement (scope_of state.old) stmt.now ≡ Ok typed }
     requires evaluable { IsEvaluable (scope_of state.old) stmt.now }
-    requires asked { IsAssumedWhereListed (record { state = state.old; meter = meter.old; options = options.now }) stmt.now }
+    requires asked { IsAssumedWhereNeeded (record { state = state.old; meter = meter.old; options = options.now }) stmt.now }
     requires fits { Fits (limit_of meter.old) state.old }
     ensures ok { IfOk result (Step (record { state = state.old; meter = meter.old; options = options.now }) stmt.now
         (record { state = state.new; meter = meter.new; options = options.now })) }
@@ -135,7 +135,8 @@ pub(crate) fn eval_typed(
     }
 }
 
-/// Evaluates a simple statement. A parameter that is given no number counts as 0 where elements are listed; these numbers are assumed.
+/// Evaluates a simple statement. A parameter that is given no number counts as 0 where elements are listed or loops are run; these numbers
+/// are assumed.
 ///
 /// `Ok` gives one whole answer, which may be of no bytes, and changes what is bound and assumed. A refusal leaves both. (isl manual, on
 /// parameter domains; the iscc chapter of the barvinok manual)
@@ -143,8 +144,9 @@ pub(crate) fn eval_typed(
 /// # Errors
 /// What ends the evaluation first, operands from the left and inner ones first: `TooWide` where an operation has more than 16 parameters,
 /// or forms a space that is too wide, or more than 16 names are assumed together; `NoMinimum` where there is no least or greatest element;
-/// `Unbounded` where infinitely many elements are to be listed; and `NoValuation` where no assumed valuation is left. `Overflow` and
-/// `Budget` where the meter counted them, at work that nothing ends before; and `NoMemory`.
+/// `Unbounded` where infinitely many elements are to be listed; `NoValuation` where no assumed valuation is left; and for loops `Nested`,
+/// `TimeShape`, `Unbounded` and `SeveralTimes`, in this order, as `answer` tells. `Overflow` and `Budget` where the meter counted them, at
+/// work that nothing ends before; and `NoMemory`.
 pub fn eval(
     alloc: Global,
     state: &mut State,
@@ -153,7 +155,7 @@ pub fn eval(
     meter: &mut Meter,
 ) -> Result<Answer, Refusal>
     requires evaluable { IsEvaluable (scope_of state.old) stmt.now }
-    requires asked { IsAssumedWhereListed (record { state = state.old; meter = meter.old; options = options.now }) stmt.now }
+    requires asked { IsAssumedWhereNeeded (record { state = state.old; meter = meter.old; options = options.now }) stmt.now }
     requires fits { Fits (limit_of meter.old) state.old }
     ensures ok { IfOk result (Step (record { state = state.old; meter = meter.old; options = options.now }) stmt.now
         (record { state = state.new; meter = meter.new; options = options.now })) }

@@ -5,28 +5,18 @@ ghost use Rattle.isl_values.specs.State.{Moment};
 ghost use Rattle.isl_eval.specs.Spelled.{SpellOne};
 ghost use Rattle.isl_eval.specs.Evaluation.{IsRead, IsWhyNot};
 
-use crate::is_unsupported;
 use isl_expr::tree::Stmt;
 use isl_meter::Meter;
 use isl_stmt::read_statement;
 use isl_text::refusal::Refusal;
 use std::alloc::Global;
 
-/// The statement that the bytes spell, where it is one that is answered.
+/// The statement that the bytes spell.
 pub(crate) fn read(alloc: Global, bytes: &[u8], meter: &Meter) -> Result<Stmt, Refusal>
     ensures { (before : Moment) → before.meter ≡ meter.now
         → MatchResult result (IsRead before bytes.now) (IsWhyNot before bytes.now) }
 {
-    match read_statement(alloc, bytes, meter.limit()) {
-        Ok(stmt) => {
-            if is_unsupported(&stmt) {
-                Err(Refusal::Syntax)
-            } else {
-                Ok(stmt)
-            }
-        }
-        Err(refusal) => Err(refusal),
-    }
+    read_statement(alloc, bytes, meter.limit())
 }
 
 /// The bytes spell at most one statement.

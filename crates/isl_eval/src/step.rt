@@ -10,15 +10,15 @@ ghost use Rattle.isl_values.specs.Made.{IsPaid};
 ghost use Rattle.isl_eval.specs.Causes.{Refuses};
 ghost use Rattle.isl_eval.specs.Machine.{Steps};
 ghost use Rattle.isl_eval.specs.Run.{Answers};
-ghost use Rattle.isl_eval.specs.Ended.{IsAssumedWhereListed};
-ghost use Rattle.isl_eval.specs.Ended as ended;
+ghost use Rattle.isl_eval.specs.Asked as asked;
+ghost use Rattle.isl_eval.specs.Ended.{IsAssumedWhereNeeded};
 ghost use Rattle.isl_eval.specs.Evaluated.{works};
 ghost use Rattle.isl_eval.specs.Evaluation.{AreEvaluable, IsClearStatement, IsTaken, IsWhyStopped, IsWhyUnasked};
 
 use crate::answers::Answer;
 use crate::simple::{eval, eval_typed};
 use crate::spelled::read;
-use crate::workable::{check, is_listing};
+use crate::workable::{check, shows_at_numbers};
 use isl_expr::tree::Stmt;
 use isl_flat::{SimpleStmt, flatten};
 use isl_kinds::Typed;
@@ -28,17 +28,17 @@ use isl_values::{State, refusal_of};
 use isl_words::Options;
 use std::alloc::Global;
 
-// Whether elements are asked for.
-fn lists(stmt: &Stmt) -> bool
-    ensures { result ≡ ended.lists stmt.now }
+// Whether elements are to be listed, or loops to be run.
+fn needs_numbers(stmt: &Stmt, run: bool) -> bool
+    ensures { result ≡ asked.needs_numbers run stmt.now }
 {
     match stmt {
-        Stmt::Show(expr) => is_listing(expr),
+        Stmt::Show(expr) => shows_at_numbers(expr, run),
         Stmt::Empty | Stmt::Bind(..) | Stmt::Assume(_) => false,
     }
 }
 
-// Asks whether the numbers that parameters are given are assumed, where elements are to be listed.
+// Asks whether the numbers that parameters are given are assumed, where elements are to be listed or loops to be run.
 fn ask(
     alloc: Global,
     stmt: &Stmt,
@@ -48,10 +48,10 @@ fn ask(
 ) -> Result<(), Refusal>
     requires fits { Fits (limit_of meter.old) state.now }
     ensures { MatchResult result
-        (λ _. IsAssumedWhereListed (record { state = state.now; meter = meter.old; options = options.now }) stmt.now × (meter.new ≡ meter.old))
+        (λ _. IsAssumedWhereNeeded (record { state = state.now; meter = meter.old; options = options.now }) stmt.now × (meter.new ≡ meter.old))
         (IsWhyUnasked (record { state = state.now; meter = meter.old; options = options.now }) stmt.now meter.new) }
 {
-    if !lists(stmt) {
+    if !needs_numbers(stmt, options.run()) {
         return Ok(());
     }
     match state.assumed().holds(alloc, options.at(), meter) {
@@ -90,7 +90,7 @@ fn clear_statement(
         Ok(stmt) => stmt,
         Err(refusal) => return Err(refusal),
     };
-    match check(alloc, &stmt, state.scope(), options.at()) {
+    match check(alloc, &stmt, state.scope(), options) {
         Ok(typed) => Ok(TypedStatement { stmt, typed }),
         Err(refusal) => Err(refusal),
     }
@@ -134,7 +134,7 @@ fn evaluate(
     meter: &mut Meter,
 ) -> Result<Answer, Refusal>
     requires evaluable { AreEvaluable (scope_of state.old) statements.now typed }
-    requires asked { All (IsAssumedWhereListed (record { state = state.old; meter = meter.old; options = options.now })) statements.now }
+    requires asked { All (IsAssumedWhereNeeded (record { state = state.old; meter = meter.old; options = options.now })) statements.now }
     requires fits { Fits (limit_of meter.old) state.old }
     ensures ok { IfOk result (Steps (record { state = state.old; meter = meter.old; options = options.now }) statements.now
         (record { state = state.new; meter = meter.new; options = options.now })) }
@@ -172,11 +172,13 @@ fn forget_after(state: &mut State, statements: &[SimpleStmt])
 ///
 /// # Errors
 /// The refusal of the first cause that the bytes have, as the table of causes lists them; where they have none, `NotAssumed` where elements
-/// are to be listed and the numbers that parameters are given, 0 for the others, are not assumed; and then what ends the evaluation first:
-/// `TooWide` where an operation has more than 16 parameters or forms a space that is too wide, or more than 16 names are assumed together,
-/// `NoMinimum` where there is no least or greatest element, `Unbounded` where infinitely many elements are to be listed, and `NoValuation`
-/// where no assumed valuation is left; `Overflow` and `Budget` only where the meter counted them, at work that nothing ends before, and
-/// `Overflow` also where it is asked whether numbers are assumed; and `NoMemory`.
+/// are to be listed or loops to be run and the numbers that parameters are given, 0 for the others, are not assumed; and then what ends the
+/// evaluation first: `TooWide` where an operation has more than 16 parameters or forms a space that is too wide, or more than 16 names are
+/// assumed together, `NoMinimum` where there is no least or greatest element, `Unbounded` where infinitely many elements are to be listed,
+/// and `NoValuation` where no assumed valuation is left; for loops, the first that is so at some assumed valuation: `Nested` where a pair is
+/// to be visited, `TimeShape` where two times differ in shape, `Unbounded` where infinitely many points are to be visited, and
+/// `SeveralTimes` where a point has two times; `Overflow` and `Budget` only where the meter counted them, at work that nothing ends before,
+/// and `Overflow` also where it is asked whether numbers are assumed; and `NoMemory`.
 pub fn answer(
     alloc: Global,
     bytes: &[u8],

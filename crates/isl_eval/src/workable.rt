@@ -5,13 +5,14 @@ ghost use Rattle.std.specs.List.{list_any};
 ghost use Rattle.isl_kinds.specs.Typed.{ScopeView};
 ghost use Rattle.isl_flat.specs.Simple.{statement_declared};
 ghost use Rattle.isl_eval.specs.Causes as spec;
-ghost use Rattle.isl_eval.specs.Ended.{is_listing};
+ghost use Rattle.isl_eval.specs.Asked as asked;
 ghost use Rattle.isl_eval.specs.Evaluation.{names_of, IsWorkable, IsWhyUnworkable};
 
 use isl_expr::tree::{Expr, Prefix, Stmt};
 use isl_kinds::{Scope, Typed, typed_statement};
 use isl_space::Name;
 use isl_text::refusal::Refusal;
+use isl_words::Options;
 use std::alloc::Global;
 
 fn is_given(at: &[(Name, i128)], name: &Name) -> bool
@@ -27,13 +28,24 @@ fn lacks_number(names: &[Name], at: &[(Name, i128)]) -> bool
     names.iter().any(|name| !is_given(at, name))
 }
 
-/// Whether elements are asked for.
-#[tactic(auto, using(crate::proofs::AskedLaws::listing))]
-pub(crate) fn is_listing(expr: &Expr) -> bool
-    ensures { result ≡ is_listing expr.now }
+// Whether a word asks for elements, or for loops that are run.
+fn is_at_numbers(word: Prefix, run: bool) -> bool
+    ensures { result ≡ asked.is_at_numbers run (asked.question_of word) }
+{
+    match word {
+        Prefix::Scan => true,
+        Prefix::Codegen => run,
+        _ => false,
+    }
+}
+
+/// Whether what is shown is about certain numbers of the parameters: elements, or loops that are run.
+#[tactic(auto, using(crate::proofs::AskedLaws::at_numbers))]
+pub(crate) fn shows_at_numbers(expr: &Expr, run: bool) -> bool
+    ensures { result ≡ asked.shows_at_numbers run expr.now }
 {
     match expr {
-        Expr::Prefix(word, _) => matches!(word, Prefix::Scan),
+        Expr::Prefix(word, _) => is_at_numbers(*word, run),
         Expr::Name(_)
         | Expr::Literal(_)
         | Expr::Row(..)
@@ -43,14 +55,16 @@ pub(crate) fn is_listing(expr: &Expr) -> bool
     }
 }
 
-// Whether elements are to be listed of what declares a parameter that is given no number.
+// Whether elements are to be listed, or loops to be run, of what declares a parameter that is given no number.
 #[tactic(auto, using(crate::proofs::CheckLaws::parametric))]
-fn is_parametric(stmt: &Stmt, declared: &[Name], at: &[(Name, i128)]) -> bool
+fn is_parametric(stmt: &Stmt, declared: &[Name], options: &Options) -> bool
     ensures { (scope : ScopeView) → declared.now ≡ statement_declared scope stmt.now
-        → result ≡ spec.is_parametric scope at.now stmt.now }
+        → result ≡ spec.is_parametric scope options.now stmt.now }
 {
     match stmt {
-        Stmt::Show(expr) => is_listing(expr) && lacks_number(declared, at),
+        Stmt::Show(expr) => {
+            shows_at_numbers(expr, options.run()) && lacks_number(declared, options.at())
+        }
         Stmt::Empty | Stmt::Bind(..) | Stmt::Assume(_) => false,
     }
 }
@@ -71,13 +85,13 @@ pub(crate) fn check(
     alloc: Global,
     stmt: &Stmt,
     scope: &Scope,
-    at: &[(Name, i128)],
+    options: &Options,
 ) -> Result<Option<Typed>, Refusal>
-    ensures { MatchResult result (IsWorkable scope.now at.now stmt.now) (IsWhyUnworkable scope.now at.now stmt.now) }
+    ensures { MatchResult result (IsWorkable scope.now options.now stmt.now) (IsWhyUnworkable scope.now options.now stmt.now) }
 {
     let typed = typed_statement(alloc, stmt, scope)?;
     let declared = declared_by(&typed);
-    if is_parametric(stmt, declared, at) {
+    if is_parametric(stmt, declared, options) {
         return Err(Refusal::Parametric);
     }
     Ok(typed)

@@ -33,7 +33,6 @@ use Rattle.isl_expr.specs.declared.tree.ValueKind.TheVariants.{List as Pair}
 use Rattle.isl_expr.specs.declared.tree.Expr as e
 use Rattle.isl_expr.specs.Expr.{literals_of, statement_literals}
 use Rattle.isl_space.specs.Limits.{most_leaves}
-use Rattle.isl_eval.specs.Unsupported.{is_unsupported}
 use Rattle.isl_flat.proofs.SimpleLaws.{literals_kept}
 use Rattle.isl_stmt.specs.StatementGrammar.{statement_grammar}
 use Rattle.isl_stmt.specs.Limits.{statement_is_within}
@@ -47,7 +46,8 @@ use Rattle.isl_values.specs.declared.list.ListPart.TheVariants.{First, Second}
 use Rattle.isl_values.specs.State.{Kept, Moment, StateView, Binds, unbound, kept_of, scope_of, forgotten, value_at}
 use Rattle.isl_values.specs.Selection.{IsKeptOf, Keeps}
 use Rattle.isl_values.specs.Live.{IsLivePartOf, IsLiveUnder}
-use Rattle.isl_values.specs.Ends.{GoesOn, Reason, because, too_wide, no_minimum, unbounded, no_valuation, not_assumed}
+use Rattle.isl_values.specs.Ends.{GoesOn, Reason, because, too_wide, no_minimum, nested, time_shapes, unbounded, several_times}
+use Rattle.isl_values.specs.Ends.{no_valuation, not_assumed}
 use Rattle.isl_eval.specs.Spelled.{BytesSpell, OfStatement, OfTokens}
 use Rattle.isl_flat.specs.Flat.{flat}
 use Rattle.isl_eval.specs.Ended.{AskedEnds, StatementEnds}
@@ -174,9 +174,6 @@ module _ (moment : Moment) (bits : moment.meter.bits ≤ 127) (value : KeptValue
   below : 2 ^ moment.meter.bits - 1 < too_great
   below = let large : 2 ^ moment.meter.bits ≤ 2 ^ 127 = pow_mono bits in omega (arith, large)
 
-  supported : is_unsupported (Show (e.Literal (printed_tree value))) ≡ false
-  supported = refl
-
   within : HasFewRemainders value → statement_is_within (Show (e.Literal (printed_tree value))) ≡ true
   within few = rw ((reads value writable).within few) refl
 
@@ -215,19 +212,12 @@ module _ (moment : Moment) (bits : moment.meter.bits ≤ 127) (value : KeptValue
           (
             small_numbers,
             (
-              (λ there. is_not _ supported (at_tree (λ stmt. is_unsupported stmt ≡ true) there)),
+              no_error UnknownName,
               (
-                no_error UnknownName,
+                no_error WrongKind,
                 (
-                  no_error WrongKind,
-                  (
-                    no_error NoElement,
-                    (
-                      (λ there. is_not _ refl
-                          (at_tree (λ stmt. is_parametric (scope_of moment.state) moment.options.at stmt ≡ true) there)),
-                      tt,
-                    ),
-                  ),
+                  no_error NoElement,
+                  ((λ there. is_not _ refl (at_tree (λ stmt. is_parametric (scope_of moment.state) moment.options stmt ≡ true) there)), tt),
                 ),
               ),
             ),
@@ -247,7 +237,10 @@ module _ (moment : Moment) (bits : moment.meter.bits ≤ 127) (value : KeptValue
   not_asked : (reason : Reason) → ¬ AskedEnds moment (Show (e.Literal (printed_tree value))) (because reason)
   not_asked too_wide asked = absurd asked
   not_asked no_minimum asked = absurd asked
+  not_asked nested asked = absurd asked
+  not_asked time_shapes asked = absurd asked
   not_asked unbounded asked = absurd asked
+  not_asked several_times asked = absurd asked
   not_asked no_valuation asked = absurd asked
   not_asked not_assumed asked = absurd (false≢true asked.0)
 

@@ -3,7 +3,8 @@ use Rattle.std.proofs.Common.{◌≡◌, ℕ, ◌<◌, List, [], ◌∷◌, true
 use Rattle.isl_meter.specs.Gauge.{Gauge, IsKept}
 use Rattle.isl_script.specs.Script.{ends}
 use Rattle.isl_text.specs.declared.refusal.Refusal.{Refusal}
-use Rattle.isl_text.specs.declared.refusal.Refusal.TheVariants.{Overflow, Budget, NoMemory, NoMinimum, NotAssumed, NoValuation, TooWide, Unbounded}
+use Rattle.isl_text.specs.declared.refusal.Refusal.TheVariants.{Overflow, Budget, NoMemory, NoMinimum, NotAssumed, NoValuation, TooWide}
+use Rattle.isl_text.specs.declared.refusal.Refusal.TheVariants.{Nested, SeveralTimes, TimeShape, Unbounded}
 use Rattle.isl_values.specs.State.{Moment, StateView}
 use Rattle.isl_eval.specs.Causes as c
 use Rattle.isl_eval.specs.Causes.{Cause, FirstGives, Refuses, causes, refusal_of}
@@ -20,7 +21,6 @@ place_of_cause c.too_deep = refl
 place_of_cause c.no_statement = refl
 place_of_cause c.too_wide = refl
 place_of_cause c.wide_number = refl
-place_of_cause c.unsupported = refl
 place_of_cause c.unknown_name = refl
 place_of_cause c.wrong_kind = refl
 place_of_cause c.no_element = refl
@@ -41,6 +41,9 @@ breaks_in_statement NoMemory view byte now room ended cause = (room, inl (ended,
 breaks_in_statement TooWide view byte now room ended cause = (room, ended, cause)
 breaks_in_statement NoMinimum view byte now room ended cause = (room, ended, cause)
 breaks_in_statement Unbounded view byte now room ended cause = (room, ended, cause)
+breaks_in_statement SeveralTimes view byte now room ended cause = (room, ended, cause)
+breaks_in_statement TimeShape view byte now room ended cause = (room, ended, cause)
+breaks_in_statement Nested view byte now room ended cause = (room, ended, cause)
 breaks_in_statement NoValuation view byte now room ended cause = (room, ended, cause)
 breaks_in_statement NotAssumed view byte now room ended cause = (room, ended, cause)
 breaks_in_statement refusal view byte now room ended cause =
@@ -56,6 +59,9 @@ meter_in_statement before bytes now NoMemory cause kept = cause.0
 meter_in_statement before bytes now TooWide cause kept = kept
 meter_in_statement before bytes now NoMinimum cause kept = kept
 meter_in_statement before bytes now Unbounded cause kept = kept
+meter_in_statement before bytes now SeveralTimes cause kept = kept
+meter_in_statement before bytes now TimeShape cause kept = kept
+meter_in_statement before bytes now Nested cause kept = kept
 meter_in_statement before bytes now NoValuation cause kept = kept
 meter_in_statement before bytes now NotAssumed cause kept = kept
 meter_in_statement before bytes now refusal cause kept =

@@ -12,9 +12,9 @@ use Rattle.isl_script.proofs.ScriptLaws.{next_part-long, rest-append, statements
 use Rattle.isl_text.specs.declared.refusal.Refusal.{Refusal}
 use Rattle.isl_text.specs.declared.refusal.Refusal.TheVariants.{Usage, TooLong, Unfinished, Overflow, Budget, ReadFault, WriteFault}
 use Rattle.isl_text.specs.declared.refusal.Refusal.TheVariants.{NoMemory, NoMinimum, NotAssumed, NoValuation, ScriptTooLong, TooWide}
-use Rattle.isl_text.specs.declared.refusal.Refusal.TheVariants.{Unbounded}
+use Rattle.isl_text.specs.declared.refusal.Refusal.TheVariants.{Nested, SeveralTimes, TimeShape, Unbounded}
 use Rattle.isl_values.specs.State.{Moment}
-use Rattle.isl_values.specs.Ends.{too_wide, no_minimum, unbounded, no_valuation, not_assumed}
+use Rattle.isl_values.specs.Ends.{too_wide, no_minimum, nested, time_shapes, unbounded, several_times, no_valuation, not_assumed}
 use Rattle.isl_eval.specs.Causes.{Cause, FirstGives, IsThere, IsValid, NoneIs, Refuses, causes}
 use Rattle.isl_eval.specs.Machine.{Answer}
 use Rattle.isl_eval.specs.Run.{started}
@@ -55,6 +55,9 @@ no_cause before bytes now valid no_overflow no_spent Overflow cause = absurd (no
 no_cause before bytes now valid no_overflow no_spent Budget cause = absurd (no_spent cause.3.cause.1)
 no_cause before bytes now valid no_overflow no_spent NoMinimum cause = absurd (valid.goes_on no_minimum cause.1)
 no_cause before bytes now valid no_overflow no_spent Unbounded cause = absurd (valid.goes_on unbounded cause.1)
+no_cause before bytes now valid no_overflow no_spent SeveralTimes cause = absurd (valid.goes_on several_times cause.1)
+no_cause before bytes now valid no_overflow no_spent TimeShape cause = absurd (valid.goes_on time_shapes cause.1)
+no_cause before bytes now valid no_overflow no_spent Nested cause = absurd (valid.goes_on nested cause.1)
 no_cause before bytes now valid no_overflow no_spent NoValuation cause = absurd (valid.goes_on no_valuation cause.1)
 no_cause before bytes now valid no_overflow no_spent NotAssumed cause = absurd (valid.goes_on not_assumed cause.1)
 no_cause before bytes now valid no_overflow no_spent TooWide (inl cause) =

@@ -307,7 +307,7 @@ pub fn refuse_words<E: Sink>(err: &mut E, fault: WordsFault) -> Status
 /// Does all that the program does: judges the words, answers the script that `src` has left on `out`, and tells
 /// a refusal on `err`.
 ///
-/// The words, of which the first is the program's name, choose the options of the session. Whether loops are run has no effect yet. Each
+/// The words, of which the first is the program's name, choose the options of the session. Where loops are run, `codegen` gives their calls. Each
 /// statement is answered as soon as it is read, before the bytes behind it are taken; no more than 2^30 + 1 bytes are read. Where going on
 /// is chosen, refused statements are skipped, and each is told. Where a script is made, nothing is read, and one line says how much was
 /// answered.

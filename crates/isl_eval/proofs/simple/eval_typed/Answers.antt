@@ -2,7 +2,7 @@ use Rattle.std.proofs.Common.{◌∙◌, Ok, ap, refl, sym, subst}
 use Rattle.isl_stmt.specs.Names.{binds_dollar}
 use Rattle.isl_eval.specs.Machine.{Step}
 use Rattle.isl_values.specs.State.{scope_of}
-use Rattle.isl_eval.specs.Ended.{IsAssumedWhereListed}
+use Rattle.isl_eval.specs.Ended.{IsAssumedWhereNeeded}
 use Rattle.isl_eval.proofs.ShownLaws.{bind_step, empty_step, moment_of, narrow_step, set_formulas, set_known, set_well_formed}
 use Rattle.isl_eval.proofs.ShownLaws.{show_answered, show_is}
 use Rattle.isl_eval.proofs.simple.eval_typed.Goals as goal
@@ -52,7 +52,7 @@ narrowed-requires-clause-formulas c =
 
 pub shown-requires-clause-assumed : goal.shown-requires-clause-assumed
 shown-requires-clause-assumed c =
-    subst (IsAssumedWhereListed (moment_of c.args.state.now c.args.meter.now c.args.options.now)) c.in-Show.is c.requires.asked
+    subst (IsAssumedWhereNeeded (moment_of c.args.state.now c.args.meter.now c.args.options.now)) c.in-Show.is c.requires.asked
 
 pub shown-requires-clause-kind : goal.shown-requires-clause-kind
 shown-requires-clause-kind c =

@@ -1,6 +1,3 @@
-use Rattle.std.proofs.Common.{subst}
-use Rattle.isl_space.specs.Valuation.{Valuation}
-use Rattle.isl_eval.specs.Evaluation.{IsWhyUnworkable, IsWorkable}
 use Rattle.isl_eval.proofs.TakenLaws.{clear_statement, same_meter, unread, unworkable}
 use Rattle.isl_eval.proofs.step.clear_statement.Goals as goal
 
@@ -13,11 +10,11 @@ pub returns-in-Ok-check : goal.returns-in-Ok-check
 returns-in-Ok-check c before here =
     clear_statement before c.args.state.now c.args.meter.now c.args.options.now c.args.bytes.now here c.in-Ok.stmt c.in-Ok-check.typed
     c.scope.result.now (c.in-Ok.ensures before (same_meter before c.args.state.now c.args.meter.now c.args.options.now c.args.bytes.now here)) c.scope.ensures
-    (subst (λ (at : Valuation). IsWorkable c.scope.result.now at c.in-Ok.stmt c.in-Ok-check.typed) c.at.ensures c.in-Ok-check.ensures)
+    c.in-Ok-check.ensures
 
 pub returns-in-Err-check : goal.returns-in-Err-check
 returns-in-Err-check c before here =
     unworkable before c.args.state.now c.args.meter.now c.args.options.now c.args.bytes.now here c.in-Ok.stmt c.scope.result.now
     c.in-Err-check.refusal
     (c.in-Ok.ensures before (same_meter before c.args.state.now c.args.meter.now c.args.options.now c.args.bytes.now here)) c.scope.ensures
-    (subst (λ (at : Valuation). IsWhyUnworkable c.scope.result.now at c.in-Ok.stmt c.in-Err-check.refusal) c.at.ensures c.in-Err-check.ensures)
+    c.in-Err-check.ensures

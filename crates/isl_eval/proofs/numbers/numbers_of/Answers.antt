@@ -1,7 +1,7 @@
 use Rattle.std.proofs.Common.{◌∙◌, ap, rules}
 use Rattle.isl_space.specs.Valuation.{Valuation, value_at}
-use Rattle.isl_eval.proofs.ShownLaws.{numbers_next}
-use Rattle.isl_eval.proofs.shown.numbers_of.Goals as goal
+use Rattle.isl_eval.proofs.NumberLaws.{numbers_next}
+use Rattle.isl_eval.proofs.numbers.numbers_of.Goals as goal
 
 pub loop-place-preserved : goal.loop-place-preserved
 loop-place-preserved c =

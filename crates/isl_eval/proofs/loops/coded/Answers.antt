@@ -1,0 +1,57 @@
+use Rattle.std.proofs.Common.{refl, rules, subst, sym}
+use Rattle.std.specs.Prelude.{string_bytes}
+use Rattle.isl_meter.proofs.CutLemmas.{IsCharged_trans}
+use Rattle.isl_union.specs.KeptValue.{HasNoDefinitions, IsKeptValue}
+use Rattle.isl_values.proofs.ValueLaws.{fits_later, numbers_later}
+use Rattle.isl_eval.proofs.TestLaws.{at_deref, refused}
+use Rattle.isl_eval.proofs.CodedLaws.{code_failed, code_shown, under_cut}
+use Rattle.isl_eval.proofs.loops.coded.Goals as goal
+
+pub under_own-requires-clause-numbers : goal.under_own-requires-clause-numbers
+under_own-requires-clause-numbers c =
+    numbers_later c.args.meter.now c.flat_value_of.new.meter c.in_ok-value.value.value c.in_ok-value.ensures.made.1.charged
+    c.in_ok-value.ensures.made.0.numbers
+
+pub under_own-requires-clause-fits : goal.under_own-requires-clause-fits
+under_own-requires-clause-fits c =
+    fits_later c.args.meter.now c.flat_value_of.new.meter c.args.state.now c.in_ok-value.ensures.made.1.charged c.requires.fits
+
+pub code_of-requires-clause-kept : goal.code_of-requires-clause-kept
+code_of-requires-clause-kept c = subst IsKeptValue (sym c.deref.ensures) c.in_ok-under.ensures.0.kept
+
+pub code_of-requires-clause-numbers : goal.code_of-requires-clause-numbers
+code_of-requires-clause-numbers c =
+    at_deref c.flat_value_of.new.meter c.under_own.new.meter c.in_ok-under.under.value c.deref.result.now c.in_ok-under.ensures.1.charged
+    c.deref.ensures c.in_ok-under.ensures.0.numbers
+
+pub code_of-requires-clause-plain : goal.code_of-requires-clause-plain
+code_of-requires-clause-plain c =
+    subst HasNoDefinitions (sym c.deref.ensures)
+    (c.in_ok-under.ensures.0.definitions (c.in_ok-value.ensures.made.0.definitions tt))
+
+pub returns : goal.returns
+returns c =
+    let one = c.in_ok-value.ensures in
+    let two = c.in_ok-under.ensures in
+    let three = c.in_ok-text.ensures in
+    code_shown c.args.state.now c.args.operand.now one.goes_on _ c.in_ok-value.value.value c.in_ok-under.under.value c.deref.result.now
+    one.made.0 two.0.under c.deref.ensures c.args.meter.now c.under_own.new.meter c.code_of.new.meter c.args.options.now
+    (string_bytes c.in_ok-text.text) (string_bytes c.in_ok-text.text) c.of_code.result
+    (IsCharged_trans c.args.meter.now c.flat_value_of.new.meter c.under_own.new.meter one.made.1.charged two.1.charged) three.1 three.2
+    three.0 refl c.of_code.ensures
+
+pub returns-in_err-under : goal.returns-in_err-under
+returns-in_err-under c =
+    refused c.from_residual-in_err-under.result _ _ c.in_err-under.field-0.0 (search rules)
+    (under_cut c.args.state.now c.args.operand.now c.in_ok-value.ensures.goes_on _ c.args.meter.now c.flat_value_of.new.meter
+    c.under_own.new.meter c.in_err-under.field-0.0 c.in_ok-value.ensures.made.1.charged c.in_err-under.ensures)
+
+pub returns-in_err-text : goal.returns-in_err-text
+returns-in_err-text c =
+    let one = c.in_ok-value.ensures in
+    let two = c.in_ok-under.ensures in
+    refused c.from_residual-in_err-text.result _ _ c.in_err-text.field-0.0 (search rules)
+    (code_failed c.args.state.now c.args.operand.now one.goes_on _ c.in_ok-value.value.value c.in_ok-under.under.value c.deref.result.now
+    one.made.0 two.0.under c.deref.ensures c.args.meter.now c.under_own.new.meter c.code_of.new.meter c.in_err-text.field-0.0
+    (IsCharged_trans c.args.meter.now c.flat_value_of.new.meter c.under_own.new.meter one.made.1.charged two.1.charged)
+    c.in_err-text.ensures)
