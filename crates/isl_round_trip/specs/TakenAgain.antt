@@ -10,7 +10,7 @@ use Rattle.isl_token.specs.Depth.{is_too_deep}
 use Rattle.isl_tree.specs.declared.tree.Literal.{Literal}
 use Rattle.isl_tree.specs.Literal.{LiteralHas}
 use Rattle.isl_expr.specs.declared.tree.Stmt.{Stmt}
-use Rattle.isl_expr.specs.declared.tree.Stmt.TheVariants.{Show}
+use Rattle.isl_expr.specs.declared.tree.Stmt.TheVariants.{Assume, Bind, Empty, Show}
 use Rattle.isl_expr.specs.declared.tree.Expr.TheVariants as e
 use Rattle.isl_values.specs.declared.list.ListPart.{ListPart}
 use Rattle.isl_values.specs.Live.{IsLivePartOf}
@@ -55,8 +55,10 @@ pub record IsShownAgain (after : Moment) (value : KeptValue) (answer : Answer) :
 
 -- a simple statement that shows an expression of which this is kept
 abbrev pub ShowsKept : Kept → Moment → Stmt → Type 0
+ShowsKept kept now Empty = ⊥
+ShowsKept kept now (Bind name expr) = ⊥
 ShowsKept kept now (Show expr) = Keeps now expr kept
-ShowsKept kept now stmt = ⊥
+ShowsKept kept now (Assume set) = ⊥
 
 -- whatever value the statement shows, where it is what is answered and no list, is shown again
 abbrev pub IsTakenAgain : Moment → Stmt → Moment → Answer → Type 0

@@ -1,4 +1,4 @@
-use Rattle.std.proofs.Common.{◌≡◌, ◌∙◌, ap, sym, subst, length, List, ℤ, ℕ}
+use Rattle.std.proofs.Common.{◌∙◌, ap, sym, subst, length, List, ℤ, ℕ}
 use Rattle.isl_space.proofs.ValuationLaws.{length-values_of}
 use Rattle.isl_loop.specs.Formed.{IsLoopOver}
 use Rattle.isl_eval.proofs.loops.text_of_run.Goals as goal
