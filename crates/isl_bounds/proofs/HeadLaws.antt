@@ -1,12 +1,11 @@
 -- Heads of loops.
-use Rattle.std.proofs.Common.{◌≡◌, ◌≢◌, ◌↔◌, refl, sym, ap, ◌∙◌, subst, arith, ℕ, ℤ, pos, negsuc, neg_ℤ, ◌+ℤ◌}
+use Rattle.std.proofs.Common.{◌≡◌, ◌↔◌, refl, ap, ◌∙◌, subst, arith, ℕ, ℤ, pos, negsuc, neg_ℤ, ◌+ℤ◌}
 use Rattle.std.proofs.Common.{◌-ℤ◌, ◌*ℤ◌, ◌<ℤ◌, ◌≤ℤ◌}
 use Rattle.std.proofs.Common.{List, [], ◌∷◌, ◌++◌, length}
-use Rattle.std.specs.List.{All, Contains, remove}
-use Rattle.std.proofs.lemmas.List.Elements.{All-append, All-cons, All-head, All-nil}
+use Rattle.std.specs.List.{Contains}
+use Rattle.std.proofs.lemmas.List.Elements.{All-cons, All-head, All-nil}
 use Rattle.isl_math.specs.Divide as divide
 use Rattle.isl_math.specs.Divide.{floor_div}
-use Rattle.isl_math.specs.Dot.{dot}
 use Rattle.isl_math.specs.Order.{sign_of}
 use Rattle.isl_math.proofs.DivideLaws.{at_most_floor}
 use Rattle.isl_math.proofs.OrderLaws.{*ℤ-≤ℤ}
@@ -18,72 +17,17 @@ use Rattle.isl_piece.specs.declared.row.Row.{Row}
 use Rattle.isl_piece.specs.Row.{coef_at, value_at, HasModulus, HoldsRow, HoldsValue}
 use Rattle.isl_piece.specs.System.{HoldRows}
 use Rattle.isl_frame.specs.Frame.{isolated}
-use Rattle.isl_frame.proofs.SolvedLaws.{isolated_formed, remove_long, rest_at, value_apart, value_isolated}
-use Rattle.isl_loop.specs.declared.tree.Expr.{Expr, out-Expr}
-use Rattle.isl_loop.specs.declared.tree.Item.{Item}
-use Rattle.isl_loop.specs.declared.tree.Atom.{Atom, Ceil}
-use Rattle.isl_loop.specs.Expr.{atom_value, ceil_div, expr_value}
-use Rattle.isl_loop.specs.Formed.{IsAtomOver, IsExprOver}
-use Rattle.isl_loop.specs.Lists.{sum_of, IsItemOver}
+use Rattle.isl_frame.proofs.SolvedLaws.{rest_at, value_apart, value_isolated}
+use Rattle.isl_loop.specs.declared.tree.Expr.{Expr}
+use Rattle.isl_loop.specs.Expr.{ceil_div, expr_value}
 use Rattle.isl_loop.specs.Turns.{turns}
-use Rattle.isl_loop.proofs.TreeLaws.{over-Expr, value_of-Ceil, value_of-Expr}
 use Rattle.isl_loop.proofs.TurnLaws.{turns_exact}
-use Rattle.isl_ast.proofs.FormedLaws.{ceiling_parts}
-use Rattle.isl_bounds.specs.Aligned.{first_turn, IsAlignedTo}
+use Rattle.isl_bounds.specs.Aligned.{first_turn, IsFirstTurn}
 use Rattle.isl_bounds.specs.Bound.{HoldSome, IsBoundOf}
 use Rattle.isl_bounds.specs.Head.{IsHeadOf}
+use Rattle.isl_bounds.specs.Step.{IsStep}
 use Rattle.isl_bounds.specs.declared.head.Head.{Head}
 use Rattle.isl_bounds.specs.declared.side.Side.TheVariants.{Low, High}
-use Rattle.isl_bounds.proofs.ExprLaws.{made_expr, made_over, made_value}
-use Rattle.isl_bounds.specs.Step.{IsStep}
-
--- ---- sums of summands
-pub sum_append : (items more : List Item) (point : List ℤ) → sum_of (items ++ more) point ≡ sum_of items point +ℤ sum_of more point
-sum_append [] more point = omega (arith, linear)
-sum_append (item ∷ items) more point = omega (arith, linear, sum_append items more point)
-
--- an expression and more summands
-pub plus_over : (g : Gauge) (n : ℕ) (e : Expr) (more items : List Item) (z : ℤ) → items ≡ (out-Expr e).items ++ more → IsExprOver g n e
-    → All (IsItemOver g n) more → IsWithin g z → IsExprOver g n (made_expr items z)
-plus_over g n e more items z is over all within =
-    made_over g n items z (rw is (All-append (IsItemOver g n) (out-Expr e).items more (over-Expr g n e over).0 all)) within
-
-pub plus_value : (e : Expr) (more items : List Item) (z d c : ℤ) (point : List ℤ) → items ≡ (out-Expr e).items ++ more
-    → z ≡ (out-Expr e).constant +ℤ c → sum_of more point ≡ d → expr_value (made_expr items z) point ≡ expr_value e point +ℤ (d +ℤ c)
-plus_value e more items z d c point is number value =
-    made_value items z point
-    ∙ by (sum_of items point) (sum_of (out-Expr e).items point) (sum_of more point) z (out-Expr e).constant d c (expr_value e point)
-    (ap (λ (them : List Item). sum_of them point) is ∙ sum_append (out-Expr e).items more point) number value (value_of-Expr e point)
-  where
-    by : (s a b z o d c v : ℤ) → s ≡ a +ℤ b → z ≡ o +ℤ c → b ≡ d → v ≡ a +ℤ o → s +ℤ z ≡ v +ℤ (d +ℤ c)
-    by s a b z o d c v e f h i = omega (arith, linear, e, f, h, i)
-
--- a form and a multiple of a quotient
-pub multiple_over : (g : Gauge) (n : ℕ) (items pushed : List Item) (item : Item) (z k m : ℤ) (beyond inner : Expr)
-    → pushed ≡ items ++ item ∷ [] → item.coef ≡ k → item.atom ≡ Ceil inner m → beyond ≡ inner → k ≡ m → All (IsItemOver g n) items
-    → IsExprOver g n beyond → pos 0 <ℤ k → IsWithin g k → IsWithin g z → IsExprOver g n (made_expr pushed z)
-multiple_over g n items pushed item z k m beyond inner is coef atom same number all over above within constant =
-    let own : IsAtomOver g n item.atom = (ceiling_parts g n item.atom inner beyond m k atom same number).1 ((above, within), over) in
-    made_over g n pushed z (rw is (All-append (IsItemOver g n) items (item ∷ []) all
-    (All-cons (IsItemOver g n) item [] (record { coef = subst (IsWithin g) (sym coef) within; atom = own }) (All-nil
-    (IsItemOver g n))))) constant
-
-pub multiple_value : (items pushed : List Item) (item : Item) (z k m d c : ℤ) (beyond inner : Expr) (point : List ℤ)
-    → pushed ≡ items ++ item ∷ [] → item.coef ≡ k → item.atom ≡ Ceil inner m → beyond ≡ inner → k ≡ m → sum_of items point ≡ d → z ≡ c
-    → expr_value (made_expr pushed z) point ≡ d +ℤ c +ℤ k *ℤ ceil_div (expr_value beyond point) k
-multiple_value items pushed item z k m d c beyond inner point is coef atom same number value constant =
-    made_value pushed z point
-    ∙ by (sum_of pushed point) (sum_of items point) item.coef (atom_value item.atom point) (ceil_div (expr_value beyond point) k) z
-    (ap (λ (them : List Item). sum_of them point) is ∙ sum_append items (item ∷ []) point) coef
-    (ap (λ (a : Atom). atom_value a point) atom ∙ value_of-Ceil inner m point
-    ∙ ap (λ (e : Expr). ceil_div (expr_value e point) m) (sym same) ∙ ap (λ j. ceil_div (expr_value beyond point) j) (sym number))
-    value constant
-  where
-    by : (s a f v q z : ℤ) → s ≡ a +ℤ (f *ℤ v +ℤ pos 0) → f ≡ k → v ≡ q → a ≡ d → z ≡ c → s +ℤ z ≡ d +ℤ c +ℤ k *ℤ q
-    by s a f v q z e f_is v_is a_is z_is =
-        let p = ap (λ w. w *ℤ v) f_is in
-        let r = ap (λ w. k *ℤ w) v_is in
-        omega (arith, linear, e, p, r, a_is, z_is)
 
 -- ---- turns
 natural : (d : ℤ) → pos 0 ≤ℤ d → (n : ℕ) × (d ≡ pos n)
@@ -199,59 +143,26 @@ module _ (g : Gauge) (variables : ℕ) (lows highs : List (List Row)) (low high 
         );
   })
 
-  pub stepping_head : (step : Row) → IsStep g variables step → pos 0 <ℤ step.k → (first : Expr)
-      → IsAlignedTo g variables step low first → (k : ℤ)
-      → k ≡ step.k → (head : Head) → head ≡ record { low = first; high = high; step = k } → IsHeadOf g variables lows highs (step ∷ []) head
-  stepping_head step is above first to k same head made = rw (made, same) (record {
-    low = to.over;
-    high = high_is.over;
-    positive = above;
-    within = is.within.k;
-    turns = λ point x long.
-        let own = value_at (isolated variables step) point in
-        let told = stepping_turns own step.k (expr_value low point) (expr_value high point) x above in
-        let says = step_says g variables step point x is long in
-        let least = low_is.exact point x long in
-        let most = high_is.exact point x long in
-        rw (to.value point long) (
-          (λ c. let t = told.0 c in (least.0 t.0, most.0 t.1, says.0 t.2)),
-          (λ h. told.1 (least.1 h.0, most.1 h.1, says.1 h.2)),
-        );
-  })
+-- the numbers from the first turn on, by the step
+pub stepping_head : (g : Gauge) (variables : ℕ) (lows highs : List (List Row)) (step : Row) (first high : Expr) → IsStep g variables step
+    → pos 0 <ℤ step.k → IsFirstTurn g variables lows step first → IsBoundOf g variables High (HoldSome highs) high → (k : ℤ) → k ≡ step.k
+    → (head : Head) → head ≡ record { low = first; high = high; step = k } → IsHeadOf g variables lows highs (step ∷ []) head
+stepping_head g variables lows highs step first high is above first_is high_is k same head made = rw (made, same) (record {
+  low = first_is.aligned.over;
+  high = high_is.over;
+  positive = above;
+  within = is.within.k;
+  turns = λ point x long.
+      let own = value_at (isolated variables step) point in
+      let told = stepping_turns own step.k (first_is.bound point) (expr_value high point) x above in
+      let says = step_says g variables step point x is long in
+      let least = first_is.exact point x long in
+      let most = high_is.exact point x long in
+      rw (first_is.aligned.value point long) (
+        (λ c. let t = told.0 c in (least.0 t.0, most.0 t.1, says.0 t.2)),
+        (λ h. told.1 (least.1 h.0, most.1 h.1, says.1 h.2)),
+      );
+})
 
 pub step_above : (g : Gauge) (variables : ℕ) (step : Row) → IsStep g variables step → pos 0 <ℤ step.k
 step_above g variables step is = subst (λ (kind : RowKind). HasModulus kind step.k) is.kind is.formed.modulus
-
--- ---- the first turn
-named : (c : ℤ) → c ≡ pos 1 → c ≢ pos 0
-named c e z = let f = sym e ∙ z in omega (arith, linear, f)
-
-pub step_wide : (g : Gauge) (variables : ℕ) (step : Row) → IsStep g variables step → length (isolated variables step).coefs ≡ variables
-step_wide g variables step is = (isolated_formed variables step is.formed (named (coef_at step variables) is.last)).width
-
-module _ (g : Gauge) (variables : ℕ) (step : Row) (is : IsStep g variables step) (low beyond first : Expr) (own : Row) (coefs : List ℤ)
-    (constant k : ℤ) (own_is : own ≡ isolated variables step) (coefs_is : coefs ≡ remove step.coefs variables)
-    (constant_is : constant ≡ step.constant) (k_is : k ≡ step.k)
-    (sum : (point : List ℤ) → length coefs ≡ length point → expr_value beyond point ≡ expr_value low point +ℤ (dot coefs point +ℤ constant))
-    (multiple : (point : List ℤ) → length own.coefs ≡ length point
-    → expr_value first point ≡ value_at own point +ℤ k *ℤ ceil_div (expr_value beyond point) k) where
-  pub aligned_to : IsExprOver g variables first → IsAlignedTo g variables step low first
-  aligned_to over = record {
-    over = over;
-    value = λ point long.
-        let iso = isolated variables step in
-        let wide : length own.coefs ≡ length point = ap (λ (r : Row). length r.coefs) own_is ∙ step_wide g variables step is ∙ sym long in
-        let narrow : length coefs ≡ length point =
-        ap length coefs_is ∙ remove_long step.coefs variables is.formed.width ∙ sym long in
-        let added : expr_value beyond point ≡ expr_value low point -ℤ value_at iso point =
-        by (expr_value beyond point) (expr_value low point) (dot coefs point) constant (dot (remove step.coefs variables) point)
-        step.constant (value_at iso point) (sum point narrow) (ap (λ (cs : List ℤ). dot cs point) coefs_is) constant_is
-        (step_own g variables step point is) in
-        multiple point wide
-        ∙ ap (λ (r : Row). value_at r point +ℤ k *ℤ ceil_div (expr_value beyond point) k) own_is
-        ∙ ap (λ j. value_at iso point +ℤ j *ℤ ceil_div (expr_value beyond point) j) k_is
-        ∙ ap (λ z. value_at iso point +ℤ step.k *ℤ ceil_div z step.k) added;
-  }
-    where
-      by : (b l d c e f own : ℤ) → b ≡ l +ℤ (d +ℤ c) → d ≡ e → c ≡ f → own ≡ neg_ℤ (e +ℤ f) → b ≡ l -ℤ own
-      by b l d c e f own p q r s = omega (arith, linear, p, q, r, s)

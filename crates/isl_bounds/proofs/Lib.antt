@@ -4,4 +4,5 @@ pub mod ExprLaws
 pub mod EndsLaws
 pub mod StepLaws
 pub mod HeadLaws
+pub mod FirstLaws
 pub mod PrunedLaws

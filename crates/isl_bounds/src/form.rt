@@ -35,7 +35,7 @@ pub(crate) fn summands(alloc: Global, coefs: &[Int]) -> Result<Items<Item>, Allo
 }
 
 // The form of the row.
-fn form(alloc: Global, row: &Row) -> Result<Expr, AllocError>
+pub(crate) fn form(alloc: Global, row: &Row) -> Result<Expr, AllocError>
     ensures over { (g : Gauge) (n : ℕ) → IsRowWithin g row.now → length row.now.coefs ≡ n → IfOk result (IsExprOver g n) }
     ensures value { (point : List ℤ) → length row.now.coefs ≡ length point
         → IfOk result (λ e. expr_value e point ≡ value_at row.now point) }

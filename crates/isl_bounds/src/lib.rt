@@ -3,6 +3,7 @@
 
 mod bound;
 mod ends;
+mod first;
 mod form;
 mod groups;
 mod head;

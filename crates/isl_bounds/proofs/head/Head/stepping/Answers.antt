@@ -10,8 +10,7 @@ returns c =
     let step = c.args.step.now in
     let k = to_z w128 (of_z w128 step.k) in
     let same : k ≡ step.k = grind (arith, common_steps, to_z-of_z) in (
-      stepping_head g c.args.variables c.args.lows.now c.args.highs.now c.in_ok-low.low c.in_ok-high.high c.in_ok-low.ensures
-          c.in_ok-high.ensures step c.requires.step (step_above g c.args.variables step c.requires.step) c.in_ok-first.first
-          c.in_ok-first.ensures.0 k same _ refl,
-      c.in_ok-first.ensures.1,
+      stepping_head g c.args.variables c.args.lows.now c.args.highs.now step c.in_ok-low.low c.in_ok-high.high c.requires.step
+          (step_above g c.args.variables step c.requires.step) c.in_ok-low.ensures.0 c.in_ok-high.ensures k same _ refl,
+      c.in_ok-low.ensures.1,
     )

@@ -4,8 +4,8 @@ use Rattle.std.specs.List.{All}
 use Rattle.std.proofs.lemmas.Grind.{common_steps}
 use Rattle.isl_math.specs.Dot.{dot}
 use Rattle.isl_meter.specs.Gauge.{IsWithin}
-use Rattle.isl_bounds.proofs.HeadLaws.{multiple_over, multiple_value}
-use Rattle.isl_bounds.proofs.head.plus_multiple.Goals as goal
+use Rattle.isl_bounds.proofs.FirstLaws.{multiple_over, multiple_value}
+use Rattle.isl_bounds.proofs.first.plus_multiple.Goals as goal
 
 pub returns-clause-over : goal.returns-clause-over
 returns-clause-over c g n own long over within =

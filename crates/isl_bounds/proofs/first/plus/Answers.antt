@@ -3,8 +3,8 @@ use Rattle.std.specs.Int.{w128}
 use Rattle.std.proofs.lemmas.Grind.{common_steps}
 use Rattle.isl_meter.specs.Gauge.{IsWithin}
 use Rattle.isl_loop.specs.declared.tree.Expr.{out-Expr}
-use Rattle.isl_bounds.proofs.HeadLaws.{plus_over, plus_value}
-use Rattle.isl_bounds.proofs.head.plus.Goals as goal
+use Rattle.isl_bounds.proofs.FirstLaws.{plus_over, plus_value}
+use Rattle.isl_bounds.proofs.first.plus.Goals as goal
 
 pub returns : goal.returns
 returns c =

@@ -6,8 +6,8 @@ use Rattle.std.proofs.lemmas.Grind.{common_steps}
 use Rattle.isl_frame.proofs.SolvedLaws.{remove_long}
 use Rattle.isl_loop.specs.Formed.{IsExprOver}
 use Rattle.isl_piece.specs.declared.row.Row.{Row}
-use Rattle.isl_bounds.proofs.HeadLaws.{aligned_to, step_wide}
-use Rattle.isl_bounds.proofs.head.aligned.Goals as goal
+use Rattle.isl_bounds.proofs.FirstLaws.{aligned_to, step_wide}
+use Rattle.isl_bounds.proofs.first.aligned.Goals as goal
 
 pub returns : goal.returns
 returns c =
