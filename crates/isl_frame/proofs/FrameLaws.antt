@@ -122,12 +122,15 @@ variable_within g variables frame wide within =
 
 -- ---- from none on
 pub own_more : (variables : ℕ) (frame made : List Row) → IsOwnFrame variables frame → IsWithVariable variables frame made
-    → IsOwnFrame (variables + 1) made
-own_more variables frame made own more = record {
+    → made ≡ map widened frame ++ own_column variables ∷ [] → IsOwnFrame (variables + 1) made
+own_more variables frame made own more exact = record {
   framed = more.framed;
   columns = λ point long. at (λ p. columns_at made p ≡ p) point long
       (λ front x e. more.columns front x e ∙ ap (λ (xs : List ℤ). xs ++ x ∷ []) (own.columns front e));
   whole = λ point long. at (HoldRows made) point long (λ front x e. (more.whole front x e).1 (own.whole front e));
+  forms = rw exact (All-append (λ r. r.k ≡ pos 1) (map widened frame) (own_column variables ∷ [])
+      (All-map (λ r. r.k ≡ pos 1) widened frame (λ k d l. own.forms k d l))
+      (All-cons (λ r. r.k ≡ pos 1) (own_column variables) [] refl (All-nil (λ r. r.k ≡ pos 1))));
 }
   where
     at : (P : List ℤ → Type 0) (point : List ℤ) → length point ≡ variables + 1

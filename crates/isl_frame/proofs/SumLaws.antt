@@ -1,13 +1,13 @@
 -- Sums of columns, over the variables.
-use Rattle.std.proofs.Common.{◌≡◌, ◌↔◌, refl, sym, ap, ◌∙◌, subst, arith, ℕ, ◌+◌, ◌<◌, ◌≤◌, ℤ, pos, ◌+ℤ◌, ◌*ℤ◌, ◌<ℤ◌, List, length, get_or}
+use Rattle.std.proofs.Common.{◌≡◌, ◌≢◌, ◌↔◌, refl, sym, ap, ◌∙◌, subst, arith, ℕ, ◌+◌, ◌<◌, ◌≤◌, ℤ, pos, ◌+ℤ◌, ◌*ℤ◌, ◌<ℤ◌, List, length, get_or}
 use Rattle.std.proofs.Common.{take, [], ◌∷◌, ◌++◌, length-append}
 use Rattle.std.specs.List.{remove}
 use Rattle.std.specs.Prelude.{replicate}
-use Rattle.std.proofs.lemmas.List.{get_or-map, get_or_at, length-map, length-replicate, take_all}
+use Rattle.std.proofs.lemmas.List.{get_or_append_left, get_or-map, get_or_at, length-map, length-replicate, take_all}
 use Rattle.isl_math.specs.Divide as divide
 use Rattle.isl_math.specs.Divide.{floor_div, IsGcdOf}
 use Rattle.isl_math.specs.Dot.{dot}
-use Rattle.isl_math.proofs.DivideLaws.{divisor_positive, exact_quotient}
+use Rattle.isl_math.proofs.DivideLaws.{divisor_positive, exact_quotient, le_from_Divides}
 use Rattle.isl_math.proofs.DotLaws.{dot-append, dot-take_more, dot-zeros}
 use Rattle.isl_math.proofs.OrderLaws.{positive-*ℤ}
 use Rattle.isl_math.proofs.Ring.{expand, linear, *ℤ_assoc}
@@ -19,9 +19,9 @@ use Rattle.isl_piece.specs.Combine.{combination, scaled_divisor}
 use Rattle.isl_piece.specs.Row.{coef_at, value_at, HasModulus, HoldsRow, HoldsValue, IsRowWithin, IsWellFormed}
 use Rattle.isl_piece.specs.System.{HoldRows}
 use Rattle.isl_piece.proofs.CombineLaws.{combination_formed, holds_scaled, value_at-combination}
-use Rattle.isl_piece.proofs.NumberLaws.{positive-divided}
+use Rattle.isl_piece.proofs.NumberLaws.{positive-divided, quotient_one}
 use Rattle.isl_frame.specs.Frame.{column_at, columns_at, IsThrough, IsThroughBehind}
-use Rattle.isl_frame.proofs.SolvedLaws.{remove_long, rest_at, value_apart}
+use Rattle.isl_frame.proofs.SolvedLaws.{remove_long, rest_at, value_apart, without_last}
 use Rattle.isl_frame.specs.Sum.{IsSum, IsSumOf, IsSumWith}
 use Rattle.isl_frame.specs.declared.sum.Sum.{Sum}
 
@@ -46,6 +46,7 @@ sum_nothing variables row frame zeros sum e is one = record {
   width = ap (λ (r : Row). length r.coefs) is ∙ ap length e ∙ length-replicate variables (pos 0);
   kind = ap (λ (r : Row). r.kind) is;
   modulus = ap (λ (r : Row). r.k) is ∙ once row.kind row.k ∙ ap (λ m. scaled_divisor row.kind m row.k) (sym one);
+  forms = λ named. one;
   value = λ point h.
       let v : value_at sum.row point ≡ dot zeros point +ℤ row.constant = ap (λ (r : Row). value_at r point) is in
       let d : dot zeros point ≡ pos 0 = ap (λ cs. dot cs point) e ∙ dot-zeros variables point in
@@ -61,6 +62,7 @@ sum_same sum coef entry none = record {
   kind = refl;
   modulus = once sum.row.kind sum.row.k;
   scale = omega (arith, linear);
+  form = λ named. refl;
   value = λ point z h v.
       let n = ap (λ w. w *ℤ column_at point entry) none in
       v ∙ ap (λ w. sum.scale *ℤ w) (omega (arith, linear, n));
@@ -85,7 +87,15 @@ module _ (g : Gauge) (sum : Sum) (is : IsSum g sum) (coef : ℤ) (entry : Row) (
   by_positive : pos 0 <ℤ by
   by_positive = positive-divided common entry.k common_positive modulus gcd.second
 
-  module _ (new : Sum) (row : new.row ≡ combination by sum.row (coef *ℤ quotient) entry) (scale : new.scale ≡ by *ℤ sum.scale) where
+  by_one : entry.k ≡ pos 1 → by ≡ pos 1
+  by_one e =
+      let few = le_from_Divides common entry.k modulus gcd.second in
+      let some = common_positive in
+      let one : common ≡ pos 1 = omega (arith, linear, few, some, e) in
+      ap (λ k. floor_div k common) e ∙ ap (floor_div (pos 1)) one ∙ quotient_one (pos 1)
+
+  module _ (some : coef ≢ pos 0) (new : Sum) (row : new.row ≡ combination by sum.row (coef *ℤ quotient) entry)
+      (scale : new.scale ≡ by *ℤ sum.scale) where
     sum_more : IsSumWith sum coef entry new
     sum_more = record {
       by = by;
@@ -95,6 +105,7 @@ module _ (g : Gauge) (sum : Sum) (is : IsSum g sum) (coef : ℤ) (entry : Row) (
       kind = ap (λ (r : Row). r.kind) row;
       modulus = ap (λ (r : Row). r.k) row;
       scale = scale;
+      form = λ named. by_one (named some);
       value = λ point z h v.
           let d : divide.Divides entry.k (value_at entry point) =
           subst (λ (kind : RowKind). HoldsValue kind entry.k (value_at entry point)) divides h in
@@ -133,6 +144,10 @@ module _ (variables : ℕ) (row : Row) (frame : List Row) where
     modulus = more.modulus ∙ ap (λ kind. scaled_divisor kind more.by sum.row.k) so_far.kind
         ∙ ap (λ k. scaled_divisor row.kind more.by k) so_far.modulus ∙ twice row.kind more.by sum.scale row.k
         ∙ ap (λ m. scaled_divisor row.kind m row.k) (sym more.scale);
+    forms = λ named.
+        let first = so_far.forms (λ k d l. named k d (omega (arith, l))) in
+        let by = more.form (λ some. ap (λ (r : Row). r.k) at ∙ named i entry (omega arith) (λ z. some (read ∙ z))) in
+        more.scale ∙ ap (λ z. z *ℤ sum.scale) by ∙ ap (λ z. pos 1 *ℤ z) first;
     value = λ point h.
         let here : HoldsRow entry point = subst (λ (r : Row). HoldsRow r point) (sym at) (h i entry low) in
         let columns = columns_at frame point in
@@ -230,7 +245,25 @@ module _ (variables : ℕ) (row : Row) (frame : List Row) (formed : IsWellFormed
       scale = sum.scale;
       positive = is.positive;
       last = ap (λ (r : Row). coef_at r variables) made_is ∙ get_or_at sum.row.coefs product [] (pos 0) variables all.width;
+      forms = λ named.
+          let one : sum.scale ≡ pos 1 = all.forms (λ k d l some. named k d l (λ z. some (front_coef k l ∙ z))) in
+          let last = ap (λ (r : Row). coef_at r variables) made_is ∙ get_or_at sum.row.coefs product [] (pos 0) variables all.width in (
+            ap (λ (r : Row). r.k) made_is ∙ all.modulus ∙ ap (λ (r : Row). scaled_divisor r.kind sum.scale r.k) front_is
+                ∙ ap (λ m. scaled_divisor row.kind m row.k) one ∙ sym (once row.kind row.k),
+            last ∙ ap (λ m. m *ℤ coef_at row (length frame)) one ∙ times_one (coef_at row (length frame)),
+          );
     }
       where
+        times_one : (c : ℤ) → pos 1 *ℤ c ≡ c
+        times_one c = omega (arith, linear)
+
+        front_coef : (k : ℕ) → k < length frame → coef_at front k ≡ coef_at row k
+        front_coef k low =
+            let rest = remove row.coefs (length frame) in
+            let long = remove_long row.coefs (length frame) formed.width in
+            ap (λ (r : Row). coef_at r k) front_is
+            ∙ sym (ap (λ (cs : List ℤ). get_or cs k (pos 0)) (without_last row.coefs (length frame) formed.width)
+            ∙ get_or_append_left rest (get_or row.coefs (length frame) (pos 0) ∷ []) (pos 0) k (omega (arith, low, long)))
+
         moved : (a b : RowKind) (k l v w : ℤ) (P : Type 0) → a ≡ b → k ≡ l → v ≡ w → HoldsValue b l w ↔ P → HoldsValue a k v ↔ P
         moved a b k l v w P e f h t = rw (e, f, h) t

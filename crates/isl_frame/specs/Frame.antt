@@ -1,6 +1,7 @@
 -- public: frames: columns as quotients of forms over the variables in scope, and rows over them. (Feautrier, on unimodular changes of
 -- variables; isl manual, on schedules)
-use Rattle.std.specs.Prelude.{◌≡◌, ◌↔◌, ℕ, ◌+◌, ℤ, pos, neg_ℤ, ◌*ℤ◌, ◌<ℤ◌, List, [], ◌∷◌, ◌++◌, All, length, map, replicate}
+use Rattle.std.specs.Prelude.{◌≡◌, ◌≢◌, ◌↔◌, ℕ, ◌+◌, ◌<◌, ℤ, pos, neg_ℤ, ◌*ℤ◌, ◌<ℤ◌, List, [], ◌∷◌, ◌++◌, All, length, map, replicate}
+use Rattle.std.specs.Prelude.{slice_index_or}
 use Rattle.std.specs.List.{remove}
 use Rattle.isl_math.specs.Divide.{floor_div}
 use Rattle.isl_math.specs.Dot.{scaled}
@@ -23,6 +24,10 @@ column_at point entry = floor_div (value_at entry point) entry.k
 abbrev pub columns_at : List Row → List ℤ → List ℤ
 columns_at frame point = map (column_at point) frame
 
+-- the columns that the row names are forms: their moduli are 1
+abbrev pub NamesForms : List Row → Row → Type 0
+NamesForms frame r = (at : ℕ) (d : Row) → at < length frame → coef_at r at ≢ pos 0 → (slice_index_or frame at d).k ≡ pos 1
+
 -- the row over the variables says what the other says of the columns, wherever these are whole
 pub record IsThrough (variables : ℕ) (row : Row) (frame : List Row) (made : Row) : Type 0 where
   pub formed : IsWellFormed variables made
@@ -30,7 +35,7 @@ pub record IsThrough (variables : ℕ) (row : Row) (frame : List Row) (made : Ro
   pub points : (point : List ℤ) → HoldRows frame point → HoldsRow made point ↔ HoldsRow row (columns_at frame point)
 
 -- The row over the variables and one column behind them says what the other says of the columns and that one, wherever the columns are
--- whole; and that one's coefficient has the same sign.
+-- whole; and that one's coefficient has the same sign. Where the other names forms alone, that coefficient and the modulus are the same.
 pub record IsThroughBehind (variables : ℕ) (row : Row) (frame : List Row) (made : Row) : Type 0 where
   pub formed : IsWellFormed (variables + 1) made
   pub kind : made.kind ≡ row.kind
@@ -39,6 +44,7 @@ pub record IsThroughBehind (variables : ℕ) (row : Row) (frame : List Row) (mad
   pub scale : ℤ
   pub positive : pos 0 <ℤ scale
   pub last : coef_at made variables ≡ scale *ℤ coef_at row (length frame)
+  pub forms : NamesForms frame row → (made.k ≡ row.k) × (coef_at made variables ≡ coef_at row (length frame))
 
 -- the row's form but for the last column, with the sign at which c x + f is |c| x - f or its negative, and |c| as the modulus
 abbrev pub isolated : ℕ → Row → Row
@@ -69,8 +75,9 @@ pub record IsWithVariable (variables : ℕ) (frame made : List Row) : Type 0 whe
   pub columns : (point : List ℤ) (x : ℤ) → length point ≡ variables → columns_at made (point ++ x ∷ []) ≡ columns_at frame point ++ x ∷ []
   pub whole : (point : List ℤ) (x : ℤ) → length point ≡ variables → HoldRows made (point ++ x ∷ []) ↔ HoldRows frame point
 
--- the frame whose columns are the variables
+-- the frame whose columns are the variables, as forms
 pub record IsOwnFrame (variables : ℕ) (frame : List Row) : Type 0 where
   pub framed : IsFrame variables frame
   pub columns : (point : List ℤ) → length point ≡ variables → columns_at frame point ≡ point
   pub whole : (point : List ℤ) → length point ≡ variables → HoldRows frame point
+  pub forms : All (λ r. r.k ≡ pos 1) frame

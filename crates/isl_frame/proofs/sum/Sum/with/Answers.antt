@@ -1,4 +1,4 @@
-use Rattle.std.proofs.Common.{◌≡◌, refl, true, arith}
+use Rattle.std.proofs.Common.{◌≡◌, ◌≢◌, refl, true, arith, pos}
 use Rattle.std.proofs.lemmas.Grind.{common_steps}
 use Rattle.isl_meter.specs.Gauge.{IsWithin}
 use Rattle.isl_piece.specs.Row.{IsRowWithin}
@@ -17,6 +17,7 @@ floor_div-by-requires-clause-divisor c =
 
 pub returns : goal.returns
 returns c =
+    let some : c.args.coef ≢ pos 0 = grind (arith, common_steps) in
     let scale = c.in_ok-scale.ensures.0 in
     let times = c.in_ok-times.ensures.0 in
     let row = c.in_ok-row.ensures.exact.0.0 in
@@ -27,7 +28,7 @@ returns c =
     let within : IsRowWithin c.args.meter.now c.in_ok-row.row = grind (arith, common_steps) in
     let small : IsWithin c.args.meter.now c.in_ok-scale.scale = grind (arith, common_steps) in (
       sum_with c.args.meter.now c.args.self c.requires.sum c.args.coef c.args.entry.now c.requires.divides.0 c.requires.divides.1
-          c.requires.width c.gcd-common.result (rw c.modulus.ensures at c.gcd-common.ensures.value)
+          c.requires.width c.gcd-common.result (rw c.modulus.ensures at c.gcd-common.ensures.value) some
           (record { row = c.in_ok-row.row; scale = c.in_ok-scale.scale }) (cc) (cc) within small,
       meter,
     )
