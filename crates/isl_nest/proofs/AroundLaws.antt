@@ -1,6 +1,6 @@
 -- Loops between bounds, as rows.
 use Rattle.std.proofs.Common.{◌≡◌, ◌↔◌, refl, sym, ap, ◌∙◌, subst, arith, ℕ, ◌+◌, ◌^◌, ◌<◌, ℤ, List, [], ◌∷◌, ◌++◌}
-use Rattle.std.proofs.Common.{length, length-append, get_or, Option, None, Some}
+use Rattle.std.proofs.Common.{length, length-append, get_or, IsNone, Option, None, Some}
 use Rattle.std.specs.Prelude.{map, unsigned_abs, IfSome}
 use Rattle.std.specs.List.{All, Any, Contains}
 use Rattle.std.proofs.lemmas.List.Elements.{All-append, All-cons, All-contains, All-head, All-nil, All-weaker}
@@ -8,7 +8,7 @@ use Rattle.isl_math.proofs.ListLaws.{Any-element, Any-none, Any-one}
 use Rattle.isl_meter.specs.Gauge.{Gauge, IsCharged, IsWithin}
 use Rattle.isl_piece.specs.declared.row.Row.{Row}
 use Rattle.isl_piece.specs.Row.{HoldsRow, IsRowWithin, IsWellFormed}
-use Rattle.isl_piece.specs.Normal.{normal_row, Kept}
+use Rattle.isl_piece.specs.Normal.{normal_row, normal_rows, Kept}
 use Rattle.isl_piece.specs.System.{HoldRows, widened}
 use Rattle.isl_piece.proofs.DefinedLaws.{widened_hold}
 use Rattle.isl_frame.specs.Frame.{columns_at}
@@ -32,7 +32,8 @@ use Rattle.isl_nest.specs.declared.sides.Sides.{Sides}
 use Rattle.isl_nest.specs.Around.{turns_at, AreSides, IsAround, IsAroundNothing}
 use Rattle.isl_nest.specs.Places.{AreEndsThrough, AreGuards, IsPlace}
 use Rattle.isl_nest.specs.Between.{IsBetween}
-use Rattle.isl_nest.specs.Stepping.{only_of, steps_of, IsStepAmong}
+use Rattle.isl_nest.specs.Stepping.{only_of, steps_of, IsStepAmong, TellOneStep, TellsStep}
+use Rattle.isl_nest.proofs.StridingLaws.{one_step}
 
 -- ---- the limit stays
 pub charged_bits : (g h : Gauge) → IsCharged g h → h.bits ≡ g.bits
@@ -115,6 +116,14 @@ module _ (g : Gauge) (variables : ℕ) (others : List Row) where
       All-cons (λ r. HoldsRow r point) s [] ((is.2.points point).1 (All-contains (λ r. HoldsRow r point) others is.0 h is.1))
       (All-nil (λ r. HoldsRow r point))
 
+  -- where the others tell one step, all of them hold where that which is found does
+  step_tells : (step : Option Row) → IfSome step (IsStepAmong g variables others) → (IsNone step → All (λ r. ¬ TellsStep variables r) others)
+      → (point : List ℤ) → TellOneStep variables others point → HoldRows (steps_of step) point → HoldRows others point
+  step_tells None is none point one h = λ k d l. absurd (none refl k d l (one.each k d l))
+  step_tells (Some s) is none point one h = λ k d l.
+      All-contains (λ r. All (λ t. HoldsRow r point → HoldsRow t point) others) others is.0 one.agree is.1 k d l
+      ((is.2.points point).0 (All-head (λ r. HoldsRow r point) s [] h))
+
   pub step_over : (step : Option Row) → IfSome step (IsStepAmong g variables others) → AreRowsOver g (variables + 1) (steps_of step)
   step_over None is = record { formed = All-nil (IsWellFormed (variables + 1)); within = All-nil (IsRowWithin g) }
   step_over (Some s) is = record {
@@ -126,7 +135,8 @@ module _ (g : Gauge) (variables : ℕ) (others : List Row) where
 module _ (g h : Gauge) (same : h.bits ≡ g.bits) (place : Place) (is : IsPlace g place) (sides : Sides) (others : List Row)
     (ok : AreGuards g (place.variables + 1) others) (lows_ok : AreEndGroups g place.variables Low sides.lows.items)
     (highs_ok : AreEndGroups g place.variables High sides.highs.items) (step : Option Row)
-    (steps : IfSome step (IsStepAmong g place.variables others)) (lows highs : List (List Row)) (context : List Row)
+    (steps : IfSome step (IsStepAmong g place.variables others)) (none : IsNone step → All (λ r. ¬ TellsStep place.variables r) others)
+    (lows highs : List (List Row)) (context : List Row)
     (context_is : context ≡ map widened place.context)
     (fewer_lows : AreFewer (place.variables + 1) context sides.lows.items lows)
     (fewer_highs : AreFewer (place.variables + 1) context sides.highs.items highs) where
@@ -202,14 +212,19 @@ module _ (g h : Gauge) (same : h.bits ≡ g.bits) (place : Place) (is : IsPlace 
             (needed.points p (long point x e) (known_holds point x e holds turn)).0 guarded,
           );
       known = inside_holds;
+      full = λ point x e holds turn one.
+          let p = point ++ x ∷ [] in
+          let t = (head_is.turns point x e).0 turn in
+          (needed.points p (long point x e) (known_holds point x e holds turn)).1
+          (step_tells g place.variables others step steps none p one t.2);
     })
 
 -- ---- around a column
 module _ (g : Gauge) (place : Place) (own : List Row) (systems : List (List Row)) (ends : Ends) (told : AreEndsThrough g place own ends) where
   pub around_is : (sides : Sides) (others : List Row) (around : Around) → AreSides g place ends systems sides
-      → ((point : List ℤ) → HoldRows others point ↔ HoldRows ends.others point) → IsBetween g place sides others around
+      → normal_rows ends.others ≡ Some others → ((point : List ℤ) → HoldRows others point ↔ HoldRows ends.others point) → IsBetween g place sides others around
       → IsAround g place own systems around
-  around_is sides others around is same between = record {
+  around_is sides others around is normal same between = record {
     over = between.over;
     cover = λ point x stands holds some.
         let t = (told.points point x stands).0 holds in
@@ -220,6 +235,8 @@ module _ (g : Gauge) (place : Place) (own : List Row) (systems : List (List Row)
         (told.points point x stands).1
         (is.low (point ++ x ∷ []) t.0, is.high (point ++ x ∷ []) t.1, (same (point ++ x ∷ [])).0 t.2);
     known = between.known;
+    full = λ are_own striding point x stands turn. between.full point x stands.width stands.context turn
+        (one_step place own are_own striding ends.others others normal told.from told.others.formed point x stands);
   }
 
   pub around_never : ((point : List ℤ) → ¬ HoldRows ends.others point) → IsAroundNothing place own systems

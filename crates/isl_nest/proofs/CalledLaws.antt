@@ -73,6 +73,9 @@ call_is item place exprs tree g i e end is = rw e (
         let same : map (λ x. expr_value x point) exprs ≡ map (λ at. get_or columns at (pos 0)) item.arguments =
         is.values point here.width ∙ ap (map (λ at. get_or columns at (pos 0))) (take_all i item.arguments end) in
         rw same refl;
+    turned = λ point. refl;
+    idle = λ point. refl;
+    depth = refl;
   },
   is.over,
 )

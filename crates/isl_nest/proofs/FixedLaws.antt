@@ -25,7 +25,7 @@ use Rattle.isl_nest.specs.declared.place.Place.{Place}
 use Rattle.isl_nest.specs.Nest.{with_entry, IsFixedAt, IsHere, ListsNest}
 
 -- ---- columns that are not named
-none_named : (c : ℤ) (n : ℕ) → counted c n ≤ 0 → (c ≡ pos 0) × (n ≡ 0)
+pub none_named : (c : ℤ) (n : ℕ) → counted c n ≤ 0 → (c ≡ pos 0) × (n ≡ 0)
 none_named c zero h = (test (int_eq c (pos 0)) refl h, refl)
   where
     test : (b : Bool) → int_eq c (pos 0) ≡ b → (if b then 0 else 1) ≤ 0 → c ≡ pos 0
@@ -33,7 +33,7 @@ none_named c zero h = (test (int_eq c (pos 0)) refl h, refl)
     test false e h = absurd (omega (arith, h))
 none_named c (suc n) h = absurd (omega (arith, h))
 
-fewer_named : (c : ℤ) (n m : ℕ) → counted c n ≤ suc m → n ≤ m
+pub fewer_named : (c : ℤ) (n m : ℕ) → counted c n ≤ suc m → n ≤ m
 fewer_named c zero m h = omega arith
 fewer_named c (suc n) m h = omega (arith, h)
 

@@ -1,6 +1,7 @@
 pub mod AroundLaws
 pub mod BehindLaws
 pub mod CallLaws
+pub mod CountLaws
 pub mod FixedLaws
 pub mod LoopedLaws
 pub mod MadeLaws
@@ -8,6 +9,7 @@ pub mod NamingLaws
 pub mod NestLaws
 pub mod PlaceLaws
 pub mod SidesLaws
+pub mod StridingLaws
 pub mod ToldLaws
 pub mod CalledLaws
 pub mod LevelLaws

@@ -21,7 +21,7 @@ use Rattle.isl_nest.specs.declared.place.Place.{Place}
 use Rattle.isl_nest.specs.declared.told.Told.{Told}
 use Rattle.isl_nest.specs.Around.{turns_at, IsAround, IsAroundNothing}
 use Rattle.isl_nest.specs.Covered.{IsCover}
-use Rattle.isl_nest.specs.Equality.{IsSaidBy}
+use Rattle.isl_nest.specs.Equality.{IsSaidBy, MayTell}
 use Rattle.isl_nest.specs.Item.{HoldOwn, IsBegun, ItemView}
 use Rattle.isl_nest.specs.LoopedNest.{IsLoopedNest}
 use Rattle.isl_nest.specs.Naming.{AreNaming}
@@ -33,6 +33,7 @@ use Rattle.isl_nest.proofs.FixedLaws.{begun_own, here_entry}
 use Rattle.isl_nest.proofs.LoopedLaws.{here_inside}
 use Rattle.isl_nest.proofs.NamingLaws.{own_holds}
 use Rattle.isl_nest.proofs.PlaceLaws.{here_stands}
+use Rattle.isl_nest.proofs.StridingLaws.{own_named, own_striding}
 
 module _ (g : Gauge) (item : ItemView) (place : Place) (is_place : IsPlace g place) (room : length place.frame < item.params + item.levels)
     (own : List Row) (naming : AreNaming (length place.frame + 1) (length place.frame + 1) item.rows own) (systems : List (List Row))
@@ -70,7 +71,7 @@ module _ (g : Gauge) (item : ItemView) (place : Place) (is_place : IsPlace g pla
         let h = begun_holds point y.0 y.1 in
         none point y.0 (here_stands item place point here) (said (columns_at place.frame point ++ y.0 ∷ []) h.0 h.1) h.0
 
-    module _ (told : Told) (is : IsTold g place equality own told) where
+    module _ (told : Told) (is : IsTold g place equality own told) (may : MayTell item place equality) where
       pub fixed_at : IsFixedAt item place told.entry told.rows
       fixed_at = record {
         framed = is.framed;
@@ -85,6 +86,7 @@ module _ (g : Gauge) (item : ItemView) (place : Place) (is_place : IsPlace g pla
         own = λ point here holds.
             let h = (is.rows point (here_stands item place point here)).0 holds in
             (h.0, own_at point (column_at point told.entry) h.1);
+        form = elim may [ inl form ↦ inl (is.form form) | inr other ↦ inr other ];
       }
 
       pub fixed_nowhere : IsNowhere item (with_entry place told.entry told.rows) → IsNowhere item place
@@ -123,6 +125,9 @@ module _ (g : Gauge) (item : ItemView) (place : Place) (is_place : IsPlace g pla
           is.cover point x (here_stands item place point here) h.0 h.1;
       own = λ point x here turn guarded. own_at point x (is.own point x (here_stands item place point here) turn guarded);
       known = is.known;
+      full = λ striding point x here turn.
+          is.full (own_named place.frame item.rows own naming) (own_striding place.frame item.rows own naming striding) point x
+          (here_stands item place point here) turn;
     }
 
     pub looped_nowhere : (rows : List Row) → rows ≡ around.inside ++ around.guards → IsNowhere item (with_loop place rows)
@@ -151,6 +156,9 @@ module _ (g : Gauge) (item : ItemView) (place : Place) (is_place : IsPlace g pla
         loop = record {
           calls = λ point here. tree.calls point;
           none = λ point empty. tree.calls point ∙ ap (each_in (at_turn body point)) empty;
+          turned = tree.turned;
+          idle = tree.idle;
+          depth = tree.depth;
         }
 
         there : IsNest item left (with_loop place (made.inside ++ around.guards)) body

@@ -2,7 +2,7 @@
 use Rattle.std.proofs.Common.{◌≡◌, ◌≢◌, ◌↔◌, ◌⊎◌, inl, inr, refl, sym, ap, ◌∙◌, subst, arith, Bool, true, false, ℕ, suc, ◌+◌, ◌<◌, ◌≤◌}
 use Rattle.std.proofs.Common.{ℤ, pos, ◌+ℤ◌, ◌*ℤ◌, List, [], ◌∷◌, ◌++◌, length, get_or, take}
 use Rattle.std.specs.Prelude.{if◌then◌else◌}
-use Rattle.std.specs.List.{All, Contains}
+use Rattle.std.specs.List.{All}
 use Rattle.std.specs.Ordering.{int_eq}
 use Rattle.std.proofs.lemmas.Bool.Decides.{Decides-int_eq}
 use Rattle.std.proofs.lemmas.List.{length-take-le, take_more}
@@ -16,7 +16,7 @@ use Rattle.isl_piece.specs.Row.{HoldsRow, IsRowWithin, IsWellFormed}
 use Rattle.isl_piece.specs.System.{HoldRows}
 use Rattle.isl_frame.specs.Needed.{AreRowsOver}
 use Rattle.isl_nest.specs.Item.{counted, named, HoldFront, HoldOwn}
-use Rattle.isl_nest.specs.Naming.{cut, AreNaming}
+use Rattle.isl_nest.specs.Naming.{cut, AreNaming, IsCutOf}
 
 -- ---- the last that is named
 pub named_zero : (cs : List ℤ) (c : ℤ) → c ≡ pos 0 → named (cs ++ c ∷ []) ≡ named cs
@@ -66,15 +66,16 @@ module _ (least columns : ℕ) (rows own : List Row) (r : Row) (is : AreNaming l
   Asked front row = least ≤ named row.coefs → named row.coefs ≤ columns → HoldsRow row front
 
   abbrev Comes : List Row → Row → Type 0
-  Comes from row = (whole : Row) × Contains from whole × (row ≡ cut columns whole)
+  Comes from row = IsCutOf least columns from row
 
   kept : All (Comes (rows ++ r ∷ [])) own
-  kept = All-weaker (Comes rows) (Comes (rows ++ r ∷ [])) (λ row c. (c.0, Contains-append_left rows (r ∷ []) c.0 c.1, c.2)) own is.each
+  kept = All-weaker (Comes rows) (Comes (rows ++ r ∷ []))
+      (λ row c. (c.0, Contains-append_left rows (r ∷ []) c.0 c.1, c.2, c.3, c.4)) own is.each
 
   pub naming_more : least ≤ named r.coefs → named r.coefs ≤ columns → AreNaming least columns (rows ++ r ∷ []) (own ++ cut columns r ∷ [])
   naming_more low high = record {
     each = All-append (Comes (rows ++ r ∷ [])) own (cut columns r ∷ []) kept
-        (All-cons (Comes (rows ++ r ∷ [])) (cut columns r) [] (r, Contains-push rows r, refl) (All-nil (Comes (rows ++ r ∷ []))));
+        (All-cons (Comes (rows ++ r ∷ [])) (cut columns r) [] (r, Contains-push rows r, refl, low, high) (All-nil (Comes (rows ++ r ∷ []))));
     points = λ front e.
         let H : Row → Type 0 = λ row. HoldsRow row front in
         let A : Row → Type 0 = Asked front in
@@ -104,7 +105,7 @@ module _ (least columns : ℕ) (rows own : List Row) (r : Row) (is : AreNaming l
 
 pub naming_none : (least columns : ℕ) → AreNaming least columns [] []
 naming_none least columns = record {
-  each = All-nil (λ r. (whole : Row) × Contains [] whole × (r ≡ cut columns whole));
+  each = All-nil (IsCutOf least columns []);
   points = λ front e. (
     (λ h. All-nil (λ r. least ≤ named r.coefs → named r.coefs ≤ columns → HoldsRow r front)),
     (λ h. All-nil (λ r. HoldsRow r front)),
@@ -132,24 +133,21 @@ front_holds rows own columns is front e =
       (λ h. first.1 (All-weaker F A (λ r o a b. o (omega (arith, e, b))) rows h)),
     )
 
-abbrev IsCutOf : ℕ → List Row → Row → Type 0
-IsCutOf columns rows r = (whole : Row) × Contains rows whole × (r ≡ cut columns whole)
-
 pub naming_over : (g : Gauge) (least columns all : ℕ) (rows own : List Row) → columns ≤ all → AreNaming least columns rows own
     → AreRowsOver g all rows → AreRowsOver g columns own
 naming_over g least columns all rows own few is over = record {
-  formed = All-weaker (IsCutOf columns rows) (IsWellFormed columns) formed own is.each;
-  within = All-weaker (IsCutOf columns rows) (IsRowWithin g) within own is.each;
+  formed = All-weaker (IsCutOf least columns rows) (IsWellFormed columns) formed own is.each;
+  within = All-weaker (IsCutOf least columns rows) (IsRowWithin g) within own is.each;
 }
   where
-    formed : (r : Row) → IsCutOf columns rows r → IsWellFormed columns r
+    formed : (r : Row) → IsCutOf least columns rows r → IsWellFormed columns r
     formed r c =
         let w = All-contains (IsWellFormed all) rows c.0 over.formed c.1 in
         let wide = w.width in
         subst (IsWellFormed columns) (sym c.2)
         (record { width = length-take-le columns c.0.coefs (omega (arith, wide, few)); modulus = w.modulus })
 
-    within : (r : Row) → IsCutOf columns rows r → IsRowWithin g r
+    within : (r : Row) → IsCutOf least columns rows r → IsRowWithin g r
     within r c =
         let w = All-contains (IsRowWithin g) rows c.0 over.within c.1 in
         subst (IsRowWithin g) (sym c.2)

@@ -1,7 +1,7 @@
 -- Trees under rows, and a body in a loop.
-use Rattle.std.proofs.Common.{◌≡◌, ◌∙◌, refl, sym, ap, ℕ, ◌+◌, ℤ, pos, ◌<ℤ◌, List, [], ◌∷◌, ◌++◌}
+use Rattle.std.proofs.Common.{◌≡◌, ◌∙◌, refl, sym, ap, ℕ, suc, ◌+◌, ℤ, pos, ◌<ℤ◌, List, [], ◌∷◌, ◌++◌}
 use Rattle.std.specs.Prelude.{if◌then◌else◌}
-use Rattle.std.specs.List.{All}
+use Rattle.std.specs.List.{All, sum_by}
 use Rattle.std.proofs.lemmas.List.Elements.{All-append, All-nil}
 use Rattle.isl_meter.specs.Gauge.{Gauge, IsWithin}
 use Rattle.isl_piece.specs.declared.row.Row.{Row}
@@ -12,12 +12,15 @@ use Rattle.isl_loop.specs.declared.tree.Expr.{Expr}
 use Rattle.isl_loop.specs.declared.tree.Loop.{For, If, Loop}
 use Rattle.isl_loop.specs.Expr.{expr_value}
 use Rattle.isl_loop.specs.Formed.{IsExprOver, IsLoopOver, IsRowOver}
-use Rattle.isl_loop.specs.Run.{each_in, rows_hold, trace, Event}
+use Rattle.isl_loop.specs.Run.{each_in, idle_of, idle_turn, rows_hold, trace, turns_of, Event}
 use Rattle.isl_loop.specs.Turns.{turns}
 use Rattle.isl_loop.proofs.TreeLaws.{trace_of-For, trace_of-If}
 use Rattle.isl_nest.specs.declared.around.Around.{Around}
 use Rattle.isl_nest.specs.declared.nested.Nested.{Nested}
 use Rattle.isl_nest.specs.Around.{turns_at}
+use Rattle.isl_nest.specs.Depth.{depth_of}
+use Rattle.isl_nest.specs.TurnsAt.{idle_at_turn, turns_at_turn}
+use Rattle.isl_nest.proofs.CountLaws.{sum_same}
 use Rattle.isl_nest.specs.LoopedNest.{IsLoopedNest}
 use Rattle.isl_nest.specs.Places.{AreGuards}
 
@@ -45,21 +48,51 @@ each_equal : (f h : ℤ → List Event) (xs : List ℤ) → ((x : ℤ) → f x �
 each_equal f h [] same = refl
 each_equal f h (x ∷ xs) same = rw (same x, each_equal f h xs same) refl
 
-pub looped_is : (around : Around) (body nested : Nested) (rows : List Row) (tree : Loop) → rows ≡ around.guards ++ body.rows
-    → ((point : List ℤ) → trace tree point ≡ (if rows_hold rows point then trace body.tree point else []))
-    → ((point : List ℤ) → trace nested.tree point ≡ each_in (λ x. trace tree (point ++ x ∷ [])) (turns_at around.head point))
-    → nested.rows ≡ [] → nested.inside ≡ around.inside → IsLoopedNest around body nested
-looped_is around body nested rows tree rows_are inner outer bare inside = record {
-  rows = bare;
-  inside = inside;
-  calls = λ point.
-      outer point
-      ∙ each_equal (λ x. trace tree (point ++ x ∷ []))
-      (λ x. if rows_hold (around.guards ++ body.rows) (point ++ x ∷ []) then trace body.tree (point ++ x ∷ []) else [])
-      (turns_at around.head point)
-      (λ x. inner (point ++ x ∷ [])
-      ∙ ap (λ (rs : List Row). if rows_hold rs (point ++ x ∷ []) then trace body.tree (point ++ x ∷ []) else []) rows_are);
-}
+module _ (around : Around) (body nested : Nested) (rows : List Row) (tree : Loop) (rows_are : rows ≡ around.guards ++ body.rows)
+    (inner : (point : List ℤ) → trace tree point ≡ (if rows_hold rows point then trace body.tree point else []))
+    (outer : (point : List ℤ) → trace nested.tree point ≡ each_in (λ x. trace tree (point ++ x ∷ [])) (turns_at around.head point)) where
+  called : (point : List ℤ) → trace tree point ≡ (if rows_hold (around.guards ++ body.rows) point then trace body.tree point else [])
+  called point = inner point ∙ ap (λ (rs : List Row). if rows_hold rs point then trace body.tree point else []) rows_are
+
+  counted : (n : ℕ) (m : ℕ) (point : List ℤ) → n ≡ (if rows_hold rows point then m else 0)
+      → n ≡ (if rows_hold (around.guards ++ body.rows) point then m else 0)
+  counted n m point e = e ∙ ap (λ (rs : List Row). if rows_hold rs point then m else 0) rows_are
+
+  pub looped_is : ((point : List ℤ) → turns_of tree point ≡ (if rows_hold rows point then turns_of body.tree point else 0))
+      → ((point : List ℤ) → idle_of tree point ≡ (if rows_hold rows point then idle_of body.tree point else 0))
+      → depth_of tree ≡ depth_of body.tree
+      → ((point : List ℤ) → turns_of nested.tree point ≡ sum_by (λ x. 1 + turns_of tree (point ++ x ∷ [])) (turns_at around.head point))
+      → ((point : List ℤ) → idle_of nested.tree point
+      ≡ sum_by (λ x. idle_turn (trace tree (point ++ x ∷ [])) + idle_of tree (point ++ x ∷ [])) (turns_at around.head point))
+      → depth_of nested.tree ≡ suc (depth_of tree) → nested.rows ≡ [] → nested.inside ≡ around.inside → IsLoopedNest around body nested
+  looped_is turned idle deep all_turned all_idle deeper bare inside = record {
+    rows = bare;
+    inside = inside;
+    calls = λ point.
+        outer point
+        ∙ each_equal (λ x. trace tree (point ++ x ∷ []))
+        (λ x. if rows_hold (around.guards ++ body.rows) (point ++ x ∷ []) then trace body.tree (point ++ x ∷ []) else [])
+        (turns_at around.head point) (λ x. called (point ++ x ∷ []));
+    turned = λ point.
+        all_turned point
+        ∙ sum_same (λ x. 1 + turns_of tree (point ++ x ∷ []))
+        (λ x. turns_at_turn (around.guards ++ body.rows) body.tree (point ++ x ∷ [])) (turns_at around.head point)
+        (λ x. ap (λ (n : ℕ). 1 + n)
+        (counted (turns_of tree (point ++ x ∷ [])) (turns_of body.tree (point ++ x ∷ [])) (point ++ x ∷ []) (turned (point ++ x ∷ []))));
+    idle = λ point.
+        all_idle point
+        ∙ sum_same (λ x. idle_turn (trace tree (point ++ x ∷ [])) + idle_of tree (point ++ x ∷ []))
+        (λ x. idle_at_turn (around.guards ++ body.rows) body.tree (point ++ x ∷ [])) (turns_at around.head point)
+        (λ x. idle_same (point ++ x ∷ []));
+    depth = deeper ∙ ap suc deep;
+  }
+    where
+      idle_same : (point : List ℤ) → idle_turn (trace tree point) + idle_of tree point
+          ≡ idle_at_turn (around.guards ++ body.rows) body.tree point
+      idle_same point =
+          ap (λ (es : List Event). idle_turn es + idle_of tree point) (called point)
+          ∙ ap (λ (n : ℕ). idle_turn (if rows_hold (around.guards ++ body.rows) point then trace body.tree point else []) + n)
+          (counted (idle_of tree point) (idle_of body.tree point) point (idle point))
 
 rows_over : (g : Gauge) (n : ℕ) (rows : List Row) → AreGuards g n rows → All (IsRowOver g n) rows
 rows_over g n rows is = λ k d l. record { shape = is.over.formed k d l; within = is.over.within k d l; normal = is.normal k d l }

@@ -1,5 +1,5 @@
 -- An item alone behind a place.
-use Rattle.std.proofs.Common.{◌≡◌, ◌↔◌, refl, sym, ap, ◌∙◌, subst, Bool, true, false, ℕ, ◌+◌, ◌≤◌, ℤ, List, []}
+use Rattle.std.proofs.Common.{◌≡◌, ◌↔◌, inr, refl, sym, ap, ◌∙◌, subst, Bool, true, false, ℕ, ◌+◌, ◌≤◌, ℤ, List, []}
 use Rattle.std.proofs.Common.{◌++◌, length}
 use Rattle.std.specs.Prelude.{if◌then◌else◌}
 use Rattle.std.specs.List.{All, AllZip}
@@ -18,28 +18,25 @@ use Rattle.isl_frame.specs.Needed.{AreRowsOver, IsNeeded}
 use Rattle.isl_frame.proofs.NeededLaws.{kept_have, over_some}
 use Rattle.isl_loop.specs.declared.tree.Loop.{Block, Loop}
 use Rattle.isl_loop.specs.Formed.{IsLoopOver}
-use Rattle.isl_loop.specs.Lists.{calls_of}
 use Rattle.isl_loop.specs.Nest.{Lists, Timed}
-use Rattle.isl_loop.specs.Run.{rows_hold, trace}
+use Rattle.isl_loop.specs.Run.{idle_of, rows_hold, trace, turns_of}
 use Rattle.isl_loop.proofs.NestLaws.{lists_none}
 use Rattle.isl_loop.proofs.RowLaws.{rows_tell}
-use Rattle.isl_loop.proofs.TreeLaws.{trace_of-Block}
 use Rattle.isl_nest.specs.declared.nested.Nested.{Nested}
 use Rattle.isl_nest.specs.declared.place.Place.{Place}
 use Rattle.isl_nest.specs.Covered.{IsItem}
+use Rattle.isl_nest.specs.Depth.{depth_of}
 use Rattle.isl_nest.specs.Item.{IsBegun, IsCalledBehind, ItemView}
 use Rattle.isl_nest.specs.Naming.{AreNaming}
 use Rattle.isl_nest.specs.Nest.{with_context, IsHere, IsNest, IsNowhere, ListsBehind}
 use Rattle.isl_nest.specs.Places.{AreGuards, Stands}
+use Rattle.isl_nest.specs.Separate.{IsSeparate}
 use Rattle.isl_nest.proofs.BehindLaws.{begun_behind}
 use Rattle.isl_nest.proofs.FixedLaws.{begun_front, hold_false, hold_true}
 use Rattle.isl_nest.proofs.NamingLaws.{front_holds}
 use Rattle.isl_nest.proofs.NestLaws.{nest_lists}
 
 -- ---- nothing
-pub empty_trace : (parts : List Loop) → parts ≡ [] → (point : List ℤ) → trace (Block parts) point ≡ []
-empty_trace parts e point = trace_of-Block parts point ∙ ap (λ (l : List Loop). calls_of l point) e
-
 pub empty_over : (g : Gauge) (n : ℕ) (parts : List Loop) → parts ≡ [] → IsLoopOver g n (Block parts)
 empty_over g n parts e =
     (block_parts g n (Block parts) parts parts refl refl).1 (subst (All (IsLoopOver g n)) (sym e) (All-nil (IsLoopOver g n)))
@@ -135,3 +132,30 @@ module _ (item : ItemView) (place : Place) (front : List Row) (naming : AreNamin
             subst (λ (b : Bool). Lists (Calls point) (if b then trace nested.tree point else [])) (sym (hold_false rows nested.rows point e))
             (lists_none (Calls point) (no_call point (λ b. false≢true (sym e ∙ decided.1
             ((rows_hold_at point stands).1 (begun_through point stands b))))))
+
+    -- the tree under the rows
+    pub separate_under : (left : ℕ) (nested : Nested) (tree : Loop) (all : List Row) → all ≡ rows ++ nested.rows
+        → IsNest item left (with_context place rows) nested
+        → ((point : List ℤ) → trace tree point ≡ (if rows_hold all point then trace nested.tree point else []))
+        → ((point : List ℤ) → turns_of tree point ≡ (if rows_hold all point then turns_of nested.tree point else 0))
+        → ((point : List ℤ) → idle_of tree point ≡ (if rows_hold all point then idle_of nested.tree point else 0))
+        → depth_of tree ≡ depth_of nested.tree → IsSeparate item left place tree
+    separate_under left nested tree all are shape runs turned idle deep = inr (
+      rows,
+      nested,
+      record {
+        nest = shape;
+        formed = guards.over.formed;
+        front = λ point stands.
+            let here = rows_hold_at point stands in
+            let there = through_holds point stands in
+            let front_is = front_holds item.rows front (length place.frame) naming (columns_at place.frame point) (long point) in (
+              (λ h. front_is.0 (there.0 (here.0 h))),
+              (λ h. here.1 (there.1 (front_is.1 h))),
+            );
+        calls = λ point. runs point ∙ ap (λ (rs : List Row). if rows_hold rs point then trace nested.tree point else []) are;
+        turned = λ point. turned point ∙ ap (λ (rs : List Row). if rows_hold rs point then turns_of nested.tree point else 0) are;
+        idle = λ point. idle point ∙ ap (λ (rs : List Row). if rows_hold rs point then idle_of nested.tree point else 0) are;
+        depth = deep;
+      },
+    )

@@ -3,7 +3,7 @@ use Rattle.std.proofs.Common.{◌≡◌, ◌≢◌, inl, inr, refl, sym, ap, ◌
 use Rattle.std.proofs.Common.{List, [], ◌∷◌, ◌++◌, length, length-append, get_or, take}
 use Rattle.std.specs.List.{All, AllZip, Any, Contains}
 use Rattle.std.proofs.lemmas.List.{take_more, take_all}
-use Rattle.std.proofs.lemmas.List.Elements.{All-append, All-cons, All-nil, All-weaker, All-contains}
+use Rattle.std.proofs.lemmas.List.Elements.{All-append, All-cons, All-nil, All-weaker, All-contains, All-contains_itself}
 use Rattle.isl_math.proofs.ListLaws.{All-parts, All-zipped, All-zipped_back, Any-cases, Any-first, Any-later, Any-left, Any-none, Any-one}
 use Rattle.isl_math.proofs.ListLaws.{Any-parts, Any-right}
 use Rattle.isl_math.proofs.OrderLaws.{≡-from_*ℤ, positive-*ℤ}
@@ -22,7 +22,7 @@ use Rattle.isl_bounds.specs.declared.side.Side.TheVariants.{Low, High}
 use Rattle.isl_nest.specs.declared.place.Place.{Place}
 use Rattle.isl_nest.specs.declared.sides.Sides.{Sides}
 use Rattle.isl_nest.specs.Around.{AreSides}
-use Rattle.isl_nest.specs.Places.{AreEndsThrough, Stands}
+use Rattle.isl_nest.specs.Places.{AreEndsThrough, IsNoEndThrough, Stands}
 
 -- ---- signs stay
 end_scaled : (side : Side) (s c : ℤ) → pos 0 <ℤ s → pos 0 <ℤ toward side c → pos 0 <ℤ toward side (s *ℤ c)
@@ -32,7 +32,7 @@ end_scaled High s c p h = let q = positive-*ℤ s (neg_ℤ c) p h in by s c q
     by : (s c : ℤ) → pos 0 <ℤ (s *ℤ neg_ℤ c) → pos 0 <ℤ neg_ℤ (s *ℤ c)
     by s c q = let e = simp expand at q in simp expand (omega (arith, linear, e))
 
-none_scaled : (s c : ℤ) → pos 0 <ℤ s → c ≢ pos 0 → (s *ℤ c) ≢ pos 0
+pub none_scaled : (s c : ℤ) → pos 0 <ℤ s → c ≢ pos 0 → (s *ℤ c) ≢ pos 0
 none_scaled s c p n e = n (≡-from_*ℤ s c (pos 0) (λ z. omega (arith, linear, p, z)) (e ∙ zero s))
   where
     zero : (s : ℤ) → pos 0 ≡ s *ℤ pos 0
@@ -60,6 +60,9 @@ module _ (g : Gauge) (place : Place) where
   abbrev Whose : List Row → Row → Type 0
   Whose made r = Contains made r × IsNoEnd place.variables r
 
+  abbrev Comes : List Row → Row → Type 0
+  Comes rows made = (row : Row) × Contains rows row × Goes row made
+
   pub ends_through_is : (rows made : List Row) (ends : Ends) → AllZip Goes rows made → All (IsRowWithin g) made
       → AreEndsOf g place.variables made ends → AreEndsThrough g place rows ends
   ends_through_is rows made ends zip within of = record {
@@ -70,6 +73,11 @@ module _ (g : Gauge) (place : Place) where
           (λ r w. All-contains (IsWellFormed (place.variables + 1)) made r (behind_formed rows made zip) w.0) ends.others of.others;
       within = All-weaker (Whose made) (IsRowWithin g) (λ r w. All-contains (IsRowWithin g) made r within w.0) ends.others of.others;
     };
+    from = All-weaker (Whose made) (IsNoEndThrough place rows)
+        (λ t w.
+        let each = All-zipped Goes (Contains rows) (Comes rows) (λ row t i c. (row, c, i)) rows made zip (All-contains_itself rows) in
+        let f = All-contains (Comes rows) made t each w.0 in
+        (f.0, f.1, f.2, w.1)) ends.others of.others;
     points = λ point x stands.
         let R : Row → Type 0 = λ r. HoldsRow r (columns_at place.frame point ++ x ∷ []) in
         let H : Row → Type 0 = λ r. HoldsRow r (point ++ x ∷ []) in

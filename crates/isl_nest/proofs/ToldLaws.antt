@@ -4,6 +4,7 @@ use Rattle.std.proofs.Common.{length, length-append}
 use Rattle.std.specs.List.{All, AllZip}
 use Rattle.std.proofs.lemmas.List.{map-append}
 use Rattle.std.proofs.lemmas.List.Elements.{All-append, All-cons, All-nil}
+use Rattle.isl_math.specs.Order.{abs_of}
 use Rattle.isl_math.proofs.ListLaws.{All-last, All-zipped, All-zipped_back}
 use Rattle.isl_math.proofs.OrderLaws.{≡-from_*ℤ}
 use Rattle.isl_math.proofs.Ring.{linear}
@@ -13,7 +14,7 @@ use Rattle.isl_piece.specs.declared.row.Row.{Row}
 use Rattle.isl_piece.specs.Row.{coef_at, HoldsRow, IsRowWithin, IsWellFormed}
 use Rattle.isl_piece.specs.Normal.{normal_row, Kept, IsNormal}
 use Rattle.isl_piece.specs.System.{HoldRows}
-use Rattle.isl_frame.specs.Frame.{column_at, columns_at, IsFrame, IsSolved, IsThrough, IsThroughBehind}
+use Rattle.isl_frame.specs.Frame.{column_at, columns_at, isolated, IsFrame, IsSolved, IsThrough, IsThroughBehind}
 use Rattle.isl_frame.specs.Needed.{AreRowsOver, IsNeeded}
 use Rattle.isl_frame.proofs.NeededLaws.{kept_have, over_some}
 use Rattle.isl_nest.specs.declared.place.Place.{Place}
@@ -101,12 +102,13 @@ module _ (g : Gauge) (place : Place) (is : IsPlace g place) (equality : Row) (eq
           never point ((rows_at point stands).1
           (s.0, subst (λ y. HoldRows own (columns_at place.frame point ++ y ∷ [])) s.1 o))
 
-      pub told_is : (normal kept : List Row) → IsRowWithin g entry → AreRowsOver g place.variables normal → IsNormal normal
+      pub told_is : entry ≡ isolated place.variables through → (normal kept : List Row) → IsRowWithin g entry → AreRowsOver g place.variables normal → IsNormal normal
           → ((point : List ℤ) → HoldRows normal point ↔ HoldRows rows point) → IsNeeded place.variables place.context normal kept
           → (made_told : Told) → made_told ≡ record { entry = entry; rows = kept } → IsTold g place equality own made_told
-      told_is normal kept entry_within over is_normal same needed made_told e = rw e (record {
+      told_is entry_is normal kept entry_within over is_normal same needed made_told e = rw e (record {
         framed = rw (sym frame_is) told_framed;
         within = entry_within;
+        form = λ form. ap (λ (r : Row). r.k) entry_is ∙ ap abs_of (told.forms form.1).1 ∙ form.0;
         guards = record {
           over = over_some g place.variables normal kept needed.each over;
           normal = kept_have (λ r. normal_row r ≡ Kept r) normal kept needed.each is_normal.settled;

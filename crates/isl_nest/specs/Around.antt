@@ -17,6 +17,7 @@ use Rattle.isl_nest.specs.declared.around.Around.{Around}
 use Rattle.isl_nest.specs.declared.place.Place.{Place}
 use Rattle.isl_nest.specs.declared.sides.Sides.{Sides}
 use Rattle.isl_nest.specs.Places.{AreGuards, Stands}
+use Rattle.isl_nest.specs.Striding.{AreStriding, IsOwn}
 
 -- Groups of bounds, one for each system: the own bounds, and those that the system is. Where the own ones and a system hold some group
 -- of either side does, and where some group does the own ones do.
@@ -44,7 +45,8 @@ pub record IsAroundOver (g : Gauge) (variables : ℕ) (around : Around) : Type 0
   pub guards : AreGuards g (variables + 1) around.guards
 
 -- The head over the variables has a turn wherever the own rows and a system hold, and there the guards hold; at turns where they hold
--- the own rows do. What is known inside holds at each turn.
+-- the own rows do. What is known inside holds at each turn. Where the own rows, which all name the column, bound it or tell one step, the
+-- guards hold at each turn.
 pub record IsAround (g : Gauge) (place : Place) (rows : List Row) (systems : List (List Row)) (around : Around) : Type 0 where
   pub over : IsAroundOver g place.variables around
   pub cover : (point : List ℤ) (x : ℤ) → Stands place point → HoldRows rows (columns_at place.frame point ++ x ∷ [])
@@ -54,6 +56,8 @@ pub record IsAround (g : Gauge) (place : Place) (rows : List Row) (systems : Lis
       → HoldRows around.guards (point ++ x ∷ []) → HoldRows rows (columns_at place.frame point ++ x ∷ [])
   pub known : (point : List ℤ) (x : ℤ) → length point ≡ place.variables → Contains (turns_at around.head point) x
       → HoldRows around.inside (point ++ x ∷ [])
+  pub full : All (IsOwn place.frame) rows → AreStriding place.frame rows → (point : List ℤ) (x : ℤ) → Stands place point
+      → Contains (turns_at around.head point) x → HoldRows around.guards (point ++ x ∷ [])
 
 -- nowhere do the own rows and a system hold
 abbrev pub IsAroundNothing : Place → List Row → List (List Row) → Type 0

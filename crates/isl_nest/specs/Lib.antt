@@ -6,6 +6,10 @@ pub mod Equality
 pub mod Told
 pub mod Around
 pub mod Stepping
+pub mod Striding
 pub mod Between
+pub mod Depth
+pub mod TurnsAt
 pub mod Nest
 pub mod LoopedNest
+pub mod Separate

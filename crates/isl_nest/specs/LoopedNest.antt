@@ -1,6 +1,9 @@
 -- public: a body in a loop.
-use Rattle.std.specs.Prelude.{◌≡◌, ℤ, if◌then◌else◌, List, [], ◌∷◌, ◌++◌}
-use Rattle.isl_loop.specs.Run.{each_in, rows_hold, trace}
+use Rattle.std.specs.Prelude.{◌≡◌, suc, ℤ, if◌then◌else◌, List, [], ◌∷◌, ◌++◌}
+use Rattle.std.specs.List.{sum_by}
+use Rattle.isl_loop.specs.Run.{each_in, idle_of, rows_hold, trace, turns_of}
+use Rattle.isl_nest.specs.Depth.{depth_of}
+use Rattle.isl_nest.specs.TurnsAt.{idle_at_turn, turns_at_turn}
 use Rattle.isl_nest.specs.declared.around.Around.{Around}
 use Rattle.isl_nest.specs.declared.nested.Nested.{Nested}
 use Rattle.isl_nest.specs.Around.{turns_at}
@@ -13,3 +16,8 @@ pub record IsLoopedNest (around : Around) (body nested : Nested) : Type 0 where
       → trace nested.tree point
       ≡ each_in (λ x. if rows_hold (around.guards ++ body.rows) (point ++ x ∷ []) then trace body.tree (point ++ x ∷ []) else [])
       (turns_at around.head point)
+  pub turned : (point : List ℤ) → turns_of nested.tree point
+      ≡ sum_by (λ x. turns_at_turn (around.guards ++ body.rows) body.tree (point ++ x ∷ [])) (turns_at around.head point)
+  pub idle : (point : List ℤ) → idle_of nested.tree point
+      ≡ sum_by (λ x. idle_at_turn (around.guards ++ body.rows) body.tree (point ++ x ∷ [])) (turns_at around.head point)
+  pub depth : depth_of nested.tree ≡ suc (depth_of body.tree)

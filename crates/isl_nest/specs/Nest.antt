@@ -1,8 +1,8 @@
 -- public: the shape of a nest of loops: at each level its column is told by an equality, or gone through by a loop; the item's rows are
 -- enforced where the last column that they name gets its number. (Bastoul, code generation in the polyhedral model; isl manual, on
 -- abstract syntax trees)
-use Rattle.std.specs.Prelude.{◌≡◌, ◌⊎◌, ℕ, zero, suc, ◌+◌, ℤ, ◌<ℤ◌, if◌then◌else◌, List, [], ◌∷◌, ◌++◌, length, map}
-use Rattle.std.specs.List.{All, AllPairs, Contains}
+use Rattle.std.specs.Prelude.{◌≡◌, ◌⊎◌, ℕ, zero, suc, ◌+◌, ◌≤◌, ℤ, pos, ◌<ℤ◌, if◌then◌else◌, List, [], ◌∷◌, ◌++◌, length, map}
+use Rattle.std.specs.List.{All, AllPairs, Contains, sum_by}
 use Rattle.isl_meter.specs.Gauge.{Gauge}
 use Rattle.isl_piece.specs.declared.row.Row.{Row}
 use Rattle.isl_piece.specs.Row.{HoldsRow, IsWellFormed}
@@ -12,11 +12,14 @@ use Rattle.isl_frame.specs.Needed.{AreRowsOver}
 use Rattle.isl_loop.specs.declared.tree.Loop.{Loop}
 use Rattle.isl_loop.specs.Formed.{IsLoopOver}
 use Rattle.isl_loop.specs.Nest.{Lists}
-use Rattle.isl_loop.specs.Run.{each_in, rows_hold, trace}
+use Rattle.isl_loop.specs.Run.{each_in, idle_of, rows_hold, trace, turns_of}
+use Rattle.isl_nest.specs.Depth.{depth_of}
+use Rattle.isl_nest.specs.TurnsAt.{idle_at_turn, turns_at_turn}
 use Rattle.isl_nest.specs.declared.nested.Nested.{Nested}
 use Rattle.isl_nest.specs.declared.place.Place.{Place}
 use Rattle.isl_nest.specs.Item.{timed_at, HoldFront, HoldOwn, IsBegun, IsCalledBehind, ItemView}
 use Rattle.isl_nest.specs.Places.{AreGuards, Stands}
+use Rattle.isl_nest.specs.Striding.{AreStriding, Asks}
 
 -- the place holds at numbers of the parameters and variables, and so do the item's rows that name no further column
 pub record IsHere (item : ItemView) (place : Place) (point : List ℤ) : Type 0 where
@@ -45,11 +48,15 @@ with_loop place rows = record {
 abbrev pub IsNowhere : ItemView → Place → Type 0
 IsNowhere item place = (point : List ℤ) → IsHere item place point → ¬ IsBegun item (columns_at place.frame point)
 
--- behind the last column there is one call
+-- behind the last column there is one call, and no loop
 pub record IsCallAt (item : ItemView) (place : Place) (tree : Loop) : Type 0 where
   pub call : (point : List ℤ) → IsHere item place point → trace tree point ≡ (timed_at item (columns_at place.frame point)).1 ∷ []
+  pub turned : (point : List ℤ) → turns_of tree point ≡ 0
+  pub idle : (point : List ℤ) → idle_of tree point ≡ 0
+  pub depth : depth_of tree ≡ 0
 
 -- The next column is the quotient that the entry tells. Where the rows hold it is whole, and its own rows hold; at points nothing else is.
+-- It is a form, or behind the time, or no congruence of a later column names it.
 pub record IsFixedAt (item : ItemView) (place : Place) (entry : Row) (rows : List Row) : Type 0 where
   pub framed : IsFrame place.variables (place.frame ++ entry ∷ [])
   pub formed : All (IsWellFormed place.variables) rows
@@ -57,9 +64,12 @@ pub record IsFixedAt (item : ItemView) (place : Place) (entry : Row) (rows : Lis
       → (x ≡ column_at point entry) × HoldRows rows point
   pub own : (point : List ℤ) → IsHere item place point → HoldRows rows point
       → HoldsRow entry point × HoldOwn item.rows (columns_at place.frame point ++ column_at point entry ∷ [])
+  pub form : (entry.k ≡ pos 1) ⊎ (item.params + item.times ≤ length place.frame)
+      ⊎ All (λ later. ¬ Asks (length place.frame) later) item.rows
 
 -- The next column is a loop's variable, whose turns ascend. Each point's is a turn; where the guards hold at a turn, its own rows do.
--- What is known inside holds at each turn, whether the context holds or not.
+-- What is known inside holds at each turn, whether the context holds or not. Where its own rows bound the column or tell one step, the
+-- guards hold at each turn.
 pub record IsLoopedAt (item : ItemView) (place : Place) (turns : List ℤ → List ℤ) (inside guards : List Row) : Type 0 where
   pub framed : IsFrame place.variables place.frame
   pub formed : All (IsWellFormed place.variables) place.context × All (IsWellFormed (place.variables + 1)) (inside ++ guards)
@@ -69,6 +79,8 @@ pub record IsLoopedAt (item : ItemView) (place : Place) (turns : List ℤ → Li
   pub own : (point : List ℤ) (x : ℤ) → IsHere item place point → Contains (turns point) x → HoldRows guards (point ++ x ∷ [])
       → HoldOwn item.rows (columns_at place.frame point ++ x ∷ [])
   pub known : (point : List ℤ) (x : ℤ) → length point ≡ place.variables → Contains (turns point) x → HoldRows inside (point ++ x ∷ [])
+  pub full : AreStriding place.frame item.rows → (point : List ℤ) (x : ℤ) → IsHere item place point → Contains (turns point) x
+      → HoldRows guards (point ++ x ∷ [])
 
 -- the tree goes through these turns: at each it runs the body, if the rows hold there; without a turn it does nothing
 pub record IsLoopOf (item : ItemView) (place : Place) (tree : Loop) (turns : List ℤ → List ℤ) (rows : List Row) (body : Loop)
@@ -77,6 +89,9 @@ pub record IsLoopOf (item : ItemView) (place : Place) (tree : Loop) (turns : Lis
       → trace tree point
       ≡ each_in (λ x. if rows_hold rows (point ++ x ∷ []) then trace body (point ++ x ∷ []) else []) (turns point)
   pub none : (point : List ℤ) → turns point ≡ [] → trace tree point ≡ []
+  pub turned : (point : List ℤ) → turns_of tree point ≡ sum_by (λ x. turns_at_turn rows body (point ++ x ∷ [])) (turns point)
+  pub idle : (point : List ℤ) → idle_of tree point ≡ sum_by (λ x. idle_at_turn rows body (point ++ x ∷ [])) (turns point)
+  pub depth : depth_of tree ≡ suc (depth_of body)
 
 -- rows to ask, a tree and rows of its loop that are well formed over so many variables
 pub record IsNestOver (g : Gauge) (variables : ℕ) (nested : Nested) : Type 0 where

@@ -1,6 +1,6 @@
 //! Columns that a loop goes through.
 
-ghost use Rattle.std.specs.Prelude.{◌≡◌, ◌+◌, ◌^◌, ◌<◌, ◌++◌, All, IfOk, IfSome, MatchOption, OnOk, length};
+ghost use Rattle.std.specs.Prelude.{◌≡◌, ◌+◌, ◌^◌, ◌<◌, ◌++◌, All, IfOk, IfSome, IsNone, MatchOption, OnOk, length};
 ghost use Rattle.isl_meter.specs.Gauge.{IsDone, IsMetered};
 ghost use Rattle.isl_frame.specs.Needed.{AreRowsOver};
 ghost use Rattle.isl_bounds.specs.Bound.{AreEndGroups};
@@ -9,7 +9,7 @@ ghost use Rattle.isl_bounds.specs.Head.{IsHeadOf};
 ghost use Rattle.isl_bounds.specs.Step.{IsStep};
 ghost use Rattle.isl_bounds.specs.declared.side.Side.TheVariants.{Low, High};
 ghost use Rattle.isl_nest.specs.Places.{AreGuards, IsPlace};
-ghost use Rattle.isl_nest.specs.Stepping.{only_of, steps_of, IsStepAmong};
+ghost use Rattle.isl_nest.specs.Stepping.{only_of, steps_of, IsStepAmong, TellsStep};
 
 use crate::Place;
 use crate::sides::{Sides, ends_through, joined};
@@ -27,7 +27,7 @@ pub struct Around {
     pub guards: Rows,
 }
 
-// The first of the rows that is a step. Uses no unit.
+// The first of the rows that is a step; `None` where no row tells one. Uses no unit.
 fn step_among(
     alloc: Global,
     rows: &Rows,
@@ -35,7 +35,8 @@ fn step_among(
     meter: &mut Meter,
 ) -> Result<Option<Row>, Cut>
     requires { AreRowsOver meter.old (variables + 1) rows.now }
-    ensures { IsDone meter.old meter.new (λ step. IfSome step (IsStepAmong meter.old variables rows.now)) result }
+    ensures { IsDone meter.old meter.new (λ step. IfSome step (IsStepAmong meter.old variables rows.now)
+        × (IsNone step → All (λ r. ¬ TellsStep variables r) rows.now)) result }
 {
     for row in rows.as_slice() {
         if row.kind != RowKind::Divides {

@@ -3,6 +3,7 @@
 
 mod around;
 mod cover;
+mod equality;
 mod item;
 mod loops;
 mod naming;

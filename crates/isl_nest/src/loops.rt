@@ -6,12 +6,14 @@ ghost use Rattle.isl_loop.specs.Formed.{IsLoopOver};
 ghost use Rattle.isl_nest.specs.Covered.{view_of, IsCovered};
 ghost use Rattle.isl_nest.specs.Nest.{IsCallAt, IsNest, IsNestOver, IsNowhere, ListsBehind};
 ghost use Rattle.isl_nest.specs.Places.{IsPlace};
+ghost use Rattle.isl_nest.specs.Separate.{IsSeparate};
 
 use crate::around::Around;
+use crate::equality::told_by;
 use crate::naming::naming;
 use crate::nested::under;
 use crate::sides::joined;
-use crate::told::{Told, equality_at};
+use crate::told::Told;
 use crate::{Item, Nested, Place};
 use isl_bounds::{Side, divided};
 use isl_frame::{all_through, needed};
@@ -72,7 +74,7 @@ pub fn nest(
     let columns = place.frame.len();
     let own = naming(alloc, &item.rows, columns + 1, columns + 1)?;
     let systems = item.covers[columns + 1 - item.params].as_slice();
-    if let Some(equality) = equality_at(alloc, &own, systems, columns, meter)? {
+    if let Some(equality) = told_by(alloc, item, place, &own, systems, meter)? {
         let Some(told) = Told::of(alloc, place, &equality, &own, meter)? else {
             return Ok(None);
         };
@@ -110,6 +112,7 @@ pub fn separate(
     requires whole { length place.now.frame + left ≡ item.now.params + item.now.levels }
     requires low { item.now.params ≤ length place.now.frame }
     ensures lists { IfOk result (ListsBehind (view_of item.now) place.now) }
+    ensures separate { IfOk result (IsSeparate (view_of item.now) left place.now) }
     ensures over { IfOk result (IsLoopOver meter.old place.now.variables) }
     ensures meter { IsMetered meter.old meter.new result }
 {

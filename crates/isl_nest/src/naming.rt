@@ -11,7 +11,7 @@ use isl_piece::{Coefs, Row, Rows};
 use std::alloc::{AllocError, Global};
 
 // How many columns there are up to the last that is named.
-fn named(coefs: &Coefs) -> usize
+pub(crate) fn named(coefs: &Coefs) -> usize
     ensures { result ≡ named coefs.now }
 {
     let mut count = 0;

@@ -1,10 +1,12 @@
 //! Nests of loops.
 
-ghost use Rattle.std.specs.Prelude.{◌≡◌, ◌+◌, ◌∷◌, ◌++◌, ◌<ℤ◌, pos, ℕ, ℤ, List, [], if◌then◌else◌, All, IfOk};
+ghost use Rattle.std.specs.Prelude.{◌≡◌, ◌+◌, ◌∷◌, ◌++◌, ◌<ℤ◌, pos, ℕ, suc, ℤ, List, [], if◌then◌else◌, All, IfOk};
+ghost use Rattle.std.specs.List.{sum_by};
 ghost use Rattle.isl_meter.specs.Gauge.{Gauge, IsWithin};
 ghost use Rattle.isl_loop.specs.Formed.{IsExprOver, IsLoopOver, IsRowOver};
-ghost use Rattle.isl_loop.specs.Run.{each_in, rows_hold, trace};
+ghost use Rattle.isl_loop.specs.Run.{each_in, idle_of, idle_turn, rows_hold, trace, turns_of};
 ghost use Rattle.isl_nest.specs.Around.{turns_at};
+ghost use Rattle.isl_nest.specs.Depth.{depth_of};
 
 use crate::around::Around;
 use crate::sides::joined;
@@ -26,6 +28,9 @@ pub struct Nested {
 pub(crate) fn under(alloc: Global, rows: Rows, tree: Loop) -> Result<Loop, AllocError>
     ensures trace { (point : List ℤ) → IfOk result (λ made. trace made point ≡ (if rows_hold rows point then trace tree point else [])) }
     ensures over { (g : Gauge) (n : ℕ) → All (IsRowOver g n) rows → IsLoopOver g n tree → IfOk result (IsLoopOver g n) }
+    ensures turned { (point : List ℤ) → IfOk result (λ made. turns_of made point ≡ (if rows_hold rows point then turns_of tree point else 0)) }
+    ensures idle { (point : List ℤ) → IfOk result (λ made. idle_of made point ≡ (if rows_hold rows point then idle_of tree point else 0)) }
+    ensures depth { IfOk result (λ made. depth_of made ≡ depth_of tree) }
 {
     if rows.is_empty() {
         return Ok(tree);
@@ -43,6 +48,11 @@ pub fn for_loop(alloc: Global, head: Head, body: Loop) -> Result<Loop, AllocErro
         (turns_at head point)) }
     ensures over { (g : Gauge) (n : ℕ) → IsExprOver g n head.low → IsExprOver g n head.high → pos 0 <ℤ head.step → IsWithin g head.step
         → IsLoopOver g (n + 1) body → IfOk result (IsLoopOver g n) }
+    ensures turned { (point : List ℤ) → IfOk result (λ made. turns_of made point
+        ≡ sum_by (λ x. 1 + turns_of body (point ++ x ∷ [])) (turns_at head point)) }
+    ensures idle { (point : List ℤ) → IfOk result (λ made. idle_of made point
+        ≡ sum_by (λ x. idle_turn (trace body (point ++ x ∷ [])) + idle_of body (point ++ x ∷ [])) (turns_at head point)) }
+    ensures depth { IfOk result (λ made. depth_of made ≡ suc (depth_of body)) }
 {
     let Head { low, high, step } = head;
     Ok(Loop::For(low, high, step, Boxed::new(alloc, body)?))

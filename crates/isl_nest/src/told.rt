@@ -1,17 +1,15 @@
 //! Columns that an equality tells.
 
-ghost use Rattle.std.specs.Prelude.{◌≡◌, ◌≢◌, ◌+◌, pos, All, Contains, IfOk, IfSome, MatchOption, length};
+ghost use Rattle.std.specs.Prelude.{◌+◌, IfOk, MatchOption, length};
 ghost use Rattle.isl_meter.specs.Gauge.{IsMetered};
-ghost use Rattle.isl_piece.specs.declared.row.RowKind.TheVariants.{Zero};
-ghost use Rattle.isl_piece.specs.Row.{coef_at, IsWellFormed};
 ghost use Rattle.isl_frame.specs.Needed.{AreRowsOver};
-ghost use Rattle.isl_nest.specs.Equality.{IsEquality, IsSaidBy};
+ghost use Rattle.isl_nest.specs.Equality.{IsEquality};
 
 use crate::Place;
 use isl_frame::{all_through, isolated, needed, through_behind};
 use isl_meter::{Cut, Meter};
-use isl_piece::{Row, RowKind, Rows};
-use std::alloc::{AllocError, Global};
+use isl_piece::{Row, Rows};
+use std::alloc::Global;
 
 /// A column's quotient of a form over the variables, and rows that say where it is whole and its own rows hold.
 #[derive(Drop)]
@@ -53,38 +51,4 @@ impl Told {
         let rows = needed(alloc, &place.context, normal, 0, variables, meter)?;
         Ok(Some(Told { entry, rows }))
     }
-}
-
-// An equality among the rows that names the column.
-fn equality_in(alloc: Global, rows: &Rows, column: usize) -> Result<Option<Row>, AllocError>
-    requires { All (IsWellFormed (column + 1)) rows.now }
-    ensures { IfOk result (λ found. IfSome found (λ r. Contains rows.now r × (r.kind ≡ Zero) × (coef_at r column ≢ pos 0))) }
-{
-    for row in rows.as_slice() {
-        if row.kind == RowKind::Zero && !row.coefs.get(column).is_zero() {
-            return Ok(Some(row.copy(alloc)?));
-        }
-    }
-    Ok(None)
-}
-
-// An equality that tells the last of so many columns and one more, of the own rows, or of the system where it is the only one.
-pub(crate) fn equality_at(
-    alloc: Global,
-    own: &Rows,
-    systems: &[Rows],
-    column: usize,
-    meter: &Meter,
-) -> Result<Option<Row>, AllocError>
-    requires own { AreRowsOver meter.now (column + 1) own.now }
-    requires systems { All (AreRowsOver meter.now (column + 1)) systems.now }
-    ensures { IfOk result (λ found. IfSome found (λ r. IsEquality meter.now column r × IsSaidBy own.now systems.now r)) }
-{
-    if let Some(row) = equality_in(alloc, own, column)? {
-        return Ok(Some(row));
-    }
-    if systems.len() == 1 {
-        return equality_in(alloc, &systems[0], column);
-    }
-    Ok(None)
 }

@@ -1,7 +1,5 @@
 use Rattle.std.proofs.Common.{◌≡◌, ◌+◌, ◌-◌, ◌<◌, suc, sym, ap, subst, arith}
-use Rattle.std.specs.List.{All}
 use Rattle.std.proofs.lemmas.Grind.{common_steps}
-use Rattle.isl_frame.specs.Needed.{AreRowsOver}
 use Rattle.isl_nest.specs.declared.place.Place.{Place}
 use Rattle.isl_nest.specs.Around.{IsAround, IsAroundNothing}
 use Rattle.isl_nest.specs.Covered.{view_of}
@@ -12,8 +10,8 @@ use Rattle.isl_nest.proofs.LevelLaws.{behind_over, level_is, looped_level, nest_
 use Rattle.isl_nest.proofs.MadeLaws.{fixed_nest, fixed_nowhere, looped_nest, looped_nowhere, nothing_nowhere, untold_nowhere}
 use Rattle.isl_nest.proofs.loops.+nest.Goals as goal
 
-pub equality_at-requires-clause-own : goal.equality_at-requires-clause-own
-equality_at-requires-clause-own t c =
+pub told_by-requires-clause-room : goal.told_by-requires-clause-room
+told_by-requires-clause-room t c =
     let g = c.args.meter.now in
     let item = c.args.item.now in
     let place = c.args.place.now in
@@ -22,10 +20,10 @@ equality_at-requires-clause-own t c =
     let some : 0 < c.args.left = grind (arith, common_steps) in
     let level = level_is g item c.requires.item place c.args.left c.requires.whole c.requires.low some c.len-columns.result
     c.len-columns.ensures own c.in_ok-own.ensures c.index.result.now systems c.as_slice-systems.ensures c.index.ensures in
-    subst (λ n. AreRowsOver g (n + 1) own) (sym c.len-columns.ensures) level.over
+    level.room
 
-pub equality_at-requires-clause-systems : goal.equality_at-requires-clause-systems
-equality_at-requires-clause-systems t c =
+pub told_by-requires-clause-own : goal.told_by-requires-clause-own
+told_by-requires-clause-own t c =
     let g = c.args.meter.now in
     let item = c.args.item.now in
     let place = c.args.place.now in
@@ -34,7 +32,19 @@ equality_at-requires-clause-systems t c =
     let some : 0 < c.args.left = grind (arith, common_steps) in
     let level = level_is g item c.requires.item place c.args.left c.requires.whole c.requires.low some c.len-columns.result
     c.len-columns.ensures own c.in_ok-own.ensures c.index.result.now systems c.as_slice-systems.ensures c.index.ensures in
-    subst (λ n. All (AreRowsOver g (n + 1)) systems) (sym c.len-columns.ensures) level.cover.over
+    level.over
+
+pub told_by-requires-clause-systems : goal.told_by-requires-clause-systems
+told_by-requires-clause-systems t c =
+    let g = c.args.meter.now in
+    let item = c.args.item.now in
+    let place = c.args.place.now in
+    let own = c.in_ok-own.own in
+    let systems = c.as_slice-systems.result.now in
+    let some : 0 < c.args.left = grind (arith, common_steps) in
+    let level = level_is g item c.requires.item place c.args.left c.requires.whole c.requires.low some c.len-columns.result
+    c.len-columns.ensures own c.in_ok-own.ensures c.index.result.now systems c.as_slice-systems.ensures c.index.ensures in
+    level.cover.over
 
 pub of-requires-clause-own : goal.of-requires-clause-own
 of-requires-clause-own t c =
@@ -59,7 +69,7 @@ returns-in_default-2-clause-nest t c =
     let level = level_is g item c.requires.item place c.args.left c.requires.whole c.requires.low some c.len-columns.result
     c.len-columns.ensures own c.in_ok-own.ensures c.index.result.now systems c.as_slice-systems.ensures c.index.ensures in
     let equality = c.in-Some.equality in
-    let found = rw c.in-Some.is at c.in_ok-equality.ensures in
+    let found = rw c.in-Some.is at c.in_ok-equality.ensures.equality in
     let none : IsUntold place equality own = rw c.in_default-2.is at c.in_ok-told.ensures.told in
     untold_nowhere g (view_of item) place c.requires.place level.room own level.naming systems level.cover equality found.1 none
 
@@ -74,7 +84,7 @@ nest-requires t c =
     let level = level_is g item c.requires.item place c.args.left c.requires.whole c.requires.low some c.len-columns.result
     c.len-columns.ensures own c.in_ok-own.ensures c.index.result.now systems c.as_slice-systems.ensures c.index.ensures in
     let equality = c.in-Some.equality in
-    let found = rw c.in-Some.is at c.in_ok-equality.ensures in
+    let found = rw c.in-Some.is at c.in_ok-equality.ensures.equality in
     let told = c.in-Some-2.told in
     let tells : IsTold g place equality own told = rw c.in-Some-2.is at c.in_ok-told.ensures.told in (
       omega (arith, some),
@@ -93,13 +103,14 @@ returns-in_default-3-clause-nest t c =
     let level = level_is g item c.requires.item place c.args.left c.requires.whole c.requires.low some c.len-columns.result
     c.len-columns.ensures own c.in_ok-own.ensures c.index.result.now systems c.as_slice-systems.ensures c.index.ensures in
     let equality = c.in-Some.equality in
-    let found = rw c.in-Some.is at c.in_ok-equality.ensures in
+    let found = rw c.in-Some.is at c.in_ok-equality.ensures.equality in
+    let may = rw c.in-Some.is at c.in_ok-equality.ensures.may in
     let told = c.in-Some-2.told in
     let tells : IsTold g place equality own told = rw c.in-Some-2.is at c.in_ok-told.ensures.told in
     let inner = c.in_ok-inner.inner in
     let none : IsNowhere (view_of item) inner = rw c.in_default-3.is at c.in_ok-nested.ensures.nest in
     fixed_nowhere g (view_of item) place c.requires.place level.room own level.naming systems level.cover
-    equality found.1 told tells (subst (λ (p : Place). IsNowhere (view_of item) p) c.in_ok-inner.ensures none)
+    equality found.1 told tells may (subst (λ (p : Place). IsNowhere (view_of item) p) c.in_ok-inner.ensures none)
 
 pub returns-in-Some-clause-nest : goal.returns-in-Some-clause-nest
 returns-in-Some-clause-nest t c =
@@ -112,7 +123,8 @@ returns-in-Some-clause-nest t c =
     let level = level_is g item c.requires.item place c.args.left c.requires.whole c.requires.low some c.len-columns.result
     c.len-columns.ensures own c.in_ok-own.ensures c.index.result.now systems c.as_slice-systems.ensures c.index.ensures in
     let equality = c.in-Some.equality in
-    let found = rw c.in-Some.is at c.in_ok-equality.ensures in
+    let found = rw c.in-Some.is at c.in_ok-equality.ensures.equality in
+    let may = rw c.in-Some.is at c.in_ok-equality.ensures.may in
     let told = c.in-Some-2.told in
     let tells : IsTold g place equality own told = rw c.in-Some-2.is at c.in_ok-told.ensures.told in
     let inner = c.in_ok-inner.inner in
@@ -122,7 +134,7 @@ returns-in-Some-clause-nest t c =
     let more : suc (c.args.left - 1) ≡ c.args.left = omega (arith, some) in
     subst (λ n. IsNest (view_of item) n place made) more
     (fixed_nest g (view_of item) place c.requires.place level.room own level.naming systems level.cover
-    equality found.1 told tells (c.args.left - 1) nested made
+    equality found.1 told tells may (c.args.left - 1) nested made
     (subst (λ (p : Place). IsNest (view_of item) (c.args.left - 1) p nested) c.in_ok-inner.ensures below) c.in_ok-behind.ensures)
 
 pub returns-in-Some-clause-over : goal.returns-in-Some-clause-over

@@ -1,4 +1,4 @@
-use Rattle.std.proofs.Common.{◌≡◌, ◌+◌, sym, ap, subst, arith, List, [], ℤ, length}
+use Rattle.std.proofs.Common.{◌≡◌, ◌+◌, inl, sym, ap, subst, arith, List, [], ℤ, length}
 use Rattle.std.specs.Prelude.{if◌then◌else◌}
 use Rattle.std.specs.List.{All, AllZip}
 use Rattle.isl_meter.specs.Gauge.{Gauge, IsCharged}
@@ -16,11 +16,13 @@ use Rattle.isl_nest.specs.Naming.{AreNaming}
 use Rattle.isl_nest.specs.Nest.{IsNest, IsNestOver, IsNowhere}
 use Rattle.isl_nest.specs.Places.{AreGuards, IsPlace}
 use Rattle.isl_nest.proofs.AroundLaws.{charged_bits}
+use Rattle.isl_nest.proofs.CountLaws.{empty_still, empty_trace}
 use Rattle.isl_nest.proofs.LevelLaws.{covered_later, nest_same}
 use Rattle.isl_nest.proofs.NamingLaws.{naming_over}
 use Rattle.isl_nest.proofs.NestedLaws.{asked_over}
 use Rattle.isl_nest.proofs.PlaceLaws.{place_later, place_with_context}
-use Rattle.isl_nest.proofs.SeparateLaws.{empty_over, empty_trace, needed_guards, separate_lists, separate_never, separate_nowhere, through_over}
+use Rattle.isl_nest.proofs.SeparateLaws.{empty_over, needed_guards, separate_lists, separate_never}
+use Rattle.isl_nest.proofs.SeparateLaws.{separate_nowhere, separate_under, through_over}
 use Rattle.isl_nest.proofs.loops.separate.Goals as goal
 
 pub all_through-requires-clause-rows : goal.all_through-requires-clause-rows
@@ -80,6 +82,9 @@ returns-in_default-clause-lists c =
 pub returns-in_default-clause-over : goal.returns-in_default-clause-over
 returns-in_default-clause-over c =
     empty_over c.args.meter.now c.args.place.now.variables c.new.result c.new.ensures
+
+pub returns-in_default-clause-separate : goal.returns-in_default-clause-separate
+returns-in_default-clause-separate c = inl (empty_still c.new.result c.new.ensures)
 
 pub needed-requires-clause-rows : goal.needed-requires-clause-rows
 needed-requires-clause-rows c =
@@ -165,6 +170,9 @@ pub returns-in_default-2-clause-over : goal.returns-in_default-2-clause-over
 returns-in_default-2-clause-over c =
     empty_over c.args.meter.now c.args.place.now.variables c.new-in_default-2.result c.new-in_default-2.ensures
 
+pub returns-in_default-2-clause-separate : goal.returns-in_default-2-clause-separate
+returns-in_default-2-clause-separate c = inl (empty_still c.new-in_default-2.result c.new-in_default-2.ensures)
+
 pub returns-clause-lists : goal.returns-clause-lists
 returns-clause-lists c =
     let g = c.args.meter.now in
@@ -193,6 +201,35 @@ returns-clause-lists c =
     separate_lists (view_of item) place front naming through zip g normal rows (rw c.in-Some.is at c.in_ok-normal.ensures.points)
     c.in_ok-rows.ensures.exact guards c.requires.item.is c.args.left nested c.in_ok-under.field-0 c.requires.whole c.requires.low
     (subst (λ (p : Place). IsNest (view_of item) c.args.left p nested) c.in_ok-inner.ensures below) runs
+
+pub returns-clause-separate : goal.returns-clause-separate
+returns-clause-separate c =
+    let g = c.args.meter.now in
+    let item = c.args.item.now in
+    let place = c.args.place.now in
+    let front = c.in_ok-front.front in
+    let naming : AreNaming 0 (length place.frame) item.rows front =
+    subst (λ n. AreNaming 0 n item.rows front) c.len.ensures c.in_ok-front.ensures in
+    let through = c.in_ok-through.through in
+    let zip : AllZip (λ row t. IsThrough place.variables row place.frame t) front through =
+    subst (λ (f : List Row). AllZip (λ row t. IsThrough place.variables row f t) front through) c.as_slice.ensures c.in_ok-through.ensures.0.0 in
+    let over = through_over (view_of item) place front naming through zip g c.in_ok-through.ensures.0.1 in
+    let normal = c.in-Some.normal in
+    let within : All (IsRowWithin c.all_through.new.meter) normal = rw c.in-Some.is at c.in_ok-normal.ensures.within in
+    let normal_over : AreRowsOver g place.variables normal = record {
+      formed = rw c.in-Some.is at (c.in_ok-normal.ensures.shape place.variables over.formed);
+      within = subst (λ (h : Gauge). All (IsRowWithin h) normal) c.in_ok-through.ensures.1 within;
+    } in
+    let rows = c.in_ok-rows.rows in
+    let guards : AreGuards g place.variables rows = needed_guards g place.variables place.context normal rows normal_over
+    (rw c.in-Some.is at c.in_ok-normal.ensures.normal) c.in_ok-rows.ensures.exact in
+    let nested = c.in-Some-2.nested in
+    let below : IsNest (view_of item) c.args.left c.in_ok-inner.inner nested = rw c.in-Some-2.is at c.in_ok-nested.ensures.nest in
+    separate_under (view_of item) place front naming through zip g normal rows (rw c.in-Some.is at c.in_ok-normal.ensures.points)
+    c.in_ok-rows.ensures.exact guards c.args.left nested c.in_ok-under.field-0 c.in_ok-all.all c.in_ok-all.ensures
+    (subst (λ (p : Place). IsNest (view_of item) c.args.left p nested) c.in_ok-inner.ensures below)
+    (λ point. c.in_ok-under.ensures.trace point) (λ point. c.in_ok-under.ensures.turned point) (λ point. c.in_ok-under.ensures.idle point)
+    c.in_ok-under.ensures.depth
 
 pub returns-clause-over : goal.returns-clause-over
 returns-clause-over c =

@@ -98,7 +98,7 @@ needed-requires-clause-context c =
     ∙ ap (λ (gs : List (List Row)). only_of gs ++ only_of c.as_slice-6.result.now ++ steps_of step) c.as_slice-5.ensures.value
     ∙ ap (λ (gs : List (List Row)). only_of lows ++ only_of gs ++ steps_of step) c.as_slice-6.ensures.value in
     let over = inside_over g c.pruned-2.new.meter (charged_bits g c.pruned-2.new.meter third) place c.requires.place c.args.sides.now c.args.others
-    c.requires.others c.requires.lows c.requires.highs step c.in_ok-step.ensures.0 lows highs context c.in_ok-context.ensures fewer_lows fewer_highs in
+    c.requires.others c.requires.lows c.requires.highs step c.in_ok-step.ensures.0.0 c.in_ok-step.ensures.0.1 lows highs context c.in_ok-context.ensures fewer_lows fewer_highs in
     let both : AreRowsOver g columns c.in_ok-known.known = both_over g columns context c.in_ok-inside.inside c.in_ok-known.known
     c.in_ok-known.ensures wide (subst (AreRowsOver g columns) (sym inside_is) over) in
     subst (λ (h : Gauge). AreRowsOver h columns c.in_ok-known.known) (sym c.in_ok-head.ensures.1)
@@ -142,6 +142,6 @@ returns-clause-between c =
     (subst (λ (gs : List (List Row)). IsHeadOf h place.variables c.as_slice-3.result.now gs (steps_of step) c.in_ok-head.head)
     c.as_slice-4.ensures.value c.in_ok-head.ensures.0) in
     between_is g h (charged_bits g h third) place c.requires.place c.args.sides.now c.args.others c.requires.others c.requires.lows
-    c.requires.highs step c.in_ok-step.ensures.0 lows highs context c.in_ok-context.ensures fewer_lows fewer_highs c.in_ok-head.head head
+    c.requires.highs step c.in_ok-step.ensures.0.0 c.in_ok-step.ensures.0.1 lows highs context c.in_ok-context.ensures fewer_lows fewer_highs c.in_ok-head.head head
     c.in_ok-inside.inside c.in_ok-known.known c.in_ok-guards.guards inside_is c.in_ok-known.ensures c.in_ok-guards.ensures.exact
     (record { head = c.in_ok-head.head; inside = c.in_ok-inside.inside; guards = c.in_ok-guards.guards }) refl

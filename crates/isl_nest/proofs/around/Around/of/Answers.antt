@@ -41,4 +41,5 @@ returns-clause-around c =
     let between : IsBetween g place sides others around = subst (λ (h : Gauge). IsBetween h place sides others around)
     (c.in_ok-sides.ensures.1 ∙ c.in_ok-ends.ensures.1) c.in_ok-between.ensures.between in
     around_is g place c.args.own.now systems ends c.in_ok-ends.ensures.0 sides others around are
+    (sym (rw c.in-Some.is at c.in_ok-others.ensures.exact))
     (rw c.in-Some.is at c.in_ok-others.ensures.points) between

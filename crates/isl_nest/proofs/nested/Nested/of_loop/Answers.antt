@@ -6,7 +6,9 @@ use Rattle.isl_nest.proofs.nested.Nested.of_loop.Goals as goal
 pub returns-clause-nested : goal.returns-clause-nested
 returns-clause-nested c =
     looped_is c.args.around c.args.body _ c.in_ok-rows.rows c.in_ok-tree.tree c.in_ok-rows.ensures (λ point. c.in_ok-tree.ensures.trace point)
-    (λ point. c.in_ok-for_loop.ensures.trace point) c.new.ensures refl
+    (λ point. c.in_ok-for_loop.ensures.trace point) (λ point. c.in_ok-tree.ensures.turned point) (λ point. c.in_ok-tree.ensures.idle point)
+    c.in_ok-tree.ensures.depth (λ point. c.in_ok-for_loop.ensures.turned point) (λ point. c.in_ok-for_loop.ensures.idle point)
+    c.in_ok-for_loop.ensures.depth c.new.ensures refl
 
 pub returns-clause-over : goal.returns-clause-over
 returns-clause-over c g n around body =
