@@ -5,7 +5,7 @@ use Rattle.std.specs.Prelude.{Result, Ok, Err, IfOk, MatchResult}
 use Rattle.std.specs.List.{All, AllPairs, AllZip, Any, Contains, zip}
 use Rattle.std.proofs.lemmas.Bool.{false≢true}
 use Rattle.std.proofs.lemmas.List.{length-drop, length-take-le, take-append-drop}
-use Rattle.std.proofs.lemmas.List.Elements.{All-append, All-contains, Contains-get_or}
+use Rattle.std.proofs.lemmas.List.Elements.{All-append, All-cons, All-contains, All-head, All-nil, Contains-get_or}
 use Rattle.isl_math.proofs.ListLaws.{All-parts, All-zipped, Any-cases, Any-contains, Any-element, Any-first, Any-later, Any-unmapped}
 use Rattle.isl_math.proofs.ListLaws.{Any-weaker, Any-zipped}
 use Rattle.isl_meter.specs.Gauge.{Gauge, IsCharged, IsCutBy, IsMetered}
@@ -20,6 +20,8 @@ use Rattle.isl_space.specs.Shape.{form_of}
 use Rattle.isl_space.specs.SpaceForm.{SpaceForm, coordinates_of, set_of, map_of}
 use Rattle.isl_space.specs.Valuation.{Valuation, values_of}
 use Rattle.isl_space.proofs.ValuationLaws.{length-values_of, values_of-zip}
+use Rattle.isl_piece.specs.declared.row.Row.{Row}
+use Rattle.isl_piece.specs.declared.system.System.{System}
 use Rattle.isl_piece.specs.Piece.{PieceView}
 use Rattle.isl_piece.specs.System.{HoldsSystem, free_columns}
 use Rattle.isl_difference.proofs.SplitLaws.{system_kept}
@@ -36,8 +38,8 @@ use Rattle.isl_schedule.specs.Schedule.{domain_form, time_form, IsPair, IsSchedu
 use Rattle.isl_schedule.proofs.CheckLaws.{nested_exact, shapes_exact}
 use Rattle.isl_calls.specs.declared.calls.Calls.{Calls}
 use Rattle.isl_calls.specs.Apart.{called_form, AreApartOf, AreEven, HoldsFor, IsPartOf, IsPlainWithin}
-use Rattle.isl_calls.specs.Calls.{numbers_behind, width_behind, AreCallsOf, IsCalledAt}
-use Rattle.isl_calls.specs.Laid.{IsLaidOut}
+use Rattle.isl_calls.specs.Calls.{numbers_behind, width_behind, AreCallsOf, AreOwnCalls, IsCalledAt, IsSetOf}
+use Rattle.isl_calls.specs.Laid.{IsLaidOut, IsSetForm}
 
 -- ---- lists
 pub zipped_back : {A B : Type 0} (R : A → B → Type 0) (P : A → Type 0) (Q : B → Type 0) → ((a : A) (b : B) → R a b → Q b → P a)
@@ -279,7 +281,8 @@ module _ (g : Gauge) (value : KeptValue) (pieces : List PieceView) (are : map ke
             laid zipped (both.0 h)),
       )
 
-  module _ (made : List Calls) (apart : AreApartOf g laid made) where
+  module _ (made : List Calls) (apart : AreApartOf g laid made)
+      (alone : (form : Form) (rows : List Row) → IsSetOf form rows value → AreOwnCalls form rows made) where
     origin : (a : Calls) → Contains made a → (c : Calls) × Contains laid c × IsPartOf g c a
     origin a h = Any-element (λ (c : Calls). IsPartOf g c a) laid
         (All-contains (λ part. Any (λ c. IsPartOf g c part) laid) made a apart.parts h)
@@ -434,6 +437,44 @@ module _ (g : Gauge) (value : KeptValue) (pieces : List PieceView) (are : map ke
       };
       exact = made_called;
       once = made_once;
+      own = alone;
+    }
+
+-- ---- calls of one piece
+-- they share no point with others
+pub apart_alone : (g : Gauge) (calls : List Calls) → length calls ≤ 1 → All (IsPlainWithin g) calls → AreApartOf g calls calls
+apart_alone g calls few plain = record {
+  parts = λ i d l. Any-contains (λ (c : Calls). IsPartOf g c (get_or calls i d)) calls (get_or calls i d) (Contains-get_or calls i d l)
+      (record { like = record { domain = refl; time = refl; own = refl }; sound = plain i d l; free = refl });
+  points = λ form point long. ((λ h. h), (λ h. h));
+  apart = λ i j d below low. absurd (omega (arith, below, low, few));
+}
+
+-- of one set they are its own, and there are no more
+pub own_alone : (g : Gauge) (params : List Name) (own : Bool) (form : Form) (rows : List Row) (pieces : List PieceView) (laid : List Calls)
+    → map kept_piece pieces ≡ record { space = set_of form; definitions = []; rows = rows } ∷ []
+    → AllZip (IsLaidOut g params own) pieces laid → (All (λ piece. IsSetForm piece.space) pieces → own ≡ true) → AreOwnCalls form rows laid
+own_alone g params own form rows [] laid e z sets = absurd (let l = ap length e in omega (arith, l))
+own_alone g params own form rows (p ∷ q ∷ pieces) laid e z sets = absurd (let l = ap length e in omega (arith, l))
+own_alone g params own form rows (p ∷ []) [] e z sets = absurd z
+own_alone g params own form rows (p ∷ []) (c ∷ d ∷ laid) e z sets = absurd z.1
+own_alone g params own form rows (p ∷ []) (c ∷ []) e z sets =
+    let same : kept_piece p ≡ record { space = set_of form; definitions = []; rows = rows } =
+    All-head (λ k. k ≡ record { space = set_of form; definitions = []; rows = rows }) (kept_piece p) []
+    (subst (All (λ k. k ≡ record { space = set_of form; definitions = []; rows = rows })) (sym e)
+    (All-cons (λ k. k ≡ record { space = set_of form; definitions = []; rows = rows })
+    (record { space = set_of form; definitions = []; rows = rows }) [] refl
+    (All-nil (λ k. k ≡ record { space = set_of form; definitions = []; rows = rows })))) in
+    let space : p.space ≡ set_of form = ap (λ (k : KeptPiece). k.space) same in
+    let is_set : IsSetForm p.space = subst IsSetForm (sym space) tt in
+    let is_own : own ≡ true = sets (All-cons (λ (piece : PieceView). IsSetForm piece.space) p [] is_set
+    (All-nil (λ (piece : PieceView). IsSetForm piece.space))) in
+    record {
+      one = c;
+      only = refl;
+      own = z.0.own ∙ is_own;
+      time = z.0.time ∙ ap time_form space;
+      rows_are = ap (λ (s : System). s.rows) (z.0.system is_own) ∙ ap (λ (k : KeptPiece). k.rows) same;
     }
 
 -- ---- answers
@@ -462,6 +503,7 @@ calls_later g h value calls charged are = record {
   alike = are.alike;
   exact = are.exact;
   once = are.once;
+  own = are.own;
 }
 
 -- why there are none, once the value was found to be a schedule

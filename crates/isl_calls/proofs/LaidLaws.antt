@@ -100,6 +100,7 @@ module _ (p : PieceView) (calls : Calls) (a : Form) (lies : p.space ≡ set_of a
     called = own_visit params;
     within = subst (IsSystemWithin g) (sym same) within;
     plain = ap (λ (s : System). s.definitions) same ∙ plain;
+    system = λ e. same;
     free = ap free_columns same ∙ view_free params p sound ∙ ap (columns_of params) lies
         ∙ ap (λ n. length params + n) (sym (ap width_of time_is));
   }
@@ -179,6 +180,7 @@ module _ (n : ℕ) (visits : Visits) (calls : Calls) (made : System) (wide : vis
                 ((λ h. second.0 (first.0 h)), (λ h. first.1 (second.1 h)));
             within = subst (IsSystemWithin g) (sym same) spread'.within;
             plain = ap (λ (s : System). s.definitions) same ∙ spread'.definitions wide;
+            system = λ e. absurd (false≢true e);
             free = ap free_columns same ∙ spread'.free
                 ∙ columns (length params) (width_of (form_of visits.domain.value)) (width_of (form_of visits.time.value))
                 (width_of (form_of calls.domain.value)) (width_of (form_of calls.time.value)) few (ap width_of domain) (ap width_of time);

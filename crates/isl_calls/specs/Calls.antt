@@ -1,11 +1,13 @@
 -- public: what is called at which times, as systems. (isl manual, on schedules and on code generation)
-use Rattle.std.specs.Prelude.{◌≡◌, ◌↔◌, ℕ, ◌+◌, ◌≤◌, ℤ, Bool, true, false, List, [], ◌++◌, All, AllPairs, Any, length}
+use Rattle.std.specs.Prelude.{◌≡◌, ◌↔◌, ℕ, ◌+◌, ◌≤◌, ℤ, Bool, true, false, List, [], ◌∷◌, ◌++◌, All, AllPairs, Any, length}
 use Rattle.isl_meter.specs.Gauge.{Gauge}
-use Rattle.isl_space.specs.Form.{width_of}
+use Rattle.isl_space.specs.Form.{Form, width_of}
 use Rattle.isl_space.specs.Limits.{most_coordinates}
 use Rattle.isl_space.specs.Name.{Name}
 use Rattle.isl_space.specs.Shape.{form_of}
+use Rattle.isl_space.specs.SpaceForm.{set_of}
 use Rattle.isl_space.specs.Valuation.{Valuation, values_of}
+use Rattle.isl_piece.specs.declared.row.Row.{Row}
 use Rattle.isl_piece.specs.System.{HoldsSystem, IsSystemWithin, free_columns}
 use Rattle.isl_tower.specs.Bounded.{IsBounded}
 use Rattle.isl_union.specs.KeptValue.{KeptValue, Has}
@@ -47,12 +49,24 @@ pub record AreCalls (g : Gauge) (params : ℕ) (calls : Calls) : Type 0 where
   pub same : calls.is_own ≡ true → form_of calls.domain.value ≡ form_of calls.time.value
 
 -- ---- the calls of a value
+-- the value is one piece: the set of the form with these rows
+abbrev pub IsSetOf : Form → List Row → KeptValue → Type 0
+IsSetOf form rows value = value.pieces ≡ record { space = set_of form; definitions = []; rows = rows } ∷ []
+
+-- the only calls are of the points of this form at which these rows hold, each at itself
+pub record AreOwnCalls (form : Form) (rows : List Row) (calls : List Calls) : Type 0 where
+  pub one : Calls
+  pub only : calls ≡ one ∷ []
+  pub own : one.is_own ≡ true
+  pub time : form_of one.time.value ≡ form
+  pub rows_are : one.system.rows ≡ rows
+
 -- all times have one form, and all calls the same layout
 pub record AreAlike (calls : List Calls) : Type 0 where
   pub times : All (λ a. All (λ b. form_of a.time.value ≡ form_of b.time.value) calls) calls
   pub layout : All (λ a. All (λ b. a.is_own ≡ b.is_own) calls) calls
 
--- at each valuation each point that is visited is called once, at its time, and nothing else is
+-- at each valuation each point that is visited is called once, at its time, and nothing else is; of one set that is by its own rows
 pub record AreCallsOf (g : Gauge) (value : KeptValue) (calls : List Calls) : Type 0 where
   pub each : All (AreCalls g (length value.params)) calls
   pub alike : AreAlike calls
@@ -60,3 +74,4 @@ pub record AreCallsOf (g : Gauge) (value : KeptValue) (calls : List Calls) : Typ
       → Any (IsCalledAt value.params valuation x t) calls ↔ IsVisitedAt (Has value valuation) x t
   pub once : (valuation : Valuation) (x t : Point)
       → AllPairs (λ a b. IsCalledAt value.params valuation x t a → ¬ IsCalledAt value.params valuation x t b) calls
+  pub own : (form : Form) (rows : List Row) → IsSetOf form rows value → AreOwnCalls form rows calls

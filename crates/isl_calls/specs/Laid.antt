@@ -1,5 +1,5 @@
 -- inner: the visits of pieces, laid out by their times.
-use Rattle.std.specs.Prelude.{◌≡◌, ◌↔◌, ℕ, ◌+◌, Bool, true, false, List, [], length}
+use Rattle.std.specs.Prelude.{◌≡◌, ◌↔◌, ℕ, ◌+◌, Bool, true, false, List, [], All, length}
 use Rattle.std.specs.List.{AllZip}
 use Rattle.isl_meter.specs.Gauge.{Gauge}
 use Rattle.isl_space.specs.Form.{width_of}
@@ -22,7 +22,7 @@ abbrev pub IsSetForm : SpaceForm → Type 0
 IsSetForm (set_of form) = Unit {0}
 IsSetForm (map_of from to) = ⊥
 
--- what the piece tells to be visited is called, in this layout
+-- what the piece tells to be visited is called, in this layout; by the piece's own system where each point is its time
 pub record IsLaidOut (g : Gauge) (params : List Name) (is_own : Bool) (piece : PieceView) (calls : Calls) : Type 0 where
   pub domain : form_of calls.domain.value ≡ domain_form piece.space
   pub time : form_of calls.time.value ≡ time_form piece.space
@@ -32,6 +32,7 @@ pub record IsLaidOut (g : Gauge) (params : List Name) (is_own : Bool) (piece : P
       → IsVisitedAt (λ element. HasElement params valuation element (kept_piece piece)) x t ↔ IsCalledAt params valuation x t calls
   pub within : IsSystemWithin g calls.system
   pub plain : calls.system.definitions ≡ []
+  pub system : is_own ≡ true → calls.system ≡ piece.system
   pub free : free_columns calls.system
       ≡ length params + width_behind is_own (width_of (form_of calls.domain.value)) (width_of (form_of calls.time.value))
 
@@ -45,7 +46,8 @@ abbrev pub IsTimedLaid : ℕ → Visits → Calls → Type 0
 IsTimedLaid params visits calls = (g : Gauge) (names : List Name) (piece : PieceView) → length names ≡ params → IsVisitOf g names piece visits
     → IsLaidOut g names false piece calls
 
--- one for each piece, all in one layout
+-- one for each piece, all in one layout; where all pieces are of sets, each point is its time
 pub record AreLaidOut (g : Gauge) (params : List Name) (pieces : List PieceView) (calls : List Calls) : Type 0 where
   pub is_own : Bool
   pub each : AllZip (IsLaidOut g params is_own) pieces calls
+  pub sets : All (λ piece. IsSetForm piece.space) pieces → is_own ≡ true

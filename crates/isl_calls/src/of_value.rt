@@ -26,6 +26,9 @@ fn scheduled_calls(alloc: Global, value: &Value, meter: &mut Meter) -> Result<Ve
         (IsCutBy meter.old meter.new) }
 {
     let laid = laid_out(alloc, value.params(), value.pieces(), meter)?;
+    if laid.len() <= 1 {
+        return Ok(laid);
+    }
     apart(alloc, laid.as_slice(), meter)
 }
 

@@ -1,9 +1,9 @@
 -- The items of a value.
-use Rattle.std.proofs.Common.{◌≡◌, ◌↔◌, refl, sym, ap, ◌∙◌, subst, arith, ℕ, zero, suc, ◌+◌, ◌<◌, ◌≤◌, List, [], ◌∷◌, length, get_or}
+use Rattle.std.proofs.Common.{◌≡◌, ◌↔◌, refl, sym, ap, ◌∙◌, subst, arith, ℕ, zero, suc, ◌+◌, ◌<◌, ◌≤◌, Bool, List, [], ◌∷◌, length, get_or}
 use Rattle.std.specs.List.{All, AllPairs, AllZip, Any}
 use Rattle.isl_math.proofs.ListLaws.{All-zipped, AllZip-weaker, Any-contains, Any-element, Any-zipped}
 use Rattle.isl_meter.specs.Gauge.{Gauge, IsCharged}
-use Rattle.isl_space.specs.Form.{width_of}
+use Rattle.isl_space.specs.Form.{Form, width_of}
 use Rattle.isl_space.specs.Limits.{most_coordinates}
 use Rattle.isl_space.specs.Shape.{form_of}
 use Rattle.isl_space.specs.Valuation.{Valuation, values_of}
@@ -22,11 +22,11 @@ use Rattle.isl_schedule.proofs.VisitLaws.{points_same}
 use Rattle.isl_union.specs.KeptValue.{KeptValue, Has}
 use Rattle.isl_calls.specs.declared.calls.Calls.{Calls}
 use Rattle.isl_calls.specs.Apart.{called_form}
-use Rattle.isl_calls.specs.Calls.{AreCalls, AreCallsOf, IsCalledAt}
+use Rattle.isl_calls.specs.Calls.{width_behind, AreCalls, AreCallsOf, AreOwnCalls, IsCalledAt}
 use Rattle.isl_calls.proofs.CallsLaws.{zipped_back, zipped_pairs}
 use Rattle.isl_due.specs.Due.{name_of, timed_call, IsDue}
 use Rattle.isl_due.proofs.GoodLaws.{leaves_same}
-use Rattle.isl_items.specs.Items.{AreItemsOf, CallsAt, IsItemOf}
+use Rattle.isl_items.specs.Items.{AreItemsOf, CallsAt, IsItemOf, IsOnlyItem}
 use Rattle.isl_items.proofs.CalledLaws.{called_behind, item_view}
 
 -- ---- one item
@@ -37,6 +37,10 @@ module _ (g : Gauge) (params : ℕ) (c : Calls) (are : AreCalls g params c) (ite
     covered = covered;
     params_are = ap (λ (v : ItemView). v.params) is;
     times = ap (λ (v : ItemView). v.times) is;
+    rows_are = ap (λ (v : ItemView). v.rows) is;
+    own = λ e. ap (λ (v : ItemView). v.levels) is
+        ∙ ap (λ (b : Bool). width_behind b (width_of (called_form c)) (width_of (form_of c.time.value))) e
+        ∙ sym (ap (λ (v : ItemView). v.times) is);
     called = λ names v timed few.
         subst (λ (view : ItemView). IsCalledBehind view (values_of names v) timed
         ↔ ((x : Point) × (t : Point) × IsCalledAt names v x t c × (timed ≡ timed_call x t))) (sym is)
@@ -120,6 +124,22 @@ module _ (g : Gauge) (value : KeptValue) (calls : List Calls) (are : AreCallsOf 
           (subst (λ (u : Point). IsCalledAt value.params v first.0 u b) same.1
           (subst (λ (y : Point). IsCalledAt value.params v y second.1 b) same.0 second.2))
 
+  only_item : (form : Form) (rows : List Row) → AreOwnCalls form rows calls → IsOnlyItem (width_of form) rows items
+  only_item form rows own = by items (subst (λ (cs : List Calls). AllZip (IsItemOf g n) cs items) own.only zipped)
+    where
+      by : (xs : List Item) → AllZip (IsItemOf g n) (own.one ∷ []) xs → IsOnlyItem (width_of form) rows xs
+      by [] z = absurd z
+      by (x ∷ y ∷ xs) z = absurd z.1
+      by (x ∷ []) z =
+          let times = z.0.times ∙ ap width_of own.time in
+          record {
+            item = x;
+            only = refl;
+            levels_are = z.0.own own.own ∙ times;
+            times = times;
+            rows_are = z.0.rows_are ∙ own.rows_are;
+          }
+
   pub items_made : AreItemsOf g value items
   items_made = record {
     covered = All-zipped (IsItemOf g n) (λ c. Unit {0}) (IsCovered g) (λ c item r u. r.covered) calls items zipped trivial;
@@ -130,6 +150,7 @@ module _ (g : Gauge) (value : KeptValue) (calls : List Calls) (are : AreCallsOf 
         (λ c item r a. subst (λ k. k ≤ most_coordinates) (sym r.times) a.narrow.1) calls items zipped are.each;
     exact = items_exact;
     once = items_once;
+    own = λ form rows set. only_item form rows (are.own form rows set);
   }
 
 -- ---- a meter that was charged
@@ -174,6 +195,8 @@ item_kept g h params c item charged r = record {
   };
   params_are = r.params_are;
   times = r.times;
+  rows_are = r.rows_are;
+  own = r.own;
   called = r.called;
 }
 

@@ -62,6 +62,7 @@ module _ (g : Gauge) (value : KeptValue) (items : List Item) (are : AreItemsOf g
     narrow = are.narrow;
     exact = are.exact;
     once = are.once;
+    own = are.own;
   }
 
   pub items_over : (params times : ℕ) → params ≡ length value.params → All (λ item. item.times ≡ times) items

@@ -9,3 +9,4 @@ pub mod PartsLaws
 pub mod GroupedLaws
 pub mod StartLaws
 pub mod GenerateLaws
+pub mod AloneLaws

@@ -2,3 +2,4 @@ pub mod Together
 pub mod Order
 pub mod Groups
 pub mod Shared
+pub mod Strided

@@ -1,13 +1,17 @@
 //! Loops from values.
 
-ghost use Rattle.std.specs.Prelude.{◌≡◌, ◌≤◌, ℕ, All, IfOk, length};
+ghost use Rattle.std.specs.Prelude.{◌≡◌, ◌≤◌, ℕ, List, All, IfOk, length};
 ghost use Rattle.isl_meter.specs.Gauge.{IsMetered};
 ghost use Rattle.isl_loop.specs.Formed.{IsLoopOver};
 ghost use Rattle.isl_union.specs.KeptValue.{HasNoDefinitions};
 ghost use Rattle.isl_union.specs.Numbers.{IsWithinLimit};
 ghost use Rattle.isl_due.specs.Good.{IsGenerated, ListsCalls};
 ghost use Rattle.isl_schedule.specs.Schedule.{IsSchedule};
-ghost use Rattle.isl_items.specs.Items.{AreItemsOf};
+ghost use Rattle.isl_space.specs.Form.{width_of};
+ghost use Rattle.isl_piece.specs.declared.row.Row.{Row};
+ghost use Rattle.isl_strided.specs.Strided.{IsStrided};
+ghost use Rattle.isl_items.specs.Items.{AreItemsOf, IsOnlyItem};
+ghost use Rattle.isl_loops.specs.Strided.{IsNeverIdle, IsStridedSet};
 
 use crate::groups::Extent;
 use crate::together::together;
@@ -36,6 +40,8 @@ fn times_of(items: &[Item]) -> usize
 fn loops_of(alloc: Global, value: &Value, items: Vec<Item>, meter: &mut Meter) -> Result<Loop, Cut>
     requires { AreItemsOf meter.old value.now items.items }
     ensures lists { IfOk result (ListsCalls value.now) }
+    ensures strided { (levels : ℕ) (rows : List Row) → IsOnlyItem levels rows items.items
+        → IsStrided (length value.now.params) levels rows → IfOk result (IsNeverIdle value.now.params levels) }
     ensures over { IfOk result (IsLoopOver meter.old (length value.now.params)) }
     ensures meter { IsMetered meter.old meter.new result }
 {
@@ -52,7 +58,7 @@ fn loops_of(alloc: Global, value: &Value, items: Vec<Item>, meter: &mut Meter) -
 }
 
 /// Loops that visit what a value without defined columns tells to be visited, each point once, and none before one of an earlier time; the
-/// points of a set at themselves. (isl manual, on code generation)
+/// points of a set at themselves. Of a strided set no turn of a loop is idle. (isl manual, on code generation)
 ///
 /// # Errors
 ///
@@ -64,6 +70,7 @@ pub fn codegen(alloc: Global, value: &Value, meter: &mut Meter) -> Result<Loop, 
     requires within { IsWithinLimit meter.old value.now }
     ensures tree { IsGenerated value.now meter.old meter.new result }
     ensures schedule { IfOk result (λ _. IsSchedule value.now) }
+    ensures strided { (set : IsStridedSet value.now) → IfOk result (IsNeverIdle value.now.params (width_of set.form)) }
 {
     let items = items_of(alloc, value, meter)?;
     Ok(loops_of(alloc, value, items, meter)?)

@@ -1,9 +1,12 @@
 //! Loops from items.
 
-ghost use Rattle.std.specs.Prelude.{◌≡◌, ◌⊎◌, ◌+◌, ◌^◌, ◌<◌, ◌≤◌, All, AllPairs, IfOk, MatchOption, length};
+ghost use Rattle.std.specs.Prelude.{◌≡◌, ◌⊎◌, ◌+◌, ◌-◌, ◌^◌, ◌<◌, ◌≤◌, [], ◌∷◌, All, AllPairs, IfOk, MatchOption, length};
 ghost use Rattle.isl_meter.specs.Gauge.{Gauge, IsMetered};
 ghost use Rattle.isl_loop.specs.Formed.{IsLoopOver};
+ghost use Rattle.isl_nest.specs.declared.item.Item.{Item};
+ghost use Rattle.isl_nest.specs.Covered.{view_of};
 ghost use Rattle.isl_nest.specs.Places.{IsPlace};
+ghost use Rattle.isl_nest.specs.Separate.{IsSeparate};
 ghost use Rattle.isl_loops.specs.Shared.{covers_behind, IsSharedLoop, IsSharedNothing};
 ghost use Rattle.isl_loops.specs.Together.{AreApart, IsOver, ListsAll};
 
@@ -30,6 +33,8 @@ fn one_by_one(
     requires high { length place.now.frame ≤ extent.params + extent.times }
     requires outer { length items.now ≤ 1 ⊎ (length place.now.frame ≡ extent.params + extent.times) }
     ensures lists { IfOk result (ListsAll items.now place.now) }
+    ensures alone { (item : Item) → items.now ≡ item ∷ [] → IfOk result (IsSeparate (view_of item)
+        (item.params + item.levels - length place.now.frame) place.now) }
     ensures over { IfOk result (IsLoopOver meter.old place.now.variables) }
     ensures meter { IsMetered meter.old meter.new result }
 {
@@ -86,7 +91,7 @@ fn shared(
 }
 
 /// The loops of the items behind the columns of the place: a tree that lists the calls of all items in the order of their times wherever
-/// the place stands.
+/// the place stands; of one item its nest alone.
 ///
 /// # Errors
 ///
@@ -105,6 +110,8 @@ pub(crate) fn together(
     requires high { length place.now.frame ≤ extent.params + extent.times }
     requires room { extent.params + extent.times < 2 ^ 63 }
     ensures lists { IfOk result (ListsAll items.items place.now) }
+    ensures alone { (item : Item) → items.items ≡ item ∷ [] → IfOk result (IsSeparate (view_of item)
+        (item.params + item.levels - length place.now.frame) place.now) }
     ensures over { IfOk result (IsLoopOver meter.old place.now.variables) }
     ensures meter { IsMetered meter.old meter.new result }
 {

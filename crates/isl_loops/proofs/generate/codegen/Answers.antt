@@ -1,6 +1,7 @@
 use Rattle.std.proofs.Common.{sym, length}
 use Rattle.std.proofs.lemmas.Result.{err_from_is_err_and}
 use Rattle.isl_meter.proofs.CutLemmas.{IsCharged_trans}
+use Rattle.isl_space.specs.Form.{width_of}
 use Rattle.isl_loop.proofs.LimitLaws.{IsLoopOver-same}
 use Rattle.isl_nest.proofs.AroundLaws.{charged_bits}
 use Rattle.isl_due.proofs.GoodLaws.{good_tree}
@@ -30,3 +31,7 @@ returns-in_err-loops_of-clause-tree c =
     let error = err_from_is_err_and c.from_residual-in_err-loops_of.result c.from_residual-in_err-loops_of.ensures.1 in
     rw (error.1, error.2) (cut_later c.args.meter.now c.items_of.new.meter c.loops_of.new.meter c.args.value.now
     c.in_err-loops_of.field-0.0 are.0 are.2 c.in_err-loops_of.ensures.meter)
+
+pub returns-clause-strided : goal.returns-clause-strided
+returns-clause-strided c set =
+    c.in_ok-loops_of.ensures.strided (width_of set.form) set.rows (c.in_ok-items.ensures.1.own set.form set.rows set.set) set.strided

@@ -1,12 +1,16 @@
-use Rattle.std.proofs.Common.{◌≡◌, ◌∙◌, ◌≤◌, ap, subst, arith, length, ℕ, List}
+use Rattle.std.proofs.Common.{◌≡◌, ◌∙◌, ◌+◌, ◌-◌, ◌≤◌, ap, subst, arith, length, ℕ, List}
 use Rattle.std.proofs.lemmas.Result.{IfOk-weaker}
 use Rattle.isl_loop.specs.Formed.{IsLoopOver}
 use Rattle.isl_nest.specs.declared.place.Place.{Place}
+use Rattle.isl_nest.specs.Covered.{view_of}
+use Rattle.isl_nest.specs.Separate.{IsSeparate}
 use Rattle.isl_space.specs.Limits.{most_coordinates}
 use Rattle.isl_space.specs.Name.{Name}
 use Rattle.isl_space.specs.Names.{IsParameterList}
 use Rattle.isl_due.specs.Good.{ListsCalls}
+use Rattle.isl_loops.specs.Strided.{IsNeverIdle}
 use Rattle.isl_loops.specs.Together.{ListsAll}
+use Rattle.isl_loops.proofs.AloneLaws.{never_idle}
 use Rattle.isl_loops.proofs.GenerateLaws.{items_apart, items_over, lists_value, own_long, own_place}
 use Rattle.isl_loops.proofs.generate.loops_of.Goals as goal
 
@@ -70,3 +74,16 @@ returns-clause-over c =
     c.len-params.ensures.len ∙ ap (λ (ns : List Name). length ns) c.params.ensures.content in
     IfOk-weaker c.together.result (IsLoopOver g c.len-params.result) (IsLoopOver g (length value.params))
     (λ tree over. subst (λ (n : ℕ). IsLoopOver g n tree) e over) c.together.ensures.over
+
+pub returns-clause-strided : goal.returns-clause-strided
+returns-clause-strided c levels rows only strided =
+    let value = c.args.value.now in
+    let items = c.args.items.items in
+    let e : c.len-params.result ≡ length value.params =
+    c.len-params.ensures.len ∙ ap (λ (ns : List Name). length ns) c.params.ensures.content in
+    let place : Place = record { variables = c.len-params.result; frame = c.in_ok-own_frame.field-0; context = c.new.result } in
+    let item = only.item in
+    IfOk-weaker c.together.result (IsSeparate (view_of item) (item.params + item.levels - length place.frame) place)
+    (IsNeverIdle value.params levels)
+    (λ tree separate. never_idle c.args.meter.now value items c.requires place tree e c.in_ok-own_frame.ensures.frame c.new.ensures levels rows
+    only strided separate) (c.together.ensures.alone item only.only)

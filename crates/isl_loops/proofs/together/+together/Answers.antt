@@ -242,3 +242,9 @@ returns-in_err-push-2-clause-meter t c =
 
 pub one_by_one-requires-clause-apart : goal.one_by_one-requires-clause-apart
 one_by_one-requires-clause-apart t c = rw c.as_slice.ensures.value c.requires.apart
+
+pub returns-clause-alone : goal.returns-clause-alone
+returns-clause-alone t c item only =
+    let several : 1 < length c.args.items.items = grind (arith, common_steps) in
+    let one = ap length only in
+    absurd (omega (arith, several, one))

@@ -1,12 +1,17 @@
-use Rattle.std.proofs.Common.{◌<◌, ◌≤◌, refl, sym, arith, length}
+use Rattle.std.proofs.Common.{◌+◌, ◌-◌, ◌<◌, ◌≤◌, refl, sym, subst, arith, length, List}
+use Rattle.std.proofs.lemmas.List.{take_all}
 use Rattle.std.proofs.lemmas.List.Elements.{All-nil}
 use Rattle.isl_meter.proofs.CutLemmas.{IsCharged_refl, IsCharged_trans}
 use Rattle.isl_loop.specs.declared.tree.Loop.{Block}
 use Rattle.isl_loop.specs.Formed.{IsLoopOver}
 use Rattle.isl_loop.proofs.LimitLaws.{IsLoopOver-same}
+use Rattle.isl_nest.specs.declared.item.Item.{Item}
+use Rattle.isl_nest.specs.Covered.{view_of}
+use Rattle.isl_nest.specs.Separate.{IsSeparate}
 use Rattle.isl_nest.proofs.AroundLaws.{charged_bits}
 use Rattle.isl_nest.proofs.PlaceLaws.{place_later}
 use Rattle.isl_loops.specs.Together.{IsOver}
+use Rattle.isl_loops.proofs.AloneLaws.{alone_more, alone_none, IsAloneOf}
 use Rattle.isl_loops.proofs.CallLaws.{all_at, over_charged}
 use Rattle.isl_loops.proofs.PartsLaws.{block_none, block_over, lists_done, lists_nothing, lists_one_more, parts_over}
 use Rattle.isl_loops.proofs.together.one_by_one.Goals as goal
@@ -16,6 +21,7 @@ loop-item-init c = (
   lists_nothing c.args.place.now (Block c.new-parts.result) (block_none c.new-parts.result c.new-parts.ensures),
   rw c.new-parts.ensures (All-nil (IsLoopOver c.args.meter.now c.args.place.now.variables)),
   IsCharged_refl c.args.meter.now c.args.meter.now refl,
+  alone_none c.args.place.now c.new-parts.result c.new-parts.ensures,
 )
 
 pub separate-requires-clause-item : goal.separate-requires-clause-item
@@ -100,12 +106,21 @@ loop-item-preserved c =
       parts_over g place.variables parts tree made c.in_ok-push.ensures.ok c.loop-item.invariant.1
           (IsLoopOver-same h g place.variables tree (sym same) c.in_ok-separate.ensures.over),
       IsCharged_trans g h c.separate.new.meter c.loop-item.invariant.2 c.in_ok-separate.ensures.meter,
+      alone_more place items i item low c.item-item.is parts made tree c.in_ok-push.ensures.ok c.loop-item.invariant.3
+          (subst (λ n. IsSeparate (view_of item) (item.params + item.levels - n) place tree) c.len-columns.ensures
+          c.in_ok-separate.ensures.separate),
     )
 
 pub returns-clause-lists : goal.returns-clause-lists
 returns-clause-lists c =
     let end : length c.args.items.now ≤ c.loop-item.item-index = omega arith in
     lists_done c.args.place.now c.args.items.now c.loop-item.item-index (Block c.loop-item.parts) end c.loop-item.invariant.0
+
+pub returns-clause-alone : goal.returns-clause-alone
+returns-clause-alone c item only =
+    let end : length c.args.items.now ≤ c.loop-item.item-index = omega arith in
+    (subst (λ (xs : List Item). IsAloneOf c.args.place.now xs c.loop-item.parts) (take_all c.loop-item.item-index c.args.items.now end)
+    c.loop-item.invariant.3).separate item only
 
 pub returns-clause-over : goal.returns-clause-over
 returns-clause-over c = block_over c.args.meter.now c.args.place.now.variables c.loop-item.parts c.loop-item.invariant.1
