@@ -1,7 +1,7 @@
 -- Well formed trees, part by part.
 use mathlib.Core.Former.{Count}
-use Rattle.std.proofs.Common.{◌≡◌, ◌↔◌, ◌∙◌, refl, sym, ap, subst, arith, Bool, true, false, ℕ, zero, suc, ◌+◌, ◌<◌, ◌≤◌}
-use Rattle.std.proofs.Common.{ℤ, pos, ◌<ℤ◌, List, [], ◌∷◌, length, get_or, take}
+use Rattle.std.proofs.Common.{◌≡◌, ◌↔◌, ◌∙◌, refl, sym, subst, arith, Bool, true, false, ℕ, ◌+◌, ◌<◌, ◌≤◌}
+use Rattle.std.proofs.Common.{ℤ, pos, ◌<ℤ◌, List, length, get_or, take}
 use Rattle.std.specs.Prelude.{IfOk, IsTrue, Result, Ok, Err}
 use Rattle.std.specs.List.{All}
 use Rattle.std.proofs.lemmas.Bool.{false≢true}
@@ -10,15 +10,13 @@ use Rattle.std.proofs.lemmas.List.Elements.{All-nil, All-cons, All-head, All-tai
 use Rattle.isl_meter.specs.Gauge.{Gauge, IsWithin}
 use Rattle.isl_piece.specs.declared.row.RowKind.{RowKind}
 use Rattle.isl_piece.specs.declared.row.Row.{Row}
-use Rattle.isl_piece.specs.Normal.{normal_row, Kept}
-use Rattle.isl_piece.specs.Row.{HasModulus, IsRowWithin}
 use Rattle.isl_loop.specs.declared.tree.Expr.{Expr, out-Expr, Row_of-Item, end_of-Item, more_of-Item, items-the_row-Item}
 use Rattle.isl_loop.specs.declared.tree.Expr.{Expr', items_shown-the_row-Item-2}
 use Rattle.isl_loop.specs.declared.tree.Item.{Item}
 use Rattle.isl_loop.specs.declared.tree.Atom.{Atom, Column, Floor, Ceil, Min, Max, Row_of-Expr, end_of-Expr, more_of-Expr}
 use Rattle.isl_loop.specs.declared.tree.Atom.{items-the_row-Expr, items_hidden-the_row-Expr-1}
 use Rattle.isl_loop.specs.declared.tree.Atom.TheBlock.{hidden-the_row-Expr-0, hidden-the_row-Expr-1}
-use Rattle.isl_loop.specs.declared.tree.Loop.{Loop, Block, For, If, Call, Row_of-Loop, end_of-Loop, more_of-Loop}
+use Rattle.isl_loop.specs.declared.tree.Loop.{Loop, Block, For, If, Row_of-Loop, end_of-Loop, more_of-Loop}
 use Rattle.isl_loop.specs.declared.tree.Loop.{items-the_row-Loop, items_hidden-the_row-Loop-0}
 use Rattle.isl_loop.specs.declared.tree.Loop.TheBlock.{hidden-the_row-Loop-0, hidden-the_row-Loop-1}
 use Rattle.isl_loop.specs.Formed.{AreExprsOver, AreLoopsOver, AreSome, IsAtomOver, IsExprOver, IsLoopOver, IsRowOver, IsSumOver}

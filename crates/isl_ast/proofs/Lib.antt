@@ -1,4 +1,5 @@
 pub mod RunLaws
+pub mod CalledLaws
 pub mod ValueLaws
 pub mod SizeLaws
 pub mod StepLaws

@@ -17,6 +17,7 @@ use Rattle.isl_loop.specs.Run.{Event, trace, turns_of}
 use Rattle.isl_loop.specs.Turns.{turns}
 use Rattle.isl_loop.proofs.LimitLaws.{IsLoopOver-same, RunPasses-same}
 use Rattle.isl_loop.proofs.TurnLaws.{turns_first, turns_none}
+use Rattle.isl_ast.specs.Called.{AreCalled}
 use Rattle.isl_ast.specs.Run.{charged, turn_calls, turn_units, turns_from, ArePassed, IsEnded, IsSoFar, IsTurned, TurnsPass}
 use Rattle.isl_ast.proofs.RunLaws.{ended-memory, ended-spent, so_far-end, so_far-ended, so_far-more, so_far-start}
 
@@ -52,61 +53,68 @@ units_first : (body : Loop) (point : List ℤ) (x : ℤ) (rest : List ℤ)
     → turn_units body point (x ∷ rest) ≡ (1 + turns_of body (point ++ x ∷ [])) + turn_units body point rest
 units_first body point x rest = sum_by-cons (λ (y : ℤ). 1 + turns_of body (point ++ y ∷ [])) x rest
 
-units_at : (g h : Gauge) (before now : List Event) (body : Loop) (point : List ℤ) (x : ℤ) (rest all : List ℤ)
-    → IsTurned g h before now body point (x ∷ rest) all
-    → IsSoFar g h before now (turn_calls body point (x ∷ rest)) (turn_calls body point all)
+units_at : {S : Type 0} (Called : S → Event → S → Type 0) (g h : Gauge) (before now : S) (body : Loop) (point : List ℤ) (x : ℤ)
+    (rest all : List ℤ)
+    → IsTurned Called g h before now body point (x ∷ rest) all
+    → IsSoFar Called g h before now (turn_calls body point (x ∷ rest)) (turn_calls body point all)
     ((1 + turns_of body (point ++ x ∷ [])) + turn_units body point rest) (turn_units body point all)
     (TurnsPass g body point (x ∷ rest)) (TurnsPass g body point all)
-units_at g h before now body point x rest all s = record {
+units_at Called g h before now body point x rest all s = record {
+  done = s.done;
+  called = s.called;
   calls = s.calls;
   charged = s.charged;
   units = let u = units_first body point x rest in let e = s.units in omega (arith, u, e);
   passes = s.passes;
 }
 
-pub turn-done : (g h mid k : Gauge) (before now next : List Event) (body : Loop) (point : List ℤ) (x : ℤ) (rest all : List ℤ)
-    → IsTurned g h before now body point (x ∷ rest) all → mid ≡ record h { units = h.units + 1 }
-    → next ≡ now ++ trace body (point ++ x ∷ [])
-    → k ≡ charged mid (turns_of body (point ++ x ∷ [])) → IsTurned g k before next body point rest all
-turn-done g h mid k before now next body point x rest all s unit longer more =
+pub turn-done : {S : Type 0} (Called : S → Event → S → Type 0) (g h mid k : Gauge) (before now next : S) (body : Loop) (point : List ℤ)
+    (x : ℤ) (rest all : List ℤ)
+    → IsTurned Called g h before now body point (x ∷ rest) all → mid ≡ record h { units = h.units + 1 }
+    → AreCalled Called now (trace body (point ++ x ∷ [])) next
+    → k ≡ charged mid (turns_of body (point ++ x ∷ [])) → IsTurned Called g k before next body point rest all
+turn-done Called g h mid k before now next body point x rest all s unit longer more =
     let t = turns_of body (point ++ x ∷ []) in
-    so_far-more g h k before now next (trace body (point ++ x ∷ [])) (turn_calls body point rest) (turn_calls body point all)
+    so_far-more Called g h k before now next (trace body (point ++ x ∷ [])) (turn_calls body point rest) (turn_calls body point all)
     (1 + t) (turn_units body point rest) (turn_units body point all)
     (TurnsPass g body point (x ∷ rest)) (TurnsPass g body point rest) (TurnsPass g body point all)
-    (units_at g h before now body point x rest all s)
+    (units_at Called g h before now body point x rest all s)
     (twice h mid k t unit more) longer (Any-later (λ y. RunPasses g (point ++ y ∷ []) body) x rest)
 
 same_bits : (g h mid : Gauge) → IsCharged g h → mid ≡ record h { units = h.units + 1 } → mid.bits ≡ g.bits
 same_bits g h mid c unit = ap (λ (m : Gauge). m.bits) unit ∙ ap (λ (m : Gauge). m.bits) c.same
 
-pub turn-cut : (g h mid k : Gauge) (before now : List Event) (body : Loop) (point : List ℤ) (x : ℤ) (rest all : List ℤ) (cut : Cut)
-    → IsTurned g h before now body point (x ∷ rest) all → mid ≡ record h { units = h.units + 1 }
+pub turn-cut : {S : Type 0} (Called : S → Event → S → Type 0) (g h mid k : Gauge) (before now : S) (body : Loop) (point : List ℤ) (x : ℤ)
+    (rest all : List ℤ) (cut : Cut)
+    → IsTurned Called g h before now body point (x ∷ rest) all → mid ≡ record h { units = h.units + 1 }
     → IsEnded mid k (turns_of body (point ++ x ∷ [])) (RunPasses mid (point ++ x ∷ []) body) cut
     → IsEnded g k (turn_units body point all) (TurnsPass g body point all) cut
-turn-cut g h mid k before now body point x rest all cut s unit e =
+turn-cut Called g h mid k before now body point x rest all cut s unit e =
     let t = turns_of body (point ++ x ∷ []) in
     let P : ℤ → Type 0 = λ y. RunPasses g (point ++ y ∷ []) body in
-    so_far-ended g h k before now (turn_calls body point (x ∷ rest)) (turn_calls body point all) (1 + t)
+    so_far-ended Called g h k before now (turn_calls body point (x ∷ rest)) (turn_calls body point all) (1 + t)
     (turn_units body point (x ∷ rest)) (turn_units body point all)
     (TurnsPass g body point (x ∷ rest)) (RunPasses mid (point ++ x ∷ []) body) (TurnsPass g body point all) cut s
     (after_unit h mid k t (RunPasses mid (point ++ x ∷ []) body) cut unit e)
     (let u = units_first body point x rest in omega (arith, u))
     (λ p. Any-first P x rest (RunPasses-same mid g (point ++ x ∷ []) body (sym (same_bits g h mid s.charged unit)) p))
 
-pub turn-spent : (g h k : Gauge) (before now : List Event) (body : Loop) (point : List ℤ) (x : ℤ) (rest all : List ℤ)
-    → IsTurned g h before now body point (x ∷ rest) all → h.units ≡ h.budget → k ≡ spent_out h
+pub turn-spent : {S : Type 0} (Called : S → Event → S → Type 0) (g h k : Gauge) (before now : S) (body : Loop) (point : List ℤ) (x : ℤ)
+    (rest all : List ℤ)
+    → IsTurned Called g h before now body point (x ∷ rest) all → h.units ≡ h.budget → k ≡ spent_out h
     → IsEnded g k (turn_units body point all) (TurnsPass g body point all) Budget
-turn-spent g h k before now body point x rest all s full spent =
-    so_far-ended g h k before now (turn_calls body point (x ∷ rest)) (turn_calls body point all) 1
+turn-spent Called g h k before now body point x rest all s full spent =
+    so_far-ended Called g h k before now (turn_calls body point (x ∷ rest)) (turn_calls body point all) 1
     (turn_units body point (x ∷ rest)) (turn_units body point all)
     (TurnsPass g body point (x ∷ rest)) ⊥ (TurnsPass g body point all) Budget s
     (ended-spent h k 1 ⊥ full spent (omega arith)) (let u = units_first body point x rest in omega (arith, u)) (λ n. absurd n)
 
-pub turn-memory : (g h mid : Gauge) (before now : List Event) (body : Loop) (point : List ℤ) (x : ℤ) (rest all : List ℤ)
-    → IsTurned g h before now body point (x ∷ rest) all → mid ≡ record h { units = h.units + 1 }
+pub turn-memory : {S : Type 0} (Called : S → Event → S → Type 0) (g h mid : Gauge) (before now : S) (body : Loop) (point : List ℤ) (x : ℤ)
+    (rest all : List ℤ)
+    → IsTurned Called g h before now body point (x ∷ rest) all → mid ≡ record h { units = h.units + 1 }
     → IsEnded g mid (turn_units body point all) (TurnsPass g body point all) NoMemory
-turn-memory g h mid before now body point x rest all s unit =
-    so_far-ended g h mid before now (turn_calls body point (x ∷ rest)) (turn_calls body point all) 1
+turn-memory Called g h mid before now body point x rest all s unit =
+    so_far-ended Called g h mid before now (turn_calls body point (x ∷ rest)) (turn_calls body point all) 1
     (turn_units body point (x ∷ rest)) (turn_units body point all)
     (TurnsPass g body point (x ∷ rest)) ⊥ (TurnsPass g body point all) NoMemory s
     (ended-memory h mid 1 ⊥ (IsCharged-unit h mid unit)) (let u = units_first body point x rest in omega (arith, u)) (λ n. absurd n)
@@ -119,20 +127,23 @@ body_over g h mid body point now x over c unit is =
     (IsLoopOver-same g mid (length point + 1) body (same_bits g h mid c unit) over)
 
 -- ---- one part
-pub part-done : (g h k : Gauge) (before now next : List Event) (point : List ℤ) (part : Loop) (rest all : List Loop)
-    → ArePassed g h before now point (part ∷ rest) all → next ≡ now ++ trace part point → k ≡ charged h (turns_of part point)
-    → ArePassed g k before next point rest all
-part-done g h k before now next point part rest all s longer more =
-    so_far-more g h k before now next (trace part point) (calls_of rest point) (calls_of all point)
+pub part-done : {S : Type 0} (Called : S → Event → S → Type 0) (g h k : Gauge) (before now next : S) (point : List ℤ) (part : Loop)
+    (rest all : List Loop)
+    → ArePassed Called g h before now point (part ∷ rest) all → AreCalled Called now (trace part point) next → k ≡ charged h
+    (turns_of part point)
+    → ArePassed Called g k before next point rest all
+part-done Called g h k before now next point part rest all s longer more =
+    so_far-more Called g h k before now next (trace part point) (calls_of rest point) (calls_of all point)
     (turns_of part point) (turns_through rest point) (turns_through all point)
     (Any (RunPasses g point) (part ∷ rest)) (Any (RunPasses g point) rest) (Any (RunPasses g point) all) s more longer
     (Any-later (RunPasses g point) part rest)
 
-pub part-cut : (g h k : Gauge) (before now : List Event) (point : List ℤ) (part : Loop) (rest all : List Loop) (cut : Cut)
-    → ArePassed g h before now point (part ∷ rest) all → IsEnded h k (turns_of part point) (RunPasses h point part) cut
+pub part-cut : {S : Type 0} (Called : S → Event → S → Type 0) (g h k : Gauge) (before now : S) (point : List ℤ) (part : Loop)
+    (rest all : List Loop) (cut : Cut)
+    → ArePassed Called g h before now point (part ∷ rest) all → IsEnded h k (turns_of part point) (RunPasses h point part) cut
     → IsEnded g k (turns_through all point) (Any (RunPasses g point) all) cut
-part-cut g h k before now point part rest all cut s e =
-    so_far-ended g h k before now (calls_of (part ∷ rest) point) (calls_of all point) (turns_of part point)
+part-cut Called g h k before now point part rest all cut s e =
+    so_far-ended Called g h k before now (calls_of (part ∷ rest) point) (calls_of all point) (turns_of part point)
     (turns_through (part ∷ rest) point) (turns_through all point)
     (Any (RunPasses g point) (part ∷ rest)) (RunPasses h point part) (Any (RunPasses g point) all) cut s e (omega arith)
     (λ p. Any-first (RunPasses g point) part rest (RunPasses-same h g point part (sym (ap (λ (m : Gauge). m.bits) s.charged.same)) p))
@@ -144,91 +155,108 @@ part_over g h part point now over c is =
     (IsLoopOver-same g h (length point) part (ap (λ (m : Gauge). m.bits) c.same) over)
 
 -- ---- one turn, as the code does it: the point has the number last
-pub turn_next : (g h mid k : Gauge) (before now next : List Event) (body : Loop) (point pushed : List ℤ) (x high step : ℤ)
-    (after : Option ℤ) (all : List ℤ) → pos 0 <ℤ step → x ≤ℤ high → IsTurned g h before now body point (turns x high step) all
-    → mid ≡ record h { units = h.units + 1 } → pushed ≡ point ++ x ∷ [] → next ≡ now ++ trace body pushed
+pub turn_next : {S : Type 0} (Called : S → Event → S → Type 0) (g h mid k : Gauge) (before now next : S) (body : Loop)
+    (point pushed : List ℤ) (x high step : ℤ)
+    (after : Option ℤ) (all : List ℤ) → pos 0 <ℤ step → x ≤ℤ high → IsTurned Called g h before now body point (turns x high step) all
+    → mid ≡ record h { units = h.units + 1 } → pushed ≡ point ++ x ∷ [] → AreCalled Called now (trace body pushed) next
     → k ≡ charged mid (turns_of body pushed) → MatchOption after (high <ℤ (x +ℤ step)) (λ y. (y ≡ x +ℤ step) × y ≤ℤ high)
-    → IsTurned g k before next body point (turns_from after high step) all
-turn_next g h mid k before now next body point pushed x high step after all p l s unit is longer more later =
-    subst (λ (rest : List ℤ). IsTurned g k before next body point rest all) (sym (first_turns (x +ℤ step) high step after p later).0)
-    (turn-done g h mid k before now next body point x (turns (x +ℤ step) high step) all
-    (subst (λ (rest : List ℤ). IsTurned g h before now body point rest all) (turns_first x high step p l) s) unit
-    (longer ∙ ap (λ (ys : List ℤ). now ++ trace body ys) is) (more ∙ ap (λ (ys : List ℤ). charged mid (turns_of body ys)) is))
+    → IsTurned Called g k before next body point (turns_from after high step) all
+turn_next Called g h mid k before now next body point pushed x high step after all p l s unit is longer more later =
+    subst (λ (rest : List ℤ). IsTurned Called g k before next body point rest all) (sym (first_turns (x +ℤ step) high step after p later).0)
+    (turn-done Called g h mid k before now next body point x (turns (x +ℤ step) high step) all
+    (subst (λ (rest : List ℤ). IsTurned Called g h before now body point rest all) (turns_first x high step p l) s) unit
+    (subst (λ (ys : List ℤ). AreCalled Called now (trace body ys) next) is longer)
+    (more ∙ ap (λ (ys : List ℤ). charged mid (turns_of body ys)) is))
 
 pub next_within : (x high step : ℤ) (after : Option ℤ) → MatchOption after (high <ℤ (x +ℤ step)) (λ y. (y ≡ x +ℤ step) × y ≤ℤ high)
     → IfSome after (λ y. y ≤ℤ high)
 next_within x high step None later = tt
 next_within x high step (Some y) later = later.1
 
-pub turn_ended : (g h mid k : Gauge) (before now : List Event) (body : Loop) (point pushed : List ℤ) (x high step : ℤ) (all : List ℤ)
+pub turn_ended : {S : Type 0} (Called : S → Event → S → Type 0) (g h mid k : Gauge) (before now : S) (body : Loop) (point pushed : List ℤ)
+    (x high step : ℤ) (all : List ℤ)
     (cut : Cut)
-    → pos 0 <ℤ step → x ≤ℤ high → IsTurned g h before now body point (turns x high step) all
+    → pos 0 <ℤ step → x ≤ℤ high → IsTurned Called g h before now body point (turns x high step) all
     → mid ≡ record h { units = h.units + 1 } → pushed ≡ point ++ x ∷ []
     → IsEnded mid k (turns_of body pushed) (RunPasses mid pushed body) cut
     → IsEnded g k (turn_units body point all) (TurnsPass g body point all) cut
-turn_ended g h mid k before now body point pushed x high step all cut p l s unit is e =
-    turn-cut g h mid k before now body point x (turns (x +ℤ step) high step) all cut
-    (subst (λ (rest : List ℤ). IsTurned g h before now body point rest all) (turns_first x high step p l) s) unit
+turn_ended Called g h mid k before now body point pushed x high step all cut p l s unit is e =
+    turn-cut Called g h mid k before now body point x (turns (x +ℤ step) high step) all cut
+    (subst (λ (rest : List ℤ). IsTurned Called g h before now body point rest all) (turns_first x high step p l) s) unit
     (subst (λ (ys : List ℤ). IsEnded mid k (turns_of body ys) (RunPasses mid ys body) cut) is e)
 
-pub unit_ended : (g h k : Gauge) (before now : List Event) (body : Loop) (point : List ℤ) (x high step : ℤ) (all : List ℤ)
-    → pos 0 <ℤ step → x ≤ℤ high → IsTurned g h before now body point (turns x high step) all → h.units ≡ h.budget → k ≡ spent_out h
+pub unit_ended : {S : Type 0} (Called : S → Event → S → Type 0) (g h k : Gauge) (before now : S) (body : Loop) (point : List ℤ)
+    (x high step : ℤ) (all : List ℤ)
+    → pos 0 <ℤ step → x ≤ℤ high → IsTurned Called g h before now body point (turns x high step) all → h.units ≡ h.budget → k ≡ spent_out h
     → IsEnded g k (turn_units body point all) (TurnsPass g body point all) Budget
-unit_ended g h k before now body point x high step all p l s full spent =
-    turn-spent g h k before now body point x (turns (x +ℤ step) high step) all
-    (subst (λ (rest : List ℤ). IsTurned g h before now body point rest all) (turns_first x high step p l) s) full spent
+unit_ended Called g h k before now body point x high step all p l s full spent =
+    turn-spent Called g h k before now body point x (turns (x +ℤ step) high step) all
+    (subst (λ (rest : List ℤ). IsTurned Called g h before now body point rest all) (turns_first x high step p l) s) full spent
 
-pub push_ended : (g h mid : Gauge) (before now : List Event) (body : Loop) (point : List ℤ) (x high step : ℤ) (all : List ℤ)
-    → pos 0 <ℤ step → x ≤ℤ high → IsTurned g h before now body point (turns x high step) all → mid ≡ record h { units = h.units + 1 }
+pub push_ended : {S : Type 0} (Called : S → Event → S → Type 0) (g h mid : Gauge) (before now : S) (body : Loop) (point : List ℤ)
+    (x high step : ℤ) (all : List ℤ)
+    → pos 0 <ℤ step → x ≤ℤ high → IsTurned Called g h before now body point (turns x high step) all → mid ≡ record h { units = h.units + 1 }
     → IsEnded g mid (turn_units body point all) (TurnsPass g body point all) NoMemory
-push_ended g h mid before now body point x high step all p l s unit =
-    turn-memory g h mid before now body point x (turns (x +ℤ step) high step) all
-    (subst (λ (rest : List ℤ). IsTurned g h before now body point rest all) (turns_first x high step p l) s) unit
+push_ended Called g h mid before now body point x high step all p l s unit =
+    turn-memory Called g h mid before now body point x (turns (x +ℤ step) high step) all
+    (subst (λ (rest : List ℤ). IsTurned Called g h before now body point rest all) (turns_first x high step p l) s) unit
 
-pub turns_start : (g : Gauge) (before : List Event) (body : Loop) (point : List ℤ) (low high step : ℤ) (next : Option ℤ) → pos 0 <ℤ step
+pub turns_start : {S : Type 0} (Called : S → Event → S → Type 0) (g : Gauge) (before : S) (body : Loop) (point : List ℤ)
+    (low high step : ℤ) (next : Option ℤ) → pos 0 <ℤ step
     → MatchOption next (high <ℤ low) (λ x. (x ≡ low) × x ≤ℤ high)
-    → IsTurned g g before before body point (turns_from next high step) (turns low high step)
-turns_start g before body point low high step next p first =
+    → IsTurned Called g g before before body point (turns_from next high step) (turns low high step)
+turns_start Called g before body point low high step next p first =
     let all = turns low high step in
-    subst (λ (rest : List ℤ). IsTurned g g before before body point rest all) (sym (first_turns low high step next p first).0)
-    (so_far-start g g before before (turn_calls body point all) (turn_units body point all) (TurnsPass g body point all) refl refl)
+    subst (λ (rest : List ℤ). IsTurned Called g g before before body point rest all) (sym (first_turns low high step next p first).0)
+    (so_far-start Called g g before before (turn_calls body point all) (turn_units body point all) (TurnsPass g body point all) refl refl)
 
-pub turns_end : (g h : Gauge) (before now : List Event) (body : Loop) (point all : List ℤ) → IsTurned g h before now body point [] all
-    → (now ≡ before ++ turn_calls body point all) × (h ≡ charged g (turn_units body point all))
-turns_end g h before now body point all s =
-    so_far-end g h before now (turn_calls body point all) (turn_units body point all) (TurnsPass g body point [])
+pub turns_end : {S : Type 0} (Called : S → Event → S → Type 0) (g h : Gauge) (before now : S) (body : Loop) (point all : List ℤ)
+    → IsTurned Called g h before now body point [] all
+    → AreCalled Called before (turn_calls body point all) now × (h ≡ charged g (turn_units body point all))
+turns_end Called g h before now body point all s =
+    so_far-end Called g h before now (turn_calls body point all) (turn_units body point all) (TurnsPass g body point [])
     (TurnsPass g body point all) s
 
 -- ---- one part, as the code finds it
 parts_left : {X : Type 0} (xs : List X) (i : ℕ) (x : X) → i < length xs → x ≡ get_or xs i x → drop i xs ≡ x ∷ drop (i + 1) xs
 parts_left xs i x inside is = drop_more xs i x inside ∙ ap (λ y. y ∷ drop (i + 1) xs) (sym is)
 
-pub part_next : (g h k : Gauge) (before now next : List Event) (point own : List ℤ) (parts : List Loop) (i : ℕ) (part : Loop)
-    → i < length parts → part ≡ get_or parts i part → ArePassed g h before now point (drop i parts) parts → own ≡ point
-    → next ≡ now ++ trace part own → k ≡ charged h (turns_of part own) → ArePassed g k before next point (drop (i + 1) parts) parts
-part_next g h k before now next point own parts i part low is s same longer more =
-    part-done g h k before now next point part (drop (i + 1) parts) parts
-    (subst (λ (rest : List Loop). ArePassed g h before now point rest parts) (parts_left parts i part low is) s)
-    (longer ∙ ap (λ (ys : List ℤ). now ++ trace part ys) same) (more ∙ ap (λ (ys : List ℤ). charged h (turns_of part ys)) same)
+pub part_next : {S : Type 0} (Called : S → Event → S → Type 0) (g h k : Gauge) (before now next : S) (point own : List ℤ)
+    (parts : List Loop) (i : ℕ) (part : Loop)
+    → i < length parts → part ≡ get_or parts i part → ArePassed Called g h before now point (drop i parts) parts → own ≡ point
+    → AreCalled Called now (trace part own) next → k ≡ charged h (turns_of part own) → ArePassed Called g k before next point
+    (drop (i + 1) parts) parts
+part_next Called g h k before now next point own parts i part low is s same longer more =
+    part-done Called g h k before now next point part (drop (i + 1) parts) parts
+    (subst (λ (rest : List Loop). ArePassed Called g h before now point rest parts) (parts_left parts i part low is) s)
+    (subst (λ (ys : List ℤ). AreCalled Called now (trace part ys) next) same longer)
+    (more ∙ ap (λ (ys : List ℤ). charged h (turns_of part ys)) same)
 
-pub part_ended : (g h k : Gauge) (before now : List Event) (point own : List ℤ) (parts : List Loop) (i : ℕ) (part : Loop) (cut : Cut)
-    → i < length parts → part ≡ get_or parts i part → ArePassed g h before now point (drop i parts) parts → own ≡ point
+pub part_ended : {S : Type 0} (Called : S → Event → S → Type 0) (g h k : Gauge) (before now : S) (point own : List ℤ) (parts : List Loop)
+    (i : ℕ) (part : Loop) (cut : Cut)
+    → i < length parts → part ≡ get_or parts i part → ArePassed Called g h before now point (drop i parts) parts → own ≡ point
     → IsEnded h k (turns_of part own) (RunPasses h own part) cut
     → IsEnded g k (turns_through parts point) (Any (RunPasses g point) parts) cut
-part_ended g h k before now point own parts i part cut low is s same e =
-    part-cut g h k before now point part (drop (i + 1) parts) parts cut
-    (subst (λ (rest : List Loop). ArePassed g h before now point rest parts) (parts_left parts i part low is) s)
+part_ended Called g h k before now point own parts i part cut low is s same e =
+    part-cut Called g h k before now point part (drop (i + 1) parts) parts cut
+    (subst (λ (rest : List Loop). ArePassed Called g h before now point rest parts) (parts_left parts i part low is) s)
     (subst (λ (ys : List ℤ). IsEnded h k (turns_of part ys) (RunPasses h ys part) cut) same e)
+
+pub parts_start : {S : Type 0} (Called : S → Event → S → Type 0) (g : Gauge) (before : S) (point : List ℤ) (parts : List Loop)
+    → ArePassed Called g g before before point (drop 0 parts) parts
+parts_start Called g before point parts =
+    so_far-start Called g g before before (calls_of parts point) (turns_through parts point) (Any (RunPasses g point) parts) refl refl
 
 pub part_ready : (g h : Gauge) (point own : List ℤ) (parts : List Loop) (i : ℕ) (part : Loop) → All (IsLoopOver g (length point)) parts
     → i < length parts → part ≡ get_or parts i part → IsCharged g h → own ≡ point → IsLoopOver h (length own) part
 part_ready g h point own parts i part over low is c same =
     part_over g h part point own (subst (IsLoopOver g (length point)) (sym is) (over i part low)) c same
 
-pub parts_end : (g h : Gauge) (before now : List Event) (point : List ℤ) (parts : List Loop) (i : ℕ) → length parts ≤ i
-    → ArePassed g h before now point (drop i parts) parts
-    → (now ≡ before ++ calls_of parts point) × (h ≡ charged g (turns_through parts point))
-parts_end g h before now point parts i long s =
-    so_far-end g h before now (calls_of parts point) (turns_through parts point) (Any (RunPasses g point) [])
+pub parts_end : {S : Type 0} (Called : S → Event → S → Type 0) (g h : Gauge) (before now : S) (point : List ℤ) (parts : List Loop) (i : ℕ)
+    → length parts ≤ i
+    → ArePassed Called g h before now point (drop i parts) parts
+    → AreCalled Called before (calls_of parts point) now × (h ≡ charged g (turns_through parts point))
+parts_end Called g h before now point parts i long s =
+    so_far-end Called g h before now (calls_of parts point) (turns_through parts point) (Any (RunPasses g point) [])
     (Any (RunPasses g point) parts)
-    (subst (λ (rest : List Loop). ArePassed g h before now point rest parts) (drop_all i parts long) s)
+    (subst (λ (rest : List Loop). ArePassed Called g h before now point rest parts) (drop_all i parts long) s)

@@ -1,4 +1,5 @@
 pub mod Value
+pub mod Called
 pub mod Run
 pub mod Size
 pub use Rattle.isl_meter.specs.Gauge

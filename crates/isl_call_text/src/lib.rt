@@ -1,16 +1,22 @@
 //! The calls of loops as text.
 #![tactic(auto)]
 
-ghost use Rattle.std.specs.Prelude.{◌≡◌, ◌++◌, codes, map, IfOk, OnOk, string_bytes};
+ghost use Rattle.std.specs.Prelude.{◌≡◌, ◌+◌, ◌++◌, ◌<◌, codes, length, map, IfErr, MatchResult, OnOk, string_bytes};
 ghost use Rattle.std.specs.Fmt.{signed_decimal};
+ghost use Rattle.isl_meter.specs.Gauge.{IsCutBy};
+ghost use Rattle.isl_meter.specs.declared.Cut.TheVariants.{Overflow, Budget};
 ghost use Rattle.isl_space.specs.Form.{name_text};
+ghost use Rattle.isl_loop.specs.Formed.{IsLoopOver, RunPasses};
+ghost use Rattle.isl_loop.specs.Run.{trace, turns_of};
 ghost use Rattle.isl_row_text.specs.Joined.{each_after, joined_by};
-ghost use Rattle.isl_call_text.specs.CallText.{call_line, call_lines};
+ghost use Rattle.isl_call_text.specs.CallText.{call_lines};
 
-use isl_ast::Call;
+use isl_ast::{Callee, Loop, run_loops};
+use isl_meter::{Cut, Meter};
 use isl_space::Name;
 use itoa::Buffer;
 use std::alloc::{AllocError, Global};
+use std::marker::Model;
 
 fn write_name(out: &mut String, name: &Option<Name>) -> Result<(), AllocError>
     ensures { OnOk result (string_bytes out.new ≡ string_bytes out.old ++ name_text name.now) }
@@ -53,27 +59,52 @@ fn write_numbers(out: &mut String, numbers: &[i128]) -> Result<(), AllocError>
     }
 }
 
-fn write_call(out: &mut String, call: &Call) -> Result<(), AllocError>
-    ensures { OnOk result (string_bytes out.new ≡ string_bytes out.old ++ call_line call.now) }
-{
-    write_name(out, call.name())?;
-    out.push_str("(")?;
-    write_numbers(out, call.args())?;
-    out.push_str(");\n")
+// Lines of calls.
+#[derive(Drop)]
+struct Lines {
+    text: String,
 }
 
-/// A line for each call, in order, such as `S(2, -1);`.
+impl Model for Lines {
+    ghost use Rattle.std.specs.Prelude.{List, ℕ, string_bytes};
+
+    ghost Value = { List ℕ };
+
+    ghost view = { λ l. string_bytes l.text };
+}
+
+impl Callee for Lines {
+    ghost use Rattle.std.specs.Prelude.{◌++◌};
+    ghost use Rattle.isl_call_text.specs.CallText.{call_line};
+
+    ghost called = { λ before event after. after ≡ before ++ call_line event };
+
+    fn call(&mut self, name: &Option<Name>, args: &[i128]) -> Result<(), AllocError> {
+        write_name(&mut self.text, name)?;
+        self.text.push_str("(")?;
+        write_numbers(&mut self.text, args)?;
+        self.text.push_str(");\n")
+    }
+}
+
+/// The calls of the tree, in order, where `at` has the numbers of the declared parameters: a line for each, such as `S(2, -1);`. A unit
+/// is used for each turn of a loop, and no other.
 ///
 /// # Errors
 ///
-/// Where memory ends.
-#[tactic(auto, using(std::proofs::lemmas::Grind::common_steps, crate::proofs::CallLaws::lines))]
-pub fn text_of_calls(alloc: Global, calls: &[Call]) -> Result<String, AllocError>
-    ensures { IfOk result (λ text. string_bytes text ≡ call_lines calls.now) }
+/// As of `isl_ast::run_loops`.
+pub fn run_text(alloc: Global, tree: &Loop, at: &[i128], meter: &mut Meter) -> Result<String, Cut>
+    requires { IsLoopOver meter.old (length at.now) tree.now }
+    ensures exact { MatchResult result
+        (λ text. (string_bytes text ≡ call_lines (trace tree.now at.now))
+        × (meter.new ≡ record meter.old { units = meter.old.units + turns_of tree.now at.now }))
+        (IsCutBy meter.old meter.new) }
+    ensures overflow { IfErr result (λ cut. cut ≡ Overflow → RunPasses meter.old at.now tree.now) }
+    ensures budget { IfErr result (λ cut. cut ≡ Budget → meter.old.budget < meter.old.units + turns_of tree.now at.now) }
 {
-    let mut out = String::new(alloc);
-    for call in calls {
-        write_call(&mut out, call)?;
-    }
-    Ok(out)
+    let mut lines = Lines {
+        text: String::new(alloc),
+    };
+    run_loops(alloc, tree, at, &mut lines, meter)?;
+    Ok(lines.text)
 }

@@ -17,8 +17,8 @@ ghost use Rattle.isl_eval.specs.Evaluation.{EndsGeneration, IsCodeOfValue, IsOut
 
 use crate::answers::Answer;
 use crate::numbers::numbers_of;
-use isl_ast::{Loop, execute, loop_text};
-use isl_call_text::text_of_calls;
+use isl_ast::{Loop, loop_text};
+use isl_call_text::run_text;
 use isl_expr::tree::Expr;
 use isl_loops::codegen;
 use isl_meter::Meter;
@@ -44,8 +44,8 @@ fn text_of_run(
         (IsWhyUnmade true CutAlone meter.old meter.new) }
 {
     let numbers = numbers_of(alloc, params, options)?;
-    match execute(alloc, tree, numbers.as_slice(), meter) {
-        Ok(calls) => Ok(text_of_calls(alloc, calls.as_slice())?),
+    match run_text(alloc, tree, numbers.as_slice(), meter) {
+        Ok(text) => Ok(text),
         Err(cut) => Err(refusal_of(cut)),
     }
 }

@@ -2,7 +2,6 @@ use Rattle.std.proofs.Common.{◌≡◌, ◌<◌, ◌≤◌, true, arith, length
 use Rattle.std.specs.Int.{w128}
 use Rattle.std.proofs.lemmas.Grind.{common_steps}
 use Rattle.isl_loop.specs.declared.tree.Expr.{Expr, out-Expr}
-use Rattle.isl_loop.specs.declared.tree.Item.{Item}
 use Rattle.isl_loop.specs.Formed.{IsAtomOver, IsExprOver}
 use Rattle.isl_loop.specs.Lists.{IsItemOver}
 use Rattle.isl_meter.specs.Gauge.{IsWithin}

@@ -2,7 +2,6 @@ use Rattle.std.proofs.Common.{take}
 use Rattle.std.specs.List.{All}
 use Rattle.isl_loop.specs.Formed.{IsExprOver}
 use Rattle.isl_loop.specs.Lists.{IsItemOver}
-use Rattle.isl_ast.specs.Size.{atom_size, expr_size, size_of_exprs, size_of_items}
 use Rattle.isl_ast.proofs.formed.+form.Given as goal
 
 abbrev pub invariant-are_items_over-loop-item : goal.invariant-are_items_over-loop-item

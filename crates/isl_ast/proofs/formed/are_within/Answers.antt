@@ -1,4 +1,4 @@
-use Rattle.std.proofs.Common.{◌≡◌, ◌<◌, ◌≤◌, true, arith, length, ℤ, to_z-of_z}
+use Rattle.std.proofs.Common.{◌≡◌, ◌<◌, ◌≤◌, true, arith, length, to_z-of_z}
 use Rattle.std.proofs.lemmas.Grind.{common_steps}
 use Rattle.isl_meter.specs.Gauge.{IsWithin}
 use Rattle.isl_ast.proofs.FormedLaws.{all_found, one_all}
