@@ -3,6 +3,7 @@
 use Rattle.std.specs.Prelude.{◌≡◌, ◌≢◌, ◌↔◌, ℕ, ◌+◌, ◌<◌, ℤ, pos, neg_ℤ, ◌*ℤ◌, ◌<ℤ◌, List, [], ◌∷◌, ◌++◌, All, length, map, replicate}
 use Rattle.std.specs.Prelude.{slice_index_or}
 use Rattle.std.specs.List.{remove}
+use Rattle.isl_math.specs.Divide as divide
 use Rattle.isl_math.specs.Divide.{floor_div}
 use Rattle.isl_math.specs.Dot.{scaled}
 use Rattle.isl_math.specs.Order.{abs_of, sign_of}
@@ -63,6 +64,10 @@ pub record IsSolved (variables : ℕ) (row entry : Row) : Type 0 where
   pub divides : entry.kind ≡ Divides
   pub points : (point : List ℤ) (x : ℤ) → length point ≡ variables
       → HoldsRow row (point ++ x ∷ []) ↔ (HoldsRow entry point × (x ≡ column_at point entry))
+
+-- no number but 1 and its negative divides the modulus and all coefficients
+abbrev pub IsLowest : Row → Type 0
+IsLowest entry = (d : ℤ) → divide.Divides d entry.k → All (divide.Divides d) entry.coefs → divide.Divides d (pos 1)
 
 -- ---- one variable more
 -- the last of the variables, as a column

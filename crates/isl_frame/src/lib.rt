@@ -8,6 +8,6 @@ mod sum;
 mod variable;
 
 pub use context::{are_known, needed};
-pub use equality::{isolated, signed};
+pub use equality::{isolated, signed, solution};
 pub use rows::{all_through, all_through_behind, through, through_behind};
 pub use variable::{own_frame, widened, with_variable};

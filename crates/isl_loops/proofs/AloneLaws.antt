@@ -83,9 +83,9 @@ module _ (tree : Loop) (parts : List Loop) (sole : parts ≡ tree ∷ []) where
       nest = u.2.nest;
       formed = u.2.formed;
       front = u.2.front;
-      calls = λ point. sole_calls point ∙ u.2.calls point;
-      turned = λ point. sole_turned point ∙ u.2.turned point;
-      idle = λ point. sole_none point ∙ u.2.idle point;
+      calls = λ point stands. sole_calls point ∙ u.2.calls point stands;
+      turned = λ point stands. sole_turned point ∙ u.2.turned point stands;
+      idle = λ point stands. sole_none point ∙ u.2.idle point stands;
       depth = sole_depth ∙ u.2.depth;
     },
   )

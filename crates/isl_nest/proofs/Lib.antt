@@ -13,5 +13,6 @@ pub mod StridingLaws
 pub mod ToldLaws
 pub mod CalledLaws
 pub mod LevelLaws
+pub mod AskedLaws
 pub mod SeparateLaws
 pub mod NestedLaws

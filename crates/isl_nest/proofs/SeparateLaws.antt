@@ -1,5 +1,5 @@
 -- An item alone behind a place.
-use Rattle.std.proofs.Common.{◌≡◌, ◌↔◌, inr, refl, sym, ap, ◌∙◌, subst, Bool, true, false, ℕ, ◌+◌, ◌≤◌, ℤ, List, []}
+use Rattle.std.proofs.Common.{◌≡◌, ◌↔◌, inr, refl, sym, ◌∙◌, subst, Bool, true, false, ℕ, ◌+◌, ◌≤◌, ℤ, List, []}
 use Rattle.std.proofs.Common.{◌++◌, length}
 use Rattle.std.specs.Prelude.{if◌then◌else◌}
 use Rattle.std.specs.List.{All, AllZip}
@@ -24,6 +24,7 @@ use Rattle.isl_loop.proofs.NestLaws.{lists_none}
 use Rattle.isl_loop.proofs.RowLaws.{rows_tell}
 use Rattle.isl_nest.specs.declared.nested.Nested.{Nested}
 use Rattle.isl_nest.specs.declared.place.Place.{Place}
+use Rattle.isl_nest.specs.Asked.{AreAsked}
 use Rattle.isl_nest.specs.Covered.{IsItem}
 use Rattle.isl_nest.specs.Depth.{depth_of}
 use Rattle.isl_nest.specs.Item.{IsBegun, IsCalledBehind, ItemView}
@@ -31,6 +32,7 @@ use Rattle.isl_nest.specs.Naming.{AreNaming}
 use Rattle.isl_nest.specs.Nest.{with_context, IsHere, IsNest, IsNowhere, ListsBehind}
 use Rattle.isl_nest.specs.Places.{AreGuards, Stands}
 use Rattle.isl_nest.specs.Separate.{IsSeparate}
+use Rattle.isl_nest.proofs.AskedLaws.{asked_same}
 use Rattle.isl_nest.proofs.BehindLaws.{begun_behind}
 use Rattle.isl_nest.proofs.FixedLaws.{begun_front, hold_false, hold_true}
 use Rattle.isl_nest.proofs.NamingLaws.{front_holds}
@@ -115,10 +117,11 @@ module _ (item : ItemView) (place : Place) (front : List Row) (naming : AreNamin
 
     pub separate_lists : IsItem item → (left : ℕ) (nested : Nested) (tree : Loop) → length place.frame + left ≡ item.params + item.levels
         → item.params ≤ length place.frame → IsNest item left (with_context place rows) nested
-        → ((point : List ℤ) → trace tree point ≡ (if rows_hold (rows ++ nested.rows) point then trace nested.tree point else []))
+        → ((point : List ℤ) → Stands place point
+        → trace tree point ≡ (if rows_hold (rows ++ nested.rows) point then trace nested.tree point else []))
         → ListsBehind item place tree
     separate_lists is left nested tree whole low shape runs point stands =
-        subst (Lists (Calls point)) (sym (runs point)) (by (rows_hold rows point) refl)
+        subst (Lists (Calls point)) (sym (runs point stands)) (by (rows_hold rows point) refl)
       where
         decided : (rows_hold rows point ≡ true → HoldRows rows point) × (HoldRows rows point → rows_hold rows point ≡ true)
         decided = rows_tell rows point (λ k d l. (guards.over.formed k d l).modulus)
@@ -133,29 +136,41 @@ module _ (item : ItemView) (place : Place) (front : List Row) (naming : AreNamin
             (lists_none (Calls point) (no_call point (λ b. false≢true (sym e ∙ decided.1
             ((rows_hold_at point stands).1 (begun_through point stands b))))))
 
-    -- the tree under the rows
-    pub separate_under : (left : ℕ) (nested : Nested) (tree : Loop) (all : List Row) → all ≡ rows ++ nested.rows
-        → IsNest item left (with_context place rows) nested
-        → ((point : List ℤ) → trace tree point ≡ (if rows_hold all point then trace nested.tree point else []))
-        → ((point : List ℤ) → turns_of tree point ≡ (if rows_hold all point then turns_of nested.tree point else 0))
-        → ((point : List ℤ) → idle_of tree point ≡ (if rows_hold all point then idle_of nested.tree point else 0))
-        → depth_of tree ≡ depth_of nested.tree → IsSeparate item left place tree
-    separate_under left nested tree all are shape runs turned idle deep = inr (
-      rows,
-      nested,
-      record {
-        nest = shape;
-        formed = guards.over.formed;
-        front = λ point stands.
-            let here = rows_hold_at point stands in
-            let there = through_holds point stands in
-            let front_is = front_holds item.rows front (length place.frame) naming (columns_at place.frame point) (long point) in (
-              (λ h. front_is.0 (there.0 (here.0 h))),
-              (λ h. here.1 (there.1 (front_is.1 h))),
-            );
-        calls = λ point. runs point ∙ ap (λ (rs : List Row). if rows_hold rs point then trace nested.tree point else []) are;
-        turned = λ point. turned point ∙ ap (λ (rs : List Row). if rows_hold rs point then turns_of nested.tree point else 0) are;
-        idle = λ point. idle point ∙ ap (λ (rs : List Row). if rows_hold rs point then idle_of nested.tree point else 0) are;
-        depth = deep;
-      },
-    )
+    -- the tree under the rows that are asked
+    module _ (left : ℕ) (nested : Nested) (tree : Loop) (asked : List Row) (shape : IsNest item left (with_context place rows) nested)
+        (over : AreRowsOver g place.variables nested.rows)
+        (is : AreAsked place.variables place.context nested.inside (rows ++ nested.rows) asked) where
+      formed : All (IsWellFormed place.variables) (rows ++ nested.rows)
+      formed = All-append (IsWellFormed place.variables) rows nested.rows guards.over.formed over.formed
+
+      pub asked_calls : ((point : List ℤ) → trace tree point ≡ (if rows_hold asked point then trace nested.tree point else []))
+          → (point : List ℤ) → Stands place point
+          → trace tree point ≡ (if rows_hold (rows ++ nested.rows) point then trace nested.tree point else [])
+      asked_calls runs point stands = runs point
+          ∙ asked_same item left place rows asked nested is shape formed point stands (trace nested.tree point) [] (λ s. s.calls)
+
+      pub separate_under : ((point : List ℤ) → trace tree point ≡ (if rows_hold asked point then trace nested.tree point else []))
+          → ((point : List ℤ) → turns_of tree point ≡ (if rows_hold asked point then turns_of nested.tree point else 0))
+          → ((point : List ℤ) → idle_of tree point ≡ (if rows_hold asked point then idle_of nested.tree point else 0))
+          → depth_of tree ≡ depth_of nested.tree → IsSeparate item left place tree
+      separate_under runs turned idle deep = inr (
+        rows,
+        nested,
+        record {
+          nest = shape;
+          formed = guards.over.formed;
+          front = λ point stands.
+              let here = rows_hold_at point stands in
+              let there = through_holds point stands in
+              let front_is = front_holds item.rows front (length place.frame) naming (columns_at place.frame point) (long point) in (
+                (λ h. front_is.0 (there.0 (here.0 h))),
+                (λ h. here.1 (there.1 (front_is.1 h))),
+              );
+          calls = asked_calls runs;
+          turned = λ point stands. turned point
+              ∙ asked_same item left place rows asked nested is shape formed point stands (turns_of nested.tree point) 0 (λ s. s.turned);
+          idle = λ point stands. idle point
+              ∙ asked_same item left place rows asked nested is shape formed point stands (idle_of nested.tree point) 0 (λ s. s.idle);
+          depth = deep;
+        },
+      )

@@ -1,25 +1,28 @@
 -- A column that an equality tells, as rows.
-use Rattle.std.proofs.Common.{◌≡◌, ◌≢◌, ◌↔◌, refl, sym, ap, ◌∙◌, subst, arith, ◌+◌, ℤ, pos, ◌*ℤ◌, List, [], ◌∷◌, ◌++◌}
+use Rattle.std.proofs.Common.{◌≡◌, ◌≢◌, ◌↔◌, refl, sym, ap, ◌∙◌, subst, arith, ◌+◌, ℤ, pos, ◌*ℤ◌, ◌≤ℤ◌, List, [], ◌∷◌, ◌++◌}
 use Rattle.std.proofs.Common.{length, length-append}
 use Rattle.std.specs.List.{All, AllZip}
 use Rattle.std.proofs.lemmas.List.{map-append}
 use Rattle.std.proofs.lemmas.List.Elements.{All-append, All-cons, All-nil}
+use Rattle.isl_math.specs.Divide as divide
 use Rattle.isl_math.specs.Order.{abs_of}
+use Rattle.isl_math.proofs.DivideLaws.{le_from_Divides, Divides-abs, Divides-same}
 use Rattle.isl_math.proofs.ListLaws.{All-last, All-zipped, All-zipped_back}
 use Rattle.isl_math.proofs.OrderLaws.{≡-from_*ℤ}
 use Rattle.isl_math.proofs.Ring.{linear}
 use Rattle.isl_meter.specs.Gauge.{Gauge}
-use Rattle.isl_piece.specs.declared.row.RowKind.TheVariants.{Zero, Divides}
+use Rattle.isl_piece.specs.declared.row.RowKind.{RowKind}
+use Rattle.isl_piece.specs.declared.row.RowKind.TheVariants.{Zero, AtLeast, Divides, NotDivides}
 use Rattle.isl_piece.specs.declared.row.Row.{Row}
-use Rattle.isl_piece.specs.Row.{coef_at, HoldsRow, IsRowWithin, IsWellFormed}
+use Rattle.isl_piece.specs.Row.{coef_at, HasModulus, HoldsRow, IsRowWithin, IsWellFormed}
 use Rattle.isl_piece.specs.Normal.{normal_row, Kept, IsNormal}
 use Rattle.isl_piece.specs.System.{HoldRows}
-use Rattle.isl_frame.specs.Frame.{column_at, columns_at, isolated, IsFrame, IsSolved, IsThrough, IsThroughBehind}
+use Rattle.isl_frame.specs.Frame.{column_at, columns_at, IsFrame, IsSolved, IsThrough, IsThroughBehind}
 use Rattle.isl_frame.specs.Needed.{AreRowsOver, IsNeeded}
 use Rattle.isl_frame.proofs.NeededLaws.{kept_have, over_some}
 use Rattle.isl_nest.specs.declared.place.Place.{Place}
 use Rattle.isl_nest.specs.declared.told.Told.{Told}
-use Rattle.isl_nest.specs.Equality.{IsEquality}
+use Rattle.isl_nest.specs.Equality.{IsEquality, TellsForm}
 use Rattle.isl_nest.specs.Places.{IsPlace, Stands}
 use Rattle.isl_nest.specs.Told.{IsTold, IsUntold}
 
@@ -102,13 +105,28 @@ module _ (g : Gauge) (place : Place) (is : IsPlace g place) (equality : Row) (eq
           never point ((rows_at point stands).1
           (s.0, subst (λ y. HoldRows own (columns_at place.frame point ++ y ∷ [])) s.1 o))
 
-      pub told_is : entry ≡ isolated place.variables through → (normal kept : List Row) → IsRowWithin g entry → AreRowsOver g place.variables normal → IsNormal normal
+      -- where the equality has 1 or -1, the entry's modulus is 1
+      told_one : divide.Divides entry.k (coef_at through place.variables) → TellsForm place.frame equality → entry.k ≡ pos 1
+      told_one divides form =
+          let size : abs_of (coef_at through place.variables) ≡ pos 1 = ap abs_of (told.forms form.1).1 ∙ form.0 in
+          let one : divide.Divides entry.k (pos 1) = Divides-same entry.k (abs_of (coef_at through place.variables)) (pos 1) size
+          (Divides-abs entry.k (coef_at through place.variables) divides) in
+          by entry.kind entry.k solved.divides solved.formed.modulus
+          (le_from_Divides entry.k (pos 1) (omega (arith, linear)) one)
+        where
+          by : (kind : RowKind) (k : ℤ) → kind ≡ Divides → HasModulus kind k → k ≤ℤ pos 1 → k ≡ pos 1
+          by Divides k e p few = omega (arith, linear, p, few)
+          by Zero k e p few = cc
+          by AtLeast k e p few = cc
+          by NotDivides k e p few = cc
+
+      pub told_is : divide.Divides entry.k (coef_at through place.variables) → (normal kept : List Row) → IsRowWithin g entry → AreRowsOver g place.variables normal → IsNormal normal
           → ((point : List ℤ) → HoldRows normal point ↔ HoldRows rows point) → IsNeeded place.variables place.context normal kept
           → (made_told : Told) → made_told ≡ record { entry = entry; rows = kept } → IsTold g place equality own made_told
-      told_is entry_is normal kept entry_within over is_normal same needed made_told e = rw e (record {
+      told_is divides normal kept entry_within over is_normal same needed made_told e = rw e (record {
         framed = rw (sym frame_is) told_framed;
         within = entry_within;
-        form = λ form. ap (λ (r : Row). r.k) entry_is ∙ ap abs_of (told.forms form.1).1 ∙ form.0;
+        form = told_one divides;
         guards = record {
           over = over_some g place.variables normal kept needed.each over;
           normal = kept_have (λ r. normal_row r ≡ Kept r) normal kept needed.each is_normal.settled;

@@ -12,4 +12,5 @@ pub mod Depth
 pub mod TurnsAt
 pub mod Nest
 pub mod LoopedNest
+pub mod Asked
 pub mod Separate

@@ -20,14 +20,18 @@ pub record IsStill (tree : Loop) : Type 0 where
   pub idle : (point : List ℤ) → idle_of tree point ≡ 0
   pub depth : depth_of tree ≡ 0
 
--- The tree runs the nest where the rows hold, and those of the nest. The rows say that those of the item hold which name no further column.
+-- Wherever the place stands the tree runs the nest where the rows hold, and those of the nest. The rows say that those of the item hold
+-- which name no further column.
 pub record IsUnder (item : ItemView) (left : ℕ) (place : Place) (tree : Loop) (rows : List Row) (nested : Nested) : Type 0 where
   pub nest : IsNest item left (with_context place rows) nested
   pub formed : All (IsWellFormed place.variables) rows
   pub front : (point : List ℤ) → Stands place point → HoldRows rows point ↔ HoldFront item.rows (columns_at place.frame point)
-  pub calls : (point : List ℤ) → trace tree point ≡ (if rows_hold (rows ++ nested.rows) point then trace nested.tree point else [])
-  pub turned : (point : List ℤ) → turns_of tree point ≡ (if rows_hold (rows ++ nested.rows) point then turns_of nested.tree point else 0)
-  pub idle : (point : List ℤ) → idle_of tree point ≡ (if rows_hold (rows ++ nested.rows) point then idle_of nested.tree point else 0)
+  pub calls : (point : List ℤ) → Stands place point
+      → trace tree point ≡ (if rows_hold (rows ++ nested.rows) point then trace nested.tree point else [])
+  pub turned : (point : List ℤ) → Stands place point
+      → turns_of tree point ≡ (if rows_hold (rows ++ nested.rows) point then turns_of nested.tree point else 0)
+  pub idle : (point : List ℤ) → Stands place point
+      → idle_of tree point ≡ (if rows_hold (rows ++ nested.rows) point then idle_of nested.tree point else 0)
   pub depth : depth_of tree ≡ depth_of nested.tree
 
 -- nothing, or the nest of the item

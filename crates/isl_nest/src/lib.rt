@@ -2,6 +2,7 @@
 #![tactic(auto)]
 
 mod around;
+mod asked;
 mod cover;
 mod equality;
 mod item;

@@ -9,6 +9,7 @@ ghost use Rattle.isl_nest.specs.Places.{IsPlace};
 ghost use Rattle.isl_nest.specs.Separate.{IsSeparate};
 
 use crate::around::Around;
+use crate::asked::asked;
 use crate::equality::told_by;
 use crate::naming::naming;
 use crate::nested::under;
@@ -127,6 +128,6 @@ pub fn separate(
     let Some(nested) = nest(alloc, item, left, &inner, meter)? else {
         return Ok(Loop::Block(Items::new(alloc)));
     };
-    let all = joined(alloc, &rows, &nested.rows)?;
-    Ok(under(alloc, all, nested.tree)?)
+    let guards = asked(alloc, place, left, &rows, &nested, meter)?;
+    Ok(under(alloc, guards, nested.tree)?)
 }

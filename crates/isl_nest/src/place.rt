@@ -31,13 +31,12 @@ impl Place {
         })
     }
 
-    // The place with one column more, which the entry tells, where these rows hold.
-    pub(crate) fn with_entry(
-        &self,
-        alloc: Global,
-        entry: &Row,
-        rows: &Rows,
-    ) -> Result<Place, AllocError>
+    /// The place with one column more, which the entry tells, where these rows hold.
+    ///
+    /// # Errors
+    ///
+    /// Where memory ends.
+    pub fn with_entry(&self, alloc: Global, entry: &Row, rows: &Rows) -> Result<Place, AllocError>
         ensures { IfOk result (λ place. place ≡ with_entry self.now entry.now rows.now) }
     {
         let mut place = self.with_context(alloc, rows)?;

@@ -6,7 +6,7 @@ ghost use Rattle.isl_frame.specs.Needed.{AreRowsOver};
 ghost use Rattle.isl_nest.specs.Equality.{IsEquality};
 
 use crate::Place;
-use isl_frame::{all_through, isolated, needed, through_behind};
+use isl_frame::{all_through, needed, solution, through_behind};
 use isl_meter::{Cut, Meter};
 use isl_piece::{Row, Rows};
 use std::alloc::Global;
@@ -40,7 +40,7 @@ impl Told {
     {
         let variables = place.variables;
         let through = through_behind(alloc, equality, place.frame.as_slice(), variables, meter)?;
-        let entry = isolated(alloc, &through, variables, meter)?;
+        let entry = solution(alloc, &through, variables, meter)?;
         let mut frame = place.frame.copy(alloc)?;
         frame.push(entry.copy(alloc)?)?;
         let mut rows = all_through(alloc, own, frame.as_slice(), variables, meter)?;

@@ -45,9 +45,9 @@ module _ (item : ItemView) (left : ℕ) (place : Place) (tree : Loop) (rows : Li
       → HasNoIdleTurn left (if b then trace nested.tree point else []) (if b then turns_of nested.tree point else 0)
       (if b then idle_of nested.tree point else 0) → HasNoIdleTurn left (trace tree point) (turns_of tree point) (idle_of tree point)
   asked_idle b e none =
-      let calls = under.calls point ∙ ap (λ (c : Bool). if c then trace nested.tree point else []) e in
-      let turned = under.turned point ∙ ap (λ (c : Bool). if c then turns_of nested.tree point else 0) e in
-      let idle = under.idle point ∙ ap (λ (c : Bool). if c then idle_of nested.tree point else 0) e in
+      let calls = under.calls point stands ∙ ap (λ (c : Bool). if c then trace nested.tree point else []) e in
+      let turned = under.turned point stands ∙ ap (λ (c : Bool). if c then turns_of nested.tree point else 0) e in
+      let idle = under.idle point stands ∙ ap (λ (c : Bool). if c then idle_of nested.tree point else 0) e in
       rw (calls, turned, idle) none
 
   no_idle : (b : Bool) → rows_hold rows point ≡ b → (HoldRows rows point → IsBusy left nested point)

@@ -1,12 +1,10 @@
 -- Turns and calls, summed over the numbers of a loop.
 use Rattle.std.proofs.Common.{◌≡◌, ◌≢◌, ◌∙◌, refl, ap, arith, ℕ, ◌+◌, ◌*◌, ◌≤◌, ℤ, List, [], ◌∷◌, ◌++◌, length, length-append}
 use Rattle.std.specs.List.{sum_by, Contains}
-use Rattle.std.proofs.lemmas.List.Elements.{Contains-append_left, Contains-append_right, Contains-push}
+use Rattle.std.proofs.lemmas.List.Elements.{Contains-append_right}
 use Rattle.std.proofs.lemmas.List.Sums.{sum_by-cons}
 use Rattle.isl_loop.specs.Run.{each_in, idle_turn, Event}
-
-first_in : (x : ℤ) (xs : List ℤ) → Contains (x ∷ xs) x
-first_in x xs = Contains-append_left (x ∷ []) xs x (Contains-push [] x)
+use Rattle.isl_nest.proofs.AskedLaws.{first_in}
 
 later_in : (x : ℤ) (xs : List ℤ) (y : ℤ) → Contains xs y → Contains (x ∷ xs) y
 later_in x xs y c = Contains-append_right (x ∷ []) xs y c

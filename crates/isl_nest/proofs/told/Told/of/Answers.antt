@@ -172,7 +172,9 @@ returns-clause-told c =
       formed = rw c.in-Some.is at (c.in_ok-normal.ensures.shape place.variables over.formed);
       within = subst (λ (h : Gauge). All (IsRowWithin h) normal) meter within;
     } in
-    told_is g place is equality eq through told entry solved frame frame_is c.args.own.now made rows zip rows_is c.in_ok-entry.ensures.exact
+    let divides = c.in_ok-entry.ensures.divides (through_kind g place is equality eq through told)
+    (through_names g place is equality eq through told) in
+    told_is g place is equality eq through told entry solved frame frame_is c.args.own.now made rows zip rows_is divides
     normal c.in_ok-rows-2.rows
     entry_within normal_over (rw c.in-Some.is at c.in_ok-normal.ensures.normal) (rw c.in-Some.is at c.in_ok-normal.ensures.points)
     c.in_ok-rows-2.ensures.exact (record { entry = entry; rows = c.in_ok-rows-2.rows }) refl
