@@ -11,7 +11,7 @@ use Rattle.isl_space.specs.Valuation.{Valuation}
 use Rattle.isl_space.specs.Element.{Element}
 use Rattle.isl_union.specs.KeptValue.{KeptValue, Has}
 use Rattle.isl_union.specs.Flat.{IsFlatOf}
-use Rattle.isl_union.specs.Union.{union_of}
+use Rattle.isl_union.specs.Union.{IsUnionOf}
 use Rattle.isl_union.specs.Meet.{IsMeetOf}
 use Rattle.isl_union.specs.declared.fault.OpFault.{OpFault}
 use Rattle.isl_union.specs.declared.fault.OpFault.TheVariants as op_fault
@@ -51,7 +51,7 @@ pub record IsIntersectionOf (left right value : KeptValue) : Type 0 where
 
 -- the value is what an operator makes of two
 abbrev pub IsOperatorOf : Binary → KeptValue → KeptValue → KeptValue → Type 0
-IsOperatorOf b.Union left right value = value ≡ union_of left right
+IsOperatorOf b.Union left right value = IsUnionOf left right value
 IsOperatorOf b.Intersection left right value = IsIntersectionOf left right value
 IsOperatorOf b.Difference left right value = IsAnyOf b.Difference left right value
 IsOperatorOf b.RangeIntersection left right value = IsAnyOf b.RangeIntersection left right value

@@ -8,6 +8,8 @@ pub mod MeetLaws
 pub mod IndexLaws
 pub mod UnitLaws
 pub mod CountLaws
+pub mod SameLaws
+pub mod UnionLaws
 pub mod ValueLaws
 pub mod MadeLaws
 pub mod MeetSteps

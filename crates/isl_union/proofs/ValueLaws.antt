@@ -22,11 +22,12 @@ use Rattle.isl_union.specs.Meet.{met_pieces, pair_count, pairs_of_one_space, par
 use Rattle.isl_union.specs.Moved.{aligned, aligned_pieces, moved}
 use Rattle.isl_union.specs.Numbers.{AreWithinLimit, HasNumbersUpTo, IsPieceUpTo, IsWithinLimit}
 use Rattle.isl_union.specs.Piece.{kept_piece, IsPieceOf}
-use Rattle.isl_union.specs.Union.{union_of}
+use Rattle.isl_union.specs.Union.{AreOfBoth, IsUnionOf}
 use Rattle.isl_union.proofs.AlignedLaws.{aligned_has_any, aligned_kept, aligned_plain, aligned_pieces-own, aligned_up_to}
 use Rattle.isl_union.proofs.LiveLaws.{live_all, live_any}
 use Rattle.isl_union.proofs.MeetLaws.{pieces_have, pieces_plain, pieces_small}
 use Rattle.isl_union.proofs.SystemLaws.{piece_within, view_within, IsFit}
+use Rattle.isl_union.proofs.UnionLaws.{both_all, both_any}
 
 -- ---- a loop's step: what is made of the i-th piece is put behind the others
 pub moved_more : (f : KeptPiece → KeptPiece) (pieces made pushed : List PieceView) (i : ℕ) (piece x : PieceView) → i < length pieces
@@ -132,57 +133,50 @@ module _ (a b : KeptValue) (p : IsKeptValue a) (q : IsKeptValue b) where
   second_there = second_in a.params b.params p.params q.params
 
   -- ---- their union
-  pub union_is : (params : List Name) (own others whole : List PieceView) (value : KeptValue) → params ≡ all → whole ≡ own ++ others
-      → map kept_piece own ≡ aligned_pieces params a
-      → map kept_piece others ≡ aligned_pieces params b → value ≡ record { params = params; pieces = map kept_piece whole }
-      → value ≡ union_of a b
-  unfolding union_of
-  union_is params own others whole value names is first second made =
-      let pieces : map kept_piece whole ≡ aligned_pieces all a ++ aligned_pieces all b =
-      ap (map kept_piece) is ∙ map-append kept_piece own others
-      ∙ ap₂ (λ l m. l ++ m) (first ∙ ap (λ l. aligned_pieces l a) names) (second ∙ ap (λ l. aligned_pieces l b) names) in
-      let whole_is : record { params = params; pieces = map kept_piece whole } ≡ record {
-        params = all;
-        pieces = aligned_pieces all a ++ aligned_pieces all b;
-      } = cc in
-      made ∙ whole_is
+  pub union_is : (params : List Name) (own others whole : List PieceView) (value : KeptValue) → params ≡ all
+      → map kept_piece own ≡ aligned_pieces params a → map kept_piece others ≡ aligned_pieces params b
+      → AreOfBoth (map kept_piece own) (map kept_piece others) (map kept_piece whole)
+      → value ≡ record { params = params; pieces = map kept_piece whole } → IsUnionOf a b value
+  union_is params own others whole value names first second both made = rw made (record {
+    params = names;
+    pieces = subst (λ (l : List KeptPiece). AreOfBoth l (aligned_pieces all b) (map kept_piece whole))
+        (first ∙ ap (λ (l : List Name). aligned_pieces l a) names)
+        (subst (λ (l : List KeptPiece). AreOfBoth (map kept_piece own) l (map kept_piece whole))
+        (second ∙ ap (λ (l : List Name). aligned_pieces l b) names) both);
+  })
 
-  pub union_params : (union_of a b).params ≡ all
-  unfolding union_of
-  union_params = refl
-
-  pub union_same : a.params ≡ b.params → (union_of a b).pieces ≡ a.pieces ++ b.pieces
-  unfolding union_of
-  union_same same =
+  pub union_same : (value : KeptValue) → IsUnionOf a b value → a.params ≡ b.params → AreOfBoth a.pieces b.pieces value.pieces
+  union_same value is same =
       let first : all ≡ a.params = ap (joined a.params) (sym same) ∙ joined-self a.params in
-      ap₂ (λ l m. l ++ m) (same_pieces all a p first) (same_pieces all b q (first ∙ same))
+      subst (λ (l : List KeptPiece). AreOfBoth l b.pieces value.pieces) (same_pieces all a p first)
+      (subst (λ (l : List KeptPiece). AreOfBoth (aligned_pieces all a) l value.pieces) (same_pieces all b q (first ∙ same)) is.pieces)
 
   module _ (g : Gauge) (h : IsWithinLimit g a) (k : IsWithinLimit g b) where
-    pub union_has : (v : Valuation) (e : Element) → Has (union_of a b) v e ↔ (Has a v e ⊎ Has b v e)
-    unfolding union_of
-    union_has v e =
+    pub union_has : (value : KeptValue) → IsUnionOf a b value → (v : Valuation) (e : Element) → Has value v e ↔ (Has a v e ⊎ Has b v e)
+    union_has value is v e =
         let first = aligned_have g all a p h first_there v e in
-        let second = aligned_have g all b q k second_there v e in (
-          (λ has. elim (Any-parts (HasElement all v e) (aligned_pieces all a) (aligned_pieces all b) has) [
+        let second = aligned_have g all b q k second_there v e in
+        let both = both_any (HasElement all v e) (aligned_pieces all a) (aligned_pieces all b) value.pieces is.pieces in
+        let Over : List Name → Type 0 = λ l. Any (HasElement l v e) value.pieces in (
+          (λ has. elim (both.0 (subst Over is.params has)) [
             | inl x ↦ inl (first.0 x)
             | inr y ↦ inr (second.0 y)
           ]),
-          (λ has. elim has [
-            | inl x ↦ Any-left (HasElement all v e) (aligned_pieces all a) (aligned_pieces all b) (first.1 x)
-            | inr y ↦ Any-right (HasElement all v e) (aligned_pieces all a) (aligned_pieces all b) (second.1 y)
-          ]),
+          (λ hs. subst Over (sym is.params) (both.1 (elim hs [
+            | inl x ↦ inl (first.1 x)
+            | inr y ↦ inr (second.1 y)
+          ]))),
         )
 
-    pub union_small : (limit : ℕ) → HasNumbersUpTo limit a → HasNumbersUpTo limit b → HasNumbersUpTo limit (union_of a b)
-    unfolding union_of
-    union_small limit s t =
-        All-append (IsPieceUpTo limit) (aligned_pieces all a) (aligned_pieces all b) (aligned_small g all a p h first_there limit s)
-        (aligned_small g all b q k second_there limit t)
+    pub union_small : (value : KeptValue) → IsUnionOf a b value → (limit : ℕ) → HasNumbersUpTo limit a → HasNumbersUpTo limit b
+        → HasNumbersUpTo limit value
+    union_small value is limit s t =
+        both_all (IsPieceUpTo limit) (aligned_pieces all a) (aligned_pieces all b) value.pieces is.pieces
+        (aligned_small g all a p h first_there limit s) (aligned_small g all b q k second_there limit t)
 
-    pub union_plain : HasNoDefinitions a → HasNoDefinitions b → HasNoDefinitions (union_of a b)
-    unfolding union_of
-    union_plain s t =
-        All-append (λ (p : KeptPiece). p.definitions ≡ []) (aligned_pieces all a) (aligned_pieces all b)
+    pub union_plain : (value : KeptValue) → IsUnionOf a b value → HasNoDefinitions a → HasNoDefinitions b → HasNoDefinitions value
+    union_plain value is s t =
+        both_all (λ (p : KeptPiece). p.definitions ≡ []) (aligned_pieces all a) (aligned_pieces all b) value.pieces is.pieces
         (aligned_all_plain g all a p h first_there s) (aligned_all_plain g all b q k second_there t)
 
     -- ---- what they have in common

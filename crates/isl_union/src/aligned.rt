@@ -145,6 +145,30 @@ pub fn aligned_pieces(
     }
 }
 
+/// The same of a value that is taken. Where it declares all the parameters in their order, its pieces are not copied.
+///
+/// # Errors
+///
+/// Where memory ends.
+pub(crate) fn taken_pieces(
+    alloc: Global,
+    all: &Params,
+    value: Value,
+    meter: &Meter,
+) -> Result<Vec<Piece>, AllocError>
+    requires among { All (Contains all.now) value.params }
+    requires within { IsWithinLimit meter.now value }
+    ensures kept { IsKeptValue value }
+    ensures exact { IfOk result (λ pieces. map kept_piece pieces.items ≡ aligned_pieces all.now value) }
+    ensures sound { IfOk result (λ pieces. All (IsPieceOf all.now) pieces.items) }
+{
+    let _pieces = value.pieces();
+    if are_same(all, value.params()) {
+        return Ok(value.into_pieces());
+    }
+    aligned_pieces(alloc, all, &value, meter)
+}
+
 /// Puts more pieces behind these.
 ///
 /// # Errors

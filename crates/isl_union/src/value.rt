@@ -79,6 +79,15 @@ impl Value {
         self.pieces.as_slice()
     }
 
+    /// The pieces, in order, of a value that is taken.
+    #[tactic(auto, using(crate::proofs::PieceLaws::made))]
+    pub(crate) fn into_pieces(self) -> Vec<Piece>
+        ensures content { map kept_piece result.items ≡ self.pieces }
+        ensures well_formed { All (IsPieceOf self.params) result.items }
+    {
+        self.pieces
+    }
+
     /// Whether the value has no element at any valuation. Each piece has one, so this uses no unit, and has no fault.
     #[tactic(auto, using(crate::proofs::PieceLaws::made))]
     pub fn is_empty(&self, meter: &mut Meter) -> Result<bool, OpFault>

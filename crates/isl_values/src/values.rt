@@ -34,7 +34,7 @@ use isl_meter::{Cut, Meter};
 use isl_operators::{WordFault, applied, combined, transformed};
 use isl_text::refusal::Refusal;
 use isl_tree::tree::Literal;
-use isl_union::{OpFault, Value};
+use isl_union::{OpFault, Value, extended};
 use std::alloc::Global;
 use std::rc::Rc;
 
@@ -98,57 +98,60 @@ pub fn answered(alloc: Global, outcome: Result<Value, OpFault>) -> Result<Rc<Val
     }
 }
 
-// What an operator makes of two values.
+// What an operator makes of two values. A sum takes the pieces of the left one where nothing else has them.
 fn operated(
     alloc: Global,
     operator: Binary,
-    left: &Value,
+    left: Rc<Value>,
     right: &Value,
     meter: &mut Meter,
 ) -> Result<Rc<Value>, Refusal>
     requires supported { is_foreign (operator_part operator) ≡ false }
-    requires left { HasNumbersUpTo (unsigned_abs (limit_of meter.old)) left.now }
+    requires left { HasNumbersUpTo (unsigned_abs (limit_of meter.old)) left.value }
     requires right { HasNumbersUpTo (unsigned_abs (limit_of meter.old)) right.now }
     ensures made { MatchResult result
-        (λ value. IsMadeOf (λ made. IsOperatorOf operator left.now right.now made) (joined_names left.now.params right.now.params)
-        (λ valuation element. OperatorHas operator (Has left.now valuation) (Has right.now valuation) element)
-        (unsigned_abs (limit_of meter.old)) (HasNoDefinitions left.now × HasNoDefinitions right.now) value.value
+        (λ value. IsMadeOf (λ made. IsOperatorOf operator left.value right.now made) (joined_names left.value.params right.now.params)
+        (λ valuation element. OperatorHas operator (Has left.value valuation) (Has right.now valuation) element)
+        (unsigned_abs (limit_of meter.old)) (HasNoDefinitions left.value × HasNoDefinitions right.now) value.value
         × IsPaid (operator_works operator) meter.old meter.new)
         (IsWhyUnworked (operator_works operator)
-        (PairEnds (OperatorForms operator) left.now.params right.now.params (Has left.now) (Has right.now)) meter.old meter.new) }
+        (PairEnds (OperatorForms operator) left.value.params right.now.params (Has left.value) (Has right.now)) meter.old meter.new) }
     ensures goes_on { IfOk result
-        (λ _. GoesOn (PairEnds (OperatorForms operator) left.now.params right.now.params (Has left.now) (Has right.now))) }
+        (λ _. GoesOn (PairEnds (OperatorForms operator) left.value.params right.now.params (Has left.value) (Has right.now))) }
 {
     let _names = right.params();
-    answered(alloc, combined(alloc, operator, left, right, meter))
+    match operator {
+        Binary::Union => answered(alloc, extended(alloc, left, right, meter)),
+        _ => answered(alloc, combined(alloc, operator, &left, right, meter)),
+    }
 }
 
 // What is live of that; where something is assumed each piece of the two is live.
 fn joined(
     alloc: Global,
     operator: Binary,
-    left: &Value,
+    left: Rc<Value>,
     right: &Value,
     state: &State,
     meter: &mut Meter,
 ) -> Result<Rc<Value>, Refusal>
     requires supported { is_foreign (operator_part operator) ≡ false }
-    requires left { HasNumbersUpTo (unsigned_abs (limit_of meter.old)) left.now }
+    requires left { HasNumbersUpTo (unsigned_abs (limit_of meter.old)) left.value }
     requires right { HasNumbersUpTo (unsigned_abs (limit_of meter.old)) right.now }
-    requires left_live { IsLiveUnder state.now.assumed left.now }
+    requires left_live { IsLiveUnder state.now.assumed left.value }
     requires right_live { IsLiveUnder state.now.assumed right.now }
     requires fits { Fits (limit_of meter.old) state.now }
     ensures made { MatchResult result
-        (λ value. IsValueOf state.now.assumed (IsLiveOf state.now.assumed (IsOperatorOf operator left.now right.now))
-        (joined_names left.now.params right.now.params)
-        (λ valuation element. OperatorHas operator (Has left.now valuation) (Has right.now valuation) element)
-        (unsigned_abs (limit_of meter.old)) (HasNoDefinitions left.now × HasNoDefinitions right.now) value.value
+        (λ value. IsValueOf state.now.assumed (IsLiveOf state.now.assumed (IsOperatorOf operator left.value right.now))
+        (joined_names left.value.params right.now.params)
+        (λ valuation element. OperatorHas operator (Has left.value valuation) (Has right.now valuation) element)
+        (unsigned_abs (limit_of meter.old)) (HasNoDefinitions left.value × HasNoDefinitions right.now) value.value
         × IsPaid (uses_units state.now.assumed (operator_part operator)) meter.old meter.new)
         (IsWhyUnworked (uses_units state.now.assumed (operator_part operator))
-        (PairEnds (OperatorForms operator) left.now.params right.now.params (AtAssumed state.now (Has left.now))
+        (PairEnds (OperatorForms operator) left.value.params right.now.params (AtAssumed state.now (Has left.value))
         (AtAssumed state.now (Has right.now))) meter.old meter.new) }
     ensures goes_on { IfOk result
-        (λ _. GoesOn (PairEnds (OperatorForms operator) left.now.params right.now.params (AtAssumed state.now (Has left.now))
+        (λ _. GoesOn (PairEnds (OperatorForms operator) left.value.params right.now.params (AtAssumed state.now (Has left.value))
         (AtAssumed state.now (Has right.now)))) }
 {
     match operated(alloc, operator, left, right, meter) {
@@ -686,7 +689,7 @@ pub fn joined_past(
             Ok(right) => right,
             Err(refusal) => return Err(refusal),
         };
-        left = match joined(alloc, link.operator, &left, &right, state, meter) {
+        left = match joined(alloc, link.operator, left, &right, state, meter) {
             Ok(made) => made,
             Err(refusal) => return Err(refusal),
         };

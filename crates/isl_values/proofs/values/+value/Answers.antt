@@ -18,7 +18,7 @@ use Rattle.isl_values.proofs.SameLaws.{same_any, same_part}
 use Rattle.isl_values.proofs.ThreeLaws.{dependence_failed, dependence_goes, dependence_made, is_any, is_last, operands_failed, three_live, three_within}
 use Rattle.isl_values.proofs.ThreeLaws.{same_Any, same_Last, three_sound, three_made, three_goes, source_failed, sink_failed, schedule_failed}
 use Rattle.isl_values.proofs.ValueLaws.{fits_later, numbers_of, numbers_later, paid_same, match_map, ok_of, ok_map, IsMade, IsMadeAt}
-use Rattle.isl_values.proofs.LinkLaws.{IsRowTo, link_sound, link_failed, join_failed, row_step}
+use Rattle.isl_values.proofs.LinkLaws.{link_sound, link_failed, join_failed, row_step}
 use Rattle.isl_values.proofs.PostfixLaws.{IsFollowed, IsWhyNotFollowed, postfix_sound, postfix_failed, post_step, item_followed}
 use Rattle.isl_values.proofs.PostfixLaws.{inverse_followed, inverse_failed, inverse_goes_on, applied_sound, argument_failed}
 use Rattle.isl_values.proofs.PostfixLaws.{application_followed, application_failed, application_goes_on}
@@ -50,21 +50,20 @@ joined_past-returns-in-Err t c =
 pub joined_past-joined-requires-clause-left : goal.joined_past-joined-requires-clause-left
 joined_past-joined-requires-clause-left t c =
     let so_far = c.loop-link.invariant in
-    numbers_of _ _ _ _ c.in-Ok.ensures.made.1.charged c.deref-in-loop-link.ensures
+    numbers_later _ _ c.loop-link.left.value c.in-Ok.ensures.made.1.charged
     (numbers_later _ _ c.loop-link.left.value so_far.paid.charged so_far.made.numbers)
 
 pub joined_past-joined-requires-clause-right : goal.joined_past-joined-requires-clause-right
 joined_past-joined-requires-clause-right t c =
-    numbers_of _ _ _ _ c.in-Ok.ensures.made.1.charged c.deref-in-loop-link-2.ensures c.in-Ok.ensures.made.0.numbers
+    numbers_of _ _ _ _ c.in-Ok.ensures.made.1.charged c.deref-in-loop-link.ensures c.in-Ok.ensures.made.0.numbers
 
 pub joined_past-returns-in-Err-joined : goal.joined_past-returns-in-Err-joined
 joined_past-returns-in-Err-joined t c =
     let low : c.loop-link.link-index < length c.args.links.now = omega arith in
     let state = c.args.state.now in
-    let so_far = subst (IsRowTo state c.args.links.now c.args.first.value c.loop-link.link-index c.args.meter.now c.loop-link.meter)
-    (sym c.deref-in-loop-link.ensures) c.loop-link.invariant in
+    let so_far = c.loop-link.invariant in
     let behind = subst (IsMade state c.link-item.result.operand c.loop-link.meter c.part_of.new.meter)
-    (sym c.deref-in-loop-link-2.ensures) c.in-Ok.ensures.made in record {
+    (sym c.deref-in-loop-link.ensures) c.in-Ok.ensures.made in record {
       made = join_failed state c.args.links.now _ _ low c.link-item.is _ _ _ _ so_far _ _ behind _ _ c.in-Ok.ensures.goes_on
           c.in-Err-joined.ensures.made;
       goes_on = tt;
@@ -74,10 +73,9 @@ pub joined_past-loop-link-preserved : goal.joined_past-loop-link-preserved
 joined_past-loop-link-preserved t c =
     let low : c.loop-link.link-index < length c.args.links.now = omega arith in
     let state = c.args.state.now in
-    let so_far = subst (IsRowTo state c.args.links.now c.args.first.value c.loop-link.link-index c.args.meter.now c.loop-link.meter)
-    (sym c.deref-in-loop-link.ensures) c.loop-link.invariant in
+    let so_far = c.loop-link.invariant in
     let behind = subst (IsMade state c.link-item.result.operand c.loop-link.meter c.part_of.new.meter)
-    (sym c.deref-in-loop-link-2.ensures) c.in-Ok.ensures.made in
+    (sym c.deref-in-loop-link.ensures) c.in-Ok.ensures.made in
     row_step state c.args.links.now _ _ low c.link-item.is _ _ _ _ so_far _ _ behind _ _ c.in-Ok.ensures.goes_on c.in-Ok-joined.ensures.made
     c.in-Ok-joined.ensures.goes_on
 

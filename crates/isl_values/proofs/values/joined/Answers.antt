@@ -26,7 +26,7 @@ returns-in-Ok c =
     let g = c.args.meter.now in
     let h = c.operated.new.meter in
     let k = c.live_part.new.meter in
-    let left = c.args.left.now in
+    let left = c.args.left.value in
     let right = c.args.right.now in
     let one = c.in-Ok.ensures in
     let goes = pair_goes_there state (OperatorForms c.args.operator) left.params right.params left right c.requires.left_live c.requires.right_live
@@ -43,7 +43,7 @@ returns-in-Ok c =
 pub returns-in-Err : goal.returns-in-Err
 returns-in-Err c =
     let state = c.args.state.now in
-    let left = c.args.left.now in
+    let left = c.args.left.value in
     let right = c.args.right.now in
     let alike = pair_ends_live state (OperatorForms c.args.operator) left.params right.params left right c.requires.left_live c.requires.right_live in
     record {

@@ -1,10 +1,8 @@
-use Rattle.std.proofs.Common.{sym, ap, ap₂, ◌∙◌, subst, List}
+use Rattle.std.proofs.Common.{sym, ap₂, ◌∙◌, subst, List}
 use Rattle.std.specs.List.{All, Contains}
-use Rattle.std.proofs.lemmas.List.Elements.{All-append}
 use Rattle.isl_space.specs.Name.{Name}
 use Rattle.isl_space.specs.Names.{IsParameterList, joined}
-use Rattle.isl_union.specs.KeptValue.{KeptValue, IsKeptValue}
-use Rattle.isl_union.specs.Piece.{IsPieceOf}
+use Rattle.isl_union.specs.KeptValue.{IsKeptValue}
 use Rattle.isl_union.proofs.PieceLaws.{IsKeptValue-from_pieces}
 use Rattle.isl_union.proofs.ValueLaws.{first_in, second_in, union_is, union_has, union_plain, union_small, union_same}
 use Rattle.isl_union.proofs.value.Value.union.Goals as goal
@@ -27,42 +25,38 @@ aligned_pieces-requires-2-clause-among c =
 
 pub from_normal-requires-clause-pieces : goal.from_normal-requires-clause-pieces
 from_normal-requires-clause-pieces c =
-    rw c.in_ok-append.ensures.items
-    (All-append (IsPieceOf c.in_ok-params.params) c.in_ok-pieces.pieces.items c.in_ok-others.others.items
-    c.in_ok-pieces.ensures.sound c.in_ok-others.ensures.sound)
+    c.in_ok-pieces.ensures.sound c.in_ok-params.params c.in_ok-own.ensures.sound c.in_ok-others.ensures.sound
 
 pub returns-clause-written : goal.returns-clause-written
 returns-clause-written c =
     let names = c.in_ok-params.ensures.joined ∙ ap₂ joined c.params.ensures.content c.params-2.ensures.content in
-    union_is c.args.self.now c.args.other.now c.in_ok-pieces.ensures.kept c.in_ok-others.ensures.kept c.in_ok-params.params
-    c.in_ok-pieces.pieces.items c.in_ok-others.others.items
-    c.append.new.self.items c.from_normal.result names c.in_ok-append.ensures.items c.in_ok-pieces.ensures.exact
-    c.in_ok-others.ensures.exact c.from_normal.ensures
+    union_is c.args.self.now c.args.other.now c.in_ok-own.ensures.kept c.in_ok-others.ensures.kept c.in_ok-params.params
+    c.in_ok-own.own.items c.in_ok-others.others.items
+    c.in_ok-pieces.pieces.items c.from_normal.result names c.in_ok-own.ensures.exact c.in_ok-others.ensures.exact
+    c.in_ok-pieces.ensures.both c.from_normal.ensures
 
 pub returns-clause-kept : goal.returns-clause-kept
 returns-clause-kept c =
     subst IsKeptValue (sym c.from_normal.ensures)
-    (IsKeptValue-from_pieces c.in_ok-params.params c.append.new.self.items c.in_ok-params.ensures.well_formed
-    (rw c.in_ok-append.ensures.items
-    (All-append (IsPieceOf c.in_ok-params.params) c.in_ok-pieces.pieces.items c.in_ok-others.others.items
-    c.in_ok-pieces.ensures.sound c.in_ok-others.ensures.sound)))
+    (IsKeptValue-from_pieces c.in_ok-params.params c.in_ok-pieces.pieces.items c.in_ok-params.ensures.well_formed
+    (c.in_ok-pieces.ensures.sound c.in_ok-params.params c.in_ok-own.ensures.sound c.in_ok-others.ensures.sound))
 
 pub returns-clause-same_params : goal.returns-clause-same_params
 returns-clause-same_params c same =
-    ap (λ (v : KeptValue). v.pieces) (returns-clause-written c) ∙ union_same c.args.self.now c.args.other.now c.in_ok-pieces.ensures.kept
-    c.in_ok-others.ensures.kept same
+    union_same c.args.self.now c.args.other.now c.in_ok-own.ensures.kept c.in_ok-others.ensures.kept c.from_normal.result
+    (returns-clause-written c) same
 
 pub returns-clause-elements : goal.returns-clause-elements
 returns-clause-elements c v e =
-    rw (returns-clause-written c) (union_has c.args.self.now c.args.other.now c.in_ok-pieces.ensures.kept
-    c.in_ok-others.ensures.kept c.args.meter.now c.requires.own c.requires.other v e)
+    union_has c.args.self.now c.args.other.now c.in_ok-own.ensures.kept
+    c.in_ok-others.ensures.kept c.args.meter.now c.requires.own c.requires.other c.from_normal.result (returns-clause-written c) v e
 
 pub returns-clause-numbers : goal.returns-clause-numbers
 returns-clause-numbers c b h k =
-    rw (returns-clause-written c) (union_small c.args.self.now c.args.other.now c.in_ok-pieces.ensures.kept
-    c.in_ok-others.ensures.kept c.args.meter.now c.requires.own c.requires.other b h k)
+    union_small c.args.self.now c.args.other.now c.in_ok-own.ensures.kept
+    c.in_ok-others.ensures.kept c.args.meter.now c.requires.own c.requires.other c.from_normal.result (returns-clause-written c) b h k
 
 pub returns-clause-definitions : goal.returns-clause-definitions
 returns-clause-definitions c h k =
-    rw (returns-clause-written c) (union_plain c.args.self.now c.args.other.now c.in_ok-pieces.ensures.kept
-    c.in_ok-others.ensures.kept c.args.meter.now c.requires.own c.requires.other h k)
+    union_plain c.args.self.now c.args.other.now c.in_ok-own.ensures.kept
+    c.in_ok-others.ensures.kept c.args.meter.now c.requires.own c.requires.other c.from_normal.result (returns-clause-written c) h k
