@@ -1,3 +1,6 @@
+pub mod OnceLaws
 pub mod OverLaws
 pub mod ResultLaws
 pub mod SpaceLaws
+pub mod SystemLaws
+pub mod PlaceLaws

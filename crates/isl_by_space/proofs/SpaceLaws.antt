@@ -8,9 +8,11 @@ use Rattle.isl_math.proofs.ListLaws.{Any-first, Any-left, Any-right}
 use Rattle.isl_space.specs.SpaceForm.{SpaceForm}
 use Rattle.isl_piece.specs.Piece.{PieceView}
 use Rattle.isl_by_space.specs.Spaces.{AreSpacesOf}
+use Rattle.isl_by_space.proofs.OnceLaws.{once_known, once_new}
 
 pub spaces_none : AreSpacesOf [] []
 spaces_none = record {
+  order = refl;
   once = λ i j d before within same. absurd (omega (arith, within));
   all = All-nil (λ (piece : PieceView). Any (λ s. piece.space ≡ s) []);
   only = All-nil (λ (s : SpaceForm). Any (λ (piece : PieceView). piece.space ≡ s) []);
@@ -30,9 +32,18 @@ module _ (pieces : List PieceView) (i : ℕ) (piece : PieceView) (low : i < leng
       (λ s. Any (λ (p : PieceView). p.space ≡ s) (before ++ piece ∷ []))
       (λ s h. Any-left (λ (p : PieceView). p.space ≡ s) before (piece ∷ []) h) spaces so_far.only
 
+  -- a space that is there is one of a piece before, and none other
+  before_it : Any (λ s. piece.space ≡ s) spaces → Any (λ (p : PieceView). p.space ≡ piece.space) before
+  before_it there = subst (λ s. Any (λ (p : PieceView). p.space ≡ s) before) (there.3 ∙ sym there.4) (so_far.only there.0 there.1 there.2)
+
+  not_before : ¬ Any (λ s. piece.space ≡ s) spaces → ¬ Any (λ (p : PieceView). p.space ≡ piece.space) before
+  not_before none a =
+      none (subst (λ t. Any (λ s. t ≡ s) spaces) (ap (λ (p : PieceView). p.space) a.3 ∙ a.4) (so_far.all a.0 a.1 a.2))
+
   -- one whose space is there
   pub spaces_known : Any (λ s. piece.space ≡ s) spaces → AreSpacesOf (take (i + 1) pieces) spaces
   spaces_known there = subst (λ ps. AreSpacesOf ps spaces) (sym more) (record {
+    order = so_far.order ∙ sym (once_known before piece (before_it there));
     once = so_far.once;
     all = All-push (λ (p : PieceView). Any (λ s. p.space ≡ s) spaces) before piece so_far.all there;
     only = only_more;
@@ -42,6 +53,7 @@ module _ (pieces : List PieceView) (i : ℕ) (piece : PieceView) (low : i < leng
   pub spaces_new : ¬ Any (λ s. piece.space ≡ s) spaces → (pushed : List SpaceForm) → pushed ≡ spaces ++ piece.space ∷ []
       → AreSpacesOf (take (i + 1) pieces) pushed
   spaces_new none pushed made = subst (λ ps. AreSpacesOf ps pushed) (sym more) (rw made (record {
+    order = ap (λ l. l ++ piece.space ∷ []) so_far.order ∙ sym (once_new before piece (not_before none));
     once = all_pairs_push (λ s t. s ≢ t) spaces piece.space so_far.once (λ k d l same.
         none (k, get_or spaces k d, l, get_or_default spaces k (get_or spaces k d) d l, sym same));
     all = All-push (λ (p : PieceView). Any (λ s. p.space ≡ s) (spaces ++ piece.space ∷ [])) before piece

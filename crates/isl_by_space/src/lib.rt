@@ -7,4 +7,4 @@ mod systems;
 
 pub use over::aligned_over;
 pub use spaces::distinct_spaces;
-pub use systems::systems_in;
+pub use systems::{indexed, systems_in};

@@ -13,7 +13,8 @@ ghost use Rattle.isl_extremes.specs.Pieces.{elements_of_all, front_of, order_of,
 use crate::LexFault;
 use crate::systems::{Order, first_systems};
 use isl_blocks::Direction;
-use isl_by_space::{distinct_spaces, systems_in};
+use isl_by_space::{distinct_spaces, indexed, systems_in};
+use isl_index::PieceIndex;
 use isl_meter::Meter;
 use isl_piece::Piece;
 use isl_space::{Params, Space};
@@ -46,7 +47,7 @@ fn first_in(
     alloc: Global,
     params: &Params,
     space: &Space,
-    pieces: &[Piece],
+    pieces: &PieceIndex,
     direction: Direction,
     meter: &mut Meter,
 ) -> Result<Vec<Piece>, LexFault>
@@ -57,7 +58,8 @@ fn first_in(
     ensures meter { IsLexAnswer (ThereIsFirst params.now direction pieces.now (space_form_of space.now)) meter.old meter.new result }
 {
     let order = order_in(params, space, direction);
-    let systems = systems_in(alloc, space, pieces)?;
+    let found = pieces.in_space(alloc, space)?;
+    let systems = systems_in(alloc, space, found)?;
     let left = first_systems(alloc, systems.as_slice(), order, meter)?;
     Ok(pieces_in(alloc, space, left)?)
 }
@@ -84,9 +86,10 @@ pub(crate) fn first_pieces(
         meter.old meter.new result }
 {
     let spaces = distinct_spaces(alloc, pieces)?;
+    let index = indexed(alloc, pieces)?;
     let mut made = Vec::new(alloc);
     for space in spaces.as_slice() {
-        let mut more = first_in(alloc, params, space, pieces, direction, meter)?;
+        let mut more = first_in(alloc, params, space, &index, direction, meter)?;
         made.append(&mut more)?;
     }
     Ok(made)

@@ -32,10 +32,13 @@ first_in-requires-clause-formed c =
     (All-unmapped IsWellFormedSpace space_form_of spaces
     (space_formed c.args.params.now c.args.direction c.args.pieces.now (map space_form_of spaces) are c.requires.pieces.sound))
 
+pub indexed-requires : goal.indexed-requires
+indexed-requires c = λ k d l. (c.requires.pieces.sound k d l).kept.space
+
 pub first_in-requires-clause-pieces : goal.first_in-requires-clause-pieces
 first_in-requires-clause-pieces c =
-    pieces_plain_later c.args.meter.now c.loop-space.meter c.args.params.now c.args.pieces.now c.loop-space.invariant.charged
-    c.requires.pieces
+    rw c.in_ok-index.ensures (pieces_plain_later c.args.meter.now c.loop-space.meter c.args.params.now c.args.pieces.now
+    c.loop-space.invariant.charged c.requires.pieces)
 
 pub loop-space-preserved : goal.loop-space-preserved
 loop-space-preserved c =
@@ -50,11 +53,13 @@ loop-space-preserved c =
     let s = c.space-item.result in
     let low : i < length spaces = grind (arith, common_steps) in
     let told = c.in_ok-more.ensures in
+    let first = rw c.in_ok-index.ensures at told.first in
+    let there = rw c.in_ok-index.ensures at told.meter.0 in
     subst (λ (ss : List SpaceForm). AreFirstSoFar g c.first_in.new.meter params d ss pieces c.append.new.self.items)
     (sym (spaces_more spaces i s low c.space-item.is))
     (so_far_more g c.loop-space.meter params d pieces c.first_in.new.meter (map space_form_of (take i spaces)) (space_form_of s)
     c.loop-space.made.items c.in_ok-more.more.items c.append.new.self.items c.in_ok-append.ensures.items c.loop-space.invariant told.meter.1
-    told.first told.meter.0)
+    first there)
 
 pub returns-clause-made : goal.returns-clause-made
 returns-clause-made c = c.loop-space.invariant.first.are
@@ -105,7 +110,7 @@ returns-in_err-more-clause-meter c =
     rw (error.1, error.2)
     (later_fault (¬ ((v : Valuation) → HasFirst (order_of d) (elements_of_all params pieces v))) (¬ ThereIsFirst params d pieces space)
     (λ n all. n (there_in params d pieces (map space_form_of spaces) are space all)) g c.loop-space.meter c.first_in.new.meter
-    c.in_err-more.field-0.0 c.loop-space.invariant.charged c.in_err-more.ensures.meter)
+    c.in_err-more.field-0.0 c.loop-space.invariant.charged (rw c.in_ok-index.ensures at c.in_err-more.ensures.meter))
 
 pub returns-in_err-append-clause-meter : goal.returns-in_err-append-clause-meter
 returns-in_err-append-clause-meter c =
