@@ -1,9 +1,9 @@
 -- The comparisons of chains: where they hold, and where one does not.
-use Rattle.std.proofs.Common.{◌≡◌, ◌≢◌, ◌↔◌, ◌⊎◌, inl, inr, refl, sym, ap, ◌∙◌, subst, arith, ℕ, ◌+◌, ◌<◌, ◌≤◌, ℤ, pos, ◌<ℤ◌, ◌≤ℤ◌, ◌-ℤ◌, Bool, true, false, ◌&&◌, List, [], ◌∷◌, ◌++◌, length, get_or, take, map}
+use Rattle.std.proofs.Common.{◌≡◌, ◌≢◌, ◌↔◌, ◌⊎◌, inl, inr, refl, sym, ap, ◌∙◌, subst, arith, ℕ, ◌+◌, ◌<◌, ◌≤◌, ℤ, pos, ◌<ℤ◌, ◌≤ℤ◌, ◌-ℤ◌, Bool, true, false, ◌&&◌, List, [], ◌∷◌, ◌++◌, length, map}
 use Rattle.std.specs.List.{All, list_all}
 use Rattle.std.proofs.lemmas.Bool.{and_parts, false≢true}
-use Rattle.std.proofs.lemmas.List.{take_more, take_all, get_or-map, length-map}
-use Rattle.std.proofs.lemmas.List.Elements.{All-nil, All-cons, All-append}
+use Rattle.std.proofs.lemmas.List.{append_assoc, append-nil}
+use Rattle.std.proofs.lemmas.List.Elements.{All-nil, All-cons, All-append, All-head}
 use Rattle.isl_math.proofs.ListLaws.{All-parts}
 use Rattle.isl_math.proofs.Ring.{linear}
 use Rattle.isl_meter.specs.Gauge.{Gauge, IsCharged}
@@ -11,7 +11,6 @@ use Rattle.isl_meter.proofs.CutLemmas.{charges}
 use Rattle.isl_piece.specs.declared.system.System.{System}
 use Rattle.isl_piece.proofs.ContentLaws.{zero_cases}
 use Rattle.isl_piece.proofs.NormalCases.{negative_cases}
-use Rattle.isl_affine.specs.declared.comparison.Comparison.{Comparison}
 use Rattle.isl_affine.specs.Comparison.{splits, differs, zero_remainder}
 use Rattle.isl_tree.specs.Divisors.{HasDivisors, term_divisors}
 use Rattle.isl_affine.specs.Scope.{Scope, KnowsAll, IsTermKnown}
@@ -25,8 +24,8 @@ use Rattle.isl_tree.specs.Known.{formula_is_known, term_is_known, side_is_known,
 use Rattle.isl_alternatives.specs.Chain.{Compared, HoldsCompared, EachCompared, IsComparedKnown, term_compared, sides_compared, chain_compared, opposite}
 use Rattle.isl_alternatives.specs.Known.{IsFormulaKnown}
 use Rattle.isl_tree.specs.Divisors.{formula_divisors, side_divisors, links_divisors}
-use Rattle.isl_alternatives.specs.Restricted.{AreRestricted, Condition, HoldsAs}
-use Rattle.isl_alternatives.proofs.RestrictedLaws.{restricted_then, restricted_either, restricted_same}
+use Rattle.isl_alternatives.specs.Restricted.{AreRestricted, Condition, HoldsAs, IsOver}
+use Rattle.isl_alternatives.proofs.RestrictedLaws.{restricted_all, restricted_none, restricted_then, restricted_either, restricted_same}
 
 -- ---- lists of comparisons
 each_append : (cs ds : List Compared) (env : Environment) → EachCompared (cs ++ ds) env ↔ (EachCompared cs env × EachCompared ds env)
@@ -130,31 +129,79 @@ split_either g h j k scope a below base above all left right c s p paid units sa
     (λ point env x. less_differs (term_value left env) (term_value right env) x) (λ point env x. greater_differs (term_value left env) (term_value right env) x)
     (λ point env x d. elim (order (term_value left env) (term_value right env)) [ inl l ↦ inl l | inr r ↦ elim r [ inl same_value ↦ absurd (x same_value) | inr g ↦ inr g ] ]))
 
-module _ (g h k : Gauge) (scope : Scope) (a : List System) (cs : List Compared) (i : ℕ) (c : Compared) (b : List System)
-    (inside : i < length cs) (is : c ≡ get_or cs i c) where
-  more : take (i + 1) cs ≡ take i cs ++ c ∷ []
-  more = take_more cs i c inside ∙ ap (λ (x : Compared). take i cs ++ x ∷ []) (sym is)
+-- some of the comparisons are done, the others are ahead
+pub record AreCompared (g h : Gauge) (scope : Scope) (all ahead : List Compared) (W : List Compared → Condition) (a b : List System)
+    : Type 0 where
+  pub done : List Compared
+  pub parts : done ++ ahead ≡ all
+  pub restricted : AreRestricted g h scope a (W done) b
 
-  pub compared_more : (d : List System) → AreRestricted g h scope a (WhereEach (take i cs)) b → AreRestricted h k scope b (Where c) d
-      → AreRestricted g k scope a (WhereEach (take (i + 1) cs)) d
-  compared_more d r s =
-      rw more (restricted_then g h k scope a (WhereEach (take i cs)) b (Where c) d (WhereEach (take i cs ++ c ∷ [])) r s
-      (λ point env x y. (each_append (take i cs) (c ∷ []) env).1 (x, (y, tt)))
-      (λ point env x. ((each_append (take i cs) (c ∷ []) env).0 x).0)
-      (λ point env x d. ((each_append (take i cs) (c ∷ []) env).0 x).1.0))
+one_done : (all before ahead done : List Compared) (c : Compared) → before ≡ c ∷ ahead → done ++ before ≡ all → (done ++ c ∷ []) ++ ahead ≡ all
+one_done all before ahead done c is parts =
+    append_assoc done (c ∷ []) ahead ∙ ap (λ (cs : List Compared). done ++ cs) (sym is) ∙ parts
 
-  pub denied_more : (j : Gauge) (base d all : List System) → AreRestricted g h scope a (WhereDenied (take i cs)) b → IsCharged h j
-      → (b ≡ []) ⊎ (h.units + length a ≤ j.units) → base ≡ a → AreRestricted j k scope base (Where (c.0, opposite c.1, c.2)) d → all ≡ b ++ d
-      → AreRestricted g k scope a (WhereDenied (take (i + 1) cs)) all
-  denied_more j base d all r paid units same s e =
-      rw (more, e) (restricted_either g h j k scope a (WhereDenied (take i cs)) b (Where (c.0, opposite c.1, c.2)) d (WhereDenied (take i cs ++ c ∷ [])) r paid units
-      (subst (λ (xs : List System). AreRestricted j k scope xs (Where (c.0, opposite c.1, c.2)) d) same s)
-      (λ point env x y. x ((each_append (take i cs) (c ∷ []) env).0 y).0)
-      (λ point env x y. opposite_not c.1 (term_value c.0 env) (term_value c.2 env) x ((each_append (take i cs) (c ∷ []) env).0 y).1.0)
-      (λ point env x t. elim t [
-        | inl y ↦ inl y
-        | inr n ↦ inr (not_opposite c.1 (term_value c.0 env) (term_value c.2 env) (λ z. n (λ w. x ((each_append (take i cs) (c ∷ []) env).1 (w, (z, tt))))))
-      ]))
+pub each_first : (g : Gauge) (scope : Scope) (all : List Compared) (a : List System) → All (IsOver g scope) a
+    → AreCompared g g scope all all WhereEach a a
+each_first g scope all a over = record {
+  done = [];
+  parts = refl;
+  restricted = restricted_all g scope a (WhereEach []) over (λ point env. tt);
+}
+
+pub each_more : (g h j k : Gauge) (scope : Scope) (all before ahead : List Compared) (c : Compared) (a b d e : List System)
+    → before ≡ c ∷ ahead → AreCompared g h scope all before WhereEach a b → AreRestricted h j scope b (Where c) d
+    → AreRestricted j k scope d (λ point env. Unit {0}) e → AreCompared g k scope all ahead WhereEach a e
+each_more g h j k scope all before ahead c a b d e is so_far one_more same =
+    let done = so_far.done in
+    let one = restricted_then g h j scope a (WhereEach done) b (Where c) d (WhereEach (done ++ c ∷ [])) so_far.restricted one_more
+    (λ point env x y. (each_append done (c ∷ []) env).1 (x, (y, tt)))
+    (λ point env x. ((each_append done (c ∷ []) env).0 x).0)
+    (λ point env x d. ((each_append done (c ∷ []) env).0 x).1.0) in
+    record {
+      done = done ++ c ∷ [];
+      parts = one_done all before ahead done c is so_far.parts;
+      restricted = restricted_then g j k scope a (WhereEach (done ++ c ∷ [])) d (λ point env. Unit {0}) e (WhereEach (done ++ c ∷ [])) one same
+          (λ point env x y. x) (λ point env x. x) (λ point env x d. tt);
+    }
+
+pub denied_first : (g : Gauge) (scope : Scope) (all : List Compared) (a : List System) → AreCompared g g scope all all WhereDenied a []
+denied_first g scope all a = record {
+  done = [];
+  parts = refl;
+  restricted = restricted_none g scope a (WhereDenied []) (λ point env n. n tt);
+}
+
+pub denied_more : (g h j k : Gauge) (scope : Scope) (all before ahead : List Compared) (c : Compared) (a b base d found : List System)
+    → before ≡ c ∷ ahead → AreCompared g h scope all before WhereDenied a b → IsCharged h j → (b ≡ []) ⊎ (h.units + length a ≤ j.units)
+    → base ≡ a → AreRestricted j k scope base (Where (c.0, opposite c.1, c.2)) d → found ≡ b ++ d
+    → AreCompared g k scope all ahead WhereDenied a found
+denied_more g h j k scope all before ahead c a b base d found is so_far paid units same s e =
+    let done = so_far.done in
+    let left = term_value c.0 in
+    let right = term_value c.2 in
+    let turned = λ (point : List ℤ) (env : Environment) (x : Compares (opposite c.1) (left env) (right env))
+    (y : EachCompared (done ++ c ∷ []) env). opposite_not c.1 (left env) (right env) x ((each_append done (c ∷ []) env).0 y).1.0 in
+    record {
+      done = done ++ c ∷ [];
+      parts = one_done all before ahead done c is so_far.parts;
+      restricted = rw e (restricted_either g h j k scope a (WhereDenied done) b (Where (c.0, opposite c.1, c.2)) d
+          (WhereDenied (done ++ c ∷ [])) so_far.restricted paid units
+          (subst (λ (xs : List System). AreRestricted j k scope xs (Where (c.0, opposite c.1, c.2)) d) same s)
+          (λ point env x y. x ((each_append done (c ∷ []) env).0 y).0)
+          turned
+          (λ point env x t. elim t [
+            | inl y ↦ inl y
+            | inr n ↦ inr (not_opposite c.1 (left env) (right env) (λ z. n (λ w. x ((each_append done (c ∷ []) env).1 (w, (z, tt))))))
+          ]));
+    }
+
+-- none is ahead
+pub all_compared : (g h : Gauge) (scope : Scope) (all ahead : List Compared) (W : List Compared → Condition) (a b : List System)
+    → ahead ≡ [] → AreCompared g h scope all ahead W a b → AreRestricted g h scope a (W all) b
+all_compared g h scope all ahead W a b none so_far =
+    let whole : so_far.done ≡ all =
+    sym (append-nil so_far.done) ∙ ap (λ (cs : List Compared). so_far.done ++ cs) (sym none) ∙ so_far.parts in
+    subst (λ (cs : List Compared). AreRestricted g h scope a (W cs) b) whole so_far.restricted
 
 -- ---- names and divisors
 abbrev Positive : ℤ → Type 0
@@ -196,49 +243,16 @@ known_chain scope x first links is k =
     let divisors = All-parts Positive (side_divisors first) (links_divisors links) (subst (All Positive) (ap formula_divisors is) k.divisors) in
     known_links scope k.known k.all first links names.0 names.1 divisors.0 divisors.1
 
--- ---- comparisons as they lie in memory
-abbrev pub view : Comparison → Compared
-view c = (c.left.now, c.compare, c.right.now)
-
-pub viewed_at : (list : List Comparison) (i : ℕ) (c : Comparison) → i < length list → c ≡ get_or list i c → view c ≡ get_or (map view list) i (view c)
-viewed_at list i c low is = ap view is ∙ sym (get_or-map view list i c (view c) low)
-
-pub known_at : (scope : Scope) (list : List Comparison) (i : ℕ) (c : Comparison) → All (IsComparedKnown scope) (map view list) → i < length list
-    → c ≡ get_or list i c → IsComparedKnown scope (view c)
-known_at scope list i c k low is =
-    let inside : i < length (map view list) = rw (length-map list view) low in
-    rw (viewed_at list i c low is) (k i (view c) inside)
+-- of those that are ahead too
+pub known_next : (g h : Gauge) (scope : Scope) (all before ahead : List Compared) (W : List Compared → Condition) (a b : List System)
+    (c : Compared) → before ≡ c ∷ ahead → AreCompared g h scope all before W a b → All (IsComparedKnown scope) all → IsComparedKnown scope c
+known_next g h scope all before ahead W a b c is so_far known =
+    let K : Compared → Type 0 = IsComparedKnown scope in
+    let rest = (All-parts K so_far.done before (subst (All K) (sym so_far.parts) known)).1 in
+    All-head K c ahead (subst (All K) is rest)
 
 pub denied_known : (scope : Scope) (c : Compared) → IsComparedKnown scope c → IsComparedKnown scope (c.0, opposite c.1, c.2)
 denied_known scope c k = record { left = k.left; right = k.right; left_divisors = k.left_divisors; right_divisors = k.right_divisors }
-
-pub each_next : (g h k : Gauge) (scope : Scope) (a : List System) (list : List Comparison) (i : ℕ) (c : Comparison) (b d : List System)
-    → i < length list → c ≡ get_or list i c → AreRestricted g h scope a (WhereEach (take i (map view list))) b → AreRestricted h k scope b (Where (view c)) d
-    → AreRestricted g k scope a (WhereEach (take (i + 1) (map view list))) d
-each_next g h k scope a list i c b d low is r s =
-    let inside : i < length (map view list) = rw (length-map list view) low in
-    compared_more g h k scope a (map view list) i (view c) b inside (viewed_at list i c low is) d r s
-
-pub denied_next : (g h j k : Gauge) (scope : Scope) (a : List System) (list : List Comparison) (i : ℕ) (c : Comparison) (b base d all : List System)
-    → i < length list → c ≡ get_or list i c → AreRestricted g h scope a (WhereDenied (take i (map view list))) b → IsCharged h j
-    → (b ≡ []) ⊎ (h.units + length a ≤ j.units) → base ≡ a → AreRestricted j k scope base (Where (c.left.now, opposite c.compare, c.right.now)) d → all ≡ b ++ d
-    → AreRestricted g k scope a (WhereDenied (take (i + 1) (map view list))) all
-denied_next g h j k scope a list i c b base d all low is r paid units same s e =
-    let inside : i < length (map view list) = rw (length-map list view) low in
-    denied_more g h k scope a (map view list) i (view c) b inside (viewed_at list i c low is) j base d all r paid units same s e
-
--- all of them
-pub each_all : (g h : Gauge) (scope : Scope) (a : List System) (list : List Comparison) (i : ℕ) (b : List System) → length list ≤ i
-    → AreRestricted g h scope a (WhereEach (take i (map view list))) b → AreRestricted g h scope a (WhereEach (map view list)) b
-each_all g h scope a list i b l r =
-    let long : length (map view list) ≤ i = rw (length-map list view) l in
-    subst (λ (cs : List Compared). AreRestricted g h scope a (WhereEach cs) b) (take_all i (map view list) long) r
-
-pub denied_all : (g h : Gauge) (scope : Scope) (a : List System) (list : List Comparison) (i : ℕ) (b : List System) → length list ≤ i
-    → AreRestricted g h scope a (WhereDenied (take i (map view list))) b → AreRestricted g h scope a (WhereDenied (map view list)) b
-denied_all g h scope a list i b l r =
-    let long : length (map view list) ≤ i = rw (length-map list view) l in
-    subst (λ (cs : List Compared). AreRestricted g h scope a (WhereDenied cs) b) (take_all i (map view list) long) r
 
 as_chain : (p : Bool) (first : Side) (links : List Link) (point : List ℤ) (env : Environment)
     → HoldsAs p (EachCompared (chain_compared first links)) point env ↔ HoldsAs p (ChainHolds first links) point env
@@ -257,4 +271,4 @@ chain_fails g h scope a p first links cs b e is r =
     rw is (restricted_same g h scope a (WhereDenied (chain_compared first links)) (HoldsAs false (ChainHolds first links)) b (rw e at r)
     (λ point env d. as_chain false first links point env))
 
-pub ruleset steps = (charges, split_either, compared_more, denied_more)
+pub ruleset steps = (charges, split_either, each_first, denied_first)

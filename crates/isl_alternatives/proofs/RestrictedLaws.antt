@@ -47,6 +47,10 @@ restricted_all g scope a P o p = record {
   points = λ point env l n. ((λ h. (h, p point env)), (λ h. h.0));
 }
 
+pub as_they_are : (g : Gauge) (scope : Scope) (a : List System) → All (IsOver g scope) a
+    → AreRestricted g g scope a (λ point env. Unit {0}) a
+as_they_are g scope a over = restricted_all g scope a (λ point env. Unit {0}) over (λ point env. tt)
+
 pub restricted_none : (g : Gauge) (scope : Scope) (a : List System) (P : Condition)
     → ((point : List ℤ) (env : Environment) → ¬ P point env) → AreRestricted g g scope a P []
 restricted_none g scope a P p = record {

@@ -1,5 +1,5 @@
 -- inner: the comparisons of a chain, one by one.
-use Rattle.std.specs.Prelude.{◌≡◌, ℤ, pos, ◌<ℤ◌, List, [], ◌∷◌, ◌++◌, All, map}
+use Rattle.std.specs.Prelude.{◌≡◌, ℕ, suc, ◌+◌, ℤ, pos, ◌<ℤ◌, List, [], ◌∷◌, ◌++◌, All, length, map}
 use Rattle.isl_tree.specs.Divisors.{HasDivisors}
 use Rattle.isl_affine.specs.Scope.{Scope, IsTermKnown}
 use Rattle.isl_tree.specs.declared.tree.Compare.{Compare}
@@ -34,6 +34,18 @@ sides_compared (left ∷ lefts) c rights = term_compared left c rights ++ sides_
 abbrev pub chain_compared : Side → List Link → List Compared
 chain_compared first [] = []
 chain_compared first (link ∷ links) = sides_compared first link.0 link.1 ++ chain_compared link.1 links
+
+-- those that are ahead: of the first term with these of the side behind it, of the others with all of that, and those behind
+abbrev pub compared_ahead : Side → Side → List Link → List Compared
+compared_ahead lefts rights [] = []
+compared_ahead [] rights (link ∷ links) = chain_compared link.1 links
+compared_ahead (left ∷ lefts) rights (link ∷ links) =
+    term_compared left link.0 rights ++ (sides_compared lefts link.0 link.1 ++ chain_compared link.1 links)
+
+-- how often a term on the left, or a link, can still be left behind
+abbrev pub turns_ahead : List Link → ℕ
+turns_ahead [] = 0
+turns_ahead (link ∷ links) = suc (length link.1) + turns_ahead links
 
 -- each of the comparisons holds
 abbrev pub EachCompared : List Compared → Environment → Type 0

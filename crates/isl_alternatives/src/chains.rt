@@ -1,20 +1,21 @@
 //! Chains of comparisons, which must hold or must not, on lists of systems.
 
-ghost use Rattle.std.specs.Prelude.{◌≡◌, ◌++◌, false, All, IfOk, MatchResult, OnOk, map};
+ghost use Rattle.std.specs.Prelude.{◌≡◌, false, All, MatchResult};
 ghost use Rattle.isl_meter.specs.Gauge.{IsCutBy};
 ghost use Rattle.isl_affine.specs.Comparison as spec;
+ghost use Rattle.isl_alternatives.specs.Ahead.{ahead_of};
 ghost use Rattle.isl_alternatives.specs.Chain as chain;
-ghost use Rattle.isl_alternatives.specs.Chain.{HoldsCompared, EachCompared, IsComparedKnown};
-ghost use Rattle.isl_alternatives.specs.Chain.{term_compared, sides_compared, chain_compared};
+ghost use Rattle.isl_alternatives.specs.Chain.{HoldsCompared, EachCompared, IsComparedKnown, chain_compared};
 ghost use Rattle.isl_alternatives.specs.Restricted.{AreRestricted, HoldsAs, IsOver};
 ghost use Rattle.isl_tree.specs.Formula.{ChainHolds};
 
-use crate::lists::{begun, copies};
+use crate::comparisons::Comparisons;
+use crate::lists::{ROOM, begun, copies, with_room};
 use isl_affine::{Comparison, Scope, with_comparison};
 use isl_meter::{Cut, Meter};
 use isl_piece::System;
-use isl_tree::tree::{Compare, Link, Signed, Term};
-use std::alloc::{AllocError, Global};
+use isl_tree::tree::{Compare, Link, Term};
+use std::alloc::Global;
 
 /// A chain, which must hold or must not.
 #[derive(Clone, Copy)]
@@ -24,7 +25,7 @@ pub(crate) struct Chain<'a> {
     pub(crate) holds: bool,
 }
 
-// ---- the comparisons of a chain
+// The sign that holds where this one does not.
 fn opposite(compare: Compare) -> Compare
     ensures { result ≡ chain.opposite compare }
 {
@@ -36,59 +37,6 @@ fn opposite(compare: Compare) -> Compare
         Compare::GreaterEqual => Compare::Less,
         Compare::Differs => Compare::Equal,
     }
-}
-
-// Puts the comparisons of a term with each of a side behind the others.
-fn push_term<'a>(
-    list: &mut Vec<Comparison<'a>>,
-    left: &'a [Signed],
-    compare: Compare,
-    side: &'a [Term],
-) -> Result<(), AllocError>
-    ensures { OnOk result (map (λ c. (c.left.now, c.compare, c.right.now)) list.new.items
-        ≡ map (λ c. (c.left.now, c.compare, c.right.now)) list.old.items ++ term_compared left.now compare side.now) }
-{
-    for right in side {
-        list.push(Comparison {
-            left,
-            compare,
-            right: right.as_slice(),
-        })?;
-    }
-    Ok(())
-}
-
-// Puts the comparisons of each of a side with each of another behind the others.
-fn push_sides<'a>(
-    list: &mut Vec<Comparison<'a>>,
-    lefts: &'a [Term],
-    compare: Compare,
-    side: &'a [Term],
-) -> Result<(), AllocError>
-    ensures { OnOk result (map (λ c. (c.left.now, c.compare, c.right.now)) list.new.items
-        ≡ map (λ c. (c.left.now, c.compare, c.right.now)) list.old.items ++ sides_compared lefts.now compare side.now) }
-{
-    for left in lefts {
-        push_term(list, left.as_slice(), compare, side)?;
-    }
-    Ok(())
-}
-
-// The comparisons of the neighbouring sides of a chain.
-fn comparisons<'a>(
-    alloc: Global,
-    first: &'a [Term],
-    links: &'a [Link],
-) -> Result<Vec<Comparison<'a>>, AllocError>
-    ensures { IfOk result (λ list. map (λ c. (c.left.now, c.compare, c.right.now)) list.items ≡ chain_compared first.now links.now) }
-{
-    let mut list = Vec::new(alloc);
-    let mut left = first;
-    for link in links {
-        push_sides(&mut list, left, link.0, link.1.as_slice())?;
-        left = link.1.as_slice();
-    }
-    Ok(list)
 }
 
 // ---- systems with comparisons
@@ -154,24 +102,26 @@ fn compared(
     Ok(below)
 }
 
-// The systems where each of the comparisons holds.
+// The systems where each of the comparisons holds. They are made normal on the way as often as their rows have become many, so that
+// rows that say the same are not kept.
 #[tactic(auto, using(std::proofs::lemmas::Grind::common_steps, crate::proofs::ChainLaws::steps))]
 fn with_all(
     alloc: Global,
     mut systems: Vec<System>,
-    list: &[Comparison<'_>],
+    mut ahead: Comparisons<'_>,
     scope: &Scope,
     meter: &mut Meter,
 ) -> Result<Vec<System>, Cut>
     requires over { All (IsOver meter.old scope.now) systems.items }
-    requires known { All (IsComparedKnown scope.now) (map (λ c. (c.left.now, c.compare, c.right.now)) list.now) }
+    requires known { All (IsComparedKnown scope.now) (ahead_of ahead) }
     ensures { MatchResult result
-        (λ new. AreRestricted meter.old meter.new scope.now systems.items
-        (λ point env. EachCompared (map (λ c. (c.left.now, c.compare, c.right.now)) list.now) env) new.items)
+        (λ new. AreRestricted meter.old meter.new scope.now systems.items (λ point env. EachCompared (ahead_of ahead.entry) env) new.items)
         (IsCutBy meter.old meter.new) }
 {
-    for comparison in list {
-        systems = compared(alloc, systems, comparison, scope, meter)?;
+    let mut room = ROOM;
+    while let Some(comparison) = ahead.next() {
+        let new = compared(alloc, systems, &comparison, scope, meter)?;
+        systems = with_room(alloc, new, &mut room, scope, meter)?;
     }
     Ok(systems)
 }
@@ -181,19 +131,18 @@ fn with_all(
 fn with_denied(
     alloc: Global,
     systems: &[System],
-    list: &[Comparison<'_>],
+    mut ahead: Comparisons<'_>,
     scope: &Scope,
     meter: &mut Meter,
 ) -> Result<Vec<System>, Cut>
     requires over { All (IsOver meter.old scope.now) systems.now }
-    requires known { All (IsComparedKnown scope.now) (map (λ c. (c.left.now, c.compare, c.right.now)) list.now) }
+    requires known { All (IsComparedKnown scope.now) (ahead_of ahead) }
     ensures { MatchResult result
-        (λ new. AreRestricted meter.old meter.new scope.now systems.now
-        (λ point env. ¬ EachCompared (map (λ c. (c.left.now, c.compare, c.right.now)) list.now) env) new.items)
+        (λ new. AreRestricted meter.old meter.new scope.now systems.now (λ point env. ¬ EachCompared (ahead_of ahead.entry) env) new.items)
         (IsCutBy meter.old meter.new) }
 {
     let mut found = Vec::new(alloc);
-    for comparison in list {
+    while let Some(comparison) = ahead.next() {
         let denied = Comparison {
             left: comparison.left,
             compare: opposite(comparison.compare),
@@ -222,9 +171,9 @@ pub(crate) fn with_chain(
         (HoldsAs chain.now.holds (ChainHolds chain.now.first.now chain.now.links.now)) new.items)
         (IsCutBy meter.old meter.new) }
 {
-    let list = comparisons(alloc, chain.first, chain.links)?;
+    let ahead = Comparisons::of_chain(chain.first, chain.links);
     if chain.holds {
-        return with_all(alloc, systems, list.as_slice(), scope, meter);
+        return with_all(alloc, systems, ahead, scope, meter);
     }
-    with_denied(alloc, systems.as_slice(), list.as_slice(), scope, meter)
+    with_denied(alloc, systems.as_slice(), ahead, scope, meter)
 }

@@ -3,6 +3,7 @@
 
 mod bound;
 mod chains;
+mod comparisons;
 mod formulas;
 mod lists;
 

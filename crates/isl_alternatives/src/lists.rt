@@ -14,6 +14,9 @@ use isl_meter::{Cut, Meter};
 use isl_piece::{System, meet, normalise};
 use std::alloc::{AllocError, Global};
 
+/// So many rows a system may have before it is made normal.
+pub(crate) const ROOM: usize = 1_024;
+
 /// Copies of the systems.
 pub(crate) fn copies(alloc: Global, systems: &[System]) -> Result<Vec<System>, AllocError>
     ensures { IfOk result (λ copies. copies.items ≡ systems.now) }
@@ -163,6 +166,38 @@ pub(crate) fn normal_forms(
             forms.push(form)?;
         }
     }
+    Ok(forms)
+}
+
+// The number of rows of the system that has most of them.
+fn most_rows(systems: &[System]) -> usize {
+    let mut most = 0;
+    for system in systems {
+        most = most.max(system.rows.len());
+    }
+    most
+}
+
+/// The systems, in their normal form where one of them has passed the room for rows; the room is for twice as many then. No unit is
+/// used.
+#[tactic(auto, using(std::proofs::lemmas::Grind::common_steps, crate::proofs::RestrictedLaws::as_they_are))]
+pub(crate) fn with_room(
+    alloc: Global,
+    systems: Vec<System>,
+    room: &mut usize,
+    scope: &Scope,
+    meter: &mut Meter,
+) -> Result<Vec<System>, AllocError>
+    requires over { All (IsOver meter.old scope.now) systems.items }
+    ensures exact { IfOk result
+        (λ forms. AreRestricted meter.old meter.new scope.now systems.items (λ point env. Unit {0}) forms.items) }
+    ensures meter { meter.new ≡ meter.old }
+{
+    if most_rows(systems.as_slice()) <= *room {
+        return Ok(systems);
+    }
+    let forms = normal_forms(alloc, systems, scope, meter)?;
+    *room = most_rows(forms.as_slice()).saturating_mul(2).max(ROOM);
     Ok(forms)
 }
 

@@ -1,22 +1,45 @@
-use Rattle.std.proofs.Common.{◌≡◌, ◌<◌, ◌≤◌, arith, length}
-use Rattle.std.proofs.lemmas.Grind.{common_steps}
-use Rattle.isl_alternatives.proofs.ChainLaws.{each_next, each_all, known_at}
+use Rattle.isl_meter.proofs.CutLemmas.{IsCharged_trans}
+use Rattle.isl_alternatives.specs.Ahead.{ahead_of}
+use Rattle.isl_alternatives.proofs.ChainLaws.{WhereEach, all_compared, each_more, known_next}
 use Rattle.isl_alternatives.proofs.RestrictedLaws.{over_after}
 use Rattle.isl_alternatives.proofs.chains.with_all.Goals as goal
 
 pub compared-requires-clause-over : goal.compared-requires-clause-over
 compared-requires-clause-over c =
-    let r = c.loop-comparison.invariant in
-    over_after c.args.meter.now c.loop-comparison.meter c.args.scope.now c.loop-comparison.systems.items r.charged r.over
+    let l = c.loop-comparison in
+    over_after c.args.meter.now l.meter c.args.scope.now l.systems.items l.invariant.1 l.invariant.0.restricted.over
 
 pub compared-requires-clause-known : goal.compared-requires-clause-known
 compared-requires-clause-known c =
-    let inside : c.loop-comparison.comparison-index < length c.args.list.now = grind (arith, common_steps) in
-    known_at c.args.scope.now c.args.list.now c.loop-comparison.comparison-index c.comparison-item.result c.requires.known inside c.comparison-item.is
+    let l = c.loop-comparison in
+    let k = c.in-Some.comparison in
+    let next = rw c.in-Some.is at c.next.ensures in
+    known_next c.args.meter.now l.meter c.args.scope.now (ahead_of c.args.ahead) (ahead_of l.ahead) (ahead_of c.next.new.self) WhereEach
+    c.args.systems.items l.systems.items (k.left.now, k.compare, k.right.now) next l.invariant.0 c.requires.known
+
+pub with_room-requires : goal.with_room-requires
+with_room-requires c =
+    let r = c.in_ok-new.ensures in
+    record { over = over_after c.loop-comparison.meter c.compared.new.meter c.args.scope.now c.in_ok-new.new.items r.charged r.over }
 
 pub loop-comparison-preserved : goal.loop-comparison-preserved
 loop-comparison-preserved c =
+    let g = c.args.meter.now in
     let l = c.loop-comparison in
-    let inside : l.comparison-index < length c.args.list.now = grind (arith, common_steps) in
-    each_next c.args.meter.now l.meter c.compared.new.meter c.args.scope.now c.args.systems.items c.args.list.now l.comparison-index
-    c.comparison-item.result l.systems.items c.in_ok-systems.systems.items inside c.comparison-item.is l.invariant c.in_ok-systems.ensures
+    let h = c.compared.new.meter in
+    let end = c.with_room.new.meter in
+    let k = c.in-Some.comparison in
+    let next = rw c.in-Some.is at c.next.ensures in
+    let more = c.in_ok-new.ensures in
+    let same = c.in_ok-systems.ensures.exact in (
+      each_more g l.meter h end c.args.scope.now (ahead_of c.args.ahead) (ahead_of l.ahead) (ahead_of c.next.new.self)
+          (k.left.now, k.compare, k.right.now) c.args.systems.items l.systems.items c.in_ok-new.new.items c.in_ok-systems.systems.items next
+          l.invariant.0 more same,
+      IsCharged_trans g h end (IsCharged_trans g l.meter h l.invariant.1 more.charged) same.charged,
+    )
+
+pub returns : goal.returns
+returns c =
+    let l = c.loop-comparison in
+    all_compared c.args.meter.now l.meter c.args.scope.now (ahead_of c.args.ahead) (ahead_of l.ahead) WhereEach c.args.systems.items
+    l.systems.items (rw c.in_default.is at c.next.ensures) l.invariant.0

@@ -1,8 +1,13 @@
-use Rattle.std.proofs.Common.{take, map}
-use Rattle.isl_alternatives.specs.Restricted.{AreRestricted}
-use Rattle.isl_alternatives.proofs.ChainLaws.{WhereEach}
+use Rattle.std.proofs.Common.{length}
+use Rattle.isl_meter.specs.Gauge.{IsCharged}
+use Rattle.isl_alternatives.specs.Ahead.{ahead_of}
+use Rattle.isl_alternatives.proofs.ChainLaws.{AreCompared, WhereEach}
 use Rattle.isl_alternatives.proofs.chains.with_all.Given as goal
 
 abbrev pub invariant-loop-comparison : goal.invariant-loop-comparison
-invariant-loop-comparison l = AreRestricted l.fn.meter l.meter l.scope l.fn.systems.items
-    (WhereEach (take l.comparison-index (map (λ c. (c.left.now, c.compare, c.right.now)) l.list))) l.systems.items
+invariant-loop-comparison l =
+    AreCompared l.fn.meter l.meter l.scope (ahead_of l.fn.ahead) (ahead_of l.ahead) WhereEach l.fn.systems.items l.systems.items
+    × IsCharged l.fn.meter l.meter
+
+abbrev pub decreases-loop-comparison : goal.decreases-loop-comparison
+decreases-loop-comparison l = length (ahead_of l.ahead)
