@@ -5,5 +5,6 @@ pub mod KnownLaws
 pub mod OtherLaws
 pub mod PartLaws
 pub mod PieceLaws
+pub mod SlotLaws
 pub mod StepLaws
 pub mod ValueLaws

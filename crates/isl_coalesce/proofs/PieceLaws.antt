@@ -1,7 +1,7 @@
 -- The joint piece of two pieces.
-use Rattle.std.proofs.Common.{◌≡◌, ◌↔◌, ◌⊎◌, inl, inr, refl, sym, ap, ap₂, ◌∙◌, arith, subst, ℕ, ◌+◌, ℤ, List, [], ◌++◌, All, Some}
-use Rattle.std.proofs.Common.{Option, length, get_or, map, take, ◌<◌}
-use Rattle.std.proofs.lemmas.List.Elements.{All-append, All-push}
+use Rattle.std.proofs.Common.{◌≡◌, ◌≢◌, ◌↔◌, ◌⊎◌, inl, inr, refl, sym, ap, ap₂, ◌∙◌, arith, subst, ℕ, ◌+◌, ℤ, List, [], ◌++◌, All, Some}
+use Rattle.std.proofs.Common.{Option, length, get_or, take}
+use Rattle.std.proofs.lemmas.List.Elements.{All-append}
 use Rattle.isl_math.proofs.ListLaws.{All-parts}
 use Rattle.isl_meter.specs.Gauge.{Gauge, IsCharged}
 use Rattle.isl_space.specs.Element.{Element, IsElement}
@@ -22,7 +22,7 @@ use Rattle.isl_union.specs.Minus.{piece_in}
 use Rattle.isl_union.specs.Piece.{kept_piece, piece_of, IsPieceOf}
 use Rattle.isl_union.proofs.CompareLaws.{element_at, element_is, point_at, valuation_at}
 use Rattle.isl_union.proofs.MeetSteps.{charged_bits}
-use Rattle.isl_union.proofs.MinusLaws.{element_long, kept_more}
+use Rattle.isl_union.proofs.MinusLaws.{element_long}
 use Rattle.isl_union.proofs.SystemLaws.{kept_from, system_is}
 use Rattle.isl_elim.specs.Elimination.{HoldsAtAny}
 use Rattle.isl_assumed.specs.declared.assumed.Assumed.{Assumed}
@@ -331,13 +331,10 @@ module _ (g : Gauge) (params : List Name) (distinct : AreDistinct params) (p q :
       };
     }
 
--- ---- the first of several pieces that has one with another
-pub apart_next : (J : KeptPiece → KeptPiece → KeptPiece → Type 0) (others : List PieceView) (i : ℕ) (other : PieceView) (piece : KeptPiece)
-    → i < length others → other ≡ get_or others i other → All (λ o. AreUnjoined J o piece) (map kept_piece (take i others))
-    → AreUnjoined J (kept_piece other) piece → All (λ o. AreUnjoined J o piece) (map kept_piece (take (i + 1) others))
-apart_next J others i other piece low at so_far apart =
-    rw (kept_more others other i low at)
-    (All-push (λ (o : KeptPiece). AreUnjoined J o piece) (map kept_piece (take i others)) (kept_piece other) so_far apart)
+-- ---- two pieces of different spaces
+pub apart_elsewhere : (P : Valuation → Type 0) (params : List Name) (p q : PieceView) → q.space ≢ p.space
+    → AreUnjoined (IsJointAt P params) (kept_piece p) (kept_piece q)
+apart_elsewhere P params p q differ = record { forth = λ joint h. differ h.same; back = λ joint h. differ (sym h.same) }
 
 -- the limit at another time
 pub joint_earlier : (g h : Gauge) (P : Valuation → Type 0) (params : List Name) (p q joint : PieceView) → IsCharged g h

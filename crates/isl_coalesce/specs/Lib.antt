@@ -3,6 +3,8 @@ pub mod Coalesced
 pub mod Found
 pub mod Joint
 pub mod Parts
+pub mod Slots
+pub mod Stored
 pub use Rattle.isl_coalesce.specs.Coalesced
 pub use Rattle.isl_coalesce.specs.Joint
 pub use Rattle.isl_coalesce.specs.Parts

@@ -105,18 +105,3 @@ impl Candidate {
         self.piece = piece;
     }
 }
-
-/// The pieces.
-///
-/// # Errors
-///
-/// `AllocError` where memory ends.
-pub(crate) fn pieces_of(alloc: Global, candidates: &[Candidate]) -> Result<Vec<Piece>, AllocError>
-    ensures { IfOk result (λ pieces. pieces.items ≡ candidates.now) }
-{
-    let mut pieces = Vec::with_capacity(alloc, candidates.len())?;
-    for candidate in candidates {
-        pieces.push(candidate.piece().copy()?)?;
-    }
-    Ok(pieces)
-}

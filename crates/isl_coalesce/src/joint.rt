@@ -1,8 +1,9 @@
 //! The joint piece of two.
 
-ghost use Rattle.std.specs.Prelude.{◌≡◌, ◌↔◌, ◌<◌, All, IfOk, IsTrue, MatchOption, get_or, length, map};
+ghost use Rattle.std.specs.Prelude.{◌≡◌, ◌↔◌, ◌<◌, [], All, IfOk, IsTrue, MatchOption, None, Some, get_or, length, slice_index};
 ghost use Rattle.isl_meter.specs.Gauge.{IsMetered};
 ghost use Rattle.isl_space.specs.Names.{AreDistinct};
+ghost use Rattle.isl_piece.specs.Piece.{PieceView};
 ghost use Rattle.isl_piece.specs.System.{HoldsSystem, IsSystemWithin, free_columns};
 ghost use Rattle.isl_elim.specs.Sample.{IsNowhere};
 ghost use Rattle.isl_union.specs.Piece.{kept_piece};
@@ -11,6 +12,7 @@ ghost use Rattle.isl_assumed.specs.Assumed.{Assumes};
 ghost use Rattle.isl_coalesce.specs.Found.{AreUnjoinedSystems, HavePointsIn, IsJointPiece, IsJointSystem, IsKnown, IsKnownFor, IsKnownOf};
 ghost use Rattle.isl_coalesce.specs.Found.{IsOfEither, IsPlain, IsPlainPiece};
 ghost use Rattle.isl_coalesce.specs.Joint.{AreUnjoined, IsJointAt};
+ghost use Rattle.isl_coalesce.specs.Slots.{AreApartAt, pieces_at, present};
 
 use crate::beyond::are_seen_apart;
 use crate::candidate::Candidate;
@@ -145,35 +147,62 @@ fn joint_piece(
     }
 }
 
-/// The joint piece of a piece and of the one at a place.
+/// Slots for pieces, of which some are empty, and the places of some of them.
+#[derive(Clone, Copy)]
+pub(crate) struct Peers<'a> {
+    pub slots: &'a [Option<Candidate>],
+    pub places: &'a [usize],
+}
+
+// The piece at a place.
+fn piece_at<'a>(slots: &'a [Option<Candidate>], place: usize) -> Option<&'a Candidate>
+    ensures { MatchOption result (pieces_at slots.now place ≡ [])
+        (λ piece. (place < length slots.now) × (get_or slots.now place None ≡ Some piece.now)) }
+{
+    match slots.get(place) {
+        Some(Some(piece)) => Some(piece),
+        Some(None) | None => None,
+    }
+}
+
+/// The joint piece of a piece and of the one at a place, and which of some places that is.
 #[derive(Drop)]
 pub(crate) struct Found {
-    pub at: usize,
+    pub index: usize,
+    pub place: usize,
     pub joint: Piece,
 }
 
-/// The joint piece of the piece and of the first of the others that has one with it.
+/// The joint piece of the piece and of the first at one of the places that has one with it.
 pub(crate) fn first_joint(
     alloc: Global,
     params: &Params,
     known: &Assumed,
-    others: &[Candidate],
+    peers: Peers<'_>,
     piece: &Candidate,
     meter: &mut Meter,
 ) -> Result<Option<Found>, Cut>
     requires names { AreDistinct params.now }
     requires known { IsKnownFor meter.old params.now known.now }
-    requires others { All (IsPlainPiece meter.old params.now) others.now }
+    requires peers { All (IsPlainPiece meter.old params.now) (present peers.slots.now) }
     requires piece { IsPlainPiece meter.old params.now piece.now }
     ensures exact { IfOk result (λ found. MatchOption found
-        (All (λ other. AreUnjoined (IsJointAt (Assumes known.now) params.now) other (kept_piece piece.now)) (map kept_piece others.now))
-        (λ f. (f.at < length others.now)
-        × IsJointPiece meter.old (Assumes known.now) params.now (get_or others.now f.at piece.now) piece.now f.joint)) }
+        (All (AreApartAt (IsJointAt (Assumes known.now) params.now) peers.entry.slots.now piece.now) peers.entry.places.now)
+        (λ f. (f.index < length peers.entry.places.now) × (f.place ≡ slice_index peers.entry.places.now f.index)
+        × (f.place < length peers.entry.slots.now) × (other : PieceView) × (get_or peers.entry.slots.now f.place None ≡ Some other)
+        × IsJointPiece meter.old (Assumes known.now) params.now other piece.now f.joint)) }
     ensures meter { IsMetered meter.old meter.new result }
 {
-    for at in 0..others.len() {
-        if let Some(joint) = joint_piece(alloc, params, known, &others[at], piece, meter)? {
-            return Ok(Some(Found { at, joint }));
+    for index in 0..peers.places.len() {
+        let place = peers.places[index];
+        if let Some(other) = piece_at(peers.slots, place) {
+            if let Some(joint) = joint_piece(alloc, params, known, other, piece, meter)? {
+                return Ok(Some(Found {
+                    index,
+                    place,
+                    joint,
+                }));
+            }
         }
     }
     Ok(None)

@@ -4,6 +4,7 @@
 mod beyond;
 mod candidate;
 mod joint;
+mod kept;
 mod parts;
 mod together;
 

@@ -1,6 +1,6 @@
 //! Pieces put together.
 
-ghost use Rattle.std.specs.Prelude.{◌≡◌, ◌↔◌, ◌∷◌, ◌++◌, ◌≤◌, [], All, AllPairs, IfOk, OnOk, length, map};
+ghost use Rattle.std.specs.Prelude.{◌≡◌, ◌↔◌, ◌∷◌, ◌++◌, ◌≤◌, [], All, AllPairs, IfOk, length, map};
 ghost use Rattle.isl_meter.specs.Gauge.{IsMetered};
 ghost use Rattle.isl_space.specs.Element.{Element};
 ghost use Rattle.isl_space.specs.Names.{AreDistinct};
@@ -14,8 +14,8 @@ ghost use Rattle.isl_coalesce.specs.Coalesced.{IsCoalesced, IsCoalescedUnder};
 ghost use Rattle.isl_coalesce.specs.Found.{AreJoined, IsGathered, IsKnownFor, IsPlainPiece};
 ghost use Rattle.isl_coalesce.specs.Joint.{AreUnjoined, IsJointAt};
 
-use crate::candidate::{Candidate, pieces_of};
-use crate::joint::first_joint;
+use crate::candidate::Candidate;
+use crate::kept::Kept;
 use isl_assumed::Assumed;
 use isl_meter::{Cut, Meter};
 use isl_piece::Piece;
@@ -23,31 +23,30 @@ use isl_space::Params;
 use isl_union::Value;
 use std::alloc::Global;
 
-// Puts the piece behind the others, no two of which can be put together. Where one of them has a joint piece with it, that takes
+// The pieces, no two of which can be put together, with the piece behind them. Where one of them has a joint piece with it, that takes
 // the place of both, and is asked about the others in its turn.
 fn put(
     alloc: Global,
     params: &Params,
     known: &Assumed,
-    pieces: &mut Vec<Candidate>,
+    mut kept: Kept,
     piece: Candidate,
     meter: &mut Meter,
-) -> Result<(), Cut>
+) -> Result<Kept, Cut>
     requires names { AreDistinct params.now }
     requires known { IsKnownFor meter.old params.now known.now }
-    requires pieces { All (IsPlainPiece meter.old params.now) pieces.old.items }
+    requires pieces { All (IsPlainPiece meter.old params.now) kept }
     requires piece { IsPlainPiece meter.old params.now piece }
-    requires apart { AllPairs (AreUnjoined (IsJointAt (Assumes known.now) params.now)) (map kept_piece pieces.old.items) }
-    ensures joined { OnOk result (AreJoined meter.old (Assumes known.now) params.now (pieces.old.items ++ piece ∷ []) pieces.new.items) }
+    requires apart { AllPairs (AreUnjoined (IsJointAt (Assumes known.now) params.now)) (map kept_piece kept) }
+    ensures joined { IfOk result (λ new. AreJoined meter.old (Assumes known.now) params.now (kept ++ piece ∷ []) new) }
     ensures meter { IsMetered meter.old meter.new result }
 {
     let mut last = piece;
-    while let Some(found) = first_joint(alloc, params, known, pieces.as_slice(), &last, meter)? {
-        pieces.remove(found.at);
-        last.replace(found.joint);
+    while let Some(joint) = kept.take_joint(alloc, params, known, &last, meter)? {
+        last.replace(joint);
     }
-    pieces.push(last)?;
-    Ok(())
+    let joined = kept.pushed(alloc, last)?;
+    Ok(joined)
 }
 
 // The pieces, with two of them put together as often as that can be done.
@@ -64,12 +63,12 @@ fn all_together(
     ensures joined { IfOk result (λ kept. AreJoined meter.old (Assumes known.now) params.now pieces.now kept.items) }
     ensures meter { IsMetered meter.old meter.new result }
 {
-    let mut kept = Vec::new(alloc);
+    let mut kept = Kept::new(alloc);
     for piece in pieces {
         let candidate = Candidate::of(alloc, piece, pieces.len(), meter)?;
-        put(alloc, params, known, &mut kept, candidate, meter)?;
+        kept = put(alloc, params, known, kept, candidate, meter)?;
     }
-    let together = pieces_of(alloc, kept.as_slice())?;
+    let together = kept.pieces(alloc)?;
     Ok(together)
 }
 

@@ -1,4 +1,4 @@
-use Rattle.std.proofs.Common.{◌<◌, ◌≤◌, ◌++◌, ◌∷◌, [], arith, length, subst, sym, ◌∙◌}
+use Rattle.std.proofs.Common.{◌<◌, ◌≤◌, ◌++◌, ◌∷◌, [], arith, length, subst, sym}
 use Rattle.isl_meter.proofs.CutLemmas.{IsCharged_trans}
 use Rattle.isl_assumed.specs.Assumed.{Assumes}
 use Rattle.isl_coalesce.specs.Found.{AreJoined, IsPlainPiece}
@@ -40,13 +40,13 @@ loop-piece-preserved c =
     let pieces = c.args.pieces.now in
     let i = c.loop-piece.piece-index in
     let piece = c.piece-item.result in
-    let kept = c.loop-piece.kept.items in
-    let new = c.put.new.pieces.items in
+    let kept = c.loop-piece.kept in
+    let new = c.in_ok-kept.kept in
     let low : i < length pieces = omega arith in
     let charged = c.loop-piece.invariant.1 in
-    let more = subst (λ x. AreJoined h P params (kept ++ x ∷ []) new) c.in_ok-candidate.ensures c.in_ok-put.ensures.joined in (
+    let more = subst (λ x. AreJoined h P params (kept ++ x ∷ []) new) c.in_ok-candidate.ensures c.in_ok-kept.ensures.joined in (
       joined_more g h P params pieces i piece kept new charged low c.piece-item.is c.loop-piece.invariant.0 more,
-      IsCharged_trans g h c.put.new.meter charged c.in_ok-put.ensures.meter,
+      IsCharged_trans g h c.put.new.meter charged c.in_ok-kept.ensures.meter,
     )
 
 pub returns-clause-joined : goal.returns-clause-joined
@@ -56,6 +56,5 @@ returns-clause-joined c =
     let params = c.args.params.now in
     let pieces = c.args.pieces.now in
     let end : length pieces ≤ c.loop-piece.piece-index = omega arith in
-    let is = c.in_ok-together.ensures ∙ c.as_slice.ensures.value in
-    subst (AreJoined g P params pieces) (sym is)
-    (joined_all g P params pieces c.loop-piece.kept.items c.loop-piece.piece-index end c.loop-piece.invariant.0)
+    subst (AreJoined g P params pieces) (sym c.in_ok-together.ensures)
+    (joined_all g P params pieces c.loop-piece.kept c.loop-piece.piece-index end c.loop-piece.invariant.0)

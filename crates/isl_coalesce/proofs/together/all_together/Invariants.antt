@@ -6,4 +6,4 @@ use Rattle.isl_coalesce.proofs.together.all_together.Given as goal
 
 abbrev pub invariant-loop-piece : goal.invariant-loop-piece
 invariant-loop-piece l =
-    AreJoined l.fn.meter (Assumes l.known) l.params (take l.piece-index l.pieces) l.kept.items × IsCharged l.fn.meter l.meter
+    AreJoined l.fn.meter (Assumes l.known) l.params (take l.piece-index l.pieces) l.kept × IsCharged l.fn.meter l.meter
