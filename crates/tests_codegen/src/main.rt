@@ -17,12 +17,13 @@ use std::io;
 use tests_made::{Count, Form, field, is_case};
 
 // The lines of a case.
-const FORMS: [(&str, Form); 6] = [
+const FORMS: [(&str, Form); 7] = [
     ("#", Form::Text),
     ("case ", Form::Text),
     ("value ", Form::Text),
     ("want ", Form::Text),
     ("nothing", Form::Text),
+    ("refused ", Form::Text),
     ("at", Form::Text),
 ];
 
@@ -47,7 +48,13 @@ fn is_wanted(alloc: Global, case: &str, text: &str) -> Result<bool, AllocError> 
     Ok(!is_asked || text == wanted(alloc, case)?.as_str())
 }
 
-// Whether a case is one, and the loops print as is wanted.
+// Whether a case wants that there are no loops, for this cause.
+fn is_refused(alloc: Global, case: &str, fault: &GenFault) -> Result<bool, AllocError> {
+    let told = format!(in alloc; "{fault}")?;
+    Ok(field(case, "refused ") == Some(told.as_str()))
+}
+
+// Whether a case is one, and the loops print as is wanted, or there are none for the cause that is wanted.
 fn is_printed(
     rt: &impl Print,
     alloc: Global,
@@ -55,9 +62,12 @@ fn is_printed(
     found: &Result<Option<Loops>, GenFault>,
 ) -> io::Result<bool> {
     let right = match found {
-        Ok(Some(loops)) => is_case(case, &FORMS) && is_wanted(alloc, case, loops.text.as_str())?,
-        _ => false,
+        Ok(Some(loops)) => field(case, "refused ").is_none()
+            && is_wanted(alloc, case, loops.text.as_str())?,
+        Ok(None) => false,
+        Err(fault) => is_refused(alloc, case, fault)?,
     };
+    let right = right && is_case(case, &FORMS);
     if !right {
         match found {
             Ok(Some(loops)) => println!(rt; "{case}\n{}", loops.text)?,
