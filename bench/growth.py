@@ -1,12 +1,13 @@
 #!/usr/bin/env python3
 """How the time of statements grows with what they are about, by the program that is named, beside isl where it is installed.
 
-    bench/growth.py PROGRAM [ROW ..]
+    bench/growth.py [--instructions] PROGRAM [ROW ..]
 
 Each row is measured at three sizes, each twice the one before. `ms` is the user time of the script at the greatest size without that of its bindings
 alone, the least of three runs; `exponent` is the greatest of the logarithms of base two of the ratios of neighbours; `each` is the time by the
-size; `by isl` is the time of the calls alone, at the greatest size."""
-import math, os, resource, subprocess, sys, tempfile
+size; `by isl` is the time of the calls alone, at the greatest size. With `--instructions` the exponent is that of the counts of valgrind, which
+other work on the machine does not change."""
+import math, os, re, resource, subprocess, sys, tempfile
 
 SECONDS = 120
 
@@ -164,13 +165,34 @@ def by_isl(folder, name, made, size):
     return float(told.stdout) if told.returncode == 0 else None
 
 
+def counted(program, script):
+    """The instructions of a run."""
+    with tempfile.TemporaryFile() as source, open(os.devnull, "wb") as out:
+        source.write(script.encode())
+        source.seek(0)
+        words = ["valgrind", "--tool=callgrind", "--callgrind-out-file=/dev/null", program]
+        told = subprocess.run(words, stdin=source, stdout=out, stderr=subprocess.PIPE, text=True)
+        return int(re.search(r"Collected : (\d+)", told.stderr)[1])
+
+
+def instructions(program, made, size):
+    bindings, statements = made(size)
+    return counted(program, bindings + "\n" + statements) - (counted(program, bindings) if bindings else 0)
+
+
 def made_values(bindings):
     """The literals of bindings `A := .. ; B := .. ;`."""
     for part in bindings.split(":=")[1:]:
         yield part[: part.rindex("}") + 1]
 
 
+def growth(sizes):
+    return max(math.log2(after / before) for before, after in zip(sizes, sizes[1:]))
+
+
 def main(words):
+    is_counted = words[:1] == ["--instructions"]
+    words = words[is_counted:]
     if not words or any(name not in ROWS for name in words[1:]):
         sys.exit(__doc__ + "\n\nRows: " + ", ".join(ROWS))
     with tempfile.TemporaryDirectory() as folder:
@@ -181,7 +203,7 @@ def main(words):
             if words[1:] and name not in words[1:]:
                 continue
             times = [measured(words[0], made, size // part) for part in (4, 2, 1)]
-            grown = max(math.log2(after[0] / before[0]) for before, after in zip(times, times[1:]))
+            grown = growth([instructions(words[0], made, size // part) for part in (4, 2, 1)] if is_counted else [it[0] for it in times])
             ms, megabytes, status = times[-1]
             other = by_isl(folder, name, made, size)
             told = "" if other is None else f"{other:.1f}"
