@@ -1,11 +1,14 @@
 -- Rows of which those are taken out that are known.
-use Rattle.std.proofs.Common.{◌≡◌, ◌↔◌, ◌⊎◌, inl, inr, refl, subst, arith, Bool, ℕ, zero, suc, ◌-◌, ◌<◌, List, [], ◌∷◌, ◌++◌, length}
-use Rattle.std.proofs.Common.{get_or}
+use Rattle.std.proofs.Common.{◌≡◌, ◌↔◌, ◌⊎◌, inl, inr, refl, sym, ap, ◌∙◌, subst, arith, Bool, ℕ, zero, suc, ◌-◌, ◌<◌, ◌≤◌}
+use Rattle.std.proofs.Common.{List, [], ◌∷◌, ◌++◌, length, get_or}
 use Rattle.std.proofs.Common.{ℤ, take, drop}
 use Rattle.std.specs.Prelude.{IfOk, IsTrue, Result, Ok, Err}
 use Rattle.std.specs.List.{All, Contains, remove}
 use Rattle.std.proofs.lemmas.List.Elements.{All-append, All-cons, All-drop, All-head, All-nil, All-tail, All-take}
 use Rattle.std.proofs.lemmas.List.Elements.{Contains-get_or}
+use Rattle.std.proofs.lemmas.List.Edits.{get_or-remove_above, length-remove}
+use Rattle.std.proofs.Math.Nat.{eq-or-lt_of_le}
+use Rattle.isl_math.proofs.ListLaws.{All-parts}
 use Rattle.isl_meter.specs.Gauge.{Gauge, IsCharged}
 use Rattle.isl_piece.specs.declared.row.Row.{Row}
 use Rattle.isl_piece.specs.Row.{HoldsRow, IsRowWithin, IsWellFormed}
@@ -15,7 +18,7 @@ use Rattle.isl_difference.specs.Split.{HoldsBut}
 use Rattle.isl_difference.proofs.RowCases.{row_cases}
 use Rattle.isl_difference.proofs.SplitLaws.{charged_within}
 use Rattle.isl_elim.specs.Sample.{IsNowhere}
-use Rattle.isl_frame.specs.Needed.{AreKnown, AreRowsOver, IsKnown, IsNeeded}
+use Rattle.isl_frame.specs.Needed.{AreKnown, AreRowsOver, IsKnown, IsNeeded, NoneIsKnown}
 
 -- ---- one row taken out
 pub all_removed : (P : Row → Type 0) (rows : List Row) (i : ℕ) → All P rows → All P (remove rows i)
@@ -45,6 +48,49 @@ module _ (variables : ℕ) (context rows : List Row) where
       (λ k. all_removed (λ r. HoldsRow r point) kept i ((is.points point long h).1 k)),
     );
   }
+
+-- ---- rows that say something
+-- two rows taken out, one behind the other
+all_removed_twice : (P : Row → Type 0) (rows : List Row) (i j : ℕ) → i ≤ j → suc j < length rows → All P (remove rows (suc j))
+    → All P (remove (remove rows i) j)
+all_removed_twice P [] i j up l h = absurd (omega (arith, l))
+all_removed_twice P (r ∷ rows) zero j up l h = All-tail P r (remove rows j) h
+all_removed_twice P (r ∷ rows) (suc i) zero up l h = absurd (omega (arith, up))
+all_removed_twice P (r ∷ rows) (suc i) (suc j) up l h =
+    All-cons P r (remove (remove rows i) j) (All-head P r (remove rows (suc j)) h)
+    (all_removed_twice P rows i j (omega (arith, up)) (omega (arith, l)) (All-tail P r (remove rows (suc j)) h))
+
+module _ (variables : ℕ) (context : List Row) where
+  -- of the rows from a place on none is known
+  abbrev pub NoneFrom : ℕ → List Row → Type 0
+  NoneFrom from rows = (at : ℕ) (d : Row) → from ≤ at → at < length rows → ¬ IsKnown variables (context ++ remove rows at) (get_or rows at d)
+
+  pub none_behind : (rows : List Row) (from : ℕ) → length rows ≤ from → NoneFrom from rows
+  none_behind rows from end at d up low known = absurd (omega (arith, end, up, low))
+
+  pub none_at_all : (rows : List Row) → NoneFrom 0 rows → NoneIsKnown variables context rows
+  none_at_all rows none at d low known = none at d (omega arith) low known
+
+  pub none_before : (rows : List Row) (from : ℕ) → ((d : Row) → ¬ IsKnown variables (context ++ remove rows from) (get_or rows from d))
+      → NoneFrom (suc from) rows → NoneFrom from rows
+  none_before rows from here later at d up low known = elim (eq-or-lt_of_le up) [
+    | inl e ↦ here d (subst (λ k. IsKnown variables (context ++ remove rows k) (get_or rows k d)) (sym e) known)
+    | inr more ↦ later at d (omega (arith, more)) low known
+  ]
+
+  -- a row that is known goes
+  pub none_removed : (rows : List Row) (from : ℕ) → from < length rows → NoneFrom (suc from) rows → NoneFrom from (remove rows from)
+  none_removed rows from inside later at d up low known =
+      let long = length-remove rows from inside in
+      let most : suc at < length rows = omega (arith, low, long, inside) in
+      later (suc at) d (omega (arith, up)) most (λ point wide holds.
+      let H : Row → Type 0 = λ r. HoldsRow r point in
+      let parts = All-parts H context (remove rows (suc at)) holds in
+      let fewer = all_removed_twice H rows from at up most parts.1 in
+      subst H (moved most) (known point wide (All-append H context (remove (remove rows from) at) parts.0 fewer)))
+    where
+      moved : suc at < length rows → get_or (remove rows from) at d ≡ get_or rows (suc at) d
+      moved most = get_or-remove_above rows from d at up inside ∙ ap (λ (n : ℕ). get_or rows n d) (omega arith)
 
 -- ---- what is asked of a system of rows
 abbrev pub over_rows : ℕ → List Row → System

@@ -1,5 +1,6 @@
 -- public: rows without those that are known already. (isl manual, on simplification in a context)
-use Rattle.std.specs.Prelude.{◌≡◌, ◌↔◌, ℕ, ℤ, List, All, Contains, length}
+use Rattle.std.specs.Prelude.{◌≡◌, ◌↔◌, ℕ, ◌<◌, ℤ, List, ◌++◌, All, Contains, length, slice_index_or}
+use Rattle.std.specs.List.{remove}
 use Rattle.isl_meter.specs.Gauge.{Gauge}
 use Rattle.isl_piece.specs.declared.row.Row.{Row}
 use Rattle.isl_piece.specs.Row.{HoldsRow, IsRowWithin, IsWellFormed}
@@ -13,6 +14,11 @@ pub record AreRowsOver (g : Gauge) (variables : ℕ) (rows : List Row) : Type 0 
 -- the row holds wherever the others do
 abbrev pub IsKnown : ℕ → List Row → Row → Type 0
 IsKnown variables others r = (point : List ℤ) → length point ≡ variables → HoldRows others point → HoldsRow r point
+
+-- no row holds wherever the context and the other ones do
+abbrev pub NoneIsKnown : ℕ → List Row → List Row → Type 0
+NoneIsKnown variables context rows =
+    (at : ℕ) (d : Row) → at < length rows → ¬ IsKnown variables (context ++ remove rows at) (slice_index_or rows at d)
 
 -- the other rows hold wherever the rows do
 abbrev pub AreKnown : ℕ → List Row → List Row → Type 0

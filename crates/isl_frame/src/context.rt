@@ -4,7 +4,7 @@ ghost use Rattle.std.specs.Prelude.{◌≡◌, ◌↔◌, ◌<◌, ◌≤◌, []
 ghost use Rattle.std.specs.List.{remove};
 ghost use Rattle.isl_meter.specs.Gauge.{IsMetered};
 ghost use Rattle.isl_piece.specs.declared.row.Row.{Row};
-ghost use Rattle.isl_frame.specs.Needed.{AreKnown, AreRowsOver, IsKnown, IsNeeded};
+ghost use Rattle.isl_frame.specs.Needed.{AreKnown, AreRowsOver, IsKnown, IsNeeded, NoneIsKnown};
 
 use isl_difference::hold_throughout;
 use isl_meter::{Cut, Meter};
@@ -84,7 +84,7 @@ pub fn are_known(
 }
 
 /// The rows over so many variables without those that hold wherever the context and the other ones do, asked from the last one on; in the
-/// same order. At least `least` are kept.
+/// same order. At least `least` are kept; where more are, none of them holds wherever the context and the others do.
 ///
 /// # Errors
 ///
@@ -101,6 +101,7 @@ pub fn needed(
     requires rows { AreRowsOver meter.old variables rows }
     ensures exact { IfOk result (IsNeeded variables context.now rows) }
     ensures least { least ≤ length rows → IfOk result (λ kept. least ≤ length kept) }
+    ensures none_known { IfOk result (λ kept. least < length kept → NoneIsKnown variables context.now kept) }
     ensures meter { IsMetered meter.old meter.new result }
 {
     let mut kept = rows;
