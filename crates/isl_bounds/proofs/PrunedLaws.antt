@@ -3,17 +3,19 @@ use Rattle.std.proofs.Common.{◌≡◌, ◌≢◌, ◌↔◌, ◌⊎◌, inl, i
 use Rattle.std.proofs.Common.{ℤ, List, [], ◌∷◌, ◌++◌, length, get_or, take, drop}
 use Rattle.std.specs.List.{All, AllZip, Any, Contains, remove}
 use Rattle.std.proofs.lemmas.List.{take_more}
-use Rattle.std.proofs.lemmas.List.Edits.{length-remove}
+use Rattle.std.proofs.lemmas.Bool.{cases_lt}
+use Rattle.std.proofs.lemmas.List.Edits.{get_or-remove_above, get_or-remove_below, length-remove}
+use Rattle.std.proofs.Math.Nat.{eq-or-lt_of_le}
 use Rattle.std.proofs.lemmas.List.Elements.{All-append, All-cons, All-drop, All-head, All-nil, All-tail, All-take, All-weaker}
 use Rattle.isl_math.proofs.ListLaws.{AllZip-more, Any-cases, Any-element, Any-first, Any-later, Any-none}
 use Rattle.isl_meter.specs.Gauge.{Gauge, IsCharged}
 use Rattle.isl_piece.specs.declared.row.Row.{Row}
 use Rattle.isl_piece.specs.Row.{HoldsRow, IsRowWithin, IsWellFormed}
 use Rattle.isl_piece.specs.System.{HoldRows}
-use Rattle.isl_frame.specs.Needed.{AreRowsOver, IsNeeded}
+use Rattle.isl_frame.specs.Needed.{AreKnown, AreRowsOver, IsNeeded}
 use Rattle.isl_frame.proofs.NeededLaws.{over_later, over_some}
 use Rattle.isl_bounds.specs.Bound.{HoldSome}
-use Rattle.isl_bounds.specs.Pruned.{AreFewer, IsBeaten}
+use Rattle.isl_bounds.specs.Pruned.{AreFewer, IsBareGroup, IsBeaten, NoneIsBeaten}
 
 -- ---- one of a list left out
 any_but : {X : Type 0} (P : X → Type 0) (xs : List X) (at i : ℕ) (d : X) → i < length xs → i ≢ at → P (get_or xs i d) → Any P (remove xs at)
@@ -46,7 +48,7 @@ any_back P (x ∷ xs) (suc at) low any = elim (Any-cases P x (remove xs at) any)
   | inr a ↦ Any-later P x xs (any_back P xs at (omega (arith, low)) a)
 ]
 
-all_but : {X : Type 0} (P : X → Type 0) (xs : List X) (at : ℕ) → All P xs → All P (remove xs at)
+pub all_but : {X : Type 0} (P : X → Type 0) (xs : List X) (at : ℕ) → All P xs → All P (remove xs at)
 all_but P xs at h = All-append P (take at xs) (drop (suc at) xs) (All-take P at xs h) (All-drop P (suc at) xs h)
 
 -- ---- a group that another one beats
@@ -70,7 +72,7 @@ module _ (columns : ℕ) (context : List Row) (old : List (List Row)) where
 
   -- each group with fewer rows
   abbrev pub IsFewer : List Row → List Row → Type 0
-  IsFewer rows few = IsNeeded columns context rows few × (1 ≤ length rows → 1 ≤ length few)
+  IsFewer rows few = IsNeeded columns context rows few × (1 ≤ length rows → 1 ≤ length few) × IsBareGroup columns context few
 
   pub fewer_each : (groups kept : List (List Row)) → groups ≡ old → AllZip IsFewer groups kept → AreFewer columns context old kept
   fewer_each groups kept same z = subst (λ (gs : List (List Row)). AreFewer columns context gs kept) same (record {
@@ -115,6 +117,12 @@ module _ (columns : ℕ) (context : List Row) (old : List (List Row)) where
             (λ a. elim (Any-cases P r gs a) [ inl p ↦ Any-first P k ks (own.1 p) | inr b ↦ Any-later P k ks (more.1 b) ]),
           )
 
+  pub fewer_bare : (groups kept : List (List Row)) → AllZip IsFewer groups kept → All (IsBareGroup columns context) kept
+  fewer_bare [] [] z = All-nil (IsBareGroup columns context)
+  fewer_bare [] (k ∷ ks) z = absurd z
+  fewer_bare (r ∷ gs) [] z = absurd z
+  fewer_bare (r ∷ gs) (k ∷ ks) z = All-cons (IsBareGroup columns context) k ks z.0.2 (fewer_bare gs ks z.1)
+
   pub fewer_more : (i : ℕ) (rows : List Row) (kept : List (List Row)) (few : List Row) (pushed : List (List Row)) → i < length old
       → rows ≡ get_or old i rows → AllZip IsFewer (take i old) kept → IsFewer rows few → pushed ≡ kept ++ few ∷ []
       → AllZip IsFewer (take (i + 1) old) pushed
@@ -133,6 +141,74 @@ module _ (columns : ℕ) (context : List Row) (old : List (List Row)) where
           let of = Any-element (λ rows. All (Contains rows) few) old any in
           let own : AreRowsOver g columns of.0 = subst (AreRowsOver g columns) of.1.2 (over of.1.0 of.0 of.1.1) in
           over_some g columns of.0 few of.2 own
+
+-- ---- groups that none beats
+module _ (columns : ℕ) (context : List Row) where
+  -- none of so many groups but the one at a place holds wherever the context and that one do
+  abbrev pub NoneBeats : List (List Row) → ℕ → ℕ → Type 0
+  NoneBeats groups at count =
+      (i : ℕ) → i < count → i ≢ at → ¬ AreKnown columns (context ++ get_or groups at []) (get_or groups i [])
+
+  pub none_beats_first : (groups : List (List Row)) (at : ℕ) → NoneBeats groups at 0
+  none_beats_first groups at i low other known = absurd (omega (arith, low))
+
+  pub none_beats_more : (groups : List (List Row)) (at count : ℕ)
+      → (count ≢ at → ¬ AreKnown columns (context ++ get_or groups at []) (get_or groups count []))
+      → NoneBeats groups at count → NoneBeats groups at (count + 1)
+  none_beats_more groups at count here before i low other known =
+      elim (cases_lt i count) [
+        | inl less ↦ before i less other known
+        | inr more ↦
+            let same : i ≡ count = omega (arith, low, more) in
+            here (λ e. other (same ∙ e)) (subst (λ n. AreKnown columns (context ++ get_or groups at []) (get_or groups n [])) same known)
+      ]
+
+  pub none_beats : (groups : List (List Row)) (at : ℕ) → NoneBeats groups at (length groups) → ¬ IsBeaten columns context groups at
+  none_beats groups at none beaten = none beaten.0 beaten.1 beaten.2 beaten.3
+
+  -- of the groups from a place on none is beaten
+  abbrev pub NoneBeatenFrom : ℕ → List (List Row) → Type 0
+  NoneBeatenFrom from groups = (at : ℕ) → from ≤ at → at < length groups → ¬ IsBeaten columns context groups at
+
+  pub none_beaten_behind : (groups : List (List Row)) (from : ℕ) → length groups ≤ from → NoneBeatenFrom from groups
+  none_beaten_behind groups from end at up low beaten = absurd (omega (arith, end, up, low))
+
+  pub none_beaten_before : (groups : List (List Row)) (from : ℕ) → ¬ IsBeaten columns context groups from
+      → NoneBeatenFrom (suc from) groups → NoneBeatenFrom from groups
+  none_beaten_before groups from here later at up low beaten = elim (eq-or-lt_of_le up) [
+    | inl e ↦ here (subst (IsBeaten columns context groups) (sym e) beaten)
+    | inr more ↦ later at (omega (arith, more)) low beaten
+  ]
+
+  pub none_beaten_at_all : (groups : List (List Row)) → NoneBeatenFrom 0 groups → NoneIsBeaten columns context groups
+  none_beaten_at_all groups none at low beaten = none at (omega arith) low beaten
+
+  pub none_beaten_alone : (groups : List (List Row)) → length groups ≤ 1 → NoneIsBeaten columns context groups
+  none_beaten_alone groups few at low beaten = let other = beaten.1 in beaten.2 (omega (arith, few, low, other))
+
+  -- a group goes
+  pub none_beaten_removed : (groups : List (List Row)) (from : ℕ) → from < length groups → NoneBeatenFrom (suc from) groups
+      → NoneBeatenFrom from (remove groups from)
+  none_beaten_removed groups from inside later at up low beaten = elim (cases_lt beaten.0 from) [
+    | inl less ↦ at_later beaten.0 (omega (arith, less, inside)) (omega (arith, less, up))
+        (subst (λ (rows : List Row). AreKnown columns (context ++ get_or groups (at + 1) []) rows)
+        (get_or-remove_below groups from [] beaten.0 less inside) known)
+    | inr more ↦ at_later (beaten.0 + 1) (let j = beaten.1 in omega (arith, j, long)) (λ e. beaten.2 (omega (arith, e)))
+        (subst (λ (rows : List Row). AreKnown columns (context ++ get_or groups (at + 1) []) rows)
+        (get_or-remove_above groups from [] beaten.0 more inside) known)
+  ]
+    where
+      long : length (remove groups from) + 1 ≡ length groups
+      long = let l = length-remove groups from inside in omega (arith, l, inside)
+
+      known : AreKnown columns (context ++ get_or groups (at + 1) []) (get_or (remove groups from) beaten.0 [])
+      known = subst (λ (rows : List Row). AreKnown columns (context ++ rows) (get_or (remove groups from) beaten.0 []))
+          (get_or-remove_above groups from [] at up inside) beaten.3
+
+      at_later : (i : ℕ) → i < length groups → i ≢ at + 1
+          → AreKnown columns (context ++ get_or groups (at + 1) []) (get_or groups i []) → ⊥
+      at_later i small other is =
+          later (at + 1) (omega (arith, up)) (let l = long in omega (arith, low, l)) (i, small, other, is)
 
 pub groups_later : (g h : Gauge) (columns : ℕ) (groups : List (List Row)) → IsCharged g h → All (AreRowsOver g columns) groups
     → All (AreRowsOver h columns) groups

@@ -1,11 +1,11 @@
 //! Groups of bounds without those that say nothing more.
 
-ghost use Rattle.std.specs.Prelude.{◌≡◌, ◌<◌, ◌++◌, All, Any, IfOk, IsTrue, List, length, slice_index_or};
+ghost use Rattle.std.specs.Prelude.{◌≡◌, ◌↔◌, ◌<◌, ◌++◌, All, Any, IfOk, IsTrue, List, length, slice_index_or};
 ghost use Rattle.std.specs.List.{remove};
 ghost use Rattle.isl_meter.specs.Gauge.{IsMetered};
 ghost use Rattle.isl_piece.specs.declared.row.Row.{Row};
 ghost use Rattle.isl_frame.specs.Needed.{AreKnown, AreRowsOver};
-ghost use Rattle.isl_bounds.specs.Pruned.{AreFewer, IsBeaten};
+ghost use Rattle.isl_bounds.specs.Pruned.{AreFewer, IsBareGroup, IsBeaten, NoneIsBeaten};
 
 use isl_frame::{are_known, needed};
 use isl_meter::{Cut, Meter};
@@ -33,7 +33,7 @@ fn is_beaten(
     requires context { AreRowsOver meter.old columns context.now }
     requires groups { All (AreRowsOver meter.old columns) groups.now }
     requires inside { at < length groups.now }
-    ensures beaten { IfOk result (λ beaten. IsTrue beaten → IsBeaten columns context.now groups.now at) }
+    ensures beaten { IfOk result (λ beaten. IsTrue beaten ↔ IsBeaten columns context.now groups.now at) }
     ensures meter { IsMetered meter.old meter.new result }
 {
     let here = joined(alloc, context, &groups[at])?;
@@ -67,6 +67,7 @@ fn pruned_each(
     requires context { AreRowsOver meter.old columns context.now }
     requires groups { All (AreRowsOver meter.old columns) groups.now }
     ensures exact { IfOk result (λ kept. AreFewer columns context.now groups.now kept.items) }
+    ensures bare { IfOk result (λ kept. All (IsBareGroup columns context.now) kept.items) }
     ensures meter { IsMetered meter.old meter.new result }
 {
     let mut kept = Vec::with_capacity(alloc, groups.len())?;
@@ -78,7 +79,8 @@ fn pruned_each(
 }
 
 /// The groups without rows, and without groups, that say nothing more where the context holds. Of groups that have rows one at least is
-/// left, with one row at least.
+/// left, with one row at least. No group that is left holds wherever the context and another one do, and of several rows in it none holds
+/// wherever the context and the others do.
 ///
 /// # Errors
 ///
@@ -93,6 +95,8 @@ pub fn pruned(
     requires context { AreRowsOver meter.old columns context.now }
     requires groups { All (AreRowsOver meter.old columns) groups.now }
     ensures exact { IfOk result (λ kept. AreFewer columns context.now groups.now kept.items) }
+    ensures none_beaten { IfOk result (λ kept. NoneIsBeaten columns context.now kept.items) }
+    ensures bare { IfOk result (λ kept. All (IsBareGroup columns context.now) kept.items) }
     ensures meter { IsMetered meter.old meter.new result }
 {
     let mut kept = pruned_each(alloc, context, groups, columns, meter)?;

@@ -6,7 +6,7 @@ use Rattle.isl_meter.proofs.CutLemmas.{IsCharged_trans}
 use Rattle.isl_piece.specs.declared.row.Row.{Row}
 use Rattle.isl_frame.specs.Needed.{AreRowsOver}
 use Rattle.isl_frame.proofs.NeededLaws.{over_later}
-use Rattle.isl_bounds.proofs.PrunedLaws.{IsFewer, fewer_each, fewer_more}
+use Rattle.isl_bounds.proofs.PrunedLaws.{IsFewer, fewer_bare, fewer_each, fewer_more}
 use Rattle.isl_bounds.proofs.groups.pruned_each.Goals as goal
 
 pub needed-requires-clause-context : goal.needed-requires-clause-context
@@ -32,7 +32,7 @@ loop-rows-preserved c =
     let pushed : c.push.new.self.items ≡ c.loop-rows.kept.items ++ few ∷ [] = grind (arith, common_steps) in
     let one : IsFewer c.args.columns c.args.context.now groups rows few =
     subst (λ (r : List Row). IsFewer c.args.columns c.args.context.now groups r few) c.in_ok-own.ensures
-    (c.in_ok-needed.ensures.exact, c.in_ok-needed.ensures.least) in (
+    (c.in_ok-needed.ensures.exact, c.in_ok-needed.ensures.least, c.in_ok-needed.ensures.none_known) in (
       fewer_more c.args.columns c.args.context.now groups c.loop-rows.rows-index rows c.loop-rows.kept.items few c.push.new.self.items low
           c.rows-item.is c.loop-rows.invariant.0 one pushed,
       IsCharged_trans c.args.meter.now c.loop-rows.meter c.needed.new.meter c.loop-rows.invariant.1 c.in_ok-needed.ensures.meter,
@@ -43,5 +43,13 @@ returns-clause-exact c =
     let groups = c.args.groups.now in
     let end : length groups ≤ c.loop-rows.rows-index = omega arith in
     fewer_each c.args.columns c.args.context.now groups groups c.loop-rows.kept.items refl
+    (subst (λ (gs : List (List Row)). AllZip (IsFewer c.args.columns c.args.context.now groups) gs c.loop-rows.kept.items)
+    (take_all c.loop-rows.rows-index groups end) c.loop-rows.invariant.0)
+
+pub returns-clause-bare : goal.returns-clause-bare
+returns-clause-bare c =
+    let groups = c.args.groups.now in
+    let end : length groups ≤ c.loop-rows.rows-index = omega arith in
+    fewer_bare c.args.columns c.args.context.now groups groups c.loop-rows.kept.items
     (subst (λ (gs : List (List Row)). AllZip (IsFewer c.args.columns c.args.context.now groups) gs c.loop-rows.kept.items)
     (take_all c.loop-rows.rows-index groups end) c.loop-rows.invariant.0)
