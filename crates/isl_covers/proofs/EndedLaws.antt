@@ -1,5 +1,5 @@
 -- Systems whose last column has an end on each side, in the levels of a tower.
-use Rattle.std.proofs.Common.{◌≡◌, ◌⊎◌, ◌↔◌, ◌∙◌, inl, inr, refl, sym, ap, subst, arith, ℕ, zero, suc, ◌+◌, ◌<◌, ◌≤◌, List, [], ◌∷◌}
+use Rattle.std.proofs.Common.{◌≡◌, ◌⊎◌, ◌↔◌, ◌∙◌, inl, inr, refl, sym, ap, subst, arith, ℕ, zero, suc, ◌+◌, ◌<◌, ◌≤◌, ℤ, List, [], ◌∷◌}
 use Rattle.std.proofs.Common.{◌++◌, length, get_or, take, Bool, true, false}
 use Rattle.std.specs.Prelude.{IsTrue}
 use Rattle.std.specs.List.{All, Contains}
@@ -11,15 +11,16 @@ use Rattle.isl_meter.specs.Gauge.{Gauge}
 use Rattle.isl_piece.specs.declared.system.System.{System}
 use Rattle.isl_piece.specs.Normal.{IsNormal}
 use Rattle.isl_piece.specs.System.{HoldsSystem, IsSystemWithin, free_columns}
+use Rattle.isl_elim.specs.Elimination.{HoldsAtAny}
 use Rattle.isl_elim.specs.Sample.{IsNowhere}
 use Rattle.isl_tower.specs.Bounded.{IsBounded}
 use Rattle.isl_tower.specs.Closed.{IsClosed}
-use Rattle.isl_tower.specs.Tower.{IsProjectionOnto, IsTowerOf}
+use Rattle.isl_tower.specs.Tower.{BeginsPoint, IsProjectionOnto, IsTowerOf}
 use Rattle.isl_tower.proofs.BoundedLaws.{unbounded}
 use Rattle.isl_tower.proofs.ClosedLaws.{false_is_none, not_true}
-use Rattle.isl_covers.specs.Covers.{AreEnded, IsCoverOf, IsEnded}
+use Rattle.isl_covers.specs.Covers.{AreEnded, IsEnded}
 use Rattle.isl_covers.specs.Level.{AreEndedOf, AreUpper}
-use Rattle.isl_covers.proofs.LevelLaws.{projection_covers}
+use Rattle.isl_covers.proofs.LevelLaws.{tower_covers}
 
 -- ---- lists
 only_one : {X : Type 0} (s t : X) → Contains (s ∷ []) t → t ≡ s
@@ -96,26 +97,35 @@ ended_all systems i kept past a = subst (λ xs. AreEndedOf xs kept) (take_all i 
 module _ (g : Gauge) (s : System) (outer height : ℕ) (level kept : List System) (above : 0 < height)
     (projection : IsProjectionOnto s (outer + height) level) (within : All (IsSystemWithin g) level)
     (plain : All (λ t. t.definitions ≡ []) level) (bounded : IsBounded s outer) (are : AreEndedOf level kept) where
+  closed : (t : System) → ¬ IsEnded t → ¬ IsNowhere (free_columns t) (HoldsSystem t) → ¬ IsClosed t
+  closed t loose there is = elim is [ inl e ↦ loose e | inr nowhere ↦ there nowhere ]
+
+  kept_begins : (front : List ℤ) → length front ≡ outer + height → HoldsAtAny kept front → BeginsPoint s front
+  kept_begins front l h =
+      let some = Any-element (λ t. HoldsSystem t front) kept h in
+      let in_level = (All-contains (λ t. Contains level t × IsEnded t) kept some.0 are.each some.1).0 in
+      (projection.points front l).0 (Any-contains (λ u. HoldsSystem u front) level some.0 in_level some.2)
+
   -- those that are not ended hold nowhere
-  pub kept_covers : IsCoverOf s (outer + height) kept
-  kept_covers = record {
+  kept_holds : (front : List ℤ) → length front ≡ outer + height → BeginsPoint s front → HoldsAtAny kept front
+  kept_holds front l begins =
+      let some = Any-element (λ t. HoldsSystem t front) level ((projection.points front l).1 begins) in
+      let t = some.0 in
+      let width = All-contains (λ u. free_columns u ≡ outer + height) level t projection.columns some.1 in
+      elim (are.all t some.1) [
+        | inl c ↦ Any-contains (λ u. HoldsSystem u front) kept t c some.2
+        | inr loose ↦ absurd (unbounded g s outer height level t projection above some.1 width
+            (All-contains (IsSystemWithin g) level t within some.1)
+            (All-contains (λ u. u.definitions ≡ []) level t plain some.1)
+            (closed t loose (λ nowhere. nowhere front (l ∙ sym width) some.2)) bounded)
+      ]
+
+  pub kept_projects : IsProjectionOnto s (outer + height) kept
+  kept_projects = record {
     columns = λ i d l.
         All-contains (λ t. free_columns t ≡ outer + height) level (get_or kept i d) projection.columns (are.each i d l).0;
-    points = λ front l begins.
-        let some = Any-element (λ t. HoldsSystem t front) level ((projection.points front l).1 begins) in
-        let t = some.0 in
-        let width = All-contains (λ u. free_columns u ≡ outer + height) level t projection.columns some.1 in
-        elim (are.all t some.1) [
-          | inl c ↦ Any-contains (λ u. HoldsSystem u front) kept t c some.2
-          | inr loose ↦ absurd (unbounded g s outer height level t projection above some.1 width
-              (All-contains (IsSystemWithin g) level t within some.1)
-              (All-contains (λ u. u.definitions ≡ []) level t plain some.1)
-              (closed t loose (λ nowhere. nowhere front (l ∙ sym width) some.2)) bounded)
-        ];
+    points = λ front l. (kept_begins front l, kept_holds front l);
   }
-    where
-      closed : (t : System) → ¬ IsEnded t → ¬ IsNowhere (free_columns t) (HoldsSystem t) → ¬ IsClosed t
-      closed t loose there is = elim is [ inl e ↦ loose e | inr nowhere ↦ there nowhere ]
 
   pub kept_have : (P : System → Type 0) → All P level → All P kept
   kept_have P all = λ i d l. All-contains P level (get_or kept i d) all (are.each i d l).0
@@ -140,7 +150,7 @@ levels_more levels top level before is all height above low = elim (cases height
 -- ---- the levels, from the lowest on
 pub record AreSoFar (g : Gauge) (s : System) (outer count : ℕ) (levels : List (List System)) : Type 0 where
   pub long : length levels ≡ count
-  pub covers : (height : ℕ) → height < count → IsCoverOf s (outer + height) (get_or levels height [])
+  pub projections : (height : ℕ) → height < count → IsProjectionOnto s (outer + height) (get_or levels height [])
   pub within : All (All (IsSystemWithin g)) levels
   pub plain : All (All (λ t. t.definitions ≡ [])) levels
   pub normal : All (All (λ t. IsNormal t.rows)) levels
@@ -153,7 +163,7 @@ pub so_far_first : (g : Gauge) (s : System) (outer : ℕ) (tower : List (List Sy
     → AreSoFar g s outer 1 levels
 so_far_first g s outer tower level levels t w p n some is made = rw made (record {
   long = refl;
-  covers = λ height h. at height h;
+  projections = λ height h. at height h;
   within = λ i d l. one (All (IsSystemWithin g)) w i d l;
   plain = λ i d l. one (All (λ t. t.definitions ≡ [])) p i d l;
   normal = λ i d l. one (All (λ t. IsNormal t.rows)) n i d l;
@@ -164,22 +174,22 @@ so_far_first g s outer tower level levels t w p n some is made = rw made (record
     one P all zero d l = subst P (sym is) (all 0 [] some)
     one P all (suc i) d l = absurd (omega (arith, l))
 
-    at : (height : ℕ) → height < 1 → IsCoverOf s (outer + height) (get_or (level ∷ []) height [])
-    at zero h = subst (IsCoverOf s (outer + 0)) (sym is) (projection_covers s (outer + 0) (get_or tower 0 []) (t.projections 0 some))
+    at : (height : ℕ) → height < 1 → IsProjectionOnto s (outer + height) (get_or (level ∷ []) height [])
+    at zero h = subst (IsProjectionOnto s (outer + 0)) (sym is) (t.projections 0 some)
     at (suc height) h = absurd (omega (arith, h))
 
 -- one more
 pub so_far_next : (g : Gauge) (s : System) (outer height : ℕ) (levels : List (List System)) (kept : List System)
-    (pushed : List (List System)) → AreSoFar g s outer height levels → 0 < height → IsCoverOf s (outer + height) kept
+    (pushed : List (List System)) → AreSoFar g s outer height levels → 0 < height → IsProjectionOnto s (outer + height) kept
     → All (IsSystemWithin g) kept → All (λ t. t.definitions ≡ []) kept → All (λ t. IsNormal t.rows) kept → All IsEnded kept
     → pushed ≡ levels ++ kept ∷ [] → AreSoFar g s outer (height + 1) pushed
 so_far_next g s outer height levels kept pushed a above c w p n e made = rw made (record {
   long = length_push levels kept ∙ ap (λ k. k + 1) a.long;
-  covers = λ h l. elim (last h height l) [
-    | inl below ↦ subst (IsCoverOf s (outer + h)) (sym (get_or_append_left levels (kept ∷ []) [] h (let k = a.long in omega (arith, k, below))))
-        (a.covers h below)
-    | inr same ↦ subst (IsCoverOf s (outer + h)) (sym (get_or_push levels kept [] h (a.long ∙ sym same)))
-        (subst (λ k. IsCoverOf s (outer + k) kept) (sym same) c)
+  projections = λ h l. elim (last h height l) [
+    | inl below ↦ subst (IsProjectionOnto s (outer + h)) (sym (get_or_append_left levels (kept ∷ []) [] h (let k = a.long in omega (arith, k, below))))
+        (a.projections h below)
+    | inr same ↦ subst (IsProjectionOnto s (outer + h)) (sym (get_or_push levels kept [] h (a.long ∙ sym same)))
+        (subst (λ k. IsProjectionOnto s (outer + k) kept) (sym same) c)
   ];
   within = All-push (All (IsSystemWithin g)) levels kept a.within w;
   plain = All-push (All (λ t. t.definitions ≡ [])) levels kept a.plain p;
@@ -195,17 +205,14 @@ so_far_next g s outer height levels kept pushed a above c w p n e made = rw made
     last h n l = grind arith
 
 pub so_far_all : (g : Gauge) (s : System) (outer count : ℕ) (tower levels : List (List System)) → IsTowerOf s outer tower
-    → length tower ≡ count → AreSoFar g s outer count levels → AreUpper g s outer levels × AreEnded levels
-so_far_all g s outer count tower levels t long a = (
-  record {
-    covers = record {
+    → length tower ≡ count → AreSoFar g s outer count levels → AreUpper g s outer levels × AreEnded levels × IsTowerOf s outer levels
+so_far_all g s outer count tower levels t long a =
+    let is : IsTowerOf s outer levels = record {
       outer_in = t.outer_in;
       count = ap (λ n. outer + n) (a.long ∙ sym long) ∙ t.count;
-      covers = λ height h. a.covers height (let k = a.long in omega (arith, k, h));
-    };
-    within = a.within;
-    plain = a.plain;
-    normal = a.normal;
-  },
-  a.ended,
-)
+      projections = λ height h. a.projections height (let k = a.long in omega (arith, k, h));
+    } in (
+      record { covers = tower_covers s outer levels is; within = a.within; plain = a.plain; normal = a.normal },
+      a.ended,
+      is,
+    )

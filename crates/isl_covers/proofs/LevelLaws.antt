@@ -1,5 +1,5 @@
 -- Covers, from the top downwards.
-use Rattle.std.proofs.Common.{◌≡◌, ◌∙◌, inl, inr, refl, sym, ap, subst, arith, ℕ, zero, suc, ◌+◌, ◌-◌, ◌<◌, ℤ, List, [], ◌∷◌, ◌++◌}
+use Rattle.std.proofs.Common.{◌≡◌, ◌∙◌, inl, inr, refl, sym, ap, subst, arith, ℕ, zero, suc, ◌+◌, ◌-◌, ◌<◌, ◌≤◌, ℤ, List, [], ◌∷◌, ◌++◌}
 use Rattle.std.proofs.Common.{length, get_or, take}
 use Rattle.std.specs.List.{All, insert}
 use Rattle.std.proofs.lemmas.List.{length_push, take_more}
@@ -15,10 +15,10 @@ use Rattle.isl_piece.specs.System.{HoldRows, HoldsSystem, IsSystemWithin, free_c
 use Rattle.isl_column.specs.Column.{HoldAtSome}
 use Rattle.isl_column.specs.RealShadow.{AreImplied}
 use Rattle.isl_elim.proofs.ProjectionLaws.{plain_free, plain_holds}
-use Rattle.isl_tower.specs.Tower.{IsProjectionOnto}
+use Rattle.isl_tower.specs.Tower.{IsProjectionOnto, IsTowerOf}
 use Rattle.isl_tower.specs.Level.{AreOver}
 use Rattle.isl_tower.proofs.TowerLaws.{begins_longer, charged_limit, over_kept, over_none, over_one, system_kept}
-use Rattle.isl_covers.specs.Covers.{IsCoverOf}
+use Rattle.isl_covers.specs.Covers.{AreCoversOf, AreLone, IsCoverOf}
 use Rattle.isl_covers.specs.Level.{AreShadows, AreUpper, IsShadowOf}
 
 -- a projection is a cover
@@ -67,6 +67,7 @@ module _ (s : System) (width : ℕ) (plain : s.definitions ≡ []) (columns : fr
 pub shadows_none : (g : Gauge) (width : ℕ) → AreShadows g [] width []
 shadows_none g width = record {
   over = over_none g width;
+  few = omega arith;
   points = λ point x l h. absurd (Any-none (λ t. HoldsSystem t (point ++ x ∷ [])) h);
 }
 
@@ -88,6 +89,7 @@ module _ (g h : Gauge) (systems : List System) (i width : ℕ) (s : System) (low
   shadows_more t bits is = subst (λ xs. AreShadows g xs width (lower ++ t ∷ [])) (sym more) (record {
     over = joined g width lower (t ∷ []) so_far.over
         (over_one g width t (system_kept g h t bits is.plain is.within) is.plain is.normal is.columns);
+    few = let f = so_far.few in let a = length_push lower t in let b = length_push (take i systems) s in omega (arith, f, a, b);
     points = λ point x l a.
         let P : System → Type 0 = λ u. HoldsSystem u (point ++ x ∷ []) in
         let Q : System → Type 0 = λ u. HoldsSystem u point in
@@ -102,6 +104,7 @@ module _ (g h : Gauge) (systems : List System) (i width : ℕ) (s : System) (low
       → AreShadows g (take (i + 1) systems) width lower
   shadows_skip none = subst (λ xs. AreShadows g xs width lower) (sym more) (record {
     over = so_far.over;
+    few = let f = so_far.few in let b = length_push (take i systems) s in omega (arith, f, b);
     points = λ point x l a.
         let P : System → Type 0 = λ u. HoldsSystem u (point ++ x ∷ []) in
         elim (Any-parts P (take i systems) (s ∷ []) a) [
@@ -176,6 +179,39 @@ pub upper_next : (g h : Gauge) (s : System) (width : ℕ) (level lower : List Sy
     → new ≡ insert levels 0 lower → AreUpper g s width new
 upper_next g h s width level lower [] new a n e c b i = absurd (omega (arith, n))
 upper_next g h s width level lower (low ∷ levels) new a n e c b i =
-    let kept : AreShadows g level width lower = record { over = over_kept g h width lower (charged_limit g h c) b.over; points = b.points } in
+    let kept : AreShadows g level width lower = record {
+      over = over_kept g h width lower (charged_limit g h c) b.over;
+      few = b.few;
+      points = b.points;
+    } in
     let below : AreShadows g low width lower = rw e at kept in
     rw i (upper_cons g s width low lower levels a below)
+
+-- ---- levels of at most one system
+pub lone_first : (s : System) (level : List System) (levels : List (List System)) → levels ≡ level ∷ [] → length level ≤ 1
+    → IsProjectionOnto s (free_columns s) level → AreLone s levels
+lone_first s level levels e few top = rw e (record {
+  few = All-cons (λ (xs : List System). length xs ≤ 1) level [] few (All-nil (λ (xs : List System). length xs ≤ 1));
+  top = top;
+})
+
+pub lone_next : (g : Gauge) (s : System) (width : ℕ) (level lower : List System) (levels new : List (List System)) → AreLone s levels
+    → 0 < length levels → level ≡ get_or levels 0 level → AreShadows g level width lower → new ≡ insert levels 0 lower → AreLone s new
+lone_next g s width level lower [] new a n e b i = absurd (omega (arith, n))
+lone_next g s width level lower (low ∷ levels) new a n e b i =
+    let below : AreShadows g low width lower = rw e at b in
+    let one : length low ≤ 1 = a.few 0 [] (omega arith) in
+    let fewer : length lower ≤ length low = below.few in
+    let above : suc (length (low ∷ levels) - 1) ≡ length (lower ∷ low ∷ levels) - 1 = omega arith in
+    rw i (record {
+      few = All-cons (λ (xs : List System). length xs ≤ 1) lower (low ∷ levels) (omega (arith, one, fewer)) a.few;
+      top = subst (λ (k : ℕ). IsProjectionOnto s (free_columns s) (get_or (lower ∷ low ∷ levels) k [])) above a.top;
+    })
+
+-- a tower has covers
+pub tower_covers : (s : System) (outer : ℕ) (levels : List (List System)) → IsTowerOf s outer levels → AreCoversOf s outer levels
+tower_covers s outer levels t = record {
+  outer_in = t.outer_in;
+  count = t.count;
+  covers = λ height h. projection_covers s (outer + height) (get_or levels height []) (t.projections height h);
+}

@@ -1,5 +1,5 @@
 -- inner: one level of covers below another.
-use Rattle.std.specs.Prelude.{◌≡◌, ◌⊎◌, ℕ, ℤ, Option, List, [], ◌∷◌, ◌++◌, length, All, Contains, MatchOption}
+use Rattle.std.specs.Prelude.{◌≡◌, ◌⊎◌, ℕ, ◌≤◌, ℤ, Option, List, [], ◌∷◌, ◌++◌, length, All, Contains, MatchOption}
 use Rattle.isl_meter.specs.Gauge.{Gauge}
 use Rattle.isl_piece.specs.declared.system.System.{System}
 use Rattle.isl_piece.specs.Normal.{IsNormal}
@@ -21,9 +21,10 @@ abbrev pub IsShadow : Gauge → System → ℕ → Option System → Type 0
 IsShadow g s width found =
     MatchOption found ((point : List ℤ) (x : ℤ) → length point ≡ width → ¬ HoldsSystem s (point ++ x ∷ [])) (IsShadowOf g s width)
 
--- some of the lower systems holds where some number behind the point makes some of the systems hold
+-- no more systems than these, of which some holds where some number behind the point makes some of these hold
 pub record AreShadows (g : Gauge) (systems : List System) (width : ℕ) (lower : List System) : Type 0 where
   pub over : AreOver g width lower
+  pub few : length lower ≤ length systems
   pub points : (point : List ℤ) (x : ℤ) → length point ≡ width → HoldsAtAny systems (point ++ x ∷ []) → HoldsAtAny lower point
 
 -- the upper levels of covers, down to that of the first so many columns

@@ -6,7 +6,7 @@ ghost use Rattle.isl_piece.specs.Normal.{IsNormal};
 ghost use Rattle.isl_piece.specs.System.{IsSystemWithin, free_columns};
 ghost use Rattle.isl_tower.specs.Bounded.{IsBounded};
 ghost use Rattle.isl_tower.specs.Tower.{IsTowerOf};
-ghost use Rattle.isl_covers.specs.Covers.{AreCoversOf, AreEnded};
+ghost use Rattle.isl_covers.specs.Covers.{AreCoversOf, AreEnded, AreLone, AreTight};
 ghost use Rattle.isl_covers.specs.Level.{AreUpper};
 
 use crate::ended::are_ended;
@@ -45,7 +45,7 @@ fn shadows(
     requires plain { system.now.definitions ≡ [] }
     requires outer_in { outer ≤ free_columns system.now }
     ensures { MatchResult result
-        (λ levels. AreUpper meter.old system.now outer levels.items × IsCharged meter.old meter.new)
+        (λ levels. AreUpper meter.old system.now outer levels.items × AreLone system.now levels.items × IsCharged meter.old meter.new)
         (IsCutBy meter.old meter.new) }
 {
     let top = Level::top(alloc, system, meter)?;
@@ -86,7 +86,8 @@ fn ended_levels(
     requires within { All (All (IsSystemWithin meter.now)) tower.now }
     requires plain { All (All (λ s. s.definitions ≡ [])) tower.now }
     requires normal { All (All (λ s. IsNormal s.rows)) tower.now }
-    ensures { IfOk result (λ levels. AreUpper meter.now system.now outer levels.items × AreEnded levels.items) }
+    ensures { IfOk result (λ levels. AreUpper meter.now system.now outer levels.items × AreEnded levels.items
+        × IsTowerOf system.now outer levels.items) }
 {
     let mut levels = Vec::new(alloc);
     levels.push(Level::copied(alloc, tower.level(0))?)?;
@@ -99,7 +100,7 @@ fn ended_levels(
 impl Covers {
     /// The covers of the system, in which no column is defined, over its first `outer` columns; behind these it is bounded. At each
     /// level there is at most one system, a shadow of the next level, where such systems end their last columns; else those of the
-    /// tower that do.
+    /// tower that do, which hold exactly where numbers begin a point.
     ///
     /// # Errors
     ///
@@ -111,6 +112,7 @@ impl Covers {
         requires bounded { IsBounded system.now outer }
         ensures covers { IfOk result (AreCoversOf system.now outer) }
         ensures ended { IfOk result AreEnded }
+        ensures tight { IfOk result (AreTight system.now outer) }
         ensures within { IfOk result (All (All (IsSystemWithin meter.old))) }
         ensures plain { IfOk result (All (All (λ s. s.definitions ≡ []))) }
         ensures normal { IfOk result (All (All (λ s. IsNormal s.rows))) }

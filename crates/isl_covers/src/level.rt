@@ -1,10 +1,10 @@
 //! One level of covers.
 
-ghost use Rattle.std.specs.Prelude.{◌≡◌, ◌+◌, ◌<◌, [], ◌∷◌, ◌++◌, All, IfOk, MatchResult, OnOk};
+ghost use Rattle.std.specs.Prelude.{◌≡◌, ◌+◌, ◌<◌, ◌≤◌, [], ◌∷◌, ◌++◌, All, IfOk, MatchResult, OnOk, length};
 ghost use Rattle.isl_meter.specs.Gauge.{Gauge, IsCharged, IsCutBy};
 ghost use Rattle.isl_piece.specs.System.{IsSystemWithin, free_columns};
 ghost use Rattle.isl_tower.specs.Level.{AreOver};
-ghost use Rattle.isl_covers.specs.Covers.{IsCoverOf};
+ghost use Rattle.isl_tower.specs.Tower.{IsProjectionOnto};
 ghost use Rattle.isl_covers.specs.Level.{AreEndedOf, AreShadows};
 
 use crate::ended::is_ended;
@@ -55,8 +55,8 @@ impl Level {
         requires within { IsSystemWithin meter.old system.now }
         requires plain { system.now.definitions ≡ [] }
         ensures { MatchResult result
-            (λ level. AreOver meter.old (free_columns system.now) level × IsCoverOf system.now (free_columns system.now) level
-            × IsCharged meter.old meter.new)
+            (λ level. AreOver meter.old (free_columns system.now) level × IsProjectionOnto system.now (free_columns system.now) level
+            × (length level ≤ 1) × IsCharged meter.old meter.new)
             (IsCutBy meter.old meter.new) }
     {
         let copied = system.copy(alloc)?;

@@ -4,7 +4,7 @@ use Rattle.isl_piece.specs.Normal.{IsNormal}
 use Rattle.isl_piece.specs.System.{IsSystemWithin, free_columns}
 use Rattle.isl_piece.specs.declared.system.System.{System}
 use Rattle.isl_covers.specs.Level.{AreEndedOf}
-use Rattle.isl_covers.proofs.EndedLaws.{kept_covers, kept_have, so_far_first, so_far_next}
+use Rattle.isl_covers.proofs.EndedLaws.{kept_have, kept_projects, so_far_all, so_far_first, so_far_next}
 use Rattle.isl_covers.proofs.covers.ended_levels.Goals as goal
 
 pub loop-height-init : goal.loop-height-init
@@ -49,6 +49,14 @@ loop-height-preserved c =
     let have : (P : System → Type 0) → All P level → All P kept = λ P all.
     kept_have g s outer height level kept above projection within plain c.requires.bounded are P all in
     so_far_next g s outer height c.loop-height.levels.items kept c.push-in-loop-height.new.self.items c.loop-height.invariant above
-    (kept_covers g s outer height level kept above projection within plain c.requires.bounded are) (have (IsSystemWithin g) within)
+    (kept_projects g s outer height level kept above projection within plain c.requires.bounded are) (have (IsSystemWithin g) within)
     (have (λ t. t.definitions ≡ []) plain) (have (λ t. IsNormal t.rows) (c.requires.normal height [] inside))
     (λ k d l. (are.each k d l).1) pushed
+
+pub returns : goal.returns
+returns c =
+    let tower = c.args.tower.now in
+    let some : 0 < length tower = let n = c.requires.tower.count in let m = c.requires.tower.outer_in in omega (arith, n, m) in
+    let long : length tower ≡ c.loop-height.height = grind arith in
+    so_far_all c.args.meter.now c.args.system.now c.args.outer c.loop-height.height tower c.loop-height.levels.items c.requires.tower long
+    c.loop-height.invariant

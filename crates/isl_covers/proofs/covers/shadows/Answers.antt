@@ -6,7 +6,7 @@ use Rattle.isl_meter.proofs.CutLemmas.{IsCharged_trans}
 use Rattle.isl_piece.specs.declared.system.System.{System}
 use Rattle.isl_piece.specs.System.{free_columns}
 use Rattle.isl_covers.specs.Level.{AreUpper}
-use Rattle.isl_covers.proofs.LevelLaws.{lowest_over, upper_first, upper_next}
+use Rattle.isl_covers.proofs.LevelLaws.{lone_first, lone_next, lowest_over, projection_covers, upper_first, upper_next}
 use Rattle.isl_covers.proofs.covers.shadows.Goals as goal
 
 same_width : (g : Gauge) (s : System) (n m : ℕ) (levels : List (List System)) → n ≡ m → AreUpper g s n levels → AreUpper g s m levels
@@ -21,8 +21,9 @@ loop-width-init c =
     let free : c.free-width.result ≡ free_columns s = grind arith in
     let e = c.in_ok-top.ensures in
     let many : 0 < length c.push.new.self.items = grind arith in
-    let start = upper_first g s level c.push.new.self.items pushed e.0 e.1 in
-    rw free (start, many, c.requires.outer_in, e.2)
+    let start = upper_first g s level c.push.new.self.items pushed e.0 (projection_covers s (free_columns s) level e.1) in
+    let lone = lone_first s level c.push.new.self.items pushed e.2 e.1 in
+    rw free (start, many, c.requires.outer_in, e.3, lone)
 
 pub below-requires : goal.below-requires
 below-requires c =
@@ -55,6 +56,7 @@ loop-width-preserved c =
       many,
       grind arith,
       IsCharged_trans g h k i.3 e.1,
+      lone_next h s (width - 1) level c.in_ok-lower.lower c.loop-width.levels.items new i.4 i.1 c.index.ensures e.0 put,
     )
 
 pub returns : goal.returns
@@ -63,4 +65,4 @@ returns c =
     let s = c.args.system.now in
     let i = c.loop-width.invariant in
     let same : c.loop-width.width ≡ c.args.outer = grind arith in
-    (same_width g s c.loop-width.width c.args.outer c.loop-width.levels.items same i.0, i.3)
+    (same_width g s c.loop-width.width c.args.outer c.loop-width.levels.items same i.0, i.4, i.3)

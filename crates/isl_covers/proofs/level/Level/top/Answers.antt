@@ -1,9 +1,8 @@
 use Rattle.std.proofs.Common.{◌≡◌, ◌↔◌, [], ◌∷◌, ℤ, List, sym, arith, Some}
 use Rattle.isl_meter.proofs.CutLemmas.{IsCharged_refl}
 use Rattle.isl_piece.specs.Normal.{IsNormal, normal_system}
-use Rattle.isl_piece.specs.System.{HoldsSystem, IsSystemWithin, free_columns}
+use Rattle.isl_piece.specs.System.{HoldsSystem, IsSystemWithin}
 use Rattle.isl_tower.proofs.TowerLaws.{top_found}
-use Rattle.isl_covers.proofs.LevelLaws.{projection_covers}
 use Rattle.isl_covers.proofs.level.Level.top.Goals as goal
 
 pub returns-in_ok-push-in-Some : goal.returns-in_ok-push-in-Some
@@ -20,6 +19,7 @@ returns-in_ok-push-in-Some c =
     let items : c.push.new.self ≡ t ∷ [] = grind arith in
     let found = top_found g s t (sym exact) c.requires.plain within normal points in (
       rw items found.0,
-      rw items (projection_covers s (free_columns s) (t ∷ []) found.1),
+      rw items found.1,
+      rw items (omega arith),
       IsCharged_refl g c.normalise.new.meter (grind arith),
     )
