@@ -7,5 +7,6 @@ pub mod FibreLaws
 pub mod FlatLaws
 pub mod PrefixLaws
 pub mod RowLaws
+pub mod ShornLaws
 pub mod SortedLaws
 pub mod WalkLaws

@@ -5,10 +5,10 @@ use Rattle.std.proofs.Common.{get_or, take, unsigned_abs}
 use Rattle.std.specs.Prelude.{Result, Ok, Err, MatchResult}
 use Rattle.std.specs.List.{All, Any, Contains}
 use Rattle.std.proofs.lemmas.List.{get_or-drop, length_push, take_more, length-append}
-use Rattle.std.proofs.lemmas.List.Elements.{All-nil, All-append, Contains-append_left, Contains-append_right, Contains-append_cases}
+use Rattle.std.proofs.lemmas.List.Elements.{All-nil, All-cons, All-append, Contains-push, Contains-append_left, Contains-append_right, Contains-append_cases}
 use Rattle.isl_math.proofs.ListLaws.{Any-left, Any-right, Any-parts, Any-one, Any-first, Any-weaker}
 use Rattle.isl_meter.specs.Gauge.{Gauge, IsCharged, IsWithin}
-use Rattle.isl_meter.proofs.CutLemmas.{IsCharged_refl, IsCharged_trans}
+use Rattle.isl_meter.proofs.CutLemmas.{IsCharged_refl, IsCharged_trans, IsCharged-unit}
 use Rattle.isl_piece.specs.declared.row.Row.{Row}
 use Rattle.isl_piece.specs.declared.system.System.{System}
 use Rattle.isl_piece.specs.Row.{coef_at}
@@ -21,7 +21,7 @@ use Rattle.isl_tower.proofs.NumberLaws.{holds_system_at}
 use Rattle.isl_tower.proofs.TowerLaws.{charged_limit}
 use Rattle.isl_points.specs.Fibre.{IsEnded}
 use Rattle.isl_points.specs.Line.{IsListing}
-use Rattle.isl_points.proofs.ListLaws.{no_numbers, same_numbers}
+use Rattle.isl_points.proofs.ListLaws.{contains_one, no_numbers, same_numbers}
 
 -- ---- one system
 pub rows_at : (g : Gauge) (s : System) (prefix : List ℤ) (x : ℤ) → IsSystemWithin g s → s.definitions ≡ []
@@ -34,6 +34,11 @@ rows_at g s prefix x w d f =
       (λ h. at.0 (rows.1 h)),
       (λ h. rows.0 (at.1 h)),
     )
+
+pub at_prefix : (g : Gauge) (s : System) (prefix : List ℤ) (rows : List Row) (x : ℤ) → IsSystemWithin g s → s.definitions ≡ []
+    → free_columns s ≡ length prefix + 1 → rows ≡ (system_at prefix s).rows → HoldRows rows (x ∷ []) ↔ HoldsSystem s (prefix ++ x ∷ [])
+at_prefix g s prefix rows x w d f e = subst (λ (l : List Row). HoldRows l (x ∷ []) ↔ HoldsSystem s (prefix ++ x ∷ [])) (sym e)
+    (rows_at g s prefix x w d f)
 
 -- an end of the last column is one of what is left
 coef_left : (prefix : List ℤ) (r : Row) (col : ℕ) → col ≡ length prefix → coef_at (row_at prefix r) 0 ≡ coef_at r col
@@ -52,14 +57,16 @@ upper_left s prefix col e h = any_mapped (λ r. EndsAbove r.kind (coef_at r 0)) 
     (Any-weaker (λ r. EndsAbove r.kind (coef_at r col)) (λ r. EndsAbove r.kind (coef_at (row_at prefix r) 0))
     (λ r m. subst (λ (c : ℤ). EndsAbove r.kind c) (sym (coef_left prefix r col e)) m) s.rows h)
 
-pub none_behind : (g : Gauge) (s : System) (prefix : List ℤ) → IsSystemWithin g s → s.definitions ≡ []
-    → free_columns s ≡ length prefix + 1 → IsEnded s
-    → (HasLowerEnd 0 (system_at prefix s).rows → HasUpperEnd 0 (system_at prefix s).rows → (x : ℤ)
-    → ¬ HoldRows (system_at prefix s).rows (x ∷ []))
-    → (x : ℤ) → ¬ HoldsSystem s (prefix ++ x ∷ [])
-none_behind g s prefix w d f ended none x h =
-    ended (λ ends. none (lower_left s prefix (free_columns s - 1) last ends.0) (upper_left s prefix (free_columns s - 1) last ends.1) x
-    ((rows_at g s prefix x w d f).1 h)) (prefix ++ x ∷ []) (let l = length_push prefix x in omega (arith, l, f)) h
+-- where the rows that are left lack an end on one side, they hold nowhere
+pub left_ended : (g : Gauge) (s : System) (prefix : List ℤ) (rows : List Row) → IsSystemWithin g s → s.definitions ≡ []
+    → free_columns s ≡ length prefix + 1 → IsEnded s → rows ≡ (system_at prefix s).rows
+    → (¬ (HasLowerEnd 0 rows × HasUpperEnd 0 rows)) → (x : ℤ) → ¬ HoldRows rows (x ∷ [])
+left_ended g s prefix rows w d f ended e none x h =
+    ended (λ ends. none (
+      subst (HasLowerEnd 0) (sym e) (lower_left s prefix (free_columns s - 1) last ends.0),
+      subst (HasUpperEnd 0) (sym e) (upper_left s prefix (free_columns s - 1) last ends.1),
+    )) (prefix ++ x ∷ []) (let l = length_push prefix x in omega (arith, l, f))
+    ((rows_at g s prefix x w d f).0 (subst (λ (rs : List Row). HoldRows rs (x ∷ [])) e h))
   where
     last : free_columns s - 1 ≡ length prefix
     last = omega (arith, f)
@@ -72,6 +79,24 @@ no_listing g h P xs e n none = rw (e, n) (record {
   counted = omega arith;
   charged = IsCharged_refl g g refl;
 })
+
+pub one_listing : (g h : Gauge) (P : ℤ → Type 0) (x : ℤ) (xs : List ℤ) → xs ≡ x ∷ [] → h ≡ record g { units = g.units + 1 } → IsWithin g x
+    → ((z : ℤ) → P z ↔ (z ≡ x)) → IsListing g h P xs
+one_listing g h P x xs e used w s =
+    let charged = IsCharged-unit g h used in
+    let more = ap (λ (m : Gauge). m.units) used in
+    rw e (record {
+      numbers = record {
+        exact = λ z. (
+          (λ c. (s z).1 (sym (contains_one x z c))),
+          (λ p. subst (Contains (x ∷ [])) (sym ((s z).0 p)) (Contains-push [] x)),
+        );
+        ordered = λ i j d below inside. absurd (omega (arith, below, inside));
+      };
+      within = All-cons (IsWithin g) x [] w (All-nil (IsWithin g));
+      counted = omega (arith, more);
+      charged = charged;
+    })
 
 pub same_listing : (g h k : Gauge) (P Q : ℤ → Type 0) (xs : List ℤ) → h ≡ g → ((x : ℤ) → P x ↔ Q x) → IsListing h k P xs
     → IsListing g k Q xs

@@ -93,6 +93,18 @@ next_begins g k s levels height shorter longer t n l a b = record {
     at : IsProjectionOnto s (0 + height) (get_or levels height [])
     at = t.projections height l
 
+-- what begins a point begins a longer one
+pub begun_at : (s : System) (levels : List (List System)) (height : ℕ) (points : List (List ℤ)) → IsTowerOf s 0 levels
+    → 0 < height → height < length levels → AreBeginnings s (height - 1) points
+    → All (λ q. (x : ℤ) × HoldsAtAny (get_or levels height []) (q ++ x ∷ [])) points
+begun_at s levels height points t n l a i d m =
+    let q = get_or points i d in
+    let own = (a.exact q).0 (Contains-get_or points i d m) in
+    let short = own.0 in
+    let more = (begins_longer s q (let c = t.count in omega (arith, short, c, n, l))).0 own.1 in
+    let long = length_push q more.0 in
+    (more.0, ((t.projections height l).points (q ++ more.0 ∷ []) (omega (arith, short, long, n))).1 more.1)
+
 pub next_widths : (g k : Gauge) (systems : List System) (n m : ℕ) (shorter longer : List (List ℤ)) → n + 1 ≡ m
     → All (λ q. length q ≡ n) shorter → AreLonger g k systems shorter longer → All (λ q. length q ≡ m) longer
 next_widths g k systems n m shorter longer e a b i d l =

@@ -7,3 +7,4 @@ pub mod Level
 pub mod Line
 pub mod Points
 pub mod Progression
+pub mod Shorn

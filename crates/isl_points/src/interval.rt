@@ -6,6 +6,7 @@ ghost use Rattle.isl_piece.specs.Row.{coef_at};
 ghost use Rattle.isl_omega.specs.Column.{IsProper};
 ghost use Rattle.isl_points.specs.Ends.{IsFrom, IsTo};
 
+use crate::division::quotient;
 use crate::row::LineRow;
 use isl_meter::{Int, Meter};
 use isl_piece::RowKind;
@@ -81,13 +82,13 @@ impl Interval {
         ensures within { AreEndsWithin meter.now result }
     {
         if coef.is_positive() {
-            let low = rest.floor_div(coef, meter).neg(meter);
+            let low = quotient(rest, coef, meter).neg(meter);
             Interval {
                 low: Some(raised(self.low, low, meter)),
                 high: self.high,
             }
         } else if coef.is_negative() {
-            let high = rest.floor_div(coef.neg(meter), meter);
+            let high = quotient(rest, coef.neg(meter), meter);
             Interval {
                 low: self.low,
                 high: Some(lowered(self.high, high, meter)),

@@ -1,6 +1,7 @@
 //! The points of systems, one after another.
 #![tactic(auto)]
 
+mod division;
 mod fibre;
 mod interval;
 mod level;

@@ -2,12 +2,13 @@
 
 ghost use Rattle.std.specs.Prelude.{◌≡◌, ◌↔◌, ◌⊎◌, ◌+◌, ◌+ℤ◌, ◌<ℤ◌, ◌≤ℤ◌, ◌<◌, ℤ};
 ghost use Rattle.std.specs.Prelude.{pos, [], ◌∷◌, ◌++◌, length, All, IsTrue, MatchOption, MatchResult};
-ghost use Rattle.isl_meter.specs.Gauge.{IsCharged, IsCutBy, IsWithin, overflown};
+ghost use Rattle.isl_meter.specs.Gauge.{Gauge, IsCharged, IsCutBy, IsWithin, overflown};
 ghost use Rattle.isl_piece.specs.System.{HoldRows};
 ghost use Rattle.isl_omega.specs.Column.{IsProper};
 ghost use Rattle.isl_points.specs.Exclusion.{IsTried, MeetsExclusion};
 ghost use Rattle.isl_tower.specs.Ends.{HasLowerEnd, HasUpperEnd};
 
+use crate::division::remainder;
 use crate::interval::Interval;
 use crate::progression::Progression;
 use crate::row::LineRow;
@@ -75,6 +76,40 @@ fn excludes_all(rows: &[LineRow], meter: &mut Meter) -> Result<bool, Overflow>
     Ok(false)
 }
 
+// Whether the row is none that its modulus must not divide.
+fn excludes_nothing(row: &LineRow) -> bool
+    ensures { IsTrue result → (x : ℤ) → MeetsExclusion x row.now }
+{
+    match row.kind() {
+        RowKind::NotDivides => false,
+        RowKind::Zero | RowKind::AtLeast | RowKind::Divides => true,
+    }
+}
+
+// Whether no row is one that its modulus must not divide.
+fn excludes_none(rows: &[LineRow]) -> bool
+    ensures { IsTrue result → (x : ℤ) → All (MeetsExclusion x) rows.now }
+{
+    for row in rows {
+        if !excludes_nothing(row) {
+            return false;
+        }
+    }
+    true
+}
+
+/// The rows, or none of them where none is one that its modulus must not divide.
+pub(crate) fn excluding(rows: &[LineRow]) -> &[LineRow]
+    ensures same { (x : ℤ) → All (MeetsExclusion x) result.now ↔ All (MeetsExclusion x) rows.now }
+    ensures proper { (g : Gauge) → All (IsProper g 1) rows.now → All (IsProper g 1) result.now }
+{
+    if excludes_none(rows) {
+        &rows[..0]
+    } else {
+        rows
+    }
+}
+
 // Uses a unit, and puts the number behind the others where the rows allow it.
 fn try_number(found: &mut Vec<Int>, rows: &[LineRow], x: Int, meter: &mut Meter) -> Result<(), Cut>
     requires { All (IsProper meter.old 1) rows.now }
@@ -130,9 +165,9 @@ impl Line {
             (λ _. meter.new ≡ overflown meter.old) }
     {
         let step = self.steps.step;
-        let first = self.steps.first.modulo(step, meter);
-        let low = self.low.modulo(step, meter);
-        let ahead = first.sub(low, meter)?.modulo(step, meter);
+        let first = remainder(self.steps.first, step, meter);
+        let low = remainder(self.low, step, meter);
+        let ahead = remainder(first.sub(low, meter)?, step, meter);
         Ok(up_to(self.low, ahead, self.high))
     }
 

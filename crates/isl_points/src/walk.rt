@@ -54,7 +54,8 @@ fn lowest(alloc: Global, systems: &[System], meter: &mut Meter) -> Result<Points
 ///
 /// `Overflow` where a number passes the limit of the meter, `Budget` where its units are used up, and `NoMemory`.
 pub(crate) fn points_of(alloc: Global, tower: &Tower, meter: &mut Meter) -> Result<Points, Cut>
-    requires { AreLevelsWithin meter.old tower.now }
+    requires levels { AreLevelsWithin meter.old tower.now }
+    requires tower { (s : System) × IsTowerOf s 0 tower.now }
     ensures exact { IfOk result (λ points. (s : System) → IsTowerOf s 0 tower.now → AreBeginnings s (length tower.now - 1) points) }
     ensures within { IfOk result (All (All (IsWithin meter.old))) }
     ensures counted { IfOk result (λ points. meter.old.units + length points ≤ meter.new.units) }

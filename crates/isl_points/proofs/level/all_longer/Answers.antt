@@ -1,6 +1,7 @@
-use Rattle.std.proofs.Common.{◌≡◌, ◌∙◌, ◌+◌, ◌<◌, ℤ, List, [], arith, get_or, length, take, sym, ap, refl, subst}
+use Rattle.std.proofs.Common.{◌≡◌, ◌∙◌, ◌+◌, ◌<◌, ◌++◌, ◌∷◌, ℤ, List, [], arith, get_or, length, take, sym, ap, refl, subst}
 use Rattle.std.proofs.lemmas.Grind.{common_steps}
 use Rattle.std.proofs.lemmas.List.{get_or_default}
+use Rattle.isl_elim.specs.Elimination.{HoldsAtAny}
 use Rattle.isl_points.specs.Level.{AreLonger}
 use Rattle.isl_points.proofs.LongerLaws.{longer_more, none_longer}
 use Rattle.isl_points.proofs.WalkLaws.{over_charged, whole_longer}
@@ -63,3 +64,10 @@ returns c =
     let is = (whole_longer g k systems c.args.width shorter end.0 c.loop-place.numbers.items c.requires.some_column c.requires.widths
     longer end.2).0 in
     record { exact = subst (λ (ps : List (List ℤ)). AreLonger g k systems shorter ps) (sym is ∙ sym (rw count at c.of.ensures)) longer }
+
+pub lengthen-requires-clause-begun : goal.lengthen-requires-clause-begun
+lengthen-requires-clause-begun c =
+    let systems = c.args.systems.now in
+    let i = c.loop-place.place in
+    let inside : i < length c.args.shorter.now = grind (arith, common_steps) in
+    subst (λ (q : List ℤ). (x : ℤ) × HoldsAtAny systems (q ++ x ∷ [])) (sym c.get.ensures) (c.requires.begun i [] inside)

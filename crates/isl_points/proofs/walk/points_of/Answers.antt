@@ -1,11 +1,13 @@
-use Rattle.std.proofs.Common.{◌≡◌, ◌+◌, ◌-◌, ◌<◌, [], arith, get_or, length, refl, subst, sym}
+use Rattle.std.proofs.Common.{◌≡◌, ◌+◌, ◌-◌, ◌<◌, ◌++◌, ◌∷◌, [], ℤ, List, arith, get_or, length, refl, subst, sym}
 use Rattle.std.specs.List.{All}
 use Rattle.isl_meter.proofs.CutLemmas.{IsCharged_trans, IsCharged-unit}
+use Rattle.isl_piece.specs.declared.system.System.{System}
+use Rattle.isl_elim.specs.Elimination.{HoldsAtAny}
 use Rattle.isl_tower.specs.Level.{AreOver}
 use Rattle.isl_points.specs.Fibre.{IsEnded}
 use Rattle.isl_points.specs.Level.{AreLonger}
 use Rattle.isl_points.proofs.WalkLaws.{IsLowest, lowest_begins, lowest_count, lowest_ordered, lowest_widths, lowest_within, next_begins}
-use Rattle.isl_points.proofs.WalkLaws.{next_widths, over_charged, within_before}
+use Rattle.isl_points.proofs.WalkLaws.{begun_at, next_widths, over_charged, within_before}
 use Rattle.isl_points.proofs.walk.points_of.Goals as goal
 
 pub loop-height-init : goal.loop-height-init
@@ -18,7 +20,7 @@ loop-height-init c =
     let few = lowest_count (get_or levels 0 []) points found in
     let used = c.in_ok-points.ensures.1 in
     record {
-      exact = λ s t. lowest_begins s levels points t c.requires.some found;
+      exact = λ s t. lowest_begins s levels points t c.requires.levels.some found;
       widths = lowest_widths (get_or levels 0 []) points found;
       ordered = lowest_ordered (get_or levels 0 []) points found;
       within = lowest_within g (get_or levels 0 []) points found;
@@ -38,9 +40,12 @@ all_longer-requires c =
     let above : 0 < height = grind arith in
     record {
       over = subst (AreOver h height) is (over_charged g h height height (get_or levels height []) before.charged refl
-          (c.requires.over height inside));
-      ended = subst (All IsEnded) is (c.requires.ended height above inside);
+          (c.requires.levels.over height inside));
+      ended = subst (All IsEnded) is (c.requires.levels.ended height above inside);
       widths = λ i d l. let own = before.widths i d l in omega (arith, own, above);
+      begun = subst (λ (systems : List System). All (λ q. (x : ℤ) × HoldsAtAny systems (q ++ x ∷ [])) c.loop-height.points) is
+          (begun_at c.requires.tower.0 levels height c.loop-height.points c.requires.tower.1 above inside
+          (before.exact c.requires.tower.0 c.requires.tower.1));
       some_column = above;
       ordered = before.ordered;
       within = rw before.charged.same before.within;
@@ -74,11 +79,11 @@ loop-height-preserved c =
 pub returns-clause-exact : goal.returns-clause-exact
 returns-clause-exact c = λ s t.
     let levels = c.args.tower.now in
-    let some = c.requires.some in
+    let some = c.requires.levels.some in
     let end : c.loop-height.height ≡ length levels = grind arith in
     rw end at (c.loop-height.invariant.exact s t)
 
 pub lowest-requires : goal.lowest-requires
 lowest-requires c =
     let is : get_or c.args.tower.now 0 [] ≡ c.level.result.now = sym c.level.ensures in
-    subst (AreOver c.args.meter.now 0) is (c.requires.over 0 c.requires.some)
+    subst (AreOver c.args.meter.now 0) is (c.requires.levels.over 0 c.requires.levels.some)
