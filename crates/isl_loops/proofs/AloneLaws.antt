@@ -1,6 +1,6 @@
 -- One item alone: the loops of a strided set.
 use mathlib.Core.Former.{Count}
-use Rattle.std.proofs.Common.{◌≡◌, inl, inr, refl, sym, ap, ◌∙◌, subst, arith, ℕ, ◌+◌, ◌-◌, ◌<◌, ◌≤◌, ℤ, List, [], ◌∷◌, ◌++◌}
+use Rattle.std.proofs.Common.{◌≡◌, inl, inr, refl, sym, ap, ◌∙◌, subst, arith, ℕ, ◌+◌, ◌-◌, ◌<◌, ℤ, List, [], ◌∷◌, ◌++◌}
 use Rattle.std.proofs.Common.{append-nil, length, length-append, get_or, take}
 use Rattle.std.specs.List.{All}
 use Rattle.std.proofs.lemmas.List.{length-take-le, take_more}
@@ -22,7 +22,6 @@ use Rattle.isl_nest.specs.declared.place.Place.{Place}
 use Rattle.isl_nest.specs.Covered.{view_of, IsCovered}
 use Rattle.isl_nest.specs.Depth.{depth_in, depth_of}
 use Rattle.isl_nest.specs.Item.{ItemView}
-use Rattle.isl_nest.specs.Places.{Stands}
 use Rattle.isl_nest.specs.Separate.{IsSeparate}
 use Rattle.isl_nest.proofs.CountLaws.{none_deep, none_idle}
 use Rattle.isl_union.specs.KeptValue.{KeptValue}

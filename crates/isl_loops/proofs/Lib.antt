@@ -5,6 +5,7 @@ pub mod GroupLists
 pub mod OrderLaws
 pub mod TogetherLaws
 pub mod SharedLaws
+pub mod OnlyLaws
 pub mod PartsLaws
 pub mod GroupedLaws
 pub mod StartLaws

@@ -68,7 +68,7 @@ module _ (g : Gauge) (params times : ℕ) (items : List Item) (over : All (IsOve
       let next = behind_next (view_of a.0) columns t room a.2 in
       (next.0, Any-contains (λ (item : Item). IsCalledBehind (view_of item) (columns ++ next.0 ∷ []) t) items a.0 a.1 next.1)
 
-  called_less : (t : Timed) (x : ℤ) → IsCalledBySome items (columns ++ x ∷ []) t → IsCalledBySome items columns t
+  pub called_less : (t : Timed) (x : ℤ) → IsCalledBySome items (columns ++ x ∷ []) t → IsCalledBySome items columns t
   called_less t x =
       Any-weaker (λ (item : Item). IsCalledBehind (view_of item) (columns ++ x ∷ []) t)
       (λ (item : Item). IsCalledBehind (view_of item) columns t) (λ item p. behind_less (view_of item) columns t x p) items

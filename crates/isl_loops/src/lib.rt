@@ -3,6 +3,7 @@
 
 mod generate;
 mod groups;
+mod only;
 mod order;
 mod together;
 

@@ -11,6 +11,7 @@ ghost use Rattle.isl_loops.specs.Shared.{covers_behind, IsSharedLoop, IsSharedNo
 ghost use Rattle.isl_loops.specs.Together.{AreApart, IsOver, ListsAll};
 
 use crate::groups::{Extent, groups_of};
+use crate::only::only_form;
 use isl_loop::Loop;
 use isl_meter::{Cut, Meter};
 use isl_nest::{Around, Item, Place, for_loop, separate};
@@ -91,7 +92,7 @@ fn shared(
 }
 
 /// The loops of the items behind the columns of the place: a tree that lists the calls of all items in the order of their times wherever
-/// the place stands; of one item its nest alone.
+/// the place stands; of one item its nest alone. No loop goes through a column that has one number for all, told by a form.
 ///
 /// # Errors
 ///
@@ -129,6 +130,13 @@ pub(crate) fn together(
         let Some(around) = shared(alloc, extent, place, group.as_slice(), meter)? else {
             continue;
         };
+        if let Some(entry) = only_form(alloc, &around.inside, place.variables, meter)? {
+            let none = Rows::new(alloc);
+            let behind = place.with_entry(alloc, &entry, &none)?;
+            let tree = together(alloc, extent, &behind, group, meter)?;
+            parts.push(tree)?;
+            continue;
+        }
         let inner = place.with_loop(alloc, &around.inside)?;
         let body = together(alloc, extent, &inner, group, meter)?;
         parts.push(for_loop(alloc, around.head, body)?)?;

@@ -4,6 +4,7 @@ use Rattle.std.proofs.lemmas.Grind.{common_steps}
 use Rattle.std.proofs.lemmas.List.Elements.{All-weaker}
 use Rattle.std.proofs.lemmas.Result.{err_from_is_err_and}
 use Rattle.isl_meter.proofs.CutLemmas.{IsCharged_trans, IsCutBy-after, IsCutBy-charged}
+use Rattle.isl_frame.proofs.NeededLaws.{over_later}
 use Rattle.isl_loop.specs.Formed.{IsLoopOver}
 use Rattle.isl_loop.proofs.LimitLaws.{IsLoopOver-same}
 use Rattle.isl_nest.specs.Nest.{with_loop}
@@ -12,10 +13,11 @@ use Rattle.isl_nest.specs.declared.place.Place.{Place}
 use Rattle.isl_nest.proofs.AroundLaws.{charged_bits}
 use Rattle.isl_nest.proofs.PlaceLaws.{place_later}
 use Rattle.isl_loops.specs.Groups.{AreGroupsOf}
-use Rattle.isl_loops.specs.Shared.{IsSharedLoop, IsSharedNothing}
+use Rattle.isl_loops.specs.Shared.{IsOnlyForm, IsSharedLoop, IsSharedNothing}
 use Rattle.isl_loops.specs.Together.{IsOver, ListsAll}
 use Rattle.isl_loops.proofs.CallLaws.{over_charged}
 use Rattle.isl_loops.proofs.GroupedLaws.{group_apart, group_has, made_all, made_more, made_none, made_same}
+use Rattle.isl_loops.proofs.OnlyLaws.{entry_lists, entry_long, entry_place}
 use Rattle.isl_loops.proofs.PartsLaws.{block_over}
 use Rattle.isl_loops.proofs.SharedLaws.{inner_long, inner_place, shared_lists}
 use Rattle.isl_loops.proofs.together.+together.Goals as goal
@@ -118,6 +120,83 @@ loop-group-preserved-in_default t c =
       IsCharged_trans g h c.shared.new.meter c.loop-group.invariant.1 c.in_ok-around.ensures.meter,
     )
 
+pub only_form-requires : goal.only_form-requires
+only_form-requires t c =
+    let is : IsSharedLoop c.loop-group.meter c.args.place.now c.as_slice-in-loop-group.result.now c.in-Some-2.around =
+    rw c.in-Some-2.is at c.in_ok-around.ensures.around in
+    over_later c.loop-group.meter c.shared.new.meter (c.args.place.now.variables + 1) c.in-Some-2.around.inside
+    c.in_ok-around.ensures.meter is.over.inside
+
+pub together-requires : goal.together-requires
+together-requires t c =
+    let g = c.args.meter.now in
+    let h = c.loop-group.meter in
+    let k = c.shared.new.meter in
+    let place = c.args.place.now in
+    let p = c.args.extent.params in
+    let n = c.args.extent.times in
+    let before = c.loop-group.group-iterator.rest.items in
+    let rest = c.next.new.self.rest.items in
+    let group = c.in-Some.group in
+    let next : before ≡ group ∷ rest = grind arith in
+    let inner : length place.frame < p + n = grind (arith, common_steps) in
+    let around = c.in-Some-2.around in
+    let charged = IsCharged_trans g h k c.loop-group.invariant.1 c.in_ok-around.ensures.meter in
+    let first = c.requires.low in
+    let entry = c.in-Some-3.entry in
+    let only : IsOnlyForm k place.variables around.inside entry = rw c.in-Some-3.is at c.in_ok-entry.ensures in
+    let made = c.in_ok-behind.behind in
+    let none = c.new-none.result in
+    let long = entry_long place entry none c.new-none.ensures made c.in_ok-behind.ensures in (
+      omega (arith, long, inner),
+      (
+        entry_place place entry none c.new-none.ensures made c.in_ok-behind.ensures g k around.inside c.requires.place charged only,
+        (
+          All-weaker (IsOver g p n) (IsOver k p n) (λ item o. over_charged g k p n item charged o) group.items
+              (group_has g place c.args.items.items before c.loop-group.parts c.loop-group.invariant.0 group rest next (IsOver g p n)
+              c.requires.items),
+          (
+            group_apart g place c.args.items.items before c.loop-group.parts c.loop-group.invariant.0 group rest next p c.requires.apart,
+            (omega (arith, long, first), (omega (arith, long, inner), c.requires.room)),
+          ),
+        ),
+      ),
+    )
+
+pub loop-group-preserved-in-Some-3 : goal.loop-group-preserved-in-Some-3
+loop-group-preserved-in-Some-3 t c =
+    let g = c.args.meter.now in
+    let h = c.loop-group.meter in
+    let k = c.shared.new.meter in
+    let place = c.args.place.now in
+    let p = c.args.extent.params in
+    let n = c.args.extent.times in
+    let before = c.loop-group.group-iterator.rest.items in
+    let rest = c.next.new.self.rest.items in
+    let group = c.in-Some.group in
+    let next : before ≡ group ∷ rest = grind arith in
+    let inner : length place.frame < p + n = grind (arith, common_steps) in
+    let around = c.in-Some-2.around in
+    let is : IsSharedLoop h place c.as_slice-in-loop-group.result.now around = rw c.in-Some-2.is at c.in_ok-around.ensures.around in
+    let loop : IsSharedLoop h place group.items around = rw c.as_slice-in-loop-group.ensures.value at is in
+    let over = group_has g place c.args.items.items before c.loop-group.parts c.loop-group.invariant.0 group rest next (IsOver g p n)
+    c.requires.items in
+    let entry = c.in-Some-3.entry in
+    let only : IsOnlyForm k place.variables around.inside entry = rw c.in-Some-3.is at c.in_ok-entry.ensures in
+    let made = c.in_ok-behind.behind in
+    let tree = c.in_ok-tree.tree in
+    let lists = entry_lists place entry c.new-none.result c.new-none.ensures made c.in_ok-behind.ensures g h k p n group.items around tree
+    over c.requires.low inner loop only c.in_ok-tree.ensures.lists in
+    let same = charged_bits g k (IsCharged_trans g h k c.loop-group.invariant.1 c.in_ok-around.ensures.meter) in
+    let tree_over : IsLoopOver g place.variables tree =
+    subst (λ (v : ℕ). IsLoopOver g v tree) (ap (λ (q : Place). q.variables) c.in_ok-behind.ensures)
+    (IsLoopOver-same k g made.variables tree (sym same) c.in_ok-tree.ensures.over) in (
+      made_more g place c.args.items.items before c.loop-group.parts c.loop-group.invariant.0 group rest next p n c.requires.items
+          c.requires.low inner c.push-in-Some-3.new.self tree c.in_ok-push-2.ensures.ok lists tree_over,
+      IsCharged_trans g h c.together.new.meter c.loop-group.invariant.1
+          (IsCharged_trans h k c.together.new.meter c.in_ok-around.ensures.meter c.in_ok-tree.ensures.meter),
+    )
+
 pub with_loop-requires : goal.with_loop-requires
 with_loop-requires t c =
     let few = c.requires.place.few in
@@ -125,8 +204,8 @@ with_loop-requires t c =
     let room = c.requires.room in
     omega (arith, few, high, room)
 
-pub together-requires : goal.together-requires
-together-requires t c =
+pub together-requires-in-loop-group : goal.together-requires-in-loop-group
+together-requires-in-loop-group t c =
     let g = c.args.meter.now in
     let h = c.loop-group.meter in
     let k = c.shared.new.meter in
@@ -192,10 +271,10 @@ loop-group-preserved t c =
     let tree_over = c.in_ok-for_loop.ensures.over h place.variables loop.over.low loop.over.high loop.over.positive loop.over.within
     body_over in (
       made_more g place c.args.items.items before c.loop-group.parts c.loop-group.invariant.0 group rest next p n c.requires.items
-          c.requires.low inner c.push-in-loop-group.new.self tree c.in_ok-push-2.ensures.ok lists
+          c.requires.low inner c.push-in-loop-group.new.self tree c.in_ok-push-3.ensures.ok lists
           (IsLoopOver-same h g place.variables tree (sym to_g) tree_over),
-      IsCharged_trans g h c.together.new.meter c.loop-group.invariant.1
-          (IsCharged_trans h k c.together.new.meter c.in_ok-around.ensures.meter c.in_ok-body.ensures.meter),
+      IsCharged_trans g h c.together-in-loop-group.new.meter c.loop-group.invariant.1
+          (IsCharged_trans h k c.together-in-loop-group.new.meter c.in_ok-around.ensures.meter c.in_ok-body.ensures.meter),
     )
 
 pub returns-clause-lists : goal.returns-clause-lists
@@ -213,7 +292,7 @@ returns-in_err-body-clause-meter t c =
     let g = c.args.meter.now in
     let h = c.loop-group.meter in
     let k = c.shared.new.meter in
-    let m = c.together.new.meter in
+    let m = c.together-in-loop-group.new.meter in
     let charged = IsCharged_trans g h k c.loop-group.invariant.1 c.in_ok-around.ensures.meter in
     let error = err_from_is_err_and c.from_residual-in_err-body.result c.from_residual-in_err-body.ensures.1 in
     rw (error.1, error.2) (IsCutBy-after g k m c.in_err-body.field-0.0 charged c.in_err-body.ensures.meter)
@@ -223,11 +302,21 @@ returns-in_err-for_loop-clause-meter t c =
     let g = c.args.meter.now in
     let h = c.loop-group.meter in
     let k = c.shared.new.meter in
-    let m = c.together.new.meter in
+    let m = c.together-in-loop-group.new.meter in
     let charged = IsCharged_trans g k m (IsCharged_trans g h k c.loop-group.invariant.1 c.in_ok-around.ensures.meter)
     c.in_ok-body.ensures.meter in
     let error = err_from_is_err_and c.from_residual-in_err-for_loop.result c.from_residual-in_err-for_loop.ensures.1 in
     rw (error.1, error.2) (IsCutBy-charged g m charged)
+
+pub returns-in_err-tree-clause-meter : goal.returns-in_err-tree-clause-meter
+returns-in_err-tree-clause-meter t c =
+    let g = c.args.meter.now in
+    let h = c.loop-group.meter in
+    let k = c.shared.new.meter in
+    let m = c.together.new.meter in
+    let charged = IsCharged_trans g h k c.loop-group.invariant.1 c.in_ok-around.ensures.meter in
+    let error = err_from_is_err_and c.from_residual-in_err-tree.result c.from_residual-in_err-tree.ensures.1 in
+    rw (error.1, error.2) (IsCutBy-after g k m c.in_err-tree.field-0.0 charged c.in_err-tree.ensures.meter)
 
 pub returns-in_err-push-2-clause-meter : goal.returns-in_err-push-2-clause-meter
 returns-in_err-push-2-clause-meter t c =
@@ -236,8 +325,19 @@ returns-in_err-push-2-clause-meter t c =
     let k = c.shared.new.meter in
     let m = c.together.new.meter in
     let charged = IsCharged_trans g k m (IsCharged_trans g h k c.loop-group.invariant.1 c.in_ok-around.ensures.meter)
-    c.in_ok-body.ensures.meter in
+    c.in_ok-tree.ensures.meter in
     let error = err_from_is_err_and c.from_residual-in_err-push-2.result c.from_residual-in_err-push-2.ensures.1 in
+    rw (error.1, error.2) (IsCutBy-charged g m charged)
+
+pub returns-in_err-push-3-clause-meter : goal.returns-in_err-push-3-clause-meter
+returns-in_err-push-3-clause-meter t c =
+    let g = c.args.meter.now in
+    let h = c.loop-group.meter in
+    let k = c.shared.new.meter in
+    let m = c.together-in-loop-group.new.meter in
+    let charged = IsCharged_trans g k m (IsCharged_trans g h k c.loop-group.invariant.1 c.in_ok-around.ensures.meter)
+    c.in_ok-body.ensures.meter in
+    let error = err_from_is_err_and c.from_residual-in_err-push-3.result c.from_residual-in_err-push-3.ensures.1 in
     rw (error.1, error.2) (IsCutBy-charged g m charged)
 
 pub one_by_one-requires-clause-apart : goal.one_by_one-requires-clause-apart
