@@ -6,7 +6,7 @@ use Rattle.std.specs.List.{All, AllPairs, AllZip, Any, Contains, zip}
 use Rattle.std.proofs.lemmas.Bool.{false≢true}
 use Rattle.std.proofs.lemmas.List.{length-drop, length-take-le, take-append-drop}
 use Rattle.std.proofs.lemmas.List.Elements.{All-append, All-cons, All-contains, All-head, All-nil, Contains-get_or}
-use Rattle.isl_math.proofs.ListLaws.{All-parts, All-zipped, Any-cases, Any-contains, Any-element, Any-first, Any-later, Any-unmapped}
+use Rattle.isl_math.proofs.ListLaws.{All-parts, All-unmapped, All-zipped, Any-cases, Any-contains, Any-element, Any-first, Any-later, Any-unmapped}
 use Rattle.isl_math.proofs.ListLaws.{Any-weaker, Any-zipped}
 use Rattle.isl_meter.specs.Gauge.{Gauge, IsCharged, IsCutBy, IsMetered}
 use Rattle.isl_meter.specs.declared.Cut.{Cut}
@@ -38,8 +38,8 @@ use Rattle.isl_schedule.specs.Schedule.{domain_form, time_form, IsPair, IsSchedu
 use Rattle.isl_schedule.proofs.CheckLaws.{nested_exact, shapes_exact}
 use Rattle.isl_calls.specs.declared.calls.Calls.{Calls}
 use Rattle.isl_calls.specs.Apart.{called_form, AreApartOf, AreEven, HoldsFor, IsPartOf, IsPlainWithin}
-use Rattle.isl_calls.specs.Calls.{numbers_behind, width_behind, AreCallsOf, AreOwnCalls, IsCalledAt, IsSetOf}
-use Rattle.isl_calls.specs.Laid.{IsLaidOut, IsSetForm}
+use Rattle.isl_calls.specs.Calls.{numbers_behind, width_behind, AreCallsOf, AreOwnCalls, IsCalledAt, IsSetForm, IsSetOf}
+use Rattle.isl_calls.specs.Laid.{IsLaidOut}
 
 -- ---- lists
 pub zipped_back : {A B : Type 0} (R : A → B → Type 0) (P : A → Type 0) (Q : B → Type 0) → ((a : A) (b : B) → R a b → Q b → P a)
@@ -281,7 +281,7 @@ module _ (g : Gauge) (value : KeptValue) (pieces : List PieceView) (are : map ke
             laid zipped (both.0 h)),
       )
 
-  module _ (made : List Calls) (apart : AreApartOf g laid made)
+  module _ (made : List Calls) (apart : AreApartOf g laid made) (sets : All (λ piece. IsSetForm piece.space) pieces → own ≡ true)
       (alone : (form : Form) (rows : List Row) → IsSetOf form rows value → AreOwnCalls form rows made) where
     origin : (a : Calls) → Contains made a → (c : Calls) × Contains laid c × IsPartOf g c a
     origin a h = Any-element (λ (c : Calls). IsPartOf g c a) laid
@@ -437,6 +437,9 @@ module _ (g : Gauge) (value : KeptValue) (pieces : List PieceView) (are : map ke
       };
       exact = made_called;
       once = made_once;
+      sets = λ all i d l. made_own (get_or made i d) (Contains-get_or made i d l)
+          ∙ sets (All-unmapped (λ (piece : KeptPiece). IsSetForm piece.space) kept_piece pieces
+          (subst (All (λ (piece : KeptPiece). IsSetForm piece.space)) (sym are) all));
       own = alone;
     }
 
@@ -503,6 +506,7 @@ calls_later g h value calls charged are = record {
   alike = are.alike;
   exact = are.exact;
   once = are.once;
+  sets = are.sets;
   own = are.own;
 }
 

@@ -25,9 +25,9 @@ use Rattle.isl_schedule.specs.Schedule.{domain_form, time_form, IsVisitedAt}
 use Rattle.isl_schedule.specs.Visits.{visit_blocks, visit_widths, AreVisitsOf, IsVisitOf, Visit}
 use Rattle.isl_schedule.specs.declared.visits.Visits.{Visits}
 use Rattle.isl_schedule.proofs.CheckLaws.{all_over}
-use Rattle.isl_calls.specs.Calls.{numbers_behind, IsCalledAt}
+use Rattle.isl_calls.specs.Calls.{numbers_behind, IsCalledAt, IsSetForm}
 use Rattle.isl_calls.specs.declared.calls.Calls.{Calls}
-use Rattle.isl_calls.specs.Laid.{IsLaidOut, IsOwnLaid, IsSetForm, IsTimedLaid}
+use Rattle.isl_calls.specs.Laid.{IsLaidOut, IsOwnLaid, IsTimedLaid}
 use Rattle.isl_calls.proofs.ZipLaws.{zip_through}
 
 set_apart : (x y z : Form) → set_of x ≡ map_of y z → ⊥

@@ -5,7 +5,7 @@ use Rattle.isl_space.specs.Form.{Form, width_of}
 use Rattle.isl_space.specs.Limits.{most_coordinates}
 use Rattle.isl_space.specs.Name.{Name}
 use Rattle.isl_space.specs.Shape.{form_of}
-use Rattle.isl_space.specs.SpaceForm.{set_of}
+use Rattle.isl_space.specs.SpaceForm.{SpaceForm, set_of, map_of}
 use Rattle.isl_space.specs.Valuation.{Valuation, values_of}
 use Rattle.isl_piece.specs.declared.row.Row.{Row}
 use Rattle.isl_piece.specs.System.{HoldsSystem, IsSystemWithin, free_columns}
@@ -49,6 +49,11 @@ pub record AreCalls (g : Gauge) (params : ℕ) (calls : Calls) : Type 0 where
   pub same : calls.is_own ≡ true → form_of calls.domain.value ≡ form_of calls.time.value
 
 -- ---- the calls of a value
+-- of a set
+abbrev pub IsSetForm : SpaceForm → Type 0
+IsSetForm (set_of form) = Unit {0}
+IsSetForm (map_of from to) = ⊥
+
 -- the value is one piece: the set of the form with these rows
 abbrev pub IsSetOf : Form → List Row → KeptValue → Type 0
 IsSetOf form rows value = value.pieces ≡ record { space = set_of form; definitions = []; rows = rows } ∷ []
@@ -66,7 +71,8 @@ pub record AreAlike (calls : List Calls) : Type 0 where
   pub times : All (λ a. All (λ b. form_of a.time.value ≡ form_of b.time.value) calls) calls
   pub layout : All (λ a. All (λ b. a.is_own ≡ b.is_own) calls) calls
 
--- at each valuation each point that is visited is called once, at its time, and nothing else is; of one set that is by its own rows
+-- At each valuation each point that is visited is called once, at its time, and nothing else is. Where all pieces are of sets, each point is
+-- its time; of one set that is by its own rows.
 pub record AreCallsOf (g : Gauge) (value : KeptValue) (calls : List Calls) : Type 0 where
   pub each : All (AreCalls g (length value.params)) calls
   pub alike : AreAlike calls
@@ -74,4 +80,5 @@ pub record AreCallsOf (g : Gauge) (value : KeptValue) (calls : List Calls) : Typ
       → Any (IsCalledAt value.params valuation x t) calls ↔ IsVisitedAt (Has value valuation) x t
   pub once : (valuation : Valuation) (x t : Point)
       → AllPairs (λ a b. IsCalledAt value.params valuation x t a → ¬ IsCalledAt value.params valuation x t b) calls
+  pub sets : All (λ piece. IsSetForm piece.space) value.pieces → All (λ c. c.is_own ≡ true) calls
   pub own : (form : Form) (rows : List Row) → IsSetOf form rows value → AreOwnCalls form rows calls

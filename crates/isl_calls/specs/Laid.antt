@@ -5,7 +5,6 @@ use Rattle.isl_meter.specs.Gauge.{Gauge}
 use Rattle.isl_space.specs.Form.{width_of}
 use Rattle.isl_space.specs.Name.{Name}
 use Rattle.isl_space.specs.Shape.{form_of}
-use Rattle.isl_space.specs.SpaceForm.{SpaceForm, set_of, map_of}
 use Rattle.isl_space.specs.Valuation.{Valuation}
 use Rattle.isl_piece.specs.Piece.{PieceView}
 use Rattle.isl_piece.specs.System.{IsSystemWithin, free_columns}
@@ -15,12 +14,8 @@ use Rattle.isl_relation.specs.Point.{Point}
 use Rattle.isl_schedule.specs.Schedule.{domain_form, time_form, IsVisitedAt}
 use Rattle.isl_schedule.specs.Visits.{IsVisitOf}
 use Rattle.isl_schedule.specs.declared.visits.Visits.{Visits}
-use Rattle.isl_calls.specs.Calls.{width_behind, IsCalledAt}
+use Rattle.isl_calls.specs.Calls.{width_behind, IsCalledAt, IsSetForm}
 use Rattle.isl_calls.specs.declared.calls.Calls.{Calls}
-
-abbrev pub IsSetForm : SpaceForm → Type 0
-IsSetForm (set_of form) = Unit {0}
-IsSetForm (map_of from to) = ⊥
 
 -- what the piece tells to be visited is called, in this layout; by the piece's own system where each point is its time
 pub record IsLaidOut (g : Gauge) (params : List Name) (is_own : Bool) (piece : PieceView) (calls : Calls) : Type 0 where

@@ -11,7 +11,8 @@ ghost use Rattle.isl_union.specs.Numbers.{AreWithinLimit};
 ghost use Rattle.isl_union.specs.Piece.{IsPieceOf};
 ghost use Rattle.isl_schedule.specs.Schedule.{domain_form};
 ghost use Rattle.isl_schedule.specs.Visits.{visit_widths};
-ghost use Rattle.isl_calls.specs.Laid.{AreLaidOut, IsOwnLaid, IsSetForm, IsTimedLaid};
+ghost use Rattle.isl_calls.specs.Calls.{IsSetForm};
+ghost use Rattle.isl_calls.specs.Laid.{AreLaidOut, IsOwnLaid, IsTimedLaid};
 
 use crate::Calls;
 use isl_blocks::spread;

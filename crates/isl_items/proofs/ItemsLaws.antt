@@ -1,5 +1,5 @@
 -- The items of a value.
-use Rattle.std.proofs.Common.{◌≡◌, ◌↔◌, refl, sym, ap, ◌∙◌, subst, arith, ℕ, zero, suc, ◌+◌, ◌<◌, ◌≤◌, Bool, List, [], ◌∷◌, length, get_or}
+use Rattle.std.proofs.Common.{◌≡◌, ◌↔◌, refl, sym, ap, ◌∙◌, subst, arith, ℕ, zero, suc, ◌+◌, ◌<◌, ◌≤◌, Bool, true, List, [], ◌∷◌, length, get_or}
 use Rattle.std.specs.List.{All, AllPairs, AllZip, Any}
 use Rattle.isl_math.proofs.ListLaws.{All-zipped, AllZip-weaker, Any-contains, Any-element, Any-zipped}
 use Rattle.isl_meter.specs.Gauge.{Gauge, IsCharged}
@@ -150,6 +150,8 @@ module _ (g : Gauge) (value : KeptValue) (calls : List Calls) (are : AreCallsOf 
         (λ c item r a. subst (λ k. k ≤ most_coordinates) (sym r.times) a.narrow.1) calls items zipped are.each;
     exact = items_exact;
     once = items_once;
+    sets = λ all. All-zipped (IsItemOf g n) (λ (c : Calls). c.is_own ≡ true) (λ item. item.levels ≡ item.times) (λ c item r e. r.own e) calls items
+        zipped (are.sets all);
     own = λ form rows set. only_item form rows (are.own form rows set);
   }
 

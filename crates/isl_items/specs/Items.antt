@@ -13,7 +13,7 @@ use Rattle.isl_nest.specs.Item.{IsCalledBehind}
 use Rattle.isl_nest.specs.declared.item.Item.{Item}
 use Rattle.isl_relation.specs.Point.{Point}
 use Rattle.isl_union.specs.KeptValue.{KeptValue, Has}
-use Rattle.isl_calls.specs.Calls.{IsCalledAt, IsSetOf}
+use Rattle.isl_calls.specs.Calls.{IsCalledAt, IsSetForm, IsSetOf}
 use Rattle.isl_calls.specs.declared.calls.Calls.{Calls}
 use Rattle.isl_due.specs.Due.{timed_call, IsDue}
 
@@ -30,7 +30,8 @@ pub record IsOnlyItem (levels : ℕ) (rows : List Row) (items : List Item) : Typ
   pub rows_are : item.rows ≡ rows
 
 -- Items over the parameters, with covers, whose times have as many numbers, and not too many. At each valuation they call what is due, and
--- nothing else; no two of them call the same at one time. Of one set there is one, with its rows.
+-- nothing else; no two of them call the same at one time. Where all pieces are of sets, items have no columns but the time's; of one set there
+-- is one, with its rows.
 pub record AreItemsOf (g : Gauge) (value : KeptValue) (items : List Item) : Type 0 where
   pub covered : All (IsCovered g) items
   pub params : All (λ item. item.params ≡ length value.params) items
@@ -39,6 +40,7 @@ pub record AreItemsOf (g : Gauge) (value : KeptValue) (items : List Item) : Type
   pub exact : (valuation : Valuation) (timed : Timed) → Any (CallsAt value.params valuation timed) items ↔ IsDue (Has value valuation) timed
   pub once : (valuation : Valuation) (timed : Timed)
       → AllPairs (λ a b. CallsAt value.params valuation timed a → ¬ CallsAt value.params valuation timed b) items
+  pub sets : All (λ piece. IsSetForm piece.space) value.pieces → All (λ item. item.levels ≡ item.times) items
   pub own : (form : Form) (rows : List Row) → IsSetOf form rows value → IsOnlyItem (width_of form) rows items
 
 -- ---- one item

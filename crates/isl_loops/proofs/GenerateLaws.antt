@@ -62,6 +62,7 @@ module _ (g : Gauge) (value : KeptValue) (items : List Item) (are : AreItemsOf g
     narrow = are.narrow;
     exact = are.exact;
     once = are.once;
+    sets = are.sets;
     own = are.own;
   }
 

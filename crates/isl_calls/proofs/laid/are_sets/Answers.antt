@@ -2,7 +2,7 @@ use Rattle.std.proofs.Common.{◌≡◌, ◌<◌, ◌≤◌, true, false, arith,
 use Rattle.std.proofs.lemmas.Grind.{common_steps}
 use Rattle.isl_piece.specs.Piece.{PieceView}
 use Rattle.isl_difference.proofs.BoundLaws.{all_found, not_so, one_all, one_missed}
-use Rattle.isl_calls.specs.Laid.{IsSetForm}
+use Rattle.isl_calls.specs.Calls.{IsSetForm}
 use Rattle.isl_calls.proofs.laid.are_sets.Goals as goal
 
 pub loop-piece-preserved : goal.loop-piece-preserved

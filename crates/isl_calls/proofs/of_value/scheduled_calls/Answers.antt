@@ -48,7 +48,7 @@ returns-then-len-le1 c =
     let few : length calls ≤ 1 = grind (arith, common_steps) in
     let plain = laid_plain g value pieces are laid.is_own calls laid.each c.requires.schedule list.distinct c.pieces.ensures.well_formed in (
       calls_made g value pieces are laid.is_own calls laid.each c.requires.schedule list.distinct c.pieces.ensures.well_formed calls
-          (apart_alone g calls few plain)
+          (apart_alone g calls few plain) laid.sets
           (λ form rows set. own_alone g value.params laid.is_own form rows pieces calls (are ∙ set) laid.each laid.sets),
       IsCharged_refl g g refl,
     )
@@ -66,7 +66,7 @@ returns c =
     let several : 1 < length all = grind (arith, common_steps) in
     answered (λ calls. AreApartOf g all calls.items) (λ calls. AreCallsOf g value calls.items) g c.apart.new.meter c.apart.result
     (λ calls apart_are. calls_made g value pieces are laid.is_own all laid.each c.requires.schedule list.distinct c.pieces.ensures.well_formed
-    calls.items apart_are
+    calls.items apart_are laid.sets
     (λ form rows set. absurd (
     let own = own_alone g value.params laid.is_own form rows pieces all (are ∙ set) laid.each laid.sets in
     let one = ap length own.only in
