@@ -6,7 +6,7 @@ use Rattle.isl_piece.specs.declared.definition.Definition.{Definition}
 use Rattle.isl_piece.specs.declared.row.Row.{Row}
 use Rattle.isl_piece.specs.declared.system.System.{System}
 use Rattle.isl_piece.specs.Normal.{IsNormal}
-use Rattle.isl_piece.specs.System.{HoldsSystem, free_columns}
+use Rattle.isl_piece.specs.System.{HoldsSystem, IsSystemWithin, free_columns}
 use Rattle.isl_column.specs.Column.{HoldAtAny}
 use Rattle.isl_omega.specs.Column.{IsProper}
 
@@ -40,6 +40,14 @@ system_of columns definitions rows = record { columns = columns; definitions = d
 -- some of the systems holds at the point
 abbrev pub HoldsAtAny : List System → List ℤ → Type 0
 HoldsAtAny systems point = Any (λ s. HoldsSystem s point) systems
+
+-- a system over the same columns with the same definitions, which holds at the same points
+pub record IsReducedSystem (g : Gauge) (old new : System) : Type 0 where
+  pub within : IsSystemWithin g new
+  pub columns : new.columns ≡ old.columns
+  pub definitions : new.definitions ≡ old.definitions
+  pub normal : IsNormal old.rows → IsNormal new.rows
+  pub points : (point : List ℤ) → HoldsSystem new point ↔ HoldsSystem old point
 
 -- the new systems have the free columns of the old one without `col`, and some of them holds at a point exactly where some whole number
 -- put at `col` makes the old one hold

@@ -1,17 +1,19 @@
 //! Several columns out of rows together.
 
 ghost use Rattle.std.specs.Prelude.{◌≡◌, ◌≢◌, ◌<◌, ◌≤◌, ◌+◌, ℕ, ℤ, List, [], All, AllPairs, IfOk, MatchOption, MatchResult, length};
-ghost use Rattle.isl_meter.specs.Gauge.{IsCharged, IsCutBy};
+ghost use Rattle.isl_meter.specs.Gauge.{IsCharged, IsCutBy, IsDone};
 ghost use Rattle.isl_piece.specs.Normal.{IsNormal};
 ghost use Rattle.isl_piece.specs.System.{HoldRows};
 ghost use Rattle.isl_omega.specs.Column.{IsProper};
-ghost use Rattle.isl_redundant.specs.Redundant.{IsReduced};
 ghost use Rattle.isl_elim.specs.Elimination.{AddsAlong};
+ghost use Rattle.isl_elim.specs.Emptiness.{HoldNowhere};
+ghost use Rattle.isl_elim.specs.Fixed.{HoldAlike};
 ghost use Rattle.isl_elim.specs.Others.{others_of};
 ghost use Rattle.isl_column.specs.Parts.{AreParts, HoldsPart, head_count};
 
 use crate::choice::{add_many_rows, cheapest};
 use crate::emptiness::hold_nowhere;
+use crate::fixed::with_fixed;
 use isl_column::Parts;
 use isl_meter::{Cut, Meter};
 use isl_omega::column::Column;
@@ -38,23 +40,29 @@ fn others(alloc: Global, cols: &[usize], col: usize) -> Result<Vec<usize>, Alloc
     Ok(left)
 }
 
-// The rows, without some that the others imply where many pairs of them come next; none where they are seen to hold nowhere.
+// Normal rows that hold at the same points: where a congruence and bounds leave one number at a column they say so, and where many pairs
+// of bounds come next some are gone that the others imply; none where they are seen to hold nowhere.
 #[tactic(auto, using(std::proofs::lemmas::Grind::common_steps, crate::proofs::FewerLaws::fewer_steps))]
-fn fewer(
+fn simpler(
     alloc: Global,
     rows: Rows,
     columns: usize,
     cols: &[usize],
-    meter: &Meter,
-) -> Result<Option<Rows>, AllocError>
-    requires rows { All (IsProper meter.now columns) rows }
-    ensures { IfOk result (λ found. MatchOption found ((point : List ℤ) → ¬ HoldRows rows point) (IsReduced columns rows)) }
+    meter: &mut Meter,
+) -> Result<Option<Rows>, Cut>
+    requires rows { All (IsProper meter.old columns) rows }
+    requires normal { IsNormal rows }
+    ensures { IsDone meter.old meter.new
+        (λ found. MatchOption found (HoldNowhere columns rows) (HoldAlike meter.old columns rows)) result }
 {
-    if add_many_rows(rows.as_slice(), cols) {
-        without_redundant(alloc, rows, columns, meter)
-    } else {
-        Ok(Some(rows))
+    let Some(fixed) = with_fixed(alloc, rows, columns, meter)? else {
+        return Ok(None);
+    };
+    if !add_many_rows(fixed.as_slice(), cols) {
+        return Ok(Some(fixed));
     }
+    let few = without_redundant(alloc, fixed, columns, meter)?;
+    Ok(few)
 }
 
 // Pushes what is left of the rows without the columns.
@@ -81,7 +89,7 @@ fn push_without(
         lists.push(rows)?;
         return Ok(());
     }
-    let Some(few) = fewer(alloc, rows, columns, cols, meter)? else {
+    let Some(few) = simpler(alloc, rows, columns, cols, meter)? else {
         return Ok(());
     };
     let at = cheapest(few.as_slice(), cols);

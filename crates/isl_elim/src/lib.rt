@@ -19,5 +19,5 @@ mod shear;
 pub use columns::columns_between;
 pub use emptiness::is_empty;
 pub use flat::flatten;
-pub use projection::{eliminate, eliminate_all};
+pub use projection::{eliminate, eliminate_all, with_fewer_rows};
 pub use sample::sample_point;

@@ -1,25 +1,28 @@
 //! Columns out of a system: its projections.
 
-ghost use Rattle.std.specs.Prelude.{◌≡◌, ◌≢◌, ◌<◌, ◌-◌, ◌+◌, ◌≤◌, ◌≤ℤ◌, ◌+ℤ◌, [], ◌∷◌, pos, length, ℕ, All, AllPairs, map, IfOk, MatchResult, option_to_list};
+ghost use Rattle.std.specs.Prelude.{◌≡◌, ◌≢◌, ◌<◌, ◌-◌, ◌+◌, ◌≤◌, ◌≤ℤ◌, ◌+ℤ◌, [], ◌∷◌, pos, length, ℕ, All, AllPairs, map, IfOk, MatchOption, MatchResult, option_to_list};
 ghost use Rattle.isl_meter.specs.Gauge.{IsCharged, IsCutBy, IsMetered};
 ghost use Rattle.isl_piece.specs.Normal.{IsNormal};
-ghost use Rattle.isl_piece.specs.System.{HoldRows, IsSystemWithin, free_columns};
+ghost use Rattle.isl_piece.specs.System.{HoldRows, HoldsSystem, IsSystemWithin, free_columns};
 ghost use Rattle.isl_column.specs.Exact.{IsExactColumn, exact_rows};
 ghost use Rattle.isl_column.specs.Magnitude.{HaveSmallNumbers, HaveOneCongruence};
 ghost use Rattle.isl_column.specs.Solved.{solved_rows};
 ghost use Rattle.isl_column.specs.Units.{elimination_units};
 ghost use Rattle.isl_omega.specs.Equality.{HasEquality};
 ghost use Rattle.isl_elim.specs.Dependents.{dependents, kept_definitions, with_dependents};
-ghost use Rattle.isl_elim.specs.Elimination.{AddsAlong, IsProjection, IsProjectionAlong, system_of};
+ghost use Rattle.isl_elim.specs.Elimination.{AddsAlong, IsProjection, IsProjectionAlong, IsReducedSystem, system_of};
 ghost use Rattle.isl_elim.specs.Opened.{opened_rows};
+ghost use Rattle.isl_elim.specs.Sample.{IsNowhere};
 
 use crate::along::rows_without;
+use crate::choice::add_many_rows;
 use crate::dependents::{columns_left, with_dependents};
 use crate::opened::opened_rows;
 use isl_column::eliminate_rows;
 use isl_meter::{Cut, Meter};
 use isl_omega::column::Column;
 use isl_piece::{Rows, System};
+use isl_redundant::without_redundant;
 use std::alloc::{AllocError, Global};
 
 /// The systems of the rows, over the columns and with the definitions of `left`.
@@ -148,4 +151,33 @@ pub fn eliminate_all(
     let lists = lists_left(alloc, system, gone.as_slice(), meter)?;
     let systems = systems_of(alloc, lists, &left)?;
     Ok(systems)
+}
+
+/// The system without some rows that its others imply, where one free column goes next and has many pairs of bounds; none where it is
+/// seen to hold nowhere. No unit is used. Of several columns elimination asks this itself.
+///
+/// # Errors
+///
+/// `AllocError` where memory ends.
+#[tactic(auto, using(std::proofs::lemmas::Grind::common_steps, crate::proofs::FewerLaws::system_steps))]
+pub fn with_fewer_rows(
+    alloc: Global,
+    system: &System,
+    cols: &[usize],
+    meter: &Meter,
+) -> Result<Option<System>, AllocError>
+    requires well_formed { IsSystemWithin meter.now system.now }
+    ensures { IfOk result (λ found. MatchOption found (IsNowhere (free_columns system.now) (HoldsSystem system.now))
+        (IsReducedSystem meter.now system.now)) }
+{
+    if cols.len() != 1 || !add_many_rows(system.rows.as_slice(), cols) {
+        let same = system.copy(alloc)?;
+        return Ok(Some(same));
+    }
+    let rows = system.rows.copy(alloc)?;
+    let Some(few) = without_redundant(alloc, rows, system.columns, meter)? else {
+        return Ok(None);
+    };
+    let definitions = system.definitions.copy(alloc)?;
+    Ok(Some(System::over(system.columns, definitions, few)))
 }

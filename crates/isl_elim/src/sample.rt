@@ -11,6 +11,7 @@ ghost use Rattle.isl_column.specs.Parts.{AreParts, HoldsPart};
 ghost use Rattle.isl_elim.specs.Sample.{IsSample, IsNowhere};
 
 use crate::choice::any_column;
+use crate::fixed::with_fixed;
 use crate::line::tries_at;
 use crate::opened::opened;
 use isl_column::Parts;
@@ -49,10 +50,10 @@ fn completed(
     }
 }
 
-// A point at which the rows hold.
+// A point at which the rows hold: one column after another.
 #[cycle(sample)]
 #[tactic(auto, using(crate::proofs::SampleLaws::sample_steps))]
-pub(crate) fn sample_rows(
+fn sample_columns(
     alloc: Global,
     rows: &Rows,
     columns: usize,
@@ -80,6 +81,28 @@ pub(crate) fn sample_rows(
     }
 }
 
+// A point at which the rows hold. Where a congruence and bounds leave one number at a column, it is put there.
+#[cycle(sample)]
+#[tactic(auto, using(crate::proofs::SampleLaws::sample_steps))]
+fn sample_rows(
+    alloc: Global,
+    rows: Rows,
+    columns: usize,
+    meter: &mut Meter,
+) -> Result<Option<Vec<i128>>, Cut>
+    requires rows { All (IsProper meter.old columns) rows }
+    requires normal { IsNormal rows }
+    ensures exact { MatchResult result
+        (λ sample. MatchOption sample (IsNowhere columns (HoldRows rows)) (λ point. IsSample meter.old columns (HoldRows rows) point.items)
+        × IsCharged meter.old meter.new)
+        (IsCutBy meter.old meter.new) }
+{
+    match with_fixed(alloc, rows, columns, meter)? {
+        None => Ok(None),
+        Some(fixed) => sample_columns(alloc, &fixed, columns, meter),
+    }
+}
+
 // A point at which some of the parts holds.
 #[cycle(sample)]
 #[tactic(auto, using(crate::proofs::SampleLaws::sample_steps))]
@@ -96,7 +119,7 @@ fn sample_parts(
         (IsCutBy meter.old meter.new) }
 {
     while let Some(rows) = parts.next(alloc, columns, meter)? {
-        if let Some(point) = sample_rows(alloc, &rows, columns, meter)? {
+        if let Some(point) = sample_rows(alloc, rows, columns, meter)? {
             return Ok(Some(point));
         }
     }
@@ -124,7 +147,7 @@ pub fn sample_point(
     let Some(rows) = opened(alloc, system, meter)? else {
         return Ok(None);
     };
-    match sample_rows(alloc, &rows, system.columns, meter)? {
+    match sample_rows(alloc, rows, system.columns, meter)? {
         None => Ok(None),
         Some(whole) => {
             let mut point = whole;

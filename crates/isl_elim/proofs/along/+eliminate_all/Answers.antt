@@ -5,11 +5,10 @@ use Rattle.isl_meter.proofs.CutLemmas.{IsCharged_refl, IsCharged_trans}
 use Rattle.isl_elim.specs.Others.{others_of}
 use Rattle.isl_column.specs.Parts.{AreParts, ArePartsOf, HoldsPart}
 use Rattle.isl_elim.proofs.OthersLaws.{among, among_at}
-use Rattle.isl_piece.specs.System.{HoldRows}
-use Rattle.isl_redundant.specs.Redundant.{IsReduced}
-use Rattle.isl_elim.proofs.AlongLaws.{along_none, along_false, along_after, along_nowhere, along_charged, columns_after}
+use Rattle.isl_elim.specs.Fixed.{HoldAlike}
+use Rattle.isl_elim.proofs.AlongLaws.{along_none, along_after, along_nowhere, along_charged, columns_after}
 use Rattle.isl_elim.proofs.AlongLaws.{pushed_all, one_more, counted_after, counted_charged}
-use Rattle.isl_elim.proofs.FewerLaws.{along_fewer, proper_fewer}
+use Rattle.isl_elim.proofs.FewerLaws.{along_alike}
 use Rattle.isl_elim.specs.Emptiness.{HoldNowhere}
 use Rattle.isl_elim.proofs.PartsLaws.{parts_after}
 use Rattle.isl_elim.proofs.along.+eliminate_all.Goals as goal
@@ -48,29 +47,31 @@ push_without-returns-then-is_empty t c =
 pub push_without-returns-in_default : goal.push_without-returns-in_default
 push_without-returns-in_default t c =
     let g = c.args.meter.now in
-    let items = c.args.lists.now.items in
-    let none : (point : List ℤ) → ¬ HoldRows c.args.rows point = rw c.in_default.is at c.in_ok-few.ensures in
+    let same : c.simpler.new.meter ≡ g = grind arith in
+    let none : HoldNowhere c.args.columns c.args.rows = rw c.in_default.is at c.in_ok-few.ensures.0 in
     record {
-      exact = (along_false g c.args.columns c.args.cols.now c.args.rows items items refl none, IsCharged_refl g g refl);
-      counted = omega arith;
+      exact = rw same (along_nowhere g c.args.columns c.args.cols.now c.args.rows c.args.lists.now.items none, IsCharged_refl g g refl);
+      counted = rw same (omega arith);
     }
 
 pub push_without-of-requires : goal.push_without-of-requires
 push_without-of-requires t c =
     let g = c.args.meter.now in
+    let same : c.simpler.new.meter ≡ g = grind arith in
     let few = c.in-Some.few in
-    let is : IsReduced c.args.columns c.args.rows few = rw c.in-Some.is at c.in_ok-few.ensures in
+    let is : HoldAlike g c.args.columns c.args.rows few = rw c.in-Some.is at c.in_ok-few.ensures.0 in
     let slice : c.as_slice-2.result.now ≡ few = grind arith in
-    record { rows = rw slice (proper_fewer g c.args.columns c.args.rows few is c.requires.rows) }
+    record { rows = rw (same, slice) is.proper }
 
 pub push_without-returns : goal.push_without-returns
 push_without-returns t c =
     let g = c.args.meter.now in
+    let same : c.simpler.new.meter ≡ g = grind arith in
     let h = c.of.new.meter in
     let cols = c.args.cols.now in
     let rows = c.args.rows in
     let few = c.in-Some.few in
-    let is : IsReduced c.args.columns rows few = rw c.in-Some.is at c.in_ok-few.ensures in
+    let is : HoldAlike g c.args.columns rows few = rw c.in-Some.is at c.in_ok-few.ensures.0 in
     let at = c.cheapest-at.result in
     let col = get_or cols at 0 in
     let inside : at < length cols = grind arith in
@@ -83,7 +84,7 @@ push_without-returns t c =
     let new = c.push_parts.new.lists.items in
     let k = c.push_parts.new.meter in
     record {
-      exact = along_fewer g k c.args.columns cols rows few old new c.push_parts.result is
+      exact = along_alike g k c.args.columns cols rows few old new c.push_parts.result is
           (along_after g h k c.args.columns col cols few c.in_ok-parts.parts old new c.push_parts.result c.requires.distinct among low charged
           are (rw slice at c.push_parts.ensures.exact));
       counted = counted_after g h k c.in_ok-parts.parts old new c.push_parts.result charged c.push_parts.ensures.counted;
@@ -92,6 +93,7 @@ push_without-returns t c =
 pub push_without-push_parts-requires : goal.push_without-push_parts-requires
 push_without-push_parts-requires t c =
     let g = c.args.meter.now in
+    let same : c.simpler.new.meter ≡ g = grind arith in
     let h = c.of.new.meter in
     let cols = c.args.cols.now in
     let at = c.cheapest-at.result in
@@ -99,8 +101,9 @@ push_without-push_parts-requires t c =
     let inside : at < length cols = grind arith in
     let low = c.requires.cols_in at 0 inside in
     let are : ArePartsOf g c.args.columns col c.in-Some.few c.in_ok-parts.parts = grind arith in
+    let charged : IsCharged g h = grind arith in
     let parts : AreParts h (c.args.columns - 1) c.in_ok-parts.parts =
-    parts_after g h c.args.columns col c.in-Some.few c.in_ok-parts.parts c.in_ok-parts.ensures.exact.1 are in
+    parts_after g h c.args.columns col c.in-Some.few c.in_ok-parts.parts charged are in
     let slice : c.as_slice-3.result.now ≡ others_of col cols = grind arith in
     let left = columns_after c.args.columns col cols c.as_slice-3.result.now slice c.requires.distinct low c.requires.cols_in in
     (grind arith, (parts, left))

@@ -4,14 +4,16 @@ use Rattle.isl_meter.specs.Gauge.{IsCharged}
 use Rattle.isl_meter.proofs.CutLemmas.{IsCharged_refl, IsCharged_trans}
 use Rattle.isl_piece.specs.System.{HoldRows}
 use Rattle.isl_column.specs.Parts.{AreParts, ArePartsOf, AreNone, HoldsPart}
+use Rattle.isl_elim.specs.Fixed.{HoldAlike}
 use Rattle.isl_elim.specs.Sample.{IsSample, IsNowhere}
 use Rattle.isl_elim.proofs.EmptinessLaws.{some_column, so_far_next}
+use Rattle.isl_elim.proofs.FewerLaws.{sample_alike}
 use Rattle.isl_elim.proofs.PartsLaws.{part_found, parts_after}
 use Rattle.isl_elim.proofs.SampleLaws.{none_sample, none_sampled, some_sampled, parts_none}
 use Rattle.isl_elim.proofs.sample.+sample.Goals as goal
 
-pub sample_rows-returns-then-is_empty : goal.sample_rows-returns-then-is_empty
-sample_rows-returns-then-is_empty t c =
+pub sample_columns-returns-then-is_empty : goal.sample_columns-returns-then-is_empty
+sample_columns-returns-then-is_empty t c =
     let g = c.args.meter.now in
     let none : c.args.rows.now ≡ [] = grind arith in
     let zeros : c.in_ok-zeros.zeros.items ≡ replicate c.args.columns (pos 0) = grind arith in
@@ -19,13 +21,13 @@ sample_rows-returns-then-is_empty t c =
       exact = (none_sample g c.args.columns c.args.rows.now c.in_ok-zeros.zeros.items none zeros, IsCharged_refl g g refl);
     }
 
-pub sample_rows-any_column-col-requires : goal.sample_rows-any_column-col-requires
-sample_rows-any_column-col-requires t c =
+pub sample_columns-any_column-col-requires : goal.sample_columns-any_column-col-requires
+sample_columns-any_column-col-requires t c =
     let some : c.args.rows.now ≢ [] = grind arith in
     some_column c.args.meter.now c.args.columns c.args.rows.now c.requires.rows c.requires.normal some
 
-pub sample_rows-returns-in-None : goal.sample_rows-returns-in-None
-sample_rows-returns-in-None t c =
+pub sample_columns-returns-in-None : goal.sample_columns-returns-in-None
+sample_columns-returns-in-None t c =
     let g = c.args.meter.now in
     let h = c.of.new.meter in
     let k = c.sample_parts.new.meter in
@@ -82,8 +84,8 @@ sample_parts-returns t c =
           c.in_ok-rows.ensures.exact.1;
     }
 
-pub sample_rows-sample_parts-requires : goal.sample_rows-sample_parts-requires
-sample_rows-sample_parts-requires t c =
+pub sample_columns-sample_parts-requires : goal.sample_columns-sample_parts-requires
+sample_columns-sample_parts-requires t c =
     let g = c.args.meter.now in
     let h = c.of.new.meter in
     let col = c.any_column-col.result in
@@ -91,3 +93,22 @@ sample_rows-sample_parts-requires t c =
     let parts : AreParts h (c.args.columns - 1) c.in_ok-parts.parts =
     parts_after g h c.args.columns col c.args.rows.now c.in_ok-parts.parts c.in_ok-parts.ensures.exact.1 are in
     (grind arith, parts)
+
+pub sample_rows-sample_columns-requires : goal.sample_rows-sample_columns-requires
+sample_rows-sample_columns-requires t c =
+    let g = c.args.meter.now in
+    let same : c.with_fixed.new.meter ≡ g = grind arith in
+    let alike : HoldAlike g c.args.columns c.args.rows c.in-Some.fixed = rw c.in-Some.is at c.in_ok-with_fixed.ensures.0 in
+    (grind arith, (rw same alike.proper, alike.normal))
+
+pub sample_rows-returns-in-Some : goal.sample_rows-returns-in-Some
+sample_rows-returns-in-Some t c =
+    let g = c.args.meter.now in
+    let h = c.sample_columns.new.meter in
+    let same : c.with_fixed.new.meter ≡ g = grind arith in
+    let fixed = c.in-Some.fixed in
+    let alike : HoldAlike g c.args.columns c.args.rows fixed = rw c.in-Some.is at c.in_ok-with_fixed.ensures.0 in
+    record {
+      exact = sample_alike (λ v. v.items) g h c.args.columns c.args.rows fixed c.sample_columns.result alike
+          (rw same at c.sample_columns.ensures.exact);
+    }
