@@ -20,6 +20,7 @@ use Rattle.isl_piece.specs.declared.system.System.{System}
 use Rattle.isl_piece.specs.Row.{HoldsRow, IsWellFormed, IsRowWithin}
 use Rattle.isl_piece.specs.System.{HoldsSystem, IsSystemWithin, free_columns}
 use Rattle.isl_elim.specs.Elimination.{HoldsAtAny, HoldsAlong, IsProjectionAlong, without}
+use Rattle.isl_elim.specs.Sample.{IsNowhere}
 use Rattle.isl_elim.proofs.RangeLaws.{without_behind, range_distinct, range_below}
 use Rattle.isl_elim.proofs.PartsLaws.{charged_bits}
 use Rattle.isl_tree.specs.Divisors.{HasDivisors, term_divisors}
@@ -283,6 +284,23 @@ projected_none g outer inner new e = rw e (record {
     (λ h. absurd (Any-none (λ (s : System). HoldsSystem s (point ++ h.0)) h.2)),
   );
 })
+
+-- a system that holds nowhere leaves none
+pub projected_nowhere : (g : Gauge) (outer inner : Scope) (s : System) → IsOver g inner s → IsNowhere (free_columns s) (HoldsSystem s)
+    → AreProjected g g outer inner (s ∷ []) []
+projected_nowhere g outer inner s o none = record {
+  charged = IsCharged_refl g g refl;
+  over = All-nil (IsOver g outer);
+  counted = omega arith;
+  points = λ point l. (
+    (λ h. absurd (Any-none (λ (t : System). HoldsSystem t point) h)),
+    (λ h.
+        let long = h.1 in
+        let sum = length-append point h.0 in
+        let free = o.columns in
+        absurd (none (point ++ h.0) (omega (arith, long, sum, free)) (Any-one (λ (t : System). HoldsSystem t (point ++ h.0)) s h.2))),
+  );
+}
 
 pub projected_more : (g h k : Gauge) (outer inner : Scope) (systems : List System) (i : ℕ) (s : System) (new more newer : List System)
     → i < length systems → s ≡ get_or systems i s → newer ≡ new ++ more → AreProjected g h outer inner (take i systems) new

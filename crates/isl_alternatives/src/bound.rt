@@ -11,7 +11,7 @@ ghost use Rattle.isl_alternatives.specs.Known.{AreBindersKnown};
 ghost use Rattle.isl_alternatives.specs.Restricted.{IsOver, IsBodyOf, AreProjected, MatchesValue};
 
 use isl_affine::{Scope, with_entry};
-use isl_elim::{columns_between, eliminate_all};
+use isl_elim::{columns_between, eliminate_all, with_fewer_rows};
 use isl_meter::{Cut, Meter};
 use isl_piece::System;
 use isl_tree::tree::Binder;
@@ -95,7 +95,10 @@ pub(crate) fn projected(
     let columns = columns_between(alloc, outer.len(), inner.len())?;
     let mut found = Vec::new(alloc);
     for system in systems {
-        let mut more = eliminate_all(alloc, system, columns.as_slice(), meter)?;
+        let Some(few) = with_fewer_rows(alloc, system, columns.as_slice(), meter)? else {
+            continue;
+        };
+        let mut more = eliminate_all(alloc, &few, columns.as_slice(), meter)?;
         found.append(&mut more)?;
     }
     Ok(found)
