@@ -1,8 +1,11 @@
 -- Exact numbers of units, one call after another.
-use Rattle.std.proofs.Common.{◌≡◌, ◌∙◌, refl, ap, arith, ℕ, zero, suc, ◌+◌, ◌*◌, pos}
+use Rattle.std.proofs.Common.{◌≡◌, ◌≢◌, ◌∙◌, refl, ap, arith, ℕ, zero, suc, ◌+◌, ◌*◌, pos, Result, Ok, Err}
 use Rattle.isl_math.proofs.Ring.{linear}
-use Rattle.isl_meter.specs.Gauge.{Gauge, IsChargedUpTo}
-use Rattle.isl_omega.specs.Units.{paid}
+use Rattle.isl_meter.specs.declared.Cut.{Cut}
+use Rattle.isl_meter.specs.declared.Cut.TheVariants.{Overflow, Budget, NoMemory}
+use Rattle.isl_meter.specs.Gauge.{Gauge, IsChargedUpTo, IsCutUpTo, IsDone, IsAnsweredWithin}
+use Rattle.isl_meter.proofs.CutLemmas.{IsAnsweredWithin-ok}
+use Rattle.isl_omega.specs.Units.{paid, IsDoneFor, IsAnsweredFor}
 
 pub charged_none : (n : ℕ) (g h : Gauge) → n ≡ 0 → h ≡ g → h ≡ paid n g
 charged_none n g h z e = e ∙ by g.units n z
@@ -36,3 +39,27 @@ charged_share_for m n u g h k p q = charged_sum (m * u) (n * u) g h k p q ∙ ap
     by : (m n u : ℕ) → m * u + n * u ≡ (m + n) * u
     by zero n u = omega arith
     by (suc m) n u = let r = by m n u in omega arith
+
+-- ---- answers within so many units
+pub answered_ok : {A : Type 0} (n : ℕ) (g k : Gauge) (value : A) → k ≡ paid n g → IsAnsweredWithin n g k (Ok value)
+answered_ok n g k value e = IsAnsweredWithin-ok g k n value (let u = ap (λ (x : Gauge). x.units) e in omega arith)
+
+-- ---- one unit more than work may use
+-- where it is left, work does not end for want of units
+pub answered_cut : {A : Type 0} (n : ℕ) (g k : Gauge) (cut : Cut) → IsCutUpTo (pos n) g k cut → cut ≢ Overflow
+    → IsAnsweredWithin {A = A} (n + 1) g k (Err cut)
+answered_cut n g k Overflow p few = absurd (few refl)
+answered_cut n g k Budget p few = record {
+  units = let m = p.most in omega (arith, linear);
+  answered = λ left. absurd (let m = p.most in let same = p.by.kept.budget in let spent = p.by.cause.0 in omega (arith, linear));
+}
+answered_cut n g k NoMemory p few = record { units = let m = p.most in omega (arith, linear); answered = λ left. refl }
+
+pub answered_done : {A : Type 0} (g k : Gauge) (P : A → Type 0) (result : Result A Cut) → IsDone g k P result → IsAnsweredFor 1 g k result
+answered_done g k P (Ok value) d = λ few. IsAnsweredWithin-ok g k 1 value (let u = ap (λ (x : Gauge). x.units) d.1 in omega arith)
+answered_done g k P (Err cut) d = λ few. answered_cut 0 g k cut d few
+
+pub answered_paid : {A : Type 0} (n : ℕ) (g k : Gauge) (P : A → Type 0) (result : Result A Cut) → IsDoneFor n g k P result
+    → IsAnsweredFor (n + 1) g k result
+answered_paid n g k P (Ok value) d = λ few. IsAnsweredWithin-ok g k (n + 1) value (let u = ap (λ (x : Gauge). x.units) d.1 in omega arith)
+answered_paid n g k P (Err cut) d = λ few. answered_cut n g k cut d few

@@ -1,9 +1,10 @@
 -- How large the numbers of rows are.
 use Rattle.std.proofs.Common.{arith, ℕ, zero, suc, ◌≤◌, ℤ, pos, List, [], ◌∷◌, get_or, unsigned_abs}
 use Rattle.std.specs.List.{All}
-use Rattle.std.proofs.lemmas.List.Elements.{All-head, All-tail}
+use Rattle.std.proofs.lemmas.List.Elements.{All-head, All-tail, All-weaker}
 use Rattle.isl_piece.specs.declared.row.Row.{Row}
 use Rattle.isl_piece.specs.Row.{IsRowUpTo, coef_at}
+use Rattle.isl_omega.specs.Magnitude.{IsRowUpToAt}
 
 -- ---- more room
 pub at_most : (x y n : ℕ) → x ≤ y → y ≤ n → x ≤ n
@@ -17,3 +18,10 @@ get_up_to b (x ∷ xs) (suc k) h = get_up_to b xs k (All-tail (λ z. unsigned_ab
 
 pub coef_up_to : (b : ℕ) (r : Row) (col : ℕ) → IsRowUpTo b r → unsigned_abs (coef_at r col) ≤ b
 coef_up_to b r col h = get_up_to b r.coefs col h.coefs
+
+-- a bound on all numbers is one on the coefficient at a column
+pub row_up_to_at : (b col : ℕ) (r : Row) → IsRowUpTo b r → IsRowUpToAt col b b r
+row_up_to_at b col r h = record { factor = coef_up_to b r col h; numbers = h }
+
+pub rows_up_to_at : (b col : ℕ) (rows : List Row) → All (IsRowUpTo b) rows → All (IsRowUpToAt col b b) rows
+rows_up_to_at b col rows h = All-weaker (IsRowUpTo b) (IsRowUpToAt col b b) (λ r p. row_up_to_at b col r p) rows h

@@ -1,9 +1,10 @@
 -- public: how large the numbers become.
-use Rattle.std.specs.Prelude.{◌≢◌, ◌^◌, ℕ, All, Result, MatchResult}
+use Rattle.std.specs.Prelude.{◌≢◌, ◌^◌, ◌≤◌, ℕ, All, Result, MatchResult, unsigned_abs}
 use Rattle.isl_meter.specs.declared.Cut.{Cut}
 use Rattle.isl_meter.specs.declared.Cut.TheVariants.{Overflow}
 pub use Rattle.isl_piece.specs.Cut.{IsNoOverflow}
-use Rattle.isl_piece.specs.Row.{IsRowUpTo}
+use Rattle.isl_piece.specs.declared.row.Row.{Row}
+use Rattle.isl_piece.specs.Row.{IsRowUpTo, coef_at}
 use Rattle.isl_omega.specs.declared.sides.Sides.{Sides}
 
 -- the numbers of rows that are given
@@ -21,6 +22,11 @@ paired_magnitude = 2 ^ 62
 -- those of a lower bound that is fixed at one of its values
 abbrev pub fixed_magnitude : ℕ
 fixed_magnitude = 2 ^ 63
+
+-- each number of the row is at most w in magnitude, and the coefficient at the column at most u
+pub record IsRowUpToAt (col u w : ℕ) (r : Row) : Type 0 where
+  pub factor : unsigned_abs (coef_at r col) ≤ u
+  pub numbers : IsRowUpTo w r
 
 -- a result of P, or work ended for another reason
 abbrev pub IsNoOverflowWith : {A : Type 0} → (A → Type 0) → Result A Cut → Type 0

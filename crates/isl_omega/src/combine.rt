@@ -5,6 +5,7 @@ ghost use Rattle.std.specs.List.{remove};
 ghost use Rattle.isl_math.specs.Dot.{weighted_sum};
 ghost use Rattle.isl_meter.specs.Gauge.{IsWithin, IsDone};
 ghost use Rattle.isl_omega.specs.Magnitude.{IsNoOverflow};
+ghost use Rattle.isl_omega.specs.Units.{IsAnsweredFor};
 
 use isl_meter::{Cut, Int, Meter};
 use isl_piece::{Coefs, sum_of};
@@ -39,6 +40,7 @@ pub fn weighted_without(
     ensures no_overflow { (u v w x : ℕ) → unsigned_abs left.now.times ≤ u → unsigned_abs right.now.times ≤ v
         → All (λ c. unsigned_abs c ≤ w) left.now.numbers.now → All (λ c. unsigned_abs c ≤ x) right.now.numbers.now
         → u * w + v * x < 2 ^ meter.old.bits → IsNoOverflow result }
+    ensures answered { IsAnsweredFor 0 meter.old meter.new result }
 {
     let (m, n) = (left.times, right.times);
     let mut coefs = Coefs::new(alloc);

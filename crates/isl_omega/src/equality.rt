@@ -1,11 +1,11 @@
 //! Substitution by an equality.
 
-ghost use Rattle.std.specs.Prelude.{◌≡◌, ◌≢◌, ◌-◌, pos, length, All, IfOk, ◌^◌};
+ghost use Rattle.std.specs.Prelude.{◌≡◌, ◌≢◌, ◌-◌, ◌+◌, ◌*◌, ◌^◌, ◌<◌, ℕ, pos, length, All, IfOk};
 ghost use Rattle.isl_meter.specs.Gauge.{IsWithin, IsDone};
-ghost use Rattle.isl_piece.specs.Row.{IsRowWithin, IsWellFormed, coef_at, IsRowUpTo};
+ghost use Rattle.isl_piece.specs.Row.{IsRowWithin, IsWellFormed, coef_at};
 ghost use Rattle.isl_omega.specs.Column.{IsAnswerFor};
 ghost use Rattle.isl_omega.specs.Equality.{AreFactors, IsSolvedBy, solvable, row_factor, equality_factor, image_of, images_of, solved_for};
-ghost use Rattle.isl_omega.specs.Magnitude.{IsNoOverflow, fixed_magnitude, substituted_magnitude};
+ghost use Rattle.isl_omega.specs.Magnitude.{IsNoOverflow, IsRowUpToAt};
 
 use crate::column::Column;
 use crate::rows::settled;
@@ -45,7 +45,8 @@ fn image(
     requires occurs { coef_at fixed.now column.at ≢ pos 0 }
     ensures exact { IsDone meter.old meter.new
         (λ short. (short ≡ image_of fixed.now column.at row.now) × IsRowWithin meter.old short) result }
-    ensures no_overflow { meter.old.bits ≡ 127 → IsRowUpTo substituted_magnitude row.now → IsRowUpTo fixed_magnitude fixed.now → IsNoOverflow result }
+    ensures no_overflow { (u v w x : ℕ) → IsRowUpToAt column.at u w row.now → IsRowUpToAt column.at v x fixed.now
+        → v * w + u * x < 2 ^ meter.old.bits → IsNoOverflow result }
 {
     let own = row.coefs.get(column.at);
     if own.is_zero() {
@@ -90,7 +91,8 @@ fn images(
     requires occurs { coef_at fixed.now column.at ≢ pos 0 }
     ensures exact { IsDone meter.old meter.new
         (λ short. (short ≡ images_of fixed.now column.at rows.now) × All (IsRowWithin meter.old) short) result }
-    ensures no_overflow { meter.old.bits ≡ 127 → All (IsRowUpTo substituted_magnitude) rows.now → IsRowUpTo fixed_magnitude fixed.now → IsNoOverflow result }
+    ensures no_overflow { (u v w x : ℕ) → All (IsRowUpToAt column.at u w) rows.now → IsRowUpToAt column.at v x fixed.now
+        → v * w + u * x < 2 ^ meter.old.bits → IsNoOverflow result }
 {
     let mut short = Rows::new(alloc);
     short.push(divisibility(alloc, fixed, column, meter)?)?;
@@ -105,7 +107,8 @@ fn images(
 ///
 /// # Errors
 ///
-/// `Overflow` where a number passes the limit of the meter, and `NoMemory`.
+/// `Overflow` where a number passes the limit of the meter, and `NoMemory`. Where the coefficients at `col` are small, the limit may be near
+/// the numbers: one bit above them where these coefficients are at most 1.
 pub fn equality_step(
     alloc: Global,
     rows: &[Row],
@@ -121,7 +124,8 @@ pub fn equality_step(
     ensures exact { IsDone meter.old meter.new
         (IsAnswerFor meter.old (column.columns - 1) (IsSolvedBy rows.now fixed.now column.at)) result }
     ensures function { IfOk result (λ left. left ≡ solved_for fixed.now column.at rows.now) }
-    ensures no_overflow { meter.old.bits ≡ 127 → All (IsRowUpTo substituted_magnitude) rows.now → IsRowUpTo fixed_magnitude fixed.now → IsNoOverflow result }
+    ensures no_overflow { (u v w x : ℕ) → All (IsRowUpToAt column.at u w) rows.now → IsRowUpToAt column.at v x fixed.now
+        → v * w + u * x < 2 ^ meter.old.bits → IsNoOverflow result }
 {
     let short = images(alloc, rows, fixed, column, meter)?;
     let left = settled(alloc, &short, column, meter)?;

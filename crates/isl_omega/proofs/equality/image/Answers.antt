@@ -1,17 +1,17 @@
-use Rattle.std.proofs.Common.{◌≡◌, ◌∙◌, pos, ◌^◌, length, sym, arith, lit<}
+use Rattle.std.proofs.Common.{◌≡◌, ◌∙◌, pos, length, sym, arith}
 use Rattle.isl_piece.specs.Row.{IsRowWithin, coef_at}
 use Rattle.isl_omega.specs.Equality.{AreFactors}
 use Rattle.isl_omega.proofs.MovedLemmas.{image_itself}
-use Rattle.isl_omega.proofs.SmallLemmas.{coef_up_to, at_most}
+use Rattle.isl_omega.proofs.SmallLemmas.{at_most}
 use Rattle.isl_omega.proofs.equality.image.Goals as goal
 
 pub returns-clause-no_overflow : goal.returns-clause-no_overflow
-returns-clause-no_overflow c = λ bits small large.
+returns-clause-no_overflow c = λ u v w x small large room.
     let row = c.args.row.now in
     let fixed = c.args.fixed.now in
     let are : AreFactors (coef_at fixed c.args.column.at) (coef_at row c.args.column.at) c.factors-m.result.0 c.factors-m.result.1 = grind arith in
-    c.combination.ensures.no_overflow (2 ^ 63) (2 ^ 61) (2 ^ 61) (2 ^ 63)
-    (at_most _ _ _ are.m_small (coef_up_to (2 ^ 63) fixed c.args.column.at large)) (at_most _ _ _ are.n_small (coef_up_to (2 ^ 61) row c.args.column.at small)) small large (rw bits (lit< tt))
+    c.combination.ensures.no_overflow v u w x (at_most _ _ _ are.m_small large.factor) (at_most _ _ _ are.n_small small.factor)
+    small.numbers large.numbers room
 
 pub returns-then-is_zero-clause-exact : goal.returns-then-is_zero-clause-exact
 returns-then-is_zero-clause-exact c =

@@ -1,8 +1,10 @@
-use Rattle.std.proofs.Common.{◌≡◌, ◌<◌, ◌++◌, ◌∷◌, [], length, refl, arith}
+use Rattle.std.proofs.Common.{◌≡◌, ◌≢◌, ◌<◌, ◌++◌, ◌∷◌, [], length, refl, arith}
 use Rattle.std.proofs.lemmas.Grind.{common_steps}
 use Rattle.std.proofs.lemmas.List.Elements.{All-push}
+use Rattle.isl_meter.specs.declared.Cut.TheVariants.{Overflow}
 use Rattle.isl_piece.specs.Row.{IsRowWithin}
 use Rattle.isl_omega.specs.Equality.{image_of}
+use Rattle.isl_omega.specs.Magnitude.{IsRowUpToAt}
 use Rattle.isl_omega.proofs.ImageLemmas.{images_more}
 use Rattle.isl_omega.proofs.equality.images.Goals as goal
 
@@ -18,3 +20,12 @@ loop-row-preserved c =
       rw pushed (All-push (IsRowWithin c.args.meter.now) c.loop-row.short short c.loop-row.invariant.1 within),
       grind arith,
     )
+
+pub returns-in_err-image-clause-no_overflow : goal.returns-in_err-image-clause-no_overflow
+returns-in_err-image-clause-no_overflow c = λ u v w x small large room.
+    let row = c.row-item.result in
+    let i = c.loop-row.row-index in
+    let inside : i < length c.args.rows.now = grind (arith, common_steps) in
+    let one : IsRowUpToAt c.args.column.at u w row = rw (← c.row-item.is) at (small i row inside) in
+    let fact : c.in_err-image.field-0.0 ≢ Overflow = c.in_err-image.ensures.no_overflow u v w x one large (rw c.loop-row.invariant.2 room) in
+    grind arith
