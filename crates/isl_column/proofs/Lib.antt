@@ -13,4 +13,5 @@ pub mod SearchLemmas
 pub mod SmallSides
 pub mod SmallSplinters
 pub mod SplinterLemmas
+pub mod TameLemmas
 pub mod UnitLemmas

@@ -289,6 +289,7 @@ pub record ArePartsSoFar (g h : Gauge) (columns : ℕ) (first now : PartsView) :
   pub pairs : g.units + least_units first ≤ h.units + least_units now
   pub small : AreSmallParts first → AreSmallParts now
   pub alone : first.residues ≡ None → now ≡ first
+  pub unused : first.residues ≡ None → h ≡ g
 
 pub parts_first : (g : Gauge) (columns : ℕ) (first : PartsView) → AreParts g columns first → ArePartsSoFar g g columns first first
 parts_first g columns first a = record {
@@ -300,6 +301,7 @@ parts_first g columns first a = record {
   pairs = omega arith;
   small = λ x. x;
   alone = λ x. refl;
+  unused = λ x. refl;
 }
 
 -- a list was taken out of the dark shadow
@@ -422,6 +424,7 @@ parts_opened g h k m columns first now next s n c o ec el some =
       pairs = let before = s.pairs in let own = least_at_most_residues now in omega arith;
       small = λ x. absurd (some ((s.small x).residues));
       alone = λ x. absurd (some (ap (λ (p : PartsView). p.residues) (s.alone x) ∙ x));
+      unused = λ x. absurd (some (ap (λ (p : PartsView). p.residues) (s.alone x) ∙ x));
     }
 
 -- the units that were used where the dark shadow has no list
@@ -453,6 +456,13 @@ pub parts_ended : (g h : Gauge) (columns : ℕ) (first now : PartsView) → AreP
 parts_ended g h columns first now s n r point l x = elim ((s.points point l).0 x).some [ inl y ↦ n point (l ∙ s.are.width) y | inr z ↦ r point (l ∙ s.are.width) z ]
 
 -- ---- all lists
+-- where a head was alone, nothing is
+pub alone_taken : (h : Gauge) (columns col : ℕ) (old : DarkShadow) (found : Option (List Row)) (next : PartsView)
+    → MatchOption found (IsNoDarkShadow columns col old) (λ rows. IsTakenOut h columns col old rows next.dark_shadow)
+    → next.dark_shadow.tails.items ≡ [] → next.residues ≡ None → IfSome found (λ _. IsHeadAlone None next)
+alone_taken h columns col old None next taken tails none = tt
+alone_taken h columns col old (Some rows) next taken tails none = record { head = taken.dark; tails = tails; residues = none }
+
 -- the answers, with the head that is alone still to come, are what is left
 pub record IsLeft (answers : List (List Row)) (parts : PartsView) (left : Option (List Row)) : Type 0 where
   pub head : Option (List Row)
@@ -463,8 +473,9 @@ left_first : (parts : PartsView) (left : Option (List Row)) → IsHeadAlone left
 left_first parts left h = record { head = left; alone = h; all = refl }
 
 left_next : (answers : List (List Row)) (rows : List Row) (now next : PartsView) (left : Option (List Row)) → IsLeft answers now left
-    → ((head : Option (List Row)) → IsHeadAlone head now → (Some rows ≡ head) × IsHeadAlone None next) → IsLeft (answers ++ rows ∷ []) next left
-left_next answers rows now next left h x =
+    → (k h : Gauge) → ((head : Option (List Row)) → IsHeadAlone head now → (Some rows ≡ head) × IsHeadAlone None next × (k ≡ h))
+    → IsLeft (answers ++ rows ∷ []) next left
+left_next answers rows now next left h k m x =
     let own = x h.head h.alone in record {
       head = None;
       alone = own.1;
@@ -491,11 +502,13 @@ pub record AreAnswered (g h : Gauge) (columns col : ℕ) (rows : List Row) (answ
   pub pairs : ¬ HasEquality col rows → g.units + pairs_on col rows ≤ h.units + least_units parts
   pub exact : IsExactColumn col rows → ¬ HasEquality col rows → IsLeft answers parts (exact_rows rows col)
   pub solved : HasEquality col rows → IsLeft answers parts (solved_rows rows col)
+  pub spent : IsExactColumn col rows → ¬ HasEquality col rows → h.units ≤ g.units + pairs_on col rows
 
 pub answered_first : (g h : Gauge) (columns col : ℕ) (rows : List Row) (parts : PartsView) → ArePartsOf g columns col rows parts → IsCharged g h → AreUnitsUpTo (elimination_units rows col) g h parts → (HasEquality col rows → (h.units ≡ g.units) × (most_units parts ≡ pos 0))
     → (g.bits ≡ 127 → HaveSmallNumbers rows → HaveOneCongruence rows col → AreSmallParts parts) → (IsExactColumn col rows → ¬ HasEquality col rows → IsHeadAlone (exact_rows rows col) parts)
-    → (HasEquality col rows → IsHeadAlone (solved_rows rows col) parts) → (¬ HasEquality col rows → g.units + pairs_on col rows ≤ h.units + least_units parts) → AreAnswered g h columns col rows [] parts
-answered_first g h columns col rows parts a c u e m x y p = record {
+    → (HasEquality col rows → IsHeadAlone (solved_rows rows col) parts) → (¬ HasEquality col rows → g.units + pairs_on col rows ≤ h.units + least_units parts)
+    → (IsExactColumn col rows → ¬ HasEquality col rows → h.units ≤ g.units + pairs_on col rows) → AreAnswered g h columns col rows [] parts
+answered_first g h columns col rows parts a c u e m x y p t = record {
   charged = c;
   are = parts_kept g h (columns - 1) parts c a.are;
   proper = All-nil (All (IsProper g (columns - 1)));
@@ -511,10 +524,11 @@ answered_first g h columns col rows parts a c u e m x y p = record {
   pairs = p;
   exact = λ exact none. left_first parts (exact_rows rows col) (x exact none);
   solved = λ q. left_first parts (solved_rows rows col) (y q);
+  spent = t;
 }
 
 pub answered_next : (g h k : Gauge) (columns col : ℕ) (rows : List Row) (answers more : List (List Row)) (now next : PartsView) (left : List Row) → AreAnswered g h columns col rows answers now → IsNextPart h (columns - 1) now left next → IsCharged h k
-    → AreUnitsUpTo (most_units now) h k next → h.units + 1 + head_count next ≤ k.units + head_count now → (g.bits ≡ 127 → AreSmallParts now → AreSmallParts next) → ((head : Option (List Row)) → IsHeadAlone head now → (Some left ≡ head) × IsHeadAlone None next) → h.units + least_units now ≤ k.units → more ≡ answers ++ left ∷ []
+    → AreUnitsUpTo (most_units now) h k next → h.units + 1 + head_count next ≤ k.units + head_count now → (g.bits ≡ 127 → AreSmallParts now → AreSmallParts next) → ((head : Option (List Row)) → IsHeadAlone head now → (Some left ≡ head) × IsHeadAlone None next × (k ≡ h)) → h.units + least_units now ≤ k.units → more ≡ answers ++ left ∷ []
     → AreAnswered g k columns col rows more next
 answered_next g h k columns col rows answers more now next left a n c u counted m x p e = rw e (record {
   charged = IsCharged_trans g h k a.charged c;
@@ -544,9 +558,28 @@ answered_next g h k columns col rows answers more now next left a n c u counted 
       let none = before.1 in (omega (arith, linear), omega (arith, linear));
   small = λ bits small one. m bits (a.small bits small one);
   pairs = λ none. let before = a.pairs none in omega arith;
-  exact = λ exact none. left_next answers left now next (exact_rows rows col) (a.exact exact none) x;
-  solved = λ q. left_next answers left now next (solved_rows rows col) (a.solved q) x;
+  exact = λ exact none. left_next answers left now next (exact_rows rows col) (a.exact exact none) k h x;
+  solved = λ q. left_next answers left now next (solved_rows rows col) (a.solved q) k h x;
+  spent = λ exact none.
+      let head = a.exact exact none in
+      let same = ap (λ (m : Gauge). m.units) (x head.head head.alone).2 in
+      let before = a.spent exact none in
+      omega arith;
 })
+
+-- how many units were used where nothing but a head was ever still to come, of which `found` was taken or nothing
+pub answered_units : {Q : Type 0} (g h k : Gauge) (columns col : ℕ) (rows : List Row) (answers : List (List Row)) (now : PartsView)
+    (found : Option (List Row)) → AreAnswered g h columns col rows answers now
+    → ((head : Option (List Row)) → IsHeadAlone head now → (found ≡ head) × Q × (k ≡ h))
+    → (IsExactColumn col rows → ¬ HasEquality col rows → k.units ≤ g.units + pairs_on col rows) × (HasEquality col rows → k.units ≡ g.units)
+answered_units g h k columns col rows answers now found a x = (
+  (λ exact none.
+      let head = a.exact exact none in
+      let same = ap (λ (m : Gauge). m.units) (x head.head head.alone).2 in
+      let before = a.spent exact none in
+      omega arith),
+  (λ q. let head = a.solved q in ap (λ (m : Gauge). m.units) (x head.head head.alone).2 ∙ (a.equality q).0),
+)
 
 pub answered_all : (g h : Gauge) (columns col : ℕ) (rows : List Row) (answers : List (List Row)) (parts : PartsView) → AreAnswered g h columns col rows answers parts → AreNone (columns - 1) parts → IsProjectionOf columns rows col answers
 answered_all g h columns col rows answers parts a n point l = let same = a.points point l in (

@@ -192,6 +192,7 @@ pub record IsShadowKept (g h : Gauge) (columns col : ℕ) (first now : DarkShado
   pub units : (pos h.units +ℤ splinter_count now.tails.items) ≤ℤ (pos g.units +ℤ splinter_count first.tails.items)
   pub small : IsSmallDarkShadow first → IsSmallDarkShadow now
   pub alone : first.tails.items ≡ [] → now.tails.items ≡ []
+  pub unused : first.tails.items ≡ [] → h ≡ g
 
 -- and it holds where it did
 pub record IsShadowSoFar (g h : Gauge) (columns col : ℕ) (first now : DarkShadow) : Type 0 where
@@ -207,11 +208,12 @@ so_far_first g columns col first s e = record {
     units = omega (arith, linear);
     small = λ x. x;
     alone = λ x. x;
+    unused = λ x. refl;
   };
   points = λ point n. ((λ h. h), (λ h. h));
 }
 
-no_end : {X : Type 0} (xs : List X) (x : X) → [] ≡ xs ++ x ∷ [] → ⊥
+pub no_end : {X : Type 0} (xs : List X) (x : X) → [] ≡ xs ++ x ∷ [] → ⊥
 no_end [] x e = cc
 no_end (y ∷ xs) x e = cc
 
@@ -228,6 +230,7 @@ so_far_skipped g h columns col first now t next s p l =
         units = omega (arith, linear);
         small = λ x. (popped_small now t next p (s.kept.small x)).0;
         alone = λ x. absurd (no_end next.tails.items t (sym (s.kept.alone x) ∙ p.tails));
+        unused = s.kept.unused;
       };
       points = λ point n.
           let same = s.points point n in
@@ -264,6 +267,7 @@ built_kept g h k columns col first now t popped next left b =
       units = omega (arith, linear);
       small = λ x. let p = popped_small now t popped b.popped (s.small x) in split_small popped t next b.some b.split p.0 p.1;
       alone = λ x. absurd (no_end popped.tails.items t (sym (s.alone x) ∙ b.popped.tails));
+      unused = λ x. absurd (no_end popped.tails.items t (sym (s.alone x) ∙ b.popped.tails));
     }
 
 built_points : (g h k : Gauge) (columns col : ℕ) (first now : DarkShadow) (t : Splinters) (popped next : DarkShadow) (left : Option (List Row)) → IsBuilt g h k columns col first now t popped next left → (point : List ℤ) → length point ≡ columns - 1

@@ -8,6 +8,7 @@ pub mod Parts
 pub mod RealShadow
 pub mod Residue
 pub mod Solved
+pub mod Tame
 pub mod Units
 pub use Rattle.isl_meter.specs.Gauge
 pub use Rattle.isl_omega.specs.Equality

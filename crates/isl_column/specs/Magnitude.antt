@@ -1,10 +1,10 @@
 -- public: where elimination never passes the limit of 127 bits: small numbers, and at most one congruence on the column. (Pugh, the Omega test; the
 -- bound is this project's own)
-use Rattle.std.specs.Prelude.{◌≡◌, Bool, false, not, ℕ, ◌≤◌, ℤ, pos, List, All, filter, length, unsigned_abs, Result}
+use Rattle.std.specs.Prelude.{◌≡◌, Bool, false, not, ℕ, ◌+◌, ◌*◌, ◌^◌, ◌<◌, ◌≤◌, ℤ, pos, List, All, filter, length, unsigned_abs, Result}
 use Rattle.std.specs.Ordering.{int_eq}
 use Rattle.isl_meter.specs.Gauge.{Gauge}
 use Rattle.isl_meter.specs.declared.Cut.{Cut}
-use Rattle.isl_omega.specs.Magnitude.{IsNoOverflow, given_magnitude, paired_magnitude, substituted_magnitude}
+use Rattle.isl_omega.specs.Magnitude.{IsNoOverflow, IsRowUpToAt, given_magnitude, paired_magnitude, substituted_magnitude}
 use Rattle.isl_piece.specs.declared.row.RowKind.{RowKind}
 use Rattle.isl_piece.specs.declared.row.RowKind.TheVariants.{Zero, AtLeast, Divides, NotDivides}
 use Rattle.isl_piece.specs.declared.row.Row.{Row}
@@ -34,6 +34,11 @@ HaveOneCongruence rows col = length (congruences_on col rows) ≤ 1
 -- at 127 bits no number of such rows passes the limit
 abbrev pub IsSpared : {A : Type 0} → Gauge → List Row → ℕ → Result A Cut → Type 0
 IsSpared g rows col result = g.bits ≡ 127 → HaveSmallNumbers rows → HaveOneCongruence rows col → IsNoOverflow result
+
+-- where each number of the rows is at most w in magnitude, and each coefficient at the column at most u, a limit with room for the sum of two
+-- products of these is not passed
+abbrev pub IsSparedAt : {A : Type 0} → Gauge → List Row → ℕ → Result A Cut → Type 0
+IsSparedAt g rows col result = (u w : ℕ) → All (IsRowUpToAt col u w) rows → u * w + u * w < 2 ^ g.bits → IsNoOverflow result
 
 -- ---- inside
 -- a tail with numbers of at most 2^61, and a last value of at most 2^62

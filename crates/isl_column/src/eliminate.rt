@@ -8,6 +8,7 @@ ghost use Rattle.isl_column.specs.Exact.{IsExactColumn, exact_rows, pairs_on};
 ghost use Rattle.isl_omega.specs.Column.{IsProper};
 ghost use Rattle.isl_omega.specs.Equality.{HasEquality};
 ghost use Rattle.isl_column.specs.Solved.{solved_rows};
+ghost use Rattle.isl_column.specs.Tame.{IsTameColumn};
 ghost use Rattle.isl_column.specs.Units.{elimination_units};
 ghost use Rattle.isl_column.specs.Magnitude.{HaveSmallNumbers, HaveOneCongruence};
 
@@ -27,7 +28,8 @@ use std::alloc::Global;
 /// # Errors
 ///
 /// `Overflow` where a number passes the limit of the meter, `Budget` where its units are used up, and `NoMemory`. A limit
-/// of 127 bits is not passed where the numbers are at most `2^30` and at most one congruence has the column.
+/// of 127 bits is not passed where the numbers are at most `2^30` and at most one congruence has the column. Where an equality has it, or it
+/// is exact, `IsTameColumn` tells from which limit and how many units on `NoMemory` alone is left.
 pub fn eliminate_rows(
     alloc: Global,
     rows: &[Row],
@@ -49,6 +51,7 @@ pub fn eliminate_rows(
         → result ≢ Err Cut.Overflow }
     ensures pairs { ¬ HasEquality column.at rows.now → IfOk result (λ _. meter.old.units + pairs_on column.at rows.now ≤ meter.new.units) }
     ensures counted { IfOk result (λ answers. length answers.items + meter.old.units ≤ meter.new.units + 1) }
+    ensures tame { IsTameColumn meter.old meter.new rows.now column.at result }
 {
     let mut parts = Parts::of(alloc, rows, column, meter)?;
     let mut answers = Vec::new(alloc);

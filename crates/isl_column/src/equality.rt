@@ -5,11 +5,11 @@ ghost use Rattle.isl_meter.specs.Gauge.{IsDone};
 ghost use Rattle.isl_piece.specs.declared.row.RowKind.TheVariants.{Zero};
 ghost use Rattle.isl_piece.specs.Row.{coef_at};
 ghost use Rattle.isl_column.specs.Column.{HoldAtSome};
-ghost use Rattle.isl_column.specs.Magnitude.{HaveSmallNumbers};
+ghost use Rattle.isl_column.specs.Magnitude.{IsSparedAt};
 ghost use Rattle.isl_column.specs.Solved.{solved_rows, IsLeastAmong};
 ghost use Rattle.isl_omega.specs.Column.{IsAnswerFor, IsProper};
 ghost use Rattle.isl_omega.specs.Equality.{HasEquality};
-ghost use Rattle.isl_omega.specs.Magnitude.{IsNoOverflow};
+ghost use Rattle.isl_omega.specs.Units.{IsAnsweredFor};
 
 use isl_meter::{Cut, Meter};
 use isl_omega::column::Column;
@@ -74,7 +74,8 @@ pub(crate) fn solved_left(
     requires equality { IsLeastAmong column.at rows.now (length rows.now) at }
     ensures exact { IsDone meter.old meter.new (IsAnswerFor meter.old (column.columns - 1) (HoldAtSome rows.now column.at)) result }
     ensures left { IfOk result (λ left. left ≡ solved_rows rows.now column.at) }
-    ensures no_overflow { meter.old.bits ≡ 127 → HaveSmallNumbers rows.now → IsNoOverflow result }
+    ensures no_overflow { IsSparedAt meter.old rows.now column.at result }
+    ensures answered { IsAnsweredFor 1 meter.old meter.new result }
 {
     let left = equality_step(alloc, rows, &rows[at], column, meter)?;
     Ok(left)

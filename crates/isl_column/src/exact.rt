@@ -1,17 +1,17 @@
 //! The real rows of all pairs of bounds. Where a column is exact they are all that is left: no splinter, no residue, and no memory but for
 //! the rows that are answered.
 
-ghost use Rattle.std.specs.Prelude.{◌≡◌, ◌↔◌, ◌-◌, ◌∷◌, ◌*◌, ◌^◌, [], All, length, map, IfOk, IsTrue, MatchResult, ◌+◌, ◌≤◌};
-ghost use Rattle.isl_piece.specs.Row.{IsRowWithin, IsRowUpTo};
+ghost use Rattle.std.specs.Prelude.{◌≡◌, ◌↔◌, ◌-◌, ◌∷◌, ◌*◌, ◌^◌, [], All, length, map, IfOk, IsTrue, MatchResult, ◌+◌, ◌≤◌, ◌<◌, ℕ};
+ghost use Rattle.isl_piece.specs.Row.{IsRowWithin};
 ghost use Rattle.isl_column.specs.Column.{HoldAtSome};
 ghost use Rattle.isl_omega.specs.Column.{dropped, IsAnswerFor, IsProper};
 ghost use Rattle.isl_omega.specs.Equality.{HasEquality};
 ghost use Rattle.isl_column.specs.Exact.{IsExactRow, IsExactColumn, real_rows, rows_left, pairs_on, exact_rows, AreAdded};
 ghost use Rattle.isl_column.specs.RealShadow.{HoldReally};
 ghost use Rattle.isl_omega.specs.Shadow.{real_row};
-ghost use Rattle.isl_omega.specs.Magnitude.{IsNoOverflow, given_magnitude};
-ghost use Rattle.isl_omega.specs.Units.{IsDoneFor};
-ghost use Rattle.isl_column.specs.Magnitude.{HaveSmallNumbers};
+ghost use Rattle.isl_omega.specs.Magnitude.{IsNoOverflow, IsRowUpToAt};
+ghost use Rattle.isl_omega.specs.Units.{IsDoneFor, IsAnsweredFor};
+ghost use Rattle.isl_column.specs.Magnitude.{IsSparedAt};
 ghost use Rattle.isl_omega.specs.Sides.{IsLower, IsUpper, on_side};
 ghost use Rattle.isl_column.specs.Units.{elimination_units};
 ghost use Rattle.isl_meter.specs.Gauge.{IsDone, IsDoneWithin};
@@ -68,7 +68,9 @@ fn real_row_without(
     requires upper { IsUpper meter.old column.columns column.at upper.now }
     ensures exact { IsDone meter.old meter.new
         (λ row. (row ≡ dropped (real_row column.at lower.now upper.now) column.at) × IsRowWithin meter.old row) result }
-    ensures no_overflow { meter.old.bits ≡ 127 → IsRowUpTo given_magnitude lower.now → IsRowUpTo given_magnitude upper.now → IsNoOverflow result }
+    ensures no_overflow { (u w : ℕ) → IsRowUpToAt column.at u w lower.now → IsRowUpToAt column.at u w upper.now
+        → u * w + u * w < 2 ^ meter.old.bits → IsNoOverflow result }
+    ensures answered { IsAnsweredFor 0 meter.old meter.new result }
 {
     let a = lower.coefs.get(column.at);
     let b = upper.coefs.get(column.at).neg(meter);
@@ -117,7 +119,9 @@ fn push_pair(
     requires upper { IsUpper meter.old column.columns column.at upper.now }
     ensures exact { IsDoneFor 1 meter.old meter.new
         (λ _. AreAdded meter.old column.at (real_row column.at lower.now upper.now ∷ []) short.old short.new) result }
-    ensures no_overflow { meter.old.bits ≡ 127 → IsRowUpTo given_magnitude lower.now → IsRowUpTo given_magnitude upper.now → IsNoOverflow result }
+    ensures no_overflow { (u w : ℕ) → IsRowUpToAt column.at u w lower.now → IsRowUpToAt column.at u w upper.now
+        → u * w + u * w < 2 ^ meter.old.bits → IsNoOverflow result }
+    ensures answered { IsAnsweredFor 1 meter.old meter.new result }
 {
     meter.unit()?;
     let real = real_row_without(alloc, lower, upper, column, meter)?;
@@ -138,8 +142,9 @@ fn push_pairs_of(
     requires uppers { All (IsUpper meter.old column.columns column.at) (map (λ row. row.now) uppers.now) }
     ensures exact { IsDoneFor (length uppers.now) meter.old meter.new
         (λ _. AreAdded meter.old column.at (map (real_row column.at lower.now) (map (λ row. row.now) uppers.now)) short.old short.new) result }
-    ensures no_overflow { meter.old.bits ≡ 127 → IsRowUpTo given_magnitude lower.now → All (IsRowUpTo given_magnitude) (map (λ row. row.now) uppers.now)
-        → IsNoOverflow result }
+    ensures no_overflow { (u w : ℕ) → IsRowUpToAt column.at u w lower.now → All (IsRowUpToAt column.at u w) (map (λ row. row.now) uppers.now)
+        → u * w + u * w < 2 ^ meter.old.bits → IsNoOverflow result }
+    ensures answered { IsAnsweredFor (length uppers.now) meter.old meter.new result }
 {
     for upper in uppers {
         push_pair(alloc, lower, upper, column, short, meter)?;
@@ -161,8 +166,9 @@ fn push_lower(
     ensures exact { IsDoneFor (length (on_side Side.Lower column.at (row.now ∷ [])) * length uppers.now) meter.old meter.new
         (λ _. AreAdded meter.old column.at (real_rows column.at (on_side Side.Lower column.at (row.now ∷ [])) (map (λ row. row.now) uppers.now))
         short.old short.new) result }
-    ensures no_overflow { meter.old.bits ≡ 127 → IsRowUpTo given_magnitude row.now → All (IsRowUpTo given_magnitude) (map (λ row. row.now) uppers.now)
-        → IsNoOverflow result }
+    ensures no_overflow { (u w : ℕ) → IsRowUpToAt column.at u w row.now → All (IsRowUpToAt column.at u w) (map (λ row. row.now) uppers.now)
+        → u * w + u * w < 2 ^ meter.old.bits → IsNoOverflow result }
+    ensures answered { IsAnsweredFor (length (on_side Side.Lower column.at (row.now ∷ [])) * length uppers.now) meter.old meter.new result }
 {
     if !Side::Lower.has(row, column, meter) {
         return Ok(());
@@ -184,8 +190,9 @@ fn push_pairs(
     ensures exact { IsDoneFor (length (on_side Side.Lower column.at rows.now) * length uppers.now) meter.old meter.new
         (λ _. AreAdded meter.old column.at (real_rows column.at (on_side Side.Lower column.at rows.now) (map (λ row. row.now) uppers.now))
         short.old short.new) result }
-    ensures no_overflow { meter.old.bits ≡ 127 → All (IsRowUpTo given_magnitude) rows.now → All (IsRowUpTo given_magnitude) (map (λ row. row.now) uppers.now)
-        → IsNoOverflow result }
+    ensures no_overflow { (u w : ℕ) → All (IsRowUpToAt column.at u w) rows.now → All (IsRowUpToAt column.at u w) (map (λ row. row.now) uppers.now)
+        → u * w + u * w < 2 ^ meter.old.bits → IsNoOverflow result }
+    ensures answered { IsAnsweredFor (length (on_side Side.Lower column.at rows.now) * length uppers.now) meter.old meter.new result }
 {
     for row in rows {
         push_lower(alloc, row, uppers, column, short, meter)?;
@@ -236,7 +243,8 @@ fn short_rows(alloc: Global, rows: &[Row], column: Column, meter: &mut Meter) ->
     requires rows { All (IsProper meter.old column.columns) rows.now }
     ensures exact { IsDoneFor (pairs_on column.at rows.now) meter.old meter.new
         (λ short. AreAdded meter.old column.at (rows_left column.at rows.now) [] short) result }
-    ensures no_overflow { meter.old.bits ≡ 127 → All (IsRowUpTo given_magnitude) rows.now → IsNoOverflow result }
+    ensures no_overflow { IsSparedAt meter.old rows.now column.at result }
+    ensures answered { IsAnsweredFor (pairs_on column.at rows.now) meter.old meter.new result }
 {
     let mut short = Rows::with_capacity(alloc, rows.len())?;
     push_free(alloc, rows, column, &mut short, meter)?;
@@ -257,7 +265,8 @@ pub(crate) fn real_left(
     ensures exact { IsDoneFor (pairs_on column.at rows.now) meter.old meter.new
         (IsAnswerFor meter.old (column.columns - 1) (HoldReally rows.now column.at)) result }
     ensures left { IfOk result (λ left. left ≡ exact_rows rows.now column.at) }
-    ensures no_overflow { meter.old.bits ≡ 127 → HaveSmallNumbers rows.now → IsNoOverflow result }
+    ensures no_overflow { IsSparedAt meter.old rows.now column.at result }
+    ensures answered { IsAnsweredFor (pairs_on column.at rows.now) meter.old meter.new result }
 {
     let short = short_rows(alloc, rows, column, meter)?;
     let left = short.normalise(alloc, meter)?;
@@ -278,7 +287,8 @@ pub(crate) fn exact_left(
         (λ left. IsAnswerFor meter.old (column.columns - 1) (HoldAtSome rows.now column.at) left) result }
     ensures left { IfOk result (λ left. left ≡ exact_rows rows.now column.at) }
     ensures pairs { IfOk result (λ _. meter.old.units + pairs_on column.at rows.now ≤ meter.new.units) }
-    ensures no_overflow { meter.old.bits ≡ 127 → HaveSmallNumbers rows.now → IsNoOverflow result }
+    ensures no_overflow { IsSparedAt meter.old rows.now column.at result }
+    ensures answered { IsAnsweredFor (pairs_on column.at rows.now) meter.old meter.new result }
 {
     real_left(alloc, rows, column, meter)
 }

@@ -13,6 +13,7 @@ ghost use Rattle.isl_column.specs.Exact.{IsExactColumn, exact_rows, pairs_on};
 ghost use Rattle.isl_column.specs.Magnitude.{HaveSmallNumbers, HaveOneCongruence};
 ghost use Rattle.isl_column.specs.Residue.{HasNumber, sides_units};
 ghost use Rattle.isl_column.specs.Solved.{solved_rows, IsLeastAmong};
+ghost use Rattle.isl_column.specs.Tame.{IsTameColumn, IsTameWithin};
 ghost use Rattle.isl_column.specs.Units.{elimination_units};
 
 use crate::dark_shadow::DarkShadow;
@@ -90,6 +91,7 @@ impl Parts {
         ensures none { IfOk result (λ parts. most_units parts ≡ pos 0) }
         ensures alone { IfOk result (IsHeadAlone (solved_rows rows.now column.at)) }
         ensures no_overflow { meter.old.bits ≡ 127 → HaveSmallNumbers rows.now → IsNoOverflowWith AreSmallParts result }
+        ensures tame { IsTameWithin 1 meter.old meter.new rows.now column.at result }
     {
         let left = solved_left(alloc, rows, at, column, meter)?;
         Ok(Parts::head(alloc, left, column))
@@ -104,6 +106,7 @@ impl Parts {
         ensures alone { IfOk result (IsHeadAlone (exact_rows rows.now column.at)) }
         ensures pairs { IfOk result (λ parts. meter.old.units + pairs_on column.at rows.now ≤ meter.new.units + least_units parts) }
         ensures no_overflow { meter.old.bits ≡ 127 → HaveSmallNumbers rows.now → IsNoOverflowWith AreSmallParts result }
+        ensures tame { IsTameWithin (pairs_on column.at rows.now) meter.old meter.new rows.now column.at result }
     {
         let left = exact_left(alloc, rows, column, meter)?;
         Ok(Parts::head(alloc, left, column))
@@ -167,7 +170,8 @@ impl Parts {
     /// # Errors
     ///
     /// `Overflow` where a number passes the limit of the meter, `Budget` where its units are used up, and `NoMemory`. A limit
-    /// of 127 bits is not passed where the numbers are at most `2^30` and at most one congruence has the column.
+    /// of 127 bits is not passed where the numbers are at most `2^30` and at most one congruence has the column. Where an equality has
+    /// it, or it is exact, `IsTameColumn` tells from which limit and how many units on `NoMemory` alone is left.
     pub fn of(alloc: Global, rows: &[Row], column: Column, meter: &mut Meter) -> Result<Parts, Cut>
         requires rows { All (IsProper meter.old column.columns) rows.now }
         ensures exact { MatchResult result
@@ -184,6 +188,7 @@ impl Parts {
             → IsNoOverflowWith AreSmallParts result }
         ensures pairs { ¬ HasEquality column.at rows.now
             → IfOk result (λ parts. meter.old.units + pairs_on column.at rows.now ≤ meter.new.units + least_units parts) }
+        ensures tame { IsTameColumn meter.old meter.new rows.now column.at result }
     {
         if let Some(at) = equality_at(rows, column, meter) {
             return Parts::solved(alloc, rows, at, column, meter);
@@ -200,6 +205,7 @@ impl Parts {
         ensures head { result ≡ self.old.dark_shadow.dark }
         ensures part { (g : Gauge) (columns : ℕ) → AreParts g columns self.old
             → MatchOption result (self.new ≡ self.old) (λ rows. IsNextPart g columns self.old rows self.new) }
+        ensures alone { (head : Option (List Row)) → IsHeadAlone head self.old → IsHeadAlone None self.new }
     {
         self.dark_shadow.dark.take()
     }
@@ -222,7 +228,8 @@ impl Parts {
     ///
     /// # Errors
     ///
-    /// `Overflow` where a number passes the limit of the meter, `Budget` where its units are used up, and `NoMemory`.
+    /// `Overflow` where a number passes the limit of the meter, `Budget` where its units are used up, and `NoMemory`. None where a head
+    /// alone is still to come, or nothing.
     pub fn next(
         &mut self,
         alloc: Global,
@@ -238,7 +245,7 @@ impl Parts {
             (λ _. meter.old.units + 1 + head_count self.new ≤ meter.new.units + head_count self.old)) }
         ensures pairs { IfOk result (λ _. meter.old.units + least_units self.old ≤ meter.new.units) }
         ensures alone { (head : Option (List Row)) → IsHeadAlone head self.old
-            → IfOk result (λ found. (found ≡ head) × IfSome found (λ _. IsHeadAlone None self.new)) }
+            → MatchResult result (λ found. (found ≡ head) × IfSome found (λ _. IsHeadAlone None self.new) × (meter.new ≡ meter.old)) (λ _. ⊥) }
         ensures magnitude { meter.old.bits ≡ 127 → AreSmallParts self.old
             → IsNoOverflowWith (λ found. IfSome found (λ _. AreSmallParts self.new)) result }
     {

@@ -1,6 +1,6 @@
 //! Splinters: rows in which a lower bound has one of its least values.
 
-ghost use Rattle.std.specs.Prelude.{◌≡◌, ◌↔◌, ◌-◌, ◌<◌, ◌+ℤ◌, ◌-ℤ◌, ◌≤ℤ◌, ◌<ℤ◌, pos, [], All, IfSome, IsTrue, MatchOption, ◌^◌, ◌≤◌, unsigned_abs, ◌+◌, IfOk};
+ghost use Rattle.std.specs.Prelude.{◌≡◌, ◌↔◌, ◌-◌, ◌<◌, ◌+ℤ◌, ◌-ℤ◌, ◌≤ℤ◌, ◌<ℤ◌, pos, [], All, IfSome, IsTrue, MatchOption, MatchResult, ◌^◌, ◌≤◌, unsigned_abs, ◌+◌, IfOk};
 ghost use Rattle.isl_meter.specs.Gauge.{IsWithin, IsDone, IsDoneWithin};
 ghost use Rattle.isl_column.specs.DarkShadow.{HasValue, AreSplinters, IsDarkShadow, IsSplit, IsTakenOut, IsNoDarkShadow, splinter_count};
 ghost use Rattle.isl_omega.specs.Column.{IsAnswerFor, IsProper};
@@ -92,7 +92,8 @@ impl DarkShadow {
         ensures units { IfOk result (λ found. IfSome found (λ _. (pos meter.new.units +ℤ splinter_count self.new.tails.items)
             ≤ℤ (pos meter.old.units +ℤ splinter_count self.old.tails.items))) }
         ensures counted { IfOk result (λ found. IfSome found (λ _. meter.old.units + 1 ≤ meter.new.units + count_of self.old.dark)) }
-        ensures alone { self.old.tails.items ≡ [] → IfOk result (λ found. (found ≡ self.old.dark) × (self.new.tails.items ≡ [])) }
+        ensures alone { self.old.tails.items ≡ [] → MatchResult result
+            (λ found. (found ≡ self.old.dark) × (self.new.tails.items ≡ []) × (meter.new ≡ meter.old)) (λ _. ⊥) }
         ensures no_overflow { meter.old.bits ≡ 127 → IsSmallDarkShadow self.old
             → IsNoOverflowWith (λ found. IfSome found (λ _. IsSmallDarkShadow self.new)) result }
     {

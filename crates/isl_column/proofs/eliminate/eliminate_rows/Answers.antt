@@ -1,15 +1,19 @@
-use Rattle.std.proofs.Common.{◌≡◌, ◌++◌, ◌∷◌, [], Some, None, sym, ◌∙◌, arith}
+use Rattle.std.proofs.Common.{◌≡◌, ◌++◌, ◌∷◌, [], Some, None, Err, sym, refl, ◌∙◌, arith}
+use Rattle.std.proofs.lemmas.Result.{err_from_is_err_and}
 use Rattle.isl_math.proofs.Ring.{linear}
+use Rattle.isl_meter.specs.declared.Cut.TheVariants.{NoMemory}
 use Rattle.isl_column.specs.Exact.{exact_rows}
 use Rattle.isl_column.specs.Solved.{solved_rows}
-use Rattle.isl_column.proofs.PartsLemmas.{same_limit, answered_first, answered_next, answered_all, left_all}
+use Rattle.isl_column.proofs.PartsLemmas.{same_limit, answered_first, answered_next, answered_all, answered_units, left_all}
+use Rattle.isl_column.proofs.TameLemmas.{tame_cut, tame_never, tame_ok, tame_used}
 use Rattle.isl_column.proofs.eliminate.eliminate_rows.Goals as goal
 
 pub loop-answers-init : goal.loop-answers-init
 loop-answers-init c =
     let e = c.in_ok-parts.ensures in
     let none : c.new-answers.result.items ≡ [] = grind arith in
-    rw none (answered_first c.args.meter.now c.of.new.meter c.args.column.columns c.args.column.at c.args.rows.now c.in_ok-parts.parts e.exact.0 e.exact.1 e.units e.equality e.magnitude e.exact_column e.solved_column e.pairs)
+    rw none (answered_first c.args.meter.now c.of.new.meter c.args.column.columns c.args.column.at c.args.rows.now c.in_ok-parts.parts e.exact.0 e.exact.1 e.units e.equality e.magnitude e.exact_column e.solved_column e.pairs
+    (λ exact none. ((e.tame.exact exact none).answered tt).units))
 
 pub returns-in_err-left-clause-units : goal.returns-in_err-left-clause-units
 returns-in_err-left-clause-units c =
@@ -126,3 +130,36 @@ returns-clause-equality c = λ q.
     let same = before.0 in
     let none = before.1 in
     omega (arith, linear)
+
+pub returns-in_err-parts-clause-tame : goal.returns-in_err-parts-clause-tame
+returns-in_err-parts-clause-tame c =
+    let p = err_from_is_err_and c.from_residual.result c.from_residual.ensures.1 in
+    rw (p.1, p.2) (tame_cut c.args.meter.now c.of.new.meter c.args.rows.now c.args.column.at c.in_err-parts.field-0.0 c.in_err-parts.ensures.tame)
+
+pub returns-in_err-left-clause-tame : goal.returns-in_err-left-clause-tame
+returns-in_err-left-clause-tame c =
+    let a = c.loop-answers.invariant in
+    let alone = c.in_err-left.ensures.alone in
+    tame_never c.args.meter.now c.next.new.meter c.args.rows.now c.args.column.at _
+    (λ exact none. let head = a.exact exact none in alone head.head head.alone) (λ equality. let head = a.solved equality in alone head.head head.alone)
+
+pub returns-in_err-push-clause-tame : goal.returns-in_err-push-clause-tame
+returns-in_err-push-clause-tame c =
+    let g = c.args.meter.now in
+    let k = c.next.new.meter in
+    let rows = c.args.rows.now in
+    let col = c.args.column.at in
+    let p = err_from_is_err_and c.from_residual-in_err-push.result c.from_residual-in_err-push.ensures.1 in
+    let few = answered_units g c.loop-answers.meter k c.args.column.columns col rows c.loop-answers.answers.items c.loop-answers.parts c.in_ok-left.field-0
+    c.loop-answers.invariant c.in_ok-left.ensures.alone in
+    rw (p.1, p.2) (tame_used g k rows col (Err NoMemory) refl few.0 few.1)
+
+pub returns-clause-tame : goal.returns-clause-tame
+returns-clause-tame c =
+    let g = c.args.meter.now in
+    let k = c.next.new.meter in
+    let rows = c.args.rows.now in
+    let col = c.args.column.at in
+    let few = answered_units g c.loop-answers.meter k c.args.column.columns col rows c.loop-answers.answers.items c.loop-answers.parts c.in_ok-left.field-0
+    c.loop-answers.invariant c.in_ok-left.ensures.alone in
+    tame_ok g k rows col _ few.0 few.1

@@ -1,7 +1,12 @@
-use Rattle.std.proofs.Common.{◌≡◌, ◌∙◌, ◌-◌, get_or, arith}
+use Rattle.std.proofs.Common.{◌≡◌, ◌∙◌, ◌-◌, ap, get_or, pos, arith}
+use Rattle.std.proofs.lemmas.Result.{err_from_is_err_and}
+use Rattle.isl_meter.specs.Gauge.{Gauge, IsCutUpTo}
+use Rattle.isl_meter.proofs.CutLemmas.{IsAnsweredWithin-ok}
 use Rattle.isl_piece.specs.declared.row.RowKind.TheVariants.{Zero}
 use Rattle.isl_omega.specs.Column.{IsAnswerFor}
 use Rattle.isl_omega.specs.Equality.{IsSolvedBy, solved_for}
+use Rattle.isl_omega.specs.Magnitude.{IsRowUpToAt}
+use Rattle.isl_omega.proofs.ExactUnits.{answered_cut}
 use Rattle.isl_omega.proofs.ImageLemmas.{answer_same}
 use Rattle.isl_column.specs.Column.{HoldAtSome}
 use Rattle.isl_column.proofs.EliminateLemmas.{solved_projects}
@@ -27,3 +32,27 @@ returns-clause-left c =
     let at : fixed ≡ get_or rows c.args.at fixed = c.index-rows-at.is in
     let left : c.in_ok-left.left ≡ solved_for fixed c.args.column.at rows = grind arith in
     left ∙ solved_is c.args.column.at rows c.args.at fixed c.requires.equality at
+
+pub returns-in_err-left-clause-no_overflow : goal.returns-in_err-left-clause-no_overflow
+returns-in_err-left-clause-no_overflow c = λ u w all room.
+    let rows = c.args.rows.now in
+    let fixed = c.index-rows-at.result in
+    let at : fixed ≡ get_or rows c.args.at fixed = c.index-rows-at.is in
+    let one : IsRowUpToAt c.args.column.at u w fixed = rw (← at) at (all c.args.at fixed c.requires.equality.place) in
+    let p = err_from_is_err_and c.from_residual.result c.from_residual.ensures.1 in
+    rw (p.1, p.2) (c.in_err-left.ensures.no_overflow u u w w all one room)
+
+pub returns-in_err-left-clause-answered : goal.returns-in_err-left-clause-answered
+returns-in_err-left-clause-answered c =
+    let g = c.args.meter.now in
+    let k = c.equality_step.new.meter in
+    let e = c.in_err-left.field-0.0 in
+    let own : IsCutUpTo (pos 0) g k e = grind arith in
+    let p = err_from_is_err_and c.from_residual.result c.from_residual.ensures.1 in
+    rw (p.1, p.2) (λ few. answered_cut 0 g k e own few)
+
+pub returns-clause-answered : goal.returns-clause-answered
+returns-clause-answered c = λ few.
+    let k = c.equality_step.new.meter in
+    let same : k ≡ c.args.meter.now = grind arith in
+    IsAnsweredWithin-ok c.args.meter.now k 1 _ (let u = ap (λ (x : Gauge). x.units) same in omega arith)

@@ -14,3 +14,9 @@ returns-clause-pairs c =
     let g = c.args.meter.now in
     let rows = c.args.rows.now in
     at_least_paid (pairs_on c.args.column.at rows) g c.real_left.new.meter (IsAnswerFor g (c.args.column.columns - 1) (HoldReally rows c.args.column.at)) c.real_left.result c.real_left.ensures.exact
+
+pub returns-clause-no_overflow : goal.returns-clause-no_overflow
+returns-clause-no_overflow c = λ u w all room. c.real_left.ensures.no_overflow u w all room
+
+pub returns-clause-answered : goal.returns-clause-answered
+returns-clause-answered c = λ few. c.real_left.ensures.answered few

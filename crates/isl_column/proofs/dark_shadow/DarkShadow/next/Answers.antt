@@ -6,7 +6,7 @@ use Rattle.isl_meter.proofs.UnitLemmas.{charged_same, charged_weaker}
 use Rattle.isl_column.specs.DarkShadow.{splinter_count}
 use Rattle.isl_column.specs.Magnitude.{IsSmallDarkShadow}
 use Rattle.isl_column.specs.declared.dark_shadow.DarkShadow.{DarkShadow}
-use Rattle.isl_column.proofs.SplinterLemmas.{IsPopped, IsBuilt, same_bits, tail_at, total_not_negative, taken_dark, popped_tail, popped_small, popped_fewer, so_far_skipped, built_kept, built_none, built_found, built_charged, built_cut, built_fewer, any_some}
+use Rattle.isl_column.proofs.SplinterLemmas.{IsPopped, IsBuilt, no_end, same_bits, tail_at, total_not_negative, taken_dark, popped_tail, popped_small, popped_fewer, so_far_skipped, built_kept, built_none, built_found, built_charged, built_cut, built_fewer, any_some}
 use Rattle.isl_column.proofs.dark_shadow.DarkShadow.next.Goals as goal
 
 pub returns-in-Some-clause-exact : goal.returns-in-Some-clause-exact
@@ -238,3 +238,17 @@ loop-tail-preserved c =
     let popped : IsPopped now tail rest = record { rows = refl; dark = c.loop-tail.invariant.kept.dark; tails = tails } in
     let below : tail.last <ℤ pos 0 = grind (arith, linear) in
     so_far_skipped g h c.args.column.columns c.args.column.at first now tail rest c.loop-tail.invariant popped below
+
+pub returns-in_err-left-clause-alone : goal.returns-in_err-left-clause-alone
+returns-in_err-left-clause-alone c = λ none.
+    let now = c.loop-tail.self in
+    let tail = c.in-Some-pop.tail in
+    let tails : now.tails.items ≡ c.pop.new.self.items ++ tail ∷ [] = grind arith in
+    absurd (no_end c.pop.new.self.items tail (sym (c.loop-tail.invariant.kept.alone none) ∙ tails))
+
+pub returns-then-is_some-clause-alone : goal.returns-then-is_some-clause-alone
+returns-then-is_some-clause-alone c = λ none.
+    let now = c.loop-tail.self in
+    let tail = c.in-Some-pop.tail in
+    let tails : now.tails.items ≡ c.pop.new.self.items ++ tail ∷ [] = grind arith in
+    absurd (no_end c.pop.new.self.items tail (sym (c.loop-tail.invariant.kept.alone none) ∙ tails))

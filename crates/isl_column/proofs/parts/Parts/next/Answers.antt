@@ -1,9 +1,9 @@
-use Rattle.std.proofs.Common.{◌≡◌, ◌≢◌, [], Some, None, MatchOption, sym, refl, arith}
+use Rattle.std.proofs.Common.{◌≡◌, ◌≢◌, ◌∙◌, [], Some, None, MatchOption, sym, ap, refl, arith}
 use Rattle.isl_meter.specs.Gauge.{IsChargedUpTo, IsCutUpTo}
 use Rattle.isl_meter.proofs.CutLemmas.{IsCharged_trans}
 use Rattle.isl_column.specs.DarkShadow.{IsTakenOut, IsNoDarkShadow, splinter_count}
 use Rattle.isl_column.specs.Parts.{PartsView, AreUnitsUpTo, IsNoResidue, IsOpenedFrom, most_units, residues_most, residues_least}
-use Rattle.isl_column.proofs.PartsLemmas.{same_limit, some_residues_kept, parts_found, parts_opened, parts_ended, spent_in_shadow, cut_in_shadow, cut_in_residue, if_some, least_at_most_residues}
+use Rattle.isl_column.proofs.PartsLemmas.{alone_taken, same_limit, some_residues_kept, parts_found, parts_opened, parts_ended, spent_in_shadow, cut_in_shadow, cut_in_residue, if_some, least_at_most_residues}
 use Rattle.isl_column.proofs.SplinterLemmas.{shadow_kept}
 use Rattle.isl_column.proofs.parts.Parts.next.Goals as goal
 
@@ -193,3 +193,38 @@ returns-in-None-clause-pairs c =
     let more = own.charged.units in
     let least = least_at_most_residues now in
     rw both.2 (omega arith)
+
+pub returns-in_err-found-clause-alone : goal.returns-in_err-found-clause-alone
+returns-in_err-found-clause-alone c = λ head x.
+    let same = c.loop-found.invariant.alone x.residues in
+    absurd (c.in_err-found.ensures.alone (ap (λ (p : PartsView). p.dark_shadow.tails.items) same ∙ x.tails))
+
+pub returns-then-is_some-clause-alone : goal.returns-then-is_some-clause-alone
+returns-then-is_some-clause-alone c = λ head x.
+    let h = c.loop-found.meter in
+    let now = c.loop-found.self in
+    let s = c.loop-found.invariant in
+    let found = c.in_ok-found.found in
+    let next : PartsView = record { column = now.column; dark_shadow = c.next.new.self; residues = now.residues } in
+    let same : now ≡ c.args.self.now = s.alone x.residues in
+    let own = c.in_ok-found.ensures.alone (ap (λ (p : PartsView). p.dark_shadow.tails.items) same ∙ x.tails) in
+    let none : next.residues ≡ None = ap (λ (p : PartsView). p.residues) same ∙ x.residues in (
+      own.0 ∙ ap (λ (p : PartsView). p.dark_shadow.dark) same ∙ x.head,
+      alone_taken h now.column.columns now.column.at now.dark_shadow found next c.in_ok-found.ensures.exact.0 own.1 none,
+      own.2 ∙ s.unused x.residues,
+    )
+
+pub returns-in_err-next-clause-alone : goal.returns-in_err-next-clause-alone
+returns-in_err-next-clause-alone c = λ head x.
+    let same = c.loop-found.invariant.alone x.residues in
+    absurd (c.in_err-next.ensures.none (ap (λ (p : PartsView). p.residues) same ∙ x.residues))
+
+pub returns-in-None-clause-alone : goal.returns-in-None-clause-alone
+returns-in-None-clause-alone c = λ head x.
+    let s = c.loop-found.invariant in
+    let same = s.alone x.residues in
+    let own = c.in_ok-found.ensures.alone (ap (λ (p : PartsView). p.dark_shadow.tails.items) same ∙ x.tails) in
+    let none : c.in_ok-found.found ≡ None = grind arith in
+    let no : c.in_ok-next.field-0 ≡ None = grind arith in
+    let both = rw no at c.in_ok-next.ensures.exact in
+    (sym none ∙ own.0 ∙ ap (λ (p : PartsView). p.dark_shadow.dark) same ∙ x.head, tt, both.2 ∙ own.2 ∙ s.unused x.residues)
