@@ -12,7 +12,7 @@ use Rattle.isl_piece.specs.declared.row.Row.{Row}
 use Rattle.isl_piece.specs.Normal.{IsNormal}
 use Rattle.isl_piece.specs.Row.{HoldsRow, IsContingent}
 use Rattle.isl_omega.specs.Column.{IsProper}
-use Rattle.isl_elim.specs.Emptiness.{HoldNowhere}
+use Rattle.isl_simpler.specs.Emptiness.{HoldNowhere}
 use Rattle.isl_column.specs.Column.{HoldAtSome}
 use Rattle.isl_column.specs.RealShadow.{AreImplied, IsImplied}
 use Rattle.isl_column.specs.Parts.{PartsView, AreParts, ArePartsOf, IsNextPart, AreNone, HoldsPart}

@@ -2,7 +2,6 @@ pub mod AlongLaws
 pub mod DefiningLaws
 pub mod EmptinessLaws
 pub mod FewerLaws
-pub mod FixedLaws
 pub mod FlattenLaws
 pub mod KeptLaws
 pub mod LeftLaws
@@ -12,4 +11,3 @@ pub mod PartsLaws
 pub mod ProjectionLaws
 pub mod RangeLaws
 pub mod SampleLaws
-pub mod ShearLaws

@@ -1,12 +1,9 @@
 pub mod Dependents
 pub mod Elimination
-pub mod Emptiness
-pub mod Fixed
 pub mod Flatten
 pub mod Opened
 pub mod Others
 pub mod Sample
-pub mod Shear
 pub use Rattle.isl_column.specs.Column
 pub use Rattle.isl_column.specs.Exact
 pub use Rattle.isl_column.specs.Magnitude
@@ -16,3 +13,4 @@ pub use Rattle.isl_omega.specs.Equality
 pub use Rattle.isl_piece.specs.Normal
 pub use Rattle.isl_piece.specs.Row
 pub use Rattle.isl_piece.specs.System
+pub use Rattle.isl_simpler.specs.Emptiness

@@ -7,18 +7,17 @@ ghost use Rattle.isl_omega.specs.Column.{IsProper};
 ghost use Rattle.isl_column.specs.Units.{elimination_units};
 ghost use Rattle.isl_column.specs.Magnitude.{IsSpared};
 ghost use Rattle.isl_omega.specs.Equality.{HasEquality};
-ghost use Rattle.isl_elim.specs.Emptiness.{HoldNowhere};
+ghost use Rattle.isl_simpler.specs.Emptiness.{HoldNowhere};
 ghost use Rattle.isl_piece.specs.System.{HoldsSystem, IsSystemWithin, free_columns};
 ghost use Rattle.isl_elim.specs.Sample.{IsNowhere};
 ghost use Rattle.isl_column.specs.Parts.{AreParts, AreNone};
 
-use crate::choice::any_column;
 use crate::opened::opened;
-use crate::shear::reduced;
 use isl_column::{Parts, real_shadow};
 use isl_meter::{Cut, Meter};
 use isl_omega::column::Column;
 use isl_piece::{Rows, System};
+use isl_simpler::{any_column, reduced};
 use std::alloc::Global;
 
 /// Whether no number makes rows over one column hold. This spends what elimination of the column does.

@@ -2,19 +2,15 @@
 #![tactic(auto)]
 
 mod along;
-mod choice;
 mod columns;
 mod dependents;
 mod emptiness;
-mod fixed;
 mod flat;
 mod line;
 mod opened;
 mod progression;
 mod projection;
-mod reduction;
 mod sample;
-mod shear;
 
 pub use columns::columns_between;
 pub use emptiness::is_empty;

@@ -15,7 +15,6 @@ ghost use Rattle.isl_elim.specs.Opened.{opened_rows};
 ghost use Rattle.isl_elim.specs.Sample.{IsNowhere};
 
 use crate::along::rows_without;
-use crate::choice::add_many_rows;
 use crate::dependents::{columns_left, with_dependents};
 use crate::opened::opened_rows;
 use isl_column::eliminate_rows;
@@ -23,6 +22,7 @@ use isl_meter::{Cut, Meter};
 use isl_omega::column::Column;
 use isl_piece::{Rows, System};
 use isl_redundant::without_redundant;
+use isl_simpler::add_many_rows;
 use std::alloc::{AllocError, Global};
 
 /// The systems of the rows, over the columns and with the definitions of `left`.

@@ -10,14 +10,13 @@ ghost use Rattle.isl_piece.specs.System.{HoldsSystem, IsSystemWithin, free_colum
 ghost use Rattle.isl_column.specs.Parts.{AreParts, HoldsPart};
 ghost use Rattle.isl_elim.specs.Sample.{IsSample, IsNowhere};
 
-use crate::choice::any_column;
-use crate::fixed::with_fixed;
 use crate::line::tries_at;
 use crate::opened::opened;
 use isl_column::Parts;
 use isl_meter::{Cut, Meter};
 use isl_omega::column::Column;
 use isl_piece::{Rows, System};
+use isl_simpler::{any_column, with_fixed};
 use std::alloc::Global;
 
 // The point with a number put in at the column, so that the rows hold. One unit is used for each number at which they do not.

@@ -5,11 +5,11 @@ use Rattle.isl_meter.proofs.CutLemmas.{IsCharged_refl, IsCharged_trans}
 use Rattle.isl_elim.specs.Others.{others_of}
 use Rattle.isl_column.specs.Parts.{AreParts, ArePartsOf, HoldsPart}
 use Rattle.isl_elim.proofs.OthersLaws.{among, among_at}
-use Rattle.isl_elim.specs.Fixed.{HoldAlike}
+use Rattle.isl_simpler.specs.Fixed.{HoldAlike}
 use Rattle.isl_elim.proofs.AlongLaws.{along_none, along_after, along_nowhere, along_charged, columns_after}
 use Rattle.isl_elim.proofs.AlongLaws.{pushed_all, one_more, counted_after, counted_charged}
 use Rattle.isl_elim.proofs.FewerLaws.{along_alike}
-use Rattle.isl_elim.specs.Emptiness.{HoldNowhere}
+use Rattle.isl_simpler.specs.Emptiness.{HoldNowhere}
 use Rattle.isl_elim.proofs.PartsLaws.{parts_after}
 use Rattle.isl_elim.proofs.along.+eliminate_all.Goals as goal
 

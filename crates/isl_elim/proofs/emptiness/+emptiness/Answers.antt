@@ -2,11 +2,11 @@ use Rattle.std.proofs.Common.{◌≡◌, ◌≢◌, ◌↔◌, ◌<◌, ◌-◌,
 use Rattle.isl_meter.specs.Gauge.{IsCharged}
 use Rattle.isl_meter.proofs.CutLemmas.{IsCharged_trans}
 use Rattle.isl_column.specs.Parts.{ArePartsOf, AreNone}
-use Rattle.isl_elim.specs.Emptiness.{HoldNowhere}
+use Rattle.isl_simpler.specs.Emptiness.{HoldNowhere}
 use Rattle.isl_column.proofs.PartsLemmas.{parts_kept}
 use Rattle.isl_elim.proofs.EmptinessLaws.{some_column, answered_after, head_found, head_holds, head_missing, parts_nowhere, rest_nowhere, some_holds, none_holds, so_far_next}
 use Rattle.isl_elim.proofs.PartsLaws.{part_found, parts_after, proper_kept}
-use Rattle.isl_elim.proofs.ShearLaws.{reduction_after, reduction_some}
+use Rattle.isl_simpler.proofs.ShearLaws.{reduction_after, reduction_some}
 use Rattle.isl_elim.proofs.emptiness.+emptiness.Goals as goal
 
 pub column_out-rest_is_empty-requires : goal.column_out-rest_is_empty-requires

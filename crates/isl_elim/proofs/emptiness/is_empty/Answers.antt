@@ -1,7 +1,7 @@
 use Rattle.std.proofs.Common.{◌≡◌, [], arith}
 use Rattle.isl_meter.specs.Gauge.{IsCharged, IsCutBy}
 use Rattle.isl_piece.specs.System.{HoldsSystem, free_columns}
-use Rattle.isl_elim.specs.Emptiness.{HoldNowhere}
+use Rattle.isl_simpler.specs.Emptiness.{HoldNowhere}
 use Rattle.isl_elim.specs.Opened.{AreOpened}
 use Rattle.isl_elim.specs.Sample.{IsNowhere}
 use Rattle.isl_elim.proofs.OpenedLaws.{decided, opened_nowhere, plain_nowhere}

@@ -1,6 +1,0 @@
-use Rattle.std.proofs.Common.{◌≡◌}
-use Rattle.isl_elim.specs.Fixed.{AreFixed}
-use Rattle.isl_elim.proofs.fixed.fixed_rows.Given as goal
-
-abbrev pub invariant-loop-at : goal.invariant-loop-at
-invariant-loop-at l = AreFixed l.fn.meter l.columns l.rows l.found × (l.meter ≡ l.fn.meter)

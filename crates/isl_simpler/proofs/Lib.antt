@@ -1,0 +1,2 @@
+pub mod FixedLaws
+pub mod ShearLaws

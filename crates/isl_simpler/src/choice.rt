@@ -1,0 +1,212 @@
+//! Which column is taken out first. Each choice is right: this one is cheap.
+
+ghost use Rattle.std.specs.Prelude.{◌<◌, length};
+
+use isl_piece::{Row, RowKind};
+
+// Where fewer rows are added as a column goes, all pairs cost less than a search for rows that the others imply.
+const LEAST_ADDED: u128 = 8;
+
+// How many splinters of any column are too many.
+const MANY_SPLINTERS: u128 = 6;
+
+/// What taking a column out is likely to cost, from the least.
+#[derive(Clone, Copy, PartialEq, Eq, PartialOrd, Ord)]
+enum Cost {
+    /// An equality has the column with the coefficient 1 or -1.
+    Unit,
+    /// An equality has the column.
+    Equality,
+    /// No bound on one side, and no congruence: rows vanish.
+    Open,
+    /// So many rows of pairs, and splinters.
+    Bounds(u128),
+    /// The same, where a congruence has the column.
+    Congruences(u128),
+}
+
+/// How bounds on one side have a column.
+#[derive(Clone, Copy)]
+struct Bounds {
+    count: u128,
+    greatest: u128,
+}
+
+impl Bounds {
+    fn with(self, magnitude: u128) -> Bounds {
+        Bounds {
+            count: self.count.saturating_add(1),
+            greatest: self.greatest.max(magnitude),
+        }
+    }
+}
+
+/// How rows have a column.
+#[derive(Clone, Copy)]
+struct ColumnUse {
+    at: usize,
+    equality: Option<u128>,
+    has_congruence: bool,
+    lowers: Bounds,
+    uppers: Bounds,
+}
+
+// The number that the row has at the column.
+fn number_at(row: &Row, col: usize) -> i128 {
+    row.coefs.as_slice().get(col).map_or(0, |c| c.get())
+}
+
+impl ColumnUse {
+    fn of(rows: &[Row], at: usize) -> ColumnUse {
+        let none = Bounds {
+            count: 0,
+            greatest: 0,
+        };
+        let mut column = ColumnUse {
+            at,
+            equality: None,
+            has_congruence: false,
+            lowers: none,
+            uppers: none,
+        };
+        for row in rows {
+            column = column.with(row);
+        }
+        column
+    }
+
+    fn with(self, row: &Row) -> ColumnUse {
+        let number = number_at(row, self.at);
+        let magnitude = number.unsigned_abs();
+        if number == 0 {
+            return self;
+        }
+        match row.kind {
+            RowKind::Zero => ColumnUse {
+                equality: Some(
+                    self.equality
+                        .map_or(magnitude, |least| least.min(magnitude)),
+                ),
+                ..self
+            },
+            RowKind::AtLeast if number > 0 => ColumnUse {
+                lowers: self.lowers.with(magnitude),
+                ..self
+            },
+            RowKind::AtLeast => ColumnUse {
+                uppers: self.uppers.with(magnitude),
+                ..self
+            },
+            RowKind::Divides | RowKind::NotDivides => ColumnUse {
+                has_congruence: true,
+                ..self
+            },
+        }
+    }
+
+    // How many splinters the bounds on one side leave against the greatest number on the other.
+    fn splinters(self, rows: &[Row], lower: bool) -> u128 {
+        let greatest = if lower {
+            self.uppers.greatest
+        } else {
+            self.lowers.greatest
+        };
+        let mut sum: u128 = 0;
+        for row in rows {
+            let number = number_at(row, self.at);
+            if row.kind == RowKind::AtLeast && number != 0 && (number > 0) == lower {
+                sum = sum.saturating_add(splinters_of(number.unsigned_abs(), greatest));
+            }
+        }
+        sum
+    }
+
+    // How many splinters are left at least; none where a side is open.
+    fn least_splinters(self, rows: &[Row]) -> u128 {
+        if self.equality.is_some() || self.lowers.count == 0 || self.uppers.count == 0 {
+            return 0;
+        }
+        self.splinters(rows, true).min(self.splinters(rows, false))
+    }
+
+    // How many rows more there are once all pairs of its bounds stand for them; none where an equality has the column.
+    fn added_rows(self) -> u128 {
+        if self.equality.is_some() {
+            return 0;
+        }
+        let bounds = self.lowers.count.saturating_add(self.uppers.count);
+        let pairs = self.lowers.count.saturating_mul(self.uppers.count);
+        pairs.saturating_sub(bounds)
+    }
+
+    fn cost(self, rows: &[Row]) -> Cost {
+        if let Some(magnitude) = self.equality {
+            return if magnitude == 1 {
+                Cost::Unit
+            } else {
+                Cost::Equality
+            };
+        }
+        if !self.has_congruence && (self.lowers.count == 0 || self.uppers.count == 0) {
+            return Cost::Open;
+        }
+        let pairs = self.lowers.count.saturating_mul(self.uppers.count);
+        let splinters = self.least_splinters(rows);
+        let estimate = pairs.saturating_add(splinters);
+        if self.has_congruence {
+            Cost::Congruences(estimate)
+        } else {
+            Cost::Bounds(estimate)
+        }
+    }
+}
+
+// How many splinters a bound with this number leaves.
+fn splinters_of(number: u128, greatest: u128) -> u128 {
+    let less = number.saturating_sub(1);
+    less - less / greatest.max(1)
+}
+
+/// Whether many rows are added whichever of the columns is taken out.
+pub fn add_many_rows(rows: &[Row], cols: &[usize]) -> bool {
+    cols.iter().all(|col| ColumnUse::of(rows, *col).added_rows() >= LEAST_ADDED)
+}
+
+/// Whether many splinters are left whichever of the columns is taken out.
+pub(crate) fn leaves_many_splinters(rows: &[Row], columns: usize) -> bool {
+    (0..columns).all(|col| ColumnUse::of(rows, col).least_splinters(rows) >= MANY_SPLINTERS)
+}
+
+/// A place in the list of columns, whose column is likely to cost the least.
+pub fn cheapest(rows: &[Row], cols: &[usize]) -> usize
+    requires { 0 < length cols.now }
+    ensures { result < length cols.now }
+{
+    let mut best = 0;
+    let mut least = None;
+    for i in 0..cols.len() {
+        let cost = ColumnUse::of(rows, cols[i]).cost(rows);
+        if least.is_none_or(|old| cost < old) {
+            best = i;
+            least = Some(cost);
+        }
+    }
+    best
+}
+
+/// A column of so many, which is likely to cost the least.
+pub fn any_column(rows: &[Row], columns: usize) -> usize
+    requires { 0 < columns }
+    ensures { result < columns }
+{
+    let mut best = 0;
+    let mut least = None;
+    for col in 0..columns {
+        let cost = ColumnUse::of(rows, col).cost(rows);
+        if least.is_none_or(|old| cost < old) {
+            best = col;
+            least = Some(cost);
+        }
+    }
+    best
+}
