@@ -10,6 +10,8 @@ use Rattle.isl_meter.specs.declared.Cut.{Cut}
 use Rattle.isl_meter.proofs.CutLemmas.{IsCharged_refl, IsCharged_trans, IsCutBy-after, charges}
 use Rattle.isl_piece.specs.declared.row.Row.{Row}
 use Rattle.isl_piece.specs.Normal.{IsNormal}
+use Rattle.isl_piece.specs.System.{HoldRows}
+use Rattle.isl_redundant.specs.Redundant.{IsReduced}
 use Rattle.isl_piece.specs.Row.{HoldsRow, IsContingent}
 use Rattle.isl_omega.specs.Column.{IsProper}
 use Rattle.isl_simpler.specs.Emptiness.{HoldNowhere}
@@ -170,6 +172,21 @@ pub shadow_after : (g h k : Gauge) (columns col : ℕ) (rows shadow : List Row) 
     → MatchResult result (λ empty. (IsTrue empty → HoldNowhere columns rows) × IsCharged g k) (IsCutBy g k)
 shadow_after g h k columns col rows shadow (Ok empty) i a c r = ((λ t. shadow_some g columns col rows shadow i a (r.0 t)), IsCharged_trans g h k c r.1)
 shadow_after g h k columns col rows shadow (Err cut) i a c r = IsCutBy-after g h k cut c r
+
+-- of fewer rows that hold at the same points
+pub shadow_fewer : (g h k : Gauge) (columns : ℕ) (rows few : List Row) (result : Result Bool Cut) → IsReduced columns rows few
+    → MatchResult result (λ empty. (IsTrue empty → HoldNowhere columns few) × IsCharged g k) (IsCutBy g k)
+    → MatchResult result (λ empty. (IsTrue empty → HoldNowhere columns rows) × IsCharged g k) (IsCutBy g k)
+shadow_fewer g h k columns rows few (Ok empty) r m = ((λ t point l x. m.0 t point l ((r.points point).1 x)), m.1)
+shadow_fewer g h k columns rows few (Err cut) r m = m
+
+pub found_few : (columns : ℕ) (rows few : List Row) (found : Option (List Row)) → found ≡ Some few
+    → MatchOption found ((point : List ℤ) → ¬ HoldRows rows point) (IsReduced columns rows) → IsReduced columns rows few
+found_few columns rows few found e f = rw e at f
+
+pub found_none : (columns : ℕ) (rows : List Row) (found : Option (List Row)) → found ≡ None
+    → MatchOption found ((point : List ℤ) → ¬ HoldRows rows point) (IsReduced columns rows) → HoldNowhere columns rows
+found_none columns rows found e f point l = (rw e at f) point
 
 -- the answer for one column
 normal_none : (g : Gauge) (rows : List Row) → All (IsProper g 0) rows → IsNormal rows → rows ≡ []

@@ -15,6 +15,8 @@ use Rattle.isl_redundant.specs.Redundant.{IsReduced}
 use Rattle.isl_elim.specs.Elimination.{AddsAlong, IsProjectionAlong, IsReducedSystem, system_of}
 use Rattle.isl_simpler.specs.Emptiness.{HoldNowhere}
 use Rattle.isl_simpler.specs.Fixed.{HoldAlike}
+use Rattle.isl_simpler.specs.Shear.{IsReduction}
+use Rattle.isl_redundant.proofs.KeptLaws.{reduced_first}
 use Rattle.isl_elim.specs.Sample.{IsSample, IsNowhere}
 use Rattle.isl_elim.proofs.AlongLaws.{proper_rows}
 
@@ -41,6 +43,23 @@ alike_fewer g columns rows fixed (Some few) a k = record {
       let both = a.points point l in
       let same = k.points point in
       ((λ h. both.0 (same.0 h)), (λ h. same.1 (both.1 h)));
+}
+
+-- ---- emptiness
+-- fewer of those rows that hold nowhere exactly where the first ones do
+pub reduction_fewer : (g : Gauge) (columns : ℕ) (rows short : List Row) (found : Option (List Row)) → IsReduction g columns rows short
+    → MatchOption found ((point : List ℤ) → ¬ HoldRows short point) (IsReduced columns short)
+    → MatchOption found (HoldNowhere columns rows) (IsReduction g columns rows)
+reduction_fewer g columns rows short None r none = r.are.nowhere.0 (λ point l. none point)
+reduction_fewer g columns rows short (Some few) r k = record {
+  are = record {
+    proper = proper_fewer g columns short few k r.are.proper;
+    nowhere = (
+      (λ none. r.are.nowhere.0 (λ point l h. none point l ((k.points point).1 h))),
+      (λ none point l h. r.are.nowhere.1 none point l ((k.points point).0 h)),
+    );
+  };
+  normal = k.normal r.normal;
 }
 
 -- what is left of rows that hold at the same points
@@ -118,4 +137,4 @@ projection_reduced g old few cols new r p =
 
 pub ruleset system_steps = (same_system, reduced_system, nowhere_system)
 
-pub ruleset fewer_steps = (formed_rows, rows_within, alike_fewer)
+pub ruleset fewer_steps = (formed_rows, rows_within, alike_fewer, reduced_first, reduction_fewer)

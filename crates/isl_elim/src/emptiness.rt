@@ -1,14 +1,16 @@
 //! Whether rows hold nowhere.
 
-ghost use Rattle.std.specs.Prelude.{◌≡◌, ◌↔◌, ◌+◌, ◌-◌, ◌<◌, ◌≤◌, ◌+ℤ◌, ◌≤ℤ◌, ℕ, pos, All, [], IfOk, IsTrue, MatchResult};
-ghost use Rattle.isl_meter.specs.Gauge.{IsCharged, IsCutBy, IsMetered};
+ghost use Rattle.std.specs.Prelude.{◌≡◌, ◌↔◌, ◌+◌, ◌-◌, ◌<◌, ◌≤◌, ◌+ℤ◌, ◌≤ℤ◌, ℕ, ℤ, pos, List, All, [], IfOk, IsTrue, MatchOption, MatchResult};
+ghost use Rattle.isl_meter.specs.Gauge.{IsCharged, IsCutBy, IsDone, IsMetered};
 ghost use Rattle.isl_piece.specs.Normal.{IsNormal};
 ghost use Rattle.isl_omega.specs.Column.{IsProper};
 ghost use Rattle.isl_column.specs.Units.{elimination_units};
 ghost use Rattle.isl_column.specs.Magnitude.{IsSpared};
 ghost use Rattle.isl_omega.specs.Equality.{HasEquality};
 ghost use Rattle.isl_simpler.specs.Emptiness.{HoldNowhere};
-ghost use Rattle.isl_piece.specs.System.{HoldsSystem, IsSystemWithin, free_columns};
+ghost use Rattle.isl_simpler.specs.Shear.{IsReduction};
+ghost use Rattle.isl_redundant.specs.Redundant.{IsReduced};
+ghost use Rattle.isl_piece.specs.System.{HoldRows, HoldsSystem, IsSystemWithin, free_columns};
 ghost use Rattle.isl_elim.specs.Sample.{IsNowhere};
 ghost use Rattle.isl_column.specs.Parts.{AreParts, AreNone};
 
@@ -17,8 +19,9 @@ use isl_column::{Parts, real_shadow};
 use isl_meter::{Cut, Meter};
 use isl_omega::column::Column;
 use isl_piece::{Rows, System};
-use isl_simpler::{any_column, reduced};
-use std::alloc::Global;
+use isl_redundant::without_redundant;
+use isl_simpler::{add_many_rows, any_column, reduced};
+use std::alloc::{AllocError, Global};
 
 /// Whether no number makes rows over one column hold. This spends what elimination of the column does.
 pub(crate) fn column_nowhere(alloc: Global, rows: &Rows, meter: &mut Meter) -> Result<bool, Cut>
@@ -30,6 +33,47 @@ pub(crate) fn column_nowhere(alloc: Global, rows: &Rows, meter: &mut Meter) -> R
 {
     let mut parts = Parts::of(alloc, rows.as_slice(), Column { columns: 1, at: 0 }, meter)?;
     Ok(parts.next(alloc, 0, meter)?.is_none())
+}
+
+// The rows, where many pairs of bounds come next without some that the others imply; none where they are seen to hold nowhere.
+#[tactic(auto, using(std::proofs::lemmas::Grind::common_steps, crate::proofs::FewerLaws::fewer_steps))]
+fn fewer(
+    alloc: Global,
+    rows: Rows,
+    columns: usize,
+    meter: &Meter,
+) -> Result<Option<Rows>, AllocError>
+    requires rows { All (IsProper meter.now columns) rows }
+    requires some { 0 < columns }
+    ensures { IfOk result (λ found. MatchOption found ((point : List ℤ) → ¬ HoldRows rows point) (IsReduced columns rows)) }
+{
+    let col = any_column(rows.as_slice(), columns);
+    if !add_many_rows(rows.as_slice(), &[col]) {
+        return Ok(Some(rows));
+    }
+    without_redundant(alloc, rows, columns, meter)
+}
+
+// Rows that hold nowhere exactly where these do: their numbers are smaller, and where many pairs of bounds come next they are fewer; none
+// where they are seen to hold nowhere.
+#[tactic(auto, using(std::proofs::lemmas::Grind::common_steps, crate::proofs::FewerLaws::fewer_steps))]
+fn shorter(
+    alloc: Global,
+    rows: Rows,
+    columns: usize,
+    meter: &mut Meter,
+) -> Result<Option<Rows>, Cut>
+    requires rows { All (IsProper meter.old columns) rows }
+    requires normal { IsNormal rows }
+    requires some { 0 < columns }
+    ensures { IsDone meter.old meter.new
+        (λ found. MatchOption found (HoldNowhere columns rows) (IsReduction meter.old columns rows)) result }
+{
+    let Some(short) = reduced(alloc, rows, columns, meter)? else {
+        return Ok(None);
+    };
+    let few = fewer(alloc, short, columns, meter)?;
+    Ok(few)
 }
 
 // Whether the real shadows of the rows hold nowhere, one column after another. Then no point makes the rows hold; else one may, or none.
@@ -49,8 +93,11 @@ fn shadows_hold_nowhere(
     if columns == 0 || rows.is_empty() {
         return Ok(false);
     }
-    let col = any_column(rows.as_slice(), columns);
-    match real_shadow(alloc, rows.as_slice(), Column { columns, at: col }, meter)? {
+    let Some(few) = fewer(alloc, rows.copy(alloc)?, columns, meter)? else {
+        return Ok(true);
+    };
+    let col = any_column(few.as_slice(), columns);
+    match real_shadow(alloc, few.as_slice(), Column { columns, at: col }, meter)? {
         None => Ok(true),
         Some(shadow) => shadows_hold_nowhere(alloc, &shadow, columns - 1, meter),
     }
@@ -77,7 +124,7 @@ pub(crate) fn hold_nowhere(
     if columns == 1 {
         return column_nowhere(alloc, &rows, meter);
     }
-    match reduced(alloc, rows, columns, meter)? {
+    match shorter(alloc, rows, columns, meter)? {
         None => Ok(true),
         Some(short) => column_out(alloc, &short, columns, meter),
     }

@@ -184,9 +184,9 @@ hold_nowhere-returns-in-Some t c =
     let columns = c.args.columns in
     let rows = c.args.rows in
     let short = c.in-Some.short in
-    let same : c.reduced.new.meter ≡ g = grind arith in
-    let found : c.in_ok-reduced.field-0 ≡ Some short = grind arith in
-    let is = reduction_some g columns rows short c.in_ok-reduced.field-0 found c.in_ok-reduced.ensures.0 in
+    let same : c.shorter.new.meter ≡ g = grind arith in
+    let found : c.in_ok-shorter.field-0 ≡ Some short = grind arith in
+    let is = reduction_some g columns rows short c.in_ok-shorter.field-0 found c.in_ok-shorter.ensures.0 in
     record {
       exact = reduction_after g h columns rows short c.column_out.result is (rw same at c.column_out.ensures.exact);
     }
@@ -197,9 +197,14 @@ hold_nowhere-column_out-requires t c =
     let columns = c.args.columns in
     let rows = c.args.rows in
     let short = c.in-Some.short in
-    let same : c.reduced.new.meter ≡ g = grind arith in
-    let found : c.in_ok-reduced.field-0 ≡ Some short = grind arith in
-    let is = reduction_some g columns rows short c.in_ok-reduced.field-0 found c.in_ok-reduced.ensures.0 in
+    let same : c.shorter.new.meter ≡ g = grind arith in
+    let found : c.in_ok-shorter.field-0 ≡ Some short = grind arith in
+    let is = reduction_some g columns rows short c.in_ok-shorter.field-0 found c.in_ok-shorter.ensures.0 in
     let some : rows ≢ [] = grind arith in
     let wide : 0 < columns = some_column g columns rows c.requires.rows c.requires.normal some in
     (grind arith, (rw same is.are.proper, (is.normal, wide)))
+
+pub hold_nowhere-shorter-requires-clause-some : goal.hold_nowhere-shorter-requires-clause-some
+hold_nowhere-shorter-requires-clause-some t c =
+    let some : c.args.rows ≢ [] = grind arith in
+    some_column c.args.meter.now c.args.columns c.args.rows c.requires.rows c.requires.normal some

@@ -65,6 +65,12 @@ returns-in_err-next-clause-magnitude c = λ bits small one.
     c.in_err-next.ensures.magnitude (charged_bits g h c.in_ok-parts.ensures.exact.1 ∙ bits) parts in
     grind arith
 
+pub returns-in_err-parts-clause-magnitude : goal.returns-in_err-parts-clause-magnitude
+returns-in_err-parts-clause-magnitude c = λ bits small one.
+    let rows_are : c.as_slice.result.now ≡ c.args.rows.now = grind arith in
+    let fact : c.in_err-parts.field-0.0 ≢ Overflow = (rw rows_are at c.in_err-parts.ensures.magnitude) bits small one in
+    grind arith
+
 pub next-requires : goal.next-requires
 next-requires c =
     let g = c.args.meter.now in
