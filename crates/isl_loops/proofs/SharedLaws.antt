@@ -127,7 +127,8 @@ inner_place g h k place around inner is first second wide over e =
 pub shared_lists : (g h : Gauge) (params times : ℕ) (items : List Item) (place : Place) (around : Around) (tree body : Loop)
     → All (IsOver g params times) items → params ≤ length place.frame → length place.frame < params + times → IsPlace g place
     → IsSharedLoop h place items around
-    → ((point : List ℤ) → trace tree point ≡ each_in (λ x. trace body (point ++ x ∷ [])) (turns_at around.head point))
+    → ((point : List ℤ) → length point ≡ place.variables
+    → trace tree point ≡ each_in (λ x. trace body (point ++ x ∷ [])) (turns_at around.head point))
     → ListsAll items (with_loop place around.inside) body → ListsAll items place tree
 shared_lists g h params times items place around tree body over low inner is shared calls lists =
     lists_shared g params times items place (turns_at around.head) around.inside tree body over low inner is.frame is.context.formed

@@ -116,13 +116,13 @@ pub lists_shared : (g : Gauge) (params times : ℕ) (items : List Item) (place :
     → ((point : List ℤ) (x : ℤ) → Stands place point → SomeBegins items (columns_at place.frame point ++ x ∷ [])
     → Contains (turns point) x)
     → ((point : List ℤ) (x : ℤ) → length point ≡ place.variables → Contains (turns point) x → HoldRows inside (point ++ x ∷ []))
-    → ((point : List ℤ) → trace tree point ≡ each_in (λ x. trace body (point ++ x ∷ [])) (turns point))
+    → ((point : List ℤ) → length point ≡ place.variables → trace tree point ≡ each_in (λ x. trace body (point ++ x ∷ [])) (turns point))
     → ListsAll items (with_loop place inside) body → ListsAll items place tree
 lists_shared g params times items place turns inside tree body over low inner framed formed up cover known calls lists point stands =
     let columns = columns_at place.frame point in
     let long : length columns ≡ length place.frame = length-map place.frame (column_at point) in
     let same = (with_variable_is place.variables place.frame framed).columns in
-    subst (Lists (IsCalledBySome items columns)) (sym (calls point))
+    subst (Lists (IsCalledBySome items columns)) (sym (calls point stands.width))
     (turns_list g params times items over columns (omega (arith, long, low)) (omega (arith, long, inner)) (turns point)
     (λ x. trace body (point ++ x ∷ [])) (up point)
     (λ x turn. subst (λ (xs : List ℤ). Lists (IsCalledBySome items xs) (trace body (point ++ x ∷ []))) (same point x stands.width)

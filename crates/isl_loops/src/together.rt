@@ -4,6 +4,7 @@ ghost use Rattle.std.specs.Prelude.{◌≡◌, ◌⊎◌, ◌+◌, ◌-◌, ◌^
 ghost use Rattle.isl_meter.specs.Gauge.{Gauge, IsMetered};
 ghost use Rattle.isl_loop.specs.Formed.{IsLoopOver};
 ghost use Rattle.isl_nest.specs.declared.item.Item.{Item};
+ghost use Rattle.isl_nest.specs.Changing.{AsksWhatChanges};
 ghost use Rattle.isl_nest.specs.Covered.{view_of};
 ghost use Rattle.isl_nest.specs.Places.{IsPlace};
 ghost use Rattle.isl_nest.specs.Separate.{IsSeparate};
@@ -37,6 +38,7 @@ fn one_by_one(
     ensures alone { (item : Item) → items.now ≡ item ∷ [] → IfOk result (IsSeparate (view_of item)
         (item.params + item.levels - length place.now.frame) place.now) }
     ensures over { IfOk result (IsLoopOver meter.old place.now.variables) }
+    ensures changing { IfOk result (AsksWhatChanges place.now.variables) }
     ensures meter { IsMetered meter.old meter.new result }
 {
     let columns = place.frame.len();
@@ -92,7 +94,8 @@ fn shared(
 }
 
 /// The loops of the items behind the columns of the place: a tree that lists the calls of all items in the order of their times wherever
-/// the place stands; of one item its nest alone. No loop goes through a column that has one number for all, told by a form.
+/// the place stands; of one item its nest alone. No loop goes through a column that has one number for all, told by a form,
+/// and none asks at each turn what does not change.
 ///
 /// # Errors
 ///
@@ -114,6 +117,7 @@ pub(crate) fn together(
     ensures alone { (item : Item) → items.items ≡ item ∷ [] → IfOk result (IsSeparate (view_of item)
         (item.params + item.levels - length place.now.frame) place.now) }
     ensures over { IfOk result (IsLoopOver meter.old place.now.variables) }
+    ensures changing { IfOk result (AsksWhatChanges place.now.variables) }
     ensures meter { IsMetered meter.old meter.new result }
 {
     if items.len() <= 1 || place.frame.len() == extent.params + extent.times {
@@ -139,7 +143,7 @@ pub(crate) fn together(
         }
         let inner = place.with_loop(alloc, &around.inside)?;
         let body = together(alloc, extent, &inner, group, meter)?;
-        parts.push(for_loop(alloc, around.head, body)?)?;
+        parts.push(for_loop(alloc, place.variables, around.head, body)?)?;
     }
     Ok(Loop::Block(parts))
 }

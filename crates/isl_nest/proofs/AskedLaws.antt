@@ -143,14 +143,19 @@ turn_or_still item (suc left) place nested (inl s) point long =
     turn_or_still item left (with_entry place s.0 s.1) (record { rows = s.2; tree = nested.tree; inside = nested.inside }) s.5 point long
 turn_or_still item (suc left) place nested (inr s) point long = by (s.0 point) refl
   where
+    no_more : (n : ℕ) → n ≤ 0 → n ≡ 0
+    no_more n few = omega (arith, few)
+
     by : (xs : List ℤ) → s.0 point ≡ xs
         → ((x : ℤ) × HoldRows nested.inside (point ++ x ∷ [])) ⊎ IsStillAt nested.tree point
     by [] none = inr (record {
       calls = s.5.none point none;
-      turned = s.5.turned point
-          ∙ ap (λ (xs : List ℤ). sum_by (λ x. turns_at_turn (s.1 ++ s.2.rows) s.2.tree (point ++ x ∷ [])) xs) none;
-      idle = s.5.idle point
-          ∙ ap (λ (xs : List ℤ). sum_by (λ x. idle_at_turn (s.1 ++ s.2.rows) s.2.tree (point ++ x ∷ [])) xs) none;
+      turned = no_more (turns_of nested.tree point)
+          (subst (λ (xs : List ℤ). turns_of nested.tree point ≤ sum_by (λ x. turns_at_turn (s.1 ++ s.2.rows) s.2.tree (point ++ x ∷ [])) xs)
+          none (s.5.turned point long));
+      idle = no_more (idle_of nested.tree point)
+          (subst (λ (xs : List ℤ). idle_of nested.tree point ≤ sum_by (λ x. idle_at_turn (s.1 ++ s.2.rows) s.2.tree (point ++ x ∷ [])) xs)
+          none (s.5.idle point long));
     })
     by (x ∷ xs) some = inl (x, s.3.known point x long (subst (λ (ys : List ℤ). Contains ys x) (sym some) (first_in x xs)))
 

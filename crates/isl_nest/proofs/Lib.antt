@@ -16,3 +16,7 @@ pub mod LevelLaws
 pub mod AskedLaws
 pub mod SeparateLaws
 pub mod NestedLaws
+pub mod WideLaws
+pub mod ChangingLaws
+pub mod PartedLaws
+pub mod UnderLaws

@@ -1,7 +1,6 @@
 -- What rows tell makes the shape of a nest.
 use Rattle.std.proofs.Common.{◌≡◌, inl, inr, refl, sym, ap, ◌∙◌, subst, arith, ℕ, suc, ◌+◌, ◌<◌, ℤ, List, [], ◌∷◌, ◌++◌}
 use Rattle.std.proofs.Common.{length, length-append}
-use Rattle.std.specs.Prelude.{if◌then◌else◌}
 use Rattle.std.proofs.lemmas.List.{length-map, map-append}
 use Rattle.std.proofs.lemmas.List.Elements.{All-append}
 use Rattle.isl_meter.specs.Gauge.{Gauge}
@@ -11,7 +10,6 @@ use Rattle.isl_piece.specs.System.{HoldRows}
 use Rattle.isl_frame.specs.Frame.{column_at, columns_at}
 use Rattle.isl_frame.proofs.FrameLaws.{with_variable_is}
 use Rattle.isl_loop.specs.Expr.{expr_value}
-use Rattle.isl_loop.specs.Run.{each_in, rows_hold, trace, Event}
 use Rattle.isl_loop.specs.Turns.{turn_count}
 use Rattle.isl_loop.proofs.TurnLaws.{from_up}
 use Rattle.isl_bounds.specs.Bound.{HoldSome}
@@ -140,12 +138,8 @@ module _ (g : Gauge) (item : ItemView) (place : Place) (is_place : IsPlace g pla
         (subst (λ (rs : List Row). IsNowhere item (with_loop place rs)) e none) (point ++ y.0 ∷ []) there
         (subst (IsBegun item) (sym same) y.1)
 
-    abbrev at_turn : Nested → List ℤ → ℤ → List Event
-    at_turn body point x =
-        if rows_hold (around.guards ++ body.rows) (point ++ x ∷ []) then trace body.tree (point ++ x ∷ []) else []
-
     pub looped_nest : (left : ℕ) (rows : List Row) (body made : Nested) → rows ≡ around.inside ++ around.guards
-        → IsNest item left (with_loop place rows) body → IsLoopedNest around body made → IsNest item (suc left) place made
+        → IsNest item left (with_loop place rows) body → IsLoopedNest place.variables around body made → IsNest item (suc left) place made
     looped_nest left rows body made e inner tree =
         inr (turns_at around.head, around.guards, body, looped, tree.rows, loop, there)
       where
@@ -154,8 +148,8 @@ module _ (g : Gauge) (item : ItemView) (place : Place) (is_place : IsPlace g pla
 
         loop : IsLoopOf item place made.tree (turns_at around.head) (around.guards ++ body.rows) body.tree
         loop = record {
-          calls = λ point here. tree.calls point;
-          none = λ point empty. tree.calls point ∙ ap (each_in (at_turn body point)) empty;
+          calls = λ point here. tree.calls point here.width;
+          none = tree.none;
           turned = tree.turned;
           idle = tree.idle;
           depth = tree.depth;

@@ -1,5 +1,5 @@
 -- Trees under rows, and a body in a loop.
-use Rattle.std.proofs.Common.{◌≡◌, ◌∙◌, refl, sym, ap, ℕ, suc, ◌+◌, ℤ, pos, ◌<ℤ◌, List, [], ◌∷◌, ◌++◌}
+use Rattle.std.proofs.Common.{◌≡◌, ◌∙◌, refl, sym, ap, subst, ℕ, suc, ◌+◌, ◌≤◌, ℤ, pos, ◌<ℤ◌, List, [], ◌∷◌, ◌++◌, length}
 use Rattle.std.specs.Prelude.{if◌then◌else◌}
 use Rattle.std.specs.List.{All, sum_by}
 use Rattle.std.proofs.lemmas.List.Elements.{All-append, All-nil}
@@ -50,7 +50,8 @@ each_equal f h (x ∷ xs) same = rw (same x, each_equal f h xs same) refl
 
 module _ (around : Around) (body nested : Nested) (rows : List Row) (tree : Loop) (rows_are : rows ≡ around.guards ++ body.rows)
     (inner : (point : List ℤ) → trace tree point ≡ (if rows_hold rows point then trace body.tree point else []))
-    (outer : (point : List ℤ) → trace nested.tree point ≡ each_in (λ x. trace tree (point ++ x ∷ [])) (turns_at around.head point)) where
+    (variables : ℕ) (outer : (point : List ℤ) → length point ≡ variables
+    → trace nested.tree point ≡ each_in (λ x. trace tree (point ++ x ∷ [])) (turns_at around.head point)) where
   called : (point : List ℤ) → trace tree point ≡ (if rows_hold (around.guards ++ body.rows) point then trace body.tree point else [])
   called point = inner point ∙ ap (λ (rs : List Row). if rows_hold rs point then trace body.tree point else []) rows_are
 
@@ -61,29 +62,32 @@ module _ (around : Around) (body nested : Nested) (rows : List Row) (tree : Loop
   pub looped_is : ((point : List ℤ) → turns_of tree point ≡ (if rows_hold rows point then turns_of body.tree point else 0))
       → ((point : List ℤ) → idle_of tree point ≡ (if rows_hold rows point then idle_of body.tree point else 0))
       → depth_of tree ≡ depth_of body.tree
-      → ((point : List ℤ) → turns_of nested.tree point ≡ sum_by (λ x. 1 + turns_of tree (point ++ x ∷ [])) (turns_at around.head point))
-      → ((point : List ℤ) → idle_of nested.tree point
-      ≡ sum_by (λ x. idle_turn (trace tree (point ++ x ∷ [])) + idle_of tree (point ++ x ∷ [])) (turns_at around.head point))
-      → depth_of nested.tree ≡ suc (depth_of tree) → nested.rows ≡ [] → nested.inside ≡ around.inside → IsLoopedNest around body nested
-  looped_is turned idle deep all_turned all_idle deeper bare inside = record {
+      → ((point : List ℤ) → turns_at around.head point ≡ [] → trace nested.tree point ≡ [])
+      → ((point : List ℤ) → length point ≡ variables → turns_of nested.tree point
+      ≤ sum_by (λ x. 1 + turns_of tree (point ++ x ∷ [])) (turns_at around.head point))
+      → ((point : List ℤ) → length point ≡ variables → idle_of nested.tree point
+      ≤ sum_by (λ x. idle_turn (trace tree (point ++ x ∷ [])) + idle_of tree (point ++ x ∷ [])) (turns_at around.head point))
+      → depth_of nested.tree ≡ suc (depth_of tree) → nested.rows ≡ [] → nested.inside ≡ around.inside
+      → IsLoopedNest variables around body nested
+  looped_is turned idle deep none all_turned all_idle deeper bare inside = record {
     rows = bare;
     inside = inside;
-    calls = λ point.
-        outer point
+    none = none;
+    calls = λ point long.
+        outer point long
         ∙ each_equal (λ x. trace tree (point ++ x ∷ []))
         (λ x. if rows_hold (around.guards ++ body.rows) (point ++ x ∷ []) then trace body.tree (point ++ x ∷ []) else [])
         (turns_at around.head point) (λ x. called (point ++ x ∷ []));
-    turned = λ point.
-        all_turned point
-        ∙ sum_same (λ x. 1 + turns_of tree (point ++ x ∷ []))
+    turned = λ point long. subst (λ (n : ℕ). turns_of nested.tree point ≤ n)
+        (sum_same (λ x. 1 + turns_of tree (point ++ x ∷ []))
         (λ x. turns_at_turn (around.guards ++ body.rows) body.tree (point ++ x ∷ [])) (turns_at around.head point)
         (λ x. ap (λ (n : ℕ). 1 + n)
-        (counted (turns_of tree (point ++ x ∷ [])) (turns_of body.tree (point ++ x ∷ [])) (point ++ x ∷ []) (turned (point ++ x ∷ []))));
-    idle = λ point.
-        all_idle point
-        ∙ sum_same (λ x. idle_turn (trace tree (point ++ x ∷ [])) + idle_of tree (point ++ x ∷ []))
+        (counted (turns_of tree (point ++ x ∷ [])) (turns_of body.tree (point ++ x ∷ [])) (point ++ x ∷ []) (turned (point ++ x ∷ [])))))
+        (all_turned point long);
+    idle = λ point long. subst (λ (n : ℕ). idle_of nested.tree point ≤ n)
+        (sum_same (λ x. idle_turn (trace tree (point ++ x ∷ [])) + idle_of tree (point ++ x ∷ []))
         (λ x. idle_at_turn (around.guards ++ body.rows) body.tree (point ++ x ∷ [])) (turns_at around.head point)
-        (λ x. idle_same (point ++ x ∷ []));
+        (λ x. idle_same (point ++ x ∷ []))) (all_idle point long);
     depth = deeper ∙ ap suc deep;
   }
     where

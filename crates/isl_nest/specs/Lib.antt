@@ -10,6 +10,8 @@ pub mod Striding
 pub mod Between
 pub mod Depth
 pub mod TurnsAt
+pub mod Changing
+pub mod Opened
 pub mod Nest
 pub mod LoopedNest
 pub mod Asked

@@ -82,15 +82,18 @@ pub record IsLoopedAt (item : ItemView) (place : Place) (turns : List ℤ → Li
   pub full : AreStriding place.frame item.rows → (point : List ℤ) (x : ℤ) → IsHere item place point → Contains (turns point) x
       → HoldRows guards (point ++ x ∷ [])
 
--- the tree goes through these turns: at each it runs the body, if the rows hold there; without a turn it does nothing
+-- The tree goes through these turns: at each it runs the body, if the rows hold there; without a turn it does nothing. Turns at which the rows
+-- hold nowhere may be left out.
 pub record IsLoopOf (item : ItemView) (place : Place) (tree : Loop) (turns : List ℤ → List ℤ) (rows : List Row) (body : Loop)
     : Type 0 where
   pub calls : (point : List ℤ) → IsHere item place point
       → trace tree point
       ≡ each_in (λ x. if rows_hold rows (point ++ x ∷ []) then trace body (point ++ x ∷ []) else []) (turns point)
   pub none : (point : List ℤ) → turns point ≡ [] → trace tree point ≡ []
-  pub turned : (point : List ℤ) → turns_of tree point ≡ sum_by (λ x. turns_at_turn rows body (point ++ x ∷ [])) (turns point)
-  pub idle : (point : List ℤ) → idle_of tree point ≡ sum_by (λ x. idle_at_turn rows body (point ++ x ∷ [])) (turns point)
+  pub turned : (point : List ℤ) → length point ≡ place.variables
+      → turns_of tree point ≤ sum_by (λ x. turns_at_turn rows body (point ++ x ∷ [])) (turns point)
+  pub idle : (point : List ℤ) → length point ≡ place.variables
+      → idle_of tree point ≤ sum_by (λ x. idle_at_turn rows body (point ++ x ∷ [])) (turns point)
   pub depth : depth_of tree ≡ suc (depth_of body)
 
 -- rows to ask, a tree and rows of its loop that are well formed over so many variables

@@ -5,6 +5,7 @@ mod around;
 mod asked;
 mod cover;
 mod equality;
+mod guards;
 mod item;
 mod loops;
 mod naming;

@@ -1,8 +1,9 @@
 //! Nests of loops from items.
 
-ghost use Rattle.std.specs.Prelude.{◌≡◌, ◌+◌, ◌≤◌, IfOk, IfSome, MatchOption, length};
+ghost use Rattle.std.specs.Prelude.{◌≡◌, ◌+◌, ◌≤◌, ℕ, IfOk, IfSome, MatchOption, length};
 ghost use Rattle.isl_meter.specs.Gauge.{IsMetered};
 ghost use Rattle.isl_loop.specs.Formed.{IsLoopOver};
+ghost use Rattle.isl_nest.specs.Changing.{AsksWhatChanges};
 ghost use Rattle.isl_nest.specs.Covered.{view_of, IsCovered};
 ghost use Rattle.isl_nest.specs.Nest.{IsCallAt, IsNest, IsNestOver, IsNowhere, ListsBehind};
 ghost use Rattle.isl_nest.specs.Places.{IsPlace};
@@ -11,8 +12,8 @@ ghost use Rattle.isl_nest.specs.Separate.{IsSeparate};
 use crate::around::Around;
 use crate::asked::asked;
 use crate::equality::told_by;
+use crate::guards::under;
 use crate::naming::naming;
-use crate::nested::under;
 use crate::sides::joined;
 use crate::told::Told;
 use crate::{Item, Nested, Place};
@@ -30,6 +31,7 @@ fn call(alloc: Global, item: &Item, place: &Place, meter: &Meter) -> Result<Loop
     requires whole { length place.now.frame ≡ item.now.params + item.now.levels }
     ensures call { IfOk result (IsCallAt (view_of item.now) place.now) }
     ensures over { IfOk result (IsLoopOver meter.now place.now.variables) }
+    ensures changing { (n : ℕ) → IfOk result (AsksWhatChanges n) }
 {
     // For what a meter keeps: it has at least 8 bits.
     let _limit = meter.limit();
@@ -46,7 +48,7 @@ fn call(alloc: Global, item: &Item, place: &Place, meter: &Meter) -> Result<Loop
 }
 
 /// The nest of the item behind the columns of the place, where so many are left: a tree under rows, which lists the item's calls in the order
-/// of their times wherever the place holds; `None` where none are there.
+/// of their times wherever the place holds; `None` where none are there. No loop asks at each turn what does not change.
 ///
 /// # Errors
 ///
@@ -65,6 +67,7 @@ pub fn nest(
     ensures nest { IfOk result (λ nested. MatchOption nested (IsNowhere (view_of item.now) place.now)
         (IsNest (view_of item.now) left place.now)) }
     ensures over { IfOk result (λ nested. IfSome nested (IsNestOver meter.old place.now.variables)) }
+    ensures changing { IfOk result (λ nested. IfSome nested (λ n. AsksWhatChanges place.now.variables n.tree)) }
     ensures meter { IsMetered meter.old meter.new result }
 {
     if left == 0 {
@@ -92,11 +95,11 @@ pub fn nest(
     let Some(body) = nest(alloc, item, left - 1, &inner, meter)? else {
         return Ok(None);
     };
-    Ok(Some(Nested::of_loop(alloc, around, body)?))
+    Ok(Some(Nested::of_loop(alloc, place.variables, around, body)?))
 }
 
 /// The loops of the item alone behind the columns of the place, where so many are left: a tree that lists the item's calls in the order of
-/// their times wherever the place stands.
+/// their times wherever the place stands. No loop asks at each turn what does not change.
 ///
 /// # Errors
 ///
@@ -115,6 +118,7 @@ pub fn separate(
     ensures lists { IfOk result (ListsBehind (view_of item.now) place.now) }
     ensures separate { IfOk result (IsSeparate (view_of item.now) left place.now) }
     ensures over { IfOk result (IsLoopOver meter.old place.now.variables) }
+    ensures changing { IfOk result (AsksWhatChanges place.now.variables) }
     ensures meter { IsMetered meter.old meter.new result }
 {
     let variables = place.variables;

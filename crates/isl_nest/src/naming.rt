@@ -25,7 +25,7 @@ pub(crate) fn named(coefs: &Coefs) -> usize
 }
 
 // The row over its first columns.
-fn cut(alloc: Global, row: &Row, columns: usize) -> Result<Row, AllocError>
+pub(crate) fn cut(alloc: Global, row: &Row, columns: usize) -> Result<Row, AllocError>
     requires { columns ≤ length row.now.coefs }
     ensures { IfOk result (λ made. made ≡ cut columns row.now) }
 {

@@ -9,7 +9,7 @@ use Rattle.isl_piece.specs.declared.row.Row.{Row}
 use Rattle.isl_piece.specs.Row.{IsWellFormed}
 use Rattle.isl_piece.specs.System.{HoldRows, widened}
 use Rattle.isl_frame.specs.Frame.{column_at, columns_at, own_column}
-use Rattle.isl_loop.specs.Run.{each_in, rows_hold, trace, turns_of, Event}
+use Rattle.isl_loop.specs.Run.{each_in, idle_of, rows_hold, trace, turns_of, Event}
 use Rattle.isl_loop.proofs.RowLaws.{rows_tell}
 use Rattle.isl_nest.specs.declared.nested.Nested.{Nested}
 use Rattle.isl_nest.specs.declared.place.Place.{Place}
@@ -139,13 +139,23 @@ module _ (item : ItemView) (is : IsItem item) (strided : IsStrided item.params i
           let begun = begun_here in
           let turn = (looped.cover point begun.0 here begun.1).0 in
           some_each calls (turns point) begun.0 turn some (sym whole_trace ∙ e);
-      idle = loop.idle point ∙ sum_none (λ x. idle_at_turn (guards ++ body.rows) body.tree (point ++ x ∷ [])) (turns point) none_idle;
+      idle = no_more (idle_of nested.tree point)
+          (sum_by (λ x. idle_at_turn (guards ++ body.rows) body.tree (point ++ x ∷ [])) (turns point)) (loop.idle point here.width)
+          (sum_none (λ x. idle_at_turn (guards ++ body.rows) body.tree (point ++ x ∷ [])) (turns point) none_idle);
       turned =
-          subst (λ n. n ≤ suc left * length (trace nested.tree point)) (sym (loop.turned point))
+          at_most (turns_of nested.tree point)
+          (sum_by (λ x. turns_at_turn (guards ++ body.rows) body.tree (point ++ x ∷ [])) (turns point))
+          (suc left * length (trace nested.tree point)) (loop.turned point here.width)
           (subst (λ (es : List Event). sum_by (λ x. turns_at_turn (guards ++ body.rows) body.tree (point ++ x ∷ [])) (turns point)
           ≤ suc left * length es) (sym whole_trace)
           (sum_most (λ x. turns_at_turn (guards ++ body.rows) body.tree (point ++ x ∷ [])) calls (suc left) (turns point) few_turns));
     }
+      where
+        no_more : (n m : ℕ) → n ≤ m → m ≡ 0 → n ≡ 0
+        no_more n m few none = omega (arith, few, none)
+
+        at_most : (n m k : ℕ) → n ≤ m → m ≤ k → n ≤ k
+        at_most n m k few more = omega (arith, few, more)
 
 -- ---- the nest
 -- with so many levels left, of an item whose columns are all the time

@@ -35,3 +35,6 @@ returns-in_err-loops_of-clause-tree c =
 pub returns-clause-strided : goal.returns-clause-strided
 returns-clause-strided c set =
     c.in_ok-loops_of.ensures.strided (width_of set.form) set.rows (c.in_ok-items.ensures.1.own set.form set.rows set.set) set.strided
+
+pub returns-clause-changing : goal.returns-clause-changing
+returns-clause-changing c = c.in_ok-loops_of.ensures.changing

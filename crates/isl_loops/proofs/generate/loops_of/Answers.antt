@@ -2,6 +2,7 @@ use Rattle.std.proofs.Common.{◌≡◌, ◌∙◌, ◌+◌, ◌-◌, ◌≤◌,
 use Rattle.std.proofs.lemmas.Result.{IfOk-weaker}
 use Rattle.isl_loop.specs.Formed.{IsLoopOver}
 use Rattle.isl_nest.specs.declared.place.Place.{Place}
+use Rattle.isl_nest.specs.Changing.{AsksWhatChanges}
 use Rattle.isl_nest.specs.Covered.{view_of}
 use Rattle.isl_nest.specs.Separate.{IsSeparate}
 use Rattle.isl_space.specs.Limits.{most_coordinates}
@@ -87,3 +88,11 @@ returns-clause-strided c levels rows only strided =
     (IsNeverIdle value.params levels)
     (λ tree separate. never_idle c.args.meter.now value items c.requires place tree e c.in_ok-own_frame.ensures.frame c.new.ensures levels rows
     only strided separate) (c.together.ensures.alone item only.only)
+
+pub returns-clause-changing : goal.returns-clause-changing
+returns-clause-changing c =
+    let value = c.args.value.now in
+    let e : c.len-params.result ≡ length value.params =
+    c.len-params.ensures.len ∙ ap (λ (ns : List Name). length ns) c.params.ensures.content in
+    IfOk-weaker c.together.result (AsksWhatChanges c.len-params.result) (AsksWhatChanges (length value.params))
+    (λ tree asks. subst (λ (n : ℕ). AsksWhatChanges n tree) e asks) c.together.ensures.changing

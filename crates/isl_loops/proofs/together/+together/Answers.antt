@@ -1,16 +1,18 @@
 use Rattle.std.proofs.Common.{◌≡◌, ◌<◌, ◌+◌, ◌∷◌, ◌∙◌, [], sym, ap, subst, arith, length, ℕ, List}
 use Rattle.std.specs.Global.{Vec}
 use Rattle.std.proofs.lemmas.Grind.{common_steps}
-use Rattle.std.proofs.lemmas.List.Elements.{All-weaker}
+use Rattle.std.proofs.lemmas.List.Elements.{All-nil, All-weaker}
 use Rattle.std.proofs.lemmas.Result.{err_from_is_err_and}
 use Rattle.isl_meter.proofs.CutLemmas.{IsCharged_trans, IsCutBy-after, IsCutBy-charged}
 use Rattle.isl_frame.proofs.NeededLaws.{over_later}
 use Rattle.isl_loop.specs.Formed.{IsLoopOver}
 use Rattle.isl_loop.proofs.LimitLaws.{IsLoopOver-same}
+use Rattle.isl_nest.specs.Changing.{AsksWhatChanges}
 use Rattle.isl_nest.specs.Nest.{with_loop}
 use Rattle.isl_nest.specs.declared.item.Item.{Item}
 use Rattle.isl_nest.specs.declared.place.Place.{Place}
 use Rattle.isl_nest.proofs.AroundLaws.{charged_bits}
+use Rattle.isl_nest.proofs.ChangingLaws.{changing_of-Block}
 use Rattle.isl_nest.proofs.PlaceLaws.{place_later}
 use Rattle.isl_loops.specs.Groups.{AreGroupsOf}
 use Rattle.isl_loops.specs.Shared.{IsOnlyForm, IsSharedLoop, IsSharedNothing}
@@ -18,7 +20,7 @@ use Rattle.isl_loops.specs.Together.{IsOver, ListsAll}
 use Rattle.isl_loops.proofs.CallLaws.{over_charged}
 use Rattle.isl_loops.proofs.GroupedLaws.{group_apart, group_has, made_all, made_more, made_none, made_same}
 use Rattle.isl_loops.proofs.OnlyLaws.{entry_lists, entry_long, entry_place}
-use Rattle.isl_loops.proofs.PartsLaws.{block_over}
+use Rattle.isl_loops.proofs.PartsLaws.{block_over, parts_asking}
 use Rattle.isl_loops.proofs.SharedLaws.{inner_long, inner_place, shared_lists}
 use Rattle.isl_loops.proofs.together.+together.Goals as goal
 
@@ -33,6 +35,7 @@ loop-group-init t c =
       made_none g place items groups c.new-parts.result
           (subst (λ (gs : List (Vec Item)). AreGroupsOf place items [] gs) (sym same) made.ensures.groups) c.new-parts.ensures,
       made.ensures.meter,
+      rw c.new-parts.ensures (All-nil (AsksWhatChanges place.variables)),
     )
 
 pub one_by_one-requires-then-len-eq1-clause-place : goal.one_by_one-requires-then-len-eq1-clause-place
@@ -81,6 +84,8 @@ loop-group-preserved-then-len-eq1 t c =
           c.requires.low inner c.push.new.self tree c.in_ok-push.ensures.ok lists
           (IsLoopOver-same h g place.variables tree (sym (charged_bits g h c.loop-group.invariant.1)) c.in_ok-one_by_one.ensures.over),
       IsCharged_trans g h c.one_by_one-then-len-eq1.new.meter c.loop-group.invariant.1 c.in_ok-one_by_one.ensures.meter,
+      parts_asking place.variables c.loop-group.parts tree c.push.new.self c.in_ok-push.ensures.ok c.loop-group.invariant.2
+          c.in_ok-one_by_one.ensures.changing,
     )
 
 pub shared-requires-clause-place : goal.shared-requires-clause-place
@@ -118,6 +123,7 @@ loop-group-preserved-in_default t c =
       made_same g place c.args.items.items before c.loop-group.parts c.loop-group.invariant.0 group rest next p n c.requires.items
           c.requires.low inner (rw c.as_slice-in-loop-group.ensures.value at none),
       IsCharged_trans g h c.shared.new.meter c.loop-group.invariant.1 c.in_ok-around.ensures.meter,
+      c.loop-group.invariant.2,
     )
 
 pub only_form-requires : goal.only_form-requires
@@ -195,6 +201,9 @@ loop-group-preserved-in-Some-3 t c =
           c.requires.low inner c.push-in-Some-3.new.self tree c.in_ok-push-2.ensures.ok lists tree_over,
       IsCharged_trans g h c.together.new.meter c.loop-group.invariant.1
           (IsCharged_trans h k c.together.new.meter c.in_ok-around.ensures.meter c.in_ok-tree.ensures.meter),
+      parts_asking place.variables c.loop-group.parts tree c.push-in-Some-3.new.self c.in_ok-push-2.ensures.ok c.loop-group.invariant.2
+          (subst (λ (v : ℕ). AsksWhatChanges v tree) (ap (λ (q : Place). q.variables) c.in_ok-behind.ensures)
+          c.in_ok-tree.ensures.changing),
     )
 
 pub with_loop-requires : goal.with_loop-requires
@@ -262,19 +271,22 @@ loop-group-preserved t c =
     let below : ListsAll group.items (with_loop place around.inside) body =
     subst (λ (q : Place). ListsAll group.items q body) c.in_ok-inner.ensures c.in_ok-body.ensures.lists in
     let lists = shared_lists g h p n group.items place around tree body over c.requires.low inner c.requires.place loop
-    (λ point. c.in_ok-for_loop.ensures.trace point) below in
+    (λ point long. c.in_ok-for_loop.ensures.trace point long) below in
     let to_h = charged_bits h k c.in_ok-around.ensures.meter in
     let to_g = charged_bits g h c.loop-group.invariant.1 in
     let body_over : IsLoopOver h (place.variables + 1) body =
     subst (λ (v : ℕ). IsLoopOver h v body) (ap (λ (q : Place). q.variables) c.in_ok-inner.ensures)
     (IsLoopOver-same k h c.in_ok-inner.inner.variables body (sym to_h) c.in_ok-body.ensures.over) in
-    let tree_over = c.in_ok-for_loop.ensures.over h place.variables loop.over.low loop.over.high loop.over.positive loop.over.within
+    let tree_over = c.in_ok-for_loop.ensures.over h loop.over.low loop.over.high loop.over.positive loop.over.within
     body_over in (
       made_more g place c.args.items.items before c.loop-group.parts c.loop-group.invariant.0 group rest next p n c.requires.items
           c.requires.low inner c.push-in-loop-group.new.self tree c.in_ok-push-3.ensures.ok lists
           (IsLoopOver-same h g place.variables tree (sym to_g) tree_over),
       IsCharged_trans g h c.together-in-loop-group.new.meter c.loop-group.invariant.1
           (IsCharged_trans h k c.together-in-loop-group.new.meter c.in_ok-around.ensures.meter c.in_ok-body.ensures.meter),
+      parts_asking place.variables c.loop-group.parts tree c.push-in-loop-group.new.self c.in_ok-push-3.ensures.ok c.loop-group.invariant.2
+          (c.in_ok-for_loop.ensures.changing
+          (subst (λ (v : ℕ). AsksWhatChanges v body) (ap (λ (q : Place). q.variables) c.in_ok-inner.ensures) c.in_ok-body.ensures.changing)),
     )
 
 pub returns-clause-lists : goal.returns-clause-lists
@@ -282,6 +294,9 @@ returns-clause-lists t c =
     let rest = c.loop-group.group-iterator.rest.items in
     let none = sym c.loop-group.group-iterator.rest.ok.0 ∙ c.in-None.ensures.steps.0 in
     made_all c.args.meter.now c.args.place.now c.args.items.items rest c.loop-group.parts c.loop-group.invariant.0 none
+
+pub returns-clause-changing : goal.returns-clause-changing
+returns-clause-changing t c = changing_of-Block c.args.place.now.variables c.loop-group.parts c.loop-group.invariant.2
 
 pub returns-clause-over : goal.returns-clause-over
 returns-clause-over t c =

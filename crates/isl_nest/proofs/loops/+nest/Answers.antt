@@ -1,7 +1,9 @@
-use Rattle.std.proofs.Common.{◌≡◌, ◌+◌, ◌-◌, ◌<◌, suc, sym, ap, subst, arith}
+use Rattle.std.proofs.Common.{◌≡◌, ◌+◌, ◌-◌, ◌<◌, ℕ, suc, sym, ap, subst, arith}
 use Rattle.std.proofs.lemmas.Grind.{common_steps}
+use Rattle.isl_nest.specs.declared.nested.Nested.{Nested}
 use Rattle.isl_nest.specs.declared.place.Place.{Place}
 use Rattle.isl_nest.specs.Around.{IsAround, IsAroundNothing}
+use Rattle.isl_nest.specs.Changing.{AsksWhatChanges}
 use Rattle.isl_nest.specs.Covered.{view_of}
 use Rattle.isl_nest.specs.Nest.{IsNest, IsNestOver, IsNowhere}
 use Rattle.isl_nest.specs.Told.{IsTold, IsUntold}
@@ -271,6 +273,23 @@ returns-clause-over t c =
     rw c.in-Some-4.is at c.in_ok-around.ensures.around in
     let body = c.in-Some-5.body in
     let below : IsNestOver h inner.variables body = rw c.in-Some-5.is at c.in_ok-body.ensures.over in
-    c.in_ok-of_loop.ensures.over g place.variables is.over
+    c.in_ok-of_loop.ensures.over g is.over
     (nest_same h g inner.variables (place.variables + 1) body (sym (charged_bits g h c.in_ok-around.ensures.meter))
     (sym (ap (λ (p : Place). p.variables) c.in_ok-inner-2.ensures)) below)
+
+pub returns-in-Some-clause-changing : goal.returns-in-Some-clause-changing
+returns-in-Some-clause-changing t c =
+    let inner = c.in_ok-inner.inner in
+    let nested = c.in-Some-3.nested in
+    let below : AsksWhatChanges inner.variables nested.tree = rw c.in-Some-3.is at c.in_ok-nested.ensures.changing in
+    let here : AsksWhatChanges c.args.place.now.variables nested.tree =
+    subst (λ (n : ℕ). AsksWhatChanges n nested.tree) (ap (λ (p : Place). p.variables) c.in_ok-inner.ensures) below in
+    subst (λ (m : Nested). AsksWhatChanges c.args.place.now.variables m.tree) (sym c.in_ok-behind.ensures) here
+
+pub returns-clause-changing : goal.returns-clause-changing
+returns-clause-changing t c =
+    let inner = c.in_ok-inner-2.inner in
+    let body = c.in-Some-5.body in
+    let below : AsksWhatChanges inner.variables body.tree = rw c.in-Some-5.is at c.in_ok-body.ensures.changing in
+    c.in_ok-of_loop.ensures.changing
+    (subst (λ (n : ℕ). AsksWhatChanges n body.tree) (ap (λ (p : Place). p.variables) c.in_ok-inner-2.ensures) below)

@@ -1,4 +1,4 @@
-use Rattle.std.proofs.Common.{◌+◌, ◌^◌, ◌++◌, inl, refl, sym, ap, subst, arith, List, length}
+use Rattle.std.proofs.Common.{◌+◌, ◌^◌, ◌++◌, inl, refl, sym, ap, subst, arith, ℕ, List, length}
 use Rattle.std.specs.List.{All, AllZip}
 use Rattle.isl_meter.specs.Gauge.{Gauge, IsCharged}
 use Rattle.isl_meter.proofs.CutLemmas.{IsCharged_refl, IsCharged_trans}
@@ -10,12 +10,14 @@ use Rattle.isl_frame.proofs.NeededLaws.{kept_have, over_later}
 use Rattle.isl_loop.specs.declared.tree.Loop.{Block}
 use Rattle.isl_loop.specs.Formed.{IsRowOver}
 use Rattle.isl_nest.specs.declared.place.Place.{Place}
+use Rattle.isl_nest.specs.Changing.{AsksWhatChanges}
 use Rattle.isl_nest.specs.Covered.{view_of}
 use Rattle.isl_nest.specs.Naming.{AreNaming}
 use Rattle.isl_nest.specs.Nest.{with_context, IsNest, IsNestOver, IsNowhere}
 use Rattle.isl_nest.specs.Places.{AreGuards, IsPlace}
 use Rattle.isl_nest.proofs.AroundLaws.{charged_bits}
 use Rattle.isl_nest.proofs.AskedLaws.{asked_room}
+use Rattle.isl_nest.proofs.ChangingLaws.{empty_changing}
 use Rattle.isl_nest.proofs.CountLaws.{empty_still, empty_trace}
 use Rattle.isl_nest.proofs.LevelLaws.{covered_later, nest_same}
 use Rattle.isl_nest.proofs.NamingLaws.{naming_over}
@@ -261,7 +263,7 @@ returns-clause-lists c =
     separate_lists (view_of item) place front naming through zip g normal rows points c.in_ok-rows.ensures.exact guards c.requires.item.is
     c.args.left nested tree c.requires.whole c.requires.low below
     (asked_calls (view_of item) place front naming through zip g normal rows points c.in_ok-rows.ensures.exact guards c.args.left nested tree
-    c.in_ok-guards.guards below is.rows.over c.in_ok-guards.ensures.asked (λ point. c.in_ok-under.ensures.trace point))
+    c.in_ok-guards.guards below is.rows.over c.in_ok-guards.ensures.asked c.in_ok-under.ensures.runs.calls)
 
 pub returns-clause-separate : goal.returns-clause-separate
 returns-clause-separate c =
@@ -296,8 +298,8 @@ returns-clause-separate c =
     (rw c.in-Some-2.is at c.in_ok-nested.ensures.nest) in
     separate_under (view_of item) place front naming through zip g normal rows (rw c.in-Some.is at c.in_ok-normal.ensures.points)
     c.in_ok-rows.ensures.exact guards c.args.left nested c.in_ok-under.field-0 c.in_ok-guards.guards below is.rows.over
-    c.in_ok-guards.ensures.asked (λ point. c.in_ok-under.ensures.trace point) (λ point. c.in_ok-under.ensures.turned point)
-    (λ point. c.in_ok-under.ensures.idle point) c.in_ok-under.ensures.depth
+    c.in_ok-guards.ensures.asked c.in_ok-under.ensures.runs.calls c.in_ok-under.ensures.runs.turned
+    c.in_ok-under.ensures.runs.idle c.in_ok-under.ensures.runs.depth
 
 pub returns-clause-over : goal.returns-clause-over
 returns-clause-over c =
@@ -329,3 +331,19 @@ returns-clause-over c =
     (sym (charged_bits g c.needed.new.meter charged)) (sym (ap (λ (p : Place). p.variables) c.in_ok-inner.ensures)) below in
     c.in_ok-under.ensures.over g place.variables (kept_have (IsRowOver g place.variables) (rows ++ nested.rows) c.in_ok-guards.guards
     c.in_ok-guards.ensures.asked.each (asked_over g place.variables rows nested.rows (rows ++ nested.rows) refl guards is.rows)) is.tree
+
+pub returns-in_default-clause-changing : goal.returns-in_default-clause-changing
+returns-in_default-clause-changing c = empty_changing c.args.place.now.variables c.new.result c.new.ensures
+
+pub returns-in_default-2-clause-changing : goal.returns-in_default-2-clause-changing
+returns-in_default-2-clause-changing c =
+    empty_changing c.args.place.now.variables c.new-in_default-2.result c.new-in_default-2.ensures
+
+pub returns-clause-changing : goal.returns-clause-changing
+returns-clause-changing c =
+    let n = c.args.place.now.variables in
+    let inner = c.in_ok-inner.inner in
+    let nested = c.in-Some-2.nested in
+    let asks : AsksWhatChanges inner.variables nested.tree = rw c.in-Some-2.is at c.in_ok-nested.ensures.changing in
+    c.in_ok-under.ensures.changing n
+    (subst (λ (v : ℕ). AsksWhatChanges v nested.tree) (ap (λ (p : Place). p.variables) c.in_ok-inner.ensures) asks)
