@@ -4,9 +4,11 @@ system is empty, what is left of it without some columns, and what it leaves of 
 
     bench/systems.py PROGRAM [COUNT [SEED]]
 
-tells how many of so many systems (10,000) differ, and ends with status 1 where one does."""
+tells of how many of so many systems (10,000) an answer differs, and of how many one is refused for want of units, of which each statement has
+100,000. The status is 1 where an answer differs."""
 import itertools
 import random
+import re
 import subprocess
 import sys
 
@@ -75,26 +77,34 @@ def asked(columns, greatest, rows):
                listing(set(points) - set(met)))
 
 
+def answers(program, statements):
+    """What each statement is answered, or None where it is refused."""
+    words = [program, "--keep-going", "--budget", "100000"]
+    ran = subprocess.run(words, input="\n".join(statements).encode(), capture_output=True, check=False)
+    refused = {int(number) for number in re.findall(r"statement (\d+): budget spent", ran.stderr.decode())}
+    lines = iter(ran.stdout.decode().splitlines())
+    return [None if number in refused else next(lines, "nothing") for number in range(1, len(statements) + 1)]
+
+
 def main(words):
     if not 1 <= len(words) <= 3:
         sys.exit(__doc__)
     count = int(words[1]) if len(words) > 1 else 10_000
     pick = random.Random(int(words[2]) if len(words) > 2 else 1)
-    differ = 0
+    differ, refused = 0, 0
     for begin in range(0, count, 500):
         systems = [random_system(pick) for _ in range(min(500, count - begin))]
         wanted = [(number, *pair) for number, it in enumerate(systems) for pair in asked(*it)]
-        script = "\n".join(statement for _, statement, _ in wanted)
-        ran = subprocess.run([words[0]], input=script.encode(), capture_output=True, check=False)
-        lines = ran.stdout.decode().splitlines()
-        if ran.returncode != 0:
-            print(f"status {ran.returncode}: {ran.stderr.decode().strip()}")
-        wrong = {number for at, (number, _, answer) in enumerate(wanted) if at >= len(lines) or lines[at] != answer}
-        for at, (number, statement, answer) in enumerate(wanted):
-            if number in wrong and at < len(lines) and lines[at] != answer:
-                print(f"{statement}\n  answers {lines[at]}\n  wanted  {answer}")
-        differ += len(wrong)
-    print(f"{count} systems, {differ} differ")
+        found = answers(words[0], [statement for _, statement, _ in wanted])
+        wrong, late = set(), set()
+        for (number, statement, answer), given in zip(wanted, found):
+            if given is None:
+                late.add(number)
+            elif given != answer:
+                wrong.add(number)
+                print(f"{statement}\n  answers {given}\n  wanted  {answer}")
+        differ, refused = differ + len(wrong), refused + len(late)
+    print(f"{count} systems, {differ} differ, {refused} with a statement that is refused")
     return 1 if differ else 0
 
 
