@@ -1,6 +1,7 @@
 //! Which column is taken out first. Each choice is right: this one is cheap.
 
-ghost use Rattle.std.specs.Prelude.{◌<◌, length};
+ghost use Rattle.std.specs.Prelude.{◌≡◌, ◌<◌, ◌≤◌, All, false, length, pos, slice_index_or};
+ghost use Rattle.isl_simpler.specs.Unit.{IsUnitRow};
 
 use isl_piece::{Row, RowKind};
 
@@ -52,8 +53,13 @@ struct ColumnUse {
 }
 
 // The number that the row has at the column.
-fn number_at(row: &Row, col: usize) -> i128 {
-    row.coefs.as_slice().get(col).map_or(0, |c| c.get())
+fn number_at(row: &Row, col: usize) -> i128
+    ensures { result ≡ slice_index_or row.now.coefs col (pos 0) }
+{
+    if col < row.coefs.len() {
+        return row.coefs.get(col).get();
+    }
+    0
 }
 
 impl ColumnUse {
@@ -105,7 +111,9 @@ impl ColumnUse {
     }
 
     // How many splinters the bounds on one side leave against the greatest number on the other.
-    fn splinters(self, rows: &[Row], lower: bool) -> u128 {
+    fn splinters(self, rows: &[Row], lower: bool) -> u128
+        ensures { All IsUnitRow rows.now → result ≡ 0 }
+    {
         let greatest = if lower {
             self.uppers.greatest
         } else {
@@ -122,7 +130,9 @@ impl ColumnUse {
     }
 
     // How many splinters are left at least; none where a side is open.
-    fn least_splinters(self, rows: &[Row]) -> u128 {
+    fn least_splinters(self, rows: &[Row]) -> u128
+        ensures { All IsUnitRow rows.now → result ≡ 0 }
+    {
         if self.equality.is_some() || self.lowers.count == 0 || self.uppers.count == 0 {
             return 0;
         }
@@ -162,7 +172,9 @@ impl ColumnUse {
 }
 
 // How many splinters a bound with this number leaves.
-fn splinters_of(number: u128, greatest: u128) -> u128 {
+fn splinters_of(number: u128, greatest: u128) -> u128
+    ensures { number ≤ 1 → result ≡ 0 }
+{
     let less = number.saturating_sub(1);
     less - less / greatest.max(1)
 }
@@ -173,8 +185,15 @@ pub fn add_many_rows(rows: &[Row], cols: &[usize]) -> bool {
 }
 
 /// Whether many splinters are left whichever of the columns is taken out.
-pub(crate) fn leaves_many_splinters(rows: &[Row], columns: usize) -> bool {
-    (0..columns).all(|col| ColumnUse::of(rows, col).least_splinters(rows) >= MANY_SPLINTERS)
+pub(crate) fn leaves_many_splinters(rows: &[Row], columns: usize) -> bool
+    ensures { 0 < columns → All IsUnitRow rows.now → result ≡ false }
+{
+    for col in 0..columns {
+        if ColumnUse::of(rows, col).least_splinters(rows) < MANY_SPLINTERS {
+            return false;
+        }
+    }
+    true
 }
 
 /// A place in the list of columns, whose column is likely to cost the least.

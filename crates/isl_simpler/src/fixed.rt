@@ -1,6 +1,6 @@
 //! Columns at which a congruence and two bounds leave one number: their numbers are found before any column is taken out.
 
-ghost use Rattle.std.specs.Prelude.{◌≡◌, ◌<◌, ◌+ℤ◌, ◌*ℤ◌, ◌≤ℤ◌, ◌<ℤ◌, ℤ, List, pos, All, IfOk, IfSome, IsTrue, MatchOption, length};
+ghost use Rattle.std.specs.Prelude.{◌≡◌, ◌≢◌, ◌↔◌, ◌<◌, ◌+ℤ◌, ◌*ℤ◌, ◌≤ℤ◌, ◌<ℤ◌, ℤ, List, pos, All, IfOk, IfSome, IsTrue, MatchOption, Ok, Some, length};
 ghost use Rattle.std.specs.Prelude.{slice_index_or};
 ghost use Rattle.isl_math.specs.Divide.{Divides, IsGcdOf};
 ghost use Rattle.isl_meter.specs.Gauge.{IsDone, IsWithin};
@@ -262,8 +262,15 @@ fn fixed_rows(
     Ok(Some(found))
 }
 
+// Whether no congruence is among the rows.
+fn lack_congruences(rows: &[Row]) -> bool
+    ensures { IsTrue result ↔ All (λ r. r.kind ≢ kinds.Divides) rows.now }
+{
+    rows.iter().all(|row| row.kind != RowKind::Divides)
+}
+
 /// The rows, and for each column at which a congruence and bounds leave one number a row that says so: they hold at the same points;
-/// none where they are seen to hold nowhere.
+/// none where they are seen to hold nowhere. Without a congruence these are the rows themselves.
 ///
 /// # Errors
 ///
@@ -277,14 +284,11 @@ pub fn with_fixed(
 ) -> Result<Option<Rows>, Cut>
     requires rows { All (IsProper meter.old columns) rows }
     requires normal { IsNormal rows }
-    ensures { IsDone meter.old meter.new
+    ensures exact { IsDone meter.old meter.new
         (λ found. MatchOption found (HoldNowhere columns rows) (HoldAlike meter.old columns rows)) result }
+    ensures itself { All (λ r. r.kind ≢ kinds.Divides) rows → (result ≡ Ok (Some rows)) × (meter.new ≡ meter.old) }
 {
-    if rows
-        .as_slice()
-        .iter()
-        .all(|row| row.kind != RowKind::Divides)
-    {
+    if lack_congruences(rows.as_slice()) {
         return Ok(Some(rows));
     }
     let Some(found) = fixed_rows(alloc, rows.as_slice(), columns, meter)? else {

@@ -1,6 +1,9 @@
 //! Which step makes the numbers of rows smaller: Euclid's algorithm on an equality, and a reduction of the columns of bounds, two at a
 //! time. No clause speaks of what is found: each step is right.
 
+ghost use Rattle.std.specs.Prelude.{◌≡◌, ◌<◌, ◌≤◌, All, None, IfSome, unsigned_abs};
+ghost use Rattle.isl_simpler.specs.Unit.{IsUnitRow};
+
 use crate::choice::leaves_many_splinters;
 use crate::shear::Shear;
 use isl_meter::Int;
@@ -30,13 +33,15 @@ struct Entry {
 }
 
 // The least and the greatest number of the row by magnitude, but for 0, if two columns have one.
-fn ends(row: &Row) -> Option<(Entry, Entry)> {
+fn ends(row: &Row) -> Option<(Entry, Entry)>
+    ensures { All (λ c. unsigned_abs c ≤ 1) row.now.coefs → IfSome result (λ pair. unsigned_abs pair.0.number ≡ 1) }
+{
     let mut least: Option<Entry> = None;
     let mut greatest: Option<Entry> = None;
-    for (col, coef) in row.coefs.as_slice().iter().enumerate() {
+    for col in 0..row.coefs.len() {
         let entry = Entry {
             col,
-            number: coef.get(),
+            number: row.coefs.get(col).get(),
         };
         if entry.number == 0 {
             continue;
@@ -56,7 +61,9 @@ fn ends(row: &Row) -> Option<(Entry, Entry)> {
 }
 
 // A step of Euclid's algorithm on an equality, where none takes a column out at once.
-fn euclid_step(rows: &[Row]) -> Option<Shear> {
+fn euclid_step(rows: &[Row]) -> Option<Shear>
+    ensures { All IsUnitRow rows.now → result ≡ None }
+{
     let mut found: Option<(Entry, Entry)> = None;
     for row in rows {
         if row.kind != RowKind::Zero {
@@ -157,7 +164,7 @@ fn shortest_step(rows: &[Row], columns: usize) -> Option<Shear> {
 }
 
 // Whether the numbers of all rows are within the limit after the step.
-fn stays_within(rows: &[Row], shear: Shear, limit: i128) -> bool {
+fn stays_within(rows: &[Row], shear: &Shear, limit: i128) -> bool {
     rows.iter().all(|row| {
         let added = shear.times.get().checked_mul(number_at(row, shear.from));
         let number = added.and_then(|n| n.checked_add(number_at(row, shear.to)));
@@ -166,14 +173,28 @@ fn stays_within(rows: &[Row], shear: Shear, limit: i128) -> bool {
     })
 }
 
+// A step that makes numbers smaller, or those of some rows, whatever the limit.
+fn likely_shear(rows: &[Row], columns: usize) -> Option<Shear>
+    ensures { 0 < columns → All IsUnitRow rows.now → result ≡ None }
+{
+    if rows.iter().any(|row| row.kind == RowKind::Zero) {
+        return euclid_step(rows);
+    }
+    if leaves_many_splinters(rows, columns) && are_short_bounds(rows) {
+        return shortest_step(rows, columns);
+    }
+    None
+}
+
 /// A step that makes numbers smaller: where no equality has a coefficient of 1 or -1, or where any column leaves many splinters.
-pub(crate) fn next_shear(rows: &[Row], columns: usize, limit: i128) -> Option<Shear> {
-    let shear = if rows.iter().any(|row| row.kind == RowKind::Zero) {
-        euclid_step(rows)
-    } else if leaves_many_splinters(rows, columns) && are_short_bounds(rows) {
-        shortest_step(rows, columns)
-    } else {
-        None
-    }?;
-    stays_within(rows, shear, limit).then_some(shear)
+pub(crate) fn next_shear(rows: &[Row], columns: usize, limit: i128) -> Option<Shear>
+    ensures { 0 < columns → All IsUnitRow rows.now → result ≡ None }
+{
+    let Some(shear) = likely_shear(rows, columns) else {
+        return None;
+    };
+    if !stays_within(rows, &shear, limit) {
+        return None;
+    }
+    Some(shear)
 }

@@ -1,12 +1,13 @@
 //! Columns changed by a unimodular map, one step after another, so that the numbers of rows get small.
 
-ghost use Rattle.std.specs.Prelude.{◌≡◌, ◌<◌, All, MatchOption, length, map};
+ghost use Rattle.std.specs.Prelude.{◌≡◌, ◌<◌, All, MatchOption, Ok, Some, length, map};
 ghost use Rattle.isl_meter.specs.Gauge.{IsDone};
 ghost use Rattle.isl_piece.specs.Normal.{IsNormal};
 ghost use Rattle.isl_piece.specs.Row.{IsRowWithin};
 ghost use Rattle.isl_omega.specs.Column.{IsProper};
 ghost use Rattle.isl_simpler.specs.Emptiness.{HoldNowhere};
 ghost use Rattle.isl_simpler.specs.Shear.{sheared, AreSheared, IsReduction};
+ghost use Rattle.isl_simpler.specs.Unit.{IsUnitRow};
 
 use crate::fixed::with_fixed;
 use crate::reduction::next_shear;
@@ -80,7 +81,8 @@ fn shortened(alloc: Global, rows: Rows, columns: usize, meter: &mut Meter) -> Re
 }
 
 /// Normal rows with small numbers, which hold at no point exactly where the old ones do; none where they are seen to hold nowhere. Where a
-/// congruence and bounds leave one number at a column, they say so.
+/// congruence and bounds leave one number at a column, they say so. Without a congruence, and with coefficients of 1, 0 and -1 alone, these
+/// are the rows themselves.
 ///
 /// # Errors
 ///
@@ -93,8 +95,9 @@ pub fn reduced(
 ) -> Result<Option<Rows>, Cut>
     requires rows { All (IsProper meter.old columns) rows }
     requires normal { IsNormal rows }
-    ensures { IsDone meter.old meter.new
+    ensures exact { IsDone meter.old meter.new
         (λ found. MatchOption found (HoldNowhere columns rows) (IsReduction meter.old columns rows)) result }
+    ensures itself { 0 < columns → All IsUnitRow rows → (result ≡ Ok (Some rows)) × (meter.new ≡ meter.old) }
 {
     let Some(fixed) = with_fixed(alloc, rows, columns, meter)? else {
         return Ok(None);

@@ -3,8 +3,8 @@ use Rattle.isl_simpler.specs.Fixed.{AreFixed}
 use Rattle.isl_simpler.proofs.FixedLaws.{alike_found, formed_all}
 use Rattle.isl_simpler.proofs.fixed.with_fixed.Goals as goal
 
-pub returns : goal.returns
-returns c =
+pub returns-clause-exact : goal.returns-clause-exact
+returns-clause-exact c =
     let g = c.args.meter.now in
     let columns = c.args.columns in
     let rows = c.args.rows in

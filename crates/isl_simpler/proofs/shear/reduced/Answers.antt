@@ -5,16 +5,16 @@ use Rattle.isl_simpler.proofs.FixedLaws.{reduction_alike, reduction_later}
 use Rattle.isl_simpler.proofs.ShearLaws.{formed_sheared, reduction_found}
 use Rattle.isl_simpler.proofs.shear.reduced.Goals as goal
 
-pub returns-then-is_none : goal.returns-then-is_none
-returns-then-is_none c =
+pub returns-then-is_none-clause-exact : goal.returns-then-is_none-clause-exact
+returns-then-is_none-clause-exact c =
     let g = c.args.meter.now in
     let columns = c.args.columns in
     let fixed = c.in-Some.fixed in
     let alike : HoldAlike g columns c.args.rows fixed = grind arith in
     (reduction_alike g columns c.args.rows fixed alike, grind arith)
 
-pub returns : goal.returns
-returns c =
+pub returns-clause-exact : goal.returns-clause-exact
+returns-clause-exact c =
     let g = c.args.meter.now in
     let columns = c.args.columns in
     let fixed = c.in-Some.fixed in
