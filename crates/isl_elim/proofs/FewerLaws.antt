@@ -1,5 +1,5 @@
 -- Rows that hold at the same points, without some that the others imply: columns out of them, samples, systems.
-use Rattle.std.proofs.Common.{◌≡◌, ◌↔◌, ◌∙◌, ◌-◌, ℕ, ℤ, List, ap, refl, sym, length}
+use Rattle.std.proofs.Common.{◌≡◌, ◌∙◌, ◌-◌, ℕ, ℤ, List, ap, refl, sym, length}
 use Rattle.std.specs.Prelude.{Option, Some, None, MatchOption, Result, MatchResult, Ok, Err}
 use Rattle.std.specs.List.{All}
 use Rattle.isl_meter.specs.Gauge.{Gauge, IsCharged, IsCutBy}

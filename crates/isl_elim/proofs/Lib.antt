@@ -1,5 +1,6 @@
 pub mod AlongLaws
 pub mod DefiningLaws
+pub mod DifferenceColumns
 pub mod EmptinessLaws
 pub mod FewerLaws
 pub mod FlattenLaws
@@ -11,3 +12,5 @@ pub mod PartsLaws
 pub mod ProjectionLaws
 pub mod RangeLaws
 pub mod SampleLaws
+pub mod TameLaws
+pub mod TameSystems

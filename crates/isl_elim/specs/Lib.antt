@@ -4,10 +4,13 @@ pub mod Flatten
 pub mod Opened
 pub mod Others
 pub mod Sample
+pub mod Tame
 pub use Rattle.isl_column.specs.Column
 pub use Rattle.isl_column.specs.Exact
 pub use Rattle.isl_column.specs.Magnitude
 pub use Rattle.isl_column.specs.Units
+pub use Rattle.isl_ledger.specs.Answered
+pub use Rattle.isl_ledger.specs.Work
 pub use Rattle.isl_meter.specs.Gauge
 pub use Rattle.isl_omega.specs.Equality
 pub use Rattle.isl_piece.specs.Normal

@@ -1,6 +1,6 @@
 //! Several columns out of rows together.
 
-ghost use Rattle.std.specs.Prelude.{◌≡◌, ◌≢◌, ◌<◌, ◌≤◌, ◌+◌, ℕ, ℤ, List, [], All, AllPairs, IfOk, MatchOption, MatchResult, length};
+ghost use Rattle.std.specs.Prelude.{◌≡◌, ◌≢◌, ◌<◌, ◌≤◌, ◌+◌, ◌*◌, ℕ, ℤ, List, [], All, AllPairs, IfOk, IfSome, MatchOption, MatchResult, false, length};
 ghost use Rattle.isl_meter.specs.Gauge.{IsCharged, IsCutBy, IsDone};
 ghost use Rattle.isl_piece.specs.Normal.{IsNormal};
 ghost use Rattle.isl_piece.specs.System.{HoldRows};
@@ -9,7 +9,9 @@ ghost use Rattle.isl_elim.specs.Elimination.{AddsAlong};
 ghost use Rattle.isl_simpler.specs.Emptiness.{HoldNowhere};
 ghost use Rattle.isl_simpler.specs.Fixed.{HoldAlike};
 ghost use Rattle.isl_elim.specs.Others.{others_of};
+ghost use Rattle.isl_elim.specs.Tame.{AreFewDifferences, AddsFewDifferences, IsDifferenceHead, IsTameOn};
 ghost use Rattle.isl_column.specs.Parts.{AreParts, HoldsPart, head_count};
+ghost use Rattle.isl_ledger.specs.Difference.{IsDifferenceRow};
 
 use crate::emptiness::hold_nowhere;
 use isl_column::Parts;
@@ -51,8 +53,10 @@ fn simpler(
 ) -> Result<Option<Rows>, Cut>
     requires rows { All (IsProper meter.old columns) rows }
     requires normal { IsNormal rows }
-    ensures { IsDone meter.old meter.new
+    ensures exact { IsDone meter.old meter.new
         (λ found. MatchOption found (HoldNowhere columns rows) (HoldAlike meter.old columns rows)) result }
+    ensures tame { IsTameOn columns (λ bits. All (IsDifferenceRow bits) rows) 0 meter.old meter.new
+        (λ bits found. IfSome found (All (IsDifferenceRow bits))) result }
 {
     let Some(fixed) = with_fixed(alloc, rows, columns, meter)? else {
         return Ok(None);
@@ -83,6 +87,8 @@ fn push_without(
         (λ _. AddsAlong meter.old columns cols.now (HoldRows rows) lists.old.items lists.new.items × IsCharged meter.old meter.new)
         (IsCutBy meter.old meter.new) }
     ensures counted { IfOk result (λ _. meter.old.units + length lists.new.items ≤ meter.new.units + (length lists.old.items + 1)) }
+    ensures tame { IsTameOn columns (λ bits. All (IsDifferenceRow bits) rows) (length cols.now * (columns * columns)) meter.old meter.new
+        (λ bits _. AddsFewDifferences (bits + length cols.now) lists.old.items lists.new.items) result }
 {
     if cols.is_empty() {
         lists.push(rows)?;
@@ -118,6 +124,8 @@ fn push_some(
         (λ _. AddsAlong meter.old columns cols.now (HoldRows rows) lists.old.items lists.new.items × IsCharged meter.old meter.new)
         (IsCutBy meter.old meter.new) }
     ensures counted { IfOk result (λ _. meter.old.units + length lists.new.items ≤ meter.new.units + (length lists.old.items + 1)) }
+    ensures tame { test ≡ false → IsTameOn columns (λ bits. All (IsDifferenceRow bits) rows) (length cols.now * (columns * columns)) meter.old meter.new
+        (λ bits _. AddsFewDifferences (bits + length cols.now) lists.old.items lists.new.items) result }
 {
     if !test {
         return push_without(alloc, rows, columns, cols, lists, meter);
@@ -146,6 +154,8 @@ fn push_parts(
         (λ _. AddsAlong meter.old columns cols.now (HoldsPart parts) lists.old.items lists.new.items × IsCharged meter.old meter.new)
         (IsCutBy meter.old meter.new) }
     ensures counted { IfOk result (λ _. meter.old.units + length lists.new.items ≤ meter.new.units + (length lists.old.items + head_count parts)) }
+    ensures tame { IsTameOn columns (IsDifferenceHead parts) (length cols.now * (columns * columns)) meter.old meter.new
+        (λ bits _. AddsFewDifferences (bits + length cols.now) lists.old.items lists.new.items) result }
 {
     let mut taken: usize = 0;
     while let Some(rows) = parts.next(alloc, columns, meter)? {
@@ -171,6 +181,8 @@ pub(crate) fn rows_without(
         (λ lists. AddsAlong meter.old columns cols.now (HoldRows rows.now) [] lists.items × IsCharged meter.old meter.new)
         (IsCutBy meter.old meter.new) }
     ensures counted { IfOk result (λ lists. meter.old.units + length lists.items ≤ meter.new.units + 1) }
+    ensures tame { IsTameOn columns (λ bits. All (IsDifferenceRow bits) rows.now) (length cols.now * (columns * columns)) meter.old meter.new
+        (λ bits lists. AreFewDifferences (bits + length cols.now) lists.items) result }
 {
     let copied = rows.copy(alloc)?;
     match copied.normalise(alloc, meter)? {

@@ -1,6 +1,6 @@
 //! Whether rows hold nowhere.
 
-ghost use Rattle.std.specs.Prelude.{◌≡◌, ◌↔◌, ◌+◌, ◌-◌, ◌<◌, ◌≤◌, ◌+ℤ◌, ◌≤ℤ◌, ℕ, ℤ, pos, List, All, [], IfOk, IsTrue, MatchOption, MatchResult};
+ghost use Rattle.std.specs.Prelude.{◌≡◌, ◌↔◌, ◌+◌, ◌*◌, ◌-◌, ◌<◌, ◌≤◌, ◌+ℤ◌, ◌≤ℤ◌, ℕ, ℤ, pos, List, All, [], ◌∷◌, None, IfOk, IfSome, IsTrue, MatchOption, MatchResult};
 ghost use Rattle.isl_meter.specs.Gauge.{IsCharged, IsCutBy, IsDone, IsMetered};
 ghost use Rattle.isl_piece.specs.Normal.{IsNormal};
 ghost use Rattle.isl_omega.specs.Column.{IsProper};
@@ -12,7 +12,11 @@ ghost use Rattle.isl_simpler.specs.Shear.{IsReduction};
 ghost use Rattle.isl_redundant.specs.Redundant.{IsReduced};
 ghost use Rattle.isl_piece.specs.System.{HoldRows, HoldsSystem, IsSystemWithin, free_columns};
 ghost use Rattle.isl_elim.specs.Sample.{IsNowhere};
-ghost use Rattle.isl_column.specs.Parts.{AreParts, AreNone};
+ghost use Rattle.isl_elim.specs.Tame.{IsTameOn};
+ghost use Rattle.isl_column.specs.Parts.{AreParts, AreNone, IsHeadAlone};
+ghost use Rattle.isl_ledger.specs.Answered.{IsTame};
+ghost use Rattle.isl_ledger.specs.Difference.{IsDifferenceRow};
+ghost use Rattle.isl_ledger.specs.Work.{Size, AreOfSize};
 
 use crate::opened::opened;
 use isl_column::{Parts, real_shadow};
@@ -30,6 +34,7 @@ pub(crate) fn column_nowhere(alloc: Global, rows: &Rows, meter: &mut Meter) -> R
     ensures units { pos meter.new.units ≤ℤ (pos meter.old.units +ℤ elimination_units rows.now 0) }
     ensures equality { HasEquality 0 rows.now → meter.new.units ≡ meter.old.units }
     ensures magnitude { IsSpared meter.old rows.now 0 result }
+    ensures tame { IsNormal rows.now → IsTameOn 1 (λ bits. All (IsDifferenceRow bits) rows.now) 1 meter.old meter.new (λ _ _. Unit {0}) result }
 {
     let mut parts = Parts::of(alloc, rows.as_slice(), Column { columns: 1, at: 0 }, meter)?;
     Ok(parts.next(alloc, 0, meter)?.is_none())
@@ -66,8 +71,10 @@ fn shorter(
     requires rows { All (IsProper meter.old columns) rows }
     requires normal { IsNormal rows }
     requires some { 0 < columns }
-    ensures { IsDone meter.old meter.new
+    ensures exact { IsDone meter.old meter.new
         (λ found. MatchOption found (HoldNowhere columns rows) (IsReduction meter.old columns rows)) result }
+    ensures tame { IsTameOn columns (λ bits. All (IsDifferenceRow bits) rows) 0 meter.old meter.new
+        (λ bits found. IfSome found (All (IsDifferenceRow bits))) result }
 {
     let Some(short) = reduced(alloc, rows, columns, meter)? else {
         return Ok(None);
@@ -117,6 +124,7 @@ pub(crate) fn hold_nowhere(
     ensures exact { MatchResult result
         (λ empty. (IsTrue empty ↔ HoldNowhere columns rows) × IsCharged meter.old meter.new)
         (IsCutBy meter.old meter.new) }
+    ensures tame { IsTameOn columns (λ bits. All (IsDifferenceRow bits) rows) (columns * (columns * columns)) meter.old meter.new (λ _ _. Unit {0}) result }
 {
     if rows.is_empty() {
         return Ok(false);
@@ -140,6 +148,7 @@ fn column_out(alloc: Global, rows: &Rows, columns: usize, meter: &mut Meter) -> 
     ensures exact { MatchResult result
         (λ empty. (IsTrue empty ↔ HoldNowhere columns rows.now) × IsCharged meter.old meter.new)
         (IsCutBy meter.old meter.new) }
+    ensures tame { IsTameOn columns (λ bits. All (IsDifferenceRow bits) rows.now) (columns * (columns * columns)) meter.old meter.new (λ _ _. Unit {0}) result }
 {
     let col = any_column(rows.as_slice(), columns);
     let mut parts = Parts::of(alloc, rows.as_slice(), Column { columns, at: col }, meter)?;
@@ -170,6 +179,7 @@ fn rest_is_empty(
     ensures exact { MatchResult result
         (λ empty. (IsTrue empty ↔ AreNone (columns - 1) parts) × IsCharged meter.old meter.new)
         (IsCutBy meter.old meter.new) }
+    ensures spent { IsHeadAlone None parts → IsTame 0 meter.old meter.new (λ _. Unit {0}) result }
 {
     if !parts.has_more() {
         return are_empty(alloc, parts, columns - 1, meter);
@@ -193,6 +203,7 @@ fn are_empty(
     ensures exact { MatchResult result
         (λ empty. (IsTrue empty ↔ AreNone columns parts) × IsCharged meter.old meter.new)
         (IsCutBy meter.old meter.new) }
+    ensures spent { IsHeadAlone None parts → IsTame 0 meter.old meter.new (λ _. Unit {0}) result }
 {
     while let Some(rows) = parts.next(alloc, columns, meter)? {
         if !hold_nowhere(alloc, rows, columns, meter)? {
@@ -208,7 +219,8 @@ fn are_empty(
 /// # Errors
 ///
 /// `Overflow` where a number passes the limit of the meter, `Budget` where its units are used up, and `NoMemory`. With one
-/// column a limit of 127 bits is not passed where the numbers are at most `2^30` and at most one congruence has it.
+/// column a limit of 127 bits is not passed where the numbers are at most `2^30` and at most one congruence has it. Of difference constraints
+/// over c columns no error but `NoMemory` comes where 127 bits have room for one bit more with each column, and `c^3` units are left.
 #[tactic(auto, using(crate::proofs::OpenedLaws::opened_steps))]
 pub fn is_empty(alloc: Global, system: &System, meter: &mut Meter) -> Result<bool, Cut>
     requires well_formed { IsSystemWithin meter.old system.now }
@@ -217,6 +229,8 @@ pub fn is_empty(alloc: Global, system: &System, meter: &mut Meter) -> Result<boo
     ensures units { system.now.definitions ≡ [] → system.now.columns ≡ 1 → pos meter.new.units ≤ℤ (pos meter.old.units +ℤ elimination_units system.now.rows 0) }
     ensures equality { system.now.definitions ≡ [] → system.now.columns ≡ 1 → HasEquality 0 system.now.rows → meter.new.units ≡ meter.old.units }
     ensures magnitude { system.now.definitions ≡ [] → system.now.columns ≡ 1 → IsSpared meter.old system.now.rows 0 result }
+    ensures tame { (size : Size) → meter.old.bits ≡ 127 → size.bits + size.columns ≤ 120 → AreOfSize size (system.now ∷ [])
+        → IsTame (size.columns * (size.columns * size.columns)) meter.old meter.new (λ _. Unit {0}) result }
 {
     if system.columns == 1 && system.definitions.is_empty() {
         return column_nowhere(alloc, &system.rows, meter);

@@ -1,6 +1,6 @@
 //! Systems in which defined columns are free.
 
-ghost use Rattle.std.specs.Prelude.{◌≡◌, ◌<◌, ◌≤◌, [], ◌∷◌, ◌++◌, negsuc, All, IfOk, MatchOption, length};
+ghost use Rattle.std.specs.Prelude.{◌≡◌, ◌<◌, ◌≤◌, [], ◌∷◌, ◌++◌, negsuc, All, IfOk, IfSome, MatchOption, length};
 ghost use Rattle.isl_math.specs.Dot.{scaled};
 ghost use Rattle.isl_meter.specs.Gauge.{IsDone, IsWithin};
 ghost use Rattle.isl_omega.specs.Column.{IsProper};
@@ -8,6 +8,8 @@ ghost use Rattle.isl_piece.specs.Definition.{IsDefinition};
 ghost use Rattle.isl_piece.specs.System.{HoldsSystem, IsSystemWithin, free_columns};
 ghost use Rattle.isl_elim.specs.Opened.{AreOpened, padded, least_row, most_row, opened_rows};
 ghost use Rattle.isl_elim.specs.Sample.{IsNowhere};
+ghost use Rattle.isl_elim.specs.Tame.{IsPlainDifference, IsTameOn};
+ghost use Rattle.isl_ledger.specs.Difference.{IsDifferenceRow};
 
 use crate::dependents::{column_of, is_among};
 use isl_meter::{Cut, Int, Meter};
@@ -110,7 +112,8 @@ pub(crate) fn opened_rows(
     meter: &mut Meter,
 ) -> Result<Rows, Cut>
     requires well_formed { IsSystemWithin meter.old system.now }
-    ensures { IsDone meter.old meter.new (λ rows. (rows ≡ opened_rows system.now cols.now) × All (IsProper meter.old system.now.columns) rows) result }
+    ensures exact { IsDone meter.old meter.new (λ rows. (rows ≡ opened_rows system.now cols.now) × All (IsProper meter.old system.now.columns) rows) result }
+    ensures tame { IsTameOn system.now.columns (IsPlainDifference system.now) 0 meter.old meter.new (λ bits rows. All (IsDifferenceRow bits) rows) result }
 {
     let definitions = system.definitions.as_slice();
     let mut rows = system.rows.copy(alloc)?;
@@ -127,8 +130,9 @@ pub(crate) fn opened_rows(
 #[tactic(auto, using(std::proofs::lemmas::Grind::common_steps, crate::proofs::OpenedLaws::opening_steps))]
 pub(crate) fn opened(alloc: Global, system: &System, meter: &mut Meter) -> Result<Option<Rows>, Cut>
     requires well_formed { IsSystemWithin meter.old system.now }
-    ensures { IsDone meter.old meter.new
+    ensures exact { IsDone meter.old meter.new
         (λ found. MatchOption found (IsNowhere (free_columns system.now) (HoldsSystem system.now)) (AreOpened meter.old system.now)) result }
+    ensures tame { IsTameOn system.now.columns (IsPlainDifference system.now) 0 meter.old meter.new (λ bits found. IfSome found (All (IsDifferenceRow bits))) result }
 {
     let mut rows = system.rows.copy(alloc)?;
     for definition in system.definitions.as_slice() {

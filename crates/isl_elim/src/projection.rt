@@ -1,6 +1,6 @@
 //! Columns out of a system: its projections.
 
-ghost use Rattle.std.specs.Prelude.{◌≡◌, ◌≢◌, ◌<◌, ◌-◌, ◌+◌, ◌≤◌, ◌≤ℤ◌, ◌+ℤ◌, [], ◌∷◌, pos, length, ℕ, All, AllPairs, map, IfOk, MatchOption, MatchResult, option_to_list};
+ghost use Rattle.std.specs.Prelude.{◌≡◌, ◌≢◌, ◌<◌, ◌-◌, ◌+◌, ◌*◌, ◌≤◌, ◌≤ℤ◌, ◌+ℤ◌, [], ◌∷◌, pos, length, ℕ, All, AllPairs, map, IfOk, IfSome, MatchOption, MatchResult, option_to_list};
 ghost use Rattle.isl_meter.specs.Gauge.{IsCharged, IsCutBy, IsMetered};
 ghost use Rattle.isl_piece.specs.Normal.{IsNormal};
 ghost use Rattle.isl_piece.specs.System.{HoldRows, HoldsSystem, IsSystemWithin, free_columns};
@@ -13,6 +13,9 @@ ghost use Rattle.isl_elim.specs.Dependents.{dependents, kept_definitions, with_d
 ghost use Rattle.isl_elim.specs.Elimination.{AddsAlong, IsProjection, IsProjectionAlong, IsReducedSystem, system_of};
 ghost use Rattle.isl_elim.specs.Opened.{opened_rows};
 ghost use Rattle.isl_elim.specs.Sample.{IsNowhere};
+ghost use Rattle.isl_elim.specs.Tame.{AreFewDifferences, IsPlainDifference, IsTameOn};
+ghost use Rattle.isl_ledger.specs.Answered.{IsTame};
+ghost use Rattle.isl_ledger.specs.Work.{Size, AreOfSize, drop_size};
 
 use crate::along::rows_without;
 use crate::dependents::{columns_left, with_dependents};
@@ -63,6 +66,8 @@ fn lists_left(
     ensures magnitude { (col : ℕ) → gone.now ≡ col ∷ [] → col < free_columns system.now → meter.old.bits ≡ 127 → HaveSmallNumbers system.now.rows
         → HaveOneCongruence system.now.rows col → result ≢ Err Cut.Overflow }
     ensures counted { IfOk result (λ lists. meter.old.units + length lists.items ≤ meter.new.units + 1) }
+    ensures tame { IsTameOn system.now.columns (IsPlainDifference system.now) (length gone.now * (system.now.columns * system.now.columns))
+        meter.old meter.new (λ bits lists. AreFewDifferences (bits + length gone.now) lists.items) result }
 {
     if gone.len() == 1 && gone[0] < system.free() {
         let column = Column {
@@ -87,6 +92,9 @@ fn lists_left(
 /// `Overflow` where a number passes the limit of the meter, `Budget` where its units are used up, and `NoMemory`. Where no
 /// definition depends on `col`, a limit of 127 bits is not passed where the numbers of the rows are at most `2^30` and at most
 /// one congruence has the column.
+///
+/// Of difference constraints over c columns at most one system is left, again of such. Where 127 bits have room for one bit more with each
+/// column, and `c^2` units are left, no error but `NoMemory` comes.
 #[tactic(auto, using(crate::proofs::ProjectionLaws::projection_steps))]
 pub fn eliminate(
     alloc: Global,
@@ -110,6 +118,8 @@ pub fn eliminate(
     ensures magnitude { dependents system.now (col ∷ []) ≡ [] → meter.old.bits ≡ 127 → HaveSmallNumbers system.now.rows → HaveOneCongruence system.now.rows col
         → result ≢ Err Cut.Overflow }
     ensures counted { IfOk result (λ systems. meter.old.units + length systems.items ≤ meter.new.units + 1) }
+    ensures tame { (size : Size) → meter.old.bits ≡ 127 → size.bits + size.columns ≤ 120 → AreOfSize size (system.now ∷ [])
+        → IsTame (size.columns * size.columns) meter.old meter.new (λ systems. AreOfSize (drop_size 1 size) systems.items) result }
 {
     eliminate_all(alloc, system, &[col], meter)
 }
@@ -120,7 +130,8 @@ pub fn eliminate(
 ///
 /// # Errors
 ///
-/// `Overflow` where a number passes the limit of the meter, `Budget` where its units are used up, and `NoMemory`.
+/// `Overflow` where a number passes the limit of the meter, `Budget` where its units are used up, and `NoMemory`. Of difference constraints
+/// `eliminate` tells, where so many units are left for each column that goes.
 #[tactic(auto, using(crate::proofs::ProjectionLaws::projection_steps))]
 pub fn eliminate_all(
     alloc: Global,
@@ -145,6 +156,8 @@ pub fn eliminate_all(
     ensures magnitude { (col : ℕ) → cols.now ≡ col ∷ [] → dependents system.now cols.now ≡ [] → meter.old.bits ≡ 127 → HaveSmallNumbers system.now.rows
         → HaveOneCongruence system.now.rows col → result ≢ Err Cut.Overflow }
     ensures counted { IfOk result (λ systems. meter.old.units + length systems.items ≤ meter.new.units + 1) }
+    ensures tame { (size : Size) → meter.old.bits ≡ 127 → size.bits + size.columns ≤ 120 → AreOfSize size (system.now ∷ [])
+        → IsTame (length cols.now * (size.columns * size.columns)) meter.old meter.new (λ systems. AreOfSize (drop_size (length cols.now) size) systems.items) result }
 {
     let gone = with_dependents(alloc, system, cols)?;
     let left = columns_left(alloc, system, cols, gone.as_slice(), meter)?;
@@ -167,8 +180,9 @@ pub fn with_fewer_rows(
     meter: &Meter,
 ) -> Result<Option<System>, AllocError>
     requires well_formed { IsSystemWithin meter.now system.now }
-    ensures { IfOk result (λ found. MatchOption found (IsNowhere (free_columns system.now) (HoldsSystem system.now))
+    ensures exact { IfOk result (λ found. MatchOption found (IsNowhere (free_columns system.now) (HoldsSystem system.now))
         (IsReducedSystem meter.now system.now)) }
+    ensures size { (size : Size) → AreOfSize size (system.now ∷ []) → IfOk result (λ found. IfSome found (λ few. AreOfSize size (few ∷ []))) }
 {
     if cols.len() != 1 || !add_many_rows(system.rows.as_slice(), cols) {
         let same = system.copy(alloc)?;

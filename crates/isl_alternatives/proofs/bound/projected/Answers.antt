@@ -24,7 +24,7 @@ with_fewer_rows-requires c =
 
 pub eliminate_all-requires-clause-well_formed : goal.eliminate_all-requires-clause-well_formed
 eliminate_all-requires-clause-well_formed c =
-    let few : IsReducedSystem c.loop-system.meter c.system-item.result c.in-Some.few = rw c.in-Some.is at c.in_ok-few.ensures in
+    let few : IsReducedSystem c.loop-system.meter c.system-item.result c.in-Some.few = rw c.in-Some.is at c.in_ok-few.ensures.exact in
     few.within
 
 pub eliminate_all-requires-clause-distinct : goal.eliminate_all-requires-clause-distinct
@@ -41,7 +41,7 @@ eliminate_all-requires-clause-cols_in c =
     let i = c.loop-system.system-index in
     let inside : i < length c.args.systems.now = grind (arith, common_steps) in
     let same : c.as_slice-in-loop-system.result.now ≡ range_with_len n m = grind (arith, common_steps) in
-    let reduced : IsReducedSystem c.loop-system.meter c.system-item.result c.in-Some.few = rw c.in-Some.is at c.in_ok-few.ensures in
+    let reduced : IsReducedSystem c.loop-system.meter c.system-item.result c.in-Some.few = rw c.in-Some.is at c.in_ok-few.ensures.exact in
     let free = same_columns c.loop-system.meter c.system-item.result c.in-Some.few reduced
     ∙ (over_at c.args.meter.now c.args.inner.now c.args.systems.now i c.system-item.result c.requires.over inside c.system-item.is).columns in
     let few = c.requires.columns in
@@ -59,7 +59,7 @@ loop-system-preserved-in_default c =
     let found = c.loop-system.found.items in
     let inside : i < length systems = grind (arith, common_steps) in
     let over : IsOver h inner s = over_at h inner systems i s (over_after g h inner systems c.loop-system.invariant.charged c.requires.over) inside c.system-item.is in
-    let none : IsNowhere (free_columns s) (HoldsSystem s) = rw c.in_default.is at c.in_ok-few.ensures in
+    let none : IsNowhere (free_columns s) (HoldsSystem s) = rw c.in_default.is at c.in_ok-few.ensures.exact in
     projected_more g h h outer inner systems i s found [] found inside c.system-item.is (sym (append-nil found)) c.loop-system.invariant
     (projected_nowhere h outer inner s over none)
 
@@ -75,7 +75,7 @@ loop-system-preserved c =
     let n = length outer in
     let m = length inner - n in
     let more = c.in_ok-more.more.items in
-    let reduced : IsReducedSystem h s c.in-Some.few = rw c.in-Some.is at c.in_ok-few.ensures in
+    let reduced : IsReducedSystem h s c.in-Some.few = rw c.in-Some.is at c.in_ok-few.ensures.exact in
     let inside : i < length systems = grind (arith, common_steps) in
     let same : c.as_slice-in-loop-system.result.now ≡ range_with_len n m = grind (arith, common_steps) in
     let over : IsOver h inner s = over_at h inner systems i s (over_after g h inner systems c.loop-system.invariant.charged c.requires.over) inside c.system-item.is in

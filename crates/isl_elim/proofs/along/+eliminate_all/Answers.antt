@@ -1,16 +1,23 @@
-use Rattle.std.proofs.Common.{◌≡◌, ◌∷◌, ◌++◌, ◌<◌, ◌-◌, [], refl, arith, get_or, length, true, List, ℤ}
+use Rattle.std.proofs.Common.{◌≡◌, ◌∷◌, ◌++◌, ◌<◌, ◌-◌, ◌+◌, ◌*◌, ◌∙◌, [], refl, sym, ap, subst, arith, get_or, length, true, None, IfSome, Ok, Err, List, ℤ}
+use Rattle.std.specs.List.{All}
 use Rattle.std.proofs.lemmas.List.{nil_from_length}
-use Rattle.isl_meter.specs.Gauge.{IsCharged}
+use Rattle.std.proofs.lemmas.Result.{err_from_is_err_and}
+use Rattle.isl_ledger.specs.Difference.{IsDifferenceRow}
+use Rattle.isl_meter.specs.Gauge.{Gauge, IsCharged}
 use Rattle.isl_meter.proofs.CutLemmas.{IsCharged_refl, IsCharged_trans}
 use Rattle.isl_elim.specs.Others.{others_of}
 use Rattle.isl_column.specs.Parts.{AreParts, ArePartsOf, HoldsPart}
-use Rattle.isl_elim.proofs.OthersLaws.{among, among_at}
+use Rattle.isl_elim.proofs.OthersLaws.{among, among_at, others_count}
+use Rattle.isl_elim.specs.Tame.{AddsFewDifferences}
+use Rattle.isl_elim.proofs.DifferenceColumns.{AreDifferences, column_tame, difference_head}
+use Rattle.isl_elim.proofs.TameLaws.{tame_ok, tame_memory, tame_cut, same_bits, adds_none, adds_one, columns_tame, square_once}
+use Rattle.isl_elim.proofs.TameLaws.{head_taken, pushed_tame_first, pushed_tame_next, pushed_tame_cut, pushed_tame_all, pushed_tame_ends}
 use Rattle.isl_simpler.specs.Fixed.{HoldAlike}
 use Rattle.isl_elim.proofs.AlongLaws.{along_none, along_after, along_nowhere, along_charged, columns_after}
-use Rattle.isl_elim.proofs.AlongLaws.{pushed_all, one_more, counted_after, counted_charged}
+use Rattle.isl_elim.proofs.AlongLaws.{pushed_first, pushed_next, pushed_all, one_more, counted_after, counted_charged}
 use Rattle.isl_elim.proofs.FewerLaws.{along_alike}
 use Rattle.isl_simpler.specs.Emptiness.{HoldNowhere}
-use Rattle.isl_elim.proofs.PartsLaws.{parts_after}
+use Rattle.isl_elim.proofs.PartsLaws.{part_found, parts_after}
 use Rattle.isl_elim.proofs.along.+eliminate_all.Goals as goal
 
 pub push_parts-returns : goal.push_parts-returns
@@ -23,17 +30,24 @@ push_parts-returns t c =
     record {
       exact = (
         pushed_all g h c.args.columns c.args.cols.now c.args.parts c.loop-parts.parts c.args.lists.now.items c.loop-parts.lists.items
-            c.loop-parts.invariant none,
-        IsCharged_trans g h k c.loop-parts.invariant.charged charged,
+            c.loop-parts.invariant.0 none,
+        IsCharged_trans g h k c.loop-parts.invariant.0.charged charged,
       );
-      counted = let w = c.loop-parts.invariant.counted in let u = charged.units in omega (arith, w, u);
+      counted = let w = c.loop-parts.invariant.0.counted in let u = charged.units in omega (arith, w, u);
+      tame = record {
+        tame = λ bits full room given.
+            let found : c.in_ok-rows.field-0 ≡ None = grind arith in
+            let alone = rw found at c.in_ok-rows.ensures.alone in
+            pushed_tame_all g h k c.args.columns (length c.args.cols.now) c.loop-parts.taken bits c.loop-parts.parts c.next.new.self None
+            c.args.lists.now.items c.loop-parts.lists.items _ (c.loop-parts.invariant.1.pushed bits full room given) alone;
+      };
     }
 
 pub push_without-returns-then-is_empty : goal.push_without-returns-then-is_empty
 push_without-returns-then-is_empty t c =
     let g = c.args.meter.now in
-    let length : length c.args.cols.now ≡ 0 = grind arith in
-    let none = nil_from_length c.args.cols.now length in
+    let empty : length c.args.cols.now ≡ 0 = grind arith in
+    let none = nil_from_length c.args.cols.now empty in
     let pushed : c.push.new.self.items ≡ c.args.lists.now.items ++ c.args.rows ∷ [] = grind arith in
     record {
       exact = (
@@ -42,16 +56,31 @@ push_without-returns-then-is_empty t c =
         IsCharged_refl g g refl,
       );
       counted = one_more g.units c.args.lists.now.items c.push.new.self.items c.args.rows pushed;
+      tame = record {
+        tame = λ bits full room given.
+            let same : bits ≡ bits + length c.args.cols.now = omega arith in
+            tame_ok (length c.args.cols.now * (c.args.columns * c.args.columns)) g g
+            (λ _. AddsFewDifferences (bits + length c.args.cols.now) c.args.lists.now.items c.push.new.self.items) _ (omega arith)
+            (subst (λ b. AddsFewDifferences b c.args.lists.now.items c.push.new.self.items) same
+            (adds_one bits c.args.rows c.args.lists.now.items c.push.new.self.items pushed given));
+      };
     }
 
 pub push_without-returns-in_default : goal.push_without-returns-in_default
 push_without-returns-in_default t c =
     let g = c.args.meter.now in
     let same : c.simpler.new.meter ≡ g = grind arith in
-    let none : HoldNowhere c.args.columns c.args.rows = rw c.in_default.is at c.in_ok-few.ensures.0 in
+    let none : HoldNowhere c.args.columns c.args.rows = rw c.in_default.is at c.in_ok-few.ensures.exact.0 in
     record {
       exact = rw same (along_nowhere g c.args.columns c.args.cols.now c.args.rows c.args.lists.now.items none, IsCharged_refl g g refl);
       counted = rw same (omega arith);
+      tame = record {
+        tame = λ bits full room given.
+            tame_ok (length c.args.cols.now * (c.args.columns * c.args.columns)) g c.simpler.new.meter
+            (λ _. AddsFewDifferences (bits + length c.args.cols.now) c.args.lists.now.items c.args.lists.now.items) _
+            (let u = ap (λ (x : Gauge). x.units) same in omega arith)
+            (adds_none (bits + length c.args.cols.now) c.args.lists.now.items c.args.lists.now.items refl);
+      };
     }
 
 pub push_without-of-requires : goal.push_without-of-requires
@@ -59,7 +88,7 @@ push_without-of-requires t c =
     let g = c.args.meter.now in
     let same : c.simpler.new.meter ≡ g = grind arith in
     let few = c.in-Some.few in
-    let is : HoldAlike g c.args.columns c.args.rows few = rw c.in-Some.is at c.in_ok-few.ensures.0 in
+    let is : HoldAlike g c.args.columns c.args.rows few = rw c.in-Some.is at c.in_ok-few.ensures.exact.0 in
     let slice : c.as_slice-2.result.now ≡ few = grind arith in
     record { rows = rw (same, slice) is.proper }
 
@@ -71,7 +100,7 @@ push_without-returns t c =
     let cols = c.args.cols.now in
     let rows = c.args.rows in
     let few = c.in-Some.few in
-    let is : HoldAlike g c.args.columns rows few = rw c.in-Some.is at c.in_ok-few.ensures.0 in
+    let is : HoldAlike g c.args.columns rows few = rw c.in-Some.is at c.in_ok-few.ensures.exact.0 in
     let at = c.cheapest-at.result in
     let col = get_or cols at 0 in
     let inside : at < length cols = grind arith in
@@ -88,6 +117,18 @@ push_without-returns t c =
           (along_after g h k c.args.columns col cols few c.in_ok-parts.parts old new c.push_parts.result c.requires.distinct among low charged
           are (rw slice at c.push_parts.ensures.exact));
       counted = counted_after g h k c.in_ok-parts.parts old new c.push_parts.result charged c.push_parts.ensures.counted;
+      tame = record {
+        tame = λ bits full room given.
+            let read : c.as_slice-2.result.now ≡ few = grind arith in
+            let own = rw c.in-Some.is at (c.in_ok-few.ensures.tame.tame bits full room given).answer in
+            let are : AreDifferences g c.args.columns bits few = record { proper = is.proper; normal = is.normal; differences = own } in
+            let e = rw (same, read) at c.in_ok-parts.ensures in
+            let column = column_tame g c.args.columns bits col few low are h (Ok c.in_ok-parts.parts) full room e.tame in
+            let head = difference_head g c.args.columns bits col few low are c.in_ok-parts.parts e.exact_column e.solved_column in
+            let rest = rw slice at (c.push_parts.ensures.tame.tame (bits + 1) (same_bits g h charged full) (omega arith) head) in
+            columns_tame g h k c.args.columns bits (length (others_of col cols)) (length cols) old new c.push_parts.result
+            (others_count col cols c.requires.distinct among) charged column.within.units rest;
+      };
     }
 
 pub push_without-push_parts-requires : goal.push_without-push_parts-requires
@@ -120,6 +161,7 @@ push_some-returns t c =
       exact = along_charged g h k c.args.columns c.args.cols.now c.args.rows old new c.push_without-2.result charged
           c.push_without-2.ensures.exact;
       counted = counted_charged g h k old new c.push_without-2.result charged c.push_without-2.ensures.counted;
+      tame = λ no. absurd (let yes : c.args.test ≡ true = grind arith in let both = sym yes ∙ no in cc);
     }
 
 pub push_some-returns-then-branch-clause-exact : goal.push_some-returns-then-branch-clause-exact
@@ -129,3 +171,121 @@ push_some-returns-then-branch-clause-exact t c =
     let answer = c.in_ok-hold_nowhere.ensures.exact in
     let nowhere : HoldNowhere c.args.columns c.args.rows = rw copied at (answer.0.0 (grind arith)) in
     (along_nowhere g c.args.columns c.args.cols.now c.args.rows c.args.lists.now.items nowhere, answer.1)
+
+pub push_without-returns-in_err-push-clause-tame : goal.push_without-returns-in_err-push-clause-tame
+push_without-returns-in_err-push-clause-tame t c = record {
+  tame = λ bits full room given.
+      let g = c.args.meter.now in
+      let n = length c.args.cols.now in
+      let p = err_from_is_err_and c.from_residual.result c.from_residual.ensures.1 in
+      rw (p.1, p.2) (tame_memory (n * (c.args.columns * c.args.columns)) g g
+      (λ _. AddsFewDifferences (bits + n) c.args.lists.now.items c.push.new.self.items) (omega arith));
+}
+
+pub push_without-returns-in_err-few-clause-tame : goal.push_without-returns-in_err-few-clause-tame
+push_without-returns-in_err-few-clause-tame t c = record {
+  tame = λ bits full room given.
+      let g = c.args.meter.now in
+      let n = length c.args.cols.now in
+      let p = err_from_is_err_and c.from_residual-in_err-few.result c.from_residual-in_err-few.ensures.1 in
+      rw (p.1, p.2) (tame_cut 0 (n * (c.args.columns * c.args.columns)) g c.simpler.new.meter (λ found. IfSome found (All (IsDifferenceRow bits)))
+      (λ _. AddsFewDifferences (bits + n) c.args.lists.now.items c.args.lists.now.items) c.in_err-few.field-0.0 (omega arith)
+      (c.in_err-few.ensures.tame.tame bits full room given));
+}
+
+pub push_without-returns-in_err-left-clause-tame : goal.push_without-returns-in_err-left-clause-tame
+push_without-returns-in_err-left-clause-tame t c = record {
+  tame = λ bits full room given.
+      let g = c.args.meter.now in
+      let n = length c.args.cols.now in
+      let same : c.simpler.new.meter ≡ g = grind arith in
+      let p = err_from_is_err_and c.from_residual-in_err-left.result c.from_residual-in_err-left.ensures.1 in
+      rw (p.1, p.2) (tame_memory (n * (c.args.columns * c.args.columns)) g c.simpler.new.meter
+      (λ _. AddsFewDifferences (bits + n) c.args.lists.now.items c.args.lists.now.items) (let u = ap (λ (x : Gauge). x.units) same in omega arith));
+}
+
+pub push_without-returns-in_err-parts-clause-tame : goal.push_without-returns-in_err-parts-clause-tame
+push_without-returns-in_err-parts-clause-tame t c = record {
+  tame = λ bits full room given.
+      let g = c.args.meter.now in
+      let cols = c.args.cols.now in
+      let n = length cols in
+      let columns = c.args.columns in
+      let same : c.simpler.new.meter ≡ g = grind arith in
+      let few = c.in-Some.few in
+      let is : HoldAlike g columns c.args.rows few = rw c.in-Some.is at c.in_ok-few.ensures.exact.0 in
+      let read : c.as_slice-2.result.now ≡ few = grind arith in
+      let at = c.cheapest-at.result in
+      let col = get_or cols at 0 in
+      let inside : at < n = grind arith in
+      let low = c.requires.cols_in at 0 inside in
+      let own = rw c.in-Some.is at (c.in_ok-few.ensures.tame.tame bits full room given).answer in
+      let are : AreDifferences g columns bits few = record { proper = is.proper; normal = is.normal; differences = own } in
+      let e = rw (same, read) at c.in_err-parts.ensures.tame in
+      let column = column_tame g columns bits col few low are c.of.new.meter (Err c.in_err-parts.field-0.0) full room e in
+      let p = err_from_is_err_and c.from_residual-in_err-parts.result c.from_residual-in_err-parts.ensures.1 in
+      rw (p.1, p.2) (tame_cut (columns * columns) (n * (columns * columns)) g c.of.new.meter (λ _. Unit {0})
+      (λ _. AddsFewDifferences (bits + n) c.args.lists.now.items c.args.lists.now.items) c.in_err-parts.field-0.0
+      (square_once n columns (omega arith)) column);
+}
+
+pub push_parts-loop-parts-init : goal.push_parts-loop-parts-init
+push_parts-loop-parts-init t c = (
+  pushed_first c.args.meter.now c.args.columns c.args.cols.now c.args.parts c.args.lists.now.items c.requires.parts,
+  pushed_tame_first c.args.meter.now c.args.columns (length c.args.cols.now) c.args.parts c.args.lists.now.items,
+)
+
+pub push_parts-loop-parts-preserved : goal.push_parts-loop-parts-preserved
+push_parts-loop-parts-preserved t c =
+    let g = c.args.meter.now in
+    let h = c.loop-parts.meter in
+    let k = c.next.new.meter in
+    let m = c.push_some.new.meter in
+    let columns = c.args.columns in
+    let cols = c.args.cols.now in
+    let now = c.loop-parts.parts in
+    let next = c.next.new.self in
+    let rows = c.in-Some.rows in
+    let old = c.args.lists.now.items in
+    let new = c.loop-parts.lists.items in
+    let newer = c.push_some.new.lists.items in
+    let found = part_found h columns now next c.in_ok-rows.field-0 rows c.in-Some.is c.in_ok-rows.ensures.exact.0 in
+    let counted = rw c.in-Some.is at c.in_ok-rows.ensures.counted in
+    let pushed = c.in_ok-push_some.ensures in (
+      pushed_next g h k m columns cols c.args.parts now next rows old new newer c.loop-parts.invariant.0 found c.in_ok-rows.ensures.exact.1
+          pushed.exact.0 pushed.exact.1 counted pushed.counted,
+      record {
+        pushed = λ bits full room given.
+            let t = head_taken g h k columns (length cols) c.loop-parts.taken bits now next rows c.in_ok-rows.field-0 old new
+            (c.loop-parts.invariant.1.pushed bits full room given) c.in-Some.is c.in_ok-rows.ensures.alone in
+            let first = t.first in
+            let own = (pushed.tame (grind arith)).tame bits (ap (λ (x : Gauge). x.bits) t.meter ∙ full) room t.differences in
+            pushed_tame_next g k m columns (length cols) c.loop-parts.taken _ bits next rows old new newer _ t own;
+      },
+    )
+
+pub push_parts-returns-in_err-rows-clause-tame : goal.push_parts-returns-in_err-rows-clause-tame
+push_parts-returns-in_err-rows-clause-tame t c = record {
+  tame = λ bits full room given. absurd (pushed_tame_ends c.args.meter.now c.loop-parts.meter c.args.columns (length c.args.cols.now)
+      c.loop-parts.taken bits c.loop-parts.parts c.args.lists.now.items c.loop-parts.lists.items
+      (c.loop-parts.invariant.1.pushed bits full room given) c.in_err-rows.ensures.alone);
+}
+
+pub push_parts-returns-in_err-push_some-clause-tame : goal.push_parts-returns-in_err-push_some-clause-tame
+push_parts-returns-in_err-push_some-clause-tame t c = record {
+  tame = λ bits full room given.
+      let g = c.args.meter.now in
+      let k = c.next.new.meter in
+      let n = length c.args.cols.now in
+      let columns = c.args.columns in
+      let old = c.args.lists.now.items in
+      let new = c.loop-parts.lists.items in
+      let t = head_taken g c.loop-parts.meter k columns n c.loop-parts.taken bits c.loop-parts.parts c.next.new.self c.in-Some.rows
+      c.in_ok-rows.field-0 old new (c.loop-parts.invariant.1.pushed bits full room given) c.in-Some.is c.in_ok-rows.ensures.alone in
+      let first = t.first in
+      let own = (c.in_err-push_some.ensures.tame (grind arith)).tame bits (ap (λ (x : Gauge). x.bits) t.meter ∙ full) room t.differences in
+      let p = err_from_is_err_and c.from_residual-in_err-push_some.result c.from_residual-in_err-push_some.ensures.1 in
+      rw (p.1, p.2) (pushed_tame_cut g k c.push_some.new.meter (n * (columns * columns)) c.loop-parts.taken bits c.next.new.self c.in-Some.rows old new
+      (λ _. AddsFewDifferences (bits + n) new c.push_some.new.lists.items) (λ _. AddsFewDifferences (bits + n) old c.push_some.new.lists.items)
+      c.in_err-push_some.field-0.0 t own);
+}

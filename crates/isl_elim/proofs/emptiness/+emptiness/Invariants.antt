@@ -1,5 +1,5 @@
-use Rattle.std.proofs.Common.{◌+◌, ◌-◌, ◌*◌}
-use Rattle.isl_column.specs.Parts.{most_parts}
+use Rattle.std.proofs.Common.{◌≡◌, ◌+◌, ◌-◌, ◌*◌, None}
+use Rattle.isl_column.specs.Parts.{most_parts, IsHeadAlone}
 use Rattle.isl_elim.proofs.EmptinessLaws.{IsSoFar}
 use Rattle.isl_elim.proofs.emptiness.+emptiness.Given as goal
 
@@ -16,7 +16,8 @@ abbrev pub decreases-are_empty : goal.decreases-are_empty
 decreases-are_empty l = 4 * l.columns + 1
 
 abbrev pub invariant-are_empty-loop-parts : goal.invariant-are_empty-loop-parts
-invariant-are_empty-loop-parts l = IsSoFar l.fn.meter l.meter l.columns l.fn.parts l.parts
+invariant-are_empty-loop-parts l =
+    IsSoFar l.fn.meter l.meter l.columns l.fn.parts l.parts × (IsHeadAlone None l.fn.parts → IsHeadAlone None l.parts × (l.meter ≡ l.fn.meter))
 
 abbrev pub decreases-are_empty-loop-parts : goal.decreases-are_empty-loop-parts
 decreases-are_empty-loop-parts l = most_parts l.parts

@@ -40,7 +40,7 @@ returns-clause-exact c =
     ∙ gone_columns s c.in_ok-gone.gone.items c.free.result c.requires.well_formed.count c.free.ensures c.in_ok-gone.ensures in
     let is : c.in_ok-systems.systems.items ≡ map (system_of (free_columns s) []) c.in_ok-lists.lists.items = grind arith in
     let rows : c.in_ok-rows.rows ≡ opened_rows s c.as_slice-2.result.now = grind arith in
-    let kept : c.opened_rows.new.meter ≡ c.args.meter.now = c.in_ok-rows.ensures.1 in
+    let kept : c.opened_rows.new.meter ≡ c.args.meter.now = c.in_ok-rows.ensures.exact.1 in
     (systems_flat c.args.meter.now s c.as_slice-2.result.now c.in_ok-lists.lists.items c.in_ok-systems.systems.items
     c.requires.well_formed gone
     (rw (rows, kept) at c.in_ok-lists.ensures.exact.0) is).flat
@@ -53,7 +53,7 @@ returns-clause-within c =
     ∙ gone_columns s c.in_ok-gone.gone.items c.free.result c.requires.well_formed.count c.free.ensures c.in_ok-gone.ensures in
     let is : c.in_ok-systems.systems.items ≡ map (system_of (free_columns s) []) c.in_ok-lists.lists.items = grind arith in
     let rows : c.in_ok-rows.rows ≡ opened_rows s c.as_slice-2.result.now = grind arith in
-    let kept : c.opened_rows.new.meter ≡ c.args.meter.now = c.in_ok-rows.ensures.1 in
+    let kept : c.opened_rows.new.meter ≡ c.args.meter.now = c.in_ok-rows.ensures.exact.1 in
     (systems_flat c.args.meter.now s c.as_slice-2.result.now c.in_ok-lists.lists.items c.in_ok-systems.systems.items
     c.requires.well_formed gone
     (rw (rows, kept) at c.in_ok-lists.ensures.exact.0) is).within
@@ -66,7 +66,7 @@ returns-clause-normal c =
     ∙ gone_columns s c.in_ok-gone.gone.items c.free.result c.requires.well_formed.count c.free.ensures c.in_ok-gone.ensures in
     let is : c.in_ok-systems.systems.items ≡ map (system_of (free_columns s) []) c.in_ok-lists.lists.items = grind arith in
     let rows : c.in_ok-rows.rows ≡ opened_rows s c.as_slice-2.result.now = grind arith in
-    let kept : c.opened_rows.new.meter ≡ c.args.meter.now = c.in_ok-rows.ensures.1 in
+    let kept : c.opened_rows.new.meter ≡ c.args.meter.now = c.in_ok-rows.ensures.exact.1 in
     (systems_flat c.args.meter.now s c.as_slice-2.result.now c.in_ok-lists.lists.items c.in_ok-systems.systems.items
     c.requires.well_formed gone
     (rw (rows, kept) at c.in_ok-lists.ensures.exact.0) is).normal

@@ -1,4 +1,11 @@
-use Rattle.std.proofs.Common.{◌≡◌, ◌+◌, ◌<◌, ◌∙◌, [], pos, sym, length, get_or, false, true, arith}
+use Rattle.std.proofs.Common.{◌≡◌, ◌+◌, ◌<◌, ◌∙◌, [], pos, sym, ap, length, get_or, false, true, arith}
+use Rattle.std.specs.List.{All}
+use Rattle.std.proofs.lemmas.Result.{err_from_is_err_and}
+use Rattle.isl_meter.specs.Gauge.{Gauge}
+use Rattle.isl_ledger.specs.Difference.{IsDifferenceRow}
+use Rattle.isl_elim.specs.Opened.{opened_rows}
+use Rattle.isl_elim.proofs.TameLaws.{tame_ok, tame_memory}
+use Rattle.isl_elim.proofs.TameSystems.{no_definition, plain_opened}
 use Rattle.isl_piece.specs.System.{free_columns}
 use Rattle.isl_elim.proofs.OthersLaws.{among}
 use Rattle.isl_elim.proofs.OpenedLaws.{definition_inside, only_step, only_same}
@@ -34,3 +41,25 @@ loop-i-preserved-then-not-is_among c =
     let inside : i < length s.definitions = grind arith in
     let no : among (free_columns s + i) cols ≡ false = grind arith in
     (c.loop-i.invariant.0 ∙ sym (only_same s cols i (record { coefs = []; constant = pos 0; k = pos 1 }) inside no), c.loop-i.invariant.1, c.loop-i.invariant.2)
+
+pub returns-in_err-rows-clause-tame : goal.returns-in_err-rows-clause-tame
+returns-in_err-rows-clause-tame c = record {
+  tame = λ bits full room given.
+      let p = err_from_is_err_and c.from_residual.result c.from_residual.ensures.1 in
+      rw (p.1, p.2) (tame_memory 0 c.args.meter.now c.args.meter.now (All (IsDifferenceRow bits)) (omega arith));
+}
+
+pub returns-in_err-push_definition-clause-tame : goal.returns-in_err-push_definition-clause-tame
+returns-in_err-push_definition-clause-tame c = record {
+  tame = λ bits full room given. absurd (no_definition c.args.system.now c.loop-i.i (grind arith) given.undefined);
+}
+
+pub returns-clause-tame : goal.returns-clause-tame
+returns-clause-tame c = record {
+  tame = λ bits full room given.
+      let s = c.args.system.now in
+      let cols = c.args.cols.now in
+      let is : c.loop-i.rows ≡ opened_rows s cols = grind arith in
+      tame_ok 0 c.args.meter.now c.loop-i.meter (All (IsDifferenceRow bits)) c.loop-i.rows
+      (let u = ap (λ (x : Gauge). x.units) c.loop-i.invariant.2 in omega arith) (rw (is, plain_opened s cols given.undefined) given.rows);
+}

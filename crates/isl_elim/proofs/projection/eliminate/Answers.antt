@@ -1,4 +1,6 @@
-use Rattle.std.proofs.Common.{◌∷◌, [], refl, Vec, Global}
+use Rattle.std.proofs.Common.{◌∷◌, [], ◌*◌, refl, arith, Vec, Global}
+use Rattle.isl_ledger.specs.Work.{AreOfSize, drop_size}
+use Rattle.isl_ledger.proofs.AnsweredLaws.{tame_more}
 use Rattle.isl_piece.specs.declared.system.System.{System}
 use Rattle.isl_elim.specs.Elimination.{IsProjection, IsProjectionAlong}
 use Rattle.isl_elim.proofs.ProjectionLaws.{along_one, if_ok}
@@ -16,3 +18,9 @@ returns-clause-exact_column c = λ none exact no. c.eliminate_all.ensures.exact_
 
 pub returns-clause-solved_column : goal.returns-clause-solved_column
 returns-clause-solved_column c = λ none equality. c.eliminate_all.ensures.solved_column c.args.col refl none equality
+
+pub returns-clause-tame : goal.returns-clause-tame
+returns-clause-tame c = λ size full room of.
+    tame_more (1 * (size.columns * size.columns)) (size.columns * size.columns) c.args.meter.now c.eliminate_all.new.meter
+    (λ (systems : Vec System Global). AreOfSize (drop_size 1 size) systems.items) (λ (systems : Vec System Global). AreOfSize (drop_size 1 size) systems.items)
+    c.eliminate_all.result (omega arith) (λ systems a. a) (c.eliminate_all.ensures.tame size full room of)

@@ -1,4 +1,11 @@
-use Rattle.std.proofs.Common.{◌≡◌, ◌-◌, ◌+◌, ◌∙◌, map, length, arith}
+use Rattle.std.proofs.Common.{◌≡◌, ◌-◌, ◌+◌, ◌*◌, ◌∙◌, map, length, arith, Vec, Global, List}
+use Rattle.std.proofs.lemmas.Result.{err_from_is_err_and}
+use Rattle.isl_piece.specs.declared.row.Row.{Row}
+use Rattle.isl_piece.specs.declared.system.System.{System}
+use Rattle.isl_ledger.specs.Work.{AreOfSize, drop_size}
+use Rattle.isl_elim.specs.Tame.{AreFewDifferences}
+use Rattle.isl_elim.proofs.TameLaws.{tame_ok, tame_memory, tame_cut}
+use Rattle.isl_elim.proofs.TameSystems.{plain_of_one, gone_plain, room_left, units_left, size_dropped}
 use Rattle.isl_column.specs.Exact.{exact_rows}
 use Rattle.isl_column.specs.Solved.{solved_rows}
 use Rattle.isl_piece.specs.System.{free_columns}
@@ -130,3 +137,65 @@ returns-clause-equality c = λ col e none.
     let cols = c.args.cols.now in
     let gone : c.as_slice-2.result.now ≡ with_dependents s cols = grind arith in
     c.lists_left.ensures.equality col (gone ∙ gone_one s cols col e none) (low_one s cols col e c.requires.cols_in)
+
+pub returns-in_err-gone-clause-tame : goal.returns-in_err-gone-clause-tame
+returns-in_err-gone-clause-tame c = λ size full room of.
+    let cols = c.args.cols.now in
+    let p = err_from_is_err_and c.from_residual.result c.from_residual.ensures.1 in
+    rw (p.1, p.2) (tame_memory (length cols * (size.columns * size.columns)) c.args.meter.now c.args.meter.now
+    (λ (systems : Vec System Global). AreOfSize (drop_size (length cols) size) systems.items) (omega arith))
+
+pub returns-in_err-left-clause-tame : goal.returns-in_err-left-clause-tame
+returns-in_err-left-clause-tame c = λ size full room of.
+    let cols = c.args.cols.now in
+    let p = err_from_is_err_and c.from_residual-in_err-left.result c.from_residual-in_err-left.ensures.1 in
+    rw (p.1, p.2) (tame_memory (length cols * (size.columns * size.columns)) c.args.meter.now c.args.meter.now
+    (λ (systems : Vec System Global). AreOfSize (drop_size (length cols) size) systems.items) (omega arith))
+
+pub returns-in_err-lists-clause-tame : goal.returns-in_err-lists-clause-tame
+returns-in_err-lists-clause-tame c = λ size full room of.
+    let s = c.args.system.now in
+    let cols = c.args.cols.now in
+    let gone : c.as_slice-2.result.now ≡ with_dependents s cols = grind arith in
+    let plain = plain_of_one size s of in
+    let same = gone ∙ gone_plain s cols plain.undefined in
+    let own = (rw same at c.in_err-lists.ensures.tame).tame size.bits full (room_left size s of room) plain in
+    let p = err_from_is_err_and c.from_residual-in_err-lists.result c.from_residual-in_err-lists.ensures.1 in
+    rw (p.1, p.2) (tame_cut (length cols * (s.columns * s.columns)) (length cols * (size.columns * size.columns)) c.args.meter.now
+    c.lists_left.new.meter
+    (λ (lists : Vec (List Row) Global). AreFewDifferences (size.bits + length cols) lists.items)
+    (λ (systems : Vec System Global). AreOfSize (drop_size (length cols) size) systems.items) c.in_err-lists.field-0.0
+    (units_left size s (length cols) of) own)
+
+pub returns-in_err-systems-clause-tame : goal.returns-in_err-systems-clause-tame
+returns-in_err-systems-clause-tame c = λ size full room of.
+    let s = c.args.system.now in
+    let cols = c.args.cols.now in
+    let gone : c.as_slice-2.result.now ≡ with_dependents s cols = grind arith in
+    let plain = plain_of_one size s of in
+    let same = gone ∙ gone_plain s cols plain.undefined in
+    let own = (rw same at c.in_ok-lists.ensures.tame).tame size.bits full (room_left size s of room) plain in
+    let p = err_from_is_err_and c.from_residual-in_err-systems.result c.from_residual-in_err-systems.ensures.1 in
+    rw (p.1, p.2) (tame_memory (length cols * (size.columns * size.columns)) c.args.meter.now c.lists_left.new.meter
+    (λ (systems : Vec System Global). AreOfSize (drop_size (length cols) size) systems.items)
+    (let u = own.within.units in let v = units_left size s (length cols) of in omega arith))
+
+pub returns-clause-tame : goal.returns-clause-tame
+returns-clause-tame c = λ size full room of.
+    let g = c.args.meter.now in
+    let s = c.args.system.now in
+    let cols = c.args.cols.now in
+    let gone : c.as_slice-2.result.now ≡ with_dependents s cols = grind arith in
+    let are : c.in_ok-systems.systems.items ≡ map (system_of c.in_ok-left.left.columns c.in_ok-left.left.definitions) c.in_ok-lists.lists.items = grind arith in
+    let kept : c.in_ok-left.left.definitions ≡ kept_definitions s cols = grind arith in
+    let columns : c.in_ok-left.left.columns ≡ s.columns - length (with_dependents s cols) = grind arith in
+    let added = (rw gone at c.in_ok-lists.ensures.exact).0 in
+    let left = systems_left g s cols c.in_ok-left.left c.in_ok-lists.lists.items c.in_ok-systems.systems.items c.requires.well_formed c.requires.distinct
+    c.requires.cols_in kept columns c.in_ok-left.ensures.within added are in
+    let plain = plain_of_one size s of in
+    let same = gone ∙ gone_plain s cols plain.undefined in
+    let own = (rw same at c.in_ok-lists.ensures.tame).tame size.bits full (room_left size s of room) plain in
+    tame_ok (length cols * (size.columns * size.columns)) g c.lists_left.new.meter
+    (λ (systems : Vec System Global). AreOfSize (drop_size (length cols) size) systems.items) c.in_ok-systems.systems
+    (let u = own.within.units in let v = units_left size s (length cols) of in omega arith)
+    (size_dropped size s cols c.in_ok-left.left c.in_ok-lists.lists.items c.in_ok-systems.systems.items of kept columns are left.normal own.answer)

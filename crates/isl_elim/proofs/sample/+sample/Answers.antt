@@ -98,7 +98,7 @@ pub sample_rows-sample_columns-requires : goal.sample_rows-sample_columns-requir
 sample_rows-sample_columns-requires t c =
     let g = c.args.meter.now in
     let same : c.with_fixed.new.meter ≡ g = grind arith in
-    let alike : HoldAlike g c.args.columns c.args.rows c.in-Some.fixed = rw c.in-Some.is at c.in_ok-with_fixed.ensures.0 in
+    let alike : HoldAlike g c.args.columns c.args.rows c.in-Some.fixed = rw c.in-Some.is at c.in_ok-with_fixed.ensures.exact.0 in
     (grind arith, (rw same alike.proper, alike.normal))
 
 pub sample_rows-returns-in-Some : goal.sample_rows-returns-in-Some
@@ -107,7 +107,7 @@ sample_rows-returns-in-Some t c =
     let h = c.sample_columns.new.meter in
     let same : c.with_fixed.new.meter ≡ g = grind arith in
     let fixed = c.in-Some.fixed in
-    let alike : HoldAlike g c.args.columns c.args.rows fixed = rw c.in-Some.is at c.in_ok-with_fixed.ensures.0 in
+    let alike : HoldAlike g c.args.columns c.args.rows fixed = rw c.in-Some.is at c.in_ok-with_fixed.ensures.exact.0 in
     record {
       exact = sample_alike (λ v. v.items) g h c.args.columns c.args.rows fixed c.sample_columns.result alike
           (rw same at c.sample_columns.ensures.exact);
