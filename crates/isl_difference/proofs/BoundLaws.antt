@@ -1,6 +1,6 @@
 -- What rows say of one another.
-use Rattle.std.proofs.Common.{◌≡◌, ◌↔◌, ◌⊎◌, inl, inr, ◌∙◌, sym, subst, ap, refl, arith, add-one, Bool, true, false, ℕ, zero, suc, ◌<◌, ◌≤◌}
-use Rattle.std.proofs.Common.{ℤ, pos, negsuc, neg_ℤ, ◌+ℤ◌, ◌*ℤ◌, ◌<ℤ◌, ◌≤ℤ◌, List, [], ◌∷◌, ◌+◌, length, get_or, map, take, drop}
+use Rattle.std.proofs.Common.{◌≡◌, ◌↔◌, inl, inr, ◌∙◌, sym, subst, ap, refl, arith, add-one, Bool, true, false, ℕ, zero, suc, ◌<◌, ◌≤◌}
+use Rattle.std.proofs.Common.{ℤ, pos, negsuc, neg_ℤ, ◌+ℤ◌, ◌*ℤ◌, ◌<ℤ◌, ◌≤ℤ◌, List, [], ◌∷◌, ◌+◌, length, get_or, take, drop}
 use Rattle.std.specs.Prelude.{IsTrue}
 use Rattle.std.specs.List.{All, Any}
 use Rattle.std.proofs.lemmas.Bool.{false≢true}
@@ -10,12 +10,11 @@ use Rattle.isl_math.specs.Dot.{dot, scaled}
 use Rattle.isl_math.proofs.Ring.{linear}
 use Rattle.isl_math.proofs.DotLaws.{dot-scaled}
 use Rattle.isl_piece.specs.declared.row.RowKind.{RowKind}
-use Rattle.isl_piece.specs.declared.row.RowKind.TheVariants.{Zero, AtLeast}
 use Rattle.isl_piece.specs.declared.row.Row.{Row}
 use Rattle.isl_piece.specs.Row.{HoldsRow, value_at}
 use Rattle.isl_piece.specs.System.{HoldRows}
 use Rattle.isl_difference.specs.Bounds.{Implies, AreApart, ImplyRow, ImplyRows, AreApartRows}
-use Rattle.isl_difference.specs.Told.{ExcludeOne, Excludes, IsAbove, IsBelow, IsBound, IsOpposite, IsParallel, SayAll, Says}
+use Rattle.isl_difference.specs.Told.{ExcludeOne, Excludes, IsBelow, IsBound, SayAll, Says}
 
 -- ---- forms
 cons : {X : Type 0} {x y : X} {xs ys : List X} → x ≡ y → xs ≡ ys → x ∷ xs ≡ y ∷ ys

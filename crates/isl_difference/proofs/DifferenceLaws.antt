@@ -1,12 +1,12 @@
 -- One system without others.
-use Rattle.std.proofs.Common.{◌≡◌, ◌≢◌, ◌↔◌, ◌⊎◌, inl, inr, refl, sym, ap, ◌∙◌, subst, arith, ℕ, zero, suc, ◌+◌, ◌<◌, ◌≤◌, ℤ, pos, List, [], ◌∷◌}
+use Rattle.std.proofs.Common.{◌≡◌, ◌≢◌, ◌↔◌, ◌⊎◌, inl, inr, refl, sym, ap, ◌∙◌, subst, arith, ℕ, zero, suc, ◌+◌, ◌*◌, ◌<◌, ◌≤◌, ℤ, pos, List, [], ◌∷◌}
 use Rattle.std.proofs.Common.{◌++◌, append-nil, length, length-append, get_or, take, Bool, false}
 use Rattle.std.specs.List.{All, Any, AllPairs}
 use Rattle.std.specs.Prelude.{IfOk, IsTrue, MatchResult, Result, Ok, Err}
 use Rattle.std.proofs.lemmas.Bool.{false≢true}
 use Rattle.std.proofs.lemmas.List.{take_more, take_all}
-use Rattle.std.proofs.lemmas.List.Elements.{All-nil, All-cons, All-append}
-use Rattle.isl_math.proofs.ListLaws.{All-last, Any-parts, Any-left, Any-right, Any-one, Any-first, Any-none}
+use Rattle.std.proofs.lemmas.List.Elements.{All-nil, All-cons, All-append, All-take}
+use Rattle.isl_math.proofs.ListLaws.{All-parts, All-last, Any-parts, Any-left, Any-right, Any-one, Any-first, Any-none}
 use Rattle.isl_meter.specs.declared.Cut.{Cut}
 use Rattle.isl_meter.specs.declared.Cut.TheVariants.{NoMemory}
 use Rattle.isl_meter.specs.Gauge.{Gauge, IsAnsweredWithin, IsCharged}
@@ -20,16 +20,21 @@ use Rattle.isl_piece.specs.Placed.{both_systems}
 use Rattle.isl_piece.specs.Row.{HoldsRow, IsWellFormed, IsRowWithin}
 use Rattle.isl_piece.specs.System.{HoldRows, HoldsSystem, IsSystemWithin, free_columns}
 use Rattle.isl_piece.proofs.MeetLaws.{IsPlaced-first, IsPlaced-more, both_same, meeting_more}
+use Rattle.isl_ledger.specs.Difference.{IsDifferenceSystem}
+use Rattle.isl_ledger.specs.Work.{AreOfSize}
 use Rattle.isl_elim.specs.Elimination.{HoldsAtAny}
 use Rattle.isl_elim.specs.Sample.{IsNowhere}
 use Rattle.isl_elim.proofs.PartsLaws.{charged_bits}
 use Rattle.isl_difference.specs.Bounds.{ImplyRows, AreApartRows}
 use Rattle.isl_difference.specs.Difference.{AreDisjoint, IsPartition, IsLeftOf, IsOutside, IsDifference, IsCounted}
 use Rattle.isl_difference.specs.Split.{AreAligned, frame_of, HoldsBut, IsLive, AreLiveParts, ArePaid, HoldsBeside, IsLeftOfAny}
+use Rattle.isl_difference.specs.Tame.{part_limit, test_work, left_size}
 use Rattle.isl_difference.specs.Told.{AreTold, ExcludeOne, IsTold, SayAll}
 use Rattle.isl_difference.proofs.PartitionLaws.{any_at, any_before, any_taken, partition_none, partition_one, partition_append}
 use Rattle.isl_difference.proofs.PartitionLaws.{partition_same, partition_each}
 use Rattle.isl_difference.proofs.SplitLaws.{system_kept, live_kept, charged_within}
+use Rattle.isl_difference.proofs.TameLaws.{AreBesideWithin, AreLeftWithin, beside_next, left_within_first, left_within_longer}
+use Rattle.isl_difference.proofs.TameLaws.{left_within_next, taken_few}
 
 -- ---- two systems over the same columns
 module _ (s other : System) (definitions : other.definitions ≡ s.definitions) where
@@ -55,6 +60,15 @@ module _ (s other : System) (definitions : other.definitions ≡ s.definitions) 
         apart = λ point l h k.
             nowhere point l (All-append (λ (r : Row). HoldsRow r (with_defined s.definitions point)) s.rows other.rows h (there point k));
       }
+
+  -- where both have a point in common, the other has one
+  pub other_live : (both : System) → both ≡ over_same_columns s other → other.columns ≡ s.columns
+      → ¬ IsNowhere (free_columns both) (HoldsSystem both) → ¬ IsNowhere (free_columns other) (HoldsSystem other)
+  other_live both e columns some none =
+      let somewhere : ¬ IsNowhere (free_columns s) (HoldsSystem (over_same_columns s other)) = rw e at some in
+      let free : free_columns other ≡ free_columns s = (let n = ap (length {A = Definition}) definitions in omega arith) in
+      somewhere (λ point l h. none point (l ∙ sym free)
+      (back point (All-parts (λ (r : Row). HoldsRow r (with_defined s.definitions point)) s.rows other.rows h).1))
 
   pub split_left : (g h : Gauge) (parts : List System) → IsCharged g h
       → IsPartition (IsLive h (free_columns s)) (free_columns s) (HoldsBut s other.rows) parts → AreLiveParts g s other parts
@@ -275,6 +289,8 @@ pub record AreBeside (g h : Gauge) (systems done : List System) (other : System)
   pub charged : IsCharged g h
   pub counted : length left + g.units ≤ h.units + length done
   pub plain : All IsPlain done → IsPlain other → All IsPlain left
+  pub tame : (columns bits : ℕ) → g.bits ≡ 127 → bits + 1 + columns ≤ 120 → All (IsDifferenceSystem columns (bits + 1)) done
+      → IsDifferenceSystem columns bits other → AreBesideWithin columns bits (length done) g h left
   pub parts : IsPartition (IsLeftOfAny g systems) (free_columns other) (HoldsBeside done other) left
 
 pub beside_first : (g : Gauge) (systems : List System) (other : System) (left : List System) → left ≡ []
@@ -283,6 +299,10 @@ beside_first g systems other left e = record {
   charged = IsCharged_refl g g refl;
   counted = rw e (omega arith);
   plain = λ all o. all_none IsPlain left e;
+  tame = λ c b limit room all o. record {
+    units = omega arith;
+    size = rw e (record { few = omega arith; each = All-nil (IsDifferenceSystem c (b + 1)) });
+  };
   parts = rw e (partition_none (IsLeftOfAny g systems) (free_columns other) (HoldsBeside [] other) (λ point l h. Any-none (λ (t : System). HoldsSystem t point) h.0));
 }
 
@@ -308,14 +328,31 @@ module _ (g h k : Gauge) (systems : List System) (other : System) (i : ℕ) (s :
       let done : length (take i systems ++ s ∷ []) ≡ length (take i systems) + 1 = length-append (take i systems) (s ∷ []) in
       omega arith
 
+  -- what the system leaves without the other one
+  abbrev SubtractedTame : Type 0
+  SubtractedTame = (columns bits : ℕ) → h.bits ≡ 127 → bits + 1 + columns ≤ 120 → IsDifferenceSystem columns (bits + 1) s
+      → IsDifferenceSystem columns bits other
+      → (k.units ≤ h.units + part_limit columns 1 * test_work columns) × AreOfSize (left_size columns bits 1) parts
+
+  all_tame : SubtractedTame → (c b : ℕ) → g.bits ≡ 127 → b + 1 + c ≤ 120 → All (IsDifferenceSystem c (b + 1)) (take i systems ++ s ∷ [])
+      → IsDifferenceSystem c b other → AreBesideWithin c b (length (take i systems ++ s ∷ [])) g k (left ++ parts)
+  all_tame tame c b limit room all o =
+      let both = All-last (IsDifferenceSystem c (b + 1)) (take i systems) s all in
+      let before = so_far.tame c b limit room both.0 o in
+      let after = tame c b (charged_bits g h so_far.charged ∙ limit) room both.1 o in
+      let long : length (take i systems ++ s ∷ []) ≡ length (take i systems) + 1 = length-append (take i systems) (s ∷ []) in
+      rw long (beside_next c b (length (take i systems)) g h k left parts before after.0 after.1)
+
   pub beside_more : (newer : List System) → IsDifference h s (other ∷ []) parts → IsCounted h k s parts → IsCharged h k
-      → (IsPlain s → IsPlain other → All IsPlain parts) → newer ≡ left ++ parts → AreBeside g k systems (take (i + 1) systems) other newer
-  beside_more newer d p c plain e = record {
+      → (IsPlain s → IsPlain other → All IsPlain parts) → SubtractedTame → newer ≡ left ++ parts
+      → AreBeside g k systems (take (i + 1) systems) other newer
+  beside_more newer d p c plain tame e = record {
     charged = IsCharged_trans g h k so_far.charged c;
     counted = rw (e, more) (all_counted c p);
     plain = rw (e, more) (λ all o.
         let both = All-last IsPlain (take i systems) s all in
         All-append IsPlain left parts (so_far.plain both.0 o) (plain both.1 o));
+    tame = rw (e, more) (all_tame tame);
     parts = rw (e, more) (partition_same (IsLeftOfAny g systems) n (λ point. HoldsBeside (take i systems) other point ⊎ IsOutside s (other ∷ []) point) (HoldsBeside (take i systems ++ s ∷ []) other) (left ++ parts)
         (λ point l. let P : System → Type 0 = λ t. HoldsSystem t point in (
           (λ x. elim x [ inl y ↦ (Any-left P (take i systems) (s ∷ []) y.0, y.1) | inr z ↦ (Any-right P (take i systems) (s ∷ []) (Any-first P s [] z.0), λ a. z.1 (Any-first P other [] a)) ]),
@@ -332,6 +369,8 @@ pub record AreLeft (g h : Gauge) (s : System) (done left : List System) : Type 0
   pub charged : IsCharged g h
   pub counted : length left + g.units ≤ h.units + 1
   pub plain : IsPlain s → All IsPlain done → All IsPlain left
+  pub tame : (columns bits : ℕ) → g.bits ≡ 127 → bits + 1 + columns ≤ 120 → IsDifferenceSystem columns (bits + 1) s
+      → All (IsDifferenceSystem columns bits) done → AreLeftWithin columns bits (length done) g h left
   pub difference : IsDifference g s done left
 
 pub left_first : (g : Gauge) (s : System) (left : List System) → IsSystemWithin g s → left ≡ s ∷ [] → AreLeft g g s [] left
@@ -339,6 +378,7 @@ left_first g s left w e = record {
   charged = IsCharged_refl g g refl;
   counted = rw e (omega arith);
   plain = λ p all. all_one IsPlain s left e p;
+  tame = λ c b limit room d all. rw e (left_within_first c b g s d);
   difference = difference_none g s left w e;
 }
 
@@ -361,14 +401,15 @@ module _ (g h : Gauge) (s : System) (others : List System) (i : ℕ) (other : Sy
   pub left_disjoint : AllPairs (AreDisjoint (free_columns other)) left
   left_disjoint = subst (λ n. AllPairs (AreDisjoint n) left) (sym free) so_far.difference.disjoint
 
+  next_others : take (i + 1) others ≡ take i others ++ other ∷ []
+  next_others = take_more others i other inside ∙ ap (λ (t : System). take i others ++ t ∷ []) (sym is)
+
   difference_more : (next : List System)
       → IsPartition (IsLeftOfAny h left) (free_columns other) (HoldsBeside left other) next → IsDifference g s (take (i + 1) others) next
   difference_more next p =
       let n = free_columns s in
       let d = so_far.difference in
-      let more : take (i + 1) others ≡ take i others ++ other ∷ [] =
-      take_more others i other inside ∙ ap (λ (t : System). take i others ++ t ∷ []) (sym is) in
-      rw more (partition_same (IsLeftOf g s) n (HoldsBeside left other) (IsOutside s (take i others ++ other ∷ [])) next
+      rw next_others (partition_same (IsLeftOf g s) n (HoldsBeside left other) (IsOutside s (take i others ++ other ∷ [])) next
       (λ point l. let P : System → Type 0 = λ t. HoldsSystem t point in (
         (λ x. let y = (d.points point l).0 x.0 in
             (y.0, λ a. elim (Any-parts P (take i others) (other ∷ []) a) [ inl b ↦ y.1 b | inr c ↦ x.1 (Any-one P other c) ])),
@@ -381,18 +422,41 @@ module _ (g h : Gauge) (s : System) (others : List System) (i : ℕ) (other : Sy
       (λ t a. left_trans g h s a.1 t (charged_bits g h so_far.charged) (rw a.3 at (d.each a.0 a.1 a.2)) a.4)
       (subst (λ m. IsPartition (IsLeftOfAny h left) m (HoldsBeside left other) next) free p)))
 
+  -- what the systems leave without the next one
+  abbrev pub BesideTame : Gauge → List System → Type 0
+  BesideTame k next = (columns bits : ℕ) → h.bits ≡ 127 → bits + 1 + columns ≤ 120 → All (IsDifferenceSystem columns (bits + 1)) left
+      → IsDifferenceSystem columns bits other → AreBesideWithin columns bits (length left) h k next
+
+  next_tame : (k : Gauge) (next : List System) → BesideTame k next → (c b : ℕ) → g.bits ≡ 127 → b + 1 + c ≤ 120
+      → IsDifferenceSystem c (b + 1) s → All (IsDifferenceSystem c b) (take i others ++ other ∷ [])
+      → AreLeftWithin c b (length (take i others ++ other ∷ [])) g k next
+  next_tame k next tame c b limit room d all =
+      let both = All-last (IsDifferenceSystem c b) (take i others) other all in
+      let before = so_far.tame c b limit room d both.0 in
+      let after = tame c b (charged_bits g h so_far.charged ∙ limit) room before.size.each both.1 in
+      let long : length (take i others ++ other ∷ []) ≡ length (take i others) + 1 = length-append (take i others) (other ∷ []) in
+      rw long (left_within_next c b (length (take i others)) g h k left next before after)
+
   pub left_more : (k : Gauge) (next : List System) → IsCharged h k → length next + h.units ≤ k.units + length left
-      → (All IsPlain left → IsPlain other → All IsPlain next)
+      → (All IsPlain left → IsPlain other → All IsPlain next) → BesideTame k next
       → IsPartition (IsLeftOfAny h left) (free_columns other) (HoldsBeside left other) next → AreLeft g k s (take (i + 1) others) next
-  left_more k next c few plain p = record {
+  left_more k next c few plain tame p = record {
     charged = IsCharged_trans g h k so_far.charged c;
     counted = let before = so_far.counted in omega arith;
     plain = λ own all.
-        let more = take_more others i other inside ∙ ap (λ (t : System). take i others ++ t ∷ []) (sym is) in
-        let both = All-last IsPlain (take i others) other (rw more at all) in
+        let both = All-last IsPlain (take i others) other (rw next_others at all) in
         plain (so_far.plain own both.0) both.1;
+    tame = rw next_others (next_tame k next tame);
     difference = difference_more next p;
   }
+
+-- without some of them as without all
+pub left_tame : (g h : Gauge) (s : System) (others : List System) (i n : ℕ) (left : List System) → length others ≡ n
+    → AreLeft g h s (take i others) left → (c b : ℕ) → g.bits ≡ 127 → b + 1 + c ≤ 120 → IsDifferenceSystem c (b + 1) s
+    → All (IsDifferenceSystem c b) others → AreLeftWithin c b n g h left
+left_tame g h s others i n left e d c b limit room own all =
+    left_within_longer c b (length (take i others)) n g h left (let t = taken_few i others in omega arith)
+    (d.tame c b limit room own (All-take (IsDifferenceSystem c b) i others all))
 
 -- nothing is left
 pub left_none : (g h : Gauge) (s : System) (others : List System) (i : ℕ) (left : List System)

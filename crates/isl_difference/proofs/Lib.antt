@@ -5,3 +5,4 @@ pub mod LiveLaws
 pub mod PartitionLaws
 pub mod RowCases
 pub mod SplitLaws
+pub mod TameLaws

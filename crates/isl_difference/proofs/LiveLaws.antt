@@ -1,12 +1,15 @@
 -- Normal systems that have a point.
-use Rattle.std.proofs.Common.{◌≡◌, ◌↔◌, refl, ◌∙◌, sym, arith, Bool, false, ℤ, List, [], ◌∷◌, ◌++◌, append-nil}
-use Rattle.std.proofs.lemmas.List.Elements.{All-nil, All-cons}
-use Rattle.std.specs.Prelude.{IsTrue, Option, Some, None, option_map}
+use Rattle.std.proofs.Common.{◌≡◌, ◌↔◌, refl, ◌∙◌, sym, arith, Bool, true, false, not, ℕ, ℤ, List, [], ◌∷◌, ◌++◌, append-nil}
+use Rattle.std.specs.List.{All}
+use Rattle.std.proofs.lemmas.List.Elements.{All-nil, All-cons, All-push}
+use Rattle.std.specs.Prelude.{IsTrue, MatchOption, Option, Some, None, is_some, option_map}
+use Rattle.std.proofs.lemmas.Bool.{false≢true}
 use Rattle.isl_meter.specs.Gauge.{Gauge}
 use Rattle.isl_piece.specs.declared.row.Row.{Row}
 use Rattle.isl_piece.specs.declared.system.System.{System}
 use Rattle.isl_piece.specs.Normal.{IsNormal, normal_rows, normal_system}
 use Rattle.isl_piece.specs.System.{HoldsSystem, IsSystemWithin, free_columns}
+use Rattle.isl_ledger.specs.Difference.{IsDifferenceSystem}
 use Rattle.isl_elim.specs.Sample.{IsNowhere}
 use Rattle.isl_difference.specs.Split.{IsLive, IsLiveFormOf, IsPushed}
 use Rattle.isl_difference.proofs.PartitionLaws.{partition_none, partition_one}
@@ -46,6 +49,21 @@ normal_live g s kept e same w n some = record {
   points = same;
   definitions = normal_definitions s kept e;
 }
+
+-- whether there is a live form
+pub asked_form : (g : Gauge) (s : System) (found : Option System) (b : Bool) → is_some found ≡ not b
+    → MatchOption found (IsNowhere (free_columns s) (HoldsSystem s)) (IsLiveFormOf g s)
+    → IsTrue b ↔ IsNowhere (free_columns s) (HoldsSystem s)
+asked_form g s None true e m = ((λ t. m), (λ n. refl))
+asked_form g s None false e m = absurd (false≢true e)
+asked_form g s (Some kept) true e m = absurd (false≢true (sym e))
+asked_form g s (Some kept) false e m =
+    ((λ t. absurd (false≢true t)), (λ n. absurd (m.live.somewhere (λ point l h. n point l ((m.points point).0 h)))))
+
+-- the live form put to others that are systems of difference constraints
+pub pushed_differences : (c b : ℕ) (old new : List System) (part : System) → new ≡ old ++ part ∷ [] → IsDifferenceSystem c b part
+    → All (IsDifferenceSystem c b) old → All (IsDifferenceSystem c b) new
+pushed_differences c b old new part e d all = rw e (All-push (IsDifferenceSystem c b) old part all d)
 
 pub pushed_none : (g : Gauge) (s : System) (old new : List System) → new ≡ old → IsNowhere (free_columns s) (HoldsSystem s) → IsPushed g s old new
 pushed_none g s old new e none = record {

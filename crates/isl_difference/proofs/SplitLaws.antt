@@ -1,10 +1,13 @@
 -- A system split by rows.
-use Rattle.std.proofs.Common.{◌≡◌, ◌↔◌, ◌⊎◌, inl, inr, refl, sym, ap, ◌∙◌, subst, arith, ℕ, zero, suc, ◌+◌, ◌<◌, ◌≤◌, ℤ, negsuc}
-use Rattle.std.proofs.Common.{List, [], ◌∷◌, ◌++◌, length, get_or, take, length-append}
+use Rattle.std.proofs.Common.{◌≡◌, ◌↔◌, ◌⊎◌, inl, inr, refl, sym, ap, ◌∙◌, subst, arith, ℕ, zero, suc, ◌+◌, ◌*◌, ◌<◌, ◌≤◌, ℤ, negsuc}
+use Rattle.std.proofs.Common.{List, [], ◌∷◌, ◌++◌, length, get_or, take, length-append, Result, Err}
+use Rattle.std.proofs.Math.Nat.{mul-le-mul_right}
 use Rattle.std.specs.List.{All, Any, AllPairs}
 use Rattle.std.proofs.lemmas.List.{take_all, take_more}
 use Rattle.std.proofs.lemmas.List.Elements.{All-nil, All-cons, All-append, All-push, All-head, All-weaker, All-take}
 use Rattle.isl_math.proofs.ListLaws.{All-parts, All-last, Any-parts, Any-left, Any-right, Any-one, Any-first, Any-none}
+use Rattle.isl_meter.specs.declared.Cut.{Cut}
+use Rattle.isl_meter.specs.declared.Cut.TheVariants.{Overflow, Budget, NoMemory}
 use Rattle.isl_meter.specs.Gauge.{Gauge, IsCharged, IsWithin}
 use Rattle.isl_meter.proofs.CutLemmas.{IsCharged_refl, IsCharged_trans, IsCharged-unit, charges}
 use Rattle.isl_piece.specs.declared.row.Row.{Row}
@@ -15,17 +18,25 @@ use Rattle.isl_math.proofs.Ring.{linear}
 use Rattle.isl_math.proofs.DotLaws.{dot-scaled}
 use Rattle.isl_piece.specs.declared.row.RowKind.{RowKind}
 use Rattle.isl_piece.specs.declared.row.RowKind.TheVariants.{Zero, AtLeast, Divides, NotDivides}
-use Rattle.isl_piece.specs.Negation.{above, below, negated_form, negation_of}
+use Rattle.isl_piece.specs.Cut.{IsCutFor}
+use Rattle.isl_piece.specs.Negation.{above, below, negated_form, negation_of, ConstantPassesLimit}
 use Rattle.isl_piece.specs.Row.{HoldsRow, IsWellFormed, IsRowWithin}
 use Rattle.isl_piece.specs.System.{HoldRows, HoldsSystem, IsSystemWithin, free_columns}
 use Rattle.isl_piece.proofs.RowMagnitudes.{row_within_kept, rows_within_kept}
 use Rattle.isl_elim.specs.Sample.{IsNowhere}
+use Rattle.isl_ledger.specs.Difference.{IsDifferenceRow, IsDifferenceSystem}
+use Rattle.isl_ledger.specs.Answered.{IsTame}
+use Rattle.isl_ledger.proofs.AnsweredLaws.{tame_more}
+use Rattle.isl_ledger.proofs.DifferenceLaws.{difference_within, differences_negated}
 use Rattle.isl_elim.proofs.PartsLaws.{charged_bits}
 use Rattle.isl_difference.specs.Bounds.{ImplyRow}
 use Rattle.isl_difference.specs.Difference.{IsPartition}
+use Rattle.isl_difference.specs.Tame.{HasDifferenceRows, test_work}
 use Rattle.isl_difference.specs.Split.{AreExclusive, ArePaidBy, and_rows, HoldsBut, HoldsWithAny, IsLive, IsPushed}
 use Rattle.isl_difference.proofs.PartitionLaws.{any_before, partition_none, partition_append, partition_same, partition_each}
 use Rattle.isl_difference.proofs.RowCases.{rows_cases}
+use Rattle.isl_difference.proofs.TameLaws.{tame_memory}
+use Rattle.isl_difference.proofs.TameLaws.{IsSplitWithin, and_rows_differences, rows_wider, split_longer, taken_turn, units_next}
 
 -- ---- the limit at another time
 definitions_kept : (g h : Gauge) (columns : ℕ) (definitions : List Definition) → h.bits ≡ g.bits → AreDefinitions h columns definitions
@@ -78,6 +89,8 @@ pub record IsFailing (g h : Gauge) (s : System) (done : List Row) (parts : List 
   pub paid : ArePaidBy g h done parts
   pub definitions : All (λ t. t.definitions ≡ s.definitions) parts
   pub partition : IsPartition (IsLive g (free_columns s)) (free_columns s) (HoldsWithAny s done) parts
+  pub tame : (columns bits : ℕ) → g.bits ≡ 127 → bits + columns ≤ 120 → HasDifferenceRows columns bits s → All (IsDifferenceRow bits) done
+      → (h.units ≤ g.units + length done * test_work columns) × All (IsDifferenceSystem columns bits) parts
 
 pub failing_first : (g : Gauge) (s : System) (parts : List System) → parts ≡ [] → IsFailing g g s [] parts
 failing_first g s parts e = record {
@@ -85,6 +98,7 @@ failing_first g s parts e = record {
   paid = rw e (record { few = omega arith; units = omega arith });
   definitions = rw e (All-nil (λ (t : System). t.definitions ≡ s.definitions));
   partition = rw e (partition_none (IsLive g (free_columns s)) (free_columns s) (HoldsWithAny s []) (λ point l h. Any-none (λ (r : Row). HoldsRow r (with_defined s.definitions point)) h.1));
+  tame = λ columns bits limit room d all. (omega arith, rw e (All-nil (IsDifferenceSystem columns bits)));
 }
 
 -- a row that none of those before it holds with
@@ -136,16 +150,42 @@ module _ (g h j k : Gauge) (s : System) (denied : List Row) (i : ℕ) (r : Row) 
       let one = one_row r (with_defined s.definitions point) in
       ((λ x. let y = both.0 x in (y.0, one.0 y.1)), (λ x. both.1 (x.0, one.1 x.1)))
 
-  pub failing_more : (newer : List System) → IsPushed j (and_rows s (r ∷ [])) parts newer → IsFailing g k s (take (i + 1) denied) newer
-  failing_more newer p = record {
+  more_bits : j.bits ≡ g.bits
+  more_bits = charged_bits g j (IsCharged_trans g h j so_far.charged (IsCharged-unit h j unit))
+
+  -- what a test of the system with one more row leaves
+  abbrev PushedTame : List System → Type 0
+  PushedTame newer = (columns bits : ℕ) → j.bits ≡ 127 → bits + columns ≤ 120 → HasDifferenceRows columns bits (and_rows s (r ∷ []))
+      → (k.units ≤ j.units + columns * (columns * columns))
+      × (All (IsDifferenceSystem columns bits) parts → All (IsDifferenceSystem columns bits) newer)
+
+  more_tame : (newer : List System) → PushedTame newer → (columns bits : ℕ) → g.bits ≡ 127 → bits + columns ≤ 120
+      → HasDifferenceRows columns bits s → All (IsDifferenceRow bits) (take i denied ++ r ∷ [])
+      → (k.units ≤ g.units + length (take i denied ++ r ∷ []) * test_work columns) × All (IsDifferenceSystem columns bits) newer
+  more_tame newer pushed columns bits limit room d all =
+      let rows = All-last (IsDifferenceRow bits) (take i denied) r all in
+      let before = so_far.tame columns bits limit room d rows.0 in
+      let one = All-cons (IsDifferenceRow bits) r [] rows.1 (All-nil (IsDifferenceRow bits)) in
+      let after = pushed columns bits (more_bits ∙ limit) room (and_rows_differences columns bits s (r ∷ []) d one) in
+      let next : j.units ≡ h.units + 1 = ap (λ (x : Gauge). x.units) unit in
+      let used = after.0 in
+      let long : length (take i denied ++ r ∷ []) ≡ length (take i denied) + 1 = length-append (take i denied) (r ∷ []) in (
+        rw long (units_next g.units h.units k.units (length (take i denied)) (test_work columns) before.0 (omega arith)),
+        after.1 before.1,
+      )
+
+  pub failing_more : (newer : List System) → IsPushed j (and_rows s (r ∷ [])) parts newer → PushedTame newer
+      → IsFailing g k s (take (i + 1) denied) newer
+  failing_more newer p t = record {
     charged = all_charged;
     paid = rw (p.is, more) (more_paid p.added p.few);
     definitions = rw (p.is) (All-append (λ (t : System). t.definitions ≡ s.definitions) parts p.added so_far.definitions p.definitions);
     partition = rw (p.is) (joined p.added
         (partition_same (IsLive g free) free (HoldsSystem (and_rows s (r ∷ []))) Next p.added (λ point l. next_point point)
         (partition_each (IsLive j free) (IsLive g free) free (HoldsSystem (and_rows s (r ∷ []))) p.added
-        (λ t q. live_kept g j free t (charged_bits g j (IsCharged_trans g h j so_far.charged (IsCharged-unit h j unit))) q)
+        (λ t q. live_kept g j free t more_bits q)
         p.partition)));
+    tame = rw more (more_tame newer t);
   }
 
 -- the rows that were paid for are those of the negation
@@ -176,6 +216,8 @@ pub record IsSplitBy (g h : Gauge) (s : System) (done : List Row) (rest : System
   pub points : (point : List ℤ) → HoldsSystem rest point ↔ (HoldsSystem s point × HoldRows done (with_defined s.definitions point))
   pub alike : All (λ t. t.definitions ≡ s.definitions) parts
   pub partition : IsPartition (IsLive g (free_columns s)) (free_columns s) (HoldsBut s done) parts
+  pub tame : (columns bits : ℕ) → g.bits ≡ 127 → bits + 1 + columns ≤ 120 → HasDifferenceRows columns (bits + 1) s
+      → All (IsDifferenceRow bits) done → IsSplitWithin columns (bits + 1) (length done) g h rest parts
 
 pub split_first : (g : Gauge) (s rest : System) (parts : List System) → IsSystemWithin g s → rest ≡ s → parts ≡ []
     → IsSplitBy g g s [] rest parts
@@ -188,7 +230,46 @@ split_first g s rest parts w e n = rw (e, n) (record {
   points = λ point. ((λ h. (h, All-nil (λ (r : Row). HoldsRow r (with_defined s.definitions point)))), (λ h. h.0));
   alike = All-nil (λ (t : System). t.definitions ≡ s.definitions);
   partition = partition_none (IsLive g (free_columns s)) (free_columns s) (HoldsBut s []) (λ point l h. h.1 (All-nil (λ (r : Row). HoldsRow r (with_defined s.definitions point))));
+  tame = λ c b limit room d all. record {
+    units = omega arith;
+    rows = d;
+    size = record { few = omega arith; each = All-nil (IsDifferenceSystem c (b + 1)) };
+  };
 })
+
+pub negation_few : (r : Row) → length (negation_of r) ≤ 2
+negation_few r = by r.kind r.coefs r.constant r.k
+  where
+    by : (kind : RowKind) (cs : List ℤ) (c k : ℤ) → length (negated_form kind cs c k) ≤ 2
+    by Zero cs c k = omega arith
+    by AtLeast cs c k = omega arith
+    by Divides cs c k = omega arith
+    by NotDivides cs c k = omega arith
+
+-- of difference constraints the negation passes no limit
+pub negated_cut : {A : Type 0} (c b most : ℕ) (g k : Gauge) (P : A → Type 0) (r : Row) (cut : Cut) → g.bits ≡ 127 → b + 1 + c ≤ 120
+    → IsDifferenceRow b r → IsCutFor (ConstantPassesLimit g (negation_of r)) g k cut → IsTame most g k P (Err cut)
+negated_cut c b most g k P r Overflow limit room d m =
+    let denied = negation_of r in
+    let a = m.0 in
+    let row = differences_negated b r d a.0 a.1 a.2 in
+    let within = difference_within g (b + 1) (get_or denied a.0 a.1) (omega arith) (omega arith) row in
+    absurd (a.4 (subst (λ (t : Row). IsWithin g t.constant) a.3 within.constant))
+negated_cut c b most g k P r Budget limit room d m = absurd m
+negated_cut c b most g k P r NoMemory limit room d m =
+    tame_memory 0 most g k P (let u = ap (λ (x : Gauge). x.units) m in omega arith) (omega arith)
+
+-- the rows of a negation are at most two
+pub denied_tame : {A : Type 0} (c : ℕ) (g k : Gauge) (P : A → Type 0) (r : Row) (denied : List Row) (result : Result A Cut)
+    → denied ≡ negation_of r → IsTame (length denied * test_work c) g k P result → IsTame (2 * test_work c) g k P result
+denied_tame c g k P r denied result e t =
+    let few : length denied ≤ 2 = rw e (negation_few r) in
+    tame_more (length denied * test_work c) (2 * test_work c) g k P P result (mul-le-mul_right (test_work c) few) (λ value p. p) t
+
+-- what the parts leave in which a row fails
+abbrev pub FailingTame : Gauge → Gauge → System → Row → List System → Type 0
+FailingTame h k rest r new = (columns bits : ℕ) → h.bits ≡ 127 → bits + 1 + columns ≤ 120 → HasDifferenceRows columns (bits + 1) rest
+    → IsDifferenceRow bits r → (k.units ≤ h.units + 2 * test_work columns) × All (IsDifferenceSystem columns (bits + 1)) new
 
 module _ (g h : Gauge) (s : System) (done : List Row) (r : Row) (rest : System) (parts : List System) (so_far : IsSplitBy g h s done rest parts) where
   abbrev full : List ℤ → List ℤ
@@ -228,11 +309,15 @@ module _ (g h : Gauge) (s : System) (done : List Row) (r : Row) (rest : System) 
           (λ x. (x.0, λ all. x.1 (all_with point all (implied.holds (full point) (there point ((so_far.points point).1 (x.0, all))))))),
         ))
         so_far.partition;
+    tame = λ c b limit room d all.
+        split_longer c (b + 1) (length done) (length (done ++ r ∷ [])) g h rest parts (let l = length-append done (r ∷ []) in omega arith)
+        (so_far.tame c b limit room d (All-last (IsDifferenceRow b) done r all).0);
   }
 
   module _ (k : Gauge) (new : List System) (rest2 : System) (parts2 : List System) (charged : IsCharged h k) (paid : ArePaidBy h k (negation_of r) new) (formed : All (IsWellFormed s.columns) (done ++ r ∷ [])) (row_within : IsRowWithin h r)
       (same_columns : All (λ t. t.definitions ≡ rest.definitions) new)
-      (failing : IsPartition (IsLive h (free_columns rest)) (free_columns rest) (HoldsBut rest (r ∷ [])) new) where
+      (failing : IsPartition (IsLive h (free_columns rest)) (free_columns rest) (HoldsBut rest (r ∷ [])) new)
+      (tame : FailingTame h k rest r new) where
     abbrev Failing : List ℤ → Type 0
     Failing point = HoldsSystem rest point × (¬ HoldsRow r (full point))
 
@@ -294,6 +379,27 @@ module _ (g h : Gauge) (s : System) (done : List Row) (r : Row) (rest : System) 
         All-append (λ (t : System). t.definitions ≡ s.definitions) parts new so_far.alike
         (subst (λ ds. All (λ (t : System). t.definitions ≡ ds) new) so_far.definitions same_columns)
 
+    all_tame : (c b : ℕ) → g.bits ≡ 127 → b + 1 + c ≤ 120 → HasDifferenceRows c (b + 1) s → All (IsDifferenceRow b) (done ++ r ∷ [])
+        → IsSplitWithin c (b + 1) (length (done ++ r ∷ [])) g k (and_rows rest (r ∷ [])) (parts ++ new)
+    all_tame c b limit room d all =
+        let rows = All-last (IsDifferenceRow b) done r all in
+        let before = so_far.tame c b limit room d rows.0 in
+        let after = tame c b (charged_bits g h so_far.charged ∙ limit) room before.rows rows.1 in
+        let one = All-cons (IsDifferenceRow b) r [] rows.1 (All-nil (IsDifferenceRow b)) in
+        let few = before.size.few in
+        let two = negation_few r in
+        let some = paid.few in
+        let both : length (parts ++ new) ≡ length parts + length new = length-append parts new in
+        let long : length (done ++ r ∷ []) ≡ length done + 1 = length-append done (r ∷ []) in
+        rw long (record {
+          units = units_next g.units h.units k.units (length done) (2 * test_work c) before.units after.0;
+          rows = and_rows_differences c (b + 1) rest (r ∷ []) before.rows (rows_wider b (b + 1) (r ∷ []) (omega arith) one);
+          size = record {
+            few = omega arith;
+            each = All-append (IsDifferenceSystem c (b + 1)) parts new before.size.each after.1;
+          };
+        })
+
     pub split_more : rest2 ≡ and_rows rest (r ∷ []) → parts2 ≡ parts ++ new → IsSplitBy g k s (done ++ r ∷ []) rest2 parts2
     split_more e f = rw (e, f) (record {
       charged = IsCharged_trans g h k so_far.charged charged;
@@ -304,6 +410,7 @@ module _ (g h : Gauge) (s : System) (done : List Row) (r : Row) (rest : System) 
       points = more_points;
       alike = all_alike;
       partition = both_parts;
+      tame = all_tame;
     })
 
 -- ---- what calls ask for
@@ -353,6 +460,14 @@ pub denied_exclusive : (r : Row) (denied : List Row) → denied ≡ negation_of 
 denied_exclusive r denied e = rw e (negation_exclusive r)
 
 -- ---- the same, at a place among the rows
+-- of difference constraints, where so many units were used of those that all rows may use
+pub record IsBeforeRow (c b used most : ℕ) (g h : Gauge) (rest : System) (r : Row) : Type 0 where
+  pub limit : h.bits ≡ 127
+  pub units : h.units ≤ g.units + used
+  pub room : used + 2 * test_work c ≤ most
+  pub rows : HasDifferenceRows c (b + 1) rest
+  pub row : IsDifferenceRow b r
+
 module _ (g h : Gauge) (s : System) (rows : List Row) (i : ℕ) (r : Row) (rest : System) (parts : List System) (inside : i < length rows) (is : r ≡ get_or rows i r) (so_far : IsSplitBy g h s (take i rows) rest parts) where
   next_rows : take (i + 1) rows ≡ take i rows ++ r ∷ []
   next_rows = take_more rows i r inside ∙ ap (λ (t : Row). take i rows ++ t ∷ []) (sym is)
@@ -363,10 +478,24 @@ module _ (g h : Gauge) (s : System) (rows : List Row) (i : ℕ) (r : Row) (rest 
   pub more_at : (k : Gauge) (new : List System) (rest2 : System) (parts2 : List System) → All (IsWellFormed s.columns) rows
       → All (IsRowWithin g) rows → IsCharged h k → ArePaidBy h k (negation_of r) new
       → All (λ t. t.definitions ≡ rest.definitions) new
-      → IsPartition (IsLive h (free_columns rest)) (free_columns rest) (HoldsBut rest (r ∷ [])) new → rest2 ≡ and_rows rest (r ∷ []) → parts2 ≡ parts ++ new → IsSplitBy g k s (take (i + 1) rows) rest2 parts2
-  more_at k new rest2 parts2 formed within charged paid same_columns failing e f =
+      → IsPartition (IsLive h (free_columns rest)) (free_columns rest) (HoldsBut rest (r ∷ [])) new → FailingTame h k rest r new
+      → rest2 ≡ and_rows rest (r ∷ []) → parts2 ≡ parts ++ new → IsSplitBy g k s (take (i + 1) rows) rest2 parts2
+  more_at k new rest2 parts2 formed within charged paid same_columns failing tame e f =
       rw next_rows (split_more g h s (take i rows) r rest parts so_far k new rest2 parts2 charged paid (rw next_rows at (All-take (IsWellFormed s.columns) (i + 1) rows formed))
-      (row_within g h rows i r so_far.charged within inside is) same_columns failing e f)
+      (row_within g h rows i r so_far.charged within inside is) same_columns failing tame e f)
+
+  -- what was used before the row, and what is known of the rest
+  pub before_row : (c b : ℕ) → g.bits ≡ 127 → b + 1 + c ≤ 120 → HasDifferenceRows c (b + 1) s → All (IsDifferenceRow b) rows
+      → IsBeforeRow c b (length (take i rows) * (2 * test_work c)) (length rows * (2 * test_work c)) g h rest r
+  before_row c b limit room d all =
+      let so = so_far.tame c b limit room d (All-take (IsDifferenceRow b) i rows all) in
+      record {
+        limit = charged_bits g h so_far.charged ∙ limit;
+        units = so.units;
+        room = taken_turn i rows (2 * test_work c) inside;
+        rows = so.rows;
+        row = rw is (all i r inside);
+      }
 
   pub rest_formed : All (IsWellFormed s.columns) rows → IsWellFormed rest.columns r
   rest_formed f = subst (λ n. IsWellFormed n r) (sym so_far.columns) (row_formed s.columns rows i r f inside is)
@@ -398,6 +527,27 @@ not_throughout g h s rows i r rest (t ∷ failed) low is so_far p some nowhere =
           let holds : HoldsRow r full = rw is (all i r low) in
           but.1 (subst (λ ds. HoldRows (r ∷ []) (with_defined ds point)) (sym so_far.definitions) ((one_row r full).1 holds)),
     ))
+
+-- ---- the units of a turn
+pub unit_used : (used : ℕ) (g h j : Gauge) → h.units ≤ g.units + used → j ≡ record h { units = h.units + 1 } → j.units ≤ g.units + (used + 1)
+unit_used used g h j few e = let one : j.units ≡ h.units + 1 = ap (λ (x : Gauge). x.units) e in omega arith
+
+-- a call more, and the same within the most
+pub turn_units : (used next : ℕ) (g h k : Gauge) → h.units ≤ g.units + used → k.units ≤ h.units + next → k.units ≤ g.units + (used + next)
+turn_units used next g h k few more = omega arith
+
+pub turn_within : (used next most : ℕ) (g h k : Gauge) → h.units ≤ g.units + used → k.units ≤ h.units + next → used + next ≤ most
+    → k.units ≤ g.units + most
+turn_within used next most g h k few more room = omega arith
+
+pub unit_room : (used most test : ℕ) → used + (1 + test) ≤ most → used < most
+unit_room used most test l = omega arith
+
+pub one_room : (used most test : ℕ) → used + (1 + test) ≤ most → used + 1 ≤ most
+one_room used most test l = omega arith
+
+pub test_room : (used most test : ℕ) → used + (1 + test) ≤ most → used + 1 + test ≤ most
+test_room used most test l = omega arith
 
 pub ruleset failing_steps = (charges, failing_first, failing_more, failing_within, denied_exclusive)
 

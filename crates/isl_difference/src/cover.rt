@@ -1,11 +1,15 @@
 //! Whether each point of one system is one of others.
 
-ghost use Rattle.std.specs.Prelude.{◌≡◌, ◌≢◌, ◌∷◌, [], All, IfOk, IsTrue, map};
+ghost use Rattle.std.specs.Prelude.{◌≡◌, ◌≢◌, ◌+◌, ◌*◌, ◌<◌, ◌≤◌, ◌∷◌, ℕ, ⊤, [], All, IfOk, IsTrue, length, map};
 ghost use Rattle.isl_meter.specs.Gauge.{IsMetered};
 ghost use Rattle.isl_piece.specs.System.{HoldsSystem, IsSystemWithin, free_columns};
+ghost use Rattle.isl_ledger.specs.Answered.{IsTame};
+ghost use Rattle.isl_ledger.specs.Difference.{IsDifferenceSystem};
+ghost use Rattle.isl_ledger.specs.Work.{row_limit};
 ghost use Rattle.isl_elim.specs.Sample.{IsNowhere};
 ghost use Rattle.isl_difference.specs.Cover.{AreInside, IsInside};
 ghost use Rattle.isl_difference.specs.Difference.{IsCovered};
+ghost use Rattle.isl_difference.specs.Tame.{part_limit, test_work, left_work};
 
 use crate::bounds::{are_apart, are_implied};
 use crate::difference::{align, outside};
@@ -28,6 +32,9 @@ fn is_inside_aligned(
     requires definitions { other.now.definitions ≡ system.now.definitions }
     ensures exact { IfOk result (IsInside system.now other.now) }
     ensures meter { IsMetered meter.old meter.new result }
+    ensures tame { (columns bits : ℕ) → meter.old.bits ≡ 127 → bits + 1 + columns ≤ 120 → IsDifferenceSystem columns (bits + 1) system.now
+        → IsDifferenceSystem columns bits other.now → length other.now.rows < row_limit columns
+        → IsTame (part_limit columns 1 * test_work columns) meter.old meter.new (λ _. ⊤) result }
 {
     if are_implied(system.rows.as_slice(), other.rows.as_slice()) {
         return Ok(true);
@@ -65,6 +72,9 @@ fn is_inside(alloc: Global, system: &System, other: &System, meter: &mut Meter) 
     requires columns { free_columns other.now ≡ free_columns system.now }
     ensures exact { IfOk result (IsInside system.now other.now) }
     ensures meter { IsMetered meter.old meter.new result }
+    ensures tame { (columns bits : ℕ) → meter.old.bits ≡ 127 → bits + 1 + columns ≤ 120 → IsDifferenceSystem columns (bits + 1) system.now
+        → IsDifferenceSystem columns bits other.now → length other.now.rows < row_limit columns
+        → IsTame (part_limit columns 1 * test_work columns) meter.old meter.new (λ _. ⊤) result }
 {
     if system.definitions.same(&other.definitions) {
         return is_inside_aligned(alloc, system, other, meter);
@@ -85,6 +95,10 @@ fn are_inside(
     requires columns { All (λ s. free_columns s ≡ free_columns other.now) systems.now }
     ensures exact { IfOk result (AreInside systems.now other.now) }
     ensures meter { IsMetered meter.old meter.new result }
+    ensures tame { (columns bits : ℕ) → meter.old.bits ≡ 127 → bits + 1 + columns ≤ 120
+        → All (IsDifferenceSystem columns (bits + 1)) systems.now
+        → IsDifferenceSystem columns bits other.now → length other.now.rows < row_limit columns
+        → IsTame (length systems.now * (part_limit columns 1 * test_work columns)) meter.old meter.new (λ _. ⊤) result }
 {
     for system in systems {
         if !is_inside(alloc, system, other, meter)? {
@@ -114,6 +128,10 @@ pub fn is_covered(
     ensures only { ¬ IsNowhere (free_columns system.now) (HoldsSystem system.now)
         → IfOk result (λ covered. IsCovered system.now (map (λ other. other.now) others.now) → IsTrue covered) }
     ensures meter { IsMetered meter.old meter.new result }
+    ensures tame { (columns bits : ℕ) → meter.old.bits ≡ 127 → bits + 1 + columns ≤ 120 → IsDifferenceSystem columns (bits + 1) system.now
+        → All (IsDifferenceSystem columns bits) (map (λ other. other.now) others.now)
+        → All (λ other. ¬ IsNowhere (free_columns other) (HoldsSystem other)) (map (λ other. other.now) others.now)
+        → IsTame (left_work columns (length others.now)) meter.old meter.new (λ _. ⊤) result }
 {
     if others.is_empty() {
         return Ok(false);

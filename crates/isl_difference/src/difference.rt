@@ -1,12 +1,16 @@
 //! One system without others.
 
-ghost use Rattle.std.specs.Prelude.{◌≡◌, ◌≢◌, ◌+◌, ◌<◌, ◌≤◌, ◌∷◌, [], All, AllPairs, IfOk, IfSome, MatchOption, MatchResult, length};
+ghost use Rattle.std.specs.Prelude.{◌≡◌, ◌≢◌, ◌+◌, ◌*◌, ◌<◌, ◌≤◌, ◌∷◌, ℕ, [], All, AllPairs, IfOk, IfSome, MatchOption, MatchResult, length};
 ghost use Rattle.std.specs.Prelude.{map};
 ghost use Rattle.isl_meter.specs.Gauge.{Gauge, IsAnsweredWithin, IsCharged, IsCutBy};
 ghost use Rattle.isl_piece.specs.Placed.{both_systems};
 ghost use Rattle.isl_piece.specs.System.{HoldsSystem, IsSystemWithin, free_columns};
+ghost use Rattle.isl_ledger.specs.Answered.{IsTame};
+ghost use Rattle.isl_ledger.specs.Difference.{IsDifferenceSystem};
+ghost use Rattle.isl_ledger.specs.Work.{AreOfSize};
 ghost use Rattle.isl_difference.specs.Difference.{AreDisjoint, IsCounted, IsDifference, IsPartition};
 ghost use Rattle.isl_difference.specs.Split.{frame_of, AreAligned, AreLiveParts, ArePaid, HoldsBeside, IsLeftOfAny};
+ghost use Rattle.isl_difference.specs.Tame.{part_limit, test_work, left_size, left_work};
 ghost use Rattle.isl_difference.specs.Told.{AreTold, IsTold};
 
 use crate::bounds::{are_apart, are_implied};
@@ -48,10 +52,14 @@ fn parts_asked(
     ensures definitions { IfOk result (λ found. IfSome found (λ parts. All (λ s. s.definitions ≡ system.now.definitions) parts.items)) }
     ensures paid { IfOk result (λ found. IfSome found (λ parts. ArePaid meter.old meter.new parts.items)) }
     ensures asked { IfOk result (λ _. meter.old.units < meter.new.units) }
+    ensures tame { (columns bits : ℕ) → meter.old.bits ≡ 127 → bits + 1 + columns ≤ 120 → IsDifferenceSystem columns (bits + 1) system.now
+        → IsDifferenceSystem columns bits other.now
+        → IsTame (part_limit columns 1 * test_work columns) meter.old meter.new
+        (λ found. IfSome found (λ parts. AreOfSize (left_size columns bits 1) parts.items)) result }
 {
     meter.unit()?;
     let both = meet(alloc, system, other)?;
-    if is_nowhere(alloc, &both, meter)? {
+    if is_nowhere(alloc, both, meter)? {
         return Ok(None);
     }
     let parts = split(alloc, system, &other.rows, meter)?;
@@ -79,6 +87,10 @@ fn parts_aligned(
     ensures paid { IfOk result (λ found. IfSome found (λ parts. ArePaid meter.old meter.new parts.items)) }
     ensures told { AreTold system.now.rows other.now.rows → IsAnsweredWithin 0 meter.old meter.new result }
     ensures asked { ¬ AreTold system.now.rows other.now.rows → IfOk result (λ _. meter.old.units < meter.new.units) }
+    ensures tame { (columns bits : ℕ) → meter.old.bits ≡ 127 → bits + 1 + columns ≤ 120 → IsDifferenceSystem columns (bits + 1) system.now
+        → IsDifferenceSystem columns bits other.now
+        → IsTame (part_limit columns 1 * test_work columns) meter.old meter.new
+        (λ found. IfSome found (λ parts. AreOfSize (left_size columns bits 1) parts.items)) result }
 {
     let rows = system.rows.as_slice();
     let others = other.rows.as_slice();
@@ -162,6 +174,10 @@ fn parts_outside(
     ensures paid { IfOk result (λ found. IfSome found (λ parts. ArePaid meter.old meter.new parts.items)) }
     ensures told { IsTold system.now other.now → IsAnsweredWithin 0 meter.old meter.new result }
     ensures asked { ¬ IsTold system.now other.now → IfOk result (λ _. meter.old.units < meter.new.units) }
+    ensures tame { (columns bits : ℕ) → meter.old.bits ≡ 127 → bits + 1 + columns ≤ 120 → IsDifferenceSystem columns (bits + 1) system.now
+        → IsDifferenceSystem columns bits other.now
+        → IsTame (part_limit columns 1 * test_work columns) meter.old meter.new
+        (λ found. IfSome found (λ parts. AreOfSize (left_size columns bits 1) parts.items)) result }
 {
     if system.definitions.same(&other.definitions) {
         return parts_aligned(alloc, system, other, meter);
@@ -197,6 +213,10 @@ pub fn subtract(
     ensures counted { IfOk result (λ left. IsCounted meter.old meter.new system.now left.items) }
     ensures told { IsTold system.now other.now → IsAnsweredWithin 0 meter.old meter.new result }
     ensures asked { ¬ IsTold system.now other.now → IfOk result (λ _. meter.old.units < meter.new.units) }
+    ensures tame { (columns bits : ℕ) → meter.old.bits ≡ 127 → bits + 1 + columns ≤ 120 → IsDifferenceSystem columns (bits + 1) system.now
+        → IsDifferenceSystem columns bits other.now
+        → IsTame (part_limit columns 1 * test_work columns) meter.old meter.new
+        (λ left. AreOfSize (left_size columns bits 1) left.items) result }
 {
     match parts_outside(alloc, system, other, meter)? {
         Some(parts) => Ok(parts),
@@ -232,6 +252,12 @@ fn all_without(
     ensures definitions { All (λ s. s.definitions ≡ []) systems.now → other.now.definitions ≡ []
         → IfOk result (λ left. All (λ s. s.definitions ≡ []) left.items) }
     ensures counted { IfOk result (λ left. length left.items + meter.old.units ≤ meter.new.units + length systems.now) }
+    ensures tame { (columns bits : ℕ) → meter.old.bits ≡ 127 → bits + 1 + columns ≤ 120
+        → All (IsDifferenceSystem columns (bits + 1)) systems.now
+        → IsDifferenceSystem columns bits other.now
+        → IsTame (length systems.now * (part_limit columns 1 * test_work columns)) meter.old meter.new
+        (λ left. AreOfSize (record { pieces = length systems.now * part_limit columns 1; columns = columns; bits = bits + 1 })
+        left.items) result }
 {
     let mut left = Vec::new(alloc);
     for system in systems {
@@ -262,6 +288,10 @@ pub fn outside(
     ensures definitions { system.now.definitions ≡ [] → All (λ other. other.definitions ≡ []) (map (λ other. other.now) others.now)
         → IfOk result (λ left. All (λ s. s.definitions ≡ []) left.items) }
     ensures counted { IfOk result (λ left. length left.items + meter.old.units ≤ meter.new.units + 1) }
+    ensures tame { (columns bits : ℕ) → meter.old.bits ≡ 127 → bits + 1 + columns ≤ 120 → IsDifferenceSystem columns (bits + 1) system.now
+        → All (IsDifferenceSystem columns bits) (map (λ other. other.now) others.now)
+        → IsTame (left_work columns (length others.now)) meter.old meter.new
+        (λ left. AreOfSize (left_size columns bits (length others.now)) left.items) result }
 {
     let mut left = whole(alloc, system)?;
     for other in others {

@@ -1,10 +1,13 @@
 //! Normal systems that have a point.
 
-ghost use Rattle.std.specs.Prelude.{◌≡◌, ◌↔◌, IfOk, IsTrue, MatchOption, MatchResult};
+ghost use Rattle.std.specs.Prelude.{◌≡◌, ◌↔◌, ◌+◌, ◌*◌, ◌≤◌, ℕ, ⊤, All, IfOk, IfSome, IsTrue, MatchOption, MatchResult};
 ghost use Rattle.isl_meter.specs.Gauge.{IsCharged, IsCutBy};
 ghost use Rattle.isl_piece.specs.System.{HoldsSystem, IsSystemWithin, free_columns};
+ghost use Rattle.isl_ledger.specs.Answered.{IsTame};
+ghost use Rattle.isl_ledger.specs.Difference.{IsDifferenceSystem};
 ghost use Rattle.isl_elim.specs.Sample.{IsNowhere};
 ghost use Rattle.isl_difference.specs.Split.{IsLiveFormOf, IsPushed};
+ghost use Rattle.isl_difference.specs.Tame.{HasDifferenceRows};
 
 use isl_elim::is_empty;
 use isl_meter::{Cut, Meter};
@@ -12,11 +15,13 @@ use isl_piece::{System, normalise};
 use std::alloc::Global;
 
 // Whether the system holds at no point.
-pub(crate) fn is_nowhere(alloc: Global, system: &System, meter: &mut Meter) -> Result<bool, Cut>
+fn is_void(alloc: Global, system: &System, meter: &mut Meter) -> Result<bool, Cut>
     requires { IsSystemWithin meter.old system.now }
-    ensures { MatchResult result
+    ensures exact { MatchResult result
         (λ empty. (IsTrue empty ↔ IsNowhere (free_columns system.now) (HoldsSystem system.now)) × IsCharged meter.old meter.new)
         (IsCutBy meter.old meter.new) }
+    ensures tame { (columns bits : ℕ) → meter.old.bits ≡ 127 → bits + columns ≤ 120 → IsDifferenceSystem columns bits system.now
+        → IsTame (columns * (columns * columns)) meter.old meter.new (λ _. ⊤) result }
 {
     is_empty(alloc, system, meter)
 }
@@ -28,18 +33,32 @@ pub(crate) fn is_nowhere(alloc: Global, system: &System, meter: &mut Meter) -> R
 /// `Overflow` where a number passes the limit of the meter, `Budget` where its units are used up, and `NoMemory`.
 pub fn live_form(alloc: Global, system: System, meter: &mut Meter) -> Result<Option<System>, Cut>
     requires { IsSystemWithin meter.old system }
-    ensures { MatchResult result
+    ensures exact { MatchResult result
         (λ found. MatchOption found (IsNowhere (free_columns system) (HoldsSystem system)) (IsLiveFormOf meter.old system)
         × IsCharged meter.old meter.new)
         (IsCutBy meter.old meter.new) }
+    ensures tame { (columns bits : ℕ) → meter.old.bits ≡ 127 → bits + columns ≤ 120 → HasDifferenceRows columns bits system
+        → IsTame (columns * (columns * columns)) meter.old meter.new (λ found. IfSome found (IsDifferenceSystem columns bits)) result }
 {
     let Some(normal) = normalise(alloc, system, meter)? else {
         return Ok(None);
     };
-    if is_nowhere(alloc, &normal, meter)? {
+    if is_void(alloc, &normal, meter)? {
         return Ok(None);
     }
     Ok(Some(normal))
+}
+
+/// The same, once the system is made normal, which uses no unit and leaves each bound once.
+pub(crate) fn is_nowhere(alloc: Global, system: System, meter: &mut Meter) -> Result<bool, Cut>
+    requires { IsSystemWithin meter.old system }
+    ensures exact { MatchResult result
+        (λ empty. (IsTrue empty ↔ IsNowhere (free_columns system) (HoldsSystem system)) × IsCharged meter.old meter.new)
+        (IsCutBy meter.old meter.new) }
+    ensures tame { (columns bits : ℕ) → meter.old.bits ≡ 127 → bits + columns ≤ 120 → HasDifferenceRows columns bits system
+        → IsTame (columns * (columns * columns)) meter.old meter.new (λ _. ⊤) result }
+{
+    Ok(live_form(alloc, system, meter)?.is_none())
 }
 
 /// Puts the system in its normal form to the others, where it has a point.
@@ -51,9 +70,12 @@ pub(crate) fn push_live(
     meter: &mut Meter,
 ) -> Result<(), Cut>
     requires { IsSystemWithin meter.old system }
-    ensures { MatchResult result
+    ensures exact { MatchResult result
         (λ _. IsPushed meter.old system systems.old.items systems.new.items × IsCharged meter.old meter.new)
         (IsCutBy meter.old meter.new) }
+    ensures tame { (columns bits : ℕ) → meter.old.bits ≡ 127 → bits + columns ≤ 120 → HasDifferenceRows columns bits system
+        → IsTame (columns * (columns * columns)) meter.old meter.new
+        (λ _. All (IsDifferenceSystem columns bits) systems.old.items → All (IsDifferenceSystem columns bits) systems.new.items) result }
 {
     match live_form(alloc, system, meter)? {
         None => Ok(()),

@@ -1,13 +1,17 @@
 //! The parts of a system in which rows do not hold.
 
-ghost use Rattle.std.specs.Prelude.{◌≡◌, ◌↔◌, ◌+◌, ◌≤◌, ◌∷◌, [], All, IfOk, IsTrue, MatchResult, length};
+ghost use Rattle.std.specs.Prelude.{◌≡◌, ◌↔◌, ◌+◌, ◌*◌, ◌≤◌, ◌∷◌, ℕ, ⊤, [], All, IfOk, IsTrue, MatchResult, length};
 ghost use Rattle.isl_meter.specs.Gauge.{IsCharged, IsCutBy, IsMetered};
 ghost use Rattle.isl_piece.specs.Negation.{negation_of};
 ghost use Rattle.isl_piece.specs.Row.{IsRowWithin, IsWellFormed};
 ghost use Rattle.isl_piece.specs.System.{IsSystemWithin, free_columns};
+ghost use Rattle.isl_ledger.specs.Answered.{IsTame};
+ghost use Rattle.isl_ledger.specs.Difference.{IsDifferenceRow, IsDifferenceSystem};
+ghost use Rattle.isl_ledger.specs.Work.{AreOfSize};
 ghost use Rattle.isl_elim.specs.Sample.{IsNowhere};
 ghost use Rattle.isl_difference.specs.Difference.{IsPartition};
 ghost use Rattle.isl_difference.specs.Split.{AreExclusive, ArePaidBy, and_rows, HoldsBut, HoldsWithAny, IsLive};
+ghost use Rattle.isl_difference.specs.Tame.{HasDifferenceRows, test_work};
 
 use crate::bounds::is_implied;
 use crate::live::push_live;
@@ -43,6 +47,9 @@ fn holding(
         (IsCutBy meter.old meter.new) }
     ensures definitions { IfOk result (λ parts. All (λ s. s.definitions ≡ system.now.definitions) parts.items) }
     ensures paid { IfOk result (λ parts. ArePaidBy meter.old meter.new rows.now parts.items) }
+    ensures tame { (columns bits : ℕ) → meter.old.bits ≡ 127 → bits + columns ≤ 120 → HasDifferenceRows columns bits system.now
+        → All (IsDifferenceRow bits) rows.now → IsTame (length rows.now * test_work columns) meter.old meter.new
+        (λ parts. All (IsDifferenceSystem columns bits) parts.items) result }
 {
     let mut parts = Vec::new(alloc);
     for row in rows.as_slice() {
@@ -66,6 +73,9 @@ fn failing(alloc: Global, system: &System, row: &Row, meter: &mut Meter) -> Resu
         (IsCutBy meter.old meter.new) }
     ensures definitions { IfOk result (λ parts. All (λ s. s.definitions ≡ system.now.definitions) parts.items) }
     ensures paid { IfOk result (λ parts. ArePaidBy meter.old meter.new (negation_of row.now) parts.items) }
+    ensures tame { (columns bits : ℕ) → meter.old.bits ≡ 127 → bits + 1 + columns ≤ 120 → HasDifferenceRows columns (bits + 1) system.now
+        → IsDifferenceRow bits row.now → IsTame (2 * test_work columns) meter.old meter.new
+        (λ parts. All (IsDifferenceSystem columns (bits + 1)) parts.items) result }
 {
     let denied = negate(alloc, row, meter)?;
     let parts = holding(alloc, system, &denied, meter)?;
@@ -91,6 +101,9 @@ pub(crate) fn split(
         (IsCutBy meter.old meter.new) }
     ensures definitions { IfOk result (λ parts. All (λ s. s.definitions ≡ system.now.definitions) parts.items) }
     ensures paid { IfOk result (λ parts. meter.old.units + length parts.items ≤ meter.new.units) }
+    ensures tame { (columns bits : ℕ) → meter.old.bits ≡ 127 → bits + 1 + columns ≤ 120 → HasDifferenceRows columns (bits + 1) system.now
+        → All (IsDifferenceRow bits) rows.now → IsTame (length rows.now * (2 * test_work columns)) meter.old meter.new
+        (λ parts. AreOfSize (record { pieces = length rows.now * 2; columns = columns; bits = bits + 1 }) parts.items) result }
 {
     let mut rest = system.copy(alloc)?;
     let mut parts = Vec::new(alloc);
@@ -123,6 +136,8 @@ pub fn hold_throughout(
     requires rows_within { All (IsRowWithin meter.old) rows.now }
     ensures exact { IfOk result (λ all. IsTrue all ↔ IsNowhere (free_columns system.now) (HoldsBut system.now rows.now)) }
     ensures meter { IsMetered meter.old meter.new result }
+    ensures tame { (columns bits : ℕ) → meter.old.bits ≡ 127 → bits + 1 + columns ≤ 120 → HasDifferenceRows columns (bits + 1) system.now
+        → All (IsDifferenceRow bits) rows.now → IsTame (length rows.now * (2 * test_work columns)) meter.old meter.new (λ _. ⊤) result }
 {
     let mut rest = system.copy(alloc)?;
     for row in rows.as_slice() {

@@ -1,5 +1,4 @@
 use Rattle.std.proofs.Common.{◌≡◌, ◌<◌, ◌≤◌, true, false, arith, length}
-use Rattle.std.specs.List.{Any}
 use Rattle.std.proofs.lemmas.Grind.{common_steps}
 use Rattle.isl_piece.specs.declared.row.Row.{Row}
 use Rattle.isl_difference.specs.Told.{Says}

@@ -20,3 +20,11 @@ pub returns-then-same-clause-asked : goal.returns-then-same-clause-asked
 returns-then-same-clause-asked c = λ n.
     let same : c.args.system.now.definitions ≡ c.args.other.now.definitions = grind (arith, common_steps) in
     c.parts_aligned.ensures.asked (λ t. n (told_there c.args.system.now c.args.other.now same t))
+
+pub returns-then-same-clause-tame : goal.returns-then-same-clause-tame
+returns-then-same-clause-tame c = λ columns bits limit room d o. c.parts_aligned.ensures.tame columns bits limit room d o
+
+pub returns-clause-tame : goal.returns-clause-tame
+returns-clause-tame c = λ columns bits limit room d o.
+    let differ : c.args.system.now.definitions ≢ c.args.other.now.definitions = grind (arith, common_steps) in
+    absurd (differ (d.undefined ∙ sym o.undefined))

@@ -1,10 +1,12 @@
-use Rattle.std.proofs.Common.{◌≡◌, [], ◌∷◌}
+use Rattle.std.proofs.Common.{◌≡◌, ◌*◌, [], ◌∷◌}
 use Rattle.std.specs.List.{All}
 use Rattle.isl_meter.specs.declared.Cut.TheVariants.{NoMemory}
 use Rattle.std.proofs.lemmas.Result.{MatchResult-weaker, err_from_is_err_and}
 use Rattle.isl_meter.proofs.CutLemmas.{IsCutBy-charged}
 use Rattle.isl_difference.proofs.DifferenceLaws.{all_one, asked_whole, difference_parts, difference_whole, ok_from, told_cut, told_kept}
 use Rattle.isl_difference.proofs.DifferenceLaws.{told_whole, IsPlain}
+use Rattle.isl_difference.specs.Tame.{part_limit, test_work}
+use Rattle.isl_difference.proofs.TameLaws.{one_left, tame_cut_first, tame_end, tame_ok}
 use Rattle.isl_difference.proofs.difference.subtract.Goals as goal
 
 pub returns-in-Some-clause-exact : goal.returns-in-Some-clause-exact
@@ -45,3 +47,22 @@ pub returns-in_err-parts-clause-told : goal.returns-in_err-parts-clause-told
 returns-in_err-parts-clause-told c = λ t.
     let error = err_from_is_err_and c.from_residual.result c.from_residual.ensures.1 in
     rw (error.1, error.2) (told_cut c.args.meter.now c.parts_outside.new.meter c.in_err-parts.field-0.0 (c.in_err-parts.ensures.told t))
+
+pub returns-in_err-parts-clause-tame : goal.returns-in_err-parts-clause-tame
+returns-in_err-parts-clause-tame c = λ columns bits limit room d o.
+    let error = err_from_is_err_and c.from_residual.result c.from_residual.ensures.1 in
+    rw (error.1, error.2) (tame_cut_first (part_limit columns 1 * test_work columns) c.args.meter.now c.parts_outside.new.meter _ _
+    c.in_err-parts.field-0.0 (c.in_err-parts.ensures.tame columns bits limit room d o))
+
+pub returns-in-Some-clause-tame : goal.returns-in-Some-clause-tame
+returns-in-Some-clause-tame c = λ columns bits limit room d o.
+    let found = c.in_ok-parts.ensures.tame columns bits limit room d o in
+    let parts = rw c.in-Some.is at found.answer in
+    tame_ok (part_limit columns 1 * test_work columns) c.args.meter.now c.parts_outside.new.meter _ _ found.within.units parts
+
+pub returns-in-None-clause-tame : goal.returns-in-None-clause-tame
+returns-in-None-clause-tame c = λ columns bits limit room d o.
+    let s = c.args.system.now in
+    let found = c.in_ok-parts.ensures.tame columns bits limit room d o in
+    tame_end (part_limit columns 1 * test_work columns) c.args.meter.now c.parts_outside.new.meter (λ left. left.items ≡ s ∷ []) _
+    c.whole.result found.within.units c.whole.ensures (λ left e. one_left columns bits s left.items e d)

@@ -1,26 +1,64 @@
-use Rattle.std.proofs.Common.{◌≡◌, ◌∙◌, sym, arith}
-use Rattle.std.specs.Prelude.{Some}
+use Rattle.std.proofs.Common.{◌≡◌, ◌*◌, ◌∙◌, sym, arith}
+use Rattle.std.specs.Prelude.{Some, None, IfSome, ⊤}
+use Rattle.std.proofs.lemmas.Result.{err_from_is_err_and}
 use Rattle.isl_meter.proofs.CutLemmas.{charges}
 use Rattle.isl_piece.specs.Normal.{normal_system}
+use Rattle.isl_ledger.specs.Difference.{IsDifferenceSystem}
 use Rattle.isl_difference.proofs.LiveLaws.{not_true, normal_nowhere, normal_live}
+use Rattle.isl_difference.proofs.TameLaws.{normal_difference_system, tame_cut_first, tame_ok}
 use Rattle.isl_difference.proofs.live.live_form.Goals as goal
 
-pub returns-then-branch : goal.returns-then-branch
-returns-then-branch c =
+pub returns-then-branch-clause-exact : goal.returns-then-branch-clause-exact
+returns-then-branch-clause-exact c =
     let s = c.args.system in
     let kept = c.in-Some.normal in
     let is : Some kept ≡ normal_system s = sym c.in-Some.is ∙ c.in_ok-normal.ensures.exact in
     let same = rw c.in-Some.is at c.in_ok-normal.ensures.points in
-    (normal_nowhere s kept is same (c.in_ok-is_nowhere.ensures.0.0 c.if-branch.true), grind (arith, charges))
+    (normal_nowhere s kept is same (c.in_ok-is_void.ensures.exact.0.0 c.if-branch.true), grind (arith, charges))
 
-pub returns : goal.returns
-returns c =
+pub returns-clause-exact : goal.returns-clause-exact
+returns-clause-exact c =
     let s = c.args.system in
     let kept = c.in-Some.normal in
     let is : Some kept ≡ normal_system s = sym c.in-Some.is ∙ c.in_ok-normal.ensures.exact in
     let same = rw c.in-Some.is at c.in_ok-normal.ensures.points in
     let within = rw c.in-Some.is at c.in_ok-normal.ensures.within in
     let normal = rw c.in-Some.is at c.in_ok-normal.ensures.normal in (
-      normal_live c.args.meter.now s kept is same within normal (λ n. not_true c.in_ok-is_nowhere.field-0 c.if-branch.false (c.in_ok-is_nowhere.ensures.0.1 n)),
+      normal_live c.args.meter.now s kept is same within normal
+          (λ n. not_true c.in_ok-is_void.field-0 c.if-branch.false (c.in_ok-is_void.ensures.exact.0.1 n)),
       grind (arith, charges),
     )
+
+pub returns-in_err-is_void-clause-tame : goal.returns-in_err-is_void-clause-tame
+returns-in_err-is_void-clause-tame c = λ columns bits limit room d.
+    let s = c.args.system in
+    let kept = c.in-Some.normal in
+    let is : Some kept ≡ normal_system s = sym c.in-Some.is ∙ c.in_ok-normal.ensures.exact in
+    let normal = rw c.in-Some.is at c.in_ok-normal.ensures.normal in
+    let system = normal_difference_system columns bits s kept is normal d in
+    let error = err_from_is_err_and c.from_residual-in_err-is_void.result c.from_residual-in_err-is_void.ensures.1 in
+    let cut = (rw c.in_ok-normal.ensures.meter at c.in_err-is_void.ensures.tame) columns bits limit room system in
+    rw (error.1, error.2) (tame_cut_first (columns * (columns * columns)) c.args.meter.now c.is_void.new.meter (λ _. ⊤)
+    (λ found. IfSome found (IsDifferenceSystem columns bits)) c.in_err-is_void.field-0.0 cut)
+
+pub returns-then-branch-clause-tame : goal.returns-then-branch-clause-tame
+returns-then-branch-clause-tame c = λ columns bits limit room d.
+    let s = c.args.system in
+    let kept = c.in-Some.normal in
+    let is : Some kept ≡ normal_system s = sym c.in-Some.is ∙ c.in_ok-normal.ensures.exact in
+    let normal = rw c.in-Some.is at c.in_ok-normal.ensures.normal in
+    let system = normal_difference_system columns bits s kept is normal d in
+    let asked = (rw c.in_ok-normal.ensures.meter at c.in_ok-is_void.ensures.tame) columns bits limit room system in
+    tame_ok (columns * (columns * columns)) c.args.meter.now c.is_void.new.meter (λ found. IfSome found (IsDifferenceSystem columns bits))
+    None asked.within.units tt
+
+pub returns-clause-tame : goal.returns-clause-tame
+returns-clause-tame c = λ columns bits limit room d.
+    let s = c.args.system in
+    let kept = c.in-Some.normal in
+    let is : Some kept ≡ normal_system s = sym c.in-Some.is ∙ c.in_ok-normal.ensures.exact in
+    let normal = rw c.in-Some.is at c.in_ok-normal.ensures.normal in
+    let system = normal_difference_system columns bits s kept is normal d in
+    let asked = (rw c.in_ok-normal.ensures.meter at c.in_ok-is_void.ensures.tame) columns bits limit room system in
+    tame_ok (columns * (columns * columns)) c.args.meter.now c.is_void.new.meter (λ found. IfSome found (IsDifferenceSystem columns bits))
+    (Some kept) asked.within.units system

@@ -1,11 +1,16 @@
-use Rattle.std.proofs.Common.{◌≡◌, arith}
+use Rattle.std.proofs.Common.{◌≡◌, ◌+◌, ◌*◌, arith}
+use Rattle.std.specs.List.{All}
 use Rattle.std.proofs.lemmas.Grind.{common_steps}
+use Rattle.std.proofs.lemmas.Result.{err_from_is_err_and}
 use Rattle.isl_meter.proofs.CutLemmas.{charges}
 use Rattle.isl_piece.specs.Negation.{negation_of}
 use Rattle.isl_piece.specs.System.{free_columns}
+use Rattle.isl_ledger.specs.Difference.{IsDifferenceRow}
+use Rattle.isl_ledger.proofs.DifferenceLaws.{differences_negated}
 use Rattle.isl_difference.specs.Difference.{IsPartition}
 use Rattle.isl_difference.specs.Split.{HoldsWithAny, IsLive}
-use Rattle.isl_difference.proofs.SplitLaws.{denied_exclusive, failing_all, paid_all}
+use Rattle.isl_difference.specs.Tame.{test_work}
+use Rattle.isl_difference.proofs.SplitLaws.{denied_exclusive, denied_tame, failing_all, negated_cut, paid_all}
 use Rattle.isl_difference.proofs.split.failing.Goals as goal
 
 pub holding-requires-clause-exclusive : goal.holding-requires-clause-exclusive
@@ -31,3 +36,28 @@ returns-clause-paid c =
     let denied = c.in_ok-denied.denied in
     let exact = c.in_ok-denied.ensures.exact in
     paid_all g h k (negation_of row) denied c.in_ok-parts.parts.items exact.1 exact.0 c.in_ok-parts.ensures.paid
+
+pub returns-in_err-denied-clause-tame : goal.returns-in_err-denied-clause-tame
+returns-in_err-denied-clause-tame c = λ columns bits limit room d row.
+    let error = err_from_is_err_and c.from_residual.result c.from_residual.ensures.1 in
+    rw (error.1, error.2) (negated_cut columns bits (2 * test_work columns) c.args.meter.now c.negate.new.meter _ c.args.row.now
+    c.in_err-denied.field-0.0 limit room row c.in_err-denied.ensures.exact)
+
+pub returns-in_err-parts-clause-tame : goal.returns-in_err-parts-clause-tame
+returns-in_err-parts-clause-tame c = λ columns bits limit room d row.
+    let g = c.args.meter.now in
+    let denied = c.in_ok-denied.denied in
+    let exact = c.in_ok-denied.ensures.exact in
+    let rows : All (IsDifferenceRow (bits + 1)) denied = rw exact.0 (differences_negated bits c.args.row.now row) in
+    let cut = (rw exact.1 at c.in_err-parts.ensures.tame) columns (bits + 1) limit room d rows in
+    let error = err_from_is_err_and c.from_residual-in_err-parts.result c.from_residual-in_err-parts.ensures.1 in
+    rw (error.1, error.2) (denied_tame columns g c.holding.new.meter _ c.args.row.now denied _ exact.0 cut)
+
+pub returns-clause-tame : goal.returns-clause-tame
+returns-clause-tame c = λ columns bits limit room d row.
+    let g = c.args.meter.now in
+    let denied = c.in_ok-denied.denied in
+    let exact = c.in_ok-denied.ensures.exact in
+    let rows : All (IsDifferenceRow (bits + 1)) denied = rw exact.0 (differences_negated bits c.args.row.now row) in
+    let some = (rw exact.1 at c.in_ok-parts.ensures.tame) columns (bits + 1) limit room d rows in
+    denied_tame columns g c.holding.new.meter _ c.args.row.now denied _ exact.0 some
