@@ -27,9 +27,9 @@ loop-system-preserved-in-Continue-branch-2 c =
     let live = c.loop-system.live.items in
     let over = done_over g h scope all before rest s (λ point env. Unit {0}) live next c.loop-system.invariant c.requires.over in
     let pushed : c.push.new.self.items ≡ live ++ part ∷ [] = grind (arith, common_steps) in
-    let form = rw c.in-Some-found.is at c.in_ok-found.ensures.0 in
+    let form = rw c.in-Some-found.is at c.in_ok-found.ensures.exact.0 in
     done_more g h k scope all before rest s (λ point env. Unit {0}) live (part ∷ []) c.push.new.self.items next pushed c.loop-system.invariant
-    (live_formed h k scope s part over c.in_ok-found.ensures.1 form)
+    (live_formed h k scope s part over c.in_ok-found.ensures.exact.1 form)
 
 pub loop-system-preserved : goal.loop-system-preserved
 loop-system-preserved c =
@@ -44,6 +44,6 @@ loop-system-preserved c =
     let next : before ≡ s ∷ rest = grind arith in
     let live = c.loop-system.live.items in
     let over = done_over g h scope all before rest s (λ point env. Unit {0}) live next c.loop-system.invariant c.requires.over in
-    let nowhere = rw c.in_default.is at c.in_ok-found.ensures.0 in
+    let nowhere = rw c.in_default.is at c.in_ok-found.ensures.exact.0 in
     done_more g h k scope all before rest s (λ point env. Unit {0}) live [] live next (sym (append-nil live))
-    c.loop-system.invariant (live_left_out h k scope s over c.in_ok-found.ensures.1 nowhere)
+    c.loop-system.invariant (live_left_out h k scope s over c.in_ok-found.ensures.exact.1 nowhere)

@@ -27,7 +27,7 @@ loop-system-preserved c =
     let so_far = c.loop-system.invariant in
     let inside : i < length systems = c.loop-system-test.true in
     let free = system_at (λ t. free_columns t ≡ c.args.kept) systems i s c.requires.columns inside c.system-item.is in
-    let exact = rw c.in_ok-copy.ensures at c.in_ok-live.ensures in
+    let exact = rw c.in_ok-copy.ensures at c.in_ok-live.ensures.exact in
     record {
       live = elim c.match-branch-4.branch [
         | in-Some+in_ok-push w ↦

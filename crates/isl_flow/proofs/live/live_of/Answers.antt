@@ -16,7 +16,7 @@ returns-in_default-clause-made c =
     let g = c.args.meter.now in
     let params = c.args.params.now in
     let r = c.args.precedence.now in
-    let exact = rw (c.in_ok-copy.ensures, c.in_default.is) at c.in_ok-system.ensures in
+    let exact = rw (c.in_ok-copy.ensures, c.in_default.is) at c.in_ok-system.ensures.exact in
     made_nothing (HasOccurrence params) (IsAccessed g params) IsPlainPrecedence (IsPlainPrecedence r) (λ o. HasOccurrence params o r)
     (never_live g params r c.requires.precedence exact.0) c.new.result.items c.new.ensures.items
 
@@ -26,7 +26,7 @@ returns-clause-made c =
     let params = c.args.params.now in
     let r = c.args.precedence.now in
     let q : Precedence = record { forms = c.in_ok-copy-2.field-0; system = c.in-Some.system } in
-    let exact = rw (c.in_ok-copy.ensures, c.in-Some.is) at c.in_ok-system.ensures in
+    let exact = rw (c.in_ok-copy.ensures, c.in-Some.is) at c.in_ok-system.ensures.exact in
     let is : c.push.new.self.items ≡ q ∷ [] =
     c.in_ok-push.ensures.items ∙ ap (λ (l : List Precedence). l ++ q ∷ []) c.new-made.ensures.items in
     subst (λ (l : List Precedence). AreMade (HasOccurrence params) (IsAccessed g params) IsPlainPrecedence (IsPlainPrecedence r)
