@@ -1,5 +1,4 @@
 pub mod OnceLaws
-pub mod OverLaws
 pub mod ResultLaws
 pub mod SpaceLaws
 pub mod SystemLaws

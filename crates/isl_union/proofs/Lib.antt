@@ -11,6 +11,8 @@ pub mod CountLaws
 pub mod SameLaws
 pub mod UnionLaws
 pub mod ValueLaws
+pub mod SizeLaws
+pub mod TameLaws
 pub mod MadeLaws
 pub mod MeetSteps
 pub mod MinusLaws

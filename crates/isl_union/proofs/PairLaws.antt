@@ -11,6 +11,7 @@ use Rattle.isl_union.specs.Minus.{ArePiecesOver, IsAlignedPair}
 use Rattle.isl_union.specs.Moved.{aligned, aligned_pieces, moved}
 use Rattle.isl_union.specs.Numbers.{IsWithinLimit}
 use Rattle.isl_union.specs.Piece.{kept_piece, IsPieceOf}
+use Rattle.isl_union.proofs.SizeLaws.{aligned_of_size, pieces_of_size}
 use Rattle.isl_union.proofs.ValueLaws.{aligned_all_plain, aligned_have, aligned_small, first_in, pieces_within, second_in}
 
 -- pieces over more parameters lie where they lay
@@ -19,7 +20,7 @@ aligned_spaces : (all : List Name) (value : KeptValue)
 unfolding moved
 aligned_spaces all value = map-map (λ (p : KeptPiece). p.space) (aligned all value.params) value.pieces
 
-over_made : (g : Gauge) (params : List Name) (value : KeptValue) (pieces : List PieceView) → IsKeptValue value → IsWithinLimit g value
+pub over_made : (g : Gauge) (params : List Name) (value : KeptValue) (pieces : List PieceView) → IsKeptValue value → IsWithinLimit g value
     → All (Contains params) value.params → map kept_piece pieces ≡ aligned_pieces params value → All (IsPieceOf params) pieces
     → ArePiecesOver g params value pieces
 over_made g params value pieces kept fits there is sound = record {
@@ -32,6 +33,8 @@ over_made g params value pieces kept fits there is sound = record {
       (rw is (aligned_all_plain g params value kept fits there none));
   spaces = sym (map-map (λ (p : KeptPiece). p.space) kept_piece pieces) ∙ ap (map (λ (p : KeptPiece). p.space)) is
       ∙ aligned_spaces params value;
+  sizes = λ size of_size. pieces_of_size params size pieces (aligned_pieces params value) sound is
+      (aligned_of_size g params value kept fits there size of_size);
 }
 
 pub pair_made : (g : Gauge) (a b : KeptValue) (params : List Name) (own others : List PieceView) → params ≡ joined a.params b.params

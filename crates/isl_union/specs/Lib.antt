@@ -14,6 +14,7 @@ pub mod Pieces
 pub mod Project
 pub mod Sample
 pub mod Stored
+pub mod Tame
 pub mod Union
 pub use Rattle.isl_space.specs.Element
 pub use Rattle.isl_space.specs.Name

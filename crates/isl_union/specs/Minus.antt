@@ -9,10 +9,12 @@ use Rattle.isl_space.specs.SpaceForm.{SpaceForm}
 use Rattle.isl_space.specs.Valuation.{Valuation}
 use Rattle.isl_piece.specs.Piece.{PieceView}
 use Rattle.isl_piece.specs.declared.system.System.{System}
+use Rattle.isl_ledger.specs.Work.{Size, AreOfSize}
 use Rattle.isl_union.specs.KeptValue.{KeptPiece, KeptValue, Has, HasElement, HasNoDefinitions}
 use Rattle.isl_union.specs.Meet.{is_same_space}
 use Rattle.isl_union.specs.Numbers.{AreWithinLimit}
 use Rattle.isl_union.specs.Piece.{kept_piece, IsPieceOf}
+use Rattle.isl_union.specs.Tame.{systems_of, IsOfSize}
 
 -- ---- pieces of one space
 abbrev pub piece_in : SpaceForm → System → PieceView
@@ -42,7 +44,7 @@ pub record AreCovered (params : List Name) (pieces others : List KeptPiece) : Ty
 
 -- ---- two values over their joined parameters
 -- pieces over the parameters, within the limit, that have the elements of the value, and define no column where it defines none; one for each
--- of the value's, in its space
+-- of the value's, in its space, and of a size that it has
 pub record ArePiecesOver (g : Gauge) (params : List Name) (value : KeptValue) (pieces : List PieceView) : Type 0 where
   pub sound : All (IsPieceOf params) pieces
   pub within : AreWithinLimit g pieces
@@ -50,6 +52,7 @@ pub record ArePiecesOver (g : Gauge) (params : List Name) (value : KeptValue) (p
       → Any (HasElement params valuation element) (map kept_piece pieces) ↔ Has value valuation element
   pub definitions : HasNoDefinitions value → All (λ piece. piece.system.definitions ≡ []) pieces
   pub spaces : map (λ piece. piece.space) pieces ≡ map (λ piece. piece.space) value.pieces
+  pub sizes : (size : Size) → IsOfSize params size value → AreOfSize size (systems_of pieces)
 
 -- the pieces of the one value and of the other over their joined parameters
 pub record IsAlignedPair (g : Gauge) (a b : KeptValue) (all : List Name) (firsts seconds : List PieceView) : Type 0 where

@@ -1,15 +1,19 @@
 //! What values say of one another.
 
-ghost use Rattle.std.specs.Prelude.{◌↔◌, ◌≤◌, ◌∷◌, [], All, IfOk, IsTrue, MatchResult, length, map};
+ghost use Rattle.std.specs.Prelude.{◌≡◌, ◌↔◌, ◌+◌, ◌*◌, ◌≤◌, ◌∷◌, ℕ, ⊤, [], All, IfOk, IsTrue, MatchResult, length, map};
 ghost use Rattle.isl_meter.specs.Gauge.{IsCharged, IsMetered};
 ghost use Rattle.isl_space.specs.Limits.{most_parameters};
 ghost use Rattle.isl_space.specs.Names.{joined, AreDistinct};
 ghost use Rattle.isl_piece.specs.System.{IsSystemWithin};
+ghost use Rattle.isl_ledger.specs.Answered.{IsTame};
+ghost use Rattle.isl_ledger.specs.Difference.{IsDifferenceSystem};
+ghost use Rattle.isl_difference.specs.Tame.{left_work};
 ghost use Rattle.isl_union.specs.Compare.{AreEqual, IsSubset};
 ghost use Rattle.isl_union.specs.Fault.{IsFaultBy};
 ghost use Rattle.isl_union.specs.Minus.{AreCovered};
 ghost use Rattle.isl_union.specs.Numbers.{AreWithinLimit, IsWithinLimit};
 ghost use Rattle.isl_union.specs.Piece.{kept_piece, IsPieceOf};
+ghost use Rattle.isl_union.specs.Tame.{systems_of, AreOfSizes, IsTameAnswer};
 
 use crate::minus::systems_in;
 use crate::pair::aligned_pair;
@@ -38,6 +42,9 @@ fn is_piece_covered(
     ensures exact { IfOk result
         (λ covered. IsTrue covered ↔ AreCovered params.now (kept_piece piece.now ∷ []) (map kept_piece others.now)) }
     ensures meter { IsMetered meter.old meter.new result }
+    ensures tame { (columns bits : ℕ) → meter.old.bits ≡ 127 → bits + 1 + columns ≤ 120 → IsDifferenceSystem columns bits piece.now.system
+        → All (IsDifferenceSystem columns bits) (systems_of others.now)
+        → IsTame (left_work columns (length others.now)) meter.old meter.new (λ _. ⊤) result }
 {
     let systems = systems_in(alloc, piece.space(), others)?;
     is_covered(alloc, piece.system(), systems.as_slice(), meter)
@@ -60,6 +67,9 @@ fn are_covered(
     ensures exact { IfOk result
         (λ covered. IsTrue covered ↔ AreCovered params.now (map kept_piece pieces.now) (map kept_piece others.now)) }
     ensures meter { IsMetered meter.old meter.new result }
+    ensures tame { (columns bits : ℕ) → meter.old.bits ≡ 127 → bits + 1 + columns ≤ 120
+        → All (IsDifferenceSystem columns bits) (systems_of pieces.now) → All (IsDifferenceSystem columns bits) (systems_of others.now)
+        → IsTame (length pieces.now * left_work columns (length others.now)) meter.old meter.new (λ _. ⊤) result }
 {
     for piece in pieces {
         if !is_piece_covered(alloc, params, piece, others, meter)? {
@@ -86,6 +96,10 @@ fn are_mutual(
     ensures exact { IfOk result (λ same. IsTrue same ↔ (AreCovered params.now (map kept_piece pieces.items) (map kept_piece others.items)
         × AreCovered params.now (map kept_piece others.items) (map kept_piece pieces.items))) }
     ensures meter { IsMetered meter.old meter.new result }
+    ensures tame { (columns bits : ℕ) → meter.old.bits ≡ 127 → bits + 1 + columns ≤ 120
+        → All (IsDifferenceSystem columns bits) (systems_of pieces.items) → All (IsDifferenceSystem columns bits) (systems_of others.items)
+        → IsTame (length pieces.items * left_work columns (length others.items) + length others.items * left_work columns (length pieces.items))
+        meter.old meter.new (λ _. ⊤) result }
 {
     let others = PieceIndex::new(alloc, others)?;
     if !are_covered(alloc, params, pieces.as_slice(), &others, meter)? {
@@ -114,6 +128,9 @@ impl Value {
         ensures units { MatchResult result
             (λ _. (length (joined self.now.params other.now.params) ≤ most_parameters) × IsCharged meter.old meter.new)
             (IsFaultBy (joined self.now.params other.now.params) meter.old meter.new) }
+        ensures tame { (own others columns bits : ℕ) → meter.old.bits ≡ 127 → bits + 1 + columns ≤ 120
+            → AreOfSizes own others columns bits self.now other.now
+            → IsTameAnswer (own * left_work columns others) meter.old meter.new (λ _. ⊤) result }
     {
         let pair = aligned_pair(alloc, self, other, meter)?;
         let others = PieceIndex::new(alloc, pair.others)?;
@@ -134,6 +151,9 @@ impl Value {
         ensures units { MatchResult result
             (λ _. (length (joined self.now.params other.now.params) ≤ most_parameters) × IsCharged meter.old meter.new)
             (IsFaultBy (joined self.now.params other.now.params) meter.old meter.new) }
+        ensures tame { (own others columns bits : ℕ) → meter.old.bits ≡ 127 → bits + 1 + columns ≤ 120
+            → AreOfSizes own others columns bits self.now other.now
+            → IsTameAnswer (own * left_work columns others + others * left_work columns own) meter.old meter.new (λ _. ⊤) result }
     {
         let pair = aligned_pair(alloc, self, other, meter)?;
         let (own, others) = (pair.own, pair.others);

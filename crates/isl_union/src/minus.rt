@@ -1,6 +1,6 @@
 //! What one value has and another has not.
 
-ghost use Rattle.std.specs.Prelude.{◌≡◌, ◌↔◌, ◌+◌, ◌≤◌, ◌∷◌, [], All, IfOk, MatchResult, length, map};
+ghost use Rattle.std.specs.Prelude.{◌≡◌, ◌↔◌, ◌+◌, ◌*◌, ◌≤◌, ◌∷◌, ℕ, [], All, IfOk, MatchResult, length, map};
 ghost use Rattle.isl_meter.specs.Gauge.{IsCharged, IsMetered};
 ghost use Rattle.isl_space.specs.Element.{Element};
 ghost use Rattle.isl_space.specs.Limits.{most_parameters};
@@ -9,11 +9,16 @@ ghost use Rattle.isl_space.specs.Space.{space_form_of};
 ghost use Rattle.isl_space.specs.SpaceForm.{IsWellFormedSpace};
 ghost use Rattle.isl_space.specs.Valuation.{Valuation};
 ghost use Rattle.isl_piece.specs.System.{IsSystemWithin};
+ghost use Rattle.isl_ledger.specs.Answered.{IsTame};
+ghost use Rattle.isl_ledger.specs.Difference.{IsDifferenceSystem};
+ghost use Rattle.isl_ledger.specs.Work.{AreOfSize};
+ghost use Rattle.isl_difference.specs.Tame.{left_size, left_work};
 ghost use Rattle.isl_union.specs.Fault.{IsFaultBy};
 ghost use Rattle.isl_union.specs.KeptValue.{Has, HasNoDefinitions, IsKeptValue};
 ghost use Rattle.isl_union.specs.Minus.{systems_in, AreLeftOf};
 ghost use Rattle.isl_union.specs.Numbers.{AreWithinLimit, IsWithinLimit};
 ghost use Rattle.isl_union.specs.Piece.{kept_piece, IsPieceOf};
+ghost use Rattle.isl_union.specs.Tame.{minus_size, systems_of, AreOfSizes, IsOfSize, IsTameAnswer};
 
 use crate::pair::aligned_pair;
 use crate::pieces::pieces_in;
@@ -62,6 +67,10 @@ fn piece_without(
         → IfOk result (λ left. All (λ part. part.system.definitions ≡ []) left.items) }
     ensures counted { IfOk result (λ left. length left.items + meter.old.units ≤ meter.new.units + 1) }
     ensures meter { IsMetered meter.old meter.new result }
+    ensures tame { (columns bits : ℕ) → meter.old.bits ≡ 127 → bits + 1 + columns ≤ 120 → IsDifferenceSystem columns bits piece.now.system
+        → All (IsDifferenceSystem columns bits) (systems_of others.now)
+        → IsTame (left_work columns (length others.now)) meter.old meter.new
+        (λ left. AreOfSize (left_size columns bits (length others.now)) (systems_of left.items)) result }
 {
     let space = piece.space();
     let systems = systems_in(alloc, space, others)?;
@@ -93,6 +102,10 @@ fn pieces_without(
         → IfOk result (λ left. All (λ part. part.system.definitions ≡ []) left.items) }
     ensures counted { IfOk result (λ left. length left.items + meter.old.units ≤ meter.new.units + length pieces.now) }
     ensures meter { IsMetered meter.old meter.new result }
+    ensures tame { (columns bits : ℕ) → meter.old.bits ≡ 127 → bits + 1 + columns ≤ 120
+        → All (IsDifferenceSystem columns bits) (systems_of pieces.now) → All (IsDifferenceSystem columns bits) (systems_of others.now)
+        → IsTame (length pieces.now * left_work columns (length others.now)) meter.old meter.new
+        (λ left. AreOfSize (minus_size (length pieces.now) (length others.now) columns bits) (systems_of left.items)) result }
 {
     let mut left = Vec::new(alloc);
     for piece in pieces {
@@ -125,6 +138,10 @@ impl Value {
         ensures units { MatchResult result
             (λ _. (length (joined self.now.params other.now.params) ≤ most_parameters) × IsCharged meter.old meter.new)
             (IsFaultBy (joined self.now.params other.now.params) meter.old meter.new) }
+        ensures tame { (own others columns bits : ℕ) → meter.old.bits ≡ 127 → bits + 1 + columns ≤ 120
+            → AreOfSizes own others columns bits self.now other.now
+            → IsTameAnswer (own * left_work columns others) meter.old meter.new
+            (λ value. IsOfSize value.params (minus_size own others columns bits) value) result }
     {
         let pair = aligned_pair(alloc, self, other, meter)?;
         let others = PieceIndex::new(alloc, pair.others)?;

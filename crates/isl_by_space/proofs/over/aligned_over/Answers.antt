@@ -2,7 +2,7 @@ use Rattle.std.proofs.Common.{◌≡◌, All, map}
 use Rattle.isl_union.specs.Minus.{ArePiecesOver}
 use Rattle.isl_union.specs.Moved.{aligned_pieces}
 use Rattle.isl_union.specs.Piece.{kept_piece, IsPieceOf}
-use Rattle.isl_by_space.proofs.OverLaws.{over_made}
+use Rattle.isl_union.proofs.PairLaws.{over_made}
 use Rattle.isl_by_space.proofs.ResultLaws.{ok_case, ok_has}
 use Rattle.isl_by_space.proofs.over.aligned_over.Goals as goal
 

@@ -1,14 +1,22 @@
-use Rattle.std.proofs.Common.{◌≡◌, sym, subst, arith, ◌<◌, ◌≤◌, [], All, length, map}
-use Rattle.isl_meter.proofs.CutLemmas.{IsCharged_trans}
+use Rattle.std.proofs.Common.{◌≡◌, refl, sym, ap, ◌∙◌, subst, arith, ◌+◌, ◌*◌, ◌<◌, ◌≤◌, [], All, length, map}
+use Rattle.std.proofs.lemmas.Grind.{common_steps}
+use Rattle.std.proofs.lemmas.Result.{err_from_is_err_and}
+use Rattle.isl_meter.proofs.CutLemmas.{IsCharged_refl, IsCharged_trans}
 use Rattle.isl_piece.specs.System.{IsSystemWithin}
 use Rattle.isl_piece.proofs.FormedLaws.{system_within_kept}
+use Rattle.isl_ledger.specs.Difference.{IsDifferenceSystem}
+use Rattle.isl_difference.specs.Tame.{left_work, part_limit}
+use Rattle.isl_difference.proofs.TameLaws.{tame_cut, tame_memory, tame_ok}
 use Rattle.isl_union.specs.Piece.{kept_piece}
+use Rattle.isl_union.specs.Tame.{minus_size, systems_of}
 use Rattle.std.proofs.lemmas.List.{take_all}
-use Rattle.std.proofs.lemmas.List.Elements.{All-append}
+use Rattle.std.proofs.lemmas.List.Elements.{All-append, All-nil}
 use Rattle.isl_piece.specs.Piece.{PieceView}
 use Rattle.isl_union.proofs.CountLaws.{counted_more}
 use Rattle.isl_union.proofs.MeetSteps.{charged_bits, item_has, pieces_later}
-use Rattle.isl_union.proofs.MinusLaws.{left_step}
+use Rattle.isl_union.proofs.MinusLaws.{left_first, left_step}
+use Rattle.isl_union.proofs.SizeLaws.{sizes_append, turn_fits, turn_more}
+use Rattle.isl_union.proofs.TameLaws.{item_system, none_of_size}
 use Rattle.isl_union.proofs.minus.pieces_without.Goals as goal
 
 pub piece_without-requires-clause-piece_within : goal.piece_without-requires-clause-piece_within
@@ -22,6 +30,21 @@ piece_without-requires-clause-piece_within c =
 pub piece_without-requires-clause-others_within : goal.piece_without-requires-clause-others_within
 piece_without-requires-clause-others_within c =
     pieces_later c.args.meter.now c.loop-piece.meter c.args.others.now c.loop-piece.invariant.charged c.requires.others_within
+
+pub loop-piece-init : goal.loop-piece-init
+loop-piece-init c =
+    let g = c.args.meter.now in
+    let none = c.new-left.ensures.items in
+    record {
+      left = rw none (left_first g c.args.params.now (map kept_piece c.args.others.now));
+      definitions = λ own others. rw none (All-nil (λ (p : PieceView). p.system.definitions ≡ []));
+      tame = λ columns bits limit room own others. (
+        omega arith,
+        none_of_size (minus_size 0 (length c.args.others.now) columns bits) _ (ap systems_of none),
+      );
+      charged = IsCharged_refl g g refl;
+      counted = rw none (omega arith);
+    }
 
 pub loop-piece-preserved : goal.loop-piece-preserved
 loop-piece-preserved c =
@@ -43,6 +66,19 @@ loop-piece-preserved c =
           subst (All P) (sym c.in_ok-append.ensures.items)
           (All-append P c.loop-piece.left.items c.in_ok-parts.parts.items (so_far.definitions own none)
           (c.in_ok-parts.ensures.definitions here none));
+      tame = λ columns bits limit room own more.
+          let n = length c.args.others.now in
+          let before = so_far.tame columns bits limit room own more in
+          let here = item_system (IsDifferenceSystem columns bits) pieces i piece low c.piece-item.is own in
+          let asked = c.in_ok-parts.ensures.tame columns bits (sym (charged_bits g h so_far.charged) ∙ limit) room here more in
+          let first = before.0 in
+          let second = asked.within.units in
+          let turns = turn_more i (left_work columns n) in (
+            omega (arith, first, second, turns),
+            sizes_append (i * part_limit columns n) (part_limit columns n) ((i + 1) * part_limit columns n) columns (bits + 1)
+                c.loop-piece.left.items c.in_ok-parts.parts.items c.append.new.self.items (turn_more i (part_limit columns n))
+                c.in_ok-append.ensures.items before.1 asked.answer,
+          );
       charged = IsCharged_trans g h c.piece_without.new.meter so_far.charged c.in_ok-parts.ensures.meter;
       counted = counted_more g h c.piece_without.new.meter pieces piece i c.loop-piece.left.items c.in_ok-parts.parts.items
           c.append.new.self.items low c.in_ok-append.ensures.items so_far.counted c.in_ok-parts.ensures.counted;
@@ -55,3 +91,46 @@ returns-clause-counted c =
 
 pub returns-clause-definitions : goal.returns-clause-definitions
 returns-clause-definitions c = λ own others. c.loop-piece.invariant.definitions own others
+
+-- ---- of difference constraints
+pub returns-in_err-parts-clause-tame : goal.returns-in_err-parts-clause-tame
+returns-in_err-parts-clause-tame c = λ columns bits limit room own others.
+    let g = c.args.meter.now in
+    let h = c.loop-piece.meter in
+    let pieces = c.args.pieces.now in
+    let n = length c.args.others.now in
+    let i = c.loop-piece.piece-index in
+    let low : i < length pieces = omega arith in
+    let so_far = c.loop-piece.invariant in
+    let before = so_far.tame columns bits limit room own others in
+    let here = item_system (IsDifferenceSystem columns bits) pieces i c.piece-item.result low c.piece-item.is own in
+    let later = sym (charged_bits g h so_far.charged) ∙ limit in
+    let p = err_from_is_err_and c.from_residual.result c.from_residual.ensures.1 in
+    let cut = c.in_err-parts.ensures.tame columns bits later room here others in
+    rw (p.1, p.2) (tame_cut (i * left_work columns n) (left_work columns n) (length pieces * left_work columns n) g h
+    c.piece_without.new.meter _ _ c.in_err-parts.field-0.0 so_far.charged before.0 (turn_fits i (length pieces) (left_work columns n) low) cut)
+
+pub returns-in_err-append-clause-tame : goal.returns-in_err-append-clause-tame
+returns-in_err-append-clause-tame c = λ columns bits limit room own others.
+    let g = c.args.meter.now in
+    let h = c.loop-piece.meter in
+    let pieces = c.args.pieces.now in
+    let n = length c.args.others.now in
+    let i = c.loop-piece.piece-index in
+    let low : i < length pieces = omega arith in
+    let so_far = c.loop-piece.invariant in
+    let before = so_far.tame columns bits limit room own others in
+    let here = item_system (IsDifferenceSystem columns bits) pieces i c.piece-item.result low c.piece-item.is own in
+    let later = sym (charged_bits g h so_far.charged) ∙ limit in
+    let p = err_from_is_err_and c.from_residual-in_err-append.result c.from_residual-in_err-append.ensures.1 in
+    let asked = c.in_ok-parts.ensures.tame columns bits later room here others in
+    let first = before.0 in
+    let second = asked.within.units in
+    rw (p.1, p.2) (tame_memory (i * left_work columns n + left_work columns n) (length pieces * left_work columns n) g
+    c.piece_without.new.meter _ (omega (arith, first, second)) (turn_fits i (length pieces) (left_work columns n) low))
+
+pub returns-clause-tame : goal.returns-clause-tame
+returns-clause-tame c = λ columns bits limit room own others.
+    let all : c.loop-piece.piece-index ≡ length c.args.pieces.now = grind (arith, common_steps) in
+    let whole = rw all at (c.loop-piece.invariant.tame columns bits limit room own others) in
+    tame_ok (length c.args.pieces.now * left_work columns (length c.args.others.now)) c.args.meter.now c.loop-piece.meter _ _ whole.0 whole.1
