@@ -52,7 +52,7 @@ pub value_of_size : (params : List Name) (size : Size) (pieces : List PieceView)
 value_of_size params size pieces value sound made h = rw made (subst (AreOfSize size) (sym (systems_are params pieces sound)) h)
 
 -- ---- over more parameters
-settled_rows : (b : ℕ) (rows : List Row) → All (IsDifferenceRow b) rows → All (IsDifferenceRow b) (unwrap_or (normal_rows rows) [])
+pub settled_rows : (b : ℕ) (rows : List Row) → All (IsDifferenceRow b) rows → All (IsDifferenceRow b) (unwrap_or (normal_rows rows) [])
 settled_rows b rows h = by (normal_rows rows) (normal_differences b rows (λ k d l. inl (h k d l)))
   where
     by : (found : Option (List Row)) → IfSome found (All (IsDifferenceRow b)) → All (IsDifferenceRow b) (unwrap_or found [])

@@ -1,6 +1,7 @@
 //! Pieces that have elements, and the values that are made of pieces.
 
-ghost use Rattle.std.specs.Prelude.{◌≡◌, ◌↔◌, ◌++◌, ℕ, List, All, Any, IfOk, IfSome, MatchResult, OnOk, map, option_map, option_to_list};
+ghost use Rattle.std.specs.Prelude.{◌≡◌, ◌↔◌, ◌+◌, ◌*◌, ◌≤◌, ◌++◌, ℕ, List, All, Any};
+ghost use Rattle.std.specs.Prelude.{IfOk, IfSome, MatchResult, OnOk, length, map, option_map, option_to_list};
 ghost use Rattle.isl_meter.specs.Gauge.{IsCharged, IsCutBy, IsMetered};
 ghost use Rattle.isl_space.specs.Element.{Element};
 ghost use Rattle.isl_space.specs.Name.{Name};
@@ -11,11 +12,16 @@ ghost use Rattle.isl_space.specs.Valuation.{Valuation};
 ghost use Rattle.isl_piece.specs.System.{HoldsSystem, IsSystemWithin, free_columns};
 ghost use Rattle.isl_piece.specs.Formed.{IsSystemUpTo};
 ghost use Rattle.std.specs.List.{filter_map};
+ghost use Rattle.isl_ledger.specs.Answered.{IsTame};
+ghost use Rattle.isl_ledger.specs.Difference.{IsDifferenceSystem};
+ghost use Rattle.isl_ledger.specs.Work.{AreOfSize};
 ghost use Rattle.isl_elim.specs.Sample.{IsNowhere};
+ghost use Rattle.isl_difference.specs.Tame.{HasDifferenceRows};
 ghost use Rattle.isl_union.specs.KeptValue.{columns_of, Has, HasElement, IsKeptValue};
 ghost use Rattle.isl_union.specs.Live.{normal_of, settled, AreLiveOf, IsLiveForm, IsLiveOf};
 ghost use Rattle.isl_union.specs.Numbers.{HasNumbersUpTo};
 ghost use Rattle.isl_union.specs.Piece.{kept_piece, piece_of, IsPieceOf, IsPieceOver};
+ghost use Rattle.isl_union.specs.Tame.{size_of, systems_of, IsOfSize};
 
 use crate::Value;
 use isl_elim::is_empty;
@@ -28,9 +34,11 @@ use std::alloc::{AllocError, Global};
 #[tactic(auto, using(std::proofs::lemmas::Grind::common_steps, isl_meter::proofs::CutLemmas::charges))]
 fn live_system(alloc: Global, system: System, meter: &mut Meter) -> Result<Option<System>, Cut>
     requires { IsSystemWithin meter.old system }
-    ensures { MatchResult result
+    ensures exact { MatchResult result
         (λ found. IsLiveForm system found × IsCharged meter.old meter.new)
         (IsCutBy meter.old meter.new) }
+    ensures tame { (columns bits : ℕ) → meter.old.bits ≡ 127 → bits + columns ≤ 120 → HasDifferenceRows columns bits system
+        → IsTame (columns * (columns * columns)) meter.old meter.new (λ found. IfSome found (IsDifferenceSystem columns bits)) result }
 {
     let Some(normal) = normalise(alloc, system, meter)? else {
         return Ok(None);
@@ -59,6 +67,9 @@ pub fn live_piece(
         → IfOk result (λ found. IsLiveOf params (normal_of (piece_of (space_form_of space.now) system)) (option_map kept_piece found)
         × IfSome found (IsPieceOf params)) }
     ensures meter { IsMetered meter.old meter.new result }
+    ensures tame { (columns bits : ℕ) → meter.old.bits ≡ 127 → bits + columns ≤ 120 → HasDifferenceRows columns bits system
+        → IsTame (columns * (columns * columns)) meter.old meter.new
+        (λ found. IfSome found (λ piece. IsDifferenceSystem columns bits piece.system)) result }
 {
     match live_system(alloc, system, meter)? {
         None => Ok(None),
@@ -120,6 +131,10 @@ fn live_pieces(
         (λ kept. AreLiveOf params.now (filter_map normal_of (map kept_piece pieces.now)) (map kept_piece kept.items)) }
     ensures sound { IfOk result (λ kept. All (IsPieceOf params.now) kept.items) }
     ensures meter { IsMetered meter.old meter.new result }
+    ensures tame { (columns bits : ℕ) → meter.old.bits ≡ 127 → bits + columns ≤ 120
+        → All (λ piece. HasDifferenceRows columns bits piece.system) pieces.now
+        → IsTame (length pieces.now * (columns * (columns * columns))) meter.old meter.new
+        (λ kept. AreOfSize (size_of (length pieces.now) columns bits) (systems_of kept.items)) result }
 {
     let mut kept = Vec::with_capacity(alloc, pieces.len())?;
     for piece in pieces {
@@ -170,6 +185,10 @@ impl Value {
             → IfOk result (λ value. Has value valuation element ↔ Any (HasElement params valuation element) (map kept_piece pieces.items)) }
         ensures numbers { (most : ℕ) → All (λ piece. IsSystemUpTo most piece.system) pieces.items → IfOk result (HasNumbersUpTo most) }
         ensures meter { IsMetered meter.old meter.new result }
+        ensures tame { (columns bits : ℕ) → meter.old.bits ≡ 127 → bits + columns ≤ 120
+            → All (λ piece. HasDifferenceRows columns bits piece.system) pieces.items
+            → IsTame (length pieces.items * (columns * (columns * columns))) meter.old meter.new
+            (λ value. IsOfSize value.params (size_of (length pieces.items) columns bits) value) result }
     {
         let kept = live_pieces(alloc, &params, pieces.as_slice(), meter)?;
         Ok(Value::from_normal(params, kept))

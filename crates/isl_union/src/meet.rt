@@ -1,6 +1,6 @@
 //! What two values have in common.
 
-ghost use Rattle.std.specs.Prelude.{◌≡◌, ◌↔◌, ◌≤◌, ℕ, All, IfOk, IfSome, MatchResult, length, map, option_map};
+ghost use Rattle.std.specs.Prelude.{◌≡◌, ◌↔◌, ◌+◌, ◌*◌, ◌≤◌, ℕ, All, IfOk, IfSome, MatchResult, length, map, option_map};
 ghost use Rattle.std.specs.Prelude.{sum_by};
 ghost use Rattle.isl_space.specs.Element.{Element};
 ghost use Rattle.isl_space.specs.Limits.{most_parameters};
@@ -8,12 +8,17 @@ ghost use Rattle.isl_space.specs.Names.{joined};
 ghost use Rattle.isl_space.specs.Valuation.{Valuation};
 ghost use Rattle.isl_piece.specs.System.{IsSystemWithin};
 ghost use Rattle.isl_meter.specs.Gauge.{IsCutBy};
+ghost use Rattle.isl_ledger.specs.Answered.{IsTame};
+ghost use Rattle.isl_ledger.specs.Difference.{IsDifferenceSystem};
+ghost use Rattle.isl_ledger.specs.Work.{AreOfSize};
+ghost use Rattle.isl_difference.specs.Tame.{test_work};
 ghost use Rattle.isl_union.specs.Fault.{IsChargedFrom, IsFaultBy};
 ghost use Rattle.isl_union.specs.KeptValue.{Has, HasNoDefinitions, IsKeptValue};
 ghost use Rattle.isl_union.specs.Live.{AreLiveOf, IsLiveOf};
 ghost use Rattle.isl_union.specs.Meet.{met_piece, met_pieces, met_with, pair_count, pairs_of_one_space, partners, IsMeetOf};
 ghost use Rattle.isl_union.specs.Numbers.{AreWithinLimit, HasNumbersUpTo, IsWithinLimit};
 ghost use Rattle.isl_union.specs.Piece.{kept_piece, IsPieceOf};
+ghost use Rattle.isl_union.specs.Tame.{size_of, systems_of, AreOfSizes, IsOfSize, IsTameAnswer};
 
 use crate::aligned::aligned_pieces;
 use crate::live::{live_piece, push_found};
@@ -42,6 +47,9 @@ fn met_piece(
     ensures sound { IfOk result (λ met. IfSome met (IsPieceOf params.now)) }
     ensures units { MatchResult result (λ _. IsChargedFrom (pair_count (kept_piece a.now) (kept_piece b.now)) meter.old meter.new)
         (IsCutBy meter.old meter.new) }
+    ensures tame { (columns bits : ℕ) → meter.old.bits ≡ 127 → bits + columns ≤ 120
+        → IsDifferenceSystem columns bits a.now.system → IsDifferenceSystem columns bits b.now.system
+        → IsTame (test_work columns) meter.old meter.new (λ met. IfSome met (λ piece. IsDifferenceSystem columns bits piece.system)) result }
 {
     let space = a.space();
     if !space.same(b.space()) {
@@ -71,6 +79,10 @@ fn met_among(
     ensures units { MatchResult result
         (λ _. IsChargedFrom (partners (map kept_piece others.now) (kept_piece piece.now)) meter.old meter.new)
         (IsCutBy meter.old meter.new) }
+    ensures tame { (columns bits : ℕ) → meter.old.bits ≡ 127 → bits + columns ≤ 120 → IsDifferenceSystem columns bits piece.now.system
+        → All (IsDifferenceSystem columns bits) (systems_of others.now)
+        → IsTame (length others.now * test_work columns) meter.old meter.new
+        (λ met. AreOfSize (size_of (length others.now) columns bits) (systems_of met.items)) result }
 {
     let mut met = Vec::new(alloc);
     for other in others {
@@ -98,6 +110,10 @@ fn met_with(
     ensures units { MatchResult result
         (λ _. IsChargedFrom (partners (map kept_piece others.now) (kept_piece piece.now)) meter.old meter.new)
         (IsCutBy meter.old meter.new) }
+    ensures tame { (columns bits : ℕ) → meter.old.bits ≡ 127 → bits + columns ≤ 120 → IsDifferenceSystem columns bits piece.now.system
+        → All (IsDifferenceSystem columns bits) (systems_of others.now)
+        → IsTame (length others.now * test_work columns) meter.old meter.new
+        (λ met. AreOfSize (size_of (length others.now) columns bits) (systems_of met.items)) result }
 {
     let near = others.in_space(alloc, piece.space())?;
     met_among(alloc, params, piece, near, meter)
@@ -122,6 +138,10 @@ fn met_pieces(
     ensures units { MatchResult result
         (λ _. IsChargedFrom (sum_by (partners (map kept_piece others.now)) (map kept_piece pieces.now)) meter.old meter.new)
         (IsCutBy meter.old meter.new) }
+    ensures tame { (columns bits : ℕ) → meter.old.bits ≡ 127 → bits + columns ≤ 120
+        → All (IsDifferenceSystem columns bits) (systems_of pieces.now) → All (IsDifferenceSystem columns bits) (systems_of others.now)
+        → IsTame (length pieces.now * (length others.now * test_work columns)) meter.old meter.new
+        (λ met. AreOfSize (size_of (length pieces.now * length others.now) columns bits) (systems_of met.items)) result }
 {
     let mut met = Vec::new(alloc);
     for piece in pieces {
@@ -155,6 +175,10 @@ impl Value {
             (λ _. (length (joined self.now.params other.now.params) ≤ most_parameters)
             × IsChargedFrom (pairs_of_one_space self.now other.now) meter.old meter.new)
             (IsFaultBy (joined self.now.params other.now.params) meter.old meter.new) }
+        ensures tame { (own others columns bits : ℕ) → meter.old.bits ≡ 127 → bits + columns ≤ 120
+            → AreOfSizes own others columns bits self.now other.now
+            → IsTameAnswer (own * (others * test_work columns)) meter.old meter.new
+            (λ value. IsOfSize value.params (size_of (own * others) columns bits) value) result }
     {
         let (params, _places) = self.params().align(alloc, other.params())?;
         let own = aligned_pieces(alloc, &params, self, meter)?;

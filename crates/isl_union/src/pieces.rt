@@ -1,17 +1,21 @@
 //! The pieces of a space with several systems.
 
-ghost use Rattle.std.specs.Prelude.{◌≡◌, ◌↔◌, ◌≤◌, [], All, Any, IfOk, length, map, unsigned_abs};
+ghost use Rattle.std.specs.Prelude.{◌≡◌, ◌↔◌, ◌+◌, ◌*◌, ◌≤◌, ℕ, [], All, Any, IfOk, length, map, unsigned_abs};
 ghost use Rattle.isl_meter.specs.Gauge.{IsMetered, limit_of};
 ghost use Rattle.isl_space.specs.Element.{Element};
 ghost use Rattle.isl_space.specs.Space.{space_form_of};
 ghost use Rattle.isl_space.specs.SpaceForm.{IsWellFormedSpace};
 ghost use Rattle.isl_space.specs.Valuation.{Valuation};
 ghost use Rattle.isl_piece.specs.System.{IsSystemWithin, free_columns};
+ghost use Rattle.isl_ledger.specs.Answered.{IsTame};
+ghost use Rattle.isl_ledger.specs.Work.{AreOfSize};
+ghost use Rattle.isl_difference.specs.Tame.{HasDifferenceRows};
 ghost use Rattle.isl_union.specs.KeptValue.{HasElement, columns_of};
 ghost use Rattle.isl_union.specs.Minus.{piece_in};
 ghost use Rattle.isl_union.specs.Numbers.{IsPieceUpTo};
 ghost use Rattle.isl_union.specs.Piece.{kept_piece, IsPieceOf};
 ghost use Rattle.isl_union.specs.Pieces.{IsOfAny};
+ghost use Rattle.isl_union.specs.Tame.{size_of, systems_of};
 
 use crate::live::{live_piece, push_found};
 use isl_meter::{Cut, Meter};
@@ -63,6 +67,9 @@ pub fn live_pieces_in(
     ensures numbers { IfOk result (λ kept. All (IsPieceUpTo (unsigned_abs (limit_of meter.old))) (map kept_piece kept.items)) }
     ensures few { IfOk result (λ kept. length kept.items ≤ length systems.items) }
     ensures meter { IsMetered meter.old meter.new result }
+    ensures tame { (columns bits : ℕ) → meter.old.bits ≡ 127 → bits + columns ≤ 120 → All (HasDifferenceRows columns bits) systems.items
+        → IsTame (length systems.items * (columns * (columns * columns))) meter.old meter.new
+        (λ kept. AreOfSize (size_of (length systems.items) columns bits) (systems_of kept.items)) result }
 {
     let mut kept = Vec::with_capacity(alloc, systems.len())?;
     for system in systems {

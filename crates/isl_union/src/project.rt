@@ -1,6 +1,6 @@
 //! Values without some of their coordinates.
 
-ghost use Rattle.std.specs.Prelude.{◌≡◌, ◌↔◌, ◌<◌, ◌≤◌, ◌+◌, ◌^◌, [], All, IfOk, MatchResult, length};
+ghost use Rattle.std.specs.Prelude.{◌≡◌, ◌↔◌, ◌<◌, ◌≤◌, ◌+◌, ◌*◌, ◌^◌, ℕ, [], All, IfOk, MatchResult, length};
 ghost use Rattle.std.specs.List.{range_with_len};
 ghost use Rattle.isl_meter.specs.Gauge.{IsCharged, IsMetered};
 ghost use Rattle.isl_space.specs.Element.{Element};
@@ -8,11 +8,15 @@ ghost use Rattle.isl_space.specs.Space.{space_form_of};
 ghost use Rattle.isl_space.specs.SpaceForm.{IsWellFormedSpace};
 ghost use Rattle.isl_space.specs.Valuation.{Valuation};
 ghost use Rattle.isl_piece.specs.System.{IsSystemWithin, free_columns};
+ghost use Rattle.isl_ledger.specs.Answered.{IsTame};
+ghost use Rattle.isl_ledger.specs.Difference.{IsDifferenceSystem};
+ghost use Rattle.isl_ledger.specs.Work.{Size, AreOfSize, drop_size};
 ghost use Rattle.isl_elim.specs.Elimination.{IsProjectionAlong};
 ghost use Rattle.isl_union.specs.Fault.{IsCutFault};
 ghost use Rattle.isl_union.specs.KeptValue.{Has, HasNoDefinitions, IsKeptValue};
 ghost use Rattle.isl_union.specs.Numbers.{IsWithinLimit};
 ghost use Rattle.isl_union.specs.Project.{IsNarrower, IsProjected};
+ghost use Rattle.isl_union.specs.Tame.{size_of, IsOfSize, IsTameAnswer};
 
 use crate::pieces::live_pieces_in;
 use crate::{OpFault, Value};
@@ -38,6 +42,9 @@ fn without_columns(
     ensures within { IfOk result (λ systems. All (IsSystemWithin meter.old) systems.items) }
     ensures counted { IfOk result (λ systems. length systems.items + meter.old.units ≤ meter.new.units + 1) }
     ensures meter { IsMetered meter.old meter.new result }
+    ensures tame { (columns bits : ℕ) → meter.old.bits ≡ 127 → bits + columns ≤ 120 → IsDifferenceSystem columns bits system.now
+        → IsTame (count * (columns * columns)) meter.old meter.new
+        (λ systems. AreOfSize (drop_size count (size_of 1 columns bits)) systems.items) result }
 {
     let cols = columns_between(alloc, first, first + count)?;
     eliminate_all(alloc, system, cols.as_slice(), meter)
@@ -73,6 +80,9 @@ impl Value {
         ensures numbers { IfOk result (IsWithinLimit meter.old) }
         ensures counted { IfOk result (λ value. length value.pieces + meter.old.units ≤ meter.new.units + length self.now.pieces) }
         ensures meter { MatchResult result (λ _. IsCharged meter.old meter.new) (IsCutFault meter.old meter.new) }
+        ensures tame { (size : Size) → meter.old.bits ≡ 127 → size.bits + size.columns ≤ 120 → IsOfSize self.now.params size self.now
+            → IsTameAnswer (size.pieces * ((count + size.columns) * (size.columns * size.columns))) meter.old meter.new
+            (λ value. IsOfSize value.params (drop_size count size) value) result }
     {
         let params = self.params();
         let first = params.len() + from;

@@ -1,6 +1,6 @@
 //! The union of two values.
 
-ghost use Rattle.std.specs.Prelude.{◌≡◌, ◌↔◌, ◌⊎◌, ◌≤◌, ℕ, List, All, Contains, IfOk, MatchResult, length, map};
+ghost use Rattle.std.specs.Prelude.{◌≡◌, ◌↔◌, ◌⊎◌, ◌+◌, ◌≤◌, ℕ, List, All, Contains, IfOk, MatchResult, length, map};
 ghost use Rattle.isl_space.specs.Element.{Element};
 ghost use Rattle.isl_space.specs.Limits.{most_parameters};
 ghost use Rattle.isl_space.specs.Name.{Name};
@@ -11,6 +11,7 @@ ghost use Rattle.isl_union.specs.KeptValue.{Has, HasNoDefinitions, IsKeptValue};
 ghost use Rattle.isl_union.specs.Moved.{aligned_pieces};
 ghost use Rattle.isl_union.specs.Numbers.{HasNumbersUpTo, IsWithinLimit};
 ghost use Rattle.isl_union.specs.Piece.{kept_piece, IsPieceOf};
+ghost use Rattle.isl_union.specs.Tame.{size_of, AreOfSizes, IsOfSize};
 ghost use Rattle.isl_union.specs.Union.{AreOfBoth, IsUnionOf};
 
 use crate::aligned::{aligned_pieces, taken_pieces};
@@ -78,6 +79,8 @@ impl Value {
             → IfOk result (λ value. Has value valuation element ↔ (Has self.now valuation element ⊎ Has other.now valuation element)) }
         ensures definitions { HasNoDefinitions self.now → HasNoDefinitions other.now → IfOk result HasNoDefinitions }
         ensures numbers { (most : ℕ) → HasNumbersUpTo most self.now → HasNumbersUpTo most other.now → IfOk result (HasNumbersUpTo most) }
+        ensures sizes { (own others columns bits : ℕ) → AreOfSizes own others columns bits self.now other.now
+            → IfOk result (λ value. IsOfSize value.params (size_of (own + others) columns bits) value) }
         ensures faults { MatchResult result (λ _. length (joined self.now.params other.now.params) ≤ most_parameters)
             (IsPlainFault (joined self.now.params other.now.params)) }
         ensures meter { meter.new ≡ meter.old }
@@ -113,6 +116,8 @@ pub fn extended(
         → IfOk result (λ value. Has value valuation element ↔ (Has left.value valuation element ⊎ Has other.now valuation element)) }
     ensures definitions { HasNoDefinitions left.value → HasNoDefinitions other.now → IfOk result HasNoDefinitions }
     ensures numbers { (most : ℕ) → HasNumbersUpTo most left.value → HasNumbersUpTo most other.now → IfOk result (HasNumbersUpTo most) }
+    ensures sizes { (own others columns bits : ℕ) → AreOfSizes own others columns bits left.value other.now
+        → IfOk result (λ value. IsOfSize value.params (size_of (own + others) columns bits) value) }
     ensures faults { MatchResult result (λ _. length (joined left.value.params other.now.params) ≤ most_parameters)
         (IsPlainFault (joined left.value.params other.now.params)) }
     ensures meter { meter.new ≡ meter.old }

@@ -1,4 +1,4 @@
-use Rattle.std.proofs.Common.{◌≡◌, sym, ◌∙◌, IsTrue, arith, ◌+◌, ◌*◌, length}
+use Rattle.std.proofs.Common.{sym, ◌∙◌, IsTrue, arith, ◌+◌, ◌*◌, length}
 use Rattle.std.proofs.lemmas.Grind.{common_steps}
 use Rattle.std.proofs.lemmas.Result.{err_from_is_err_and, IfOk-weaker}
 use Rattle.isl_ledger.proofs.AnsweredLaws.{answered_charged, tame_behind}

@@ -1,12 +1,20 @@
-use Rattle.std.proofs.Common.{◌≡◌, ◌∙◌, ap, ap₂, arith, sym, subst, ◌<◌, length, option_map}
-use Rattle.isl_meter.proofs.CutLemmas.{IsCharged_trans}
+use Rattle.std.proofs.Common.{◌≡◌, ◌∙◌, refl, ap, ap₂, arith, sym, subst, ◌+◌, ◌*◌, ◌<◌, length, map, option_map}
+use Rattle.std.proofs.lemmas.Grind.{common_steps}
+use Rattle.std.proofs.lemmas.List.Elements.{All-nil}
+use Rattle.std.proofs.lemmas.Result.{err_from_is_err_and}
+use Rattle.isl_meter.proofs.CutLemmas.{IsCharged_refl, IsCharged_trans}
 use Rattle.isl_space.specs.Space.{space_form_of}
 use Rattle.isl_space.specs.SpaceForm.{IsWellFormedSpace}
 use Rattle.isl_piece.specs.System.{IsSystemWithin, free_columns}
+use Rattle.isl_difference.specs.Tame.{HasDifferenceRows}
+use Rattle.isl_difference.proofs.TameLaws.{tame_cut, tame_memory, tame_ok}
 use Rattle.isl_union.specs.KeptValue.{KeptPiece, columns_of}
 use Rattle.isl_union.specs.Live.{normal_of, IsLiveOf}
 use Rattle.isl_union.specs.Piece.{kept_piece, piece_of, IsPieceOf, IsPieceOver}
-use Rattle.isl_union.proofs.MeetSteps.{found_sound, item_has, live_step, over_later}
+use Rattle.isl_union.specs.Tame.{size_of, systems_of}
+use Rattle.isl_union.proofs.MeetSteps.{charged_bits, found_sound, item_has, live_step, over_later}
+use Rattle.isl_union.proofs.SizeLaws.{turn_fits, turn_more}
+use Rattle.isl_union.proofs.TameLaws.{found_more, none_of_size}
 use Rattle.isl_union.proofs.live.live_pieces.Goals as goal
 
 pub live_piece-requires : goal.live_piece-requires
@@ -19,6 +27,16 @@ live_piece-requires c =
     let over = over_later g h params piece c.loop-piece.invariant.charged
     (item_has (IsPieceOver g params) c.args.pieces.now c.loop-piece.piece-index piece low c.piece-item.is c.requires) in
     subst (IsSystemWithin h) (sym (c.in_ok-system.ensures ∙ c.system.ensures)) over.within
+
+pub loop-piece-init : goal.loop-piece-init
+loop-piece-init c =
+    let none = c.in_ok-kept.ensures.items in
+    record {
+      kept = ap (map kept_piece) none;
+      sound = rw none (All-nil (IsPieceOf c.args.params.now));
+      tame = λ columns bits limit room all. (omega arith, none_of_size (size_of 0 columns bits) _ (ap systems_of none));
+      charged = IsCharged_refl c.args.meter.now c.args.meter.now refl;
+    }
 
 pub loop-piece-preserved : goal.loop-piece-preserved
 loop-piece-preserved c =
@@ -44,5 +62,88 @@ loop-piece-preserved c =
       kept = live_step pieces piece i low c.piece-item.is params kept c.push_found.new.kept.items found exact
           c.in_ok-push_found.ensures so_far.kept;
       sound = found_sound (IsPieceOf params) kept c.push_found.new.kept.items found so_far.sound both.1 c.in_ok-push_found.ensures;
+      tame = λ columns bits limit room all.
+          let before = so_far.tame columns bits limit room all in
+          let here = subst (HasDifferenceRows columns bits) (sym is)
+          (item_has (λ p. HasDifferenceRows columns bits p.system) pieces i piece low c.piece-item.is all) in
+          let asked = c.in_ok-live_piece.ensures.tame columns bits (sym (charged_bits g c.loop-piece.meter so_far.charged) ∙ limit) room here in
+          let first = before.0 in
+          let second = asked.within.units in
+          let turns = turn_more i (columns * (columns * columns)) in (
+            omega (arith, first, second, turns),
+            found_more i columns bits kept c.push_found.new.kept.items found c.in_ok-push_found.ensures asked.answer before.1,
+          );
       charged = IsCharged_trans g c.loop-piece.meter c.live_piece.new.meter so_far.charged c.in_ok-live_piece.ensures.meter;
     }
+
+-- ---- of difference constraints
+pub returns-in_err-kept-clause-tame : goal.returns-in_err-kept-clause-tame
+returns-in_err-kept-clause-tame c = λ columns bits limit room all.
+    let p = err_from_is_err_and c.from_residual.result c.from_residual.ensures.1 in
+    rw (p.1, p.2) (tame_memory 0 _ c.args.meter.now c.args.meter.now _ (omega arith) (omega arith))
+
+pub returns-in_err-system-clause-tame : goal.returns-in_err-system-clause-tame
+returns-in_err-system-clause-tame c = λ columns bits limit room all.
+    let w = columns * (columns * columns) in
+    let g = c.args.meter.now in
+    let h = c.loop-piece.meter in
+    let pieces = c.args.pieces.now in
+    let i = c.loop-piece.piece-index in
+    let piece = c.piece-item.result in
+    let low : i < length pieces = omega arith in
+    let so_far = c.loop-piece.invariant in
+    let before = so_far.tame columns bits limit room all in
+    let first = before.0 in
+    let turns = turn_fits i (length pieces) w low in
+    let p = err_from_is_err_and c.from_residual-in_err-system.result c.from_residual-in_err-system.ensures.1 in
+    rw (p.1, p.2) (tame_memory (i * w) (length pieces * w) g h _ first (omega (arith, turns)))
+
+pub returns-in_err-live_piece-clause-tame : goal.returns-in_err-live_piece-clause-tame
+returns-in_err-live_piece-clause-tame c = λ columns bits limit room all.
+    let w = columns * (columns * columns) in
+    let g = c.args.meter.now in
+    let h = c.loop-piece.meter in
+    let pieces = c.args.pieces.now in
+    let i = c.loop-piece.piece-index in
+    let piece = c.piece-item.result in
+    let low : i < length pieces = omega arith in
+    let so_far = c.loop-piece.invariant in
+    let before = so_far.tame columns bits limit room all in
+    let first = before.0 in
+    let turns = turn_fits i (length pieces) w low in
+    let is : c.in_ok-system.system ≡ piece.system = c.in_ok-system.ensures ∙ c.system.ensures in
+    let here = subst (HasDifferenceRows columns bits) (sym is)
+    (item_has (λ p. HasDifferenceRows columns bits p.system) pieces i piece low c.piece-item.is all) in
+    let later = sym (charged_bits g h so_far.charged) ∙ limit in
+    let p = err_from_is_err_and c.from_residual-in_err-live_piece.result c.from_residual-in_err-live_piece.ensures.1 in
+    rw (p.1, p.2) (tame_cut (i * w) w (length pieces * w) g h c.live_piece.new.meter _ _ c.in_err-live_piece.field-0.0 so_far.charged first turns
+    (c.in_err-live_piece.ensures.tame columns bits later room here))
+
+pub returns-in_err-push_found-clause-tame : goal.returns-in_err-push_found-clause-tame
+returns-in_err-push_found-clause-tame c = λ columns bits limit room all.
+    let w = columns * (columns * columns) in
+    let g = c.args.meter.now in
+    let h = c.loop-piece.meter in
+    let pieces = c.args.pieces.now in
+    let i = c.loop-piece.piece-index in
+    let piece = c.piece-item.result in
+    let low : i < length pieces = omega arith in
+    let so_far = c.loop-piece.invariant in
+    let before = so_far.tame columns bits limit room all in
+    let first = before.0 in
+    let turns = turn_fits i (length pieces) w low in
+    let is : c.in_ok-system.system ≡ piece.system = c.in_ok-system.ensures ∙ c.system.ensures in
+    let here = subst (HasDifferenceRows columns bits) (sym is)
+    (item_has (λ p. HasDifferenceRows columns bits p.system) pieces i piece low c.piece-item.is all) in
+    let later = sym (charged_bits g h so_far.charged) ∙ limit in
+    let asked = c.in_ok-live_piece.ensures.tame columns bits later room here in
+    let second = asked.within.units in
+    let p = err_from_is_err_and c.from_residual-in_err-push_found.result c.from_residual-in_err-push_found.ensures.1 in
+    rw (p.1, p.2) (tame_memory (i * w + w) (length pieces * w) g c.live_piece.new.meter _ (omega (arith, first, second)) turns)
+
+pub returns-clause-tame : goal.returns-clause-tame
+returns-clause-tame c = λ columns bits limit room all.
+    let w = columns * (columns * columns) in
+    let end : c.loop-piece.piece-index ≡ length c.args.pieces.now = grind (arith, common_steps) in
+    let whole = rw end at (c.loop-piece.invariant.tame columns bits limit room all) in
+    tame_ok (length c.args.pieces.now * w) c.args.meter.now c.loop-piece.meter _ _ whole.0 whole.1

@@ -1,11 +1,16 @@
-use Rattle.std.proofs.Common.{◌≡◌, refl, sym, ap, ap₂, ◌∙◌, subst, option_map, Option, IfSome}
+use Rattle.std.proofs.Common.{◌≡◌, refl, sym, ap, ap₂, ◌∙◌, subst, arith, ◌*◌, option_map, Option, IfSome}
 use Rattle.std.proofs.lemmas.Bool.{false≢true}
-use Rattle.std.proofs.lemmas.Result.{IfOk-weaker, MatchResult-weaker}
-use Rattle.isl_meter.proofs.CutLemmas.{IsCharged-unit, IsCutBy-after}
+use Rattle.std.proofs.lemmas.Result.{err_from_is_err_and, IfOk-weaker, MatchResult-weaker}
+use Rattle.isl_math.proofs.Ring.{linear}
+use Rattle.isl_meter.specs.Gauge.{Gauge}
+use Rattle.isl_meter.proofs.CutLemmas.{IsCharged_refl, IsCharged-unit, IsCutBy-after}
 use Rattle.isl_space.specs.Space.{space_form_of}
 use Rattle.isl_space.specs.SpaceForm.{SpaceForm, IsWellFormedSpace}
 use Rattle.isl_piece.specs.Placed.{both_systems}
 use Rattle.isl_piece.specs.System.{IsSystemWithin, free_columns}
+use Rattle.isl_ledger.proofs.AnsweredLaws.{tame_behind}
+use Rattle.isl_difference.specs.Tame.{test_work}
+use Rattle.isl_difference.proofs.TameLaws.{tame_memory, tame_ok, tame_refused}
 use Rattle.isl_union.specs.Fault.{IsChargedFrom}
 use Rattle.isl_union.specs.KeptValue.{KeptPiece, IsVoid, columns_of}
 use Rattle.isl_union.specs.Live.{normal_of, IsLiveOf}
@@ -15,6 +20,7 @@ use Rattle.isl_union.proofs.MeetLaws.{met_apart, count_apart, met_both, count_to
 use Rattle.isl_union.proofs.MeetSteps.{bits_after_unit}
 use Rattle.isl_union.proofs.SystemLaws.{view_free}
 use Rattle.isl_union.proofs.UnitLaws.{from_none, from_unit}
+use Rattle.isl_union.proofs.TameLaws.{both_differences}
 use Rattle.isl_union.proofs.meet.met_piece.Goals as goal
 
 pub returns-then-not-same-clause-exact : goal.returns-then-not-same-clause-exact
@@ -103,3 +109,36 @@ returns-clause-units c =
     MatchResult-weaker c.live_piece.result c.live_piece.ensures.meter
     (λ found p. subst (λ n. IsChargedFrom n g k) (count_together (kept_piece a) (kept_piece b) same) (from_unit g h k e p))
     (λ cut p. IsCutBy-after g h k cut (IsCharged-unit g h e) p)
+
+-- ---- of difference constraints
+pub returns-then-not-same-clause-tame : goal.returns-then-not-same-clause-tame
+returns-then-not-same-clause-tame c = λ columns bits limit room own other.
+    tame_ok (test_work columns) c.args.meter.now c.args.meter.now _ _ (omega arith) tt
+
+pub returns-in_err-unit-clause-tame : goal.returns-in_err-unit-clause-tame
+returns-in_err-unit-clause-tame c = λ columns bits limit room own other.
+    let g = c.args.meter.now in
+    let p = err_from_is_err_and c.from_residual.result c.from_residual.ensures.1 in
+    rw (p.1, p.2) (tame_refused 0 (test_work columns) g g c.unit.new.self _ (IsCharged_refl g g refl) (omega arith) (omega arith)
+    c.in_err-unit.ensures.0 c.in_err-unit.ensures.1)
+
+pub returns-in_err-both-clause-tame : goal.returns-in_err-both-clause-tame
+returns-in_err-both-clause-tame c = λ columns bits limit room own other.
+    let p = err_from_is_err_and c.from_residual-in_err-both.result c.from_residual-in_err-both.ensures.1 in
+    let used = ap (λ (x : Gauge). x.units) c.in_ok-unit.ensures.1 in
+    rw (p.1, p.2) (tame_memory 1 (test_work columns) c.args.meter.now c.unit.new.self _ (omega (arith, used)) (omega arith))
+
+pub returns-clause-tame : goal.returns-clause-tame
+returns-clause-tame c = λ columns bits limit room own other.
+    let g = c.args.meter.now in
+    let h = c.unit.new.self in
+    let e = c.in_ok-unit.ensures.1 in
+    let a = c.args.a.now in
+    let b = c.args.b.now in
+    let none : a.system.definitions ≡ b.system.definitions = own.undefined ∙ sym other.undefined in
+    let same = (rw (c.system.ensures, c.system-2.ensures) at c.in_ok-both.ensures.same) none in
+    let used = ap (λ (x : Gauge). x.units) e in
+    let asked = c.live_piece.ensures.tame columns bits (ap (λ (x : Gauge). x.bits) e ∙ limit) room
+    (both_differences columns bits a.system b.system c.in_ok-both.both own other same) in
+    tame_behind 1 (columns * (columns * columns)) (test_work columns) g h c.live_piece.new.meter _ c.live_piece.result (omega arith)
+    (record { charged = IsCharged-unit g h e; most = omega (arith, linear, used) }) asked

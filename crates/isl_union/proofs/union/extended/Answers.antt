@@ -5,6 +5,7 @@ use Rattle.isl_space.specs.Names.{IsParameterList, joined}
 use Rattle.isl_union.specs.KeptValue.{KeptValue, IsKeptValue}
 use Rattle.isl_union.proofs.PieceLaws.{IsKeptValue-from_pieces}
 use Rattle.isl_union.proofs.ValueLaws.{first_in, second_in, union_is, union_has, union_plain, union_small, union_same}
+use Rattle.isl_union.proofs.TameLaws.{union_sized}
 use Rattle.isl_union.proofs.union.extended.Goals as goal
 
 pub own_pieces-requires-clause-among : goal.own_pieces-requires-clause-among
@@ -63,3 +64,8 @@ pub returns-clause-definitions : goal.returns-clause-definitions
 returns-clause-definitions c h k =
     union_plain c.args.left.value c.args.other.now c.in_ok-own.ensures.kept
     c.in_ok-others.ensures.kept c.args.meter.now c.requires.own c.requires.other c.from_normal.result (returns-clause-written c) h k
+
+pub returns-clause-sizes : goal.returns-clause-sizes
+returns-clause-sizes c own others columns bits sizes =
+    union_sized c.args.meter.now c.args.left.value c.args.other.now c.from_normal.result c.in_ok-own.ensures.kept c.in_ok-others.ensures.kept
+    c.requires.own c.requires.other (returns-clause-written c) own others columns bits sizes

@@ -1,4 +1,4 @@
-use Rattle.std.proofs.Common.{◌≡◌, arith, ◌+◌, ◌*◌, length}
+use Rattle.std.proofs.Common.{arith, ◌+◌, ◌*◌, length}
 use Rattle.std.proofs.lemmas.Result.{err_from_is_err_and}
 use Rattle.isl_space.specs.Names.{joined}
 use Rattle.isl_difference.specs.Tame.{left_work}
