@@ -13,6 +13,7 @@ pub mod UnionLaws
 pub mod ValueLaws
 pub mod SizeLaws
 pub mod TameLaws
+pub mod WorkLaws
 pub mod MadeLaws
 pub mod MeetSteps
 pub mod MinusLaws
