@@ -19,7 +19,7 @@ ghost use Rattle.isl_meter.specs.Gauge.{IsDone, IsDoneWithin};
 use isl_meter::{Cut, Int, Meter};
 use isl_omega::column::Column;
 use isl_omega::combine::{Multiple, weighted_without};
-use isl_omega::rows::row_without;
+use isl_omega::rows::{MOST_PAIRS, row_without};
 use isl_omega::sides::Side;
 use isl_piece::{Row, RowKind, Rows, sum_of};
 use std::alloc::{AllocError, Global};
@@ -125,6 +125,9 @@ fn push_pair(
 {
     meter.unit()?;
     let real = real_row_without(alloc, lower, upper, column, meter)?;
+    if short.len() >= MOST_PAIRS {
+        return Err(Cut::NoMemory);
+    }
     short.push(real)?;
     Ok(())
 }

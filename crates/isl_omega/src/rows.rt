@@ -13,6 +13,9 @@ use isl_meter::{Cut, Int, Meter};
 use isl_piece::{Coefs, Row, Rows};
 use std::alloc::{AllocError, AllocFailed, Global};
 
+/// So many rows are kept at most of the pairs of bounds on one column. More count as want of memory, so that memory is bounded as time is.
+pub const MOST_PAIRS: usize = 131_072;
+
 // The numbers but for the one at `col`.
 #[tactic(auto, using(std::proofs::lemmas::Grind::common_steps, crate::proofs::ColumnLemmas::removals))]
 fn coefs_without(alloc: Global, coefs: &[Int], col: usize) -> Result<Coefs, AllocFailed<Int>>

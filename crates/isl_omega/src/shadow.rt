@@ -12,6 +12,7 @@ ghost use Rattle.isl_omega.specs.Units.{IsDoneFor};
 
 use crate::column::Column;
 use crate::pair::Pair;
+use crate::rows::MOST_PAIRS;
 use isl_meter::{Cut, Int, Meter, Overflow};
 use isl_piece::{Row, Rows};
 use std::alloc::Global;
@@ -130,6 +131,9 @@ fn shadow_of(
     for upper in uppers.rows {
         meter.unit()?;
         let pair = Pair::of(alloc, lower, upper, uppers.column, meter)?;
+        if rows.len() >= MOST_PAIRS {
+            return Err(Cut::NoMemory);
+        }
         rows.push(pair.dark)?;
         greatest = widest(
             greatest,
