@@ -129,11 +129,12 @@ impl ColumnUse {
         sum
     }
 
-    // How many splinters are left at least; none where a side is open.
+    // How many splinters are left at least; none where a side is open, or has no coefficient but 1 or -1.
     fn least_splinters(self, rows: &[Row]) -> u128
         ensures { All IsUnitRow rows.now → result ≡ 0 }
     {
-        if self.equality.is_some() || self.lowers.count == 0 || self.uppers.count == 0 {
+        let has_unit_side = self.lowers.greatest <= 1 || self.uppers.greatest <= 1;
+        if self.equality.is_some() || has_unit_side {
             return 0;
         }
         self.splinters(rows, true).min(self.splinters(rows, false))
@@ -205,6 +206,9 @@ pub fn cheapest(rows: &[Row], cols: &[usize]) -> usize
     let mut least = None;
     for i in 0..cols.len() {
         let cost = ColumnUse::of(rows, cols[i]).cost(rows);
+        if matches!(cost, Cost::Unit) {
+            return i;
+        }
         if least.is_none_or(|old| cost < old) {
             best = i;
             least = Some(cost);
@@ -222,6 +226,9 @@ pub fn any_column(rows: &[Row], columns: usize) -> usize
     let mut least = None;
     for col in 0..columns {
         let cost = ColumnUse::of(rows, col).cost(rows);
+        if matches!(cost, Cost::Unit) {
+            return col;
+        }
         if least.is_none_or(|old| cost < old) {
             best = col;
             least = Some(cost);
