@@ -18,6 +18,7 @@ ghost use Rattle.isl_ledger.specs.Answered.{IsTame};
 ghost use Rattle.isl_ledger.specs.Difference.{IsDifferenceRow};
 ghost use Rattle.isl_ledger.specs.Work.{Size, AreOfSize};
 
+use crate::guess::{hold_at_guess, pairs_at};
 use crate::opened::opened;
 use isl_column::{Parts, real_shadow};
 use isl_meter::{Cut, Meter};
@@ -40,6 +41,9 @@ pub(crate) fn column_nowhere(alloc: Global, rows: &Rows, meter: &mut Meter) -> R
     Ok(parts.next(alloc, 0, meter)?.is_none())
 }
 
+// From how many rows on those that the others imply are looked for.
+const MANY_ROWS: usize = 10;
+
 // The rows, where many pairs of bounds come next without some that the others imply; none where they are seen to hold nowhere.
 #[tactic(auto, using(std::proofs::lemmas::Grind::common_steps, crate::proofs::FewerLaws::fewer_steps))]
 fn fewer(
@@ -52,6 +56,9 @@ fn fewer(
     requires some { 0 < columns }
     ensures { IfOk result (λ found. MatchOption found ((point : List ℤ) → ¬ HoldRows rows point) (IsReduced columns rows)) }
 {
+    if rows.len() < MANY_ROWS {
+        return Ok(Some(rows));
+    }
     let col = any_column(rows.as_slice(), columns);
     if !add_many_rows(rows.as_slice(), &[col]) {
         return Ok(Some(rows));
@@ -83,7 +90,11 @@ fn shorter(
     Ok(few)
 }
 
+// How many pairs are made at most to see whether a real shadow holds nowhere.
+const MOST_PAIRS: usize = 4096;
+
 // Whether the real shadows of the rows hold nowhere, one column after another. Then no point makes the rows hold; else one may, or none.
+// Where a shadow would have many pairs, that is not looked at.
 #[cycle(shadows)]
 #[tactic(auto, using(crate::proofs::EmptinessLaws::emptiness_steps))]
 fn shadows_hold_nowhere(
@@ -104,6 +115,9 @@ fn shadows_hold_nowhere(
         return Ok(true);
     };
     let col = any_column(few.as_slice(), columns);
+    if pairs_at(few.as_slice(), col) > MOST_PAIRS {
+        return Ok(false);
+    }
     match real_shadow(alloc, few.as_slice(), Column { columns, at: col }, meter)? {
         None => Ok(true),
         Some(shadow) => shadows_hold_nowhere(alloc, &shadow, columns - 1, meter),
@@ -131,6 +145,9 @@ pub(crate) fn hold_nowhere(
     }
     if columns == 1 {
         return column_nowhere(alloc, &rows, meter);
+    }
+    if hold_at_guess(alloc, &rows, columns, meter)? {
+        return Ok(false);
     }
     match shorter(alloc, rows, columns, meter)? {
         None => Ok(true),

@@ -6,6 +6,7 @@ mod columns;
 mod dependents;
 mod emptiness;
 mod flat;
+mod guess;
 mod line;
 mod opened;
 mod progression;

@@ -278,7 +278,7 @@ pub hold_nowhere-returns-in_err-shorter-clause-tame : goal.hold_nowhere-returns-
 hold_nowhere-returns-in_err-shorter-clause-tame t c = record {
   tame = λ bits full room given.
       let columns = c.args.columns in
-      let p = err_from_is_err_and c.from_residual.result c.from_residual.ensures.1 in
+      let p = err_from_is_err_and c.from_residual-in_err-shorter.result c.from_residual-in_err-shorter.ensures.1 in
       rw (p.1, p.2) (tame_cut 0 (columns * (columns * columns)) c.args.meter.now c.shorter.new.meter
       (λ found. IfSome found (All (IsDifferenceRow bits))) (λ _. Unit {0}) c.in_err-shorter.field-0.0 (omega arith)
       (c.in_err-shorter.ensures.tame.tame bits full room given));
