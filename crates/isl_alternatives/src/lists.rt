@@ -9,7 +9,7 @@ ghost use Rattle.isl_affine.specs.Scope.{Scope as Names};
 ghost use Rattle.isl_alternatives.specs.Restricted.{AreRestricted, HoldsAs, IsOver};
 
 use isl_affine::Scope;
-use isl_difference::{live_form, outside, references};
+use isl_difference::{append, live_form, outside, references};
 use isl_meter::{Cut, Meter};
 use isl_piece::{System, meet, normalise};
 use std::alloc::{AllocError, Global};
@@ -94,7 +94,7 @@ fn met(
     for other in others {
         pay(systems, found.as_slice(), meter)?;
         let mut more = met_with(alloc, systems, other)?;
-        found.append(&mut more)?;
+        append(&mut found, &mut more)?;
     }
     Ok(found)
 }
@@ -118,7 +118,7 @@ fn without(
     let mut found = Vec::new(alloc);
     for system in systems {
         let mut left = outside(alloc, system, list.as_slice(), meter)?;
-        found.append(&mut left)?;
+        append(&mut found, &mut left)?;
     }
     Ok(found)
 }

@@ -14,6 +14,7 @@ ghost use Rattle.isl_difference.specs.Tame.{part_limit, test_work, left_size, le
 ghost use Rattle.isl_difference.specs.Told.{AreTold, IsTold};
 
 use crate::bounds::{are_apart, are_implied};
+use crate::lists::append;
 use crate::live::is_nowhere;
 use crate::split::split;
 use isl_meter::{Cut, Meter};
@@ -262,7 +263,7 @@ fn all_without(
     let mut left = Vec::new(alloc);
     for system in systems {
         let mut parts = subtract(alloc, system, other, meter)?;
-        left.append(&mut parts)?;
+        append(&mut left, &mut parts)?;
     }
     Ok(left)
 }

@@ -4,10 +4,12 @@
 mod bounds;
 mod cover;
 mod difference;
+mod lists;
 mod live;
 mod split;
 
 pub use cover::is_covered;
 pub use difference::{outside, references, subtract};
+pub use lists::append;
 pub use live::live_form;
 pub use split::hold_throughout;

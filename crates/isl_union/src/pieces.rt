@@ -1,6 +1,6 @@
 //! The pieces of a space with several systems.
 
-ghost use Rattle.std.specs.Prelude.{◌≡◌, ◌↔◌, ◌+◌, ◌*◌, ◌≤◌, ℕ, [], All, Any, IfOk, length, map, unsigned_abs};
+ghost use Rattle.std.specs.Prelude.{◌≡◌, ◌↔◌, ◌+◌, ◌*◌, ◌≤◌, ◌++◌, ℕ, [], All, Any, IfOk, OnOk, length, map, unsigned_abs};
 ghost use Rattle.isl_meter.specs.Gauge.{IsMetered, limit_of};
 ghost use Rattle.isl_space.specs.Element.{Element};
 ghost use Rattle.isl_space.specs.Space.{space_form_of};
@@ -22,6 +22,26 @@ use isl_meter::{Cut, Meter};
 use isl_piece::{Piece, System};
 use isl_space::{Params, Space};
 use std::alloc::{AllocError, Global};
+
+// How many rows the systems of a list keep at most, as its last piece tells. More count as want of memory, so that memory is bounded as
+// time is.
+const MOST_ROWS: usize = 262_144;
+
+/// Puts the other pieces behind these.
+///
+/// # Errors
+///
+/// `AllocError` where memory ends, or they have more rows together than a list keeps.
+pub(crate) fn add(pieces: &mut Vec<Piece>, more: &mut Vec<Piece>) -> Result<(), AllocError>
+    ensures items { OnOk result (pieces.new.items ≡ pieces.old.items ++ more.old.items) }
+{
+    let rows = more.last().map_or(0, |piece| piece.system().rows.len());
+    let count = pieces.len().saturating_add(more.len());
+    if count.saturating_mul(rows) > MOST_ROWS {
+        return Err(AllocError);
+    }
+    pieces.append(more)
+}
 
 /// A piece of the space for each of the systems, in their order.
 ///

@@ -15,7 +15,7 @@ loop-other-preserved c =
     let found : c.as_slice.result.now ≡ l.found.items = grind (arith, common_steps) in
     let charged = c.in_ok-pay.ensures.1 in
     let now_charged = IsCharged_trans g l.meter j l.invariant.charged charged in
-    met_more g l.meter j scope c.args.systems.now others l.other-index c.other-item.result l.found.items c.in_ok-more.more.items c.append.new.self.items
+    met_more g l.meter j scope c.args.systems.now others l.other-index c.other-item.result l.found.items c.in_ok-more.more.items c.append.new.systems.items
     inside c.other-item.is c.in_ok-append.ensures.items l.invariant charged (rw found at c.in_ok-pay.ensures.0)
     (c.in_ok-more.ensures j scope (over_after g j scope c.args.systems.now now_charged c.requires.over)
     (over_at j scope others l.other-index c.other-item.result (over_after g j scope others now_charged c.requires.others_over) inside c.other-item.is))

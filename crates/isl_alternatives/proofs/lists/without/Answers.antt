@@ -38,7 +38,7 @@ loop-system-preserved c =
     let same : map (λ other. other.now) c.as_slice.result.now ≡ c.args.others.now = grind (arith, common_steps) in
     let exact = rw same at c.in_ok-left.ensures.exact in
     let over = over_at l.meter scope systems l.system-index s (over_after g l.meter scope systems l.invariant.charged c.requires.over) inside c.system-item.is in
-    beside_more g l.meter k scope systems l.system-index s (WhereNone c.args.others.now) l.found.items c.in_ok-left.left.items c.append.new.self.items
+    beside_more g l.meter k scope systems l.system-index s (WhereNone c.args.others.now) l.found.items c.in_ok-left.left.items c.append.new.systems.items
     inside c.system-item.is c.in_ok-append.ensures.items l.invariant
     (outside_one l.meter k scope s c.args.others.now c.in_ok-left.left.items over exact.0 exact.1 c.in_ok-left.ensures.counted)
 

@@ -35,9 +35,9 @@ loop-system-preserved c =
     let exact = c.in_ok-parts.ensures.exact in
     let inside : i < length systems = grind (arith, common_steps) in
     let free = system_at (λ t. free_columns t ≡ free_columns other) systems i s c.requires.columns inside c.system-item.is in
-    let all : c.append.new.self.items ≡ left ++ parts = c.in_ok-append.ensures.items in
+    let all : c.append.new.systems.items ≡ left ++ parts = c.in_ok-append.ensures.items in
     beside_more c.args.meter.now c.loop-system.meter c.subtract.new.meter systems other i s left parts c.requires.disjoint inside c.system-item.is
-    free c.loop-system.invariant c.append.new.self.items exact.0 c.in_ok-parts.ensures.counted exact.1
+    free c.loop-system.invariant c.append.new.systems.items exact.0 c.in_ok-parts.ensures.counted exact.1
     c.in_ok-parts.ensures.definitions
     (λ columns bits limit room d o.
     let made = c.in_ok-parts.ensures.tame columns bits limit room d o in
