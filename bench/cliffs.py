@@ -35,6 +35,27 @@ def projection(seed):
     return "{ [i, j] : exists (a, b, c, d, e : " + " and ".join(rows) + ") };"
 
 
+def dense(seed, count, columns):
+    """Many rows with coefficients up to 5, which hold at 0."""
+    pick = random.Random(seed)
+    names = ["a", "b", "c", "d", "e", "f", "g"][:columns]
+    rows = [f"0 {form(pick, names, 5)} + {pick.randint(0, 30)} >= 0" for _ in range(count)]
+    return "{ [" + ", ".join(names) + "] : " + " and ".join(rows) + " }"
+
+
+def outside_boxes(columns):
+    """Outside an interval at each coordinate: a piece for each choice of sides."""
+    names = [f"x{n}" for n in range(columns)]
+    return "{ [" + ", ".join(names) + "] : " + " and ".join(f"({name} < 0 or {name} > 5)" for name in names) + " };"
+
+
+def slabs(columns, count):
+    """Values of many pieces, each at a coordinate of its own, and what they have in common."""
+    names = ", ".join(f"x{n}" for n in range(columns))
+    values = ["{ [" + names + "] : " + " or ".join(f"x{n} = {3 * m}" for m in range(count)) + " }" for n in range(columns)]
+    return " * ".join(values) + ";"
+
+
 def not_divisible(name, primes):
     return " and ".join(f"{name} mod {p} != 0" for p in primes)
 
@@ -73,6 +94,13 @@ ROWS = {
     "six rows that primes must not divide": "{ [i, j] : exists (a : 0 <= a <= i and " + " and ".join(f"(a + {n + 1}j) mod {p} != 0" for n, p in enumerate([3, 5, 7, 11, 13, 17])) + ") };",
     "seven primes and odd": "{ [i] : " + not_divisible("i", PRIMES) + " } <= { [i] : i mod 2 = 1 };",
     "five variables out of twenty rows": projection(1),
+    "twenty rows over seven columns, asked": dense(1, 20, 7) + " = { };",
+    "fourteen rows over six columns, asked": dense(2, 14, 6) + " = { };",
+    "twenty rows over seven columns, sampled": "sample " + dense(1, 20, 7) + ";",
+    "fourteen rows over six columns, sampled": "sample " + dense(2, 14, 6) + ";",
+    "outside an interval at 12 coordinates": outside_boxes(12),
+    "outside an interval at 16 coordinates": outside_boxes(16),
+    "three times 80 slabs": slabs(3, 80),
     "1000 times 1000 bounds": "{ [i, j] : exists (a : " + " and ".join(f"a >= i + {n}j and a <= {n}i + j + {n}" for n in range(1000)) + ") };",
     "20 lines through a point": "{ [i, j] : " + " and ".join(f"i != {n}j" for n in range(20)) + " };",
     "remainder of 1000": "{ [i] : i mod 1000 <= 600 };",
