@@ -1,6 +1,6 @@
 //! Lines of a tableau. What they say is looked at before anything is done by it.
 
-use crate::ratio::{Ratio, common_divisor};
+use crate::ratio::{Ratio, common_divisor, product};
 use isl_piece::{Row, RowKind};
 use std::alloc::{AllocError, Global};
 
@@ -27,12 +27,12 @@ impl Variable {
 #[derive(Drop)]
 pub(crate) struct Line {
     pub of: Variable,
-    pub divisor: i64,
-    pub numbers: Vec<i64>,
+    pub divisor: i128,
+    pub numbers: Vec<i128>,
 }
 
 impl Line {
-    /// The line of a row; none of a congruence, or where a number is not short.
+    /// The line of a row; none of a congruence.
     pub(crate) fn of_row(alloc: Global, row: &Row, at: usize) -> Result<Option<Line>, AllocError> {
         let of = match row.kind {
             RowKind::Zero => Variable::Equation(at),
@@ -41,15 +41,9 @@ impl Line {
         };
         let mut numbers = Vec::with_capacity(alloc, row.coefs.len().saturating_add(1))?;
         for coef in row.coefs.as_slice() {
-            let Ok(number) = i64::try_from(coef.get()) else {
-                return Ok(None);
-            };
-            numbers.push(number)?;
+            numbers.push(coef.get())?;
         }
-        let Ok(constant) = i64::try_from(row.constant) else {
-            return Ok(None);
-        };
-        numbers.push(constant)?;
+        numbers.push(row.constant)?;
         Ok(Some(Line {
             of,
             divisor: 1,
@@ -58,12 +52,12 @@ impl Line {
     }
 
     /// The number at a place outside.
-    pub(crate) fn number(&self, place: usize) -> i64 {
+    pub(crate) fn number(&self, place: usize) -> i128 {
         self.numbers.get(place).map_or(0, |n| *n)
     }
 
     /// The constant.
-    pub(crate) fn constant(&self) -> i64 {
+    pub(crate) fn constant(&self) -> i128 {
         self.numbers.last().map_or(0, |n| *n)
     }
 
@@ -111,18 +105,16 @@ impl Line {
             return Some(());
         }
         let common = common_divisor(number.unsigned_abs(), solved.divisor.unsigned_abs());
-        let common = i64::try_from(common).ok()?;
+        let common = i128::try_from(common).ok()?;
         let number = number.checked_div(common)?;
         let times = solved.divisor.checked_div(common)?;
         if let Some(own) = self.numbers.get_mut(place) {
             *own = 0;
         }
         for (own, other) in self.numbers.iter_mut().zip(solved.numbers.iter()) {
-            *own = own
-                .checked_mul(times)?
-                .checked_add(number.checked_mul(*other)?)?;
+            *own = product(*own, times)?.checked_add(product(number, *other)?)?;
         }
-        self.divisor = self.divisor.checked_mul(times)?;
+        self.divisor = product(self.divisor, times)?;
         self.shorten()
     }
 
@@ -135,7 +127,7 @@ impl Line {
             }
             common = common_divisor(common, number.unsigned_abs());
         }
-        let common = i64::try_from(common).ok()?;
+        let common = i128::try_from(common).ok()?;
         for number in self.numbers.iter_mut() {
             *number = number.checked_div(common)?;
         }

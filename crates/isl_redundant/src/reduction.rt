@@ -53,8 +53,8 @@ fn reduced(alloc: Global, rows: Rows, columns: usize, tableau: Tableau) -> Resul
 }
 
 /// The rows over so many columns, without some of those bounds that the others imply, in the same order; none where they are seen to
-/// hold at no point. What is looked for is in no clause: where bounds are few, or numbers are large, all stay. A congruence and an
-/// equality always stay.
+/// hold at no point. What is looked for is in no clause: where bounds are few, where numbers grow, or a search takes long, rows stay. A
+/// congruence and an equality always stay.
 ///
 /// # Errors
 ///

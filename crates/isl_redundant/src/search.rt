@@ -1,5 +1,5 @@
-//! Sums of rows by which one of them is implied: a simplex over short numbers, which gives up where these grow. No clause speaks of
-//! what is found: it is looked at.
+//! Sums of rows by which one of them is implied: a simplex, which gives up where numbers grow, or it takes long. No clause speaks of what
+//! is found: it is looked at.
 
 use crate::line::{Line, Variable};
 use crate::ratio::Ratio;
@@ -194,13 +194,13 @@ impl Tableau {
         };
         let mut times = Vec::from_elem(alloc, 0, self.rows)?;
         if let Some(own) = times.get_mut(row) {
-            *own = i128::from(line.divisor).saturating_neg();
+            *own = line.divisor.saturating_neg();
         }
         for (place, variable) in self.outside.iter().enumerate() {
             if let Variable::Bound(i) | Variable::Equation(i) = *variable
                 && let Some(other) = times.get_mut(i)
             {
-                *other = i128::from(line.number(place));
+                *other = line.number(place);
             }
         }
         Ok(Some(times))

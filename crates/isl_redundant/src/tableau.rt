@@ -4,12 +4,16 @@ use crate::line::{Line, Variable};
 use isl_piece::Row;
 use std::alloc::{AllocError, Global};
 
-/// The forms of rows over as many variables as there are columns, which are outside and 0.
+// How many numbers are written at most in one search.
+const WORK: usize = 2_000_000;
+
+/// The forms of rows over as many variables as there are columns, which are outside and 0; and how many numbers may still be written.
 #[derive(Drop)]
 pub(crate) struct Tableau {
     pub rows: usize,
     pub outside: Vec<Variable>,
     pub lines: Vec<Line>,
+    work: usize,
 }
 
 impl Tableau {
@@ -26,6 +30,7 @@ impl Tableau {
             rows: rows.len(),
             outside,
             lines,
+            work: WORK,
         })
     }
 
@@ -40,7 +45,7 @@ impl Tableau {
     }
 
     /// Exchanges the variable of a line with one outside. A column that comes inside is let go: nothing is asked of it. `false`
-    /// where a number is too large.
+    /// where a number is too large, or the search took long.
     pub(crate) fn exchange(
         &mut self,
         alloc: Global,
@@ -50,6 +55,11 @@ impl Tableau {
         if at >= self.lines.len() || place >= self.outside.len() {
             return Ok(false);
         }
+        let numbers = self.lines.len().saturating_mul(self.outside.len());
+        if numbers > self.work {
+            return Ok(false);
+        }
+        self.work = self.work.saturating_sub(numbers);
         let line = self.lines.swap_remove(at);
         let solved = line.solved(alloc, place, self.outside[place])?;
         self.outside[place] = line.of;
