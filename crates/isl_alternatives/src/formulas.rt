@@ -14,6 +14,7 @@ use crate::bound::{bound, projected};
 use crate::chains::{Chain, with_chain};
 use crate::lists::{begun, live, normal_forms, selected};
 use isl_affine::Scope;
+use isl_difference::append;
 use isl_meter::{Cut, Meter};
 use isl_piece::System;
 use isl_tree::tree::{Binder, Formula};
@@ -167,7 +168,7 @@ fn any_of(
     for formula in formulas {
         let base = begun(alloc, systems.as_slice(), found.as_slice(), meter)?;
         let mut more = restricted(alloc, base, formula, polarity, scope, meter)?;
-        found.append(&mut more)?;
+        append(&mut found, &mut more)?;
     }
     Ok(found)
 }
@@ -202,7 +203,7 @@ fn implied(
         if holds {
             let base = begun(alloc, systems.as_slice(), systems.as_slice(), meter)?;
             let mut more = restricted(alloc, base, &formulas[count], polarity, scope, meter)?;
-            found.append(&mut more)?;
+            append(&mut found, &mut more)?;
         } else {
             systems = restricted(alloc, systems, &formulas[count], polarity, scope, meter)?;
         }
@@ -214,7 +215,7 @@ fn implied(
         outermost: false,
     };
     let mut first = restricted(alloc, systems, &formulas[0], polarity, scope, meter)?;
-    found.append(&mut first)?;
+    append(&mut found, &mut first)?;
     Ok(found)
 }
 

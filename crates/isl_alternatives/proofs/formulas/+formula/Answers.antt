@@ -56,7 +56,7 @@ any_of-loop-formula-preserved t c =
     any_more c.args.meter.now l.meter c.restricted.new.meter c.args.scope.now c.args.systems.items c.args.holds c.args.formulas.now
     l.formula-index
     c.formula-item.result l.found.items inside c.formula-item.is c.begun.new.meter c.in_ok-base.base.items c.in_ok-more.more.items
-    c.append.new.self.items l.invariant c.in_ok-base.ensures.2 (rw (whole, found) at c.in_ok-base.ensures.1)
+    c.append.new.systems.items l.invariant c.in_ok-base.ensures.2 (rw (whole, found) at c.in_ok-base.ensures.1)
     (c.in_ok-base.ensures.0 ∙ whole) c.in_ok-more.ensures
     c.in_ok-append.ensures.items
 
@@ -279,11 +279,11 @@ implied-loop-count-preserved t c =
           let holds : l.holds ≡ true = grind (arith, common_steps) in
           let meter : c.if-holds-2.meter ≡ w.restricted.new.meter = grind (arith, common_steps) in
           let systems : c.if-holds-2.systems.items ≡ l.systems.items = grind (arith, common_steps) in
-          let found : c.if-holds-2.found.items ≡ w.append.new.self.items = grind (arith, common_steps) in
+          let found : c.if-holds-2.found.items ≡ w.append.new.systems.items = grind (arith, common_steps) in
           holds_next c.args.meter.now l.meter c.args.scope.now c.args.systems.items c.args.holds c.args.formulas.now l.count w.index-formulas-count.result
           l.holds l.systems.items l.found.items w.begun.new.meter w.restricted.new.meter c.if-holds-2.meter w.in_ok-base.base.items
           w.in_ok-more.more.items
-          w.append.new.self.items c.if-holds-2.systems.items c.if-holds-2.found.items more w.index-formulas-count.is holds l.invariant
+          w.append.new.systems.items c.if-holds-2.systems.items c.if-holds-2.found.items more w.index-formulas-count.is holds l.invariant
           w.in_ok-base.ensures.2 (rw (one, two) at w.in_ok-base.ensures.1) base w.in_ok-more.ensures w.in_ok-append.ensures.items meter systems found
       | implied-else-holds-2+in_ok-systems w ↦
           let fails : l.holds ≡ false = grind (arith, common_steps) in
@@ -314,5 +314,5 @@ implied-returns t c =
     let last : l.count ≡ 0 = grind (arith, common_steps) in
     implied_last c.args.meter.now l.meter c.restricted-2.new.meter c.args.scope.now c.args.systems.items c.args.holds c.args.formulas.now
     l.count
-    c.index-formulas-0.result l.holds l.systems.items l.found.items c.in_ok-first.first.items c.append-2.new.self.items last c.index-formulas-0.is
+    c.index-formulas-0.result l.holds l.systems.items l.found.items c.in_ok-first.first.items c.append-2.new.systems.items last c.index-formulas-0.is
     l.invariant c.in_ok-first.ensures c.in_ok-append-2.ensures.items
